@@ -1,0 +1,138 @@
+//! Crate names and their canonical texts.
+
+ghost use Rattle.std.specs.Prelude.{◌≡◌, ◌<◌, ◌≤◌, ◌↔◌, ℕ, IsTrue, List, length, slice_index, true};
+ghost use Rattle.std.specs.Char.{to_ascii_lowercase};
+ghost use Rattle.std.specs.List.{list_all};
+ghost use Rattle.reg_names.specs.Names.{canon, canon_byte, is_name, is_name_byte, lower, name_of};
+
+use arrayvec::ArrayString;
+use std::marker::Model;
+
+/// A crate name: 1 to 64 ASCII letters, digits, `-` and `_`, the first a letter.
+#[derive(Drop)]
+pub struct CrateName {
+    text: ArrayString<64>,
+}
+
+impl Model for CrateName {
+    ghost Value = { List ℕ };
+
+    ghost view = { λ n. n.text.bytes };
+
+    ghost invariant = { λ n. is_name n.text.bytes ≡ true };
+}
+
+/// A canonical text: a crate name in ASCII lower case with `_` for `-`.
+#[derive(Drop)]
+pub struct CanonText {
+    text: ArrayString<64>,
+}
+
+impl Model for CanonText {
+    ghost Value = { List ℕ };
+
+    ghost view = { λ n. n.text.bytes };
+}
+
+fn is_name_byte(b: u8) -> bool
+    ensures { result ≡ is_name_byte b }
+{
+    b.is_ascii_alphanumeric() || b == b'-' || b == b'_'
+}
+
+fn canon_byte(b: u8) -> u8
+    ensures value { result ≡ canon_byte b }
+    ensures ascii { b < 128 → result < 128 }
+{
+    if b == b'-' {
+        b'_'
+    } else {
+        b.to_ascii_lowercase()
+    }
+}
+
+fn lower_byte(b: u8) -> u8
+    ensures value { result ≡ to_ascii_lowercase b }
+    ensures ascii { b < 128 → result < 128 }
+{
+    b.to_ascii_lowercase()
+}
+
+fn all_name_bytes(bytes: &[u8]) -> bool
+    ensures { result ≡ list_all is_name_byte bytes.now }
+{
+    bytes.iter().all(|b| is_name_byte(*b))
+}
+
+fn is_name(text: &str) -> bool
+    ensures { result ≡ is_name text.now }
+{
+    let bytes = text.as_bytes();
+    if bytes.is_empty() || bytes.len() > 64 {
+        return false;
+    }
+    bytes[0].is_ascii_alphabetic() && all_name_bytes(bytes)
+}
+
+/// The crate name that a text is.
+pub fn parse_name(text: &str) -> Option<CrateName>
+    ensures { result ≡ name_of text.now }
+{
+    if !is_name(text) {
+        return None;
+    }
+    match ArrayString::from(text) {
+        Ok(text) => Some(CrateName { text }),
+        Err(_) => None,
+    }
+}
+
+impl CrateName {
+    /// The name as it was spelled.
+    pub fn as_str(&self) -> &str
+        ensures value { result.now ≡ self.now }
+        ensures name { is_name result.now ≡ true }
+        ensures fits { length result.now ≤ 64 }
+        ensures ascii { (k : ℕ) → k < length result.now → slice_index result.now k < 128 }
+    {
+        self.text.as_str()
+    }
+}
+
+impl CanonText {
+    /// The text.
+    pub fn as_str(&self) -> &str
+        ensures { result.now ≡ self.now }
+    {
+        self.text.as_str()
+    }
+}
+
+/// The name in ASCII lower case with `_` for `-`. Names that differ in nothing else are one crate.
+pub fn canon(name: &CrateName) -> CanonText
+    ensures { result ≡ canon name.now }
+{
+    let mut text = ArrayString::new();
+    for b in name.as_str().as_bytes() {
+        text.push(canon_byte(*b) as char);
+    }
+    CanonText { text }
+}
+
+/// The name in ASCII lower case, as index paths spell it.
+pub fn lower(name: &CrateName) -> CrateName
+    ensures { result ≡ lower name.now }
+{
+    let mut text = ArrayString::new();
+    for b in name.as_str().as_bytes() {
+        text.push(lower_byte(*b) as char);
+    }
+    CrateName { text }
+}
+
+/// Whether two names have one canonical text, so that a registry holds only one of them.
+pub fn collides(one: &CrateName, other: &CrateName) -> bool
+    ensures { IsTrue result ↔ (canon one.now ≡ canon other.now) }
+{
+    canon(one).text == canon(other).text
+}

@@ -1,0 +1,88 @@
+//! Where a crate's file stands in the index (the Cargo Book, "Registry Index", "Index files").
+
+ghost use Rattle.std.specs.Prelude.{◌≡◌, ◌+◌, ◌<◌, ◌≤◌, ◌↔◌, ℕ, List, Some, length, slice_index, true, [], ◌++◌};
+ghost use Rattle.reg_names.specs.Names.{folder_of, is_name, lower, path_of};
+
+use crate::name::{CrateName, lower, parse_name};
+use arrayvec::ArrayString;
+use std::marker::Model;
+
+/// An index path, as `ca/rg/cargo`.
+#[derive(Drop)]
+pub struct PathText {
+    text: ArrayString<70>,
+}
+
+impl Model for PathText {
+    ghost Value = { List ℕ };
+
+    ghost view = { λ p. p.text.bytes };
+}
+
+impl PathText {
+    /// The path, without a slash at either end.
+    pub fn as_str(&self) -> &str
+        ensures { result.now ≡ self.now }
+    {
+        self.text.as_str()
+    }
+}
+
+/// The folder of a lower-case name, with its last slash.
+fn folder(name: &str) -> ArrayString<6>
+    requires { (k : ℕ) → k < length name.now → slice_index name.now k < 128 }
+    ensures { result.bytes ≡ folder_of name.now }
+{
+    let mut text = ArrayString::new();
+    match name.as_bytes() {
+        [] => {}
+        [_] => text.push_str("1/"),
+        [_, _] => text.push_str("2/"),
+        [a, _, _] => {
+            text.push_str("3/");
+            text.push(*a as char);
+            text.push('/');
+        }
+        [a, b, c, d, ..] => {
+            text.push(*a as char);
+            text.push(*b as char);
+            text.push('/');
+            text.push(*c as char);
+            text.push(*d as char);
+            text.push('/');
+        }
+    }
+    text
+}
+
+/// The path of a crate's index file.
+pub fn index_path(name: &CrateName) -> PathText
+    ensures { result ≡ path_of name.now }
+{
+    let name = lower(name);
+    let mut text = ArrayString::new();
+    text.push_str(folder(name.as_str()).as_str());
+    text.push_str(name.as_str());
+    PathText { text }
+}
+
+/// How long the folder is of a path that is so long.
+fn folder_len(path_len: usize) -> usize {
+    match path_len {
+        3 | 4 => 2,
+        7 => 4,
+        _ => 6,
+    }
+}
+
+/// The lower-case name whose index path a text is.
+pub fn name_of_path(path: &str) -> Option<CrateName>
+    ensures { (n : List ℕ) → (result ≡ Some n) ↔ ((is_name n ≡ true) × (lower n ≡ n) × (path_of n ≡ path.now)) }
+{
+    let (_, text) = path.split_at_checked(folder_len(path.len()))?;
+    let name = parse_name(text)?;
+    if lower(&name).as_str() != text || index_path(&name).as_str() != path {
+        return None;
+    }
+    Some(name)
+}
