@@ -3,6 +3,7 @@
 ghost use Rattle.std.specs.Prelude.{◌≡◌, ◌<◌, ◌≤◌, ◌↔◌, ℕ, IsTrue, List, length, slice_index, true};
 ghost use Rattle.std.specs.Char.{to_ascii_lowercase};
 ghost use Rattle.std.specs.List.{list_all};
+ghost use Rattle.std.specs.Str.{IsAscii};
 ghost use Rattle.reg_names.specs.Names.{canon, canon_byte, is_name, is_name_byte, lower, name_of};
 
 use arrayvec::ArrayString;
@@ -93,7 +94,7 @@ impl CrateName {
         ensures value { result.now ≡ self.now }
         ensures name { is_name result.now ≡ true }
         ensures fits { length result.now ≤ 64 }
-        ensures ascii { (k : ℕ) → k < length result.now → slice_index result.now k < 128 }
+        ensures ascii { IsAscii result.now }
     {
         self.text.as_str()
     }

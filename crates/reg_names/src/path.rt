@@ -1,6 +1,7 @@
 //! Where a crate's file stands in the index (the Cargo Book, "Registry Index", "Index files").
 
 ghost use Rattle.std.specs.Prelude.{◌≡◌, ◌+◌, ◌<◌, ◌≤◌, ◌↔◌, ℕ, List, Some, length, slice_index, true, [], ◌++◌};
+ghost use Rattle.std.specs.Str.{IsAscii};
 ghost use Rattle.reg_names.specs.Names.{folder_of, is_name, lower, path_of};
 
 use crate::name::{CrateName, lower, parse_name};
@@ -30,7 +31,7 @@ impl PathText {
 
 /// The folder of a lower-case name, with its last slash.
 fn folder(name: &str) -> ArrayString<6>
-    requires { (k : ℕ) → k < length name.now → slice_index name.now k < 128 }
+    requires { IsAscii name.now }
     ensures { result.bytes ≡ folder_of name.now }
 {
     let mut text = ArrayString::new();
@@ -66,8 +67,11 @@ pub fn index_path(name: &CrateName) -> PathText
     PathText { text }
 }
 
-/// How long the folder is of a path that is so long.
-fn folder_len(path_len: usize) -> usize {
+/// How long the folder of a path is, from the length of the path.
+#[tactic(auto, using(crate::proofs::PathFacts::path_lengths))]
+fn folder_len(path_len: usize) -> usize
+    ensures { (m : List ℕ) → 0 < length m → path_len ≡ length (folder_of m ++ m) → result ≡ length (folder_of m) }
+{
     match path_len {
         3 | 4 => 2,
         7 => 4,
@@ -75,14 +79,24 @@ fn folder_len(path_len: usize) -> usize {
     }
 }
 
+/// What stands behind the folder of a path; nothing, where the path is none.
+fn file_name(path: &str) -> &str
+    ensures { (n : List ℕ) → is_name n ≡ true → path_of n ≡ path.now → result.now ≡ lower n }
+{
+    match path.split_at_checked(folder_len(path.len())) {
+        Some((_, name)) => name,
+        None => "",
+    }
+}
+
 /// The lower-case name whose index path a text is.
 pub fn name_of_path(path: &str) -> Option<CrateName>
     ensures { (n : List ℕ) → (result ≡ Some n) ↔ ((is_name n ≡ true) × (lower n ≡ n) × (path_of n ≡ path.now)) }
 {
-    let (_, text) = path.split_at_checked(folder_len(path.len()))?;
-    let name = parse_name(text)?;
-    if lower(&name).as_str() != text || index_path(&name).as_str() != path {
-        return None;
+    let name = parse_name(file_name(path))?;
+    if lower(&name).as_str() == name.as_str() && index_path(&name).as_str() == path {
+        Some(name)
+    } else {
+        None
     }
-    Some(name)
 }

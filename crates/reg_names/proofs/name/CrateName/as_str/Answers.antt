@@ -3,4 +3,4 @@ use Rattle.reg_names.proofs.NameFacts.{name_ascii}
 use Rattle.reg_names.proofs.name.CrateName.as_str.Goals as goal
 
 pub returns-clause-ascii : goal.returns-clause-ascii
-returns-clause-ascii c = λ k h. name_ascii c.as_str.result.now k (rw c.as_str.ensures.value c.self.invariant) h
+returns-clause-ascii c = name_ascii c.as_str.result.now (rw c.as_str.ensures.value c.self.invariant)
