@@ -1,0 +1,4 @@
+pub mod Reads
+pub mod Fields
+pub mod Manifests
+pub mod Metadata

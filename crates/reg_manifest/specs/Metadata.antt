@@ -1,0 +1,75 @@
+-- What the metadata of a publish request stands for (the Cargo Book, "Registry Web API", "Publish").
+use Rattle.std.specs.Prelude.{ℕ, Bool, true, false, not, List, [], codes, Option, Some, None, Result, Ok, Err, is_ok, bytes_eq, if◌then◌else◌, length, ◌==◌, ◌||◌, ◌&&◌}
+use Rattle.std.specs.List.{list_all}
+use Rattle.semver.specs.Parse.{version_parts, req_of}
+use Rattle.serde_json.specs.Data.{Data, no_items}
+use Rattle.reg_names.specs.Names.{is_name}
+use Rattle.reg_manifest.specs.Reads.{Read, ◌>>=◌}
+use Rattle.reg_manifest.specs.Fields.{json_of, field, required, or_else, optional, text_of, texts_of, flag_of, list_of, object_of, each, features_of}
+use Rattle.reg_manifest.specs.Manifests.{DepData, Metadata}
+use Rattle.reg_manifest.specs.declared.fault.ManifestFault.TheVariants as fault
+
+-- ---- the fields, each of its kind or refused
+
+-- a dependency's fields
+unfoldable pub dep_of : Data → Read DepData
+dep_of d = object_of d >>= λ o.
+    required text_of (field (codes "name") o) >>= λ name.
+    required text_of (field (codes "version_req") o) >>= λ req.
+    or_else [] texts_of (field (codes "features") o) >>= λ features.
+    or_else false flag_of (field (codes "optional") o) >>= λ opt.
+    or_else true flag_of (field (codes "default_features") o) >>= λ default.
+    optional text_of (field (codes "target") o) >>= λ target.
+    or_else (codes "normal") text_of (field (codes "kind") o) >>= λ kind.
+    optional text_of (field (codes "registry") o) >>= λ registry.
+    optional text_of (field (codes "explicit_name_in_toml") o) >>= λ rename.
+    Ok (record { name = name; req = req; features = features; optional = opt; default_features = default; target = target; kind = kind; registry = registry; rename = rename })
+
+-- the whole value's fields
+unfoldable pub fields_of : Data → Read Metadata
+fields_of d = object_of d >>= λ o.
+    required text_of (field (codes "name") o) >>= λ name.
+    required text_of (field (codes "vers") o) >>= λ vers.
+    or_else no_items list_of (field (codes "deps") o) >>= λ list.
+    each dep_of list >>= λ deps.
+    or_else [] features_of (field (codes "features") o) >>= λ features.
+    optional text_of (field (codes "description") o) >>= λ description.
+    optional text_of (field (codes "links") o) >>= λ links.
+    optional text_of (field (codes "rust_version") o) >>= λ rust_version.
+    Ok (record { name = name; vers = vers; deps = deps; features = features; description = description; links = links; rust_version = rust_version })
+
+-- ---- the rules
+
+-- a version of SemVer 2.0.0 whose major, minor and patch fit 64 bits
+abbrev pub is_version : List ℕ → Bool
+is_version t = is_ok (version_parts t)
+
+abbrev pub is_kind : List ℕ → Bool
+is_kind k = bytes_eq k (codes "normal") || (bytes_eq k (codes "build") || bytes_eq k (codes "dev"))
+
+-- an optional text that is there and empty
+abbrev pub is_blank : Option (List ℕ) → Bool
+is_blank None = false
+is_blank (Some t) = length t == 0
+
+-- a dependency has a name, a new name that is not empty, a known kind, and a requirement as `semver` reads it
+unfoldable pub is_dep : DepData → Bool
+is_dep d = not (length d.name == 0) && (not (is_blank d.rename) && (is_kind d.kind && is_ok (req_of d.req)))
+
+-- the name is a crate name, the version is one, and each dependency is as it has to be
+unfoldable pub keeps_rules : Metadata → Bool
+keeps_rules m = is_name m.name && (is_version m.vers && list_all is_dep m.deps)
+
+-- the rules in their order
+unfoldable pub checked : Metadata → Read Metadata
+checked m =
+    if not (is_name m.name) then Err fault.Name
+    else if not (is_version m.vers) then Err fault.Version
+    else if not (list_all is_dep m.deps) then Err fault.Dependency
+    else Ok m
+
+-- ---- the whole
+
+-- the manifest that bytes stand for, or the first fault
+unfoldable pub metadata_of : List ℕ → Read Metadata
+metadata_of bytes = json_of bytes >>= λ d. fields_of d >>= λ m. checked m

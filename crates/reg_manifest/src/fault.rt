@@ -1,0 +1,42 @@
+//! Why metadata is refused.
+
+ghost use Rattle.std.specs.Prelude.{◌≡◌};
+
+use std::alloc::{AllocError, AllocFailed};
+
+/// Why metadata is refused, in the order in which it is judged; memory where it was met.
+#[derive(Clone, Copy, PartialEq, Debug)]
+pub enum ManifestFault {
+    /// The bytes are not one JSON value, not UTF-8, or nest past 127 levels.
+    NotJson,
+    /// The value is no object, or a field is missing or of the wrong kind.
+    Field,
+    /// `name` is no crate name.
+    Name,
+    /// `vers` is no version of SemVer 2.0.0.
+    Version,
+    /// A dependency has no name, an empty new name, an unknown kind, or no requirement that can be read.
+    Dependency,
+    /// A growth of memory was refused.
+    Memory,
+}
+
+impl From<AllocError> for ManifestFault {
+    ghost use Rattle.reg_manifest.specs.declared.fault.ManifestFault.TheVariants.{Memory};
+
+    ghost from_gives = { λ _ e. e ≡ Memory };
+
+    fn from(_error: AllocError) -> ManifestFault {
+        ManifestFault::Memory
+    }
+}
+
+impl<T: Drop> From<AllocFailed<T>> for ManifestFault {
+    ghost use Rattle.reg_manifest.specs.declared.fault.ManifestFault.TheVariants.{Memory};
+
+    ghost from_gives = { λ _ e. e ≡ Memory };
+
+    fn from(_error: AllocFailed<T>) -> ManifestFault {
+        ManifestFault::Memory
+    }
+}

@@ -1,0 +1,111 @@
+//! Bytes to a manifest (the Cargo Book, "Registry Web API", "Publish").
+
+ghost use Rattle.std.specs.Prelude.{◌≡◌, map};
+ghost use Rattle.serde_json.specs.View.{items_view, view};
+ghost use Rattle.reg_manifest.specs.Reads.{Gives};
+ghost use Rattle.reg_manifest.specs.Fields.{each};
+ghost use Rattle.reg_manifest.specs.Manifests.{dep_view, draft_view, manifest_view};
+ghost use Rattle.reg_manifest.specs.Metadata.{checked, dep_of, fields_of, metadata_of};
+
+use crate::fault::ManifestFault;
+use crate::fields::{
+    features_or_empty, flag_or, list_or_empty, members, optional_text, read_json, required_text,
+    text_or, texts_or_empty,
+};
+use crate::manifest::{Dep, Manifest};
+use crate::rules::{are_deps, is_version};
+use reg_names::parse_name;
+use serde_json::Value;
+use std::alloc::Global;
+use std::collections::BTreeMap;
+
+/// The fields before the rules are asked.
+#[derive(Drop)]
+struct Draft {
+    name: String,
+    vers: String,
+    deps: Vec<Dep>,
+    features: BTreeMap<String, Vec<String>>,
+    description: Option<String>,
+    links: Option<String>,
+    rust_version: Option<String>,
+}
+
+#[tactic(auto, unfolding(crate::specs::Metadata::dep_of))]
+fn read_dep(alloc: Global, value: &Value) -> Result<Dep, ManifestFault>
+    ensures { Gives dep_view result (dep_of (view value.now)) }
+{
+    members(value)?;
+    Ok(Dep {
+        name: required_text(alloc, value, "name")?,
+        version_req: required_text(alloc, value, "version_req")?,
+        features: texts_or_empty(alloc, value, "features")?,
+        optional: flag_or(value, "optional", false)?,
+        default_features: flag_or(value, "default_features", true)?,
+        target: optional_text(alloc, value, "target")?,
+        kind: text_or(alloc, value, "kind", "normal")?,
+        registry: optional_text(alloc, value, "registry")?,
+        explicit_name_in_toml: optional_text(alloc, value, "explicit_name_in_toml")?,
+    })
+}
+
+fn read_deps(alloc: Global, list: &[Value]) -> Result<Vec<Dep>, ManifestFault>
+    ensures { Gives (λ v. map dep_view v.items) result (each dep_of (items_view list.now)) }
+{
+    let mut deps = Vec::new(alloc);
+    for value in list {
+        deps.push(read_dep(alloc, value)?)?;
+    }
+    Ok(deps)
+}
+
+#[tactic(auto, unfolding(crate::specs::Metadata::fields_of))]
+fn read_fields(alloc: Global, value: &Value) -> Result<Draft, ManifestFault>
+    ensures { Gives draft_view result (fields_of (view value.now)) }
+{
+    members(value)?;
+    Ok(Draft {
+        name: required_text(alloc, value, "name")?,
+        vers: required_text(alloc, value, "vers")?,
+        deps: read_deps(alloc, list_or_empty(value, "deps")?)?,
+        features: features_or_empty(alloc, value, "features")?,
+        description: optional_text(alloc, value, "description")?,
+        links: optional_text(alloc, value, "links")?,
+        rust_version: optional_text(alloc, value, "rust_version")?,
+    })
+}
+
+#[tactic(auto, unfolding(crate::specs::Metadata::checked))]
+fn check(alloc: Global, draft: Draft) -> Result<Manifest, ManifestFault>
+    ensures { Gives manifest_view result (checked (draft_view draft)) }
+{
+    let Some(name) = parse_name(draft.name.as_str()) else {
+        return Err(ManifestFault::Name);
+    };
+    if !is_version(alloc, draft.vers.as_str())? {
+        return Err(ManifestFault::Version);
+    }
+    if !are_deps(alloc, &draft.deps)? {
+        return Err(ManifestFault::Dependency);
+    }
+    Ok(Manifest {
+        name,
+        vers: draft.vers,
+        deps: draft.deps,
+        features: draft.features,
+        description: draft.description,
+        links: draft.links,
+        rust_version: draft.rust_version,
+    })
+}
+
+/// The manifest that the metadata stands for, or its first fault. An unknown field is ignored, a missing one counts as
+/// null, and of a key that is written twice the last value counts.
+#[tactic(auto, unfolding(crate::specs::Metadata::metadata_of))]
+pub fn read_manifest(alloc: Global, bytes: &[u8]) -> Result<Manifest, ManifestFault>
+    ensures { Gives manifest_view result (metadata_of bytes.now) }
+{
+    let value = read_json(alloc, bytes)?;
+    let draft = read_fields(alloc, &value)?;
+    check(alloc, draft)
+}
