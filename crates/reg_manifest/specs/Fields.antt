@@ -86,10 +86,6 @@ members_of (string s) = Err fault.Field
 members_of (array ds) = Err fault.Field
 members_of (object ms) = Ok ms
 
--- a value that is an object, as it is
-abbrev pub object_of : Data → Read Data
-object_of d = members_of d >>= λ ms. Ok (object ms)
-
 -- each of a list, up to the first fault
 abbrev pub each : {A : Type 0} → (Data → Read A) → Items → Read (List A)
 each f no_items = Ok []

@@ -5,37 +5,37 @@ use Rattle.semver.specs.Parse.{version_parts, req_of}
 use Rattle.serde_json.specs.Data.{Data, no_items}
 use Rattle.reg_names.specs.Names.{is_name}
 use Rattle.reg_manifest.specs.Reads.{Read, ◌>>=◌}
-use Rattle.reg_manifest.specs.Fields.{json_of, field, required, or_else, optional, text_of, texts_of, flag_of, list_of, object_of, each, features_of}
+use Rattle.reg_manifest.specs.Fields.{json_of, field, required, or_else, optional, text_of, texts_of, flag_of, list_of, members_of, each, features_of}
 use Rattle.reg_manifest.specs.Manifests.{DepData, Metadata}
 use Rattle.reg_manifest.specs.declared.fault.ManifestFault.TheVariants as fault
 
 -- ---- the fields, each of its kind or refused
 
--- a dependency's fields
+-- a dependency's fields; it has to be an object
 unfoldable pub dep_of : Data → Read DepData
-dep_of d = object_of d >>= λ o.
-    required text_of (field (codes "name") o) >>= λ name.
-    required text_of (field (codes "version_req") o) >>= λ req.
-    or_else [] texts_of (field (codes "features") o) >>= λ features.
-    or_else false flag_of (field (codes "optional") o) >>= λ opt.
-    or_else true flag_of (field (codes "default_features") o) >>= λ default.
-    optional text_of (field (codes "target") o) >>= λ target.
-    or_else (codes "normal") text_of (field (codes "kind") o) >>= λ kind.
-    optional text_of (field (codes "registry") o) >>= λ registry.
-    optional text_of (field (codes "explicit_name_in_toml") o) >>= λ rename.
+dep_of d = members_of d >>= λ _.
+    required text_of (field (codes "name") d) >>= λ name.
+    required text_of (field (codes "version_req") d) >>= λ req.
+    or_else [] texts_of (field (codes "features") d) >>= λ features.
+    or_else false flag_of (field (codes "optional") d) >>= λ opt.
+    or_else true flag_of (field (codes "default_features") d) >>= λ default.
+    optional text_of (field (codes "target") d) >>= λ target.
+    or_else (codes "normal") text_of (field (codes "kind") d) >>= λ kind.
+    optional text_of (field (codes "registry") d) >>= λ registry.
+    optional text_of (field (codes "explicit_name_in_toml") d) >>= λ rename.
     Ok (record { name = name; req = req; features = features; optional = opt; default_features = default; target = target; kind = kind; registry = registry; rename = rename })
 
--- the whole value's fields
+-- the whole value's fields; it has to be an object
 unfoldable pub fields_of : Data → Read Metadata
-fields_of d = object_of d >>= λ o.
-    required text_of (field (codes "name") o) >>= λ name.
-    required text_of (field (codes "vers") o) >>= λ vers.
-    or_else no_items list_of (field (codes "deps") o) >>= λ list.
+fields_of d = members_of d >>= λ _.
+    required text_of (field (codes "name") d) >>= λ name.
+    required text_of (field (codes "vers") d) >>= λ vers.
+    or_else no_items list_of (field (codes "deps") d) >>= λ list.
     each dep_of list >>= λ deps.
-    or_else [] features_of (field (codes "features") o) >>= λ features.
-    optional text_of (field (codes "description") o) >>= λ description.
-    optional text_of (field (codes "links") o) >>= λ links.
-    optional text_of (field (codes "rust_version") o) >>= λ rust_version.
+    or_else [] features_of (field (codes "features") d) >>= λ features.
+    optional text_of (field (codes "description") d) >>= λ description.
+    optional text_of (field (codes "links") d) >>= λ links.
+    optional text_of (field (codes "rust_version") d) >>= λ rust_version.
     Ok (record { name = name; vers = vers; deps = deps; features = features; description = description; links = links; rust_version = rust_version })
 
 -- ---- the rules

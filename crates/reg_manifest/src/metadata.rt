@@ -36,16 +36,25 @@ fn read_dep(alloc: Global, value: &Value) -> Result<Dep, ManifestFault>
     ensures { Gives dep_view result (dep_of (view value.now)) }
 {
     members(value)?;
+    let name = required_text(alloc, value, "name")?;
+    let version_req = required_text(alloc, value, "version_req")?;
+    let features = texts_or_empty(alloc, value, "features")?;
+    let optional = flag_or(value, "optional", false)?;
+    let default_features = flag_or(value, "default_features", true)?;
+    let target = optional_text(alloc, value, "target")?;
+    let kind = text_or(alloc, value, "kind", "normal")?;
+    let registry = optional_text(alloc, value, "registry")?;
+    let explicit_name_in_toml = optional_text(alloc, value, "explicit_name_in_toml")?;
     Ok(Dep {
-        name: required_text(alloc, value, "name")?,
-        version_req: required_text(alloc, value, "version_req")?,
-        features: texts_or_empty(alloc, value, "features")?,
-        optional: flag_or(value, "optional", false)?,
-        default_features: flag_or(value, "default_features", true)?,
-        target: optional_text(alloc, value, "target")?,
-        kind: text_or(alloc, value, "kind", "normal")?,
-        registry: optional_text(alloc, value, "registry")?,
-        explicit_name_in_toml: optional_text(alloc, value, "explicit_name_in_toml")?,
+        name,
+        version_req,
+        features,
+        optional,
+        default_features,
+        target,
+        kind,
+        registry,
+        explicit_name_in_toml,
     })
 }
 
@@ -64,14 +73,21 @@ fn read_fields(alloc: Global, value: &Value) -> Result<Draft, ManifestFault>
     ensures { Gives draft_view result (fields_of (view value.now)) }
 {
     members(value)?;
+    let name = required_text(alloc, value, "name")?;
+    let vers = required_text(alloc, value, "vers")?;
+    let deps = read_deps(alloc, list_or_empty(value, "deps")?)?;
+    let features = features_or_empty(alloc, value, "features")?;
+    let description = optional_text(alloc, value, "description")?;
+    let links = optional_text(alloc, value, "links")?;
+    let rust_version = optional_text(alloc, value, "rust_version")?;
     Ok(Draft {
-        name: required_text(alloc, value, "name")?,
-        vers: required_text(alloc, value, "vers")?,
-        deps: read_deps(alloc, list_or_empty(value, "deps")?)?,
-        features: features_or_empty(alloc, value, "features")?,
-        description: optional_text(alloc, value, "description")?,
-        links: optional_text(alloc, value, "links")?,
-        rust_version: optional_text(alloc, value, "rust_version")?,
+        name,
+        vers,
+        deps,
+        features,
+        description,
+        links,
+        rust_version,
     })
 }
 
