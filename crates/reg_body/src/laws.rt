@@ -1,0 +1,15 @@
+//! What holds of publish bodies, whatever the code. The functions do nothing: their contracts are the laws.
+
+ghost use Rattle.std.specs.Prelude.{◌≡◌, List, ℕ};
+ghost use Rattle.reg_body.specs.Frames.{Frame, IsFrame, IsProperPrefix};
+
+/// No publish body is a proper prefix of another.
+pub fn prefix_law()
+    ensures { (b c : List ℕ) → IsFrame b → IsFrame c → ¬ IsProperPrefix b c }
+{}
+
+/// A publish body has one JSON and one archive.
+pub fn parts_law()
+    ensures json { (b j a k c : List ℕ) → Frame b j a → Frame b k c → j ≡ k }
+    ensures archive { (b j a k c : List ℕ) → Frame b j a → Frame b k c → a ≡ c }
+{}
