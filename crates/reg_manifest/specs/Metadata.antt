@@ -1,9 +1,10 @@
 -- What the metadata of a publish request stands for (the Cargo Book, "Registry Web API", "Publish").
 use Rattle.std.specs.Prelude.{ℕ, Bool, true, false, not, List, [], codes, Option, Some, None, Result, Ok, Err, is_ok, bytes_eq, if◌then◌else◌, length, ◌==◌, ◌||◌, ◌&&◌}
 use Rattle.std.specs.List.{list_all}
-use Rattle.semver.specs.Parse.{version_parts, req_of}
+use Rattle.semver.specs.Parse.{req_of}
 use Rattle.serde_json.specs.Data.{Data, no_items}
 use Rattle.reg_names.specs.Names.{is_name}
+use Rattle.reg_versions.specs.Versions.{is_version}
 use Rattle.reg_manifest.specs.Reads.{Read, ◌>>=◌}
 use Rattle.reg_manifest.specs.Fields.{json_of, field, required, or_else, optional, text_of, texts_of, flag_of, list_of, members_of, each, features_of}
 use Rattle.reg_manifest.specs.Manifests.{DepData, Metadata}
@@ -39,10 +40,6 @@ fields_of d = members_of d >>= λ _.
     Ok (record { name = name; vers = vers; deps = deps; features = features; description = description; links = links; rust_version = rust_version })
 
 -- ---- the rules
-
--- a version of SemVer 2.0.0 whose major, minor and patch fit 64 bits
-abbrev pub is_version : List ℕ → Bool
-is_version t = is_ok (version_parts t)
 
 abbrev pub is_kind : List ℕ → Bool
 is_kind k = bytes_eq k (codes "normal") || (bytes_eq k (codes "build") || bytes_eq k (codes "dev"))

@@ -4,25 +4,22 @@ ghost use Rattle.std.specs.Prelude.{◌≡◌, IfOk, is_ok, map, option_map, str
 ghost use Rattle.std.specs.List.{list_all};
 ghost use Rattle.semver.specs.Parse.{req_of};
 ghost use Rattle.reg_manifest.specs.Manifests.{dep_view};
-ghost use Rattle.reg_manifest.specs.Metadata.{is_blank, is_dep, is_kind, is_version};
+ghost use Rattle.reg_manifest.specs.Metadata.{is_blank, is_dep, is_kind};
+ghost use Rattle.reg_versions.specs.Versions.{is_version};
 
 use crate::manifest::Dep;
-use semver::{Version, VersionReq};
+use reg_versions::{Release, VersionFault};
+use semver::VersionReq;
 use std::alloc::{AllocError, Global};
 
 /// Whether a text is a version of SemVer 2.0.0 whose major, minor and patch fit 64 bits.
 pub fn is_version(alloc: Global, text: &str) -> Result<bool, AllocError>
     ensures { IfOk result (λ b. b ≡ is_version text.now) }
 {
-    match Version::parse(alloc, text) {
+    match Release::parse(alloc, text) {
         Ok(_) => Ok(true),
-        Err(error) => {
-            if error == semver::Error::from(AllocError) {
-                Err(AllocError)
-            } else {
-                Ok(false)
-            }
-        }
+        Err(VersionFault::Bad) => Ok(false),
+        Err(VersionFault::Memory) => Err(AllocError),
     }
 }
 
