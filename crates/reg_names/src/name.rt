@@ -1,10 +1,10 @@
-//! Crate names and their canonical texts.
+//! Crate names.
 
-ghost use Rattle.std.specs.Prelude.{◌≡◌, ◌<◌, ◌≤◌, ◌↔◌, ℕ, IsTrue, List, length, slice_index, true};
+ghost use Rattle.std.specs.Prelude.{◌≡◌, ◌<◌, ◌≤◌, ℕ, List, length, true};
 ghost use Rattle.std.specs.Char.{to_ascii_lowercase};
 ghost use Rattle.std.specs.List.{list_all};
 ghost use Rattle.std.specs.Str.{IsAscii};
-ghost use Rattle.reg_names.specs.Names.{canon, canon_byte, is_name, is_name_byte, lower, name_of};
+ghost use Rattle.reg_names.specs.Names.{is_name, is_name_byte, lower, name_of};
 
 use arrayvec::ArrayString;
 use std::marker::Model;
@@ -23,33 +23,10 @@ impl Model for CrateName {
     ghost invariant = { λ n. is_name n.text.bytes ≡ true };
 }
 
-/// A canonical text: a crate name in ASCII lower case with `_` for `-`.
-#[derive(Drop)]
-pub struct CanonText {
-    text: ArrayString<64>,
-}
-
-impl Model for CanonText {
-    ghost Value = { List ℕ };
-
-    ghost view = { λ n. n.text.bytes };
-}
-
 fn is_name_byte(b: u8) -> bool
     ensures { result ≡ is_name_byte b }
 {
     b.is_ascii_alphanumeric() || b == b'-' || b == b'_'
-}
-
-fn canon_byte(b: u8) -> u8
-    ensures value { result ≡ canon_byte b }
-    ensures ascii { b < 128 → result < 128 }
-{
-    if b == b'-' {
-        b'_'
-    } else {
-        b.to_ascii_lowercase()
-    }
 }
 
 fn lower_byte(b: u8) -> u8
@@ -100,26 +77,6 @@ impl CrateName {
     }
 }
 
-impl CanonText {
-    /// The text.
-    pub fn as_str(&self) -> &str
-        ensures { result.now ≡ self.now }
-    {
-        self.text.as_str()
-    }
-}
-
-/// The name in ASCII lower case with `_` for `-`. Names that differ in nothing else are one crate.
-pub fn canon(name: &CrateName) -> CanonText
-    ensures { result ≡ canon name.now }
-{
-    let mut text = ArrayString::new();
-    for b in name.as_str().as_bytes() {
-        text.push(canon_byte(*b) as char);
-    }
-    CanonText { text }
-}
-
 /// The name in ASCII lower case, as index paths spell it.
 pub fn lower(name: &CrateName) -> CrateName
     ensures { result ≡ lower name.now }
@@ -129,11 +86,4 @@ pub fn lower(name: &CrateName) -> CrateName
         text.push(lower_byte(*b) as char);
     }
     CrateName { text }
-}
-
-/// Whether two names have one canonical text, so that a registry holds only one of them.
-pub fn collides(one: &CrateName, other: &CrateName) -> bool
-    ensures { IsTrue result ↔ (canon one.now ≡ canon other.now) }
-{
-    canon(one).text == canon(other).text
 }

@@ -1,0 +1,58 @@
+//! Canonical texts: what two spellings of one crate have in common.
+
+ghost use Rattle.std.specs.Prelude.{◌≡◌, ◌<◌, ◌↔◌, ℕ, IsTrue, List};
+ghost use Rattle.reg_names.specs.Names.{canon, canon_byte};
+
+use crate::name::CrateName;
+use arrayvec::ArrayString;
+use std::marker::Model;
+
+/// A canonical text: a crate name in ASCII lower case with `_` for `-`.
+#[derive(Drop)]
+pub struct CanonText {
+    text: ArrayString<64>,
+}
+
+impl Model for CanonText {
+    ghost Value = { List ℕ };
+
+    ghost view = { λ n. n.text.bytes };
+}
+
+impl CanonText {
+    /// The text.
+    pub fn as_str(&self) -> &str
+        ensures { result.now ≡ self.now }
+    {
+        self.text.as_str()
+    }
+}
+
+fn canon_byte(b: u8) -> u8
+    ensures value { result ≡ canon_byte b }
+    ensures ascii { b < 128 → result < 128 }
+{
+    if b == b'-' {
+        b'_'
+    } else {
+        b.to_ascii_lowercase()
+    }
+}
+
+/// The name in ASCII lower case with `_` for `-`. Names that differ in nothing else are one crate.
+pub fn canon(name: &CrateName) -> CanonText
+    ensures { result ≡ canon name.now }
+{
+    let mut text = ArrayString::new();
+    for b in name.as_str().as_bytes() {
+        text.push(canon_byte(*b) as char);
+    }
+    CanonText { text }
+}
+
+/// Whether two names have one canonical text, so that a registry holds only one of them.
+pub fn collides(one: &CrateName, other: &CrateName) -> bool
+    ensures { IsTrue result ↔ (canon one.now ≡ canon other.now) }
+{
+    canon(one).text == canon(other).text
+}
