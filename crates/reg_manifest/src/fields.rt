@@ -35,8 +35,8 @@ pub fn field<'a>(object: &'a Value, key: &str) -> Option<&'a Value>
     ensures { option_map (λ v. view v.now) result ≡ field key.now (view object.now) }
 {
     match object.get(key) {
-        Some(value) => { if value.is_null() { None } else { Some(value) } }
-        None => None,
+        Some(value) if !value.is_null() => Some(value),
+        _ => None,
     }
 }
 

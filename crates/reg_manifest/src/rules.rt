@@ -13,7 +13,7 @@ use semver::VersionReq;
 use std::alloc::{AllocError, Global};
 
 /// Whether a text is a version of SemVer 2.0.0 whose major, minor and patch fit 64 bits.
-pub fn is_version(alloc: Global, text: &str) -> Result<bool, AllocError>
+pub(crate) fn is_version(alloc: Global, text: &str) -> Result<bool, AllocError>
     ensures { IfOk result (λ b. b ≡ is_version text.now) }
 {
     match Release::parse(alloc, text) {
