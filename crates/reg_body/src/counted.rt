@@ -1,11 +1,11 @@
 //! A reader or a writer that counts what was asked of it.
 
-ghost use Rattle.std.specs.Prelude.{◌≡◌, ℕ, ◌+◌, ◌-◌, ◌^◌, ◌<◌, ◌≤◌, length, IfOk, OnOk, OnErr};
-ghost use Rattle.std.specs.Io.{ReadsAtMost, WritesAtMost};
-ghost use Rattle.std.specs.Io.KnownBytes.{ReadConsumes, WriteAppends};
-ghost use Rattle.reg_body.specs.Counting.{CountedEnd, Fails};
+mod reading;
+mod writing;
 
-use std::io::{self, ErrorKind, Read, Write};
+ghost use Rattle.std.specs.Prelude.{◌≡◌, ◌≤◌};
+ghost use Rattle.reg_body.specs.Counting.{CountedEnd};
+
 use std::marker::Model;
 
 /// A reader or a writer, how often it was called, and how often it failed.
@@ -67,48 +67,5 @@ impl<T> Counted<T> {
         ensures { result ≡ self.now.failures }
     {
         self.failures
-    }
-}
-
-impl<R: Read> Counted<R> {
-    /// One read of the end. What the end answers is passed on, so an interrupted read is a failure too.
-    pub fn read(&mut self, buf: &mut [u8]) -> io::Result<usize>
-        requires { self.old.calls < 2 ^ 64 - 1 }
-        ensures bound { ReadsAtMost result buf.new }
-        ensures bytes { ReadConsumes (R.remaining self.old.inner) (R.remaining self.new.inner) result buf.new }
-        ensures calls { self.new.calls ≡ self.old.calls + 1 }
-        ensures failures { Fails result self.old.failures self.new.failures }
-    {
-        self.calls += 1;
-        let result = self.inner.read(buf);
-        if result.is_err() {
-            self.failures += 1;
-        }
-        result
-    }
-}
-
-impl<W: Write> Counted<W> {
-    /// One write to the end. A write that takes none of some bytes is answered `WriteZero`.
-    pub fn write(&mut self, buf: &[u8]) -> io::Result<usize>
-        requires { self.old.calls < 2 ^ 64 - 1 }
-        ensures bound { WritesAtMost result buf.now }
-        ensures some { IfOk result (λ n. 0 < length buf.now → 0 < n) }
-        ensures bytes { WriteAppends (W.contents self.old.inner) (W.contents self.new.inner) result buf.now }
-        ensures calls { self.new.calls ≡ self.old.calls + 1 }
-        ensures failures { Fails result self.old.failures self.new.failures }
-    {
-        self.calls += 1;
-        match self.inner.write(buf) {
-            Ok(0) if !buf.is_empty() => {
-                self.failures += 1;
-                Err(ErrorKind::WriteZero.into())
-            }
-            Ok(n) => Ok(n),
-            Err(error) => {
-                self.failures += 1;
-                Err(error)
-            }
-        }
     }
 }
