@@ -1,0 +1,124 @@
+//! `line`: a publish body becomes an index path and an index line.
+
+ghost use Rattle.std.specs.Prelude.{◌≡◌, ◌+◌, ◌<◌, ◌≤◌, ◌^◌, ◌⊎◌, IfErr, IfOk, IfSome, List, ℕ, []};
+ghost use Rattle.std.specs.Io.KnownBytes.{Appends, IsAtEnd};
+ghost use Rattle.registry_cli.specs.Answers.{Breaks, IsAnswer, IsStop, stop_words, words_of};
+ghost use Rattle.registry_cli.specs.Ends.{AppendsFront};
+ghost use Rattle.registry_cli.specs.declared.fault.LineFault.{LineFault};
+ghost use Rattle.registry_cli.specs.declared.fault.LineFault.TheVariants as Fault;
+
+use crate::ends::{EndFault, read_all, write_all};
+use crate::fault::LineFault;
+use reg_body::{Counted, Limits, split};
+use reg_line::{digest_of, line};
+use reg_manifest::read_manifest;
+use reg_names::index_path;
+use std::alloc::Global;
+use std::io::{Read, Write};
+
+/// How a run ended: its status, and the line for standard error, empty for none.
+#[derive(Clone, Copy, Debug, PartialEq, Eq)]
+pub struct Exit {
+    /// 0 done, 1 refused, 2 bad words, 3 a fault of storage, memory or a stream.
+    pub status: u8,
+    pub words: &'static str,
+}
+
+/// The index path and the line of a publish body, each ended by a line feed.
+fn answer(alloc: Global, input: &[u8], limits: &Limits) -> Result<Vec<u8>, LineFault>
+    ensures answer { IfOk result (λ text. IsAnswer limits.now input.now text.items) }
+    ensures broken { IfErr result (λ fault. Breaks limits.now input.now fault) }
+{
+    let (json, archive) = split(input, limits)?;
+    let manifest = read_manifest(alloc, json)?;
+    let path = index_path(&manifest.name);
+    let line = line(alloc, &manifest, &digest_of(archive), false)?;
+    let mut text = Vec::with_capacity(alloc, 71 + line.len())?;
+    text.extend_from_slice(path.as_str().as_bytes())?;
+    text.push(b'\n')?;
+    text.extend_from_slice(&line)?;
+    Ok(text)
+}
+
+/// The end of a run in which the reader or the writer stopped; the words are those of its failing.
+fn stopped(fault: EndFault, words: &'static str) -> Exit
+    ensures status { result.status ≡ 3 }
+    ensures words { result.words.now ≡ stop_words fault words.entry.now }
+{
+    let words = match fault {
+        EndFault::Failed => words,
+        EndFault::Spent => "too many turns",
+        EndFault::Memory => "memory",
+    };
+    Exit { status: 3, words }
+}
+
+/// The end of a run whose input has no line.
+fn refused(fault: LineFault) -> Exit
+    ensures words { result.words.now ≡ words_of fault }
+    ensures status { (result.status ≡ 1) ⊎ ((result.status ≡ 3) × (fault ≡ Fault.Memory)) }
+    ensures rule { result.status ≡ 1 → ¬ (fault ≡ Fault.Memory) }
+{
+    let status = if fault == LineFault::Memory { 3 } else { 1 };
+    Exit {
+        status,
+        words: fault.words(),
+    }
+}
+
+/// Reads a publish body to its end and prints its index path and its line, by at most `turns` read and write calls
+/// together.
+pub fn run_line<R: Read, W: Write>(
+    alloc: Global,
+    reader: &mut Counted<R>,
+    writer: &mut Counted<W>,
+    limits: &Limits,
+) -> Exit
+    requires reads { reader.old.calls + limits.now.turns < 2 ^ 64 }
+    requires writes { writer.old.calls + limits.now.turns < 2 ^ 64 }
+
+    // Done: the whole answer was printed.
+    ensures done { result.status ≡ 0 → (result.words.now ≡ [])
+        × IfSome (R.remaining reader.old.inner) (λ input. (text : List ℕ)
+        × IsAnswer limits.now input text
+        × Appends (W.contents writer.old.inner) (W.contents writer.new.inner) text) }
+
+    // Refused: nothing was printed, and the words are those of the first broken rule.
+    ensures refused { result.status ≡ 1 → (writer.new ≡ writer.old)
+        × IfSome (R.remaining reader.old.inner) (λ input. (fault : LineFault)
+        × Breaks limits.now input fault × ¬ (fault ≡ Fault.Memory) × (result.words.now ≡ words_of fault)) }
+
+    // Stopped: nothing was printed, or, once the whole input was read, a front of the answer.
+    ensures stopped { result.status ≡ 3 → (writer.new ≡ writer.old)
+        ⊎ (IsAtEnd (R.remaining reader.new.inner)
+        × IfSome (R.remaining reader.old.inner) (λ input. (text : List ℕ)
+        × IsAnswer limits.now input text
+        × AppendsFront (W.contents writer.old.inner) (W.contents writer.new.inner) text)) }
+
+    // Each stop has its cause.
+    ensures cause { result.status ≡ 3 → IsStop result.words.now
+        (reader.new.failures ≡ reader.old.failures + 1)
+        (writer.new.failures ≡ writer.old.failures + 1)
+        (reader.new.calls + writer.new.calls ≡ reader.old.calls + writer.old.calls + limits.now.turns) }
+
+    ensures status { (result.status ≡ 0) ⊎ ((result.status ≡ 1) ⊎ (result.status ≡ 3)) }
+    ensures turns { reader.new.calls + writer.new.calls ≤ reader.old.calls + writer.old.calls + limits.now.turns }
+{
+    let before = reader.calls();
+    let input = match read_all(alloc, reader, limits.turns) {
+        Ok(input) => input,
+        Err(fault) => return stopped(fault, "read fault"),
+    };
+    let text = match answer(alloc, &input, limits) {
+        Ok(text) => text,
+        Err(fault) => return refused(fault),
+    };
+    let left = limits.turns - (reader.calls() - before);
+    match write_all(writer, &text, left) {
+        Ok(()) => Exit {
+            status: 0,
+            words: "",
+        },
+        Err(fault) => stopped(fault, "write fault"),
+    }
+}
