@@ -1,5 +1,5 @@
 -- What `line` prints for a publish body, and the first rule that a body breaks.
-use Rattle.std.specs.Prelude.{◌≡◌, ◌⊎◌, ℕ, List, [], ◌∷◌, ◌++◌, codes, Result, Ok, Err}
+use Rattle.std.specs.Prelude.{◌≡◌, ◌⊎◌, ℕ, List, [], ◌∷◌, ◌++◌, codes, false, Result, Ok, Err}
 use Rattle.sha2.specs.Sha256.{sha256}
 use Rattle.reg_names.specs.Names.{path_of}
 use Rattle.reg_body.specs.Frames.{Frame, IsCut, IsTooLong, IsTrailed, IsWithin}

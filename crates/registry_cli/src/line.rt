@@ -2,7 +2,8 @@
 
 ghost use Rattle.std.specs.Prelude.{◌≡◌, ◌+◌, ◌<◌, ◌≤◌, ◌^◌, ◌⊎◌, IfErr, IfOk, IfSome, List, ℕ, []};
 ghost use Rattle.std.specs.Io.KnownBytes.{Appends, IsAtEnd};
-ghost use Rattle.registry_cli.specs.Answers.{Breaks, IsAnswer, IsStop, stop_words, words_of};
+ghost use Rattle.reg_manifest.specs.Manifests.{manifest_view};
+ghost use Rattle.registry_cli.specs.Answers.{Breaks, IsAnswer, IsStop, printed, stop_words, words_of};
 ghost use Rattle.registry_cli.specs.Ends.{AppendsFront};
 ghost use Rattle.registry_cli.specs.declared.fault.LineFault.{LineFault};
 ghost use Rattle.registry_cli.specs.declared.fault.LineFault.TheVariants as Fault;
@@ -11,7 +12,7 @@ use crate::ends::{EndFault, read_all, write_all};
 use crate::fault::LineFault;
 use reg_body::{Counted, Limits, split};
 use reg_line::{digest_of, line};
-use reg_manifest::read_manifest;
+use reg_manifest::{Manifest, read_manifest};
 use reg_names::index_path;
 use std::alloc::Global;
 use std::io::{Read, Write};
@@ -24,20 +25,28 @@ pub struct Exit {
     pub words: &'static str,
 }
 
-/// The index path and the line of a publish body, each ended by a line feed.
+/// The index path and the line of a version that is not yanked, each ended by a line feed.
+fn lines(alloc: Global, manifest: &Manifest, archive: &[u8]) -> Result<Vec<u8>, LineFault>
+    ensures printed { IfOk result (λ text. text.items ≡ printed (manifest_view manifest.now) archive.now) }
+    ensures memory { IfErr result (λ fault. fault ≡ Fault.Memory) }
+{
+    let path = index_path(&manifest.name);
+    let line = line(alloc, manifest, &digest_of(archive), false)?;
+    let mut text = Vec::with_capacity(alloc, 71 + line.len())?;
+    text.extend_from_slice(path.as_str().as_bytes())?;
+    text.push(b'\n')?;
+    text.extend_from_slice(&line)?;
+    Ok(text)
+}
+
+/// What is printed for a publish body.
 fn answer(alloc: Global, input: &[u8], limits: &Limits) -> Result<Vec<u8>, LineFault>
     ensures answer { IfOk result (λ text. IsAnswer limits.now input.now text.items) }
     ensures broken { IfErr result (λ fault. Breaks limits.now input.now fault) }
 {
     let (json, archive) = split(input, limits)?;
     let manifest = read_manifest(alloc, json)?;
-    let path = index_path(&manifest.name);
-    let line = line(alloc, &manifest, &digest_of(archive), false)?;
-    let mut text = Vec::with_capacity(alloc, 71 + line.len())?;
-    text.extend_from_slice(path.as_str().as_bytes())?;
-    text.push(b'\n')?;
-    text.extend_from_slice(&line)?;
-    Ok(text)
+    lines(alloc, &manifest, archive)
 }
 
 /// The end of a run in which the reader or the writer stopped; the words are those of its failing.

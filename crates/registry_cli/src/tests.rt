@@ -189,7 +189,10 @@ fn refusals(rt: HostRuntime) -> Result<(), Fail> {
     for (json, words) in [
         ("{", "B4 metadata is not JSON"),
         ("[]", "B5 metadata field missing or of the wrong kind"),
-        ("{\"name\":\"1abc\",\"vers\":\"1.0.0\"}", "N1 bad crate name"),
+        (
+            "{\"name\":\"1abc\",\"vers\":\"1.0.0\"}",
+            "N1 bad crate name",
+        ),
         ("{\"name\":\"\",\"vers\":\"1.0.0\"}", "N1 bad crate name"),
         ("{\"name\":\"a\",\"vers\":\"1.0\"}", "V1 bad version"),
         (
@@ -210,7 +213,10 @@ fn frame_faults(rt: HostRuntime) {
         (b"".as_slice(), "B1 publish body too short"),
         (b"\x1b\0\0", "B1 publish body too short"),
         (b"\xff\xff\xff\xff{}\0\0\0\0", "B1 publish body too short"),
-        (b"\x02\0\0\0{}\0\0\0\0\0", "B2 publish body has trailing bytes"),
+        (
+            b"\x02\0\0\0{}\0\0\0\0\0",
+            "B2 publish body has trailing bytes",
+        ),
         (b"\x02\0\0\0\"\xff\0\0\0\0", "B4 metadata is not JSON"),
     ] {
         let (exit, printed) = line_on(rt.alloc(), bytes);

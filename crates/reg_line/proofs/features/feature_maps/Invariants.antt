@@ -1,0 +1,13 @@
+use Rattle.std.proofs.Common.{◌≡◌, map}
+use Rattle.serde_json.specs.Data.{no_members}
+use Rattle.serde_json.specs.View.{members_view}
+use Rattle.reg_manifest.specs.Manifests.{feature_view}
+use Rattle.reg_line.specs.Features.{newer, older}
+use Rattle.reg_line.proofs.Maps.{put_all}
+use Rattle.reg_line.proofs.features.feature_maps.Given as goal
+
+abbrev pub invariant-loop-key : goal.invariant-loop-key
+invariant-loop-key l =
+    (goal.iterator-loop-key).can_next l.key-iterator × (goal.iterator-loop-key).is_finite l.key-iterator
+    × (put_all (older (map feature_view l.key-iterator)) (members_view l.older.entries) ≡ put_all (older (map feature_view l.features.entries)) no_members)
+    × (put_all (newer (map feature_view l.key-iterator)) (members_view l.newer.entries) ≡ put_all (newer (map feature_view l.features.entries)) no_members)

@@ -1,0 +1,13 @@
+use Rattle.std.proofs.Common.{ap, ◌∙◌}
+use Rattle.std.proofs.lemmas.Result.{IfOk-weaker}
+use Rattle.serde_json.specs.Written.{has_float, compact_text}
+use Rattle.reg_manifest.specs.Manifests.{manifest_view}
+use Rattle.reg_line.specs.Line.{line_json}
+use Rattle.reg_line.proofs.NoFloat.{line-no_float}
+use Rattle.reg_line.proofs.lines.line_json.Goals as goal
+
+pub returns-clause-text : goal.returns-clause-text
+unfolding line_json
+returns-clause-text c = IfOk-weaker c.to_vec.result _ _
+    (λ v h. h (ap has_float c.in_ok-line_value.ensures.value ∙ line-no_float (manifest_view c.args.manifest.now) c.args.digest.now c.args.yanked) ∙ ap compact_text c.in_ok-line_value.ensures.value)
+    c.to_vec.ensures.text

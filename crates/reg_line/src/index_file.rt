@@ -1,0 +1,46 @@
+//! Index files: a crate's lines, one after another.
+
+ghost use Rattle.std.specs.Prelude.{◌≡◌, ◌+◌, ◌^◌, ◌<◌, ◌≤◌, ◌↔◌, ◌++◌, IfOk, IfSome, IsNone, OnOk, length, map};
+ghost use Rattle.reg_line.specs.File.{end_of, entry_view, file_text, line_of};
+
+use std::alloc::{AllocError, Global};
+
+/// What is kept of a line: its stem, and its yanked mark.
+#[derive(Drop)]
+pub struct Entry {
+    pub stem: Vec<u8>,
+    pub yanked: bool,
+}
+
+/// What follows a stem in its line.
+fn end(yanked: bool) -> &'static [u8]
+    ensures { result.now ≡ end_of yanked }
+{
+    if yanked { b"true}\n" } else { b"false}\n" }
+}
+
+/// The length of a line in bytes, its line feed included, from the length of its stem; none where 64 bits do not hold it.
+pub fn line_len(stem_len: u64, yanked: bool) -> Option<u64>
+    ensures some { IfSome result (λ n. n ≡ stem_len + length (end_of yanked)) }
+    ensures none { IsNone result ↔ (2 ^ 64 ≤ stem_len + length (end_of yanked)) }
+{
+    stem_len.checked_add(if yanked { 6 } else { 7 })
+}
+
+fn push_line(text: &mut Vec<u8>, entry: &Entry) -> Result<(), AllocError>
+    ensures { OnOk result (text.new.items ≡ text.old.items ++ line_of (entry_view entry.now)) }
+{
+    text.extend_from_slice(entry.stem.as_slice())?;
+    text.extend_from_slice(end(entry.yanked))
+}
+
+/// The index file of these lines.
+pub fn file(alloc: Global, entries: &[Entry]) -> Result<Vec<u8>, AllocError>
+    ensures { IfOk result (λ v. v.items ≡ file_text (map entry_view entries.now)) }
+{
+    let mut text = Vec::new(alloc);
+    for entry in entries {
+        push_line(&mut text, entry)?;
+    }
+    Ok(text)
+}

@@ -1,0 +1,15 @@
+//! Laws over the definitions, each on a function that does nothing.
+
+ghost use Rattle.std.specs.Prelude.{◌≡◌};
+ghost use Rattle.reg_manifest.specs.Manifests.{manifest_view};
+ghost use Rattle.reg_line.specs.File.{line_of};
+ghost use Rattle.reg_line.specs.Line.{IsStem, line_text};
+
+use crate::digests::Digest;
+use reg_manifest::Manifest;
+
+/// A line is its stem, the yanked mark, the end of the object, and a line feed.
+pub fn a_line_is_its_stem_and_mark(manifest: &Manifest, digest: &Digest, stem: &[u8], yanked: bool)
+    ensures { IsStem (manifest_view manifest.now) digest.now stem.now → line_text (manifest_view manifest.now) digest.now yanked ≡ line_of (stem.now, yanked) }
+{
+}

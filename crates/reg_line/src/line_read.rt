@@ -1,0 +1,114 @@
+//! A line's value, read back into a manifest without a description.
+
+ghost use Rattle.std.specs.Prelude.{◌≡◌, codes, map, option_map, string_bytes};
+ghost use Rattle.serde_json.specs.View.{items_view, view};
+ghost use Rattle.reg_manifest.specs.Fields.{each, field};
+ghost use Rattle.reg_manifest.specs.Manifests.{dep_view, feature_view, manifest_view};
+ghost use Rattle.reg_manifest.specs.Reads.{Gives};
+ghost use Rattle.reg_line.specs.LineRead.{dep_from, features_from, line_from, name_from, new_name, own_name};
+
+use reg_manifest::fields::{
+    features_or_empty, field, flag_or, list_or_empty, lists_onto, members, optional_text,
+    required_text, texts_or_empty,
+};
+use reg_manifest::{Dep, Manifest, ManifestFault};
+use reg_names::{CrateName, parse_name};
+use serde_json::Value;
+use std::alloc::Global;
+use std::collections::BTreeMap;
+
+/// The package's own name and its new one, from the line's `name` and `package`.
+fn names(name: String, own: Option<String>) -> (String, Option<String>)
+    ensures own { string_bytes result.0 ≡ own_name (string_bytes name) (option_map string_bytes own) }
+    ensures new { option_map string_bytes result.1 ≡ new_name (string_bytes name) (option_map string_bytes own) }
+{
+    match own {
+        Some(own) => (own, Some(name)),
+        None => (name, None),
+    }
+}
+
+#[tactic(auto, unfolding(crate::specs::LineRead::dep_from))]
+fn read_dep(alloc: Global, value: &Value) -> Result<Dep, ManifestFault>
+    ensures { Gives dep_view result (dep_from (view value.now)) }
+{
+    members(value)?;
+    let default_features = flag_or(value, "default_features", true)?;
+    let features = texts_or_empty(alloc, value, "features")?;
+    let kind = required_text(alloc, value, "kind")?;
+    let name = required_text(alloc, value, "name")?;
+    let optional = flag_or(value, "optional", false)?;
+    let package = optional_text(alloc, value, "package")?;
+    let registry = optional_text(alloc, value, "registry")?;
+    let version_req = required_text(alloc, value, "req")?;
+    let target = optional_text(alloc, value, "target")?;
+    let (name, explicit_name_in_toml) = names(name, package);
+    Ok(Dep {
+        name,
+        version_req,
+        features,
+        optional,
+        default_features,
+        target,
+        kind,
+        registry,
+        explicit_name_in_toml,
+    })
+}
+
+fn read_deps(alloc: Global, list: &[Value]) -> Result<Vec<Dep>, ManifestFault>
+    ensures { Gives (λ v. map dep_view v.items) result (each dep_from (items_view list.now)) }
+{
+    let mut deps = Vec::new(alloc);
+    for value in list {
+        deps.push(read_dep(alloc, value)?)?;
+    }
+    Ok(deps)
+}
+
+#[tactic(auto, unfolding(crate::specs::LineRead::features_from))]
+fn read_features(
+    alloc: Global,
+    value: &Value,
+) -> Result<BTreeMap<String, Vec<String>>, ManifestFault>
+    ensures { Gives (λ m. map feature_view m.entries) result (features_from (view value.now)) }
+{
+    let older = features_or_empty(alloc, value, "features")?;
+    match field(value, "features2") {
+        Some(newer) => lists_onto(alloc, older, members(newer)?),
+        None => Ok(older),
+    }
+}
+
+fn read_name(alloc: Global, value: &Value) -> Result<CrateName, ManifestFault>
+    ensures { Gives (λ n. n) result (name_from (field (codes "name") (view value.now))) }
+{
+    let text = required_text(alloc, value, "name")?;
+    match parse_name(text.as_str()) {
+        Some(name) => Ok(name),
+        None => Err(ManifestFault::Name),
+    }
+}
+
+/// The manifest that a line tells of.
+#[tactic(auto, unfolding(crate::specs::LineRead::line_from))]
+pub(crate) fn read_line(alloc: Global, value: &Value) -> Result<Manifest, ManifestFault>
+    ensures { Gives manifest_view result (line_from (view value.now)) }
+{
+    members(value)?;
+    let deps = read_deps(alloc, list_or_empty(value, "deps")?)?;
+    let features = read_features(alloc, value)?;
+    let links = optional_text(alloc, value, "links")?;
+    let name = read_name(alloc, value)?;
+    let rust_version = optional_text(alloc, value, "rust_version")?;
+    let vers = required_text(alloc, value, "vers")?;
+    Ok(Manifest {
+        name,
+        vers,
+        deps,
+        features,
+        description: None,
+        links,
+        rust_version,
+    })
+}

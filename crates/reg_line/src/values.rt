@@ -1,0 +1,79 @@
+//! The parts of a line as JSON values.
+
+ghost use Rattle.std.specs.Prelude.{◌≡◌, IfOk, map, option_map, string_bytes};
+ghost use Rattle.serde_json.specs.Data.{string};
+ghost use Rattle.serde_json.specs.View.{view};
+ghost use Rattle.reg_manifest.specs.Manifests.{dep_view};
+ghost use Rattle.reg_line.specs.Line.{dep_data, dep_object, text_or_null};
+
+use reg_manifest::Dep;
+use serde_json::{Value, json};
+use std::alloc::{AllocError, Global};
+
+/// A text that may be null.
+pub(crate) fn text_or_null(alloc: Global, text: &Option<String>) -> Result<Value, AllocError>
+    ensures { IfOk result (λ v. view v ≡ text_or_null (option_map string_bytes text.now)) }
+{
+    match text {
+        Some(text) => Value::try_from_str(alloc, text.as_str()),
+        None => Ok(Value::Null),
+    }
+}
+
+/// Each of some texts.
+pub(crate) fn texts(alloc: Global, list: &[String]) -> Result<Vec<Value>, AllocError>
+    ensures { IfOk result (λ v. map view v.items ≡ map string (map string_bytes list.now)) }
+{
+    let mut values = Vec::new(alloc);
+    for text in list {
+        values.push(Value::try_from_str(alloc, text.as_str())?)?;
+    }
+    Ok(values)
+}
+
+/// A dependency under its name in the line, with the package's own name or null.
+fn dep_object(alloc: Global, dep: &Dep, name: &str, own: Value) -> Result<Value, AllocError>
+    ensures { IfOk result (λ v. view v ≡ dep_object name.now (view own) (dep_view dep.now)) }
+{
+    let default_features = dep.default_features;
+    let features = texts(alloc, &dep.features)?;
+    let kind = dep.kind.as_str();
+    let optional = dep.optional;
+    let registry = text_or_null(alloc, &dep.registry)?;
+    let req = dep.version_req.as_str();
+    let target = text_or_null(alloc, &dep.target)?;
+    json!(in alloc; {
+        "default_features": default_features,
+        "features": features,
+        "kind": kind,
+        "name": name,
+        "optional": optional,
+        "package": own,
+        "registry": registry,
+        "req": req,
+        "target": target
+    })
+}
+
+fn dep_value(alloc: Global, dep: &Dep) -> Result<Value, AllocError>
+    ensures { IfOk result (λ v. view v ≡ dep_data (dep_view dep.now)) }
+{
+    match &dep.explicit_name_in_toml {
+        Some(new) => {
+            let own = Value::try_from_str(alloc, dep.name.as_str())?;
+            dep_object(alloc, dep, new.as_str(), own)
+        }
+        None => dep_object(alloc, dep, dep.name.as_str(), Value::Null),
+    }
+}
+
+/// Each of some dependencies.
+pub(crate) fn dep_values(alloc: Global, list: &[Dep]) -> Result<Vec<Value>, AllocError>
+    ensures { IfOk result (λ v. map view v.items ≡ map dep_data (map dep_view list.now)) }
+{
+    let mut values = Vec::new(alloc);
+    for dep in list {
+        values.push(dep_value(alloc, dep)?)?;
+    }
+    Ok(values)
+}
