@@ -1,5 +1,5 @@
 -- Reading a line's value gives what the manifest tells, its description aside.
-use Rattle.std.proofs.Common.{◌≡◌, ℕ, Bool, true, not, List, [], ◌∷◌, map, Option, Some, None, Ok, refl, sym, ap, ◌∙◌, codes}
+use Rattle.std.proofs.Common.{◌≡◌, ℕ, Bool, true, List, [], ◌∷◌, map, Option, Some, None, Ok, refl, sym, ap}
 use Rattle.std.specs.BTreeMap.{insert_entry}
 use Rattle.std.specs.Cmp.Lexicographic.{slice_cmp}
 use Rattle.std.specs.Ordering.{nat_cmp}
@@ -7,10 +7,9 @@ use Rattle.hex.specs.Hex.{encode_lower}
 use Rattle.serde_json.specs.Data.{string, object}
 use Rattle.serde_json.specs.View.{items_of}
 use Rattle.reg_names.specs.Names.{is_name}
-use Rattle.reg_manifest.specs.Fields.{Features, each, features_of, lists_of, lists_onto, optional, text_of, unless_null}
+use Rattle.reg_manifest.specs.Fields.{Features, each, lists_of, lists_onto, optional, text_of, unless_null}
 use Rattle.reg_manifest.specs.Manifests.{DepData, Metadata}
-use Rattle.reg_manifest.specs.Reads.{Read, ◌>>=◌}
-use Rattle.reg_line.specs.Features.{feature_members, is_newer, newer, older}
+use Rattle.reg_line.specs.Features.{feature_members, newer, older}
 use Rattle.reg_line.specs.Line.{dep_data, dep_named, line_data, line_members, text_or_null}
 use Rattle.reg_line.specs.LineRead.{dep_from, features_from, line_from}
 use Rattle.reg_line.proofs.Back.{ascending}
@@ -60,10 +59,10 @@ members-back : (olds news : Features) (m : Metadata) (c : List ℕ) (y : Bool) �
 unfolding line_from
 members-back olds [] m c y n all =
     rw (deps-back m.deps, features-back olds [] m c y, option-back m.links, n, option-back m.rust_version)
-        (ap (λ fs. Ok (record (undescribed m) { features = fs })) all)
+    (ap (λ fs. Ok (record (undescribed m) { features = fs })) all)
 members-back olds (f ∷ fs) m c y n all =
     rw (deps-back m.deps, features-back olds (f ∷ fs) m c y, option-back m.links, n, option-back m.rust_version)
-        (ap (λ fs. Ok (record (undescribed m) { features = fs })) all)
+    (ap (λ fs. Ok (record (undescribed m) { features = fs })) all)
 
 pub line-back : (m : Metadata) (digest : List ℕ) (y : Bool) → is_name m.name ≡ true → ascending (feature_members m.features) ≡ true → line_from (line_data m digest y) ≡ Ok (undescribed m)
 unfolding line_data

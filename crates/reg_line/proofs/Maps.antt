@@ -1,12 +1,12 @@
 -- Features in a map, as members of an object, and put in one after another.
-use Rattle.std.proofs.Common.{◌≡◌, ℕ, Bool, true, false, not, cond, List, [], ◌∷◌, map, filter, String, Vec, Global, string_bytes, string_cmp, nat_cmp, Ordering, Less, Equal, Greater, refl, ap, ◌∙◌}
+use Rattle.std.proofs.Common.{◌≡◌, ℕ, Bool, true, false, not, cond, List, [], ◌∷◌, map, filter, String, Vec, Global, string_bytes, string_cmp, nat_cmp, Ordering, Less, refl, ap, ◌∙◌}
 use Rattle.std.proofs.lemmas.Bool.{and_parts, and_from}
 use Rattle.std.specs.BTreeMap.{insert_entry}
 use Rattle.std.specs.Cmp.Lexicographic.{slice_cmp}
 use Rattle.std.specs.List.{AllByRecursion}
 use Rattle.std.specs.List.Sorted.{IsStrictlySortedBy}
 use Rattle.std.specs.Map.{keys_of}
-use Rattle.std.specs.Ordering.{is_lt, match_ordering}
+use Rattle.std.specs.Ordering.{is_lt}
 use Rattle.serde_json.specs.Data.{Data, Members, no_members, member, put}
 use Rattle.reg_manifest.specs.Fields.{Features}
 use Rattle.reg_manifest.specs.Manifests.{feature_view}
@@ -92,12 +92,6 @@ insert_all_above g (f ∷ fs) found h =
 insert_below : (f : Feature) (found : Features) → all_above f.0 (feature_members found) ≡ true → insert_entry (slice_cmp nat_cmp) found f.0 f.1 ≡ f ∷ found
 insert_below f [] h = refl
 insert_below f (g ∷ found) h = rw (is_less (slice_cmp nat_cmp f.0 g.0) (and_parts (is_lt (slice_cmp nat_cmp f.0 g.0)) _ h).0) refl
-
-pub insert_all_ascending : (fs : Features) → ascending (feature_members fs) ≡ true → insert_all fs [] ≡ fs
-insert_all_ascending [] h = refl
-insert_all_ascending (f ∷ fs) h =
-    let a = and_parts (all_above f.0 (feature_members fs)) _ h in
-    insert_all_above f fs [] a.0 ∙ ap (λ (gs : Features). f ∷ gs) (insert_all_ascending fs a.1)
 
 merge_step : (b : Bool) (f : Feature) (fs news olds : Features) → all_above f.0 (feature_members news) ≡ true → all_above f.0 (feature_members olds) ≡ true
     → insert_all news olds ≡ fs → insert_all (cond b (f ∷ news) news) (cond (not b) (f ∷ olds) olds) ≡ f ∷ fs

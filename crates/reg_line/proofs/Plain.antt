@@ -1,5 +1,5 @@
 -- The line of a manifest is a plain value, and a shallow one: it can be read back.
-use Rattle.std.proofs.Common.{◌≡◌, ◌≤◌, ◌<◌, ℕ, zero, suc, Bool, true, false, not, List, [], ◌∷◌, map, filter, Option, Some, None, String, Global, string_bytes, option_map, IsUtf8, refl, sym, subst, arith, cond, string_cmp}
+use Rattle.std.proofs.Common.{◌≡◌, ◌≤◌, ℕ, Bool, true, false, not, List, [], ◌∷◌, map, filter, Option, Some, None, String, Global, string_bytes, option_map, IsUtf8, refl, sym, subst, arith, cond, string_cmp}
 use Rattle.std.proofs.lemmas.Fmt.{decimal_digit}
 use Rattle.std.proofs.lemmas.Str.{IsUtf8-string_bytes}
 use Rattle.std.specs.BTreeMap.{IsOrdered}
@@ -33,15 +33,39 @@ option-plain (Some s) = IsUtf8-string_bytes s
 object-plain : (name : List ℕ) (own : Data) (d : Dep) → IsUtf8 name → IsPlain own → IsPlain (dep_object name own (dep_view d))
 object-plain name own d u p = (
   refl,
-  (IsUtf8-are_ascii _ refl, tt,
-    (IsUtf8-are_ascii _ refl, strings-plain d.features.items,
-      (IsUtf8-are_ascii _ refl, IsUtf8-string_bytes d.kind,
-        (IsUtf8-are_ascii _ refl, u,
-          (IsUtf8-are_ascii _ refl, tt,
-            (IsUtf8-are_ascii _ refl, p,
-              (IsUtf8-are_ascii _ refl, option-plain d.registry,
-                (IsUtf8-are_ascii _ refl, IsUtf8-string_bytes d.version_req,
-                  (IsUtf8-are_ascii _ refl, option-plain d.target, tt))))))))),
+  (
+    IsUtf8-are_ascii _ refl,
+    tt,
+    (
+      IsUtf8-are_ascii _ refl,
+      strings-plain d.features.items,
+      (
+        IsUtf8-are_ascii _ refl,
+        IsUtf8-string_bytes d.kind,
+        (
+          IsUtf8-are_ascii _ refl,
+          u,
+          (
+            IsUtf8-are_ascii _ refl,
+            tt,
+            (
+              IsUtf8-are_ascii _ refl,
+              p,
+              (
+                IsUtf8-are_ascii _ refl,
+                option-plain d.registry,
+                (
+                  IsUtf8-are_ascii _ refl,
+                  IsUtf8-string_bytes d.version_req,
+                  (IsUtf8-are_ascii _ refl, option-plain d.target, tt),
+                ),
+              ),
+            ),
+          ),
+        ),
+      ),
+    ),
+  ),
 )
 
 dep-plain : (r : Option (String Global)) (d : Dep) → IsPlain (dep_named (option_map string_bytes r) (dep_view d))
@@ -75,25 +99,67 @@ members-plain : (olds news : Features) (m : Manifest) (c : List ℕ) (y : Bool) 
     → IsUtf8 m.name → IsUtf8 c → IsPlain (object (line_members olds news (manifest_view m) c y))
 members-plain olds [] m c y a b t u n v = (
   refl,
-  (IsUtf8-are_ascii _ refl, v,
-    (IsUtf8-are_ascii _ refl, deps-plain m.deps.items,
-      (IsUtf8-are_ascii _ refl, (a, t),
-        (IsUtf8-are_ascii _ refl, option-plain m.links,
-          (IsUtf8-are_ascii _ refl, n,
-            (IsUtf8-are_ascii _ refl, option-plain m.rust_version,
-              (IsUtf8-are_ascii _ refl, IsUtf8-string_bytes m.vers, (IsUtf8-are_ascii _ refl, tt, tt)))))))),
+  (
+    IsUtf8-are_ascii _ refl,
+    v,
+    (
+      IsUtf8-are_ascii _ refl,
+      deps-plain m.deps.items,
+      (
+        IsUtf8-are_ascii _ refl,
+        (a, t),
+        (
+          IsUtf8-are_ascii _ refl,
+          option-plain m.links,
+          (
+            IsUtf8-are_ascii _ refl,
+            n,
+            (
+              IsUtf8-are_ascii _ refl,
+              option-plain m.rust_version,
+              (IsUtf8-are_ascii _ refl, IsUtf8-string_bytes m.vers, (IsUtf8-are_ascii _ refl, tt, tt)),
+            ),
+          ),
+        ),
+      ),
+    ),
+  ),
 )
 members-plain olds (f ∷ fs) m c y a b t u n v = (
   refl,
-  (IsUtf8-are_ascii _ refl, v,
-    (IsUtf8-are_ascii _ refl, deps-plain m.deps.items,
-      (IsUtf8-are_ascii _ refl, (a, t),
-        (IsUtf8-are_ascii _ refl, (b, u),
-          (IsUtf8-are_ascii _ refl, option-plain m.links,
-            (IsUtf8-are_ascii _ refl, n,
-              (IsUtf8-are_ascii _ refl, option-plain m.rust_version,
-                (IsUtf8-are_ascii _ refl, two-plain,
-                  (IsUtf8-are_ascii _ refl, IsUtf8-string_bytes m.vers, (IsUtf8-are_ascii _ refl, tt, tt)))))))))),
+  (
+    IsUtf8-are_ascii _ refl,
+    v,
+    (
+      IsUtf8-are_ascii _ refl,
+      deps-plain m.deps.items,
+      (
+        IsUtf8-are_ascii _ refl,
+        (a, t),
+        (
+          IsUtf8-are_ascii _ refl,
+          (b, u),
+          (
+            IsUtf8-are_ascii _ refl,
+            option-plain m.links,
+            (
+              IsUtf8-are_ascii _ refl,
+              n,
+              (
+                IsUtf8-are_ascii _ refl,
+                option-plain m.rust_version,
+                (
+                  IsUtf8-are_ascii _ refl,
+                  two-plain,
+                  (IsUtf8-are_ascii _ refl, IsUtf8-string_bytes m.vers, (IsUtf8-are_ascii _ refl, tt, tt)),
+                ),
+              ),
+            ),
+          ),
+        ),
+      ),
+    ),
+  ),
 )
 
 pub line-plain : (m : Manifest) (digest : List ℕ) (y : Bool) → IsOrdered string_cmp m.features → IsUtf8 m.name → IsUtf8 (encode_lower digest) → IsPlain (line_data (manifest_view m) digest y)
@@ -103,7 +169,7 @@ line-plain m digest y h n v =
     let a = ascending_view m.features.entries h in
     let t = features-plain m.features.entries in
     members-plain (older fs) (newer fs) m (encode_lower digest) y (ascending_filter (λ f. not (is_newer f)) fs a) (ascending_filter is_newer fs a)
-        (filter-plain (λ f. not (is_newer f)) fs t) (filter-plain is_newer fs t) n v
+    (filter-plain (λ f. not (is_newer f)) fs t) (filter-plain is_newer fs t) n v
 
 -- ---- shallow
 

@@ -1,5 +1,5 @@
 -- The check of a stem is true just where some manifest has that stem.
-use Rattle.std.proofs.Common.{◌≡◌, ◌<◌, ℕ, slice_index, Bool, true, false, not, List, [], ◌∷◌, ◌++◌, Ok, Err, length, string_cmp, codes, IsUtf8, bytes_eq, refl, sym, ap, ◌∙◌, subst, if◌then◌else◌, ◌&&◌}
+use Rattle.std.proofs.Common.{◌≡◌, ℕ, Bool, true, false, not, List, [], ◌∷◌, ◌++◌, Ok, Err, string_cmp, codes, bytes_eq, refl, sym, ap, ◌∙◌, if◌then◌else◌}
 use Rattle.std.proofs.lemmas.Bool.{and_parts, false≢true}
 use Rattle.std.proofs.lemmas.List.{append_cancel_right}
 use Rattle.std.proofs.lemmas.Slice.Eq.{bytes_eq-Decides}

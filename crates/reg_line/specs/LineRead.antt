@@ -1,5 +1,5 @@
 -- Reading a line's value back into what a manifest tells, its description aside.
-use Rattle.std.specs.Prelude.{ℕ, Bool, true, false, Option, Some, None, List, [], codes, Ok, Err, if◌then◌else◌}
+use Rattle.std.specs.Prelude.{ℕ, true, false, Option, Some, None, List, [], codes, Ok, Err, if◌then◌else◌}
 use Rattle.serde_json.specs.Data.{Data, no_items}
 use Rattle.reg_names.specs.Names.{is_name}
 use Rattle.reg_manifest.specs.Reads.{Read, ◌>>=◌}

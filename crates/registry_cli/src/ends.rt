@@ -1,6 +1,6 @@
 //! All that a reader has, and all of some bytes to a writer, each by so many calls.
 
-ghost use Rattle.std.specs.Prelude.{◌≡◌, ◌+◌, ◌^◌, ◌<◌, ◌≤◌, IfOk, IfSome, IsErrOf, OnOk, vec_len};
+ghost use Rattle.std.specs.Prelude.{◌≡◌, ◌+◌, ◌^◌, ◌<◌, ◌≤◌, IfOk, IfSome, IsErrOf, OnErr, OnOk, vec_len};
 ghost use Rattle.std.specs.Io.KnownBytes.{Appends, IsAtEnd};
 ghost use Rattle.registry_cli.specs.Ends.{AppendsFront, CountsFailure};
 
@@ -84,7 +84,7 @@ pub fn write_all<W: Write>(
 ) -> Result<(), EndFault>
     requires { writer.old.calls + turns < 2 ^ 64 }
     ensures all { OnOk result (Appends (W.contents writer.old.inner) (W.contents writer.new.inner) bytes.now) }
-    ensures front { AppendsFront (W.contents writer.old.inner) (W.contents writer.new.inner) bytes.now }
+    ensures front { OnErr result (AppendsFront (W.contents writer.old.inner) (W.contents writer.new.inner) bytes.now) }
     ensures calls { (writer.old.calls ≤ writer.new.calls) × (writer.new.calls ≤ writer.old.calls + turns) }
     ensures failures { CountsFailure result writer.old.failures writer.new.failures }
     ensures spent { IsErrOf result EndFault.Spent → writer.new.calls ≡ writer.old.calls + turns }

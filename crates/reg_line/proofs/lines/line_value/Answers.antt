@@ -16,5 +16,5 @@ returns-else-is_empty-clause-value c =
     both_ways c.is_empty.result c.if-is_empty.false (c.is_empty.ensures.1 (ap length empty)) in
     IfOk-weaker c.long_line.result _ _
     (λ v h. h ∙ is_long m c.args.digest.now c.as_str-else-is_empty.result.now c.args.yanked _ _ (c.as_str-else-is_empty.ensures.value ∙ c.in_ok-cksum.ensures)
-        (view-Object c.in_ok-older.older ∙ ap object c.in_ok-older.ensures.older) (view-Object c.in_ok-older.newer ∙ ap object c.in_ok-older.ensures.newer) some)
+    (view-Object c.in_ok-older.older ∙ ap object c.in_ok-older.ensures.older) (view-Object c.in_ok-older.newer ∙ ap object c.in_ok-older.ensures.newer) some)
     c.long_line.ensures
