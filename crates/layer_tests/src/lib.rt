@@ -4,7 +4,11 @@
 #[cfg(test)]
 mod body;
 #[cfg(test)]
+mod lines;
+#[cfg(test)]
 mod manifests;
+#[cfg(test)]
+mod memory;
 #[cfg(test)]
 mod names;
 #[cfg(test)]

@@ -225,24 +225,20 @@ fn frame_faults(rt: HostRuntime) {
     }
 }
 
-/// Takes some bytes, into memory that was had before.
+/// Takes the bytes that are expected, and no memory.
 #[derive(Drop)]
-struct Kept {
-    bytes: [u8; 1024],
-    len: usize,
+struct Expecting<'a> {
+    rest: &'a [u8],
+    is_wrong: bool,
 }
 
-impl Write for Kept {
+impl Write for Expecting<'_> {
     fn write(&mut self, buf: &[u8]) -> io::Result<usize> {
-        let mut count = 0;
-        for byte in buf {
-            if self.len < 1024 {
-                self.bytes[self.len] = *byte;
-                self.len += 1;
-                count += 1;
-            }
+        match self.rest.strip_prefix(buf) {
+            Some(rest) => self.rest = rest,
+            None => self.is_wrong = true,
         }
-        Ok(count)
+        Ok(buf.len())
     }
 
     fn flush(&mut self) -> io::Result<()> {
@@ -263,17 +259,19 @@ fn each_amount_of_memory(rt: HostRuntime) -> Result<(), Fail> {
             break;
         }
         let mut reader = Counted::new(body.as_slice());
-        let mut writer = Counted::new(Kept {
-            bytes: [0; 1024],
-            len: 0,
+        let mut writer = Counted::new(Expecting {
+            rest: want.as_slice(),
+            is_wrong: false,
         });
         let exit = run_line(alloc, &mut reader, &mut writer, &Limits::STANDARD);
-        let kept = writer.into_inner();
+        let end = writer.into_inner();
+        assert!(rt; !end.is_wrong);
         if exit == DONE {
-            assert!(rt; kept.len == want.len());
+            assert!(rt; end.rest.is_empty());
             done = done.saturating_add(1);
         } else {
-            assert!(rt; exit.status == 3 && exit.words == "memory" && kept.len == 0);
+            assert!(rt; exit.status == 3 && exit.words == "memory");
+            assert!(rt; end.rest.len() == want.len());
             refused = refused.saturating_add(1);
         }
     }
