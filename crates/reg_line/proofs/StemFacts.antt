@@ -19,7 +19,7 @@ use Rattle.reg_manifest.specs.declared.fault.ManifestFault.TheVariants as fault
 use Rattle.reg_manifest.specs.declared.manifest.Manifest.{Manifest}
 use Rattle.reg_line.specs.Features.{newer, older}
 use Rattle.reg_line.specs.Line.{IsStem, line_data, line_json, line_members}
-use Rattle.reg_line.specs.LineRead.{line_from}
+use Rattle.reg_line.specs.LineRead.{bytes_from, line_from}
 use Rattle.reg_line.specs.StemCheck.{IsStemOf, fits, stem_read}
 use Rattle.reg_line.proofs.Back.{IsUtf8-compact_text, read-compact_text}
 use Rattle.reg_line.proofs.LineBack.{line-back, undescribed}
@@ -66,6 +66,12 @@ json-line m digest ordered n =
     ap (λ b. if b then value_or (read (compact_text d)) else Err fault.NotJson) (is_utf8-from_IsUtf8 (compact_text d) (IsUtf8-compact_text d plain))
     ∙ ap value_or (read-compact_text d plain (line-shallow (manifest_view m) digest false))
 
+bytes-back : (m : Manifest) (digest : List ℕ) → IsOrdered string_cmp m.features → is_name m.name ≡ true → bytes_from (line_json (manifest_view m) digest false) ≡ Ok (undescribed (manifest_view m))
+unfolding bytes_from
+bytes-back m digest ordered n =
+    ap (λ (r : Read Data). r >>= λ d. line_from d) (json-line m digest ordered n)
+    ∙ line-back (manifest_view m) digest false n (ascending_view m.features.entries ordered)
+
 -- the rules, the name and the line do not ask for the description
 members-undescribed : (olds news : Features) (m : Metadata) (c : List ℕ) (y : Bool) → line_members olds news (undescribed m) c y ≡ line_members olds news m c y
 members-undescribed olds [] m c y = refl
@@ -89,9 +95,8 @@ stem_read-IsStemOf s name vers digest w =
     let v = manifest_view w.0 in
     let line = line_json v digest false in
     let n = named v w.2 in
-    ap (λ t. json_of t >>= λ d. line_from d >>= λ m. Ok (fits m t name vers digest)) w.5.0
-    ∙ ap (λ (r : Read Data). r >>= λ d. line_from d >>= λ m. Ok (fits m line name vers digest)) (json-line w.0 digest w.1 n)
-    ∙ ap (λ (r : Read Metadata). r >>= λ m. Ok (fits m line name vers digest)) (line-back v digest false n (ascending_view w.0.features.entries w.1))
+    ap (λ t. bytes_from t >>= λ m. Ok (fits m t name vers digest)) w.5.0
+    ∙ ap (λ (r : Read Metadata). r >>= λ m. Ok (fits m line name vers digest)) (bytes-back w.0 digest w.1 n)
     ∙ ap Ok (fits-undescribed v line name vers digest)
     ∙ ap Ok (all_if (bytes_eq v.name name) (bytes_eq v.vers vers) (keeps_rules v) (bytes_eq line line) ((bytes_eq-Decides v.name name).1 w.3) ((bytes_eq-Decides v.vers vers).1 w.4) w.2 ((bytes_eq-Decides line line).1 refl))
 

@@ -3,7 +3,7 @@ use Rattle.std.specs.Prelude.{ℕ, true, false, Option, Some, None, List, [], co
 use Rattle.serde_json.specs.Data.{Data, no_items}
 use Rattle.reg_names.specs.Names.{is_name}
 use Rattle.reg_manifest.specs.Reads.{Read, ◌>>=◌}
-use Rattle.reg_manifest.specs.Fields.{Features, field, text_of, texts_of, flag_of, list_of, members_of, required, or_else, optional, each, features_of, lists_onto}
+use Rattle.reg_manifest.specs.Fields.{Features, json_of, field, text_of, texts_of, flag_of, list_of, members_of, required, or_else, optional, each, features_of, lists_onto}
 use Rattle.reg_manifest.specs.Manifests.{DepData, Metadata}
 use Rattle.reg_manifest.specs.declared.fault.ManifestFault.TheVariants as fault
 
@@ -54,3 +54,7 @@ line_from d = members_of d >>= λ _.
     optional text_of (field (codes "rust_version") d) >>= λ rust_version.
     required text_of (field (codes "vers") d) >>= λ vers.
     Ok (record { name = name; vers = vers; deps = deps; features = features; description = None; links = links; rust_version = rust_version })
+
+-- what the bytes of a line tell
+unfoldable pub bytes_from : List ℕ → Read Metadata
+bytes_from bytes = json_of bytes >>= λ d. line_from d

@@ -1,13 +1,12 @@
 -- Which bytes are a stem: what the check decides, and how it goes about it.
 use Rattle.std.specs.Prelude.{◌≡◌, ℕ, Bool, true, false, not, List, ◌++◌, codes, Ok, if◌then◌else◌, bytes_eq, string_bytes, string_cmp}
 use Rattle.std.specs.BTreeMap.{IsOrdered}
-use Rattle.reg_manifest.specs.Fields.{json_of}
 use Rattle.reg_manifest.specs.Manifests.{Metadata, manifest_view}
 use Rattle.reg_manifest.specs.Metadata.{keeps_rules}
 use Rattle.reg_manifest.specs.Reads.{Read, ◌>>=◌}
 use Rattle.reg_manifest.specs.declared.manifest.Manifest.{Manifest}
 use Rattle.reg_line.specs.Line.{IsStem, line_json}
-use Rattle.reg_line.specs.LineRead.{line_from}
+use Rattle.reg_line.specs.LineRead.{bytes_from}
 
 -- some manifest of this name and version keeps the rules, and s is its stem with this digest
 abbrev pub IsStemOf : List ℕ → List ℕ → List ℕ → List ℕ → Type 0
@@ -24,4 +23,4 @@ fits m whole name vers digest =
 
 -- the line that the stem begins is read back, and written again
 unfoldable pub stem_read : List ℕ → List ℕ → List ℕ → List ℕ → Read Bool
-stem_read s name vers digest = json_of (s ++ codes "false}") >>= λ d. line_from d >>= λ m. Ok (fits m (s ++ codes "false}") name vers digest)
+stem_read s name vers digest = bytes_from (s ++ codes "false}") >>= λ m. Ok (fits m (s ++ codes "false}") name vers digest)

@@ -5,11 +5,11 @@ ghost use Rattle.serde_json.specs.View.{items_view, view};
 ghost use Rattle.reg_manifest.specs.Fields.{each, field};
 ghost use Rattle.reg_manifest.specs.Manifests.{dep_view, feature_view, manifest_view};
 ghost use Rattle.reg_manifest.specs.Reads.{Gives};
-ghost use Rattle.reg_line.specs.LineRead.{dep_from, features_from, line_from, name_from, new_name, own_name};
+ghost use Rattle.reg_line.specs.LineRead.{bytes_from, dep_from, features_from, line_from, name_from, new_name, own_name};
 
 use reg_manifest::fields::{
     features_or_empty, field, flag_or, list_or_empty, lists_onto, members, optional_text,
-    required_text, texts_or_empty,
+    read_json, required_text, texts_or_empty,
 };
 use reg_manifest::{Dep, Manifest, ManifestFault};
 use reg_names::{CrateName, parse_name};
@@ -90,9 +90,8 @@ fn read_name(alloc: Global, value: &Value) -> Result<CrateName, ManifestFault>
     }
 }
 
-/// The manifest that a line tells of.
 #[tactic(auto, unfolding(crate::specs::LineRead::line_from))]
-pub(crate) fn read_line(alloc: Global, value: &Value) -> Result<Manifest, ManifestFault>
+fn read_value(alloc: Global, value: &Value) -> Result<Manifest, ManifestFault>
     ensures { Gives manifest_view result (line_from (view value.now)) }
 {
     members(value)?;
@@ -111,4 +110,13 @@ pub(crate) fn read_line(alloc: Global, value: &Value) -> Result<Manifest, Manife
         links,
         rust_version,
     })
+}
+
+/// The manifest that the bytes of a line tell of.
+#[tactic(auto, unfolding(crate::specs::LineRead::bytes_from))]
+pub(crate) fn read_line(alloc: Global, bytes: &[u8]) -> Result<Manifest, ManifestFault>
+    ensures { Gives manifest_view result (bytes_from bytes.now) }
+{
+    let value = read_json(alloc, bytes)?;
+    read_value(alloc, &value)
 }

@@ -11,7 +11,6 @@ ghost use Rattle.reg_line.specs.StemCheck.{IsStemOf, fits, stem_read};
 use crate::digests::Digest;
 use crate::line_read::read_line;
 use crate::lines::line_json;
-use reg_manifest::fields::read_json;
 use reg_manifest::{Manifest, ManifestFault, are_deps};
 use reg_versions::{Release, VersionFault};
 use std::alloc::{AllocError, Global};
@@ -66,8 +65,7 @@ fn read_stem(
     let mut whole = Vec::new(alloc);
     whole.extend_from_slice(stem)?;
     whole.extend_from_slice(b"false}")?;
-    let value = read_json(alloc, whole.as_slice())?;
-    let manifest = read_line(alloc, &value)?;
+    let manifest = read_line(alloc, whole.as_slice())?;
     Ok(fits(alloc, &manifest, whole.as_slice(), name, vers, digest)?)
 }
 
