@@ -16,7 +16,7 @@ use Rattle.reg_model.specs.Registry.{Text, Registry, id_of_login, token_of, with
 use Rattle.reg_model.specs.Crates.{exists}
 use Rattle.reg_model.specs.Events.{Asked, Command, action_of, fault_of}
 use Rattle.reg_model.specs.Events.Command.{UserAdd, UserDisable, UserEnable, TokenAdd, TokenRevoke, Reserve, Unreserve, OwnerAdd}
-use Rattle.reg_model.specs.Facts.{facts}
+use Rattle.reg_model.specs.Facts.{facts, is_named}
 use Rattle.reg_model.specs.Rules.{verdict}
 
 abbrev pub or_else : Option Rule → Option Rule → Option Rule
@@ -40,11 +40,11 @@ may_name (Some t) = is_account_name t
 abbrev endpoint_words : List Text
 endpoint_words = codes "publish-new" ∷ codes "publish-update" ∷ codes "yank" ∷ codes "change-owners" ∷ []
 
+abbrev pub is_endpoint : Text → Bool
+is_endpoint w = is_named endpoint_words w
+
 abbrev pub among : List Text → Text → Bool
 among words w = list_any (λ v. bytes_eq v w) words
-
-abbrev pub is_endpoint : Text → Bool
-is_endpoint w = among endpoint_words w
 
 -- the endpoints that the words name
 abbrev pub endpoints_named : List Text → Endpoints

@@ -1,6 +1,5 @@
 -- The state of a registry. A text is the list of its bytes.
-use Rattle.std.specs.Prelude.{ℕ, ◌+◌, ◌-◌, ◌==◌, if◌then◌else◌, Bool, false, List, [], Option, Some, None, slice_get, set}
-use Rattle.std.specs.Option.{option_map}
+use Rattle.std.specs.Prelude.{ℕ, zero, suc, ◌+◌, ◌-◌, ◌==◌, if◌then◌else◌, Bool, false, List, [], ◌∷◌, Option, Some, None, slice_get}
 use Rattle.std.specs.List.{find, filter_map, position_from}
 use Rattle.std.specs.Str.{bytes_eq}
 use Rattle.std.specs.Ordering.{nat_cmp, on, then_cmp}
@@ -94,10 +93,12 @@ is_known s login = holds (is_enabled s) (id_of_login s login)
 abbrev pub token_of : Registry → Text → Option Token
 token_of s digest = find (λ t. bytes_eq t.digest digest) s.tokens
 
-abbrev put : {X : Type 0} → List X → ℕ → Option X → List X
-put xs i None = xs
-put xs i (Some x) = set xs i x
+-- the same list, with the element at this place changed
+abbrev pub change_place : {X : Type 0} → (X → X) → ℕ → List X → List X
+change_place f i [] = []
+change_place f zero (x ∷ xs) = f x ∷ xs
+change_place f (suc i) (x ∷ xs) = x ∷ change_place f i xs
 
 -- the same list, with the one of this id changed
 abbrev pub change_at : {X : Type 0} → (X → X) → ℕ → List X → List X
-change_at f id xs = put xs (id - 1) (option_map f (with_id xs id))
+change_at f id xs = if id == 0 then xs else change_place f (id - 1) xs
