@@ -4,4 +4,10 @@ pub mod Growth
 pub mod Keys
 pub mod Lists
 pub mod Places
+pub mod Cleared
 pub mod SoundParts
+pub mod SoundPublish
+pub mod SoundOwners
+pub mod SoundMarks
+pub mod SoundCommands
+pub mod Soundness

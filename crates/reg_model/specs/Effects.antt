@@ -48,7 +48,7 @@ caller s None = 0
 caller s (Some digest) = account_of s digest
 
 -- the accounts, with the one of this login enabled or not
-abbrev enable : Bool → Option ℕ → List Account → List Account
+abbrev pub enable : Bool → Option ℕ → List Account → List Account
 enable b None accounts = accounts
 enable b (Some id) accounts = change_at (λ a. record a { enabled = b }) id accounts
 
