@@ -4,7 +4,7 @@ use Rattle.std.specs.List.{find}
 use Rattle.std.specs.Option.{option_map}
 use Rattle.reg_model.specs.declared.rule.Rule.{Rule}
 use Rattle.reg_model.specs.declared.rule.AdminRefusal.{AdminRefusal}
-use Rattle.reg_model.specs.Borrowed.{Limits}
+use Rattle.reg_body.specs.declared.limits.Limits.{Limits}
 use Rattle.reg_model.specs.Registry.{Text, Registry}
 use Rattle.reg_model.specs.Events.{Asked, Command, action_of, fault_of}
 use Rattle.reg_model.specs.Facts.{facts}

@@ -2,7 +2,7 @@
 use Rattle.std.proofs.Common.{◌≡◌, List, [], ◌∷◌, ◌++◌, refl, ◌∙◌, ap, append_assoc, cond, Bool, true, false}
 use Rattle.std.specs.Prelude.{map}
 use Rattle.std.specs.List.{filter}
-use Rattle.reg_model.specs.Borrowed.{Limits}
+use Rattle.reg_body.specs.declared.limits.Limits.{Limits}
 use Rattle.reg_model.specs.Registry.{Text, Registry, Publication}
 use Rattle.reg_model.specs.Crates.{collides, stems, is_reserved_always}
 use Rattle.reg_model.specs.Events.{Asked, Command, Event, Answer}

@@ -13,7 +13,7 @@ use Rattle.reg_names.specs.Names.{canon, is_name}
 use Rattle.reg_names.specs.Logins.{is_login}
 use Rattle.reg_names.specs.Patterns.{is_pattern}
 use Rattle.reg_model.specs.declared.endpoint.Endpoints.{Endpoints}
-use Rattle.reg_model.specs.Borrowed.{Limits}
+use Rattle.reg_body.specs.declared.limits.Limits.{Limits}
 use Rattle.reg_model.specs.Registry.{Text, Account, Token, Registry, id_of_login, token_of, with_id, change_at}
 use Rattle.reg_model.specs.Crates.{exists, is_reserved_always}
 use Rattle.reg_model.specs.Events.{Command}

@@ -7,7 +7,7 @@ use Rattle.std.specs.FinSet as finset
 use Rattle.std.specs.Cmp.Lexicographic.{nat_list_cmp_total}
 use Rattle.std.proofs.lemmas.Bool.{and_parts}
 use Rattle.reg_names.specs.Names.{canon, is_name}
-use Rattle.reg_model.specs.Borrowed.{Limits}
+use Rattle.reg_body.specs.declared.limits.Limits.{Limits}
 use Rattle.reg_model.specs.Registry.{Text, Mark, Registry}
 use Rattle.reg_model.specs.Crates.{collides, versions, version, is_reserved_always}
 use Rattle.reg_model.specs.Events.Asked.{Yank, Unyank}

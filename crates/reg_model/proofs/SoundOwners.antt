@@ -8,7 +8,7 @@ use Rattle.std.specs.FinSet as finset
 use Rattle.std.proofs.lemmas.Bool.{and_parts, and_from}
 use Rattle.std.proofs.lemmas.Slice.Eq.{bytes_eq-Decides}
 use Rattle.reg_names.specs.Names.{canon, is_name}
-use Rattle.reg_model.specs.Borrowed.{Limits}
+use Rattle.reg_body.specs.declared.limits.Limits.{Limits}
 use Rattle.reg_model.specs.Registry.{Text, Account, Owner, Registry, owner_cmp, id_of_login, ids_of, with_id}
 use Rattle.reg_model.specs.Crates.{collides, exists, first, has_crate, owners, owns}
 use Rattle.reg_model.specs.Events.Asked.{AddOwners, RemoveOwners}

@@ -15,7 +15,8 @@ use Rattle.std.proofs.lemmas.Slice.Eq.{bytes_eq-Decides}
 use Rattle.reg_names.specs.Names.{canon}
 use Rattle.reg_model.specs.declared.rule.Rule.{Rule}
 use Rattle.reg_model.specs.declared.rule.Rule.TheVariants as rule
-use Rattle.reg_model.specs.Borrowed.{Limits, release_key_of}
+use Rattle.reg_versions.specs.Versions.{release_key_of}
+use Rattle.reg_body.specs.declared.limits.Limits.{Limits}
 use Rattle.reg_model.specs.Registry.{Text, Token, Publication, Registry, Owner, owner_cmp, token_of, with_id, holds}
 use Rattle.reg_model.specs.Crates.{exists, first, versions, collides, same_release, has_crate}
 use Rattle.reg_model.specs.Actions.Action.{Publish as to_publish}

@@ -1,31 +1,8 @@
--- Words of the crates below that are not there yet: versions, limits, bases, lines and stems. Each is replaced by that crate's own.
-use Rattle.std.specs.Prelude.{◌≡◌, ℕ, ◌==◌, ◌&&◌, ◌||◌, nat_le, nat_lt, nat_eq, not, if◌then◌else◌, Bool, List, [], ◌∷◌, ◌++◌, length, codes, is_ok}
-use Rattle.std.specs.List.{before_first, starts_with, ends_with, list_all}
-use Rattle.std.specs.Str.{bytes_eq}
-use Rattle.semver.specs.Parse.{version_parts}
+-- Words on bases, lines and stems, until the crate of index lines has them.
+use Rattle.std.specs.Prelude.{◌≡◌, ℕ, ◌&&◌, ◌||◌, nat_lt, nat_eq, not, if◌then◌else◌, Bool, List, [], ◌∷◌, ◌++◌, length, codes}
+use Rattle.std.specs.List.{starts_with, ends_with, list_all}
 
--- the part before the first `+`
-abbrev pub release_key_of : List ℕ → List ℕ
-release_key_of v = before_first (λ b. b == 43) v
-
-abbrev pub is_version : List ℕ → Bool
-is_version v = is_ok (version_parts v)
-
-pub record Limits : Type 0 where
-  pub json : ℕ
-  pub archive : ℕ
-  pub versions : ℕ
-  pub accounts : ℕ
-  pub tokens : ℕ
-  pub crates : ℕ
-  pub patterns : ℕ
-  pub logins : ℕ
-  pub head : ℕ
-  pub fields : ℕ
-  pub replies : ℕ
-  pub turns : ℕ
-
--- scheme, text
+-- a text that begins with the scheme and goes on
 abbrev begins_with : List ℕ → List ℕ → Bool
 begins_with scheme t = starts_with nat_eq t scheme && nat_lt (length scheme) (length t)
 

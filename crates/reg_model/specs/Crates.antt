@@ -5,7 +5,8 @@ use Rattle.std.specs.List.{find, list_any, filter, concat, enumerate_from}
 use Rattle.std.specs.Str.{bytes_eq}
 use Rattle.std.specs.FinSet as finset
 use Rattle.reg_names.specs.Names.{canon}
-use Rattle.reg_model.specs.Borrowed.{release_key_of, line_of}
+use Rattle.reg_versions.specs.Versions.{release_key_of}
+use Rattle.reg_model.specs.Borrowed.{line_of}
 use Rattle.reg_model.specs.Registry.{Text, Account, Publication, Registry, text_cmp}
 
 -- two names collide: they are names of one crate

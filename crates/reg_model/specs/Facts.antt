@@ -4,7 +4,7 @@ use Rattle.std.specs.List.{list_any, list_all}
 use Rattle.std.specs.Str.{bytes_eq}
 use Rattle.reg_names.specs.Patterns.{covers}
 use Rattle.reg_model.specs.declared.endpoint.Endpoints.{Endpoints}
-use Rattle.reg_model.specs.Borrowed.{Limits}
+use Rattle.reg_body.specs.declared.limits.Limits.{Limits}
 use Rattle.reg_model.specs.Registry.{Text, Account, Token, Registry, token_of, is_enabled, is_known, holds}
 use Rattle.reg_model.specs.Crates.{first, versions, version, owners, is_reserved, crates, same_release}
 use Rattle.reg_model.specs.Actions.{Action, crate_of, version_of, logins_of}

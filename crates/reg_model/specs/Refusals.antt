@@ -11,7 +11,7 @@ use Rattle.reg_model.specs.declared.rule.Rule.{Rule}
 use Rattle.reg_model.specs.declared.rule.Rule.TheVariants as rule
 use Rattle.reg_model.specs.declared.rule.AdminRefusal.{AdminRefusal}
 use Rattle.reg_model.specs.declared.rule.AdminRefusal.TheVariants as refusal
-use Rattle.reg_model.specs.Borrowed.{Limits}
+use Rattle.reg_body.specs.declared.limits.Limits.{Limits}
 use Rattle.reg_model.specs.Registry.{Text, Registry, id_of_login, token_of, with_id, holds}
 use Rattle.reg_model.specs.Crates.{exists}
 use Rattle.reg_model.specs.Events.{Asked, Command, action_of, fault_of}

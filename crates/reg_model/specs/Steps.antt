@@ -6,7 +6,9 @@ use Rattle.reg_model.specs.declared.rule.Rule.{Rule}
 use Rattle.reg_model.specs.declared.rule.Rule.TheVariants as rule
 use Rattle.reg_model.specs.declared.rule.AdminRefusal.{AdminRefusal}
 use Rattle.reg_model.specs.declared.rule.AdminRefusal.TheVariants as refusal
-use Rattle.reg_model.specs.Borrowed.{Limits, IsStemOf, is_version}
+use Rattle.reg_versions.specs.Versions.{is_version}
+use Rattle.reg_body.specs.declared.limits.Limits.{Limits}
+use Rattle.reg_model.specs.Borrowed.{IsStemOf}
 use Rattle.reg_model.specs.Registry.{Publication, Registry}
 use Rattle.reg_model.specs.Events.{Asked, Command, Event, Answer}
 use Rattle.reg_model.specs.Events.Asked.{Publish}
