@@ -7,7 +7,7 @@ use Rattle.reg_model.specs.Registry.{Registry, Text}
 use Rattle.reg_model.specs.Events.{Asked, Command, Event, Answer}
 use Rattle.reg_model.specs.Events.Event.{Ask, Order}
 use Rattle.reg_model.specs.Refusals.{denied, refused}
-use Rattle.reg_model.specs.Effects.{served, done, account_of, replied, commanded}
+use Rattle.reg_model.specs.Effects.{done, account_of, commanded}
 use Rattle.reg_model.specs.Steps.{Step, Run, IsFit, outcome, Outcome, unless_denied, unless_refused}
 
 -- a relation of states that holds of the same, goes through, and holds across each allowed request and command

@@ -1,5 +1,5 @@
 -- Tests over lists.
-use Rattle.std.proofs.Common.{◌≡◌, ℕ, List, [], ◌∷◌, ◌++◌, Bool, true, false, cond, Option, Some, None, refl, sym, ◌∙◌, ap, subst}
+use Rattle.std.proofs.Common.{◌≡◌, List, [], ◌∷◌, ◌++◌, Bool, true, false, cond, Some, None, refl, ◌∙◌, ap}
 use Rattle.std.specs.Prelude.{map, ◌||◌, ◌&&◌, is_some}
 use Rattle.std.specs.List.{list_any, list_all, find, filter, AllByRecursion}
 use Rattle.std.specs.Option.{option_map}

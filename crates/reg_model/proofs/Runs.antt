@@ -10,8 +10,8 @@ use Rattle.reg_model.specs.Events.Command.{UserAdd, UserDisable, UserEnable, Tok
 use Rattle.reg_model.specs.Events.Event.{Ask, Order}
 use Rattle.reg_model.specs.Events.Answer.{Denied, Refused}
 use Rattle.reg_model.specs.Refusals.{denied, refused}
-use Rattle.reg_model.specs.Effects.{served, done, caller, replied, commanded}
-use Rattle.reg_model.specs.Steps.{Step, Run, IsFit, outcome, no_room, Outcome, unless_denied, unless_refused}
+use Rattle.reg_model.specs.Effects.{served, done, caller, replied}
+use Rattle.reg_model.specs.Steps.{Step, Run, IsFit, no_room, Outcome, unless_denied, unless_refused}
 
 pub step_runs : (limits : Limits) (s t : Registry) (e : Event) (a : Answer) → IsFit e → Step limits s e a t → Run limits s (e ∷ []) (a ∷ []) t
 step_runs limits s t e a fit step = (fit, (t, step, refl))

@@ -1,7 +1,7 @@
 -- Each command that is not refused keeps a state sound.
-use Rattle.std.proofs.Common.{◌≡◌, ℕ, ◌+◌, ◌==◌, List, [], ◌∷◌, ◌++◌, Bool, true, false, cond, Option, Some, None, refl, sym, ◌∙◌, ap, subst, arith}
+use Rattle.std.proofs.Common.{◌≡◌, ℕ, ◌+◌, ◌==◌, List, [], ◌∷◌, ◌++◌, Bool, true, false, cond, Option, Some, None, refl, sym, ◌∙◌, ap, arith}
 use Rattle.std.specs.Prelude.{not, ◌||◌, ◌&&◌, nat_lt, is_some, length, codes, unwrap_or}
-use Rattle.std.specs.List.{list_any, list_all, find, position_from, IsDistinct}
+use Rattle.std.specs.List.{list_any, list_all, position_from}
 use Rattle.std.specs.Ordering.{on}
 use Rattle.std.specs.Str.{bytes_eq}
 use Rattle.std.specs.Cmp.{IsEquivalence, on_equiv}
@@ -12,20 +12,18 @@ use Rattle.std.proofs.lemmas.Map.Keys.{IsDistinct-push}
 use Rattle.reg_names.specs.Names.{canon, is_name}
 use Rattle.reg_names.specs.Logins.{is_login}
 use Rattle.reg_names.specs.Patterns.{is_pattern}
-use Rattle.reg_model.specs.declared.endpoint.Endpoints.{Endpoints}
 use Rattle.reg_body.specs.declared.limits.Limits.{Limits}
 use Rattle.reg_model.specs.Registry.{Text, Account, Token, Registry, id_of_login, token_of, with_id, change_at}
 use Rattle.reg_model.specs.Crates.{exists, is_reserved_always}
 use Rattle.reg_model.specs.Events.{Command}
 use Rattle.reg_model.specs.Events.Command.{UserAdd, UserDisable, UserEnable, TokenAdd, TokenRevoke, Reserve, Unreserve, OwnerAdd}
 use Rattle.reg_model.specs.Events.Event.{Order}
-use Rattle.reg_model.specs.Facts.{is_named}
 use Rattle.reg_model.specs.Refusals.{refused, endpoints_named, patterns_given, is_endpoint, among, may_name}
 use Rattle.reg_model.specs.Effects.{commanded, enable}
 use Rattle.reg_model.specs.Steps.{IsFit}
 use Rattle.reg_model.specs.Sound.{Sound, is_account, is_token, has_some}
 use Rattle.reg_model.proofs.Cleared.{not_refused}
-use Rattle.reg_model.proofs.Lists.{or_left, or_right, any_same, all_push, not_true, some_found}
+use Rattle.reg_model.proofs.Lists.{or_left, or_right, any_same, all_push, some_found}
 use Rattle.reg_model.proofs.Places.{all_changed_at, distinct_changed_at, there_changed_at, there_more, ids_stay, found_there}
 use Rattle.reg_model.proofs.SoundParts.{with_accounts, with_tokens}
 use Rattle.reg_model.proofs.SoundOwners.{more_owners}

@@ -1,7 +1,7 @@
 -- Yanking, unyanking and reserving keep a state sound.
-use Rattle.std.proofs.Common.{◌≡◌, List, [], ◌∷◌, Bool, true, false, cond, Option, Some, None, refl, sym, ◌∙◌, ap}
-use Rattle.std.specs.Prelude.{not, ◌||◌, ◌&&◌, is_some}
-use Rattle.std.specs.List.{list_any, find}
+use Rattle.std.proofs.Common.{◌≡◌, Bool, true, false, cond, Some, None, refl, sym, ◌∙◌, ap}
+use Rattle.std.specs.Prelude.{not}
+use Rattle.std.specs.List.{list_any}
 use Rattle.std.specs.Str.{bytes_eq}
 use Rattle.std.specs.FinSet as finset
 use Rattle.std.specs.Cmp.Lexicographic.{nat_list_cmp_total}
@@ -9,15 +9,16 @@ use Rattle.std.proofs.lemmas.Bool.{and_parts}
 use Rattle.reg_names.specs.Names.{canon, is_name}
 use Rattle.reg_body.specs.declared.limits.Limits.{Limits}
 use Rattle.reg_model.specs.Registry.{Text, Mark, Registry}
-use Rattle.reg_model.specs.Crates.{collides, versions, version, is_reserved_always}
+use Rattle.reg_model.specs.Crates.{collides, versions, is_reserved_always}
 use Rattle.reg_model.specs.Events.Asked.{Yank, Unyank}
-use Rattle.reg_model.specs.Facts.{facts}
+use Rattle.reg_model.specs.Facts.{facts, lists}
 use Rattle.reg_model.specs.Refusals.{denied}
 use Rattle.reg_model.specs.Effects.{done, account_of}
 use Rattle.reg_model.specs.Sound.{Sound, has_version}
 use Rattle.reg_model.proofs.Cleared.{not_denied}
 use Rattle.reg_model.proofs.Keys.{mark_total, mark_apart, text_apart, same_key}
-use Rattle.reg_model.proofs.Lists.{or_split, any_filter, some_found}
+use Rattle.reg_model.proofs.Lists.{or_split, any_filter}
+use Rattle.reg_model.proofs.SoundOwners.{crate_there}
 use Rattle.reg_model.proofs.SoundParts.{with_yanked, with_reserved}
 
 is_true : (b : Bool) → not b ≡ false → b ≡ true
@@ -29,7 +30,11 @@ unfolding done facts
 yank_keeps_sound limits s d n v sound allowed = with_yanked s sound (finset.insert s.yanked (canon n, v)) there
   where
     published : has_version s (canon n) v ≡ true
-    published = sym (any_filter (λ p. collides p.name n) (λ p. bytes_eq p.version v) s.publications) ∙ sym (some_found (λ p. bytes_eq p.version v) (versions s n)) ∙ is_true _ (not_denied limits s d (Yank n v) allowed).1.1.1.1.1.1.1.0
+    published =
+        let all = not_denied limits s d (Yank n v) allowed in
+        sym (any_filter (λ p. collides p.name n) (λ p. bytes_eq p.version v) s.publications)
+        ∙ ap (λ o. list_any (λ p. bytes_eq p.version v) (lists (versions s) o)) (sym (crate_there s n all.1.1.1.1.0).0)
+        ∙ is_true _ all.1.1.1.1.1.1.1.0
 
     there : (c w : Text) → finset.contains (finset.insert s.yanked (canon n, v)) (c, w) ≡ true → has_version s c w ≡ true
     there c w h =

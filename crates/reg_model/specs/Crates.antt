@@ -1,5 +1,5 @@
 -- What a state says of one crate. A name stands for each that has its canonical text.
-use Rattle.std.specs.Prelude.{ℕ, ◌==◌, ◌||◌, nat_lt, nat_le, Bool, List, [], ◌∷◌, ◌++◌, map, codes, Option}
+use Rattle.std.specs.Prelude.{ℕ, ◌||◌, Bool, List, [], ◌∷◌, map, codes, Option}
 use Rattle.std.specs.Option.{option_map}
 use Rattle.std.specs.List.{find, list_any, filter, concat, enumerate_from}
 use Rattle.std.specs.Str.{bytes_eq}

@@ -3,11 +3,11 @@ use Rattle.std.specs.Prelude.{ℕ, ◌+◌, if◌then◌else◌, Bool, true, fal
 use Rattle.std.specs.Option.{option_map}
 use Rattle.std.specs.FinSet as finset
 use Rattle.reg_names.specs.Names.{canon}
-use Rattle.reg_model.specs.Registry.{Text, Account, Owner, Registry, owner_cmp, token_of, id_of_login, ids_of, change_at}
+use Rattle.reg_model.specs.Registry.{Text, Account, Registry, owner_cmp, token_of, id_of_login, ids_of, change_at}
 use Rattle.reg_model.specs.Crates.{exists, version, file, owners, is_reserved_always}
-use Rattle.reg_model.specs.Actions.{name_in}
+use Rattle.reg_model.specs.Actions.{name_at}
 use Rattle.reg_model.specs.Events.{Asked, Command, Answer, OwnerEntry}
-use Rattle.reg_model.specs.Events.Asked.{Faulty, Read, Index, Download, ListOwners, Publish, Yank, Unyank, AddOwners, RemoveOwners}
+use Rattle.reg_model.specs.Events.Asked.{Faulty, Index, Download, ListOwners, Publish, Yank, Unyank, AddOwners, RemoveOwners}
 use Rattle.reg_model.specs.Events.Command.{UserAdd, UserDisable, UserEnable, TokenAdd, TokenRevoke, Reserve, Unreserve, OwnerAdd}
 use Rattle.reg_model.specs.Events.Answer.{Denied, Granted, File, Archive, Owners, Done, Id}
 use Rattle.reg_model.specs.Refusals.{endpoints_named, patterns_given}
@@ -34,7 +34,7 @@ owner_entry o = record { id = o.0; login = o.1.login; name = o.1.name }
 -- What it is answered.
 abbrev pub served : Registry → Asked → Answer
 served s (Faulty r) = Denied r
-served s (Index path) = File (file s (name_in path))
+served s (Index path) = File (file s (unwrap_or (name_at path) []))
 served s (Download n v) = Archive (unwrap_or (option_map (λ p. p.archive) (version s n v)) [])
 served s (ListOwners n) = Owners (map owner_entry (owners s n))
 served s _ = Granted

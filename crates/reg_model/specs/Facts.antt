@@ -1,12 +1,12 @@
 -- All that the rules ask of a state, about one caller and the crate of one action.
-use Rattle.std.specs.Prelude.{ℕ, ◌==◌, Bool, false, is_some, List, length, Option, Some, None}
+use Rattle.std.specs.Prelude.{ℕ, ◌==◌, Bool, false, is_some, List, [], length, Option, Some, None}
 use Rattle.std.specs.List.{list_any, list_all}
 use Rattle.std.specs.Str.{bytes_eq}
 use Rattle.reg_names.specs.Patterns.{covers}
 use Rattle.reg_model.specs.declared.endpoint.Endpoints.{Endpoints}
 use Rattle.reg_body.specs.declared.limits.Limits.{Limits}
 use Rattle.reg_model.specs.Registry.{Text, Account, Token, Registry, token_of, is_enabled, is_known, holds}
-use Rattle.reg_model.specs.Crates.{first, versions, version, owners, is_reserved, crates, same_release}
+use Rattle.reg_model.specs.Crates.{first, versions, owners, is_reserved, crates, same_release}
 use Rattle.reg_model.specs.Actions.{Action, crate_of, version_of, logins_of}
 
 pub record Facts : Type 0 where
@@ -48,22 +48,31 @@ has_login os login = list_any (λ o. bytes_eq o.1.login login) os
 abbrev pub is_named : List Text → Text → Bool
 is_named logins login = list_any (λ l. bytes_eq login l) logins
 
+-- what a state lists of a crate, where one is named
+abbrev pub lists : {X : Type 0} → (Text → List X) → Option Text → List X
+lists f None = []
+lists f (Some n) = f n
+
+abbrev pub spelling : Registry → Option Text → Option Text
+spelling s None = None
+spelling s (Some n) = first s n
+
 unfoldable pub facts : Limits → Registry → Text → Action → Facts
 facts limits s digest a = record {
   is_known = is_some (token_of s digest);
   is_live = holds (λ t. t.live) (token_of s digest);
   is_enabled = holds (λ t. is_enabled s t.account) (token_of s digest);
   endpoints = endpoints_of (token_of s digest);
-  is_covered = holds (λ t. list_any (λ p. covers p (crate_of a)) t.patterns) (token_of s digest);
-  first = first s (crate_of a);
-  is_owner = holds (λ t. is_owner (owners s (crate_of a)) t.account) (token_of s digest);
-  is_reserved = is_reserved s (crate_of a);
-  has_version = is_some (version s (crate_of a) (version_of a));
-  has_release = list_any (λ p. same_release p.version (version_of a)) (versions s (crate_of a));
-  versions = length (versions s (crate_of a));
+  is_covered = holds (λ t. holds (λ n. list_any (λ p. covers p n) t.patterns) (crate_of a)) (token_of s digest);
+  first = spelling s (crate_of a);
+  is_owner = holds (λ t. is_owner (lists (owners s) (crate_of a)) t.account) (token_of s digest);
+  is_reserved = holds (is_reserved s) (crate_of a);
+  has_version = list_any (λ p. bytes_eq p.version (version_of a)) (lists (versions s) (crate_of a));
+  has_release = list_any (λ p. same_release p.version (version_of a)) (lists (versions s) (crate_of a));
+  versions = length (lists (versions s) (crate_of a));
   crates = crates s;
   are_known = list_all (is_known s) (logins_of a);
-  are_owners = list_all (has_login (owners s (crate_of a))) (logins_of a);
-  are_all_owners = list_all (λ o. is_named (logins_of a) o.1.login) (owners s (crate_of a));
+  are_owners = list_all (has_login (lists (owners s) (crate_of a))) (logins_of a);
+  are_all_owners = list_all (λ o. is_named (logins_of a) o.1.login) (lists (owners s) (crate_of a));
   limits = limits;
 }

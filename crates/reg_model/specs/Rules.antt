@@ -1,15 +1,15 @@
 -- The rules that look at the state: when each is broken, in which order they are asked, and the first that is broken.
-use Rattle.std.specs.Prelude.{◌&&◌, ◌||◌, nat_le, if◌then◌else◌, Bool, false, not, is_none, is_some, List, [], ◌∷◌, Option, Some, None}
+use Rattle.std.specs.Prelude.{nat_le, if◌then◌else◌, Bool, false, not, is_none, is_some, List, [], ◌∷◌, Option, Some, None}
 use Rattle.std.specs.List.{find}
 use Rattle.std.specs.Str.{bytes_eq}
-use Rattle.reg_names.specs.Names.{is_name, path_of}
+use Rattle.reg_names.specs.Names.{path_of}
 use Rattle.reg_model.specs.declared.endpoint.Endpoint.{Endpoint}
 use Rattle.reg_model.specs.declared.endpoint.Endpoint.TheVariants as endpoint
 use Rattle.reg_model.specs.declared.endpoint.Endpoints.{Endpoints}
 use Rattle.reg_model.specs.declared.rule.Rule.{Rule}
 use Rattle.reg_model.specs.declared.rule.Rule.TheVariants as rule
 use Rattle.reg_model.specs.Registry.{holds}
-use Rattle.reg_model.specs.Actions.{Action, crate_of}
+use Rattle.reg_model.specs.Actions.{Action}
 use Rattle.reg_model.specs.Actions.Action.{Read, Index, Download, ListOwners, Publish, Yank, Unyank, AddOwners, RemoveOwners}
 use Rattle.reg_model.specs.Facts.{Facts}
 
@@ -32,10 +32,15 @@ abbrev pub lacks : Endpoints → Option Endpoint → Bool
 lacks s None = false
 lacks s (Some e) = not (has_endpoint s e)
 
--- whether there is no such crate: the path is not that of the crate that is there, or the text is no name or its crate is not there
+-- whether there is no such crate, or the path is not that of the crate that is there
 abbrev pub is_absent : Facts → Action → Bool
 is_absent f (Index path) = not (holds (λ n. bytes_eq (path_of n) path) f.first)
-is_absent f a = not (is_name (crate_of a)) || is_none f.first
+is_absent f a = is_none f.first
+
+-- whether the crate is there under another spelling than is published
+abbrev pub is_misspelled : Facts → Action → Bool
+is_misspelled f (Publish n v) = not (holds (λ m. bytes_eq m n) f.first)
+is_misspelled f a = false
 
 -- Whether the action breaks the rule, where these are the facts. No state breaks the rules of heads, bodies and queries.
 abbrev pub broken : Facts → Action → Rule → Bool
@@ -48,7 +53,7 @@ broken f a rule.A8 = is_absent f a
 broken f a rule.A9 = not f.is_owner
 broken f a rule.A10 = not f.has_version
 broken f a rule.N2 = f.is_reserved
-broken f a rule.N3 = not (holds (λ n. bytes_eq n (crate_of a)) f.first)
+broken f a rule.N3 = is_misspelled f a
 broken f a rule.V2 = f.has_release
 broken f a rule.L1 = nat_le f.limits.versions f.versions
 broken f a rule.L2 = nat_le f.limits.crates f.crates

@@ -10,7 +10,7 @@ use Rattle.reg_versions.specs.Versions.{is_version}
 use Rattle.reg_body.specs.declared.limits.Limits.{Limits}
 use Rattle.reg_model.specs.Borrowed.{IsStemOf}
 use Rattle.reg_model.specs.Registry.{Publication, Registry}
-use Rattle.reg_model.specs.Events.{Asked, Command, Event, Answer}
+use Rattle.reg_model.specs.Events.{Event, Answer}
 use Rattle.reg_model.specs.Events.Asked.{Publish}
 use Rattle.reg_model.specs.Events.Command.{TokenAdd}
 use Rattle.reg_model.specs.Events.Event.{Ask, Order}
