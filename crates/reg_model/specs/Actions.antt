@@ -1,9 +1,7 @@
 -- What a request does, as far as the rules look at it (the Cargo Book, "Registry Web API" and "Registry Index"). Crates and
 -- versions are texts as they stood in a path.
-use Rattle.std.specs.Prelude.{◌==◌, ◌&&◌, if◌then◌else◌, Bool, List, [], Option, Some, None}
-use Rattle.std.specs.List.{after_last}
-use Rattle.std.specs.Str.{bytes_eq}
-use Rattle.reg_names.specs.Names.{is_name, name_of, lower, path_of}
+use Rattle.std.specs.Prelude.{List, [], Option, Some, None}
+use Rattle.reg_names.specs.Names.{name_at, name_of}
 use Rattle.reg_model.specs.Registry.{Text}
 
 pub data Action : Type 0 where
@@ -20,18 +18,6 @@ pub data Action : Type 0 where
   -- a crate and logins
   AddOwners : Text → List Text → Action
   RemoveOwners : Text → List Text → Action
-
--- the part of a path after its last slash
-abbrev pub name_in : Text → Text
-name_in path = after_last (λ b. b == 47) path
-
--- whether the text is the index path of the name, which is in lower case
-abbrev pub is_path_of : Text → Text → Bool
-is_path_of n path = (is_name n && bytes_eq (lower n) n) && bytes_eq (path_of n) path
-
--- the lower-case name of which the text is the index path
-abbrev pub name_at : Text → Option Text
-name_at path = if is_path_of (name_in path) path then Some (name_in path) else None
 
 -- The name of the crate that an action is about; none where the text in its place is no crate name. What is published has a name.
 abbrev pub crate_of : Action → Option Text

@@ -2,10 +2,9 @@
 use Rattle.std.specs.Prelude.{ℕ, ◌+◌, if◌then◌else◌, Bool, true, false, List, [], ◌∷◌, ◌++◌, length, map, Option, Some, None, unwrap_or}
 use Rattle.std.specs.Option.{option_map}
 use Rattle.std.specs.FinSet as finset
-use Rattle.reg_names.specs.Names.{canon}
+use Rattle.reg_names.specs.Names.{canon, name_at}
 use Rattle.reg_model.specs.Registry.{Text, Account, Registry, owner_cmp, token_of, id_of_login, ids_of, change_at}
 use Rattle.reg_model.specs.Crates.{exists, version, file, owners, is_reserved_always}
-use Rattle.reg_model.specs.Actions.{name_at}
 use Rattle.reg_model.specs.Events.{Asked, Command, Answer, OwnerEntry}
 use Rattle.reg_model.specs.Events.Asked.{Faulty, Index, Download, ListOwners, Publish, Yank, Unyank, AddOwners, RemoveOwners}
 use Rattle.reg_model.specs.Events.Command.{UserAdd, UserDisable, UserEnable, TokenAdd, TokenRevoke, Reserve, Unreserve, OwnerAdd}

@@ -31,7 +31,7 @@ pub record Facts : Type 0 where
   pub are_all_owners : Bool
   pub limits : Limits
 
-abbrev no_endpoints : Endpoints
+abbrev pub no_endpoints : Endpoints
 no_endpoints = record { publish_new = false; publish_update = false; yank = false; change_owners = false }
 
 abbrev pub endpoints_of : Option Token → Endpoints
