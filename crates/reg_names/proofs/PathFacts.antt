@@ -1,5 +1,5 @@
 -- Where the folder of an index path ends.
-use Rattle.std.proofs.Common.{◌≡◌, ◌⊎◌, ◌<◌, ◌+◌, ℕ, List, [], ◌∷◌, ◌++◌, length, inl, inr, refl, arith}
+use Rattle.std.proofs.Common.{◌≡◌, ◌⊎◌, ◌<◌, ℕ, List, [], ◌∷◌, ◌++◌, length, inl, inr, refl, arith}
 use Rattle.reg_names.specs.Names.{folder_of}
 
 -- how long a path is, and how long its folder is

@@ -1,7 +1,8 @@
 -- Crate names, their canonical and lower-case texts, and their index paths (the Cargo Book, "Registry Index").
 -- A text is the list of its bytes.
 use Rattle.std.specs.Prelude.{ℕ, ◌==◌, ◌&&◌, ◌||◌, nat_le, nat_lt, if◌then◌else◌, Bool, Option, Some, None, List, [], ◌∷◌, ◌++◌, length, map, slice_index, codes}
-use Rattle.std.specs.List.{list_all}
+use Rattle.std.specs.List.{after_last, list_all}
+use Rattle.std.specs.Str.{bytes_eq}
 use Rattle.std.specs.Char.{is_ascii_alphabetic, is_ascii_alphanumeric, to_ascii_lowercase}
 
 -- an ASCII letter, a digit, `-` or `_`
@@ -38,3 +39,15 @@ folder_of (a ∷ b ∷ c ∷ d ∷ rest) = (a ∷ b ∷ codes "/") ++ (c ∷ d �
 -- the index path of a name
 abbrev pub path_of : List ℕ → List ℕ
 path_of name = folder_of (lower name) ++ lower name
+
+-- whether the text is the index path of the name, which is in lower case
+abbrev pub is_path_of : List ℕ → List ℕ → Bool
+is_path_of n path = (is_name n && bytes_eq (lower n) n) && bytes_eq (path_of n) path
+
+-- the part of a path after its last slash
+abbrev pub last_part : List ℕ → List ℕ
+last_part path = after_last (λ b. b == 47) path
+
+-- the lower-case name of which the text is the index path
+abbrev pub name_at : List ℕ → Option (List ℕ)
+name_at path = if is_path_of (last_part path) path then Some (last_part path) else None

@@ -28,7 +28,7 @@ impl CanonText {
     }
 }
 
-fn canon_byte(b: u8) -> u8
+pub(crate) fn canon_byte(b: u8) -> u8
     ensures value { result ≡ canon_byte b }
     ensures ascii { b < 128 → result < 128 }
 {

@@ -2,9 +2,13 @@
 #![tactic(auto)]
 
 mod canonical;
+mod login;
 mod name;
 mod path;
+mod pattern;
 
 pub use canonical::{CanonText, canon, collides};
+pub use login::{Login, parse_login};
 pub use name::{CrateName, lower, parse_name};
 pub use path::{PathText, index_path, name_of_path};
+pub use pattern::{Pattern, covers};

@@ -42,10 +42,9 @@ fn all_name_bytes(bytes: &[u8]) -> bool
     bytes.iter().all(|b| is_name_byte(*b))
 }
 
-fn is_name(text: &str) -> bool
-    ensures { result ≡ is_name text.now }
+pub(crate) fn is_name(bytes: &[u8]) -> bool
+    ensures { result ≡ is_name bytes.now }
 {
-    let bytes = text.as_bytes();
     if bytes.is_empty() || bytes.len() > 64 {
         return false;
     }
@@ -56,7 +55,7 @@ fn is_name(text: &str) -> bool
 pub fn parse_name(text: &str) -> Option<CrateName>
     ensures { result ≡ name_of text.now }
 {
-    if !is_name(text) {
+    if !is_name(text.as_bytes()) {
         return None;
     }
     match ArrayString::from(text) {

@@ -2,7 +2,7 @@
 
 ghost use Rattle.std.specs.Prelude.{◌≡◌, ◌+◌, ◌<◌, ◌≤◌, ◌↔◌, ℕ, List, Some, length, slice_index, true, [], ◌++◌};
 ghost use Rattle.std.specs.Str.{IsAscii};
-ghost use Rattle.reg_names.specs.Names.{folder_of, is_name, lower, path_of};
+ghost use Rattle.reg_names.specs.Names.{folder_of, is_name, lower, name_at, path_of};
 
 use crate::name::{CrateName, lower, parse_name};
 use arrayvec::ArrayString;
@@ -89,8 +89,8 @@ fn file_name(path: &str) -> &str
     }
 }
 
-/// The lower-case name whose index path a text is.
-pub fn name_of_path(path: &str) -> Option<CrateName>
+/// What stands behind the folder of a path, where the text is its path.
+fn named_by(path: &str) -> Option<CrateName>
     ensures { (n : List ℕ) → (result ≡ Some n) ↔ ((is_name n ≡ true) × (lower n ≡ n) × (path_of n ≡ path.now)) }
 {
     let name = parse_name(file_name(path))?;
@@ -99,4 +99,12 @@ pub fn name_of_path(path: &str) -> Option<CrateName>
     } else {
         None
     }
+}
+
+/// The lower-case name whose index path a text is.
+pub fn name_of_path(path: &str) -> Option<CrateName>
+    ensures meaning { (n : List ℕ) → (result ≡ Some n) ↔ ((is_name n ≡ true) × (lower n ≡ n) × (path_of n ≡ path.now)) }
+    ensures value { result ≡ name_at path.now }
+{
+    named_by(path)
 }

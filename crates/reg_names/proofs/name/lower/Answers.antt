@@ -1,5 +1,5 @@
 -- A name in lower case is a name.
-use Rattle.std.proofs.Common.{◌≡◌, ap, ◌∙◌, true, subst, rules}
+use Rattle.std.proofs.Common.{◌≡◌, ap, ◌∙◌, true}
 use Rattle.std.specs.Char.{to_ascii_lowercase}
 use Rattle.std.proofs.Common.{map}
 use Rattle.std.proofs.lemmas.List.{take_all}

@@ -1,5 +1,5 @@
 -- A path can be cut behind its folder, since a name is ASCII.
-use Rattle.std.proofs.Common.{◌≡◌, ◌++◌, sym, ap, subst, length, rules}
+use Rattle.std.proofs.Common.{sym, ap, subst, length}
 use Rattle.std.proofs.lemmas.Bool.{false≢true}
 use Rattle.std.proofs.lemmas.Str.{IsCharBoundary-at_seam}
 use Rattle.std.specs.Str.{IsCharBoundary}

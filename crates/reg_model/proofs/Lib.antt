@@ -1,0 +1,13 @@
+pub mod Runs
+pub mod Kept
+pub mod Growth
+pub mod Keys
+pub mod Lists
+pub mod Places
+pub mod Cleared
+pub mod SoundParts
+pub mod SoundPublish
+pub mod SoundOwners
+pub mod SoundMarks
+pub mod SoundCommands
+pub mod Soundness

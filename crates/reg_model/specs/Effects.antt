@@ -1,0 +1,77 @@
+-- What an allowed request or command does, and what it is answered.
+use Rattle.std.specs.Prelude.{ℕ, ◌+◌, if◌then◌else◌, Bool, true, false, List, [], ◌∷◌, ◌++◌, length, map, Option, Some, None, unwrap_or}
+use Rattle.std.specs.Option.{option_map}
+use Rattle.std.specs.FinSet as finset
+use Rattle.reg_names.specs.Names.{canon, name_at}
+use Rattle.reg_model.specs.Registry.{Text, Account, Registry, owner_cmp, token_of, id_of_login, ids_of, change_at}
+use Rattle.reg_model.specs.Crates.{exists, version, file, owners, is_reserved_always}
+use Rattle.reg_model.specs.Events.{Asked, Command, Answer, OwnerEntry}
+use Rattle.reg_model.specs.Events.Asked.{Faulty, Index, Download, ListOwners, Publish, Yank, Unyank, AddOwners, RemoveOwners}
+use Rattle.reg_model.specs.Events.Command.{UserAdd, UserDisable, UserEnable, TokenAdd, TokenRevoke, Reserve, Unreserve, OwnerAdd}
+use Rattle.reg_model.specs.Events.Answer.{Denied, Granted, File, Archive, Owners, Done, Id}
+use Rattle.reg_model.specs.Refusals.{endpoints_named, patterns_given}
+
+-- these accounts, as owners of the crate
+abbrev pub owners_of : Text → List ℕ → finset.FinSet owner_cmp
+owners_of n ids = finset.from_list (map (λ id. (canon n, id)) ids)
+
+-- The state after what an account asked for, where it is allowed.
+unfoldable pub done : Registry → ℕ → Asked → Registry
+done s id (Publish p) = record s {
+  publications = s.publications ++ p ∷ [];
+  owners = if exists s p.name then s.owners else finset.insert s.owners (canon p.name, id);
+}
+done s id (Yank n v) = record s { yanked = finset.insert s.yanked (canon n, v) }
+done s id (Unyank n v) = record s { yanked = finset.remove s.yanked (canon n, v) }
+done s id (AddOwners n logins) = record s { owners = finset.union s.owners (owners_of n (ids_of s logins)) }
+done s id (RemoveOwners n logins) = record s { owners = finset.difference s.owners (owners_of n (ids_of s logins)) }
+done s id _ = s
+
+abbrev pub owner_entry : ℕ × Account → OwnerEntry
+owner_entry o = record { id = o.0; login = o.1.login; name = o.1.name }
+
+-- What it is answered.
+abbrev pub served : Registry → Asked → Answer
+served s (Faulty r) = Denied r
+served s (Index path) = File (file s (unwrap_or (name_at path) []))
+served s (Download n v) = Archive (unwrap_or (option_map (λ p. p.archive) (version s n v)) [])
+served s (ListOwners n) = Owners (map owner_entry (owners s n))
+served s _ = Granted
+
+-- the id of a token's account
+abbrev pub account_of : Registry → Text → ℕ
+account_of s digest = unwrap_or (option_map (λ t. t.account) (token_of s digest)) 0
+
+abbrev pub caller : Registry → Option Text → ℕ
+caller s None = 0
+caller s (Some digest) = account_of s digest
+
+-- the accounts, with the one of this login enabled or not
+abbrev pub enable : Bool → Option ℕ → List Account → List Account
+enable b None accounts = accounts
+enable b (Some id) accounts = change_at (λ a. record a { enabled = b }) id accounts
+
+-- The state after a command that is not refused.
+unfoldable pub commanded : Registry → Command → Registry
+commanded s (UserAdd login name) = record s { accounts = s.accounts ++ record { login = login; name = name; enabled = true } ∷ [] }
+commanded s (UserDisable login) = record s { accounts = enable false (id_of_login s login) s.accounts }
+commanded s (UserEnable login) = record s { accounts = enable true (id_of_login s login) s.accounts }
+commanded s (TokenAdd login words patterns digest) = record s {
+  tokens = s.tokens ++ record {
+    digest = digest;
+    account = unwrap_or (id_of_login s login) 0;
+    live = true;
+    endpoints = endpoints_named words;
+    patterns = patterns_given patterns;
+  } ∷ [];
+}
+commanded s (TokenRevoke id) = record s { tokens = change_at (λ t. record t { live = false }) id s.tokens }
+commanded s (Reserve n) = if is_reserved_always (canon n) then s else record s { reserved = finset.insert s.reserved (canon n) }
+commanded s (Unreserve n) = record s { reserved = finset.remove s.reserved (canon n) }
+commanded s (OwnerAdd n login) = record s { owners = finset.union s.owners (owners_of n (ids_of s (login ∷ []))) }
+
+-- What it is answered: whoever adds an account or a token is told its id.
+abbrev pub replied : Registry → Command → Answer
+replied s (UserAdd login name) = Id (length s.accounts + 1)
+replied s (TokenAdd login words patterns digest) = Id (length s.tokens + 1)
+replied s _ = Done

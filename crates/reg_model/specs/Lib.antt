@@ -1,0 +1,12 @@
+pub mod Borrowed
+pub mod Registry
+pub mod Crates
+pub mod Actions
+pub mod Facts
+pub mod Rules
+pub mod Events
+pub mod Refusals
+pub mod Effects
+pub mod Steps
+pub mod Sound
+pub mod Laws

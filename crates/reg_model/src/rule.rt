@@ -1,0 +1,101 @@
+//! What a request or a command can be refused for. The names are the codes that the program prints.
+
+/// A rule that a request can break.
+#[derive(Clone, Copy, Debug, PartialEq, Eq)]
+pub enum Rule {
+    /// a bad request head
+    H1,
+    /// a request head that is too large
+    H2,
+    /// a transfer encoding
+    H3,
+    /// a bad content length
+    H4,
+    /// a request body that is too large
+    H5,
+    /// no route
+    H6,
+    /// a method that the route has not
+    H7,
+    /// no token
+    A1,
+    /// an unknown token
+    A2,
+    /// a revoked token
+    A3,
+    /// a disabled account
+    A4,
+    /// an endpoint that the token has not
+    A6,
+    /// a crate that no pattern of the token covers
+    A7,
+    /// no such crate
+    A8,
+    /// the token's account is no owner
+    A9,
+    /// no such version
+    A10,
+    /// a publish body that is too short
+    B1,
+    /// a publish body with bytes behind it
+    B2,
+    /// metadata or an archive that is too long
+    B3,
+    /// metadata that is no JSON
+    B4,
+    /// a field of the metadata that is missing or of the wrong kind
+    B5,
+    /// a bad crate name
+    N1,
+    /// a reserved crate name
+    N2,
+    /// another spelling of a crate's name
+    N3,
+    /// a bad version
+    V1,
+    /// a release that is published already
+    V2,
+    /// a bad dependency
+    M1,
+    /// too many versions
+    L1,
+    /// too many crates
+    L2,
+    /// a bad owner request
+    O1,
+    /// a login that no enabled account has
+    O2,
+    /// a login that no owner has
+    O3,
+    /// a removal that would leave no owner
+    O4,
+    /// a bad `per_page`
+    Q1,
+    /// memory or the store was refused
+    S1,
+}
+
+/// What a command of the administrator can be refused for.
+#[derive(Clone, Copy, Debug, PartialEq, Eq)]
+pub enum AdminRefusal {
+    /// a bad login or name
+    G1,
+    /// a login that is taken
+    G2,
+    /// no such login
+    G3,
+    /// a bad pattern or crate name
+    G4,
+    /// a token digest that is taken
+    G5,
+    /// no such token
+    G6,
+    /// too many
+    G7,
+    /// no such crate
+    G8,
+    /// no endpoint, or a word that is none
+    G9,
+    /// memory or the store was refused
+    G10,
+}

@@ -1,0 +1,75 @@
+//! What a decision is about, and what it is made from.
+
+use reg_body::Limits;
+use reg_model::{Endpoints, Rule};
+use reg_names::{CrateName, Pattern};
+
+/// What a request does, as far as the rules on the state look at it. Crates and versions are as they stood in a path.
+#[derive(Drop)]
+pub enum Action<'a> {
+    /// Reads the config, or searches.
+    Read,
+    /// Reads the index file at a path.
+    Index(&'a str),
+    /// Downloads a version of a crate.
+    Download(&'a str, &'a str),
+    /// Lists a crate's owners.
+    ListOwners(&'a str),
+    /// Publishes a version of a name.
+    Publish(&'a CrateName, &'a str),
+    /// Yanks a version of a crate.
+    Yank(&'a str, &'a str),
+    /// Takes back a yank.
+    Unyank(&'a str, &'a str),
+    /// Makes the accounts with these logins owners of a crate.
+    AddOwners(&'a str, &'a [&'a str]),
+    /// Takes them out of a crate's owners.
+    RemoveOwners(&'a str, &'a [&'a str]),
+}
+
+/// Whether the rules on the state let an action pass, or the first that it breaks.
+#[derive(Clone, Copy, Debug, PartialEq, Eq)]
+pub enum Decision {
+    Allowed,
+    Denied(Rule),
+}
+
+/// A token, with the id of its account.
+#[derive(Clone, Copy, Debug, PartialEq, Eq)]
+pub struct TokenRow {
+    pub account: u32,
+    pub live: bool,
+    pub endpoints: Endpoints,
+}
+
+/// An owner of a crate: the id and the login of an account.
+#[derive(Drop)]
+pub struct OwnerRow<'a> {
+    pub id: u32,
+    pub login: &'a str,
+}
+
+/// What a registry says of one caller and one crate.
+#[derive(Drop)]
+pub struct Rows<'a> {
+    /// The token, if it is known.
+    pub token: Option<TokenRow>,
+    /// Whether the token's account is enabled.
+    pub enabled: bool,
+    /// The token's patterns.
+    pub patterns: &'a [Pattern],
+    /// The crate's spelling, if it is there.
+    pub first: Option<&'a CrateName>,
+    /// The crate's owners.
+    pub owners: &'a [OwnerRow<'a>],
+    /// The crate's versions.
+    pub versions: &'a [&'a str],
+    /// Whether the crate's name is reserved.
+    pub reserved: bool,
+    /// How many crates there are.
+    pub crates: u64,
+    /// For each login that the action names, whether an enabled account has it.
+    pub known: &'a [bool],
+    /// The limits of the registry.
+    pub limits: &'a Limits,
+}

@@ -1,0 +1,387 @@
+//! The first rule on the state that an action breaks.
+
+ghost use Rattle.std.specs.Prelude.{◌≡◌, ◌==◌, map};
+ghost use Rattle.std.specs.List.{list_all, list_any};
+ghost use Rattle.std.specs.Str.{bytes_eq};
+ghost use Rattle.reg_names.specs.Patterns.{covers};
+ghost use Rattle.reg_model.specs.Registry.{holds};
+ghost use Rattle.reg_model.specs.Crates.{same_release as same_release_of};
+ghost use Rattle.reg_model.specs.Actions.{crate_of, logins_of, version_of};
+ghost use Rattle.reg_model.specs.Rules.{broken as broken_of, has_endpoint, is_absent, is_misspelled, lacks, needed, order as order_of, verdict};
+ghost use Rattle.reg_policy.specs.Views.{action_of, decision_of, endpoints_of, facts_of};
+
+use crate::action::{Action, Decision, OwnerRow, Rows};
+use reg_model::{Endpoint, Endpoints, Rule};
+use reg_names::{CrateName, Pattern, covers, index_path, name_of_path, parse_name};
+use reg_versions::same_release;
+
+const READING: [Rule; 3] = [Rule::A2, Rule::A3, Rule::A4];
+
+const READING_A_CRATE: [Rule; 4] = [Rule::A2, Rule::A3, Rule::A4, Rule::A8];
+
+const DOWNLOADING: [Rule; 5] = [Rule::A2, Rule::A3, Rule::A4, Rule::A8, Rule::A10];
+
+const PUBLISHING_NEW: [Rule; 7] = [
+    Rule::A2,
+    Rule::A3,
+    Rule::A4,
+    Rule::A6,
+    Rule::A7,
+    Rule::N2,
+    Rule::L2,
+];
+
+const PUBLISHING_KNOWN: [Rule; 9] = [
+    Rule::A2,
+    Rule::A3,
+    Rule::A4,
+    Rule::A6,
+    Rule::A7,
+    Rule::N3,
+    Rule::A9,
+    Rule::V2,
+    Rule::L1,
+];
+
+const MARKING: [Rule; 8] = [
+    Rule::A2,
+    Rule::A3,
+    Rule::A4,
+    Rule::A6,
+    Rule::A8,
+    Rule::A7,
+    Rule::A9,
+    Rule::A10,
+];
+
+const ADDING: [Rule; 8] = [
+    Rule::A2,
+    Rule::A3,
+    Rule::A4,
+    Rule::A6,
+    Rule::A8,
+    Rule::A7,
+    Rule::A9,
+    Rule::O2,
+];
+
+const REMOVING: [Rule; 9] = [
+    Rule::A2,
+    Rule::A3,
+    Rule::A4,
+    Rule::A6,
+    Rule::A8,
+    Rule::A7,
+    Rule::A9,
+    Rule::O3,
+    Rule::O4,
+];
+
+/// The rules that an action is asked, in their order.
+fn order(rows: &Rows, action: &Action) -> &'static [Rule]
+    ensures { result.now ≡ order_of (facts_of rows.now (action_of action.now)) (action_of action.now) }
+{
+    match action {
+        Action::Read => &READING,
+        Action::Index(_) => &READING_A_CRATE,
+        Action::Download(_, _) => &DOWNLOADING,
+        Action::ListOwners(_) => &READING_A_CRATE,
+        Action::Publish(_, _) => {
+            if rows.first.is_some() {
+                &PUBLISHING_KNOWN
+            } else {
+                &PUBLISHING_NEW
+            }
+        }
+        Action::Yank(_, _) => &MARKING,
+        Action::Unyank(_, _) => &MARKING,
+        Action::AddOwners(_, _) => &ADDING,
+        Action::RemoveOwners(_, _) => &REMOVING,
+    }
+}
+
+/// The version that an action names.
+fn version_of<'a>(action: &Action<'a>) -> &'a str
+    ensures { result.now ≡ version_of (action_of action.now) }
+{
+    match action {
+        Action::Read => "",
+        Action::Index(_) => "",
+        Action::Download(_, version) => version,
+        Action::ListOwners(_) => "",
+        Action::Publish(_, version) => version,
+        Action::Yank(_, version) => version,
+        Action::Unyank(_, version) => version,
+        Action::AddOwners(_, _) => "",
+        Action::RemoveOwners(_, _) => "",
+    }
+}
+
+/// The logins that an action names.
+fn logins_of<'a>(action: &Action<'a>) -> &'a [&'a str]
+    ensures { map (λ l. l.now) result.now ≡ logins_of (action_of action.now) }
+{
+    match action {
+        Action::Read => &[],
+        Action::Index(_) => &[],
+        Action::Download(_, _) => &[],
+        Action::ListOwners(_) => &[],
+        Action::Publish(_, _) => &[],
+        Action::Yank(_, _) => &[],
+        Action::Unyank(_, _) => &[],
+        Action::AddOwners(_, logins) => logins,
+        Action::RemoveOwners(_, logins) => logins,
+    }
+}
+
+/// The endpoint that an action needs.
+fn needed(rows: &Rows, action: &Action) -> Option<Endpoint>
+    ensures { result ≡ needed (facts_of rows.now (action_of action.now)) (action_of action.now) }
+{
+    match action {
+        Action::Read => None,
+        Action::Index(_) => None,
+        Action::Download(_, _) => None,
+        Action::ListOwners(_) => None,
+        Action::Publish(_, _) => {
+            if rows.first.is_some() {
+                Some(Endpoint::PublishUpdate)
+            } else {
+                Some(Endpoint::PublishNew)
+            }
+        }
+        Action::Yank(_, _) => Some(Endpoint::Yank),
+        Action::Unyank(_, _) => Some(Endpoint::Yank),
+        Action::AddOwners(_, _) => Some(Endpoint::ChangeOwners),
+        Action::RemoveOwners(_, _) => Some(Endpoint::ChangeOwners),
+    }
+}
+
+fn has_endpoint(endpoints: &Endpoints, endpoint: Endpoint) -> bool
+    ensures { result ≡ has_endpoint endpoints.now endpoint }
+{
+    match endpoint {
+        Endpoint::PublishNew => endpoints.publish_new,
+        Endpoint::PublishUpdate => endpoints.publish_update,
+        Endpoint::Yank => endpoints.yank,
+        Endpoint::ChangeOwners => endpoints.change_owners,
+    }
+}
+
+/// Whether the token has not the endpoint that the action needs. An unknown token has none.
+fn lacks_endpoint(rows: &Rows, action: &Action) -> bool
+    ensures { result ≡ lacks (endpoints_of rows.now.token) (needed (facts_of rows.now (action_of action.now)) (action_of action.now)) }
+{
+    match needed(rows, action) {
+        Some(endpoint) => match &rows.token {
+            Some(token) => !has_endpoint(&token.endpoints, endpoint),
+            None => match endpoint {
+                Endpoint::PublishNew => true,
+                Endpoint::PublishUpdate => true,
+                Endpoint::Yank => true,
+                Endpoint::ChangeOwners => true,
+            },
+        },
+        None => false,
+    }
+}
+
+fn is_covered(patterns: &[Pattern], name: &CrateName) -> bool
+    ensures { result ≡ list_any (λ p. covers p name.now) patterns.now }
+{
+    patterns.iter().any(|pattern| covers(pattern, name))
+}
+
+fn is_text_covered(patterns: &[Pattern], name: Option<CrateName>) -> bool
+    ensures { result ≡ holds (λ n. list_any (λ p. covers p n) patterns.now) name }
+{
+    match name {
+        Some(name) => is_covered(patterns, &name),
+        None => false,
+    }
+}
+
+/// Whether a pattern covers the crate that the action names.
+fn is_crate_covered(patterns: &[Pattern], action: &Action) -> bool
+    ensures { result ≡ holds (λ n. list_any (λ p. covers p n) patterns.now) (crate_of (action_of action.now)) }
+{
+    match action {
+        Action::Read => false,
+        Action::Index(path) => is_text_covered(patterns, name_of_path(path)),
+        Action::Download(name, _) => is_text_covered(patterns, parse_name(name)),
+        Action::ListOwners(name) => is_text_covered(patterns, parse_name(name)),
+        Action::Publish(name, _) => is_covered(patterns, name),
+        Action::Yank(name, _) => is_text_covered(patterns, parse_name(name)),
+        Action::Unyank(name, _) => is_text_covered(patterns, parse_name(name)),
+        Action::AddOwners(name, _) => is_text_covered(patterns, parse_name(name)),
+        Action::RemoveOwners(name, _) => is_text_covered(patterns, parse_name(name)),
+    }
+}
+
+fn is_absent(rows: &Rows, action: &Action) -> bool
+    ensures { result ≡ is_absent (facts_of rows.now (action_of action.now)) (action_of action.now) }
+{
+    match action {
+        Action::Read => rows.first.is_none(),
+        Action::Index(path) => match rows.first {
+            Some(name) => !same_text(index_path(name).as_str(), path),
+            None => true,
+        },
+        Action::Download(_, _) => rows.first.is_none(),
+        Action::ListOwners(_) => rows.first.is_none(),
+        Action::Publish(_, _) => rows.first.is_none(),
+        Action::Yank(_, _) => rows.first.is_none(),
+        Action::Unyank(_, _) => rows.first.is_none(),
+        Action::AddOwners(_, _) => rows.first.is_none(),
+        Action::RemoveOwners(_, _) => rows.first.is_none(),
+    }
+}
+
+fn is_misspelled(rows: &Rows, action: &Action) -> bool
+    ensures { result ≡ is_misspelled (facts_of rows.now (action_of action.now)) (action_of action.now) }
+{
+    match action {
+        Action::Publish(name, _) => match rows.first {
+            Some(first) => !same_text(first.as_str(), name.as_str()),
+            None => true,
+        },
+        Action::Read => false,
+        Action::Index(_) => false,
+        Action::Download(_, _) => false,
+        Action::ListOwners(_) => false,
+        Action::Yank(_, _) => false,
+        Action::Unyank(_, _) => false,
+        Action::AddOwners(_, _) => false,
+        Action::RemoveOwners(_, _) => false,
+    }
+}
+
+pub(crate) fn same_text(one: &str, other: &str) -> bool
+    ensures { result ≡ bytes_eq one.now other.now }
+{
+    one == other
+}
+
+fn has_id(owner: &OwnerRow, id: u32) -> bool
+    ensures { result ≡ (owner.now.id == id) }
+{
+    owner.id == id
+}
+
+fn is_owner(rows: &Rows, id: u32) -> bool
+    ensures { result ≡ list_any (λ o. o.id == id) rows.now.owners.now }
+{
+    rows.owners.iter().any(|owner| has_id(owner, id))
+}
+
+fn has_version(rows: &Rows, version: &str) -> bool
+    ensures { result ≡ list_any (λ v. bytes_eq v.now version.now) rows.now.versions.now }
+{
+    rows.versions.iter().any(|known| same_text(known, version))
+}
+
+fn has_release(rows: &Rows, version: &str) -> bool
+    ensures { result ≡ list_any (λ v. same_release_of v.now version.now) rows.now.versions.now }
+{
+    rows.versions
+        .iter()
+        .any(|known| same_release(known, version))
+}
+
+fn are_all(known: &[bool]) -> bool
+    ensures { result ≡ list_all (λ b. b) known.now }
+{
+    known.iter().all(|b| *b)
+}
+
+fn owns_login(rows: &Rows, login: &str) -> bool
+    ensures { result ≡ list_any (λ o. bytes_eq o.login.now login.now) rows.now.owners.now }
+{
+    rows.owners
+        .iter()
+        .any(|owner| same_text(owner.login, login))
+}
+
+fn is_named(logins: &[&str], login: &str) -> bool
+    ensures { result ≡ list_any (λ l. bytes_eq login.now l.now) logins.now }
+{
+    logins.iter().any(|named| same_text(login, named))
+}
+
+fn are_owners(rows: &Rows, logins: &[&str]) -> bool
+    ensures { result ≡ list_all (λ l. list_any (λ o. bytes_eq o.login.now l.now) rows.now.owners.now) logins.now }
+{
+    logins.iter().all(|login| owns_login(rows, login))
+}
+
+fn are_all_owners(rows: &Rows, logins: &[&str]) -> bool
+    ensures { result ≡ list_all (λ o. list_any (λ l. bytes_eq o.login.now l.now) logins.now) rows.now.owners.now }
+{
+    rows.owners
+        .iter()
+        .all(|owner| is_named(logins, owner.login))
+}
+
+/// Whether the action breaks the rule.
+#[tactic(auto, using(crate::proofs::Lists::list_any_map))]
+fn broken(rows: &Rows, action: &Action, rule: Rule) -> bool
+    ensures { result ≡ broken_of (facts_of rows.now (action_of action.now)) (action_of action.now) rule }
+{
+    match rule {
+        Rule::A2 => rows.token.is_none(),
+        Rule::A3 => match &rows.token {
+            Some(token) => !token.live,
+            None => true,
+        },
+        Rule::A4 => !rows.enabled,
+        Rule::A6 => lacks_endpoint(rows, action),
+        Rule::A7 => !is_crate_covered(rows.patterns, action),
+        Rule::A8 => is_absent(rows, action),
+        Rule::A9 => match &rows.token {
+            Some(token) => !is_owner(rows, token.account),
+            None => true,
+        },
+        Rule::A10 => !has_version(rows, version_of(action)),
+        Rule::N2 => rows.reserved,
+        Rule::N3 => is_misspelled(rows, action),
+        Rule::V2 => has_release(rows, version_of(action)),
+        Rule::L1 => rows.limits.versions <= rows.versions.len() as u64,
+        Rule::L2 => rows.limits.crates <= rows.crates,
+        Rule::O2 => !are_all(rows.known),
+        Rule::O3 => !are_owners(rows, logins_of(action)),
+        Rule::O4 => are_all_owners(rows, logins_of(action)),
+        Rule::H1 => false,
+        Rule::H2 => false,
+        Rule::H3 => false,
+        Rule::H4 => false,
+        Rule::H5 => false,
+        Rule::H6 => false,
+        Rule::H7 => false,
+        Rule::A1 => false,
+        Rule::B1 => false,
+        Rule::B2 => false,
+        Rule::B3 => false,
+        Rule::B4 => false,
+        Rule::B5 => false,
+        Rule::N1 => false,
+        Rule::V1 => false,
+        Rule::M1 => false,
+        Rule::O1 => false,
+        Rule::Q1 => false,
+        Rule::S1 => false,
+    }
+}
+
+/// The first rule on the state that the action breaks, in the order of its line. Whether there is a token, and what its body or
+/// query breaks, is judged before.
+#[tactic(auto, unfolding(reg_model::specs::Rules::verdict))]
+pub fn decide(rows: &Rows, action: &Action) -> Decision
+    ensures { result ≡ decision_of (verdict (facts_of rows.now (action_of action.now)) (action_of action.now)) }
+{
+    for rule in order(rows, action) {
+        if broken(rows, action, *rule) {
+            return Decision::Denied(*rule);
+        }
+    }
+    Decision::Allowed
+}

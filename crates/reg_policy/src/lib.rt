@@ -1,0 +1,11 @@
+//! The rules as code, and a plain registry that follows them.
+#![tactic(auto)]
+
+mod action;
+mod deciding;
+mod words;
+
+pub use action::{Action, Decision, OwnerRow, Rows, TokenRow};
+pub use deciding::decide;
+pub use reg_model::{AdminRefusal, Endpoint, Endpoints, Rule};
+pub use words::{admin_text, rule_status, rule_text};
