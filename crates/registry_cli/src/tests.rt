@@ -212,6 +212,10 @@ fn frame_faults(rt: HostRuntime) {
     for (bytes, words) in [
         (b"".as_slice(), "B1 publish body too short"),
         (b"\x1b\0\0", "B1 publish body too short"),
+        (
+            b"\x1c\0\0\0{\"name\":\"a\",\"vers\":\"0.1.0\"}\0\0\0\0",
+            "B1 publish body too short",
+        ),
         (b"\xff\xff\xff\xff{}\0\0\0\0", "B1 publish body too short"),
         (
             b"\x02\0\0\0{}\0\0\0\0\0",
