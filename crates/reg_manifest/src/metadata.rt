@@ -1,11 +1,11 @@
 //! Bytes to a manifest (the Cargo Book, "Registry Web API", "Publish").
 
-ghost use Rattle.std.specs.Prelude.{◌≡◌, map};
+ghost use Rattle.std.specs.Prelude.{◌≡◌, IfOk, map, true};
 ghost use Rattle.serde_json.specs.View.{items_view, view};
 ghost use Rattle.reg_manifest.specs.Reads.{Gives};
 ghost use Rattle.reg_manifest.specs.Fields.{each};
 ghost use Rattle.reg_manifest.specs.Manifests.{dep_view, draft_view, manifest_view};
-ghost use Rattle.reg_manifest.specs.Metadata.{checked, dep_of, fields_of, metadata_of};
+ghost use Rattle.reg_manifest.specs.Metadata.{checked, dep_of, fields_of, keeps_rules, metadata_of};
 
 use crate::fault::ManifestFault;
 use crate::fields::{
@@ -91,9 +91,10 @@ fn read_fields(alloc: Global, value: &Value) -> Result<Draft, ManifestFault>
     })
 }
 
-#[tactic(auto, unfolding(crate::specs::Metadata::checked))]
+#[tactic(auto, unfolding(crate::specs::Metadata::checked, crate::specs::Metadata::keeps_rules))]
 fn check(alloc: Global, draft: Draft) -> Result<Manifest, ManifestFault>
-    ensures { Gives manifest_view result (checked (draft_view draft)) }
+    ensures meaning { Gives manifest_view result (checked (draft_view draft)) }
+    ensures rules { IfOk result (λ m. keeps_rules (manifest_view m) ≡ true) }
 {
     let Some(name) = parse_name(draft.name.as_str()) else {
         return Err(ManifestFault::Name);
@@ -119,7 +120,8 @@ fn check(alloc: Global, draft: Draft) -> Result<Manifest, ManifestFault>
 /// null, and of a key that is written twice the last value counts.
 #[tactic(auto, unfolding(crate::specs::Metadata::metadata_of))]
 pub fn read_manifest(alloc: Global, bytes: &[u8]) -> Result<Manifest, ManifestFault>
-    ensures { Gives manifest_view result (metadata_of bytes.now) }
+    ensures meaning { Gives manifest_view result (metadata_of bytes.now) }
+    ensures rules { IfOk result (λ m. keeps_rules (manifest_view m) ≡ true) }
 {
     let value = read_json(alloc, bytes)?;
     let draft = read_fields(alloc, &value)?;

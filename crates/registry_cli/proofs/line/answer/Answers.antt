@@ -12,7 +12,7 @@ returns-in_err-manifest-clause-broken c =
     let frame = (c.in_ok-json.ensures.parts j a).0 (refl, refl) in
     let e = c.in_err-manifest.field-0.0 in
     passed_on c.args.limits.now c.args.input.now c.from_residual-in_err-manifest.result (of_manifest e) c.from_residual-in_err-manifest.ensures.1
-    (breaks c.args.limits.now c.args.input.now j a e frame c.in_err-manifest.ensures)
+    (breaks c.args.limits.now c.args.input.now j a e frame c.in_err-manifest.ensures.meaning)
 
 pub returns-clause-answer : goal.returns-clause-answer
 returns-clause-answer c =
@@ -20,4 +20,4 @@ returns-clause-answer c =
     let a = c.in_ok-json.archive.now in
     let frame = (c.in_ok-json.ensures.parts j a).0 (refl, refl) in
     let m = manifest_view c.in_ok-manifest.manifest in
-    IfOk-weaker c.lines.result _ _ (λ text h. (a, m, body_of c.args.limits.now c.args.input.now j a _ frame c.in_ok-manifest.ensures, h)) c.lines.ensures.printed
+    IfOk-weaker c.lines.result _ _ (λ text h. (a, m, body_of c.args.limits.now c.args.input.now j a _ frame c.in_ok-manifest.ensures.meaning, h)) c.lines.ensures.printed
