@@ -3,7 +3,7 @@ use Rattle.std.proofs.Common.{◌≡◌, List, true, Some, None, refl}
 use Rattle.std.specs.FinSet as finset
 use Rattle.std.specs.List.{IsDistinct}
 use Rattle.reg_body.specs.declared.limits.Limits.{Limits}
-use Rattle.reg_model.specs.Borrowed.{is_base}
+use Rattle.reg_line.specs.Base.{is_base}
 use Rattle.reg_model.specs.Registry.{Text, Registry, owner_cmp, mark_cmp, text_cmp, empty_at}
 use Rattle.reg_model.specs.Events.{Asked, Event, Answer}
 use Rattle.reg_model.specs.Events.Asked.{Faulty, Read, Index, Download, ListOwners, Publish, Yank, Unyank, AddOwners, RemoveOwners}

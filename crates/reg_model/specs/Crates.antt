@@ -1,12 +1,12 @@
 -- What a state says of one crate. A name stands for each that has its canonical text.
 use Rattle.std.specs.Prelude.{ℕ, ◌||◌, Bool, List, [], ◌∷◌, map, codes, Option}
 use Rattle.std.specs.Option.{option_map}
-use Rattle.std.specs.List.{find, list_any, filter, concat, enumerate_from}
+use Rattle.std.specs.List.{find, list_any, filter, enumerate_from}
 use Rattle.std.specs.Str.{bytes_eq}
 use Rattle.std.specs.FinSet as finset
 use Rattle.reg_names.specs.Names.{canon}
 use Rattle.reg_versions.specs.Versions.{release_key_of}
-use Rattle.reg_model.specs.Borrowed.{line_of}
+use Rattle.reg_line.specs.File.{file_text}
 use Rattle.reg_model.specs.Registry.{Text, Account, Publication, Registry, text_cmp}
 
 -- two names collide: they are names of one crate
@@ -49,7 +49,7 @@ is_yanked s n v = finset.contains s.yanked (canon n, v)
 
 -- the index file of a crate: a line for each version, in order
 abbrev pub file : Registry → Text → Text
-file s n = concat (map (λ p. line_of p.stem (is_yanked s n p.version)) (versions s n))
+file s n = file_text (map (λ p. (p.stem, is_yanked s n p.version)) (versions s n))
 
 -- what a file is but for its yanked marks
 abbrev pub stems : Registry → Text → List Text

@@ -3,7 +3,7 @@ use Rattle.std.specs.Prelude.{◌≡◌, ◌≢◌, true, List, [], ◌∷◌, �
 use Rattle.reg_model.specs.declared.rule.Rule.{Rule}
 use Rattle.reg_model.specs.declared.rule.AdminRefusal.{AdminRefusal}
 use Rattle.reg_body.specs.declared.limits.Limits.{Limits}
-use Rattle.reg_model.specs.Borrowed.{is_base}
+use Rattle.reg_line.specs.Base.{is_base}
 use Rattle.reg_model.specs.Registry.{Text, Registry, empty_at}
 use Rattle.reg_model.specs.Crates.{stems}
 use Rattle.reg_model.specs.Events.{Event, Answer}

@@ -1,4 +1,3 @@
-pub mod Borrowed
 pub mod Registry
 pub mod Crates
 pub mod Actions

@@ -9,7 +9,7 @@ use Rattle.reg_names.specs.Logins.{is_login}
 use Rattle.reg_names.specs.Patterns.{is_pattern}
 use Rattle.reg_model.specs.declared.endpoint.Endpoints.{Endpoints}
 use Rattle.reg_versions.specs.Versions.{release_key_of}
-use Rattle.reg_model.specs.Borrowed.{is_base}
+use Rattle.reg_line.specs.Base.{is_base}
 use Rattle.reg_model.specs.Registry.{Text, Account, Token, Publication, Registry, with_id, holds}
 use Rattle.reg_model.specs.Crates.{has_crate, first, is_reserved_always}
 use Rattle.reg_model.specs.Refusals.{may_name}

@@ -8,7 +8,7 @@ use Rattle.reg_model.specs.declared.rule.AdminRefusal.{AdminRefusal}
 use Rattle.reg_model.specs.declared.rule.AdminRefusal.TheVariants as refusal
 use Rattle.reg_versions.specs.Versions.{is_version}
 use Rattle.reg_body.specs.declared.limits.Limits.{Limits}
-use Rattle.reg_model.specs.Borrowed.{IsStemOf}
+use Rattle.reg_line.specs.StemCheck.{IsStemOf}
 use Rattle.reg_model.specs.Registry.{Publication, Registry}
 use Rattle.reg_model.specs.Events.{Event, Answer}
 use Rattle.reg_model.specs.Events.Asked.{Publish}
