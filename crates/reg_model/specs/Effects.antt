@@ -70,8 +70,7 @@ commanded s (Reserve n) = if is_reserved_always (canon n) then s else record s {
 commanded s (Unreserve n) = record s { reserved = finset.remove s.reserved (canon n) }
 commanded s (OwnerAdd n login) = record s { owners = finset.union s.owners (owners_of n (ids_of s (login ∷ []))) }
 
--- What it is answered: whoever adds an account or a token is told its id.
+-- What it is answered: whoever adds a token is told its id.
 abbrev pub replied : Registry → Command → Answer
-replied s (UserAdd login name) = Id (length s.accounts + 1)
 replied s (TokenAdd login words patterns digest) = Id (length s.tokens + 1)
 replied s _ = Done

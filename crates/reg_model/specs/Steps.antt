@@ -1,5 +1,5 @@
 -- One step of a registry, and runs of steps.
-use Rattle.std.specs.Prelude.{◌≡◌, ◌⊎◌, true, List, [], ◌∷◌, length, Option, Some, None}
+use Rattle.std.specs.Prelude.{◌≡◌, ◌⊎◌, Bool, true, false, List, [], ◌∷◌, length, Option, Some, None}
 use Rattle.reg_names.specs.Names.{is_name}
 use Rattle.sha2.specs.Sha256.{sha256}
 use Rattle.reg_model.specs.declared.rule.Rule.{Rule}
@@ -11,7 +11,7 @@ use Rattle.reg_body.specs.declared.limits.Limits.{Limits}
 use Rattle.reg_line.specs.StemCheck.{IsStemOf}
 use Rattle.reg_model.specs.Registry.{Publication, Registry}
 use Rattle.reg_model.specs.Events.{Event, Answer}
-use Rattle.reg_model.specs.Events.Asked.{Publish}
+use Rattle.reg_model.specs.Events.Asked.{Faulty, Publish}
 use Rattle.reg_model.specs.Events.Command.{TokenAdd}
 use Rattle.reg_model.specs.Events.Event.{Ask, Order}
 use Rattle.reg_model.specs.Events.Answer.{Denied, Refused}
@@ -52,8 +52,23 @@ pub record IsGenuine (p : Publication) : Type 0 where
   pub digest : sha256 p.archive ≡ p.digest
   pub stem : IsStemOf p.stem p.name p.version p.digest
 
--- what an event may bring: a publication is genuine, and the digest of a token has 32 bytes
+-- the rules that a body or a query breaks by itself, whatever the state
+abbrev pub is_own_rule : Rule → Bool
+is_own_rule rule.B1 = true
+is_own_rule rule.B2 = true
+is_own_rule rule.B3 = true
+is_own_rule rule.B4 = true
+is_own_rule rule.B5 = true
+is_own_rule rule.N1 = true
+is_own_rule rule.V1 = true
+is_own_rule rule.M1 = true
+is_own_rule rule.O1 = true
+is_own_rule rule.Q1 = true
+is_own_rule _ = false
+
+-- what an event may bring: a faulty body or query breaks a rule of its own, a publication is genuine, and the digest of a token has 32 bytes
 abbrev pub IsFit : Event → Type 0
+IsFit (Ask digest (Faulty r)) = is_own_rule r ≡ true
 IsFit (Ask digest (Publish p)) = IsGenuine p
 IsFit (Order (TokenAdd login words patterns digest)) = length digest ≡ 32
 IsFit _ = Unit {0}
