@@ -25,13 +25,13 @@ impl Model for Pattern {
     ghost invariant = { λ p. is_pattern p.text.bytes ≡ true };
 }
 
-fn has_star(bytes: &[u8]) -> bool
+pub(crate) fn has_star(bytes: &[u8]) -> bool
     ensures { result ≡ has_star bytes.now }
 {
     bytes.ends_with(b"*")
 }
 
-fn prefix_of(bytes: &[u8]) -> &[u8]
+pub(crate) fn prefix_of(bytes: &[u8]) -> &[u8]
     ensures { result.now ≡ prefix_of bytes.now }
 {
     if bytes.is_empty() {
