@@ -80,6 +80,31 @@ fn renamed_dependency_refusals(rt: HostRuntime) {
     }
 }
 
+/// The text with `old`, where it stands first, replaced by `new`.
+fn replaced(alloc: Global, text: &str, old: &str, new: &str) -> Result<String, Fail> {
+    let (before, after) = text.split_once(old).ok_or("the old text")?;
+    let mut whole = String::from_str(alloc, before)?;
+    whole.push_str(new)?;
+    whole.push_str(after)?;
+    Ok(whole)
+}
+
+#[test]
+fn renamed_dependency_altered(rt: HostRuntime) -> Result<(), Fail> {
+    let alloc = rt.alloc();
+    let other_kind = replaced(alloc, RENAMED_JSON, "\"normal\"", "\"test\"")?;
+    assert_eq!(rt;
+        fault(alloc, other_kind.as_bytes()),
+        Some(ManifestFault::Dependency)
+    );
+    let no_list = replaced(alloc, RENAMED_JSON, "\"deps\":[", "\"deps\":{},\"x\":[")?;
+    assert_eq!(rt;
+        fault(alloc, no_list.as_bytes()),
+        Some(ManifestFault::Field)
+    );
+    Ok(())
+}
+
 #[test]
 fn first_fault(rt: HostRuntime) {
     for (json, want) in [
@@ -108,77 +133,79 @@ fn first_fault(rt: HostRuntime) {
     }
 }
 
-/// What a reader of JSON may get wrong.
+/// What a reader of JSON may get wrong, and the fault.
+const JSON_TEXTS: [(&[u8], Option<ManifestFault>); 19] = [
+    // Of a key that is written twice the last value counts, of whatever kind.
+    (
+        b"{\"name\":\"a\",\"vers\":\"1.0.0\",\"deps\":{},\"deps\":[]}",
+        None,
+    ),
+    (
+        b"{\"name\":\"a\",\"vers\":\"1.0.0\",\"deps\":[],\"deps\":{}}",
+        Some(ManifestFault::Field),
+    ),
+    (b"{\"name\":\"1\",\"name\":\"a\",\"vers\":\"1.0.0\"}", None),
+    // Escapes, in keys too; a pair of surrogates is one character, a lone one is none.
+    (b"{\"n\\u0061me\":\"\\u0061\",\"vers\":\"1.0.0\"}", None),
+    (
+        b"{\"name\":\"a\",\"vers\":\"1.0.0\",\"links\":\"\\ud83d\\ude00\"}",
+        None,
+    ),
+    (
+        b"{\"name\":\"a\",\"vers\":\"1.0.0\",\"links\":\"\\ud83d\"}",
+        Some(ManifestFault::NotJson),
+    ),
+    (
+        b"{\"name\":\"a\",\"vers\":\"1.0.0\",\"links\":\"\\ude00\\ud83d\"}",
+        Some(ManifestFault::NotJson),
+    ),
+    (
+        b"{\"name\":\"a\",\"vers\":\"1.0.0\",\"links\":\"\\x61\"}",
+        Some(ManifestFault::NotJson),
+    ),
+    // Control characters have to be escaped.
+    (
+        b"{\"name\":\"a\",\"vers\":\"1.0.0\",\"links\":\"\x01\"}",
+        Some(ManifestFault::NotJson),
+    ),
+    (
+        b"{\"name\":\"a\",\"vers\":\"1.0.0\",\"links\":\"\\u0001\"}",
+        None,
+    ),
+    // Numbers past 64 bits in an unknown field are numbers; one past every float is none.
+    (
+        b"{\"name\":\"a\",\"vers\":\"1.0.0\",\"x\":99999999999999999999999}",
+        None,
+    ),
+    (
+        b"{\"name\":\"a\",\"vers\":\"1.0.0\",\"x\":1e999}",
+        Some(ManifestFault::NotJson),
+    ),
+    (b"{\"name\":\"a\",\"vers\":\"1.0.0\",\"x\":0e999}", None),
+    (
+        b"{\"name\":\"a\",\"vers\":\"1.0.0\",\"x\":01}",
+        Some(ManifestFault::NotJson),
+    ),
+    // A byte-order mark, bytes behind the value, bytes that are no UTF-8.
+    (
+        b"\xef\xbb\xbf{\"name\":\"a\",\"vers\":\"1.0.0\"}",
+        Some(ManifestFault::NotJson),
+    ),
+    (b"{\"name\":\"a\",\"vers\":\"1.0.0\"} \n", None),
+    (
+        b"{\"name\":\"a\",\"vers\":\"1.0.0\"}x",
+        Some(ManifestFault::NotJson),
+    ),
+    (
+        b"{\"name\":\"a\",\"vers\":\"1.0.0\",\"x\":\"\xff\"}",
+        Some(ManifestFault::NotJson),
+    ),
+    (b"", Some(ManifestFault::NotJson)),
+];
+
 #[test]
 fn json_texts(rt: HostRuntime) {
-    for (json, want) in [
-        // Of a key that is written twice the last value counts, of whatever kind.
-        (
-            b"{\"name\":\"a\",\"vers\":\"1.0.0\",\"deps\":{},\"deps\":[]}".as_slice(),
-            None,
-        ),
-        (
-            b"{\"name\":\"a\",\"vers\":\"1.0.0\",\"deps\":[],\"deps\":{}}",
-            Some(ManifestFault::Field),
-        ),
-        (b"{\"name\":\"1\",\"name\":\"a\",\"vers\":\"1.0.0\"}", None),
-        // Escapes, in keys too; a pair of surrogates is one character, a lone one is none.
-        (b"{\"n\\u0061me\":\"\\u0061\",\"vers\":\"1.0.0\"}", None),
-        (
-            b"{\"name\":\"a\",\"vers\":\"1.0.0\",\"links\":\"\\ud83d\\ude00\"}",
-            None,
-        ),
-        (
-            b"{\"name\":\"a\",\"vers\":\"1.0.0\",\"links\":\"\\ud83d\"}",
-            Some(ManifestFault::NotJson),
-        ),
-        (
-            b"{\"name\":\"a\",\"vers\":\"1.0.0\",\"links\":\"\\ude00\\ud83d\"}",
-            Some(ManifestFault::NotJson),
-        ),
-        (
-            b"{\"name\":\"a\",\"vers\":\"1.0.0\",\"links\":\"\\x61\"}",
-            Some(ManifestFault::NotJson),
-        ),
-        // Control characters have to be escaped.
-        (
-            b"{\"name\":\"a\",\"vers\":\"1.0.0\",\"links\":\"\x01\"}",
-            Some(ManifestFault::NotJson),
-        ),
-        (
-            b"{\"name\":\"a\",\"vers\":\"1.0.0\",\"links\":\"\\u0001\"}",
-            None,
-        ),
-        // Numbers past 64 bits in an unknown field are numbers; one past every float is none.
-        (
-            b"{\"name\":\"a\",\"vers\":\"1.0.0\",\"x\":99999999999999999999999}",
-            None,
-        ),
-        (
-            b"{\"name\":\"a\",\"vers\":\"1.0.0\",\"x\":1e999}",
-            Some(ManifestFault::NotJson),
-        ),
-        (b"{\"name\":\"a\",\"vers\":\"1.0.0\",\"x\":0e999}", None),
-        (
-            b"{\"name\":\"a\",\"vers\":\"1.0.0\",\"x\":01}",
-            Some(ManifestFault::NotJson),
-        ),
-        // A byte-order mark, bytes behind the value, bytes that are no UTF-8.
-        (
-            b"\xef\xbb\xbf{\"name\":\"a\",\"vers\":\"1.0.0\"}",
-            Some(ManifestFault::NotJson),
-        ),
-        (b"{\"name\":\"a\",\"vers\":\"1.0.0\"} \n", None),
-        (
-            b"{\"name\":\"a\",\"vers\":\"1.0.0\"}x",
-            Some(ManifestFault::NotJson),
-        ),
-        (
-            b"{\"name\":\"a\",\"vers\":\"1.0.0\",\"x\":\"\xff\"}",
-            Some(ManifestFault::NotJson),
-        ),
-        (b"", Some(ManifestFault::NotJson)),
-    ] {
+    for (json, want) in JSON_TEXTS {
         assert_eq!(rt; fault(rt.alloc(), json), want, "{json:?}");
     }
 }
