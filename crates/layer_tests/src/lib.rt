@@ -12,4 +12,6 @@ mod memory;
 #[cfg(test)]
 mod names;
 #[cfg(test)]
+mod patterns;
+#[cfg(test)]
 mod versions;

@@ -3,6 +3,7 @@
 use reg_body::{JoinFault, join};
 use reg_line::{Entry, check_stem, config, digest_of, file, line, stem};
 use reg_manifest::{ManifestFault, read_manifest};
+use reg_names::{Pattern, compile};
 use reg_versions::{Release, VersionFault};
 use std::alloc::{AllocError, Global};
 use std::test::Fail;
@@ -72,6 +73,17 @@ fn reads_a_version(alloc: Global) -> Result<bool, AllocError> {
 #[test]
 fn reading_a_version(rt: HostRuntime) -> Result<(), Fail> {
     let tally = each_amount(rt.alloc(), 16, |alloc| reads_a_version(alloc))?;
+    assert!(rt; tally.is_right());
+    Ok(())
+}
+
+#[test]
+fn compiling_a_pattern(rt: HostRuntime) -> Result<(), Fail> {
+    let text = "a-pattern-of-some-length-whose-range-takes-memory-for-two-texts*";
+    let pattern = Pattern::parse(text).ok_or("a pattern")?;
+    let tally = each_amount(rt.alloc(), 16, |alloc| {
+        Ok(compile(alloc, &pattern)?.high.as_str().len() == 64)
+    })?;
     assert!(rt; tally.is_right());
     Ok(())
 }

@@ -207,6 +207,30 @@ fn refusals(rt: HostRuntime) -> Result<(), Fail> {
     Ok(())
 }
 
+/// Metadata whose unknown field nests so many lists.
+fn nested_body(alloc: Global, levels: u32) -> Result<Vec<u8>, Fail> {
+    let mut json = Vec::new(alloc);
+    json.extend_from_slice(b"{\"name\":\"a\",\"vers\":\"1.0.0\",\"x\":")?;
+    for _ in 0..levels {
+        json.push(b'[')?;
+    }
+    for _ in 0..levels {
+        json.push(b']')?;
+    }
+    json.push(b'}')?;
+    Ok(join(alloc, &json, b"")?)
+}
+
+#[test]
+fn deep_nesting(rt: HostRuntime) -> Result<(), Fail> {
+    let (exit, printed) = line_on(rt.alloc(), &nested_body(rt.alloc(), 130)?);
+    assert!(rt; exit.status == 1 && exit.words == "B4 metadata is not JSON");
+    assert!(rt; printed.is_empty());
+    let (exit, _) = line_on(rt.alloc(), &nested_body(rt.alloc(), 126)?);
+    assert!(rt; exit == DONE);
+    Ok(())
+}
+
 #[test]
 fn frame_faults(rt: HostRuntime) {
     for (bytes, words) in [
