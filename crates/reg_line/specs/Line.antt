@@ -41,11 +41,11 @@ deps_data ds = array (items_of (map dep_data ds))
 -- ---- the line
 
 -- a line without newer features
-abbrev pub short_members : Data → Metadata → List ℕ → Bool → Members
+abbrev pub short_members : Members → Metadata → List ℕ → Bool → Members
 short_members features m cksum yanked =
     member (codes "cksum") (string cksum)
     (member (codes "deps") (deps_data m.deps)
-    (member (codes "features") features
+    (member (codes "features") (object features)
     (member (codes "links") (text_or_null m.links)
     (member (codes "name") (string m.name)
     (member (codes "rust_version") (text_or_null m.rust_version)
@@ -53,12 +53,12 @@ short_members features m cksum yanked =
     (member (codes "yanked") (boolean yanked) no_members)))))))
 
 -- a line with newer features
-abbrev pub long_members : Data → Data → Metadata → List ℕ → Bool → Members
+abbrev pub long_members : Members → Members → Metadata → List ℕ → Bool → Members
 long_members features features2 m cksum yanked =
     member (codes "cksum") (string cksum)
     (member (codes "deps") (deps_data m.deps)
-    (member (codes "features") features
-    (member (codes "features2") features2
+    (member (codes "features") (object features)
+    (member (codes "features2") (object features2)
     (member (codes "links") (text_or_null m.links)
     (member (codes "name") (string m.name)
     (member (codes "rust_version") (text_or_null m.rust_version)
@@ -68,8 +68,8 @@ long_members features features2 m cksum yanked =
 
 -- `features2` and `v` stand only where there are newer features
 abbrev pub line_members : Features → Features → Metadata → List ℕ → Bool → Members
-line_members olds [] m cksum yanked = short_members (object (feature_members olds)) m cksum yanked
-line_members olds (f ∷ fs) m cksum yanked = long_members (object (feature_members olds)) (object (feature_members (f ∷ fs))) m cksum yanked
+line_members olds [] m cksum yanked = short_members (feature_members olds) m cksum yanked
+line_members olds (f ∷ fs) m cksum yanked = long_members (feature_members olds) (feature_members (f ∷ fs)) m cksum yanked
 
 -- the line's value, its checksum the digest in lower-case hex
 unfoldable pub line_data : Metadata → List ℕ → Bool → Data

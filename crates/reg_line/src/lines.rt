@@ -1,72 +1,54 @@
 //! The line of a manifest, and its stem.
 
-ghost use Rattle.std.specs.Prelude.{◌≡◌, IfOk, string_cmp};
+ghost use Rattle.std.specs.Prelude.{◌≡◌, IfOk, OnOk, codes, string_cmp};
 ghost use Rattle.std.specs.BTreeMap.{IsOrdered};
-ghost use Rattle.serde_json.specs.Data.{object};
-ghost use Rattle.serde_json.specs.View.{view};
+ghost use Rattle.serde_json.specs.Data.{number, object, put, unsigned};
+ghost use Rattle.serde_json.specs.View.{members_view, view};
 ghost use Rattle.reg_manifest.specs.Manifests.{manifest_view};
-ghost use Rattle.reg_line.specs.Line.{IsStem, line_data, line_json, line_text, long_members, short_members};
+ghost use Rattle.reg_line.specs.Line.{IsStem, line_data, line_json, line_text, short_members};
 
 use crate::digests::{Digest, hex_text};
 use crate::features::feature_maps;
-use crate::values::{dep_values, text_or_null};
+use crate::values::{dep_values, put_text, text_or_null};
 use reg_manifest::Manifest;
-use serde_json::{Value, json};
+use serde_json::{Map, Value, put};
 use std::alloc::{AllocError, Global};
 
-fn short_line(
+/// The members of a line, newer features aside.
+fn members(
     alloc: Global,
     manifest: &Manifest,
-    features: Value,
+    features: Map<String, Value>,
     cksum: &str,
     yanked: bool,
-) -> Result<Value, AllocError>
-    ensures { IfOk result (λ v. view v ≡ object (short_members (view features) (manifest_view manifest.now) cksum.now yanked)) }
+) -> Result<Map<String, Value>, AllocError>
+    ensures { IfOk result (λ line. members_view line.entries ≡ short_members (members_view features.entries) (manifest_view manifest.now) cksum.now yanked) }
 {
     let deps = dep_values(alloc, &manifest.deps)?;
     let links = text_or_null(alloc, &manifest.links)?;
-    let name = manifest.name.as_str();
     let rust_version = text_or_null(alloc, &manifest.rust_version)?;
-    let vers = manifest.vers.as_str();
-    json!(in alloc; {
-        "cksum": cksum,
-        "deps": deps,
-        "features": features,
-        "links": links,
-        "name": name,
-        "rust_version": rust_version,
-        "vers": vers,
-        "yanked": yanked
-    })
+    let mut line = Map::new(alloc);
+    put_text(&mut line, alloc, "cksum", cksum)?;
+    put(&mut line, alloc, "deps", Value::Array(deps))?;
+    put(&mut line, alloc, "features", Value::Object(features))?;
+    put(&mut line, alloc, "links", links)?;
+    put_text(&mut line, alloc, "name", manifest.name.as_str())?;
+    put(&mut line, alloc, "rust_version", rust_version)?;
+    put_text(&mut line, alloc, "vers", manifest.vers.as_str())?;
+    put(&mut line, alloc, "yanked", Value::Bool(yanked))?;
+    Ok(line)
 }
 
-fn long_line(
+/// Puts the newer features into a line, and the format that they ask for.
+fn put_newer(
     alloc: Global,
-    manifest: &Manifest,
-    features: Value,
-    features2: Value,
-    cksum: &str,
-    yanked: bool,
-) -> Result<Value, AllocError>
-    ensures { IfOk result (λ v. view v ≡ object (long_members (view features) (view features2) (manifest_view manifest.now) cksum.now yanked)) }
+    line: &mut Map<String, Value>,
+    newer: Map<String, Value>,
+) -> Result<(), AllocError>
+    ensures { OnOk result (members_view line.new.entries ≡ put (codes "v") (number (unsigned 2)) (put (codes "features2") (object (members_view newer.entries)) (members_view line.old.entries))) }
 {
-    let deps = dep_values(alloc, &manifest.deps)?;
-    let links = text_or_null(alloc, &manifest.links)?;
-    let name = manifest.name.as_str();
-    let rust_version = text_or_null(alloc, &manifest.rust_version)?;
-    let vers = manifest.vers.as_str();
-    json!(in alloc; {
-        "cksum": cksum,
-        "deps": deps,
-        "features": features,
-        "features2": features2,
-        "links": links,
-        "name": name,
-        "rust_version": rust_version,
-        "v": 2,
-        "vers": vers,
-        "yanked": yanked
-    })
+    put(line, alloc, "features2", Value::Object(newer))?;
+    put(line, alloc, "v", Value::from(2u64))
 }
 
 #[tactic(auto, unfolding(crate::specs::Line::line_data))]
@@ -81,13 +63,12 @@ fn line_value(
 {
     let (older, newer) = feature_maps(alloc, &manifest.features)?;
     let cksum = hex_text(alloc, digest)?;
-    let features = Value::Object(older);
+    let mut line = members(alloc, manifest, older, cksum.as_str(), yanked)?;
     if newer.is_empty() {
-        short_line(alloc, manifest, features, cksum.as_str(), yanked)
-    } else {
-        let features2 = Value::Object(newer);
-        long_line(alloc, manifest, features, features2, cksum.as_str(), yanked)
+        return Ok(Value::Object(line));
     }
+    put_newer(alloc, &mut line, newer)?;
+    Ok(Value::Object(line))
 }
 
 /// The line without its line feed.

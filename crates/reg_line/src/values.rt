@@ -1,13 +1,13 @@
 //! The parts of a line as JSON values.
 
-ghost use Rattle.std.specs.Prelude.{◌≡◌, IfOk, map, option_map, string_bytes};
-ghost use Rattle.serde_json.specs.Data.{string};
-ghost use Rattle.serde_json.specs.View.{view};
+ghost use Rattle.std.specs.Prelude.{◌≡◌, IfOk, OnOk, map, option_map, string_bytes};
+ghost use Rattle.serde_json.specs.Data.{put, string};
+ghost use Rattle.serde_json.specs.View.{members_view, view};
 ghost use Rattle.reg_manifest.specs.Manifests.{dep_view};
 ghost use Rattle.reg_line.specs.Line.{dep_data, dep_object, text_or_null};
 
 use reg_manifest::Dep;
-use serde_json::{Value, json};
+use serde_json::{Map, Value, json, put};
 use std::alloc::{AllocError, Global};
 
 /// A text that may be null.
@@ -18,6 +18,18 @@ pub(crate) fn text_or_null(alloc: Global, text: &Option<String>) -> Result<Value
         Some(text) => Value::try_from_str(alloc, text.as_str()),
         None => Ok(Value::Null),
     }
+}
+
+/// Puts a text at a key.
+pub(crate) fn put_text(
+    object: &mut Map<String, Value>,
+    alloc: Global,
+    key: &str,
+    text: &str,
+) -> Result<(), AllocError>
+    ensures { OnOk result (members_view object.new.entries ≡ put key.now (string text.now) (members_view object.old.entries)) }
+{
+    put(object, alloc, key, Value::try_from_str(alloc, text)?)
 }
 
 /// Each of some texts.
