@@ -72,10 +72,10 @@ pub fn members(value: &Value) -> Result<&Map<String, Value>, ManifestFault>
 pub fn required_text(alloc: Global, object: &Value, key: &str) -> Result<String, ManifestFault>
     ensures { Gives (λ s. string_bytes s) result (required text_of (field key.now (view object.now))) }
 {
-    match field(object, key) {
-        Some(value) => text(alloc, value),
-        None => Err(ManifestFault::Field),
-    }
+    let Some(value) = field(object, key) else {
+        return Err(ManifestFault::Field);
+    };
+    text(alloc, value)
 }
 
 /// A text with another for null.
