@@ -1,9 +1,10 @@
 //! The line of a manifest, and its stem.
 
-ghost use Rattle.std.specs.Prelude.{◌≡◌, IfOk, OnOk, codes, string_cmp};
+ghost use Rattle.std.specs.Prelude.{◌≡◌, IfOk, OnOk, codes, false, string_cmp};
 ghost use Rattle.std.specs.BTreeMap.{IsOrdered};
 ghost use Rattle.serde_json.specs.Data.{number, object, put, unsigned};
 ghost use Rattle.serde_json.specs.View.{members_view, view};
+ghost use Rattle.serde_json.specs.Written.{compact_text, has_float};
 ghost use Rattle.reg_manifest.specs.Manifests.{manifest_view};
 ghost use Rattle.reg_line.specs.Line.{IsStem, line_data, line_json, line_text, short_members};
 
@@ -71,6 +72,14 @@ fn line_value(
     Ok(Value::Object(line))
 }
 
+/// The text of a value that has no float.
+fn written(alloc: Global, value: &Value) -> Result<Vec<u8>, AllocError>
+    requires { has_float (view value.now) ≡ false }
+    ensures { IfOk result (λ text. text.items ≡ compact_text (view value.now)) }
+{
+    value.to_vec(alloc)
+}
+
 /// The line without its line feed.
 pub(crate) fn line_json(
     alloc: Global,
@@ -81,7 +90,8 @@ pub(crate) fn line_json(
     ensures text { IfOk result (λ v. v.items ≡ line_json (manifest_view manifest.now) digest.now yanked) }
     ensures ordered { IsOrdered string_cmp manifest.now.features }
 {
-    line_value(alloc, manifest, digest, yanked)?.to_vec(alloc)
+    let value = line_value(alloc, manifest, digest, yanked)?;
+    written(alloc, &value)
 }
 
 /// The index line of a manifest whose archive has this digest, with its line feed.

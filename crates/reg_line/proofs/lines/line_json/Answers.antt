@@ -6,8 +6,11 @@ use Rattle.reg_line.specs.Line.{line_json}
 use Rattle.reg_line.proofs.NoFloat.{line-no_float}
 use Rattle.reg_line.proofs.lines.line_json.Goals as goal
 
+pub written-requires : goal.written-requires
+written-requires c = ap has_float c.in_ok-value.ensures.value ∙ line-no_float (manifest_view c.args.manifest.now) c.args.digest.now c.args.yanked
+
 pub returns-clause-text : goal.returns-clause-text
 unfolding line_json
-returns-clause-text c = IfOk-weaker c.to_vec.result _ _
-    (λ v h. h (ap has_float c.in_ok-line_value.ensures.value ∙ line-no_float (manifest_view c.args.manifest.now) c.args.digest.now c.args.yanked) ∙ ap compact_text c.in_ok-line_value.ensures.value)
-    c.to_vec.ensures.text
+returns-clause-text c = IfOk-weaker c.written.result _ _
+    (λ v h. h ∙ ap compact_text c.in_ok-value.ensures.value)
+    c.written.ensures
