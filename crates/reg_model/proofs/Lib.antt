@@ -11,3 +11,4 @@ pub mod SoundOwners
 pub mod SoundMarks
 pub mod SoundCommands
 pub mod Soundness
+pub mod IndexPaths

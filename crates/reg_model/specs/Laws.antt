@@ -1,11 +1,16 @@
 -- The laws of steps and runs.
-use Rattle.std.specs.Prelude.{◌≡◌, ◌≢◌, true, List, [], ◌∷◌, ◌++◌}
+use Rattle.std.specs.Prelude.{◌≡◌, ◌≢◌, ◌↔◌, true, false, List, [], ◌∷◌, ◌++◌, Some}
+use Rattle.reg_names.specs.Names.{path_of}
 use Rattle.reg_model.specs.declared.rule.Rule.{Rule}
 use Rattle.reg_model.specs.declared.rule.AdminRefusal.{AdminRefusal}
 use Rattle.reg_body.specs.declared.limits.Limits.{Limits}
 use Rattle.reg_line.specs.Base.{is_base}
 use Rattle.reg_model.specs.Registry.{Text, Registry, empty_at}
-use Rattle.reg_model.specs.Crates.{stems}
+use Rattle.reg_model.specs.Crates.{first, stems}
+use Rattle.reg_model.specs.declared.rule.Rule.TheVariants as rule
+use Rattle.reg_model.specs.Actions.Action.{Index}
+use Rattle.reg_model.specs.Facts.{facts}
+use Rattle.reg_model.specs.Rules.{broken}
 use Rattle.reg_model.specs.Events.{Event, Answer}
 use Rattle.reg_model.specs.Events.Answer.{Denied, Refused}
 use Rattle.reg_model.specs.Steps.{IsFit, Step, Run, no_room}
@@ -45,3 +50,7 @@ RunsKeepSound = (limits : Limits) (s t : Registry) (es : List Event) (xs : List 
 -- nothing but a base is sound
 abbrev pub EmptySound : Type 0
 EmptySound = (base : Text) → is_base base ≡ true → Sound (empty_at base)
+
+-- the rule on index paths passes where the path is that of the spelling of a crate that is there
+abbrev pub IndexPathsAreOfCrates : Type 0
+IndexPathsAreOfCrates = (limits : Limits) (s : Registry) (digest path : Text) → Sound s → (broken (facts limits s digest (Index path)) (Index path) rule.A8 ≡ false) ↔ ((n f : Text) × (first s n ≡ Some f) × (path_of f ≡ path))

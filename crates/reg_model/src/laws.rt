@@ -1,6 +1,6 @@
 //! Laws of the definitions, each the contract of a function that does nothing.
 
-ghost use Rattle.reg_model.specs.Laws.{DenialsKeep, EmptySound, RefusalsKeep, RunsJoin, RunsKeepSound, StemsGrow, StepsAgree, StepsKeepSound, StepsRun};
+ghost use Rattle.reg_model.specs.Laws.{DenialsKeep, EmptySound, IndexPathsAreOfCrates, RefusalsKeep, RunsJoin, RunsKeepSound, StemsGrow, StepsAgree, StepsKeepSound, StepsRun};
 
 /// Steps in a row are a run.
 pub fn run_law()
@@ -29,4 +29,9 @@ pub fn soundness_law()
     ensures empty { EmptySound }
     ensures step { StepsKeepSound }
     ensures run { RunsKeepSound }
+{}
+
+/// An index path is allowed exactly where it is that of the spelling of a crate that is there.
+pub fn index_law()
+    ensures { IndexPathsAreOfCrates }
 {}

@@ -86,3 +86,26 @@ named_at r path says = by (is_path_of (last_part path) path) refl
         let k = and_parts (is_name (last_part path)) _ h.0 in
         (says (last_part path)).1 (k.0, (bytes_eq-Decides _ _).0 k.1, (bytes_eq-Decides _ _).0 h.1)
     by false e = none r refl e
+
+the_some : {X : Type 0} {x y : X} → Some x ≡ Some y → x ≡ y
+the_some e = cc
+
+-- a path's name is the lower-case name whose path it is
+pub at_path : (n path : List ℕ) → is_name n ≡ true → lower n ≡ n → path_of n ≡ path → name_at path ≡ Some n
+at_path n path name low at =
+    let same : last_part path ≡ n = ap last_part (sym at) ∙ last_of_path n name low in
+    let here : is_path_of (last_part path) path ≡ true = ap (λ m. is_path_of m path) same ∙ and_from _ _ (and_from _ _ name ((bytes_eq-Decides (lower n) n).1 low)) ((bytes_eq-Decides (path_of n) path).1 at) in
+    ap (λ b. cond b (Some (last_part path)) None) here ∙ ap Some same
+
+pub path_at : (n path : List ℕ) → name_at path ≡ Some n → (is_name n ≡ true) × (lower n ≡ n) × (path_of n ≡ path)
+path_at n path e = by (is_path_of (last_part path) path) refl e
+  where
+    parts : (m : List ℕ) → is_path_of m path ≡ true → (is_name m ≡ true) × (lower m ≡ m) × (path_of m ≡ path)
+    parts m t =
+        let h = and_parts (is_name m && _) _ t in
+        let k = and_parts (is_name m) _ h.0 in
+        (k.0, (bytes_eq-Decides _ _).0 k.1, (bytes_eq-Decides _ _).0 h.1)
+
+    by : (b : Bool) → is_path_of (last_part path) path ≡ b → cond b (Some (last_part path)) None ≡ Some n → (is_name n ≡ true) × (lower n ≡ n) × (path_of n ≡ path)
+    by true t f = let same : last_part path ≡ n = the_some f in parts n (ap (λ m. is_path_of m path) (sym same) ∙ t)
+    by false t f = cc

@@ -6,7 +6,7 @@ use Rattle.std.proofs.lemmas.Str.{IsUtf8-from_ascii}
 use Rattle.std.specs.List.{list_all}
 use Rattle.std.specs.Str.{IsAscii, IsUtf8}
 use Rattle.std.specs.Char.{is_ascii_alphabetic, to_ascii_lowercase}
-use Rattle.reg_names.specs.Names.{is_name_byte, is_name, lower, name_of}
+use Rattle.reg_names.specs.Names.{canon, canon_byte, is_name_byte, is_name, lower, name_of}
 
 pub name_byte_ascii : (b : ℕ) → is_name_byte b ≡ true → b < 128
 name_byte_ascii b e = grind arith
@@ -45,3 +45,17 @@ name_of-name t e = rw e refl
 
 pub name_utf8 : (t : List ℕ) → is_name t ≡ true → IsUtf8 t
 name_utf8 t e = IsUtf8-from_ascii t (name_ascii t e)
+
+lower_once : (b : ℕ) → to_ascii_lowercase (to_ascii_lowercase b) ≡ to_ascii_lowercase b
+lower_once b = grind arith
+
+canon_lower_byte : (b : ℕ) → canon_byte (to_ascii_lowercase b) ≡ canon_byte b
+canon_lower_byte b = grind arith
+
+pub lower-lower : (t : List ℕ) → lower (lower t) ≡ lower t
+lower-lower [] = refl
+lower-lower (b ∷ t) = λ i. lower_once b i ∷ lower-lower t i
+
+pub canon-lower : (t : List ℕ) → canon (lower t) ≡ canon t
+canon-lower [] = refl
+canon-lower (b ∷ t) = λ i. canon_lower_byte b i ∷ canon-lower t i

@@ -65,4 +65,11 @@ impl Login {
     {
         self.text.as_str()
     }
+
+    /// The same login once more.
+    pub fn copy(&self) -> Login
+        ensures { result ≡ self.now }
+    {
+        Login { text: self.text }
+    }
 }

@@ -74,6 +74,13 @@ impl CrateName {
     {
         self.text.as_str()
     }
+
+    /// The same name once more.
+    pub fn copy(&self) -> CrateName
+        ensures { result ≡ self.now }
+    {
+        CrateName { text: self.text }
+    }
 }
 
 /// The name in ASCII lower case, as index paths spell it.
