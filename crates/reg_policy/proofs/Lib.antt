@@ -1,1 +1,7 @@
 pub mod Lists
+pub mod Joined
+pub mod Allowed
+pub mod Listed
+pub mod SetViews
+pub mod Published
+pub mod RowFacts

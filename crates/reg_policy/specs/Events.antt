@@ -1,5 +1,5 @@
 -- The events and answers that values of the program stand for.
-use Rattle.std.specs.Prelude.{map, string_bytes}
+use Rattle.std.specs.Prelude.{map, string_bytes, Result, Ok, Err}
 use Rattle.std.specs.Option.{option_map}
 use Rattle.reg_model.specs.Registry as model
 use Rattle.reg_model.specs.Events as events
@@ -18,6 +18,8 @@ use Rattle.reg_policy.specs.declared.event.AdminCommand.TheVariants.{UserAdd, Us
 use Rattle.reg_policy.specs.declared.event.Event.{Event}
 use Rattle.reg_policy.specs.declared.event.Event.TheVariants.{Ask, Order}
 use Rattle.reg_policy.specs.declared.event.OwnerEntry.{OwnerEntry}
+use Rattle.reg_model.specs.declared.rule.AdminRefusal.{AdminRefusal}
+use Rattle.reg_policy.specs.declared.event.AdminReply.{AdminReply}
 use Rattle.reg_policy.specs.declared.event.AdminReply.TheVariants.{Done, Id}
 use Rattle.reg_policy.specs.declared.event.Answer.{Answer}
 use Rattle.reg_policy.specs.declared.event.Answer.TheVariants.{Denied, Granted, File, Archive, Owners, Refused, Replied}
@@ -67,3 +69,8 @@ answer_of (Owners os) = to_owners (map entry_of os.items)
 answer_of (Refused g) = to_refused g
 answer_of (Replied Done) = to_done
 answer_of (Replied (Id n)) = to_id n
+
+-- what a command is answered
+abbrev pub reply_of : Result AdminReply AdminRefusal → events.Answer
+reply_of (Ok r) = answer_of (Replied r)
+reply_of (Err g) = to_refused g

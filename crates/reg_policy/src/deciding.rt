@@ -4,11 +4,14 @@ ghost use Rattle.std.specs.Prelude.{◌≡◌, ◌==◌, map};
 ghost use Rattle.std.specs.List.{list_all, list_any};
 ghost use Rattle.std.specs.Str.{bytes_eq};
 ghost use Rattle.reg_names.specs.Patterns.{covers};
-ghost use Rattle.reg_model.specs.Registry.{holds};
+ghost use Rattle.reg_body.specs.declared.limits.Limits.{Limits};
+ghost use Rattle.reg_model.specs.Registry.{Registry, Text, holds};
+ghost use Rattle.reg_model.specs.Facts.{facts};
 ghost use Rattle.reg_model.specs.Crates.{same_release as same_release_of};
 ghost use Rattle.reg_model.specs.Actions.{crate_of, logins_of, version_of};
 ghost use Rattle.reg_model.specs.Rules.{broken as broken_of, has_endpoint, is_absent, is_misspelled, lacks, needed, order as order_of, verdict};
 ghost use Rattle.reg_policy.specs.Views.{action_of, decision_of, endpoints_of, facts_of};
+ghost use Rattle.reg_policy.specs.Rows.{IsRowsOf};
 
 use crate::action::{Action, Decision, OwnerRow, Rows};
 use reg_model::{Endpoint, Endpoints, Rule};
@@ -118,7 +121,7 @@ fn version_of<'a>(action: &Action<'a>) -> &'a str
 }
 
 /// The logins that an action names.
-fn logins_of<'a>(action: &Action<'a>) -> &'a [&'a str]
+pub(crate) fn logins_of<'a>(action: &Action<'a>) -> &'a [&'a str]
     ensures { map (λ l. l.now) result.now ≡ logins_of (action_of action.now) }
 {
     match action {
@@ -192,12 +195,20 @@ fn is_covered(patterns: &[Pattern], name: &CrateName) -> bool
     patterns.iter().any(|pattern| covers(pattern, name))
 }
 
-fn is_text_covered(patterns: &[Pattern], name: Option<CrateName>) -> bool
-    ensures { result ≡ holds (λ n. list_any (λ p. covers p n) patterns.now) name }
+/// The name of the crate that an action is about; none where the text in its place is no crate name.
+pub(crate) fn crate_of(action: &Action) -> Option<CrateName>
+    ensures { result ≡ crate_of (action_of action.now) }
 {
-    match name {
-        Some(name) => is_covered(patterns, &name),
-        None => false,
+    match action {
+        Action::Read => None,
+        Action::Index(path) => name_of_path(path),
+        Action::Download(name, _) => parse_name(name),
+        Action::ListOwners(name) => parse_name(name),
+        Action::Publish(name, _) => Some(name.copy()),
+        Action::Yank(name, _) => parse_name(name),
+        Action::Unyank(name, _) => parse_name(name),
+        Action::AddOwners(name, _) => parse_name(name),
+        Action::RemoveOwners(name, _) => parse_name(name),
     }
 }
 
@@ -205,16 +216,9 @@ fn is_text_covered(patterns: &[Pattern], name: Option<CrateName>) -> bool
 fn is_crate_covered(patterns: &[Pattern], action: &Action) -> bool
     ensures { result ≡ holds (λ n. list_any (λ p. covers p n) patterns.now) (crate_of (action_of action.now)) }
 {
-    match action {
-        Action::Read => false,
-        Action::Index(path) => is_text_covered(patterns, name_of_path(path)),
-        Action::Download(name, _) => is_text_covered(patterns, parse_name(name)),
-        Action::ListOwners(name) => is_text_covered(patterns, parse_name(name)),
-        Action::Publish(name, _) => is_covered(patterns, name),
-        Action::Yank(name, _) => is_text_covered(patterns, parse_name(name)),
-        Action::Unyank(name, _) => is_text_covered(patterns, parse_name(name)),
-        Action::AddOwners(name, _) => is_text_covered(patterns, parse_name(name)),
-        Action::RemoveOwners(name, _) => is_text_covered(patterns, parse_name(name)),
+    match crate_of(action) {
+        Some(name) => is_covered(patterns, &name),
+        None => false,
     }
 }
 
@@ -356,10 +360,9 @@ fn broken(rows: &Rows, action: &Action, rule: Rule) -> bool
     }
 }
 
-/// The first rule on the state that the action breaks, in the order of its line. Whether there is a token, and what its body or
-/// query breaks, is judged before.
+/// The first rule of the action's order that it breaks.
 #[tactic(auto, unfolding(reg_model::specs::Rules::verdict))]
-pub fn decide(rows: &Rows, action: &Action) -> Decision
+fn first_broken(rows: &Rows, action: &Action) -> Decision
     ensures { result ≡ decision_of (verdict (facts_of rows.now (action_of action.now)) (action_of action.now)) }
 {
     for rule in order(rows, action) {
@@ -368,4 +371,13 @@ pub fn decide(rows: &Rows, action: &Action) -> Decision
         }
     }
     Decision::Allowed
+}
+
+/// The first rule on the state that the action breaks, in the order of its line. Whether there is a token, and what its body or
+/// query breaks, is judged before.
+pub fn decide(rows: &Rows, action: &Action) -> Decision
+    ensures facts { result ≡ decision_of (verdict (facts_of rows.now (action_of action.now)) (action_of action.now)) }
+    ensures policy { (limits : Limits) (s : Registry) (digest : Text) → IsRowsOf limits s digest (action_of action.now) rows.now → result ≡ decision_of (verdict (facts limits s digest (action_of action.now)) (action_of action.now)) }
+{
+    first_broken(rows, action)
 }

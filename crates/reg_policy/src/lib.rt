@@ -1,11 +1,21 @@
 //! The rules as code, and a plain registry that follows them.
 #![tactic(auto)]
 
+mod accounts;
 mod action;
+mod asking;
+mod commands;
 mod deciding;
 mod event;
+mod owners;
 mod plain;
+mod publications;
+mod reserved;
+mod rows;
+mod tokens;
 mod words;
+mod words_given;
+mod yanked;
 
 pub use action::{Action, Decision, OwnerRow, Rows, TokenRow};
 pub use deciding::decide;

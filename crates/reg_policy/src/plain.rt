@@ -1,68 +1,36 @@
 //! A registry over vectors.
 
 ghost use Rattle.std.specs.Prelude.{◌≡◌, codes};
+ghost use Rattle.std.specs.Option.{option_map};
 ghost use Rattle.reg_model.specs.Registry.{empty_at};
+ghost use Rattle.reg_model.specs.Crates.{is_reserved as is_reserved_in};
+ghost use Rattle.reg_model.specs.Effects.{account_of};
+ghost use Rattle.reg_model.specs.Steps.{Step};
+ghost use Rattle.reg_policy.specs.Events.{answer_of, event_of};
 ghost use Rattle.reg_policy.specs.Plain.{limits_of, registry_of};
 
+use crate::accounts::Accounts;
+use crate::event::{Answer, Event};
+use crate::owners::Owners;
+use crate::publications::Publications;
+use crate::reserved::{Reserved, is_reserved_always};
+use crate::tokens::Tokens;
+use crate::yanked::Marks;
 use reg_body::Limits;
-use reg_model::Endpoints;
-use reg_names::{CanonText, CrateName, Login, Pattern};
+use reg_names::{CrateName, canon};
 use std::alloc::Global;
-
-/// An account; its id is its place, from 1 on.
-#[derive(Drop)]
-pub(crate) struct Account {
-    pub(crate) login: Login,
-    pub(crate) name: Option<String>,
-    pub(crate) enabled: bool,
-}
-
-/// A token; its id is its place, from 1 on.
-#[derive(Drop)]
-pub(crate) struct Token {
-    pub(crate) digest: [u8; 32],
-    pub(crate) account: u32,
-    pub(crate) live: bool,
-    pub(crate) endpoints: Endpoints,
-    pub(crate) patterns: Vec<Pattern>,
-}
-
-/// A published version.
-#[derive(Drop)]
-pub(crate) struct Publication {
-    pub(crate) name: CrateName,
-    pub(crate) version: String,
-    pub(crate) description: Option<String>,
-    pub(crate) stem: Vec<u8>,
-    pub(crate) digest: [u8; 32],
-    pub(crate) archive: Vec<u8>,
-}
-
-/// That an account owns a crate.
-#[derive(Drop)]
-pub(crate) struct Owner {
-    pub(crate) canon: CanonText,
-    pub(crate) account: u32,
-}
-
-/// That a version of a crate is yanked.
-#[derive(Drop)]
-pub(crate) struct Mark {
-    pub(crate) canon: CanonText,
-    pub(crate) version: String,
-}
 
 /// A registry over vectors, whose base is `http://127.0.0.1:8080`. It looks through all that it has for each answer.
 #[derive(Drop)]
 pub struct PlainRegistry {
-    alloc: Global,
-    limits: Limits,
-    accounts: Vec<Account>,
-    tokens: Vec<Token>,
-    publications: Vec<Publication>,
-    owners: Vec<Owner>,
-    yanked: Vec<Mark>,
-    reserved: Vec<CanonText>,
+    pub(crate) alloc: Global,
+    pub(crate) limits: Limits,
+    pub(crate) accounts: Accounts,
+    pub(crate) tokens: Tokens,
+    pub(crate) publications: Publications,
+    pub(crate) owners: Owners,
+    pub(crate) yanked: Marks,
+    pub(crate) reserved: Reserved,
 }
 
 impl PlainRegistry {
@@ -74,12 +42,42 @@ impl PlainRegistry {
         PlainRegistry {
             alloc,
             limits,
-            accounts: Vec::new(alloc),
-            tokens: Vec::new(alloc),
-            publications: Vec::new(alloc),
-            owners: Vec::new(alloc),
-            yanked: Vec::new(alloc),
-            reserved: Vec::new(alloc),
+            accounts: Accounts::new(alloc),
+            tokens: Tokens::new(alloc),
+            publications: Publications::new(alloc),
+            owners: Owners::new(alloc),
+            yanked: Marks::new(alloc),
+            reserved: Reserved::new(alloc),
+        }
+    }
+
+    /// Whether the name is reserved: always, or by the administrator.
+    pub(crate) fn is_reserved(&self, name: &CrateName) -> bool
+        ensures { result ≡ is_reserved_in (registry_of self.now) name.now }
+    {
+        let crate_text = canon(name);
+        is_reserved_always(&crate_text) || self.reserved.contains(&crate_text)
+    }
+
+    /// The id of the token's account; 0 where the token is unknown.
+    pub(crate) fn account_of(&self, digest: &[u8; 32]) -> u32
+        ensures { result ≡ account_of (registry_of self.now) digest.now }
+    {
+        match self.tokens.find(digest) {
+            Some(token) => token.account,
+            None => 0,
+        }
+    }
+
+    /// Answers a request or a command, and does what it asks for unless it is refused. A request for the config or a search is
+    /// given its decision alone.
+    pub fn step(&mut self, event: &Event) -> Answer
+        ensures step { Step (limits_of self.old) (registry_of self.old) (event_of event.now) (answer_of result) (registry_of self.new) }
+        ensures limits { limits_of self.new ≡ limits_of self.old }
+    {
+        match event {
+            Event::Ask(digest, asked) => self.ask(*digest, asked),
+            Event::Order(command) => self.order(command),
         }
     }
 }

@@ -2,7 +2,7 @@ use Rattle.std.proofs.Common.{◌≡◌, drop}
 use Rattle.std.specs.List.{find}
 use Rattle.reg_model.specs.Rules.{broken, verdict}
 use Rattle.reg_policy.specs.Views.{facts_of, action_of}
-use Rattle.reg_policy.proofs.deciding.decide.Given as goal
+use Rattle.reg_policy.proofs.deciding.first_broken.Given as goal
 
 -- the first broken rule is among those that are left
 abbrev pub invariant-loop-rule : goal.invariant-loop-rule

@@ -1,0 +1,16 @@
+use Rattle.std.proofs.Common.{◌≡◌, ◌∙◌, sym, refl, ap, rules}
+use Rattle.std.specs.Prelude.{◌==◌, ◌&&◌, map, string_bytes}
+use Rattle.std.proofs.lemmas.Fn.{filter_same}
+use Rattle.std.specs.Str.{bytes_eq}
+use Rattle.std.specs.FinSet as set
+use Rattle.reg_model.specs.Registry.{Owner}
+use Rattle.reg_model.proofs.Keys.{owner_total, owner_apart}
+use Rattle.reg_policy.specs.Sets.{owner_of}
+use Rattle.reg_policy.proofs.SetViews.{has_view, owner_agrees}
+use Rattle.reg_policy.proofs.owners.Owners.contains.Goals as goal
+
+pub returns : goal.returns
+returns c =
+    let q : Owner = (c.args.crate_text.now, c.args.account) in
+    let e = has_view owner_total owner_apart owner_of q _ (λ m. owner_agrees q (owner_of m)) c.self.inside.list.items in
+    rw (← c.self.view_is, c.has_owner.ensures, c.as_slice.ensures.value) (sym e)

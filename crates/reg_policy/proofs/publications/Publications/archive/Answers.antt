@@ -1,0 +1,19 @@
+use Rattle.std.proofs.Common.{◌≡◌, ◌∙◌, sym, ap, subst, map}
+use Rattle.std.specs.Prelude.{IfOk, string_bytes}
+use Rattle.std.specs.List.{filter, find, list_any}
+use Rattle.reg_model.specs.Crates.{collides}
+use Rattle.reg_policy.specs.Publications.{publication_of, versions_in}
+use Rattle.std.specs.Prelude.{◌&&◌}
+use Rattle.std.specs.Str.{bytes_eq}
+use Rattle.reg_policy.proofs.Published.{archive_view}
+use Rattle.reg_policy.proofs.publications.Publications.archive.Goals as goal
+
+pub returns-in-Some : goal.returns-in-Some
+returns-in-Some c =
+    let e = c.in-Some.ensures ∙ ap (λ l. find (λ p. collides p.name c.args.name.now && bytes_eq (string_bytes p.version) c.args.version.now) l) c.as_slice.ensures.value in
+    rw (← c.self.view_is, c.as_slice-in-Some.ensures.value) (archive_view c.self.inside.list.items c.args.name.now c.args.version.now _ e)
+
+pub returns-in-None : goal.returns-in-None
+returns-in-None c =
+    let e = c.in-None.ensures ∙ ap (λ l. find (λ p. collides p.name c.args.name.now && bytes_eq (string_bytes p.version) c.args.version.now) l) c.as_slice.ensures.value in
+    rw (← c.self.view_is) (archive_view c.self.inside.list.items c.args.name.now c.args.version.now _ e)

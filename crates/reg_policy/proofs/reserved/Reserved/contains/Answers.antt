@@ -1,0 +1,10 @@
+use Rattle.std.proofs.Common.{◌≡◌, ◌∙◌, sym, refl, ap, rules}
+use Rattle.std.specs.Prelude.{◌==◌, ◌&&◌, map, string_bytes}
+use Rattle.std.proofs.lemmas.Fn.{filter_same}
+use Rattle.std.specs.Str.{bytes_eq}
+use Rattle.std.specs.FinSet as set
+use Rattle.reg_policy.proofs.SetViews.{has_text}
+use Rattle.reg_policy.proofs.reserved.Reserved.contains.Goals as goal
+
+pub returns : goal.returns
+returns c = rw (← c.self.view_is, c.has_text.ensures, c.as_slice.ensures.value) (has_text c.args.crate_text.now c.self.inside.list.items)

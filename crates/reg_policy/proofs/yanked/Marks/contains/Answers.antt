@@ -1,0 +1,16 @@
+use Rattle.std.proofs.Common.{◌≡◌, ◌∙◌, sym, refl, ap, rules}
+use Rattle.std.specs.Prelude.{◌==◌, ◌&&◌, map, string_bytes}
+use Rattle.std.proofs.lemmas.Fn.{filter_same}
+use Rattle.std.specs.Str.{bytes_eq}
+use Rattle.std.specs.FinSet as set
+use Rattle.reg_model.specs.Registry.{Mark}
+use Rattle.reg_model.proofs.Keys.{mark_total, mark_apart}
+use Rattle.reg_policy.specs.Sets.{mark_of}
+use Rattle.reg_policy.proofs.SetViews.{has_view, mark_agrees}
+use Rattle.reg_policy.proofs.yanked.Marks.contains.Goals as goal
+
+pub returns : goal.returns
+returns c =
+    let q : Mark = (c.args.crate_text.now, c.args.version.now) in
+    let e = has_view mark_total mark_apart mark_of q _ (λ m. mark_agrees q (mark_of m)) c.self.inside.list.items in
+    rw (← c.self.view_is, c.has_mark.ensures, c.as_slice.ensures.value) (sym e)

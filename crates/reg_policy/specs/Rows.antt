@@ -1,0 +1,37 @@
+-- What rows of a registry are.
+use Rattle.std.specs.Prelude.{◌≡◌, List, [], Option, Some, None, map}
+use Rattle.std.specs.Option.{option_map}
+use Rattle.reg_body.specs.declared.limits.Limits.{Limits}
+use Rattle.reg_model.specs.Registry as model
+use Rattle.reg_model.specs.Registry.{Text, holds, is_enabled, is_known, token_of}
+use Rattle.reg_model.specs.Crates.{crates, is_reserved, owners, versions}
+use Rattle.reg_model.specs.Facts.{lists, spelling}
+use Rattle.reg_model.specs.Actions as actions
+use Rattle.reg_model.specs.Actions.{crate_of, logins_of}
+use Rattle.reg_policy.specs.declared.action.Rows.{Rows}
+use Rattle.reg_policy.specs.declared.action.TokenRow.{TokenRow}
+use Rattle.reg_policy.specs.Accounts.{id_and_login, row_view}
+
+-- what rows show of a token
+abbrev pub row_of : model.Token → TokenRow
+row_of t = record { account = t.account; live = t.live; endpoints = t.endpoints }
+
+-- the patterns of a token; none where it is unknown
+abbrev pub patterns_held : Option model.Token → List Text
+patterns_held None = []
+patterns_held (Some t) = t.patterns
+
+-- The rows of a registry and its limits, about the token with this digest and the crate of an action. Lists are in the registry's
+-- order; where the action names no crate they are empty.
+pub record IsRowsOf (limits : Limits) (s : model.Registry) (digest : Text) (a : actions.Action) (r : Rows) : Type 0 where
+  pub token : r.token ≡ option_map row_of (token_of s digest)
+  pub enabled : r.enabled ≡ holds (λ t. is_enabled s t.account) (token_of s digest)
+  pub patterns : r.patterns.now ≡ patterns_held (token_of s digest)
+  pub first : option_map (λ n. n.now) r.first ≡ spelling s (crate_of a)
+  pub owners : map row_view r.owners.now ≡ map id_and_login (lists (owners s) (crate_of a))
+  pub versions : map (λ v. v.now) r.versions.now ≡ map (λ p. p.version) (lists (versions s) (crate_of a))
+  pub reserved : r.reserved ≡ holds (is_reserved s) (crate_of a)
+  pub crates : r.crates ≡ crates s
+  -- for each login that is named, whether an enabled account has it
+  pub known : r.known.now ≡ map (is_known s) (logins_of a)
+  pub bounds : r.limits.now ≡ limits
