@@ -75,9 +75,9 @@ module _ (limits : Limits) (s : model.Registry) (digest : Text) (a : actions.Act
       let endpoints' = ap endpoints_of h.token ∙ endpoints_mapped (token_of s digest) in
       let is_covered' = ap (λ ps. holds (λ n. list_any (λ p. covers p n) ps) (crate_of a)) h.patterns ∙ covered (crate_of a) (token_of s digest) in
       let is_owner' =
-          ap (holds (λ t. list_any (λ o. o.id == t.account) r.owners.now)) h.token
-          ∙ holds_mapped (λ t. list_any (λ o. o.id == t.account) r.owners.now) row_of (token_of s digest)
-          ∙ holds_same (λ t. list_any (λ o. o.id == t.account) r.owners.now) (λ t. list_any (λ o. o.0 == t.account) os) (λ t. owner t.account) (token_of s digest) in
+      ap (holds (λ t. list_any (λ o. o.id == t.account) r.owners.now)) h.token
+      ∙ holds_mapped (λ t. list_any (λ o. o.id == t.account) r.owners.now) row_of (token_of s digest)
+      ∙ holds_same (λ t. list_any (λ o. o.id == t.account) r.owners.now) (λ t. list_any (λ o. o.0 == t.account) os) (λ t. owner t.account) (token_of s digest) in
       let has_version' = any_through (λ v. bytes_eq v (version_of a)) (λ v. v.now) (λ p. p.version) r.versions.now ps h.versions in
       let has_release' = any_through (λ v. same_release v (version_of a)) (λ v. v.now) (λ p. p.version) r.versions.now ps h.versions in
       let versions' = sym (length-map r.versions.now (λ v. v.now)) ∙ ap length h.versions ∙ length-map ps (λ p. p.version) in

@@ -92,7 +92,6 @@ impl Reserved {
         ensures { self.new ≡ set.remove self.old (canon_of name.now) }
     {
         let crate_text = canon(name);
-        self.list
-            .retain(|text| !is_same(text, &crate_text));
+        self.list.retain(|text| !is_same(text, &crate_text));
     }
 }

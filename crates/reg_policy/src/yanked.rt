@@ -50,9 +50,7 @@ fn is_mark(mark: &Mark, crate_text: &CanonText, version: &str) -> bool
 fn has_mark(marks: &[Mark], crate_text: &CanonText, version: &str) -> bool
     ensures { result ≡ list_any (λ m. bytes_eq m.crate_text crate_text.now && bytes_eq (string_bytes m.version) version.now) marks.now }
 {
-    marks
-        .iter()
-        .any(|mark| is_mark(mark, crate_text, version))
+    marks.iter().any(|mark| is_mark(mark, crate_text, version))
 }
 
 impl Marks {
