@@ -1,15 +1,12 @@
 -- What is asked of publications is asked of the records that stand for them.
-use Rattle.std.proofs.Common.{◌≡◌, ℕ, ◌+◌, List, [], ◌∷◌, Bool, true, false, cond, Option, Some, None, length, refl, sym, ◌∙◌, ap}
-use Rattle.std.specs.Prelude.{◌&&◌, ◌||◌, map, string_bytes}
+use Rattle.std.proofs.Common.{◌≡◌, ℕ, ◌+◌, List, [], ◌∷◌, Bool, true, false, cond, Option, Some, length, refl, sym, ◌∙◌, ap}
+use Rattle.std.specs.Prelude.{◌&&◌, map, string_bytes}
 use Rattle.std.specs.List.{filter, find, list_any}
 use Rattle.std.specs.Option.{option_map}
-use Rattle.std.specs.Ordering.{eq_by_cmp}
 use Rattle.std.specs.Str.{bytes_eq}
 use Rattle.std.specs.FinSet as set
 use Rattle.std.specs.Cmp.Lexicographic.{nat_list_cmp_total}
 use Rattle.reg_names.specs.Names.{canon}
-use Rattle.reg_line.specs.File.{entry_view}
-use Rattle.reg_model.specs.Registry as model
 use Rattle.reg_model.specs.Registry.{Text, mark_cmp, text_cmp}
 use Rattle.reg_model.specs.Crates.{collides}
 use Rattle.reg_policy.specs.declared.publications.Publication.{Publication}

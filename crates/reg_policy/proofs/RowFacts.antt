@@ -1,5 +1,5 @@
 -- The facts that rows of a registry state are its facts.
-use Rattle.std.proofs.Common.{◌≡◌, ℕ, List, [], ◌∷◌, Bool, true, false, Option, Some, None, length, refl, sym, ◌∙◌, ap}
+use Rattle.std.proofs.Common.{◌≡◌, ℕ, List, [], Bool, false, Option, Some, None, length, refl, sym, ◌∙◌, ap}
 use Rattle.std.specs.Prelude.{◌==◌, is_some, map}
 use Rattle.std.specs.List.{list_any, list_all}
 use Rattle.std.specs.Option.{option_map}
@@ -7,7 +7,6 @@ use Rattle.std.specs.Str.{bytes_eq}
 use Rattle.std.proofs.lemmas.List.{length-map}
 use Rattle.reg_body.specs.declared.limits.Limits.{Limits}
 use Rattle.reg_names.specs.Patterns.{covers}
-use Rattle.reg_model.specs.declared.endpoint.Endpoints.{Endpoints}
 use Rattle.reg_model.specs.Registry as model
 use Rattle.reg_model.specs.Registry.{Text, Account, Token, Publication, holds, is_known, token_of}
 use Rattle.reg_model.specs.Crates.{owners, same_release, versions}
@@ -15,9 +14,7 @@ use Rattle.reg_model.specs.Facts as model_facts
 use Rattle.reg_model.specs.Facts.{facts, has_login, is_named, lists}
 use Rattle.reg_model.specs.Actions as actions
 use Rattle.reg_model.specs.Actions.{crate_of, logins_of, version_of}
-use Rattle.reg_policy.specs.declared.action.OwnerRow.{OwnerRow}
 use Rattle.reg_policy.specs.declared.action.Rows.{Rows}
-use Rattle.reg_policy.specs.declared.action.TokenRow.{TokenRow}
 use Rattle.reg_policy.specs.Accounts.{id_and_login, row_view}
 use Rattle.reg_policy.specs.Rows.{IsRowsOf, patterns_held, row_of}
 use Rattle.reg_policy.specs.Views.{endpoints_of, facts_of}

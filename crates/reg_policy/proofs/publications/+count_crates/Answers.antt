@@ -1,4 +1,4 @@
-use Rattle.std.proofs.Common.{◌≡◌, ◌+◌, ◌∙◌, sym, ap}
+use Rattle.std.proofs.Common.{◌+◌, ◌∙◌, sym, ap}
 use Rattle.reg_policy.proofs.Published.{crates_of, count_known, count_new, count_none}
 use Rattle.reg_policy.proofs.publications.+count_crates.Goals as goal
 

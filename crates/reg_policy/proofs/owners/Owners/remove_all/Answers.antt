@@ -1,7 +1,6 @@
-use Rattle.std.proofs.Common.{◌≡◌, ◌∙◌, sym, refl, ap, rules}
-use Rattle.std.specs.Prelude.{◌==◌, ◌&&◌, map, string_bytes}
+use Rattle.std.proofs.Common.{◌∙◌, ap, rules}
+use Rattle.std.specs.Prelude.{map}
 use Rattle.std.proofs.lemmas.Fn.{filter_same}
-use Rattle.std.specs.Str.{bytes_eq}
 use Rattle.std.specs.FinSet as set
 use Rattle.reg_model.specs.Registry.{owner_cmp}
 use Rattle.reg_model.proofs.Keys.{owner_total, owner_apart}

@@ -1,8 +1,6 @@
-use Rattle.std.proofs.Common.{◌≡◌, ◌∙◌, sym, ap, subst, map}
-use Rattle.std.specs.Prelude.{IfOk, string_bytes}
-use Rattle.std.specs.List.{filter, find, list_any}
+use Rattle.std.proofs.Common.{sym}
 use Rattle.reg_model.specs.Crates.{collides}
-use Rattle.reg_policy.specs.Publications.{publication_of, versions_in}
+use Rattle.reg_policy.specs.Publications.{publication_of}
 use Rattle.reg_policy.proofs.Lists.{list_any_map}
 use Rattle.reg_policy.proofs.publications.Publications.exists.Goals as goal
 

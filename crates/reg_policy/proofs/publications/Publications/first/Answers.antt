@@ -1,8 +1,6 @@
-use Rattle.std.proofs.Common.{◌≡◌, ◌∙◌, sym, ap, subst, map}
-use Rattle.std.specs.Prelude.{IfOk, string_bytes}
-use Rattle.std.specs.List.{filter, find, list_any}
+use Rattle.std.proofs.Common.{◌∙◌, ap}
+use Rattle.std.specs.List.{find}
 use Rattle.reg_model.specs.Crates.{collides}
-use Rattle.reg_policy.specs.Publications.{publication_of, versions_in}
 use Rattle.reg_policy.proofs.Published.{first_view}
 use Rattle.reg_policy.proofs.publications.Publications.first.Goals as goal
 

@@ -1,8 +1,3 @@
-use Rattle.std.proofs.Common.{◌≡◌, ◌∙◌, sym, refl, ap, rules}
-use Rattle.std.specs.Prelude.{◌==◌, ◌&&◌, map, string_bytes}
-use Rattle.std.proofs.lemmas.Fn.{filter_same}
-use Rattle.std.specs.Str.{bytes_eq}
-use Rattle.std.specs.FinSet as set
 use Rattle.reg_policy.proofs.SetViews.{has_text}
 use Rattle.reg_policy.proofs.reserved.Reserved.contains.Goals as goal
 

@@ -1,8 +1,4 @@
-use Rattle.std.proofs.Common.{◌≡◌, ◌∙◌, sym, refl, ap, rules}
-use Rattle.std.specs.Prelude.{◌==◌, ◌&&◌, map, string_bytes}
-use Rattle.std.proofs.lemmas.Fn.{filter_same}
-use Rattle.std.specs.Str.{bytes_eq}
-use Rattle.std.specs.FinSet as set
+use Rattle.std.proofs.Common.{sym}
 use Rattle.reg_model.specs.Registry.{Mark}
 use Rattle.reg_model.proofs.Keys.{mark_total, mark_apart}
 use Rattle.reg_policy.specs.Sets.{mark_of}
