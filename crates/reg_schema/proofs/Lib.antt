@@ -1,0 +1,12 @@
+pub mod TableTexts
+pub mod Edits
+pub mod WriteLemmas
+pub mod ReadLemmas
+pub mod OursLemmas
+pub mod Queries
+pub mod Sorted
+pub mod Counts
+pub mod Creates
+pub mod Statements
+pub mod MakeLemmas
+pub mod OursLists

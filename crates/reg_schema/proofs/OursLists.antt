@@ -1,0 +1,54 @@
+-- A list that is told item by item, and the indexes that SQLite makes for our UNIQUE keys.
+use Rattle.std.proofs.Common.{◌≡◌, ℕ, zero, suc, ◌<◌, ◌≤◌, List, [], ◌∷◌, length, get_or, codes, true, refl, ap, ◌∙◌, arith}
+use Rattle.std.specs.Prelude.{drop}
+use Rattle.sqlite_schema.specs.declared.schema.Index.{Index}
+use Rattle.sqlite_catalog.specs.Listing.{automatic}
+use Rattle.sqlite_value.specs.Keys.{plain}
+use Rattle.sqlite_tied.specs.Compute.{everything}
+use Rattle.reg_schema.specs.Schema.{accounts, tokens, scopes, crates, owners, versions, reserved}
+
+from_here : {X : Type 0} (xs : List X) (k : ℕ) (x d : X) → k < length xs → x ≡ get_or xs k d → drop k xs ≡ x ∷ drop (suc k) xs
+from_here [] k x d low is = absurd (omega (arith, low))
+from_here (y ∷ xs) zero x d low is = ap (λ z. z ∷ xs) (let it : y ≡ x = cc in it)
+from_here (y ∷ xs) (suc k) x d low is = from_here xs k x d (omega (arith, low)) is
+
+-- the item at this place, and then the rest
+pub item : {X : Type 0} (xs : List X) (k : ℕ) (x d : X) (rest : List X) → k < length xs → x ≡ get_or xs k d → drop (suc k) xs ≡ rest → drop k xs ≡ x ∷ rest
+item xs k x d rest low is more = from_here xs k x d low is ∙ ap (λ r. x ∷ r) more
+
+pub past : {X : Type 0} (xs : List X) (k : ℕ) → length xs ≤ k → drop k xs ≡ []
+past [] zero h = refl
+past [] (suc k) h = refl
+past (x ∷ xs) zero h = absurd (omega (arith, h))
+past (x ∷ xs) (suc k) h = past xs k (omega (arith, h))
+
+abbrev unique_index : List ℕ → ℕ → List ℕ → Index
+unique_index name table columns = record { name = name; tree = suc table; table = table; columns = columns; order = plain; is_unique = true }
+
+pub accounts_index : unique_index (codes "sqlite_autoindex_accounts_1") 1 (2 ∷ []) ≡ automatic accounts 0 (2 ∷ []) 2
+unfolding everything
+accounts_index = refl
+
+pub tokens_index : unique_index (codes "sqlite_autoindex_tokens_1") 3 (2 ∷ []) ≡ automatic tokens 0 (2 ∷ []) 4
+unfolding everything
+tokens_index = refl
+
+pub scopes_index : unique_index (codes "sqlite_autoindex_scopes_1") 5 (1 ∷ 2 ∷ []) ≡ automatic scopes 0 (1 ∷ 2 ∷ []) 6
+unfolding everything
+scopes_index = refl
+
+pub crates_index : unique_index (codes "sqlite_autoindex_crates_1") 7 (2 ∷ []) ≡ automatic crates 0 (2 ∷ []) 8
+unfolding everything
+crates_index = refl
+
+pub owners_index : unique_index (codes "sqlite_autoindex_owners_1") 9 (1 ∷ 2 ∷ []) ≡ automatic owners 0 (1 ∷ 2 ∷ []) 10
+unfolding everything
+owners_index = refl
+
+pub versions_index : unique_index (codes "sqlite_autoindex_versions_1") 11 (2 ∷ 4 ∷ []) ≡ automatic versions 0 (2 ∷ 4 ∷ []) 12
+unfolding everything
+versions_index = refl
+
+pub reserved_index : unique_index (codes "sqlite_autoindex_reserved_1") 14 (1 ∷ []) ≡ automatic reserved 0 (1 ∷ []) 15
+unfolding everything
+reserved_index = refl

@@ -1,0 +1,5 @@
+pub mod Changes
+pub mod Rows
+pub mod Schema
+pub mod States
+pub mod Texts
