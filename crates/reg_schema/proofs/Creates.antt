@@ -14,7 +14,7 @@ use Rattle.sqlite.specs.Does.{Tally, Does, MakesTable, MakesSequence, lacks_sequ
 use Rattle.sqlite.specs.State.{State, HasCleanDisk, Survives, CommitsBy, Executes, mode_of}
 use Rattle.sqlite.specs.declared.error.Error.{Error}
 use Rattle.sqlite.proofs.Callers.{runs_as, through}
-use Rattle.reg_schema.specs.States.{IsEmpty, HasMade, Makes}
+use Rattle.reg_schema.specs.States.{HasMade, Makes}
 use Rattle.reg_schema.proofs.TableTexts.{IsStep}
 use Rattle.reg_schema.proofs.Edits.{same_value}
 use Rattle.reg_schema.proofs.WriteLemmas.{survives_inside}

@@ -1,12 +1,10 @@
 -- Each end of a statement keeps our tables.
-use Rattle.std.proofs.Common.{◌≡◌, ◌⊎◌, inl, inr, true, false, IsTrue, Ok, Err, Result, OnOk, OnErr, ℕ, refl, sym, ap, subst, ◌∙◌, arith}
+use Rattle.std.proofs.Common.{◌≡◌, inl, inr, true, false, IsTrue, Ok, Err, Result, OnOk, OnErr, ℕ, sym, subst, ◌∙◌}
 use Rattle.sqlite.specs.Effect.{Database}
 use Rattle.sqlite.specs.declared.error.Error.{Error}
-use Rattle.sqlite.specs.State.{State, HasCleanDisk, Survives, Shows, IsUnchanged, IsRolledBack}
-use Rattle.sqlite.specs.Tree.{Trees}
+use Rattle.sqlite.specs.State.{State, HasCleanDisk, Shows}
 use Rattle.reg_schema.specs.Schema.{ours}
-use Rattle.reg_schema.specs.States.{IsInside, IsReady, KeepsOurs, IsOurs, Refuses, IsUndone}
-use Rattle.reg_schema.specs.Changes.{Becomes}
+use Rattle.reg_schema.specs.States.{IsReady, KeepsOurs, IsOurs, Refuses, IsUndone}
 
 abbrev is_ours : Database → Type 0
 is_ours db = db.schema ≡ ours

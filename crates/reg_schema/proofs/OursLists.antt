@@ -1,5 +1,6 @@
 -- A list that is told item by item, and the indexes that SQLite makes for our UNIQUE keys.
-use Rattle.std.proofs.Common.{◌≡◌, ℕ, zero, suc, ◌<◌, ◌≤◌, List, [], ◌∷◌, length, get_or, codes, true, refl, ap, ◌∙◌, arith}
+use Rattle.std.proofs.Common.{◌≡◌, ℕ, zero, suc, ◌<◌, ◌≤◌, List, [], ◌∷◌, length, get_or, codes, true, refl, sym, ap, ◌∙◌, arith}
+use Rattle.std.proofs.Math.Seq.{drop-cons}
 use Rattle.std.specs.Prelude.{drop}
 use Rattle.sqlite_schema.specs.declared.schema.Index.{Index}
 use Rattle.sqlite_catalog.specs.Listing.{automatic}
@@ -7,14 +8,9 @@ use Rattle.sqlite_value.specs.Keys.{plain}
 use Rattle.sqlite_tied.specs.Compute.{everything}
 use Rattle.reg_schema.specs.Schema.{accounts, tokens, scopes, crates, owners, versions, reserved}
 
-from_here : {X : Type 0} (xs : List X) (k : ℕ) (x d : X) → k < length xs → x ≡ get_or xs k d → drop k xs ≡ x ∷ drop (suc k) xs
-from_here [] k x d low is = absurd (omega (arith, low))
-from_here (y ∷ xs) zero x d low is = ap (λ z. z ∷ xs) (let it : y ≡ x = cc in it)
-from_here (y ∷ xs) (suc k) x d low is = from_here xs k x d (omega (arith, low)) is
-
 -- the item at this place, and then the rest
 pub item : {X : Type 0} (xs : List X) (k : ℕ) (x d : X) (rest : List X) → k < length xs → x ≡ get_or xs k d → drop (suc k) xs ≡ rest → drop k xs ≡ x ∷ rest
-item xs k x d rest low is more = from_here xs k x d low is ∙ ap (λ r. x ∷ r) more
+item xs k x d rest low is more = drop-cons xs k d low ∙ ap (λ z. z ∷ drop (suc k) xs) (sym is) ∙ ap (λ r. x ∷ r) more
 
 pub past : {X : Type 0} (xs : List X) (k : ℕ) → length xs ≤ k → drop k xs ≡ []
 past [] zero h = refl

@@ -1,5 +1,5 @@
 -- What SELECT with ORDER BY answers.
-use Rattle.std.proofs.Common.{◌≡◌, ℕ, ◌+◌, pos, negsuc, Bool, cond, List, [], ◌∷◌, map, false, None, Less, Equal, Greater, get_or, refl, sym, ap, subst, ◌∙◌}
+use Rattle.std.proofs.Common.{◌≡◌, ℕ, ◌+◌, pos, negsuc, Bool, List, [], ◌∷◌, map, false, None, Less, Equal, Greater, get_or, refl, sym, ap, subst, ◌∙◌}
 use Rattle.std.proofs.Math.ListN.{set, get_or-map}
 use Rattle.std.proofs.Math.Seq.{map-set}
 use Rattle.std.proofs.lemmas.List.{length-map}
@@ -15,7 +15,7 @@ use Rattle.sqlite.specs.Term.{Term, Env, lit, eval_all}
 use Rattle.sqlite.specs.Query.{Query, Join, inner, end, IsSureAnswer, IsAnswer, matches, output, output_cmp, Output}
 use Rattle.sqlite_value.specs.declared.keys.Key.{Key}
 use Rattle.reg_schema.specs.Rows.{IsInOrder}
-use Rattle.reg_schema.proofs.Queries.{maps_twice, shows_filtered}
+use Rattle.reg_schema.proofs.Queries.{maps_twice}
 
 abbrev pub in_order : Join → List Term → List Term → List (Term × Key) → Query
 in_order from filter project order =

@@ -1,5 +1,5 @@
 -- What a statement on one of our tables makes of its rows, from the table and the terms of the statement alone.
-use Rattle.std.proofs.Common.{◌≡◌, ℕ, ℤ, pos, List, [], ◌∷◌, length, slice_get, Bool, true, false, not, ◌&&◌, ◌||◌, cond, map, None, Some, Ok, Err, Result, OnOk, refl, sym, ap, subst, ◌∙◌}
+use Rattle.std.proofs.Common.{◌≡◌, ℕ, ℤ, pos, List, [], ◌∷◌, slice_get, Bool, true, false, not, ◌&&◌, ◌||◌, cond, map, Some, Ok, Err, Result, OnOk, refl, sym, ap, subst, ◌∙◌}
 use Rattle.std.specs.List.{filter, list_any}
 use Rattle.std.specs.List.Sorted.{IsPermutation}
 use Rattle.std.proofs.lemmas.List.Sorted.{list_any-IsPermutation}
@@ -7,7 +7,6 @@ use Rattle.sqlite.specs.declared.types.Value.{Value}
 use Rattle.sqlite.specs.declared.types.Value.TheVariants.{Null, Int}
 use Rattle.sqlite.specs.Order.{Row}
 use Rattle.sqlite.specs.Term.{Term}
-use Rattle.sqlite.specs.Tree.{Trees}
 use Rattle.sqlite.specs.Table.{Table}
 use Rattle.sqlite.specs.Kind.TheVariants.{Integer}
 use Rattle.sqlite.specs.Ops.{unary}
@@ -26,7 +25,7 @@ use Rattle.sqlite_schema.specs.declared.program.Program.{Program}
 use Rattle.reg_schema.specs.Schema.{ours, our_tables}
 use Rattle.reg_schema.specs.States.{IsInside}
 use Rattle.reg_schema.specs.Changes.{KeepsOthers, Becomes, Adds, AddsColumns, Replaces, is_at_one_of, Removes}
-use Rattle.reg_schema.proofs.Edits.{step_of, inserted, replacing, updated, removing, deleted}
+use Rattle.reg_schema.proofs.Edits.{step_of, inserted, replacing, updated, deleted}
 use Rattle.reg_schema.proofs.Queries.{same_filter}
 
 either : (b : Bool) (x : Value) → cond b x x ≡ x
