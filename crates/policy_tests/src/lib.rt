@@ -7,6 +7,8 @@ mod asking;
 #[cfg(test)]
 mod commands;
 #[cfg(test)]
+mod memory;
+#[cfg(test)]
 mod names;
 #[cfg(test)]
 mod owners;
