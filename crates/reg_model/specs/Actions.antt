@@ -19,7 +19,7 @@ pub data Action : Type 0 where
   AddOwners : Text → List Text → Action
   RemoveOwners : Text → List Text → Action
 
--- The name of the crate that an action is about; none where the text in its place is no crate name. What is published has a name.
+-- The name of the crate that an action is about; none where the text in its place is no crate name. What is published has a name, where the event is fit.
 abbrev pub crate_of : Action → Option Text
 crate_of Read = None
 crate_of (Index path) = name_at path

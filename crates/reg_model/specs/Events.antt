@@ -64,7 +64,7 @@ pub data Answer : Type 0 where
   Archive : Text → Answer
   Owners : List OwnerEntry → Answer
   Refused : AdminRefusal → Answer
-  -- a command is done, where it adds an account or a token with its id
+  -- a command is done; one that adds a token tells its id
   Done : Answer
   Id : ℕ → Answer
 

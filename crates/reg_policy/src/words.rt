@@ -5,7 +5,7 @@ ghost use Rattle.reg_policy.specs.Words.{admin_text_of, status_of, text_of};
 
 use reg_model::{AdminRefusal, Rule};
 
-/// The status of a refused request (RFC 9110, section 15).
+/// The status of a refused request (RFC 9110, section 15; 431: RFC 6585, section 5).
 pub fn rule_status(rule: Rule) -> u16
     ensures { result ≡ status_of rule }
 {
