@@ -6,9 +6,7 @@ ghost use Rattle.sqlite_value.specs.Keys.{plain};
 ghost use Rattle.reg_schema.specs.Schema.{ours, our_tables, our_indexes};
 
 use crate::same::same_table;
-use crate::texts::{
-    ABOUT, ACCOUNTS, ARCHIVES, CRATES, OWNERS, RESERVED, SCOPES, TOKENS, VERSIONS,
-};
+use crate::texts::{ABOUT, ACCOUNTS, ARCHIVES, CRATES, OWNERS, RESERVED, SCOPES, TOKENS, VERSIONS};
 use sqlite_resolve::define_table;
 use sqlite_schema::schema::{Index, Schema, Table};
 use sqlite_value::keys::Order;
@@ -27,7 +25,17 @@ fn is_table(alloc: Global, table: &Table, text: &str, tree: u32) -> Result<bool,
 fn are_our_tables(alloc: Global, tables: &[Table]) -> Result<bool, AllocError>
     ensures { IfOk result (λ same. IsTrue same → tables.now ≡ our_tables) }
 {
-    let [about, accounts, tokens, scopes, crates, owners, versions, archives, reserved] = tables
+    let [
+        about,
+        accounts,
+        tokens,
+        scopes,
+        crates,
+        owners,
+        versions,
+        archives,
+        reserved,
+    ] = tables
     else {
         return Ok(false);
     };

@@ -8,14 +8,30 @@ ghost use Rattle.reg_schema.specs.States.{HasMade, Makes, Refuses};
 
 use sqlite::{Alter, Connection, Error};
 
-pub(crate) const ABOUT: &str = "CREATE TABLE about (schema INTEGER NOT NULL, base TEXT NOT NULL) STRICT";
-pub(crate) const ACCOUNTS: &str = "CREATE TABLE accounts (id INTEGER PRIMARY KEY CHECK (id BETWEEN 1 AND 4294967295), login TEXT NOT NULL UNIQUE, name TEXT, enabled INTEGER NOT NULL CHECK (enabled IN (0, 1))) STRICT";
-pub(crate) const TOKENS: &str = "CREATE TABLE tokens (id INTEGER PRIMARY KEY CHECK (id BETWEEN 1 AND 4294967295), digest BLOB NOT NULL UNIQUE CHECK (length(digest) = 32), account INTEGER NOT NULL REFERENCES accounts (id), live INTEGER NOT NULL CHECK (live IN (0, 1)), publish_new INTEGER NOT NULL CHECK (publish_new IN (0, 1)), publish_update INTEGER NOT NULL CHECK (publish_update IN (0, 1)), yank INTEGER NOT NULL CHECK (yank IN (0, 1)), change_owners INTEGER NOT NULL CHECK (change_owners IN (0, 1))) STRICT";
-pub(crate) const SCOPES: &str = "CREATE TABLE scopes (token INTEGER NOT NULL REFERENCES tokens (id), place INTEGER NOT NULL CHECK (place >= 0), pattern TEXT NOT NULL, low TEXT NOT NULL, high TEXT NOT NULL, PRIMARY KEY (token, place)) STRICT";
-pub(crate) const CRATES: &str = "CREATE TABLE crates (id INTEGER PRIMARY KEY CHECK (id BETWEEN 1 AND 4294967295), canon TEXT NOT NULL UNIQUE, name TEXT NOT NULL) STRICT";
-pub(crate) const OWNERS: &str = "CREATE TABLE owners (crate INTEGER NOT NULL REFERENCES crates (id), account INTEGER NOT NULL REFERENCES accounts (id), PRIMARY KEY (crate, account)) STRICT";
-pub(crate) const VERSIONS: &str = "CREATE TABLE versions (id INTEGER PRIMARY KEY CHECK (id >= 1), crate INTEGER NOT NULL REFERENCES crates (id), vers TEXT NOT NULL, release TEXT NOT NULL, digest BLOB NOT NULL, stem BLOB NOT NULL, description TEXT, yanked INTEGER NOT NULL CHECK (yanked IN (0, 1)), UNIQUE (crate, release)) STRICT";
-pub(crate) const ARCHIVES: &str = "CREATE TABLE archives (version INTEGER PRIMARY KEY REFERENCES versions (id), bytes BLOB NOT NULL) STRICT";
+pub(crate) const ABOUT: &str =
+    "CREATE TABLE about (schema INTEGER NOT NULL, base TEXT NOT NULL) STRICT";
+
+pub(crate) const ACCOUNTS: &str =
+    "CREATE TABLE accounts (id INTEGER PRIMARY KEY CHECK (id BETWEEN 1 AND 4294967295), login TEXT NOT NULL UNIQUE, name TEXT, enabled INTEGER NOT NULL CHECK (enabled IN (0, 1))) STRICT";
+
+pub(crate) const TOKENS: &str =
+    "CREATE TABLE tokens (id INTEGER PRIMARY KEY CHECK (id BETWEEN 1 AND 4294967295), digest BLOB NOT NULL UNIQUE CHECK (length(digest) = 32), account INTEGER NOT NULL REFERENCES accounts (id), live INTEGER NOT NULL CHECK (live IN (0, 1)), publish_new INTEGER NOT NULL CHECK (publish_new IN (0, 1)), publish_update INTEGER NOT NULL CHECK (publish_update IN (0, 1)), yank INTEGER NOT NULL CHECK (yank IN (0, 1)), change_owners INTEGER NOT NULL CHECK (change_owners IN (0, 1))) STRICT";
+
+pub(crate) const SCOPES: &str =
+    "CREATE TABLE scopes (token INTEGER NOT NULL REFERENCES tokens (id), place INTEGER NOT NULL CHECK (place >= 0), pattern TEXT NOT NULL, low TEXT NOT NULL, high TEXT NOT NULL, PRIMARY KEY (token, place)) STRICT";
+
+pub(crate) const CRATES: &str =
+    "CREATE TABLE crates (id INTEGER PRIMARY KEY CHECK (id BETWEEN 1 AND 4294967295), canon TEXT NOT NULL UNIQUE, name TEXT NOT NULL) STRICT";
+
+pub(crate) const OWNERS: &str =
+    "CREATE TABLE owners (crate INTEGER NOT NULL REFERENCES crates (id), account INTEGER NOT NULL REFERENCES accounts (id), PRIMARY KEY (crate, account)) STRICT";
+
+pub(crate) const VERSIONS: &str =
+    "CREATE TABLE versions (id INTEGER PRIMARY KEY CHECK (id >= 1), crate INTEGER NOT NULL REFERENCES crates (id), vers TEXT NOT NULL, release TEXT NOT NULL, digest BLOB NOT NULL, stem BLOB NOT NULL, description TEXT, yanked INTEGER NOT NULL CHECK (yanked IN (0, 1)), UNIQUE (crate, release)) STRICT";
+
+pub(crate) const ARCHIVES: &str =
+    "CREATE TABLE archives (version INTEGER PRIMARY KEY REFERENCES versions (id), bytes BLOB NOT NULL) STRICT";
+
 pub(crate) const RESERVED: &str = "CREATE TABLE reserved (canon TEXT NOT NULL PRIMARY KEY) STRICT";
 
 pub fn create_about<S: Alter>(conn: &mut Connection<S>) -> Result<usize, Error>
