@@ -10,3 +10,4 @@ pub mod Creates
 pub mod Statements
 pub mod MakeLemmas
 pub mod OursLists
+pub mod Selections

@@ -1,6 +1,6 @@
 -- A connection to our tables, before and after a statement.
 -- Each word on values stands under `HasCleanDisk`: of a disk that returned what was never written, nothing is said.
-use Rattle.std.specs.Prelude.{◌≡◌, ◌≢◌, ◌⊎◌, ℕ, pos, true, false, List, [], ◌∷◌, map, drop, IsTrue}
+use Rattle.std.specs.Prelude.{◌≡◌, ◌≢◌, ◌⊎◌, ℕ, pos, true, false, List, [], ◌∷◌, map, drop, IsTrue, Result, OnOk, OnErr}
 use Rattle.std.specs.List.{AllByRecursion}
 use Rattle.sqlite.specs.Effect.{Database}
 use Rattle.sqlite.specs.Tree.{Trees}
@@ -75,3 +75,7 @@ pub record IsMade (base : List ℕ) (db : Database) : Type 0 where
 -- a stop at this moment leaves the last commit and nothing else
 abbrev pub LeavesCommit : State → Type 0
 LeavesCommit s = (db : Trees) → s.may_leave db → db ≡ s.committed.trees
+
+-- what a query leaves, whatever it answers: all is as it was, but for what a failure leaves
+abbrev pub OnlyReads : {T E : Type 0} → Result T E → State → State → Type 0
+OnlyReads r old new = OnOk r (IsUnchanged old new) × OnErr r (Refuses old new)

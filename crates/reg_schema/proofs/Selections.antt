@@ -1,0 +1,59 @@
+-- What a SELECT on our tables answers and leaves, from its text and its query alone.
+use Rattle.std.proofs.Common.{◌≡◌, inl, arith, ℕ, pos, negsuc, List, [], ◌∷◌, ◌++◌, map, take, Bool, true, false, cond, None, Some, Ok, Err, Result, IfOk, IfErr, OnOk, OnErr, refl, sym, ap, subst, ◌∙◌}
+use Rattle.std.specs.Prelude.{Vec}
+use Rattle.std.specs.declared.alloc.Global.{Global}
+use Rattle.std.specs.List.{flat_map, filter}
+use Rattle.std.specs.List.Sorted.{IsPermutation}
+use Rattle.sqlite.specs.Order.{Row}
+use Rattle.sqlite.specs.Term.{Term, Env, eval_all}
+use Rattle.sqlite.specs.Tree.{Trees}
+use Rattle.sqlite.specs.Query.{Query, inner, end, matches, IsSureAnswer}
+use Rattle.sqlite.specs.Program.{overlay}
+use Rattle.sqlite.specs.Command.TheVariants.{Select}
+use Rattle.sqlite.specs.Listing.{understood, reads_listing}
+use Rattle.sqlite.specs.State.{State, Survives, CommitsShowing, Shown, FailsToQuery}
+use Rattle.sqlite.specs.declared.error.Error.{Error}
+use Rattle.sqlite.proofs.Callers.{IsPlain, command_of, reads_as, never_commits}
+use Rattle.sqlite.proofs.StateLemmas.{survives_weaker}
+use Rattle.reg_schema.specs.Schema.{ours}
+use Rattle.reg_schema.specs.States.{IsInside, IsReady, OnlyReads}
+use Rattle.reg_schema.proofs.Queries.{plain, answers, maps_twice}
+use Rattle.reg_schema.proofs.ReadLemmas.{shown_unchanged, query_refused}
+
+cons_one : {A B : Type 0} (b : Bool) (f : A → B) (x : A) (more : List B) (rest : List A) → more ≡ map f rest → cond b (f x ∷ []) [] ++ more ≡ map f (cond b (x ∷ rest) rest)
+cons_one true f x more rest h = ap (λ ys. f x ∷ ys) h
+cons_one false f x more rest h = h
+
+-- the matches of one table are the rows that pass
+pub matched : {A B : Type 0} (p : A → Bool) (f : A → B) (xs : List A) → flat_map (λ x. cond (p x) (f x ∷ []) []) xs ≡ map f (filter p xs)
+matched p f [] = refl
+matched p f (x ∷ xs) = cons_one (p x) f x (flat_map (λ y. cond (p y) (f y ∷ []) []) xs) (filter p xs) (matched p f xs)
+
+-- the rows of one table that pass, in some order
+pub of_table : (db : Trees) (params : Row) (tree : ℕ) (filters project : List Term) (rows : List Row) (test : Row → Bool) → matches db filters (inner tree end) (params ∷ []) ≡ map (λ r. params ∷ r ∷ []) (filter test (db tree))
+    → IsSureAnswer (plain (inner tree end) filters project) db params rows → IsPermutation (map (λ r. eval_all project (params ∷ r ∷ [])) (filter test (db tree))) rows
+of_table db params tree filters project rows test met h =
+    let env = λ (r : Row). params ∷ r ∷ [] in
+    subst (λ xs. IsPermutation xs rows) (ap (map (eval_all project)) met ∙ maps_twice env (eval_all project) (filter test (db tree))) (answers db params (inner tree end) filters project rows h)
+
+module _ (text : List ℕ) (bare : IsPlain (understood ours text)) where
+  stays_plain : (old : State) → IsInside old → IsPlain (understood old.now.schema text)
+  stays_plain old at = subst (λ s. IsPlain (understood s text)) (sym at.schema_is) bare
+
+  pub only_reads : (params : Row) (old new : State) (r : Result (Vec Row Global) Error) → IsInside old → IfOk r (λ rows. Shown text params old new rows.items) → IfErr r (FailsToQuery text params old new) → OnlyReads r old new
+  only_reads params old new (Err e) at ok err = (tt, query_refused text params old new (stays_plain old at) e (inl err))
+  only_reads params old new (Ok rows) at ok err = (shown_unchanged text params old new (stays_plain old at) rows.items ok, tt)
+
+  pub reading_survives : (params : Row) (old new : State) → IsReady old → Survives old new (CommitsShowing text params old) → Survives old new (λ _. ⊥)
+  reading_survives params old new at s =
+      survives_weaker old new _ _ (λ clean db. never_commits text params old db (stays_plain old (at (omega (arith, s.clean))))) s
+
+  module _ (q : Query) (names : List (List ℕ)) (is : command_of (understood ours text) ≡ Select (record { lets = []; body = q }) names) (unlisted : reads_listing ours text ≡ false) where
+    -- the rows are an answer of the query
+    pub answered : (params : Row) (old new : State) (rows : List Row) → IsInside old → Shown text params old new rows → IsSureAnswer q (overlay old.now.trees []) params rows
+    answered params old new rows at h = (reads_as text params old new ours at.schema_is _ is bare unlisted rows h).answer
+
+    pub if_answered : (params : Row) (old new : State) (P : List Row → Type 0) → ((rows : List Row) → IsSureAnswer q (overlay old.now.trees []) params rows → P rows) → (r : Result (Vec Row Global) Error) → IsInside old
+        → IfOk r (λ rows. Shown text params old new rows.items) → IfOk r (λ rows. P rows.items)
+    if_answered params old new P gives (Err e) at h = tt
+    if_answered params old new P gives (Ok rows) at h = gives rows.items (answered params old new rows.items at h)

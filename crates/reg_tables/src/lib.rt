@@ -1,0 +1,4 @@
+//! The registry kept in tables: typed calls on them, in transactions.
+#![tactic(auto)]
+
+mod accounts;
