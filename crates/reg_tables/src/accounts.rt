@@ -1,6 +1,6 @@
 //! The table of accounts, a statement a function.
 
-ghost use Rattle.std.specs.Prelude.{◌≡◌, true, false, [], ◌∷◌, IfOk, OnOk, OnErr, filter, map, IsPermutation};
+ghost use Rattle.std.specs.Prelude.{◌≡◌, pos, true, false, [], ◌∷◌, IfOk, OnOk, OnErr, filter, map, IsPermutation};
 ghost use Rattle.std.specs.Option.{option_map};
 ghost use Rattle.sqlite.specs.State.{HasCleanDisk, Survives};
 ghost use Rattle.sqlite.specs.Held.{state};
@@ -20,7 +20,7 @@ pub(crate) fn insert<S: Alter>(
     name: Option<&str>,
 ) -> Result<usize, Error>
     requires { IsReady (state S.Store conn.old) }
-    ensures added { HasCleanDisk (state S.Store conn.new) → OnOk result (Adds 1 (account_row id login.now (option_map (λ n. n.now) name) true) (state S.Store conn.old) (state S.Store conn.new)) }
+    ensures added { HasCleanDisk (state S.Store conn.new) → OnOk result (Adds 1 (account_row id login.now (option_map (λ n. n.now) name.entry) true) (state S.Store conn.old) (state S.Store conn.new)) }
     ensures refused { HasCleanDisk (state S.Store conn.new) → OnErr result (Refuses (state S.Store conn.old) (state S.Store conn.new)) }
     ensures survives { Survives (state S.Store conn.old) (state S.Store conn.new) (λ _. ⊥) }
 {
