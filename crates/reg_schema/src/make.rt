@@ -106,6 +106,7 @@ pub fn make_tables<S: Alter>(conn: &mut Connection<S>, base: &str) -> Result<(),
     ensures made { HasCleanDisk (state S.Store conn.new) → OnOk result (IsMade base.now (state S.Store conn.new).committed × IsAtRest (state S.Store conn.new)) }
     ensures ours { OnOk result (IsOurs (state S.Store conn.new)) }
     ensures unknown { (result ≡ Err MakeFault.UnknownSchema) ↔ ((state S.Store conn.old).now.schema ≢ blank) }
+    ensures blank { result ≢ Err MakeFault.UnknownSchema → (state S.Store conn.old).now.schema ≡ blank }
     ensures untouched { result ≡ Err MakeFault.UnknownSchema → conn.new ≡ conn.old }
     ensures undone { HasCleanDisk (state S.Store conn.new) → result ≡ Err MakeFault.Storage → IsUndone (state S.Store conn.old) (state S.Store conn.new) }
     ensures survives { Survives (state S.Store conn.old) (state S.Store conn.new) (λ trees. (db : _) × IsMade base.now db × (trees ≡ db.trees)) }

@@ -1,4 +1,9 @@
 //! The registry kept in tables: typed calls on them, in transactions.
 #![tactic(auto)]
 
-mod accounts;
+mod tables;
+mod work;
+
+pub use reg_schema::MakeFault;
+pub use tables::Tables;
+pub use work::{StoreFault, Work};

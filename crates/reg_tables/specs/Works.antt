@@ -1,0 +1,60 @@
+-- The tables and a transaction of them, as a caller sees them.
+use Rattle.std.specs.Prelude.{◌≡◌, ◌⊎◌, Bool, true, false, Result, OnOk, OnErr}
+use Rattle.sqlite_trees.specs.declared.store.Store.{Ghosts}
+use Rattle.sqlite.specs.Held.{Held, state}
+use Rattle.sqlite.specs.State.{State, HasCleanDisk, Survives}
+use Rattle.reg_schema.specs.States.{IsInside, IsReady, IsOurs, Refuses}
+use Rattle.reg_tables.specs.declared.tables.Tables.{Tables}
+use Rattle.reg_tables.specs.declared.work.Work.{Work}
+
+-- the connection of the tables
+abbrev pub held : {S : Type 0} → Tables S → Held S
+held t = t.conn
+
+-- what it shows
+abbrev pub shown : {S : Type 0} → Ghosts S → Tables S → State
+shown g t = state g (held t)
+
+-- a commit was refused: the tables answer nothing more
+abbrev pub is_shut : {S : Type 0} → Tables S → Bool
+is_shut t = t.shut
+
+-- the tables in a transaction
+abbrev pub seen : {S : Type 0} → Ghosts S → Work S → State
+seen g w = shown g w.tables.now
+
+-- a call has failed: nothing of the transaction will be kept
+abbrev pub has_failed : {S : Type 0} → Work S → Bool
+has_failed w = w.failed
+
+-- a connection to our tables
+abbrev pub AreOurs : {S : Type 0} → Ghosts S → Tables S → Type 0
+AreOurs g t = IsOurs (shown g t)
+
+-- a transaction of our tables; once a call has failed it may be undone already
+pub record IsAtWork {S : Type 0} (g : Ghosts S) (w : Work S) : Type 0 where
+  pub ours : IsOurs (seen g w)
+  pub ready : has_failed w ≡ false → IsReady (seen g w)
+
+-- what is seen has changed within the transaction, and nothing is committed
+pub record Within (old new : State) : Type 0 where
+  pub committed : new.committed ≡ old.committed
+  pub inside : IsInside new
+
+-- the tables where no transaction was begun
+pub record IsLeft {S : Type 0} (g : Ghosts S) (old new : Tables S) : Type 0 where
+  pub refused : HasCleanDisk (shown g new) → (held new ≡ held old) ⊎ Refuses (shown g old) (shown g new)
+  pub ours : AreOurs g new
+  pub shut : is_shut new ≡ is_shut old
+  pub survives : Survives (shown g old) (shown g new) (λ _. ⊥)
+
+-- what a call in a transaction leaves: its changes are within it, and nothing is committed; a fault ends it, and a stop leaves what it could leave before
+pub record IsCall {S T E : Type 0} (g : Ghosts S) (r : Result T E) (old new : Work S) : Type 0 where
+  pub same_reference : new.tables.ghost_name ≡ old.tables.ghost_name
+  pub same_mode : is_shut new.tables.now ≡ is_shut old.tables.now
+  pub at_work : IsAtWork g new
+  pub went_on : OnOk r ((has_failed old ≡ false) × (has_failed new ≡ false))
+  pub ended : OnErr r (has_failed new ≡ true)
+  pub within : HasCleanDisk (seen g new) → OnOk r (Within (seen g old) (seen g new))
+  pub refused : HasCleanDisk (seen g new) → OnErr r ((held new.tables.now ≡ held old.tables.now) ⊎ Refuses (seen g old) (seen g new))
+  pub survives : Survives (seen g old) (seen g new) (λ _. ⊥)

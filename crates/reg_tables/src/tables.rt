@@ -1,0 +1,73 @@
+//! The tables over a connection.
+
+ghost use Rattle.std.specs.Prelude.{◌≡◌, ◌≢◌, ◌↔◌, true, false, Err, IfErr, IfOk};
+ghost use Rattle.std.specs.Borrow.{sem, RestsIfErr};
+ghost use Rattle.sqlite.specs.State.{HasCleanDisk, Shows, Survives};
+ghost use Rattle.sqlite.specs.Held.{state};
+ghost use Rattle.reg_schema.specs.Schema.{blank};
+ghost use Rattle.reg_schema.specs.States.{IsAtRest, IsMade, IsUndone};
+ghost use Rattle.reg_tables.specs.contracts.tables.Tables.{the_row};
+ghost use Rattle.reg_tables.specs.Works.{AreOurs, IsAtWork, IsLeft, has_failed, held, is_shut, seen, shown};
+
+use crate::work::{StoreFault, Work};
+use reg_schema::{MakeFault, begin, make_tables};
+use sqlite::{Alter, Connection};
+
+/// The tables of a registry. After a commit that was refused they answer nothing more: what the store then holds is seen by opening it again.
+#[derive(Drop)]
+pub struct Tables<S: Alter> {
+    pub(crate) conn: Connection<S>,
+    pub(crate) shut: bool,
+}
+
+impl<S: Alter> Tables<S> {
+    /// Makes the tables of a registry with nothing in it. With a fault the connection is handed back.
+    pub fn make(
+        mut conn: Connection<S>,
+        base: &str,
+    ) -> Result<Tables<S>, (MakeFault, Connection<S>)>
+        ensures made { IfOk result (λ t. HasCleanDisk (shown S.Store t) → IsMade base.now (shown S.Store t).committed × IsAtRest (shown S.Store t)) }
+        ensures ours { IfOk result (λ t. AreOurs S.Store t × (is_shut t ≡ false)) }
+        ensures unknown { IfErr result (λ e. (e.0 ≡ MakeFault.UnknownSchema) ↔ ((state S.Store conn).now.schema ≢ blank)) }
+        ensures blank { IfOk result (λ t. (state S.Store conn).now.schema ≡ blank) }
+        ensures untouched { IfErr result (λ e. e.0 ≡ MakeFault.UnknownSchema → e.1 ≡ conn) }
+        ensures undone { IfErr result (λ e. HasCleanDisk (state S.Store e.1) → e.0 ≡ MakeFault.Storage → IsUndone (state S.Store conn) (state S.Store e.1)) }
+        ensures kept { IfOk result (λ t. Survives (state S.Store conn) (shown S.Store t) (λ trees. (db : _) × IsMade base.now db × (trees ≡ db.trees))) }
+        ensures handed_back { IfErr result (λ e. Survives (state S.Store conn) (state S.Store e.1) (λ trees. (db : _) × IsMade base.now db × (trees ≡ db.trees))) }
+    {
+        match make_tables(&mut conn, base) {
+            Ok(()) => Ok(Tables { conn, shut: false }),
+            Err(fault) => Err((fault, conn)),
+        }
+    }
+
+    /// The connection, with the rows as they are.
+    pub fn into_connection(self) -> Connection<S>
+        ensures { result ≡ held self }
+    {
+        let Tables { conn, shut: _ } = self;
+        conn
+    }
+
+    /// Begins a transaction.
+    pub fn work(&mut self) -> Result<Work<'_, S>, StoreFault>
+        requires { AreOurs S.Store self.old }
+        ensures* refused { sem 𝓛 (RestsIfErr (the_row S.row S.Store) self.entry (λ w. w.tables.ghost_name) result (IsLeft S.Store self.old)) }
+        ensures same_reference { IfOk result (λ w. w.tables.ghost_name ≡ self.entry.ghost_name) }
+        ensures begun { IfOk result (λ w. (has_failed w ≡ false) × (HasCleanDisk (seen S.Store w) → Shows (shown S.Store self.old) (seen S.Store w) (shown S.Store self.old).now (shown S.Store self.old).committed true)) }
+        ensures at_work { IfOk result (IsAtWork S.Store) }
+        ensures open { IfOk result (λ w. is_shut self.old ≡ false) }
+        ensures survives { IfOk result (λ w. Survives (shown S.Store self.old) (seen S.Store w) (λ _. ⊥)) }
+    {
+        if self.shut {
+            return Err(StoreFault);
+        }
+        if begin(&mut self.conn).is_err() {
+            return Err(StoreFault);
+        }
+        Ok(Work {
+            tables: self,
+            failed: false,
+        })
+    }
+}
