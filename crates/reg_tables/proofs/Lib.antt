@@ -1,0 +1,3 @@
+pub mod Permutes
+pub mod Numbered
+pub mod Standing

@@ -1,3 +1,4 @@
 pub mod Columns
+pub mod Stands
 pub mod Tests
 pub mod Works
