@@ -1,0 +1,4 @@
+pub mod AccountQueries
+pub mod AccountTexts
+pub mod Greatest
+pub mod Matches

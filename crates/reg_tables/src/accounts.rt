@@ -8,8 +8,10 @@ ghost use Rattle.sqlite_trees.specs.Tree.{has_rowid};
 ghost use Rattle.reg_schema.specs.States.{IsReady, Refuses, OnlyReads};
 ghost use Rattle.reg_schema.specs.Changes.{Adds, Replaces};
 ghost use Rattle.reg_tables.specs.Columns.{account_row};
+ghost use Rattle.reg_tables.specs.Greatest.{IsGreatest, row_of_id};
 ghost use Rattle.reg_tables.specs.Tests.{is_text, shows};
 
+use crate::rows::only_id;
 use sqlite::{Alter, Connection, Error, Row, params};
 
 /// Adds an account that is enabled.
@@ -61,4 +63,24 @@ pub(crate) fn select_by_login<S: Alter>(
         "SELECT id, login, name, enabled FROM accounts WHERE login = ?1",
         params![login],
     )
+}
+
+fn select_last<S: Alter>(conn: &mut Connection<S>) -> Result<Vec<Row>, Error>
+    requires { IsReady (state S.Store conn.old) }
+    ensures rows { HasCleanDisk (state S.Store conn.new) → IfOk result (λ rows. IsGreatest ((state S.Store conn.old).now.trees 1) rows.items) }
+    ensures reads { HasCleanDisk (state S.Store conn.new) → OnlyReads result (state S.Store conn.old) (state S.Store conn.new) }
+    ensures survives { Survives (state S.Store conn.old) (state S.Store conn.new) (λ _. ⊥) }
+{
+    conn.query_all("SELECT id FROM accounts ORDER BY id DESC LIMIT 1", &[])
+}
+
+/// The greatest id of an account, if there is one.
+pub(crate) fn last_id<S: Alter>(conn: &mut Connection<S>) -> Result<Option<u32>, Error>
+    requires { IsReady (state S.Store conn.old) }
+    ensures found { HasCleanDisk (state S.Store conn.new) → IfOk result (λ id. IsGreatest ((state S.Store conn.old).now.trees 1) (row_of_id id)) }
+    ensures reads { HasCleanDisk (state S.Store conn.new) → OnlyReads result (state S.Store conn.old) (state S.Store conn.new) }
+    ensures survives { Survives (state S.Store conn.old) (state S.Store conn.new) (λ _. ⊥) }
+{
+    let rows = select_last(conn)?;
+    only_id(&rows)
 }
