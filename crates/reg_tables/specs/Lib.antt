@@ -1,4 +1,5 @@
 pub mod Columns
 pub mod Stands
+pub mod Greatest
 pub mod Tests
 pub mod Works

@@ -7,3 +7,5 @@ mod work;
 pub use reg_schema::MakeFault;
 pub use tables::Tables;
 pub use work::{StoreFault, Work};
+mod accounts;
+mod rows;
