@@ -1,0 +1,3 @@
+pub mod TokenTexts
+pub mod ScopeTexts
+pub mod OwnerTexts

@@ -2,3 +2,6 @@
 #![tactic(auto)]
 
 mod accounts;
+mod owners;
+mod scopes;
+mod tokens;
