@@ -1,2 +1,4 @@
 pub mod Columns
+pub mod Owners
 pub mod Tests
+pub mod Tokens

@@ -5,7 +5,9 @@ ghost use Rattle.sqlite.specs.State.{HasCleanDisk, Survives};
 ghost use Rattle.sqlite.specs.Held.{state};
 ghost use Rattle.reg_schema.specs.States.{IsReady, Refuses, OnlyReads};
 ghost use Rattle.reg_schema.specs.Changes.{AddsColumns};
+ghost use Rattle.reg_schema.specs.Rows.{IsInOrder, by_column, by_columns};
 ghost use Rattle.reg_tables.specs.Columns.{scope_columns};
+ghost use Rattle.reg_tables.specs.Tests.{is_number, shows};
 
 use sqlite::{Alter, Connection, Error, Row, params};
 
@@ -26,5 +28,31 @@ pub(crate) fn insert<S: Alter>(
     conn.execute(
         "INSERT INTO scopes (token, place, pattern, low, high) VALUES (?1, ?2, ?3, ?4, ?5)",
         params![token, place, pattern, low, high],
+    )
+}
+
+/// The rows of the scopes of a token, in order: token, place, pattern and bounds.
+pub(crate) fn select_of<S: Alter>(conn: &mut Connection<S>, token: u32) -> Result<Vec<Row>, Error>
+    requires { IsReady (state S.Store conn.old) }
+    ensures rows { HasCleanDisk (state S.Store conn.new) → IfOk result (λ rows. IsInOrder (by_column 2) (filter (is_number 1 token) ((state S.Store conn.old).now.trees 5)) (shows (1 ∷ 2 ∷ 3 ∷ 4 ∷ 5 ∷ [])) rows.items) }
+    ensures reads { HasCleanDisk (state S.Store conn.new) → OnlyReads result (state S.Store conn.old) (state S.Store conn.new) }
+    ensures survives { Survives (state S.Store conn.old) (state S.Store conn.new) (λ _. ⊥) }
+{
+    conn.query_all(
+        "SELECT token, place, pattern, low, high FROM scopes WHERE token = ?1 ORDER BY place",
+        params![token],
+    )
+}
+
+/// The rows of all scopes, by token and place: token, place, pattern and bounds.
+pub(crate) fn select_all<S: Alter>(conn: &mut Connection<S>) -> Result<Vec<Row>, Error>
+    requires { IsReady (state S.Store conn.old) }
+    ensures rows { HasCleanDisk (state S.Store conn.new) → IfOk result (λ rows. IsInOrder (by_columns 1 2) ((state S.Store conn.old).now.trees 5) (shows (1 ∷ 2 ∷ 3 ∷ 4 ∷ 5 ∷ [])) rows.items) }
+    ensures reads { HasCleanDisk (state S.Store conn.new) → OnlyReads result (state S.Store conn.old) (state S.Store conn.new) }
+    ensures survives { Survives (state S.Store conn.old) (state S.Store conn.new) (λ _. ⊥) }
+{
+    conn.query_all(
+        "SELECT token, place, pattern, low, high FROM scopes ORDER BY token, place",
+        &[],
     )
 }

@@ -1,12 +1,16 @@
 //! The table of tokens, a statement a function.
 
-ghost use Rattle.std.specs.Prelude.{◌≡◌, pos, true, false, [], ◌∷◌, IfOk, OnOk, OnErr, filter, map, IsPermutation};
+ghost use Rattle.std.specs.Prelude.{◌≡◌, pos, true, false, [], ◌∷◌, IfOk, OnOk, OnErr, filter, map, length, IsPermutation};
 ghost use Rattle.sqlite.specs.State.{HasCleanDisk, Survives};
 ghost use Rattle.sqlite.specs.Held.{state};
 ghost use Rattle.sqlite_trees.specs.Tree.{has_rowid};
 ghost use Rattle.reg_schema.specs.States.{IsReady, Refuses, OnlyReads};
 ghost use Rattle.reg_schema.specs.Changes.{Adds, Replaces};
+ghost use Rattle.reg_schema.specs.Rows.{IsInOrder, by_column};
+ghost use Rattle.reg_schema.proofs.Counts.{capped};
 ghost use Rattle.reg_tables.specs.Columns.{token_row};
+ghost use Rattle.reg_tables.specs.Tests.{shows};
+ghost use Rattle.reg_tables.specs.Tokens.{tokens_with_accounts};
 
 use reg_model::Endpoints;
 use sqlite::{Alter, Connection, Error, Row, params};
@@ -46,4 +50,43 @@ pub(crate) fn revoke<S: Alter>(conn: &mut Connection<S>, id: u32) -> Result<usiz
     ensures survives { Survives (state S.Store conn.old) (state S.Store conn.new) (λ _. ⊥) }
 {
     conn.execute("UPDATE tokens SET live = 0 WHERE id = ?1", params![id])
+}
+
+/// The rows of the tokens with this digest, with their accounts: id, account, mark, endpoints, login and mark of the account.
+pub(crate) fn select_by_digest<S: Alter>(
+    conn: &mut Connection<S>,
+    digest: &[u8; 32],
+) -> Result<Vec<Row>, Error>
+    requires { IsReady (state S.Store conn.old) }
+    ensures rows { HasCleanDisk (state S.Store conn.new) → IfOk result (λ rows. IsPermutation (tokens_with_accounts digest.now (state S.Store conn.old).now.trees) rows.items) }
+    ensures reads { HasCleanDisk (state S.Store conn.new) → OnlyReads result (state S.Store conn.old) (state S.Store conn.new) }
+    ensures survives { Survives (state S.Store conn.old) (state S.Store conn.new) (λ _. ⊥) }
+{
+    conn.query_all(
+        "SELECT t.id, t.account, t.live, t.publish_new, t.publish_update, t.yank, t.change_owners, a.login, a.enabled FROM tokens t JOIN accounts a ON a.id = t.account WHERE t.digest = ?1",
+        params![digest.as_slice()],
+    )
+}
+
+/// The rows of all tokens, by id: id, digest, account, mark and endpoints.
+pub(crate) fn select_all<S: Alter>(conn: &mut Connection<S>) -> Result<Vec<Row>, Error>
+    requires { IsReady (state S.Store conn.old) }
+    ensures rows { HasCleanDisk (state S.Store conn.new) → IfOk result (λ rows. IsInOrder (by_column 0) ((state S.Store conn.old).now.trees 3) (shows (0 ∷ 2 ∷ 3 ∷ 4 ∷ 5 ∷ 6 ∷ 7 ∷ 8 ∷ [])) rows.items) }
+    ensures reads { HasCleanDisk (state S.Store conn.new) → OnlyReads result (state S.Store conn.old) (state S.Store conn.new) }
+    ensures survives { Survives (state S.Store conn.old) (state S.Store conn.new) (λ _. ⊥) }
+{
+    conn.query_all(
+        "SELECT id, digest, account, live, publish_new, publish_update, yank, change_owners FROM tokens ORDER BY id",
+        &[],
+    )
+}
+
+/// The row of the number of tokens.
+pub(crate) fn select_count<S: Alter>(conn: &mut Connection<S>) -> Result<Vec<Row>, Error>
+    requires { IsReady (state S.Store conn.old) }
+    ensures rows { HasCleanDisk (state S.Store conn.new) → IfOk result (λ rows. rows.items ≡ (capped (length ((state S.Store conn.old).now.trees 3)) ∷ []) ∷ []) }
+    ensures reads { HasCleanDisk (state S.Store conn.new) → OnlyReads result (state S.Store conn.old) (state S.Store conn.new) }
+    ensures survives { Survives (state S.Store conn.old) (state S.Store conn.new) (λ _. ⊥) }
+{
+    conn.query_all("SELECT count(*) FROM tokens", &[])
 }
