@@ -5,3 +5,11 @@ pub mod AccountQueries
 pub mod AccountTexts
 pub mod Greatest
 pub mod Matches
+pub mod Matches
+pub mod Ordered
+pub mod OwnerQueries
+pub mod OwnerTexts
+pub mod ScopeQueries
+pub mod ScopeTexts
+pub mod TokenQueries
+pub mod TokenTexts

@@ -9,3 +9,6 @@ pub use tables::Tables;
 pub use work::{StoreFault, Work};
 mod accounts;
 mod rows;
+mod owners;
+mod scopes;
+mod tokens;
