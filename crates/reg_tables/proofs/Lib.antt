@@ -1,0 +1,3 @@
+pub mod ArchiveTexts
+pub mod Binding
+pub mod VersionTexts

@@ -2,3 +2,5 @@
 #![tactic(auto)]
 
 mod accounts;
+mod archives;
+mod versions;
