@@ -1,3 +1,5 @@
 pub mod ArchiveTexts
 pub mod Binding
+pub mod VersionQueries
 pub mod VersionTexts
+pub mod Whole

@@ -61,3 +61,32 @@ pub(crate) fn set_yanked<S: Alter>(
         params![crate_id, release, vers, yanked],
     )
 }
+
+/// The rows of the versions of a crate, in the order of their ids.
+pub(crate) fn select_of<S: Alter>(
+    conn: &mut Connection<S>,
+    crate_id: u32,
+) -> Result<Vec<Row>, Error>
+    requires { IsReady (state S.Store conn.old) }
+    ensures rows { HasCleanDisk (state S.Store conn.new) → IfOk result (λ rows. IsInOrder (by_column 0) (filter (is_number 2 crate_id) ((state S.Store conn.old).now.trees 11)) (shows (0 ∷ 2 ∷ 3 ∷ 4 ∷ 5 ∷ 6 ∷ 7 ∷ 8 ∷ [])) rows.items) }
+    ensures reads { HasCleanDisk (state S.Store conn.new) → OnlyReads result (state S.Store conn.old) (state S.Store conn.new) }
+    ensures survives { Survives (state S.Store conn.old) (state S.Store conn.new) (λ _. ⊥) }
+{
+    conn.query_all(
+        "SELECT id, crate, vers, release, digest, stem, description, yanked FROM versions WHERE crate = ?1 ORDER BY id",
+        params![crate_id],
+    )
+}
+
+/// The rows of all versions, in the order of their ids.
+pub(crate) fn select_all<S: Alter>(conn: &mut Connection<S>) -> Result<Vec<Row>, Error>
+    requires { IsReady (state S.Store conn.old) }
+    ensures rows { HasCleanDisk (state S.Store conn.new) → IfOk result (λ rows. IsInOrder (by_column 0) ((state S.Store conn.old).now.trees 11) (shows (0 ∷ 2 ∷ 3 ∷ 4 ∷ 5 ∷ 6 ∷ 7 ∷ 8 ∷ [])) rows.items) }
+    ensures reads { HasCleanDisk (state S.Store conn.new) → OnlyReads result (state S.Store conn.old) (state S.Store conn.new) }
+    ensures survives { Survives (state S.Store conn.old) (state S.Store conn.new) (λ _. ⊥) }
+{
+    conn.query_all(
+        "SELECT id, crate, vers, release, digest, stem, description, yanked FROM versions ORDER BY id",
+        &[],
+    )
+}
