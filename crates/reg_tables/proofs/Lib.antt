@@ -13,3 +13,8 @@ pub mod ScopeQueries
 pub mod ScopeTexts
 pub mod TokenQueries
 pub mod TokenTexts
+pub mod ArchiveTexts
+pub mod Binding
+pub mod VersionQueries
+pub mod VersionTexts
+pub mod Whole

@@ -12,3 +12,5 @@ mod rows;
 mod owners;
 mod scopes;
 mod tokens;
+mod archives;
+mod versions;

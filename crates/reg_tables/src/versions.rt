@@ -1,0 +1,92 @@
+//! The table of versions, a statement a function.
+
+ghost use Rattle.std.specs.Prelude.{◌≡◌, ◌<◌, ◌^◌, pos, false, [], ◌∷◌, IfOk, OnOk, OnErr, filter, map, IsPermutation};
+ghost use Rattle.std.specs.Option.{option_map};
+ghost use Rattle.sqlite.specs.State.{HasCleanDisk, Survives};
+ghost use Rattle.sqlite.specs.Held.{state};
+ghost use Rattle.reg_schema.specs.States.{IsReady, Refuses, OnlyReads};
+ghost use Rattle.reg_schema.specs.Changes.{Adds, Replaces};
+ghost use Rattle.reg_schema.specs.Rows.{IsInOrder, by_column};
+ghost use Rattle.reg_tables.specs.Columns.{version_row};
+ghost use Rattle.reg_tables.specs.Tests.{is_number, is_version, shows};
+
+use sqlite::{Alter, Connection, Error, Row, params};
+
+/// Adds a version that is not yanked. SQL keeps ids below 2^63.
+pub(crate) fn insert<S: Alter>(
+    conn: &mut Connection<S>,
+    id: u64,
+    crate_id: u32,
+    vers: &str,
+    release: &str,
+    digest: &[u8; 32],
+    stem: &[u8],
+    description: Option<&str>,
+) -> Result<usize, Error>
+    requires ready { IsReady (state S.Store conn.old) }
+    requires small { id < 2 ^ 63 }
+    ensures added { HasCleanDisk (state S.Store conn.new) → OnOk result (Adds 11 (version_row id crate_id vers.now release.now digest.now stem.now (option_map (λ d. d.now) description.entry) false) (state S.Store conn.old) (state S.Store conn.new)) }
+    ensures refused { HasCleanDisk (state S.Store conn.new) → OnErr result (Refuses (state S.Store conn.old) (state S.Store conn.new)) }
+    ensures survives { Survives (state S.Store conn.old) (state S.Store conn.new) (λ _. ⊥) }
+{
+    conn.execute(
+        "INSERT INTO versions (id, crate, vers, release, digest, stem, description, yanked) VALUES (?1, ?2, ?3, ?4, ?5, ?6, ?7, 0)",
+        params![
+            id as i64,
+            crate_id,
+            vers,
+            release,
+            digest.as_slice(),
+            stem,
+            description
+        ],
+    )
+}
+
+/// Yanks a version, or takes that back.
+pub(crate) fn set_yanked<S: Alter>(
+    conn: &mut Connection<S>,
+    crate_id: u32,
+    release: &str,
+    vers: &str,
+    yanked: bool,
+) -> Result<usize, Error>
+    requires { IsReady (state S.Store conn.old) }
+    ensures replaced { HasCleanDisk (state S.Store conn.new) → OnOk result ((id : _) → (digest : _) → (stem : _) → (description : _) → (was : _) → filter (is_version crate_id release.now vers.now) ((state S.Store conn.old).now.trees 11) ≡ version_row id crate_id vers.now release.now digest stem description was ∷ [] → Replaces 11 id (version_row id crate_id vers.now release.now digest stem description yanked) (state S.Store conn.old) (state S.Store conn.new)) }
+    ensures refused { HasCleanDisk (state S.Store conn.new) → OnErr result (Refuses (state S.Store conn.old) (state S.Store conn.new)) }
+    ensures survives { Survives (state S.Store conn.old) (state S.Store conn.new) (λ _. ⊥) }
+{
+    conn.execute(
+        "UPDATE versions SET yanked = ?4 WHERE crate = ?1 AND release = ?2 AND vers = ?3",
+        params![crate_id, release, vers, yanked],
+    )
+}
+
+/// The rows of the versions of a crate, in the order of their ids.
+pub(crate) fn select_of<S: Alter>(
+    conn: &mut Connection<S>,
+    crate_id: u32,
+) -> Result<Vec<Row>, Error>
+    requires { IsReady (state S.Store conn.old) }
+    ensures rows { HasCleanDisk (state S.Store conn.new) → IfOk result (λ rows. IsInOrder (by_column 0) (filter (is_number 2 crate_id) ((state S.Store conn.old).now.trees 11)) (shows (0 ∷ 2 ∷ 3 ∷ 4 ∷ 5 ∷ 6 ∷ 7 ∷ 8 ∷ [])) rows.items) }
+    ensures reads { HasCleanDisk (state S.Store conn.new) → OnlyReads result (state S.Store conn.old) (state S.Store conn.new) }
+    ensures survives { Survives (state S.Store conn.old) (state S.Store conn.new) (λ _. ⊥) }
+{
+    conn.query_all(
+        "SELECT id, crate, vers, release, digest, stem, description, yanked FROM versions WHERE crate = ?1 ORDER BY id",
+        params![crate_id],
+    )
+}
+
+/// The rows of all versions, in the order of their ids.
+pub(crate) fn select_all<S: Alter>(conn: &mut Connection<S>) -> Result<Vec<Row>, Error>
+    requires { IsReady (state S.Store conn.old) }
+    ensures rows { HasCleanDisk (state S.Store conn.new) → IfOk result (λ rows. IsInOrder (by_column 0) ((state S.Store conn.old).now.trees 11) (shows (0 ∷ 2 ∷ 3 ∷ 4 ∷ 5 ∷ 6 ∷ 7 ∷ 8 ∷ [])) rows.items) }
+    ensures reads { HasCleanDisk (state S.Store conn.new) → OnlyReads result (state S.Store conn.old) (state S.Store conn.new) }
+    ensures survives { Survives (state S.Store conn.old) (state S.Store conn.new) (λ _. ⊥) }
+{
+    conn.query_all(
+        "SELECT id, crate, vers, release, digest, stem, description, yanked FROM versions ORDER BY id",
+        &[],
+    )
+}
