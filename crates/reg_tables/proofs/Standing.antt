@@ -52,8 +52,10 @@ module _ (accounts : List Account) (a : Account) (old new : State) (stands : Sta
       let more = IsPermutation-cons (row_of_account e) (map row_of_account entries) (old.now.trees 1) stands.rows in
       let put = put_permutes (row_of_account e) (old.now.trees 1) adds.fresh in
       let last = IsPermutation-map row_of_account (entries ++ e ∷ []) (e ∷ entries) (IsPermutation-sym _ _ (snoc_permutes entries e)) in
-      record { rows = subst (λ xs. IsPermutation (map row_of_account xs) (new.now.trees 1)) (sym listed)
-        (IsPermutation-trans _ (map row_of_account (e ∷ entries)) _ last (IsPermutation-trans _ (row_of_account e ∷ old.now.trees 1) _ more (subst (IsPermutation (row_of_account e ∷ old.now.trees 1)) (sym adds.becomes.rows_are) put))) }
+      record {
+        rows = subst (λ xs. IsPermutation (map row_of_account xs) (new.now.trees 1)) (sym listed)
+            (IsPermutation-trans _ (map row_of_account (e ∷ entries)) _ last (IsPermutation-trans _ (row_of_account e ∷ old.now.trees 1) _ more (subst (IsPermutation (row_of_account e ∷ old.now.trees 1)) (sym adds.becomes.rows_are) put)));
+      }
 
   -- the row of an account that is there, and what it makes of the accounts to put another in its place
   pub account_row_at : (id : ℕ) → with_id accounts id ≡ Some a → filter (has_rowid (pos id)) (old.now.trees 1) ≡ row_of_account (id, a) ∷ []
@@ -66,5 +68,7 @@ module _ (accounts : List Account) (a : Account) (old new : State) (stands : Sta
       let put = put_replaces row_of_account (pos id) _ (id, f a) refl entries (old.now.trees 1) stands.rows in
       let others = same_filter (λ e. not (has_rowid (pos id) (row_of_account e))) (λ e. not (e.0 == id)) (λ e. ap not (same_number e.0 id)) entries in
       let moved = IsPermutation-map row_of_account _ _ (IsPermutation-sym _ _ (changed_at f id accounts a found)) in
-      record { rows = IsPermutation-trans _ (map row_of_account ((id, f a) ∷ filter (λ e. not (e.0 == id)) entries)) _ moved
-        (subst (λ xs. IsPermutation (map row_of_account ((id, f a) ∷ xs)) (new.now.trees 1)) others (subst (IsPermutation (map row_of_account ((id, f a) ∷ filter (λ e. not (has_rowid (pos id) (row_of_account e))) entries))) (sym replaced.rows_are) put)) }
+      record {
+        rows = IsPermutation-trans _ (map row_of_account ((id, f a) ∷ filter (λ e. not (e.0 == id)) entries)) _ moved
+            (subst (λ xs. IsPermutation (map row_of_account ((id, f a) ∷ xs)) (new.now.trees 1)) others (subst (IsPermutation (map row_of_account ((id, f a) ∷ filter (λ e. not (has_rowid (pos id) (row_of_account e))) entries))) (sym replaced.rows_are) put));
+      }

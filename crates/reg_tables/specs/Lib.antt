@@ -1,8 +1,8 @@
 pub mod Columns
-pub mod Stands
 pub mod Greatest
-pub mod Tests
-pub mod Works
+pub mod Ids
 pub mod Owners
+pub mod Stands
 pub mod Tests
 pub mod Tokens
+pub mod Works

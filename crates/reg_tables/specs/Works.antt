@@ -1,8 +1,8 @@
 -- The tables and a transaction of them, as a caller sees them.
-use Rattle.std.specs.Prelude.{◌≡◌, ◌⊎◌, Bool, true, false, Result, OnOk, OnErr}
+use Rattle.std.specs.Prelude.{◌≡◌, ◌⊎◌, Bool, true, false, Result, OnOk, OnErr, IsTrue}
 use Rattle.sqlite_trees.specs.declared.store.Store.{Ghosts}
 use Rattle.sqlite.specs.Held.{Held, state}
-use Rattle.sqlite.specs.State.{State, HasCleanDisk, Survives}
+use Rattle.sqlite.specs.State.{State, HasCleanDisk, KeepsCommit, Survives}
 use Rattle.reg_schema.specs.States.{IsInside, IsReady, IsOurs, Refuses}
 use Rattle.reg_tables.specs.declared.tables.Tables.{Tables}
 use Rattle.reg_tables.specs.declared.work.Work.{Work}
@@ -38,8 +38,15 @@ pub record IsAtWork {S : Type 0} (g : Ghosts S) (w : Work S) : Type 0 where
 
 -- what is seen has changed within the transaction, and nothing is committed
 pub record Within (old new : State) : Type 0 where
+  pub was_open : IsTrue old.is_open
   pub committed : new.committed ≡ old.committed
   pub inside : IsInside new
+  pub ours : IsOurs old → IsOurs new
+
+-- a fault within a transaction: of what is seen nothing is said but that it is ours, and nothing is committed
+pub record Fails (old new : State) : Type 0 where
+  pub kept : KeepsCommit old new
+  pub ours : IsOurs old → IsOurs new
 
 -- the tables where no transaction was begun
 pub record IsLeft {S : Type 0} (g : Ghosts S) (old new : Tables S) : Type 0 where
@@ -56,5 +63,5 @@ pub record IsCall {S T E : Type 0} (g : Ghosts S) (r : Result T E) (old new : Wo
   pub went_on : OnOk r ((has_failed old ≡ false) × (has_failed new ≡ false))
   pub ended : OnErr r (has_failed new ≡ true)
   pub within : HasCleanDisk (seen g new) → OnOk r (Within (seen g old) (seen g new))
-  pub refused : HasCleanDisk (seen g new) → OnErr r ((held new.tables.now ≡ held old.tables.now) ⊎ Refuses (seen g old) (seen g new))
+  pub failed : HasCleanDisk (seen g new) → OnErr r (Fails (seen g old) (seen g new))
   pub survives : Survives (seen g old) (seen g new) (λ _. ⊥)

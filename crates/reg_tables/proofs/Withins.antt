@@ -1,0 +1,52 @@
+-- What statements of a transaction leave, one after another.
+use Rattle.std.proofs.Common.{◌≡◌, ◌⊎◌, inl, inr, ℕ, List, Bool, true, false, Ok, Err, Result, OnOk, OnErr, IfOk, refl, sym, ap, subst, ◌∙◌}
+use Rattle.std.specs.Prelude.{IsTrue}
+use Rattle.sqlite.specs.Order.{Row}
+use Rattle.sqlite.specs.Tree.{Trees}
+use Rattle.sqlite.specs.State.{State, HasCleanDisk, Survives, IsUnchanged, IsRolledBack, KeepsCommit}
+use Rattle.reg_schema.specs.States.{IsInside, IsReady, KeepsOurs, IsOurs, Refuses}
+use Rattle.reg_schema.specs.Changes.{Becomes}
+use Rattle.reg_tables.specs.Works.{Within, Fails}
+
+no_rest : {b : Bool} → b ≡ true → b ≡ false → ⊥
+no_rest h e = absurd cc
+
+pub becomes_within : (old new : State) (tree : ℕ) (rows : List Row) → HasCleanDisk old → IsInside old → Becomes tree rows old new → Within old new
+becomes_within old new tree rows clean at b = record {
+  was_open = at.is_open;
+  committed = b.committed;
+  inside = b.inside;
+  ours = λ o _ _. record { now_is = b.inside.schema_is; committed_is = ap (λ d. d.schema) b.committed ∙ (o clean at.is_open).committed_is; at_rest = λ e. absurd (no_rest b.inside.inside e) };
+}
+
+pub unchanged_within : (old new : State) → HasCleanDisk old → IsInside old → IsUnchanged old new → Within old new
+unchanged_within old new clean at same = record {
+  was_open = at.is_open;
+  committed = same.0.committed_is;
+  inside = record { schema_is = ap (λ d. d.schema) same.0.now_is ∙ at.schema_is; is_open = same.0.is_open; inside = same.0.mode ∙ at.inside };
+  ours = λ o _ _.
+      record { now_is = ap (λ d. d.schema) same.0.now_is ∙ at.schema_is; committed_is = ap (λ d. d.schema) same.0.committed_is ∙ (o clean at.is_open).committed_is; at_rest = λ e. absurd (no_rest at.inside (sym same.0.mode ∙ e)) };
+}
+
+pub within_then : (a b c : State) → Within a b → Within b c → Within a c
+within_then a b c first next = record { was_open = first.was_open; committed = next.committed ∙ first.committed; inside = next.inside; ours = λ o. next.ours (first.ours o) }
+
+pub fails_after : (a b c : State) → Within a b → Fails b c → Fails a c
+fails_after a b c first next = record {
+  kept = record { was_open = λ _. first.was_open; committed = λ still. next.kept.committed still ∙ first.committed };
+  ours = λ o. next.ours (first.ours o);
+}
+
+pub unchanged_fails : (old new : State) → HasCleanDisk old → IsInside old → IsUnchanged old new → Fails old new
+unchanged_fails old new clean at same = record {
+  kept = record { was_open = λ _. at.is_open; committed = λ _. same.0.committed_is };
+  ours = (unchanged_within old new clean at same).ours;
+}
+
+pub refused_fails : (old new : State) → HasCleanDisk old → IsInside old → Refuses old new → Fails old new
+refused_fails old new clean at (inl same) = unchanged_fails old new clean at same
+refused_fails old new clean at (inr back) = record {
+  kept = record { was_open = back.was_open; committed = λ still. (back.undone still).1 };
+  ours = λ o _ still.
+      record { now_is = ap (λ d. d.schema) (back.undone still).0 ∙ (o clean at.is_open).committed_is; committed_is = ap (λ d. d.schema) (back.undone still).1 ∙ (o clean at.is_open).committed_is; at_rest = λ e. (back.undone still).0 ∙ sym (back.undone still).1 };
+}

@@ -1,0 +1,3 @@
+//! The calls of a transaction, each with what it is on the registry that the rows stand for.
+
+mod accounts;

@@ -1,0 +1,62 @@
+//! Calls on accounts.
+
+ghost use Rattle.std.specs.Prelude.{◌≡◌, ◌+◌, ◌++◌, true, [], ◌∷◌, IfOk, OnOk, OnErr, Some, length};
+ghost use Rattle.std.specs.Option.{option_map};
+ghost use Rattle.sqlite.specs.Held.{state};
+ghost use Rattle.sqlite.specs.State.{HasCleanDisk, Survives};
+ghost use Rattle.reg_schema.specs.States.{IsReady};
+ghost use Rattle.reg_model.specs.Registry.{with_id, change_at};
+ghost use Rattle.reg_tables.specs.Ids.{IsNext};
+ghost use Rattle.reg_tables.specs.Stands.{Stands};
+ghost use Rattle.reg_tables.specs.Works.{IsAtWork, IsCall, Within, Fails, seen};
+
+use crate::accounts;
+use crate::work::{StoreFault, Work};
+use sqlite::{Alter, Connection, Error};
+
+// One more than the greatest id; none where 32 bits hold no more.
+fn next_id(last: Option<u32>) -> Result<u32, Error>
+    ensures { IfOk result (λ id. IsNext last id) }
+{
+    match last {
+        None => Ok(1),
+        Some(id) => match id.checked_add(1) {
+            Some(next) => Ok(next),
+            None => Err(Error::InvalidQuery),
+        },
+    }
+}
+
+#[tactic(auto, using(crate::proofs::Withins::refused_fails, crate::proofs::Withins::unchanged_within, crate::proofs::Withins::unchanged_fails, crate::proofs::Withins::fails_after))]
+fn add<S: Alter>(conn: &mut Connection<S>, login: &str, name: Option<&str>) -> Result<u32, Error>
+    requires { IsReady (state S.Store conn.old) }
+    ensures stands { HasCleanDisk (state S.Store conn.new) → IfOk result (λ id. (s : _) → Stands s (state S.Store conn.old).now.trees → (id ≡ 1 + length s.accounts) × Stands (record s { accounts = s.accounts ++ record { login = login.now; name = option_map (λ n. n.now) name.entry; enabled = true } ∷ [] }) (state S.Store conn.new).now.trees) }
+    ensures within { HasCleanDisk (state S.Store conn.new) → OnOk result (Within (state S.Store conn.old) (state S.Store conn.new)) }
+    ensures fails { HasCleanDisk (state S.Store conn.new) → OnErr result (Fails (state S.Store conn.old) (state S.Store conn.new)) }
+    ensures survives { Survives (state S.Store conn.old) (state S.Store conn.new) (λ _. ⊥) }
+{
+    let last = accounts::last_id(conn)?;
+    let id = next_id(last)?;
+    accounts::insert(conn, id, login, name)?;
+    Ok(id)
+}
+
+impl<S: Alter> Work<'_, S> {
+    /// Adds an account that is enabled, and answers its id.
+    pub fn add_account(&mut self, login: &str, name: Option<&str>) -> Result<u32, StoreFault>
+        requires { IsAtWork S.Store self.old }
+        ensures added { HasCleanDisk (seen S.Store self.new) → IfOk result (λ id. (s : _) → Stands s (seen S.Store self.old).now.trees → (id ≡ 1 + length s.accounts) × Stands (record s { accounts = s.accounts ++ record { login = login.now; name = option_map (λ n. n.now) name.entry; enabled = true } ∷ [] }) (seen S.Store self.new).now.trees) }
+        ensures leaves { IsCall S.Store result self.old self.new }
+    {
+        if self.failed {
+            return Err(StoreFault);
+        }
+        match add(&mut self.tables.conn, login, name) {
+            Ok(id) => Ok(id),
+            Err(_) => {
+                self.failed = true;
+                Err(StoreFault)
+            }
+        }
+    }
+}
