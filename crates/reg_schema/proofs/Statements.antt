@@ -24,7 +24,7 @@ use Rattle.sqlite_trees.specs.Tree.{rowid, has_rowid, put_row, without_rowid}
 use Rattle.sqlite_schema.specs.declared.program.Program.{Program}
 use Rattle.reg_schema.specs.Schema.{ours, our_tables}
 use Rattle.reg_schema.specs.States.{IsInside}
-use Rattle.reg_schema.specs.Changes.{KeepsOthers, Becomes, Adds, AddsColumns, Replaces, is_at_one_of, Removes}
+use Rattle.reg_schema.specs.Changes.{KeepsOthers, Becomes, Touches, Adds, AddsColumns, Replaces, is_at_one_of, Removes}
 use Rattle.reg_schema.proofs.Edits.{step_of, inserted, replacing, updated, deleted}
 use Rattle.reg_schema.proofs.Queries.{same_filter}
 
@@ -123,6 +123,15 @@ module _ (text : List ℕ) (at : ℕ) (table : Table) (found : slice_get our_tab
       let w = runs_as text params old new ours inside.schema_is (Update at q) is plain count h in
       let done = updated old new ours inside.schema_is at table found (statement_of text (understood ours text)) params count refl q w in
       becomes old new table.tree _ w.shown inside done.put.schema_is (done.put.step.rows ∙ edit done.rows done.answer) done.put.step.tables
+
+  -- an UPDATE, whatever rows it answers
+  pub touches : (q : Program) → command_of (understood ours text) ≡ Update at q → (params : Row) (old new : State) (r : Result ℕ Error) → IsInside old → Executes text params old new r → OnOk r (Touches table.tree old new)
+  touches q is params old new (Err e) inside h = tt
+  touches q is params old new (Ok count) inside h =
+      let w = runs_as text params old new ours inside.schema_is (Update at q) is plain count h in
+      let done = updated old new ours inside.schema_is at table found (statement_of text (understood ours text)) params count refl q w in
+      let b = becomes old new table.tree _ w.shown inside done.put.schema_is done.put.step.rows done.put.step.tables in
+      record { others = b.others; committed = b.committed; inside = b.inside }
 
   -- a DELETE that answers the rowids of the rows that pass a test
   pub removes : (q : Program) → command_of (understood ours text) ≡ Delete at q → (params : Row) (test : Row → Bool) (old new : State) (r : Result ℕ Error) → IsInside old

@@ -21,6 +21,12 @@ pub record Becomes (tree : ℕ) (rows : List Row) (old new : State) : Type 0 whe
   pub committed : new.committed ≡ old.committed
   pub inside : IsInside new
 
+-- no other table has other rows than it had
+pub record Touches (tree : ℕ) (old new : State) : Type 0 where
+  pub others : KeepsOthers tree old.now.trees new.now.trees
+  pub committed : new.committed ≡ old.committed
+  pub inside : IsInside new
+
 -- the row is added; none had its rowid
 pub record Adds (tree : ℕ) (row : Row) (old new : State) : Type 0 where
   pub fresh : is_taken (old.now.trees tree) row ≡ false

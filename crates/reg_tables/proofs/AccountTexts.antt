@@ -30,10 +30,10 @@ use Rattle.sqlite_tied.specs.Compute.{everything}
 use Rattle.reg_schema.specs.Schema.{ours, accounts}
 use Rattle.reg_schema.specs.Rows.{mark, text_or_null}
 use Rattle.reg_schema.specs.States.{IsInside, IsReady}
-use Rattle.reg_schema.specs.Changes.{Adds, Replaces}
+use Rattle.reg_schema.specs.Changes.{Adds, Replaces, Touches}
 use Rattle.reg_schema.proofs.Edits.{step_of, replacing}
 use Rattle.reg_schema.proofs.Queries.{plain, answers, shows_filtered, same_filter, and_true, equals_int}
-use Rattle.reg_schema.proofs.Statements.{adds, replaces, cast_int, cast_null}
+use Rattle.reg_schema.proofs.Statements.{adds, replaces, touches, cast_int, cast_null}
 use Rattle.reg_schema.proofs.WriteLemmas.{survives_inside}
 use Rattle.reg_tables.specs.Columns.{account_row}
 
@@ -129,3 +129,6 @@ enables old new id enabled (Ok count) at h = λ login name was one.
 
 pub enable_survives : (old new : State) (params : Row) → IsReady old → Survives old new (CommitsBy enable_text params old) → Survives old new (λ _. ⊥)
 enable_survives old new params at = survives_inside enable_text params old ours _ enable_is new refl (λ clean. ((at clean).schema_is, (at clean).inside))
+
+pub enable_touches : (old new : State) (params : Row) (r : Result ℕ Error) → IsInside old → Executes enable_text params old new r → OnOk r (Touches accounts.tree old new)
+enable_touches old new params r = touches enable_text 1 accounts refl enable_plain enable_query enable_is params old new r

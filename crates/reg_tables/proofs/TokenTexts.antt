@@ -26,10 +26,10 @@ use Rattle.reg_model.specs.declared.endpoint.Endpoints.{Endpoints}
 use Rattle.reg_schema.specs.Schema.{ours, tokens}
 use Rattle.reg_schema.specs.Rows.{mark}
 use Rattle.reg_schema.specs.States.{IsInside, IsReady}
-use Rattle.reg_schema.specs.Changes.{Adds, Replaces}
+use Rattle.reg_schema.specs.Changes.{Adds, Replaces, Touches}
 use Rattle.reg_schema.proofs.Edits.{step_of, replacing}
 use Rattle.reg_schema.proofs.Queries.{plain, answers, shows_filtered, same_filter, equals_int, and_true}
-use Rattle.reg_schema.proofs.Statements.{adds, replaces, cast_int, cast_null}
+use Rattle.reg_schema.proofs.Statements.{adds, replaces, touches, cast_int, cast_null}
 use Rattle.reg_schema.proofs.WriteLemmas.{survives_inside}
 use Rattle.reg_tables.specs.Columns.{token_row}
 
@@ -115,3 +115,6 @@ revokes old new id (Ok count) at h = λ digest account was e one.
 
 pub revoke_survives : (old new : State) (params : Row) → IsReady old → Survives old new (CommitsBy revoke_text params old) → Survives old new (λ _. ⊥)
 revoke_survives old new params at = survives_inside revoke_text params old ours _ revoke_is new refl (λ clean. ((at clean).schema_is, (at clean).inside))
+
+pub revoke_touches : (old new : State) (params : Row) (r : Result ℕ Error) → IsInside old → Executes revoke_text params old new r → OnOk r (Touches tokens.tree old new)
+revoke_touches old new params r = touches revoke_text 2 tokens refl revoke_plain revoke_query revoke_is params old new r

@@ -31,11 +31,11 @@ use Rattle.sqlite_trees.specs.Tree.{put_row, without_rowid}
 use Rattle.sqlite_tied.specs.Compute.{everything}
 use Rattle.reg_schema.specs.Schema.{ours, versions}
 use Rattle.reg_schema.specs.States.{IsInside, IsReady}
-use Rattle.reg_schema.specs.Changes.{Adds, Replaces}
+use Rattle.reg_schema.specs.Changes.{Adds, Replaces, Touches}
 use Rattle.reg_schema.specs.Rows.{mark, text_or_null}
 use Rattle.reg_schema.proofs.Edits.{step_of, replacing}
 use Rattle.reg_schema.proofs.Queries.{plain, and_true, answers, shows_filtered, same_filter, equals_int, equals_text}
-use Rattle.reg_schema.proofs.Statements.{adds, replaces, cast_int, cast_null}
+use Rattle.reg_schema.proofs.Statements.{adds, replaces, touches, cast_int, cast_null}
 use Rattle.reg_schema.proofs.WriteLemmas.{survives_inside}
 use Rattle.reg_tables.proofs.Binding.{cast_text}
 use Rattle.reg_tables.specs.Columns.{version_row}
@@ -133,3 +133,6 @@ yanks old new of_crate release vers yanked (Ok count) at h = λ id digest stem d
 
 pub yank_survives : (old new : State) (params : Row) → IsReady old → Survives old new (CommitsBy yank_text params old) → Survives old new (λ _. ⊥)
 yank_survives old new params at = survives_inside yank_text params old ours _ yank_is new refl (λ clean. ((at clean).schema_is, (at clean).inside))
+
+pub yank_touches : (old new : State) (params : Row) (r : Result ℕ Error) → IsInside old → Executes yank_text params old new r → OnOk r (Touches versions.tree old new)
+yank_touches old new params r = touches yank_text 6 versions refl yank_plain yank_query yank_is params old new r

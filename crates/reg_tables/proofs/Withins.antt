@@ -5,7 +5,7 @@ use Rattle.sqlite.specs.Order.{Row}
 use Rattle.sqlite.specs.Tree.{Trees}
 use Rattle.sqlite.specs.State.{State, HasCleanDisk, Survives, IsUnchanged, IsRolledBack, KeepsCommit}
 use Rattle.reg_schema.specs.States.{IsInside, IsReady, KeepsOurs, IsOurs, Refuses}
-use Rattle.reg_schema.specs.Changes.{Becomes}
+use Rattle.reg_schema.specs.Changes.{Becomes, Touches}
 use Rattle.reg_tables.specs.Works.{Within, Fails}
 
 no_rest : {b : Bool} → b ≡ true → b ≡ false → ⊥
@@ -17,6 +17,14 @@ becomes_within old new tree rows clean at b = record {
   committed = b.committed;
   inside = b.inside;
   ours = λ o _ _. record { now_is = b.inside.schema_is; committed_is = ap (λ d. d.schema) b.committed ∙ (o clean at.is_open).committed_is; at_rest = λ e. absurd (no_rest b.inside.inside e) };
+}
+
+pub touches_within : (old new : State) (tree : ℕ) → HasCleanDisk old → IsInside old → Touches tree old new → Within old new
+touches_within old new tree clean at t = record {
+  was_open = at.is_open;
+  committed = t.committed;
+  inside = t.inside;
+  ours = λ o _ _. record { now_is = t.inside.schema_is; committed_is = ap (λ d. d.schema) t.committed ∙ (o clean at.is_open).committed_is; at_rest = λ e. absurd (no_rest t.inside.inside e) };
 }
 
 pub unchanged_within : (old new : State) → HasCleanDisk old → IsInside old → IsUnchanged old new → Within old new

@@ -6,7 +6,7 @@ ghost use Rattle.sqlite.specs.State.{HasCleanDisk, Survives};
 ghost use Rattle.sqlite.specs.Held.{state};
 ghost use Rattle.sqlite_trees.specs.Tree.{has_rowid};
 ghost use Rattle.reg_schema.specs.States.{IsReady, Refuses, OnlyReads};
-ghost use Rattle.reg_schema.specs.Changes.{Adds, Replaces};
+ghost use Rattle.reg_schema.specs.Changes.{Adds, Replaces, Touches};
 ghost use Rattle.reg_tables.specs.Columns.{account_row};
 ghost use Rattle.reg_tables.specs.Greatest.{IsGreatest, row_of_id};
 ghost use Rattle.reg_tables.specs.Tests.{is_text, shows};
@@ -40,6 +40,7 @@ pub(crate) fn enable<S: Alter>(
 ) -> Result<usize, Error>
     requires { IsReady (state S.Store conn.old) }
     ensures replaced { HasCleanDisk (state S.Store conn.new) → OnOk result ((login : _) → (name : _) → (was : _) → filter (has_rowid (pos id)) ((state S.Store conn.old).now.trees 1) ≡ account_row id login name was ∷ [] → Replaces 1 id (account_row id login name enabled) (state S.Store conn.old) (state S.Store conn.new)) }
+    ensures touches { HasCleanDisk (state S.Store conn.new) → OnOk result (Touches 1 (state S.Store conn.old) (state S.Store conn.new)) }
     ensures refused { HasCleanDisk (state S.Store conn.new) → OnErr result (Refuses (state S.Store conn.old) (state S.Store conn.new)) }
     ensures survives { Survives (state S.Store conn.old) (state S.Store conn.new) (λ _. ⊥) }
 {

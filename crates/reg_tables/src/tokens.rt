@@ -5,7 +5,7 @@ ghost use Rattle.sqlite.specs.State.{HasCleanDisk, Survives};
 ghost use Rattle.sqlite.specs.Held.{state};
 ghost use Rattle.sqlite_trees.specs.Tree.{has_rowid};
 ghost use Rattle.reg_schema.specs.States.{IsReady, Refuses, OnlyReads};
-ghost use Rattle.reg_schema.specs.Changes.{Adds, Replaces};
+ghost use Rattle.reg_schema.specs.Changes.{Adds, Replaces, Touches};
 ghost use Rattle.reg_schema.specs.Rows.{IsInOrder, by_column};
 ghost use Rattle.reg_schema.proofs.Counts.{capped};
 ghost use Rattle.reg_tables.specs.Columns.{token_row};
@@ -46,6 +46,7 @@ pub(crate) fn insert<S: Alter>(
 pub(crate) fn revoke<S: Alter>(conn: &mut Connection<S>, id: u32) -> Result<usize, Error>
     requires { IsReady (state S.Store conn.old) }
     ensures replaced { HasCleanDisk (state S.Store conn.new) → OnOk result ((digest : _) → (account : _) → (was : _) → (e : _) → filter (has_rowid (pos id)) ((state S.Store conn.old).now.trees 3) ≡ token_row id digest account was e ∷ [] → Replaces 3 id (token_row id digest account false e) (state S.Store conn.old) (state S.Store conn.new)) }
+    ensures touches { HasCleanDisk (state S.Store conn.new) → OnOk result (Touches 3 (state S.Store conn.old) (state S.Store conn.new)) }
     ensures refused { HasCleanDisk (state S.Store conn.new) → OnErr result (Refuses (state S.Store conn.old) (state S.Store conn.new)) }
     ensures survives { Survives (state S.Store conn.old) (state S.Store conn.new) (λ _. ⊥) }
 {

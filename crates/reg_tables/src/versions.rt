@@ -5,7 +5,7 @@ ghost use Rattle.std.specs.Option.{option_map};
 ghost use Rattle.sqlite.specs.State.{HasCleanDisk, Survives};
 ghost use Rattle.sqlite.specs.Held.{state};
 ghost use Rattle.reg_schema.specs.States.{IsReady, Refuses, OnlyReads};
-ghost use Rattle.reg_schema.specs.Changes.{Adds, Replaces};
+ghost use Rattle.reg_schema.specs.Changes.{Adds, Replaces, Touches};
 ghost use Rattle.reg_schema.specs.Rows.{IsInOrder, by_column};
 ghost use Rattle.reg_tables.specs.Columns.{version_row};
 ghost use Rattle.reg_tables.specs.Tests.{is_number, is_version, shows};
@@ -53,6 +53,7 @@ pub(crate) fn set_yanked<S: Alter>(
 ) -> Result<usize, Error>
     requires { IsReady (state S.Store conn.old) }
     ensures replaced { HasCleanDisk (state S.Store conn.new) → OnOk result ((id : _) → (digest : _) → (stem : _) → (description : _) → (was : _) → filter (is_version crate_id release.now vers.now) ((state S.Store conn.old).now.trees 11) ≡ version_row id crate_id vers.now release.now digest stem description was ∷ [] → Replaces 11 id (version_row id crate_id vers.now release.now digest stem description yanked) (state S.Store conn.old) (state S.Store conn.new)) }
+    ensures touches { HasCleanDisk (state S.Store conn.new) → OnOk result (Touches 11 (state S.Store conn.old) (state S.Store conn.new)) }
     ensures refused { HasCleanDisk (state S.Store conn.new) → OnErr result (Refuses (state S.Store conn.old) (state S.Store conn.new)) }
     ensures survives { Survives (state S.Store conn.old) (state S.Store conn.new) (λ _. ⊥) }
 {

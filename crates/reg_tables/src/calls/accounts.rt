@@ -41,6 +41,18 @@ fn add<S: Alter>(conn: &mut Connection<S>, login: &str, name: Option<&str>) -> R
     Ok(id)
 }
 
+#[tactic(auto, using(crate::proofs::Withins::refused_fails, crate::proofs::Withins::touches_within))]
+fn enable<S: Alter>(conn: &mut Connection<S>, id: u32, enabled: bool) -> Result<(), Error>
+    requires { IsReady (state S.Store conn.old) }
+    ensures stands { HasCleanDisk (state S.Store conn.new) → OnOk result ((s : _) → (a : _) → with_id s.accounts id ≡ Some a → Stands s (state S.Store conn.old).now.trees → Stands (record s { accounts = change_at (λ a. record a { enabled = enabled }) id s.accounts }) (state S.Store conn.new).now.trees) }
+    ensures within { HasCleanDisk (state S.Store conn.new) → OnOk result (Within (state S.Store conn.old) (state S.Store conn.new)) }
+    ensures fails { HasCleanDisk (state S.Store conn.new) → OnErr result (Fails (state S.Store conn.old) (state S.Store conn.new)) }
+    ensures survives { Survives (state S.Store conn.old) (state S.Store conn.new) (λ _. ⊥) }
+{
+    accounts::enable(conn, id, enabled)?;
+    Ok(())
+}
+
 impl<S: Alter> Work<'_, S> {
     /// Adds an account that is enabled, and answers its id.
     pub fn add_account(&mut self, login: &str, name: Option<&str>) -> Result<u32, StoreFault>
@@ -53,6 +65,24 @@ impl<S: Alter> Work<'_, S> {
         }
         match add(&mut self.tables.conn, login, name) {
             Ok(id) => Ok(id),
+            Err(_) => {
+                self.failed = true;
+                Err(StoreFault)
+            }
+        }
+    }
+
+    /// Makes the account with this id enabled or not.
+    pub fn set_enabled(&mut self, id: u32, enabled: bool) -> Result<(), StoreFault>
+        requires { IsAtWork S.Store self.old }
+        ensures set { HasCleanDisk (seen S.Store self.new) → OnOk result ((s : _) → (a : _) → with_id s.accounts id ≡ Some a → Stands s (seen S.Store self.old).now.trees → Stands (record s { accounts = change_at (λ a. record a { enabled = enabled }) id s.accounts }) (seen S.Store self.new).now.trees) }
+        ensures leaves { IsCall S.Store result self.old self.new }
+    {
+        if self.failed {
+            return Err(StoreFault);
+        }
+        match enable(&mut self.tables.conn, id, enabled) {
+            Ok(()) => Ok(()),
             Err(_) => {
                 self.failed = true;
                 Err(StoreFault)
