@@ -1,4 +1,12 @@
+pub mod AboutLemmas
+pub mod AboutQueries
 pub mod AccountQueries
 pub mod AccountTexts
+pub mod CrateQueries
+pub mod CrateTexts
 pub mod Greatest
-pub mod Matches
+pub mod ReservedQueries
+pub mod ReservedTexts
+pub mod ShownRows
+pub mod TableMatches
+pub mod WholeTables
