@@ -1,12 +1,14 @@
 -- What the queries on accounts answer.
-use Rattle.std.proofs.Common.{◌≡◌, List, [], ◌∷◌, codes, map, false, Result, IfOk, IfErr, refl, ℕ}
+use Rattle.std.proofs.Common.{◌≡◌, List, [], ◌∷◌, codes, map, length, false, Result, IfOk, IfErr, refl, ℕ}
 use Rattle.std.specs.Prelude.{Vec}
 use Rattle.std.specs.declared.alloc.Global.{Global}
 use Rattle.std.specs.List.{filter}
 use Rattle.std.specs.List.Sorted.{IsPermutation}
 use Rattle.sqlite.specs.declared.types.Value.TheVariants.{Text}
+use Rattle.sqlite.specs.Collation.TheVariants.{Binary}
+use Rattle.sqlite_value.specs.Keys.{ascending}
 use Rattle.sqlite.specs.Order.{Row}
-use Rattle.sqlite.specs.Term.{Term, col}
+use Rattle.sqlite.specs.Term.{col}
 use Rattle.sqlite.specs.Query.{Query, inner, end}
 use Rattle.sqlite.specs.Program.{overlay}
 use Rattle.sqlite.specs.Command.TheVariants.{Select}
@@ -15,25 +17,26 @@ use Rattle.sqlite.specs.State.{State, Survives, CommitsShowing, Shown, FailsToQu
 use Rattle.sqlite.specs.declared.error.Error.{Error}
 use Rattle.sqlite.proofs.Callers.{IsPlain, command_of}
 use Rattle.sqlite_tied.specs.Compute.{everything}
+use Rattle.reg_schema.specs.Rows.{IsInOrder, by_column}
 use Rattle.reg_schema.specs.Schema.{ours}
 use Rattle.reg_schema.specs.States.{IsInside, IsReady, OnlyReads}
+use Rattle.reg_schema.proofs.Counts.{capped, counted}
 use Rattle.reg_schema.proofs.Queries.{plain}
 use Rattle.reg_schema.proofs.Selections.{of_table, only_reads, reading_survives, if_answered}
+use Rattle.reg_schema.proofs.Sorted.{in_order}
 use Rattle.reg_tables.specs.Greatest.{IsGreatest}
 use Rattle.reg_tables.specs.Tests.{is_text, shows}
 use Rattle.reg_tables.proofs.Greatest.{greatest, greatest_of}
-use Rattle.reg_tables.proofs.Matches.{equals_first, matches_text}
+use Rattle.reg_tables.proofs.TableMatches.{equals_first, matches_text}
+use Rattle.reg_tables.proofs.WholeTables.{all_in_order, count_all}
 
 abbrev by_login_text : List ℕ
 by_login_text = codes "SELECT id, login, name, enabled FROM accounts WHERE login = ?1"
 
-abbrev account_project : List Term
-account_project = col 1 0 ∷ col 1 2 ∷ col 1 3 ∷ col 1 4 ∷ []
+abbrev by_login_query : Query
+by_login_query = plain (inner 1 end) (equals_first 2) (col 1 0 ∷ col 1 2 ∷ col 1 3 ∷ col 1 4 ∷ [])
 
-abbrev by_login : Query
-by_login = plain (inner 1 end) (equals_first 2) account_project
-
-by_login_is : (command_of (understood ours by_login_text) ≡ Select (record { lets = []; body = by_login }) (codes "id" ∷ codes "login" ∷ codes "name" ∷ codes "enabled" ∷ [])) × (reads_listing ours by_login_text ≡ false)
+by_login_is : (command_of (understood ours by_login_text) ≡ Select (record { lets = []; body = by_login_query }) (codes "id" ∷ codes "login" ∷ codes "name" ∷ codes "enabled" ∷ [])) × (reads_listing ours by_login_text ≡ false)
 unfolding understood everything
 by_login_is = (refl, refl)
 
@@ -44,9 +47,8 @@ by_login_plain = (refl, refl)
 pub by_login_rows : (old new : State) (login : List ℕ) (r : Result (Vec Row Global) Error) → IsInside old → IfOk r (λ rows. Shown by_login_text (Text login ∷ []) old new rows.items)
     → IfOk r (λ rows. IsPermutation (map (shows (0 ∷ 2 ∷ 3 ∷ 4 ∷ [])) (filter (is_text 2 login) (old.now.trees 1))) rows.items)
 by_login_rows old new login r at h =
-    let db = overlay old.now.trees [] in
-    if_answered by_login_text by_login_plain by_login _ by_login_is.0 by_login_is.1 (Text login ∷ []) old new (IsPermutation (map (shows (0 ∷ 2 ∷ 3 ∷ 4 ∷ [])) (filter (is_text 2 login) (old.now.trees 1))))
-    (λ rows. of_table db (Text login ∷ []) 1 (equals_first 2) account_project rows (is_text 2 login) (matches_text db 1 2 login))
+    if_answered by_login_text by_login_plain by_login_query _ by_login_is.0 by_login_is.1 (Text login ∷ []) old new (λ out. IsPermutation (map (shows (0 ∷ 2 ∷ 3 ∷ 4 ∷ [])) (filter (is_text 2 login) (old.now.trees 1))) out)
+    (λ out. of_table (overlay old.now.trees []) (Text login ∷ []) 1 (equals_first 2) (col 1 0 ∷ col 1 2 ∷ col 1 3 ∷ col 1 4 ∷ []) out (is_text 2 login) (matches_text (overlay old.now.trees []) 1 2 login))
     r at h
 
 pub by_login_reads : (old new : State) (login : List ℕ) (r : Result (Vec Row Global) Error) → IsInside old → IfOk r (λ rows. Shown by_login_text (Text login ∷ []) old new rows.items)
@@ -59,7 +61,10 @@ by_login_survives old new params = reading_survives by_login_text by_login_plain
 abbrev last_text : List ℕ
 last_text = codes "SELECT id FROM accounts ORDER BY id DESC LIMIT 1"
 
-last_is : (command_of (understood ours last_text) ≡ Select (record { lets = []; body = greatest 1 }) (codes "id" ∷ [])) × (reads_listing ours last_text ≡ false)
+abbrev last_query : Query
+last_query = greatest 1
+
+last_is : (command_of (understood ours last_text) ≡ Select (record { lets = []; body = last_query }) (codes "id" ∷ [])) × (reads_listing ours last_text ≡ false)
 unfolding understood everything
 last_is = (refl, refl)
 
@@ -67,12 +72,72 @@ last_plain : IsPlain (understood ours last_text)
 unfolding understood everything
 last_plain = (refl, refl)
 
-pub last_rows : (old new : State) (r : Result (Vec Row Global) Error) → IsInside old → IfOk r (λ rows. Shown last_text [] old new rows.items) → IfOk r (λ rows. IsGreatest (old.now.trees 1) rows.items)
+pub last_rows : (old new : State) (r : Result (Vec Row Global) Error) → IsInside old → IfOk r (λ rows. Shown last_text [] old new rows.items)
+    → IfOk r (λ rows. IsGreatest (old.now.trees 1) rows.items)
 last_rows old new r at h =
-    if_answered last_text last_plain (greatest 1) _ last_is.0 last_is.1 [] old new (IsGreatest (old.now.trees 1)) (λ rows. greatest_of (overlay old.now.trees []) 1 rows) r at h
+    if_answered last_text last_plain last_query _ last_is.0 last_is.1 [] old new (λ out. IsGreatest (old.now.trees 1) out)
+    (λ out. greatest_of (overlay old.now.trees []) 1 out)
+    r at h
 
-pub last_reads : (old new : State) (r : Result (Vec Row Global) Error) → IsInside old → IfOk r (λ rows. Shown last_text [] old new rows.items) → IfErr r (FailsToQuery last_text [] old new) → OnlyReads r old new
+pub last_reads : (old new : State) (r : Result (Vec Row Global) Error) → IsInside old → IfOk r (λ rows. Shown last_text [] old new rows.items)
+    → IfErr r (FailsToQuery last_text [] old new) → OnlyReads r old new
 last_reads old new r at ok err = only_reads last_text last_plain [] old new r at ok err
 
 pub last_survives : (old new : State) (params : Row) → IsReady old → Survives old new (CommitsShowing last_text params old) → Survives old new (λ _. ⊥)
 last_survives old new params = reading_survives last_text last_plain params old new
+
+abbrev count_text : List ℕ
+count_text = codes "SELECT count(*) FROM accounts"
+
+abbrev count_query : Query
+count_query = counted (inner 1 end) []
+
+count_is : (command_of (understood ours count_text) ≡ Select (record { lets = []; body = count_query }) (codes "count(*)" ∷ [])) × (reads_listing ours count_text ≡ false)
+unfolding understood everything
+count_is = (refl, refl)
+
+count_plain : IsPlain (understood ours count_text)
+unfolding understood everything
+count_plain = (refl, refl)
+
+pub count_rows : (old new : State) (r : Result (Vec Row Global) Error) → IsInside old → IfOk r (λ rows. Shown count_text [] old new rows.items)
+    → IfOk r (λ rows. rows.items ≡ (capped (length (old.now.trees 1)) ∷ []) ∷ [])
+count_rows old new r at h =
+    if_answered count_text count_plain count_query _ count_is.0 count_is.1 [] old new (λ out. out ≡ (capped (length (old.now.trees 1)) ∷ []) ∷ [])
+    (λ out. count_all (overlay old.now.trees []) [] 1 [] out)
+    r at h
+
+pub count_reads : (old new : State) (r : Result (Vec Row Global) Error) → IsInside old → IfOk r (λ rows. Shown count_text [] old new rows.items)
+    → IfErr r (FailsToQuery count_text [] old new) → OnlyReads r old new
+count_reads old new r at ok err = only_reads count_text count_plain [] old new r at ok err
+
+pub count_survives : (old new : State) (params : Row) → IsReady old → Survives old new (CommitsShowing count_text params old) → Survives old new (λ _. ⊥)
+count_survives old new params = reading_survives count_text count_plain params old new
+
+abbrev listed_text : List ℕ
+listed_text = codes "SELECT id, login, name, enabled FROM accounts ORDER BY id"
+
+abbrev listed_query : Query
+listed_query = in_order (inner 1 end) [] (col 1 0 ∷ col 1 2 ∷ col 1 3 ∷ col 1 4 ∷ []) ((col 1 0, ascending Binary) ∷ [])
+
+listed_is : (command_of (understood ours listed_text) ≡ Select (record { lets = []; body = listed_query }) (codes "id" ∷ codes "login" ∷ codes "name" ∷ codes "enabled" ∷ [])) × (reads_listing ours listed_text ≡ false)
+unfolding understood everything
+listed_is = (refl, refl)
+
+listed_plain : IsPlain (understood ours listed_text)
+unfolding understood everything
+listed_plain = (refl, refl)
+
+pub listed_rows : (old new : State) (r : Result (Vec Row Global) Error) → IsInside old → IfOk r (λ rows. Shown listed_text [] old new rows.items)
+    → IfOk r (λ rows. IsInOrder (by_column 0) (old.now.trees 1) (shows (0 ∷ 2 ∷ 3 ∷ 4 ∷ [])) rows.items)
+listed_rows old new r at h =
+    if_answered listed_text listed_plain listed_query _ listed_is.0 listed_is.1 [] old new (λ out. IsInOrder (by_column 0) (old.now.trees 1) (shows (0 ∷ 2 ∷ 3 ∷ 4 ∷ [])) out)
+    (λ out. all_in_order (overlay old.now.trees []) [] 1 (col 1 0 ∷ col 1 2 ∷ col 1 3 ∷ col 1 4 ∷ []) out 0)
+    r at h
+
+pub listed_reads : (old new : State) (r : Result (Vec Row Global) Error) → IsInside old → IfOk r (λ rows. Shown listed_text [] old new rows.items)
+    → IfErr r (FailsToQuery listed_text [] old new) → OnlyReads r old new
+listed_reads old new r at ok err = only_reads listed_text listed_plain [] old new r at ok err
+
+pub listed_survives : (old new : State) (params : Row) → IsReady old → Survives old new (CommitsShowing listed_text params old) → Survives old new (λ _. ⊥)
+listed_survives old new params = reading_survives listed_text listed_plain params old new

@@ -7,13 +7,13 @@ use Rattle.sqlite.specs.Collation.TheVariants.{Binary}
 use Rattle.sqlite.specs.declared.types.Value.TheVariants.{Null, Int}
 use Rattle.sqlite.specs.Order.{Row, column, value_cmp}
 use Rattle.sqlite.specs.Tree.{Trees}
-use Rattle.sqlite.specs.Term.{Env, lit, col}
+use Rattle.sqlite.specs.Term.{lit, col}
 use Rattle.sqlite.specs.Query.{Query, inner, end, IsSureAnswer, IsAnswer, output, output_cmp, Output}
 use Rattle.reg_schema.proofs.Queries.{maps_twice}
 use Rattle.reg_schema.proofs.Sorted.{unmapped, then_equal}
 use Rattle.reg_tables.specs.Greatest.{IsGreatest}
 use Rattle.reg_tables.specs.Tests.{shows}
-use Rattle.reg_tables.proofs.Matches.{matches_all}
+use Rattle.reg_tables.proofs.TableMatches.{matches_all}
 
 abbrev pub greatest : ℕ → Query
 greatest tree = record {

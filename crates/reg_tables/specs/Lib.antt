@@ -1,7 +1,11 @@
+pub mod AccountRecords
+pub mod Bases
 pub mod Columns
+pub mod CrateRecords
 pub mod Greatest
 pub mod Ids
 pub mod Owners
+pub mod Shown
 pub mod Stands
 pub mod Tests
 pub mod Tokens

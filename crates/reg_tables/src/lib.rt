@@ -1,10 +1,13 @@
 //! The registry kept in tables: typed calls on them, in transactions.
 #![tactic(auto)]
 
+mod about;
 mod accounts;
 mod archives;
 mod calls;
+mod crates;
 mod owners;
+mod reserved;
 mod rows;
 mod scopes;
 mod tables;

@@ -5,11 +5,14 @@ use Rattle.reg_tables.proofs.accounts.select_last.Goals as goal
 
 pub returns-clause-rows : goal.returns-clause-rows
 returns-clause-rows g c clean =
-    last_rows (state g.S.Store c.args.conn.now) (state g.S.Store c.query_all.new.self) c.query_all.result (c.requires (omega (arith, c.query_all.ensures.survives.clean))) (c.query_all.ensures.ok clean)
+    last_rows (state g.S.Store c.args.conn.now) (state g.S.Store c.query_all.new.self) c.query_all.result (c.requires (omega (arith, c.query_all.ensures.survives.clean)))
+    (c.query_all.ensures.ok clean)
 
 pub returns-clause-reads : goal.returns-clause-reads
 returns-clause-reads g c clean =
-    last_reads (state g.S.Store c.args.conn.now) (state g.S.Store c.query_all.new.self) c.query_all.result (c.requires (omega (arith, c.query_all.ensures.survives.clean))) (c.query_all.ensures.ok clean) (c.query_all.ensures.err clean)
+    last_reads (state g.S.Store c.args.conn.now) (state g.S.Store c.query_all.new.self) c.query_all.result (c.requires (omega (arith, c.query_all.ensures.survives.clean)))
+    (c.query_all.ensures.ok clean)
+    (c.query_all.ensures.err clean)
 
 pub returns-clause-survives : goal.returns-clause-survives
 returns-clause-survives g c = last_survives (state g.S.Store c.args.conn.now) (state g.S.Store c.query_all.new.self) _ c.requires c.query_all.ensures.survives

@@ -1,0 +1,18 @@
+use Rattle.std.proofs.Common.{arith}
+use Rattle.sqlite.specs.Held.{state}
+use Rattle.reg_tables.proofs.AccountQueries.{listed_rows, listed_reads, listed_survives}
+use Rattle.reg_tables.proofs.accounts.select_all.Goals as goal
+
+pub returns-clause-rows : goal.returns-clause-rows
+returns-clause-rows g c clean =
+    listed_rows (state g.S.Store c.args.conn.now) (state g.S.Store c.query_all.new.self) c.query_all.result (c.requires (omega (arith, c.query_all.ensures.survives.clean)))
+    (c.query_all.ensures.ok clean)
+
+pub returns-clause-reads : goal.returns-clause-reads
+returns-clause-reads g c clean =
+    listed_reads (state g.S.Store c.args.conn.now) (state g.S.Store c.query_all.new.self) c.query_all.result (c.requires (omega (arith, c.query_all.ensures.survives.clean)))
+    (c.query_all.ensures.ok clean)
+    (c.query_all.ensures.err clean)
+
+pub returns-clause-survives : goal.returns-clause-survives
+returns-clause-survives g c = listed_survives (state g.S.Store c.args.conn.now) (state g.S.Store c.query_all.new.self) _ c.requires c.query_all.ensures.survives
