@@ -1,8 +1,10 @@
-pub mod Matches
+pub mod Greatest
 pub mod Ordered
 pub mod OwnerQueries
 pub mod OwnerTexts
+pub mod Reading
 pub mod ScopeQueries
 pub mod ScopeTexts
+pub mod TableMatches
 pub mod TokenQueries
 pub mod TokenTexts

@@ -7,12 +7,12 @@ use Rattle.sqlite_exec.proofs.PartitionLemmas.{IsSorted-from_map}
 use Rattle.sqlite.specs.Order.{Row}
 use Rattle.sqlite.specs.Term.{Term, Env, eval_all}
 use Rattle.sqlite.specs.Tree.{Trees}
-use Rattle.sqlite.specs.Query.{Query, Join, inner, end, IsSureAnswer, matches, output, output_cmp, Output}
+use Rattle.sqlite.specs.Query.{Join, inner, end, IsSureAnswer, matches, output, output_cmp, Output}
 use Rattle.sqlite_value.specs.declared.keys.Key.{Key}
 use Rattle.reg_schema.specs.Rows.{IsInOrder}
 use Rattle.reg_schema.proofs.Queries.{maps_twice}
 use Rattle.reg_schema.proofs.Sorted.{in_order, in_order_of, rises, unmapped}
-use Rattle.reg_tables.proofs.Matches.{matches_all, all_pass}
+use Rattle.reg_tables.proofs.TableMatches.{matches_all, all_pass}
 
 -- all rows of one table
 pub all_in_order : (db : Trees) (tree : ℕ) (project : List Term) (order : List (Term × Key)) (rows : List Row) (cmp : Row → Row → Ordering)

@@ -1,16 +1,16 @@
 -- What the selections of owners answer.
-use Rattle.std.proofs.Common.{◌≡◌, ℕ, pos, List, [], ◌∷◌, codes, map, Bool, false, Result, IfOk, refl, ap, subst, ◌∙◌}
+use Rattle.std.proofs.Common.{◌≡◌, ℕ, pos, List, [], ◌∷◌, codes, map, false, Result, IfOk, refl, ap, subst, ◌∙◌}
 use Rattle.std.specs.Prelude.{Vec}
 use Rattle.std.specs.declared.alloc.Global.{Global}
 use Rattle.std.specs.List.{filter, flat_map}
 use Rattle.std.specs.List.Sorted.{IsPermutation}
 use Rattle.std.specs.Ordering.{ordering_then}
-use Rattle.sqlite.specs.declared.types.Value.TheVariants.{Int, Blob}
+use Rattle.sqlite.specs.declared.types.Value.TheVariants.{Int}
 use Rattle.sqlite.specs.declared.error.Error.{Error}
 use Rattle.sqlite.specs.Order.{Row, column}
-use Rattle.sqlite.specs.Term.{Term, Env, col, op2, eval_all}
+use Rattle.sqlite.specs.Term.{Term, col, op2, eval_all}
 use Rattle.sqlite.specs.Ops.{binary, is_true}
-use Rattle.sqlite.specs.Query.{Query, inner, end, matches}
+use Rattle.sqlite.specs.Query.{inner, end, matches}
 use Rattle.sqlite.specs.Tree.{Trees}
 use Rattle.sqlite.specs.Program.{overlay}
 use Rattle.sqlite.specs.Collation.TheVariants.{Binary}
@@ -26,7 +26,7 @@ use Rattle.sqlite_tied.specs.Compute.{everything}
 use Rattle.reg_schema.specs.Schema.{ours}
 use Rattle.reg_schema.specs.Rows.{IsInOrder, by_column, by_columns}
 use Rattle.reg_schema.specs.States.{IsInside}
-use Rattle.reg_schema.proofs.Queries.{plain, answers, joined, same_filter, equals_int, equals_blob}
+use Rattle.reg_schema.proofs.Queries.{plain, joined, same_filter, equals_int}
 use Rattle.reg_schema.proofs.Selections.{if_answered, of_table}
 use Rattle.reg_schema.proofs.Sorted.{in_order, then_equal}
 use Rattle.reg_tables.specs.Columns.{owner_columns}

@@ -8,7 +8,7 @@ use Rattle.sqlite.specs.declared.types.Value.TheVariants.{Int}
 use Rattle.sqlite.specs.declared.error.Error.{Error}
 use Rattle.sqlite.specs.Order.{Row}
 use Rattle.sqlite.specs.Term.{Term, col}
-use Rattle.sqlite.specs.Query.{Query, inner, end}
+use Rattle.sqlite.specs.Query.{inner, end}
 use Rattle.sqlite.specs.Program.{overlay}
 use Rattle.sqlite.specs.Collation.TheVariants.{Binary}
 use Rattle.sqlite.specs.Command.TheVariants.{Select}
@@ -24,7 +24,7 @@ use Rattle.reg_schema.specs.States.{IsInside}
 use Rattle.reg_schema.proofs.Selections.{if_answered}
 use Rattle.reg_schema.proofs.Sorted.{in_order, in_order_of, then_equal}
 use Rattle.reg_tables.specs.Tests.{is_number, shows}
-use Rattle.reg_tables.proofs.Matches.{equals_first, matches_number}
+use Rattle.reg_tables.proofs.TableMatches.{equals_first, matches_number}
 use Rattle.reg_tables.proofs.Ordered.{all_in_order}
 
 abbrev project : List Term

@@ -1,4 +1,9 @@
 pub mod Columns
+pub mod Greatest
+pub mod OwnerRecords
 pub mod Owners
+pub mod ScopeRecords
+pub mod Shown
 pub mod Tests
+pub mod TokenRecords
 pub mod Tokens
