@@ -33,7 +33,7 @@ use Rattle.reg_tables.specs.Columns.{owner_columns}
 use Rattle.reg_tables.specs.Tests.{is_number, is_owner, shows}
 use Rattle.reg_tables.specs.Owners.{is_of_owner, accounts_of}
 use Rattle.reg_tables.proofs.OwnerTexts.{pair_filter, pair_matches}
-use Rattle.reg_tables.proofs.Ordered.{all_in_order, shown_in_order}
+use Rattle.reg_tables.proofs.Ordered.{all_ordered, shown_in_order}
 
 abbrev project : List Term
 project = col 1 1 ∷ col 1 2 ∷ []
@@ -115,4 +115,4 @@ all_plain = (refl, refl)
 pub all : (old new : State) (r : Result (Vec Row Global) Error) → IsInside old → IfOk r (λ rows. Shown all_text [] old new rows.items) → IfOk r (λ rows. IsInOrder (by_columns 1 2) (old.now.trees 9) (shows (1 ∷ 2 ∷ [])) rows.items)
 all old new r at h =
     if_answered all_text all_plain _ names all_is.0 all_is.1 [] old new (λ rows. IsInOrder (by_columns 1 2) (old.now.trees 9) (shows (1 ∷ 2 ∷ [])) rows)
-    (λ rows answer. all_in_order (overlay old.now.trees []) 9 project by_crate_and_account rows (by_columns 1 2) (λ a b. ap (ordering_then (by_column 1 a b)) (then_equal (by_column 2 a b))) answer) r at h
+    (λ rows answer. all_ordered (overlay old.now.trees []) 9 project by_crate_and_account rows (by_columns 1 2) (λ a b. ap (ordering_then (by_column 1 a b)) (then_equal (by_column 2 a b))) answer) r at h

@@ -35,7 +35,7 @@ use Rattle.reg_tables.specs.Tokens.{is_of_token, token_and_account, tokens_with_
 use Rattle.reg_tables.proofs.TableMatches.{matches_all}
 use Rattle.reg_tables.specs.Greatest.{IsGreatest}
 use Rattle.reg_tables.proofs.Greatest.{greatest, greatest_of}
-use Rattle.reg_tables.proofs.Ordered.{all_in_order}
+use Rattle.reg_tables.proofs.Ordered.{all_ordered}
 
 abbrev pub by_digest_text : List ℕ
 by_digest_text = codes "SELECT t.id, t.account, t.live, t.publish_new, t.publish_update, t.yank, t.change_owners, a.login, a.enabled FROM tokens t JOIN accounts a ON a.id = t.account WHERE t.digest = ?1"
@@ -97,7 +97,7 @@ pub all : (old new : State) (r : Result (Vec Row Global) Error) → IsInside old
     → IfOk r (λ rows. IsInOrder (by_column 0) (old.now.trees 3) (shows (0 ∷ 2 ∷ 3 ∷ 4 ∷ 5 ∷ 6 ∷ 7 ∷ 8 ∷ [])) rows.items)
 all old new r at h =
     if_answered all_text all_plain _ all_names all_is.0 all_is.1 [] old new (λ rows. IsInOrder (by_column 0) (old.now.trees 3) (shows (0 ∷ 2 ∷ 3 ∷ 4 ∷ 5 ∷ 6 ∷ 7 ∷ 8 ∷ [])) rows)
-    (λ rows answer. all_in_order (overlay old.now.trees []) 3 all_project by_id rows (by_column 0) (λ a b. then_equal (by_column 0 a b)) answer) r at h
+    (λ rows answer. all_ordered (overlay old.now.trees []) 3 all_project by_id rows (by_column 0) (λ a b. then_equal (by_column 0 a b)) answer) r at h
 
 abbrev pub count_text : List ℕ
 count_text = codes "SELECT count(*) FROM tokens"

@@ -3,15 +3,14 @@
 ghost use Rattle.std.specs.Prelude.{◌≡◌, ◌+◌, ◌<◌, pos, true, false, [], ◌∷◌, IfOk, OnOk, OnErr, filter, map, length, IsPermutation};
 ghost use Rattle.sqlite.specs.State.{HasCleanDisk, Survives};
 ghost use Rattle.sqlite.specs.Held.{state};
+ghost use Rattle.sqlite.specs.declared.types.Value.TheVariants.{Int};
+ghost use Rattle.sqlite.specs.Order.{column};
 ghost use Rattle.sqlite_trees.specs.Tree.{has_rowid};
 ghost use Rattle.reg_schema.specs.States.{IsReady, Refuses, OnlyReads};
 ghost use Rattle.reg_schema.specs.Changes.{Adds, Replaces};
-ghost use Rattle.reg_schema.specs.Rows.{IsInOrder, by_column};
+ghost use Rattle.reg_schema.specs.Rows.{IsInOrder, by_column, mark};
 ghost use Rattle.reg_schema.proofs.Counts.{capped};
 ghost use Rattle.reg_tables.specs.Columns.{token_row};
-ghost use Rattle.sqlite.specs.declared.types.Value.TheVariants.{Int};
-ghost use Rattle.sqlite.specs.Order.{column};
-ghost use Rattle.reg_schema.specs.Rows.{mark};
 ghost use Rattle.reg_tables.specs.Greatest.{IsGreatest, row_of_id};
 ghost use Rattle.reg_tables.specs.Shown.{shown_of};
 ghost use Rattle.reg_tables.specs.Tests.{shows};
