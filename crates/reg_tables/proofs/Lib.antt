@@ -2,9 +2,9 @@ pub mod Greatest
 pub mod Ordered
 pub mod OwnerQueries
 pub mod OwnerTexts
-pub mod Reading
 pub mod ScopeQueries
 pub mod ScopeTexts
+pub mod ShownRows
 pub mod TableMatches
 pub mod TokenQueries
 pub mod TokenTexts

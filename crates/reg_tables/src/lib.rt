@@ -3,5 +3,7 @@
 
 mod accounts;
 mod owners;
+mod records;
+mod rows;
 mod scopes;
 mod tokens;

@@ -12,7 +12,8 @@ ghost use Rattle.reg_tables.specs.Tests.{is_owner, shows};
 ghost use Rattle.reg_tables.specs.OwnerRecords.{columns_of_owner, columns_of_ownership};
 ghost use Rattle.reg_tables.specs.Owners.{accounts_of};
 
-use crate::records::{FromRow, mark_of, read_all};
+use crate::records::{FromRow, read_all};
+use crate::rows::mark_of;
 use sqlite::{Alter, Connection, Error, Row, params};
 use std::alloc::Global;
 

@@ -17,8 +17,8 @@ ghost use Rattle.reg_tables.specs.Tests.{shows};
 ghost use Rattle.reg_tables.specs.TokenRecords.{columns_of_token, columns_with_account};
 ghost use Rattle.reg_tables.specs.Tokens.{tokens_with_accounts};
 
-use crate::records::{FromRow, mark_of, read_all, read_one};
-use crate::rows::only_id;
+use crate::records::{FromRow, read_all, read_one};
+use crate::rows::{mark_of, only_count, only_id};
 use reg_model::Endpoints;
 use sqlite::{Alter, Connection, Error, Row, params};
 use std::alloc::Global;
@@ -224,8 +224,5 @@ pub(crate) fn count<S: Alter>(conn: &mut Connection<S>) -> Result<u64, Error>
     ensures survives { Survives (state S.Store conn.old) (state S.Store conn.new) (λ _. ⊥) }
 {
     let rows = select_count(conn)?;
-    if rows.is_empty() {
-        return Err(Error::InvalidQuery);
-    }
-    rows[0].get(0)
+    only_count(&rows)
 }

@@ -1,6 +1,6 @@
 use Rattle.std.proofs.Common.{not, ◌==◌, [], ◌∷◌, ap, ◌∙◌}
 use Rattle.reg_tables.specs.Tests.{is_owner, shows}
-use Rattle.reg_tables.proofs.Reading.{any_shown}
+use Rattle.reg_tables.proofs.ShownRows.{any_shown}
 use Rattle.reg_tables.proofs.owners.is_there.Goals as goal
 
 pub returns-clause-found : goal.returns-clause-found
