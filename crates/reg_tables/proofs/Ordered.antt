@@ -7,24 +7,20 @@ use Rattle.sqlite_exec.proofs.PartitionLemmas.{IsSorted-from_map}
 use Rattle.sqlite.specs.Order.{Row}
 use Rattle.sqlite.specs.Term.{Term, Env, eval_all}
 use Rattle.sqlite.specs.Tree.{Trees}
-use Rattle.sqlite.specs.Query.{Query, Join, inner, end, IsSureAnswer, matches, output, output_cmp, Output}
+use Rattle.sqlite.specs.Query.{Join, inner, end, IsSureAnswer, matches, output, output_cmp, Output}
 use Rattle.sqlite_value.specs.declared.keys.Key.{Key}
 use Rattle.reg_schema.specs.Rows.{IsInOrder}
 use Rattle.reg_schema.proofs.Queries.{maps_twice}
 use Rattle.reg_schema.proofs.Sorted.{in_order, in_order_of, rises, unmapped}
-use Rattle.reg_tables.proofs.Matches.{matches_all, all_pass}
+use Rattle.reg_tables.proofs.TableMatches.{matches_all, all_pass}
 
 -- all rows of one table
-pub all_in_order : (db : Trees) (tree : ℕ) (project : List Term) (order : List (Term × Key)) (rows : List Row) (cmp : Row → Row → Ordering)
+pub all_ordered : (db : Trees) (tree : ℕ) (project : List Term) (order : List (Term × Key)) (rows : List Row) (cmp : Row → Row → Ordering)
     → ((a b : Row) → output_cmp (in_order (inner tree end) [] project order) (output (in_order (inner tree end) [] project order) ([] ∷ a ∷ [])) (output (in_order (inner tree end) [] project order) ([] ∷ b ∷ [])) ≡ cmp a b)
     → IsSureAnswer (in_order (inner tree end) [] project order) db [] rows → IsInOrder cmp (db tree) (λ r. eval_all project ([] ∷ r ∷ [])) rows
-all_in_order db tree project order rows cmp same h =
+all_ordered db tree project order rows cmp same h =
     let met = matches_all db [] tree ∙ ap (map (λ (r : Row). [] ∷ r ∷ [])) (sym (all_pass (db tree))) in
     subst (λ kept. IsInOrder cmp kept (λ r. eval_all project ([] ∷ r ∷ [])) rows) (all_pass (db tree)) (in_order_of db [] tree [] project order rows (λ _. true) cmp met same h)
-
-unshown : (rows : List Row) → rows ≡ map (λ (r : Row). r) rows
-unshown [] = refl
-unshown (r ∷ rows) = ap (λ rs. r ∷ rs) (unshown rows)
 
 abbrev as_output : (Row → Row) → Row → Output
 as_output keys r = (keys r, r)

@@ -1,16 +1,16 @@
 -- What the selections of owners answer.
-use Rattle.std.proofs.Common.{◌≡◌, ℕ, pos, List, [], ◌∷◌, codes, map, Bool, false, Result, IfOk, refl, ap, subst, ◌∙◌}
+use Rattle.std.proofs.Common.{◌≡◌, ℕ, pos, List, [], ◌∷◌, codes, map, false, Result, IfOk, refl, ap, subst, ◌∙◌}
 use Rattle.std.specs.Prelude.{Vec}
 use Rattle.std.specs.declared.alloc.Global.{Global}
 use Rattle.std.specs.List.{filter, flat_map}
 use Rattle.std.specs.List.Sorted.{IsPermutation}
 use Rattle.std.specs.Ordering.{ordering_then}
-use Rattle.sqlite.specs.declared.types.Value.TheVariants.{Int, Blob}
+use Rattle.sqlite.specs.declared.types.Value.TheVariants.{Int}
 use Rattle.sqlite.specs.declared.error.Error.{Error}
 use Rattle.sqlite.specs.Order.{Row, column}
-use Rattle.sqlite.specs.Term.{Term, Env, col, op2, eval_all}
+use Rattle.sqlite.specs.Term.{Term, col, op2, eval_all}
 use Rattle.sqlite.specs.Ops.{binary, is_true}
-use Rattle.sqlite.specs.Query.{Query, inner, end, matches}
+use Rattle.sqlite.specs.Query.{inner, end, matches}
 use Rattle.sqlite.specs.Tree.{Trees}
 use Rattle.sqlite.specs.Program.{overlay}
 use Rattle.sqlite.specs.Collation.TheVariants.{Binary}
@@ -26,14 +26,14 @@ use Rattle.sqlite_tied.specs.Compute.{everything}
 use Rattle.reg_schema.specs.Schema.{ours}
 use Rattle.reg_schema.specs.Rows.{IsInOrder, by_column, by_columns}
 use Rattle.reg_schema.specs.States.{IsInside}
-use Rattle.reg_schema.proofs.Queries.{plain, answers, joined, same_filter, equals_int, equals_blob}
+use Rattle.reg_schema.proofs.Queries.{plain, joined, same_filter, equals_int}
 use Rattle.reg_schema.proofs.Selections.{if_answered, of_table}
 use Rattle.reg_schema.proofs.Sorted.{in_order, then_equal}
 use Rattle.reg_tables.specs.Columns.{owner_columns}
 use Rattle.reg_tables.specs.Tests.{is_number, is_owner, shows}
 use Rattle.reg_tables.specs.Owners.{is_of_owner, accounts_of}
 use Rattle.reg_tables.proofs.OwnerTexts.{pair_filter, pair_matches}
-use Rattle.reg_tables.proofs.Ordered.{all_in_order, shown_in_order}
+use Rattle.reg_tables.proofs.Ordered.{all_ordered, shown_in_order}
 
 abbrev project : List Term
 project = col 1 1 ∷ col 1 2 ∷ []
@@ -115,4 +115,4 @@ all_plain = (refl, refl)
 pub all : (old new : State) (r : Result (Vec Row Global) Error) → IsInside old → IfOk r (λ rows. Shown all_text [] old new rows.items) → IfOk r (λ rows. IsInOrder (by_columns 1 2) (old.now.trees 9) (shows (1 ∷ 2 ∷ [])) rows.items)
 all old new r at h =
     if_answered all_text all_plain _ names all_is.0 all_is.1 [] old new (λ rows. IsInOrder (by_columns 1 2) (old.now.trees 9) (shows (1 ∷ 2 ∷ [])) rows)
-    (λ rows answer. all_in_order (overlay old.now.trees []) 9 project by_crate_and_account rows (by_columns 1 2) (λ a b. ap (ordering_then (by_column 1 a b)) (then_equal (by_column 2 a b))) answer) r at h
+    (λ rows answer. all_ordered (overlay old.now.trees []) 9 project by_crate_and_account rows (by_columns 1 2) (λ a b. ap (ordering_then (by_column 1 a b)) (then_equal (by_column 2 a b))) answer) r at h

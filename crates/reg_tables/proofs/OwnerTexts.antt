@@ -1,10 +1,9 @@
 -- What the writing statements on owners do.
-use Rattle.std.proofs.Common.{◌≡◌, ℕ, pos, List, [], ◌∷◌, codes, map, Bool, true, ◌&&◌, Result, OnOk, refl, ap, subst, ◌∙◌}
+use Rattle.std.proofs.Common.{◌≡◌, ℕ, pos, List, [], ◌∷◌, codes, map, true, ◌&&◌, Result, OnOk, refl, ap, ◌∙◌}
 use Rattle.std.specs.List.{filter}
-use Rattle.std.specs.List.Sorted.{IsPermutation}
 use Rattle.sqlite.specs.declared.types.Value.TheVariants.{Null, Int}
 use Rattle.sqlite.specs.Order.{Row, column}
-use Rattle.sqlite.specs.Term.{Term, lit, col, op2, eval_all}
+use Rattle.sqlite.specs.Term.{Term, lit, col, op2}
 use Rattle.sqlite.specs.Ops.{binary, is_true}
 use Rattle.sqlite.specs.Tree.{Trees}
 use Rattle.sqlite.specs.Query.{inner, end, matches}
@@ -31,7 +30,7 @@ use Rattle.reg_schema.proofs.Selections.{matched, of_table}
 use Rattle.reg_schema.proofs.Statements.{adds_columns, removes, cast_int, cast_null}
 use Rattle.reg_schema.proofs.WriteLemmas.{survives_inside}
 use Rattle.reg_tables.specs.Columns.{owner_columns}
-use Rattle.reg_tables.specs.Tests.{is_owner}
+use Rattle.reg_tables.specs.Tests.{is_number, is_owner}
 
 abbrev insert_text : List ℕ
 insert_text = codes "INSERT INTO owners (crate, account) VALUES (?1, ?2)"
@@ -83,7 +82,7 @@ pair_matches db of_crate account =
     let test = λ (r : Row). equal 1 of_crate r && (equal 2 account r && true) in
     let env = λ (r : Row). owner_columns of_crate account ∷ r ∷ [] in
     matched test env (db 9)
-    ∙ ap (map env) (same_filter test (is_owner of_crate account) (λ r. rw (equals_int (column r 1) (pos of_crate), equals_int (column r 2) (pos account)) (ap (λ b. Rattle.reg_tables.specs.Tests.is_number 1 of_crate r && b) (and_true _))) (db 9))
+    ∙ ap (map env) (same_filter test (is_owner of_crate account) (λ r. rw (equals_int (column r 1) (pos of_crate), equals_int (column r 2) (pos account)) (ap (λ b. is_number 1 of_crate r && b) (and_true _))) (db 9))
 
 pub removes_owner : (old new : State) (of_crate account : ℕ) (r : Result ℕ Error) → IsInside old → Executes remove_text (owner_columns of_crate account) old new r → OnOk r (Removes 9 (is_owner of_crate account) old new)
 removes_owner old new of_crate account r at h =

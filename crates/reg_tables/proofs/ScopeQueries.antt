@@ -8,7 +8,7 @@ use Rattle.sqlite.specs.declared.types.Value.TheVariants.{Int}
 use Rattle.sqlite.specs.declared.error.Error.{Error}
 use Rattle.sqlite.specs.Order.{Row}
 use Rattle.sqlite.specs.Term.{Term, col}
-use Rattle.sqlite.specs.Query.{Query, inner, end}
+use Rattle.sqlite.specs.Query.{inner, end}
 use Rattle.sqlite.specs.Program.{overlay}
 use Rattle.sqlite.specs.Collation.TheVariants.{Binary}
 use Rattle.sqlite.specs.Command.TheVariants.{Select}
@@ -24,8 +24,8 @@ use Rattle.reg_schema.specs.States.{IsInside}
 use Rattle.reg_schema.proofs.Selections.{if_answered}
 use Rattle.reg_schema.proofs.Sorted.{in_order, in_order_of, then_equal}
 use Rattle.reg_tables.specs.Tests.{is_number, shows}
-use Rattle.reg_tables.proofs.Matches.{equals_first, matches_number}
-use Rattle.reg_tables.proofs.Ordered.{all_in_order}
+use Rattle.reg_tables.proofs.TableMatches.{equals_first, matches_number}
+use Rattle.reg_tables.proofs.Ordered.{all_ordered}
 
 abbrev project : List Term
 project = col 1 1 ∷ col 1 2 ∷ col 1 3 ∷ col 1 4 ∷ col 1 5 ∷ []
@@ -73,4 +73,4 @@ pub all : (old new : State) (r : Result (Vec Row Global) Error) → IsInside old
     → IfOk r (λ rows. IsInOrder (by_columns 1 2) (old.now.trees 5) (shows (1 ∷ 2 ∷ 3 ∷ 4 ∷ 5 ∷ [])) rows.items)
 all old new r at h =
     if_answered all_text all_plain _ names all_is.0 all_is.1 [] old new (λ rows. IsInOrder (by_columns 1 2) (old.now.trees 5) (shows (1 ∷ 2 ∷ 3 ∷ 4 ∷ 5 ∷ [])) rows)
-    (λ rows answer. all_in_order (overlay old.now.trees []) 5 project by_token_and_place rows (by_columns 1 2) (λ a b. ap (ordering_then (by_column 1 a b)) (then_equal (by_column 2 a b))) answer) r at h
+    (λ rows answer. all_ordered (overlay old.now.trees []) 5 project by_token_and_place rows (by_columns 1 2) (λ a b. ap (ordering_then (by_column 1 a b)) (then_equal (by_column 2 a b))) answer) r at h

@@ -1,16 +1,15 @@
 -- What the selections of tokens answer.
-use Rattle.std.proofs.Common.{◌≡◌, ℕ, pos, List, [], ◌∷◌, codes, map, length, Bool, false, Result, IfOk, refl, ap, subst, ◌∙◌}
+use Rattle.std.proofs.Common.{◌≡◌, ℕ, List, [], ◌∷◌, codes, map, length, false, Result, IfOk, refl, ap, subst, ◌∙◌}
 use Rattle.std.specs.Prelude.{Vec}
 use Rattle.std.specs.declared.alloc.Global.{Global}
 use Rattle.std.specs.List.{filter, flat_map}
 use Rattle.std.specs.List.Sorted.{IsPermutation}
-use Rattle.std.specs.Ordering.{ordering_then}
-use Rattle.sqlite.specs.declared.types.Value.TheVariants.{Int, Blob}
+use Rattle.sqlite.specs.declared.types.Value.TheVariants.{Blob}
 use Rattle.sqlite.specs.declared.error.Error.{Error}
 use Rattle.sqlite.specs.Order.{Row, column}
 use Rattle.sqlite.specs.Term.{Term, Env, col, op2, eval_all}
 use Rattle.sqlite.specs.Ops.{binary, is_true}
-use Rattle.sqlite.specs.Query.{Query, inner, end, matches}
+use Rattle.sqlite.specs.Query.{inner, end, matches}
 use Rattle.sqlite.specs.Program.{overlay}
 use Rattle.sqlite.specs.Collation.TheVariants.{Binary}
 use Rattle.sqlite.specs.Command.TheVariants.{Select}
@@ -23,18 +22,20 @@ use Rattle.sqlite_value.specs.Keys.{ascending}
 use Rattle.sqlite_value.specs.declared.keys.Key.{Key}
 use Rattle.sqlite_tied.specs.Compute.{everything}
 use Rattle.reg_schema.specs.Schema.{ours}
-use Rattle.reg_schema.specs.Rows.{IsInOrder, by_column, by_columns}
+use Rattle.reg_schema.specs.Rows.{IsInOrder, by_column}
 use Rattle.reg_schema.specs.States.{IsInside}
-use Rattle.reg_schema.proofs.Queries.{plain, answers, joined, same_filter, equals_int, equals_blob}
-use Rattle.reg_schema.proofs.Selections.{if_answered, of_table}
+use Rattle.reg_schema.proofs.Queries.{plain, answers, joined, same_filter, equals_blob}
+use Rattle.reg_schema.proofs.Selections.{if_answered}
 use Rattle.reg_schema.proofs.Sorted.{in_order, then_equal}
 use Rattle.sqlite.specs.Tree.{Trees}
 use Rattle.std.proofs.lemmas.List.{length-map}
 use Rattle.reg_schema.proofs.Counts.{counted, counts, capped}
 use Rattle.reg_tables.specs.Tests.{is_blob, shows}
 use Rattle.reg_tables.specs.Tokens.{is_of_token, token_and_account, tokens_with_accounts}
-use Rattle.reg_tables.proofs.Matches.{matches_all}
-use Rattle.reg_tables.proofs.Ordered.{all_in_order}
+use Rattle.reg_tables.proofs.TableMatches.{matches_all}
+use Rattle.reg_tables.specs.Greatest.{IsGreatest}
+use Rattle.reg_tables.proofs.Greatest.{greatest, greatest_of}
+use Rattle.reg_tables.proofs.Ordered.{all_ordered}
 
 abbrev pub by_digest_text : List ℕ
 by_digest_text = codes "SELECT t.id, t.account, t.live, t.publish_new, t.publish_update, t.yank, t.change_owners, a.login, a.enabled FROM tokens t JOIN accounts a ON a.id = t.account WHERE t.digest = ?1"
@@ -96,7 +97,7 @@ pub all : (old new : State) (r : Result (Vec Row Global) Error) → IsInside old
     → IfOk r (λ rows. IsInOrder (by_column 0) (old.now.trees 3) (shows (0 ∷ 2 ∷ 3 ∷ 4 ∷ 5 ∷ 6 ∷ 7 ∷ 8 ∷ [])) rows.items)
 all old new r at h =
     if_answered all_text all_plain _ all_names all_is.0 all_is.1 [] old new (λ rows. IsInOrder (by_column 0) (old.now.trees 3) (shows (0 ∷ 2 ∷ 3 ∷ 4 ∷ 5 ∷ 6 ∷ 7 ∷ 8 ∷ [])) rows)
-    (λ rows answer. all_in_order (overlay old.now.trees []) 3 all_project by_id rows (by_column 0) (λ a b. then_equal (by_column 0 a b)) answer) r at h
+    (λ rows answer. all_ordered (overlay old.now.trees []) 3 all_project by_id rows (by_column 0) (λ a b. then_equal (by_column 0 a b)) answer) r at h
 
 abbrev pub count_text : List ℕ
 count_text = codes "SELECT count(*) FROM tokens"
@@ -117,3 +118,17 @@ count old new r at h =
     if_answered count_text count_plain _ _ count_is.0 count_is.1 [] old new (λ rows. rows ≡ (capped (length (old.now.trees 3)) ∷ []) ∷ [])
     (λ rows answer. counts (overlay old.now.trees []) [] (inner 3 end) [] rows answer ∙ ap (λ n. (capped n ∷ []) ∷ []) (ap length (matches_all old.now.trees [] 3) ∙ length-map (old.now.trees 3) beside))
     r at h
+
+abbrev pub last_text : List ℕ
+last_text = codes "SELECT id FROM tokens ORDER BY id DESC LIMIT 1"
+
+last_is : (command_of (understood ours last_text) ≡ Select (record { lets = []; body = greatest 3 }) (codes "id" ∷ [])) × (reads_listing ours last_text ≡ false)
+unfolding understood everything
+last_is = (refl, refl)
+
+pub last_plain : IsPlain (understood ours last_text)
+unfolding understood everything
+last_plain = (refl, refl)
+
+pub last : (old new : State) (r : Result (Vec Row Global) Error) → IsInside old → IfOk r (λ rows. Shown last_text [] old new rows.items) → IfOk r (λ rows. IsGreatest (old.now.trees 3) rows.items)
+last old new r at h = if_answered last_text last_plain _ _ last_is.0 last_is.1 [] old new (λ rows. IsGreatest (old.now.trees 3) rows) (λ rows answer. greatest_of (overlay old.now.trees []) 3 rows answer) r at h

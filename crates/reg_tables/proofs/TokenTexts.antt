@@ -7,7 +7,10 @@ use Rattle.sqlite.specs.Order.{Row, column}
 use Rattle.sqlite.specs.Term.{Term, lit, col, op2, eval_all}
 use Rattle.sqlite.specs.Ops.{binary, is_true}
 use Rattle.sqlite.specs.Tree.{Trees}
-use Rattle.sqlite.specs.Query.{inner, end}
+use Rattle.sqlite.specs.Query.{inner, end, matches}
+use Rattle.sqlite.specs.Kind.TheVariants.{Integer}
+use Rattle.sqlite.specs.Cast.{cast}
+use Rattle.sqlite.specs.Effect.{Answers}
 use Rattle.sqlite.specs.Program.{overlay}
 use Rattle.sqlite.specs.Collation.TheVariants.{Binary}
 use Rattle.sqlite.specs.Source.TheVariants.{Values}
@@ -50,7 +53,8 @@ insert_plain = (refl, refl)
 abbrev insert_params : ℕ → List ℕ → ℕ → Endpoints → Row
 insert_params id digest account e = Int (pos id) ∷ Blob digest ∷ Int (pos account) ∷ mark e.publish_new ∷ mark e.publish_update ∷ mark e.yank ∷ mark e.change_owners ∷ []
 
-cast_mark : (b : Bool) → Rattle.sqlite.specs.Cast.cast Rattle.sqlite.specs.Kind.TheVariants.Integer (mark b) ≡ mark b
+-- a mark is stored as it is
+cast_mark : (b : Bool) → cast Integer (mark b) ≡ mark b
 cast_mark b = cast_int (cond b (pos 1) (pos 0))
 
 insert_news : (db : Trees) (id : ℕ) (digest : List ℕ) (account : ℕ) (e : Endpoints) → (step_of db tokens (insert_params id digest account e) insert_terms 9).news ≡ token_row id digest account true e ∷ []
@@ -89,7 +93,7 @@ revoke_plain = (refl, refl)
 module _ (db : Trees) (id : ℕ) (digest : List ℕ) (account : ℕ) (was : Bool) (e : Endpoints) where
   -- the rows that the UPDATE writes
   revoke_rows : (rows : List Row) → filter (has_rowid (pos id)) (db 3) ≡ token_row id digest account was e ∷ []
-      → IsPermutation (map (eval_all revoke_project) (Rattle.sqlite.specs.Query.matches (overlay db []) revoke_filter (inner 3 end) ((Int (pos id) ∷ []) ∷ []))) rows
+      → IsPermutation (map (eval_all revoke_project) (matches (overlay db []) revoke_filter (inner 3 end) ((Int (pos id) ∷ []) ∷ []))) rows
       → rows ≡ (Int (pos id) ∷ token_row id digest account false e) ∷ []
   revoke_rows rows one same =
       let params : Row = Int (pos id) ∷ [] in
@@ -108,7 +112,7 @@ pub revokes : (old new : State) (id : ℕ) (r : Result ℕ Error) → IsInside o
 revokes old new id (Err x) at h = tt
 revokes old new id (Ok count) at h = λ digest account was e one.
     let params : Row = Int (pos id) ∷ [] in
-    let edit = λ (rows : List Row) (a : Rattle.sqlite.specs.Effect.Answers old.now revoke_query params rows).
+    let edit = λ (rows : List Row) (a : Answers old.now revoke_query params rows).
     let is = revoke_rows old.now.trees id digest account was e rows one (answers (overlay old.now.trees []) params (inner 3 end) revoke_filter revoke_project rows a.answer) in
     ap (λ rs. edited old.now.trees (replacing old.now.trees tokens rs)) is ∙ revoke_edit old.now.trees id digest account was e in
     replaces revoke_text 2 tokens refl revoke_plain revoke_query revoke_is params id (token_row id digest account false e) old new (Ok count) at edit h

@@ -4,9 +4,12 @@ pub mod Columns
 pub mod CrateRecords
 pub mod Greatest
 pub mod Ids
+pub mod OwnerRecords
 pub mod Owners
+pub mod ScopeRecords
 pub mod Shown
 pub mod Stands
 pub mod Tests
+pub mod TokenRecords
 pub mod Tokens
 pub mod Works

@@ -7,6 +7,7 @@ mod archives;
 mod calls;
 mod crates;
 mod owners;
+mod records;
 mod reserved;
 mod rows;
 mod scopes;
