@@ -1,3 +1,4 @@
+pub mod ArchiveQueries
 pub mod ArchiveTexts
 pub mod Binding
 pub mod VersionQueries

@@ -1,2 +1,4 @@
+pub mod Archives
 pub mod Columns
+pub mod Shown
 pub mod Tests

@@ -5,9 +5,12 @@ ghost use Rattle.sqlite.specs.State.{HasCleanDisk, Survives};
 ghost use Rattle.sqlite.specs.Held.{state};
 ghost use Rattle.reg_schema.specs.States.{IsReady, Refuses, OnlyReads};
 ghost use Rattle.reg_schema.specs.Changes.{Adds};
+ghost use Rattle.reg_schema.specs.Rows.{IsInOrder, by_column};
+ghost use Rattle.reg_tables.specs.Archives.{archives_of};
 ghost use Rattle.reg_tables.specs.Columns.{archive_row};
+ghost use Rattle.reg_tables.specs.Tests.{is_number, shows};
 
-use sqlite::{Alter, Connection, Error, params};
+use sqlite::{Alter, Connection, Error, Row, params};
 
 /// Adds the archive of a version.
 pub(crate) fn insert<S: Alter>(
@@ -25,4 +28,43 @@ pub(crate) fn insert<S: Alter>(
         "INSERT INTO archives (version, bytes) VALUES (?1, ?2)",
         params![version as i64, bytes],
     )
+}
+
+fn select_of<S: Alter>(
+    conn: &mut Connection<S>,
+    crate_id: u32,
+    release: &str,
+    vers: &str,
+) -> Result<Vec<Row>, Error>
+    requires { IsReady (state S.Store conn.old) }
+    ensures rows { HasCleanDisk (state S.Store conn.new) → IfOk result (λ rows. IsPermutation (archives_of crate_id release.now vers.now (state S.Store conn.old).now.trees) rows.items) }
+    ensures reads { HasCleanDisk (state S.Store conn.new) → OnlyReads result (state S.Store conn.old) (state S.Store conn.new) }
+    ensures survives { Survives (state S.Store conn.old) (state S.Store conn.new) (λ _. ⊥) }
+{
+    conn.query_all(
+        "SELECT a.bytes FROM versions v JOIN archives a ON a.version = v.id WHERE v.crate = ?1 AND v.release = ?2 AND v.vers = ?3",
+        params![crate_id, release, vers],
+    )
+}
+
+fn select_by_id<S: Alter>(conn: &mut Connection<S>, version: u64) -> Result<Vec<Row>, Error>
+    requires ready { IsReady (state S.Store conn.old) }
+    requires small { version < 2 ^ 63 }
+    ensures rows { HasCleanDisk (state S.Store conn.new) → IfOk result (λ rows. IsPermutation (map (shows (2 ∷ [])) (filter (is_number 0 version) ((state S.Store conn.old).now.trees 13))) rows.items) }
+    ensures reads { HasCleanDisk (state S.Store conn.new) → OnlyReads result (state S.Store conn.old) (state S.Store conn.new) }
+    ensures survives { Survives (state S.Store conn.old) (state S.Store conn.new) (λ _. ⊥) }
+{
+    conn.query_all(
+        "SELECT bytes FROM archives WHERE version = ?1",
+        params![version as i64],
+    )
+}
+
+fn select_ids<S: Alter>(conn: &mut Connection<S>) -> Result<Vec<Row>, Error>
+    requires { IsReady (state S.Store conn.old) }
+    ensures rows { HasCleanDisk (state S.Store conn.new) → IfOk result (λ rows. IsInOrder (by_column 0) ((state S.Store conn.old).now.trees 13) (shows (0 ∷ [])) rows.items) }
+    ensures reads { HasCleanDisk (state S.Store conn.new) → OnlyReads result (state S.Store conn.old) (state S.Store conn.new) }
+    ensures survives { Survives (state S.Store conn.old) (state S.Store conn.new) (λ _. ⊥) }
+{
+    conn.query_all("SELECT version FROM archives ORDER BY version", &[])
 }
