@@ -2,3 +2,4 @@ pub mod Archives
 pub mod Columns
 pub mod Shown
 pub mod Tests
+pub mod VersionRecords

@@ -3,4 +3,5 @@
 
 mod accounts;
 mod archives;
+mod records;
 mod versions;
