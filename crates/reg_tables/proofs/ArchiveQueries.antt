@@ -6,11 +6,10 @@ use Rattle.std.specs.List.{filter, flat_map}
 use Rattle.std.specs.List.Sorted.{IsPermutation}
 use Rattle.sqlite.specs.declared.types.Value.TheVariants.{Int, Text}
 use Rattle.sqlite.specs.declared.error.Error.{Error}
-use Rattle.sqlite.specs.Order.{Row, column, value_cmp}
+use Rattle.sqlite.specs.Order.{Row}
 use Rattle.sqlite.specs.Term.{Term, col, op2, eval_all}
-use Rattle.sqlite.specs.Ops.{binary, is_true}
 use Rattle.sqlite.specs.Tree.{Trees}
-use Rattle.sqlite.specs.Query.{Query, inner, end, matches, IsSureAnswer}
+use Rattle.sqlite.specs.Query.{Query, inner, end, IsSureAnswer}
 use Rattle.sqlite.specs.Program.{overlay}
 use Rattle.sqlite.specs.Command.TheVariants.{Select}
 use Rattle.sqlite.specs.Listing.{understood, reads_listing}
@@ -23,12 +22,13 @@ use Rattle.sqlite_tied.specs.Compute.{everything}
 use Rattle.reg_schema.specs.Schema.{ours}
 use Rattle.reg_schema.specs.Rows.{IsInOrder, by_column}
 use Rattle.reg_schema.specs.States.{IsInside, IsReady, OnlyReads}
-use Rattle.reg_schema.proofs.Queries.{plain, answers, joined, same_filter, and_true, equals_int}
-use Rattle.reg_schema.proofs.Selections.{matched, of_table, only_reads, reading_survives, if_answered}
-use Rattle.reg_schema.proofs.Sorted.{in_order, then_equal}
+use Rattle.reg_schema.proofs.Queries.{plain, answers, joined, same_filter, and_true}
+use Rattle.reg_schema.proofs.Selections.{of_table, only_reads, reading_survives, if_answered}
+use Rattle.reg_schema.proofs.Sorted.{in_order}
 use Rattle.reg_tables.proofs.VersionQueries.{by_id}
 use Rattle.reg_tables.proofs.VersionTexts.{wanted, is_wanted}
-use Rattle.reg_tables.proofs.Whole.{all_in_order_of}
+use Rattle.reg_tables.proofs.TableMatches.{equals_first, matches_number}
+use Rattle.reg_tables.proofs.WholeTables.{all_in_order}
 use Rattle.reg_tables.specs.Archives.{is_archive_of, archives_of}
 use Rattle.reg_tables.specs.Tests.{is_number, is_version, shows}
 
@@ -92,11 +92,8 @@ of_version_survives = reading_survives of_version_text of_version_plain
 abbrev by_id_text : List ℕ
 by_id_text = codes "SELECT bytes FROM archives WHERE version = ?1"
 
-abbrev by_id_filter : List Term
-by_id_filter = op2 (Compare Eq Binary) (col 1 0) (col 0 0) ∷ []
-
 abbrev by_id_query : Query
-by_id_query = plain (inner 13 end) by_id_filter (col 1 2 ∷ [])
+by_id_query = plain (inner 13 end) (equals_first 0) (col 1 2 ∷ [])
 
 by_id_is : (command_of (understood ours by_id_text) ≡ Select (record { lets = []; body = by_id_query }) (codes "bytes" ∷ [])) × (reads_listing ours by_id_text ≡ false)
 unfolding understood everything
@@ -109,14 +106,8 @@ by_id_plain = (refl, refl)
 abbrev AreOfId : Trees → ℕ → List Row → Type 0
 AreOfId db version rows = IsPermutation (map (shows (2 ∷ [])) (filter (is_number 0 version) (db 13))) rows
 
-by_id_matches : (db : Trees) (version : ℕ) → matches db by_id_filter (inner 13 end) ((Int (pos version) ∷ []) ∷ []) ≡ map (λ r. (Int (pos version) ∷ []) ∷ r ∷ []) (filter (is_number 0 version) (db 13))
-by_id_matches db version =
-    let env = λ (r : Row). (Int (pos version) ∷ []) ∷ r ∷ [] in
-    let test = λ (r : Row). is_true (binary (Compare Eq Binary) (column r 0) (Int (pos version))) && true in
-    matched test env (db 13) ∙ ap (map env) (same_filter test (is_number 0 version) (λ r. and_true _ ∙ equals_int (column r 0) (pos version)) (db 13))
-
 by_id_gives : (db : Trees) (version : ℕ) (rows : List Row) → IsSureAnswer by_id_query (overlay db []) (Int (pos version) ∷ []) rows → AreOfId db version rows
-by_id_gives db version rows = of_table (overlay db []) (Int (pos version) ∷ []) 13 by_id_filter (col 1 2 ∷ []) rows (is_number 0 version) (by_id_matches db version)
+by_id_gives db version rows = of_table (overlay db []) (Int (pos version) ∷ []) 13 (equals_first 0) (col 1 2 ∷ []) rows (is_number 0 version) (matches_number (overlay db []) 13 0 version)
 
 pub by_id_shows : (old new : State) (version : ℕ) (r : Result (Vec Row Global) Error) → IsInside old → IfOk r (λ rows. Shown by_id_text (Int (pos version) ∷ []) old new rows.items)
     → IfOk r (λ rows. AreOfId old.now.trees version rows.items)
@@ -148,7 +139,7 @@ abbrev AreIds : Trees → List Row → Type 0
 AreIds db rows = IsInOrder (by_column 0) (db 13) (shows (0 ∷ [])) rows
 
 ids_gives : (db : Trees) (rows : List Row) → IsSureAnswer ids_query (overlay db []) [] rows → AreIds db rows
-ids_gives db rows = all_in_order_of (overlay db []) [] 13 (col 1 0 ∷ []) by_id rows (by_column 0) (λ a b. then_equal (value_cmp (column a 0) (column b 0)))
+ids_gives db rows = all_in_order (overlay db []) [] 13 (col 1 0 ∷ []) rows 0
 
 pub ids_shows : (old new : State) (r : Result (Vec Row Global) Error) → IsInside old → IfOk r (λ rows. Shown ids_text [] old new rows.items) → IfOk r (λ rows. AreIds old.now.trees rows.items)
 ids_shows old new = if_answered ids_text ids_plain ids_query (codes "version" ∷ []) ids_is.0 ids_is.1 [] old new (AreIds old.now.trees) (ids_gives old.now.trees)

@@ -1,7 +1,9 @@
 pub mod ArchiveQueries
 pub mod ArchiveTexts
 pub mod Binding
+pub mod Greatest
 pub mod OneRow
+pub mod TableMatches
 pub mod VersionQueries
 pub mod VersionTexts
-pub mod Whole
+pub mod WholeTables

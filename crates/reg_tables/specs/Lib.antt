@@ -1,5 +1,6 @@
 pub mod Archives
 pub mod Columns
+pub mod Greatest
 pub mod Shown
 pub mod Tests
 pub mod VersionRecords

@@ -6,7 +6,8 @@ ghost use Rattle.sqlite.specs.Held.{state};
 ghost use Rattle.reg_schema.specs.States.{IsReady, Refuses, OnlyReads};
 ghost use Rattle.reg_schema.specs.Changes.{Adds};
 ghost use Rattle.reg_schema.specs.Rows.{IsInOrder, by_column};
-ghost use Rattle.reg_tables.specs.Archives.{archives_of, columns_of_bytes, columns_of_id};
+ghost use Rattle.reg_tables.specs.Archives.{archives_of, columns_of_bytes};
+ghost use Rattle.reg_tables.specs.VersionRecords.{columns_of_id};
 ghost use Rattle.reg_tables.specs.Columns.{archive_row};
 ghost use Rattle.reg_tables.specs.Shown.{shown_of};
 ghost use Rattle.reg_tables.specs.Tests.{is_number, shows};
@@ -19,17 +20,6 @@ impl FromRow for Vec<u8> {
     ghost columns = { columns_of_bytes };
 
     fn from_row(row: &Row) -> Result<Vec<u8>, Error> {
-        if row.column_count() != 1 {
-            return Err(Error::InvalidQuery);
-        }
-        row.get(0)
-    }
-}
-
-impl FromRow for u64 {
-    ghost columns = { columns_of_id };
-
-    fn from_row(row: &Row) -> Result<u64, Error> {
         if row.column_count() != 1 {
             return Err(Error::InvalidQuery);
         }

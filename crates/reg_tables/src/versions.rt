@@ -8,10 +8,11 @@ ghost use Rattle.reg_schema.specs.States.{IsReady, Refuses, OnlyReads};
 ghost use Rattle.reg_schema.specs.Changes.{Adds, Replaces};
 ghost use Rattle.reg_schema.specs.Rows.{IsInOrder, by_column};
 ghost use Rattle.reg_tables.specs.Columns.{version_row};
+ghost use Rattle.reg_tables.specs.Greatest.{IsGreatest, row_of_id};
 ghost use Rattle.reg_tables.specs.Tests.{is_number, is_version, shows};
-ghost use Rattle.reg_tables.specs.VersionRecords.{columns_of_version};
+ghost use Rattle.reg_tables.specs.VersionRecords.{columns_of_id, columns_of_version};
 
-use crate::records::{FromRow, mark_of, read_all};
+use crate::records::{FromRow, mark_of, read_all, read_one};
 use sqlite::{Alter, Connection, Error, Row, params};
 use std::alloc::Global;
 
@@ -45,6 +46,18 @@ impl FromRow for Version {
             description: row.get(6)?,
             yanked: mark_of(row, 7)?,
         })
+    }
+}
+
+/// The id of a version.
+impl FromRow for u64 {
+    ghost columns = { columns_of_id };
+
+    fn from_row(row: &Row) -> Result<u64, Error> {
+        if row.column_count() != 1 {
+            return Err(Error::InvalidQuery);
+        }
+        row.get(0)
     }
 }
 
@@ -148,4 +161,24 @@ pub(crate) fn all<S: Alter>(alloc: Global, conn: &mut Connection<S>) -> Result<V
 {
     let rows = select_all(conn)?;
     read_all(alloc, &rows)
+}
+
+fn select_last<S: Alter>(conn: &mut Connection<S>) -> Result<Vec<Row>, Error>
+    requires { IsReady (state S.Store conn.old) }
+    ensures rows { HasCleanDisk (state S.Store conn.new) → IfOk result (λ rows. IsGreatest ((state S.Store conn.old).now.trees 11) rows.items) }
+    ensures reads { HasCleanDisk (state S.Store conn.new) → OnlyReads result (state S.Store conn.old) (state S.Store conn.new) }
+    ensures survives { Survives (state S.Store conn.old) (state S.Store conn.new) (λ _. ⊥) }
+{
+    conn.query_all("SELECT id FROM versions ORDER BY id DESC LIMIT 1", &[])
+}
+
+/// The greatest id of a version, if there is one.
+pub(crate) fn last_id<S: Alter>(conn: &mut Connection<S>) -> Result<Option<u64>, Error>
+    requires { IsReady (state S.Store conn.old) }
+    ensures found { HasCleanDisk (state S.Store conn.new) → IfOk result (λ id. IsGreatest ((state S.Store conn.old).now.trees 11) (row_of_id id)) }
+    ensures reads { HasCleanDisk (state S.Store conn.new) → OnlyReads result (state S.Store conn.old) (state S.Store conn.new) }
+    ensures survives { Survives (state S.Store conn.old) (state S.Store conn.new) (λ _. ⊥) }
+{
+    let rows = select_last(conn)?;
+    read_one(&rows)
 }
