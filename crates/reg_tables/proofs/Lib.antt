@@ -2,6 +2,7 @@ pub mod AboutLemmas
 pub mod AboutQueries
 pub mod AccountQueries
 pub mod AccountTexts
+pub mod ArchiveQueries
 pub mod ArchiveTexts
 pub mod Binding
 pub mod CrateQueries
@@ -9,6 +10,7 @@ pub mod CrateTexts
 pub mod Greatest
 pub mod NextId
 pub mod Numbered
+pub mod OneRow
 pub mod Ordered
 pub mod OwnerQueries
 pub mod OwnerTexts
@@ -25,6 +27,5 @@ pub mod TokenQueries
 pub mod TokenTexts
 pub mod VersionQueries
 pub mod VersionTexts
-pub mod Whole
 pub mod WholeTables
 pub mod Withins

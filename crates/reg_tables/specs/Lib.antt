@@ -1,4 +1,5 @@
 pub mod AccountRecords
+pub mod Archives
 pub mod Bases
 pub mod Columns
 pub mod CrateRecords
@@ -12,4 +13,5 @@ pub mod Stands
 pub mod Tests
 pub mod TokenRecords
 pub mod Tokens
+pub mod VersionRecords
 pub mod Works

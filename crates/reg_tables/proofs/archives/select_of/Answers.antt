@@ -1,0 +1,16 @@
+use Rattle.std.proofs.Common.{arith}
+use Rattle.sqlite.specs.Held.{state}
+use Rattle.reg_tables.proofs.ArchiveQueries.{of_version_shows, of_version_reads, of_version_survives}
+use Rattle.reg_tables.proofs.archives.select_of.Goals as goal
+
+pub returns-clause-rows : goal.returns-clause-rows
+returns-clause-rows g c clean =
+    of_version_shows (state g.S.Store c.args.conn.now) (state g.S.Store c.query_all.new.self) c.args.crate_id c.args.release.now c.args.vers.now c.query_all.result (c.requires (omega (arith, c.query_all.ensures.survives.clean)))
+    (rw (c.params-to_sql.ensures, c.params-to_sql-2.ensures, c.params-to_sql-3.ensures) at (c.query_all.ensures.ok clean))
+
+pub returns-clause-reads : goal.returns-clause-reads
+returns-clause-reads g c clean =
+    of_version_reads _ (state g.S.Store c.args.conn.now) (state g.S.Store c.query_all.new.self) c.query_all.result (c.requires (omega (arith, c.query_all.ensures.survives.clean))) (c.query_all.ensures.ok clean) (c.query_all.ensures.err clean)
+
+pub returns-clause-survives : goal.returns-clause-survives
+returns-clause-survives g c = of_version_survives _ (state g.S.Store c.args.conn.now) (state g.S.Store c.query_all.new.self) c.requires c.query_all.ensures.survives

@@ -1,0 +1,7 @@
+//! Tests of the tables over a store in memory.
+#![tactic(auto)]
+
+#[cfg(test)]
+mod making;
+#[cfg(test)]
+mod memory;
