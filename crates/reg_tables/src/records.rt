@@ -1,7 +1,6 @@
 //! The rows of an answer, read as records.
 
 ghost use Rattle.std.specs.Prelude.{◌≡◌, IfOk, map};
-ghost use Rattle.sqlite.specs.Order.{Row as Values};
 ghost use Rattle.sqlite.specs.Order.{Row as Values, column};
 ghost use Rattle.reg_schema.specs.Rows.{mark};
 ghost use Rattle.reg_tables.specs.Shown.{shown_of};

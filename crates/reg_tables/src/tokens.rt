@@ -8,8 +8,6 @@ ghost use Rattle.sqlite.specs.Order.{column};
 ghost use Rattle.sqlite_trees.specs.Tree.{has_rowid};
 ghost use Rattle.reg_schema.specs.States.{IsReady, Refuses, OnlyReads};
 ghost use Rattle.reg_schema.specs.Changes.{Adds, Replaces, Touches};
-ghost use Rattle.reg_schema.specs.Rows.{IsInOrder, by_column};
-ghost use Rattle.reg_schema.specs.Changes.{Adds, Replaces};
 ghost use Rattle.reg_schema.specs.Rows.{IsInOrder, by_column, mark};
 ghost use Rattle.reg_schema.proofs.Counts.{capped};
 ghost use Rattle.reg_tables.specs.Columns.{token_row};
