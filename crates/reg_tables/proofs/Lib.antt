@@ -2,8 +2,9 @@ pub mod ArchiveQueries
 pub mod ArchiveTexts
 pub mod Binding
 pub mod Greatest
-pub mod OneRow
+pub mod ShownRows
 pub mod TableMatches
 pub mod VersionQueries
+pub mod VersionRows
 pub mod VersionTexts
 pub mod WholeTables

@@ -4,4 +4,5 @@
 mod accounts;
 mod archives;
 mod records;
+mod rows;
 mod versions;
