@@ -10,7 +10,6 @@ pub mod CrateTexts
 pub mod Greatest
 pub mod NextId
 pub mod Numbered
-pub mod OneRow
 pub mod Ordered
 pub mod OwnerQueries
 pub mod OwnerTexts
@@ -26,6 +25,7 @@ pub mod TableMatches
 pub mod TokenQueries
 pub mod TokenTexts
 pub mod VersionQueries
+pub mod VersionRows
 pub mod VersionTexts
 pub mod WholeTables
 pub mod Withins

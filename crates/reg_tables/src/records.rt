@@ -1,8 +1,7 @@
 //! The rows of an answer, read as records.
 
 ghost use Rattle.std.specs.Prelude.{◌≡◌, IfOk, map};
-ghost use Rattle.sqlite.specs.Order.{Row as Values, column};
-ghost use Rattle.reg_schema.specs.Rows.{mark};
+ghost use Rattle.sqlite.specs.Order.{Row as Values};
 ghost use Rattle.reg_tables.specs.Shown.{shown_of};
 
 use sqlite::{Error, Row};
@@ -14,17 +13,6 @@ pub(crate) trait FromRow: Sized + Drop {
 
     fn from_row(row: &Row) -> Result<Self, Error>
         ensures { IfOk result (λ it. row.now ≡ columns it) };
-}
-
-/// A mark, which is 0 or 1.
-pub(crate) fn mark_of(row: &Row, at: usize) -> Result<bool, Error>
-    ensures { IfOk result (λ b. column row.now at ≡ mark b) }
-{
-    match row.get::<u32>(at)? {
-        0 => Ok(false),
-        1 => Ok(true),
-        _ => Err(Error::InvalidQuery),
-    }
 }
 
 /// The record of the only row; none where there is no row.

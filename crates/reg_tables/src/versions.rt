@@ -12,7 +12,8 @@ ghost use Rattle.reg_tables.specs.Greatest.{IsGreatest, row_of_id};
 ghost use Rattle.reg_tables.specs.Tests.{is_number, is_version, shows};
 ghost use Rattle.reg_tables.specs.VersionRecords.{columns_of_id, columns_of_version};
 
-use crate::records::{FromRow, mark_of, read_all, read_one};
+use crate::records::{FromRow, read_all, read_one};
+use crate::rows::mark_of;
 use sqlite::{Alter, Connection, Error, Row, params};
 use std::alloc::Global;
 

@@ -1,5 +1,5 @@
 use Rattle.std.proofs.Common.{refl, sym, ◌∙◌}
-use Rattle.reg_tables.proofs.OneRow.{eight, reads_text}
+use Rattle.reg_tables.proofs.VersionRows.{eight, reads_text}
 use Rattle.reg_tables.proofs.versions.VersionFromRow.from_row.Goals as goal
 
 pub returns : goal.returns
