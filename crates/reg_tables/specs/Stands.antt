@@ -1,5 +1,5 @@
 -- The registry that the rows of the tables stand for.
-use Rattle.std.specs.Prelude.{◌≡◌, ℕ, ◌&&◌, ◌==◌, nat_eq, Bool, true, List, [], ◌∷◌, map, drop, IsPermutation}
+use Rattle.std.specs.Prelude.{◌≡◌, ℕ, pos, filter, ◌&&◌, ◌==◌, nat_eq, Bool, true, List, [], ◌∷◌, map, drop, IsPermutation}
 use Rattle.std.specs.List.{AllByRecursion, IsDistinct, enumerate_from, flat_map, list_all, list_any}
 use Rattle.std.specs.Ordering.{is_eq, nat_cmp, on}
 use Rattle.std.specs.Str.{bytes_eq}
@@ -7,7 +7,7 @@ use Rattle.std.specs.List.Sorted.{IsStrictlySortedBy}
 use Rattle.std.specs.FinSet as finset
 use Rattle.sqlite.specs.Order.{Row, value_cmp}
 use Rattle.sqlite.specs.Tree.{Trees}
-use Rattle.sqlite_trees.specs.Tree.{rowid}
+use Rattle.sqlite_trees.specs.Tree.{rowid, has_rowid}
 use Rattle.reg_names.specs.Names.{canon}
 use Rattle.reg_names.specs.Ranges.{range_of}
 use Rattle.reg_versions.specs.Versions.{release_key_of}
@@ -93,6 +93,9 @@ pub record StandCrates (publications : List Publication) (held : finset.FinSet o
   pub version_rows : IsPermutation (map (row_of_version yanked) versions) (db 11)
   pub archive_rows : IsPermutation (map row_of_archive versions) (db 13)
   pub apart : HaveOwnRowids (db 9)
+  -- owners are of crates that are there, and each is one once
+  pub of_owners : list_all (λ o. list_any (λ c. c.0 == o.0) crates) owners ≡ true
+  pub pairs : IsDistinct (λ a b. a.0 == b.0 && a.1 == b.1) owners
   -- a crate has one id and one spelling, and a version
   pub ids : IsDistinct (on (λ c. c.0) nat_eq) crates
   pub canons : IsDistinct (on (λ c. canon c.1) bytes_eq) crates
@@ -102,6 +105,10 @@ pub record StandCrates (publications : List Publication) (held : finset.FinSet o
   pub rising : IsStrictlySortedBy nat_cmp (map (λ v. v.id) versions)
   pub published : map (λ v. v.publication) versions ≡ publications
   pub owned : AllByRecursion (λ c. (account : ℕ) → finset.contains held (canon c.1, account) ≡ is_owned owners c.0 account) crates
+
+-- the crate with this id has this spelling
+abbrev pub IsCrate : Trees → ℕ → Text → Type 0
+IsCrate db id name = filter (has_rowid (pos id)) (db 7) ≡ row_of_crate (id, name) ∷ []
 
 -- the rows are those of this registry
 pub record Stands (s : Registry) (db : Trees) : Type 0 where
