@@ -18,6 +18,7 @@ pub mod ReservedQueries
 pub mod ReservedTexts
 pub mod ScopeQueries
 pub mod ScopeTexts
+pub mod Selected
 pub mod ShownRows
 pub mod Standing
 pub mod Stays
