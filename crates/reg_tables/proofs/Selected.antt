@@ -52,6 +52,7 @@ each shown columns entry same (x ∷ xs) (y ∷ list) h = rw (sym (same x y (sym
   where
     heads : {A : Type 0} {a b : A} {xs ys : List A} → ◌≡◌ {A = List A} (a ∷ xs) (b ∷ ys) → a ≡ b
     heads e = cc
+
     tails : {A : Type 0} {a b : A} {xs ys : List A} → ◌≡◌ {A = List A} (a ∷ xs) (b ∷ ys) → xs ≡ ys
     tails e = cc
 

@@ -10,8 +10,8 @@ ghost use Rattle.reg_tables.specs.Bases.{HasBase};
 ghost use Rattle.reg_tables.specs.contracts.tables.Tables.{the_row};
 ghost use Rattle.reg_tables.specs.Works.{AreOurs, IsAtWork, IsLeft, has_failed, held, is_shut, seen, shown};
 
-use crate::work::{StoreFault, Work};
 use crate::about;
+use crate::work::{StoreFault, Work};
 use reg_schema::laws::rest_law;
 use reg_schema::{MakeFault, begin, is_ours, make_tables, undo};
 use sqlite::{Alter, Connection, Error};
