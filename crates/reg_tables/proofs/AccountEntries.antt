@@ -36,16 +36,16 @@ mark_is true false h = absurd cc
 mark_is false true h = absurd cc
 mark_is false false h = refl
 
-heads : {a b : Value} {xs ys : Row} → ◌≡◌ {A = Row} (a ∷ xs) (b ∷ ys) → a ≡ b
+pub heads : {a b : Value} {xs ys : Row} → ◌≡◌ {A = Row} (a ∷ xs) (b ∷ ys) → a ≡ b
 heads e = cc
 
-tails : {a b : Value} {xs ys : Row} → ◌≡◌ {A = Row} (a ∷ xs) (b ∷ ys) → xs ≡ ys
+pub tails : {a b : Value} {xs ys : Row} → ◌≡◌ {A = Row} (a ∷ xs) (b ∷ ys) → xs ≡ ys
 tails e = cc
 
-number_is : {n m : ℕ} → Int (pos n) ≡ Int (pos m) → n ≡ m
+pub number_is : {n m : ℕ} → Int (pos n) ≡ Int (pos m) → n ≡ m
 number_is e = cc
 
-words_are : {t u : List ℕ} → Text t ≡ Text u → t ≡ u
+pub words_are : {t u : List ℕ} → Text t ≡ Text u → t ≡ u
 words_are e = cc
 
 pub same_account : (e : ℕ × model.Account) (a : Account) → shows (0 ∷ 2 ∷ 3 ∷ 4 ∷ []) (row_of_account e) ≡ account_columns a → e ≡ entry_of_account a

@@ -6,9 +6,11 @@ pub mod AccountTexts
 pub mod ArchiveQueries
 pub mod ArchiveTexts
 pub mod Binding
+pub mod CrateEntries
 pub mod CrateQueries
 pub mod CrateTexts
 pub mod Greatest
+pub mod Members
 pub mod NextId
 pub mod Numbered
 pub mod Ordered
