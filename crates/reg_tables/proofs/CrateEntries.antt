@@ -34,20 +34,20 @@ use Rattle.reg_tables.proofs.Permutes.{one_row}
 use Rattle.reg_tables.proofs.Selected.{selected_one}
 use Rattle.reg_tables.proofs.Standing.{same_number}
 
-same_bytes : (t u : Words) → bytes_eq t u ≡ true → t ≡ u
+pub same_bytes : (t u : Words) → bytes_eq t u ≡ true → t ≡ u
 same_bytes t u h = (bytes_eq-Decides t u).0 h
 
-bytes_same : (t u : Words) → t ≡ u → bytes_eq t u ≡ true
+pub bytes_same : (t u : Words) → t ≡ u → bytes_eq t u ≡ true
 bytes_same t u h = (bytes_eq-Decides t u).1 h
 
-bytes_turn : (t u : Words) → bytes_eq t u ≡ bytes_eq u t
+pub bytes_turn : (t u : Words) → bytes_eq t u ≡ bytes_eq u t
 bytes_turn t u = split (bytes_eq u t) refl
   where
     split : (b : Bool) → bytes_eq u t ≡ b → bytes_eq t u ≡ b
     split true e = bytes_same t u (sym (same_bytes u t e))
     split false e = not_true _ (λ h. true_not_false _ (bytes_same u t (sym (same_bytes t u h))) e)
 
-numbers_turn : (n m : ℕ) → (n == m) ≡ (m == n)
+pub numbers_turn : (n m : ℕ) → (n == m) ≡ (m == n)
 numbers_turn n m = split (m == n) refl
   where
     split : (b : Bool) → (m == n) ≡ b → (n == m) ≡ b

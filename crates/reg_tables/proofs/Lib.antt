@@ -7,6 +7,7 @@ pub mod ArchiveQueries
 pub mod ArchiveTexts
 pub mod Binding
 pub mod CrateEntries
+pub mod CrateNames
 pub mod CrateQueries
 pub mod CrateTexts
 pub mod Greatest
