@@ -30,6 +30,7 @@ pub mod Stays
 pub mod TableMatches
 pub mod TokenQueries
 pub mod TokenTexts
+pub mod VersionEntries
 pub mod VersionQueries
 pub mod VersionRows
 pub mod VersionTexts
