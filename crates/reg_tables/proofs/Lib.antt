@@ -14,8 +14,10 @@ pub mod Ordered
 pub mod OwnerQueries
 pub mod OwnerTexts
 pub mod Permutes
+pub mod ReservedChanges
 pub mod ReservedQueries
 pub mod ReservedTexts
+pub mod Rowids
 pub mod ScopeQueries
 pub mod ScopeTexts
 pub mod ShownRows
