@@ -2,6 +2,7 @@ pub mod AboutLemmas
 pub mod AboutQueries
 pub mod AccountQueries
 pub mod AccountTexts
+pub mod Among
 pub mod ArchiveQueries
 pub mod ArchiveTexts
 pub mod Binding
@@ -11,6 +12,7 @@ pub mod Greatest
 pub mod NextId
 pub mod Numbered
 pub mod Ordered
+pub mod OwnerChanges
 pub mod OwnerQueries
 pub mod OwnerTexts
 pub mod Permutes

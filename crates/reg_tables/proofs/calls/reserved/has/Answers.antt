@@ -1,4 +1,4 @@
-use Rattle.std.proofs.Common.{◌≡◌, ◌∙◌}
+use Rattle.std.proofs.Common.{◌∙◌}
 use Rattle.sqlite.specs.Held.{state}
 use Rattle.reg_tables.proofs.ReservedChanges.{is_there}
 use Rattle.reg_tables.proofs.calls.reserved.has.Goals as goal
