@@ -1,5 +1,6 @@
 //! The calls of a transaction, each with what it is on the registry that the rows stand for.
 
 mod accounts;
+mod crate_lists;
 mod owners;
 mod reserved;

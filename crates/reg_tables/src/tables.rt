@@ -10,8 +10,9 @@ ghost use Rattle.reg_tables.specs.Bases.{HasBase};
 ghost use Rattle.reg_tables.specs.contracts.tables.Tables.{the_row};
 ghost use Rattle.reg_tables.specs.Works.{AreOurs, IsAtWork, IsLeft, has_failed, held, is_shut, seen, shown};
 
-use crate::work::{StoreFault, Work};
 use crate::about;
+use crate::work::{StoreFault, Work};
+use reg_schema::laws::rest_law;
 use reg_schema::{MakeFault, begin, is_ours, make_tables, undo};
 use sqlite::{Alter, Connection, Error};
 use std::alloc::Global;
@@ -82,6 +83,7 @@ impl<S: Alter> Tables<S> {
         ensures kept { IfOk result (λ t. Survives (state S.Store conn) (shown S.Store t) (λ _. ⊥)) }
         ensures left { IfErr result (λ e. Survives (state S.Store conn) (state S.Store e.1) (λ _. ⊥)) }
     {
+        rest_law(&conn);
         match is_ours(alloc, conn.schema()) {
             Err(_) => return Err((MakeFault::Storage, conn)),
             Ok(false) => return Err((MakeFault::UnknownSchema, conn)),
