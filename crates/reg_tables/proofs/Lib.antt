@@ -3,6 +3,7 @@ pub mod AboutQueries
 pub mod AccountEntries
 pub mod AccountQueries
 pub mod AccountTexts
+pub mod Among
 pub mod ArchiveQueries
 pub mod ArchiveTexts
 pub mod Binding
@@ -15,12 +16,15 @@ pub mod Members
 pub mod NextId
 pub mod Numbered
 pub mod Ordered
+pub mod OwnerChanges
 pub mod OwnerQueries
 pub mod OwnerTexts
 pub mod Permutes
+pub mod ReservedChanges
 pub mod ReservedQueries
 pub mod ReservedTexts
 pub mod Results
+pub mod Rowids
 pub mod ScopeQueries
 pub mod ScopeTexts
 pub mod Selected

@@ -2,3 +2,5 @@
 
 mod accounts;
 mod crate_lists;
+mod owners;
+mod reserved;

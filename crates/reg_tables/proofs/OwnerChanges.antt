@@ -1,0 +1,156 @@
+-- What a change of the rows is on the owners that they stand for.
+use Rattle.std.proofs.Common.{arith, ◌≡◌, ◌==◌, ℕ, pos, List, [], ◌∷◌, map, Bool, true, false, ◌||◌, ◌&&◌, not, refl, sym, ap, subst, ◌∙◌, true≢false}
+use Rattle.std.specs.Prelude.{drop, nat_eq}
+use Rattle.std.specs.List.{filter, list_any, list_all, AllByRecursion, IsDistinct}
+use Rattle.std.specs.List.Sorted.{IsPermutation}
+use Rattle.std.specs.Ordering.{is_eq, nat_cmp, eq_by_cmp, ordering_then, on}
+use Rattle.std.specs.declared.cmp.Ordering.{Ordering}
+use Rattle.std.specs.declared.cmp.Ordering.TheVariants.{Less, Equal, Greater}
+use Rattle.std.specs.Str.{bytes_eq}
+use Rattle.std.specs.Cmp.{IsEquivalence}
+use Rattle.std.specs.Cmp.Lexicographic.{nat_list_eq_equiv}
+use Rattle.std.specs.FinSet as finset
+use Rattle.std.proofs.lemmas.Cmp.{nat_eq_equiv}
+use Rattle.std.proofs.lemmas.Bool.Decides.{nat_tests}
+use Rattle.std.proofs.lemmas.Bool.{and_from, or_parts}
+use Rattle.std.proofs.lemmas.Map.Keys.{IsDistinct-cons}
+use Rattle.std.proofs.lemmas.Map.Text.{is_eq-slice_cmp}
+use Rattle.sqlite.specs.declared.types.Value.TheVariants.{Int, Text}
+use Rattle.sqlite.specs.Order.{Row, column, value_cmp}
+use Rattle.sqlite.specs.State.{State}
+use Rattle.sqlite.specs.Tree.{Trees}
+use Rattle.sqlite.proofs.Callers.{one_permutation}
+use Rattle.sqlite_trees.specs.Tree.{has_rowid}
+use Rattle.sqlite_trees.proofs.ListLemmas.{IsPermutation-filter, all_weaker}
+use Rattle.std.proofs.lemmas.List.Sorted.{IsPermutation-sym}
+use Rattle.reg_names.specs.Names.{canon}
+use Rattle.reg_schema.specs.Changes.{KeepsOthers, AddsColumns}
+use Rattle.reg_schema.proofs.Queries.{same_filter}
+use Rattle.reg_model.specs.Registry.{Registry, Publication, owner_cmp, mark_cmp}
+use Rattle.reg_model.proofs.Keys.{insert_again, owner_total, owner_apart}
+use Rattle.reg_model.proofs.Lists.{any_same}
+use Rattle.reg_tables.specs.Columns.{owner_columns}
+use Rattle.reg_tables.specs.Stands.{StoredCrate, StoredOwner, row_of_crate, row_of_version, row_of_archive, columns_of_owner, is_owned, IsCrate, HaveOwnRowids, StandCrates, Stands}
+use Rattle.reg_tables.specs.Tests.{is_owner}
+use Rattle.reg_tables.proofs.Among.{Among, among_passing, all_among, any_among, alike}
+use Rattle.reg_tables.proofs.Permutes.{filter_map}
+use Rattle.reg_tables.proofs.Rowids.{first_column, second_column, apart_put, any_columns, put_columns}
+use Rattle.reg_tables.proofs.Standing.{same_number}
+use Rattle.reg_tables.proofs.Stays.{accounts_stay, tokens_stay, reserved_stay, same_about, same_accounts, same_tokens, same_scopes, same_crates, same_versions, same_archives, same_reserved}
+
+-- the test of a row, as one of its columns
+abbrev has_pair : ℕ → ℕ → Row → Bool
+has_pair id account columns = is_eq (value_cmp (column columns 0) (Int (pos id))) && is_eq (value_cmp (column columns 1) (Int (pos account)))
+
+behind : (id account : ℕ) (r : Row) → is_owner id account r ≡ has_pair id account (drop 1 r)
+behind id account r = rw (first_column r, second_column r) refl
+
+abbrev is_pair : ℕ → ℕ → StoredOwner → Bool
+is_pair id account o = o.0 == id && o.1 == account
+
+pair_columns : (id account : ℕ) (o : StoredOwner) → has_pair id account (columns_of_owner o) ≡ is_pair id account o
+pair_columns id account o = rw (same_number o.0 id, same_number o.1 account) refl
+
+-- SQL's numbers in an order, as their equality
+same_nat : (n m : ℕ) → is_eq (nat_cmp n m) ≡ (n == m)
+same_nat n m = grind (arith, nat_tests)
+
+same_pair : (a b : Ordering) → is_eq (ordering_then a b) ≡ (is_eq a && is_eq b)
+same_pair Less b = refl
+same_pair Equal b = refl
+same_pair Greater b = refl
+
+crate_is : (c : StoredCrate) (id : ℕ) (name : List ℕ) → row_of_crate c ≡ row_of_crate (id, name) → c ≡ (id, name)
+crate_is c id name e =
+    let same_id : c.0 ≡ id = cc in
+    let same_name : c.1 ≡ name = cc in
+    λ i. (same_id i, same_name i)
+
+only_crate : (cs : List StoredCrate) (id : ℕ) (name : List ℕ) → map row_of_crate cs ≡ row_of_crate (id, name) ∷ [] → cs ≡ (id, name) ∷ []
+only_crate [] id name e = absurd cc
+only_crate (c ∷ []) id name e = ap (λ x. x ∷ []) (crate_is c id name cc)
+only_crate (c ∷ d ∷ cs) id name e = absurd cc
+
+ids_same : IsEquivalence (on (λ (c : StoredCrate). c.0) nat_eq)
+ids_same = record { refl = λ c. nat_eq_equiv.refl c.0; symm = λ c d. nat_eq_equiv.symm c.0 d.0; congr = λ c d e. nat_eq_equiv.congr c.0 d.0 e.0 }
+
+canons_same : IsEquivalence (on (λ (c : StoredCrate). canon c.1) bytes_eq)
+canons_same = record { refl = λ c. nat_list_eq_equiv.refl (canon c.1); symm = λ c d. nat_list_eq_equiv.symm (canon c.1) (canon d.1); congr = λ c d e. nat_list_eq_equiv.congr (canon c.1) (canon d.1) (canon e.1) }
+
+module _ (publications : List Publication) (held : finset.FinSet owner_cmp) (yanked : finset.FinSet mark_cmp) (db : Trees) (stands : StandCrates publications held yanked db) (id : ℕ) (name : List ℕ) (is_crate : IsCrate db id name) where
+  -- the crate with this id is one that the rows stand for
+  pub crate_there : Among (id, name) stands.crates
+  crate_there =
+      let same = IsPermutation-filter (has_rowid (pos id)) (map row_of_crate stands.crates) (db 7) stands.crate_rows in
+      let moved = IsPermutation-sym _ _ (subst (IsPermutation (filter (has_rowid (pos id)) (map row_of_crate stands.crates))) is_crate same) in
+      let row = one_permutation (row_of_crate (id, name)) _ moved in
+      among_passing (λ c. has_rowid (pos id) (row_of_crate c)) (id, name) stands.crates (only_crate _ id name (sym (filter_map row_of_crate (has_rowid (pos id)) stands.crates) ∙ row))
+
+  -- of the crates that are there, one has its id and its canonical text
+  crates_alike : AllByRecursion (λ c. bytes_eq (canon c.1) (canon name) ≡ (c.0 == id)) stands.crates
+  crates_alike = alike (on (λ (c : StoredCrate). canon c.1) bytes_eq) (on (λ (c : StoredCrate). c.0) nat_eq) canons_same ids_same (id, name) stands.crates crate_there stands.canons stands.ids
+
+  module _ (account : ℕ) where
+    pub is_there : list_any (is_owner id account) (db 9) ≡ finset.contains held (canon name, account)
+    is_there =
+        any_columns columns_of_owner stands.owners (db 9) stands.owner_rows (is_owner id account) (has_pair id account) (behind id account) ∙ any_same (λ o. has_pair id account (columns_of_owner o)) (is_pair id account) (pair_columns id account) stands.owners
+        ∙ sym (all_among (λ c. (account : ℕ) → finset.contains held (canon c.1, account) ≡ is_owned stands.owners c.0 account) (id, name) stands.crates crate_there stands.owned account)
+
+    -- the keys of the set that are tied to the pair are those of its crate
+    same_key : (c : StoredCrate) (a : ℕ) → bytes_eq (canon c.1) (canon name) ≡ (c.0 == id) → eq_by_cmp owner_cmp (canon c.1, a) (canon name, account) ≡ is_pair c.0 a (id, account)
+    same_key c a same =
+        same_pair _ (nat_cmp a account) ∙ ap (λ b. b && is_eq (nat_cmp a account)) (is_eq-slice_cmp (canon c.1) (canon name) ∙ same ∙ nat_eq_equiv.symm c.0 id) ∙ ap (λ b. (id == c.0) && b) (same_nat a account ∙ nat_eq_equiv.symm a account)
+
+    none_owned : (os : List StoredOwner) → is_owned os id account ≡ false → AllByRecursion (λ o. (id == o.0 && account == o.1) ≡ false) os
+    none_owned [] h = tt
+    none_owned (o ∷ os) h =
+        let parts = or_parts _ _ h in
+        (rw (nat_eq_equiv.symm id o.0, nat_eq_equiv.symm account o.1) parts.0, none_owned os parts.1)
+
+    more_owned : (os : List StoredOwner) (cs : List StoredCrate) → AllByRecursion (λ c. bytes_eq (canon c.1) (canon name) ≡ (c.0 == id)) cs → AllByRecursion (λ c. (a : ℕ) → finset.contains held (canon c.1, a) ≡ is_owned os c.0 a) cs
+        → AllByRecursion (λ c. (a : ℕ) → finset.contains (finset.insert held (canon name, account)) (canon c.1, a) ≡ is_owned ((id, account) ∷ os) c.0 a) cs
+    more_owned os [] same owned = tt
+    more_owned os (c ∷ cs) same owned =
+        (λ a. finset.contains-insert owner_total held (canon name, account) (canon c.1, a) ∙ ap (λ b. b || finset.contains held (canon c.1, a)) (same_key c a same.0) ∙ ap (λ b. is_pair c.0 a (id, account) || b) (owned.0 a), more_owned os cs same.1 owned.1)
+
+module _ (publications : List Publication) (held : finset.FinSet owner_cmp) (yanked : finset.FinSet mark_cmp) (old new : State) (stands : StandCrates publications held yanked old.now.trees) (id : ℕ) (name : List ℕ) (is_crate : IsCrate old.now.trees id name) (account : ℕ) where
+  pub adds_owner : finset.contains held (canon name, account) ≡ false → AddsColumns 9 (owner_columns id account) old new → StandCrates publications (finset.insert held (canon name, account)) yanked new.now.trees
+  adds_owner absent (rowid, adds) =
+      let o : StoredOwner = (id, account) in
+      let rows = old.now.trees 9 in
+      let others = adds.becomes.others in
+      let there = crate_there publications held yanked old.now.trees stands id name is_crate in
+      let same = crates_alike publications held yanked old.now.trees stands id name is_crate in
+      let none : is_owned stands.owners id account ≡ false = sym (all_among (λ c. (a : ℕ) → finset.contains held (canon c.1, a) ≡ is_owned stands.owners c.0 a) (id, name) stands.crates there stands.owned account) ∙ absent in
+      record {
+        crates = stands.crates;
+        owners = o ∷ stands.owners;
+        versions = stands.versions;
+        crate_rows = subst (IsPermutation (map row_of_crate stands.crates)) (sym (same_crates 9 old.now.trees new.now.trees others (λ e. cc))) stands.crate_rows;
+        owner_rows = subst (λ (rs : List Row). IsPermutation (map columns_of_owner (o ∷ stands.owners)) (map (drop 1) rs)) (sym adds.becomes.rows_are) (put_columns columns_of_owner stands.owners rows stands.owner_rows o rowid adds.fresh);
+        version_rows = subst (IsPermutation (map (row_of_version yanked) stands.versions)) (sym (same_versions 9 old.now.trees new.now.trees others (λ e. cc))) stands.version_rows;
+        archive_rows = subst (IsPermutation (map row_of_archive stands.versions)) (sym (same_archives 9 old.now.trees new.now.trees others (λ e. cc))) stands.archive_rows;
+        apart = subst HaveOwnRowids (sym adds.becomes.rows_are) (apart_put (Int rowid ∷ columns_of_owner o) rows adds.fresh stands.apart);
+        of_owners = and_from _ _ (any_among (λ c. c.0 == id) (id, name) stands.crates there (nat_eq_equiv.refl id)) stands.of_owners;
+        pairs = IsDistinct-cons (λ a b. a.0 == b.0 && a.1 == b.1) o stands.owners (none_owned publications held yanked old.now.trees stands id name is_crate account stands.owners none) stands.pairs;
+        ids = stands.ids;
+        canons = stands.canons;
+        used = stands.used;
+        of_crates = stands.of_crates;
+        rising = stands.rising;
+        published = stands.published;
+        owned = more_owned publications held yanked old.now.trees stands id name is_crate account stands.owners stands.crates same stands.owned;
+      }
+
+-- an owner who is one already is not added
+pub stays_owner : (s : Registry) (o : List ℕ × ℕ) (db : Trees) → finset.contains s.owners o ≡ true → Stands s db → Stands (record s { owners = finset.insert s.owners o }) db
+stays_owner s o db there = subst (λ os. Stands (record s { owners = os }) db) (sym (insert_again owner_total owner_apart s.owners o there))
+
+pub with_owners : (s : Registry) (owners : finset.FinSet owner_cmp) (old new : Trees) → KeepsOthers 9 old new → Stands s old → StandCrates s.publications owners s.yanked new → Stands (record s { owners = owners }) new
+with_owners s owners old new others stands changed = record {
+  about = ap (map (λ r. drop 1 r)) (same_about 9 old new others (λ e. cc)) ∙ stands.about;
+  accounts = accounts_stay s.accounts old new (same_accounts 9 old new others (λ e. cc)) stands.accounts;
+  tokens = tokens_stay s.tokens old new (same_tokens 9 old new others (λ e. cc)) (same_scopes 9 old new others (λ e. cc)) stands.tokens;
+  crates = changed;
+  reserved = reserved_stay s.reserved old new (same_reserved 9 old new others (λ e. cc)) stands.reserved;
+}

@@ -1,0 +1,62 @@
+-- What a change of the rows is on the reserved names that they stand for.
+use Rattle.std.proofs.Common.{◌≡◌, ◌≢◌, ℕ, List, [], ◌∷◌, map, Bool, true, false, ◌||◌, ◌&&◌, not, refl, sym, ap, subst, ◌∙◌}
+use Rattle.std.specs.Prelude.{drop}
+use Rattle.std.specs.List.{filter, list_any}
+use Rattle.std.specs.List.Sorted.{IsPermutation}
+use Rattle.std.specs.Ordering.{is_eq, nat_cmp, eq_by_cmp}
+use Rattle.std.specs.Str.{bytes_eq}
+use Rattle.std.specs.Cmp.Lexicographic.{slice_cmp, nat_list_cmp_total, nat_list_eq_equiv}
+use Rattle.std.specs.FinSet as finset
+use Rattle.std.proofs.lemmas.Map.Text.{is_eq-slice_cmp}
+use Rattle.sqlite.specs.declared.types.Value.TheVariants.{Int, Text}
+use Rattle.sqlite.specs.Order.{Row, column, value_cmp}
+use Rattle.sqlite.specs.State.{State}
+use Rattle.sqlite.specs.Tree.{Trees}
+use Rattle.sqlite_value.proofs.OrderLemmas.{value_cmp-Text}
+use Rattle.reg_schema.specs.Changes.{KeepsOthers, AddsColumns}
+use Rattle.reg_model.specs.Registry.{Registry, text_cmp}
+use Rattle.reg_model.proofs.Keys.{insert_again, text_apart}
+use Rattle.reg_model.proofs.Lists.{any_same}
+use Rattle.reg_tables.specs.Columns.{reserved_columns}
+use Rattle.reg_tables.specs.Stands.{HaveOwnRowids, StandReserved, Stands}
+use Rattle.reg_tables.specs.Tests.{is_text}
+use Rattle.reg_tables.proofs.Rowids.{first_column, apart_put, any_columns, put_columns}
+use Rattle.reg_tables.proofs.Stays.{accounts_stay, tokens_stay, crates_stay, same_about, same_accounts, same_tokens, same_scopes, same_crates, same_owners, same_versions, same_archives}
+
+same_text : (t c : List ℕ) → is_eq (value_cmp (Text t) (Text c)) ≡ bytes_eq t c
+same_text t c = ap is_eq (value_cmp-Text t c) ∙ is_eq-slice_cmp t c
+
+-- the test of a row, as one of its columns
+abbrev has_canon : List ℕ → Row → Bool
+has_canon c columns = is_eq (value_cmp (column columns 0) (Text c))
+
+behind : (c : List ℕ) (r : Row) → is_text 1 c r ≡ has_canon c (drop 1 r)
+behind c r = ap (λ v. is_eq (value_cmp v (Text c))) (first_column r)
+
+module _ (reserved : finset.FinSet text_cmp) (c : List ℕ) where
+  pub is_there : (db : Trees) → StandReserved reserved db → list_any (is_text 1 c) (db 14) ≡ finset.contains reserved c
+  is_there db stands =
+      any_columns reserved_columns stands.texts (db 14) stands.rows (is_text 1 c) (has_canon c) (behind c) ∙ any_same (λ t. has_canon c (reserved_columns t)) (λ t. bytes_eq t c) (λ t. same_text t c) stands.texts ∙ sym (stands.same c)
+
+  pub adds_reserved : (old new : State) → StandReserved reserved old.now.trees → AddsColumns 14 (reserved_columns c) old new → StandReserved (finset.insert reserved c) new.now.trees
+  adds_reserved old new stands (id, adds) =
+      let rows = old.now.trees 14 in
+      record {
+        texts = c ∷ stands.texts;
+        rows = subst (λ (rs : List Row). IsPermutation (map reserved_columns (c ∷ stands.texts)) (map (drop 1) rs)) (sym adds.becomes.rows_are) (put_columns reserved_columns stands.texts rows stands.rows c id adds.fresh);
+        apart = subst HaveOwnRowids (sym adds.becomes.rows_are) (apart_put (Int id ∷ reserved_columns c) rows adds.fresh stands.apart);
+        same = λ q. finset.contains-insert nat_list_cmp_total reserved c q ∙ ap (λ b. b || finset.contains reserved q) (is_eq-slice_cmp q c ∙ nat_list_eq_equiv.symm q c) ∙ ap (λ b. bytes_eq c q || b) (stands.same q);
+      }
+
+-- what is there already is not added
+pub stays_reserved : (s : Registry) (c : List ℕ) (db : Trees) → finset.contains s.reserved c ≡ true → Stands s db → Stands (record s { reserved = finset.insert s.reserved c }) db
+stays_reserved s c db there = subst (λ r. Stands (record s { reserved = r }) db) (sym (insert_again nat_list_cmp_total text_apart s.reserved c there))
+
+pub with_reserved : (s : Registry) (reserved : finset.FinSet text_cmp) (old new : Trees) → KeepsOthers 14 old new → Stands s old → StandReserved reserved new → Stands (record s { reserved = reserved }) new
+with_reserved s reserved old new others stands changed = record {
+  about = ap (map (λ r. drop 1 r)) (same_about 14 old new others (λ e. cc)) ∙ stands.about;
+  accounts = accounts_stay s.accounts old new (same_accounts 14 old new others (λ e. cc)) stands.accounts;
+  tokens = tokens_stay s.tokens old new (same_tokens 14 old new others (λ e. cc)) (same_scopes 14 old new others (λ e. cc)) stands.tokens;
+  crates = crates_stay s.publications s.owners s.yanked old new (same_crates 14 old new others (λ e. cc)) (same_owners 14 old new others (λ e. cc)) (same_versions 14 old new others (λ e. cc)) (same_archives 14 old new others (λ e. cc)) stands.crates;
+  reserved = changed;
+}

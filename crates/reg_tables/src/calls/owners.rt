@@ -1,0 +1,49 @@
+//! Calls on the owners of crates.
+
+ghost use Rattle.std.specs.Prelude.{◌≡◌, IfOk, OnOk, OnErr};
+ghost use Rattle.std.specs.FinSet as finset;
+ghost use Rattle.sqlite.specs.Held.{state};
+ghost use Rattle.sqlite.specs.State.{HasCleanDisk, Survives};
+ghost use Rattle.reg_names.specs.Names.{canon};
+ghost use Rattle.reg_schema.specs.States.{IsReady};
+ghost use Rattle.reg_tables.specs.Stands.{IsCrate, Stands};
+ghost use Rattle.reg_tables.specs.Works.{IsAtWork, IsCall, Within, Fails, seen};
+
+use crate::owners;
+use crate::work::{StoreFault, Work};
+use sqlite::{Alter, Connection, Error};
+
+#[tactic(auto, using(crate::proofs::Withins::refused_fails, crate::proofs::Withins::unchanged_within, crate::proofs::Withins::unchanged_fails, crate::proofs::Withins::fails_after, crate::proofs::Withins::becomes_within))]
+fn add<S: Alter>(conn: &mut Connection<S>, crate_id: u32, account: u32) -> Result<(), Error>
+    requires { IsReady (state S.Store conn.old) }
+    ensures stands { HasCleanDisk (state S.Store conn.new) → OnOk result ((s : _) → (name : _) → IsCrate (state S.Store conn.old).now.trees crate_id name → Stands s (state S.Store conn.old).now.trees → Stands (record s { owners = finset.insert s.owners (canon name, account) }) (state S.Store conn.new).now.trees) }
+    ensures within { HasCleanDisk (state S.Store conn.new) → OnOk result (Within (state S.Store conn.old) (state S.Store conn.new)) }
+    ensures fails { HasCleanDisk (state S.Store conn.new) → OnErr result (Fails (state S.Store conn.old) (state S.Store conn.new)) }
+    ensures survives { Survives (state S.Store conn.old) (state S.Store conn.new) (λ _. ⊥) }
+{
+    if owners::is_there(conn, crate_id, account)? {
+        return Ok(());
+    }
+    owners::insert(conn, crate_id, account)?;
+    Ok(())
+}
+
+impl<S: Alter> Work<'_, S> {
+    /// Makes an account an owner of a crate that is there.
+    pub fn add_owner(&mut self, crate_id: u32, account: u32) -> Result<(), StoreFault>
+        requires { IsAtWork S.Store self.old }
+        ensures added { HasCleanDisk (seen S.Store self.new) → OnOk result ((s : _) → (name : _) → IsCrate (seen S.Store self.old).now.trees crate_id name → Stands s (seen S.Store self.old).now.trees → Stands (record s { owners = finset.insert s.owners (canon name, account) }) (seen S.Store self.new).now.trees) }
+        ensures leaves { IsCall S.Store result self.old self.new }
+    {
+        if self.failed {
+            return Err(StoreFault);
+        }
+        match add(&mut self.tables.conn, crate_id, account) {
+            Ok(()) => Ok(()),
+            Err(_) => {
+                self.failed = true;
+                Err(StoreFault)
+            }
+        }
+    }
+}
