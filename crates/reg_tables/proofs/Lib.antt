@@ -1,5 +1,6 @@
 pub mod AboutLemmas
 pub mod AboutQueries
+pub mod AccountEntries
 pub mod AccountQueries
 pub mod AccountTexts
 pub mod ArchiveQueries
@@ -16,8 +17,10 @@ pub mod OwnerTexts
 pub mod Permutes
 pub mod ReservedQueries
 pub mod ReservedTexts
+pub mod Results
 pub mod ScopeQueries
 pub mod ScopeTexts
+pub mod Selected
 pub mod ShownRows
 pub mod Standing
 pub mod Stays

@@ -3,6 +3,7 @@ pub mod Archives
 pub mod Bases
 pub mod Columns
 pub mod CrateRecords
+pub mod Entries
 pub mod Greatest
 pub mod Ids
 pub mod OwnerRecords

@@ -20,6 +20,15 @@ use crate::rows::{mark_of, only_count, only_id};
 use sqlite::{Alter, Connection, Error, Row, params};
 use std::alloc::Global;
 
+/// An account as it is stored.
+#[derive(Debug, Drop)]
+pub struct Account {
+    pub id: u32,
+    pub login: String,
+    pub name: Option<String>,
+    pub enabled: bool,
+}
+
 /// Adds an account that is enabled.
 pub(crate) fn insert<S: Alter>(
     conn: &mut Connection<S>,
@@ -123,15 +132,6 @@ pub(crate) fn count<S: Alter>(conn: &mut Connection<S>) -> Result<u64, Error>
 {
     let rows = select_count(conn)?;
     only_count(&rows)
-}
-
-/// An account as it is stored.
-#[derive(Debug, Drop)]
-pub struct Account {
-    pub id: u32,
-    pub login: String,
-    pub name: Option<String>,
-    pub enabled: bool,
 }
 
 fn account_of(row: &Row) -> Result<Account, Error>

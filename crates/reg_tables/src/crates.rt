@@ -18,6 +18,14 @@ use crate::rows::{only_count, only_id};
 use sqlite::{Alter, Connection, Error, Row, params};
 use std::alloc::Global;
 
+/// A crate as it is stored.
+#[derive(Debug, Drop)]
+pub struct Crate {
+    pub id: u32,
+    pub canon: String,
+    pub name: String,
+}
+
 /// Adds a crate.
 pub(crate) fn insert<S: Alter>(
     conn: &mut Connection<S>,
@@ -97,14 +105,6 @@ pub(crate) fn count<S: Alter>(conn: &mut Connection<S>) -> Result<u64, Error>
 {
     let rows = select_count(conn)?;
     only_count(&rows)
-}
-
-/// A crate as it is stored.
-#[derive(Debug, Drop)]
-pub struct Crate {
-    pub id: u32,
-    pub canon: String,
-    pub name: String,
 }
 
 fn crate_of(row: &Row) -> Result<Crate, Error>

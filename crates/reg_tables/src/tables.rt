@@ -1,23 +1,52 @@
 //! The tables over a connection.
 
-ghost use Rattle.std.specs.Prelude.{◌≡◌, ◌≢◌, ◌↔◌, true, false, Err, IfErr, IfOk};
+ghost use Rattle.std.specs.Prelude.{◌≡◌, ◌≢◌, ◌↔◌, true, false, Err, IfErr, IfOk, IsTrue};
 ghost use Rattle.std.specs.Borrow.{sem, RestsIfErr};
-ghost use Rattle.sqlite.specs.State.{HasCleanDisk, Shows, Survives};
+ghost use Rattle.sqlite.specs.State.{HasCleanDisk, KeepsCommit, Shows, Survives};
 ghost use Rattle.sqlite.specs.Held.{state};
 ghost use Rattle.reg_schema.specs.Schema.{blank};
-ghost use Rattle.reg_schema.specs.States.{IsAtRest, IsMade, IsUndone};
+ghost use Rattle.reg_schema.specs.States.{IsAtRest, IsMade, IsOurs, IsUndone};
+ghost use Rattle.reg_tables.specs.Bases.{HasBase};
 ghost use Rattle.reg_tables.specs.contracts.tables.Tables.{the_row};
 ghost use Rattle.reg_tables.specs.Works.{AreOurs, IsAtWork, IsLeft, has_failed, held, is_shut, seen, shown};
 
+use crate::about;
 use crate::work::{StoreFault, Work};
-use reg_schema::{MakeFault, begin, make_tables};
-use sqlite::{Alter, Connection};
+use reg_schema::laws::rest_law;
+use reg_schema::{MakeFault, begin, is_ours, make_tables, undo};
+use sqlite::{Alter, Connection, Error};
+use std::alloc::Global;
 
 /// The tables of a registry. After a commit that was refused they answer nothing more: what the store then holds is seen by opening it again.
 #[derive(Drop)]
 pub struct Tables<S: Alter> {
     pub(crate) conn: Connection<S>,
     pub(crate) shut: bool,
+}
+
+fn read_base<S: Alter>(conn: &mut Connection<S>) -> Result<bool, Error>
+    requires ours { IsOurs (state S.Store conn.old) }
+    ensures found { HasCleanDisk (state S.Store conn.new) → IfOk result (λ has. IsTrue has → HasBase (state S.Store conn.old).now.trees) }
+    ensures keeps { HasCleanDisk (state S.Store conn.new) → KeepsCommit (state S.Store conn.old) (state S.Store conn.new) }
+    ensures ours { IsOurs (state S.Store conn.new) }
+    ensures survives { Survives (state S.Store conn.old) (state S.Store conn.new) (λ _. ⊥) }
+{
+    begin(conn)?;
+    let base = about::base(conn)?;
+    Ok(base.is_some())
+}
+
+/// Whether there is one row of `about`, of schema 1. No transaction is left open.
+fn has_base<S: Alter>(conn: &mut Connection<S>) -> Result<bool, Error>
+    requires ours { IsOurs (state S.Store conn.old) }
+    ensures found { HasCleanDisk (state S.Store conn.new) → IfOk result (λ has. IsTrue has → HasBase (state S.Store conn.old).now.trees) }
+    ensures undone { HasCleanDisk (state S.Store conn.new) → IsUndone (state S.Store conn.old) (state S.Store conn.new) }
+    ensures ours { IsOurs (state S.Store conn.new) }
+    ensures survives { Survives (state S.Store conn.old) (state S.Store conn.new) (λ _. ⊥) }
+{
+    let has = read_base(conn);
+    undo(conn);
+    has
 }
 
 impl<S: Alter> Tables<S> {
@@ -38,6 +67,32 @@ impl<S: Alter> Tables<S> {
         match make_tables(&mut conn, base) {
             Ok(()) => Ok(Tables { conn, shut: false }),
             Err(fault) => Err((fault, conn)),
+        }
+    }
+
+    /// Takes over tables that were made before. A store that holds anything else, or not one row of `about` of schema 1, is not known.
+    pub fn adopt(
+        alloc: Global,
+        mut conn: Connection<S>,
+    ) -> Result<Tables<S>, (MakeFault, Connection<S>)>
+        requires { (state S.Store conn).in_transaction ≡ false }
+        ensures found { IfOk result (λ t. HasCleanDisk (shown S.Store t) → IsTrue (shown S.Store t).is_open → (shown S.Store t).now ≡ (state S.Store conn).now) }
+        ensures about { IfOk result (λ t. HasCleanDisk (shown S.Store t) → HasBase (state S.Store conn).now.trees) }
+        ensures ours { IfOk result (λ t. AreOurs S.Store t × (is_shut t ≡ false)) }
+        ensures handed_back { IfErr result (λ e. HasCleanDisk (state S.Store e.1) → KeepsCommit (state S.Store conn) (state S.Store e.1)) }
+        ensures kept { IfOk result (λ t. Survives (state S.Store conn) (shown S.Store t) (λ _. ⊥)) }
+        ensures left { IfErr result (λ e. Survives (state S.Store conn) (state S.Store e.1) (λ _. ⊥)) }
+    {
+        rest_law(&conn);
+        match is_ours(alloc, conn.schema()) {
+            Err(_) => return Err((MakeFault::Storage, conn)),
+            Ok(false) => return Err((MakeFault::UnknownSchema, conn)),
+            Ok(true) => {}
+        }
+        match has_base(&mut conn) {
+            Err(_) => Err((MakeFault::Storage, conn)),
+            Ok(false) => Err((MakeFault::UnknownSchema, conn)),
+            Ok(true) => Ok(Tables { conn, shut: false }),
         }
     }
 

@@ -1,18 +1,23 @@
 //! Calls on accounts.
 
-ghost use Rattle.std.specs.Prelude.{◌≡◌, ◌+◌, ◌++◌, true, [], ◌∷◌, IfOk, OnOk, OnErr, Some, length};
+ghost use Rattle.std.specs.Prelude.{◌≡◌, ◌+◌, ◌++◌, true, [], ◌∷◌, IfOk, OnOk, OnErr, Some, filter, length, map};
+ghost use Rattle.std.specs.List.{enumerate_from};
 ghost use Rattle.std.specs.Option.{option_map};
+ghost use Rattle.std.specs.Str.{bytes_eq};
 ghost use Rattle.sqlite.specs.Held.{state};
-ghost use Rattle.sqlite.specs.State.{HasCleanDisk, Survives};
-ghost use Rattle.reg_schema.specs.States.{IsReady};
+ghost use Rattle.sqlite.specs.State.{HasCleanDisk, IsUnchanged, Survives};
+ghost use Rattle.reg_schema.specs.States.{IsReady, OnlyReads};
 ghost use Rattle.reg_model.specs.Registry.{with_id, change_at};
+ghost use Rattle.reg_tables.specs.Entries.{entry_of_account, one_of};
 ghost use Rattle.reg_tables.specs.Ids.{IsNext};
 ghost use Rattle.reg_tables.specs.Stands.{Stands};
 ghost use Rattle.reg_tables.specs.Works.{IsAtWork, IsCall, Within, Fails, seen};
 
 use crate::accounts;
+use crate::accounts::Account;
 use crate::work::{StoreFault, Work};
 use sqlite::{Alter, Connection, Error};
+use std::alloc::Global;
 
 // One more than the greatest id; none where 32 bits hold no more.
 fn next_id(last: Option<u32>) -> Result<u32, Error>
@@ -53,6 +58,24 @@ fn enable<S: Alter>(conn: &mut Connection<S>, id: u32, enabled: bool) -> Result<
     Ok(())
 }
 
+fn find<S: Alter>(conn: &mut Connection<S>, login: &str) -> Result<Option<Account>, Error>
+    requires { IsReady (state S.Store conn.old) }
+    ensures found { HasCleanDisk (state S.Store conn.new) → IfOk result (λ found. (s : _) → Stands s (state S.Store conn.old).now.trees → filter (λ e. bytes_eq e.1.login login.now) (enumerate_from 1 s.accounts) ≡ one_of (option_map entry_of_account found)) }
+    ensures reads { HasCleanDisk (state S.Store conn.new) → OnlyReads result (state S.Store conn.old) (state S.Store conn.new) }
+    ensures survives { Survives (state S.Store conn.old) (state S.Store conn.new) (λ _. ⊥) }
+{
+    accounts::by_login(conn, login)
+}
+
+fn list<S: Alter>(alloc: Global, conn: &mut Connection<S>) -> Result<Vec<Account>, Error>
+    requires { IsReady (state S.Store conn.old) }
+    ensures found { HasCleanDisk (state S.Store conn.new) → IfOk result (λ list. (s : _) → Stands s (state S.Store conn.old).now.trees → map entry_of_account list.items ≡ enumerate_from 1 s.accounts) }
+    ensures reads { HasCleanDisk (state S.Store conn.new) → OnlyReads result (state S.Store conn.old) (state S.Store conn.new) }
+    ensures survives { Survives (state S.Store conn.old) (state S.Store conn.new) (λ _. ⊥) }
+{
+    accounts::all(alloc, conn)
+}
+
 impl<S: Alter> Work<'_, S> {
     /// Adds an account that is enabled, and answers its id.
     pub fn add_account(&mut self, login: &str, name: Option<&str>) -> Result<u32, StoreFault>
@@ -83,6 +106,44 @@ impl<S: Alter> Work<'_, S> {
         }
         match enable(&mut self.tables.conn, id, enabled) {
             Ok(()) => Ok(()),
+            Err(_) => {
+                self.failed = true;
+                Err(StoreFault)
+            }
+        }
+    }
+
+    /// The account with this login.
+    pub fn account_by_login(&mut self, login: &str) -> Result<Option<Account>, StoreFault>
+        requires { IsAtWork S.Store self.old }
+        ensures found { HasCleanDisk (seen S.Store self.new) → IfOk result (λ found. (s : _) → Stands s (seen S.Store self.old).now.trees → filter (λ e. bytes_eq e.1.login login.now) (enumerate_from 1 s.accounts) ≡ one_of (option_map entry_of_account found)) }
+        ensures same { HasCleanDisk (seen S.Store self.new) → OnOk result (IsUnchanged (seen S.Store self.old) (seen S.Store self.new)) }
+        ensures leaves { IsCall S.Store result self.old self.new }
+    {
+        if self.failed {
+            return Err(StoreFault);
+        }
+        match find(&mut self.tables.conn, login) {
+            Ok(found) => Ok(found),
+            Err(_) => {
+                self.failed = true;
+                Err(StoreFault)
+            }
+        }
+    }
+
+    /// All accounts, by id.
+    pub fn all_accounts(&mut self, alloc: Global) -> Result<Vec<Account>, StoreFault>
+        requires { IsAtWork S.Store self.old }
+        ensures found { HasCleanDisk (seen S.Store self.new) → IfOk result (λ list. (s : _) → Stands s (seen S.Store self.old).now.trees → map entry_of_account list.items ≡ enumerate_from 1 s.accounts) }
+        ensures same { HasCleanDisk (seen S.Store self.new) → OnOk result (IsUnchanged (seen S.Store self.old) (seen S.Store self.new)) }
+        ensures leaves { IsCall S.Store result self.old self.new }
+    {
+        if self.failed {
+            return Err(StoreFault);
+        }
+        match list(alloc, &mut self.tables.conn) {
+            Ok(list) => Ok(list),
             Err(_) => {
                 self.failed = true;
                 Err(StoreFault)
