@@ -32,6 +32,7 @@ pub mod ShownRows
 pub mod Standing
 pub mod Stays
 pub mod TableMatches
+pub mod TokenChanges
 pub mod TokenQueries
 pub mod TokenTexts
 pub mod VersionEntries

@@ -4,3 +4,4 @@ mod accounts;
 mod crate_lists;
 mod owners;
 mod reserved;
+mod tokens;
