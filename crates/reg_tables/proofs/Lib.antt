@@ -2,6 +2,7 @@ pub mod AboutLemmas
 pub mod AboutQueries
 pub mod AccountQueries
 pub mod AccountTexts
+pub mod Additions
 pub mod ArchiveQueries
 pub mod ArchiveTexts
 pub mod Binding

@@ -15,7 +15,7 @@ use crate::work::{StoreFault, Work};
 use sqlite::{Alter, Connection, Error};
 
 // One more than the greatest id; none where 32 bits hold no more.
-fn next_id(last: Option<u32>) -> Result<u32, Error>
+pub(crate) fn next_id(last: Option<u32>) -> Result<u32, Error>
     ensures { IfOk result (λ id. IsNext last id) }
 {
     match last {
