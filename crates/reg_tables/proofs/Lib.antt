@@ -6,9 +6,13 @@ pub mod Additions
 pub mod ArchiveQueries
 pub mod ArchiveTexts
 pub mod Binding
+pub mod CrateChanges
+pub mod CrateLemmas
 pub mod CrateQueries
 pub mod CrateTexts
+pub mod CratesStand
 pub mod Greatest
+pub mod Members
 pub mod NextId
 pub mod Numbered
 pub mod Ordered
@@ -17,6 +21,7 @@ pub mod OwnerTexts
 pub mod Permutes
 pub mod ReservedQueries
 pub mod ReservedTexts
+pub mod Rising
 pub mod ScopeQueries
 pub mod ScopeTexts
 pub mod ShownRows
