@@ -3,14 +3,18 @@ pub mod AboutQueries
 pub mod AccountEntries
 pub mod AccountQueries
 pub mod AccountTexts
+pub mod Additions
 pub mod Among
 pub mod ArchiveQueries
 pub mod ArchiveTexts
 pub mod Binding
+pub mod CrateChanges
 pub mod CrateEntries
+pub mod CrateLemmas
 pub mod CrateNames
 pub mod CrateQueries
 pub mod CrateTexts
+pub mod CratesStand
 pub mod Greatest
 pub mod Members
 pub mod NextId
@@ -24,6 +28,7 @@ pub mod ReservedChanges
 pub mod ReservedQueries
 pub mod ReservedTexts
 pub mod Results
+pub mod Rising
 pub mod Rowids
 pub mod ScopeQueries
 pub mod ScopeTexts

@@ -2,6 +2,7 @@
 
 mod accounts;
 mod crate_lists;
+mod crates;
 mod owners;
 mod reserved;
 mod tokens;
