@@ -3,7 +3,7 @@ pub mod AboutQueries
 pub mod AccountEntries
 pub mod AccountQueries
 pub mod AccountTexts
-pub mod Among
+pub mod Alike
 pub mod ArchiveQueries
 pub mod ArchiveTexts
 pub mod Binding
@@ -12,11 +12,13 @@ pub mod CrateNames
 pub mod CrateQueries
 pub mod CrateTexts
 pub mod Greatest
+pub mod Joined
 pub mod Members
 pub mod NextId
 pub mod Numbered
 pub mod Ordered
 pub mod OwnerChanges
+pub mod OwnerEntries
 pub mod OwnerQueries
 pub mod OwnerTexts
 pub mod Permutes
