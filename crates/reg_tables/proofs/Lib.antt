@@ -4,7 +4,7 @@ pub mod AccountEntries
 pub mod AccountQueries
 pub mod AccountTexts
 pub mod Additions
-pub mod Among
+pub mod Alike
 pub mod ArchiveQueries
 pub mod ArchiveTexts
 pub mod Binding
@@ -16,11 +16,13 @@ pub mod CrateQueries
 pub mod CrateTexts
 pub mod CratesStand
 pub mod Greatest
+pub mod Joined
 pub mod Members
 pub mod NextId
 pub mod Numbered
 pub mod Ordered
 pub mod OwnerChanges
+pub mod OwnerEntries
 pub mod OwnerQueries
 pub mod OwnerTexts
 pub mod Permutes

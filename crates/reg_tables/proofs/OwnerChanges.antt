@@ -1,7 +1,7 @@
 -- What a change of the rows is on the owners that they stand for.
-use Rattle.std.proofs.Common.{arith, ◌≡◌, ◌==◌, ℕ, pos, List, [], ◌∷◌, map, Bool, true, false, ◌||◌, ◌&&◌, not, refl, sym, ap, subst, ◌∙◌, true≢false}
+use Rattle.std.proofs.Common.{arith, ◌≡◌, ◌==◌, ℕ, pos, List, [], ◌∷◌, map, Bool, true, false, ◌||◌, ◌&&◌, refl, sym, ap, subst, ◌∙◌}
 use Rattle.std.specs.Prelude.{drop, nat_eq}
-use Rattle.std.specs.List.{filter, list_any, list_all, AllByRecursion, IsDistinct}
+use Rattle.std.specs.List.{list_any, AllByRecursion}
 use Rattle.std.specs.List.Sorted.{IsPermutation}
 use Rattle.std.specs.Ordering.{is_eq, nat_cmp, eq_by_cmp, ordering_then, on}
 use Rattle.std.specs.declared.cmp.Ordering.{Ordering}
@@ -15,25 +15,21 @@ use Rattle.std.proofs.lemmas.Bool.Decides.{nat_tests}
 use Rattle.std.proofs.lemmas.Bool.{and_from, or_parts}
 use Rattle.std.proofs.lemmas.Map.Keys.{IsDistinct-cons}
 use Rattle.std.proofs.lemmas.Map.Text.{is_eq-slice_cmp}
-use Rattle.sqlite.specs.declared.types.Value.TheVariants.{Int, Text}
+use Rattle.sqlite.specs.declared.types.Value.TheVariants.{Int}
 use Rattle.sqlite.specs.Order.{Row, column, value_cmp}
 use Rattle.sqlite.specs.State.{State}
 use Rattle.sqlite.specs.Tree.{Trees}
-use Rattle.sqlite.proofs.Callers.{one_permutation}
-use Rattle.sqlite_trees.specs.Tree.{has_rowid}
-use Rattle.sqlite_trees.proofs.ListLemmas.{IsPermutation-filter, all_weaker}
-use Rattle.std.proofs.lemmas.List.Sorted.{IsPermutation-sym}
 use Rattle.reg_names.specs.Names.{canon}
 use Rattle.reg_schema.specs.Changes.{KeepsOthers, AddsColumns}
-use Rattle.reg_schema.proofs.Queries.{same_filter}
 use Rattle.reg_model.specs.Registry.{Registry, Publication, owner_cmp, mark_cmp}
 use Rattle.reg_model.proofs.Keys.{insert_again, owner_total, owner_apart}
 use Rattle.reg_model.proofs.Lists.{any_same}
 use Rattle.reg_tables.specs.Columns.{owner_columns}
 use Rattle.reg_tables.specs.Stands.{StoredCrate, StoredOwner, row_of_crate, row_of_version, row_of_archive, columns_of_owner, is_owned, IsCrate, HaveOwnRowids, StandCrates, Stands}
 use Rattle.reg_tables.specs.Tests.{is_owner}
-use Rattle.reg_tables.proofs.Among.{Among, among_passing, all_among, any_among, alike}
-use Rattle.reg_tables.proofs.Permutes.{filter_map}
+use Rattle.reg_tables.proofs.Alike.{alike}
+use Rattle.reg_tables.proofs.CrateEntries.{crate_is_in}
+use Rattle.reg_tables.proofs.Members.{IsIn, each_in, in_any}
 use Rattle.reg_tables.proofs.Rowids.{first_column, second_column, apart_put, any_columns, put_columns}
 use Rattle.reg_tables.proofs.Standing.{same_number}
 use Rattle.reg_tables.proofs.Stays.{accounts_stay, tokens_stay, reserved_stay, same_about, same_accounts, same_tokens, same_scopes, same_crates, same_versions, same_archives, same_reserved}
@@ -60,17 +56,6 @@ same_pair Less b = refl
 same_pair Equal b = refl
 same_pair Greater b = refl
 
-crate_is : (c : StoredCrate) (id : ℕ) (name : List ℕ) → row_of_crate c ≡ row_of_crate (id, name) → c ≡ (id, name)
-crate_is c id name e =
-    let same_id : c.0 ≡ id = cc in
-    let same_name : c.1 ≡ name = cc in
-    λ i. (same_id i, same_name i)
-
-only_crate : (cs : List StoredCrate) (id : ℕ) (name : List ℕ) → map row_of_crate cs ≡ row_of_crate (id, name) ∷ [] → cs ≡ (id, name) ∷ []
-only_crate [] id name e = absurd cc
-only_crate (c ∷ []) id name e = ap (λ x. x ∷ []) (crate_is c id name cc)
-only_crate (c ∷ d ∷ cs) id name e = absurd cc
-
 ids_same : IsEquivalence (on (λ (c : StoredCrate). c.0) nat_eq)
 ids_same = record { refl = λ c. nat_eq_equiv.refl c.0; symm = λ c d. nat_eq_equiv.symm c.0 d.0; congr = λ c d e. nat_eq_equiv.congr c.0 d.0 e.0 }
 
@@ -78,23 +63,18 @@ canons_same : IsEquivalence (on (λ (c : StoredCrate). canon c.1) bytes_eq)
 canons_same = record { refl = λ c. nat_list_eq_equiv.refl (canon c.1); symm = λ c d. nat_list_eq_equiv.symm (canon c.1) (canon d.1); congr = λ c d e. nat_list_eq_equiv.congr (canon c.1) (canon d.1) (canon e.1) }
 
 module _ (publications : List Publication) (held : finset.FinSet owner_cmp) (yanked : finset.FinSet mark_cmp) (db : Trees) (stands : StandCrates publications held yanked db) (id : ℕ) (name : List ℕ) (is_crate : IsCrate db id name) where
-  -- the crate with this id is one that the rows stand for
-  pub crate_there : Among (id, name) stands.crates
-  crate_there =
-      let same = IsPermutation-filter (has_rowid (pos id)) (map row_of_crate stands.crates) (db 7) stands.crate_rows in
-      let moved = IsPermutation-sym _ _ (subst (IsPermutation (filter (has_rowid (pos id)) (map row_of_crate stands.crates))) is_crate same) in
-      let row = one_permutation (row_of_crate (id, name)) _ moved in
-      among_passing (λ c. has_rowid (pos id) (row_of_crate c)) (id, name) stands.crates (only_crate _ id name (sym (filter_map row_of_crate (has_rowid (pos id)) stands.crates) ∙ row))
+  abbrev there : IsIn (id, name) stands.crates
+  there = crate_is_in publications held yanked db stands id name is_crate
 
   -- of the crates that are there, one has its id and its canonical text
   crates_alike : AllByRecursion (λ c. bytes_eq (canon c.1) (canon name) ≡ (c.0 == id)) stands.crates
-  crates_alike = alike (on (λ (c : StoredCrate). canon c.1) bytes_eq) (on (λ (c : StoredCrate). c.0) nat_eq) canons_same ids_same (id, name) stands.crates crate_there stands.canons stands.ids
+  crates_alike = alike (on (λ (c : StoredCrate). canon c.1) bytes_eq) (on (λ (c : StoredCrate). c.0) nat_eq) canons_same ids_same (id, name) stands.crates there stands.canons stands.ids
 
   module _ (account : ℕ) where
     pub is_there : list_any (is_owner id account) (db 9) ≡ finset.contains held (canon name, account)
     is_there =
         any_columns columns_of_owner stands.owners (db 9) stands.owner_rows (is_owner id account) (has_pair id account) (behind id account) ∙ any_same (λ o. has_pair id account (columns_of_owner o)) (is_pair id account) (pair_columns id account) stands.owners
-        ∙ sym (all_among (λ c. (account : ℕ) → finset.contains held (canon c.1, account) ≡ is_owned stands.owners c.0 account) (id, name) stands.crates crate_there stands.owned account)
+        ∙ sym (each_in (λ c. (account : ℕ) → finset.contains held (canon c.1, account) ≡ is_owned stands.owners c.0 account) stands.crates (id, name) stands.owned there account)
 
     -- the keys of the set that are tied to the pair are those of its crate
     same_key : (c : StoredCrate) (a : ℕ) → bytes_eq (canon c.1) (canon name) ≡ (c.0 == id) → eq_by_cmp owner_cmp (canon c.1, a) (canon name, account) ≡ is_pair c.0 a (id, account)
@@ -119,9 +99,9 @@ module _ (publications : List Publication) (held : finset.FinSet owner_cmp) (yan
       let o : StoredOwner = (id, account) in
       let rows = old.now.trees 9 in
       let others = adds.becomes.others in
-      let there = crate_there publications held yanked old.now.trees stands id name is_crate in
+      let there = crate_is_in publications held yanked old.now.trees stands id name is_crate in
       let same = crates_alike publications held yanked old.now.trees stands id name is_crate in
-      let none : is_owned stands.owners id account ≡ false = sym (all_among (λ c. (a : ℕ) → finset.contains held (canon c.1, a) ≡ is_owned stands.owners c.0 a) (id, name) stands.crates there stands.owned account) ∙ absent in
+      let none : is_owned stands.owners id account ≡ false = sym (each_in (λ c. (a : ℕ) → finset.contains held (canon c.1, a) ≡ is_owned stands.owners c.0 a) stands.crates (id, name) stands.owned there account) ∙ absent in
       record {
         crates = stands.crates;
         owners = o ∷ stands.owners;
@@ -131,7 +111,7 @@ module _ (publications : List Publication) (held : finset.FinSet owner_cmp) (yan
         version_rows = subst (IsPermutation (map (row_of_version yanked) stands.versions)) (sym (same_versions 9 old.now.trees new.now.trees others (λ e. cc))) stands.version_rows;
         archive_rows = subst (IsPermutation (map row_of_archive stands.versions)) (sym (same_archives 9 old.now.trees new.now.trees others (λ e. cc))) stands.archive_rows;
         apart = subst HaveOwnRowids (sym adds.becomes.rows_are) (apart_put (Int rowid ∷ columns_of_owner o) rows adds.fresh stands.apart);
-        of_owners = and_from _ _ (any_among (λ c. c.0 == id) (id, name) stands.crates there (nat_eq_equiv.refl id)) stands.of_owners;
+        of_owners = and_from _ _ (in_any (λ c. c.0 == id) stands.crates (id, name) there (nat_eq_equiv.refl id)) stands.of_owners;
         pairs = IsDistinct-cons (λ a b. a.0 == b.0 && a.1 == b.1) o stands.owners (none_owned publications held yanked old.now.trees stands id name is_crate account stands.owners none) stands.pairs;
         ids = stands.ids;
         canons = stands.canons;

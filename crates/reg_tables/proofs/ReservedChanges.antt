@@ -1,18 +1,17 @@
 -- What a change of the rows is on the reserved names that they stand for.
-use Rattle.std.proofs.Common.{◌≡◌, ◌≢◌, ℕ, List, [], ◌∷◌, map, Bool, true, false, ◌||◌, ◌&&◌, not, refl, sym, ap, subst, ◌∙◌}
+use Rattle.std.proofs.Common.{◌≡◌, ℕ, List, ◌∷◌, map, Bool, true, ◌||◌, sym, ap, subst, ◌∙◌}
 use Rattle.std.specs.Prelude.{drop}
-use Rattle.std.specs.List.{filter, list_any}
+use Rattle.std.specs.List.{list_any}
 use Rattle.std.specs.List.Sorted.{IsPermutation}
-use Rattle.std.specs.Ordering.{is_eq, nat_cmp, eq_by_cmp}
+use Rattle.std.specs.Ordering.{is_eq}
 use Rattle.std.specs.Str.{bytes_eq}
-use Rattle.std.specs.Cmp.Lexicographic.{slice_cmp, nat_list_cmp_total, nat_list_eq_equiv}
+use Rattle.std.specs.Cmp.Lexicographic.{nat_list_cmp_total, nat_list_eq_equiv}
 use Rattle.std.specs.FinSet as finset
 use Rattle.std.proofs.lemmas.Map.Text.{is_eq-slice_cmp}
 use Rattle.sqlite.specs.declared.types.Value.TheVariants.{Int, Text}
 use Rattle.sqlite.specs.Order.{Row, column, value_cmp}
 use Rattle.sqlite.specs.State.{State}
 use Rattle.sqlite.specs.Tree.{Trees}
-use Rattle.sqlite_value.proofs.OrderLemmas.{value_cmp-Text}
 use Rattle.reg_schema.specs.Changes.{KeepsOthers, AddsColumns}
 use Rattle.reg_model.specs.Registry.{Registry, text_cmp}
 use Rattle.reg_model.proofs.Keys.{insert_again, text_apart}
@@ -20,11 +19,9 @@ use Rattle.reg_model.proofs.Lists.{any_same}
 use Rattle.reg_tables.specs.Columns.{reserved_columns}
 use Rattle.reg_tables.specs.Stands.{HaveOwnRowids, StandReserved, Stands}
 use Rattle.reg_tables.specs.Tests.{is_text}
+use Rattle.reg_tables.proofs.AccountEntries.{same_text}
 use Rattle.reg_tables.proofs.Rowids.{first_column, apart_put, any_columns, put_columns}
 use Rattle.reg_tables.proofs.Stays.{accounts_stay, tokens_stay, crates_stay, same_about, same_accounts, same_tokens, same_scopes, same_crates, same_owners, same_versions, same_archives}
-
-same_text : (t c : List ℕ) → is_eq (value_cmp (Text t) (Text c)) ≡ bytes_eq t c
-same_text t c = ap is_eq (value_cmp-Text t c) ∙ is_eq-slice_cmp t c
 
 -- the test of a row, as one of its columns
 abbrev has_canon : List ℕ → Row → Bool

@@ -1,22 +1,21 @@
 -- Rows whose rowid is SQL's own: what is said of them is said of their columns, behind the rowid.
-use Rattle.std.proofs.Common.{◌≡◌, ℕ, ◌+◌, ℤ, List, [], ◌∷◌, map, Bool, true, false, ◌||◌, not, cond, refl, sym, ap, subst, ◌∙◌, true≢false}
+use Rattle.std.proofs.Common.{◌≡◌, ℤ, List, [], ◌∷◌, map, Bool, false, refl, sym, ap, subst, ◌∙◌}
 use Rattle.std.specs.Prelude.{drop}
-use Rattle.std.specs.List.{filter, list_any, AllByRecursion, IsDistinct}
+use Rattle.std.specs.List.{filter, list_any, AllByRecursion}
 use Rattle.std.specs.List.Sorted.{IsPermutation}
 use Rattle.std.specs.Ordering.{is_eq}
 use Rattle.std.specs.Cmp.{IsEquivalence}
 use Rattle.std.proofs.lemmas.Bool.{or_parts}
 use Rattle.std.proofs.lemmas.Cmp.{eq_by_cmp_equiv}
 use Rattle.std.proofs.lemmas.List.Sorted.{IsPermutation-cons, IsPermutation-trans, IsPermutation-map, list_any-IsPermutation}
-use Rattle.std.proofs.lemmas.Map.Keys.{IsDistinct-IsPermutation, IsDistinct-cons, IsDistinct-head, IsDistinct-tail}
+use Rattle.std.proofs.lemmas.Map.Keys.{IsDistinct-IsPermutation, IsDistinct-cons}
 use Rattle.sqlite.specs.declared.types.Value.TheVariants.{Int}
 use Rattle.sqlite.specs.Order.{Row, column, value_cmp}
-use Rattle.sqlite_rules.specs.Edit.{is_taken, id_in}
-use Rattle.sqlite_trees.specs.Tree.{rowid, has_rowid, put_row}
-use Rattle.sqlite_trees.proofs.ListLemmas.{IsPermutation-filter, all-filter, all_weaker, filter_same}
+use Rattle.sqlite_rules.specs.Edit.{is_taken}
+use Rattle.sqlite_trees.specs.Tree.{rowid, put_row}
+use Rattle.sqlite_trees.proofs.ListLemmas.{IsPermutation-filter}
 use Rattle.sqlite_value.proofs.OrderLemmas.{value_cmp_total}
 use Rattle.reg_model.proofs.Lists.{list_any_map, any_same}
-use Rattle.reg_schema.specs.Changes.{is_at_one_of}
 use Rattle.reg_schema.proofs.Queries.{same_filter}
 use Rattle.reg_tables.specs.Stands.{HaveOwnRowids}
 use Rattle.reg_tables.proofs.Permutes.{put_permutes, filter_map}
