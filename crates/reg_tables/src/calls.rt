@@ -2,3 +2,5 @@
 
 mod accounts;
 mod crates;
+
+pub use crates::NewVersion;

@@ -16,6 +16,7 @@ mod tokens;
 mod versions;
 mod work;
 
+pub use calls::NewVersion;
 pub use reg_schema::MakeFault;
 pub use tables::Tables;
 pub use work::{StoreFault, Work};
