@@ -16,7 +16,7 @@ use Rattle.reg_model.specs.Registry.{Text, Publication}
 use Rattle.reg_schema.specs.Schema.{our_tables}
 use Rattle.reg_schema.specs.States.{IsInside}
 use Rattle.reg_schema.specs.Changes.{KeepsOthers, Adds, AddsColumns}
-use Rattle.reg_tables.specs.Additions.{IsNextOf, KeepsAllBut, AddsCrate, AddsVersion}
+use Rattle.reg_tables.specs.Additions.{KeepsAllBut, AddsCrate, AddsVersion}
 use Rattle.reg_tables.specs.Columns.{crate_row, owner_columns, version_row, archive_row}
 use Rattle.reg_tables.specs.Greatest.{IsGreatest, row_of_id}
 use Rattle.reg_tables.specs.Ids.{IsNext}

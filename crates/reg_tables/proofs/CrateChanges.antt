@@ -1,7 +1,7 @@
 -- What rows of crates and versions that are added are on the registry that they stand for.
-use Rattle.std.proofs.Common.{◌≡◌, ◌==◌, ℕ, ◌<◌, pos, List, [], ◌∷◌, ◌++◌, map, Bool, true, false, ◌||◌, ◌&&◌, inl, inr, ◌⊎◌, refl, sym, ap, subst, ◌∙◌, arith}
+use Rattle.std.proofs.Common.{◌≡◌, ◌==◌, ℕ, ◌<◌, List, [], ◌∷◌, ◌++◌, map, Bool, true, false, ◌||◌, ◌&&◌, inl, refl, sym, ap, subst, ◌∙◌}
 use Rattle.std.specs.Prelude.{drop, nat_eq}
-use Rattle.std.specs.List.{list_any, list_all, AllByRecursion, IsDistinct}
+use Rattle.std.specs.List.{list_any, IsDistinct}
 use Rattle.std.specs.List.Sorted.{IsPermutation, IsStrictlySortedBy}
 use Rattle.std.specs.Ordering.{nat_cmp, on}
 use Rattle.std.specs.Cmp.Lexicographic.{nat_list_eq_equiv}
@@ -17,14 +17,14 @@ use Rattle.sqlite.specs.declared.types.Value.TheVariants.{Int}
 use Rattle.sqlite_trees.specs.Tree.{put_row}
 use Rattle.reg_names.specs.Names.{canon}
 use Rattle.reg_versions.specs.Versions.{release_key_of}
-use Rattle.reg_model.specs.Registry.{Text, Publication, owner_cmp, mark_cmp}
+use Rattle.reg_model.specs.Registry.{Publication, owner_cmp, mark_cmp}
 use Rattle.reg_model.proofs.Keys.{owner_total}
 use Rattle.reg_model.proofs.Lists.{not_true, true_not_false, or_right, or_left, all_push, all_so, any_more}
 use Rattle.reg_tables.specs.Additions.{AddsCrate, AddsVersion}
-use Rattle.reg_tables.specs.Columns.{crate_row, owner_columns, version_row, archive_row}
+use Rattle.reg_tables.specs.Columns.{owner_columns, version_row}
 use Rattle.reg_tables.specs.Stands.{StoredCrate, StoredOwner, StoredVersion, row_of_crate, row_of_version, row_of_archive, columns_of_owner, StandCrates, HaveOwnRowids, IsCrate, is_of, is_owned}
-use Rattle.reg_tables.proofs.CrateLemmas.{pushed, still_apart, text_itself, text_from, same_text, below_other, above_other, same_owner, other_owner, is_crate, is_published, version_of}
-use Rattle.reg_tables.proofs.Members.{IsIn, any_in, all_in, in_any, in_all, none_in, each_in, in_each, in_more, in_last, in_map, map_in, pushed_in}
+use Rattle.reg_tables.proofs.CrateLemmas.{pushed, still_apart, text_itself, below_other, above_other, same_owner, other_owner, is_crate, is_published, version_of}
+use Rattle.reg_tables.proofs.Members.{IsIn, any_in, all_in, in_any, none_in, each_in, in_each, in_last, map_in}
 use Rattle.reg_tables.proofs.Permutes.{put_permutes}
 use Rattle.reg_tables.proofs.Rising.{above, rises_on}
 

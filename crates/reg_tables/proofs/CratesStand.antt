@@ -1,20 +1,26 @@
 -- The whole registry after a change of its crates.
-use Rattle.std.proofs.Common.{◌≡◌, ◌≢◌, ℕ, List, [], ◌∷◌, ◌++◌, map, true, false, ap, ◌∙◌}
+use Rattle.std.proofs.Common.{◌≡◌, ℕ, List, [], ◌∷◌, ◌++◌, map, Bool, true, false, cond, Option, ap, subst, ◌∙◌}
 use Rattle.std.specs.Prelude.{drop}
-use Rattle.std.specs.List.{list_any}
+use Rattle.std.specs.List.{filter}
 use Rattle.std.specs.FinSet as finset
 use Rattle.std.specs.Str.{bytes_eq}
+use Rattle.sqlite.specs.State.{State}
 use Rattle.sqlite.specs.Tree.{Trees}
 use Rattle.reg_names.specs.Names.{canon}
-use Rattle.reg_model.specs.Registry.{Publication, Registry, owner_cmp, mark_cmp}
+use Rattle.reg_versions.specs.Versions.{release_key_of}
+use Rattle.reg_schema.specs.Changes.{KeepsOthers, Replaces}
+use Rattle.reg_model.specs.Registry.{Text, Publication, Registry, owner_cmp, mark_cmp}
 use Rattle.reg_model.specs.Crates.{exists}
 use Rattle.reg_model.specs.Sound.{Sound, has_version}
 use Rattle.reg_model.proofs.Lists.{none_both, not_true, true_not_false}
 use Rattle.reg_tables.specs.Additions.{KeepsAllBut, AddsCrate, AddsVersion}
+use Rattle.reg_tables.specs.Columns.{version_row}
+use Rattle.reg_tables.specs.Tests.{is_version}
 use Rattle.reg_tables.specs.Stands.{StandCrates, Stands, IsCrate}
 use Rattle.reg_tables.proofs.CrateChanges.{adds_version, adds_crate, is_mine}
 use Rattle.reg_tables.proofs.CrateLemmas.{crate_in}
-use Rattle.reg_tables.proofs.Stays.{accounts_stay, tokens_stay, reserved_stay}
+use Rattle.reg_tables.proofs.Stays.{accounts_stay, tokens_stay, reserved_stay, same_about, same_accounts, same_tokens, same_scopes, same_crates, same_owners, same_archives, same_reserved}
+use Rattle.reg_tables.proofs.Yanks.{marks, target, row_found, yanks}
 
 -- the tables that are not of crates have the rows that they had
 record Rests (old new : Trees) : Type 0 where
@@ -84,3 +90,31 @@ adds_next s id p old new sound is_crate fresh stands version =
     let same_crates : new 7 ≡ old 7 = version.others.1.1.1.1.0 (λ e. cc) (λ e. cc) in
     let same_owners : new 9 ≡ old 9 = version.others.1.1.1.1.1.0 (λ e. cc) (λ e. cc) in
     with_crates s _ s.owners s.yanked old new (rests_of_version old new version.others) stands (adds_version s.publications s.owners s.yanked old new stands.crates id p there unmarked same_crates same_owners version)
+
+-- what an update of the mark says, of the version that alone has the release and the text
+abbrev ReplacesMark : ℕ → Text → Text → Bool → State → State → Type 0
+ReplacesMark id release text b old new =
+    (n : ℕ) (digest stem : Text) (description : Option Text) (was : Bool) → filter (is_version id release text) (old.now.trees 11) ≡ version_row n id text release digest stem description was ∷ [] → Replaces 11 n (version_row n id text release digest stem description b) old new
+
+rests_of_mark : (old new : Trees) → KeepsOthers 11 old new → Rests old new
+rests_of_mark old new others = record {
+  about = same_about 11 old new others (λ e. cc);
+  accounts = same_accounts 11 old new others (λ e. cc);
+  tokens = same_tokens 11 old new others (λ e. cc);
+  scopes = same_scopes 11 old new others (λ e. cc);
+  reserved = same_reserved 11 old new others (λ e. cc);
+}
+
+pub marks_one : (s : Registry) (id : ℕ) (name text release : Text) (b : Bool) (old new : State) → Sound s → IsCrate old.now.trees id name → has_version s (canon name) text ≡ true → Stands s old.now.trees → release ≡ release_key_of text → ReplacesMark id release text b old new
+    → Stands (record s { yanked = cond b (finset.insert s.yanked (canon name, text)) (finset.remove s.yanked (canon name, text)) }) new.now.trees
+marks_one s id name text release b old new sound is_crate published stands is_key replaces =
+    let before = old.now.trees in
+    let after = new.now.trees in
+    let of_key : ReplacesMark id (release_key_of text) text b old new = subst (λ (r : Text). ReplacesMark id r text b old new) is_key replaces in
+    let there = crate_in stands.crates.crates before stands.crates.crate_rows id name is_crate in
+    let v = target s.publications s.owners s.yanked before stands.crates sound.releases id name text there published in
+    let p = v.0.publication in
+    let row = row_found s.publications s.owners s.yanked before stands.crates sound.releases id name text there v.0 v.1 in
+    let replaced = of_key v.0.id p.digest p.stem p.description (finset.contains s.yanked (canon name, text)) row in
+    let changed = yanks s.publications s.owners s.yanked before stands.crates sound.releases id name text there b v.0 v.1 after (same_crates 11 before after replaced.others (λ e. cc)) (same_owners 11 before after replaced.others (λ e. cc)) (same_archives 11 before after replaced.others (λ e. cc)) replaced.rows_are in
+    with_crates s s.publications s.owners (marks s.yanked (canon name) text b) before after (rests_of_mark before after replaced.others) stands changed

@@ -48,3 +48,4 @@ pub mod VersionRows
 pub mod VersionTexts
 pub mod WholeTables
 pub mod Withins
+pub mod Yanks

@@ -2,7 +2,10 @@
 
 mod accounts;
 mod crate_lists;
+mod crates;
 pub(crate) mod crates;
 mod owners;
 mod reserved;
 mod tokens;
+
+pub use crates::NewVersion;

@@ -17,6 +17,7 @@ mod versions;
 mod work;
 
 pub use accounts::Account;
+pub use calls::NewVersion;
 pub use calls::crates::NewVersion;
 pub use crates::Crate;
 pub use owners::{Owner, Ownership};

@@ -1,6 +1,6 @@
 //! Calls on crates and their versions.
 
-ghost use Rattle.std.specs.Prelude.{◌≡◌, ◌<◌, ◌^◌, ◌+◌, ◌++◌, true, false, [], ◌∷◌, IfOk, OnOk, OnErr};
+ghost use Rattle.std.specs.Prelude.{if◌then◌else◌, ◌≡◌, ◌<◌, ◌^◌, ◌+◌, ◌++◌, true, false, [], ◌∷◌, IfOk, OnOk, OnErr};
 ghost use Rattle.std.specs.Option.{option_map};
 ghost use Rattle.std.specs.FinSet as finset;
 ghost use Rattle.sqlite.specs.Held.{state};
@@ -129,6 +129,23 @@ fn add_next<S: Alter>(
     Ok(())
 }
 
+#[tactic(auto, using(crate::proofs::Withins::refused_fails, crate::proofs::Withins::touches_within))]
+fn mark<S: Alter>(
+    conn: &mut Connection<S>,
+    crate_id: u32,
+    text: &str,
+    yanked: bool,
+) -> Result<(), Error>
+    requires { IsReady (state S.Store conn.old) }
+    ensures stands { HasCleanDisk (state S.Store conn.new) → OnOk result ((s : _) → (name : _) → Sound s → IsCrate (state S.Store conn.old).now.trees crate_id name → has_version s (canon name) text.now ≡ true → Stands s (state S.Store conn.old).now.trees → Stands (record s { yanked = if yanked then finset.insert s.yanked (canon name, text.now) else finset.remove s.yanked (canon name, text.now) }) (state S.Store conn.new).now.trees) }
+    ensures within { HasCleanDisk (state S.Store conn.new) → OnOk result (Within (state S.Store conn.old) (state S.Store conn.new)) }
+    ensures fails { HasCleanDisk (state S.Store conn.new) → OnErr result (Fails (state S.Store conn.old) (state S.Store conn.new)) }
+    ensures survives { Survives (state S.Store conn.old) (state S.Store conn.new) (λ _. ⊥) }
+{
+    versions::set_yanked(conn, crate_id, release_key(text), text, yanked)?;
+    Ok(())
+}
+
 impl<S: Alter> Work<'_, S> {
     /// Adds a crate with its first version and its owner, and answers its id.
     pub fn add_crate(
@@ -163,6 +180,24 @@ impl<S: Alter> Work<'_, S> {
             return Err(StoreFault);
         }
         match add_next(&mut self.tables.conn, crate_id, version) {
+            Ok(()) => Ok(()),
+            Err(_) => {
+                self.failed = true;
+                Err(StoreFault)
+            }
+        }
+    }
+
+    /// Yanks a version of a crate that is there, or takes that back.
+    pub fn set_yanked(&mut self, crate_id: u32, text: &str, yanked: bool) -> Result<(), StoreFault>
+        requires { IsAtWork S.Store self.old }
+        ensures set { HasCleanDisk (seen S.Store self.new) → OnOk result ((s : _) → (name : _) → Sound s → IsCrate (seen S.Store self.old).now.trees crate_id name → has_version s (canon name) text.now ≡ true → Stands s (seen S.Store self.old).now.trees → Stands (record s { yanked = if yanked then finset.insert s.yanked (canon name, text.now) else finset.remove s.yanked (canon name, text.now) }) (seen S.Store self.new).now.trees) }
+        ensures leaves { IsCall S.Store result self.old self.new }
+    {
+        if self.failed {
+            return Err(StoreFault);
+        }
+        match mark(&mut self.tables.conn, crate_id, text, yanked) {
             Ok(()) => Ok(()),
             Err(_) => {
                 self.failed = true;
