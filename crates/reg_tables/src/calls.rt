@@ -3,7 +3,6 @@
 mod accounts;
 mod crate_lists;
 mod crates;
-pub(crate) mod crates;
 mod owners;
 mod reserved;
 mod tokens;

@@ -18,7 +18,6 @@ mod work;
 
 pub use accounts::Account;
 pub use calls::NewVersion;
-pub use calls::crates::NewVersion;
 pub use crates::Crate;
 pub use owners::{Owner, Ownership};
 pub use reg_schema::MakeFault;
