@@ -1,8 +1,8 @@
 //! Typed calls in transactions, each with ample memory.
 
-use reg_line::{Digest, digest_of};
-use reg_names::{canon, parse_name};
-use reg_tables::{NewVersion, StoreFault, Tables};
+
+
+use reg_tables::{StoreFault, Tables};
 use sqlite::Connection;
 use std::test::Fail;
 
