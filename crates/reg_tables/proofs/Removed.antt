@@ -57,9 +57,10 @@ module _ {X : Type 0} (e : X → X → Bool) (test : X → Bool) where
   told same [] d = tt
   told same (y ∷ ys) d =
       let kept = filter test ys in
-      let apart = IsDistinct-head e y ys d in
-      (first_told same y kept (all-filter (λ z. e y z ≡ false) test ys apart) (test y),
-        both_all (λ z. e y z ≡ false) (λ z. list_any (e z) kept ≡ test z) (λ z. list_any (e z) (cond (test y) (y ∷ kept) kept) ≡ test z) (λ z p q. later_told same y z kept (test y) p q) ys apart (told same ys (IsDistinct-tail e y ys d)))
+      let apart = IsDistinct-head e y ys d in (
+        first_told same y kept (all-filter (λ z. e y z ≡ false) test ys apart) (test y),
+        both_all (λ z. e y z ≡ false) (λ z. list_any (e z) kept ≡ test z) (λ z. list_any (e z) (cond (test y) (y ∷ kept) kept) ≡ test z) (λ z p q. later_told same y z kept (test y) p q) ys apart (told same ys (IsDistinct-tail e y ys d)),
+      )
 
 abbrev tied : Row → Row → Bool
 tied a b = is_eq (value_cmp (rowid a) (rowid b))
