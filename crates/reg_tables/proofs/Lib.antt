@@ -26,6 +26,7 @@ pub mod OwnerEntries
 pub mod OwnerQueries
 pub mod OwnerTexts
 pub mod Permutes
+pub mod Removed
 pub mod ReservedChanges
 pub mod ReservedQueries
 pub mod ReservedTexts

@@ -1,7 +1,7 @@
 -- What a change of the rows is on the owners that they stand for.
-use Rattle.std.proofs.Common.{arith, ◌≡◌, ◌==◌, ℕ, pos, List, [], ◌∷◌, map, Bool, true, false, ◌||◌, ◌&&◌, refl, sym, ap, subst, ◌∙◌}
+use Rattle.std.proofs.Common.{arith, ◌≡◌, ◌==◌, ℕ, pos, List, [], ◌∷◌, map, Bool, true, false, ◌||◌, ◌&&◌, not, refl, sym, ap, subst, ◌∙◌}
 use Rattle.std.specs.Prelude.{drop, nat_eq}
-use Rattle.std.specs.List.{list_any, AllByRecursion}
+use Rattle.std.specs.List.{filter, list_any, AllByRecursion}
 use Rattle.std.specs.List.Sorted.{IsPermutation}
 use Rattle.std.specs.Ordering.{is_eq, nat_cmp, eq_by_cmp, ordering_then, on}
 use Rattle.std.specs.declared.cmp.Ordering.{Ordering}
@@ -12,15 +12,17 @@ use Rattle.std.specs.Cmp.Lexicographic.{nat_list_eq_equiv}
 use Rattle.std.specs.FinSet as finset
 use Rattle.std.proofs.lemmas.Cmp.{nat_eq_equiv}
 use Rattle.std.proofs.lemmas.Bool.Decides.{nat_tests}
-use Rattle.std.proofs.lemmas.Bool.{and_from, or_parts}
+use Rattle.std.proofs.lemmas.Bool.{and_from, and_parts, eqb-true, or_parts}
 use Rattle.std.proofs.lemmas.Map.Keys.{IsDistinct-cons}
 use Rattle.std.proofs.lemmas.Map.Text.{is_eq-slice_cmp}
+use Rattle.std.proofs.lemmas.Map.Views.{any-filter_same}
 use Rattle.sqlite.specs.declared.types.Value.TheVariants.{Int}
 use Rattle.sqlite.specs.Order.{Row, column, value_cmp}
 use Rattle.sqlite.specs.State.{State}
 use Rattle.sqlite.specs.Tree.{Trees}
 use Rattle.reg_names.specs.Names.{canon}
-use Rattle.reg_schema.specs.Changes.{KeepsOthers, AddsColumns}
+use Rattle.reg_schema.specs.Changes.{KeepsOthers, AddsColumns, Removes}
+use Rattle.reg_schema.proofs.Queries.{same_filter}
 use Rattle.reg_model.specs.Registry.{Registry, Publication, owner_cmp, mark_cmp}
 use Rattle.reg_model.proofs.Keys.{insert_again, owner_total, owner_apart}
 use Rattle.reg_model.proofs.Lists.{any_same}
@@ -29,8 +31,9 @@ use Rattle.reg_tables.specs.Stands.{StoredCrate, StoredOwner, row_of_crate, row_
 use Rattle.reg_tables.specs.Tests.{is_owner}
 use Rattle.reg_tables.proofs.Alike.{alike}
 use Rattle.reg_tables.proofs.CrateEntries.{crate_is_in}
-use Rattle.reg_tables.proofs.Members.{IsIn, each_in, in_any}
-use Rattle.reg_tables.proofs.Rowids.{first_column, second_column, apart_put, any_columns, put_columns}
+use Rattle.reg_tables.proofs.Members.{IsIn, each_in, in_any, in_all, all_in, in_filter}
+use Rattle.reg_tables.proofs.Removed.{AreNumbered, apart_kept, removes_passing}
+use Rattle.reg_tables.proofs.Rowids.{first_column, second_column, apart_put, any_columns, put_columns, keep_columns}
 use Rattle.reg_tables.proofs.Standing.{same_number}
 use Rattle.reg_tables.proofs.Stays.{accounts_stay, tokens_stay, reserved_stay, same_about, same_accounts, same_tokens, same_scopes, same_crates, same_versions, same_archives, same_reserved}
 
@@ -93,6 +96,20 @@ module _ (publications : List Publication) (held : finset.FinSet owner_cmp) (yan
     more_owned os (c ∷ cs) same owned =
         (λ a. finset.contains-insert owner_total held (canon name, account) (canon c.1, a) ∙ ap (λ b. b || finset.contains held (canon c.1, a)) (same_key c a same.0) ∙ ap (λ b. is_pair c.0 a (id, account) || b) (owned.0 a), more_owned os cs same.1 owned.1)
 
+    less_owned : (os : List StoredOwner) (cs : List StoredCrate) → AllByRecursion (λ c. bytes_eq (canon c.1) (canon name) ≡ (c.0 == id)) cs → AllByRecursion (λ c. (a : ℕ) → finset.contains held (canon c.1, a) ≡ is_owned os c.0 a) cs
+        → AllByRecursion (λ c. (a : ℕ) → finset.contains (finset.remove held (canon name, account)) (canon c.1, a) ≡ is_owned (filter (λ o. not (is_pair id account o)) os) c.0 a) cs
+    less_owned os [] same owned = tt
+    less_owned os (c ∷ cs) same owned = (
+      λ a. finset.contains-remove owner_total held (canon name, account) (canon c.1, a) ∙ ap (λ b. not b && finset.contains held (canon c.1, a)) (same_key c a same.0) ∙ ap (λ b. not (is_pair c.0 a (id, account)) && b) (owned.0 a)
+          ∙ sym (any-filter_same (is_pair c.0 a) (λ o. not (is_pair id account o)) (not (is_pair c.0 a (id, account))) (λ o h. ap not (turned c.0 a o h)) os),
+      less_owned os cs same.1 owned.1,
+    )
+      where
+        turned : (n a : ℕ) (o : StoredOwner) → is_pair n a o ≡ true → is_pair id account o ≡ is_pair n a (id, account)
+        turned n a o h =
+            let parts = and_parts (o.0 == n) (o.1 == a) h in
+            ap (λ k. k == id && o.1 == account) (eqb-true o.0 n parts.0) ∙ ap (λ k. n == id && k == account) (eqb-true o.1 a parts.1) ∙ rw (nat_eq_equiv.symm n id, nat_eq_equiv.symm a account) refl
+
 module _ (publications : List Publication) (held : finset.FinSet owner_cmp) (yanked : finset.FinSet mark_cmp) (old new : State) (stands : StandCrates publications held yanked old.now.trees) (id : ℕ) (name : List ℕ) (is_crate : IsCrate old.now.trees id name) (account : ℕ) where
   pub adds_owner : finset.contains held (canon name, account) ≡ false → AddsColumns 9 (owner_columns id account) old new → StandCrates publications (finset.insert held (canon name, account)) yanked new.now.trees
   adds_owner absent (rowid, adds) =
@@ -120,6 +137,35 @@ module _ (publications : List Publication) (held : finset.FinSet owner_cmp) (yan
         rising = stands.rising;
         published = stands.published;
         owned = more_owned publications held yanked old.now.trees stands id name is_crate account stands.owners stands.crates same stands.owned;
+      }
+
+  pub removes_owner : AreNumbered (old.now.trees 9) → Removes 9 (is_owner id account) old new → StandCrates publications (finset.remove held (canon name, account)) yanked new.now.trees
+  removes_owner numbered removed =
+      let rows = old.now.trees 9 in
+      let others = removed.others in
+      let stays : StoredOwner → Bool = λ o. not (is_pair id account o) in
+      let left : new.now.trees 9 ≡ filter (λ r. not (is_owner id account r)) rows = removed.rows_are ∙ removes_passing (is_owner id account) rows numbered stands.apart in
+      let kept = keep_columns columns_of_owner stands.owners rows stands.owner_rows (λ r. not (is_owner id account r)) (λ columns. not (has_pair id account columns)) (λ r. ap not (behind id account r)) in
+      let pairs = same_filter (λ o. not (has_pair id account (columns_of_owner o))) stays (λ o. ap not (pair_columns id account o)) stands.owners in
+      record {
+        crates = stands.crates;
+        owners = filter stays stands.owners;
+        versions = stands.versions;
+        crate_rows = subst (IsPermutation (map row_of_crate stands.crates)) (sym (same_crates 9 old.now.trees new.now.trees others (λ e. cc))) stands.crate_rows;
+        owner_rows = subst (λ (rs : List Row). IsPermutation (map columns_of_owner (filter stays stands.owners)) (map (drop 1) rs)) (sym left)
+            (subst (λ os. IsPermutation (map columns_of_owner os) (map (drop 1) (filter (λ r. not (is_owner id account r)) rows))) pairs kept);
+        version_rows = subst (IsPermutation (map (row_of_version yanked) stands.versions)) (sym (same_versions 9 old.now.trees new.now.trees others (λ e. cc))) stands.version_rows;
+        archive_rows = subst (IsPermutation (map row_of_archive stands.versions)) (sym (same_archives 9 old.now.trees new.now.trees others (λ e. cc))) stands.archive_rows;
+        apart = subst HaveOwnRowids (sym left) (apart_kept _ (λ r. not (is_owner id account r)) rows stands.apart);
+        of_owners = in_all (λ o. list_any (λ c. c.0 == o.0) stands.crates) (filter stays stands.owners) (λ o i. all_in (λ o. list_any (λ c. c.0 == o.0) stands.crates) stands.owners o stands.of_owners (in_filter stays stands.owners o i));
+        pairs = apart_kept (λ a b. a.0 == b.0 && a.1 == b.1) stays stands.owners stands.pairs;
+        ids = stands.ids;
+        canons = stands.canons;
+        used = stands.used;
+        of_crates = stands.of_crates;
+        rising = stands.rising;
+        published = stands.published;
+        owned = less_owned publications held yanked old.now.trees stands id name is_crate account stands.owners stands.crates (crates_alike publications held yanked old.now.trees stands id name is_crate) stands.owned;
       }
 
 -- an owner who is one already is not added
