@@ -8,6 +8,7 @@ pub mod Greatest
 pub mod Ids
 pub mod OwnerRecords
 pub mod Owners
+pub mod Patterns
 pub mod ScopeRecords
 pub mod Shown
 pub mod Stands
