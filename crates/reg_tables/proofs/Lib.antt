@@ -8,6 +8,7 @@ pub mod ArchiveTexts
 pub mod Binding
 pub mod CrateQueries
 pub mod CrateTexts
+pub mod Dropped
 pub mod Greatest
 pub mod NextId
 pub mod Numbered
@@ -15,10 +16,12 @@ pub mod Ordered
 pub mod OwnerQueries
 pub mod OwnerTexts
 pub mod Permutes
+pub mod Readings
 pub mod ReservedQueries
 pub mod ReservedTexts
 pub mod Results
 pub mod ScopeQueries
+pub mod ScopeRows
 pub mod ScopeTexts
 pub mod Selected
 pub mod ShownRows
@@ -26,6 +29,7 @@ pub mod Standing
 pub mod Stays
 pub mod TableMatches
 pub mod TokenChanges
+pub mod TokenEntries
 pub mod TokenQueries
 pub mod TokenTexts
 pub mod VersionQueries

@@ -13,6 +13,7 @@ pub mod ScopeRecords
 pub mod Shown
 pub mod Stands
 pub mod Tests
+pub mod TokenEntries
 pub mod TokenRecords
 pub mod Tokens
 pub mod VersionRecords

@@ -1,16 +1,21 @@
 //! Calls on tokens.
 
-ghost use Rattle.std.specs.Prelude.{◌≡◌, ◌+◌, ◌++◌, true, false, [], ◌∷◌, IfOk, OnOk, OnErr, Some, length};
+ghost use Rattle.std.specs.Prelude.{◌≡◌, ◌+◌, ◌++◌, true, false, [], ◌∷◌, IfOk, OnOk, OnErr, Some, length, map};
+ghost use Rattle.std.specs.List.{enumerate_from, flat_map};
 ghost use Rattle.sqlite.specs.Held.{state};
-ghost use Rattle.sqlite.specs.State.{HasCleanDisk, Survives};
+ghost use Rattle.sqlite.specs.State.{HasCleanDisk, IsUnchanged, Survives};
 ghost use Rattle.reg_schema.specs.Changes.{AddsColumns};
-ghost use Rattle.reg_schema.specs.States.{IsReady};
+ghost use Rattle.reg_schema.specs.States.{IsReady, OnlyReads};
 ghost use Rattle.reg_model.specs.Registry.{with_id, change_at};
 ghost use Rattle.reg_tables.specs.Patterns.{GivesPatterns};
-ghost use Rattle.reg_tables.specs.Stands.{Stands, scope_of};
+ghost use Rattle.reg_tables.specs.ScopeRecords.{columns_of_scope};
+ghost use Rattle.reg_tables.specs.Stands.{Stands, scope_of, scopes_of};
+ghost use Rattle.reg_tables.specs.TokenEntries.{entry_of_token, without_patterns};
 ghost use Rattle.reg_tables.specs.Works.{IsAtWork, IsCall, Within, Fails, seen};
 
 use crate::calls::accounts::next_id;
+use crate::scopes::Scope;
+use crate::tokens::Token;
 use crate::work::{StoreFault, Work};
 use crate::{scopes, tokens};
 use reg_line::Digest;
@@ -18,6 +23,13 @@ use reg_model::Endpoints;
 use reg_names::{Pattern, compile};
 use sqlite::{Alter, Connection, Error};
 use std::alloc::Global;
+
+/// All tokens by id, and all scopes by token and place.
+#[derive(Debug, Drop)]
+pub struct TokenLists {
+    pub tokens: Vec<Token>,
+    pub scopes: Vec<Scope>,
+}
 
 #[tactic(auto, using(crate::proofs::Withins::refused_fails, crate::proofs::Withins::touches_within))]
 fn end<S: Alter>(conn: &mut Connection<S>, id: u32) -> Result<(), Error>
@@ -126,7 +138,58 @@ fn add<S: Alter>(
     Ok(id)
 }
 
+fn list<S: Alter>(alloc: Global, conn: &mut Connection<S>) -> Result<Vec<Token>, Error>
+    requires { IsReady (state S.Store conn.old) }
+    ensures found { HasCleanDisk (state S.Store conn.new) → IfOk result (λ list. (s : _) → Stands s (state S.Store conn.old).now.trees → map entry_of_token list.items ≡ map without_patterns (enumerate_from 1 s.tokens)) }
+    ensures reads { HasCleanDisk (state S.Store conn.new) → OnlyReads result (state S.Store conn.old) (state S.Store conn.new) }
+    ensures survives { Survives (state S.Store conn.old) (state S.Store conn.new) (λ _. ⊥) }
+{
+    tokens::all(alloc, conn)
+}
+
+fn list_scopes<S: Alter>(alloc: Global, conn: &mut Connection<S>) -> Result<Vec<Scope>, Error>
+    requires { IsReady (state S.Store conn.old) }
+    ensures found { HasCleanDisk (state S.Store conn.new) → IfOk result (λ list. (s : _) → Stands s (state S.Store conn.old).now.trees → map columns_of_scope list.items ≡ flat_map scopes_of (enumerate_from 1 s.tokens)) }
+    ensures reads { HasCleanDisk (state S.Store conn.new) → OnlyReads result (state S.Store conn.old) (state S.Store conn.new) }
+    ensures survives { Survives (state S.Store conn.old) (state S.Store conn.new) (λ _. ⊥) }
+{
+    scopes::all(alloc, conn)
+}
+
+#[tactic(auto, using(crate::proofs::Readings::unchanged_then, crate::proofs::Readings::refuses_after))]
+fn list_both<S: Alter>(alloc: Global, conn: &mut Connection<S>) -> Result<TokenLists, Error>
+    requires { IsReady (state S.Store conn.old) }
+    ensures tokens { HasCleanDisk (state S.Store conn.new) → IfOk result (λ both. (s : _) → Stands s (state S.Store conn.old).now.trees → map entry_of_token both.tokens.items ≡ map without_patterns (enumerate_from 1 s.tokens)) }
+    ensures scopes { HasCleanDisk (state S.Store conn.new) → IfOk result (λ both. (s : _) → Stands s (state S.Store conn.old).now.trees → map columns_of_scope both.scopes.items ≡ flat_map scopes_of (enumerate_from 1 s.tokens)) }
+    ensures reads { HasCleanDisk (state S.Store conn.new) → OnlyReads result (state S.Store conn.old) (state S.Store conn.new) }
+    ensures survives { Survives (state S.Store conn.old) (state S.Store conn.new) (λ _. ⊥) }
+{
+    let tokens = list(alloc, conn)?;
+    let scopes = list_scopes(alloc, conn)?;
+    Ok(TokenLists { tokens, scopes })
+}
+
 impl<S: Alter> Work<'_, S> {
+    /// All tokens by id, and all scopes by token and place.
+    pub fn all_tokens(&mut self, alloc: Global) -> Result<TokenLists, StoreFault>
+        requires { IsAtWork S.Store self.old }
+        ensures tokens { HasCleanDisk (seen S.Store self.new) → IfOk result (λ both. (s : _) → Stands s (seen S.Store self.old).now.trees → map entry_of_token both.tokens.items ≡ map without_patterns (enumerate_from 1 s.tokens)) }
+        ensures scopes { HasCleanDisk (seen S.Store self.new) → IfOk result (λ both. (s : _) → Stands s (seen S.Store self.old).now.trees → map columns_of_scope both.scopes.items ≡ flat_map scopes_of (enumerate_from 1 s.tokens)) }
+        ensures same { HasCleanDisk (seen S.Store self.new) → OnOk result (IsUnchanged (seen S.Store self.old) (seen S.Store self.new)) }
+        ensures leaves { IsCall S.Store result self.old self.new }
+    {
+        if self.failed {
+            return Err(StoreFault);
+        }
+        match list_both(alloc, &mut self.tables.conn) {
+            Ok(both) => Ok(both),
+            Err(_) => {
+                self.failed = true;
+                Err(StoreFault)
+            }
+        }
+    }
+
     /// Adds a token that is live, and answers its id.
     pub fn add_token(
         &mut self,
