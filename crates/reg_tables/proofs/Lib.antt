@@ -15,6 +15,7 @@ pub mod CrateNames
 pub mod CrateQueries
 pub mod CrateTexts
 pub mod CratesStand
+pub mod Dropped
 pub mod Greatest
 pub mod Joined
 pub mod Members
@@ -26,6 +27,7 @@ pub mod OwnerEntries
 pub mod OwnerQueries
 pub mod OwnerTexts
 pub mod Permutes
+pub mod Readings
 pub mod Removed
 pub mod ReservedChanges
 pub mod ReservedQueries
@@ -34,6 +36,7 @@ pub mod Results
 pub mod Rising
 pub mod Rowids
 pub mod ScopeQueries
+pub mod ScopeRows
 pub mod ScopeTexts
 pub mod Selected
 pub mod ShownRows
@@ -41,6 +44,7 @@ pub mod Standing
 pub mod Stays
 pub mod TableMatches
 pub mod TokenChanges
+pub mod TokenEntries
 pub mod TokenQueries
 pub mod TokenTexts
 pub mod VersionEntries

@@ -40,7 +40,7 @@ same_number n m = ap is_eq (value_cmp-Int (pos n) (pos m)) ∙ split (n == m) re
     split true e = subst (λ k. is_eq (int_cmp (pos n) (pos k)) ≡ true) (eqb-true n m e) (ap is_eq (tied_itself int_cmp_total (pos n)))
     split false e = not_tied _ (λ tie. eqb-false n m e (same_pos (int_cmp-IsAntisymmetric (pos n) (pos m) tie)))
 
-snoc_permutes : {X : Type 0} (xs : List X) (x : X) → IsPermutation (x ∷ xs) (xs ++ x ∷ [])
+pub snoc_permutes : {X : Type 0} (xs : List X) (x : X) → IsPermutation (x ∷ xs) (xs ++ x ∷ [])
 snoc_permutes xs x = IsPermutation-sym _ _ (subst (λ ys. IsPermutation (xs ++ x ∷ []) (x ∷ ys)) (append-nil xs) (IsPermutation-middle xs x []))
 
 module _ (accounts : List Account) (a : Account) (old new : State) (stands : StandAccounts accounts old.now.trees) where

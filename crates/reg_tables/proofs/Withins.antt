@@ -58,3 +58,12 @@ refused_fails old new clean at (inr back) = record {
   ours = λ o _ still.
       record { now_is = ap (λ d. d.schema) (back.undone still).0 ∙ (o clean at.is_open).committed_is; committed_is = ap (λ d. d.schema) (back.undone still).1 ∙ (o clean at.is_open).committed_is; at_rest = λ e. (back.undone still).0 ∙ sym (back.undone still).1 };
 }
+
+pub itself_within : (old : State) → HasCleanDisk old → IsInside old → Within old old
+itself_within old clean at = record { was_open = at.is_open; committed = refl; inside = at; ours = λ o. o }
+
+pub within_fails : (old new : State) → Within old new → Fails old new
+within_fails old new w = record { kept = record { was_open = λ _. w.was_open; committed = λ _. w.committed }; ours = w.ours }
+
+pub itself_fails : (old : State) → HasCleanDisk old → IsInside old → Fails old old
+itself_fails old clean at = within_fails old old (itself_within old clean at)

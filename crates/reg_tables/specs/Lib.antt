@@ -10,10 +10,12 @@ pub mod Ids
 pub mod OwnerEntries
 pub mod OwnerRecords
 pub mod Owners
+pub mod Patterns
 pub mod ScopeRecords
 pub mod Shown
 pub mod Stands
 pub mod Tests
+pub mod TokenEntries
 pub mod TokenRecords
 pub mod Tokens
 pub mod VersionRecords
