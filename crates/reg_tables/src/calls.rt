@@ -8,3 +8,4 @@ mod reserved;
 mod tokens;
 
 pub use crates::NewVersion;
+pub use tokens::TokenLists;
