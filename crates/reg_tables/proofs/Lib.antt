@@ -9,6 +9,7 @@ pub mod Binding
 pub mod CrateQueries
 pub mod CrateTexts
 pub mod Dropped
+pub mod FoundTokens
 pub mod Greatest
 pub mod NextId
 pub mod Numbered
