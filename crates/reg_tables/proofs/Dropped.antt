@@ -17,7 +17,7 @@ use Rattle.reg_tables.specs.Tests.{shows}
 abbrev without_id : Row → Row
 without_id r = drop 1 r
 
-first_column : (r : Row) → column r 1 ≡ column (drop 1 r) 0
+pub first_column : (r : Row) → column r 1 ≡ column (drop 1 r) 0
 first_column [] = refl
 first_column (v ∷ r) = refl
 

@@ -16,6 +16,7 @@ pub mod CrateQueries
 pub mod CrateTexts
 pub mod CratesStand
 pub mod Dropped
+pub mod FoundTokens
 pub mod Greatest
 pub mod Joined
 pub mod Members

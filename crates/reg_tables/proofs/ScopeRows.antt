@@ -1,8 +1,17 @@
 -- The scopes of tokens, by token and place.
-use Rattle.std.proofs.Common.{◌≡◌, ℕ, ◌+◌, ◌<◌, pos, List, [], ◌∷◌, ◌++◌, map, Less, Equal, refl, ap, ◌∙◌, arith}
+use Rattle.std.proofs.Common.{◌≡◌, ◌==◌, ℕ, suc, ◌+◌, ◌<◌, pos, Bool, true, false, cond, Some, slice_get, List, [], ◌∷◌, ◌++◌, map, Less, Equal, refl, sym, subst, ap, ap₂, ◌∙◌, arith}
 use Rattle.std.specs.Prelude.{drop}
-use Rattle.std.specs.List.{AllByRecursion, enumerate_from, flat_map}
-use Rattle.std.specs.Ordering.{ordering_then}
+use Rattle.std.specs.List.{AllByRecursion, enumerate_from, filter, flat_map}
+use Rattle.std.specs.List.Sorted.{IsPermutation}
+use Rattle.std.proofs.lemmas.Bool.{ne_eqb}
+use Rattle.std.proofs.lemmas.List.{append-nil}
+use Rattle.std.proofs.lemmas.List.Elements.{filter-append}
+use Rattle.sqlite_trees.proofs.ListLemmas.{IsPermutation-filter}
+use Rattle.reg_schema.proofs.Queries.{same_filter}
+use Rattle.reg_tables.proofs.Numbered.{one_at}
+use Rattle.reg_tables.proofs.Permutes.{filter_map}
+use Rattle.reg_tables.proofs.Standing.{same_number}
+use Rattle.std.specs.Ordering.{is_eq, ordering_then}
 use Rattle.std.specs.Cmp.{IsTotalOrder}
 use Rattle.std.proofs.lemmas.Cmp.{then_total, tied_itself}
 use Rattle.sqlite.specs.Order.{Row, value_cmp}
@@ -11,11 +20,11 @@ use Rattle.sqlite.specs.declared.types.Value.TheVariants.{Int}
 use Rattle.sqlite_keyed.proofs.ListLemmas.{all-append}
 use Rattle.sqlite_trees.specs.Tree.{IsAscending}
 use Rattle.sqlite_value.proofs.OrderLemmas.{value_cmp_total}
-use Rattle.reg_model.specs.Registry.{Text, Token}
+use Rattle.reg_model.specs.Registry.{Text, Token, with_id}
 use Rattle.reg_schema.specs.Rows.{IsInOrder, by_column, by_columns}
 use Rattle.reg_tables.specs.Stands.{scope_of, scopes_of, StandTokens}
-use Rattle.reg_tables.specs.Tests.{shows}
-use Rattle.reg_tables.proofs.Dropped.{dropped_in_order, by_first_and_second}
+use Rattle.reg_tables.specs.Tests.{is_number, shows}
+use Rattle.reg_tables.proofs.Dropped.{dropped_in_order, by_first_and_second, by_second, first_column}
 use Rattle.reg_tables.proofs.Selected.{column_total, number_below}
 
 abbrev Below : Row → Row → Type 0
@@ -74,3 +83,66 @@ by_both_total = then_total (column_total 0) (column_total 1)
 pub lists_scopes : (tokens : List Token) (db : Trees) → StandTokens tokens db → (out : List Row) → IsInOrder (by_columns 1 2) (db 5) (shows (1 ∷ 2 ∷ 3 ∷ 4 ∷ 5 ∷ [])) out → out ≡ flat_map scopes_of (enumerate_from 1 tokens)
 lists_scopes tokens db stands out h =
     dropped_in_order (by_columns 1 2) (by_columns 0 1) by_first_and_second by_both_total (flat_map scopes_of (enumerate_from 1 tokens)) (db 5) out stands.scopes (scopes_rise 1 tokens) (all_whole 1 tokens) h
+
+-- the scopes of one token
+module _ (id : ℕ) where
+  abbrev is_its : Row → Bool
+  is_its r = is_number 0 id r
+
+  its_scopes : (b : Bool) (n k : ℕ) (ps : List Text) → (n == id) ≡ b → filter is_its (map (scope_of n) (enumerate_from k ps)) ≡ cond b (map (scope_of n) (enumerate_from k ps)) []
+  its_scopes true n k [] h = refl
+  its_scopes false n k [] h = refl
+  its_scopes true n k (p ∷ ps) h = rw (same_number n id ∙ h) (ap (λ rs. scope_of n (k, p) ∷ rs) (its_scopes true n (k + 1) ps h))
+  its_scopes false n k (p ∷ ps) h = rw (same_number n id ∙ h) (its_scopes false n (k + 1) ps h)
+
+  its_own : (es : List (ℕ × Token)) → filter is_its (flat_map scopes_of es) ≡ flat_map scopes_of (filter (λ e. e.0 == id) es)
+  its_own [] = refl
+  its_own (e ∷ es) = filter-append is_its (scopes_of e) (flat_map scopes_of es) ∙ ap₂ ◌++◌ (its_scopes (e.0 == id) e.0 0 e.1.patterns refl) (its_own es) ∙ joins (e.0 == id)
+    where
+      joins : (b : Bool) → cond b (scopes_of e) [] ++ flat_map scopes_of (filter (λ e. e.0 == id) es) ≡ flat_map scopes_of (cond b (e ∷ filter (λ e. e.0 == id) es) (filter (λ e. e.0 == id) es))
+      joins true = refl
+      joins false = refl
+
+  step_above : (k j : ℕ) (p : Text) (ps : List Text) → k < j → AllByRecursion (λ b. by_column 1 (scope_of id (k, p)) b ≡ Less) (map (scope_of id) (enumerate_from j ps))
+  step_above k j p [] h = tt
+  step_above k j p (q ∷ ps) h = (number_below k j h, step_above k (j + 1) p ps (omega (arith, h)))
+
+  steps_rise : (k : ℕ) (ps : List Text) → IsAscending (λ a b. by_column 1 a b ≡ Less) (map (scope_of id) (enumerate_from k ps))
+  steps_rise k [] = tt
+  steps_rise k (p ∷ ps) = (step_above k (k + 1) p ps (omega arith), steps_rise (k + 1) ps)
+
+  pub lists_its_scopes : (tokens : List Token) (db : Trees) → StandTokens tokens db → (t : Token) → with_id tokens id ≡ Some t → (out : List Row)
+      → IsInOrder (by_column 2) (filter (is_number 1 id) (db 5)) (shows (1 ∷ 2 ∷ 3 ∷ 4 ∷ 5 ∷ [])) out → out ≡ scopes_of (id, t)
+  lists_its_scopes tokens db stands t found out h =
+      let all = flat_map scopes_of (enumerate_from 1 tokens) in
+      let these : filter is_its all ≡ scopes_of (id, t) = its_own (enumerate_from 1 tokens) ∙ ap (flat_map scopes_of) (one_at id tokens t found) ∙ append-nil (scopes_of (id, t)) in
+      let rows : filter is_its (map (λ r. drop 1 r) (db 5)) ≡ map (λ r. drop 1 r) (filter (is_number 1 id) (db 5)) =
+      filter_map (λ r. drop 1 r) is_its (db 5) ∙ ap (map (λ r. drop 1 r)) (same_filter (λ r. is_its (drop 1 r)) (is_number 1 id) (λ r. ap (λ v. is_eq (value_cmp v (Int (pos id)))) (sym (first_column r))) (db 5)) in
+      let moved = IsPermutation-filter is_its all (map (λ r. drop 1 r) (db 5)) stands.scopes in
+      let stand = subst (λ rs. IsPermutation rs (map (λ r. drop 1 r) (filter (is_number 1 id) (db 5)))) these (subst (IsPermutation (filter is_its all)) rows moved) in
+      dropped_in_order (by_column 2) (by_column 1) by_second (column_total 1) (scopes_of (id, t)) (filter (is_number 1 id) (db 5)) out stand (steps_rise 0 t.patterns) (whole_scopes id 0 t.patterns) h
+
+same_head : {A : Type 0} {a b : A} {xs ys : List A} → ◌≡◌ {A = List A} (a ∷ xs) (b ∷ ys) → a ≡ b
+same_head e = cc
+
+at_once : (n id : ℕ) → n ≡ id → n + 0 ≡ id
+at_once n id h = omega (arith, h)
+
+at_last : (n i id : ℕ) → (n + 1) + i ≡ id → n + suc i ≡ id
+at_last n i id h = omega (arith, h)
+
+-- an element that is found alone among those with ids is at its id
+in_place : (p : ℕ × Token → Bool) (n id : ℕ) (t : Token) (ts : List Token) → filter p (enumerate_from n ts) ≡ (id, t) ∷ [] → (i : ℕ) × (n + i ≡ id) × (slice_get ts i ≡ Some t)
+in_place p n id t [] h = absurd cc
+in_place p n id t (u ∷ ts) h = split (p (n, u)) (λ e. in_place p (n + 1) id t ts e) h
+  where
+    split : (b : Bool) → (filter p (enumerate_from (n + 1) ts) ≡ (id, t) ∷ [] → (i : ℕ) × ((n + 1) + i ≡ id) × (slice_get ts i ≡ Some t))
+        → cond b ((n, u) ∷ filter p (enumerate_from (n + 1) ts)) (filter p (enumerate_from (n + 1) ts)) ≡ (id, t) ∷ [] → (i : ℕ) × (n + i ≡ id) × (slice_get (u ∷ ts) i ≡ Some t)
+    split true deep e = let is : (n, u) ≡ (id, t) = same_head e in (0, at_once n id (ap (λ x. x.0) is), ap (λ x. Some x.1) is)
+    split false deep e = let later = deep e in (suc later.0, at_last n later.0 id later.1, later.2)
+
+pub found_at : (p : ℕ × Token → Bool) (id : ℕ) (t : Token) (ts : List Token) → filter p (enumerate_from 1 ts) ≡ (id, t) ∷ [] → with_id ts id ≡ Some t
+found_at p id t ts h =
+    let at = in_place p 1 id t ts h in
+    let other : (id == 0) ≡ false = ne_eqb id 0 (λ z. absurd (omega (arith, at.1, z))) in
+    rw other (ap (slice_get ts) (omega (arith, at.1)) ∙ at.2)

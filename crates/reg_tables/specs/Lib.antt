@@ -5,6 +5,7 @@ pub mod Bases
 pub mod Columns
 pub mod CrateRecords
 pub mod Entries
+pub mod FoundTokens
 pub mod Greatest
 pub mod Ids
 pub mod OwnerEntries

@@ -7,6 +7,8 @@ ghost use Rattle.sqlite.specs.State.{HasCleanDisk, IsUnchanged, Survives};
 ghost use Rattle.reg_schema.specs.Changes.{AddsColumns};
 ghost use Rattle.reg_schema.specs.States.{IsReady, OnlyReads};
 ghost use Rattle.reg_model.specs.Registry.{with_id, change_at};
+ghost use Rattle.reg_model.specs.Sound.{Sound};
+ghost use Rattle.reg_tables.specs.FoundTokens.{IsFound, IsRow};
 ghost use Rattle.reg_tables.specs.Patterns.{GivesPatterns};
 ghost use Rattle.reg_tables.specs.ScopeRecords.{columns_of_scope};
 ghost use Rattle.reg_tables.specs.Stands.{Stands, scope_of, scopes_of};
@@ -15,7 +17,7 @@ ghost use Rattle.reg_tables.specs.Works.{IsAtWork, IsCall, Within, Fails, seen};
 
 use crate::calls::accounts::next_id;
 use crate::scopes::Scope;
-use crate::tokens::Token;
+use crate::tokens::{Token, TokenRow};
 use crate::work::{StoreFault, Work};
 use crate::{scopes, tokens};
 use reg_line::Digest;
@@ -23,6 +25,13 @@ use reg_model::Endpoints;
 use reg_names::{Pattern, compile};
 use sqlite::{Alter, Connection, Error};
 use std::alloc::Global;
+
+/// A token that was found by its digest, with its account, and its scopes by place.
+#[derive(Debug, Drop)]
+pub struct TokenRows {
+    pub token: TokenRow,
+    pub scopes: Vec<Scope>,
+}
 
 /// All tokens by id, and all scopes by token and place.
 #[derive(Debug, Drop)]
@@ -138,6 +147,48 @@ fn add<S: Alter>(
     Ok(id)
 }
 
+fn find_row<S: Alter>(conn: &mut Connection<S>, digest: &Digest) -> Result<Option<TokenRow>, Error>
+    requires { IsReady (state S.Store conn.old) }
+    ensures found { HasCleanDisk (state S.Store conn.new) → IfOk result (λ found. (s : _) → Sound s → Stands s (state S.Store conn.old).now.trees → IsRow s digest.now found) }
+    ensures reads { HasCleanDisk (state S.Store conn.new) → OnlyReads result (state S.Store conn.old) (state S.Store conn.new) }
+    ensures survives { Survives (state S.Store conn.old) (state S.Store conn.new) (λ _. ⊥) }
+{
+    tokens::by_digest(conn, digest)
+}
+
+fn scopes_of<S: Alter>(
+    alloc: Global,
+    conn: &mut Connection<S>,
+    token: u32,
+) -> Result<Vec<Scope>, Error>
+    requires { IsReady (state S.Store conn.old) }
+    ensures found { HasCleanDisk (state S.Store conn.new) → IfOk result (λ list. (s : _) → (t : _) → with_id s.tokens token ≡ Some t → Stands s (state S.Store conn.old).now.trees → map columns_of_scope list.items ≡ scopes_of (token, t)) }
+    ensures reads { HasCleanDisk (state S.Store conn.new) → OnlyReads result (state S.Store conn.old) (state S.Store conn.new) }
+    ensures survives { Survives (state S.Store conn.old) (state S.Store conn.new) (λ _. ⊥) }
+{
+    scopes::of_token(alloc, conn, token)
+}
+
+#[tactic(auto, using(crate::proofs::Readings::unchanged_then, crate::proofs::Readings::refuses_after))]
+fn find<S: Alter>(
+    alloc: Global,
+    conn: &mut Connection<S>,
+    digest: &Digest,
+) -> Result<Option<TokenRows>, Error>
+    requires { IsReady (state S.Store conn.old) }
+    ensures found { HasCleanDisk (state S.Store conn.new) → IfOk result (λ found. (s : _) → Sound s → Stands s (state S.Store conn.old).now.trees → IsFound s digest.now found) }
+    ensures reads { HasCleanDisk (state S.Store conn.new) → OnlyReads result (state S.Store conn.old) (state S.Store conn.new) }
+    ensures survives { Survives (state S.Store conn.old) (state S.Store conn.new) (λ _. ⊥) }
+{
+    match find_row(conn, digest)? {
+        None => Ok(None),
+        Some(token) => {
+            let scopes = scopes_of(alloc, conn, token.id)?;
+            Ok(Some(TokenRows { token, scopes }))
+        }
+    }
+}
+
 fn list<S: Alter>(alloc: Global, conn: &mut Connection<S>) -> Result<Vec<Token>, Error>
     requires { IsReady (state S.Store conn.old) }
     ensures found { HasCleanDisk (state S.Store conn.new) → IfOk result (λ list. (s : _) → Stands s (state S.Store conn.old).now.trees → map entry_of_token list.items ≡ map without_patterns (enumerate_from 1 s.tokens)) }
@@ -170,6 +221,29 @@ fn list_both<S: Alter>(alloc: Global, conn: &mut Connection<S>) -> Result<TokenL
 }
 
 impl<S: Alter> Work<'_, S> {
+    /// The token with this digest, with its account and its scopes.
+    pub fn token_rows(
+        &mut self,
+        alloc: Global,
+        digest: &Digest,
+    ) -> Result<Option<TokenRows>, StoreFault>
+        requires { IsAtWork S.Store self.old }
+        ensures found { HasCleanDisk (seen S.Store self.new) → IfOk result (λ found. (s : _) → Sound s → Stands s (seen S.Store self.old).now.trees → IsFound s digest.now found) }
+        ensures same { HasCleanDisk (seen S.Store self.new) → OnOk result (IsUnchanged (seen S.Store self.old) (seen S.Store self.new)) }
+        ensures leaves { IsCall S.Store result self.old self.new }
+    {
+        if self.failed {
+            return Err(StoreFault);
+        }
+        match find(alloc, &mut self.tables.conn, digest) {
+            Ok(found) => Ok(found),
+            Err(_) => {
+                self.failed = true;
+                Err(StoreFault)
+            }
+        }
+    }
+
     /// All tokens by id, and all scopes by token and place.
     pub fn all_tokens(&mut self, alloc: Global) -> Result<TokenLists, StoreFault>
         requires { IsAtWork S.Store self.old }
