@@ -2,20 +2,19 @@
 
 
 
+ghost use Rattle.reg_tables.specs.Works.{AreOurs};
+
 use reg_tables::{StoreFault, Tables};
-use sqlite::Connection;
+use sqlite::{Alter, Connection};
+use std::alloc::Global;
+use std::process::Abort;
 use std::test::Fail;
 
 const BASE: &str = "https://index.example";
 
-#[test]
-fn accounts(rt: HostRuntime) -> Result<(), Fail> {
-    let alloc = rt.alloc();
-    let made = Tables::make(Connection::open_in_memory(alloc)?, BASE);
-    assert!(rt; made.is_ok());
-    let Ok(mut tables) = made else {
-        return Ok(());
-    };
+fn accounts_in<S: Alter>(rt: &impl Abort, alloc: Global, tables: &mut Tables<S>) -> Result<(), Fail>
+    requires { AreOurs S.Store tables.old }
+{
     let mut work = tables.work()?;
     assert_eq!(rt; work.add_account("ada", Some("Ada"))?, 1);
     assert_eq!(rt; work.add_account("bob", None)?, 2);
@@ -32,13 +31,17 @@ fn accounts(rt: HostRuntime) -> Result<(), Fail> {
 }
 
 #[test]
-fn a_taken_login(rt: HostRuntime) -> Result<(), Fail> {
+fn accounts(rt: HostRuntime) -> Result<(), Fail> {
     let alloc = rt.alloc();
-    let made = Tables::make(Connection::open_in_memory(alloc)?, BASE);
-    assert!(rt; made.is_ok());
-    let Ok(mut tables) = made else {
-        return Ok(());
-    };
+    match Tables::make(Connection::open_in_memory(alloc)?, BASE) {
+        Ok(mut tables) => accounts_in(&rt, alloc, &mut tables),
+        Err((_fault, _conn)) => Err("no tables".into()),
+    }
+}
+
+fn a_taken_login_in<S: Alter>(rt: &impl Abort, alloc: Global, tables: &mut Tables<S>) -> Result<(), Fail>
+    requires { AreOurs S.Store tables.old }
+{
     let mut work = tables.work()?;
     assert_eq!(rt; work.add_account("ada", None)?, 1);
     assert_eq!(rt; work.add_account("ada", None), Err(StoreFault));
@@ -50,17 +53,30 @@ fn a_taken_login(rt: HostRuntime) -> Result<(), Fail> {
 }
 
 #[test]
-fn a_dropped_transaction(rt: HostRuntime) -> Result<(), Fail> {
+fn a_taken_login(rt: HostRuntime) -> Result<(), Fail> {
     let alloc = rt.alloc();
-    let made = Tables::make(Connection::open_in_memory(alloc)?, BASE);
-    assert!(rt; made.is_ok());
-    let Ok(mut tables) = made else {
-        return Ok(());
-    };
+    match Tables::make(Connection::open_in_memory(alloc)?, BASE) {
+        Ok(mut tables) => a_taken_login_in(&rt, alloc, &mut tables),
+        Err((_fault, _conn)) => Err("no tables".into()),
+    }
+}
+
+fn a_dropped_transaction_in<S: Alter>(rt: &impl Abort, alloc: Global, tables: &mut Tables<S>) -> Result<(), Fail>
+    requires { AreOurs S.Store tables.old }
+{
     let mut work = tables.work()?;
     assert_eq!(rt; work.add_account("ada", None)?, 1);
     drop(work);
     let mut work = tables.work()?;
     assert!(rt; work.all_accounts(alloc)?.is_empty());
     Ok(())
+}
+
+#[test]
+fn a_dropped_transaction(rt: HostRuntime) -> Result<(), Fail> {
+    let alloc = rt.alloc();
+    match Tables::make(Connection::open_in_memory(alloc)?, BASE) {
+        Ok(mut tables) => a_dropped_transaction_in(&rt, alloc, &mut tables),
+        Err((_fault, _conn)) => Err("no tables".into()),
+    }
 }

@@ -1,11 +1,14 @@
 //! Crates, their versions and owners by typed calls.
 
+ghost use Rattle.reg_tables.specs.Works.{AreOurs};
+
 use reg_line::{Digest, Entry, digest_of, file, stem};
 use reg_manifest::read_manifest;
 use reg_names::{CanonText, canon, parse_name};
 use reg_tables::{NewVersion, Tables, Version};
-use sqlite::Connection;
+use sqlite::{Alter, Connection};
 use std::alloc::Global;
+use std::process::Abort;
 use std::test::Fail;
 
 const BASE: &str = "https://index.example";
@@ -42,18 +45,13 @@ fn index_file(alloc: Global, versions: Vec<Version>) -> Result<Vec<u8>, Fail> {
     Ok(file(alloc, &entries)?)
 }
 
-#[test]
-fn growing_index_file(rt: HostRuntime) -> Result<(), Fail> {
-    let alloc = rt.alloc();
+fn growing_index_file_in<S: Alter>(rt: &impl Abort, alloc: Global, tables: &mut Tables<S>) -> Result<(), Fail>
+    requires { AreOurs S.Store tables.old }
+{
     let first = stem_of(alloc, "{\"name\":\"a\",\"vers\":\"0.1.0\"}")?;
     let second = stem_of(alloc, "{\"name\":\"a\",\"vers\":\"0.2.0\"}")?;
     let digest = digest_of(b"");
     let name = parse_name("a").ok_or("a name")?;
-    let made = Tables::make(Connection::open_in_memory(alloc)?, BASE);
-    assert!(rt; made.is_ok());
-    let Ok(mut tables) = made else {
-        return Ok(());
-    };
     let mut work = tables.work()?;
     assert_eq!(rt; work.add_account("ada", None)?, 1);
     let version = empty_version("0.1.0", first.as_slice(), &digest);
@@ -72,15 +70,19 @@ fn growing_index_file(rt: HostRuntime) -> Result<(), Fail> {
 }
 
 #[test]
-fn the_spelling_of_a_crate(rt: HostRuntime) -> Result<(), Fail> {
+fn growing_index_file(rt: HostRuntime) -> Result<(), Fail> {
     let alloc = rt.alloc();
+    match Tables::make(Connection::open_in_memory(alloc)?, BASE) {
+        Ok(mut tables) => growing_index_file_in(&rt, alloc, &mut tables),
+        Err((_fault, _conn)) => Err("no tables".into()),
+    }
+}
+
+fn the_spelling_of_a_crate_in<S: Alter>(rt: &impl Abort, alloc: Global, tables: &mut Tables<S>) -> Result<(), Fail>
+    requires { AreOurs S.Store tables.old }
+{
     let digest = digest_of(b"");
     let name = parse_name("Acme-Net").ok_or("a name")?;
-    let made = Tables::make(Connection::open_in_memory(alloc)?, BASE);
-    assert!(rt; made.is_ok());
-    let Ok(mut tables) = made else {
-        return Ok(());
-    };
     let mut work = tables.work()?;
     assert_eq!(rt; work.add_account("ada", None)?, 1);
     let version = empty_version("1.0.0", b"", &digest);
@@ -92,14 +94,18 @@ fn the_spelling_of_a_crate(rt: HostRuntime) -> Result<(), Fail> {
 }
 
 #[test]
-fn last_owner(rt: HostRuntime) -> Result<(), Fail> {
+fn the_spelling_of_a_crate(rt: HostRuntime) -> Result<(), Fail> {
     let alloc = rt.alloc();
+    match Tables::make(Connection::open_in_memory(alloc)?, BASE) {
+        Ok(mut tables) => the_spelling_of_a_crate_in(&rt, alloc, &mut tables),
+        Err((_fault, _conn)) => Err("no tables".into()),
+    }
+}
+
+fn last_owner_in<S: Alter>(rt: &impl Abort, alloc: Global, tables: &mut Tables<S>) -> Result<(), Fail>
+    requires { AreOurs S.Store tables.old }
+{
     let digest = digest_of(b"");
-    let made = Tables::make(Connection::open_in_memory(alloc)?, BASE);
-    assert!(rt; made.is_ok());
-    let Ok(mut tables) = made else {
-        return Ok(());
-    };
     let mut work = tables.work()?;
     assert_eq!(rt; work.add_account("ada", Some("Ada"))?, 1);
     assert_eq!(rt; work.add_account("bob", None)?, 2);
@@ -116,13 +122,17 @@ fn last_owner(rt: HostRuntime) -> Result<(), Fail> {
 }
 
 #[test]
-fn reserved_names(rt: HostRuntime) -> Result<(), Fail> {
+fn last_owner(rt: HostRuntime) -> Result<(), Fail> {
     let alloc = rt.alloc();
-    let made = Tables::make(Connection::open_in_memory(alloc)?, BASE);
-    assert!(rt; made.is_ok());
-    let Ok(mut tables) = made else {
-        return Ok(());
-    };
+    match Tables::make(Connection::open_in_memory(alloc)?, BASE) {
+        Ok(mut tables) => last_owner_in(&rt, alloc, &mut tables),
+        Err((_fault, _conn)) => Err("no tables".into()),
+    }
+}
+
+fn reserved_names_in<S: Alter>(rt: &impl Abort, alloc: Global, tables: &mut Tables<S>) -> Result<(), Fail>
+    requires { AreOurs S.Store tables.old }
+{
     let acme = canon_of("Acme")?;
     let mut work = tables.work()?;
     assert!(rt; !work.is_reserved(&acme)?);
@@ -131,4 +141,13 @@ fn reserved_names(rt: HostRuntime) -> Result<(), Fail> {
     assert!(rt; work.is_reserved(&acme)?);
     assert!(rt; !work.is_reserved(&canon_of("acme2")?)?);
     Ok(())
+}
+
+#[test]
+fn reserved_names(rt: HostRuntime) -> Result<(), Fail> {
+    let alloc = rt.alloc();
+    match Tables::make(Connection::open_in_memory(alloc)?, BASE) {
+        Ok(mut tables) => reserved_names_in(&rt, alloc, &mut tables),
+        Err((_fault, _conn)) => Err("no tables".into()),
+    }
 }
