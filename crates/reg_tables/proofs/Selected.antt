@@ -24,13 +24,13 @@ use Rattle.reg_tables.specs.Entries.{one_of}
 use Rattle.reg_tables.proofs.Permutes.{filter_map}
 
 -- a list in another order is the same list where it has one element or none
-short_same : {X : Type 0} (xs ys : List X) → IsPermutation xs ys → length ys ≤ 1 → xs ≡ ys
+pub short_same : {X : Type 0} (xs ys : List X) → IsPermutation xs ys → length ys ≤ 1 → xs ≡ ys
 short_same [] [] h short = refl
 short_same (x ∷ xs) [] h short = absurd (omega (arith, length_permutation _ _ h))
 short_same xs (y ∷ []) h short = one_permutation y xs (IsPermutation-sym xs (y ∷ []) h)
 short_same xs (y ∷ z ∷ ys) h short = absurd (omega (arith, short))
 
-shown_short : {X : Type 0} (columns : X → Row) (o : Option X) → length (shown_of columns o) ≤ 1
+pub shown_short : {X : Type 0} (columns : X → Row) (o : Option X) → length (shown_of columns o) ≤ 1
 shown_short columns None = omega arith
 shown_short columns (Some x) = omega arith
 
