@@ -45,7 +45,7 @@ less_is a b h = split (nat_lt a b) (nat_lt b a) refl refl
         apart : Less ≡ Equal → ⊥
         apart e = absurd cc
 
-bytes_are : {t u : Words} → Blob t ≡ Blob u → t ≡ u
+pub bytes_are : {t u : Words} → Blob t ≡ Blob u → t ≡ u
 bytes_are e = cc
 
 -- of elements that are there, what passes one test passes another that tells the same of them

@@ -6,17 +6,17 @@ ghost use Rattle.sqlite.specs.Held.{state};
 ghost use Rattle.sqlite.specs.State.{HasCleanDisk, IsUnchanged, Survives};
 ghost use Rattle.reg_names.specs.Names.{canon};
 ghost use Rattle.reg_schema.specs.States.{IsReady, OnlyReads};
-ghost use Rattle.reg_model.specs.Crates.{first, versions};
+ghost use Rattle.reg_model.specs.Crates.{first, version, versions};
 ghost use Rattle.reg_tables.specs.Entries.{shown_version, version_shown};
 ghost use Rattle.reg_tables.specs.Stands.{IsCrate, Stands};
 ghost use Rattle.reg_tables.specs.Works.{IsAtWork, IsCall, seen};
 
-use crate::crates;
 use crate::crates::Crate;
-use crate::versions;
 use crate::versions::Version;
 use crate::work::{StoreFault, Work};
+use crate::{archives, crates, versions};
 use reg_names::CanonText;
+use reg_versions::release_key;
 use sqlite::{Alter, Connection, Error};
 use std::alloc::Global;
 
@@ -42,6 +42,19 @@ fn list<S: Alter>(
     versions::of_crate(alloc, conn, crate_id)
 }
 
+fn archive<S: Alter>(
+    conn: &mut Connection<S>,
+    crate_id: u32,
+    text: &str,
+) -> Result<Option<Vec<u8>>, Error>
+    requires { IsReady (state S.Store conn.old) }
+    ensures found { HasCleanDisk (state S.Store conn.new) → IfOk result (λ found. (s : _) → (name : _) → IsCrate (state S.Store conn.old).now.trees crate_id name → Stands s (state S.Store conn.old).now.trees → option_map (λ b. b.items) found ≡ option_map (λ p. p.archive) (version s name text.now)) }
+    ensures reads { HasCleanDisk (state S.Store conn.new) → OnlyReads result (state S.Store conn.old) (state S.Store conn.new) }
+    ensures survives { Survives (state S.Store conn.old) (state S.Store conn.new) (λ _. ⊥) }
+{
+    archives::of_version(conn, crate_id, release_key(text), text)
+}
+
 impl<S: Alter> Work<'_, S> {
     /// The crate with this canonical name: its id and its spelling.
     pub fn crate_by_canon(&mut self, text: &CanonText) -> Result<Option<Crate>, StoreFault>
@@ -63,11 +76,7 @@ impl<S: Alter> Work<'_, S> {
     }
 
     /// The versions of the crate with this id, oldest first.
-    pub fn versions_of(
-        &mut self,
-        alloc: Global,
-        crate_id: u32,
-    ) -> Result<Vec<Version>, StoreFault>
+    pub fn versions_of(&mut self, alloc: Global, crate_id: u32) -> Result<Vec<Version>, StoreFault>
         requires { IsAtWork S.Store self.old }
         ensures found { HasCleanDisk (seen S.Store self.new) → IfOk result (λ list. (s : _) → (name : _) → IsCrate (seen S.Store self.old).now.trees crate_id name → Stands s (seen S.Store self.old).now.trees → map shown_version list.items ≡ map (version_shown s.yanked) (versions s name)) }
         ensures same { HasCleanDisk (seen S.Store self.new) → OnOk result (IsUnchanged (seen S.Store self.old) (seen S.Store self.new)) }
@@ -78,6 +87,25 @@ impl<S: Alter> Work<'_, S> {
         }
         match list(alloc, &mut self.tables.conn, crate_id) {
             Ok(list) => Ok(list),
+            Err(_) => {
+                self.failed = true;
+                Err(StoreFault)
+            }
+        }
+    }
+
+    /// The archive of this very version of the crate with this id.
+    pub fn archive_of(&mut self, crate_id: u32, text: &str) -> Result<Option<Vec<u8>>, StoreFault>
+        requires { IsAtWork S.Store self.old }
+        ensures found { HasCleanDisk (seen S.Store self.new) → IfOk result (λ found. (s : _) → (name : _) → IsCrate (seen S.Store self.old).now.trees crate_id name → Stands s (seen S.Store self.old).now.trees → option_map (λ b. b.items) found ≡ option_map (λ p. p.archive) (version s name text.now)) }
+        ensures same { HasCleanDisk (seen S.Store self.new) → OnOk result (IsUnchanged (seen S.Store self.old) (seen S.Store self.new)) }
+        ensures leaves { IsCall S.Store result self.old self.new }
+    {
+        if self.failed {
+            return Err(StoreFault);
+        }
+        match archive(&mut self.tables.conn, crate_id, text) {
+            Ok(found) => Ok(found),
             Err(_) => {
                 self.failed = true;
                 Err(StoreFault)
