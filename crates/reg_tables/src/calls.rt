@@ -8,4 +8,4 @@ mod reserved;
 mod tokens;
 
 pub use crates::NewVersion;
-pub use tokens::TokenLists;
+pub use tokens::{TokenLists, TokenRows};

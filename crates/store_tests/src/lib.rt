@@ -9,3 +9,5 @@ mod crates;
 mod making;
 #[cfg(test)]
 mod memory;
+#[cfg(test)]
+mod tokens;
