@@ -1,12 +1,11 @@
 -- A token that is found by its digest.
-use Rattle.std.proofs.Common.{◌≡◌, ◌==◌, ℕ, zero, suc, ◌+◌, ◌-◌, ◌≤◌, pos, List, [], ◌∷◌, ◌++◌, map, length, Bool, true, false, cond, is_some, Option, Some, None, slice_get, arith, refl, sym, ap, subst, ◌∙◌}
-use Rattle.std.specs.Prelude.{string_bytes}
+use Rattle.std.proofs.Common.{◌≡◌, ℕ, suc, ◌+◌, ◌≤◌, pos, List, [], ◌∷◌, ◌++◌, map, length, Bool, true, false, cond, is_some, Option, Some, None, arith, refl, sym, ap, subst, ◌∙◌}
 use Rattle.std.specs.Option.{option_map}
-use Rattle.std.specs.List.{AllByRecursion, All, enumerate_from, filter, flat_map, list_all}
+use Rattle.std.specs.List.{AllByRecursion, enumerate_from, filter, flat_map, list_all}
 use Rattle.std.specs.List.Sorted.{IsPermutation}
 use Rattle.std.specs.Ordering.{is_eq}
 use Rattle.std.specs.Str.{bytes_eq}
-use Rattle.std.proofs.lemmas.Bool.{and_parts, ne_eqb}
+use Rattle.std.proofs.lemmas.Bool.{and_parts}
 use Rattle.std.proofs.lemmas.Slice.Eq.{bytes_eq-Decides}
 use Rattle.std.proofs.lemmas.List.{length-append}
 use Rattle.std.proofs.lemmas.List.Sorted.{All-permutation}
@@ -20,13 +19,12 @@ use Rattle.sqlite_value.proofs.OrderLemmas.{value_cmp-Blob}
 use Rattle.sqlite_trees.proofs.ListLemmas.{IsPermutation-filter}
 use Rattle.reg_model.specs.Registry as model
 use Rattle.reg_model.specs.Sound.{Sound, is_token}
-use Rattle.reg_schema.specs.Rows.{mark}
 use Rattle.reg_schema.proofs.Queries.{equals_int, same_filter}
 use Rattle.reg_tables.specs.declared.tokens.TokenRow.{TokenRow}
 use Rattle.reg_tables.specs.FoundTokens.{IsAccountOf, IsRow, login_and_mark, with_digest}
 use Rattle.reg_tables.specs.Shown.{shown_of}
-use Rattle.reg_tables.specs.Stands.{row_of_account, row_of_token, StandAccounts, StandTokens, Stands}
-use Rattle.reg_tables.specs.Tests.{is_blob, shows}
+use Rattle.reg_tables.specs.Stands.{row_of_account, row_of_token, Stands}
+use Rattle.reg_tables.specs.Tests.{is_blob}
 use Rattle.reg_tables.specs.TokenRecords.{columns_with_account}
 use Rattle.reg_tables.specs.Tokens.{is_of_token, token_and_account, tokens_with_accounts}
 use Rattle.reg_tables.proofs.AccountEntries.{mark_is}

@@ -1,6 +1,6 @@
 -- What statements that only read leave, one after another.
-use Rattle.std.proofs.Common.{◌≡◌, ◌⊎◌, inl, inr, ◌∙◌}
-use Rattle.sqlite.specs.State.{State, IsUnchanged, IsRolledBack}
+use Rattle.std.proofs.Common.{inl, inr, ◌∙◌}
+use Rattle.sqlite.specs.State.{State, IsUnchanged}
 use Rattle.reg_schema.specs.States.{Refuses}
 
 pub unchanged_then : (a b c : State) → IsUnchanged a b → IsUnchanged b c → IsUnchanged a c

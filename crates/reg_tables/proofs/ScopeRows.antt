@@ -1,5 +1,5 @@
 -- The scopes of tokens, by token and place.
-use Rattle.std.proofs.Common.{◌≡◌, ◌==◌, ℕ, suc, ◌+◌, ◌<◌, pos, Bool, true, false, cond, Some, slice_get, List, [], ◌∷◌, ◌++◌, map, Less, Equal, refl, sym, subst, ap, ap₂, ◌∙◌, arith}
+use Rattle.std.proofs.Common.{◌≡◌, ◌==◌, ℕ, suc, ◌+◌, ◌<◌, pos, Bool, true, false, cond, Some, slice_get, List, [], ◌∷◌, ◌++◌, map, Less, refl, sym, subst, ap, ap₂, ◌∙◌, arith}
 use Rattle.std.specs.Prelude.{drop}
 use Rattle.std.specs.List.{AllByRecursion, enumerate_from, filter, flat_map}
 use Rattle.std.specs.List.Sorted.{IsPermutation}

@@ -1,5 +1,5 @@
 -- Tokens that selections show.
-use Rattle.std.proofs.Common.{◌≡◌, ℕ, pos, List, [], ◌∷◌, map, refl, ◌∙◌, ap, sym}
+use Rattle.std.proofs.Common.{◌≡◌, ℕ, pos, List, [], ◌∷◌, map, refl, ◌∙◌, ap}
 use Rattle.std.specs.List.{enumerate_from}
 use Rattle.sqlite.specs.declared.types.Value.{Value}
 use Rattle.sqlite.specs.declared.types.Value.TheVariants.{Int, Blob}
@@ -8,7 +8,7 @@ use Rattle.sqlite.specs.Tree.{Trees}
 use Rattle.sqlite_keyed.proofs.SortLemmas.{sorted_unique}
 use Rattle.std.proofs.lemmas.List.Sorted.{IsPermutation-trans}
 use Rattle.reg_model.specs.Registry as model
-use Rattle.reg_schema.specs.Rows.{IsInOrder, by_column, mark}
+use Rattle.reg_schema.specs.Rows.{IsInOrder, by_column}
 use Rattle.reg_schema.proofs.Queries.{maps_twice}
 use Rattle.reg_tables.specs.declared.tokens.Token.{Token}
 use Rattle.reg_tables.specs.TokenRecords.{columns_of_token}
