@@ -1,7 +1,5 @@
 //! Typed calls in transactions, each with ample memory.
 
-
-
 ghost use Rattle.reg_tables.specs.Works.{AreOurs};
 
 use reg_tables::{StoreFault, Tables};
@@ -39,7 +37,11 @@ fn accounts(rt: HostRuntime) -> Result<(), Fail> {
     }
 }
 
-fn a_taken_login_in<S: Alter>(rt: &impl Abort, alloc: Global, tables: &mut Tables<S>) -> Result<(), Fail>
+fn a_taken_login_in<S: Alter>(
+    rt: &impl Abort,
+    alloc: Global,
+    tables: &mut Tables<S>,
+) -> Result<(), Fail>
     requires { AreOurs S.Store tables.old }
 {
     let mut work = tables.work()?;
@@ -61,7 +63,11 @@ fn a_taken_login(rt: HostRuntime) -> Result<(), Fail> {
     }
 }
 
-fn a_dropped_transaction_in<S: Alter>(rt: &impl Abort, alloc: Global, tables: &mut Tables<S>) -> Result<(), Fail>
+fn a_dropped_transaction_in<S: Alter>(
+    rt: &impl Abort,
+    alloc: Global,
+    tables: &mut Tables<S>,
+) -> Result<(), Fail>
     requires { AreOurs S.Store tables.old }
 {
     let mut work = tables.work()?;

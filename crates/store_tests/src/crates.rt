@@ -45,7 +45,11 @@ fn index_file(alloc: Global, versions: Vec<Version>) -> Result<Vec<u8>, Fail> {
     Ok(file(alloc, &entries)?)
 }
 
-fn growing_index_file_in<S: Alter>(rt: &impl Abort, alloc: Global, tables: &mut Tables<S>) -> Result<(), Fail>
+fn growing_index_file_in<S: Alter>(
+    rt: &impl Abort,
+    alloc: Global,
+    tables: &mut Tables<S>,
+) -> Result<(), Fail>
     requires { AreOurs S.Store tables.old }
 {
     let first = stem_of(alloc, "{\"name\":\"a\",\"vers\":\"0.1.0\"}")?;
@@ -78,7 +82,11 @@ fn growing_index_file(rt: HostRuntime) -> Result<(), Fail> {
     }
 }
 
-fn the_spelling_of_a_crate_in<S: Alter>(rt: &impl Abort, alloc: Global, tables: &mut Tables<S>) -> Result<(), Fail>
+fn the_spelling_of_a_crate_in<S: Alter>(
+    rt: &impl Abort,
+    alloc: Global,
+    tables: &mut Tables<S>,
+) -> Result<(), Fail>
     requires { AreOurs S.Store tables.old }
 {
     let digest = digest_of(b"");
@@ -102,7 +110,11 @@ fn the_spelling_of_a_crate(rt: HostRuntime) -> Result<(), Fail> {
     }
 }
 
-fn last_owner_in<S: Alter>(rt: &impl Abort, alloc: Global, tables: &mut Tables<S>) -> Result<(), Fail>
+fn last_owner_in<S: Alter>(
+    rt: &impl Abort,
+    alloc: Global,
+    tables: &mut Tables<S>,
+) -> Result<(), Fail>
     requires { AreOurs S.Store tables.old }
 {
     let digest = digest_of(b"");
@@ -110,8 +122,14 @@ fn last_owner_in<S: Alter>(rt: &impl Abort, alloc: Global, tables: &mut Tables<S
     assert_eq!(rt; work.add_account("ada", Some("Ada"))?, 1);
     assert_eq!(rt; work.add_account("bob", None)?, 2);
     let version = empty_version("0.1.0", b"", &digest);
-    assert_eq!(rt; work.add_crate(&parse_name("a").ok_or("a name")?, 1, &version)?, 1);
-    assert_eq!(rt; work.add_crate(&parse_name("b").ok_or("a name")?, 1, &version)?, 2);
+    assert_eq!(rt;
+        work.add_crate(&parse_name("a").ok_or("a name")?, 1, &version)?,
+        1
+    );
+    assert_eq!(rt;
+        work.add_crate(&parse_name("b").ok_or("a name")?, 1, &version)?,
+        2
+    );
     work.add_owner(1, 2)?;
     work.add_owner(1, 2)?;
     let owners = work.owners_of(alloc, 1)?;
@@ -130,7 +148,11 @@ fn last_owner(rt: HostRuntime) -> Result<(), Fail> {
     }
 }
 
-fn reserved_names_in<S: Alter>(rt: &impl Abort, alloc: Global, tables: &mut Tables<S>) -> Result<(), Fail>
+fn reserved_names_in<S: Alter>(
+    rt: &impl Abort,
+    alloc: Global,
+    tables: &mut Tables<S>,
+) -> Result<(), Fail>
     requires { AreOurs S.Store tables.old }
 {
     let acme = canon_of("Acme")?;
