@@ -32,7 +32,8 @@ use Rattle.reg_tables.specs.Tests.{is_owner}
 use Rattle.reg_tables.proofs.Alike.{alike}
 use Rattle.reg_tables.proofs.CrateEntries.{crate_is_in}
 use Rattle.reg_tables.proofs.Members.{IsIn, each_in, in_any, in_all, all_in, in_filter}
-use Rattle.reg_tables.proofs.Removed.{AreNumbered, apart_kept, removes_passing}
+use Rattle.reg_tables.proofs.Removed.{apart_kept, removes_passing}
+use Rattle.reg_tables.specs.Numbers.{AreNumbered}
 use Rattle.reg_tables.proofs.Rowids.{first_column, second_column, apart_put, any_columns, put_columns, keep_columns}
 use Rattle.reg_tables.proofs.Standing.{same_number}
 use Rattle.reg_tables.proofs.Stays.{accounts_stay, tokens_stay, reserved_stay, same_about, same_accounts, same_tokens, same_scopes, same_crates, same_versions, same_archives, same_reserved}
@@ -99,9 +100,11 @@ module _ (publications : List Publication) (held : finset.FinSet owner_cmp) (yan
     less_owned : (os : List StoredOwner) (cs : List StoredCrate) → AllByRecursion (λ c. bytes_eq (canon c.1) (canon name) ≡ (c.0 == id)) cs → AllByRecursion (λ c. (a : ℕ) → finset.contains held (canon c.1, a) ≡ is_owned os c.0 a) cs
         → AllByRecursion (λ c. (a : ℕ) → finset.contains (finset.remove held (canon name, account)) (canon c.1, a) ≡ is_owned (filter (λ o. not (is_pair id account o)) os) c.0 a) cs
     less_owned os [] same owned = tt
-    less_owned os (c ∷ cs) same owned =
-        (λ a. finset.contains-remove owner_total held (canon name, account) (canon c.1, a) ∙ ap (λ b. not b && finset.contains held (canon c.1, a)) (same_key c a same.0) ∙ ap (λ b. not (is_pair c.0 a (id, account)) && b) (owned.0 a)
-            ∙ sym (any-filter_same (is_pair c.0 a) (λ o. not (is_pair id account o)) (not (is_pair c.0 a (id, account))) (λ o h. ap not (turned c.0 a o h)) os), less_owned os cs same.1 owned.1)
+    less_owned os (c ∷ cs) same owned = (
+      λ a. finset.contains-remove owner_total held (canon name, account) (canon c.1, a) ∙ ap (λ b. not b && finset.contains held (canon c.1, a)) (same_key c a same.0) ∙ ap (λ b. not (is_pair c.0 a (id, account)) && b) (owned.0 a)
+          ∙ sym (any-filter_same (is_pair c.0 a) (λ o. not (is_pair id account o)) (not (is_pair c.0 a (id, account))) (λ o h. ap not (turned c.0 a o h)) os),
+      less_owned os cs same.1 owned.1,
+    )
       where
         turned : (n a : ℕ) (o : StoredOwner) → is_pair n a o ≡ true → is_pair id account o ≡ is_pair n a (id, account)
         turned n a o h =
@@ -151,7 +154,7 @@ module _ (publications : List Publication) (held : finset.FinSet owner_cmp) (yan
         versions = stands.versions;
         crate_rows = subst (IsPermutation (map row_of_crate stands.crates)) (sym (same_crates 9 old.now.trees new.now.trees others (λ e. cc))) stands.crate_rows;
         owner_rows = subst (λ (rs : List Row). IsPermutation (map columns_of_owner (filter stays stands.owners)) (map (drop 1) rs)) (sym left)
-        (subst (λ os. IsPermutation (map columns_of_owner os) (map (drop 1) (filter (λ r. not (is_owner id account r)) rows))) pairs kept);
+            (subst (λ os. IsPermutation (map columns_of_owner os) (map (drop 1) (filter (λ r. not (is_owner id account r)) rows))) pairs kept);
         version_rows = subst (IsPermutation (map (row_of_version yanked) stands.versions)) (sym (same_versions 9 old.now.trees new.now.trees others (λ e. cc))) stands.version_rows;
         archive_rows = subst (IsPermutation (map row_of_archive stands.versions)) (sym (same_archives 9 old.now.trees new.now.trees others (λ e. cc))) stands.archive_rows;
         apart = subst HaveOwnRowids (sym left) (apart_kept _ (λ r. not (is_owner id account r)) rows stands.apart);

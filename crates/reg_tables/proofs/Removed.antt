@@ -8,21 +8,16 @@ use Rattle.std.proofs.lemmas.Cmp.{eq_by_cmp_equiv}
 use Rattle.std.proofs.lemmas.Map.Keys.{IsDistinct-cons, IsDistinct-head, IsDistinct-tail}
 use Rattle.sqlite.specs.declared.types.Value.TheVariants.{Int}
 use Rattle.sqlite.specs.Order.{Row, value_cmp}
-use Rattle.sqlite_rules.specs.Edit.{id_in, is_taken}
-use Rattle.sqlite_trees.specs.Tree.{rowid, has_rowid, put_row}
+use Rattle.sqlite_rules.specs.Edit.{is_taken}
+use Rattle.sqlite_trees.specs.Tree.{rowid, put_row}
 use Rattle.sqlite_trees.proofs.ListLemmas.{all-filter, all-permutation, all_weaker, filter_same}
 use Rattle.sqlite_value.proofs.OrderLemmas.{value_cmp_total}
 use Rattle.reg_schema.specs.Changes.{is_at_one_of}
 use Rattle.reg_schema.proofs.Queries.{same_filter}
+use Rattle.reg_tables.specs.Numbers.{IsNumbered, AreNumbered}
 use Rattle.reg_tables.specs.Stands.{HaveOwnRowids}
 use Rattle.reg_tables.proofs.Alike.{both_all}
 use Rattle.reg_tables.proofs.Permutes.{put_permutes}
-
-abbrev IsNumbered : Row → Type 0
-IsNumbered r = rowid r ≡ Int (id_in (rowid r))
-
-abbrev pub AreNumbered : List Row → Type 0
-AreNumbered = AllByRecursion IsNumbered
 
 pub numbered_put : (id : ℤ) (columns : Row) (rows : List Row) → is_taken rows (Int id ∷ columns) ≡ false → AreNumbered rows → AreNumbered (put_row (Int id ∷ columns) rows)
 numbered_put id columns rows free numbered = all-permutation IsNumbered ((Int id ∷ columns) ∷ rows) (put_row (Int id ∷ columns) rows) (put_permutes (Int id ∷ columns) rows free) (refl, numbered)
@@ -57,9 +52,10 @@ module _ {X : Type 0} (e : X → X → Bool) (test : X → Bool) where
   told same [] d = tt
   told same (y ∷ ys) d =
       let kept = filter test ys in
-      let apart = IsDistinct-head e y ys d in
-      (first_told same y kept (all-filter (λ z. e y z ≡ false) test ys apart) (test y),
-        both_all (λ z. e y z ≡ false) (λ z. list_any (e z) kept ≡ test z) (λ z. list_any (e z) (cond (test y) (y ∷ kept) kept) ≡ test z) (λ z p q. later_told same y z kept (test y) p q) ys apart (told same ys (IsDistinct-tail e y ys d)))
+      let apart = IsDistinct-head e y ys d in (
+        first_told same y kept (all-filter (λ z. e y z ≡ false) test ys apart) (test y),
+        both_all (λ z. e y z ≡ false) (λ z. list_any (e z) kept ≡ test z) (λ z. list_any (e z) (cond (test y) (y ∷ kept) kept) ≡ test z) (λ z p q. later_told same y z kept (test y) p q) ys apart (told same ys (IsDistinct-tail e y ys d)),
+      )
 
 abbrev tied : Row → Row → Bool
 tied a b = is_eq (value_cmp (rowid a) (rowid b))

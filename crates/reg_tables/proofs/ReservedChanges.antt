@@ -22,7 +22,8 @@ use Rattle.reg_tables.specs.Columns.{reserved_columns}
 use Rattle.reg_tables.specs.Stands.{HaveOwnRowids, StandReserved, Stands}
 use Rattle.reg_tables.specs.Tests.{is_text}
 use Rattle.reg_tables.proofs.AccountEntries.{same_text}
-use Rattle.reg_tables.proofs.Removed.{AreNumbered, apart_kept, removes_passing}
+use Rattle.reg_tables.proofs.Removed.{apart_kept, removes_passing}
+use Rattle.reg_tables.specs.Numbers.{AreNumbered}
 use Rattle.reg_tables.proofs.Rowids.{first_column, apart_put, any_columns, put_columns, keep_columns}
 use Rattle.reg_tables.proofs.Stays.{accounts_stay, tokens_stay, crates_stay, same_about, same_accounts, same_tokens, same_scopes, same_crates, same_owners, same_versions, same_archives}
 
@@ -57,7 +58,7 @@ module _ (reserved : finset.FinSet text_cmp) (c : List ℕ) where
       record {
         texts = filter (λ t. not (bytes_eq t c)) stands.texts;
         rows = subst (λ (rs : List Row). IsPermutation (map reserved_columns (filter (λ t. not (bytes_eq t c)) stands.texts)) (map (drop 1) rs)) (sym left)
-        (subst (λ ts. IsPermutation (map reserved_columns ts) (map (drop 1) (filter (λ r. not (is_text 1 c r)) rows))) texts kept);
+            (subst (λ ts. IsPermutation (map reserved_columns ts) (map (drop 1) (filter (λ r. not (is_text 1 c r)) rows))) texts kept);
         apart = subst HaveOwnRowids (sym left) (apart_kept _ (λ r. not (is_text 1 c r)) rows stands.apart);
         same = λ q. finset.contains-remove nat_list_cmp_total reserved c q ∙ ap (λ b. not b && finset.contains reserved q) (is_eq-slice_cmp q c) ∙ ap (λ b. not (bytes_eq q c) && b) (stands.same q)
             ∙ sym (any-filter_same (λ t. bytes_eq t q) (λ t. not (bytes_eq t c)) (not (bytes_eq q c)) (λ t h. ap not (nat_list_eq_equiv.congr t q c h)) stands.texts);
