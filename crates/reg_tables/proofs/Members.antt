@@ -1,6 +1,6 @@
 -- The elements of a list, and what passes a test among them.
 use Rattle.std.proofs.Common.{◌≡◌, ◌⊎◌, inl, inr, List, [], ◌∷◌, ◌++◌, map, Bool, true, false, cond, refl, sym, ap, subst, ◌∙◌}
-use Rattle.std.specs.Prelude.{◌||◌, ◌&&◌}
+use Rattle.std.specs.Prelude.{◌||◌}
 use Rattle.std.specs.List.{filter, list_any, list_all, AllByRecursion, IsDistinct}
 use Rattle.std.specs.List.Sorted.{IsPermutation}
 use Rattle.std.specs.Ordering.{on}
@@ -136,3 +136,16 @@ pub distinct_from_map : {X Y : Type 0} (e : Y → Y → Bool) (f : X → Y) (xs 
 unfolding IsDistinct
 distinct_from_map e f [] d = tt
 distinct_from_map e f (x ∷ xs) d = (all_from_map (λ y. e (f x) y ≡ false) f xs d.0, distinct_from_map e f xs d.1)
+
+pub map_same : {X Y : Type 0} (f g : X → Y) (xs : List X) → ((x : X) → IsIn x xs → f x ≡ g x) → map f xs ≡ map g xs
+map_same f g [] h = refl
+map_same f g (x ∷ xs) h = λ i. h x (inl refl) i ∷ map_same f g xs (λ y j. h y (inr j)) i
+
+pub filtered_passes : {X : Type 0} (p : X → Bool) (xs : List X) (x : X) → IsIn x (filter p xs) → p x ≡ true
+filtered_passes p [] x i = absurd i
+filtered_passes p (y ∷ ys) x i = split (p y) refl i (filtered_passes p ys x)
+  where
+    split : (b : Bool) → p y ≡ b → IsIn x (cond b (y ∷ filter p ys) (filter p ys)) → (IsIn x (filter p ys) → p x ≡ true) → p x ≡ true
+    split true e (inl same) rest = ap p (sym same) ∙ e
+    split true e (inr j) rest = rest j
+    split false e j rest = rest j

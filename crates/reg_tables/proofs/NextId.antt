@@ -21,21 +21,21 @@ use Rattle.reg_tables.specs.Tests.{shows}
 use Rattle.reg_tables.proofs.Standing.{same_number}
 
 -- as their ids fall
-abbrev falls : Row → Row → Ordering
+abbrev pub falls : Row → Row → Ordering
 falls a b = value_cmp (column b 0) (column a 0)
 
-falls_total : IsTotalOrder falls
+pub falls_total : IsTotalOrder falls
 falls_total = back_total (on_total (λ (r : Row). column r 0) value_cmp_total)
 
 -- the id of a row is below a number
 abbrev IsBelow : ℕ → Row → Type 0
 IsBelow top row = (n : ℕ) × (rowid row ≡ Int (pos n)) × (n < top)
 
-none_shown : (ordered : List Row) → [] ≡ map (shows (0 ∷ [])) (take 1 ordered) → ordered ≡ []
+pub none_shown : (ordered : List Row) → [] ≡ map (shows (0 ∷ [])) (take 1 ordered) → ordered ≡ []
 none_shown [] h = refl
 none_shown (r ∷ rest) h = absurd cc
 
-one_shown : (l : ℕ) (ordered : List Row) → (Int (pos l) ∷ []) ∷ [] ≡ map (shows (0 ∷ [])) (take 1 ordered) → (r : Row) × (rest : List Row) × (ordered ≡ r ∷ rest) × (column r 0 ≡ Int (pos l))
+pub one_shown : (l : ℕ) (ordered : List Row) → (Int (pos l) ∷ []) ∷ [] ≡ map (shows (0 ∷ [])) (take 1 ordered) → (r : Row) × (rest : List Row) × (ordered ≡ r ∷ rest) × (column r 0 ≡ Int (pos l))
 one_shown l [] h = absurd cc
 one_shown l (r ∷ rest) h = (r, rest, refl, cc)
 
@@ -71,7 +71,7 @@ not_above top l h = split (nat_lt l top) refl
     split false e = omega (arith, ltb-false l top e)
 
 -- what is no more than the first of what falls, and has an id, has no greater one
-no_more : (top l : ℕ) (r x : Row) → column r 0 ≡ Int (pos l) → is_gt (falls r x) ≡ false → has_rowid (pos top) x ≡ true → top ≤ l
+pub no_more : (top l : ℕ) (r x : Row) → column r 0 ≡ Int (pos l) → is_gt (falls r x) ≡ false → has_rowid (pos top) x ≡ true → top ≤ l
 no_more top l r x is up has =
     let equal = tied (value_cmp (column x 0) (Int (pos top))) has in
     let back : is_gt (value_cmp (Int (pos top)) (column x 0)) ≡ false = ap is_gt (value_cmp_total.antisymm (Int (pos top)) (column x 0) ∙ ap ordering_reverse equal) in

@@ -35,7 +35,7 @@ kept_free true id columns r rest is h = h
 kept_free false id columns r rest is h = rw is h
 
 -- where nothing has the rowid, it is free
-free_without : (id : ℤ) (columns : Row) (rows : List Row) → is_taken (without_rowid id rows) (Int id ∷ columns) ≡ false
+pub free_without : (id : ℤ) (columns : Row) (rows : List Row) → is_taken (without_rowid id rows) (Int id ∷ columns) ≡ false
 free_without id columns [] = refl
 free_without id columns (r ∷ rows) = kept_free (has_rowid id r) id columns r (without_rowid id rows) refl (free_without id columns rows)
 

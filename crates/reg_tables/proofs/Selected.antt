@@ -44,17 +44,32 @@ read_one shown columns entry same [] (Some y) h = absurd cc
 read_one shown columns entry same (x ∷ []) (Some y) h = ap (λ z. z ∷ []) (same x y (same_one h))
 read_one shown columns entry same (x ∷ z ∷ xs) (Some y) h = absurd cc
 
+row_heads : {A : Type 0} {a b : A} {xs ys : List A} → ◌≡◌ {A = List A} (a ∷ xs) (b ∷ ys) → a ≡ b
+row_heads e = cc
+
+row_tails : {A : Type 0} {a b : A} {xs ys : List A} → ◌≡◌ {A = List A} (a ∷ xs) (b ∷ ys) → xs ≡ ys
+row_tails e = cc
+
 each : {X Y : Type 0} (shown : X → Row) (columns : Y → Row) (entry : Y → X) → ((x : X) (y : Y) → shown x ≡ columns y → x ≡ entry y) → (xs : List X) (list : List Y) → map columns list ≡ map shown xs → map entry list ≡ xs
 each shown columns entry same [] [] h = refl
 each shown columns entry same (x ∷ xs) [] h = absurd cc
 each shown columns entry same [] (y ∷ list) h = absurd cc
-each shown columns entry same (x ∷ xs) (y ∷ list) h = rw (sym (same x y (sym (heads h)))) (ap (λ l. x ∷ l) (each shown columns entry same xs list (tails h)))
-  where
-    heads : {A : Type 0} {a b : A} {xs ys : List A} → ◌≡◌ {A = List A} (a ∷ xs) (b ∷ ys) → a ≡ b
-    heads e = cc
+each shown columns entry same (x ∷ xs) (y ∷ list) h = rw (sym (same x y (sym (row_heads h)))) (ap (λ l. x ∷ l) (each shown columns entry same xs list (row_tails h)))
 
-    tails : {A : Type 0} {a b : A} {xs ys : List A} → ◌≡◌ {A = List A} (a ∷ xs) (b ∷ ys) → xs ≡ ys
-    tails e = cc
+-- the same, where what is shown tells a part of the entry
+pub each_part : {X Y Z : Type 0} (shown : X → Row) (columns : Y → Row) (part : X → Z) (told : Y → Z) → ((x : X) (y : Y) → shown x ≡ columns y → part x ≡ told y) → (xs : List X) (list : List Y) → map columns list ≡ map shown xs → map told list ≡ map part xs
+each_part shown columns part told same [] [] h = refl
+each_part shown columns part told same (x ∷ xs) [] h = absurd cc
+each_part shown columns part told same [] (y ∷ list) h = absurd cc
+each_part shown columns part told same (x ∷ xs) (y ∷ list) h = rw (sym (same x y (sym (row_heads h)))) (ap (λ l. part x ∷ l) (each_part shown columns part told same xs list (row_tails h)))
+
+module _ {X : Type 0} (row : X → Row) (show : Row → Row) where
+  -- what is shown of the entries, in an order in which no two are alike
+  pub shown_in_turn : (order : Row → Row → Ordering) → IsTotalOrder order → (xs : List X) (rows out : List Row) → IsPermutation (map row xs) rows → IsAscending (λ a b. order a b ≡ Less) (map row xs) → IsInOrder order rows show out
+      → out ≡ map (λ x. show (row x)) xs
+  shown_in_turn order total xs rows out h rising found =
+      let all = sorted_unique order total (map row xs) found.ordered rising (IsPermutation-trans (map row xs) rows found.ordered h found.same) found.sorted in
+      found.shown ∙ ap (map show) all ∙ maps_twice row show xs
 
 module _ {X Y : Type 0} (row : X → Row) (show : Row → Row) (columns : Y → Row) (entry : Y → X) (same : (x : X) (y : Y) → show (row x) ≡ columns y → x ≡ entry y) where
   -- the entry that passes a test, where there is one or none
@@ -70,11 +85,7 @@ module _ {X Y : Type 0} (row : X → Row) (show : Row → Row) (columns : Y → 
   pub selected_in_order : (order : Row → Row → Ordering) → IsTotalOrder order → (xs : List X) (rows : List Row) (list : List Y) → IsPermutation (map row xs) rows → IsAscending (λ a b. order a b ≡ Less) (map row xs)
       → IsInOrder order rows show (map columns list) → map entry list ≡ xs
   selected_in_order order total xs rows list h rising found =
-      let all = sorted_unique order total (map row xs) found.ordered rising (IsPermutation-trans (map row xs) rows found.ordered h found.same) found.sorted in
-      read_all xs list (found.shown ∙ ap (map show) all ∙ maps_twice row show xs)
-    where
-      read_all : (xs : List X) (list : List Y) → map columns list ≡ map (λ x. show (row x)) xs → map entry list ≡ xs
-      read_all xs list = each (λ x. show (row x)) columns entry same xs list
+      each (λ x. show (row x)) columns entry same xs list (shown_in_turn row show order total xs rows (map columns list) h rising found)
 
 pub column_total : (place : ℕ) → IsTotalOrder (by_column place)
 column_total place = on_total (λ (r : Row). column r place) value_cmp_total

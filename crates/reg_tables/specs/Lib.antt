@@ -1,4 +1,5 @@
 pub mod AccountRecords
+pub mod Additions
 pub mod Archives
 pub mod Bases
 pub mod Columns

@@ -2,5 +2,9 @@
 
 mod accounts;
 mod crate_lists;
+mod crates;
 mod owners;
 mod reserved;
+mod tokens;
+
+pub use crates::NewVersion;

@@ -16,6 +16,13 @@ mod tokens;
 mod versions;
 mod work;
 
+pub use accounts::Account;
+pub use calls::NewVersion;
+pub use crates::Crate;
+pub use owners::{Owner, Ownership};
 pub use reg_schema::MakeFault;
+pub use scopes::Scope;
 pub use tables::Tables;
+pub use tokens::{Token, TokenRow};
+pub use versions::Version;
 pub use work::{StoreFault, Work};

@@ -20,7 +20,7 @@ use sqlite::{Alter, Connection, Error};
 use std::alloc::Global;
 
 // One more than the greatest id; none where 32 bits hold no more.
-fn next_id(last: Option<u32>) -> Result<u32, Error>
+pub(crate) fn next_id(last: Option<u32>) -> Result<u32, Error>
     ensures { IfOk result (λ id. IsNext last id) }
 {
     match last {

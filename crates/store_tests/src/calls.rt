@@ -1,0 +1,66 @@
+//! Typed calls in transactions, each with ample memory.
+
+use reg_line::{Digest, digest_of};
+use reg_names::{canon, parse_name};
+use reg_tables::{NewVersion, StoreFault, Tables};
+use sqlite::Connection;
+use std::test::Fail;
+
+const BASE: &str = "https://index.example";
+
+#[test]
+fn accounts(rt: HostRuntime) -> Result<(), Fail> {
+    let alloc = rt.alloc();
+    let made = Tables::make(Connection::open_in_memory(alloc)?, BASE);
+    assert!(rt; made.is_ok());
+    let Ok(mut tables) = made else {
+        return Ok(());
+    };
+    let mut work = tables.work()?;
+    assert_eq!(rt; work.add_account("ada", Some("Ada"))?, 1);
+    assert_eq!(rt; work.add_account("bob", None)?, 2);
+    work.set_enabled(2, false)?;
+    assert!(rt; work.account_by_login("carol")?.is_none());
+    work.commit()?;
+    let mut work = tables.work()?;
+    let bob = work.account_by_login("bob")?;
+    assert!(rt; bob.is_some_and(|bob| bob.id == 2 && bob.name.is_none() && !bob.enabled));
+    let all = work.all_accounts(alloc)?;
+    assert_eq!(rt; all.len(), 2);
+    assert_eq!(rt; all[0].login.as_str(), "ada");
+    Ok(())
+}
+
+#[test]
+fn a_taken_login(rt: HostRuntime) -> Result<(), Fail> {
+    let alloc = rt.alloc();
+    let made = Tables::make(Connection::open_in_memory(alloc)?, BASE);
+    assert!(rt; made.is_ok());
+    let Ok(mut tables) = made else {
+        return Ok(());
+    };
+    let mut work = tables.work()?;
+    assert_eq!(rt; work.add_account("ada", None)?, 1);
+    assert_eq!(rt; work.add_account("ada", None), Err(StoreFault));
+    assert_eq!(rt; work.add_account("bob", None), Err(StoreFault));
+    assert_eq!(rt; work.commit(), Err(StoreFault));
+    let mut work = tables.work()?;
+    assert!(rt; work.all_accounts(alloc)?.is_empty());
+    Ok(())
+}
+
+#[test]
+fn a_dropped_transaction(rt: HostRuntime) -> Result<(), Fail> {
+    let alloc = rt.alloc();
+    let made = Tables::make(Connection::open_in_memory(alloc)?, BASE);
+    assert!(rt; made.is_ok());
+    let Ok(mut tables) = made else {
+        return Ok(());
+    };
+    let mut work = tables.work()?;
+    assert_eq!(rt; work.add_account("ada", None)?, 1);
+    drop(work);
+    let mut work = tables.work()?;
+    assert!(rt; work.all_accounts(alloc)?.is_empty());
+    Ok(())
+}
