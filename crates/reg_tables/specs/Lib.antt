@@ -7,6 +7,7 @@ pub mod CrateRecords
 pub mod Entries
 pub mod Greatest
 pub mod Ids
+pub mod Numbers
 pub mod OwnerEntries
 pub mod OwnerRecords
 pub mod Owners

@@ -11,11 +11,10 @@ ghost use Rattle.reg_tables.specs.Entries.{shown_version, version_shown};
 ghost use Rattle.reg_tables.specs.Stands.{IsCrate, Stands};
 ghost use Rattle.reg_tables.specs.Works.{IsAtWork, IsCall, seen};
 
-use crate::crates;
 use crate::crates::Crate;
-use crate::versions;
 use crate::versions::Version;
 use crate::work::{StoreFault, Work};
+use crate::{crates, versions};
 use reg_names::CanonText;
 use sqlite::{Alter, Connection, Error};
 use std::alloc::Global;
@@ -63,11 +62,7 @@ impl<S: Alter> Work<'_, S> {
     }
 
     /// The versions of the crate with this id, oldest first.
-    pub fn versions_of(
-        &mut self,
-        alloc: Global,
-        crate_id: u32,
-    ) -> Result<Vec<Version>, StoreFault>
+    pub fn versions_of(&mut self, alloc: Global, crate_id: u32) -> Result<Vec<Version>, StoreFault>
         requires { IsAtWork S.Store self.old }
         ensures found { HasCleanDisk (seen S.Store self.new) → IfOk result (λ list. (s : _) → (name : _) → IsCrate (seen S.Store self.old).now.trees crate_id name → Stands s (seen S.Store self.old).now.trees → map shown_version list.items ≡ map (version_shown s.yanked) (versions s name)) }
         ensures same { HasCleanDisk (seen S.Store self.new) → OnOk result (IsUnchanged (seen S.Store self.old) (seen S.Store self.new)) }
