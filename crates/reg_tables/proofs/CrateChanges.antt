@@ -23,10 +23,11 @@ use Rattle.reg_model.proofs.Lists.{not_true, true_not_false, or_right, or_left, 
 use Rattle.reg_tables.specs.Additions.{AddsCrate, AddsVersion}
 use Rattle.reg_tables.specs.Columns.{owner_columns, version_row}
 use Rattle.reg_tables.specs.Stands.{StoredCrate, StoredOwner, StoredVersion, row_of_crate, row_of_version, row_of_archive, columns_of_owner, StandCrates, HaveOwnRowids, IsCrate, is_of, is_owned}
-use Rattle.reg_tables.proofs.CrateLemmas.{pushed, still_apart, text_itself, below_other, above_other, same_owner, other_owner, is_crate, is_published, version_of}
+use Rattle.reg_tables.proofs.CrateLemmas.{pushed, text_itself, below_other, above_other, same_owner, other_owner, is_crate, is_published, version_of}
 use Rattle.reg_tables.proofs.Members.{IsIn, any_in, all_in, in_any, none_in, each_in, in_each, in_last, map_in}
 use Rattle.reg_tables.proofs.Permutes.{put_permutes}
 use Rattle.reg_tables.proofs.Rising.{above, rises_on}
+use Rattle.reg_tables.proofs.Rowids.{own_put}
 
 -- a version that is added, behind all that are there
 module _ (yanked : finset.FinSet mark_cmp) (versions : List StoredVersion) (of_crate : ℕ) (p : Publication) (old new : Trees) (adds : AddsVersion of_crate p old new) where
@@ -161,7 +162,7 @@ module _ (publications : List Publication) (held : finset.FinSet owner_cmp) (yan
         owner_rows = subst (λ (rows : List Row). IsPermutation (owner_columns id owner ∷ map columns_of_owner stands.owners) (map (drop 1) rows)) (sym e9) owner_rows;
         version_rows = versions_after yanked stands.versions id p mid new version unmarked version_rows;
         archive_rows = archives_after yanked stands.versions id p mid new version archive_rows;
-        apart = subst HaveOwnRowids (sym (e9 ∙ crate.owners)) (still_apart owner_row (old 9) crate.free stands.apart);
+        apart = subst HaveOwnRowids (sym (e9 ∙ crate.owners)) (own_put crate.rowid (owner_columns id owner) (old 9) crate.free stands.apart);
         of_owners = and_from _ _ (or_left _ _ (eq-eqb id id refl)) (all_so (λ o. list_any (λ c. c.0 == o.0) stands.crates) (λ o. list_any (λ c. c.0 == o.0) crates) (λ o h. or_right (id == o.0) _ h) stands.owners stands.of_owners);
         pairs = pairs_after;
         ids = ids_after;

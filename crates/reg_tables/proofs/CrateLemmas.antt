@@ -1,29 +1,26 @@
 -- What the stored crates and versions say of one another.
 use Rattle.std.proofs.Common.{◌≡◌, ◌==◌, ℕ, ◌<◌, pos, List, [], ◌∷◌, ◌++◌, map, Bool, true, false, inl, refl, sym, ap, subst, ◌∙◌, arith}
 use Rattle.std.specs.Prelude.{nat_eq}
-use Rattle.std.specs.List.{list_any, AllByRecursion, IsDistinct}
+use Rattle.std.specs.List.{list_any, IsDistinct}
 use Rattle.std.specs.List.Sorted.{IsPermutation}
-use Rattle.std.specs.Ordering.{is_eq, on, eq_by_cmp}
-use Rattle.std.specs.Cmp.{eq_by_cmp_equiv, nat_eq_equiv}
+use Rattle.std.specs.Ordering.{on, eq_by_cmp}
+use Rattle.std.specs.Cmp.{nat_eq_equiv}
 use Rattle.std.specs.Cmp.Lexicographic.{nat_list_eq_equiv}
 use Rattle.std.specs.Str.{bytes_eq}
 use Rattle.std.specs.FinSet as finset
 use Rattle.std.proofs.lemmas.Bool.{and_parts, eq-eqb, eqb-true, ne_eqb}
 use Rattle.std.proofs.lemmas.List.Sorted.{IsPermutation-cons, IsPermutation-map, IsPermutation-sym, IsPermutation-to_front, IsPermutation-trans}
-use Rattle.std.proofs.lemmas.Map.Keys.{IsDistinct-cons, IsDistinct-IsPermutation}
 use Rattle.std.proofs.lemmas.Slice.Eq.{bytes_eq-Decides}
-use Rattle.sqlite.specs.Order.{Row, value_cmp}
+use Rattle.sqlite.specs.Order.{Row}
 use Rattle.sqlite.specs.Tree.{Trees}
-use Rattle.sqlite_rules.specs.Edit.{is_taken}
-use Rattle.sqlite_trees.specs.Tree.{rowid, has_rowid, put_row}
-use Rattle.sqlite_value.proofs.OrderLemmas.{value_cmp_total}
+use Rattle.sqlite_trees.specs.Tree.{has_rowid}
 use Rattle.reg_names.specs.Names.{canon}
 use Rattle.reg_model.specs.Registry.{Text, Publication, Owner, owner_cmp, mark_cmp}
 use Rattle.reg_model.proofs.Keys.{owner_total, owner_apart, same_key, ties_itself}
 use Rattle.reg_model.proofs.Lists.{not_true, true_not_false}
-use Rattle.reg_tables.specs.Stands.{StoredCrate, StoredVersion, row_of_crate, HaveOwnRowids, StandCrates, IsCrate, is_of}
-use Rattle.reg_tables.proofs.Members.{IsIn, any_in, all_in, in_any, in_each, in_filter, in_map, in_permuted, map_in, one_of, one_passes}
-use Rattle.reg_tables.proofs.Permutes.{one_row, put_permutes}
+use Rattle.reg_tables.specs.Stands.{StoredCrate, StoredVersion, row_of_crate, StandCrates, IsCrate, is_of}
+use Rattle.reg_tables.proofs.Members.{IsIn, any_in, all_in, in_filter, in_map, in_permuted, map_in, one_of, one_passes}
+use Rattle.reg_tables.proofs.Permutes.{one_row}
 use Rattle.reg_tables.proofs.Standing.{same_number}
 
 -- equal texts and numbers, from their tests
@@ -47,17 +44,6 @@ pub pushed : {X : Type 0} (row : X → Row) (xs : List X) (x : X) (rows after : 
 pushed row xs x rows after h put =
     IsPermutation-trans _ (map row (x ∷ xs)) _ (IsPermutation-map row (xs ++ x ∷ []) (x ∷ xs) (IsPermutation-to_front xs x))
     (IsPermutation-trans _ (row x ∷ rows) _ (IsPermutation-cons (row x) (map row xs) rows h) put)
-
--- a row at a free rowid leaves rowids apart
-pub still_apart : (row : Row) (rows : List Row) → is_taken rows row ≡ false → HaveOwnRowids rows → HaveOwnRowids (put_row row rows)
-still_apart row rows free apart =
-    let same : Row → Row → Bool = λ a b. is_eq (value_cmp (rowid a) (rowid b)) in
-    let flips : (a b : Row) → same a b ≡ same b a = λ a b. (eq_by_cmp_equiv value_cmp_total).symm (rowid a) (rowid b) in
-    let others : AllByRecursion (λ r. same row r ≡ false) rows = in_each (λ r. same row r ≡ false) rows (λ r i. flips row r ∙ not_taken rows r free i) in
-    IsDistinct-IsPermutation same flips (row ∷ rows) (put_row row rows) (put_permutes row rows free) (IsDistinct-cons same row rows others apart)
-  where
-    not_taken : (rs : List Row) (r : Row) → is_taken rs row ≡ false → IsIn r rs → is_eq (value_cmp (rowid r) (rowid row)) ≡ false
-    not_taken rs r h i = not_true _ (λ t. true_not_false _ (in_any (λ r. is_eq (value_cmp (rowid r) (rowid row))) rs r i t) h)
 
 -- owners of one crate differ by the account, and owners of two crates by the crate
 pub same_owner : (c : Text) (a b : ℕ) → eq_by_cmp owner_cmp (c, a) (c, b) ≡ (b == a)

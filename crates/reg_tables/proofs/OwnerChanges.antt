@@ -32,8 +32,8 @@ use Rattle.reg_tables.specs.Tests.{is_owner}
 use Rattle.reg_tables.proofs.Alike.{alike}
 use Rattle.reg_tables.proofs.CrateEntries.{crate_is_in}
 use Rattle.reg_tables.proofs.Members.{IsIn, each_in, in_any, in_all, all_in, in_filter}
-use Rattle.reg_tables.proofs.Removed.{AreNumbered, apart_kept, removes_passing}
-use Rattle.reg_tables.proofs.Rowids.{first_column, second_column, apart_put, any_columns, put_columns, keep_columns}
+use Rattle.reg_tables.proofs.Removed.{apart_kept, own_kept, removes_passing}
+use Rattle.reg_tables.proofs.Rowids.{first_column, second_column, own_put, any_columns, put_columns, keep_columns}
 use Rattle.reg_tables.proofs.Standing.{same_number}
 use Rattle.reg_tables.proofs.Stays.{accounts_stay, tokens_stay, reserved_stay, same_about, same_accounts, same_tokens, same_scopes, same_crates, same_versions, same_archives, same_reserved}
 
@@ -127,7 +127,7 @@ module _ (publications : List Publication) (held : finset.FinSet owner_cmp) (yan
         owner_rows = subst (λ (rs : List Row). IsPermutation (map columns_of_owner (o ∷ stands.owners)) (map (drop 1) rs)) (sym adds.becomes.rows_are) (put_columns columns_of_owner stands.owners rows stands.owner_rows o rowid adds.fresh);
         version_rows = subst (IsPermutation (map (row_of_version yanked) stands.versions)) (sym (same_versions 9 old.now.trees new.now.trees others (λ e. cc))) stands.version_rows;
         archive_rows = subst (IsPermutation (map row_of_archive stands.versions)) (sym (same_archives 9 old.now.trees new.now.trees others (λ e. cc))) stands.archive_rows;
-        apart = subst HaveOwnRowids (sym adds.becomes.rows_are) (apart_put (Int rowid ∷ columns_of_owner o) rows adds.fresh stands.apart);
+        apart = subst HaveOwnRowids (sym adds.becomes.rows_are) (own_put rowid (columns_of_owner o) rows adds.fresh stands.apart);
         of_owners = and_from _ _ (in_any (λ c. c.0 == id) stands.crates (id, name) there (nat_eq_equiv.refl id)) stands.of_owners;
         pairs = IsDistinct-cons (λ a b. a.0 == b.0 && a.1 == b.1) o stands.owners (none_owned publications held yanked old.now.trees stands id name is_crate account stands.owners none) stands.pairs;
         ids = stands.ids;
@@ -139,12 +139,12 @@ module _ (publications : List Publication) (held : finset.FinSet owner_cmp) (yan
         owned = more_owned publications held yanked old.now.trees stands id name is_crate account stands.owners stands.crates same stands.owned;
       }
 
-  pub removes_owner : AreNumbered (old.now.trees 9) → Removes 9 (is_owner id account) old new → StandCrates publications (finset.remove held (canon name, account)) yanked new.now.trees
-  removes_owner numbered removed =
+  pub removes_owner : Removes 9 (is_owner id account) old new → StandCrates publications (finset.remove held (canon name, account)) yanked new.now.trees
+  removes_owner removed =
       let rows = old.now.trees 9 in
       let others = removed.others in
       let stays : StoredOwner → Bool = λ o. not (is_pair id account o) in
-      let left : new.now.trees 9 ≡ filter (λ r. not (is_owner id account r)) rows = removed.rows_are ∙ removes_passing (is_owner id account) rows numbered stands.apart in
+      let left : new.now.trees 9 ≡ filter (λ r. not (is_owner id account r)) rows = removed.rows_are ∙ removes_passing (is_owner id account) rows stands.apart in
       let kept = keep_columns columns_of_owner stands.owners rows stands.owner_rows (λ r. not (is_owner id account r)) (λ columns. not (has_pair id account columns)) (λ r. ap not (behind id account r)) in
       let pairs = same_filter (λ o. not (has_pair id account (columns_of_owner o))) stays (λ o. ap not (pair_columns id account o)) stands.owners in
       record {
@@ -156,7 +156,7 @@ module _ (publications : List Publication) (held : finset.FinSet owner_cmp) (yan
             (subst (λ os. IsPermutation (map columns_of_owner os) (map (drop 1) (filter (λ r. not (is_owner id account r)) rows))) pairs kept);
         version_rows = subst (IsPermutation (map (row_of_version yanked) stands.versions)) (sym (same_versions 9 old.now.trees new.now.trees others (λ e. cc))) stands.version_rows;
         archive_rows = subst (IsPermutation (map row_of_archive stands.versions)) (sym (same_archives 9 old.now.trees new.now.trees others (λ e. cc))) stands.archive_rows;
-        apart = subst HaveOwnRowids (sym left) (apart_kept _ (λ r. not (is_owner id account r)) rows stands.apart);
+        apart = subst HaveOwnRowids (sym left) (own_kept (λ r. not (is_owner id account r)) rows stands.apart);
         of_owners = in_all (λ o. list_any (λ c. c.0 == o.0) stands.crates) (filter stays stands.owners) (λ o i. all_in (λ o. list_any (λ c. c.0 == o.0) stands.crates) stands.owners o stands.of_owners (in_filter stays stands.owners o i));
         pairs = apart_kept (λ a b. a.0 == b.0 && a.1 == b.1) stays stands.owners stands.pairs;
         ids = stands.ids;

@@ -1,34 +1,19 @@
 -- What DELETE leaves of rows whose rowids are numbers, each its own: the rows that do not pass its test.
-use Rattle.std.proofs.Common.{◌≡◌, ℤ, List, [], ◌∷◌, Bool, true, false, ◌||◌, not, cond, refl, sym, ap, ◌∙◌}
+use Rattle.std.proofs.Common.{◌≡◌, List, [], ◌∷◌, Bool, true, false, ◌||◌, not, cond, refl, sym, ap, ◌∙◌}
 use Rattle.std.specs.List.{filter, list_any, AllByRecursion, IsDistinct}
 use Rattle.std.specs.Ordering.{is_eq}
 use Rattle.std.specs.Cmp.{IsEquivalence}
 use Rattle.std.proofs.lemmas.Bool.{or_from}
-use Rattle.std.proofs.lemmas.Cmp.{eq_by_cmp_equiv}
 use Rattle.std.proofs.lemmas.Map.Keys.{IsDistinct-cons, IsDistinct-head, IsDistinct-tail}
-use Rattle.sqlite.specs.declared.types.Value.TheVariants.{Int}
 use Rattle.sqlite.specs.Order.{Row, value_cmp}
-use Rattle.sqlite_rules.specs.Edit.{id_in, is_taken}
-use Rattle.sqlite_trees.specs.Tree.{rowid, has_rowid, put_row}
-use Rattle.sqlite_trees.proofs.ListLemmas.{all-filter, all-permutation, all_weaker, filter_same}
-use Rattle.sqlite_value.proofs.OrderLemmas.{value_cmp_total}
+use Rattle.sqlite_trees.specs.Tree.{rowid}
+use Rattle.sqlite_trees.proofs.ListLemmas.{all-filter, all_weaker, filter_same}
 use Rattle.reg_schema.specs.Changes.{is_at_one_of}
 use Rattle.reg_schema.proofs.Queries.{same_filter}
+use Rattle.reg_tables.specs.Numbers.{IsNumbered, AreNumbered}
 use Rattle.reg_tables.specs.Stands.{HaveOwnRowids}
 use Rattle.reg_tables.proofs.Alike.{both_all}
-use Rattle.reg_tables.proofs.Permutes.{put_permutes}
-
-abbrev IsNumbered : Row → Type 0
-IsNumbered r = rowid r ≡ Int (id_in (rowid r))
-
-abbrev pub AreNumbered : List Row → Type 0
-AreNumbered = AllByRecursion IsNumbered
-
-pub numbered_put : (id : ℤ) (columns : Row) (rows : List Row) → is_taken rows (Int id ∷ columns) ≡ false → AreNumbered rows → AreNumbered (put_row (Int id ∷ columns) rows)
-numbered_put id columns rows free numbered = all-permutation IsNumbered ((Int id ∷ columns) ∷ rows) (put_row (Int id ∷ columns) rows) (put_permutes (Int id ∷ columns) rows free) (refl, numbered)
-
-pub numbered_kept : (test : Row → Bool) (rows : List Row) → AreNumbered rows → AreNumbered (filter test rows)
-numbered_kept test rows numbered = all-filter IsNumbered test rows numbered
+use Rattle.reg_tables.proofs.Rowids.{tied, values_tie}
 
 module _ {X : Type 0} (e : X → X → Bool) (test : X → Bool) where
   pub apart_kept : (xs : List X) → IsDistinct e xs → IsDistinct e (filter test xs)
@@ -62,12 +47,6 @@ module _ {X : Type 0} (e : X → X → Bool) (test : X → Bool) where
         both_all (λ z. e y z ≡ false) (λ z. list_any (e z) kept ≡ test z) (λ z. list_any (e z) (cond (test y) (y ∷ kept) kept) ≡ test z) (λ z p q. later_told same y z kept (test y) p q) ys apart (told same ys (IsDistinct-tail e y ys d)),
       )
 
-abbrev tied : Row → Row → Bool
-tied a b = is_eq (value_cmp (rowid a) (rowid b))
-
-values_tie : IsEquivalence (λ a b. is_eq (value_cmp a b))
-values_tie = eq_by_cmp_equiv value_cmp_total
-
 rows_tie : IsEquivalence tied
 rows_tie = record { refl = λ a. values_tie.refl (rowid a); symm = λ a b. values_tie.symm (rowid a) (rowid b); congr = λ a b c. values_tie.congr (rowid a) (rowid b) (rowid c) }
 
@@ -75,8 +54,12 @@ at_one : (row : Row) (rows : List Row) → AreNumbered rows → is_at_one_of row
 at_one row [] numbered = refl
 at_one row (r ∷ rows) numbered = ap (λ v. is_eq (value_cmp (rowid row) v) || is_at_one_of rows row) (sym numbered.0) ∙ ap (λ b. tied row r || b) (at_one row rows numbered.1)
 
-pub removes_passing : (test : Row → Bool) (rows : List Row) → AreNumbered rows → HaveOwnRowids rows → filter (λ row. not (is_at_one_of (filter test rows) row)) rows ≡ filter (λ row. not (test row)) rows
-removes_passing test rows numbered apart =
+-- rows that are left keep their rowids
+pub own_kept : (test : Row → Bool) (rows : List Row) → HaveOwnRowids rows → HaveOwnRowids (filter test rows)
+own_kept test rows own = (apart_kept tied test rows own.0, all-filter IsNumbered test rows own.1)
+
+pub removes_passing : (test : Row → Bool) (rows : List Row) → HaveOwnRowids rows → filter (λ row. not (is_at_one_of (filter test rows) row)) rows ≡ filter (λ row. not (test row)) rows
+removes_passing test rows own =
     let passing = filter test rows in
-    same_filter (λ row. not (is_at_one_of passing row)) (λ row. not (list_any (tied row) passing)) (λ row. ap not (at_one row passing (numbered_kept test rows numbered))) rows
-    ∙ filter_same (λ row. not (list_any (tied row) passing)) (λ row. not (test row)) rows (all_weaker (λ row. list_any (tied row) passing ≡ test row) (λ row. not (list_any (tied row) passing) ≡ not (test row)) (λ row h. ap not h) rows (told tied test rows_tie rows apart))
+    same_filter (λ row. not (is_at_one_of passing row)) (λ row. not (list_any (tied row) passing)) (λ row. ap not (at_one row passing (own_kept test rows own).1)) rows
+    ∙ filter_same (λ row. not (list_any (tied row) passing)) (λ row. not (test row)) rows (all_weaker (λ row. list_any (tied row) passing ≡ test row) (λ row. not (list_any (tied row) passing) ≡ not (test row)) (λ row h. ap not h) rows (told tied test rows_tie rows own.0))

@@ -9,7 +9,7 @@ use Rattle.std.specs.Cmp.Lexicographic.{nat_list_cmp_total, nat_list_eq_equiv}
 use Rattle.std.specs.FinSet as finset
 use Rattle.std.proofs.lemmas.Map.Text.{is_eq-slice_cmp}
 use Rattle.std.proofs.lemmas.Map.Views.{any-filter_same}
-use Rattle.sqlite.specs.declared.types.Value.TheVariants.{Int, Text}
+use Rattle.sqlite.specs.declared.types.Value.TheVariants.{Text}
 use Rattle.sqlite.specs.Order.{Row, column, value_cmp}
 use Rattle.sqlite.specs.State.{State}
 use Rattle.sqlite.specs.Tree.{Trees}
@@ -22,8 +22,8 @@ use Rattle.reg_tables.specs.Columns.{reserved_columns}
 use Rattle.reg_tables.specs.Stands.{HaveOwnRowids, StandReserved, Stands}
 use Rattle.reg_tables.specs.Tests.{is_text}
 use Rattle.reg_tables.proofs.AccountEntries.{same_text}
-use Rattle.reg_tables.proofs.Removed.{AreNumbered, apart_kept, removes_passing}
-use Rattle.reg_tables.proofs.Rowids.{first_column, apart_put, any_columns, put_columns, keep_columns}
+use Rattle.reg_tables.proofs.Removed.{own_kept, removes_passing}
+use Rattle.reg_tables.proofs.Rowids.{first_column, own_put, any_columns, put_columns, keep_columns}
 use Rattle.reg_tables.proofs.Stays.{accounts_stay, tokens_stay, crates_stay, same_about, same_accounts, same_tokens, same_scopes, same_crates, same_owners, same_versions, same_archives}
 
 -- the test of a row, as one of its columns
@@ -44,21 +44,21 @@ module _ (reserved : finset.FinSet text_cmp) (c : List ℕ) where
       record {
         texts = c ∷ stands.texts;
         rows = subst (λ (rs : List Row). IsPermutation (map reserved_columns (c ∷ stands.texts)) (map (drop 1) rs)) (sym adds.becomes.rows_are) (put_columns reserved_columns stands.texts rows stands.rows c id adds.fresh);
-        apart = subst HaveOwnRowids (sym adds.becomes.rows_are) (apart_put (Int id ∷ reserved_columns c) rows adds.fresh stands.apart);
+        apart = subst HaveOwnRowids (sym adds.becomes.rows_are) (own_put id (reserved_columns c) rows adds.fresh stands.apart);
         same = λ q. finset.contains-insert nat_list_cmp_total reserved c q ∙ ap (λ b. b || finset.contains reserved q) (is_eq-slice_cmp q c ∙ nat_list_eq_equiv.symm q c) ∙ ap (λ b. bytes_eq c q || b) (stands.same q);
       }
 
-  pub removes_reserved : (old new : State) → StandReserved reserved old.now.trees → AreNumbered (old.now.trees 14) → Removes 14 (is_text 1 c) old new → StandReserved (finset.remove reserved c) new.now.trees
-  removes_reserved old new stands numbered removed =
+  pub removes_reserved : (old new : State) → StandReserved reserved old.now.trees → Removes 14 (is_text 1 c) old new → StandReserved (finset.remove reserved c) new.now.trees
+  removes_reserved old new stands removed =
       let rows = old.now.trees 14 in
-      let left : new.now.trees 14 ≡ filter (λ r. not (is_text 1 c r)) rows = removed.rows_are ∙ removes_passing (is_text 1 c) rows numbered stands.apart in
+      let left : new.now.trees 14 ≡ filter (λ r. not (is_text 1 c r)) rows = removed.rows_are ∙ removes_passing (is_text 1 c) rows stands.apart in
       let kept = keep_columns reserved_columns stands.texts rows stands.rows (λ r. not (is_text 1 c r)) (λ columns. not (has_canon c columns)) (λ r. ap not (behind c r)) in
       let texts = same_filter (λ t. not (has_canon c (reserved_columns t))) (λ t. not (bytes_eq t c)) (λ t. ap not (same_text t c)) stands.texts in
       record {
         texts = filter (λ t. not (bytes_eq t c)) stands.texts;
         rows = subst (λ (rs : List Row). IsPermutation (map reserved_columns (filter (λ t. not (bytes_eq t c)) stands.texts)) (map (drop 1) rs)) (sym left)
             (subst (λ ts. IsPermutation (map reserved_columns ts) (map (drop 1) (filter (λ r. not (is_text 1 c r)) rows))) texts kept);
-        apart = subst HaveOwnRowids (sym left) (apart_kept _ (λ r. not (is_text 1 c r)) rows stands.apart);
+        apart = subst HaveOwnRowids (sym left) (own_kept (λ r. not (is_text 1 c r)) rows stands.apart);
         same = λ q. finset.contains-remove nat_list_cmp_total reserved c q ∙ ap (λ b. not b && finset.contains reserved q) (is_eq-slice_cmp q c) ∙ ap (λ b. not (bytes_eq q c) && b) (stands.same q)
             ∙ sym (any-filter_same (λ t. bytes_eq t q) (λ t. not (bytes_eq t c)) (not (bytes_eq q c)) (λ t h. ap not (nat_list_eq_equiv.congr t q c h)) stands.texts);
       }

@@ -13,10 +13,11 @@ use Rattle.sqlite.specs.declared.types.Value.TheVariants.{Int}
 use Rattle.sqlite.specs.Order.{Row, column, value_cmp}
 use Rattle.sqlite_rules.specs.Edit.{is_taken}
 use Rattle.sqlite_trees.specs.Tree.{rowid, put_row}
-use Rattle.sqlite_trees.proofs.ListLemmas.{IsPermutation-filter}
+use Rattle.sqlite_trees.proofs.ListLemmas.{IsPermutation-filter, all-permutation}
 use Rattle.sqlite_value.proofs.OrderLemmas.{value_cmp_total}
 use Rattle.reg_model.proofs.Lists.{list_any_map, any_same}
 use Rattle.reg_schema.proofs.Queries.{same_filter}
+use Rattle.reg_tables.specs.Numbers.{IsNumbered}
 use Rattle.reg_tables.specs.Stands.{HaveOwnRowids}
 use Rattle.reg_tables.proofs.Permutes.{put_permutes, filter_map}
 
@@ -29,10 +30,10 @@ second_column [] = refl
 second_column (v ∷ r) = refl
 
 -- rows with one rowid
-abbrev tied : Row → Row → Bool
+abbrev pub tied : Row → Row → Bool
 tied a b = is_eq (value_cmp (rowid a) (rowid b))
 
-values_tie : IsEquivalence (λ a b. is_eq (value_cmp a b))
+pub values_tie : IsEquivalence (λ a b. is_eq (value_cmp a b))
 values_tie = eq_by_cmp_equiv value_cmp_total
 
 tied_back : (a b : Row) → tied a b ≡ tied b a
@@ -45,9 +46,13 @@ free_of new (r ∷ rows) free =
     (tied_back new r ∙ parts.0, free_of new rows parts.1)
 
 -- a row at a free rowid leaves each row its own
-pub apart_put : (new : Row) (rows : List Row) → is_taken rows new ≡ false → HaveOwnRowids rows → HaveOwnRowids (put_row new rows)
-apart_put new rows free apart =
-    IsDistinct-IsPermutation tied tied_back (new ∷ rows) (put_row new rows) (put_permutes new rows free) (IsDistinct-cons tied new rows (free_of new rows free) apart)
+pub own_put : (id : ℤ) (columns : Row) (rows : List Row) → is_taken rows (Int id ∷ columns) ≡ false → HaveOwnRowids rows → HaveOwnRowids (put_row (Int id ∷ columns) rows)
+own_put id columns rows free own =
+    let new : Row = Int id ∷ columns in
+    let put = put_permutes new rows free in (
+      IsDistinct-IsPermutation tied tied_back (new ∷ rows) (put_row new rows) put (IsDistinct-cons tied new rows (free_of new rows free) own.0),
+      all-permutation IsNumbered (new ∷ rows) (put_row new rows) put (refl, own.1),
+    )
 
 module _ {X : Type 0} (columns : X → Row) (xs : List X) (rows : List Row) (stand : IsPermutation (map columns xs) (map (drop 1) rows)) where
   -- whether a row passes a test of its columns

@@ -8,6 +8,7 @@ pub mod Entries
 pub mod FoundTokens
 pub mod Greatest
 pub mod Ids
+pub mod Numbers
 pub mod OwnerEntries
 pub mod OwnerRecords
 pub mod Owners

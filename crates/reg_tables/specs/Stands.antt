@@ -13,6 +13,7 @@ use Rattle.reg_names.specs.Ranges.{range_of}
 use Rattle.reg_versions.specs.Versions.{release_key_of}
 use Rattle.reg_model.specs.Registry.{Text, Account, Token, Publication, Registry, text_cmp, owner_cmp, mark_cmp}
 use Rattle.reg_schema.specs.States.{about_columns}
+use Rattle.reg_tables.specs.Numbers.{AreNumbered}
 use Rattle.reg_tables.specs.Columns.{account_row, token_row, scope_columns, crate_row, owner_columns, version_row, archive_row, reserved_columns}
 
 -- accounts and tokens, each behind its id
@@ -58,9 +59,9 @@ row_of_version yanked v =
 abbrev pub row_of_archive : StoredVersion → Row
 row_of_archive v = archive_row v.id v.publication.archive
 
--- no two rows have one rowid
+-- no two rows have one rowid, and each rowid is a number, as DELETE reads it
 abbrev pub HaveOwnRowids : List Row → Type 0
-HaveOwnRowids = IsDistinct (λ a b. is_eq (value_cmp (rowid a) (rowid b)))
+HaveOwnRowids rows = IsDistinct (λ a b. is_eq (value_cmp (rowid a) (rowid b))) rows × AreNumbered rows
 
 pub record StandAccounts (accounts : List Account) (db : Trees) : Type 0 where
   pub rows : IsPermutation (map row_of_account (enumerate_from 1 accounts)) (db 1)

@@ -135,6 +135,10 @@ fn last_owner_in<S: Alter>(
     let owners = work.owners_of(alloc, 1)?;
     assert_eq!(rt; owners.len(), 2);
     assert!(rt; owners[0].login.as_str() == "ada" && owners[1].id == 2);
+    work.remove_owner(1, 1)?;
+    let owners = work.owners_of(alloc, 1)?;
+    assert_eq!(rt; owners.len(), 1);
+    assert_eq!(rt; owners[0].login.as_str(), "bob");
     assert_eq!(rt; work.owners_of(alloc, 2)?.len(), 1);
     Ok(())
 }
@@ -162,6 +166,8 @@ fn reserved_names_in<S: Alter>(
     work.reserve(&acme)?;
     assert!(rt; work.is_reserved(&acme)?);
     assert!(rt; !work.is_reserved(&canon_of("acme2")?)?);
+    work.unreserve(&acme)?;
+    assert!(rt; !work.is_reserved(&acme)?);
     Ok(())
 }
 

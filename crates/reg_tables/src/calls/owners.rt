@@ -31,6 +31,18 @@ fn add<S: Alter>(conn: &mut Connection<S>, crate_id: u32, account: u32) -> Resul
     Ok(())
 }
 
+#[tactic(auto, using(crate::proofs::Withins::refused_fails, crate::proofs::Withins::becomes_within))]
+fn remove<S: Alter>(conn: &mut Connection<S>, crate_id: u32, account: u32) -> Result<(), Error>
+    requires { IsReady (state S.Store conn.old) }
+    ensures stands { HasCleanDisk (state S.Store conn.new) → OnOk result ((s : _) → (name : _) → IsCrate (state S.Store conn.old).now.trees crate_id name → Stands s (state S.Store conn.old).now.trees → Stands (record s { owners = finset.remove s.owners (canon name, account) }) (state S.Store conn.new).now.trees) }
+    ensures within { HasCleanDisk (state S.Store conn.new) → OnOk result (Within (state S.Store conn.old) (state S.Store conn.new)) }
+    ensures fails { HasCleanDisk (state S.Store conn.new) → OnErr result (Fails (state S.Store conn.old) (state S.Store conn.new)) }
+    ensures survives { Survives (state S.Store conn.old) (state S.Store conn.new) (λ _. ⊥) }
+{
+    owners::remove(conn, crate_id, account)?;
+    Ok(())
+}
+
 fn list<S: Alter>(
     alloc: Global,
     conn: &mut Connection<S>,
@@ -55,6 +67,24 @@ impl<S: Alter> Work<'_, S> {
             return Err(StoreFault);
         }
         match add(&mut self.tables.conn, crate_id, account) {
+            Ok(()) => Ok(()),
+            Err(_) => {
+                self.failed = true;
+                Err(StoreFault)
+            }
+        }
+    }
+
+    /// Makes an account no owner of a crate that is there.
+    pub fn remove_owner(&mut self, crate_id: u32, account: u32) -> Result<(), StoreFault>
+        requires { IsAtWork S.Store self.old }
+        ensures removed { HasCleanDisk (seen S.Store self.new) → OnOk result ((s : _) → (name : _) → IsCrate (seen S.Store self.old).now.trees crate_id name → Stands s (seen S.Store self.old).now.trees → Stands (record s { owners = finset.remove s.owners (canon name, account) }) (seen S.Store self.new).now.trees) }
+        ensures leaves { IsCall S.Store result self.old self.new }
+    {
+        if self.failed {
+            return Err(StoreFault);
+        }
+        match remove(&mut self.tables.conn, crate_id, account) {
             Ok(()) => Ok(()),
             Err(_) => {
                 self.failed = true;

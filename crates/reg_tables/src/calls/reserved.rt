@@ -28,6 +28,18 @@ fn add<S: Alter>(conn: &mut Connection<S>, canon: &str) -> Result<(), Error>
     Ok(())
 }
 
+#[tactic(auto, using(crate::proofs::Withins::refused_fails, crate::proofs::Withins::becomes_within))]
+fn free<S: Alter>(conn: &mut Connection<S>, canon: &str) -> Result<(), Error>
+    requires { IsReady (state S.Store conn.old) }
+    ensures stands { HasCleanDisk (state S.Store conn.new) → OnOk result ((s : _) → Stands s (state S.Store conn.old).now.trees → Stands (record s { reserved = finset.remove s.reserved canon.now }) (state S.Store conn.new).now.trees) }
+    ensures within { HasCleanDisk (state S.Store conn.new) → OnOk result (Within (state S.Store conn.old) (state S.Store conn.new)) }
+    ensures fails { HasCleanDisk (state S.Store conn.new) → OnErr result (Fails (state S.Store conn.old) (state S.Store conn.new)) }
+    ensures survives { Survives (state S.Store conn.old) (state S.Store conn.new) (λ _. ⊥) }
+{
+    reserved::remove(conn, canon)?;
+    Ok(())
+}
+
 fn has<S: Alter>(conn: &mut Connection<S>, canon: &str) -> Result<bool, Error>
     requires { IsReady (state S.Store conn.old) }
     ensures found { HasCleanDisk (state S.Store conn.new) → IfOk result (λ there. (s : _) → Stands s (state S.Store conn.old).now.trees → there ≡ finset.contains s.reserved canon.now) }
@@ -49,6 +61,24 @@ impl<S: Alter> Work<'_, S> {
             return Err(StoreFault);
         }
         match add(&mut self.tables.conn, canon.as_str()) {
+            Ok(()) => Ok(()),
+            Err(_) => {
+                self.failed = true;
+                Err(StoreFault)
+            }
+        }
+    }
+
+    /// Sets a reserved name free. The names that are reserved always stay so.
+    pub fn unreserve(&mut self, canon: &CanonText) -> Result<(), StoreFault>
+        requires { IsAtWork S.Store self.old }
+        ensures freed { HasCleanDisk (seen S.Store self.new) → OnOk result ((s : _) → Stands s (seen S.Store self.old).now.trees → Stands (record s { reserved = finset.remove s.reserved canon.now }) (seen S.Store self.new).now.trees) }
+        ensures leaves { IsCall S.Store result self.old self.new }
+    {
+        if self.failed {
+            return Err(StoreFault);
+        }
+        match free(&mut self.tables.conn, canon.as_str()) {
             Ok(()) => Ok(()),
             Err(_) => {
                 self.failed = true;
