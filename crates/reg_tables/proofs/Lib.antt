@@ -10,6 +10,7 @@ pub mod ArchiveQueries
 pub mod ArchiveTexts
 pub mod Binding
 pub mod CrateChanges
+pub mod CrateCounts
 pub mod CrateEntries
 pub mod CrateLemmas
 pub mod CrateNames

@@ -17,7 +17,7 @@ mod versions;
 mod work;
 
 pub use accounts::Account;
-pub use calls::NewVersion;
+pub use calls::{Counts, NewVersion};
 pub use crates::Crate;
 pub use owners::{Owner, Ownership};
 pub use reg_schema::MakeFault;
