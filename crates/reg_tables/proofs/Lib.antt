@@ -5,6 +5,7 @@ pub mod AccountQueries
 pub mod AccountTexts
 pub mod Additions
 pub mod Alike
+pub mod AllCrates
 pub mod ArchiveEntries
 pub mod ArchiveQueries
 pub mod ArchiveTexts
