@@ -45,7 +45,7 @@ passes p (y ∷ ys) x i = split (p y) refl i (passes p ys x)
     split true t (inr j) rest = rest j
     split false t j rest = rest j
 
-same_shown : (c : StoredCrate) (o : Crate) → shows (0 ∷ 2 ∷ 3 ∷ []) (row_of_crate c) ≡ crate_columns o → c ≡ entry_of_crate o
+pub same_shown : (c : StoredCrate) (o : Crate) → shows (0 ∷ 2 ∷ 3 ∷ []) (row_of_crate c) ≡ crate_columns o → c ≡ entry_of_crate o
 same_shown c o h = let id = number_is (heads h) in let name = words_are (heads (tails (tails h))) in λ i. (id i, name i)
 
 abbrev first_of : List Publication → Words → Option Words

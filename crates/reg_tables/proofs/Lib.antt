@@ -5,11 +5,13 @@ pub mod AccountQueries
 pub mod AccountTexts
 pub mod Additions
 pub mod Alike
+pub mod AllCrates
 pub mod ArchiveEntries
 pub mod ArchiveQueries
 pub mod ArchiveTexts
 pub mod Binding
 pub mod CrateChanges
+pub mod CrateCounts
 pub mod CrateEntries
 pub mod CrateLemmas
 pub mod CrateNames

@@ -50,7 +50,7 @@ row_heads e = cc
 row_tails : {A : Type 0} {a b : A} {xs ys : List A} → ◌≡◌ {A = List A} (a ∷ xs) (b ∷ ys) → xs ≡ ys
 row_tails e = cc
 
-each : {X Y : Type 0} (shown : X → Row) (columns : Y → Row) (entry : Y → X) → ((x : X) (y : Y) → shown x ≡ columns y → x ≡ entry y) → (xs : List X) (list : List Y) → map columns list ≡ map shown xs → map entry list ≡ xs
+pub each : {X Y : Type 0} (shown : X → Row) (columns : Y → Row) (entry : Y → X) → ((x : X) (y : Y) → shown x ≡ columns y → x ≡ entry y) → (xs : List X) (list : List Y) → map columns list ≡ map shown xs → map entry list ≡ xs
 each shown columns entry same [] [] h = refl
 each shown columns entry same (x ∷ xs) [] h = absurd cc
 each shown columns entry same [] (y ∷ list) h = absurd cc

@@ -1,11 +1,13 @@
 //! The calls of a transaction, each with what it is on the registry that the rows stand for.
 
 mod accounts;
+mod counts;
 mod crate_lists;
 mod crates;
 mod owners;
 mod reserved;
 mod tokens;
 
+pub use counts::Counts;
 pub use crates::NewVersion;
 pub use tokens::{TokenLists, TokenRows};

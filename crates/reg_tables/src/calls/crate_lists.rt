@@ -1,12 +1,16 @@
 //! Selections of crates and of their versions.
 
-ghost use Rattle.std.specs.Prelude.{◌≡◌, IfOk, IfSome, OnOk, OnErr, map, string_bytes};
+ghost use Rattle.std.specs.Prelude.{◌≡◌, IfOk, IfSome, OnOk, OnErr, Some, map, string_bytes};
+ghost use Rattle.std.specs.List.{AllByRecursion, list_any};
+ghost use Rattle.std.specs.List.Sorted.{IsStrictlySortedBy};
+ghost use Rattle.std.specs.Str.{bytes_eq};
 ghost use Rattle.std.specs.Option.{option_map};
 ghost use Rattle.sqlite.specs.Held.{state};
 ghost use Rattle.sqlite.specs.State.{HasCleanDisk, IsUnchanged, Survives};
 ghost use Rattle.reg_names.specs.Names.{canon};
 ghost use Rattle.reg_schema.specs.States.{IsReady, OnlyReads};
-ghost use Rattle.reg_model.specs.Crates.{first, version, versions};
+ghost use Rattle.reg_model.specs.Crates.{first, has_crate, version, versions};
+ghost use Rattle.reg_model.specs.Registry.{text_cmp};
 ghost use Rattle.reg_tables.specs.Entries.{shown_version, version_shown};
 ghost use Rattle.reg_tables.specs.Stands.{IsCrate, Stands};
 ghost use Rattle.reg_tables.specs.Works.{IsAtWork, IsCall, seen};
@@ -53,6 +57,15 @@ fn archive<S: Alter>(
     ensures survives { Survives (state S.Store conn.old) (state S.Store conn.new) (λ _. ⊥) }
 {
     archives::of_version(conn, crate_id, release_key(text), text)
+}
+
+fn all<S: Alter>(alloc: Global, conn: &mut Connection<S>) -> Result<Vec<Crate>, Error>
+    requires { IsReady (state S.Store conn.old) }
+    ensures found { HasCleanDisk (state S.Store conn.new) → IfOk result (λ list. (s : _) → Stands s (state S.Store conn.old).now.trees → AllByRecursion (λ c. (first s (string_bytes c.name) ≡ Some (string_bytes c.name)) × IsCrate (state S.Store conn.old).now.trees c.id (string_bytes c.name)) list.items × IsStrictlySortedBy text_cmp (map (λ c. canon (string_bytes c.name)) list.items) × ((t : _) → list_any (λ c. bytes_eq (canon (string_bytes c.name)) t) list.items ≡ has_crate s t)) }
+    ensures reads { HasCleanDisk (state S.Store conn.new) → OnlyReads result (state S.Store conn.old) (state S.Store conn.new) }
+    ensures survives { Survives (state S.Store conn.old) (state S.Store conn.new) (λ _. ⊥) }
+{
+    crates::all(alloc, conn)
 }
 
 impl<S: Alter> Work<'_, S> {
@@ -106,6 +119,25 @@ impl<S: Alter> Work<'_, S> {
         }
         match archive(&mut self.tables.conn, crate_id, text) {
             Ok(found) => Ok(found),
+            Err(_) => {
+                self.failed = true;
+                Err(StoreFault)
+            }
+        }
+    }
+
+    /// All crates, in the order of their canonical names.
+    pub fn all_crates(&mut self, alloc: Global) -> Result<Vec<Crate>, StoreFault>
+        requires { IsAtWork S.Store self.old }
+        ensures found { HasCleanDisk (seen S.Store self.new) → IfOk result (λ list. (s : _) → Stands s (seen S.Store self.old).now.trees → AllByRecursion (λ c. (first s (string_bytes c.name) ≡ Some (string_bytes c.name)) × IsCrate (seen S.Store self.old).now.trees c.id (string_bytes c.name)) list.items × IsStrictlySortedBy text_cmp (map (λ c. canon (string_bytes c.name)) list.items) × ((t : _) → list_any (λ c. bytes_eq (canon (string_bytes c.name)) t) list.items ≡ has_crate s t)) }
+        ensures same { HasCleanDisk (seen S.Store self.new) → OnOk result (IsUnchanged (seen S.Store self.old) (seen S.Store self.new)) }
+        ensures leaves { IsCall S.Store result self.old self.new }
+    {
+        if self.failed {
+            return Err(StoreFault);
+        }
+        match all(alloc, &mut self.tables.conn) {
+            Ok(crates) => Ok(crates),
             Err(_) => {
                 self.failed = true;
                 Err(StoreFault)
