@@ -17,8 +17,7 @@ mod versions;
 mod work;
 
 pub use accounts::Account;
-pub use calls::{Counts, NewVersion};
-pub use calls::{NewVersion, TokenLists, TokenRows};
+pub use calls::{Counts, NewVersion, TokenLists, TokenRows};
 pub use crates::Crate;
 pub use owners::{Owner, Ownership};
 pub use reg_schema::MakeFault;

@@ -179,3 +179,49 @@ fn reserved_names(rt: HostRuntime) -> Result<(), Fail> {
         Err((_fault, _conn)) => Err("no tables".into()),
     }
 }
+
+fn archives_and_counts_in<S: Alter>(
+    rt: &impl Abort,
+    alloc: Global,
+    tables: &mut Tables<S>,
+) -> Result<(), Fail>
+    requires { AreOurs S.Store tables.old }
+{
+    let digest = digest_of(b"abc");
+    let mut work = tables.work()?;
+    assert_eq!(rt; work.add_account("ada", None)?, 1);
+    let version = NewVersion {
+        text: "1.0.0+a",
+        description: Some("it nets"),
+        stem: b"",
+        digest: &digest,
+        archive: b"abc",
+    };
+    assert_eq!(rt;
+        work.add_crate(&parse_name("Zed").ok_or("a name")?, 1, &version)?,
+        1
+    );
+    assert_eq!(rt;
+        work.add_crate(&parse_name("acme-net").ok_or("a name")?, 1, &version)?,
+        2
+    );
+    let archive = work.archive_of(1, "1.0.0+a")?;
+    assert!(rt; archive.is_some_and(|archive| archive.as_slice() == b"abc"));
+    assert!(rt; work.archive_of(1, "1.0.0")?.is_none());
+    let counts = work.counts()?;
+    assert!(rt; counts.accounts == 1 && counts.tokens == 0 && counts.crates == 2);
+    let all = work.all_crates(alloc)?;
+    assert_eq!(rt; all.len(), 2);
+    assert_eq!(rt; all[0].canon.as_str(), "acme_net");
+    assert_eq!(rt; all[1].name.as_str(), "Zed");
+    Ok(())
+}
+
+#[test]
+fn archives_and_counts(rt: HostRuntime) -> Result<(), Fail> {
+    let alloc = rt.alloc();
+    match Tables::make(Connection::open_in_memory(alloc)?, BASE) {
+        Ok(mut tables) => archives_and_counts_in(&rt, alloc, &mut tables),
+        Err((_fault, _conn)) => Err("no tables".into()),
+    }
+}

@@ -1,6 +1,7 @@
 //! Making the tables, and knowing them again.
 
 use reg_schema::{MakeFault, is_ours, make_tables};
+use reg_tables::Tables;
 use sqlite::Connection;
 use std::test::Fail;
 
@@ -55,4 +56,15 @@ fn one_table_more(rt: HostRuntime) -> Result<(), Fail> {
     conn.execute("CREATE TABLE other (a INTEGER)", &[])?;
     assert!(rt; !is_ours(alloc, conn.schema())?);
     Ok(())
+}
+
+#[test]
+fn tables_taken_over(rt: HostRuntime) -> Result<(), Fail> {
+    let alloc = rt.alloc();
+    let mut conn = Connection::open_in_memory(alloc)?;
+    assert_eq!(rt; make_tables(&mut conn, BASE), Ok(()));
+    match Tables::adopt(alloc, conn) {
+        Ok(_tables) => Ok(()),
+        Err((_fault, _conn)) => Err("not known".into()),
+    }
 }
