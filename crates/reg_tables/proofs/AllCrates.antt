@@ -29,7 +29,8 @@ use Rattle.reg_tables.specs.Entries.{entry_of_crate}
 use Rattle.reg_tables.specs.Stands.{StoredCrate, row_of_crate, IsCrate, StandCrates}
 use Rattle.reg_tables.specs.Tests.{shows}
 use Rattle.reg_tables.proofs.CrateCounts.{crate_has}
-use Rattle.reg_tables.proofs.CrateEntries.{same_bytes, bytes_same, bytes_turn}
+use Rattle.std.specs.Cmp.Lexicographic.{nat_list_eq_equiv}
+use Rattle.reg_tables.proofs.CrateLemmas.{same_bytes, bytes_same}
 use Rattle.reg_tables.proofs.CrateNames.{same_shown, crate_named}
 use Rattle.reg_tables.proofs.Members.{IsIn, in_each, in_map, in_permuted, one_passes}
 use Rattle.reg_tables.proofs.Selected.{column_total, each}
@@ -84,7 +85,7 @@ module _ (ps : List Publication) (owned : finset.FinSet owner_cmp) (yanked : fin
       each (λ c. show (row_of_crate c)) crate_columns entry_of_crate same_shown back.0 list (found.shown ∙ ap (map show) back.2 ∙ maps_twice row_of_crate show back.0) in
       let sorted = subst (IsAscending (λ a b. is_gt (by_column 2 a b) ≡ false)) back.2 (ascending_from_sorted (by_column 2) (column_total 2) found.ordered found.sorted) in
       let up = ascending_from_map (λ a b. is_gt (by_column 2 a b) ≡ false) row_of_crate back.0 sorted in
-      let apart = IsDistinct-IsPermutation (on canon_of bytes_eq) (λ (x : StoredCrate) (y : StoredCrate). bytes_turn (canon x.1) (canon y.1)) h.crates back.0 back.1 h.canons in
+      let apart = IsDistinct-IsPermutation (on canon_of bytes_eq) (λ (x : StoredCrate) (y : StoredCrate). nat_list_eq_equiv.symm (canon x.1) (canon y.1)) h.crates back.0 back.1 h.canons in
       record {
         same = subst (IsPermutation h.crates) (sym entries) back.1;
         up = subst (λ cs. IsStrictlySortedBy text_cmp (map canon_of cs)) (sym entries) (canons_rise back.0 up apart);

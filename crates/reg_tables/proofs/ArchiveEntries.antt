@@ -26,7 +26,7 @@ use Rattle.reg_tables.specs.Shown.{shown_of}
 use Rattle.reg_tables.specs.Stands.{StoredVersion, row_of_version, row_of_archive, IsCrate, StandCrates}
 use Rattle.reg_tables.specs.Tests.{is_version, shows}
 use Rattle.reg_tables.proofs.AccountEntries.{same_text, heads}
-use Rattle.reg_tables.proofs.CrateEntries.{crate_is_in, same_crate, same_bytes, bytes_same}
+use Rattle.reg_tables.proofs.CrateLemmas.{crate_in, same_crate, same_bytes, bytes_same}
 use Rattle.reg_tables.proofs.Members.{IsIn, distinct_from_map, in_filter, one_passes}
 use Rattle.reg_tables.proofs.Permutes.{filter_map}
 use Rattle.reg_tables.proofs.Selected.{short_same, shown_short}
@@ -117,7 +117,7 @@ module _ (ps : List Publication) (owned : finset.FinSet owner_cmp) (yanked : fin
     of_text : (v : StoredVersion) → IsIn v h.versions → test (row v) ≡ (collides v.publication.name name && bytes_eq v.publication.version text)
     of_text v i =
         let p = v.publication in
-        let number = same_number v.of_crate id ∙ same_crate ps owned yanked db h id name (crate_is_in ps owned yanked db h id name is) v i in
+        let number = same_number v.of_crate id ∙ same_crate ps owned yanked db h id name (crate_in h.crates db h.crate_rows id name is) v i in
         let texts : (bytes_eq (release_key_of p.version) (release_key_of text) && bytes_eq p.version text) ≡ bytes_eq p.version text = text_alone p.version text in
         (λ k. number k && (same_text (release_key_of p.version) (release_key_of text) k && same_text p.version text k)) ∙ ap (λ b. collides p.name name && b) texts
 

@@ -20,7 +20,8 @@ use Rattle.reg_model.proofs.Lists.{any_same, list_any_map}
 use Rattle.reg_schema.proofs.Counts.{capped}
 use Rattle.reg_tables.specs.Stands.{StoredCrate, StoredVersion, is_of, StandCrates}
 use Rattle.reg_tables.proofs.AccountEntries.{number_is}
-use Rattle.reg_tables.proofs.CrateEntries.{same_bytes, bytes_same, bytes_turn, crate_of}
+use Rattle.std.specs.Cmp.Lexicographic.{nat_list_eq_equiv}
+use Rattle.reg_tables.proofs.CrateLemmas.{same_bytes, bytes_same, crate_of}
 use Rattle.reg_tables.proofs.Members.{any_in, in_any, none_in, all_in, each_in}
 
 pub count_is : {X : Type 0} (row : X → Row) (xs : List X) (rows : List Row) (n : ℕ) → IsPermutation (map row xs) rows → Int (pos n) ≡ capped (length rows) → n ≡ min (length xs) 9223372036854775807
@@ -72,7 +73,7 @@ module _ (ps : List Publication) (owned : finset.FinSet owner_cmp) (yanked : fin
           in_any (λ (c : StoredCrate). bytes_eq (canon c.1) t) h.crates c.0 c.1 (bytes_same (canon c.0.1) t (ap canon c.3 ∙ same_bytes (canon v.0.publication.name) t v.2))
 
   tied : {X : Type 0} (f : X → Words) (xs : List X) (t : Words) → finset.contains (finset.from_list {R = text_cmp} (map f xs)) t ≡ list_any (λ x. bytes_eq (f x) t) xs
-  tied f xs t = finset.contains-from_list nat_list_cmp_total (map f xs) t ∙ list_any_map (eq_by_cmp text_cmp t) f xs ∙ any_same (λ x. eq_by_cmp text_cmp t (f x)) (λ x. bytes_eq (f x) t) (λ x. text_tie t (f x) ∙ bytes_turn t (f x)) xs
+  tied f xs t = finset.contains-from_list nat_list_cmp_total (map f xs) t ∙ list_any_map (eq_by_cmp text_cmp t) f xs ∙ any_same (λ x. eq_by_cmp text_cmp t (f x)) (λ x. bytes_eq (f x) t) (λ x. text_tie t (f x) ∙ nat_list_eq_equiv.symm t (f x)) xs
 
   same_texts : finset.from_list {R = text_cmp} (map (λ c. canon c.1) h.crates) ≡ finset.from_list {R = text_cmp} (map (λ p. canon p.name) ps)
   same_texts = finset.same_set nat_list_cmp_total text_apart _ _ (λ t. tied (λ (c : StoredCrate). canon c.1) h.crates t ∙ crate_has t ∙ sym (tied (λ p. canon p.name) ps t))

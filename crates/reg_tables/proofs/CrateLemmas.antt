@@ -16,6 +16,7 @@ use Rattle.sqlite.specs.Tree.{Trees}
 use Rattle.sqlite_trees.specs.Tree.{has_rowid}
 use Rattle.reg_names.specs.Names.{canon}
 use Rattle.reg_model.specs.Registry.{Text, Publication, Owner, owner_cmp, mark_cmp}
+use Rattle.reg_model.specs.Crates.{collides}
 use Rattle.reg_model.proofs.Keys.{owner_total, owner_apart, same_key, ties_itself}
 use Rattle.reg_model.proofs.Lists.{not_true, true_not_false}
 use Rattle.reg_tables.specs.Stands.{StoredCrate, StoredVersion, row_of_crate, StandCrates, IsCrate, is_of}
@@ -24,14 +25,14 @@ use Rattle.reg_tables.proofs.Permutes.{one_row}
 use Rattle.reg_tables.proofs.Standing.{same_number}
 
 -- equal texts and numbers, from their tests
-pub same_text : (a b : Text) → bytes_eq a b ≡ true → a ≡ b
-same_text a b h = (bytes_eq-Decides a b).0 h
+pub same_bytes : (a b : Text) → bytes_eq a b ≡ true → a ≡ b
+same_bytes a b h = (bytes_eq-Decides a b).0 h
 
 pub text_itself : (a : Text) → bytes_eq a a ≡ true
 text_itself a = (bytes_eq-Decides a a).1 refl
 
-pub text_from : (a b : Text) → a ≡ b → bytes_eq a b ≡ true
-text_from a b e = (bytes_eq-Decides a b).1 e
+pub bytes_same : (a b : Text) → a ≡ b → bytes_eq a b ≡ true
+bytes_same a b e = (bytes_eq-Decides a b).1 e
 
 pub below_other : (n m : ℕ) → n < m → (n == m) ≡ false
 below_other n m h = ne_eqb n m (λ e. omega (arith, e, h))
@@ -60,7 +61,7 @@ pub other_owner : (c d : Text) (a b : ℕ) → bytes_eq c d ≡ false → eq_by_
 other_owner c d a b h = not_true _ (λ tied.
     let q : Owner = (c, a) in
     let k : Owner = (d, b) in
-    true_not_false (bytes_eq c d) (text_from c d (ap (λ x. x.0) (same_key owner_apart q k tied))) h)
+    true_not_false (bytes_eq c d) (bytes_same c d (ap (λ x. x.0) (same_key owner_apart q k tied))) h)
 
 module _ (crates : List StoredCrate) (db : Trees) (rows : IsPermutation (map row_of_crate crates) (db 7)) where
   -- the stored crate that a row shows
@@ -95,17 +96,28 @@ module _ (publications : List Publication) (held : finset.FinSet owner_cmp) (yan
   version_of c i =
       let found = any_in (is_of c) stands.versions (all_in (λ c. list_any (is_of c) stands.versions) stands.crates c stands.used i) in
       let parts = and_parts (c.0 == found.0.of_crate) (bytes_eq c.1 found.0.publication.name) found.2 in
-      (found.0, found.1, eqb-true _ _ parts.0, same_text _ _ parts.1)
+      (found.0, found.1, eqb-true _ _ parts.0, same_bytes _ _ parts.1)
 
   pub crate_of : (v : StoredVersion) → IsIn v stands.versions → (c : StoredCrate) × IsIn c stands.crates × (c.0 ≡ v.of_crate) × (c.1 ≡ v.publication.name)
   crate_of v i =
       let found = any_in (λ c. is_of c v) stands.crates (all_in (λ v. list_any (λ c. is_of c v) stands.crates) stands.versions v stands.of_crates i) in
       let parts = and_parts (found.0.0 == v.of_crate) (bytes_eq found.0.1 v.publication.name) found.2 in
-      (found.0, found.1, eqb-true _ _ parts.0, same_text _ _ parts.1)
+      (found.0, found.1, eqb-true _ _ parts.0, same_bytes _ _ parts.1)
 
   -- crates of one id are one, and so are those of one canonical text
   pub one_by_id : (c d : StoredCrate) → IsIn c stands.crates → IsIn d stands.crates → c.0 ≡ d.0 → c ≡ d
   one_by_id c d i j e = one_of (on (λ c. c.0) nat_eq) (λ a b. nat_eq_equiv.symm a.0 b.0) stands.crates c d stands.ids i j (eq-eqb c.0 d.0 e)
 
   pub one_by_canon : (c d : StoredCrate) → IsIn c stands.crates → IsIn d stands.crates → canon c.1 ≡ canon d.1 → c ≡ d
-  one_by_canon c d i j e = one_of (on (λ c. canon c.1) bytes_eq) (λ a b. nat_list_eq_equiv.symm (canon a.1) (canon b.1)) stands.crates c d stands.canons i j (text_from _ _ e)
+  one_by_canon c d i j e = one_of (on (λ c. canon c.1) bytes_eq) (λ a b. nat_list_eq_equiv.symm (canon a.1) (canon b.1)) stands.crates c d stands.canons i j (bytes_same _ _ e)
+
+  -- a version is of a crate by its id exactly where it is by its name
+  pub same_crate : (id : ℕ) (name : Text) → IsIn (id, name) stands.crates → (v : StoredVersion) → IsIn v stands.versions → (v.of_crate == id) ≡ collides v.publication.name name
+  same_crate id name there v i = split (collides v.publication.name name) refl
+    where
+      c : (c : StoredCrate) × IsIn c stands.crates × (c.0 ≡ v.of_crate) × (c.1 ≡ v.publication.name)
+      c = crate_of v i
+
+      split : (b : Bool) → collides v.publication.name name ≡ b → (v.of_crate == id) ≡ b
+      split true e = eq-eqb _ _ (sym c.2 ∙ ap (λ d. d.0) (one_by_canon c.0 (id, name) c.1 there (ap canon c.3 ∙ same_bytes _ _ e)))
+      split false e = not_true _ (λ t. true_not_false _ (bytes_same _ _ (ap canon (sym c.3 ∙ ap (λ d. d.1) (one_by_id c.0 (id, name) c.1 there (c.2 ∙ eqb-true _ _ t))))) e)

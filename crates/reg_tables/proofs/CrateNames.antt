@@ -20,8 +20,8 @@ use Rattle.reg_tables.specs.Shown.{shown_of}
 use Rattle.reg_tables.specs.Stands.{StoredCrate, StoredVersion, row_of_crate, is_of, IsCrate, StandCrates}
 use Rattle.reg_tables.specs.Tests.{is_text, shows}
 use Rattle.reg_tables.proofs.AccountEntries.{same_text, number_is, words_are, heads, tails}
-use Rattle.reg_tables.proofs.CrateEntries.{same_bytes, bytes_same, crate_of, one_id, numbers_turn}
-use Rattle.reg_tables.proofs.Members.{IsIn, any_in, all_in, in_filter, one_passes}
+use Rattle.reg_tables.proofs.CrateLemmas.{same_bytes, bytes_same, crate_of, is_crate}
+use Rattle.reg_tables.proofs.Members.{IsIn, any_in, all_in, filtered_passes, in_filter}
 use Rattle.reg_tables.proofs.Permutes.{one_row}
 use Rattle.reg_tables.proofs.Selected.{selected_one}
 use Rattle.reg_tables.proofs.Standing.{same_number}
@@ -35,15 +35,6 @@ kept p (y ∷ ys) x i e = split (p y) refl i (λ j. kept p ys x j e)
     split true t (inr j) rest = inr (rest j)
     split false t (inl same) rest = true_not_false _ e (ap p (sym same) ∙ t)
     split false t (inr j) rest = rest j
-
-passes : {X : Type 0} (p : X → Bool) (xs : List X) (x : X) → IsIn x (filter p xs) → p x ≡ true
-passes p [] x i = absurd i
-passes p (y ∷ ys) x i = split (p y) refl i (passes p ys x)
-  where
-    split : (b : Bool) → p y ≡ b → IsIn x (cond b (y ∷ filter p ys) (filter p ys)) → (IsIn x (filter p ys) → p x ≡ true) → p x ≡ true
-    split true t (inl same) rest = ap p (sym same) ∙ t
-    split true t (inr j) rest = rest j
-    split false t j rest = rest j
 
 pub same_shown : (c : StoredCrate) (o : Crate) → shows (0 ∷ 2 ∷ 3 ∷ []) (row_of_crate c) ≡ crate_columns o → c ≡ entry_of_crate o
 same_shown c o h = let id = number_is (heads h) in let name = words_are (heads (tails (tails h))) in λ i. (id i, name i)
@@ -80,11 +71,6 @@ module _ (ps : List Publication) (owned : finset.FinSet owner_cmp) (yanked : fin
   in_named : (c : Words) (x : StoredCrate) → IsIn x h.crates → named c x ≡ true → IsIn x (filter (named c) h.crates)
   in_named c x i e = kept (named c) h.crates x i e
 
-  pub crate_there : (x : StoredCrate) → IsIn x h.crates → IsCrate db x.0 x.1
-  crate_there x i =
-      one_row row_of_crate (has_rowid (pos x.0)) x h.crates (db 7) h.crate_rows
-      (same_filter _ _ (λ y. same_number y.0 x.0) h.crates ∙ one_passes (λ a b. nat_eq a.0 b.0) (λ y. y.0 == x.0) h.crates x h.ids (λ y z j k e f. eq-eqb y.0 z.0 (eqb-true _ _ e ∙ sym (eqb-true _ _ f))) i (eq-eqb x.0 x.0 refl))
-
   pub crate_named : (c n : Words) (found : Option Crate) → canon n ≡ c → filter (named c) h.crates ≡ one_of (option_map entry_of_crate found)
       → (option_map (λ x. string_bytes x.name) found ≡ first_of ps n) × IfSome found (λ x. IsCrate db x.id (string_bytes x.name))
   crate_named c n None at e = (subst (λ qs. None ≡ first_of qs n) h.published (sym (none_first n h.versions none)), tt)
@@ -93,7 +79,7 @@ module _ (ps : List Publication) (owned : finset.FinSet owner_cmp) (yanked : fin
       none v i =
           let of = crate_of ps owned yanked db h v i in
           not_true _ (λ met. subst (IsIn of.0) e (in_named c of.0 of.1 (bytes_same _ _ (ap canon of.3 ∙ same_bytes _ _ met ∙ at))))
-  crate_named c n (Some x) at e = (subst (λ qs. Some e0.1 ≡ first_of qs n) h.published (sym (some_first n e0.1 h.versions spelled of.0 of.1 met)), crate_there e0 there)
+  crate_named c n (Some x) at e = (subst (λ qs. Some e0.1 ≡ first_of qs n) h.published (sym (some_first n e0.1 h.versions spelled of.0 of.1 met)), is_crate h.crates db h.crate_rows e0.0 e0.1 h.ids there)
     where
       e0 : StoredCrate
       e0 = entry_of_crate x
@@ -119,4 +105,4 @@ module _ (ps : List Publication) (owned : finset.FinSet owner_cmp) (yanked : fin
       met : collides of.0.publication.name n ≡ true
       met =
           let parts = and_parts (e0.0 == of.0.of_crate) (bytes_eq e0.1 of.0.publication.name) of.2 in
-          bytes_same (canon of.0.publication.name) (canon n) (ap canon (sym (same_bytes e0.1 of.0.publication.name parts.1)) ∙ same_bytes (canon e0.1) c (passes (named c) h.crates e0 shown) ∙ sym at)
+          bytes_same (canon of.0.publication.name) (canon n) (ap canon (sym (same_bytes e0.1 of.0.publication.name parts.1)) ∙ same_bytes (canon e0.1) c (filtered_passes (named c) h.crates e0 shown) ∙ sym at)

@@ -12,7 +12,6 @@ pub mod ArchiveTexts
 pub mod Binding
 pub mod CrateChanges
 pub mod CrateCounts
-pub mod CrateEntries
 pub mod CrateLemmas
 pub mod CrateNames
 pub mod CrateQueries

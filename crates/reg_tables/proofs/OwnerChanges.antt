@@ -30,7 +30,7 @@ use Rattle.reg_tables.specs.Columns.{owner_columns}
 use Rattle.reg_tables.specs.Stands.{StoredCrate, StoredOwner, row_of_crate, row_of_version, row_of_archive, columns_of_owner, is_owned, IsCrate, HaveOwnRowids, StandCrates, Stands}
 use Rattle.reg_tables.specs.Tests.{is_owner}
 use Rattle.reg_tables.proofs.Alike.{alike}
-use Rattle.reg_tables.proofs.CrateEntries.{crate_is_in}
+use Rattle.reg_tables.proofs.CrateLemmas.{crate_in}
 use Rattle.reg_tables.proofs.Members.{IsIn, each_in, in_any, in_all, all_in, in_filter}
 use Rattle.reg_tables.proofs.Removed.{apart_kept, own_kept, removes_passing}
 use Rattle.reg_tables.proofs.Rowids.{first_column, second_column, own_put, any_columns, put_columns, keep_columns}
@@ -67,7 +67,7 @@ canons_same = record { refl = λ c. nat_list_eq_equiv.refl (canon c.1); symm = �
 
 module _ (publications : List Publication) (held : finset.FinSet owner_cmp) (yanked : finset.FinSet mark_cmp) (db : Trees) (stands : StandCrates publications held yanked db) (id : ℕ) (name : List ℕ) (is_crate : IsCrate db id name) where
   abbrev there : IsIn (id, name) stands.crates
-  there = crate_is_in publications held yanked db stands id name is_crate
+  there = crate_in stands.crates db stands.crate_rows id name is_crate
 
   -- of the crates that are there, one has its id and its canonical text
   crates_alike : AllByRecursion (λ c. bytes_eq (canon c.1) (canon name) ≡ (c.0 == id)) stands.crates
@@ -116,7 +116,7 @@ module _ (publications : List Publication) (held : finset.FinSet owner_cmp) (yan
       let o : StoredOwner = (id, account) in
       let rows = old.now.trees 9 in
       let others = adds.becomes.others in
-      let there = crate_is_in publications held yanked old.now.trees stands id name is_crate in
+      let there = crate_in stands.crates old.now.trees stands.crate_rows id name is_crate in
       let same = crates_alike publications held yanked old.now.trees stands id name is_crate in
       let none : is_owned stands.owners id account ≡ false = sym (each_in (λ c. (a : ℕ) → finset.contains held (canon c.1, a) ≡ is_owned stands.owners c.0 a) stands.crates (id, name) stands.owned there account) ∙ absent in
       record {

@@ -28,7 +28,8 @@ use Rattle.reg_tables.specs.Owners.{accounts_of, is_of_owner}
 use Rattle.reg_tables.specs.Stands.{StoredOwner, row_of_account, columns_of_owner, is_owned, IsCrate, StandAccounts, StandCrates}
 use Rattle.reg_tables.specs.Tests.{is_number, shows}
 use Rattle.reg_tables.proofs.AccountEntries.{heads, tails, mark_is, number_is, text_is, words_are}
-use Rattle.reg_tables.proofs.CrateEntries.{crate_is_in, numbers_turn}
+use Rattle.std.specs.Cmp.{nat_eq_equiv}
+use Rattle.reg_tables.proofs.CrateLemmas.{crate_in}
 use Rattle.reg_tables.proofs.Joined.{joined_once}
 use Rattle.reg_tables.proofs.Members.{each_in}
 use Rattle.reg_tables.proofs.Permutes.{filter_map}
@@ -117,8 +118,8 @@ module _ (publications : List Publication) (held : finset.FinSet owner_cmp) (yan
 
   is_owner_of : (e : ℕ × Account) → list_any (λ o. e.0 == o.1) of_it ≡ owns_it e
   is_owner_of e =
-      any_filter (λ o. o.0 == id) (λ o. e.0 == o.1) crates.owners ∙ any_same (λ o. o.0 == id && e.0 == o.1) (λ o. o.0 == id && o.1 == e.0) (λ o. ap (λ b. (o.0 == id) && b) (numbers_turn e.0 o.1)) crates.owners
-      ∙ sym (each_in (λ c. (a : ℕ) → finset.contains held (canon c.1, a) ≡ is_owned crates.owners c.0 a) crates.crates (id, name) crates.owned (crate_is_in publications held yanked db crates id name is_crate) e.0)
+      any_filter (λ o. o.0 == id) (λ o. e.0 == o.1) crates.owners ∙ any_same (λ o. o.0 == id && e.0 == o.1) (λ o. o.0 == id && o.1 == e.0) (λ o. ap (λ b. (o.0 == id) && b) (nat_eq_equiv.symm e.0 o.1)) crates.owners
+      ∙ sym (each_in (λ c. (a : ℕ) → finset.contains held (canon c.1, a) ≡ is_owned crates.owners c.0 a) crates.crates (id, name) crates.owned (crate_in crates.crates db crates.crate_rows id name is_crate) e.0)
 
   rows_of_it : IsPermutation (map columns_of_owner of_it) (map (drop 1) (filter (is_number 1 id) (db 9)))
   rows_of_it =

@@ -25,7 +25,7 @@ use Rattle.reg_tables.specs.Entries.{ShownVersion, shown_version, version_shown}
 use Rattle.reg_tables.specs.Stands.{StoredVersion, row_of_version, IsCrate, StandCrates}
 use Rattle.reg_tables.specs.Tests.{is_number, shows}
 use Rattle.reg_tables.proofs.AccountEntries.{words_are, text_is, mark_is, heads, tails}
-use Rattle.reg_tables.proofs.CrateEntries.{crate_is_in, same_crate}
+use Rattle.reg_tables.proofs.CrateLemmas.{crate_in, same_crate}
 use Rattle.reg_tables.proofs.Members.{IsIn}
 use Rattle.reg_tables.proofs.Permutes.{filter_map}
 use Rattle.reg_tables.proofs.Selected.{shown_in_turn, each_part, column_total, number_below}
@@ -88,7 +88,7 @@ module _ (ps : List Publication) (owned : finset.FinSet owner_cmp) (yanked : fin
       let up = rows_rise yanked its (ascending-filter (λ v w. v.id < w.id) (λ v. v.of_crate == id) h.versions (ids_rise yanked h.versions h.rising)) in
       let shown = shown_in_turn row (shows shown_places) (by_column 0) (column_total 0) its (filter (is_number 2 id) (db 11)) (map columns_of_version list) rows up found in
       let told = each_part (λ v. shows shown_places (row v)) columns_of_version (λ v. version_shown yanked v.publication) shown_version (same_shown yanked) its list shown in
-      let there = crate_is_in ps owned yanked db h id name is in
+      let there = crate_in h.crates db h.crate_rows id name is in
       let named = same_passes _ (λ v. collides v.publication.name name) h.versions (same_crate ps owned yanked db h id name there) in
       told ∙ ap (map (λ v. version_shown yanked v.publication)) named ∙ sym (maps_twice (λ v. v.publication) (version_shown yanked) (filter (λ v. collides v.publication.name name) h.versions))
       ∙ ap (map (version_shown yanked)) (sym (filter_map (λ v. v.publication) (λ p. collides p.name name) h.versions) ∙ ap (filter (λ p. collides p.name name)) h.published)

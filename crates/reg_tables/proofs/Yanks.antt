@@ -28,7 +28,7 @@ use Rattle.reg_model.proofs.Lists.{not_true, true_not_false}
 use Rattle.reg_tables.specs.Columns.{version_row}
 use Rattle.reg_tables.specs.Stands.{StoredCrate, StoredVersion, row_of_crate, row_of_version, row_of_archive, columns_of_owner, HaveOwnRowids, StandCrates}
 use Rattle.reg_tables.specs.Tests.{is_version}
-use Rattle.reg_tables.proofs.CrateLemmas.{same_text, text_from, crate_of, is_stored, one_by_canon, one_by_id}
+use Rattle.reg_tables.proofs.CrateLemmas.{same_bytes, bytes_same, crate_of, is_stored, one_by_canon, one_by_id}
 use Rattle.reg_tables.proofs.Members.{IsIn, any_in, distinct_from_map, filtered_passes, in_filter, map_same, one_of, one_passes}
 use Rattle.reg_tables.proofs.Permutes.{filter_map, free_without, one_row, put_permutes}
 use Rattle.reg_tables.proofs.Standing.{same_number}
@@ -79,7 +79,7 @@ module _ (publications : List Publication) (held : finset.FinSet owner_cmp) (yan
       let parts = and_parts (bytes_eq (canon p.0.name) (canon name)) (bytes_eq p.0.version text) p.2 in
       let v = is_stored publications held yanked old stands p.0 p.1 in
       let c = crate_of publications held yanked old stands v.0 v.1 in
-      let canonical : canon v.0.publication.name ≡ canon name = ap (λ (q : Publication). canon q.name) v.2 ∙ same_text (canon p.0.name) (canon name) parts.0 in
+      let canonical : canon v.0.publication.name ≡ canon name = ap (λ (q : Publication). canon q.name) v.2 ∙ same_bytes (canon p.0.name) (canon name) parts.0 in
       let mine : StoredCrate = (id, name) in
       let one : c.0 ≡ mine = one_by_canon publications held yanked old stands c.0 mine c.1 there (ap canon c.3 ∙ canonical) in (
         v.0,
@@ -87,7 +87,7 @@ module _ (publications : List Publication) (held : finset.FinSet owner_cmp) (yan
           stored = v.1;
           crate = sym c.2 ∙ ap (λ (d : StoredCrate). d.0) one;
           canonical = canonical;
-          version = ap (λ (q : Publication). q.version) v.2 ∙ same_text p.0.version text parts.1;
+          version = ap (λ (q : Publication). q.version) v.2 ∙ same_bytes p.0.version text parts.1;
         },
       )
 
@@ -96,7 +96,7 @@ module _ (publications : List Publication) (held : finset.FinSet owner_cmp) (yan
   test_is marks v = λ i. same_number v.of_crate id i && (texts_equal (release_key_of v.publication.version) (release_key_of text) i && texts_equal v.publication.version text i)
 
   passes : (v : StoredVersion) → IsTarget v → is_version id (release_key_of text) text (row_of_version yanked v) ≡ true
-  passes v is = test_is yanked v ∙ and_from _ _ (eq-eqb v.of_crate id is.crate) (and_from _ _ (text_from _ _ (ap release_key_of is.version)) (text_from _ _ is.version))
+  passes v is = test_is yanked v ∙ and_from _ _ (eq-eqb v.of_crate id is.crate) (and_from _ _ (bytes_same _ _ (ap release_key_of is.version)) (bytes_same _ _ is.version))
 
   found : (v : StoredVersion) → IsIn v stands.versions → is_version id (release_key_of text) text (row_of_version yanked v) ≡ true → IsTarget v
   found v stored h =
@@ -110,14 +110,14 @@ module _ (publications : List Publication) (held : finset.FinSet owner_cmp) (yan
         stored = stored;
         crate = is_mine;
         canonical = ap canon (sym c.3 ∙ ap (λ (d : StoredCrate). d.1) one);
-        version = same_text v.publication.version text texts.1;
+        version = same_bytes v.publication.version text texts.1;
       }
 
   by_release : IsDistinct (on (λ v. v.publication) one_release) stands.versions
   by_release = distinct_from_map one_release (λ v. v.publication) stands.versions (subst (IsDistinct one_release) (sym stands.published) releases)
 
   one_target : (v w : StoredVersion) → canon v.publication.name ≡ canon w.publication.name → v.publication.version ≡ w.publication.version → one_release v.publication w.publication ≡ true
-  one_target v w e f = and_from _ _ (text_from _ _ e) (text_from _ _ (ap release_key_of f))
+  one_target v w e f = and_from _ _ (bytes_same _ _ e) (bytes_same _ _ (ap release_key_of f))
 
   row_is : (marks : finset.FinSet mark_cmp) (v : StoredVersion) → IsTarget v → row_of_version marks v ≡ version_row v.id id text (release_key_of text) v.publication.digest v.publication.stem v.publication.description (finset.contains marks (canon name, text))
   row_is marks v is = λ i. version_row v.id (is.crate i) (is.version i) (release_key_of (is.version i)) v.publication.digest v.publication.stem v.publication.description (finset.contains marks (is.canonical i, is.version i))
