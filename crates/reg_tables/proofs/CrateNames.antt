@@ -1,18 +1,16 @@
 -- The crate of a canonical name, as a selection shows it.
-use Rattle.std.proofs.Common.{◌≡◌, ◌==◌, inl, inr, ℕ, pos, List, [], ◌∷◌, map, Bool, true, false, cond, Option, Some, None, refl, sym, ap, subst, ◌∙◌, nat_eq}
-use Rattle.std.specs.Prelude.{◌&&◌, IfSome, string_bytes}
+use Rattle.std.proofs.Common.{◌≡◌, ◌==◌, inl, inr, List, [], ◌∷◌, map, Bool, true, false, cond, Option, Some, None, refl, sym, ap, subst, ◌∙◌}
+use Rattle.std.specs.Prelude.{IfSome, string_bytes}
 use Rattle.std.specs.Option.{option_map}
 use Rattle.std.specs.FinSet as finset
-use Rattle.std.specs.List.{filter, find, list_any, list_all}
+use Rattle.std.specs.List.{filter, find, list_any}
 use Rattle.std.specs.Str.{bytes_eq}
-use Rattle.std.proofs.lemmas.Bool.{and_parts, eq-eqb, eqb-true}
+use Rattle.std.proofs.lemmas.Bool.{and_parts}
 use Rattle.sqlite.specs.Tree.{Trees}
-use Rattle.sqlite_trees.specs.Tree.{has_rowid}
 use Rattle.reg_names.specs.Names.{canon}
 use Rattle.reg_model.specs.Registry.{Text as Words, Publication, owner_cmp, mark_cmp}
 use Rattle.reg_model.specs.Crates.{collides}
 use Rattle.reg_model.proofs.Lists.{true_not_false, not_true}
-use Rattle.reg_schema.proofs.Queries.{same_filter}
 use Rattle.reg_tables.specs.declared.crates.Crate.{Crate}
 use Rattle.reg_tables.specs.CrateRecords.{crate_columns}
 use Rattle.reg_tables.specs.Entries.{one_of, entry_of_crate}
@@ -22,9 +20,7 @@ use Rattle.reg_tables.specs.Tests.{is_text, shows}
 use Rattle.reg_tables.proofs.AccountEntries.{same_text, number_is, words_are, heads, tails}
 use Rattle.reg_tables.proofs.CrateLemmas.{same_bytes, bytes_same, crate_of, is_crate}
 use Rattle.reg_tables.proofs.Members.{IsIn, any_in, all_in, filtered_passes, in_filter}
-use Rattle.reg_tables.proofs.Permutes.{one_row}
 use Rattle.reg_tables.proofs.Selected.{selected_one}
-use Rattle.reg_tables.proofs.Standing.{same_number}
 
 kept : {X : Type 0} (p : X → Bool) (xs : List X) (x : X) → IsIn x xs → p x ≡ true → IsIn x (filter p xs)
 kept p [] x i e = absurd i

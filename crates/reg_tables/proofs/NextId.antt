@@ -1,10 +1,10 @@
 -- The id after the greatest, where ids are the places of a list.
-use Rattle.std.proofs.Common.{◌≡◌, ◌≢◌, ◌==◌, ℕ, zero, suc, ◌+◌, ◌≤◌, ◌<◌, ℤ, pos, List, [], ◌∷◌, map, take, length, Bool, true, false, ◌||◌, not, nat_lt, Option, Some, None, Ordering, Less, Equal, Greater, is_lt, is_gt, true≢false, refl, sym, ap, subst, ◌∙◌, arith}
-use Rattle.std.specs.List.{enumerate_from, list_any, AllByRecursion, All}
+use Rattle.std.proofs.Common.{◌≡◌, ◌==◌, ℕ, suc, ◌+◌, ◌≤◌, ◌<◌, pos, List, [], ◌∷◌, map, take, length, Bool, true, false, ◌||◌, nat_lt, Option, Some, None, Ordering, Less, Equal, Greater, is_gt, true≢false, refl, sym, ap, subst, ◌∙◌, arith}
+use Rattle.std.specs.List.{enumerate_from, list_any, AllByRecursion}
 use Rattle.std.specs.List.Sorted.{IsPermutation, IsSorted}
-use Rattle.std.specs.Ordering.{is_eq, int_cmp, ordering_reverse}
+use Rattle.std.specs.Ordering.{is_eq, ordering_reverse}
 use Rattle.std.specs.Cmp.{IsTotalOrder, int_cmp_is}
-use Rattle.std.proofs.lemmas.Bool.{eq-eqb, ltb-true, ltb-false}
+use Rattle.std.proofs.lemmas.Bool.{eq-eqb, ltb-false}
 use Rattle.std.proofs.lemmas.Cmp.{back_total, on_total, upto, tied_itself}
 use Rattle.std.proofs.lemmas.List.Sorted.{IsPermutation-trans, list_any-IsPermutation, length_permutation, All-permutation}
 use Rattle.std.proofs.lemmas.List.Elements.{All-from_recursion, recursion_from_All}

@@ -1,28 +1,24 @@
 -- What a change of the rows is on the registry that they stand for: accounts and tokens.
-use Rattle.std.proofs.Common.{◌≡◌, ◌≢◌, ◌==◌, ℕ, ◌+◌, pos, List, [], ◌∷◌, ◌++◌, map, length, Bool, true, false, not, Some, Ordering, Less, Equal, Greater, refl, sym, ap, subst, ◌∙◌}
-use Rattle.std.specs.Prelude.{drop}
-use Rattle.std.specs.List.{filter, enumerate_from, flat_map}
+use Rattle.std.proofs.Common.{◌≡◌, ◌==◌, ℕ, ◌+◌, pos, List, [], ◌∷◌, ◌++◌, map, length, Bool, true, false, not, Some, Ordering, Less, Equal, Greater, refl, sym, ap, subst, ◌∙◌}
+use Rattle.std.specs.List.{filter, enumerate_from}
 use Rattle.std.specs.List.Sorted.{IsPermutation}
 use Rattle.std.specs.Ordering.{is_eq, int_cmp}
 use Rattle.std.specs.FinMap.{int_cmp-IsAntisymmetric}
 use Rattle.std.proofs.lemmas.Cmp.{int_cmp_total, tied_itself}
 use Rattle.std.proofs.lemmas.Bool.{eqb-true, eqb-false}
-use Rattle.std.proofs.lemmas.List.Sorted.{IsPermutation-refl, IsPermutation-cons, IsPermutation-trans, IsPermutation-middle, IsPermutation-map, IsPermutation-sym}
+use Rattle.std.proofs.lemmas.List.Sorted.{IsPermutation-cons, IsPermutation-trans, IsPermutation-middle, IsPermutation-map, IsPermutation-sym}
 use Rattle.sqlite.specs.declared.types.Value.TheVariants.{Int}
-use Rattle.sqlite.specs.Order.{Row, value_cmp}
+use Rattle.sqlite.specs.Order.{value_cmp}
 use Rattle.sqlite.specs.State.{State}
-use Rattle.sqlite.specs.Tree.{Trees}
 use Rattle.sqlite_value.proofs.OrderLemmas.{value_cmp-Int}
 use Rattle.std.proofs.lemmas.List.{append-nil}
-use Rattle.sqlite_trees.specs.Tree.{rowid, has_rowid, put_row, without_rowid}
-use Rattle.sqlite_rules.specs.Edit.{is_taken}
-use Rattle.reg_schema.specs.Changes.{KeepsOthers, Becomes, Adds, Replaces}
+use Rattle.sqlite_trees.specs.Tree.{has_rowid}
+use Rattle.reg_schema.specs.Changes.{Adds, Replaces}
 use Rattle.reg_schema.proofs.Queries.{same_filter}
-use Rattle.reg_model.specs.Registry.{Account, Token, Registry, with_id, change_at}
-use Rattle.reg_tables.specs.Columns.{account_row}
-use Rattle.reg_tables.specs.Stands.{row_of_account, StandAccounts, StandTokens, StandReserved, StandCrates, Stands}
+use Rattle.reg_model.specs.Registry.{Account, with_id, change_at}
+use Rattle.reg_tables.specs.Stands.{row_of_account, StandAccounts}
 use Rattle.reg_tables.proofs.Numbered.{enumerate_snoc, one_at, changed_at}
-use Rattle.reg_tables.proofs.Permutes.{put_permutes, put_replaces, one_row, filter_map}
+use Rattle.reg_tables.proofs.Permutes.{put_permutes, put_replaces, one_row}
 
 not_tied : (o : Ordering) → (o ≡ Equal → ⊥) → is_eq o ≡ false
 not_tied Less h = refl

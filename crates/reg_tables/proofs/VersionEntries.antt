@@ -1,27 +1,22 @@
 -- The versions of a crate, as a selection shows them.
-use Rattle.std.proofs.Common.{◌≡◌, ◌==◌, inl, inr, ℕ, ◌<◌, ◌≤◌, pos, List, [], ◌∷◌, map, Bool, true, false, cond, nat_lt, Ordering, Less, Equal, Greater, refl, sym, ap, subst, ◌∙◌, arith}
-use Rattle.std.specs.Prelude.{string_bytes}
-use Rattle.std.specs.Option.{option_map}
+use Rattle.std.proofs.Common.{◌≡◌, ◌==◌, inl, inr, ℕ, ◌<◌, List, [], ◌∷◌, map, Bool, true, false, nat_lt, Less, Equal, Greater, refl, sym, ap, subst, ◌∙◌, arith}
 use Rattle.std.specs.FinSet as finset
 use Rattle.std.specs.Cmp.{nat_cmp_is}
-use Rattle.std.specs.List.{filter, AllByRecursion}
+use Rattle.std.specs.List.{filter}
 use Rattle.std.specs.List.Sorted.{IsPermutation, IsStrictlySortedBy}
 use Rattle.std.specs.Ordering.{nat_cmp}
 use Rattle.std.proofs.lemmas.Bool.{ltb-true, ltb-false}
-use Rattle.sqlite.specs.declared.types.Value.{Value}
-use Rattle.sqlite.specs.declared.types.Value.TheVariants.{Int, Text, Blob}
-use Rattle.sqlite.specs.Order.{Row}
+use Rattle.sqlite.specs.declared.types.Value.TheVariants.{Blob}
 use Rattle.sqlite.specs.Tree.{Trees}
 use Rattle.sqlite_trees.specs.Tree.{IsAscending}
 use Rattle.sqlite_trees.proofs.ListLemmas.{ascending-filter, ascending-map, ascending_weaker, all_from_map, IsPermutation-filter}
-use Rattle.reg_names.specs.Names.{canon}
 use Rattle.reg_model.specs.Registry.{Text as Words, Publication, owner_cmp, mark_cmp}
 use Rattle.reg_model.specs.Crates.{collides}
 use Rattle.reg_schema.specs.Rows.{IsInOrder, by_column}
 use Rattle.reg_schema.proofs.Queries.{same_filter, maps_twice}
 use Rattle.reg_tables.specs.declared.versions.Version.{Version}
 use Rattle.reg_tables.specs.VersionRecords.{columns_of_version}
-use Rattle.reg_tables.specs.Entries.{ShownVersion, shown_version, version_shown}
+use Rattle.reg_tables.specs.Entries.{shown_version, version_shown}
 use Rattle.reg_tables.specs.Stands.{StoredVersion, row_of_version, IsCrate, StandCrates}
 use Rattle.reg_tables.specs.Tests.{is_number, shows}
 use Rattle.reg_tables.proofs.AccountEntries.{words_are, text_is, mark_is, heads, tails}

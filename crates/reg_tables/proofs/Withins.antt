@@ -1,10 +1,8 @@
 -- What statements of a transaction leave, one after another.
-use Rattle.std.proofs.Common.{◌≡◌, ◌⊎◌, inl, inr, ℕ, List, Bool, true, false, Ok, Err, Result, OnOk, OnErr, IfOk, refl, sym, ap, subst, ◌∙◌}
-use Rattle.std.specs.Prelude.{IsTrue}
+use Rattle.std.proofs.Common.{◌≡◌, inl, inr, ℕ, List, Bool, true, false, refl, sym, ap, ◌∙◌}
 use Rattle.sqlite.specs.Order.{Row}
-use Rattle.sqlite.specs.Tree.{Trees}
-use Rattle.sqlite.specs.State.{State, HasCleanDisk, Survives, IsUnchanged, IsRolledBack, KeepsCommit}
-use Rattle.reg_schema.specs.States.{IsInside, IsReady, KeepsOurs, IsOurs, Refuses}
+use Rattle.sqlite.specs.State.{State, HasCleanDisk, IsUnchanged}
+use Rattle.reg_schema.specs.States.{IsInside, Refuses}
 use Rattle.reg_schema.specs.Changes.{Becomes, Touches}
 use Rattle.reg_tables.specs.Works.{Within, Fails}
 

@@ -5,12 +5,10 @@ use Rattle.sqlite.specs.State.{HasCleanDisk}
 use Rattle.sqlite.specs.Held.{state}
 use Rattle.reg_model.specs.Registry.{Account}
 use Rattle.reg_tables.specs.Stands.{StandAccounts, Stands}
-use Rattle.reg_tables.specs.Greatest.{IsGreatest, row_of_id}
 use Rattle.reg_tables.specs.Stands.{row_of_account}
 use Rattle.reg_tables.proofs.NextId.{next_id}
 use Rattle.reg_tables.proofs.Standing.{adds_account}
 use Rattle.reg_tables.proofs.Stays.{with_accounts}
-use Rattle.reg_tables.proofs.Withins.{refused_fails, unchanged_within, unchanged_fails, fails_after}
 use Rattle.reg_tables.proofs.calls.accounts.add.Goals as goal
 
 pub returns-clause-stands : goal.returns-clause-stands

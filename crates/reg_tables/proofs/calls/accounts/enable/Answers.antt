@@ -1,5 +1,3 @@
-use Rattle.std.proofs.Common.{arith}
-use Rattle.sqlite.specs.State.{HasCleanDisk}
 use Rattle.sqlite.specs.Held.{state}
 use Rattle.reg_tables.proofs.Standing.{account_row_at, replaces_account}
 use Rattle.reg_tables.proofs.Stays.{with_accounts}
