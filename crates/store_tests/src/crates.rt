@@ -206,7 +206,7 @@ fn archives_and_counts_in<S: Alter>(
         2
     );
     let archive = work.archive_of(1, "1.0.0+a")?;
-    assert!(rt; archive.is_some_and(|archive| archive.as_slice() == b"abc"));
+    assert!(rt; archive.is_some_and(|archive| archive.as_slice() == b"abc".as_slice()));
     assert!(rt; work.archive_of(1, "1.0.0")?.is_none());
     let counts = work.counts()?;
     assert!(rt; counts.accounts == 1 && counts.tokens == 0 && counts.crates == 2);
