@@ -63,6 +63,7 @@ fn tables_taken_over(rt: HostRuntime) -> Result<(), Fail> {
     let alloc = rt.alloc();
     let mut conn = Connection::open_in_memory(alloc)?;
     assert_eq!(rt; make_tables(&mut conn, BASE), Ok(()));
+    assert!(rt; conn.is_autocommit());
     match Tables::adopt(alloc, conn) {
         Ok(_tables) => Ok(()),
         Err((_fault, _conn)) => Err("not known".into()),
