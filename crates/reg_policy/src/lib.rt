@@ -24,4 +24,6 @@ pub use event::{
 };
 pub use plain::PlainRegistry;
 pub use reg_model::{AdminRefusal, Endpoint, Endpoints, Rule};
+pub use reserved::is_reserved_always;
 pub use words::{admin_text, rule_status, rule_text};
+pub use words_given::may_name;

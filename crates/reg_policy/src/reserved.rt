@@ -43,7 +43,7 @@ fn is_among(texts: &[&str], text: &str) -> bool
 
 /// Whether a canonical text is one that is reserved always: names of Windows devices.
 #[tactic(auto, unfolding(reg_model::specs::Crates::is_reserved_always))]
-pub(crate) fn is_reserved_always(crate_text: &CanonText) -> bool
+pub fn is_reserved_always(crate_text: &CanonText) -> bool
     ensures { result ≡ is_reserved_always_of crate_text.now }
 {
     is_among(&ALWAYS, crate_text.as_str())

@@ -35,7 +35,7 @@ fn is_account_name(name: &str) -> bool
 }
 
 /// Whether an account may have this name, or none.
-pub(crate) fn may_name(name: Option<&str>) -> bool
+pub fn may_name(name: Option<&str>) -> bool
     ensures { result ≡ may_name_text (option_map (λ n. n.now) name.entry) }
 {
     match name {

@@ -21,4 +21,5 @@ pub mod TokenEntries
 pub mod TokenRecords
 pub mod Tokens
 pub mod VersionRecords
+pub mod WholeRows
 pub mod Works

@@ -7,6 +7,7 @@ mod crates;
 mod owners;
 mod reserved;
 mod tokens;
+mod whole_rows;
 
 pub use counts::Counts;
 pub use crates::NewVersion;

@@ -3,6 +3,7 @@
 
 mod about;
 mod accounts;
+mod all_rows;
 mod archives;
 mod calls;
 mod crates;
@@ -17,6 +18,7 @@ mod versions;
 mod work;
 
 pub use accounts::Account;
+pub use all_rows::AllRows;
 pub use calls::{Counts, NewVersion, TokenLists, TokenRows};
 pub use crates::Crate;
 pub use owners::{Owner, Ownership};

@@ -1,0 +1,18 @@
+use Rattle.std.proofs.Common.{◌≡◌, take, true, false}
+use Rattle.std.specs.List.{list_all}
+use Rattle.sqlite.specs.State.{HasCleanDisk, IsUnchanged}
+use Rattle.reg_tables.specs.Works.{has_failed, seen}
+use Rattle.reg_tables.specs.WholeRows.{archives_with_id}
+use Rattle.reg_audit.specs.Checks.{is_archive}
+use Rattle.reg_audit.specs.Looks.{Looks}
+use Rattle.reg_audit.proofs.archives.have_archives.Given as goal
+
+-- the versions before the index have their archives
+abbrev pub invariant-loop-version : goal.invariant-loop-version
+invariant-loop-version g l =
+    let old = seen g.S.Store l.initial.work in
+    let new = seen g.S.Store l.work in
+    (HasCleanDisk new → list_all (λ v. is_archive v.digest.items (archives_with_id v.id old.now.trees)) (take l.version-index l.versions) ≡ true)
+    × (has_failed l.work ≡ false)
+    × (HasCleanDisk new → IsUnchanged old new)
+    × Looks g.S.Store l.initial.work l.work

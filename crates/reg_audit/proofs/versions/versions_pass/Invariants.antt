@@ -1,0 +1,7 @@
+use Rattle.std.proofs.Common.{◌≡◌, take}
+use Rattle.std.specs.List.{AllByRecursion}
+use Rattle.reg_audit.specs.Checks.{IsGenuine}
+use Rattle.reg_audit.proofs.versions.versions_pass.Given as goal
+
+abbrev pub invariant-loop-version : goal.invariant-loop-version
+invariant-loop-version l = AllByRecursion (IsGenuine l.rows) (take l.version-index l.rows.versions.items)
