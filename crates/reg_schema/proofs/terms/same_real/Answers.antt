@@ -1,6 +1,6 @@
 use Rattle.std.proofs.Common.{rules, sym, ◌∙◌}
 use Rattle.std.specs.Bool.{passes}
-use Rattle.reg_schema.proofs.Reals.{same_bits, nan_beside}
+use Rattle.reg_schema.proofs.SameLemmas.{same_bits, nan_beside}
 use Rattle.reg_schema.proofs.terms.same_real.Goals as goal
 
 pub returns-then-is_nan : goal.returns-then-is_nan

@@ -1,5 +1,7 @@
--- Two floats of one format are the same where their bits are, and there is one NaN.
-use Rattle.std.proofs.Common.{◌≡◌, ◌↔◌, Bool, true, false, T, refl, sym, ap, ◌∙◌, IsTrue, is_nan, to_bits, nat_eq}
+-- When two floats are the same, and two lists.
+-- Floats of one format are the same where their bits are, and there is one NaN.
+use Rattle.std.proofs.Common.{◌≡◌, ◌↔◌, ◌<◌, ℕ, List, length, get_or, map, subst, Bool, true, false, T, refl, sym, ap, ◌∙◌, IsTrue, is_nan, to_bits, nat_eq}
+use Rattle.std.proofs.lemmas.List.{get_or-map}
 use Rattle.std.specs.Float.{binary64}
 use lib.Dec.{eqb→eq, eqb_refl}
 use Rattle.std.proofs.lemmas.Float.{T_from_true}
@@ -21,3 +23,7 @@ nan_beside x y same h is = (λ yes. nan_only x h ∙ sym (nan_only y (sym is ∙
 
 pub same_bits : (x y : Float) → T (Ieee.fits binary64 x) → T (Ieee.fits binary64 y) → IsTrue (nat_eq (to_bits binary64 x) (to_bits binary64 y)) ↔ (x ≡ y)
 same_bits x y fx fy = (λ h. bits_tell x y fx fy (eqb→eq _ _ (T_from_true _ h)), λ e. rw e (is_true _ (eqb_refl _)))
+
+-- what two functions make of two lists is the same at each place
+pub same_at : {X Y : Type 0} (f g : X → Y) (xs ys : List X) (i : ℕ) (d : X) → i < length xs → i < length ys → map f xs ≡ map g ys → f (get_or xs i d) ≡ g (get_or ys i d)
+same_at f g xs ys i d low below e = sym (get_or-map f xs i d (f d) low) ∙ ap (λ zs. get_or zs i (f d)) e ∙ get_or-map g ys i d (f d) below
