@@ -1,6 +1,6 @@
 -- When two floats are the same, and two lists.
 -- Floats of one format are the same where their bits are, and there is one NaN.
-use Rattle.std.proofs.Common.{◌≡◌, ◌↔◌, ◌<◌, ℕ, List, length, get_or, map, subst, Bool, true, false, T, refl, sym, ap, ◌∙◌, IsTrue, is_nan, to_bits, nat_eq}
+use Rattle.std.proofs.Common.{◌≡◌, ◌↔◌, ◌<◌, ℕ, List, length, get_or, map, Bool, true, false, T, refl, sym, ap, ◌∙◌, IsTrue, is_nan, to_bits, nat_eq}
 use Rattle.std.proofs.lemmas.List.{get_or-map}
 use Rattle.std.specs.Float.{binary64}
 use lib.Dec.{eqb→eq, eqb_refl}

@@ -1,5 +1,4 @@
-use Rattle.std.proofs.Common.{arith, sym, ◌∙◌, ◌&&◌}
-use Rattle.std.specs.Prelude.{IsTrue}
+use Rattle.std.proofs.Common.{arith, sym, ◌∙◌}
 use Rattle.reg_schema.proofs.Edits.{both_true}
 use Rattle.reg_schema.proofs.OursLists.{item, past, stands, and_true, accounts_index, tokens_index, scopes_index, crates_index, owners_index, versions_index, reserved_index}
 use Rattle.reg_schema.proofs.ours.are_our_indexes.Goals as goal

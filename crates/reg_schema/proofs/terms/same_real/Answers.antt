@@ -1,4 +1,4 @@
-use Rattle.std.proofs.Common.{rules, sym, ◌∙◌}
+use Rattle.std.proofs.Common.{sym, ◌∙◌}
 use Rattle.std.specs.Bool.{passes}
 use Rattle.reg_schema.proofs.SameLemmas.{same_bits, nan_beside}
 use Rattle.reg_schema.proofs.terms.same_real.Goals as goal
