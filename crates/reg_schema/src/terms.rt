@@ -58,22 +58,25 @@ fn open(ops: &[Op], depth: usize, at: usize) -> (Node<'_>, usize)
     (lend(&ops[at]), depth - 1)
 }
 
-fn same_term(a: &[Op], deep: usize, x: usize, b: &[Op], low: usize, y: usize) -> bool
-    ensures { IsTrue result ↔ (term_to a.now deep x ≡ term_to b.now low y) }
+// Each expression is the node at a place, read to a depth. The walk ends where the two first differ, so it is no longer than either.
+fn same_term(a: &[Op], depth_a: usize, at_a: usize, b: &[Op], depth_b: usize, at_b: usize) -> bool
+    ensures { IsTrue result ↔ (term_to a.now depth_a at_a ≡ term_to b.now depth_b at_b) }
 {
-    let (left, deep) = open(a, deep, x);
-    let (right, low) = open(b, low, y);
+    let (left, depth_a) = open(a, depth_a, at_a);
+    let (right, depth_b) = open(b, depth_b, at_b);
     match (left, right) {
         (Node::Literal(v), Node::Literal(w)) => same_value(v, w),
         (Node::Column(v, p), Node::Column(w, q)) => v == w && p == q,
-        (Node::Unary(v, p), Node::Unary(w, q)) => v == w && same_term(a, deep, p, b, low, q),
+        (Node::Unary(v, p), Node::Unary(w, q)) => v == w && same_term(a, depth_a, p, b, depth_b, q),
         (Node::Binary(v, p, r), Node::Binary(w, q, s)) => {
-            v == w && same_term(a, deep, p, b, low, q) && same_term(a, deep, r, b, low, s)
+            v == w
+                && same_term(a, depth_a, p, b, depth_b, q)
+                && same_term(a, depth_a, r, b, depth_b, s)
         }
         (Node::Case(v, p, r), Node::Case(w, q, s)) => {
-            same_term(a, deep, v, b, low, w)
-                && same_term(a, deep, p, b, low, q)
-                && same_term(a, deep, r, b, low, s)
+            same_term(a, depth_a, v, b, depth_b, w)
+                && same_term(a, depth_a, p, b, depth_b, q)
+                && same_term(a, depth_a, r, b, depth_b, s)
         }
         _ => false,
     }
