@@ -11,3 +11,4 @@ pub mod Statements
 pub mod MakeLemmas
 pub mod OursLists
 pub mod Selections
+pub mod SameLemmas

@@ -1,7 +1,7 @@
 -- A list that is told item by item, and the indexes that SQLite makes for our UNIQUE keys.
-use Rattle.std.proofs.Common.{◌≡◌, ℕ, zero, suc, ◌<◌, ◌≤◌, List, [], ◌∷◌, length, get_or, codes, true, refl, sym, ap, ◌∙◌, arith}
+use Rattle.std.proofs.Common.{◌≡◌, ℕ, zero, suc, ◌<◌, ◌≤◌, List, [], ◌∷◌, length, get_or, codes, true, refl, sym, ap, ◌∙◌, arith, Bool, ◌&&◌}
 use Rattle.std.proofs.Math.Seq.{drop-cons}
-use Rattle.std.specs.Prelude.{drop}
+use Rattle.std.specs.Prelude.{drop, IsTrue}
 use Rattle.sqlite_schema.specs.declared.schema.Index.{Index}
 use Rattle.sqlite_catalog.specs.Listing.{automatic}
 use Rattle.sqlite_value.specs.Keys.{plain}
@@ -17,6 +17,13 @@ past [] zero h = refl
 past [] (suc k) h = refl
 past (x ∷ xs) zero h = absurd (omega (arith, h))
 past (x ∷ xs) (suc k) h = past xs k (omega (arith, h))
+
+-- the item at this place, where the list is told whole
+pub stands : {X : Type 0} (xs ys : List X) (k : ℕ) (x d : X) → x ≡ get_or xs k d → xs ≡ ys → x ≡ get_or ys k d
+stands xs ys k x d is e = is ∙ ap (λ l. get_or l k d) e
+
+pub and_true : (a b : Bool) → IsTrue a → IsTrue b → IsTrue (a && b)
+and_true a b is also = rw (is, also)
 
 abbrev unique_index : List ℕ → ℕ → List ℕ → Index
 unique_index name table columns = record { name = name; tree = suc table; table = table; columns = columns; order = plain; is_unique = true }

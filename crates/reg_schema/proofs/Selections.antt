@@ -1,11 +1,11 @@
 -- What a SELECT on our tables answers and leaves, from its text and its query alone.
-use Rattle.std.proofs.Common.{◌≡◌, inl, arith, ℕ, pos, negsuc, List, [], ◌∷◌, ◌++◌, map, take, Bool, true, false, cond, None, Some, Ok, Err, Result, IfOk, IfErr, OnOk, OnErr, refl, sym, ap, subst, ◌∙◌}
+use Rattle.std.proofs.Common.{◌≡◌, inl, arith, ℕ, List, [], ◌∷◌, ◌++◌, map, Bool, true, false, cond, Ok, Err, Result, IfOk, IfErr, refl, sym, ap, subst, ◌∙◌}
 use Rattle.std.specs.Prelude.{Vec}
 use Rattle.std.specs.declared.alloc.Global.{Global}
 use Rattle.std.specs.List.{flat_map, filter}
 use Rattle.std.specs.List.Sorted.{IsPermutation}
 use Rattle.sqlite.specs.Order.{Row}
-use Rattle.sqlite.specs.Term.{Term, Env, eval_all}
+use Rattle.sqlite.specs.Term.{Term, eval_all}
 use Rattle.sqlite.specs.Tree.{Trees}
 use Rattle.sqlite.specs.Query.{Query, inner, end, matches, IsSureAnswer}
 use Rattle.sqlite.specs.Program.{overlay}

@@ -5,6 +5,7 @@ pub mod laws;
 mod make;
 mod ours;
 mod same;
+mod terms;
 mod texts;
 mod transaction;
 

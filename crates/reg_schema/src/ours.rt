@@ -1,6 +1,6 @@
 //! Whether a schema that was found is ours.
 
-ghost use Rattle.std.specs.Prelude.{◌≡◌, ◌+◌, ◌<◌, true, Ok, IsTrue, IfOk};
+ghost use Rattle.std.specs.Prelude.{◌≡◌, ◌↔◌, ◌+◌, ◌<◌, true, Ok, IsTrue, IfOk};
 ghost use Rattle.sqlite.specs.Compile.{table_defined_by};
 ghost use Rattle.sqlite_value.specs.Keys.{plain};
 ghost use Rattle.reg_schema.specs.Schema.{ours, our_tables, our_indexes};
@@ -14,7 +14,7 @@ use std::alloc::{AllocError, Global};
 
 // The texts are ours and are understood, so that want of memory is their only fault.
 fn is_table(alloc: Global, table: &Table, text: &str, tree: u32) -> Result<bool, AllocError>
-    ensures { IfOk result (λ same. IsTrue same → (made : _) → table_defined_by text.now ≡ Ok made → table.now ≡ record made { tree = tree }) }
+    ensures { IfOk result (λ same. (made : _) → table_defined_by text.now ≡ Ok made → IsTrue same ↔ (table.now ≡ record made { tree = tree })) }
 {
     let Ok(made) = define_table(alloc, text.as_bytes()) else {
         return Err(AllocError);
@@ -23,7 +23,7 @@ fn is_table(alloc: Global, table: &Table, text: &str, tree: u32) -> Result<bool,
 }
 
 fn are_our_tables(alloc: Global, tables: &[Table]) -> Result<bool, AllocError>
-    ensures { IfOk result (λ same. IsTrue same → tables.now ≡ our_tables) }
+    ensures { IfOk result (λ same. IsTrue same ↔ (tables.now ≡ our_tables)) }
 {
     let [
         about,
@@ -53,7 +53,7 @@ fn are_our_tables(alloc: Global, tables: &[Table]) -> Result<bool, AllocError>
 
 fn is_index(index: &Index, name: &str, table: u32, columns: &[usize]) -> bool
     requires { table < 100 }
-    ensures { IsTrue result → index.now ≡ record { name = name.now; tree = table + 1; table = table; columns = columns.now; order = plain; is_unique = true } }
+    ensures { IsTrue result ↔ (index.now ≡ record { name = name.now; tree = table + 1; table = table; columns = columns.now; order = plain; is_unique = true }) }
 {
     index.name.as_slice() == name.as_bytes()
         && index.tree == table + 1
@@ -64,7 +64,7 @@ fn is_index(index: &Index, name: &str, table: u32, columns: &[usize]) -> bool
 }
 
 fn are_our_indexes(indexes: &[Index]) -> bool
-    ensures { IsTrue result → indexes.now ≡ our_indexes }
+    ensures { IsTrue result ↔ (indexes.now ≡ our_indexes) }
 {
     let [accounts, tokens, scopes, crates, owners, versions, reserved] = indexes else {
         return false;
@@ -80,7 +80,7 @@ fn are_our_indexes(indexes: &[Index]) -> bool
 
 /// Whether this is the schema that `make_tables` makes.
 pub fn is_ours(alloc: Global, schema: &Schema) -> Result<bool, AllocError>
-    ensures { IfOk result (λ same. IsTrue same → schema.now ≡ ours) }
+    ensures { IfOk result (λ same. IsTrue same ↔ (schema.now ≡ ours)) }
 {
     if !schema.views.is_empty() || !are_our_indexes(schema.indexes.as_slice()) {
         return Ok(false);

@@ -1,73 +1,27 @@
 //! Whether two parts of a schema are the same.
-//!
-//! Expressions are compared as they are written down. What our texts never have, as CASE or a literal that is a float, is never the same.
 
-ghost use Rattle.std.specs.Prelude.{◌≡◌, IsTrue};
+ghost use Rattle.std.specs.Prelude.{◌≡◌, ◌↔◌, IsTrue};
 
-use sqlite::types::Value;
+use crate::terms::{same_terms, same_value};
 use sqlite_items::Items;
-use sqlite_schema::code::{Op, Terms};
+use sqlite_schema::code::lend_value;
 use sqlite_schema::schema::{Column, Reference, Stamps, Table};
 use sqlite_value::keys::Order;
 use sqlite_value::value::Bytes;
 
-fn same_value(a: &Value, b: &Value) -> bool
-    ensures { IsTrue result → a.now ≡ b.now }
-{
-    match (a, b) {
-        (Value::Null, Value::Null) => true,
-        (Value::Int(x), Value::Int(y)) => *x == *y,
-        (Value::Text(x), Value::Text(y)) => x.as_slice() == y.as_slice(),
-        (Value::Blob(x), Value::Blob(y)) => x.as_slice() == y.as_slice(),
-        _ => false,
-    }
-}
-
-fn same_op(a: &Op, b: &Op) -> bool
-    ensures { IsTrue result → a.now ≡ b.now }
-{
-    match (a, b) {
-        (Op::Literal(x), Op::Literal(y)) => same_value(x, y),
-        (Op::Column(x, y), Op::Column(z, w)) => *x == *z && *y == *w,
-        (Op::Unary(x, y), Op::Unary(z, w)) => *x == *z && *y == *w,
-        (Op::Binary(x, y, u), Op::Binary(z, w, v)) => *x == *z && *y == *w && *u == *v,
-        _ => false,
-    }
-}
-
-fn same_ops(a: &[Op], b: &[Op]) -> bool
-    ensures { IsTrue result → a.now ≡ b.now }
-{
-    if a.len() != b.len() {
-        return false;
-    }
-    for (i, x) in a.iter().enumerate() {
-        if !same_op(x, &b[i]) {
-            return false;
-        }
-    }
-    true
-}
-
-fn same_terms(a: &Terms, b: &Terms) -> bool
-    ensures { IsTrue result → a.now ≡ b.now }
-{
-    a.roots.as_slice() == b.roots.as_slice() && same_ops(a.nodes.as_slice(), b.nodes.as_slice())
-}
-
 fn same_column(a: &Column, b: &Column) -> bool
-    ensures { IsTrue result → a.now ≡ b.now }
+    ensures { IsTrue result ↔ (a.now ≡ b.now) }
 {
     a.name.as_slice() == b.name.as_slice()
         && a.kind == b.kind
         && a.is_strict == b.is_strict
         && a.not_null == b.not_null
-        && same_value(&a.default, &b.default)
+        && same_value(lend_value(&a.default), lend_value(&b.default))
         && a.collation == b.collation
 }
 
 fn same_columns(a: &[Column], b: &[Column]) -> bool
-    ensures { IsTrue result → a.now ≡ b.now }
+    ensures { IsTrue result ↔ (a.now ≡ b.now) }
 {
     if a.len() != b.len() {
         return false;
@@ -81,13 +35,13 @@ fn same_columns(a: &[Column], b: &[Column]) -> bool
 }
 
 fn same_name(a: &Bytes, b: &Bytes) -> bool
-    ensures { IsTrue result → a.now ≡ b.now }
+    ensures { IsTrue result ↔ (a.now ≡ b.now) }
 {
     a.as_slice() == b.as_slice()
 }
 
 fn same_names(a: &[Bytes], b: &[Bytes]) -> bool
-    ensures { IsTrue result → a.now ≡ b.now }
+    ensures { IsTrue result ↔ (a.now ≡ b.now) }
 {
     if a.len() != b.len() {
         return false;
@@ -101,13 +55,13 @@ fn same_names(a: &[Bytes], b: &[Bytes]) -> bool
 }
 
 fn same_places(a: &Items<usize>, b: &Items<usize>) -> bool
-    ensures { IsTrue result → a.now ≡ b.now }
+    ensures { IsTrue result ↔ (a.now ≡ b.now) }
 {
     a.as_slice() == b.as_slice()
 }
 
 fn same_keys(a: &[Items<usize>], b: &[Items<usize>]) -> bool
-    ensures { IsTrue result → a.now ≡ b.now }
+    ensures { IsTrue result ↔ (a.now ≡ b.now) }
 {
     if a.len() != b.len() {
         return false;
@@ -121,13 +75,13 @@ fn same_keys(a: &[Items<usize>], b: &[Items<usize>]) -> bool
 }
 
 fn same_order(a: &Order, b: &Order) -> bool
-    ensures { IsTrue result → a.now ≡ b.now }
+    ensures { IsTrue result ↔ (a.now ≡ b.now) }
 {
     *a == *b
 }
 
 fn same_orders(a: &[Order], b: &[Order]) -> bool
-    ensures { IsTrue result → a.now ≡ b.now }
+    ensures { IsTrue result ↔ (a.now ≡ b.now) }
 {
     if a.len() != b.len() {
         return false;
@@ -141,7 +95,7 @@ fn same_orders(a: &[Order], b: &[Order]) -> bool
 }
 
 fn same_reference(a: &Reference, b: &Reference) -> bool
-    ensures { IsTrue result → a.now ≡ b.now }
+    ensures { IsTrue result ↔ (a.now ≡ b.now) }
 {
     a.columns.as_slice() == b.columns.as_slice()
         && a.parent.as_slice() == b.parent.as_slice()
@@ -152,7 +106,7 @@ fn same_reference(a: &Reference, b: &Reference) -> bool
 }
 
 fn same_references(a: &[Reference], b: &[Reference]) -> bool
-    ensures { IsTrue result → a.now ≡ b.now }
+    ensures { IsTrue result ↔ (a.now ≡ b.now) }
 {
     if a.len() != b.len() {
         return false;
@@ -166,7 +120,7 @@ fn same_references(a: &[Reference], b: &[Reference]) -> bool
 }
 
 fn same_stamps(a: &Stamps, b: &Stamps) -> bool
-    ensures { IsTrue result → a.now ≡ b.now }
+    ensures { IsTrue result ↔ (a.now ≡ b.now) }
 {
     a.places.as_slice() == b.places.as_slice()
         && same_terms(&a.terms, &b.terms)
@@ -174,7 +128,7 @@ fn same_stamps(a: &Stamps, b: &Stamps) -> bool
 }
 
 fn same_shape(a: &Table, b: &Table) -> bool
-    ensures { IsTrue result → (a.now.name ≡ b.now.name) × (a.now.columns ≡ b.now.columns) × (a.now.key ≡ b.now.key) × (a.now.is_counted ≡ b.now.is_counted) }
+    ensures { IsTrue result ↔ ((a.now.name ≡ b.now.name) × (a.now.columns ≡ b.now.columns) × (a.now.key ≡ b.now.key) × (a.now.is_counted ≡ b.now.is_counted)) }
 {
     a.name.as_slice() == b.name.as_slice()
         && same_columns(a.columns.as_slice(), b.columns.as_slice())
@@ -183,7 +137,7 @@ fn same_shape(a: &Table, b: &Table) -> bool
 }
 
 fn same_unique_keys(a: &Table, b: &Table) -> bool
-    ensures { IsTrue result → (a.now.primary ≡ b.now.primary) × (a.now.uniques ≡ b.now.uniques) × (a.now.orders ≡ b.now.orders) }
+    ensures { IsTrue result ↔ ((a.now.primary ≡ b.now.primary) × (a.now.uniques ≡ b.now.uniques) × (a.now.orders ≡ b.now.orders)) }
 {
     same_places(&a.primary, &b.primary)
         && same_keys(a.uniques.as_slice(), b.uniques.as_slice())
@@ -191,7 +145,7 @@ fn same_unique_keys(a: &Table, b: &Table) -> bool
 }
 
 fn same_rules(a: &Table, b: &Table) -> bool
-    ensures { IsTrue result → (a.now.checks ≡ b.now.checks) × (a.now.references ≡ b.now.references) × (a.now.computed ≡ b.now.computed) × (a.now.stamps ≡ b.now.stamps) }
+    ensures { IsTrue result ↔ ((a.now.checks ≡ b.now.checks) × (a.now.references ≡ b.now.references) × (a.now.computed ≡ b.now.computed) × (a.now.stamps ≡ b.now.stamps)) }
 {
     same_terms(&a.checks, &b.checks)
         && same_references(a.references.as_slice(), b.references.as_slice())
@@ -201,7 +155,7 @@ fn same_rules(a: &Table, b: &Table) -> bool
 
 /// Whether the tables are the same but for their trees.
 pub(crate) fn same_table(a: &Table, b: &Table) -> bool
-    ensures { IsTrue result → a.now ≡ record b.now { tree = a.now.tree } }
+    ensures { IsTrue result ↔ (a.now ≡ record b.now { tree = a.now.tree }) }
 {
     same_shape(a, b) && same_unique_keys(a, b) && same_rules(a, b)
 }

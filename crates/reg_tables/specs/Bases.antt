@@ -13,3 +13,7 @@ IsBase rows (Some base) = rows ≡ about_columns base ∷ []
 -- there is one row of `about`, of schema 1
 abbrev pub HasBase : Trees → Type 0
 HasBase db = (base : List ℕ) × (map (shows (1 ∷ 2 ∷ [])) (db 0) ≡ about_columns base ∷ [])
+
+-- there is none, or it is not alone, or it is not of schema 1
+abbrev pub LacksBase : Trees → Type 0
+LacksBase db = IsBase (map (shows (1 ∷ 2 ∷ [])) (db 0)) None

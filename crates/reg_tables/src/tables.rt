@@ -1,12 +1,12 @@
 //! The tables over a connection.
 
-ghost use Rattle.std.specs.Prelude.{◌≡◌, ◌≢◌, ◌↔◌, true, false, Err, IfErr, IfOk, IsTrue};
+ghost use Rattle.std.specs.Prelude.{◌≡◌, ◌≢◌, ◌⊎◌, ◌↔◌, true, false, Err, IfErr, IfOk, IsTrue};
 ghost use Rattle.std.specs.Borrow.{sem, RestsIfErr};
 ghost use Rattle.sqlite.specs.State.{HasCleanDisk, KeepsCommit, Shows, Survives};
 ghost use Rattle.sqlite.specs.Held.{state};
-ghost use Rattle.reg_schema.specs.Schema.{blank};
+ghost use Rattle.reg_schema.specs.Schema.{blank, ours};
 ghost use Rattle.reg_schema.specs.States.{IsAtRest, IsMade, IsOurs, IsUndone};
-ghost use Rattle.reg_tables.specs.Bases.{HasBase};
+ghost use Rattle.reg_tables.specs.Bases.{HasBase, LacksBase};
 ghost use Rattle.reg_tables.specs.contracts.tables.Tables.{the_row};
 ghost use Rattle.reg_tables.specs.Works.{AreOurs, IsAtWork, IsLeft, has_failed, held, is_shut, seen, shown};
 
@@ -27,6 +27,7 @@ pub struct Tables<S: Alter> {
 fn read_base<S: Alter>(conn: &mut Connection<S>) -> Result<bool, Error>
     requires ours { IsOurs (state S.Store conn.old) }
     ensures found { HasCleanDisk (state S.Store conn.new) → IfOk result (λ has. IsTrue has → HasBase (state S.Store conn.old).now.trees) }
+    ensures lacks { HasCleanDisk (state S.Store conn.new) → IfOk result (λ has. has ≡ false → LacksBase (state S.Store conn.old).now.trees) }
     ensures keeps { HasCleanDisk (state S.Store conn.new) → KeepsCommit (state S.Store conn.old) (state S.Store conn.new) }
     ensures ours { IsOurs (state S.Store conn.new) }
     ensures survives { Survives (state S.Store conn.old) (state S.Store conn.new) (λ _. ⊥) }
@@ -40,6 +41,7 @@ fn read_base<S: Alter>(conn: &mut Connection<S>) -> Result<bool, Error>
 fn has_base<S: Alter>(conn: &mut Connection<S>) -> Result<bool, Error>
     requires ours { IsOurs (state S.Store conn.old) }
     ensures found { HasCleanDisk (state S.Store conn.new) → IfOk result (λ has. IsTrue has → HasBase (state S.Store conn.old).now.trees) }
+    ensures lacks { HasCleanDisk (state S.Store conn.new) → IfOk result (λ has. has ≡ false → LacksBase (state S.Store conn.old).now.trees) }
     ensures undone { HasCleanDisk (state S.Store conn.new) → IsUndone (state S.Store conn.old) (state S.Store conn.new) }
     ensures ours { IsOurs (state S.Store conn.new) }
     ensures survives { Survives (state S.Store conn.old) (state S.Store conn.new) (λ _. ⊥) }
@@ -79,6 +81,7 @@ impl<S: Alter> Tables<S> {
         ensures found { IfOk result (λ t. HasCleanDisk (shown S.Store t) → IsTrue (shown S.Store t).is_open → (shown S.Store t).now ≡ (state S.Store conn).now) }
         ensures about { IfOk result (λ t. HasCleanDisk (shown S.Store t) → HasBase (state S.Store conn).now.trees) }
         ensures ours { IfOk result (λ t. AreOurs S.Store t × (is_shut t ≡ false)) }
+        ensures unknown { IfErr result (λ e. HasCleanDisk (state S.Store e.1) → e.0 ≡ MakeFault.UnknownSchema → ((state S.Store conn).now.schema ≢ ours) ⊎ LacksBase (state S.Store conn).now.trees) }
         ensures handed_back { IfErr result (λ e. HasCleanDisk (state S.Store e.1) → KeepsCommit (state S.Store conn) (state S.Store e.1)) }
         ensures kept { IfOk result (λ t. Survives (state S.Store conn) (shown S.Store t) (λ _. ⊥)) }
         ensures left { IfErr result (λ e. Survives (state S.Store conn) (state S.Store e.1) (λ _. ⊥)) }

@@ -1,27 +1,41 @@
 use Rattle.std.proofs.Common.{arith, sym, ◌∙◌}
 use Rattle.reg_schema.proofs.Edits.{both_true}
-use Rattle.reg_schema.proofs.OursLists.{item, past}
+use Rattle.reg_schema.proofs.OursLists.{item, past, stands, and_true}
 use Rattle.reg_schema.proofs.TableTexts.{about_step, accounts_step, tokens_step, scopes_step, crates_step, owners_step, versions_step, archives_step, reserved_step}
 use Rattle.reg_schema.proofs.ours.are_our_tables.Goals as goal
 
 pub returns : goal.returns
-returns c h =
-    let both = both_true _ _ h in
-    let t4 = both_true _ _ both.0 in
-    let t3 = both_true _ _ t4.0 in
-    let t2 = both_true _ _ t3.0 in
-    let u5 = both_true _ _ both.1 in
-    let u4 = both_true _ _ u5.0 in
-    let u3 = both_true _ _ u4.0 in
-    let u2 = both_true _ _ u3.0 in
-    let xs = c.args.tables.now in
-    item xs 0 _ _ _ (omega (arith, c.in-len9.len_at_least)) (sym (c.in_ok-is_table.ensures t2.0 _ about_step.defined) ∙ c.about-item.is)
-    (item xs 1 _ _ _ (omega (arith, c.in-len9.len_at_least)) (sym (c.in_ok-is_table-2.ensures t2.1 _ accounts_step.defined) ∙ c.accounts-item.is)
-    (item xs 2 _ _ _ (omega (arith, c.in-len9.len_at_least)) (sym (c.in_ok-is_table-3.ensures t3.1 _ tokens_step.defined) ∙ c.tokens-item.is)
-    (item xs 3 _ _ _ (omega (arith, c.in-len9.len_at_least)) (sym (c.in_ok-of_tokens.ensures t4.1 _ scopes_step.defined) ∙ c.scopes-item.is)
-    (item xs 4 _ _ _ (omega (arith, c.in-len9.len_at_least)) (sym (c.in_ok-is_table-4.ensures u2.0 _ crates_step.defined) ∙ c.crates-item.is)
-    (item xs 5 _ _ _ (omega (arith, c.in-len9.len_at_least)) (sym (c.in_ok-is_table-5.ensures u2.1 _ owners_step.defined) ∙ c.owners-item.is)
-    (item xs 6 _ _ _ (omega (arith, c.in-len9.len_at_least)) (sym (c.in_ok-is_table-6.ensures u3.1 _ versions_step.defined) ∙ c.versions-item.is)
-    (item xs 7 _ _ _ (omega (arith, c.in-len9.len_at_least)) (sym (c.in_ok-is_table-7.ensures u4.1 _ archives_step.defined) ∙ c.archives-item.is)
-    (item xs 8 _ _ _ (omega (arith, c.in-len9.len_at_least)) (sym (c.in_ok-of_crates.ensures u5.1 _ reserved_step.defined) ∙ c.reserved-item.is)
-    (past xs 9 (omega (arith, c.in-len9.len_below)))))))))))
+returns c =
+    let xs = c.args.tables.now in (
+      λ h.
+          let both = both_true _ _ h in
+          let t4 = both_true _ _ both.0 in
+          let t3 = both_true _ _ t4.0 in
+          let t2 = both_true _ _ t3.0 in
+          let u5 = both_true _ _ both.1 in
+          let u4 = both_true _ _ u5.0 in
+          let u3 = both_true _ _ u4.0 in
+          let u2 = both_true _ _ u3.0 in
+          item xs 0 _ _ _ (omega (arith, c.in-len9.len_at_least)) (sym ((c.in_ok-is_table.ensures _ about_step.defined).0 t2.0) ∙ c.about-item.is)
+          (item xs 1 _ _ _ (omega (arith, c.in-len9.len_at_least)) (sym ((c.in_ok-is_table-2.ensures _ accounts_step.defined).0 t2.1) ∙ c.accounts-item.is)
+          (item xs 2 _ _ _ (omega (arith, c.in-len9.len_at_least)) (sym ((c.in_ok-is_table-3.ensures _ tokens_step.defined).0 t3.1) ∙ c.tokens-item.is)
+          (item xs 3 _ _ _ (omega (arith, c.in-len9.len_at_least)) (sym ((c.in_ok-of_tokens.ensures _ scopes_step.defined).0 t4.1) ∙ c.scopes-item.is)
+          (item xs 4 _ _ _ (omega (arith, c.in-len9.len_at_least)) (sym ((c.in_ok-is_table-4.ensures _ crates_step.defined).0 u2.0) ∙ c.crates-item.is)
+          (item xs 5 _ _ _ (omega (arith, c.in-len9.len_at_least)) (sym ((c.in_ok-is_table-5.ensures _ owners_step.defined).0 u2.1) ∙ c.owners-item.is)
+          (item xs 6 _ _ _ (omega (arith, c.in-len9.len_at_least)) (sym ((c.in_ok-is_table-6.ensures _ versions_step.defined).0 u3.1) ∙ c.versions-item.is)
+          (item xs 7 _ _ _ (omega (arith, c.in-len9.len_at_least)) (sym ((c.in_ok-is_table-7.ensures _ archives_step.defined).0 u4.1) ∙ c.archives-item.is)
+          (item xs 8 _ _ _ (omega (arith, c.in-len9.len_at_least)) (sym ((c.in_ok-of_crates.ensures _ reserved_step.defined).0 u5.1) ∙ c.reserved-item.is)
+          (past xs 9 (omega (arith, c.in-len9.len_below))))))))))),
+      λ e.
+          and_true _ _ (and_true _ _ (and_true _ _ (and_true _ _
+          ((c.in_ok-is_table.ensures _ about_step.defined).1 (stands xs _ 0 _ _ c.about-item.is e))
+          ((c.in_ok-is_table-2.ensures _ accounts_step.defined).1 (stands xs _ 1 _ _ c.accounts-item.is e)))
+          ((c.in_ok-is_table-3.ensures _ tokens_step.defined).1 (stands xs _ 2 _ _ c.tokens-item.is e)))
+          ((c.in_ok-of_tokens.ensures _ scopes_step.defined).1 (stands xs _ 3 _ _ c.scopes-item.is e)))
+          (and_true _ _ (and_true _ _ (and_true _ _ (and_true _ _
+          ((c.in_ok-is_table-4.ensures _ crates_step.defined).1 (stands xs _ 4 _ _ c.crates-item.is e))
+          ((c.in_ok-is_table-5.ensures _ owners_step.defined).1 (stands xs _ 5 _ _ c.owners-item.is e)))
+          ((c.in_ok-is_table-6.ensures _ versions_step.defined).1 (stands xs _ 6 _ _ c.versions-item.is e)))
+          ((c.in_ok-is_table-7.ensures _ archives_step.defined).1 (stands xs _ 7 _ _ c.archives-item.is e)))
+          ((c.in_ok-of_crates.ensures _ reserved_step.defined).1 (stands xs _ 8 _ _ c.reserved-item.is e))),
+    )
