@@ -10,4 +10,6 @@ mod making;
 #[cfg(test)]
 mod memory;
 #[cfg(test)]
+mod reading;
+#[cfg(test)]
 mod tokens;
