@@ -37,6 +37,7 @@ pub mod ReservedQueries
 pub mod ReservedTexts
 pub mod Results
 pub mod Rising
+pub mod RowReading
 pub mod Rowids
 pub mod ScopeQueries
 pub mod ScopeRows

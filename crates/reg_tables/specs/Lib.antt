@@ -8,11 +8,13 @@ pub mod Entries
 pub mod FoundTokens
 pub mod Greatest
 pub mod Ids
+pub mod Lending
 pub mod Numbers
 pub mod OwnerEntries
 pub mod OwnerRecords
 pub mod Owners
 pub mod Patterns
+pub mod Readers
 pub mod ScopeRecords
 pub mod Shown
 pub mod Stands

@@ -8,9 +8,12 @@ ghost use Rattle.reg_schema.specs.Schema.{blank, ours};
 ghost use Rattle.reg_schema.specs.States.{IsAtRest, IsMade, IsOurs, IsUndone};
 ghost use Rattle.reg_tables.specs.Bases.{HasBase, LacksBase};
 ghost use Rattle.reg_tables.specs.contracts.tables.Tables.{the_row};
+ghost use Rattle.reg_tables.specs.Lending.{LendsReader};
+ghost use Rattle.reg_tables.specs.Readers.{is_closed, reached};
 ghost use Rattle.reg_tables.specs.Works.{AreOurs, IsAtWork, IsLeft, has_failed, held, is_shut, seen, shown};
 
 use crate::about;
+use crate::reader::Reader;
 use crate::work::{StoreFault, Work};
 use reg_schema::laws::rest_law;
 use reg_schema::{MakeFault, begin, is_ours, make_tables, undo};
@@ -105,6 +108,19 @@ impl<S: Alter> Tables<S> {
     {
         let Tables { conn, shut: _ } = self;
         conn
+    }
+
+    /// The tables, to be read in no transaction of their own.
+    pub fn reader(&mut self) -> Reader<'_, S>
+        ensures* lends { sem 𝓛 (LendsReader S.row S.Store self.entry result) }
+        ensures reaches { reached result ≡ held self.old }
+        ensures closed { is_closed result ≡ is_shut self.old }
+    {
+        let shut = self.shut;
+        Reader {
+            conn: &mut self.conn,
+            shut,
+        }
     }
 
     /// Begins a transaction.

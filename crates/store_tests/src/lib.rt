@@ -12,4 +12,6 @@ mod memory;
 #[cfg(test)]
 mod opening;
 #[cfg(test)]
+mod reading;
+#[cfg(test)]
 mod tokens;

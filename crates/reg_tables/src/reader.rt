@@ -1,0 +1,62 @@
+//! Rows of the tables, one at a time.
+
+ghost use Rattle.std.specs.Prelude.{◌≡◌, false, [], IfOk};
+ghost use Rattle.std.specs.Borrow.{sem, RestsIfErr};
+ghost use Rattle.sqlite.specs.Given.{HasGiven, IsPlain};
+ghost use Rattle.sqlite.specs.Held.{state};
+ghost use Rattle.sqlite.specs.Listing.{understood};
+ghost use Rattle.sqlite.specs.State.{HasCleanDisk, IsUnchanged, Survives};
+ghost use Rattle.sqlite.specs.Values.{bound};
+ghost use Rattle.sqlite.specs.contracts.connection.Connection as connection;
+ghost use Rattle.reg_schema.specs.Schema.{ours};
+ghost use Rattle.reg_schema.specs.States.{IsOurs};
+ghost use Rattle.reg_tables.specs.Readers.{IsSpared, is_closed, reached};
+
+use sqlite::types::ValueRef;
+use sqlite::{Alter, Connection, Error, ErrorCode, Rows};
+
+/// The tables, to be read by one text. It changes nothing.
+pub struct Reader<'t, S: Alter> {
+    pub(crate) conn: &'t mut Connection<S>,
+    pub(crate) shut: bool,
+}
+
+impl<'t, S: Alter> Reader<'t, S> {
+    /// The rows of a text that only reads, one at a time. They may be dropped at any row.
+    pub fn rows(self, text: &str, params: &[ValueRef<'_>]) -> Result<Rows<'t, S>, Error>
+        requires ours { IsOurs (state S.Store (reached self)) }
+        requires reads { IsPlain (understood ours text.now) }
+        ensures* refused { sem 𝓛 (RestsIfErr (connection.the_row S.row S.Store) self.entry.conn (λ rows. rows.conn.ghost_name) result (IsSpared S.Store (reached self.entry))) }
+        ensures same_reference { IfOk result (λ rows. rows.conn.ghost_name ≡ self.entry.conn.ghost_name) }
+        ensures begun { IfOk result (λ rows. HasCleanDisk (state S.Store rows.conn.now) → HasGiven S.Store text.now (bound params.now) rows.conn.now []) }
+        ensures same { IfOk result (λ rows. HasCleanDisk (state S.Store rows.conn.now) → IsUnchanged (state S.Store (reached self.entry)) (state S.Store rows.conn.now)) }
+        ensures ours { IfOk result (λ rows. IsOurs (state S.Store rows.conn.now)) }
+        ensures open { IfOk result (λ _. is_closed self.entry ≡ false) }
+        ensures survives { IfOk result (λ rows. Survives (state S.Store (reached self.entry)) (state S.Store rows.conn.now) (λ _. ⊥)) }
+    {
+        let Reader { conn, shut } = self;
+        if shut {
+            return Err(Error::SqliteFailure(ErrorCode::Closed));
+        }
+        rows_of(conn, text, params)
+    }
+}
+
+/// The text is prepared first, since that alone shows that the connection is open.
+fn rows_of<'c, S: Alter>(
+    conn: &'c mut Connection<S>,
+    text: &str,
+    params: &[ValueRef<'_>],
+) -> Result<Rows<'c, S>, Error>
+    requires ours { IsOurs (state S.Store conn.old) }
+    requires reads { IsPlain (understood ours text.now) }
+    ensures* refused { sem 𝓛 (RestsIfErr (connection.the_row S.row S.Store) conn.entry (λ rows. rows.conn.ghost_name) result (IsSpared S.Store conn.old)) }
+    ensures same_reference { IfOk result (λ rows. rows.conn.ghost_name ≡ conn.entry.ghost_name) }
+    ensures begun { IfOk result (λ rows. HasCleanDisk (state S.Store rows.conn.now) → HasGiven S.Store text.now (bound params.now) rows.conn.now []) }
+    ensures same { IfOk result (λ rows. HasCleanDisk (state S.Store rows.conn.now) → IsUnchanged (state S.Store conn.old) (state S.Store rows.conn.now)) }
+    ensures ours { IfOk result (λ rows. IsOurs (state S.Store rows.conn.now)) }
+    ensures survives { IfOk result (λ rows. Survives (state S.Store conn.old) (state S.Store rows.conn.now) (λ _. ⊥)) }
+{
+    let statement = conn.prepare(text)?;
+    conn.query_prepared(&statement, params)
+}
