@@ -1,2 +1,7 @@
+pub mod Genuine
 pub mod Looking
 pub mod Orders
+pub mod SameIds
+pub mod Scopes
+pub mod Sets
+pub mod Stems

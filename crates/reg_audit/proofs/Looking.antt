@@ -1,10 +1,10 @@
 -- What functions that only read leave, one after another.
-use Rattle.std.proofs.Common.{◌≡◌, Bool, true, false, Result, Ok, Err, OnOk, OnErr, refl, sym, arith, ◌∙◌, inl, inr}
+use Rattle.std.proofs.Common.{Result, Ok, Err, OnOk, OnErr, refl, arith, ◌∙◌}
 use Rattle.sqlite_trees.specs.declared.store.Store.{Ghosts}
-use Rattle.sqlite.specs.State.{State, HasCleanDisk, IsUnchanged, KeepsCommit, Survives}
+use Rattle.sqlite.specs.State.{State, HasCleanDisk, IsUnchanged, KeepsCommit}
 use Rattle.sqlite.proofs.StateLemmas.{survives_then}
 use Rattle.reg_schema.specs.States.{IsInside}
-use Rattle.reg_tables.specs.Works.{Fails, IsAtWork, IsCall, has_failed, is_shut, seen}
+use Rattle.reg_tables.specs.Works.{Fails, IsCall, seen}
 use Rattle.reg_tables.specs.declared.work.Work.{Work}
 use Rattle.reg_audit.specs.Looks.{Looks}
 
@@ -17,19 +17,19 @@ keeps_then a b c one two = record { was_open = λ h. one.was_open (two.was_open 
 pub itself_unchanged : (s : State) → IsInside s → IsUnchanged s s
 itself_unchanged s at = (record { was_open = at.is_open; is_open = at.is_open; now_is = refl; committed_is = refl; mode = refl }, record { changes = refl; last_rowid = refl }, refl)
 
+call_keeps : {T E : Type 0} (old new : State) (r : Result T E) → OnOk r (IsUnchanged old new) → OnErr r (Fails old new) → KeepsCommit old new
+call_keeps old new (Ok x) same fails = unchanged_keeps old new same
+call_keeps old new (Err e) same fails = fails.kept
+
 module _ {S : Type 0} (g : Ghosts S) where
   pub call_looks : {T E : Type 0} (r : Result T E) (old new : Work S) → IsCall g r old new → (HasCleanDisk (seen g new) → OnOk r (IsUnchanged (seen g old) (seen g new))) → Looks g old new
   call_looks r old new call same = record {
     same_reference = call.same_reference;
     same_mode = call.same_mode;
     at_work = call.at_work;
-    kept = λ clean. kept r (same clean) (call.failed clean);
+    kept = λ clean. call_keeps (seen g old) (seen g new) r (same clean) (call.failed clean);
     survives = call.survives;
   }
-  where
-    kept : {T E : Type 0} (r : Result T E) → OnOk r (IsUnchanged (seen g old) (seen g new)) → OnErr r (Fails (seen g old) (seen g new)) → KeepsCommit (seen g old) (seen g new)
-    kept (Ok x) same fails = unchanged_keeps (seen g old) (seen g new) same
-    kept (Err e) same fails = fails.kept
 
   pub looks_then : (a b c : Work S) → Looks g a b → Looks g b c → Looks g a c
   looks_then a b c one two = record {

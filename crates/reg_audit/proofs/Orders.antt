@@ -1,9 +1,10 @@
 -- The first check of a list that fails.
-use Rattle.std.proofs.Common.{◌≡◌, List, [], ◌∷◌, ◌++◌, Option, None, Some, refl, inl, inr}
+use Rattle.std.proofs.Common.{◌≡◌, List, [], ◌∷◌, ◌++◌, Option, None, Some, true, false, refl, inl, inr}
+use Rattle.std.specs.Prelude.{is_some}
 use Rattle.sqlite.specs.Tree.{Trees}
 use Rattle.reg_tables.specs.declared.all_rows.AllRows.{AllRows}
 use Rattle.reg_audit.specs.declared.check.Check.{Check}
-use Rattle.reg_audit.specs.Checks.{IsFirstOf, Passes}
+use Rattle.reg_audit.specs.Checks.{IsFirstOf}
 
 pub first_in : (cs ds : List Check) (it : AllRows) (db : Trees) (c : Check) → IsFirstOf cs it db (Some c) → IsFirstOf (cs ++ ds) it db (Some c)
 first_in [] ds it db c h = absurd cc
@@ -14,3 +15,11 @@ pub first_then : (cs ds : List Check) (it : AllRows) (db : Trees) (found : Optio
 first_then [] ds it db found none h = h
 first_then (d ∷ rest) ds it db found (inl (passes, none)) h = inl (passes, first_then rest ds it db found none h)
 first_then (d ∷ rest) ds it db found (inr (fails, none)) h = absurd cc
+
+pub first_in_some : (cs ds : List Check) (it : AllRows) (db : Trees) (found : Option Check) → is_some found ≡ true → IsFirstOf cs it db found → IsFirstOf (cs ++ ds) it db found
+first_in_some cs ds it db None there h = absurd cc
+first_in_some cs ds it db (Some c) there h = first_in cs ds it db c h
+
+pub none_of : (found : Option Check) → is_some found ≡ false → found ≡ None
+none_of None h = refl
+none_of (Some c) h = absurd cc

@@ -49,7 +49,9 @@ pub(crate) fn crates_pass(alloc: Global, rows: &AllRows) -> Result<bool, AllocEr
 {
     let owned = owned(alloc, &rows.owners)?;
     let published = published(alloc, &rows.versions)?;
-    Ok(rows.crates.iter().all(|it| {
-        is_named(it) && owned.contains(&it.id) && published.contains(&it.id)
-    }))
+    Ok(
+        rows.crates.iter().all(|it| {
+            is_named(it) && owned.contains(&it.id) && published.contains(&it.id)
+        }),
+    )
 }

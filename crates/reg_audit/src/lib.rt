@@ -3,13 +3,13 @@
 
 mod accounts;
 mod archives;
-mod audit;
 mod check;
 mod crates;
+mod opening;
 mod reserved;
 mod texts;
 mod tokens;
 mod versions;
 
-pub use audit::audit;
 pub use check::Check;
+pub use opening::audit;

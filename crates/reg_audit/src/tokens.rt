@@ -1,13 +1,15 @@
 //! The check of the tokens and of their patterns.
 
-ghost use Rattle.std.specs.Prelude.{◌≡◌, ◌==◌, ◌+◌, ◌&&◌, ◌||◌, IfOk};
+ghost use Rattle.std.specs.Prelude.{◌≡◌, ◌==◌, ◌+◌, ◌&&◌, ◌||◌, IfOk, string_bytes};
+ghost use Rattle.std.specs.Str.{bytes_eq};
+ghost use Rattle.reg_names.specs.Ranges.{range_view};
 ghost use Rattle.std.specs.List.{list_all};
 ghost use Rattle.reg_model.specs.Sound.{has_some};
 ghost use Rattle.reg_audit.specs.Checks.{are_placed as are_placed_in, follow as follow_in, is_scope as is_scope_row, is_token as is_token_row, tokens_pass as tokens_pass_in};
 
 use crate::texts::{HasId, are_counted, same_text};
 use reg_model::Endpoints;
-use reg_names::{Pattern, compile};
+use reg_names::{NameRange, Pattern, compile};
 use reg_tables::{AllRows, Scope, Token};
 use std::alloc::{AllocError, Global};
 
@@ -38,6 +40,12 @@ fn are_tokens(tokens: &[Token]) -> bool
     tokens.iter().all(|token| is_token(token))
 }
 
+fn has_range(scope: &Scope, range: &NameRange) -> bool
+    ensures { result ≡ (bytes_eq (string_bytes scope.now.low) (range_view range.now).low && bytes_eq (string_bytes scope.now.high) (range_view range.now).high) }
+{
+    same_text(&scope.low, &range.low) && same_text(&scope.high, &range.high)
+}
+
 fn is_scope(alloc: Global, scope: &Scope) -> Result<bool, AllocError>
     ensures { IfOk result (λ b. b ≡ is_scope_row scope.now) }
 {
@@ -45,7 +53,7 @@ fn is_scope(alloc: Global, scope: &Scope) -> Result<bool, AllocError>
         None => Ok(false),
         Some(pattern) => {
             let range = compile(alloc, &pattern)?;
-            Ok(same_text(&scope.low, &range.low) && same_text(&scope.high, &range.high))
+            Ok(has_range(scope, &range))
         }
     }
 }

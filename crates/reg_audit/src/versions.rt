@@ -1,13 +1,13 @@
 //! The check of the versions and of their lines.
 
-ghost use Rattle.std.specs.Prelude.{◌≡◌, ◌==◌, ◌↔◌, ℕ, IfOk, IsTrue, length, string_bytes};
-ghost use Rattle.std.specs.Option.{option_map};
-ghost use Rattle.std.specs.List.{AllByRecursion, find};
+ghost use Rattle.std.specs.Prelude.{◌≡◌, ◌==◌, ◌↔◌, ℕ, IfOk, IsTrue, None, OnOk, Some, if◌then◌else◌, length, string_bytes};
+ghost use Rattle.std.specs.Option.{option_map, option_or};
+ghost use Rattle.std.specs.List.{AllByRecursion, position_from};
 ghost use Rattle.std.specs.Ordering.{nat_cmp};
 ghost use Rattle.std.specs.BTreeMap.{get};
 ghost use Rattle.reg_versions.specs.Versions.{is_version as is_version_text};
 ghost use Rattle.reg_line.specs.StemCheck.{IsStemOf};
-ghost use Rattle.reg_audit.specs.Checks.{IsGenuine, VersionsPass};
+ghost use Rattle.reg_audit.specs.Checks.{crate_of as crate_in, IsGenuine, VersionsPass};
 
 use crate::texts::same_text;
 use reg_line::{Digest, check_stem};
@@ -16,17 +16,36 @@ use reg_versions::{Release, VersionFault, release_key};
 use std::alloc::{AllocError, Global};
 use std::collections::BTreeMap;
 
-// The crates by their ids.
-fn crates_by_id(alloc: Global, crates: &[Crate]) -> Result<BTreeMap<u32, &Crate>, AllocError>
-    ensures { IfOk result (λ map. (id : ℕ) → option_map (λ c. c.now) (get nat_cmp map id) ≡ find (λ c. c.id == id) crates.now) }
+// Adds the place of an id, unless the id is there.
+fn add(places: &mut BTreeMap<u32, usize>, id: u32, place: usize) -> Result<(), AllocError>
+    ensures { OnOk result ((q : ℕ) → get nat_cmp places.new q ≡ option_or (get nat_cmp places.old q) (if id == q then Some place else None)) }
 {
-    let mut by_id = BTreeMap::new(alloc);
-    for it in crates {
-        if !by_id.contains_key(&it.id) {
-            by_id.insert(it.id, it)?;
-        }
+    if !places.contains_key(&id) {
+        places.insert(id, place)?;
     }
-    Ok(by_id)
+    Ok(())
+}
+
+// The places of the crates by their ids.
+fn places_of(alloc: Global, crates: &[Crate]) -> Result<BTreeMap<u32, usize>, AllocError>
+    ensures { IfOk result (λ map. (id : ℕ) → get nat_cmp map id ≡ position_from (λ c. c.id == id) 0 crates.now) }
+{
+    let mut places = BTreeMap::new(alloc);
+    for (index, it) in crates.iter().enumerate() {
+        add(&mut places, it.id, index)?;
+    }
+    Ok(places)
+}
+
+// The crate with this id.
+fn crate_of<'a>(rows: &'a AllRows, places: &BTreeMap<u32, usize>, id: u32) -> Option<&'a Crate>
+    requires { (id : ℕ) → get nat_cmp places.now id ≡ position_from (λ c. c.id == id) 0 rows.now.crates.items }
+    ensures { option_map (λ c. c.now) result ≡ crate_in rows.now id }
+{
+    match places.get(&id) {
+        Some(place) => rows.crates.get(*place),
+        None => None,
+    }
 }
 
 fn is_version(alloc: Global, text: &str) -> Result<bool, AllocError>
@@ -52,10 +71,10 @@ fn has_stem(alloc: Global, version: &Version, it: &Crate) -> Result<bool, AllocE
 fn is_genuine(
     alloc: Global,
     rows: &AllRows,
-    by_id: &BTreeMap<u32, &Crate>,
+    places: &BTreeMap<u32, usize>,
     version: &Version,
 ) -> Result<bool, AllocError>
-    requires { (id : ℕ) → option_map (λ c. c.now) (get nat_cmp by_id.now id) ≡ find (λ c. c.id == id) rows.now.crates.items }
+    requires { (id : ℕ) → get nat_cmp places.now id ≡ position_from (λ c. c.id == id) 0 rows.now.crates.items }
     ensures { IfOk result (λ b. IsTrue b ↔ IsGenuine rows.now version.now) }
 {
     if !same_text(release_key(&version.vers), &version.release) {
@@ -64,7 +83,7 @@ fn is_genuine(
     if !is_version(alloc, &version.vers)? {
         return Ok(false);
     }
-    match by_id.get(&version.crate_id) {
+    match crate_of(rows, places, version.crate_id) {
         Some(it) => has_stem(alloc, version, it),
         None => Ok(false),
     }
@@ -74,9 +93,9 @@ fn is_genuine(
 pub(crate) fn versions_pass(alloc: Global, rows: &AllRows) -> Result<bool, AllocError>
     ensures { IfOk result (λ b. IsTrue b ↔ VersionsPass rows.now) }
 {
-    let by_id = crates_by_id(alloc, &rows.crates)?;
+    let places = places_of(alloc, &rows.crates)?;
     for version in rows.versions.iter() {
-        if !is_genuine(alloc, rows, &by_id, version)? {
+        if !is_genuine(alloc, rows, &places, version)? {
             return Ok(false);
         }
     }

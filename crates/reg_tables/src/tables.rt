@@ -130,7 +130,7 @@ impl<S: Alter> Tables<S> {
         ensures same_reference { IfOk result (λ w. w.tables.ghost_name ≡ self.entry.ghost_name) }
         ensures begun { IfOk result (λ w. (has_failed w ≡ false) × (HasCleanDisk (seen S.Store w) → Shows (shown S.Store self.old) (seen S.Store w) (shown S.Store self.old).now (shown S.Store self.old).committed true)) }
         ensures at_work { IfOk result (IsAtWork S.Store) }
-        ensures open { IfOk result (λ w. is_shut self.old ≡ false) }
+        ensures open { IfOk result (λ w. (is_shut self.old ≡ false) × (is_shut w.tables.now ≡ false)) }
         ensures survives { IfOk result (λ w. Survives (shown S.Store self.old) (seen S.Store w) (λ _. ⊥)) }
     {
         if self.shut {

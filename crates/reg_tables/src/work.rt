@@ -14,10 +14,17 @@ use crate::tables::Tables;
 use reg_schema::{finish, undo};
 use sqlite::types::ValueRef;
 use sqlite::{Alter, Connection, Error, Row};
+use std::alloc::AllocError;
 
 /// The store failed, or there was no memory. Nothing has changed.
 #[derive(Clone, Copy, Debug, PartialEq, Eq)]
 pub struct StoreFault;
+
+impl From<AllocError> for StoreFault {
+    fn from(_fault: AllocError) -> StoreFault {
+        StoreFault
+    }
+}
 
 /// A transaction of the tables. Once a call has failed nothing of it is kept. Dropped, it changes nothing.
 pub struct Work<'t, S: Alter> {

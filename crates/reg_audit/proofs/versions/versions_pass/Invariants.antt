@@ -1,4 +1,4 @@
-use Rattle.std.proofs.Common.{◌≡◌, take}
+use Rattle.std.proofs.Common.{take}
 use Rattle.std.specs.List.{AllByRecursion}
 use Rattle.reg_audit.specs.Checks.{IsGenuine}
 use Rattle.reg_audit.proofs.versions.versions_pass.Given as goal

@@ -60,20 +60,18 @@ fn first_failing<S: Alter>(
     ensures found { HasCleanDisk (seen S.Store work.new) → IfOk result (IsFirst rows.now (seen S.Store work.old).now.trees) }
     ensures looks { Looks S.Store work.old work.new }
 {
-    let before = first_before(alloc, rows).map_err(|_| StoreFault)?;
+    let before = first_before(alloc, rows)?;
     if before.is_some() {
         return Ok(before);
     }
     if !archives_pass(work, rows)? {
         return Ok(Some(Check::C4));
     }
-    first_after(alloc, rows).map_err(|_| StoreFault)
+    let after = first_after(alloc, rows)?;
+    Ok(after)
 }
 
-fn examine<S: Alter>(
-    alloc: Global,
-    work: &mut Work<'_, S>,
-) -> Result<Option<Check>, StoreFault>
+fn examine<S: Alter>(alloc: Global, work: &mut Work<'_, S>) -> Result<Option<Check>, StoreFault>
     requires { IsAtWork S.Store work.old }
     ensures found { HasCleanDisk (seen S.Store work.new) → IfOk result (λ found. (it : Rows) × AreAllRows it (seen S.Store work.old).now.trees × IsFirst it (seen S.Store work.old).now.trees found) }
     ensures looks { Looks S.Store work.old work.new }
@@ -83,10 +81,7 @@ fn examine<S: Alter>(
 }
 
 /// The first check that fails; where all pass, none. Nothing is changed, and no archive is kept in memory.
-pub fn audit<S: Alter>(
-    alloc: Global,
-    tables: &mut Tables<S>,
-) -> Result<Option<Check>, StoreFault>
+pub fn audit<S: Alter>(alloc: Global, tables: &mut Tables<S>) -> Result<Option<Check>, StoreFault>
     requires { AreOurs S.Store tables.old }
     ensures found { HasCleanDisk (shown S.Store tables.new) → IfOk result (λ found. (it : Rows) × AreAllRows it (shown S.Store tables.old).now.trees × IsFirst it (shown S.Store tables.old).now.trees found) }
     ensures kept { HasCleanDisk (shown S.Store tables.new) → KeepsCommit (shown S.Store tables.old) (shown S.Store tables.new) }

@@ -1,0 +1,9 @@
+use Rattle.std.proofs.Common.{◌≡◌, ℕ, take}
+use Rattle.std.specs.Prelude.{◌==◌}
+use Rattle.std.specs.List.{position_from}
+use Rattle.std.specs.Ordering.{nat_cmp}
+use Rattle.std.specs.BTreeMap.{get}
+use Rattle.reg_audit.proofs.versions.places_of.Given as goal
+
+abbrev pub invariant-loop-index : goal.invariant-loop-index
+invariant-loop-index l = (id : ℕ) → get nat_cmp l.places id ≡ position_from (λ c. c.id == id) 0 (take l.index l.crates)
