@@ -58,7 +58,7 @@ fn check<S: Alter>(alloc: Global, tables: &mut Tables<S>) -> Result<Option<Check
 }
 
 /// What the checks find once these statements were run.
-fn found_after<S: Alter>(
+fn found_after<S: Alter + Drop>(
     alloc: Global,
     mut conn: Connection<S>,
     statements: &[&str],
