@@ -3,7 +3,7 @@
 ghost use Rattle.reg_tables.specs.Works.{AreOurs};
 
 use reg_audit::{Check, audit};
-use reg_line::{digest_of, stem};
+use reg_line::{Digest, digest_of, stem};
 use reg_manifest::read_manifest;
 use reg_model::Endpoints;
 use reg_names::{Pattern, canon, parse_name};
@@ -21,6 +21,17 @@ const ALL: Endpoints = Endpoints {
     change_owners: true,
 };
 
+/// A version whose archive is `abc`.
+fn version_of<'a>(stem: &'a [u8], digest: &'a Digest) -> NewVersion<'a> {
+    NewVersion {
+        text: "0.1.0",
+        description: None,
+        stem,
+        digest,
+        archive: b"abc",
+    }
+}
+
 /// Two accounts, two tokens, a crate of one version with the archive `abc`, and a reserved name.
 fn fill<S: Alter>(alloc: Global, tables: &mut Tables<S>) -> Result<(), Fail>
     requires { AreOurs S.Store tables.old }
@@ -28,13 +39,7 @@ fn fill<S: Alter>(alloc: Global, tables: &mut Tables<S>) -> Result<(), Fail>
     let manifest = read_manifest(alloc, b"{\"name\":\"a\",\"vers\":\"0.1.0\"}")?;
     let digest = digest_of(b"abc");
     let stem = stem(alloc, &manifest, &digest)?;
-    let version = NewVersion {
-        text: "0.1.0",
-        description: None,
-        stem: &stem,
-        digest: &digest,
-        archive: b"abc",
-    };
+    let version = version_of(stem.as_slice(), &digest);
     let some = [Pattern::parse("acme-*").ok_or("a pattern")?];
     let more = [
         Pattern::parse("a").ok_or("a pattern")?,
