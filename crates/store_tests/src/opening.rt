@@ -8,7 +8,7 @@ use reg_manifest::read_manifest;
 use reg_model::Endpoints;
 use reg_names::{Pattern, canon, parse_name};
 use reg_tables::{MakeFault, NewVersion, Tables};
-use sqlite::{Alter, Connection};
+use sqlite::{Alter, Connection, params};
 use std::alloc::Global;
 use std::test::Fail;
 
@@ -173,13 +173,39 @@ fn a_version_or_its_line(rt: HostRuntime) -> Result<(), Fail> {
     let alloc = rt.alloc();
     for statement in [
         "UPDATE versions SET stem = x'7b'",
-        "UPDATE versions SET stem = CAST('{\"cksum\":\"ba7816bf8f01cfea414140de5dae2223b00361a396177a9cb410ff61f20015ad\",\"deps\":1,\"features\":{},\"links\":null,\"name\":\"a\",\"rust_version\":null,\"vers\":\"0.1.0\",\"yanked\":' AS BLOB)",
         "UPDATE versions SET vers = '0.1'",
         "UPDATE versions SET release = '0.2.0'",
     ] {
         assert_eq!(rt; found(alloc, &[statement])?, Some(Check::C5));
     }
     Ok(())
+}
+
+/// The stem of the line, with a number for its list of dependencies.
+const STEM: &[u8] =
+    b"{\"cksum\":\"ba7816bf8f01cfea414140de5dae2223b00361a396177a9cb410ff61f20015ad\",\"deps\":1,\"features\":{},\"links\":null,\"name\":\"a\",\"rust_version\":null,\"vers\":\"0.1.0\",\"yanked\":";
+
+fn found_with_stem<S: Alter + Drop>(
+    alloc: Global,
+    mut conn: Connection<S>,
+    stem: &[u8],
+) -> Result<Option<Check>, Fail> {
+    conn.execute("UPDATE versions SET stem = ?1", params![stem])?;
+    found_after(alloc, conn, &[])
+}
+
+#[test]
+fn a_stem_of_no_line(rt: HostRuntime) -> Result<(), Fail> {
+    let alloc = rt.alloc();
+    match Tables::make(Connection::open_in_memory(alloc)?, BASE) {
+        Ok(mut tables) => {
+            fill(alloc, &mut tables)?;
+            let found = found_with_stem(alloc, tables.into_connection(), STEM)?;
+            assert_eq!(rt; found, Some(Check::C5));
+            Ok(())
+        }
+        Err((_fault, _conn)) => Err("no tables".into()),
+    }
 }
 
 #[test]
