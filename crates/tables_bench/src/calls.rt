@@ -3,9 +3,7 @@
 ghost use Rattle.reg_tables.specs.Works.{AreOurs};
 
 use crate::fault::Fault;
-use crate::filling::{
-    ARCHIVE, digest_at, login_of, name_of, reserved_name, stem_of, version_with,
-};
+use crate::filling::{ARCHIVE, digest_at, login_of, name_of, reserved_name, stem_of, version_with};
 use reg_audit::audit;
 use reg_line::digest_of;
 use reg_names::canon;
@@ -16,7 +14,7 @@ use std::alloc::Global;
 /// A call on the tables.
 #[derive(Clone, Copy, Debug, PartialEq, Eq)]
 pub enum Call {
-    Nothing,
+    Begin,
     AccountByLogin,
     TokenRows,
     CrateByCanon,
@@ -39,28 +37,49 @@ pub struct Given<'a> {
     pub archive: &'a [u8],
 }
 
-fn find_by_name<S: Alter>(
-    alloc: Global,
-    tables: &mut Tables<S>,
-    call: Call,
-    at: u32,
-) -> Result<usize, Fault>
+fn begin<S: Alter>(tables: &mut Tables<S>) -> Result<usize, Fault>
+    requires { AreOurs S.Store tables.old }
+    ensures { AreOurs S.Store tables.new }
+{
+    let work = tables.work()?;
+    drop(work);
+    Ok(1)
+}
+
+fn find_account<S: Alter>(alloc: Global, tables: &mut Tables<S>, at: u32) -> Result<usize, Fault>
     requires { AreOurs S.Store tables.old }
     ensures { AreOurs S.Store tables.new }
 {
     let login = login_of(alloc, at)?;
-    let digest = digest_at(alloc, at)?;
-    let name = canon(&name_of(alloc, at)?);
-    let kept = reserved_name(alloc, at)?;
     let mut work = tables.work()?;
-    let found = match call {
-        Call::AccountByLogin => work.account_by_login(login.as_str())?.is_some(),
-        Call::TokenRows => work.token_rows(alloc, &digest)?.is_some(),
-        Call::CrateByCanon => work.crate_by_canon(&name)?.is_some(),
-        Call::IsReserved => work.is_reserved(&kept)?,
-        _ => false,
-    };
-    Ok(usize::from(found))
+    Ok(usize::from(work.account_by_login(login.as_str())?.is_some()))
+}
+
+fn find_token<S: Alter>(alloc: Global, tables: &mut Tables<S>, at: u32) -> Result<usize, Fault>
+    requires { AreOurs S.Store tables.old }
+    ensures { AreOurs S.Store tables.new }
+{
+    let digest = digest_at(alloc, at)?;
+    let mut work = tables.work()?;
+    Ok(usize::from(work.token_rows(alloc, &digest)?.is_some()))
+}
+
+fn find_crate<S: Alter>(alloc: Global, tables: &mut Tables<S>, at: u32) -> Result<usize, Fault>
+    requires { AreOurs S.Store tables.old }
+    ensures { AreOurs S.Store tables.new }
+{
+    let name = canon(&name_of(alloc, at)?);
+    let mut work = tables.work()?;
+    Ok(usize::from(work.crate_by_canon(&name)?.is_some()))
+}
+
+fn find_reserved<S: Alter>(alloc: Global, tables: &mut Tables<S>, at: u32) -> Result<usize, Fault>
+    requires { AreOurs S.Store tables.old }
+    ensures { AreOurs S.Store tables.new }
+{
+    let name = reserved_name(alloc, at)?;
+    let mut work = tables.work()?;
+    Ok(usize::from(work.is_reserved(&name)?))
 }
 
 fn find_by_id<S: Alter>(
@@ -121,6 +140,11 @@ pub fn once<S: Alter>(
     ensures { AreOurs S.Store tables.new }
 {
     match call {
+        Call::Begin => begin(tables),
+        Call::AccountByLogin => find_account(alloc, tables, given.at),
+        Call::TokenRows => find_token(alloc, tables, given.at),
+        Call::CrateByCanon => find_crate(alloc, tables, given.at),
+        Call::IsReserved => find_reserved(alloc, tables, given.at),
         Call::SetYanked => yank(tables, given.at),
         Call::Audit => Ok(usize::from(audit(alloc, tables)?.is_none())),
         Call::AddArchive => add(alloc, tables, 1, "0.4.0", given.archive),
@@ -131,6 +155,5 @@ pub fn once<S: Alter>(
         Call::VersionsOf | Call::OwnersOf | Call::ArchiveOf | Call::ReadArchive => {
             find_by_id(alloc, tables, call, given.at)
         }
-        _ => find_by_name(alloc, tables, call, given.at),
     }
 }

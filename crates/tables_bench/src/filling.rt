@@ -91,22 +91,55 @@ fn add_crate<S: Alter>(
     work: &mut Work<'_, S>,
     at: u32,
     owner: u32,
-) -> Result<(), Fault>
+) -> Result<u32, Fault>
     requires { IsAtWork S.Store work.old }
     ensures at_work { IsAtWork S.Store work.new }
     ensures same_reference { work.new.tables.ghost_name ≡ work.old.tables.ghost_name }
 {
     let name = name_of(alloc, at)?;
     let digest = digest_of(ARCHIVE);
-    let first = stem_of(alloc, at, "0.1.0", &digest)?;
-    let second = stem_of(alloc, at, "0.2.0", &digest)?;
+    let stem = stem_of(alloc, at, "0.1.0", &digest)?;
+    let version = version_with("0.1.0", stem.as_slice(), &digest, ARCHIVE);
+    let id = work.add_crate(&name, owner, &version)?;
+    Ok(id)
+}
+
+fn add_version<S: Alter>(
+    alloc: Global,
+    work: &mut Work<'_, S>,
+    at: u32,
+    crate_id: u32,
+) -> Result<(), Fault>
+    requires { IsAtWork S.Store work.old }
+    ensures at_work { IsAtWork S.Store work.new }
+    ensures same_reference { work.new.tables.ghost_name ≡ work.old.tables.ghost_name }
+{
+    let digest = digest_of(ARCHIVE);
+    let stem = stem_of(alloc, at, "0.2.0", &digest)?;
+    let version = version_with("0.2.0", stem.as_slice(), &digest, ARCHIVE);
+    work.add_version(crate_id, &version)?;
+    Ok(())
+}
+
+fn reserve<S: Alter>(alloc: Global, work: &mut Work<'_, S>, at: u32) -> Result<(), Fault>
+    requires { IsAtWork S.Store work.old }
+    ensures at_work { IsAtWork S.Store work.new }
+    ensures same_reference { work.new.tables.ghost_name ≡ work.old.tables.ghost_name }
+{
     let kept = reserved_name(alloc, at)?;
-    let first = version_with("0.1.0", first.as_slice(), &digest, ARCHIVE);
-    let second = version_with("0.2.0", second.as_slice(), &digest, ARCHIVE);
-    let id = work.add_crate(&name, owner, &first)?;
-    work.add_version(id, &second)?;
     work.reserve(&kept)?;
     Ok(())
+}
+
+fn add_one<S: Alter>(alloc: Global, work: &mut Work<'_, S>, at: u32) -> Result<(), Fault>
+    requires { IsAtWork S.Store work.old }
+    ensures at_work { IsAtWork S.Store work.new }
+    ensures same_reference { work.new.tables.ghost_name ≡ work.old.tables.ghost_name }
+{
+    let owner = add_account(alloc, work, at)?;
+    let id = add_crate(alloc, work, at, owner)?;
+    add_version(alloc, work, at, id)?;
+    reserve(alloc, work, at)
 }
 
 fn add_each<S: Alter>(alloc: Global, work: &mut Work<'_, S>, crates: u32) -> Result<(), Fault>
@@ -115,8 +148,7 @@ fn add_each<S: Alter>(alloc: Global, work: &mut Work<'_, S>, crates: u32) -> Res
     ensures same_reference { work.new.tables.ghost_name ≡ work.old.tables.ghost_name }
 {
     for at in 1..=crates {
-        let owner = add_account(alloc, work, at)?;
-        add_crate(alloc, work, at, owner)?;
+        add_one(alloc, work, at)?;
     }
     Ok(())
 }

@@ -12,7 +12,7 @@ use std::alloc::Global;
 use std::time::Instant;
 
 const CALLS: [Call; 10] = [
-    Call::Nothing,
+    Call::Begin,
     Call::AccountByLogin,
     Call::TokenRows,
     Call::CrateByCanon,
@@ -108,11 +108,7 @@ fn tell_calls<S: Alter>(
     Ok(())
 }
 
-fn tell_once<S: Alter>(
-    rt: &HostRuntime,
-    tables: &mut Tables<S>,
-    words: &Words,
-) -> Result<(), Fault>
+fn tell_once<S: Alter>(rt: &HostRuntime, tables: &mut Tables<S>, words: &Words) -> Result<(), Fault>
     requires { AreOurs S.Store tables.old }
 {
     let archive = vec![in rt.alloc(); b'z'; LENGTH]?;
