@@ -13,7 +13,7 @@ use std::alloc::Global;
 
 /// A call on the tables.
 #[derive(Clone, Copy, Debug, PartialEq, Eq)]
-pub enum Call {
+pub(crate) enum Call {
     Begin,
     AccountByLogin,
     TokenRows,
@@ -22,6 +22,7 @@ pub enum Call {
     OwnersOf,
     ArchiveOf,
     IsReserved,
+    FirstCommit,
     SetYanked,
     AddVersion,
     Audit,
@@ -31,10 +32,10 @@ pub enum Call {
 
 /// What a call is made with: the number of a crate, how often it was made before, and a long archive.
 #[derive(Clone, Copy)]
-pub struct Given<'a> {
-    pub at: u32,
-    pub round: u32,
-    pub archive: &'a [u8],
+pub(crate) struct Given<'a> {
+    pub(crate) at: u32,
+    pub(crate) round: u32,
+    pub(crate) archive: &'a [u8],
 }
 
 fn begin<S: Alter>(tables: &mut Tables<S>) -> Result<usize, Fault>
@@ -130,7 +131,7 @@ fn add<S: Alter>(
 }
 
 /// Makes the call once, and answers how many rows, or bytes of the long archive, it found or changed. An audit that finds nothing amiss counts as one.
-pub fn once<S: Alter>(
+pub(crate) fn once<S: Alter>(
     alloc: Global,
     tables: &mut Tables<S>,
     call: Call,
@@ -145,7 +146,7 @@ pub fn once<S: Alter>(
         Call::TokenRows => find_token(alloc, tables, given.at),
         Call::CrateByCanon => find_crate(alloc, tables, given.at),
         Call::IsReserved => find_reserved(alloc, tables, given.at),
-        Call::SetYanked => yank(tables, given.at),
+        Call::FirstCommit | Call::SetYanked => yank(tables, given.at),
         Call::Audit => Ok(usize::from(audit(alloc, tables)?.is_none())),
         Call::AddArchive => add(alloc, tables, 1, "0.4.0", given.archive),
         Call::AddVersion => {

@@ -6,8 +6,9 @@ use sqlite::Error;
 use std::alloc::AllocError;
 use std::io;
 
+/// A fault, by its source.
 #[derive(Debug, Drop)]
-pub enum Fault {
+pub(crate) enum Fault {
     Words,
     NotMade,
     Name,

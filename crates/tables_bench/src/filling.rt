@@ -20,15 +20,15 @@ const ALL: Endpoints = Endpoints {
 };
 
 /// The archive of most versions.
-pub const ARCHIVE: &[u8] = b"an archive";
+pub(crate) const ARCHIVE: &[u8] = b"an archive";
 
 /// The login of an account.
-pub fn login_of(alloc: Global, at: u32) -> Result<String, Fault> {
+pub(crate) fn login_of(alloc: Global, at: u32) -> Result<String, Fault> {
     Ok(format!(in alloc; "user-{at:06}")?)
 }
 
 /// The digest of a token.
-pub fn digest_at(alloc: Global, at: u32) -> Result<Digest, Fault> {
+pub(crate) fn digest_at(alloc: Global, at: u32) -> Result<Digest, Fault> {
     Ok(digest_of(login_of(alloc, at)?.as_bytes()))
 }
 
@@ -37,20 +37,25 @@ fn text_of(alloc: Global, at: u32) -> Result<String, Fault> {
 }
 
 /// The name of a crate.
-pub fn name_of(alloc: Global, at: u32) -> Result<CrateName, Fault> {
+pub(crate) fn name_of(alloc: Global, at: u32) -> Result<CrateName, Fault> {
     let text = text_of(alloc, at)?;
     parse_name(text.as_str()).ok_or(Fault::Name)
 }
 
 /// A name that is reserved.
-pub fn reserved_name(alloc: Global, at: u32) -> Result<CanonText, Fault> {
+pub(crate) fn reserved_name(alloc: Global, at: u32) -> Result<CanonText, Fault> {
     let text = format!(in alloc; "kept-{at:06}")?;
     let name = parse_name(text.as_str()).ok_or(Fault::Name)?;
     Ok(canon(&name))
 }
 
 /// The stem of the line of a crate's version.
-pub fn stem_of(alloc: Global, at: u32, version: &str, digest: &Digest) -> Result<Vec<u8>, Fault> {
+pub(crate) fn stem_of(
+    alloc: Global,
+    at: u32,
+    version: &str,
+    digest: &Digest,
+) -> Result<Vec<u8>, Fault> {
     let name = text_of(alloc, at)?;
     let json = format!(in alloc; "{{\"name\":\"{name}\",\"vers\":\"{version}\"}}")?;
     let manifest = read_manifest(alloc, json.as_bytes())?;
@@ -58,7 +63,7 @@ pub fn stem_of(alloc: Global, at: u32, version: &str, digest: &Digest) -> Result
 }
 
 /// A version with this archive.
-pub fn version_with<'a>(
+pub(crate) fn version_with<'a>(
     text: &'a str,
     stem: &'a [u8],
     digest: &'a Digest,
@@ -154,7 +159,11 @@ fn add_each<S: Alter>(alloc: Global, work: &mut Work<'_, S>, crates: u32) -> Res
 }
 
 /// Adds so many accounts, tokens, reserved names and crates, in one transaction.
-pub fn fill<S: Alter>(alloc: Global, tables: &mut Tables<S>, crates: u32) -> Result<(), Fault>
+pub(crate) fn fill<S: Alter>(
+    alloc: Global,
+    tables: &mut Tables<S>,
+    crates: u32,
+) -> Result<(), Fault>
     requires { AreOurs S.Store tables.old }
     ensures { AreOurs S.Store tables.new }
 {

@@ -123,7 +123,11 @@ fn tell_once<S: Alter>(rt: &HostRuntime, tables: &mut Tables<S>, words: &Words) 
 }
 
 /// Fills the tables, and tells of each call.
-pub fn all<S: Alter>(rt: &HostRuntime, tables: &mut Tables<S>, words: &Words) -> Result<(), Fault>
+pub(crate) fn all<S: Alter>(
+    rt: &HostRuntime,
+    tables: &mut Tables<S>,
+    words: &Words,
+) -> Result<(), Fault>
     requires { AreOurs S.Store tables.old }
 {
     let start = Instant::now(rt)?;
@@ -132,6 +136,12 @@ pub fn all<S: Alter>(rt: &HostRuntime, tables: &mut Tables<S>, words: &Words) ->
     if words.times {
         println!(rt; "Fill {} {}", words.crates, taken.as_nanos())?;
     }
+    let first = Rounds {
+        rounds: 1,
+        crates: words.crates,
+        archive: &[],
+    };
+    tell(rt, tables, Call::FirstCommit, first, words.times)?;
     tell_calls(rt, tables, words)?;
     tell_once(rt, tables, words)
 }

@@ -5,11 +5,11 @@ use std::env;
 
 /// What a run is asked for.
 #[derive(Drop)]
-pub struct Words {
-    pub file: String,
-    pub crates: u32,
-    pub rounds: u32,
-    pub times: bool,
+pub(crate) struct Words {
+    pub(crate) file: String,
+    pub(crate) crates: u32,
+    pub(crate) rounds: u32,
+    pub(crate) times: bool,
 }
 
 fn number(text: &str) -> Result<u32, Fault> {
@@ -21,7 +21,7 @@ fn number(text: &str) -> Result<u32, Fault> {
 
 impl Words {
     /// The program's words.
-    pub fn given(rt: &HostRuntime) -> Result<Words, Fault> {
+    pub(crate) fn given(rt: &HostRuntime) -> Result<Words, Fault> {
         let given: Vec<String> = env::args(rt)?.collect(rt.alloc())?;
         let times = match given.as_slice() {
             [_, _, _, _] => false,
