@@ -1,0 +1,27 @@
+//! Times calls on the tables over a file.
+//!
+//! `tables_bench FILE CRATES ROUNDS` makes a registry in a new file and tells what each call found;
+//! with the word `times` at the end also how long each took.
+#![tactic(auto)]
+
+mod calls;
+mod fault;
+mod filling;
+mod measure;
+mod words;
+
+use fault::Fault;
+use reg_tables::Tables;
+use sqlite::Connection;
+use words::Words;
+
+const BASE: &str = "https://index.example";
+
+fn main(rt: HostRuntime) -> Result<(), Fault> {
+    let words = Words::given(&rt)?;
+    let conn = Connection::open(&rt, words.file.as_str())?;
+    match Tables::make(conn, BASE) {
+        Ok(mut tables) => measure::all(&rt, &mut tables, &words),
+        Err((_fault, _conn)) => Err(Fault::NotMade),
+    }
+}

@@ -1,0 +1,147 @@
+//! Making each call many times, and telling what came of it.
+
+ghost use Rattle.reg_tables.specs.Works.{AreOurs};
+
+use crate::calls::{Call, Given, once};
+use crate::fault::Fault;
+use crate::filling::fill;
+use crate::words::Words;
+use reg_tables::Tables;
+use sqlite::Alter;
+use std::alloc::Global;
+use std::time::Instant;
+
+const CALLS: [Call; 10] = [
+    Call::Begin,
+    Call::AccountByLogin,
+    Call::TokenRows,
+    Call::CrateByCanon,
+    Call::VersionsOf,
+    Call::OwnersOf,
+    Call::ArchiveOf,
+    Call::IsReserved,
+    Call::SetYanked,
+    Call::AddVersion,
+];
+
+const LENGTH: usize = 10_485_760;
+
+/// The number of a crate for each round, far from that of the round before.
+fn number_for(round: u32, crates: u32) -> u32 {
+    let far = u64::from(round) * 7919;
+    match far.checked_rem(u64::from(crates)) {
+        Some(rest) => rest as u32 + 1,
+        None => 1,
+    }
+}
+
+/// How often a call is made, and with what.
+#[derive(Clone, Copy)]
+struct Rounds<'a> {
+    rounds: u32,
+    crates: u32,
+    archive: &'a [u8],
+}
+
+/// Makes a call in each round, and answers what all found together.
+fn repeat<S: Alter>(
+    alloc: Global,
+    tables: &mut Tables<S>,
+    call: Call,
+    each: Rounds<'_>,
+) -> Result<u64, Fault>
+    requires { AreOurs S.Store tables.old }
+    ensures { AreOurs S.Store tables.new }
+{
+    let mut found = 0_u64;
+    for round in 0..each.rounds {
+        let given = Given {
+            at: number_for(round, each.crates),
+            round,
+            archive: each.archive,
+        };
+        let rows = once(alloc, tables, call, given)?;
+        found = found.saturating_add(rows as u64);
+    }
+    Ok(found)
+}
+
+/// Tells what the rounds of a call found, and if asked how long one took.
+fn tell<S: Alter>(
+    rt: &HostRuntime,
+    tables: &mut Tables<S>,
+    call: Call,
+    each: Rounds<'_>,
+    times: bool,
+) -> Result<(), Fault>
+    requires { AreOurs S.Store tables.old }
+    ensures { AreOurs S.Store tables.new }
+{
+    let start = Instant::now(rt)?;
+    let found = repeat(rt.alloc(), tables, call, each)?;
+    let taken = start.elapsed(rt)?;
+    if times {
+        let one = taken.as_nanos().checked_div(u128::from(each.rounds));
+        println!(rt; "{call:?} {found} {}", one.unwrap_or(0))?;
+    } else {
+        println!(rt; "{call:?} {found}")?;
+    }
+    Ok(())
+}
+
+fn tell_calls<S: Alter>(
+    rt: &HostRuntime,
+    tables: &mut Tables<S>,
+    words: &Words,
+) -> Result<(), Fault>
+    requires { AreOurs S.Store tables.old }
+    ensures { AreOurs S.Store tables.new }
+{
+    let each = Rounds {
+        rounds: words.rounds,
+        crates: words.crates,
+        archive: &[],
+    };
+    for call in CALLS {
+        tell(rt, tables, call, each, words.times)?;
+    }
+    Ok(())
+}
+
+fn tell_once<S: Alter>(rt: &HostRuntime, tables: &mut Tables<S>, words: &Words) -> Result<(), Fault>
+    requires { AreOurs S.Store tables.old }
+{
+    let archive = vec![in rt.alloc(); b'z'; LENGTH]?;
+    let once = Rounds {
+        rounds: 1,
+        crates: words.crates,
+        archive: &archive,
+    };
+    tell(rt, tables, Call::Audit, once, words.times)?;
+    tell(rt, tables, Call::AddArchive, once, words.times)?;
+    tell(rt, tables, Call::ReadArchive, once, words.times)
+}
+
+/// Fills the tables, and tells of each call.
+pub(crate) fn all<S: Alter>(
+    rt: &HostRuntime,
+    tables: &mut Tables<S>,
+    words: &Words,
+) -> Result<(), Fault>
+    requires { AreOurs S.Store tables.old }
+{
+    let start = Instant::now(rt)?;
+    fill(rt.alloc(), tables, words.crates)?;
+    let taken = start.elapsed(rt)?;
+    if words.times {
+        println!(rt; "Fill {} {}", words.crates, taken.as_nanos())?;
+    }
+    let first = Rounds {
+        rounds: 1,
+        crates: words.crates,
+        archive: &[],
+    };
+    tell(rt, tables, Call::FirstCommit, first, words.times)?;
+    tell_calls(rt, tables, words)?;
+    tell_once(rt, tables, words)
+}
