@@ -19,7 +19,3 @@ first_then (d ∷ rest) ds it db found (inr (fails, none)) h = absurd cc
 pub first_in_some : (cs ds : List Check) (it : AllRows) (db : Trees) (found : Option Check) → is_some found ≡ true → IsFirstOf cs it db found → IsFirstOf (cs ++ ds) it db found
 first_in_some cs ds it db None there h = absurd cc
 first_in_some cs ds it db (Some c) there h = first_in cs ds it db c h
-
-pub none_of : (found : Option Check) → is_some found ≡ false → found ≡ None
-none_of None h = refl
-none_of (Some c) h = absurd cc

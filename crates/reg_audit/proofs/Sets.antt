@@ -28,7 +28,7 @@ has_more f xs i d old new within up before id =
     up id ∙ ap (λ b. cond b true (contains nat_cmp old id)) (unsigned_tied (f x) id) ∙ or_cond (f x == id) (contains nat_cmp old id) ∙ ap (λ b. b || (f x == id)) (before id)
     ∙ sym (list_any_more (λ o. f o == id) xs i d within)
 
-none_of : {V : Type 0} (o : Option V) → is_some o ≡ false → o ≡ None
+pub none_of : {V : Type 0} (o : Option V) → is_some o ≡ false → o ≡ None
 none_of None h = refl
 none_of (Some v) h = absurd cc
 

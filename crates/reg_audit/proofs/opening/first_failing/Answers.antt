@@ -2,7 +2,8 @@ use Rattle.std.proofs.Common.{◌≡◌, Bool, true, false, Some, [], ◌∷◌,
 use Rattle.reg_tables.specs.Works.{seen}
 use Rattle.reg_audit.specs.declared.check.Check.TheVariants.{C1, C2, C3, C4, C5, C6}
 use Rattle.reg_audit.specs.Checks.{IsFirstOf}
-use Rattle.reg_audit.proofs.Orders.{first_in_some, first_then, none_of}
+use Rattle.reg_audit.proofs.Orders.{first_in_some, first_then}
+use Rattle.reg_audit.proofs.Sets.{none_of}
 use Rattle.reg_audit.proofs.opening.first_failing.Goals as goal
 
 no_rest : {b : Bool} → b ≡ true → b ≡ false → ⊥
