@@ -129,6 +129,7 @@ fn stops(rt: &impl Abort, alloc: Global, change: Change) -> Result<(), Fail> {
     let log = each_stop(rt, alloc, change, true)?;
     let db = each_stop(rt, alloc, change, false)?;
     assert!(rt; log.before > 0 && db.before > 0, "{log:?} {db:?}");
+    assert!(rt; log.after > 0 || db.after > 0, "{log:?} {db:?}");
     Ok(())
 }
 

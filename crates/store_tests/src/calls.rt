@@ -2,13 +2,12 @@
 
 ghost use Rattle.reg_tables.specs.Works.{AreOurs};
 
+use crate::setup::BASE;
 use reg_tables::{StoreFault, Tables};
 use sqlite::{Alter, Connection};
 use std::alloc::Global;
 use std::process::Abort;
 use std::test::Fail;
-
-const BASE: &str = "https://index.example";
 
 fn accounts_in<S: Alter>(rt: &impl Abort, alloc: Global, tables: &mut Tables<S>) -> Result<(), Fail>
     requires { AreOurs S.Store tables.old }

@@ -2,27 +2,14 @@
 
 ghost use Rattle.reg_tables.specs.Works.{AreOurs};
 
+use crate::setup::{ALL, BASE, canon_of};
 use reg_line::digest_of;
-use reg_model::Endpoints;
-use reg_names::{CanonText, Pattern, canon, parse_name};
+use reg_names::Pattern;
 use reg_tables::Tables;
 use sqlite::{Alter, Connection};
 use std::alloc::Global;
 use std::process::Abort;
 use std::test::Fail;
-
-const BASE: &str = "https://index.example";
-
-const ALL: Endpoints = Endpoints {
-    publish_new: true,
-    publish_update: true,
-    yank: true,
-    change_owners: true,
-};
-
-fn canon_of(name: &str) -> Result<CanonText, Fail> {
-    Ok(canon(&parse_name(name).ok_or("a name")?))
-}
 
 /// Two accounts and a token of the first.
 fn two_accounts<S: Alter>(alloc: Global, tables: &mut Tables<S>) -> Result<(), Fail>

@@ -2,35 +2,27 @@
 
 ghost use Rattle.reg_tables.specs.Works.{AreOurs};
 
-use reg_line::{Digest, Entry, digest_of, file, stem};
+use crate::setup::{BASE, canon_of, empty_version};
+use reg_line::{Entry, digest_of, file, stem};
 use reg_manifest::read_manifest;
-use reg_names::{CanonText, canon, parse_name};
+use reg_names::parse_name;
 use reg_tables::{NewVersion, Tables, Version};
 use sqlite::{Alter, Connection};
 use std::alloc::Global;
 use std::process::Abort;
 use std::test::Fail;
 
-const BASE: &str = "https://index.example";
+/// The index file of two versions, each with an empty archive.
+const BOTH: &str =
+    "{\"cksum\":\"e3b0c44298fc1c149afbf4c8996fb92427ae41e4649b934ca495991b7852b855\",\"deps\":[],\"features\":{},\"links\":null,\"name\":\"a\",\"rust_version\":null,\"vers\":\"0.1.0\",\"yanked\":false}\n{\"cksum\":\"e3b0c44298fc1c149afbf4c8996fb92427ae41e4649b934ca495991b7852b855\",\"deps\":[],\"features\":{},\"links\":null,\"name\":\"a\",\"rust_version\":null,\"vers\":\"0.2.0\",\"yanked\":false}\n";
+
+/// The same where the first version is yanked.
+const FIRST_YANKED: &str =
+    "{\"cksum\":\"e3b0c44298fc1c149afbf4c8996fb92427ae41e4649b934ca495991b7852b855\",\"deps\":[],\"features\":{},\"links\":null,\"name\":\"a\",\"rust_version\":null,\"vers\":\"0.1.0\",\"yanked\":true}\n{\"cksum\":\"e3b0c44298fc1c149afbf4c8996fb92427ae41e4649b934ca495991b7852b855\",\"deps\":[],\"features\":{},\"links\":null,\"name\":\"a\",\"rust_version\":null,\"vers\":\"0.2.0\",\"yanked\":false}\n";
 
 fn stem_of(alloc: Global, metadata: &str) -> Result<Vec<u8>, Fail> {
     let manifest = read_manifest(alloc, metadata.as_bytes())?;
     Ok(stem(alloc, &manifest, &digest_of(b""))?)
-}
-
-fn canon_of(name: &str) -> Result<CanonText, Fail> {
-    Ok(canon(&parse_name(name).ok_or("a name")?))
-}
-
-/// A version with an empty archive.
-fn empty_version<'a>(text: &'a str, stem: &'a [u8], digest: &'a Digest) -> NewVersion<'a> {
-    NewVersion {
-        text,
-        description: None,
-        stem,
-        digest,
-        archive: b"",
-    }
 }
 
 /// The index file of these versions.
@@ -45,12 +37,10 @@ fn index_file(alloc: Global, versions: Vec<Version>) -> Result<Vec<u8>, Fail> {
     Ok(file(alloc, &entries)?)
 }
 
-fn growing_index_file_in<S: Alter>(
-    rt: &impl Abort,
-    alloc: Global,
-    tables: &mut Tables<S>,
-) -> Result<(), Fail>
+/// A crate with the two versions.
+fn add_both<S: Alter>(rt: &impl Abort, alloc: Global, tables: &mut Tables<S>) -> Result<(), Fail>
     requires { AreOurs S.Store tables.old }
+    ensures { AreOurs S.Store tables.new }
 {
     let first = stem_of(alloc, "{\"name\":\"a\",\"vers\":\"0.1.0\"}")?;
     let second = stem_of(alloc, "{\"name\":\"a\",\"vers\":\"0.2.0\"}")?;
@@ -63,13 +53,43 @@ fn growing_index_file_in<S: Alter>(
     let version = empty_version("0.2.0", second.as_slice(), &digest);
     work.add_version(1, &version)?;
     work.commit()?;
+    Ok(())
+}
+
+fn mark_first<S: Alter>(tables: &mut Tables<S>, yanked: bool) -> Result<(), Fail>
+    requires { AreOurs S.Store tables.old }
+    ensures { AreOurs S.Store tables.new }
+{
     let mut work = tables.work()?;
-    let open = index_file(alloc, work.versions_of(alloc, 1)?)?;
-    assert_eq!(rt; open.len(), 350);
-    work.set_yanked(1, "0.1.0", true)?;
-    assert_eq!(rt; index_file(alloc, work.versions_of(alloc, 1)?)?.len(), 349);
-    work.set_yanked(1, "0.1.0", false)?;
-    assert!(rt; index_file(alloc, work.versions_of(alloc, 1)?)? == open);
+    work.set_yanked(1, "0.1.0", yanked)?;
+    work.commit()?;
+    Ok(())
+}
+
+/// Whether the crate has this index file.
+fn has_file<S: Alter>(alloc: Global, tables: &mut Tables<S>, text: &str) -> Result<bool, Fail>
+    requires { AreOurs S.Store tables.old }
+    ensures { AreOurs S.Store tables.new }
+{
+    let mut work = tables.work()?;
+    let found = index_file(alloc, work.versions_of(alloc, 1)?)?;
+    Ok(found.as_slice() == text.as_bytes())
+}
+
+fn growing_index_file_in<S: Alter>(
+    rt: &impl Abort,
+    alloc: Global,
+    tables: &mut Tables<S>,
+) -> Result<(), Fail>
+    requires { AreOurs S.Store tables.old }
+{
+    assert!(rt; BOTH.len() == 350 && FIRST_YANKED.len() == 349);
+    add_both(rt, alloc, tables)?;
+    assert!(rt; has_file(alloc, tables, BOTH)?);
+    mark_first(tables, true)?;
+    assert!(rt; has_file(alloc, tables, FIRST_YANKED)?);
+    mark_first(tables, false)?;
+    assert!(rt; has_file(alloc, tables, BOTH)?);
     Ok(())
 }
 
@@ -106,48 +126,6 @@ fn the_spelling_of_a_crate(rt: HostRuntime) -> Result<(), Fail> {
     let alloc = rt.alloc();
     match Tables::make(Connection::open_in_memory(alloc)?, BASE) {
         Ok(mut tables) => the_spelling_of_a_crate_in(&rt, alloc, &mut tables),
-        Err((_fault, _conn)) => Err("no tables".into()),
-    }
-}
-
-fn last_owner_in<S: Alter>(
-    rt: &impl Abort,
-    alloc: Global,
-    tables: &mut Tables<S>,
-) -> Result<(), Fail>
-    requires { AreOurs S.Store tables.old }
-{
-    let digest = digest_of(b"");
-    let mut work = tables.work()?;
-    assert_eq!(rt; work.add_account("ada", Some("Ada"))?, 1);
-    assert_eq!(rt; work.add_account("bob", None)?, 2);
-    let version = empty_version("0.1.0", b"", &digest);
-    assert_eq!(rt;
-        work.add_crate(&parse_name("a").ok_or("a name")?, 1, &version)?,
-        1
-    );
-    assert_eq!(rt;
-        work.add_crate(&parse_name("b").ok_or("a name")?, 1, &version)?,
-        2
-    );
-    work.add_owner(1, 2)?;
-    work.add_owner(1, 2)?;
-    let owners = work.owners_of(alloc, 1)?;
-    assert_eq!(rt; owners.len(), 2);
-    assert!(rt; owners[0].login.as_str() == "ada" && owners[1].id == 2);
-    work.remove_owner(1, 1)?;
-    let owners = work.owners_of(alloc, 1)?;
-    assert_eq!(rt; owners.len(), 1);
-    assert_eq!(rt; owners[0].login.as_str(), "bob");
-    assert_eq!(rt; work.owners_of(alloc, 2)?.len(), 1);
-    Ok(())
-}
-
-#[test]
-fn last_owner(rt: HostRuntime) -> Result<(), Fail> {
-    let alloc = rt.alloc();
-    match Tables::make(Connection::open_in_memory(alloc)?, BASE) {
-        Ok(mut tables) => last_owner_in(&rt, alloc, &mut tables),
         Err((_fault, _conn)) => Err("no tables".into()),
     }
 }
@@ -222,6 +200,35 @@ fn archives_and_counts(rt: HostRuntime) -> Result<(), Fail> {
     let alloc = rt.alloc();
     match Tables::make(Connection::open_in_memory(alloc)?, BASE) {
         Ok(mut tables) => archives_and_counts_in(&rt, alloc, &mut tables),
+        Err((_fault, _conn)) => Err("no tables".into()),
+    }
+}
+
+fn an_archive_by_its_id_in<S: Alter>(rt: &impl Abort, tables: &mut Tables<S>) -> Result<(), Fail>
+    requires { AreOurs S.Store tables.old }
+{
+    let digest = digest_of(b"abc");
+    let name = parse_name("a").ok_or("a name")?;
+    let mut work = tables.work()?;
+    assert_eq!(rt; work.add_account("ada", None)?, 1);
+    let version = NewVersion {
+        text: "1.0.0",
+        description: None,
+        stem: b"",
+        digest: &digest,
+        archive: b"abc",
+    };
+    assert_eq!(rt; work.add_crate(&name, 1, &version)?, 1);
+    let archive = work.archive_with_id(1)?;
+    assert!(rt; archive.is_some_and(|archive| archive.as_slice() == b"abc".as_slice()));
+    assert!(rt; work.archive_with_id(2)?.is_none());
+    Ok(())
+}
+
+#[test]
+fn an_archive_by_its_id(rt: HostRuntime) -> Result<(), Fail> {
+    match Tables::make(Connection::open_in_memory(rt.alloc())?, BASE) {
+        Ok(mut tables) => an_archive_by_its_id_in(&rt, &mut tables),
         Err((_fault, _conn)) => Err("no tables".into()),
     }
 }

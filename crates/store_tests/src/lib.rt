@@ -14,6 +14,12 @@ mod memory;
 #[cfg(test)]
 mod opening;
 #[cfg(test)]
+mod owners;
+#[cfg(test)]
 mod reading;
 #[cfg(test)]
+mod setup;
+#[cfg(test)]
 mod tokens;
+#[cfg(test)]
+mod whole_rows;

@@ -2,59 +2,14 @@
 
 ghost use Rattle.reg_tables.specs.Works.{AreOurs};
 
+use crate::setup::{BASE, fill};
+use crate::whole_rows::rows_of;
 use reg_audit::{Check, audit};
-use reg_line::{Digest, digest_of, stem};
-use reg_manifest::read_manifest;
-use reg_model::Endpoints;
-use reg_names::{Pattern, canon, parse_name};
-use reg_tables::{MakeFault, NewVersion, Tables};
+use reg_tables::{MakeFault, Tables};
 use sqlite::{Alter, Connection, params};
 use std::alloc::Global;
+use std::process::Abort;
 use std::test::Fail;
-
-const BASE: &str = "https://index.example";
-
-const ALL: Endpoints = Endpoints {
-    publish_new: true,
-    publish_update: true,
-    yank: true,
-    change_owners: true,
-};
-
-/// A version whose archive is `abc`.
-fn version_of<'a>(stem: &'a [u8], digest: &'a Digest) -> NewVersion<'a> {
-    NewVersion {
-        text: "0.1.0",
-        description: None,
-        stem,
-        digest,
-        archive: b"abc",
-    }
-}
-
-/// Two accounts, two tokens, a crate of one version with the archive `abc`, and a reserved name.
-fn fill<S: Alter>(alloc: Global, tables: &mut Tables<S>) -> Result<(), Fail>
-    requires { AreOurs S.Store tables.old }
-{
-    let manifest = read_manifest(alloc, b"{\"name\":\"a\",\"vers\":\"0.1.0\"}")?;
-    let digest = digest_of(b"abc");
-    let stem = stem(alloc, &manifest, &digest)?;
-    let version = version_of(stem.as_slice(), &digest);
-    let some = [Pattern::parse("acme-*").ok_or("a pattern")?];
-    let more = [
-        Pattern::parse("a").ok_or("a pattern")?,
-        Pattern::parse("*").ok_or("a pattern")?,
-    ];
-    let mut work = tables.work()?;
-    work.add_account("ada", Some("Ada"))?;
-    work.add_account("bob", None)?;
-    work.add_token(alloc, &digest_of(b"abc"), 1, ALL, &more)?;
-    work.add_token(alloc, &digest_of(b"abd"), 2, ALL, &some)?;
-    work.add_crate(&parse_name("a").ok_or("a name")?, 1, &version)?;
-    work.reserve(&canon(&parse_name("acme-net").ok_or("a name")?))?;
-    work.commit()?;
-    Ok(())
-}
 
 fn check<S: Alter>(alloc: Global, tables: &mut Tables<S>) -> Result<Option<Check>, Fail>
     requires { AreOurs S.Store tables.old }
@@ -94,10 +49,37 @@ fn found(alloc: Global, statements: &[&str]) -> Result<Option<Check>, Fail> {
     }
 }
 
+/// Opened again it has the same rows, and the checks find nothing.
+fn opened_again_in<S: Alter + Drop>(
+    rt: &impl Abort,
+    alloc: Global,
+    mut tables: Tables<S>,
+) -> Result<(), Fail>
+    requires { AreOurs S.Store tables }
+{
+    let before = rows_of(alloc, &mut tables)?;
+    let conn = tables.into_connection();
+    assert!(rt; conn.is_autocommit());
+    match Tables::adopt(alloc, conn) {
+        Ok(mut again) => {
+            assert!(rt; rows_of(alloc, &mut again)? == before);
+            assert_eq!(rt; check(alloc, &mut again)?, None);
+            Ok(())
+        }
+        Err((_fault, _conn)) => Err("not known again".into()),
+    }
+}
+
 #[test]
 fn a_registry_opened_again(rt: HostRuntime) -> Result<(), Fail> {
-    assert_eq!(rt; found(rt.alloc(), &[])?, None);
-    Ok(())
+    let alloc = rt.alloc();
+    match Tables::make(Connection::open_in_memory(alloc)?, BASE) {
+        Ok(mut tables) => {
+            fill(alloc, &mut tables)?;
+            opened_again_in(&rt, alloc, tables)
+        }
+        Err((_fault, _conn)) => Err("no tables".into()),
+    }
 }
 
 #[test]

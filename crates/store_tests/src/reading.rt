@@ -2,12 +2,11 @@
 
 ghost use Rattle.reg_tables.specs.Works.{AreOurs};
 
+use crate::setup::BASE;
 use reg_tables::Tables;
 use sqlite::{Alter, Connection};
 use std::process::Abort;
 use std::test::Fail;
-
-const BASE: &str = "https://index.example";
 
 #[tactic(auto, using(crate::proofs::Plain::logins_are_plain))]
 fn rows_in<S: Alter + Drop>(rt: &impl Abort, mut tables: Tables<S>) -> Result<(), Fail>
@@ -16,10 +15,13 @@ fn rows_in<S: Alter + Drop>(rt: &impl Abort, mut tables: Tables<S>) -> Result<()
     let mut work = tables.work()?;
     let all = work.select("SELECT login FROM accounts ORDER BY id", &[])?;
     drop(work);
+    assert_eq!(rt; all.len(), 2);
+    assert_eq!(rt; all[0].get::<String>(0)?.as_str(), "ada");
+    assert_eq!(rt; all[1].get::<String>(0)?.as_str(), "bob");
     let mut rows = tables
         .reader()
         .rows("SELECT login FROM accounts ORDER BY id", &[])?;
-    'rows: for row in &all {
+    for row in &all {
         let login = row.get::<String>(0)?;
         match rows.next()? {
             Some(next) => assert_eq!(rt; next.get::<String>(0)?.as_str(), login.as_str()),
