@@ -3,6 +3,7 @@
 ghost use Rattle.std.specs.Prelude.{◌≡◌, false, [], ◌∷◌, IfOk};
 ghost use Rattle.sqlite.specs.State.{HasCleanDisk, KeepsCommit, Survives};
 ghost use Rattle.sqlite.specs.Tree.{Trees};
+ghost use Rattle.reg_schema.specs.States.{IsUndone};
 ghost use Rattle.reg_tables.specs.WholeRows.{AreAllRows};
 ghost use Rattle.reg_tables.specs.Works.{AreOurs, IsAtWork, has_failed, is_shut, seen, shown};
 ghost use Rattle.reg_tables.specs.declared.all_rows.AllRows.{AllRows as Rows};
@@ -85,6 +86,7 @@ pub fn audit<S: Alter>(alloc: Global, tables: &mut Tables<S>) -> Result<Option<C
     requires { AreOurs S.Store tables.old }
     ensures found { HasCleanDisk (shown S.Store tables.new) → IfOk result (λ found. (it : Rows) × AreAllRows it (shown S.Store tables.old).now.trees × IsFirst it (shown S.Store tables.old).now.trees found) }
     ensures kept { HasCleanDisk (shown S.Store tables.new) → KeepsCommit (shown S.Store tables.old) (shown S.Store tables.new) }
+    ensures rests { HasCleanDisk (shown S.Store tables.new) → (shown S.Store tables.old).in_transaction ≡ false → IsUndone (shown S.Store tables.old) (shown S.Store tables.new) }
     ensures ours { AreOurs S.Store tables.new }
     ensures open { is_shut tables.new ≡ is_shut tables.old }
     ensures survives { Survives (shown S.Store tables.old) (shown S.Store tables.new) (λ _. ⊥) }

@@ -21,6 +21,7 @@ pub mod Dropped
 pub mod FoundTokens
 pub mod Greatest
 pub mod Joined
+pub mod Made
 pub mod Members
 pub mod NextId
 pub mod Numbered

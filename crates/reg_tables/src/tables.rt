@@ -4,12 +4,14 @@ ghost use Rattle.std.specs.Prelude.{◌≡◌, ◌≢◌, ◌⊎◌, ◌↔◌, 
 ghost use Rattle.std.specs.Borrow.{sem, RestsIfErr};
 ghost use Rattle.sqlite.specs.State.{HasCleanDisk, KeepsCommit, Shows, Survives};
 ghost use Rattle.sqlite.specs.Held.{state};
+ghost use Rattle.reg_model.specs.Registry.{empty_at};
 ghost use Rattle.reg_schema.specs.Schema.{blank, ours};
 ghost use Rattle.reg_schema.specs.States.{IsAtRest, IsMade, IsOurs, IsUndone};
 ghost use Rattle.reg_tables.specs.Bases.{HasBase, LacksBase};
 ghost use Rattle.reg_tables.specs.contracts.tables.Tables.{the_row};
 ghost use Rattle.reg_tables.specs.Lending.{LendsReader};
 ghost use Rattle.reg_tables.specs.Readers.{is_closed, reached};
+ghost use Rattle.reg_tables.specs.Stands.{Stands};
 ghost use Rattle.reg_tables.specs.Works.{AreOurs, IsAtWork, IsLeft, has_failed, held, is_shut, seen, shown};
 
 use crate::about;
@@ -61,6 +63,7 @@ impl<S: Alter> Tables<S> {
         base: &str,
     ) -> Result<Tables<S>, (MakeFault, Connection<S>)>
         ensures made { IfOk result (λ t. HasCleanDisk (shown S.Store t) → IsMade base.now (shown S.Store t).committed × IsAtRest (shown S.Store t)) }
+        ensures stands { IfOk result (λ t. HasCleanDisk (shown S.Store t) → Stands (empty_at base.now) (shown S.Store t).now.trees) }
         ensures ours { IfOk result (λ t. AreOurs S.Store t × (is_shut t ≡ false)) }
         ensures unknown { IfErr result (λ e. (e.0 ≡ MakeFault.UnknownSchema) ↔ ((state S.Store conn).now.schema ≢ blank)) }
         ensures blank { IfOk result (λ t. (state S.Store conn).now.schema ≡ blank) }
@@ -82,10 +85,11 @@ impl<S: Alter> Tables<S> {
     ) -> Result<Tables<S>, (MakeFault, Connection<S>)>
         requires { (state S.Store conn).in_transaction ≡ false }
         ensures found { IfOk result (λ t. HasCleanDisk (shown S.Store t) → IsTrue (shown S.Store t).is_open → (shown S.Store t).now ≡ (state S.Store conn).now) }
+        ensures rests { IfOk result (λ t. HasCleanDisk (shown S.Store t) → IsUndone (state S.Store conn) (shown S.Store t)) }
         ensures about { IfOk result (λ t. HasCleanDisk (shown S.Store t) → HasBase (state S.Store conn).now.trees) }
         ensures ours { IfOk result (λ t. AreOurs S.Store t × (is_shut t ≡ false)) }
         ensures unknown { IfErr result (λ e. HasCleanDisk (state S.Store e.1) → e.0 ≡ MakeFault.UnknownSchema → ((state S.Store conn).now.schema ≢ ours) ⊎ LacksBase (state S.Store conn).now.trees) }
-        ensures handed_back { IfErr result (λ e. HasCleanDisk (state S.Store e.1) → KeepsCommit (state S.Store conn) (state S.Store e.1)) }
+        ensures handed_back { IfErr result (λ e. HasCleanDisk (state S.Store e.1) → IsUndone (state S.Store conn) (state S.Store e.1)) }
         ensures kept { IfOk result (λ t. Survives (state S.Store conn) (shown S.Store t) (λ _. ⊥)) }
         ensures left { IfErr result (λ e. Survives (state S.Store conn) (state S.Store e.1) (λ _. ⊥)) }
     {

@@ -42,6 +42,7 @@ impl<S: Alter> Work<'_, S> {
         ensures undone { HasCleanDisk (shown S.Store self.exit.0.now) → OnErr result (IsUndone (seen S.Store self.entry) (shown S.Store self.exit.0.now)) }
         ensures ours { AreOurs S.Store self.exit.0.now }
         ensures shut { OnErr result (has_failed self.entry ≡ false → is_shut self.exit.0.now ≡ true) }
+        ensures still_open { OnErr result (has_failed self.entry ≡ true → is_shut self.exit.0.now ≡ is_shut self.entry.tables.now) }
         ensures open { OnOk result (is_shut self.exit.0.now ≡ is_shut self.entry.tables.now) }
         ensures survives { Survives (seen S.Store self.entry) (shown S.Store self.exit.0.now) (λ db. (has_failed self.entry ≡ false) × (db ≡ (seen S.Store self.entry).now.trees)) }
     {
