@@ -14,14 +14,11 @@ use Rattle.sqlite.specs.Collation.TheVariants.{Binary}
 use Rattle.sqlite.proofs.Callers.{one_permutation}
 use Rattle.sqlite_sql.specs.Group.{Grouping, IsSummary, value_over}
 use Rattle.sqlite_sql.specs.declared.aggregate.AggregateOp.TheVariants.{CountRows}
+use Rattle.reg_schema.specs.Rows.{capped}
 
 -- count(*) and no GROUP BY
 abbrev pub counting : Grouping
 counting = record { keys = []; collations = []; aggregates = record { op = CountRows; distinct = false; collation = Binary; argument = lit Null } ∷ []; having = [] }
-
--- SQL caps a count
-abbrev pub capped : ℕ → Value
-capped n = Int (pos (min n 9223372036854775807))
 
 same_some : {X : Type 0} {a b : X} → ◌≡◌ {A = Option X} (Some a) (Some b) → a ≡ b
 same_some e = cc

@@ -12,3 +12,11 @@ pub mod MakeLemmas
 pub mod OursLists
 pub mod Selections
 pub mod SameLemmas
+pub mod Binding
+pub mod Greatest
+pub mod Ordered
+pub mod Reading
+pub mod ShownRows
+pub mod TableMatches
+pub mod WholeTables
+pub mod Writing

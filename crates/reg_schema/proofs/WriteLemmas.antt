@@ -21,6 +21,7 @@ use Rattle.sqlite.proofs.StateLemmas.{survives_weaker}
 use Rattle.sqlite.proofs.Callers.{IsPlain, command_of, runs_as}
 use Rattle.sqlite_tied.specs.Compute.{everything}
 use Rattle.reg_schema.specs.States.{Refuses, IsUndone}
+use Rattle.reg_schema.specs.Statements.{writes_rows}
 
 not_run : (sql : List ℕ) (params : Row) (old new : State) (e : Error) → IsNotRun old new sql params e → Refuses old new
 unfolding IsNotRun
@@ -39,13 +40,6 @@ execute_refused sql params old new e (inr h) = elim (cases_Bool (shows_rows fals
 pub refused : (sql : List ℕ) (params : Row) (old new : State) (r : Result ℕ Error) → Executes sql params old new r → OnErr r (Refuses old new)
 refused sql params old new (Ok n) h = tt
 refused sql params old new (Err e) h = execute_refused sql params old new e h
-
-abbrev pub writes_rows : Command → Bool
-writes_rows (Insert at from) = true
-writes_rows (Update at q) = true
-writes_rows (Delete at q) = true
-writes_rows CreateTable = true
-writes_rows _ = false
 
 no_commit : (c : Command) → writes_rows c ≡ true → c ≡ Commit → ⊥
 no_commit c w is = let it : writes_rows Commit ≡ true = subst (λ k. writes_rows k ≡ true) is w in cc

@@ -1,5 +1,10 @@
 pub mod Changes
+pub mod Greatest
+pub mod Places
 pub mod Rows
 pub mod Schema
+pub mod Shown
+pub mod Statements
 pub mod States
+pub mod Tests
 pub mod Texts

@@ -1,5 +1,5 @@
 -- The values of a row, and rows in an order.
-use Rattle.std.specs.Prelude.{◌≡◌, ℕ, pos, Bool, if◌then◌else◌, List, ◌∷◌, Option, Some, None, map, IsPermutation, IsSorted}
+use Rattle.std.specs.Prelude.{◌≡◌, ℕ, pos, Bool, if◌then◌else◌, List, [], ◌∷◌, Option, Some, None, map, min, IsPermutation, IsSorted}
 use Rattle.std.specs.declared.cmp.Ordering.{Ordering}
 use Rattle.std.specs.Ordering.{ordering_then}
 use Rattle.sqlite.specs.Order.{Row, column, value_cmp}
@@ -30,3 +30,14 @@ pub record IsInOrder (order : Row → Row → Ordering) (rows : List Row) (show 
   pub same : IsPermutation rows ordered
   pub sorted : IsSorted order ordered
   pub shown : out ≡ map show ordered
+
+-- the greatest number of SQL, and a count, which SQL caps at it
+abbrev pub greatest_number : ℕ
+greatest_number = 9223372036854775807
+
+abbrev pub capped : ℕ → Value
+capped n = Int (pos (min n greatest_number))
+
+-- a row of one number
+abbrev pub number_columns : ℕ → Row
+number_columns n = Int (pos n) ∷ []

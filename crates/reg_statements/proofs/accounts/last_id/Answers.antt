@@ -1,0 +1,10 @@
+use Rattle.sqlite.specs.Held.{state}
+use Rattle.reg_schema.proofs.Reading.{reads_as}
+use Rattle.reg_statements.proofs.AccountQueries.{last, last_is}
+use Rattle.reg_statements.proofs.accounts.last_id.Goals as goal
+
+pub select_one-requires-clause-reads : goal.select_one-requires-clause-reads
+select_one-requires-clause-reads g c = last_is.plain
+
+pub returns : goal.returns
+returns g c = reads_as (state g.S.Store c.args.conn.now) (state g.S.Store c.select_one.new.conn) c.select_one.result c.requires (λ at found h. last (state g.S.Store c.args.conn.now) (state g.S.Store c.select_one.new.conn) found at h) c.select_one.ensures

@@ -1,0 +1,10 @@
+pub mod Abouts
+pub mod Accounts
+pub mod Archives
+pub mod Counts
+pub mod Crates
+pub mod Owners
+pub mod Reserved
+pub mod Scopes
+pub mod Tokens
+pub mod Versions
