@@ -4,7 +4,8 @@ use Rattle.sqlite_trees.specs.declared.store.Store.{Ghosts}
 use Rattle.sqlite.specs.State.{State, HasCleanDisk, IsUnchanged, KeepsCommit}
 use Rattle.sqlite.proofs.StateLemmas.{survives_then}
 use Rattle.reg_schema.specs.States.{IsInside}
-use Rattle.reg_tables.specs.Works.{Fails, IsCall, seen}
+use Rattle.reg_schema.specs.Steps.{Fails}
+use Rattle.reg_tables.specs.Works.{IsCall, seen}
 use Rattle.reg_tables.specs.declared.work.Work.{Work}
 use Rattle.reg_audit.specs.Looks.{Looks}
 

@@ -17,13 +17,13 @@ use Rattle.reg_line.specs.StemCheck.{IsStemOf}
 use Rattle.reg_model.specs.Crates.{is_reserved_always}
 use Rattle.reg_model.specs.Refusals.{may_name}
 use Rattle.reg_model.specs.Sound.{has_some}
-use Rattle.reg_tables.specs.WholeRows.{archives_with_id}
-use Rattle.reg_tables.specs.declared.accounts.Account.{Account}
-use Rattle.reg_tables.specs.declared.all_rows.AllRows.{AllRows}
-use Rattle.reg_tables.specs.declared.crates.Crate.{Crate}
-use Rattle.reg_tables.specs.declared.scopes.Scope.{Scope}
-use Rattle.reg_tables.specs.declared.tokens.Token.{Token}
-use Rattle.reg_tables.specs.declared.versions.Version.{Version}
+use Rattle.reg_statements.specs.Archives.{archives_with_id}
+use Rattle.reg_statements.specs.declared.accounts.Account.{Account}
+use Rattle.reg_stored.specs.declared.all_rows.AllRows.{AllRows}
+use Rattle.reg_statements.specs.declared.crates.Crate.{Crate}
+use Rattle.reg_statements.specs.declared.scopes.Scope.{Scope}
+use Rattle.reg_statements.specs.declared.tokens.Token.{Token}
+use Rattle.reg_statements.specs.declared.versions.Version.{Version}
 use Rattle.reg_audit.specs.declared.check.Check.{Check}
 use Rattle.reg_audit.specs.declared.check.Check.TheVariants.{C1, C2, C3, C4, C5, C6}
 
@@ -37,7 +37,8 @@ is_account a = is_login (string_bytes a.login) && may_name (option_map string_by
 
 -- C1: the base is one; the accounts' ids are 1 to their number, their logins and names well formed
 abbrev pub accounts_pass : AllRows → Bool
-accounts_pass it = is_base (string_bytes it.base) && (are_counted 1 (map (λ a. a.id) it.accounts.items) && list_all is_account it.accounts.items)
+accounts_pass it = is_base (string_bytes it.base)
+    && (are_counted 1 (map (λ a. a.id) it.accounts.items) && list_all is_account it.accounts.items)
 
 abbrev pub is_token : Token → Bool
 is_token t = length t.digest.items == 32 && has_some t.endpoints
@@ -46,26 +47,32 @@ is_token t = length t.digest.items == 32 && has_some t.endpoints
 abbrev pub is_scope : Scope → Bool
 is_scope s =
     let range = range_of (string_bytes s.pattern) in
-    is_pattern (string_bytes s.pattern) && (bytes_eq (string_bytes s.low) range.low && bytes_eq (string_bytes s.high) range.high)
+    is_pattern (string_bytes s.pattern) && (bytes_eq (string_bytes s.low) range.low && bytes_eq
+    (string_bytes s.high) range.high)
 
--- After the scope of this token at this place, each comes at the next place of its token or at place 0 of the next token, up to the last token.
+-- After the scope of this token at this place, each comes at the next place of its token or at
+-- place 0 of the next token, up to the last token.
 abbrev pub follow : ℕ → ℕ → ℕ → List Scope → Bool
 follow last token place [] = token == last
-follow last token place (s ∷ rest) = ((s.token == token && s.place == place + 1) || (s.token == token + 1 && s.place == 0)) && follow last s.token s.place rest
+follow last token place (s ∷ rest) = ((s.token == token && s.place == place + 1)
+    || (s.token == token + 1 && s.place == 0)) && follow last s.token s.place rest
 
--- The scopes of the tokens 1 to the last, each with one or more at places 0 onwards: the first is that of token 1 at place 0.
+-- The scopes of the tokens 1 to the last, each with one or more at places 0 onwards: the first is
+-- that of token 1 at place 0.
 abbrev pub are_placed : ℕ → List Scope → Bool
 are_placed last [] = last == 0
 are_placed last (s ∷ rest) = (s.token == 1 && s.place == 0) && follow last s.token s.place rest
 
--- C2: the tokens' ids are 1 to their number, each with a digest of 32 bytes, an endpoint and one or more patterns at places 0 onwards, whose ranges are the compiled ones
+-- C2: the tokens' ids are 1 to their number, each with a digest of 32 bytes, an endpoint and one or
+-- more patterns at places 0 onwards, whose ranges are the compiled ones
 abbrev pub tokens_pass : AllRows → Bool
 tokens_pass it =
     (are_counted 1 (map (λ t. t.id) it.tokens.items) && list_all is_token it.tokens.items)
     && (are_placed (length it.tokens.items) it.scopes.items && list_all is_scope it.scopes.items)
 
 abbrev pub is_named : Crate → Bool
-is_named c = is_name (string_bytes c.name) && bytes_eq (canon (string_bytes c.name)) (string_bytes c.canon)
+is_named c = is_name (string_bytes c.name) && bytes_eq (canon (string_bytes c.name))
+    (string_bytes c.canon)
 
 abbrev pub is_owned : AllRows → ℕ → Bool
 is_owned it id = list_any (λ o. o.crate_id == id) it.owners.items
@@ -75,7 +82,8 @@ is_published it id = list_any (λ v. v.crate_id == id) it.versions.items
 
 -- C3: each crate's name is a crate name, its canonical text is right, it has an owner and a version
 abbrev pub crates_pass : AllRows → Bool
-crates_pass it = list_all (λ c. is_named c && (is_owned it c.id && is_published it c.id)) it.crates.items
+crates_pass it = list_all (λ c. is_named c && (is_owned it c.id
+    && is_published it c.id)) it.crates.items
 
 -- one archive, which has this digest
 abbrev pub is_archive : List ℕ → List Row → Bool
@@ -84,7 +92,8 @@ is_archive digest rows = false
 
 -- C4: there is no archive but of a version, and each version has one, whose SHA-256 is its digest
 abbrev pub archives_pass : AllRows → Trees → Bool
-archives_pass it db = bytes_eq (map (λ v. v.id) it.versions.items) it.archives.items && list_all (λ v. is_archive v.digest.items (archives_with_id v.id db)) it.versions.items
+archives_pass it db = bytes_eq (map (λ v. v.id) it.versions.items) it.archives.items && list_all
+    (λ v. is_archive v.digest.items (archives_with_id v.id db)) it.versions.items
 
 -- the crate with this id
 abbrev pub crate_of : AllRows → ℕ → Option Crate
@@ -122,7 +131,8 @@ Passes it db C6 = reserved_pass it ≡ true
 -- the first of these checks that fails; where all pass, none
 abbrev pub IsFirstOf : List Check → AllRows → Trees → Option Check → Type 0
 IsFirstOf [] it db found = found ≡ None
-IsFirstOf (c ∷ rest) it db found = (Passes it db c × IsFirstOf rest it db found) ⊎ ((Passes it db c → ⊥) × (found ≡ Some c))
+IsFirstOf (c ∷ rest) it db found = (Passes it db c × IsFirstOf rest it db found)
+    ⊎ ((Passes it db c → ⊥) × (found ≡ Some c))
 
 abbrev pub IsFirst : AllRows → Trees → Option Check → Type 0
 IsFirst = IsFirstOf (C1 ∷ C2 ∷ C3 ∷ C4 ∷ C5 ∷ C6 ∷ [])

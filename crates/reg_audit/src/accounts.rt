@@ -30,7 +30,8 @@ fn are_accounts(accounts: &[Account]) -> bool
     accounts.iter().all(|account| is_account(account))
 }
 
-/// Whether the base is one, and the accounts have ids without a gap and well-formed logins and names.
+/// Whether the base is one, and the accounts have ids without a gap and well-formed logins and
+/// names.
 pub(crate) fn accounts_pass(rows: &AllRows) -> bool
     ensures { result ≡ accounts_pass_in rows.now }
 {

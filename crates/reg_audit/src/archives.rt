@@ -5,7 +5,7 @@ ghost use Rattle.std.specs.List.{list_all};
 ghost use Rattle.std.specs.Str.{bytes_eq};
 ghost use Rattle.sha2.specs.Sha256.{sha256};
 ghost use Rattle.sqlite.specs.State.{HasCleanDisk, IsUnchanged};
-ghost use Rattle.reg_tables.specs.WholeRows.{archives_with_id};
+ghost use Rattle.reg_statements.specs.Archives.{archives_with_id};
 ghost use Rattle.reg_tables.specs.Works.{IsAtWork, has_failed, seen};
 ghost use Rattle.reg_audit.specs.Checks.{archives_pass as archives_pass_in, is_archive};
 ghost use Rattle.reg_audit.specs.Looks.{Looks};
@@ -36,9 +36,12 @@ fn have_ids(versions: &[Version], ids: &[u64]) -> bool
 
 fn has_archive<S: Alter>(work: &mut Work<'_, S>, version: &Version) -> Result<bool, StoreFault>
     requires { IsAtWork S.Store work.old }
-    ensures found { HasCleanDisk (seen S.Store work.new) → IfOk result (λ b. b ≡ is_archive version.now.digest.items (archives_with_id version.now.id (seen S.Store work.old).now.trees)) }
+    ensures found { HasCleanDisk (seen S.Store work.new) → IfOk result
+        (λ b. b ≡ is_archive version.now.digest.items
+        (archives_with_id version.now.id (seen S.Store work.old).now.trees)) }
     ensures went_on { OnOk result (has_failed work.new ≡ false) }
-    ensures same { HasCleanDisk (seen S.Store work.new) → OnOk result (IsUnchanged (seen S.Store work.old) (seen S.Store work.new)) }
+    ensures same { HasCleanDisk (seen S.Store work.new) → OnOk result
+        (IsUnchanged (seen S.Store work.old) (seen S.Store work.new)) }
     ensures looks { Looks S.Store work.old work.new }
 {
     match work.archive_with_id(version.id)? {
@@ -50,9 +53,12 @@ fn has_archive<S: Alter>(work: &mut Work<'_, S>, version: &Version) -> Result<bo
 fn have_archives<S: Alter>(work: &mut Work<'_, S>, versions: &[Version]) -> Result<bool, StoreFault>
     requires at_work { IsAtWork S.Store work.old }
     requires goes_on { has_failed work.old ≡ false }
-    ensures found { HasCleanDisk (seen S.Store work.new) → IfOk result (λ b. b ≡ list_all (λ v. is_archive v.digest.items (archives_with_id v.id (seen S.Store work.old).now.trees)) versions.now) }
+    ensures found { HasCleanDisk (seen S.Store work.new) → IfOk result
+        (λ b. b ≡ list_all (λ v. is_archive v.digest.items
+        (archives_with_id v.id (seen S.Store work.old).now.trees)) versions.now) }
     ensures went_on { OnOk result (has_failed work.new ≡ false) }
-    ensures same { HasCleanDisk (seen S.Store work.new) → OnOk result (IsUnchanged (seen S.Store work.old) (seen S.Store work.new)) }
+    ensures same { HasCleanDisk (seen S.Store work.new) → OnOk result
+        (IsUnchanged (seen S.Store work.old) (seen S.Store work.new)) }
     ensures looks { Looks S.Store work.old work.new }
 {
     for version in versions {
@@ -70,9 +76,11 @@ pub(crate) fn archives_pass<S: Alter>(
 ) -> Result<bool, StoreFault>
     requires at_work { IsAtWork S.Store work.old }
     requires goes_on { has_failed work.old ≡ false }
-    ensures found { HasCleanDisk (seen S.Store work.new) → IfOk result (λ b. b ≡ archives_pass_in rows.now (seen S.Store work.old).now.trees) }
+    ensures found { HasCleanDisk (seen S.Store work.new) → IfOk result
+        (λ b. b ≡ archives_pass_in rows.now (seen S.Store work.old).now.trees) }
     ensures went_on { OnOk result (has_failed work.new ≡ false) }
-    ensures same { HasCleanDisk (seen S.Store work.new) → OnOk result (IsUnchanged (seen S.Store work.old) (seen S.Store work.new)) }
+    ensures same { HasCleanDisk (seen S.Store work.new) → OnOk result
+        (IsUnchanged (seen S.Store work.old) (seen S.Store work.new)) }
     ensures looks { Looks S.Store work.old work.new }
 {
     if !have_ids(&rows.versions, &rows.archives) {

@@ -23,7 +23,8 @@ fn is_named(it: &Crate) -> bool
 
 // The crates that have an owner.
 fn owned(alloc: Global, owners: &[Ownership]) -> Result<BTreeSet<u32>, AllocError>
-    ensures { IfOk result (λ set. (id : ℕ) → contains nat_cmp set id ≡ list_any (λ o. o.crate_id == id) owners.now) }
+    ensures { IfOk result (λ set. (id : ℕ) → contains nat_cmp set id ≡ list_any
+        (λ o. o.crate_id == id) owners.now) }
 {
     let mut ids = BTreeSet::new(alloc);
     for owner in owners {
@@ -34,7 +35,8 @@ fn owned(alloc: Global, owners: &[Ownership]) -> Result<BTreeSet<u32>, AllocErro
 
 // The crates that have a version.
 fn published(alloc: Global, versions: &[Version]) -> Result<BTreeSet<u32>, AllocError>
-    ensures { IfOk result (λ set. (id : ℕ) → contains nat_cmp set id ≡ list_any (λ v. v.crate_id == id) versions.now) }
+    ensures { IfOk result (λ set. (id : ℕ) → contains nat_cmp set id ≡ list_any
+        (λ v. v.crate_id == id) versions.now) }
 {
     let mut ids = BTreeSet::new(alloc);
     for version in versions {

@@ -4,9 +4,9 @@ ghost use Rattle.std.specs.Prelude.{◌≡◌, false, [], ◌∷◌, IfOk};
 ghost use Rattle.sqlite.specs.State.{HasCleanDisk, KeepsCommit, Survives};
 ghost use Rattle.sqlite.specs.Tree.{Trees};
 ghost use Rattle.reg_schema.specs.States.{IsUndone};
-ghost use Rattle.reg_tables.specs.WholeRows.{AreAllRows};
+ghost use Rattle.reg_stored.specs.WholeRows.{AreAllRows};
 ghost use Rattle.reg_tables.specs.Works.{AreOurs, IsAtWork, has_failed, is_shut, seen, shown};
-ghost use Rattle.reg_tables.specs.declared.all_rows.AllRows.{AllRows as Rows};
+ghost use Rattle.reg_stored.specs.declared.all_rows.AllRows.{AllRows as Rows};
 ghost use Rattle.reg_audit.specs.Checks.{IsFirst, IsFirstOf};
 ghost use Rattle.reg_audit.specs.Looks.{Looks};
 ghost use Rattle.reg_audit.specs.declared.check.Check.TheVariants.{C1, C2, C3, C5, C6};
@@ -24,7 +24,8 @@ use std::alloc::{AllocError, Global};
 
 // The checks before that of the archives.
 fn first_before(alloc: Global, rows: &AllRows) -> Result<Option<Check>, AllocError>
-    ensures { IfOk result (λ found. (db : Trees) → IsFirstOf (C1 ∷ C2 ∷ C3 ∷ []) rows.now db found) }
+    ensures { IfOk result (λ found. (db : Trees) → IsFirstOf
+        (C1 ∷ C2 ∷ C3 ∷ []) rows.now db found) }
 {
     if !accounts_pass(rows) {
         return Ok(Some(Check::C1));
@@ -58,7 +59,8 @@ fn first_failing<S: Alter>(
 ) -> Result<Option<Check>, StoreFault>
     requires at_work { IsAtWork S.Store work.old }
     requires goes_on { has_failed work.old ≡ false }
-    ensures found { HasCleanDisk (seen S.Store work.new) → IfOk result (IsFirst rows.now (seen S.Store work.old).now.trees) }
+    ensures found { HasCleanDisk (seen S.Store work.new) → IfOk result
+        (IsFirst rows.now (seen S.Store work.old).now.trees) }
     ensures looks { Looks S.Store work.old work.new }
 {
     let before = first_before(alloc, rows)?;
@@ -74,19 +76,27 @@ fn first_failing<S: Alter>(
 
 fn examine<S: Alter>(alloc: Global, work: &mut Work<'_, S>) -> Result<Option<Check>, StoreFault>
     requires { IsAtWork S.Store work.old }
-    ensures found { HasCleanDisk (seen S.Store work.new) → IfOk result (λ found. (it : Rows) × AreAllRows it (seen S.Store work.old).now.trees × IsFirst it (seen S.Store work.old).now.trees found) }
+    ensures found { HasCleanDisk (seen S.Store work.new) → IfOk result
+        (λ found. (it : Rows) × AreAllRows it (seen S.Store work.old).now.trees × IsFirst it
+        (seen S.Store work.old).now.trees found) }
     ensures looks { Looks S.Store work.old work.new }
 {
     let rows = work.all_rows(alloc)?;
     first_failing(alloc, work, &rows)
 }
 
-/// The first check that fails; where all pass, none. Nothing is changed, and no archive is kept in memory.
+/// The first check that fails; where all pass, none. Nothing is changed, and no archive is kept in
+/// memory.
 pub fn audit<S: Alter>(alloc: Global, tables: &mut Tables<S>) -> Result<Option<Check>, StoreFault>
     requires { AreOurs S.Store tables.old }
-    ensures found { HasCleanDisk (shown S.Store tables.new) → IfOk result (λ found. (it : Rows) × AreAllRows it (shown S.Store tables.old).now.trees × IsFirst it (shown S.Store tables.old).now.trees found) }
-    ensures kept { HasCleanDisk (shown S.Store tables.new) → KeepsCommit (shown S.Store tables.old) (shown S.Store tables.new) }
-    ensures rests { HasCleanDisk (shown S.Store tables.new) → (shown S.Store tables.old).in_transaction ≡ false → IsUndone (shown S.Store tables.old) (shown S.Store tables.new) }
+    ensures found { HasCleanDisk (shown S.Store tables.new) → IfOk result
+        (λ found. (it : Rows) × AreAllRows it (shown S.Store tables.old).now.trees × IsFirst it
+        (shown S.Store tables.old).now.trees found) }
+    ensures kept { HasCleanDisk (shown S.Store tables.new) → KeepsCommit (shown S.Store tables.old)
+        (shown S.Store tables.new) }
+    ensures rests { HasCleanDisk (shown S.Store tables.new)
+        → (shown S.Store tables.old).in_transaction ≡ false → IsUndone (shown S.Store tables.old)
+        (shown S.Store tables.new) }
     ensures ours { AreOurs S.Store tables.new }
     ensures open { is_shut tables.new ≡ is_shut tables.old }
     ensures survives { Survives (shown S.Store tables.old) (shown S.Store tables.new) (λ _. ⊥) }

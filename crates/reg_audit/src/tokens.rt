@@ -41,7 +41,8 @@ fn are_tokens(tokens: &[Token]) -> bool
 }
 
 fn has_range(scope: &Scope, range: &NameRange) -> bool
-    ensures { result ≡ (bytes_eq (string_bytes scope.now.low) (range_view range.now).low && bytes_eq (string_bytes scope.now.high) (range_view range.now).high) }
+    ensures { result ≡ (bytes_eq (string_bytes scope.now.low) (range_view range.now).low && bytes_eq
+        (string_bytes scope.now.high) (range_view range.now).high) }
 {
     same_text(&scope.low, &range.low) && same_text(&scope.high, &range.high)
 }
@@ -71,7 +72,8 @@ fn are_scopes(alloc: Global, scopes: &[Scope]) -> Result<bool, AllocError>
 
 // Whether the scope is the next after that of this token at this place.
 fn is_next(scope: &Scope, token: u32, place: u32) -> bool
-    ensures { result ≡ ((scope.now.token == token && scope.now.place == place + 1) || (scope.now.token == token + 1 && scope.now.place == 0)) }
+    ensures { result ≡ ((scope.now.token == token && scope.now.place == place + 1)
+        || (scope.now.token == token + 1 && scope.now.place == 0)) }
 {
     (scope.token == token && u64::from(scope.place) == u64::from(place) + 1)
         || (u64::from(scope.token) == u64::from(token) + 1 && scope.place == 0)
@@ -100,7 +102,8 @@ fn are_placed(last: usize, scopes: &[Scope]) -> bool
     }
 }
 
-/// Whether the tokens have ids without a gap, whole digests, endpoints, and patterns at their places with the right ranges.
+/// Whether the tokens have ids without a gap, whole digests, endpoints, and patterns at their
+/// places with the right ranges.
 pub(crate) fn tokens_pass(alloc: Global, rows: &AllRows) -> Result<bool, AllocError>
     ensures { IfOk result (λ b. b ≡ tokens_pass_in rows.now) }
 {

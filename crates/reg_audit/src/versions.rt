@@ -18,7 +18,8 @@ use std::collections::BTreeMap;
 
 // Adds the place of an id, unless the id is there.
 fn add(places: &mut BTreeMap<u32, usize>, id: u32, place: usize) -> Result<(), AllocError>
-    ensures { OnOk result ((q : ℕ) → get nat_cmp places.new q ≡ option_or (get nat_cmp places.old q) (if id == q then Some place else None)) }
+    ensures { OnOk result ((q : ℕ) → get nat_cmp places.new q ≡ option_or (get nat_cmp places.old q)
+        (if id == q then Some place else None)) }
 {
     if !places.contains_key(&id) {
         places.insert(id, place)?;
@@ -28,7 +29,8 @@ fn add(places: &mut BTreeMap<u32, usize>, id: u32, place: usize) -> Result<(), A
 
 // The places of the crates by their ids.
 fn places_of(alloc: Global, crates: &[Crate]) -> Result<BTreeMap<u32, usize>, AllocError>
-    ensures { IfOk result (λ map. (id : ℕ) → get nat_cmp map id ≡ position_from (λ c. c.id == id) 0 crates.now) }
+    ensures { IfOk result (λ map. (id : ℕ) → get nat_cmp map id ≡ position_from
+        (λ c. c.id == id) 0 crates.now) }
 {
     let mut places = BTreeMap::new(alloc);
     for (index, it) in crates.iter().enumerate() {
@@ -39,7 +41,8 @@ fn places_of(alloc: Global, crates: &[Crate]) -> Result<BTreeMap<u32, usize>, Al
 
 // The crate with this id.
 fn crate_of<'a>(rows: &'a AllRows, places: &BTreeMap<u32, usize>, id: u32) -> Option<&'a Crate>
-    requires { (id : ℕ) → get nat_cmp places.now id ≡ position_from (λ c. c.id == id) 0 rows.now.crates.items }
+    requires { (id : ℕ) → get nat_cmp places.now id ≡ position_from
+        (λ c. c.id == id) 0 rows.now.crates.items }
     ensures { option_map (λ c. c.now) result ≡ crate_in rows.now id }
 {
     match places.get(&id) {
@@ -60,7 +63,9 @@ fn is_version(alloc: Global, text: &str) -> Result<bool, AllocError>
 
 // Whether the stem is that of the version's line under the name of this crate.
 fn has_stem(alloc: Global, version: &Version, it: &Crate) -> Result<bool, AllocError>
-    ensures { IfOk result (λ b. IsTrue b ↔ ((length version.now.digest.items ≡ 32) × IsStemOf version.now.stem.items (string_bytes it.now.name) (string_bytes version.now.vers) version.now.digest.items)) }
+    ensures { IfOk result (λ b. IsTrue b ↔ ((length version.now.digest.items ≡ 32)
+        × IsStemOf version.now.stem.items (string_bytes it.now.name)
+        (string_bytes version.now.vers) version.now.digest.items)) }
 {
     match Digest::try_from(version.digest.as_slice()) {
         Ok(digest) => check_stem(alloc, &version.stem, &it.name, &version.vers, &digest),
@@ -74,7 +79,8 @@ fn is_genuine(
     places: &BTreeMap<u32, usize>,
     version: &Version,
 ) -> Result<bool, AllocError>
-    requires { (id : ℕ) → get nat_cmp places.now id ≡ position_from (λ c. c.id == id) 0 rows.now.crates.items }
+    requires { (id : ℕ) → get nat_cmp places.now id ≡ position_from
+        (λ c. c.id == id) 0 rows.now.crates.items }
     ensures { IfOk result (λ b. IsTrue b ↔ IsGenuine rows.now version.now) }
 {
     if !same_text(release_key(&version.vers), &version.release) {

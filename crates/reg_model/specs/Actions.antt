@@ -1,5 +1,5 @@
--- What a request does, as far as the rules look at it (the Cargo Book, "Registry Web API" and "Registry Index"). Crates and
--- versions are texts as they stood in a path.
+-- What a request does, as far as the rules look at it (the Cargo Book, "Registry Web API" and
+-- "Registry Index"). Crates and versions are texts as they stood in a path.
 use Rattle.std.specs.Prelude.{List, [], Option, Some, None}
 use Rattle.reg_names.specs.Names.{name_at, name_of}
 use Rattle.reg_model.specs.Registry.{Text}
@@ -19,7 +19,8 @@ pub data Action : Type 0 where
   AddOwners : Text → List Text → Action
   RemoveOwners : Text → List Text → Action
 
--- The name of the crate that an action is about; none where the text in its place is no crate name. What is published has a name, where the event is fit.
+-- The name of the crate that an action is about; none where the text in its place is no crate name.
+-- What is published has a name, where the event is fit.
 abbrev pub crate_of : Action → Option Text
 crate_of Read = None
 crate_of (Index path) = name_at path

@@ -63,8 +63,10 @@ crates s = finset.len (finset.from_list {R = text_cmp} (map (λ p. canon p.name)
 abbrev pub reserved_always : List Text
 reserved_always =
     codes "con" ∷ codes "prn" ∷ codes "aux" ∷ codes "nul" ∷
-    codes "com1" ∷ codes "com2" ∷ codes "com3" ∷ codes "com4" ∷ codes "com5" ∷ codes "com6" ∷ codes "com7" ∷ codes "com8" ∷ codes "com9" ∷
-    codes "lpt1" ∷ codes "lpt2" ∷ codes "lpt3" ∷ codes "lpt4" ∷ codes "lpt5" ∷ codes "lpt6" ∷ codes "lpt7" ∷ codes "lpt8" ∷ codes "lpt9" ∷ []
+    codes "com1" ∷ codes "com2" ∷ codes "com3" ∷ codes "com4" ∷ codes "com5" ∷ codes "com6"
+    ∷ codes "com7" ∷ codes "com8" ∷ codes "com9" ∷
+    codes "lpt1" ∷ codes "lpt2" ∷ codes "lpt3" ∷ codes "lpt4" ∷ codes "lpt5" ∷ codes "lpt6"
+    ∷ codes "lpt7" ∷ codes "lpt8" ∷ codes "lpt9" ∷ []
 
 unfoldable pub is_reserved_always : Text → Bool
 is_reserved_always c = list_any (λ r. bytes_eq r c) reserved_always

@@ -3,6 +3,7 @@ use Rattle.std.specs.Prelude.{ℕ, ◌+◌, if◌then◌else◌, Bool, true, fal
 use Rattle.std.specs.Option.{option_map}
 use Rattle.std.specs.FinSet as finset
 use Rattle.reg_names.specs.Names.{canon, name_at}
+use Rattle.reg_model.specs.Changes.{with_account, with_publication, with_reserved, with_revoked, with_token, with_yanked, without_reserved}
 use Rattle.reg_model.specs.Registry.{Text, Account, Registry, owner_cmp, token_of, id_of_login, ids_of, change_at}
 use Rattle.reg_model.specs.Crates.{exists, version, file, owners, is_reserved_always}
 use Rattle.reg_model.specs.Events.{Asked, Command, Answer, OwnerEntry}
@@ -17,14 +18,19 @@ owners_of n ids = finset.from_list (map (λ id. (canon n, id)) ids)
 
 -- The state after what an account asked for, where it is allowed.
 unfoldable pub done : Registry → ℕ → Asked → Registry
-done s id (Publish p) = record s {
-  publications = s.publications ++ p ∷ [];
+done s id (Publish p) = record (with_publication p s) {
   owners = if exists s p.name then s.owners else finset.insert s.owners (canon p.name, id);
 }
-done s id (Yank n v) = record s { yanked = finset.insert s.yanked (canon n, v) }
-done s id (Unyank n v) = record s { yanked = finset.remove s.yanked (canon n, v) }
-done s id (AddOwners n logins) = record s { owners = finset.union s.owners (owners_of n (ids_of s logins)) }
-done s id (RemoveOwners n logins) = record s { owners = finset.difference s.owners (owners_of n (ids_of s logins)) }
+done s id (Yank n v) = with_yanked true (canon n, v) s
+done s id (Unyank n v) = with_yanked false (canon n, v) s
+done s id (AddOwners n logins) = record s {
+  owners = finset.union s.owners
+      (owners_of n (ids_of s logins));
+}
+done s id (RemoveOwners n logins) = record s {
+  owners = finset.difference s.owners
+      (owners_of n (ids_of s logins));
+}
 done s id _ = s
 
 abbrev pub owner_entry : ℕ × Account → OwnerEntry
@@ -53,22 +59,25 @@ enable b (Some id) accounts = change_at (λ a. record a { enabled = b }) id acco
 
 -- The state after a command that is not refused.
 unfoldable pub commanded : Registry → Command → Registry
-commanded s (UserAdd login name) = record s { accounts = s.accounts ++ record { login = login; name = name; enabled = true } ∷ [] }
-commanded s (UserDisable login) = record s { accounts = enable false (id_of_login s login) s.accounts }
-commanded s (UserEnable login) = record s { accounts = enable true (id_of_login s login) s.accounts }
-commanded s (TokenAdd login words patterns digest) = record s {
-  tokens = s.tokens ++ record {
-    digest = digest;
-    account = unwrap_or (id_of_login s login) 0;
-    live = true;
-    endpoints = endpoints_named words;
-    patterns = patterns_given patterns;
-  } ∷ [];
+commanded s (UserAdd login name) = with_account login name s
+commanded s (UserDisable login) = record s {
+  accounts = enable false
+      (id_of_login s login) s.accounts;
 }
-commanded s (TokenRevoke id) = record s { tokens = change_at (λ t. record t { live = false }) id s.tokens }
-commanded s (Reserve n) = if is_reserved_always (canon n) then s else record s { reserved = finset.insert s.reserved (canon n) }
-commanded s (Unreserve n) = record s { reserved = finset.remove s.reserved (canon n) }
-commanded s (OwnerAdd n login) = record s { owners = finset.union s.owners (owners_of n (ids_of s (login ∷ []))) }
+commanded s (UserEnable login) = record s {
+  accounts = enable true
+      (id_of_login s login) s.accounts;
+}
+commanded s (TokenAdd login words patterns digest) =
+    with_token digest (unwrap_or (id_of_login s login) 0) (endpoints_named words)
+    (patterns_given patterns) s
+commanded s (TokenRevoke id) = with_revoked id s
+commanded s (Reserve n) = if is_reserved_always (canon n) then s else with_reserved (canon n) s
+commanded s (Unreserve n) = without_reserved (canon n) s
+commanded s (OwnerAdd n login) = record s {
+  owners = finset.union s.owners
+      (owners_of n (ids_of s (login ∷ [])));
+}
 
 -- What it is answered: whoever adds a token is told its id.
 abbrev pub replied : Registry → Command → Answer

@@ -10,7 +10,8 @@ use Rattle.reg_model.specs.Crates.{first, versions, owners, is_reserved, crates,
 use Rattle.reg_model.specs.Actions.{Action, crate_of, version_of, logins_of}
 
 pub record Facts : Type 0 where
-  -- the token: whether it is known and live, its account enabled; its endpoints; whether a pattern of it covers the crate
+  -- the token: whether it is known and live, its account enabled; its endpoints; whether a pattern
+  -- of it covers the crate
   pub is_known : Bool
   pub is_live : Bool
   pub is_enabled : Bool
@@ -20,19 +21,26 @@ pub record Facts : Type 0 where
   pub first : Option Text
   pub is_owner : Bool
   pub is_reserved : Bool
-  -- whether this very version is there, and one of the same release; how many versions and crates there are
+  -- whether this very version is there, and one of the same release; how many versions and crates
+  -- there are
   pub has_version : Bool
   pub has_release : Bool
   pub versions : ℕ
   pub crates : ℕ
-  -- the logins that are named: whether enabled accounts have them, whether owners have them, whether they are all owners' logins
+  -- the logins that are named: whether enabled accounts have them, whether owners have them,
+  -- whether they are all owners' logins
   pub are_known : Bool
   pub are_owners : Bool
   pub are_all_owners : Bool
   pub limits : Limits
 
 abbrev pub no_endpoints : Endpoints
-no_endpoints = record { publish_new = false; publish_update = false; yank = false; change_owners = false }
+no_endpoints = record {
+  publish_new = false;
+  publish_update = false;
+  yank = false;
+  change_owners = false;
+}
 
 abbrev pub endpoints_of : Option Token → Endpoints
 endpoints_of None = no_endpoints
@@ -63,12 +71,14 @@ facts limits s digest a = record {
   is_live = holds (λ t. t.live) (token_of s digest);
   is_enabled = holds (λ t. is_enabled s t.account) (token_of s digest);
   endpoints = endpoints_of (token_of s digest);
-  is_covered = holds (λ t. holds (λ n. list_any (λ p. covers p n) t.patterns) (crate_of a)) (token_of s digest);
+  is_covered = holds (λ t. holds (λ n. list_any (λ p. covers p n) t.patterns) (crate_of a))
+      (token_of s digest);
   first = spelling s (crate_of a);
   is_owner = holds (λ t. is_owner (lists (owners s) (crate_of a)) t.account) (token_of s digest);
   is_reserved = holds (is_reserved s) (crate_of a);
   has_version = list_any (λ p. bytes_eq p.version (version_of a)) (lists (versions s) (crate_of a));
-  has_release = list_any (λ p. same_release p.version (version_of a)) (lists (versions s) (crate_of a));
+  has_release = list_any (λ p. same_release p.version (version_of a))
+      (lists (versions s) (crate_of a));
   versions = length (lists (versions s) (crate_of a));
   crates = crates s;
   are_known = list_all (is_known s) (logins_of a);

@@ -5,6 +5,7 @@ pub mod Facts
 pub mod Rules
 pub mod Events
 pub mod Refusals
+pub mod Changes
 pub mod Effects
 pub mod Steps
 pub mod Sound

@@ -23,14 +23,17 @@ abbrev pub or_else : Option Rule → Option Rule → Option Rule
 or_else None then = then
 or_else (Some r) then = Some r
 
--- The rule that refuses a request: first that there is a token, then the rules on the state, then what the body or the query breaks.
+-- The rule that refuses a request: first that there is a token, then the rules on the state, then
+-- what the body or the query breaks.
 unfoldable pub denied : Limits → Registry → Option Text → Asked → Option Rule
 denied limits s None asked = Some rule.A1
-denied limits s (Some digest) asked = or_else (verdict (facts limits s digest (action_of asked)) (action_of asked)) (fault_of asked)
+denied limits s (Some digest) asked = or_else
+    (verdict (facts limits s digest (action_of asked)) (action_of asked)) (fault_of asked)
 
 -- an account's name: 1 to 100 characters from space to `~`
 abbrev pub is_account_name : Text → Bool
-is_account_name t = (nat_lt 0 (length t) && nat_le (length t) 100) && list_all (λ b. nat_le 32 b && nat_le b 126) t
+is_account_name t = (nat_lt 0 (length t) && nat_le (length t) 100) && list_all
+    (λ b. nat_le 32 b && nat_le b 126) t
 
 abbrev pub may_name : Option Text → Bool
 may_name None = true
@@ -38,7 +41,8 @@ may_name (Some t) = is_account_name t
 
 -- the words for the endpoints
 abbrev endpoint_words : List Text
-endpoint_words = codes "publish-new" ∷ codes "publish-update" ∷ codes "yank" ∷ codes "change-owners" ∷ []
+endpoint_words = codes "publish-new" ∷ codes "publish-update" ∷ codes "yank" ∷ codes "change-owners"
+    ∷ []
 
 abbrev pub is_endpoint : Text → Bool
 is_endpoint w = is_named endpoint_words w
@@ -72,7 +76,11 @@ grounds limits s (TokenAdd login words patterns digest) =
     (refusal.G3, is_none (id_of_login s login))
     ∷ (refusal.G9, length words == 0 || not (list_all is_endpoint words))
     ∷ (refusal.G4, not (list_all is_pattern patterns))
-    ∷ (refusal.G7, nat_lt limits.patterns (length (patterns_given patterns)) || nat_le limits.tokens (length s.tokens))
+    ∷ (
+      refusal.G7,
+      nat_lt limits.patterns (length (patterns_given patterns)) || nat_le limits.tokens
+          (length s.tokens),
+    )
     ∷ (refusal.G5, is_some (token_of s digest)) ∷ []
 grounds limits s (TokenRevoke id) = (refusal.G6, is_none (with_id s.tokens id)) ∷ []
 grounds limits s (Reserve n) = (refusal.G4, not (is_name n)) ∷ []

@@ -24,7 +24,8 @@ pub record Token : Type 0 where
   pub endpoints : Endpoints
   pub patterns : List Text
 
--- a published version: the digest is that of the archive, the stem is its index line up to the yanked mark
+-- a published version: the digest is that of the archive, the stem is its index line up to the
+-- yanked mark
 pub record Publication : Type 0 where
   pub name : Text
   pub version : Text
@@ -50,8 +51,9 @@ Mark = Text × Text
 abbrev pub mark_cmp : Mark → Mark → Ordering
 mark_cmp = then_cmp (on (λ m. m.0) text_cmp) (on (λ m. m.1) text_cmp)
 
--- A registry: its base address; accounts and tokens, whose ids are their places from 1 on; the versions in the order in which
--- they were published; who owns what; what is yanked; and the canonical texts that the administrator reserved.
+-- A registry: its base address; accounts and tokens, whose ids are their places from 1 on; the
+-- versions in the order in which they were published; who owns what; what is yanked; and the
+-- canonical texts that the administrator reserved.
 pub record Registry : Type 0 where
   pub base : Text
   pub accounts : List Account
@@ -63,7 +65,15 @@ pub record Registry : Type 0 where
 
 -- nothing but a base
 abbrev pub empty_at : Text → Registry
-empty_at base = record { base = base; accounts = []; tokens = []; publications = []; owners = finset.empty; yanked = finset.empty; reserved = finset.empty }
+empty_at base = record {
+  base = base;
+  accounts = [];
+  tokens = [];
+  publications = [];
+  owners = finset.empty;
+  yanked = finset.empty;
+  reserved = finset.empty;
+}
 
 -- the one with this id
 abbrev pub with_id : {X : Type 0} → List X → ℕ → Option X

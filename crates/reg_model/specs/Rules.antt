@@ -1,4 +1,5 @@
--- The rules that look at the state: when each is broken, in which order they are asked, and the first that is broken.
+-- The rules that look at the state: when each is broken, in which order they are asked, and the
+-- first that is broken.
 use Rattle.std.specs.Prelude.{nat_le, if◌then◌else◌, Bool, false, not, is_none, is_some, List, [], ◌∷◌, Option, Some, None}
 use Rattle.std.specs.List.{find}
 use Rattle.std.specs.Str.{bytes_eq}
@@ -21,7 +22,8 @@ has_endpoint s endpoint.ChangeOwners = s.change_owners
 
 -- the endpoint that the action needs; reading needs none
 abbrev pub needed : Facts → Action → Option Endpoint
-needed f (Publish n v) = Some (if is_some f.first then endpoint.PublishUpdate else endpoint.PublishNew)
+needed f (Publish n v) =
+    Some (if is_some f.first then endpoint.PublishUpdate else endpoint.PublishNew)
 needed f (Yank n v) = Some endpoint.Yank
 needed f (Unyank n v) = Some endpoint.Yank
 needed f (AddOwners n logins) = Some endpoint.ChangeOwners
@@ -42,7 +44,8 @@ abbrev pub is_misspelled : Facts → Action → Bool
 is_misspelled f (Publish n v) = not (holds (λ m. bytes_eq m n) f.first)
 is_misspelled f a = false
 
--- Whether the action breaks the rule, where these are the facts. No state breaks the rules of heads, bodies and queries.
+-- Whether the action breaks the rule, where these are the facts. No state breaks the rules of
+-- heads, bodies and queries.
 abbrev pub broken : Facts → Action → Rule → Bool
 broken f a rule.A2 = not f.is_known
 broken f a rule.A3 = not f.is_live
@@ -62,8 +65,8 @@ broken f a rule.O3 = not f.are_owners
 broken f a rule.O4 = f.are_all_owners
 broken f a _ = false
 
--- The rules of each action, in their order. Behind A4 stands what the body or the query of a request breaks: such a request is
--- read no further, and its action is `Read`.
+-- The rules of each action, in their order. Behind A4 stands what the body or the query of a
+-- request breaks: such a request is read no further, and its action is `Read`.
 abbrev pub order : Facts → Action → List Rule
 order f Read = rule.A2 ∷ rule.A3 ∷ rule.A4 ∷ []
 order f (Index path) = rule.A2 ∷ rule.A3 ∷ rule.A4 ∷ rule.A8 ∷ []
@@ -71,12 +74,17 @@ order f (Download n v) = rule.A2 ∷ rule.A3 ∷ rule.A4 ∷ rule.A8 ∷ rule.A1
 order f (ListOwners n) = rule.A2 ∷ rule.A3 ∷ rule.A4 ∷ rule.A8 ∷ []
 order f (Publish n v) =
     if is_some f.first
-    then rule.A2 ∷ rule.A3 ∷ rule.A4 ∷ rule.A6 ∷ rule.A7 ∷ rule.N3 ∷ rule.A9 ∷ rule.V2 ∷ rule.L1 ∷ []
+    then rule.A2 ∷ rule.A3 ∷ rule.A4 ∷ rule.A6 ∷ rule.A7 ∷ rule.N3 ∷ rule.A9 ∷ rule.V2 ∷ rule.L1
+    ∷ []
     else rule.A2 ∷ rule.A3 ∷ rule.A4 ∷ rule.A6 ∷ rule.A7 ∷ rule.N2 ∷ rule.L2 ∷ []
-order f (Yank n v) = rule.A2 ∷ rule.A3 ∷ rule.A4 ∷ rule.A6 ∷ rule.A8 ∷ rule.A7 ∷ rule.A9 ∷ rule.A10 ∷ []
-order f (Unyank n v) = rule.A2 ∷ rule.A3 ∷ rule.A4 ∷ rule.A6 ∷ rule.A8 ∷ rule.A7 ∷ rule.A9 ∷ rule.A10 ∷ []
-order f (AddOwners n logins) = rule.A2 ∷ rule.A3 ∷ rule.A4 ∷ rule.A6 ∷ rule.A8 ∷ rule.A7 ∷ rule.A9 ∷ rule.O2 ∷ []
-order f (RemoveOwners n logins) = rule.A2 ∷ rule.A3 ∷ rule.A4 ∷ rule.A6 ∷ rule.A8 ∷ rule.A7 ∷ rule.A9 ∷ rule.O3 ∷ rule.O4 ∷ []
+order f (Yank n v) = rule.A2 ∷ rule.A3 ∷ rule.A4 ∷ rule.A6 ∷ rule.A8 ∷ rule.A7 ∷ rule.A9 ∷ rule.A10
+    ∷ []
+order f (Unyank n v) = rule.A2 ∷ rule.A3 ∷ rule.A4 ∷ rule.A6 ∷ rule.A8 ∷ rule.A7 ∷ rule.A9
+    ∷ rule.A10 ∷ []
+order f (AddOwners n logins) = rule.A2 ∷ rule.A3 ∷ rule.A4 ∷ rule.A6 ∷ rule.A8 ∷ rule.A7 ∷ rule.A9
+    ∷ rule.O2 ∷ []
+order f (RemoveOwners n logins) = rule.A2 ∷ rule.A3 ∷ rule.A4 ∷ rule.A6 ∷ rule.A8 ∷ rule.A7
+    ∷ rule.A9 ∷ rule.O3 ∷ rule.O4 ∷ []
 
 -- The first rule of the order that is broken.
 unfoldable pub verdict : Facts → Action → Option Rule

@@ -23,11 +23,13 @@ has_some e = (e.publish_new || e.publish_update) || (e.yank || e.change_owners)
 
 -- a token: a digest of 32 bytes, an account that is there, an endpoint, and one or more patterns
 abbrev pub is_token : List Account → Token → Bool
-is_token accounts t = (length t.digest == 32 && is_some (with_id accounts t.account)) && (has_some t.endpoints && (nat_lt 0 (length t.patterns) && list_all is_pattern t.patterns))
+is_token accounts t = (length t.digest == 32 && is_some (with_id accounts t.account))
+    && (has_some t.endpoints && (nat_lt 0 (length t.patterns) && list_all is_pattern t.patterns))
 
 -- one release: one crate and one key
 abbrev pub one_release : Publication → Publication → Bool
-one_release = eq_of_both (on (λ p. canon p.name) bytes_eq) (on (λ p. release_key_of p.version) bytes_eq)
+one_release = eq_of_both (on (λ p. canon p.name) bytes_eq)
+    (on (λ p. release_key_of p.version) bytes_eq)
 
 -- whether the version is there, of the crate with this canonical text
 abbrev pub has_version : Registry → Text → Text → Bool
@@ -42,11 +44,16 @@ pub record Sound (s : Registry) : Type 0 where
   pub digests : IsDistinct (on (λ t. t.digest) bytes_eq) s.tokens
   pub publications : AllByRecursion IsGenuine s.publications
   -- the publications of a crate have its spelling
-  pub spelled : list_all (λ p. holds (λ n. bytes_eq n p.name) (first s p.name)) s.publications ≡ true
+  pub spelled : list_all (λ p. holds (λ n. bytes_eq n p.name) (first s p.name)) s.publications
+      ≡ true
   pub releases : IsDistinct one_release s.publications
   -- each crate has an owner, and each owner is an account and owns a crate that is there
-  pub owned : (c : Text) → has_crate s c ≡ true → (id : ℕ) × (finset.contains s.owners (c, id) ≡ true)
-  pub owners : (c : Text) (id : ℕ) → finset.contains s.owners (c, id) ≡ true → (has_crate s c ≡ true) × (is_some (with_id s.accounts id) ≡ true)
+  pub owned : (c : Text) → has_crate s c ≡ true → (id : ℕ)
+      × (finset.contains s.owners (c, id) ≡ true)
+  pub owners : (c : Text) (id : ℕ) → finset.contains s.owners (c, id) ≡ true
+      → (has_crate s c ≡ true) × (is_some (with_id s.accounts id) ≡ true)
   pub yanked : (c v : Text) → finset.contains s.yanked (c, v) ≡ true → has_version s c v ≡ true
-  -- what the administrator reserved is the canonical text of some crate name, and not one that is reserved always
-  pub reserved : (c : Text) → finset.contains s.reserved c ≡ true → ((n : Text) × (is_name n ≡ true) × (canon n ≡ c)) × (is_reserved_always c ≡ false)
+  -- what the administrator reserved is the canonical text of some crate name, and not one that is
+  -- reserved always
+  pub reserved : (c : Text) → finset.contains s.reserved c ≡ true
+      → ((n : Text) × (is_name n ≡ true) × (canon n ≡ c)) × (is_reserved_always c ≡ false)

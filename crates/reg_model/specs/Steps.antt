@@ -32,7 +32,8 @@ unless_refused s None o = o
 
 -- The outcome of an event: it is refused and changes nothing, or it is done.
 abbrev pub outcome : Limits → Registry → Event → Outcome
-outcome limits s (Ask digest asked) = unless_denied s (denied limits s digest asked) (served s asked, done s (caller s digest) asked)
+outcome limits s (Ask digest asked) = unless_denied s (denied limits s digest asked)
+    (served s asked, done s (caller s digest) asked)
 outcome limits s (Order c) = unless_refused s (refused limits s c) (replied s c, commanded s c)
 
 -- what is answered where memory or the store is refused
@@ -40,12 +41,15 @@ abbrev pub no_room : Event → Answer
 no_room (Ask digest asked) = Denied rule.S1
 no_room (Order c) = Refused refusal.G10
 
--- From s, the event may be answered a and lead to t: this is its outcome, or room was refused and nothing changed.
+-- From s, the event may be answered a and lead to t: this is its outcome, or room was refused and
+-- nothing changed.
 abbrev pub Step : Limits → Registry → Event → Answer → Registry → Type 0
-Step limits s e a t = ((a ≡ (outcome limits s e).0) × (t ≡ (outcome limits s e).1)) ⊎ ((a ≡ no_room e) × (t ≡ s))
+Step limits s e a t = ((a ≡ (outcome limits s e).0) × (t ≡ (outcome limits s e).1))
+    ⊎ ((a ≡ no_room e) × (t ≡ s))
 
--- a publication whose parts belong together: the digest is that of the archive, and the stem is that of some manifest that keeps the
--- rules on metadata, of this name and version and with this digest
+-- a publication whose parts belong together: the digest is that of the archive, and the stem is
+-- that of some manifest that keeps the rules on metadata, of this name and version and with this
+-- digest
 pub record IsGenuine (p : Publication) : Type 0 where
   pub name : is_name p.name ≡ true
   pub version : is_version p.version ≡ true
@@ -66,7 +70,8 @@ is_own_rule rule.O1 = true
 is_own_rule rule.Q1 = true
 is_own_rule _ = false
 
--- what an event may bring: a faulty body or query breaks a rule of its own, a publication is genuine, and the digest of a token has 32 bytes
+-- what an event may bring: a faulty body or query breaks a rule of its own, a publication is
+-- genuine, and the digest of a token has 32 bytes
 abbrev pub IsFit : Event → Type 0
 IsFit (Ask digest (Faulty r)) = is_own_rule r ≡ true
 IsFit (Ask digest (Publish p)) = IsGenuine p
@@ -76,6 +81,7 @@ IsFit _ = Unit {0}
 -- Steps one after another, on events that are fit.
 abbrev pub Run : Limits → Registry → List Event → List Answer → Registry → Type 0
 Run limits s [] [] t = t ≡ s
-Run limits s (e ∷ es) (a ∷ as') t = IsFit e × ((m : Registry) × Step limits s e a m × Run limits m es as' t)
+Run limits s (e ∷ es) (a ∷ as') t = IsFit e × ((m : Registry) × Step limits s e a m
+    × Run limits m es as' t)
 Run limits s [] (a ∷ as') t = ⊥
 Run limits s (e ∷ es) [] t = ⊥

@@ -1,4 +1,5 @@
-//! The abstract registry: its states, its rules, its steps, and the laws of its runs. All of it is definitions; the
+//! The abstract registry: its states, its rules, its steps, and the laws of its runs. All of it is
+//! definitions; the
 //! types here are those that definitions and programs share.
 #![tactic(auto)]
 

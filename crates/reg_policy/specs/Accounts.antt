@@ -10,7 +10,11 @@ use Rattle.reg_policy.specs.declared.action.OwnerRow.{OwnerRow}
 use Rattle.reg_policy.specs.declared.accounts.Account.{Account}
 
 abbrev pub account_of : Account → model.Account
-account_of a = record { login = a.login; name = option_map string_bytes a.name; enabled = a.enabled }
+account_of a = record {
+  login = a.login;
+  name = option_map string_bytes a.name;
+  enabled = a.enabled;
+}
 
 -- an owner by its id and login, as a row has it and as a list of accounts has it
 abbrev pub row_view : OwnerRow → ℕ × Text
@@ -25,7 +29,8 @@ id_in accounts login = position_from (λ a. bytes_eq a.login login) 1 accounts
 
 -- whether an enabled account has this login
 abbrev pub is_known_in : List model.Account → Text → Bool
-is_known_in accounts login = holds (λ id. holds (λ a. a.enabled) (with_id accounts id)) (id_in accounts login)
+is_known_in accounts login = holds (λ id. holds (λ a. a.enabled) (with_id accounts id))
+    (id_in accounts login)
 
 -- the accounts that own a crate, each behind its id, by id
 abbrev pub owned : finset.FinSet owner_cmp → Text → List model.Account → List (ℕ × model.Account)

@@ -29,7 +29,15 @@ reading_of Config = to_config
 reading_of (Search text most) = to_search text.now most
 
 abbrev pub publication_of : NewVersion → model.Publication
-publication_of v = record { name = v.name.now; version = v.version.now; description = option_map (λ d. d.now) v.description; stem = v.stem.now; digest = v.digest.now; archive = v.archive.now }
+publication_of v = record {
+  name = v.name.now;
+  version = v.version.now;
+  description = option_map
+      (λ d. d.now) v.description;
+  stem = v.stem.now;
+  digest = v.digest.now;
+  archive = v.archive.now;
+}
 
 abbrev pub asked_of : Asked → events.Asked
 asked_of (Faulty r) = to_faulty r
@@ -47,7 +55,8 @@ abbrev pub command_of : AdminCommand → events.Command
 command_of (UserAdd login name) = to_user_add login.now (option_map (λ n. n.now) name)
 command_of (UserDisable login) = to_disable login.now
 command_of (UserEnable login) = to_enable login.now
-command_of (TokenAdd login words patterns digest) = to_token_add login.now (map (λ w. w.now) words.now) (map (λ p. p.now) patterns.now) digest.now
+command_of (TokenAdd login words patterns digest) =
+    to_token_add login.now (map (λ w. w.now) words.now) (map (λ p. p.now) patterns.now) digest.now
 command_of (TokenRevoke id) = to_revoke id
 command_of (Reserve n) = to_reserve n.now
 command_of (Unreserve n) = to_unreserve n.now

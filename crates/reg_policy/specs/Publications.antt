@@ -9,7 +9,15 @@ use Rattle.reg_model.specs.Crates.{collides}
 use Rattle.reg_policy.specs.declared.publications.Publication.{Publication}
 
 abbrev pub publication_of : Publication → model.Publication
-publication_of p = record { name = p.name; version = string_bytes p.version; description = option_map string_bytes p.description; stem = p.stem.items; digest = p.digest; archive = p.archive.items }
+publication_of p = record {
+  name = p.name;
+  version = string_bytes p.version;
+  description = option_map string_bytes p.description;
+  stem = p.stem.items;
+  digest =
+      p.digest;
+  archive = p.archive.items;
+}
 
 -- the publications of a crate, oldest first
 abbrev pub versions_in : List model.Publication → Text → List model.Publication

@@ -21,15 +21,17 @@ abbrev pub patterns_held : Option model.Token → List Text
 patterns_held None = []
 patterns_held (Some t) = t.patterns
 
--- The rows of a registry and its limits, about the token with this digest and the crate of an action. Lists are in the registry's
--- order; where the action names no crate they are empty.
-pub record IsRowsOf (limits : Limits) (s : model.Registry) (digest : Text) (a : actions.Action) (r : Rows) : Type 0 where
+-- The rows of a registry and its limits, about the token with this digest and the crate of an
+-- action. Lists are in the registry's order; where the action names no crate they are empty.
+pub record IsRowsOf (limits : Limits) (s : model.Registry) (digest : Text) (a : actions.Action)
+    (r : Rows) : Type 0 where
   pub token : r.token ≡ option_map row_of (token_of s digest)
   pub enabled : r.enabled ≡ holds (λ t. is_enabled s t.account) (token_of s digest)
   pub patterns : r.patterns.now ≡ patterns_held (token_of s digest)
   pub first : option_map (λ n. n.now) r.first ≡ spelling s (crate_of a)
   pub owners : map row_view r.owners.now ≡ map id_and_login (lists (owners s) (crate_of a))
-  pub versions : map (λ v. v.now) r.versions.now ≡ map (λ p. p.version) (lists (versions s) (crate_of a))
+  pub versions : map (λ v. v.now) r.versions.now ≡ map (λ p. p.version)
+      (lists (versions s) (crate_of a))
   pub reserved : r.reserved ≡ holds (is_reserved s) (crate_of a)
   pub crates : r.crates ≡ crates s
   -- for each login that is named, whether an enabled account has it

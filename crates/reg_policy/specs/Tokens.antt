@@ -3,4 +3,10 @@ use Rattle.reg_model.specs.Registry as model
 use Rattle.reg_policy.specs.declared.tokens.Token.{Token}
 
 abbrev pub token_of : Token → model.Token
-token_of t = record { digest = t.digest; account = t.account; live = t.live; endpoints = t.endpoints; patterns = t.patterns.items }
+token_of t = record {
+  digest = t.digest;
+  account = t.account;
+  live = t.live;
+  endpoints = t.endpoints;
+  patterns = t.patterns.items;
+}

@@ -1,4 +1,5 @@
--- What a refusal is called: its status (RFC 9110, section 15; 431: RFC 6585, section 5) and its words, of which the first is its code.
+-- What a refusal is called: its status (RFC 9110, section 15; 431: RFC 6585, section 5) and its
+-- words, of which the first is its code.
 use Rattle.std.specs.Prelude.{ℕ, List, codes}
 use Rattle.reg_model.specs.declared.rule.Rule.{Rule}
 use Rattle.reg_model.specs.declared.rule.Rule.TheVariants as rule

@@ -119,7 +119,8 @@ impl Accounts {
 
     /// For each login, whether an enabled account has it.
     pub(crate) fn known(&self, alloc: Global, logins: &[&str]) -> Result<Vec<bool>, AllocError>
-        ensures { IfOk result (λ v. v.items ≡ map (is_known_in self.now) (map (λ l. l.now) logins.now)) }
+        ensures { IfOk result (λ v. v.items ≡ map (is_known_in self.now)
+            (map (λ l. l.now) logins.now)) }
     {
         self.each_known(alloc, logins)
     }
@@ -135,7 +136,8 @@ impl Accounts {
 
     /// The ids of the accounts with these logins.
     pub(crate) fn ids_of(&self, alloc: Global, logins: &[&str]) -> Result<Vec<u32>, AllocError>
-        ensures { IfOk result (λ v. v.items ≡ filter_map (id_in self.now) (map (λ l. l.now) logins.now)) }
+        ensures { IfOk result (λ v. v.items ≡ filter_map (id_in self.now)
+            (map (λ l. l.now) logins.now)) }
     {
         self.ids_found(alloc, logins)
     }
@@ -147,7 +149,8 @@ impl Accounts {
         owners: &Owners,
         crate_text: &CanonText,
     ) -> Result<Vec<OwnerRow>, AllocError>
-        ensures { IfOk result (λ v. map row_view v.items ≡ map id_and_login (owned owners.now crate_text.now self.now)) }
+        ensures { IfOk result (λ v. map row_view v.items ≡ map id_and_login
+            (owned owners.now crate_text.now self.now)) }
     {
         let mut rows = Vec::new(alloc);
         let mut id = 0;
@@ -170,7 +173,8 @@ impl Accounts {
         owners: &Owners,
         crate_text: &CanonText,
     ) -> Result<Vec<OwnerEntry>, AllocError>
-        ensures { IfOk result (λ v. map entry_of v.items ≡ map owner_entry (owned owners.now crate_text.now self.now)) }
+        ensures { IfOk result (λ v. map entry_of v.items ≡ map owner_entry
+            (owned owners.now crate_text.now self.now)) }
     {
         let mut entries = Vec::new(alloc);
         let mut id = 0;

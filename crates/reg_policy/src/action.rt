@@ -4,7 +4,8 @@ use reg_body::Limits;
 use reg_model::{Endpoints, Rule};
 use reg_names::{CrateName, Pattern};
 
-/// What a request does, as far as the rules on the state look at it. Crates and versions are as they stood in a path.
+/// What a request does, as far as the rules on the state look at it. Crates and versions are as
+/// they stood in a path.
 #[derive(Drop)]
 pub enum Action<'a> {
     /// Reads the config, or searches.

@@ -27,7 +27,9 @@ use std::alloc::AllocError;
 impl PlainRegistry {
     /// Answers a request.
     pub(crate) fn ask(&mut self, digest: Option<&[u8; 32]>, asked: &Asked) -> Answer
-        ensures step { Step (limits_of self.old) (registry_of self.old) (to_ask (option_map (λ d. d.now) digest.entry) (asked_of asked.now)) (answer_of result) (registry_of self.new) }
+        ensures step { Step (limits_of self.old) (registry_of self.old)
+            (to_ask (option_map (λ d. d.now) digest.entry) (asked_of asked.now)) (answer_of result)
+            (registry_of self.new) }
         ensures limits { limits_of self.new ≡ limits_of self.old }
     {
         let Some(digest) = digest else {
@@ -45,9 +47,12 @@ impl PlainRegistry {
 
     /// Does what is asked for, where the rules on the state let it pass.
     fn serve(&mut self, digest: &[u8; 32], asked: &Asked) -> Result<Answer, AllocError>
-        requires allowed { verdict (facts (limits_of self.old) (registry_of self.old) digest.now (action_asked (asked_of asked.now))) (action_asked (asked_of asked.now)) ≡ None }
-        ensures answer { IfOk result (λ a. answer_of a ≡ served (registry_of self.old) (asked_of asked.now)) }
-        ensures state { OnOk result (registry_of self.new ≡ done (registry_of self.old) (account_of (registry_of self.old) digest.now) (asked_of asked.now)) }
+        requires allowed { verdict (facts (limits_of self.old) (registry_of self.old) digest.now
+            (action_asked (asked_of asked.now))) (action_asked (asked_of asked.now)) ≡ None }
+        ensures answer { IfOk result (λ a. answer_of a ≡ served (registry_of self.old)
+            (asked_of asked.now)) }
+        ensures state { OnOk result (registry_of self.new ≡ done (registry_of self.old)
+            (account_of (registry_of self.old) digest.now) (asked_of asked.now)) }
         ensures err { OnErr result (registry_of self.new ≡ registry_of self.old) }
         ensures limits { limits_of self.new ≡ limits_of self.old }
     {
@@ -67,7 +72,8 @@ impl PlainRegistry {
 
     fn index_file(&self, path: &str) -> Result<Answer, AllocError>
         requires named { is_some (name_at path.now) ≡ true }
-        ensures { IfOk result (λ a. answer_of a ≡ served (registry_of self.now) (to_index path.now)) }
+        ensures { IfOk result (λ a. answer_of a ≡ served (registry_of self.now)
+            (to_index path.now)) }
     {
         let Some(name) = name_of_path(path) else {
             return Ok(Answer::Denied(Rule::A8));
@@ -79,7 +85,8 @@ impl PlainRegistry {
     fn archive(&self, name: &str, version: &str) -> Result<Answer, AllocError>
         requires named { is_some (name_of name.now) ≡ true }
         requires there { is_some (version_in (registry_of self.now) name.now version.now) ≡ true }
-        ensures { IfOk result (λ a. answer_of a ≡ served (registry_of self.now) (to_download name.now version.now)) }
+        ensures { IfOk result (λ a. answer_of a ≡ served (registry_of self.now)
+            (to_download name.now version.now)) }
     {
         let Some(name) = parse_name(name) else {
             return Ok(Answer::Denied(Rule::A8));
@@ -92,7 +99,8 @@ impl PlainRegistry {
 
     fn owner_list(&self, name: &str) -> Result<Answer, AllocError>
         requires named { is_some (name_of name.now) ≡ true }
-        ensures { IfOk result (λ a. answer_of a ≡ served (registry_of self.now) (to_list name.now)) }
+        ensures { IfOk result (λ a. answer_of a ≡ served (registry_of self.now)
+            (to_list name.now)) }
     {
         let Some(name) = parse_name(name) else {
             return Ok(Answer::Denied(Rule::A8));
@@ -105,7 +113,8 @@ impl PlainRegistry {
 
     fn publish(&mut self, digest: &[u8; 32], new: &NewVersion) -> Result<Answer, AllocError>
         ensures answer { IfOk result (λ a. answer_of a ≡ to_granted) }
-        ensures state { OnOk result (registry_of self.new ≡ done (registry_of self.old) (account_of (registry_of self.old) digest.now) (to_publish (new_publication new.now))) }
+        ensures state { OnOk result (registry_of self.new ≡ done (registry_of self.old)
+            (account_of (registry_of self.old) digest.now) (to_publish (new_publication new.now))) }
         ensures err { OnErr result (registry_of self.new ≡ registry_of self.old) }
         ensures limits { limits_of self.new ≡ limits_of self.old }
     {
@@ -123,7 +132,8 @@ impl PlainRegistry {
     fn yank(&mut self, name: &str, version: &str) -> Result<Answer, AllocError>
         requires named { is_some (name_of name.now) ≡ true }
         ensures answer { IfOk result (λ a. answer_of a ≡ to_granted) }
-        ensures state { (id : ℕ) → OnOk result (registry_of self.new ≡ done (registry_of self.old) id (to_yank name.now version.now)) }
+        ensures state { (id : ℕ) → OnOk result
+            (registry_of self.new ≡ done (registry_of self.old) id (to_yank name.now version.now)) }
         ensures err { OnErr result (registry_of self.new ≡ registry_of self.old) }
         ensures limits { limits_of self.new ≡ limits_of self.old }
     {
@@ -137,7 +147,8 @@ impl PlainRegistry {
     fn unyank(&mut self, name: &str, version: &str) -> Answer
         requires named { is_some (name_of name.now) ≡ true }
         ensures answer { answer_of result ≡ to_granted }
-        ensures state { (id : ℕ) → registry_of self.new ≡ done (registry_of self.old) id (to_unyank name.now version.now) }
+        ensures state { (id : ℕ) → registry_of self.new ≡ done (registry_of self.old) id
+            (to_unyank name.now version.now) }
         ensures limits { limits_of self.new ≡ limits_of self.old }
     {
         let Some(name) = parse_name(name) else {
@@ -150,7 +161,9 @@ impl PlainRegistry {
     fn add_owners(&mut self, name: &str, logins: &[&str]) -> Result<Answer, AllocError>
         requires named { is_some (name_of name.now) ≡ true }
         ensures answer { IfOk result (λ a. answer_of a ≡ to_granted) }
-        ensures state { (id : ℕ) → OnOk result (registry_of self.new ≡ done (registry_of self.old) id (to_add name.now (map (λ l. l.now) logins.now))) }
+        ensures state { (id : ℕ) → OnOk result
+            (registry_of self.new ≡ done (registry_of self.old) id
+            (to_add name.now (map (λ l. l.now) logins.now))) }
         ensures err { OnErr result (registry_of self.new ≡ registry_of self.old) }
         ensures limits { limits_of self.new ≡ limits_of self.old }
     {
@@ -165,7 +178,9 @@ impl PlainRegistry {
     fn remove_owners(&mut self, name: &str, logins: &[&str]) -> Result<Answer, AllocError>
         requires named { is_some (name_of name.now) ≡ true }
         ensures answer { IfOk result (λ a. answer_of a ≡ to_granted) }
-        ensures state { (id : ℕ) → OnOk result (registry_of self.new ≡ done (registry_of self.old) id (to_remove name.now (map (λ l. l.now) logins.now))) }
+        ensures state { (id : ℕ) → OnOk result
+            (registry_of self.new ≡ done (registry_of self.old) id
+            (to_remove name.now (map (λ l. l.now) logins.now))) }
         ensures err { OnErr result (registry_of self.new ≡ registry_of self.old) }
         ensures limits { limits_of self.new ≡ limits_of self.old }
     {

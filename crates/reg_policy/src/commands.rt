@@ -21,7 +21,8 @@ use reg_names::{canon, parse_login, parse_name};
 
 /// Whether the words name endpoints, one or more.
 fn name_endpoints(words: &[&str]) -> bool
-    ensures { not result ≡ (length (map (λ w. w.now) words.now) == 0 || not (list_all is_endpoint (map (λ w. w.now) words.now))) }
+    ensures { not result ≡ (length (map (λ w. w.now) words.now) == 0 || not
+        (list_all is_endpoint (map (λ w. w.now) words.now))) }
 {
     !words.is_empty() && are_endpoints(words)
 }
@@ -29,7 +30,8 @@ fn name_endpoints(words: &[&str]) -> bool
 impl PlainRegistry {
     /// Does what the administrator orders, unless it is refused.
     pub(crate) fn order(&mut self, command: &AdminCommand) -> Answer
-        ensures step { Step (limits_of self.old) (registry_of self.old) (to_order (command_of command.now)) (answer_of result) (registry_of self.new) }
+        ensures step { Step (limits_of self.old) (registry_of self.old)
+            (to_order (command_of command.now)) (answer_of result) (registry_of self.new) }
         ensures limits { limits_of self.new ≡ limits_of self.old }
     {
         match self.command(command) {
@@ -39,7 +41,8 @@ impl PlainRegistry {
     }
 
     fn command(&mut self, command: &AdminCommand) -> Result<AdminReply, AdminRefusal>
-        ensures step { Step (limits_of self.old) (registry_of self.old) (to_order (command_of command.now)) (reply_of result) (registry_of self.new) }
+        ensures step { Step (limits_of self.old) (registry_of self.old)
+            (to_order (command_of command.now)) (reply_of result) (registry_of self.new) }
         ensures limits { limits_of self.new ≡ limits_of self.old }
     {
         match command {
@@ -57,7 +60,9 @@ impl PlainRegistry {
     }
 
     fn user_add(&mut self, login: &str, name: Option<&str>) -> Result<AdminReply, AdminRefusal>
-        ensures step { Step (limits_of self.old) (registry_of self.old) (to_order (to_user_add login.now (option_map (λ n. n.now) name.entry))) (reply_of result) (registry_of self.new) }
+        ensures step { Step (limits_of self.old) (registry_of self.old)
+            (to_order (to_user_add login.now (option_map (λ n. n.now) name.entry)))
+            (reply_of result) (registry_of self.new) }
         ensures limits { limits_of self.new ≡ limits_of self.old }
     {
         let Some(login) = parse_login(login) else {
@@ -91,7 +96,8 @@ impl PlainRegistry {
     }
 
     fn user_disable(&mut self, login: &str) -> Result<AdminReply, AdminRefusal>
-        ensures step { Step (limits_of self.old) (registry_of self.old) (to_order (to_disable login.now)) (reply_of result) (registry_of self.new) }
+        ensures step { Step (limits_of self.old) (registry_of self.old)
+            (to_order (to_disable login.now)) (reply_of result) (registry_of self.new) }
         ensures limits { limits_of self.new ≡ limits_of self.old }
     {
         let Some(id) = self.accounts.id_of(login) else {
@@ -102,7 +108,8 @@ impl PlainRegistry {
     }
 
     fn user_enable(&mut self, login: &str) -> Result<AdminReply, AdminRefusal>
-        ensures step { Step (limits_of self.old) (registry_of self.old) (to_order (to_enable login.now)) (reply_of result) (registry_of self.new) }
+        ensures step { Step (limits_of self.old) (registry_of self.old)
+            (to_order (to_enable login.now)) (reply_of result) (registry_of self.new) }
         ensures limits { limits_of self.new ≡ limits_of self.old }
     {
         let Some(id) = self.accounts.id_of(login) else {
@@ -114,7 +121,8 @@ impl PlainRegistry {
 
     /// Whether a token with so many patterns is one too many, or has too many.
     fn is_full_for(&self, patterns: usize) -> bool
-        ensures { result ≡ (nat_lt (limits_of self.now).patterns patterns || nat_le (limits_of self.now).tokens (length (registry_of self.now).tokens)) }
+        ensures { result ≡ (nat_lt (limits_of self.now).patterns patterns || nat_le
+            (limits_of self.now).tokens (length (registry_of self.now).tokens)) }
     {
         (self.limits.patterns as usize) < patterns || self.limits.tokens <= self.tokens.len() as u64
     }
@@ -126,7 +134,9 @@ impl PlainRegistry {
         patterns: &[&str],
         digest: &[u8; 32],
     ) -> Result<AdminReply, AdminRefusal>
-        ensures step { Step (limits_of self.old) (registry_of self.old) (to_order (to_token_add login.now (map (λ w. w.now) words.now) (map (λ p. p.now) patterns.now) digest.now)) (reply_of result) (registry_of self.new) }
+        ensures step { Step (limits_of self.old) (registry_of self.old)
+            (to_order (to_token_add login.now (map (λ w. w.now) words.now)
+            (map (λ p. p.now) patterns.now) digest.now)) (reply_of result) (registry_of self.new) }
         ensures limits { limits_of self.new ≡ limits_of self.old }
     {
         let Some(account) = self.accounts.id_of(login) else {
@@ -161,7 +171,8 @@ impl PlainRegistry {
     }
 
     fn token_revoke(&mut self, id: u32) -> Result<AdminReply, AdminRefusal>
-        ensures step { Step (limits_of self.old) (registry_of self.old) (to_order (to_revoke id)) (reply_of result) (registry_of self.new) }
+        ensures step { Step (limits_of self.old) (registry_of self.old) (to_order (to_revoke id))
+            (reply_of result) (registry_of self.new) }
         ensures limits { limits_of self.new ≡ limits_of self.old }
     {
         if !self.tokens.has(id) {
@@ -172,7 +183,8 @@ impl PlainRegistry {
     }
 
     fn reserve(&mut self, name: &str) -> Result<AdminReply, AdminRefusal>
-        ensures step { Step (limits_of self.old) (registry_of self.old) (to_order (to_reserve name.now)) (reply_of result) (registry_of self.new) }
+        ensures step { Step (limits_of self.old) (registry_of self.old)
+            (to_order (to_reserve name.now)) (reply_of result) (registry_of self.new) }
         ensures limits { limits_of self.new ≡ limits_of self.old }
     {
         let Some(name) = parse_name(name) else {
@@ -188,7 +200,8 @@ impl PlainRegistry {
     }
 
     fn unreserve(&mut self, name: &str) -> Result<AdminReply, AdminRefusal>
-        ensures step { Step (limits_of self.old) (registry_of self.old) (to_order (to_unreserve name.now)) (reply_of result) (registry_of self.new) }
+        ensures step { Step (limits_of self.old) (registry_of self.old)
+            (to_order (to_unreserve name.now)) (reply_of result) (registry_of self.new) }
         ensures limits { limits_of self.new ≡ limits_of self.old }
     {
         let Some(name) = parse_name(name) else {
@@ -199,7 +212,8 @@ impl PlainRegistry {
     }
 
     fn owner_add(&mut self, name: &str, login: &str) -> Result<AdminReply, AdminRefusal>
-        ensures step { Step (limits_of self.old) (registry_of self.old) (to_order (to_owner_add name.now login.now)) (reply_of result) (registry_of self.new) }
+        ensures step { Step (limits_of self.old) (registry_of self.old)
+            (to_order (to_owner_add name.now login.now)) (reply_of result) (registry_of self.new) }
         ensures limits { limits_of self.new ≡ limits_of self.old }
     {
         let Some(name) = parse_name(name) else {

@@ -82,7 +82,8 @@ const REMOVING: [Rule; 9] = [
 
 /// The rules that an action is asked, in their order.
 fn order(rows: &Rows, action: &Action) -> &'static [Rule]
-    ensures { result.now ≡ order_of (facts_of rows.now (action_of action.now)) (action_of action.now) }
+    ensures { result.now ≡ order_of (facts_of rows.now (action_of action.now))
+        (action_of action.now) }
 {
     match action {
         Action::Read => &READING,
@@ -173,7 +174,8 @@ fn has_endpoint(endpoints: &Endpoints, endpoint: Endpoint) -> bool
 
 /// Whether the token has not the endpoint that the action needs. An unknown token has none.
 fn lacks_endpoint(rows: &Rows, action: &Action) -> bool
-    ensures { result ≡ lacks (endpoints_of rows.now.token) (needed (facts_of rows.now (action_of action.now)) (action_of action.now)) }
+    ensures { result ≡ lacks (endpoints_of rows.now.token)
+        (needed (facts_of rows.now (action_of action.now)) (action_of action.now)) }
 {
     match needed(rows, action) {
         Some(endpoint) => match &rows.token {
@@ -195,7 +197,8 @@ fn is_covered(patterns: &[Pattern], name: &CrateName) -> bool
     patterns.iter().any(|pattern| covers(pattern, name))
 }
 
-/// The name of the crate that an action is about; none where the text in its place is no crate name.
+/// The name of the crate that an action is about; none where the text in its place is no crate
+/// name.
 pub(crate) fn crate_of(action: &Action) -> Option<CrateName>
     ensures { result ≡ crate_of (action_of action.now) }
 {
@@ -214,7 +217,8 @@ pub(crate) fn crate_of(action: &Action) -> Option<CrateName>
 
 /// Whether a pattern covers the crate that the action names.
 fn is_crate_covered(patterns: &[Pattern], action: &Action) -> bool
-    ensures { result ≡ holds (λ n. list_any (λ p. covers p n) patterns.now) (crate_of (action_of action.now)) }
+    ensures { result ≡ holds (λ n. list_any (λ p. covers p n) patterns.now)
+        (crate_of (action_of action.now)) }
 {
     match crate_of(action) {
         Some(name) => is_covered(patterns, &name),
@@ -242,7 +246,8 @@ fn is_absent(rows: &Rows, action: &Action) -> bool
 }
 
 fn is_misspelled(rows: &Rows, action: &Action) -> bool
-    ensures { result ≡ is_misspelled (facts_of rows.now (action_of action.now)) (action_of action.now) }
+    ensures { result ≡ is_misspelled (facts_of rows.now (action_of action.now))
+        (action_of action.now) }
 {
     match action {
         Action::Publish(name, _) => match rows.first {
@@ -313,13 +318,15 @@ fn is_named(logins: &[&str], login: &str) -> bool
 }
 
 fn are_owners(rows: &Rows, logins: &[&str]) -> bool
-    ensures { result ≡ list_all (λ l. list_any (λ o. bytes_eq o.login.now l.now) rows.now.owners.now) logins.now }
+    ensures { result ≡ list_all (λ l. list_any
+        (λ o. bytes_eq o.login.now l.now) rows.now.owners.now) logins.now }
 {
     logins.iter().all(|login| owns_login(rows, login))
 }
 
 fn are_all_owners(rows: &Rows, logins: &[&str]) -> bool
-    ensures { result ≡ list_all (λ o. list_any (λ l. bytes_eq o.login.now l.now) logins.now) rows.now.owners.now }
+    ensures { result ≡ list_all (λ o. list_any
+        (λ l. bytes_eq o.login.now l.now) logins.now) rows.now.owners.now }
 {
     rows.owners
         .iter()
@@ -329,7 +336,8 @@ fn are_all_owners(rows: &Rows, logins: &[&str]) -> bool
 /// Whether the action breaks the rule.
 #[tactic(auto, using(crate::proofs::Lists::list_any_map))]
 fn broken(rows: &Rows, action: &Action, rule: Rule) -> bool
-    ensures { result ≡ broken_of (facts_of rows.now (action_of action.now)) (action_of action.now) rule }
+    ensures { result ≡ broken_of (facts_of rows.now (action_of action.now))
+        (action_of action.now) rule }
 {
     match rule {
         Rule::A2 => rows.token.is_none(),
@@ -363,7 +371,8 @@ fn broken(rows: &Rows, action: &Action, rule: Rule) -> bool
 /// The first rule of the action's order that it breaks.
 #[tactic(auto, unfolding(reg_model::specs::Rules::verdict))]
 fn first_broken(rows: &Rows, action: &Action) -> Decision
-    ensures { result ≡ decision_of (verdict (facts_of rows.now (action_of action.now)) (action_of action.now)) }
+    ensures { result ≡ decision_of (verdict (facts_of rows.now (action_of action.now))
+        (action_of action.now)) }
 {
     for rule in order(rows, action) {
         if broken(rows, action, *rule) {
@@ -373,11 +382,14 @@ fn first_broken(rows: &Rows, action: &Action) -> Decision
     Decision::Allowed
 }
 
-/// The first rule on the state that the action breaks, in the order of its line. Whether there is a token, and what its body or
-/// query breaks, is judged before.
+/// The first rule on the state that the action breaks, in the order of its line. Whether there is a
+/// token, and what its body or query breaks, is judged before.
 pub fn decide(rows: &Rows, action: &Action) -> Decision
-    ensures facts { result ≡ decision_of (verdict (facts_of rows.now (action_of action.now)) (action_of action.now)) }
-    ensures policy { (limits : Limits) (s : Registry) (digest : Text) → IsRowsOf limits s digest (action_of action.now) rows.now → result ≡ decision_of (verdict (facts limits s digest (action_of action.now)) (action_of action.now)) }
+    ensures facts { result ≡ decision_of (verdict (facts_of rows.now (action_of action.now))
+        (action_of action.now)) }
+    ensures policy { (limits : Limits) (s : Registry) (digest : Text) → IsRowsOf limits s digest
+        (action_of action.now) rows.now → result ≡ decision_of
+        (verdict (facts limits s digest (action_of action.now)) (action_of action.now)) }
 {
     first_broken(rows, action)
 }

@@ -18,7 +18,8 @@ pub enum Reading<'a> {
     Search(&'a str, u32),
 }
 
-/// A version that is published: its digest is the SHA-256 of the archive, its stem the index line up to the yanked mark.
+/// A version that is published: its digest is the SHA-256 of the archive, its stem the index line
+/// up to the yanked mark.
 #[derive(Drop)]
 pub struct NewVersion<'a> {
     pub name: &'a CrateName,

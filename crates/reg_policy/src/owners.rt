@@ -43,13 +43,15 @@ impl Model for Owners {
 
 /// Whether this is the owner with these parts.
 fn is_owner(owner: &Owner, crate_text: &CanonText, account: u32) -> bool
-    ensures { result ≡ (bytes_eq owner.now.crate_text crate_text.now && (owner.now.account == account)) }
+    ensures { result ≡ (bytes_eq owner.now.crate_text crate_text.now
+        && (owner.now.account == account)) }
 {
     same_text(owner.crate_text.as_str(), crate_text.as_str()) && owner.account == account
 }
 
 fn has_owner(owners: &[Owner], crate_text: &CanonText, account: u32) -> bool
-    ensures { result ≡ list_any (λ o. bytes_eq o.crate_text crate_text.now && (o.account == account)) owners.now }
+    ensures { result ≡ list_any (λ o. bytes_eq o.crate_text crate_text.now
+        && (o.account == account)) owners.now }
 {
     owners
         .iter()
@@ -58,7 +60,8 @@ fn has_owner(owners: &[Owner], crate_text: &CanonText, account: u32) -> bool
 
 /// Whether this is an owner of the crate that is among the accounts.
 fn is_among(owner: &Owner, crate_text: &CanonText, accounts: &[u32]) -> bool
-    ensures { result ≡ (bytes_eq owner.now.crate_text crate_text.now && list_any (λ id. id == owner.now.account) accounts.now) }
+    ensures { result ≡ (bytes_eq owner.now.crate_text crate_text.now && list_any
+        (λ id. id == owner.now.account) accounts.now) }
 {
     same_text(owner.crate_text.as_str(), crate_text.as_str()) && accounts.contains(&owner.account)
 }

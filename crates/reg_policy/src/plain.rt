@@ -69,10 +69,11 @@ impl PlainRegistry {
         }
     }
 
-    /// Answers a request or a command, and does what it asks for unless it is refused. A request for the config or a search is
-    /// given its decision alone.
+    /// Answers a request or a command, and does what it asks for unless it is refused. A request
+    /// for the config or a search is given its decision alone.
     pub fn step(&mut self, event: &Event) -> Answer
-        ensures step { Step (limits_of self.old) (registry_of self.old) (event_of event.now) (answer_of result) (registry_of self.new) }
+        ensures step { Step (limits_of self.old) (registry_of self.old) (event_of event.now)
+            (answer_of result) (registry_of self.new) }
         ensures limits { limits_of self.new ≡ limits_of self.old }
     {
         match event {

@@ -74,7 +74,8 @@ fn find_crate<'a>(list: &'a [Publication], name: &CrateName) -> Option<&'a Publi
 }
 
 fn is_version(publication: &Publication, name: &CrateName, version: &str) -> bool
-    ensures { result ≡ (collides_of publication.now.name name.now && bytes_eq (string_bytes publication.now.version) version.now) }
+    ensures { result ≡ (collides_of publication.now.name name.now && bytes_eq
+        (string_bytes publication.now.version) version.now) }
 {
     is_of(publication, name) && same_text(publication.version.as_str(), version)
 }
@@ -84,7 +85,9 @@ fn find_version<'a>(
     name: &CrateName,
     version: &str,
 ) -> Option<&'a Publication>
-    ensures { option_map (λ p. p.now) result ≡ find (λ p. collides_of p.name name.now && bytes_eq (string_bytes p.version) version.now) list.now }
+    ensures { option_map (λ p. p.now) result ≡ find
+        (λ p. collides_of p.name name.now && bytes_eq
+        (string_bytes p.version) version.now) list.now }
 {
     list.iter()
         .find(|publication| is_version(publication, name, version))
@@ -95,7 +98,8 @@ fn version_texts<'a>(
     list: &'a [Publication],
     name: &CrateName,
 ) -> Result<Vec<&'a str>, AllocError>
-    ensures { IfOk result (λ v. map (λ t. t.now) v.items ≡ map (λ p. string_bytes p.version) (filter (λ p. collides_of p.name name.now) list.now)) }
+    ensures { IfOk result (λ v. map (λ t. t.now) v.items ≡ map (λ p. string_bytes p.version)
+        (filter (λ p. collides_of p.name name.now) list.now)) }
 {
     let mut texts = Vec::new(alloc);
     for publication in list {
@@ -112,7 +116,8 @@ fn entry(
     crate_text: &CanonText,
     yanked: &Marks,
 ) -> Result<Entry, AllocError>
-    ensures { IfOk result (λ e. entry_view e ≡ marked_in yanked.now crate_text.now (publication_of publication.now)) }
+    ensures { IfOk result (λ e. entry_view e ≡ marked_in yanked.now crate_text.now
+        (publication_of publication.now)) }
 {
     let stem = publication.stem.as_slice().to_vec(alloc)?;
     let yanked = yanked.contains(crate_text, publication.version.as_str());
@@ -125,7 +130,9 @@ fn entry_list(
     name: &CrateName,
     yanked: &Marks,
 ) -> Result<Vec<Entry>, AllocError>
-    ensures { IfOk result (λ v. map entry_view v.items ≡ map (λ p. marked_in yanked.now (canon_of name.now) (publication_of p)) (filter (λ p. collides_of p.name name.now) list.now)) }
+    ensures { IfOk result (λ v. map entry_view v.items ≡ map
+        (λ p. marked_in yanked.now (canon_of name.now) (publication_of p))
+        (filter (λ p. collides_of p.name name.now) list.now)) }
 {
     let crate_text = canon(name);
     let mut entries = Vec::new(alloc);
@@ -156,7 +163,8 @@ impl Publications {
 
     /// The spelling of a crate: that of its first publication.
     pub(crate) fn first(&self, name: &CrateName) -> Option<&CrateName>
-        ensures { option_map (λ n. n.now) result ≡ option_map (λ p. p.name) (find (λ p. collides_of p.name name.now) self.now) }
+        ensures { option_map (λ n. n.now) result ≡ option_map (λ p. p.name)
+            (find (λ p. collides_of p.name name.now) self.now) }
     {
         match find_crate(self.list.as_slice(), name) {
             Some(publication) => Some(&publication.name),
@@ -166,14 +174,16 @@ impl Publications {
 
     /// The versions of a crate, oldest first.
     pub(crate) fn versions(&self, alloc: Global, name: &CrateName) -> Result<Vec<&str>, AllocError>
-        ensures { IfOk result (λ v. map (λ t. t.now) v.items ≡ map (λ p. p.version) (versions_in self.now name.now)) }
+        ensures { IfOk result (λ v. map (λ t. t.now) v.items ≡ map (λ p. p.version)
+            (versions_in self.now name.now)) }
     {
         version_texts(alloc, self.list.as_slice(), name)
     }
 
     /// The archive of this very version of a crate.
     pub(crate) fn archive(&self, name: &CrateName, version: &str) -> Option<&[u8]>
-        ensures { option_map (λ a. a.now) result ≡ option_map (λ p. p.archive) (find (λ p. bytes_eq p.version version.now) (versions_in self.now name.now)) }
+        ensures { option_map (λ a. a.now) result ≡ option_map (λ p. p.archive)
+            (find (λ p. bytes_eq p.version version.now) (versions_in self.now name.now)) }
     {
         match find_version(self.list.as_slice(), name, version) {
             Some(publication) => Some(publication.archive.as_slice()),
@@ -188,14 +198,16 @@ impl Publications {
         name: &CrateName,
         yanked: &Marks,
     ) -> Result<Vec<Entry>, AllocError>
-        ensures { IfOk result (λ v. map entry_view v.items ≡ map (marked_in yanked.now (canon_of name.now)) (versions_in self.now name.now)) }
+        ensures { IfOk result (λ v. map entry_view v.items ≡ map
+            (marked_in yanked.now (canon_of name.now)) (versions_in self.now name.now)) }
     {
         entry_list(alloc, self.list.as_slice(), name, yanked)
     }
 
     /// How many crates there are.
     pub(crate) fn crates(&self) -> u64
-        ensures { result ≡ set.len (set.from_list {R = text_cmp} (map (λ p. canon_of p.name) self.now)) }
+        ensures { result ≡ set.len (set.from_list {R = text_cmp}
+            (map (λ p. canon_of p.name) self.now)) }
     {
         count_crates(self.list.as_slice())
     }
@@ -217,7 +229,8 @@ impl Publications {
         account: u32,
     ) -> Result<(), AllocError>
         ensures ok { OnOk result (self.new ≡ self.old ++ publication_of publication ∷ []) }
-        ensures owner { OnOk result (owners.new ≡ set.insert owners.old (canon_of publication.name, account)) }
+        ensures owner { OnOk result (owners.new ≡ set.insert owners.old
+            (canon_of publication.name, account)) }
         ensures err { OnErr result (self.new ≡ self.old) }
         ensures no_owner { OnErr result (owners.new ≡ owners.old) }
     {
@@ -230,7 +243,8 @@ impl Publications {
 
 /// How many crates these are publications of.
 fn count_crates(list: &[Publication]) -> u64
-    ensures value { result ≡ set.len (set.from_list {R = text_cmp} (map (λ p. canon_of p.name) list.now)) }
+    ensures value { result ≡ set.len (set.from_list {R = text_cmp}
+        (map (λ p. canon_of p.name) list.now)) }
     ensures bound { result ≤ length list.now }
 {
     match list.split_first() {

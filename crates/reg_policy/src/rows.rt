@@ -45,7 +45,8 @@ fn patterns_of<'a>(token: Option<&'a Token>) -> &'a [Pattern]
 
 impl PlainRegistry {
     fn is_caller_enabled(&self, token: Option<&Token>) -> bool
-        ensures { result ≡ holds (λ t. is_enabled_in (registry_of self.now) t.account) (option_map (λ t. token_of t.now) token.entry) }
+        ensures { result ≡ holds (λ t. is_enabled_in (registry_of self.now) t.account)
+            (option_map (λ t. token_of t.now) token.entry) }
     {
         match token {
             Some(token) => self.accounts.is_enabled(token.account),
@@ -63,7 +64,8 @@ impl PlainRegistry {
     }
 
     fn owner_rows_of(&self, name: &Option<CrateName>) -> Result<Vec<OwnerRow>, AllocError>
-        ensures { IfOk result (λ v. map row_view v.items ≡ map id_and_login (lists (owners_in (registry_of self.now)) name.now)) }
+        ensures { IfOk result (λ v. map row_view v.items ≡ map id_and_login
+            (lists (owners_in (registry_of self.now)) name.now)) }
     {
         match name {
             Some(name) => self
@@ -74,7 +76,8 @@ impl PlainRegistry {
     }
 
     fn versions_of(&self, name: &Option<CrateName>) -> Result<Vec<&str>, AllocError>
-        ensures { IfOk result (λ v. map (λ t. t.now) v.items ≡ map (λ p. p.version) (lists (versions_in (registry_of self.now)) name.now)) }
+        ensures { IfOk result (λ v. map (λ t. t.now) v.items ≡ map (λ p. p.version)
+            (lists (versions_in (registry_of self.now)) name.now)) }
     {
         match name {
             Some(name) => self.publications.versions(self.alloc, name),
@@ -97,7 +100,9 @@ impl PlainRegistry {
         digest: &[u8; 32],
         action: &Action,
     ) -> Result<Decision, AllocError>
-        ensures { IfOk result (λ d. d ≡ decision_of (verdict (facts self.now.limits (registry_of self.now) digest.now (action_of action.now)) (action_of action.now))) }
+        ensures { IfOk result (λ d. d ≡ decision_of
+            (verdict (facts self.now.limits (registry_of self.now) digest.now
+            (action_of action.now)) (action_of action.now))) }
     {
         let token = self.tokens.find(digest);
         let name = crate_of(action);

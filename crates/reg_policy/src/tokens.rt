@@ -72,7 +72,8 @@ impl Tokens {
 
     /// The token with this digest.
     pub(crate) fn find(&self, digest: &[u8; 32]) -> Option<&Token>
-        ensures { option_map (λ t. token_of t.now) result ≡ find (λ t. bytes_eq t.digest digest.now) self.now }
+        ensures { option_map (λ t. token_of t.now) result ≡ find
+            (λ t. bytes_eq t.digest digest.now) self.now }
     {
         find_in(&self.list, digest)
     }

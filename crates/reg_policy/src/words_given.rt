@@ -86,7 +86,9 @@ pub(crate) fn endpoints_named(words: &[&str]) -> Endpoints
 }
 
 fn parse_all(alloc: Global, texts: &[&str]) -> Result<Option<Vec<Pattern>>, AllocError>
-    ensures { IfOk result (λ o. option_map (λ v. v.items) o ≡ (if list_all is_pattern (map (λ t. t.now) texts.now) then Some (map (λ t. t.now) texts.now) else None)) }
+    ensures { IfOk result (λ o. option_map (λ v. v.items) o
+        ≡ (if list_all is_pattern (map (λ t. t.now) texts.now) then Some
+        (map (λ t. t.now) texts.now) else None)) }
 {
     let mut patterns = Vec::new(alloc);
     for text in texts {
@@ -109,12 +111,15 @@ fn or_all_names(mut patterns: Vec<Pattern>) -> Result<Vec<Pattern>, AllocError>
     Ok(patterns)
 }
 
-/// The patterns that are given, or the one that covers all names where none is; none where a text is no pattern.
+/// The patterns that are given, or the one that covers all names where none is; none where a text
+/// is no pattern.
 pub(crate) fn parse_patterns(
     alloc: Global,
     texts: &[&str],
 ) -> Result<Option<Vec<Pattern>>, AllocError>
-    ensures { IfOk result (λ o. option_map (λ v. v.items) o ≡ (if list_all is_pattern (map (λ t. t.now) texts.now) then Some (patterns_given (map (λ t. t.now) texts.now)) else None)) }
+    ensures { IfOk result (λ o. option_map (λ v. v.items) o
+        ≡ (if list_all is_pattern (map (λ t. t.now) texts.now) then Some
+        (patterns_given (map (λ t. t.now) texts.now)) else None)) }
 {
     match parse_all(alloc, texts)? {
         Some(patterns) => Ok(Some(or_all_names(patterns)?)),

@@ -41,14 +41,16 @@ impl Model for Marks {
 
 /// Whether this is the mark with these parts.
 fn is_mark(mark: &Mark, crate_text: &CanonText, version: &str) -> bool
-    ensures { result ≡ (bytes_eq mark.now.crate_text crate_text.now && bytes_eq (string_bytes mark.now.version) version.now) }
+    ensures { result ≡ (bytes_eq mark.now.crate_text crate_text.now && bytes_eq
+        (string_bytes mark.now.version) version.now) }
 {
     same_text(mark.crate_text.as_str(), crate_text.as_str())
         && same_text(mark.version.as_str(), version)
 }
 
 fn has_mark(marks: &[Mark], crate_text: &CanonText, version: &str) -> bool
-    ensures { result ≡ list_any (λ m. bytes_eq m.crate_text crate_text.now && bytes_eq (string_bytes m.version) version.now) marks.now }
+    ensures { result ≡ list_any (λ m. bytes_eq m.crate_text crate_text.now && bytes_eq
+        (string_bytes m.version) version.now) marks.now }
 {
     marks.iter().any(|mark| is_mark(mark, crate_text, version))
 }

@@ -1,4 +1,5 @@
--- What a statement makes of the rows of one table, told by its tree. Every other table keeps its rows, and nothing is committed.
+-- What a statement makes of the rows of one table, told by its tree. Every other table keeps its
+-- rows, and nothing is committed.
 use Rattle.std.specs.Prelude.{◌≡◌, ◌≢◌, ℕ, pos, ℤ, Bool, false, not, List, ◌∷◌, filter}
 use Rattle.std.specs.List.{AllByRecursion, list_any}
 use Rattle.sqlite.specs.Tree.{Trees}
@@ -38,7 +39,8 @@ AddsColumns tree columns old new = (id : ℤ) × Adds tree (Int id ∷ columns) 
 
 -- the row stands in place of what had this rowid
 abbrev pub Replaces : ℕ → ℕ → Row → State → State → Type 0
-Replaces tree id row old new = Becomes tree (put_row row (without_rowid (pos id) (old.now.trees tree))) old new
+Replaces tree id row old new = Becomes tree (put_row row
+    (without_rowid (pos id) (old.now.trees tree))) old new
 
 -- the row has the rowid of one of these
 abbrev pub is_at_one_of : List Row → Row → Bool
@@ -46,4 +48,5 @@ is_at_one_of rows row = list_any (λ r. has_rowid (id_in (rowid r)) row) rows
 
 -- the rows that pass the test are gone, by their rowids
 abbrev pub Removes : ℕ → (Row → Bool) → State → State → Type 0
-Removes tree test old new = Becomes tree (filter (λ row. not (is_at_one_of (filter test (old.now.trees tree)) row)) (old.now.trees tree)) old new
+Removes tree test old new = Becomes tree (filter
+    (λ row. not (is_at_one_of (filter test (old.now.trees tree)) row)) (old.now.trees tree)) old new

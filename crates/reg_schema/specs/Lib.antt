@@ -6,5 +6,6 @@ pub mod Schema
 pub mod Shown
 pub mod Statements
 pub mod States
+pub mod Steps
 pub mod Tests
 pub mod Texts

@@ -1,4 +1,5 @@
--- The trees of our tables, and the places of their columns in a row. A key is the rowid, at place 0.
+-- The trees of our tables, and the places of their columns in a row. A key is the rowid, at place
+-- 0.
 use Rattle.std.specs.Prelude.{ℕ}
 
 abbrev pub about_tree : ℕ

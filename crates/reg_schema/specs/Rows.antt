@@ -25,7 +25,8 @@ abbrev pub by_columns : ℕ → ℕ → Row → Row → Ordering
 by_columns first second a b = ordering_then (by_column first a b) (by_column second a b)
 
 -- what is shown of the rows, in this order
-pub record IsInOrder (order : Row → Row → Ordering) (rows : List Row) (show : Row → Row) (out : List Row) : Type 0 where
+pub record IsInOrder (order : Row → Row → Ordering) (rows : List Row) (show : Row → Row)
+    (out : List Row) : Type 0 where
   pub ordered : List Row
   pub same : IsPermutation rows ordered
   pub sorted : IsSorted order ordered

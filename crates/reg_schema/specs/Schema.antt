@@ -1,6 +1,7 @@
 -- The tables that the texts make, as `sqlite` keeps them.
--- Each table takes the next tree, and then each of its UNIQUE keys takes one. A row is its rowid and then its columns, so column i stands at place i + 1;
--- an INTEGER PRIMARY KEY is the rowid, at place 0, and reads as NULL in its own column.
+-- Each table takes the next tree, and then each of its UNIQUE keys takes one. A row is its rowid
+-- and then its columns, so column i stands at place i + 1; an INTEGER PRIMARY KEY is the rowid, at
+-- place 0, and reads as NULL in its own column.
 use Rattle.std.specs.Prelude.{true, false, [], ◌∷◌, Bool, Option, Some, None, codes, take, List, ℕ, pos}
 use Rattle.sqlite.specs.Collation.TheVariants.{Binary}
 use Rattle.sqlite.specs.declared.types.Value.TheVariants.{Null, Int}
@@ -22,7 +23,14 @@ use Rattle.sqlite_value.specs.declared.keys.Order.{Order}
 use Rattle.sqlite_catalog.specs.Listing.{automatic}
 
 abbrev pub column : List ℕ → Kind → Bool → Column
-column name kind not_null = record { name = name; kind = kind; is_strict = true; not_null = not_null; default = Null; collation = Binary }
+column name kind not_null = record {
+  name = name;
+  kind = kind;
+  is_strict = true;
+  not_null = not_null;
+  default = Null;
+  collation = Binary;
+}
 
 abbrev pub number : ℕ → Term
 number n = lit (Int (pos n))
@@ -40,9 +48,18 @@ is_id = op2 And (compare Ge (col 1 0) 1) (compare Le (col 1 0) 4294967295)
 
 -- a foreign key on the id of a table
 abbrev pub refers : ℕ → List ℕ → Reference
-refers place parent = record { columns = place ∷ []; parent = parent; parent_columns = codes "id" ∷ []; on_delete = NoAction; on_update = NoAction; is_deferred = false }
+refers place parent = record {
+  columns = place ∷ [];
+  parent = parent;
+  parent_columns = codes "id"
+      ∷ [];
+  on_delete = NoAction;
+  on_update = NoAction;
+  is_deferred = false;
+}
 
-abbrev pub table : List ℕ → ℕ → List Column → Option ℕ → List ℕ → List (List ℕ) → List Order → List Term → List Reference → Table
+abbrev pub table : List ℕ → ℕ → List Column → Option ℕ → List ℕ → List (List ℕ) → List Order
+    → List Term → List Reference → Table
 table name tree columns key primary uniques orders checks references = record {
   name = name;
   tree = tree;
@@ -59,50 +76,69 @@ table name tree columns key primary uniques orders checks references = record {
 }
 
 abbrev pub about : Table
-about = table (codes "about") 0 (column (codes "schema") Integer true ∷ column (codes "base") Text true ∷ []) None [] [] [] [] []
+about = table (codes "about") 0 (column (codes "schema") Integer true ∷ column
+    (codes "base") Text true ∷ []) None [] [] [] [] []
 
 abbrev pub accounts : Table
 accounts = table (codes "accounts") 1
-    (column (codes "id") Integer false ∷ column (codes "login") Text true ∷ column (codes "name") Text false ∷ column (codes "enabled") Integer true ∷ [])
+    (column (codes "id") Integer false ∷ column (codes "login") Text true ∷ column
+    (codes "name") Text false ∷ column (codes "enabled") Integer true ∷ [])
     (Some 0) (0 ∷ []) ((2 ∷ []) ∷ []) (plain ∷ []) (is_id ∷ is_mark 4 ∷ []) []
 
 abbrev pub tokens : Table
 tokens = table (codes "tokens") 3
-    (column (codes "id") Integer false ∷ column (codes "digest") Blob true ∷ column (codes "account") Integer true ∷ column (codes "live") Integer true ∷ column (codes "publish_new") Integer true
-    ∷ column (codes "publish_update") Integer true ∷ column (codes "yank") Integer true ∷ column (codes "change_owners") Integer true ∷ [])
+    (column (codes "id") Integer false ∷ column (codes "digest") Blob true ∷ column
+    (codes "account") Integer true ∷ column (codes "live") Integer true ∷ column
+    (codes "publish_new") Integer true
+    ∷ column (codes "publish_update") Integer true ∷ column (codes "yank") Integer true ∷ column
+    (codes "change_owners") Integer true ∷ [])
     (Some 0) (0 ∷ []) ((2 ∷ []) ∷ []) (plain ∷ [])
-    (is_id ∷ compare Eq (op1 Length (col 1 2)) 32 ∷ is_mark 4 ∷ is_mark 5 ∷ is_mark 6 ∷ is_mark 7 ∷ is_mark 8 ∷ []) (refers 3 (codes "accounts") ∷ [])
+    (is_id ∷ compare Eq (op1 Length (col 1 2)) 32 ∷ is_mark 4 ∷ is_mark 5 ∷ is_mark 6 ∷ is_mark 7
+    ∷ is_mark 8 ∷ []) (refers 3 (codes "accounts") ∷ [])
 
 abbrev pub scopes : Table
 scopes = table (codes "scopes") 5
-    (column (codes "token") Integer true ∷ column (codes "place") Integer true ∷ column (codes "pattern") Text true ∷ column (codes "low") Text true ∷ column (codes "high") Text true ∷ [])
-    None (1 ∷ 2 ∷ []) ((1 ∷ 2 ∷ []) ∷ []) (plain ∷ []) (compare Ge (col 1 2) 0 ∷ []) (refers 1 (codes "tokens") ∷ [])
+    (column (codes "token") Integer true ∷ column (codes "place") Integer true ∷ column
+    (codes "pattern") Text true ∷ column (codes "low") Text true ∷ column
+    (codes "high") Text true ∷ [])
+    None (1 ∷ 2 ∷ []) ((1 ∷ 2 ∷ []) ∷ []) (plain ∷ []) (compare Ge (col 1 2) 0 ∷ [])
+    (refers 1 (codes "tokens") ∷ [])
 
 abbrev pub crates : Table
-crates = table (codes "crates") 7 (column (codes "id") Integer false ∷ column (codes "canon") Text true ∷ column (codes "name") Text true ∷ []) (Some 0) (0 ∷ []) ((2 ∷ []) ∷ []) (plain ∷ []) (is_id ∷ []) []
+crates = table (codes "crates") 7 (column (codes "id") Integer false ∷ column
+    (codes "canon") Text true ∷ column (codes "name") Text true ∷ []) (Some 0) (0 ∷ [])
+    ((2 ∷ []) ∷ []) (plain ∷ []) (is_id ∷ []) []
 
 abbrev pub owners : Table
-owners = table (codes "owners") 9 (column (codes "crate") Integer true ∷ column (codes "account") Integer true ∷ []) None (1 ∷ 2 ∷ []) ((1 ∷ 2 ∷ []) ∷ []) (plain ∷ []) []
+owners = table (codes "owners") 9 (column (codes "crate") Integer true ∷ column
+    (codes "account") Integer true ∷ []) None (1 ∷ 2 ∷ []) ((1 ∷ 2 ∷ []) ∷ []) (plain ∷ []) []
     (refers 1 (codes "crates") ∷ refers 2 (codes "accounts") ∷ [])
 
 abbrev pub versions : Table
 versions = table (codes "versions") 11
-    (column (codes "id") Integer false ∷ column (codes "crate") Integer true ∷ column (codes "vers") Text true ∷ column (codes "release") Text true ∷ column (codes "digest") Blob true ∷ column (codes "stem") Blob true
+    (column (codes "id") Integer false ∷ column (codes "crate") Integer true ∷ column
+    (codes "vers") Text true ∷ column (codes "release") Text true ∷ column
+    (codes "digest") Blob true ∷ column (codes "stem") Blob true
     ∷ column (codes "description") Text false ∷ column (codes "yanked") Integer true ∷ [])
-    (Some 0) (0 ∷ []) ((2 ∷ 4 ∷ []) ∷ []) (plain ∷ []) (compare Ge (col 1 0) 1 ∷ is_mark 8 ∷ []) (refers 2 (codes "crates") ∷ [])
+    (Some 0) (0 ∷ []) ((2 ∷ 4 ∷ []) ∷ []) (plain ∷ []) (compare Ge (col 1 0) 1 ∷ is_mark 8 ∷ [])
+    (refers 2 (codes "crates") ∷ [])
 
 abbrev pub archives : Table
-archives = table (codes "archives") 13 (column (codes "version") Integer false ∷ column (codes "bytes") Blob true ∷ []) (Some 0) (0 ∷ []) [] [] [] (refers 0 (codes "versions") ∷ [])
+archives = table (codes "archives") 13 (column (codes "version") Integer false ∷ column
+    (codes "bytes") Blob true ∷ []) (Some 0) (0 ∷ []) [] [] [] (refers 0 (codes "versions") ∷ [])
 
 abbrev pub reserved : Table
-reserved = table (codes "reserved") 14 (column (codes "canon") Text true ∷ []) None (1 ∷ []) ((1 ∷ []) ∷ []) (plain ∷ []) [] []
+reserved = table (codes "reserved") 14 (column (codes "canon") Text true ∷ []) None (1 ∷ [])
+    ((1 ∷ []) ∷ []) (plain ∷ []) [] []
 
 abbrev pub our_tables : List Table
-our_tables = about ∷ accounts ∷ tokens ∷ scopes ∷ crates ∷ owners ∷ versions ∷ archives ∷ reserved ∷ []
+our_tables = about ∷ accounts ∷ tokens ∷ scopes ∷ crates ∷ owners ∷ versions ∷ archives ∷ reserved
+    ∷ []
 
 abbrev pub our_indexes : List Index
 our_indexes =
-    automatic accounts 0 (2 ∷ []) 2 ∷ automatic tokens 0 (2 ∷ []) 4 ∷ automatic scopes 0 (1 ∷ 2 ∷ []) 6 ∷ automatic crates 0 (2 ∷ []) 8 ∷ automatic owners 0 (1 ∷ 2 ∷ []) 10
+    automatic accounts 0 (2 ∷ []) 2 ∷ automatic tokens 0 (2 ∷ []) 4 ∷ automatic scopes 0
+    (1 ∷ 2 ∷ []) 6 ∷ automatic crates 0 (2 ∷ []) 8 ∷ automatic owners 0 (1 ∷ 2 ∷ []) 10
     ∷ automatic versions 0 (2 ∷ 4 ∷ []) 12 ∷ automatic reserved 0 (1 ∷ []) 15 ∷ []
 
 -- the schema of a registry
@@ -111,7 +147,11 @@ ours = record { tables = our_tables; indexes = our_indexes; views = [] }
 
 -- the schema with the first of our tables and indexes
 abbrev pub first_of_ours : ℕ → ℕ → Schema
-first_of_ours tables indexes = record { tables = take tables our_tables; indexes = take indexes our_indexes; views = [] }
+first_of_ours tables indexes = record {
+  tables = take tables our_tables;
+  indexes = take indexes our_indexes;
+  views = [];
+}
 
 -- the schema of a store that holds nothing
 abbrev pub blank : Schema

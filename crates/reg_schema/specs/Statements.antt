@@ -1,4 +1,5 @@
--- What a statement of a transaction leaves, whatever it answers. Each word is all that a caller may know.
+-- What a statement of a transaction leaves, whatever it answers. Each word is all that a caller may
+-- know.
 use Rattle.std.specs.Prelude.{◌≡◌, Bool, true, false, List, ℕ, Result, Ok, Err, IfOk, OnOk, OnErr}
 use Rattle.sqlite_trees.specs.declared.store.Store.{Ghosts}
 use Rattle.sqlite.specs.Command.{Command}
@@ -19,7 +20,8 @@ pub record IsReading {T E : Type 0} (old new : State) (r : Result T E) (tells : 
   pub survives : Survives old new (λ _. ⊥)
 
 -- it makes this change, or is refused, and no stop in it commits
-pub record IsWriting {T E : Type 0} (old new : State) (r : Result T E) (change : State → State → Type 0)
+pub record IsWriting {T E : Type 0} (old new : State) (r : Result T E)
+    (change : State → State → Type 0)
     : Type 0 where
   pub changes : HasCleanDisk new → OnOk r (change old new)
   pub refused : HasCleanDisk new → OnErr r (Refuses old new)

@@ -1,5 +1,6 @@
 -- A connection to our tables, before and after a statement.
--- Each word on values stands under `HasCleanDisk`: of a disk that returned what was never written, nothing is said.
+-- Each word on values stands under `HasCleanDisk`: of a disk that returned what was never written,
+-- nothing is said.
 use Rattle.std.specs.Prelude.{◌≡◌, ◌≢◌, ◌⊎◌, ℕ, pos, true, false, List, [], ◌∷◌, map, drop, IsTrue, Result, OnOk, OnErr}
 use Rattle.std.specs.List.{AllByRecursion}
 use Rattle.sqlite.specs.Effect.{Database}

@@ -15,7 +15,9 @@ pub fn stop_law<S: Alter>(conn: &Connection<S>)
 
 /// An open connection in no transaction shows what was committed.
 pub fn rest_law<S: Alter>(conn: &Connection<S>)
-    ensures { (state S.Store conn.now).in_transaction ≡ false → IsTrue (state S.Store conn.now).is_open → (state S.Store conn.now).now ≡ (state S.Store conn.now).committed }
+    ensures { (state S.Store conn.now).in_transaction ≡ false → IsTrue
+        (state S.Store conn.now).is_open → (state S.Store conn.now).now
+        ≡ (state S.Store conn.now).committed }
 {
     let _ = conn.is_autocommit();
 }

@@ -1,4 +1,5 @@
-//! The tables of a registry: their texts, and the words and laws by which each statement on them is understood.
+//! The tables of a registry: their texts, and the words and laws by which each statement on them is
+//! understood.
 #![tactic(auto)]
 
 pub mod laws;

@@ -29,8 +29,10 @@ fn is_blank(schema: &Schema) -> bool
 
 fn create_token_tables<S: Alter>(conn: &mut Connection<S>) -> Result<(), Error>
     requires { HasCleanDisk (state S.Store conn.old) → HasMade blank (state S.Store conn.old) }
-    ensures made { HasCleanDisk (state S.Store conn.new) → OnOk result (Makes (first_of_ours 4 3) (state S.Store conn.old) (state S.Store conn.new)) }
-    ensures refused { HasCleanDisk (state S.Store conn.new) → OnErr result (KeepsCommit (state S.Store conn.old) (state S.Store conn.new)) }
+    ensures made { HasCleanDisk (state S.Store conn.new) → OnOk result
+        (Makes (first_of_ours 4 3) (state S.Store conn.old) (state S.Store conn.new)) }
+    ensures refused { HasCleanDisk (state S.Store conn.new) → OnErr result
+        (KeepsCommit (state S.Store conn.old) (state S.Store conn.new)) }
     ensures survives { Survives (state S.Store conn.old) (state S.Store conn.new) (λ _. ⊥) }
 {
     texts::create_about(conn)?;
@@ -41,9 +43,12 @@ fn create_token_tables<S: Alter>(conn: &mut Connection<S>) -> Result<(), Error>
 }
 
 fn create_crate_tables<S: Alter>(conn: &mut Connection<S>) -> Result<(), Error>
-    requires { HasCleanDisk (state S.Store conn.old) → HasMade (first_of_ours 4 3) (state S.Store conn.old) }
-    ensures made { HasCleanDisk (state S.Store conn.new) → OnOk result (Makes ours (state S.Store conn.old) (state S.Store conn.new)) }
-    ensures refused { HasCleanDisk (state S.Store conn.new) → OnErr result (KeepsCommit (state S.Store conn.old) (state S.Store conn.new)) }
+    requires { HasCleanDisk (state S.Store conn.old) → HasMade (first_of_ours 4 3)
+        (state S.Store conn.old) }
+    ensures made { HasCleanDisk (state S.Store conn.new) → OnOk result
+        (Makes ours (state S.Store conn.old) (state S.Store conn.new)) }
+    ensures refused { HasCleanDisk (state S.Store conn.new) → OnErr result
+        (KeepsCommit (state S.Store conn.old) (state S.Store conn.new)) }
     ensures survives { Survives (state S.Store conn.old) (state S.Store conn.new) (λ _. ⊥) }
 {
     texts::create_crates(conn)?;
@@ -57,8 +62,10 @@ fn create_crate_tables<S: Alter>(conn: &mut Connection<S>) -> Result<(), Error>
 /// Makes the tables, in the transaction that is open.
 pub fn create_tables<S: Alter>(conn: &mut Connection<S>) -> Result<(), Error>
     requires { HasCleanDisk (state S.Store conn.old) → HasMade blank (state S.Store conn.old) }
-    ensures made { HasCleanDisk (state S.Store conn.new) → OnOk result (Makes ours (state S.Store conn.old) (state S.Store conn.new)) }
-    ensures refused { HasCleanDisk (state S.Store conn.new) → OnErr result (KeepsCommit (state S.Store conn.old) (state S.Store conn.new)) }
+    ensures made { HasCleanDisk (state S.Store conn.new) → OnOk result
+        (Makes ours (state S.Store conn.old) (state S.Store conn.new)) }
+    ensures refused { HasCleanDisk (state S.Store conn.new) → OnErr result
+        (KeepsCommit (state S.Store conn.old) (state S.Store conn.new)) }
     ensures survives { Survives (state S.Store conn.old) (state S.Store conn.new) (λ _. ⊥) }
 {
     create_token_tables(conn)?;
@@ -67,8 +74,10 @@ pub fn create_tables<S: Alter>(conn: &mut Connection<S>) -> Result<(), Error>
 
 fn insert_about<S: Alter>(conn: &mut Connection<S>, base: &str) -> Result<usize, Error>
     requires { IsReady (state S.Store conn.old) }
-    ensures added { HasCleanDisk (state S.Store conn.new) → OnOk result (AddsColumns 0 (about_columns base.now) (state S.Store conn.old) (state S.Store conn.new)) }
-    ensures refused { HasCleanDisk (state S.Store conn.new) → OnErr result (Refuses (state S.Store conn.old) (state S.Store conn.new)) }
+    ensures added { HasCleanDisk (state S.Store conn.new) → OnOk result
+        (AddsColumns 0 (about_columns base.now) (state S.Store conn.old) (state S.Store conn.new)) }
+    ensures refused { HasCleanDisk (state S.Store conn.new) → OnErr result
+        (Refuses (state S.Store conn.old) (state S.Store conn.new)) }
     ensures survives { Survives (state S.Store conn.old) (state S.Store conn.new) (λ _. ⊥) }
 {
     conn.execute(
@@ -80,8 +89,10 @@ fn insert_about<S: Alter>(conn: &mut Connection<S>, base: &str) -> Result<usize,
 #[tactic(auto, using(crate::proofs::MakeLemmas::is_made))]
 fn fill<S: Alter>(conn: &mut Connection<S>, base: &str) -> Result<(), Error>
     requires { HasCleanDisk (state S.Store conn.old) → HasMade blank (state S.Store conn.old) }
-    ensures made { HasCleanDisk (state S.Store conn.new) → OnOk result (IsMade base.now (state S.Store conn.new).now) }
-    ensures kept { HasCleanDisk (state S.Store conn.new) → KeepsCommit (state S.Store conn.old) (state S.Store conn.new) }
+    ensures made { HasCleanDisk (state S.Store conn.new) → OnOk result
+        (IsMade base.now (state S.Store conn.new).now) }
+    ensures kept { HasCleanDisk (state S.Store conn.new) → KeepsCommit (state S.Store conn.old)
+        (state S.Store conn.new) }
     ensures survives { Survives (state S.Store conn.old) (state S.Store conn.new) (λ _. ⊥) }
 {
     create_tables(conn)?;
@@ -91,9 +102,12 @@ fn fill<S: Alter>(conn: &mut Connection<S>, base: &str) -> Result<(), Error>
 
 fn fill_and_commit<S: Alter>(conn: &mut Connection<S>, base: &str) -> Result<(), Error>
     requires { (state S.Store conn.old).now.schema ≡ blank }
-    ensures made { HasCleanDisk (state S.Store conn.new) → OnOk result (IsMade base.now (state S.Store conn.new).committed × IsAtRest (state S.Store conn.new)) }
-    ensures kept { HasCleanDisk (state S.Store conn.new) → OnErr result (KeepsCommit (state S.Store conn.old) (state S.Store conn.new)) }
-    ensures survives { Survives (state S.Store conn.old) (state S.Store conn.new) (λ trees. (db : _) × IsMade base.now db × (trees ≡ db.trees)) }
+    ensures made { HasCleanDisk (state S.Store conn.new) → OnOk result
+        (IsMade base.now (state S.Store conn.new).committed × IsAtRest (state S.Store conn.new)) }
+    ensures kept { HasCleanDisk (state S.Store conn.new) → OnErr result
+        (KeepsCommit (state S.Store conn.old) (state S.Store conn.new)) }
+    ensures survives { Survives (state S.Store conn.old) (state S.Store conn.new)
+        (λ trees. (db : _) × IsMade base.now db × (trees ≡ db.trees)) }
 {
     begin(conn)?;
     fill(conn, base)?;
@@ -103,13 +117,18 @@ fn fill_and_commit<S: Alter>(conn: &mut Connection<S>, base: &str) -> Result<(),
 
 /// Makes the tables of a registry with nothing in it, all in one transaction.
 pub fn make_tables<S: Alter>(conn: &mut Connection<S>, base: &str) -> Result<(), MakeFault>
-    ensures made { HasCleanDisk (state S.Store conn.new) → OnOk result (IsMade base.now (state S.Store conn.new).committed × IsAtRest (state S.Store conn.new)) }
+    ensures made { HasCleanDisk (state S.Store conn.new) → OnOk result
+        (IsMade base.now (state S.Store conn.new).committed × IsAtRest (state S.Store conn.new)) }
     ensures ours { OnOk result (IsOurs (state S.Store conn.new)) }
-    ensures unknown { (result ≡ Err MakeFault.UnknownSchema) ↔ ((state S.Store conn.old).now.schema ≢ blank) }
-    ensures blank { result ≢ Err MakeFault.UnknownSchema → (state S.Store conn.old).now.schema ≡ blank }
+    ensures unknown { (result ≡ Err MakeFault.UnknownSchema) ↔
+        ((state S.Store conn.old).now.schema ≢ blank) }
+    ensures blank { result ≢ Err MakeFault.UnknownSchema → (state S.Store conn.old).now.schema
+        ≡ blank }
     ensures untouched { result ≡ Err MakeFault.UnknownSchema → conn.new ≡ conn.old }
-    ensures undone { HasCleanDisk (state S.Store conn.new) → result ≡ Err MakeFault.Storage → IsUndone (state S.Store conn.old) (state S.Store conn.new) }
-    ensures survives { Survives (state S.Store conn.old) (state S.Store conn.new) (λ trees. (db : _) × IsMade base.now db × (trees ≡ db.trees)) }
+    ensures undone { HasCleanDisk (state S.Store conn.new) → result ≡ Err MakeFault.Storage
+        → IsUndone (state S.Store conn.old) (state S.Store conn.new) }
+    ensures survives { Survives (state S.Store conn.old) (state S.Store conn.new)
+        (λ trees. (db : _) × IsMade base.now db × (trees ≡ db.trees)) }
 {
     if !is_blank(conn.schema()) {
         return Err(MakeFault::UnknownSchema);

@@ -14,7 +14,8 @@ use std::alloc::{AllocError, Global};
 
 // The texts are ours and are understood, so that want of memory is their only fault.
 fn is_table(alloc: Global, table: &Table, text: &str, tree: u32) -> Result<bool, AllocError>
-    ensures { IfOk result (λ same. (made : _) → table_defined_by text.now ≡ Ok made → IsTrue same ↔ (table.now ≡ record made { tree = tree })) }
+    ensures { IfOk result (λ same. (made : _) → table_defined_by text.now ≡ Ok made → IsTrue same ↔
+        (table.now ≡ record made { tree = tree })) }
 {
     let Ok(made) = define_table(alloc, text.as_bytes()) else {
         return Err(AllocError);
@@ -53,7 +54,14 @@ fn are_our_tables(alloc: Global, tables: &[Table]) -> Result<bool, AllocError>
 
 fn is_index(index: &Index, name: &str, table: u32, columns: &[usize]) -> bool
     requires { table < 100 }
-    ensures { IsTrue result ↔ (index.now ≡ record { name = name.now; tree = table + 1; table = table; columns = columns.now; order = plain; is_unique = true }) }
+    ensures { IsTrue result ↔ (index.now ≡ record {
+      name = name.now;
+      tree = table + 1;
+      table = table;
+      columns = columns.now;
+      order = plain;
+      is_unique = true;
+    }) }
 {
     index.name.as_slice() == name.as_bytes()
         && index.tree == table + 1

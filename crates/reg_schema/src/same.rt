@@ -128,7 +128,8 @@ fn same_stamps(a: &Stamps, b: &Stamps) -> bool
 }
 
 fn same_shape(a: &Table, b: &Table) -> bool
-    ensures { IsTrue result ↔ ((a.now.name ≡ b.now.name) × (a.now.columns ≡ b.now.columns) × (a.now.key ≡ b.now.key) × (a.now.is_counted ≡ b.now.is_counted)) }
+    ensures { IsTrue result ↔ ((a.now.name ≡ b.now.name) × (a.now.columns ≡ b.now.columns)
+        × (a.now.key ≡ b.now.key) × (a.now.is_counted ≡ b.now.is_counted)) }
 {
     a.name.as_slice() == b.name.as_slice()
         && same_columns(a.columns.as_slice(), b.columns.as_slice())
@@ -137,7 +138,8 @@ fn same_shape(a: &Table, b: &Table) -> bool
 }
 
 fn same_unique_keys(a: &Table, b: &Table) -> bool
-    ensures { IsTrue result ↔ ((a.now.primary ≡ b.now.primary) × (a.now.uniques ≡ b.now.uniques) × (a.now.orders ≡ b.now.orders)) }
+    ensures { IsTrue result ↔ ((a.now.primary ≡ b.now.primary) × (a.now.uniques ≡ b.now.uniques)
+        × (a.now.orders ≡ b.now.orders)) }
 {
     same_places(&a.primary, &b.primary)
         && same_keys(a.uniques.as_slice(), b.uniques.as_slice())
@@ -145,7 +147,8 @@ fn same_unique_keys(a: &Table, b: &Table) -> bool
 }
 
 fn same_rules(a: &Table, b: &Table) -> bool
-    ensures { IsTrue result ↔ ((a.now.checks ≡ b.now.checks) × (a.now.references ≡ b.now.references) × (a.now.computed ≡ b.now.computed) × (a.now.stamps ≡ b.now.stamps)) }
+    ensures { IsTrue result ↔ ((a.now.checks ≡ b.now.checks) × (a.now.references ≡ b.now.references)
+        × (a.now.computed ≡ b.now.computed) × (a.now.stamps ≡ b.now.stamps)) }
 {
     same_terms(&a.checks, &b.checks)
         && same_references(a.references.as_slice(), b.references.as_slice())

@@ -1,4 +1,5 @@
-//! Whether two expressions are the same, as trees: the places where their nodes stand do not matter.
+//! Whether two expressions are the same, as trees: the places where their nodes stand do not
+//! matter.
 
 ghost use Rattle.std.specs.Prelude.{◌≡◌, ◌↔◌, ◌⊎◌, ◌<◌, IsTrue};
 ghost use Rattle.sqlite_value.specs.Value.{owned};
@@ -47,7 +48,8 @@ fn lend(op: &Op) -> Node<'_>
     }
 }
 
-// The node at a place, and the depth to which its operands are read: NULL at depth 0 and where no node stands.
+// The node at a place, and the depth to which its operands are read: NULL at depth 0 and where no
+// node stands.
 fn open(ops: &[Op], depth: usize, at: usize) -> (Node<'_>, usize)
     ensures term { term_to ops.now depth at ≡ node_term (term_to ops.now result.1) result.0 }
     ensures falls { (result.1 < depth) ⊎ (result.0 ≡ Node.Literal ValueRef.Null) }
@@ -58,7 +60,8 @@ fn open(ops: &[Op], depth: usize, at: usize) -> (Node<'_>, usize)
     (lend(&ops[at]), depth - 1)
 }
 
-// Each expression is the node at a place, read to a depth. The walk ends where the two first differ, so it is no longer than either.
+// Each expression is the node at a place, read to a depth. The walk ends where the two first
+// differ, so it is no longer than either.
 fn same_term(a: &[Op], depth_a: usize, at_a: usize, b: &[Op], depth_b: usize, at_b: usize) -> bool
     ensures { IsTrue result ↔ (term_to a.now depth_a at_a ≡ term_to b.now depth_b at_b) }
 {

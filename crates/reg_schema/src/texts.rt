@@ -12,104 +12,144 @@ pub(crate) const ABOUT: &str =
     "CREATE TABLE about (schema INTEGER NOT NULL, base TEXT NOT NULL) STRICT";
 
 pub(crate) const ACCOUNTS: &str =
-    "CREATE TABLE accounts (id INTEGER PRIMARY KEY CHECK (id BETWEEN 1 AND 4294967295), login TEXT NOT NULL UNIQUE, name TEXT, enabled INTEGER NOT NULL CHECK (enabled IN (0, 1))) STRICT";
+    "CREATE TABLE accounts (id INTEGER PRIMARY KEY CHECK (id BETWEEN 1 AND 4294967295), login \
+    TEXT NOT NULL UNIQUE, name TEXT, enabled INTEGER NOT NULL CHECK (enabled IN (0, 1))) STRICT";
 
 pub(crate) const TOKENS: &str =
-    "CREATE TABLE tokens (id INTEGER PRIMARY KEY CHECK (id BETWEEN 1 AND 4294967295), digest BLOB NOT NULL UNIQUE CHECK (length(digest) = 32), account INTEGER NOT NULL REFERENCES accounts (id), live INTEGER NOT NULL CHECK (live IN (0, 1)), publish_new INTEGER NOT NULL CHECK (publish_new IN (0, 1)), publish_update INTEGER NOT NULL CHECK (publish_update IN (0, 1)), yank INTEGER NOT NULL CHECK (yank IN (0, 1)), change_owners INTEGER NOT NULL CHECK (change_owners IN (0, 1))) STRICT";
+    "CREATE TABLE tokens (id INTEGER PRIMARY KEY CHECK (id BETWEEN 1 AND 4294967295), digest \
+    BLOB NOT NULL UNIQUE CHECK (length(digest) = 32), account INTEGER NOT NULL REFERENCES \
+    accounts (id), live INTEGER NOT NULL CHECK (live IN (0, 1)), publish_new INTEGER NOT NULL \
+    CHECK (publish_new IN (0, 1)), publish_update INTEGER NOT NULL CHECK (publish_update IN (0, \
+    1)), yank INTEGER NOT NULL CHECK (yank IN (0, 1)), change_owners INTEGER NOT NULL CHECK \
+    (change_owners IN (0, 1))) STRICT";
 
 pub(crate) const SCOPES: &str =
-    "CREATE TABLE scopes (token INTEGER NOT NULL REFERENCES tokens (id), place INTEGER NOT NULL CHECK (place >= 0), pattern TEXT NOT NULL, low TEXT NOT NULL, high TEXT NOT NULL, PRIMARY KEY (token, place)) STRICT";
+    "CREATE TABLE scopes (token INTEGER NOT NULL REFERENCES tokens (id), place INTEGER NOT NULL \
+    CHECK (place >= 0), pattern TEXT NOT NULL, low TEXT NOT NULL, high TEXT NOT NULL, PRIMARY \
+    KEY (token, place)) STRICT";
 
 pub(crate) const CRATES: &str =
-    "CREATE TABLE crates (id INTEGER PRIMARY KEY CHECK (id BETWEEN 1 AND 4294967295), canon TEXT NOT NULL UNIQUE, name TEXT NOT NULL) STRICT";
+    "CREATE TABLE crates (id INTEGER PRIMARY KEY CHECK (id BETWEEN 1 AND 4294967295), canon TEXT \
+    NOT NULL UNIQUE, name TEXT NOT NULL) STRICT";
 
 pub(crate) const OWNERS: &str =
-    "CREATE TABLE owners (crate INTEGER NOT NULL REFERENCES crates (id), account INTEGER NOT NULL REFERENCES accounts (id), PRIMARY KEY (crate, account)) STRICT";
+    "CREATE TABLE owners (crate INTEGER NOT NULL REFERENCES crates (id), account INTEGER NOT \
+    NULL REFERENCES accounts (id), PRIMARY KEY (crate, account)) STRICT";
 
 pub(crate) const VERSIONS: &str =
-    "CREATE TABLE versions (id INTEGER PRIMARY KEY CHECK (id >= 1), crate INTEGER NOT NULL REFERENCES crates (id), vers TEXT NOT NULL, release TEXT NOT NULL, digest BLOB NOT NULL, stem BLOB NOT NULL, description TEXT, yanked INTEGER NOT NULL CHECK (yanked IN (0, 1)), UNIQUE (crate, release)) STRICT";
+    "CREATE TABLE versions (id INTEGER PRIMARY KEY CHECK (id >= 1), crate INTEGER NOT NULL \
+    REFERENCES crates (id), vers TEXT NOT NULL, release TEXT NOT NULL, digest BLOB NOT NULL, \
+    stem BLOB NOT NULL, description TEXT, yanked INTEGER NOT NULL CHECK (yanked IN (0, 1)), \
+    UNIQUE (crate, release)) STRICT";
 
 pub(crate) const ARCHIVES: &str =
-    "CREATE TABLE archives (version INTEGER PRIMARY KEY REFERENCES versions (id), bytes BLOB NOT NULL) STRICT";
+    "CREATE TABLE archives (version INTEGER PRIMARY KEY REFERENCES versions (id), bytes BLOB NOT \
+    NULL) STRICT";
 
 pub(crate) const RESERVED: &str = "CREATE TABLE reserved (canon TEXT NOT NULL PRIMARY KEY) STRICT";
 
 pub fn create_about<S: Alter>(conn: &mut Connection<S>) -> Result<usize, Error>
     requires { HasCleanDisk (state S.Store conn.old) → HasMade blank (state S.Store conn.old) }
-    ensures made { HasCleanDisk (state S.Store conn.new) → OnOk result (Makes (first_of_ours 1 0) (state S.Store conn.old) (state S.Store conn.new)) }
-    ensures refused { HasCleanDisk (state S.Store conn.new) → OnErr result (Refuses (state S.Store conn.old) (state S.Store conn.new)) }
+    ensures made { HasCleanDisk (state S.Store conn.new) → OnOk result
+        (Makes (first_of_ours 1 0) (state S.Store conn.old) (state S.Store conn.new)) }
+    ensures refused { HasCleanDisk (state S.Store conn.new) → OnErr result
+        (Refuses (state S.Store conn.old) (state S.Store conn.new)) }
     ensures survives { Survives (state S.Store conn.old) (state S.Store conn.new) (λ _. ⊥) }
 {
     conn.execute(ABOUT, &[])
 }
 
 pub fn create_accounts<S: Alter>(conn: &mut Connection<S>) -> Result<usize, Error>
-    requires { HasCleanDisk (state S.Store conn.old) → HasMade (first_of_ours 1 0) (state S.Store conn.old) }
-    ensures made { HasCleanDisk (state S.Store conn.new) → OnOk result (Makes (first_of_ours 2 1) (state S.Store conn.old) (state S.Store conn.new)) }
-    ensures refused { HasCleanDisk (state S.Store conn.new) → OnErr result (Refuses (state S.Store conn.old) (state S.Store conn.new)) }
+    requires { HasCleanDisk (state S.Store conn.old) → HasMade (first_of_ours 1 0)
+        (state S.Store conn.old) }
+    ensures made { HasCleanDisk (state S.Store conn.new) → OnOk result
+        (Makes (first_of_ours 2 1) (state S.Store conn.old) (state S.Store conn.new)) }
+    ensures refused { HasCleanDisk (state S.Store conn.new) → OnErr result
+        (Refuses (state S.Store conn.old) (state S.Store conn.new)) }
     ensures survives { Survives (state S.Store conn.old) (state S.Store conn.new) (λ _. ⊥) }
 {
     conn.execute(ACCOUNTS, &[])
 }
 
 pub fn create_tokens<S: Alter>(conn: &mut Connection<S>) -> Result<usize, Error>
-    requires { HasCleanDisk (state S.Store conn.old) → HasMade (first_of_ours 2 1) (state S.Store conn.old) }
-    ensures made { HasCleanDisk (state S.Store conn.new) → OnOk result (Makes (first_of_ours 3 2) (state S.Store conn.old) (state S.Store conn.new)) }
-    ensures refused { HasCleanDisk (state S.Store conn.new) → OnErr result (Refuses (state S.Store conn.old) (state S.Store conn.new)) }
+    requires { HasCleanDisk (state S.Store conn.old) → HasMade (first_of_ours 2 1)
+        (state S.Store conn.old) }
+    ensures made { HasCleanDisk (state S.Store conn.new) → OnOk result
+        (Makes (first_of_ours 3 2) (state S.Store conn.old) (state S.Store conn.new)) }
+    ensures refused { HasCleanDisk (state S.Store conn.new) → OnErr result
+        (Refuses (state S.Store conn.old) (state S.Store conn.new)) }
     ensures survives { Survives (state S.Store conn.old) (state S.Store conn.new) (λ _. ⊥) }
 {
     conn.execute(TOKENS, &[])
 }
 
 pub fn create_scopes<S: Alter>(conn: &mut Connection<S>) -> Result<usize, Error>
-    requires { HasCleanDisk (state S.Store conn.old) → HasMade (first_of_ours 3 2) (state S.Store conn.old) }
-    ensures made { HasCleanDisk (state S.Store conn.new) → OnOk result (Makes (first_of_ours 4 3) (state S.Store conn.old) (state S.Store conn.new)) }
-    ensures refused { HasCleanDisk (state S.Store conn.new) → OnErr result (Refuses (state S.Store conn.old) (state S.Store conn.new)) }
+    requires { HasCleanDisk (state S.Store conn.old) → HasMade (first_of_ours 3 2)
+        (state S.Store conn.old) }
+    ensures made { HasCleanDisk (state S.Store conn.new) → OnOk result
+        (Makes (first_of_ours 4 3) (state S.Store conn.old) (state S.Store conn.new)) }
+    ensures refused { HasCleanDisk (state S.Store conn.new) → OnErr result
+        (Refuses (state S.Store conn.old) (state S.Store conn.new)) }
     ensures survives { Survives (state S.Store conn.old) (state S.Store conn.new) (λ _. ⊥) }
 {
     conn.execute(SCOPES, &[])
 }
 
 pub fn create_crates<S: Alter>(conn: &mut Connection<S>) -> Result<usize, Error>
-    requires { HasCleanDisk (state S.Store conn.old) → HasMade (first_of_ours 4 3) (state S.Store conn.old) }
-    ensures made { HasCleanDisk (state S.Store conn.new) → OnOk result (Makes (first_of_ours 5 4) (state S.Store conn.old) (state S.Store conn.new)) }
-    ensures refused { HasCleanDisk (state S.Store conn.new) → OnErr result (Refuses (state S.Store conn.old) (state S.Store conn.new)) }
+    requires { HasCleanDisk (state S.Store conn.old) → HasMade (first_of_ours 4 3)
+        (state S.Store conn.old) }
+    ensures made { HasCleanDisk (state S.Store conn.new) → OnOk result
+        (Makes (first_of_ours 5 4) (state S.Store conn.old) (state S.Store conn.new)) }
+    ensures refused { HasCleanDisk (state S.Store conn.new) → OnErr result
+        (Refuses (state S.Store conn.old) (state S.Store conn.new)) }
     ensures survives { Survives (state S.Store conn.old) (state S.Store conn.new) (λ _. ⊥) }
 {
     conn.execute(CRATES, &[])
 }
 
 pub fn create_owners<S: Alter>(conn: &mut Connection<S>) -> Result<usize, Error>
-    requires { HasCleanDisk (state S.Store conn.old) → HasMade (first_of_ours 5 4) (state S.Store conn.old) }
-    ensures made { HasCleanDisk (state S.Store conn.new) → OnOk result (Makes (first_of_ours 6 5) (state S.Store conn.old) (state S.Store conn.new)) }
-    ensures refused { HasCleanDisk (state S.Store conn.new) → OnErr result (Refuses (state S.Store conn.old) (state S.Store conn.new)) }
+    requires { HasCleanDisk (state S.Store conn.old) → HasMade (first_of_ours 5 4)
+        (state S.Store conn.old) }
+    ensures made { HasCleanDisk (state S.Store conn.new) → OnOk result
+        (Makes (first_of_ours 6 5) (state S.Store conn.old) (state S.Store conn.new)) }
+    ensures refused { HasCleanDisk (state S.Store conn.new) → OnErr result
+        (Refuses (state S.Store conn.old) (state S.Store conn.new)) }
     ensures survives { Survives (state S.Store conn.old) (state S.Store conn.new) (λ _. ⊥) }
 {
     conn.execute(OWNERS, &[])
 }
 
 pub fn create_versions<S: Alter>(conn: &mut Connection<S>) -> Result<usize, Error>
-    requires { HasCleanDisk (state S.Store conn.old) → HasMade (first_of_ours 6 5) (state S.Store conn.old) }
-    ensures made { HasCleanDisk (state S.Store conn.new) → OnOk result (Makes (first_of_ours 7 6) (state S.Store conn.old) (state S.Store conn.new)) }
-    ensures refused { HasCleanDisk (state S.Store conn.new) → OnErr result (Refuses (state S.Store conn.old) (state S.Store conn.new)) }
+    requires { HasCleanDisk (state S.Store conn.old) → HasMade (first_of_ours 6 5)
+        (state S.Store conn.old) }
+    ensures made { HasCleanDisk (state S.Store conn.new) → OnOk result
+        (Makes (first_of_ours 7 6) (state S.Store conn.old) (state S.Store conn.new)) }
+    ensures refused { HasCleanDisk (state S.Store conn.new) → OnErr result
+        (Refuses (state S.Store conn.old) (state S.Store conn.new)) }
     ensures survives { Survives (state S.Store conn.old) (state S.Store conn.new) (λ _. ⊥) }
 {
     conn.execute(VERSIONS, &[])
 }
 
 pub fn create_archives<S: Alter>(conn: &mut Connection<S>) -> Result<usize, Error>
-    requires { HasCleanDisk (state S.Store conn.old) → HasMade (first_of_ours 7 6) (state S.Store conn.old) }
-    ensures made { HasCleanDisk (state S.Store conn.new) → OnOk result (Makes (first_of_ours 8 6) (state S.Store conn.old) (state S.Store conn.new)) }
-    ensures refused { HasCleanDisk (state S.Store conn.new) → OnErr result (Refuses (state S.Store conn.old) (state S.Store conn.new)) }
+    requires { HasCleanDisk (state S.Store conn.old) → HasMade (first_of_ours 7 6)
+        (state S.Store conn.old) }
+    ensures made { HasCleanDisk (state S.Store conn.new) → OnOk result
+        (Makes (first_of_ours 8 6) (state S.Store conn.old) (state S.Store conn.new)) }
+    ensures refused { HasCleanDisk (state S.Store conn.new) → OnErr result
+        (Refuses (state S.Store conn.old) (state S.Store conn.new)) }
     ensures survives { Survives (state S.Store conn.old) (state S.Store conn.new) (λ _. ⊥) }
 {
     conn.execute(ARCHIVES, &[])
 }
 
 pub fn create_reserved<S: Alter>(conn: &mut Connection<S>) -> Result<usize, Error>
-    requires { HasCleanDisk (state S.Store conn.old) → HasMade (first_of_ours 8 6) (state S.Store conn.old) }
-    ensures made { HasCleanDisk (state S.Store conn.new) → OnOk result (Makes ours (state S.Store conn.old) (state S.Store conn.new)) }
-    ensures refused { HasCleanDisk (state S.Store conn.new) → OnErr result (Refuses (state S.Store conn.old) (state S.Store conn.new)) }
+    requires { HasCleanDisk (state S.Store conn.old) → HasMade (first_of_ours 8 6)
+        (state S.Store conn.old) }
+    ensures made { HasCleanDisk (state S.Store conn.new) → OnOk result
+        (Makes ours (state S.Store conn.old) (state S.Store conn.new)) }
+    ensures refused { HasCleanDisk (state S.Store conn.new) → OnErr result
+        (Refuses (state S.Store conn.old) (state S.Store conn.new)) }
     ensures survives { Survives (state S.Store conn.old) (state S.Store conn.new) (λ _. ⊥) }
 {
     conn.execute(RESERVED, &[])

@@ -10,9 +10,13 @@ use sqlite::{Alter, Connection, Error};
 
 /// Begins a transaction. Inside another one it is refused.
 pub fn begin<S: Alter>(conn: &mut Connection<S>) -> Result<usize, Error>
-    ensures begun { HasCleanDisk (state S.Store conn.new) → OnOk result (Shows (state S.Store conn.old) (state S.Store conn.new) (state S.Store conn.old).now (state S.Store conn.old).committed true) }
-    ensures ready { IsOurs (state S.Store conn.old) → OnOk result (IsReady (state S.Store conn.new)) }
-    ensures refused { HasCleanDisk (state S.Store conn.new) → OnErr result (Refuses (state S.Store conn.old) (state S.Store conn.new)) }
+    ensures begun { HasCleanDisk (state S.Store conn.new) → OnOk result
+        (Shows (state S.Store conn.old) (state S.Store conn.new) (state S.Store conn.old).now
+        (state S.Store conn.old).committed true) }
+    ensures ready { IsOurs (state S.Store conn.old) → OnOk result
+        (IsReady (state S.Store conn.new)) }
+    ensures refused { HasCleanDisk (state S.Store conn.new) → OnErr result
+        (Refuses (state S.Store conn.old) (state S.Store conn.new)) }
     ensures ours { IsOurs (state S.Store conn.old) → IsOurs (state S.Store conn.new) }
     ensures survives { Survives (state S.Store conn.old) (state S.Store conn.new) (λ _. ⊥) }
 {
@@ -21,11 +25,16 @@ pub fn begin<S: Alter>(conn: &mut Connection<S>) -> Result<usize, Error>
 
 /// Commits the transaction. Where that is refused, the transaction is undone.
 pub fn finish<S: Alter>(conn: &mut Connection<S>) -> Result<usize, Error>
-    ensures kept { HasCleanDisk (state S.Store conn.new) → OnOk result (Shows (state S.Store conn.old) (state S.Store conn.new) (state S.Store conn.old).now (state S.Store conn.old).now false) }
-    ensures undone { HasCleanDisk (state S.Store conn.new) → OnErr result (IsUndone (state S.Store conn.old) (state S.Store conn.new)) }
+    ensures kept { HasCleanDisk (state S.Store conn.new) → OnOk result
+        (Shows (state S.Store conn.old) (state S.Store conn.new) (state S.Store conn.old).now
+        (state S.Store conn.old).now false) }
+    ensures undone { HasCleanDisk (state S.Store conn.new) → OnErr result
+        (IsUndone (state S.Store conn.old) (state S.Store conn.new)) }
     ensures ours { IsOurs (state S.Store conn.old) → IsOurs (state S.Store conn.new) }
-    ensures alone { HasCleanDisk (state S.Store conn.new) → OnOk result (LeavesCommit (state S.Store conn.new)) }
-    ensures survives { Survives (state S.Store conn.old) (state S.Store conn.new) (λ db. db ≡ (state S.Store conn.old).now.trees) }
+    ensures alone { HasCleanDisk (state S.Store conn.new) → OnOk result
+        (LeavesCommit (state S.Store conn.new)) }
+    ensures survives { Survives (state S.Store conn.old) (state S.Store conn.new)
+        (λ db. db ≡ (state S.Store conn.old).now.trees) }
 {
     let done = conn.execute("COMMIT", &[]);
     rest_law(conn);
@@ -34,7 +43,8 @@ pub fn finish<S: Alter>(conn: &mut Connection<S>) -> Result<usize, Error>
 
 /// Undoes the transaction, if there is one.
 pub fn undo<S: Alter>(conn: &mut Connection<S>)
-    ensures undone { HasCleanDisk (state S.Store conn.new) → IsUndone (state S.Store conn.old) (state S.Store conn.new) }
+    ensures undone { HasCleanDisk (state S.Store conn.new) → IsUndone (state S.Store conn.old)
+        (state S.Store conn.new) }
     ensures ours { IsOurs (state S.Store conn.old) → IsOurs (state S.Store conn.new) }
     ensures survives { Survives (state S.Store conn.old) (state S.Store conn.new) (λ _. ⊥) }
 {

@@ -29,7 +29,8 @@ account_columns a =
 -- these are the accounts, by id
 abbrev pub AreAccounts : Trees → List Account → Type 0
 AreAccounts db list =
-    IsInOrder (by_column id_place) (db accounts_tree) (shows account_places) (map account_columns list)
+    IsInOrder (by_column id_place) (db accounts_tree) (shows account_places)
+    (map account_columns list)
 
 -- this is the account with the login, if there is one
 abbrev pub IsAccountOfLogin : List ℕ → Trees → Option Account → Type 0
@@ -40,6 +41,7 @@ IsAccountOfLogin login db found =
 -- the account with this id is enabled or not, and no other table is touched
 pub record Enables (id : ℕ) (enabled : Bool) (old new : State) : Type 0 where
   pub replaced : (login : List ℕ) (name : Option (List ℕ)) (was : Bool)
-      → filter (has_rowid (pos id)) (old.now.trees accounts_tree) ≡ account_row id login name was ∷ []
+      → filter (has_rowid (pos id)) (old.now.trees accounts_tree) ≡ account_row id login name was
+      ∷ []
       → Replaces accounts_tree id (account_row id login name enabled) old new
   pub touches : Touches accounts_tree old new

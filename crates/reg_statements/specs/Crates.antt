@@ -23,7 +23,8 @@ crate_columns c = Int (pos c.id) ∷ Text (string_bytes c.canon) ∷ Text (strin
 -- these are the crates, by canonical name
 abbrev pub AreCrates : Trees → List Crate → Type 0
 AreCrates db list =
-    IsInOrder (by_column crate_canon_place) (db crates_tree) (shows crate_places) (map crate_columns list)
+    IsInOrder (by_column crate_canon_place) (db crates_tree) (shows crate_places)
+    (map crate_columns list)
 
 -- this is the crate with the canonical name, if there is one
 abbrev pub IsCrateOfCanon : List ℕ → Trees → Option Crate → Type 0

@@ -41,7 +41,8 @@ AreOwnersOf of_crate db list =
 -- these are all owners, by crate and account
 abbrev pub AreOwnerships : Trees → List Ownership → Type 0
 AreOwnerships db list =
-    IsInOrder (by_columns owner_crate_place owner_account_place) (db owners_tree) (shows owner_places)
+    IsInOrder (by_columns owner_crate_place owner_account_place) (db owners_tree)
+    (shows owner_places)
     (map columns_of_ownership list)
 
 -- whether the account is an owner of the crate

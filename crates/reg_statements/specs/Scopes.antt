@@ -18,12 +18,14 @@ scope_places = 1 ∷ 2 ∷ 3 ∷ 4 ∷ 5 ∷ []
 
 abbrev pub columns_of_scope : Scope → Row
 columns_of_scope it =
-    scope_columns it.token it.place (string_bytes it.pattern) (string_bytes it.low) (string_bytes it.high)
+    scope_columns it.token it.place (string_bytes it.pattern) (string_bytes it.low)
+    (string_bytes it.high)
 
 -- these are the scopes of the token, by place
 abbrev pub AreScopesOf : ℕ → Trees → List Scope → Type 0
 AreScopesOf token db list =
-    IsInOrder (by_column scope_place_place) (filter (is_number scope_token_place token) (db scopes_tree))
+    IsInOrder (by_column scope_place_place) (filter (is_number scope_token_place token)
+    (db scopes_tree))
     (shows scope_places) (map columns_of_scope list)
 
 -- these are all scopes, by token and place

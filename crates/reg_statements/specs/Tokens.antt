@@ -19,7 +19,8 @@ use Rattle.reg_statements.specs.declared.tokens.TokenRow.{TokenRow}
 
 -- the marks of the four endpoints
 abbrev pub endpoint_marks : Endpoints → Row
-endpoint_marks e = mark e.publish_new ∷ mark e.publish_update ∷ mark e.yank ∷ mark e.change_owners ∷ []
+endpoint_marks e = mark e.publish_new ∷ mark e.publish_update ∷ mark e.yank ∷ mark e.change_owners
+    ∷ []
 
 -- a row as it stands in its tree
 abbrev pub token_row : ℕ → List ℕ → ℕ → Bool → Endpoints → Row
@@ -60,16 +61,19 @@ token_and_account token account =
 -- this of each token with the digest
 abbrev pub tokens_with_accounts : List ℕ → Trees → List Row
 tokens_with_accounts digest db =
-    flat_map (λ token. map (token_and_account token) (filter (is_of_token token) (db accounts_tree)))
+    flat_map (λ token. map (token_and_account token)
+    (filter (is_of_token token) (db accounts_tree)))
     (filter (is_blob digest_place digest) (db tokens_tree))
 
 -- this is the token with the digest, if there is one
 abbrev pub IsTokenOfDigest : List ℕ → Trees → Option TokenRow → Type 0
-IsTokenOfDigest digest db found = tokens_with_accounts digest db ≡ shown_of columns_with_account found
+IsTokenOfDigest digest db found = tokens_with_accounts digest db
+    ≡ shown_of columns_with_account found
 
 -- the token with this id is no longer live, and no other table is touched
 pub record Revokes (id : ℕ) (old new : State) : Type 0 where
   pub replaced : (digest : List ℕ) (account : ℕ) (was : Bool) (e : Endpoints)
-      → filter (has_rowid (pos id)) (old.now.trees tokens_tree) ≡ token_row id digest account was e ∷ []
+      → filter (has_rowid (pos id)) (old.now.trees tokens_tree) ≡ token_row id digest account was e
+      ∷ []
       → Replaces tokens_tree id (token_row id digest account false e) old new
   pub touches : Touches tokens_tree old new

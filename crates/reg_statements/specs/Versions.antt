@@ -31,13 +31,15 @@ columns_of_version it =
 -- these are the versions of the crate, by id
 abbrev pub AreVersionsOf : ℕ → Trees → List Version → Type 0
 AreVersionsOf of_crate db list =
-    IsInOrder (by_column id_place) (filter (is_number version_crate_place of_crate) (db versions_tree))
+    IsInOrder (by_column id_place) (filter (is_number version_crate_place of_crate)
+    (db versions_tree))
     (shows version_places) (map columns_of_version list)
 
 -- these are all versions, by id
 abbrev pub AreVersions : Trees → List Version → Type 0
 AreVersions db list =
-    IsInOrder (by_column id_place) (db versions_tree) (shows version_places) (map columns_of_version list)
+    IsInOrder (by_column id_place) (db versions_tree) (shows version_places)
+    (map columns_of_version list)
 
 -- the version of the crate with this text is yanked or not, and no other table is touched
 pub record MarksYanked (of_crate : ℕ) (release vers : List ℕ) (yanked : Bool) (old new : State)

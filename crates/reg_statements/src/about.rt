@@ -25,7 +25,8 @@ fn base_of(rows: &[Row]) -> Result<Option<String>, Error>
     Ok(Some(rows[0].get(1)?))
 }
 
-/// The base of a registry of schema 1; none where the one row is not of that schema, or is not alone.
+/// The base of a registry of schema 1; none where the one row is not of that schema, or is not
+/// alone.
 pub fn base<S: Alter>(conn: &mut Connection<S>) -> Result<Option<String>, Error>
     requires { IsReady (state S.Store conn.old) }
     ensures { Reads S.Store conn.old conn.new result

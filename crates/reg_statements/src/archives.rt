@@ -51,7 +51,8 @@ pub fn of_version<S: Alter>(
 {
     select_one(
         conn,
-        "SELECT a.bytes FROM versions v JOIN archives a ON a.version = v.id WHERE v.crate = ?1 AND v.release = ?2 AND v.vers = ?3",
+        "SELECT a.bytes FROM versions v JOIN archives a ON a.version = v.id WHERE v.crate = ?1 \
+        AND v.release = ?2 AND v.vers = ?3",
         params![crate_id, release, vers],
     )
 }

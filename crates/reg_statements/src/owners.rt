@@ -91,7 +91,8 @@ pub fn of_crate<S: Alter>(
     select_list(
         alloc,
         conn,
-        "SELECT a.id, a.login, a.name, a.enabled FROM owners o JOIN accounts a ON a.id = o.account WHERE o.crate = ?1 ORDER BY a.id",
+        "SELECT a.id, a.login, a.name, a.enabled FROM owners o JOIN accounts a ON a.id = \
+        o.account WHERE o.crate = ?1 ORDER BY a.id",
         params![crate_id],
     )
 }

@@ -104,7 +104,8 @@ pub fn insert<S: Alter>(
 {
     write(
         conn,
-        "INSERT INTO tokens (id, digest, account, live, publish_new, publish_update, yank, change_owners) VALUES (?1, ?2, ?3, 1, ?4, ?5, ?6, ?7)",
+        "INSERT INTO tokens (id, digest, account, live, publish_new, publish_update, yank, \
+        change_owners) VALUES (?1, ?2, ?3, 1, ?4, ?5, ?6, ?7)",
         params![
             id,
             digest.as_slice(),
@@ -140,7 +141,9 @@ pub fn by_digest<S: Alter>(
 {
     select_one(
         conn,
-        "SELECT t.id, t.account, t.live, t.publish_new, t.publish_update, t.yank, t.change_owners, a.login, a.enabled FROM tokens t JOIN accounts a ON a.id = t.account WHERE t.digest = ?1",
+        "SELECT t.id, t.account, t.live, t.publish_new, t.publish_update, t.yank, \
+        t.change_owners, a.login, a.enabled FROM tokens t JOIN accounts a ON a.id = t.account \
+        WHERE t.digest = ?1",
         params![digest.as_slice()],
     )
 }
@@ -154,7 +157,8 @@ pub fn all<S: Alter>(alloc: Global, conn: &mut Connection<S>) -> Result<Vec<Toke
     select_list(
         alloc,
         conn,
-        "SELECT id, digest, account, live, publish_new, publish_update, yank, change_owners FROM tokens ORDER BY id",
+        "SELECT id, digest, account, live, publish_new, publish_update, yank, change_owners FROM \
+        tokens ORDER BY id",
         &[],
     )
 }

@@ -69,7 +69,8 @@ pub fn insert<S: Alter>(
 {
     write(
         conn,
-        "INSERT INTO versions (id, crate, vers, release, digest, stem, description, yanked) VALUES (?1, ?2, ?3, ?4, ?5, ?6, ?7, 0)",
+        "INSERT INTO versions (id, crate, vers, release, digest, stem, description, yanked) \
+        VALUES (?1, ?2, ?3, ?4, ?5, ?6, ?7, 0)",
         params![
             id as i64,
             crate_id,
@@ -114,7 +115,8 @@ pub fn of_crate<S: Alter>(
     select_list(
         alloc,
         conn,
-        "SELECT id, crate, vers, release, digest, stem, description, yanked FROM versions WHERE crate = ?1 ORDER BY id",
+        "SELECT id, crate, vers, release, digest, stem, description, yanked FROM versions WHERE \
+        crate = ?1 ORDER BY id",
         params![crate_id],
     )
 }
@@ -128,7 +130,8 @@ pub fn all<S: Alter>(alloc: Global, conn: &mut Connection<S>) -> Result<Vec<Vers
     select_list(
         alloc,
         conn,
-        "SELECT id, crate, vers, release, digest, stem, description, yanked FROM versions ORDER BY id",
+        "SELECT id, crate, vers, release, digest, stem, description, yanked FROM versions ORDER \
+        BY id",
         &[],
     )
 }

@@ -11,7 +11,7 @@ use Rattle.sqlite.specs.State.{State}
 use Rattle.sqlite.specs.Tree.{Trees}
 use Rattle.reg_model.specs.Registry.{Text, text_cmp, empty_at}
 use Rattle.reg_schema.specs.States.{IsAtRest, IsMade}
-use Rattle.reg_tables.specs.Stands.{HaveOwnRowids, StandCrates, Stands}
+use Rattle.reg_stored.specs.Stands.{HaveOwnRowids, StandCrates, Stands}
 
 none_are : (rows : List Row) → rows ≡ [] → IsPermutation [] rows
 none_are rows e = subst (IsPermutation []) (sym e) (IsPermutation-refl [])

@@ -6,6 +6,9 @@ use Rattle.reg_tables.specs.declared.reader.Reader.{Reader}
 use Rattle.reg_tables.specs.declared.tables.Tables.{Tables}
 use Rattle.reg_tables.specs.contracts.tables.Tables.{the_row}
 
--- once nothing is read any more the tables are the same but for their connection, which is as the reading left it
-abbrev pub LendsReader : (S : RattleType) (g : Ghosts S.Denot) → MutBor (Tables S.Denot) → Reader S.Denot → Fml
-LendsReader S g t r = Lends (the_row S g) (connection.the_row S g) t r.conn (λ w. record t.now { conn = w })
+-- once nothing is read any more the tables are the same but for their connection, which is as the
+-- reading left it
+abbrev pub LendsReader : (S : RattleType) (g : Ghosts S.Denot) → MutBor (Tables S.Denot)
+    → Reader S.Denot → Fml
+LendsReader S g t r = Lends (the_row S g) (connection.the_row S g) t r.conn
+    (λ w. record t.now { conn = w })

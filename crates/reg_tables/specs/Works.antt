@@ -1,9 +1,11 @@
 -- The tables and a transaction of them, as a caller sees them.
-use Rattle.std.specs.Prelude.{◌≡◌, ◌⊎◌, Bool, true, false, Result, OnOk, OnErr, IsTrue}
+use Rattle.std.specs.Prelude.{◌≡◌, ◌⊎◌, Bool, true, false, Result, IfOk, OnOk, OnErr}
 use Rattle.sqlite_trees.specs.declared.store.Store.{Ghosts}
 use Rattle.sqlite.specs.Held.{Held, state}
-use Rattle.sqlite.specs.State.{State, HasCleanDisk, KeepsCommit, Survives}
-use Rattle.reg_schema.specs.States.{IsInside, IsReady, IsOurs, Refuses}
+use Rattle.sqlite.specs.State.{State, HasCleanDisk, IsUnchanged, Survives}
+use Rattle.sqlite.specs.Tree.{Trees}
+use Rattle.reg_schema.specs.States.{IsReady, IsOurs, Refuses}
+use Rattle.reg_schema.specs.Steps.{Fails, Within}
 use Rattle.reg_tables.specs.declared.tables.Tables.{Tables}
 use Rattle.reg_tables.specs.declared.work.Work.{Work}
 
@@ -36,26 +38,16 @@ pub record IsAtWork {S : Type 0} (g : Ghosts S) (w : Work S) : Type 0 where
   pub ours : IsOurs (seen g w)
   pub ready : has_failed w ≡ false → IsReady (seen g w)
 
--- what is seen has changed within the transaction, and nothing is committed
-pub record Within (old new : State) : Type 0 where
-  pub was_open : IsTrue old.is_open
-  pub committed : new.committed ≡ old.committed
-  pub inside : IsInside new
-  pub ours : IsOurs old → IsOurs new
-
--- a fault within a transaction: of what is seen nothing is said but that it is ours, and nothing is committed
-pub record Fails (old new : State) : Type 0 where
-  pub kept : KeepsCommit old new
-  pub ours : IsOurs old → IsOurs new
-
 -- the tables where no transaction was begun
 pub record IsLeft {S : Type 0} (g : Ghosts S) (old new : Tables S) : Type 0 where
-  pub refused : HasCleanDisk (shown g new) → (held new ≡ held old) ⊎ Refuses (shown g old) (shown g new)
+  pub refused : HasCleanDisk (shown g new) → (held new ≡ held old) ⊎ Refuses (shown g old)
+      (shown g new)
   pub ours : AreOurs g new
   pub shut : is_shut new ≡ is_shut old
   pub survives : Survives (shown g old) (shown g new) (λ _. ⊥)
 
--- what a call in a transaction leaves: its changes are within it, and nothing is committed; a fault ends it, and a stop leaves what it could leave before
+-- what a call in a transaction leaves: its changes are within it, and nothing is committed;
+-- a fault ends it, and a stop leaves what it could leave before
 pub record IsCall {S T E : Type 0} (g : Ghosts S) (r : Result T E) (old new : Work S) : Type 0 where
   pub same_reference : new.tables.ghost_name ≡ old.tables.ghost_name
   pub same_mode : is_shut new.tables.now ≡ is_shut old.tables.now
@@ -65,3 +57,18 @@ pub record IsCall {S T E : Type 0} (g : Ghosts S) (r : Result T E) (old new : Wo
   pub within : HasCleanDisk (seen g new) → OnOk r (Within (seen g old) (seen g new))
   pub failed : HasCleanDisk (seen g new) → OnErr r (Fails (seen g old) (seen g new))
   pub survives : Survives (seen g old) (seen g new) (λ _. ⊥)
+
+-- the rows that a transaction sees, by the tree of their table
+abbrev pub rows_seen : {S : Type 0} → Ghosts S → Work S → Trees
+rows_seen g w = (seen g w).now.trees
+
+-- this is true of what a call answers, and this where it answers
+abbrev pub Heard : {S T E : Type 0} → Ghosts S → Work S → Result T E → (T → Type 0) → Type 0
+Heard g w r tells = HasCleanDisk (seen g w) → IfOk r tells
+
+abbrev pub Carried : {S T E : Type 0} → Ghosts S → Work S → Result T E → Type 0 → Type 0
+Carried g w r change = HasCleanDisk (seen g w) → OnOk r change
+
+-- where it answers, all is as it was
+abbrev pub Unmoved : {S T E : Type 0} → Ghosts S → Result T E → Work S → Work S → Type 0
+Unmoved g r old new = HasCleanDisk (seen g new) → OnOk r (IsUnchanged (seen g old) (seen g new))

@@ -8,7 +8,3 @@ mod owners;
 mod reserved;
 mod tokens;
 mod whole_rows;
-
-pub use counts::Counts;
-pub use crates::NewVersion;
-pub use tokens::{TokenLists, TokenRows};

@@ -1,32 +1,29 @@
-//! The registry kept in tables: typed calls on them, in transactions.
+//! The registry kept in tables: a file or a store is made or taken over, and typed calls run on it
+//! in transactions.
+//!
+//! ```text
+//! let mut work = tables.work()?;
+//! let ada = work.add_account("ada", Some("Ada"))?;
+//! work.commit()?;
+//! ```
 #![tactic(auto)]
 
-mod about;
-mod accounts;
-mod all_rows;
-mod archives;
 mod calls;
-mod crates;
-mod owners;
 mod reader;
-mod records;
-mod reserved;
-mod rows;
-mod scopes;
 mod tables;
-mod tokens;
-mod versions;
 mod work;
 
-pub use accounts::Account;
-pub use all_rows::AllRows;
-pub use calls::{Counts, NewVersion, TokenLists, TokenRows};
-pub use crates::Crate;
-pub use owners::{Owner, Ownership};
 pub use reader::Reader;
 pub use reg_schema::MakeFault;
-pub use scopes::Scope;
+pub use reg_statements::accounts::Account;
+pub use reg_statements::crates::Crate;
+pub use reg_statements::owners::Ownership;
+pub use reg_statements::scopes::Scope;
+pub use reg_statements::tokens::{Token, TokenRow};
+pub use reg_statements::versions::Version;
+pub use reg_stored::all_rows::AllRows;
+pub use reg_stored::counts::Counts;
+pub use reg_stored::crates::NewVersion;
+pub use reg_stored::tokens::{TokenLists, TokenRows};
 pub use tables::Tables;
-pub use tokens::{Token, TokenRow};
-pub use versions::Version;
 pub use work::{StoreFault, Work};

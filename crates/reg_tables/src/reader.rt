@@ -26,13 +26,18 @@ impl<'t, S: Alter> Reader<'t, S> {
     pub fn rows(self, text: &str, params: &[ValueRef<'_>]) -> Result<Rows<'t, S>, Error>
         requires ours { IsOurs (state S.Store (reached self)) }
         requires reads { IsPlain (understood ours text.now) }
-        ensures* refused { sem 𝓛 (RestsIfErr (connection.the_row S.row S.Store) self.entry.conn (λ rows. rows.conn.ghost_name) result (IsSpared S.Store (reached self.entry))) }
-        ensures same_reference { IfOk result (λ rows. rows.conn.ghost_name ≡ self.entry.conn.ghost_name) }
-        ensures begun { IfOk result (λ rows. HasCleanDisk (state S.Store rows.conn.now) → HasGiven S.Store text.now (bound params.now) rows.conn.now []) }
-        ensures same { IfOk result (λ rows. HasCleanDisk (state S.Store rows.conn.now) → IsUnchanged (state S.Store (reached self.entry)) (state S.Store rows.conn.now)) }
+        ensures* refused { sem 𝓛 (RestsIfErr (connection.the_row S.row S.Store) self.entry.conn
+            (λ rows. rows.conn.ghost_name) result (IsSpared S.Store (reached self.entry))) }
+        ensures same_reference { IfOk result (λ rows. rows.conn.ghost_name
+            ≡ self.entry.conn.ghost_name) }
+        ensures begun { IfOk result (λ rows. HasCleanDisk (state S.Store rows.conn.now)
+            → HasGiven S.Store text.now (bound params.now) rows.conn.now []) }
+        ensures same { IfOk result (λ rows. HasCleanDisk (state S.Store rows.conn.now) → IsUnchanged
+            (state S.Store (reached self.entry)) (state S.Store rows.conn.now)) }
         ensures ours { IfOk result (λ rows. IsOurs (state S.Store rows.conn.now)) }
         ensures open { IfOk result (λ _. is_closed self.entry ≡ false) }
-        ensures survives { IfOk result (λ rows. Survives (state S.Store (reached self.entry)) (state S.Store rows.conn.now) (λ _. ⊥)) }
+        ensures survives { IfOk result (λ rows. Survives (state S.Store (reached self.entry))
+            (state S.Store rows.conn.now) (λ _. ⊥)) }
     {
         let Reader { conn, shut } = self;
         if shut {
@@ -50,12 +55,16 @@ fn rows_of<'c, S: Alter>(
 ) -> Result<Rows<'c, S>, Error>
     requires ours { IsOurs (state S.Store conn.old) }
     requires reads { IsPlain (understood ours text.now) }
-    ensures* refused { sem 𝓛 (RestsIfErr (connection.the_row S.row S.Store) conn.entry (λ rows. rows.conn.ghost_name) result (IsSpared S.Store conn.old)) }
+    ensures* refused { sem 𝓛 (RestsIfErr (connection.the_row S.row S.Store) conn.entry
+        (λ rows. rows.conn.ghost_name) result (IsSpared S.Store conn.old)) }
     ensures same_reference { IfOk result (λ rows. rows.conn.ghost_name ≡ conn.entry.ghost_name) }
-    ensures begun { IfOk result (λ rows. HasCleanDisk (state S.Store rows.conn.now) → HasGiven S.Store text.now (bound params.now) rows.conn.now []) }
-    ensures same { IfOk result (λ rows. HasCleanDisk (state S.Store rows.conn.now) → IsUnchanged (state S.Store conn.old) (state S.Store rows.conn.now)) }
+    ensures begun { IfOk result (λ rows. HasCleanDisk (state S.Store rows.conn.now)
+        → HasGiven S.Store text.now (bound params.now) rows.conn.now []) }
+    ensures same { IfOk result (λ rows. HasCleanDisk (state S.Store rows.conn.now) → IsUnchanged
+        (state S.Store conn.old) (state S.Store rows.conn.now)) }
     ensures ours { IfOk result (λ rows. IsOurs (state S.Store rows.conn.now)) }
-    ensures survives { IfOk result (λ rows. Survives (state S.Store conn.old) (state S.Store rows.conn.now) (λ _. ⊥)) }
+    ensures survives { IfOk result (λ rows. Survives (state S.Store conn.old)
+        (state S.Store rows.conn.now) (λ _. ⊥)) }
 {
     let statement = conn.prepare(text)?;
     conn.query_prepared(&statement, params)

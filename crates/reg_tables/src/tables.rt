@@ -7,22 +7,23 @@ ghost use Rattle.sqlite.specs.Held.{state};
 ghost use Rattle.reg_model.specs.Registry.{empty_at};
 ghost use Rattle.reg_schema.specs.Schema.{blank, ours};
 ghost use Rattle.reg_schema.specs.States.{IsAtRest, IsMade, IsOurs, IsUndone};
-ghost use Rattle.reg_tables.specs.Bases.{HasBase, LacksBase};
+ghost use Rattle.reg_statements.specs.Abouts.{HasBase, LacksBase};
 ghost use Rattle.reg_tables.specs.contracts.tables.Tables.{the_row};
 ghost use Rattle.reg_tables.specs.Lending.{LendsReader};
 ghost use Rattle.reg_tables.specs.Readers.{is_closed, reached};
-ghost use Rattle.reg_tables.specs.Stands.{Stands};
+ghost use Rattle.reg_stored.specs.Stands.{Stands};
 ghost use Rattle.reg_tables.specs.Works.{AreOurs, IsAtWork, IsLeft, has_failed, held, is_shut, seen, shown};
 
-use crate::about;
 use crate::reader::Reader;
 use crate::work::{StoreFault, Work};
 use reg_schema::laws::rest_law;
 use reg_schema::{MakeFault, begin, is_ours, make_tables, undo};
+use reg_statements::about;
 use sqlite::{Alter, Connection, Error};
 use std::alloc::Global;
 
-/// The tables of a registry. After a commit that was refused they answer nothing more: what the store then holds is seen by opening it again.
+/// The tables of a registry. After a commit that was refused they answer nothing more: what the
+/// store then holds is seen by opening it again.
 #[derive(Drop)]
 pub struct Tables<S: Alter> {
     pub(crate) conn: Connection<S>,
@@ -31,9 +32,12 @@ pub struct Tables<S: Alter> {
 
 fn read_base<S: Alter>(conn: &mut Connection<S>) -> Result<bool, Error>
     requires ours { IsOurs (state S.Store conn.old) }
-    ensures found { HasCleanDisk (state S.Store conn.new) → IfOk result (λ has. IsTrue has → HasBase (state S.Store conn.old).now.trees) }
-    ensures lacks { HasCleanDisk (state S.Store conn.new) → IfOk result (λ has. has ≡ false → LacksBase (state S.Store conn.old).now.trees) }
-    ensures keeps { HasCleanDisk (state S.Store conn.new) → KeepsCommit (state S.Store conn.old) (state S.Store conn.new) }
+    ensures found { HasCleanDisk (state S.Store conn.new) → IfOk result
+        (λ has. IsTrue has → HasBase (state S.Store conn.old).now.trees) }
+    ensures lacks { HasCleanDisk (state S.Store conn.new) → IfOk result
+        (λ has. has ≡ false → LacksBase (state S.Store conn.old).now.trees) }
+    ensures keeps { HasCleanDisk (state S.Store conn.new) → KeepsCommit (state S.Store conn.old)
+        (state S.Store conn.new) }
     ensures ours { IsOurs (state S.Store conn.new) }
     ensures survives { Survives (state S.Store conn.old) (state S.Store conn.new) (λ _. ⊥) }
 {
@@ -45,9 +49,12 @@ fn read_base<S: Alter>(conn: &mut Connection<S>) -> Result<bool, Error>
 /// Whether there is one row of `about`, of schema 1. No transaction is left open.
 fn has_base<S: Alter>(conn: &mut Connection<S>) -> Result<bool, Error>
     requires ours { IsOurs (state S.Store conn.old) }
-    ensures found { HasCleanDisk (state S.Store conn.new) → IfOk result (λ has. IsTrue has → HasBase (state S.Store conn.old).now.trees) }
-    ensures lacks { HasCleanDisk (state S.Store conn.new) → IfOk result (λ has. has ≡ false → LacksBase (state S.Store conn.old).now.trees) }
-    ensures undone { HasCleanDisk (state S.Store conn.new) → IsUndone (state S.Store conn.old) (state S.Store conn.new) }
+    ensures found { HasCleanDisk (state S.Store conn.new) → IfOk result
+        (λ has. IsTrue has → HasBase (state S.Store conn.old).now.trees) }
+    ensures lacks { HasCleanDisk (state S.Store conn.new) → IfOk result
+        (λ has. has ≡ false → LacksBase (state S.Store conn.old).now.trees) }
+    ensures undone { HasCleanDisk (state S.Store conn.new) → IsUndone (state S.Store conn.old)
+        (state S.Store conn.new) }
     ensures ours { IsOurs (state S.Store conn.new) }
     ensures survives { Survives (state S.Store conn.old) (state S.Store conn.new) (λ _. ⊥) }
 {
@@ -57,20 +64,27 @@ fn has_base<S: Alter>(conn: &mut Connection<S>) -> Result<bool, Error>
 }
 
 impl<S: Alter> Tables<S> {
-    /// Makes the tables of a registry with nothing in it. With a fault the connection is handed back.
+    /// Makes the tables of a registry with nothing in it. With a fault the connection is handed
+    /// back.
     pub fn make(
         mut conn: Connection<S>,
         base: &str,
     ) -> Result<Tables<S>, (MakeFault, Connection<S>)>
-        ensures made { IfOk result (λ t. HasCleanDisk (shown S.Store t) → IsMade base.now (shown S.Store t).committed × IsAtRest (shown S.Store t)) }
-        ensures stands { IfOk result (λ t. HasCleanDisk (shown S.Store t) → Stands (empty_at base.now) (shown S.Store t).now.trees) }
+        ensures made { IfOk result (λ t. HasCleanDisk (shown S.Store t) → IsMade base.now
+            (shown S.Store t).committed × IsAtRest (shown S.Store t)) }
+        ensures stands { IfOk result (λ t. HasCleanDisk (shown S.Store t) → Stands
+            (empty_at base.now) (shown S.Store t).now.trees) }
         ensures ours { IfOk result (λ t. AreOurs S.Store t × (is_shut t ≡ false)) }
-        ensures unknown { IfErr result (λ e. (e.0 ≡ MakeFault.UnknownSchema) ↔ ((state S.Store conn).now.schema ≢ blank)) }
+        ensures unknown { IfErr result (λ e. (e.0 ≡ MakeFault.UnknownSchema) ↔
+            ((state S.Store conn).now.schema ≢ blank)) }
         ensures blank { IfOk result (λ t. (state S.Store conn).now.schema ≡ blank) }
         ensures untouched { IfErr result (λ e. e.0 ≡ MakeFault.UnknownSchema → e.1 ≡ conn) }
-        ensures undone { IfErr result (λ e. HasCleanDisk (state S.Store e.1) → e.0 ≡ MakeFault.Storage → IsUndone (state S.Store conn) (state S.Store e.1)) }
-        ensures kept { IfOk result (λ t. Survives (state S.Store conn) (shown S.Store t) (λ trees. (db : _) × IsMade base.now db × (trees ≡ db.trees))) }
-        ensures handed_back { IfErr result (λ e. Survives (state S.Store conn) (state S.Store e.1) (λ trees. (db : _) × IsMade base.now db × (trees ≡ db.trees))) }
+        ensures undone { IfErr result (λ e. HasCleanDisk (state S.Store e.1) → e.0
+            ≡ MakeFault.Storage → IsUndone (state S.Store conn) (state S.Store e.1)) }
+        ensures kept { IfOk result (λ t. Survives (state S.Store conn) (shown S.Store t)
+            (λ trees. (db : _) × IsMade base.now db × (trees ≡ db.trees))) }
+        ensures handed_back { IfErr result (λ e. Survives (state S.Store conn) (state S.Store e.1)
+            (λ trees. (db : _) × IsMade base.now db × (trees ≡ db.trees))) }
     {
         match make_tables(&mut conn, base) {
             Ok(()) => Ok(Tables { conn, shut: false }),
@@ -78,20 +92,28 @@ impl<S: Alter> Tables<S> {
         }
     }
 
-    /// Takes over tables that were made before. A store that holds anything else, or not one row of `about` of schema 1, is not known.
+    /// Takes over tables that were made before. A store that holds anything else, or not one row of
+    /// `about` of schema 1, is not known.
     pub fn adopt(
         alloc: Global,
         mut conn: Connection<S>,
     ) -> Result<Tables<S>, (MakeFault, Connection<S>)>
         requires { (state S.Store conn).in_transaction ≡ false }
-        ensures found { IfOk result (λ t. HasCleanDisk (shown S.Store t) → IsTrue (shown S.Store t).is_open → (shown S.Store t).now ≡ (state S.Store conn).now) }
-        ensures rests { IfOk result (λ t. HasCleanDisk (shown S.Store t) → IsUndone (state S.Store conn) (shown S.Store t)) }
-        ensures about { IfOk result (λ t. HasCleanDisk (shown S.Store t) → HasBase (state S.Store conn).now.trees) }
+        ensures found { IfOk result (λ t. HasCleanDisk (shown S.Store t) → IsTrue
+            (shown S.Store t).is_open → (shown S.Store t).now ≡ (state S.Store conn).now) }
+        ensures rests { IfOk result (λ t. HasCleanDisk (shown S.Store t) → IsUndone
+            (state S.Store conn) (shown S.Store t)) }
+        ensures about { IfOk result (λ t. HasCleanDisk (shown S.Store t) → HasBase
+            (state S.Store conn).now.trees) }
         ensures ours { IfOk result (λ t. AreOurs S.Store t × (is_shut t ≡ false)) }
-        ensures unknown { IfErr result (λ e. HasCleanDisk (state S.Store e.1) → e.0 ≡ MakeFault.UnknownSchema → ((state S.Store conn).now.schema ≢ ours) ⊎ LacksBase (state S.Store conn).now.trees) }
-        ensures handed_back { IfErr result (λ e. HasCleanDisk (state S.Store e.1) → IsUndone (state S.Store conn) (state S.Store e.1)) }
+        ensures unknown { IfErr result (λ e. HasCleanDisk (state S.Store e.1) → e.0
+            ≡ MakeFault.UnknownSchema → ((state S.Store conn).now.schema ≢ ours) ⊎ LacksBase
+            (state S.Store conn).now.trees) }
+        ensures handed_back { IfErr result (λ e. HasCleanDisk (state S.Store e.1) → IsUndone
+            (state S.Store conn) (state S.Store e.1)) }
         ensures kept { IfOk result (λ t. Survives (state S.Store conn) (shown S.Store t) (λ _. ⊥)) }
-        ensures left { IfErr result (λ e. Survives (state S.Store conn) (state S.Store e.1) (λ _. ⊥)) }
+        ensures left { IfErr result (λ e. Survives (state S.Store conn) (state S.Store e.1)
+            (λ _. ⊥)) }
     {
         rest_law(&conn);
         match is_ours(alloc, conn.schema()) {
@@ -130,12 +152,17 @@ impl<S: Alter> Tables<S> {
     /// Begins a transaction.
     pub fn work(&mut self) -> Result<Work<'_, S>, StoreFault>
         requires { AreOurs S.Store self.old }
-        ensures* refused { sem 𝓛 (RestsIfErr (the_row S.row S.Store) self.entry (λ w. w.tables.ghost_name) result (IsLeft S.Store self.old)) }
+        ensures* refused { sem 𝓛 (RestsIfErr (the_row S.row S.Store) self.entry
+            (λ w. w.tables.ghost_name) result (IsLeft S.Store self.old)) }
         ensures same_reference { IfOk result (λ w. w.tables.ghost_name ≡ self.entry.ghost_name) }
-        ensures begun { IfOk result (λ w. (has_failed w ≡ false) × (HasCleanDisk (seen S.Store w) → Shows (shown S.Store self.old) (seen S.Store w) (shown S.Store self.old).now (shown S.Store self.old).committed true)) }
+        ensures begun { IfOk result (λ w. (has_failed w ≡ false)
+            × (HasCleanDisk (seen S.Store w) → Shows (shown S.Store self.old) (seen S.Store w)
+            (shown S.Store self.old).now (shown S.Store self.old).committed true)) }
         ensures at_work { IfOk result (IsAtWork S.Store) }
-        ensures open { IfOk result (λ w. (is_shut self.old ≡ false) × (is_shut w.tables.now ≡ false)) }
-        ensures survives { IfOk result (λ w. Survives (shown S.Store self.old) (seen S.Store w) (λ _. ⊥)) }
+        ensures open { IfOk result (λ w. (is_shut self.old ≡ false)
+            × (is_shut w.tables.now ≡ false)) }
+        ensures survives { IfOk result (λ w. Survives (shown S.Store self.old) (seen S.Store w)
+            (λ _. ⊥)) }
     {
         if self.shut {
             return Err(StoreFault);

@@ -1,9 +1,9 @@
 use Rattle.std.proofs.Common.{◌≡◌, ◌∙◌, arith, sym, subst, true}
 use Rattle.sqlite.specs.State.{HasCleanDisk, IsUnchanged}
 use Rattle.sqlite.specs.Effect.{Database}
-use Rattle.reg_tables.specs.WholeRows.{archives_with_id}
+use Rattle.reg_statements.specs.Archives.{archives_with_id}
 use Rattle.reg_tables.specs.Works.{seen}
-use Rattle.reg_tables.proofs.Readings.{unchanged_then}
+use Rattle.reg_stored.proofs.Readings.{same_then}
 use Rattle.reg_audit.specs.Checks.{is_archive}
 use Rattle.reg_audit.proofs.Looking.{looks_then}
 use Rattle.reg_audit.proofs.SameIds.{all_more, all_taken}
@@ -17,7 +17,7 @@ loop-version-preserved g c =
     let i = c.loop-version.version-index in
     let looks = c.has_archive.ensures.looks in
     let early : HasCleanDisk new → HasCleanDisk mid = λ clean. omega (arith, clean, looks.survives.clean) in
-    let same : HasCleanDisk new → IsUnchanged old new = λ clean. unchanged_then old mid new (c.loop-version.invariant.2 (early clean)) (c.in_ok-has_archive.ensures.same clean) in
+    let same : HasCleanDisk new → IsUnchanged old new = λ clean. same_then old mid new (c.loop-version.invariant.2 (early clean)) (c.in_ok-has_archive.ensures.same clean) in
     let passes : HasCleanDisk new → is_archive c.version-item.result.digest.items (archives_with_id c.version-item.result.id old.now.trees) ≡ true = λ clean.
     subst (λ (d : Database). is_archive c.version-item.result.digest.items (archives_with_id c.version-item.result.id d.trees) ≡ true) (c.loop-version.invariant.2 (early clean)).0.now_is (sym (c.in_ok-has_archive.ensures.found clean) ∙ c.if-not-branch.false) in (
       λ clean. all_more (λ v. is_archive v.digest.items (archives_with_id v.id old.now.trees)) c.args.versions.now i c.version-item.result c.loop-version-test.true c.version-item.is (c.loop-version.invariant.0 (early clean)) (passes clean),

@@ -1,9 +1,9 @@
 use Rattle.std.proofs.Common.{IfOk, arith, ap, subst, ◌∙◌, sym}
 use Rattle.sqlite.specs.State.{HasCleanDisk}
 use Rattle.sqlite.specs.Effect.{Database}
-use Rattle.reg_tables.specs.WholeRows.{AreAllRows}
+use Rattle.reg_stored.specs.WholeRows.{AreAllRows}
 use Rattle.reg_tables.specs.Works.{is_shut, seen, shown}
-use Rattle.reg_tables.specs.declared.all_rows.AllRows.{AllRows}
+use Rattle.reg_stored.specs.declared.all_rows.AllRows.{AllRows}
 use Rattle.reg_audit.specs.Checks.{IsFirst}
 use Rattle.reg_audit.proofs.opening.audit.Goals as goal
 

@@ -1,0 +1,123 @@
+-- What the stored crates and versions say of one another.
+use Rattle.std.proofs.Common.{◌≡◌, ◌==◌, ℕ, ◌<◌, pos, List, [], ◌∷◌, ◌++◌, map, Bool, true, false, inl, refl, sym, ap, subst, ◌∙◌, arith}
+use Rattle.std.specs.Prelude.{nat_eq}
+use Rattle.std.specs.List.{list_any, IsDistinct}
+use Rattle.std.specs.List.Sorted.{IsPermutation}
+use Rattle.std.specs.Ordering.{on, eq_by_cmp}
+use Rattle.std.specs.Cmp.{nat_eq_equiv}
+use Rattle.std.specs.Cmp.Lexicographic.{nat_list_eq_equiv}
+use Rattle.std.specs.Str.{bytes_eq}
+use Rattle.std.specs.FinSet as finset
+use Rattle.std.proofs.lemmas.Bool.{and_parts, eq-eqb, eqb-true, ne_eqb}
+use Rattle.std.proofs.lemmas.List.Sorted.{IsPermutation-cons, IsPermutation-map, IsPermutation-sym, IsPermutation-to_front, IsPermutation-trans}
+use Rattle.std.proofs.lemmas.Slice.Eq.{bytes_eq-Decides}
+use Rattle.sqlite.specs.Order.{Row}
+use Rattle.sqlite.specs.Tree.{Trees}
+use Rattle.sqlite_trees.specs.Tree.{has_rowid}
+use Rattle.reg_names.specs.Names.{canon}
+use Rattle.reg_model.specs.Registry.{Text, Publication, Owner, owner_cmp, mark_cmp}
+use Rattle.reg_model.specs.Crates.{collides}
+use Rattle.reg_model.proofs.Keys.{owner_total, owner_apart, same_key, ties_itself}
+use Rattle.reg_model.proofs.Lists.{not_true, true_not_false}
+use Rattle.reg_stored.specs.Stands.{StoredCrate, StoredVersion, row_of_crate, StandCrates, IsCrate, is_of}
+use Rattle.reg_stored.proofs.Members.{IsIn, any_in, all_in, in_filter, in_map, in_permuted, map_in, one_of, one_passes}
+use Rattle.reg_stored.proofs.Permutes.{one_row}
+use Rattle.reg_stored.proofs.Standing.{same_number}
+
+-- equal texts and numbers, from their tests
+pub same_bytes : (a b : Text) → bytes_eq a b ≡ true → a ≡ b
+same_bytes a b h = (bytes_eq-Decides a b).0 h
+
+pub text_itself : (a : Text) → bytes_eq a a ≡ true
+text_itself a = (bytes_eq-Decides a a).1 refl
+
+pub bytes_same : (a b : Text) → a ≡ b → bytes_eq a b ≡ true
+bytes_same a b e = (bytes_eq-Decides a b).1 e
+
+pub below_other : (n m : ℕ) → n < m → (n == m) ≡ false
+below_other n m h = ne_eqb n m (λ e. omega (arith, e, h))
+
+pub above_other : (n m : ℕ) → m < n → (n == m) ≡ false
+above_other n m h = ne_eqb n m (λ e. omega (arith, e, h))
+
+-- one more row, where one more element is the last
+pub pushed : {X : Type 0} (row : X → Row) (xs : List X) (x : X) (rows after : List Row) → IsPermutation (map row xs) rows → IsPermutation (row x ∷ rows) after → IsPermutation (map row (xs ++ x ∷ [])) after
+pushed row xs x rows after h put =
+    IsPermutation-trans _ (map row (x ∷ xs)) _ (IsPermutation-map row (xs ++ x ∷ []) (x ∷ xs) (IsPermutation-to_front xs x))
+    (IsPermutation-trans _ (row x ∷ rows) _ (IsPermutation-cons (row x) (map row xs) rows h) put)
+
+-- owners of one crate differ by the account, and owners of two crates by the crate
+pub same_owner : (c : Text) (a b : ℕ) → eq_by_cmp owner_cmp (c, a) (c, b) ≡ (b == a)
+same_owner c a b = split (b == a) refl
+  where
+    split : (t : Bool) → (b == a) ≡ t → eq_by_cmp owner_cmp (c, a) (c, b) ≡ t
+    split true e = subst (λ (n : ℕ). eq_by_cmp owner_cmp (c, a) (c, n) ≡ true) (sym (eqb-true b a e)) (ties_itself owner_total (c, a))
+    split false e = not_true _ (λ tied.
+        let q : Owner = (c, a) in
+        let k : Owner = (c, b) in
+        true_not_false (b == a) (eq-eqb b a (ap (λ x. x.1) (sym (same_key owner_apart q k tied)))) e)
+
+pub other_owner : (c d : Text) (a b : ℕ) → bytes_eq c d ≡ false → eq_by_cmp owner_cmp (c, a) (d, b) ≡ false
+other_owner c d a b h = not_true _ (λ tied.
+    let q : Owner = (c, a) in
+    let k : Owner = (d, b) in
+    true_not_false (bytes_eq c d) (bytes_same c d (ap (λ x. x.0) (same_key owner_apart q k tied))) h)
+
+module _ (crates : List StoredCrate) (db : Trees) (rows : IsPermutation (map row_of_crate crates) (db 7)) where
+  -- the stored crate that a row shows
+  pub crate_in : (id : ℕ) (name : Text) → IsCrate db id name → IsIn (id, name) crates
+  crate_in id name is =
+      let row = row_of_crate (id, name) in
+      let there : IsIn row (db 7) = in_filter (has_rowid (pos id)) (db 7) row (subst (IsIn row) (sym is) (inl refl)) in
+      let stored = map_in row_of_crate crates row (in_permuted (db 7) (map row_of_crate crates) row (IsPermutation-sym _ _ rows) there) in
+      subst (λ (c : StoredCrate). IsIn c crates) (one_crate stored.0 id name stored.2) stored.1
+    where
+      one_crate : (c : StoredCrate) (id : ℕ) (name : Text) → row_of_crate c ≡ row_of_crate (id, name) → c ≡ (id, name)
+      one_crate c id name e = let n : c.0 ≡ id = cc in let t : c.1 ≡ name = cc in λ i. (n i, t i)
+
+  pub is_crate : (id : ℕ) (name : Text) → IsDistinct (on (λ c. c.0) nat_eq) crates → IsIn (id, name) crates → IsCrate db id name
+  is_crate id name ids there =
+      let has : (c : StoredCrate) → has_rowid (pos id) (row_of_crate c) ≡ (c.0 == id) = λ c. same_number c.0 id in
+      let c : StoredCrate = (id, name) in
+      let passes = has c ∙ eq-eqb id id refl in
+      one_row row_of_crate (has_rowid (pos id)) c crates (db 7) rows
+      (one_passes (on (λ c. c.0) nat_eq) (λ d. has_rowid (pos id) (row_of_crate d)) crates c ids (λ d e i j p q. eq-eqb d.0 e.0 (eqb-true d.0 id (sym (has d) ∙ p) ∙ sym (eqb-true e.0 id (sym (has e) ∙ q)))) there passes)
+
+module _ (publications : List Publication) (held : finset.FinSet owner_cmp) (yanked : finset.FinSet mark_cmp) (db : Trees) (stands : StandCrates publications held yanked db) where
+  -- a stored version is published, and a publication is stored
+  pub is_published : (v : StoredVersion) → IsIn v stands.versions → IsIn v.publication publications
+  is_published v i = subst (IsIn v.publication) stands.published (in_map (λ v. v.publication) stands.versions v i)
+
+  pub is_stored : (p : Publication) → IsIn p publications → (v : StoredVersion) × IsIn v stands.versions × (v.publication ≡ p)
+  is_stored p i = map_in (λ v. v.publication) stands.versions p (subst (IsIn p) (sym stands.published) i)
+
+  -- each stored crate has a version, and each version a crate
+  pub version_of : (c : StoredCrate) → IsIn c stands.crates → (v : StoredVersion) × IsIn v stands.versions × (c.0 ≡ v.of_crate) × (c.1 ≡ v.publication.name)
+  version_of c i =
+      let found = any_in (is_of c) stands.versions (all_in (λ c. list_any (is_of c) stands.versions) stands.crates c stands.used i) in
+      let parts = and_parts (c.0 == found.0.of_crate) (bytes_eq c.1 found.0.publication.name) found.2 in
+      (found.0, found.1, eqb-true _ _ parts.0, same_bytes _ _ parts.1)
+
+  pub crate_of : (v : StoredVersion) → IsIn v stands.versions → (c : StoredCrate) × IsIn c stands.crates × (c.0 ≡ v.of_crate) × (c.1 ≡ v.publication.name)
+  crate_of v i =
+      let found = any_in (λ c. is_of c v) stands.crates (all_in (λ v. list_any (λ c. is_of c v) stands.crates) stands.versions v stands.of_crates i) in
+      let parts = and_parts (found.0.0 == v.of_crate) (bytes_eq found.0.1 v.publication.name) found.2 in
+      (found.0, found.1, eqb-true _ _ parts.0, same_bytes _ _ parts.1)
+
+  -- crates of one id are one, and so are those of one canonical text
+  pub one_by_id : (c d : StoredCrate) → IsIn c stands.crates → IsIn d stands.crates → c.0 ≡ d.0 → c ≡ d
+  one_by_id c d i j e = one_of (on (λ c. c.0) nat_eq) (λ a b. nat_eq_equiv.symm a.0 b.0) stands.crates c d stands.ids i j (eq-eqb c.0 d.0 e)
+
+  pub one_by_canon : (c d : StoredCrate) → IsIn c stands.crates → IsIn d stands.crates → canon c.1 ≡ canon d.1 → c ≡ d
+  one_by_canon c d i j e = one_of (on (λ c. canon c.1) bytes_eq) (λ a b. nat_list_eq_equiv.symm (canon a.1) (canon b.1)) stands.crates c d stands.canons i j (bytes_same _ _ e)
+
+  -- a version is of a crate by its id exactly where it is by its name
+  pub same_crate : (id : ℕ) (name : Text) → IsIn (id, name) stands.crates → (v : StoredVersion) → IsIn v stands.versions → (v.of_crate == id) ≡ collides v.publication.name name
+  same_crate id name there v i = split (collides v.publication.name name) refl
+    where
+      c : (c : StoredCrate) × IsIn c stands.crates × (c.0 ≡ v.of_crate) × (c.1 ≡ v.publication.name)
+      c = crate_of v i
+
+      split : (b : Bool) → collides v.publication.name name ≡ b → (v.of_crate == id) ≡ b
+      split true e = eq-eqb _ _ (sym c.2 ∙ ap (λ d. d.0) (one_by_canon c.0 (id, name) c.1 there (ap canon c.3 ∙ same_bytes _ _ e)))
+      split false e = not_true _ (λ t. true_not_false _ (bytes_same _ _ (ap canon (sym c.3 ∙ ap (λ d. d.1) (one_by_id c.0 (id, name) c.1 there (c.2 ∙ eqb-true _ _ t))))) e)

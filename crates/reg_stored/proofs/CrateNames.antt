@@ -1,0 +1,104 @@
+-- The crate of a canonical name, as a selection shows it.
+use Rattle.std.proofs.Common.{◌≡◌, ◌==◌, inl, inr, List, [], ◌∷◌, map, Bool, true, false, cond, Option, Some, None, refl, sym, ap, subst, ◌∙◌}
+use Rattle.std.specs.Prelude.{IfSome, string_bytes}
+use Rattle.std.specs.Option.{option_map}
+use Rattle.std.specs.FinSet as finset
+use Rattle.std.specs.List.{filter, find, list_any}
+use Rattle.std.specs.Str.{bytes_eq}
+use Rattle.std.proofs.lemmas.Bool.{and_parts}
+use Rattle.sqlite.specs.Tree.{Trees}
+use Rattle.reg_names.specs.Names.{canon}
+use Rattle.reg_model.specs.Registry.{Text as Words, Publication, owner_cmp, mark_cmp}
+use Rattle.reg_model.specs.Crates.{collides}
+use Rattle.reg_model.proofs.Lists.{true_not_false, not_true}
+use Rattle.reg_statements.specs.declared.crates.Crate.{Crate}
+use Rattle.reg_statements.specs.Crates.{crate_columns}
+use Rattle.reg_stored.specs.Entries.{one_of, entry_of_crate}
+use Rattle.reg_schema.specs.Shown.{shown_of}
+use Rattle.reg_stored.specs.Stands.{StoredCrate, StoredVersion, row_of_crate, is_of, IsCrate, StandCrates}
+use Rattle.reg_schema.specs.Tests.{is_text, shows}
+use Rattle.reg_stored.proofs.AccountEntries.{same_text, number_is, words_are, heads, tails}
+use Rattle.reg_stored.proofs.CrateLemmas.{same_bytes, bytes_same, crate_of, is_crate}
+use Rattle.reg_stored.proofs.Members.{IsIn, any_in, all_in, filtered_passes, in_filter}
+use Rattle.reg_stored.proofs.Selected.{selected_one}
+
+kept : {X : Type 0} (p : X → Bool) (xs : List X) (x : X) → IsIn x xs → p x ≡ true → IsIn x (filter p xs)
+kept p [] x i e = absurd i
+kept p (y ∷ ys) x i e = split (p y) refl i (λ j. kept p ys x j e)
+  where
+    split : (b : Bool) → p y ≡ b → IsIn x (y ∷ ys) → (IsIn x ys → IsIn x (filter p ys)) → IsIn x (cond b (y ∷ filter p ys) (filter p ys))
+    split true t (inl same) rest = inl same
+    split true t (inr j) rest = inr (rest j)
+    split false t (inl same) rest = true_not_false _ e (ap p (sym same) ∙ t)
+    split false t (inr j) rest = rest j
+
+pub same_shown : (c : StoredCrate) (o : Crate) → shows (0 ∷ 2 ∷ 3 ∷ []) (row_of_crate c) ≡ crate_columns o → c ≡ entry_of_crate o
+same_shown c o h = let id = number_is (heads h) in let name = words_are (heads (tails (tails h))) in λ i. (id i, name i)
+
+abbrev first_of : List Publication → Words → Option Words
+first_of ps n = option_map (λ p. p.name) (find (λ p. collides p.name n) ps)
+
+none_first : (n : Words) (vs : List StoredVersion) → ((v : StoredVersion) → IsIn v vs → collides v.publication.name n ≡ false) → first_of (map (λ v. v.publication) vs) n ≡ None
+none_first n [] h = refl
+none_first n (v ∷ vs) h = rw (h v (inl refl)) (none_first n vs (λ w i. h w (inr i)))
+
+some_first : (n name : Words) (vs : List StoredVersion) → ((v : StoredVersion) → IsIn v vs → collides v.publication.name n ≡ true → v.publication.name ≡ name) → (v : StoredVersion) → IsIn v vs → collides v.publication.name n ≡ true
+    → first_of (map (λ v. v.publication) vs) n ≡ Some name
+some_first n name [] h v i met = absurd i
+some_first n name (w ∷ vs) h v i met = split (collides w.publication.name n) refl (λ j. some_first n name vs (λ u k. h u (inr k)) v j met)
+  where
+    later : collides w.publication.name n ≡ false → IsIn v (w ∷ vs) → IsIn v vs
+    later e (inl same) = true_not_false _ (subst (λ (u : StoredVersion). collides u.publication.name n ≡ true) (sym same) met) e
+    later e (inr j) = j
+
+    split : (b : Bool) → collides w.publication.name n ≡ b → (IsIn v vs → first_of (map (λ v. v.publication) vs) n ≡ Some name) → first_of (map (λ v. v.publication) (w ∷ vs)) n ≡ Some name
+    split true e rest = rw e (ap Some (h w (inl refl) e))
+    split false e rest = rw e (rest (later e i))
+
+module _ (ps : List Publication) (owned : finset.FinSet owner_cmp) (yanked : finset.FinSet mark_cmp) (db : Trees) (h : StandCrates ps owned yanked db) where
+  abbrev named : Words → StoredCrate → Bool
+  named c x = bytes_eq (canon x.1) c
+
+  -- the crate that is shown under a canonical text
+  pub shown_crate : (c : Words) (found : Option Crate) → map (shows (0 ∷ 2 ∷ 3 ∷ [])) (filter (is_text 2 c) (db 7)) ≡ shown_of crate_columns found → filter (named c) h.crates ≡ one_of (option_map entry_of_crate found)
+  shown_crate c found e =
+      selected_one row_of_crate (shows (0 ∷ 2 ∷ 3 ∷ [])) crate_columns entry_of_crate same_shown (is_text 2 c) (named c) (λ x. same_text (canon x.1) c) h.crates (db 7) found h.crate_rows e
+
+  in_named : (c : Words) (x : StoredCrate) → IsIn x h.crates → named c x ≡ true → IsIn x (filter (named c) h.crates)
+  in_named c x i e = kept (named c) h.crates x i e
+
+  pub crate_named : (c n : Words) (found : Option Crate) → canon n ≡ c → filter (named c) h.crates ≡ one_of (option_map entry_of_crate found)
+      → (option_map (λ x. string_bytes x.name) found ≡ first_of ps n) × IfSome found (λ x. IsCrate db x.id (string_bytes x.name))
+  crate_named c n None at e = (subst (λ qs. None ≡ first_of qs n) h.published (sym (none_first n h.versions none)), tt)
+    where
+      none : (v : StoredVersion) → IsIn v h.versions → collides v.publication.name n ≡ false
+      none v i =
+          let of = crate_of ps owned yanked db h v i in
+          not_true _ (λ met. subst (IsIn of.0) e (in_named c of.0 of.1 (bytes_same _ _ (ap canon of.3 ∙ same_bytes _ _ met ∙ at))))
+  crate_named c n (Some x) at e = (subst (λ qs. Some e0.1 ≡ first_of qs n) h.published (sym (some_first n e0.1 h.versions spelled of.0 of.1 met)), is_crate h.crates db h.crate_rows e0.0 e0.1 h.ids there)
+    where
+      e0 : StoredCrate
+      e0 = entry_of_crate x
+
+      shown : IsIn e0 (filter (named c) h.crates)
+      shown = subst (IsIn e0) (sym e) (inl refl)
+
+      there : IsIn e0 h.crates
+      there = in_filter (named c) h.crates e0 shown
+
+      spelled : (v : StoredVersion) → IsIn v h.versions → collides v.publication.name n ≡ true → v.publication.name ≡ e0.1
+      spelled v i met =
+          let its = crate_of ps owned yanked db h v i in
+          only its.0 its.3 (subst (IsIn its.0) e (in_named c its.0 its.1 (bytes_same _ _ (ap canon its.3 ∙ same_bytes _ _ met ∙ at))))
+        where
+          only : (y : StoredCrate) → y.1 ≡ v.publication.name → IsIn y (e0 ∷ []) → v.publication.name ≡ e0.1
+          only y is (inl same) = sym is ∙ ap (λ d. d.1) (sym same)
+          only y is (inr none) = absurd none
+
+      of : (v : StoredVersion) × IsIn v h.versions × (is_of e0 v ≡ true)
+      of = any_in (is_of e0) h.versions (all_in (λ c. list_any (is_of c) h.versions) h.crates e0 h.used there)
+
+      met : collides of.0.publication.name n ≡ true
+      met =
+          let parts = and_parts (e0.0 == of.0.of_crate) (bytes_eq e0.1 of.0.publication.name) of.2 in
+          bytes_same (canon of.0.publication.name) (canon n) (ap canon (sym (same_bytes e0.1 of.0.publication.name parts.1)) ∙ same_bytes (canon e0.1) c (filtered_passes (named c) h.crates e0 shown) ∙ sym at)

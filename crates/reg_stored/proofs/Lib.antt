@@ -1,0 +1,35 @@
+mod AccountEntries
+mod Additions
+mod Alike
+mod AllCrates
+mod ArchiveEntries
+mod CrateChanges
+mod CrateCounts
+mod CrateLemmas
+mod CrateNames
+mod CratesStand
+mod Dropped
+mod FoundTokens
+mod Joined
+mod Members
+mod NextId
+mod Numbered
+mod OwnerChanges
+mod OwnerEntries
+mod Permutes
+pub mod Readings
+mod Removed
+mod ReservedChanges
+pub mod Results
+mod Rising
+mod Rowids
+mod ScopeRows
+mod Selected
+mod Standing
+mod Stays
+mod TokenChanges
+mod TokenEntries
+mod VersionEntries
+pub mod Withins
+mod Went
+mod Yanks

@@ -1,0 +1,89 @@
+-- The versions of a crate, as a selection shows them.
+use Rattle.std.proofs.Common.{◌≡◌, ◌==◌, inl, inr, ℕ, ◌<◌, List, [], ◌∷◌, map, Bool, true, false, nat_lt, Less, Equal, Greater, refl, sym, ap, subst, ◌∙◌, arith}
+use Rattle.std.specs.FinSet as finset
+use Rattle.std.specs.Cmp.{nat_cmp_is}
+use Rattle.std.specs.List.{filter}
+use Rattle.std.specs.List.Sorted.{IsPermutation, IsStrictlySortedBy}
+use Rattle.std.specs.Ordering.{nat_cmp}
+use Rattle.std.proofs.lemmas.Bool.{ltb-true, ltb-false}
+use Rattle.sqlite.specs.declared.types.Value.TheVariants.{Blob}
+use Rattle.sqlite.specs.Tree.{Trees}
+use Rattle.sqlite_trees.specs.Tree.{IsAscending}
+use Rattle.sqlite_trees.proofs.ListLemmas.{ascending-filter, ascending-map, ascending_weaker, all_from_map, IsPermutation-filter}
+use Rattle.reg_model.specs.Registry.{Text as Words, Publication, owner_cmp, mark_cmp}
+use Rattle.reg_model.specs.Crates.{collides}
+use Rattle.reg_schema.specs.Rows.{IsInOrder, by_column}
+use Rattle.reg_schema.proofs.Queries.{same_filter, maps_twice}
+use Rattle.reg_statements.specs.declared.versions.Version.{Version}
+use Rattle.reg_statements.specs.Versions.{columns_of_version}
+use Rattle.reg_stored.specs.Entries.{shown_version, version_shown}
+use Rattle.reg_stored.specs.Stands.{StoredVersion, row_of_version, IsCrate, StandCrates}
+use Rattle.reg_schema.specs.Tests.{is_number, shows}
+use Rattle.reg_stored.proofs.AccountEntries.{words_are, text_is, mark_is, heads, tails}
+use Rattle.reg_stored.proofs.CrateLemmas.{crate_in, same_crate}
+use Rattle.reg_stored.proofs.Members.{IsIn}
+use Rattle.reg_stored.proofs.Permutes.{filter_map}
+use Rattle.reg_stored.proofs.Selected.{shown_in_turn, each_part, column_total, number_below}
+use Rattle.reg_stored.proofs.Standing.{same_number}
+
+pub less_is : (a b : ℕ) → nat_cmp a b ≡ Less → a < b
+less_is a b h = split (nat_lt a b) (nat_lt b a) refl refl
+  where
+    split : (c d : Bool) → nat_lt a b ≡ c → nat_lt b a ≡ d → a < b
+    split true d e f = ltb-true a b e
+    split false true e f = absurd (apart (sym h ∙ sym (nat_cmp_is a b Greater (ltb-true b a f))))
+      where
+        apart : Less ≡ Greater → ⊥
+        apart e = absurd cc
+    split false false e f = absurd (apart (sym h ∙ sym (nat_cmp_is a b Equal (omega (arith, ltb-false a b e, ltb-false b a f)))))
+      where
+        apart : Less ≡ Equal → ⊥
+        apart e = absurd cc
+
+pub bytes_are : {t u : Words} → Blob t ≡ Blob u → t ≡ u
+bytes_are e = cc
+
+-- of elements that are there, what passes one test passes another that tells the same of them
+pub same_passes : {X : Type 0} (p q : X → Bool) (xs : List X) → ((x : X) → IsIn x xs → p x ≡ q x) → filter p xs ≡ filter q xs
+same_passes p q [] h = refl
+same_passes p q (x ∷ xs) h = rw (h x (inl refl), same_passes p q xs (λ y i. h y (inr i))) refl
+
+abbrev shown_places : List ℕ
+shown_places = 0 ∷ 2 ∷ 3 ∷ 4 ∷ 5 ∷ 6 ∷ 7 ∷ 8 ∷ []
+
+module _ (yanked : finset.FinSet mark_cmp) where
+  same_shown : (v : StoredVersion) (o : Version) → shows shown_places (row_of_version yanked v) ≡ columns_of_version o → version_shown yanked v.publication ≡ shown_version o
+  same_shown v o h =
+      let later = tails (tails h) in
+      let version = words_are (heads later) in
+      let release = words_are (heads (tails later)) in
+      let digest = bytes_are (heads (tails (tails later))) in
+      let stem = bytes_are (heads (tails (tails (tails later)))) in
+      let description = text_is _ _ (heads (tails (tails (tails (tails later))))) in
+      let mark = mark_is _ _ (heads (tails (tails (tails (tails (tails later)))))) in
+      λ i. record { version = version i; release = release i; digest = digest i; stem = stem i; description = description i; yanked = mark i }
+
+  ids_rise : (vs : List StoredVersion) → IsStrictlySortedBy nat_cmp (map (λ v. v.id) vs) → IsAscending (λ v w. v.id < w.id) vs
+  unfolding IsStrictlySortedBy
+  ids_rise [] h = tt
+  ids_rise (v ∷ vs) h = (Rattle.sqlite_trees.proofs.ListLemmas.all_weaker (λ w. nat_cmp v.id w.id ≡ Less) (λ w. v.id < w.id) (λ w e. less_is v.id w.id e) vs (all_from_map (λ n. nat_cmp v.id n ≡ Less) (λ w. w.id) vs h.0), ids_rise vs h.1)
+
+  pub rows_rise : (vs : List StoredVersion) → IsAscending (λ v w. v.id < w.id) vs → IsAscending (λ a b. by_column 0 a b ≡ Less) (map (row_of_version yanked) vs)
+  rows_rise vs up = ascending-map (λ a b. by_column 0 a b ≡ Less) (row_of_version yanked) vs (ascending_weaker (λ v w. v.id < w.id) (λ v w. by_column 0 (row_of_version yanked v) (row_of_version yanked w) ≡ Less) (λ v w e. number_below v.id w.id e) vs up)
+
+module _ (ps : List Publication) (owned : finset.FinSet owner_cmp) (yanked : finset.FinSet mark_cmp) (db : Trees) (h : StandCrates ps owned yanked db) where
+  pub lists_versions : (id : ℕ) (name : Words) (list : List Version) → IsCrate db id name → IsInOrder (by_column 0) (filter (is_number 2 id) (db 11)) (shows shown_places) (map columns_of_version list)
+      → map shown_version list ≡ map (version_shown yanked) (filter (λ p. collides p.name name) ps)
+  lists_versions id name list is found =
+      let row = row_of_version yanked in
+      let its = filter (λ v. v.of_crate == id) h.versions in
+      let rows : IsPermutation (map row its) (filter (is_number 2 id) (db 11)) =
+      subst (λ ys. IsPermutation ys (filter (is_number 2 id) (db 11))) (filter_map row (is_number 2 id) h.versions ∙ ap (map row) (same_filter _ _ (λ v. same_number v.of_crate id) h.versions))
+      (IsPermutation-filter (is_number 2 id) (map row h.versions) (db 11) h.version_rows) in
+      let up = rows_rise yanked its (ascending-filter (λ v w. v.id < w.id) (λ v. v.of_crate == id) h.versions (ids_rise yanked h.versions h.rising)) in
+      let shown = shown_in_turn row (shows shown_places) (by_column 0) (column_total 0) its (filter (is_number 2 id) (db 11)) (map columns_of_version list) rows up found in
+      let told = each_part (λ v. shows shown_places (row v)) columns_of_version (λ v. version_shown yanked v.publication) shown_version (same_shown yanked) its list shown in
+      let there = crate_in h.crates db h.crate_rows id name is in
+      let named = same_passes _ (λ v. collides v.publication.name name) h.versions (same_crate ps owned yanked db h id name there) in
+      told ∙ ap (map (λ v. version_shown yanked v.publication)) named ∙ sym (maps_twice (λ v. v.publication) (version_shown yanked) (filter (λ v. collides v.publication.name name) h.versions))
+      ∙ ap (map (version_shown yanked)) (sym (filter_map (λ v. v.publication) (λ p. collides p.name name) h.versions) ∙ ap (filter (λ p. collides p.name name)) h.published)

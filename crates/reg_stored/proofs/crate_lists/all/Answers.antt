@@ -1,0 +1,13 @@
+use Rattle.sqlite.specs.Held.{state}
+use Rattle.reg_stored.proofs.AllCrates.{all_there, each_is, lists_crates, rising}
+use Rattle.reg_stored.proofs.Results.{if_ok}
+use Rattle.reg_stored.proofs.crate_lists.all.Goals as goal
+
+pub returns-clause-found : goal.returns-clause-found
+returns-clause-found g c clean =
+    let db = (state g.S.Store c.args.conn.now).now.trees in
+    if_ok c.all.result
+    (λ list e s stands.
+    let shown = lists_crates s.publications s.owners s.yanked db stands.crates list.items e in
+    (each_is s.publications s.owners s.yanked db stands.crates list.items shown, rising s.publications s.owners s.yanked db stands.crates list.items shown, all_there s.publications s.owners s.yanked db stands.crates list.items shown))
+    (c.all.ensures.told clean)

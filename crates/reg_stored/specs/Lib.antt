@@ -1,0 +1,10 @@
+pub mod Additions
+pub mod Calls
+pub mod Entries
+pub mod FoundTokens
+pub mod Ids
+pub mod Numbers
+pub mod Patterns
+pub mod Stands
+pub mod TokenEntries
+pub mod WholeRows

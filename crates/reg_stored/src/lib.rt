@@ -1,0 +1,18 @@
+//! What the rows of the tables stand for: each change of the rows is a change of the registry, and
+//! each selection its part.
+//!
+//! `Stands` of `specs/` says which registry the rows are; a function here is one or more statements
+//! in a transaction, with what it is on that registry.
+//!
+//! `accounts::add(&mut conn, "ada", Some("Ada"))?` is the id of the account that was added: one
+//! more than there were.
+#![tactic(auto)]
+
+pub mod accounts;
+pub mod all_rows;
+pub mod counts;
+pub mod crate_lists;
+pub mod crates;
+pub mod owners;
+pub mod reserved;
+pub mod tokens;

@@ -1,8 +1,0 @@
-use Rattle.sqlite.specs.Held.{state}
-use Rattle.reg_tables.proofs.AccountEntries.{lists_accounts}
-use Rattle.reg_tables.proofs.Results.{if_ok}
-use Rattle.reg_tables.proofs.calls.accounts.list.Goals as goal
-
-pub returns-clause-found : goal.returns-clause-found
-returns-clause-found g c clean =
-    if_ok c.all.result (λ list h s stands. lists_accounts s.accounts (state g.S.Store c.args.conn.now).now.trees stands.accounts list.items h) (c.all.ensures.found clean)
