@@ -2,7 +2,7 @@
 
 ghost use Rattle.std.specs.Prelude.{◌≡◌, IfOk, map, true};
 ghost use Rattle.serde_json.specs.View.{items_view, view};
-ghost use Rattle.reg_manifest.specs.Reads.{Gives};
+ghost use Rattle.reg_manifest.specs.Parsing.{Gives};
 ghost use Rattle.reg_manifest.specs.Fields.{each};
 ghost use Rattle.reg_manifest.specs.Manifests.{dep_view, draft_view, manifest_view};
 ghost use Rattle.reg_manifest.specs.Metadata.{checked, dep_of, fields_of, keeps_rules, metadata_of};
@@ -116,8 +116,9 @@ fn check(alloc: Global, draft: Draft) -> Result<Manifest, ManifestFault>
     })
 }
 
-/// The manifest that the metadata stands for, or its first fault. An unknown field is ignored, a missing one counts as
-/// null, and of a key that is written twice the last value counts.
+/// `read_manifest` gives the manifest that the metadata stands for, or its first fault.
+/// An unknown field is ignored, and a missing one counts as null.
+/// Of a key that is written twice the last value counts.
 #[tactic(auto, unfolding(crate::specs::Metadata::metadata_of))]
 pub fn read_manifest(alloc: Global, bytes: &[u8]) -> Result<Manifest, ManifestFault>
     ensures meaning { Gives manifest_view result (metadata_of bytes.now) }
