@@ -8,6 +8,6 @@ pub record CountedEnd (T : Type 0) : Type 0 where
   pub failures : ℕ
 
 -- one failure more exactly where the call failed
-abbrev pub Fails : {A E : Type 0} → Result A E → ℕ → ℕ → Type 0
-Fails (Ok a) old new = new ≡ old
-Fails (Err e) old new = new ≡ old + 1
+abbrev pub CountsFailure : {A E : Type 0} → Result A E → ℕ → ℕ → Type 0
+CountsFailure (Ok a) old new = new ≡ old
+CountsFailure (Err e) old new = new ≡ old + 1

@@ -25,7 +25,7 @@ impl<T> Model for Counted<T> {
 }
 
 impl<T> Counted<T> {
-    /// An end that was not called yet.
+    /// `Counted::new` gives an end that was not called yet.
     pub fn new(inner: T) -> Counted<T>
         ensures { result ≡ record { inner = inner; calls = 0; failures = 0 } }
     {

@@ -1,12 +1,15 @@
-//! The publish body (the Cargo Book, "Registry Web API", "Publish"): the JSON and the archive, each after its length.
+//! The publish body (the Cargo Book, "Registry Web API", "Publish").
+//! It is the JSON and the archive, each after its length.
 
 ghost use Rattle.std.specs.Prelude.{◌≡◌, ◌+◌, ◌^◌, ◌<◌, ◌≤◌, ◌↔◌, ◌⊎◌, ◌++◌, List, ℕ, length, IfOk, IsErrOf, IsOkAnd, MatchOption, MatchResult};
+ghost use Rattle.reg_body.specs.Words.{words_of};
 ghost use Rattle.reg_body.specs.Frames.{Frame, IsCut, IsCutPart, IsTooLong, IsTrailed, IsWithin, le4, with_length};
 
 use crate::limits::Limits;
 use std::alloc::{AllocError, Global};
 
 /// Why bytes are no publish body, in the order of the checks.
+/// Each is a rule of the registry, whose words are given by `words`.
 #[derive(Clone, Copy, Debug, PartialEq, Eq)]
 pub enum BodyFault {
     /// Fewer bytes than the two lengths ask for.
@@ -15,6 +18,19 @@ pub enum BodyFault {
     Trailing,
     /// The JSON or the archive is longer than its limit.
     TooLong,
+}
+
+impl BodyFault {
+    /// The rule's code and its words, as a refused request is told them.
+    pub fn words(self) -> &'static str
+        ensures { result.now ≡ words_of self }
+    {
+        match self {
+            BodyFault::Short => "B1 publish body too short",
+            BodyFault::Trailing => "B2 publish body has trailing bytes",
+            BodyFault::TooLong => "B3 metadata or archive too long",
+        }
+    }
 }
 
 /// Why two parts make no publish body.
@@ -47,7 +63,8 @@ fn take_part(bytes: &[u8]) -> Option<(&[u8], &[u8])>
     rest.split_at_checked(len as usize)
 }
 
-/// The JSON and the archive of a publish body.
+/// `split` accepts bytes exactly when they are a publish body within the limits.
+/// It gives the body's JSON and archive.
 pub fn split<'a>(bytes: &'a [u8], limits: &Limits) -> Result<(&'a [u8], &'a [u8]), BodyFault>
     ensures parts { (j a : List ℕ) → IsOkAnd result (λ p. (p.0.now ≡ j) × (p.1.now ≡ a))
         ↔ (Frame bytes.now j a × IsWithin limits.now j a) }
@@ -72,7 +89,8 @@ pub fn split<'a>(bytes: &'a [u8], limits: &Limits) -> Result<(&'a [u8], &'a [u8]
 
 /// The length of a part as it stands before it.
 fn length_bytes(part: &[u8]) -> Result<[u8; 4], JoinFault>
-    ensures { MatchResult result (λ digits. (length part.now < 2 ^ 32) × (digits ≡ le4 (length part.now)))
+    ensures { MatchResult result
+        (λ digits. (length part.now < 2 ^ 32) × (digits ≡ le4 (length part.now)))
         (λ fault. (fault ≡ JoinFault.TooLong) × (2 ^ 32 ≤ length part.now)) }
 {
     match u32::try_from(part.len()) {
@@ -81,7 +99,7 @@ fn length_bytes(part: &[u8]) -> Result<[u8; 4], JoinFault>
     }
 }
 
-/// The publish body of two parts.
+/// `join` gives the publish body of a JSON and an archive.
 pub fn join(alloc: Global, json: &[u8], archive: &[u8]) -> Result<Vec<u8>, JoinFault>
     ensures frame { IfOk result (λ body. Frame body.items json.now archive.now) }
     ensures too_long { IsErrOf result JoinFault.TooLong

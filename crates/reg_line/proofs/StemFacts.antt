@@ -13,7 +13,7 @@ use Rattle.reg_names.specs.Names.{is_name}
 use Rattle.reg_manifest.specs.Fields.{Features, json_of, value_or}
 use Rattle.reg_manifest.specs.Manifests.{Metadata, manifest_view}
 use Rattle.reg_manifest.specs.Metadata.{keeps_rules}
-use Rattle.reg_manifest.specs.Reads.{Read, ◌>>=◌, Fails}
+use Rattle.reg_manifest.specs.Parsing.{Parsed, ◌>>=◌, FailsAs}
 use Rattle.reg_manifest.specs.declared.fault.ManifestFault.{ManifestFault}
 use Rattle.reg_manifest.specs.declared.fault.ManifestFault.TheVariants as fault
 use Rattle.reg_manifest.specs.declared.manifest.Manifest.{Manifest}
@@ -69,7 +69,7 @@ json-line m digest ordered n =
 bytes-back : (m : Manifest) (digest : List ℕ) → IsOrdered string_cmp m.features → is_name m.name ≡ true → bytes_from (line_json (manifest_view m) digest false) ≡ Ok (undescribed (manifest_view m))
 unfolding bytes_from
 bytes-back m digest ordered n =
-    ap (λ (r : Read Data). r >>= λ d. line_from d) (json-line m digest ordered n)
+    ap (λ (r : Parsed Data). r >>= λ d. line_from d) (json-line m digest ordered n)
     ∙ line-back (manifest_view m) digest false n (ascending_view m.features.entries ordered)
 
 -- the rules, the name and the line do not ask for the description
@@ -96,15 +96,15 @@ stem_read-IsStemOf s name vers digest w =
     let line = line_json v digest false in
     let n = named v w.2 in
     ap (λ t. bytes_from t >>= λ m. Ok (fits m t name vers digest)) w.5.0
-    ∙ ap (λ (r : Read Metadata). r >>= λ m. Ok (fits m line name vers digest)) (bytes-back w.0 digest w.1 n)
+    ∙ ap (λ (r : Parsed Metadata). r >>= λ m. Ok (fits m line name vers digest)) (bytes-back w.0 digest w.1 n)
     ∙ ap Ok (fits-undescribed v line name vers digest)
     ∙ ap Ok (all_if (bytes_eq v.name name) (bytes_eq v.vers vers) (keeps_rules v) (bytes_eq line line) ((bytes_eq-Decides v.name name).1 w.3) ((bytes_eq-Decides v.vers vers).1 w.4) w.2 ((bytes_eq-Decides line line).1 refl))
 
-pub same_ok : (a b : Bool) → ◌≡◌ {A = Read Bool} (Ok a) (Ok b) → a ≡ b
+pub same_ok : (a b : Bool) → ◌≡◌ {A = Parsed Bool} (Ok a) (Ok b) → a ≡ b
 same_ok a b h = cc
 
 -- what is refused, and not for want of memory, has no answer
-pub not_refused : (e : ManifestFault) (r : Read Bool) (b : Bool) → (e ≡ fault.Memory → ⊥) → Fails e r → r ≡ Ok b → ⊥
+pub not_refused : (e : ManifestFault) (r : Parsed Bool) (b : Bool) → (e ≡ fault.Memory → ⊥) → FailsAs e r → r ≡ Ok b → ⊥
 not_refused fault.NotJson r b m f h = let e = sym f ∙ h in cc e
 not_refused fault.Field r b m f h = let e = sym f ∙ h in cc e
 not_refused fault.Name r b m f h = let e = sym f ∙ h in cc e

@@ -12,4 +12,6 @@ is_under scheme t = starts_with nat_eq t scheme && nat_lt (length scheme) (lengt
 
 -- `http://` or `https://` and something after it, in visible characters, without a slash at its end
 abbrev pub is_base : List ℕ → Bool
-is_base t = ((is_under (codes "http://") t || is_under (codes "https://") t) && list_all is_visible t) && not (ends_with nat_eq t (codes "/"))
+is_base t =
+    ((is_under (codes "http://") t || is_under (codes "https://") t) && list_all is_visible t)
+    && not (ends_with nat_eq t (codes "/"))

@@ -1,4 +1,5 @@
--- Which features an index line keeps apart (the Cargo Book, "Registry Index", "JSON schema", `features2`).
+-- Which features an index line keeps apart
+-- (the Cargo Book, "Registry Index", "JSON schema", `features2`).
 use Rattle.std.specs.Prelude.{ℕ, ◌==◌, ◌&&◌, ◌||◌, nat_eq, Bool, false, not, List, [], ◌∷◌, map, filter, codes}
 use Rattle.std.specs.List.{list_any, starts_with}
 use Rattle.serde_json.specs.Data.{Data, string, array, Members, no_members, member}

@@ -1,4 +1,5 @@
--- Index files (the Cargo Book, "Registry Index", "Index format"): lines of a kept stem and a yanked mark.
+-- Index files (the Cargo Book, "Registry Index", "Index format"): lines of a kept stem and a
+-- yanked mark.
 use Rattle.std.specs.Prelude.{ℕ, Bool, true, false, List, [], ◌∷◌, ◌++◌, codes}
 use Rattle.std.specs.List.{flat_map}
 use Rattle.reg_line.specs.declared.index_file.Entry.{Entry}

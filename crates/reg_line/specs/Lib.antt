@@ -5,3 +5,4 @@ pub mod File
 pub mod Line
 pub mod LineRead
 pub mod StemCheck
+pub mod Parts

@@ -1,4 +1,5 @@
--- The index line of a manifest and a digest (the Cargo Book, "Registry Index", "JSON schema"): compact JSON, its keys in byte order.
+-- The index line of a manifest and a digest (the Cargo Book, "Registry Index", "JSON schema"):
+-- compact JSON, its keys in byte order.
 use Rattle.std.specs.Prelude.{◌≡◌, ℕ, Bool, true, false, Option, Some, None, List, [], ◌∷◌, ◌++◌, map, codes}
 use Rattle.hex.specs.Hex.{encode_lower}
 use Rattle.serde_json.specs.Data.{Data, unsigned, null, boolean, number, string, array, object, Members, no_members, member}
@@ -69,11 +70,13 @@ long_members features features2 m cksum yanked =
 -- `features2` and `v` stand only where there are newer features
 abbrev pub line_members : Features → Features → Metadata → List ℕ → Bool → Members
 line_members olds [] m cksum yanked = short_members (feature_members olds) m cksum yanked
-line_members olds (f ∷ fs) m cksum yanked = long_members (feature_members olds) (feature_members (f ∷ fs)) m cksum yanked
+line_members olds (f ∷ fs) m cksum yanked =
+    long_members (feature_members olds) (feature_members (f ∷ fs)) m cksum yanked
 
 -- the line's value, its checksum the digest in lower-case hex
 unfoldable pub line_data : Metadata → List ℕ → Bool → Data
-line_data m digest yanked = object (line_members (older m.features) (newer m.features) m (encode_lower digest) yanked)
+line_data m digest yanked =
+    object (line_members (older m.features) (newer m.features) m (encode_lower digest) yanked)
 
 -- the line without its line feed
 unfoldable pub line_json : Metadata → List ℕ → Bool → List ℕ
@@ -85,4 +88,6 @@ line_text m digest yanked = line_json m digest yanked ++ (10 ∷ [])
 
 -- the stem: what stands before the value of `yanked`, the same for either value
 abbrev pub IsStem : Metadata → List ℕ → List ℕ → Type 0
-IsStem m digest s = (s ++ codes "false}" ≡ line_json m digest false) × (s ++ codes "true}" ≡ line_json m digest true)
+IsStem m digest s =
+    (s ++ codes "false}" ≡ line_json m digest false)
+    × (s ++ codes "true}" ≡ line_json m digest true)

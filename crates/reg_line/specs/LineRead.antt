@@ -2,7 +2,7 @@
 use Rattle.std.specs.Prelude.{ℕ, true, false, Option, Some, None, List, [], codes, Ok, Err, if◌then◌else◌}
 use Rattle.serde_json.specs.Data.{Data, no_items}
 use Rattle.reg_names.specs.Names.{is_name}
-use Rattle.reg_manifest.specs.Reads.{Read, ◌>>=◌}
+use Rattle.reg_manifest.specs.Parsing.{Parsed, ◌>>=◌}
 use Rattle.reg_manifest.specs.Fields.{Features, json_of, field, text_of, texts_of, flag_of, list_of, members_of, required, or_else, optional, each, features_of, lists_onto}
 use Rattle.reg_manifest.specs.Manifests.{DepData, Metadata}
 use Rattle.reg_manifest.specs.declared.fault.ManifestFault.TheVariants as fault
@@ -18,7 +18,7 @@ new_name name None = None
 new_name name (Some own) = Some name
 
 -- a dependency of a line
-unfoldable pub dep_from : Data → Read DepData
+unfoldable pub dep_from : Data → Parsed DepData
 dep_from d = members_of d >>= λ _.
     or_else true flag_of (field (codes "default_features") d) >>= λ default.
     or_else [] texts_of (field (codes "features") d) >>= λ features.
@@ -29,22 +29,35 @@ dep_from d = members_of d >>= λ _.
     optional text_of (field (codes "registry") d) >>= λ registry.
     required text_of (field (codes "req") d) >>= λ req.
     optional text_of (field (codes "target") d) >>= λ target.
-    Ok (record { name = own_name name own; req = req; features = features; optional = opt; default_features = default; target = target; kind = kind; registry = registry; rename = new_name name own })
+    Ok (record {
+      name = own_name name own;
+      req = req;
+      features = features;
+      optional = opt;
+      default_features = default;
+      target = target;
+      kind = kind;
+      registry = registry;
+      rename = new_name name own;
+    })
 
 -- a field that is a crate name
-abbrev pub name_from : Option Data → Read (List ℕ)
-name_from found = required text_of found >>= λ name. if is_name name then Ok name else Err fault.Name
+abbrev pub name_from : Option Data → Parsed (List ℕ)
+name_from found =
+    required text_of found >>= λ name. if is_name name then Ok name else Err fault.Name
 
 -- the newer features put among the older ones
-abbrev pub with_newer : Features → Option Data → Read Features
+abbrev pub with_newer : Features → Option Data → Parsed Features
 with_newer olds None = Ok olds
 with_newer olds (Some d) = members_of d >>= λ ms. lists_onto ms olds
 
-unfoldable pub features_from : Data → Read Features
-features_from d = or_else [] features_of (field (codes "features") d) >>= λ olds. with_newer olds (field (codes "features2") d)
+unfoldable pub features_from : Data → Parsed Features
+features_from d =
+    or_else [] features_of (field (codes "features") d) >>= λ olds.
+    with_newer olds (field (codes "features2") d)
 
 -- what a line tells
-unfoldable pub line_from : Data → Read Metadata
+unfoldable pub line_from : Data → Parsed Metadata
 line_from d = members_of d >>= λ _.
     or_else no_items list_of (field (codes "deps") d) >>= λ list.
     each dep_from list >>= λ deps.
@@ -53,8 +66,16 @@ line_from d = members_of d >>= λ _.
     name_from (field (codes "name") d) >>= λ name.
     optional text_of (field (codes "rust_version") d) >>= λ rust_version.
     required text_of (field (codes "vers") d) >>= λ vers.
-    Ok (record { name = name; vers = vers; deps = deps; features = features; description = None; links = links; rust_version = rust_version })
+    Ok (record {
+      name = name;
+      vers = vers;
+      deps = deps;
+      features = features;
+      description = None;
+      links = links;
+      rust_version = rust_version;
+    })
 
 -- what the bytes of a line tell
-unfoldable pub bytes_from : List ℕ → Read Metadata
+unfoldable pub bytes_from : List ℕ → Parsed Metadata
 bytes_from bytes = json_of bytes >>= λ d. line_from d

@@ -7,7 +7,7 @@ ghost use Rattle.reg_line.specs.Base.{is_base, is_under, is_visible};
 fn is_visible(b: u8) -> bool
     ensures { result ≡ is_visible b }
 {
-    33 <= b && b <= 126
+    b'!' <= b && b <= b'~'
 }
 
 fn all_visible(bytes: &[u8]) -> bool
@@ -22,8 +22,9 @@ fn is_under(scheme: &[u8], text: &[u8]) -> bool
     text.starts_with(scheme) && scheme.len() < text.len()
 }
 
-/// Whether a text may be a registry's base: `http://` or `https://` and something after it, in visible ASCII characters,
-/// without a slash at its end.
+/// `is_base` tells whether a text may be a registry's base.
+/// That is `http://` or `https://` and something after it, in visible ASCII characters, without a
+/// slash at its end.
 pub fn is_base(text: &str) -> bool
     ensures { result ≡ is_base text.now }
 {

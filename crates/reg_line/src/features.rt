@@ -1,4 +1,5 @@
-//! The features that go to `features`, and those that go to `features2` (the Cargo Book, "Registry Index", "JSON schema").
+//! The features that go to `features`, and those that go to `features2`
+//! (the Cargo Book, "Registry Index", "JSON schema").
 
 ghost use Rattle.std.specs.Prelude.{◌≡◌, IfOk, OnOk, map, string_bytes, string_cmp};
 ghost use Rattle.std.specs.BTreeMap.{IsOrdered};
@@ -36,7 +37,8 @@ fn put_feature(
     key: &str,
     values: &[String],
 ) -> Result<(), AllocError>
-    ensures { OnOk result (members_view object.new.entries ≡ put key.now (texts (map string_bytes values.now)) (members_view object.old.entries)) }
+    ensures { OnOk result (members_view object.new.entries
+        ≡ put key.now (texts (map string_bytes values.now)) (members_view object.old.entries)) }
 {
     let value = Value::Array(texts(alloc, values)?);
     serde_json::put(object, alloc, key, value)
@@ -47,8 +49,10 @@ pub(crate) fn feature_maps(
     alloc: Global,
     features: &BTreeMap<String, Vec<String>>,
 ) -> Result<(Map<String, Value>, Map<String, Value>), AllocError>
-    ensures older { IfOk result (λ p. members_view p.0.entries ≡ feature_members (older (map feature_view features.now.entries))) }
-    ensures newer { IfOk result (λ p. members_view p.1.entries ≡ feature_members (newer (map feature_view features.now.entries))) }
+    ensures older { IfOk result (λ p. members_view p.0.entries
+        ≡ feature_members (older (map feature_view features.now.entries))) }
+    ensures newer { IfOk result (λ p. members_view p.1.entries
+        ≡ feature_members (newer (map feature_view features.now.entries))) }
     ensures ordered { IsOrdered string_cmp features.now }
 {
     let mut older = Map::new(alloc);

@@ -19,12 +19,13 @@ fn end(yanked: bool) -> &'static [u8]
     if yanked { b"true}\n" } else { b"false}\n" }
 }
 
-/// The length of a line in bytes, its line feed included, from the length of its stem; none where 64 bits do not hold it.
+/// `line_len` gives the length of a line in bytes from the length of its stem.
+/// The line feed counts, and there is no answer where 64 bits do not hold the length.
 pub fn line_len(stem_len: u64, yanked: bool) -> Option<u64>
     ensures some { IfSome result (λ n. n ≡ stem_len + length (end_of yanked)) }
     ensures none { IsNone result ↔ (2 ^ 64 ≤ stem_len + length (end_of yanked)) }
 {
-    stem_len.checked_add(if yanked { 6 } else { 7 })
+    stem_len.checked_add(end(yanked).len() as u64)
 }
 
 fn push_line(text: &mut Vec<u8>, entry: &Entry) -> Result<(), AllocError>
@@ -34,7 +35,7 @@ fn push_line(text: &mut Vec<u8>, entry: &Entry) -> Result<(), AllocError>
     text.extend_from_slice(end(entry.yanked))
 }
 
-/// The index file of these lines.
+/// `file` gives the index file of these lines.
 pub fn file(alloc: Global, entries: &[Entry]) -> Result<Vec<u8>, AllocError>
     ensures { IfOk result (λ v. v.items ≡ file_text (map entry_view entries.now)) }
 {

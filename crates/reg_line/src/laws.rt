@@ -10,5 +10,6 @@ use reg_manifest::Manifest;
 
 /// A line is its stem, the yanked mark, the end of the object, and a line feed.
 pub fn a_line_is_its_stem_and_mark(manifest: &Manifest, digest: &Digest, stem: &[u8], yanked: bool)
-    ensures { IsStem (manifest_view manifest.now) digest.now stem.now → line_text (manifest_view manifest.now) digest.now yanked ≡ line_of (stem.now, yanked) }
+    ensures { IsStem (manifest_view manifest.now) digest.now stem.now
+        → line_text (manifest_view manifest.now) digest.now yanked ≡ line_of (stem.now, yanked) }
 {}

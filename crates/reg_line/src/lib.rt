@@ -1,4 +1,14 @@
-//! Index lines, index files and the config: their bytes, and the check that kept bytes are a line's stem.
+//! Index lines, index files and the config: their bytes, and the check that kept bytes are a line's
+//! stem.
+//!
+//! A stem is a line without its yanked mark, so that a yank changes no kept bytes.
+//!
+//! ```
+//! let digest = digest_of(archive);
+//! line(alloc, &manifest, &digest, false)?         // the line, with its line feed
+//! let stem = stem(alloc, &manifest, &digest)?;    // the same up to "yanked":
+//! file(alloc, &[Entry { stem, yanked: true }])?   // the index file of one yanked version
+//! ```
 #![tactic(auto)]
 
 mod base;

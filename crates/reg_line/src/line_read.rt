@@ -4,7 +4,7 @@ ghost use Rattle.std.specs.Prelude.{◌≡◌, codes, map, option_map, string_by
 ghost use Rattle.serde_json.specs.View.{items_view, view};
 ghost use Rattle.reg_manifest.specs.Fields.{each, field};
 ghost use Rattle.reg_manifest.specs.Manifests.{dep_view, feature_view, manifest_view};
-ghost use Rattle.reg_manifest.specs.Reads.{Gives};
+ghost use Rattle.reg_manifest.specs.Parsing.{Gives};
 ghost use Rattle.reg_line.specs.LineRead.{bytes_from, dep_from, features_from, line_from, name_from, new_name, own_name};
 
 use reg_manifest::fields::{
@@ -19,8 +19,10 @@ use std::collections::BTreeMap;
 
 /// The package's own name and its new one, from the line's `name` and `package`.
 fn names(name: String, own: Option<String>) -> (String, Option<String>)
-    ensures own { string_bytes result.0 ≡ own_name (string_bytes name) (option_map string_bytes own) }
-    ensures new { option_map string_bytes result.1 ≡ new_name (string_bytes name) (option_map string_bytes own) }
+    ensures own { string_bytes result.0
+        ≡ own_name (string_bytes name) (option_map string_bytes own) }
+    ensures new { option_map string_bytes result.1
+        ≡ new_name (string_bytes name) (option_map string_bytes own) }
 {
     match own {
         Some(own) => (own, Some(name)),

@@ -1,19 +1,40 @@
 //! The line of a manifest, and its stem.
 
-ghost use Rattle.std.specs.Prelude.{◌≡◌, IfOk, OnOk, codes, false, string_cmp};
+ghost use Rattle.std.specs.Prelude.{◌≡◌, IfOk, OnOk, false, string_cmp};
 ghost use Rattle.std.specs.BTreeMap.{IsOrdered};
-ghost use Rattle.serde_json.specs.Data.{number, object, put, unsigned};
 ghost use Rattle.serde_json.specs.View.{members_view, view};
 ghost use Rattle.serde_json.specs.Written.{compact_text, has_float};
 ghost use Rattle.reg_manifest.specs.Manifests.{manifest_view};
 ghost use Rattle.reg_line.specs.Line.{IsStem, line_data, line_json, line_text, short_members};
+ghost use Rattle.reg_line.specs.Parts.{manifest_members, newer_members};
 
 use crate::digests::{Digest, hex_text};
 use crate::features::feature_maps;
-use crate::values::{dep_values, put_text, text_or_null};
+use crate::values::{dep_values, put_text, put_text_or_null};
 use reg_manifest::Manifest;
 use serde_json::{Map, Value, put};
 use std::alloc::{AllocError, Global};
+
+/// Puts into a line what the manifest says, features aside.
+fn put_manifest(
+    line: &mut Map<String, Value>,
+    alloc: Global,
+    manifest: &Manifest,
+) -> Result<(), AllocError>
+    ensures { OnOk result (members_view line.new.entries
+        ≡ manifest_members (manifest_view manifest.now) (members_view line.old.entries)) }
+{
+    put(
+        line,
+        alloc,
+        "deps",
+        Value::Array(dep_values(alloc, &manifest.deps)?),
+    )?;
+    put_text_or_null(line, alloc, "links", &manifest.links)?;
+    put_text(line, alloc, "name", manifest.name.as_str())?;
+    put_text_or_null(line, alloc, "rust_version", &manifest.rust_version)?;
+    put_text(line, alloc, "vers", manifest.vers.as_str())
+}
 
 /// The members of a line, newer features aside.
 fn members(
@@ -23,19 +44,14 @@ fn members(
     cksum: &str,
     yanked: bool,
 ) -> Result<Map<String, Value>, AllocError>
-    ensures { IfOk result (λ line. members_view line.entries ≡ short_members (members_view features.entries) (manifest_view manifest.now) cksum.now yanked) }
+    ensures { IfOk result (λ line. members_view line.entries
+        ≡ short_members (members_view features.entries) (manifest_view manifest.now) cksum.now
+        yanked) }
 {
-    let deps = dep_values(alloc, &manifest.deps)?;
-    let links = text_or_null(alloc, &manifest.links)?;
-    let rust_version = text_or_null(alloc, &manifest.rust_version)?;
     let mut line = Map::new(alloc);
-    put_text(&mut line, alloc, "cksum", cksum)?;
-    put(&mut line, alloc, "deps", Value::Array(deps))?;
     put(&mut line, alloc, "features", Value::Object(features))?;
-    put(&mut line, alloc, "links", links)?;
-    put_text(&mut line, alloc, "name", manifest.name.as_str())?;
-    put(&mut line, alloc, "rust_version", rust_version)?;
-    put_text(&mut line, alloc, "vers", manifest.vers.as_str())?;
+    put_manifest(&mut line, alloc, manifest)?;
+    put_text(&mut line, alloc, "cksum", cksum)?;
     put(&mut line, alloc, "yanked", Value::Bool(yanked))?;
     Ok(line)
 }
@@ -46,7 +62,8 @@ fn put_newer(
     line: &mut Map<String, Value>,
     newer: Map<String, Value>,
 ) -> Result<(), AllocError>
-    ensures { OnOk result (members_view line.new.entries ≡ put (codes "v") (number (unsigned 2)) (put (codes "features2") (object (members_view newer.entries)) (members_view line.old.entries))) }
+    ensures { OnOk result (members_view line.new.entries
+        ≡ newer_members (members_view newer.entries) (members_view line.old.entries)) }
 {
     put(line, alloc, "features2", Value::Object(newer))?;
     put(line, alloc, "v", Value::from(2u64))
@@ -59,7 +76,8 @@ fn line_value(
     digest: &Digest,
     yanked: bool,
 ) -> Result<Value, AllocError>
-    ensures value { IfOk result (λ v. view v ≡ line_data (manifest_view manifest.now) digest.now yanked) }
+    ensures value { IfOk result (λ v. view v
+        ≡ line_data (manifest_view manifest.now) digest.now yanked) }
     ensures ordered { IsOrdered string_cmp manifest.now.features }
 {
     let (older, newer) = feature_maps(alloc, &manifest.features)?;
@@ -87,34 +105,39 @@ pub(crate) fn line_json(
     digest: &Digest,
     yanked: bool,
 ) -> Result<Vec<u8>, AllocError>
-    ensures text { IfOk result (λ v. v.items ≡ line_json (manifest_view manifest.now) digest.now yanked) }
+    ensures text { IfOk result (λ v. v.items
+        ≡ line_json (manifest_view manifest.now) digest.now yanked) }
     ensures ordered { IsOrdered string_cmp manifest.now.features }
 {
     let value = line_value(alloc, manifest, digest, yanked)?;
     written(alloc, &value)
 }
 
-/// The index line of a manifest whose archive has this digest, with its line feed.
+/// `line` gives the index line of a manifest whose archive has this digest, with its line feed.
 pub fn line(
     alloc: Global,
     manifest: &Manifest,
     digest: &Digest,
     yanked: bool,
 ) -> Result<Vec<u8>, AllocError>
-    ensures { IfOk result (λ v. v.items ≡ line_text (manifest_view manifest.now) digest.now yanked) }
+    ensures { IfOk result (λ v. v.items
+        ≡ line_text (manifest_view manifest.now) digest.now yanked) }
 {
     let mut text = line_json(alloc, manifest, digest, yanked)?;
     text.push(b'\n')?;
     Ok(text)
 }
 
-/// The line's stem: all of it up to the value of `yanked`.
+/// How many bytes follow the stem of a line that is not yanked, its line feed aside: `false}`.
+const END_OF_LINE: usize = 6;
+
+/// `stem` gives the line's stem: all of it up to the value of `yanked`.
 pub fn stem(alloc: Global, manifest: &Manifest, digest: &Digest) -> Result<Vec<u8>, AllocError>
     ensures stem { IfOk result (λ v. IsStem (manifest_view manifest.now) digest.now v.items) }
     ensures ordered { IsOrdered string_cmp manifest.now.features }
 {
     let mut text = line_json(alloc, manifest, digest, false)?;
-    let end = text.len().saturating_sub(6);
+    let end = text.len().saturating_sub(END_OF_LINE);
     text.truncate(end);
     Ok(text)
 }

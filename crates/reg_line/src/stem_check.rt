@@ -5,7 +5,7 @@ ghost use Rattle.std.specs.BTreeMap.{IsOrdered};
 ghost use Rattle.reg_names.specs.Names.{is_name};
 ghost use Rattle.reg_manifest.specs.Manifests.{manifest_view};
 ghost use Rattle.reg_manifest.specs.Metadata.{keeps_rules};
-ghost use Rattle.reg_manifest.specs.Reads.{Gives};
+ghost use Rattle.reg_manifest.specs.Parsing.{Gives};
 ghost use Rattle.reg_line.specs.StemCheck.{IsStemOf, fits, stem_read};
 
 use crate::digests::Digest;
@@ -36,7 +36,8 @@ fn fits(
     vers: &str,
     digest: &Digest,
 ) -> Result<bool, AllocError>
-    ensures answer { IfOk result (λ b. b ≡ fits (manifest_view manifest.now) whole.now name.now vers.now digest.now) }
+    ensures answer { IfOk result (λ b. b
+        ≡ fits (manifest_view manifest.now) whole.now name.now vers.now digest.now) }
     ensures ordered { IfOk result (λ b. IsTrue b → IsOrdered string_cmp manifest.now.features) }
 {
     if manifest.name.as_str() != name {
@@ -69,8 +70,9 @@ fn read_stem(
     Ok(fits(alloc, &manifest, whole.as_slice(), name, vers, digest)?)
 }
 
-/// Whether bytes are the stem of the line of some manifest that keeps the rules of metadata, has this name and version, and
-/// whose archive has this digest.
+/// `check_stem` tells whether bytes are the stem of some manifest's line.
+/// The manifest has to keep the rules of metadata and to have this name and version.
+/// Its archive has to have this digest.
 pub fn check_stem(
     alloc: Global,
     stem: &[u8],

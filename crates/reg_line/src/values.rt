@@ -5,9 +5,10 @@ ghost use Rattle.serde_json.specs.Data.{put, string};
 ghost use Rattle.serde_json.specs.View.{members_view, view};
 ghost use Rattle.reg_manifest.specs.Manifests.{dep_view};
 ghost use Rattle.reg_line.specs.Line.{dep_data, dep_object, text_or_null};
+ghost use Rattle.reg_line.specs.Parts.{first_members};
 
 use reg_manifest::Dep;
-use serde_json::{Map, Value, json, put};
+use serde_json::{Map, Value, put};
 use std::alloc::{AllocError, Global};
 
 /// A text that may be null.
@@ -27,7 +28,8 @@ pub(crate) fn put_text(
     key: &str,
     text: &str,
 ) -> Result<(), AllocError>
-    ensures { OnOk result (members_view object.new.entries ≡ put key.now (string text.now) (members_view object.old.entries)) }
+    ensures { OnOk result (members_view object.new.entries
+        ≡ put key.now (string text.now) (members_view object.old.entries)) }
 {
     put(object, alloc, key, Value::try_from_str(alloc, text)?)
 }
@@ -43,28 +45,58 @@ pub(crate) fn texts(alloc: Global, list: &[String]) -> Result<Vec<Value>, AllocE
     Ok(values)
 }
 
+/// Puts a text that may be null at a key.
+pub(crate) fn put_text_or_null(
+    object: &mut Map<String, Value>,
+    alloc: Global,
+    key: &str,
+    text: &Option<String>,
+) -> Result<(), AllocError>
+    ensures { OnOk result (members_view object.new.entries
+        ≡ put key.now (text_or_null (option_map string_bytes text.now))
+        (members_view object.old.entries)) }
+{
+    put(object, alloc, key, text_or_null(alloc, text)?)
+}
+
+/// Puts the members of a dependency up to its name.
+fn put_first(
+    object: &mut Map<String, Value>,
+    alloc: Global,
+    dep: &Dep,
+    name: &str,
+) -> Result<(), AllocError>
+    ensures { OnOk result (members_view object.new.entries
+        ≡ first_members name.now (dep_view dep.now) (members_view object.old.entries)) }
+{
+    put(
+        object,
+        alloc,
+        "default_features",
+        Value::Bool(dep.default_features),
+    )?;
+    put(
+        object,
+        alloc,
+        "features",
+        Value::Array(texts(alloc, &dep.features)?),
+    )?;
+    put_text(object, alloc, "kind", dep.kind.as_str())?;
+    put_text(object, alloc, "name", name)?;
+    put(object, alloc, "optional", Value::Bool(dep.optional))
+}
+
 /// A dependency under its name in the line, with the package's own name or null.
 fn dep_object(alloc: Global, dep: &Dep, name: &str, own: Value) -> Result<Value, AllocError>
     ensures { IfOk result (λ v. view v ≡ dep_object name.now (view own) (dep_view dep.now)) }
 {
-    let default_features = dep.default_features;
-    let features = texts(alloc, &dep.features)?;
-    let kind = dep.kind.as_str();
-    let optional = dep.optional;
-    let registry = text_or_null(alloc, &dep.registry)?;
-    let req = dep.version_req.as_str();
-    let target = text_or_null(alloc, &dep.target)?;
-    json!(in alloc; {
-        "default_features": default_features,
-        "features": features,
-        "kind": kind,
-        "name": name,
-        "optional": optional,
-        "package": own,
-        "registry": registry,
-        "req": req,
-        "target": target
-    })
+    let mut object = Map::new(alloc);
+    put(&mut object, alloc, "package", own)?;
+    put_first(&mut object, alloc, dep, name)?;
+    put_text_or_null(&mut object, alloc, "registry", &dep.registry)?;
+    put_text(&mut object, alloc, "req", dep.version_req.as_str())?;
+    put_text_or_null(&mut object, alloc, "target", &dep.target)?;
+    Ok(Value::Object(object))
 }
 
 fn dep_value(alloc: Global, dep: &Dep) -> Result<Value, AllocError>

@@ -1,7 +1,7 @@
 -- Reading one after another: the word of a loop's invariant.
 use Rattle.std.proofs.Common.{List, ◌++◌, Ok}
-use Rattle.reg_manifest.specs.Reads.{Read, ◌>>=◌}
+use Rattle.reg_manifest.specs.Parsing.{Parsed, ◌>>=◌}
 
 -- what was read, behind what was read before
-abbrev pub after : {A : Type 0} → List A → Read (List A) → Read (List A)
+abbrev pub after : {A : Type 0} → List A → Parsed (List A) → Parsed (List A)
 after front read = read >>= λ rest. Ok (front ++ rest)

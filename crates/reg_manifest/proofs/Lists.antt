@@ -5,16 +5,16 @@ use Rattle.std.specs.BTreeMap.{insert_entry}
 use Rattle.std.specs.Cmp.Lexicographic.{slice_cmp}
 use Rattle.std.specs.Ordering.{is_lt}
 use Rattle.serde_json.specs.Data.{Members, no_members, member}
-use Rattle.reg_manifest.specs.Reads.{Read, ◌>>=◌}
+use Rattle.reg_manifest.specs.Parsing.{Parsed, ◌>>=◌}
 use Rattle.reg_manifest.specs.Fields.{Features, texts_of, lists_of, lists_onto}
 use Rattle.reg_manifest.proofs.Ascending.{all_above, ascending, insert_above}
 
 -- the steps after the first are all that matters
-then_same : {A B : Type 0} (r : Read A) (f g : A → Read B) → ((a : A) → f a ≡ g a) → (r >>= f) ≡ (r >>= g)
+then_same : {A B : Type 0} (r : Parsed A) (f g : A → Parsed B) → ((a : A) → f a ≡ g a) → (r >>= f) ≡ (r >>= g)
 then_same (Ok a) f g h = h a
 then_same (Err e) f g h = refl
 
-then_then : {A B C : Type 0} (r : Read A) (f : A → Read B) (g : B → Read C) → ((r >>= f) >>= g) ≡ (r >>= λ a. f a >>= g)
+then_then : {A B C : Type 0} (r : Parsed A) (f : A → Parsed B) (g : B → Parsed C) → ((r >>= f) >>= g) ≡ (r >>= λ a. f a >>= g)
 then_then (Ok a) f g = refl
 then_then (Err e) f g = refl
 
@@ -29,4 +29,4 @@ pub onto_none : (ms : Members) → ascending ms ≡ true → lists_onto ms [] �
 onto_none no_members h = refl
 onto_none (member k d ms) h =
     let a = and_parts (all_above k ms) _ h in
-    then_same (texts_of d) _ _ (λ vs. onto_above (k, vs) ms [] a.0 ∙ ap (λ (r : Read Features). r >>= λ fs. Ok ((k, vs) ∷ fs)) (onto_none ms a.1))
+    then_same (texts_of d) _ _ (λ vs. onto_above (k, vs) ms [] a.0 ∙ ap (λ (r : Parsed Features). r >>= λ fs. Ok ((k, vs) ∷ fs)) (onto_none ms a.1))

@@ -1,4 +1,5 @@
-pub mod Reads
+pub mod Parsing
 pub mod Fields
 pub mod Manifests
 pub mod Metadata
+pub mod Words

@@ -1,11 +1,12 @@
--- What the metadata of a publish request stands for (the Cargo Book, "Registry Web API", "Publish").
+-- What the metadata of a publish request stands for
+-- (the Cargo Book, "Registry Web API", "Publish").
 use Rattle.std.specs.Prelude.{ℕ, Bool, true, false, not, List, [], codes, Option, Some, None, Result, Ok, Err, is_ok, bytes_eq, if◌then◌else◌, length, ◌==◌, ◌||◌, ◌&&◌}
 use Rattle.std.specs.List.{list_all}
 use Rattle.semver.specs.Parse.{req_of}
 use Rattle.serde_json.specs.Data.{Data, no_items}
 use Rattle.reg_names.specs.Names.{is_name}
 use Rattle.reg_versions.specs.Versions.{is_version}
-use Rattle.reg_manifest.specs.Reads.{Read, ◌>>=◌}
+use Rattle.reg_manifest.specs.Parsing.{Parsed, ◌>>=◌}
 use Rattle.reg_manifest.specs.Fields.{json_of, field, required, or_else, optional, text_of, texts_of, flag_of, list_of, members_of, each, features_of}
 use Rattle.reg_manifest.specs.Manifests.{DepData, Metadata}
 use Rattle.reg_manifest.specs.declared.fault.ManifestFault.TheVariants as fault
@@ -13,7 +14,7 @@ use Rattle.reg_manifest.specs.declared.fault.ManifestFault.TheVariants as fault
 -- ---- the fields, each of its kind or refused
 
 -- a dependency's fields; it has to be an object
-unfoldable pub dep_of : Data → Read DepData
+unfoldable pub dep_of : Data → Parsed DepData
 dep_of d = members_of d >>= λ _.
     required text_of (field (codes "name") d) >>= λ name.
     required text_of (field (codes "version_req") d) >>= λ req.
@@ -24,10 +25,20 @@ dep_of d = members_of d >>= λ _.
     or_else (codes "normal") text_of (field (codes "kind") d) >>= λ kind.
     optional text_of (field (codes "registry") d) >>= λ registry.
     optional text_of (field (codes "explicit_name_in_toml") d) >>= λ rename.
-    Ok (record { name = name; req = req; features = features; optional = opt; default_features = default; target = target; kind = kind; registry = registry; rename = rename })
+    Ok (record {
+      name = name;
+      req = req;
+      features = features;
+      optional = opt;
+      default_features = default;
+      target = target;
+      kind = kind;
+      registry = registry;
+      rename = rename;
+    })
 
 -- the whole value's fields; it has to be an object
-unfoldable pub fields_of : Data → Read Metadata
+unfoldable pub fields_of : Data → Parsed Metadata
 fields_of d = members_of d >>= λ _.
     required text_of (field (codes "name") d) >>= λ name.
     required text_of (field (codes "vers") d) >>= λ vers.
@@ -37,7 +48,15 @@ fields_of d = members_of d >>= λ _.
     optional text_of (field (codes "description") d) >>= λ description.
     optional text_of (field (codes "links") d) >>= λ links.
     optional text_of (field (codes "rust_version") d) >>= λ rust_version.
-    Ok (record { name = name; vers = vers; deps = deps; features = features; description = description; links = links; rust_version = rust_version })
+    Ok (record {
+      name = name;
+      vers = vers;
+      deps = deps;
+      features = features;
+      description = description;
+      links = links;
+      rust_version = rust_version;
+    })
 
 -- ---- the rules
 
@@ -45,20 +64,22 @@ abbrev pub is_kind : List ℕ → Bool
 is_kind k = bytes_eq k (codes "normal") || (bytes_eq k (codes "build") || bytes_eq k (codes "dev"))
 
 -- an optional text that is there and empty
-abbrev pub is_blank : Option (List ℕ) → Bool
-is_blank None = false
-is_blank (Some t) = length t == 0
+abbrev pub is_given_empty : Option (List ℕ) → Bool
+is_given_empty None = false
+is_given_empty (Some t) = length t == 0
 
--- a dependency has a name, a new name that is not empty, a known kind, and a requirement as `semver` reads it
+-- a dependency has a name, a new name that is not empty, a known kind, and a requirement
+-- as `semver` reads it
 unfoldable pub is_dep : DepData → Bool
-is_dep d = not (length d.name == 0) && (not (is_blank d.rename) && (is_kind d.kind && is_ok (req_of d.req)))
+is_dep d = not (length d.name == 0)
+    && (not (is_given_empty d.rename) && (is_kind d.kind && is_ok (req_of d.req)))
 
 -- the name is a crate name, the version is one, and each dependency is as it has to be
 unfoldable pub keeps_rules : Metadata → Bool
 keeps_rules m = is_name m.name && (is_version m.vers && list_all is_dep m.deps)
 
 -- the rules in their order
-unfoldable pub checked : Metadata → Read Metadata
+unfoldable pub checked : Metadata → Parsed Metadata
 checked m =
     if not (is_name m.name) then Err fault.Name
     else if not (is_version m.vers) then Err fault.Version
@@ -68,5 +89,5 @@ checked m =
 -- ---- the whole
 
 -- the manifest that bytes stand for, or the first fault
-unfoldable pub metadata_of : List ℕ → Read Metadata
+unfoldable pub metadata_of : List ℕ → Parsed Metadata
 metadata_of bytes = json_of bytes >>= λ d. fields_of d >>= λ m. checked m

@@ -1,10 +1,12 @@
 //! Why metadata is refused.
 
 ghost use Rattle.std.specs.Prelude.{◌≡◌};
+ghost use Rattle.reg_manifest.specs.Words.{words_of};
 
 use std::alloc::{AllocError, AllocFailed};
 
 /// Why metadata is refused, in the order in which it is judged; memory where it was met.
+/// Each but memory is a rule of the registry, whose words are given by `words`.
 #[derive(Clone, Copy, PartialEq, Debug)]
 pub enum ManifestFault {
     /// The bytes are not one JSON value, not UTF-8, or nest past 127 levels.
@@ -15,10 +17,27 @@ pub enum ManifestFault {
     Name,
     /// `vers` is no version of SemVer 2.0.0.
     Version,
-    /// A dependency has no name, an empty new name, an unknown kind, or no requirement that can be read.
+    /// A dependency has no name, an empty new name, an unknown kind, or no requirement that can be
+    /// read.
     Dependency,
     /// A growth of memory was refused.
     Memory,
+}
+
+impl ManifestFault {
+    /// The rule's code and its words, as a refused request is told them; of memory its name.
+    pub fn words(self) -> &'static str
+        ensures { result.now ≡ words_of self }
+    {
+        match self {
+            ManifestFault::NotJson => "B4 metadata is not JSON",
+            ManifestFault::Field => "B5 metadata field missing or of the wrong kind",
+            ManifestFault::Name => "N1 bad crate name",
+            ManifestFault::Version => "V1 bad version",
+            ManifestFault::Dependency => "M1 bad dependency",
+            ManifestFault::Memory => "memory",
+        }
+    }
 }
 
 impl From<AllocError> for ManifestFault {

@@ -1,4 +1,14 @@
-//! The fields of a JSON object, a null standing for a field that is missing. A value of another kind is a `Field` fault.
+//! A reader of JSON fields, shared by all that the registry reads: metadata here, index lines in
+//! the crate above.
+//!
+//! It knows no field by its name. A null stands for a field that is missing, and a value of the
+//! wrong kind is a `Field` fault.
+//!
+//! ```
+//! let value = read_json(alloc, b"{\"name\":\"a\"}")?;
+//! required_text(alloc, &value, "name")?           // a
+//! flag_or(&value, "optional", false)?             // false
+//! ```
 
 ghost use Rattle.std.specs.Prelude.{◌≡◌, OnOk, IfErr, option_map, string_bytes, map, []};
 ghost use Rattle.std.specs.BTreeMap.{IsOrdered, insert_entry};
@@ -8,8 +18,8 @@ ghost use Rattle.std.specs.Prelude.{string_cmp};
 ghost use Rattle.serde_json.specs.Data.{no_items};
 ghost use Rattle.serde_json.specs.View.{items_view, members_view, view};
 ghost use Rattle.reg_manifest.specs.declared.fault.ManifestFault.TheVariants.{Memory};
-ghost use Rattle.reg_manifest.specs.Reads.{Gives};
-ghost use Rattle.reg_manifest.specs.Fields.{each, features_of, field, flag_of, json_of, list_of, lists_of, lists_onto, members_of, optional, or_else, required, text_of, texts_of};
+ghost use Rattle.reg_manifest.specs.Parsing.{Gives};
+ghost use Rattle.reg_manifest.specs.Fields.{each, features_of, field, flag_of, json_of, list_of, lists_of, lists_onto, members_of, optional, or_else, required, text_of, texts_of, with_list};
 ghost use Rattle.reg_manifest.specs.Manifests.{feature_view};
 
 use crate::fault::ManifestFault;
@@ -60,7 +70,8 @@ fn list(value: &Value) -> Result<&[Value], ManifestFault>
 
 /// The members of an object.
 pub fn members(value: &Value) -> Result<&Map<String, Value>, ManifestFault>
-    ensures { Gives (λ m. members_view m.now.entries) result (members_of (view value.now)) }
+    ensures { Gives (λ m. members_view m.now.entries) result
+        (members_of (view value.now)) }
 {
     match value.as_object() {
         Some(map) => Ok(map),
@@ -70,7 +81,8 @@ pub fn members(value: &Value) -> Result<&Map<String, Value>, ManifestFault>
 
 /// A text that has to be there.
 pub fn required_text(alloc: Global, object: &Value, key: &str) -> Result<String, ManifestFault>
-    ensures { Gives (λ s. string_bytes s) result (required text_of (field key.now (view object.now))) }
+    ensures { Gives (λ s. string_bytes s) result
+        (required text_of (field key.now (view object.now))) }
 {
     let Some(value) = field(object, key) else {
         return Err(ManifestFault::Field);
@@ -85,7 +97,8 @@ pub fn text_or(
     key: &str,
     default: &str,
 ) -> Result<String, ManifestFault>
-    ensures { Gives (λ s. string_bytes s) result (or_else default.now text_of (field key.now (view object.now))) }
+    ensures { Gives (λ s. string_bytes s) result
+        (or_else default.now text_of (field key.now (view object.now))) }
 {
     match field(object, key) {
         Some(value) => text(alloc, value),
@@ -99,7 +112,8 @@ pub fn optional_text(
     object: &Value,
     key: &str,
 ) -> Result<Option<String>, ManifestFault>
-    ensures { Gives (λ o. option_map string_bytes o) result (optional text_of (field key.now (view object.now))) }
+    ensures { Gives (λ o. option_map string_bytes o) result
+        (optional text_of (field key.now (view object.now))) }
 {
     match field(object, key) {
         Some(value) => Ok(Some(text(alloc, value)?)),
@@ -109,7 +123,8 @@ pub fn optional_text(
 
 /// True or false, with one of them for null.
 pub fn flag_or(object: &Value, key: &str, default: bool) -> Result<bool, ManifestFault>
-    ensures { Gives (λ b. b) result (or_else default flag_of (field key.now (view object.now))) }
+    ensures { Gives (λ b. b) result
+        (or_else default flag_of (field key.now (view object.now))) }
 {
     match field(object, key) {
         Some(value) => value.as_bool().ok_or(ManifestFault::Field),
@@ -119,7 +134,8 @@ pub fn flag_or(object: &Value, key: &str, default: bool) -> Result<bool, Manifes
 
 /// A list, or none for null.
 pub fn list_or_empty<'a>(object: &'a Value, key: &str) -> Result<&'a [Value], ManifestFault>
-    ensures { Gives (λ s. items_view s.now) result (or_else no_items list_of (field key.now (view object.now))) }
+    ensures { Gives (λ s. items_view s.now) result
+        (or_else no_items list_of (field key.now (view object.now))) }
 {
     match field(object, key) {
         Some(value) => list(value),
@@ -128,7 +144,8 @@ pub fn list_or_empty<'a>(object: &'a Value, key: &str) -> Result<&'a [Value], Ma
 }
 
 fn each_text(alloc: Global, list: &[Value]) -> Result<Vec<String>, ManifestFault>
-    ensures { Gives (λ v. map string_bytes v.items) result (each text_of (items_view list.now)) }
+    ensures { Gives (λ v. map string_bytes v.items) result
+        (each text_of (items_view list.now)) }
 {
     let mut texts = Vec::new(alloc);
     for value in list {
@@ -150,7 +167,8 @@ pub fn texts_or_empty(
     object: &Value,
     key: &str,
 ) -> Result<Vec<String>, ManifestFault>
-    ensures { Gives (λ v. map string_bytes v.items) result (or_else [] texts_of (field key.now (view object.now))) }
+    ensures { Gives (λ v. map string_bytes v.items) result
+        (or_else [] texts_of (field key.now (view object.now))) }
 {
     match field(object, key) {
         Some(value) => texts(alloc, value),
@@ -163,7 +181,9 @@ fn insert_list(
     key: String,
     values: Vec<String>,
 ) -> Result<(), ManifestFault>
-    ensures put_in { OnOk result (map feature_view lists.new.entries ≡ insert_entry (slice_cmp nat_cmp) (map feature_view lists.old.entries) (string_bytes key) (map string_bytes values.items)) }
+    ensures put_in { OnOk result (map feature_view lists.new.entries
+        ≡ with_list (map feature_view lists.old.entries) (string_bytes key)
+        (map string_bytes values.items)) }
     ensures memory { IfErr result (λ e. e ≡ Memory) }
 {
     lists.insert(key, values)?;
@@ -176,7 +196,8 @@ pub fn lists_onto(
     found: BTreeMap<String, Vec<String>>,
     object: &Map<String, Value>,
 ) -> Result<BTreeMap<String, Vec<String>>, ManifestFault>
-    ensures read { Gives (λ m. map feature_view m.entries) result (lists_onto (members_view object.now.entries) (map feature_view found.entries)) }
+    ensures read { Gives (λ m. map feature_view m.entries) result
+        (lists_onto (members_view object.now.entries) (map feature_view found.entries)) }
     ensures ordered { IsOrdered string_cmp object.now }
 {
     let mut lists = found;
@@ -192,7 +213,8 @@ fn lists(
     alloc: Global,
     object: &Map<String, Value>,
 ) -> Result<BTreeMap<String, Vec<String>>, ManifestFault>
-    ensures { Gives (λ m. map feature_view m.entries) result (lists_of (members_view object.now.entries)) }
+    ensures { Gives (λ m. map feature_view m.entries) result
+        (lists_of (members_view object.now.entries)) }
 {
     lists_onto(alloc, BTreeMap::new(alloc), object)
 }
@@ -203,7 +225,8 @@ pub fn features_or_empty(
     object: &Value,
     key: &str,
 ) -> Result<BTreeMap<String, Vec<String>>, ManifestFault>
-    ensures { Gives (λ m. map feature_view m.entries) result (or_else [] features_of (field key.now (view object.now))) }
+    ensures { Gives (λ m. map feature_view m.entries) result
+        (or_else [] features_of (field key.now (view object.now))) }
 {
     match field(object, key) {
         Some(value) => lists(alloc, members(value)?),

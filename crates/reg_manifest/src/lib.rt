@@ -1,4 +1,12 @@
 //! The metadata of a publish request, read into a manifest or refused by its first fault.
+//!
+//! ```
+//! let manifest = read_manifest(alloc, b"{\"name\":\"a\",\"vers\":\"0.1.0\"}")?;
+//! manifest.vers.as_str()                          // 0.1.0
+//! read_manifest(alloc, b"[]")                     // Err(ManifestFault::Field)
+//! ```
+//!
+//! `fields` reads the fields of any JSON object of this registry; index lines are read by it too.
 #![tactic(auto)]
 
 mod fault;

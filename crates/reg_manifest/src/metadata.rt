@@ -1,8 +1,8 @@
 //! Bytes to a manifest (the Cargo Book, "Registry Web API", "Publish").
 
-ghost use Rattle.std.specs.Prelude.{◌≡◌, IfOk, map, true};
+ghost use Rattle.std.specs.Prelude.{◌≡◌, IfOk, map, string_bytes, true};
 ghost use Rattle.serde_json.specs.View.{items_view, view};
-ghost use Rattle.reg_manifest.specs.Reads.{Gives};
+ghost use Rattle.reg_manifest.specs.Parsing.{Gives};
 ghost use Rattle.reg_manifest.specs.Fields.{each};
 ghost use Rattle.reg_manifest.specs.Manifests.{dep_view, draft_view, manifest_view};
 ghost use Rattle.reg_manifest.specs.Metadata.{checked, dep_of, fields_of, keeps_rules, metadata_of};
@@ -14,7 +14,7 @@ use crate::fields::{
 };
 use crate::manifest::{Dep, Manifest};
 use crate::rules::{are_deps, is_version};
-use reg_names::parse_name;
+use reg_names::{CrateName, parse_name};
 use serde_json::Value;
 use std::alloc::Global;
 use std::collections::BTreeMap;
@@ -91,10 +91,12 @@ fn read_fields(alloc: Global, value: &Value) -> Result<Draft, ManifestFault>
     })
 }
 
+/// The name of a draft that keeps the rules.
 #[tactic(auto, unfolding(crate::specs::Metadata::checked, crate::specs::Metadata::keeps_rules))]
-fn check(alloc: Global, draft: Draft) -> Result<Manifest, ManifestFault>
-    ensures meaning { Gives manifest_view result (checked (draft_view draft)) }
-    ensures rules { IfOk result (λ m. keeps_rules (manifest_view m) ≡ true) }
+fn checked_name(alloc: Global, draft: &Draft) -> Result<CrateName, ManifestFault>
+    ensures meaning { Gives (λ _. draft_view draft.now) result (checked (draft_view draft.now)) }
+    ensures name { IfOk result (λ name. name ≡ string_bytes draft.now.name) }
+    ensures rules { IfOk result (λ _. keeps_rules (draft_view draft.now) ≡ true) }
 {
     let Some(name) = parse_name(draft.name.as_str()) else {
         return Err(ManifestFault::Name);
@@ -105,7 +107,14 @@ fn check(alloc: Global, draft: Draft) -> Result<Manifest, ManifestFault>
     if !are_deps(alloc, &draft.deps)? {
         return Err(ManifestFault::Dependency);
     }
-    Ok(Manifest {
+    Ok(name)
+}
+
+fn named(name: CrateName, draft: Draft) -> Manifest
+    requires { name ≡ string_bytes draft.name }
+    ensures { manifest_view result ≡ draft_view draft }
+{
+    Manifest {
         name,
         vers: draft.vers,
         deps: draft.deps,
@@ -113,11 +122,20 @@ fn check(alloc: Global, draft: Draft) -> Result<Manifest, ManifestFault>
         description: draft.description,
         links: draft.links,
         rust_version: draft.rust_version,
-    })
+    }
 }
 
-/// The manifest that the metadata stands for, or its first fault. An unknown field is ignored, a missing one counts as
-/// null, and of a key that is written twice the last value counts.
+fn check(alloc: Global, draft: Draft) -> Result<Manifest, ManifestFault>
+    ensures meaning { Gives manifest_view result (checked (draft_view draft)) }
+    ensures rules { IfOk result (λ m. keeps_rules (manifest_view m) ≡ true) }
+{
+    let name = checked_name(alloc, &draft)?;
+    Ok(named(name, draft))
+}
+
+/// `read_manifest` gives the manifest that the metadata stands for, or its first fault.
+/// An unknown field is ignored, and a missing one counts as null.
+/// Of a key that is written twice the last value counts.
 #[tactic(auto, unfolding(crate::specs::Metadata::metadata_of))]
 pub fn read_manifest(alloc: Global, bytes: &[u8]) -> Result<Manifest, ManifestFault>
     ensures meaning { Gives manifest_view result (metadata_of bytes.now) }

@@ -4,7 +4,7 @@ ghost use Rattle.std.specs.Prelude.{◌≡◌, IfOk, is_ok, map, option_map, str
 ghost use Rattle.std.specs.List.{list_all};
 ghost use Rattle.semver.specs.Parse.{req_of};
 ghost use Rattle.reg_manifest.specs.Manifests.{dep_view};
-ghost use Rattle.reg_manifest.specs.Metadata.{is_blank, is_dep, is_kind};
+ghost use Rattle.reg_manifest.specs.Metadata.{is_given_empty, is_dep, is_kind};
 ghost use Rattle.reg_versions.specs.Versions.{is_version};
 
 use crate::manifest::Dep;
@@ -44,8 +44,8 @@ fn is_kind(kind: &str) -> bool
     kind == "normal" || kind == "build" || kind == "dev"
 }
 
-fn is_blank(text: &Option<String>) -> bool
-    ensures { result ≡ is_blank (option_map string_bytes text.now) }
+fn is_given_empty(text: &Option<String>) -> bool
+    ensures { result ≡ is_given_empty (option_map string_bytes text.now) }
 {
     match text {
         Some(text) => text.is_empty(),
@@ -60,7 +60,7 @@ fn is_dep(alloc: Global, found: &Dep) -> Result<bool, AllocError>
     if found.name.is_empty() {
         return Ok(false);
     }
-    if is_blank(&found.explicit_name_in_toml) {
+    if is_given_empty(&found.explicit_name_in_toml) {
         return Ok(false);
     }
     if !is_kind(found.kind.as_str()) {
@@ -69,8 +69,8 @@ fn is_dep(alloc: Global, found: &Dep) -> Result<bool, AllocError>
     is_requirement(alloc, found.version_req.as_str())
 }
 
-/// Whether each dependency has a name, a new name that is not empty, a known kind, and a requirement
-/// that `semver` reads.
+/// `are_deps` tells whether each dependency keeps the rules: it has a name, a new name that is not
+/// empty if any, a known kind, and a requirement that `semver` reads.
 pub fn are_deps(alloc: Global, deps: &[Dep]) -> Result<bool, AllocError>
     ensures { IfOk result (λ b. b ≡ list_all is_dep (map dep_view deps.now)) }
 {

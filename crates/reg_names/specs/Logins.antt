@@ -9,7 +9,8 @@ is_login_byte b = (is_ascii_lowercase b || is_ascii_digit b) || (b == 45 || b ==
 
 -- a login: 1 to 32 of these characters, the first a letter
 abbrev pub is_login : List ℕ → Bool
-is_login t = (nat_lt 0 (length t) && nat_le (length t) 32) && (is_ascii_lowercase (slice_index t 0) && list_all is_login_byte t)
+is_login t = (nat_lt 0 (length t) && nat_le (length t) 32)
+    && (is_ascii_lowercase (slice_index t 0) && list_all is_login_byte t)
 
 -- the login that a text is
 abbrev pub login_of : List ℕ → Option (List ℕ)

@@ -20,10 +20,14 @@ is_pattern p = if has_star p then length (prefix_of p) == 0 || is_name (prefix_o
 abbrev pub pattern_of : List ℕ → Option (List ℕ)
 pattern_of t = if is_pattern t then Some t else None
 
--- A name covers those of its own canonical text; a prefix with its star those whose canonical text is the prefix's, followed by some text.
+-- A name covers those of its own canonical text. A prefix with its star covers those whose
+-- canonical text is the prefix's, followed by some text.
 abbrev pub Covers : List ℕ → List ℕ → Type 0
-Covers p n = ((is_name p ≡ true) × (canon n ≡ canon p)) ⊎ ((r : List ℕ) × (w : List ℕ) × (p ≡ r ++ codes "*") × (canon n ≡ canon r ++ w))
+Covers p n = ((is_name p ≡ true) × (canon n ≡ canon p))
+    ⊎ ((r : List ℕ) × (w : List ℕ) × (p ≡ r ++ codes "*") × (canon n ≡ canon r ++ w))
 
 -- the same as a test
 abbrev pub covers : List ℕ → List ℕ → Bool
-covers p n = if has_star p then starts_with nat_eq (canon n) (canon (prefix_of p)) else bytes_eq (canon n) (canon p)
+covers p n =
+    if has_star p then starts_with nat_eq (canon n) (canon (prefix_of p))
+    else bytes_eq (canon n) (canon p)

@@ -1,4 +1,5 @@
--- Ranges of canonical texts: what a pattern covers, as one comparison of texts (RFC 2947, "Crate scopes", in this registry's own form).
+-- Ranges of canonical texts: what a pattern covers, as one comparison of texts
+-- (RFC 2947, "Crate scopes", in this registry's own form).
 use Rattle.std.specs.Prelude.{ℕ, ◌&&◌, if◌then◌else◌, Bool, List, ◌++◌, codes, string_bytes}
 use Rattle.std.specs.Ordering.{is_le, is_lt, nat_cmp}
 use Rattle.std.specs.declared.cmp.Ordering.{Ordering}
@@ -24,8 +25,8 @@ is_within r t = is_le (byte_order r.low t) && is_lt (byte_order t r.high)
 abbrev pub range_to : List ℕ → List ℕ → Range
 range_to base end = record { low = canon base; high = canon base ++ end }
 
--- The range of a pattern. Each character of a canonical name lies between `!` and `{`: a name's range ends before its first
--- longer text, a prefix's range after its last.
+-- The range of a pattern. Each character of a canonical name lies between `!` and `{`: a name's
+-- range ends before its first longer text, a prefix's range after its last.
 abbrev pub range_of : List ℕ → Range
 range_of p = if has_star p then range_to (prefix_of p) (codes "{") else range_to p (codes "!")
 

@@ -1,13 +1,13 @@
 //! Canonical texts: what two spellings of one crate have in common.
 
 ghost use Rattle.std.specs.Prelude.{◌≡◌, ◌<◌, ◌↔◌, ℕ, IsTrue, List};
-ghost use Rattle.reg_names.specs.Names.{canon, canon_byte};
+ghost use Rattle.reg_names.specs.Names.{IsCanonText, canon, canon_byte};
 
 use crate::name::CrateName;
 use arrayvec::ArrayString;
 use std::marker::Model;
 
-/// A canonical text: a crate name in ASCII lower case with `_` for `-`.
+/// A canonical text: that of some crate name, in ASCII lower case with `_` for `-`.
 #[derive(Drop)]
 pub struct CanonText {
     text: ArrayString<64>,
@@ -17,6 +17,8 @@ impl Model for CanonText {
     ghost Value = { List ℕ };
 
     ghost view = { λ n. n.text.bytes };
+
+    ghost invariant = { λ n. IsCanonText n.text.bytes };
 }
 
 impl CanonText {
@@ -39,7 +41,8 @@ pub(crate) fn canon_byte(b: u8) -> u8
     }
 }
 
-/// The name in ASCII lower case with `_` for `-`. Names that differ in nothing else are one crate.
+/// `canon` gives the name in ASCII lower case with `_` for `-`.
+/// Names that differ in nothing else are one crate.
 pub fn canon(name: &CrateName) -> CanonText
     ensures { result ≡ canon name.now }
 {
@@ -50,7 +53,8 @@ pub fn canon(name: &CrateName) -> CanonText
     CanonText { text }
 }
 
-/// Whether two names have one canonical text, so that a registry holds only one of them.
+/// `collides` tells whether two names have one canonical text.
+/// A registry holds only one of such names.
 pub fn collides(one: &CrateName, other: &CrateName) -> bool
     ensures { IsTrue result ↔ (canon one.now ≡ canon other.now) }
 {

@@ -1,4 +1,15 @@
-//! Crate names, their canonical texts and their index paths, as fixed-size values without heap.
+//! The names of a registry: crate names, logins, and the patterns of token scopes.
+//!
+//! Each is a small value that takes no memory of the heap, made from a text by its parser alone.
+//! From a crate name come its index path and its canonical text, which two spellings of one crate
+//! share.
+//!
+//! ```
+//! let name = parse_name("Cargo-Tools")?;
+//! index_path(&name).as_str()                      // ca/rg/cargo-tools
+//! canon(&name).as_str()                           // cargo_tools
+//! covers(&Pattern::parse("cargo_*")?, &name)      // true
+//! ```
 #![tactic(auto)]
 
 mod canonical;
@@ -12,6 +23,6 @@ mod range;
 pub use canonical::{CanonText, canon, collides};
 pub use login::{Login, parse_login};
 pub use name::{CrateName, lower, parse_name};
-pub use path::{PathText, index_path, name_of_path};
+pub use path::{LONGEST_PATH, PathText, index_path, name_of_path};
 pub use pattern::{Pattern, covers};
 pub use range::{NameRange, compile, in_range};

@@ -43,7 +43,7 @@ fn is_login(text: &str) -> bool
     bytes[0].is_ascii_lowercase() && all_login_bytes(bytes)
 }
 
-/// The login that a text is.
+/// `parse_login` accepts a text exactly when it is a login.
 pub fn parse_login(text: &str) -> Option<Login>
     ensures { result ≡ login_of text.now }
 {

@@ -2,22 +2,27 @@
 
 ghost use Rattle.std.specs.Prelude.{◌≡◌, ◌+◌, ◌<◌, ◌≤◌, ◌↔◌, ℕ, List, Some, length, slice_index, true, [], ◌++◌};
 ghost use Rattle.std.specs.Str.{IsAscii};
-ghost use Rattle.reg_names.specs.Names.{folder_of, is_name, lower, name_at, path_of};
+ghost use Rattle.reg_names.specs.Names.{IsPathOf, IsPathText, folder_of, is_name, lower, name_at, path_of};
 
 use crate::name::{CrateName, lower, parse_name};
 use arrayvec::ArrayString;
 use std::marker::Model;
 
-/// An index path, as `ca/rg/cargo`.
+/// How many bytes an index path has at most: a folder of 6 and a name of 64.
+pub const LONGEST_PATH: usize = 70;
+
+/// The index path of some crate name, as `ca/rg/cargo`.
 #[derive(Drop)]
 pub struct PathText {
-    text: ArrayString<70>,
+    text: ArrayString<LONGEST_PATH>,
 }
 
 impl Model for PathText {
     ghost Value = { List ℕ };
 
     ghost view = { λ p. p.text.bytes };
+
+    ghost invariant = { λ p. IsPathText p.text.bytes };
 }
 
 impl PathText {
@@ -56,7 +61,7 @@ fn folder(name: &str) -> ArrayString<6>
     text
 }
 
-/// The path of a crate's index file.
+/// `index_path` gives the path of a crate's index file.
 pub fn index_path(name: &CrateName) -> PathText
     ensures { result ≡ path_of name.now }
 {
@@ -67,10 +72,11 @@ pub fn index_path(name: &CrateName) -> PathText
     PathText { text }
 }
 
-/// How long the folder of a path is, from the length of the path.
+/// How long the folder of a path is, told by the length of the path.
 #[tactic(auto, using(crate::proofs::PathFacts::path_lengths))]
 fn folder_len(path_len: usize) -> usize
-    ensures { (m : List ℕ) → 0 < length m → path_len ≡ length (folder_of m ++ m) → result ≡ length (folder_of m) }
+    ensures { (m : List ℕ) → 0 < length m → path_len ≡ length (folder_of m ++ m)
+        → result ≡ length (folder_of m) }
 {
     match path_len {
         3 | 4 => 2,
@@ -79,7 +85,7 @@ fn folder_len(path_len: usize) -> usize
     }
 }
 
-/// What stands behind the folder of a path; nothing, where the path is none.
+/// What stands behind the folder of a path, or nothing for a text that is no path.
 fn file_name(path: &str) -> &str
     ensures { (n : List ℕ) → is_name n ≡ true → path_of n ≡ path.now → result.now ≡ lower n }
 {
@@ -91,7 +97,7 @@ fn file_name(path: &str) -> &str
 
 /// What stands behind the folder of a path, where the text is its path.
 fn named_by(path: &str) -> Option<CrateName>
-    ensures { (n : List ℕ) → (result ≡ Some n) ↔ ((is_name n ≡ true) × (lower n ≡ n) × (path_of n ≡ path.now)) }
+    ensures { (n : List ℕ) → (result ≡ Some n) ↔ IsPathOf n path.now }
 {
     let name = parse_name(file_name(path))?;
     if lower(&name).as_str() == name.as_str() && index_path(&name).as_str() == path {
@@ -101,9 +107,10 @@ fn named_by(path: &str) -> Option<CrateName>
     }
 }
 
-/// The lower-case name whose index path a text is.
+/// `name_of_path` accepts a text exactly when it is the index path of a name in lower case.
+/// It gives that name.
 pub fn name_of_path(path: &str) -> Option<CrateName>
-    ensures meaning { (n : List ℕ) → (result ≡ Some n) ↔ ((is_name n ≡ true) × (lower n ≡ n) × (path_of n ≡ path.now)) }
+    ensures meaning { (n : List ℕ) → (result ≡ Some n) ↔ IsPathOf n path.now }
     ensures value { result ≡ name_at path.now }
 {
     named_by(path)

@@ -70,7 +70,7 @@ fn begins_like(name: &[u8], prefix: &[u8]) -> bool
 }
 
 impl Pattern {
-    /// The pattern that a text is.
+    /// `Pattern::parse` accepts a text exactly when it is a pattern.
     pub fn parse(text: &str) -> Option<Pattern>
         ensures { result ≡ pattern_of text.now }
     {
@@ -93,7 +93,8 @@ impl Pattern {
     }
 }
 
-/// Whether the pattern covers the name. Neither case nor `-` and `_` tell names apart.
+/// `covers` tells whether the pattern covers the name.
+/// Case makes no difference, and neither does `-` for `_`.
 pub fn covers(pattern: &Pattern, name: &CrateName) -> bool
     ensures meaning { IsTrue result ↔ Covers pattern.now name.now }
     ensures test { result ≡ covers pattern.now name.now }

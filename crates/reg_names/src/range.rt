@@ -1,4 +1,5 @@
-//! Patterns compiled to ranges of canonical texts, so that covering a name is two comparisons.
+//! Patterns compiled to ranges of canonical texts.
+//! Whether a pattern covers a name is then two comparisons.
 
 ghost use Rattle.std.specs.Prelude.{◌≡◌, IfOk, string_bytes};
 ghost use Rattle.std.specs.Str.{IsAscii};
@@ -40,7 +41,7 @@ fn range_to(alloc: Global, base: &[u8], end: &str) -> Result<NameRange, AllocErr
     Ok(NameRange { low, high })
 }
 
-/// The range of the canonical texts of just the names that a pattern covers.
+/// `compile` gives the range in which a name lies exactly when the pattern covers it.
 pub fn compile(alloc: Global, pattern: &Pattern) -> Result<NameRange, AllocError>
     ensures { IfOk result (λ r. range_view r ≡ range_of pattern.now) }
 {
@@ -52,7 +53,7 @@ pub fn compile(alloc: Global, pattern: &Pattern) -> Result<NameRange, AllocError
     }
 }
 
-/// Whether a name's canonical text is in a range.
+/// `in_range` tells whether a name's canonical text is in a range.
 pub fn in_range(range: &NameRange, name: &CrateName) -> bool
     ensures { result ≡ is_within (range_view range.now) (canon name.now) }
 {

@@ -7,7 +7,8 @@ use Rattle.std.specs.declared.cmp.Ordering.TheVariants.{Greater}
 use Rattle.semver.specs.Order.{pre_cmp}
 use Rattle.semver.specs.Parse.{Parts}
 
--- major, minor and patch as numbers, then the pre-release by its identifiers; build metadata has no part in it
+-- major, minor and patch as numbers, then the pre-release by its identifiers;
+-- build metadata has no part in it
 abbrev pub precedence : Parts → Parts → Ordering
 precedence = then_cmp (on (λ (p : Parts). p.0) nat_cmp) (then_cmp (on (λ (p : Parts). p.1) nat_cmp)
     (then_cmp (on (λ (p : Parts). p.2) nat_cmp) (on (λ (p : Parts). p.3) pre_cmp)))
@@ -25,9 +26,11 @@ takes_part l r = all_yanked l || not r.1
 
 -- none that takes part has greater precedence
 abbrev pub IsUnsurpassed : List Marked → Marked → Type 0
-IsUnsurpassed l r = (j : ℕ) (s : Marked) → slice_get l j ≡ Some s → takes_part l s ≡ true → ¬ (precedence s.0 r.0 ≡ Greater)
+IsUnsurpassed l r = (j : ℕ) (s : Marked) → slice_get l j ≡ Some s → takes_part l s ≡ true
+    → ¬ (precedence s.0 r.0 ≡ Greater)
 
 -- the place of the first, of those that take part, than which none has greater precedence
 abbrev pub IsTop : List Marked → ℕ → Type 0
 IsTop l i = (r : Marked) × (slice_get l i ≡ Some r) × (takes_part l r ≡ true) × IsUnsurpassed l r
-    × ((j : ℕ) (s : Marked) → j < i → slice_get l j ≡ Some s → takes_part l s ≡ true → ¬ IsUnsurpassed l s)
+    × ((j : ℕ) (s : Marked) → j < i → slice_get l j ≡ Some s → takes_part l s ≡ true
+    → ¬ IsUnsurpassed l s)

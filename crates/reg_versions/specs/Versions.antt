@@ -1,4 +1,4 @@
--- Which texts are versions (SemVer 2.0.0, with numbers of 64 bits), and which of them are one release.
+-- Which texts are versions (SemVer 2.0.0, with numbers of 64 bits), and which are one release.
 use Rattle.std.specs.Prelude.{◌≡◌, ◌==◌, ℕ, Bool, List, is_ok}
 use Rattle.std.specs.List.{before_first}
 use Rattle.semver.specs.Grammar.{IsValid}
@@ -9,9 +9,14 @@ use Rattle.semver.specs.Parse.{Parts, version_parts}
 abbrev pub is_version : List ℕ → Bool
 is_version text = is_ok (version_parts text)
 
--- the same by the grammar (section 2 and the BNF): the text of some valid numbers, pre-release and build metadata
+-- by the grammar (section 2 and the BNF): the text is made of these numbers of 64 bits, this
+-- pre-release and this build metadata, each of which is valid
+abbrev pub IsVersionOf : List ℕ → Parts → Type 0
+IsVersionOf text p = IsValid p × (parts_text p ≡ text)
+
+-- the text is made of some such parts
 abbrev pub IsVersionText : List ℕ → Type 0
-IsVersionText text = (p : Parts) × IsValid p × (parts_text p ≡ text)
+IsVersionText text = (p : Parts) × IsVersionOf text p
 
 -- the release key: what stands before the first `+`
 abbrev pub release_key_of : List ℕ → List ℕ

@@ -1,9 +1,13 @@
 //! Laws over the definitions, each on a function that does nothing.
 
-ghost use Rattle.std.specs.Prelude.{◌≡◌, ◌↔◌, true};
-ghost use Rattle.reg_versions.specs.Versions.{IsVersionText, is_version};
+ghost use Rattle.std.specs.Prelude.{◌≡◌, ◌↔◌, Ok, true};
+ghost use Rattle.semver.specs.Parse.{Parts, version_parts};
+ghost use Rattle.reg_versions.specs.Versions.{IsVersionOf, IsVersionText, is_version};
 
-/// What `Release::parse` accepts is just what the grammar of SemVer 2.0.0 allows.
+/// `Release::parse` accepts just what the grammar of SemVer 2.0.0 allows, and reads it as the
+/// numbers, the pre-release and the build metadata of which the grammar makes the text.
 pub fn versions_are_the_grammar(text: &str)
-    ensures { (is_version text.now ≡ true) ↔ IsVersionText text.now }
+    ensures accepted { (is_version text.now ≡ true) ↔ IsVersionText text.now }
+    ensures read { (parts : Parts) → (version_parts text.now ≡ Ok parts)
+        ↔ IsVersionOf text.now parts }
 {}

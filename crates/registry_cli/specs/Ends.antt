@@ -1,6 +1,7 @@
 -- What was written before a stop, and which stops are failures of an end.
 use Rattle.std.specs.Prelude.{◌≡◌, ℕ, ◌+◌, ◌<◌, List, ◌++◌, length, Option, Result, Ok, Err}
 use Rattle.std.specs.Io.KnownBytes.{Appends}
+use Rattle.reg_body.specs.Counting.{CountedEnd}
 use Rattle.registry_cli.specs.declared.ends.EndFault.{EndFault}
 use Rattle.registry_cli.specs.declared.ends.EndFault.TheVariants.{Failed, Spent, Memory}
 
@@ -12,9 +13,17 @@ pub record AppendsFront (old new : Option (List ℕ)) (bs : List ℕ) : Type 0 w
   pub left : 0 < length rest
   pub appends : Appends old new front
 
--- one failure more exactly where the answer is that the end failed
-abbrev pub CountsFailure : {A : Type 0} → Result A EndFault → ℕ → ℕ → Type 0
-CountsFailure (Ok a) old new = new ≡ old
-CountsFailure (Err Failed) old new = new ≡ old + 1
-CountsFailure (Err Spent) old new = new ≡ old
-CountsFailure (Err Memory) old new = new ≡ old
+-- no call of the end failed
+abbrev pub NoneFailed : {T : Type 0} → CountedEnd T → CountedEnd T → Type 0
+NoneFailed old new = new.failures ≡ old.failures
+
+-- one call of the end failed
+abbrev pub OneFailed : {T : Type 0} → CountedEnd T → CountedEnd T → Type 0
+OneFailed old new = new.failures ≡ old.failures + 1
+
+-- a call of the end failed exactly where the answer is that it did
+abbrev pub TellsFailure : {A T : Type 0} → Result A EndFault → CountedEnd T → CountedEnd T → Type 0
+TellsFailure (Ok a) old new = NoneFailed old new
+TellsFailure (Err Failed) old new = OneFailed old new
+TellsFailure (Err Spent) old new = NoneFailed old new
+TellsFailure (Err Memory) old new = NoneFailed old new

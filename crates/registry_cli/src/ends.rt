@@ -2,7 +2,7 @@
 
 ghost use Rattle.std.specs.Prelude.{◌≡◌, ◌+◌, ◌^◌, ◌<◌, ◌≤◌, IfOk, IfSome, IsErrOf, OnErr, OnOk, vec_len};
 ghost use Rattle.std.specs.Io.KnownBytes.{Appends, IsAtEnd};
-ghost use Rattle.registry_cli.specs.Ends.{AppendsFront, CountsFailure};
+ghost use Rattle.registry_cli.specs.Ends.{AppendsFront, TellsFailure};
 
 use reg_body::Counted;
 use std::alloc::{AllocError, Global};
@@ -51,17 +51,20 @@ fn buffer(alloc: Global, len: usize) -> Result<Vec<u8>, AllocError>
     vec![in alloc; 0; len]
 }
 
-/// All that the reader has, by at most so many calls. The last call is the one that finds the end.
+/// `read_all` reads all that the reader has, by at most so many calls.
+/// The last call is the one that finds the end.
 pub fn read_all<R: Read>(
     alloc: Global,
     reader: &mut Counted<R>,
     turns: u64,
 ) -> Result<Vec<u8>, EndFault>
     requires { reader.old.calls + turns < 2 ^ 64 }
-    ensures all { IfOk result (λ bytes. IfSome (R.remaining reader.old.inner) (λ xs. bytes.items ≡ xs)) }
+    ensures all { IfOk result (λ bytes. IfSome (R.remaining reader.old.inner)
+        (λ xs. bytes.items ≡ xs)) }
     ensures end { OnOk result (IsAtEnd (R.remaining reader.new.inner)) }
-    ensures calls { (reader.old.calls ≤ reader.new.calls) × (reader.new.calls ≤ reader.old.calls + turns) }
-    ensures failures { CountsFailure result reader.old.failures reader.new.failures }
+    ensures calls { (reader.old.calls ≤ reader.new.calls)
+        × (reader.new.calls ≤ reader.old.calls + turns) }
+    ensures failures { TellsFailure result reader.old reader.new }
     ensures spent { IsErrOf result EndFault.Spent → reader.new.calls ≡ reader.old.calls + turns }
 {
     let mut chunk = buffer(alloc, CHUNK)?;
@@ -76,17 +79,20 @@ pub fn read_all<R: Read>(
     Err(EndFault::Spent)
 }
 
-/// Writes the bytes, by at most so many calls. It takes no memory.
+/// `write_all` writes the bytes, by at most so many calls. It takes no memory.
 pub fn write_all<W: Write>(
     writer: &mut Counted<W>,
     bytes: &[u8],
     turns: u64,
 ) -> Result<(), EndFault>
     requires { writer.old.calls + turns < 2 ^ 64 }
-    ensures all { OnOk result (Appends (W.contents writer.old.inner) (W.contents writer.new.inner) bytes.now) }
-    ensures front { OnErr result (AppendsFront (W.contents writer.old.inner) (W.contents writer.new.inner) bytes.now) }
-    ensures calls { (writer.old.calls ≤ writer.new.calls) × (writer.new.calls ≤ writer.old.calls + turns) }
-    ensures failures { CountsFailure result writer.old.failures writer.new.failures }
+    ensures all { OnOk result
+        (Appends (W.contents writer.old.inner) (W.contents writer.new.inner) bytes.now) }
+    ensures front { OnErr result
+        (AppendsFront (W.contents writer.old.inner) (W.contents writer.new.inner) bytes.now) }
+    ensures calls { (writer.old.calls ≤ writer.new.calls)
+        × (writer.new.calls ≤ writer.old.calls + turns) }
+    ensures failures { TellsFailure result writer.old writer.new }
     ensures spent { IsErrOf result EndFault.Spent → writer.new.calls ≡ writer.old.calls + turns }
     ensures no_memory { ¬ (IsErrOf result EndFault.Memory) }
 {

@@ -3,17 +3,17 @@
 ghost use Rattle.std.specs.Prelude.{◌≡◌, ◌+◌, ◌<◌, ◌≤◌, ◌^◌, ◌⊎◌, IfErr, IfOk, IfSome, List, ℕ, []};
 ghost use Rattle.std.specs.Io.KnownBytes.{Appends, IsAtEnd};
 ghost use Rattle.reg_manifest.specs.Manifests.{manifest_view};
-ghost use Rattle.registry_cli.specs.Answers.{Breaks, IsAnswer, IsStop, printed, stop_words, words_of};
-ghost use Rattle.registry_cli.specs.Ends.{AppendsFront};
+ghost use Rattle.registry_cli.specs.Answers.{Breaks, IsAnswer, IsStop, printed, stop_words};
+ghost use Rattle.registry_cli.specs.Ends.{AppendsFront, NoneFailed};
+ghost use Rattle.registry_cli.specs.Faults.{memory, words_of};
 ghost use Rattle.registry_cli.specs.declared.fault.LineFault.{LineFault};
-ghost use Rattle.registry_cli.specs.declared.fault.LineFault.TheVariants as Fault;
 
 use crate::ends::{EndFault, read_all, write_all};
 use crate::fault::LineFault;
 use reg_body::{Counted, Limits, split};
 use reg_line::{digest_of, line};
-use reg_manifest::{Manifest, read_manifest};
-use reg_names::index_path;
+use reg_manifest::{Manifest, ManifestFault, read_manifest};
+use reg_names::{LONGEST_PATH, index_path};
 use std::alloc::Global;
 use std::io::{Read, Write};
 
@@ -27,12 +27,13 @@ pub struct Exit {
 
 /// The index path and the line of a version that is not yanked, each ended by a line feed.
 fn lines(alloc: Global, manifest: &Manifest, archive: &[u8]) -> Result<Vec<u8>, LineFault>
-    ensures printed { IfOk result (λ text. text.items ≡ printed (manifest_view manifest.now) archive.now) }
-    ensures memory { IfErr result (λ fault. fault ≡ Fault.Memory) }
+    ensures printed { IfOk result (λ text. text.items
+        ≡ printed (manifest_view manifest.now) archive.now) }
+    ensures memory { IfErr result (λ fault. fault ≡ memory) }
 {
     let path = index_path(&manifest.name);
     let line = line(alloc, manifest, &digest_of(archive), false)?;
-    let mut text = Vec::with_capacity(alloc, 71 + line.len())?;
+    let mut text = Vec::with_capacity(alloc, LONGEST_PATH + 1 + line.len())?;
     text.extend_from_slice(path.as_str().as_bytes())?;
     text.push(b'\n')?;
     text.extend_from_slice(&line)?;
@@ -65,18 +66,21 @@ fn stopped(fault: EndFault, words: &'static str) -> Exit
 /// The end of a run whose input has no line.
 fn refused(fault: LineFault) -> Exit
     ensures words { result.words.now ≡ words_of fault }
-    ensures status { (result.status ≡ 1) ⊎ ((result.status ≡ 3) × (fault ≡ Fault.Memory)) }
-    ensures rule { result.status ≡ 1 → ¬ (fault ≡ Fault.Memory) }
+    ensures status { (result.status ≡ 1) ⊎ ((result.status ≡ 3) × (fault ≡ memory)) }
+    ensures rule { result.status ≡ 1 → ¬ (fault ≡ memory) }
 {
-    let status = if fault == LineFault::Memory { 3 } else { 1 };
+    let status = match fault {
+        LineFault::Manifest(ManifestFault::Memory) => 3,
+        _ => 1,
+    };
     Exit {
         status,
         words: fault.words(),
     }
 }
 
-/// Reads a publish body to its end and prints its index path and its line, by at most `turns` read and write calls
-/// together.
+/// `run_line` reads a publish body to its end and prints its index path and its line.
+/// It makes at most `turns` read and write calls together.
 pub fn run_line<R: Read, W: Write>(
     alloc: Global,
     reader: &mut Counted<R>,
@@ -95,7 +99,12 @@ pub fn run_line<R: Read, W: Write>(
     // Refused: nothing was printed, and the words are those of the first broken rule.
     ensures refused { result.status ≡ 1 → (writer.new ≡ writer.old)
         × IfSome (R.remaining reader.old.inner) (λ input. (fault : LineFault)
-        × Breaks limits.now input fault × ¬ (fault ≡ Fault.Memory) × (result.words.now ≡ words_of fault)) }
+        × Breaks limits.now input fault × ¬ (fault ≡ memory)
+        × (result.words.now ≡ words_of fault)) }
+
+    // Done or refused: the input was read to its end, and no call of an end failed.
+    ensures whole { ¬ (result.status ≡ 3) → IsAtEnd (R.remaining reader.new.inner)
+        × NoneFailed reader.old reader.new × NoneFailed writer.old writer.new }
 
     // Stopped: nothing was printed, or, once the whole input was read, a front of the answer.
     ensures stopped { result.status ≡ 3 → (writer.new ≡ writer.old)
@@ -104,14 +113,13 @@ pub fn run_line<R: Read, W: Write>(
         × IsAnswer limits.now input text
         × AppendsFront (W.contents writer.old.inner) (W.contents writer.new.inner) text)) }
 
-    // Each stop has its cause.
-    ensures cause { result.status ≡ 3 → IsStop result.words.now
-        (reader.new.failures ≡ reader.old.failures + 1)
-        (writer.new.failures ≡ writer.old.failures + 1)
-        (reader.new.calls + writer.new.calls ≡ reader.old.calls + writer.old.calls + limits.now.turns) }
+    // Stopped: the words say why, and nothing else went wrong.
+    ensures cause { result.status ≡ 3
+        → IsStop result.words.now limits.now.turns reader.old reader.new writer.old writer.new }
 
     ensures status { (result.status ≡ 0) ⊎ ((result.status ≡ 1) ⊎ (result.status ≡ 3)) }
-    ensures turns { reader.new.calls + writer.new.calls ≤ reader.old.calls + writer.old.calls + limits.now.turns }
+    ensures turns { reader.new.calls + writer.new.calls
+        ≤ reader.old.calls + writer.old.calls + limits.now.turns }
 {
     let before = reader.calls();
     let input = match read_all(alloc, reader, limits.turns) {

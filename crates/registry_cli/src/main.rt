@@ -1,4 +1,12 @@
 //! The registry's command line.
+//!
+//! ```
+//! registry_cli line < publish-body                // prints the index path and the index line
+//! registry_cli --help
+//! ```
+//!
+//! It ends with status 0 for done, 1 for a refused input, 2 for bad words, and 3 where an end or
+//! memory failed.
 #![tactic(auto)]
 
 mod ends;
@@ -15,12 +23,12 @@ use std::process::ExitCode;
 use std::{env, io};
 
 /// The program's words, its own name first.
-fn words_given(rt: &HostRuntime, alloc: Global) -> io::Result<Vec<String>> {
+fn command_line(rt: &HostRuntime, alloc: Global) -> io::Result<Vec<String>> {
     Ok(env::args(rt)?.collect(alloc)?)
 }
 
 fn run(rt: &HostRuntime) -> Exit {
-    match words_given(rt, rt.alloc()) {
+    match command_line(rt, rt.alloc()) {
         Ok(given) => words::run_words(rt, given.as_slice()),
         Err(error) if error.kind() == ErrorKind::OutOfMemory => Exit {
             status: 3,

@@ -1,5 +1,7 @@
 //! The program on the worked examples, on failing ends, without memory, and on bad words.
 
+mod counted;
+
 use crate::line::{Exit, run_line};
 use crate::words::run_words;
 use reg_body::{Counted, Limits, join};
@@ -155,7 +157,7 @@ fn spent_turns(rt: HostRuntime) -> Result<(), Fail> {
     Ok(())
 }
 
-/// A body whose metadata is so many bytes of spaces behind a manifest, and whose archive has so many bytes.
+/// A body whose metadata is a manifest and spaces, so many bytes, and whose archive has so many.
 fn long_body(alloc: Global, json_len: usize, archive_len: usize) -> Result<Vec<u8>, Fail> {
     let mut json = Vec::with_capacity(alloc, json_len)?;
     json.extend_from_slice(b"{\"name\":\"a\",\"vers\":\"0.1.0\"}")?;
@@ -196,7 +198,8 @@ fn refusals(rt: HostRuntime) -> Result<(), Fail> {
         ("{\"name\":\"\",\"vers\":\"1.0.0\"}", "N1 bad crate name"),
         ("{\"name\":\"a\",\"vers\":\"1.0\"}", "V1 bad version"),
         (
-            "{\"name\":\"a\",\"vers\":\"1.0.0\",\"deps\":[{\"name\":\"b\",\"version_req\":\"1\",\"kind\":\"test\"}]}",
+            "{\"name\":\"a\",\"vers\":\"1.0.0\",\
+             \"deps\":[{\"name\":\"b\",\"version_req\":\"1\",\"kind\":\"test\"}]}",
             "M1 bad dependency",
         ),
     ] {

@@ -8,7 +8,8 @@ use std::alloc::{AllocError, Global};
 
 fn command<'a>(alloc: Global) -> Result<Command<'a>, AllocError> {
     let line = Command::new(alloc, "line").about(
-        "Reads the body of a publish request from standard input and prints the crate's index path and its index line",
+        "Reads the body of a publish request from standard input \
+         and prints the crate's index path and its index line",
     );
     Command::new(alloc, "registry_cli")
         .about("A private Cargo registry")
@@ -21,8 +22,9 @@ fn parsed<'a>(alloc: Global, words: &'a [String]) -> Result<ArgMatches<'a>, Erro
     command(alloc)?.try_get_matches_from(words)
 }
 
-/// Runs the program's words, its own name first. Help is printed here, on standard output with status 0, and what `clap`
-/// says of bad words on standard error with status 2.
+/// `run_words` runs the program's words, its own name first.
+/// Help is printed here, on standard output with status 0.
+/// So is what `clap` says of bad words, on standard error with status 2.
 pub fn run_words(rt: &HostRuntime, words: &[String]) -> Exit {
     let alloc = rt.alloc();
     let matches = match parsed(alloc, words) {

@@ -3,19 +3,21 @@
 ghost use Rattle.std.specs.Prelude.{◌≡◌, ◌+◌, ◌-◌, ◌^◌, ◌<◌};
 ghost use Rattle.std.specs.Io.{ReadsAtMost};
 ghost use Rattle.std.specs.Io.KnownBytes.{ReadConsumes};
-ghost use Rattle.reg_body.specs.Counting.{Fails};
+ghost use Rattle.reg_body.specs.Counting.{CountsFailure};
 
 use crate::counted::Counted;
 use std::io::{self, Read};
 
 impl<R: Read> Counted<R> {
-    /// One read of the end. What the end answers is passed on, so an interrupted read is a failure too.
+    /// One read of the end. What the end answers is passed on.
+    /// An interrupted read is therefore a failure too.
     pub fn read(&mut self, buf: &mut [u8]) -> io::Result<usize>
         requires { self.old.calls < 2 ^ 64 - 1 }
         ensures bound { ReadsAtMost result buf.new }
-        ensures bytes { ReadConsumes (R.remaining self.old.inner) (R.remaining self.new.inner) result buf.new }
+        ensures bytes { ReadConsumes (R.remaining self.old.inner) (R.remaining self.new.inner)
+            result buf.new }
         ensures calls { self.new.calls ≡ self.old.calls + 1 }
-        ensures failures { Fails result self.old.failures self.new.failures }
+        ensures failures { CountsFailure result self.old.failures self.new.failures }
     {
         self.calls += 1;
         let result = self.inner.read(buf);

@@ -3,7 +3,7 @@
 ghost use Rattle.std.specs.Prelude.{◌≡◌, ◌+◌, ◌-◌, ◌^◌, ◌<◌, length, IfOk};
 ghost use Rattle.std.specs.Io.{WritesAtMost};
 ghost use Rattle.std.specs.Io.KnownBytes.{WriteAppends};
-ghost use Rattle.reg_body.specs.Counting.{Fails};
+ghost use Rattle.reg_body.specs.Counting.{CountsFailure};
 
 use crate::counted::Counted;
 use std::io::{self, ErrorKind, Write};
@@ -14,9 +14,10 @@ impl<W: Write> Counted<W> {
         requires { self.old.calls < 2 ^ 64 - 1 }
         ensures bound { WritesAtMost result buf.now }
         ensures some { IfOk result (λ n. 0 < length buf.now → 0 < n) }
-        ensures bytes { WriteAppends (W.contents self.old.inner) (W.contents self.new.inner) result buf.now }
+        ensures bytes { WriteAppends (W.contents self.old.inner) (W.contents self.new.inner)
+            result buf.now }
         ensures calls { self.new.calls ≡ self.old.calls + 1 }
-        ensures failures { Fails result self.old.failures self.new.failures }
+        ensures failures { CountsFailure result self.old.failures self.new.failures }
     {
         self.calls += 1;
         match self.inner.write(buf) {

@@ -1,6 +1,6 @@
 use Rattle.std.proofs.Common.{map, subst, ap, ◌∙◌}
 use Rattle.serde_json.specs.View.{members_view}
-use Rattle.reg_manifest.specs.Reads.{Gives}
+use Rattle.reg_manifest.specs.Parsing.{Gives}
 use Rattle.reg_manifest.specs.Fields.{lists_onto}
 use Rattle.reg_manifest.specs.Manifests.{feature_view}
 use Rattle.reg_manifest.proofs.Ascending.{ascending_members}
