@@ -1,7 +1,7 @@
 -- The texts that make the tables of schema 1, in the order in which they are made.
 -- Ids of accounts, tokens and crates are u32 and count from 1, marks are 0 or 1, and no foreign key
 -- acts: what a row refers to is never taken away under it.
-use Rattle.std.specs.Prelude.{codes, List, ℕ}
+use Rattle.std.specs.Prelude.{codes, List, ℕ, ◌++◌}
 
 -- one row: which schema it is, and the base of the registry
 abbrev pub about_text : List ℕ

@@ -28,7 +28,7 @@ returns-clause-stands g c clean s stands =
     (id, with_accounts s _ mid.now.trees new.now.trees adds.becomes.others (subst (λ (d : Database). Stands s d.trees) (sym same) stands) after)
 
 pub returns-in_err-last-clause-leaves : goal.returns-in_err-last-clause-leaves
-returns-in_err-last-clause-leaves g c = stops_read (state g.S.Store c.args.conn.now) (state g.S.Store c.last_id.new.conn) c.last_id.result _ c.from_residual-in_err-last.result c.from_residual-in_err-last.ensures.0 c.requires c.in_err-last.was c.last_id.ensures
+returns-in_err-last-clause-leaves g c = stops_read (state g.S.Store c.args.conn.now) (state g.S.Store c.last_id.new.conn) c.last_id.result _ c.from_residual.result c.from_residual.ensures.0 c.requires c.in_err-last.was c.last_id.ensures
 
 pub returns-in_err-id-clause-leaves : goal.returns-in_err-id-clause-leaves
 returns-in_err-id-clause-leaves g c = stops_here (state g.S.Store c.args.conn.now) (state g.S.Store c.last_id.new.conn) c.from_residual-in_err-id.result c.from_residual-in_err-id.ensures.0 (went_read (state g.S.Store c.args.conn.now) (state g.S.Store c.last_id.new.conn) c.last_id.result _ c.requires c.in_ok-last.was c.last_id.ensures)

@@ -18,7 +18,7 @@ returns-clause-added g c clean =
     crate_added old read mid new same c.in_ok-last.last c.in_ok-id.id c.args.name.now c.args.owner (c.in_ok-last.ensures.told clean_read) c.in_ok-id.ensures _ _ (c.as_str.ensures ∙ c.canon.ensures) c.as_str-2.ensures.value (c.in_ok-insert.ensures.changes clean_mid) (c.in_ok-insert-2.ensures.changes clean)
 
 pub returns-in_err-last-clause-leaves : goal.returns-in_err-last-clause-leaves
-returns-in_err-last-clause-leaves g c = stops_read (state g.S.Store c.args.conn.now) (state g.S.Store c.last_id.new.conn) c.last_id.result _ c.from_residual-in_err-last.result c.from_residual-in_err-last.ensures.0 c.requires c.in_err-last.was c.last_id.ensures
+returns-in_err-last-clause-leaves g c = stops_read (state g.S.Store c.args.conn.now) (state g.S.Store c.last_id.new.conn) c.last_id.result _ c.from_residual.result c.from_residual.ensures.0 c.requires c.in_err-last.was c.last_id.ensures
 
 pub returns-in_err-id-clause-leaves : goal.returns-in_err-id-clause-leaves
 returns-in_err-id-clause-leaves g c = stops_here (state g.S.Store c.args.conn.now) (state g.S.Store c.last_id.new.conn) c.from_residual-in_err-id.result c.from_residual-in_err-id.ensures.0 (went_read (state g.S.Store c.args.conn.now) (state g.S.Store c.last_id.new.conn) c.last_id.result _ c.requires c.in_ok-last.was c.last_id.ensures)

@@ -4,7 +4,7 @@ use Rattle.reg_stored.proofs.Withins.{become_within}
 use Rattle.reg_stored.proofs.tokens.add_scope.Goals as goal
 
 pub returns-in_err-range-clause-leaves : goal.returns-in_err-range-clause-leaves
-returns-in_err-range-clause-leaves g c = stops_here (state g.S.Store c.args.conn.now) (state g.S.Store c.args.conn.now) c.from_residual-in_err-range.result c.from_residual-in_err-range.ensures.0 (went_none (state g.S.Store c.args.conn.now) c.requires)
+returns-in_err-range-clause-leaves g c = stops_here (state g.S.Store c.args.conn.now) (state g.S.Store c.args.conn.now) c.from_residual.result c.from_residual.ensures.0 (went_none (state g.S.Store c.args.conn.now) c.requires)
 
 pub returns-in_err-insert-clause-leaves : goal.returns-in_err-insert-clause-leaves
 returns-in_err-insert-clause-leaves g c =

@@ -34,7 +34,7 @@ returns-clause-given g c clean =
     gives_all c.args.token c.args.patterns.now c.loop-index.index (state g.S.Store c.args.conn.now).now.trees (state g.S.Store c.loop-index.conn).now.trees c.loop-index-test.false (c.loop-index.invariant.0 clean)
 
 pub returns-in_err-place-clause-leaves : goal.returns-in_err-place-clause-leaves
-returns-in_err-place-clause-leaves g c = stops_here (state g.S.Store c.args.conn.now) (state g.S.Store c.loop-index.conn) c.from_residual-in_err-place.result c.from_residual-in_err-place.ensures.0 (record { within = c.loop-index.invariant.1; survives = c.loop-index.invariant.2 })
+returns-in_err-place-clause-leaves g c = stops_here (state g.S.Store c.args.conn.now) (state g.S.Store c.loop-index.conn) c.from_residual.result c.from_residual.ensures.0 (record { within = c.loop-index.invariant.1; survives = c.loop-index.invariant.2 })
 
 pub returns-clause-leaves : goal.returns-clause-leaves
 returns-clause-leaves g c = ends (state g.S.Store c.args.conn.now) (state g.S.Store c.loop-index.conn) tt (record { within = c.loop-index.invariant.1; survives = c.loop-index.invariant.2 })
