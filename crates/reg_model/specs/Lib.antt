@@ -4,6 +4,7 @@ pub mod Actions
 pub mod Facts
 pub mod Rules
 pub mod Events
+pub mod Faults
 pub mod Refusals
 pub mod Changes
 pub mod Effects

@@ -1,6 +1,7 @@
-//! The abstract registry: its states, its rules, its steps, and the laws of its runs. All of it is
-//! definitions; the
-//! types here are those that definitions and programs share.
+//! The abstract registry: its states, its rules, its steps, and the laws of its runs.
+//!
+//! All of it is definitions; the types here are those that definitions and programs share.
+//! `Rule::from(BodyFault::Short)` is `Rule::B1`.
 #![tactic(auto)]
 
 mod endpoint;

@@ -1,5 +1,10 @@
 //! What a request or a command can be refused for. The names are the codes that the program prints.
 
+ghost use Rattle.std.specs.Prelude.{◌≡◌};
+
+use reg_body::BodyFault;
+use reg_manifest::ManifestFault;
+
 /// A rule that a request can break.
 #[derive(Clone, Copy, Debug, PartialEq, Eq)]
 pub enum Rule {
@@ -98,4 +103,35 @@ pub enum AdminRefusal {
     G9,
     /// memory or the store was refused
     G10,
+}
+
+impl From<BodyFault> for Rule {
+    ghost use Rattle.reg_model.specs.Faults.{rule_of_body};
+
+    ghost from_gives = { λ fault rule. rule ≡ rule_of_body fault };
+
+    fn from(fault: BodyFault) -> Rule {
+        match fault {
+            BodyFault::Short => Rule::B1,
+            BodyFault::Trailing => Rule::B2,
+            BodyFault::TooLong => Rule::B3,
+        }
+    }
+}
+
+impl From<ManifestFault> for Rule {
+    ghost use Rattle.reg_model.specs.Faults.{rule_of_manifest};
+
+    ghost from_gives = { λ fault rule. rule ≡ rule_of_manifest fault };
+
+    fn from(fault: ManifestFault) -> Rule {
+        match fault {
+            ManifestFault::NotJson => Rule::B4,
+            ManifestFault::Field => Rule::B5,
+            ManifestFault::Name => Rule::N1,
+            ManifestFault::Version => Rule::V1,
+            ManifestFault::Dependency => Rule::M1,
+            ManifestFault::Memory => Rule::S1,
+        }
+    }
 }

@@ -1,6 +1,10 @@
 -- What a refusal is called: its status (RFC 9110, section 15; 431: RFC 6585, section 5) and its
 -- words, of which the first is its code.
 use Rattle.std.specs.Prelude.{ℕ, List, codes}
+use Rattle.reg_body.specs.declared.frame.BodyFault.TheVariants as body
+use Rattle.reg_body.specs.Words.{words_of as body_words}
+use Rattle.reg_manifest.specs.declared.fault.ManifestFault.TheVariants as manifest
+use Rattle.reg_manifest.specs.Words.{words_of as manifest_words}
 use Rattle.reg_model.specs.declared.rule.Rule.{Rule}
 use Rattle.reg_model.specs.declared.rule.Rule.TheVariants as rule
 use Rattle.reg_model.specs.declared.rule.AdminRefusal.{AdminRefusal}
@@ -60,17 +64,17 @@ text_of rule.A7 = codes "A7 crate not in token scope"
 text_of rule.A8 = codes "A8 no such crate"
 text_of rule.A9 = codes "A9 not an owner of this crate"
 text_of rule.A10 = codes "A10 no such version"
-text_of rule.B1 = codes "B1 publish body too short"
-text_of rule.B2 = codes "B2 publish body has trailing bytes"
-text_of rule.B3 = codes "B3 metadata or archive too long"
-text_of rule.B4 = codes "B4 metadata is not JSON"
-text_of rule.B5 = codes "B5 metadata field missing or of the wrong kind"
-text_of rule.N1 = codes "N1 bad crate name"
+text_of rule.B1 = body_words body.Short
+text_of rule.B2 = body_words body.Trailing
+text_of rule.B3 = body_words body.TooLong
+text_of rule.B4 = manifest_words manifest.NotJson
+text_of rule.B5 = manifest_words manifest.Field
+text_of rule.N1 = manifest_words manifest.Name
 text_of rule.N2 = codes "N2 crate name is reserved"
 text_of rule.N3 = codes "N3 crate exists under another spelling"
-text_of rule.V1 = codes "V1 bad version"
+text_of rule.V1 = manifest_words manifest.Version
 text_of rule.V2 = codes "V2 version already published"
-text_of rule.M1 = codes "M1 bad dependency"
+text_of rule.M1 = manifest_words manifest.Dependency
 text_of rule.L1 = codes "L1 too many versions"
 text_of rule.L2 = codes "L2 too many crates"
 text_of rule.O1 = codes "O1 bad owner request"

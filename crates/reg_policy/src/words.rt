@@ -3,6 +3,8 @@
 ghost use Rattle.std.specs.Prelude.{◌≡◌};
 ghost use Rattle.reg_policy.specs.Words.{admin_text_of, status_of, text_of};
 
+use reg_body::BodyFault;
+use reg_manifest::ManifestFault;
 use reg_model::{AdminRefusal, Rule};
 
 /// The status of a refused request (RFC 9110, section 15; 431: RFC 6585, section 5).
@@ -69,17 +71,17 @@ pub fn rule_text(rule: Rule) -> &'static str
         Rule::A8 => "A8 no such crate",
         Rule::A9 => "A9 not an owner of this crate",
         Rule::A10 => "A10 no such version",
-        Rule::B1 => "B1 publish body too short",
-        Rule::B2 => "B2 publish body has trailing bytes",
-        Rule::B3 => "B3 metadata or archive too long",
-        Rule::B4 => "B4 metadata is not JSON",
-        Rule::B5 => "B5 metadata field missing or of the wrong kind",
-        Rule::N1 => "N1 bad crate name",
+        Rule::B1 => BodyFault::Short.words(),
+        Rule::B2 => BodyFault::Trailing.words(),
+        Rule::B3 => BodyFault::TooLong.words(),
+        Rule::B4 => ManifestFault::NotJson.words(),
+        Rule::B5 => ManifestFault::Field.words(),
+        Rule::N1 => ManifestFault::Name.words(),
         Rule::N2 => "N2 crate name is reserved",
         Rule::N3 => "N3 crate exists under another spelling",
-        Rule::V1 => "V1 bad version",
+        Rule::V1 => ManifestFault::Version.words(),
         Rule::V2 => "V2 version already published",
-        Rule::M1 => "M1 bad dependency",
+        Rule::M1 => ManifestFault::Dependency.words(),
         Rule::L1 => "L1 too many versions",
         Rule::L2 => "L2 too many crates",
         Rule::O1 => "O1 bad owner request",
