@@ -1,4 +1,10 @@
-//! Tests of the tables over a store in memory.
+//! Tests of the tables over a store in memory, each a script and what its lines are answered.
+//!
+//! ```text
+//! add-account ada -> 1
+//! add-account ada -> fault
+//! commit -> fault
+//! ```
 #![tactic(auto)]
 
 #[cfg(test)]
@@ -18,7 +24,7 @@ mod owners;
 #[cfg(test)]
 mod reading;
 #[cfg(test)]
-mod setup;
+mod scripts;
 #[cfg(test)]
 mod tokens;
 #[cfg(test)]

@@ -1,121 +1,91 @@
 //! Making the tables, and knowing them again.
 
-use reg_schema::{MakeFault, begin, finish, is_ours, make_tables, undo};
-use reg_tables::Tables;
-use sqlite::Connection;
+use crate::scripts::connects;
 use std::test::Fail;
 
-const BASE: &str = "https://index.example/";
+const AN_EMPTY_STORE: &str = "ours -> no
+make https://index.example/ -> done
+ours -> yes";
 
 #[test]
 fn an_empty_store(rt: HostRuntime) -> Result<(), Fail> {
-    let alloc = rt.alloc();
-    let mut conn = Connection::open_in_memory(alloc)?;
-    assert!(rt; !is_ours(alloc, conn.schema())?);
-    assert_eq!(rt; make_tables(&mut conn, BASE), Ok(()));
-    assert!(rt; is_ours(alloc, conn.schema())?);
-    Ok(())
+    connects(&rt, rt.alloc(), AN_EMPTY_STORE)
 }
+
+const THE_ROW_OF_ABOUT: &str = "make https://index.example/ -> done
+rows SELECT schema, base FROM about -> 1:https://index.example/;";
 
 #[test]
 fn the_row_of_about(rt: HostRuntime) -> Result<(), Fail> {
-    let mut conn = Connection::open_in_memory(rt.alloc())?;
-    assert_eq!(rt; make_tables(&mut conn, BASE), Ok(()));
-    let rows = conn.query_all("SELECT schema, base FROM about", &[])?;
-    assert_eq!(rt; rows.len(), 1);
-    assert_eq!(rt; rows[0].get::<u32>(0)?, 1);
-    assert_eq!(rt; rows[0].get::<String>(1)?.as_str(), BASE);
-    Ok(())
+    connects(&rt, rt.alloc(), THE_ROW_OF_ABOUT)
 }
+
+const A_STORE_WITH_ANOTHER_TABLE: &str = "CREATE TABLE accounts (id INTEGER PRIMARY KEY) -> done
+ours -> no
+make https://index.example/ -> unknown";
 
 #[test]
 fn a_store_with_another_table(rt: HostRuntime) -> Result<(), Fail> {
-    let alloc = rt.alloc();
-    let mut conn = Connection::open_in_memory(alloc)?;
-    conn.execute("CREATE TABLE accounts (id INTEGER PRIMARY KEY)", &[])?;
-    assert!(rt; !is_ours(alloc, conn.schema())?);
-    assert_eq!(rt; make_tables(&mut conn, BASE), Err(MakeFault::UnknownSchema));
-    Ok(())
+    connects(&rt, rt.alloc(), A_STORE_WITH_ANOTHER_TABLE)
 }
+
+const TABLES_MADE_TWICE: &str = "make https://index.example/ -> done
+make https://index.example/ -> unknown
+ours -> yes";
 
 #[test]
 fn tables_made_twice(rt: HostRuntime) -> Result<(), Fail> {
-    let alloc = rt.alloc();
-    let mut conn = Connection::open_in_memory(alloc)?;
-    assert_eq!(rt; make_tables(&mut conn, BASE), Ok(()));
-    assert_eq!(rt; make_tables(&mut conn, BASE), Err(MakeFault::UnknownSchema));
-    assert!(rt; is_ours(alloc, conn.schema())?);
-    Ok(())
+    connects(&rt, rt.alloc(), TABLES_MADE_TWICE)
 }
+
+const ONE_TABLE_MORE: &str = "make https://index.example/ -> done
+CREATE TABLE other (a INTEGER) -> done
+ours -> no";
 
 #[test]
 fn one_table_more(rt: HostRuntime) -> Result<(), Fail> {
-    let alloc = rt.alloc();
-    let mut conn = Connection::open_in_memory(alloc)?;
-    assert_eq!(rt; make_tables(&mut conn, BASE), Ok(()));
-    conn.execute("CREATE TABLE other (a INTEGER)", &[])?;
-    assert!(rt; !is_ours(alloc, conn.schema())?);
-    Ok(())
+    connects(&rt, rt.alloc(), ONE_TABLE_MORE)
 }
+
+const ONE_UNDONE_AND_ONE_FINISHED: &str = "make https://index.example/ -> done
+begin -> done
+INSERT INTO reserved (canon) VALUES ('undone') -> done
+undo -> done
+begin -> done
+INSERT INTO reserved (canon) VALUES ('kept') -> done
+resting -> no
+finish -> done
+resting -> yes
+rows SELECT canon FROM reserved -> kept;";
 
 #[test]
 fn one_transaction_undone_and_one_finished(rt: HostRuntime) -> Result<(), Fail> {
-    let mut conn = Connection::open_in_memory(rt.alloc())?;
-    assert_eq!(rt; make_tables(&mut conn, BASE), Ok(()));
-    begin(&mut conn)?;
-    conn.execute("INSERT INTO reserved (canon) VALUES ('undone')", &[])?;
-    undo(&mut conn);
-    begin(&mut conn)?;
-    conn.execute("INSERT INTO reserved (canon) VALUES ('kept')", &[])?;
-    assert!(rt; !conn.is_autocommit());
-    finish(&mut conn)?;
-    assert!(rt; conn.is_autocommit());
-    let rows = conn.query_all("SELECT canon FROM reserved", &[])?;
-    assert_eq!(rt; rows.len(), 1);
-    assert_eq!(rt; rows[0].get::<String>(0)?.as_str(), "kept");
-    Ok(())
+    connects(&rt, rt.alloc(), ONE_UNDONE_AND_ONE_FINISHED)
 }
+
+const TABLES_TAKEN_OVER: &str = "make https://index.example/ -> done
+resting -> yes
+adopt -> done";
 
 #[test]
 fn tables_taken_over(rt: HostRuntime) -> Result<(), Fail> {
-    let alloc = rt.alloc();
-    let mut conn = Connection::open_in_memory(alloc)?;
-    assert_eq!(rt; make_tables(&mut conn, BASE), Ok(()));
-    assert!(rt; conn.is_autocommit());
-    match Tables::adopt(alloc, conn) {
-        Ok(_tables) => Ok(()),
-        Err((_fault, _conn)) => Err("not known".into()),
-    }
+    connects(&rt, rt.alloc(), TABLES_TAKEN_OVER)
 }
+
+const AN_EMPTY_STORE_NOT_TAKEN_OVER: &str = "resting -> yes
+adopt -> unknown";
 
 #[test]
 fn an_empty_store_not_taken_over(rt: HostRuntime) -> Result<(), Fail> {
-    let alloc = rt.alloc();
-    let conn = Connection::open_in_memory(alloc)?;
-    assert!(rt; conn.is_autocommit());
-    match Tables::adopt(alloc, conn) {
-        Ok(_tables) => Err("known".into()),
-        Err((fault, _conn)) => {
-            assert_eq!(rt; fault, MakeFault::UnknownSchema);
-            Ok(())
-        }
-    }
+    connects(&rt, rt.alloc(), AN_EMPTY_STORE_NOT_TAKEN_OVER)
 }
+
+const TABLES_NOT_MADE_OVER_TABLES: &str = "make https://index.example/ -> done
+make-tables https://other.example -> unknown
+ours -> yes
+rows SELECT base FROM about -> https://index.example/;";
 
 #[test]
 fn tables_not_made_over_tables(rt: HostRuntime) -> Result<(), Fail> {
-    let alloc = rt.alloc();
-    let mut conn = Connection::open_in_memory(alloc)?;
-    assert_eq!(rt; make_tables(&mut conn, BASE), Ok(()));
-    match Tables::make(conn, "https://other.example") {
-        Ok(_tables) => Err("made".into()),
-        Err((fault, mut left)) => {
-            assert_eq!(rt; fault, MakeFault::UnknownSchema);
-            assert!(rt; is_ours(alloc, left.schema())?);
-            let rows = left.query_all("SELECT base FROM about", &[])?;
-            assert_eq!(rt; rows.len(), 1);
-            assert_eq!(rt; rows[0].get::<String>(0)?.as_str(), BASE);
-            Ok(())
-        }
-    }
+    connects(&rt, rt.alloc(), TABLES_NOT_MADE_OVER_TABLES)
 }

@@ -1,0 +1,176 @@
+//! Lines over a connection, and rows that are planted by statements.
+
+ghost use Rattle.sqlite.specs.Held.{state};
+ghost use Rattle.std.specs.Prelude.{◌≡◌, false};
+
+use crate::fault::Fault;
+use crate::records::list;
+use crate::script::{BASE, FILLED, check_text, compare, play_over};
+use reg_audit::audit;
+use reg_schema::{MakeFault, begin, finish, is_ours, make_tables, undo};
+use reg_tables::Tables;
+use sqlite::{Alter, Connection, Error, params};
+use std::alloc::Global;
+
+fn made(made: Result<(), MakeFault>) -> &'static str {
+    match made {
+        Ok(()) => "done",
+        Err(MakeFault::UnknownSchema) => "unknown",
+        Err(MakeFault::Storage) => "fault",
+    }
+}
+
+fn run(run: Result<usize, Error>) -> &'static str {
+    match run {
+        Ok(_) => "done",
+        Err(_) => "fault",
+    }
+}
+
+fn yes(is: bool) -> &'static str {
+    if is { "yes" } else { "no" }
+}
+
+/// A line that reads, or a statement.
+fn by_statement<S: Alter>(
+    alloc: Global,
+    conn: &mut Connection<S>,
+    line: &str,
+) -> Result<String, Fault> {
+    if let Some(base) = line.strip_prefix("make ") {
+        return Ok(String::from_str(alloc, made(make_tables(conn, base)))?);
+    }
+    if let Some(text) = line.strip_prefix("rows ") {
+        return Ok(list(alloc, &conn.query_all(text, &[])?)?);
+    }
+    Ok(String::from_str(alloc, run(conn.execute(line, &[])))?)
+}
+
+fn by_word<S: Alter>(
+    alloc: Global,
+    conn: &mut Connection<S>,
+    line: &str,
+) -> Result<Option<&'static str>, Fault> {
+    Ok(Some(match line {
+        "ours" => yes(is_ours(alloc, conn.schema())?),
+        "resting" => yes(conn.is_autocommit()),
+        "begin" => run(begin(conn)),
+        "finish" => run(finish(conn)),
+        "undo" => {
+            undo(conn);
+            "done"
+        }
+        _ => return Ok(None),
+    }))
+}
+
+/// Tables are taken over, and given back.
+fn adopted<S: Alter>(alloc: Global, conn: Connection<S>) -> (Connection<S>, &'static str) {
+    if !conn.is_autocommit() {
+        return (conn, "a transaction is open");
+    }
+    match Tables::adopt(alloc, conn) {
+        Ok(tables) => (tables.into_connection(), "done"),
+        Err((fault, conn)) => (conn, made(Err(fault))),
+    }
+}
+
+/// Tables are made, and given back.
+fn tables_made<S: Alter>(conn: Connection<S>, base: &str) -> (Connection<S>, &'static str) {
+    match Tables::make(conn, base) {
+        Ok(tables) => (tables.into_connection(), "done"),
+        Err((fault, conn)) => (conn, made(Err(fault))),
+    }
+}
+
+/// The connection after a line, and the line's answer.
+fn answered<S: Alter + Drop>(
+    alloc: Global,
+    mut conn: Connection<S>,
+    line: &str,
+) -> Result<(Connection<S>, String), Fault> {
+    if line == "adopt" {
+        let (conn, found) = adopted(alloc, conn);
+        return Ok((conn, String::from_str(alloc, found)?));
+    }
+    if let Some(base) = line.strip_prefix("make-tables ") {
+        let (conn, found) = tables_made(conn, base);
+        return Ok((conn, String::from_str(alloc, found)?));
+    }
+    let found = match by_word(alloc, &mut conn, line)? {
+        Some(found) => String::from_str(alloc, found)?,
+        None => by_statement(alloc, &mut conn, line)?,
+    };
+    Ok((conn, found))
+}
+
+/// Plays lines over a connection to an empty store in memory: words on its tables, or statements.
+/// The first line that is answered otherwise.
+pub fn over_a_connection(alloc: Global, script: &str) -> Result<Option<String>, Fault> {
+    let mut conn = Connection::open_in_memory(alloc)?;
+    for line in script.split('\n') {
+        let Some((call, want)) = line.split_once(" -> ") else {
+            return Ok(Some(format!(in alloc; "{line}: no arrow")?));
+        };
+        let (next, found) = answered(alloc, conn, call)?;
+        conn = next;
+        if found.as_str() != want {
+            return Ok(Some(format!(in alloc; "{line}: {found}")?));
+        }
+    }
+    Ok(None)
+}
+
+/// Runs a statement, or sets the stem of every version.
+fn plant<S: Alter>(conn: &mut Connection<S>, statement: &str) -> Result<(), Fault> {
+    match statement.strip_prefix("stem ") {
+        Some(stem) => conn.execute("UPDATE versions SET stem = ?1", params![stem.as_bytes()])?,
+        None => conn.execute(statement, &[])?,
+    };
+    Ok(())
+}
+
+/// What the checks on opening find once these statements were run.
+fn checks_after<S: Alter + Drop>(
+    alloc: Global,
+    mut conn: Connection<S>,
+    statements: &str,
+) -> Result<&'static str, Fault> {
+    for statement in statements.split("; ") {
+        plant(&mut conn, statement)?;
+    }
+    if !conn.is_autocommit() {
+        return Ok("a transaction is open");
+    }
+    match Tables::adopt(alloc, conn) {
+        Ok(mut tables) => Ok(check_text(audit(alloc, &mut tables)?)),
+        Err((fault, _conn)) => Ok(made(Err(fault))),
+    }
+}
+
+/// What they find on a filled registry.
+fn found(alloc: Global, statements: &str) -> Result<&'static str, Fault> {
+    match Tables::make(Connection::open_in_memory(alloc)?, BASE) {
+        Ok(mut tables) => match play_over(alloc, &mut tables, FILLED)? {
+            None => checks_after(alloc, tables.into_connection(), statements),
+            Some(_line) => Ok("not filled"),
+        },
+        Err((_fault, _conn)) => Err(Fault::NotMade),
+    }
+}
+
+/// Each line is statements, run on a filled registry of its own, an arrow and the check that then
+/// fails.
+/// The first line where another one fails.
+pub fn check_each(alloc: Global, script: &str) -> Result<Option<String>, Fault> {
+    for line in script.split('\n') {
+        let Some((statements, want)) = line.split_once(" -> ") else {
+            return Ok(Some(format!(in alloc; "{line}: no arrow")?));
+        };
+        let broken = compare(alloc, line, want, found(alloc, statements)?)?;
+        if broken.is_some() {
+            return Ok(broken);
+        }
+    }
+    Ok(None)
+}

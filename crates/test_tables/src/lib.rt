@@ -1,0 +1,29 @@
+//! Scripts over the tables, which their tests and the measuring program share.
+//!
+//! A line is a call, an arrow and its answer; a block of lines is a transaction, which is dropped
+//! where its last line is no commit. [`play`] answers the first line that is answered otherwise:
+//!
+//! ```text
+//! add-account ada Ada -> 1
+//! commit -> done
+//!
+//! account ada -> 1:ada:Ada:on;
+//! ```
+#![tactic(auto)]
+
+mod answer;
+mod bare;
+mod call;
+mod calling;
+mod fault;
+mod records;
+mod script;
+mod words;
+
+pub use answer::Answer;
+pub use bare::{check_each, over_a_connection};
+pub use call::{AccountCall, Call, CrateCall, NameCall, NewToken, Release, TextCall, TokenCall};
+pub use calling::perform;
+pub use fault::Fault;
+pub use script::{BASE, FILLED, answer_of, first_broken, play, play_over, rows_text};
+pub use words::{read_call, release_of};

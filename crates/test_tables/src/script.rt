@@ -1,0 +1,316 @@
+//! Playing a script over tables.
+
+ghost use Rattle.std.specs.Prelude.{◌≡◌};
+ghost use Rattle.reg_tables.specs.Works.{AreOurs, IsAtWork};
+
+use crate::call::Call;
+use crate::calling::perform;
+use crate::fault::Fault;
+use crate::records::{Shown, bytes_text};
+use crate::words::read_call;
+use reg_audit::{Check, audit};
+use reg_line::{Entry, file};
+use reg_tables::{StoreFault, Tables, Version, Work};
+use sqlite::{Alter, Connection};
+use std::alloc::{AllocError, Global};
+
+pub const BASE: &str = "https://index.example";
+
+/// Two accounts, two tokens, a crate of one version with the archive `abc`, and a reserved name.
+pub const FILLED: &str = "add-account ada Ada -> 1
+add-account bob -> 2
+add-token abc 1 nuyo a,* -> 1
+add-token abd 2 nuyo acme-* -> 2
+add-crate a 1 0.1.0 abc -> 1
+reserve acme-net -> done
+commit -> done";
+
+/// The index file of these versions: its length, and its lines with a semicolon after each.
+fn index_text(alloc: Global, versions: Vec<Version>) -> Result<String, AllocError> {
+    let mut entries = Vec::new(alloc);
+    for version in versions {
+        entries.push(Entry {
+            stem: version.stem,
+            yanked: version.yanked,
+        })?;
+    }
+    let bytes = file(alloc, &entries)?;
+    let mut text = format!(in alloc; "{} ", bytes.len())?;
+    let lines = bytes_text(alloc, &bytes)?;
+    for line in lines.lines() {
+        text.push_str(line)?;
+        text.push_str(";")?;
+    }
+    Ok(text)
+}
+
+/// The index file of a crate.
+fn index_of<S: Alter>(alloc: Global, work: &mut Work<'_, S>, crate_id: u32) -> Result<String, Fault>
+    requires { IsAtWork S.Store work.old }
+    ensures at_work { IsAtWork S.Store work.new }
+    ensures same_reference { work.new.tables.ghost_name ≡ work.old.tables.ghost_name }
+{
+    match work.versions_of(alloc, crate_id) {
+        Ok(versions) => Ok(index_text(alloc, versions)?),
+        Err(StoreFault) => Ok(String::from_str(alloc, "fault")?),
+    }
+}
+
+fn text_of_call<S: Alter>(
+    alloc: Global,
+    work: &mut Work<'_, S>,
+    call: &Call<'_>,
+) -> Result<String, Fault>
+    requires { IsAtWork S.Store work.old }
+    ensures at_work { IsAtWork S.Store work.new }
+    ensures same_reference { work.new.tables.ghost_name ≡ work.old.tables.ghost_name }
+{
+    match perform(alloc, work, call) {
+        Ok(answer) => Ok(answer.text(alloc)?),
+        Err(StoreFault) => Ok(String::from_str(alloc, "fault")?),
+    }
+}
+
+/// What a call is answered, as a text.
+pub fn answer_of<S: Alter>(
+    alloc: Global,
+    work: &mut Work<'_, S>,
+    line: &str,
+) -> Result<String, Fault>
+    requires { IsAtWork S.Store work.old }
+    ensures at_work { IsAtWork S.Store work.new }
+    ensures same_reference { work.new.tables.ghost_name ≡ work.old.tables.ghost_name }
+{
+    match read_call(alloc, line)? {
+        Some(call) => text_of_call(alloc, work, &call),
+        None => match line.strip_prefix("index ") {
+            Some(id) => index_of(alloc, work, id.parse().unwrap_or(0)),
+            None => Ok(String::from_str(alloc, "no such call")?),
+        },
+    }
+}
+
+/// The line and what was found, where it is not what the line says.
+pub(crate) fn compare(
+    alloc: Global,
+    line: &str,
+    want: &str,
+    found: &str,
+) -> Result<Option<String>, AllocError> {
+    if found == want {
+        return Ok(None);
+    }
+    Ok(Some(format!(in alloc; "{line}: {found}")?))
+}
+
+/// What a line is answered, where it is not what the line says.
+fn otherwise<S: Alter>(
+    alloc: Global,
+    work: &mut Work<'_, S>,
+    line: &str,
+) -> Result<Option<String>, Fault>
+    requires { IsAtWork S.Store work.old }
+    ensures at_work { IsAtWork S.Store work.new }
+    ensures same_reference { work.new.tables.ghost_name ≡ work.old.tables.ghost_name }
+{
+    let Some((call, want)) = line.split_once(" -> ") else {
+        return Ok(Some(format!(in alloc; "{line}: no arrow")?));
+    };
+    let found = answer_of(alloc, work, call)?;
+    Ok(compare(alloc, line, want, &found)?)
+}
+
+/// The first line of a block that is answered otherwise.
+pub fn first_broken<S: Alter>(
+    alloc: Global,
+    work: &mut Work<'_, S>,
+    block: &str,
+) -> Result<Option<String>, Fault>
+    requires { IsAtWork S.Store work.old }
+    ensures at_work { IsAtWork S.Store work.new }
+    ensures same_reference { work.new.tables.ghost_name ≡ work.old.tables.ghost_name }
+{
+    for line in block.split('\n') {
+        let found = otherwise(alloc, work, line)?;
+        if found.is_some() {
+            return Ok(found);
+        }
+    }
+    Ok(None)
+}
+
+/// The calls of a block, and whether its last line is a commit that is done or refused.
+fn ending(block: &str) -> (&str, Option<bool>) {
+    if let Some(calls) = block.strip_suffix("\ncommit -> done") {
+        return (calls, Some(true));
+    }
+    match block.strip_suffix("\ncommit -> fault") {
+        Some(calls) => (calls, Some(false)),
+        None => (block, None),
+    }
+}
+
+/// A transaction, which is dropped where its last line is no commit.
+fn transaction<S: Alter>(
+    alloc: Global,
+    tables: &mut Tables<S>,
+    block: &str,
+) -> Result<Option<String>, Fault>
+    requires { AreOurs S.Store tables.old }
+    ensures { AreOurs S.Store tables.new }
+{
+    let (calls, wanted) = ending(block);
+    let mut work = tables.work()?;
+    let broken = first_broken(alloc, &mut work, calls)?;
+    if broken.is_some() {
+        return Ok(broken);
+    }
+    if let Some(wanted) = wanted {
+        if work.commit().is_ok() != wanted {
+            return Ok(Some(format!(in alloc; "{block}: a commit answered otherwise")?));
+        }
+    }
+    Ok(None)
+}
+
+/// All rows and the archives of the first versions, as a text.
+pub fn rows_text<S: Alter>(alloc: Global, tables: &mut Tables<S>) -> Result<String, Fault>
+    requires { AreOurs S.Store tables.old }
+    ensures { AreOurs S.Store tables.new }
+{
+    let mut work = tables.work()?;
+    let rows = answer_of(alloc, &mut work, "all-rows")?;
+    let first = answer_of(alloc, &mut work, "archive-id 1")?;
+    let second = answer_of(alloc, &mut work, "archive-id 2")?;
+    let third = answer_of(alloc, &mut work, "archive-id 3")?;
+    Ok(format!(in alloc; "{rows} {first} {second} {third}")?)
+}
+
+/// The check that failed, as a text.
+pub(crate) fn check_text(check: Option<Check>) -> &'static str {
+    match check {
+        None => "none",
+        Some(Check::C1) => "C1",
+        Some(Check::C2) => "C2",
+        Some(Check::C3) => "C3",
+        Some(Check::C4) => "C4",
+        Some(Check::C5) => "C5",
+        Some(Check::C6) => "C6",
+    }
+}
+
+/// A transaction, or a line that is answered over the tables themselves.
+fn block_over<S: Alter>(
+    alloc: Global,
+    tables: &mut Tables<S>,
+    block: &str,
+) -> Result<Option<String>, Fault>
+    requires { AreOurs S.Store tables.old }
+    ensures { AreOurs S.Store tables.new }
+{
+    match block.split_once(" -> ") {
+        Some(("audit", want)) => {
+            let found = audit(alloc, tables)?;
+            Ok(compare(alloc, block, want, check_text(found))?)
+        }
+        Some(("fill", "done")) => transaction(alloc, tables, FILLED),
+        _ => transaction(alloc, tables, block),
+    }
+}
+
+/// Plays a script: the first line that is answered otherwise, with its answer.
+pub fn play_over<S: Alter>(
+    alloc: Global,
+    tables: &mut Tables<S>,
+    script: &str,
+) -> Result<Option<String>, Fault>
+    requires { AreOurs S.Store tables.old }
+    ensures { AreOurs S.Store tables.new }
+{
+    for block in script.split("\n\n") {
+        let broken = block_over(alloc, tables, block)?;
+        if broken.is_some() {
+            return Ok(broken);
+        }
+    }
+    Ok(None)
+}
+
+/// The logins, read in no transaction one at a time, as a text.
+#[tactic(auto, using(crate::proofs::Texts::logins_plain))]
+fn read_logins<S: Alter>(alloc: Global, tables: &mut Tables<S>) -> Result<String, Fault>
+    requires { AreOurs S.Store tables.old }
+{
+    let mut text = String::new(alloc);
+    let mut rows = tables
+        .reader()
+        .rows("SELECT id, login, name FROM accounts ORDER BY id", &[])?;
+    for _ in 0..u32::MAX {
+        match rows.next()? {
+            Some(row) => text.push_str(&row.show(alloc)?)?,
+            None => return Ok(text),
+        }
+    }
+    Ok(text)
+}
+
+/// Plays a script; its last block may read the logins.
+fn play_last<S: Alter>(
+    alloc: Global,
+    tables: &mut Tables<S>,
+    script: &str,
+) -> Result<Option<String>, Fault>
+    requires { AreOurs S.Store tables.old }
+{
+    let Some((before, want)) = script.split_once("\n\nread-logins -> ") else {
+        return play_over(alloc, tables, script);
+    };
+    let broken = play_over(alloc, tables, before)?;
+    if broken.is_some() {
+        return Ok(broken);
+    }
+    let found = read_logins(alloc, tables)?;
+    Ok(compare(alloc, "read-logins", want, &found)?)
+}
+
+/// Plays the rest of a script over the tables once they were given back and taken over again.
+fn play_again<S: Alter + Drop>(
+    alloc: Global,
+    tables: Tables<S>,
+    script: &str,
+) -> Result<Option<String>, Fault> {
+    let conn = tables.into_connection();
+    if !conn.is_autocommit() {
+        return Ok(Some(String::from_str(alloc, "adopt: a transaction is open")?));
+    }
+    match Tables::adopt(alloc, conn) {
+        Ok(mut tables) => play_last(alloc, &mut tables, script),
+        Err((_fault, _conn)) => Err(Fault::NotAdopted),
+    }
+}
+
+fn play_in<S: Alter + Drop>(
+    alloc: Global,
+    mut tables: Tables<S>,
+    script: &str,
+) -> Result<Option<String>, Fault>
+    requires { AreOurs S.Store tables }
+{
+    let Some((before, after)) = script.split_once("\n\nadopt -> done\n\n") else {
+        return play_last(alloc, &mut tables, script);
+    };
+    let broken = play_last(alloc, &mut tables, before)?;
+    if broken.is_some() {
+        return Ok(broken);
+    }
+    play_again(alloc, tables, after)
+}
+
+/// Plays a script over new tables in memory; `adopt -> done` gives them back and takes them over
+/// again.
+pub fn play(alloc: Global, script: &str) -> Result<Option<String>, Fault> {
+    match Tables::make(Connection::open_in_memory(alloc)?, BASE) {
+        Ok(tables) => play_in(alloc, tables, script),
+        Err((_fault, _conn)) => Err(Fault::NotMade),
+    }
+}

@@ -1,0 +1,221 @@
+//! Reading a call's words.
+
+use crate::call::{AccountCall, Call, CrateCall, NameCall, NewToken, Release, TextCall, TokenCall};
+use crate::fault::Fault;
+use reg_line::{digest_of, stem};
+use reg_manifest::read_manifest;
+use reg_model::Endpoints;
+use reg_names::{CanonText, Pattern, canon, parse_name};
+use std::alloc::{AllocError, Global};
+use test_support::examples::SECOND_TOKEN;
+
+/// The text that a word stands for: none, that of the second token, or its own.
+pub(crate) fn text_of(word: &str) -> &str {
+    match word {
+        "-" => "",
+        "second" => SECOND_TOKEN,
+        other => other,
+    }
+}
+
+fn canon_of(name: &str) -> Option<CanonText> {
+    Some(canon(&parse_name(name)?))
+}
+
+fn account_call<'a>(words: &[&'a str]) -> Option<AccountCall<'a>> {
+    Some(match words {
+        ["add-account", login] => AccountCall::Add(login, None),
+        ["add-account", login, name] => AccountCall::Add(login, Some(name)),
+        ["enable", id] => AccountCall::Enable(id.parse().ok()?, true),
+        ["disable", id] => AccountCall::Enable(id.parse().ok()?, false),
+        ["account", login] => AccountCall::ByLogin(login),
+        ["accounts"] => AccountCall::All,
+        ["counts"] => AccountCall::Counts,
+        _ => return None,
+    })
+}
+
+/// Of the letters of `nuyo` those that are granted; `-` stands for one that is not.
+fn endpoints_of(word: &str) -> Endpoints {
+    Endpoints {
+        publish_new: word.contains('n'),
+        publish_update: word.contains('u'),
+        yank: word.contains('y'),
+        change_owners: word.contains('o'),
+    }
+}
+
+fn patterns_of(alloc: Global, word: &str) -> Result<Option<Vec<Pattern>>, AllocError> {
+    let mut patterns = Vec::new(alloc);
+    for text in word.split(',') {
+        match Pattern::parse(text) {
+            Some(pattern) => patterns.push(pattern)?,
+            None => return Ok(None),
+        }
+    }
+    Ok(Some(patterns))
+}
+
+/// A token by its text, account, endpoints and patterns.
+fn new_token(alloc: Global, words: &[&str]) -> Result<Option<NewToken>, AllocError> {
+    let [text, account, endpoints, patterns] = words else {
+        return Ok(None);
+    };
+    let Ok(account) = account.parse() else {
+        return Ok(None);
+    };
+    let Some(patterns) = patterns_of(alloc, patterns)? else {
+        return Ok(None);
+    };
+    Ok(Some(NewToken {
+        digest: digest_of(text_of(text).as_bytes()),
+        account,
+        endpoints: endpoints_of(endpoints),
+        patterns,
+    }))
+}
+
+fn token_call(alloc: Global, words: &[&str]) -> Result<Option<TokenCall>, AllocError> {
+    Ok(match words {
+        ["add-token", rest @ ..] => match new_token(alloc, rest)? {
+            Some(token) => Some(TokenCall::Add(token)),
+            None => None,
+        },
+        ["revoke", id] => match id.parse() {
+            Ok(id) => Some(TokenCall::Revoke(id)),
+            Err(_) => None,
+        },
+        ["token", text] => Some(TokenCall::Find(digest_of(text_of(text).as_bytes()))),
+        ["tokens"] => Some(TokenCall::All),
+        _ => None,
+    })
+}
+
+/// A version of a crate, with the stem of its line.
+pub fn release_of<'a>(
+    alloc: Global,
+    name: &str,
+    text: &'a str,
+    archive: &'a [u8],
+    description: Option<&'a str>,
+) -> Result<Release<'a>, Fault> {
+    let digest = digest_of(archive);
+    let json = format!(in alloc; "{{\"name\":\"{name}\",\"vers\":\"{text}\"}}")?;
+    let manifest = read_manifest(alloc, json.as_bytes())?;
+    let stem = stem(alloc, &manifest, &digest)?;
+    Ok(Release {
+        text,
+        description,
+        stem,
+        digest,
+        archive,
+    })
+}
+
+/// A version by its text, archive and, where one is given, description.
+fn release<'a>(alloc: Global, name: &str, words: &[&'a str]) -> Result<Option<Release<'a>>, Fault> {
+    let (text, archive, description) = match words {
+        [text, archive] => (*text, *archive, None),
+        [text, archive, description] => (*text, *archive, Some(*description)),
+        _ => return Ok(None),
+    };
+    let archive = text_of(archive).as_bytes();
+    Ok(Some(release_of(alloc, name, text, archive, description)?))
+}
+
+fn new_crate<'a>(
+    alloc: Global,
+    name: &str,
+    account: &str,
+    words: &[&'a str],
+) -> Result<Option<CrateCall<'a>>, Fault> {
+    let Some(release) = release(alloc, name, words)? else {
+        return Ok(None);
+    };
+    match (parse_name(name), account.parse()) {
+        (Some(name), Ok(account)) => Ok(Some(CrateCall::Add(name, account, release))),
+        _ => Ok(None),
+    }
+}
+
+fn new_version<'a>(
+    alloc: Global,
+    id: &str,
+    name: &str,
+    words: &[&'a str],
+) -> Result<Option<CrateCall<'a>>, Fault> {
+    let Some(release) = release(alloc, name, words)? else {
+        return Ok(None);
+    };
+    match id.parse() {
+        Ok(id) => Ok(Some(CrateCall::AddVersion(id, release))),
+        Err(_) => Ok(None),
+    }
+}
+
+fn old_crate<'a>(words: &[&'a str]) -> Option<CrateCall<'a>> {
+    Some(match words {
+        ["yank", id, text] => CrateCall::Yank(id.parse().ok()?, text, true),
+        ["unyank", id, text] => CrateCall::Yank(id.parse().ok()?, text, false),
+        ["crates"] => CrateCall::All,
+        ["versions", id] => CrateCall::Versions(id.parse().ok()?),
+        ["archive", id, text] => CrateCall::Archive(id.parse().ok()?, text),
+        ["archive-id", id] => CrateCall::ArchiveWithId(id.parse().ok()?),
+        _ => return None,
+    })
+}
+
+fn crate_call<'a>(alloc: Global, words: &[&'a str]) -> Result<Option<CrateCall<'a>>, Fault> {
+    match words {
+        ["add-crate", name, account, rest @ ..] => new_crate(alloc, name, account, rest),
+        ["add-version", id, name, rest @ ..] => new_version(alloc, id, name, rest),
+        _ => Ok(old_crate(words)),
+    }
+}
+
+fn name_call(words: &[&str]) -> Option<NameCall> {
+    Some(match words {
+        ["crate", name] => NameCall::Crate(canon_of(name)?),
+        ["reserve", name] => NameCall::Reserve(canon_of(name)?),
+        ["unreserve", name] => NameCall::Unreserve(canon_of(name)?),
+        ["reserved", name] => NameCall::IsReserved(canon_of(name)?),
+        ["add-owner", id, account] => {
+            NameCall::AddOwner(id.parse().ok()?, account.parse().ok()?)
+        }
+        ["remove-owner", id, account] => {
+            NameCall::RemoveOwner(id.parse().ok()?, account.parse().ok()?)
+        }
+        ["owners", id] => NameCall::Owners(id.parse().ok()?),
+        _ => return None,
+    })
+}
+
+fn text_call<'a>(words: &[&'a str]) -> Option<TextCall<'a>> {
+    Some(match words {
+        ["all-rows"] => TextCall::AllRows,
+        ["logins"] => TextCall::Logins,
+        ["id-of", login] => TextCall::IdOf(login),
+        _ => return None,
+    })
+}
+
+/// The call that these words are; none where they are no call's.
+pub fn read_call<'a>(alloc: Global, line: &'a str) -> Result<Option<Call<'a>>, Fault> {
+    let words: Vec<&str> = line.split(' ').collect(alloc)?;
+    if let Some(call) = account_call(&words) {
+        return Ok(Some(Call::Account(call)));
+    }
+    if let Some(call) = name_call(&words) {
+        return Ok(Some(Call::Name(call)));
+    }
+    if let Some(call) = text_call(&words) {
+        return Ok(Some(Call::Text(call)));
+    }
+    if let Some(call) = token_call(alloc, &words)? {
+        return Ok(Some(Call::Token(call)));
+    }
+    match crate_call(alloc, &words)? {
+        Some(call) => Ok(Some(Call::Crate(call))),
+        None => Ok(None),
+    }
+}
