@@ -1,7 +1,7 @@
 //! What a call is answered.
 
 use crate::records::{Shown, bytes_text, list, one};
-use reg_tables::{Account, AllRows, Counts, Crate, Owner, TokenLists, TokenRows, Version};
+use reg_tables::{Account, AllRows, Counts, Crate, TokenLists, TokenRows, Version};
 use sqlite::Row;
 use std::alloc::{AllocError, Global};
 
@@ -20,7 +20,7 @@ pub enum Answer {
     Crates(Vec<Crate>),
     Versions(Vec<Version>),
     Archive(Option<Vec<u8>>),
-    Owners(Vec<Owner>),
+    Owners(Vec<Account>),
     All(AllRows),
     Selected(Vec<Row>),
 }

@@ -4,8 +4,7 @@ use crate::words::text_of;
 use reg_line::digest_of;
 use reg_model::Endpoints;
 use reg_tables::{
-    Account, AllRows, Crate, Owner, Ownership, Scope, Token, TokenLists, TokenRow, TokenRows,
-    Version,
+    Account, AllRows, Crate, Ownership, Scope, Token, TokenLists, TokenRow, TokenRows, Version,
 };
 use sqlite::Row;
 use sqlite::types::ValueRef;
@@ -80,18 +79,6 @@ pub(crate) fn bytes_text(alloc: Global, bytes: &[u8]) -> Result<String, AllocErr
 }
 
 impl Shown for Account {
-    fn show(&self, alloc: Global) -> Result<String, AllocError> {
-        let name = self.name.as_deref().unwrap_or("-");
-        format!(in alloc;
-            "{}:{}:{name}:{};",
-            self.id,
-            self.login,
-            enabled(self.enabled)
-        )
-    }
-}
-
-impl Shown for Owner {
     fn show(&self, alloc: Global) -> Result<String, AllocError> {
         let name = self.name.as_deref().unwrap_or("-");
         format!(in alloc;
