@@ -11,7 +11,7 @@ use Rattle.reg_manifest.specs.Fields.{Features, each, lists_of, lists_onto, opti
 use Rattle.reg_manifest.specs.Manifests.{DepData, Metadata}
 use Rattle.reg_line.specs.Features.{feature_members, newer, older}
 use Rattle.reg_line.specs.Line.{dep_data, dep_named, line_data, line_members, text_or_null}
-use Rattle.reg_line.specs.LineRead.{dep_from, features_from, line_from}
+use Rattle.reg_line.specs.LineRead.{about_from, dep_from, features_from, line_from, origin_from}
 use Rattle.reg_line.proofs.Back.{ascending}
 use Rattle.reg_line.proofs.Maps.{insert_all, merge}
 
@@ -26,7 +26,7 @@ option-back (Some s) = refl
 -- ---- dependencies
 
 dep-back : (r : Option (List ℕ)) (d : DepData) → d.rename ≡ r → dep_from (dep_named r d) ≡ Ok d
-unfolding dep_from
+unfolding dep_from origin_from
 dep-back None d h = rw (each-texts d.features, option-back d.registry, option-back d.target) (ap (λ r. Ok (record d { rename = r })) (sym h))
 dep-back (Some s) d h = rw (each-texts d.features, option-back d.registry, option-back d.target) (ap (λ r. Ok (record d { rename = r })) (sym h))
 
@@ -56,7 +56,7 @@ abbrev pub undescribed : Metadata → Metadata
 undescribed m = record m { description = None }
 
 members-back : (olds news : Features) (m : Metadata) (c : List ℕ) (y : Bool) → is_name m.name ≡ true → insert_all news olds ≡ m.features → line_from (object (line_members olds news m c y)) ≡ Ok (undescribed m)
-unfolding line_from
+unfolding line_from about_from
 members-back olds [] m c y n all =
     rw (deps-back m.deps, features-back olds [] m c y, option-back m.links, n, option-back m.rust_version)
     (ap (λ fs. Ok (record (undescribed m) { features = fs })) all)

@@ -5,7 +5,7 @@ ghost use Rattle.serde_json.specs.View.{items_view, view};
 ghost use Rattle.reg_manifest.specs.Fields.{each, field};
 ghost use Rattle.reg_manifest.specs.Manifests.{dep_view, feature_view, manifest_view};
 ghost use Rattle.reg_manifest.specs.Parsing.{Gives};
-ghost use Rattle.reg_line.specs.LineRead.{bytes_from, dep_from, features_from, line_from, name_from, new_name, own_name};
+ghost use Rattle.reg_line.specs.LineRead.{about_from, about_view, bytes_from, dep_from, features_from, line_from, name_from, new_name, origin_from, origin_view, own_name};
 
 use reg_manifest::fields::{
     features_or_empty, field, flag_or, list_or_empty, lists_onto, members, optional_text,
@@ -30,6 +30,40 @@ fn names(name: String, own: Option<String>) -> (String, Option<String>)
     }
 }
 
+/// Where a dependency is from, what of it is asked for, and what it is for.
+#[derive(Drop)]
+struct Origin {
+    own: Option<String>,
+    registry: Option<String>,
+    req: String,
+    target: Option<String>,
+}
+
+/// What else is told of a version.
+#[derive(Drop)]
+struct About {
+    links: Option<String>,
+    name: CrateName,
+    rust_version: Option<String>,
+    vers: String,
+}
+
+#[tactic(auto, unfolding(crate::specs::LineRead::origin_from))]
+fn read_origin(alloc: Global, value: &Value) -> Result<Origin, ManifestFault>
+    ensures { Gives origin_view result (origin_from (view value.now)) }
+{
+    let own = optional_text(alloc, value, "package")?;
+    let registry = optional_text(alloc, value, "registry")?;
+    let req = required_text(alloc, value, "req")?;
+    let target = optional_text(alloc, value, "target")?;
+    Ok(Origin {
+        own,
+        registry,
+        req,
+        target,
+    })
+}
+
 #[tactic(auto, unfolding(crate::specs::LineRead::dep_from))]
 fn read_dep(alloc: Global, value: &Value) -> Result<Dep, ManifestFault>
     ensures { Gives dep_view result (dep_from (view value.now)) }
@@ -40,20 +74,17 @@ fn read_dep(alloc: Global, value: &Value) -> Result<Dep, ManifestFault>
     let kind = required_text(alloc, value, "kind")?;
     let name = required_text(alloc, value, "name")?;
     let optional = flag_or(value, "optional", false)?;
-    let package = optional_text(alloc, value, "package")?;
-    let registry = optional_text(alloc, value, "registry")?;
-    let version_req = required_text(alloc, value, "req")?;
-    let target = optional_text(alloc, value, "target")?;
-    let (name, explicit_name_in_toml) = names(name, package);
+    let origin = read_origin(alloc, value)?;
+    let (name, explicit_name_in_toml) = names(name, origin.own);
     Ok(Dep {
         name,
-        version_req,
+        version_req: origin.req,
         features,
         optional,
         default_features,
-        target,
+        target: origin.target,
         kind,
-        registry,
+        registry: origin.registry,
         explicit_name_in_toml,
     })
 }
@@ -92,6 +123,22 @@ fn read_name(alloc: Global, value: &Value) -> Result<CrateName, ManifestFault>
     }
 }
 
+#[tactic(auto, unfolding(crate::specs::LineRead::about_from))]
+fn read_about(alloc: Global, value: &Value) -> Result<About, ManifestFault>
+    ensures { Gives about_view result (about_from (view value.now)) }
+{
+    let links = optional_text(alloc, value, "links")?;
+    let name = read_name(alloc, value)?;
+    let rust_version = optional_text(alloc, value, "rust_version")?;
+    let vers = required_text(alloc, value, "vers")?;
+    Ok(About {
+        links,
+        name,
+        rust_version,
+        vers,
+    })
+}
+
 #[tactic(auto, unfolding(crate::specs::LineRead::line_from))]
 fn read_value(alloc: Global, value: &Value) -> Result<Manifest, ManifestFault>
     ensures { Gives manifest_view result (line_from (view value.now)) }
@@ -99,18 +146,15 @@ fn read_value(alloc: Global, value: &Value) -> Result<Manifest, ManifestFault>
     members(value)?;
     let deps = read_deps(alloc, list_or_empty(value, "deps")?)?;
     let features = read_features(alloc, value)?;
-    let links = optional_text(alloc, value, "links")?;
-    let name = read_name(alloc, value)?;
-    let rust_version = optional_text(alloc, value, "rust_version")?;
-    let vers = required_text(alloc, value, "vers")?;
+    let about = read_about(alloc, value)?;
     Ok(Manifest {
-        name,
-        vers,
+        name: about.name,
+        vers: about.vers,
         deps,
         features,
         description: None,
-        links,
-        rust_version,
+        links: about.links,
+        rust_version: about.rust_version,
     })
 }
 

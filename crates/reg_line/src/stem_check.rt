@@ -1,6 +1,6 @@
 //! Whether bytes are the stem of some manifest's line.
 
-ghost use Rattle.std.specs.Prelude.{◌≡◌, ◌↔◌, IfOk, IsTrue, string_cmp, true};
+ghost use Rattle.std.specs.Prelude.{◌≡◌, ◌↔◌, ◌++◌, codes, IfOk, IsTrue, string_cmp, true};
 ghost use Rattle.std.specs.BTreeMap.{IsOrdered};
 ghost use Rattle.reg_names.specs.Names.{is_name};
 ghost use Rattle.reg_manifest.specs.Manifests.{manifest_view};
@@ -52,6 +52,16 @@ fn fits(
     Ok(line_json(alloc, manifest, digest, false)?.as_slice() == whole)
 }
 
+/// The line of a stem that is not yanked, without its line feed.
+fn whole_line(alloc: Global, stem: &[u8]) -> Result<Vec<u8>, AllocError>
+    ensures { IfOk result (λ line. line.items ≡ stem.now ++ codes "false}") }
+{
+    let mut whole = Vec::new(alloc);
+    whole.extend_from_slice(stem)?;
+    whole.extend_from_slice(b"false}")?;
+    Ok(whole)
+}
+
 #[tactic(auto, unfolding(crate::specs::StemCheck::stem_read))]
 fn read_stem(
     alloc: Global,
@@ -63,9 +73,7 @@ fn read_stem(
     ensures answer { Gives (λ b. b) result (stem_read stem.now name.now vers.now digest.now) }
     ensures stem_of { IfOk result (λ b. IsTrue b → IsStemOf stem.now name.now vers.now digest.now) }
 {
-    let mut whole = Vec::new(alloc);
-    whole.extend_from_slice(stem)?;
-    whole.extend_from_slice(b"false}")?;
+    let whole = whole_line(alloc, stem)?;
     let manifest = read_line(alloc, whole.as_slice())?;
     Ok(fits(alloc, &manifest, whole.as_slice(), name, vers, digest)?)
 }

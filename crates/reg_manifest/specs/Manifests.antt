@@ -5,7 +5,9 @@ use Rattle.std.specs.declared.vec.Vec.{Vec}
 use Rattle.reg_manifest.specs.Fields.{Features}
 use Rattle.reg_manifest.specs.declared.manifest.Dep.{Dep}
 use Rattle.reg_manifest.specs.declared.manifest.Manifest.{Manifest}
+use Rattle.reg_manifest.specs.declared.metadata.About.{About}
 use Rattle.reg_manifest.specs.declared.metadata.Draft.{Draft}
+use Rattle.reg_manifest.specs.declared.metadata.Place.{Place}
 
 -- a dependency as it was sent, nulls replaced; rename is the field explicit_name_in_toml
 pub record DepData : Type 0 where
@@ -28,6 +30,19 @@ pub record Metadata : Type 0 where
   pub links : Option (List ℕ)
   pub rust_version : Option (List ℕ)
 
+-- what a dependency is for, and where it is from
+pub record PlaceData : Type 0 where
+  pub target : Option (List ℕ)
+  pub kind : List ℕ
+  pub registry : Option (List ℕ)
+  pub rename : Option (List ℕ)
+
+-- what else is told of a version
+pub record AboutData : Type 0 where
+  pub description : Option (List ℕ)
+  pub links : Option (List ℕ)
+  pub rust_version : Option (List ℕ)
+
 -- ---- what a caller sees of the types
 
 abbrev pub dep_view : Dep → DepData
@@ -41,6 +56,21 @@ dep_view d = record {
   kind = string_bytes d.kind;
   registry = option_map string_bytes d.registry;
   rename = option_map string_bytes d.explicit_name_in_toml;
+}
+
+abbrev pub place_view : Place → PlaceData
+place_view p = record {
+  target = option_map string_bytes p.target;
+  kind = string_bytes p.kind;
+  registry = option_map string_bytes p.registry;
+  rename = option_map string_bytes p.explicit_name_in_toml;
+}
+
+abbrev pub about_view : About → AboutData
+about_view a = record {
+  description = option_map string_bytes a.description;
+  links = option_map string_bytes a.links;
+  rust_version = option_map string_bytes a.rust_version;
 }
 
 abbrev pub feature_view : String Global × Vec (String Global) Global → List ℕ × List (List ℕ)

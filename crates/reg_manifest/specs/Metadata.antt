@@ -8,10 +8,18 @@ use Rattle.reg_names.specs.Names.{is_name}
 use Rattle.reg_versions.specs.Versions.{is_version}
 use Rattle.reg_manifest.specs.Parsing.{Parsed, ◌>>=◌}
 use Rattle.reg_manifest.specs.Fields.{json_of, field, required, or_else, optional, text_of, texts_of, flag_of, list_of, members_of, each, features_of}
-use Rattle.reg_manifest.specs.Manifests.{DepData, Metadata}
+use Rattle.reg_manifest.specs.Manifests.{AboutData, DepData, Metadata, PlaceData}
 use Rattle.reg_manifest.specs.declared.fault.ManifestFault.TheVariants as fault
 
 -- ---- the fields, each of its kind or refused
+
+-- what a dependency is for, and where it is from
+unfoldable pub place_of : Data → Parsed PlaceData
+place_of d = optional text_of (field (codes "target") d) >>= λ target.
+    or_else (codes "normal") text_of (field (codes "kind") d) >>= λ kind.
+    optional text_of (field (codes "registry") d) >>= λ registry.
+    optional text_of (field (codes "explicit_name_in_toml") d) >>= λ rename.
+    Ok (record { target = target; kind = kind; registry = registry; rename = rename })
 
 -- a dependency's fields; it has to be an object
 unfoldable pub dep_of : Data → Parsed DepData
@@ -21,21 +29,25 @@ dep_of d = members_of d >>= λ _.
     or_else [] texts_of (field (codes "features") d) >>= λ features.
     or_else false flag_of (field (codes "optional") d) >>= λ opt.
     or_else true flag_of (field (codes "default_features") d) >>= λ default.
-    optional text_of (field (codes "target") d) >>= λ target.
-    or_else (codes "normal") text_of (field (codes "kind") d) >>= λ kind.
-    optional text_of (field (codes "registry") d) >>= λ registry.
-    optional text_of (field (codes "explicit_name_in_toml") d) >>= λ rename.
+    place_of d >>= λ place.
     Ok (record {
       name = name;
       req = req;
       features = features;
       optional = opt;
       default_features = default;
-      target = target;
-      kind = kind;
-      registry = registry;
-      rename = rename;
+      target = place.target;
+      kind = place.kind;
+      registry = place.registry;
+      rename = place.rename;
     })
+
+-- what else is told of a version
+unfoldable pub about_of : Data → Parsed AboutData
+about_of d = optional text_of (field (codes "description") d) >>= λ description.
+    optional text_of (field (codes "links") d) >>= λ links.
+    optional text_of (field (codes "rust_version") d) >>= λ rust_version.
+    Ok (record { description = description; links = links; rust_version = rust_version })
 
 -- the whole value's fields; it has to be an object
 unfoldable pub fields_of : Data → Parsed Metadata
@@ -45,17 +57,15 @@ fields_of d = members_of d >>= λ _.
     or_else no_items list_of (field (codes "deps") d) >>= λ list.
     each dep_of list >>= λ deps.
     or_else [] features_of (field (codes "features") d) >>= λ features.
-    optional text_of (field (codes "description") d) >>= λ description.
-    optional text_of (field (codes "links") d) >>= λ links.
-    optional text_of (field (codes "rust_version") d) >>= λ rust_version.
+    about_of d >>= λ about.
     Ok (record {
       name = name;
       vers = vers;
       deps = deps;
       features = features;
-      description = description;
-      links = links;
-      rust_version = rust_version;
+      description = about.description;
+      links = about.links;
+      rust_version = about.rust_version;
     })
 
 -- ---- the rules

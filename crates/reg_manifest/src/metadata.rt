@@ -4,8 +4,8 @@ ghost use Rattle.std.specs.Prelude.{◌≡◌, IfOk, map, string_bytes, true};
 ghost use Rattle.serde_json.specs.View.{items_view, view};
 ghost use Rattle.reg_manifest.specs.Parsing.{Gives};
 ghost use Rattle.reg_manifest.specs.Fields.{each};
-ghost use Rattle.reg_manifest.specs.Manifests.{dep_view, draft_view, manifest_view};
-ghost use Rattle.reg_manifest.specs.Metadata.{checked, dep_of, fields_of, keeps_rules, metadata_of};
+ghost use Rattle.reg_manifest.specs.Manifests.{about_view, dep_view, draft_view, manifest_view, place_view};
+ghost use Rattle.reg_manifest.specs.Metadata.{about_of, checked, dep_of, fields_of, keeps_rules, metadata_of, place_of};
 
 use crate::fault::ManifestFault;
 use crate::fields::{
@@ -31,6 +31,39 @@ struct Draft {
     rust_version: Option<String>,
 }
 
+/// What a dependency is for, and where it is from.
+#[derive(Drop)]
+struct Place {
+    target: Option<String>,
+    kind: String,
+    registry: Option<String>,
+    explicit_name_in_toml: Option<String>,
+}
+
+/// What else is told of a version.
+#[derive(Drop)]
+struct About {
+    description: Option<String>,
+    links: Option<String>,
+    rust_version: Option<String>,
+}
+
+#[tactic(auto, unfolding(crate::specs::Metadata::place_of))]
+fn read_place(alloc: Global, value: &Value) -> Result<Place, ManifestFault>
+    ensures { Gives place_view result (place_of (view value.now)) }
+{
+    let target = optional_text(alloc, value, "target")?;
+    let kind = text_or(alloc, value, "kind", "normal")?;
+    let registry = optional_text(alloc, value, "registry")?;
+    let explicit_name_in_toml = optional_text(alloc, value, "explicit_name_in_toml")?;
+    Ok(Place {
+        target,
+        kind,
+        registry,
+        explicit_name_in_toml,
+    })
+}
+
 #[tactic(auto, unfolding(crate::specs::Metadata::dep_of))]
 fn read_dep(alloc: Global, value: &Value) -> Result<Dep, ManifestFault>
     ensures { Gives dep_view result (dep_of (view value.now)) }
@@ -41,20 +74,17 @@ fn read_dep(alloc: Global, value: &Value) -> Result<Dep, ManifestFault>
     let features = texts_or_empty(alloc, value, "features")?;
     let optional = flag_or(value, "optional", false)?;
     let default_features = flag_or(value, "default_features", true)?;
-    let target = optional_text(alloc, value, "target")?;
-    let kind = text_or(alloc, value, "kind", "normal")?;
-    let registry = optional_text(alloc, value, "registry")?;
-    let explicit_name_in_toml = optional_text(alloc, value, "explicit_name_in_toml")?;
+    let place = read_place(alloc, value)?;
     Ok(Dep {
         name,
         version_req,
         features,
         optional,
         default_features,
-        target,
-        kind,
-        registry,
-        explicit_name_in_toml,
+        target: place.target,
+        kind: place.kind,
+        registry: place.registry,
+        explicit_name_in_toml: place.explicit_name_in_toml,
     })
 }
 
@@ -68,6 +98,20 @@ fn read_deps(alloc: Global, list: &[Value]) -> Result<Vec<Dep>, ManifestFault>
     Ok(deps)
 }
 
+#[tactic(auto, unfolding(crate::specs::Metadata::about_of))]
+fn read_about(alloc: Global, value: &Value) -> Result<About, ManifestFault>
+    ensures { Gives about_view result (about_of (view value.now)) }
+{
+    let description = optional_text(alloc, value, "description")?;
+    let links = optional_text(alloc, value, "links")?;
+    let rust_version = optional_text(alloc, value, "rust_version")?;
+    Ok(About {
+        description,
+        links,
+        rust_version,
+    })
+}
+
 #[tactic(auto, unfolding(crate::specs::Metadata::fields_of))]
 fn read_fields(alloc: Global, value: &Value) -> Result<Draft, ManifestFault>
     ensures { Gives draft_view result (fields_of (view value.now)) }
@@ -77,17 +121,15 @@ fn read_fields(alloc: Global, value: &Value) -> Result<Draft, ManifestFault>
     let vers = required_text(alloc, value, "vers")?;
     let deps = read_deps(alloc, list_or_empty(value, "deps")?)?;
     let features = features_or_empty(alloc, value, "features")?;
-    let description = optional_text(alloc, value, "description")?;
-    let links = optional_text(alloc, value, "links")?;
-    let rust_version = optional_text(alloc, value, "rust_version")?;
+    let about = read_about(alloc, value)?;
     Ok(Draft {
         name,
         vers,
         deps,
         features,
-        description,
-        links,
-        rust_version,
+        description: about.description,
+        links: about.links,
+        rust_version: about.rust_version,
     })
 }
 
