@@ -1,11 +1,17 @@
-//! Tests of the rules and of the plain registry: the worked examples as events, and every two rules that an action can break at
-//! once.
+//! Tests of the rules and of the plain registry.
+//!
+//! The worked examples are scripts of events, `pairs` tries every two rules that an action can
+//! break at once, and `memory` tries steps with each amount of memory.
+//! A line of a script is an event, an arrow and its whole answer:
+//! `ada add-owners a bob -> Granted`.
 #![tactic(auto)]
 
 #[cfg(test)]
 mod asking;
 #[cfg(test)]
 mod commands;
+#[cfg(test)]
+mod events;
 #[cfg(test)]
 mod memory;
 #[cfg(test)]
@@ -17,7 +23,11 @@ mod pairs;
 #[cfg(test)]
 mod releases;
 #[cfg(test)]
-mod setup;
+mod script;
+#[cfg(test)]
+mod shown;
+#[cfg(test)]
+mod stage;
 #[cfg(test)]
 mod tokens;
 #[cfg(test)]

@@ -1,14 +1,12 @@
-//! Steps with each amount of memory: the answer is the one with ample memory, or the want, and then nothing has changed.
+//! Steps with each amount of memory.
+//!
+//! The answer is the one with ample memory, or the want, and then nothing has changed.
 
-use crate::setup::{
-    ALL, FIRST_TOKEN, add_token, answer, order, publish, publishing, two_accounts_and_a,
-};
-use reg_body::Limits;
-use reg_line::{Digest, digest_of, stem};
-use reg_manifest::{Manifest, read_manifest};
-use reg_policy::{
-    AdminCommand, AdminRefusal, Answer, Asked, Event, OwnerEntry, PlainRegistry, Reading, Rule,
-};
+use crate::script::{given, play_on, with_whole_lines};
+use crate::shown::answer_text;
+use crate::stage::Stage;
+use reg_line::digest_of;
+use reg_policy::{Answer, Asked, Event, PlainRegistry, Reading};
 use std::alloc::{AllocError, Global};
 use std::test::Fail;
 use test_support::scarce_memory::Amounts;
@@ -18,61 +16,30 @@ const COUNT: u32 = 400;
 
 const STEP: u32 = 24;
 
-fn same_owner(one: &OwnerEntry, other: &OwnerEntry) -> bool {
-    one.id == other.id && one.login.as_str() == other.login.as_str()
-}
-
-fn same_owners(one: &[OwnerEntry], other: &[OwnerEntry]) -> bool {
-    one.len() == other.len() && one.iter().zip(other).all(|(a, b)| same_owner(a, b))
-}
-
-fn same_answer(one: &Answer, other: &Answer) -> bool {
-    match (one, other) {
-        (Answer::Denied(a), Answer::Denied(b)) => a == b,
-        (Answer::Granted, Answer::Granted) => true,
-        (Answer::File(a), Answer::File(b)) => a.as_slice() == b.as_slice(),
-        (Answer::Archive(a), Answer::Archive(b)) => a.as_slice() == b.as_slice(),
-        (Answer::Owners(a), Answer::Owners(b)) => same_owners(a.as_slice(), b.as_slice()),
-        (Answer::Refused(a), Answer::Refused(b)) => a == b,
-        (Answer::Replied(a), Answer::Replied(b)) => a == b,
-        _ => false,
-    }
-}
-
-fn same_answers(one: &[Answer], other: &[Answer]) -> bool {
-    one.len() == other.len() && one.iter().zip(other).all(|(a, b)| same_answer(a, b))
-}
-
-/// The registry of *two accounts and a* with more of each, so that its lists are full.
-fn full(alloc: Global) -> Result<PlainRegistry, AllocError> {
-    let mut registry = two_accounts_and_a(alloc, Limits::STANDARD)?;
-    for name in ["c", "d", "e"] {
-        publish(alloc, &mut registry, FIRST_TOKEN, name, "0.1.0")?;
-    }
-    for login in ["carol", "dora"] {
-        order(&mut registry, AdminCommand::UserAdd(login, None));
-        add_token(&mut registry, login, &ALL, &[], login);
-    }
-    for name in ["f", "g", "h", "i"] {
-        order(&mut registry, AdminCommand::Reserve(name));
-    }
-    Ok(registry)
+/// Adds what a registry answers to a reading.
+fn look(
+    alloc: Global,
+    texts: &mut String,
+    registry: &mut PlainRegistry,
+    token: &str,
+    asked: Asked,
+) -> Result<(), AllocError> {
+    let digest = digest_of(token.as_bytes());
+    let answer = registry.step(&Event::Ask(Some(&digest), asked));
+    texts.push_str(&answer_text(alloc, &answer)?)?;
+    texts.push('\n')
 }
 
 /// What a registry answers to readings that show what the steps below change.
-fn seen(alloc: Global, registry: &mut PlainRegistry) -> Result<Vec<Answer>, AllocError> {
-    let mut answers = Vec::new(alloc);
-    for asked in [
-        Asked::Index("1/a"),
-        Asked::ListOwners("a"),
-        Asked::Index("1/b"),
-        Asked::ListOwners("b"),
-    ] {
-        answers.push(answer(registry, FIRST_TOKEN, asked))?;
+fn seen(alloc: Global, registry: &mut PlainRegistry) -> Result<String, AllocError> {
+    let mut texts = String::new(alloc);
+    for (name, path) in [("a", "1/a"), ("b", "1/b")] {
+        look(alloc, &mut texts, registry, "abc", Asked::Index(path))?;
+        look(alloc, &mut texts, registry, "abc", Asked::ListOwners(name))?;
     }
     let config = Asked::Read(Reading::Config);
-    answers.push(answer(registry, "fifth", config))?;
-    Ok(answers)
+    look(alloc, &mut texts, registry, "fifth", config)?;
+    Ok(texts)
 }
 
 /// A registry after a step, and the answer of that.
@@ -82,17 +49,14 @@ struct Stepped {
     answer: Answer,
 }
 
-fn registries(alloc: Global) -> Result<Vec<PlainRegistry>, AllocError> {
-    let mut registries = Vec::new(alloc);
-    for _ in 0..COUNT {
-        registries.push(full(alloc)?)?;
-    }
-    Ok(registries)
-}
-
-/// Takes a step on as many registries, each with a greater amount of memory. What it takes up in doing so was had before.
-fn scarce_steps(alloc: Global, event: &Event) -> Result<Vec<Stepped>, AllocError> {
-    let mut registries = registries(alloc)?;
+/// Takes a step on the registries, each with a greater amount of memory.
+///
+/// What it takes up in doing so was had before.
+fn scarce_steps(
+    alloc: Global,
+    registries: &mut Vec<PlainRegistry>,
+    event: &Event,
+) -> Result<Vec<Stepped>, AllocError> {
     let mut steps = Vec::with_capacity(alloc, COUNT as usize)?;
     let mut amounts = Amounts::new(alloc, COUNT, STEP)?;
     for _ in 0..COUNT {
@@ -134,93 +98,134 @@ impl Tally {
     }
 }
 
-fn is_want(event: &Event, answer: &Answer) -> bool {
+/// What an event is answered where memory is wanting.
+fn want(event: &Event) -> &'static str {
     match event {
-        Event::Ask(_, _) => matches!(answer, Answer::Denied(Rule::S1)),
-        Event::Order(_) => matches!(answer, Answer::Refused(AdminRefusal::G10)),
+        Event::Ask(_, _) => "Denied(S1)",
+        Event::Order(_) => "Refused(G10)",
     }
 }
 
-/// Takes a step with each amount of memory, and then looks at what is there.
-fn each_amount(alloc: Global, event: &Event) -> Result<Tally, AllocError> {
-    let mut registry = full(alloc)?;
-    let before = seen(alloc, &mut registry)?;
-    let ample = registry.step(event);
-    let after = seen(alloc, &mut registry)?;
-    let mut tally = Tally {
-        answers: 0,
-        wants: 0,
-        others: 0,
-    };
-    for mut step in scarce_steps(alloc, event)? {
-        let found = seen(alloc, &mut step.registry)?;
-        let is_want = is_want(event, &step.answer);
-        let is_right = if is_want {
-            same_answers(found.as_slice(), before.as_slice())
-        } else {
-            same_answer(&step.answer, &ample) && same_answers(found.as_slice(), after.as_slice())
-        };
-        tally.add(is_want, is_right);
+/// The answers and states that are right: where memory is wanting, all is as before.
+#[derive(Drop)]
+struct Right {
+    want: &'static str,
+    before: String,
+    answer: String,
+    after: String,
+}
+
+impl Right {
+    /// Takes a step with ample memory.
+    fn of(alloc: Global, registry: &mut PlainRegistry, event: &Event) -> Result<Right, AllocError> {
+        let before = seen(alloc, registry)?;
+        let answer = answer_text(alloc, &registry.step(event))?;
+        let after = seen(alloc, registry)?;
+        Ok(Right {
+            want: want(event),
+            before,
+            answer,
+            after,
+        })
     }
-    Ok(tally)
+
+    fn count(
+        &self,
+        alloc: Global,
+        tally: &mut Tally,
+        step: &mut Stepped,
+    ) -> Result<(), AllocError> {
+        let found = seen(alloc, &mut step.registry)?;
+        let answer = answer_text(alloc, &step.answer)?;
+        if answer.as_str() == self.want {
+            tally.add(true, found.as_str() == self.before.as_str());
+        } else {
+            let same_answer = answer.as_str() == self.answer.as_str();
+            tally.add(false, same_answer && found.as_str() == self.after.as_str());
+        }
+        Ok(())
+    }
+
+    fn tally(&self, alloc: Global, steps: Vec<Stepped>) -> Result<Tally, AllocError> {
+        let mut tally = Tally {
+            answers: 0,
+            wants: 0,
+            others: 0,
+        };
+        for mut step in steps {
+            self.count(alloc, &mut tally, &mut step)?;
+        }
+        Ok(tally)
+    }
+}
+
+/// Takes a step with ample memory and with each amount, and answers as the first, if all is right.
+pub(crate) fn each_amount(
+    alloc: Global,
+    ample: &mut PlainRegistry,
+    scarce: &mut Vec<PlainRegistry>,
+    event: &Event,
+) -> Result<String, AllocError> {
+    let right = Right::of(alloc, ample, event)?;
+    let tally = right.tally(alloc, scarce_steps(alloc, scarce, event)?)?;
+    if tally.is_right() {
+        String::from_str(alloc, &right.answer)
+    } else {
+        format!(in alloc; "{} and {tally:?}", right.answer)
+    }
+}
+
+/// A registry whose lists are full.
+fn full(alloc: Global) -> Result<PlainRegistry, Fail> {
+    match given(alloc, "given full-lists")? {
+        Stage::Ample(registry) => Ok(registry),
+        Stage::Scarce(_, _) => Err("no registry".into()),
+    }
+}
+
+/// One registry for ample memory, and one for each amount.
+fn scarce_stage(alloc: Global) -> Result<Stage, Fail> {
+    let mut scarce = Vec::new(alloc);
+    for _ in 0..COUNT {
+        scarce.push(full(alloc)?)?;
+    }
+    Ok(Stage::Scarce(full(alloc)?, scarce))
+}
+
+/// Plays each line of a script by itself, with each amount of memory.
+fn play_scarce(alloc: Global, script: &str) -> Result<(), Fail> {
+    let whole = with_whole_lines(alloc, script)?;
+    for line in whole.lines() {
+        play_on(alloc, &mut scarce_stage(alloc)?, line)?;
+    }
+    Ok(())
 }
 
 #[test]
 fn requests(rt: HostRuntime) -> Result<(), Fail> {
-    let digest = digest_of(FIRST_TOKEN.as_bytes());
-    for asked in [
-        Asked::Index("1/a"),
-        Asked::ListOwners("a"),
-        Asked::Yank("a", "0.1.0"),
-        Asked::AddOwners("a", &["bob", "carol"]),
-        Asked::RemoveOwners("a", &["bob"]),
-    ] {
-        let event = Event::Ask(Some(&digest), asked);
-        let tally = each_amount(rt.alloc(), &event)?;
-        assert!(rt; tally.is_right(), "{tally:?}");
-    }
-    Ok(())
-}
-
-/// The publish of a manifest with the archive `abc`.
-fn publishes<'a>(
-    token: &'a Digest,
-    manifest: &'a Manifest,
-    stem: &'a [u8],
-    digest: &'a Digest,
-) -> Event<'a> {
-    Event::Ask(Some(token), publishing(manifest, stem, digest, b"abc"))
+    let script = r#"ada index 1/a -> File(175):
+    {"cksum":"e3b0c44298fc1c149afbf4c8996fb92427ae41e4649b934ca495991b7852b855",
+    "deps":[],"features":{},"links":null,"name":"a","rust_version":null,
+    "vers":"0.1.0","yanked":false}<0a>
+ada owners a -> Owners 1:ada:Ada
+ada yank a 0.1.0 -> Granted
+ada add-owners a bob,carol -> Granted
+ada remove-owners a bob -> Denied(O3)"#;
+    play_scarce(rt.alloc(), script)
 }
 
 #[test]
 fn publishes_of_versions(rt: HostRuntime) -> Result<(), Fail> {
-    let token = digest_of(FIRST_TOKEN.as_bytes());
-    let digest = digest_of(b"abc");
-    for json in [
-        "{\"name\":\"b\",\"vers\":\"0.1.0\"}",
-        "{\"name\":\"a\",\"vers\":\"0.2.0\"}",
-    ] {
-        let manifest = read_manifest(rt.alloc(), json.as_bytes())?;
-        let stem = stem(rt.alloc(), &manifest, &digest)?;
-        let event = publishes(&token, &manifest, stem.as_slice(), &digest);
-        let tally = each_amount(rt.alloc(), &event)?;
-        assert!(rt; tally.is_right(), "{json} {tally:?}");
-    }
-    Ok(())
+    let script = "ada publish b 0.1.0 abc -> Granted
+ada publish a 0.2.0 abc -> Granted";
+    play_scarce(rt.alloc(), script)
 }
 
 #[test]
 fn commands(rt: HostRuntime) -> Result<(), Fail> {
-    let digest = digest_of(b"fifth");
-    for command in [
-        AdminCommand::UserAdd("eve", Some("Eve")),
-        AdminCommand::TokenAdd("bob", &["yank"], &["a", "b-*"], &digest),
-        AdminCommand::Reserve("b"),
-        AdminCommand::OwnerAdd("a", "bob"),
-    ] {
-        let event = Event::Order(command);
-        let tally = each_amount(rt.alloc(), &event)?;
-        assert!(rt; tally.is_right(), "{tally:?}");
-    }
-    Ok(())
+    let script = "user-add eve Eve -> Done
+token-add bob yank a,b-* fifth -> Id(5)
+reserve b -> Done
+owner-add a bob -> Done";
+    play_scarce(rt.alloc(), script)
 }
