@@ -1,5 +1,7 @@
 //! A counted end makes one call of its own for each of its calls, and passes on what that answers.
 
+ghost use Rattle.std.specs.Prelude.{◌≤◌, IfOk};
+
 use reg_body::Counted;
 use std::io;
 use std::io::{ErrorKind, Read, Write};
@@ -11,7 +13,9 @@ struct Interrupted {
 }
 
 impl Interrupted {
-    fn one_of(&mut self, len: usize) -> io::Result<usize> {
+    fn one_of(&mut self, len: usize) -> io::Result<usize>
+        ensures { IfOk result (λ count. count ≤ len) }
+    {
         self.calls = self.calls.saturating_add(1);
         if self.calls == 1 {
             return Err(ErrorKind::Interrupted.into());
