@@ -48,10 +48,8 @@ bob owners "a b" -> Denied(A8)"#;
     play(rt.alloc(), script)
 }
 
-#[test]
-fn bodies_are_judged_after_access(rt: HostRuntime) -> Result<(), Fail> {
-    // Bob's token has not all endpoints, and there is no crate: what is broken behind comes later.
-    let script = "given two-accounts
+/// Bob's token has not all endpoints, and there is no crate: what is broken behind comes later.
+const BODIES: &str = "given two-accounts
 bob faulty B1 -> Denied(B1)
 no-token faulty B1 -> Denied(A1)
 bob faulty B2 -> Denied(B2)
@@ -104,5 +102,8 @@ bob faulty V1 -> Denied(A3)
 bob faulty M1 -> Denied(A3)
 bob faulty O1 -> Denied(A3)
 bob faulty Q1 -> Denied(A3)";
-    play(rt.alloc(), script)
+
+#[test]
+fn bodies_are_judged_after_access(rt: HostRuntime) -> Result<(), Fail> {
+    play(rt.alloc(), BODIES)
 }
