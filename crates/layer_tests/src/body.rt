@@ -1,56 +1,37 @@
 //! Publish bodies.
 
-use reg_body::{BodyFault, Limits, join, split};
+use crate::script::play;
+use reg_body::Limits;
 use std::test::Fail;
-use test_support::examples::{FIRST_BODY, FIRST_JSON};
 
 #[test]
 fn first_line_body(rt: HostRuntime) -> Result<(), Fail> {
-    let body = join(rt.alloc(), FIRST_JSON.as_bytes(), b"")?;
-    assert_eq!(rt; body.as_slice(), FIRST_BODY);
-    let parts = split(FIRST_BODY, &Limits::STANDARD);
-    assert!(rt; parts == Ok((FIRST_JSON.as_bytes(), b"".as_slice())));
-    Ok(())
+    let script = r#"join {"name":"a","vers":"0.1.0"}|
+     -> 35:<1b><00><00><00>{"name":"a","vers":"0.1.0"}<00><00><00><00>
+split <1b><00><00><00>{"name":"a","vers":"0.1.0"}<00><00><00><00>
+     -> 27:{"name":"a","vers":"0.1.0"}|0:"#;
+    play(rt.alloc(), script)
 }
 
 #[test]
-fn frame_faults(rt: HostRuntime) {
-    let limits = Limits::STANDARD;
-    for (bytes, fault) in [
-        (
-            b"\x1c\0\0\0{\"name\":\"a\",\"vers\":\"0.1.0\"}\0\0\0\0".as_slice(),
-            BodyFault::Short,
-        ),
-        (b"", BodyFault::Short),
-        (b"\x1b\0\0", BodyFault::Short),
-        (
-            b"\xff\xff\xff\xff{\"name\":\"a\",\"vers\":\"0.1.0\"}\0\0\0\0",
-            BodyFault::Short,
-        ),
-        (
-            b"\x1b\0\0\0{\"name\":\"a\",\"vers\":\"0.1.0\"}\0\0\0\0\0",
-            BodyFault::Trailing,
-        ),
-    ] {
-        assert!(rt; split(bytes, &limits) == Err(fault));
-    }
+fn frame_faults(rt: HostRuntime) -> Result<(), Fail> {
+    let script = r#"split <1c><00><00><00>{"name":"a","vers":"0.1.0"}<00><00><00><00> -> Short
+split "" -> Short
+split <1b><00><00> -> Short
+split <ff><ff><ff><ff>{"name":"a","vers":"0.1.0"}<00><00><00><00> -> Short
+split <1b><00><00><00>{"name":"a","vers":"0.1.0"}<00><00><00><00><00> -> Trailing"#;
+    play(rt.alloc(), script)
 }
 
 #[test]
-fn parts_at_their_limits(rt: HostRuntime) {
-    let at = Limits {
-        json: 27,
-        archive: 0,
-        ..Limits::STANDARD
-    };
-    assert!(rt; split(FIRST_BODY, &at).is_ok());
-    let below = Limits { json: 26, ..at };
-    assert!(rt; split(FIRST_BODY, &below) == Err(BodyFault::TooLong));
-    let archive = b"\0\0\0\0\x01\0\0\0x";
-    assert!(rt; split(archive, &at) == Err(BodyFault::TooLong));
+fn parts_at_their_limits(rt: HostRuntime) -> Result<(), Fail> {
     // More bytes come before a length above its limit.
-    let both = b"\0\0\0\0\x01\0\0\0xy";
-    assert!(rt; split(both, &at) == Err(BodyFault::Trailing));
+    let script = r#"split-within 27 0 <1b><00><00><00>{"name":"a","vers":"0.1.0"}<00><00><00><00>
+     -> 27:{"name":"a","vers":"0.1.0"}|0:
+split-within 26 0 <1b><00><00><00>{"name":"a","vers":"0.1.0"}<00><00><00><00> -> TooLong
+split-within 27 0 <00><00><00><00><01><00><00><00>x -> TooLong
+split-within 27 0 <00><00><00><00><01><00><00><00>xy -> Trailing"#;
+    play(rt.alloc(), script)
 }
 
 #[test]

@@ -1,239 +1,108 @@
 //! Metadata.
 
-use reg_manifest::{ManifestFault, read_manifest};
-use std::alloc::Global;
+use crate::script::play;
 use std::test::Fail;
-use test_support::examples::{FIRST_JSON, RENAMED_JSON};
 
 #[test]
 fn first_line_metadata(rt: HostRuntime) -> Result<(), Fail> {
-    let manifest = read_manifest(rt.alloc(), FIRST_JSON.as_bytes())?;
-    assert_eq!(rt; manifest.name.as_str(), "a");
-    assert_eq!(rt; manifest.vers.as_str(), "0.1.0");
-    assert!(rt; manifest.deps.is_empty() && manifest.features.is_empty());
-    assert!(rt; manifest.description.is_none() && manifest.links.is_none());
-    assert!(rt; manifest.rust_version.is_none());
-    Ok(())
+    let script = r#"read-manifest {"name":"a","vers":"0.1.0"}
+     -> a 0.1.0 description - links - rust -"#;
+    play(rt.alloc(), script)
 }
 
 #[test]
 fn renamed_dependency(rt: HostRuntime) -> Result<(), Fail> {
-    let manifest = read_manifest(rt.alloc(), RENAMED_JSON.as_bytes())?;
-    assert_eq!(rt; manifest.features.len(), 2);
-    assert_eq!(rt; manifest.deps.len(), 1);
-    let found = &manifest.deps[0];
-    assert_eq!(rt; found.name.as_str(), "serde");
-    assert_eq!(rt; found.version_req.as_str(), "^1.0");
-    assert_eq!(rt; found.kind.as_str(), "normal");
-    assert!(rt; found.optional && !found.default_features);
-    assert!(rt; found.target.is_none() && found.registry.is_none());
-    let new_name = found.explicit_name_in_toml.as_ref().ok_or("a new name")?;
-    assert_eq!(rt; new_name.as_str(), "codec");
-    Ok(())
-}
-
-/// The fault of metadata, or none.
-fn fault(alloc: Global, json: &[u8]) -> Option<ManifestFault> {
-    read_manifest(alloc, json).err()
+    let script = r#"read-manifest {"name":"acme-net","vers":"1.0.0-rc.1",
+    "deps":[{"name":"serde","version_req":"^1.0","features":["derive"],"optional":true,
+    "default_features":false,"target":null,"kind":"normal","registry":null,
+    "explicit_name_in_toml":"codec"}],
+    "features":{"std":[],"wire":["dep:codec"]},"rust_version":"1.70"}
+     -> acme-net 1.0.0-rc.1 description - links - rust 1.70
+    ; feature std[]; feature wire[dep:codec,]
+    ; dep serde req ^1.0 features[derive,] optional bare
+     target - kind normal registry - renamed codec"#;
+    play(rt.alloc(), script)
 }
 
 #[test]
-fn renamed_dependency_refusals(rt: HostRuntime) {
-    for (json, want) in [
-        (
-            "{\"name\":\"a\",\"vers\":\"1.0.0\",\"deps\":[{\"name\":\"b\",\"version_req\":\"1\",\"kind\":\"test\"}]}",
-            ManifestFault::Dependency,
-        ),
-        (
-            "{\"name\":\"a\",\"vers\":\"1.0.0\",\"deps\":[{\"name\":\"\",\"version_req\":\"1\"}]}",
-            ManifestFault::Dependency,
-        ),
-        (
-            "{\"name\":\"a\",\"vers\":\"1.0.0\",\"deps\":[{\"name\":\"b\",\"version_req\":\"1, *\"}]}",
-            ManifestFault::Dependency,
-        ),
-        (
-            "{\"name\":\"a\",\"vers\":\"1.0.0\",\"deps\":[{\"name\":\"b\",\"version_req\":\"1\",\"explicit_name_in_toml\":\"\"}]}",
-            ManifestFault::Dependency,
-        ),
-        (
-            "{\"name\":\"a\",\"vers\":\"1.0.0\",\"deps\":{}}",
-            ManifestFault::Field,
-        ),
-        (
-            "{\"name\":\"a\",\"vers\":\"1.0.0\",\"deps\":[null]}",
-            ManifestFault::Field,
-        ),
-        (
-            "{\"name\":\"a\",\"vers\":\"1.0.0\",\"features\":{\"f\":null}}",
-            ManifestFault::Field,
-        ),
-        (
-            "{\"name\":\"a\",\"vers\":\"1.0.0\",\"links\":1}",
-            ManifestFault::Field,
-        ),
-        ("{\"name\":\"a\",\"vers\":null}", ManifestFault::Field),
-        ("{", ManifestFault::NotJson),
-        ("[]", ManifestFault::Field),
-    ] {
-        assert_eq!(rt; fault(rt.alloc(), json.as_bytes()), Some(want), "{json}");
-    }
-}
-
-/// The text with `old`, where it stands first, replaced by `new`.
-fn replaced(alloc: Global, text: &str, old: &str, new: &str) -> Result<String, Fail> {
-    let (before, after) = text.split_once(old).ok_or("the old text")?;
-    let mut whole = String::from_str(alloc, before)?;
-    whole.push_str(new)?;
-    whole.push_str(after)?;
-    Ok(whole)
+fn renamed_dependency_refusals(rt: HostRuntime) -> Result<(), Fail> {
+    let script = r#"fault {"name":"a","vers":"1.0.0",
+    "deps":[{"name":"b","version_req":"1","kind":"test"}]} -> Dependency
+fault {"name":"a","vers":"1.0.0","deps":[{"name":"","version_req":"1"}]} -> Dependency
+fault {"name":"a","vers":"1.0.0","deps":[{"name":"b","version_req":"1, *"}]} -> Dependency
+fault {"name":"a","vers":"1.0.0",
+    "deps":[{"name":"b","version_req":"1","explicit_name_in_toml":""}]} -> Dependency
+fault {"name":"a","vers":"1.0.0","deps":{}} -> Field
+fault {"name":"a","vers":"1.0.0","deps":[null]} -> Field
+fault {"name":"a","vers":"1.0.0","features":{"f":null}} -> Field
+fault {"name":"a","vers":"1.0.0","links":1} -> Field
+fault {"name":"a","vers":null} -> Field
+fault { -> NotJson
+fault [] -> Field"#;
+    play(rt.alloc(), script)
 }
 
 #[test]
 fn renamed_dependency_altered(rt: HostRuntime) -> Result<(), Fail> {
-    let alloc = rt.alloc();
-    let other_kind = replaced(alloc, RENAMED_JSON, "\"normal\"", "\"test\"")?;
-    assert_eq!(rt;
-        fault(alloc, other_kind.as_bytes()),
-        Some(ManifestFault::Dependency)
-    );
-    let no_list = replaced(alloc, RENAMED_JSON, "\"deps\":[", "\"deps\":{},\"x\":[")?;
-    assert_eq!(rt;
-        fault(alloc, no_list.as_bytes()),
-        Some(ManifestFault::Field)
-    );
-    Ok(())
+    let script = r#"fault {"name":"acme-net","vers":"1.0.0-rc.1",
+    "deps":[{"name":"serde","version_req":"^1.0","features":["derive"],"optional":true,
+    "default_features":false,"target":null,"kind":"test","registry":null,
+    "explicit_name_in_toml":"codec"}],
+    "features":{"std":[],"wire":["dep:codec"]},"rust_version":"1.70"} -> Dependency
+fault {"name":"acme-net","vers":"1.0.0-rc.1",
+    "deps":{},"x":[{"name":"serde","version_req":"^1.0","features":["derive"],"optional":true,
+    "default_features":false,"target":null,"kind":"normal","registry":null,
+    "explicit_name_in_toml":"codec"}],
+    "features":{"std":[],"wire":["dep:codec"]},"rust_version":"1.70"} -> Field"#;
+    play(rt.alloc(), script)
 }
 
 #[test]
-fn first_fault(rt: HostRuntime) {
-    for (json, want) in [
-        (
-            "{\"name\":\"1\",\"vers\":\"1\",\"deps\":[{\"name\":\"\",\"version_req\":\"\"}],\"links\":0}",
-            ManifestFault::Field,
-        ),
-        (
-            "{\"name\":\"1\",\"vers\":\"1\",\"deps\":[{\"name\":\"\",\"version_req\":\"\"}]}",
-            ManifestFault::Name,
-        ),
-        (
-            "{\"name\":\"a\",\"vers\":\"1\",\"deps\":[{\"name\":\"\",\"version_req\":\"\"}]}",
-            ManifestFault::Version,
-        ),
-        (
-            "{\"name\":\"a\",\"vers\":\"1.0.0\",\"deps\":[{\"name\":\"\",\"version_req\":\"\"}]}",
-            ManifestFault::Dependency,
-        ),
-        (
-            "{\"name\":\"a\",\"vers\":\"1.0.0\",\"deps\":[{\"name\":\"\",\"version_req\":\"\"},{}]}",
-            ManifestFault::Field,
-        ),
-    ] {
-        assert_eq!(rt; fault(rt.alloc(), json.as_bytes()), Some(want), "{json}");
-    }
+fn first_fault(rt: HostRuntime) -> Result<(), Fail> {
+    let script = r#"fault {"name":"1","vers":"1","deps":[{"name":"","version_req":""}],"links":0}
+     -> Field
+fault {"name":"1","vers":"1","deps":[{"name":"","version_req":""}]} -> Name
+fault {"name":"a","vers":"1","deps":[{"name":"","version_req":""}]} -> Version
+fault {"name":"a","vers":"1.0.0","deps":[{"name":"","version_req":""}]} -> Dependency
+fault {"name":"a","vers":"1.0.0","deps":[{"name":"","version_req":""},{}]} -> Field"#;
+    play(rt.alloc(), script)
 }
 
-/// What a reader of JSON may get wrong, and the fault.
-const JSON_TEXTS: [(&[u8], Option<ManifestFault>); 19] = [
-    // Of a key that is written twice the last value counts, of whatever kind.
-    (
-        b"{\"name\":\"a\",\"vers\":\"1.0.0\",\"deps\":{},\"deps\":[]}",
-        None,
-    ),
-    (
-        b"{\"name\":\"a\",\"vers\":\"1.0.0\",\"deps\":[],\"deps\":{}}",
-        Some(ManifestFault::Field),
-    ),
-    (b"{\"name\":\"1\",\"name\":\"a\",\"vers\":\"1.0.0\"}", None),
-    // Escapes, in keys too; a pair of surrogates is one character, a lone one is none.
-    (b"{\"n\\u0061me\":\"\\u0061\",\"vers\":\"1.0.0\"}", None),
-    (
-        b"{\"name\":\"a\",\"vers\":\"1.0.0\",\"links\":\"\\ud83d\\ude00\"}",
-        None,
-    ),
-    (
-        b"{\"name\":\"a\",\"vers\":\"1.0.0\",\"links\":\"\\ud83d\"}",
-        Some(ManifestFault::NotJson),
-    ),
-    (
-        b"{\"name\":\"a\",\"vers\":\"1.0.0\",\"links\":\"\\ude00\\ud83d\"}",
-        Some(ManifestFault::NotJson),
-    ),
-    (
-        b"{\"name\":\"a\",\"vers\":\"1.0.0\",\"links\":\"\\x61\"}",
-        Some(ManifestFault::NotJson),
-    ),
-    // Control characters have to be escaped.
-    (
-        b"{\"name\":\"a\",\"vers\":\"1.0.0\",\"links\":\"\x01\"}",
-        Some(ManifestFault::NotJson),
-    ),
-    (
-        b"{\"name\":\"a\",\"vers\":\"1.0.0\",\"links\":\"\\u0001\"}",
-        None,
-    ),
-    // Numbers past 64 bits in an unknown field are numbers; one past every float is none.
-    (
-        b"{\"name\":\"a\",\"vers\":\"1.0.0\",\"x\":99999999999999999999999}",
-        None,
-    ),
-    (
-        b"{\"name\":\"a\",\"vers\":\"1.0.0\",\"x\":1e999}",
-        Some(ManifestFault::NotJson),
-    ),
-    (b"{\"name\":\"a\",\"vers\":\"1.0.0\",\"x\":0e999}", None),
-    (
-        b"{\"name\":\"a\",\"vers\":\"1.0.0\",\"x\":01}",
-        Some(ManifestFault::NotJson),
-    ),
-    // A byte-order mark, bytes behind the value, bytes that are no UTF-8.
-    (
-        b"\xef\xbb\xbf{\"name\":\"a\",\"vers\":\"1.0.0\"}",
-        Some(ManifestFault::NotJson),
-    ),
-    (b"{\"name\":\"a\",\"vers\":\"1.0.0\"} \n", None),
-    (
-        b"{\"name\":\"a\",\"vers\":\"1.0.0\"}x",
-        Some(ManifestFault::NotJson),
-    ),
-    (
-        b"{\"name\":\"a\",\"vers\":\"1.0.0\",\"x\":\"\xff\"}",
-        Some(ManifestFault::NotJson),
-    ),
-    (b"", Some(ManifestFault::NotJson)),
-];
-
+/// What a reader of JSON may get wrong.
+///
+/// Of a key that is written twice the last value counts, of whatever kind.
+/// Escapes stand in keys too; a pair of surrogates is one character, a lone one is none.
+/// Control characters have to be escaped.
+/// Numbers past 64 bits in an unknown field are numbers; one past every float is none.
+/// At the end: a byte-order mark, bytes behind the value, bytes that are no UTF-8, no bytes.
 #[test]
-fn json_texts(rt: HostRuntime) {
-    for (json, want) in JSON_TEXTS {
-        assert_eq!(rt; fault(rt.alloc(), json), want, "{json:?}");
-    }
-}
-
-/// Metadata with an unknown field of so many nested lists.
-fn nested(alloc: Global, levels: u32) -> Result<Vec<u8>, ManifestFault> {
-    let mut json = Vec::new(alloc);
-    json.extend_from_slice(b"{\"name\":\"a\",\"vers\":\"1.0.0\",\"x\":")?;
-    for _ in 0..levels {
-        json.push(b'[')?;
-    }
-    for _ in 0..levels {
-        json.push(b']')?;
-    }
-    json.push(b'}')?;
-    Ok(json)
+fn json_texts(rt: HostRuntime) -> Result<(), Fail> {
+    let script = r#"fault {"name":"a","vers":"1.0.0","deps":{},"deps":[]} -> none
+fault {"name":"a","vers":"1.0.0","deps":[],"deps":{}} -> Field
+fault {"name":"1","name":"a","vers":"1.0.0"} -> none
+fault {"n\u0061me":"\u0061","vers":"1.0.0"} -> none
+fault {"name":"a","vers":"1.0.0","links":"\ud83d\ude00"} -> none
+fault {"name":"a","vers":"1.0.0","links":"\ud83d"} -> NotJson
+fault {"name":"a","vers":"1.0.0","links":"\ude00\ud83d"} -> NotJson
+fault {"name":"a","vers":"1.0.0","links":"\x61"} -> NotJson
+fault {"name":"a","vers":"1.0.0","links":"<01>"} -> NotJson
+fault {"name":"a","vers":"1.0.0","links":"\u0001"} -> none
+fault {"name":"a","vers":"1.0.0","x":99999999999999999999999} -> none
+fault {"name":"a","vers":"1.0.0","x":1e999} -> NotJson
+fault {"name":"a","vers":"1.0.0","x":0e999} -> none
+fault {"name":"a","vers":"1.0.0","x":01} -> NotJson
+fault <ef><bb><bf>{"name":"a","vers":"1.0.0"} -> NotJson
+fault {"name":"a","vers":"1.0.0"} <0a> -> none
+fault {"name":"a","vers":"1.0.0"}x -> NotJson
+fault {"name":"a","vers":"1.0.0","x":"<ff>"} -> NotJson
+fault "" -> NotJson"#;
+    play(rt.alloc(), script)
 }
 
 #[test]
 fn nesting(rt: HostRuntime) -> Result<(), Fail> {
     // The object is a level too: 127 levels are read, 128 are not.
-    assert_eq!(rt;
-        fault(rt.alloc(), nested(rt.alloc(), 126)?.as_slice()),
-        None
-    );
-    assert_eq!(rt;
-        fault(rt.alloc(), nested(rt.alloc(), 127)?.as_slice()),
-        Some(ManifestFault::NotJson)
-    );
-    Ok(())
+    let script = "fault-of-nested 126 -> none
+fault-of-nested 127 -> NotJson";
+    play(rt.alloc(), script)
 }

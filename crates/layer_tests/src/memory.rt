@@ -1,4 +1,6 @@
-//! Each call that can answer want of memory, with each amount of it: the answer is the one with ample memory, or the want.
+//! Each call that can answer want of memory, with each amount of it.
+//!
+//! The answer is the one with ample memory, or the want.
 
 use reg_body::{JoinFault, join};
 use reg_line::{Entry, check_stem, config, digest_of, file, line, stem};
@@ -35,7 +37,9 @@ impl Tally {
     }
 }
 
-/// Runs a call with each amount of memory; it tells whether its answer is the one with ample memory.
+/// Runs a call with each amount of memory.
+///
+/// It tells whether its answer is the one with ample memory.
 fn each_amount<F: Fn(Global) -> Result<bool, AllocError>>(
     alloc: Global,
     step: u32,

@@ -1,61 +1,58 @@
 //! Names and index paths.
 
-use reg_names::{canon, collides, index_path, lower, name_of_path, parse_name};
+use crate::script::play;
 use std::test::Fail;
 
 #[test]
 fn paths(rt: HostRuntime) -> Result<(), Fail> {
-    for (text, path) in [
-        ("a", "1/a"),
-        ("ab", "2/ab"),
-        ("Abc", "3/a/abc"),
-        ("Cargo", "ca/rg/cargo"),
-        ("ac-me", "ac/-m/ac-me"),
-        ("ac_me", "ac/_m/ac_me"),
-    ] {
-        let name = parse_name(text).ok_or("a name")?;
-        assert_eq!(rt; index_path(&name).as_str(), path);
-        let found = name_of_path(path).ok_or("a path")?;
-        assert_eq!(rt; found.as_str(), lower(&name).as_str());
-    }
-    for path in [
-        "ca/rg/Cargo",
-        "ca/rg/cargx/",
-        "",
-        "a",
-        "1/ab",
-        "ca/rg/",
-        "é/é/éé",
-    ] {
-        assert!(rt; name_of_path(path).is_none(), "{path}");
-    }
-    Ok(())
+    let script = r#"index-path a -> 1/a
+name-of-path 1/a -> a
+lower a -> a
+index-path ab -> 2/ab
+name-of-path 2/ab -> ab
+lower ab -> ab
+index-path Abc -> 3/a/abc
+name-of-path 3/a/abc -> abc
+lower Abc -> abc
+index-path Cargo -> ca/rg/cargo
+name-of-path ca/rg/cargo -> cargo
+lower Cargo -> cargo
+index-path ac-me -> ac/-m/ac-me
+name-of-path ac/-m/ac-me -> ac-me
+lower ac-me -> ac-me
+index-path ac_me -> ac/_m/ac_me
+name-of-path ac/_m/ac_me -> ac_me
+lower ac_me -> ac_me
+name-of-path ca/rg/Cargo -> none
+name-of-path ca/rg/cargx/ -> none
+name-of-path "" -> none
+name-of-path a -> none
+name-of-path 1/ab -> none
+name-of-path ca/rg/ -> none
+name-of-path é/é/éé -> none"#;
+    play(rt.alloc(), script)
 }
 
 #[test]
-fn name_faults(rt: HostRuntime) {
-    let longest = "abcdefghijklmnopqrstuvwxyzabcdefghijklmnopqrstuvwxyzabcdefghijkl";
-    assert_eq!(rt; longest.len(), 64);
-    assert!(rt; parse_name(longest).is_some());
-    for text in [
-        "abcdefghijklmnopqrstuvwxyzabcdefghijklmnopqrstuvwxyzabcdefghijklm",
-        "1abc",
-        "",
-        "-a",
-        "_a",
-        "a.b",
-        "a b",
-        "é",
-    ] {
-        assert!(rt; parse_name(text).is_none(), "{text}");
-    }
+fn name_faults(rt: HostRuntime) -> Result<(), Fail> {
+    let script = r#"length abcdefghijklmnopqrstuvwxyzabcdefghijklmnopqrstuvwxyzabcdefghijkl -> 64
+parse-name abcdefghijklmnopqrstuvwxyzabcdefghijklmnopqrstuvwxyzabcdefghijkl
+     -> abcdefghijklmnopqrstuvwxyzabcdefghijklmnopqrstuvwxyzabcdefghijkl
+parse-name abcdefghijklmnopqrstuvwxyzabcdefghijklmnopqrstuvwxyzabcdefghijklm -> none
+parse-name 1abc -> none
+parse-name "" -> none
+parse-name -a -> none
+parse-name _a -> none
+parse-name a.b -> none
+parse-name a b -> none
+parse-name é -> none"#;
+    play(rt.alloc(), script)
 }
 
 #[test]
 fn two_spellings(rt: HostRuntime) -> Result<(), Fail> {
-    let name = parse_name("Acme_Net").ok_or("a name")?;
-    assert_eq!(rt; canon(&name).as_str(), "acme_net");
-    assert!(rt; collides(&name, &parse_name("acme-net").ok_or("a name")?));
-    assert!(rt; !collides(&name, &parse_name("acmenet").ok_or("a name")?));
-    Ok(())
+    let script = "canon Acme_Net -> acme_net
+collides Acme_Net acme-net -> yes
+collides Acme_Net acmenet -> no";
+    play(rt.alloc(), script)
 }

@@ -1,93 +1,65 @@
 //! Versions and the highest of them.
 
-use reg_versions::{Release, VersionFault, highest, release_key, same_release};
-use std::alloc::Global;
+use crate::script::play;
 use std::test::Fail;
 
 #[test]
 fn one_release(rt: HostRuntime) -> Result<(), Fail> {
-    let alloc = rt.alloc();
-    for text in [
-        "1.0",
-        "1.0.0.0",
-        "01.0.0",
-        "1.0.0-",
-        "1.0.0-01",
-        "v1.0.0",
-        "",
-        "18446744073709551616.0.0",
-    ] {
-        let fault = Release::parse(alloc, text).err();
-        assert_eq!(rt; fault, Some(VersionFault::Bad), "{text}");
-    }
-    for text in [
-        "1.0.0+a",
-        "18446744073709551615.0.0-99999999999999999999",
-        "0.0.0--.-",
-    ] {
-        assert!(rt; Release::parse(alloc, text).is_ok(), "{text}");
-    }
-    assert_eq!(rt; release_key("1.0.0+a+b"), "1.0.0");
-    assert_eq!(rt; release_key("1.0.0-rc.1"), "1.0.0-rc.1");
-    assert!(rt; same_release("1.0.0+a", "1.0.0+b") && same_release("1.0.0+a", "1.0.0"));
-    assert!(rt; !same_release("1.0.0", "1.0.0-a"));
-    Ok(())
-}
-
-/// The place of the highest of these versions with their yanked marks.
-fn place(alloc: Global, list: &[(&str, bool)]) -> Result<Option<usize>, VersionFault> {
-    let mut releases = Vec::new(alloc);
-    for (text, yanked) in list {
-        match releases.push((Release::parse(alloc, text)?, *yanked)) {
-            Ok(()) => {}
-            Err(_) => return Err(VersionFault::Memory),
-        }
-    }
-    Ok(highest(&releases))
+    let script = r#"parse-version 1.0 -> Bad
+parse-version 1.0.0.0 -> Bad
+parse-version 01.0.0 -> Bad
+parse-version 1.0.0- -> Bad
+parse-version 1.0.0-01 -> Bad
+parse-version v1.0.0 -> Bad
+parse-version "" -> Bad
+parse-version 18446744073709551616.0.0 -> Bad
+parse-version 1.0.0+a -> a release
+parse-version 18446744073709551615.0.0-99999999999999999999 -> a release
+parse-version 0.0.0--.- -> a release
+release-key 1.0.0+a+b -> 1.0.0
+release-key 1.0.0-rc.1 -> 1.0.0-rc.1
+same-release 1.0.0+a 1.0.0+b -> yes
+same-release 1.0.0+a 1.0.0 -> yes
+same-release 1.0.0 1.0.0-a -> no"#;
+    play(rt.alloc(), script)
 }
 
 /// The chain of SemVer 2.0.0, section 11, and its other examples: each is below the next.
-const CHAIN: [&str; 13] = [
-    "1.0.0-alpha",
-    "1.0.0-alpha.1",
-    "1.0.0-alpha.beta",
-    "1.0.0-beta",
-    "1.0.0-beta.2",
-    "1.0.0-beta.11",
-    "1.0.0-rc.1",
-    "1.0.0",
-    "2.0.0",
-    "2.1.0",
-    "2.1.1",
-    "2.1.10-99999999999999999998",
-    "2.1.10-99999999999999999999",
-];
-
 #[test]
 fn precedence_chain(rt: HostRuntime) -> Result<(), Fail> {
-    let mut before = "0.9.9";
-    for text in CHAIN {
-        let pair = [(before, false), (text, false)];
-        assert_eq!(rt; place(rt.alloc(), pair.as_slice())?, Some(1), "{text}");
-        let turned = [(text, false), (before, false)];
-        assert_eq!(rt; place(rt.alloc(), turned.as_slice())?, Some(0), "{text}");
-        before = text;
-    }
-    Ok(())
+    let script = "highest 0.9.9 1.0.0-alpha -> Some(1)
+highest 1.0.0-alpha 0.9.9 -> Some(0)
+highest 1.0.0-alpha 1.0.0-alpha.1 -> Some(1)
+highest 1.0.0-alpha.1 1.0.0-alpha -> Some(0)
+highest 1.0.0-alpha.1 1.0.0-alpha.beta -> Some(1)
+highest 1.0.0-alpha.beta 1.0.0-alpha.1 -> Some(0)
+highest 1.0.0-alpha.beta 1.0.0-beta -> Some(1)
+highest 1.0.0-beta 1.0.0-alpha.beta -> Some(0)
+highest 1.0.0-beta 1.0.0-beta.2 -> Some(1)
+highest 1.0.0-beta.2 1.0.0-beta -> Some(0)
+highest 1.0.0-beta.2 1.0.0-beta.11 -> Some(1)
+highest 1.0.0-beta.11 1.0.0-beta.2 -> Some(0)
+highest 1.0.0-beta.11 1.0.0-rc.1 -> Some(1)
+highest 1.0.0-rc.1 1.0.0-beta.11 -> Some(0)
+highest 1.0.0-rc.1 1.0.0 -> Some(1)
+highest 1.0.0 1.0.0-rc.1 -> Some(0)
+highest 1.0.0 2.0.0 -> Some(1)
+highest 2.0.0 1.0.0 -> Some(0)
+highest 2.0.0 2.1.0 -> Some(1)
+highest 2.1.0 2.0.0 -> Some(0)
+highest 2.1.0 2.1.1 -> Some(1)
+highest 2.1.1 2.1.0 -> Some(0)
+highest 2.1.1 2.1.10-99999999999999999998 -> Some(1)
+highest 2.1.10-99999999999999999998 2.1.1 -> Some(0)
+highest 2.1.10-99999999999999999998 2.1.10-99999999999999999999 -> Some(1)
+highest 2.1.10-99999999999999999999 2.1.10-99999999999999999998 -> Some(0)";
+    play(rt.alloc(), script)
 }
 
 #[test]
 fn highest_of_marked(rt: HostRuntime) -> Result<(), Fail> {
-    let alloc = rt.alloc();
-    let marked = [
-        ("1.0.0-rc.1", false),
-        ("1.0.0", true),
-        ("0.9.0", false),
-        ("1.0.0-rc.1+b", false),
-    ];
-    assert_eq!(rt; place(alloc, marked.as_slice())?, Some(0));
-    let yanked = [("1.0.0", true), ("1.1.0", true), ("1.1.0+b", true)];
-    assert_eq!(rt; place(alloc, yanked.as_slice())?, Some(1));
-    assert_eq!(rt; place(alloc, &[])?, None);
-    Ok(())
+    let script = r#"highest 1.0.0-rc.1 yanked:1.0.0 0.9.0 1.0.0-rc.1+b -> Some(0)
+highest yanked:1.0.0 yanked:1.1.0 yanked:1.1.0+b -> Some(1)
+highest "" -> None"#;
+    play(rt.alloc(), script)
 }

@@ -49,7 +49,7 @@ bob owners "a b" -> Denied(A8)"#;
 }
 
 /// Bob's token has not all endpoints, and there is no crate: what is broken behind comes later.
-const FAULTY_BODIES: &str = "given two-accounts
+const BODIES: &str = "given two-accounts
 bob faulty B1 -> Denied(B1)
 no-token faulty B1 -> Denied(A1)
 bob faulty B2 -> Denied(B2)
@@ -105,5 +105,5 @@ bob faulty Q1 -> Denied(A3)";
 
 #[test]
 fn bodies_are_judged_after_access(rt: HostRuntime) -> Result<(), Fail> {
-    play(rt.alloc(), FAULTY_BODIES)
+    play(rt.alloc(), BODIES)
 }
