@@ -1,3 +1,4 @@
+use Rattle.std.proofs.Common.{rules}
 use Rattle.sqlite.specs.Held.{state}
 use Rattle.reg_stored.proofs.Went.{ends, stops_here, stops_write, went_none, went_write}
 use Rattle.reg_stored.proofs.Withins.{become_within}
@@ -15,3 +16,6 @@ pub returns-clause-leaves : goal.returns-clause-leaves
 returns-clause-leaves g c =
     ends (state g.S.Store c.args.conn.now) (state g.S.Store c.insert.new.conn) tt
     (went_write (state g.S.Store c.args.conn.now) (state g.S.Store c.args.conn.now) (state g.S.Store c.insert.new.conn) c.insert.result _ (went_none (state g.S.Store c.args.conn.now) c.requires) c.in_ok-insert.was (λ clean at adds. become_within (state g.S.Store c.args.conn.now) (state g.S.Store c.insert.new.conn) 5 _ clean at adds.1.becomes) c.insert.ensures)
+
+pub returns-clause-added : goal.returns-clause-added
+returns-clause-added g c = search rules
