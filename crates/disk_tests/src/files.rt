@@ -3,13 +3,14 @@
 ghost use Rattle.std.specs.Prelude.{IfOk};
 ghost use Rattle.reg_tables.specs.Works.{AreOurs};
 
-use crate::changes::{BASE, prepare, rows_of};
+use crate::playing::prepare;
 use reg_tables::Tables;
 use sqlite::{Alter, Connection, FileStore, Files, Options};
 use sqlite_disk::{Crash, Disk, Fuse, Memory};
 use std::alloc::Global;
 use std::process::Abort;
 use std::test::Fail;
+use test_tables::{BASE, rows_text};
 
 /// A file in memory that stops after some call.
 pub(crate) type Stopping = Fuse<Memory>;
@@ -82,7 +83,7 @@ fn rows_over(rt: &impl Abort, alloc: Global, conn: Conn) -> Result<Option<String
         return Ok(None);
     }
     match adopt(rt, alloc, conn) {
-        Ok(mut tables) => Ok(Some(rows_of(alloc, &mut tables)?)),
+        Ok(mut tables) => Ok(Some(rows_text(alloc, &mut tables)?)),
         Err(_conn) => Err("not known again".into()),
     }
 }
@@ -109,7 +110,7 @@ pub(crate) fn no_image(alloc: Global) -> Image {
     }
 }
 
-/// Two accounts and a crate in files that were closed.
+/// The prepared registry in files that were closed.
 pub(crate) fn prepared_image(rt: &impl Abort, alloc: Global) -> Result<Image, Fail> {
     let mut image = no_image(alloc);
     let files = files_of(alloc, &image, NEVER)?;
@@ -119,7 +120,7 @@ pub(crate) fn prepared_image(rt: &impl Abort, alloc: Global) -> Result<Image, Fa
     let Ok(mut tables) = Tables::make(conn, BASE) else {
         return Err("not made".into());
     };
-    prepare(&mut tables)?;
+    prepare(rt, alloc, &mut tables)?;
     let files = match tables.into_connection().close_files() {
         Ok(files) => files,
         Err((error, _store)) => return Err(error.into()),

@@ -1,10 +1,21 @@
-//! Tests of changes over files that stop, of calls with scarce memory, and of texts that read.
+//! Every call of the tables over files that stop at some call, and with scarce memory.
+//!
+//! A line of [`calls`] is a call and its answer. Whatever stops it, the rows are those before or
+//! those after, and those after once the commit was acknowledged:
+//!
+//! ```text
+//! yank 1 0.1.0 -> done
+//! ```
 #![tactic(auto)]
 
 #[cfg(test)]
-mod changes;
+mod calls;
+#[cfg(test)]
+mod commits;
 #[cfg(test)]
 mod files;
+#[cfg(test)]
+mod playing;
 #[cfg(test)]
 mod refused;
 #[cfg(test)]

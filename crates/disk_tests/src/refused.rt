@@ -1,197 +1,210 @@
-//! Calls of a transaction with each amount of memory: each is done, or it is refused and the tables are as before.
+//! Calls of a transaction with each amount of memory: each is answered as with ample memory, or it
+//! is refused and the tables are as before.
 
-ghost use Rattle.reg_tables.specs.Works.{AreOurs};
+ghost use Rattle.std.specs.Prelude.{◌≡◌};
+ghost use Rattle.reg_tables.specs.Works.{AreOurs, IsAtWork};
 
-use crate::changes::{BASE, prepare, rows_of, version_of};
-use crate::files::{
-    Conn, Image, NEVER, Stopping, adopt, files_of, open, prepared_image, rows_after,
-};
+use crate::calls::{CHANGES, SELECTIONS, VERSIONS};
+use crate::playing::{has_rows, plays, prepare};
 use reg_audit::{Check, audit};
-use reg_line::digest_of;
-use reg_names::parse_name;
-use reg_tables::{StoreFault, Tables};
-use sqlite::{Alter, Connection, Files};
+use reg_tables::{StoreFault, Tables, Work};
+use sqlite::{Alter, Connection};
 use std::alloc::Global;
 use std::process::Abort;
 use std::test::Fail;
 use test_support::scarce_memory::Amounts;
+use test_tables::{Answer, BASE, Call, perform, read_call, rows_text};
 
 const COUNT: u32 = 1000;
 
-/// Bytes between two amounts for a crate that is added, for versions that are found, and for a commit.
-const ADD_STEP: u32 = 200;
+/// Bytes between two amounts for a change, for a selection, and for the checks on opening.
+const CHANGE_STEP: u32 = 200;
 
 const SELECT_STEP: u32 = 40;
 
-const COMMIT_STEP: u32 = 10_000;
-
-/// And for the checks on opening.
 const AUDIT_STEP: u32 = 500;
 
 /// Leaves no more than this amount of memory, until what is answered is dropped.
-fn scarce(rt: &impl Abort, alloc: Global, amount: u32) -> Result<Amounts, Fail> {
+pub(crate) fn scarce(rt: &impl Abort, alloc: Global, amount: u32) -> Result<Amounts, Fail> {
     let mut amounts = Amounts::new(alloc, 1, amount)?;
     assert!(rt; amounts.advance(alloc));
     Ok(amounts)
 }
 
-/// Whether a crate was added with this amount of memory.
-fn adds_with<S: Alter>(
+/// What the call is answered with this amount of memory.
+fn call_with<S: Alter>(
     rt: &impl Abort,
     alloc: Global,
-    tables: &mut Tables<S>,
+    work: &mut Work<'_, S>,
+    call: &Call<'_>,
     amount: u32,
-) -> Result<bool, Fail>
-    requires { AreOurs S.Store tables.old }
-    ensures { AreOurs S.Store tables.new }
+) -> Result<Result<Answer, StoreFault>, Fail>
+    requires { IsAtWork S.Store work.old }
+    ensures at_work { IsAtWork S.Store work.new }
+    ensures same_reference { work.new.tables.ghost_name ≡ work.old.tables.ghost_name }
 {
-    let name = parse_name("second").ok_or("a name")?;
-    let digest = digest_of(b"abc");
-    let version = version_of(&digest);
-    let mut work = tables.work()?;
     let amounts = scarce(rt, alloc, amount)?;
-    let added = work.add_crate(&name, 1, &version);
+    let found = perform(alloc, work, call);
     drop(amounts);
-    let committed = work.commit();
-    assert_eq!(rt; committed.is_ok(), added.is_ok());
-    Ok(added.is_ok())
+    Ok(found)
 }
 
-/// Whether the versions of the first crate were found with this amount of memory.
-fn selects_with<S: Alter>(
+/// What it is answered in a transaction of its own, and whether that was then committed.
+fn commit_with<S: Alter>(
     rt: &impl Abort,
     alloc: Global,
     tables: &mut Tables<S>,
+    call: &Call<'_>,
     amount: u32,
-) -> Result<bool, Fail>
+) -> Result<(Result<Answer, StoreFault>, bool), Fail>
     requires { AreOurs S.Store tables.old }
     ensures { AreOurs S.Store tables.new }
 {
     let mut work = tables.work()?;
-    let amounts = scarce(rt, alloc, amount)?;
-    let found = work.versions_of(alloc, 1);
-    drop(amounts);
+    let found = call_with(rt, alloc, &mut work, call, amount)?;
+    let done = work.commit().is_ok();
+    Ok((found, done))
+}
+
+/// Whether it was answered, and then as it is wanted and committed; else it was not committed.
+fn is_right(
+    rt: &impl Abort,
+    alloc: Global,
+    found: Result<Answer, StoreFault>,
+    done: bool,
+    want: &str,
+) -> Result<bool, Fail> {
+    assert!(rt; done == found.is_ok());
     match found {
-        Ok(versions) => {
-            assert!(rt; versions.len() == 1 && versions[0].vers.as_str() == "0.1.0");
-            assert_eq!(rt; work.commit(), Ok(()));
-            Ok(true)
-        }
-        Err(StoreFault) => {
-            assert_eq!(rt; work.commit(), Err(StoreFault));
-            Ok(false)
-        }
-    }
-}
-
-/// How many amounts are too little to add a crate.
-fn refusals_to_add<S: Alter>(
-    rt: &impl Abort,
-    alloc: Global,
-    tables: &mut Tables<S>,
-) -> Result<u32, Fail>
-    requires { AreOurs S.Store tables.old }
-    ensures { AreOurs S.Store tables.new }
-{
-    let before = rows_of(alloc, tables)?;
-    for at in 1..COUNT {
-        if adds_with(rt, alloc, tables, at * ADD_STEP)? {
-            return Ok(at - 1);
-        }
-        assert!(rt; rows_of(alloc, tables)? == before);
-    }
-    Err("never added".into())
-}
-
-/// How many amounts are too little to find the versions of a crate.
-fn refusals_to_select<S: Alter>(
-    rt: &impl Abort,
-    alloc: Global,
-    tables: &mut Tables<S>,
-) -> Result<u32, Fail>
-    requires { AreOurs S.Store tables.old }
-    ensures { AreOurs S.Store tables.new }
-{
-    let before = rows_of(alloc, tables)?;
-    for at in 1..COUNT {
-        let found = selects_with(rt, alloc, tables, at * SELECT_STEP)?;
-        assert!(rt; rows_of(alloc, tables)? == before);
-        if found {
-            return Ok(at - 1);
-        }
-    }
-    Err("never found".into())
-}
-
-fn a_crate_added_in<S: Alter>(
-    rt: &impl Abort,
-    alloc: Global,
-    tables: &mut Tables<S>,
-) -> Result<(), Fail>
-    requires { AreOurs S.Store tables.old }
-{
-    prepare(tables)?;
-    let before = rows_of(alloc, tables)?;
-    let refused = refusals_to_add(rt, alloc, tables)?;
-    assert!(rt; refused > 5, "{refused}");
-    assert!(rt; rows_of(alloc, tables)? != before);
-    Ok(())
-}
-
-#[test]
-fn a_crate_added(rt: HostRuntime) -> Result<(), Fail> {
-    let alloc = rt.alloc();
-    match Tables::make(Connection::open_in_memory(alloc)?, BASE) {
-        Ok(mut tables) => a_crate_added_in(&rt, alloc, &mut tables),
-        Err((_fault, _conn)) => Err("no tables".into()),
-    }
-}
-
-fn versions_found_in<S: Alter>(
-    rt: &impl Abort,
-    alloc: Global,
-    tables: &mut Tables<S>,
-) -> Result<(), Fail>
-    requires { AreOurs S.Store tables.old }
-{
-    prepare(tables)?;
-    let refused = refusals_to_select(rt, alloc, tables)?;
-    assert!(rt; refused > 5, "{refused}");
-    Ok(())
-}
-
-#[test]
-fn versions_found(rt: HostRuntime) -> Result<(), Fail> {
-    let alloc = rt.alloc();
-    match Tables::make(Connection::open_in_memory(alloc)?, BASE) {
-        Ok(mut tables) => versions_found_in(&rt, alloc, &mut tables),
-        Err((_fault, _conn)) => Err("no tables".into()),
-    }
-}
-
-/// Whether the checks were done with this amount of memory. The stem of the crate's line is none.
-fn checks_with<S: Alter>(
-    rt: &impl Abort,
-    alloc: Global,
-    tables: &mut Tables<S>,
-    amount: u32,
-) -> Result<bool, Fail>
-    requires { AreOurs S.Store tables.old }
-    ensures { AreOurs S.Store tables.new }
-{
-    let amounts = scarce(rt, alloc, amount)?;
-    let found = audit(alloc, tables);
-    drop(amounts);
-    match found {
-        Ok(found) => {
-            assert_eq!(rt; found, Some(Check::C5));
+        Ok(answer) => {
+            assert_eq!(rt; answer.text(alloc)?.as_str(), want);
             Ok(true)
         }
         Err(StoreFault) => Ok(false),
     }
 }
 
-/// How many amounts are too little for the checks.
+/// A call, its answer, and the bytes between two amounts.
+#[derive(Clone, Copy)]
+struct Wanted<'a> {
+    call: &'a Call<'a>,
+    answer: &'a str,
+    step: u32,
+}
+
+/// How many amounts are too little for the call.
+fn refusals<S: Alter>(
+    rt: &impl Abort,
+    alloc: Global,
+    tables: &mut Tables<S>,
+    wanted: &Wanted<'_>,
+) -> Result<u32, Fail>
+    requires { AreOurs S.Store tables.old }
+    ensures { AreOurs S.Store tables.new }
+{
+    let before = rows_text(alloc, tables)?;
+    for at in 1..COUNT {
+        let amount = at.saturating_mul(wanted.step);
+        let (found, done) = commit_with(rt, alloc, tables, wanted.call, amount)?;
+        if is_right(rt, alloc, found, done, wanted.answer)? {
+            return Ok(at - 1);
+        }
+        has_rows(rt, alloc, tables, &before)?;
+    }
+    Err("never answered".into())
+}
+
+fn each_amount_in<S: Alter>(
+    rt: &impl Abort,
+    alloc: Global,
+    tables: &mut Tables<S>,
+    wanted: &Wanted<'_>,
+    changes: bool,
+) -> Result<u32, Fail>
+    requires { AreOurs S.Store tables.old }
+{
+    prepare(rt, alloc, tables)?;
+    let before = rows_text(alloc, tables)?;
+    let refused = refusals(rt, alloc, tables, wanted)?;
+    let after = rows_text(alloc, tables)?;
+    assert!(rt; (after != before) == changes);
+    Ok(refused)
+}
+
+fn refused_over(
+    rt: &impl Abort,
+    alloc: Global,
+    wanted: &Wanted<'_>,
+    changes: bool,
+) -> Result<u32, Fail> {
+    match Tables::make(Connection::open_in_memory(alloc)?, BASE) {
+        Ok(mut tables) => each_amount_in(rt, alloc, &mut tables, wanted, changes),
+        Err((_fault, _conn)) => Err("no tables".into()),
+    }
+}
+
+/// Makes a line's call with one amount after another.
+fn each_amount(rt: &impl Abort, alloc: Global, line: &str, changes: bool) -> Result<(), Fail> {
+    let (call, answer) = line.split_once(" -> ").ok_or("no arrow")?;
+    let call = read_call(alloc, call)?.ok_or("no call")?;
+    let wanted = Wanted {
+        call: &call,
+        answer,
+        step: if changes { CHANGE_STEP } else { SELECT_STEP },
+    };
+    let refused = refused_over(rt, alloc, &wanted, changes)?;
+    assert!(rt; refused > 5, "{line}: {refused}");
+    Ok(())
+}
+
+#[test]
+fn a_crate_added(rt: HostRuntime) -> Result<(), Fail> {
+    each_amount(
+        &rt,
+        rt.alloc(),
+        "add-crate second 1 0.1.0 abc it-nets -> 2",
+        true,
+    )
+}
+
+#[test]
+fn versions_found(rt: HostRuntime) -> Result<(), Fail> {
+    each_amount(&rt, rt.alloc(), VERSIONS, false)
+}
+
+#[test]
+fn anything_changed(rt: HostRuntime) -> Result<(), Fail> {
+    for line in CHANGES.lines() {
+        each_amount(&rt, rt.alloc(), line, true)?;
+    }
+    Ok(())
+}
+
+#[test]
+fn anything_found(rt: HostRuntime) -> Result<(), Fail> {
+    for line in SELECTIONS.lines() {
+        each_amount(&rt, rt.alloc(), line, false)?;
+    }
+    Ok(())
+}
+
+/// What the checks find with this amount of memory.
+fn checks_with<S: Alter>(
+    rt: &impl Abort,
+    alloc: Global,
+    tables: &mut Tables<S>,
+    amount: u32,
+) -> Result<Result<Option<Check>, StoreFault>, Fail>
+    requires { AreOurs S.Store tables.old }
+    ensures { AreOurs S.Store tables.new }
+{
+    let amounts = scarce(rt, alloc, amount)?;
+    let found = audit(alloc, tables);
+    drop(amounts);
+    Ok(found)
+}
+
+/// How many amounts are too little for the checks. The last version has another crate's line.
 fn refusals_to_check<S: Alter>(
     rt: &impl Abort,
     alloc: Global,
@@ -200,21 +213,26 @@ fn refusals_to_check<S: Alter>(
     requires { AreOurs S.Store tables.old }
     ensures { AreOurs S.Store tables.new }
 {
-    let before = rows_of(alloc, tables)?;
+    let before = rows_text(alloc, tables)?;
     for at in 1..COUNT {
         let found = checks_with(rt, alloc, tables, at * AUDIT_STEP)?;
-        assert!(rt; rows_of(alloc, tables)? == before);
-        if found {
+        has_rows(rt, alloc, tables, &before)?;
+        if let Ok(found) = found {
+            assert_eq!(rt; found, Some(Check::C5));
             return Ok(at - 1);
         }
     }
     Err("never checked".into())
 }
 
+const LINE_OF_ANOTHER_CRATE: &str = "add-version 1 other 0.3.0 abc -> done
+commit -> done";
+
 fn checks_in<S: Alter>(rt: &impl Abort, alloc: Global, tables: &mut Tables<S>) -> Result<(), Fail>
     requires { AreOurs S.Store tables.old }
 {
-    prepare(tables)?;
+    prepare(rt, alloc, tables)?;
+    plays(rt, alloc, tables, LINE_OF_ANOTHER_CRATE)?;
     let refused = refusals_to_check(rt, alloc, tables)?;
     assert!(rt; refused > 5, "{refused}");
     Ok(())
@@ -227,71 +245,4 @@ fn checks_on_opening(rt: HostRuntime) -> Result<(), Fail> {
         Ok(mut tables) => checks_in(&rt, alloc, &mut tables),
         Err((_fault, _conn)) => Err("no tables".into()),
     }
-}
-
-/// Whether a crate was committed with this amount of memory.
-fn commits_with<S: Alter>(
-    rt: &impl Abort,
-    alloc: Global,
-    tables: &mut Tables<S>,
-    amount: u32,
-) -> Result<bool, Fail>
-    requires { AreOurs S.Store tables.old }
-{
-    let name = parse_name("second").ok_or("a name")?;
-    let digest = digest_of(b"abc");
-    let version = version_of(&digest);
-    let mut work = tables.work()?;
-    work.add_crate(&name, 1, &version)?;
-    let amounts = scarce(rt, alloc, amount)?;
-    let done = work.commit();
-    drop(amounts);
-    Ok(done.is_ok())
-}
-
-fn commits_over(
-    rt: &impl Abort,
-    alloc: Global,
-    conn: Conn,
-    amount: u32,
-) -> Result<(bool, Files<Stopping>), Fail> {
-    match adopt(rt, alloc, conn) {
-        Ok(mut tables) => {
-            let done = commits_with(rt, alloc, &mut tables, amount)?;
-            Ok((done, tables.into_connection().into_store().close()))
-        }
-        Err(_conn) => Err("not known".into()),
-    }
-}
-
-/// Whether a crate was committed to the files, and the rows that are found when they are opened again.
-fn committed(
-    rt: &impl Abort,
-    alloc: Global,
-    image: &Image,
-    amount: u32,
-) -> Result<(bool, Option<String>), Fail> {
-    match open(rt, alloc, files_of(alloc, image, NEVER)?) {
-        Ok(conn) => {
-            let (done, files) = commits_over(rt, alloc, conn, amount)?;
-            Ok((done, rows_after(rt, alloc, files)?))
-        }
-        Err(_files) => Err("not opened".into()),
-    }
-}
-
-#[test]
-fn a_commit(rt: HostRuntime) -> Result<(), Fail> {
-    let alloc = rt.alloc();
-    let image = prepared_image(&rt, alloc)?;
-    let before = rows_after(&rt, alloc, files_of(alloc, &image, NEVER)?)?;
-    for at in 1..COUNT {
-        let (done, rows) = committed(&rt, alloc, &image, at * COMMIT_STEP)?;
-        if done {
-            assert!(rt; at > 5 && rows != before, "{at}");
-            return Ok(());
-        }
-        assert!(rt; rows == before, "{at}");
-    }
-    Err("never committed".into())
 }

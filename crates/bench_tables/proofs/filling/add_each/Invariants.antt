@@ -1,6 +1,6 @@
 use Rattle.std.specs.Prelude.{◌≡◌}
 use Rattle.reg_tables.specs.Works.{IsAtWork}
-use Rattle.tables_bench.proofs.filling.add_each.Given as goal
+use Rattle.bench_tables.proofs.filling.add_each.Given as goal
 
 -- the work goes on over the same tables
 abbrev pub invariant-loop-at : goal.invariant-loop-at

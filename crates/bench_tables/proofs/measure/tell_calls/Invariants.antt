@@ -1,5 +1,5 @@
 use Rattle.reg_tables.specs.Works.{AreOurs}
-use Rattle.tables_bench.proofs.measure.tell_calls.Given as goal
+use Rattle.bench_tables.proofs.measure.tell_calls.Given as goal
 
 -- the tables are ours
 abbrev pub invariant-loop-call : goal.invariant-loop-call

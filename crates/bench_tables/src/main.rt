@@ -1,6 +1,6 @@
 //! Times calls on the tables over a file.
 //!
-//! `tables_bench FILE CRATES ROUNDS` makes a registry in a new file and tells what each call found;
+//! `bench_tables FILE CRATES ROUNDS` makes a registry in a new file and tells what each call found;
 //! with the word `times` at the end also how long each took.
 #![tactic(auto)]
 
@@ -13,9 +13,8 @@ mod words;
 use fault::Fault;
 use reg_tables::Tables;
 use sqlite::Connection;
+use test_tables::BASE;
 use words::Words;
-
-const BASE: &str = "https://index.example";
 
 fn main(rt: HostRuntime) -> Result<(), Fault> {
     let words = Words::given(&rt)?;

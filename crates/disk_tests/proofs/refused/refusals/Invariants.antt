@@ -1,5 +1,5 @@
 use Rattle.reg_tables.specs.Works.{AreOurs}
-use Rattle.disk_tests.proofs.refused.refusals_to_select.Given as goal
+use Rattle.disk_tests.proofs.refused.refusals.Given as goal
 
 -- between two amounts the tables are ours
 abbrev pub invariant-loop-at : goal.invariant-loop-at

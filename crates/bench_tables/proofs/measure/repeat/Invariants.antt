@@ -1,5 +1,5 @@
 use Rattle.reg_tables.specs.Works.{AreOurs}
-use Rattle.tables_bench.proofs.measure.repeat.Given as goal
+use Rattle.bench_tables.proofs.measure.repeat.Given as goal
 
 -- the tables are ours
 abbrev pub invariant-loop-round : goal.invariant-loop-round

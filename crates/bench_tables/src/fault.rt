@@ -1,6 +1,5 @@
 //! Why a run ended early.
 
-use reg_manifest::ManifestFault;
 use reg_tables::StoreFault;
 use sqlite::Error;
 use std::alloc::AllocError;
@@ -11,8 +10,8 @@ use std::io;
 pub(crate) enum Fault {
     Words,
     NotMade,
-    Name,
-    Manifest(ManifestFault),
+    Answer,
+    Script(test_tables::Fault),
     Memory,
     Open(Error),
     Store(StoreFault),
@@ -25,9 +24,9 @@ impl From<AllocError> for Fault {
     }
 }
 
-impl From<ManifestFault> for Fault {
-    fn from(fault: ManifestFault) -> Fault {
-        Fault::Manifest(fault)
+impl From<test_tables::Fault> for Fault {
+    fn from(fault: test_tables::Fault) -> Fault {
+        Fault::Script(fault)
     }
 }
 

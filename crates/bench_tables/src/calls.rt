@@ -1,0 +1,153 @@
+//! The calls that are timed, each in a transaction of its own.
+
+ghost use Rattle.reg_tables.specs.Works.{AreOurs};
+
+use crate::fault::Fault;
+use reg_audit::audit;
+use reg_tables::Tables;
+use sqlite::Alter;
+use std::alloc::{AllocError, Global};
+use test_tables::{Answer, Call as TableCall, CrateCall, perform, read_call, release_of};
+
+/// What is timed.
+#[derive(Clone, Copy, Debug, PartialEq, Eq)]
+pub(crate) enum Call {
+    Begin,
+    AccountByLogin,
+    TokenRows,
+    CrateByCanon,
+    VersionsOf,
+    OwnersOf,
+    ArchiveOf,
+    IsReserved,
+    FirstCommit,
+    SetYanked,
+    AddVersion,
+    Audit,
+    AddArchive,
+    ReadArchive,
+}
+
+/// What a call is made with: the number of a crate, how often it was made before, and a long
+/// archive.
+#[derive(Clone, Copy)]
+pub(crate) struct Given<'a> {
+    pub(crate) at: u32,
+    pub(crate) round: u32,
+    pub(crate) archive: &'a [u8],
+}
+
+fn begin<S: Alter>(tables: &mut Tables<S>) -> Result<usize, Fault>
+    requires { AreOurs S.Store tables.old }
+    ensures { AreOurs S.Store tables.new }
+{
+    let work = tables.work()?;
+    drop(work);
+    Ok(1)
+}
+
+/// The line of a call.
+fn line_of(alloc: Global, call: Call, given: Given<'_>) -> Result<String, AllocError> {
+    let Given { at, round, .. } = given;
+    match call {
+        Call::AccountByLogin => format!(in alloc; "account user-{at:06}"),
+        Call::TokenRows => format!(in alloc; "token user-{at:06}"),
+        Call::CrateByCanon => format!(in alloc; "crate Crate-{at:06}"),
+        Call::IsReserved => format!(in alloc; "reserved kept-{at:06}"),
+        Call::VersionsOf => format!(in alloc; "versions {at}"),
+        Call::OwnersOf => format!(in alloc; "owners {at}"),
+        Call::ArchiveOf => format!(in alloc; "archive {at} 0.2.0"),
+        Call::AddVersion => format!(in alloc;
+            "add-version {at} Crate-{at:06} 0.3.{round} an-archive a-crate-of-the-bench"
+        ),
+        Call::FirstCommit | Call::SetYanked => format!(in alloc; "yank {at} 0.1.0"),
+        _ => String::from_str(alloc, "archive 1 0.4.0"),
+    }
+}
+
+/// How many rows a call found or changed, or how many bytes of the long archive.
+fn count(call: Call, answer: &Answer) -> usize {
+    match answer {
+        Answer::Archive(Some(bytes)) if call == Call::ReadArchive => bytes.len(),
+        _ => answer.count(),
+    }
+}
+
+/// Makes a call that reads.
+fn find<S: Alter>(
+    alloc: Global,
+    tables: &mut Tables<S>,
+    call: Call,
+    made: &TableCall<'_>,
+) -> Result<usize, Fault>
+    requires { AreOurs S.Store tables.old }
+    ensures { AreOurs S.Store tables.new }
+{
+    let mut work = tables.work()?;
+    let answer = perform(alloc, &mut work, made)?;
+    Ok(count(call, &answer))
+}
+
+/// Makes a change and commits it.
+fn change<S: Alter>(
+    alloc: Global,
+    tables: &mut Tables<S>,
+    made: &TableCall<'_>,
+) -> Result<usize, Fault>
+    requires { AreOurs S.Store tables.old }
+    ensures { AreOurs S.Store tables.new }
+{
+    let mut work = tables.work()?;
+    perform(alloc, &mut work, made)?;
+    work.commit()?;
+    Ok(1)
+}
+
+fn make_line<S: Alter>(
+    alloc: Global,
+    tables: &mut Tables<S>,
+    call: Call,
+    given: Given<'_>,
+) -> Result<usize, Fault>
+    requires { AreOurs S.Store tables.old }
+    ensures { AreOurs S.Store tables.new }
+{
+    let line = line_of(alloc, call, given)?;
+    let made = read_call(alloc, &line)?.ok_or(Fault::Words)?;
+    match call {
+        Call::FirstCommit | Call::SetYanked | Call::AddVersion => change(alloc, tables, &made),
+        _ => find(alloc, tables, call, &made),
+    }
+}
+
+fn add_archive<S: Alter>(
+    alloc: Global,
+    tables: &mut Tables<S>,
+    archive: &[u8],
+) -> Result<usize, Fault>
+    requires { AreOurs S.Store tables.old }
+    ensures { AreOurs S.Store tables.new }
+{
+    let release = release_of(alloc, "Crate-000001", "0.4.0", archive, None)?;
+    let made = TableCall::Crate(CrateCall::AddVersion(1, release));
+    change(alloc, tables, &made)
+}
+
+/// Makes the call once, and answers how many rows, or bytes of the long archive, it found or
+/// changed. An audit that finds nothing amiss counts as one.
+pub(crate) fn once<S: Alter>(
+    alloc: Global,
+    tables: &mut Tables<S>,
+    call: Call,
+    given: Given<'_>,
+) -> Result<usize, Fault>
+    requires { AreOurs S.Store tables.old }
+    ensures { AreOurs S.Store tables.new }
+{
+    match call {
+        Call::Begin => begin(tables),
+        Call::Audit => Ok(usize::from(audit(alloc, tables)?.is_none())),
+        Call::AddArchive => add_archive(alloc, tables, given.archive),
+        _ => make_line(alloc, tables, call, given),
+    }
+}

@@ -1,0 +1,73 @@
+//! Every call of the tables, each with its answer over the prepared registry.
+
+/// Three accounts, the last disabled, a token, a crate of two versions that two own, and a
+/// reserved name.
+pub(crate) const PREPARED: &str = "add-account ada Ada -> 1
+add-account bob -> 2
+add-account cy -> 3
+disable 3 -> done
+add-token abc 1 nuyo * -> 1
+add-crate first 1 0.1.0 abc it-nets -> 1
+add-version 1 first 0.2.0 abc -> done
+yank 1 0.2.0 -> done
+add-owner 1 2 -> done
+reserve kept -> done
+commit -> done";
+
+/// Each changes the rows.
+pub(crate) const CHANGES: &str = "add-account dan Dan -> 4
+enable 3 -> done
+disable 2 -> done
+add-token second 2 --y- acme-*,b -> 2
+revoke 1 -> done
+add-crate second 1 0.1.0 abc it-nets -> 2
+add-version 1 first 0.3.0 abc -> done
+yank 1 0.1.0 -> done
+unyank 1 0.2.0 -> done
+add-owner 1 3 -> done
+remove-owner 1 1 -> done
+reserve acme -> done
+unreserve kept -> done";
+
+/// Each leaves the rows as they are.
+pub(crate) const SELECTIONS: &str = "account ada -> 1:ada:Ada:on;
+accounts -> 1:ada:Ada:on;2:bob:-:on;3:cy:-:off;
+counts -> 3:1:1;
+token abc -> 1:1:live:nuyo:ada:on; 1:0:*::{;
+tokens -> 1:#abc:1:live:nuyo; 1:0:*::{;
+crate FIRST -> 1:first:first;
+crates -> 1:first:first;
+archive 1 0.1.0 -> abc
+archive-id 2 -> abc
+owners 1 -> 1:ada:Ada:on;2:bob:-:on;
+reserved kept -> yes
+logins -> 1:ada:Ada;2:bob:-;3:cy:-;
+id-of bob -> 2;
+versions 1 -> 1:1:0.1.0:0.1.0:#abc:it-nets:kept:{\"cksum\":\
+\"ba7816bf8f01cfea414140de5dae2223b00361a396177a9cb410ff61f20015ad\",\"deps\":[],\
+\"features\":{},\"links\":null,\"name\":\"first\",\"rust_version\":null,\"vers\":\"0.1.0\",\
+\"yanked\":;\
+2:1:0.2.0:0.2.0:#abc:-:yanked:{\"cksum\":\
+\"ba7816bf8f01cfea414140de5dae2223b00361a396177a9cb410ff61f20015ad\",\"deps\":[],\
+\"features\":{},\"links\":null,\"name\":\"first\",\"rust_version\":null,\"vers\":\"0.2.0\",\
+\"yanked\":;
+all-rows -> https://index.example 1:ada:Ada:on;2:bob:-:on;3:cy:-:off; \
+1:#abc:1:live:nuyo; 1:0:*::{; 1:first:first; 1:1;1:2; \
+1:1:0.1.0:0.1.0:#abc:it-nets:kept:{\"cksum\":\
+\"ba7816bf8f01cfea414140de5dae2223b00361a396177a9cb410ff61f20015ad\",\"deps\":[],\
+\"features\":{},\"links\":null,\"name\":\"first\",\"rust_version\":null,\"vers\":\"0.1.0\",\
+\"yanked\":;\
+2:1:0.2.0:0.2.0:#abc:-:yanked:{\"cksum\":\
+\"ba7816bf8f01cfea414140de5dae2223b00361a396177a9cb410ff61f20015ad\",\"deps\":[],\
+\"features\":{},\"links\":null,\"name\":\"first\",\"rust_version\":null,\"vers\":\"0.2.0\",\
+\"yanked\":; 1;2; kept;";
+
+/// The versions of the crate.
+pub(crate) const VERSIONS: &str = "versions 1 -> 1:1:0.1.0:0.1.0:#abc:it-nets:kept:{\"cksum\":\
+\"ba7816bf8f01cfea414140de5dae2223b00361a396177a9cb410ff61f20015ad\",\"deps\":[],\
+\"features\":{},\"links\":null,\"name\":\"first\",\"rust_version\":null,\"vers\":\"0.1.0\",\
+\"yanked\":;\
+2:1:0.2.0:0.2.0:#abc:-:yanked:{\"cksum\":\
+\"ba7816bf8f01cfea414140de5dae2223b00361a396177a9cb410ff61f20015ad\",\"deps\":[],\
+\"features\":{},\"links\":null,\"name\":\"first\",\"rust_version\":null,\"vers\":\"0.2.0\",\
+\"yanked\":;";
