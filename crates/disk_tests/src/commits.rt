@@ -71,15 +71,15 @@ fn committed(
     }
 }
 
-/// Commits a change with one amount after another.
-fn each_amount(rt: &impl Abort, alloc: Global, line: &str) -> Result<(), Fail> {
+/// Commits a change with one amount after another: how many are too little.
+fn each_amount(rt: &impl Abort, alloc: Global, line: &str) -> Result<u32, Fail> {
     let image = prepared_image(rt, alloc)?;
     let before = rows_after(rt, alloc, files_of(alloc, &image, NEVER)?)?;
     for at in 1..COUNT {
         let (done, rows) = committed(rt, alloc, &image, line, at * STEP)?;
         if done {
-            assert!(rt; at > 5 && rows != before, "{line}: {at}");
-            return Ok(());
+            assert!(rt; rows != before, "{line}: {at}");
+            return Ok(at - 1);
         }
         assert!(rt; rows == before, "{line}: {at}");
     }
@@ -88,13 +88,17 @@ fn each_amount(rt: &impl Abort, alloc: Global, line: &str) -> Result<(), Fail> {
 
 #[test]
 fn a_commit(rt: HostRuntime) -> Result<(), Fail> {
-    each_amount(&rt, rt.alloc(), "add-crate second 1 0.1.0 abc it-nets -> 2")
+    let line = "add-crate second 1 0.1.0 abc it-nets -> 2";
+    let refused = each_amount(&rt, rt.alloc(), line)?;
+    assert!(rt; refused >= 5, "{refused}");
+    Ok(())
 }
 
 #[test]
 fn any_commit(rt: HostRuntime) -> Result<(), Fail> {
     for line in CHANGES.lines() {
-        each_amount(&rt, rt.alloc(), line)?;
+        let refused = each_amount(&rt, rt.alloc(), line)?;
+        assert!(rt; refused > 0, "{line}");
     }
     Ok(())
 }

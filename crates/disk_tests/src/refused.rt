@@ -17,10 +17,13 @@ use test_tables::{Answer, BASE, Call, perform, read_call, rows_text};
 
 const COUNT: u32 = 1000;
 
-/// Bytes between two amounts for a change, for a selection, and for the checks on opening.
+/// Bytes between two amounts for a change, for one selection, for each of all selections, and for
+/// the checks on opening.
 const CHANGE_STEP: u32 = 200;
 
 const SELECT_STEP: u32 = 40;
+
+const WIDE_STEP: u32 = 400;
 
 const AUDIT_STEP: u32 = 500;
 
@@ -143,39 +146,44 @@ fn refused_over(
     }
 }
 
-/// Makes a line's call with one amount after another.
-fn each_amount(rt: &impl Abort, alloc: Global, line: &str, changes: bool) -> Result<(), Fail> {
+/// Makes a line's call with one amount after another: how many are too little.
+fn each_amount(
+    rt: &impl Abort,
+    alloc: Global,
+    line: &str,
+    changes: bool,
+    step: u32,
+) -> Result<u32, Fail> {
     let (call, answer) = line.split_once(" -> ").ok_or("no arrow")?;
     let call = read_call(alloc, call)?.ok_or("no call")?;
     let wanted = Wanted {
         call: &call,
         answer,
-        step: if changes { CHANGE_STEP } else { SELECT_STEP },
+        step,
     };
-    let refused = refused_over(rt, alloc, &wanted, changes)?;
-    assert!(rt; refused > 5, "{line}: {refused}");
-    Ok(())
+    refused_over(rt, alloc, &wanted, changes)
 }
 
 #[test]
 fn a_crate_added(rt: HostRuntime) -> Result<(), Fail> {
-    each_amount(
-        &rt,
-        rt.alloc(),
-        "add-crate second 1 0.1.0 abc it-nets -> 2",
-        true,
-    )
+    let line = "add-crate second 1 0.1.0 abc it-nets -> 2";
+    let refused = each_amount(&rt, rt.alloc(), line, true, CHANGE_STEP)?;
+    assert!(rt; refused > 5, "{refused}");
+    Ok(())
 }
 
 #[test]
 fn versions_found(rt: HostRuntime) -> Result<(), Fail> {
-    each_amount(&rt, rt.alloc(), VERSIONS, false)
+    let refused = each_amount(&rt, rt.alloc(), VERSIONS, false, SELECT_STEP)?;
+    assert!(rt; refused > 5, "{refused}");
+    Ok(())
 }
 
 #[test]
 fn anything_changed(rt: HostRuntime) -> Result<(), Fail> {
     for line in CHANGES.lines() {
-        each_amount(&rt, rt.alloc(), line, true)?;
+        let refused = each_amount(&rt, rt.alloc(), line, true, CHANGE_STEP)?;
+        assert!(rt; refused > 0, "{line}");
     }
     Ok(())
 }
@@ -183,7 +191,8 @@ fn anything_changed(rt: HostRuntime) -> Result<(), Fail> {
 #[test]
 fn anything_found(rt: HostRuntime) -> Result<(), Fail> {
     for line in SELECTIONS.lines() {
-        each_amount(&rt, rt.alloc(), line, false)?;
+        let refused = each_amount(&rt, rt.alloc(), line, false, WIDE_STEP)?;
+        assert!(rt; refused > 0, "{line}");
     }
     Ok(())
 }
