@@ -69,6 +69,7 @@ fn line_of(alloc: Global, call: Call, given: Given<'_>) -> Result<String, AllocE
 fn count(call: Call, answer: &Answer) -> usize {
     match answer {
         Answer::Archive(Some(bytes)) if call == Call::ReadArchive => bytes.len(),
+        Answer::Archive(Some(_)) => 1,
         _ => answer.count(),
     }
 }

@@ -17,13 +17,15 @@ use test_tables::{Answer, BASE, Call, perform, read_call, rows_text};
 
 const COUNT: u32 = 1000;
 
-/// Bytes between two amounts for a change, for one selection, for each of all selections, and for
-/// the checks on opening.
+/// Bytes between two amounts: for one change and for each of all changes, for one selection and for
+/// each of all selections, and for the checks on opening.
 const CHANGE_STEP: u32 = 200;
+
+const EACH_CHANGE_STEP: u32 = 800;
 
 const SELECT_STEP: u32 = 40;
 
-const WIDE_STEP: u32 = 400;
+const EACH_SELECTION_STEP: u32 = 400;
 
 const AUDIT_STEP: u32 = 500;
 
@@ -182,7 +184,7 @@ fn versions_found(rt: HostRuntime) -> Result<(), Fail> {
 #[test]
 fn anything_changed(rt: HostRuntime) -> Result<(), Fail> {
     for line in CHANGES.lines() {
-        let refused = each_amount(&rt, rt.alloc(), line, true, CHANGE_STEP)?;
+        let refused = each_amount(&rt, rt.alloc(), line, true, EACH_CHANGE_STEP)?;
         assert!(rt; refused > 0, "{line}");
     }
     Ok(())
@@ -191,7 +193,7 @@ fn anything_changed(rt: HostRuntime) -> Result<(), Fail> {
 #[test]
 fn anything_found(rt: HostRuntime) -> Result<(), Fail> {
     for line in SELECTIONS.lines() {
-        let refused = each_amount(&rt, rt.alloc(), line, false, WIDE_STEP)?;
+        let refused = each_amount(&rt, rt.alloc(), line, false, EACH_SELECTION_STEP)?;
         assert!(rt; refused > 0, "{line}");
     }
     Ok(())
