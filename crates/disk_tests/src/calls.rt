@@ -1,4 +1,4 @@
-//! Every call of the tables, each with its answer over the prepared registry.
+//! Every call of the tables and of a transaction, each with its answer over the prepared registry.
 
 /// Three accounts, the last disabled, a token, a crate of two versions that two own, and a
 /// reserved name.
@@ -30,7 +30,10 @@ reserve acme -> done
 unreserve kept -> done";
 
 /// Each leaves the rows as they are.
-pub(crate) const SELECTIONS: &str = "account ada -> 1:ada:Ada:on;
+pub(crate) const SELECTIONS: &str = "adopt -> done
+audit -> none
+read-logins -> 1:ada:Ada;2:bob:-;3:cy:-;
+account ada -> 1:ada:Ada:on;
 accounts -> 1:ada:Ada:on;2:bob:-:on;3:cy:-:off;
 counts -> 3:1:1;
 token abc -> 1:1:live:nuyo:ada:on; 1:0:*::{;

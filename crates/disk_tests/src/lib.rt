@@ -1,6 +1,6 @@
 //! Every call of the tables over files that stop at some call, and with scarce memory.
 //!
-//! A line of [`calls`] is a call and its answer. Whatever stops it, the rows are those before or
+//! A line of [`calls`] is a task and its answer. Whatever stops it, the rows are those before or
 //! those after, and those after once the commit was acknowledged:
 //!
 //! ```text
@@ -15,6 +15,8 @@ mod commits;
 #[cfg(test)]
 mod files;
 #[cfg(test)]
+mod limits;
+#[cfg(test)]
 mod playing;
 #[cfg(test)]
 mod refused;
@@ -22,3 +24,7 @@ mod refused;
 mod selecting;
 #[cfg(test)]
 mod stops;
+#[cfg(test)]
+mod tasks;
+#[cfg(test)]
+mod trials;

@@ -25,16 +25,21 @@ pub(crate) fn plays<S: Alter>(
     Ok(())
 }
 
-/// Fills the tables with the prepared registry.
+/// Fills the tables with the prepared registry, and plays a script over it if there is one.
 pub(crate) fn prepare<S: Alter>(
     rt: &impl Abort,
     alloc: Global,
     tables: &mut Tables<S>,
+    script: &str,
 ) -> Result<(), Fail>
     requires { AreOurs S.Store tables.old }
     ensures { AreOurs S.Store tables.new }
 {
-    plays(rt, alloc, tables, PREPARED)
+    plays(rt, alloc, tables, PREPARED)?;
+    if script.is_empty() {
+        return Ok(());
+    }
+    plays(rt, alloc, tables, script)
 }
 
 /// These are all rows.

@@ -28,7 +28,7 @@ fn reads<S: Alter>(
 ) -> Result<(), Fail>
     requires { AreOurs S.Store tables.old }
 {
-    prepare(rt, alloc, tables)?;
+    prepare(rt, alloc, tables, "")?;
     let before = rows_text(alloc, tables)?;
     plays(rt, alloc, tables, script)?;
     has_rows(rt, alloc, tables, &before)

@@ -2,8 +2,8 @@
 
 use crate::stage::{Stage, token_text};
 use reg_line::{Digest, digest_of, stem};
-use reg_manifest::{Manifest, ManifestFault, read_manifest};
-use reg_policy::{AdminCommand, Asked, NewVersion, Reading, Rule, rule_text};
+use reg_manifest::{Manifest, read_manifest};
+use reg_policy::{AdminCommand, Asked, NewPublication, Reading, Rule, rule_text};
 use std::alloc::{AllocError, Global};
 
 fn account_command<'a>(words: &[&'a str]) -> Option<AdminCommand<'a>> {
@@ -94,18 +94,6 @@ fn add_token(
     stage.order(alloc, command)
 }
 
-/// The rule that metadata breaks.
-fn rule_of(fault: ManifestFault) -> Rule {
-    match fault {
-        ManifestFault::NotJson => Rule::B4,
-        ManifestFault::Field => Rule::B5,
-        ManifestFault::Name => Rule::N1,
-        ManifestFault::Version => Rule::V1,
-        ManifestFault::Dependency => Rule::M1,
-        ManifestFault::Memory => Rule::S1,
-    }
-}
-
 /// What a publish of a manifest with this archive asks for; its stem and digest are handed in.
 fn publishing<'a>(
     manifest: &'a Manifest,
@@ -113,7 +101,7 @@ fn publishing<'a>(
     digest: &'a Digest,
     archive: &'a [u8],
 ) -> Asked<'a> {
-    Asked::Publish(NewVersion {
+    Asked::Publish(NewPublication {
         name: &manifest.name,
         version: manifest.vers.as_str(),
         description: None,
@@ -148,7 +136,7 @@ fn publish(
     let json = format!(in alloc; "{{\"name\":\"{name}\",\"vers\":\"{number}\"}}")?;
     match read_manifest(alloc, json.as_bytes()) {
         Ok(manifest) => publish_manifest(alloc, stage, who, &manifest, archive.as_bytes()),
-        Err(fault) => stage.ask(alloc, who, Asked::Faulty(rule_of(fault))),
+        Err(fault) => stage.ask(alloc, who, Asked::Faulty(Rule::from(fault))),
     }
 }
 

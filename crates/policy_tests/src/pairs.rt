@@ -4,7 +4,7 @@
 
 use reg_body::Limits;
 use reg_names::{CrateName, Pattern, parse_name};
-use reg_policy::{Action, Decision, Endpoints, OwnerRow, Rows, TokenRow, decide};
+use reg_policy::{Action, Decision, Endpoints, OwnerRow, Rows, TokenFacts, decide};
 use std::alloc::{AllocError, Global};
 use std::test::Fail;
 
@@ -60,11 +60,11 @@ impl<'a> Case<'a> {
     }
 
     /// The token: ada's, who is 1 and an owner, or, for A9, that of 3.
-    fn token(&self) -> Option<TokenRow> {
+    fn token(&self) -> Option<TokenFacts> {
         if self.breaks("A2") {
             return None;
         }
-        Some(TokenRow {
+        Some(TokenFacts {
             account: if self.breaks("A9") { 3 } else { 1 },
             live: !self.breaks("A3"),
             endpoints: self.endpoints(),

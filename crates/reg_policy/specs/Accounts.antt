@@ -7,9 +7,9 @@ use Rattle.std.specs.FinSet as finset
 use Rattle.reg_model.specs.Registry as model
 use Rattle.reg_model.specs.Registry.{Text, owner_cmp, holds, with_id}
 use Rattle.reg_policy.specs.declared.action.OwnerRow.{OwnerRow}
-use Rattle.reg_policy.specs.declared.accounts.Account.{Account}
+use Rattle.reg_policy.specs.declared.accounts.PlainAccount.{PlainAccount}
 
-abbrev pub account_of : Account → model.Account
+abbrev pub account_of : PlainAccount → model.Account
 account_of a = record {
   login = a.login;
   name = option_map string_bytes a.name;

@@ -10,7 +10,7 @@ use Rattle.reg_model.specs.Events.Event.{Ask as to_ask, Order as to_order}
 use Rattle.reg_model.specs.Events.Answer.{Denied as to_denied, Granted as to_granted, File as to_file, Archive as to_archive, Owners as to_owners, Refused as to_refused, Done as to_done, Id as to_id}
 use Rattle.reg_policy.specs.declared.event.Reading.{Reading}
 use Rattle.reg_policy.specs.declared.event.Reading.TheVariants.{Config, Search}
-use Rattle.reg_policy.specs.declared.event.NewVersion.{NewVersion}
+use Rattle.reg_policy.specs.declared.event.NewPublication.{NewPublication}
 use Rattle.reg_policy.specs.declared.event.Asked.{Asked}
 use Rattle.reg_policy.specs.declared.event.Asked.TheVariants.{Faulty, Read, Index, Download, ListOwners, Publish, Yank, Unyank, AddOwners, RemoveOwners}
 use Rattle.reg_policy.specs.declared.event.AdminCommand.{AdminCommand}
@@ -28,7 +28,7 @@ abbrev pub reading_of : Reading → events.Reading
 reading_of Config = to_config
 reading_of (Search text most) = to_search text.now most
 
-abbrev pub publication_of : NewVersion → model.Publication
+abbrev pub publication_of : NewPublication → model.Publication
 publication_of v = record {
   name = v.name.now;
   version = v.version.now;

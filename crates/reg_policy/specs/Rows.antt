@@ -9,11 +9,11 @@ use Rattle.reg_model.specs.Facts.{lists, spelling}
 use Rattle.reg_model.specs.Actions as actions
 use Rattle.reg_model.specs.Actions.{crate_of, logins_of}
 use Rattle.reg_policy.specs.declared.action.Rows.{Rows}
-use Rattle.reg_policy.specs.declared.action.TokenRow.{TokenRow}
+use Rattle.reg_policy.specs.declared.action.TokenFacts.{TokenFacts}
 use Rattle.reg_policy.specs.Accounts.{id_and_login, row_view}
 
 -- what rows show of a token
-abbrev pub row_of : model.Token → TokenRow
+abbrev pub row_of : model.Token → TokenFacts
 row_of t = record { account = t.account; live = t.live; endpoints = t.endpoints }
 
 -- the patterns of a token; none where it is unknown

@@ -2,10 +2,10 @@
 use Rattle.std.specs.Prelude.{ℕ, string_bytes}
 use Rattle.reg_names.specs.Names.{canon}
 use Rattle.reg_model.specs.Registry as model
-use Rattle.reg_policy.specs.declared.owners.Owner.{Owner}
+use Rattle.reg_policy.specs.declared.owners.PlainOwner.{PlainOwner}
 use Rattle.reg_policy.specs.declared.yanked.Mark.{Mark}
 
-abbrev pub owner_of : Owner → model.Owner
+abbrev pub owner_of : PlainOwner → model.Owner
 owner_of o = (o.crate_text, o.account)
 
 abbrev pub mark_of : Mark → model.Mark

@@ -1,8 +1,8 @@
 -- The token that a record of the program stands for.
 use Rattle.reg_model.specs.Registry as model
-use Rattle.reg_policy.specs.declared.tokens.Token.{Token}
+use Rattle.reg_policy.specs.declared.tokens.PlainToken.{PlainToken}
 
-abbrev pub token_of : Token → model.Token
+abbrev pub token_of : PlainToken → model.Token
 token_of t = record {
   digest = t.digest;
   account = t.account;

@@ -17,7 +17,7 @@ use Rattle.reg_policy.specs.declared.action.Action.TheVariants.{Read, Index, Dow
 use Rattle.reg_policy.specs.declared.action.Decision.{Decision}
 use Rattle.reg_policy.specs.declared.action.Decision.TheVariants.{Allowed, Denied}
 use Rattle.reg_policy.specs.declared.action.Rows.{Rows}
-use Rattle.reg_policy.specs.declared.action.TokenRow.{TokenRow}
+use Rattle.reg_policy.specs.declared.action.TokenFacts.{TokenFacts}
 
 abbrev pub action_of : Action → actions.Action
 action_of Read = to_read
@@ -34,7 +34,7 @@ abbrev pub decision_of : Option Rule → Decision
 decision_of None = Allowed
 decision_of (Some r) = Denied r
 
-abbrev pub endpoints_of : Option TokenRow → Endpoints
+abbrev pub endpoints_of : Option TokenFacts → Endpoints
 endpoints_of None = no_endpoints
 endpoints_of (Some t) = t.endpoints
 

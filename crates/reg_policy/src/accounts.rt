@@ -18,7 +18,7 @@ use std::marker::Model;
 
 /// An account.
 #[derive(Drop)]
-pub(crate) struct Account {
+pub(crate) struct PlainAccount {
     pub(crate) login: Login,
     pub(crate) name: Option<String>,
     pub(crate) enabled: bool,
@@ -27,7 +27,7 @@ pub(crate) struct Account {
 /// Accounts, so few that 32 bits hold their ids.
 #[derive(Drop)]
 pub(crate) struct Accounts {
-    list: Vec<Account>,
+    list: Vec<PlainAccount>,
 }
 
 impl Model for Accounts {
@@ -43,13 +43,13 @@ impl Model for Accounts {
     ghost invariant = { λ a. length a.list.items ≤ 4294967295 };
 }
 
-fn has_login(account: &Account, login: &str) -> bool
+fn has_login(account: &PlainAccount, login: &str) -> bool
     ensures { result ≡ bytes_eq account.now.login login.now }
 {
     same_text(account.login.as_str(), login)
 }
 
-fn place_of(accounts: &[Account], login: &str) -> Option<usize>
+fn place_of(accounts: &[PlainAccount], login: &str) -> Option<usize>
     ensures { result ≡ position (λ a. bytes_eq a.login login.now) accounts.now }
 {
     accounts
@@ -188,7 +188,7 @@ impl Accounts {
     }
 
     /// Adds an account. Where 32 bits do not hold its id there is no room.
-    pub(crate) fn add(&mut self, account: Account) -> Result<(), AllocError>
+    pub(crate) fn add(&mut self, account: PlainAccount) -> Result<(), AllocError>
         ensures ok { OnOk result (self.new ≡ self.old ++ account_of account ∷ []) }
         ensures err { OnErr result (self.new ≡ self.old) }
     {
@@ -212,7 +212,7 @@ impl Accounts {
     }
 }
 
-fn entry(alloc: Global, id: u32, account: &Account) -> Result<OwnerEntry, AllocError>
+fn entry(alloc: Global, id: u32, account: &PlainAccount) -> Result<OwnerEntry, AllocError>
     ensures { IfOk result (λ e. entry_of e ≡ owner_entry (id, account_of account.now)) }
 {
     let name = match &account.name {

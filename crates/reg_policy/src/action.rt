@@ -37,7 +37,7 @@ pub enum Decision {
 
 /// A token, with the id of its account.
 #[derive(Clone, Copy, Debug, PartialEq, Eq)]
-pub struct TokenRow {
+pub struct TokenFacts {
     pub account: u32,
     pub live: bool,
     pub endpoints: Endpoints,
@@ -54,7 +54,7 @@ pub struct OwnerRow<'a> {
 #[derive(Drop)]
 pub struct Rows<'a> {
     /// The token, if it is known.
-    pub token: Option<TokenRow>,
+    pub token: Option<TokenFacts>,
     /// Whether the token's account is enabled.
     pub enabled: bool,
     /// The token's patterns.

@@ -16,7 +16,7 @@ ghost use Rattle.reg_policy.specs.Events.{answer_of, asked_of, publication_of as
 ghost use Rattle.reg_policy.specs.Plain.{limits_of, registry_of};
 
 use crate::action::Decision;
-use crate::event::{Answer, Asked, NewVersion, action_of};
+use crate::event::{Answer, Asked, NewPublication, action_of};
 use crate::plain::PlainRegistry;
 use crate::publications::published;
 use reg_line::file;
@@ -111,7 +111,7 @@ impl PlainRegistry {
         Ok(Answer::Owners(owners))
     }
 
-    fn publish(&mut self, digest: &[u8; 32], new: &NewVersion) -> Result<Answer, AllocError>
+    fn publish(&mut self, digest: &[u8; 32], new: &NewPublication) -> Result<Answer, AllocError>
         ensures answer { IfOk result (λ a. answer_of a ≡ to_granted) }
         ensures state { OnOk result (registry_of self.new ≡ done (registry_of self.old)
             (account_of (registry_of self.old) digest.now) (to_publish (new_publication new.now))) }

@@ -10,11 +10,11 @@ ghost use Rattle.reg_model.specs.Steps.{Step};
 ghost use Rattle.reg_policy.specs.Events.{answer_of, command_of, reply_of};
 ghost use Rattle.reg_policy.specs.Plain.{limits_of, registry_of};
 
-use crate::accounts::Account;
+use crate::accounts::PlainAccount;
 use crate::event::{AdminCommand, AdminReply, Answer};
 use crate::plain::PlainRegistry;
 use crate::reserved::is_reserved_always;
-use crate::tokens::Token;
+use crate::tokens::PlainToken;
 use crate::words_given::{are_endpoints, endpoints_named, may_name, parse_patterns};
 use reg_model::AdminRefusal;
 use reg_names::{canon, parse_login, parse_name};
@@ -84,7 +84,7 @@ impl PlainRegistry {
             },
             None => None,
         };
-        let account = Account {
+        let account = PlainAccount {
             login,
             name,
             enabled: true,
@@ -157,7 +157,7 @@ impl PlainRegistry {
         if self.tokens.find(digest).is_some() {
             return Err(AdminRefusal::G5);
         }
-        let token = Token {
+        let token = PlainToken {
             digest: *digest,
             account,
             live: true,

@@ -21,7 +21,7 @@ pub enum Reading<'a> {
 /// A version that is published: its digest is the SHA-256 of the archive, its stem the index line
 /// up to the yanked mark.
 #[derive(Drop)]
-pub struct NewVersion<'a> {
+pub struct NewPublication<'a> {
     pub name: &'a CrateName,
     pub version: &'a str,
     pub description: Option<&'a str>,
@@ -39,7 +39,7 @@ pub enum Asked<'a> {
     Index(&'a str),
     Download(&'a str, &'a str),
     ListOwners(&'a str),
-    Publish(NewVersion<'a>),
+    Publish(NewPublication<'a>),
     Yank(&'a str, &'a str),
     Unyank(&'a str, &'a str),
     AddOwners(&'a str, &'a [&'a str]),

@@ -17,10 +17,10 @@ mod words;
 mod words_given;
 mod yanked;
 
-pub use action::{Action, Decision, OwnerRow, Rows, TokenRow};
+pub use action::{Action, Decision, OwnerRow, Rows, TokenFacts};
 pub use deciding::decide;
 pub use event::{
-    AdminCommand, AdminReply, Answer, Asked, Event, NewVersion, OwnerEntry, Reading, action_of,
+    AdminCommand, AdminReply, Answer, Asked, Event, NewPublication, OwnerEntry, Reading, action_of,
 };
 pub use plain::PlainRegistry;
 pub use reg_model::{AdminRefusal, Endpoint, Endpoints, Rule};

@@ -15,7 +15,7 @@ use std::marker::Model;
 
 /// That an account owns a crate.
 #[derive(Drop)]
-pub(crate) struct Owner {
+pub(crate) struct PlainOwner {
     pub(crate) crate_text: CanonText,
     pub(crate) account: u32,
 }
@@ -23,7 +23,7 @@ pub(crate) struct Owner {
 /// A set of owners. What stands in the list twice counts once.
 #[derive(Drop)]
 pub(crate) struct Owners {
-    list: Vec<Owner>,
+    list: Vec<PlainOwner>,
 }
 
 impl Model for Owners {
@@ -42,14 +42,14 @@ impl Model for Owners {
 }
 
 /// Whether this is the owner with these parts.
-fn is_owner(owner: &Owner, crate_text: &CanonText, account: u32) -> bool
+fn is_owner(owner: &PlainOwner, crate_text: &CanonText, account: u32) -> bool
     ensures { result ≡ (bytes_eq owner.now.crate_text crate_text.now
         && (owner.now.account == account)) }
 {
     same_text(owner.crate_text.as_str(), crate_text.as_str()) && owner.account == account
 }
 
-fn has_owner(owners: &[Owner], crate_text: &CanonText, account: u32) -> bool
+fn has_owner(owners: &[PlainOwner], crate_text: &CanonText, account: u32) -> bool
     ensures { result ≡ list_any (λ o. bytes_eq o.crate_text crate_text.now
         && (o.account == account)) owners.now }
 {
@@ -59,7 +59,7 @@ fn has_owner(owners: &[Owner], crate_text: &CanonText, account: u32) -> bool
 }
 
 /// Whether this is an owner of the crate that is among the accounts.
-fn is_among(owner: &Owner, crate_text: &CanonText, accounts: &[u32]) -> bool
+fn is_among(owner: &PlainOwner, crate_text: &CanonText, accounts: &[u32]) -> bool
     ensures { result ≡ (bytes_eq owner.now.crate_text crate_text.now && list_any
         (λ id. id == owner.now.account) accounts.now) }
 {
@@ -67,12 +67,16 @@ fn is_among(owner: &Owner, crate_text: &CanonText, accounts: &[u32]) -> bool
 }
 
 /// The accounts as owners of the crate.
-fn as_owners(alloc: Global, name: &CrateName, accounts: &[u32]) -> Result<Vec<Owner>, AllocError>
+fn as_owners(
+    alloc: Global,
+    name: &CrateName,
+    accounts: &[u32],
+) -> Result<Vec<PlainOwner>, AllocError>
     ensures { IfOk result (λ v. map owner_of v.items ≡ map (owner_by name.now) accounts.now) }
 {
     let mut owners = Vec::new(alloc);
     for account in accounts {
-        owners.push(Owner {
+        owners.push(PlainOwner {
             crate_text: canon(name),
             account: *account,
         })?;
@@ -102,7 +106,7 @@ impl Owners {
         ensures ok { OnOk result (self.new ≡ set.insert self.old (canon_of name.now, account)) }
         ensures err { OnErr result (self.new ≡ self.old) }
     {
-        self.list.push(Owner {
+        self.list.push(PlainOwner {
             crate_text: canon(name),
             account,
         })?;

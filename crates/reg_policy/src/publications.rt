@@ -13,7 +13,7 @@ ghost use Rattle.reg_policy.specs.Publications.{marked_in, publication_of, versi
 ghost use Rattle.reg_policy.specs.Events.{publication_of as new_publication};
 
 use crate::deciding::same_text;
-use crate::event::NewVersion;
+use crate::event::NewPublication;
 use crate::owners::Owners;
 use crate::yanked::Marks;
 use reg_line::Entry;
@@ -261,7 +261,7 @@ fn count_crates(list: &[Publication]) -> u64
 }
 
 /// A publication of what is new.
-pub(crate) fn published(alloc: Global, new: &NewVersion) -> Result<Publication, AllocError>
+pub(crate) fn published(alloc: Global, new: &NewPublication) -> Result<Publication, AllocError>
     ensures { IfOk result (λ p. publication_of p ≡ new_publication new.now) }
 {
     let description = match new.description {

@@ -12,19 +12,19 @@ ghost use Rattle.reg_policy.specs.Rows.{patterns_held, row_of};
 ghost use Rattle.reg_policy.specs.Tokens.{token_of};
 ghost use Rattle.reg_policy.specs.Views.{action_of, decision_of};
 
-use crate::action::{Action, Decision, OwnerRow, Rows, TokenRow};
+use crate::action::{Action, Decision, OwnerRow, Rows, TokenFacts};
 use crate::deciding::{crate_of, decide, logins_of};
 use crate::plain::PlainRegistry;
-use crate::tokens::Token;
+use crate::tokens::PlainToken;
 use reg_names::{CrateName, Pattern, canon};
 use std::alloc::AllocError;
 
 /// What the rows show of a token.
-fn token_row(token: Option<&Token>) -> Option<TokenRow>
+fn token_facts(token: Option<&PlainToken>) -> Option<TokenFacts>
     ensures { result ≡ option_map row_of (option_map (λ t. token_of t.now) token.entry) }
 {
     match token {
-        Some(token) => Some(TokenRow {
+        Some(token) => Some(TokenFacts {
             account: token.account,
             live: token.live,
             endpoints: token.endpoints,
@@ -34,7 +34,7 @@ fn token_row(token: Option<&Token>) -> Option<TokenRow>
 }
 
 /// The patterns of a token; none where it is unknown.
-fn patterns_of<'a>(token: Option<&'a Token>) -> &'a [Pattern]
+fn patterns_of<'a>(token: Option<&'a PlainToken>) -> &'a [Pattern]
     ensures { result.now ≡ patterns_held (option_map (λ t. token_of t.now) token.entry) }
 {
     match token {
@@ -44,7 +44,7 @@ fn patterns_of<'a>(token: Option<&'a Token>) -> &'a [Pattern]
 }
 
 impl PlainRegistry {
-    fn is_caller_enabled(&self, token: Option<&Token>) -> bool
+    fn is_caller_enabled(&self, token: Option<&PlainToken>) -> bool
         ensures { result ≡ holds (λ t. is_enabled_in (registry_of self.now) t.account)
             (option_map (λ t. token_of t.now) token.entry) }
     {
@@ -110,7 +110,7 @@ impl PlainRegistry {
         let versions = self.versions_of(&name)?;
         let known = self.accounts.known(self.alloc, logins_of(action))?;
         let rows = Rows {
-            token: token_row(token),
+            token: token_facts(token),
             enabled: self.is_caller_enabled(token),
             patterns: patterns_of(token),
             first: self.first_of(&name),

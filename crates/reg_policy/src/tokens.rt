@@ -14,7 +14,7 @@ use std::marker::Model;
 
 /// A token.
 #[derive(Drop)]
-pub(crate) struct Token {
+pub(crate) struct PlainToken {
     pub(crate) digest: [u8; 32],
     pub(crate) account: u32,
     pub(crate) live: bool,
@@ -25,7 +25,7 @@ pub(crate) struct Token {
 /// Tokens, so few that 32 bits hold their ids.
 #[derive(Drop)]
 pub(crate) struct Tokens {
-    list: Vec<Token>,
+    list: Vec<PlainToken>,
 }
 
 impl Model for Tokens {
@@ -41,13 +41,13 @@ impl Model for Tokens {
     ghost invariant = { λ t. length t.list.items ≤ 4294967295 };
 }
 
-fn has_digest(token: &Token, digest: &[u8; 32]) -> bool
+fn has_digest(token: &PlainToken, digest: &[u8; 32]) -> bool
     ensures { result ≡ bytes_eq token.now.digest digest.now }
 {
     token.digest.as_slice() == digest.as_slice()
 }
 
-fn find_in<'a>(tokens: &'a [Token], digest: &[u8; 32]) -> Option<&'a Token>
+fn find_in<'a>(tokens: &'a [PlainToken], digest: &[u8; 32]) -> Option<&'a PlainToken>
     ensures { option_map (λ t. t.now) result ≡ find (λ t. bytes_eq t.digest digest.now) tokens.now }
 {
     tokens.iter().find(|token| has_digest(token, digest))
@@ -71,7 +71,7 @@ impl Tokens {
     }
 
     /// The token with this digest.
-    pub(crate) fn find(&self, digest: &[u8; 32]) -> Option<&Token>
+    pub(crate) fn find(&self, digest: &[u8; 32]) -> Option<&PlainToken>
         ensures { option_map (λ t. token_of t.now) result ≡ find
             (λ t. bytes_eq t.digest digest.now) self.now }
     {
@@ -86,7 +86,7 @@ impl Tokens {
     }
 
     /// Adds a token, and tells its id. Where 32 bits do not hold it there is no room.
-    pub(crate) fn add(&mut self, token: Token) -> Result<u32, AllocError>
+    pub(crate) fn add(&mut self, token: PlainToken) -> Result<u32, AllocError>
         ensures ok { OnOk result (self.new ≡ self.old ++ token_of token ∷ []) }
         ensures id { IfOk result (λ id. id ≡ length self.old + 1) }
         ensures err { OnErr result (self.new ≡ self.old) }

@@ -24,7 +24,7 @@ use Rattle.reg_statements.specs.Archives.{archive_row}
 use Rattle.reg_schema.specs.Greatest.{IsGreatest, row_of_id}
 use Rattle.reg_stored.specs.Ids.{IsNext}
 use Rattle.reg_schema.specs.Steps.{Within}
-use Rattle.reg_stored.proofs.Permutes.{put_permutes}
+use Rattle.reg_schema.proofs.Permutes.{put_permutes}
 use Rattle.reg_stored.proofs.Withins.{become_within}
 use Rattle.reg_stored.proofs.Stays.{same_crates, same_owners, same_versions, same_archives}
 

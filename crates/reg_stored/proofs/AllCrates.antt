@@ -32,7 +32,7 @@ use Rattle.reg_stored.proofs.CrateCounts.{crate_has}
 use Rattle.std.specs.Cmp.Lexicographic.{nat_list_eq_equiv}
 use Rattle.reg_stored.proofs.CrateLemmas.{same_bytes, bytes_same}
 use Rattle.reg_stored.proofs.CrateNames.{same_shown, crate_named}
-use Rattle.reg_stored.proofs.Members.{IsIn, in_each, in_map, in_permuted, one_passes}
+use Rattle.reg_model.proofs.Members.{IsIn, in_each, in_map, in_permuted, one_passes}
 use Rattle.reg_stored.proofs.Selected.{column_total, each}
 
 rises : (o : Ordering) → is_gt o ≡ false → is_eq o ≡ false → o ≡ Less

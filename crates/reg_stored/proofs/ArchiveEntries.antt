@@ -27,8 +27,8 @@ use Rattle.reg_stored.specs.Stands.{StoredVersion, row_of_version, row_of_archiv
 use Rattle.reg_schema.specs.Tests.{is_version, shows}
 use Rattle.reg_stored.proofs.AccountEntries.{same_text, heads}
 use Rattle.reg_stored.proofs.CrateLemmas.{crate_in, same_crate, same_bytes, bytes_same}
-use Rattle.reg_stored.proofs.Members.{IsIn, distinct_from_map, in_filter, one_passes}
-use Rattle.reg_stored.proofs.Permutes.{filter_map}
+use Rattle.reg_model.proofs.Members.{IsIn, distinct_from_map, in_filter, one_passes}
+use Rattle.reg_schema.proofs.Permutes.{filter_map}
 use Rattle.reg_stored.proofs.Selected.{short_same, shown_short}
 use Rattle.reg_stored.proofs.Standing.{same_number}
 use Rattle.reg_stored.proofs.VersionEntries.{same_passes, bytes_are}

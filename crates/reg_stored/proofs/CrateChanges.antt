@@ -25,8 +25,8 @@ use Rattle.reg_statements.specs.Owners.{owner_columns}
 use Rattle.reg_statements.specs.Versions.{version_row}
 use Rattle.reg_stored.specs.Stands.{StoredCrate, StoredOwner, StoredVersion, row_of_crate, row_of_version, row_of_archive, columns_of_owner, StandCrates, HaveOwnRowids, IsCrate, is_of, is_owned}
 use Rattle.reg_stored.proofs.CrateLemmas.{pushed, text_itself, below_other, above_other, same_owner, other_owner, is_crate, is_published, version_of}
-use Rattle.reg_stored.proofs.Members.{IsIn, any_in, all_in, in_any, none_in, each_in, in_each, in_last, map_in}
-use Rattle.reg_stored.proofs.Permutes.{put_permutes}
+use Rattle.reg_model.proofs.Members.{IsIn, any_in, all_in, in_any, none_in, each_in, in_each, in_last, map_in}
+use Rattle.reg_schema.proofs.Permutes.{put_permutes}
 use Rattle.reg_stored.proofs.Rising.{above, rises_on}
 use Rattle.reg_stored.proofs.Rowids.{own_put}
 

@@ -22,7 +22,7 @@ use Rattle.reg_stored.specs.Stands.{StoredCrate, StoredVersion, is_of, StandCrat
 use Rattle.reg_stored.proofs.AccountEntries.{number_is}
 use Rattle.std.specs.Cmp.Lexicographic.{nat_list_eq_equiv}
 use Rattle.reg_stored.proofs.CrateLemmas.{same_bytes, bytes_same, crate_of}
-use Rattle.reg_stored.proofs.Members.{any_in, in_any, none_in, all_in, each_in}
+use Rattle.reg_model.proofs.Members.{any_in, in_any, none_in, all_in, each_in}
 
 pub count_is : {X : Type 0} (row : X → Row) (xs : List X) (rows : List Row) (n : ℕ) → IsPermutation (map row xs) rows → Int (pos n) ≡ capped (length rows) → n ≡ min (length xs) 9223372036854775807
 count_is row xs rows n h e = number_is e ∙ ap (λ k. min k 9223372036854775807) (length_permutation (map row xs) rows h ∙ length-map xs row)

@@ -20,8 +20,8 @@ use Rattle.reg_model.specs.Crates.{collides}
 use Rattle.reg_model.proofs.Keys.{owner_total, owner_apart, same_key, ties_itself}
 use Rattle.reg_model.proofs.Lists.{not_true, true_not_false}
 use Rattle.reg_stored.specs.Stands.{StoredCrate, StoredVersion, row_of_crate, StandCrates, IsCrate, is_of}
-use Rattle.reg_stored.proofs.Members.{IsIn, any_in, all_in, in_filter, in_map, in_permuted, map_in, one_of, one_passes}
-use Rattle.reg_stored.proofs.Permutes.{one_row}
+use Rattle.reg_model.proofs.Members.{IsIn, any_in, all_in, in_filter, in_map, in_permuted, map_in, one_of, one_passes}
+use Rattle.reg_schema.proofs.Permutes.{one_row}
 use Rattle.reg_stored.proofs.Standing.{same_number}
 
 -- equal texts and numbers, from their tests

@@ -19,7 +19,7 @@ use Rattle.reg_stored.specs.Stands.{StoredCrate, StoredVersion, row_of_crate, is
 use Rattle.reg_schema.specs.Tests.{is_text, shows}
 use Rattle.reg_stored.proofs.AccountEntries.{same_text, number_is, words_are, heads, tails}
 use Rattle.reg_stored.proofs.CrateLemmas.{same_bytes, bytes_same, crate_of, is_crate}
-use Rattle.reg_stored.proofs.Members.{IsIn, any_in, all_in, filtered_passes, in_filter}
+use Rattle.reg_model.proofs.Members.{IsIn, any_in, all_in, filtered_passes, in_filter}
 use Rattle.reg_stored.proofs.Selected.{selected_one}
 
 kept : {X : Type 0} (p : X → Bool) (xs : List X) (x : X) → IsIn x xs → p x ≡ true → IsIn x (filter p xs)

@@ -29,7 +29,7 @@ use Rattle.reg_statements.specs.Tokens.{columns_with_account}
 use Rattle.reg_statements.specs.Tokens.{is_of_token, token_and_account, tokens_with_accounts}
 use Rattle.reg_stored.proofs.AccountEntries.{mark_is}
 use Rattle.reg_stored.proofs.Numbered.{one_at}
-use Rattle.reg_stored.proofs.Permutes.{filter_map, one_row}
+use Rattle.reg_schema.proofs.Permutes.{filter_map, one_row}
 use Rattle.reg_stored.proofs.Selected.{short_same, shown_short}
 use Rattle.reg_stored.proofs.Standing.{same_number}
 

@@ -1,6 +1,5 @@
 mod AccountEntries
 mod Additions
-mod Alike
 mod AllCrates
 mod ArchiveEntries
 mod CrateChanges
@@ -10,13 +9,10 @@ mod CrateNames
 mod CratesStand
 mod Dropped
 mod FoundTokens
-mod Joined
-mod Members
 mod NextId
 mod Numbered
 mod OwnerChanges
 mod OwnerEntries
-mod Permutes
 pub mod Readings
 mod Removed
 mod ReservedChanges

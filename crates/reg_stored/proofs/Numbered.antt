@@ -6,7 +6,7 @@ use Rattle.std.proofs.lemmas.Bool.{ne_eqb, eq-eqb, eqb-false}
 use Rattle.std.proofs.lemmas.List.Sorted.{IsPermutation-cons, IsPermutation-trans}
 use Rattle.sqlite_trees.proofs.ListLemmas.{IsPermutation-same}
 use Rattle.reg_model.specs.Registry.{change_place, change_at, with_id}
-use Rattle.reg_stored.proofs.Permutes.{two}
+use Rattle.reg_schema.proofs.Permutes.{two}
 
 more : (n m : ℕ) → (n + 1) + m ≡ n + suc m
 more n m = omega arith

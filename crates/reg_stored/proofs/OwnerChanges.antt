@@ -29,9 +29,9 @@ use Rattle.reg_model.proofs.Lists.{any_same}
 use Rattle.reg_statements.specs.Owners.{owner_columns}
 use Rattle.reg_stored.specs.Stands.{StoredCrate, StoredOwner, row_of_crate, row_of_version, row_of_archive, columns_of_owner, is_owned, IsCrate, HaveOwnRowids, StandCrates, Stands}
 use Rattle.reg_schema.specs.Tests.{is_owner}
-use Rattle.reg_stored.proofs.Alike.{alike}
+use Rattle.reg_model.proofs.Alike.{alike}
 use Rattle.reg_stored.proofs.CrateLemmas.{crate_in}
-use Rattle.reg_stored.proofs.Members.{IsIn, each_in, in_any, in_all, all_in, in_filter}
+use Rattle.reg_model.proofs.Members.{IsIn, each_in, in_any, in_all, all_in, in_filter}
 use Rattle.reg_stored.proofs.Removed.{apart_kept, own_kept, removes_passing}
 use Rattle.reg_stored.proofs.Rowids.{first_column, second_column, own_put, any_columns, put_columns, keep_columns}
 use Rattle.reg_stored.proofs.Standing.{same_number}

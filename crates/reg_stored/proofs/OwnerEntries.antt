@@ -30,9 +30,9 @@ use Rattle.reg_schema.specs.Tests.{is_number, shows}
 use Rattle.reg_stored.proofs.AccountEntries.{heads, tails, mark_is, number_is, text_is, words_are}
 use Rattle.std.specs.Cmp.{nat_eq_equiv}
 use Rattle.reg_stored.proofs.CrateLemmas.{crate_in}
-use Rattle.reg_stored.proofs.Joined.{joined_once}
-use Rattle.reg_stored.proofs.Members.{each_in}
-use Rattle.reg_stored.proofs.Permutes.{filter_map}
+use Rattle.reg_schema.proofs.Joined.{joined_once}
+use Rattle.reg_model.proofs.Members.{each_in}
+use Rattle.reg_schema.proofs.Permutes.{filter_map}
 use Rattle.reg_stored.proofs.Rowids.{first_column, second_column, keep_columns}
 use Rattle.reg_stored.proofs.Selected.{selected_in_order, column_total, places_rise}
 use Rattle.reg_stored.proofs.Standing.{same_number}

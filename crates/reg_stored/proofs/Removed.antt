@@ -12,7 +12,7 @@ use Rattle.reg_schema.specs.Changes.{is_at_one_of}
 use Rattle.reg_schema.proofs.Queries.{same_filter}
 use Rattle.reg_stored.specs.Numbers.{IsNumbered, AreNumbered}
 use Rattle.reg_stored.specs.Stands.{HaveOwnRowids}
-use Rattle.reg_stored.proofs.Alike.{both_all}
+use Rattle.reg_model.proofs.Alike.{both_all}
 use Rattle.reg_stored.proofs.Rowids.{tied, values_tie}
 
 module _ {X : Type 0} (e : X → X → Bool) (test : X → Bool) where

@@ -14,7 +14,7 @@ use Rattle.reg_model.proofs.Lists.{each_push}
 use Rattle.reg_stored.specs.Additions.{IsNextOf}
 use Rattle.reg_schema.specs.Greatest.{IsGreatest, row_of_id}
 use Rattle.reg_stored.specs.Ids.{IsNext}
-use Rattle.reg_stored.proofs.Members.{IsIn, each_in, in_map, in_permuted}
+use Rattle.reg_model.proofs.Members.{IsIn, each_in, in_map, in_permuted}
 use Rattle.reg_stored.proofs.NextId.{falls, falls_total, no_more, none_shown, one_shown}
 use Rattle.reg_stored.proofs.Standing.{same_number}
 

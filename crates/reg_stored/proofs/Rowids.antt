@@ -19,7 +19,7 @@ use Rattle.reg_model.proofs.Lists.{list_any_map, any_same}
 use Rattle.reg_schema.proofs.Queries.{same_filter}
 use Rattle.reg_stored.specs.Numbers.{IsNumbered}
 use Rattle.reg_stored.specs.Stands.{HaveOwnRowids}
-use Rattle.reg_stored.proofs.Permutes.{put_permutes, filter_map}
+use Rattle.reg_schema.proofs.Permutes.{put_permutes, filter_map}
 
 pub first_column : (r : Row) → column r 1 ≡ column (drop 1 r) 0
 first_column [] = refl

@@ -9,7 +9,7 @@ use Rattle.std.proofs.lemmas.List.Elements.{filter-append}
 use Rattle.sqlite_trees.proofs.ListLemmas.{IsPermutation-filter}
 use Rattle.reg_schema.proofs.Queries.{same_filter}
 use Rattle.reg_stored.proofs.Numbered.{one_at}
-use Rattle.reg_stored.proofs.Permutes.{filter_map}
+use Rattle.reg_schema.proofs.Permutes.{filter_map}
 use Rattle.reg_stored.proofs.Standing.{same_number}
 use Rattle.std.specs.Ordering.{is_eq, ordering_then}
 use Rattle.std.specs.Cmp.{IsTotalOrder}

@@ -20,7 +20,7 @@ use Rattle.sqlite_trees.proofs.ListLemmas.{IsPermutation-filter}
 use Rattle.reg_schema.proofs.Queries.{maps_twice, same_filter}
 use Rattle.reg_schema.specs.Shown.{shown_of}
 use Rattle.reg_stored.specs.Entries.{one_of}
-use Rattle.reg_stored.proofs.Permutes.{filter_map}
+use Rattle.reg_schema.proofs.Permutes.{filter_map}
 
 -- a list in another order is the same list where it has one element or none
 pub short_same : {X : Type 0} (xs ys : List X) → IsPermutation xs ys → length ys ≤ 1 → xs ≡ ys

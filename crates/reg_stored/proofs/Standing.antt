@@ -18,7 +18,7 @@ use Rattle.reg_schema.proofs.Queries.{same_filter}
 use Rattle.reg_model.specs.Registry.{Account, with_id, change_at}
 use Rattle.reg_stored.specs.Stands.{row_of_account, StandAccounts}
 use Rattle.reg_stored.proofs.Numbered.{enumerate_snoc, one_at, changed_at}
-use Rattle.reg_stored.proofs.Permutes.{put_permutes, put_replaces, one_row}
+use Rattle.reg_schema.proofs.Permutes.{put_permutes, put_replaces, one_row}
 
 not_tied : (o : Ordering) → (o ≡ Equal → ⊥) → is_eq o ≡ false
 not_tied Less h = refl

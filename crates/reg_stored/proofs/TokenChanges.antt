@@ -16,7 +16,7 @@ use Rattle.reg_model.specs.Registry.{Text, Token, Registry, with_id, change_at, 
 use Rattle.reg_stored.specs.Patterns.{GivesPatterns, with_last}
 use Rattle.reg_stored.specs.Stands.{row_of_token, scope_of, scopes_of, StandTokens, Stands}
 use Rattle.reg_stored.proofs.Numbered.{enumerate_snoc, one_at, changed_at}
-use Rattle.reg_stored.proofs.Permutes.{put_permutes, put_replaces, one_row}
+use Rattle.reg_schema.proofs.Permutes.{put_permutes, put_replaces, one_row}
 use Rattle.reg_stored.proofs.Standing.{same_number, snoc_permutes}
 use Rattle.reg_stored.proofs.Stays.{accounts_stay, crates_stay, reserved_stay, same_about, same_accounts, same_tokens, same_scopes, same_crates, same_owners, same_versions, same_archives, same_reserved}
 

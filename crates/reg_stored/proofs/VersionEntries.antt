@@ -21,8 +21,8 @@ use Rattle.reg_stored.specs.Stands.{StoredVersion, row_of_version, IsCrate, Stan
 use Rattle.reg_schema.specs.Tests.{is_number, shows}
 use Rattle.reg_stored.proofs.AccountEntries.{words_are, text_is, mark_is, heads, tails}
 use Rattle.reg_stored.proofs.CrateLemmas.{crate_in, same_crate}
-use Rattle.reg_stored.proofs.Members.{IsIn}
-use Rattle.reg_stored.proofs.Permutes.{filter_map}
+use Rattle.reg_model.proofs.Members.{IsIn}
+use Rattle.reg_schema.proofs.Permutes.{filter_map}
 use Rattle.reg_stored.proofs.Selected.{shown_in_turn, each_part, column_total, number_below}
 use Rattle.reg_stored.proofs.Standing.{same_number}
 

@@ -29,8 +29,8 @@ use Rattle.reg_statements.specs.Versions.{version_row}
 use Rattle.reg_stored.specs.Stands.{StoredCrate, StoredVersion, row_of_crate, row_of_version, row_of_archive, columns_of_owner, HaveOwnRowids, StandCrates}
 use Rattle.reg_schema.specs.Tests.{is_version}
 use Rattle.reg_stored.proofs.CrateLemmas.{same_bytes, bytes_same, crate_of, is_stored, one_by_canon, one_by_id}
-use Rattle.reg_stored.proofs.Members.{IsIn, any_in, distinct_from_map, filtered_passes, in_filter, map_same, one_of, one_passes}
-use Rattle.reg_stored.proofs.Permutes.{filter_map, free_without, one_row, put_permutes}
+use Rattle.reg_model.proofs.Members.{IsIn, any_in, distinct_from_map, filtered_passes, in_filter, map_same, one_of, one_passes}
+use Rattle.reg_schema.proofs.Permutes.{filter_map, free_without, one_row, put_permutes}
 use Rattle.reg_stored.proofs.Standing.{same_number}
 
 -- SQL's equality of texts

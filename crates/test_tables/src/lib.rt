@@ -25,5 +25,7 @@ pub use bare::{check_each, over_a_connection};
 pub use call::{AccountCall, Call, CrateCall, NameCall, NewToken, Release, TextCall, TokenCall};
 pub use calling::perform;
 pub use fault::Fault;
-pub use script::{BASE, FILLED, answer_of, first_broken, play, play_over, rows_text};
+pub use script::{
+    BASE, FILLED, answer_of, check_text, first_broken, play, play_over, read_logins, rows_text,
+};
 pub use words::{read_call, release_of};

@@ -187,7 +187,7 @@ pub fn rows_text<S: Alter>(alloc: Global, tables: &mut Tables<S>) -> Result<Stri
 }
 
 /// The check that failed, as a text.
-pub(crate) fn check_text(check: Option<Check>) -> &'static str {
+pub fn check_text(check: Option<Check>) -> &'static str {
     match check {
         None => "none",
         Some(Check::C1) => "C1",
@@ -238,7 +238,7 @@ pub fn play_over<S: Alter>(
 
 /// The logins, read in no transaction one at a time, as a text.
 #[tactic(auto, using(crate::proofs::Texts::logins_plain))]
-fn read_logins<S: Alter>(alloc: Global, tables: &mut Tables<S>) -> Result<String, Fault>
+pub fn read_logins<S: Alter>(alloc: Global, tables: &mut Tables<S>) -> Result<String, Fault>
     requires { AreOurs S.Store tables.old }
 {
     let mut text = String::new(alloc);

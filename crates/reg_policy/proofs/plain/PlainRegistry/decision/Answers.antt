@@ -13,7 +13,7 @@ pub returns : goal.returns
 returns c =
     let s : Registry = registry_of c.args.self.now in
     c.decide.ensures.policy c.args.self.now.limits s c.args.digest.now (record {
-      token = c.token_row.ensures ∙ ap (option_map row_of) c.find-token.ensures;
+      token = c.token_facts.ensures ∙ ap (option_map row_of) c.find-token.ensures;
       enabled = c.is_caller_enabled.ensures ∙ ap (holds (λ t. is_enabled s t.account)) c.find-token.ensures;
       patterns = c.patterns_of.ensures ∙ ap patterns_held c.find-token.ensures;
       first = c.first_of.ensures ∙ ap (spelling s) c.crate_of-name.ensures;

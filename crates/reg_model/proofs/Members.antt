@@ -5,8 +5,8 @@ use Rattle.std.specs.List.{filter, list_any, list_all, AllByRecursion, IsDistinc
 use Rattle.std.specs.List.Sorted.{IsPermutation}
 use Rattle.std.specs.Ordering.{on}
 use Rattle.std.proofs.lemmas.Bool.{and_parts, and_from}
-use Rattle.std.proofs.lemmas.List.Sorted.{IsPermutation-sym}
-use Rattle.sqlite_trees.proofs.ListLemmas.{all-permutation, all_from_map}
+use Rattle.std.proofs.lemmas.List.Elements.{All-from_recursion, recursion_from_All}
+use Rattle.std.proofs.lemmas.List.Sorted.{All-permutation, IsPermutation-sym}
 use Rattle.reg_model.proofs.Lists.{or_left, or_right, or_split, true_not_false}
 
 abbrev pub IsIn : {X : Type 0} → X → List X → Type 0
@@ -49,7 +49,8 @@ module _ {X : Type 0} where
   pub in_permuted : (xs ys : List X) (x : X) → IsPermutation xs ys → IsIn x xs → IsIn x ys
   in_permuted xs ys x same i =
       let P : X → Type 0 = λ y. IsIn y ys in
-      each_in P xs x (all-permutation P ys xs (IsPermutation-sym xs ys same) (in_each P ys (λ y j. j))) i
+      let each = All-from_recursion P ys (in_each P ys (λ y j. j)) in
+      each_in P xs x (recursion_from_All P xs (All-permutation P ys xs (IsPermutation-sym xs ys same) each)) i
 
   in_cond : (b : Bool) (y x : X) (xs : List X) → IsIn x (cond b (y ∷ xs) xs) → IsIn x (y ∷ xs)
   in_cond true y x xs i = i
@@ -131,11 +132,15 @@ module _ {X : Type 0} (e : X → X → Bool) where
           first (inl a) = true_not_false (p z) (ap p a ∙ h) fails
           first (inr j) = rest j
 
+each_from_map : {X Y : Type 0} (P : Y → Type 0) (f : X → Y) (xs : List X) → AllByRecursion P (map f xs) → AllByRecursion (λ x. P (f x)) xs
+each_from_map P f [] h = tt
+each_from_map P f (x ∷ xs) h = (h.0, each_from_map P f xs h.1)
+
 -- what is distinct by a part of each
 pub distinct_from_map : {X Y : Type 0} (e : Y → Y → Bool) (f : X → Y) (xs : List X) → IsDistinct e (map f xs) → IsDistinct (on f e) xs
 unfolding IsDistinct
 distinct_from_map e f [] d = tt
-distinct_from_map e f (x ∷ xs) d = (all_from_map (λ y. e (f x) y ≡ false) f xs d.0, distinct_from_map e f xs d.1)
+distinct_from_map e f (x ∷ xs) d = (each_from_map (λ y. e (f x) y ≡ false) f xs d.0, distinct_from_map e f xs d.1)
 
 pub map_same : {X Y : Type 0} (f g : X → Y) (xs : List X) → ((x : X) → IsIn x xs → f x ≡ g x) → map f xs ≡ map g xs
 map_same f g [] h = refl
