@@ -1,6 +1,6 @@
 //! Whether a schema that was found is ours.
 
-ghost use Rattle.std.specs.Prelude.{◌≡◌, ◌↔◌, ◌+◌, ◌<◌, true, Ok, IsTrue, IfOk};
+ghost use Rattle.std.specs.Prelude.{◌≡◌, ◌↔◌, ◌+◌, ◌<◌, true, Ok, IsTrue, IfOk, take, drop};
 ghost use Rattle.sqlite.specs.Compile.{table_defined_by};
 ghost use Rattle.sqlite_value.specs.Keys.{plain};
 ghost use Rattle.reg_schema.specs.Schema.{ours, our_tables, our_indexes};
@@ -23,33 +23,42 @@ fn is_table(alloc: Global, table: &Table, text: &str, tree: u32) -> Result<bool,
     Ok(table.tree == tree && same_table(table, &made))
 }
 
+// The nine tables stand in two functions, since the check of one grows faster than its steps.
+fn are_token_tables(alloc: Global, tables: &[Table]) -> Result<bool, AllocError>
+    ensures { IfOk result (λ same. IsTrue same ↔ (tables.now ≡ take 4 our_tables)) }
+{
+    let [about, accounts, tokens, scopes] = tables else {
+        return Ok(false);
+    };
+    Ok(
+        is_table(alloc, about, ABOUT, 0)?
+            & is_table(alloc, accounts, ACCOUNTS, 1)?
+            & is_table(alloc, tokens, TOKENS, 3)?
+            & is_table(alloc, scopes, SCOPES, 5)?,
+    )
+}
+
+// The other five, which are of crates and of names.
+fn are_crate_tables(alloc: Global, tables: &[Table]) -> Result<bool, AllocError>
+    ensures { IfOk result (λ same. IsTrue same ↔ (tables.now ≡ drop 4 our_tables)) }
+{
+    let [crates, owners, versions, archives, reserved] = tables else {
+        return Ok(false);
+    };
+    Ok(
+        is_table(alloc, crates, CRATES, 7)?
+            & is_table(alloc, owners, OWNERS, 9)?
+            & is_table(alloc, versions, VERSIONS, 11)?
+            & is_table(alloc, archives, ARCHIVES, 13)?
+            & is_table(alloc, reserved, RESERVED, 14)?,
+    )
+}
+
 fn are_our_tables(alloc: Global, tables: &[Table]) -> Result<bool, AllocError>
     ensures { IfOk result (λ same. IsTrue same ↔ (tables.now ≡ our_tables)) }
 {
-    let [
-        about,
-        accounts,
-        tokens,
-        scopes,
-        crates,
-        owners,
-        versions,
-        archives,
-        reserved,
-    ] = tables
-    else {
-        return Ok(false);
-    };
-    let of_tokens = is_table(alloc, about, ABOUT, 0)?
-        & is_table(alloc, accounts, ACCOUNTS, 1)?
-        & is_table(alloc, tokens, TOKENS, 3)?
-        & is_table(alloc, scopes, SCOPES, 5)?;
-    let of_crates = is_table(alloc, crates, CRATES, 7)?
-        & is_table(alloc, owners, OWNERS, 9)?
-        & is_table(alloc, versions, VERSIONS, 11)?
-        & is_table(alloc, archives, ARCHIVES, 13)?
-        & is_table(alloc, reserved, RESERVED, 14)?;
-    Ok(of_tokens & of_crates)
+    let (of_tokens, of_crates) = tables.split_at(tables.len().min(4));
+    Ok(are_token_tables(alloc, of_tokens)? & are_crate_tables(alloc, of_crates)?)
 }
 
 fn is_index(index: &Index, name: &str, table: u32, columns: &[usize]) -> bool
