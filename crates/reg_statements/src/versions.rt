@@ -1,10 +1,13 @@
 //! The table of versions, a statement a function.
 
-ghost use Rattle.std.specs.Prelude.{◌<◌, ◌^◌, false};
+ghost use Rattle.std.specs.Prelude.{◌≡◌, ◌<◌, ◌^◌, ◌∷◌, [], false, pos, IfOk};
 ghost use Rattle.std.specs.Option.{option_map};
 ghost use Rattle.sqlite.specs.Held.{state};
+ghost use Rattle.sqlite.specs.Order.{column};
+ghost use Rattle.sqlite.specs.declared.types.Value.TheVariants.{Int};
 ghost use Rattle.reg_schema.specs.Changes.{Adds};
 ghost use Rattle.reg_schema.specs.Places.{versions_tree};
+ghost use Rattle.reg_schema.specs.Rows.{mark};
 ghost use Rattle.reg_schema.specs.States.{IsReady};
 ghost use Rattle.reg_schema.specs.Statements.{Reads, Writes, rows_in};
 ghost use Rattle.reg_statements.specs.Counts.{IsLastId};
@@ -36,17 +39,26 @@ impl FromRow for Version {
         if row.column_count() != 8 {
             return Err(Error::InvalidQuery);
         }
-        Ok(Version {
-            id: row.get(0)?,
-            crate_id: row.get(1)?,
-            vers: row.get(2)?,
-            release: row.get(3)?,
-            digest: row.get(4)?,
-            stem: row.get(5)?,
-            description: row.get(6)?,
-            yanked: mark_of(row, 7)?,
-        })
+        with_texts(row, row.get(0)?, row.get(1)?, mark_of(row, 7)?)
     }
+}
+
+// The numbers come first: what owns no memory costs the check little where it lives long.
+fn with_texts(row: &Row, id: u64, crate_id: u32, yanked: bool) -> Result<Version, Error>
+    ensures { IfOk result (λ it. columns_of_version it ≡ Int (pos id) ∷ Int (pos crate_id)
+        ∷ column row.now 2 ∷ column row.now 3 ∷ column row.now 4 ∷ column row.now 5
+        ∷ column row.now 6 ∷ mark yanked ∷ []) }
+{
+    Ok(Version {
+        id,
+        crate_id,
+        vers: row.get(2)?,
+        release: row.get(3)?,
+        digest: row.get(4)?,
+        stem: row.get(5)?,
+        description: row.get(6)?,
+        yanked,
+    })
 }
 
 /// Adds a version that is not yanked. SQL keeps ids below 2^63.
