@@ -1,8 +1,9 @@
 //! What holds of publish bodies, whatever the code.
 //! The functions do nothing: their contracts are the laws.
 
-ghost use Rattle.std.specs.Prelude.{◌≡◌, List, ℕ};
-ghost use Rattle.reg_body.specs.Frames.{Frame, IsFrame, IsProperPrefix};
+ghost use Rattle.std.specs.Prelude.{◌≡◌, ◌≤◌, List, ℕ};
+ghost use Rattle.reg_body.specs.Frames.{Frame, IsFrame, IsProperPrefix, IsWithin};
+ghost use Rattle.reg_body.specs.declared.limits.Limits.{Limits};
 
 /// No publish body is a proper prefix of another.
 pub fn prefix_law()
@@ -13,4 +14,11 @@ pub fn prefix_law()
 pub fn parts_law()
     ensures json { (b j a k c : List ℕ) → Frame b j a → Frame b k c → j ≡ k }
     ensures archive { (b j a k c : List ℕ) → Frame b j a → Frame b k c → a ≡ c }
+{}
+
+/// What is within some limits is within wider ones, so `split` accepts it under these with the same
+/// parts.
+pub fn wider_law()
+    ensures { (l m : Limits) (j a : List ℕ) → l.json ≤ m.json → l.archive ≤ m.archive
+        → IsWithin l j a → IsWithin m j a }
 {}

@@ -11,3 +11,4 @@ pub mod Effects
 pub mod Steps
 pub mod Sound
 pub mod Laws
+pub mod Lists

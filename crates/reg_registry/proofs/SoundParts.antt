@@ -1,0 +1,151 @@
+-- A state that differs from a sound one in one part.
+use Rattle.std.proofs.Common.{◌≡◌, ℕ, List, true, false}
+use Rattle.std.specs.Prelude.{◌&&◌, ◌==◌, is_some, length}
+use Rattle.std.specs.List.{list_all, IsDistinct}
+use Rattle.std.specs.Ordering.{on}
+use Rattle.std.specs.Str.{bytes_eq}
+use Rattle.std.specs.FinSet as finset
+use Rattle.std.proofs.lemmas.Bool.{and_parts, and_from}
+use Rattle.reg_names.specs.Names.{canon, is_name}
+use Rattle.reg_registry.specs.Registry.{Text, Account, Token, Registry, owner_cmp, mark_cmp, text_cmp, with_id}
+use Rattle.reg_registry.specs.Crates.{has_crate, is_reserved_always}
+use Rattle.reg_registry.specs.Sound.{Sound, is_account, is_token, has_version}
+use Rattle.reg_model.proofs.Lists.{all_so}
+
+module _ (s : Registry) (sound : Sound s) where
+  -- other accounts, where each id that was there still is
+  pub with_accounts : (xs : List Account) → list_all is_account xs ≡ true → IsDistinct (on (λ a. a.login) bytes_eq) xs → ((id : ℕ) → is_some (with_id s.accounts id) ≡ true → is_some (with_id xs id) ≡ true) → Sound (record s { accounts = xs })
+  with_accounts xs accounts logins stay = record {
+    base = sound.base;
+    accounts = accounts;
+    logins = logins;
+    tokens = all_so (is_token s.accounts) (is_token xs) still s.tokens sound.tokens;
+    digests = sound.digests;
+    publications = sound.publications;
+    spelled = sound.spelled;
+    releases = sound.releases;
+    owned = sound.owned;
+    owners = λ c id h. let o = sound.owners c id h in (o.0, stay id o.1);
+    yanked = sound.yanked;
+    reserved = sound.reserved;
+    restricted = sound.restricted;
+    readers = λ c id h. let o = sound.readers c id h in (o.0, stay id o.1);
+  }
+    where
+      still : (t : Token) → is_token s.accounts t ≡ true → is_token xs t ≡ true
+      still t e =
+          let h = and_parts (length t.digest == 32 && is_some (with_id s.accounts t.account)) _ e in
+          let k = and_parts (length t.digest == 32) _ h.0 in
+          and_from _ _ (and_from _ _ k.0 (stay t.account k.1)) h.1
+
+  pub with_tokens : (ts : List Token) → list_all (is_token s.accounts) ts ≡ true → IsDistinct (on (λ t. t.digest) bytes_eq) ts → Sound (record s { tokens = ts })
+  with_tokens ts tokens digests = record {
+    base = sound.base;
+    accounts = sound.accounts;
+    logins = sound.logins;
+    tokens = tokens;
+    digests = digests;
+    publications = sound.publications;
+    spelled = sound.spelled;
+    releases = sound.releases;
+    owned = sound.owned;
+    owners = sound.owners;
+    yanked = sound.yanked;
+    reserved = sound.reserved;
+    restricted = sound.restricted;
+    readers = sound.readers;
+  }
+
+  pub with_owners : (os : finset.FinSet owner_cmp)
+      → ((c : Text) → has_crate s c ≡ true → (id : ℕ) × (finset.contains os (c, id) ≡ true))
+      → ((c : Text) (id : ℕ) → finset.contains os (c, id) ≡ true → (has_crate s c ≡ true) × (is_some (with_id s.accounts id) ≡ true))
+      → Sound (record s { owners = os })
+  with_owners os owned owners = record {
+    base = sound.base;
+    accounts = sound.accounts;
+    logins = sound.logins;
+    tokens = sound.tokens;
+    digests = sound.digests;
+    publications = sound.publications;
+    spelled = sound.spelled;
+    releases = sound.releases;
+    owned = owned;
+    owners = owners;
+    yanked = sound.yanked;
+    reserved = sound.reserved;
+    restricted = sound.restricted;
+    readers = sound.readers;
+  }
+
+  pub with_yanked : (ms : finset.FinSet mark_cmp) → ((c v : Text) → finset.contains ms (c, v) ≡ true → has_version s c v ≡ true) → Sound (record s { yanked = ms })
+  with_yanked ms yanked = record {
+    base = sound.base;
+    accounts = sound.accounts;
+    logins = sound.logins;
+    tokens = sound.tokens;
+    digests = sound.digests;
+    publications = sound.publications;
+    spelled = sound.spelled;
+    releases = sound.releases;
+    owned = sound.owned;
+    owners = sound.owners;
+    yanked = yanked;
+    reserved = sound.reserved;
+    restricted = sound.restricted;
+    readers = sound.readers;
+  }
+
+  pub with_reserved : (rs : finset.FinSet text_cmp) → ((c : Text) → finset.contains rs c ≡ true → ((n : Text) × (is_name n ≡ true) × (canon n ≡ c)) × (is_reserved_always c ≡ false)) → Sound (record s { reserved = rs })
+  with_reserved rs reserved = record {
+    base = sound.base;
+    accounts = sound.accounts;
+    logins = sound.logins;
+    tokens = sound.tokens;
+    digests = sound.digests;
+    publications = sound.publications;
+    spelled = sound.spelled;
+    releases = sound.releases;
+    owned = sound.owned;
+    owners = sound.owners;
+    yanked = sound.yanked;
+    reserved = reserved;
+    restricted = sound.restricted;
+    readers = sound.readers;
+  }
+
+  -- other crates restricted, each of them there
+  pub with_restricted : (cs : finset.FinSet text_cmp) → ((c : Text) → finset.contains cs c ≡ true → has_crate s c ≡ true) → Sound (record s { restricted = cs })
+  with_restricted cs restricted = record {
+    base = sound.base;
+    accounts = sound.accounts;
+    logins = sound.logins;
+    tokens = sound.tokens;
+    digests = sound.digests;
+    publications = sound.publications;
+    spelled = sound.spelled;
+    releases = sound.releases;
+    owned = sound.owned;
+    owners = sound.owners;
+    yanked = sound.yanked;
+    reserved = sound.reserved;
+    restricted = restricted;
+    readers = sound.readers;
+  }
+
+  pub with_readers : (rs : finset.FinSet owner_cmp) → ((c : Text) (id : ℕ) → finset.contains rs (c, id) ≡ true → (has_crate s c ≡ true) × (is_some (with_id s.accounts id) ≡ true)) → Sound (record s { readers = rs })
+  with_readers rs readers = record {
+    base = sound.base;
+    accounts = sound.accounts;
+    logins = sound.logins;
+    tokens = sound.tokens;
+    digests = sound.digests;
+    publications = sound.publications;
+    spelled = sound.spelled;
+    releases = sound.releases;
+    owned = sound.owned;
+    owners = sound.owners;
+    yanked = sound.yanked;
+    reserved = sound.reserved;
+    restricted = sound.restricted;
+    readers = readers;
+  }

@@ -1,0 +1,15 @@
+pub mod Registry
+pub mod Crates
+pub mod Facts
+pub mod Rules
+pub mod Events
+pub mod Refusals
+pub mod Changes
+pub mod Search
+pub mod Grants
+pub mod Reports
+pub mod Effects
+pub mod Steps
+pub mod Sound
+pub mod Sight
+pub mod Laws

@@ -1,0 +1,48 @@
+-- A sound state: its texts are well formed, and all that it names is there.
+use Rattle.std.specs.Prelude.{◌≡◌, ℕ, ◌==◌, ◌&&◌, ◌||◌, nat_lt, Bool, true, false, is_some, List, length}
+use Rattle.std.specs.List.{list_any, list_all, IsDistinct, AllByRecursion}
+use Rattle.std.specs.Str.{bytes_eq}
+use Rattle.std.specs.Ordering.{on, eq_of_both}
+use Rattle.std.specs.FinSet as finset
+use Rattle.reg_names.specs.Names.{canon, is_name}
+use Rattle.reg_names.specs.Logins.{is_login}
+use Rattle.reg_names.specs.Patterns.{is_pattern}
+use Rattle.reg_model.specs.declared.endpoint.Endpoints.{Endpoints}
+use Rattle.reg_versions.specs.Versions.{release_key_of}
+use Rattle.reg_line.specs.Base.{is_base}
+pub use Rattle.reg_model.specs.Sound.{is_account, has_some, is_token, one_release}
+use Rattle.reg_registry.specs.Registry.{Text, Account, Token, Publication, Registry, with_id, holds}
+use Rattle.reg_registry.specs.Crates.{has_crate, first, is_reserved_always}
+use Rattle.reg_registry.specs.Refusals.{may_name}
+use Rattle.reg_registry.specs.Steps.{IsGenuine}
+
+-- whether the version is there, of the crate with this canonical text
+abbrev pub has_version : Registry → Text → Text → Bool
+has_version s c v = list_any (λ p. bytes_eq (canon p.name) c && bytes_eq p.version v) s.publications
+
+pub record Sound (s : Registry) : Type 0 where
+  pub base : is_base s.base ≡ true
+  pub accounts : list_all is_account s.accounts ≡ true
+  -- logins are distinct, and so are the digests of tokens
+  pub logins : IsDistinct (on (λ a. a.login) bytes_eq) s.accounts
+  pub tokens : list_all (is_token s.accounts) s.tokens ≡ true
+  pub digests : IsDistinct (on (λ t. t.digest) bytes_eq) s.tokens
+  pub publications : AllByRecursion IsGenuine s.publications
+  -- the publications of a crate have its spelling
+  pub spelled : list_all (λ p. holds (λ n. bytes_eq n p.name) (first s p.name)) s.publications
+      ≡ true
+  pub releases : IsDistinct one_release s.publications
+  -- each crate has an owner, and each owner is an account and owns a crate that is there
+  pub owned : (c : Text) → has_crate s c ≡ true → (id : ℕ)
+      × (finset.contains s.owners (c, id) ≡ true)
+  pub owners : (c : Text) (id : ℕ) → finset.contains s.owners (c, id) ≡ true
+      → (has_crate s c ≡ true) × (is_some (with_id s.accounts id) ≡ true)
+  pub yanked : (c v : Text) → finset.contains s.yanked (c, v) ≡ true → has_version s c v ≡ true
+  -- what the administrator reserved is the canonical text of some crate name, and not one that is
+  -- reserved always
+  pub reserved : (c : Text) → finset.contains s.reserved c ≡ true
+      → ((n : Text) × (is_name n ≡ true) × (canon n ≡ c)) × (is_reserved_always c ≡ false)
+  -- what is restricted is a crate, and each reader is an account and reads a crate that is there
+  pub restricted : (c : Text) → finset.contains s.restricted c ≡ true → has_crate s c ≡ true
+  pub readers : (c : Text) (id : ℕ) → finset.contains s.readers (c, id) ≡ true
+      → (has_crate s c ≡ true) × (is_some (with_id s.accounts id) ≡ true)
