@@ -11,15 +11,15 @@ use std::test::Fail;
 
 /// Bytes between two amounts: for one change and for each of all changes, for one selection and for
 /// each of all selections, and for the checks on opening.
-const CHANGE_STEP: u32 = 200;
+const CHANGE_STEP: u32 = 4_000;
 
-const EACH_CHANGE_STEP: u32 = 800;
+const EACH_CHANGE_STEP: u32 = 16_000;
 
-const SELECTION_STEP: u32 = 40;
+const SELECTION_STEP: u32 = 100;
 
-const EACH_SELECTION_STEP: u32 = 400;
+const EACH_SELECTION_STEP: u32 = 4_000;
 
-const AUDIT_STEP: u32 = 500;
+const AUDIT_STEP: u32 = 1_000;
 
 /// Too little memory for a change, or for its commit, leaves the rows before.
 fn change(

@@ -1,9 +1,8 @@
 -- The canonical texts of the crates in their order, and which of them pass a test.
 use Rattle.std.proofs.Common.{◌≡◌, ℕ, List, [], ◌∷◌, Bool, true, cond, inl, inr, refl, sym, ◌∙◌, ap, arith}
-use Rattle.std.specs.Prelude.{T, map, ◌&&◌, ◌||◌, is_some}
+use Rattle.std.specs.Prelude.{map, is_some}
 use Rattle.std.specs.List.{list_any, filter}
 use Rattle.std.specs.Ordering.{eq_by_cmp, is_eq}
-use Rattle.std.specs.declared.cmp.Ordering.TheVariants.{Equal}
 use Rattle.std.specs.Str.{bytes_eq}
 use Rattle.std.specs.Cmp.{Equal-is, tied_itself, both_ways}
 use Rattle.std.specs.Cmp.Lexicographic.{nat_list_cmp_total}
@@ -11,11 +10,11 @@ use Rattle.std.specs.FinMap as finmap
 use Rattle.std.specs.FinMap.Entries as entries
 use Rattle.std.proofs.lemmas.Slice.Eq.{bytes_eq-Decides}
 use Rattle.reg_names.specs.Names.{canon, canon_byte}
-use Rattle.reg_registry.specs.Registry.{Text, Publication, Registry, text_cmp}
-use Rattle.reg_registry.specs.Crates.{canons, exists, has_crate, sees}
+use Rattle.reg_registry.specs.Registry.{Text, Registry, text_cmp}
+use Rattle.reg_registry.specs.Crates.{canons, has_crate}
 use Rattle.reg_model.proofs.Keys.{text_apart}
-use Rattle.reg_model.proofs.Lists.{list_any_map, any_same, true_not_false}
-use Rattle.reg_model.proofs.Members.{IsIn, any_in, in_any, map_in}
+use Rattle.reg_model.proofs.Lists.{list_any_map, any_same}
+use Rattle.reg_model.proofs.Members.{IsIn, any_in, in_any}
 
 canon_once : (b : ℕ) → canon_byte (canon_byte b) ≡ canon_byte b
 canon_once b = grind arith

@@ -10,13 +10,13 @@ use Rattle.reg_model.specs.Actions.{Action}
 use Rattle.reg_model.specs.Actions.Action.{Read as to_read, Index as to_index, Download as to_download, ListOwners as to_list, Publish as to_publish, Yank as to_yank, Unyank as to_unyank, AddOwners as to_add, RemoveOwners as to_remove}
 use Rattle.reg_registry.specs.Facts.{Access, Counts}
 use Rattle.reg_registry.specs.Rules.{access, breaks, broken, is_access_rule, order, verdict}
-use Rattle.reg_registry.specs.Events.{Asked, Event, Answer}
+use Rattle.reg_registry.specs.Events.{Asked, Answer}
 use Rattle.reg_model.specs.Events.Asked.{Faulty, Read, Index, Download, ListOwners, Publish, Yank, Unyank, AddOwners, RemoveOwners}
 use Rattle.reg_model.specs.Events.Reading.{Config, Search}
 use Rattle.reg_registry.specs.Events.Event.{Ask}
 use Rattle.reg_registry.specs.Events.Answer.{Denied}
 use Rattle.reg_registry.specs.Refusals.{denied, judged, or_else}
-use Rattle.reg_registry.specs.Effects.{served, caller, done}
+use Rattle.reg_registry.specs.Effects.{served, caller}
 use Rattle.reg_registry.specs.Steps.{Step, Outcome, unless_denied}
 
 -- a refusal that is served is that of a faulty request

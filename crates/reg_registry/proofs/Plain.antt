@@ -1,11 +1,9 @@
 -- Where no crate is restricted, visibility changes nothing.
-use Rattle.std.proofs.Common.{◌≡◌, ℕ, List, [], ◌∷◌, Bool, true, false, cond, Option, Some, None, refl, sym, ◌∙◌, ap, subst}
+use Rattle.std.proofs.Common.{◌≡◌, ℕ, Bool, true, false, Option, Some, None, refl, ◌∙◌, ap}
 use Rattle.std.specs.Prelude.{not, ◌&&◌, ◌||◌}
-use Rattle.std.specs.List.{filter, list_any}
-use Rattle.std.specs.Str.{bytes_eq}
-use Rattle.std.specs.FinSet as finset
+use Rattle.std.specs.List.{filter}
 use Rattle.reg_names.specs.Names.{canon}
-use Rattle.reg_registry.specs.Registry.{Text, Registry, holds, text_cmp}
+use Rattle.reg_registry.specs.Registry.{Text, Registry, holds}
 use Rattle.reg_registry.specs.Crates.{canons, exists, has_crate, is_among, is_restricted, owners, readers, sees, viewer, visible}
 use Rattle.reg_model.specs.Actions.{Action, crate_of}
 use Rattle.reg_registry.specs.Facts.{access_facts}

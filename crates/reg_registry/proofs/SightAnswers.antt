@@ -1,43 +1,41 @@
 -- Two registries that have one sight for a token answer it the same.
 use Rattle.std.proofs.Common.{◌≡◌, ℕ, zero, suc, inl, inr, List, [], ◌∷◌, Bool, true, false, cond, Option, Some, None, refl, sym, ◌∙◌, ap}
-use Rattle.std.specs.Prelude.{T, ◌&&◌, ◌||◌, not, is_some, length, map, take, unwrap_or}
+use Rattle.std.specs.Prelude.{◌&&◌, ◌||◌, not, is_some, length, map, take, unwrap_or}
 use Rattle.std.specs.List.{list_any, list_all, find, filter}
 use Rattle.std.specs.Option.{option_map}
-use Rattle.std.specs.Ordering.{eq_by_cmp}
 use Rattle.std.specs.Str.{bytes_eq}
-use Rattle.std.specs.Cmp.{Equal-is}
 use Rattle.std.specs.Cmp.Lexicographic.{nat_list_cmp_total}
 use Rattle.std.specs.FinMap as finmap
 use Rattle.std.specs.FinMap.Entries as entries
 use Rattle.std.proofs.lemmas.Bool.{and_parts}
 use Rattle.std.proofs.lemmas.Slice.Eq.{bytes_eq-Decides}
-use Rattle.reg_names.specs.Names.{canon, is_name, name_at, name_of, path_of}
+use Rattle.reg_names.specs.Names.{canon, is_name, name_at, name_of}
 use Rattle.reg_line.specs.Config.{config_text}
 use Rattle.reg_body.specs.declared.limits.Limits.{Limits}
 use Rattle.reg_model.specs.declared.rule.Rule.{Rule}
-use Rattle.reg_registry.specs.Registry.{Text, Token, Publication, Registry, holds, text_cmp, token_of}
-use Rattle.reg_registry.specs.Crates.{canons, exists, has_crate, is_among, is_restricted, file, first, owners, readers, sees, version, versions, viewer, visible}
+use Rattle.reg_registry.specs.Registry.{Text, Token, Registry, holds, text_cmp, token_of}
+use Rattle.reg_registry.specs.Crates.{canons, exists, has_crate, is_among, is_restricted, file, owners, readers, sees, versions, viewer, visible}
 use Rattle.reg_model.specs.Actions.{Action, crate_of, logins_of, version_of}
-use Rattle.reg_registry.specs.Facts.{Access, Counts, access_facts, counts, has_login, is_named, lists, spelling}
+use Rattle.reg_registry.specs.Facts.{access_facts, counts, has_login, is_named, lists, spelling}
 use Rattle.reg_registry.specs.Rules.{verdict}
-use Rattle.reg_registry.specs.Events.{Answer, Asked, Event, FoundCrates, action_of, fault_of}
-use Rattle.reg_registry.specs.Events.Answer.{Archive, Config, Denied, File, Found, Granted, Owners}
+use Rattle.reg_registry.specs.Events.{Asked, action_of, fault_of}
+use Rattle.reg_registry.specs.Events.Answer.{Archive, Config, Denied, File, Found, Owners}
 use Rattle.reg_model.specs.Events.Asked.{Faulty, Read, Index, Download, ListOwners, Publish, Yank, Unyank, AddOwners, RemoveOwners}
 use Rattle.reg_model.specs.Events.Reading.{Config as of_config, Search as of_search}
 use Rattle.reg_registry.specs.Events.Event.{Ask}
-use Rattle.reg_registry.specs.Effects.{caller, done, served}
+use Rattle.reg_registry.specs.Effects.{done, served}
 use Rattle.reg_registry.specs.Refusals.{denied, judged, or_else}
 use Rattle.reg_registry.specs.Search.{found, hit, matches, occurs}
 use Rattle.reg_registry.specs.Sight.{HaveOneSight}
 use Rattle.reg_registry.specs.Steps.{Outcome, outcome, unless_denied}
 use Rattle.reg_registry.specs.Laws.{ByNoPublishOrOwner}
-use Rattle.reg_registry.proofs.Canons.{Keyed, by_canon, canon-canon, canonical, key_there}
+use Rattle.reg_registry.proofs.Canons.{Keyed, by_canon, canonical, key_there}
 use Rattle.reg_registry.proofs.Cleared.{not_denied}
 use Rattle.reg_model.proofs.Keys.{text_apart}
 use Rattle.reg_model.proofs.Lists.{not_true, true_not_false}
 use Rattle.reg_registry.proofs.Masked.{LooksAtOne, masked, masked_counts, same_verdict}
-use Rattle.reg_model.proofs.Members.{IsIn, filtered_passes, in_filter, map_same}
-use Rattle.reg_registry.proofs.Sights.{account_alike, all_owners_alike, covered_alike, enabled_alike, endpoints_alike, file_alike, first_alike, hit_alike, known_alike, live_alike, login_alike, owner_alike, owners_alike, versions_alike, viewer_alike, visible_alike}
+use Rattle.reg_model.proofs.Members.{IsIn, filtered_passes, map_same}
+use Rattle.reg_registry.proofs.Sights.{account_alike, all_owners_alike, covered_alike, enabled_alike, endpoints_alike, file_alike, first_alike, hit_alike, known_alike, live_alike, login_alike, owner_alike, owners_alike, versions_alike, visible_alike}
 
 -- what a test on a canonical text lets pass, and a test on what is there
 guarded : {X : Type 0} (b c : Bool) (x y none : X) → b ≡ c → (b ≡ true → x ≡ y) → cond b x none ≡ cond c y none

@@ -8,14 +8,13 @@ use Rattle.reg_names.specs.Patterns.{covers}
 use Rattle.reg_versions.specs.Precedence.{top_place}
 use Rattle.reg_line.specs.File.{file_text}
 use Rattle.reg_model.specs.declared.endpoint.Endpoints.{Endpoints}
-use Rattle.reg_registry.specs.Registry.{Text, Account, Token, Publication, Registry, holds, is_enabled, token_of}
+use Rattle.reg_registry.specs.Registry.{Text, Token, Publication, Registry, holds, is_enabled, token_of}
 use Rattle.reg_registry.specs.Crates.{collides, file, first, is_among, is_yanked, owners, versions, viewer, visible}
-use Rattle.reg_registry.specs.Events.{OwnerEntry}
 use Rattle.reg_registry.specs.Effects.{owner_entry}
 use Rattle.reg_registry.specs.Facts.{endpoints_of, has_login, is_named, no_endpoints}
 use Rattle.reg_versions.specs.Versions.{parts_of}
 use Rattle.reg_registry.specs.Search.{hit, top}
-use Rattle.reg_registry.specs.Sight.{CrateSight, HaveOneSight, TokenSight, crate_sight, token_sight}
+use Rattle.reg_registry.specs.Sight.{CrateSight, HaveOneSight, TokenSight}
 use Rattle.reg_model.proofs.Lists.{list_any_map}
 
 -- what holds of a part of what there is

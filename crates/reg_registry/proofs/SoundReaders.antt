@@ -1,11 +1,11 @@
 -- Restricting crates and naming readers keeps a state sound.
-use Rattle.std.proofs.Common.{◌≡◌, ℕ, Bool, true, false, refl, sym, ◌∙◌, ap}
+use Rattle.std.proofs.Common.{◌≡◌, ℕ, true, false, sym, ◌∙◌, ap}
 use Rattle.std.specs.Prelude.{is_some}
 use Rattle.std.specs.FinSet as finset
 use Rattle.std.specs.Cmp.Lexicographic.{nat_list_cmp_total}
 use Rattle.std.proofs.lemmas.Bool.{and_parts}
 use Rattle.reg_names.specs.Names.{canon}
-use Rattle.reg_registry.specs.Registry.{Text, Owner, Registry, owner_cmp, text_cmp, with_id}
+use Rattle.reg_registry.specs.Registry.{Text, Owner, Registry, with_id}
 use Rattle.reg_registry.specs.Crates.{exists, has_crate}
 use Rattle.reg_registry.specs.Changes.{with_reader, with_restricted, without_reader}
 use Rattle.reg_registry.specs.Sound.{Sound}

@@ -13,7 +13,7 @@ use Rattle.reg_registry.specs.Registry.{Text, Registry}
 use Rattle.reg_model.specs.Actions.{Action}
 use Rattle.reg_registry.specs.Facts.{Access, Counts, access_facts, counts}
 use Rattle.reg_registry.specs.Rules.{broken, order, verdict}
-use Rattle.reg_registry.specs.Events.{Asked, Command, Event, action_of, fault_of}
+use Rattle.reg_registry.specs.Events.{Asked, Command, action_of, fault_of}
 use Rattle.reg_registry.specs.Events.Command.{UserAdd, UserDisable, UserEnable, TokenAdd, TokenRevoke, Reserve, Unreserve, OwnerAdd, Access as to_access, Users, Tokens, Crates, CrateRestrict, CrateOpen, ReaderAdd, ReaderRemove}
 use Rattle.reg_registry.specs.Events.Event.{Ask, Order}
 use Rattle.reg_registry.specs.Refusals.{denied, grounds, judged, or_else, refused, patterns_given}

@@ -2,7 +2,7 @@
 use Rattle.std.specs.Prelude.{ℕ, Bool, true, false, if◌then◌else◌, List, [], ◌∷◌, ◌++◌, Option}
 use Rattle.std.specs.FinSet as finset
 use Rattle.reg_model.specs.declared.endpoint.Endpoints.{Endpoints}
-use Rattle.reg_registry.specs.Registry.{Text, Account, Token, Publication, Mark, Owner, Registry, change_at}
+use Rattle.reg_registry.specs.Registry.{Text, Publication, Mark, Owner, Registry, change_at}
 
 -- one more account, which is enabled
 abbrev pub with_account : Text → Option Text → Registry → Registry

@@ -1,14 +1,14 @@
 -- What an allowed request or command does, and what it is answered.
-use Rattle.std.specs.Prelude.{ℕ, ◌+◌, if◌then◌else◌, Bool, true, false, List, [], ◌∷◌, ◌++◌, length, map, Option, Some, None, unwrap_or}
+use Rattle.std.specs.Prelude.{ℕ, ◌+◌, if◌then◌else◌, true, false, [], ◌∷◌, length, map, Option, Some, None, unwrap_or}
 use Rattle.std.specs.Option.{option_map}
 use Rattle.std.specs.FinSet as finset
 use Rattle.reg_names.specs.Names.{canon, name_at}
 use Rattle.reg_line.specs.Config.{config_text}
 use Rattle.reg_registry.specs.Changes.{with_account, with_publication, with_reader, with_reserved, with_restricted, with_revoked, with_token, with_yanked, without_reader, without_reserved}
 pub use Rattle.reg_model.specs.Effects.{owners_of, owner_entry, enable}
-use Rattle.reg_registry.specs.Registry.{Text, Account, Registry, owner_cmp, token_of, id_of_login, ids_of, change_at}
+use Rattle.reg_registry.specs.Registry.{Text, Registry, id_of_login, ids_of}
 use Rattle.reg_registry.specs.Crates.{exists, version, file, owners, is_reserved_always, viewer}
-use Rattle.reg_registry.specs.Events.{Asked, Command, Answer, OwnerEntry}
+use Rattle.reg_registry.specs.Events.{Asked, Command, Answer}
 use Rattle.reg_model.specs.Events.Asked.{Faulty, Read, Index, Download, ListOwners, Publish, Yank, Unyank, AddOwners, RemoveOwners}
 use Rattle.reg_model.specs.Events.Reading.{Config as of_config, Search as of_search}
 use Rattle.reg_registry.specs.Events.Command.{UserAdd, UserDisable, UserEnable, TokenAdd, TokenRevoke, Reserve, Unreserve, OwnerAdd, Access, Users, Tokens, Crates, CrateRestrict, CrateOpen, ReaderAdd, ReaderRemove}

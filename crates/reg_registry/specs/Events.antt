@@ -1,8 +1,8 @@
 -- What is asked of a registry, and what it answers.
-use Rattle.std.specs.Prelude.{ℕ, List, Option, Some, None}
+use Rattle.std.specs.Prelude.{ℕ, List, Option}
 use Rattle.reg_model.specs.declared.rule.Rule.{Rule}
 use Rattle.reg_model.specs.declared.rule.AdminRefusal.{AdminRefusal}
-use Rattle.reg_registry.specs.Registry.{Text, Publication}
+use Rattle.reg_registry.specs.Registry.{Text}
 pub use Rattle.reg_model.specs.Events.{Reading, Asked, OwnerEntry, action_of, fault_of}
 
 -- a command of the administrator

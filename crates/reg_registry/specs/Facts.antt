@@ -1,11 +1,11 @@
 -- All that the rules ask of a state, about one caller and the crate of one action: what decides on
 -- access, and what is counted or compared besides.
-use Rattle.std.specs.Prelude.{ℕ, Bool, false, is_some, List, [], length, Option, Some, None}
+use Rattle.std.specs.Prelude.{ℕ, Bool, is_some, length, Option, Some, None}
 use Rattle.std.specs.List.{list_any, list_all}
 use Rattle.std.specs.Str.{bytes_eq}
 use Rattle.reg_names.specs.Patterns.{covers}
 use Rattle.reg_model.specs.declared.endpoint.Endpoints.{Endpoints}
-use Rattle.reg_registry.specs.Registry.{Text, Account, Token, Registry, token_of, is_enabled, is_known, holds}
+use Rattle.reg_registry.specs.Registry.{Text, Registry, token_of, is_enabled, is_known, holds}
 use Rattle.reg_registry.specs.Crates.{first, versions, owners, is_among, is_reserved, crates, same_release, visible}
 pub use Rattle.reg_model.specs.Facts.{no_endpoints, endpoints_of, has_login, is_named, lists}
 use Rattle.reg_model.specs.Actions.{Action, crate_of, version_of, logins_of}

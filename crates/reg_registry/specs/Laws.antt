@@ -1,5 +1,5 @@
 -- The laws of steps and runs.
-use Rattle.std.specs.Prelude.{◌≡◌, ◌≢◌, ◌↔◌, ◌≤◌, ◌⊎◌, ℕ, Bool, true, false, not, List, [], ◌∷◌, ◌++◌, length, take, map, Option, Some, None, unwrap_or}
+use Rattle.std.specs.Prelude.{◌≡◌, ◌≢◌, ◌↔◌, ◌≤◌, ℕ, true, false, not, List, [], ◌∷◌, ◌++◌, Option, Some, None, unwrap_or}
 use Rattle.std.specs.List.{filter, find}
 use Rattle.reg_names.specs.Names.{canon, is_name, path_of}
 use Rattle.reg_model.specs.declared.rule.Rule.{Rule}
@@ -15,15 +15,14 @@ use Rattle.reg_model.specs.Actions.{Action, crate_of}
 use Rattle.reg_model.specs.Actions.Action.{Index}
 use Rattle.reg_registry.specs.Facts.{Access, Counts, access_facts}
 use Rattle.reg_registry.specs.Rules.{access, breaks, broken, is_access_rule, needed, order, verdict}
-use Rattle.reg_registry.specs.Refusals.{denied, judged, or_else, refused}
-use Rattle.reg_registry.specs.Search.{found, matches, occurs}
+use Rattle.reg_registry.specs.Refusals.{denied, or_else, refused}
+use Rattle.reg_registry.specs.Search.{matches, occurs}
 use Rattle.reg_registry.specs.Grants.{grants}
 use Rattle.reg_registry.specs.Sight.{HaveOneSight}
 use Rattle.reg_registry.specs.Events.{Asked, Command, Event, Answer}
 use Rattle.reg_model.specs.Events.Asked.{AddOwners, Publish}
 use Rattle.reg_registry.specs.Events.Event.{Ask, Order}
 use Rattle.reg_registry.specs.Events.Answer.{Denied, Refused}
-use Rattle.reg_registry.specs.Effects.{served, caller}
 use Rattle.reg_registry.specs.Steps.{IsFit, Step, Run, no_room, outcome}
 use Rattle.reg_registry.specs.Sound.{Sound}
 

@@ -1,12 +1,10 @@
 -- What refuses a request, and what refuses a command.
-use Rattle.std.specs.Prelude.{◌==◌, ◌&&◌, ◌||◌, nat_le, nat_lt, Bool, true, not, is_none, is_some, List, [], ◌∷◌, length, codes, Option, Some, None}
+use Rattle.std.specs.Prelude.{◌==◌, ◌&&◌, ◌||◌, nat_le, nat_lt, Bool, not, is_none, is_some, List, [], ◌∷◌, length, Option, Some, None}
 use Rattle.std.specs.Option.{option_map}
-use Rattle.std.specs.List.{find, list_any, list_all}
-use Rattle.std.specs.Str.{bytes_eq}
+use Rattle.std.specs.List.{find, list_all}
 use Rattle.reg_names.specs.Names.{is_name}
 use Rattle.reg_names.specs.Logins.{is_login}
 use Rattle.reg_names.specs.Patterns.{is_pattern}
-use Rattle.reg_model.specs.declared.endpoint.Endpoints.{Endpoints}
 use Rattle.reg_model.specs.declared.rule.Rule.{Rule}
 use Rattle.reg_model.specs.declared.rule.Rule.TheVariants as rule
 use Rattle.reg_model.specs.declared.rule.AdminRefusal.{AdminRefusal}
@@ -16,7 +14,7 @@ use Rattle.reg_registry.specs.Registry.{Text, Registry, id_of_login, token_of, w
 use Rattle.reg_registry.specs.Crates.{exists}
 use Rattle.reg_registry.specs.Events.{Asked, Command, action_of, fault_of}
 use Rattle.reg_registry.specs.Events.Command.{UserAdd, UserDisable, UserEnable, TokenAdd, TokenRevoke, Reserve, Unreserve, OwnerAdd, Access, Users, Tokens, Crates, CrateRestrict, CrateOpen, ReaderAdd, ReaderRemove}
-use Rattle.reg_registry.specs.Facts.{access_facts, counts, is_named}
+use Rattle.reg_registry.specs.Facts.{access_facts, counts}
 pub use Rattle.reg_model.specs.Refusals.{or_else, is_account_name, may_name, is_endpoint}
 pub use Rattle.reg_model.specs.Refusals.{among, endpoints_named, patterns_given}
 use Rattle.reg_model.specs.Actions.{Action}

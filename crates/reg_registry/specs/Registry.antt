@@ -1,5 +1,5 @@
 -- The state of a registry, with crates that only some may see.
-use Rattle.std.specs.Prelude.{ℕ, Bool, List, [], ◌∷◌, Option}
+use Rattle.std.specs.Prelude.{ℕ, Bool, List, [], Option}
 use Rattle.std.specs.List.{find, filter_map, position_from}
 use Rattle.std.specs.Str.{bytes_eq}
 use Rattle.std.specs.FinSet as finset

@@ -7,7 +7,6 @@ use Rattle.reg_names.specs.Names.{path_of}
 use Rattle.reg_body.specs.declared.limits.Limits.{Limits}
 use Rattle.reg_model.specs.declared.endpoint.Endpoint.{Endpoint}
 use Rattle.reg_model.specs.declared.endpoint.Endpoint.TheVariants as endpoint
-use Rattle.reg_model.specs.declared.endpoint.Endpoints.{Endpoints}
 use Rattle.reg_model.specs.declared.rule.Rule.{Rule}
 use Rattle.reg_model.specs.declared.rule.Rule.TheVariants as rule
 use Rattle.reg_registry.specs.Registry.{Text, holds}

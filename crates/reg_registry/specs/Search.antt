@@ -1,5 +1,5 @@
 -- What a search finds (the Cargo Book, "Registry Web API", "Search").
-use Rattle.std.specs.Prelude.{ℕ, ◌&&◌, ◌||◌, Bool, List, [], ◌∷◌, map, length, take, Option, Some, None, unwrap_or, slice_get, nat_eq}
+use Rattle.std.specs.Prelude.{ℕ, ◌&&◌, ◌||◌, Bool, List, [], ◌∷◌, map, length, take, Option, None, unwrap_or, slice_get, nat_eq}
 use Rattle.std.specs.List.{filter, starts_with}
 use Rattle.std.specs.Option.{option_and_then, option_map}
 use Rattle.reg_names.specs.Names.{canon}

@@ -1,9 +1,8 @@
 -- What a token may see of a registry.
-use Rattle.std.specs.Prelude.{◌≡◌, ℕ, if◌then◌else◌, Bool, true, List, map, Option, Some, None}
+use Rattle.std.specs.Prelude.{◌≡◌, ℕ, if◌then◌else◌, Bool, List, map, Option, Some, None}
 use Rattle.std.specs.Option.{option_map}
-use Rattle.reg_names.specs.Names.{is_name}
 use Rattle.reg_model.specs.declared.endpoint.Endpoints.{Endpoints}
-use Rattle.reg_registry.specs.Registry.{Text, Token, Publication, Registry, is_enabled, token_of}
+use Rattle.reg_registry.specs.Registry.{Text, Publication, Registry, is_enabled, token_of}
 use Rattle.reg_registry.specs.Crates.{is_yanked, owners, versions, visible}
 use Rattle.reg_registry.specs.Effects.{owner_entry}
 use Rattle.reg_registry.specs.Events.{OwnerEntry}

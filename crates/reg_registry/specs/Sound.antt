@@ -1,19 +1,14 @@
 -- A sound state: its texts are well formed, and all that it names is there.
-use Rattle.std.specs.Prelude.{◌≡◌, ℕ, ◌==◌, ◌&&◌, ◌||◌, nat_lt, Bool, true, false, is_some, List, length}
+use Rattle.std.specs.Prelude.{◌≡◌, ℕ, ◌&&◌, Bool, true, false, is_some}
 use Rattle.std.specs.List.{list_any, list_all, IsDistinct, AllByRecursion}
 use Rattle.std.specs.Str.{bytes_eq}
-use Rattle.std.specs.Ordering.{on, eq_of_both}
+use Rattle.std.specs.Ordering.{on}
 use Rattle.std.specs.FinSet as finset
 use Rattle.reg_names.specs.Names.{canon, is_name}
-use Rattle.reg_names.specs.Logins.{is_login}
-use Rattle.reg_names.specs.Patterns.{is_pattern}
-use Rattle.reg_model.specs.declared.endpoint.Endpoints.{Endpoints}
-use Rattle.reg_versions.specs.Versions.{release_key_of}
 use Rattle.reg_line.specs.Base.{is_base}
 pub use Rattle.reg_model.specs.Sound.{is_account, has_some, is_token, one_release}
-use Rattle.reg_registry.specs.Registry.{Text, Account, Token, Publication, Registry, with_id, holds}
+use Rattle.reg_registry.specs.Registry.{Text, Registry, with_id, holds}
 use Rattle.reg_registry.specs.Crates.{has_crate, first, is_reserved_always}
-use Rattle.reg_registry.specs.Refusals.{may_name}
 use Rattle.reg_registry.specs.Steps.{IsGenuine}
 
 -- whether the version is there, of the crate with this canonical text

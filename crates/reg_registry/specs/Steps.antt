@@ -1,16 +1,12 @@
 -- One step of a registry, and runs of steps.
-use Rattle.std.specs.Prelude.{◌≡◌, ◌⊎◌, Bool, true, false, List, [], ◌∷◌, length, Option, Some, None, unwrap_or}
-use Rattle.reg_names.specs.Names.{is_name}
-use Rattle.sha2.specs.Sha256.{sha256}
+use Rattle.std.specs.Prelude.{◌≡◌, ◌⊎◌, true, List, [], ◌∷◌, length, Option, Some, None, unwrap_or}
 use Rattle.reg_model.specs.declared.rule.Rule.{Rule}
 use Rattle.reg_model.specs.declared.rule.Rule.TheVariants as rule
 use Rattle.reg_model.specs.declared.rule.AdminRefusal.{AdminRefusal}
 use Rattle.reg_model.specs.declared.rule.AdminRefusal.TheVariants as refusal
-use Rattle.reg_versions.specs.Versions.{is_version}
 use Rattle.reg_body.specs.declared.limits.Limits.{Limits}
-use Rattle.reg_line.specs.StemCheck.{IsStemOf}
 pub use Rattle.reg_model.specs.Steps.{IsGenuine, is_own_rule}
-use Rattle.reg_registry.specs.Registry.{Publication, Registry}
+use Rattle.reg_registry.specs.Registry.{Registry}
 use Rattle.reg_registry.specs.Events.{Event, Answer}
 use Rattle.reg_model.specs.Events.Asked.{Faulty, Publish}
 use Rattle.reg_registry.specs.Events.Command.{TokenAdd}

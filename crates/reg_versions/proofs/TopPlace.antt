@@ -1,5 +1,5 @@
 -- The place of the top is the first that passes the test of the top.
-use Rattle.std.proofs.Common.{◌≡◌, ℕ, zero, suc, ◌+◌, ◌<◌, ◌≤◌, List, [], ◌∷◌, Bool, true, false, cond, Option, Some, None, refl, sym, ◌∙◌, ap, subst, arith}
+use Rattle.std.proofs.Common.{◌≡◌, ℕ, zero, suc, ◌+◌, ◌<◌, List, [], ◌∷◌, Bool, true, false, cond, Some, refl, sym, ◌∙◌, ap, subst, arith}
 use Rattle.std.specs.Prelude.{◌↔◌, ◌&&◌, not, slice_get}
 use Rattle.std.specs.List.{list_all, position_from}
 use Rattle.std.specs.Ordering.{is_gt}
@@ -112,9 +112,13 @@ top_is_top l i = (there, back)
     there e =
         let f = found test 0 l i e in
         let place : f.place ≡ i = sym (nothing_more f.place) ∙ f.from in
-        let parts = and_parts (takes_part l f.element) (is_unsurpassed l f.element) f.passes in
-        (f.element, ap (slice_get l) (sym place) ∙ f.at, parts.0, (unsurpassed l f.element).0 parts.1,
-        λ j s below at part none. true_not_false (is_unsurpassed l s) ((unsurpassed l s).1 none) (neither (takes_part l s) _ (f.before j s (subst (λ n. j < n) (sym place) below) at) part))
+        let parts = and_parts (takes_part l f.element) (is_unsurpassed l f.element) f.passes in (
+          f.element,
+          ap (slice_get l) (sym place) ∙ f.at,
+          parts.0,
+          (unsurpassed l f.element).0 parts.1,
+          λ j s below at part none. true_not_false (is_unsurpassed l s) ((unsurpassed l s).1 none) (neither (takes_part l s) _ (f.before j s (subst (λ n. j < n) (sym place) below) at) part),
+        )
 
     back : IsTop l i → top_place l ≡ Some i
     back (r, at, part, best, first) = placed_at (placed test 0 l i r at (and_from _ _ part ((unsurpassed l r).1 best)) (λ j s below e. not_both (takes_part l s) (is_unsurpassed l s) (λ p u. first j s below e p ((unsurpassed l s).0 u))))
