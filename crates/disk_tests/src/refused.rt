@@ -22,14 +22,15 @@ const EACH_SELECTION_STEP: u32 = 4_000;
 const AUDIT_STEP: u32 = 1_000;
 
 /// Too little memory for a change, or for its commit, leaves the rows before.
-fn change(
+pub(crate) fn change(
     rt: &impl Abort,
     alloc: Global,
     prepared: &Prepared,
     line: &str,
+    scarce: Scarce,
     step: u32,
 ) -> Result<Seen, Fail> {
-    let seen = tried(alloc, prepared, line, Scarce::Call, step)?;
+    let seen = tried(alloc, prepared, line, scarce, step)?;
     assert!(rt; seen.before > 0 && seen.after == 0, "{line}: {seen:?}");
     Ok(seen)
 }
@@ -55,6 +56,7 @@ fn tables_made(rt: HostRuntime) -> Result<(), Fail> {
         alloc,
         &nothing(alloc),
         "make -> done",
+        Scarce::Call,
         EACH_CHANGE_STEP,
     )?;
     Ok(())
@@ -64,7 +66,7 @@ fn tables_made(rt: HostRuntime) -> Result<(), Fail> {
 fn a_crate_added(rt: HostRuntime) -> Result<(), Fail> {
     let prepared = prepare_files(&rt, rt.alloc(), "")?;
     let line = "add-crate second 1 0.1.0 abc it-nets -> 2";
-    let seen = change(&rt, rt.alloc(), &prepared, line, CHANGE_STEP)?;
+    let seen = change(&rt, rt.alloc(), &prepared, line, Scarce::Call, CHANGE_STEP)?;
     assert!(rt; seen.before > 5, "{seen:?}");
     Ok(())
 }
@@ -81,7 +83,14 @@ fn versions_found(rt: HostRuntime) -> Result<(), Fail> {
 fn anything_changed(rt: HostRuntime) -> Result<(), Fail> {
     let prepared = prepare_files(&rt, rt.alloc(), "")?;
     for line in CHANGES.lines() {
-        change(&rt, rt.alloc(), &prepared, line, EACH_CHANGE_STEP)?;
+        change(
+            &rt,
+            rt.alloc(),
+            &prepared,
+            line,
+            Scarce::Call,
+            EACH_CHANGE_STEP,
+        )?;
     }
     Ok(())
 }
