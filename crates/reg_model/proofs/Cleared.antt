@@ -7,7 +7,7 @@ use Rattle.reg_model.specs.declared.rule.AdminRefusal.{AdminRefusal}
 use Rattle.reg_body.specs.declared.limits.Limits.{Limits}
 use Rattle.reg_model.specs.Registry.{Text, Registry}
 use Rattle.reg_model.specs.Events.{Asked, Command, action_of, fault_of}
-use Rattle.reg_model.specs.Facts.{facts}
+use Rattle.reg_model.specs.Facts.{access_facts, counts}
 use Rattle.reg_model.specs.Rules.{verdict, broken, order}
 use Rattle.reg_model.specs.Refusals.{denied, refused, or_else, grounds}
 
@@ -25,7 +25,7 @@ abbrev pub Free : List (AdminRefusal × Bool) → Type 0
 Free [] = Unit {0}
 Free (g ∷ gs) = (g.1 ≡ false) × Free gs
 
-free : (gs : List (AdminRefusal × Bool)) → option_map (λ g. g.0) (find (λ g. g.1) gs) ≡ None → Free gs
+pub free : (gs : List (AdminRefusal × Bool)) → option_map (λ g. g.0) (find (λ g. g.1) gs) ≡ None → Free gs
 free [] e = tt
 free (g ∷ gs) e = elim (g.1) as (λ b. option_map (λ g. g.0) (cond b (Some g) (find (λ g. g.1) gs)) ≡ None → (b ≡ false) × Free gs) [ true ↦ λ f. cc | false ↦ λ f. (refl, free gs f) ] e
 
@@ -33,9 +33,9 @@ none_first : (v w : Option Rule) → or_else v w ≡ None → v ≡ None
 none_first None w e = refl
 none_first (Some r) w e = cc
 
-pub not_denied : (limits : Limits) (s : Registry) (d : Text) (asked : Asked) → denied limits s (Some d) asked ≡ None → Clear (broken (facts limits s d (action_of asked)) (action_of asked)) (order (facts limits s d (action_of asked)) (action_of asked))
+pub not_denied : (limits : Limits) (s : Registry) (d : Text) (asked : Asked) → denied limits s (Some d) asked ≡ None → Clear (broken limits (access_facts s d (action_of asked)) (counts s (action_of asked)) (action_of asked)) (order (access_facts s d (action_of asked)).first (action_of asked))
 unfolding denied verdict
-not_denied limits s d asked e = clear (broken (facts limits s d (action_of asked)) (action_of asked)) (order (facts limits s d (action_of asked)) (action_of asked)) (none_first _ (fault_of asked) e)
+not_denied limits s d asked e = clear (broken limits (access_facts s d (action_of asked)) (counts s (action_of asked)) (action_of asked)) (order (access_facts s d (action_of asked)).first (action_of asked)) (none_first _ (fault_of asked) e)
 
 pub not_refused : (limits : Limits) (s : Registry) (c : Command) → refused limits s c ≡ None → Free (grounds limits s c)
 unfolding refused

@@ -7,7 +7,7 @@ use Rattle.reg_model.specs.Registry.{Text, Registry, Publication}
 use Rattle.reg_model.specs.Crates.{collides, stems, is_reserved_always}
 use Rattle.reg_model.specs.Events.{Asked, Command, Event, Answer}
 use Rattle.reg_model.specs.Events.Asked.{Faulty, Read, Index, Download, ListOwners, Publish, Yank, Unyank, AddOwners, RemoveOwners}
-use Rattle.reg_model.specs.Events.Command.{UserAdd, UserDisable, UserEnable, TokenAdd, TokenRevoke, Reserve, Unreserve, OwnerAdd}
+use Rattle.reg_model.specs.Events.Command.{UserAdd, UserDisable, UserEnable, TokenAdd, TokenRevoke, Reserve, Unreserve, OwnerAdd, Access, Users, Tokens, Crates, CrateRestrict, CrateOpen, ReaderAdd, ReaderRemove}
 use Rattle.reg_model.specs.Effects.{done, commanded}
 use Rattle.reg_model.specs.Steps.{Run}
 use Rattle.reg_model.specs.Laws.{IsPrefix}
@@ -54,6 +54,14 @@ commanded_grows s (TokenRevoke i) = same_prefix s.publications
 commanded_grows s (Reserve n) = reserve_grows s _ (is_reserved_always _) (same_prefix s.publications)
 commanded_grows s (Unreserve n) = same_prefix s.publications
 commanded_grows s (OwnerAdd n l) = same_prefix s.publications
+commanded_grows s (Access n) = same_prefix s.publications
+commanded_grows s Users = same_prefix s.publications
+commanded_grows s Tokens = same_prefix s.publications
+commanded_grows s Crates = same_prefix s.publications
+commanded_grows s (CrateRestrict n) = same_prefix s.publications
+commanded_grows s (CrateOpen n) = same_prefix s.publications
+commanded_grows s (ReaderAdd n l) = same_prefix s.publications
+commanded_grows s (ReaderRemove n l) = same_prefix s.publications
 
 kept : (limits : Limits) → Kept limits Grows
 kept limits = record {

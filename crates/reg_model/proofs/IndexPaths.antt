@@ -1,35 +1,36 @@
 -- Which index paths are those of crates that are there.
 use Rattle.std.proofs.Common.{◌≡◌, List, [], ◌∷◌, ◌++◌, Bool, true, false, cond, Option, Some, None, refl, sym, ◌∙◌, ap}
-use Rattle.std.specs.Prelude.{not}
+use Rattle.std.specs.Prelude.{not, ◌&&◌}
 use Rattle.std.specs.List.{find, AllByRecursion}
 use Rattle.std.specs.Option.{option_map}
 use Rattle.std.specs.Str.{bytes_eq}
+use Rattle.std.proofs.lemmas.Bool.{and_parts, and_from}
 use Rattle.std.proofs.lemmas.Slice.Eq.{bytes_eq-Decides}
 use Rattle.reg_names.specs.Names.{canon, folder_of, is_name, lower, name_at, path_of}
 use Rattle.reg_names.proofs.LastPart.{at_path}
 use Rattle.reg_names.proofs.NameFacts.{canon-lower, is_name-lower, lower-lower}
-use Rattle.reg_body.specs.declared.limits.Limits.{Limits}
 use Rattle.reg_model.specs.declared.rule.Rule.TheVariants as rule
 use Rattle.reg_model.specs.Registry.{Text, Publication, Registry, holds}
-use Rattle.reg_model.specs.Crates.{collides, first}
-use Rattle.reg_model.specs.Facts.{facts, spelling}
+use Rattle.reg_model.specs.Crates.{collides, first, viewer, visible}
+use Rattle.reg_model.specs.Facts.{access_facts, spelling}
 use Rattle.reg_model.specs.Actions.Action.{Index}
-use Rattle.reg_model.specs.Rules.{broken}
+use Rattle.reg_model.specs.Rules.{breaks}
 use Rattle.reg_model.specs.Steps.{IsGenuine}
 use Rattle.reg_model.specs.Sound.{Sound}
+use Rattle.reg_model.proofs.Seen.{sees_alike}
 
-abbrev IsPathOfCrate : Registry → Text → Type 0
-IsPathOfCrate s path = (n : Text) × (f : Text) × (first s n ≡ Some f) × (path_of f ≡ path)
+abbrev IsPathOfCrate : Registry → Text → Text → Type 0
+IsPathOfCrate s digest path = (n : Text) × (f : Text) × (first s n ≡ Some f) × (path_of f ≡ path) × (visible s digest n ≡ true)
 
-the_some : {X : Type 0} {x y : X} → Some x ≡ Some y → x ≡ y
+pub the_some : {X : Type 0} {x y : X} → Some x ≡ Some y → x ≡ y
 the_some e = cc
 
-not_false : (b : Bool) → not b ≡ false → b ≡ true
+pub not_false : (b : Bool) → not b ≡ false → b ≡ true
 not_false true e = refl
 not_false false e = cc
 
 -- the spelling of a crate is a name, and collides with each text that finds it
-spelled : (ps : List Publication) (n f : Text) → AllByRecursion IsGenuine ps → option_map (λ p. p.name) (find (λ p. collides p.name n) ps) ≡ Some f → (is_name f ≡ true) × (canon f ≡ canon n)
+pub spelled : (ps : List Publication) (n f : Text) → AllByRecursion IsGenuine ps → option_map (λ p. p.name) (find (λ p. collides p.name n) ps) ≡ Some f → (is_name f ≡ true) × (canon f ≡ canon n)
 spelled [] n f genuine e = cc
 spelled (p ∷ ps) n f genuine e =
     elim (collides p.name n) as (λ b. collides p.name n ≡ b → option_map (λ p. p.name) (cond b (Some p) (find (λ p. collides p.name n) ps)) ≡ Some f → (is_name f ≡ true) × (canon f ≡ canon n)) [
@@ -37,23 +38,26 @@ spelled (p ∷ ps) n f genuine e =
       | false ↦ λ t g. spelled ps n f genuine.1 g
     ] refl e
 
-pub there : (limits : Limits) (s : Registry) (digest path : Text) → broken (facts limits s digest (Index path)) (Index path) rule.A8 ≡ false → IsPathOfCrate s path
-unfolding facts
-there limits s digest path e = by_name (name_at path) (not_false (holds (λ n. bytes_eq (path_of n) path) (spelling s (name_at path))) e)
+pub there : (s : Registry) (digest path : Text) → breaks (access_facts s digest (Index path)) (Index path) rule.A8 ≡ false → IsPathOfCrate s digest path
+unfolding access_facts
+there s digest path e = by_name (name_at path) (not_false _ e)
   where
-    by_first : (m : Text) (o : Option Text) → first s m ≡ o → holds (λ n. bytes_eq (path_of n) path) o ≡ true → IsPathOfCrate s path
-    by_first m None h t = cc
-    by_first m (Some f) h t = (m, f, h, (bytes_eq-Decides (path_of f) path).0 t)
+    by_first : (m : Text) (o : Option Text) → first s m ≡ o → visible s digest m ≡ true → holds (λ n. bytes_eq (path_of n) path) o ≡ true → IsPathOfCrate s digest path
+    by_first m None h seen t = cc
+    by_first m (Some f) h seen t = (m, f, h, (bytes_eq-Decides (path_of f) path).0 t, seen)
 
-    by_name : (o : Option Text) → holds (λ n. bytes_eq (path_of n) path) (spelling s o) ≡ true → IsPathOfCrate s path
+    by_name : (o : Option Text) → (holds (visible s digest) o && holds (λ n. bytes_eq (path_of n) path) (spelling s o)) ≡ true → IsPathOfCrate s digest path
     by_name None t = cc
-    by_name (Some m) t = by_first m (first s m) refl t
+    by_name (Some m) t = let h = and_parts (visible s digest m) _ t in by_first m (first s m) refl h.0 h.1
 
-pub unbroken : (limits : Limits) (s : Registry) (digest path : Text) → Sound s → IsPathOfCrate s path → broken (facts limits s digest (Index path)) (Index path) rule.A8 ≡ false
-unfolding facts
-unbroken limits s digest path sound (n, f, found, at) =
+pub unbroken : (s : Registry) (digest path : Text) → Sound s → IsPathOfCrate s digest path → breaks (access_facts s digest (Index path)) (Index path) rule.A8 ≡ false
+unfolding access_facts
+unbroken s digest path sound (n, f, found, at, seen) =
     let h = spelled s.publications n f sound.publications found in
     let low : path_of (lower f) ≡ path = ap (λ t. folder_of t ++ t) (lower-lower f) ∙ at in
     let named : name_at path ≡ Some (lower f) = at_path (lower f) path (is_name-lower f h.0) (lower-lower f) low in
-    let same : first s (lower f) ≡ Some f = ap (λ c. option_map (λ p. p.name) (find (λ p. bytes_eq (canon p.name) c) s.publications)) (canon-lower f ∙ h.1) ∙ found in
-    ap (λ o. not (holds (λ n. bytes_eq (path_of n) path) (spelling s o))) named ∙ ap (λ o. not (holds (λ n. bytes_eq (path_of n) path) o)) same ∙ ap not ((bytes_eq-Decides (path_of f) path).1 at)
+    let alike : canon (lower f) ≡ canon n = canon-lower f ∙ h.1 in
+    let same : first s (lower f) ≡ Some f = ap (λ c. option_map (λ p. p.name) (find (λ p. bytes_eq (canon p.name) c) s.publications)) alike ∙ found in
+    let shown : holds (λ n. bytes_eq (path_of n) path) (first s (lower f)) ≡ true = ap (λ o. holds (λ n. bytes_eq (path_of n) path) o) same ∙ (bytes_eq-Decides (path_of f) path).1 at in
+    ap (λ o. not (holds (visible s digest) o && holds (λ n. bytes_eq (path_of n) path) (spelling s o))) named
+    ∙ ap not (and_from (visible s digest (lower f)) _ (sees_alike s (viewer s digest) (lower f) n alike ∙ seen) shown)

@@ -16,7 +16,7 @@ use Rattle.reg_body.specs.declared.limits.Limits.{Limits}
 use Rattle.reg_model.specs.Registry.{Text, Account, Token, Registry, id_of_login, token_of, with_id, change_at}
 use Rattle.reg_model.specs.Crates.{exists, is_reserved_always}
 use Rattle.reg_model.specs.Events.{Command}
-use Rattle.reg_model.specs.Events.Command.{UserAdd, UserDisable, UserEnable, TokenAdd, TokenRevoke, Reserve, Unreserve, OwnerAdd}
+use Rattle.reg_model.specs.Events.Command.{UserAdd, UserDisable, UserEnable, TokenAdd, TokenRevoke, Reserve, Unreserve, OwnerAdd, Access, Users, Tokens, Crates, CrateRestrict, CrateOpen, ReaderAdd, ReaderRemove}
 use Rattle.reg_model.specs.Events.Event.{Order}
 use Rattle.reg_model.specs.Refusals.{refused, endpoints_named, patterns_given, is_endpoint, among, may_name}
 use Rattle.reg_model.specs.Effects.{commanded, enable}
@@ -27,6 +27,7 @@ use Rattle.reg_model.proofs.Lists.{or_left, or_right, any_same, all_push, some_f
 use Rattle.reg_model.proofs.Places.{all_changed_at, distinct_changed_at, there_changed_at, there_more, ids_stay, found_there}
 use Rattle.reg_model.proofs.SoundParts.{with_accounts, with_tokens}
 use Rattle.reg_model.proofs.SoundOwners.{more_owners}
+use Rattle.reg_model.proofs.SoundReaders.{opened_sound, reader_added, reader_removed, restricted_sound}
 use Rattle.reg_model.proofs.SoundMarks.{reserve_keeps_sound, unreserve_keeps_sound}
 
 is_true : (b : Bool) → not b ≡ false → b ≡ true
@@ -45,7 +46,7 @@ none_passes p k (x ∷ xs) e = elim (p x) as (λ b. is_some (cond b (Some k) (po
 logins-equivalence : IsEquivalence (on (λ (a : Account). a.login) bytes_eq)
 logins-equivalence = on_equiv (λ (a : Account). a.login) nat_list_eq_equiv
 
-digests-equivalence : IsEquivalence (on (λ (t : Token). t.digest) bytes_eq)
+pub digests-equivalence : IsEquivalence (on (λ (t : Token). t.digest) bytes_eq)
 digests-equivalence = on_equiv (λ (t : Token). t.digest) nat_list_eq_equiv
 
 account_added : (s : Registry) (login : Text) (name : Option Text) → Sound s → (is_login login && may_name name) ≡ true → is_some (id_of_login s login) ≡ false → Sound (record s { accounts = s.accounts ++ record { login = login; name = name; enabled = true } ∷ [] })
@@ -102,6 +103,9 @@ token_revoked s id sound = with_tokens s sound _
     (all_changed_at (λ (t : Token). record t { live = false }) (is_token s.accounts) (λ t. refl) id s.tokens sound.tokens)
     (distinct_changed_at (λ (t : Token). record t { live = false }) (on (λ t. t.digest) bytes_eq) (λ x y. refl) (λ x y. refl) id s.tokens sound.digests)
 
+named_crate : (s : Registry) (n : Text) → not (is_name n && exists s n) ≡ false → exists s n ≡ true
+named_crate s n e = (and_parts (is_name n) (exists s n) (is_true _ e)).1
+
 pub command_keeps_sound : (limits : Limits) (s : Registry) (c : Command) → IsFit (Order c) → refused limits s c ≡ None → Sound s → Sound (commanded s c)
 unfolding commanded
 command_keeps_sound limits s (UserAdd login name) fit ok sound =
@@ -117,4 +121,14 @@ command_keeps_sound limits s (TokenAdd login words patterns digest) fit ok sound
 command_keeps_sound limits s (TokenRevoke id) fit ok sound = token_revoked s id sound
 command_keeps_sound limits s (Reserve n) fit ok sound = reserve_keeps_sound s n (is_reserved_always (canon n)) refl (is_true _ (not_refused limits s (Reserve n) ok).0) sound
 command_keeps_sound limits s (Unreserve n) fit ok sound = unreserve_keeps_sound s n sound
-command_keeps_sound limits s (OwnerAdd n login) fit ok sound = more_owners s n (login ∷ []) sound (and_parts (is_name n) (exists s n) (is_true _ (not_refused limits s (OwnerAdd n login) ok).0)).1
+command_keeps_sound limits s (OwnerAdd n login) fit ok sound = more_owners s n (login ∷ []) sound (named_crate s n (not_refused limits s (OwnerAdd n login) ok).0)
+command_keeps_sound limits s (Access n) fit ok sound = sound
+command_keeps_sound limits s Users fit ok sound = sound
+command_keeps_sound limits s Tokens fit ok sound = sound
+command_keeps_sound limits s Crates fit ok sound = sound
+command_keeps_sound limits s (CrateRestrict n) fit ok sound = restricted_sound s n sound (named_crate s n (not_refused limits s (CrateRestrict n) ok).0)
+command_keeps_sound limits s (CrateOpen n) fit ok sound = opened_sound s n sound
+command_keeps_sound limits s (ReaderAdd n login) fit ok sound =
+    let g = not_refused limits s (ReaderAdd n login) ok in
+    reader_added s n _ sound (named_crate s n g.0) (account_found s login g.1.0)
+command_keeps_sound limits s (ReaderRemove n login) fit ok sound = reader_removed s n _ sound

@@ -11,7 +11,7 @@ use Rattle.reg_body.specs.declared.limits.Limits.{Limits}
 use Rattle.reg_model.specs.Registry.{Text, Mark, Registry}
 use Rattle.reg_model.specs.Crates.{collides, versions, is_reserved_always}
 use Rattle.reg_model.specs.Events.Asked.{Yank, Unyank}
-use Rattle.reg_model.specs.Facts.{facts, lists}
+use Rattle.reg_model.specs.Facts.{access_facts, lists}
 use Rattle.reg_model.specs.Refusals.{denied}
 use Rattle.reg_model.specs.Effects.{done, account_of}
 use Rattle.reg_model.specs.Sound.{Sound, has_version}
@@ -26,14 +26,14 @@ is_true true e = refl
 is_true false e = cc
 
 pub yank_keeps_sound : (limits : Limits) (s : Registry) (d n v : Text) → Sound s → denied limits s (Some d) (Yank n v) ≡ None → Sound (done s (account_of s d) (Yank n v))
-unfolding done facts
+unfolding done access_facts
 yank_keeps_sound limits s d n v sound allowed = with_yanked s sound (finset.insert s.yanked (canon n, v)) there
   where
     published : has_version s (canon n) v ≡ true
     published =
         let all = not_denied limits s d (Yank n v) allowed in
         sym (any_filter (λ p. collides p.name n) (λ p. bytes_eq p.version v) s.publications)
-        ∙ ap (λ o. list_any (λ p. bytes_eq p.version v) (lists (versions s) o)) (sym (crate_there s n all.1.1.1.1.0).0)
+        ∙ ap (λ o. list_any (λ p. bytes_eq p.version v) (lists (versions s) o)) (sym (crate_there s d n all.1.1.1.1.0).0)
         ∙ is_true _ all.1.1.1.1.1.1.1.0
 
     there : (c w : Text) → finset.contains (finset.insert s.yanked (canon n, v)) (c, w) ≡ true → has_version s c w ≡ true

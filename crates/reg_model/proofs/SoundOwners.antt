@@ -1,6 +1,6 @@
 -- Adding and removing owners keeps a state sound.
 use Rattle.std.proofs.Common.{◌≡◌, ℕ, zero, suc, ◌+◌, ◌-◌, ◌≤◌, List, [], ◌∷◌, Bool, true, false, cond, Option, Some, None, refl, sym, ◌∙◌, ap, subst, arith}
-use Rattle.std.specs.Prelude.{not, ◌&&◌, is_some, slice_get}
+use Rattle.std.specs.Prelude.{not, ◌&&◌, slice_get}
 use Rattle.std.specs.List.{list_any, list_all, filter, cons_option, enumerate_from}
 use Rattle.std.specs.Ordering.{eq_by_cmp}
 use Rattle.std.specs.Str.{bytes_eq}
@@ -9,16 +9,16 @@ use Rattle.std.proofs.lemmas.Bool.{and_parts, and_from}
 use Rattle.std.proofs.lemmas.Slice.Eq.{bytes_eq-Decides}
 use Rattle.reg_names.specs.Names.{canon, is_name, name_of}
 use Rattle.reg_body.specs.declared.limits.Limits.{Limits}
-use Rattle.reg_model.specs.Registry.{Text, Account, Owner, Registry, owner_cmp, id_of_login, ids_of}
-use Rattle.reg_model.specs.Crates.{collides, exists, has_crate, owners, owns}
+use Rattle.reg_model.specs.Registry.{Text, Account, Owner, Registry, holds, owner_cmp, id_of_login, ids_of}
+use Rattle.reg_model.specs.Crates.{exists, has_crate, owners, owns, visible}
 use Rattle.reg_model.specs.Events.Asked.{AddOwners, RemoveOwners}
-use Rattle.reg_model.specs.Facts.{facts, is_named, lists, spelling}
+use Rattle.reg_model.specs.Facts.{access_facts, counts, is_named, lists}
 use Rattle.reg_model.specs.Refusals.{denied}
 use Rattle.reg_model.specs.Effects.{done, account_of, owners_of}
 use Rattle.reg_model.specs.Sound.{Sound}
 use Rattle.reg_model.proofs.Cleared.{not_denied}
 use Rattle.reg_model.proofs.Keys.{owner_total, owner_apart, same_key}
-use Rattle.reg_model.proofs.Lists.{or_left, or_right, or_split, is_some_find, not_true, true_not_false}
+use Rattle.reg_model.proofs.Lists.{or_left, or_right, or_split, not_true, true_not_false}
 use Rattle.reg_model.proofs.Places.{at_id, found_id, found_there}
 use Rattle.reg_model.proofs.SoundParts.{with_owners}
 
@@ -109,26 +109,26 @@ fewer_owners s n logins sound some = with_owners s sound (finset.difference s.ow
       | false ↦ λ e. let o = sound.owned c h in (o.0, stays c o.0 o.1 (λ k. let m = named s n c logins o.0 k in true_not_false (bytes_eq c (canon n)) ((bytes_eq-Decides c (canon n)).1 m.of_crate) e))
     ] refl
 
--- a crate that is not absent is there, and its text a name
-pub crate_there : (s : Registry) (n : Text) → not (is_some (spelling s (name_of n))) ≡ false → (name_of n ≡ Some n) × (exists s n ≡ true)
-crate_there s n e = by (is_name n) e
+-- a crate that is seen is there, and its text a name
+pub crate_there : (s : Registry) (d n : Text) → not (holds (visible s d) (name_of n)) ≡ false → (name_of n ≡ Some n) × (exists s n ≡ true)
+crate_there s d n e = by (is_name n) e
   where
     some : (b : Bool) → not b ≡ false → b ≡ true
     some true e = refl
     some false e = cc
 
-    by : (b : Bool) → not (is_some (spelling s (cond b (Some n) None))) ≡ false → (cond b (Some n) None ≡ Some n) × (exists s n ≡ true)
-    by true f = (refl, sym (is_some_find (λ p. p.name) (λ p. collides p.name n) s.publications) ∙ some _ f)
+    by : (b : Bool) → not (holds (visible s d) (cond b (Some n) None)) ≡ false → (cond b (Some n) None ≡ Some n) × (exists s n ≡ true)
+    by true f = (refl, (and_parts (exists s n) _ (some _ f)).0)
     by false f = cc
 
 pub add_keeps_sound : (limits : Limits) (s : Registry) (d n : Text) (logins : List Text) → Sound s → denied limits s (Some d) (AddOwners n logins) ≡ None → Sound (done s (account_of s d) (AddOwners n logins))
-unfolding done facts
+unfolding done access_facts counts
 add_keeps_sound limits s d n logins sound allowed =
     let all = not_denied limits s d (AddOwners n logins) allowed in
-    more_owners s n logins sound (crate_there s n all.1.1.1.1.0).1
+    more_owners s n logins sound (crate_there s d n all.1.1.1.1.0).1
 
 pub remove_keeps_sound : (limits : Limits) (s : Registry) (d n : Text) (logins : List Text) → Sound s → denied limits s (Some d) (RemoveOwners n logins) ≡ None → Sound (done s (account_of s d) (RemoveOwners n logins))
-unfolding done facts
+unfolding done access_facts counts
 remove_keeps_sound limits s d n logins sound allowed =
     let all = not_denied limits s d (RemoveOwners n logins) allowed in
-    fewer_owners s n logins sound (ap (λ o. list_all (λ o. is_named logins o.1.login) (lists (owners s) o)) (sym (crate_there s n all.1.1.1.1.0).0) ∙ all.1.1.1.1.1.1.1.1.0)
+    fewer_owners s n logins sound (ap (λ o. list_all (λ o. is_named logins o.1.login) (lists (owners s) o)) (sym (crate_there s d n all.1.1.1.1.0).0) ∙ all.1.1.1.1.1.1.1.1.0)

@@ -28,6 +28,8 @@ module _ (s : Registry) (sound : Sound s) where
     owners = λ c id h. let o = sound.owners c id h in (o.0, stay id o.1);
     yanked = sound.yanked;
     reserved = sound.reserved;
+    restricted = sound.restricted;
+    readers = λ c id h. let o = sound.readers c id h in (o.0, stay id o.1);
   }
     where
       still : (t : Token) → is_token s.accounts t ≡ true → is_token xs t ≡ true
@@ -50,6 +52,8 @@ module _ (s : Registry) (sound : Sound s) where
     owners = sound.owners;
     yanked = sound.yanked;
     reserved = sound.reserved;
+    restricted = sound.restricted;
+    readers = sound.readers;
   }
 
   pub with_owners : (os : finset.FinSet owner_cmp)
@@ -69,6 +73,8 @@ module _ (s : Registry) (sound : Sound s) where
     owners = owners;
     yanked = sound.yanked;
     reserved = sound.reserved;
+    restricted = sound.restricted;
+    readers = sound.readers;
   }
 
   pub with_yanked : (ms : finset.FinSet mark_cmp) → ((c v : Text) → finset.contains ms (c, v) ≡ true → has_version s c v ≡ true) → Sound (record s { yanked = ms })
@@ -85,6 +91,8 @@ module _ (s : Registry) (sound : Sound s) where
     owners = sound.owners;
     yanked = yanked;
     reserved = sound.reserved;
+    restricted = sound.restricted;
+    readers = sound.readers;
   }
 
   pub with_reserved : (rs : finset.FinSet text_cmp) → ((c : Text) → finset.contains rs c ≡ true → ((n : Text) × (is_name n ≡ true) × (canon n ≡ c)) × (is_reserved_always c ≡ false)) → Sound (record s { reserved = rs })
@@ -101,4 +109,43 @@ module _ (s : Registry) (sound : Sound s) where
     owners = sound.owners;
     yanked = sound.yanked;
     reserved = reserved;
+    restricted = sound.restricted;
+    readers = sound.readers;
+  }
+
+  -- other crates restricted, each of them there
+  pub with_restricted : (cs : finset.FinSet text_cmp) → ((c : Text) → finset.contains cs c ≡ true → has_crate s c ≡ true) → Sound (record s { restricted = cs })
+  with_restricted cs restricted = record {
+    base = sound.base;
+    accounts = sound.accounts;
+    logins = sound.logins;
+    tokens = sound.tokens;
+    digests = sound.digests;
+    publications = sound.publications;
+    spelled = sound.spelled;
+    releases = sound.releases;
+    owned = sound.owned;
+    owners = sound.owners;
+    yanked = sound.yanked;
+    reserved = sound.reserved;
+    restricted = restricted;
+    readers = sound.readers;
+  }
+
+  pub with_readers : (rs : finset.FinSet owner_cmp) → ((c : Text) (id : ℕ) → finset.contains rs (c, id) ≡ true → (has_crate s c ≡ true) × (is_some (with_id s.accounts id) ≡ true)) → Sound (record s { readers = rs })
+  with_readers rs readers = record {
+    base = sound.base;
+    accounts = sound.accounts;
+    logins = sound.logins;
+    tokens = sound.tokens;
+    digests = sound.digests;
+    publications = sound.publications;
+    spelled = sound.spelled;
+    releases = sound.releases;
+    owned = sound.owned;
+    owners = sound.owners;
+    yanked = sound.yanked;
+    reserved = sound.reserved;
+    restricted = sound.restricted;
+    readers = readers;
   }

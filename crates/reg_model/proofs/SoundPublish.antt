@@ -21,7 +21,7 @@ use Rattle.reg_model.specs.Registry.{Text, Token, Publication, Registry, Owner, 
 use Rattle.reg_model.specs.Crates.{exists, first, collides, same_release, has_crate}
 use Rattle.reg_model.specs.Actions.Action.{Publish as to_publish}
 use Rattle.reg_model.specs.Events.Asked.{Publish}
-use Rattle.reg_model.specs.Facts.{facts}
+use Rattle.reg_model.specs.Facts.{access_facts, counts}
 use Rattle.reg_model.specs.Rules.{broken}
 use Rattle.reg_model.specs.Refusals.{denied}
 use Rattle.reg_model.specs.Effects.{done, account_of}
@@ -63,11 +63,11 @@ is_holding true e = refl
 is_holding false e = cc
 
 what_allowed : (limits : Limits) (s : Registry) (d : Text) (p : Publication) → denied limits s (Some d) (Publish p) ≡ None → Allowed s d p
-unfolding facts
+unfolding access_facts
 what_allowed limits s d p allowed =
     by (is_some (option_map (λ q. q.name) (find (λ q. collides q.name p.name) s.publications))) (is_some_find (λ q. q.name) (λ q. collides q.name p.name) s.publications) (not_denied limits s d (Publish p) allowed)
   where
-    by : (b : Bool) → b ≡ exists s p.name → Clear (broken (facts limits s d (to_publish p.name p.version)) (to_publish p.name p.version)) (cond b for_known for_new) → Allowed s d p
+    by : (b : Bool) → b ≡ exists s p.name → Clear (broken limits (access_facts s d (to_publish p.name p.version)) (counts s (to_publish p.name p.version)) (to_publish p.name p.version)) (cond b for_known for_new) → Allowed s d p
     by true there all = record {
       known = all.0;
       spelled = λ e. is_holding _ all.1.1.1.1.1.0;
@@ -148,6 +148,8 @@ publish_keeps_sound limits s d p sound fit allowed = record {
   owners = owners_after s (account_of s d) p sound (account_there s d sound a.known);
   yanked = λ c v h. any_more (λ q. bytes_eq (canon q.name) c && bytes_eq q.version v) s.publications (p ∷ []) (sound.yanked c v h);
   reserved = sound.reserved;
+  restricted = λ c h. any_more (λ q. bytes_eq (canon q.name) c) s.publications (p ∷ []) (sound.restricted c h);
+  readers = λ c id h. let r = sound.readers c id h in (any_more (λ q. bytes_eq (canon q.name) c) s.publications (p ∷ []) r.0, r.1);
 }
   where
     a : Allowed s d p

@@ -64,4 +64,6 @@ empty_sound base ok = record {
   owners = λ c id h. true_not_false _ h (finset.contains-empty owner_cmp (c, id));
   yanked = λ c v h. true_not_false _ h (finset.contains-empty mark_cmp (c, v));
   reserved = λ c h. true_not_false _ h (finset.contains-empty text_cmp c);
+  restricted = λ c h. true_not_false _ h (finset.contains-empty text_cmp c);
+  readers = λ c id h. true_not_false _ h (finset.contains-empty owner_cmp (c, id));
 }

@@ -2,7 +2,7 @@
 use Rattle.std.specs.Prelude.{ℕ, Bool, true, false, if◌then◌else◌, List, [], ◌∷◌, ◌++◌, Option}
 use Rattle.std.specs.FinSet as finset
 use Rattle.reg_model.specs.declared.endpoint.Endpoints.{Endpoints}
-use Rattle.reg_model.specs.Registry.{Text, Account, Token, Publication, Mark, Owner, Registry, change_at}
+use Rattle.reg_model.specs.Registry.{Text, Publication, Mark, Owner, Registry, change_at}
 
 -- one more account, which is enabled
 abbrev pub with_account : Text → Option Text → Registry → Registry
@@ -52,3 +52,16 @@ with_reserved c s = record s { reserved = finset.insert s.reserved c }
 
 abbrev pub without_reserved : Text → Registry → Registry
 without_reserved c s = record s { reserved = finset.remove s.reserved c }
+
+-- a crate is restricted to those who may see it, or open to all
+abbrev pub with_restricted : Bool → Text → Registry → Registry
+with_restricted restricted c s = record s {
+  restricted = if restricted then finset.insert s.restricted c else finset.remove s.restricted c;
+}
+
+-- one more reader of the crate with a canonical text, and one less
+abbrev pub with_reader : Owner → Registry → Registry
+with_reader r s = record s { readers = finset.insert s.readers r }
+
+abbrev pub without_reader : Owner → Registry → Registry
+without_reader r s = record s { readers = finset.remove s.readers r }

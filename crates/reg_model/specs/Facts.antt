@@ -1,38 +1,13 @@
--- All that the rules ask of a state, about one caller and the crate of one action.
-use Rattle.std.specs.Prelude.{ℕ, ◌==◌, Bool, false, is_some, List, [], length, Option, Some, None}
+-- All that the rules ask of a state, about one caller and the crate of one action: what decides on
+-- access, and what is counted or compared besides.
+use Rattle.std.specs.Prelude.{ℕ, Bool, is_some, length, Option, Some, None, false, List, []}
 use Rattle.std.specs.List.{list_any, list_all}
 use Rattle.std.specs.Str.{bytes_eq}
 use Rattle.reg_names.specs.Patterns.{covers}
 use Rattle.reg_model.specs.declared.endpoint.Endpoints.{Endpoints}
-use Rattle.reg_body.specs.declared.limits.Limits.{Limits}
-use Rattle.reg_model.specs.Registry.{Text, Account, Token, Registry, token_of, is_enabled, is_known, holds}
-use Rattle.reg_model.specs.Crates.{first, versions, owners, is_reserved, crates, same_release}
+use Rattle.reg_model.specs.Registry.{Text, Registry, token_of, is_enabled, is_known, holds, Account, Token}
+use Rattle.reg_model.specs.Crates.{first, versions, owners, is_among, is_reserved, crates, same_release, visible}
 use Rattle.reg_model.specs.Actions.{Action, crate_of, version_of, logins_of}
-
-pub record Facts : Type 0 where
-  -- the token: whether it is known and live, its account enabled; its endpoints; whether a pattern
-  -- of it covers the crate
-  pub is_known : Bool
-  pub is_live : Bool
-  pub is_enabled : Bool
-  pub endpoints : Endpoints
-  pub is_covered : Bool
-  -- the crate: its spelling; whether the token's account owns it; whether its name is reserved
-  pub first : Option Text
-  pub is_owner : Bool
-  pub is_reserved : Bool
-  -- whether this very version is there, and one of the same release; how many versions and crates
-  -- there are
-  pub has_version : Bool
-  pub has_release : Bool
-  pub versions : ℕ
-  pub crates : ℕ
-  -- the logins that are named: whether enabled accounts have them, whether owners have them,
-  -- whether they are all owners' logins
-  pub are_known : Bool
-  pub are_owners : Bool
-  pub are_all_owners : Bool
-  pub limits : Limits
 
 abbrev pub no_endpoints : Endpoints
 no_endpoints = record {
@@ -46,9 +21,6 @@ abbrev pub endpoints_of : Option Token → Endpoints
 endpoints_of None = no_endpoints
 endpoints_of (Some t) = t.endpoints
 
-abbrev pub is_owner : List (ℕ × Account) → ℕ → Bool
-is_owner os id = list_any (λ o. o.0 == id) os
-
 -- whether one of the accounts has the login
 abbrev pub has_login : List (ℕ × Account) → Text → Bool
 has_login os login = list_any (λ o. bytes_eq o.1.login login) os
@@ -61,12 +33,40 @@ abbrev pub lists : {X : Type 0} → (Text → List X) → Option Text → List X
 lists f None = []
 lists f (Some n) = f n
 
+pub record Access : Type 0 where
+  -- the token: whether it is known and live, its account enabled; its endpoints; whether a pattern
+  -- of it covers the crate
+  pub is_known : Bool
+  pub is_live : Bool
+  pub is_enabled : Bool
+  pub endpoints : Endpoints
+  pub is_covered : Bool
+  -- the crate: its spelling; whether it is visible to the token; whether the token's account owns
+  -- it; whether its name is reserved
+  pub first : Option Text
+  pub is_visible : Bool
+  pub is_owner : Bool
+  pub is_reserved : Bool
+  -- whether this very version is there, and one of the same release
+  pub has_version : Bool
+  pub has_release : Bool
+
+pub record Counts : Type 0 where
+  -- how many versions the crate has, and how many crates there are
+  pub versions : ℕ
+  pub crates : ℕ
+  -- the logins that are named: whether enabled accounts have them, whether owners have them,
+  -- whether they are all owners' logins
+  pub are_known : Bool
+  pub are_owners : Bool
+  pub are_all_owners : Bool
+
 abbrev pub spelling : Registry → Option Text → Option Text
 spelling s None = None
 spelling s (Some n) = first s n
 
-unfoldable pub facts : Limits → Registry → Text → Action → Facts
-facts limits s digest a = record {
+unfoldable pub access_facts : Registry → Text → Action → Access
+access_facts s digest a = record {
   is_known = is_some (token_of s digest);
   is_live = holds (λ t. t.live) (token_of s digest);
   is_enabled = holds (λ t. is_enabled s t.account) (token_of s digest);
@@ -74,15 +74,19 @@ facts limits s digest a = record {
   is_covered = holds (λ t. holds (λ n. list_any (λ p. covers p n) t.patterns) (crate_of a))
       (token_of s digest);
   first = spelling s (crate_of a);
-  is_owner = holds (λ t. is_owner (lists (owners s) (crate_of a)) t.account) (token_of s digest);
+  is_visible = holds (visible s digest) (crate_of a);
+  is_owner = holds (λ t. is_among (lists (owners s) (crate_of a)) t.account) (token_of s digest);
   is_reserved = holds (is_reserved s) (crate_of a);
   has_version = list_any (λ p. bytes_eq p.version (version_of a)) (lists (versions s) (crate_of a));
   has_release = list_any (λ p. same_release p.version (version_of a))
       (lists (versions s) (crate_of a));
+}
+
+unfoldable pub counts : Registry → Action → Counts
+counts s a = record {
   versions = length (lists (versions s) (crate_of a));
   crates = crates s;
   are_known = list_all (is_known s) (logins_of a);
   are_owners = list_all (has_login (lists (owners s) (crate_of a))) (logins_of a);
   are_all_owners = list_all (λ o. is_named (logins_of a) o.1.login) (lists (owners s) (crate_of a));
-  limits = limits;
 }

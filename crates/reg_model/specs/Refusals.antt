@@ -1,12 +1,10 @@
 -- What refuses a request, and what refuses a command.
-use Rattle.std.specs.Prelude.{◌==◌, ◌&&◌, ◌||◌, nat_le, nat_lt, Bool, true, not, is_none, is_some, List, [], ◌∷◌, length, codes, Option, Some, None}
+use Rattle.std.specs.Prelude.{◌==◌, ◌&&◌, ◌||◌, nat_le, nat_lt, Bool, not, is_none, is_some, List, [], ◌∷◌, length, Option, Some, None, true, codes}
 use Rattle.std.specs.Option.{option_map}
-use Rattle.std.specs.List.{find, list_any, list_all}
-use Rattle.std.specs.Str.{bytes_eq}
+use Rattle.std.specs.List.{find, list_all, list_any}
 use Rattle.reg_names.specs.Names.{is_name}
 use Rattle.reg_names.specs.Logins.{is_login}
 use Rattle.reg_names.specs.Patterns.{is_pattern}
-use Rattle.reg_model.specs.declared.endpoint.Endpoints.{Endpoints}
 use Rattle.reg_model.specs.declared.rule.Rule.{Rule}
 use Rattle.reg_model.specs.declared.rule.Rule.TheVariants as rule
 use Rattle.reg_model.specs.declared.rule.AdminRefusal.{AdminRefusal}
@@ -15,20 +13,16 @@ use Rattle.reg_body.specs.declared.limits.Limits.{Limits}
 use Rattle.reg_model.specs.Registry.{Text, Registry, id_of_login, token_of, with_id}
 use Rattle.reg_model.specs.Crates.{exists}
 use Rattle.reg_model.specs.Events.{Asked, Command, action_of, fault_of}
-use Rattle.reg_model.specs.Events.Command.{UserAdd, UserDisable, UserEnable, TokenAdd, TokenRevoke, Reserve, Unreserve, OwnerAdd}
-use Rattle.reg_model.specs.Facts.{facts, is_named}
+use Rattle.reg_model.specs.Events.Command.{UserAdd, UserDisable, UserEnable, TokenAdd, TokenRevoke, Reserve, Unreserve, OwnerAdd, Access, Users, Tokens, Crates, CrateRestrict, CrateOpen, ReaderAdd, ReaderRemove}
+use Rattle.reg_model.specs.Facts.{access_facts, counts, is_named}
+use Rattle.reg_model.specs.Actions.{Action}
 use Rattle.reg_model.specs.Rules.{verdict}
+use Rattle.std.specs.Str.{bytes_eq}
+use Rattle.reg_model.specs.declared.endpoint.Endpoints.{Endpoints}
 
 abbrev pub or_else : Option Rule → Option Rule → Option Rule
 or_else None then = then
 or_else (Some r) then = Some r
-
--- The rule that refuses a request: first that there is a token, then the rules on the state, then
--- what the body or the query breaks.
-unfoldable pub denied : Limits → Registry → Option Text → Asked → Option Rule
-denied limits s None asked = Some rule.A1
-denied limits s (Some digest) asked = or_else
-    (verdict (facts limits s digest (action_of asked)) (action_of asked)) (fault_of asked)
 
 -- an account's name: 1 to 100 characters from space to `~`
 abbrev pub is_account_name : Text → Bool
@@ -64,16 +58,34 @@ abbrev pub patterns_given : List Text → List Text
 patterns_given [] = codes "*" ∷ []
 patterns_given (p ∷ ps) = p ∷ ps
 
+-- the first rule on the state that the token's action breaks
+abbrev pub judged : Limits → Registry → Text → Action → Option Rule
+judged limits s digest a = verdict limits (access_facts s digest a) (counts s a) a
+
+-- The rule that refuses a request: first that there is a token, then the rules on the state, then
+-- what the body or the query breaks.
+unfoldable pub denied : Limits → Registry → Option Text → Asked → Option Rule
+denied limits s None asked = Some rule.A1
+denied limits s (Some digest) asked = or_else (judged limits s digest (action_of asked))
+    (fault_of asked)
+
+-- whether no account has the login; whether no crate is there
+abbrev pub no_login : Registry → Text → AdminRefusal × Bool
+no_login s login = (refusal.G3, is_none (id_of_login s login))
+
+abbrev pub no_crate : Registry → Text → AdminRefusal × Bool
+no_crate s n = (refusal.G8, not (is_name n && exists s n))
+
 -- What refuses each command, in its order, with the test of each.
 abbrev pub grounds : Limits → Registry → Command → List (AdminRefusal × Bool)
 grounds limits s (UserAdd login name) =
     (refusal.G1, not (is_login login && may_name name))
     ∷ (refusal.G2, is_some (id_of_login s login))
     ∷ (refusal.G7, nat_le limits.accounts (length s.accounts)) ∷ []
-grounds limits s (UserDisable login) = (refusal.G3, is_none (id_of_login s login)) ∷ []
-grounds limits s (UserEnable login) = (refusal.G3, is_none (id_of_login s login)) ∷ []
+grounds limits s (UserDisable login) = no_login s login ∷ []
+grounds limits s (UserEnable login) = no_login s login ∷ []
 grounds limits s (TokenAdd login words patterns digest) =
-    (refusal.G3, is_none (id_of_login s login))
+    no_login s login
     ∷ (refusal.G9, length words == 0 || not (list_all is_endpoint words))
     ∷ (refusal.G4, not (list_all is_pattern patterns))
     ∷ (
@@ -85,9 +97,15 @@ grounds limits s (TokenAdd login words patterns digest) =
 grounds limits s (TokenRevoke id) = (refusal.G6, is_none (with_id s.tokens id)) ∷ []
 grounds limits s (Reserve n) = (refusal.G4, not (is_name n)) ∷ []
 grounds limits s (Unreserve n) = (refusal.G4, not (is_name n)) ∷ []
-grounds limits s (OwnerAdd n login) =
-    (refusal.G8, not (is_name n && exists s n))
-    ∷ (refusal.G3, is_none (id_of_login s login)) ∷ []
+grounds limits s (OwnerAdd n login) = no_crate s n ∷ no_login s login ∷ []
+grounds limits s (Access n) = (refusal.G4, not (is_name n)) ∷ []
+grounds limits s Users = []
+grounds limits s Tokens = []
+grounds limits s Crates = []
+grounds limits s (CrateRestrict n) = no_crate s n ∷ []
+grounds limits s (CrateOpen n) = no_crate s n ∷ []
+grounds limits s (ReaderAdd n login) = no_crate s n ∷ no_login s login ∷ []
+grounds limits s (ReaderRemove n login) = no_crate s n ∷ no_login s login ∷ []
 
 -- The first ground whose test passes.
 unfoldable pub refused : Limits → Registry → Command → Option AdminRefusal

@@ -1,19 +1,19 @@
 -- A sound state: its texts are well formed, and all that it names is there.
-use Rattle.std.specs.Prelude.{◌≡◌, ℕ, ◌==◌, ◌&&◌, ◌||◌, nat_lt, Bool, true, false, is_some, List, length}
+use Rattle.std.specs.Prelude.{◌≡◌, ℕ, ◌&&◌, Bool, true, false, is_some, ◌==◌, ◌||◌, nat_lt, List, length}
 use Rattle.std.specs.List.{list_any, list_all, IsDistinct, AllByRecursion}
 use Rattle.std.specs.Str.{bytes_eq}
 use Rattle.std.specs.Ordering.{on, eq_of_both}
 use Rattle.std.specs.FinSet as finset
 use Rattle.reg_names.specs.Names.{canon, is_name}
+use Rattle.reg_line.specs.Base.{is_base}
+use Rattle.reg_model.specs.Registry.{Text, Registry, with_id, holds, Account, Token, Publication}
+use Rattle.reg_model.specs.Crates.{has_crate, first, is_reserved_always}
+use Rattle.reg_model.specs.Steps.{IsGenuine}
 use Rattle.reg_names.specs.Logins.{is_login}
 use Rattle.reg_names.specs.Patterns.{is_pattern}
 use Rattle.reg_model.specs.declared.endpoint.Endpoints.{Endpoints}
 use Rattle.reg_versions.specs.Versions.{release_key_of}
-use Rattle.reg_line.specs.Base.{is_base}
-use Rattle.reg_model.specs.Registry.{Text, Account, Token, Publication, Registry, with_id, holds}
-use Rattle.reg_model.specs.Crates.{has_crate, first, is_reserved_always}
 use Rattle.reg_model.specs.Refusals.{may_name}
-use Rattle.reg_model.specs.Steps.{IsGenuine}
 
 abbrev pub is_account : Account → Bool
 is_account a = is_login a.login && may_name a.name
@@ -57,3 +57,7 @@ pub record Sound (s : Registry) : Type 0 where
   -- reserved always
   pub reserved : (c : Text) → finset.contains s.reserved c ≡ true
       → ((n : Text) × (is_name n ≡ true) × (canon n ≡ c)) × (is_reserved_always c ≡ false)
+  -- what is restricted is a crate, and each reader is an account and reads a crate that is there
+  pub restricted : (c : Text) → finset.contains s.restricted c ≡ true → has_crate s c ≡ true
+  pub readers : (c : Text) (id : ℕ) → finset.contains s.readers (c, id) ≡ true
+      → (has_crate s c ≡ true) × (is_some (with_id s.accounts id) ≡ true)

@@ -1,6 +1,6 @@
 //! Laws of the definitions, each the contract of a function that does nothing.
 
-ghost use Rattle.reg_model.specs.Laws.{DenialsKeep, EmptySound, IndexPathsAreOfCrates, RefusalsKeep, RunsJoin, RunsKeepSound, StemsGrow, StepsAgree, StepsKeepSound, StepsRun};
+ghost use Rattle.reg_model.specs.Laws.{AccessComesFirst, DenialsKeep, DenialsName, EmptySound, GrantsArePolicy, IndexPathsAreOfCrates, PlainMatches, PlainVerdicts, RefusalsKeep, RunsJoin, RunsKeepSound, SightAnswers, StemsGrow, StepsAgree, StepsKeepSound, StepsRun, WiderAllows, WiderOrders};
 
 /// Steps in a row are a run.
 pub fn run_law()
@@ -14,14 +14,26 @@ pub fn denial_law()
     ensures refused { RefusalsKeep }
 {}
 
+/// A request is answered with its first broken rule exactly where it breaks one, want of memory
+/// aside.
+pub fn names_law()
+    ensures { DenialsName }
+{}
+
+/// The rules on access come first.
+pub fn access_law()
+    ensures { AccessComesFirst }
+{}
+
 /// An event has one answer and one state after it, want of memory aside.
 pub fn agreement_law()
     ensures { StepsAgree }
 {}
 
-/// Index files only grow, their yanked marks aside.
+/// Index files only grow, their yanked marks aside, and every state that is reached is sound.
 pub fn growth_law()
-    ensures { StemsGrow }
+    ensures grows { StemsGrow }
+    ensures sound { RunsKeepSound }
 {}
 
 /// What begins sound stays sound.
@@ -31,7 +43,29 @@ pub fn soundness_law()
     ensures run { RunsKeepSound }
 {}
 
-/// An index path is allowed exactly where it is that of the spelling of a crate that is there.
+/// An index path is allowed exactly where it is that of the spelling of a crate that is visible.
 pub fn index_law()
     ensures { IndexPathsAreOfCrates }
+{}
+
+/// The report on who may act lists exactly what the rules on access let pass.
+pub fn grant_law()
+    ensures { GrantsArePolicy }
+{}
+
+/// What a token is answered depends on what it may see alone, publishing and adding owners aside.
+pub fn sight_law()
+    ensures { SightAnswers }
+{}
+
+/// Where no crate is restricted all is as without visibility.
+pub fn plain_law()
+    ensures verdicts { PlainVerdicts }
+    ensures matches { PlainMatches }
+{}
+
+/// What is allowed under some limits is allowed under wider ones.
+pub fn wider_law()
+    ensures requests { WiderAllows }
+    ensures commands { WiderOrders }
 {}

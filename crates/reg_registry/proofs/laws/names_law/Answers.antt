@@ -1,5 +1,0 @@
-use Rattle.reg_registry.proofs.Denials.{denials_name}
-use Rattle.reg_registry.proofs.laws.names_law.Goals as goal
-
-pub returns : goal.returns
-returns c = denials_name

@@ -1,5 +1,0 @@
-use Rattle.reg_registry.proofs.SightAnswers.{sight_answers}
-use Rattle.reg_registry.proofs.laws.sight_law.Goals as goal
-
-pub returns : goal.returns
-returns c limits s t digest asked one ok = sight_answers s t digest one limits asked ok
