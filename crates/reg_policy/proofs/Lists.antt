@@ -1,11 +1,7 @@
 -- Tests over a mapped list.
 use Rattle.std.proofs.Common.{◌≡◌, List, [], ◌∷◌, Bool, refl, ap}
-use Rattle.std.specs.Prelude.{map, ◌||◌, ◌&&◌}
-use Rattle.std.specs.List.{list_any, list_all}
-
-pub list_any_map : {X Y : Type 0} (p : Y → Bool) (f : X → Y) (xs : List X) → list_any p (map f xs) ≡ list_any (λ x. p (f x)) xs
-list_any_map p f [] = refl
-list_any_map p f (x ∷ xs) = ap (λ b. p (f x) || b) (list_any_map p f xs)
+use Rattle.std.specs.Prelude.{map, ◌&&◌}
+use Rattle.std.specs.List.{list_all}
 
 pub list_all_map : {X Y : Type 0} (p : Y → Bool) (f : X → Y) (xs : List X) → list_all p (map f xs) ≡ list_all (λ x. p (f x)) xs
 list_all_map p f [] = refl

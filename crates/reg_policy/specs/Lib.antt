@@ -1,9 +1,4 @@
 pub mod Words
 pub mod Views
 pub mod Events
-pub mod Accounts
-pub mod Tokens
-pub mod Sets
-pub mod Publications
-pub mod Plain
 pub mod Rows

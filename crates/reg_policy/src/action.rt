@@ -67,6 +67,10 @@ pub struct Rows<'a> {
     pub versions: &'a [&'a str],
     /// Whether the crate's name is reserved.
     pub reserved: bool,
+    /// Whether only its owners and readers may see the crate.
+    pub restricted: bool,
+    /// The ids of the crate's readers.
+    pub readers: &'a [u32],
     /// How many crates there are.
     pub crates: u64,
     /// For each login that the action names, whether an enabled account has it.

@@ -3,14 +3,15 @@
 ghost use Rattle.std.specs.Prelude.{◌≡◌, ◌==◌, map};
 ghost use Rattle.std.specs.List.{list_all, list_any};
 ghost use Rattle.std.specs.Str.{bytes_eq};
+ghost use Rattle.reg_names.specs.Names.{path_of};
 ghost use Rattle.reg_names.specs.Patterns.{covers};
 ghost use Rattle.reg_body.specs.declared.limits.Limits.{Limits};
 ghost use Rattle.reg_model.specs.Registry.{Registry, Text, holds};
-ghost use Rattle.reg_model.specs.Facts.{facts};
+ghost use Rattle.reg_model.specs.Refusals.{judged};
 ghost use Rattle.reg_model.specs.Crates.{same_release as same_release_of};
 ghost use Rattle.reg_model.specs.Actions.{crate_of, logins_of, version_of};
 ghost use Rattle.reg_model.specs.Rules.{broken as broken_of, has_endpoint, is_absent, is_misspelled, lacks, needed, order as order_of, verdict};
-ghost use Rattle.reg_policy.specs.Views.{action_of, decision_of, endpoints_of, facts_of};
+ghost use Rattle.reg_policy.specs.Views.{access_of, action_of, counts_of, decision_of, endpoints_of, is_admitted, is_seen, spelling_of};
 ghost use Rattle.reg_policy.specs.Rows.{IsRowsOf};
 
 use crate::action::{Action, Decision, OwnerRow, Rows};
@@ -82,8 +83,7 @@ const REMOVING: [Rule; 9] = [
 
 /// The rules that an action is asked, in their order.
 fn order(rows: &Rows, action: &Action) -> &'static [Rule]
-    ensures { result.now ≡ order_of (facts_of rows.now (action_of action.now))
-        (action_of action.now) }
+    ensures { result.now ≡ order_of (spelling_of rows.now) (action_of action.now) }
 {
     match action {
         Action::Read => &READING,
@@ -122,7 +122,7 @@ fn version_of<'a>(action: &Action<'a>) -> &'a str
 }
 
 /// The logins that an action names.
-pub(crate) fn logins_of<'a>(action: &Action<'a>) -> &'a [&'a str]
+pub fn logins_of<'a>(action: &Action<'a>) -> &'a [&'a str]
     ensures { map (λ l. l.now) result.now ≡ logins_of (action_of action.now) }
 {
     match action {
@@ -140,7 +140,7 @@ pub(crate) fn logins_of<'a>(action: &Action<'a>) -> &'a [&'a str]
 
 /// The endpoint that an action needs.
 fn needed(rows: &Rows, action: &Action) -> Option<Endpoint>
-    ensures { result ≡ needed (facts_of rows.now (action_of action.now)) (action_of action.now) }
+    ensures { result ≡ needed (spelling_of rows.now) (action_of action.now) }
 {
     match action {
         Action::Read => None,
@@ -175,7 +175,7 @@ fn has_endpoint(endpoints: &Endpoints, endpoint: Endpoint) -> bool
 /// Whether the token has not the endpoint that the action needs. An unknown token has none.
 fn lacks_endpoint(rows: &Rows, action: &Action) -> bool
     ensures { result ≡ lacks (endpoints_of rows.now.token)
-        (needed (facts_of rows.now (action_of action.now)) (action_of action.now)) }
+        (needed (spelling_of rows.now) (action_of action.now)) }
 {
     match needed(rows, action) {
         Some(endpoint) => match &rows.token {
@@ -199,7 +199,7 @@ fn is_covered(patterns: &[Pattern], name: &CrateName) -> bool
 
 /// The name of the crate that an action is about; none where the text in its place is no crate
 /// name.
-pub(crate) fn crate_of(action: &Action) -> Option<CrateName>
+pub fn crate_of(action: &Action) -> Option<CrateName>
     ensures { result ≡ crate_of (action_of action.now) }
 {
     match action {
@@ -226,27 +226,52 @@ fn is_crate_covered(patterns: &[Pattern], action: &Action) -> bool
     }
 }
 
+/// Whether the token's account is among the crate's owners or readers.
+fn is_admitted(rows: &Rows) -> bool
+    ensures { result ≡ is_admitted rows.now }
+{
+    match &rows.token {
+        Some(token) => is_owner(rows, token.account) || is_reader(rows, token.account),
+        None => false,
+    }
+}
+
+/// Whether the token sees the crate: it is there, and it is not restricted, or the account is
+/// admitted.
+fn is_seen(rows: &Rows) -> bool
+    ensures { result ≡ is_seen rows.now }
+{
+    rows.first.is_some() && (!rows.restricted || is_admitted(rows))
+}
+
+/// Whether the path is that of the crate.
+fn has_path(rows: &Rows, path: &str) -> bool
+    ensures { result ≡ holds (λ n. bytes_eq (path_of n) path.now) (spelling_of rows.now) }
+{
+    match rows.first {
+        Some(name) => same_text(index_path(name).as_str(), path),
+        None => false,
+    }
+}
+
 fn is_absent(rows: &Rows, action: &Action) -> bool
-    ensures { result ≡ is_absent (facts_of rows.now (action_of action.now)) (action_of action.now) }
+    ensures { result ≡ is_absent (access_of rows.now (action_of action.now)) (action_of action.now) }
 {
     match action {
-        Action::Read => rows.first.is_none(),
-        Action::Index(path) => match rows.first {
-            Some(name) => !same_text(index_path(name).as_str(), path),
-            None => true,
-        },
-        Action::Download(_, _) => rows.first.is_none(),
-        Action::ListOwners(_) => rows.first.is_none(),
-        Action::Publish(_, _) => rows.first.is_none(),
-        Action::Yank(_, _) => rows.first.is_none(),
-        Action::Unyank(_, _) => rows.first.is_none(),
-        Action::AddOwners(_, _) => rows.first.is_none(),
-        Action::RemoveOwners(_, _) => rows.first.is_none(),
+        Action::Index(path) => !(is_seen(rows) && has_path(rows, path)),
+        Action::Read => !is_seen(rows),
+        Action::Download(_, _) => !is_seen(rows),
+        Action::ListOwners(_) => !is_seen(rows),
+        Action::Publish(_, _) => !is_seen(rows),
+        Action::Yank(_, _) => !is_seen(rows),
+        Action::Unyank(_, _) => !is_seen(rows),
+        Action::AddOwners(_, _) => !is_seen(rows),
+        Action::RemoveOwners(_, _) => !is_seen(rows),
     }
 }
 
 fn is_misspelled(rows: &Rows, action: &Action) -> bool
-    ensures { result ≡ is_misspelled (facts_of rows.now (action_of action.now))
+    ensures { result ≡ is_misspelled (access_of rows.now (action_of action.now))
         (action_of action.now) }
 {
     match action {
@@ -265,7 +290,8 @@ fn is_misspelled(rows: &Rows, action: &Action) -> bool
     }
 }
 
-pub(crate) fn same_text(one: &str, other: &str) -> bool
+/// Whether two texts are the same bytes.
+pub fn same_text(one: &str, other: &str) -> bool
     ensures { result ≡ bytes_eq one.now other.now }
 {
     one == other
@@ -281,6 +307,12 @@ fn is_owner(rows: &Rows, id: u32) -> bool
     ensures { result ≡ list_any (λ o. o.id == id) rows.now.owners.now }
 {
     rows.owners.iter().any(|owner| has_id(owner, id))
+}
+
+fn is_reader(rows: &Rows, id: u32) -> bool
+    ensures { result ≡ list_any (λ reader. reader == id) rows.now.readers.now }
+{
+    rows.readers.contains(&id)
 }
 
 fn has_version(rows: &Rows, version: &str) -> bool
@@ -334,10 +366,10 @@ fn are_all_owners(rows: &Rows, logins: &[&str]) -> bool
 }
 
 /// Whether the action breaks the rule.
-#[tactic(auto, using(crate::proofs::Lists::list_any_map))]
+#[tactic(auto, using(reg_model::proofs::Lists::list_any_map))]
 fn broken(rows: &Rows, action: &Action, rule: Rule) -> bool
-    ensures { result ≡ broken_of (facts_of rows.now (action_of action.now))
-        (action_of action.now) rule }
+    ensures { result ≡ broken_of rows.now.limits.now (access_of rows.now (action_of action.now))
+        (counts_of rows.now (action_of action.now)) (action_of action.now) rule }
 {
     match rule {
         Rule::A2 => rows.token.is_none(),
@@ -371,7 +403,8 @@ fn broken(rows: &Rows, action: &Action, rule: Rule) -> bool
 /// The first rule of the action's order that it breaks.
 #[tactic(auto, unfolding(reg_model::specs::Rules::verdict))]
 fn first_broken(rows: &Rows, action: &Action) -> Decision
-    ensures { result ≡ decision_of (verdict (facts_of rows.now (action_of action.now))
+    ensures { result ≡ decision_of (verdict rows.now.limits.now
+        (access_of rows.now (action_of action.now)) (counts_of rows.now (action_of action.now))
         (action_of action.now)) }
 {
     for rule in order(rows, action) {
@@ -385,11 +418,12 @@ fn first_broken(rows: &Rows, action: &Action) -> Decision
 /// The first rule on the state that the action breaks, in the order of its line. Whether there is a
 /// token, and what its body or query breaks, is judged before.
 pub fn decide(rows: &Rows, action: &Action) -> Decision
-    ensures facts { result ≡ decision_of (verdict (facts_of rows.now (action_of action.now))
+    ensures facts { result ≡ decision_of (verdict rows.now.limits.now
+        (access_of rows.now (action_of action.now)) (counts_of rows.now (action_of action.now))
         (action_of action.now)) }
     ensures policy { (limits : Limits) (s : Registry) (digest : Text) → IsRowsOf limits s digest
         (action_of action.now) rows.now → result ≡ decision_of
-        (verdict (facts limits s digest (action_of action.now)) (action_of action.now)) }
+        (judged limits s digest (action_of action.now)) }
 {
     first_broken(rows, action)
 }

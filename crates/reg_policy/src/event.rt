@@ -60,6 +60,21 @@ pub enum AdminCommand<'a> {
     Unreserve(&'a str),
     /// A crate and a login.
     OwnerAdd(&'a str, &'a str),
+    /// Reports who may act on a crate, and who reads it.
+    Access(&'a str),
+    /// Reports all accounts.
+    Users,
+    /// Reports all tokens.
+    Tokens,
+    /// Reports all crates.
+    Crates,
+    /// Lets only its owners and readers see a crate.
+    CrateRestrict(&'a str),
+    /// Lets all see it.
+    CrateOpen(&'a str),
+    /// A crate and a login.
+    ReaderAdd(&'a str, &'a str),
+    ReaderRemove(&'a str, &'a str),
 }
 
 /// A request or a command.
@@ -79,11 +94,13 @@ pub struct OwnerEntry {
 }
 
 /// What a command that is done is answered.
-#[derive(Clone, Copy, Debug, PartialEq, Eq)]
+#[derive(Drop)]
 pub enum AdminReply {
     Done,
     /// The id of what was added.
     Id(u32),
+    /// A report.
+    Text(String),
 }
 
 /// What an event is answered.

@@ -1,29 +1,20 @@
-//! The rules as code, and a plain registry that follows them.
+//! The rules as code: what is asked, the rows that a decision is made from, and the words of
+//! refusals.
 #![tactic(auto)]
 
-mod accounts;
 mod action;
-mod asking;
-mod commands;
 mod deciding;
 mod event;
-mod owners;
-mod plain;
-mod publications;
 mod reserved;
-mod rows;
-mod tokens;
 mod words;
 mod words_given;
-mod yanked;
 
 pub use action::{Action, Decision, OwnerRow, Rows, TokenFacts};
-pub use deciding::decide;
+pub use deciding::{crate_of, decide, logins_of, same_text};
 pub use event::{
     AdminCommand, AdminReply, Answer, Asked, Event, NewPublication, OwnerEntry, Reading, action_of,
 };
-pub use plain::PlainRegistry;
 pub use reg_model::{AdminRefusal, Endpoint, Endpoints, Rule};
 pub use reserved::is_reserved_always;
 pub use words::{admin_text, rule_status, rule_text};
-pub use words_given::may_name;
+pub use words_given::{are_endpoints, endpoints_named, may_name, parse_patterns};

@@ -60,7 +60,7 @@ fn all_endpoints(words: &[&str]) -> bool
 
 /// Whether each word names an endpoint.
 #[tactic(auto, using(crate::proofs::Lists::list_all_map))]
-pub(crate) fn are_endpoints(words: &[&str]) -> bool
+pub fn are_endpoints(words: &[&str]) -> bool
     ensures { result ≡ list_all is_endpoint (map (λ w. w.now) words.now) }
 {
     all_endpoints(words)
@@ -73,8 +73,8 @@ fn is_among(words: &[&str], endpoint: &str) -> bool
 }
 
 /// The endpoints that the words name.
-#[tactic(auto, using(crate::proofs::Lists::list_any_map))]
-pub(crate) fn endpoints_named(words: &[&str]) -> Endpoints
+#[tactic(auto, using(reg_model::proofs::Lists::list_any_map))]
+pub fn endpoints_named(words: &[&str]) -> Endpoints
     ensures { result ≡ endpoints_named_by (map (λ w. w.now) words.now) }
 {
     Endpoints {
@@ -113,10 +113,7 @@ fn or_all_names(mut patterns: Vec<Pattern>) -> Result<Vec<Pattern>, AllocError>
 
 /// The patterns that are given, or the one that covers all names where none is; none where a text
 /// is no pattern.
-pub(crate) fn parse_patterns(
-    alloc: Global,
-    texts: &[&str],
-) -> Result<Option<Vec<Pattern>>, AllocError>
+pub fn parse_patterns(alloc: Global, texts: &[&str]) -> Result<Option<Vec<Pattern>>, AllocError>
     ensures { IfOk result (λ o. option_map (λ v. v.items) o
         ≡ (if list_all is_pattern (map (λ t. t.now) texts.now) then Some
         (patterns_given (map (λ t. t.now) texts.now)) else None)) }

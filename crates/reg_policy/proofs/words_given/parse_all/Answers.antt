@@ -1,5 +1,5 @@
 use Rattle.std.proofs.Common.{◌<◌, length, arith, ◌∙◌}
-use Rattle.reg_policy.proofs.Listed.{text_is_none, text_is_pattern}
+use Rattle.reg_policy.proofs.PatternTexts.{text_is_none, text_is_pattern}
 use Rattle.reg_policy.proofs.words_given.parse_all.Goals as goal
 
 pub returns-in-None : goal.returns-in-None

@@ -1,0 +1,5 @@
+pub mod Allowed
+pub mod Joined
+pub mod Listed
+pub mod Published
+pub mod SetViews

@@ -1,0 +1,5 @@
+pub mod Accounts
+pub mod Tokens
+pub mod Sets
+pub mod Publications
+pub mod Plain
