@@ -1,5 +1,5 @@
 -- What is asked of a list of accounts.
-use Rattle.std.specs.Prelude.{ℕ, Bool, List, Option, string_bytes}
+use Rattle.std.specs.Prelude.{ℕ, Bool, List, [], Option, string_bytes, unwrap_or}
 use Rattle.std.specs.Option.{option_map}
 use Rattle.std.specs.List.{filter, enumerate_from, position_from}
 use Rattle.std.specs.Str.{bytes_eq}
@@ -23,6 +23,10 @@ id_in accounts login = position_from (λ a. bytes_eq a.login login) 1 accounts
 abbrev pub is_known_in : List model.Account → Text → Bool
 is_known_in accounts login = holds (λ id. holds (λ a. a.enabled) (with_id accounts id))
     (id_in accounts login)
+
+-- the login of the account with this id
+abbrev pub login_in : List model.Account → ℕ → Text
+login_in accounts id = unwrap_or (option_map (λ a. a.login) (with_id accounts id)) []
 
 -- the accounts that own a crate, each behind its id, by id
 abbrev pub owned : finset.FinSet owner_cmp → Text → List model.Account → List (ℕ × model.Account)

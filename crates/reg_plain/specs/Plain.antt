@@ -1,9 +1,18 @@
 -- The registry that the vectors stand for.
-use Rattle.std.specs.Prelude.{◌≡◌, ℕ, ◌&&◌, if◌then◌else◌, Option, Some, None, Result, Ok, Err, codes}
+use Rattle.std.specs.Prelude.{◌≡◌, ℕ, ◌&&◌, if◌then◌else◌, Option, Some, None, Result, Ok, Err, List, [], length, codes, unwrap_or}
 use Rattle.reg_names.specs.Names.{is_name}
 use Rattle.reg_model.specs.declared.rule.AdminRefusal.{AdminRefusal}
-use Rattle.reg_model.specs.declared.rule.AdminRefusal.TheVariants.{G3, G8}
-use Rattle.reg_model.specs.Crates.{exists}
+use Rattle.reg_model.specs.declared.rule.AdminRefusal.TheVariants.{G3, G8, G10}
+use Rattle.reg_model.specs.Crates.{exists, first, versions}
+use Rattle.reg_model.specs.Grants.{all_endpoints, is_granted}
+use Rattle.reg_model.specs.Reports.{crate_line, grant_line, login_of_token}
+use Rattle.reg_model.specs.Search.{top}
+use Rattle.std.specs.List.{filter, flat_map}
+use Rattle.std.specs.Option.{option_map}
+use Rattle.std.specs.declared.string.String.{String}
+use Rattle.std.specs.declared.alloc.AllocError.{AllocError}
+use Rattle.reg_policy.specs.declared.event.AdminReply.{AdminReply}
+use Rattle.reg_policy.specs.declared.event.AdminReply.TheVariants.{Text as Told}
 use Rattle.reg_body.specs.declared.limits.Limits.{Limits}
 use Rattle.reg_model.specs.Registry as model
 use Rattle.reg_model.specs.Events as events
@@ -43,3 +52,17 @@ or_unknown (Some id) = Ok id
 
 abbrev pub login_found : model.Registry → model.Text → Result ℕ AdminRefusal
 login_found s login = or_unknown (model.id_of_login s login)
+
+-- what a report is told by, or that no room was left for it
+abbrev pub told_of : Result String AllocError → Result AdminReply AdminRefusal
+told_of (Ok text) = Ok (Told text)
+told_of (Err e) = Err G10
+
+-- the lines of a token on a crate, and the line of a crate
+abbrev pub grant_lines : model.Registry → model.Text → ℕ × model.Token → model.Text
+grant_lines s n t = flat_map (λ e. grant_line (t.0, e) (login_of_token s t.0))
+    (filter (is_granted s n t.1) all_endpoints)
+
+abbrev pub line_at : model.Registry → model.Text → model.Text
+line_at s n = crate_line (unwrap_or (first s n) []) (length (versions s n))
+    (unwrap_or (option_map (λ p. p.version) (top s n)) [])

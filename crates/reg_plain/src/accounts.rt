@@ -1,11 +1,11 @@
 //! Accounts, whose ids are their places from 1 on.
 
-ghost use Rattle.std.specs.Prelude.{◌≡◌, ◌≤◌, ◌++◌, [], ◌∷◌, IfOk, OnErr, OnOk, filter_map, length, map};
+ghost use Rattle.std.specs.Prelude.{◌≡◌, ◌≤◌, ◌++◌, [], ◌∷◌, IfOk, OnErr, OnOk, filter_map, is_some, length, map};
 ghost use Rattle.std.specs.List.{position};
 ghost use Rattle.std.specs.Str.{bytes_eq};
 ghost use Rattle.reg_model.specs.Registry.{change_at, holds, with_id};
 ghost use Rattle.reg_model.specs.Effects.{owner_entry};
-ghost use Rattle.reg_plain.specs.Accounts.{account_of, id_in, is_known_in, owned};
+ghost use Rattle.reg_plain.specs.Accounts.{account_of, id_in, is_known_in, login_in, owned};
 ghost use Rattle.reg_policy.specs.Rows.{id_and_login, row_view};
 ghost use Rattle.reg_policy.specs.Events.{entry_of};
 
@@ -74,6 +74,27 @@ impl Accounts {
         self.list.len()
     }
 
+    /// All accounts, by id.
+    pub(crate) fn as_slice(&self) -> &[PlainAccount]
+        ensures accounts { map account_of result.now ≡ self.now }
+        ensures fits { length result.now ≤ 4294967295 }
+    {
+        self.list.as_slice()
+    }
+
+    /// The login of the account with this id; none where it is not there.
+    pub(crate) fn login(&self, id: u32) -> &str
+        ensures { result.now ≡ login_in self.now id }
+    {
+        if id == 0 {
+            return "";
+        }
+        match self.list.get(id as usize - 1) {
+            Some(account) => account.login.as_str(),
+            None => "",
+        }
+    }
+
     /// The id of the account with this login.
     pub(crate) fn id_of(&self, login: &str) -> Option<u32>
         ensures { result ≡ id_in self.now login.now }
@@ -82,6 +103,13 @@ impl Accounts {
             Some(place) => Some(place as u32 + 1),
             None => None,
         }
+    }
+
+    /// Whether there is an account with this id.
+    pub(crate) fn has(&self, id: u32) -> bool
+        ensures { result ≡ is_some (with_id self.now id) }
+    {
+        id != 0 && id as usize <= self.list.len()
     }
 
     /// Whether the account with this id is there and enabled.

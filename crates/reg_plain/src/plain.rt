@@ -3,7 +3,7 @@
 ghost use Rattle.std.specs.Prelude.{◌≡◌, codes};
 ghost use Rattle.std.specs.Option.{option_map};
 ghost use Rattle.reg_model.specs.Registry.{empty_at};
-ghost use Rattle.reg_model.specs.Crates.{is_reserved as is_reserved_in};
+ghost use Rattle.reg_model.specs.Crates.{is_among, is_reserved as is_reserved_in, owners as owners_in};
 ghost use Rattle.reg_model.specs.Effects.{account_of};
 ghost use Rattle.reg_policy.specs.Events.{answer_of, event_of};
 ghost use Rattle.reg_plain.specs.Plain.{PlainStep, limits_of, registry_of};
@@ -61,6 +61,13 @@ impl PlainRegistry {
     {
         let crate_text = canon(name);
         is_reserved_always(&crate_text) || self.reserved.contains(&crate_text)
+    }
+
+    /// Whether the account is there, and owns the crate.
+    pub(crate) fn is_owner(&self, name: &CrateName, account: u32) -> bool
+        ensures { result ≡ is_among (owners_in (registry_of self.now) name.now) account }
+    {
+        self.accounts.has(account) && self.owners.contains(&canon(name), account)
     }
 
     /// The id of the token's account; 0 where the token is unknown.

@@ -1,15 +1,17 @@
 //! What is published, in its order.
 
-ghost use Rattle.std.specs.Prelude.{◌≡◌, ◌≤◌, ◌&&◌, ◌++◌, [], ◌∷◌, IfOk, OnErr, OnOk, length, map, string_bytes};
+ghost use Rattle.std.specs.Prelude.{◌≡◌, ◌≤◌, ◌&&◌, ◌++◌, [], ◌∷◌, IfOk, OnErr, OnOk, length, map, slice_get, string_bytes};
 ghost use Rattle.std.specs.Option.{option_map};
 ghost use Rattle.std.specs.List.{filter, find, list_any};
+ghost use Rattle.std.specs.Ordering.{is_gt};
 ghost use Rattle.std.specs.Str.{bytes_eq};
 ghost use Rattle.std.specs.FinSet as set;
 ghost use Rattle.reg_names.specs.Names.{canon as canon_of};
+ghost use Rattle.reg_versions.specs.Versions.{parts_of};
 ghost use Rattle.reg_line.specs.File.{entry_view};
 ghost use Rattle.reg_model.specs.Crates.{collides as collides_of};
-ghost use Rattle.reg_model.specs.Registry.{text_cmp};
-ghost use Rattle.reg_plain.specs.Publications.{marked_in, publication_of, versions_in};
+ghost use Rattle.reg_model.specs.Registry.{holds, text_cmp};
+ghost use Rattle.reg_plain.specs.Publications.{canons_in, marked_in, place_for, publication_of, put_text, top_in, versions_in};
 ghost use Rattle.reg_policy.specs.Events.{publication_of as new_publication};
 
 use crate::owners::Owners;
@@ -17,6 +19,7 @@ use crate::yanked::Marks;
 use reg_line::Entry;
 use reg_names::{CanonText, CrateName, canon};
 use reg_policy::{NewPublication, same_text};
+use reg_versions::{Release, VersionFault, highest};
 use std::alloc::{AllocError, Global};
 use std::marker::Model;
 
@@ -179,6 +182,31 @@ impl Publications {
         version_texts(alloc, self.list.as_slice(), name)
     }
 
+    /// The highest version of a crate.
+    pub(crate) fn top(
+        &self,
+        alloc: Global,
+        name: &CrateName,
+        yanked: &Marks,
+    ) -> Result<Option<&str>, AllocError>
+        ensures { IfOk result (λ o. option_map (λ v. v.now) o ≡ option_map (λ p. p.version)
+            (top_in yanked.now self.now name.now)) }
+    {
+        let versions = self.versions(alloc, name)?;
+        let releases = releases(alloc, versions.as_slice(), &canon(name), yanked)?;
+        match highest(releases.as_slice()) {
+            Some(place) => Ok(versions.get(place).copied()),
+            None => Ok(None),
+        }
+    }
+
+    /// A name of each crate, in the order of their canonical texts.
+    pub(crate) fn names(&self, alloc: Global) -> Result<Vec<&CrateName>, AllocError>
+        ensures { IfOk result (λ v. map (λ n. canon_of n.now) v.items ≡ canons_in self.now) }
+    {
+        names_of(alloc, self.list.as_slice())
+    }
+
     /// The archive of this very version of a crate.
     pub(crate) fn archive(&self, name: &CrateName, version: &str) -> Option<&[u8]>
         ensures { option_map (λ a. a.now) result ≡ option_map (λ p. p.archive)
@@ -256,6 +284,105 @@ fn count_crates(list: &[Publication]) -> u64
             }
         }
         None => 0,
+    }
+}
+
+fn release_of(alloc: Global, version: &str) -> Result<Release, AllocError>
+    ensures { IfOk result (λ r. r ≡ parts_of version.now) }
+{
+    match Release::parse(alloc, version) {
+        Ok(release) => Ok(release),
+        Err(VersionFault::Bad) => zero(alloc),
+        Err(VersionFault::Memory) => Err(AllocError),
+    }
+}
+
+/// What a text that is no version counts as.
+fn zero(alloc: Global) -> Result<Release, AllocError>
+    ensures { IfOk result (λ r. r ≡ (0, 0, 0, [], [])) }
+{
+    match Release::parse(alloc, "0.0.0") {
+        Ok(release) => Ok(release),
+        Err(_) => Err(AllocError),
+    }
+}
+
+/// The versions of a crate, read, with their marks.
+fn releases(
+    alloc: Global,
+    versions: &[&str],
+    crate_text: &CanonText,
+    yanked: &Marks,
+) -> Result<Vec<(Release, bool)>, AllocError>
+    ensures { IfOk result (λ v. v.items ≡ map (λ t. (parts_of t.now, set.contains yanked.now
+        (crate_text.now, t.now))) versions.now) }
+{
+    let mut releases = Vec::new(alloc);
+    for version in versions {
+        let release = release_of(alloc, version)?;
+        releases.push((release, yanked.contains(crate_text, version)))?;
+    }
+    Ok(releases)
+}
+
+/// Whether the one's canonical text stands behind the other's.
+fn is_behind(one: &CrateName, other: &CrateName) -> bool
+    ensures { result ≡ is_gt (text_cmp (canon_of one.now) (canon_of other.now)) }
+{
+    canon(one).as_str() > canon(other).as_str()
+}
+
+/// How many names at the front the new one stands behind.
+fn place_of(names: &[&CrateName], new: &CrateName) -> usize
+    ensures place { result ≡ place_for (canon_of new.now) (map (λ n. canon_of n.now) names.now) }
+    ensures bound { result ≤ length names.now }
+{
+    match names {
+        [] => 0,
+        [name, more @ ..] => {
+            if is_behind(new, name) {
+                1 + place_of(more, new)
+            } else {
+                0
+            }
+        }
+    }
+}
+
+/// Whether a name of the crate stands at this place.
+fn is_at(names: &[&CrateName], place: usize, name: &CrateName) -> bool
+    ensures { result ≡ holds (λ n. collides_of n.now name.now) (slice_get names.now place) }
+{
+    match names.get(place) {
+        Some(there) => collide(there, name),
+        None => false,
+    }
+}
+
+/// Puts a name in its place, unless one of its crate stands there.
+fn put<'a>(names: &mut Vec<&'a CrateName>, name: &'a CrateName) -> Result<(), AllocError>
+    ensures { OnOk result (map (λ n. canon_of n.now) names.new.items ≡ put_text
+        (canon_of name.now) (map (λ n. canon_of n.now) names.old.items)) }
+{
+    let place = place_of(names.as_slice(), name);
+    if !is_at(names.as_slice(), place, name) {
+        names.insert(place, name)?;
+    }
+    Ok(())
+}
+
+/// A name of each crate that these are publications of, in the order of their canonical texts.
+fn names_of(alloc: Global, list: &[Publication]) -> Result<Vec<&CrateName>, AllocError>
+    ensures { IfOk result (λ v. map (λ n. canon_of n.now) v.items ≡ canons_in
+        (map publication_of list.now)) }
+{
+    match list {
+        [] => Ok(Vec::new(alloc)),
+        [publication, more @ ..] => {
+            let mut names = names_of(alloc, more)?;
+            put(&mut names, &publication.name)?;
+            Ok(names)
+        }
     }
 }
 

@@ -1,6 +1,6 @@
 //! Tokens, whose ids are their places from 1 on.
 
-ghost use Rattle.std.specs.Prelude.{◌≡◌, ◌≤◌, ◌++◌, ◌+◌, [], ◌∷◌, false, is_some, IfOk, OnErr, OnOk, length};
+ghost use Rattle.std.specs.Prelude.{◌≡◌, ◌≤◌, ◌++◌, ◌+◌, [], ◌∷◌, false, is_some, IfOk, OnErr, OnOk, length, map};
 ghost use Rattle.std.specs.Option.{option_map};
 ghost use Rattle.std.specs.List.{find};
 ghost use Rattle.std.specs.Str.{bytes_eq};
@@ -70,12 +70,30 @@ impl Tokens {
         self.list.len()
     }
 
+    /// All tokens, by id.
+    pub(crate) fn as_slice(&self) -> &[PlainToken]
+        ensures tokens { map token_of result.now ≡ self.now }
+        ensures fits { length result.now ≤ 4294967295 }
+    {
+        self.list.as_slice()
+    }
+
     /// The token with this digest.
     pub(crate) fn find(&self, digest: &[u8; 32]) -> Option<&PlainToken>
         ensures { option_map (λ t. token_of t.now) result ≡ find
             (λ t. bytes_eq t.digest digest.now) self.now }
     {
         find_in(&self.list, digest)
+    }
+
+    /// The token with this id.
+    pub(crate) fn get(&self, id: u32) -> Option<&PlainToken>
+        ensures { option_map (λ t. token_of t.now) result ≡ with_id self.now id }
+    {
+        if id == 0 {
+            return None;
+        }
+        self.list.get(id as usize - 1)
     }
 
     /// Whether there is a token with this id.

@@ -1,3 +1,4 @@
 pub mod Lists
 pub mod PatternTexts
+pub mod ReportLines
 pub mod RowFacts

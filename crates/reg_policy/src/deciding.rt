@@ -161,7 +161,8 @@ fn needed(rows: &Rows, action: &Action) -> Option<Endpoint>
     }
 }
 
-fn has_endpoint(endpoints: &Endpoints, endpoint: Endpoint) -> bool
+/// Whether a token with these endpoints has this one.
+pub fn has_endpoint(endpoints: &Endpoints, endpoint: Endpoint) -> bool
     ensures { result ≡ has_endpoint endpoints.now endpoint }
 {
     match endpoint {
@@ -191,7 +192,8 @@ fn lacks_endpoint(rows: &Rows, action: &Action) -> bool
     }
 }
 
-fn is_covered(patterns: &[Pattern], name: &CrateName) -> bool
+/// Whether one of the patterns covers the name.
+pub fn is_covered(patterns: &[Pattern], name: &CrateName) -> bool
     ensures { result ≡ list_any (λ p. covers p name.now) patterns.now }
 {
     patterns.iter().any(|pattern| covers(pattern, name))

@@ -5,16 +5,21 @@
 mod action;
 mod deciding;
 mod event;
+mod report_lines;
 mod reserved;
 mod words;
 mod words_given;
 
 pub use action::{Action, Decision, OwnerRow, Rows, TokenFacts};
-pub use deciding::{crate_of, decide, logins_of, same_text};
+pub use deciding::{crate_of, decide, has_endpoint, is_covered, logins_of, same_text};
 pub use event::{
     AdminCommand, AdminReply, Answer, Asked, Event, NewPublication, OwnerEntry, Reading, action_of,
 };
 pub use reg_model::{AdminRefusal, Endpoint, Endpoints, Rule};
+pub use report_lines::{
+    ENDPOINTS, push_crate_line, push_grant_line, push_reader_line, push_token_line, push_user_line,
+    word_of,
+};
 pub use reserved::is_reserved_always;
 pub use words::{admin_text, rule_status, rule_text};
 pub use words_given::{are_endpoints, endpoints_named, may_name, parse_patterns};
