@@ -9,10 +9,7 @@ use Rattle.reg_model.specs.Reports.{crate_line, grant_line, login_of_token}
 use Rattle.reg_model.specs.Search.{top}
 use Rattle.std.specs.List.{filter, flat_map}
 use Rattle.std.specs.Option.{option_map}
-use Rattle.std.specs.declared.string.String.{String}
-use Rattle.std.specs.declared.alloc.AllocError.{AllocError}
 use Rattle.reg_policy.specs.declared.event.AdminReply.{AdminReply}
-use Rattle.reg_policy.specs.declared.event.AdminReply.TheVariants.{Text as Told}
 use Rattle.reg_body.specs.declared.limits.Limits.{Limits}
 use Rattle.reg_model.specs.Registry as model
 use Rattle.reg_model.specs.Events as events
@@ -54,9 +51,9 @@ abbrev pub login_found : model.Registry → model.Text → Result ℕ AdminRefus
 login_found s login = or_unknown (model.id_of_login s login)
 
 -- what a report is told by, or that no room was left for it
-abbrev pub told_of : Result String AllocError → Result AdminReply AdminRefusal
-told_of (Ok text) = Ok (Told text)
-told_of (Err e) = Err G10
+abbrev pub told_of : {X E : Type 0} → (X → AdminReply) → Result X E → Result AdminReply AdminRefusal
+told_of as_reply (Ok text) = Ok (as_reply text)
+told_of as_reply (Err e) = Err G10
 
 -- the lines of a token on a crate, and the line of a crate
 abbrev pub grant_lines : model.Registry → model.Text → ℕ × model.Token → model.Text

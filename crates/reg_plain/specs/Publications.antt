@@ -52,4 +52,4 @@ put_text t (u ∷ us) = by_order (text_cmp t u) (t ∷ u ∷ us) (u ∷ us) (u �
 -- how many of the texts at the front a text stands behind
 abbrev pub place_for : Text → List Text → ℕ
 place_for t [] = 0
-place_for t (u ∷ us) = if is_gt (text_cmp t u) then 1 + place_for t us else 0
+place_for t (u ∷ us) = if is_gt (text_cmp t u) then place_for t us + 1 else 0

@@ -314,8 +314,11 @@ fn releases(
     crate_text: &CanonText,
     yanked: &Marks,
 ) -> Result<Vec<(Release, bool)>, AllocError>
-    ensures { IfOk result (λ v. v.items ≡ map (λ t. (parts_of t.now, set.contains yanked.now
-        (crate_text.now, t.now))) versions.now) }
+    ensures { IfOk result (λ v. v.items ≡ map (λ t. (
+      parts_of t.now,
+      set.contains yanked.now
+          (crate_text.now, t.now),
+    )) versions.now) }
 {
     let mut releases = Vec::new(alloc);
     for version in versions {
@@ -341,7 +344,7 @@ fn place_of(names: &[&CrateName], new: &CrateName) -> usize
         [] => 0,
         [name, more @ ..] => {
             if is_behind(new, name) {
-                1 + place_of(more, new)
+                place_of(more, new) + 1
             } else {
                 0
             }

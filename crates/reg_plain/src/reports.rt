@@ -9,6 +9,7 @@ ghost use Rattle.reg_model.specs.Grants.{has_right as has_right_in, is_granted a
 ghost use Rattle.reg_model.specs.Reports.{access_text, crates_text, grant_line, login_of_token, reader_line, token_line, tokens_text, user_line, users_text};
 ghost use Rattle.reg_model.specs.Steps.{Step};
 ghost use Rattle.reg_policy.specs.Events.{reply_of};
+ghost use Rattle.reg_policy.specs.declared.event.AdminReply.TheVariants.{Text};
 ghost use Rattle.reg_plain.specs.Accounts.{account_of, login_in};
 ghost use Rattle.reg_plain.specs.Plain.{grant_lines, limits_of, line_at, registry_of, told_of};
 ghost use Rattle.reg_plain.specs.Tokens.{token_of};
@@ -26,7 +27,7 @@ use reg_policy::{
 use std::alloc::AllocError;
 
 fn told(report: Result<String, AllocError>) -> Result<AdminReply, AdminRefusal>
-    ensures { result ≡ told_of report }
+    ensures { result ≡ told_of Text report }
 {
     match report {
         Ok(text) => Ok(AdminReply::Text(text)),
@@ -46,11 +47,7 @@ fn push_user(report: &mut String, id: u32, account: &PlainAccount) -> Result<(),
 }
 
 /// A line for each account, behind so many others.
-fn push_users(
-    report: &mut String,
-    before: u32,
-    accounts: &[PlainAccount],
-) -> Result<(), AllocError>
+fn push_users(report: &mut String, before: u32, accounts: &[PlainAccount]) -> Result<(), AllocError>
     requires { before + length accounts.now ≤ 4294967295 }
     ensures { OnOk result (string_bytes report.new ≡ string_bytes report.old ++ flat_map user_line
         (enumerate_from (before + 1) (map account_of accounts.now))) }
@@ -81,7 +78,14 @@ fn push_tokens(
         [token, more @ ..] => {
             let login = accounts.login(token.account);
             let patterns = token.patterns.as_slice();
-            push_token_line(report, before + 1, login, token.live, &token.endpoints, patterns)?;
+            push_token_line(
+                report,
+                before + 1,
+                login,
+                token.live,
+                &token.endpoints,
+                patterns,
+            )?;
             push_tokens(report, before + 1, more, accounts)
         }
     }
