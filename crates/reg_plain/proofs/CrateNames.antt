@@ -1,15 +1,17 @@
 -- Canonical texts put in their places.
-use Rattle.std.proofs.Common.{◌≡◌, ℕ, suc, ◌+◌, ◌≤◌, List, [], ◌∷◌, ◌++◌, Bool, true, false, cond, Option, Some, None, length, take, drop, refl, sym, ◌∙◌, ap, arith}
+use Rattle.std.proofs.Common.{◌≡◌, ℕ, zero, suc, ◌+◌, ◌≤◌, List, [], ◌∷◌, ◌++◌, Bool, true, false, cond, Option, Some, None, length, take, drop, refl, sym, ◌∙◌, ap, arith}
 use Rattle.std.specs.Prelude.{map, not, slice_get}
+use Rattle.std.specs.Borrow.{Bor}
 use Rattle.std.specs.Str.{bytes_eq}
 use Rattle.std.specs.List.{insert}
+use Rattle.std.specs.Option.{option_map}
 use Rattle.std.specs.Ordering.{is_eq, is_gt}
 use Rattle.std.specs.declared.cmp.Ordering.TheVariants.{Less, Equal, Greater}
 use Rattle.std.specs.Cmp.Lexicographic.{nat_list_cmp_total}
 use Rattle.std.specs.FinMap as finmap
 use Rattle.std.specs.FinMap.Entries as entries
 use Rattle.std.specs.FinMap.Entries.{by_order}
-use Rattle.std.proofs.lemmas.List.{map-append}
+use Rattle.std.proofs.lemmas.List.{drop-map, map-append, take-map}
 use Rattle.reg_model.specs.Registry.{Text, holds, text_cmp}
 use Rattle.reg_model.proofs.Canons.{text_agrees}
 use Rattle.reg_model.proofs.Keys.{text_apart}
@@ -37,6 +39,32 @@ put_at t (u ∷ us) =
     under : (b : Bool) (u : Text) (xs ys : List Text) → u ∷ cond b xs ys ≡ cond b (u ∷ xs) (u ∷ ys)
     under true u xs ys = refl
     under false u xs ys = refl
+
+holds_mapped : {X Y : Type 0} (p : Y → Bool) (f : X → Y) (o : Option X) → holds p (option_map f o) ≡ holds (λ x. p (f x)) o
+holds_mapped p f None = refl
+holds_mapped p f (Some x) = refl
+
+got : (k : ℕ) (names : List (Bor Text)) → slice_get (map (λ n. canon n.now) names) k ≡ option_map (λ n. canon n.now) (slice_get names k)
+got k [] = refl
+got zero (n ∷ ns) = refl
+got (suc k) (n ∷ ns) = got k ns
+
+-- names put by their canonical texts
+module _ (names : List (Bor Text)) (new : Text) (place : ℕ) (at : place ≡ place_for (canon new) (map (λ n. canon n.now) names)) where
+  pub put_there : holds (λ n. bytes_eq (canon n.now) (canon new)) (slice_get names place) ≡ true → map (λ n. canon n.now) names ≡ put_text (canon new) (map (λ n. canon n.now) names)
+  put_there h =
+      let us = map (λ n. canon n.now) names in
+      let is = sym (ap (λ k. holds (λ u. bytes_eq u (canon new)) (slice_get us k)) (sym at) ∙ ap (holds (λ u. bytes_eq u (canon new))) (got place names) ∙ holds_mapped _ (λ n. canon n.now) (slice_get names place) ∙ h) in
+      ap (λ b. cond b us (take (place_for (canon new) us) us ++ canon new ∷ drop (place_for (canon new) us) us)) is ∙ sym (put_at (canon new) us)
+
+  pub put_new : (y : Bor Text) → y.now ≡ new → holds (λ n. bytes_eq (canon n.now) (canon new)) (slice_get names place) ≡ false → map (λ n. canon n.now) (insert names place y) ≡ put_text (canon new) (map (λ n. canon n.now) names)
+  put_new y same h =
+      let us = map (λ n. canon n.now) names in
+      let is = sym (ap (λ k. holds (λ u. bytes_eq u (canon new)) (slice_get us k)) (sym at) ∙ ap (holds (λ u. bytes_eq u (canon new))) (got place names) ∙ holds_mapped _ (λ n. canon n.now) (slice_get names place) ∙ h) in
+      map-append (λ n. canon n.now) (take place names) (y ∷ drop place names)
+      ∙ (λ i. take-map (λ n. canon n.now) place names i ++ canon (same i) ∷ drop-map (λ n. canon n.now) place names i)
+      ∙ ap (λ k. take k us ++ canon new ∷ drop k us) at
+      ∙ ap (λ b. cond b us (take (place_for (canon new) us) us ++ canon new ∷ drop (place_for (canon new) us) us)) is ∙ sym (put_at (canon new) us)
 
 keys-put : (t : Text) (es : List (Text × Unit {0})) → map (λ e. e.0) (entries.put text_cmp t (tt {0}) es) ≡ put_text t (map (λ e. e.0) es)
 keys-put t [] = refl

@@ -1,5 +1,5 @@
 -- What is asked of a list of publications.
-use Rattle.std.specs.Prelude.{ℕ, ◌+◌, if◌then◌else◌, Bool, List, [], ◌∷◌, Option, map, slice_get, string_bytes}
+use Rattle.std.specs.Prelude.{ℕ, suc, if◌then◌else◌, Bool, List, [], ◌∷◌, Option, map, slice_get, string_bytes}
 use Rattle.std.specs.Option.{option_and_then, option_map}
 use Rattle.std.specs.FinMap as finmap
 use Rattle.std.specs.FinMap.Entries.{by_order}
@@ -52,4 +52,4 @@ put_text t (u ∷ us) = by_order (text_cmp t u) (t ∷ u ∷ us) (u ∷ us) (u �
 -- how many of the texts at the front a text stands behind
 abbrev pub place_for : Text → List Text → ℕ
 place_for t [] = 0
-place_for t (u ∷ us) = if is_gt (text_cmp t u) then place_for t us + 1 else 0
+place_for t (u ∷ us) = if is_gt (text_cmp t u) then suc (place_for t us) else 0

@@ -25,4 +25,6 @@ padded_number width digits = simp (append-nil, sub_self, sub-zero)
 pub number_column : (s : _) (width n : ℕ) → s ≡ format_spec 32 3 0 width (2 ^ 64 - 1)
     → styled_decimal s n ≡ right width (decimal n)
 number_column s zero n e = rw e (simp zero-sub)
-number_column s (suc w) n e = rw e (let h : is_bare_number (format_spec 32 3 0 (suc w) (2 ^ 64 - 1)) ≡ false = grind arith in rw h (padded_number (suc w) (decimal n)))
+number_column s (suc w) n e = rw e (rw bare (padded_number (suc w) (decimal n))) where
+  bare : is_bare_number (format_spec 32 3 0 (suc w) (2 ^ 64 - 1)) ≡ false
+  bare = grind arith

@@ -6,15 +6,7 @@ ghost use Rattle.std.specs.List.{filter};
 ghost use Rattle.std.specs.Option.{option_map};
 ghost use Rattle.reg_model.specs.Grants.{all_endpoints};
 ghost use Rattle.reg_model.specs.Registry.{Account, Token};
-ghost use Rattle.reg_model.specs.Reports.{
-  crate_line,
-  grant_line,
-  reader_line,
-  token_line,
-  user_line,
-  with_commas,
-  word_of,
-};
+ghost use Rattle.reg_model.specs.Reports.{crate_line, grant_line, reader_line, token_line, user_line, with_commas, word_of};
 ghost use Rattle.reg_model.specs.Rules.{has_endpoint};
 
 use crate::deciding::has_endpoint;
