@@ -1,5 +1,5 @@
 -- The first check of a list that fails.
-use Rattle.std.proofs.Common.{◌≡◌, List, [], ◌∷◌, ◌++◌, Option, None, Some, true, false, refl, inl, inr}
+use Rattle.std.proofs.Common.{◌≡◌, List, [], ◌∷◌, ◌++◌, Option, None, Some, true, inl, inr}
 use Rattle.std.specs.Prelude.{is_some}
 use Rattle.sqlite.specs.Tree.{Trees}
 use Rattle.reg_stored.specs.declared.all_rows.AllRows.{AllRows}

@@ -65,6 +65,8 @@ with_crates s publications owners yanked old new rests stands changed = record {
   tokens = tokens_stay s.tokens old new rests.tokens rests.scopes stands.tokens;
   crates = changed;
   reserved = reserved_stay s.reserved old new rests.reserved stands.reserved;
+  restricted = stands.restricted;
+  readers = stands.readers;
 }
 
 pub adds_first : (s : Registry) (id owner : ℕ) (p : Publication) (old mid new : Trees) → Sound s → exists s p.name ≡ false → Stands s old → AddsCrate id p.name owner old mid → AddsVersion id p mid new

@@ -179,4 +179,6 @@ with_owners s owners old new others stands changed = record {
   tokens = tokens_stay s.tokens old new (same_tokens 9 old new others (λ e. cc)) (same_scopes 9 old new others (λ e. cc)) stands.tokens;
   crates = changed;
   reserved = reserved_stay s.reserved old new (same_reserved 9 old new others (λ e. cc)) stands.reserved;
+  restricted = stands.restricted;
+  readers = stands.readers;
 }

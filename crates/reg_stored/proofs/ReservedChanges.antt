@@ -74,4 +74,6 @@ with_reserved s reserved old new others stands changed = record {
   tokens = tokens_stay s.tokens old new (same_tokens 14 old new others (λ e. cc)) (same_scopes 14 old new others (λ e. cc)) stands.tokens;
   crates = crates_stay s.publications s.owners s.yanked old new (same_crates 14 old new others (λ e. cc)) (same_owners 14 old new others (λ e. cc)) (same_versions 14 old new others (λ e. cc)) (same_archives 14 old new others (λ e. cc)) stands.crates;
   reserved = changed;
+  restricted = stands.restricted;
+  readers = stands.readers;
 }

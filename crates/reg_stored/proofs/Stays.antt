@@ -86,4 +86,6 @@ with_accounts s accounts old new others stands changed = record {
   tokens = tokens_stay s.tokens old new (same_tokens 1 old new others (λ e. cc)) (same_scopes 1 old new others (λ e. cc)) stands.tokens;
   crates = crates_stay s.publications s.owners s.yanked old new (same_crates 1 old new others (λ e. cc)) (same_owners 1 old new others (λ e. cc)) (same_versions 1 old new others (λ e. cc)) (same_archives 1 old new others (λ e. cc)) stands.crates;
   reserved = reserved_stay s.reserved old new (same_reserved 1 old new others (λ e. cc)) stands.reserved;
+  restricted = stands.restricted;
+  readers = stands.readers;
 }

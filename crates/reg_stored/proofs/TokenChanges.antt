@@ -29,6 +29,8 @@ with_tokens s tokens tree old new apart others stands changed = record {
   crates = crates_stay s.publications s.owners s.yanked old new (same_crates tree old new others (apart 7 (λ e. cc) (λ e. cc))) (same_owners tree old new others (apart 9 (λ e. cc) (λ e. cc))) (same_versions tree old new others (apart 11 (λ e. cc) (λ e. cc)))
       (same_archives tree old new others (apart 13 (λ e. cc) (λ e. cc))) stands.crates;
   reserved = reserved_stay s.reserved old new (same_reserved tree old new others (apart 14 (λ e. cc) (λ e. cc))) stands.reserved;
+  restricted = stands.restricted;
+  readers = stands.readers;
 }
 
 -- a change that leaves the patterns leaves the scopes

@@ -1,11 +1,11 @@
 -- Statements of a transaction, one after another: how far they went, and what a failure leaves.
-use Rattle.std.proofs.Common.{◌≡◌, inl, Ok, Err, Result, OnOk, OnErr, IsErr, refl, arith}
+use Rattle.std.proofs.Common.{◌≡◌, inl, Ok, Err, Result, IsErr, refl, arith}
 use Rattle.sqlite.specs.State.{State, HasCleanDisk, Survives}
 use Rattle.sqlite.proofs.StateLemmas.{survives_then}
 use Rattle.reg_schema.specs.States.{IsInside, IsReady}
 use Rattle.reg_schema.specs.Statements.{IsReading, IsWriting}
-use Rattle.reg_schema.specs.Steps.{Fails, LeavesWithin, Within}
-use Rattle.reg_stored.proofs.Withins.{fails_after, itself_within, refused_fails, then_fails, then_leaves, unchanged_within, within_then}
+use Rattle.reg_schema.specs.Steps.{LeavesWithin, Within}
+use Rattle.reg_stored.proofs.Withins.{itself_within, refused_fails, then_fails, unchanged_within, within_then}
 
 -- they all went well
 pub record Went (a b : State) : Type 0 where

@@ -1,5 +1,5 @@
 -- What each call is on the registry that the rows stand for.
-use Rattle.std.specs.Prelude.{◌≡◌, ℕ, ◌+◌, Bool, true, false, List, [], ◌∷◌, map, filter, length, min, Option, Some, IfSome, Vec, string_bytes}
+use Rattle.std.specs.Prelude.{◌≡◌, ℕ, ◌+◌, Bool, true, false, List, map, filter, length, min, Option, Some, IfSome, Vec, string_bytes}
 use Rattle.std.specs.declared.alloc.Global.{Global}
 use Rattle.std.specs.FinSet as finset
 use Rattle.std.specs.List.{AllByRecursion, enumerate_from, flat_map, list_any}
@@ -10,7 +10,7 @@ use Rattle.sqlite.specs.Tree.{Trees}
 use Rattle.reg_names.specs.Names.{canon}
 use Rattle.reg_schema.specs.Rows.{greatest_number}
 use Rattle.reg_model.specs.declared.endpoint.Endpoints.{Endpoints}
-use Rattle.reg_model.specs.Changes.{with_account, with_enabled, with_owner, with_publication, with_reserved, with_revoked, with_token, with_yanked, without_owner, without_reserved}
+use Rattle.reg_model.specs.Changes.{with_account, with_enabled, with_owner, with_publication, with_revoked, with_token, with_yanked, without_owner}
 use Rattle.reg_model.specs.Crates as model
 use Rattle.reg_model.specs.Crates.{exists, first, has_crate, owners, version, versions}
 use Rattle.reg_model.specs.Registry.{Publication, Registry, Text, text_cmp, with_id}

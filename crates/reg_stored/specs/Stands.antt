@@ -129,3 +129,6 @@ pub record Stands (s : Registry) (db : Trees) : Type 0 where
   pub tokens : StandTokens s.tokens db
   pub crates : StandCrates s.publications s.owners s.yanked db
   pub reserved : StandReserved s.reserved db
+  -- no crate is restricted, and none has readers: there are no tables of these yet
+  pub restricted : s.restricted ≡ finset.empty
+  pub readers : s.readers ≡ finset.empty

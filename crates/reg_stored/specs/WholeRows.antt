@@ -1,5 +1,5 @@
 -- All rows of the tables, read as records.
-use Rattle.std.specs.Prelude.{◌≡◌, List, ℕ, Some, string_bytes}
+use Rattle.std.specs.Prelude.{Some, string_bytes}
 use Rattle.sqlite.specs.Tree.{Trees}
 use Rattle.reg_statements.specs.Abouts.{IsBaseOf}
 use Rattle.reg_statements.specs.Accounts.{AreAccounts}

@@ -60,6 +60,8 @@ stands_empty base db made =
         apart = none_apart (db.trees 14) (crates.1.1.1.1.0 (λ e. cc));
         same = finset.contains-empty text_cmp;
       };
+      restricted = refl;
+      readers = refl;
     }
 
 pub made_stands : (base : Text) (s : State) → IsMade base s.committed × IsAtRest s → Stands (empty_at base) s.now.trees

@@ -1,5 +1,5 @@
 -- The texts of the tests only read.
-use Rattle.std.proofs.Common.{List, ℕ, codes, refl}
+use Rattle.std.proofs.Common.{codes, refl}
 use Rattle.sqlite.specs.Given.{IsPlain}
 use Rattle.sqlite.specs.Listing.{understood}
 use Rattle.sqlite_tied.specs.Compute.{everything}
