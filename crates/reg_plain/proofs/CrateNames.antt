@@ -1,6 +1,6 @@
 -- Canonical texts put in their places.
-use Rattle.std.proofs.Common.{◌≡◌, ℕ, zero, suc, ◌+◌, ◌≤◌, List, [], ◌∷◌, ◌++◌, Bool, true, false, cond, Option, Some, None, length, take, drop, refl, sym, ◌∙◌, ap, arith}
-use Rattle.std.specs.Prelude.{map, not, slice_get}
+use Rattle.std.proofs.Common.{◌≡◌, ℕ, zero, suc, ◌≤◌, List, [], ◌∷◌, ◌++◌, Bool, true, false, cond, Option, Some, None, length, take, drop, refl, sym, ◌∙◌, ap, arith}
+use Rattle.std.specs.Prelude.{map, slice_get}
 use Rattle.std.specs.Borrow.{Bor}
 use Rattle.std.specs.Str.{bytes_eq}
 use Rattle.std.specs.List.{insert}
@@ -61,8 +61,10 @@ module _ (names : List (Bor Text)) (new : Text) (place : ℕ) (at : place ≡ pl
   put_new y same h =
       let us = map (λ n. canon n.now) names in
       let is = sym (ap (λ k. holds (λ u. bytes_eq u (canon new)) (slice_get us k)) (sym at) ∙ ap (holds (λ u. bytes_eq u (canon new))) (got place names) ∙ holds_mapped _ (λ n. canon n.now) (slice_get names place) ∙ h) in
+      let front = sym (take-map (λ n. canon n.now) place names) in
+      let back = sym (drop-map (λ n. canon n.now) place names) in
       map-append (λ n. canon n.now) (take place names) (y ∷ drop place names)
-      ∙ (λ i. take-map (λ n. canon n.now) place names i ++ canon (same i) ∷ drop-map (λ n. canon n.now) place names i)
+      ∙ (λ i. front i ++ canon (same i) ∷ back i)
       ∙ ap (λ k. take k us ++ canon new ∷ drop k us) at
       ∙ ap (λ b. cond b us (take (place_for (canon new) us) us ++ canon new ∷ drop (place_for (canon new) us) us)) is ∙ sym (put_at (canon new) us)
 
@@ -83,3 +85,7 @@ pub canons_none : [] ≡ canons_in []
 canons_none =
     let m = finmap.empty {K = Text} {X = Unit {0}} {R = text_cmp} in
     ap (map (λ e. e.0)) (entries.same_entries text_cmp nat_list_cmp_total text_apart [] (finmap.entries m) tt (finmap.entries_sorted m) (λ q. sym (sym (finmap.get-entries m q) ∙ finmap.get-empty text_cmp q)))
+
+pub no_length : {X : Type 0} (xs : List X) → length xs ≡ 0 → xs ≡ []
+no_length [] e = refl
+no_length (x ∷ xs) e = absurd (omega arith)

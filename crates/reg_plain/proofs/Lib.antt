@@ -6,3 +6,4 @@ pub mod Owned
 pub mod Published
 pub mod ReportTexts
 pub mod SetViews
+pub mod Tops

@@ -1,5 +1,5 @@
 -- Whether an account is among those that own a crate.
-use Rattle.std.proofs.Common.{◌≡◌, ℕ, zero, suc, ◌+◌, ◌-◌, ◌==◌, List, [], ◌∷◌, Bool, true, false, cond, Some, None, refl, sym, ◌∙◌, ap, arith}
+use Rattle.std.proofs.Common.{◌≡◌, ℕ, zero, suc, ◌+◌, ◌-◌, ◌==◌, List, [], ◌∷◌, Bool, true, false, refl, ◌∙◌, ap, arith}
 use Rattle.std.specs.Prelude.{◌&&◌, ◌||◌, is_some, nat_le, slice_get}
 use Rattle.std.specs.List.{enumerate_from, filter, list_any}
 use Rattle.std.proofs.lemmas.Bool.Decides.{nat_tests}
@@ -58,6 +58,7 @@ module _ {X : Type 0} where
           by : (b : Bool) → (k == id) ≡ b → (p k && (k == id)) ≡ ((k == id) && p id)
           by true e = let same : k ≡ id = grind (arith, nat_tests) in rw (e, same) (and_true (p id))
           by false e = rw e (and_false (p k))
+
       both : (os : List (ℕ × X)) → list_any (λ o. (o.0 == id) && p id) os ≡ (list_any (λ o. o.0 == id) os && p id)
       both [] = refl
       both (o ∷ os) = ap (λ b. ((o.0 == id) && p id) || b) (both os) ∙ spread (o.0 == id) (p id) (list_any (λ o. o.0 == id) os)

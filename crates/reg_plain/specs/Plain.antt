@@ -1,5 +1,5 @@
 -- The registry that the vectors stand for.
-use Rattle.std.specs.Prelude.{◌≡◌, ℕ, ◌&&◌, if◌then◌else◌, Option, Some, None, Result, Ok, Err, List, [], length, codes, unwrap_or}
+use Rattle.std.specs.Prelude.{◌≡◌, ℕ, ◌&&◌, if◌then◌else◌, Option, Some, None, Result, Ok, Err, [], length, codes, unwrap_or}
 use Rattle.reg_names.specs.Names.{is_name}
 use Rattle.reg_model.specs.declared.rule.AdminRefusal.{AdminRefusal}
 use Rattle.reg_model.specs.declared.rule.AdminRefusal.TheVariants.{G3, G8, G10}

@@ -195,7 +195,7 @@ impl Publications {
         let versions = self.versions(alloc, name)?;
         let releases = releases(alloc, versions.as_slice(), &canon(name), yanked)?;
         match highest(releases.as_slice()) {
-            Some(place) => Ok(versions.get(place).copied()),
+            Some(place) => Ok(text_at(versions.as_slice(), place)),
             None => Ok(None),
         }
     }
@@ -307,6 +307,15 @@ fn zero(alloc: Global) -> Result<Release, AllocError>
     }
 }
 
+fn text_at<'a>(texts: &[&'a str], place: usize) -> Option<&'a str>
+    ensures { option_map (λ t. t.now) result ≡ option_map (λ t. t.now) (slice_get texts.now place) }
+{
+    match texts.get(place) {
+        Some(text) => Some(text),
+        None => None,
+    }
+}
+
 /// The versions of a crate, read, with their marks.
 fn releases(
     alloc: Global,
@@ -379,9 +388,9 @@ fn names_of(alloc: Global, list: &[Publication]) -> Result<Vec<&CrateName>, Allo
     ensures { IfOk result (λ v. map (λ n. canon_of n.now) v.items ≡ canons_in
         (map publication_of list.now)) }
 {
-    match list {
-        [] => Ok(Vec::new(alloc)),
-        [publication, more @ ..] => {
+    match list.split_first() {
+        None => Ok(Vec::new(alloc)),
+        Some((publication, more)) => {
             let mut names = names_of(alloc, more)?;
             put(&mut names, &publication.name)?;
             Ok(names)

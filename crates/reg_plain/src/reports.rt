@@ -1,11 +1,12 @@
 //! The administrator's reports on the registry over vectors.
 
-ghost use Rattle.std.specs.Prelude.{◌≡◌, ◌≤◌, ◌+◌, ◌++◌, IfOk, OnOk, length, map, string_bytes};
+ghost use Rattle.std.specs.Prelude.{◌≡◌, ◌≤◌, ◌+◌, ◌++◌, if◌then◌else◌, [], IfOk, OnOk, length, map, string_bytes, unwrap_or};
+ghost use Rattle.std.specs.Option.{option_map};
 ghost use Rattle.std.specs.List.{enumerate_from, filter, flat_map};
 ghost use Rattle.std.specs.FinSet as set;
 ghost use Rattle.reg_model.specs.Events.Command.{Access as to_access, Users as to_users, Tokens as to_tokens, Crates as to_crates};
 ghost use Rattle.reg_model.specs.Events.Event.{Order as to_order};
-ghost use Rattle.reg_model.specs.Grants.{has_right as has_right_in, is_granted as is_granted_in};
+ghost use Rattle.reg_model.specs.Grants.{has_right as has_right_in, is_granted as is_granted_in, who_reads};
 ghost use Rattle.reg_model.specs.Reports.{access_text, crates_text, grant_line, login_of_token, reader_line, token_line, tokens_text, user_line, users_text};
 ghost use Rattle.reg_model.specs.Steps.{Step};
 ghost use Rattle.reg_policy.specs.Events.{reply_of};
@@ -91,6 +92,25 @@ fn push_tokens(
     }
 }
 
+/// A line for the account, where it reads the crate.
+fn push_if_reader(
+    report: &mut String,
+    id: u32,
+    account: &PlainAccount,
+    readers: &Owners,
+    crate_text: &CanonText,
+) -> Result<(), AllocError>
+    ensures { OnOk result (string_bytes report.new ≡ string_bytes report.old
+        ++ (if set.contains readers.now (crate_text.now, id) then reader_line account.now.login else
+        [])) }
+{
+    if readers.contains(crate_text, id) {
+        push_reader_line(report, account.login.as_str())
+    } else {
+        Ok(())
+    }
+}
+
 /// A line for each of the accounts that reads the crate, behind so many others.
 fn push_readers(
     report: &mut String,
@@ -105,14 +125,21 @@ fn push_readers(
         (filter (λ o. set.contains readers.now (crate_text.now, o.0))
         (enumerate_from (before + 1) (map account_of accounts.now)))) }
 {
-    match accounts {
-        [] => Ok(()),
-        [account, more @ ..] => {
-            if readers.contains(crate_text, before + 1) {
-                push_reader_line(report, account.login.as_str())?;
-            }
+    match accounts.split_first() {
+        None => Ok(()),
+        Some((account, more)) => {
+            push_if_reader(report, before + 1, account, readers, crate_text)?;
             push_readers(report, before + 1, more, readers, crate_text)
         }
+    }
+}
+
+fn spelling_of(first: Option<&CrateName>) -> &str
+    ensures { result.now ≡ unwrap_or (option_map (λ n. n.now) first.entry) [] }
+{
+    match first {
+        Some(name) => name.as_str(),
+        None => "",
     }
 }
 
@@ -189,12 +216,31 @@ impl PlainRegistry {
             (grant_lines (registry_of self.now) name.now)
             (enumerate_from (before + 1) (map token_of tokens.now))) }
     {
-        match tokens {
-            [] => Ok(()),
-            [token, more @ ..] => {
+        match tokens.split_first() {
+            None => Ok(()),
+            Some((token, more)) => {
                 self.push_granted(report, before + 1, token, name, &ENDPOINTS)?;
                 self.push_grants(report, before + 1, more, name)
             }
+        }
+    }
+
+    /// A line for each reader of the crate, where it is restricted.
+    fn push_who_reads(&self, report: &mut String, name: &CrateName) -> Result<(), AllocError>
+        ensures { OnOk result (string_bytes report.new ≡ string_bytes report.old ++ flat_map
+            (λ r. reader_line r.1.login) (who_reads (registry_of self.now) name.now)) }
+    {
+        let crate_text = canon(name);
+        if self.restricted.contains(&crate_text) {
+            push_readers(
+                report,
+                0,
+                self.accounts.as_slice(),
+                &self.readers,
+                &crate_text,
+            )
+        } else {
+            Ok(())
         }
     }
 
@@ -202,15 +248,12 @@ impl PlainRegistry {
         ensures { OnOk result (string_bytes report.new ≡ string_bytes report.old ++ line_at
             (registry_of self.now) name.now) }
     {
-        let spelling = match self.publications.first(name) {
-            Some(first) => first.as_str(),
-            None => "",
-        };
         let versions = self.publications.versions(self.alloc, name)?;
-        let highest = match self.publications.top(self.alloc, name, &self.yanked)? {
-            Some(version) => version,
-            None => "",
-        };
+        let highest = self
+            .publications
+            .top(self.alloc, name, &self.yanked)?
+            .unwrap_or("");
+        let spelling = spelling_of(self.publications.first(name));
         push_crate_line(report, spelling, versions.len(), highest)
     }
 
@@ -257,11 +300,7 @@ impl PlainRegistry {
     {
         let mut report = String::new(self.alloc);
         self.push_grants(&mut report, 0, self.tokens.as_slice(), name)?;
-        let crate_text = canon(name);
-        if self.restricted.contains(&crate_text) {
-            let accounts = self.accounts.as_slice();
-            push_readers(&mut report, 0, accounts, &self.readers, &crate_text)?;
-        }
+        self.push_who_reads(&mut report, name)?;
         Ok(report)
     }
 

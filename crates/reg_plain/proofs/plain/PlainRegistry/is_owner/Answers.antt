@@ -1,8 +1,8 @@
 use Rattle.std.proofs.Common.{ℕ, Bool, ◌∙◌, sym, ap}
-use Rattle.std.specs.Prelude.{◌&&◌, is_some}
+use Rattle.std.specs.Prelude.{◌&&◌}
 use Rattle.std.specs.FinSet as finset
 use Rattle.reg_names.specs.Names.{canon}
-use Rattle.reg_model.specs.Registry.{Registry, with_id}
+use Rattle.reg_model.specs.Registry.{Registry}
 use Rattle.reg_plain.specs.Plain.{registry_of}
 use Rattle.reg_plain.proofs.Owned.{among_owned}
 use Rattle.reg_plain.proofs.plain.PlainRegistry.is_owner.Goals as goal
