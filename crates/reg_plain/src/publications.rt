@@ -112,6 +112,23 @@ fn version_texts<'a>(
     Ok(texts)
 }
 
+fn publications_of<'a>(
+    alloc: Global,
+    list: &'a [Publication],
+    name: &CrateName,
+) -> Result<Vec<&'a Publication>, AllocError>
+    ensures { IfOk result (λ v. map (λ p. p.now) v.items ≡ filter
+        (λ p. collides_of p.name name.now) list.now) }
+{
+    let mut publications = Vec::new(alloc);
+    for publication in list {
+        if is_of(publication, name) {
+            publications.push(publication)?;
+        }
+    }
+    Ok(publications)
+}
+
 fn entry(
     alloc: Global,
     publication: &Publication,
@@ -182,20 +199,20 @@ impl Publications {
         version_texts(alloc, self.list.as_slice(), name)
     }
 
-    /// The highest version of a crate.
+    /// The publication of the highest version of a crate.
     pub(crate) fn top(
         &self,
         alloc: Global,
         name: &CrateName,
         yanked: &Marks,
-    ) -> Result<Option<&str>, AllocError>
-        ensures { IfOk result (λ o. option_map (λ v. v.now) o ≡ option_map (λ p. p.version)
-            (top_in yanked.now self.now name.now)) }
+    ) -> Result<Option<&Publication>, AllocError>
+        ensures { IfOk result (λ o. option_map (λ p. publication_of p.now) o
+            ≡ top_in yanked.now self.now name.now) }
     {
-        let versions = self.versions(alloc, name)?;
-        let releases = releases(alloc, versions.as_slice(), &canon(name), yanked)?;
+        let publications = publications_of(alloc, self.list.as_slice(), name)?;
+        let releases = releases(alloc, publications.as_slice(), &canon(name), yanked)?;
         match highest(releases.as_slice()) {
-            Some(place) => Ok(text_at(versions.as_slice(), place)),
+            Some(place) => Ok(publication_at(publications.as_slice(), place)),
             None => Ok(None),
         }
     }
@@ -307,30 +324,31 @@ fn zero(alloc: Global) -> Result<Release, AllocError>
     }
 }
 
-fn text_at<'a>(texts: &[&'a str], place: usize) -> Option<&'a str>
-    ensures { option_map (λ t. t.now) result ≡ option_map (λ t. t.now) (slice_get texts.now place) }
+fn publication_at<'a>(list: &[&'a Publication], place: usize) -> Option<&'a Publication>
+    ensures { option_map (λ p. publication_of p.now) result ≡ option_map (λ p. publication_of p.now)
+        (slice_get list.now place) }
 {
-    match texts.get(place) {
-        Some(text) => Some(text),
+    match list.get(place) {
+        Some(publication) => Some(publication),
         None => None,
     }
 }
 
-/// The versions of a crate, read, with their marks.
+/// The versions of publications of a crate, read, with their marks.
 fn releases(
     alloc: Global,
-    versions: &[&str],
+    list: &[&Publication],
     crate_text: &CanonText,
     yanked: &Marks,
 ) -> Result<Vec<(Release, bool)>, AllocError>
-    ensures { IfOk result (λ v. v.items ≡ map (λ t. (
-      parts_of t.now,
-      set.contains yanked.now
-          (crate_text.now, t.now),
-    )) versions.now) }
+    ensures { IfOk result (λ v. v.items ≡ map (λ p. (
+      parts_of (string_bytes p.now.version),
+      set.contains yanked.now (crate_text.now, string_bytes p.now.version),
+    )) list.now) }
 {
     let mut releases = Vec::new(alloc);
-    for version in versions {
+    for publication in list {
+        let version = publication.version.as_str();
         let release = release_of(alloc, version)?;
         releases.push((release, yanked.contains(crate_text, version)))?;
     }

@@ -18,6 +18,7 @@ ghost use Rattle.reg_plain.specs.Tokens.{token_of};
 use crate::accounts::{Accounts, PlainAccount};
 use crate::owners::Owners;
 use crate::plain::PlainRegistry;
+use crate::publications::Publication;
 use crate::tokens::PlainToken;
 use reg_model::{AdminRefusal, Endpoint};
 use reg_names::{CanonText, CrateName, canon, parse_name};
@@ -134,11 +135,22 @@ fn push_readers(
     }
 }
 
-fn spelling_of(first: Option<&CrateName>) -> &str
+/// The name; none where there is none.
+pub(crate) fn spelling_of(first: Option<&CrateName>) -> &str
     ensures { result.now ≡ unwrap_or (option_map (λ n. n.now) first.entry) [] }
 {
     match first {
         Some(name) => name.as_str(),
+        None => "",
+    }
+}
+
+/// The version of a publication; none where there is none.
+pub(crate) fn version_of(top: Option<&Publication>) -> &str
+    ensures { result.now ≡ unwrap_or (option_map (λ p. string_bytes p.now.version) top.entry) [] }
+{
+    match top {
+        Some(publication) => publication.version.as_str(),
         None => "",
     }
 }
@@ -249,12 +261,9 @@ impl PlainRegistry {
             (registry_of self.now) name.now) }
     {
         let versions = self.publications.versions(self.alloc, name)?;
-        let highest = self
-            .publications
-            .top(self.alloc, name, &self.yanked)?
-            .unwrap_or("");
+        let top = self.publications.top(self.alloc, name, &self.yanked)?;
         let spelling = spelling_of(self.publications.first(name));
-        push_crate_line(report, spelling, versions.len(), highest)
+        push_crate_line(report, spelling, versions.len(), version_of(top))
     }
 
     fn push_crates(&self, report: &mut String, names: &[&CrateName]) -> Result<(), AllocError>

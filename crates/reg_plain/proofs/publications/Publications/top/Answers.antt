@@ -1,16 +1,29 @@
-use Rattle.std.proofs.Common.{refl, ap, ◌∙◌, map}
+use Rattle.std.proofs.Common.{List, refl, ap, ◌∙◌, map}
 use Rattle.std.specs.Prelude.{slice_get}
+use Rattle.std.specs.List.{filter}
 use Rattle.std.specs.Option.{option_map}
-use Rattle.reg_plain.proofs.Tops.{no_top, read, top_found}
+use Rattle.reg_model.specs.Registry.{Text}
+use Rattle.reg_model.specs.Crates.{collides}
+use Rattle.reg_plain.specs.declared.publications.Publication.{Publication}
+use Rattle.reg_plain.specs.Publications.{publication_of, top_in}
+use Rattle.reg_plain.proofs.Tops.{no_top, read_of, top_found}
 use Rattle.reg_plain.proofs.publications.Publications.top.Goals as goal
 
 pub returns-in-Some : goal.returns-in-Some
 returns-in-Some c =
-    let are = c.in_ok-releases.ensures ∙ ap (map (λ t. read c.args.yanked.now c.canon.result t.now)) c.as_slice.ensures.value in
-    c.text_at.ensures ∙ ap (λ l. option_map (λ t. t.now) (slice_get l c.in-Some.place)) c.as_slice-in-Some.ensures.value
-    ∙ top_found c.args.yanked.now c.args.self.now c.args.name.now c.in_ok-versions.versions.items c.as_slice-2.result.now c.in_ok-versions.ensures c.canon.result c.canon.ensures (c.as_slice-2.ensures.value ∙ are) c.in-Some.place c.in-Some.ensures.top
+    let ps : List Publication = c.self.inside.list.items in
+    let n : Text = c.args.name.now in
+    let these = c.in_ok-publications.ensures ∙ ap (filter (λ p. collides p.name n)) c.as_slice.ensures.value in
+    let are = c.as_slice-3.ensures.value ∙ c.in_ok-releases.ensures ∙ ap (map (read_of c.args.yanked.now c.canon.result)) c.as_slice-2.ensures.value in
+    c.publication_at.ensures ∙ ap (λ l. option_map (λ p. publication_of p.now) (slice_get l c.in-Some.place)) c.as_slice-in-Some.ensures.value
+    ∙ top_found c.args.yanked.now ps n c.in_ok-publications.publications.items c.as_slice-3.result.now these c.canon.result c.canon.ensures are c.in-Some.place c.in-Some.ensures.top
+    ∙ ap (λ l. top_in c.args.yanked.now l n) c.self.view_is
 
 pub returns : goal.returns
 returns c =
-    let are = c.in_ok-releases.ensures ∙ ap (map (λ t. read c.args.yanked.now c.canon.result t.now)) c.as_slice.ensures.value in
-    no_top c.args.yanked.now c.args.self.now c.args.name.now c.in_ok-versions.versions.items c.as_slice-2.result.now c.in_ok-versions.ensures c.canon.result c.canon.ensures (c.as_slice-2.ensures.value ∙ are) (c.in-None.ensures.none.0 refl)
+    let ps : List Publication = c.self.inside.list.items in
+    let n : Text = c.args.name.now in
+    let these = c.in_ok-publications.ensures ∙ ap (filter (λ p. collides p.name n)) c.as_slice.ensures.value in
+    let are = c.as_slice-3.ensures.value ∙ c.in_ok-releases.ensures ∙ ap (map (read_of c.args.yanked.now c.canon.result)) c.as_slice-2.ensures.value in
+    no_top c.args.yanked.now ps n c.in_ok-publications.publications.items c.as_slice-3.result.now these c.canon.result c.canon.ensures are (c.in-None.ensures.none.0 refl)
+    ∙ ap (λ l. top_in c.args.yanked.now l n) c.self.view_is
