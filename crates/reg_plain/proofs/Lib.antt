@@ -5,5 +5,6 @@ pub mod Listed
 pub mod Owned
 pub mod Published
 pub mod ReportTexts
+pub mod Searches
 pub mod SetViews
 pub mod Tops

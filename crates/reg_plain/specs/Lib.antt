@@ -3,3 +3,4 @@ pub mod Tokens
 pub mod Sets
 pub mod Publications
 pub mod Plain
+pub mod Search

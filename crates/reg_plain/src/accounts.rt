@@ -4,6 +4,7 @@ ghost use Rattle.std.specs.Prelude.{◌≡◌, ◌≤◌, ◌++◌, [], ◌∷�
 ghost use Rattle.std.specs.List.{position};
 ghost use Rattle.std.specs.Str.{bytes_eq};
 ghost use Rattle.reg_model.specs.Registry.{change_at, holds, with_id};
+ghost use Rattle.reg_model.specs.Crates.{is_among};
 ghost use Rattle.reg_model.specs.Effects.{owner_entry};
 ghost use Rattle.reg_plain.specs.Accounts.{account_of, id_in, is_known_in, login_in, owned};
 ghost use Rattle.reg_policy.specs.Rows.{id_and_login, row_view};
@@ -110,6 +111,13 @@ impl Accounts {
         ensures { result ≡ is_some (with_id self.now id) }
     {
         id != 0 && id as usize <= self.list.len()
+    }
+
+    /// Whether the account is there, and among the owners of a crate, or its readers.
+    pub(crate) fn is_among(&self, owners: &Owners, crate_text: &CanonText, account: u32) -> bool
+        ensures { result ≡ is_among (owned owners.now crate_text.now self.now) account }
+    {
+        self.has(account) && owners.contains(crate_text, account)
     }
 
     /// Whether the account with this id is there and enabled.

@@ -11,7 +11,9 @@ mod plain;
 mod publications;
 mod reports;
 mod rows;
+mod search;
 mod tokens;
 mod yanked;
 
 pub use plain::PlainRegistry;
+pub use search::{Found, Hit};

@@ -67,7 +67,7 @@ impl PlainRegistry {
     pub(crate) fn is_owner(&self, name: &CrateName, account: u32) -> bool
         ensures { result ≡ is_among (owners_in (registry_of self.now) name.now) account }
     {
-        self.accounts.has(account) && self.owners.contains(&canon(name), account)
+        self.accounts.is_among(&self.owners, &canon(name), account)
     }
 
     /// The id of the token's account; 0 where the token is unknown.
