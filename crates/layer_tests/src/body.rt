@@ -37,10 +37,10 @@ split-within 27 0 <00><00><00><00><01><00><00><00>xy -> Trailing"#;
 #[test]
 fn standard_limits(rt: HostRuntime) {
     let limits = Limits::STANDARD;
-    assert_eq!(rt; limits.greatest_body(), 11_534_344);
+    assert_eq!(rt; limits.greatest_body(), 37_748_744);
     assert!(rt;
         (limits.json, limits.archive, limits.head, limits.fields)
-            == (1_048_576, 10_485_760, 16_384, 64)
+            == (4_194_304, 33_554_432, 16_384, 64)
     );
     assert!(rt; (limits.patterns, limits.logins, limits.versions) == (64, 32, 10_000));
     assert!(rt;

@@ -34,8 +34,8 @@ pub struct Limits {
 impl Limits {
     /// The limits where none are given.
     pub const STANDARD: Limits = Limits {
-        json: 1_048_576,
-        archive: 10_485_760,
+        json: 4_194_304,
+        archive: 33_554_432,
         head: 16_384,
         fields: 64,
         patterns: 64,

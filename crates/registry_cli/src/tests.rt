@@ -12,12 +12,16 @@ use std::test::Fail;
 use test_support::examples::{FIRST_BODY, FIRST_LINE, RENAMED_JSON, RENAMED_LINE};
 use test_support::scarce_memory::Amounts;
 
-/// `line` on an input, and what it printed.
-fn line_on(alloc: Global, input: &[u8]) -> (Exit, Vec<u8>) {
+/// `line` on an input within limits, and what it printed.
+fn line_within(alloc: Global, input: &[u8], limits: &Limits) -> (Exit, Vec<u8>) {
     let mut reader = Counted::new(input);
     let mut writer = Counted::new(Vec::new(alloc));
-    let exit = run_line(alloc, &mut reader, &mut writer, &Limits::STANDARD);
+    let exit = run_line(alloc, &mut reader, &mut writer, limits);
     (exit, writer.into_inner())
+}
+
+fn line_on(alloc: Global, input: &[u8]) -> (Exit, Vec<u8>) {
+    line_within(alloc, input, &Limits::STANDARD)
 }
 
 fn two_lines(alloc: Global, path: &str, line: &str) -> Result<Vec<u8>, AllocError> {
@@ -167,19 +171,49 @@ fn long_body(alloc: Global, json_len: usize, archive_len: usize) -> Result<Vec<u
     Ok(join(alloc, &json, &archive)?)
 }
 
+/// What `line` says of a long body within limits, and whether it printed anything.
+fn long_line(
+    alloc: Global,
+    (json_len, archive_len): (usize, usize),
+    limits: &Limits,
+) -> Result<(&'static str, bool), Fail> {
+    let (exit, printed) = line_within(alloc, &long_body(alloc, json_len, archive_len)?, limits);
+    Ok((exit.words, !printed.is_empty()))
+}
+
+const TOO_LONG: (&str, bool) = ("B3 metadata or archive too long", false);
+
+const PRINTED: (&str, bool) = ("", true);
+
+/// The limits of long bodies handed in.
 #[test]
 fn long_bodies(rt: HostRuntime) -> Result<(), Fail> {
-    let alloc = rt.alloc();
-    for (json_len, archive_len, words) in [
-        (1_048_576, 0, ""),
-        (1_048_577, 0, "B3 metadata or archive too long"),
-        (2_097_152, 0, "B3 metadata or archive too long"),
-        (27, 10_485_760, ""),
-        (27, 10_485_761, "B3 metadata or archive too long"),
+    let limits = Limits {
+        json: 1_048_576,
+        archive: 10_485_760,
+        ..Limits::STANDARD
+    };
+    for (lens, said) in [
+        ((1_048_576, 0), PRINTED),
+        ((1_048_577, 0), TOO_LONG),
+        ((2_097_152, 0), TOO_LONG),
+        ((27, 10_485_760), PRINTED),
+        ((27, 10_485_761), TOO_LONG),
     ] {
-        let (exit, printed) = line_on(alloc, &long_body(alloc, json_len, archive_len)?);
-        assert!(rt; exit.words == words);
-        assert_eq!(rt; printed.is_empty(), exit.status == 1);
+        assert!(rt; long_line(rt.alloc(), lens, &limits)? == said);
+    }
+    Ok(())
+}
+
+#[test]
+fn larger_limits(rt: HostRuntime) -> Result<(), Fail> {
+    for (lens, said) in [
+        ((4_194_304, 0), PRINTED),
+        ((4_194_305, 0), TOO_LONG),
+        ((27, 33_554_432), PRINTED),
+        ((27, 33_554_433), TOO_LONG),
+    ] {
+        assert!(rt; long_line(rt.alloc(), lens, &Limits::STANDARD)? == said);
     }
     Ok(())
 }
