@@ -16,7 +16,7 @@ use Rattle.reg_model.specs.Events.{Hit}
 use Rattle.reg_model.specs.Search.{found, hit, matches, occurs, top}
 use Rattle.reg_model.proofs.Canons.{canon-canon}
 use Rattle.reg_model.proofs.Seen.{sees_alike}
-use Rattle.reg_plain.proofs.Published.{filter_of_map, map_map}
+use Rattle.reg_lists.proofs.PublicationViews.{filter_of_map, map_map}
 
 map_same : {X Y : Type 0} (f g : X → Y) → ((x : X) → f x ≡ g x) → (xs : List X) → map f xs ≡ map g xs
 map_same f g same [] = refl

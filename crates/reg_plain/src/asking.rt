@@ -14,8 +14,8 @@ ghost use Rattle.reg_policy.specs.Events.{answer_of, asked_of, decision_alone, p
 ghost use Rattle.reg_plain.specs.Plain.{PlainStep, limits_of, registry_of};
 
 use crate::plain::PlainRegistry;
-use crate::publications::published;
 use reg_line::file;
+use reg_lists::published;
 use reg_model::Rule;
 use reg_names::{CrateName, canon, name_of_path, parse_name};
 use reg_policy::{Answer, Asked, Decision, NewPublication, action_of};

@@ -10,9 +10,8 @@ ghost use Rattle.reg_model.specs.Steps.{Step};
 ghost use Rattle.reg_policy.specs.Events.{answer_of, command_of, reply_of};
 ghost use Rattle.reg_plain.specs.Plain.{PlainStep, limits_of, login_found, registry_of};
 
-use crate::accounts::PlainAccount;
 use crate::plain::PlainRegistry;
-use crate::tokens::PlainToken;
+use reg_lists::{PlainAccount, PlainToken};
 use reg_model::AdminRefusal;
 use reg_names::parse_login;
 use reg_policy::{

@@ -8,13 +8,8 @@ ghost use Rattle.reg_model.specs.Effects.{account_of};
 ghost use Rattle.reg_policy.specs.Events.{answer_of, event_of};
 ghost use Rattle.reg_plain.specs.Plain.{PlainStep, limits_of, registry_of};
 
-use crate::accounts::Accounts;
-use crate::crate_texts::CrateTexts;
-use crate::owners::Owners;
-use crate::publications::Publications;
-use crate::tokens::Tokens;
-use crate::yanked::Marks;
 use reg_body::Limits;
+use reg_lists::{Accounts, CrateTexts, Marks, Owners, Publications, Tokens};
 use reg_names::{CrateName, canon};
 use reg_policy::{Answer, Event, is_reserved_always};
 use std::alloc::Global;

@@ -11,15 +11,12 @@ ghost use Rattle.reg_model.specs.Reports.{access_text, crates_text, grant_line, 
 ghost use Rattle.reg_model.specs.Steps.{Step};
 ghost use Rattle.reg_policy.specs.Events.{reply_of};
 ghost use Rattle.reg_policy.specs.declared.event.AdminReply.TheVariants.{Text};
-ghost use Rattle.reg_plain.specs.Accounts.{account_of, login_in};
+ghost use Rattle.reg_lists.specs.Accounts.{account_of, login_in};
 ghost use Rattle.reg_plain.specs.Plain.{grant_lines, limits_of, line_at, registry_of, told_of};
-ghost use Rattle.reg_plain.specs.Tokens.{token_of};
+ghost use Rattle.reg_lists.specs.Tokens.{token_of};
 
-use crate::accounts::{Accounts, PlainAccount};
-use crate::owners::Owners;
 use crate::plain::PlainRegistry;
-use crate::publications::Publication;
-use crate::tokens::PlainToken;
+use reg_lists::{Accounts, Owners, PlainAccount, PlainToken, Publication};
 use reg_model::{AdminRefusal, Endpoint};
 use reg_names::{CanonText, CrateName, canon, parse_name};
 use reg_policy::{

@@ -9,11 +9,11 @@ ghost use Rattle.reg_model.specs.Registry.{holds, is_enabled as is_enabled_in};
 ghost use Rattle.reg_policy.specs.Rows.{id_and_login, row_view};
 ghost use Rattle.reg_plain.specs.Plain.{registry_of};
 ghost use Rattle.reg_policy.specs.Rows.{patterns_held, row_of};
-ghost use Rattle.reg_plain.specs.Tokens.{token_of};
+ghost use Rattle.reg_lists.specs.Tokens.{token_of};
 ghost use Rattle.reg_policy.specs.Views.{action_of, decision_of};
 
 use crate::plain::PlainRegistry;
-use crate::tokens::PlainToken;
+use reg_lists::PlainToken;
 use reg_names::{CrateName, Pattern, canon};
 use reg_policy::{Action, Decision, OwnerRow, Rows, TokenFacts, crate_of, decide, logins_of};
 use std::alloc::AllocError;

@@ -8,12 +8,12 @@ ghost use Rattle.reg_model.specs.Registry.{holds};
 ghost use Rattle.reg_model.specs.Crates.{is_among, owners as owners_in, readers as readers_in, sees};
 ghost use Rattle.reg_model.specs.Search.{found, hit, occurs};
 ghost use Rattle.reg_plain.specs.Plain.{registry_of};
-ghost use Rattle.reg_plain.specs.Publications.{publication_of};
+ghost use Rattle.reg_lists.specs.Publications.{publication_of};
 ghost use Rattle.reg_plain.specs.Search.{found_of, hit_of};
 
 use crate::plain::PlainRegistry;
-use crate::publications::Publication;
 use crate::reports::{spelling_of, version_of};
+use reg_lists::Publication;
 use reg_names::{CrateName, canon};
 use std::alloc::{AllocError, Global};
 

@@ -3,7 +3,7 @@ use Rattle.std.specs.FinSet as set
 use Rattle.std.specs.List.{enumerate_from, filter, flat_map}
 use Rattle.std.specs.String.{string_bytes}
 use Rattle.reg_model.specs.Reports.{reader_line}
-use Rattle.reg_plain.specs.Accounts.{account_of}
+use Rattle.reg_lists.specs.Accounts.{account_of}
 use Rattle.reg_plain.proofs.ReportTexts.{more_lines, on_ok}
 use Rattle.reg_plain.proofs.reports.+push_readers.Goals as goal
 

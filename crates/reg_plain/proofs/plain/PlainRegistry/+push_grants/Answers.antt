@@ -3,7 +3,7 @@ use Rattle.std.specs.List.{enumerate_from, flat_map}
 use Rattle.std.specs.String.{string_bytes}
 use Rattle.reg_model.specs.Registry.{Text, Registry}
 use Rattle.reg_plain.specs.Plain.{grant_lines, registry_of}
-use Rattle.reg_plain.specs.Tokens.{token_of}
+use Rattle.reg_lists.specs.Tokens.{token_of}
 use Rattle.reg_plain.proofs.ReportTexts.{on_ok}
 use Rattle.reg_plain.proofs.plain.PlainRegistry.+push_grants.Goals as goal
 

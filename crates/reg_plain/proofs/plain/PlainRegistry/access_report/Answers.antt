@@ -4,7 +4,7 @@ use Rattle.reg_model.specs.Grants.{who_reads}
 use Rattle.reg_model.specs.Registry.{Text, Token, Registry}
 use Rattle.reg_model.specs.Reports.{access_text, reader_line}
 use Rattle.reg_plain.specs.Plain.{grant_lines, registry_of}
-use Rattle.reg_plain.specs.Tokens.{token_of}
+use Rattle.reg_lists.specs.Tokens.{token_of}
 use Rattle.reg_plain.proofs.ReportTexts.{grants_told}
 use Rattle.reg_plain.proofs.plain.PlainRegistry.access_report.Goals as goal
 

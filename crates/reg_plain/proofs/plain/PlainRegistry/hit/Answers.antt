@@ -2,8 +2,8 @@ use Rattle.std.proofs.Common.{[], None, sym, ap, ◌∙◌}
 use Rattle.std.specs.Prelude.{unwrap_or}
 use Rattle.std.specs.Option.{option_map}
 use Rattle.reg_model.specs.Search.{top}
-use Rattle.reg_plain.specs.Publications.{publication_of}
-use Rattle.reg_plain.proofs.Tops.{mapped}
+use Rattle.reg_lists.specs.Publications.{publication_of}
+use Rattle.reg_lists.proofs.TopVersions.{mapped}
 use Rattle.reg_plain.proofs.plain.PlainRegistry.hit.Goals as goal
 
 pub returns : goal.returns

@@ -6,8 +6,8 @@ use Rattle.reg_model.specs.Reports.{crate_line}
 use Rattle.reg_model.specs.Search.{top}
 use Rattle.reg_plain.proofs.ReportTexts.{on_ok}
 use Rattle.std.specs.Option.{option_map}
-use Rattle.reg_plain.specs.Publications.{publication_of}
-use Rattle.reg_plain.proofs.Tops.{mapped}
+use Rattle.reg_lists.specs.Publications.{publication_of}
+use Rattle.reg_lists.proofs.TopVersions.{mapped}
 use Rattle.reg_plain.proofs.plain.PlainRegistry.push_crate.Goals as goal
 
 pub returns : goal.returns

@@ -9,7 +9,7 @@ use Rattle.reg_model.specs.Refusals.{patterns_given}
 use Rattle.reg_model.specs.Events.Answer.{Id}
 use Rattle.reg_model.specs.Events.Command.{TokenAdd}
 use Rattle.reg_model.specs.Effects.{commanded}
-use Rattle.reg_plain.specs.Tokens.{token_of}
+use Rattle.reg_lists.specs.Tokens.{token_of}
 use Rattle.reg_plain.specs.Plain.{limits_of, registry_of}
 use Rattle.reg_plain.proofs.Joined.{refused_step, done_step, login_there, no_login_there, read_none, read_some, is_some_mapped, told}
 use Rattle.reg_plain.proofs.plain.PlainRegistry.token_add.Goals as goal

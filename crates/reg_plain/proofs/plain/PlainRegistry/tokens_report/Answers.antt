@@ -3,7 +3,7 @@ use Rattle.std.specs.List.{enumerate_from, flat_map}
 use Rattle.reg_model.specs.Registry.{Text, Token}
 use Rattle.reg_model.specs.Reports.{login_of, token_line, tokens_text}
 use Rattle.reg_plain.specs.Plain.{registry_of}
-use Rattle.reg_plain.specs.Tokens.{token_of}
+use Rattle.reg_lists.specs.Tokens.{token_of}
 use Rattle.reg_plain.proofs.plain.PlainRegistry.tokens_report.Goals as goal
 
 pub returns : goal.returns

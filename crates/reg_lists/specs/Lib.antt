@@ -1,0 +1,4 @@
+pub mod Accounts
+pub mod Tokens
+pub mod Sets
+pub mod Publications

@@ -1,0 +1,21 @@
+//! The lists and sets of the plain registry, as vectors that stand for those of the abstract one.
+//!
+//! A list is in the order of its ids, from 1 on; what stands in the vector of a set twice counts
+//! once.
+#![tactic(auto)]
+
+mod accounts;
+mod crate_names;
+mod crate_texts;
+mod owners;
+mod publications;
+mod tokens;
+mod tops;
+mod yanked;
+
+pub use accounts::{Accounts, PlainAccount};
+pub use crate_texts::CrateTexts;
+pub use owners::{Owners, PlainOwner};
+pub use publications::{Publication, Publications, published};
+pub use tokens::{PlainToken, Tokens};
+pub use yanked::{Mark, Marks};
