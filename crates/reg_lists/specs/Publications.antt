@@ -34,7 +34,8 @@ abbrev pub marked_in : finset.FinSet mark_cmp → Text → model.Publication →
 marked_in yanked c p = (p.stem, finset.contains yanked (c, p.version))
 
 -- the publication of the highest version of a crate, where these are the marks
-abbrev pub top_in : finset.FinSet mark_cmp → List model.Publication → Text → Option model.Publication
+abbrev pub top_in : finset.FinSet mark_cmp → List model.Publication → Text
+    → Option model.Publication
 top_in yanked ps n = option_and_then (slice_get (versions_in ps n))
     (top_place (map (λ p. (parts_of p.version, finset.contains yanked (canon n, p.version)))
     (versions_in ps n)))

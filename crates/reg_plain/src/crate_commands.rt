@@ -112,7 +112,8 @@ impl PlainRegistry {
         login: &str,
     ) -> Result<AdminReply, AdminRefusal>
         ensures step { Step (limits_of self.old) (registry_of self.old)
-            (to_order (to_reader_remove name.now login.now)) (reply_of result) (registry_of self.new) }
+            (to_order (to_reader_remove name.now login.now)) (reply_of result)
+            (registry_of self.new) }
         ensures limits { limits_of self.new ≡ limits_of self.old }
     {
         let name = self.known_crate(name)?;

@@ -10,99 +10,15 @@ ghost use Rattle.reg_model.specs.Registry.{Registry, Text, holds};
 ghost use Rattle.reg_model.specs.Refusals.{judged};
 ghost use Rattle.reg_model.specs.Crates.{same_release as same_release_of};
 ghost use Rattle.reg_model.specs.Actions.{crate_of, logins_of, version_of};
-ghost use Rattle.reg_model.specs.Rules.{broken as broken_of, has_endpoint, is_absent, is_misspelled, lacks, needed, order as order_of, verdict};
+ghost use Rattle.reg_model.specs.Rules.{broken as broken_of, has_endpoint, is_absent, is_misspelled, lacks, needed, verdict};
 ghost use Rattle.reg_policy.specs.Views.{access_of, action_of, counts_of, decision_of, endpoints_of, is_admitted, is_seen, spelling_of};
 ghost use Rattle.reg_policy.specs.Rows.{IsRowsOf};
 
 use crate::action::{Action, Decision, OwnerRow, Rows};
+use crate::orders::order;
 use reg_model::{Endpoint, Endpoints, Rule};
 use reg_names::{CrateName, Pattern, covers, index_path, name_of_path, parse_name};
 use reg_versions::same_release;
-
-const READING: [Rule; 3] = [Rule::A2, Rule::A3, Rule::A4];
-
-const READING_A_CRATE: [Rule; 4] = [Rule::A2, Rule::A3, Rule::A4, Rule::A8];
-
-const DOWNLOADING: [Rule; 5] = [Rule::A2, Rule::A3, Rule::A4, Rule::A8, Rule::A10];
-
-const PUBLISHING_NEW: [Rule; 7] = [
-    Rule::A2,
-    Rule::A3,
-    Rule::A4,
-    Rule::A6,
-    Rule::A7,
-    Rule::N2,
-    Rule::L2,
-];
-
-const PUBLISHING_KNOWN: [Rule; 9] = [
-    Rule::A2,
-    Rule::A3,
-    Rule::A4,
-    Rule::A6,
-    Rule::A7,
-    Rule::N3,
-    Rule::A9,
-    Rule::V2,
-    Rule::L1,
-];
-
-const MARKING: [Rule; 8] = [
-    Rule::A2,
-    Rule::A3,
-    Rule::A4,
-    Rule::A6,
-    Rule::A8,
-    Rule::A7,
-    Rule::A9,
-    Rule::A10,
-];
-
-const ADDING: [Rule; 8] = [
-    Rule::A2,
-    Rule::A3,
-    Rule::A4,
-    Rule::A6,
-    Rule::A8,
-    Rule::A7,
-    Rule::A9,
-    Rule::O2,
-];
-
-const REMOVING: [Rule; 9] = [
-    Rule::A2,
-    Rule::A3,
-    Rule::A4,
-    Rule::A6,
-    Rule::A8,
-    Rule::A7,
-    Rule::A9,
-    Rule::O3,
-    Rule::O4,
-];
-
-/// The rules that an action is asked, in their order.
-fn order(rows: &Rows, action: &Action) -> &'static [Rule]
-    ensures { result.now ≡ order_of (spelling_of rows.now) (action_of action.now) }
-{
-    match action {
-        Action::Read => &READING,
-        Action::Index(_) => &READING_A_CRATE,
-        Action::Download(_, _) => &DOWNLOADING,
-        Action::ListOwners(_) => &READING_A_CRATE,
-        Action::Publish(_, _) => {
-            if rows.first.is_some() {
-                &PUBLISHING_KNOWN
-            } else {
-                &PUBLISHING_NEW
-            }
-        }
-        Action::Yank(_, _) => &MARKING,
-        Action::Unyank(_, _) => &MARKING,
-        Action::AddOwners(_, _) => &ADDING,
-        Action::RemoveOwners(_, _) => &REMOVING,
-    }
-}
 
 /// The version that an action names.
 fn version_of<'a>(action: &Action<'a>) -> &'a str
@@ -257,7 +173,8 @@ fn has_path(rows: &Rows, path: &str) -> bool
 }
 
 fn is_absent(rows: &Rows, action: &Action) -> bool
-    ensures { result ≡ is_absent (access_of rows.now (action_of action.now)) (action_of action.now) }
+    ensures { result ≡ is_absent (access_of rows.now (action_of action.now))
+        (action_of action.now) }
 {
     match action {
         Action::Index(path) => !(is_seen(rows) && has_path(rows, path)),

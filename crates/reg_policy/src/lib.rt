@@ -5,6 +5,7 @@
 mod action;
 mod deciding;
 mod event;
+mod orders;
 mod report_lines;
 mod reserved;
 mod words;
