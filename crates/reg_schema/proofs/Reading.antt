@@ -1,5 +1,5 @@
 -- Statements that read, once for all texts.
-use Rattle.std.proofs.Common.{◌≡◌, inl, List, [], ℕ, false, Result, Ok, Err, IfOk, OnOk, arith}
+use Rattle.std.proofs.Common.{◌≡◌, inl, List, [], ℕ, false, Result, Ok, Err, IfOk, arith}
 use Rattle.sqlite.specs.Order.{Row}
 use Rattle.sqlite.specs.Query.{Query, IsSureAnswer}
 use Rattle.sqlite.specs.Program.{overlay}

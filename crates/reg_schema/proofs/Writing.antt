@@ -1,6 +1,6 @@
 -- Statements that write, once for all texts.
 use Rattle.std.specs.Prelude.{IsErr}
-use Rattle.std.proofs.Common.{◌≡◌, List, ℕ, true, Result, Ok, Err, OnOk, OnErr, refl, arith}
+use Rattle.std.proofs.Common.{◌≡◌, List, ℕ, true, Result, Ok, Err, OnOk, refl, arith}
 use Rattle.sqlite.specs.Listing.{understood}
 use Rattle.sqlite.specs.Order.{Row}
 use Rattle.sqlite.specs.State.{State, HasCleanDisk, CommitsBy, Executes, Survives}

@@ -1,7 +1,6 @@
 -- The greatest id of a table.
-use Rattle.std.specs.Prelude.{◌≡◌, ℕ, pos, List, [], ◌∷◌, Option, Some, None, map, take, IsPermutation, IsSorted}
+use Rattle.std.specs.Prelude.{◌≡◌, ℕ, List, [], ◌∷◌, Option, map, take, IsPermutation, IsSorted}
 use Rattle.sqlite.specs.Order.{Row, column, value_cmp}
-use Rattle.sqlite.specs.declared.types.Value.TheVariants.{Int}
 use Rattle.reg_schema.specs.Rows.{number_columns}
 use Rattle.reg_schema.specs.Shown.{shown_of}
 use Rattle.reg_schema.specs.Tests.{shows}

@@ -1,11 +1,7 @@
 -- What the query on the one row of `about` answers.
-use Rattle.std.proofs.Common.{◌≡◌, ℕ, pos, List, [], ◌∷◌, codes, map, Option, refl, sym, ap, subst, ◌∙◌}
-use Rattle.std.specs.List.{filter}
-use Rattle.sqlite.specs.declared.types.Value.TheVariants.{Int, Text}
-use Rattle.sqlite.specs.Collation.TheVariants.{Binary}
-use Rattle.sqlite_value.specs.Keys.{ascending}
+use Rattle.std.proofs.Common.{ℕ, List, [], ◌∷◌, codes, Option, refl}
 use Rattle.sqlite.specs.Order.{Row}
-use Rattle.sqlite.specs.Term.{Term, col}
+use Rattle.sqlite.specs.Term.{col}
 use Rattle.sqlite.specs.Query.{inner, end}
 use Rattle.sqlite.specs.Program.{overlay}
 use Rattle.sqlite.specs.Listing.{understood}
@@ -14,8 +10,6 @@ use Rattle.sqlite_tied.specs.Compute.{everything}
 use Rattle.reg_schema.specs.Schema.{ours}
 use Rattle.reg_schema.specs.States.{IsInside}
 use Rattle.reg_schema.proofs.Reading.{IsSelection, selected}
-use Rattle.std.specs.List.Sorted.{IsPermutation}
-use Rattle.sqlite.specs.Tree.{Trees}
 use Rattle.reg_schema.proofs.Queries.{plain}
 use Rattle.reg_schema.proofs.WholeTables.{all_rows}
 use Rattle.reg_statements.specs.Abouts.{IsBase, IsBaseOf}

@@ -1,5 +1,5 @@
 -- What the statements on accounts do.
-use Rattle.std.proofs.Common.{◌≡◌, ℕ, pos, List, [], ◌∷◌, codes, Bool, true, ◌&&◌, cond, Option, Some, None, map, Ok, Err, Result, OnOk, refl, ap, subst, ◌∙◌}
+use Rattle.std.proofs.Common.{◌≡◌, ℕ, pos, List, [], ◌∷◌, codes, Bool, true, ◌&&◌, cond, Option, Some, None, map, Ok, Result, OnOk, refl, ap, subst, ◌∙◌}
 use Rattle.std.specs.List.{filter}
 use Rattle.std.specs.List.Sorted.{IsPermutation}
 use Rattle.std.specs.Option.{option_map}
@@ -21,7 +21,7 @@ use Rattle.sqlite.specs.Source.TheVariants.{Values}
 use Rattle.sqlite.specs.Effect.{Answers}
 use Rattle.sqlite.specs.Command.TheVariants.{Insert, Update}
 use Rattle.sqlite.specs.Listing.{understood}
-use Rattle.sqlite.specs.State.{State, Survives, CommitsBy, Executes}
+use Rattle.sqlite.specs.State.{State, Executes}
 use Rattle.sqlite.specs.declared.error.Error.{Error}
 use Rattle.sqlite.proofs.Callers.{IsPlain, command_of, one_permutation}
 use Rattle.sqlite_rules.specs.Edit.{edited}
@@ -29,9 +29,9 @@ use Rattle.sqlite_trees.specs.Tree.{has_rowid, put_row, without_rowid}
 use Rattle.sqlite_tied.specs.Compute.{everything}
 use Rattle.reg_schema.specs.Schema.{ours, accounts}
 use Rattle.reg_schema.specs.Rows.{mark, text_or_null}
-use Rattle.reg_schema.specs.States.{IsInside, IsReady}
+use Rattle.reg_schema.specs.States.{IsInside}
 use Rattle.reg_schema.specs.Statements.{IsRowWrite}
-use Rattle.reg_schema.specs.Changes.{Adds, Replaces, Touches}
+use Rattle.reg_schema.specs.Changes.{Adds, Replaces}
 use Rattle.reg_schema.proofs.Edits.{step_of, replacing}
 use Rattle.reg_schema.proofs.Queries.{plain, answers, shows_filtered, same_filter, and_true, equals_int}
 use Rattle.reg_schema.proofs.Statements.{adds, replaces, touches, cast_int, cast_null}

@@ -13,7 +13,7 @@ use Rattle.sqlite.specs.Collation.TheVariants.{Binary}
 use Rattle.sqlite.specs.Source.TheVariants.{Values}
 use Rattle.sqlite.specs.Command.TheVariants.{Insert, Delete}
 use Rattle.sqlite.specs.Listing.{understood}
-use Rattle.sqlite.specs.State.{State, Survives, CommitsBy, Executes}
+use Rattle.sqlite.specs.State.{State, Executes}
 use Rattle.sqlite.specs.declared.error.Error.{Error}
 use Rattle.sqlite.proofs.Callers.{IsPlain, command_of}
 use Rattle.sqlite_rules.specs.Edit.{next_rowid}
@@ -22,7 +22,7 @@ use Rattle.sqlite_schema.specs.declared.program.Program.{Program}
 use Rattle.sqlite_sql.specs.declared.ops.BinaryOp.TheVariants.{Compare}
 use Rattle.sqlite_sql.specs.declared.ops.CompareOp.TheVariants.{Eq}
 use Rattle.reg_schema.specs.Schema.{ours, owners}
-use Rattle.reg_schema.specs.States.{IsInside, IsReady}
+use Rattle.reg_schema.specs.States.{IsInside}
 use Rattle.reg_schema.specs.Statements.{IsRowWrite}
 use Rattle.reg_schema.specs.Changes.{AddsColumns, Removes}
 use Rattle.reg_schema.proofs.Edits.{step_of}

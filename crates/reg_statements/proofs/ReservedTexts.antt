@@ -11,13 +11,13 @@ use Rattle.sqlite.specs.Source.TheVariants.{Values}
 use Rattle.sqlite.specs.Effect.{Answers}
 use Rattle.sqlite.specs.Command.TheVariants.{Insert, Delete}
 use Rattle.sqlite.specs.Listing.{understood}
-use Rattle.sqlite.specs.State.{State, Survives, CommitsBy, Executes}
+use Rattle.sqlite.specs.State.{State, Executes}
 use Rattle.sqlite.specs.declared.error.Error.{Error}
 use Rattle.sqlite.proofs.Callers.{IsPlain, command_of}
 use Rattle.sqlite_rules.specs.Edit.{next_rowid}
 use Rattle.sqlite_tied.specs.Compute.{everything}
 use Rattle.reg_schema.specs.Schema.{ours, reserved}
-use Rattle.reg_schema.specs.States.{IsInside, IsReady}
+use Rattle.reg_schema.specs.States.{IsInside}
 use Rattle.reg_schema.specs.Statements.{IsRowWrite}
 use Rattle.reg_schema.specs.Changes.{AddsColumns, Removes}
 use Rattle.reg_schema.proofs.Edits.{step_of}

@@ -1,7 +1,6 @@
 -- What the queries on tokens answer.
-use Rattle.std.proofs.Common.{◌≡◌, ℕ, pos, List, [], ◌∷◌, codes, map, Option, refl, sym, ap, subst, ◌∙◌}
+use Rattle.std.proofs.Common.{◌≡◌, ℕ, List, [], ◌∷◌, codes, map, Option, refl, ap, subst, ◌∙◌}
 use Rattle.std.specs.List.{filter}
-use Rattle.sqlite.specs.declared.types.Value.TheVariants.{Int, Text}
 use Rattle.sqlite.specs.Collation.TheVariants.{Binary}
 use Rattle.sqlite_value.specs.Keys.{ascending}
 use Rattle.sqlite.specs.Order.{Row}
@@ -24,14 +23,13 @@ use Rattle.sqlite.specs.Term.{eval_all, op2}
 use Rattle.sqlite.specs.Tree.{Trees}
 use Rattle.sqlite_sql.specs.declared.ops.BinaryOp.TheVariants.{Compare}
 use Rattle.sqlite_sql.specs.declared.ops.CompareOp.TheVariants.{Eq}
-use Rattle.sqlite_value.specs.declared.keys.Key.{Key}
-use Rattle.reg_schema.specs.Rows.{by_column, number_columns}
+use Rattle.reg_schema.specs.Rows.{number_columns}
 use Rattle.reg_schema.specs.Shown.{shown_of}
 use Rattle.reg_schema.specs.Tests.{is_blob}
 use Rattle.reg_schema.proofs.Counts.{counted}
 use Rattle.reg_schema.proofs.Greatest.{greatest, greatest_of}
 use Rattle.reg_schema.proofs.Queries.{plain, answers, joined, same_filter, equals_blob}
-use Rattle.reg_schema.proofs.Sorted.{in_order, then_equal}
+use Rattle.reg_schema.proofs.Sorted.{in_order}
 use Rattle.reg_schema.proofs.ShownRows.{shown_exactly}
 use Rattle.reg_schema.proofs.WholeTables.{all_in_order, one_count}
 use Rattle.reg_statements.specs.declared.tokens.Token.{Token}

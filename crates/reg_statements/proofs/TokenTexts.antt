@@ -1,5 +1,5 @@
 -- What the writing statements on tokens do.
-use Rattle.std.proofs.Common.{◌≡◌, ℕ, pos, List, [], ◌∷◌, codes, map, Bool, true, false, ◌&&◌, cond, Ok, Err, Result, OnOk, refl, ap, subst, ◌∙◌}
+use Rattle.std.proofs.Common.{◌≡◌, ℕ, pos, List, [], ◌∷◌, codes, map, Bool, true, false, ◌&&◌, cond, Ok, Result, OnOk, refl, ap, subst, ◌∙◌}
 use Rattle.std.specs.List.{filter}
 use Rattle.std.specs.List.Sorted.{IsPermutation}
 use Rattle.sqlite.specs.declared.types.Value.TheVariants.{Null, Int, Blob}
@@ -16,7 +16,7 @@ use Rattle.sqlite.specs.Collation.TheVariants.{Binary}
 use Rattle.sqlite.specs.Source.TheVariants.{Values}
 use Rattle.sqlite.specs.Command.TheVariants.{Insert, Update}
 use Rattle.sqlite.specs.Listing.{understood}
-use Rattle.sqlite.specs.State.{State, Survives, CommitsBy, Executes}
+use Rattle.sqlite.specs.State.{State, Executes}
 use Rattle.sqlite.specs.declared.error.Error.{Error}
 use Rattle.sqlite.proofs.Callers.{IsPlain, command_of, one_permutation}
 use Rattle.sqlite_rules.specs.Edit.{edited}
@@ -28,9 +28,9 @@ use Rattle.sqlite_sql.specs.declared.ops.CompareOp.TheVariants.{Eq}
 use Rattle.reg_model.specs.declared.endpoint.Endpoints.{Endpoints}
 use Rattle.reg_schema.specs.Schema.{ours, tokens}
 use Rattle.reg_schema.specs.Rows.{mark}
-use Rattle.reg_schema.specs.States.{IsInside, IsReady}
+use Rattle.reg_schema.specs.States.{IsInside}
 use Rattle.reg_schema.specs.Statements.{IsRowWrite}
-use Rattle.reg_schema.specs.Changes.{Adds, Replaces, Touches}
+use Rattle.reg_schema.specs.Changes.{Adds, Replaces}
 use Rattle.reg_schema.proofs.Edits.{step_of, replacing}
 use Rattle.reg_schema.proofs.Queries.{plain, answers, shows_filtered, same_filter, equals_int, and_true}
 use Rattle.reg_schema.proofs.Statements.{adds, replaces, touches, cast_int, cast_null}

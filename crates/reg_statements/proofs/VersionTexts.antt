@@ -1,5 +1,5 @@
 -- What the statements on versions do.
-use Rattle.std.proofs.Common.{◌≡◌, ℕ, pos, List, [], ◌∷◌, ◌&&◌, codes, Bool, true, false, cond, Option, Ok, Err, Result, OnOk, refl, ap, subst, ◌∙◌}
+use Rattle.std.proofs.Common.{◌≡◌, ℕ, pos, List, [], ◌∷◌, ◌&&◌, codes, Bool, true, false, cond, Option, Ok, Result, OnOk, refl, ap, subst, ◌∙◌}
 use Rattle.std.specs.Prelude.{map}
 use Rattle.std.specs.Ordering.{is_eq}
 use Rattle.std.specs.List.{filter}
@@ -15,7 +15,7 @@ use Rattle.sqlite.specs.Edit.{edited}
 use Rattle.sqlite.specs.Source.TheVariants.{Values}
 use Rattle.sqlite.specs.Command.TheVariants.{Insert, Update}
 use Rattle.sqlite.specs.Listing.{understood}
-use Rattle.sqlite.specs.State.{State, Survives, CommitsBy, Executes}
+use Rattle.sqlite.specs.State.{State, Executes}
 use Rattle.sqlite.specs.declared.error.Error.{Error}
 use Rattle.sqlite.proofs.Callers.{IsPlain, command_of, one_permutation}
 use Rattle.sqlite_schema.specs.declared.program.Program.{Program}
@@ -25,9 +25,9 @@ use Rattle.sqlite.specs.Collation.TheVariants.{Binary}
 use Rattle.sqlite_trees.specs.Tree.{put_row, without_rowid}
 use Rattle.sqlite_tied.specs.Compute.{everything}
 use Rattle.reg_schema.specs.Schema.{ours, versions}
-use Rattle.reg_schema.specs.States.{IsInside, IsReady}
+use Rattle.reg_schema.specs.States.{IsInside}
 use Rattle.reg_schema.specs.Statements.{IsRowWrite}
-use Rattle.reg_schema.specs.Changes.{Adds, Replaces, Touches}
+use Rattle.reg_schema.specs.Changes.{Adds, Replaces}
 use Rattle.reg_schema.specs.Rows.{mark, text_or_null}
 use Rattle.reg_schema.proofs.Edits.{step_of, replacing}
 use Rattle.reg_schema.proofs.Queries.{plain, and_true, answers, shows_filtered, same_filter, equals_int, equals_text}
