@@ -18,7 +18,7 @@ use Rattle.reg_model.specs.Events.{Asked, Command, Answer, action_of, fault_of}
 use Rattle.reg_model.specs.Events.Asked.{Faulty, Read, Index, Download, ListOwners, Publish, Yank, Unyank, AddOwners, RemoveOwners}
 use Rattle.reg_model.specs.Events.Event.{Ask, Order}
 use Rattle.reg_model.specs.Events.Answer.{Denied, Refused}
-use Rattle.reg_model.specs.Refusals.{denied, judged, or_else, refused, grounds}
+use Rattle.reg_model.specs.Refusals.{denied, judged, no_crate, no_login, or_else, refused, grounds}
 use Rattle.reg_model.specs.Effects.{account_of, served, done, replied, commanded, enable}
 use Rattle.reg_model.specs.Steps.{Step, unless_denied, unless_refused}
 use Rattle.reg_policy.specs.declared.action.Decision.TheVariants.{Allowed, Denied as DeniedBy}
@@ -192,3 +192,16 @@ no_crate_there s n g e = no_crate_at (is_name n && exists s n) n g e
 pub told : (r : Result AdminReply AdminRefusal) (g h : AdminRefusal) → IsErrAnd r (λ e. e ≡ g) → g ≡ h → reply_of r ≡ Refused h
 told (Ok x) g h is e = absurd is
 told (Err f) g h is e = ap Refused (is ∙ e)
+
+-- a command that is about a crate, and an account, is refused where they are not there
+module _ (limits : Limits) (s : Registry) (c : Command) (n : Text) (rest : List (AdminRefusal × Bool)) (about : grounds limits s c ≡ no_crate s n ∷ rest) (r : Result AdminReply AdminRefusal) (g : AdminRefusal) (is : IsErrAnd r (λ e. e ≡ g)) where
+  pub no_crate_step : Err g ≡ crate_found s n → Step limits s (Order c) (reply_of r) s
+  no_crate_step e =
+      let no = no_crate_there s n g e in
+      refused_step limits s s c (reply_of r) 0 G8 (subst (Refuses 0 G8) (sym about) (refl, no.1)) (told r g G8 is no.0) refl
+
+  pub no_account_step : (login m : Text) (more : List (AdminRefusal × Bool)) → rest ≡ no_login s login ∷ more → Ok m ≡ crate_found s n → Err g ≡ or_unknown (id_of_login s login) → Step limits s (Order c) (reply_of r) s
+  no_account_step login m more then there e =
+      let no = no_login_there (id_of_login s login) g e in
+      let these = about ∙ ap (λ l. no_crate s n ∷ l) then in
+      refused_step limits s s c (reply_of r) 1 G3 (subst (Refuses 1 G3) (sym these) ((crate_there s n m there).1, (refl, no.1))) (told r g G3 is no.0) refl

@@ -1,19 +1,15 @@
 use Rattle.std.proofs.Common.{refl, ◌∙◌, ap}
 use Rattle.std.specs.FinSet as finset
 use Rattle.reg_names.specs.Names.{canon}
-use Rattle.reg_model.specs.declared.rule.AdminRefusal.TheVariants.{G8}
 use Rattle.reg_model.specs.Registry.{Registry}
 use Rattle.reg_model.specs.Events.Command.{CrateRestrict}
 use Rattle.reg_model.specs.Effects.{commanded}
 use Rattle.reg_plain.specs.Plain.{limits_of, registry_of}
-use Rattle.reg_plain.proofs.Joined.{refused_step, done_step, crate_there, no_crate_there, told}
+use Rattle.reg_plain.proofs.Joined.{done_step, crate_there, no_crate_step}
 use Rattle.reg_plain.proofs.plain.PlainRegistry.crate_restrict.Goals as goal
 
 pub returns-in_err-name-clause-step : goal.returns-in_err-name-clause-step
-returns-in_err-name-clause-step c =
-    let s : Registry = registry_of c.args.self.now in
-    let no = no_crate_there s c.args.name.now c.in_err-name.field-0.0 c.in_err-name.ensures in
-    refused_step (limits_of c.args.self.now) s _ (CrateRestrict c.args.name.now) _ 0 G8 (refl, no.1) (told c.from_residual.result c.in_err-name.field-0.0 G8 c.from_residual.ensures.1 no.0) refl
+returns-in_err-name-clause-step c = no_crate_step (limits_of c.args.self.now) (registry_of c.args.self.now) (CrateRestrict c.args.name.now) c.args.name.now _ refl c.from_residual.result _ c.from_residual.ensures.1 c.in_err-name.ensures
 
 pub returns-in-Ok-clause-step : goal.returns-in-Ok-clause-step
 unfolding commanded

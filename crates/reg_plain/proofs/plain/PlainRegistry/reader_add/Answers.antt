@@ -1,27 +1,19 @@
-use Rattle.std.proofs.Common.{refl, sym, ◌∙◌, ap}
+use Rattle.std.proofs.Common.{[], refl, sym, ◌∙◌, ap}
 use Rattle.std.specs.Prelude.{is_none, unwrap_or}
 use Rattle.std.specs.FinSet as finset
 use Rattle.reg_names.specs.Names.{canon}
-use Rattle.reg_model.specs.declared.rule.AdminRefusal.TheVariants.{G3, G8}
 use Rattle.reg_model.specs.Registry.{Registry, id_of_login}
 use Rattle.reg_model.specs.Events.Command.{ReaderAdd}
 use Rattle.reg_model.specs.Effects.{commanded}
 use Rattle.reg_plain.specs.Plain.{limits_of, registry_of}
-use Rattle.reg_plain.proofs.Joined.{refused_step, done_step, crate_there, no_crate_there, login_there, no_login_there, told}
+use Rattle.reg_plain.proofs.Joined.{done_step, crate_there, login_there, no_account_step, no_crate_step}
 use Rattle.reg_plain.proofs.plain.PlainRegistry.reader_add.Goals as goal
 
 pub returns-in_err-name-clause-step : goal.returns-in_err-name-clause-step
-returns-in_err-name-clause-step c =
-    let s : Registry = registry_of c.args.self.now in
-    let no = no_crate_there s c.args.name.now c.in_err-name.field-0.0 c.in_err-name.ensures in
-    refused_step (limits_of c.args.self.now) s _ (ReaderAdd c.args.name.now c.args.login.now) _ 0 G8 (refl, no.1) (told c.from_residual.result c.in_err-name.field-0.0 G8 c.from_residual.ensures.1 no.0) refl
+returns-in_err-name-clause-step c = no_crate_step (limits_of c.args.self.now) (registry_of c.args.self.now) (ReaderAdd c.args.name.now c.args.login.now) c.args.name.now _ refl c.from_residual.result _ c.from_residual.ensures.1 c.in_err-name.ensures
 
 pub returns-in_err-id-clause-step : goal.returns-in_err-id-clause-step
-returns-in_err-id-clause-step c =
-    let s : Registry = registry_of c.args.self.now in
-    let there = crate_there s c.args.name.now c.in_ok-name.name c.in_ok-name.ensures in
-    let no = no_login_there (id_of_login s c.args.login.now) c.in_err-id.field-0.0 c.in_err-id.ensures in
-    refused_step (limits_of c.args.self.now) s _ (ReaderAdd c.args.name.now c.args.login.now) _ 1 G3 (there.1, (refl, no.1)) (told c.from_residual-in_err-id.result c.in_err-id.field-0.0 G3 c.from_residual-in_err-id.ensures.1 no.0) refl
+returns-in_err-id-clause-step c = no_account_step (limits_of c.args.self.now) (registry_of c.args.self.now) (ReaderAdd c.args.name.now c.args.login.now) c.args.name.now _ refl c.from_residual-in_err-id.result _ c.from_residual-in_err-id.ensures.1 c.args.login.now _ [] refl c.in_ok-name.ensures c.in_err-id.ensures
 
 pub returns-in-Ok-clause-step : goal.returns-in-Ok-clause-step
 unfolding commanded
