@@ -2,8 +2,8 @@
 
 use crate::call::{AccountCall, Call, CrateCall, NameCall, NewToken, Release, TextCall, TokenCall};
 use crate::fault::Fault;
-use reg_line::{digest_of, stem};
-use reg_manifest::read_manifest;
+use reg_line::{Digest, digest_of, stem};
+use reg_manifest::{Manifest, read_manifest};
 use reg_model::Endpoints;
 use reg_names::{CanonText, Pattern, canon, parse_name};
 use std::alloc::{AllocError, Global};
@@ -91,6 +91,18 @@ fn token_call(alloc: Global, words: &[&str]) -> Result<Option<TokenCall>, AllocE
     })
 }
 
+/// The manifest of a version that has its name and number alone.
+fn manifest_of(alloc: Global, name: &str, text: &str) -> Result<Manifest, Fault> {
+    let json = format!(in alloc; "{{\"name\":\"{name}\",\"vers\":\"{text}\"}}")?;
+    Ok(read_manifest(alloc, json.as_bytes())?)
+}
+
+/// The stem of its line.
+fn stem_of(alloc: Global, name: &str, text: &str, digest: &Digest) -> Result<Vec<u8>, Fault> {
+    let manifest = manifest_of(alloc, name, text)?;
+    Ok(stem(alloc, &manifest, digest)?)
+}
+
 /// A version of a crate, with the stem of its line.
 pub fn release_of<'a>(
     alloc: Global,
@@ -100,13 +112,10 @@ pub fn release_of<'a>(
     description: Option<&'a str>,
 ) -> Result<Release<'a>, Fault> {
     let digest = digest_of(archive);
-    let json = format!(in alloc; "{{\"name\":\"{name}\",\"vers\":\"{text}\"}}")?;
-    let manifest = read_manifest(alloc, json.as_bytes())?;
-    let stem = stem(alloc, &manifest, &digest)?;
     Ok(Release {
         text,
         description,
-        stem,
+        stem: stem_of(alloc, name, text, &digest)?,
         digest,
         archive,
     })
@@ -173,21 +182,34 @@ fn crate_call<'a>(alloc: Global, words: &[&'a str]) -> Result<Option<CrateCall<'
     }
 }
 
+/// A call on a name.
+fn named_call(word: &str, name: &str) -> Option<NameCall> {
+    let name = canon_of(name)?;
+    match word {
+        "crate" => Some(NameCall::Crate(name)),
+        "reserve" => Some(NameCall::Reserve(name)),
+        "unreserve" => Some(NameCall::Unreserve(name)),
+        "reserved" => Some(NameCall::IsReserved(name)),
+        _ => None,
+    }
+}
+
+/// A call on an owner.
+fn owner_call(word: &str, id: u32, account: u32) -> Option<NameCall> {
+    match word {
+        "add-owner" => Some(NameCall::AddOwner(id, account)),
+        "remove-owner" => Some(NameCall::RemoveOwner(id, account)),
+        _ => None,
+    }
+}
+
 fn name_call(words: &[&str]) -> Option<NameCall> {
-    Some(match words {
-        ["crate", name] => NameCall::Crate(canon_of(name)?),
-        ["reserve", name] => NameCall::Reserve(canon_of(name)?),
-        ["unreserve", name] => NameCall::Unreserve(canon_of(name)?),
-        ["reserved", name] => NameCall::IsReserved(canon_of(name)?),
-        ["add-owner", id, account] => {
-            NameCall::AddOwner(id.parse().ok()?, account.parse().ok()?)
-        }
-        ["remove-owner", id, account] => {
-            NameCall::RemoveOwner(id.parse().ok()?, account.parse().ok()?)
-        }
-        ["owners", id] => NameCall::Owners(id.parse().ok()?),
-        _ => return None,
-    })
+    match words {
+        ["owners", id] => Some(NameCall::Owners(id.parse().ok()?)),
+        [word, name] => named_call(word, name),
+        [word, id, account] => owner_call(word, id.parse().ok()?, account.parse().ok()?),
+        _ => None,
+    }
 }
 
 fn text_call<'a>(words: &[&'a str]) -> Option<TextCall<'a>> {
