@@ -118,7 +118,11 @@ pub(crate) fn compare(
     if found == want {
         return Ok(None);
     }
-    Ok(Some(format!(in alloc; "{line}: {found}")?))
+    format!(in alloc; "{line}: {found}").map(Some)
+}
+
+pub(crate) fn no_arrow(alloc: Global, line: &str) -> Result<Option<String>, AllocError> {
+    format!(in alloc; "{line}: no arrow").map(Some)
 }
 
 /// What a line is answered, where it is not what the line says.
@@ -132,7 +136,7 @@ fn otherwise<S: Alter>(
     ensures same_reference { work.new.tables.ghost_name ≡ work.old.tables.ghost_name }
 {
     let Some((call, want)) = line.split_once(" -> ") else {
-        return Ok(Some(format!(in alloc; "{line}: no arrow")?));
+        return Ok(no_arrow(alloc, line)?);
     };
     let found = answer_of(alloc, work, call)?;
     Ok(compare(alloc, line, want, &found)?)
