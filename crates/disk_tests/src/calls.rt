@@ -14,6 +14,8 @@ add-owner 1 2 -> done
 reserve kept -> done
 commit -> done";
 
+pub(crate) const A_CRATE: &str = "add-crate second 1 0.1.0 abc it-nets -> 2";
+
 /// Each changes the rows.
 pub(crate) const CHANGES: &str = "add-account dan Dan -> 4
 enable 3 -> done

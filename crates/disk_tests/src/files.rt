@@ -1,14 +1,11 @@
 //! A registry in two files that stop after a number of calls, and are opened again.
 
+use crate::fault::Fault;
 use crate::limits::{Limits, NO_LIMITS};
-use crate::playing::prepare;
-use reg_tables::Tables;
+use crate::playing::{filled, rows_over};
 use sqlite::{Connection, FileStore, Files, Options};
 use sqlite_disk::{Crash, Disk, Fuse, Memory};
 use std::alloc::Global;
-use std::process::Abort;
-use std::test::Fail;
-use test_tables::{BASE, rows_text};
 
 /// A file in memory that stops after some call.
 pub(crate) type Stopping = Fuse<Memory>;
@@ -23,7 +20,7 @@ pub(crate) struct Image {
     db: Vec<u8>,
 }
 
-fn file_of(alloc: Global, bytes: &[u8], calls: u64) -> Result<Stopping, Fail> {
+fn file_of(alloc: Global, bytes: &[u8], calls: u64) -> Result<Stopping, Fault> {
     let mut file = Memory::new(alloc);
     file.write_at(0, bytes)?;
     file.sync()?;
@@ -34,7 +31,7 @@ pub(crate) fn files_of(
     alloc: Global,
     image: &Image,
     limits: &Limits,
-) -> Result<Files<Stopping>, Fail> {
+) -> Result<Files<Stopping>, Fault> {
     let log = file_of(alloc, &image.log, limits.log)?;
     let db = file_of(alloc, &image.db, limits.db)?;
     Ok(Files { log, db })
@@ -60,30 +57,16 @@ pub(crate) fn open(alloc: Global, files: Files<Stopping>) -> Result<Conn, Files<
     }
 }
 
-/// The rows of tables that were made before; none where nothing was made.
-fn rows_over(alloc: Global, conn: Conn) -> Result<Option<String>, Fail> {
-    if conn.schema().tables.is_empty() {
-        return Ok(None);
-    }
-    if !conn.is_autocommit() {
-        return Err("a transaction is open".into());
-    }
-    match Tables::adopt(alloc, conn) {
-        Ok(mut tables) => Ok(Some(rows_text(alloc, &mut tables)?)),
-        Err((_fault, _conn)) => Err("not known again".into()),
-    }
-}
-
 /// The rows of files that a machine finds again after it stopped.
 pub(crate) fn rows_after(
     alloc: Global,
     mut files: Files<Stopping>,
-) -> Result<Option<String>, Fail> {
+) -> Result<Option<String>, Fault> {
     files.log.crash();
     files.db.crash();
     match open(alloc, files) {
         Ok(conn) => rows_over(alloc, conn),
-        Err(_files) => Err("not opened again".into()),
+        Err(_files) => Err(Fault::NotOpened),
     }
 }
 
@@ -105,39 +88,39 @@ pub(crate) fn nothing(alloc: Global) -> Prepared {
     }
 }
 
-/// The bytes of the connection's files, once they are closed.
-fn image_of(alloc: Global, conn: Conn) -> Result<Image, Fail> {
-    match conn.close_files() {
-        Ok(files) => {
-            let log = files.log.inner().bytes().to_vec(alloc)?;
-            let db = files.db.inner().bytes().to_vec(alloc)?;
-            Ok(Image { log, db })
-        }
-        Err((error, _store)) => Err(error.into()),
+/// A connection to new files.
+fn opened(alloc: Global) -> Result<Conn, Fault> {
+    let files = files_of(alloc, &nothing(alloc).image, &NO_LIMITS)?;
+    match open(alloc, files) {
+        Ok(conn) => Ok(conn),
+        Err(_files) => Err(Fault::NotOpened),
     }
 }
 
-fn filled(rt: &impl Abort, alloc: Global, conn: Conn, script: &str) -> Result<Image, Fail> {
-    match Tables::make(conn, BASE) {
-        Ok(mut tables) => {
-            prepare(rt, alloc, &mut tables, script)?;
-            image_of(alloc, tables.into_connection())
-        }
-        Err((_fault, _conn)) => Err("not made".into()),
+/// The connection's files, once they are closed.
+fn closed(conn: Conn) -> Result<Files<Stopping>, Fault> {
+    match conn.close_files() {
+        Ok(files) => Ok(files),
+        Err((_error, _store)) => Err(Fault::NotClosed),
     }
+}
+
+fn image_of(alloc: Global, files: &Files<Stopping>) -> Result<Image, Fault> {
+    let log = files.log.inner().bytes().to_vec(alloc)?;
+    let db = files.db.inner().bytes().to_vec(alloc)?;
+    Ok(Image { log, db })
+}
+
+/// The bytes of new files that hold the prepared registry once this script was played over it.
+fn image_after(alloc: Global, script: &str) -> Result<Image, Fault> {
+    let conn = filled(alloc, opened(alloc)?, script)?;
+    let files = closed(conn)?;
+    image_of(alloc, &files)
 }
 
 /// The prepared registry once this script was played over it.
-pub(crate) fn prepare_files(
-    rt: &impl Abort,
-    alloc: Global,
-    script: &str,
-) -> Result<Prepared, Fail> {
-    let files = files_of(alloc, &nothing(alloc).image, &NO_LIMITS)?;
-    let Ok(conn) = open(alloc, files) else {
-        return Err("not opened".into());
-    };
-    let image = filled(rt, alloc, conn, script)?;
+pub(crate) fn prepare_files(alloc: Global, script: &str) -> Result<Prepared, Fault> {
+    let image = image_after(alloc, script)?;
     let rows = rows_after(alloc, files_of(alloc, &image, &NO_LIMITS)?)?;
     Ok(Prepared { image, rows })
 }

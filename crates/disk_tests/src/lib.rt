@@ -13,9 +13,13 @@ mod calls;
 #[cfg(test)]
 mod commits;
 #[cfg(test)]
+mod fault;
+#[cfg(test)]
 mod files;
 #[cfg(test)]
 mod limits;
+#[cfg(test)]
+mod lines;
 #[cfg(test)]
 mod playing;
 #[cfg(test)]

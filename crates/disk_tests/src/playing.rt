@@ -1,58 +1,57 @@
-//! Playing scripts over tables, and comparing all rows.
+//! Filling tables, and finding their rows again.
 
 ghost use Rattle.reg_tables.specs.Works.{AreOurs};
 
 use crate::calls::PREPARED;
+use crate::fault::Fault;
 use reg_tables::Tables;
-use sqlite::Alter;
+use sqlite::{Alter, Connection};
 use std::alloc::Global;
-use std::process::Abort;
-use std::test::Fail;
-use test_tables::{play_over, rows_text};
+use test_tables::{BASE, play_over, rows_text};
 
-/// Plays a script.
-pub(crate) fn plays<S: Alter>(
-    rt: &impl Abort,
-    alloc: Global,
-    tables: &mut Tables<S>,
-    script: &str,
-) -> Result<(), Fail>
+/// Plays a script, if there is one.
+fn plays<S: Alter>(alloc: Global, tables: &mut Tables<S>, script: &str) -> Result<(), Fault>
     requires { AreOurs S.Store tables.old }
     ensures { AreOurs S.Store tables.new }
 {
-    let broken = play_over(alloc, tables, script)?;
-    assert_eq!(rt; broken, None);
-    Ok(())
-}
-
-/// Fills the tables with the prepared registry, and plays a script over it if there is one.
-pub(crate) fn prepare<S: Alter>(
-    rt: &impl Abort,
-    alloc: Global,
-    tables: &mut Tables<S>,
-    script: &str,
-) -> Result<(), Fail>
-    requires { AreOurs S.Store tables.old }
-    ensures { AreOurs S.Store tables.new }
-{
-    plays(rt, alloc, tables, PREPARED)?;
     if script.is_empty() {
         return Ok(());
     }
-    plays(rt, alloc, tables, script)
+    match play_over(alloc, tables, script)? {
+        None => Ok(()),
+        Some(line) => Err(Fault::Line(line)),
+    }
 }
 
-/// These are all rows.
-pub(crate) fn has_rows<S: Alter>(
-    rt: &impl Abort,
+/// Makes the prepared registry over a connection, and plays a script over it if there is one.
+pub(crate) fn filled<S: Alter + Drop>(
     alloc: Global,
-    tables: &mut Tables<S>,
-    rows: &str,
-) -> Result<(), Fail>
-    requires { AreOurs S.Store tables.old }
-    ensures { AreOurs S.Store tables.new }
-{
-    let found = rows_text(alloc, tables)?;
-    assert!(rt; found.as_str() == rows);
-    Ok(())
+    conn: Connection<S>,
+    script: &str,
+) -> Result<Connection<S>, Fault> {
+    match Tables::make(conn, BASE) {
+        Ok(mut tables) => {
+            plays(alloc, &mut tables, PREPARED)?;
+            plays(alloc, &mut tables, script)?;
+            Ok(tables.into_connection())
+        }
+        Err((_fault, _conn)) => Err(Fault::NotMade),
+    }
+}
+
+/// The rows of tables that were made before; none where nothing was made.
+pub(crate) fn rows_over<S: Alter + Drop>(
+    alloc: Global,
+    conn: Connection<S>,
+) -> Result<Option<String>, Fault> {
+    if conn.schema().tables.is_empty() {
+        return Ok(None);
+    }
+    if !conn.is_autocommit() {
+        return Err(Fault::NotAdopted);
+    }
+    match Tables::adopt(alloc, conn) {
+        Ok(mut tables) => Ok(Some(rows_text(alloc, &mut tables)?)),
+        Err((_fault, _conn)) => Err(Fault::NotAdopted),
+    }
 }

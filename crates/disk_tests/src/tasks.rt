@@ -3,14 +3,15 @@
 ghost use Rattle.std.specs.Prelude.{◌≡◌, IfOk};
 ghost use Rattle.reg_tables.specs.Works.{AreOurs, IsAtWork};
 
-use crate::files::{Conn, Image, Stopping, files_of, have_stopped, open, rows_after};
+use crate::fault::Fault;
+use crate::files::{Image, Stopping, files_of, have_stopped, open, rows_after};
 use crate::limits::{Limits, leave_only};
 use reg_audit::audit;
 use reg_tables::{StoreFault, Tables, Work};
 use sqlite::{Alter, Connection, Files};
 use std::alloc::{AllocError, Global};
-use std::test::Fail;
-use test_tables::{BASE, Call, check_text, perform, read_call, read_logins};
+use test_support::scarce_memory::Amounts;
+use test_tables::{BASE, Call, check_text, perform, read_call, read_logins, reply_text};
 
 /// What is done.
 #[derive(Drop)]
@@ -27,21 +28,24 @@ pub(crate) enum Task<'a> {
     Call(Call<'a>),
 }
 
-pub(crate) fn read_task<'a>(alloc: Global, text: &'a str) -> Result<Task<'a>, Fail> {
+pub(crate) fn read_task<'a>(alloc: Global, text: &'a str) -> Result<Task<'a>, Fault> {
     Ok(match text {
         "make" => Task::Make,
         "adopt" => Task::Adopt,
         "audit" => Task::Audit,
         "read-logins" => Task::Logins,
-        _ => Task::Call(read_call(alloc, text)?.ok_or("no call")?),
+        _ => match read_call(alloc, text)? {
+            Some(call) => Task::Call(call),
+            None => return Err(Fault::Words),
+        },
     })
 }
 
 /// An answer, and whether it is one that was done or committed.
 #[derive(Drop)]
-struct Reply {
-    text: String,
-    acknowledged: bool,
+pub(crate) struct Reply {
+    pub(crate) text: String,
+    pub(crate) acknowledged: bool,
 }
 
 fn reply_with(alloc: Global, text: &str, acknowledged: bool) -> Result<Reply, AllocError> {
@@ -51,6 +55,10 @@ fn reply_with(alloc: Global, text: &str, acknowledged: bool) -> Result<Reply, Al
 
 fn fault(alloc: Global) -> Result<Reply, AllocError> {
     reply_with(alloc, "fault", false)
+}
+
+fn done_if(alloc: Global, is_done: bool) -> Result<Reply, AllocError> {
+    reply_with(alloc, if is_done { "done" } else { "fault" }, is_done)
 }
 
 /// What the call is answered with this amount of memory.
@@ -67,10 +75,21 @@ fn answer<S: Alter>(
     let memory = leave_only(alloc, amount)?;
     let found = perform(alloc, work, call);
     drop(memory);
-    match found {
-        Ok(answer) => answer.text(alloc),
-        Err(StoreFault) => String::from_str(alloc, "fault"),
-    }
+    reply_text(alloc, found)
+}
+
+/// Whether the transaction is committed with this amount of memory.
+fn commits<S: Alter>(
+    alloc: Global,
+    work: Work<'_, S>,
+    amount: Option<u32>,
+) -> Result<bool, AllocError>
+    requires { IsAtWork S.Store work }
+{
+    let memory = leave_only(alloc, amount)?;
+    let is_done = work.commit().is_ok();
+    drop(memory);
+    Ok(is_done)
 }
 
 fn committed<S: Alter>(
@@ -85,9 +104,7 @@ fn committed<S: Alter>(
         return fault(alloc);
     };
     let text = answer(alloc, &mut work, call, limits.call)?;
-    let memory = leave_only(alloc, limits.commit)?;
-    let acknowledged = work.commit().is_ok();
-    drop(memory);
+    let acknowledged = commits(alloc, work, limits.commit)?;
     Ok(Reply { text, acknowledged })
 }
 
@@ -142,30 +159,20 @@ fn over_tables<S: Alter>(
     }
 }
 
-/// What was replied, and the files as they were left.
-#[derive(Drop)]
-struct Ending {
-    reply: Reply,
-    files: Files<Stopping>,
-}
+/// The connection as a task leaves it, and what that was answered.
+type Ending<S> = (Connection<S>, Result<Reply, AllocError>);
 
-fn made(alloc: Global, conn: Conn, amount: Option<u32>) -> Result<Ending, Fail> {
-    let memory = leave_only(alloc, amount)?;
+/// Makes the tables while there is no more memory than is left beside this.
+fn made<S: Alter + Drop>(conn: Connection<S>, memory: Option<Amounts>) -> (Connection<S>, bool) {
     let made = Tables::make(conn, BASE);
     drop(memory);
-    Ok(match made {
-        Ok(tables) => Ending {
-            reply: reply_with(alloc, "done", true)?,
-            files: tables.into_connection().into_store().close(),
-        },
-        Err((_fault, conn)) => Ending {
-            reply: fault(alloc)?,
-            files: conn.into_store().close(),
-        },
-    })
+    match made {
+        Ok(tables) => (tables.into_connection(), true),
+        Err((_fault, conn)) => (conn, false),
+    }
 }
 
-fn adopt<S: Alter>(
+fn adopt<S: Alter + Drop>(
     alloc: Global,
     conn: Connection<S>,
     amount: Option<u32>,
@@ -186,47 +193,64 @@ fn adopt<S: Alter>(
     }
 }
 
-fn adopted(alloc: Global, conn: Conn, task: &Task<'_>, limits: &Limits) -> Result<Ending, Fail> {
+fn adopted<S: Alter + Drop>(
+    alloc: Global,
+    conn: Connection<S>,
+    task: &Task<'_>,
+    limits: &Limits,
+) -> Ending<S> {
     let amount = match task {
         Task::Adopt => limits.call,
         _ => None,
     };
     match adopt(alloc, conn, amount) {
-        Ok(mut tables) => Ok(Ending {
-            reply: over_tables(alloc, &mut tables, task, limits)?,
-            files: tables.into_connection().into_store().close(),
-        }),
-        Err(conn) => Ok(Ending {
-            reply: fault(alloc)?,
-            files: conn.into_store().close(),
-        }),
+        Ok(mut tables) => {
+            let reply = over_tables(alloc, &mut tables, task, limits);
+            (tables.into_connection(), reply)
+        }
+        Err(conn) => (conn, fault(alloc)),
     }
 }
 
-fn run(
+fn over_connection<S: Alter + Drop>(
+    alloc: Global,
+    conn: Connection<S>,
+    task: &Task<'_>,
+    limits: &Limits,
+) -> Ending<S> {
+    let Task::Make = task else {
+        return adopted(alloc, conn, task, limits);
+    };
+    match leave_only(alloc, limits.call) {
+        Ok(memory) => {
+            let (conn, is_made) = made(conn, memory);
+            (conn, done_if(alloc, is_made))
+        }
+        Err(error) => (conn, Err(error)),
+    }
+}
+
+/// The files as a task leaves them, and what that was answered.
+fn over_files(
     alloc: Global,
     files: Files<Stopping>,
     task: &Task<'_>,
     limits: &Limits,
-) -> Result<Ending, Fail> {
+) -> (Files<Stopping>, Result<Reply, AllocError>) {
     match open(alloc, files) {
-        Ok(conn) => match task {
-            Task::Make => made(alloc, conn, limits.call),
-            _ => adopted(alloc, conn, task, limits),
-        },
-        Err(files) => Ok(Ending {
-            reply: fault(alloc)?,
-            files,
-        }),
+        Ok(conn) => {
+            let (conn, reply) = over_connection(alloc, conn, task, limits);
+            (conn.into_store().close(), reply)
+        }
+        Err(files) => (files, fault(alloc)),
     }
 }
 
-/// What came of it: the answer, whether that was acknowledged, whether a file stopped, and the rows
-/// that are found when the files are opened again.
+/// What came of it: the answer, whether a file stopped, and the rows that are found when the files
+/// are opened again.
 #[derive(Drop)]
 pub(crate) struct Outcome {
-    pub(crate) answer: String,
-    pub(crate) acknowledged: bool,
+    pub(crate) reply: Reply,
     pub(crate) stopped: bool,
     pub(crate) rows: Option<String>,
 }
@@ -236,13 +260,12 @@ pub(crate) fn outcome_of(
     image: &Image,
     task: &Task<'_>,
     limits: &Limits,
-) -> Result<Outcome, Fail> {
-    let Ending { reply, mut files } = run(alloc, files_of(alloc, image, limits)?, task, limits)?;
+) -> Result<Outcome, Fault> {
+    let (mut files, reply) = over_files(alloc, files_of(alloc, image, limits)?, task, limits);
     let stopped = have_stopped(&mut files);
     let rows = rows_after(alloc, files)?;
     Ok(Outcome {
-        answer: reply.text,
-        acknowledged: reply.acknowledged,
+        reply: reply?,
         stopped,
         rows,
     })

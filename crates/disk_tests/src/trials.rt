@@ -1,11 +1,11 @@
 //! A task with more and more of what is scarce: it is done, or the rows are those before or those
 //! after, and those after if it was acknowledged.
 
+use crate::fault::Fault;
 use crate::files::Prepared;
-use crate::limits::{NO_LIMITS, Scarce};
-use crate::tasks::{Outcome, Task, outcome_of, read_task};
+use crate::limits::{Limits, NO_LIMITS, Scarce};
+use crate::tasks::{Outcome, Task, outcome_of};
 use std::alloc::Global;
-use std::test::Fail;
 
 /// More runs than any task needs.
 const MOST_RUNS: u32 = 1000;
@@ -19,32 +19,41 @@ pub(crate) struct Seen {
     pub(crate) broken: Option<&'static str>,
 }
 
-/// A task over these files, its answer, and the rows after it.
-#[derive(Drop)]
-struct Trial<'a> {
-    task: Task<'a>,
-    answer: &'a str,
-    prepared: &'a Prepared,
-    after: Option<String>,
+impl Seen {
+    fn broken(why: &'static str) -> Seen {
+        Seen {
+            before: 0,
+            after: 0,
+            broken: Some(why),
+        }
+    }
 }
 
-/// The line's task with no limits.
-fn trial_of<'a>(alloc: Global, prepared: &'a Prepared, line: &'a str) -> Result<Trial<'a>, Fail> {
-    let (text, answer) = line.split_once(" -> ").ok_or("no arrow")?;
-    let task = read_task(alloc, text)?;
-    let found = outcome_of(alloc, &prepared.image, &task, &NO_LIMITS)?;
-    if !found.acknowledged || found.answer.as_str() != answer {
-        return Err(line.into());
+/// A task over these files, its answer, and the rows after it.
+#[derive(Clone, Copy)]
+pub(crate) struct Trial<'a> {
+    pub(crate) task: &'a Task<'a>,
+    pub(crate) answer: &'a str,
+    pub(crate) prepared: &'a Prepared,
+    pub(crate) after: &'a Option<String>,
+}
+
+/// The rows after a task with no limits, where it has this answer.
+pub(crate) fn rows_once_done(
+    alloc: Global,
+    prepared: &Prepared,
+    task: &Task<'_>,
+    answer: &str,
+) -> Result<Option<String>, Fault> {
+    let Outcome { reply, rows, .. } = outcome_of(alloc, &prepared.image, task, &NO_LIMITS)?;
+    if reply.acknowledged && reply.text.as_str() == answer {
+        return Ok(rows);
     }
-    Ok(Trial {
-        task,
-        answer,
-        prepared,
-        after: found.rows,
-    })
+    Err(Fault::Line(reply.text))
 }
 
 /// What came of a run.
+#[derive(Clone, Copy)]
 enum Came {
     Done,
     Before,
@@ -53,10 +62,10 @@ enum Came {
 }
 
 /// What came of a run that was not done.
-fn undone(trial: &Trial<'_>, found: &Outcome) -> Came {
-    if found.rows == trial.after {
+fn undone(trial: Trial<'_>, found: &Outcome) -> Came {
+    if found.rows == *trial.after {
         Came::After
-    } else if found.acknowledged {
+    } else if found.reply.acknowledged {
         Came::Broken("acknowledged, and lost")
     } else if found.rows == trial.prepared.rows {
         Came::Before
@@ -65,58 +74,45 @@ fn undone(trial: &Trial<'_>, found: &Outcome) -> Came {
     }
 }
 
-fn came_of(trial: &Trial<'_>, found: &Outcome) -> Came {
-    let answer = found.answer.as_str();
-    if answer == "fault" && found.acknowledged {
+fn came_of(trial: Trial<'_>, found: &Outcome) -> Came {
+    let answer = found.reply.text.as_str();
+    let acknowledged = found.reply.acknowledged;
+    if answer == "fault" && acknowledged {
         return Came::Broken("a fault that was committed");
     }
     if answer != "fault" && answer != trial.answer {
         return Came::Broken("another answer");
     }
-    if found.acknowledged && !found.stopped && found.rows == trial.after {
+    if acknowledged && !found.stopped && found.rows == *trial.after {
         return Came::Done;
     }
     undone(trial, found)
 }
 
-fn broken(why: &'static str) -> Seen {
-    Seen {
-        before: 0,
-        after: 0,
-        broken: Some(why),
-    }
+fn run(alloc: Global, trial: Trial<'_>, limits: &Limits) -> Result<Came, Fault> {
+    let found = outcome_of(alloc, &trial.prepared.image, trial.task, limits)?;
+    Ok(came_of(trial, &found))
 }
 
-fn each_amount(alloc: Global, trial: &Trial<'_>, scarce: Scarce, step: u32) -> Result<Seen, Fail> {
-    let mut before = 0_u32;
-    let mut after = 0_u32;
-    for at in 0..MOST_RUNS {
-        let limits = scarce.with(at.saturating_mul(step));
-        let found = outcome_of(alloc, &trial.prepared.image, &trial.task, &limits)?;
-        match came_of(trial, &found) {
-            Came::Done => {
-                return Ok(Seen {
-                    before,
-                    after,
-                    broken: None,
-                });
-            }
-            Came::Before => before = before.saturating_add(1),
-            Came::After => after = after.saturating_add(1),
-            Came::Broken(why) => return Ok(broken(why)),
-        }
-    }
-    Ok(broken("never done"))
-}
-
-/// Does the line's task with none, one step, two steps, .. of what is scarce, until it is done.
-pub(crate) fn tried(
+/// Does the task with none, one step, two steps, .. of what is scarce, until it is done.
+pub(crate) fn each_amount(
     alloc: Global,
-    prepared: &Prepared,
-    line: &str,
+    trial: Trial<'_>,
     scarce: Scarce,
     step: u32,
-) -> Result<Seen, Fail> {
-    let trial = trial_of(alloc, prepared, line)?;
-    each_amount(alloc, &trial, scarce, step)
+) -> Result<Seen, Fault> {
+    let mut seen = Seen {
+        before: 0,
+        after: 0,
+        broken: None,
+    };
+    for at in 0..MOST_RUNS {
+        match run(alloc, trial, &scarce.with(at.saturating_mul(step)))? {
+            Came::Done => return Ok(seen),
+            Came::Before => seen.before = seen.before.saturating_add(1),
+            Came::After => seen.after = seen.after.saturating_add(1),
+            Came::Broken(why) => return Ok(Seen::broken(why)),
+        }
+    }
+    Ok(Seen::broken("never done"))
 }

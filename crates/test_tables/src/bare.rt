@@ -5,12 +5,12 @@ ghost use Rattle.std.specs.Prelude.{◌≡◌, false};
 
 use crate::fault::Fault;
 use crate::records::list;
-use crate::script::{BASE, FILLED, check_text, compare, play_over};
+use crate::script::{BASE, FILLED, check_text, compare, no_arrow, play_over};
 use reg_audit::audit;
 use reg_schema::{MakeFault, begin, finish, is_ours, make_tables, undo};
-use reg_tables::Tables;
-use sqlite::{Alter, Connection, Error, params};
-use std::alloc::Global;
+use reg_tables::{StoreFault, Tables};
+use sqlite::{Alter, Connection, Error, Row, params};
+use std::alloc::{AllocError, Global};
 
 fn made(made: Result<(), MakeFault>) -> &'static str {
     match made {
@@ -27,6 +27,13 @@ fn run(run: Result<usize, Error>) -> &'static str {
     }
 }
 
+fn rows_text(alloc: Global, rows: Result<Vec<Row>, Error>) -> Result<String, AllocError> {
+    match rows {
+        Ok(rows) => list(alloc, &rows),
+        Err(_) => String::from_str(alloc, "fault"),
+    }
+}
+
 fn yes(is: bool) -> &'static str {
     if is { "yes" } else { "no" }
 }
@@ -36,21 +43,21 @@ fn by_statement<S: Alter>(
     alloc: Global,
     conn: &mut Connection<S>,
     line: &str,
-) -> Result<String, Fault> {
+) -> Result<String, AllocError> {
     if let Some(base) = line.strip_prefix("make ") {
-        return Ok(String::from_str(alloc, made(make_tables(conn, base)))?);
+        return String::from_str(alloc, made(make_tables(conn, base)));
     }
     if let Some(text) = line.strip_prefix("rows ") {
-        return Ok(list(alloc, &conn.query_all(text, &[])?)?);
+        return rows_text(alloc, conn.query_all(text, &[]));
     }
-    Ok(String::from_str(alloc, run(conn.execute(line, &[])))?)
+    String::from_str(alloc, run(conn.execute(line, &[])))
 }
 
 fn by_word<S: Alter>(
     alloc: Global,
     conn: &mut Connection<S>,
     line: &str,
-) -> Result<Option<&'static str>, Fault> {
+) -> Result<Option<&'static str>, AllocError> {
     Ok(Some(match line {
         "ours" => yes(is_ours(alloc, conn.schema())?),
         "resting" => yes(conn.is_autocommit()),
@@ -62,6 +69,17 @@ fn by_word<S: Alter>(
         }
         _ => return Ok(None),
     }))
+}
+
+fn by_line<S: Alter>(
+    alloc: Global,
+    conn: &mut Connection<S>,
+    line: &str,
+) -> Result<String, AllocError> {
+    match by_word(alloc, conn, line)? {
+        Some(found) => String::from_str(alloc, found),
+        None => by_statement(alloc, conn, line),
+    }
 }
 
 /// Tables are taken over, and given back.
@@ -88,37 +106,61 @@ fn answered<S: Alter + Drop>(
     alloc: Global,
     mut conn: Connection<S>,
     line: &str,
-) -> Result<(Connection<S>, String), Fault> {
+) -> (Connection<S>, Result<String, AllocError>) {
     if line == "adopt" {
         let (conn, found) = adopted(alloc, conn);
-        return Ok((conn, String::from_str(alloc, found)?));
+        return (conn, String::from_str(alloc, found));
     }
     if let Some(base) = line.strip_prefix("make-tables ") {
         let (conn, found) = tables_made(conn, base);
-        return Ok((conn, String::from_str(alloc, found)?));
+        return (conn, String::from_str(alloc, found));
     }
-    let found = match by_word(alloc, &mut conn, line)? {
-        Some(found) => String::from_str(alloc, found)?,
-        None => by_statement(alloc, &mut conn, line)?,
+    let found = by_line(alloc, &mut conn, line);
+    (conn, found)
+}
+
+/// The line and what was found, where it is not what the line says.
+fn broken_by(
+    alloc: Global,
+    line: &str,
+    want: &str,
+    found: Result<String, AllocError>,
+) -> Result<Option<String>, AllocError> {
+    compare(alloc, line, want, &found?)
+}
+
+/// The connection after a line, and the line if it is answered otherwise.
+fn played<S: Alter + Drop>(
+    alloc: Global,
+    conn: Connection<S>,
+    line: &str,
+) -> (Connection<S>, Result<Option<String>, AllocError>) {
+    let Some((call, want)) = line.split_once(" -> ") else {
+        return (conn, no_arrow(alloc, line));
     };
-    Ok((conn, found))
+    let (conn, found) = answered(alloc, conn, call);
+    (conn, broken_by(alloc, line, want, found))
+}
+
+fn play_each<S: Alter + Drop>(
+    alloc: Global,
+    mut conn: Connection<S>,
+    script: &str,
+) -> Result<Option<String>, AllocError> {
+    for line in script.split('\n') {
+        let (next, broken) = played(alloc, conn, line);
+        conn = next;
+        if let Some(broken) = broken? {
+            return Ok(Some(broken));
+        }
+    }
+    Ok(None)
 }
 
 /// Plays lines over a connection to an empty store in memory: words on its tables, or statements.
 /// The first line that is answered otherwise.
-pub fn over_a_connection(alloc: Global, script: &str) -> Result<Option<String>, Fault> {
-    let mut conn = Connection::open_in_memory(alloc)?;
-    for line in script.split('\n') {
-        let Some((call, want)) = line.split_once(" -> ") else {
-            return Ok(Some(format!(in alloc; "{line}: no arrow")?));
-        };
-        let (next, found) = answered(alloc, conn, call)?;
-        conn = next;
-        if found.as_str() != want {
-            return Ok(Some(format!(in alloc; "{line}: {found}")?));
-        }
-    }
-    Ok(None)
+pub fn over_a_connection(alloc: Global, script: &str) -> Result<Option<String>, AllocError> {
+    play_each(alloc, Connection::open_in_memory(alloc)?, script)
 }
 
 /// Runs a statement, or sets the stem of every version.
@@ -130,15 +172,18 @@ fn plant<S: Alter>(conn: &mut Connection<S>, statement: &str) -> Result<(), Faul
     Ok(())
 }
 
-/// What the checks on opening find once these statements were run.
-fn checks_after<S: Alter + Drop>(
-    alloc: Global,
-    mut conn: Connection<S>,
-    statements: &str,
-) -> Result<&'static str, Fault> {
+fn plant_each<S: Alter>(conn: &mut Connection<S>, statements: &str) -> Result<(), Fault> {
     for statement in statements.split("; ") {
-        plant(&mut conn, statement)?;
+        plant(conn, statement)?;
     }
+    Ok(())
+}
+
+/// What the checks on opening find.
+fn checks_of<S: Alter + Drop>(
+    alloc: Global,
+    conn: Connection<S>,
+) -> Result<&'static str, StoreFault> {
     if !conn.is_autocommit() {
         return Ok("a transaction is open");
     }
@@ -148,9 +193,23 @@ fn checks_after<S: Alter + Drop>(
     }
 }
 
+/// What they find once these statements were run.
+fn checks_after<S: Alter + Drop>(
+    alloc: Global,
+    mut conn: Connection<S>,
+    statements: &str,
+) -> Result<&'static str, Fault> {
+    plant_each(&mut conn, statements)?;
+    Ok(checks_of(alloc, conn)?)
+}
+
 /// What they find on a filled registry.
-fn found(alloc: Global, statements: &str) -> Result<&'static str, Fault> {
-    match Tables::make(Connection::open_in_memory(alloc)?, BASE) {
+fn found<S: Alter + Drop>(
+    alloc: Global,
+    conn: Connection<S>,
+    statements: &str,
+) -> Result<&'static str, Fault> {
+    match Tables::make(conn, BASE) {
         Ok(mut tables) => match play_over(alloc, &mut tables, FILLED)? {
             None => checks_after(alloc, tables.into_connection(), statements),
             Some(_line) => Ok("not filled"),
@@ -159,15 +218,20 @@ fn found(alloc: Global, statements: &str) -> Result<&'static str, Fault> {
     }
 }
 
+fn check(alloc: Global, line: &str) -> Result<Option<String>, Fault> {
+    let Some((statements, want)) = line.split_once(" -> ") else {
+        return Ok(no_arrow(alloc, line)?);
+    };
+    let found = found(alloc, Connection::open_in_memory(alloc)?, statements)?;
+    Ok(compare(alloc, line, want, found)?)
+}
+
 /// Each line is statements, run on a filled registry of its own, an arrow and the check that then
 /// fails.
 /// The first line where another one fails.
 pub fn check_each(alloc: Global, script: &str) -> Result<Option<String>, Fault> {
     for line in script.split('\n') {
-        let Some((statements, want)) = line.split_once(" -> ") else {
-            return Ok(Some(format!(in alloc; "{line}: no arrow")?));
-        };
-        let broken = compare(alloc, line, want, found(alloc, statements)?)?;
+        let broken = check(alloc, line)?;
         if broken.is_some() {
             return Ok(broken);
         }

@@ -25,11 +25,11 @@ fn on_accounts<S: Alter>(
     ensures same_reference { work.new.tables.ghost_name ≡ work.old.tables.ghost_name }
 {
     match call {
-        AccountCall::Add(login, name) => Ok(Answer::Id(work.add_account(login, name)?)),
+        AccountCall::Add(login, name) => work.add_account(login, name).map(Answer::Id),
         AccountCall::Enable(id, enabled) => done(work.set_enabled(id, enabled)),
-        AccountCall::ByLogin(login) => Ok(Answer::Account(work.account_by_login(login)?)),
-        AccountCall::All => Ok(Answer::Accounts(work.all_accounts(alloc)?)),
-        AccountCall::Counts => Ok(Answer::Counts(work.counts()?)),
+        AccountCall::ByLogin(login) => work.account_by_login(login).map(Answer::Account),
+        AccountCall::All => work.all_accounts(alloc).map(Answer::Accounts),
+        AccountCall::Counts => work.counts().map(Answer::Counts),
     }
 }
 
@@ -43,16 +43,18 @@ fn on_tokens<S: Alter>(
     ensures same_reference { work.new.tables.ghost_name ≡ work.old.tables.ghost_name }
 {
     match call {
-        TokenCall::Add(token) => Ok(Answer::Id(work.add_token(
-            alloc,
-            &token.digest,
-            token.account,
-            token.endpoints,
-            &token.patterns,
-        )?)),
+        TokenCall::Add(token) => work
+            .add_token(
+                alloc,
+                &token.digest,
+                token.account,
+                token.endpoints,
+                &token.patterns,
+            )
+            .map(Answer::Id),
         TokenCall::Revoke(id) => done(work.revoke(*id)),
-        TokenCall::Find(digest) => Ok(Answer::Token(work.token_rows(alloc, digest)?)),
-        TokenCall::All => Ok(Answer::Tokens(work.all_tokens(alloc)?)),
+        TokenCall::Find(digest) => work.token_rows(alloc, digest).map(Answer::Token),
+        TokenCall::All => work.all_tokens(alloc).map(Answer::Tokens),
     }
 }
 
@@ -66,17 +68,15 @@ fn on_crates<S: Alter>(
     ensures same_reference { work.new.tables.ghost_name ≡ work.old.tables.ghost_name }
 {
     match call {
-        CrateCall::Add(name, account, release) => Ok(Answer::Id(work.add_crate(
-            name,
-            *account,
-            &release.new_version(),
-        )?)),
+        CrateCall::Add(name, account, release) => work
+            .add_crate(name, *account, &release.new_version())
+            .map(Answer::Id),
         CrateCall::AddVersion(id, release) => done(work.add_version(*id, &release.new_version())),
         CrateCall::Yank(id, text, yanked) => done(work.set_yanked(*id, text, *yanked)),
-        CrateCall::All => Ok(Answer::Crates(work.all_crates(alloc)?)),
-        CrateCall::Versions(id) => Ok(Answer::Versions(work.versions_of(alloc, *id)?)),
-        CrateCall::Archive(id, text) => Ok(Answer::Archive(work.archive_of(*id, text)?)),
-        CrateCall::ArchiveWithId(id) => Ok(Answer::Archive(work.archive_with_id(*id)?)),
+        CrateCall::All => work.all_crates(alloc).map(Answer::Crates),
+        CrateCall::Versions(id) => work.versions_of(alloc, *id).map(Answer::Versions),
+        CrateCall::Archive(id, text) => work.archive_of(*id, text).map(Answer::Archive),
+        CrateCall::ArchiveWithId(id) => work.archive_with_id(*id).map(Answer::Archive),
     }
 }
 
@@ -90,13 +90,13 @@ fn on_names<S: Alter>(
     ensures same_reference { work.new.tables.ghost_name ≡ work.old.tables.ghost_name }
 {
     match call {
-        NameCall::Crate(name) => Ok(Answer::Crate(work.crate_by_canon(name)?)),
+        NameCall::Crate(name) => work.crate_by_canon(name).map(Answer::Crate),
         NameCall::Reserve(name) => done(work.reserve(name)),
         NameCall::Unreserve(name) => done(work.unreserve(name)),
-        NameCall::IsReserved(name) => Ok(Answer::Is(work.is_reserved(name)?)),
+        NameCall::IsReserved(name) => work.is_reserved(name).map(Answer::Is),
         NameCall::AddOwner(id, account) => done(work.add_owner(*id, *account)),
         NameCall::RemoveOwner(id, account) => done(work.remove_owner(*id, *account)),
-        NameCall::Owners(id) => Ok(Answer::Owners(work.owners_of(alloc, *id)?)),
+        NameCall::Owners(id) => work.owners_of(alloc, *id).map(Answer::Owners),
     }
 }
 
@@ -111,15 +111,13 @@ fn on_texts<S: Alter>(
     ensures same_reference { work.new.tables.ghost_name ≡ work.old.tables.ghost_name }
 {
     match call {
-        TextCall::AllRows => Ok(Answer::All(work.all_rows(alloc)?)),
-        TextCall::Logins => Ok(Answer::Selected(work.select(
-            "SELECT id, login, name FROM accounts ORDER BY id",
-            &[],
-        )?)),
-        TextCall::IdOf(login) => Ok(Answer::Selected(work.select(
-            "SELECT id FROM accounts WHERE login = ?1",
-            params![login],
-        )?)),
+        TextCall::AllRows => work.all_rows(alloc).map(Answer::All),
+        TextCall::Logins => work
+            .select("SELECT id, login, name FROM accounts ORDER BY id", &[])
+            .map(Answer::Selected),
+        TextCall::IdOf(login) => work
+            .select("SELECT id FROM accounts WHERE login = ?1", params![login])
+            .map(Answer::Selected),
     }
 }
 

@@ -26,6 +26,7 @@ pub use call::{AccountCall, Call, CrateCall, NameCall, NewToken, Release, TextCa
 pub use calling::perform;
 pub use fault::Fault;
 pub use script::{
-    BASE, FILLED, answer_of, check_text, first_broken, play, play_over, read_logins, rows_text,
+    BASE, FILLED, answer_of, check_text, first_broken, play, play_over, read_logins, reply_text,
+    rows_text,
 };
 pub use words::{read_call, release_of};

@@ -3,6 +3,7 @@
 ghost use Rattle.std.specs.Prelude.{◌≡◌};
 ghost use Rattle.reg_tables.specs.Works.{AreOurs, IsAtWork};
 
+use crate::answer::Answer;
 use crate::call::Call;
 use crate::calling::perform;
 use crate::fault::Fault;
@@ -11,7 +12,7 @@ use crate::words::read_call;
 use reg_audit::{Check, audit};
 use reg_line::{Entry, file};
 use reg_tables::{StoreFault, Tables, Version, Work};
-use sqlite::{Alter, Connection};
+use sqlite::{Alter, Connection, Row};
 use std::alloc::{AllocError, Global};
 
 pub const BASE: &str = "https://index.example";
@@ -25,50 +26,67 @@ add-crate a 1 0.1.0 abc -> 1
 reserve acme-net -> done
 commit -> done";
 
-/// The index file of these versions: its length, and its lines with a semicolon after each.
-fn index_text(alloc: Global, versions: Vec<Version>) -> Result<String, AllocError> {
+fn entry_of(version: Version) -> Entry {
+    Entry {
+        stem: version.stem,
+        yanked: version.yanked,
+    }
+}
+
+fn index_file(alloc: Global, versions: Vec<Version>) -> Result<Vec<u8>, AllocError> {
     let mut entries = Vec::new(alloc);
     for version in versions {
-        entries.push(Entry {
-            stem: version.stem,
-            yanked: version.yanked,
-        })?;
+        entries.push(entry_of(version))?;
     }
-    let bytes = file(alloc, &entries)?;
-    let mut text = format!(in alloc; "{} ", bytes.len())?;
-    let lines = bytes_text(alloc, &bytes)?;
-    for line in lines.lines() {
-        text.push_str(line)?;
-        text.push_str(";")?;
-    }
-    Ok(text)
+    file(alloc, &entries)
+}
+
+/// A file: its length, and its lines with a semicolon in place of each line feed.
+fn file_text(alloc: Global, bytes: &[u8]) -> Result<String, AllocError> {
+    let lines = bytes_text(alloc, bytes)?;
+    let lines = lines.replace(alloc, "\n", ";")?;
+    format!(in alloc; "{} {lines}", bytes.len())
+}
+
+fn index_text(alloc: Global, versions: Vec<Version>) -> Result<String, AllocError> {
+    let bytes = index_file(alloc, versions)?;
+    file_text(alloc, &bytes)
 }
 
 /// The index file of a crate.
-fn index_of<S: Alter>(alloc: Global, work: &mut Work<'_, S>, crate_id: u32) -> Result<String, Fault>
+fn index_of<S: Alter>(
+    alloc: Global,
+    work: &mut Work<'_, S>,
+    crate_id: u32,
+) -> Result<String, AllocError>
     requires { IsAtWork S.Store work.old }
     ensures at_work { IsAtWork S.Store work.new }
     ensures same_reference { work.new.tables.ghost_name ≡ work.old.tables.ghost_name }
 {
     match work.versions_of(alloc, crate_id) {
-        Ok(versions) => Ok(index_text(alloc, versions)?),
-        Err(StoreFault) => Ok(String::from_str(alloc, "fault")?),
+        Ok(versions) => index_text(alloc, versions),
+        Err(StoreFault) => String::from_str(alloc, "fault"),
+    }
+}
+
+/// What a call was answered, as a text.
+pub fn reply_text(alloc: Global, found: Result<Answer, StoreFault>) -> Result<String, AllocError> {
+    match found {
+        Ok(answer) => answer.text(alloc),
+        Err(StoreFault) => String::from_str(alloc, "fault"),
     }
 }
 
 fn text_of_call<S: Alter>(
     alloc: Global,
     work: &mut Work<'_, S>,
-    call: &Call<'_>,
-) -> Result<String, Fault>
+    call: Call<'_>,
+) -> Result<String, AllocError>
     requires { IsAtWork S.Store work.old }
     ensures at_work { IsAtWork S.Store work.new }
     ensures same_reference { work.new.tables.ghost_name ≡ work.old.tables.ghost_name }
 {
-    match perform(alloc, work, call) {
-        Ok(answer) => Ok(answer.text(alloc)?),
-        Err(StoreFault) => Ok(String::from_str(alloc, "fault")?),
-    }
+    reply_text(alloc, perform(alloc, work, &call))
 }
 
 /// What a call is answered, as a text.
@@ -81,12 +99,12 @@ pub fn answer_of<S: Alter>(
     ensures at_work { IsAtWork S.Store work.new }
     ensures same_reference { work.new.tables.ghost_name ≡ work.old.tables.ghost_name }
 {
+    if let Some(id) = line.strip_prefix("index ") {
+        return Ok(index_of(alloc, work, id.parse().unwrap_or(0))?);
+    }
     match read_call(alloc, line)? {
-        Some(call) => text_of_call(alloc, work, &call),
-        None => match line.strip_prefix("index ") {
-            Some(id) => index_of(alloc, work, id.parse().unwrap_or(0)),
-            None => Ok(String::from_str(alloc, "no such call")?),
-        },
+        Some(call) => Ok(text_of_call(alloc, work, call)?),
+        None => Ok(String::from_str(alloc, "no such call")?),
     }
 }
 
@@ -100,7 +118,11 @@ pub(crate) fn compare(
     if found == want {
         return Ok(None);
     }
-    Ok(Some(format!(in alloc; "{line}: {found}")?))
+    format!(in alloc; "{line}: {found}").map(Some)
+}
+
+pub(crate) fn no_arrow(alloc: Global, line: &str) -> Result<Option<String>, AllocError> {
+    format!(in alloc; "{line}: no arrow").map(Some)
 }
 
 /// What a line is answered, where it is not what the line says.
@@ -114,7 +136,7 @@ fn otherwise<S: Alter>(
     ensures same_reference { work.new.tables.ghost_name ≡ work.old.tables.ghost_name }
 {
     let Some((call, want)) = line.split_once(" -> ") else {
-        return Ok(Some(format!(in alloc; "{line}: no arrow")?));
+        return Ok(no_arrow(alloc, line)?);
     };
     let found = answer_of(alloc, work, call)?;
     Ok(compare(alloc, line, want, &found)?)
@@ -150,6 +172,17 @@ fn ending(block: &str) -> (&str, Option<bool>) {
     }
 }
 
+/// Whether the transaction ends as it shall; it is dropped where it shall not be committed.
+fn ends<S: Alter>(work: Work<'_, S>, wanted: Option<bool>) -> bool
+    requires { IsAtWork S.Store work }
+    ensures { AreOurs S.Store work.exit.0.now }
+{
+    match wanted {
+        Some(wanted) => work.commit().is_ok() == wanted,
+        None => true,
+    }
+}
+
 /// A transaction, which is dropped where its last line is no commit.
 fn transaction<S: Alter>(
     alloc: Global,
@@ -165,12 +198,37 @@ fn transaction<S: Alter>(
     if broken.is_some() {
         return Ok(broken);
     }
-    if let Some(wanted) = wanted {
-        if work.commit().is_ok() != wanted {
-            return Ok(Some(format!(in alloc; "{block}: a commit answered otherwise")?));
-        }
+    if ends(work, wanted) {
+        return Ok(None);
     }
-    Ok(None)
+    Ok(Some(format!(in alloc; "{block}: a commit answered otherwise")?))
+}
+
+/// Adds a space and what a call is answered.
+fn add_answer<S: Alter>(
+    alloc: Global,
+    work: &mut Work<'_, S>,
+    line: &str,
+    text: &mut String,
+) -> Result<(), Fault>
+    requires { IsAtWork S.Store work.old }
+    ensures at_work { IsAtWork S.Store work.new }
+    ensures same_reference { work.new.tables.ghost_name ≡ work.old.tables.ghost_name }
+{
+    let answer = answer_of(alloc, work, line)?;
+    text.push_str(" ")?;
+    Ok(text.push_str(&answer)?)
+}
+
+fn add_rows<S: Alter>(alloc: Global, work: &mut Work<'_, S>, text: &mut String) -> Result<(), Fault>
+    requires { IsAtWork S.Store work.old }
+    ensures at_work { IsAtWork S.Store work.new }
+    ensures same_reference { work.new.tables.ghost_name ≡ work.old.tables.ghost_name }
+{
+    add_answer(alloc, work, "all-rows", text)?;
+    add_answer(alloc, work, "archive-id 1", text)?;
+    add_answer(alloc, work, "archive-id 2", text)?;
+    add_answer(alloc, work, "archive-id 3", text)
 }
 
 /// All rows and the archives of the first versions, as a text.
@@ -179,11 +237,9 @@ pub fn rows_text<S: Alter>(alloc: Global, tables: &mut Tables<S>) -> Result<Stri
     ensures { AreOurs S.Store tables.new }
 {
     let mut work = tables.work()?;
-    let rows = answer_of(alloc, &mut work, "all-rows")?;
-    let first = answer_of(alloc, &mut work, "archive-id 1")?;
-    let second = answer_of(alloc, &mut work, "archive-id 2")?;
-    let third = answer_of(alloc, &mut work, "archive-id 3")?;
-    Ok(format!(in alloc; "{rows} {first} {second} {third}")?)
+    let mut text = String::new(alloc);
+    add_rows(alloc, &mut work, &mut text)?;
+    Ok(text)
 }
 
 /// The check that failed, as a text.
@@ -236,6 +292,10 @@ pub fn play_over<S: Alter>(
     Ok(None)
 }
 
+fn add_shown(alloc: Global, text: &mut String, row: &Row) -> Result<(), AllocError> {
+    text.push_str(&row.show(alloc)?)
+}
+
 /// The logins, read in no transaction one at a time, as a text.
 #[tactic(auto, using(crate::proofs::Texts::logins_plain))]
 pub fn read_logins<S: Alter>(alloc: Global, tables: &mut Tables<S>) -> Result<String, Fault>
@@ -247,7 +307,7 @@ pub fn read_logins<S: Alter>(alloc: Global, tables: &mut Tables<S>) -> Result<St
         .rows("SELECT id, login, name FROM accounts ORDER BY id", &[])?;
     for _ in 0..u32::MAX {
         match rows.next()? {
-            Some(row) => text.push_str(&row.show(alloc)?)?,
+            Some(row) => add_shown(alloc, &mut text, &row)?,
             None => return Ok(text),
         }
     }
@@ -306,11 +366,19 @@ fn play_in<S: Alter + Drop>(
     play_again(alloc, tables, after)
 }
 
-/// Plays a script over new tables in memory; `adopt -> done` gives them back and takes them over
-/// again.
-pub fn play(alloc: Global, script: &str) -> Result<Option<String>, Fault> {
-    match Tables::make(Connection::open_in_memory(alloc)?, BASE) {
+fn play_new<S: Alter + Drop>(
+    alloc: Global,
+    conn: Connection<S>,
+    script: &str,
+) -> Result<Option<String>, Fault> {
+    match Tables::make(conn, BASE) {
         Ok(tables) => play_in(alloc, tables, script),
         Err((_fault, _conn)) => Err(Fault::NotMade),
     }
+}
+
+/// Plays a script over new tables in memory; `adopt -> done` gives them back and takes them over
+/// again.
+pub fn play(alloc: Global, script: &str) -> Result<Option<String>, Fault> {
+    play_new(alloc, Connection::open_in_memory(alloc)?, script)
 }

@@ -2,8 +2,8 @@
 
 use crate::call::{AccountCall, Call, CrateCall, NameCall, NewToken, Release, TextCall, TokenCall};
 use crate::fault::Fault;
-use reg_line::{digest_of, stem};
-use reg_manifest::read_manifest;
+use reg_line::{Digest, digest_of, stem};
+use reg_manifest::{Manifest, read_manifest};
 use reg_model::Endpoints;
 use reg_names::{CanonText, Pattern, canon, parse_name};
 use std::alloc::{AllocError, Global};
@@ -22,17 +22,25 @@ fn canon_of(name: &str) -> Option<CanonText> {
     Some(canon(&parse_name(name)?))
 }
 
+/// A call on an account.
+fn one_account<'a>(word: &str, of: &'a str) -> Option<AccountCall<'a>> {
+    match word {
+        "add-account" => Some(AccountCall::Add(of, None)),
+        "account" => Some(AccountCall::ByLogin(of)),
+        "enable" => Some(AccountCall::Enable(of.parse().ok()?, true)),
+        "disable" => Some(AccountCall::Enable(of.parse().ok()?, false)),
+        _ => None,
+    }
+}
+
 fn account_call<'a>(words: &[&'a str]) -> Option<AccountCall<'a>> {
-    Some(match words {
-        ["add-account", login] => AccountCall::Add(login, None),
-        ["add-account", login, name] => AccountCall::Add(login, Some(name)),
-        ["enable", id] => AccountCall::Enable(id.parse().ok()?, true),
-        ["disable", id] => AccountCall::Enable(id.parse().ok()?, false),
-        ["account", login] => AccountCall::ByLogin(login),
-        ["accounts"] => AccountCall::All,
-        ["counts"] => AccountCall::Counts,
-        _ => return None,
-    })
+    match words {
+        ["accounts"] => Some(AccountCall::All),
+        ["counts"] => Some(AccountCall::Counts),
+        ["add-account", login, name] => Some(AccountCall::Add(login, Some(name))),
+        [word, of] => one_account(word, of),
+        _ => None,
+    }
 }
 
 /// Of the letters of `nuyo` those that are granted; `-` stands for one that is not.
@@ -91,6 +99,18 @@ fn token_call(alloc: Global, words: &[&str]) -> Result<Option<TokenCall>, AllocE
     })
 }
 
+/// The manifest of a version that has its name and number alone.
+fn manifest_of(alloc: Global, name: &str, text: &str) -> Result<Manifest, Fault> {
+    let json = format!(in alloc; "{{\"name\":\"{name}\",\"vers\":\"{text}\"}}")?;
+    Ok(read_manifest(alloc, json.as_bytes())?)
+}
+
+/// The stem of its line.
+fn stem_of(alloc: Global, name: &str, text: &str, digest: &Digest) -> Result<Vec<u8>, Fault> {
+    let manifest = manifest_of(alloc, name, text)?;
+    Ok(stem(alloc, &manifest, digest)?)
+}
+
 /// A version of a crate, with the stem of its line.
 pub fn release_of<'a>(
     alloc: Global,
@@ -100,13 +120,10 @@ pub fn release_of<'a>(
     description: Option<&'a str>,
 ) -> Result<Release<'a>, Fault> {
     let digest = digest_of(archive);
-    let json = format!(in alloc; "{{\"name\":\"{name}\",\"vers\":\"{text}\"}}")?;
-    let manifest = read_manifest(alloc, json.as_bytes())?;
-    let stem = stem(alloc, &manifest, &digest)?;
     Ok(Release {
         text,
         description,
-        stem,
+        stem: stem_of(alloc, name, text, &digest)?,
         digest,
         archive,
     })
@@ -153,16 +170,24 @@ fn new_version<'a>(
     }
 }
 
+/// A call on a version.
+fn old_version<'a>(word: &str, id: u32, text: &'a str) -> Option<CrateCall<'a>> {
+    match word {
+        "yank" => Some(CrateCall::Yank(id, text, true)),
+        "unyank" => Some(CrateCall::Yank(id, text, false)),
+        "archive" => Some(CrateCall::Archive(id, text)),
+        _ => None,
+    }
+}
+
 fn old_crate<'a>(words: &[&'a str]) -> Option<CrateCall<'a>> {
-    Some(match words {
-        ["yank", id, text] => CrateCall::Yank(id.parse().ok()?, text, true),
-        ["unyank", id, text] => CrateCall::Yank(id.parse().ok()?, text, false),
-        ["crates"] => CrateCall::All,
-        ["versions", id] => CrateCall::Versions(id.parse().ok()?),
-        ["archive", id, text] => CrateCall::Archive(id.parse().ok()?, text),
-        ["archive-id", id] => CrateCall::ArchiveWithId(id.parse().ok()?),
-        _ => return None,
-    })
+    match words {
+        ["crates"] => Some(CrateCall::All),
+        ["versions", id] => Some(CrateCall::Versions(id.parse().ok()?)),
+        ["archive-id", id] => Some(CrateCall::ArchiveWithId(id.parse().ok()?)),
+        [word, id, text] => old_version(word, id.parse().ok()?, text),
+        _ => None,
+    }
 }
 
 fn crate_call<'a>(alloc: Global, words: &[&'a str]) -> Result<Option<CrateCall<'a>>, Fault> {
@@ -173,21 +198,34 @@ fn crate_call<'a>(alloc: Global, words: &[&'a str]) -> Result<Option<CrateCall<'
     }
 }
 
+/// A call on a name.
+fn named_call(word: &str, name: &str) -> Option<NameCall> {
+    let name = canon_of(name)?;
+    match word {
+        "crate" => Some(NameCall::Crate(name)),
+        "reserve" => Some(NameCall::Reserve(name)),
+        "unreserve" => Some(NameCall::Unreserve(name)),
+        "reserved" => Some(NameCall::IsReserved(name)),
+        _ => None,
+    }
+}
+
+/// A call on an owner.
+fn owner_call(word: &str, id: u32, account: u32) -> Option<NameCall> {
+    match word {
+        "add-owner" => Some(NameCall::AddOwner(id, account)),
+        "remove-owner" => Some(NameCall::RemoveOwner(id, account)),
+        _ => None,
+    }
+}
+
 fn name_call(words: &[&str]) -> Option<NameCall> {
-    Some(match words {
-        ["crate", name] => NameCall::Crate(canon_of(name)?),
-        ["reserve", name] => NameCall::Reserve(canon_of(name)?),
-        ["unreserve", name] => NameCall::Unreserve(canon_of(name)?),
-        ["reserved", name] => NameCall::IsReserved(canon_of(name)?),
-        ["add-owner", id, account] => {
-            NameCall::AddOwner(id.parse().ok()?, account.parse().ok()?)
-        }
-        ["remove-owner", id, account] => {
-            NameCall::RemoveOwner(id.parse().ok()?, account.parse().ok()?)
-        }
-        ["owners", id] => NameCall::Owners(id.parse().ok()?),
-        _ => return None,
-    })
+    match words {
+        ["owners", id] => Some(NameCall::Owners(id.parse().ok()?)),
+        [word, name] => named_call(word, name),
+        [word, id, account] => owner_call(word, id.parse().ok()?, account.parse().ok()?),
+        _ => None,
+    }
 }
 
 fn text_call<'a>(words: &[&'a str]) -> Option<TextCall<'a>> {
@@ -199,23 +237,32 @@ fn text_call<'a>(words: &[&'a str]) -> Option<TextCall<'a>> {
     })
 }
 
-/// The call that these words are; none where they are no call's.
-pub fn read_call<'a>(alloc: Global, line: &'a str) -> Result<Option<Call<'a>>, Fault> {
-    let words: Vec<&str> = line.split(' ').collect(alloc)?;
-    if let Some(call) = account_call(&words) {
-        return Ok(Some(Call::Account(call)));
+/// A call that is read with no memory.
+fn short_call<'a>(words: &[&'a str]) -> Option<Call<'a>> {
+    if let Some(call) = account_call(words) {
+        return Some(Call::Account(call));
     }
-    if let Some(call) = name_call(&words) {
-        return Ok(Some(Call::Name(call)));
+    if let Some(call) = name_call(words) {
+        return Some(Call::Name(call));
     }
-    if let Some(call) = text_call(&words) {
-        return Ok(Some(Call::Text(call)));
+    Some(Call::Text(text_call(words)?))
+}
+
+fn call_of<'a>(alloc: Global, words: &[&'a str]) -> Result<Option<Call<'a>>, Fault> {
+    if let Some(call) = short_call(words) {
+        return Ok(Some(call));
     }
-    if let Some(call) = token_call(alloc, &words)? {
+    if let Some(call) = token_call(alloc, words)? {
         return Ok(Some(Call::Token(call)));
     }
-    match crate_call(alloc, &words)? {
+    match crate_call(alloc, words)? {
         Some(call) => Ok(Some(Call::Crate(call))),
         None => Ok(None),
     }
+}
+
+/// The call that these words are; none where they are no call's.
+pub fn read_call<'a>(alloc: Global, line: &'a str) -> Result<Option<Call<'a>>, Fault> {
+    let words: Vec<&str> = line.split(' ').collect(alloc)?;
+    call_of(alloc, &words)
 }
