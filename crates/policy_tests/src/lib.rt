@@ -11,23 +11,29 @@ mod asking;
 #[cfg(test)]
 mod commands;
 #[cfg(test)]
-mod events;
-#[cfg(test)]
 mod memory;
 #[cfg(test)]
 mod names;
+#[cfg(test)]
+mod orders;
 #[cfg(test)]
 mod owners;
 #[cfg(test)]
 mod pairs;
 #[cfg(test)]
+mod publishing;
+#[cfg(test)]
 mod releases;
+#[cfg(test)]
+mod requests;
 #[cfg(test)]
 mod script;
 #[cfg(test)]
 mod shown;
 #[cfg(test)]
 mod stage;
+#[cfg(test)]
+mod texts;
 #[cfg(test)]
 mod tokens;
 #[cfg(test)]

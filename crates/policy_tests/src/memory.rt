@@ -2,100 +2,92 @@
 //!
 //! The answer is the one with ample memory, or the want, and then nothing has changed.
 
-use crate::script::{given, play_on, with_whole_lines};
+use crate::script::{all_lines, first_fault, new_stage, play};
 use crate::shown::answer_text;
 use crate::stage::Stage;
 use reg_line::digest_of;
-use reg_policy::{Answer, Asked, Event, PlainRegistry, Reading};
+use reg_plain::PlainRegistry;
+use reg_policy::{AdminCommand, Asked, Event};
 use std::alloc::{AllocError, Global};
-use std::test::Fail;
+use std::process::Abort;
 use test_support::scarce_memory::Amounts;
 
-/// How many amounts a step is tried with, each by so many bytes greater than the last.
-const COUNT: u32 = 400;
+/// How many amounts a step is tried with at most, each by so many bytes greater than the last.
+const COUNT: u32 = 1000;
 
 const STEP: u32 = 24;
 
-/// Adds what a registry answers to a reading.
+/// Four of each, so that the lists of the registry are full.
+const FULL: &str = "given two-accounts-and-a
+ada publish c 0.1.0 -> Granted
+ada publish d 0.1.0 -> Granted
+ada publish e 0.1.0 -> Granted
+user-add carol -> Done
+token-add carol publish-new,publish-update,yank,change-owners - carol -> Id(3)
+user-add dora -> Done
+token-add dora publish-new,publish-update,yank,change-owners - dora -> Id(4)
+reserve f -> Done
+reserve g -> Done
+reserve h -> Done
+reserve i -> Done
+crate-restrict a -> Done
+reader-add c bob -> Done";
+
+/// Adds what a registry answers to an event that changes nothing.
 fn look(
     alloc: Global,
     texts: &mut String,
     registry: &mut PlainRegistry,
-    token: &str,
-    asked: Asked,
+    event: &Event,
 ) -> Result<(), AllocError> {
-    let digest = digest_of(token.as_bytes());
-    let answer = registry.step(&Event::Ask(Some(&digest), asked));
-    texts.push_str(&answer_text(alloc, &answer)?)?;
+    texts.push_str(&answer_text(alloc, &registry.step(event))?)?;
     texts.push('\n')
+}
+
+/// Adds the reports, which show all but the index files and the reserved names.
+fn look_at_reports(
+    alloc: Global,
+    texts: &mut String,
+    registry: &mut PlainRegistry,
+) -> Result<(), AllocError> {
+    look(alloc, texts, registry, &Event::Order(AdminCommand::Users))?;
+    look(alloc, texts, registry, &Event::Order(AdminCommand::Tokens))?;
+    look(alloc, texts, registry, &Event::Order(AdminCommand::Crates))?;
+    for name in ["a", "b", "c"] {
+        look(
+            alloc,
+            texts,
+            registry,
+            &Event::Order(AdminCommand::Access(name)),
+        )?;
+    }
+    Ok(())
 }
 
 /// What a registry answers to readings that show what the steps below change.
 fn seen(alloc: Global, registry: &mut PlainRegistry) -> Result<String, AllocError> {
     let mut texts = String::new(alloc);
-    for (name, path) in [("a", "1/a"), ("b", "1/b")] {
-        look(alloc, &mut texts, registry, "abc", Asked::Index(path))?;
-        look(alloc, &mut texts, registry, "abc", Asked::ListOwners(name))?;
+    look_at_reports(alloc, &mut texts, registry)?;
+    let digest = digest_of(b"abc");
+    for path in ["1/a", "1/b"] {
+        let event = Event::Ask(Some(&digest), Asked::Index(path));
+        look(alloc, &mut texts, registry, &event)?;
     }
-    let config = Asked::Read(Reading::Config);
-    look(alloc, &mut texts, registry, "fifth", config)?;
     Ok(texts)
 }
 
-/// A registry after a step, and the answer of that.
-#[derive(Drop)]
-struct Stepped {
-    registry: PlainRegistry,
-    answer: Answer,
-}
-
-/// Takes a step on the registries, each with a greater amount of memory.
-///
-/// What it takes up in doing so was had before.
-fn scarce_steps(
+/// What an event is answered with no more than so many bytes of memory.
+fn answer_within(
     alloc: Global,
-    registries: &mut Vec<PlainRegistry>,
+    registry: &mut PlainRegistry,
     event: &Event,
-) -> Result<Vec<Stepped>, AllocError> {
-    let mut steps = Vec::with_capacity(alloc, COUNT as usize)?;
-    let mut amounts = Amounts::new(alloc, COUNT, STEP)?;
-    for _ in 0..COUNT {
-        let Some(mut registry) = registries.pop() else {
-            break;
-        };
-        if !amounts.advance(alloc) {
-            break;
-        }
-        let answer = registry.step(event);
-        steps.push(Stepped { registry, answer })?;
-    }
+    bytes: u32,
+) -> Result<String, AllocError> {
+    let mut amounts = Amounts::new(alloc, 1, bytes)?;
+    amounts.advance(alloc);
+    let answer = registry.step(event);
     drop(amounts);
-    Ok(steps)
-}
-
-/// How often the answer with ample memory came, the want of memory, and another answer or state.
-#[derive(Clone, Copy, Debug)]
-struct Tally {
-    answers: u32,
-    wants: u32,
-    others: u32,
-}
-
-impl Tally {
-    fn add(&mut self, is_want: bool, is_right: bool) {
-        if !is_right {
-            self.others = self.others.saturating_add(1);
-        } else if is_want {
-            self.wants = self.wants.saturating_add(1);
-        } else {
-            self.answers = self.answers.saturating_add(1);
-        }
-    }
-
-    /// Both the answer and the want came, and nothing else.
-    fn is_right(&self) -> bool {
-        self.answers > 5 && self.wants > 5 && self.others == 0
-    }
+    answer_text(alloc, &answer)
 }
 
 /// What an event is answered where memory is wanting.
@@ -106,103 +98,71 @@ fn want(event: &Event) -> &'static str {
     }
 }
 
-/// The answers and states that are right: where memory is wanting, all is as before.
-#[derive(Drop)]
-struct Right {
-    want: &'static str,
-    before: String,
-    answer: String,
-    after: String,
-}
-
-impl Right {
-    /// Takes a step with ample memory.
-    fn of(alloc: Global, registry: &mut PlainRegistry, event: &Event) -> Result<Right, AllocError> {
-        let before = seen(alloc, registry)?;
-        let answer = answer_text(alloc, &registry.step(event))?;
-        let after = seen(alloc, registry)?;
-        Ok(Right {
-            want: want(event),
-            before,
-            answer,
-            after,
-        })
-    }
-
-    fn count(
-        &self,
-        alloc: Global,
-        tally: &mut Tally,
-        step: &mut Stepped,
-    ) -> Result<(), AllocError> {
-        let found = seen(alloc, &mut step.registry)?;
-        let answer = answer_text(alloc, &step.answer)?;
-        if answer.as_str() == self.want {
-            tally.add(true, found.as_str() == self.before.as_str());
-        } else {
-            let same_answer = answer.as_str() == self.answer.as_str();
-            tally.add(false, same_answer && found.as_str() == self.after.as_str());
+/// Takes a step with each amount until one is enough, and answers what it is answered then.
+///
+/// Tells a want that changed something, and how many wants there were if there was none.
+fn first_answer(
+    alloc: Global,
+    registry: &mut PlainRegistry,
+    event: &Event,
+) -> Result<String, AllocError> {
+    let before = seen(alloc, registry)?;
+    for wants in 0..COUNT {
+        let answer = answer_within(alloc, registry, event, wants * STEP)?;
+        if answer.as_str() != want(event) {
+            return if wants == 0 { String::from_str(alloc, "no want") } else { Ok(answer) };
         }
-        Ok(())
-    }
-
-    fn tally(&self, alloc: Global, steps: Vec<Stepped>) -> Result<Tally, AllocError> {
-        let mut tally = Tally {
-            answers: 0,
-            wants: 0,
-            others: 0,
-        };
-        for mut step in steps {
-            self.count(alloc, &mut tally, &mut step)?;
+        if seen(alloc, registry)?.as_str() != before.as_str() {
+            return String::from_str(alloc, "a want that changed something");
         }
-        Ok(tally)
     }
+    String::from_str(alloc, "always a want")
 }
 
 /// Takes a step with ample memory and with each amount, and answers as the first, if all is right.
-pub(crate) fn each_amount(
+pub(crate) fn step_with_scarce_memory(
     alloc: Global,
     ample: &mut PlainRegistry,
-    scarce: &mut Vec<PlainRegistry>,
+    scarce: &mut PlainRegistry,
     event: &Event,
 ) -> Result<String, AllocError> {
-    let right = Right::of(alloc, ample, event)?;
-    let tally = right.tally(alloc, scarce_steps(alloc, scarce, event)?)?;
-    if tally.is_right() {
-        String::from_str(alloc, &right.answer)
-    } else {
-        format!(in alloc; "{} and {tally:?}", right.answer)
+    let right = answer_text(alloc, &ample.step(event))?;
+    let found = first_answer(alloc, scarce, event)?;
+    if found.as_str() != right.as_str() {
+        return format!(in alloc; "{right}, and with scarce memory {found}");
     }
+    if seen(alloc, scarce)?.as_str() != seen(alloc, ample)?.as_str() {
+        return format!(in alloc; "{right}, and with scarce memory another state");
+    }
+    Ok(right)
 }
 
 /// A registry whose lists are full.
-fn full(alloc: Global) -> Result<PlainRegistry, Fail> {
-    match given(alloc, "given full-lists")? {
-        Stage::Ample(registry) => Ok(registry),
-        Stage::Scarce(_, _) => Err("no registry".into()),
-    }
+fn full(alloc: Global) -> Result<Stage, AllocError> {
+    let (first, lines) = FULL.split_once('\n').unwrap_or((FULL, ""));
+    let mut stage = new_stage(alloc, first);
+    first_fault(&mut stage, &all_lines(alloc, first, lines)?)?;
+    Ok(stage)
 }
 
-/// One registry for ample memory, and one for each amount.
-fn scarce_stage(alloc: Global) -> Result<Stage, Fail> {
-    let mut scarce = Vec::new(alloc);
-    for _ in 0..COUNT {
-        scarce.push(full(alloc)?)?;
-    }
-    Ok(Stage::Scarce(full(alloc)?, scarce))
+fn fault_in(alloc: Global, script: &str) -> Result<Option<String>, AllocError> {
+    let mut stage = full(alloc)?;
+    stage.scarce = Some(full(alloc)?.registry);
+    first_fault(&mut stage, &script.replace(alloc, "\n    ", "")?)
 }
 
-/// Plays each line of a script by itself, with each amount of memory.
-fn play_scarce(alloc: Global, script: &str) -> Result<(), Fail> {
-    let whole = with_whole_lines(alloc, script)?;
-    for line in whole.lines() {
-        play_on(alloc, &mut scarce_stage(alloc)?, line)?;
-    }
-    Ok(())
+/// Plays a script on a registry whose lists are full, each line with each amount of memory.
+fn play_scarce<R: Abort + AllocGlobal>(rt: &R, script: &str) {
+    assert_eq!(rt; fault_in(rt.alloc(), script), Ok(None));
 }
 
 #[test]
-fn requests(rt: HostRuntime) -> Result<(), Fail> {
+fn full_lists(rt: HostRuntime) {
+    play(&rt, FULL);
+}
+
+#[test]
+fn requests(rt: HostRuntime) {
     let script = r#"ada index 1/a -> File(175):
     {"cksum":"e3b0c44298fc1c149afbf4c8996fb92427ae41e4649b934ca495991b7852b855",
     "deps":[],"features":{},"links":null,"name":"a","rust_version":null,
@@ -210,22 +170,22 @@ fn requests(rt: HostRuntime) -> Result<(), Fail> {
 ada owners a -> Owners 1:ada:Ada
 ada yank a 0.1.0 -> Granted
 ada add-owners a bob,carol -> Granted
-ada remove-owners a bob -> Denied(O3)"#;
-    play_scarce(rt.alloc(), script)
+ada remove-owners a dora -> Denied(O3)"#;
+    play_scarce(&rt, script);
 }
 
 #[test]
-fn publishes_of_versions(rt: HostRuntime) -> Result<(), Fail> {
+fn publishes_of_versions(rt: HostRuntime) {
     let script = "ada publish b 0.1.0 abc -> Granted
 ada publish a 0.2.0 abc -> Granted";
-    play_scarce(rt.alloc(), script)
+    play_scarce(&rt, script);
 }
 
 #[test]
-fn commands(rt: HostRuntime) -> Result<(), Fail> {
+fn commands(rt: HostRuntime) {
     let script = "user-add eve Eve -> Done
 token-add bob yank a,b-* fifth -> Id(5)
 reserve b -> Done
 owner-add a bob -> Done";
-    play_scarce(rt.alloc(), script)
+    play_scarce(&rt, script);
 }

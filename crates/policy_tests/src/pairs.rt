@@ -157,6 +157,8 @@ impl<'a> Case<'a> {
             owners: &[ada, bob],
             versions: self.versions(),
             reserved: self.breaks("N2"),
+            restricted: false,
+            readers: &[],
             crates: 7,
             known: &[!self.breaks("O2")],
             limits: &self.limits(),
