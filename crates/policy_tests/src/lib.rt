@@ -9,7 +9,11 @@
 #[cfg(test)]
 mod asking;
 #[cfg(test)]
+mod cases;
+#[cfg(test)]
 mod commands;
+#[cfg(test)]
+mod lines;
 #[cfg(test)]
 mod memory;
 #[cfg(test)]

@@ -2,9 +2,8 @@
 //!
 //! The answer is the one with ample memory, or the want, and then nothing has changed.
 
-use crate::script::{all_lines, first_fault, new_stage, play};
+use crate::script::play;
 use crate::shown::answer_text;
-use crate::stage::Stage;
 use reg_line::digest_of;
 use reg_plain::PlainRegistry;
 use reg_policy::{AdminCommand, Asked, Event};
@@ -98,9 +97,26 @@ fn want(event: &Event) -> &'static str {
     }
 }
 
-/// Takes a step with each amount until one is enough, and answers what it is answered then.
+/// What an event is answered with so many bytes; none where it is a want that changes nothing.
+fn attempt(
+    alloc: Global,
+    registry: &mut PlainRegistry,
+    event: &Event,
+    bytes: u32,
+    before: &str,
+) -> Result<Option<String>, AllocError> {
+    let answer = answer_within(alloc, registry, event, bytes)?;
+    let is_want = answer.as_str() == want(event);
+    if is_want && seen(alloc, registry)?.as_str() == before {
+        Ok(None)
+    } else {
+        Ok(Some(answer))
+    }
+}
+
+/// What a step is answered with the first amount that is enough, or that is no right want.
 ///
-/// Tells a want that changed something, and how many wants there were if there was none.
+/// No memory at all is not enough.
 fn first_answer(
     alloc: Global,
     registry: &mut PlainRegistry,
@@ -108,57 +124,40 @@ fn first_answer(
 ) -> Result<String, AllocError> {
     let before = seen(alloc, registry)?;
     for wants in 0..COUNT {
-        let answer = answer_within(alloc, registry, event, wants * STEP)?;
-        if answer.as_str() != want(event) {
-            return if wants == 0 { String::from_str(alloc, "no want") } else { Ok(answer) };
-        }
-        if seen(alloc, registry)?.as_str() != before.as_str() {
-            return String::from_str(alloc, "a want that changed something");
+        if let Some(answer) = attempt(alloc, registry, event, wants * STEP, &before)? {
+            return if wants == 0 {
+                String::from_str(alloc, "no want")
+            } else {
+                Ok(answer)
+            };
         }
     }
     String::from_str(alloc, "always a want")
 }
 
-/// Takes a step with ample memory and with each amount, and answers as the first, if all is right.
+/// What a step is answered with scarce memory that another registry took with ample memory.
+///
+/// In the end both are in the same state.
 pub(crate) fn step_with_scarce_memory(
     alloc: Global,
     ample: &mut PlainRegistry,
     scarce: &mut PlainRegistry,
     event: &Event,
 ) -> Result<String, AllocError> {
-    let right = answer_text(alloc, &ample.step(event))?;
-    let found = first_answer(alloc, scarce, event)?;
-    if found.as_str() != right.as_str() {
-        return format!(in alloc; "{right}, and with scarce memory {found}");
+    let answer = first_answer(alloc, scarce, event)?;
+    if seen(alloc, ample)?.as_str() == seen(alloc, scarce)?.as_str() {
+        Ok(answer)
+    } else {
+        format!(in alloc; "{answer}, and another state")
     }
-    if seen(alloc, scarce)?.as_str() != seen(alloc, ample)?.as_str() {
-        return format!(in alloc; "{right}, and with scarce memory another state");
+}
+
+/// Plays lines on a registry whose lists are full, each with each amount of memory.
+fn play_scarce<R: Abort + AllocGlobal>(rt: &R, lines: &str) {
+    match format!(in rt.alloc(); "{FULL}\nfrom-here scarce -> scarce\n{lines}") {
+        Ok(script) => play(rt, &script),
+        Err(_) => panic!(rt; "no memory"),
     }
-    Ok(right)
-}
-
-/// A registry whose lists are full.
-fn full(alloc: Global) -> Result<Stage, AllocError> {
-    let (first, lines) = FULL.split_once('\n').unwrap_or((FULL, ""));
-    let mut stage = new_stage(alloc, first);
-    first_fault(&mut stage, &all_lines(alloc, first, lines)?)?;
-    Ok(stage)
-}
-
-fn fault_in(alloc: Global, script: &str) -> Result<Option<String>, AllocError> {
-    let mut stage = full(alloc)?;
-    stage.scarce = Some(full(alloc)?.registry);
-    first_fault(&mut stage, &script.replace(alloc, "\n    ", "")?)
-}
-
-/// Plays a script on a registry whose lists are full, each line with each amount of memory.
-fn play_scarce<R: Abort + AllocGlobal>(rt: &R, script: &str) {
-    assert_eq!(rt; fault_in(rt.alloc(), script), Ok(None));
-}
-
-#[test]
-fn full_lists(rt: HostRuntime) {
-    play(&rt, FULL);
 }
 
 #[test]

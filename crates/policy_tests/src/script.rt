@@ -4,10 +4,9 @@
 //! Words stand between spaces, or in quotation marks where they are empty or have spaces.
 //! What is indented by four spaces goes on with the line above.
 
-use crate::orders;
+use crate::lines::answered;
 use crate::stage::Stage;
 use reg_body::Limits;
-use reg_plain::PlainRegistry;
 use std::alloc::{AllocError, Global};
 use std::process::Abort;
 
@@ -39,11 +38,16 @@ fn words_of<'a>(alloc: Global, text: &'a str) -> Result<Vec<&'a str>, AllocError
     Ok(words)
 }
 
+/// What an event is answered.
+fn answer_of(stage: &mut Stage, event: &str) -> Result<String, AllocError> {
+    let words = words_of(stage.alloc, event)?;
+    answered(stage, &words)
+}
+
 /// What is wrong with a line; none where it is answered as it says.
 fn fault_of(stage: &mut Stage, line: &str) -> Result<Option<String>, AllocError> {
     let (event, want) = line.split_once(" -> ").unwrap_or((line, "no arrow"));
-    let words = words_of(stage.alloc, event)?;
-    let found = orders::line(stage, &words)?;
+    let found = answer_of(stage, event)?;
     if found.as_str() == want {
         return Ok(None);
     }
@@ -51,7 +55,7 @@ fn fault_of(stage: &mut Stage, line: &str) -> Result<Option<String>, AllocError>
 }
 
 /// What is wrong with the first line that is answered otherwise than it says.
-pub(crate) fn first_fault(stage: &mut Stage, lines: &str) -> Result<Option<String>, AllocError> {
+fn first_fault(stage: &mut Stage, lines: &str) -> Result<Option<String>, AllocError> {
     for line in lines.lines() {
         let fault = fault_of(stage, line)?;
         if fault.is_some() {
@@ -95,29 +99,23 @@ fn setup_of(first: &str) -> &'static str {
     }
 }
 
-/// A registry with nothing in it, within the limits that a first line names.
-pub(crate) fn new_stage(alloc: Global, first: &str) -> Stage {
-    Stage {
-        alloc,
-        registry: PlainRegistry::new(alloc, limits_of(first)),
-        scarce: None,
-    }
-}
-
 /// The lines of a script as they are played: whole, and behind those that make what it is given.
-pub(crate) fn all_lines(alloc: Global, first: &str, lines: &str) -> Result<String, AllocError> {
-    let mut all = String::from_str(alloc, setup_of(first))?;
-    all.push_str(&lines.replace(alloc, "\n    ", "")?)?;
-    Ok(all)
+fn all_lines(alloc: Global, first: &str, lines: &str) -> Result<String, AllocError> {
+    let whole = lines.replace(alloc, "\n    ", "")?;
+    format!(in alloc; "{}{whole}", setup_of(first))
 }
 
 fn fault_in(alloc: Global, script: &str) -> Result<Option<String>, AllocError> {
     let (first, lines) = script.split_once('\n').unwrap_or((script, "no lines"));
     let all = all_lines(alloc, first, lines)?;
-    first_fault(&mut new_stage(alloc, first), &all)
+    first_fault(&mut Stage::new(alloc, limits_of(first)), &all)
 }
 
 /// Plays a script: fails where a line of it is answered otherwise than it says.
 pub(crate) fn play<R: Abort + AllocGlobal>(rt: &R, script: &str) {
-    assert_eq!(rt; fault_in(rt.alloc(), script), Ok(None));
+    match fault_in(rt.alloc(), script) {
+        Ok(None) => {}
+        Ok(Some(fault)) => panic!(rt; "{fault}"),
+        Err(_) => panic!(rt; "no memory"),
+    }
 }

@@ -7,7 +7,11 @@ use std::fmt::Write;
 /// Bytes of UTF-8 with how many they are; a line feed stands as `<0a>`.
 fn bytes_text(alloc: Global, kind: &str, bytes: &[u8]) -> Result<String, AllocError> {
     let text = std::str::from_utf8(bytes).unwrap_or("<no text>");
-    format!(in alloc; "{kind}({}):{}", bytes.len(), text.replace(alloc, "\n", "<0a>")?)
+    format!(in alloc;
+        "{kind}({}):{}",
+        bytes.len(),
+        text.replace(alloc, "\n", "<0a>")?
+    )
 }
 
 /// Adds owners, each an id, a login, and a name or `-`.

@@ -2,6 +2,7 @@
 
 use crate::memory::step_with_scarce_memory;
 use crate::shown::answer_text;
+use reg_body::Limits;
 use reg_line::digest_of;
 use reg_plain::PlainRegistry;
 use reg_policy::{AdminCommand, Asked, Event};
@@ -11,23 +12,33 @@ use test_support::examples::SECOND_TOKEN;
 /// The text of ada's token.
 const FIRST_TOKEN: &str = "abc";
 
-/// A registry, and one for scarce memory where steps are tried so.
+/// A registry, and another that takes the same steps, with scarce memory once that is said.
 #[derive(Drop)]
 pub(crate) struct Stage {
     pub(crate) alloc: Global,
-    pub(crate) registry: PlainRegistry,
-    pub(crate) scarce: Option<PlainRegistry>,
+    ample: PlainRegistry,
+    other: PlainRegistry,
+    pub(crate) is_scarce: bool,
 }
 
 impl Stage {
+    pub(crate) fn new(alloc: Global, limits: Limits) -> Stage {
+        Stage {
+            alloc,
+            ample: PlainRegistry::new(alloc, limits),
+            other: PlainRegistry::new(alloc, limits),
+            is_scarce: false,
+        }
+    }
+
     /// What an event is answered.
     fn step(&mut self, event: &Event) -> Result<String, AllocError> {
-        match &mut self.scarce {
-            None => answer_text(self.alloc, &self.registry.step(event)),
-            Some(scarce) => {
-                step_with_scarce_memory(self.alloc, &mut self.registry, scarce, event)
-            }
+        let answer = self.ample.step(event);
+        if self.is_scarce {
+            return step_with_scarce_memory(self.alloc, &mut self.ample, &mut self.other, event);
         }
+        self.other.step(event);
+        answer_text(self.alloc, &answer)
     }
 
     /// What a request is answered. Who asks is ada, bob, no-token, or the text of a token.

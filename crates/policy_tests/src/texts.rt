@@ -1,4 +1,4 @@
-//! Lines of scripts about refusals' texts and texts' lengths.
+//! Words of scripts about refusals' texts and texts' lengths.
 
 use reg_policy::{AdminRefusal, Rule, admin_text, rule_status, rule_text};
 use std::alloc::{AllocError, Global};
@@ -56,38 +56,37 @@ const REFUSALS: [AdminRefusal; 10] = [
     AdminRefusal::G10,
 ];
 
-/// The rule with this name.
-pub(crate) fn rule_named(alloc: Global, name: &str) -> Result<Option<Rule>, AllocError> {
-    for rule in RULES {
-        if format!(in alloc; "{rule:?}")?.as_str() == name {
-            return Ok(Some(rule));
-        }
+/// Whether a text begins with this word.
+fn begins(text: &str, word: &str) -> bool {
+    match text.split_once(' ') {
+        Some((first, _)) => first == word,
+        None => false,
     }
-    Ok(None)
 }
 
-fn refusal_text(alloc: Global, name: &str) -> Result<String, AllocError> {
-    for refusal in REFUSALS {
-        if format!(in alloc; "{refusal:?}")?.as_str() == name {
-            return String::from_str(alloc, admin_text(refusal));
-        }
+/// The rule whose text begins with this name.
+pub(crate) fn rule_named(name: &str) -> Option<Rule> {
+    RULES
+        .iter()
+        .copied()
+        .find(|rule| begins(rule_text(*rule), name))
+}
+
+fn refusal_named(name: &str) -> Option<AdminRefusal> {
+    REFUSALS
+        .iter()
+        .copied()
+        .find(|refusal| begins(admin_text(*refusal), name))
+}
+
+/// What a refusal is told: its name, of a rule its status, and its text.
+pub(crate) fn told(alloc: Global, name: &str) -> Result<String, AllocError> {
+    if let Some(rule) = rule_named(name) {
+        let (status, text) = (rule_status(rule), rule_text(rule));
+        return format!(in alloc; "{rule:?}: {status} {text}");
+    }
+    if let Some(refusal) = refusal_named(name) {
+        return format!(in alloc; "{refusal:?}: {}", admin_text(refusal));
     }
     String::from_str(alloc, "no such refusal")
-}
-
-/// What a refusal is told: of a rule its status and its text.
-fn told(alloc: Global, name: &str) -> Result<String, AllocError> {
-    match rule_named(alloc, name)? {
-        Some(rule) => format!(in alloc; "{} {}", rule_status(rule), rule_text(rule)),
-        None => refusal_text(alloc, name),
-    }
-}
-
-/// What a refusal is told, or how long a text is.
-pub(crate) fn text_line(alloc: Global, words: &[&str]) -> Result<String, AllocError> {
-    match words {
-        ["told", name] => told(alloc, name),
-        ["length", text] => format!(in alloc; "{}", text.len()),
-        _ => String::from_str(alloc, "no such words"),
-    }
 }
