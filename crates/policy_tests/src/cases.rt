@@ -48,16 +48,28 @@ impl Case<'_> {
             || self.action == "index" && self.one == "N3"
     }
 
+    /// Whether all that is broken is the action's.
+    fn are_own(&self) -> bool {
+        self.is_own(self.one) && self.is_own(self.other)
+    }
+
+    fn is_one(&self) -> bool {
+        self.one != NONE && self.other == NONE
+    }
+
+    fn are_two(&self) -> bool {
+        self.one != NONE && self.other != NONE && self.one != self.other
+    }
+
     /// Whether this is a case of `nothing` broken, of `one` rule of the action, of one `elsewhere`
-    /// in the table, of `two` of the action, or of `any` that break no others.
+    /// in the table, of `two` of the action, or of `any` of the action.
     pub(crate) fn is_of(&self, kind: &str) -> bool {
-        let are_own = self.is_own(self.one) && self.is_own(self.other);
         match kind {
             "nothing" => self.one == NONE && self.other == NONE,
-            "one" => are_own && self.one != NONE && self.other == NONE,
-            "elsewhere" => !self.is_own(self.one) && self.other == NONE && !self.means_more(),
-            "two" => are_own && self.one != NONE && self.other != NONE && self.one != self.other,
-            _ => are_own,
+            "one" => self.is_one() && self.are_own(),
+            "elsewhere" => self.is_one() && !self.are_own() && !self.means_more(),
+            "two" => self.are_two() && self.are_own(),
+            _ => self.are_own(),
         }
     }
 
@@ -156,14 +168,15 @@ impl Case<'_> {
         })
     }
 
-    fn change<'n>(&self, name: &'n CrateName) -> Option<Action<'n>> {
-        Some(match self.action {
+    fn change<'n>(&self, name: &'n CrateName) -> Action<'n> {
+        let logins = self.logins();
+        match self.action {
             "yank" => Action::Yank("acme-net", "1.0.0"),
             "unyank" => Action::Unyank("acme-net", "1.0.0"),
-            "add-owners" => Action::AddOwners("acme-net", self.logins()),
-            "remove-owners" => Action::RemoveOwners("acme-net", self.logins()),
+            "add-owners" => Action::AddOwners("acme-net", logins),
+            "remove-owners" => Action::RemoveOwners("acme-net", logins),
             _ => Action::Publish(name, "1.0.0"),
-        })
+        }
     }
 
     /// The decision on the action of a token with these patterns.
@@ -198,7 +211,7 @@ impl Case<'_> {
     fn decided(&self) -> Option<Decision> {
         let name = parse_name("acme-net")?;
         let pattern = Pattern::parse(if self.breaks("A7") { "acme" } else { "acme*" })?;
-        let action = self.reading().or(self.change(&name))?;
+        let action = self.reading().unwrap_or(self.change(&name));
         Some(self.decided_with(&[pattern], &action))
     }
 }

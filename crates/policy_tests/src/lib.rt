@@ -13,6 +13,10 @@ mod cases;
 #[cfg(test)]
 mod commands;
 #[cfg(test)]
+mod finding;
+#[cfg(test)]
+mod limits;
+#[cfg(test)]
 mod lines;
 #[cfg(test)]
 mod memory;
@@ -29,11 +33,19 @@ mod publishing;
 #[cfg(test)]
 mod releases;
 #[cfg(test)]
+mod reports;
+#[cfg(test)]
 mod requests;
+#[cfg(test)]
+mod restricted;
 #[cfg(test)]
 mod script;
 #[cfg(test)]
+mod search;
+#[cfg(test)]
 mod shown;
+#[cfg(test)]
+mod splitting;
 #[cfg(test)]
 mod stage;
 #[cfg(test)]

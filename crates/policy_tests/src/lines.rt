@@ -1,11 +1,13 @@
 //! What the words of a line are answered.
 
+use crate::finding::found;
 use crate::orders::{add_token, command_of, parts};
-use crate::publishing::publish;
+use crate::publishing::{publish, publish_described};
 use crate::requests::request_of;
+use crate::splitting::split_within;
 use crate::stage::Stage;
-use crate::texts::told;
-use std::alloc::AllocError;
+use crate::texts::{length, told};
+use std::alloc::{AllocError, Global};
 
 /// What a line is answered: a command, a request, or something else.
 pub(crate) fn answered(stage: &mut Stage, words: &[&str]) -> Result<String, AllocError> {
@@ -18,11 +20,11 @@ pub(crate) fn answered(stage: &mut Stage, words: &[&str]) -> Result<String, Allo
     }
 }
 
-fn request_answered(
+fn request_answered<'a>(
     stage: &mut Stage,
     who: &str,
-    deed: &[&str],
-    last: &str,
+    deed: &[&'a str],
+    last: &'a str,
 ) -> Result<String, AllocError> {
     let list = parts(stage.alloc, last)?;
     match request_of(deed, last, &list) {
@@ -32,20 +34,24 @@ fn request_answered(
 }
 
 /// The archive of a publish is empty where no text of it is given.
-fn publish_answered(
+fn publish_answered<'a>(
     stage: &mut Stage,
     who: &str,
-    deed: &[&str],
-    last: &str,
+    deed: &[&'a str],
+    last: &'a str,
 ) -> Result<String, AllocError> {
     match deed {
-        ["publish", name] => publish(stage, who, name, last, ""),
-        ["publish", name, version] => publish(stage, who, name, version, last),
-        _ => other_answered(stage, who, deed, last),
+        ["publish", name] => publish(stage, who, &[name, last], "", "null"),
+        ["publish", name, version] => publish(stage, who, &[name, version], last, "null"),
+        ["publish", name, version, archive] => {
+            publish_described(stage, who, &[name, version], archive, last)
+        }
+        _ => order_answered(stage, who, deed, last),
     }
 }
 
-fn other_answered(
+/// The adding of a token, a search, or what is no event.
+fn order_answered(
     stage: &mut Stage,
     word: &str,
     words: &[&str],
@@ -55,12 +61,28 @@ fn other_answered(
         ("token-add", [login, endpoints, patterns]) => {
             add_token(stage, login, endpoints, patterns, last)
         }
-        ("told", []) => told(stage.alloc, last),
-        ("length", []) => format!(in stage.alloc; "{}", last.len()),
+        ("search", [viewer, most]) => found(stage, viewer, most, last),
         ("from-here", []) => {
             stage.is_scarce = true;
             String::from_str(stage.alloc, last)
         }
-        _ => String::from_str(stage.alloc, "no such words"),
+        _ => text_answered(stage.alloc, word, words, last),
+    }
+}
+
+/// What is said of texts and bytes alone.
+fn text_answered(
+    alloc: Global,
+    word: &str,
+    words: &[&str],
+    last: &str,
+) -> Result<String, AllocError> {
+    match (word, words) {
+        ("told", []) => told(alloc, last),
+        ("length", []) => length(alloc, last),
+        ("split-within", [json, archive, length]) => {
+            split_within(alloc, [json, archive], [length, last])
+        }
+        _ => String::from_str(alloc, "no such words"),
     }
 }

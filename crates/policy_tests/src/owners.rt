@@ -37,6 +37,21 @@ ada owners a -> Owners 1:ada:Ada";
 }
 
 #[test]
+fn disabled_owners(rt: HostRuntime) {
+    // Who is disabled is not added, though an owner already, and is removed.
+    let script = "given two-accounts-and-a
+ada add-owners a bob -> Granted
+user-disable bob -> Done
+ada add-owners a bob -> Denied(O2)
+ada owners a -> Owners 1:ada:Ada 2:bob:-
+ada remove-owners a bob -> Granted
+ada owners a -> Owners 1:ada:Ada
+ada add-owners a bob -> Denied(O2)
+ada owners a -> Owners 1:ada:Ada";
+    play(&rt, script);
+}
+
+#[test]
 fn owner_by_the_administrator(rt: HostRuntime) {
     // A disabled account too, and twice.
     let script = "given two-accounts-and-a

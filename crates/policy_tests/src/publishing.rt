@@ -1,4 +1,4 @@
-//! Publishes of versions that have a name and nothing else.
+//! Publishes of versions that have a name and at most a description beside it.
 
 use crate::stage::Stage;
 use reg_line::{Digest, digest_of, stem};
@@ -16,7 +16,7 @@ fn publishing<'a>(
     Asked::Publish(NewPublication {
         name: &manifest.name,
         version: manifest.vers.as_str(),
-        description: None,
+        description: manifest.description.as_deref(),
         stem,
         digest,
         archive,
@@ -34,17 +34,42 @@ fn publish_manifest(
     stage.ask(who, publishing(manifest, &stem, &digest, archive))
 }
 
-/// What a publish of a version is answered.
-pub(crate) fn publish(
+/// What a publish of this metadata is answered.
+fn publish_json(
     stage: &mut Stage,
     who: &str,
-    name: &str,
-    version: &str,
+    json: &str,
     archive: &str,
 ) -> Result<String, AllocError> {
-    let json = format!(in stage.alloc; "{{\"name\":\"{name}\",\"vers\":\"{version}\"}}")?;
     match read_manifest(stage.alloc, json.as_bytes()) {
         Ok(manifest) => publish_manifest(stage, who, &manifest, archive.as_bytes()),
         Err(fault) => stage.ask(who, Asked::Faulty(Rule::from(fault))),
     }
+}
+
+/// What a publish of a version is answered. The description is a JSON value.
+pub(crate) fn publish(
+    stage: &mut Stage,
+    who: &str,
+    version: &[&str; 2],
+    archive: &str,
+    description: &str,
+) -> Result<String, AllocError> {
+    let [name, number] = version;
+    let json = format!(in stage.alloc;
+        "{{\"name\":\"{name}\",\"vers\":\"{number}\",\"description\":{description}}}"
+    )?;
+    publish_json(stage, who, &json, archive)
+}
+
+/// What a publish of a version with a description is answered.
+pub(crate) fn publish_described(
+    stage: &mut Stage,
+    who: &str,
+    version: &[&str; 2],
+    archive: &str,
+    description: &str,
+) -> Result<String, AllocError> {
+    let description = format!(in stage.alloc; "\"{description}\"")?;
+    publish(stage, who, version, archive, &description)
 }

@@ -72,6 +72,23 @@ ada unyank b 0.1.0 -> Denied(A8)";
 }
 
 #[test]
+fn yank_by_another_spelling(rt: HostRuntime) {
+    let script = r#"given two-accounts
+ada publish acme-net 1.0.0 -> Granted
+ada yank ACME_NET 1.0.0 -> Granted
+ada index ac/me/acme-net -> File(181):
+    {"cksum":"e3b0c44298fc1c149afbf4c8996fb92427ae41e4649b934ca495991b7852b855",
+    "deps":[],"features":{},"links":null,"name":"acme-net","rust_version":null,
+    "vers":"1.0.0","yanked":true}<0a>
+ada unyank Acme-net 1.0.0 -> Granted
+ada index ac/me/acme-net -> File(182):
+    {"cksum":"e3b0c44298fc1c149afbf4c8996fb92427ae41e4649b934ca495991b7852b855",
+    "deps":[],"features":{},"links":null,"name":"acme-net","rust_version":null,
+    "vers":"1.0.0","yanked":false}<0a>"#;
+    play(&rt, script);
+}
+
+#[test]
 fn limit_of_versions(rt: HostRuntime) {
     let script = "given two-accounts versions=1
 ada publish a 0.1.0 -> Granted

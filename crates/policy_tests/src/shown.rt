@@ -1,6 +1,7 @@
 //! Answers as texts, with all that they hold.
 
-use reg_policy::{AdminReply, Answer, OwnerEntry};
+use reg_plain::PlainRegistry;
+use reg_policy::{AdminReply, Answer, Event, OwnerEntry};
 use std::alloc::{AllocError, Global};
 use std::fmt::Write;
 
@@ -51,4 +52,13 @@ pub(crate) fn answer_text(alloc: Global, answer: &Answer) -> Result<String, Allo
         Answer::Refused(refusal) => format!(in alloc; "Refused({refusal:?})"),
         Answer::Replied(reply) => reply_text(alloc, reply),
     }
+}
+
+/// What a registry answers to an event, as scripts write it.
+pub(crate) fn answered(
+    alloc: Global,
+    registry: &mut PlainRegistry,
+    event: &Event,
+) -> Result<String, AllocError> {
+    answer_text(alloc, &registry.step(event))
 }

@@ -1,7 +1,7 @@
 //! What a script is played on.
 
 use crate::memory::step_with_scarce_memory;
-use crate::shown::answer_text;
+use crate::shown::answered;
 use reg_body::Limits;
 use reg_line::digest_of;
 use reg_plain::PlainRegistry;
@@ -16,7 +16,7 @@ const FIRST_TOKEN: &str = "abc";
 #[derive(Drop)]
 pub(crate) struct Stage {
     pub(crate) alloc: Global,
-    ample: PlainRegistry,
+    pub(crate) ample: PlainRegistry,
     other: PlainRegistry,
     pub(crate) is_scarce: bool,
 }
@@ -33,12 +33,13 @@ impl Stage {
 
     /// What an event is answered.
     fn step(&mut self, event: &Event) -> Result<String, AllocError> {
-        let answer = self.ample.step(event);
         if self.is_scarce {
-            return step_with_scarce_memory(self.alloc, &mut self.ample, &mut self.other, event);
+            self.ample.step(event);
+            step_with_scarce_memory(self.alloc, &mut self.ample, &mut self.other, event)
+        } else {
+            self.other.step(event);
+            answered(self.alloc, &mut self.ample, event)
         }
-        self.other.step(event);
-        answer_text(self.alloc, &answer)
     }
 
     /// What a request is answered. Who asks is ada, bob, no-token, or the text of a token.

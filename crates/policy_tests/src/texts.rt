@@ -90,3 +90,7 @@ pub(crate) fn told(alloc: Global, name: &str) -> Result<String, AllocError> {
     }
     String::from_str(alloc, "no such refusal")
 }
+
+pub(crate) fn length(alloc: Global, text: &str) -> Result<String, AllocError> {
+    format!(in alloc; "{}", text.len())
+}
