@@ -168,14 +168,15 @@ impl Case<'_> {
         })
     }
 
-    fn change<'n>(&self, name: &'n CrateName) -> Action<'n> {
-        let logins = self.logins();
+    fn change<'n>(&self, name: &'n CrateName) -> Option<Action<'n>> {
         match self.action {
-            "yank" => Action::Yank("acme-net", "1.0.0"),
-            "unyank" => Action::Unyank("acme-net", "1.0.0"),
-            "add-owners" => Action::AddOwners("acme-net", logins),
-            "remove-owners" => Action::RemoveOwners("acme-net", logins),
-            _ => Action::Publish(name, "1.0.0"),
+            "yank" => Some(Action::Yank("acme-net", "1.0.0")),
+            "unyank" => Some(Action::Unyank("acme-net", "1.0.0")),
+            "publish-new" => Some(Action::Publish(name, "1.0.0")),
+            "publish-known" => Some(Action::Publish(name, "1.0.0")),
+            "add-owners" => Some(Action::AddOwners("acme-net", self.logins())),
+            "remove-owners" => Some(Action::RemoveOwners("acme-net", self.logins())),
+            _ => None,
         }
     }
 
@@ -207,11 +208,11 @@ impl Case<'_> {
         decide(&rows, action)
     }
 
-    /// The decision; none where there is no such name.
+    /// The decision; none where the table has no such action.
     fn decided(&self) -> Option<Decision> {
         let name = parse_name("acme-net")?;
         let pattern = Pattern::parse(if self.breaks("A7") { "acme" } else { "acme*" })?;
-        let action = self.reading().unwrap_or(self.change(&name));
+        let action = self.reading().or(self.change(&name))?;
         Some(self.decided_with(&[pattern], &action))
     }
 }

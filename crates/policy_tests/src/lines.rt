@@ -7,6 +7,7 @@ use crate::requests::request_of;
 use crate::splitting::split_within;
 use crate::stage::Stage;
 use crate::texts::{length, told};
+use reg_policy::Asked;
 use std::alloc::{AllocError, Global};
 
 /// What a line is answered: a command, a request, or something else.
@@ -26,28 +27,59 @@ fn request_answered<'a>(
     deed: &[&'a str],
     last: &'a str,
 ) -> Result<String, AllocError> {
-    let list = parts(stage.alloc, last)?;
-    match request_of(deed, last, &list) {
+    match request_of(deed, last) {
         Some(asked) => stage.ask(who, asked),
-        None => publish_answered(stage, who, deed, last),
+        None => change_answered(stage, who, deed, last),
+    }
+}
+
+fn change_answered(
+    stage: &mut Stage,
+    who: &str,
+    deed: &[&str],
+    last: &str,
+) -> Result<String, AllocError> {
+    match deed {
+        ["publish", version @ ..] => publish_answered(stage, who, version, last),
+        ["add-owners", name] => add_owners(stage, who, name, last),
+        ["remove-owners", name] => remove_owners(stage, who, name, last),
+        _ => order_answered(stage, who, deed, last),
     }
 }
 
 /// The archive of a publish is empty where no text of it is given.
-fn publish_answered<'a>(
+fn publish_answered(
     stage: &mut Stage,
     who: &str,
-    deed: &[&'a str],
-    last: &'a str,
+    words: &[&str],
+    last: &str,
 ) -> Result<String, AllocError> {
-    match deed {
-        ["publish", name] => publish(stage, who, &[name, last], "", "null"),
-        ["publish", name, version] => publish(stage, who, &[name, version], last, "null"),
-        ["publish", name, version, archive] => {
-            publish_described(stage, who, &[name, version], archive, last)
-        }
-        _ => order_answered(stage, who, deed, last),
+    match words {
+        [name] => publish(stage, who, [name, last], "", "null"),
+        [name, version] => publish(stage, who, [name, version], last, "null"),
+        [name, version, archive] => publish_described(stage, who, [name, version], archive, last),
+        _ => String::from_str(stage.alloc, "no such words"),
     }
+}
+
+fn add_owners(
+    stage: &mut Stage,
+    who: &str,
+    name: &str,
+    logins: &str,
+) -> Result<String, AllocError> {
+    let logins = parts(stage.alloc, logins)?;
+    stage.ask(who, Asked::AddOwners(name, &logins))
+}
+
+fn remove_owners(
+    stage: &mut Stage,
+    who: &str,
+    name: &str,
+    logins: &str,
+) -> Result<String, AllocError> {
+    let logins = parts(stage.alloc, logins)?;
+    stage.ask(who, Asked::RemoveOwners(name, &logins))
 }
 
 /// The adding of a token, a search, or what is no event.

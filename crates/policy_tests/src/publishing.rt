@@ -51,7 +51,7 @@ fn publish_json(
 pub(crate) fn publish(
     stage: &mut Stage,
     who: &str,
-    version: &[&str; 2],
+    version: [&str; 2],
     archive: &str,
     description: &str,
 ) -> Result<String, AllocError> {
@@ -66,7 +66,7 @@ pub(crate) fn publish(
 pub(crate) fn publish_described(
     stage: &mut Stage,
     who: &str,
-    version: &[&str; 2],
+    version: [&str; 2],
     archive: &str,
     description: &str,
 ) -> Result<String, AllocError> {

@@ -23,26 +23,12 @@ fn of_two<'a>(word: &str, name: &'a str, version: &'a str) -> Option<Asked<'a>> 
     })
 }
 
-/// A request about a crate and logins.
-fn of_list<'a>(word: &str, name: &'a str, logins: &'a [&'a str]) -> Option<Asked<'a>> {
-    Some(match word {
-        "add-owners" => Asked::AddOwners(name, logins),
-        "remove-owners" => Asked::RemoveOwners(name, logins),
-        _ => return None,
-    })
-}
-
 /// The request that words and a last word are; none where they are another, or none.
-/// The last word is handed in as a list too.
-pub(crate) fn request_of<'a>(
-    words: &[&'a str],
-    last: &'a str,
-    list: &'a [&'a str],
-) -> Option<Asked<'a>> {
+pub(crate) fn request_of<'a>(words: &[&'a str], last: &'a str) -> Option<Asked<'a>> {
     match words {
         [] if last == "config" => Some(Asked::Read(Reading::Config)),
         [word] => of_one(word, last),
-        [word, name] => of_two(word, name, last).or(of_list(word, name, list)),
+        [word, name] => of_two(word, name, last),
         _ => None,
     }
 }
