@@ -6,19 +6,19 @@ use crate::script::play;
 use crate::shown::{answer_text, answered};
 use reg_line::digest_of;
 use reg_plain::PlainRegistry;
-use reg_policy::{AdminCommand, Asked, Event};
+use reg_policy::{AdminCommand, Answer, Asked, Event};
 use std::alloc::{AllocError, Global};
 use std::process::Abort;
 use test_support::examples::SECOND_TOKEN;
 use test_support::scarce_memory::Amounts;
 
-/// How many amounts a step is tried with at most, each by so many bytes greater than the last.
-const COUNT: u32 = 1000;
+/// How many amounts a step is tried with, each by so many bytes greater than the last.
+pub(crate) const COUNT: u32 = 250;
 
 const STEP: u32 = 24;
 
 /// Four of each, so that the lists of the registry are full.
-const FULL: &str = "given two-accounts-and-a
+const FULL: &str = "given two-accounts-and-a with others
 ada publish c 0.1.0 -> Granted
 ada publish d 0.1.0 -> Granted
 ada publish e 0.1.0 -> Granted
@@ -31,7 +31,7 @@ reserve g -> Done
 reserve h -> Done
 reserve i -> Done";
 
-/// Adds what a registry answers to an event that changes nothing.
+/// Adds what a registry answers to an event.
 fn look(
     alloc: Global,
     texts: &mut String,
@@ -58,92 +58,131 @@ fn look_at_reports(
     Ok(())
 }
 
-/// What a registry answers to readings that show what the steps below change.
-fn seen(alloc: Global, registry: &mut PlainRegistry) -> Result<String, AllocError> {
-    let mut texts = String::new(alloc);
-    look_at_reports(alloc, &mut texts, registry)?;
+/// Adds what shows all that the steps below change: reports, and index files as ada and bob see
+/// them.
+fn look_at_all(
+    alloc: Global,
+    texts: &mut String,
+    registry: &mut PlainRegistry,
+) -> Result<(), AllocError> {
+    look_at_reports(alloc, texts, registry)?;
     for (token, path) in [("abc", "1/a"), ("abc", "1/b"), (SECOND_TOKEN, "1/a")] {
         let digest = digest_of(token.as_bytes());
         let event = Event::Ask(Some(&digest), Asked::Index(path));
-        look(alloc, &mut texts, registry, &event)?;
+        look(alloc, texts, registry, &event)?;
     }
-    Ok(texts)
-}
-
-/// What an event is answered with no more than so many bytes of memory.
-fn answer_within(
-    alloc: Global,
-    registry: &mut PlainRegistry,
-    event: &Event,
-    bytes: u32,
-) -> Result<String, AllocError> {
-    let mut amounts = Amounts::new(alloc, 1, bytes)?;
-    amounts.advance(alloc);
-    let answer = registry.step(event);
-    drop(amounts);
-    answer_text(alloc, &answer)
+    Ok(())
 }
 
 /// What an event is answered where memory is wanting.
 fn want(event: &Event) -> &'static str {
     match event {
-        Event::Ask(_, _) => "Denied(S1)",
-        Event::Order(_) => "Refused(G10)",
+        Event::Ask(_, _) => "Denied(S1)\n",
+        Event::Order(_) => "Refused(G10)\n",
     }
 }
 
-/// What an event is answered with so many bytes; none where it is a want that changes nothing.
-fn attempt(
-    alloc: Global,
-    registry: &mut PlainRegistry,
-    event: &Event,
-    bytes: u32,
-    before: &str,
-) -> Result<Option<String>, AllocError> {
-    let answer = answer_within(alloc, registry, event, bytes)?;
-    let is_want = answer.as_str() == want(event);
-    if is_want && seen(alloc, registry)?.as_str() == before {
-        Ok(None)
-    } else {
-        Ok(Some(answer))
-    }
-}
-
-/// What a step is answered with the first amount that is enough, or that is no right want.
+/// What the registries answer, each with a greater amount of memory.
 ///
-/// No memory at all is not enough.
-fn first_answer(
+/// What it takes up in doing so was had before.
+fn scarce_answers(
     alloc: Global,
-    registry: &mut PlainRegistry,
+    registries: &mut [PlainRegistry],
     event: &Event,
-) -> Result<String, AllocError> {
-    let before = seen(alloc, registry)?;
-    for wants in 0..COUNT {
-        if let Some(answer) = attempt(alloc, registry, event, wants * STEP, &before)? {
-            return if wants == 0 {
-                String::from_str(alloc, "no want")
-            } else {
-                Ok(answer)
-            };
+) -> Result<Vec<Answer>, AllocError> {
+    let mut answers = Vec::with_capacity(alloc, COUNT as usize)?;
+    let mut amounts = Amounts::new(alloc, COUNT, STEP)?;
+    for registry in registries {
+        if amounts.advance(alloc) {
+            answers.push(registry.step(event))?;
         }
     }
-    String::from_str(alloc, "always a want")
+    Ok(answers)
 }
 
-/// What a step is answered with scarce memory that another registry took with ample memory.
+/// What a registry answered, and its state after; where that was a want also what it answers with
+/// ample memory, and its state after that.
+fn transcript(
+    alloc: Global,
+    registry: &mut PlainRegistry,
+    event: &Event,
+    answer: &Answer,
+) -> Result<String, AllocError> {
+    let mut text = answer_text(alloc, answer)?;
+    text.push('\n')?;
+    look_at_all(alloc, &mut text, registry)?;
+    if text.starts_with(want(event)) {
+        look(alloc, &mut text, registry, event)?;
+        look_at_all(alloc, &mut text, registry)?;
+    }
+    Ok(text)
+}
+
+/// The right transcripts: where memory is wanting, all is as before.
+#[derive(Drop)]
+struct Right {
+    of_want: String,
+    of_answer: String,
+}
+
+impl Right {
+    /// Takes a step with ample memory.
+    fn of(alloc: Global, registry: &mut PlainRegistry, event: &Event) -> Result<Right, AllocError> {
+        let mut of_want = String::from_str(alloc, want(event))?;
+        look_at_all(alloc, &mut of_want, registry)?;
+        let mut of_answer = String::new(alloc);
+        look(alloc, &mut of_answer, registry, event)?;
+        look_at_all(alloc, &mut of_answer, registry)?;
+        Ok(Right { of_want, of_answer })
+    }
+
+    /// Whether a transcript shows a want that is right, or the right answer; none where neither.
+    fn is_want(&self, text: &str) -> Option<bool> {
+        let rest = text.strip_prefix(self.of_want.as_str());
+        if rest.unwrap_or(text) == self.of_answer.as_str() {
+            Some(rest.is_some())
+        } else {
+            None
+        }
+    }
+
+    /// How many wants there are; none where something else came than they and the right answer.
+    fn wants(
+        &self,
+        alloc: Global,
+        registries: &mut [PlainRegistry],
+        event: &Event,
+        answers: &[Answer],
+    ) -> Result<Option<u32>, AllocError> {
+        let mut wants: u32 = 0;
+        for (registry, answer) in registries.iter_mut().zip(answers) {
+            match self.is_want(&transcript(alloc, registry, event, answer)?) {
+                Some(true) => wants = wants.saturating_add(1),
+                Some(false) => {}
+                None => return Ok(None),
+            }
+        }
+        Ok(Some(wants))
+    }
+}
+
+/// Takes a step with ample memory and with each amount, and answers as the first, if all is right.
 ///
-/// In the end both are in the same state.
+/// In the end all registries are in the same state.
 pub(crate) fn step_with_scarce_memory(
     alloc: Global,
     ample: &mut PlainRegistry,
-    scarce: &mut PlainRegistry,
+    registries: &mut [PlainRegistry],
     event: &Event,
 ) -> Result<String, AllocError> {
-    let answer = first_answer(alloc, scarce, event)?;
-    if seen(alloc, ample)?.as_str() == seen(alloc, scarce)?.as_str() {
-        Ok(answer)
+    let right = Right::of(alloc, ample, event)?;
+    let answers = scarce_answers(alloc, registries, event)?;
+    let wants = right.wants(alloc, registries, event, &answers)?;
+    if wants.is_some_and(|wants| 5 < wants && wants < COUNT - 5) {
+        let (answer, _) = right.of_answer.split_once('\n').unwrap_or(("", ""));
+        String::from_str(alloc, answer)
     } else {
-        format!(in alloc; "{answer}, and another state")
+        format!(in alloc; "{} with {wants:?} wants", right.of_answer)
     }
 }
 

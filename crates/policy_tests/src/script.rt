@@ -5,6 +5,7 @@
 //! What is indented by four spaces goes on with the line above.
 
 use crate::lines::answered;
+use crate::memory::COUNT;
 use crate::stage::Stage;
 use reg_body::Limits;
 use std::alloc::{AllocError, Global};
@@ -108,7 +109,12 @@ fn all_lines(alloc: Global, first: &str, lines: &str) -> Result<String, AllocErr
 fn fault_in(alloc: Global, script: &str) -> Result<Option<String>, AllocError> {
     let (first, lines) = script.split_once('\n').unwrap_or((script, "no lines"));
     let all = all_lines(alloc, first, lines)?;
-    first_fault(&mut Stage::new(alloc, limits_of(first)), &all)
+    let others = if first.ends_with(" with others") {
+        COUNT
+    } else {
+        0
+    };
+    first_fault(&mut Stage::new(alloc, limits_of(first), others)?, &all)
 }
 
 /// Plays a script: fails where a line of it is answered otherwise than it says.

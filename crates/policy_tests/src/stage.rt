@@ -12,34 +12,44 @@ use test_support::examples::SECOND_TOKEN;
 /// The text of ada's token.
 const FIRST_TOKEN: &str = "abc";
 
-/// A registry, and another that takes the same steps, with scarce memory once that is said.
+/// A registry, and others that take the same steps, with scarce memory once that is said.
 #[derive(Drop)]
 pub(crate) struct Stage {
     pub(crate) alloc: Global,
     pub(crate) ample: PlainRegistry,
-    other: PlainRegistry,
+    others: Vec<PlainRegistry>,
     pub(crate) is_scarce: bool,
 }
 
+/// So many registries with nothing in them.
+fn registries(alloc: Global, limits: Limits, count: u32) -> Result<Vec<PlainRegistry>, AllocError> {
+    let mut registries = Vec::new(alloc);
+    for _ in 0..count {
+        registries.push(PlainRegistry::new(alloc, limits))?;
+    }
+    Ok(registries)
+}
+
 impl Stage {
-    pub(crate) fn new(alloc: Global, limits: Limits) -> Stage {
-        Stage {
+    /// A registry with nothing in it, and so many others.
+    pub(crate) fn new(alloc: Global, limits: Limits, others: u32) -> Result<Stage, AllocError> {
+        Ok(Stage {
             alloc,
             ample: PlainRegistry::new(alloc, limits),
-            other: PlainRegistry::new(alloc, limits),
+            others: registries(alloc, limits, others)?,
             is_scarce: false,
-        }
+        })
     }
 
     /// What an event is answered.
     fn step(&mut self, event: &Event) -> Result<String, AllocError> {
         if self.is_scarce {
-            self.ample.step(event);
-            step_with_scarce_memory(self.alloc, &mut self.ample, &mut self.other, event)
-        } else {
-            self.other.step(event);
-            answered(self.alloc, &mut self.ample, event)
+            return step_with_scarce_memory(self.alloc, &mut self.ample, &mut self.others, event);
         }
+        for registry in self.others.iter_mut() {
+            registry.step(event);
+        }
+        answered(self.alloc, &mut self.ample, event)
     }
 
     /// What a request is answered. Who asks is ada, bob, no-token, or the text of a token.
