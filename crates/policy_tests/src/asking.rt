@@ -1,37 +1,36 @@
 //! Which of several broken rules a request is answered.
 
 use crate::script::play;
-use std::test::Fail;
 
 #[test]
-fn denied_in_order(rt: HostRuntime) -> Result<(), Fail> {
+fn denied_in_order(rt: HostRuntime) {
     let script = "given two-accounts-and-a
 bob publish b 0.1.0 -> Denied(A6)
 bob publish a 0.2.0 -> Denied(A9)
 bob yank a 0.1.0 -> Denied(A9)
 bob yank b 0.1.0 -> Denied(A8)";
-    play(rt.alloc(), script)
+    play(&rt, script);
 }
 
 #[test]
-fn owners_are_listed(rt: HostRuntime) -> Result<(), Fail> {
+fn owners_are_listed(rt: HostRuntime) {
     let script = "given two-accounts-and-a
 bob owners A -> Owners 1:ada:Ada";
-    play(rt.alloc(), script)
+    play(&rt, script);
 }
 
 #[test]
-fn limit_of_crates(rt: HostRuntime) -> Result<(), Fail> {
+fn limit_of_crates(rt: HostRuntime) {
     let script = "given two-accounts-and-a crates=1
 ada publish b 0.2.0 -> Denied(L2)
 ada publish nul 0.2.0 -> Denied(N2)
 ada publish a 0.2.0 -> Granted
 ada publish b 0.2.0 -> Denied(L2)";
-    play(rt.alloc(), script)
+    play(&rt, script);
 }
 
 #[test]
-fn reading_needs_no_scope(rt: HostRuntime) -> Result<(), Fail> {
+fn reading_needs_no_scope(rt: HostRuntime) {
     let script = r#"given two-accounts-and-a
 bob config -> Granted
 bob search "" 10 -> Granted
@@ -45,7 +44,7 @@ bob download a 0.1.0 -> Archive(0):
 bob owners a -> Owners 1:ada:Ada
 bob owners b -> Denied(A8)
 bob owners "a b" -> Denied(A8)"#;
-    play(rt.alloc(), script)
+    play(&rt, script);
 }
 
 /// Bob's token has not all endpoints, and there is no crate: what is broken behind comes later.
@@ -104,6 +103,6 @@ bob faulty O1 -> Denied(A3)
 bob faulty Q1 -> Denied(A3)";
 
 #[test]
-fn bodies_are_judged_after_access(rt: HostRuntime) -> Result<(), Fail> {
-    play(rt.alloc(), BODIES)
+fn bodies_are_judged_after_access(rt: HostRuntime) {
+    play(&rt, BODIES);
 }

@@ -2,207 +2,200 @@
 //!
 //! The answer is the one with ample memory, or the want, and then nothing has changed.
 
-use crate::script::{given, play_on, with_whole_lines};
-use crate::shown::answer_text;
-use crate::stage::Stage;
+use crate::script::play;
+use crate::shown::{answer_text, answered};
 use reg_line::digest_of;
-use reg_policy::{Answer, Asked, Event, PlainRegistry, Reading};
+use reg_plain::PlainRegistry;
+use reg_policy::{AdminCommand, Answer, Asked, Event};
 use std::alloc::{AllocError, Global};
-use std::test::Fail;
+use std::process::Abort;
+use test_support::examples::SECOND_TOKEN;
 use test_support::scarce_memory::Amounts;
 
 /// How many amounts a step is tried with, each by so many bytes greater than the last.
-const COUNT: u32 = 400;
+pub(crate) const COUNT: u32 = 250;
 
 const STEP: u32 = 24;
 
-/// Adds what a registry answers to a reading.
+/// Four of each, so that the lists of the registry are full.
+const FULL: &str = "given two-accounts-and-a with others
+ada publish c 0.1.0 -> Granted
+ada publish d 0.1.0 -> Granted
+ada publish e 0.1.0 -> Granted
+user-add carol -> Done
+token-add carol publish-new,publish-update,yank,change-owners - carol -> Id(3)
+user-add dora -> Done
+token-add dora publish-new,publish-update,yank,change-owners - dora -> Id(4)
+reserve f -> Done
+reserve g -> Done
+reserve h -> Done
+reserve i -> Done";
+
+/// Adds what a registry answers to an event.
 fn look(
     alloc: Global,
     texts: &mut String,
     registry: &mut PlainRegistry,
-    token: &str,
-    asked: Asked,
+    event: &Event,
 ) -> Result<(), AllocError> {
-    let digest = digest_of(token.as_bytes());
-    let answer = registry.step(&Event::Ask(Some(&digest), asked));
-    texts.push_str(&answer_text(alloc, &answer)?)?;
+    texts.push_str(&answered(alloc, registry, event)?)?;
     texts.push('\n')
 }
 
-/// What a registry answers to readings that show what the steps below change.
-fn seen(alloc: Global, registry: &mut PlainRegistry) -> Result<String, AllocError> {
-    let mut texts = String::new(alloc);
-    for (name, path) in [("a", "1/a"), ("b", "1/b")] {
-        look(alloc, &mut texts, registry, "abc", Asked::Index(path))?;
-        look(alloc, &mut texts, registry, "abc", Asked::ListOwners(name))?;
-    }
-    let config = Asked::Read(Reading::Config);
-    look(alloc, &mut texts, registry, "fifth", config)?;
-    Ok(texts)
-}
-
-/// A registry after a step, and the answer of that.
-#[derive(Drop)]
-struct Stepped {
-    registry: PlainRegistry,
-    answer: Answer,
-}
-
-/// Takes a step on the registries, each with a greater amount of memory.
-///
-/// What it takes up in doing so was had before.
-fn scarce_steps(
+/// Adds what the administrator sees: accounts, tokens, crates, and who may act on two of them.
+fn look_at_reports(
     alloc: Global,
-    registries: &mut Vec<PlainRegistry>,
-    event: &Event,
-) -> Result<Vec<Stepped>, AllocError> {
-    let mut steps = Vec::with_capacity(alloc, COUNT as usize)?;
-    let mut amounts = Amounts::new(alloc, COUNT, STEP)?;
-    for _ in 0..COUNT {
-        let Some(mut registry) = registries.pop() else {
-            break;
-        };
-        if !amounts.advance(alloc) {
-            break;
-        }
-        let answer = registry.step(event);
-        steps.push(Stepped { registry, answer })?;
+    texts: &mut String,
+    registry: &mut PlainRegistry,
+) -> Result<(), AllocError> {
+    look(alloc, texts, registry, &Event::Order(AdminCommand::Users))?;
+    look(alloc, texts, registry, &Event::Order(AdminCommand::Tokens))?;
+    look(alloc, texts, registry, &Event::Order(AdminCommand::Crates))?;
+    for name in ["a", "b"] {
+        let event = Event::Order(AdminCommand::Access(name));
+        look(alloc, texts, registry, &event)?;
     }
-    drop(amounts);
-    Ok(steps)
+    Ok(())
 }
 
-/// How often the answer with ample memory came, the want of memory, and another answer or state.
-#[derive(Clone, Copy, Debug)]
-struct Tally {
-    answers: u32,
-    wants: u32,
-    others: u32,
-}
-
-impl Tally {
-    fn add(&mut self, is_want: bool, is_right: bool) {
-        if !is_right {
-            self.others = self.others.saturating_add(1);
-        } else if is_want {
-            self.wants = self.wants.saturating_add(1);
-        } else {
-            self.answers = self.answers.saturating_add(1);
-        }
+/// Adds what shows all that the steps below change: reports, and index files as ada and bob see
+/// them.
+fn look_at_all(
+    alloc: Global,
+    texts: &mut String,
+    registry: &mut PlainRegistry,
+) -> Result<(), AllocError> {
+    look_at_reports(alloc, texts, registry)?;
+    for (token, path) in [("abc", "1/a"), ("abc", "1/b"), (SECOND_TOKEN, "1/a")] {
+        let digest = digest_of(token.as_bytes());
+        let event = Event::Ask(Some(&digest), Asked::Index(path));
+        look(alloc, texts, registry, &event)?;
     }
-
-    /// Both the answer and the want came, and nothing else.
-    fn is_right(&self) -> bool {
-        self.answers > 5 && self.wants > 5 && self.others == 0
-    }
+    Ok(())
 }
 
 /// What an event is answered where memory is wanting.
 fn want(event: &Event) -> &'static str {
     match event {
-        Event::Ask(_, _) => "Denied(S1)",
-        Event::Order(_) => "Refused(G10)",
+        Event::Ask(_, _) => "Denied(S1)\n",
+        Event::Order(_) => "Refused(G10)\n",
     }
 }
 
-/// The answers and states that are right: where memory is wanting, all is as before.
+/// What the registries answer, each with a greater amount of memory.
+///
+/// What it takes up in doing so was had before.
+fn scarce_answers(
+    alloc: Global,
+    registries: &mut [PlainRegistry],
+    event: &Event,
+) -> Result<Vec<Answer>, AllocError> {
+    let mut answers = Vec::with_capacity(alloc, COUNT as usize)?;
+    let mut amounts = Amounts::new(alloc, COUNT, STEP)?;
+    for registry in registries {
+        if amounts.advance(alloc) {
+            answers.push(registry.step(event))?;
+        }
+    }
+    Ok(answers)
+}
+
+/// What a registry answered, and its state after; where that was a want also what it answers with
+/// ample memory, and its state after that.
+fn transcript(
+    alloc: Global,
+    registry: &mut PlainRegistry,
+    event: &Event,
+    answer: &Answer,
+) -> Result<String, AllocError> {
+    let mut text = answer_text(alloc, answer)?;
+    text.push('\n')?;
+    look_at_all(alloc, &mut text, registry)?;
+    if text.starts_with(want(event)) {
+        look(alloc, &mut text, registry, event)?;
+        look_at_all(alloc, &mut text, registry)?;
+    }
+    Ok(text)
+}
+
+/// The right transcripts: where memory is wanting, all is as before.
 #[derive(Drop)]
 struct Right {
-    want: &'static str,
-    before: String,
-    answer: String,
-    after: String,
+    of_want: String,
+    of_answer: String,
 }
 
 impl Right {
     /// Takes a step with ample memory.
     fn of(alloc: Global, registry: &mut PlainRegistry, event: &Event) -> Result<Right, AllocError> {
-        let before = seen(alloc, registry)?;
-        let answer = answer_text(alloc, &registry.step(event))?;
-        let after = seen(alloc, registry)?;
-        Ok(Right {
-            want: want(event),
-            before,
-            answer,
-            after,
-        })
+        let mut of_want = String::from_str(alloc, want(event))?;
+        look_at_all(alloc, &mut of_want, registry)?;
+        let mut of_answer = String::new(alloc);
+        look(alloc, &mut of_answer, registry, event)?;
+        look_at_all(alloc, &mut of_answer, registry)?;
+        Ok(Right { of_want, of_answer })
     }
 
-    fn count(
+    /// Whether a transcript shows a want that is right, or the right answer; none where neither.
+    fn is_want(&self, text: &str) -> Option<bool> {
+        let rest = text.strip_prefix(self.of_want.as_str());
+        if rest.unwrap_or(text) == self.of_answer.as_str() {
+            Some(rest.is_some())
+        } else {
+            None
+        }
+    }
+
+    /// How many wants there are; none where something else came than they and the right answer.
+    fn wants(
         &self,
         alloc: Global,
-        tally: &mut Tally,
-        step: &mut Stepped,
-    ) -> Result<(), AllocError> {
-        let found = seen(alloc, &mut step.registry)?;
-        let answer = answer_text(alloc, &step.answer)?;
-        if answer.as_str() == self.want {
-            tally.add(true, found.as_str() == self.before.as_str());
-        } else {
-            let same_answer = answer.as_str() == self.answer.as_str();
-            tally.add(false, same_answer && found.as_str() == self.after.as_str());
+        registries: &mut [PlainRegistry],
+        event: &Event,
+        answers: &[Answer],
+    ) -> Result<Option<u32>, AllocError> {
+        let mut wants: u32 = 0;
+        for (registry, answer) in registries.iter_mut().zip(answers) {
+            match self.is_want(&transcript(alloc, registry, event, answer)?) {
+                Some(true) => wants = wants.saturating_add(1),
+                Some(false) => {}
+                None => return Ok(None),
+            }
         }
-        Ok(())
-    }
-
-    fn tally(&self, alloc: Global, steps: Vec<Stepped>) -> Result<Tally, AllocError> {
-        let mut tally = Tally {
-            answers: 0,
-            wants: 0,
-            others: 0,
-        };
-        for mut step in steps {
-            self.count(alloc, &mut tally, &mut step)?;
-        }
-        Ok(tally)
+        Ok(Some(wants))
     }
 }
 
 /// Takes a step with ample memory and with each amount, and answers as the first, if all is right.
-pub(crate) fn each_amount(
+///
+/// In the end all registries are in the same state.
+pub(crate) fn step_with_scarce_memory(
     alloc: Global,
     ample: &mut PlainRegistry,
-    scarce: &mut Vec<PlainRegistry>,
+    registries: &mut [PlainRegistry],
     event: &Event,
 ) -> Result<String, AllocError> {
     let right = Right::of(alloc, ample, event)?;
-    let tally = right.tally(alloc, scarce_steps(alloc, scarce, event)?)?;
-    if tally.is_right() {
-        String::from_str(alloc, &right.answer)
+    let answers = scarce_answers(alloc, registries, event)?;
+    let wants = right.wants(alloc, registries, event, &answers)?;
+    if wants.is_some_and(|wants| 5 < wants && wants < COUNT - 5) {
+        let (answer, _) = right.of_answer.split_once('\n').unwrap_or(("", ""));
+        String::from_str(alloc, answer)
     } else {
-        format!(in alloc; "{} and {tally:?}", right.answer)
+        format!(in alloc; "{} with {wants:?} wants", right.of_answer)
     }
 }
 
-/// A registry whose lists are full.
-fn full(alloc: Global) -> Result<PlainRegistry, Fail> {
-    match given(alloc, "given full-lists")? {
-        Stage::Ample(registry) => Ok(registry),
-        Stage::Scarce(_, _) => Err("no registry".into()),
+/// Plays lines on a registry whose lists are full, each with each amount of memory.
+fn play_scarce<R: Abort + AllocGlobal>(rt: &R, lines: &str) {
+    match format!(in rt.alloc(); "{FULL}\nfrom-here scarce -> scarce\n{lines}") {
+        Ok(script) => play(rt, &script),
+        Err(_) => panic!(rt; "no memory"),
     }
-}
-
-/// One registry for ample memory, and one for each amount.
-fn scarce_stage(alloc: Global) -> Result<Stage, Fail> {
-    let mut scarce = Vec::new(alloc);
-    for _ in 0..COUNT {
-        scarce.push(full(alloc)?)?;
-    }
-    Ok(Stage::Scarce(full(alloc)?, scarce))
-}
-
-/// Plays each line of a script by itself, with each amount of memory.
-fn play_scarce(alloc: Global, script: &str) -> Result<(), Fail> {
-    let whole = with_whole_lines(alloc, script)?;
-    for line in whole.lines() {
-        play_on(alloc, &mut scarce_stage(alloc)?, line)?;
-    }
-    Ok(())
 }
 
 #[test]
-fn requests(rt: HostRuntime) -> Result<(), Fail> {
+fn requests(rt: HostRuntime) {
     let script = r#"ada index 1/a -> File(175):
     {"cksum":"e3b0c44298fc1c149afbf4c8996fb92427ae41e4649b934ca495991b7852b855",
     "deps":[],"features":{},"links":null,"name":"a","rust_version":null,
@@ -210,22 +203,56 @@ fn requests(rt: HostRuntime) -> Result<(), Fail> {
 ada owners a -> Owners 1:ada:Ada
 ada yank a 0.1.0 -> Granted
 ada add-owners a bob,carol -> Granted
-ada remove-owners a bob -> Denied(O3)"#;
-    play_scarce(rt.alloc(), script)
+ada remove-owners a dora -> Denied(O3)"#;
+    play_scarce(&rt, script);
 }
 
 #[test]
-fn publishes_of_versions(rt: HostRuntime) -> Result<(), Fail> {
+fn publishes_of_versions(rt: HostRuntime) {
     let script = "ada publish b 0.1.0 abc -> Granted
 ada publish a 0.2.0 abc -> Granted";
-    play_scarce(rt.alloc(), script)
+    play_scarce(&rt, script);
 }
 
 #[test]
-fn commands(rt: HostRuntime) -> Result<(), Fail> {
+fn commands(rt: HostRuntime) {
     let script = "user-add eve Eve -> Done
 token-add bob yank a,b-* fifth -> Id(5)
 reserve b -> Done
 owner-add a bob -> Done";
-    play_scarce(rt.alloc(), script)
+    play_scarce(&rt, script);
+}
+
+#[test]
+fn restricting(rt: HostRuntime) {
+    let script = "crate-restrict a -> Done
+reader-add a bob -> Done";
+    play_scarce(&rt, script);
+}
+
+#[test]
+fn reports(rt: HostRuntime) {
+    let script = "access a -> Text:
+           1  publish-update  ada<0a>
+           1  yank            ada<0a>
+           1  change-owners   ada<0a>
+users -> Text:
+           1  ada                               enabled   Ada<0a>
+           2  bob                               enabled   -<0a>
+           3  carol                             enabled   -<0a>
+           4  dora                              enabled   -<0a>
+crates -> Text:
+    a                                                                      1  0.1.0<0a>
+    c                                                                      1  0.1.0<0a>
+    d                                                                      1  0.1.0<0a>
+    e                                                                      1  0.1.0<0a>
+tokens -> Text:
+           1  ada                               live     publish-new,publish-update,
+    yank,change-owners  *<0a>
+           2  bob                               live     publish-update,yank  *<0a>
+           3  carol                             live     publish-new,publish-update,
+    yank,change-owners  *<0a>
+           4  dora                              live     publish-new,publish-update,
+    yank,change-owners  *<0a>";
+    play_scarce(&rt, script);
 }

@@ -4,35 +4,27 @@
 //! Words stand between spaces, or in quotation marks where they are empty or have spaces.
 //! What is indented by four spaces goes on with the line above.
 
-use crate::events::perform;
+use crate::lines::answered;
+use crate::memory::COUNT;
 use crate::stage::Stage;
 use reg_body::Limits;
-use reg_policy::PlainRegistry;
 use std::alloc::{AllocError, Global};
-use std::test::Fail;
+use std::process::Abort;
 
 /// The registry of *two accounts*: ada's token has all endpoints, and bob's has two.
 const TWO_ACCOUNTS: &str = "user-add ada Ada -> Done
 user-add bob -> Done
 token-add ada publish-new,publish-update,yank,change-owners - ada -> Id(1)
-token-add bob publish-update,yank - bob -> Id(2)";
+token-add bob publish-update,yank - bob -> Id(2)
+";
 
 /// The registry of *two accounts and a*: that of *two accounts* after ada published `a`.
-const A: &str = "ada publish a 0.1.0 -> Granted";
-
-/// That, and more of each, so that the lists of a registry are full.
-const A_AND_MORE: &str = "ada publish a 0.1.0 -> Granted
-ada publish c 0.1.0 -> Granted
-ada publish d 0.1.0 -> Granted
-ada publish e 0.1.0 -> Granted
-user-add carol -> Done
-token-add carol publish-new,publish-update,yank,change-owners - carol -> Id(3)
-user-add dora -> Done
-token-add dora publish-new,publish-update,yank,change-owners - dora -> Id(4)
-reserve f -> Done
-reserve g -> Done
-reserve h -> Done
-reserve i -> Done";
+const TWO_ACCOUNTS_AND_A: &str = "user-add ada Ada -> Done
+user-add bob -> Done
+token-add ada publish-new,publish-update,yank,change-owners - ada -> Id(1)
+token-add bob publish-update,yank - bob -> Id(2)
+ada publish a 0.1.0 -> Granted
+";
 
 /// The words of a line: those between spaces, and the texts in quotation marks.
 fn words_of<'a>(alloc: Global, text: &'a str) -> Result<Vec<&'a str>, AllocError> {
@@ -47,33 +39,26 @@ fn words_of<'a>(alloc: Global, text: &'a str) -> Result<Vec<&'a str>, AllocError
     Ok(words)
 }
 
-/// What the words of an event are answered.
-fn answered(alloc: Global, stage: &mut Stage, event: &str) -> Result<String, AllocError> {
-    let words = words_of(alloc, event)?;
-    match perform(alloc, stage, &words)? {
-        Some(answer) => Ok(answer),
-        None => String::from_str(alloc, "no such words"),
-    }
+/// What an event is answered.
+fn answer_of(stage: &mut Stage, event: &str) -> Result<String, AllocError> {
+    let words = words_of(stage.alloc, event)?;
+    answered(stage, &words)
 }
 
 /// What is wrong with a line; none where it is answered as it says.
-fn fault_of(alloc: Global, stage: &mut Stage, line: &str) -> Result<Option<String>, AllocError> {
+fn fault_of(stage: &mut Stage, line: &str) -> Result<Option<String>, AllocError> {
     let (event, want) = line.split_once(" -> ").unwrap_or((line, "no arrow"));
-    let found = answered(alloc, stage, event)?;
+    let found = answer_of(stage, event)?;
     if found.as_str() == want {
         return Ok(None);
     }
-    Ok(Some(format!(in alloc; "{event}: found {found}")?))
+    Ok(Some(format!(in stage.alloc; "{event}: found {found}")?))
 }
 
 /// What is wrong with the first line that is answered otherwise than it says.
-fn first_fault(
-    alloc: Global,
-    stage: &mut Stage,
-    lines: &str,
-) -> Result<Option<String>, AllocError> {
+fn first_fault(stage: &mut Stage, lines: &str) -> Result<Option<String>, AllocError> {
     for line in lines.lines() {
-        let fault = fault_of(alloc, stage, line)?;
+        let fault = fault_of(stage, line)?;
         if fault.is_some() {
             return Ok(fault);
         }
@@ -81,89 +66,62 @@ fn first_fault(
     Ok(None)
 }
 
-/// The limits with one of them set to a number.
-fn limited(limits: Limits, name: &str, number: u32) -> Option<Limits> {
-    let most = u64::from(number);
+/// Sets the limit with this name. Another name leaves no room for an account.
+fn limit(limits: &mut Limits, name: &str, number: u32) {
     match name {
-        "patterns" => Some(Limits {
-            patterns: number,
-            ..limits
-        }),
-        "versions" => Some(Limits {
-            versions: most,
-            ..limits
-        }),
-        "accounts" => Some(Limits {
-            accounts: most,
-            ..limits
-        }),
-        "tokens" => Some(Limits {
-            tokens: most,
-            ..limits
-        }),
-        "crates" => Some(Limits {
-            crates: most,
-            ..limits
-        }),
-        _ => None,
+        "patterns" => limits.patterns = number,
+        "versions" => limits.versions = u64::from(number),
+        "accounts" => limits.accounts = u64::from(number),
+        "tokens" => limits.tokens = u64::from(number),
+        "crates" => limits.crates = u64::from(number),
+        _ => limits.accounts = 0,
     }
 }
 
 /// The standard limits with those set that the words name, as `crates=1`.
-fn limits_of(words: &[&str]) -> Option<Limits> {
+fn limits_of(words: &str) -> Limits {
     let mut limits = Limits::STANDARD;
-    for word in words {
-        let (name, number) = word.split_once('=')?;
-        limits = limited(limits, name, number.parse().ok()?)?;
+    for word in words.split(' ') {
+        if let Some((name, number)) = word.split_once('=') {
+            limit(&mut limits, name, number.parse().unwrap_or(0));
+        }
     }
-    Some(limits)
+    limits
 }
 
-/// The lines that make a registry that a script begins with, in two parts.
-fn setup_of(name: &str) -> Option<(&'static str, &'static str)> {
-    match name {
-        "two-accounts" => Some((TWO_ACCOUNTS, "")),
-        "two-accounts-and-a" => Some((TWO_ACCOUNTS, A)),
-        "full-lists" => Some((TWO_ACCOUNTS, A_AND_MORE)),
-        _ => None,
-    }
-}
-
-/// Plays lines: fails where one of them is answered otherwise than it says.
-pub(crate) fn play_on(alloc: Global, stage: &mut Stage, lines: &str) -> Result<(), Fail> {
-    match first_fault(alloc, stage, lines)? {
-        Some(fault) => Err(Fail::new(fault)),
-        None => Ok(()),
+/// What a first line says that there is: the lines that make it.
+fn setup_of(first: &str) -> &'static str {
+    if first.starts_with("given two-accounts-and-a") {
+        TWO_ACCOUNTS_AND_A
+    } else if first.starts_with("given two-accounts") {
+        TWO_ACCOUNTS
+    } else {
+        "nothing given"
     }
 }
 
-/// The registry with this name and these limits.
-fn given_registry(alloc: Global, name: &str, limits: &[&str]) -> Result<Stage, Fail> {
-    let (lines, more) = setup_of(name).ok_or("no such registry")?;
-    let limits = limits_of(limits).ok_or("no such limits")?;
-    let mut stage = Stage::Ample(PlainRegistry::new(alloc, limits));
-    play_on(alloc, &mut stage, lines)?;
-    play_on(alloc, &mut stage, more)?;
-    Ok(stage)
+/// The lines of a script as they are played: whole, and behind those that make what it is given.
+fn all_lines(alloc: Global, first: &str, lines: &str) -> Result<String, AllocError> {
+    let whole = lines.replace(alloc, "\n    ", "")?;
+    format!(in alloc; "{}{whole}", setup_of(first))
 }
 
-/// What a first line says that there is.
-pub(crate) fn given(alloc: Global, line: &str) -> Result<Stage, Fail> {
-    let words = words_of(alloc, line)?;
-    match words.as_slice() {
-        ["given", name, limits @ ..] => given_registry(alloc, name, limits),
-        _ => Err("no given registry".into()),
-    }
-}
-
-/// A script whose lines are whole.
-pub(crate) fn with_whole_lines(alloc: Global, script: &str) -> Result<String, AllocError> {
-    script.replace(alloc, "\n    ", "")
+fn fault_in(alloc: Global, script: &str) -> Result<Option<String>, AllocError> {
+    let (first, lines) = script.split_once('\n').unwrap_or((script, "no lines"));
+    let all = all_lines(alloc, first, lines)?;
+    let others = if first.ends_with(" with others") {
+        COUNT
+    } else {
+        0
+    };
+    first_fault(&mut Stage::new(alloc, limits_of(first), others)?, &all)
 }
 
 /// Plays a script: fails where a line of it is answered otherwise than it says.
-pub(crate) fn play(alloc: Global, script: &str) -> Result<(), Fail> {
-    let (first, lines) = script.split_once('\n').ok_or("one line")?;
-    let mut stage = given(alloc, first)?;
-    play_on(alloc, &mut stage, &with_whole_lines(alloc, lines)?)
+pub(crate) fn play<R: Abort + AllocGlobal>(rt: &R, script: &str) {
+    match fault_in(rt.alloc(), script) {
+        Ok(None) => {}
+        Ok(Some(fault)) => panic!(rt; "{fault}"),
+        Err(_) => panic!(rt; "no memory"),
+    }
 }

@@ -1,10 +1,9 @@
 //! What becomes of a token.
 
 use crate::script::play;
-use std::test::Fail;
 
 #[test]
-fn token_states(rt: HostRuntime) -> Result<(), Fail> {
+fn token_states(rt: HostRuntime) {
     let script = "given two-accounts-and-a
 no-token config -> Denied(A1)
 abd config -> Denied(A2)
@@ -14,11 +13,11 @@ ada config -> Denied(A3)
 bob config -> Granted
 user-disable bob -> Done
 bob config -> Denied(A4)";
-    play(rt.alloc(), script)
+    play(&rt, script);
 }
 
 #[test]
-fn once_more_changes_nothing(rt: HostRuntime) -> Result<(), Fail> {
+fn once_more_changes_nothing(rt: HostRuntime) {
     // A revoked token stays one when its account is enabled again.
     let script = "given two-accounts-and-a
 user-disable bob -> Done
@@ -39,5 +38,5 @@ bob config -> Denied(A3)
 ada config -> Granted
 user-enable bob -> Done
 bob config -> Denied(A3)";
-    play(rt.alloc(), script)
+    play(&rt, script);
 }

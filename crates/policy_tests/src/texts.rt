@@ -1,0 +1,96 @@
+//! Words of scripts about refusals' texts and texts' lengths.
+
+use reg_policy::{AdminRefusal, Rule, admin_text, rule_status, rule_text};
+use std::alloc::{AllocError, Global};
+
+/// All rules in their order.
+const RULES: [Rule; 35] = [
+    Rule::H1,
+    Rule::H2,
+    Rule::H3,
+    Rule::H4,
+    Rule::H5,
+    Rule::H6,
+    Rule::H7,
+    Rule::A1,
+    Rule::A2,
+    Rule::A3,
+    Rule::A4,
+    Rule::A6,
+    Rule::A7,
+    Rule::A8,
+    Rule::A9,
+    Rule::A10,
+    Rule::B1,
+    Rule::B2,
+    Rule::B3,
+    Rule::B4,
+    Rule::B5,
+    Rule::N1,
+    Rule::N2,
+    Rule::N3,
+    Rule::V1,
+    Rule::V2,
+    Rule::M1,
+    Rule::L1,
+    Rule::L2,
+    Rule::O1,
+    Rule::O2,
+    Rule::O3,
+    Rule::O4,
+    Rule::Q1,
+    Rule::S1,
+];
+
+/// All refusals of the administrator in their order.
+const REFUSALS: [AdminRefusal; 10] = [
+    AdminRefusal::G1,
+    AdminRefusal::G2,
+    AdminRefusal::G3,
+    AdminRefusal::G4,
+    AdminRefusal::G5,
+    AdminRefusal::G6,
+    AdminRefusal::G7,
+    AdminRefusal::G8,
+    AdminRefusal::G9,
+    AdminRefusal::G10,
+];
+
+/// Whether a text begins with this word.
+fn begins(text: &str, word: &str) -> bool {
+    match text.split_once(' ') {
+        Some((first, _)) => first == word,
+        None => false,
+    }
+}
+
+/// The rule whose text begins with this name.
+pub(crate) fn rule_named(name: &str) -> Option<Rule> {
+    RULES
+        .iter()
+        .copied()
+        .find(|rule| begins(rule_text(*rule), name))
+}
+
+fn refusal_named(name: &str) -> Option<AdminRefusal> {
+    REFUSALS
+        .iter()
+        .copied()
+        .find(|refusal| begins(admin_text(*refusal), name))
+}
+
+/// What a refusal is told: its name, of a rule its status, and its text.
+pub(crate) fn told(alloc: Global, name: &str) -> Result<String, AllocError> {
+    if let Some(rule) = rule_named(name) {
+        let (status, text) = (rule_status(rule), rule_text(rule));
+        return format!(in alloc; "{rule:?}: {status} {text}");
+    }
+    if let Some(refusal) = refusal_named(name) {
+        return format!(in alloc; "{refusal:?}: {}", admin_text(refusal));
+    }
+    String::from_str(alloc, "no such refusal")
+}
+
+pub(crate) fn length(alloc: Global, text: &str) -> Result<String, AllocError> {
+    format!(in alloc; "{}", text.len())
+}
