@@ -180,7 +180,7 @@ fn long_body(alloc: Global, json_len: usize, archive_len: usize) -> Result<Vec<u
     Ok(join(alloc, &json, &archive)?)
 }
 
-/// What `line` says of a long body within limits of JSON and archive, and whether it printed anything.
+/// What `line` says of a long body within limits of JSON and archive, and whether it printed.
 fn long_line(
     alloc: Global,
     (json_len, archive_len): (usize, usize),
