@@ -11,11 +11,16 @@ mod measure;
 mod words;
 
 use fault::Fault;
+use reg_tables::Tables;
 use sqlite::Connection;
+use test_tables::BASE;
 use words::Words;
 
 fn main(rt: HostRuntime) -> Result<(), Fault> {
     let words = Words::given(&rt)?;
     let conn = Connection::open(&rt, words.file.as_str())?;
-    measure::over_new_tables(&rt, conn, &words)
+    match Tables::make(conn, BASE) {
+        Ok(mut tables) => measure::all(&rt, &mut tables, &words),
+        Err((_fault, _conn)) => Err(Fault::NotMade),
+    }
 }

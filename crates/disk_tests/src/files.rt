@@ -10,6 +10,9 @@ use std::alloc::Global;
 /// A file in memory that stops after some call.
 pub(crate) type Stopping = Fuse<Memory>;
 
+/// A connection to such files.
+pub(crate) type Conn = Connection<FileStore<Stopping>>;
+
 /// The bytes of files that were closed.
 #[derive(Drop)]
 pub(crate) struct Image {
@@ -44,10 +47,7 @@ pub(crate) fn have_stopped(files: &mut Files<Stopping>) -> bool {
     has_stopped(&mut files.log) || has_stopped(&mut files.db)
 }
 
-pub(crate) fn open<D: Disk + Drop>(
-    alloc: Global,
-    files: Files<D>,
-) -> Result<Connection<FileStore<D>>, Files<D>> {
+pub(crate) fn open(alloc: Global, files: Files<Stopping>) -> Result<Conn, Files<Stopping>> {
     if !files.log.may_be_used() || !files.db.may_be_used() {
         return Err(files);
     }
@@ -58,9 +58,9 @@ pub(crate) fn open<D: Disk + Drop>(
 }
 
 /// The rows of files that a machine finds again after it stopped.
-pub(crate) fn rows_after<D: Crash + Drop>(
+pub(crate) fn rows_after(
     alloc: Global,
-    mut files: Files<D>,
+    mut files: Files<Stopping>,
 ) -> Result<Option<String>, Fault> {
     files.log.crash();
     files.db.crash();
@@ -88,20 +88,17 @@ pub(crate) fn nothing(alloc: Global) -> Prepared {
     }
 }
 
-/// The files once they were opened and filled.
-fn filled_files<D: Disk + Drop>(
-    alloc: Global,
-    files: Files<D>,
-    script: &str,
-) -> Result<Files<D>, Fault> {
+/// A connection to new files.
+fn opened(alloc: Global) -> Result<Conn, Fault> {
+    let files = files_of(alloc, &nothing(alloc).image, &NO_LIMITS)?;
     match open(alloc, files) {
-        Ok(conn) => closed(filled(alloc, conn, script)?),
+        Ok(conn) => Ok(conn),
         Err(_files) => Err(Fault::NotOpened),
     }
 }
 
 /// The connection's files, once they are closed.
-fn closed<D: Disk + Drop>(conn: Connection<FileStore<D>>) -> Result<Files<D>, Fault> {
+fn closed(conn: Conn) -> Result<Files<Stopping>, Fault> {
     match conn.close_files() {
         Ok(files) => Ok(files),
         Err((_error, _store)) => Err(Fault::NotClosed),
@@ -116,8 +113,8 @@ fn image_of(alloc: Global, files: &Files<Stopping>) -> Result<Image, Fault> {
 
 /// The bytes of new files that hold the prepared registry once this script was played over it.
 fn image_after(alloc: Global, script: &str) -> Result<Image, Fault> {
-    let files = files_of(alloc, &nothing(alloc).image, &NO_LIMITS)?;
-    let files = filled_files(alloc, files, script)?;
+    let conn = filled(alloc, opened(alloc)?, script)?;
+    let files = closed(conn)?;
     image_of(alloc, &files)
 }
 
