@@ -86,65 +86,89 @@ text_alone t u = split (bytes_eq t u) refl
         no true = refl
         no false = refl
 
-module _ (ps : List Publication) (owned : finset.FinSet owner_cmp) (yanked : finset.FinSet mark_cmp) (db : Trees) (h : StandCrates ps owned yanked db) where
+nothing_in : (rows : List Row) → IsPermutation [] rows → rows ≡ []
+nothing_in rows h = short_same rows [] (IsPermutation-sym [] rows h) (omega arith)
+
+shown_none : (found : Option (Vec ℕ Global)) → [] ≡ shown_of columns_of_bytes found → option_map (λ b. b.items) found ≡ None
+shown_none None e = refl
+shown_none (Some b) e = absurd cc
+
+module _ (ids : Ids) (ps : List Publication) (yanked : finset.FinSet mark_cmp) (db : Trees) (h : StandCrates ids ps yanked db) where
   abbrev row : StoredVersion → Row
   row = row_of_version yanked
 
   -- the archives of the version that has this row
   abbrev of_row : Row → List Row
-  of_row r = map (shows (2 ∷ [])) (filter (is_archive_of r) (map row_of_archive h.versions))
+  of_row r = map (shows (2 ∷ [])) (filter (is_archive_of r) (map row_of_archive ids.versions))
 
-  ids : IsDistinct (on (λ w. w.id) (eq_by_cmp nat_cmp)) h.versions
-  ids = distinct_from_map (eq_by_cmp nat_cmp) (λ w. w.id) h.versions (IsDistinct-from_sorted nat_cmp (map (λ w. w.id) h.versions) h.rising)
+  ids_apart : IsDistinct (on (λ w. w.id) (eq_by_cmp nat_cmp)) ids.versions
+  ids_apart = distinct_from_map (eq_by_cmp nat_cmp) (λ w. w.id) ids.versions (IsDistinct-from_sorted nat_cmp (map (λ w. w.id) ids.versions) h.rising)
 
   same_id : (v : StoredVersion) (x y : StoredVersion) → (x.id == v.id) ≡ true → (y.id == v.id) ≡ true → eq_by_cmp nat_cmp x.id y.id ≡ true
   same_id v x y p q = subst (λ n. eq_by_cmp nat_cmp x.id n ≡ true) (eqb-true x.id v.id p ∙ sym (eqb-true y.id v.id q)) ((eq_by_cmp_equiv nat_cmp_total).refl x.id)
 
-  one_archive : (v : StoredVersion) → IsIn v h.versions → of_row (row v) ≡ bytes_row v.publication.archive ∷ []
+  one_archive : (v : StoredVersion) → IsIn v ids.versions → of_row (row v) ≡ bytes_row v.publication.archive ∷ []
   one_archive v i =
       let test = is_archive_of (row v) in
-      let mine = same_filter (λ w. test (row_of_archive w)) (λ w. w.id == v.id) (λ w. equals_int (Int (pos w.id)) (pos v.id) ∙ same_number w.id v.id) h.versions in
-      let one = one_passes (on (λ w. w.id) (eq_by_cmp nat_cmp)) (λ w. w.id == v.id) h.versions v ids (λ x y j k p q. same_id v x y p q) i (eq-eqb v.id v.id refl) in
-      ap (map (shows (2 ∷ []))) (filter_map row_of_archive test h.versions ∙ ap (map row_of_archive) (mine ∙ one))
+      let mine = same_filter (λ w. test (row_of_archive w)) (λ w. w.id == v.id) (λ w. equals_int (Int (pos w.id)) (pos v.id) ∙ same_number w.id v.id) ids.versions in
+      let one = one_passes (on (λ w. w.id) (eq_by_cmp nat_cmp)) (λ w. w.id == v.id) ids.versions v ids_apart (λ x y j k p q. same_id v x y p q) i (eq-eqb v.id v.id refl) in
+      ap (map (shows (2 ∷ []))) (filter_map row_of_archive test ids.versions ∙ ap (map row_of_archive) (mine ∙ one))
 
-  module _ (id : ℕ) (name text : Words) (is : IsCrate db id name) where
+  module _ (id : ℕ) (name text : Words) (there : IsIn (id, name) ids.crates) where
     abbrev its : List StoredVersion
-    its = filter (λ v. bytes_eq v.publication.version text) (filter (λ v. collides v.publication.name name) h.versions)
+    its = filter (λ v. bytes_eq v.publication.version text) (filter (λ v. collides v.publication.name name) ids.versions)
 
     abbrev test : Row → Bool
     test = is_version id (release_key_of text) text
 
-    of_text : (v : StoredVersion) → IsIn v h.versions → test (row v) ≡ (collides v.publication.name name && bytes_eq v.publication.version text)
+    of_text : (v : StoredVersion) → IsIn v ids.versions → test (row v) ≡ (collides v.publication.name name && bytes_eq v.publication.version text)
     of_text v i =
         let p = v.publication in
-        let number = same_number v.of_crate id ∙ same_crate ps owned yanked db h id name (crate_in h.crates db h.crate_rows id name is) v i in
+        let number = same_number v.of_crate id ∙ same_crate ids ps yanked db h id name there v i in
         let texts : (bytes_eq (release_key_of p.version) (release_key_of text) && bytes_eq p.version text) ≡ bytes_eq p.version text = text_alone p.version text in
         (λ k. number k && (same_text (release_key_of p.version) (release_key_of text) k && same_text p.version text k)) ∙ ap (λ b. collides p.name name && b) texts
 
     rows_of_it : IsPermutation (map row its) (filter test (db 11))
     rows_of_it =
-        let named = same_passes (λ v. test (row v)) (λ v. collides v.publication.name name && bytes_eq v.publication.version text) h.versions of_text in
-        subst (λ ys. IsPermutation ys (filter test (db 11))) (filter_map row test h.versions ∙ ap (map row) (named ∙ sym (passes_both (λ v. collides v.publication.name name) (λ v. bytes_eq v.publication.version text) h.versions)))
-        (IsPermutation-filter test (map row h.versions) (db 11) h.version_rows)
+        let named = same_passes (λ v. test (row v)) (λ v. collides v.publication.name name && bytes_eq v.publication.version text) ids.versions of_text in
+        subst (λ ys. IsPermutation ys (filter test (db 11))) (filter_map row test ids.versions ∙ ap (map row) (named ∙ sym (passes_both (λ v. collides v.publication.name name) (λ v. bytes_eq v.publication.version text) ids.versions)))
+        (IsPermutation-filter test (map row ids.versions) (db 11) h.version_rows)
 
     archives_are : IsPermutation (map (λ v. bytes_row v.publication.archive) its) (archives_of id (release_key_of text) text db)
     archives_are =
-        let there : (v : StoredVersion) → IsIn v its → IsIn v h.versions = λ v i. in_filter (λ v. collides v.publication.name name) h.versions v (in_filter (λ v. bytes_eq v.publication.version text) _ v i) in
-        let once = flat_map-map of_row row its ∙ each_once (λ v. of_row (row v)) (λ v. bytes_row v.publication.archive) its (λ v i. one_archive v (there v i)) in
+        let stored : (v : StoredVersion) → IsIn v its → IsIn v ids.versions = λ v i. in_filter (λ v. collides v.publication.name name) ids.versions v (in_filter (λ v. bytes_eq v.publication.version text) _ v i) in
+        let once = flat_map-map of_row row its ∙ each_once (λ v. of_row (row v)) (λ v. bytes_row v.publication.archive) its (λ v i. one_archive v (stored v i)) in
         let first = IsPermutation-flat_map of_row (map row its) (filter test (db 11)) rows_of_it in
         let each = IsPermutation-flat_map_each of_row (λ r. map (shows (2 ∷ [])) (filter (is_archive_of r) (db 13)))
-        (λ r. IsPermutation-map (shows (2 ∷ [])) _ _ (IsPermutation-filter (is_archive_of r) (map row_of_archive h.versions) (db 13) h.archive_rows)) (filter test (db 11)) in
+        (λ r. IsPermutation-map (shows (2 ∷ [])) _ _ (IsPermutation-filter (is_archive_of r) (map row_of_archive ids.versions) (db 13) h.archive_rows)) (filter test (db 11)) in
         subst (λ ys. IsPermutation ys (archives_of id (release_key_of text) text db)) once (IsPermutation-trans _ (flat_map of_row (filter test (db 11))) _ first each)
 
-    pub finds_archive : (found : Option (Vec ℕ Global)) → archives_of id (release_key_of text) text db ≡ shown_of columns_of_bytes found
+    found_archive : (found : Option (Vec ℕ Global)) → archives_of id (release_key_of text) text db ≡ shown_of columns_of_bytes found
         → option_map (λ b. b.items) found ≡ option_map (λ p. p.archive) (find (λ p. bytes_eq p.version text) (filter (λ p. collides p.name name) ps))
-    finds_archive found e =
+    found_archive found e =
         let archives = map (λ v. v.publication.archive) its in
         let shown : map (λ v. bytes_row v.publication.archive) its ≡ shown_of columns_of_bytes found = short_same _ _ (subst (IsPermutation _) e archives_are) (shown_short columns_of_bytes found) in
         let stored : archives ≡ one_of (option_map (λ b. b.items) found) = bytes_rows archives found (maps_twice (λ v. v.publication.archive) bytes_row its ∙ shown) in
         let published : filter (λ p. bytes_eq p.version text) (filter (λ p. collides p.name name) ps) ≡ map (λ v. v.publication) its =
         ap (λ qs. filter (λ p. bytes_eq p.version text) (filter (λ p. collides p.name name) qs)) (sym h.published)
-        ∙ ap (filter (λ p. bytes_eq p.version text)) (filter_map (λ v. v.publication) (λ p. collides p.name name) h.versions)
-        ∙ filter_map (λ v. v.publication) (λ p. bytes_eq p.version text) (filter (λ v. collides v.publication.name name) h.versions) in
+        ∙ ap (filter (λ p. bytes_eq p.version text)) (filter_map (λ v. v.publication) (λ p. collides p.name name) ids.versions)
+        ∙ filter_map (λ v. v.publication) (λ p. bytes_eq p.version text) (filter (λ v. collides v.publication.name name) ids.versions) in
         sym (finds_one (λ p. p.archive) (λ p. bytes_eq p.version text) (filter (λ p. collides p.name name) ps) (option_map (λ b. b.items) found)
         (ap (map (λ p. p.archive)) published ∙ maps_twice (λ v. v.publication) (λ p. p.archive) its ∙ stored))
+
+  -- no row of a version is of a crate that is not there
+  no_archive : (id : ℕ) (text : Words) → spelling_at ids id ≡ None → archives_of id (release_key_of text) text db ≡ []
+  no_archive id text none =
+      let test = is_version id (release_key_of text) text in
+      let other : (v : StoredVersion) → IsIn v ids.versions → test (row v) ≡ false = λ v i. and_left _ _ (same_number v.of_crate id ∙ none_of ids ps yanked db h id none v i) in
+      let rows = subst (λ ys. IsPermutation ys (filter test (db 11))) (filter_map row test ids.versions ∙ ap (map row) (none_pass (λ v. test (row v)) ids.versions other)) (IsPermutation-filter test (map row ids.versions) (db 11) h.version_rows) in
+      ap (flat_map (λ r. map (shows (2 ∷ [])) (filter (is_archive_of r) (db 13)))) (nothing_in (filter test (db 11)) rows)
+
+  -- the archive of this version of the crate with this id; none where there is no crate
+  pub finds_archive : (id : ℕ) (text : Words) (found : Option (Vec ℕ Global)) → archives_of id (release_key_of text) text db ≡ shown_of columns_of_bytes found
+      → option_map (λ b. b.items) found ≡ told_of (spelling_at ids id) None (λ name. option_map (λ p. p.archive) (find (λ p. bytes_eq p.version text) (filter (λ p. collides p.name name) ps)))
+  finds_archive id text found e = split (spelling_at ids id) refl
+    where
+      split : (o : Option Words) → spelling_at ids id ≡ o → option_map (λ b. b.items) found ≡ told_of o None (λ name. option_map (λ p. p.archive) (find (λ p. bytes_eq p.version text) (filter (λ p. collides p.name name) ps)))
+      split None none = shown_none found (sym (no_archive id text none) ∙ e)
+      split (Some name) at = found_archive id name text (there_at ids id name at) found e

@@ -23,7 +23,7 @@ use Rattle.reg_model.proofs.Lists.{not_true, true_not_false, or_right, or_left, 
 use Rattle.reg_stored.specs.Additions.{AddsCrate, AddsVersion}
 use Rattle.reg_statements.specs.Owners.{owner_columns}
 use Rattle.reg_statements.specs.Versions.{version_row}
-use Rattle.reg_stored.specs.Stands.{StoredCrate, StoredOwner, StoredVersion, row_of_crate, row_of_version, row_of_archive, columns_of_owner, StandCrates, HaveOwnRowids, IsCrate, is_of, is_owned}
+use Rattle.reg_stored.specs.Stands.{StoredCrate, StoredPair, StoredVersion, row_of_crate, row_of_version, row_of_archive, columns_of_pair, StandCrates, HaveOwnRowids, IsCrate, is_of, is_owned}
 use Rattle.reg_stored.proofs.CrateLemmas.{pushed, text_itself, below_other, above_other, same_owner, other_owner, is_crate, is_published, version_of}
 use Rattle.reg_model.proofs.Members.{IsIn, any_in, all_in, in_any, none_in, each_in, in_each, in_last, map_in}
 use Rattle.reg_schema.proofs.Permutes.{put_permutes}
@@ -52,125 +52,146 @@ module _ (yanked : finset.FinSet mark_cmp) (versions : List StoredVersion) (of_c
   pub published_after : (publications : List Publication) → map (λ v. v.publication) versions ≡ publications → map (λ v. v.publication) (versions ++ added ∷ []) ≡ publications ++ p ∷ []
   published_after publications e = map-append (λ (v : StoredVersion). v.publication) versions (added ∷ []) ∙ ap (λ ps. ps ++ p ∷ []) e
 
+-- the id of a version that is added is the next
+module _ (ids : Ids) (yanked : finset.FinSet mark_cmp) (of_crate : ℕ) (p : Publication) (old new : Trees) (adds : AddsVersion of_crate p old new) where
+  next_id_of : IsPermutation (map (row_of_version yanked) ids.versions) (old 11) → adds.id ≡ next_version ids
+  next_id_of rows = next_is (row_of_version yanked) (λ v. v.id) (λ v. refl) ids.versions (old 11) adds.id rows adds.is_next
+
+  pub same_ids : IsPermutation (map (row_of_version yanked) ids.versions) (old 11) → ids.versions ++ added yanked ids.versions of_crate p old new adds ∷ [] ≡ (ids_with_version of_crate p ids).versions
+  same_ids rows i = ids.versions ++ record { id = next_id_of rows i; of_crate = of_crate; publication = p } ∷ []
+
 -- a version of a crate that is there
-module _ (publications : List Publication) (held : finset.FinSet owner_cmp) (yanked : finset.FinSet mark_cmp) (old new : Trees) (stands : StandCrates publications held yanked old) where
-  pub adds_version : (of_crate : ℕ) (p : Publication) → IsIn (of_crate, p.name) stands.crates → finset.contains yanked (canon p.name, p.version) ≡ false → new 7 ≡ old 7 → new 9 ≡ old 9 → AddsVersion of_crate p old new
-      → StandCrates (publications ++ p ∷ []) held yanked new
-  adds_version of_crate p there unmarked same_crates same_owners adds =
-      let v = added yanked stands.versions of_crate p old new adds in
-      let after = stands.versions ++ v ∷ [] in
+module _ (ids : Ids) (publications : List Publication) (yanked : finset.FinSet mark_cmp) (old new : Trees) (stands : StandCrates ids publications yanked old) where
+  pub adds_version : (of_crate : ℕ) (p : Publication) → IsIn (of_crate, p.name) ids.crates → finset.contains yanked (canon p.name, p.version) ≡ false → new 7 ≡ old 7 → AddsVersion of_crate p old new
+      → StandCrates (ids_with_version of_crate p ids) (publications ++ p ∷ []) yanked new
+  adds_version of_crate p there unmarked same_crates adds =
+      let v = added yanked ids.versions of_crate p old new adds in
+      let after = ids.versions ++ v ∷ [] in
       let mine : StoredCrate = (of_crate, p.name) in
-      record {
-        crates = stands.crates;
-        owners = stands.owners;
-        versions = after;
-        crate_rows = subst (IsPermutation (map row_of_crate stands.crates)) (sym same_crates) stands.crate_rows;
-        owner_rows = subst (λ (rows : List Row). IsPermutation (map columns_of_owner stands.owners) (map (drop 1) rows)) (sym same_owners) stands.owner_rows;
-        version_rows = versions_after yanked stands.versions of_crate p old new adds unmarked stands.version_rows;
-        archive_rows = archives_after yanked stands.versions of_crate p old new adds stands.archive_rows;
-        apart = subst HaveOwnRowids (sym same_owners) stands.apart;
-        of_owners = stands.of_owners;
-        pairs = stands.pairs;
-        ids = stands.ids;
+      subst (λ (vs : List StoredVersion). StandCrates (record ids { versions = vs }) (publications ++ p ∷ []) yanked new) (same_ids ids yanked of_crate p old new adds stands.version_rows) (record {
+        crate_rows = subst (IsPermutation (map row_of_crate ids.crates)) (sym same_crates) stands.crate_rows;
+        version_rows = versions_after yanked ids.versions of_crate p old new adds unmarked stands.version_rows;
+        archive_rows = archives_after yanked ids.versions of_crate p old new adds stands.archive_rows;
         canons = stands.canons;
-        used = all_so (λ c. list_any (is_of c) stands.versions) (λ c. list_any (is_of c) after) (λ c h. any_more (is_of c) stands.versions (v ∷ []) h) stands.crates stands.used;
-        of_crates = all_push (λ w. list_any (λ c. is_of c w) stands.crates) stands.versions v stands.of_crates (in_any (λ c. is_of c v) stands.crates mine there (and_from _ _ (eq-eqb of_crate of_crate refl) (text_itself p.name)));
-        rising = rising_after yanked stands.versions of_crate p old new adds stands.version_rows stands.rising;
-        published = published_after yanked stands.versions of_crate p old new adds publications stands.published;
-        owned = stands.owned;
-      }
+        used = all_so (λ c. list_any (is_of c) ids.versions) (λ c. list_any (is_of c) after) (λ c h. any_more (is_of c) ids.versions (v ∷ []) h) ids.crates stands.used;
+        of_crates = all_push (λ w. list_any (λ c. is_of c w) ids.crates) ids.versions v stands.of_crates (in_any (λ c. is_of c v) ids.crates mine there (and_from _ _ (eq-eqb of_crate of_crate refl) (text_itself p.name)));
+        up = stands.up;
+        rising = rising_after yanked ids.versions of_crate p old new adds stands.version_rows stands.rising;
+        published = published_after yanked ids.versions of_crate p old new adds publications stands.published;
+      })
 
 -- a new crate with its first version
-module _ (publications : List Publication) (held : finset.FinSet owner_cmp) (yanked : finset.FinSet mark_cmp) (old mid new : Trees) (stands : StandCrates publications held yanked old) (id owner : ℕ) (p : Publication) (crate : AddsCrate id p.name owner old mid) (fresh : list_any (λ q. bytes_eq (canon q.name) (canon p.name)) publications ≡ false) where
+module _ (ids : Ids) (publications : List Publication) (yanked : finset.FinSet mark_cmp) (old mid new : Trees) (stands : StandCrates ids publications yanked old) (id owner : ℕ) (p : Publication) (crate : AddsCrate id p.name owner old mid) (fresh : list_any (λ q. bytes_eq (canon q.name) (canon p.name)) publications ≡ false) where
   abbrev mine : StoredCrate
   mine = (id, p.name)
 
-  below : (c : StoredCrate) → IsIn c stands.crates → c.0 < id
-  below = above row_of_crate (λ c. c.0) (λ c. refl) stands.crates (old 7) id stands.crate_rows crate.is_next
+  pub id_is : id ≡ next_crate ids
+  id_is = next_is row_of_crate (λ c. c.0) (λ c. refl) ids.crates (old 7) id stands.crate_rows crate.is_next
 
-  other_canon : (c : StoredCrate) → IsIn c stands.crates → bytes_eq (canon c.1) (canon p.name) ≡ false
+  below : (c : StoredCrate) → IsIn c ids.crates → c.0 < id
+  below = above row_of_crate (λ c. c.0) (λ c. refl) ids.crates (old 7) id stands.crate_rows crate.is_next
+
+  other_canon : (c : StoredCrate) → IsIn c ids.crates → bytes_eq (canon c.1) (canon p.name) ≡ false
   other_canon c i = not_true _ (λ same.
       let named : Publication → Bool = λ q. bytes_eq (canon q.name) (canon p.name) in
-      let v = version_of publications held yanked old stands c i in
-      let there = in_any named publications v.0.publication (is_published publications held yanked old stands v.0 v.1) (subst (λ t. bytes_eq (canon t) (canon p.name) ≡ true) v.3 same) in
+      let v = version_of ids publications yanked old stands c i in
+      let there = in_any named publications v.0.publication (is_published ids publications yanked old stands v.0 v.1) (subst (λ t. bytes_eq (canon t) (canon p.name) ≡ true) v.3 same) in
       true_not_false (list_any named publications) there fresh)
 
-  owner_below : (o : StoredOwner) → IsIn o stands.owners → o.0 < id
-  owner_below o i =
-      let c = any_in (λ c. c.0 == o.0) stands.crates (all_in (λ o. list_any (λ c. c.0 == o.0) stands.crates) stands.owners o stands.of_owners i) in
-      subst (λ k. k < id) (eqb-true c.0.0 o.0 c.2) (below c.0 c.1)
+  abbrev crates_now : List StoredCrate
+  crates_now = ids.crates ++ mine ∷ []
 
-  abbrev owner_row : Row
-  owner_row = Int crate.rowid ∷ owner_columns id owner
+  canons_after : IsDistinct (on (λ c. canon c.1) bytes_eq) crates_now
+  canons_after =
+      let same = on (λ (c : StoredCrate). canon c.1) bytes_eq in
+      IsDistinct-IsPermutation same (λ c d. nat_list_eq_equiv.symm (canon c.1) (canon d.1)) (mine ∷ ids.crates) crates_now (snoc_permutes ids.crates mine)
+      (IsDistinct-cons same mine ids.crates (in_each (λ c. bytes_eq (canon p.name) (canon c.1) ≡ false) ids.crates (λ c i. nat_list_eq_equiv.symm (canon p.name) (canon c.1) ∙ other_canon c i)) stands.canons)
 
-  owner_rows : IsPermutation (owner_columns id owner ∷ map columns_of_owner stands.owners) (map (drop 1) (mid 9))
-  owner_rows =
-      let more = IsPermutation-cons (owner_columns id owner) (map columns_of_owner stands.owners) (map (drop 1) (old 9)) stands.owner_rows in
-      let put = IsPermutation-map (λ (r : Row). drop 1 r) (owner_row ∷ old 9) (put_row owner_row (old 9)) (put_permutes owner_row (old 9) crate.free) in
-      IsPermutation-trans _ (owner_columns id owner ∷ map (drop 1) (old 9)) _ more (subst (λ (rows : List Row). IsPermutation (owner_columns id owner ∷ map (drop 1) (old 9)) (map (drop 1) rows)) (sym crate.owners) put)
+  crate_rows : IsPermutation (map row_of_crate crates_now) (mid 7)
+  crate_rows = pushed row_of_crate ids.crates mine (old 7) (mid 7) stands.crate_rows crate.crates
 
-  none_yet : (account : ℕ) → is_owned stands.owners id account ≡ false
-  none_yet account = none_in (λ o. o.0 == id && o.1 == account) stands.owners (λ o i. and_left (o.0 == id) (o.1 == account) (below_other o.0 id (owner_below o i)))
+  up_after : IsStrictlySortedBy nat_cmp (map (λ c. c.0) crates_now)
+  up_after =
+      let before = map (λ (c : StoredCrate). c.0) ids.crates in
+      let low : (n : ℕ) → IsIn n before → n < id = λ n i. let c = map_in (λ c. c.0) ids.crates n i in subst (λ k. k < id) c.2 (below c.0 c.1) in
+      subst (IsStrictlySortedBy nat_cmp) (sym (map-append (λ (c : StoredCrate). c.0) ids.crates (mine ∷ []))) (rises_on before id (in_each (λ n. n < id) before low) stands.up)
 
-  owned_new : ((account : ℕ) → finset.contains held (canon p.name, account) ≡ false) → (account : ℕ) → finset.contains (finset.insert held (canon p.name, owner)) (canon p.name, account) ≡ is_owned ((id, owner) ∷ stands.owners) id account
-  owned_new unowned account =
-      let left : finset.contains (finset.insert held (canon p.name, owner)) (canon p.name, account) ≡ ((owner == account) || false) =
-      finset.contains-insert owner_total held (canon p.name, owner) (canon p.name, account) ∙ (λ i. same_owner (canon p.name) account owner i || unowned account i) in
-      let right : is_owned ((id, owner) ∷ stands.owners) id account ≡ ((owner == account) || false) = λ i. (eq-eqb id id refl i && (owner == account)) || none_yet account i in
-      left ∙ sym right
-
-  owned_old : (c : StoredCrate) → IsIn c stands.crates → (account : ℕ) → finset.contains (finset.insert held (canon p.name, owner)) (canon c.1, account) ≡ is_owned ((id, owner) ∷ stands.owners) c.0 account
-  owned_old c i account =
-      let was = each_in (λ c. (account : ℕ) → finset.contains held (canon c.1, account) ≡ is_owned stands.owners c.0 account) stands.crates c stands.owned i account in
-      finset.contains-insert owner_total held (canon p.name, owner) (canon c.1, account)
-      ∙ ap (λ b. b || finset.contains held (canon c.1, account)) (other_owner (canon c.1) (canon p.name) account owner (other_canon c i))
-      ∙ was
-      ∙ sym (ap (λ b. b || is_owned stands.owners c.0 account) (and_left (id == c.0) (owner == account) (above_other id c.0 (below c i))))
-
-  pairs_after : IsDistinct (λ a b. a.0 == b.0 && a.1 == b.1) ((id, owner) ∷ stands.owners)
-  pairs_after =
-      let o : StoredOwner = (id, owner) in
-      let same : StoredOwner → StoredOwner → Bool = λ a b. a.0 == b.0 && a.1 == b.1 in
-      IsDistinct-cons same o stands.owners (in_each (λ b. same o b ≡ false) stands.owners (λ b i. and_left (id == b.0) (owner == b.1) (above_other id b.0 (owner_below b i)))) stands.pairs
-
-  ids_after : IsDistinct (on (λ c. c.0) nat_eq) (mine ∷ stands.crates)
-  ids_after = IsDistinct-cons (on (λ c. c.0) nat_eq) mine stands.crates (in_each (λ c. nat_eq id c.0 ≡ false) stands.crates (λ c i. above_other id c.0 (below c i))) stands.ids
-
-  canons_after : IsDistinct (on (λ c. canon c.1) bytes_eq) (mine ∷ stands.crates)
-  canons_after = IsDistinct-cons (on (λ c. canon c.1) bytes_eq) mine stands.crates (in_each (λ c. bytes_eq (canon p.name) (canon c.1) ≡ false) stands.crates (λ c i. nat_list_eq_equiv.symm (canon p.name) (canon c.1) ∙ other_canon c i)) stands.canons
-
-  crate_rows : IsPermutation (map row_of_crate (mine ∷ stands.crates)) (mid 7)
-  crate_rows = IsPermutation-trans _ (row_of_crate mine ∷ old 7) (mid 7) (IsPermutation-cons (row_of_crate mine) (map row_of_crate stands.crates) (old 7) stands.crate_rows) crate.crates
-
-  pub is_mine : new 7 ≡ mid 7 → IsCrate new id p.name
-  is_mine e7 = is_crate (mine ∷ stands.crates) new (subst (IsPermutation (map row_of_crate (mine ∷ stands.crates))) (sym e7) crate_rows) id p.name ids_after (inl refl)
-
-  pub adds_crate : finset.contains yanked (canon p.name, p.version) ≡ false → ((account : ℕ) → finset.contains held (canon p.name, account) ≡ false) → mid 11 ≡ old 11 → mid 13 ≡ old 13 → new 7 ≡ mid 7 → new 9 ≡ mid 9 → AddsVersion id p mid new
-      → StandCrates (publications ++ p ∷ []) (finset.insert held (canon p.name, owner)) yanked new
-  adds_crate unmarked unowned e11 e13 e7 e9 version =
-      let v = added yanked stands.versions id p mid new version in
-      let after = stands.versions ++ v ∷ [] in
-      let crates = mine ∷ stands.crates in
-      let held_now = finset.insert held (canon p.name, owner) in
-      let version_rows = subst (IsPermutation (map (row_of_version yanked) stands.versions)) (sym e11) stands.version_rows in
-      let archive_rows = subst (IsPermutation (map row_of_archive stands.versions)) (sym e13) stands.archive_rows in
+  pub adds_crate : finset.contains yanked (canon p.name, p.version) ≡ false → mid 11 ≡ old 11 → mid 13 ≡ old 13 → new 7 ≡ mid 7 → AddsVersion id p mid new
+      → StandCrates (ids_with_crate p ids) (publications ++ p ∷ []) yanked new
+  adds_crate unmarked e11 e13 e7 version =
+      let v = added yanked ids.versions id p mid new version in
+      let after = ids.versions ++ v ∷ [] in
+      let version_rows = subst (IsPermutation (map (row_of_version yanked) ids.versions)) (sym e11) stands.version_rows in
+      let archive_rows = subst (IsPermutation (map row_of_archive ids.versions)) (sym e13) stands.archive_rows in
       let mine_has : is_of mine v ≡ true = and_from _ _ (eq-eqb id id refl) (text_itself p.name) in
-      record {
-        crates = crates;
-        owners = (id, owner) ∷ stands.owners;
-        versions = after;
-        crate_rows = subst (IsPermutation (map row_of_crate crates)) (sym e7) crate_rows;
-        owner_rows = subst (λ (rows : List Row). IsPermutation (owner_columns id owner ∷ map columns_of_owner stands.owners) (map (drop 1) rows)) (sym e9) owner_rows;
-        version_rows = versions_after yanked stands.versions id p mid new version unmarked version_rows;
-        archive_rows = archives_after yanked stands.versions id p mid new version archive_rows;
-        apart = subst HaveOwnRowids (sym (e9 ∙ crate.owners)) (own_put crate.rowid (owner_columns id owner) (old 9) crate.free stands.apart);
-        of_owners = and_from _ _ (or_left _ _ (eq-eqb id id refl)) (all_so (λ o. list_any (λ c. c.0 == o.0) stands.crates) (λ o. list_any (λ c. c.0 == o.0) crates) (λ o h. or_right (id == o.0) _ h) stands.owners stands.of_owners);
-        pairs = pairs_after;
-        ids = ids_after;
+      let last_any : (w : StoredVersion) → list_any (λ c. is_of c w) ids.crates ≡ true → list_any (λ c. is_of c w) crates_now ≡ true = λ w h. any_more (λ c. is_of c w) ids.crates (mine ∷ []) h in
+      let so : StandCrates (record { crates = crates_now; versions = after }) (publications ++ p ∷ []) yanked new = record {
+        crate_rows = subst (IsPermutation (map row_of_crate crates_now)) (sym e7) crate_rows;
+        version_rows = versions_after yanked ids.versions id p mid new version unmarked version_rows;
+        archive_rows = archives_after yanked ids.versions id p mid new version archive_rows;
         canons = canons_after;
-        used = and_from _ _ (in_any (is_of mine) after v (in_last stands.versions v) mine_has) (all_so (λ c. list_any (is_of c) stands.versions) (λ c. list_any (is_of c) after) (λ c h. any_more (is_of c) stands.versions (v ∷ []) h) stands.crates stands.used);
-        of_crates = all_push (λ w. list_any (λ c. is_of c w) crates) stands.versions v (all_so (λ w. list_any (λ c. is_of c w) stands.crates) (λ w. list_any (λ c. is_of c w) crates) (λ w h. or_right (is_of mine w) _ h) stands.versions stands.of_crates) (or_left _ _ mine_has);
-        rising = rising_after yanked stands.versions id p mid new version version_rows stands.rising;
-        published = published_after yanked stands.versions id p mid new version publications stands.published;
-        owned = (owned_new unowned, in_each (λ c. (account : ℕ) → finset.contains held_now (canon c.1, account) ≡ is_owned ((id, owner) ∷ stands.owners) c.0 account) stands.crates owned_old);
-      }
+        used = all_push (λ c. list_any (is_of c) after) ids.crates mine (all_so (λ c. list_any (is_of c) ids.versions) (λ c. list_any (is_of c) after) (λ c h. any_more (is_of c) ids.versions (v ∷ []) h) ids.crates stands.used) (in_any (is_of mine) after v (in_last ids.versions v) mine_has);
+        of_crates = all_push (λ w. list_any (λ c. is_of c w) crates_now) ids.versions v (all_so (λ w. list_any (λ c. is_of c w) ids.crates) (λ w. list_any (λ c. is_of c w) crates_now) last_any ids.versions stands.of_crates) (in_any (λ c. is_of c v) crates_now mine (in_last ids.crates mine) mine_has);
+        up = up_after;
+        rising = rising_after yanked ids.versions id p mid new version version_rows stands.rising;
+        published = published_after yanked ids.versions id p mid new version publications stands.published;
+      } in
+      let n : id ≡ next_crate ids = id_is in
+      let k : version.id ≡ next_version ids = next_id_of ids yanked id p mid new version version_rows in
+      subst (λ (it : Ids). StandCrates it (publications ++ p ∷ []) yanked new) (λ i. record { crates = ids.crates ++ (n i, p.name) ∷ []; versions = ids.versions ++ record { id = k i; of_crate = n i; publication = p } ∷ [] }) so
+
+  -- its owner
+  module _ (held : finset.FinSet owner_cmp) (stored : StandPairs ids.crates held (old 9)) (unowned : (account : ℕ) → finset.contains held (canon p.name, account) ≡ false) where
+    owner_below : (o : StoredPair) → IsIn o stored.pairs → o.0 < id
+    owner_below o i =
+        let c = any_in (λ c. c.0 == o.0) ids.crates (all_in (λ o. list_any (λ c. c.0 == o.0) ids.crates) stored.pairs o stored.of_crates i) in
+        subst (λ k. k < id) (eqb-true c.0.0 o.0 c.2) (below c.0 c.1)
+
+    none_yet : (account : ℕ) → is_paired stored.pairs id account ≡ false
+    none_yet account = none_in (λ o. o.0 == id && o.1 == account) stored.pairs (λ o i. and_left (o.0 == id) (o.1 == account) (below_other o.0 id (owner_below o i)))
+
+    abbrev held_now : finset.FinSet owner_cmp
+    held_now = finset.insert held (canon p.name, owner)
+
+    abbrev pairs_now : List StoredPair
+    pairs_now = (id, owner) ∷ stored.pairs
+
+    of_new : (account : ℕ) → finset.contains held_now (canon p.name, account) ≡ is_paired pairs_now id account
+    of_new account =
+        let left : finset.contains held_now (canon p.name, account) ≡ ((owner == account) || false) =
+        finset.contains-insert owner_total held (canon p.name, owner) (canon p.name, account) ∙ (λ i. same_owner (canon p.name) account owner i || unowned account i) in
+        let right : is_paired pairs_now id account ≡ ((owner == account) || false) = λ i. (eq-eqb id id refl i && (owner == account)) || none_yet account i in
+        left ∙ sym right
+
+    of_old : (c : StoredCrate) → IsIn c ids.crates → (account : ℕ) → finset.contains held_now (canon c.1, account) ≡ is_paired pairs_now c.0 account
+    of_old c i account =
+        let was = each_in (λ c. (account : ℕ) → finset.contains held (canon c.1, account) ≡ is_paired stored.pairs c.0 account) ids.crates c stored.same i account in
+        finset.contains-insert owner_total held (canon p.name, owner) (canon c.1, account)
+        ∙ ap (λ b. b || finset.contains held (canon c.1, account)) (other_owner (canon c.1) (canon p.name) account owner (other_canon c i))
+        ∙ was
+        ∙ sym (ap (λ b. b || is_paired stored.pairs c.0 account) (and_left (id == c.0) (owner == account) (above_other id c.0 (below c i))))
+
+    of_any : (c : StoredCrate) → IsIn c crates_now → (account : ℕ) → finset.contains held_now (canon c.1, account) ≡ is_paired pairs_now c.0 account
+    of_any c i = either (pushed_in ids.crates mine c i)
+      where
+        either : IsIn c ids.crates ⊎ (mine ≡ c) → (account : ℕ) → finset.contains held_now (canon c.1, account) ≡ is_paired pairs_now c.0 account
+        either (inl i) = of_old c i
+        either (inr e) = subst (λ (c : StoredCrate). (account : ℕ) → finset.contains held_now (canon c.1, account) ≡ is_paired pairs_now c.0 account) e of_new
+
+    once : IsDistinct (λ a b. a.0 == b.0 && a.1 == b.1) pairs_now
+    once =
+        let o : StoredPair = (id, owner) in
+        let same : StoredPair → StoredPair → Bool = λ a b. a.0 == b.0 && a.1 == b.1 in
+        IsDistinct-cons same o stored.pairs (in_each (λ b. same o b ≡ false) stored.pairs (λ b i. and_left (id == b.0) (owner == b.1) (above_other id b.0 (owner_below b i)))) stored.once
+
+    pub first_owner : StandPairs crates_now held_now (put_row (Int crate.rowid ∷ owner_columns id owner) (old 9))
+    first_owner =
+        let still : (o : StoredPair) → list_any (λ c. c.0 == o.0) ids.crates ≡ true → list_any (λ c. c.0 == o.0) crates_now ≡ true = λ o h. any_more (λ c. c.0 == o.0) ids.crates (mine ∷ []) h in
+        record {
+          pairs = pairs_now;
+          are = put_columns columns_of_pair stored.pairs (old 9) stored.are (id, owner) crate.rowid crate.free;
+          apart = own_put crate.rowid (owner_columns id owner) (old 9) crate.free stored.apart;
+          of_crates = and_from _ _ (in_any (λ c. c.0 == id) crates_now mine (in_last ids.crates mine) (eq-eqb id id refl)) (all_so (λ o. list_any (λ c. c.0 == o.0) ids.crates) (λ o. list_any (λ c. c.0 == o.0) crates_now) still stored.pairs stored.of_crates);
+          once = once;
+          same = in_each (λ c. (account : ℕ) → finset.contains held_now (canon c.1, account) ≡ is_paired pairs_now c.0 account) crates_now of_any;
+        }

@@ -53,30 +53,30 @@ together true false f g = sym (f refl)
 together false true f g = g refl
 together false false f g = refl
 
-module _ (ps : List Publication) (owned : finset.FinSet owner_cmp) (yanked : finset.FinSet mark_cmp) (db : Trees) (h : StandCrates ps owned yanked db) where
+module _ (ids : Ids) (ps : List Publication) (yanked : finset.FinSet mark_cmp) (db : Trees) (h : StandCrates ids ps yanked db) where
   -- a crate has a canonical text where a version has it
-  pub crate_has : (t : Words) → list_any (λ c. bytes_eq (canon c.1) t) h.crates ≡ list_any (λ p. bytes_eq (canon p.name) t) ps
-  crate_has t = together (list_any (λ c. bytes_eq (canon c.1) t) h.crates) (list_any (λ v. bytes_eq (canon v.publication.name) t) h.versions) there back ∙ sym (list_any_map (λ p. bytes_eq (canon p.name) t) (λ v. v.publication) h.versions) ∙ ap (list_any (λ p. bytes_eq (canon p.name) t)) h.published
+  pub crate_has : (t : Words) → list_any (λ c. bytes_eq (canon c.1) t) ids.crates ≡ list_any (λ p. bytes_eq (canon p.name) t) ps
+  crate_has t = together (list_any (λ c. bytes_eq (canon c.1) t) ids.crates) (list_any (λ v. bytes_eq (canon v.publication.name) t) ids.versions) there back ∙ sym (list_any_map (λ p. bytes_eq (canon p.name) t) (λ v. v.publication) ids.versions) ∙ ap (list_any (λ p. bytes_eq (canon p.name) t)) h.published
     where
-      there : list_any (λ c. bytes_eq (canon c.1) t) h.crates ≡ true → list_any (λ v. bytes_eq (canon v.publication.name) t) h.versions ≡ true
+      there : list_any (λ c. bytes_eq (canon c.1) t) ids.crates ≡ true → list_any (λ v. bytes_eq (canon v.publication.name) t) ids.versions ≡ true
       there e =
-          let c = any_in (λ (c : StoredCrate). bytes_eq (canon c.1) t) h.crates e in
-          let v = any_in (is_of c.0) h.versions (all_in (λ c. list_any (is_of c) h.versions) h.crates c.0 h.used c.1) in
+          let c = any_in (λ (c : StoredCrate). bytes_eq (canon c.1) t) ids.crates e in
+          let v = any_in (is_of c.0) ids.versions (all_in (λ c. list_any (is_of c) ids.versions) ids.crates c.0 h.used c.1) in
           let parts = and_parts (c.0.0 == v.0.of_crate) (bytes_eq c.0.1 v.0.publication.name) v.2 in
-          in_any (λ v. bytes_eq (canon v.publication.name) t) h.versions v.0 v.1
+          in_any (λ v. bytes_eq (canon v.publication.name) t) ids.versions v.0 v.1
           (bytes_same (canon v.0.publication.name) t (ap canon (sym (same_bytes c.0.1 v.0.publication.name parts.1)) ∙ same_bytes (canon c.0.1) t c.2))
 
-      back : list_any (λ v. bytes_eq (canon v.publication.name) t) h.versions ≡ true → list_any (λ c. bytes_eq (canon c.1) t) h.crates ≡ true
+      back : list_any (λ v. bytes_eq (canon v.publication.name) t) ids.versions ≡ true → list_any (λ c. bytes_eq (canon c.1) t) ids.crates ≡ true
       back e =
-          let v = any_in (λ (v : StoredVersion). bytes_eq (canon v.publication.name) t) h.versions e in
-          let c = crate_of ps owned yanked db h v.0 v.1 in
-          in_any (λ (c : StoredCrate). bytes_eq (canon c.1) t) h.crates c.0 c.1 (bytes_same (canon c.0.1) t (ap canon c.3 ∙ same_bytes (canon v.0.publication.name) t v.2))
+          let v = any_in (λ (v : StoredVersion). bytes_eq (canon v.publication.name) t) ids.versions e in
+          let c = crate_of ids ps yanked db h v.0 v.1 in
+          in_any (λ (c : StoredCrate). bytes_eq (canon c.1) t) ids.crates c.0 c.1 (bytes_same (canon c.0.1) t (ap canon c.3 ∙ same_bytes (canon v.0.publication.name) t v.2))
 
   tied : {X : Type 0} (f : X → Words) (xs : List X) (t : Words) → finset.contains (finset.from_list {R = text_cmp} (map f xs)) t ≡ list_any (λ x. bytes_eq (f x) t) xs
   tied f xs t = finset.contains-from_list nat_list_cmp_total (map f xs) t ∙ list_any_map (eq_by_cmp text_cmp t) f xs ∙ any_same (λ x. eq_by_cmp text_cmp t (f x)) (λ x. bytes_eq (f x) t) (λ x. text_tie t (f x) ∙ nat_list_eq_equiv.symm t (f x)) xs
 
-  same_texts : finset.from_list {R = text_cmp} (map (λ c. canon c.1) h.crates) ≡ finset.from_list {R = text_cmp} (map (λ p. canon p.name) ps)
-  same_texts = finset.same_set nat_list_cmp_total text_apart _ _ (λ t. tied (λ (c : StoredCrate). canon c.1) h.crates t ∙ crate_has t ∙ sym (tied (λ p. canon p.name) ps t))
+  same_texts : finset.from_list {R = text_cmp} (map (λ c. canon c.1) ids.crates) ≡ finset.from_list {R = text_cmp} (map (λ p. canon p.name) ps)
+  same_texts = finset.same_set nat_list_cmp_total text_apart _ _ (λ t. tied (λ (c : StoredCrate). canon c.1) ids.crates t ∙ crate_has t ∙ sym (tied (λ p. canon p.name) ps t))
 
-  pub crates_are : length h.crates ≡ finset.len (finset.from_list {R = text_cmp} (map (λ p. canon p.name) ps))
-  crates_are = sym (size_of_distinct (λ (c : StoredCrate). canon c.1) h.crates h.canons) ∙ ap finset.len same_texts
+  pub crates_are : length ids.crates ≡ finset.len (finset.from_list {R = text_cmp} (map (λ p. canon p.name) ps))
+  crates_are = sym (size_of_distinct (λ (c : StoredCrate). canon c.1) ids.crates h.canons) ∙ ap finset.len same_texts

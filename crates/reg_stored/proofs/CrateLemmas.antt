@@ -24,6 +24,36 @@ use Rattle.reg_model.proofs.Members.{IsIn, any_in, all_in, in_filter, in_map, in
 use Rattle.reg_schema.proofs.Permutes.{one_row}
 use Rattle.reg_stored.proofs.Standing.{same_number}
 
+-- what rises is apart
+pub apart_by : {X : Type 0} (key : X → ℕ) (xs : List X) → IsStrictlySortedBy nat_cmp (map key xs) → IsDistinct (on key nat_eq) xs
+apart_by key xs up = distinct_from_map nat_eq key xs (subst (λ e. IsDistinct e (map key xs)) same_test (IsDistinct-from_sorted nat_cmp (map key xs) up))
+  where
+    same_test : ◌≡◌ {A = ℕ → ℕ → Bool} (eq_by_cmp nat_cmp) nat_eq
+    same_test i a b = same_nat a b i
+
+-- the spelling at an id, and the crate that has it
+found_in : (id : ℕ) (name : Text) (crates : List StoredCrate) → option_map (λ c. c.1) (find (λ c. c.0 == id) crates) ≡ Some name → IsIn (id, name) crates
+found_in id name [] h = absurd cc
+found_in id name (c ∷ crates) h = split (c.0 == id) refl h
+  where
+    split : (b : Bool) → (c.0 == id) ≡ b → option_map (λ c. c.1) (cond b (Some c) (find (λ c. c.0 == id) crates)) ≡ Some name → IsIn (id, name) (c ∷ crates)
+    split true e h = inl (let n = eqb-true c.0 id e in let t : c.1 ≡ name = cc in λ i. (n i, t i))
+    split false e h = inr (found_in id name crates h)
+
+none_found : (id : ℕ) (crates : List StoredCrate) → option_map (λ c. c.1) (find (λ c. c.0 == id) crates) ≡ None → list_any (λ c. c.0 == id) crates ≡ false
+none_found id [] h = refl
+none_found id (c ∷ crates) h = split (c.0 == id) h
+  where
+    split : (b : Bool) → option_map (λ c. c.1) (cond b (Some c) (find (λ c. c.0 == id) crates)) ≡ None → (b || list_any (λ c. c.0 == id) crates) ≡ false
+    split true h = absurd cc
+    split false h = none_found id crates h
+
+pub there_at : (ids : Ids) (id : ℕ) (name : Text) → spelling_at ids id ≡ Some name → IsIn (id, name) ids.crates
+there_at ids id name h = found_in id name ids.crates h
+
+pub not_at : (ids : Ids) (id : ℕ) → spelling_at ids id ≡ None → list_any (λ c. c.0 == id) ids.crates ≡ false
+not_at ids id h = none_found id ids.crates h
+
 -- equal texts and numbers, from their tests
 pub same_bytes : (a b : Text) → bytes_eq a b ≡ true → a ≡ b
 same_bytes a b h = (bytes_eq-Decides a b).0 h
@@ -75,49 +105,63 @@ module _ (crates : List StoredCrate) (db : Trees) (rows : IsPermutation (map row
       one_crate : (c : StoredCrate) (id : ℕ) (name : Text) → row_of_crate c ≡ row_of_crate (id, name) → c ≡ (id, name)
       one_crate c id name e = let n : c.0 ≡ id = cc in let t : c.1 ≡ name = cc in λ i. (n i, t i)
 
-  pub is_crate : (id : ℕ) (name : Text) → IsDistinct (on (λ c. c.0) nat_eq) crates → IsIn (id, name) crates → IsCrate db id name
-  is_crate id name ids there =
+  pub is_crate : (id : ℕ) (name : Text) → IsStrictlySortedBy nat_cmp (map (λ c. c.0) crates) → IsIn (id, name) crates → IsCrate db id name
+  is_crate id name up there =
+      let ids = apart_by (λ c. c.0) crates up in
       let has : (c : StoredCrate) → has_rowid (pos id) (row_of_crate c) ≡ (c.0 == id) = λ c. same_number c.0 id in
       let c : StoredCrate = (id, name) in
       let passes = has c ∙ eq-eqb id id refl in
       one_row row_of_crate (has_rowid (pos id)) c crates (db 7) rows
       (one_passes (on (λ c. c.0) nat_eq) (λ d. has_rowid (pos id) (row_of_crate d)) crates c ids (λ d e i j p q. eq-eqb d.0 e.0 (eqb-true d.0 id (sym (has d) ∙ p) ∙ sym (eqb-true e.0 id (sym (has e) ∙ q)))) there passes)
 
-module _ (publications : List Publication) (held : finset.FinSet owner_cmp) (yanked : finset.FinSet mark_cmp) (db : Trees) (stands : StandCrates publications held yanked db) where
+module _ (ids : Ids) (publications : List Publication) (yanked : finset.FinSet mark_cmp) (db : Trees) (stands : StandCrates ids publications yanked db) where
   -- a stored version is published, and a publication is stored
-  pub is_published : (v : StoredVersion) → IsIn v stands.versions → IsIn v.publication publications
-  is_published v i = subst (IsIn v.publication) stands.published (in_map (λ v. v.publication) stands.versions v i)
+  pub is_published : (v : StoredVersion) → IsIn v ids.versions → IsIn v.publication publications
+  is_published v i = subst (IsIn v.publication) stands.published (in_map (λ v. v.publication) ids.versions v i)
 
-  pub is_stored : (p : Publication) → IsIn p publications → (v : StoredVersion) × IsIn v stands.versions × (v.publication ≡ p)
-  is_stored p i = map_in (λ v. v.publication) stands.versions p (subst (IsIn p) (sym stands.published) i)
+  pub is_stored : (p : Publication) → IsIn p publications → (v : StoredVersion) × IsIn v ids.versions × (v.publication ≡ p)
+  is_stored p i = map_in (λ v. v.publication) ids.versions p (subst (IsIn p) (sym stands.published) i)
 
   -- each stored crate has a version, and each version a crate
-  pub version_of : (c : StoredCrate) → IsIn c stands.crates → (v : StoredVersion) × IsIn v stands.versions × (c.0 ≡ v.of_crate) × (c.1 ≡ v.publication.name)
+  pub version_of : (c : StoredCrate) → IsIn c ids.crates → (v : StoredVersion) × IsIn v ids.versions × (c.0 ≡ v.of_crate) × (c.1 ≡ v.publication.name)
   version_of c i =
-      let found = any_in (is_of c) stands.versions (all_in (λ c. list_any (is_of c) stands.versions) stands.crates c stands.used i) in
+      let found = any_in (is_of c) ids.versions (all_in (λ c. list_any (is_of c) ids.versions) ids.crates c stands.used i) in
       let parts = and_parts (c.0 == found.0.of_crate) (bytes_eq c.1 found.0.publication.name) found.2 in
       (found.0, found.1, eqb-true _ _ parts.0, same_bytes _ _ parts.1)
 
-  pub crate_of : (v : StoredVersion) → IsIn v stands.versions → (c : StoredCrate) × IsIn c stands.crates × (c.0 ≡ v.of_crate) × (c.1 ≡ v.publication.name)
+  pub crate_of : (v : StoredVersion) → IsIn v ids.versions → (c : StoredCrate) × IsIn c ids.crates × (c.0 ≡ v.of_crate) × (c.1 ≡ v.publication.name)
   crate_of v i =
-      let found = any_in (λ c. is_of c v) stands.crates (all_in (λ v. list_any (λ c. is_of c v) stands.crates) stands.versions v stands.of_crates i) in
+      let found = any_in (λ c. is_of c v) ids.crates (all_in (λ v. list_any (λ c. is_of c v) ids.crates) ids.versions v stands.of_crates i) in
       let parts = and_parts (found.0.0 == v.of_crate) (bytes_eq found.0.1 v.publication.name) found.2 in
       (found.0, found.1, eqb-true _ _ parts.0, same_bytes _ _ parts.1)
 
   -- crates of one id are one, and so are those of one canonical text
-  pub one_by_id : (c d : StoredCrate) → IsIn c stands.crates → IsIn d stands.crates → c.0 ≡ d.0 → c ≡ d
-  one_by_id c d i j e = one_of (on (λ c. c.0) nat_eq) (λ a b. nat_eq_equiv.symm a.0 b.0) stands.crates c d stands.ids i j (eq-eqb c.0 d.0 e)
+  pub one_by_id : (c d : StoredCrate) → IsIn c ids.crates → IsIn d ids.crates → c.0 ≡ d.0 → c ≡ d
+  one_by_id c d i j e = one_of (on (λ c. c.0) nat_eq) (λ a b. nat_eq_equiv.symm a.0 b.0) ids.crates c d (apart_by (λ c. c.0) ids.crates stands.up) i j (eq-eqb c.0 d.0 e)
 
-  pub one_by_canon : (c d : StoredCrate) → IsIn c stands.crates → IsIn d stands.crates → canon c.1 ≡ canon d.1 → c ≡ d
-  one_by_canon c d i j e = one_of (on (λ c. canon c.1) bytes_eq) (λ a b. nat_list_eq_equiv.symm (canon a.1) (canon b.1)) stands.crates c d stands.canons i j (bytes_same _ _ e)
+  pub one_by_canon : (c d : StoredCrate) → IsIn c ids.crates → IsIn d ids.crates → canon c.1 ≡ canon d.1 → c ≡ d
+  one_by_canon c d i j e = one_of (on (λ c. canon c.1) bytes_eq) (λ a b. nat_list_eq_equiv.symm (canon a.1) (canon b.1)) ids.crates c d stands.canons i j (bytes_same _ _ e)
 
   -- a version is of a crate by its id exactly where it is by its name
-  pub same_crate : (id : ℕ) (name : Text) → IsIn (id, name) stands.crates → (v : StoredVersion) → IsIn v stands.versions → (v.of_crate == id) ≡ collides v.publication.name name
+  pub same_crate : (id : ℕ) (name : Text) → IsIn (id, name) ids.crates → (v : StoredVersion) → IsIn v ids.versions → (v.of_crate == id) ≡ collides v.publication.name name
   same_crate id name there v i = split (collides v.publication.name name) refl
     where
-      c : (c : StoredCrate) × IsIn c stands.crates × (c.0 ≡ v.of_crate) × (c.1 ≡ v.publication.name)
+      c : (c : StoredCrate) × IsIn c ids.crates × (c.0 ≡ v.of_crate) × (c.1 ≡ v.publication.name)
       c = crate_of v i
 
       split : (b : Bool) → collides v.publication.name name ≡ b → (v.of_crate == id) ≡ b
       split true e = eq-eqb _ _ (sym c.2 ∙ ap (λ d. d.0) (one_by_canon c.0 (id, name) c.1 there (ap canon c.3 ∙ same_bytes _ _ e)))
       split false e = not_true _ (λ t. true_not_false _ (bytes_same _ _ (ap canon (sym c.3 ∙ ap (λ d. d.1) (one_by_id c.0 (id, name) c.1 there (c.2 ∙ eqb-true _ _ t))))) e)
+
+  -- a crate that is there is spelled at its id
+  pub spelled_at : (id : ℕ) (name : Text) → IsIn (id, name) ids.crates → spelling_at ids id ≡ Some name
+  spelled_at id name there =
+      let c : StoredCrate = (id, name) in
+      let one = one_passes (on (λ c. c.0) nat_eq) (λ c. c.0 == id) ids.crates c (apart_by (λ c. c.0) ids.crates stands.up) (λ d e i j p q. eq-eqb d.0 e.0 (eqb-true d.0 id p ∙ sym (eqb-true e.0 id q))) there (eq-eqb id id refl) in
+      ap (option_map (λ c. c.1)) (sym (slice_get-filter (λ c. c.0 == id) ids.crates) ∙ ap (λ cs. slice_get cs 0) one)
+
+  -- no version is of a crate that is not there
+  pub none_of : (id : ℕ) → spelling_at ids id ≡ None → (v : StoredVersion) → IsIn v ids.versions → (v.of_crate == id) ≡ false
+  none_of id none v i =
+      let c = crate_of v i in
+      not_true _ (λ e. true_not_false _ (in_any (λ c. c.0 == id) ids.crates c.0 c.1 (eq-eqb c.0.0 id (c.2 ∙ eqb-true v.of_crate id e))) (not_at ids id none))

@@ -55,50 +55,50 @@ some_first n name (w ∷ vs) h v i met = split (collides w.publication.name n) r
     split true e rest = rw e (ap Some (h w (inl refl) e))
     split false e rest = rw e (rest (later e i))
 
-module _ (ps : List Publication) (owned : finset.FinSet owner_cmp) (yanked : finset.FinSet mark_cmp) (db : Trees) (h : StandCrates ps owned yanked db) where
+module _ (ids : Ids) (ps : List Publication) (yanked : finset.FinSet mark_cmp) (db : Trees) (h : StandCrates ids ps yanked db) where
   abbrev named : Words → StoredCrate → Bool
   named c x = bytes_eq (canon x.1) c
 
   -- the crate that is shown under a canonical text
-  pub shown_crate : (c : Words) (found : Option Crate) → map (shows (0 ∷ 2 ∷ 3 ∷ [])) (filter (is_text 2 c) (db 7)) ≡ shown_of crate_columns found → filter (named c) h.crates ≡ one_of (option_map entry_of_crate found)
+  pub shown_crate : (c : Words) (found : Option Crate) → map (shows (0 ∷ 2 ∷ 3 ∷ [])) (filter (is_text 2 c) (db 7)) ≡ shown_of crate_columns found → filter (named c) ids.crates ≡ one_of (option_map entry_of_crate found)
   shown_crate c found e =
-      selected_one row_of_crate (shows (0 ∷ 2 ∷ 3 ∷ [])) crate_columns entry_of_crate same_shown (is_text 2 c) (named c) (λ x. same_text (canon x.1) c) h.crates (db 7) found h.crate_rows e
+      selected_one row_of_crate (shows (0 ∷ 2 ∷ 3 ∷ [])) crate_columns entry_of_crate same_shown (is_text 2 c) (named c) (λ x. same_text (canon x.1) c) ids.crates (db 7) found h.crate_rows e
 
-  in_named : (c : Words) (x : StoredCrate) → IsIn x h.crates → named c x ≡ true → IsIn x (filter (named c) h.crates)
-  in_named c x i e = kept (named c) h.crates x i e
+  in_named : (c : Words) (x : StoredCrate) → IsIn x ids.crates → named c x ≡ true → IsIn x (filter (named c) ids.crates)
+  in_named c x i e = kept (named c) ids.crates x i e
 
-  pub crate_named : (c n : Words) (found : Option Crate) → canon n ≡ c → filter (named c) h.crates ≡ one_of (option_map entry_of_crate found)
-      → (option_map (λ x. string_bytes x.name) found ≡ first_of ps n) × IfSome found (λ x. IsCrate db x.id (string_bytes x.name))
-  crate_named c n None at e = (subst (λ qs. None ≡ first_of qs n) h.published (sym (none_first n h.versions none)), tt)
+  pub crate_named : (c n : Words) (found : Option Crate) → canon n ≡ c → filter (named c) ids.crates ≡ one_of (option_map entry_of_crate found)
+      → (option_map (λ x. string_bytes x.name) found ≡ first_of ps n) × IfSome found (λ x. spelling_at ids x.id ≡ Some (string_bytes x.name))
+  crate_named c n None at e = (subst (λ qs. None ≡ first_of qs n) h.published (sym (none_first n ids.versions none)), tt)
     where
-      none : (v : StoredVersion) → IsIn v h.versions → collides v.publication.name n ≡ false
+      none : (v : StoredVersion) → IsIn v ids.versions → collides v.publication.name n ≡ false
       none v i =
-          let of = crate_of ps owned yanked db h v i in
+          let of = crate_of ids ps yanked db h v i in
           not_true _ (λ met. subst (IsIn of.0) e (in_named c of.0 of.1 (bytes_same _ _ (ap canon of.3 ∙ same_bytes _ _ met ∙ at))))
-  crate_named c n (Some x) at e = (subst (λ qs. Some e0.1 ≡ first_of qs n) h.published (sym (some_first n e0.1 h.versions spelled of.0 of.1 met)), is_crate h.crates db h.crate_rows e0.0 e0.1 h.ids there)
+  crate_named c n (Some x) at e = (subst (λ qs. Some e0.1 ≡ first_of qs n) h.published (sym (some_first n e0.1 ids.versions spelled of.0 of.1 met)), spelled_at ids ps yanked db h e0.0 e0.1 there)
     where
       e0 : StoredCrate
       e0 = entry_of_crate x
 
-      shown : IsIn e0 (filter (named c) h.crates)
+      shown : IsIn e0 (filter (named c) ids.crates)
       shown = subst (IsIn e0) (sym e) (inl refl)
 
-      there : IsIn e0 h.crates
-      there = in_filter (named c) h.crates e0 shown
+      there : IsIn e0 ids.crates
+      there = in_filter (named c) ids.crates e0 shown
 
-      spelled : (v : StoredVersion) → IsIn v h.versions → collides v.publication.name n ≡ true → v.publication.name ≡ e0.1
+      spelled : (v : StoredVersion) → IsIn v ids.versions → collides v.publication.name n ≡ true → v.publication.name ≡ e0.1
       spelled v i met =
-          let its = crate_of ps owned yanked db h v i in
+          let its = crate_of ids ps yanked db h v i in
           only its.0 its.3 (subst (IsIn its.0) e (in_named c its.0 its.1 (bytes_same _ _ (ap canon its.3 ∙ same_bytes _ _ met ∙ at))))
         where
           only : (y : StoredCrate) → y.1 ≡ v.publication.name → IsIn y (e0 ∷ []) → v.publication.name ≡ e0.1
           only y is (inl same) = sym is ∙ ap (λ d. d.1) (sym same)
           only y is (inr none) = absurd none
 
-      of : (v : StoredVersion) × IsIn v h.versions × (is_of e0 v ≡ true)
-      of = any_in (is_of e0) h.versions (all_in (λ c. list_any (is_of c) h.versions) h.crates e0 h.used there)
+      of : (v : StoredVersion) × IsIn v ids.versions × (is_of e0 v ≡ true)
+      of = any_in (is_of e0) ids.versions (all_in (λ c. list_any (is_of c) ids.versions) ids.crates e0 h.used there)
 
       met : collides of.0.publication.name n ≡ true
       met =
           let parts = and_parts (e0.0 == of.0.of_crate) (bytes_eq e0.1 of.0.publication.name) of.2 in
-          bytes_same (canon of.0.publication.name) (canon n) (ap canon (sym (same_bytes e0.1 of.0.publication.name parts.1)) ∙ same_bytes (canon e0.1) c (filtered_passes (named c) h.crates e0 shown) ∙ sym at)
+          bytes_same (canon of.0.publication.name) (canon n) (ap canon (sym (same_bytes e0.1 of.0.publication.name parts.1)) ∙ same_bytes (canon e0.1) c (filtered_passes (named c) ids.crates e0 shown) ∙ sym at)

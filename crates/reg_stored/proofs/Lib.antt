@@ -11,7 +11,7 @@ mod Dropped
 mod FoundTokens
 mod NextId
 mod Numbered
-mod OwnerChanges
+mod PairChanges
 mod OwnerEntries
 pub mod Readings
 mod Removed

@@ -25,7 +25,7 @@ use Rattle.reg_statements.specs.declared.accounts.Account as record_of
 use Rattle.reg_stored.specs.Entries.{entry_of_account}
 use Rattle.reg_statements.specs.Accounts.{account_columns}
 use Rattle.reg_statements.specs.Owners.{accounts_of, is_of_owner}
-use Rattle.reg_stored.specs.Stands.{StoredOwner, row_of_account, columns_of_owner, is_owned, IsCrate, StandAccounts, StandCrates}
+use Rattle.reg_stored.specs.Stands.{StoredPair, row_of_account, columns_of_pair, is_owned, IsCrate, StandAccounts, StandCrates}
 use Rattle.reg_schema.specs.Tests.{is_number, shows}
 use Rattle.reg_stored.proofs.AccountEntries.{heads, tails, mark_is, number_is, text_is, words_are}
 use Rattle.std.specs.Cmp.{nat_eq_equiv}
@@ -51,16 +51,16 @@ same_owner e o h =
     let enabled = mark_is _ _ (heads (tails (tails (tails h)))) in
     λ i. (id i, record { login = login i; name = name i; enabled = enabled i })
 
-abbrev same_pair : StoredOwner → StoredOwner → Bool
+abbrev same_pair : StoredPair → StoredPair → Bool
 same_pair a b = a.0 == b.0 && a.1 == b.1
 
-abbrev same_account : StoredOwner → StoredOwner → Bool
+abbrev same_account : StoredPair → StoredPair → Bool
 same_account a b = a.1 == b.1
 
 one_crate : (a b id : ℕ) → (a == id) ≡ true → (b == id) ≡ true → (a == b) ≡ true
 one_crate a b id e f = eq-eqb a b (eqb-true a id e ∙ sym (eqb-true b id f))
 
-others_apart : (id : ℕ) (o : StoredOwner) (os : List StoredOwner) → (o.0 == id) ≡ true → AllByRecursion (λ b. same_pair o b ≡ false) os → AllByRecursion (λ b. same_account o b ≡ false) (filter (λ b. b.0 == id) os)
+others_apart : (id : ℕ) (o : StoredPair) (os : List StoredPair) → (o.0 == id) ≡ true → AllByRecursion (λ b. same_pair o b ≡ false) os → AllByRecursion (λ b. same_account o b ≡ false) (filter (λ b. b.0 == id) os)
 others_apart id o [] of_it all = tt
 others_apart id o (b ∷ os) of_it all = split (b.0 == id) refl (others_apart id o os of_it all.1)
   where
@@ -69,7 +69,7 @@ others_apart id o (b ∷ os) of_it all = split (b.0 == id) refl (others_apart id
     split false e h = h
 
 -- the owners of one crate are accounts apart
-accounts_apart : (id : ℕ) (os : List StoredOwner) → IsDistinct same_pair os → IsDistinct same_account (filter (λ o. o.0 == id) os)
+accounts_apart : (id : ℕ) (os : List StoredPair) → IsDistinct same_pair os → IsDistinct same_account (filter (λ o. o.0 == id) os)
 unfolding IsDistinct
 accounts_apart id [] d = tt
 accounts_apart id (o ∷ os) d = split (o.0 == id) refl (accounts_apart id os (IsDistinct-tail same_pair o os d))
@@ -78,7 +78,7 @@ accounts_apart id (o ∷ os) d = split (o.0 == id) refl (accounts_apart id os (I
     split true e h = IsDistinct-cons same_account o _ (others_apart id o os e (IsDistinct-head same_pair o os d)) h
     split false e h = h
 
-apart : (k l : StoredOwner) (e : ℕ × Account) → same_account k l ≡ false → (e.0 == k.1) ≡ true → (e.0 == l.1) ≡ false
+apart : (k l : StoredPair) (e : ℕ × Account) → same_account k l ≡ false → (e.0 == k.1) ≡ true → (e.0 == l.1) ≡ false
 apart k l e differ is = ap (λ n. n == l.1) (eqb-true e.0 k.1 is) ∙ differ
 
 module _ (accounts : List Account) (db : Trees) (stands : StandAccounts accounts db) where
@@ -95,37 +95,36 @@ module _ (accounts : List Account) (db : Trees) (stands : StandAccounts accounts
       flat_map_same_on (λ o. map show (filter (is_of_owner o) (db 1))) (λ o. accounts_by (drop 1 o)) (λ o. ap (λ v. map show (filter (λ a. equal Binary (column a 0) v) (db 1))) (second_column o)) rows
       ∙ sym (flat_map-map accounts_by (drop 1) rows)
 
-  abbrev account_of : StoredOwner → List (ℕ × Account)
+  abbrev account_of : StoredPair → List (ℕ × Account)
   account_of o = filter (λ e. e.0 == o.1) (enumerate_from 1 accounts)
 
-  of_owner : (o : StoredOwner) → IsPermutation (map shown (account_of o)) (accounts_by (columns_of_owner o))
+  of_owner : (o : StoredPair) → IsPermutation (map shown (account_of o)) (accounts_by (columns_of_pair o))
   of_owner o =
       let entries = enumerate_from 1 accounts in
-      let test = joins (columns_of_owner o) in
+      let test = joins (columns_of_pair o) in
       let kept = IsPermutation-filter test (map row_of_account entries) (db 1) stands.rows in
       let same = filter_map row_of_account test entries ∙ ap (map row_of_account) (same_filter (λ e. test (row_of_account e)) (λ e. e.0 == o.1) (λ e. equals_int (Int (pos e.0)) (pos o.1) ∙ same_number e.0 o.1) entries) in
-      subst (λ ys. IsPermutation ys (accounts_by (columns_of_owner o))) (maps_twice row_of_account show (account_of o)) (IsPermutation-map show (map row_of_account (account_of o)) (filter test (db 1)) (subst (λ ys. IsPermutation ys (filter test (db 1))) same kept))
+      subst (λ ys. IsPermutation ys (accounts_by (columns_of_pair o))) (maps_twice row_of_account show (account_of o)) (IsPermutation-map show (map row_of_account (account_of o)) (filter test (db 1)) (subst (λ ys. IsPermutation ys (filter test (db 1))) same kept))
 
-module _ (publications : List Publication) (held : finset.FinSet owner_cmp) (yanked : finset.FinSet mark_cmp) (accounts : List Account) (db : Trees) (crates : StandCrates publications held yanked db) (stands : StandAccounts accounts db) (id : ℕ) (name : List ℕ) (is_crate : IsCrate db id name) where
+module _ (crates : List StoredCrate) (held : finset.FinSet owner_cmp) (accounts : List Account) (db : Trees) (pairs : StandPairs crates held (db 9)) (stands : StandAccounts accounts db) (id : ℕ) where
   abbrev entries : List (ℕ × Account)
   entries = enumerate_from 1 accounts
 
-  abbrev of_it : List StoredOwner
-  of_it = filter (λ o. o.0 == id) crates.owners
+  abbrev of_it : List StoredPair
+  of_it = filter (λ o. o.0 == id) pairs.pairs
 
   abbrev owns_it : ℕ × Account → Bool
-  owns_it e = finset.contains held (canon name, e.0)
+  owns_it e = is_paired pairs.pairs id e.0
 
   is_owner_of : (e : ℕ × Account) → list_any (λ o. e.0 == o.1) of_it ≡ owns_it e
   is_owner_of e =
-      any_filter (λ o. o.0 == id) (λ o. e.0 == o.1) crates.owners ∙ any_same (λ o. o.0 == id && e.0 == o.1) (λ o. o.0 == id && o.1 == e.0) (λ o. ap (λ b. (o.0 == id) && b) (nat_eq_equiv.symm e.0 o.1)) crates.owners
-      ∙ sym (each_in (λ c. (a : ℕ) → finset.contains held (canon c.1, a) ≡ is_owned crates.owners c.0 a) crates.crates (id, name) crates.owned (crate_in crates.crates db crates.crate_rows id name is_crate) e.0)
+      any_filter (λ o. o.0 == id) (λ o. e.0 == o.1) pairs.pairs ∙ any_same (λ o. o.0 == id && e.0 == o.1) (λ o. o.0 == id && o.1 == e.0) (λ o. ap (λ b. (o.0 == id) && b) (nat_eq_equiv.symm e.0 o.1)) pairs.pairs
 
-  rows_of_it : IsPermutation (map columns_of_owner of_it) (map (drop 1) (filter (is_number 1 id) (db 9)))
+  rows_of_it : IsPermutation (map columns_of_pair of_it) (map (drop 1) (filter (is_number 1 id) (db 9)))
   rows_of_it =
       let behind = λ (columns : Row). is_eq (value_cmp (column columns 0) (Int (pos id))) in
-      let kept = keep_columns columns_of_owner crates.owners (db 9) crates.owner_rows (is_number 1 id) behind (λ r. ap (λ v. is_eq (value_cmp v (Int (pos id)))) (first_column r)) in
-      subst (λ os. IsPermutation (map columns_of_owner os) (map (drop 1) (filter (is_number 1 id) (db 9)))) (same_filter (λ o. behind (columns_of_owner o)) (λ o. o.0 == id) (λ o. same_number o.0 id) crates.owners) kept
+      let kept = keep_columns columns_of_pair pairs.pairs (db 9) pairs.are (is_number 1 id) behind (λ r. ap (λ v. is_eq (value_cmp v (Int (pos id)))) (first_column r)) in
+      subst (λ os. IsPermutation (map columns_of_pair os) (map (drop 1) (filter (is_number 1 id) (db 9)))) (same_filter (λ o. behind (columns_of_pair o)) (λ o. o.0 == id) (λ o. same_number o.0 id) pairs.pairs) kept
 
   -- the rows of the accounts that own the crate
   owner_rows : IsPermutation (map shown (filter owns_it entries)) (accounts_of id db)
@@ -133,12 +132,12 @@ module _ (publications : List Publication) (held : finset.FinSet owner_cmp) (yan
       let of = account_of accounts db stands in
       let by = accounts_by accounts db stands in
       let rows = filter (is_number 1 id) (db 9) in
-      let listed = joined_once (λ o e. e.0 == o.1) same_account apart entries of_it (accounts_apart id crates.owners crates.pairs) in
+      let listed = joined_once (λ o e. e.0 == o.1) same_account apart entries of_it (accounts_apart id pairs.pairs pairs.once) in
       let mine = subst (IsPermutation (flat_map of of_it)) (same_filter (λ e. list_any (λ o. e.0 == o.1) of_it) owns_it is_owner_of entries) listed in
       let first = IsPermutation-map shown _ _ (IsPermutation-sym (flat_map of of_it) (filter owns_it entries) mine) in
-      let each_one = subst (λ xs. IsPermutation xs (flat_map (λ o. by (columns_of_owner o)) of_it)) (sym (map-flat_map shown of of_it)) (IsPermutation-flat_map_each (λ o. map shown (of o)) (λ o. by (columns_of_owner o)) (of_owner accounts db stands) of_it) in
-      let joined = subst (λ xs. IsPermutation xs (flat_map by (map (drop 1) rows))) (flat_map-map by columns_of_owner of_it) (IsPermutation-flat_map by (map columns_of_owner of_it) (map (drop 1) rows) rows_of_it) in
-      let all = IsPermutation-trans _ (map shown (flat_map of of_it)) _ first (IsPermutation-trans _ (flat_map (λ o. by (columns_of_owner o)) of_it) _ each_one joined) in
+      let each_one = subst (λ xs. IsPermutation xs (flat_map (λ o. by (columns_of_pair o)) of_it)) (sym (map-flat_map shown of of_it)) (IsPermutation-flat_map_each (λ o. map shown (of o)) (λ o. by (columns_of_pair o)) (of_owner accounts db stands) of_it) in
+      let joined = subst (λ xs. IsPermutation xs (flat_map by (map (drop 1) rows))) (flat_map-map by columns_of_pair of_it) (IsPermutation-flat_map by (map columns_of_pair of_it) (map (drop 1) rows) rows_of_it) in
+      let all = IsPermutation-trans _ (map shown (flat_map of of_it)) _ first (IsPermutation-trans _ (flat_map (λ o. by (columns_of_pair o)) of_it) _ each_one joined) in
       subst (IsPermutation (map shown (filter owns_it entries))) (sym (by_columns accounts db stands id)) all
 
   rising : IsAscending (λ a b. by_column 0 a b ≡ Less) (map shown (filter owns_it entries))
@@ -146,5 +145,21 @@ module _ (publications : List Publication) (held : finset.FinSet owner_cmp) (yan
       let R = λ (a b : Row). by_column 0 a b ≡ Less in
       ascending-map R shown (filter owns_it entries) (ascending-filter (λ a b. R (shown a) (shown b)) owns_it entries (ascending_from_map R shown entries (places_rise shown (λ e. refl) 1 accounts)))
 
-  pub lists_owners : (list : List record_of.Account) → IsInOrder (by_column 0) (accounts_of id db) (λ row. row) (map account_columns list) → map entry_of_account list ≡ filter owns_it entries
-  lists_owners list h = selected_in_order shown (λ row. row) account_columns entry_of_account same_owner (by_column 0) (column_total 0) (filter owns_it entries) (accounts_of id db) list owner_rows rising h
+  listed : (list : List record_of.Account) → IsInOrder (by_column 0) (accounts_of id db) (λ row. row) (map account_columns list) → map entry_of_account list ≡ filter owns_it entries
+  listed list h = selected_in_order shown (λ row. row) account_columns entry_of_account same_owner (by_column 0) (column_total 0) (filter owns_it entries) (accounts_of id db) list owner_rows rising h
+
+-- the accounts of the crate with this id; none where there is no crate
+pub lists_owners : (ids : Ids) (held : finset.FinSet owner_cmp) (accounts : List Account) (db : Trees) → StandAccounts accounts db → StandPairs ids.crates held (db 9) → (id : ℕ) (list : List record_of.Account) → IsInOrder (by_column 0) (accounts_of id db) (λ row. row) (map account_columns list)
+    → map entry_of_account list ≡ told_of (spelling_at ids id) [] (λ name. filter (λ o. finset.contains held (canon name, o.0)) (enumerate_from 1 accounts))
+lists_owners ids held accounts db stands pairs id list h = split (spelling_at ids id) refl
+  where
+    entries : List (ℕ × Account)
+    entries = enumerate_from 1 accounts
+
+    split : (o : Option (List ℕ)) → spelling_at ids id ≡ o → map entry_of_account list ≡ told_of o [] (λ name. filter (λ o. finset.contains held (canon name, o.0)) (enumerate_from 1 accounts))
+    split None none =
+        listed ids.crates held accounts db pairs stands id list h
+        ∙ none_pass (λ (e : ℕ × Account). is_paired pairs.pairs id e.0) (enumerate_from 1 accounts) (λ e i. none_in (λ o. o.0 == id && o.1 == e.0) pairs.pairs (λ o k. and_left (o.0 == id) (o.1 == e.0) (other_pair ids held (db 9) pairs id none o k)))
+    split (Some name) at =
+        listed ids.crates held accounts db pairs stands id list h
+        ∙ same_filter (λ (e : ℕ × Account). is_paired pairs.pairs id e.0) (λ e. finset.contains held (canon name, e.0)) (λ e. sym (each_in (λ c. (a : ℕ) → finset.contains held (canon c.1, a) ≡ is_paired pairs.pairs c.0 a) ids.crates (id, name) pairs.same (there_at ids id name at) e.0)) (enumerate_from 1 accounts)

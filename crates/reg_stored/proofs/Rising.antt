@@ -28,6 +28,24 @@ bounded last n r x rest is up at (inl e) = omega (arith, same (sym (ap (λ y. ro
     same e = cc
 bounded last n r x rest is up at (inr i) = no_more n last r x is (each_in (λ y. is_gt (falls r y) ≡ false) rest x up i) (has_own n x at)
 
+least_above : (ns : List ℕ) (id : ℕ) → AllByRecursion (λ n. n < id) ns → 1 ≤ id → next_of ns ≤ id
+least_above [] id below low = low
+least_above (n ∷ ns) id below low = no_less (1 + n) (next_of ns) id (omega (arith, below.0)) (least_above ns id below.1 low)
+  where
+    no_less : (a b c : ℕ) → a ≤ c → b ≤ c → max a b ≤ c
+    no_less a b c h k = omega (arith, h, k)
+
+reaches : (ns : List ℕ) (n : ℕ) → IsIn n ns → 1 + n ≤ next_of ns
+reaches [] n i = absurd i
+reaches (m ∷ ns) n (inl e) = rw (sym e) (first (1 + m) (next_of ns))
+  where
+    first : (a b : ℕ) → a ≤ max a b
+    first a b = omega arith
+reaches (m ∷ ns) n (inr i) = later (1 + n) (1 + m) (next_of ns) (reaches ns n i)
+  where
+    later : (a b c : ℕ) → a ≤ c → a ≤ max b c
+    later a b c h = omega (arith, h)
+
 module _ {X : Type 0} (row : X → Row) (id_of : X → ℕ) (keyed : (x : X) → rowid (row x) ≡ Int (pos (id_of x))) where
   below_next : (xs : List X) (rows : List Row) (last : Option ℕ) (id : ℕ) → IsPermutation (map row xs) rows → IsGreatest rows (row_of_id last) → IsNext last id → (x : X) → IsIn x xs → id_of x < id
   below_next xs rows None id same greatest next x i =
@@ -44,6 +62,37 @@ module _ {X : Type 0} (row : X → Row) (id_of : X → ℕ) (keyed : (x : X) →
 
   pub above : (xs : List X) (rows : List Row) (id : ℕ) → IsPermutation (map row xs) rows → IsNextOf rows id → (x : X) → IsIn x xs → id_of x < id
   above xs rows id same n = below_next xs rows n.last id same n.greatest n.next
+
+  at_none : (xs : List X) (rows : List Row) → IsPermutation (map row xs) rows → rows ≡ [] → next_of (map id_of xs) ≡ 1
+  at_none [] rows same none = refl
+  at_none (x ∷ xs) rows same none = absurd (subst (IsIn (row x)) none (in_permuted (map row (x ∷ xs)) rows (row x) same (inl refl)))
+
+  at_first : (xs : List X) (rows : List Row) (last : ℕ) (r : Row) → IsPermutation (map row xs) rows → IsIn r rows → column r 0 ≡ Int (pos last) → 1 + last ≤ next_of (map id_of xs)
+  at_first xs rows last r same i is =
+      let x = map_in row xs r (in_permuted rows (map row xs) r (IsPermutation-sym (map row xs) rows same) i) in
+      let n : id_of x.0 ≡ last = same_number_of (sym (keyed x.0) ∙ ap (λ y. rowid y) x.2 ∙ is) in
+      subst (λ k. 1 + k ≤ next_of (map id_of xs)) n (reaches (map id_of xs) (id_of x.0) (in_map id_of xs x.0 x.1))
+    where
+      same_number_of : {a b : ℕ} → Int (pos a) ≡ Int (pos b) → a ≡ b
+      same_number_of e = cc
+
+  next_as : (xs : List X) (rows : List Row) (last : Option ℕ) (id : ℕ) → IsPermutation (map row xs) rows → IsGreatest rows (row_of_id last) → IsNext last id → id ≡ next_of (map id_of xs)
+  next_as xs rows None id same greatest next =
+      let whole = IsPermutation-trans (map row xs) rows greatest.ordered same greatest.same in
+      next ∙ sym (at_none xs greatest.ordered whole (none_shown greatest.ordered greatest.shown))
+  next_as xs rows (Some last) id same greatest next =
+      let first = one_shown last greatest.ordered greatest.shown in
+      let whole = IsPermutation-trans (map row xs) rows greatest.ordered same greatest.same in
+      let there : IsIn first.0 greatest.ordered = subst (IsIn first.0) (sym first.2) (inl refl) in
+      let high = at_first xs greatest.ordered last first.0 whole there first.3 in
+      let ids = map id_of xs in
+      let below = in_each (λ n. n < id) ids (λ n i. let x = map_in id_of xs n i in subst (λ k. k < id) x.2 (below_next xs rows (Some last) id same greatest next x.0 x.1)) in
+      let low = least_above ids id below (omega (arith, next)) in
+      omega (arith, next, high, low)
+
+  -- it is one more than the greatest
+  pub next_is : (xs : List X) (rows : List Row) (id : ℕ) → IsPermutation (map row xs) rows → IsNextOf rows id → id ≡ next_of (map id_of xs)
+  next_is xs rows id same n = next_as xs rows n.last id same n.greatest n.next
 
 pub rises_on : (ids : List ℕ) (id : ℕ) → AllByRecursion (λ n. n < id) ids → IsStrictlySortedBy nat_cmp ids → IsStrictlySortedBy nat_cmp (ids ++ id ∷ [])
 unfolding IsStrictlySortedBy

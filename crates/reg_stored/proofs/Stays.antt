@@ -9,7 +9,7 @@ use Rattle.sqlite.specs.Order.{Row}
 use Rattle.reg_schema.specs.Changes.{KeepsOthers}
 use Rattle.reg_model.specs.Registry.{Account, Token, Publication, Registry, text_cmp, owner_cmp, mark_cmp}
 use Rattle.reg_statements.specs.Reserved.{reserved_columns}
-use Rattle.reg_stored.specs.Stands.{row_of_account, row_of_token, row_of_crate, row_of_version, row_of_archive, columns_of_owner, scopes_of, HaveOwnRowids, StandAccounts, StandTokens, StandReserved, StandCrates, Stands}
+use Rattle.reg_stored.specs.Stands.{row_of_account, row_of_token, row_of_crate, row_of_version, row_of_archive, columns_of_pair, scopes_of, HaveOwnRowids, StandAccounts, StandTokens, StandReserved, StandCrates, Stands}
 
 pub accounts_stay : (accounts : List Account) (old new : Trees) → new 1 ≡ old 1 → StandAccounts accounts old → StandAccounts accounts new
 accounts_stay accounts old new e h = record { rows = subst (IsPermutation (map row_of_account (enumerate_from 1 accounts))) (sym e) h.rows }
@@ -28,27 +28,21 @@ reserved_stay reserved old new e h = record {
   same = h.same;
 }
 
-pub crates_stay : (ps : List Publication) (owned : finset.FinSet owner_cmp) (yanked : finset.FinSet mark_cmp) (old new : Trees) → new 7 ≡ old 7 → new 9 ≡ old 9 → new 11 ≡ old 11 → new 13 ≡ old 13
-    → StandCrates ps owned yanked old → StandCrates ps owned yanked new
-crates_stay ps owned yanked old new e7 e9 e11 e13 h = record {
-  crates = h.crates;
-  owners = h.owners;
-  versions = h.versions;
-  crate_rows = subst (IsPermutation (map row_of_crate h.crates)) (sym e7) h.crate_rows;
-  owner_rows = subst (λ (rs : List Row). IsPermutation (map columns_of_owner h.owners) (map (drop 1) rs)) (sym e9) h.owner_rows;
-  version_rows = subst (IsPermutation (map (row_of_version yanked) h.versions)) (sym e11) h.version_rows;
-  archive_rows = subst (IsPermutation (map row_of_archive h.versions)) (sym e13) h.archive_rows;
-  apart = subst HaveOwnRowids (sym e9) h.apart;
-  of_owners = h.of_owners;
-  pairs = h.pairs;
-  ids = h.ids;
+pub crates_stay : (ids : Ids) (ps : List Publication) (yanked : finset.FinSet mark_cmp) (old new : Trees) → new 7 ≡ old 7 → new 11 ≡ old 11 → new 13 ≡ old 13 → StandCrates ids ps yanked old → StandCrates ids ps yanked new
+crates_stay ids ps yanked old new e7 e11 e13 h = record {
+  crate_rows = subst (IsPermutation (map row_of_crate ids.crates)) (sym e7) h.crate_rows;
+  version_rows = subst (IsPermutation (map (row_of_version yanked) ids.versions)) (sym e11) h.version_rows;
+  archive_rows = subst (IsPermutation (map row_of_archive ids.versions)) (sym e13) h.archive_rows;
   canons = h.canons;
   used = h.used;
   of_crates = h.of_crates;
+  up = h.up;
   rising = h.rising;
   published = h.published;
-  owned = h.owned;
 }
+
+pub pairs_stay : (crates : List StoredCrate) (held : finset.FinSet owner_cmp) (old new : List Row) → new ≡ old → StandPairs crates held old → StandPairs crates held new
+pairs_stay crates held old new e h = subst (StandPairs crates held) (sym e) h
 
 -- the tables, each by its place among them
 module _ (tree : ℕ) (old new : Trees) (others : KeepsOthers tree old new) where
@@ -79,13 +73,84 @@ module _ (tree : ℕ) (old new : Trees) (others : KeepsOthers tree old new) wher
   pub same_reserved : 14 ≢ tree → new 14 ≡ old 14
   same_reserved h = others.1.1.1.1.1.1.1.1.0 h
 
-pub with_accounts : (s : Registry) (accounts : List Account) (old new : Trees) → KeepsOthers 1 old new → Stands s old → StandAccounts accounts new → Stands (record s { accounts = accounts }) new
-with_accounts s accounts old new others stands changed = record {
-  about = ap (map (λ r. drop 1 r)) (same_about 1 old new others (λ e. cc)) ∙ stands.about;
-  accounts = changed;
-  tokens = tokens_stay s.tokens old new (same_tokens 1 old new others (λ e. cc)) (same_scopes 1 old new others (λ e. cc)) stands.tokens;
-  crates = crates_stay s.publications s.owners s.yanked old new (same_crates 1 old new others (λ e. cc)) (same_owners 1 old new others (λ e. cc)) (same_versions 1 old new others (λ e. cc)) (same_archives 1 old new others (λ e. cc)) stands.crates;
-  reserved = reserved_stay s.reserved old new (same_reserved 1 old new others (λ e. cc)) stands.reserved;
-  restricted = stands.restricted;
-  readers = stands.readers;
-}
+module _ (ids : Ids) (s : Registry) (tree : ℕ) (old new : Trees) (others : KeepsOthers tree old new) (stands : StandsBy ids s old) where
+  still_about : 0 ≢ tree → map (drop 1) (new 0) ≡ map (drop 1) (old 0)
+  still_about h = ap (map (λ (r : Row). drop 1 r)) (same_about tree old new others h)
+
+  still_accounts : 1 ≢ tree → StandAccounts s.accounts new
+  still_accounts h = accounts_stay s.accounts old new (same_accounts tree old new others h) stands.accounts
+
+  still_tokens : 3 ≢ tree → 5 ≢ tree → StandTokens s.tokens new
+  still_tokens h k = tokens_stay s.tokens old new (same_tokens tree old new others h) (same_scopes tree old new others k) stands.tokens
+
+  still_crates : 7 ≢ tree → 11 ≢ tree → 13 ≢ tree → StandCrates ids s.publications s.yanked new
+  still_crates h k l = crates_stay ids s.publications s.yanked old new (same_crates tree old new others h) (same_versions tree old new others k) (same_archives tree old new others l) stands.crates
+
+  still_owners : 9 ≢ tree → StandPairs ids.crates s.owners (new 9)
+  still_owners h = pairs_stay ids.crates s.owners (old 9) (new 9) (same_owners tree old new others h) stands.owners
+
+  still_reserved : 14 ≢ tree → StandReserved s.reserved new
+  still_reserved h = reserved_stay s.reserved old new (same_reserved tree old new others h) stands.reserved
+
+-- The registry after a change of one table.
+module _ (ids : Ids) (s : Registry) (old new : Trees) (stands : StandsBy ids s old) where
+  pub with_accounts : (accounts : List Account) → KeepsOthers 1 old new → StandAccounts accounts new → StandsBy ids (record s { accounts = accounts }) new
+  with_accounts accounts others changed = record {
+    about = still_about ids s 1 old new others stands (λ e. cc) ∙ stands.about;
+    accounts = changed;
+    tokens = still_tokens ids s 1 old new others stands (λ e. cc) (λ e. cc);
+    crates = still_crates ids s 1 old new others stands (λ e. cc) (λ e. cc) (λ e. cc);
+    owners = still_owners ids s 1 old new others stands (λ e. cc);
+    reserved = still_reserved ids s 1 old new others stands (λ e. cc);
+    restricted = stands.restricted;
+    readers = stands.readers;
+  }
+
+  pub with_owners : (owners : finset.FinSet owner_cmp) → KeepsOthers 9 old new → StandPairs ids.crates owners (new 9) → StandsBy ids (record s { owners = owners }) new
+  with_owners owners others changed = record {
+    about = still_about ids s 9 old new others stands (λ e. cc) ∙ stands.about;
+    accounts = still_accounts ids s 9 old new others stands (λ e. cc);
+    tokens = still_tokens ids s 9 old new others stands (λ e. cc) (λ e. cc);
+    crates = still_crates ids s 9 old new others stands (λ e. cc) (λ e. cc) (λ e. cc);
+    owners = changed;
+    reserved = still_reserved ids s 9 old new others stands (λ e. cc);
+    restricted = stands.restricted;
+    readers = stands.readers;
+  }
+
+  pub with_reserved : (reserved : finset.FinSet text_cmp) → KeepsOthers 14 old new → StandReserved reserved new → StandsBy ids (record s { reserved = reserved }) new
+  with_reserved reserved others changed = record {
+    about = still_about ids s 14 old new others stands (λ e. cc) ∙ stands.about;
+    accounts = still_accounts ids s 14 old new others stands (λ e. cc);
+    tokens = still_tokens ids s 14 old new others stands (λ e. cc) (λ e. cc);
+    crates = still_crates ids s 14 old new others stands (λ e. cc) (λ e. cc) (λ e. cc);
+    owners = still_owners ids s 14 old new others stands (λ e. cc);
+    reserved = changed;
+    restricted = stands.restricted;
+    readers = stands.readers;
+  }
+
+  pub with_yanked : (yanked : finset.FinSet mark_cmp) → KeepsOthers 11 old new → StandCrates ids s.publications yanked new → StandsBy ids (record s { yanked = yanked }) new
+  with_yanked yanked others changed = record {
+    about = still_about ids s 11 old new others stands (λ e. cc) ∙ stands.about;
+    accounts = still_accounts ids s 11 old new others stands (λ e. cc);
+    tokens = still_tokens ids s 11 old new others stands (λ e. cc) (λ e. cc);
+    crates = changed;
+    owners = still_owners ids s 11 old new others stands (λ e. cc);
+    reserved = still_reserved ids s 11 old new others stands (λ e. cc);
+    restricted = stands.restricted;
+    readers = stands.readers;
+  }
+
+  -- both tables of tokens
+  pub with_tokens : (tokens : List Token) (tree : ℕ) → ((n : ℕ) → n ≢ 3 → n ≢ 5 → n ≢ tree) → KeepsOthers tree old new → StandTokens tokens new → StandsBy ids (record s { tokens = tokens }) new
+  with_tokens tokens tree apart others changed = record {
+    about = still_about ids s tree old new others stands (apart 0 (λ e. cc) (λ e. cc)) ∙ stands.about;
+    accounts = still_accounts ids s tree old new others stands (apart 1 (λ e. cc) (λ e. cc));
+    tokens = changed;
+    crates = still_crates ids s tree old new others stands (apart 7 (λ e. cc) (λ e. cc)) (apart 11 (λ e. cc) (λ e. cc)) (apart 13 (λ e. cc) (λ e. cc));
+    owners = still_owners ids s tree old new others stands (apart 9 (λ e. cc) (λ e. cc));
+    reserved = still_reserved ids s tree old new others stands (apart 14 (λ e. cc) (λ e. cc));
+    restricted = stands.restricted;
+    readers = stands.readers;
+  }

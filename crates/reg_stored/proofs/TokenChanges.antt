@@ -26,7 +26,7 @@ with_tokens s tokens tree old new apart others stands changed = record {
   about = ap (map (λ r. drop 1 r)) (same_about tree old new others (apart 0 (λ e. cc) (λ e. cc))) ∙ stands.about;
   accounts = accounts_stay s.accounts old new (same_accounts tree old new others (apart 1 (λ e. cc) (λ e. cc))) stands.accounts;
   tokens = changed;
-  crates = crates_stay s.publications s.owners s.yanked old new (same_crates tree old new others (apart 7 (λ e. cc) (λ e. cc))) (same_owners tree old new others (apart 9 (λ e. cc) (λ e. cc))) (same_versions tree old new others (apart 11 (λ e. cc) (λ e. cc)))
+  crates = crates_stay ids s.publications s.yanked old new (same_crates tree old new others (apart 7 (λ e. cc) (λ e. cc))) (same_owners tree old new others (apart 9 (λ e. cc) (λ e. cc))) (same_versions tree old new others (apart 11 (λ e. cc) (λ e. cc)))
       (same_archives tree old new others (apart 13 (λ e. cc) (λ e. cc))) stands.crates;
   reserved = reserved_stay s.reserved old new (same_reserved tree old new others (apart 14 (λ e. cc) (λ e. cc))) stands.reserved;
   restricted = stands.restricted;

@@ -71,19 +71,30 @@ module _ (yanked : finset.FinSet mark_cmp) where
   pub rows_rise : (vs : List StoredVersion) → IsAscending (λ v w. v.id < w.id) vs → IsAscending (λ a b. by_column 0 a b ≡ Less) (map (row_of_version yanked) vs)
   rows_rise vs up = ascending-map (λ a b. by_column 0 a b ≡ Less) (row_of_version yanked) vs (ascending_weaker (λ v w. v.id < w.id) (λ v w. by_column 0 (row_of_version yanked v) (row_of_version yanked w) ≡ Less) (λ v w e. number_below v.id w.id e) vs up)
 
-module _ (ps : List Publication) (owned : finset.FinSet owner_cmp) (yanked : finset.FinSet mark_cmp) (db : Trees) (h : StandCrates ps owned yanked db) where
-  pub lists_versions : (id : ℕ) (name : Words) (list : List Version) → IsCrate db id name → IsInOrder (by_column 0) (filter (is_number 2 id) (db 11)) (shows shown_places) (map columns_of_version list)
-      → map shown_version list ≡ map (version_shown yanked) (filter (λ p. collides p.name name) ps)
-  lists_versions id name list is found =
+module _ (ids : Ids) (ps : List Publication) (yanked : finset.FinSet mark_cmp) (db : Trees) (h : StandCrates ids ps yanked db) where
+  its_versions : (id : ℕ) (list : List Version) → IsInOrder (by_column 0) (filter (is_number 2 id) (db 11)) (shows shown_places) (map columns_of_version list)
+      → map shown_version list ≡ map (λ v. version_shown yanked v.publication) (filter (λ v. v.of_crate == id) ids.versions)
+  its_versions id list found =
       let row = row_of_version yanked in
-      let its = filter (λ v. v.of_crate == id) h.versions in
+      let its = filter (λ v. v.of_crate == id) ids.versions in
       let rows : IsPermutation (map row its) (filter (is_number 2 id) (db 11)) =
-      subst (λ ys. IsPermutation ys (filter (is_number 2 id) (db 11))) (filter_map row (is_number 2 id) h.versions ∙ ap (map row) (same_filter _ _ (λ v. same_number v.of_crate id) h.versions))
-      (IsPermutation-filter (is_number 2 id) (map row h.versions) (db 11) h.version_rows) in
-      let up = rows_rise yanked its (ascending-filter (λ v w. v.id < w.id) (λ v. v.of_crate == id) h.versions (ids_rise yanked h.versions h.rising)) in
+      subst (λ ys. IsPermutation ys (filter (is_number 2 id) (db 11))) (filter_map row (is_number 2 id) ids.versions ∙ ap (map row) (same_filter _ _ (λ v. same_number v.of_crate id) ids.versions))
+      (IsPermutation-filter (is_number 2 id) (map row ids.versions) (db 11) h.version_rows) in
+      let up = rows_rise yanked its (ascending-filter (λ v w. v.id < w.id) (λ v. v.of_crate == id) ids.versions (ids_rise yanked ids.versions h.rising)) in
       let shown = shown_in_turn row (shows shown_places) (by_column 0) (column_total 0) its (filter (is_number 2 id) (db 11)) (map columns_of_version list) rows up found in
-      let told = each_part (λ v. shows shown_places (row v)) columns_of_version (λ v. version_shown yanked v.publication) shown_version (same_shown yanked) its list shown in
-      let there = crate_in h.crates db h.crate_rows id name is in
-      let named = same_passes _ (λ v. collides v.publication.name name) h.versions (same_crate ps owned yanked db h id name there) in
-      told ∙ ap (map (λ v. version_shown yanked v.publication)) named ∙ sym (maps_twice (λ v. v.publication) (version_shown yanked) (filter (λ v. collides v.publication.name name) h.versions))
-      ∙ ap (map (version_shown yanked)) (sym (filter_map (λ v. v.publication) (λ p. collides p.name name) h.versions) ∙ ap (filter (λ p. collides p.name name)) h.published)
+      each_part (λ v. shows shown_places (row v)) columns_of_version (λ v. version_shown yanked v.publication) shown_version (same_shown yanked) its list shown
+
+  named_versions : (id : ℕ) (name : Words) → IsIn (id, name) ids.crates → map (λ v. version_shown yanked v.publication) (filter (λ v. v.of_crate == id) ids.versions) ≡ map (version_shown yanked) (filter (λ p. collides p.name name) ps)
+  named_versions id name there =
+      let named = same_passes _ (λ v. collides v.publication.name name) ids.versions (same_crate ids ps yanked db h id name there) in
+      ap (map (λ v. version_shown yanked v.publication)) named ∙ sym (maps_twice (λ v. v.publication) (version_shown yanked) (filter (λ v. collides v.publication.name name) ids.versions))
+      ∙ ap (map (version_shown yanked)) (sym (filter_map (λ v. v.publication) (λ p. collides p.name name) ids.versions) ∙ ap (filter (λ p. collides p.name name)) h.published)
+
+  -- the versions of the crate with this id; none where there is no crate
+  pub lists_versions : (id : ℕ) (list : List Version) → IsInOrder (by_column 0) (filter (is_number 2 id) (db 11)) (shows shown_places) (map columns_of_version list)
+      → map shown_version list ≡ told_of (spelling_at ids id) [] (λ name. map (version_shown yanked) (filter (λ p. collides p.name name) ps))
+  lists_versions id list found = split (spelling_at ids id) refl
+    where
+      split : (o : Option Words) → spelling_at ids id ≡ o → map shown_version list ≡ told_of o [] (λ name. map (version_shown yanked) (filter (λ p. collides p.name name) ps))
+      split None none = its_versions id list found ∙ ap (map (λ (v : StoredVersion). version_shown yanked v.publication)) (none_pass (λ v. v.of_crate == id) ids.versions (none_of ids ps yanked db h id none))
+      split (Some name) at = its_versions id list found ∙ named_versions id name (there_at ids id name at)

@@ -1,4 +1,5 @@
--- What each call is on the registry that the rows stand for.
+-- What each call is on the registry that the rows stand for. A call on what is not there changes
+-- nothing and tells of nothing.
 use Rattle.std.specs.Prelude.{◌≡◌, ℕ, ◌+◌, Bool, true, false, List, map, filter, length, min, Option, Some, IfSome, Vec, string_bytes}
 use Rattle.std.specs.declared.alloc.Global.{Global}
 use Rattle.std.specs.FinSet as finset
@@ -27,99 +28,99 @@ use Rattle.reg_stored.specs.declared.crates.NewVersion.{NewVersion}
 use Rattle.reg_stored.specs.declared.tokens.TokenRows.{TokenRows}
 use Rattle.reg_stored.specs.Entries.{entry_of_account, one_of, shown_version, version_shown}
 use Rattle.reg_stored.specs.FoundTokens.{IsFound, IsRow}
-use Rattle.reg_stored.specs.Stands.{IsCrate, Stands, scopes_of}
+use Rattle.reg_stored.specs.Stands.{Holds, Ids, StandsBy, scopes_of, spelling_at}
+use Rattle.reg_stored.specs.Changes.{ids_with_crate, ids_with_version, mark_at, next_crate, no_owner_at, owner_at, told_of}
 use Rattle.reg_stored.specs.TokenEntries.{entry_of_token, without_patterns}
 
--- the rows of a registry become those of another
-abbrev pub Turns : (Registry → Registry) → Trees → Trees → Type 0
-Turns change old new = (s : Registry) → Stands s old → Stands (change s) new
+-- the rows of a registry become those of another, under the same ids
+abbrev pub Turns : (Ids → Registry → Registry) → Trees → Trees → Type 0
+Turns change old new =
+    (ids : Ids) (s : Registry) → Holds ids s old → StandsBy ids (change ids s) new
+
+-- it is so of the registry
+abbrev pub Tells : (Ids → Registry → Type 0) → Trees → Type 0
+Tells fact db = (ids : Ids) (s : Registry) → Holds ids s db → fact ids s
 
 -- the account is added, and this is its id
 abbrev pub AddsAccount : Text → Option Text → Trees → Trees → ℕ → Type 0
 AddsAccount login name old new id =
-    (s : Registry) → Stands s old
-    → (id ≡ 1 + length s.accounts) × Stands (with_account login name s) new
+    (ids : Ids) (s : Registry) → Holds ids s old
+    → (id ≡ 1 + length s.accounts) × StandsBy ids (with_account login name s) new
 
--- an account that is there is enabled or not
+-- an account is enabled or not
 abbrev pub SetsEnabled : Bool → ℕ → Trees → Trees → Type 0
-SetsEnabled enabled id old new =
-    (s : Registry) → (a : _) → with_id s.accounts id ≡ Some a → Stands s old
-    → Stands (with_enabled enabled id s) new
+SetsEnabled enabled id = Turns (λ ids. with_enabled enabled id)
 
--- the account with this login, behind its id
+-- the account with this login
 abbrev pub FindsAccount : Text → Trees → Option Account → Type 0
-FindsAccount login db found =
-    (s : Registry) → Stands s db
-    → filter (λ e. bytes_eq e.1.login login) (enumerate_from 1 s.accounts)
-    ≡ one_of (option_map entry_of_account found)
+FindsAccount login db found = Tells
+    (λ ids s. (option_map (λ a. a.id) found ≡ id_of_login s login)
+    × IfSome found (λ a. with_id s.accounts a.id ≡ Some (entry_of_account a).1)) db
 
 abbrev pub ListsAccounts : Trees → List Account → Type 0
 ListsAccounts db list =
-    (s : Registry) → Stands s db → map entry_of_account list ≡ enumerate_from 1 s.accounts
+    Tells (λ ids s. map entry_of_account list ≡ enumerate_from 1 s.accounts) db
 
 -- the token is added, and this is its id
 abbrev pub AddsToken : Text → ℕ → Endpoints → List Text → Trees → Trees → ℕ → Type 0
 AddsToken digest account endpoints patterns old new id =
-    (s : Registry) → Stands s old
-    → (id ≡ 1 + length s.tokens) × Stands (with_token digest account endpoints patterns s) new
+    (ids : Ids) (s : Registry) → Holds ids s old
+    → (id ≡ 1 + length s.tokens)
+    × StandsBy ids (with_token digest account endpoints patterns s) new
 
--- a token that is there is no longer live
+-- a token is no longer live
 abbrev pub Ends : ℕ → Trees → Trees → Type 0
-Ends id old new =
-    (s : Registry) → (t : _) → with_id s.tokens id ≡ Some t → Stands s old
-    → Stands (with_revoked id s) new
+Ends id = Turns (λ ids. with_revoked id)
 
 -- the token with this digest and its account; and with its scopes too
 abbrev pub FindsTokenRow : Text → Trees → Option TokenRow → Type 0
-FindsTokenRow digest db found =
-    (s : Registry) → Sound s → Stands s db → IsRow s digest found
+FindsTokenRow digest db found = Tells (λ ids s. IsRow s digest found) db
 
 abbrev pub FindsToken : Text → Trees → Option TokenRows → Type 0
-FindsToken digest db found = (s : Registry) → Sound s → Stands s db → IsFound s digest found
+FindsToken digest db found = Tells (λ ids s. IsFound s digest found) db
 
 -- the scopes of a token that is there, by place
 abbrev pub ListsScopesOf : ℕ → Trees → List Scope → Type 0
-ListsScopesOf token db list =
-    (s : Registry) → (t : _) → with_id s.tokens token ≡ Some t → Stands s db
-    → map columns_of_scope list ≡ scopes_of (token, t)
+ListsScopesOf token db list = Tells
+    (λ ids s. (t : _) → with_id s.tokens token ≡ Some t
+    → map columns_of_scope list ≡ scopes_of (token, t)) db
 
 abbrev pub ListsTokens : Trees → List Token → Type 0
-ListsTokens db list =
-    (s : Registry) → Stands s db
-    → map entry_of_token list ≡ map without_patterns (enumerate_from 1 s.tokens)
+ListsTokens db list = Tells (λ ids s.
+    map entry_of_token list ≡ map without_patterns (enumerate_from 1 s.tokens)) db
 
 abbrev pub ListsScopes : Trees → List Scope → Type 0
-ListsScopes db list =
-    (s : Registry) → Stands s db
-    → map columns_of_scope list ≡ flat_map scopes_of (enumerate_from 1 s.tokens)
+ListsScopes db list = Tells (λ ids s.
+    map columns_of_scope list ≡ flat_map scopes_of (enumerate_from 1 s.tokens)) db
 
 -- the crate with this canonical text: its spelling, and its id
 abbrev pub FindsCrate : Text → Trees → Option Crate → Type 0
-FindsCrate text db found =
-    (s : Registry) → (n : Text) → canon n ≡ text → Stands s db
-    → (option_map (λ c. string_bytes c.name) found ≡ first s n)
-    × IfSome found (λ c. IsCrate db c.id (string_bytes c.name))
+FindsCrate text db found = Tells
+    (λ ids s. ((n : Text) → canon n ≡ text
+    → option_map (λ c. string_bytes c.name) found ≡ first s n)
+    × IfSome found (λ c. spelling_at ids c.id ≡ Some (string_bytes c.name))) db
 
 -- each crate once, with its spelling and its id, by canonical text
 abbrev pub ListsCrates : Trees → List Crate → Type 0
-ListsCrates db list =
-    (s : Registry) → Stands s db
-    → AllByRecursion (λ c. (first s (string_bytes c.name) ≡ Some (string_bytes c.name))
-    × IsCrate db c.id (string_bytes c.name)) list
+ListsCrates db list = Tells
+    (λ ids s. AllByRecursion (λ c.
+    (first s (string_bytes c.name) ≡ Some (string_bytes c.name))
+    × (spelling_at ids c.id ≡ Some (string_bytes c.name))) list
     × IsStrictlySortedBy text_cmp (map (λ c. canon (string_bytes c.name)) list)
-    × ((t : Text) → list_any (λ c. bytes_eq (canon (string_bytes c.name)) t) list ≡ has_crate s t)
+    × ((t : Text) → list_any (λ c. bytes_eq (canon (string_bytes c.name)) t) list
+    ≡ has_crate s t)) db
 
--- the versions of a crate that is there, oldest first
+-- the versions of the crate with this id, oldest first
 abbrev pub ListsVersions : ℕ → Trees → List Version → Type 0
-ListsVersions of_crate db list =
-    (s : Registry) → (name : Text) → IsCrate db of_crate name → Stands s db
-    → map shown_version list ≡ map (version_shown s.yanked) (versions s name)
+ListsVersions id db list = Tells
+    (λ ids s. map shown_version list ≡ told_of (spelling_at ids id) []
+    (λ name. map (version_shown s.yanked) (versions s name))) db
 
--- the archive of this very version of a crate that is there
+-- the archive of this very version of the crate with this id
 abbrev pub FindsArchive : ℕ → Text → Trees → Option (Vec ℕ Global) → Type 0
-FindsArchive of_crate text db found =
-    (s : Registry) → (name : Text) → IsCrate db of_crate name → Stands s db
-    → option_map (λ b. b.items) found ≡ option_map (λ p. p.archive) (version s name text)
+FindsArchive id text db found = Tells
+    (λ ids s. option_map (λ b. b.items) found ≡ told_of (spelling_at ids id) None
+    (λ name. option_map (λ p. p.archive) (version s name text))) db
 
 -- what is published of a crate with this spelling
 abbrev pub published : Text → NewVersion → Publication
@@ -135,53 +136,43 @@ published name v = record {
 -- a crate is added with its first version and its owner, and this is its id
 abbrev pub AddsFirst : Text → ℕ → NewVersion → Trees → Trees → ℕ → Type 0
 AddsFirst name owner v old new id =
-    (s : Registry) → Sound s → exists s name ≡ false → Stands s old
-    → Stands (with_owner (canon name, owner) (with_publication (published name v) s)) new
-    × IsCrate new id name
+    (ids : Ids) (s : Registry) → Holds ids s old → exists s name ≡ false
+    → (id ≡ next_crate ids) × StandsBy (ids_with_crate (published name v) ids)
+    (with_owner (canon name, owner) (with_publication (published name v) s)) new
 
 -- a version is added to a crate that is there
 abbrev pub AddsNext : ℕ → NewVersion → Trees → Trees → Type 0
-AddsNext of_crate v old new =
-    (s : Registry) → (name : Text) → Sound s → IsCrate old of_crate name
-    → has_version s (canon name) v.text.now ≡ false → Stands s old
-    → Stands (with_publication (published name v) s) new
+AddsNext id v old new =
+    (ids : Ids) (s : Registry) (name : Text) → Holds ids s old → spelling_at ids id ≡ Some name
+    → has_version s (canon name) v.text.now ≡ false
+    → StandsBy (ids_with_version id (published name v) ids)
+    (with_publication (published name v) s) new
 
--- a version of a crate that is there is yanked, or no longer
+-- a version is yanked, or no longer
 abbrev pub SetsYanked : ℕ → Text → Bool → Trees → Trees → Type 0
-SetsYanked of_crate text yanked old new =
-    (s : Registry) → (name : Text) → Sound s → IsCrate old of_crate name
-    → has_version s (canon name) text ≡ true → Stands s old
-    → Stands (with_yanked yanked (canon name, text) s) new
+SetsYanked id text yanked = Turns (λ ids. mark_at ids id text yanked)
 
--- an account is an owner of a crate that is there, or no longer
+-- an account is an owner of a crate, or no longer
 abbrev pub AddsOwner : ℕ → ℕ → Trees → Trees → Type 0
-AddsOwner of_crate account old new =
-    (s : Registry) → (name : Text) → IsCrate old of_crate name → Stands s old
-    → Stands (with_owner (canon name, account) s) new
+AddsOwner id account = Turns (λ ids. owner_at ids id account)
 
 abbrev pub RemovesOwner : ℕ → ℕ → Trees → Trees → Type 0
-RemovesOwner of_crate account old new =
-    (s : Registry) → (name : Text) → IsCrate old of_crate name → Stands s old
-    → Stands (without_owner (canon name, account) s) new
+RemovesOwner id account = Turns (λ ids. no_owner_at ids id account)
 
--- the accounts that own a crate that is there, by id
+-- the accounts that own the crate with this id, by their ids
 abbrev pub ListsOwners : ℕ → Trees → List Account → Type 0
-ListsOwners of_crate db list =
-    (s : Registry) → (name : Text) → IsCrate db of_crate name → Stands s db
-    → map entry_of_account list ≡ owners s name
+ListsOwners id db list = Tells
+    (λ ids s. map entry_of_account list ≡ told_of (spelling_at ids id) [] (owners s)) db
 
 -- whether the administrator reserved the name
 abbrev pub TellsReserved : Text → Trees → Bool → Type 0
-TellsReserved canon db there =
-    (s : Registry) → Stands s db → there ≡ finset.contains s.reserved canon
+TellsReserved canon db there = Tells (λ ids s. there ≡ finset.contains s.reserved canon) db
 
--- a number, up to the greatest of SQL
+-- a number of the registry
 abbrev pub Counted : (Registry → ℕ) → Trees → ℕ → Type 0
-Counted number db n = (s : Registry) → Stands s db → n ≡ min (number s) greatest_number
+Counted number db n = Tells (λ ids s. n ≡ number s) db
 
 abbrev pub CountsAll : Trees → Counts → Type 0
-CountsAll db n =
-    (s : Registry) → Stands s db
-    → (n.accounts ≡ min (length s.accounts) greatest_number)
-    × (n.tokens ≡ min (length s.tokens) greatest_number)
-    × (n.crates ≡ min (model.crates s) greatest_number)
+CountsAll db n = Tells
+    (λ ids s. (n.accounts ≡ length s.accounts) × (n.tokens ≡ length s.tokens)
+    × (n.crates ≡ model.crates s)) db

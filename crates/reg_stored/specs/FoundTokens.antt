@@ -36,15 +36,18 @@ abbrev pub IsAccountOf : model.Registry → TokenRow → Type 0
 IsAccountOf s r = option_map login_and_mark (model.with_id s.accounts r.account) ≡ Some
     (login_and_mark_of_row r)
 
--- there is no such token, or this one alone, with these patterns
+-- there is no such token, or it is this one, with these patterns
 abbrev pub IsRow : model.Registry → List ℕ → Option TokenRow → Type 0
-IsRow s digest None = with_digest s digest ≡ []
+IsRow s digest None = model.token_of s digest ≡ None
 IsRow s digest (Some r) = (patterns : List model.Text)
-    × (with_digest s digest ≡ entry_of_row digest patterns r ∷ []) × IsAccountOf s r
+    × (model.token_of s digest ≡ Some (entry_of_row digest patterns r).1)
+    × (model.with_id s.tokens r.id ≡ Some (entry_of_row digest patterns r).1) × IsAccountOf s r
 
 -- and these are its scopes, by place
 abbrev pub IsFound : model.Registry → List ℕ → Option TokenRows → Type 0
-IsFound s digest None = with_digest s digest ≡ []
+IsFound s digest None = model.token_of s digest ≡ None
 IsFound s digest (Some r) = (patterns : List model.Text)
-    × (with_digest s digest ≡ entry_of_row digest patterns r.token ∷ []) × IsAccountOf s r.token
+    × (model.token_of s digest ≡ Some (entry_of_row digest patterns r.token).1)
+    × (model.with_id s.tokens r.token.id ≡ Some (entry_of_row digest patterns r.token).1)
+    × IsAccountOf s r.token
     × (map columns_of_scope r.scopes.items ≡ scopes_of (entry_of_row digest patterns r.token))

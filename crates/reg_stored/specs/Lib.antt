@@ -1,5 +1,6 @@
 pub mod Additions
 pub mod Calls
+pub mod Changes
 pub mod Entries
 pub mod FoundTokens
 pub mod Ids

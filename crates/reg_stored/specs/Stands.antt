@@ -44,18 +44,33 @@ StoredCrate = ℕ × Text
 abbrev pub row_of_crate : StoredCrate → Row
 row_of_crate c = crate_row c.0 (canon c.1) c.1
 
--- an owner as it is stored: the ids of a crate and of an account
-abbrev pub StoredOwner : Type 0
-StoredOwner = ℕ × ℕ
+-- a crate and an account of a relation as it is stored: the ids of both
+abbrev pub StoredPair : Type 0
+StoredPair = ℕ × ℕ
 
-abbrev pub columns_of_owner : StoredOwner → Row
-columns_of_owner o = owner_columns o.0 o.1
+abbrev pub columns_of_pair : StoredPair → Row
+columns_of_pair o = owner_columns o.0 o.1
 
 -- a version as it is stored
 pub record StoredVersion : Type 0 where
   pub id : ℕ
   pub of_crate : ℕ
   pub publication : Publication
+
+-- The ids under which the rows have the crates and the versions. Both rise, versions in the order of
+-- publication. All that rows say of a crate they say by its id.
+pub record Ids : Type 0 where
+  pub crates : List StoredCrate
+  pub versions : List StoredVersion
+
+-- the spelling of the crate with this id
+abbrev pub spelling_at : Ids → ℕ → Option Text
+spelling_at ids id = option_map (λ c. c.1) (find (λ c. c.0 == id) ids.crates)
+
+-- one more than the greatest
+abbrev pub next_of : List ℕ → ℕ
+next_of [] = 1
+next_of (n ∷ ns) = max (1 + n) (next_of ns)
 
 -- its row, where these are the marks of what is yanked
 abbrev pub row_of_version : finset.FinSet mark_cmp → StoredVersion → Row
@@ -73,62 +88,76 @@ HaveOwnRowids rows = IsDistinct (λ a b. is_eq (value_cmp (rowid a) (rowid b))) 
     × AreNumbered rows
 
 pub record StandAccounts (accounts : List Account) (db : Trees) : Type 0 where
-  pub rows : IsPermutation (map row_of_account (enumerate_from 1 accounts)) (db 1)
+  pub rows : IsPermutation (map row_of_account (enumerate_from 1 accounts)) (db accounts_tree)
 
 pub record StandTokens (tokens : List Token) (db : Trees) : Type 0 where
-  pub rows : IsPermutation (map row_of_token (enumerate_from 1 tokens)) (db 3)
-  pub scopes : IsPermutation (flat_map scopes_of (enumerate_from 1 tokens)) (map (drop 1) (db 5))
+  pub rows : IsPermutation (map row_of_token (enumerate_from 1 tokens)) (db tokens_tree)
+  pub scopes : IsPermutation (flat_map scopes_of (enumerate_from 1 tokens)) (map (drop 1) (db scopes_tree))
 
 pub record StandReserved (reserved : finset.FinSet text_cmp) (db : Trees) : Type 0 where
   pub texts : List Text
-  pub rows : IsPermutation (map reserved_columns texts) (map (drop 1) (db 14))
-  pub apart : HaveOwnRowids (db 14)
+  pub rows : IsPermutation (map reserved_columns texts) (map (drop 1) (db reserved_tree))
+  pub apart : HaveOwnRowids (db reserved_tree)
   pub same : (c : Text) → finset.contains reserved c ≡ list_any (λ t. bytes_eq t c) texts
 
 -- the stored version is of this stored crate, and has its spelling
 abbrev pub is_of : StoredCrate → StoredVersion → Bool
 is_of c v = c.0 == v.of_crate && bytes_eq c.1 v.publication.name
 
--- an account owns the stored crate
-abbrev pub is_owned : List StoredOwner → ℕ → ℕ → Bool
-is_owned owners of_crate account = list_any (λ o. o.0 == of_crate && o.1 == account) owners
+-- a pair has these ids
+abbrev pub is_paired : List StoredPair → ℕ → ℕ → Bool
+is_paired pairs of_crate account = list_any (λ o. o.0 == of_crate && o.1 == account) pairs
 
--- Crates, their owners and their versions.
-pub record StandCrates (publications : List Publication) (held : finset.FinSet owner_cmp)
+-- Crates and their versions.
+pub record StandCrates (ids : Ids) (publications : List Publication)
     (yanked : finset.FinSet mark_cmp) (db : Trees) : Type 0 where
-  pub crates : List StoredCrate
-  pub owners : List StoredOwner
-  pub versions : List StoredVersion
-  pub crate_rows : IsPermutation (map row_of_crate crates) (db 7)
-  pub owner_rows : IsPermutation (map columns_of_owner owners) (map (drop 1) (db 9))
-  pub version_rows : IsPermutation (map (row_of_version yanked) versions) (db 11)
-  pub archive_rows : IsPermutation (map row_of_archive versions) (db 13)
-  pub apart : HaveOwnRowids (db 9)
-  -- owners are of crates that are there, and each is one once
-  pub of_owners : list_all (λ o. list_any (λ c. c.0 == o.0) crates) owners ≡ true
-  pub pairs : IsDistinct (λ a b. a.0 == b.0 && a.1 == b.1) owners
-  -- a crate has one id and one spelling, and a version
-  pub ids : IsDistinct (on (λ c. c.0) nat_eq) crates
-  pub canons : IsDistinct (on (λ c. canon c.1) bytes_eq) crates
-  pub used : list_all (λ c. list_any (is_of c) versions) crates ≡ true
-  -- versions have the ids of their crates, and their own ids rise in the order of publication
-  pub of_crates : list_all (λ v. list_any (λ c. is_of c v) crates) versions ≡ true
-  pub rising : IsStrictlySortedBy nat_cmp (map (λ v. v.id) versions)
-  pub published : map (λ v. v.publication) versions ≡ publications
-  pub owned : AllByRecursion (λ c. (account : ℕ) → finset.contains held (canon c.1, account)
-      ≡ is_owned owners c.0 account) crates
+  pub crate_rows : IsPermutation (map row_of_crate ids.crates) (db crates_tree)
+  pub version_rows : IsPermutation (map (row_of_version yanked) ids.versions) (db versions_tree)
+  pub archive_rows : IsPermutation (map row_of_archive ids.versions) (db archives_tree)
+  -- a crate has one spelling, and a version
+  pub canons : IsDistinct (on (λ c. canon c.1) bytes_eq) ids.crates
+  pub used : list_all (λ c. list_any (is_of c) ids.versions) ids.crates ≡ true
+  -- versions have the ids of their crates
+  pub of_crates : list_all (λ v. list_any (λ c. is_of c v) ids.crates) ids.versions ≡ true
+  -- ids rise, those of versions in the order of publication
+  pub up : IsStrictlySortedBy nat_cmp (map (λ c. c.0) ids.crates)
+  pub rising : IsStrictlySortedBy nat_cmp (map (λ v. v.id) ids.versions)
+  pub published : map (λ v. v.publication) ids.versions ≡ publications
+
+-- A relation of crates and accounts, such as who owns what.
+pub record StandPairs (crates : List StoredCrate) (held : finset.FinSet owner_cmp)
+    (rows : List Row) : Type 0 where
+  pub pairs : List StoredPair
+  pub are : IsPermutation (map columns_of_pair pairs) (map (drop 1) rows)
+  pub apart : HaveOwnRowids rows
+  -- the crates are there, and each pair is there once
+  pub of_crates : list_all (λ o. list_any (λ c. c.0 == o.0) crates) pairs ≡ true
+  pub once : IsDistinct (λ a b. a.0 == b.0 && a.1 == b.1) pairs
+  pub same : AllByRecursion (λ c. (account : ℕ) → finset.contains held (canon c.1, account)
+      ≡ is_paired pairs c.0 account) crates
 
 -- the crate with this id has this spelling
 abbrev pub IsCrate : Trees → ℕ → Text → Type 0
-IsCrate db id name = filter (has_rowid (pos id)) (db 7) ≡ row_of_crate (id, name) ∷ []
+IsCrate db id name =
+    filter (has_rowid (pos id)) (db crates_tree) ≡ row_of_crate (id, name) ∷ []
 
--- the rows are those of this registry
-pub record Stands (s : Registry) (db : Trees) : Type 0 where
-  pub about : map (drop 1) (db 0) ≡ about_columns s.base ∷ []
+-- the rows are those of this registry, under these ids
+pub record StandsBy (ids : Ids) (s : Registry) (db : Trees) : Type 0 where
+  pub about : map (drop 1) (db about_tree) ≡ about_columns s.base ∷ []
   pub accounts : StandAccounts s.accounts db
   pub tokens : StandTokens s.tokens db
-  pub crates : StandCrates s.publications s.owners s.yanked db
+  pub crates : StandCrates ids s.publications s.yanked db
+  pub owners : StandPairs ids.crates s.owners (db owners_tree)
   pub reserved : StandReserved s.reserved db
   -- no crate is restricted, and none has readers: there are no tables of these yet
   pub restricted : s.restricted ≡ finset.empty
   pub readers : s.readers ≡ finset.empty
+
+-- the rows are those of this registry
+abbrev pub Stands : Registry → Trees → Type 0
+Stands s db = (ids : Ids) × StandsBy ids s db
+
+-- the registry is sound, and the rows are its
+pub record Holds (ids : Ids) (s : Registry) (db : Trees) : Type 0 where
+  pub sound : Sound s
+  pub stands : StandsBy ids s db

@@ -8,6 +8,6 @@ returns-clause-found g c clean =
     let db = (state g.S.Store c.args.conn.now).now.trees in
     if_ok c.all.result
     (λ list e s stands.
-    let shown = lists_crates s.publications s.owners s.yanked db stands.crates list.items e in
-    (each_is s.publications s.owners s.yanked db stands.crates list.items shown, rising s.publications s.owners s.yanked db stands.crates list.items shown, all_there s.publications s.owners s.yanked db stands.crates list.items shown))
+    let shown = lists_crates ids s.publications s.yanked db stands.crates list.items e in
+    (each_is ids s.publications s.yanked db stands.crates list.items shown, rising ids s.publications s.yanked db stands.crates list.items shown, all_there ids s.publications s.yanked db stands.crates list.items shown))
     (c.all.ensures.told clean)

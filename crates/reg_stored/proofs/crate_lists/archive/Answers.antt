@@ -11,5 +11,5 @@ returns-clause-found g c clean =
     let db = (state g.S.Store c.args.conn.now).now.trees in
     if_ok c.of_version.result
     (λ found e s name is stands.
-    finds_archive s.publications s.owners s.yanked db stands.crates c.args.crate_id name c.args.text.now is found (subst (λ release. archives_of c.args.crate_id release c.args.text.now db ≡ shown_of columns_of_bytes found) c.release_key.ensures e))
+    finds_archive ids s.publications s.yanked db stands.crates c.args.crate_id name c.args.text.now is found (subst (λ release. archives_of c.args.crate_id release c.args.text.now db ≡ shown_of columns_of_bytes found) c.release_key.ensures e))
     (c.of_version.ensures.told clean)

@@ -9,5 +9,5 @@ returns-clause-found g c clean =
     let db = (state g.S.Store c.args.conn.now).now.trees in
     if_ok c.by_canon.result
     (λ found e s n at stands.
-    crate_named s.publications s.owners s.yanked db stands.crates c.as_str.result.now n found (at ∙ sym c.as_str.ensures) (shown_crate s.publications s.owners s.yanked db stands.crates c.as_str.result.now found e))
+    crate_named ids s.publications s.yanked db stands.crates c.as_str.result.now n found (at ∙ sym c.as_str.ensures) (shown_crate ids s.publications s.yanked db stands.crates c.as_str.result.now found e))
     (c.by_canon.ensures.told clean)

@@ -14,7 +14,7 @@ returns-then-branch-clause-stands g c clean s name is_crate stands =
     let old = state g.S.Store c.args.conn.now in
     let new = state g.S.Store c.is_there.new.conn in
     let same : new.now ≡ old.now = (c.in_ok-is_there.ensures.only clean).0.0.now_is in
-    let there = sym (is_there s.publications s.owners s.yanked old.now.trees stands.crates c.args.crate_id name is_crate c.args.account) ∙ sym (c.in_ok-is_there.ensures.told clean) ∙ c.if-branch.true in
+    let there = sym (is_there ids s.publications s.yanked old.now.trees stands.crates c.args.crate_id name is_crate c.args.account) ∙ sym (c.in_ok-is_there.ensures.told clean) ∙ c.if-branch.true in
     stays_owner s (canon name, c.args.account) new.now.trees there (subst (λ (d : Database). Stands s d.trees) (sym same) stands)
 
 pub returns-clause-stands : goal.returns-clause-stands
@@ -24,11 +24,11 @@ returns-clause-stands g c clean s name is_crate stands =
     let new = state g.S.Store c.insert.new.conn in
     let early : HasCleanDisk mid = omega (arith, c.insert.ensures.survives.clean) in
     let same : mid.now ≡ old.now = (c.in_ok-is_there.ensures.only early).0.0.now_is in
-    let absent = sym (is_there s.publications s.owners s.yanked old.now.trees stands.crates c.args.crate_id name is_crate c.args.account) ∙ sym (c.in_ok-is_there.ensures.told early) ∙ c.if-branch.false in
+    let absent = sym (is_there ids s.publications s.yanked old.now.trees stands.crates c.args.crate_id name is_crate c.args.account) ∙ sym (c.in_ok-is_there.ensures.told early) ∙ c.if-branch.false in
     let then = subst (λ (d : Database). Stands s d.trees) (sym same) stands in
     let its = subst (λ (d : Database). IsCrate d.trees c.args.crate_id name) (sym same) is_crate in
     let added = c.in_ok-insert.ensures.changes clean in
-    with_owners s _ mid.now.trees new.now.trees added.1.becomes.others then (adds_owner s.publications s.owners s.yanked mid new then.crates c.args.crate_id name its c.args.account absent added)
+    with_owners s _ mid.now.trees new.now.trees added.1.becomes.others then (adds_owner ids s.publications s.yanked mid new then.crates c.args.crate_id name its c.args.account absent added)
 
 pub returns-in_err-is_there-clause-leaves : goal.returns-in_err-is_there-clause-leaves
 returns-in_err-is_there-clause-leaves g c = stops_read (state g.S.Store c.args.conn.now) (state g.S.Store c.is_there.new.conn) c.is_there.result _ c.from_residual.result c.from_residual.ensures.0 c.requires c.in_err-is_there.was c.is_there.ensures

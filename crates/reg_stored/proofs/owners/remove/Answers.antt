@@ -7,4 +7,4 @@ returns-clause-stands g c clean s name is_crate stands =
     let old = state g.S.Store c.args.conn.now in
     let new = state g.S.Store c.remove.new.conn in
     let removed = c.in_ok-remove.ensures.changes clean in
-    with_owners s _ old.now.trees new.now.trees removed.others stands (removes_owner s.publications s.owners s.yanked old new stands.crates c.args.crate_id name is_crate c.args.account removed)
+    with_owners s _ old.now.trees new.now.trees removed.others stands (removes_owner ids s.publications s.yanked old new stands.crates c.args.crate_id name is_crate c.args.account removed)

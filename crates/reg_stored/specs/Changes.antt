@@ -1,0 +1,56 @@
+-- What the calls change, by the ids that the rows have. A change of what is not there is none.
+use Rattle.std.specs.Prelude.{ℕ, Bool, if◌then◌else◌, List, [], ◌∷◌, ◌++◌, map, Option, Some, None, length, ◌+◌}
+use Rattle.reg_names.specs.Names.{canon}
+use Rattle.reg_model.specs.Changes.{with_owner, with_publication, with_yanked, without_owner}
+use Rattle.reg_model.specs.Registry.{Publication, Registry, Text}
+use Rattle.reg_model.specs.Sound.{has_version}
+use Rattle.reg_stored.specs.Stands.{Ids, StoredVersion, next_of, spelling_at}
+
+-- the ids that a crate and a version get that are added
+abbrev pub next_crate : Ids → ℕ
+next_crate ids = next_of (map (λ c. c.0) ids.crates)
+
+abbrev pub next_version : Ids → ℕ
+next_version ids = next_of (map (λ v. v.id) ids.versions)
+
+-- one more version of the crate with this id; and a crate with its first version
+abbrev pub ids_with_version : ℕ → Publication → Ids → Ids
+ids_with_version of_crate p ids = record ids {
+  versions = ids.versions ++ record {
+    id = next_version ids;
+    of_crate = of_crate;
+    publication = p;
+  } ∷ [];
+}
+
+abbrev pub ids_with_crate : Publication → Ids → Ids
+ids_with_crate p ids =
+    record (ids_with_version (next_crate ids) p ids) {
+      crates = ids.crates ++ (next_crate ids, p.name) ∷ [];
+    }
+
+-- the change that the crate with this spelling asks for; none where there is no crate
+abbrev pub if_there : Option Text → (Text → Registry → Registry) → Registry → Registry
+if_there None change s = s
+if_there (Some name) change s = change name s
+
+-- the version with this text is yanked or no longer
+abbrev pub with_mark : Text → Bool → Text → Registry → Registry
+with_mark text yanked name s =
+    if has_version s (canon name) text then with_yanked yanked (canon name, text) s else s
+
+abbrev pub mark_at : Ids → ℕ → Text → Bool → Registry → Registry
+mark_at ids id text yanked = if_there (spelling_at ids id) (with_mark text yanked)
+
+-- the account owns the crate with this id, or no longer
+abbrev pub owner_at : Ids → ℕ → ℕ → Registry → Registry
+owner_at ids id account = if_there (spelling_at ids id) (λ name. with_owner (canon name, account))
+
+abbrev pub no_owner_at : Ids → ℕ → ℕ → Registry → Registry
+no_owner_at ids id account =
+    if_there (spelling_at ids id) (λ name. without_owner (canon name, account))
+
+-- what is told of the crate with this id; nothing where there is none
+abbrev pub told_of : {X : Type 0} → Option Text → X → (Text → X) → X
+told_of None nothing tell = nothing
+told_of (Some name) nothing tell = tell name
