@@ -14,6 +14,7 @@ mod ScopeQueries
 mod ScopeTexts
 mod TokenQueries
 mod TokenTexts
+mod Updates
 mod VersionQueries
 mod VersionRows
 mod VersionTexts

@@ -7,4 +7,5 @@ pub mod Owners
 pub mod Reserved
 pub mod Scopes
 pub mod Tokens
+pub mod Updates
 pub mod Versions
