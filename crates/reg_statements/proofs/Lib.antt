@@ -8,6 +8,8 @@ mod CrateQueries
 mod CrateTexts
 mod OwnerQueries
 mod OwnerTexts
+mod PairQueries
+mod PairTexts
 mod ReservedQueries
 mod ReservedTexts
 mod ScopeQueries
