@@ -6,7 +6,7 @@ use Rattle.sqlite_schema.specs.declared.schema.Index.{Index}
 use Rattle.sqlite_catalog.specs.Listing.{automatic}
 use Rattle.sqlite_value.specs.Keys.{plain}
 use Rattle.sqlite_tied.specs.Compute.{everything}
-use Rattle.reg_schema.specs.Schema.{accounts, tokens, scopes, crates, owners, versions, reserved}
+use Rattle.reg_schema.specs.Schema.{accounts, tokens, scopes, crates, owners, versions, reserved, readers}
 
 -- the item at this place, and then the rest
 pub item : {X : Type 0} (xs : List X) (k : ℕ) (x d : X) (rest : List X) → k < length xs → x ≡ get_or xs k d → drop (suc k) xs ≡ rest → drop k xs ≡ x ∷ rest
@@ -55,3 +55,7 @@ versions_index = refl
 pub reserved_index : unique_index (codes "sqlite_autoindex_reserved_1") 14 (1 ∷ []) ≡ automatic reserved 0 (1 ∷ []) 15
 unfolding everything
 reserved_index = refl
+
+pub readers_index : unique_index (codes "sqlite_autoindex_readers_1") 18 (1 ∷ 2 ∷ []) ≡ automatic readers 0 (1 ∷ 2 ∷ []) 19
+unfolding everything
+readers_index = refl

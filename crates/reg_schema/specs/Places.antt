@@ -29,6 +29,15 @@ archives_tree = 13
 abbrev pub reserved_tree : ℕ
 reserved_tree = 14
 
+abbrev pub summaries_tree : ℕ
+summaries_tree = 16
+
+abbrev pub restricted_tree : ℕ
+restricted_tree = 17
+
+abbrev pub readers_tree : ℕ
+readers_tree = 18
+
 -- the key of accounts, tokens, crates and versions, and of an archive, whose key is its version's
 abbrev pub id_place : ℕ
 id_place = 0
@@ -75,3 +84,24 @@ release_place = 4
 -- of a reserved name
 abbrev pub reserved_canon_place : ℕ
 reserved_canon_place = 1
+
+-- of a summary
+abbrev pub summary_crate_place : ℕ
+summary_crate_place = 0
+
+abbrev pub highest_place : ℕ
+highest_place = 2
+
+abbrev pub index_length_place : ℕ
+index_length_place = 3
+
+-- of a restricted crate
+abbrev pub restricted_crate_place : ℕ
+restricted_crate_place = 0
+
+-- of a reader
+abbrev pub reader_crate_place : ℕ
+reader_crate_place = 1
+
+abbrev pub reader_account_place : ℕ
+reader_account_place = 2

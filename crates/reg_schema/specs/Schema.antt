@@ -131,15 +131,35 @@ abbrev pub reserved : Table
 reserved = table (codes "reserved") 14 (column (codes "canon") Text true ∷ []) None (1 ∷ [])
     ((1 ∷ []) ∷ []) (plain ∷ []) [] []
 
+-- of each crate the greatest version that is not yanked, and the length of its index file
+abbrev pub summaries : Table
+summaries = table (codes "summaries") 16
+    (column (codes "crate") Integer false ∷ column (codes "highest") Integer true ∷ column
+    (codes "index_length") Integer true ∷ [])
+    (Some 0) (0 ∷ []) [] [] (compare Ge (col 1 3) 0 ∷ [])
+    (refers 0 (codes "crates") ∷ refers 2 (codes "versions") ∷ [])
+
+-- the crates that are not for everyone
+abbrev pub restricted : Table
+restricted = table (codes "restricted") 17 (column (codes "crate") Integer false ∷ [])
+    (Some 0) (0 ∷ []) [] [] [] (refers 0 (codes "crates") ∷ [])
+
+-- who may read a restricted crate
+abbrev pub readers : Table
+readers = table (codes "readers") 18 (column (codes "crate") Integer true ∷ column
+    (codes "account") Integer true ∷ []) None (1 ∷ 2 ∷ []) ((1 ∷ 2 ∷ []) ∷ []) (plain ∷ []) []
+    (refers 1 (codes "crates") ∷ refers 2 (codes "accounts") ∷ [])
+
 abbrev pub our_tables : List Table
 our_tables = about ∷ accounts ∷ tokens ∷ scopes ∷ crates ∷ owners ∷ versions ∷ archives ∷ reserved
-    ∷ []
+    ∷ summaries ∷ restricted ∷ readers ∷ []
 
 abbrev pub our_indexes : List Index
 our_indexes =
     automatic accounts 0 (2 ∷ []) 2 ∷ automatic tokens 0 (2 ∷ []) 4 ∷ automatic scopes 0
     (1 ∷ 2 ∷ []) 6 ∷ automatic crates 0 (2 ∷ []) 8 ∷ automatic owners 0 (1 ∷ 2 ∷ []) 10
-    ∷ automatic versions 0 (2 ∷ 4 ∷ []) 12 ∷ automatic reserved 0 (1 ∷ []) 15 ∷ []
+    ∷ automatic versions 0 (2 ∷ 4 ∷ []) 12 ∷ automatic reserved 0 (1 ∷ []) 15
+    ∷ automatic readers 0 (1 ∷ 2 ∷ []) 19 ∷ []
 
 -- the schema of a registry
 abbrev pub ours : Schema

@@ -1,4 +1,4 @@
--- The texts that make the tables of schema 1, in the order in which they are made.
+-- The texts that make the tables, in the order in which they are made.
 -- Ids of accounts, tokens and crates are u32 and count from 1, marks are 0 or 1, and no foreign key
 -- acts: what a row refers to is never taken away under it.
 use Rattle.std.specs.Prelude.{codes, List, ℕ, ◌++◌}
@@ -56,3 +56,21 @@ archives_text =
 -- the names that an administrator keeps back, beside those that are always reserved
 abbrev pub reserved_text : List ℕ
 reserved_text = codes "CREATE TABLE reserved (canon TEXT NOT NULL PRIMARY KEY) STRICT"
+
+-- of each crate the greatest version that is not yanked, and the length of its index file
+abbrev pub summaries_text : List ℕ
+summaries_text =
+    codes "CREATE TABLE summaries (crate INTEGER PRIMARY KEY REFERENCES crates (id), highest "
+    ++ codes "INTEGER NOT NULL REFERENCES versions (id), index_length INTEGER NOT NULL CHECK "
+    ++ codes "(index_length >= 0)) STRICT"
+
+-- the crates that are not for everyone
+abbrev pub restricted_text : List ℕ
+restricted_text =
+    codes "CREATE TABLE restricted (crate INTEGER PRIMARY KEY REFERENCES crates (id)) STRICT"
+
+-- who may read a restricted crate
+abbrev pub readers_text : List ℕ
+readers_text =
+    codes "CREATE TABLE readers (crate INTEGER NOT NULL REFERENCES crates (id), account INTEGER "
+    ++ codes "NOT NULL REFERENCES accounts (id), PRIMARY KEY (crate, account)) STRICT"

@@ -46,7 +46,7 @@ fn create_crate_tables<S: Alter>(conn: &mut Connection<S>) -> Result<(), Error>
     requires { HasCleanDisk (state S.Store conn.old) → HasMade (first_of_ours 4 3)
         (state S.Store conn.old) }
     ensures made { HasCleanDisk (state S.Store conn.new) → OnOk result
-        (Makes ours (state S.Store conn.old) (state S.Store conn.new)) }
+        (Makes (first_of_ours 9 7) (state S.Store conn.old) (state S.Store conn.new)) }
     ensures refused { HasCleanDisk (state S.Store conn.new) → OnErr result
         (KeepsCommit (state S.Store conn.old) (state S.Store conn.new)) }
     ensures survives { Survives (state S.Store conn.old) (state S.Store conn.new) (λ _. ⊥) }
@@ -56,6 +56,21 @@ fn create_crate_tables<S: Alter>(conn: &mut Connection<S>) -> Result<(), Error>
     texts::create_versions(conn)?;
     texts::create_archives(conn)?;
     texts::create_reserved(conn)?;
+    Ok(())
+}
+
+fn create_reader_tables<S: Alter>(conn: &mut Connection<S>) -> Result<(), Error>
+    requires { HasCleanDisk (state S.Store conn.old) → HasMade (first_of_ours 9 7)
+        (state S.Store conn.old) }
+    ensures made { HasCleanDisk (state S.Store conn.new) → OnOk result
+        (Makes ours (state S.Store conn.old) (state S.Store conn.new)) }
+    ensures refused { HasCleanDisk (state S.Store conn.new) → OnErr result
+        (KeepsCommit (state S.Store conn.old) (state S.Store conn.new)) }
+    ensures survives { Survives (state S.Store conn.old) (state S.Store conn.new) (λ _. ⊥) }
+{
+    texts::create_summaries(conn)?;
+    texts::create_restricted(conn)?;
+    texts::create_readers(conn)?;
     Ok(())
 }
 
@@ -69,7 +84,8 @@ pub fn create_tables<S: Alter>(conn: &mut Connection<S>) -> Result<(), Error>
     ensures survives { Survives (state S.Store conn.old) (state S.Store conn.new) (λ _. ⊥) }
 {
     create_token_tables(conn)?;
-    create_crate_tables(conn)
+    create_crate_tables(conn)?;
+    create_reader_tables(conn)
 }
 
 fn insert_about<S: Alter>(conn: &mut Connection<S>, base: &str) -> Result<usize, Error>

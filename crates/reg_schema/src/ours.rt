@@ -6,7 +6,10 @@ ghost use Rattle.sqlite_value.specs.Keys.{plain};
 ghost use Rattle.reg_schema.specs.Schema.{ours, our_tables, our_indexes};
 
 use crate::same::same_table;
-use crate::texts::{ABOUT, ACCOUNTS, ARCHIVES, CRATES, OWNERS, RESERVED, SCOPES, TOKENS, VERSIONS};
+use crate::texts::{
+    ABOUT, ACCOUNTS, ARCHIVES, CRATES, OWNERS, READERS, RESERVED, RESTRICTED, SCOPES, SUMMARIES,
+    TOKENS, VERSIONS,
+};
 use sqlite_resolve::define_table;
 use sqlite_schema::schema::{Index, Schema, Table};
 use sqlite_value::keys::Order;
@@ -23,7 +26,7 @@ fn is_table(alloc: Global, table: &Table, text: &str, tree: u32) -> Result<bool,
     Ok(table.tree == tree && same_table(table, &made))
 }
 
-// The nine tables stand in two functions, since the check of one grows faster than its steps.
+// The twelve tables stand in three functions, since the check of one grows faster than its steps.
 fn are_token_tables(alloc: Global, tables: &[Table]) -> Result<bool, AllocError>
     ensures { IfOk result (λ same. IsTrue same ↔ (tables.now ≡ take 4 our_tables)) }
 {
@@ -38,11 +41,11 @@ fn are_token_tables(alloc: Global, tables: &[Table]) -> Result<bool, AllocError>
     )
 }
 
-// The other five, which are of crates and of names.
+// The six that are of crates and of names.
 fn are_crate_tables(alloc: Global, tables: &[Table]) -> Result<bool, AllocError>
-    ensures { IfOk result (λ same. IsTrue same ↔ (tables.now ≡ drop 4 our_tables)) }
+    ensures { IfOk result (λ same. IsTrue same ↔ (tables.now ≡ take 6 (drop 4 our_tables))) }
 {
-    let [crates, owners, versions, archives, reserved] = tables else {
+    let [crates, owners, versions, archives, reserved, summaries] = tables else {
         return Ok(false);
     };
     Ok(
@@ -50,15 +53,33 @@ fn are_crate_tables(alloc: Global, tables: &[Table]) -> Result<bool, AllocError>
             & is_table(alloc, owners, OWNERS, 9)?
             & is_table(alloc, versions, VERSIONS, 11)?
             & is_table(alloc, archives, ARCHIVES, 13)?
-            & is_table(alloc, reserved, RESERVED, 14)?,
+            & is_table(alloc, reserved, RESERVED, 14)?
+            & is_table(alloc, summaries, SUMMARIES, 16)?,
     )
+}
+
+// The two that are of readers.
+fn are_reader_tables(alloc: Global, tables: &[Table]) -> Result<bool, AllocError>
+    ensures { IfOk result (λ same. IsTrue same ↔ (tables.now ≡ drop 10 our_tables)) }
+{
+    let [restricted, readers] = tables else {
+        return Ok(false);
+    };
+    Ok(is_table(alloc, restricted, RESTRICTED, 17)? & is_table(alloc, readers, READERS, 18)?)
+}
+
+fn are_first_tables(alloc: Global, tables: &[Table]) -> Result<bool, AllocError>
+    ensures { IfOk result (λ same. IsTrue same ↔ (tables.now ≡ take 10 our_tables)) }
+{
+    let (of_tokens, of_crates) = tables.split_at(tables.len().min(4));
+    Ok(are_token_tables(alloc, of_tokens)? & are_crate_tables(alloc, of_crates)?)
 }
 
 fn are_our_tables(alloc: Global, tables: &[Table]) -> Result<bool, AllocError>
     ensures { IfOk result (λ same. IsTrue same ↔ (tables.now ≡ our_tables)) }
 {
-    let (of_tokens, of_crates) = tables.split_at(tables.len().min(4));
-    Ok(are_token_tables(alloc, of_tokens)? & are_crate_tables(alloc, of_crates)?)
+    let (first, of_readers) = tables.split_at(tables.len().min(10));
+    Ok(are_first_tables(alloc, first)? & are_reader_tables(alloc, of_readers)?)
 }
 
 fn is_index(index: &Index, name: &str, table: u32, columns: &[usize]) -> bool
@@ -80,8 +101,8 @@ fn is_index(index: &Index, name: &str, table: u32, columns: &[usize]) -> bool
         && index.is_unique
 }
 
-fn are_our_indexes(indexes: &[Index]) -> bool
-    ensures { IsTrue result ↔ (indexes.now ≡ our_indexes) }
+fn are_first_indexes(indexes: &[Index]) -> bool
+    ensures { IsTrue result ↔ (indexes.now ≡ take 7 our_indexes) }
 {
     let [accounts, tokens, scopes, crates, owners, versions, reserved] = indexes else {
         return false;
@@ -93,6 +114,22 @@ fn are_our_indexes(indexes: &[Index]) -> bool
         & is_index(owners, "sqlite_autoindex_owners_1", 9, &[1, 2])
         & is_index(versions, "sqlite_autoindex_versions_1", 11, &[2, 4])
         & is_index(reserved, "sqlite_autoindex_reserved_1", 14, &[1])
+}
+
+fn are_reader_indexes(indexes: &[Index]) -> bool
+    ensures { IsTrue result ↔ (indexes.now ≡ drop 7 our_indexes) }
+{
+    let [readers] = indexes else {
+        return false;
+    };
+    is_index(readers, "sqlite_autoindex_readers_1", 18, &[1, 2])
+}
+
+fn are_our_indexes(indexes: &[Index]) -> bool
+    ensures { IsTrue result ↔ (indexes.now ≡ our_indexes) }
+{
+    let (first, of_readers) = indexes.split_at(indexes.len().min(7));
+    are_first_indexes(first) & are_reader_indexes(of_readers)
 }
 
 /// Whether this is the schema that `make_tables` makes.

@@ -48,6 +48,18 @@ pub(crate) const ARCHIVES: &str =
 
 pub(crate) const RESERVED: &str = "CREATE TABLE reserved (canon TEXT NOT NULL PRIMARY KEY) STRICT";
 
+pub(crate) const SUMMARIES: &str =
+    "CREATE TABLE summaries (crate INTEGER PRIMARY KEY REFERENCES crates (id), highest INTEGER \
+    NOT NULL REFERENCES versions (id), index_length INTEGER NOT NULL CHECK (index_length >= 0)) \
+    STRICT";
+
+pub(crate) const RESTRICTED: &str =
+    "CREATE TABLE restricted (crate INTEGER PRIMARY KEY REFERENCES crates (id)) STRICT";
+
+pub(crate) const READERS: &str =
+    "CREATE TABLE readers (crate INTEGER NOT NULL REFERENCES crates (id), account INTEGER NOT \
+    NULL REFERENCES accounts (id), PRIMARY KEY (crate, account)) STRICT";
+
 pub fn create_about<S: Alter>(conn: &mut Connection<S>) -> Result<usize, Error>
     requires { HasCleanDisk (state S.Store conn.old) → HasMade blank (state S.Store conn.old) }
     ensures made { HasCleanDisk (state S.Store conn.new) → OnOk result
@@ -147,10 +159,46 @@ pub fn create_reserved<S: Alter>(conn: &mut Connection<S>) -> Result<usize, Erro
     requires { HasCleanDisk (state S.Store conn.old) → HasMade (first_of_ours 8 6)
         (state S.Store conn.old) }
     ensures made { HasCleanDisk (state S.Store conn.new) → OnOk result
-        (Makes ours (state S.Store conn.old) (state S.Store conn.new)) }
+        (Makes (first_of_ours 9 7) (state S.Store conn.old) (state S.Store conn.new)) }
     ensures refused { HasCleanDisk (state S.Store conn.new) → OnErr result
         (Refuses (state S.Store conn.old) (state S.Store conn.new)) }
     ensures survives { Survives (state S.Store conn.old) (state S.Store conn.new) (λ _. ⊥) }
 {
     conn.execute(RESERVED, &[])
+}
+
+pub fn create_summaries<S: Alter>(conn: &mut Connection<S>) -> Result<usize, Error>
+    requires { HasCleanDisk (state S.Store conn.old) → HasMade (first_of_ours 9 7)
+        (state S.Store conn.old) }
+    ensures made { HasCleanDisk (state S.Store conn.new) → OnOk result
+        (Makes (first_of_ours 10 7) (state S.Store conn.old) (state S.Store conn.new)) }
+    ensures refused { HasCleanDisk (state S.Store conn.new) → OnErr result
+        (Refuses (state S.Store conn.old) (state S.Store conn.new)) }
+    ensures survives { Survives (state S.Store conn.old) (state S.Store conn.new) (λ _. ⊥) }
+{
+    conn.execute(SUMMARIES, &[])
+}
+
+pub fn create_restricted<S: Alter>(conn: &mut Connection<S>) -> Result<usize, Error>
+    requires { HasCleanDisk (state S.Store conn.old) → HasMade (first_of_ours 10 7)
+        (state S.Store conn.old) }
+    ensures made { HasCleanDisk (state S.Store conn.new) → OnOk result
+        (Makes (first_of_ours 11 7) (state S.Store conn.old) (state S.Store conn.new)) }
+    ensures refused { HasCleanDisk (state S.Store conn.new) → OnErr result
+        (Refuses (state S.Store conn.old) (state S.Store conn.new)) }
+    ensures survives { Survives (state S.Store conn.old) (state S.Store conn.new) (λ _. ⊥) }
+{
+    conn.execute(RESTRICTED, &[])
+}
+
+pub fn create_readers<S: Alter>(conn: &mut Connection<S>) -> Result<usize, Error>
+    requires { HasCleanDisk (state S.Store conn.old) → HasMade (first_of_ours 11 7)
+        (state S.Store conn.old) }
+    ensures made { HasCleanDisk (state S.Store conn.new) → OnOk result
+        (Makes ours (state S.Store conn.old) (state S.Store conn.new)) }
+    ensures refused { HasCleanDisk (state S.Store conn.new) → OnErr result
+        (Refuses (state S.Store conn.old) (state S.Store conn.new)) }
+    ensures survives { Survives (state S.Store conn.old) (state S.Store conn.new) (λ _. ⊥) }
+{
+    conn.execute(READERS, &[])
 }

@@ -8,12 +8,15 @@ mod CrateQueries
 mod CrateTexts
 mod OwnerQueries
 mod OwnerTexts
+mod PairQueries
+mod PairTexts
 mod ReservedQueries
 mod ReservedTexts
 mod ScopeQueries
 mod ScopeTexts
 mod TokenQueries
 mod TokenTexts
+mod Updates
 mod VersionQueries
 mod VersionRows
 mod VersionTexts

@@ -12,6 +12,7 @@ use Rattle.reg_schema.specs.Rows.{IsInOrder, by_column, keyed, mark, text_or_nul
 use Rattle.reg_schema.specs.Shown.{shown_of}
 use Rattle.reg_schema.specs.Tests.{is_text, shows}
 use Rattle.reg_statements.specs.declared.accounts.Account.{Account}
+use Rattle.reg_statements.specs.Updates.{KeepsWhereNone}
 
 -- a row as it stands in its tree
 abbrev pub account_row : ℕ → List ℕ → Option (List ℕ) → Bool → Row
@@ -38,10 +39,11 @@ IsAccountOfLogin login db found =
     map (shows account_places) (filter (is_text login_place login) (db accounts_tree))
     ≡ shown_of account_columns found
 
--- the account with this id is enabled or not, and no other table is touched
+-- the account with this id is enabled or not, where there is one, and no other table is touched
 pub record Enables (id : ℕ) (enabled : Bool) (old new : State) : Type 0 where
   pub replaced : (login : List ℕ) (name : Option (List ℕ)) (was : Bool)
       → filter (has_rowid (pos id)) (old.now.trees accounts_tree) ≡ account_row id login name was
       ∷ []
       → Replaces accounts_tree id (account_row id login name enabled) old new
+  pub unmatched : KeepsWhereNone accounts_tree (has_rowid (pos id)) old new
   pub touches : Touches accounts_tree old new

@@ -4,7 +4,10 @@ pub mod Archives
 pub mod Counts
 pub mod Crates
 pub mod Owners
+pub mod Pairs
 pub mod Reserved
+pub mod Rowids
 pub mod Scopes
 pub mod Tokens
+pub mod Updates
 pub mod Versions

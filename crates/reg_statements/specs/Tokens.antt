@@ -16,6 +16,7 @@ use Rattle.reg_schema.specs.Shown.{shown_of}
 use Rattle.reg_schema.specs.Tests.{is_blob, shows}
 use Rattle.reg_statements.specs.declared.tokens.Token.{Token}
 use Rattle.reg_statements.specs.declared.tokens.TokenRow.{TokenRow}
+use Rattle.reg_statements.specs.Updates.{KeepsWhereNone}
 
 -- the marks of the four endpoints
 abbrev pub endpoint_marks : Endpoints → Row
@@ -70,10 +71,11 @@ abbrev pub IsTokenOfDigest : List ℕ → Trees → Option TokenRow → Type 0
 IsTokenOfDigest digest db found = tokens_with_accounts digest db
     ≡ shown_of columns_with_account found
 
--- the token with this id is no longer live, and no other table is touched
+-- the token with this id is no longer live, where there is one, and no other table is touched
 pub record Revokes (id : ℕ) (old new : State) : Type 0 where
   pub replaced : (digest : List ℕ) (account : ℕ) (was : Bool) (e : Endpoints)
       → filter (has_rowid (pos id)) (old.now.trees tokens_tree) ≡ token_row id digest account was e
       ∷ []
       → Replaces tokens_tree id (token_row id digest account false e) old new
+  pub unmatched : KeepsWhereNone tokens_tree (has_rowid (pos id)) old new
   pub touches : Touches tokens_tree old new

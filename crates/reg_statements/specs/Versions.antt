@@ -10,6 +10,7 @@ use Rattle.reg_schema.specs.Places.{id_place, version_crate_place, versions_tree
 use Rattle.reg_schema.specs.Rows.{IsInOrder, by_column, keyed, mark, text_or_null}
 use Rattle.reg_schema.specs.Tests.{is_number, is_version, shows}
 use Rattle.reg_statements.specs.declared.versions.Version.{Version}
+use Rattle.reg_statements.specs.Updates.{KeepsWhereNone}
 
 -- a row as it stands in its tree
 abbrev pub version_row : ℕ → ℕ → List ℕ → List ℕ → List ℕ → List ℕ → Option (List ℕ) → Bool → Row
@@ -41,7 +42,8 @@ AreVersions db list =
     IsInOrder (by_column id_place) (db versions_tree) (shows version_places)
     (map columns_of_version list)
 
--- the version of the crate with this text is yanked or not, and no other table is touched
+-- the version of the crate with this text is yanked or not, where there is one, and no other table
+-- is touched
 pub record MarksYanked (of_crate : ℕ) (release vers : List ℕ) (yanked : Bool) (old new : State)
     : Type 0 where
   pub replaced : (id : ℕ) (digest stem : List ℕ) (description : Option (List ℕ)) (was : Bool)
@@ -49,4 +51,5 @@ pub record MarksYanked (of_crate : ℕ) (release vers : List ℕ) (yanked : Bool
       ≡ version_row id of_crate vers release digest stem description was ∷ []
       → Replaces versions_tree id
       (version_row id of_crate vers release digest stem description yanked) old new
+  pub unmatched : KeepsWhereNone versions_tree (is_version of_crate release vers) old new
   pub touches : Touches versions_tree old new

@@ -14,6 +14,7 @@ pub mod archives;
 pub mod crates;
 mod marks;
 pub mod owners;
+pub mod pairs;
 mod records;
 pub mod reserved;
 pub mod scopes;

@@ -6,34 +6,15 @@ ghost use Rattle.reg_schema.specs.Places.{owners_tree};
 ghost use Rattle.reg_schema.specs.States.{IsReady};
 ghost use Rattle.reg_schema.specs.Statements.{Reads, Writes, rows_in};
 ghost use Rattle.reg_schema.specs.Tests.{is_owner};
-ghost use Rattle.reg_statements.specs.Owners.{AreOwnersOf, AreOwnerships, IsOwned, columns_of_ownership, owner_columns};
+ghost use Rattle.reg_statements.specs.Owners.{AreOwnersOf, AreOwnerships, IsOwned, owner_columns};
 
 use crate::accounts::Account;
-use crate::records::FromRow;
 use crate::statements::{has_row, select_list, write};
-use sqlite::{Alter, Connection, Error, Row, params};
+use sqlite::{Alter, Connection, Error, params};
 use std::alloc::Global;
 
 /// A crate and an account that owns it.
-#[derive(Clone, Copy, Debug, PartialEq, Eq)]
-pub struct Ownership {
-    pub crate_id: u32,
-    pub account: u32,
-}
-
-impl FromRow for Ownership {
-    ghost columns = { columns_of_ownership };
-
-    fn from_row(row: &Row) -> Result<Ownership, Error> {
-        if row.column_count() != 2 {
-            return Err(Error::InvalidQuery);
-        }
-        Ok(Ownership {
-            crate_id: row.get(0)?,
-            account: row.get(1)?,
-        })
-    }
-}
+pub use crate::pairs::Pair as Ownership;
 
 /// Makes an account an owner of a crate.
 pub fn insert<S: Alter>(conn: &mut Connection<S>, crate_id: u32, account: u32) -> Result<(), Error>

@@ -1,11 +1,11 @@
 use Rattle.std.proofs.Common.{Ok}
 use Rattle.sqlite.specs.Held.{state}
 use Rattle.reg_schema.proofs.Writing.{writes_as}
-use Rattle.reg_statements.proofs.OwnerTexts.{inserts_owner, insert_writes}
+use Rattle.reg_statements.proofs.OwnerTexts.{inserts_owner, texts_are}
 use Rattle.reg_statements.proofs.owners.insert.Goals as goal
 
 pub write-requires-clause-writes : goal.write-requires-clause-writes
-write-requires-clause-writes g c = insert_writes
+write-requires-clause-writes g c = texts_are.insert_writes
 
 pub returns : goal.returns
 returns g c =

@@ -1,10 +1,10 @@
 use Rattle.sqlite.specs.Held.{state}
 use Rattle.reg_schema.proofs.Writing.{writes_as}
-use Rattle.reg_statements.proofs.TokenTexts.{revokes, revoke_writes}
+use Rattle.reg_statements.proofs.TokenTexts.{revokes, revoke_is}
 use Rattle.reg_statements.proofs.tokens.revoke.Goals as goal
 
 pub write-requires-clause-writes : goal.write-requires-clause-writes
-write-requires-clause-writes g c = revoke_writes
+write-requires-clause-writes g c = revoke_is.writing
 
 pub returns : goal.returns
 returns g c =

@@ -1,10 +1,10 @@
 use Rattle.sqlite.specs.Held.{state}
 use Rattle.reg_schema.proofs.Writing.{writes_as}
-use Rattle.reg_statements.proofs.VersionTexts.{yanks, yank_writes}
+use Rattle.reg_statements.proofs.VersionTexts.{yanks, yank_is}
 use Rattle.reg_statements.proofs.versions.set_yanked.Goals as goal
 
 pub write-requires-clause-writes : goal.write-requires-clause-writes
-write-requires-clause-writes g c = yank_writes
+write-requires-clause-writes g c = yank_is.writing
 
 pub returns : goal.returns
 returns g c =

@@ -1,7 +1,7 @@
 use Rattle.std.proofs.Common.{arith, sym, ◌∙◌}
 use Rattle.reg_schema.proofs.Edits.{both_true}
 use Rattle.reg_schema.proofs.OursLists.{item, past, stands, and_true, accounts_index, tokens_index, scopes_index, crates_index, owners_index, versions_index, reserved_index}
-use Rattle.reg_schema.proofs.ours.are_our_indexes.Goals as goal
+use Rattle.reg_schema.proofs.ours.are_first_indexes.Goals as goal
 
 pub returns : goal.returns
 returns c =
