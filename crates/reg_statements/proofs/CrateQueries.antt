@@ -1,6 +1,9 @@
 -- What the queries on crates answer.
-use Rattle.std.proofs.Common.{ℕ, List, [], ◌∷◌, codes, map, Option, refl}
-use Rattle.sqlite.specs.declared.types.Value.TheVariants.{Text}
+use Rattle.sqlite_trees.specs.Tree.{has_rowid}
+use Rattle.std.specs.Prelude.{not}
+use Rattle.sqlite.specs.Order.{Row}
+use Rattle.std.proofs.Common.{not, ◌==◌, ◌≡◌, ℕ, List, [], ◌∷◌, codes, map, Option, refl, Bool, pos, ◌≡◌, length, ◌∙◌}
+use Rattle.sqlite.specs.declared.types.Value.TheVariants.{Text, Int}
 use Rattle.sqlite.specs.Collation.TheVariants.{Binary}
 use Rattle.sqlite_value.specs.Keys.{ascending}
 use Rattle.sqlite.specs.Term.{Term, col}
@@ -14,18 +17,18 @@ use Rattle.reg_schema.specs.States.{IsInside}
 use Rattle.reg_schema.proofs.Reading.{IsSelection, selected}
 use Rattle.reg_schema.specs.Rows.{number_columns}
 use Rattle.reg_schema.specs.Shown.{shown_of}
-use Rattle.reg_schema.specs.Tests.{is_text}
+use Rattle.reg_schema.specs.Tests.{is_text, shows}
 use Rattle.reg_schema.proofs.Counts.{counted}
 use Rattle.reg_schema.proofs.Greatest.{greatest, greatest_of}
 use Rattle.reg_schema.proofs.Queries.{plain}
 use Rattle.reg_schema.proofs.Selections.{of_table}
-use Rattle.reg_schema.proofs.ShownRows.{shown_exactly}
+use Rattle.reg_schema.proofs.ShownRows.{shown_exactly, any_shown}
 use Rattle.reg_schema.proofs.Sorted.{in_order}
-use Rattle.reg_schema.proofs.TableMatches.{equals_first, matches_text}
+use Rattle.reg_schema.proofs.TableMatches.{equals_first, matches_text, matches_number}
 use Rattle.reg_schema.proofs.WholeTables.{all_in_order, one_count}
 use Rattle.reg_statements.specs.declared.crates.Crate.{Crate}
 use Rattle.reg_statements.specs.Counts.{IsCount, IsLastId}
-use Rattle.reg_statements.specs.Crates.{AreCrates, IsCrateOfCanon, crate_columns}
+use Rattle.reg_statements.specs.Crates.{AreCrates, IsCrateOfCanon, crate_columns, IsCrateThere}
 
 abbrev project : List Term
 project = col 1 0 ∷ col 1 2 ∷ col 1 3 ∷ []
@@ -76,3 +79,16 @@ count_is = record { command = refl; unlisted = refl; plain = (refl, refl) }
 
 pub count : (old new : State) (n : ℕ) → IsInside old → Shown count_text [] old new (number_columns n ∷ []) → IsCount 7 old.now.trees n
 count old new n at h = one_count (overlay old.now.trees []) 7 n (selected count_is [] old new _ at h)
+
+abbrev pub by_id_text : List ℕ
+by_id_text = codes "SELECT id FROM crates WHERE id = ?1"
+
+pub by_id_is : IsSelection ours by_id_text (plain (inner 7 end) (equals_first 0) (col 1 0 ∷ [])) (codes "id" ∷ [])
+unfolding understood everything
+by_id_is = record { command = refl; unlisted = refl; plain = (refl, refl) }
+
+pub by_id : (old new : State) (id : ℕ) (rows : List Row) (there : Bool) → IsInside old → Shown by_id_text (Int (pos id) ∷ []) old new rows → there ≡ not (length rows == 0) → IsCrateThere id old.now.trees there
+by_id old new id rows there at h is =
+    let db = overlay old.now.trees [] in
+    is ∙ any_shown (has_rowid (pos id)) (shows (0 ∷ [])) _ rows
+    (of_table db (Int (pos id) ∷ []) 7 (equals_first 0) (col 1 0 ∷ []) rows (has_rowid (pos id)) (matches_number db 7 0 id) (selected by_id_is (Int (pos id) ∷ []) old new rows at h))

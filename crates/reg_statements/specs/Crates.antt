@@ -1,4 +1,7 @@
 -- The table of crates.
+use Rattle.sqlite_trees.specs.Tree.{has_rowid}
+use Rattle.std.specs.List.{list_any}
+use Rattle.std.proofs.Common.{Bool}
 use Rattle.std.specs.Prelude.{◌≡◌, ℕ, pos, List, [], ◌∷◌, Option, map, filter, string_bytes}
 use Rattle.sqlite.specs.declared.types.Value.TheVariants.{Int, Text}
 use Rattle.sqlite.specs.Order.{Row}
@@ -31,3 +34,7 @@ abbrev pub IsCrateOfCanon : List ℕ → Trees → Option Crate → Type 0
 IsCrateOfCanon canon db found =
     map (shows crate_places) (filter (is_text crate_canon_place canon) (db crates_tree))
     ≡ shown_of crate_columns found
+
+-- whether a crate has this id
+abbrev pub IsCrateThere : ℕ → Trees → Bool → Type 0
+IsCrateThere id db there = there ≡ list_any (has_rowid (pos id)) (db crates_tree)

@@ -6,10 +6,10 @@ ghost use Rattle.reg_schema.specs.Places.{crates_tree};
 ghost use Rattle.reg_schema.specs.States.{IsReady};
 ghost use Rattle.reg_schema.specs.Statements.{Reads, Writes, rows_in};
 ghost use Rattle.reg_statements.specs.Counts.{IsCount, IsLastId};
-ghost use Rattle.reg_statements.specs.Crates.{AreCrates, IsCrateOfCanon, crate_columns, crate_row};
+ghost use Rattle.reg_statements.specs.Crates.{AreCrates, IsCrateOfCanon, IsCrateThere, crate_columns, crate_row};
 
 use crate::records::FromRow;
-use crate::statements::{select_list, select_number, select_one, write};
+use crate::statements::{has_row, select_list, select_number, select_one, write};
 use sqlite::{Alter, Connection, Error, Row, params};
 use std::alloc::Global;
 
@@ -65,6 +65,15 @@ pub fn by_canon<S: Alter>(conn: &mut Connection<S>, canon: &str) -> Result<Optio
         "SELECT id, canon, name FROM crates WHERE canon = ?1",
         params![canon],
     )
+}
+
+/// Whether there is a crate with this id.
+pub fn has_id<S: Alter>(conn: &mut Connection<S>, id: u32) -> Result<bool, Error>
+    requires { IsReady (state S.Store conn.old) }
+    ensures { Reads S.Store conn.old conn.new result
+        (IsCrateThere id (rows_in S.Store conn.old)) }
+{
+    has_row(conn, "SELECT id FROM crates WHERE id = ?1", params![id])
 }
 
 /// All the crates, in the order of their canonical names.

@@ -1,7 +1,9 @@
 -- Accounts that selections show.
+use Rattle.reg_stored.proofs.Numbered.{found_at, none_placed, one_placed}
+use Rattle.std.specs.Prelude.{IfSome}
 use Rattle.std.proofs.Common.{◌≡◌, ℕ, pos, List, [], ◌∷◌, map, Bool, true, false, Option, Some, None, refl, ap, ◌∙◌}
 use Rattle.std.specs.Option.{option_map}
-use Rattle.std.specs.List.{filter, enumerate_from}
+use Rattle.std.specs.List.{filter, enumerate_from, position_from}
 use Rattle.std.specs.Ordering.{is_eq}
 use Rattle.std.specs.Str.{bytes_eq}
 use Rattle.std.proofs.lemmas.Map.Text.{is_eq-slice_cmp}
@@ -64,3 +66,11 @@ module _ (accounts : List model.Account) (db : Trees) (stands : StandAccounts ac
   pub lists_accounts : (list : List Account) → IsInOrder (by_column 0) (db 1) (shows (0 ∷ 2 ∷ 3 ∷ 4 ∷ [])) (map account_columns list) → map entry_of_account list ≡ enumerate_from 1 accounts
   lists_accounts list h =
       selected_in_order row_of_account (shows (0 ∷ 2 ∷ 3 ∷ 4 ∷ [])) account_columns entry_of_account same_account (by_column 0) (column_total 0) (enumerate_from 1 accounts) (db 1) list stands.rows (places_rise row_of_account (λ e. refl) 1 accounts) h
+
+  -- the account that is found has its login first, and its id
+  pub account_found : (login : List ℕ) (found : Option Account) → map (shows (0 ∷ 2 ∷ 3 ∷ 4 ∷ [])) (filter (is_text 2 login) (db 1)) ≡ shown_of account_columns found
+      → (option_map (λ a. a.id) found ≡ position_from (λ a. bytes_eq a.login login) 1 accounts) × IfSome found (λ a. model.with_id accounts a.id ≡ Some (entry_of_account a).1)
+  account_found login None h = (none_placed (λ a. bytes_eq a.login login) 1 accounts (finds_account login None h), tt)
+  account_found login (Some a) h =
+      let one = finds_account login (Some a) h in
+      (one_placed (λ a. bytes_eq a.login login) 1 accounts (entry_of_account a) one, found_at (λ e. bytes_eq e.1.login login) a.id (entry_of_account a).1 accounts one)

@@ -18,7 +18,7 @@ use Rattle.sqlite_trees.specs.Tree.{IsAscending}
 use Rattle.sqlite_trees.proofs.ListLemmas.{ascending_from_map, pull_back}
 use Rattle.sqlite_value.proofs.OrderLemmas.{value_cmp-Text}
 use Rattle.reg_names.specs.Names.{canon}
-use Rattle.reg_model.specs.Registry.{Text as Words, Publication, text_cmp, owner_cmp, mark_cmp}
+use Rattle.reg_model.specs.Registry.{Text as Words, Publication, text_cmp, mark_cmp}
 use Rattle.reg_model.specs.Crates.{collides}
 use Rattle.reg_model.proofs.Lists.{list_any_map}
 use Rattle.reg_schema.specs.Rows.{IsInOrder, by_column}
@@ -26,12 +26,12 @@ use Rattle.reg_schema.proofs.Queries.{maps_twice}
 use Rattle.reg_statements.specs.declared.crates.Crate.{Crate}
 use Rattle.reg_statements.specs.Crates.{crate_columns}
 use Rattle.reg_stored.specs.Entries.{entry_of_crate}
-use Rattle.reg_stored.specs.Stands.{StoredCrate, row_of_crate, IsCrate, StandCrates}
+use Rattle.reg_stored.specs.Stands.{StoredCrate, row_of_crate, StandCrates, Ids, spelling_at}
 use Rattle.reg_schema.specs.Tests.{shows}
 use Rattle.reg_stored.proofs.CrateCounts.{crate_has}
 use Rattle.std.specs.Cmp.Lexicographic.{nat_list_eq_equiv}
 use Rattle.reg_stored.proofs.CrateLemmas.{same_bytes, bytes_same}
-use Rattle.reg_stored.proofs.CrateNames.{same_shown, crate_named}
+use Rattle.reg_stored.proofs.CrateNames.{same_shown, crate_first, crate_spelled}
 use Rattle.reg_model.proofs.Members.{IsIn, in_each, in_map, in_permuted, one_passes}
 use Rattle.reg_stored.proofs.Selected.{column_total, each}
 
@@ -68,8 +68,7 @@ module _ (ids : Ids) (ps : List Publication) (yanked : finset.FinSet mark_cmp) (
       let test : StoredCrate → Bool = λ x. bytes_eq (canon x.1) (canon n) in
       let one : filter test ids.crates ≡ e ∷ [] = one_passes (on canon_of bytes_eq) test ids.crates e h.canons
       (λ y z j k p q. bytes_same (canon y.1) (canon z.1) (same_bytes (canon y.1) (canon n) p ∙ sym (same_bytes (canon z.1) (canon n) q))) i (bytes_same (canon n) (canon n) refl) in
-      let told = crate_named ids ps yanked db h (canon n) n (Some c) refl one in
-      (sym told.0, told.1)
+      (sym (crate_first ids ps yanked db h (canon n) n (Some c) refl one), crate_spelled ids ps yanked db h (canon n) (Some c) one)
 
   -- the crates that are shown, and the order in which they are
   pub record Shown (list : List Crate) : Type 0 where

@@ -1,4 +1,6 @@
 -- The archive of a version, as a selection shows it.
+use Rattle.reg_stored.proofs.Yanks.{no_version}
+use Rattle.reg_stored.specs.Changes.{told_of}
 use Rattle.std.proofs.Common.{◌≡◌, ◌==◌, inl, inr, ℕ, pos, List, [], ◌∷◌, map, Bool, true, false, cond, Option, Some, None, refl, sym, ap, subst, ◌∙◌}
 use Rattle.std.specs.Prelude.{◌&&◌, Vec}
 use Rattle.std.specs.Option.{option_map}
@@ -17,16 +19,16 @@ use Rattle.sqlite.specs.Order.{Row}
 use Rattle.sqlite.specs.Tree.{Trees}
 use Rattle.sqlite_trees.proofs.ListLemmas.{IsPermutation-filter, IsPermutation-flat_map, IsPermutation-flat_map_each, flat_map-map}
 use Rattle.reg_versions.specs.Versions.{release_key_of}
-use Rattle.reg_model.specs.Registry.{Text as Words, Publication, owner_cmp, mark_cmp}
+use Rattle.reg_model.specs.Registry.{Text as Words, Publication, mark_cmp}
 use Rattle.reg_model.specs.Crates.{collides}
 use Rattle.reg_schema.proofs.Queries.{equals_int, maps_twice, same_filter}
 use Rattle.reg_statements.specs.Archives.{archives_of, is_archive_of, columns_of_bytes}
 use Rattle.reg_stored.specs.Entries.{one_of}
 use Rattle.reg_schema.specs.Shown.{shown_of}
-use Rattle.reg_stored.specs.Stands.{StoredVersion, row_of_version, row_of_archive, IsCrate, StandCrates}
+use Rattle.reg_stored.specs.Stands.{StoredVersion, row_of_version, row_of_archive, StandCrates, Ids, spelling_at}
 use Rattle.reg_schema.specs.Tests.{is_version, shows}
 use Rattle.reg_stored.proofs.AccountEntries.{same_text, heads}
-use Rattle.reg_stored.proofs.CrateLemmas.{crate_in, same_crate, same_bytes, bytes_same}
+use Rattle.reg_stored.proofs.CrateLemmas.{same_crate, same_bytes, bytes_same, there_at}
 use Rattle.reg_model.proofs.Members.{IsIn, distinct_from_map, in_filter, one_passes}
 use Rattle.reg_schema.proofs.Permutes.{filter_map}
 use Rattle.reg_stored.proofs.Selected.{short_same, shown_short}
@@ -85,9 +87,6 @@ text_alone t u = split (bytes_eq t u) refl
         no : (b : Bool) → (b && false) ≡ false
         no true = refl
         no false = refl
-
-nothing_in : (rows : List Row) → IsPermutation [] rows → rows ≡ []
-nothing_in rows h = short_same rows [] (IsPermutation-sym [] rows h) (omega arith)
 
 shown_none : (found : Option (Vec ℕ Global)) → [] ≡ shown_of columns_of_bytes found → option_map (λ b. b.items) found ≡ None
 shown_none None e = refl
@@ -158,11 +157,7 @@ module _ (ids : Ids) (ps : List Publication) (yanked : finset.FinSet mark_cmp) (
 
   -- no row of a version is of a crate that is not there
   no_archive : (id : ℕ) (text : Words) → spelling_at ids id ≡ None → archives_of id (release_key_of text) text db ≡ []
-  no_archive id text none =
-      let test = is_version id (release_key_of text) text in
-      let other : (v : StoredVersion) → IsIn v ids.versions → test (row v) ≡ false = λ v i. and_left _ _ (same_number v.of_crate id ∙ none_of ids ps yanked db h id none v i) in
-      let rows = subst (λ ys. IsPermutation ys (filter test (db 11))) (filter_map row test ids.versions ∙ ap (map row) (none_pass (λ v. test (row v)) ids.versions other)) (IsPermutation-filter test (map row ids.versions) (db 11) h.version_rows) in
-      ap (flat_map (λ r. map (shows (2 ∷ [])) (filter (is_archive_of r) (db 13)))) (nothing_in (filter test (db 11)) rows)
+  no_archive id text none = ap (flat_map (λ r. map (shows (2 ∷ [])) (filter (is_archive_of r) (db 13)))) (no_version ids ps yanked db h id text none)
 
   -- the archive of this version of the crate with this id; none where there is no crate
   pub finds_archive : (id : ℕ) (text : Words) (found : Option (Vec ℕ Global)) → archives_of id (release_key_of text) text db ≡ shown_of columns_of_bytes found

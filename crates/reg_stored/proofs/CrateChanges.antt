@@ -1,7 +1,10 @@
 -- What rows of crates and versions that are added are on the registry that they stand for.
-use Rattle.std.proofs.Common.{◌≡◌, ◌==◌, ℕ, ◌<◌, List, [], ◌∷◌, ◌++◌, map, Bool, true, false, ◌||◌, ◌&&◌, inl, refl, sym, ap, subst, ◌∙◌}
-use Rattle.std.specs.Prelude.{drop, nat_eq}
-use Rattle.std.specs.List.{list_any, IsDistinct}
+use Rattle.sqlite_rules.specs.Edit.{is_taken}
+use Rattle.reg_stored.proofs.Standing.{snoc_permutes}
+use Rattle.reg_stored.specs.Changes.{next_version, ids_with_version, next_crate, ids_with_crate}
+use Rattle.std.proofs.Common.{◌≡◌, ◌==◌, ℕ, ◌<◌, List, [], ◌∷◌, ◌++◌, map, Bool, true, false, ◌||◌, ◌&&◌, inl, refl, sym, ap, subst, ◌∙◌, ℤ, inr}
+use Rattle.std.specs.Prelude.{◌⊎◌}
+use Rattle.std.specs.List.{list_any, IsDistinct, AllByRecursion, list_all}
 use Rattle.std.specs.List.Sorted.{IsPermutation, IsStrictlySortedBy}
 use Rattle.std.specs.Ordering.{nat_cmp, on}
 use Rattle.std.specs.Cmp.Lexicographic.{nat_list_eq_equiv}
@@ -9,8 +12,7 @@ use Rattle.std.specs.Str.{bytes_eq}
 use Rattle.std.specs.FinSet as finset
 use Rattle.std.proofs.lemmas.Bool.{and_from, and_left, eq-eqb, eqb-true}
 use Rattle.std.proofs.lemmas.List.{map-append}
-use Rattle.std.proofs.lemmas.List.Sorted.{IsPermutation-cons, IsPermutation-map, IsPermutation-trans}
-use Rattle.std.proofs.lemmas.Map.Keys.{IsDistinct-cons}
+use Rattle.std.proofs.lemmas.Map.Keys.{IsDistinct-cons, IsDistinct-IsPermutation}
 use Rattle.sqlite.specs.Order.{Row}
 use Rattle.sqlite.specs.Tree.{Trees}
 use Rattle.sqlite.specs.declared.types.Value.TheVariants.{Int}
@@ -19,16 +21,15 @@ use Rattle.reg_names.specs.Names.{canon}
 use Rattle.reg_versions.specs.Versions.{release_key_of}
 use Rattle.reg_model.specs.Registry.{Publication, owner_cmp, mark_cmp}
 use Rattle.reg_model.proofs.Keys.{owner_total}
-use Rattle.reg_model.proofs.Lists.{not_true, true_not_false, or_right, or_left, all_push, all_so, any_more}
+use Rattle.reg_model.proofs.Lists.{not_true, true_not_false, all_push, all_so, any_more}
 use Rattle.reg_stored.specs.Additions.{AddsCrate, AddsVersion}
 use Rattle.reg_statements.specs.Owners.{owner_columns}
 use Rattle.reg_statements.specs.Versions.{version_row}
-use Rattle.reg_stored.specs.Stands.{StoredCrate, StoredPair, StoredVersion, row_of_crate, row_of_version, row_of_archive, columns_of_pair, StandCrates, HaveOwnRowids, IsCrate, is_of, is_owned}
-use Rattle.reg_stored.proofs.CrateLemmas.{pushed, text_itself, below_other, above_other, same_owner, other_owner, is_crate, is_published, version_of}
-use Rattle.reg_model.proofs.Members.{IsIn, any_in, all_in, in_any, none_in, each_in, in_each, in_last, map_in}
-use Rattle.reg_schema.proofs.Permutes.{put_permutes}
-use Rattle.reg_stored.proofs.Rising.{above, rises_on}
-use Rattle.reg_stored.proofs.Rowids.{own_put}
+use Rattle.reg_stored.specs.Stands.{StoredCrate, StoredPair, StoredVersion, row_of_crate, row_of_version, row_of_archive, columns_of_stored, StandCrates, is_of, Ids, StandPairs, is_paired}
+use Rattle.reg_stored.proofs.CrateLemmas.{pushed, text_itself, below_other, above_other, same_owner, other_owner, is_published, version_of}
+use Rattle.reg_model.proofs.Members.{IsIn, any_in, all_in, in_any, none_in, each_in, in_each, in_last, map_in, pushed_in}
+use Rattle.reg_stored.proofs.Rising.{above, rises_on, next_is}
+use Rattle.reg_stored.proofs.Rowids.{own_put, put_columns}
 
 -- a version that is added, behind all that are there
 module _ (yanked : finset.FinSet mark_cmp) (versions : List StoredVersion) (of_crate : ℕ) (p : Publication) (old new : Trees) (adds : AddsVersion of_crate p old new) where
@@ -140,16 +141,40 @@ module _ (ids : Ids) (publications : List Publication) (yanked : finset.FinSet m
       let k : version.id ≡ next_version ids = next_id_of ids yanked id p mid new version version_rows in
       subst (λ (it : Ids). StandCrates it (publications ++ p ∷ []) yanked new) (λ i. record { crates = ids.crates ++ (n i, p.name) ∷ []; versions = ids.versions ++ record { id = k i; of_crate = n i; publication = p } ∷ [] }) so
 
-  -- its owner
-  module _ (held : finset.FinSet owner_cmp) (stored : StandPairs ids.crates held (old 9)) (unowned : (account : ℕ) → finset.contains held (canon p.name, account) ≡ false) where
-    owner_below : (o : StoredPair) → IsIn o stored.pairs → o.0 < id
-    owner_below o i =
+  -- a relation that has no pair of its canonical text
+  module _ (held : finset.FinSet owner_cmp) (rows : List Row) (stored : StandPairs ids.crates held rows) (unheld : (account : ℕ) → finset.contains held (canon p.name, account) ≡ false) where
+    pair_below : (o : StoredPair) → IsIn o stored.pairs → o.0 < id
+    pair_below o i =
         let c = any_in (λ c. c.0 == o.0) ids.crates (all_in (λ o. list_any (λ c. c.0 == o.0) ids.crates) stored.pairs o stored.of_crates i) in
         subst (λ k. k < id) (eqb-true c.0.0 o.0 c.2) (below c.0 c.1)
 
     none_yet : (account : ℕ) → is_paired stored.pairs id account ≡ false
-    none_yet account = none_in (λ o. o.0 == id && o.1 == account) stored.pairs (λ o i. and_left (o.0 == id) (o.1 == account) (below_other o.0 id (owner_below o i)))
+    none_yet account = none_in (λ o. o.0 == id && o.1 == account) stored.pairs (λ o i. and_left (o.0 == id) (o.1 == account) (below_other o.0 id (pair_below o i)))
 
+    was_so : (c : StoredCrate) → IsIn c ids.crates → (account : ℕ) → finset.contains held (canon c.1, account) ≡ is_paired stored.pairs c.0 account
+    was_so c i = each_in (λ c. (account : ℕ) → finset.contains held (canon c.1, account) ≡ is_paired stored.pairs c.0 account) ids.crates c stored.same i
+
+    of_each : (P : StoredCrate → Type 0) → ((c : StoredCrate) → IsIn c ids.crates → P c) → P mine → AllByRecursion P crates_now
+    of_each P old_ones new_one = in_each P crates_now (λ c i. either c (pushed_in ids.crates mine c i))
+      where
+        either : (c : StoredCrate) → IsIn c ids.crates ⊎ (mine ≡ c) → P c
+        either c (inl i) = old_ones c i
+        either c (inr e) = subst P e new_one
+
+    still_of_crates : list_all (λ o. list_any (λ c. c.0 == o.0) crates_now) stored.pairs ≡ true
+    still_of_crates = all_so (λ o. list_any (λ c. c.0 == o.0) ids.crates) (λ o. list_any (λ c. c.0 == o.0) crates_now) (λ o h. any_more (λ c. c.0 == o.0) ids.crates (mine ∷ []) h) stored.pairs stored.of_crates
+
+    pub unpaired : StandPairs crates_now held rows
+    unpaired = record {
+      pairs = stored.pairs;
+      are = stored.are;
+      apart = stored.apart;
+      of_crates = still_of_crates;
+      once = stored.once;
+      same = of_each (λ c. (account : ℕ) → finset.contains held (canon c.1, account) ≡ is_paired stored.pairs c.0 account) was_so (λ account. unheld account ∙ sym (none_yet account));
+    }
+
+    -- and the same with its owner
     abbrev held_now : finset.FinSet owner_cmp
     held_now = finset.insert held (canon p.name, owner)
 
@@ -159,39 +184,29 @@ module _ (ids : Ids) (publications : List Publication) (yanked : finset.FinSet m
     of_new : (account : ℕ) → finset.contains held_now (canon p.name, account) ≡ is_paired pairs_now id account
     of_new account =
         let left : finset.contains held_now (canon p.name, account) ≡ ((owner == account) || false) =
-        finset.contains-insert owner_total held (canon p.name, owner) (canon p.name, account) ∙ (λ i. same_owner (canon p.name) account owner i || unowned account i) in
+        finset.contains-insert owner_total held (canon p.name, owner) (canon p.name, account) ∙ (λ i. same_owner (canon p.name) account owner i || unheld account i) in
         let right : is_paired pairs_now id account ≡ ((owner == account) || false) = λ i. (eq-eqb id id refl i && (owner == account)) || none_yet account i in
         left ∙ sym right
 
     of_old : (c : StoredCrate) → IsIn c ids.crates → (account : ℕ) → finset.contains held_now (canon c.1, account) ≡ is_paired pairs_now c.0 account
     of_old c i account =
-        let was = each_in (λ c. (account : ℕ) → finset.contains held (canon c.1, account) ≡ is_paired stored.pairs c.0 account) ids.crates c stored.same i account in
         finset.contains-insert owner_total held (canon p.name, owner) (canon c.1, account)
         ∙ ap (λ b. b || finset.contains held (canon c.1, account)) (other_owner (canon c.1) (canon p.name) account owner (other_canon c i))
-        ∙ was
+        ∙ was_so c i account
         ∙ sym (ap (λ b. b || is_paired stored.pairs c.0 account) (and_left (id == c.0) (owner == account) (above_other id c.0 (below c i))))
-
-    of_any : (c : StoredCrate) → IsIn c crates_now → (account : ℕ) → finset.contains held_now (canon c.1, account) ≡ is_paired pairs_now c.0 account
-    of_any c i = either (pushed_in ids.crates mine c i)
-      where
-        either : IsIn c ids.crates ⊎ (mine ≡ c) → (account : ℕ) → finset.contains held_now (canon c.1, account) ≡ is_paired pairs_now c.0 account
-        either (inl i) = of_old c i
-        either (inr e) = subst (λ (c : StoredCrate). (account : ℕ) → finset.contains held_now (canon c.1, account) ≡ is_paired pairs_now c.0 account) e of_new
 
     once : IsDistinct (λ a b. a.0 == b.0 && a.1 == b.1) pairs_now
     once =
         let o : StoredPair = (id, owner) in
         let same : StoredPair → StoredPair → Bool = λ a b. a.0 == b.0 && a.1 == b.1 in
-        IsDistinct-cons same o stored.pairs (in_each (λ b. same o b ≡ false) stored.pairs (λ b i. and_left (id == b.0) (owner == b.1) (above_other id b.0 (owner_below b i)))) stored.once
+        IsDistinct-cons same o stored.pairs (in_each (λ b. same o b ≡ false) stored.pairs (λ b i. and_left (id == b.0) (owner == b.1) (above_other id b.0 (pair_below b i)))) stored.once
 
-    pub first_owner : StandPairs crates_now held_now (put_row (Int crate.rowid ∷ owner_columns id owner) (old 9))
-    first_owner =
-        let still : (o : StoredPair) → list_any (λ c. c.0 == o.0) ids.crates ≡ true → list_any (λ c. c.0 == o.0) crates_now ≡ true = λ o h. any_more (λ c. c.0 == o.0) ids.crates (mine ∷ []) h in
-        record {
-          pairs = pairs_now;
-          are = put_columns columns_of_pair stored.pairs (old 9) stored.are (id, owner) crate.rowid crate.free;
-          apart = own_put crate.rowid (owner_columns id owner) (old 9) crate.free stored.apart;
-          of_crates = and_from _ _ (in_any (λ c. c.0 == id) crates_now mine (in_last ids.crates mine) (eq-eqb id id refl)) (all_so (λ o. list_any (λ c. c.0 == o.0) ids.crates) (λ o. list_any (λ c. c.0 == o.0) crates_now) still stored.pairs stored.of_crates);
-          once = once;
-          same = in_each (λ c. (account : ℕ) → finset.contains held_now (canon c.1, account) ≡ is_paired pairs_now c.0 account) crates_now of_any;
-        }
+    pub first_pair : (rowid : ℤ) → is_taken rows (Int rowid ∷ owner_columns id owner) ≡ false → StandPairs crates_now held_now (put_row (Int rowid ∷ owner_columns id owner) rows)
+    first_pair rowid free = record {
+      pairs = pairs_now;
+      are = put_columns columns_of_stored stored.pairs rows stored.are (id, owner) rowid free;
+      apart = own_put rowid (owner_columns id owner) rows free stored.apart;
+      of_crates = and_from _ _ (in_any (λ c. c.0 == id) crates_now mine (in_last ids.crates mine) (eq-eqb id id refl)) still_of_crates;
+      once = once;
+      same = of_each (λ c. (account : ℕ) → finset.contains held_now (canon c.1, account) ≡ is_paired pairs_now c.0 account) of_old of_new;
+    }

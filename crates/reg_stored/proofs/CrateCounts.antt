@@ -1,5 +1,5 @@
 -- How many accounts, tokens and crates the rows stand for.
-use Rattle.std.proofs.Common.{◌≡◌, ◌+◌, ◌==◌, ℕ, suc, pos, min, List, [], ◌∷◌, map, length, Bool, true, false, refl, sym, ap, ◌∙◌, arith}
+use Rattle.std.proofs.Common.{◌≡◌, ◌+◌, ◌==◌, ℕ, suc, pos, min, List, [], ◌∷◌, map, length, Bool, true, false, refl, sym, ap, ◌∙◌, arith, ◌<◌}
 use Rattle.std.specs.FinSet as finset
 use Rattle.std.specs.List.{list_any, enumerate_from, IsDistinct}
 use Rattle.std.specs.List.Sorted.{IsPermutation}
@@ -14,18 +14,20 @@ use Rattle.sqlite.specs.declared.types.Value.TheVariants.{Int}
 use Rattle.sqlite.specs.Order.{Row}
 use Rattle.sqlite.specs.Tree.{Trees}
 use Rattle.reg_names.specs.Names.{canon}
-use Rattle.reg_model.specs.Registry.{Text as Words, Publication, text_cmp, owner_cmp, mark_cmp}
+use Rattle.reg_model.specs.Registry.{Text as Words, Publication, text_cmp, mark_cmp}
 use Rattle.reg_model.proofs.Keys.{text_apart}
 use Rattle.reg_model.proofs.Lists.{any_same, list_any_map}
 use Rattle.reg_schema.specs.Rows.{capped}
-use Rattle.reg_stored.specs.Stands.{StoredCrate, StoredVersion, is_of, StandCrates}
+use Rattle.reg_stored.specs.Stands.{StoredCrate, StoredVersion, is_of, StandCrates, Ids}
 use Rattle.reg_stored.proofs.AccountEntries.{number_is}
 use Rattle.std.specs.Cmp.Lexicographic.{nat_list_eq_equiv}
 use Rattle.reg_stored.proofs.CrateLemmas.{same_bytes, bytes_same, crate_of}
 use Rattle.reg_model.proofs.Members.{any_in, in_any, none_in, all_in, each_in}
 
-pub count_is : {X : Type 0} (row : X → Row) (xs : List X) (rows : List Row) (n : ℕ) → IsPermutation (map row xs) rows → Int (pos n) ≡ capped (length rows) → n ≡ min (length xs) 9223372036854775807
-count_is row xs rows n h e = number_is e ∙ ap (λ k. min k 9223372036854775807) (length_permutation (map row xs) rows h ∙ length-map xs row)
+pub count_is : {X : Type 0} (row : X → Row) (xs : List X) (rows : List Row) (n m : ℕ) → (n ≡ m) × (n < 9223372036854775807) → IsPermutation (map row xs) rows → Int (pos m) ≡ capped (length rows) → n ≡ length xs
+count_is row xs rows n m is h e =
+    let many : m ≡ min (length xs) 9223372036854775807 = number_is e ∙ ap (λ k. min k 9223372036854775807) (length_permutation (map row xs) rows h ∙ length-map xs row) in
+    omega (arith, is.0, is.1, many)
 
 pub entries_long : {X : Type 0} (n : ℕ) (xs : List X) → length (enumerate_from n xs) ≡ length xs
 entries_long n [] = refl

@@ -1,15 +1,19 @@
 -- What the stored crates and versions say of one another.
-use Rattle.std.proofs.Common.{◌≡◌, ◌==◌, ℕ, ◌<◌, pos, List, [], ◌∷◌, ◌++◌, map, Bool, true, false, inl, refl, sym, ap, subst, ◌∙◌, arith}
-use Rattle.std.specs.Prelude.{nat_eq}
-use Rattle.std.specs.List.{list_any, IsDistinct}
-use Rattle.std.specs.List.Sorted.{IsPermutation}
-use Rattle.std.specs.Ordering.{on, eq_by_cmp}
+use Rattle.std.proofs.lemmas.Map.Keys.{IsDistinct-from_sorted}
+use Rattle.std.specs.Option.{option_map}
+use Rattle.sqlite_keyed.proofs.ListLemmas.{slice_get-filter}
+use Rattle.std.proofs.lemmas.Bool.Decides.{nat_tests}
+use Rattle.std.proofs.Common.{◌≡◌, ◌==◌, ℕ, ◌<◌, pos, List, [], ◌∷◌, ◌++◌, map, Bool, true, false, inl, refl, sym, ap, subst, ◌∙◌, arith, Some, None, cond, inr}
+use Rattle.std.specs.Prelude.{nat_eq, ◌||◌, slice_get}
+use Rattle.std.specs.List.{list_any, IsDistinct, find}
+use Rattle.std.specs.List.Sorted.{IsPermutation, IsStrictlySortedBy}
+use Rattle.std.specs.Ordering.{on, eq_by_cmp, nat_cmp, is_eq}
 use Rattle.std.specs.Cmp.{nat_eq_equiv}
 use Rattle.std.specs.Cmp.Lexicographic.{nat_list_eq_equiv}
 use Rattle.std.specs.Str.{bytes_eq}
 use Rattle.std.specs.FinSet as finset
 use Rattle.std.proofs.lemmas.Bool.{and_parts, eq-eqb, eqb-true, ne_eqb}
-use Rattle.std.proofs.lemmas.List.Sorted.{IsPermutation-cons, IsPermutation-map, IsPermutation-sym, IsPermutation-to_front, IsPermutation-trans}
+use Rattle.std.proofs.lemmas.List.Sorted.{IsPermutation-cons, IsPermutation-map, IsPermutation-sym, IsPermutation-to_front, IsPermutation-trans, list_any-IsPermutation}
 use Rattle.std.proofs.lemmas.Slice.Eq.{bytes_eq-Decides}
 use Rattle.sqlite.specs.Order.{Row}
 use Rattle.sqlite.specs.Tree.{Trees}
@@ -18,35 +22,39 @@ use Rattle.reg_names.specs.Names.{canon}
 use Rattle.reg_model.specs.Registry.{Text, Publication, Owner, owner_cmp, mark_cmp}
 use Rattle.reg_model.specs.Crates.{collides}
 use Rattle.reg_model.proofs.Keys.{owner_total, owner_apart, same_key, ties_itself}
-use Rattle.reg_model.proofs.Lists.{not_true, true_not_false}
-use Rattle.reg_stored.specs.Stands.{StoredCrate, StoredVersion, row_of_crate, StandCrates, IsCrate, is_of}
-use Rattle.reg_model.proofs.Members.{IsIn, any_in, all_in, in_filter, in_map, in_permuted, map_in, one_of, one_passes}
+use Rattle.reg_model.proofs.Lists.{not_true, true_not_false, any_same, list_any_map}
+use Rattle.reg_stored.specs.Stands.{StoredCrate, StoredVersion, row_of_crate, StandCrates, IsCrate, is_of, Ids, spelling_at}
+use Rattle.reg_model.proofs.Members.{IsIn, any_in, all_in, in_filter, in_map, in_permuted, map_in, one_of, one_passes, in_any, distinct_from_map}
 use Rattle.reg_schema.proofs.Permutes.{one_row}
 use Rattle.reg_stored.proofs.Standing.{same_number}
+
+-- SQL's numbers in an order, as their equality
+pub same_nat : (n m : ℕ) → is_eq (nat_cmp n m) ≡ (n == m)
+same_nat n m = grind (arith, nat_tests)
+
+same_test : ◌≡◌ {A = ℕ → ℕ → Bool} (eq_by_cmp nat_cmp) nat_eq
+same_test i a b = same_nat a b i
 
 -- what rises is apart
 pub apart_by : {X : Type 0} (key : X → ℕ) (xs : List X) → IsStrictlySortedBy nat_cmp (map key xs) → IsDistinct (on key nat_eq) xs
 apart_by key xs up = distinct_from_map nat_eq key xs (subst (λ e. IsDistinct e (map key xs)) same_test (IsDistinct-from_sorted nat_cmp (map key xs) up))
-  where
-    same_test : ◌≡◌ {A = ℕ → ℕ → Bool} (eq_by_cmp nat_cmp) nat_eq
-    same_test i a b = same_nat a b i
 
 -- the spelling at an id, and the crate that has it
 found_in : (id : ℕ) (name : Text) (crates : List StoredCrate) → option_map (λ c. c.1) (find (λ c. c.0 == id) crates) ≡ Some name → IsIn (id, name) crates
 found_in id name [] h = absurd cc
-found_in id name (c ∷ crates) h = split (c.0 == id) refl h
+found_in id name (c ∷ crates) h = split (c.0 == id) refl h (found_in id name crates)
   where
-    split : (b : Bool) → (c.0 == id) ≡ b → option_map (λ c. c.1) (cond b (Some c) (find (λ c. c.0 == id) crates)) ≡ Some name → IsIn (id, name) (c ∷ crates)
-    split true e h = inl (let n = eqb-true c.0 id e in let t : c.1 ≡ name = cc in λ i. (n i, t i))
-    split false e h = inr (found_in id name crates h)
+    split : (b : Bool) → (c.0 == id) ≡ b → option_map (λ c. c.1) (cond b (Some c) (find (λ c. c.0 == id) crates)) ≡ Some name → (option_map (λ c. c.1) (find (λ c. c.0 == id) crates) ≡ Some name → IsIn (id, name) crates) → IsIn (id, name) (c ∷ crates)
+    split true e h rest = inl (let n = eqb-true c.0 id e in let t : c.1 ≡ name = cc in λ i. (n i, t i))
+    split false e h rest = inr (rest h)
 
 none_found : (id : ℕ) (crates : List StoredCrate) → option_map (λ c. c.1) (find (λ c. c.0 == id) crates) ≡ None → list_any (λ c. c.0 == id) crates ≡ false
 none_found id [] h = refl
-none_found id (c ∷ crates) h = split (c.0 == id) h
+none_found id (c ∷ crates) h = split (c.0 == id) h (none_found id crates)
   where
-    split : (b : Bool) → option_map (λ c. c.1) (cond b (Some c) (find (λ c. c.0 == id) crates)) ≡ None → (b || list_any (λ c. c.0 == id) crates) ≡ false
-    split true h = absurd cc
-    split false h = none_found id crates h
+    split : (b : Bool) → option_map (λ c. c.1) (cond b (Some c) (find (λ c. c.0 == id) crates)) ≡ None → (option_map (λ c. c.1) (find (λ c. c.0 == id) crates) ≡ None → list_any (λ c. c.0 == id) crates ≡ false) → (b || list_any (λ c. c.0 == id) crates) ≡ false
+    split true h rest = absurd cc
+    split false h rest = rest h
 
 pub there_at : (ids : Ids) (id : ℕ) (name : Text) → spelling_at ids id ≡ Some name → IsIn (id, name) ids.crates
 there_at ids id name h = found_in id name ids.crates h
@@ -165,3 +173,14 @@ module _ (ids : Ids) (publications : List Publication) (yanked : finset.FinSet m
   none_of id none v i =
       let c = crate_of v i in
       not_true _ (λ e. true_not_false _ (in_any (λ c. c.0 == id) ids.crates c.0 c.1 (eq-eqb c.0.0 id (c.2 ∙ eqb-true v.of_crate id e))) (not_at ids id none))
+
+  -- whether its row is there
+  crate_row : (id : ℕ) → list_any (has_rowid (pos id)) (db 7) ≡ list_any (λ c. c.0 == id) ids.crates
+  crate_row id =
+      sym (list_any-IsPermutation (has_rowid (pos id)) (map row_of_crate ids.crates) (db 7) stands.crate_rows) ∙ list_any_map (has_rowid (pos id)) row_of_crate ids.crates ∙ any_same (λ c. has_rowid (pos id) (row_of_crate c)) (λ c. c.0 == id) (λ c. same_number c.0 id) ids.crates
+
+  pub crate_there : (id : ℕ) (name : Text) → IsIn (id, name) ids.crates → list_any (has_rowid (pos id)) (db 7) ≡ true
+  crate_there id name there = crate_row id ∙ in_any (λ c. c.0 == id) ids.crates (id, name) there (eq-eqb id id refl)
+
+  pub no_row : (id : ℕ) → spelling_at ids id ≡ None → list_any (has_rowid (pos id)) (db 7) ≡ false
+  no_row id none = crate_row id ∙ not_at ids id none

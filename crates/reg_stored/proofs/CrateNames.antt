@@ -8,17 +8,17 @@ use Rattle.std.specs.Str.{bytes_eq}
 use Rattle.std.proofs.lemmas.Bool.{and_parts}
 use Rattle.sqlite.specs.Tree.{Trees}
 use Rattle.reg_names.specs.Names.{canon}
-use Rattle.reg_model.specs.Registry.{Text as Words, Publication, owner_cmp, mark_cmp}
+use Rattle.reg_model.specs.Registry.{Text as Words, Publication, mark_cmp}
 use Rattle.reg_model.specs.Crates.{collides}
 use Rattle.reg_model.proofs.Lists.{true_not_false, not_true}
 use Rattle.reg_statements.specs.declared.crates.Crate.{Crate}
 use Rattle.reg_statements.specs.Crates.{crate_columns}
 use Rattle.reg_stored.specs.Entries.{one_of, entry_of_crate}
 use Rattle.reg_schema.specs.Shown.{shown_of}
-use Rattle.reg_stored.specs.Stands.{StoredCrate, StoredVersion, row_of_crate, is_of, IsCrate, StandCrates}
+use Rattle.reg_stored.specs.Stands.{StoredCrate, StoredVersion, row_of_crate, is_of, StandCrates, Ids, spelling_at}
 use Rattle.reg_schema.specs.Tests.{is_text, shows}
 use Rattle.reg_stored.proofs.AccountEntries.{same_text, number_is, words_are, heads, tails}
-use Rattle.reg_stored.proofs.CrateLemmas.{same_bytes, bytes_same, crate_of, is_crate}
+use Rattle.reg_stored.proofs.CrateLemmas.{same_bytes, bytes_same, crate_of, spelled_at}
 use Rattle.reg_model.proofs.Members.{IsIn, any_in, all_in, filtered_passes, in_filter}
 use Rattle.reg_stored.proofs.Selected.{selected_one}
 
@@ -67,15 +67,22 @@ module _ (ids : Ids) (ps : List Publication) (yanked : finset.FinSet mark_cmp) (
   in_named : (c : Words) (x : StoredCrate) → IsIn x ids.crates → named c x ≡ true → IsIn x (filter (named c) ids.crates)
   in_named c x i e = kept (named c) ids.crates x i e
 
-  pub crate_named : (c n : Words) (found : Option Crate) → canon n ≡ c → filter (named c) ids.crates ≡ one_of (option_map entry_of_crate found)
-      → (option_map (λ x. string_bytes x.name) found ≡ first_of ps n) × IfSome found (λ x. spelling_at ids x.id ≡ Some (string_bytes x.name))
-  crate_named c n None at e = (subst (λ qs. None ≡ first_of qs n) h.published (sym (none_first n ids.versions none)), tt)
+  -- it has its spelling at its id
+  pub crate_spelled : (c : Words) (found : Option Crate) → filter (named c) ids.crates ≡ one_of (option_map entry_of_crate found) → IfSome found (λ x. spelling_at ids x.id ≡ Some (string_bytes x.name))
+  crate_spelled c None e = tt
+  crate_spelled c (Some x) e =
+      let e0 = entry_of_crate x in
+      spelled_at ids ps yanked db h e0.0 e0.1 (in_filter (named c) ids.crates e0 (subst (IsIn e0) (sym e) (inl refl)))
+
+  -- and that of the first publication
+  pub crate_first : (c n : Words) (found : Option Crate) → canon n ≡ c → filter (named c) ids.crates ≡ one_of (option_map entry_of_crate found) → option_map (λ x. string_bytes x.name) found ≡ first_of ps n
+  crate_first c n None at e = subst (λ qs. None ≡ first_of qs n) h.published (sym (none_first n ids.versions none))
     where
       none : (v : StoredVersion) → IsIn v ids.versions → collides v.publication.name n ≡ false
       none v i =
           let of = crate_of ids ps yanked db h v i in
           not_true _ (λ met. subst (IsIn of.0) e (in_named c of.0 of.1 (bytes_same _ _ (ap canon of.3 ∙ same_bytes _ _ met ∙ at))))
-  crate_named c n (Some x) at e = (subst (λ qs. Some e0.1 ≡ first_of qs n) h.published (sym (some_first n e0.1 ids.versions spelled of.0 of.1 met)), spelled_at ids ps yanked db h e0.0 e0.1 there)
+  crate_first c n (Some x) at e = subst (λ qs. Some e0.1 ≡ first_of qs n) h.published (sym (some_first n e0.1 ids.versions spelled of.0 of.1 met))
     where
       e0 : StoredCrate
       e0 = entry_of_crate x

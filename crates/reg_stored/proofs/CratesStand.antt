@@ -1,5 +1,9 @@
 -- The whole registry after a change of its crates.
-use Rattle.std.proofs.Common.{◌≡◌, ℕ, List, [], ◌∷◌, ◌++◌, map, Bool, true, false, cond, Option, ap, subst, ◌∙◌}
+use Rattle.reg_statements.specs.Owners.{owner_columns}
+use Rattle.sqlite.specs.declared.types.Value.TheVariants.{Int}
+use Rattle.sqlite_trees.specs.Tree.{put_row}
+use Rattle.reg_stored.specs.Changes.{next_crate, ids_with_crate, ids_with_version, if_there, mark_at, with_mark}
+use Rattle.std.proofs.Common.{refl, sym, ◌≡◌, ℕ, List, [], ◌∷◌, ◌++◌, map, Bool, true, false, cond, Option, ap, subst, ◌∙◌, Some, sym, None}
 use Rattle.std.specs.Prelude.{drop}
 use Rattle.std.specs.List.{filter}
 use Rattle.std.specs.FinSet as finset
@@ -8,19 +12,19 @@ use Rattle.sqlite.specs.State.{State}
 use Rattle.sqlite.specs.Tree.{Trees}
 use Rattle.reg_names.specs.Names.{canon}
 use Rattle.reg_versions.specs.Versions.{release_key_of}
-use Rattle.reg_schema.specs.Changes.{KeepsOthers, Replaces}
-use Rattle.reg_model.specs.Registry.{Text, Publication, Registry, owner_cmp, mark_cmp}
+use Rattle.reg_schema.specs.Changes.{Replaces}
+use Rattle.reg_model.specs.Registry.{Text, Publication, Registry, owner_cmp}
 use Rattle.reg_model.specs.Crates.{exists}
 use Rattle.reg_model.specs.Sound.{Sound, has_version}
 use Rattle.reg_model.proofs.Lists.{none_both, not_true, true_not_false}
 use Rattle.reg_stored.specs.Additions.{KeepsAllBut, AddsCrate, AddsVersion}
-use Rattle.reg_statements.specs.Versions.{version_row}
+use Rattle.reg_statements.specs.Versions.{version_row, MarksYanked}
 use Rattle.reg_schema.specs.Tests.{is_version}
-use Rattle.reg_stored.specs.Stands.{StandCrates, Stands, IsCrate}
-use Rattle.reg_stored.proofs.CrateChanges.{adds_version, adds_crate, is_mine}
-use Rattle.reg_stored.proofs.CrateLemmas.{crate_in}
-use Rattle.reg_stored.proofs.Stays.{accounts_stay, tokens_stay, reserved_stay, same_about, same_accounts, same_tokens, same_scopes, same_crates, same_owners, same_archives, same_reserved}
-use Rattle.reg_stored.proofs.Yanks.{marks, target, row_found, yanks}
+use Rattle.reg_stored.specs.Stands.{StandCrates, Ids, StandsBy, Holds, StandPairs, spelling_at}
+use Rattle.reg_stored.proofs.CrateChanges.{adds_version, adds_crate, id_is, first_pair, unpaired}
+use Rattle.reg_stored.proofs.CrateLemmas.{there_at}
+use Rattle.reg_stored.proofs.Stays.{accounts_stay, tokens_stay, reserved_stay, same_crates, same_archives, pairs_stay, with_yanked, crates_stay}
+use Rattle.reg_stored.proofs.Yanks.{marks, target, row_found, yanks, no_such_version, no_version}
 
 -- the tables that are not of crates have the rows that they had
 record Rest (old new : Trees) : Type 0 where
@@ -29,6 +33,7 @@ record Rest (old new : Trees) : Type 0 where
   tokens : new 3 ≡ old 3
   scopes : new 5 ≡ old 5
   reserved : new 14 ≡ old 14
+  readers : new 18 ≡ old 18
 
 rest_then : (a b c : Trees) → Rest a b → Rest b c → Rest a c
 rest_then a b c first next = record {
@@ -37,6 +42,7 @@ rest_then a b c first next = record {
   tokens = next.tokens ∙ first.tokens;
   scopes = next.scopes ∙ first.scopes;
   reserved = next.reserved ∙ first.reserved;
+  readers = next.readers ∙ first.readers;
 }
 
 rest_of_crate : (old new : Trees) → KeepsAllBut 7 9 old new → Rest old new
@@ -46,6 +52,7 @@ rest_of_crate old new others = record {
   tokens = others.1.1.0 (λ e. cc) (λ e. cc);
   scopes = others.1.1.1.0 (λ e. cc) (λ e. cc);
   reserved = others.1.1.1.1.1.1.1.1.0 (λ e. cc) (λ e. cc);
+  readers = others.1.1.1.1.1.1.1.1.1.1.1.0 (λ e. cc) (λ e. cc);
 }
 
 rest_of_version : (old new : Trees) → KeepsAllBut 11 13 old new → Rest old new
@@ -55,19 +62,20 @@ rest_of_version old new others = record {
   tokens = others.1.1.0 (λ e. cc) (λ e. cc);
   scopes = others.1.1.1.0 (λ e. cc) (λ e. cc);
   reserved = others.1.1.1.1.1.1.1.1.0 (λ e. cc) (λ e. cc);
+  readers = others.1.1.1.1.1.1.1.1.1.1.1.0 (λ e. cc) (λ e. cc);
 }
 
-with_crates : (ids after : Ids) (s : Registry) (publications : List Publication) (owners : finset.FinSet owner_cmp) (old new : Trees) → Rest old new → StandsBy ids s old → StandCrates after publications s.yanked new → StandPairs after.crates owners (new 9)
+with_crates : (ids after : Ids) (s : Registry) (publications : List Publication) (owners : finset.FinSet owner_cmp) (old new : Trees) → Rest old new → StandsBy ids s old → StandCrates after publications s.yanked new → StandPairs after.crates owners (new 9) → StandPairs after.crates s.readers (new 18)
     → StandsBy after (record s { publications = publications; owners = owners }) new
-with_crates ids after s publications owners old new rest stands crates pairs = record {
+with_crates ids after s publications owners old new rest stands crates pairs readers = record {
   about = ap (map (λ r. drop 1 r)) rest.about ∙ stands.about;
   accounts = accounts_stay s.accounts old new rest.accounts stands.accounts;
   tokens = tokens_stay s.tokens old new rest.tokens rest.scopes stands.tokens;
   crates = crates;
   owners = pairs;
+  readers = readers;
   reserved = reserved_stay s.reserved old new rest.reserved stands.reserved;
   restricted = stands.restricted;
-  readers = stands.readers;
 }
 
 -- nothing is marked that is not there
@@ -86,10 +94,13 @@ adds_first ids s id owner p old mid new h fresh crate version =
     let same_crates : new 7 ≡ mid 7 = version.others.1.1.1.1.0 (λ e. cc) (λ e. cc) in
     let same_owners : new 9 ≡ mid 9 = version.others.1.1.1.1.1.0 (λ e. cc) (λ e. cc) in
     let is = id_is ids s.publications s.yanked old mid new stands.crates id owner p crate fresh in
+    let unread : (account : ℕ) → finset.contains s.readers (canon p.name, account) ≡ false = λ account. not_true _ (λ i. true_not_false (exists s p.name) (h.sound.readers (canon p.name) account i).0 fresh) in
     let crates = adds_crate ids s.publications s.yanked old mid new stands.crates id owner p crate fresh (unmarked s p h.sound new_version) same_versions same_archives same_crates version in
-    let pairs = first_owner ids s.publications s.yanked old mid new stands.crates id owner p crate fresh s.owners stands.owners unowned in
+    let pairs = first_pair ids s.publications s.yanked old mid new stands.crates id owner p crate fresh s.owners (old 9) stands.owners unowned crate.rowid crate.free in
     let owned = subst (StandPairs (ids_with_crate p ids).crates (finset.insert s.owners (canon p.name, owner))) (sym (same_owners ∙ crate.owners)) (subst (λ n. StandPairs (ids.crates ++ (n, p.name) ∷ []) (finset.insert s.owners (canon p.name, owner)) (put_row (Int crate.rowid ∷ owner_columns id owner) (old 9))) is pairs) in
-    (is, with_crates ids (ids_with_crate p ids) s _ _ old new rest stands crates owned)
+    let no_reader = unpaired ids s.publications s.yanked old mid new stands.crates id owner p crate fresh s.readers (old 18) stands.readers unread in
+    let read = subst (λ n. StandPairs (ids.crates ++ (n, p.name) ∷ []) s.readers (new 18)) is (pairs_stay (ids.crates ++ (id, p.name) ∷ []) s.readers (old 18) (new 18) rest.readers no_reader) in
+    (is, with_crates ids (ids_with_crate p ids) s _ _ old new rest stands crates owned read)
 
 pub adds_next : (ids : Ids) (s : Registry) (id : ℕ) (p : Publication) (old new : Trees) → Holds ids s old → spelling_at ids id ≡ Some p.name → has_version s (canon p.name) p.version ≡ false → AddsVersion id p old new
     → StandsBy (ids_with_version id p ids) (record s { publications = s.publications ++ p ∷ [] }) new
@@ -98,7 +109,9 @@ adds_next ids s id p old new h at fresh version =
     let same_crates : new 7 ≡ old 7 = version.others.1.1.1.1.0 (λ e. cc) (λ e. cc) in
     let same_owners : new 9 ≡ old 9 = version.others.1.1.1.1.1.0 (λ e. cc) (λ e. cc) in
     let pairs = pairs_stay ids.crates s.owners (old 9) (new 9) same_owners h.stands.owners in
-    with_crates ids (ids_with_version id p ids) s _ s.owners old new (rest_of_version old new version.others) h.stands (adds_version ids s.publications s.yanked old new h.stands.crates id p there (unmarked s p h.sound fresh) same_crates version) pairs
+    let rest = rest_of_version old new version.others in
+    let readers = pairs_stay ids.crates s.readers (old 18) (new 18) rest.readers h.stands.readers in
+    with_crates ids (ids_with_version id p ids) s _ s.owners old new rest h.stands (adds_version ids s.publications s.yanked old new h.stands.crates id p there (unmarked s p h.sound fresh) same_crates version) pairs readers
 
 -- what an update of the mark says, of the version that alone has the release and the text
 abbrev ReplacesMark : ℕ → Text → Text → Bool → State → State → Type 0
@@ -118,3 +131,22 @@ marks_one ids s id name text b old new h at published replaces =
     let replaced = replaces v.0.id p.digest p.stem p.description (finset.contains s.yanked (canon name, text)) row in
     let changed = yanks ids s.publications s.yanked before stands.crates h.sound.releases id name text there b v.0 v.1 after (same_crates 11 before after replaced.others (λ e. cc)) (same_archives 11 before after replaced.others (λ e. cc)) replaced.rows_are in
     with_yanked ids s before after stands (marks s.yanked (canon name) text b) replaced.others changed
+
+-- the same by the id alone: what is not there is not marked
+pub marks_at : (ids : Ids) (s : Registry) (id : ℕ) (text : Text) (b : Bool) (old new : State) → Holds ids s old.now.trees → MarksYanked id (release_key_of text) text b old new → StandsBy ids (mark_at ids id text b s) new.now.trees
+marks_at ids s id text b old new h marks = split (spelling_at ids id) refl
+  where
+    kept : filter (is_version id (release_key_of text) text) (old.now.trees 11) ≡ [] → StandsBy ids s new.now.trees
+    kept none =
+        let others = marks.touches.others in
+        let rows = marks.unmatched none in
+        let crates = crates_stay ids s.publications s.yanked old.now.trees new.now.trees (same_crates 11 old.now.trees new.now.trees others (λ e. cc)) rows (same_archives 11 old.now.trees new.now.trees others (λ e. cc)) h.stands.crates in
+        with_yanked ids s old.now.trees new.now.trees h.stands s.yanked others crates
+
+    split : (o : Option Text) → spelling_at ids id ≡ o → StandsBy ids (if_there o (with_mark text b) s) new.now.trees
+    split None none = kept (no_version ids s.publications s.yanked old.now.trees h.stands.crates id text none)
+    split (Some name) at = by (has_version s (canon name) text) refl
+      where
+        by : (c : Bool) → has_version s (canon name) text ≡ c → StandsBy ids (cond c (record s { yanked = cond b (finset.insert s.yanked (canon name, text)) (finset.remove s.yanked (canon name, text)) }) s) new.now.trees
+        by true there = marks_one ids s id name text b old new h at there marks.replaced
+        by false none = kept (no_such_version ids s.publications s.yanked old.now.trees h.stands.crates h.sound.releases id name text (there_at ids id name at) none)

@@ -23,12 +23,12 @@ use Rattle.reg_schema.proofs.Queries.{equals_int, same_filter}
 use Rattle.reg_statements.specs.declared.tokens.TokenRow.{TokenRow}
 use Rattle.reg_stored.specs.FoundTokens.{IsAccountOf, IsRow, login_and_mark, with_digest}
 use Rattle.reg_schema.specs.Shown.{shown_of}
-use Rattle.reg_stored.specs.Stands.{row_of_account, row_of_token, Stands}
+use Rattle.reg_stored.specs.Stands.{row_of_account, row_of_token, Ids, StandsBy}
 use Rattle.reg_schema.specs.Tests.{is_blob}
 use Rattle.reg_statements.specs.Tokens.{columns_with_account}
 use Rattle.reg_statements.specs.Tokens.{is_of_token, token_and_account, tokens_with_accounts}
 use Rattle.reg_stored.proofs.AccountEntries.{mark_is}
-use Rattle.reg_stored.proofs.Numbered.{one_at}
+use Rattle.reg_stored.proofs.Numbered.{one_at, found_at, none_numbered, one_found}
 use Rattle.reg_schema.proofs.Permutes.{filter_map, one_row}
 use Rattle.reg_stored.proofs.Selected.{short_same, shown_short}
 use Rattle.reg_stored.proofs.Standing.{same_number}
@@ -66,7 +66,7 @@ as_many f (r ∷ rows) h = length-append (f r) (flat_map f rows) ∙ omega (arit
 some_both : {t u : List ℕ} {b c : Bool} → t ≡ u → b ≡ c → ◌≡◌ {A = Option (List ℕ × Bool)} (Some (t, b)) (Some (u, c))
 some_both e f i = Some (e i, f i)
 
-module _ (s : model.Registry) (db : Trees) (stands : Stands s db) (digest : List ℕ) where
+module _ (ids : Ids) (s : model.Registry) (db : Trees) (stands : StandsBy ids s db) (digest : List ℕ) where
   abbrev Entry : Type 0
   Entry = ℕ × model.Token
 
@@ -122,10 +122,11 @@ module _ (s : model.Registry) (db : Trees) (stands : Stands s db) (digest : List
       let is : ◌≡◌ {A = List Entry} (e ∷ []) ((r.id, record { digest = digest; account = r.account; live = r.live; endpoints = r.endpoints; patterns = e.1.patterns }) ∷ []) = λ i.
       (id i, record { digest = digest_is i; account = account i; live = live i; endpoints = record { publish_new = publish_new i; publish_update = publish_update i; yank = yank i; change_owners = change_owners i }; patterns = e.1.patterns }) ∷ [] in
       let of_it : IsAccountOf s r = ap (λ k. option_map login_and_mark (model.with_id s.accounts k)) (sym account) ∙ ap (option_map login_and_mark) found ∙ some_both login enabled in
-      (e.1.patterns, one ∙ is, of_it)
+      let alone = one ∙ is in
+      (e.1.patterns, one_found (λ t. bytes_eq t.digest digest) 1 s.tokens _ alone, found_at passes r.id _ s.tokens alone, of_it)
 
   read : (es : List Entry) → with_digest s digest ≡ es → AllByRecursion IsKnown es → (o : Option TokenRow) → flat_map accounts_of (map row_of_token es) ≡ shown_of columns_with_account o → IsRow s digest o
-  read [] is h None shown = is
+  read [] is h None shown = none_numbered (λ t. bytes_eq t.digest digest) 1 s.tokens is
   read [] is h (Some r) shown = absurd cc
   read (e ∷ es) is h None shown =
       let many = as_many accounts_of (map row_of_token (e ∷ es)) (one_each (e ∷ es) h) in

@@ -11,6 +11,7 @@ mod Dropped
 mod FoundTokens
 mod NextId
 mod Numbered
+mod PairsStand
 mod PairChanges
 mod OwnerEntries
 pub mod Readings

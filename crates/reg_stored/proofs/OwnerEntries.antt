@@ -1,11 +1,13 @@
 -- Owners that a selection shows.
-use Rattle.std.proofs.Common.{◌≡◌, ◌==◌, ℕ, pos, Less, List, [], ◌∷◌, map, Bool, true, false, ◌&&◌, cond, refl, sym, ap, subst, ◌∙◌}
+use Rattle.reg_stored.proofs.PairChanges.{other_pair}
+use Rattle.reg_stored.specs.Changes.{told_of}
+use Rattle.std.proofs.Common.{None, Some, Option, ◌≡◌, ◌==◌, ℕ, pos, Less, List, [], ◌∷◌, map, Bool, true, false, ◌&&◌, cond, refl, sym, ap, subst, ◌∙◌, Option, Some}
 use Rattle.std.specs.Prelude.{drop}
 use Rattle.std.specs.FinSet as finset
 use Rattle.std.specs.List.{filter, flat_map, list_any, enumerate_from, AllByRecursion, IsDistinct}
 use Rattle.std.specs.List.Sorted.{IsPermutation}
 use Rattle.std.specs.Ordering.{is_eq}
-use Rattle.std.proofs.lemmas.Bool.{eqb-true, eq-eqb}
+use Rattle.std.proofs.lemmas.Bool.{eqb-true, eq-eqb, and_left}
 use Rattle.std.proofs.lemmas.List.Sorted.{IsPermutation-map, IsPermutation-sym, IsPermutation-trans}
 use Rattle.std.proofs.lemmas.Map.Keys.{IsDistinct-cons, IsDistinct-head, IsDistinct-tail}
 use Rattle.sqlite.specs.Collation.TheVariants.{Binary}
@@ -17,7 +19,7 @@ use Rattle.sqlite_schema.specs.Rules.{equal}
 use Rattle.sqlite_trees.specs.Tree.{IsAscending}
 use Rattle.sqlite_trees.proofs.ListLemmas.{IsPermutation-filter, IsPermutation-flat_map, IsPermutation-flat_map_each, flat_map-map, map-flat_map, flat_map_same_on}
 use Rattle.reg_names.specs.Names.{canon}
-use Rattle.reg_model.specs.Registry.{Account, Publication, owner_cmp, mark_cmp}
+use Rattle.reg_model.specs.Registry.{Account, owner_cmp}
 use Rattle.reg_model.proofs.Lists.{any_filter, any_same}
 use Rattle.reg_schema.specs.Rows.{IsInOrder, by_column}
 use Rattle.reg_schema.proofs.Queries.{equals_int, maps_twice, same_filter}
@@ -25,13 +27,13 @@ use Rattle.reg_statements.specs.declared.accounts.Account as record_of
 use Rattle.reg_stored.specs.Entries.{entry_of_account}
 use Rattle.reg_statements.specs.Accounts.{account_columns}
 use Rattle.reg_statements.specs.Owners.{accounts_of, is_of_owner}
-use Rattle.reg_stored.specs.Stands.{StoredPair, row_of_account, columns_of_pair, is_owned, IsCrate, StandAccounts, StandCrates}
+use Rattle.reg_stored.specs.Stands.{StoredPair, row_of_account, columns_of_stored, StandAccounts, StoredCrate, Ids, StandPairs, is_paired, spelling_at}
 use Rattle.reg_schema.specs.Tests.{is_number, shows}
 use Rattle.reg_stored.proofs.AccountEntries.{heads, tails, mark_is, number_is, text_is, words_are}
 use Rattle.std.specs.Cmp.{nat_eq_equiv}
-use Rattle.reg_stored.proofs.CrateLemmas.{crate_in}
+use Rattle.reg_stored.proofs.CrateLemmas.{there_at}
 use Rattle.reg_schema.proofs.Joined.{joined_once}
-use Rattle.reg_model.proofs.Members.{each_in}
+use Rattle.reg_model.proofs.Members.{each_in, none_pass, none_in}
 use Rattle.reg_schema.proofs.Permutes.{filter_map}
 use Rattle.reg_stored.proofs.Rowids.{first_column, second_column, keep_columns}
 use Rattle.reg_stored.proofs.Selected.{selected_in_order, column_total, places_rise}
@@ -98,13 +100,13 @@ module _ (accounts : List Account) (db : Trees) (stands : StandAccounts accounts
   abbrev account_of : StoredPair → List (ℕ × Account)
   account_of o = filter (λ e. e.0 == o.1) (enumerate_from 1 accounts)
 
-  of_owner : (o : StoredPair) → IsPermutation (map shown (account_of o)) (accounts_by (columns_of_pair o))
+  of_owner : (o : StoredPair) → IsPermutation (map shown (account_of o)) (accounts_by (columns_of_stored o))
   of_owner o =
       let entries = enumerate_from 1 accounts in
-      let test = joins (columns_of_pair o) in
+      let test = joins (columns_of_stored o) in
       let kept = IsPermutation-filter test (map row_of_account entries) (db 1) stands.rows in
       let same = filter_map row_of_account test entries ∙ ap (map row_of_account) (same_filter (λ e. test (row_of_account e)) (λ e. e.0 == o.1) (λ e. equals_int (Int (pos e.0)) (pos o.1) ∙ same_number e.0 o.1) entries) in
-      subst (λ ys. IsPermutation ys (accounts_by (columns_of_pair o))) (maps_twice row_of_account show (account_of o)) (IsPermutation-map show (map row_of_account (account_of o)) (filter test (db 1)) (subst (λ ys. IsPermutation ys (filter test (db 1))) same kept))
+      subst (λ ys. IsPermutation ys (accounts_by (columns_of_stored o))) (maps_twice row_of_account show (account_of o)) (IsPermutation-map show (map row_of_account (account_of o)) (filter test (db 1)) (subst (λ ys. IsPermutation ys (filter test (db 1))) same kept))
 
 module _ (crates : List StoredCrate) (held : finset.FinSet owner_cmp) (accounts : List Account) (db : Trees) (pairs : StandPairs crates held (db 9)) (stands : StandAccounts accounts db) (id : ℕ) where
   abbrev entries : List (ℕ × Account)
@@ -120,11 +122,11 @@ module _ (crates : List StoredCrate) (held : finset.FinSet owner_cmp) (accounts 
   is_owner_of e =
       any_filter (λ o. o.0 == id) (λ o. e.0 == o.1) pairs.pairs ∙ any_same (λ o. o.0 == id && e.0 == o.1) (λ o. o.0 == id && o.1 == e.0) (λ o. ap (λ b. (o.0 == id) && b) (nat_eq_equiv.symm e.0 o.1)) pairs.pairs
 
-  rows_of_it : IsPermutation (map columns_of_pair of_it) (map (drop 1) (filter (is_number 1 id) (db 9)))
+  rows_of_it : IsPermutation (map columns_of_stored of_it) (map (drop 1) (filter (is_number 1 id) (db 9)))
   rows_of_it =
       let behind = λ (columns : Row). is_eq (value_cmp (column columns 0) (Int (pos id))) in
-      let kept = keep_columns columns_of_pair pairs.pairs (db 9) pairs.are (is_number 1 id) behind (λ r. ap (λ v. is_eq (value_cmp v (Int (pos id)))) (first_column r)) in
-      subst (λ os. IsPermutation (map columns_of_pair os) (map (drop 1) (filter (is_number 1 id) (db 9)))) (same_filter (λ o. behind (columns_of_pair o)) (λ o. o.0 == id) (λ o. same_number o.0 id) pairs.pairs) kept
+      let kept = keep_columns columns_of_stored pairs.pairs (db 9) pairs.are (is_number 1 id) behind (λ r. ap (λ v. is_eq (value_cmp v (Int (pos id)))) (first_column r)) in
+      subst (λ os. IsPermutation (map columns_of_stored os) (map (drop 1) (filter (is_number 1 id) (db 9)))) (same_filter (λ o. behind (columns_of_stored o)) (λ o. o.0 == id) (λ o. same_number o.0 id) pairs.pairs) kept
 
   -- the rows of the accounts that own the crate
   owner_rows : IsPermutation (map shown (filter owns_it entries)) (accounts_of id db)
@@ -135,9 +137,9 @@ module _ (crates : List StoredCrate) (held : finset.FinSet owner_cmp) (accounts 
       let listed = joined_once (λ o e. e.0 == o.1) same_account apart entries of_it (accounts_apart id pairs.pairs pairs.once) in
       let mine = subst (IsPermutation (flat_map of of_it)) (same_filter (λ e. list_any (λ o. e.0 == o.1) of_it) owns_it is_owner_of entries) listed in
       let first = IsPermutation-map shown _ _ (IsPermutation-sym (flat_map of of_it) (filter owns_it entries) mine) in
-      let each_one = subst (λ xs. IsPermutation xs (flat_map (λ o. by (columns_of_pair o)) of_it)) (sym (map-flat_map shown of of_it)) (IsPermutation-flat_map_each (λ o. map shown (of o)) (λ o. by (columns_of_pair o)) (of_owner accounts db stands) of_it) in
-      let joined = subst (λ xs. IsPermutation xs (flat_map by (map (drop 1) rows))) (flat_map-map by columns_of_pair of_it) (IsPermutation-flat_map by (map columns_of_pair of_it) (map (drop 1) rows) rows_of_it) in
-      let all = IsPermutation-trans _ (map shown (flat_map of of_it)) _ first (IsPermutation-trans _ (flat_map (λ o. by (columns_of_pair o)) of_it) _ each_one joined) in
+      let each_one = subst (λ xs. IsPermutation xs (flat_map (λ o. by (columns_of_stored o)) of_it)) (sym (map-flat_map shown of of_it)) (IsPermutation-flat_map_each (λ o. map shown (of o)) (λ o. by (columns_of_stored o)) (of_owner accounts db stands) of_it) in
+      let joined = subst (λ xs. IsPermutation xs (flat_map by (map (drop 1) rows))) (flat_map-map by columns_of_stored of_it) (IsPermutation-flat_map by (map columns_of_stored of_it) (map (drop 1) rows) rows_of_it) in
+      let all = IsPermutation-trans _ (map shown (flat_map of of_it)) _ first (IsPermutation-trans _ (flat_map (λ o. by (columns_of_stored o)) of_it) _ each_one joined) in
       subst (IsPermutation (map shown (filter owns_it entries))) (sym (by_columns accounts db stands id)) all
 
   rising : IsAscending (λ a b. by_column 0 a b ≡ Less) (map shown (filter owns_it entries))
@@ -159,7 +161,7 @@ lists_owners ids held accounts db stands pairs id list h = split (spelling_at id
     split : (o : Option (List ℕ)) → spelling_at ids id ≡ o → map entry_of_account list ≡ told_of o [] (λ name. filter (λ o. finset.contains held (canon name, o.0)) (enumerate_from 1 accounts))
     split None none =
         listed ids.crates held accounts db pairs stands id list h
-        ∙ none_pass (λ (e : ℕ × Account). is_paired pairs.pairs id e.0) (enumerate_from 1 accounts) (λ e i. none_in (λ o. o.0 == id && o.1 == e.0) pairs.pairs (λ o k. and_left (o.0 == id) (o.1 == e.0) (other_pair ids held (db 9) pairs id none o k)))
+        ∙ none_pass (λ _ _. true) (λ (e : ℕ × Account). is_paired pairs.pairs id e.0) (enumerate_from 1 accounts) (λ e i. none_in (λ o. o.0 == id && o.1 == e.0) pairs.pairs (λ o k. and_left (o.0 == id) (o.1 == e.0) (other_pair ids held (db 9) pairs id none o k)))
     split (Some name) at =
         listed ids.crates held accounts db pairs stands id list h
         ∙ same_filter (λ (e : ℕ × Account). is_paired pairs.pairs id e.0) (λ e. finset.contains held (canon name, e.0)) (λ e. sym (each_in (λ c. (a : ℕ) → finset.contains held (canon c.1, a) ≡ is_paired pairs.pairs c.0 a) ids.crates (id, name) pairs.same (there_at ids id name at) e.0)) (enumerate_from 1 accounts)

@@ -1,5 +1,7 @@
 -- What a change of the rows of a relation is on the relation that they stand for.
-use Rattle.std.proofs.Common.{arith, ◌≡◌, ◌==◌, ℕ, pos, List, [], ◌∷◌, map, Bool, true, false, ◌||◌, ◌&&◌, not, refl, sym, ap, subst, ◌∙◌}
+use Rattle.sqlite_trees.specs.Tree.{put_row}
+use Rattle.sqlite_rules.specs.Edit.{is_taken}
+use Rattle.std.proofs.Common.{◌≡◌, ◌==◌, ℕ, pos, List, [], ◌∷◌, map, Bool, true, false, ◌||◌, ◌&&◌, not, refl, sym, ap, subst, ◌∙◌, ℤ, None}
 use Rattle.std.specs.Prelude.{drop, nat_eq}
 use Rattle.std.specs.List.{filter, list_any, AllByRecursion}
 use Rattle.std.specs.List.Sorted.{IsPermutation}
@@ -11,31 +13,27 @@ use Rattle.std.specs.Cmp.{IsEquivalence}
 use Rattle.std.specs.Cmp.Lexicographic.{nat_list_eq_equiv}
 use Rattle.std.specs.FinSet as finset
 use Rattle.std.proofs.lemmas.Cmp.{nat_eq_equiv}
-use Rattle.std.proofs.lemmas.Bool.Decides.{nat_tests}
-use Rattle.std.proofs.lemmas.Bool.{and_from, and_parts, eqb-true, or_parts}
+use Rattle.std.proofs.lemmas.Bool.{and_from, and_parts, eqb-true, or_parts, and_left, eq-eqb}
 use Rattle.std.proofs.lemmas.Map.Keys.{IsDistinct-cons}
 use Rattle.std.proofs.lemmas.Map.Text.{is_eq-slice_cmp}
 use Rattle.std.proofs.lemmas.Map.Views.{any-filter_same}
 use Rattle.sqlite.specs.declared.types.Value.TheVariants.{Int}
 use Rattle.sqlite.specs.Order.{Row, column, value_cmp}
-use Rattle.sqlite.specs.State.{State}
 use Rattle.sqlite.specs.Tree.{Trees}
 use Rattle.reg_names.specs.Names.{canon}
-use Rattle.reg_schema.specs.Changes.{KeepsOthers, AddsColumns, Removes}
 use Rattle.reg_schema.proofs.Queries.{same_filter}
-use Rattle.reg_model.specs.Registry.{Registry, Publication, owner_cmp, mark_cmp}
+use Rattle.reg_model.specs.Registry.{Publication, owner_cmp, mark_cmp}
 use Rattle.reg_model.proofs.Keys.{insert_again, owner_total, owner_apart}
-use Rattle.reg_model.proofs.Lists.{any_same}
+use Rattle.reg_model.proofs.Lists.{any_same, not_true, true_not_false}
 use Rattle.reg_statements.specs.Owners.{owner_columns}
-use Rattle.reg_stored.specs.Stands.{StoredCrate, StoredPair, row_of_crate, row_of_version, row_of_archive, columns_of_pair, is_owned, IsCrate, HaveOwnRowids, StandCrates, Stands}
+use Rattle.reg_stored.specs.Stands.{StoredCrate, StoredPair, columns_of_stored, StandCrates, Ids, is_paired, StandPairs, spelling_at}
 use Rattle.reg_schema.specs.Tests.{is_owner}
 use Rattle.reg_model.proofs.Alike.{alike}
-use Rattle.reg_stored.proofs.CrateLemmas.{crate_in}
-use Rattle.reg_model.proofs.Members.{IsIn, each_in, in_any, in_all, all_in, in_filter}
-use Rattle.reg_stored.proofs.Removed.{apart_kept, own_kept, removes_passing}
+use Rattle.reg_stored.proofs.CrateLemmas.{apart_by, same_nat, not_at}
+use Rattle.reg_model.proofs.Members.{IsIn, each_in, in_any, in_all, all_in, in_filter, none_in, any_in}
+use Rattle.reg_stored.proofs.Removed.{apart_kept, own_kept}
 use Rattle.reg_stored.proofs.Rowids.{first_column, second_column, own_put, any_columns, put_columns, keep_columns}
 use Rattle.reg_stored.proofs.Standing.{same_number}
-use Rattle.reg_stored.proofs.Stays.{accounts_stay, tokens_stay, reserved_stay, same_about, same_accounts, same_tokens, same_scopes, same_crates, same_versions, same_archives, same_reserved}
 
 -- the test of a row, as one of its columns
 abbrev has_pair : ℕ → ℕ → Row → Bool
@@ -47,12 +45,8 @@ behind id account r = rw (first_column r, second_column r) refl
 abbrev is_pair : ℕ → ℕ → StoredPair → Bool
 is_pair id account o = o.0 == id && o.1 == account
 
-pair_columns : (id account : ℕ) (o : StoredPair) → has_pair id account (columns_of_pair o) ≡ is_pair id account o
+pair_columns : (id account : ℕ) (o : StoredPair) → has_pair id account (columns_of_stored o) ≡ is_pair id account o
 pair_columns id account o = rw (same_number o.0 id, same_number o.1 account) refl
-
--- SQL's numbers in an order, as their equality
-same_nat : (n m : ℕ) → is_eq (nat_cmp n m) ≡ (n == m)
-same_nat n m = grind (arith, nat_tests)
 
 same_pair : (a b : Ordering) → is_eq (ordering_then a b) ≡ (is_eq a && is_eq b)
 same_pair Less b = refl
@@ -106,7 +100,7 @@ module _ (ids : Ids) (publications : List Publication) (yanked : finset.FinSet m
     module _ (rows : List Row) (pairs : StandPairs ids.crates held rows) where
       pub is_there : list_any (is_owner id account) rows ≡ finset.contains held (canon name, account)
       is_there =
-          any_columns columns_of_pair pairs.pairs rows pairs.are (is_owner id account) (has_pair id account) (behind id account) ∙ any_same (λ o. has_pair id account (columns_of_pair o)) (is_pair id account) (pair_columns id account) pairs.pairs
+          any_columns columns_of_stored pairs.pairs rows pairs.are (is_owner id account) (has_pair id account) (behind id account) ∙ any_same (λ o. has_pair id account (columns_of_stored o)) (is_pair id account) (pair_columns id account) pairs.pairs
           ∙ sym (each_in (λ c. (account : ℕ) → finset.contains held (canon c.1, account) ≡ is_paired pairs.pairs c.0 account) ids.crates (id, name) pairs.same there account)
 
       pub adds_pair : finset.contains held (canon name, account) ≡ false → (rowid : ℤ) → is_taken rows (Int rowid ∷ owner_columns id account) ≡ false
@@ -116,8 +110,8 @@ module _ (ids : Ids) (publications : List Publication) (yanked : finset.FinSet m
           let none : is_paired pairs.pairs id account ≡ false = sym (each_in (λ c. (a : ℕ) → finset.contains held (canon c.1, a) ≡ is_paired pairs.pairs c.0 a) ids.crates (id, name) pairs.same there account) ∙ absent in
           record {
             pairs = o ∷ pairs.pairs;
-            are = put_columns columns_of_pair pairs.pairs rows pairs.are o rowid free;
-            apart = own_put rowid (columns_of_pair o) rows free pairs.apart;
+            are = put_columns columns_of_stored pairs.pairs rows pairs.are o rowid free;
+            apart = own_put rowid (columns_of_stored o) rows free pairs.apart;
             of_crates = and_from _ _ (in_any (λ c. c.0 == id) ids.crates (id, name) there (nat_eq_equiv.refl id)) pairs.of_crates;
             once = IsDistinct-cons (λ a b. a.0 == b.0 && a.1 == b.1) o pairs.pairs (none_paired pairs.pairs none) pairs.once;
             same = more_paired pairs.pairs ids.crates crates_alike pairs.same;
@@ -126,11 +120,11 @@ module _ (ids : Ids) (publications : List Publication) (yanked : finset.FinSet m
       pub removes_pair : StandPairs ids.crates (finset.remove held (canon name, account)) (filter (λ r. not (is_owner id account r)) rows)
       removes_pair =
           let stays : StoredPair → Bool = λ o. not (is_pair id account o) in
-          let kept = keep_columns columns_of_pair pairs.pairs rows pairs.are (λ r. not (is_owner id account r)) (λ columns. not (has_pair id account columns)) (λ r. ap not (behind id account r)) in
-          let same = same_filter (λ o. not (has_pair id account (columns_of_pair o))) stays (λ o. ap not (pair_columns id account o)) pairs.pairs in
+          let kept = keep_columns columns_of_stored pairs.pairs rows pairs.are (λ r. not (is_owner id account r)) (λ columns. not (has_pair id account columns)) (λ r. ap not (behind id account r)) in
+          let same = same_filter (λ o. not (has_pair id account (columns_of_stored o))) stays (λ o. ap not (pair_columns id account o)) pairs.pairs in
           record {
             pairs = filter stays pairs.pairs;
-            are = subst (λ os. IsPermutation (map columns_of_pair os) (map (drop 1) (filter (λ r. not (is_owner id account r)) rows))) same kept;
+            are = subst (λ os. IsPermutation (map columns_of_stored os) (map (drop 1) (filter (λ r. not (is_owner id account r)) rows))) same kept;
             apart = own_kept (λ r. not (is_owner id account r)) rows pairs.apart;
             of_crates = in_all (λ o. list_any (λ c. c.0 == o.0) ids.crates) (filter stays pairs.pairs) (λ o i. all_in (λ o. list_any (λ c. c.0 == o.0) ids.crates) pairs.pairs o pairs.of_crates (in_filter stays pairs.pairs o i));
             once = apart_kept (λ a b. a.0 == b.0 && a.1 == b.1) stays pairs.pairs pairs.once;
@@ -146,7 +140,7 @@ module _ (ids : Ids) (held : finset.FinSet owner_cmp) (rows : List Row) (pairs :
 
   pub none_passes : (account : ℕ) → list_any (is_owner id account) rows ≡ false
   none_passes account =
-      any_columns columns_of_pair pairs.pairs rows pairs.are (is_owner id account) (has_pair id account) (behind id account) ∙ any_same (λ o. has_pair id account (columns_of_pair o)) (is_pair id account) (pair_columns id account) pairs.pairs
+      any_columns columns_of_stored pairs.pairs rows pairs.are (is_owner id account) (has_pair id account) (behind id account) ∙ any_same (λ o. has_pair id account (columns_of_stored o)) (is_pair id account) (pair_columns id account) pairs.pairs
       ∙ none_in (is_pair id account) pairs.pairs (λ o i. and_left (o.0 == id) (o.1 == account) (other_pair o i))
 
 -- a pair that is there already is not added

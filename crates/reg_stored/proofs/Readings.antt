@@ -1,6 +1,7 @@
 -- What statements that only read leave, one after another.
-use Rattle.std.proofs.Common.{inl, inr, ◌∙◌}
-use Rattle.sqlite.specs.State.{State, IsUnchanged}
+use Rattle.std.proofs.Common.{inl, inr, ◌∙◌, Err, Ok, Result}
+use Rattle.sqlite.specs.State.{State, IsUnchanged, HasCleanDisk, Survives}
+use Rattle.reg_schema.specs.Steps.{LeavesSame}
 use Rattle.reg_schema.specs.States.{Refuses}
 
 pub same_then : (a b c : State) → IsUnchanged a b → IsUnchanged b c → IsUnchanged a c
@@ -19,3 +20,8 @@ refuses_after a b c one (inr back) = inr (record {
   unmarked = back.unmarked;
   counts = record { changes = back.counts.changes ∙ one.1.changes; last_rowid = back.counts.last_rowid ∙ one.1.last_rowid };
 })
+
+-- where all is as it was, it is so whatever is answered
+pub same_whatever : {U F : Type 0} (a b : State) (q : Result U F) → (HasCleanDisk b → IsUnchanged a b) → Survives a b (λ _. ⊥) → LeavesSame a b q
+same_whatever a b (Ok y) same survives = record { only = λ clean. (same clean, tt); survives = survives }
+same_whatever a b (Err e) same survives = record { only = λ clean. (tt, inl (same clean)); survives = survives }

@@ -3,7 +3,7 @@ use Rattle.std.proofs.Common.{◌≡◌, List, [], ◌∷◌, Bool, true, false,
 use Rattle.std.specs.List.{filter, list_any, AllByRecursion, IsDistinct}
 use Rattle.std.specs.Ordering.{is_eq}
 use Rattle.std.specs.Cmp.{IsEquivalence}
-use Rattle.std.proofs.lemmas.Bool.{or_from}
+use Rattle.std.proofs.lemmas.Bool.{or_from, or_parts}
 use Rattle.std.proofs.lemmas.Map.Keys.{IsDistinct-cons, IsDistinct-head, IsDistinct-tail}
 use Rattle.sqlite.specs.Order.{Row, value_cmp}
 use Rattle.sqlite_trees.specs.Tree.{rowid}
@@ -63,3 +63,10 @@ removes_passing test rows own =
     let passing = filter test rows in
     same_filter (λ row. not (is_at_one_of passing row)) (λ row. not (list_any (tied row) passing)) (λ row. ap not (at_one row passing (own_kept test rows own).1)) rows
     ∙ filter_same (λ row. not (list_any (tied row) passing)) (λ row. not (test row)) rows (all_weaker (λ row. list_any (tied row) passing ≡ test row) (λ row. not (list_any (tied row) passing) ≡ not (test row)) (λ row h. ap not h) rows (told tied test rows_tie rows own.0))
+
+-- where none passes, all are left
+pub keeps_all : (test : Row → Bool) (rows : List Row) → list_any test rows ≡ false → filter (λ row. not (test row)) rows ≡ rows
+keeps_all test [] h = refl
+keeps_all test (r ∷ rows) h =
+    let parts = or_parts (test r) (list_any test rows) h in
+    rw parts.0 (ap (λ rs. r ∷ rs) (keeps_all test rows parts.1))

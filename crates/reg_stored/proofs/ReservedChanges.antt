@@ -13,18 +13,17 @@ use Rattle.sqlite.specs.declared.types.Value.TheVariants.{Text}
 use Rattle.sqlite.specs.Order.{Row, column, value_cmp}
 use Rattle.sqlite.specs.State.{State}
 use Rattle.sqlite.specs.Tree.{Trees}
-use Rattle.reg_schema.specs.Changes.{KeepsOthers, AddsColumns, Removes}
+use Rattle.reg_schema.specs.Changes.{AddsColumns, Removes}
 use Rattle.reg_schema.proofs.Queries.{same_filter}
 use Rattle.reg_model.specs.Registry.{Registry, text_cmp}
 use Rattle.reg_model.proofs.Keys.{insert_again, text_apart}
 use Rattle.reg_model.proofs.Lists.{any_same}
 use Rattle.reg_statements.specs.Reserved.{reserved_columns}
-use Rattle.reg_stored.specs.Stands.{HaveOwnRowids, StandReserved, Stands}
+use Rattle.reg_stored.specs.Stands.{HaveOwnRowids, StandReserved, Ids, StandsBy}
 use Rattle.reg_schema.specs.Tests.{is_text}
 use Rattle.reg_stored.proofs.AccountEntries.{same_text}
 use Rattle.reg_stored.proofs.Removed.{own_kept, removes_passing}
 use Rattle.reg_stored.proofs.Rowids.{first_column, own_put, any_columns, put_columns, keep_columns}
-use Rattle.reg_stored.proofs.Stays.{accounts_stay, tokens_stay, crates_stay, same_about, same_accounts, same_tokens, same_scopes, same_crates, same_owners, same_versions, same_archives}
 
 -- the test of a row, as one of its columns
 abbrev has_canon : List ℕ → Row → Bool
@@ -64,16 +63,5 @@ module _ (reserved : finset.FinSet text_cmp) (c : List ℕ) where
       }
 
 -- what is there already is not added
-pub stays_reserved : (s : Registry) (c : List ℕ) (db : Trees) → finset.contains s.reserved c ≡ true → Stands s db → Stands (record s { reserved = finset.insert s.reserved c }) db
-stays_reserved s c db there = subst (λ r. Stands (record s { reserved = r }) db) (sym (insert_again nat_list_cmp_total text_apart s.reserved c there))
-
-pub with_reserved : (s : Registry) (reserved : finset.FinSet text_cmp) (old new : Trees) → KeepsOthers 14 old new → Stands s old → StandReserved reserved new → Stands (record s { reserved = reserved }) new
-with_reserved s reserved old new others stands changed = record {
-  about = ap (map (λ r. drop 1 r)) (same_about 14 old new others (λ e. cc)) ∙ stands.about;
-  accounts = accounts_stay s.accounts old new (same_accounts 14 old new others (λ e. cc)) stands.accounts;
-  tokens = tokens_stay s.tokens old new (same_tokens 14 old new others (λ e. cc)) (same_scopes 14 old new others (λ e. cc)) stands.tokens;
-  crates = crates_stay ids s.publications s.yanked old new (same_crates 14 old new others (λ e. cc)) (same_owners 14 old new others (λ e. cc)) (same_versions 14 old new others (λ e. cc)) (same_archives 14 old new others (λ e. cc)) stands.crates;
-  reserved = changed;
-  restricted = stands.restricted;
-  readers = stands.readers;
-}
+pub stays_reserved : (ids : Ids) (s : Registry) (c : List ℕ) (db : Trees) → finset.contains s.reserved c ≡ true → StandsBy ids s db → StandsBy ids (record s { reserved = finset.insert s.reserved c }) db
+stays_reserved ids s c db there = subst (λ r. StandsBy ids (record s { reserved = r }) db) (sym (insert_again nat_list_cmp_total text_apart s.reserved c there))

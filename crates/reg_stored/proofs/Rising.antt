@@ -1,11 +1,12 @@
 -- Ids that rise: a next id is above each that is there.
-use Rattle.std.proofs.Common.{◌≡◌, ℕ, ◌<◌, ◌≤◌, pos, List, [], ◌∷◌, ◌++◌, map, Option, Some, None, Less, inl, inr, true, false, refl, sym, ap, subst, ◌∙◌, arith}
+use Rattle.reg_stored.specs.Stands.{next_of}
+use Rattle.std.proofs.Common.{◌≡◌, ℕ, ◌<◌, ◌≤◌, pos, List, [], ◌∷◌, ◌++◌, map, Option, Some, None, Less, inl, inr, true, false, refl, sym, ap, subst, ◌∙◌, arith, max, ◌+◌}
 use Rattle.std.specs.List.{AllByRecursion}
 use Rattle.std.specs.List.Sorted.{IsPermutation, IsSorted, IsStrictlySortedBy}
 use Rattle.std.specs.Cmp.{nat_cmp_is}
 use Rattle.std.specs.Ordering.{nat_cmp, is_gt, is_eq}
 use Rattle.std.proofs.lemmas.Bool.{eq-eqb}
-use Rattle.std.proofs.lemmas.List.Sorted.{IsPermutation-trans}
+use Rattle.std.proofs.lemmas.List.Sorted.{IsPermutation-trans, IsPermutation-sym}
 use Rattle.sqlite.specs.declared.types.Value.TheVariants.{Int}
 use Rattle.sqlite.specs.Order.{Row, column, value_cmp}
 use Rattle.sqlite_exec.proofs.PartitionLemmas.{ascending_from_sorted}
@@ -14,7 +15,7 @@ use Rattle.reg_model.proofs.Lists.{each_push}
 use Rattle.reg_stored.specs.Additions.{IsNextOf}
 use Rattle.reg_schema.specs.Greatest.{IsGreatest, row_of_id}
 use Rattle.reg_stored.specs.Ids.{IsNext}
-use Rattle.reg_model.proofs.Members.{IsIn, each_in, in_map, in_permuted}
+use Rattle.reg_model.proofs.Members.{IsIn, each_in, in_map, in_permuted, in_each, map_in}
 use Rattle.reg_stored.proofs.NextId.{falls, falls_total, no_more, none_shown, one_shown}
 use Rattle.reg_stored.proofs.Standing.{same_number}
 

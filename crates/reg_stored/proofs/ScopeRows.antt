@@ -1,9 +1,8 @@
 -- The scopes of tokens, by token and place.
-use Rattle.std.proofs.Common.{◌≡◌, ◌==◌, ℕ, suc, ◌+◌, ◌<◌, pos, Bool, true, false, cond, Some, slice_get, List, [], ◌∷◌, ◌++◌, map, Less, refl, sym, subst, ap, ap₂, ◌∙◌, arith}
+use Rattle.std.proofs.Common.{◌≡◌, ◌==◌, ℕ, ◌+◌, ◌<◌, pos, Bool, true, false, cond, Some, List, [], ◌∷◌, ◌++◌, map, Less, refl, sym, subst, ap, ap₂, ◌∙◌, arith}
 use Rattle.std.specs.Prelude.{drop}
 use Rattle.std.specs.List.{AllByRecursion, enumerate_from, filter, flat_map}
 use Rattle.std.specs.List.Sorted.{IsPermutation}
-use Rattle.std.proofs.lemmas.Bool.{ne_eqb}
 use Rattle.std.proofs.lemmas.List.{append-nil}
 use Rattle.std.proofs.lemmas.List.Elements.{filter-append}
 use Rattle.sqlite_trees.proofs.ListLemmas.{IsPermutation-filter}
@@ -121,28 +120,3 @@ module _ (id : ℕ) where
       let moved = IsPermutation-filter is_its all (map (λ r. drop 1 r) (db 5)) stands.scopes in
       let stand = subst (λ rs. IsPermutation rs (map (λ r. drop 1 r) (filter (is_number 1 id) (db 5)))) these (subst (IsPermutation (filter is_its all)) rows moved) in
       dropped_in_order (by_column 2) (by_column 1) by_second (column_total 1) (scopes_of (id, t)) (filter (is_number 1 id) (db 5)) out stand (steps_rise 0 t.patterns) (whole_scopes id 0 t.patterns) h
-
-same_head : {A : Type 0} {a b : A} {xs ys : List A} → ◌≡◌ {A = List A} (a ∷ xs) (b ∷ ys) → a ≡ b
-same_head e = cc
-
-at_once : (n id : ℕ) → n ≡ id → n + 0 ≡ id
-at_once n id h = omega (arith, h)
-
-at_last : (n i id : ℕ) → (n + 1) + i ≡ id → n + suc i ≡ id
-at_last n i id h = omega (arith, h)
-
--- an element that is found alone among those with ids is at its id
-in_place : (p : ℕ × Token → Bool) (n id : ℕ) (t : Token) (ts : List Token) → filter p (enumerate_from n ts) ≡ (id, t) ∷ [] → (i : ℕ) × (n + i ≡ id) × (slice_get ts i ≡ Some t)
-in_place p n id t [] h = absurd cc
-in_place p n id t (u ∷ ts) h = split (p (n, u)) (λ e. in_place p (n + 1) id t ts e) h
-  where
-    split : (b : Bool) → (filter p (enumerate_from (n + 1) ts) ≡ (id, t) ∷ [] → (i : ℕ) × ((n + 1) + i ≡ id) × (slice_get ts i ≡ Some t))
-        → cond b ((n, u) ∷ filter p (enumerate_from (n + 1) ts)) (filter p (enumerate_from (n + 1) ts)) ≡ (id, t) ∷ [] → (i : ℕ) × (n + i ≡ id) × (slice_get (u ∷ ts) i ≡ Some t)
-    split true deep e = let is : (n, u) ≡ (id, t) = same_head e in (0, at_once n id (ap (λ x. x.0) is), ap (λ x. Some x.1) is)
-    split false deep e = let later = deep e in (suc later.0, at_last n later.0 id later.1, later.2)
-
-pub found_at : (p : ℕ × Token → Bool) (id : ℕ) (t : Token) (ts : List Token) → filter p (enumerate_from 1 ts) ≡ (id, t) ∷ [] → with_id ts id ≡ Some t
-found_at p id t ts h =
-    let at = in_place p 1 id t ts h in
-    let other : (id == 0) ≡ false = ne_eqb id 0 (λ z. absurd (omega (arith, at.1, z))) in
-    rw other (ap (slice_get ts) (omega (arith, at.1)) ∙ at.2)

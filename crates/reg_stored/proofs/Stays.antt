@@ -9,7 +9,7 @@ use Rattle.sqlite.specs.Order.{Row}
 use Rattle.reg_schema.specs.Changes.{KeepsOthers}
 use Rattle.reg_model.specs.Registry.{Account, Token, Publication, Registry, text_cmp, owner_cmp, mark_cmp}
 use Rattle.reg_statements.specs.Reserved.{reserved_columns}
-use Rattle.reg_stored.specs.Stands.{row_of_account, row_of_token, row_of_crate, row_of_version, row_of_archive, columns_of_pair, scopes_of, HaveOwnRowids, StandAccounts, StandTokens, StandReserved, StandCrates, Stands}
+use Rattle.reg_stored.specs.Stands.{row_of_account, row_of_token, row_of_crate, row_of_version, row_of_archive, scopes_of, HaveOwnRowids, StandAccounts, StandTokens, StandReserved, StandCrates, Ids, StoredCrate, StandPairs, StandsBy}
 
 pub accounts_stay : (accounts : List Account) (old new : Trees) → new 1 ≡ old 1 → StandAccounts accounts old → StandAccounts accounts new
 accounts_stay accounts old new e h = record { rows = subst (IsPermutation (map row_of_account (enumerate_from 1 accounts))) (sym e) h.rows }
@@ -73,6 +73,15 @@ module _ (tree : ℕ) (old new : Trees) (others : KeepsOthers tree old new) wher
   pub same_reserved : 14 ≢ tree → new 14 ≡ old 14
   same_reserved h = others.1.1.1.1.1.1.1.1.0 h
 
+  pub same_summaries : 16 ≢ tree → new 16 ≡ old 16
+  same_summaries h = others.1.1.1.1.1.1.1.1.1.0 h
+
+  pub same_restricted : 17 ≢ tree → new 17 ≡ old 17
+  same_restricted h = others.1.1.1.1.1.1.1.1.1.1.0 h
+
+  pub same_readers : 18 ≢ tree → new 18 ≡ old 18
+  same_readers h = others.1.1.1.1.1.1.1.1.1.1.1.0 h
+
 module _ (ids : Ids) (s : Registry) (tree : ℕ) (old new : Trees) (others : KeepsOthers tree old new) (stands : StandsBy ids s old) where
   still_about : 0 ≢ tree → map (drop 1) (new 0) ≡ map (drop 1) (old 0)
   still_about h = ap (map (λ (r : Row). drop 1 r)) (same_about tree old new others h)
@@ -92,6 +101,9 @@ module _ (ids : Ids) (s : Registry) (tree : ℕ) (old new : Trees) (others : Kee
   still_reserved : 14 ≢ tree → StandReserved s.reserved new
   still_reserved h = reserved_stay s.reserved old new (same_reserved tree old new others h) stands.reserved
 
+  still_readers : 18 ≢ tree → StandPairs ids.crates s.readers (new 18)
+  still_readers h = pairs_stay ids.crates s.readers (old 18) (new 18) (same_readers tree old new others h) stands.readers
+
 -- The registry after a change of one table.
 module _ (ids : Ids) (s : Registry) (old new : Trees) (stands : StandsBy ids s old) where
   pub with_accounts : (accounts : List Account) → KeepsOthers 1 old new → StandAccounts accounts new → StandsBy ids (record s { accounts = accounts }) new
@@ -102,8 +114,8 @@ module _ (ids : Ids) (s : Registry) (old new : Trees) (stands : StandsBy ids s o
     crates = still_crates ids s 1 old new others stands (λ e. cc) (λ e. cc) (λ e. cc);
     owners = still_owners ids s 1 old new others stands (λ e. cc);
     reserved = still_reserved ids s 1 old new others stands (λ e. cc);
+    readers = still_readers ids s 1 old new others stands (λ e. cc);
     restricted = stands.restricted;
-    readers = stands.readers;
   }
 
   pub with_owners : (owners : finset.FinSet owner_cmp) → KeepsOthers 9 old new → StandPairs ids.crates owners (new 9) → StandsBy ids (record s { owners = owners }) new
@@ -114,8 +126,20 @@ module _ (ids : Ids) (s : Registry) (old new : Trees) (stands : StandsBy ids s o
     crates = still_crates ids s 9 old new others stands (λ e. cc) (λ e. cc) (λ e. cc);
     owners = changed;
     reserved = still_reserved ids s 9 old new others stands (λ e. cc);
+    readers = still_readers ids s 9 old new others stands (λ e. cc);
     restricted = stands.restricted;
-    readers = stands.readers;
+  }
+
+  pub with_readers : (readers : finset.FinSet owner_cmp) → KeepsOthers 18 old new → StandPairs ids.crates readers (new 18) → StandsBy ids (record s { readers = readers }) new
+  with_readers readers others changed = record {
+    about = still_about ids s 18 old new others stands (λ e. cc) ∙ stands.about;
+    accounts = still_accounts ids s 18 old new others stands (λ e. cc);
+    tokens = still_tokens ids s 18 old new others stands (λ e. cc) (λ e. cc);
+    crates = still_crates ids s 18 old new others stands (λ e. cc) (λ e. cc) (λ e. cc);
+    owners = still_owners ids s 18 old new others stands (λ e. cc);
+    reserved = still_reserved ids s 18 old new others stands (λ e. cc);
+    readers = changed;
+    restricted = stands.restricted;
   }
 
   pub with_reserved : (reserved : finset.FinSet text_cmp) → KeepsOthers 14 old new → StandReserved reserved new → StandsBy ids (record s { reserved = reserved }) new
@@ -126,8 +150,8 @@ module _ (ids : Ids) (s : Registry) (old new : Trees) (stands : StandsBy ids s o
     crates = still_crates ids s 14 old new others stands (λ e. cc) (λ e. cc) (λ e. cc);
     owners = still_owners ids s 14 old new others stands (λ e. cc);
     reserved = changed;
+    readers = still_readers ids s 14 old new others stands (λ e. cc);
     restricted = stands.restricted;
-    readers = stands.readers;
   }
 
   pub with_yanked : (yanked : finset.FinSet mark_cmp) → KeepsOthers 11 old new → StandCrates ids s.publications yanked new → StandsBy ids (record s { yanked = yanked }) new
@@ -138,8 +162,8 @@ module _ (ids : Ids) (s : Registry) (old new : Trees) (stands : StandsBy ids s o
     crates = changed;
     owners = still_owners ids s 11 old new others stands (λ e. cc);
     reserved = still_reserved ids s 11 old new others stands (λ e. cc);
+    readers = still_readers ids s 11 old new others stands (λ e. cc);
     restricted = stands.restricted;
-    readers = stands.readers;
   }
 
   -- both tables of tokens
@@ -151,6 +175,6 @@ module _ (ids : Ids) (s : Registry) (old new : Trees) (stands : StandsBy ids s o
     crates = still_crates ids s tree old new others stands (apart 7 (λ e. cc) (λ e. cc)) (apart 11 (λ e. cc) (λ e. cc)) (apart 13 (λ e. cc) (λ e. cc));
     owners = still_owners ids s tree old new others stands (apart 9 (λ e. cc) (λ e. cc));
     reserved = still_reserved ids s tree old new others stands (apart 14 (λ e. cc) (λ e. cc));
+    readers = still_readers ids s tree old new others stands (apart 18 (λ e. cc) (λ e. cc));
     restricted = stands.restricted;
-    readers = stands.readers;
   }

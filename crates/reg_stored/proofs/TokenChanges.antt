@@ -1,5 +1,8 @@
 -- What a change of the rows is on the tokens that they stand for.
-use Rattle.std.proofs.Common.{◌≡◌, ◌≢◌, ◌==◌, ℕ, zero, suc, ◌+◌, ◌-◌, ◌<◌, ◌≤◌, pos, Bool, true, false, cond, List, [], ◌∷◌, ◌++◌, map, length, take, get_or, not, Some, arith, refl, sym, ap, subst, ◌∙◌}
+use Rattle.reg_statements.specs.Tokens.{token_row}
+use Rattle.reg_statements.specs.Updates.{KeepsWhereNone}
+use Rattle.reg_model.specs.declared.endpoint.Endpoints.{Endpoints}
+use Rattle.std.proofs.Common.{◌≡◌, ◌==◌, ℕ, zero, suc, ◌+◌, ◌-◌, ◌<◌, ◌≤◌, pos, Bool, true, false, cond, List, [], ◌∷◌, ◌++◌, map, length, take, get_or, not, Some, arith, refl, sym, ap, subst, ◌∙◌, None, Option}
 use Rattle.std.specs.Prelude.{drop}
 use Rattle.std.specs.List.{filter, enumerate_from, flat_map}
 use Rattle.std.specs.List.Sorted.{IsPermutation}
@@ -10,28 +13,15 @@ use Rattle.sqlite.specs.Order.{Row}
 use Rattle.sqlite.specs.State.{State}
 use Rattle.sqlite.specs.Tree.{Trees}
 use Rattle.sqlite_trees.specs.Tree.{has_rowid}
-use Rattle.reg_schema.specs.Changes.{KeepsOthers, Adds, AddsColumns, Replaces}
+use Rattle.reg_schema.specs.Changes.{Adds, AddsColumns, Replaces, Touches}
 use Rattle.reg_schema.proofs.Queries.{same_filter}
-use Rattle.reg_model.specs.Registry.{Text, Token, Registry, with_id, change_at, change_place}
+use Rattle.reg_model.specs.Registry.{Text, Token, with_id, change_at, change_place}
 use Rattle.reg_stored.specs.Patterns.{GivesPatterns, with_last}
-use Rattle.reg_stored.specs.Stands.{row_of_token, scope_of, scopes_of, StandTokens, Stands}
-use Rattle.reg_stored.proofs.Numbered.{enumerate_snoc, one_at, changed_at}
+use Rattle.reg_stored.specs.Stands.{row_of_token, scope_of, scopes_of, StandTokens, StandsBy}
+use Rattle.reg_stored.proofs.Numbered.{enumerate_snoc, one_at, changed_at, change_none, none_at}
 use Rattle.reg_schema.proofs.Permutes.{put_permutes, put_replaces, one_row}
-use Rattle.reg_stored.proofs.Standing.{same_number, snoc_permutes}
-use Rattle.reg_stored.proofs.Stays.{accounts_stay, crates_stay, reserved_stay, same_about, same_accounts, same_tokens, same_scopes, same_crates, same_owners, same_versions, same_archives, same_reserved}
-
--- a change of tokens or scopes alone
-pub with_tokens : (s : Registry) (tokens : List Token) (tree : ℕ) (old new : Trees) → ((n : ℕ) → n ≢ 3 → n ≢ 5 → n ≢ tree) → KeepsOthers tree old new → Stands s old → StandTokens tokens new → Stands (record s { tokens = tokens }) new
-with_tokens s tokens tree old new apart others stands changed = record {
-  about = ap (map (λ r. drop 1 r)) (same_about tree old new others (apart 0 (λ e. cc) (λ e. cc))) ∙ stands.about;
-  accounts = accounts_stay s.accounts old new (same_accounts tree old new others (apart 1 (λ e. cc) (λ e. cc))) stands.accounts;
-  tokens = changed;
-  crates = crates_stay ids s.publications s.yanked old new (same_crates tree old new others (apart 7 (λ e. cc) (λ e. cc))) (same_owners tree old new others (apart 9 (λ e. cc) (λ e. cc))) (same_versions tree old new others (apart 11 (λ e. cc) (λ e. cc)))
-      (same_archives tree old new others (apart 13 (λ e. cc) (λ e. cc))) stands.crates;
-  reserved = reserved_stay s.reserved old new (same_reserved tree old new others (apart 14 (λ e. cc) (λ e. cc))) stands.reserved;
-  restricted = stands.restricted;
-  readers = stands.readers;
-}
+use Rattle.reg_stored.proofs.Standing.{same_number, snoc_permutes, none_row}
+use Rattle.reg_stored.proofs.Stays.{same_tokens, same_scopes, tokens_stay, with_tokens}
 
 -- a change that leaves the patterns leaves the scopes
 module _ (f : Token → Token) (same : (t : Token) → (f t).patterns ≡ t.patterns) where
@@ -135,12 +125,12 @@ module _ (t : Token) (ps : List Text) (p : Text) where
       }
 
 pub gives_none : (id : ℕ) (db : Trees) → GivesPatterns id [] db db
-gives_none id db s others t is none stands = subst (λ ps. Stands (with_last s others (record t { patterns = ps })) db) none stands
+gives_none id db ids s others t is none stands = subst (λ ps. StandsBy ids (with_last s others (record t { patterns = ps })) db) none stands
 
 pub gives_another : (id : ℕ) (ps : List Text) (p : Text) (place : ℕ) (first : Trees) (old new : State) → GivesPatterns id ps first old.now.trees → place ≡ length ps → AddsColumns 5 (scope_of id (place, p)) old new → GivesPatterns id (ps ++ p ∷ []) first new.now.trees
-gives_another id ps p place first old new given at adds s others t is none stands =
-    let before = given s others t is none stands in
-    with_tokens (with_last s others (record t { patterns = ps })) _ 5 old.now.trees new.now.trees (λ n _ apart. apart) adds.1.becomes.others before (adds_scope t ps p others old new before.tokens id place is at adds)
+gives_another id ps p place first old new given at adds ids s others t is none stands =
+    let before = given ids s others t is none stands in
+    with_tokens ids (with_last s others (record t { patterns = ps })) old.now.trees new.now.trees before _ 5 (λ n _ apart. apart) adds.1.becomes.others (adds_scope t ps p others old new before.tokens id place is at adds)
 
 -- the same, where the patterns are those of a list that stand before a place
 pub gives_next : (id : ℕ) (ps : List Text) (place : ℕ) (p : Text) (first : Trees) (old new : State) → place < length ps → p ≡ get_or ps place p → GivesPatterns id (take place ps) first old.now.trees → AddsColumns 5 (scope_of id (place, p)) old new
@@ -152,3 +142,17 @@ gives_next id ps place p first old new low is given adds =
 
 pub gives_all : (id : ℕ) (ps : List Text) (place : ℕ) (first last : Trees) → length ps ≤ place → GivesPatterns id (take place ps) first last → GivesPatterns id ps first last
 gives_all id ps place first last high given = subst (λ xs. GivesPatterns id xs first last) (take_all place ps high) given
+
+-- a token that is no longer live, where it is there
+pub ends_token : (tokens : List Token) (old new : State) → StandTokens tokens old.now.trees → (id : ℕ) → ((digest : List ℕ) (account : ℕ) (was : Bool) (e : Endpoints) → filter (has_rowid (pos id)) (old.now.trees 3) ≡ token_row id digest account was e ∷ [] → Replaces 3 id (token_row id digest account false e) old new)
+    → KeepsWhereNone 3 (has_rowid (pos id)) old new → Touches 3 old new → StandTokens (change_at (λ t. record t { live = false }) id tokens) new.now.trees
+ends_token tokens old new stands id replaced unmatched touches = split (with_id tokens id) refl
+  where
+    split : (o : Option Token) → with_id tokens id ≡ o → StandTokens (change_at (λ t. record t { live = false }) id tokens) new.now.trees
+    split None none =
+        let rows = none_row row_of_token (has_rowid (pos id)) (enumerate_from 1 tokens) (old.now.trees 3) stands.rows (same_filter _ _ (λ e. same_number e.0 id) (enumerate_from 1 tokens) ∙ none_at id tokens none) in
+        subst (λ ts. StandTokens ts new.now.trees) (sym (change_none (λ t. record t { live = false }) id tokens none))
+        (tokens_stay tokens old.now.trees new.now.trees (unmatched rows) (same_scopes 3 old.now.trees new.now.trees touches.others (λ e. cc)) stands)
+    split (Some t) found =
+        let row = replaced t.digest t.account t.live t.endpoints (token_row_at tokens t old new stands id found) in
+        replaces_token tokens t old new stands id (λ t. record t { live = false }) (λ t. refl) found row

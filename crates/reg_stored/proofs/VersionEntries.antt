@@ -1,5 +1,6 @@
 -- The versions of a crate, as a selection shows them.
-use Rattle.std.proofs.Common.{◌≡◌, ◌==◌, inl, inr, ℕ, ◌<◌, List, [], ◌∷◌, map, Bool, true, false, nat_lt, Less, Equal, Greater, refl, sym, ap, subst, ◌∙◌, arith}
+use Rattle.reg_stored.specs.Changes.{told_of}
+use Rattle.std.proofs.Common.{None, Some, Option, ◌≡◌, ◌==◌, inl, inr, ℕ, ◌<◌, List, [], ◌∷◌, map, Bool, true, false, nat_lt, Less, Equal, Greater, refl, sym, ap, subst, ◌∙◌, arith, Option, Some}
 use Rattle.std.specs.FinSet as finset
 use Rattle.std.specs.Cmp.{nat_cmp_is}
 use Rattle.std.specs.List.{filter}
@@ -10,18 +11,18 @@ use Rattle.sqlite.specs.declared.types.Value.TheVariants.{Blob}
 use Rattle.sqlite.specs.Tree.{Trees}
 use Rattle.sqlite_trees.specs.Tree.{IsAscending}
 use Rattle.sqlite_trees.proofs.ListLemmas.{ascending-filter, ascending-map, ascending_weaker, all_from_map, IsPermutation-filter}
-use Rattle.reg_model.specs.Registry.{Text as Words, Publication, owner_cmp, mark_cmp}
+use Rattle.reg_model.specs.Registry.{Text as Words, Publication, mark_cmp}
 use Rattle.reg_model.specs.Crates.{collides}
 use Rattle.reg_schema.specs.Rows.{IsInOrder, by_column}
 use Rattle.reg_schema.proofs.Queries.{same_filter, maps_twice}
 use Rattle.reg_statements.specs.declared.versions.Version.{Version}
 use Rattle.reg_statements.specs.Versions.{columns_of_version}
 use Rattle.reg_stored.specs.Entries.{shown_version, version_shown}
-use Rattle.reg_stored.specs.Stands.{StoredVersion, row_of_version, IsCrate, StandCrates}
+use Rattle.reg_stored.specs.Stands.{StoredVersion, row_of_version, StandCrates, Ids, spelling_at}
 use Rattle.reg_schema.specs.Tests.{is_number, shows}
 use Rattle.reg_stored.proofs.AccountEntries.{words_are, text_is, mark_is, heads, tails}
-use Rattle.reg_stored.proofs.CrateLemmas.{crate_in, same_crate}
-use Rattle.reg_model.proofs.Members.{IsIn}
+use Rattle.reg_stored.proofs.CrateLemmas.{same_crate, none_of, there_at}
+use Rattle.reg_model.proofs.Members.{IsIn, none_pass}
 use Rattle.reg_schema.proofs.Permutes.{filter_map}
 use Rattle.reg_stored.proofs.Selected.{shown_in_turn, each_part, column_total, number_below}
 use Rattle.reg_stored.proofs.Standing.{same_number}
@@ -96,5 +97,5 @@ module _ (ids : Ids) (ps : List Publication) (yanked : finset.FinSet mark_cmp) (
   lists_versions id list found = split (spelling_at ids id) refl
     where
       split : (o : Option Words) → spelling_at ids id ≡ o → map shown_version list ≡ told_of o [] (λ name. map (version_shown yanked) (filter (λ p. collides p.name name) ps))
-      split None none = its_versions id list found ∙ ap (map (λ (v : StoredVersion). version_shown yanked v.publication)) (none_pass (λ v. v.of_crate == id) ids.versions (none_of ids ps yanked db h id none))
+      split None none = its_versions id list found ∙ ap (map (λ (v : StoredVersion). version_shown yanked v.publication)) (none_pass (λ _ _. true) (λ v. v.of_crate == id) ids.versions (none_of ids ps yanked db h id none))
       split (Some name) at = its_versions id list found ∙ named_versions id name (there_at ids id name at)

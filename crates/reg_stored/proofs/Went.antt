@@ -69,3 +69,18 @@ went_none a ready = record {
     crash = λ _ db may. inl may;
   };
 }
+
+-- a statement was read after those that went well
+pub went_read_after : {T E : Type 0} {P : T → Type 0} (a b c : State) (r : Result T E) (x : T) → Went a b → r ≡ Ok x → IsReading b c r P → Went a c
+went_read_after a b c r x went is h = record {
+  within = λ clean.
+      let early : HasCleanDisk b = omega (arith, clean, h.survives.clean) in
+      within_then a b c (went.within early) (unchanged_within b c early (went.within early).inside (rw is at (h.only clean)).0);
+  survives = survives_then a b c _ _ _ (λ _ _ h. h) (λ _ _ h. h) went.survives h.survives;
+}
+
+-- it fails
+pub stops_read_after : {T E U F : Type 0} {P : T → Type 0} (a b c : State) (r : Result T E) (e : E) (q : Result U F) → IsErr q → Went a b → r ≡ Err e → IsReading b c r P → LeavesWithin a c q
+stops_read_after a b c r e q stops went is h =
+    then_fails a b c q stops went.within went.survives
+    (λ clean. let early : HasCleanDisk b = omega (arith, clean, h.survives.clean) in refused_fails b c early (went.within early).inside (rw is at (h.only clean)).1) h.survives

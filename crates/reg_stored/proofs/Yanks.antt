@@ -1,5 +1,5 @@
 -- What the row of a version that is yanked, or no more, is on the registry.
-use Rattle.std.proofs.Common.{◌≡◌, ◌==◌, ℕ, pos, List, [], ◌∷◌, ◌++◌, map, Bool, true, false, not, cond, ◌||◌, ◌&&◌, refl, sym, ap, subst, ◌∙◌}
+use Rattle.std.proofs.Common.{◌≡◌, ◌==◌, ℕ, pos, List, [], ◌∷◌, ◌++◌, map, Bool, true, false, not, cond, ◌||◌, ◌&&◌, refl, sym, ap, subst, ◌∙◌, None}
 use Rattle.std.specs.Prelude.{drop}
 use Rattle.std.specs.List.{filter, list_any, IsDistinct}
 use Rattle.std.specs.List.Sorted.{IsPermutation}
@@ -8,7 +8,7 @@ use Rattle.std.specs.Str.{bytes_eq}
 use Rattle.std.specs.FinSet as finset
 use Rattle.std.specs.Cmp.{IsEquivalence, on_equiv, and_equiv, eq_by_cmp_equiv, nat_cmp_total}
 use Rattle.std.specs.Cmp.Lexicographic.{nat_list_eq_equiv}
-use Rattle.std.proofs.lemmas.Bool.{and_parts, and_from, eq-eqb, eqb-true}
+use Rattle.std.proofs.lemmas.Bool.{and_parts, and_from, eq-eqb, eqb-true, and_left}
 use Rattle.std.proofs.lemmas.List.Sorted.{IsPermutation-cons, IsPermutation-filter_both, IsPermutation-map, IsPermutation-trans}
 use Rattle.std.proofs.lemmas.Map.Keys.{IsDistinct-from_sorted}
 use Rattle.std.proofs.lemmas.Map.Text.{is_eq-slice_cmp}
@@ -21,17 +21,17 @@ use Rattle.sqlite_value.proofs.OrderLemmas.{value_cmp-Text}
 use Rattle.reg_names.specs.Names.{canon}
 use Rattle.reg_versions.specs.Versions.{release_key_of}
 use Rattle.reg_schema.proofs.Queries.{same_filter}
-use Rattle.reg_model.specs.Registry.{Text, Publication, Mark, owner_cmp, mark_cmp}
+use Rattle.reg_model.specs.Registry.{Text, Publication, Mark, mark_cmp}
 use Rattle.reg_model.specs.Sound.{one_release}
 use Rattle.reg_model.proofs.Keys.{mark_total, mark_apart, same_key, ties_itself}
 use Rattle.reg_model.proofs.Lists.{not_true, true_not_false}
 use Rattle.reg_statements.specs.Versions.{version_row}
-use Rattle.reg_stored.specs.Stands.{StoredCrate, StoredVersion, row_of_crate, row_of_version, row_of_archive, columns_of_pair, HaveOwnRowids, StandCrates}
+use Rattle.reg_stored.specs.Stands.{StoredCrate, StoredVersion, row_of_crate, row_of_version, row_of_archive, StandCrates, Ids, spelling_at}
 use Rattle.reg_schema.specs.Tests.{is_version}
-use Rattle.reg_stored.proofs.CrateLemmas.{same_bytes, bytes_same, crate_of, is_stored, one_by_canon, one_by_id}
-use Rattle.reg_model.proofs.Members.{IsIn, any_in, distinct_from_map, filtered_passes, in_filter, map_same, one_of, one_passes}
+use Rattle.reg_stored.proofs.CrateLemmas.{same_bytes, bytes_same, crate_of, is_stored, one_by_canon, one_by_id, is_published, none_of}
+use Rattle.reg_model.proofs.Members.{IsIn, any_in, distinct_from_map, filtered_passes, in_filter, map_same, one_of, one_passes, in_any, none_pass}
 use Rattle.reg_schema.proofs.Permutes.{filter_map, free_without, one_row, put_permutes}
-use Rattle.reg_stored.proofs.Standing.{same_number}
+use Rattle.reg_stored.proofs.Standing.{same_number, none_row}
 
 -- SQL's equality of texts
 texts_equal : (s t : Text) → is_eq (value_cmp (Characters s) (Characters t)) ≡ bytes_eq s t
@@ -140,10 +140,10 @@ module _ (ids : Ids) (publications : List Publication) (yanked : finset.FinSet m
   unfolding others
   first_and_others v i =
       let mine : StoredVersion → Bool = λ w. w.id == v.id in
-      let ids = distinct_from_map (eq_by_cmp nat_cmp) (λ w. w.id) ids.versions (IsDistinct-from_sorted nat_cmp (map (λ w. w.id) ids.versions) stands.rising) in
+      let by_id = distinct_from_map (eq_by_cmp nat_cmp) (λ w. w.id) ids.versions (IsDistinct-from_sorted nat_cmp (map (λ w. w.id) ids.versions) stands.rising) in
       let same : (x y : StoredVersion) → IsIn x ids.versions → IsIn y ids.versions → mine x ≡ true → mine y ≡ true → eq_by_cmp nat_cmp x.id y.id ≡ true = λ x y k l p q.
       subst (λ n. eq_by_cmp nat_cmp x.id n ≡ true) (eqb-true x.id v.id p ∙ sym (eqb-true y.id v.id q)) ((eq_by_cmp_equiv nat_cmp_total).refl x.id) in
-      let one = one_passes (on (λ w. w.id) (eq_by_cmp nat_cmp)) mine ids.versions v ids same i (eq-eqb v.id v.id refl) in
+      let one = one_passes (on (λ w. w.id) (eq_by_cmp nat_cmp)) mine ids.versions v by_id same i (eq-eqb v.id v.id refl) in
       subst (λ vs. IsPermutation ids.versions (vs ++ others v)) one (IsPermutation-filter_both mine (λ w. not (mine w)) (λ w. refl) ids.versions)
 
   other_row : (b : Bool) (v w : StoredVersion) → IsTarget v → IsIn w (others v) → row_of_version (marks yanked (canon name) text b) w ≡ row_of_version yanked w
@@ -175,8 +175,31 @@ module _ (ids : Ids) (publications : List Publication) (yanked : finset.FinSet m
   pub yanks : (b : Bool) (v : StoredVersion) → IsTarget v → (new : Trees) → new 7 ≡ old 7 → new 13 ≡ old 13
       → new 11 ≡ put_row (version_row v.id id text (release_key_of text) v.publication.digest v.publication.stem v.publication.description b) (without_rowid (pos v.id) (old 11))
       → StandCrates ids publications (marks yanked (canon name) text b) new
-  yanks b v is new e7 e13 e11 = record stands {
+  yanks b v is new e7 e13 e11 = record {
     crate_rows = subst (IsPermutation (map row_of_crate ids.crates)) (sym e7) stands.crate_rows;
     version_rows = subst (IsPermutation (map (row_of_version (marks yanked (canon name) text b)) ids.versions)) (sym e11) (rows_after b v is);
     archive_rows = subst (IsPermutation (map row_of_archive ids.versions)) (sym e13) stands.archive_rows;
+    canons = stands.canons;
+    used = stands.used;
+    of_crates = stands.of_crates;
+    up = stands.up;
+    rising = stands.rising;
+    published = stands.published;
   }
+
+  -- where the version is not there, no row passes
+  pub no_such_version : list_any (λ p. bytes_eq (canon p.name) (canon name) && bytes_eq p.version text) publications ≡ false → filter (is_version id (release_key_of text) text) (old 11) ≡ []
+  no_such_version none =
+      let test = is_version id (release_key_of text) text in
+      let is_it : Publication → Bool = λ p. bytes_eq (canon p.name) (canon name) && bytes_eq p.version text in
+      none_row (row_of_version yanked) test ids.versions (old 11) stands.version_rows (none_pass (λ _ _. true) (λ v. test (row_of_version yanked v)) ids.versions (λ v i. not_true _ (λ h.
+      let is = found v i h in
+      let there = is_published ids publications yanked old stands v i in
+      true_not_false (list_any is_it publications) (in_any is_it publications v.publication there (and_from _ _ (bytes_same _ _ is.canonical) (bytes_same _ _ is.version))) none)))
+
+-- no version is of a crate that is not there
+pub no_version : (ids : Ids) (publications : List Publication) (yanked : finset.FinSet mark_cmp) (db : Trees) → StandCrates ids publications yanked db → (id : ℕ) (text : Text) → spelling_at ids id ≡ None → filter (is_version id (release_key_of text) text) (db 11) ≡ []
+no_version ids publications yanked db stands id text none =
+    let test = is_version id (release_key_of text) text in
+    none_row (row_of_version yanked) test ids.versions (db 11) stands.version_rows
+    (none_pass (λ _ _. true) (λ v. test (row_of_version yanked v)) ids.versions (λ v i. and_left _ _ (same_number v.of_crate id ∙ none_of ids publications yanked db stands id none v i)))

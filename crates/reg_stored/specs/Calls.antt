@@ -1,6 +1,7 @@
 -- What each call is on the registry that the rows stand for. A call on what is not there changes
 -- nothing and tells of nothing.
-use Rattle.std.specs.Prelude.{◌≡◌, ℕ, ◌+◌, Bool, true, false, List, map, filter, length, min, Option, Some, IfSome, Vec, string_bytes}
+use Rattle.std.proofs.Common.{[], None}
+use Rattle.std.specs.Prelude.{◌≡◌, ℕ, ◌+◌, Bool, false, List, map, length, Option, Some, IfSome, Vec, string_bytes}
 use Rattle.std.specs.declared.alloc.Global.{Global}
 use Rattle.std.specs.FinSet as finset
 use Rattle.std.specs.List.{AllByRecursion, enumerate_from, flat_map, list_any}
@@ -9,13 +10,12 @@ use Rattle.std.specs.Option.{option_map}
 use Rattle.std.specs.Str.{bytes_eq}
 use Rattle.sqlite.specs.Tree.{Trees}
 use Rattle.reg_names.specs.Names.{canon}
-use Rattle.reg_schema.specs.Rows.{greatest_number}
 use Rattle.reg_model.specs.declared.endpoint.Endpoints.{Endpoints}
-use Rattle.reg_model.specs.Changes.{with_account, with_enabled, with_owner, with_publication, with_revoked, with_token, with_yanked, without_owner}
+use Rattle.reg_model.specs.Changes.{with_account, with_enabled, with_owner, with_publication, with_revoked, with_token}
 use Rattle.reg_model.specs.Crates as model
 use Rattle.reg_model.specs.Crates.{exists, first, has_crate, owners, version, versions}
-use Rattle.reg_model.specs.Registry.{Publication, Registry, Text, text_cmp, with_id}
-use Rattle.reg_model.specs.Sound.{Sound, has_version}
+use Rattle.reg_model.specs.Registry.{Publication, Registry, Text, text_cmp, with_id, id_of_login}
+use Rattle.reg_model.specs.Sound.{has_version}
 use Rattle.reg_statements.specs.declared.accounts.Account.{Account}
 use Rattle.reg_statements.specs.declared.crates.Crate.{Crate}
 use Rattle.reg_statements.specs.declared.scopes.Scope.{Scope}
@@ -26,7 +26,7 @@ use Rattle.reg_statements.specs.Scopes.{columns_of_scope}
 use Rattle.reg_stored.specs.declared.counts.Counts.{Counts}
 use Rattle.reg_stored.specs.declared.crates.NewVersion.{NewVersion}
 use Rattle.reg_stored.specs.declared.tokens.TokenRows.{TokenRows}
-use Rattle.reg_stored.specs.Entries.{entry_of_account, one_of, shown_version, version_shown}
+use Rattle.reg_stored.specs.Entries.{entry_of_account, shown_version, version_shown}
 use Rattle.reg_stored.specs.FoundTokens.{IsFound, IsRow}
 use Rattle.reg_stored.specs.Stands.{Holds, Ids, StandsBy, scopes_of, spelling_at}
 use Rattle.reg_stored.specs.Changes.{ids_with_crate, ids_with_version, mark_at, next_crate, no_owner_at, owner_at, told_of}

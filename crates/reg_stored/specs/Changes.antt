@@ -1,10 +1,11 @@
 -- What the calls change, by the ids that the rows have. A change of what is not there is none.
-use Rattle.std.specs.Prelude.{ℕ, Bool, if◌then◌else◌, List, [], ◌∷◌, ◌++◌, map, Option, Some, None, length, ◌+◌}
+use Rattle.std.specs.Prelude.{ℕ, Bool, if◌then◌else◌, [], ◌∷◌, ◌++◌, map, Option, Some, None}
+use Rattle.std.specs.FinSet as finset
 use Rattle.reg_names.specs.Names.{canon}
-use Rattle.reg_model.specs.Changes.{with_owner, with_publication, with_yanked, without_owner}
-use Rattle.reg_model.specs.Registry.{Publication, Registry, Text}
+use Rattle.reg_model.specs.Changes.{with_yanked}
+use Rattle.reg_model.specs.Registry.{Publication, Registry, Text, owner_cmp}
 use Rattle.reg_model.specs.Sound.{has_version}
-use Rattle.reg_stored.specs.Stands.{Ids, StoredVersion, next_of, spelling_at}
+use Rattle.reg_stored.specs.Stands.{Ids, next_of, spelling_at}
 
 -- the ids that a crate and a version get that are added
 abbrev pub next_crate : Ids → ℕ
@@ -42,13 +43,32 @@ with_mark text yanked name s =
 abbrev pub mark_at : Ids → ℕ → Text → Bool → Registry → Registry
 mark_at ids id text yanked = if_there (spelling_at ids id) (with_mark text yanked)
 
--- the account owns the crate with this id, or no longer
+-- one more pair of the crate with this spelling and an account, or one less; none where there is no
+-- crate
+abbrev pub insert_at : Option Text → ℕ → finset.FinSet owner_cmp → finset.FinSet owner_cmp
+insert_at None account held = held
+insert_at (Some name) account held = finset.insert held (canon name, account)
+
+abbrev pub remove_at : Option Text → ℕ → finset.FinSet owner_cmp → finset.FinSet owner_cmp
+remove_at None account held = held
+remove_at (Some name) account held = finset.remove held (canon name, account)
+
+-- the account owns the crate with this id, or no longer; and the same of its readers
 abbrev pub owner_at : Ids → ℕ → ℕ → Registry → Registry
-owner_at ids id account = if_there (spelling_at ids id) (λ name. with_owner (canon name, account))
+owner_at ids id account s =
+    record s { owners = insert_at (spelling_at ids id) account s.owners }
 
 abbrev pub no_owner_at : Ids → ℕ → ℕ → Registry → Registry
-no_owner_at ids id account =
-    if_there (spelling_at ids id) (λ name. without_owner (canon name, account))
+no_owner_at ids id account s =
+    record s { owners = remove_at (spelling_at ids id) account s.owners }
+
+abbrev pub reader_at : Ids → ℕ → ℕ → Registry → Registry
+reader_at ids id account s =
+    record s { readers = insert_at (spelling_at ids id) account s.readers }
+
+abbrev pub no_reader_at : Ids → ℕ → ℕ → Registry → Registry
+no_reader_at ids id account s =
+    record s { readers = remove_at (spelling_at ids id) account s.readers }
 
 -- what is told of the crate with this id; nothing where there is none
 abbrev pub told_of : {X : Type 0} → Option Text → X → (Text → X) → X

@@ -1,6 +1,11 @@
 -- The registry that the rows of the tables stand for.
-use Rattle.std.specs.Prelude.{◌≡◌, ℕ, pos, filter, ◌&&◌, ◌==◌, nat_eq, Bool, true, List, [], ◌∷◌, map, drop, IsPermutation}
-use Rattle.std.specs.List.{AllByRecursion, IsDistinct, enumerate_from, flat_map, list_all, list_any}
+use Rattle.std.specs.Option.{option_map}
+use Rattle.reg_model.specs.Sound.{Sound}
+use Rattle.reg_schema.specs.Places.{accounts_tree, tokens_tree, reserved_tree, crates_tree, about_tree, scopes_tree, versions_tree, owners_tree, archives_tree, readers_tree}
+use Rattle.std.proofs.Common.{Option, ◌+◌}
+use Rattle.reg_statements.specs.Pairs.{pair_columns}
+use Rattle.std.specs.Prelude.{◌≡◌, ℕ, pos, filter, ◌&&◌, ◌==◌, Bool, true, List, [], ◌∷◌, map, drop, IsPermutation, max}
+use Rattle.std.specs.List.{AllByRecursion, IsDistinct, enumerate_from, flat_map, list_all, list_any, find}
 use Rattle.std.specs.Ordering.{is_eq, nat_cmp, on}
 use Rattle.std.specs.Str.{bytes_eq}
 use Rattle.std.specs.List.Sorted.{IsStrictlySortedBy}
@@ -18,7 +23,6 @@ use Rattle.reg_statements.specs.Accounts.{account_row}
 use Rattle.reg_statements.specs.Tokens.{token_row}
 use Rattle.reg_statements.specs.Scopes.{scope_columns}
 use Rattle.reg_statements.specs.Crates.{crate_row}
-use Rattle.reg_statements.specs.Owners.{owner_columns}
 use Rattle.reg_statements.specs.Versions.{version_row}
 use Rattle.reg_statements.specs.Archives.{archive_row}
 use Rattle.reg_statements.specs.Reserved.{reserved_columns}
@@ -48,8 +52,8 @@ row_of_crate c = crate_row c.0 (canon c.1) c.1
 abbrev pub StoredPair : Type 0
 StoredPair = ℕ × ℕ
 
-abbrev pub columns_of_pair : StoredPair → Row
-columns_of_pair o = owner_columns o.0 o.1
+abbrev pub columns_of_stored : StoredPair → Row
+columns_of_stored o = pair_columns o.0 o.1
 
 -- a version as it is stored
 pub record StoredVersion : Type 0 where
@@ -128,7 +132,7 @@ pub record StandCrates (ids : Ids) (publications : List Publication)
 pub record StandPairs (crates : List StoredCrate) (held : finset.FinSet owner_cmp)
     (rows : List Row) : Type 0 where
   pub pairs : List StoredPair
-  pub are : IsPermutation (map columns_of_pair pairs) (map (drop 1) rows)
+  pub are : IsPermutation (map columns_of_stored pairs) (map (drop 1) rows)
   pub apart : HaveOwnRowids rows
   -- the crates are there, and each pair is there once
   pub of_crates : list_all (λ o. list_any (λ c. c.0 == o.0) crates) pairs ≡ true
@@ -148,10 +152,9 @@ pub record StandsBy (ids : Ids) (s : Registry) (db : Trees) : Type 0 where
   pub tokens : StandTokens s.tokens db
   pub crates : StandCrates ids s.publications s.yanked db
   pub owners : StandPairs ids.crates s.owners (db owners_tree)
+  pub readers : StandPairs ids.crates s.readers (db readers_tree)
   pub reserved : StandReserved s.reserved db
-  -- no crate is restricted, and none has readers: there are no tables of these yet
   pub restricted : s.restricted ≡ finset.empty
-  pub readers : s.readers ≡ finset.empty
 
 -- the rows are those of this registry
 abbrev pub Stands : Registry → Trees → Type 0

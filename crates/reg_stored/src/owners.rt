@@ -7,25 +7,30 @@ ghost use Rattle.reg_schema.specs.Steps.{Done, KeepsAll, Steps, Told};
 ghost use Rattle.reg_stored.specs.Calls.{AddsOwner, ListsOwners, RemovesOwner};
 
 use reg_statements::accounts::Account;
-use reg_statements::owners;
+use reg_statements::{crates, owners};
 use sqlite::{Alter, Connection, Error};
 use std::alloc::Global;
 
-/// Makes an account an owner of a crate that is there.
+/// Makes an account an owner of a crate. Of a crate that is not there it makes none.
 pub fn add<S: Alter>(conn: &mut Connection<S>, crate_id: u32, account: u32) -> Result<(), Error>
     requires { IsReady (state S.Store conn.old) }
     ensures stands { Done S.Store conn.new result
         (AddsOwner crate_id account (rows_in S.Store conn.old) (rows_in S.Store conn.new)) }
     ensures leaves { Steps S.Store conn.old conn.new result }
 {
-    if owners::is_there(conn, crate_id, account)? {
+    let is_crate = crates::has_id(conn, crate_id)?;
+    if !is_crate {
+        return Ok(());
+    }
+    let is_owner = owners::is_there(conn, crate_id, account)?;
+    if is_owner {
         return Ok(());
     }
     owners::insert(conn, crate_id, account)?;
     Ok(())
 }
 
-/// Makes an account no owner of a crate that is there.
+/// Makes an account no owner of a crate.
 #[tactic(auto, using(crate::proofs::Withins::refused_fails, crate::proofs::Withins::become_within))]
 pub fn remove<S: Alter>(conn: &mut Connection<S>, crate_id: u32, account: u32) -> Result<(), Error>
     requires { IsReady (state S.Store conn.old) }
@@ -37,7 +42,7 @@ pub fn remove<S: Alter>(conn: &mut Connection<S>, crate_id: u32, account: u32) -
     Ok(())
 }
 
-/// The accounts that own a crate that is there, by id.
+/// The accounts that own a crate, by id.
 pub fn list<S: Alter>(
     alloc: Global,
     conn: &mut Connection<S>,

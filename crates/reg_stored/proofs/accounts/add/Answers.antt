@@ -6,7 +6,7 @@ use Rattle.sqlite.specs.Effect.{Database}
 use Rattle.sqlite.specs.State.{HasCleanDisk}
 use Rattle.sqlite.specs.Held.{state}
 use Rattle.reg_model.specs.Registry.{Account}
-use Rattle.reg_stored.specs.Stands.{StandAccounts, Stands}
+use Rattle.reg_stored.specs.Stands.{StandAccounts, StandsBy}
 use Rattle.reg_stored.specs.Stands.{row_of_account}
 use Rattle.reg_stored.proofs.NextId.{next_id}
 use Rattle.reg_stored.proofs.Standing.{adds_account}
@@ -14,7 +14,8 @@ use Rattle.reg_stored.proofs.Stays.{with_accounts}
 use Rattle.reg_stored.proofs.accounts.add.Goals as goal
 
 pub returns-clause-stands : goal.returns-clause-stands
-returns-clause-stands g c clean s stands =
+returns-clause-stands g c clean ids s h =
+    let stands = h.stands in
     let old = state g.S.Store c.args.conn.now in
     let mid = state g.S.Store c.last_id.new.conn in
     let new = state g.S.Store c.insert.new.conn in
@@ -25,7 +26,7 @@ returns-clause-stands g c clean s stands =
     let adds = c.in_ok-insert.ensures.changes clean in
     let then = subst (λ (d : Database). StandAccounts s.accounts d.trees) (sym same) stands.accounts in
     let after = adds_account s.accounts a mid new then c.in_ok-id.id id adds in
-    (id, with_accounts s _ mid.now.trees new.now.trees adds.becomes.others (subst (λ (d : Database). Stands s d.trees) (sym same) stands) after)
+    (id, with_accounts ids s mid.now.trees new.now.trees (subst (λ (d : Database). StandsBy ids s d.trees) (sym same) stands) _ adds.becomes.others after)
 
 pub returns-in_err-last-clause-leaves : goal.returns-in_err-last-clause-leaves
 returns-in_err-last-clause-leaves g c = stops_read (state g.S.Store c.args.conn.now) (state g.S.Store c.last_id.new.conn) c.last_id.result _ c.from_residual.result c.from_residual.ensures.0 c.requires c.in_err-last.was c.last_id.ensures

@@ -5,4 +5,4 @@ use Rattle.reg_stored.proofs.accounts.list.Goals as goal
 
 pub returns-clause-found : goal.returns-clause-found
 returns-clause-found g c clean =
-    if_ok c.all.result (λ list h s stands. lists_accounts s.accounts (state g.S.Store c.args.conn.now).now.trees stands.accounts list.items h) (c.all.ensures.told clean)
+    if_ok c.all.result (λ list e ids s h. lists_accounts s.accounts (state g.S.Store c.args.conn.now).now.trees h.stands.accounts list.items e) (c.all.ensures.told clean)

@@ -1,13 +1,15 @@
-use Rattle.std.proofs.Common.{◌∙◌, ap, min}
+use Rattle.std.proofs.Common.{◌∙◌}
 use Rattle.sqlite.specs.Held.{state}
 use Rattle.reg_stored.specs.Stands.{row_of_crate}
 use Rattle.reg_stored.proofs.CrateCounts.{count_is, crates_are}
+use Rattle.reg_stored.proofs.Readings.{same_whatever}
 use Rattle.reg_stored.proofs.Results.{if_ok}
 use Rattle.reg_stored.proofs.counts.count_crates.Goals as goal
 
 pub returns-clause-counted : goal.returns-clause-counted
 returns-clause-counted g c clean =
     let db = (state g.S.Store c.args.conn.now).now.trees in
-    if_ok c.count.result
-    (λ n e s stands. count_is row_of_crate stands.crates.crates (db 7) n stands.crates.crate_rows e ∙ ap (λ k. min k 9223372036854775807) (crates_are ids s.publications s.yanked db stands.crates))
-    (c.count.ensures.told clean)
+    if_ok c.exact.result (λ n is ids s h. count_is row_of_crate ids.crates (db 7) n c.in_ok-n.n is h.stands.crates.crate_rows (c.in_ok-n.ensures.told clean) ∙ crates_are ids s.publications s.yanked db h.stands.crates) c.exact.ensures
+
+pub returns-clause-same : goal.returns-clause-same
+returns-clause-same g c = same_whatever (state g.S.Store c.args.conn.now) (state g.S.Store c.count.new.conn) c.exact.result (λ clean. (c.in_ok-n.ensures.only clean).0) c.count.ensures.survives

@@ -7,7 +7,8 @@ pub returns-clause-found : goal.returns-clause-found
 returns-clause-found g c clean =
     let db = (state g.S.Store c.args.conn.now).now.trees in
     if_ok c.all.result
-    (λ list e s stands.
-    let shown = lists_crates ids s.publications s.yanked db stands.crates list.items e in
-    (each_is ids s.publications s.yanked db stands.crates list.items shown, rising ids s.publications s.yanked db stands.crates list.items shown, all_there ids s.publications s.yanked db stands.crates list.items shown))
+    (λ list e ids s h.
+    let crates = h.stands.crates in
+    let shown = lists_crates ids s.publications s.yanked db crates list.items e in
+    (each_is ids s.publications s.yanked db crates list.items shown, rising ids s.publications s.yanked db crates list.items shown, all_there ids s.publications s.yanked db crates list.items shown))
     (c.all.ensures.told clean)

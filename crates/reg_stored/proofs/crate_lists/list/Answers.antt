@@ -6,4 +6,4 @@ use Rattle.reg_stored.proofs.crate_lists.list.Goals as goal
 pub returns-clause-found : goal.returns-clause-found
 returns-clause-found g c clean =
     let db = (state g.S.Store c.args.conn.now).now.trees in
-    if_ok c.of_crate.result (λ list e s name is stands. lists_versions ids s.publications s.yanked db stands.crates c.args.crate_id name list.items is e) (c.of_crate.ensures.told clean)
+    if_ok c.of_crate.result (λ list e ids s h. lists_versions ids s.publications s.yanked db h.stands.crates c.args.crate_id list.items e) (c.of_crate.ensures.told clean)

@@ -5,4 +5,4 @@ use Rattle.reg_stored.proofs.owners.list.Goals as goal
 
 pub returns-clause-found : goal.returns-clause-found
 returns-clause-found g c clean =
-    if_ok c.of_crate.result (λ list h s name is_crate stands. lists_owners ids s.publications s.yanked s.accounts (state g.S.Store c.args.conn.now).now.trees stands.crates stands.accounts c.args.crate_id name is_crate list.items h) (c.of_crate.ensures.told clean)
+    if_ok c.of_crate.result (λ list e ids s h. lists_owners ids s.owners s.accounts (state g.S.Store c.args.conn.now).now.trees h.stands.accounts h.stands.owners c.args.crate_id list.items e) (c.of_crate.ensures.told clean)

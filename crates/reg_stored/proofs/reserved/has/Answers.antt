@@ -4,5 +4,5 @@ use Rattle.reg_stored.proofs.ReservedChanges.{is_there}
 use Rattle.reg_stored.proofs.reserved.has.Goals as goal
 
 pub returns-clause-found : goal.returns-clause-found
-returns-clause-found g c clean s stands =
-    c.in_ok-there.ensures.told clean ∙ is_there s.reserved c.args.canon.now (state g.S.Store c.args.conn.now).now.trees stands.reserved
+returns-clause-found g c clean ids s h =
+    c.in_ok-there.ensures.told clean ∙ is_there s.reserved c.args.canon.now (state g.S.Store c.args.conn.now).now.trees h.stands.reserved

@@ -11,12 +11,12 @@ returns-in_err-add_scopes-clause-leaves g c =
     c.in_ok-id.ensures.leaves.within c.in_ok-id.ensures.leaves.survives c.in_err-add_scopes.ensures.leaves.fails c.in_err-add_scopes.ensures.leaves.survives
 
 pub returns-clause-stands : goal.returns-clause-stands
-returns-clause-stands g c clean s stands =
+returns-clause-stands g c clean ids s h =
     let old = state g.S.Store c.add_row.new.conn in
     let early : HasCleanDisk old = omega (arith, clean, c.add_scopes.ensures.leaves.survives.clean) in
-    let added = c.in_ok-id.ensures.stands early s stands in
+    let added = c.in_ok-id.ensures.stands early ids s h in
     let t : Token = record { digest = c.args.digest.now; account = c.args.account; live = true; endpoints = c.args.endpoints.now; patterns = [] } in
-    (added.0, c.in_ok-add_scopes.ensures.given clean s s.tokens t added.0 refl added.1)
+    (added.0, c.in_ok-add_scopes.ensures.given clean ids s s.tokens t added.0 refl added.1)
 
 pub returns-clause-leaves : goal.returns-clause-leaves
 returns-clause-leaves g c =

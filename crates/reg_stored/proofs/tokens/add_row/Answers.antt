@@ -1,3 +1,4 @@
+use Rattle.reg_stored.proofs.Stays.{with_tokens}
 use Rattle.reg_stored.proofs.Additions.{adds_within}
 use Rattle.reg_stored.proofs.Went.{ends, stops_here, stops_read, stops_write, went_read, went_write}
 use Rattle.std.proofs.Common.{◌≡◌, true, [], arith, refl, sym, subst}
@@ -5,13 +6,14 @@ use Rattle.sqlite.specs.Effect.{Database}
 use Rattle.sqlite.specs.State.{HasCleanDisk}
 use Rattle.sqlite.specs.Held.{state}
 use Rattle.reg_model.specs.Registry.{Token}
-use Rattle.reg_stored.specs.Stands.{StandTokens, Stands, row_of_token}
+use Rattle.reg_stored.specs.Stands.{StandTokens, row_of_token, StandsBy}
 use Rattle.reg_stored.proofs.NextId.{next_id}
-use Rattle.reg_stored.proofs.TokenChanges.{adds_token, with_tokens}
+use Rattle.reg_stored.proofs.TokenChanges.{adds_token}
 use Rattle.reg_stored.proofs.tokens.add_row.Goals as goal
 
 pub returns-clause-stands : goal.returns-clause-stands
-returns-clause-stands g c clean s stands =
+returns-clause-stands g c clean ids s h =
+    let stands = h.stands in
     let old = state g.S.Store c.args.conn.now in
     let mid = state g.S.Store c.last_id.new.conn in
     let new = state g.S.Store c.insert.new.conn in
@@ -22,7 +24,7 @@ returns-clause-stands g c clean s stands =
     let adds = c.in_ok-insert.ensures.changes clean in
     let then = subst (λ (d : Database). StandTokens s.tokens d.trees) (sym same) stands.tokens in
     let after = adds_token s.tokens t mid new then refl c.in_ok-id.id id adds in
-    (id, with_tokens s _ 3 mid.now.trees new.now.trees (λ n apart _. apart) adds.becomes.others (subst (λ (d : Database). Stands s d.trees) (sym same) stands) after)
+    (id, with_tokens ids s mid.now.trees new.now.trees (subst (λ (d : Database). StandsBy ids s d.trees) (sym same) stands) _ 3 (λ n apart _. apart) adds.becomes.others after)
 
 pub returns-in_err-last-clause-leaves : goal.returns-in_err-last-clause-leaves
 returns-in_err-last-clause-leaves g c = stops_read (state g.S.Store c.args.conn.now) (state g.S.Store c.last_id.new.conn) c.last_id.result _ c.from_residual.result c.from_residual.ensures.0 c.requires c.in_err-last.was c.last_id.ensures

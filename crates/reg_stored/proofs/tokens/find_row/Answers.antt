@@ -5,4 +5,4 @@ use Rattle.reg_stored.proofs.tokens.find_row.Goals as goal
 
 pub returns-clause-found : goal.returns-clause-found
 returns-clause-found g c clean =
-    if_ok c.by_digest.result (λ found h s sound stands. finds_row s (state g.S.Store c.args.conn.now).now.trees stands c.args.digest.now sound found h) (c.by_digest.ensures.told clean)
+    if_ok c.by_digest.result (λ found e ids s h. finds_row ids s (state g.S.Store c.args.conn.now).now.trees h.stands c.args.digest.now h.sound found e) (c.by_digest.ensures.told clean)

@@ -5,4 +5,4 @@ use Rattle.reg_stored.proofs.tokens.list.Goals as goal
 
 pub returns-clause-found : goal.returns-clause-found
 returns-clause-found g c clean =
-    if_ok c.all.result (λ list h s stands. lists_tokens s.tokens (state g.S.Store c.args.conn.now).now.trees stands.tokens list.items h) (c.all.ensures.told clean)
+    if_ok c.all.result (λ list e ids s h. lists_tokens s.tokens (state g.S.Store c.args.conn.now).now.trees h.stands.tokens list.items e) (c.all.ensures.told clean)

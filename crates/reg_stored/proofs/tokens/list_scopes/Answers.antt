@@ -7,4 +7,4 @@ use Rattle.reg_stored.proofs.tokens.list_scopes.Goals as goal
 
 pub returns-clause-found : goal.returns-clause-found
 returns-clause-found g c clean =
-    if_ok c.all.result (λ list h s stands. lists_scopes s.tokens (state g.S.Store c.args.conn.now).now.trees stands.tokens (map columns_of_scope list.items) h) (c.all.ensures.told clean)
+    if_ok c.all.result (λ list e ids s h. lists_scopes s.tokens (state g.S.Store c.args.conn.now).now.trees h.stands.tokens (map columns_of_scope list.items) e) (c.all.ensures.told clean)

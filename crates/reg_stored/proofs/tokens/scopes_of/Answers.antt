@@ -7,4 +7,4 @@ use Rattle.reg_stored.proofs.tokens.scopes_of.Goals as goal
 
 pub returns-clause-found : goal.returns-clause-found
 returns-clause-found g c clean =
-    if_ok c.of_token.result (λ list h s t at stands. lists_its_scopes c.args.token s.tokens (state g.S.Store c.args.conn.now).now.trees stands.tokens t at (map columns_of_scope list.items) h) (c.of_token.ensures.told clean)
+    if_ok c.of_token.result (λ list e ids s h t at. lists_its_scopes c.args.token s.tokens (state g.S.Store c.args.conn.now).now.trees h.stands.tokens t at (map columns_of_scope list.items) e) (c.of_token.ensures.told clean)
