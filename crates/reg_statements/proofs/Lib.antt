@@ -10,10 +10,17 @@ mod OwnerQueries
 mod OwnerTexts
 mod PairQueries
 mod PairTexts
+mod ReaderQueries
+mod ReaderTexts
 mod ReservedQueries
 mod ReservedTexts
+mod RestrictedQueries
+mod RestrictedTexts
+mod RowidQueries
 mod ScopeQueries
 mod ScopeTexts
+mod SummaryQueries
+mod SummaryTexts
 mod TokenQueries
 mod TokenTexts
 mod Updates
