@@ -19,6 +19,7 @@ mod RestrictedTexts
 mod RowidQueries
 mod ScopeQueries
 mod ScopeTexts
+pub mod StemQueries
 mod SummaryQueries
 mod SummaryTexts
 mod TokenQueries

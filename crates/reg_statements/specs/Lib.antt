@@ -9,6 +9,7 @@ pub mod Reserved
 pub mod Restricted
 pub mod Rowids
 pub mod Scopes
+pub mod Stems
 pub mod Summaries
 pub mod Tokens
 pub mod Updates

@@ -16,7 +16,7 @@ mod marks;
 pub mod owners;
 pub mod pairs;
 pub mod readers;
-mod records;
+pub mod records;
 pub mod reserved;
 pub mod restricted;
 pub mod scopes;
