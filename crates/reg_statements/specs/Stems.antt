@@ -1,5 +1,5 @@
 -- The rows of the index file of a crate.
-use Rattle.std.specs.Prelude.{ℕ, List, [], ◌∷◌, codes, filter}
+use Rattle.std.specs.Prelude.{ℕ, List, [], ◌∷◌, codes, filter, map}
 use Rattle.sqlite.specs.declared.types.Value.TheVariants.{Blob}
 use Rattle.sqlite.specs.Order.{Row}
 use Rattle.sqlite.specs.Tree.{Trees}
@@ -25,3 +25,7 @@ AreStemsOf of_crate db rows =
     IsInOrder (by_column id_place) (filter (is_number version_crate_place of_crate)
     (db versions_tree))
     (shows stem_places) rows
+
+-- the same as records
+abbrev pub AreEntriesOf : ℕ → Trees → List StemRow → Type 0
+AreEntriesOf of_crate db list = AreStemsOf of_crate db (map columns_of_stem list)

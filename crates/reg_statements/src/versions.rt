@@ -11,7 +11,7 @@ ghost use Rattle.reg_schema.specs.Rows.{mark};
 ghost use Rattle.reg_schema.specs.States.{IsReady};
 ghost use Rattle.reg_schema.specs.Statements.{Reads, Writes, rows_in};
 ghost use Rattle.reg_statements.specs.Counts.{IsLastId};
-ghost use Rattle.reg_statements.specs.Stems.{columns_of_stem};
+ghost use Rattle.reg_statements.specs.Stems.{AreEntriesOf, columns_of_stem};
 ghost use Rattle.reg_statements.specs.Versions.{AreVersions, AreVersionsOf, MarksYanked, columns_of_version, version_row};
 
 use crate::marks::mark_of;
@@ -171,6 +171,19 @@ pub fn all<S: Alter>(alloc: Global, conn: &mut Connection<S>) -> Result<Vec<Vers
         BY id",
         &[],
     )
+}
+
+/// The rows of the index file of a crate.
+pub fn entries<S: Alter>(
+    alloc: Global,
+    conn: &mut Connection<S>,
+    crate_id: u32,
+) -> Result<Vec<StemRow>, Error>
+    requires { IsReady (state S.Store conn.old) }
+    ensures { Reads S.Store conn.old conn.new result
+        (λ list. AreEntriesOf crate_id (rows_in S.Store conn.old) list.items) }
+{
+    select_list(alloc, conn, ENTRIES_TEXT, params![crate_id])
 }
 
 /// The greatest id of a version, if there is one.
