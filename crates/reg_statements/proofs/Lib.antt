@@ -1,5 +1,5 @@
-mod AboutLemmas
 mod AboutQueries
+mod AboutTexts
 mod AccountQueries
 mod AccountTexts
 mod ArchiveQueries

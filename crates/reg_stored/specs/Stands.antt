@@ -12,6 +12,7 @@ use Rattle.reg_names.specs.Names.{canon}
 use Rattle.reg_names.specs.Ranges.{range_of}
 use Rattle.reg_versions.specs.Versions.{release_key_of}
 use Rattle.reg_model.specs.Registry.{Text, Account, Token, Publication, Registry, text_cmp, owner_cmp, mark_cmp}
+use Rattle.reg_schema.specs.declared.edition.Edition.TheVariants.{Second}
 use Rattle.reg_schema.specs.States.{about_columns}
 use Rattle.reg_stored.specs.Numbers.{AreNumbered}
 use Rattle.reg_statements.specs.Accounts.{account_row}
@@ -124,7 +125,7 @@ IsCrate db id name = filter (has_rowid (pos id)) (db 7) ≡ row_of_crate (id, na
 
 -- the rows are those of this registry
 pub record Stands (s : Registry) (db : Trees) : Type 0 where
-  pub about : map (drop 1) (db 0) ≡ about_columns s.base ∷ []
+  pub about : map (drop 1) (db 0) ≡ about_columns Second s.base ∷ []
   pub accounts : StandAccounts s.accounts db
   pub tokens : StandTokens s.tokens db
   pub crates : StandCrates s.publications s.owners s.yanked db
