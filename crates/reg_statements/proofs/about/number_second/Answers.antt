@@ -1,10 +1,10 @@
 use Rattle.sqlite.specs.Held.{state}
 use Rattle.reg_schema.proofs.Writing.{writes_as}
-use Rattle.reg_statements.proofs.AboutTexts.{second_writes, numbers}
+use Rattle.reg_statements.proofs.AboutTexts.{second_is, numbers}
 use Rattle.reg_statements.proofs.about.number_second.Goals as goal
 
 pub write-requires-clause-writes : goal.write-requires-clause-writes
-write-requires-clause-writes g c = second_writes
+write-requires-clause-writes g c = second_is.writing
 
 pub returns : goal.returns
 returns g c =
