@@ -1,6 +1,6 @@
 -- The row of `about`, and a registry with nothing in it.
-use Rattle.std.proofs.Common.{◌≡◌, ◌≢◌, inl, inr, ℕ, pos, List, [], ◌∷◌, codes, map, true, false, Ok, Err, Result, OnOk, OnErr, refl, sym, ap, subst, ◌∙◌}
-use Rattle.std.specs.Prelude.{drop}
+use Rattle.std.proofs.Common.{◌≡◌, ◌≢◌, inl, inr, ℕ, zero, suc, pos, List, [], ◌∷◌, codes, map, true, false, Ok, Err, Result, OnOk, OnErr, refl, sym, ap, subst, ◌∙◌}
+use Rattle.std.specs.Prelude.{drop, take}
 use Rattle.std.specs.List.{AllByRecursion}
 use Rattle.sqlite.specs.declared.types.Value.TheVariants.{Null, Int, Text}
 use Rattle.sqlite.specs.Order.{Row}
@@ -18,18 +18,20 @@ use Rattle.sqlite.proofs.StateLemmas.{survives_then}
 use Rattle.sqlite_rules.specs.Edit.{next_rowid}
 use Rattle.sqlite_trees.specs.Tree.{put_row}
 use Rattle.sqlite_tied.specs.Compute.{everything}
-use Rattle.reg_schema.specs.Schema.{ours, our_tables, blank, about}
-use Rattle.reg_schema.specs.States.{IsInside, IsReady, KeepsOurs, Refuses, IsUndone, IsAtRest, HasMade, IsMade, about_columns}
+use Rattle.reg_schema.specs.Schema.{ours, our_tables, old_schema, first_of_ours, blank, about, restricted, readers}
+use Rattle.reg_schema.specs.States.{IsInside, IsReady, Rests, Grows, Extends, Makes, Refuses, IsUndone, IsAtRest, HasMade, IsMade, about_columns}
 use Rattle.reg_schema.specs.Changes.{AddsColumns}
+use Rattle.reg_schema.proofs.Creates.{and_last, still_empty}
+use Rattle.reg_schema.specs.declared.edition.Edition.TheVariants.{Second}
 use Rattle.reg_schema.proofs.Edits.{step_of}
 use Rattle.reg_schema.proofs.Statements.{adds_columns, cast_int, cast_null}
 use Rattle.reg_schema.proofs.WriteLemmas.{survives_inside}
 
 abbrev about_text : List ℕ
-about_text = codes "INSERT INTO about (schema, base) VALUES (1, ?1)"
+about_text = codes "INSERT INTO about (schema, base) VALUES (2, ?1)"
 
 abbrev about_terms : List Term
-about_terms = lit Null ∷ lit (Int (pos 1)) ∷ col 0 0 ∷ []
+about_terms = lit Null ∷ lit (Int (pos 2)) ∷ col 0 0 ∷ []
 
 about_is : command_of (understood ours about_text) ≡ Insert 0 (Values about_terms 3)
 unfolding understood everything
@@ -39,11 +41,11 @@ about_plain : IsPlain (understood ours about_text)
 unfolding understood everything
 about_plain = (refl, refl)
 
-about_news : (db : Trees) (base : List ℕ) → (step_of db about (Text base ∷ []) about_terms 3).news ≡ (Int (next_rowid (db 0)) ∷ about_columns base) ∷ []
-about_news db base = rw (cast_int (pos 1), cast_null)
+about_news : (db : Trees) (base : List ℕ) → (step_of db about (Text base ∷ []) about_terms 3).news ≡ (Int (next_rowid (db 0)) ∷ about_columns Second base) ∷ []
+about_news db base = rw (cast_int (pos 2), cast_null)
 
-pub inserts_about : (old new : State) (base : List ℕ) (r : Result ℕ Error) → IsInside old → Executes about_text (Text base ∷ []) old new r → OnOk r (AddsColumns 0 (about_columns base) old new)
-inserts_about old new base r at h = adds_columns about_text 0 about refl about_plain refl about_terms 3 about_is (Text base ∷ []) (about_columns base) old new r at (about_news old.now.trees base) h
+pub inserts_about : (old new : State) (base : List ℕ) (r : Result ℕ Error) → IsInside old → Executes about_text (Text base ∷ []) old new r → OnOk r (AddsColumns 0 (about_columns Second base) old new)
+inserts_about old new base r at h = adds_columns about_text 0 about refl about_plain refl about_terms 3 about_is (Text base ∷ []) (about_columns Second base) old new r at (about_news old.now.trees base) h
 
 pub about_survives : (old new : State) (params : Row) → IsReady old → Survives old new (CommitsBy about_text params old) → Survives old new (λ _. ⊥)
 about_survives old new params at = survives_inside about_text params old ours _ about_is new refl (λ clean. ((at clean).schema_is, (at clean).inside))
@@ -53,12 +55,12 @@ others_empty : (tables : List Table) (old new : Trees) → AllByRecursion (λ t.
 others_empty [] old new e h = tt
 others_empty (t ∷ more) old new e h = ((λ other. h.0 other ∙ e.0), others_empty more old new e.1 h.1)
 
-pub is_made : (mid last : State) (base : List ℕ) → HasMade ours mid → AddsColumns 0 (about_columns base) mid last → IsMade base last.now
+pub is_made : (mid last : State) (base : List ℕ) → HasMade ours mid → AddsColumns 0 (about_columns Second base) mid last → IsMade base last.now
 is_made mid last base has adds =
     let b = adds.1.becomes in
     record {
       schema_is = b.inside.schema_is;
-      about = ap (map (drop 1)) (b.rows_are ∙ ap (put_row (Int adds.0 ∷ about_columns base)) has.made.empty.0);
+      about = ap (map (drop 1)) (b.rows_are ∙ ap (put_row (Int adds.0 ∷ about_columns Second base)) has.made.empty.0);
       empty = others_empty our_tables mid.now.trees last.now.trees has.made.empty b.others;
     }
 
@@ -102,5 +104,34 @@ survives_failing base old mid new one two = survives_then old mid new _ _ (Whole
 pub rests : (base : List ℕ) (last new : State) → IsMade base last.now → Shows last new last.now last.now false → IsMade base new.committed × IsAtRest new
 rests base last new made k = (subst (IsMade base) (sym k.committed_is) made, record { is_open = k.is_open; autocommit = k.mode; settled = k.now_is ∙ sym k.committed_is })
 
-pub rests_ours : (base : List ℕ) (s : State) → IsMade base s.committed × IsAtRest s → KeepsOurs s
-rests_ours base s h = record { now_is = ap (λ (d : Database). d.schema) h.1.settled ∙ h.0.schema_is; committed_is = h.0.schema_is; at_rest = λ _. h.1.settled }
+pub rests_ours : (base : List ℕ) (s : State) → IsMade base s.committed × IsAtRest s → Rests Second s
+rests_ours base s h = record { committed_is = h.0.schema_is; autocommit = h.1.autocommit; settled = h.1.settled }
+
+all_taken : {X : Type 0} (P : X → Type 0) (k : ℕ) (xs : List X) → AllByRecursion P xs → AllByRecursion P (take k xs)
+all_taken P zero xs h = tt
+all_taken P (suc k) [] h = tt
+all_taken P (suc k) (x ∷ xs) h = (h.0, all_taken P k xs h.1)
+
+kept_twice : (tables : List Table) (a b c : Trees) → AllByRecursion (λ t. b t.tree ≡ a t.tree) tables → AllByRecursion (λ t. c t.tree ≡ b t.tree) tables → AllByRecursion (λ t. c t.tree ≡ a t.tree) tables
+kept_twice [] a b c one two = tt
+kept_twice (t ∷ more) a b c one two = (two.0 ∙ one.0, kept_twice more a b c one.1 two.1)
+
+-- both tables of readers are made
+pub extends : (old mid new : State) → Grows old_schema (first_of_ours 11 7) 17 old mid → Grows (first_of_ours 11 7) ours 18 mid new → Extends old new
+extends old mid new one two = record {
+  kept = kept_twice old_schema.tables old.now.trees mid.now.trees new.now.trees one.kept (all_taken (λ t. new.now.trees t.tree ≡ mid.now.trees t.tree) 10 (first_of_ours 11 7).tables two.kept);
+  restricted = two.kept.1.1.1.1.1.1.1.1.1.1.0 ∙ one.empty;
+  readers = two.empty;
+  committed = two.committed ∙ one.committed;
+  inside = two.inside;
+}
+
+pub extends_makes : (old new : State) → HasMade old_schema old → Extends old new → Makes ours old new
+extends_makes old new has it =
+    let e = still_empty old_schema.tables old.now.trees new.now.trees it.kept has.made.empty in
+    let none = λ (t : Table). new.now.trees t.tree ≡ [] in
+    let empty : AllByRecursion none our_tables = and_last none (first_of_ours 11 7).tables readers (and_last none old_schema.tables restricted e it.restricted) it.readers in
+    record { has = record { made = record { schema_is = it.inside.schema_is; empty = empty }; is_open = it.inside.is_open; inside = it.inside.inside }; committed = it.committed }
+
+pub extends_then : (a b c : State) → Makes old_schema a b → Extends b c → Makes ours a c
+extends_then a b c one two = record { has = (extends_makes b c one.has two).has; committed = two.committed ∙ one.committed }

@@ -7,11 +7,9 @@ use Rattle.sqlite.specs.Command.TheVariants.{Select}
 use Rattle.sqlite.specs.Listing.{understood, reads_listing}
 use Rattle.sqlite.specs.Schema.{Schema}
 use Rattle.sqlite.specs.State.{State, HasCleanDisk, Shown}
-use Rattle.sqlite.proofs.Callers.{IsPlain, command_of}
-use Rattle.reg_schema.specs.Schema.{ours}
-use Rattle.reg_schema.specs.States.{IsInside, IsReady, OnlyReads}
+use Rattle.sqlite.proofs.Callers.{IsPlain, command_of, reads_as as answered_as}
+use Rattle.reg_schema.specs.States.{IsInsideWith, OnlyReads}
 use Rattle.reg_schema.specs.Statements.{IsReading}
-use Rattle.reg_schema.proofs.Selections.{answered}
 
 -- what the schema makes of a text: this query, which only reads
 pub record IsSelection (schema : Schema) (text : List ℕ) (q : Query) (names : List (List ℕ)) : Type 0 where
@@ -20,17 +18,17 @@ pub record IsSelection (schema : Schema) (text : List ℕ) (q : Query) (names : 
   pub plain : IsPlain (understood schema text)
 
 -- the rows that it shows are an answer of its query
-pub selected : {text : List ℕ} {q : Query} {names : List (List ℕ)} → IsSelection ours text q names
-    → (params : Row) (old new : State) (rows : List Row) → IsInside old → Shown text params old new rows
+pub selected : {schema : Schema} {text : List ℕ} {q : Query} {names : List (List ℕ)} → IsSelection schema text q names
+    → (params : Row) (old new : State) (rows : List Row) → IsInsideWith schema old → Shown text params old new rows
     → IsSureAnswer q (overlay old.now.trees []) params rows
-selected {text} {q} {names} is params old new rows at h = answered text is.plain q names is.command is.unlisted params old new rows at h
+selected {schema} {text} {q} {names} is params old new rows at h = (answered_as text params old new schema at.schema_is _ is.command is.plain is.unlisted rows h).answer
 
 turned : {T E : Type 0} (r : Result T E) {P Q : T → Type 0} → ((x : T) → P x → Q x) → IfOk r P → IfOk r Q
 turned (Ok x) f h = f x h
 turned (Err e) f h = tt
 
 -- what an answer tells, in other words
-pub reads_as : {T E : Type 0} (old new : State) (r : Result T E) {P Q : T → Type 0} → IsReady old → (IsInside old → (x : T) → P x → Q x) → IsReading old new r P → IsReading old new r Q
+pub reads_as : {T E : Type 0} (old new : State) (r : Result T E) {P Q : T → Type 0} {I : Type 0} → (HasCleanDisk old → I) → (I → (x : T) → P x → Q x) → IsReading old new r P → IsReading old new r Q
 reads_as old new r ready turn h = record {
   told = λ clean. turned r (turn (ready (omega (arith, h.survives.clean)))) (h.told clean);
   only = h.only;
@@ -66,8 +64,8 @@ made_of (Ok y) f h = f y h
 made_of (Err e) f h = tt
 
 -- what another function makes of the answer
-pub reads_then : {T U E F : Type 0} (old new : State) (r : Result T E) (q : Result U F) (x : T) {P : T → Type 0} {R Q : U → Type 0} → r ≡ Ok x → IsReady old
-    → (IsInside old → P x → (y : U) → R y → Q y) → IfOk q R → IsReading old new r P → IsReading old new q Q
+pub reads_then : {T U E F : Type 0} (old new : State) (r : Result T E) (q : Result U F) (x : T) {P : T → Type 0} {R Q : U → Type 0} {I : Type 0} → r ≡ Ok x → (HasCleanDisk old → I)
+    → (I → P x → (y : U) → R y → Q y) → IfOk q R → IsReading old new r P → IsReading old new q Q
 reads_then old new r q x is ready turn made h = record {
   told = λ clean. made_of q (turn (ready (omega (arith, h.survives.clean))) (rw is at (h.told clean))) made;
   only = λ clean. only_then old new r q x is (h.only clean);

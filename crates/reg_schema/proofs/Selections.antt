@@ -7,16 +7,16 @@ use Rattle.std.specs.List.Sorted.{IsPermutation}
 use Rattle.sqlite.specs.Order.{Row}
 use Rattle.sqlite.specs.Term.{Term, eval_all}
 use Rattle.sqlite.specs.Tree.{Trees}
-use Rattle.sqlite.specs.Query.{Query, inner, end, matches, IsSureAnswer}
-use Rattle.sqlite.specs.Program.{overlay}
-use Rattle.sqlite.specs.Command.TheVariants.{Select}
-use Rattle.sqlite.specs.Listing.{understood, reads_listing}
+use Rattle.sqlite.specs.Query.{inner, end, matches, IsSureAnswer}
+use Rattle.sqlite.specs.Listing.{understood}
 use Rattle.sqlite.specs.State.{State, Survives, CommitsShowing, Shown, FailsToQuery}
 use Rattle.sqlite.specs.declared.error.Error.{Error}
-use Rattle.sqlite.proofs.Callers.{IsPlain, command_of, reads_as, never_commits}
+use Rattle.sqlite.proofs.Callers.{IsPlain, never_commits}
 use Rattle.sqlite.proofs.StateLemmas.{survives_weaker}
-use Rattle.reg_schema.specs.Schema.{ours}
-use Rattle.reg_schema.specs.States.{IsInside, IsReady, OnlyReads}
+use Rattle.reg_schema.specs.States.{IsInsideWith, OnlyReads}
+use Rattle.reg_schema.specs.Statements.{IsReadable, MayRead}
+use Rattle.sqlite.specs.Schema.{Schema}
+use Rattle.sqlite.specs.State.{HasCleanDisk}
 use Rattle.reg_schema.proofs.Queries.{plain, answers, maps_twice}
 use Rattle.reg_schema.proofs.ReadLemmas.{shown_unchanged, query_refused}
 
@@ -36,24 +36,14 @@ of_table db params tree filters project rows test met h =
     let env = λ (r : Row). params ∷ r ∷ [] in
     subst (λ xs. IsPermutation xs rows) (ap (map (eval_all project)) met ∙ maps_twice env (eval_all project) (filter test (db tree))) (answers db params (inner tree end) filters project rows h)
 
-module _ (text : List ℕ) (bare : IsPlain (understood ours text)) where
-  stays_plain : (old : State) → IsInside old → IsPlain (understood old.now.schema text)
-  stays_plain old at = subst (λ s. IsPlain (understood s text)) (sym at.schema_is) bare
+-- a text that is understood by a schema may be read in a transaction of that schema
+pub may_read : {schema : Schema} (text : List ℕ) → IsPlain (understood schema text) → (s : State) → (HasCleanDisk s → IsInsideWith schema s) → MayRead text s
+may_read text bare s ready clean = let at = ready clean in record { is_open = at.is_open; inside = at.inside; plain = subst (λ k. IsPlain (understood k text)) (sym at.schema_is) bare }
 
-  pub only_reads : (params : Row) (old new : State) (r : Result (Vec Row Global) Error) → IsInside old → IfOk r (λ rows. Shown text params old new rows.items) → IfErr r (FailsToQuery text params old new) → OnlyReads r old new
-  only_reads params old new (Err e) at ok err = (tt, query_refused text params old new (stays_plain old at) e (inl err))
-  only_reads params old new (Ok rows) at ok err = (shown_unchanged text params old new (stays_plain old at) rows.items ok, tt)
+module _ (text : List ℕ) (params : Row) (old new : State) where
+  pub only_reads : (r : Result (Vec Row Global) Error) → IsReadable text old → IfOk r (λ rows. Shown text params old new rows.items) → IfErr r (FailsToQuery text params old new) → OnlyReads r old new
+  only_reads (Err e) at ok err = (tt, query_refused text params old new at.plain e (inl err))
+  only_reads (Ok rows) at ok err = (shown_unchanged text params old new at.plain rows.items ok, tt)
 
-  pub reading_survives : (params : Row) (old new : State) → IsReady old → Survives old new (CommitsShowing text params old) → Survives old new (λ _. ⊥)
-  reading_survives params old new at s =
-      survives_weaker old new _ _ (λ clean db. never_commits text params old db (stays_plain old (at (omega (arith, s.clean))))) s
-
-  module _ (q : Query) (names : List (List ℕ)) (is : command_of (understood ours text) ≡ Select (record { lets = []; body = q }) names) (unlisted : reads_listing ours text ≡ false) where
-    -- the rows are an answer of the query
-    pub answered : (params : Row) (old new : State) (rows : List Row) → IsInside old → Shown text params old new rows → IsSureAnswer q (overlay old.now.trees []) params rows
-    answered params old new rows at h = (reads_as text params old new ours at.schema_is _ is bare unlisted rows h).answer
-
-    pub if_answered : (params : Row) (old new : State) (P : List Row → Type 0) → ((rows : List Row) → IsSureAnswer q (overlay old.now.trees []) params rows → P rows) → (r : Result (Vec Row Global) Error) → IsInside old
-        → IfOk r (λ rows. Shown text params old new rows.items) → IfOk r (λ rows. P rows.items)
-    if_answered params old new P gives (Err e) at h = tt
-    if_answered params old new P gives (Ok rows) at h = gives rows.items (answered params old new rows.items at h)
+  pub reading_survives : MayRead text old → Survives old new (CommitsShowing text params old) → Survives old new (λ _. ⊥)
+  reading_survives at s = survives_weaker old new _ _ (λ clean db. never_commits text params old db (at (omega (arith, s.clean))).plain) s

@@ -4,12 +4,12 @@ use Rattle.sqlite.specs.Table.{Table}
 use Rattle.sqlite.specs.Schema.{Schema}
 use Rattle.sqlite.specs.Command.TheVariants.{CreateTable}
 use Rattle.sqlite.specs.Compile.{table_defined_by}
-use Rattle.sqlite.specs.Change.{created}
+use Rattle.sqlite.specs.Change.{created, next_tree}
 use Rattle.sqlite.specs.Does.{lacks_sequence}
 use Rattle.sqlite.specs.Listing.{understood}
 use Rattle.sqlite.proofs.Callers.{IsPlain, command_of, statement_of}
 use Rattle.sqlite_tied.specs.Compute.{everything}
-use Rattle.reg_schema.specs.Schema.{blank, first_of_ours, ours, about, accounts, tokens, scopes, crates, owners, versions, archives, reserved, summaries, restricted, readers}
+use Rattle.reg_schema.specs.Schema.{blank, first_of_ours, ours, old_schema, about, accounts, tokens, scopes, crates, owners, versions, archives, reserved, summaries, restricted, readers}
 use Rattle.reg_schema.specs.Texts.{about_text, accounts_text, tokens_text, scopes_text, crates_text, owners_text, versions_text, archives_text, reserved_text, summaries_text, restricted_text, readers_text}
 
 -- the text makes the table, and leads from one schema to the next
@@ -57,14 +57,23 @@ pub reserved_step : IsStep reserved_text (record reserved { tree = 0 }) (first_o
 unfolding understood everything
 reserved_step = record { command = refl; statement = refl; plain = (refl, refl); defined = refl; leads = refl; uncounted = refl }
 
-pub summaries_step : IsStep summaries_text (record summaries { tree = 0 }) (first_of_ours 9 7) (first_of_ours 10 7)
+pub summaries_step : IsStep summaries_text (record summaries { tree = 0 }) (first_of_ours 9 7) old_schema
 unfolding understood everything
 summaries_step = record { command = refl; statement = refl; plain = (refl, refl); defined = refl; leads = refl; uncounted = refl }
 
-pub restricted_step : IsStep restricted_text (record restricted { tree = 0 }) (first_of_ours 10 7) (first_of_ours 11 7)
+pub restricted_step : IsStep restricted_text (record restricted { tree = 0 }) old_schema (first_of_ours 11 7)
 unfolding understood everything
 restricted_step = record { command = refl; statement = refl; plain = (refl, refl); defined = refl; leads = refl; uncounted = refl }
 
 pub readers_step : IsStep readers_text (record readers { tree = 0 }) (first_of_ours 11 7) ours
 unfolding understood everything
 readers_step = record { command = refl; statement = refl; plain = (refl, refl); defined = refl; leads = refl; uncounted = refl }
+
+-- the trees of the tables that an old store does not have
+pub restricted_next : next_tree old_schema ≡ 17
+unfolding everything
+restricted_next = refl
+
+pub readers_next : next_tree (first_of_ours 11 7) ≡ 18
+unfolding everything
+readers_next = refl

@@ -21,6 +21,8 @@ use Rattle.sqlite_schema.specs.declared.schema.Action.TheVariants.{NoAction}
 use Rattle.sqlite_value.specs.Keys.{plain}
 use Rattle.sqlite_value.specs.declared.keys.Order.{Order}
 use Rattle.sqlite_catalog.specs.Listing.{automatic}
+use Rattle.reg_schema.specs.declared.edition.Edition.{Edition}
+use Rattle.reg_schema.specs.declared.edition.Edition.TheVariants.{First, Second}
 
 abbrev pub column : List ℕ → Kind → Bool → Column
 column name kind not_null = record {
@@ -161,9 +163,28 @@ our_indexes =
     ∷ automatic versions 0 (2 ∷ 4 ∷ []) 12 ∷ automatic reserved 0 (1 ∷ []) 15
     ∷ automatic readers 0 (1 ∷ 2 ∷ []) 19 ∷ []
 
--- the schema of a registry
+-- schema 2, which a registry that is written to has
 abbrev pub ours : Schema
 ours = record { tables = our_tables; indexes = our_indexes; views = [] }
+
+-- schema 1: without the tables of readers
+abbrev pub old_tables : List Table
+old_tables = take 10 our_tables
+
+abbrev pub old_indexes : List Index
+old_indexes = take 7 our_indexes
+
+abbrev pub old_schema : Schema
+old_schema = record { tables = old_tables; indexes = old_indexes; views = [] }
+
+-- the schema of an edition, and its number
+abbrev pub schema_of : Edition → Schema
+schema_of First = old_schema
+schema_of Second = ours
+
+abbrev pub number_of : Edition → ℕ
+number_of First = 1
+number_of Second = 2
 
 -- the schema with the first of our tables and indexes
 abbrev pub first_of_ours : ℕ → ℕ → Schema

@@ -1,16 +1,28 @@
 -- What a statement of a transaction leaves, whatever it answers. Each word is all that a caller may
 -- know.
-use Rattle.std.specs.Prelude.{◌≡◌, Bool, true, false, List, ℕ, Result, Ok, Err, IfOk, OnOk, OnErr}
+use Rattle.std.specs.Prelude.{◌≡◌, Bool, true, false, List, ℕ, Result, Ok, Err, IfOk, OnOk, OnErr, IsTrue}
 use Rattle.sqlite_trees.specs.declared.store.Store.{Ghosts}
 use Rattle.sqlite.specs.Command.{Command}
 use Rattle.sqlite.specs.Command.TheVariants.{Insert, Update, Delete, CreateTable}
 use Rattle.sqlite.specs.Held.{Held, state}
+use Rattle.sqlite.specs.Given.{IsPlain}
+use Rattle.sqlite.specs.Listing.{understood}
 use Rattle.sqlite.specs.Order.{Row}
 use Rattle.sqlite.specs.State.{State, HasCleanDisk, Shown, Survives}
 use Rattle.sqlite.specs.Tree.{Trees}
 use Rattle.sqlite_resolve.specs.declared.compiled.Compiled.{Compiled}
 use Rattle.sqlite_resolve.specs.declared.error.CompileError.{CompileError}
 use Rattle.reg_schema.specs.States.{OnlyReads, Refuses}
+
+-- a transaction in which this text is understood, and only reads
+pub record IsReadable (text : List ℕ) (s : State) : Type 0 where
+  pub is_open : IsTrue s.is_open
+  pub inside : s.in_transaction ≡ true
+  pub plain : IsPlain (understood s.now.schema text)
+
+-- what the reading of a text asks
+abbrev pub MayRead : List ℕ → State → Type 0
+MayRead text s = HasCleanDisk s → IsReadable text s
 
 -- it answers what is told, changes nothing, and no stop in it commits
 pub record IsReading {T E : Type 0} (old new : State) (r : Result T E) (tells : T → Type 0)

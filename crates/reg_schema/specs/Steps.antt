@@ -3,19 +3,20 @@ use Rattle.std.specs.Prelude.{◌≡◌, Result, IfOk, OnOk, OnErr, IsTrue}
 use Rattle.sqlite_trees.specs.declared.store.Store.{Ghosts}
 use Rattle.sqlite.specs.Held.{Held, state}
 use Rattle.sqlite.specs.State.{State, HasCleanDisk, KeepsCommit, Survives}
-use Rattle.reg_schema.specs.States.{IsInside, IsOurs, OnlyReads}
+use Rattle.reg_schema.specs.declared.edition.Edition.{Edition}
+use Rattle.reg_schema.specs.States.{GoesBack, IsInside, OnlyReads}
 
 -- what is seen has changed within the transaction, and nothing is committed
 pub record Within (old new : State) : Type 0 where
   pub was_open : IsTrue old.is_open
   pub committed : new.committed ≡ old.committed
   pub inside : IsInside new
-  pub ours : IsOurs old → IsOurs new
+  pub back : (e : Edition) → GoesBack e old → GoesBack e new
 
--- a fault: of what is seen nothing is said but that it is ours, and nothing is committed
+-- a fault: of what is seen nothing is said, and nothing is committed
 pub record Fails (old new : State) : Type 0 where
   pub kept : KeepsCommit old new
-  pub ours : IsOurs old → IsOurs new
+  pub back : (e : Edition) → GoesBack e old → GoesBack e new
 
 -- they change what is seen or fail, and no stop in them commits
 pub record LeavesWithin {T E : Type 0} (old new : State) (r : Result T E) : Type 0 where

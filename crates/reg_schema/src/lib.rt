@@ -2,6 +2,7 @@
 //! understood.
 #![tactic(auto)]
 
+mod edition;
 pub mod laws;
 mod make;
 mod ours;
@@ -10,6 +11,7 @@ mod terms;
 mod texts;
 mod transaction;
 
-pub use make::{MakeFault, create_tables, make_tables};
-pub use ours::is_ours;
+pub use edition::Edition;
+pub use make::{MakeFault, add_tables, create_tables, make_tables};
+pub use ours::edition_of;
 pub use transaction::{begin, finish, undo};

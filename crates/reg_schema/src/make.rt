@@ -3,10 +3,11 @@
 ghost use Rattle.std.specs.Prelude.{◌≡◌, ◌≢◌, ◌↔◌, IsTrue, Err, OnOk, OnErr, IfErr};
 ghost use Rattle.sqlite.specs.State.{HasCleanDisk, Survives, KeepsCommit};
 ghost use Rattle.sqlite.specs.Held.{state};
-ghost use Rattle.reg_schema.specs.Schema.{ours, blank, first_of_ours};
-ghost use Rattle.reg_schema.specs.States.{IsReady, IsOurs, IsAtRest, HasMade, IsMade, Makes, Refuses, IsUndone, LeavesCommit, about_columns};
+ghost use Rattle.reg_schema.specs.Schema.{ours, old_schema, blank, first_of_ours};
+ghost use Rattle.reg_schema.specs.States.{Extends, IsReady, IsReadyOf, IsOurs, IsAtRest, HasMade, IsMade, Makes, Refuses, IsUndone, LeavesCommit, about_columns};
 ghost use Rattle.reg_schema.specs.Changes.{AddsColumns};
 
+use crate::edition::Edition;
 use crate::texts;
 use crate::transaction::{begin, finish, undo};
 use sqlite::{Alter, Connection, Error, params};
@@ -46,7 +47,7 @@ fn create_crate_tables<S: Alter>(conn: &mut Connection<S>) -> Result<(), Error>
     requires { HasCleanDisk (state S.Store conn.old) → HasMade (first_of_ours 4 3)
         (state S.Store conn.old) }
     ensures made { HasCleanDisk (state S.Store conn.new) → OnOk result
-        (Makes (first_of_ours 9 7) (state S.Store conn.old) (state S.Store conn.new)) }
+        (Makes old_schema (state S.Store conn.old) (state S.Store conn.new)) }
     ensures refused { HasCleanDisk (state S.Store conn.new) → OnErr result
         (KeepsCommit (state S.Store conn.old) (state S.Store conn.new)) }
     ensures survives { Survives (state S.Store conn.old) (state S.Store conn.new) (λ _. ⊥) }
@@ -56,25 +57,27 @@ fn create_crate_tables<S: Alter>(conn: &mut Connection<S>) -> Result<(), Error>
     texts::create_versions(conn)?;
     texts::create_archives(conn)?;
     texts::create_reserved(conn)?;
+    texts::create_summaries(conn)?;
     Ok(())
 }
 
-fn create_reader_tables<S: Alter>(conn: &mut Connection<S>) -> Result<(), Error>
-    requires { HasCleanDisk (state S.Store conn.old) → HasMade (first_of_ours 9 7)
-        (state S.Store conn.old) }
-    ensures made { HasCleanDisk (state S.Store conn.new) → OnOk result
-        (Makes ours (state S.Store conn.old) (state S.Store conn.new)) }
+/// Makes the two tables that schema 2 has and schema 1 has not, in the transaction that is open.
+#[tactic(auto, using(crate::proofs::MakeLemmas::extends))]
+pub fn add_tables<S: Alter>(conn: &mut Connection<S>) -> Result<(), Error>
+    requires { IsReadyOf Edition.First (state S.Store conn.old) }
+    ensures added { HasCleanDisk (state S.Store conn.new) → OnOk result
+        (Extends (state S.Store conn.old) (state S.Store conn.new)) }
     ensures refused { HasCleanDisk (state S.Store conn.new) → OnErr result
         (KeepsCommit (state S.Store conn.old) (state S.Store conn.new)) }
     ensures survives { Survives (state S.Store conn.old) (state S.Store conn.new) (λ _. ⊥) }
 {
-    texts::create_summaries(conn)?;
     texts::create_restricted(conn)?;
     texts::create_readers(conn)?;
     Ok(())
 }
 
 /// Makes the tables, in the transaction that is open.
+#[tactic(auto, using(crate::proofs::MakeLemmas::extends_then))]
 pub fn create_tables<S: Alter>(conn: &mut Connection<S>) -> Result<(), Error>
     requires { HasCleanDisk (state S.Store conn.old) → HasMade blank (state S.Store conn.old) }
     ensures made { HasCleanDisk (state S.Store conn.new) → OnOk result
@@ -85,19 +88,20 @@ pub fn create_tables<S: Alter>(conn: &mut Connection<S>) -> Result<(), Error>
 {
     create_token_tables(conn)?;
     create_crate_tables(conn)?;
-    create_reader_tables(conn)
+    add_tables(conn)
 }
 
 fn insert_about<S: Alter>(conn: &mut Connection<S>, base: &str) -> Result<usize, Error>
     requires { IsReady (state S.Store conn.old) }
     ensures added { HasCleanDisk (state S.Store conn.new) → OnOk result
-        (AddsColumns 0 (about_columns base.now) (state S.Store conn.old) (state S.Store conn.new)) }
+        (AddsColumns 0 (about_columns Edition.Second base.now) (state S.Store conn.old)
+        (state S.Store conn.new)) }
     ensures refused { HasCleanDisk (state S.Store conn.new) → OnErr result
         (Refuses (state S.Store conn.old) (state S.Store conn.new)) }
     ensures survives { Survives (state S.Store conn.old) (state S.Store conn.new) (λ _. ⊥) }
 {
     conn.execute(
-        "INSERT INTO about (schema, base) VALUES (1, ?1)",
+        "INSERT INTO about (schema, base) VALUES (2, ?1)",
         params![base],
     )
 }
@@ -135,7 +139,7 @@ fn fill_and_commit<S: Alter>(conn: &mut Connection<S>, base: &str) -> Result<(),
 pub fn make_tables<S: Alter>(conn: &mut Connection<S>, base: &str) -> Result<(), MakeFault>
     ensures made { HasCleanDisk (state S.Store conn.new) → OnOk result
         (IsMade base.now (state S.Store conn.new).committed × IsAtRest (state S.Store conn.new)) }
-    ensures ours { OnOk result (IsOurs (state S.Store conn.new)) }
+    ensures ours { OnOk result (IsOurs Edition.Second (state S.Store conn.new)) }
     ensures unknown { (result ≡ Err MakeFault.UnknownSchema) ↔
         ((state S.Store conn.old).now.schema ≢ blank) }
     ensures blank { result ≢ Err MakeFault.UnknownSchema → (state S.Store conn.old).now.schema

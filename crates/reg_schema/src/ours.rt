@@ -1,10 +1,11 @@
-//! Whether a schema that was found is ours.
+//! Which of our schemas a schema is that was found.
 
-ghost use Rattle.std.specs.Prelude.{◌≡◌, ◌↔◌, ◌+◌, ◌<◌, true, Ok, IsTrue, IfOk, take, drop};
+ghost use Rattle.std.specs.Prelude.{◌≡◌, ◌↔◌, ◌+◌, ◌<◌, true, false, Ok, Some, IsTrue, IfOk, take, drop};
 ghost use Rattle.sqlite.specs.Compile.{table_defined_by};
 ghost use Rattle.sqlite_value.specs.Keys.{plain};
-ghost use Rattle.reg_schema.specs.Schema.{ours, our_tables, our_indexes};
+ghost use Rattle.reg_schema.specs.Schema.{our_tables, our_indexes, old_tables, old_indexes, schema_of};
 
+use crate::edition::Edition;
 use crate::same::same_table;
 use crate::texts::{
     ABOUT, ACCOUNTS, ARCHIVES, CRATES, OWNERS, READERS, RESERVED, RESTRICTED, SCOPES, SUMMARIES,
@@ -69,17 +70,33 @@ fn are_reader_tables(alloc: Global, tables: &[Table]) -> Result<bool, AllocError
 }
 
 fn are_first_tables(alloc: Global, tables: &[Table]) -> Result<bool, AllocError>
-    ensures { IfOk result (λ same. IsTrue same ↔ (tables.now ≡ take 10 our_tables)) }
+    ensures { IfOk result (λ same. IsTrue same ↔ (tables.now ≡ old_tables)) }
 {
     let (of_tokens, of_crates) = tables.split_at(tables.len().min(4));
     Ok(are_token_tables(alloc, of_tokens)? & are_crate_tables(alloc, of_crates)?)
 }
 
-fn are_our_tables(alloc: Global, tables: &[Table]) -> Result<bool, AllocError>
-    ensures { IfOk result (λ same. IsTrue same ↔ (tables.now ≡ our_tables)) }
+// Which edition has a list, told by its first part and its rest.
+fn edition_by(first: bool, no_more: bool, added: bool) -> Option<Edition>
+    ensures first { (result ≡ Some Edition.First) ↔ (IsTrue first × IsTrue no_more) }
+    ensures second { (result ≡ Some Edition.Second) ↔
+        (IsTrue first × (no_more ≡ false) × IsTrue added) }
 {
-    let (first, of_readers) = tables.split_at(tables.len().min(10));
-    Ok(are_first_tables(alloc, first)? & are_reader_tables(alloc, of_readers)?)
+    match (first, no_more, added) {
+        (true, true, _) => Some(Edition::First),
+        (true, false, true) => Some(Edition::Second),
+        _ => None,
+    }
+}
+
+fn edition_of_tables(alloc: Global, tables: &[Table]) -> Result<Option<Edition>, AllocError>
+    ensures { IfOk result (λ found. (e : Edition) → (found ≡ Some e) ↔
+        (tables.now ≡ (schema_of e).tables)) }
+{
+    let (first, added) = tables.split_at(tables.len().min(10));
+    let is_first = are_first_tables(alloc, first)?;
+    let is_second = are_reader_tables(alloc, added)?;
+    Ok(edition_by(is_first, added.is_empty(), is_second))
 }
 
 fn is_index(index: &Index, name: &str, table: u32, columns: &[usize]) -> bool
@@ -102,7 +119,7 @@ fn is_index(index: &Index, name: &str, table: u32, columns: &[usize]) -> bool
 }
 
 fn are_first_indexes(indexes: &[Index]) -> bool
-    ensures { IsTrue result ↔ (indexes.now ≡ take 7 our_indexes) }
+    ensures { IsTrue result ↔ (indexes.now ≡ old_indexes) }
 {
     let [accounts, tokens, scopes, crates, owners, versions, reserved] = indexes else {
         return false;
@@ -125,19 +142,28 @@ fn are_reader_indexes(indexes: &[Index]) -> bool
     is_index(readers, "sqlite_autoindex_readers_1", 18, &[1, 2])
 }
 
-fn are_our_indexes(indexes: &[Index]) -> bool
-    ensures { IsTrue result ↔ (indexes.now ≡ our_indexes) }
+fn edition_of_indexes(indexes: &[Index]) -> Option<Edition>
+    ensures { (e : Edition) → (result ≡ Some e) ↔ (indexes.now ≡ (schema_of e).indexes) }
 {
-    let (first, of_readers) = indexes.split_at(indexes.len().min(7));
-    are_first_indexes(first) & are_reader_indexes(of_readers)
+    let (first, added) = indexes.split_at(indexes.len().min(7));
+    let is_first = are_first_indexes(first);
+    let is_second = are_reader_indexes(added);
+    edition_by(is_first, added.is_empty(), is_second)
 }
 
-/// Whether this is the schema that `make_tables` makes.
-pub fn is_ours(alloc: Global, schema: &Schema) -> Result<bool, AllocError>
-    ensures { IfOk result (λ same. IsTrue same ↔ (schema.now ≡ ours)) }
+/// Which of our schemas this is, if it is one.
+pub fn edition_of(alloc: Global, schema: &Schema) -> Result<Option<Edition>, AllocError>
+    ensures { IfOk result (λ found. (e : Edition) → (found ≡ Some e) ↔
+        (schema.now ≡ schema_of e)) }
 {
-    if !schema.views.is_empty() || !are_our_indexes(schema.indexes.as_slice()) {
-        return Ok(false);
+    if !schema.views.is_empty() {
+        return Ok(None);
     }
-    are_our_tables(alloc, schema.tables.as_slice())
+    let of_tables = edition_of_tables(alloc, schema.tables.as_slice())?;
+    let of_indexes = edition_of_indexes(schema.indexes.as_slice());
+    if of_tables == of_indexes {
+        Ok(of_tables)
+    } else {
+        Ok(None)
+    }
 }

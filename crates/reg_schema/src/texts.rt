@@ -3,8 +3,8 @@
 ghost use Rattle.sqlite.specs.State.{HasCleanDisk, Survives};
 ghost use Rattle.sqlite.specs.Held.{state};
 ghost use Rattle.std.specs.Prelude.{OnOk, OnErr};
-ghost use Rattle.reg_schema.specs.Schema.{ours, blank, first_of_ours};
-ghost use Rattle.reg_schema.specs.States.{HasMade, Makes, Refuses};
+ghost use Rattle.reg_schema.specs.Schema.{ours, old_schema, blank, first_of_ours};
+ghost use Rattle.reg_schema.specs.States.{Grows, HasMade, IsInsideWith, Makes, Refuses};
 
 use sqlite::{Alter, Connection, Error};
 
@@ -171,7 +171,7 @@ pub fn create_summaries<S: Alter>(conn: &mut Connection<S>) -> Result<usize, Err
     requires { HasCleanDisk (state S.Store conn.old) → HasMade (first_of_ours 9 7)
         (state S.Store conn.old) }
     ensures made { HasCleanDisk (state S.Store conn.new) → OnOk result
-        (Makes (first_of_ours 10 7) (state S.Store conn.old) (state S.Store conn.new)) }
+        (Makes old_schema (state S.Store conn.old) (state S.Store conn.new)) }
     ensures refused { HasCleanDisk (state S.Store conn.new) → OnErr result
         (Refuses (state S.Store conn.old) (state S.Store conn.new)) }
     ensures survives { Survives (state S.Store conn.old) (state S.Store conn.new) (λ _. ⊥) }
@@ -180,10 +180,10 @@ pub fn create_summaries<S: Alter>(conn: &mut Connection<S>) -> Result<usize, Err
 }
 
 pub fn create_restricted<S: Alter>(conn: &mut Connection<S>) -> Result<usize, Error>
-    requires { HasCleanDisk (state S.Store conn.old) → HasMade (first_of_ours 10 7)
+    requires { HasCleanDisk (state S.Store conn.old) → IsInsideWith old_schema
         (state S.Store conn.old) }
     ensures made { HasCleanDisk (state S.Store conn.new) → OnOk result
-        (Makes (first_of_ours 11 7) (state S.Store conn.old) (state S.Store conn.new)) }
+        (Grows old_schema (first_of_ours 11 7) 17 (state S.Store conn.old) (state S.Store conn.new)) }
     ensures refused { HasCleanDisk (state S.Store conn.new) → OnErr result
         (Refuses (state S.Store conn.old) (state S.Store conn.new)) }
     ensures survives { Survives (state S.Store conn.old) (state S.Store conn.new) (λ _. ⊥) }
@@ -192,10 +192,10 @@ pub fn create_restricted<S: Alter>(conn: &mut Connection<S>) -> Result<usize, Er
 }
 
 pub fn create_readers<S: Alter>(conn: &mut Connection<S>) -> Result<usize, Error>
-    requires { HasCleanDisk (state S.Store conn.old) → HasMade (first_of_ours 11 7)
+    requires { HasCleanDisk (state S.Store conn.old) → IsInsideWith (first_of_ours 11 7)
         (state S.Store conn.old) }
     ensures made { HasCleanDisk (state S.Store conn.new) → OnOk result
-        (Makes ours (state S.Store conn.old) (state S.Store conn.new)) }
+        (Grows (first_of_ours 11 7) ours 18 (state S.Store conn.old) (state S.Store conn.new)) }
     ensures refused { HasCleanDisk (state S.Store conn.new) → OnErr result
         (Refuses (state S.Store conn.old) (state S.Store conn.new)) }
     ensures survives { Survives (state S.Store conn.old) (state S.Store conn.new) (λ _. ⊥) }

@@ -1,5 +1,5 @@
-mod AboutLemmas
 mod AboutQueries
+mod AboutTexts
 mod AccountQueries
 mod AccountTexts
 mod ArchiveQueries
@@ -10,10 +10,18 @@ mod OwnerQueries
 mod OwnerTexts
 mod PairQueries
 mod PairTexts
+mod ReaderQueries
+mod ReaderTexts
 mod ReservedQueries
 mod ReservedTexts
+mod RestrictedQueries
+mod RestrictedTexts
+mod RowidQueries
 mod ScopeQueries
 mod ScopeTexts
+pub mod StemQueries
+mod SummaryQueries
+mod SummaryTexts
 mod TokenQueries
 mod TokenTexts
 mod Updates

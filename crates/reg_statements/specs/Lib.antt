@@ -6,8 +6,11 @@ pub mod Crates
 pub mod Owners
 pub mod Pairs
 pub mod Reserved
+pub mod Restricted
 pub mod Rowids
 pub mod Scopes
+pub mod Stems
+pub mod Summaries
 pub mod Tokens
 pub mod Updates
 pub mod Versions

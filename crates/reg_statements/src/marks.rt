@@ -4,6 +4,7 @@ ghost use Rattle.std.specs.Prelude.{◌≡◌, IfOk};
 ghost use Rattle.sqlite.specs.Order.{column};
 ghost use Rattle.reg_schema.specs.Rows.{mark, number_columns};
 ghost use Rattle.reg_statements.specs.Reserved.{columns_of_text};
+ghost use Rattle.reg_statements.specs.Rowids.{rowid_columns};
 
 use crate::records::FromRow;
 use sqlite::{Error, Row};
@@ -36,6 +37,18 @@ impl FromRow for u64 {
     ghost columns = { number_columns };
 
     fn from_row(row: &Row) -> Result<u64, Error> {
+        if row.column_count() != 1 {
+            return Err(Error::InvalidQuery);
+        }
+        row.get(0)
+    }
+}
+
+/// A rowid.
+impl FromRow for i64 {
+    ghost columns = { rowid_columns };
+
+    fn from_row(row: &Row) -> Result<i64, Error> {
         if row.column_count() != 1 {
             return Err(Error::InvalidQuery);
         }

@@ -7,6 +7,7 @@ ghost use Rattle.reg_schema.specs.States.{IsReady};
 ghost use Rattle.reg_schema.specs.Statements.{Reads, Writes, rows_in};
 ghost use Rattle.reg_schema.specs.Tests.{is_owner};
 ghost use Rattle.reg_statements.specs.Owners.{AreOwnersOf, AreOwnerships, IsOwned, owner_columns};
+ghost use Rattle.reg_statements.specs.Rowids.{AreRowids};
 
 use crate::accounts::Account;
 use crate::statements::{has_row, select_list, write};
@@ -90,4 +91,13 @@ pub fn all<S: Alter>(alloc: Global, conn: &mut Connection<S>) -> Result<Vec<Owne
         "SELECT crate, account FROM owners ORDER BY crate, account",
         &[],
     )
+}
+
+/// The rowids of all owners, in order.
+pub fn rowids<S: Alter>(alloc: Global, conn: &mut Connection<S>) -> Result<Vec<i64>, Error>
+    requires { IsReady (state S.Store conn.old) }
+    ensures { Reads S.Store conn.old conn.new result
+        (λ list. AreRowids owners_tree (rows_in S.Store conn.old) list.items) }
+{
+    select_list(alloc, conn, "SELECT rowid FROM owners ORDER BY rowid", &[])
 }

@@ -7,6 +7,7 @@ ghost use Rattle.reg_schema.specs.States.{IsReady};
 ghost use Rattle.reg_schema.specs.Statements.{Reads, Writes, rows_in};
 ghost use Rattle.reg_schema.specs.Tests.{is_text};
 ghost use Rattle.reg_statements.specs.Reserved.{AreReserved, IsReserved, reserved_columns};
+ghost use Rattle.reg_statements.specs.Rowids.{AreRowids};
 
 use crate::statements::{has_row, select_list, write};
 use sqlite::{Alter, Connection, Error, params};
@@ -61,6 +62,20 @@ pub fn all<S: Alter>(alloc: Global, conn: &mut Connection<S>) -> Result<Vec<Stri
         alloc,
         conn,
         "SELECT canon FROM reserved ORDER BY canon",
+        &[],
+    )
+}
+
+/// The rowids of all reserved names, in order.
+pub fn rowids<S: Alter>(alloc: Global, conn: &mut Connection<S>) -> Result<Vec<i64>, Error>
+    requires { IsReady (state S.Store conn.old) }
+    ensures { Reads S.Store conn.old conn.new result
+        (λ list. AreRowids reserved_tree (rows_in S.Store conn.old) list.items) }
+{
+    select_list(
+        alloc,
+        conn,
+        "SELECT rowid FROM reserved ORDER BY rowid",
         &[],
     )
 }

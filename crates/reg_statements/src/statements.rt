@@ -1,7 +1,6 @@
 //! One text that reads or writes, whichever it is.
 
 ghost use Rattle.std.specs.Prelude.{◌≡◌, ◌==◌, [], ◌∷◌, Ok, length, map, not};
-ghost use Rattle.sqlite.specs.Given.{IsPlain};
 ghost use Rattle.sqlite.specs.Held.{state};
 ghost use Rattle.sqlite.specs.Listing.{understood};
 ghost use Rattle.sqlite.specs.State.{Executes};
@@ -10,7 +9,7 @@ ghost use Rattle.reg_schema.specs.Rows.{number_columns};
 ghost use Rattle.reg_schema.specs.Schema.{ours};
 ghost use Rattle.reg_schema.specs.Shown.{shown_of};
 ghost use Rattle.reg_schema.specs.States.{IsReady};
-ghost use Rattle.reg_schema.specs.Statements.{Answers, IsRowWrite, Reads, Writes};
+ghost use Rattle.reg_schema.specs.Statements.{Answers, IsRowWrite, MayRead, Reads, Writes};
 
 use crate::records::{FromRow, read_all, read_one};
 use sqlite::types::ValueRef;
@@ -23,8 +22,7 @@ pub fn rows_of<S: Alter>(
     text: &str,
     params: &[ValueRef<'_>],
 ) -> Result<Vec<Row>, Error>
-    requires ready { IsReady (state S.Store conn.old) }
-    requires reads { IsPlain (understood ours text.now) }
+    requires { MayRead text.now (state S.Store conn.old) }
     ensures { Reads S.Store conn.old conn.new result
         (λ rows. Answers S.Store conn.old conn.new text.now (bound params.now) rows.items) }
 {
@@ -37,8 +35,7 @@ pub(crate) fn select_one<T: FromRow, S: Alter>(
     text: &str,
     params: &[ValueRef<'_>],
 ) -> Result<Option<T>, Error>
-    requires ready { IsReady (state S.Store conn.old) }
-    requires reads { IsPlain (understood ours text.now) }
+    requires { MayRead text.now (state S.Store conn.old) }
     ensures { Reads S.Store conn.old conn.new result (λ found.
         Answers S.Store conn.old conn.new text.now (bound params.now)
         (shown_of T.FromRow.columns found)) }
@@ -54,8 +51,7 @@ pub(crate) fn select_list<T: FromRow, S: Alter>(
     text: &str,
     params: &[ValueRef<'_>],
 ) -> Result<Vec<T>, Error>
-    requires ready { IsReady (state S.Store conn.old) }
-    requires reads { IsPlain (understood ours text.now) }
+    requires { MayRead text.now (state S.Store conn.old) }
     ensures { Reads S.Store conn.old conn.new result (λ list.
         Answers S.Store conn.old conn.new text.now (bound params.now)
         (map T.FromRow.columns list.items)) }
@@ -64,15 +60,26 @@ pub(crate) fn select_list<T: FromRow, S: Alter>(
     read_all(alloc, &rows)
 }
 
+/// The only row of a text that only reads, as a record. It is an error where there is none.
+pub(crate) fn select_only<T: FromRow, S: Alter>(
+    conn: &mut Connection<S>,
+    text: &str,
+) -> Result<T, Error>
+    requires { MayRead text.now (state S.Store conn.old) }
+    ensures { Reads S.Store conn.old conn.new result (λ it.
+        Answers S.Store conn.old conn.new text.now [] (T.FromRow.columns it ∷ [])) }
+{
+    let found = select_one::<T, S>(conn, text, &[])?;
+    found.ok_or(Error::InvalidQuery)
+}
+
 /// The number that is the only value of the only row of a text that only reads.
 pub(crate) fn select_number<S: Alter>(conn: &mut Connection<S>, text: &str) -> Result<u64, Error>
-    requires ready { IsReady (state S.Store conn.old) }
-    requires reads { IsPlain (understood ours text.now) }
+    requires { MayRead text.now (state S.Store conn.old) }
     ensures { Reads S.Store conn.old conn.new result
         (λ n. Answers S.Store conn.old conn.new text.now [] (number_columns n ∷ [])) }
 {
-    let found = select_one::<u64, S>(conn, text, &[])?;
-    found.ok_or(Error::InvalidQuery)
+    select_only::<u64, S>(conn, text)
 }
 
 /// Whether a text that only reads has a row.
@@ -81,8 +88,7 @@ pub(crate) fn has_row<S: Alter>(
     text: &str,
     params: &[ValueRef<'_>],
 ) -> Result<bool, Error>
-    requires ready { IsReady (state S.Store conn.old) }
-    requires reads { IsPlain (understood ours text.now) }
+    requires { MayRead text.now (state S.Store conn.old) }
     ensures { Reads S.Store conn.old conn.new result (λ has. (rows : _)
         × Answers S.Store conn.old conn.new text.now (bound params.now) rows
         × (has ≡ not (length rows == 0))) }

@@ -11,6 +11,7 @@ ghost use Rattle.reg_schema.specs.Rows.{mark};
 ghost use Rattle.reg_schema.specs.States.{IsReady};
 ghost use Rattle.reg_schema.specs.Statements.{Reads, Writes, rows_in};
 ghost use Rattle.reg_statements.specs.Counts.{IsLastId};
+ghost use Rattle.reg_statements.specs.Stems.{AreEntriesOf, columns_of_stem};
 ghost use Rattle.reg_statements.specs.Versions.{AreVersions, AreVersionsOf, MarksYanked, columns_of_version, version_row};
 
 use crate::marks::mark_of;
@@ -60,6 +61,30 @@ fn with_texts(row: &Row, id: u64, crate_id: u32, yanked: bool) -> Result<Version
         yanked,
     })
 }
+
+/// What the line of a version in an index file is made of.
+#[derive(Debug, Drop)]
+pub struct StemRow {
+    pub stem: Vec<u8>,
+    pub yanked: bool,
+}
+
+impl FromRow for StemRow {
+    ghost columns = { columns_of_stem };
+
+    fn from_row(row: &Row) -> Result<StemRow, Error> {
+        if row.column_count() != 2 {
+            return Err(Error::InvalidQuery);
+        }
+        Ok(StemRow {
+            stem: row.get(0)?,
+            yanked: mark_of(row, 1)?,
+        })
+    }
+}
+
+/// The rows of the index file of a crate, in the order of the versions' ids; each is a `StemRow`.
+pub const ENTRIES_TEXT: &str = "SELECT stem, yanked FROM versions WHERE crate = ?1 ORDER BY id";
 
 /// Adds a version that is not yanked. SQL keeps ids below 2^63.
 pub fn insert<S: Alter>(
@@ -146,6 +171,19 @@ pub fn all<S: Alter>(alloc: Global, conn: &mut Connection<S>) -> Result<Vec<Vers
         BY id",
         &[],
     )
+}
+
+/// The rows of the index file of a crate.
+pub fn entries<S: Alter>(
+    alloc: Global,
+    conn: &mut Connection<S>,
+    crate_id: u32,
+) -> Result<Vec<StemRow>, Error>
+    requires { IsReady (state S.Store conn.old) }
+    ensures { Reads S.Store conn.old conn.new result
+        (λ list. AreEntriesOf crate_id (rows_in S.Store conn.old) list.items) }
+{
+    select_list(alloc, conn, ENTRIES_TEXT, params![crate_id])
 }
 
 /// The greatest id of a version, if there is one.

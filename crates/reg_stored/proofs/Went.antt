@@ -33,7 +33,7 @@ pub stops_here : {U F : Type 0} (a b : State) (q : Result U F) → IsErr q → W
 stops_here a b (Ok y) is went = absurd cc
 stops_here a b (Err f) is went = record {
   within = λ _. tt;
-  fails = λ clean. record { kept = record { was_open = λ _. (went.within clean).was_open; committed = λ _. (went.within clean).committed }; ours = (went.within clean).ours };
+  fails = λ clean. record { kept = record { was_open = λ _. (went.within clean).was_open; committed = λ _. (went.within clean).committed }; back = (went.within clean).back };
   survives = went.survives;
 }
 

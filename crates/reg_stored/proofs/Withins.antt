@@ -7,15 +7,12 @@ use Rattle.reg_schema.specs.States.{IsInside, Refuses}
 use Rattle.reg_schema.specs.Changes.{Becomes, Touches}
 use Rattle.reg_schema.specs.Steps.{Fails, LeavesWithin, Within}
 
-no_rest : {b : Bool} → b ≡ true → b ≡ false → ⊥
-no_rest h e = absurd cc
-
 pub become_within : (old new : State) (tree : ℕ) (rows : List Row) → HasCleanDisk old → IsInside old → Becomes tree rows old new → Within old new
 become_within old new tree rows clean at b = record {
   was_open = at.is_open;
   committed = b.committed;
   inside = b.inside;
-  ours = λ o _ _. record { now_is = b.inside.schema_is; committed_is = ap (λ d. d.schema) b.committed ∙ (o clean at.is_open).committed_is; at_rest = λ e. absurd (no_rest b.inside.inside e) };
+  back = λ e o _ _. ap (λ d. d.schema) b.committed ∙ o clean at.is_open;
 }
 
 pub touch_within : (old new : State) (tree : ℕ) → HasCleanDisk old → IsInside old → Touches tree old new → Within old new
@@ -23,7 +20,7 @@ touch_within old new tree clean at t = record {
   was_open = at.is_open;
   committed = t.committed;
   inside = t.inside;
-  ours = λ o _ _. record { now_is = t.inside.schema_is; committed_is = ap (λ d. d.schema) t.committed ∙ (o clean at.is_open).committed_is; at_rest = λ e. absurd (no_rest t.inside.inside e) };
+  back = λ e o _ _. ap (λ d. d.schema) t.committed ∙ o clean at.is_open;
 }
 
 pub unchanged_within : (old new : State) → HasCleanDisk old → IsInside old → IsUnchanged old new → Within old new
@@ -31,38 +28,36 @@ unchanged_within old new clean at same = record {
   was_open = at.is_open;
   committed = same.0.committed_is;
   inside = record { schema_is = ap (λ d. d.schema) same.0.now_is ∙ at.schema_is; is_open = same.0.is_open; inside = same.0.mode ∙ at.inside };
-  ours = λ o _ _.
-      record { now_is = ap (λ d. d.schema) same.0.now_is ∙ at.schema_is; committed_is = ap (λ d. d.schema) same.0.committed_is ∙ (o clean at.is_open).committed_is; at_rest = λ e. absurd (no_rest at.inside (sym same.0.mode ∙ e)) };
+  back = λ e o _ _. ap (λ d. d.schema) same.0.committed_is ∙ o clean at.is_open;
 }
 
 pub within_then : (a b c : State) → Within a b → Within b c → Within a c
-within_then a b c first next = record { was_open = first.was_open; committed = next.committed ∙ first.committed; inside = next.inside; ours = λ o. next.ours (first.ours o) }
+within_then a b c first next = record { was_open = first.was_open; committed = next.committed ∙ first.committed; inside = next.inside; back = λ e o. next.back e (first.back e o) }
 
 pub fails_after : (a b c : State) → Within a b → Fails b c → Fails a c
 fails_after a b c first next = record {
   kept = record { was_open = λ _. first.was_open; committed = λ still. next.kept.committed still ∙ first.committed };
-  ours = λ o. next.ours (first.ours o);
+  back = λ e o. next.back e (first.back e o);
 }
 
 pub unchanged_fails : (old new : State) → HasCleanDisk old → IsInside old → IsUnchanged old new → Fails old new
 unchanged_fails old new clean at same = record {
   kept = record { was_open = λ _. at.is_open; committed = λ _. same.0.committed_is };
-  ours = (unchanged_within old new clean at same).ours;
+  back = (unchanged_within old new clean at same).back;
 }
 
 pub refused_fails : (old new : State) → HasCleanDisk old → IsInside old → Refuses old new → Fails old new
 refused_fails old new clean at (inl same) = unchanged_fails old new clean at same
-refused_fails old new clean at (inr back) = record {
-  kept = record { was_open = back.was_open; committed = λ still. (back.undone still).1 };
-  ours = λ o _ still.
-      record { now_is = ap (λ d. d.schema) (back.undone still).0 ∙ (o clean at.is_open).committed_is; committed_is = ap (λ d. d.schema) (back.undone still).1 ∙ (o clean at.is_open).committed_is; at_rest = λ e. (back.undone still).0 ∙ sym (back.undone still).1 };
+refused_fails old new clean at (inr rolled) = record {
+  kept = record { was_open = rolled.was_open; committed = λ still. (rolled.undone still).1 };
+  back = λ e o _ still. ap (λ d. d.schema) (rolled.undone still).1 ∙ o clean at.is_open;
 }
 
 pub itself_within : (old : State) → HasCleanDisk old → IsInside old → Within old old
-itself_within old clean at = record { was_open = at.is_open; committed = refl; inside = at; ours = λ o. o }
+itself_within old clean at = record { was_open = at.is_open; committed = refl; inside = at; back = λ e o. o }
 
 pub within_fails : (old new : State) → Within old new → Fails old new
-within_fails old new w = record { kept = record { was_open = λ _. w.was_open; committed = λ _. w.committed }; ours = w.ours }
+within_fails old new w = record { kept = record { was_open = λ _. w.was_open; committed = λ _. w.committed }; back = w.back }
 
 pub itself_fails : (old : State) → HasCleanDisk old → IsInside old → Fails old old
 itself_fails old clean at = within_fails old old (itself_within old clean at)

@@ -1,7 +1,7 @@
 -- The registry that the rows of the tables stand for.
 use Rattle.std.specs.Option.{option_map}
 use Rattle.reg_model.specs.Sound.{Sound}
-use Rattle.reg_schema.specs.Places.{accounts_tree, tokens_tree, reserved_tree, crates_tree, about_tree, scopes_tree, versions_tree, owners_tree, archives_tree, readers_tree}
+use Rattle.reg_schema.specs.Places.{restricted_tree, accounts_tree, tokens_tree, reserved_tree, crates_tree, about_tree, scopes_tree, versions_tree, owners_tree, archives_tree, readers_tree}
 use Rattle.std.proofs.Common.{Option, ◌+◌}
 use Rattle.reg_statements.specs.Pairs.{pair_columns}
 use Rattle.std.specs.Prelude.{◌≡◌, ℕ, pos, filter, ◌&&◌, ◌==◌, Bool, true, List, [], ◌∷◌, map, drop, IsPermutation, max}
@@ -17,6 +17,7 @@ use Rattle.reg_names.specs.Names.{canon}
 use Rattle.reg_names.specs.Ranges.{range_of}
 use Rattle.reg_versions.specs.Versions.{release_key_of}
 use Rattle.reg_model.specs.Registry.{Text, Account, Token, Publication, Registry, text_cmp, owner_cmp, mark_cmp}
+use Rattle.reg_schema.specs.declared.edition.Edition.TheVariants.{Second}
 use Rattle.reg_schema.specs.States.{about_columns}
 use Rattle.reg_stored.specs.Numbers.{AreNumbered}
 use Rattle.reg_statements.specs.Accounts.{account_row}
@@ -26,6 +27,7 @@ use Rattle.reg_statements.specs.Crates.{crate_row}
 use Rattle.reg_statements.specs.Versions.{version_row}
 use Rattle.reg_statements.specs.Archives.{archive_row}
 use Rattle.reg_statements.specs.Reserved.{reserved_columns}
+use Rattle.reg_statements.specs.Restricted.{restricted_row}
 
 -- accounts and tokens, each behind its id
 abbrev pub row_of_account : ℕ × Account → Row
@@ -140,6 +142,15 @@ pub record StandPairs (crates : List StoredCrate) (held : finset.FinSet owner_cm
   pub same : AllByRecursion (λ c. (account : ℕ) → finset.contains held (canon c.1, account)
       ≡ is_paired pairs c.0 account) crates
 
+-- The crates that are marked in a table of their ids.
+pub record StandMarked (crates : List StoredCrate) (marked : finset.FinSet text_cmp)
+    (rows : List Row) : Type 0 where
+  pub marks : List ℕ
+  pub are : IsPermutation (map restricted_row marks) rows
+  pub of_crates : list_all (λ i. list_any (λ c. c.0 == i) crates) marks ≡ true
+  pub same : AllByRecursion (λ c. finset.contains marked (canon c.1)
+      ≡ list_any (λ i. i == c.0) marks) crates
+
 -- the crate with this id has this spelling
 abbrev pub IsCrate : Trees → ℕ → Text → Type 0
 IsCrate db id name =
@@ -147,14 +158,14 @@ IsCrate db id name =
 
 -- the rows are those of this registry, under these ids
 pub record StandsBy (ids : Ids) (s : Registry) (db : Trees) : Type 0 where
-  pub about : map (drop 1) (db about_tree) ≡ about_columns s.base ∷ []
+  pub about : map (drop 1) (db about_tree) ≡ about_columns Second s.base ∷ []
   pub accounts : StandAccounts s.accounts db
   pub tokens : StandTokens s.tokens db
   pub crates : StandCrates ids s.publications s.yanked db
   pub owners : StandPairs ids.crates s.owners (db owners_tree)
   pub readers : StandPairs ids.crates s.readers (db readers_tree)
   pub reserved : StandReserved s.reserved db
-  pub restricted : s.restricted ≡ finset.empty
+  pub restricted : StandMarked ids.crates s.restricted (db restricted_tree)
 
 -- the rows are those of this registry
 abbrev pub Stands : Registry → Trees → Type 0

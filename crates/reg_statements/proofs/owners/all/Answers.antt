@@ -1,11 +1,12 @@
 use Rattle.sqlite.specs.Held.{state}
 use Rattle.reg_schema.proofs.Reading.{reads_as}
+use Rattle.reg_schema.proofs.Selections.{may_read}
 use Rattle.reg_statements.proofs.PairQueries.{listed}
 use Rattle.reg_statements.proofs.OwnerQueries.{queries_are}
 use Rattle.reg_statements.proofs.owners.all.Goals as goal
 
-pub select_list-requires-clause-reads : goal.select_list-requires-clause-reads
-select_list-requires-clause-reads g c = queries_are.listed_is.plain
+pub select_list-requires : goal.select_list-requires
+select_list-requires g c = may_read _ queries_are.listed_is.plain _ c.requires
 
 pub returns : goal.returns
 returns g c = reads_as (state g.S.Store c.args.conn.now) (state g.S.Store c.select_list.new.conn) c.select_list.result c.requires (λ at list h. listed queries_are (state g.S.Store c.args.conn.now) (state g.S.Store c.select_list.new.conn) at list.items h) c.select_list.ensures

@@ -7,7 +7,7 @@ use Rattle.reg_statements.proofs.statements.rows_of.Goals as goal
 pub returns : goal.returns
 returns g c = record {
   told = c.query_all.ensures.ok;
-  only = λ clean. only_reads c.args.text.now c.requires.reads (bound c.args.params.now) (state g.S.Store c.args.conn.now) (state g.S.Store c.query_all.new.self) c.query_all.result
-      (c.requires.ready (omega (arith, c.query_all.ensures.survives.clean))) (c.query_all.ensures.ok clean) (c.query_all.ensures.err clean);
-  survives = reading_survives c.args.text.now c.requires.reads (bound c.args.params.now) (state g.S.Store c.args.conn.now) (state g.S.Store c.query_all.new.self) c.requires.ready c.query_all.ensures.survives;
+  only = λ clean. only_reads c.args.text.now (bound c.args.params.now) (state g.S.Store c.args.conn.now) (state g.S.Store c.query_all.new.self) c.query_all.result
+      (c.requires (omega (arith, c.query_all.ensures.survives.clean))) (c.query_all.ensures.ok clean) (c.query_all.ensures.err clean);
+  survives = reading_survives c.args.text.now (bound c.args.params.now) (state g.S.Store c.args.conn.now) (state g.S.Store c.query_all.new.self) c.requires c.query_all.ensures.survives;
 }
