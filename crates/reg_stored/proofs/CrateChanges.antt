@@ -141,6 +141,13 @@ module _ (ids : Ids) (publications : List Publication) (yanked : finset.FinSet m
       let k : version.id ≡ next_version ids = next_id_of ids yanked id p mid new version version_rows in
       subst (λ (it : Ids). StandCrates it (publications ++ p ∷ []) yanked new) (λ i. record { crates = ids.crates ++ (n i, p.name) ∷ []; versions = ids.versions ++ record { id = k i; of_crate = n i; publication = p } ∷ [] }) so
 
+  of_each : (P : StoredCrate → Type 0) → ((c : StoredCrate) → IsIn c ids.crates → P c) → P mine → AllByRecursion P crates_now
+  of_each P old_ones new_one = in_each P crates_now (λ c i. either c (pushed_in ids.crates mine c i))
+    where
+      either : (c : StoredCrate) → IsIn c ids.crates ⊎ (mine ≡ c) → P c
+      either c (inl i) = old_ones c i
+      either c (inr e) = subst P e new_one
+
   -- a relation that has no pair of its canonical text
   module _ (held : finset.FinSet owner_cmp) (rows : List Row) (stored : StandPairs ids.crates held rows) (unheld : (account : ℕ) → finset.contains held (canon p.name, account) ≡ false) where
     pair_below : (o : StoredPair) → IsIn o stored.pairs → o.0 < id
@@ -153,13 +160,6 @@ module _ (ids : Ids) (publications : List Publication) (yanked : finset.FinSet m
 
     was_so : (c : StoredCrate) → IsIn c ids.crates → (account : ℕ) → finset.contains held (canon c.1, account) ≡ is_paired stored.pairs c.0 account
     was_so c i = each_in (λ c. (account : ℕ) → finset.contains held (canon c.1, account) ≡ is_paired stored.pairs c.0 account) ids.crates c stored.same i
-
-    of_each : (P : StoredCrate → Type 0) → ((c : StoredCrate) → IsIn c ids.crates → P c) → P mine → AllByRecursion P crates_now
-    of_each P old_ones new_one = in_each P crates_now (λ c i. either c (pushed_in ids.crates mine c i))
-      where
-        either : (c : StoredCrate) → IsIn c ids.crates ⊎ (mine ≡ c) → P c
-        either c (inl i) = old_ones c i
-        either c (inr e) = subst P e new_one
 
     still_of_crates : list_all (λ o. list_any (λ c. c.0 == o.0) crates_now) stored.pairs ≡ true
     still_of_crates = all_so (λ o. list_any (λ c. c.0 == o.0) ids.crates) (λ o. list_any (λ c. c.0 == o.0) crates_now) (λ o h. any_more (λ c. c.0 == o.0) ids.crates (mine ∷ []) h) stored.pairs stored.of_crates
@@ -209,4 +209,21 @@ module _ (ids : Ids) (publications : List Publication) (yanked : finset.FinSet m
       of_crates = and_from _ _ (in_any (λ c. c.0 == id) crates_now mine (in_last ids.crates mine) (eq-eqb id id refl)) still_of_crates;
       once = once;
       same = of_each (λ c. (account : ℕ) → finset.contains held_now (canon c.1, account) ≡ is_paired pairs_now c.0 account) of_old of_new;
+    }
+
+  -- a table of marks that has none of its canonical text
+  module _ (marked : finset.FinSet text_cmp) (rows : List Row) (stored : StandMarked ids.crates marked rows) (unlisted : finset.contains marked (canon p.name) ≡ false) where
+    mark_below : (i : ℕ) → IsIn i stored.marks → i < id
+    mark_below i k =
+        let c = any_in (λ c. c.0 == i) ids.crates (all_in (λ i. list_any (λ c. c.0 == i) ids.crates) stored.marks i stored.of_crates k) in
+        subst (λ n. n < id) (eqb-true c.0.0 i c.2) (below c.0 c.1)
+
+    pub unmarked_crate : StandMarked crates_now marked rows
+    unmarked_crate = record {
+      marks = stored.marks;
+      are = stored.are;
+      of_crates = all_so (λ i. list_any (λ c. c.0 == i) ids.crates) (λ i. list_any (λ c. c.0 == i) crates_now) (λ i h. any_more (λ c. c.0 == i) ids.crates (mine ∷ []) h) stored.marks stored.of_crates;
+      same = of_each (λ c. finset.contains marked (canon c.1) ≡ list_any (λ i. i == c.0) stored.marks)
+          (λ c i. each_in (λ c. finset.contains marked (canon c.1) ≡ list_any (λ i. i == c.0) stored.marks) ids.crates c stored.same i)
+          (unlisted ∙ sym (none_in (λ i. i == id) stored.marks (λ i k. below_other i id (mark_below i k))));
     }

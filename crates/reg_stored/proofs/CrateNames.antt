@@ -22,7 +22,7 @@ use Rattle.reg_stored.proofs.CrateLemmas.{same_bytes, bytes_same, crate_of, spel
 use Rattle.reg_model.proofs.Members.{IsIn, any_in, all_in, filtered_passes, in_filter}
 use Rattle.reg_stored.proofs.Selected.{selected_one}
 
-kept : {X : Type 0} (p : X → Bool) (xs : List X) (x : X) → IsIn x xs → p x ≡ true → IsIn x (filter p xs)
+pub kept : {X : Type 0} (p : X → Bool) (xs : List X) (x : X) → IsIn x xs → p x ≡ true → IsIn x (filter p xs)
 kept p [] x i e = absurd i
 kept p (y ∷ ys) x i e = split (p y) refl i (λ j. kept p ys x j e)
   where

@@ -33,6 +33,7 @@ record Rest (old new : Trees) : Type 0 where
   tokens : new 3 ≡ old 3
   scopes : new 5 ≡ old 5
   reserved : new 14 ≡ old 14
+  restricted : new 17 ≡ old 17
   readers : new 18 ≡ old 18
 
 rest_then : (a b c : Trees) → Rest a b → Rest b c → Rest a c
@@ -42,6 +43,7 @@ rest_then a b c first next = record {
   tokens = next.tokens ∙ first.tokens;
   scopes = next.scopes ∙ first.scopes;
   reserved = next.reserved ∙ first.reserved;
+  restricted = next.restricted ∙ first.restricted;
   readers = next.readers ∙ first.readers;
 }
 
@@ -52,6 +54,7 @@ rest_of_crate old new others = record {
   tokens = others.1.1.0 (λ e. cc) (λ e. cc);
   scopes = others.1.1.1.0 (λ e. cc) (λ e. cc);
   reserved = others.1.1.1.1.1.1.1.1.0 (λ e. cc) (λ e. cc);
+  restricted = others.1.1.1.1.1.1.1.1.1.1.0 (λ e. cc) (λ e. cc);
   readers = others.1.1.1.1.1.1.1.1.1.1.1.0 (λ e. cc) (λ e. cc);
 }
 
@@ -62,12 +65,13 @@ rest_of_version old new others = record {
   tokens = others.1.1.0 (λ e. cc) (λ e. cc);
   scopes = others.1.1.1.0 (λ e. cc) (λ e. cc);
   reserved = others.1.1.1.1.1.1.1.1.0 (λ e. cc) (λ e. cc);
+  restricted = others.1.1.1.1.1.1.1.1.1.1.0 (λ e. cc) (λ e. cc);
   readers = others.1.1.1.1.1.1.1.1.1.1.1.0 (λ e. cc) (λ e. cc);
 }
 
-with_crates : (ids after : Ids) (s : Registry) (publications : List Publication) (owners : finset.FinSet owner_cmp) (old new : Trees) → Rest old new → StandsBy ids s old → StandCrates after publications s.yanked new → StandPairs after.crates owners (new 9) → StandPairs after.crates s.readers (new 18)
+with_crates : (ids after : Ids) (s : Registry) (publications : List Publication) (owners : finset.FinSet owner_cmp) (old new : Trees) → Rest old new → StandsBy ids s old → StandCrates after publications s.yanked new → StandPairs after.crates owners (new 9) → StandPairs after.crates s.readers (new 18) → StandMarked after.crates s.restricted (new 17)
     → StandsBy after (record s { publications = publications; owners = owners }) new
-with_crates ids after s publications owners old new rest stands crates pairs readers = record {
+with_crates ids after s publications owners old new rest stands crates pairs readers restricted = record {
   about = ap (map (λ r. drop 1 r)) rest.about ∙ stands.about;
   accounts = accounts_stay s.accounts old new rest.accounts stands.accounts;
   tokens = tokens_stay s.tokens old new rest.tokens rest.scopes stands.tokens;
@@ -75,7 +79,7 @@ with_crates ids after s publications owners old new rest stands crates pairs rea
   owners = pairs;
   readers = readers;
   reserved = reserved_stay s.reserved old new rest.reserved stands.reserved;
-  restricted = stands.restricted;
+  restricted = restricted;
 }
 
 -- nothing is marked that is not there
@@ -100,7 +104,10 @@ adds_first ids s id owner p old mid new h fresh crate version =
     let owned = subst (StandPairs (ids_with_crate p ids).crates (finset.insert s.owners (canon p.name, owner))) (sym (same_owners ∙ crate.owners)) (subst (λ n. StandPairs (ids.crates ++ (n, p.name) ∷ []) (finset.insert s.owners (canon p.name, owner)) (put_row (Int crate.rowid ∷ owner_columns id owner) (old 9))) is pairs) in
     let no_reader = unpaired ids s.publications s.yanked old mid new stands.crates id owner p crate fresh s.readers (old 18) stands.readers unread in
     let read = subst (λ n. StandPairs (ids.crates ++ (n, p.name) ∷ []) s.readers (new 18)) is (pairs_stay (ids.crates ++ (id, p.name) ∷ []) s.readers (old 18) (new 18) rest.readers no_reader) in
-    (is, with_crates ids (ids_with_crate p ids) s _ _ old new rest stands crates owned read)
+    let unlisted : finset.contains s.restricted (canon p.name) ≡ false = not_true _ (λ i. true_not_false (exists s p.name) (h.sound.restricted (canon p.name) i) fresh) in
+    let not_marked = unmarked_crate ids s.publications s.yanked old mid new stands.crates id owner p crate fresh s.restricted (old 17) stands.restricted unlisted in
+    let marked = subst (λ n. StandMarked (ids.crates ++ (n, p.name) ∷ []) s.restricted (new 17)) is (marked_stay (ids.crates ++ (id, p.name) ∷ []) s.restricted (old 17) (new 17) rest.restricted not_marked) in
+    (is, with_crates ids (ids_with_crate p ids) s _ _ old new rest stands crates owned read marked)
 
 pub adds_next : (ids : Ids) (s : Registry) (id : ℕ) (p : Publication) (old new : Trees) → Holds ids s old → spelling_at ids id ≡ Some p.name → has_version s (canon p.name) p.version ≡ false → AddsVersion id p old new
     → StandsBy (ids_with_version id p ids) (record s { publications = s.publications ++ p ∷ [] }) new
@@ -111,7 +118,7 @@ adds_next ids s id p old new h at fresh version =
     let pairs = pairs_stay ids.crates s.owners (old 9) (new 9) same_owners h.stands.owners in
     let rest = rest_of_version old new version.others in
     let readers = pairs_stay ids.crates s.readers (old 18) (new 18) rest.readers h.stands.readers in
-    with_crates ids (ids_with_version id p ids) s _ s.owners old new rest h.stands (adds_version ids s.publications s.yanked old new h.stands.crates id p there (unmarked s p h.sound fresh) same_crates version) pairs readers
+    with_crates ids (ids_with_version id p ids) s _ s.owners old new rest h.stands (adds_version ids s.publications s.yanked old new h.stands.crates id p there (unmarked s p h.sound fresh) same_crates version) pairs readers (marked_stay ids.crates s.restricted (old 17) (new 17) rest.restricted h.stands.restricted)
 
 -- what an update of the mark says, of the version that alone has the release and the text
 abbrev ReplacesMark : ℕ → Text → Text → Bool → State → State → Type 0

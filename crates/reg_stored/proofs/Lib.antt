@@ -10,10 +10,11 @@ mod CratesStand
 mod Dropped
 mod FoundTokens
 mod NextId
+mod MarkedStand
 mod Numbered
 mod PairsStand
 mod PairChanges
-mod OwnerEntries
+mod PairEntries
 pub mod Readings
 mod Removed
 mod ReservedChanges

@@ -62,7 +62,7 @@ canons_same = record { refl = λ c. nat_list_eq_equiv.refl (canon c.1); symm = �
 -- The rows of one relation, and a crate that is there.
 module _ (ids : Ids) (publications : List Publication) (yanked : finset.FinSet mark_cmp) (db : Trees) (stands : StandCrates ids publications yanked db) (held : finset.FinSet owner_cmp) (id : ℕ) (name : List ℕ) (there : IsIn (id, name) ids.crates) where
   -- of the crates that are there, one has its id and its canonical text
-  crates_alike : AllByRecursion (λ c. bytes_eq (canon c.1) (canon name) ≡ (c.0 == id)) ids.crates
+  pub crates_alike : AllByRecursion (λ c. bytes_eq (canon c.1) (canon name) ≡ (c.0 == id)) ids.crates
   crates_alike = alike (on (λ (c : StoredCrate). canon c.1) bytes_eq) (on (λ (c : StoredCrate). c.0) nat_eq) canons_same ids_same (id, name) ids.crates there stands.canons (apart_by (λ c. c.0) ids.crates stands.up)
 
   module _ (account : ℕ) where

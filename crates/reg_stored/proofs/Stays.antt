@@ -44,6 +44,9 @@ crates_stay ids ps yanked old new e7 e11 e13 h = record {
 pub pairs_stay : (crates : List StoredCrate) (held : finset.FinSet owner_cmp) (old new : List Row) → new ≡ old → StandPairs crates held old → StandPairs crates held new
 pairs_stay crates held old new e h = subst (StandPairs crates held) (sym e) h
 
+pub marked_stay : (crates : List StoredCrate) (marked : finset.FinSet text_cmp) (old new : List Row) → new ≡ old → StandMarked crates marked old → StandMarked crates marked new
+marked_stay crates marked old new e h = subst (StandMarked crates marked) (sym e) h
+
 -- the tables, each by its place among them
 module _ (tree : ℕ) (old new : Trees) (others : KeepsOthers tree old new) where
   pub same_about : 0 ≢ tree → new 0 ≡ old 0
@@ -104,6 +107,9 @@ module _ (ids : Ids) (s : Registry) (tree : ℕ) (old new : Trees) (others : Kee
   still_readers : 18 ≢ tree → StandPairs ids.crates s.readers (new 18)
   still_readers h = pairs_stay ids.crates s.readers (old 18) (new 18) (same_readers tree old new others h) stands.readers
 
+  still_restricted : 17 ≢ tree → StandMarked ids.crates s.restricted (new 17)
+  still_restricted h = marked_stay ids.crates s.restricted (old 17) (new 17) (same_restricted tree old new others h) stands.restricted
+
 -- The registry after a change of one table.
 module _ (ids : Ids) (s : Registry) (old new : Trees) (stands : StandsBy ids s old) where
   pub with_accounts : (accounts : List Account) → KeepsOthers 1 old new → StandAccounts accounts new → StandsBy ids (record s { accounts = accounts }) new
@@ -115,7 +121,7 @@ module _ (ids : Ids) (s : Registry) (old new : Trees) (stands : StandsBy ids s o
     owners = still_owners ids s 1 old new others stands (λ e. cc);
     reserved = still_reserved ids s 1 old new others stands (λ e. cc);
     readers = still_readers ids s 1 old new others stands (λ e. cc);
-    restricted = stands.restricted;
+    restricted = still_restricted ids s 1 old new others stands (λ e. cc);
   }
 
   pub with_owners : (owners : finset.FinSet owner_cmp) → KeepsOthers 9 old new → StandPairs ids.crates owners (new 9) → StandsBy ids (record s { owners = owners }) new
@@ -127,7 +133,7 @@ module _ (ids : Ids) (s : Registry) (old new : Trees) (stands : StandsBy ids s o
     owners = changed;
     reserved = still_reserved ids s 9 old new others stands (λ e. cc);
     readers = still_readers ids s 9 old new others stands (λ e. cc);
-    restricted = stands.restricted;
+    restricted = still_restricted ids s 9 old new others stands (λ e. cc);
   }
 
   pub with_readers : (readers : finset.FinSet owner_cmp) → KeepsOthers 18 old new → StandPairs ids.crates readers (new 18) → StandsBy ids (record s { readers = readers }) new
@@ -139,7 +145,19 @@ module _ (ids : Ids) (s : Registry) (old new : Trees) (stands : StandsBy ids s o
     owners = still_owners ids s 18 old new others stands (λ e. cc);
     reserved = still_reserved ids s 18 old new others stands (λ e. cc);
     readers = changed;
-    restricted = stands.restricted;
+    restricted = still_restricted ids s 18 old new others stands (λ e. cc);
+  }
+
+  pub with_restricted : (restricted : finset.FinSet text_cmp) → KeepsOthers 17 old new → StandMarked ids.crates restricted (new 17) → StandsBy ids (record s { restricted = restricted }) new
+  with_restricted restricted others changed = record {
+    about = still_about ids s 17 old new others stands (λ e. cc) ∙ stands.about;
+    accounts = still_accounts ids s 17 old new others stands (λ e. cc);
+    tokens = still_tokens ids s 17 old new others stands (λ e. cc) (λ e. cc);
+    crates = still_crates ids s 17 old new others stands (λ e. cc) (λ e. cc) (λ e. cc);
+    owners = still_owners ids s 17 old new others stands (λ e. cc);
+    reserved = still_reserved ids s 17 old new others stands (λ e. cc);
+    readers = still_readers ids s 17 old new others stands (λ e. cc);
+    restricted = changed;
   }
 
   pub with_reserved : (reserved : finset.FinSet text_cmp) → KeepsOthers 14 old new → StandReserved reserved new → StandsBy ids (record s { reserved = reserved }) new
@@ -151,7 +169,7 @@ module _ (ids : Ids) (s : Registry) (old new : Trees) (stands : StandsBy ids s o
     owners = still_owners ids s 14 old new others stands (λ e. cc);
     reserved = changed;
     readers = still_readers ids s 14 old new others stands (λ e. cc);
-    restricted = stands.restricted;
+    restricted = still_restricted ids s 14 old new others stands (λ e. cc);
   }
 
   pub with_yanked : (yanked : finset.FinSet mark_cmp) → KeepsOthers 11 old new → StandCrates ids s.publications yanked new → StandsBy ids (record s { yanked = yanked }) new
@@ -163,7 +181,7 @@ module _ (ids : Ids) (s : Registry) (old new : Trees) (stands : StandsBy ids s o
     owners = still_owners ids s 11 old new others stands (λ e. cc);
     reserved = still_reserved ids s 11 old new others stands (λ e. cc);
     readers = still_readers ids s 11 old new others stands (λ e. cc);
-    restricted = stands.restricted;
+    restricted = still_restricted ids s 11 old new others stands (λ e. cc);
   }
 
   -- both tables of tokens
@@ -176,5 +194,5 @@ module _ (ids : Ids) (s : Registry) (old new : Trees) (stands : StandsBy ids s o
     owners = still_owners ids s tree old new others stands (apart 9 (λ e. cc) (λ e. cc));
     reserved = still_reserved ids s tree old new others stands (apart 14 (λ e. cc) (λ e. cc));
     readers = still_readers ids s tree old new others stands (apart 18 (λ e. cc) (λ e. cc));
-    restricted = stands.restricted;
+    restricted = still_restricted ids s tree old new others stands (apart 17 (λ e. cc) (λ e. cc));
   }

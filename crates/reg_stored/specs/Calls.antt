@@ -13,7 +13,7 @@ use Rattle.reg_names.specs.Names.{canon}
 use Rattle.reg_model.specs.declared.endpoint.Endpoints.{Endpoints}
 use Rattle.reg_model.specs.Changes.{with_account, with_enabled, with_owner, with_publication, with_revoked, with_token}
 use Rattle.reg_model.specs.Crates as model
-use Rattle.reg_model.specs.Crates.{exists, first, has_crate, owners, version, versions}
+use Rattle.reg_model.specs.Crates.{exists, first, has_crate, is_restricted, owners, readers, version, versions}
 use Rattle.reg_model.specs.Registry.{Publication, Registry, Text, text_cmp, with_id, id_of_login}
 use Rattle.reg_model.specs.Sound.{has_version}
 use Rattle.reg_statements.specs.declared.accounts.Account.{Account}
@@ -29,7 +29,7 @@ use Rattle.reg_stored.specs.declared.tokens.TokenRows.{TokenRows}
 use Rattle.reg_stored.specs.Entries.{entry_of_account, shown_version, version_shown}
 use Rattle.reg_stored.specs.FoundTokens.{IsFound, IsRow}
 use Rattle.reg_stored.specs.Stands.{Holds, Ids, StandsBy, scopes_of, spelling_at}
-use Rattle.reg_stored.specs.Changes.{ids_with_crate, ids_with_version, mark_at, next_crate, no_owner_at, owner_at, told_of}
+use Rattle.reg_stored.specs.Changes.{ids_with_crate, ids_with_version, mark_at, next_crate, no_owner_at, no_reader_at, owner_at, reader_at, restricted_at, told_of}
 use Rattle.reg_stored.specs.TokenEntries.{entry_of_token, without_patterns}
 
 -- the rows of a registry become those of another, under the same ids
@@ -163,6 +163,25 @@ RemovesOwner id account = Turns (λ ids. no_owner_at ids id account)
 abbrev pub ListsOwners : ℕ → Trees → List Account → Type 0
 ListsOwners id db list = Tells
     (λ ids s. map entry_of_account list ≡ told_of (spelling_at ids id) [] (owners s)) db
+
+-- the same of its readers
+abbrev pub AddsReader : ℕ → ℕ → Trees → Trees → Type 0
+AddsReader id account = Turns (λ ids. reader_at ids id account)
+
+abbrev pub RemovesReader : ℕ → ℕ → Trees → Trees → Type 0
+RemovesReader id account = Turns (λ ids. no_reader_at ids id account)
+
+abbrev pub ListsReaders : ℕ → Trees → List Account → Type 0
+ListsReaders id db list = Tells
+    (λ ids s. map entry_of_account list ≡ told_of (spelling_at ids id) [] (readers s)) db
+
+-- a crate is restricted, or open to all
+abbrev pub Restricts : Bool → ℕ → Trees → Trees → Type 0
+Restricts restricted id = Turns (λ ids. restricted_at ids id restricted)
+
+abbrev pub TellsRestricted : ℕ → Trees → Bool → Type 0
+TellsRestricted id db there = Tells
+    (λ ids s. there ≡ told_of (spelling_at ids id) false (is_restricted s)) db
 
 -- whether the administrator reserved the name
 abbrev pub TellsReserved : Text → Trees → Bool → Type 0

@@ -3,7 +3,7 @@ use Rattle.std.specs.Prelude.{ℕ, Bool, if◌then◌else◌, [], ◌∷◌, ◌
 use Rattle.std.specs.FinSet as finset
 use Rattle.reg_names.specs.Names.{canon}
 use Rattle.reg_model.specs.Changes.{with_yanked}
-use Rattle.reg_model.specs.Registry.{Publication, Registry, Text, owner_cmp}
+use Rattle.reg_model.specs.Registry.{Publication, Registry, Text, owner_cmp, text_cmp}
 use Rattle.reg_model.specs.Sound.{has_version}
 use Rattle.reg_stored.specs.Stands.{Ids, next_of, spelling_at}
 
@@ -69,6 +69,17 @@ reader_at ids id account s =
 abbrev pub no_reader_at : Ids → ℕ → ℕ → Registry → Registry
 no_reader_at ids id account s =
     record s { readers = remove_at (spelling_at ids id) account s.readers }
+
+-- the crate with this spelling is in a set, or no longer; none where there is no crate
+abbrev pub mark_in : Option Text → Bool → finset.FinSet text_cmp → finset.FinSet text_cmp
+mark_in None marked set = set
+mark_in (Some name) marked set =
+    if marked then finset.insert set (canon name) else finset.remove set (canon name)
+
+-- the crate with this id is restricted, or open to all
+abbrev pub restricted_at : Ids → ℕ → Bool → Registry → Registry
+restricted_at ids id restricted s =
+    record s { restricted = mark_in (spelling_at ids id) restricted s.restricted }
 
 -- what is told of the crate with this id; nothing where there is none
 abbrev pub told_of : {X : Type 0} → Option Text → X → (Text → X) → X

@@ -14,5 +14,7 @@ pub mod counts;
 pub mod crate_lists;
 pub mod crates;
 pub mod owners;
+pub mod readers;
 pub mod reserved;
+pub mod restricted;
 pub mod tokens;

@@ -1,4 +1,4 @@
--- Owners that a selection shows.
+-- Accounts of a relation that a selection shows.
 use Rattle.reg_stored.proofs.PairChanges.{other_pair}
 use Rattle.reg_stored.specs.Changes.{told_of}
 use Rattle.std.proofs.Common.{None, Some, Option, ◌≡◌, ◌==◌, ℕ, pos, Less, List, [], ◌∷◌, map, Bool, true, false, ◌&&◌, cond, refl, sym, ap, subst, ◌∙◌, Option, Some}
@@ -26,7 +26,8 @@ use Rattle.reg_schema.proofs.Queries.{equals_int, maps_twice, same_filter}
 use Rattle.reg_statements.specs.declared.accounts.Account as record_of
 use Rattle.reg_stored.specs.Entries.{entry_of_account}
 use Rattle.reg_statements.specs.Accounts.{account_columns}
-use Rattle.reg_statements.specs.Owners.{accounts_of, is_of_owner}
+use Rattle.reg_statements.specs.Owners.{is_of_owner}
+use Rattle.reg_statements.specs.Pairs.{accounts_in}
 use Rattle.reg_stored.specs.Stands.{StoredPair, row_of_account, columns_of_stored, StandAccounts, StoredCrate, Ids, StandPairs, is_paired, spelling_at}
 use Rattle.reg_schema.specs.Tests.{is_number, shows}
 use Rattle.reg_stored.proofs.AccountEntries.{heads, tails, mark_is, number_is, text_is, words_are}
@@ -91,9 +92,9 @@ module _ (accounts : List Account) (db : Trees) (stands : StandAccounts accounts
   abbrev accounts_by : Row → List Row
   accounts_by columns = map show (filter (joins columns) (db 1))
 
-  by_columns : (id : ℕ) → accounts_of id db ≡ flat_map accounts_by (map (drop 1) (filter (is_number 1 id) (db 9)))
-  by_columns id =
-      let rows = filter (is_number 1 id) (db 9) in
+  by_columns : (tree id : ℕ) → accounts_in tree id db ≡ flat_map accounts_by (map (drop 1) (filter (is_number 1 id) (db tree)))
+  by_columns tree id =
+      let rows = filter (is_number 1 id) (db tree) in
       flat_map_same_on (λ o. map show (filter (is_of_owner o) (db 1))) (λ o. accounts_by (drop 1 o)) (λ o. ap (λ v. map show (filter (λ a. equal Binary (column a 0) v) (db 1))) (second_column o)) rows
       ∙ sym (flat_map-map accounts_by (drop 1) rows)
 
@@ -108,7 +109,7 @@ module _ (accounts : List Account) (db : Trees) (stands : StandAccounts accounts
       let same = filter_map row_of_account test entries ∙ ap (map row_of_account) (same_filter (λ e. test (row_of_account e)) (λ e. e.0 == o.1) (λ e. equals_int (Int (pos e.0)) (pos o.1) ∙ same_number e.0 o.1) entries) in
       subst (λ ys. IsPermutation ys (accounts_by (columns_of_stored o))) (maps_twice row_of_account show (account_of o)) (IsPermutation-map show (map row_of_account (account_of o)) (filter test (db 1)) (subst (λ ys. IsPermutation ys (filter test (db 1))) same kept))
 
-module _ (crates : List StoredCrate) (held : finset.FinSet owner_cmp) (accounts : List Account) (db : Trees) (pairs : StandPairs crates held (db 9)) (stands : StandAccounts accounts db) (id : ℕ) where
+module _ (crates : List StoredCrate) (held : finset.FinSet owner_cmp) (accounts : List Account) (db : Trees) (tree : ℕ) (pairs : StandPairs crates held (db tree)) (stands : StandAccounts accounts db) (id : ℕ) where
   abbrev entries : List (ℕ × Account)
   entries = enumerate_from 1 accounts
 
@@ -122,46 +123,46 @@ module _ (crates : List StoredCrate) (held : finset.FinSet owner_cmp) (accounts 
   is_owner_of e =
       any_filter (λ o. o.0 == id) (λ o. e.0 == o.1) pairs.pairs ∙ any_same (λ o. o.0 == id && e.0 == o.1) (λ o. o.0 == id && o.1 == e.0) (λ o. ap (λ b. (o.0 == id) && b) (nat_eq_equiv.symm e.0 o.1)) pairs.pairs
 
-  rows_of_it : IsPermutation (map columns_of_stored of_it) (map (drop 1) (filter (is_number 1 id) (db 9)))
+  rows_of_it : IsPermutation (map columns_of_stored of_it) (map (drop 1) (filter (is_number 1 id) (db tree)))
   rows_of_it =
       let behind = λ (columns : Row). is_eq (value_cmp (column columns 0) (Int (pos id))) in
-      let kept = keep_columns columns_of_stored pairs.pairs (db 9) pairs.are (is_number 1 id) behind (λ r. ap (λ v. is_eq (value_cmp v (Int (pos id)))) (first_column r)) in
-      subst (λ os. IsPermutation (map columns_of_stored os) (map (drop 1) (filter (is_number 1 id) (db 9)))) (same_filter (λ o. behind (columns_of_stored o)) (λ o. o.0 == id) (λ o. same_number o.0 id) pairs.pairs) kept
+      let kept = keep_columns columns_of_stored pairs.pairs (db tree) pairs.are (is_number 1 id) behind (λ r. ap (λ v. is_eq (value_cmp v (Int (pos id)))) (first_column r)) in
+      subst (λ os. IsPermutation (map columns_of_stored os) (map (drop 1) (filter (is_number 1 id) (db tree)))) (same_filter (λ o. behind (columns_of_stored o)) (λ o. o.0 == id) (λ o. same_number o.0 id) pairs.pairs) kept
 
   -- the rows of the accounts that own the crate
-  owner_rows : IsPermutation (map shown (filter owns_it entries)) (accounts_of id db)
+  owner_rows : IsPermutation (map shown (filter owns_it entries)) (accounts_in tree id db)
   owner_rows =
       let of = account_of accounts db stands in
       let by = accounts_by accounts db stands in
-      let rows = filter (is_number 1 id) (db 9) in
+      let rows = filter (is_number 1 id) (db tree) in
       let listed = joined_once (λ o e. e.0 == o.1) same_account apart entries of_it (accounts_apart id pairs.pairs pairs.once) in
       let mine = subst (IsPermutation (flat_map of of_it)) (same_filter (λ e. list_any (λ o. e.0 == o.1) of_it) owns_it is_owner_of entries) listed in
       let first = IsPermutation-map shown _ _ (IsPermutation-sym (flat_map of of_it) (filter owns_it entries) mine) in
       let each_one = subst (λ xs. IsPermutation xs (flat_map (λ o. by (columns_of_stored o)) of_it)) (sym (map-flat_map shown of of_it)) (IsPermutation-flat_map_each (λ o. map shown (of o)) (λ o. by (columns_of_stored o)) (of_owner accounts db stands) of_it) in
       let joined = subst (λ xs. IsPermutation xs (flat_map by (map (drop 1) rows))) (flat_map-map by columns_of_stored of_it) (IsPermutation-flat_map by (map columns_of_stored of_it) (map (drop 1) rows) rows_of_it) in
       let all = IsPermutation-trans _ (map shown (flat_map of of_it)) _ first (IsPermutation-trans _ (flat_map (λ o. by (columns_of_stored o)) of_it) _ each_one joined) in
-      subst (IsPermutation (map shown (filter owns_it entries))) (sym (by_columns accounts db stands id)) all
+      subst (IsPermutation (map shown (filter owns_it entries))) (sym (by_columns accounts db stands tree id)) all
 
   rising : IsAscending (λ a b. by_column 0 a b ≡ Less) (map shown (filter owns_it entries))
   rising =
       let R = λ (a b : Row). by_column 0 a b ≡ Less in
       ascending-map R shown (filter owns_it entries) (ascending-filter (λ a b. R (shown a) (shown b)) owns_it entries (ascending_from_map R shown entries (places_rise shown (λ e. refl) 1 accounts)))
 
-  listed : (list : List record_of.Account) → IsInOrder (by_column 0) (accounts_of id db) (λ row. row) (map account_columns list) → map entry_of_account list ≡ filter owns_it entries
-  listed list h = selected_in_order shown (λ row. row) account_columns entry_of_account same_owner (by_column 0) (column_total 0) (filter owns_it entries) (accounts_of id db) list owner_rows rising h
+  listed : (list : List record_of.Account) → IsInOrder (by_column 0) (accounts_in tree id db) (λ row. row) (map account_columns list) → map entry_of_account list ≡ filter owns_it entries
+  listed list h = selected_in_order shown (λ row. row) account_columns entry_of_account same_owner (by_column 0) (column_total 0) (filter owns_it entries) (accounts_in tree id db) list owner_rows rising h
 
 -- the accounts of the crate with this id; none where there is no crate
-pub lists_owners : (ids : Ids) (held : finset.FinSet owner_cmp) (accounts : List Account) (db : Trees) → StandAccounts accounts db → StandPairs ids.crates held (db 9) → (id : ℕ) (list : List record_of.Account) → IsInOrder (by_column 0) (accounts_of id db) (λ row. row) (map account_columns list)
+pub lists_accounts_of : (ids : Ids) (held : finset.FinSet owner_cmp) (accounts : List Account) (db : Trees) → StandAccounts accounts db → (tree : ℕ) → StandPairs ids.crates held (db tree) → (id : ℕ) (list : List record_of.Account) → IsInOrder (by_column 0) (accounts_in tree id db) (λ row. row) (map account_columns list)
     → map entry_of_account list ≡ told_of (spelling_at ids id) [] (λ name. filter (λ o. finset.contains held (canon name, o.0)) (enumerate_from 1 accounts))
-lists_owners ids held accounts db stands pairs id list h = split (spelling_at ids id) refl
+lists_accounts_of ids held accounts db stands tree pairs id list h = split (spelling_at ids id) refl
   where
     entries : List (ℕ × Account)
     entries = enumerate_from 1 accounts
 
     split : (o : Option (List ℕ)) → spelling_at ids id ≡ o → map entry_of_account list ≡ told_of o [] (λ name. filter (λ o. finset.contains held (canon name, o.0)) (enumerate_from 1 accounts))
     split None none =
-        listed ids.crates held accounts db pairs stands id list h
-        ∙ none_pass (λ _ _. true) (λ (e : ℕ × Account). is_paired pairs.pairs id e.0) (enumerate_from 1 accounts) (λ e i. none_in (λ o. o.0 == id && o.1 == e.0) pairs.pairs (λ o k. and_left (o.0 == id) (o.1 == e.0) (other_pair ids held (db 9) pairs id none o k)))
+        listed ids.crates held accounts db tree pairs stands id list h
+        ∙ none_pass (λ _ _. true) (λ (e : ℕ × Account). is_paired pairs.pairs id e.0) (enumerate_from 1 accounts) (λ e i. none_in (λ o. o.0 == id && o.1 == e.0) pairs.pairs (λ o k. and_left (o.0 == id) (o.1 == e.0) (other_pair ids held (db tree) pairs id none o k)))
     split (Some name) at =
-        listed ids.crates held accounts db pairs stands id list h
+        listed ids.crates held accounts db tree pairs stands id list h
         ∙ same_filter (λ (e : ℕ × Account). is_paired pairs.pairs id e.0) (λ e. finset.contains held (canon name, e.0)) (λ e. sym (each_in (λ c. (a : ℕ) → finset.contains held (canon c.1, a) ≡ is_paired pairs.pairs c.0 a) ids.crates (id, name) pairs.same (there_at ids id name at) e.0)) (enumerate_from 1 accounts)

@@ -1,0 +1,126 @@
+-- The crates of a table of marks after a change that names a crate by its id.
+use Rattle.std.proofs.Common.{◌≡◌, ◌==◌, ℕ, pos, List, [], ◌∷◌, map, Bool, true, false, not, ◌&&◌, ◌||◌, cond, Option, Some, None, refl, sym, ap, subst, ◌∙◌}
+use Rattle.std.specs.FinSet as finset
+
+-- the row of a mark has its id alone
+row_has : (id i : ℕ) → is_number 0 id (restricted_row i) ≡ (i == id)
+row_has id i = same_number i id
+
+module _ (ids : Ids) (publications : List Publication) (yanked : finset.FinSet mark_cmp) (db : Trees) (stands : StandCrates ids publications yanked db) (marked : finset.FinSet text_cmp) (rows : List Row) (all : StandMarked ids.crates marked rows) (id : ℕ) where
+  -- whether a row has the id, and whether it is among the marks
+  pub any_row : list_any (is_number 0 id) rows ≡ list_any (λ i. i == id) all.marks
+  any_row =
+      sym (list_any-IsPermutation (is_number 0 id) (map restricted_row all.marks) rows all.are) ∙ list_any_map (is_number 0 id) restricted_row all.marks ∙ any_same (λ i. is_number 0 id (restricted_row i)) (λ i. i == id) (row_has id) all.marks
+
+  at_crate : (name : Text) → IsIn (id, name) ids.crates → finset.contains marked (canon name) ≡ list_any (λ i. i == id) all.marks
+  at_crate name there = each_in (λ c. finset.contains marked (canon c.1) ≡ list_any (λ i. i == c.0) all.marks) ids.crates (id, name) all.same there
+
+  none_marked : spelling_at ids id ≡ None → list_any (λ i. i == id) all.marks ≡ false
+  none_marked none = none_in (λ i. i == id) all.marks (λ i k. not_true _ (λ e.
+      let c = any_in (λ c. c.0 == i) ids.crates (all_in (λ i. list_any (λ c. c.0 == i) ids.crates) all.marks i all.of_crates k) in
+      true_not_false _ (in_any (λ c. c.0 == id) ids.crates c.0 c.1 (eq-eqb c.0.0 id (eqb-true c.0.0 i c.2 ∙ eqb-true i id e))) (not_at ids id none)))
+
+  pub is_marked : list_any (is_number 0 id) rows ≡ told_of (spelling_at ids id) false (λ name. finset.contains marked (canon name))
+  is_marked = any_row ∙ split (spelling_at ids id) refl
+    where
+      split : (o : Option Text) → spelling_at ids id ≡ o → list_any (λ i. i == id) all.marks ≡ told_of o false (λ name. finset.contains marked (canon name))
+      split None none = none_marked none
+      split (Some name) at = sym (at_crate name (there_at ids id name at))
+
+  -- a mark that is there already is not added, nor that of a crate that is not there
+  pub again : list_any (is_number 0 id) rows ≡ true → marked ≡ mark_in (spelling_at ids id) true marked
+  again is = split (spelling_at ids id) refl
+    where
+      split : (o : Option Text) → spelling_at ids id ≡ o → marked ≡ mark_in o true marked
+      split None none = refl
+      split (Some name) at = sym (insert_again nat_list_cmp_total text_apart marked (canon name) (at_crate name (there_at ids id name at) ∙ sym any_row ∙ is))
+
+  pub no_crate : list_any (has_rowid (pos id)) (db 7) ≡ false → marked ≡ mark_in (spelling_at ids id) true marked
+  no_crate none = split (spelling_at ids id) refl
+    where
+      split : (o : Option Text) → spelling_at ids id ≡ o → marked ≡ mark_in o true marked
+      split None at = refl
+      split (Some name) at = true_not_false _ (crate_there ids publications yanked db stands id name (there_at ids id name at)) none
+
+  -- of the crates that are there, one has its id and its canonical text
+  alike_at : (name : Text) → IsIn (id, name) ids.crates → AllByRecursion (λ c. bytes_eq (canon c.1) (canon name) ≡ (c.0 == id)) ids.crates
+  alike_at name there = crates_alike ids publications yanked db stands finset.empty id name there
+
+  more_marked : (name : Text) (cs : List StoredCrate) → AllByRecursion (λ c. bytes_eq (canon c.1) (canon name) ≡ (c.0 == id)) cs → AllByRecursion (λ c. finset.contains marked (canon c.1) ≡ list_any (λ i. i == c.0) all.marks) cs
+      → AllByRecursion (λ c. finset.contains (finset.insert marked (canon name)) (canon c.1) ≡ list_any (λ i. i == c.0) (id ∷ all.marks)) cs
+  more_marked name [] same was = tt
+  more_marked name (c ∷ cs) same was = (
+    finset.contains-insert nat_list_cmp_total marked (canon name) (canon c.1) ∙ ap (λ b. b || finset.contains marked (canon c.1)) (is_eq-slice_cmp (canon c.1) (canon name) ∙ same.0 ∙ nat_eq_equiv.symm c.0 id) ∙ ap (λ b. (id == c.0) || b) was.0,
+    more_marked name cs same.1 was.1,
+  )
+
+  less_marked : (name : Text) (cs : List StoredCrate) → AllByRecursion (λ c. bytes_eq (canon c.1) (canon name) ≡ (c.0 == id)) cs → AllByRecursion (λ c. finset.contains marked (canon c.1) ≡ list_any (λ i. i == c.0) all.marks) cs
+      → AllByRecursion (λ c. finset.contains (finset.remove marked (canon name)) (canon c.1) ≡ list_any (λ i. i == c.0) (filter (λ i. not (i == id)) all.marks)) cs
+  less_marked name [] same was = tt
+  less_marked name (c ∷ cs) same was = (
+    finset.contains-remove nat_list_cmp_total marked (canon name) (canon c.1) ∙ ap (λ b. not b && finset.contains marked (canon c.1)) (is_eq-slice_cmp (canon c.1) (canon name) ∙ same.0) ∙ ap (λ b. not (c.0 == id) && b) was.0
+        ∙ sym (any-filter_same (λ i. i == c.0) (λ i. not (i == id)) (not (c.0 == id)) (λ i h. ap (λ n. not (n == id)) (eqb-true i c.0 h)) all.marks),
+    less_marked name cs same.1 was.1,
+  )
+
+  pub added : list_any (has_rowid (pos id)) (db 7) ≡ true → is_taken rows (restricted_row id) ≡ false → StandMarked ids.crates (mark_in (spelling_at ids id) true marked) (put_row (restricted_row id) rows)
+  added crate free = split (spelling_at ids id) refl
+    where
+      split : (o : Option Text) → spelling_at ids id ≡ o → StandMarked ids.crates (mark_in o true marked) (put_row (restricted_row id) rows)
+      split None none = true_not_false _ crate (no_row ids publications yanked db stands id none)
+      split (Some name) at =
+          let there = there_at ids id name at in
+          record {
+            marks = id ∷ all.marks;
+            are = IsPermutation-trans _ (restricted_row id ∷ rows) _ (IsPermutation-cons (restricted_row id) (map restricted_row all.marks) rows all.are) (put_permutes (restricted_row id) rows free);
+            of_crates = and_from _ _ (in_any (λ c. c.0 == id) ids.crates (id, name) there (eq-eqb id id refl)) all.of_crates;
+            same = more_marked name ids.crates (alike_at name there) all.same;
+          }
+
+  kept_rows : IsPermutation (map restricted_row (filter (λ i. not (i == id)) all.marks)) (filter (λ r. not (is_number 0 id r)) rows)
+  kept_rows =
+      let test = λ (r : Row). not (is_number 0 id r) in
+      subst (λ (rs : List Row). IsPermutation rs (filter test rows)) (filter_map restricted_row test all.marks ∙ ap (map restricted_row) (same_filter (λ i. test (restricted_row i)) (λ i. not (i == id)) (λ i. ap not (row_has id i)) all.marks))
+      (IsPermutation-filter test (map restricted_row all.marks) rows all.are)
+
+  less : (name : Text) → IsIn (id, name) ids.crates → StandMarked ids.crates (finset.remove marked (canon name)) (filter (λ r. not (is_number 0 id r)) rows)
+  less name there = record {
+    marks = filter (λ i. not (i == id)) all.marks;
+    are = kept_rows;
+    of_crates = in_all (λ i. list_any (λ c. c.0 == i) ids.crates) (filter (λ i. not (i == id)) all.marks) (λ i k. all_in (λ i. list_any (λ c. c.0 == i) ids.crates) all.marks i all.of_crates (in_filter (λ i. not (i == id)) all.marks i k));
+    same = less_marked name ids.crates (alike_at name there) all.same;
+  }
+
+  pub removed : StandMarked ids.crates (mark_in (spelling_at ids id) false marked) (filter (λ r. not (is_number 0 id r)) rows)
+  removed = split (spelling_at ids id) refl
+    where
+      split : (o : Option Text) → spelling_at ids id ≡ o → StandMarked ids.crates (mark_in o false marked) (filter (λ r. not (is_number 0 id r)) rows)
+      split None none = subst (StandMarked ids.crates marked) (sym (keeps_all (is_number 0 id) rows (any_row ∙ none_marked none))) all
+      split (Some name) at = less name (there_at ids id name at)
+
+  -- what DELETE leaves: each row is found again by its key
+  is_row : (r : Row) → IsIn r rows → (i : ℕ) × (restricted_row i ≡ r)
+  is_row r k = let i = map_in restricted_row all.marks r (in_permuted rows (map restricted_row all.marks) r (IsPermutation-sym (map restricted_row all.marks) rows all.are) k) in (i.0, i.2)
+
+  at_key : (i j : ℕ) → has_rowid (id_in (rowid (restricted_row j))) (restricted_row i) ≡ (i == j)
+  at_key i j = same_number i j
+
+  told : (r : Row) → IsIn r rows → is_at_one_of (filter (is_number 0 id) rows) r ≡ is_number 0 id r
+  told r k = split (is_number 0 id r) refl
+    where
+      split : (b : Bool) → is_number 0 id r ≡ b → is_at_one_of (filter (is_number 0 id) rows) r ≡ b
+      split true has =
+          let i = is_row r k in
+          in_any (λ x. has_rowid (id_in (rowid x)) r) (filter (is_number 0 id) rows) r (kept (is_number 0 id) rows r k has) (subst (λ (x : Row). has_rowid (id_in (rowid x)) x ≡ true) i.1 (at_key i.0 i.0 ∙ eq-eqb i.0 i.0 refl))
+      split false lacks =
+          let i = is_row r k in
+          let other : (i.0 == id) ≡ false = sym (row_has id i.0) ∙ ap (is_number 0 id) i.1 ∙ lacks in
+          none_in (λ x. has_rowid (id_in (rowid x)) r) (filter (is_number 0 id) rows) (λ x l.
+          let j = is_row x (in_filter (is_number 0 id) rows x l) in
+          let mine : j.0 ≡ id = eqb-true j.0 id (sym (row_has id j.0) ∙ ap (is_number 0 id) j.1 ∙ filtered_passes (is_number 0 id) rows x l) in
+          (λ n. has_rowid (id_in (rowid (sym j.1 n))) (sym i.1 n)) ∙ at_key i.0 j.0 ∙ ap (λ n. i.0 == n) mine ∙ other)
+
+  pub left : (now : List Row) → now ≡ filter (λ row. not (is_at_one_of (filter (is_number 0 id) rows) row)) rows → StandMarked ids.crates (mark_in (spelling_at ids id) false marked) now
+  left now is =
+      let same = same_passes (λ row. not (is_at_one_of (filter (is_number 0 id) rows) row)) (λ row. not (is_number 0 id row)) rows (λ r k. ap not (told r k)) in
+      subst (StandMarked ids.crates (mark_in (spelling_at ids id) false marked)) (sym (is ∙ same)) removed
