@@ -20,10 +20,10 @@ use Rattle.reg_model.proofs.Lists.{none_both, not_true, true_not_false}
 use Rattle.reg_stored.specs.Additions.{KeepsAllBut, AddsCrate, AddsVersion}
 use Rattle.reg_statements.specs.Versions.{version_row, MarksYanked}
 use Rattle.reg_schema.specs.Tests.{is_version}
-use Rattle.reg_stored.specs.Stands.{StandCrates, Ids, StandsBy, Holds, StandPairs, spelling_at}
-use Rattle.reg_stored.proofs.CrateChanges.{adds_version, adds_crate, id_is, first_pair, unpaired}
+use Rattle.reg_stored.specs.Stands.{StandCrates, Ids, StandsBy, Holds, StandPairs, spelling_at, StandMarked}
+use Rattle.reg_stored.proofs.CrateChanges.{adds_version, adds_crate, id_is, first_pair, unpaired, unmarked_crate}
 use Rattle.reg_stored.proofs.CrateLemmas.{there_at}
-use Rattle.reg_stored.proofs.Stays.{accounts_stay, tokens_stay, reserved_stay, same_crates, same_archives, pairs_stay, with_yanked, crates_stay}
+use Rattle.reg_stored.proofs.Stays.{accounts_stay, tokens_stay, reserved_stay, same_crates, same_archives, pairs_stay, with_yanked, crates_stay, marked_stay}
 use Rattle.reg_stored.proofs.Yanks.{marks, target, row_found, yanks, no_such_version, no_version}
 
 -- the tables that are not of crates have the rows that they had

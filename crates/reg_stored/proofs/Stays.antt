@@ -9,7 +9,7 @@ use Rattle.sqlite.specs.Order.{Row}
 use Rattle.reg_schema.specs.Changes.{KeepsOthers}
 use Rattle.reg_model.specs.Registry.{Account, Token, Publication, Registry, text_cmp, owner_cmp, mark_cmp}
 use Rattle.reg_statements.specs.Reserved.{reserved_columns}
-use Rattle.reg_stored.specs.Stands.{row_of_account, row_of_token, row_of_crate, row_of_version, row_of_archive, scopes_of, HaveOwnRowids, StandAccounts, StandTokens, StandReserved, StandCrates, Ids, StoredCrate, StandPairs, StandsBy}
+use Rattle.reg_stored.specs.Stands.{row_of_account, row_of_token, row_of_crate, row_of_version, row_of_archive, scopes_of, HaveOwnRowids, StandAccounts, StandTokens, StandReserved, StandCrates, Ids, StoredCrate, StandPairs, StandsBy, StandMarked}
 
 pub accounts_stay : (accounts : List Account) (old new : Trees) → new 1 ≡ old 1 → StandAccounts accounts old → StandAccounts accounts new
 accounts_stay accounts old new e h = record { rows = subst (IsPermutation (map row_of_account (enumerate_from 1 accounts))) (sym e) h.rows }
