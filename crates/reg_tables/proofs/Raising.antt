@@ -1,9 +1,12 @@
 -- A transaction in which tables of schema 1 become tables of schema 2.
-use Rattle.std.proofs.Common.{◌≡◌, ◌≢◌, ℕ, List, [], ◌∷◌, map, true, Ok, Err, Result, OnOk, refl, ap, subst, ◌∙◌}
+use Rattle.std.proofs.Common.{◌≡◌, ◌≢◌, ℕ, List, [], ◌∷◌, map, true, false, Ok, Err, Result, OnOk, refl, sym, ap, subst, ◌∙◌, arith}
 use Rattle.std.specs.Prelude.{drop}
 use Rattle.std.specs.List.{AllByRecursion}
 use Rattle.sqlite.specs.Effect.{Database}
-use Rattle.sqlite.specs.State.{State, HasCleanDisk, KeepsCommit, Shows}
+use Rattle.sqlite.specs.State.{State, HasCleanDisk, KeepsCommit, Shows, Survives}
+use Rattle.sqlite.proofs.StateLemmas.{survives_then, survives_weaker}
+use Rattle.reg_schema.specs.States.{IsUndone}
+use Rattle.std.proofs.Common.{Bool}
 use Rattle.sqlite.specs.Table.{Table}
 use Rattle.sqlite.specs.Tree.{Trees}
 use Rattle.reg_schema.specs.declared.edition.Edition.{Edition}
@@ -12,7 +15,7 @@ use Rattle.reg_schema.specs.Schema.{old_tables, our_tables, schema_of}
 use Rattle.reg_schema.specs.States.{Extends, GoesBack, IsOurs, IsReady}
 use Rattle.reg_schema.proofs.MakeLemmas.{all_taken}
 use Rattle.reg_statements.specs.Abouts.{BecomesSecond}
-use Rattle.reg_tables.specs.Upgrades.{BeginsSecond, IsUpgrade, Upgrades}
+use Rattle.reg_tables.specs.Upgrades.{BeginsSecond, IsUpgrade, IsUpgraded, LeavesUpgraded, Upgrades}
 
 kept_through : (tables : List Table) (a b c : Trees) → AllByRecursion (λ t. b t.tree ≡ a t.tree) tables → AllByRecursion (λ t. t.tree ≢ 0 → c t.tree ≡ b t.tree) tables
     → AllByRecursion (λ t. t.tree ≢ 0 → c t.tree ≡ a t.tree) tables
@@ -59,3 +62,24 @@ module _ (e : Edition) (old new : State) (early : HasCleanDisk new → HasCleanD
 
   pub kept_back : (HasCleanDisk new → KeepsCommit old new) → GoesBack e new
   kept_back h clean up = let k = h clean in ap (λ (d : Database). d.schema) (k.committed up) ∙ (at (early clean) (k.was_open up)).committed_is
+
+pub upgraded : (e : Edition) (old mid new : State) → e ≡ First → BeginsSecond e old mid → Shows mid new mid.now mid.now false → IsUpgraded old new
+upgraded First old mid new is h s = (subst (IsUpgrade old.now) (sym s.now_is) h.made, s.committed_is ∙ sym s.now_is)
+upgraded Second old mid new is h s = absurd cc
+
+pub commit_kept : (e : Edition) (old mid new : State) → BeginsSecond e old mid → IsUndone mid new → KeepsCommit old new
+commit_kept e old mid new h k =
+    let s = begun_shows e old mid h in
+    record { was_open = λ _. s.was_open; committed = λ up. (k.undone up).1 ∙ s.committed_is }
+
+begun_upgrade : (e : Edition) (old mid : State) → e ≡ First → BeginsSecond e old mid → IsUpgrade old.now mid.now
+begun_upgrade First old mid is h = h.made
+begun_upgrade Second old mid is h = absurd cc
+
+pub stops_between : (e : Edition) (failed : Bool) (old mid new : State) → e ≡ First → (HasCleanDisk mid → BeginsSecond e old mid) → Survives old mid (λ _. ⊥)
+    → Survives mid new (λ db. (failed ≡ false) × (db ≡ mid.now.trees)) → Survives old new (LeavesUpgraded old)
+stops_between e failed old mid new is begun one two =
+    survives_then old mid new _ _ (LeavesUpgraded old) (λ _ db none. absurd none) (λ clean db it. (mid.now, begun_upgrade e old mid is (begun (omega (arith, two.clean))), it.1)) one two
+
+pub stops_before : (old new : State) → Survives old new (λ _. ⊥) → Survives old new (LeavesUpgraded old)
+stops_before old new s = survives_weaker old new _ _ (λ _ db none. absurd none) s

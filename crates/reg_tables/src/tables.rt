@@ -1,19 +1,19 @@
 //! The tables over a connection.
 
-ghost use Rattle.std.specs.Prelude.{◌≡◌, ◌≢◌, ◌↔◌, [], ◌∷◌, true, false, Err, IfErr, IfOk, IsTrue};
+ghost use Rattle.std.specs.Prelude.{◌≡◌, ◌≢◌, ◌↔◌, [], ◌∷◌, true, false, Ok, Err, IfErr, IfOk, OnErr, OnOk, IsTrue};
 ghost use Rattle.std.specs.Borrow.{sem, RestsIfErr};
 ghost use Rattle.sqlite.specs.State.{HasCleanDisk, KeepsCommit, Shows, Survives};
 ghost use Rattle.sqlite.specs.Held.{state};
 ghost use Rattle.reg_model.specs.Registry.{empty_at};
 ghost use Rattle.reg_schema.specs.Schema.{blank, schema_of};
-ghost use Rattle.reg_schema.specs.States.{IsAtRest, IsMade, IsOurs, IsUndone, about_columns};
+ghost use Rattle.reg_schema.specs.States.{IsAtRest, IsMade, IsOurs, IsUndone, LeavesCommit, about_columns};
 ghost use Rattle.reg_statements.specs.Abouts.{HasBase, IsAbout, LacksBase};
 ghost use Rattle.reg_tables.specs.contracts.tables.Tables.{the_row};
 ghost use Rattle.reg_tables.specs.Lending.{LendsReader};
 ghost use Rattle.reg_tables.specs.Readers.{is_closed, reached};
 ghost use Rattle.reg_stored.specs.Stands.{Stands};
 ghost use Rattle.reg_tables.specs.Works.{AreOurs, IsAtWork, IsKept, IsLeft, edition_in, has_failed, held, is_shut, seen, shown};
-ghost use Rattle.reg_tables.specs.Upgrades.{BeginsSecond};
+ghost use Rattle.reg_tables.specs.Upgrades.{BeginsSecond, IsUpgraded, LeavesUpgraded};
 
 use crate::reader::Reader;
 use crate::upgrade::begin_second;
@@ -221,15 +221,41 @@ impl<S: Alter> Tables<S> {
         ensures survives { IfOk result (λ w. Survives (shown S.Store self.old) (seen S.Store w)
             (λ _. ⊥)) }
     {
-        if self.shut {
-            return Err(StoreFault);
-        }
-        if begin_second(&mut self.conn, self.edition).is_err() {
+        if self.shut || begin_second(&mut self.conn, self.edition).is_err() {
             return Err(StoreFault);
         }
         Ok(Work {
             tables: self,
             failed: false,
         })
+    }
+
+    /// Brings the tables to schema 2, in one transaction; whether they were of schema 1.
+    #[tactic(auto, using(crate::proofs::Raising::upgraded, crate::proofs::Raising::commit_kept, crate::proofs::Raising::stops_before))]
+    pub fn migrate(&mut self) -> Result<bool, StoreFault>
+        requires { AreOurs S.Store self.old }
+        ensures which { IfOk result (λ done. IsTrue done ↔
+            (edition_in self.old ≡ Edition.First)) }
+        ensures same { result ≡ Ok false → self.new ≡ self.old }
+        ensures upgraded { HasCleanDisk (shown S.Store self.new) → result ≡ Ok true → IsUpgraded
+            (shown S.Store self.old) (shown S.Store self.new) }
+        ensures alone { HasCleanDisk (shown S.Store self.new) → result ≡ Ok true → LeavesCommit
+            (shown S.Store self.new) }
+        ensures open { OnOk result (is_shut self.new ≡ is_shut self.old) }
+        ensures kept { HasCleanDisk (shown S.Store self.new) → OnErr result
+            (KeepsCommit (shown S.Store self.old) (shown S.Store self.new)) }
+        ensures ours { AreOurs S.Store self.new }
+        ensures second { OnOk result (edition_in self.new ≡ Edition.Second) }
+        ensures edition { OnErr result (edition_in self.new ≡ edition_in self.old) }
+        ensures survives { Survives (shown S.Store self.old) (shown S.Store self.new)
+            (LeavesUpgraded (shown S.Store self.old)) }
+    {
+        match self.edition {
+            Edition::First => {}
+            Edition::Second => return Ok(false),
+        }
+        let work = self.upgrade()?;
+        work.commit()?;
+        Ok(true)
     }
 }
