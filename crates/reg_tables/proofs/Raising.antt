@@ -15,7 +15,7 @@ use Rattle.reg_schema.specs.Schema.{old_tables, our_tables, schema_of}
 use Rattle.reg_schema.specs.States.{Extends, GoesBack, IsOurs, IsReady}
 use Rattle.reg_schema.proofs.MakeLemmas.{all_taken}
 use Rattle.reg_statements.specs.Abouts.{BecomesSecond}
-use Rattle.reg_tables.specs.Upgrades.{BeginsSecond, IsUpgrade, IsUpgraded, LeavesUpgraded, Upgrades}
+use Rattle.reg_tables.specs.Upgrades.{BeginsSecond, IsUpgrade, IsUpgraded, AreUpgraded, Upgrades}
 
 kept_through : (tables : List Table) (a b c : Trees) → AllByRecursion (λ t. b t.tree ≡ a t.tree) tables → AllByRecursion (λ t. t.tree ≢ 0 → c t.tree ≡ b t.tree) tables
     → AllByRecursion (λ t. t.tree ≢ 0 → c t.tree ≡ a t.tree) tables
@@ -67,19 +67,19 @@ pub upgraded : (e : Edition) (old mid new : State) → e ≡ First → BeginsSec
 upgraded First old mid new is h s = (subst (IsUpgrade old.now) (sym s.now_is) h.made, s.committed_is ∙ sym s.now_is)
 upgraded Second old mid new is h s = absurd cc
 
-pub commit_kept : (e : Edition) (old mid new : State) → BeginsSecond e old mid → IsUndone mid new → KeepsCommit old new
-commit_kept e old mid new h k =
+pub commit_undone : (e : Edition) (old mid new : State) → BeginsSecond e old mid → IsUndone mid new → IsUndone old new
+commit_undone e old mid new h k =
     let s = begun_shows e old mid h in
-    record { was_open = λ _. s.was_open; committed = λ up. (k.undone up).1 ∙ s.committed_is }
+    record { was_open = λ _. s.was_open; undone = λ up. ((k.undone up).0 ∙ s.committed_is, (k.undone up).1 ∙ s.committed_is); autocommit = k.autocommit }
 
 begun_upgrade : (e : Edition) (old mid : State) → e ≡ First → BeginsSecond e old mid → IsUpgrade old.now mid.now
 begun_upgrade First old mid is h = h.made
 begun_upgrade Second old mid is h = absurd cc
 
 pub stops_between : (e : Edition) (failed : Bool) (old mid new : State) → e ≡ First → (HasCleanDisk mid → BeginsSecond e old mid) → Survives old mid (λ _. ⊥)
-    → Survives mid new (λ db. (failed ≡ false) × (db ≡ mid.now.trees)) → Survives old new (LeavesUpgraded old)
+    → Survives mid new (λ db. (failed ≡ false) × (db ≡ mid.now.trees)) → Survives old new (AreUpgraded old.now)
 stops_between e failed old mid new is begun one two =
-    survives_then old mid new _ _ (LeavesUpgraded old) (λ _ db none. absurd none) (λ clean db it. (mid.now, begun_upgrade e old mid is (begun (omega (arith, two.clean))), it.1)) one two
+    survives_then old mid new _ _ (AreUpgraded old.now) (λ _ db none. absurd none) (λ clean db it. (mid.now, begun_upgrade e old mid is (begun (omega (arith, two.clean))), it.1)) one two
 
-pub stops_before : (old new : State) → Survives old new (λ _. ⊥) → Survives old new (LeavesUpgraded old)
+pub stops_before : (old new : State) → Survives old new (λ _. ⊥) → Survives old new (AreUpgraded old.now)
 stops_before old new s = survives_weaker old new _ _ (λ _ db none. absurd none) s

@@ -36,6 +36,11 @@ BeginsSecond Second old new = Shows old new old.now old.committed true
 abbrev pub IsUpgraded : State → State → Type 0
 IsUpgraded old new = IsUpgrade old.now new.now × (new.committed ≡ new.now)
 
--- a stop leaves the tables upgraded
-abbrev pub LeavesUpgraded : State → Trees → Type 0
-LeavesUpgraded old trees = (db : Database) × IsUpgrade old.now db × (trees ≡ db.trees)
+-- these are the rows of the tables upgraded
+abbrev pub AreUpgraded : Database → Trees → Type 0
+AreUpgraded old trees = (db : Database) × IsUpgrade old db × (trees ≡ db.trees)
+
+-- the rows that a transaction begins with
+abbrev pub AreBegun : Edition → Database → Trees → Type 0
+AreBegun First old db = AreUpgraded old db
+AreBegun Second old db = db ≡ old.trees

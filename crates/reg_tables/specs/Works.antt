@@ -2,10 +2,10 @@
 use Rattle.std.specs.Prelude.{◌≡◌, ◌⊎◌, Bool, true, false, Result, IfOk, OnOk, OnErr}
 use Rattle.sqlite_trees.specs.declared.store.Store.{Ghosts}
 use Rattle.sqlite.specs.Held.{Held, state}
-use Rattle.sqlite.specs.State.{State, HasCleanDisk, IsUnchanged, KeepsCommit, Survives}
+use Rattle.sqlite.specs.State.{State, HasCleanDisk, IsUnchanged, Survives}
 use Rattle.sqlite.specs.Tree.{Trees}
 use Rattle.reg_schema.specs.declared.edition.Edition.{Edition}
-use Rattle.reg_schema.specs.States.{GoesBack, IsReady, IsOurs, Refuses}
+use Rattle.reg_schema.specs.States.{GoesBack, IsReady, IsOurs, IsUndone, Refuses}
 use Rattle.reg_schema.specs.Steps.{Fails, Within}
 use Rattle.reg_tables.specs.declared.tables.Tables.{Tables}
 use Rattle.reg_tables.specs.declared.work.Work.{Work}
@@ -52,9 +52,13 @@ pub record IsLeft {S : Type 0} (g : Ghosts S) (old new : Tables S) : Type 0 wher
   pub shut : is_shut new ≡ is_shut old
   pub survives : Survives (shown g old) (shown g new) (λ _. ⊥)
 
--- the tables where none was begun, or one was undone at once
+-- the connection of the tables as it was, or with nothing but what was committed
+abbrev pub IsSame : {S : Type 0} → Ghosts S → Tables S → Tables S → Type 0
+IsSame g old new = (held new ≡ held old) ⊎ IsUndone (shown g old) (shown g new)
+
+-- the tables where no transaction was begun, or one was undone at once
 pub record IsKept {S : Type 0} (g : Ghosts S) (old new : Tables S) : Type 0 where
-  pub kept : HasCleanDisk (shown g new) → KeepsCommit (shown g old) (shown g new)
+  pub refused : HasCleanDisk (shown g new) → IsSame g old new
   pub ours : AreOurs g new
   pub edition : edition_in new ≡ edition_in old
   pub shut : is_shut new ≡ is_shut old

@@ -12,8 +12,8 @@ ghost use Rattle.reg_tables.specs.contracts.tables.Tables.{the_row};
 ghost use Rattle.reg_tables.specs.Lending.{LendsReader};
 ghost use Rattle.reg_tables.specs.Readers.{is_closed, reached};
 ghost use Rattle.reg_stored.specs.Stands.{Stands};
-ghost use Rattle.reg_tables.specs.Works.{AreOurs, IsAtWork, IsKept, IsLeft, edition_in, has_failed, held, is_shut, seen, shown};
-ghost use Rattle.reg_tables.specs.Upgrades.{BeginsSecond, IsUpgraded, LeavesUpgraded};
+ghost use Rattle.reg_tables.specs.Works.{AreOurs, IsAtWork, IsKept, IsLeft, IsSame, edition_in, has_failed, held, is_shut, seen, shown};
+ghost use Rattle.reg_tables.specs.Upgrades.{BeginsSecond, IsUpgraded, AreUpgraded};
 
 use crate::reader::Reader;
 use crate::upgrade::begin_second;
@@ -231,7 +231,7 @@ impl<S: Alter> Tables<S> {
     }
 
     /// Brings the tables to schema 2, in one transaction; whether they were of schema 1.
-    #[tactic(auto, using(crate::proofs::Raising::upgraded, crate::proofs::Raising::commit_kept, crate::proofs::Raising::stops_before))]
+    #[tactic(auto, using(crate::proofs::Raising::upgraded, crate::proofs::Raising::commit_undone, crate::proofs::Raising::stops_before))]
     pub fn migrate(&mut self) -> Result<bool, StoreFault>
         requires { AreOurs S.Store self.old }
         ensures which { IfOk result (λ done. IsTrue done ↔
@@ -242,13 +242,13 @@ impl<S: Alter> Tables<S> {
         ensures alone { HasCleanDisk (shown S.Store self.new) → result ≡ Ok true → LeavesCommit
             (shown S.Store self.new) }
         ensures open { OnOk result (is_shut self.new ≡ is_shut self.old) }
-        ensures kept { HasCleanDisk (shown S.Store self.new) → OnErr result
-            (KeepsCommit (shown S.Store self.old) (shown S.Store self.new)) }
+        ensures refused { HasCleanDisk (shown S.Store self.new) → OnErr result
+            (IsSame S.Store self.old self.new) }
         ensures ours { AreOurs S.Store self.new }
         ensures second { OnOk result (edition_in self.new ≡ Edition.Second) }
         ensures edition { OnErr result (edition_in self.new ≡ edition_in self.old) }
         ensures survives { Survives (shown S.Store self.old) (shown S.Store self.new)
-            (LeavesUpgraded (shown S.Store self.old)) }
+            (AreUpgraded (shown S.Store self.old).now) }
     {
         match self.edition {
             Edition::First => {}

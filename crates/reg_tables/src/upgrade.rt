@@ -52,8 +52,8 @@ pub(crate) fn begin_second<S: Alter>(
         (BeginsSecond edition (state S.Store conn.old) (state S.Store conn.new)) }
     ensures back { OnOk result (GoesBack edition (state S.Store conn.new)) }
     ensures ready { OnOk result (IsReady (state S.Store conn.new)) }
-    ensures kept { HasCleanDisk (state S.Store conn.new) → OnErr result
-        (KeepsCommit (state S.Store conn.old) (state S.Store conn.new)) }
+    ensures undone { HasCleanDisk (state S.Store conn.new) → OnErr result
+        (IsUndone (state S.Store conn.old) (state S.Store conn.new)) }
     ensures ours { OnErr result (IsOurs edition (state S.Store conn.new)) }
     ensures survives { Survives (state S.Store conn.old) (state S.Store conn.new) (λ _. ⊥) }
 {
