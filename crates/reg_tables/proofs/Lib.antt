@@ -1,2 +1,3 @@
 mod Made
+mod Raising
 mod RowReading
