@@ -1,5 +1,6 @@
 //! A transaction of the tables.
 
+ghost use Rattle.std.proofs.Common.{IsErr};
 ghost use Rattle.std.specs.Prelude.{◌≡◌, true, false, OnErr, OnOk};
 ghost use Rattle.sqlite.specs.Given.{IsPlain};
 ghost use Rattle.sqlite.specs.Listing.{understood};
@@ -91,6 +92,16 @@ impl<S: Alter> Work<'_, S> {
 }
 
 impl<S: Alter> Work<'_, S> {
+    /// Ends the transaction as a fault does, for a row that cannot be read.
+    pub fn fail<T>(&mut self) -> Result<T, StoreFault>
+        requires { IsAtWork S.Store self.old }
+        ensures fails { IsErr result }
+        ensures leaves { IsCall S.Store result self.old self.new }
+    {
+        self.failed = true;
+        Err(StoreFault)
+    }
+
     /// All rows of a text that only reads.
     pub fn select(&mut self, text: &str, params: &[ValueRef<'_>]) -> Result<Vec<Row>, StoreFault>
         requires at_work { IsAtWork S.Store self.old }
