@@ -24,7 +24,7 @@ mod Rowids
 mod ScopeRows
 mod Selected
 mod Standing
-mod Stays
+pub mod Stays
 mod TokenChanges
 mod TokenEntries
 mod VersionEntries

@@ -13,13 +13,13 @@ use Rattle.reg_model.specs.Registry.{Text, text_cmp, empty_at}
 use Rattle.reg_schema.specs.States.{IsAtRest, IsMade}
 use Rattle.reg_stored.specs.Stands.{HaveOwnRowids, StandCrates, Stands, StandMarked, StandPairs}
 
-none_are : (rows : List Row) → rows ≡ [] → IsPermutation [] rows
+pub none_are : (rows : List Row) → rows ≡ [] → IsPermutation [] rows
 none_are rows e = subst (IsPermutation []) (sym e) (IsPermutation-refl [])
 
-none_dropped : (rows : List Row) → rows ≡ [] → IsPermutation [] (map (drop 1) rows)
+pub none_dropped : (rows : List Row) → rows ≡ [] → IsPermutation [] (map (drop 1) rows)
 none_dropped rows e = none_are (map (drop 1) rows) (ap (map (drop 1)) e)
 
-none_apart : (rows : List Row) → rows ≡ [] → HaveOwnRowids rows
+pub none_apart : (rows : List Row) → rows ≡ [] → HaveOwnRowids rows
 unfolding IsDistinct
 none_apart rows e = subst HaveOwnRowids (sym e) (tt, tt)
 

@@ -9,6 +9,7 @@
 #![tactic(auto)]
 
 mod calls;
+pub mod laws;
 mod reader;
 mod tables;
 mod upgrade;
