@@ -17,11 +17,17 @@ pub record IsSelection (schema : Schema) (text : List ℕ) (q : Query) (names : 
   pub unlisted : reads_listing schema text ≡ false
   pub plain : IsPlain (understood schema text)
 
+-- the same, of the schema that is there
+pub selected_by : {schema : Schema} {text : List ℕ} {q : Query} {names : List (List ℕ)} → IsSelection schema text q names
+    → (params : Row) (old new : State) (rows : List Row) → old.now.schema ≡ schema → Shown text params old new rows
+    → IsSureAnswer q (overlay old.now.trees []) params rows
+selected_by {schema} {text} {q} {names} is params old new rows at h = (answered_as text params old new schema at _ is.command is.plain is.unlisted rows h).answer
+
 -- the rows that it shows are an answer of its query
 pub selected : {schema : Schema} {text : List ℕ} {q : Query} {names : List (List ℕ)} → IsSelection schema text q names
     → (params : Row) (old new : State) (rows : List Row) → IsInsideWith schema old → Shown text params old new rows
     → IsSureAnswer q (overlay old.now.trees []) params rows
-selected {schema} {text} {q} {names} is params old new rows at h = (answered_as text params old new schema at.schema_is _ is.command is.plain is.unlisted rows h).answer
+selected is params old new rows at h = selected_by is params old new rows at.schema_is h
 
 turned : {T E : Type 0} (r : Result T E) {P Q : T → Type 0} → ((x : T) → P x → Q x) → IfOk r P → IfOk r Q
 turned (Ok x) f h = f x h

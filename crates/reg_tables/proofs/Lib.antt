@@ -1,4 +1,6 @@
+pub mod IndexWalk
 mod Made
 mod Migrated
 mod Raising
-mod RowReading
+pub mod RowReading
+pub mod Walks

@@ -9,7 +9,7 @@ use Rattle.reg_tables.specs.Upgrades.{IsUpgrade}
 use Rattle.std.specs.List.{IsDistinct}
 use Rattle.reg_stored.specs.Stands.{Ids, StandMarked, StandPairs, StandsBy, StandsOld, StoredCrate}
 use Rattle.sqlite.specs.Effect.{Database}
-use Rattle.std.proofs.Common.{◌≡◌, ℕ, List, [], ◌∷◌, map, false, refl, sym, subst}
+use Rattle.std.proofs.Common.{◌≡◌, ℕ, List, [], false, refl, sym, subst}
 use Rattle.std.specs.FinSet as finset
 
 no_pairs : (crates : List StoredCrate) (held : finset.FinSet owner_cmp) (rows : List Row) → held ≡ finset.empty → rows ≡ [] → StandPairs crates held rows

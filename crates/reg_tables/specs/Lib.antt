@@ -1,4 +1,5 @@
 pub mod Lending
 pub mod Readers
 pub mod Upgrades
+pub mod Walks
 pub mod Works

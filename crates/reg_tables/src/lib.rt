@@ -9,20 +9,24 @@
 #![tactic(auto)]
 
 mod calls;
+mod entries;
 pub mod laws;
 mod reader;
 mod tables;
 mod upgrade;
 mod work;
 
-pub use reader::Reader;
+pub use entries::{index_entries, index_rows};
+pub use reader::{Reader, rows_of};
 pub use reg_schema::{Edition, MakeFault};
 pub use reg_statements::accounts::Account;
 pub use reg_statements::crates::Crate;
 pub use reg_statements::owners::Ownership;
+pub use reg_statements::records::FromRow;
 pub use reg_statements::scopes::Scope;
+pub use reg_statements::summaries::Summary;
 pub use reg_statements::tokens::{Token, TokenRow};
-pub use reg_statements::versions::Version;
+pub use reg_statements::versions::{StemRow, Version};
 pub use reg_stored::all_rows::AllRows;
 pub use reg_stored::counts::Counts;
 pub use reg_stored::crates::NewVersion;

@@ -46,8 +46,10 @@ impl<'t, S: Alter> Reader<'t, S> {
     }
 }
 
-/// The text is prepared first, since that alone shows that the connection is open.
-fn rows_of<'c, S: Alter>(
+/// The rows of a text that only reads, one at a time, from a connection to our tables. They may be
+/// dropped at any row. The text is prepared first, since that alone shows that the connection is
+/// open.
+pub fn rows_of<'c, S: Alter>(
     conn: &'c mut Connection<S>,
     text: &str,
     params: &[ValueRef<'_>],

@@ -9,7 +9,7 @@ ghost use Rattle.reg_schema.specs.Schema.{blank, schema_of};
 ghost use Rattle.reg_schema.specs.States.{IsAtRest, IsMade, IsOurs, IsUndone, LeavesCommit, about_columns};
 ghost use Rattle.reg_statements.specs.Abouts.{HasBase, IsAbout, LacksBase};
 ghost use Rattle.reg_tables.specs.contracts.tables.Tables.{the_row};
-ghost use Rattle.reg_tables.specs.Lending.{LendsReader};
+ghost use Rattle.reg_tables.specs.Lending.{LendsConnection, LendsReader};
 ghost use Rattle.reg_tables.specs.Readers.{is_closed, reached};
 ghost use Rattle.reg_stored.specs.Stands.{Stands};
 ghost use Rattle.reg_tables.specs.Works.{AreOurs, IsAtWork, IsKept, IsLeft, IsSame, edition_in, has_failed, held, is_shut, seen, shown};
@@ -160,6 +160,29 @@ impl<S: Alter> Tables<S> {
     {
         let Tables { conn, .. } = self;
         conn
+    }
+
+    /// The connection on loan, for `rows_of` and `index_rows`: what is left of it when nothing is
+    /// read any more is what the tables have. It shows them also where a commit was refused.
+    pub fn reading(&mut self) -> &mut Connection<S>
+        ensures* lends { sem 𝓛 (LendsConnection S.row S.Store self.entry result) }
+        ensures value { result.now ≡ held self.old }
+    {
+        &mut self.conn
+    }
+
+    /// Whether a commit was refused.
+    pub fn is_shut(&self) -> bool
+        ensures { result ≡ is_shut self.now }
+    {
+        self.shut
+    }
+
+    /// Of which schema the tables are.
+    pub fn edition(&self) -> Edition
+        ensures { result ≡ edition_in self.now }
+    {
+        self.edition
     }
 
     /// The tables, to be read in no transaction of their own.
