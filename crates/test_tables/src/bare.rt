@@ -7,7 +7,7 @@ use crate::fault::Fault;
 use crate::records::list;
 use crate::script::{BASE, FILLED, check_text, compare, no_arrow, play_over};
 use reg_audit::audit;
-use reg_schema::{MakeFault, begin, finish, is_ours, make_tables, undo};
+use reg_schema::{Edition, MakeFault, begin, edition_of, finish, make_tables, undo};
 use reg_tables::{StoreFault, Tables};
 use sqlite::{Alter, Connection, Error, Row, params};
 use std::alloc::{AllocError, Global};
@@ -59,7 +59,7 @@ fn by_word<S: Alter>(
     line: &str,
 ) -> Result<Option<&'static str>, AllocError> {
     Ok(Some(match line {
-        "ours" => yes(is_ours(alloc, conn.schema())?),
+        "ours" => yes(edition_of(alloc, conn.schema())? == Some(Edition::Second)),
         "resting" => yes(conn.is_autocommit()),
         "begin" => run(begin(conn)),
         "finish" => run(finish(conn)),

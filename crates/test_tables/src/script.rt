@@ -193,7 +193,7 @@ fn transaction<S: Alter>(
     ensures { AreOurs S.Store tables.new }
 {
     let (calls, wanted) = ending(block);
-    let mut work = tables.work()?;
+    let mut work = tables.upgrade()?;
     let broken = first_broken(alloc, &mut work, calls)?;
     if broken.is_some() {
         return Ok(broken);
@@ -236,7 +236,7 @@ pub fn rows_text<S: Alter>(alloc: Global, tables: &mut Tables<S>) -> Result<Stri
     requires { AreOurs S.Store tables.old }
     ensures { AreOurs S.Store tables.new }
 {
-    let mut work = tables.work()?;
+    let mut work = tables.upgrade()?;
     let mut text = String::new(alloc);
     add_rows(alloc, &mut work, &mut text)?;
     Ok(text)
@@ -297,7 +297,6 @@ fn add_shown(alloc: Global, text: &mut String, row: &Row) -> Result<(), AllocErr
 }
 
 /// The logins, read in no transaction one at a time, as a text.
-#[tactic(auto, using(crate::proofs::Texts::logins_plain))]
 pub fn read_logins<S: Alter>(alloc: Global, tables: &mut Tables<S>) -> Result<String, Fault>
     requires { AreOurs S.Store tables.old }
 {
