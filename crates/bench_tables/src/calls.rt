@@ -4,7 +4,7 @@ ghost use Rattle.reg_tables.specs.Works.{AreOurs};
 
 use crate::fault::Fault;
 use reg_audit::audit;
-use reg_tables::Tables;
+use reg_tables::{StoreFault, Tables};
 use sqlite::Alter;
 use std::alloc::{AllocError, Global};
 use test_tables::{Answer, Call as TableCall, CrateCall, perform, read_call, release_of};
@@ -74,34 +74,59 @@ fn count(call: Call, answer: &Answer) -> usize {
     }
 }
 
+/// The count of what was found.
+fn counted(call: Call, found: Result<Answer, StoreFault>) -> Result<usize, StoreFault> {
+    match found {
+        Ok(answer) => Ok(count(call, &answer)),
+        Err(StoreFault) => Err(StoreFault),
+    }
+}
+
 /// Makes a call that reads.
 fn find<S: Alter>(
     alloc: Global,
     tables: &mut Tables<S>,
     call: Call,
     made: &TableCall<'_>,
-) -> Result<usize, Fault>
+) -> Result<usize, StoreFault>
     requires { AreOurs S.Store tables.old }
     ensures { AreOurs S.Store tables.new }
 {
     let mut work = tables.work()?;
-    let answer = perform(alloc, &mut work, made)?;
-    Ok(count(call, &answer))
+    counted(call, perform(alloc, &mut work, made))
 }
 
 /// Makes a change and commits it.
 fn change<S: Alter>(
     alloc: Global,
     tables: &mut Tables<S>,
+    call: Call,
     made: &TableCall<'_>,
-) -> Result<usize, Fault>
+) -> Result<usize, StoreFault>
     requires { AreOurs S.Store tables.old }
     ensures { AreOurs S.Store tables.new }
 {
     let mut work = tables.work()?;
-    perform(alloc, &mut work, made)?;
+    counted(call, perform(alloc, &mut work, made))?;
     work.commit()?;
     Ok(1)
+}
+
+fn make<S: Alter>(
+    alloc: Global,
+    tables: &mut Tables<S>,
+    call: Call,
+    made: TableCall<'_>,
+) -> Result<usize, StoreFault>
+    requires { AreOurs S.Store tables.old }
+    ensures { AreOurs S.Store tables.new }
+{
+    match call {
+        Call::FirstCommit | Call::SetYanked | Call::AddVersion | Call::AddArchive => {
+            change(alloc, tables, call, &made)
+        }
+        _ => find(alloc, tables, call, &made),
+    }
 }
 
 fn make_line<S: Alter>(
@@ -114,10 +139,9 @@ fn make_line<S: Alter>(
     ensures { AreOurs S.Store tables.new }
 {
     let line = line_of(alloc, call, given)?;
-    let made = read_call(alloc, &line)?.ok_or(Fault::Words)?;
-    match call {
-        Call::FirstCommit | Call::SetYanked | Call::AddVersion => change(alloc, tables, &made),
-        _ => find(alloc, tables, call, &made),
+    match read_call(alloc, &line)? {
+        Some(made) => Ok(make(alloc, tables, call, made)?),
+        None => Err(Fault::Words),
     }
 }
 
@@ -131,7 +155,7 @@ fn add_archive<S: Alter>(
 {
     let release = release_of(alloc, "Crate-000001", "0.4.0", archive, None)?;
     let made = TableCall::Crate(CrateCall::AddVersion(1, release));
-    change(alloc, tables, &made)
+    Ok(make(alloc, tables, Call::AddArchive, made)?)
 }
 
 /// Makes the call once, and answers how many rows, or bytes of the long archive, it found or

@@ -11,16 +11,11 @@ mod measure;
 mod words;
 
 use fault::Fault;
-use reg_tables::Tables;
 use sqlite::Connection;
-use test_tables::BASE;
 use words::Words;
 
 fn main(rt: HostRuntime) -> Result<(), Fault> {
     let words = Words::given(&rt)?;
     let conn = Connection::open(&rt, words.file.as_str())?;
-    match Tables::make(conn, BASE) {
-        Ok(mut tables) => measure::all(&rt, &mut tables, &words),
-        Err((_fault, _conn)) => Err(Fault::NotMade),
-    }
+    measure::over_new_tables(&rt, conn, &words)
 }

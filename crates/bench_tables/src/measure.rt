@@ -7,9 +7,11 @@ use crate::fault::Fault;
 use crate::filling::fill;
 use crate::words::Words;
 use reg_tables::Tables;
-use sqlite::Alter;
+use sqlite::{Alter, Connection};
 use std::alloc::Global;
+use std::io;
 use std::time::Instant;
+use test_tables::BASE;
 
 const CALLS: [Call; 10] = [
     Call::Begin,
@@ -67,6 +69,13 @@ fn repeat<S: Alter>(
 }
 
 /// Tells what the rounds of a call found, and if asked how long one took.
+fn print(rt: &HostRuntime, call: Call, found: u64, one: Option<u128>) -> io::Result<()> {
+    match one {
+        Some(nanoseconds) => println!(rt; "{call:?} {found} {nanoseconds}"),
+        None => println!(rt; "{call:?} {found}"),
+    }
+}
+
 fn tell<S: Alter>(
     rt: &HostRuntime,
     tables: &mut Tables<S>,
@@ -79,14 +88,9 @@ fn tell<S: Alter>(
 {
     let start = Instant::now(rt)?;
     let found = repeat(rt.alloc(), tables, call, each)?;
-    let taken = start.elapsed(rt)?;
-    if times {
-        let one = taken.as_nanos().checked_div(u128::from(each.rounds));
-        println!(rt; "{call:?} {found} {}", one.unwrap_or(0))?;
-    } else {
-        println!(rt; "{call:?} {found}")?;
-    }
-    Ok(())
+    let taken = start.elapsed(rt)?.as_nanos();
+    let one = taken.checked_div(u128::from(each.rounds)).unwrap_or(0);
+    Ok(print(rt, call, found, times.then_some(one))?)
 }
 
 fn tell_calls<S: Alter>(
@@ -122,20 +126,29 @@ fn tell_once<S: Alter>(rt: &HostRuntime, tables: &mut Tables<S>, words: &Words) 
     tell(rt, tables, Call::ReadArchive, once, words.times)
 }
 
-/// Fills the tables, and tells of each call.
-pub(crate) fn all<S: Alter>(
+/// Fills the tables, and tells if asked how long that took.
+fn tell_filling<S: Alter>(
     rt: &HostRuntime,
     tables: &mut Tables<S>,
     words: &Words,
 ) -> Result<(), Fault>
     requires { AreOurs S.Store tables.old }
+    ensures { AreOurs S.Store tables.new }
 {
     let start = Instant::now(rt)?;
     fill(rt.alloc(), tables, words.crates)?;
-    let taken = start.elapsed(rt)?;
+    let taken = start.elapsed(rt)?.as_nanos();
     if words.times {
-        println!(rt; "Fill {} {}", words.crates, taken.as_nanos())?;
+        println!(rt; "Fill {} {taken}", words.crates)?;
     }
+    Ok(())
+}
+
+/// Fills the tables, and tells of each call.
+fn all<S: Alter>(rt: &HostRuntime, tables: &mut Tables<S>, words: &Words) -> Result<(), Fault>
+    requires { AreOurs S.Store tables.old }
+{
+    tell_filling(rt, tables, words)?;
     let first = Rounds {
         rounds: 1,
         crates: words.crates,
@@ -144,4 +157,16 @@ pub(crate) fn all<S: Alter>(
     tell(rt, tables, Call::FirstCommit, first, words.times)?;
     tell_calls(rt, tables, words)?;
     tell_once(rt, tables, words)
+}
+
+/// Makes tables over a connection, fills them, and tells of each call.
+pub(crate) fn over_new_tables<S: Alter + Drop>(
+    rt: &HostRuntime,
+    conn: Connection<S>,
+    words: &Words,
+) -> Result<(), Fault> {
+    match Tables::make(conn, BASE) {
+        Ok(mut tables) => all(rt, &mut tables, words),
+        Err((_fault, _conn)) => Err(Fault::NotMade),
+    }
 }

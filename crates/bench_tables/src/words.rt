@@ -20,19 +20,27 @@ fn number(text: &str) -> Result<u32, Fault> {
 }
 
 impl Words {
+    fn read(given: &[String]) -> Result<Words, Fault> {
+        let (file, crates, rounds, times) = match given {
+            [_, file, crates, rounds] => (file, crates, rounds, false),
+            [_, file, crates, rounds, last] if last.as_str() == "times" => {
+                (file, crates, rounds, true)
+            }
+            _ => return Err(Fault::Words),
+        };
+        let crates = number(crates.as_str())?;
+        let rounds = number(rounds.as_str())?;
+        Ok(Words {
+            file: file.clone()?,
+            crates,
+            rounds,
+            times,
+        })
+    }
+
     /// The program's words.
     pub(crate) fn given(rt: &HostRuntime) -> Result<Words, Fault> {
         let given: Vec<String> = env::args(rt)?.collect(rt.alloc())?;
-        let times = match given.as_slice() {
-            [_, _, _, _] => false,
-            [_, _, _, _, last] if last.as_str() == "times" => true,
-            _ => return Err(Fault::Words),
-        };
-        Ok(Words {
-            file: given[1].clone()?,
-            crates: number(given[2].as_str())?,
-            rounds: number(given[3].as_str())?,
-            times,
-        })
+        Words::read(&given)
     }
 }

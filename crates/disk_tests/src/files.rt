@@ -10,9 +10,6 @@ use std::alloc::Global;
 /// A file in memory that stops after some call.
 pub(crate) type Stopping = Fuse<Memory>;
 
-/// A connection to such files.
-pub(crate) type Conn = Connection<FileStore<Stopping>>;
-
 /// The bytes of files that were closed.
 #[derive(Drop)]
 pub(crate) struct Image {
@@ -47,7 +44,10 @@ pub(crate) fn have_stopped(files: &mut Files<Stopping>) -> bool {
     has_stopped(&mut files.log) || has_stopped(&mut files.db)
 }
 
-pub(crate) fn open(alloc: Global, files: Files<Stopping>) -> Result<Conn, Files<Stopping>> {
+pub(crate) fn open<D: Disk + Drop>(
+    alloc: Global,
+    files: Files<D>,
+) -> Result<Connection<FileStore<D>>, Files<D>> {
     if !files.log.may_be_used() || !files.db.may_be_used() {
         return Err(files);
     }
@@ -58,9 +58,9 @@ pub(crate) fn open(alloc: Global, files: Files<Stopping>) -> Result<Conn, Files<
 }
 
 /// The rows of files that a machine finds again after it stopped.
-pub(crate) fn rows_after(
+pub(crate) fn rows_after<D: Crash + Drop>(
     alloc: Global,
-    mut files: Files<Stopping>,
+    mut files: Files<D>,
 ) -> Result<Option<String>, Fault> {
     files.log.crash();
     files.db.crash();
@@ -88,17 +88,20 @@ pub(crate) fn nothing(alloc: Global) -> Prepared {
     }
 }
 
-/// A connection to new files.
-fn opened(alloc: Global) -> Result<Conn, Fault> {
-    let files = files_of(alloc, &nothing(alloc).image, &NO_LIMITS)?;
+/// The files once they were opened and filled.
+fn filled_files<D: Disk + Drop>(
+    alloc: Global,
+    files: Files<D>,
+    script: &str,
+) -> Result<Files<D>, Fault> {
     match open(alloc, files) {
-        Ok(conn) => Ok(conn),
+        Ok(conn) => closed(filled(alloc, conn, script)?),
         Err(_files) => Err(Fault::NotOpened),
     }
 }
 
 /// The connection's files, once they are closed.
-fn closed(conn: Conn) -> Result<Files<Stopping>, Fault> {
+fn closed<D: Disk + Drop>(conn: Connection<FileStore<D>>) -> Result<Files<D>, Fault> {
     match conn.close_files() {
         Ok(files) => Ok(files),
         Err((_error, _store)) => Err(Fault::NotClosed),
@@ -113,8 +116,8 @@ fn image_of(alloc: Global, files: &Files<Stopping>) -> Result<Image, Fault> {
 
 /// The bytes of new files that hold the prepared registry once this script was played over it.
 fn image_after(alloc: Global, script: &str) -> Result<Image, Fault> {
-    let conn = filled(alloc, opened(alloc)?, script)?;
-    let files = closed(conn)?;
+    let files = files_of(alloc, &nothing(alloc).image, &NO_LIMITS)?;
+    let files = filled_files(alloc, files, script)?;
     image_of(alloc, &files)
 }
 

@@ -4,11 +4,12 @@ ghost use Rattle.std.specs.Prelude.{◌≡◌, IfOk};
 ghost use Rattle.reg_tables.specs.Works.{AreOurs, IsAtWork};
 
 use crate::fault::Fault;
-use crate::files::{Image, Stopping, files_of, have_stopped, open, rows_after};
+use crate::files::{Image, files_of, have_stopped, open, rows_after};
 use crate::limits::{Limits, leave_only};
 use reg_audit::audit;
 use reg_tables::{StoreFault, Tables, Work};
 use sqlite::{Alter, Connection, Files};
+use sqlite_disk::Disk;
 use std::alloc::{AllocError, Global};
 use test_support::scarce_memory::Amounts;
 use test_tables::{BASE, Call, check_text, perform, read_call, read_logins, reply_text};
@@ -231,12 +232,12 @@ fn over_connection<S: Alter + Drop>(
 }
 
 /// The files as a task leaves them, and what that was answered.
-fn over_files(
+fn over_files<D: Disk + Drop>(
     alloc: Global,
-    files: Files<Stopping>,
+    files: Files<D>,
     task: &Task<'_>,
     limits: &Limits,
-) -> (Files<Stopping>, Result<Reply, AllocError>) {
+) -> (Files<D>, Result<Reply, AllocError>) {
     match open(alloc, files) {
         Ok(conn) => {
             let (conn, reply) = over_connection(alloc, conn, task, limits);
