@@ -17,7 +17,7 @@ ghost use Rattle.reg_statements.specs.Versions.{AreVersions, AreVersionsOf, Mark
 
 use crate::marks::mark_of;
 use crate::records::FromRow;
-use crate::statements::{select_list, select_one, write};
+use crate::statements::{select_here, select_list, select_one, write};
 use sqlite::{Alter, Connection, Error, Row, params};
 use std::alloc::Global;
 
@@ -214,7 +214,6 @@ pub fn entries<S: Alter>(
 
 /// The marks of the versions of a crate, in the order of their ids.
 pub fn marks_of<S: Alter>(
-    alloc: Global,
     conn: &mut Connection<S>,
     crate_id: u32,
 ) -> Result<Vec<VersionMark>, Error>
@@ -222,8 +221,7 @@ pub fn marks_of<S: Alter>(
     ensures { Reads S.Store conn.old conn.new result
         (λ list. AreMarksOf crate_id (rows_in S.Store conn.old) list.items) }
 {
-    select_list(
-        alloc,
+    select_here(
         conn,
         "SELECT id, vers, length(stem), yanked FROM versions WHERE crate = ?1 ORDER BY id",
         params![crate_id],
