@@ -25,6 +25,8 @@ mod ScopeRows
 mod Selected
 mod Standing
 mod Stays
+mod SummaryRows
+mod SummaryTops
 mod TokenChanges
 mod TokenEntries
 mod VersionEntries
