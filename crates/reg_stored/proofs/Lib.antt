@@ -26,6 +26,10 @@ mod Selected
 mod Standing
 mod Stays
 mod SummaryRows
+pub mod SummaryLaws
+mod SummaryFound
+mod SummarySteps
+mod SummaryChanges
 mod SummaryTops
 mod TokenChanges
 mod TokenEntries
