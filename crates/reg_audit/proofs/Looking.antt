@@ -1,10 +1,14 @@
 -- What functions that only read leave, one after another.
-use Rattle.std.proofs.Common.{Result, Ok, Err, OnOk, OnErr, refl, arith, ◌∙◌}
+use Rattle.std.proofs.Common.{Result, Ok, Err, OnOk, OnErr, IfOk, ap, refl, arith, ◌∙◌}
 use Rattle.sqlite_trees.specs.declared.store.Store.{Ghosts}
 use Rattle.sqlite.specs.State.{State, HasCleanDisk, IsUnchanged, KeepsCommit}
 use Rattle.sqlite.proofs.StateLemmas.{survives_then}
 use Rattle.reg_schema.specs.States.{IsInside}
 use Rattle.reg_schema.specs.Steps.{Fails}
+use Rattle.sqlite.specs.Effect.{Database}
+use Rattle.reg_schema.specs.declared.edition.Edition.{Edition}
+use Rattle.reg_schema.specs.declared.edition.Edition.TheVariants.{First, Second}
+use Rattle.reg_tables.specs.Upgrades.{AreBegun, BeginsSecond}
 use Rattle.reg_tables.specs.Works.{IsCall, seen}
 use Rattle.reg_tables.specs.declared.work.Work.{Work}
 use Rattle.reg_audit.specs.Looks.{Looks}
@@ -26,6 +30,7 @@ module _ {S : Type 0} (g : Ghosts S) where
   pub call_looks : {T E : Type 0} (r : Result T E) (old new : Work S) → IsCall g r old new → (HasCleanDisk (seen g new) → OnOk r (IsUnchanged (seen g old) (seen g new))) → Looks g old new
   call_looks r old new call same = record {
     same_reference = call.same_reference;
+    same_edition = call.same_edition;
     same_mode = call.same_mode;
     at_work = call.at_work;
     kept = λ clean. call_keeps (seen g old) (seen g new) r (same clean) (call.failed clean);
@@ -35,8 +40,18 @@ module _ {S : Type 0} (g : Ghosts S) where
   pub looks_then : (a b c : Work S) → Looks g a b → Looks g b c → Looks g a c
   looks_then a b c one two = record {
     same_reference = two.same_reference ∙ one.same_reference;
+    same_edition = two.same_edition ∙ one.same_edition;
     same_mode = two.same_mode ∙ one.same_mode;
     at_work = two.at_work;
     kept = λ clean. keeps_then (seen g a) (seen g b) (seen g c) (one.kept (omega (arith, clean, two.survives.clean))) (two.kept clean);
     survives = survives_then (seen g a) (seen g b) (seen g c) _ _ _ (λ _ _ h. h) (λ _ _ h. h) one.survives two.survives;
   }
+
+-- the rows that a transaction sees first
+pub begins_with : (e : Edition) (old new : State) → BeginsSecond e old new → AreBegun e old.now new.now.trees
+begins_with First old new h = (new.now, h.made, refl)
+begins_with Second old new h = ap (λ (d : Database). d.trees) h.now_is
+
+pub if_told : {T E : Type 0} {P Q : T → Type 0} (r : Result T E) → ((x : T) → P x → Q x) → IfOk r P → IfOk r Q
+if_told (Ok x) f h = f x h
+if_told (Err e) f h = tt

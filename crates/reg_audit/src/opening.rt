@@ -5,7 +5,8 @@ ghost use Rattle.sqlite.specs.State.{HasCleanDisk, KeepsCommit, Survives};
 ghost use Rattle.sqlite.specs.Tree.{Trees};
 ghost use Rattle.reg_schema.specs.States.{IsUndone};
 ghost use Rattle.reg_stored.specs.WholeRows.{AreAllRows};
-ghost use Rattle.reg_tables.specs.Works.{AreOurs, IsAtWork, has_failed, is_shut, seen, shown};
+ghost use Rattle.reg_tables.specs.Upgrades.{AreBegun};
+ghost use Rattle.reg_tables.specs.Works.{AreOurs, IsAtWork, edition_in, has_failed, is_shut, seen, shown};
 ghost use Rattle.reg_stored.specs.declared.all_rows.AllRows.{AllRows as Rows};
 ghost use Rattle.reg_audit.specs.Checks.{IsFirst, IsFirstOf};
 ghost use Rattle.reg_audit.specs.Looks.{Looks};
@@ -85,22 +86,23 @@ fn examine<S: Alter>(alloc: Global, work: &mut Work<'_, S>) -> Result<Option<Che
     first_failing(alloc, work, &rows)
 }
 
-/// The first check that fails; where all pass, none. Nothing is changed, and no archive is kept in
-/// memory.
+/// The first check that fails; where all pass, none. Tables of schema 1 are seen as those of schema
+/// 2 that they become. Nothing is changed, and no archive is kept in memory.
 pub fn audit<S: Alter>(alloc: Global, tables: &mut Tables<S>) -> Result<Option<Check>, StoreFault>
     requires { AreOurs S.Store tables.old }
     ensures found { HasCleanDisk (shown S.Store tables.new) → IfOk result
-        (λ found. (it : Rows) × AreAllRows it (shown S.Store tables.old).now.trees × IsFirst it
-        (shown S.Store tables.old).now.trees found) }
+        (λ found. (db : Trees) × AreBegun (edition_in tables.old) (shown S.Store tables.old).now db
+        × (it : Rows) × AreAllRows it db × IsFirst it db found) }
     ensures kept { HasCleanDisk (shown S.Store tables.new) → KeepsCommit (shown S.Store tables.old)
         (shown S.Store tables.new) }
     ensures rests { HasCleanDisk (shown S.Store tables.new)
         → (shown S.Store tables.old).in_transaction ≡ false → IsUndone (shown S.Store tables.old)
         (shown S.Store tables.new) }
     ensures ours { AreOurs S.Store tables.new }
+    ensures edition { edition_in tables.new ≡ edition_in tables.old }
     ensures open { is_shut tables.new ≡ is_shut tables.old }
     ensures survives { Survives (shown S.Store tables.old) (shown S.Store tables.new) (λ _. ⊥) }
 {
-    let mut work = tables.work()?;
+    let mut work = tables.upgrade()?;
     examine(alloc, &mut work)
 }

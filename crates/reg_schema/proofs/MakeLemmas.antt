@@ -107,7 +107,7 @@ rests base last new made k = (subst (IsMade base) (sym k.committed_is) made, rec
 pub rests_ours : (base : List ℕ) (s : State) → IsMade base s.committed × IsAtRest s → Rests Second s
 rests_ours base s h = record { committed_is = h.0.schema_is; autocommit = h.1.autocommit; settled = h.1.settled }
 
-all_taken : {X : Type 0} (P : X → Type 0) (k : ℕ) (xs : List X) → AllByRecursion P xs → AllByRecursion P (take k xs)
+pub all_taken : {X : Type 0} (P : X → Type 0) (k : ℕ) (xs : List X) → AllByRecursion P xs → AllByRecursion P (take k xs)
 all_taken P zero xs h = tt
 all_taken P (suc k) [] h = tt
 all_taken P (suc k) (x ∷ xs) h = (h.0, all_taken P k xs h.1)

@@ -56,7 +56,7 @@ pub err_of : {X E : Type 0} (r : Result X E) → IsErr r → (e : E) × (r ≡ E
 err_of (Ok x) h = absurd cc
 err_of (Err e) h = (e, refl)
 
-refuses_after : (a b c : State) → IsUnchanged a b → Refuses b c → Refuses a c
+pub refuses_after : (a b c : State) → IsUnchanged a b → Refuses b c → Refuses a c
 refuses_after a b c same (inl h) = inl (unchanged_then a b c same h)
 refuses_after a b c same (inr h) = inr (record {
   was_open = λ _. same.0.was_open;

@@ -1,4 +1,5 @@
 -- What rows of crates and versions that are added are on the registry that they stand for.
+use Rattle.reg_stored.proofs.Stays.{same_crates}
 use Rattle.sqlite_rules.specs.Edit.{is_taken}
 use Rattle.reg_stored.proofs.Standing.{snoc_permutes}
 use Rattle.reg_stored.specs.Changes.{next_version, ids_with_version, next_crate, ids_with_crate}
@@ -19,13 +20,13 @@ use Rattle.sqlite.specs.declared.types.Value.TheVariants.{Int}
 use Rattle.sqlite_trees.specs.Tree.{put_row}
 use Rattle.reg_names.specs.Names.{canon}
 use Rattle.reg_versions.specs.Versions.{release_key_of}
-use Rattle.reg_model.specs.Registry.{Publication, owner_cmp, mark_cmp}
+use Rattle.reg_model.specs.Registry.{Publication, owner_cmp, mark_cmp, text_cmp}
 use Rattle.reg_model.proofs.Keys.{owner_total}
 use Rattle.reg_model.proofs.Lists.{not_true, true_not_false, all_push, all_so, any_more}
 use Rattle.reg_stored.specs.Additions.{AddsCrate, AddsVersion}
 use Rattle.reg_statements.specs.Owners.{owner_columns}
 use Rattle.reg_statements.specs.Versions.{version_row}
-use Rattle.reg_stored.specs.Stands.{StoredCrate, StoredPair, StoredVersion, row_of_crate, row_of_version, row_of_archive, columns_of_stored, StandCrates, is_of, Ids, StandPairs, is_paired}
+use Rattle.reg_stored.specs.Stands.{StoredCrate, StoredPair, StoredVersion, row_of_crate, row_of_version, row_of_archive, columns_of_stored, StandCrates, is_of, Ids, StandPairs, is_paired, StandMarked}
 use Rattle.reg_stored.proofs.CrateLemmas.{pushed, text_itself, below_other, above_other, same_owner, other_owner, is_published, version_of}
 use Rattle.reg_model.proofs.Members.{IsIn, any_in, all_in, in_any, none_in, each_in, in_each, in_last, map_in, pushed_in}
 use Rattle.reg_stored.proofs.Rising.{above, rises_on, next_is}

@@ -24,13 +24,13 @@ mod Rowids
 mod ScopeRows
 mod Selected
 mod Standing
-mod Stays
 mod SummaryRows
 pub mod SummaryLaws
 mod SummaryFound
 mod SummarySteps
 mod SummaryChanges
 mod SummaryTops
+pub mod Stays
 mod TokenChanges
 mod TokenEntries
 mod VersionEntries

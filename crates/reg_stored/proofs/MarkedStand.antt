@@ -1,5 +1,38 @@
 -- The crates of a table of marks after a change that names a crate by its id.
-use Rattle.std.proofs.Common.{◌≡◌, ◌==◌, ℕ, pos, List, [], ◌∷◌, map, Bool, true, false, not, ◌&&◌, ◌||◌, cond, Option, Some, None, refl, sym, ap, subst, ◌∙◌}
+
+use Rattle.reg_stored.proofs.CrateNames.{kept}
+use Rattle.reg_names.specs.Names.{canon}
+use Rattle.reg_stored.proofs.VersionEntries.{same_passes}
+use Rattle.reg_stored.proofs.Standing.{same_number}
+use Rattle.reg_schema.proofs.Queries.{same_filter}
+use Rattle.reg_statements.specs.Restricted.{restricted_row}
+use Rattle.std.specs.Cmp.Lexicographic.{nat_list_cmp_total}
+use Rattle.std.specs.Cmp.{nat_eq_equiv}
+use Rattle.reg_stored.specs.Changes.{mark_in, told_of}
+use Rattle.reg_stored.proofs.Removed.{keeps_all}
+use Rattle.reg_schema.specs.Tests.{is_number}
+use Rattle.std.proofs.lemmas.Map.Text.{is_eq-slice_cmp}
+use Rattle.reg_schema.specs.Changes.{is_at_one_of}
+use Rattle.reg_model.proofs.Keys.{insert_again, text_apart}
+use Rattle.sqlite_rules.specs.Edit.{id_in, is_taken}
+use Rattle.sqlite_trees.specs.Tree.{rowid, has_rowid, put_row}
+use Rattle.reg_schema.proofs.Permutes.{filter_map, put_permutes}
+use Rattle.reg_stored.proofs.PairChanges.{crates_alike}
+use Rattle.reg_stored.proofs.CrateLemmas.{crate_there, no_row, not_at, there_at}
+use Rattle.std.specs.Str.{bytes_eq}
+use Rattle.reg_model.proofs.Lists.{any_same, list_any_map, not_true, true_not_false}
+use Rattle.std.proofs.lemmas.Map.Views.{any-filter_same}
+use Rattle.std.proofs.lemmas.Bool.{and_from, eq-eqb, eqb-true}
+use Rattle.sqlite.specs.Tree.{Trees}
+use Rattle.sqlite.specs.Order.{Row}
+use Rattle.reg_model.specs.Registry.{Publication, Text, mark_cmp, text_cmp}
+use Rattle.sqlite_trees.proofs.ListLemmas.{IsPermutation-filter}
+use Rattle.std.proofs.lemmas.List.Sorted.{IsPermutation-cons, IsPermutation-sym, IsPermutation-trans, list_any-IsPermutation}
+use Rattle.std.specs.List.Sorted.{IsPermutation}
+use Rattle.reg_model.proofs.Members.{IsIn, all_in, any_in, each_in, filtered_passes, in_all, in_any, in_filter, in_permuted, map_in, none_in}
+use Rattle.reg_stored.specs.Stands.{Ids, StandCrates, StandMarked, StoredCrate, spelling_at}
+use Rattle.std.specs.List.{AllByRecursion, list_any, filter}
+use Rattle.std.proofs.Common.{◌≡◌, ◌==◌, ℕ, pos, List, [], ◌∷◌, map, Bool, true, false, not, ◌&&◌, ◌||◌, Option, Some, None, refl, sym, ap, subst, ◌∙◌}
 use Rattle.std.specs.FinSet as finset
 
 -- the row of a mark has its id alone

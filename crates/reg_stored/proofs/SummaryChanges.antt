@@ -1,5 +1,5 @@
 -- What a change of the versions of one crate is on the summaries of all.
-use Rattle.std.proofs.Common.{◌≡◌, ◌==◌, ◌+◌, ◌<◌, ◌≤◌, ◌≢◌, ℕ, pos, List, [], ◌∷◌, ◌++◌, map, Bool, true, false, not, refl, sym, ap, subst, ◌∙◌, arith}
+use Rattle.std.proofs.Common.{◌≡◌, ◌==◌, ◌+◌, ◌≤◌, ℕ, pos, List, [], ◌∷◌, ◌++◌, map, Bool, true, false, not, refl, sym, ap, subst, ◌∙◌, arith}
 use Rattle.std.specs.Prelude.{nat_eq, drop}
 use Rattle.std.specs.FinSet as finset
 use Rattle.std.specs.Cmp.{nat_eq_equiv}
@@ -28,13 +28,10 @@ use Rattle.reg_stored.proofs.Standing.{none_row, same_number}
 use Rattle.reg_stored.proofs.SummaryRows.{same_row}
 use Rattle.reg_stored.proofs.Yanks.{mark_of_other, marks}
 use Rattle.reg_stored.specs.Changes.{ids_with_crate, ids_with_version, next_crate, next_version}
-use Rattle.reg_stored.specs.Stands.{StandCrates, next_of}
+use Rattle.reg_stored.specs.Stands.{StandCrates}
 use Rattle.reg_stored.specs.Stored.{Ids, StoredCrate, StoredVersion}
-use Rattle.reg_stored.specs.Summaries.{StandSummaries, id_among, is_marked, its_versions, length_among, row_among, row_of_summary}
+use Rattle.reg_stored.specs.Summaries.{StandSummaries, id_among, its_versions, length_among, row_among, row_of_summary}
 use Rattle.reg_stored.specs.SummaryChanges.{IsNewRow, IsRenewed}
-
-pub summaries_stay : (ids : Ids) (yanked : finset.FinSet mark_cmp) (old new : List Row) → new ≡ old → StandSummaries ids yanked old → StandSummaries ids yanked new
-summaries_stay ids yanked old new e h = subst (StandSummaries ids yanked) (sym e) h
 
 flipped : (a b : ℕ) → (a == b) ≡ false → (b == a) ≡ false
 flipped a b h = nat_eq_equiv.symm b a ∙ h

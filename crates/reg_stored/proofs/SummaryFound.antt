@@ -1,5 +1,5 @@
 -- The summary of a crate, as a selection shows it.
-use Rattle.std.proofs.Common.{◌≡◌, ◌==◌, ℕ, List, [], ◌∷◌, map, length, Bool, true, Option, Some, None, refl, sym, ap, subst, ◌∙◌}
+use Rattle.std.proofs.Common.{◌≡◌, ◌==◌, ℕ, List, [], ◌∷◌, map, length, true, Option, Some, None, refl, sym, ap, subst, ◌∙◌}
 use Rattle.std.specs.Prelude.{nat_eq}
 use Rattle.std.specs.List.{filter}
 use Rattle.std.specs.List.Sorted.{IsPermutation}
@@ -26,7 +26,7 @@ use Rattle.reg_stored.specs.Changes.{told_of}
 use Rattle.reg_stored.specs.Entries.{one_of}
 use Rattle.reg_stored.specs.Stands.{StandCrates, spelling_at}
 use Rattle.reg_stored.specs.Stored.{Ids, StoredCrate}
-use Rattle.reg_stored.specs.Summaries.{StandSummaries, highest_of, length_of, row_of_summary}
+use Rattle.reg_stored.specs.Summaries.{StandSummaries, highest_of, length_of}
 
 -- a crate's id, the id of its highest version, and the length of its index file
 abbrev Kept : Type 0

@@ -1,5 +1,5 @@
 -- The highest version of a crate and the length of its index file, by its id and by its name.
-use Rattle.std.proofs.Common.{◌≡◌, ◌==◌, ℕ, List, [], ◌∷◌, map, length, Bool, Option, Some, None, refl, sym, ap, subst, ◌∙◌}
+use Rattle.std.proofs.Common.{◌≡◌, ◌==◌, ℕ, List, map, length, Bool, Option, Some, None, refl, sym, ap, ◌∙◌}
 use Rattle.std.specs.Prelude.{slice_get}
 use Rattle.std.specs.FinSet as finset
 use Rattle.std.specs.List.{filter}
@@ -19,7 +19,7 @@ use Rattle.reg_stored.proofs.VersionEntries.{same_passes}
 use Rattle.reg_stored.specs.Stands.{StandCrates, spelling_at}
 use Rattle.reg_stored.specs.Stored.{Ids, StoredVersion}
 use Rattle.reg_stored.specs.Summaries.{is_marked, its_versions, length_of, marked_of, top_of}
-use Rattle.reg_versions.specs.Precedence.{Marked, top_place}
+use Rattle.reg_versions.specs.Precedence.{top_place}
 use Rattle.reg_versions.specs.Versions.{parts_of}
 
 -- the image of what stands at a place

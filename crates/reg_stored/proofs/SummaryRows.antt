@@ -1,5 +1,5 @@
 -- What the rows of versions say of the highest of a crate and of its index file.
-use Rattle.std.proofs.Common.{◌≡◌, ◌==◌, ◌+◌, ◌<◌, ℕ, zero, suc, List, [], ◌∷◌, ◌++◌, map, length, Bool, Option, Some, None, refl, sym, ap, subst, ◌∙◌, arith}
+use Rattle.std.proofs.Common.{◌≡◌, ◌==◌, ◌+◌, ◌<◌, ℕ, zero, suc, List, [], ◌∷◌, ◌++◌, map, length, Option, Some, None, refl, sym, ap, subst, ◌∙◌}
 use Rattle.std.specs.Prelude.{slice_get, unwrap_or}
 use Rattle.std.specs.FinSet as finset
 use Rattle.std.specs.List.{filter}
@@ -9,9 +9,8 @@ use Rattle.std.proofs.lemmas.List.{length-append}
 use Rattle.std.proofs.lemmas.List.Sums.{sum_by-cons}
 use Rattle.sqlite.specs.Tree.{Trees}
 use Rattle.sqlite_trees.proofs.ListLemmas.{ascending-filter, IsPermutation-filter}
-use Rattle.reg_line.specs.File.{end_of, file_text, line_of}
-use Rattle.reg_model.specs.Crates.{collides}
-use Rattle.reg_model.specs.Registry.{Text, Publication, mark_cmp}
+use Rattle.reg_line.specs.File.{end_of, file_text}
+use Rattle.reg_model.specs.Registry.{Publication, mark_cmp}
 use Rattle.reg_model.proofs.Members.{IsIn, map_same}
 use Rattle.reg_schema.proofs.Permutes.{filter_map}
 use Rattle.reg_schema.proofs.Queries.{same_filter, maps_twice}

@@ -1,16 +1,14 @@
 -- What a statement on summaries is, told by the versions that the rows are of.
-use Rattle.std.proofs.Common.{◌≡◌, ℕ, List, ◌∷◌, ap, refl, sym, subst, ◌∙◌}
+use Rattle.std.proofs.Common.{◌≡◌, ℕ, ◌∷◌, subst}
 use Rattle.std.specs.List.Sorted.{IsPermutation}
 use Rattle.sqlite.specs.Effect.{Database}
 use Rattle.sqlite.specs.Order.{Row}
 use Rattle.sqlite.specs.State.{State}
 use Rattle.sqlite.specs.Tree.{Trees}
-use Rattle.sqlite_trees.specs.Tree.{put_row, without_rowid}
-use Rattle.std.specs.Prelude.{pos}
 use Rattle.reg_schema.specs.Changes.{Adds, KeepsOthers}
 use Rattle.reg_statements.specs.Summaries.{Summarizes, summary_row}
 use Rattle.reg_stored.proofs.Additions.{more_rows}
-use Rattle.reg_stored.specs.SummaryChanges.{AddsSummary, AreNumbers, IsNewRow, IsNewlyOf, IsRenewed, RenewsSummary}
+use Rattle.reg_stored.specs.SummaryChanges.{AddsSummary, AreNumbers, IsRenewed, RenewsSummary}
 
 module _ (old read new : State) (same : read.now ≡ old.now) (id highest length : ℕ) (numbers : AreNumbers id old.now.trees highest length) where
   since : (P : Trees → Type 0) → P read.now.trees → P old.now.trees

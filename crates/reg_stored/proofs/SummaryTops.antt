@@ -1,5 +1,5 @@
 -- The highest of the marks that were read.
-use Rattle.std.proofs.Common.{◌≡◌, ℕ, List, [], map, Some, sym, ap, subst, ◌∙◌}
+use Rattle.std.proofs.Common.{◌≡◌, ℕ, List, [], map, sym, ap, subst, ◌∙◌}
 use Rattle.std.specs.Prelude.{slice_get, unwrap_or}
 use Rattle.std.specs.Option.{option_and_then, option_map}
 use Rattle.reg_schema.proofs.Queries.{maps_twice}

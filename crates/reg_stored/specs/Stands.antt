@@ -17,7 +17,7 @@ use Rattle.reg_names.specs.Names.{canon}
 use Rattle.reg_names.specs.Ranges.{range_of}
 use Rattle.reg_versions.specs.Versions.{release_key_of}
 use Rattle.reg_model.specs.Registry.{Text, Account, Token, Publication, Registry, text_cmp, owner_cmp, mark_cmp}
-use Rattle.reg_schema.specs.declared.edition.Edition.TheVariants.{Second}
+use Rattle.reg_schema.specs.declared.edition.Edition.TheVariants.{First, Second}
 use Rattle.reg_schema.specs.States.{about_columns}
 use Rattle.reg_stored.specs.Numbers.{AreNumbered}
 pub use Rattle.reg_stored.specs.Stored.{StoredCrate, StoredPair, StoredVersion, Ids}
@@ -149,6 +149,17 @@ pub record StandsBy (ids : Ids) (s : Registry) (db : Trees) : Type 0 where
   pub reserved : StandReserved s.reserved db
   pub restricted : StandMarked ids.crates s.restricted (db restricted_tree)
   pub summaries : StandSummaries ids s.yanked (db summaries_tree)
+
+-- The same of tables of schema 1: no crate is restricted there, and none has readers.
+pub record StandsOld (ids : Ids) (s : Registry) (db : Trees) : Type 0 where
+  pub about : map (drop 1) (db about_tree) ≡ about_columns First s.base ∷ []
+  pub accounts : StandAccounts s.accounts db
+  pub tokens : StandTokens s.tokens db
+  pub crates : StandCrates ids s.publications s.yanked db
+  pub owners : StandPairs ids.crates s.owners (db owners_tree)
+  pub reserved : StandReserved s.reserved db
+  pub restricted : s.restricted ≡ finset.empty
+  pub readers : s.readers ≡ finset.empty
 
 -- the rows are those of this registry
 abbrev pub Stands : Registry → Trees → Type 0

@@ -1,5 +1,6 @@
 //! Restricted crates: changes of the registry that the rows stand for, and what they show of it.
 
+ghost use Rattle.std.proofs.Common.{false, true};
 ghost use Rattle.sqlite.specs.Held.{state};
 ghost use Rattle.reg_schema.specs.States.{IsReady};
 ghost use Rattle.reg_schema.specs.Statements.{rows_in};
@@ -39,11 +40,7 @@ fn lift<S: Alter>(conn: &mut Connection<S>, crate_id: u32) -> Result<(), Error>
 }
 
 /// Makes a crate restricted, or open to all. A crate that is not there is made neither.
-pub fn set<S: Alter>(
-    conn: &mut Connection<S>,
-    crate_id: u32,
-    restricted: bool,
-) -> Result<(), Error>
+pub fn set<S: Alter>(conn: &mut Connection<S>, crate_id: u32, restricted: bool) -> Result<(), Error>
     requires { IsReady (state S.Store conn.old) }
     ensures stands { Done S.Store conn.new result
         (Restricts restricted crate_id (rows_in S.Store conn.old) (rows_in S.Store conn.new)) }

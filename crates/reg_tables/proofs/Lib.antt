@@ -1,2 +1,4 @@
 mod Made
+mod Migrated
+mod Raising
 mod RowReading

@@ -1,3 +1,4 @@
 pub mod Lending
 pub mod Readers
+pub mod Upgrades
 pub mod Works

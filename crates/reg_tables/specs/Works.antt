@@ -4,7 +4,8 @@ use Rattle.sqlite_trees.specs.declared.store.Store.{Ghosts}
 use Rattle.sqlite.specs.Held.{Held, state}
 use Rattle.sqlite.specs.State.{State, HasCleanDisk, IsUnchanged, Survives}
 use Rattle.sqlite.specs.Tree.{Trees}
-use Rattle.reg_schema.specs.States.{IsReady, IsOurs, Refuses}
+use Rattle.reg_schema.specs.declared.edition.Edition.{Edition}
+use Rattle.reg_schema.specs.States.{GoesBack, IsReady, IsOurs, IsUndone, Refuses}
 use Rattle.reg_schema.specs.Steps.{Fails, Within}
 use Rattle.reg_tables.specs.declared.tables.Tables.{Tables}
 use Rattle.reg_tables.specs.declared.work.Work.{Work}
@@ -29,13 +30,17 @@ seen g w = shown g w.tables.now
 abbrev pub has_failed : {S : Type 0} → Work S → Bool
 has_failed w = w.failed
 
+-- which schema the store has, as long as nothing is committed
+abbrev pub edition_in : {S : Type 0} → Tables S → Edition
+edition_in t = t.edition
+
 -- a connection to our tables
 abbrev pub AreOurs : {S : Type 0} → Ghosts S → Tables S → Type 0
-AreOurs g t = IsOurs (shown g t)
+AreOurs g t = IsOurs (edition_in t) (shown g t)
 
--- a transaction of our tables; once a call has failed it may be undone already
+-- a transaction of our tables, which sees schema 2; once a call has failed it may be undone already
 pub record IsAtWork {S : Type 0} (g : Ghosts S) (w : Work S) : Type 0 where
-  pub ours : IsOurs (seen g w)
+  pub back : GoesBack (edition_in w.tables.now) (seen g w)
   pub ready : has_failed w ≡ false → IsReady (seen g w)
 
 -- the tables where no transaction was begun
@@ -43,6 +48,19 @@ pub record IsLeft {S : Type 0} (g : Ghosts S) (old new : Tables S) : Type 0 wher
   pub refused : HasCleanDisk (shown g new) → (held new ≡ held old) ⊎ Refuses (shown g old)
       (shown g new)
   pub ours : AreOurs g new
+  pub edition : edition_in new ≡ edition_in old
+  pub shut : is_shut new ≡ is_shut old
+  pub survives : Survives (shown g old) (shown g new) (λ _. ⊥)
+
+-- the connection of the tables as it was, or with nothing but what was committed
+abbrev pub IsSame : {S : Type 0} → Ghosts S → Tables S → Tables S → Type 0
+IsSame g old new = (held new ≡ held old) ⊎ IsUndone (shown g old) (shown g new)
+
+-- the tables where no transaction was begun, or one was undone at once
+pub record IsKept {S : Type 0} (g : Ghosts S) (old new : Tables S) : Type 0 where
+  pub refused : HasCleanDisk (shown g new) → IsSame g old new
+  pub ours : AreOurs g new
+  pub edition : edition_in new ≡ edition_in old
   pub shut : is_shut new ≡ is_shut old
   pub survives : Survives (shown g old) (shown g new) (λ _. ⊥)
 
@@ -50,6 +68,7 @@ pub record IsLeft {S : Type 0} (g : Ghosts S) (old new : Tables S) : Type 0 wher
 -- a fault ends it, and a stop leaves what it could leave before
 pub record IsCall {S T E : Type 0} (g : Ghosts S) (r : Result T E) (old new : Work S) : Type 0 where
   pub same_reference : new.tables.ghost_name ≡ old.tables.ghost_name
+  pub same_edition : edition_in new.tables.now ≡ edition_in old.tables.now
   pub same_mode : is_shut new.tables.now ≡ is_shut old.tables.now
   pub at_work : IsAtWork g new
   pub went_on : OnOk r ((has_failed old ≡ false) × (has_failed new ≡ false))

@@ -5,6 +5,8 @@ mod counts;
 mod crate_lists;
 mod crates;
 mod owners;
+mod readers;
 mod reserved;
+mod restricted;
 mod tokens;
 mod whole_rows;

@@ -9,12 +9,14 @@
 #![tactic(auto)]
 
 mod calls;
+pub mod laws;
 mod reader;
 mod tables;
+mod upgrade;
 mod work;
 
 pub use reader::Reader;
-pub use reg_schema::MakeFault;
+pub use reg_schema::{Edition, MakeFault};
 pub use reg_statements::accounts::Account;
 pub use reg_statements::crates::Crate;
 pub use reg_statements::owners::Ownership;

@@ -2,16 +2,15 @@
 
 ghost use Rattle.std.specs.Prelude.{◌≡◌, false, [], IfOk};
 ghost use Rattle.std.specs.Borrow.{sem, RestsIfErr};
-ghost use Rattle.sqlite.specs.Given.{HasGiven, IsPlain};
+ghost use Rattle.sqlite.specs.Given.{HasGiven};
 ghost use Rattle.sqlite.specs.Held.{state};
-ghost use Rattle.sqlite.specs.Listing.{understood};
 ghost use Rattle.sqlite.specs.State.{HasCleanDisk, IsUnchanged, Survives};
 ghost use Rattle.sqlite.specs.Values.{bound};
 ghost use Rattle.sqlite.specs.contracts.connection.Connection as connection;
-ghost use Rattle.reg_schema.specs.Schema.{ours};
 ghost use Rattle.reg_schema.specs.States.{IsOurs};
-ghost use Rattle.reg_tables.specs.Readers.{IsSpared, is_closed, reached};
+ghost use Rattle.reg_tables.specs.Readers.{IsSpared, MayStream, is_closed, reached};
 
+use reg_schema::Edition;
 use sqlite::types::ValueRef;
 use sqlite::{Alter, Connection, Error, ErrorCode, Rows};
 
@@ -24,8 +23,7 @@ pub struct Reader<'t, S: Alter> {
 impl<'t, S: Alter> Reader<'t, S> {
     /// The rows of a text that only reads, one at a time. They may be dropped at any row.
     pub fn rows(self, text: &str, params: &[ValueRef<'_>]) -> Result<Rows<'t, S>, Error>
-        requires ours { IsOurs (state S.Store (reached self)) }
-        requires reads { IsPlain (understood ours text.now) }
+        requires { MayStream text.now (state S.Store (reached self)) }
         ensures* refused { sem 𝓛 (RestsIfErr (connection.the_row S.row S.Store) self.entry.conn
             (λ rows. rows.conn.ghost_name) result (IsSpared S.Store (reached self.entry))) }
         ensures same_reference { IfOk result (λ rows. rows.conn.ghost_name
@@ -34,7 +32,8 @@ impl<'t, S: Alter> Reader<'t, S> {
             → HasGiven S.Store text.now (bound params.now) rows.conn.now []) }
         ensures same { IfOk result (λ rows. HasCleanDisk (state S.Store rows.conn.now) → IsUnchanged
             (state S.Store (reached self.entry)) (state S.Store rows.conn.now)) }
-        ensures ours { IfOk result (λ rows. IsOurs (state S.Store rows.conn.now)) }
+        ensures ours { (e : Edition) → IsOurs e (state S.Store (reached self.entry)) → IfOk result
+            (λ rows. IsOurs e (state S.Store rows.conn.now)) }
         ensures open { IfOk result (λ _. is_closed self.entry ≡ false) }
         ensures survives { IfOk result (λ rows. Survives (state S.Store (reached self.entry))
             (state S.Store rows.conn.now) (λ _. ⊥)) }
@@ -53,8 +52,7 @@ fn rows_of<'c, S: Alter>(
     text: &str,
     params: &[ValueRef<'_>],
 ) -> Result<Rows<'c, S>, Error>
-    requires ours { IsOurs (state S.Store conn.old) }
-    requires reads { IsPlain (understood ours text.now) }
+    requires { MayStream text.now (state S.Store conn.old) }
     ensures* refused { sem 𝓛 (RestsIfErr (connection.the_row S.row S.Store) conn.entry
         (λ rows. rows.conn.ghost_name) result (IsSpared S.Store conn.old)) }
     ensures same_reference { IfOk result (λ rows. rows.conn.ghost_name ≡ conn.entry.ghost_name) }
@@ -62,7 +60,8 @@ fn rows_of<'c, S: Alter>(
         → HasGiven S.Store text.now (bound params.now) rows.conn.now []) }
     ensures same { IfOk result (λ rows. HasCleanDisk (state S.Store rows.conn.now) → IsUnchanged
         (state S.Store conn.old) (state S.Store rows.conn.now)) }
-    ensures ours { IfOk result (λ rows. IsOurs (state S.Store rows.conn.now)) }
+    ensures ours { (e : Edition) → IsOurs e (state S.Store conn.old) → IfOk result
+        (λ rows. IsOurs e (state S.Store rows.conn.now)) }
     ensures survives { IfOk result (λ rows. Survives (state S.Store conn.old)
         (state S.Store rows.conn.now) (λ _. ⊥)) }
 {

@@ -1,24 +1,26 @@
 //! The tables over a connection.
 
-ghost use Rattle.std.specs.Prelude.{◌≡◌, ◌≢◌, ◌⊎◌, ◌↔◌, true, false, Err, IfErr, IfOk, IsTrue};
+ghost use Rattle.std.specs.Prelude.{◌≡◌, ◌≢◌, ◌↔◌, [], ◌∷◌, true, false, Ok, Err, IfErr, IfOk, OnErr, OnOk, IsTrue};
 ghost use Rattle.std.specs.Borrow.{sem, RestsIfErr};
 ghost use Rattle.sqlite.specs.State.{HasCleanDisk, KeepsCommit, Shows, Survives};
 ghost use Rattle.sqlite.specs.Held.{state};
 ghost use Rattle.reg_model.specs.Registry.{empty_at};
-ghost use Rattle.reg_schema.specs.Schema.{blank, ours};
-ghost use Rattle.reg_schema.specs.States.{IsAtRest, IsMade, IsOurs, IsUndone};
-ghost use Rattle.reg_statements.specs.Abouts.{HasBase, LacksBase};
+ghost use Rattle.reg_schema.specs.Schema.{blank, schema_of};
+ghost use Rattle.reg_schema.specs.States.{IsAtRest, IsMade, IsOurs, IsUndone, LeavesCommit, about_columns};
+ghost use Rattle.reg_statements.specs.Abouts.{HasBase, IsAbout, LacksBase};
 ghost use Rattle.reg_tables.specs.contracts.tables.Tables.{the_row};
 ghost use Rattle.reg_tables.specs.Lending.{LendsReader};
 ghost use Rattle.reg_tables.specs.Readers.{is_closed, reached};
 ghost use Rattle.reg_stored.specs.Stands.{Stands};
-ghost use Rattle.reg_tables.specs.Works.{AreOurs, IsAtWork, IsLeft, has_failed, held, is_shut, seen, shown};
+ghost use Rattle.reg_tables.specs.Works.{AreOurs, IsAtWork, IsKept, IsLeft, IsSame, edition_in, has_failed, held, is_shut, seen, shown};
+ghost use Rattle.reg_tables.specs.Upgrades.{BeginsSecond, IsUpgraded, AreUpgraded};
 
 use crate::reader::Reader;
+use crate::upgrade::begin_second;
 use crate::work::{StoreFault, Work};
 use reg_schema::laws::rest_law;
-use reg_schema::{MakeFault, begin, is_ours, make_tables, undo};
-use reg_statements::about;
+use reg_schema::{Edition, MakeFault, begin, edition_of, make_tables, undo};
+use reg_statements::about::{self, About};
 use sqlite::{Alter, Connection, Error};
 use std::alloc::Global;
 
@@ -27,38 +29,50 @@ use std::alloc::Global;
 #[derive(Drop)]
 pub struct Tables<S: Alter> {
     pub(crate) conn: Connection<S>,
+    pub(crate) edition: Edition,
     pub(crate) shut: bool,
 }
 
-fn read_base<S: Alter>(conn: &mut Connection<S>) -> Result<bool, Error>
-    requires ours { IsOurs (state S.Store conn.old) }
+fn is_of(about: &Option<About>, edition: Edition) -> bool
+    ensures is { (rows : _) → IsAbout rows about.now → IsTrue result → (base : _)
+        × (rows ≡ about_columns edition base ∷ []) }
+    ensures is_not { (rows : _) → IsAbout rows about.now → result ≡ false → (base : _)
+        → rows ≢ about_columns edition base ∷ [] }
+{
+    match about {
+        Some(about) => about.edition == edition,
+        None => false,
+    }
+}
+
+fn read_base<S: Alter>(conn: &mut Connection<S>, edition: Edition) -> Result<bool, Error>
+    requires ours { IsOurs edition (state S.Store conn.old) }
     ensures found { HasCleanDisk (state S.Store conn.new) → IfOk result
-        (λ has. IsTrue has → HasBase (state S.Store conn.old).now.trees) }
+        (λ has. IsTrue has → HasBase edition (state S.Store conn.old).now.trees) }
     ensures lacks { HasCleanDisk (state S.Store conn.new) → IfOk result
-        (λ has. has ≡ false → LacksBase (state S.Store conn.old).now.trees) }
+        (λ has. has ≡ false → LacksBase edition (state S.Store conn.old).now.trees) }
     ensures keeps { HasCleanDisk (state S.Store conn.new) → KeepsCommit (state S.Store conn.old)
         (state S.Store conn.new) }
-    ensures ours { IsOurs (state S.Store conn.new) }
     ensures survives { Survives (state S.Store conn.old) (state S.Store conn.new) (λ _. ⊥) }
 {
     begin(conn)?;
-    let base = about::base(conn)?;
-    Ok(base.is_some())
+    let about = about::read(conn)?;
+    Ok(is_of(&about, edition))
 }
 
-/// Whether there is one row of `about`, of schema 1. No transaction is left open.
-fn has_base<S: Alter>(conn: &mut Connection<S>) -> Result<bool, Error>
-    requires ours { IsOurs (state S.Store conn.old) }
+/// Whether there is one row of `about`, of this schema. No transaction is left open.
+fn has_base<S: Alter>(conn: &mut Connection<S>, edition: Edition) -> Result<bool, Error>
+    requires ours { IsOurs edition (state S.Store conn.old) }
     ensures found { HasCleanDisk (state S.Store conn.new) → IfOk result
-        (λ has. IsTrue has → HasBase (state S.Store conn.old).now.trees) }
+        (λ has. IsTrue has → HasBase edition (state S.Store conn.old).now.trees) }
     ensures lacks { HasCleanDisk (state S.Store conn.new) → IfOk result
-        (λ has. has ≡ false → LacksBase (state S.Store conn.old).now.trees) }
+        (λ has. has ≡ false → LacksBase edition (state S.Store conn.old).now.trees) }
     ensures undone { HasCleanDisk (state S.Store conn.new) → IsUndone (state S.Store conn.old)
         (state S.Store conn.new) }
-    ensures ours { IsOurs (state S.Store conn.new) }
+    ensures ours { IsOurs edition (state S.Store conn.new) }
     ensures survives { Survives (state S.Store conn.old) (state S.Store conn.new) (λ _. ⊥) }
 {
-    let has = read_base(conn);
+    let has = read_base(conn, edition);
     undo(conn);
     has
 }
@@ -75,6 +89,7 @@ impl<S: Alter> Tables<S> {
         ensures stands { IfOk result (λ t. HasCleanDisk (shown S.Store t) → Stands
             (empty_at base.now) (shown S.Store t).now.trees) }
         ensures ours { IfOk result (λ t. AreOurs S.Store t × (is_shut t ≡ false)) }
+        ensures second { IfOk result (λ t. edition_in t ≡ Edition.Second) }
         ensures unknown { IfErr result (λ e. (e.0 ≡ MakeFault.UnknownSchema) ↔
             ((state S.Store conn).now.schema ≢ blank)) }
         ensures blank { IfOk result (λ t. (state S.Store conn).now.schema ≡ blank) }
@@ -87,13 +102,17 @@ impl<S: Alter> Tables<S> {
             (λ trees. (db : _) × IsMade base.now db × (trees ≡ db.trees))) }
     {
         match make_tables(&mut conn, base) {
-            Ok(()) => Ok(Tables { conn, shut: false }),
+            Ok(()) => Ok(Tables {
+                conn,
+                edition: Edition::Second,
+                shut: false,
+            }),
             Err(fault) => Err((fault, conn)),
         }
     }
 
-    /// Takes over tables that were made before. A store that holds anything else, or not one row of
-    /// `about` of schema 1, is not known.
+    /// Takes over tables that were made before, of either schema. A store that holds anything else,
+    /// or not one row of `about` with the number of its schema, is not known.
     pub fn adopt(
         alloc: Global,
         mut conn: Connection<S>,
@@ -103,12 +122,15 @@ impl<S: Alter> Tables<S> {
             (shown S.Store t).is_open → (shown S.Store t).now ≡ (state S.Store conn).now) }
         ensures rests { IfOk result (λ t. HasCleanDisk (shown S.Store t) → IsUndone
             (state S.Store conn) (shown S.Store t)) }
-        ensures about { IfOk result (λ t. HasCleanDisk (shown S.Store t) → HasBase
+        ensures about { IfOk result (λ t. HasCleanDisk (shown S.Store t) → HasBase (edition_in t)
             (state S.Store conn).now.trees) }
+        ensures edition { IfOk result (λ t. (state S.Store conn).now.schema
+            ≡ schema_of (edition_in t)) }
         ensures ours { IfOk result (λ t. AreOurs S.Store t × (is_shut t ≡ false)) }
         ensures unknown { IfErr result (λ e. HasCleanDisk (state S.Store e.1) → e.0
-            ≡ MakeFault.UnknownSchema → ((state S.Store conn).now.schema ≢ ours) ⊎ LacksBase
-            (state S.Store conn).now.trees) }
+            ≡ MakeFault.UnknownSchema → (edition : Edition)
+            → (state S.Store conn).now.schema ≡ schema_of edition
+            → LacksBase edition (state S.Store conn).now.trees) }
         ensures handed_back { IfErr result (λ e. HasCleanDisk (state S.Store e.1) → IsUndone
             (state S.Store conn) (state S.Store e.1)) }
         ensures kept { IfOk result (λ t. Survives (state S.Store conn) (shown S.Store t) (λ _. ⊥)) }
@@ -116,15 +138,19 @@ impl<S: Alter> Tables<S> {
             (λ _. ⊥)) }
     {
         rest_law(&conn);
-        match is_ours(alloc, conn.schema()) {
+        let edition = match edition_of(alloc, conn.schema()) {
             Err(_) => return Err((MakeFault::Storage, conn)),
-            Ok(false) => return Err((MakeFault::UnknownSchema, conn)),
-            Ok(true) => {}
-        }
-        match has_base(&mut conn) {
+            Ok(None) => return Err((MakeFault::UnknownSchema, conn)),
+            Ok(Some(edition)) => edition,
+        };
+        match has_base(&mut conn, edition) {
             Err(_) => Err((MakeFault::Storage, conn)),
             Ok(false) => Err((MakeFault::UnknownSchema, conn)),
-            Ok(true) => Ok(Tables { conn, shut: false }),
+            Ok(true) => Ok(Tables {
+                conn,
+                edition,
+                shut: false,
+            }),
         }
     }
 
@@ -132,7 +158,7 @@ impl<S: Alter> Tables<S> {
     pub fn into_connection(self) -> Connection<S>
         ensures { result ≡ held self }
     {
-        let Tables { conn, shut: _ } = self;
+        let Tables { conn, .. } = self;
         conn
     }
 
@@ -149,9 +175,10 @@ impl<S: Alter> Tables<S> {
         }
     }
 
-    /// Begins a transaction.
+    /// Begins a transaction, of tables that are of schema 2 already.
     pub fn work(&mut self) -> Result<Work<'_, S>, StoreFault>
-        requires { AreOurs S.Store self.old }
+        requires ours { AreOurs S.Store self.old }
+        requires second { edition_in self.old ≡ Edition.Second }
         ensures* refused { sem 𝓛 (RestsIfErr (the_row S.row S.Store) self.entry
             (λ w. w.tables.ghost_name) result (IsLeft S.Store self.old)) }
         ensures same_reference { IfOk result (λ w. w.tables.ghost_name ≡ self.entry.ghost_name) }
@@ -161,6 +188,7 @@ impl<S: Alter> Tables<S> {
         ensures at_work { IfOk result (IsAtWork S.Store) }
         ensures open { IfOk result (λ w. (is_shut self.old ≡ false)
             × (is_shut w.tables.now ≡ false)) }
+        ensures edition { IfOk result (λ w. edition_in w.tables.now ≡ edition_in self.old) }
         ensures survives { IfOk result (λ w. Survives (shown S.Store self.old) (seen S.Store w)
             (λ _. ⊥)) }
     {
@@ -174,5 +202,60 @@ impl<S: Alter> Tables<S> {
             tables: self,
             failed: false,
         })
+    }
+
+    /// Begins a transaction that sees schema 2: tables of schema 1 are brought to it first. Until
+    /// it is committed, the store has the schema that it had.
+    pub fn upgrade(&mut self) -> Result<Work<'_, S>, StoreFault>
+        requires { AreOurs S.Store self.old }
+        ensures* refused { sem 𝓛 (RestsIfErr (the_row S.row S.Store) self.entry
+            (λ w. w.tables.ghost_name) result (IsKept S.Store self.old)) }
+        ensures same_reference { IfOk result (λ w. w.tables.ghost_name ≡ self.entry.ghost_name) }
+        ensures begun { IfOk result (λ w. (has_failed w ≡ false)
+            × (HasCleanDisk (seen S.Store w) → BeginsSecond (edition_in self.old)
+            (shown S.Store self.old) (seen S.Store w))) }
+        ensures at_work { IfOk result (IsAtWork S.Store) }
+        ensures open { IfOk result (λ w. (is_shut self.old ≡ false)
+            × (is_shut w.tables.now ≡ false)) }
+        ensures edition { IfOk result (λ w. edition_in w.tables.now ≡ edition_in self.old) }
+        ensures survives { IfOk result (λ w. Survives (shown S.Store self.old) (seen S.Store w)
+            (λ _. ⊥)) }
+    {
+        if self.shut || begin_second(&mut self.conn, self.edition).is_err() {
+            return Err(StoreFault);
+        }
+        Ok(Work {
+            tables: self,
+            failed: false,
+        })
+    }
+
+    /// Brings the tables to schema 2, in one transaction; whether they were of schema 1.
+    #[tactic(auto, using(crate::proofs::Raising::upgraded, crate::proofs::Raising::commit_undone, crate::proofs::Raising::stops_before))]
+    pub fn migrate(&mut self) -> Result<bool, StoreFault>
+        requires { AreOurs S.Store self.old }
+        ensures which { IfOk result (λ done. IsTrue done ↔
+            (edition_in self.old ≡ Edition.First)) }
+        ensures same { result ≡ Ok false → self.new ≡ self.old }
+        ensures upgraded { HasCleanDisk (shown S.Store self.new) → result ≡ Ok true → IsUpgraded
+            (shown S.Store self.old) (shown S.Store self.new) }
+        ensures alone { HasCleanDisk (shown S.Store self.new) → result ≡ Ok true → LeavesCommit
+            (shown S.Store self.new) }
+        ensures open { OnOk result (is_shut self.new ≡ is_shut self.old) }
+        ensures refused { HasCleanDisk (shown S.Store self.new) → OnErr result
+            (IsSame S.Store self.old self.new) }
+        ensures ours { AreOurs S.Store self.new }
+        ensures second { OnOk result (edition_in self.new ≡ Edition.Second) }
+        ensures edition { OnErr result (edition_in self.new ≡ edition_in self.old) }
+        ensures survives { Survives (shown S.Store self.old) (shown S.Store self.new)
+            (AreUpgraded (shown S.Store self.old).now) }
+    {
+        match self.edition {
+            Edition::First => {}
+            Edition::Second => return Ok(false),
+        }
+        let work = self.upgrade()?;
+        work.commit()?;
+        Ok(true)
     }
 }

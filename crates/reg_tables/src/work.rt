@@ -1,16 +1,17 @@
 //! A transaction of the tables.
 
+ghost use Rattle.std.proofs.Common.{IsErr};
 ghost use Rattle.std.specs.Prelude.{◌≡◌, true, false, OnErr, OnOk};
 ghost use Rattle.sqlite.specs.Given.{IsPlain};
 ghost use Rattle.sqlite.specs.Listing.{understood};
 ghost use Rattle.sqlite.specs.Values.{bound};
 ghost use Rattle.sqlite.specs.State.{HasCleanDisk, Shown, Shows, Survives};
 ghost use Rattle.reg_schema.specs.Schema.{ours};
-ghost use Rattle.reg_schema.specs.States.{IsUndone, LeavesCommit};
-ghost use Rattle.reg_tables.specs.Works.{AreOurs, Heard, IsAtWork, IsCall, Unmoved, has_failed, is_shut, seen, shown};
+ghost use Rattle.reg_schema.specs.States.{GoesBack, IsUndone, LeavesCommit};
+ghost use Rattle.reg_tables.specs.Works.{AreOurs, Heard, IsAtWork, IsCall, Unmoved, edition_in, has_failed, is_shut, seen, shown};
 
 use crate::tables::Tables;
-use reg_schema::{finish, undo};
+use reg_schema::{Edition, finish, undo};
 use reg_statements::statements::rows_of;
 use sqlite::types::ValueRef;
 use sqlite::{Alter, Row};
@@ -65,6 +66,9 @@ impl<S: Alter> Work<'_, S> {
         ensures undone { HasCleanDisk (shown S.Store self.exit.0.now) → OnErr result
             (IsUndone (seen S.Store self.entry) (shown S.Store self.exit.0.now)) }
         ensures ours { AreOurs S.Store self.exit.0.now }
+        ensures second { OnOk result (edition_in self.exit.0.now ≡ Edition.Second) }
+        ensures edition { OnErr result (edition_in self.exit.0.now
+            ≡ edition_in self.entry.tables.now) }
         ensures shut { OnErr result (has_failed self.entry ≡ false → is_shut self.exit.0.now
             ≡ true) }
         ensures still_open { OnErr result (has_failed self.entry ≡ true → is_shut self.exit.0.now
@@ -82,11 +86,22 @@ impl<S: Alter> Work<'_, S> {
             tables.shut = true;
             return Err(StoreFault);
         }
+        tables.edition = Edition::Second;
         Ok(())
     }
 }
 
 impl<S: Alter> Work<'_, S> {
+    /// Ends the transaction as a fault does, for a row that cannot be read.
+    pub fn fail<T>(&mut self) -> Result<T, StoreFault>
+        requires { IsAtWork S.Store self.old }
+        ensures fails { IsErr result }
+        ensures leaves { IsCall S.Store result self.old self.new }
+    {
+        self.failed = true;
+        Err(StoreFault)
+    }
+
     /// All rows of a text that only reads.
     pub fn select(&mut self, text: &str, params: &[ValueRef<'_>]) -> Result<Vec<Row>, StoreFault>
         requires at_work { IsAtWork S.Store self.old }
@@ -104,7 +119,9 @@ impl<S: Alter> Drop for Work<'_, S> {
     fn drop(self)
         ensures undone { HasCleanDisk (shown S.Store self.exit.0.now) → IsUndone
             (seen S.Store self.entry) (shown S.Store self.exit.0.now) }
-        ensures ours { AreOurs S.Store self.entry.tables.now → AreOurs S.Store self.exit.0.now }
+        ensures ours { GoesBack (edition_in self.entry.tables.now) (seen S.Store self.entry)
+            → AreOurs S.Store self.exit.0.now }
+        ensures edition { edition_in self.exit.0.now ≡ edition_in self.entry.tables.now }
         ensures open { is_shut self.exit.0.now ≡ is_shut self.entry.tables.now }
         ensures survives { Survives (seen S.Store self.entry) (shown S.Store self.exit.0.now)
             (λ _. ⊥) }

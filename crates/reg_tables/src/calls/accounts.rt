@@ -22,7 +22,7 @@ impl<S: Alter> Work<'_, S> {
         call!(self, accounts::add(&mut self.tables.conn, login, name))
     }
 
-    /// Makes an account enabled or not.
+    /// Makes an account enabled or not. Where no account has the id, nothing changes.
     pub fn set_enabled(&mut self, id: u32, enabled: bool) -> Result<(), StoreFault>
         requires { IsAtWork S.Store self.old }
         ensures set { Carried S.Store self.new result

@@ -1,6 +1,7 @@
 //! How much the registry has.
 
-ghost use Rattle.reg_stored.specs.Calls.{CountsAll};
+ghost use Rattle.reg_stored.specs.Calls.{Counted, CountsAll};
+ghost use Rattle.reg_model.specs.Crates.{crates};
 ghost use Rattle.reg_tables.specs.Works.{Heard, IsAtWork, IsCall, Unmoved, rows_seen};
 
 use crate::work::{StoreFault, Work, call};
@@ -16,5 +17,16 @@ impl<S: Alter> Work<'_, S> {
         ensures leaves { IsCall S.Store result self.old self.new }
     {
         call!(self, counts::count(&mut self.tables.conn))
+    }
+
+    /// How many crates there are.
+    pub fn crates(&mut self) -> Result<u64, StoreFault>
+        requires { IsAtWork S.Store self.old }
+        ensures counted { Heard S.Store self.new result
+            (Counted crates (rows_seen S.Store self.old)) }
+        ensures same { Unmoved S.Store result self.old self.new }
+        ensures leaves { IsCall S.Store result self.old self.new }
+    {
+        call!(self, counts::count_crates(&mut self.tables.conn))
     }
 }

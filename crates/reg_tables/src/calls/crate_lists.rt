@@ -27,7 +27,7 @@ impl<S: Alter> Work<'_, S> {
         call!(self, crate_lists::find(&mut self.tables.conn, text))
     }
 
-    /// The versions of the crate with this id, oldest first.
+    /// The versions of the crate with this id, oldest first; none where it is not there.
     pub fn versions_of(&mut self, alloc: Global, crate_id: u32) -> Result<Vec<Version>, StoreFault>
         requires { IsAtWork S.Store self.old }
         ensures rows { Heard S.Store self.new result

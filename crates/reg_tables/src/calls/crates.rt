@@ -42,7 +42,7 @@ impl<S: Alter> Work<'_, S> {
         )
     }
 
-    /// Yanks a version of a crate that is there, or takes that back.
+    /// Yanks a version of a crate, or takes that back. What is not there stays away.
     pub fn set_yanked(&mut self, crate_id: u32, text: &str, yanked: bool) -> Result<(), StoreFault>
         requires { IsAtWork S.Store self.old }
         ensures set { Carried S.Store self.new result

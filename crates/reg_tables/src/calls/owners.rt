@@ -10,7 +10,7 @@ use sqlite::Alter;
 use std::alloc::Global;
 
 impl<S: Alter> Work<'_, S> {
-    /// Makes an account an owner of a crate that is there.
+    /// Makes an account an owner of a crate. A crate that is not there gets none.
     pub fn add_owner(&mut self, crate_id: u32, account: u32) -> Result<(), StoreFault>
         requires { IsAtWork S.Store self.old }
         ensures added { Carried S.Store self.new result
@@ -20,7 +20,7 @@ impl<S: Alter> Work<'_, S> {
         call!(self, owners::add(&mut self.tables.conn, crate_id, account))
     }
 
-    /// Makes an account no owner of a crate that is there.
+    /// Makes an account no owner of a crate.
     pub fn remove_owner(&mut self, crate_id: u32, account: u32) -> Result<(), StoreFault>
         requires { IsAtWork S.Store self.old }
         ensures removed { Carried S.Store self.new result
@@ -34,7 +34,7 @@ impl<S: Alter> Work<'_, S> {
         )
     }
 
-    /// The accounts that own a crate that is there, by id.
+    /// The accounts that own a crate, by id; none where it is not there.
     pub fn owners_of(&mut self, alloc: Global, crate_id: u32) -> Result<Vec<Account>, StoreFault>
         requires { IsAtWork S.Store self.old }
         ensures found { Heard S.Store self.new result

@@ -14,7 +14,7 @@ impl<S: Alter> Work<'_, S> {
     pub fn reserve(&mut self, canon: &CanonText) -> Result<(), StoreFault>
         requires { IsAtWork S.Store self.old }
         ensures reserved { Carried S.Store self.new result
-            (Turns (with_reserved canon.now)
+            (Turns (λ ids. with_reserved canon.now)
             (rows_seen S.Store self.old) (rows_seen S.Store self.new)) }
         ensures leaves { IsCall S.Store result self.old self.new }
     {
@@ -25,7 +25,7 @@ impl<S: Alter> Work<'_, S> {
     pub fn unreserve(&mut self, canon: &CanonText) -> Result<(), StoreFault>
         requires { IsAtWork S.Store self.old }
         ensures freed { Carried S.Store self.new result
-            (Turns (without_reserved canon.now)
+            (Turns (λ ids. without_reserved canon.now)
             (rows_seen S.Store self.old) (rows_seen S.Store self.new)) }
         ensures leaves { IsCall S.Store result self.old self.new }
     {

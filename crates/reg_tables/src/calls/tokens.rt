@@ -68,7 +68,7 @@ impl<S: Alter> Work<'_, S> {
         )
     }
 
-    /// Makes the token with this id no longer live.
+    /// Makes the token with this id no longer live. Where there is none, nothing changes.
     pub fn revoke(&mut self, id: u32) -> Result<(), StoreFault>
         requires { IsAtWork S.Store self.old }
         ensures revoked { Carried S.Store self.new result

@@ -1,5 +1,4 @@
-use Rattle.std.proofs.Common.{◌∙◌, ap, map, arith}
-use Rattle.sqlite.specs.Held.{state}
+use Rattle.std.proofs.Common.{◌∙◌, ap, map}
 use Rattle.reg_schema.specs.Statements.{rows_in}
 use Rattle.reg_stored.proofs.SummaryRows.{highest_is, length_is}
 use Rattle.reg_stored.specs.Summaries.{highest_in, length_in, shown_mark}

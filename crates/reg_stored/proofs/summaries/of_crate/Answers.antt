@@ -1,4 +1,3 @@
-use Rattle.sqlite.specs.Held.{state}
 use Rattle.reg_schema.specs.Statements.{rows_in}
 use Rattle.reg_stored.proofs.Results.{if_ok}
 use Rattle.reg_stored.proofs.SummaryFound.{finds_summary}

@@ -1,0 +1,7 @@
+use Rattle.std.proofs.Common.{rules}
+use Rattle.reg_tables.proofs.Raising.{stops_between}
+use Rattle.reg_tables.proofs.tables.Tables.migrate.Goals as goal
+
+pub returns-in_err-commit-clause-survives : goal.returns-in_err-commit-clause-survives
+returns-in_err-commit-clause-survives g c =
+    let h = stops_between _ _ _ _ _ c.in-First.is c.in_ok-work.ensures.begun.1 c.in_ok-work.ensures.survives c.in_err-commit.ensures.survives in search (rules, h)
