@@ -25,6 +25,7 @@ mod SummaryTexts
 mod TokenQueries
 mod TokenTexts
 mod Updates
+mod VersionMarkQueries
 mod VersionQueries
 mod VersionRows
 mod VersionTexts

@@ -13,4 +13,5 @@ pub mod Stems
 pub mod Summaries
 pub mod Tokens
 pub mod Updates
+pub mod VersionMarks
 pub mod Versions

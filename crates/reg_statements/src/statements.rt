@@ -60,6 +60,22 @@ pub(crate) fn select_list<T: FromRow, S: Alter>(
     read_all(alloc, &rows)
 }
 
+/// The same, where the caller has no memory to give: the records are made in that of the rows.
+pub(crate) fn select_here<T: FromRow, S: Alter>(
+    conn: &mut Connection<S>,
+    text: &str,
+    params: &[ValueRef<'_>],
+) -> Result<Vec<T>, Error>
+    requires { MayRead text.now (state S.Store conn.old) }
+    ensures { Reads S.Store conn.old conn.new result (λ list.
+        Answers S.Store conn.old conn.new text.now (bound params.now)
+        (map T.FromRow.columns list.items)) }
+{
+    let rows = rows_of(conn, text, params)?;
+    let alloc = *rows.allocator();
+    read_all(alloc, &rows)
+}
+
 /// The only row of a text that only reads, as a record. It is an error where there is none.
 pub(crate) fn select_only<T: FromRow, S: Alter>(
     conn: &mut Connection<S>,

@@ -12,11 +12,12 @@ ghost use Rattle.reg_schema.specs.States.{IsReady};
 ghost use Rattle.reg_schema.specs.Statements.{Reads, Writes, rows_in};
 ghost use Rattle.reg_statements.specs.Counts.{IsLastId};
 ghost use Rattle.reg_statements.specs.Stems.{AreEntriesOf, columns_of_stem};
+ghost use Rattle.reg_statements.specs.VersionMarks.{AreMarksOf, columns_of_mark};
 ghost use Rattle.reg_statements.specs.Versions.{AreVersions, AreVersionsOf, MarksYanked, columns_of_version, version_row};
 
 use crate::marks::mark_of;
 use crate::records::FromRow;
-use crate::statements::{select_list, select_one, write};
+use crate::statements::{select_here, select_list, select_one, write};
 use sqlite::{Alter, Connection, Error, Row, params};
 use std::alloc::Global;
 
@@ -79,6 +80,31 @@ impl FromRow for StemRow {
         Ok(StemRow {
             stem: row.get(0)?,
             yanked: mark_of(row, 1)?,
+        })
+    }
+}
+
+/// What the summary of a crate is made of: one of its versions, and how long its stem is.
+#[derive(Debug, Drop)]
+pub struct VersionMark {
+    pub id: u64,
+    pub vers: String,
+    pub stem_length: u64,
+    pub yanked: bool,
+}
+
+impl FromRow for VersionMark {
+    ghost columns = { columns_of_mark };
+
+    fn from_row(row: &Row) -> Result<VersionMark, Error> {
+        if row.column_count() != 4 {
+            return Err(Error::InvalidQuery);
+        }
+        Ok(VersionMark {
+            id: row.get(0)?,
+            vers: row.get(1)?,
+            stem_length: row.get(2)?,
+            yanked: mark_of(row, 3)?,
         })
     }
 }
@@ -184,6 +210,22 @@ pub fn entries<S: Alter>(
         (λ list. AreEntriesOf crate_id (rows_in S.Store conn.old) list.items) }
 {
     select_list(alloc, conn, ENTRIES_TEXT, params![crate_id])
+}
+
+/// The marks of the versions of a crate, in the order of their ids.
+pub fn marks_of<S: Alter>(
+    conn: &mut Connection<S>,
+    crate_id: u32,
+) -> Result<Vec<VersionMark>, Error>
+    requires { IsReady (state S.Store conn.old) }
+    ensures { Reads S.Store conn.old conn.new result
+        (λ list. AreMarksOf crate_id (rows_in S.Store conn.old) list.items) }
+{
+    select_here(
+        conn,
+        "SELECT id, vers, length(stem), yanked FROM versions WHERE crate = ?1 ORDER BY id",
+        params![crate_id],
+    )
 }
 
 /// The greatest id of a version, if there is one.

@@ -42,7 +42,7 @@ keeps_both one other old mid new first next =
     let H : Table → Type 0 = λ t. t.tree ≢ one → t.tree ≢ other → new t.tree ≡ old t.tree in
     all_both F G H (λ t f g n m. g m ∙ f n) our_tables first next
 
-more_rows : (tree : ℕ) (row : Row) (old new : State) → Adds tree row old new → IsPermutation (row ∷ old.now.trees tree) (new.now.trees tree)
+pub more_rows : (tree : ℕ) (row : Row) (old new : State) → Adds tree row old new → IsPermutation (row ∷ old.now.trees tree) (new.now.trees tree)
 more_rows tree row old new adds = subst (IsPermutation (row ∷ old.now.trees tree)) (sym adds.becomes.rows_are) (put_permutes row (old.now.trees tree) adds.fresh)
 
 module _ (old read mid new : State) (same : read.now ≡ old.now) where

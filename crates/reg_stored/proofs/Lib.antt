@@ -24,6 +24,12 @@ mod Rowids
 mod ScopeRows
 mod Selected
 mod Standing
+mod SummaryRows
+pub mod SummaryLaws
+mod SummaryFound
+mod SummarySteps
+mod SummaryChanges
+mod SummaryTops
 pub mod Stays
 mod TokenChanges
 mod TokenEntries

@@ -36,7 +36,7 @@ least_above (n ∷ ns) id below low = no_less (1 + n) (next_of ns) id (omega (ar
     no_less : (a b c : ℕ) → a ≤ c → b ≤ c → max a b ≤ c
     no_less a b c h k = omega (arith, h, k)
 
-reaches : (ns : List ℕ) (n : ℕ) → IsIn n ns → 1 + n ≤ next_of ns
+pub reaches : (ns : List ℕ) (n : ℕ) → IsIn n ns → 1 + n ≤ next_of ns
 reaches [] n i = absurd i
 reaches (m ∷ ns) n (inl e) = rw (sym e) (first (1 + m) (next_of ns))
   where

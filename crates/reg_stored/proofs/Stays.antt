@@ -9,6 +9,7 @@ use Rattle.sqlite.specs.Order.{Row}
 use Rattle.reg_schema.specs.Changes.{KeepsOthers}
 use Rattle.reg_model.specs.Registry.{Account, Token, Publication, Registry, text_cmp, owner_cmp, mark_cmp}
 use Rattle.reg_statements.specs.Reserved.{reserved_columns}
+use Rattle.reg_stored.specs.Summaries.{StandSummaries}
 use Rattle.reg_stored.specs.Stands.{row_of_account, row_of_token, row_of_crate, row_of_version, row_of_archive, scopes_of, HaveOwnRowids, StandAccounts, StandTokens, StandReserved, StandCrates, Ids, StoredCrate, StandPairs, StandsBy, StandMarked}
 
 pub accounts_stay : (accounts : List Account) (old new : Trees) → new 1 ≡ old 1 → StandAccounts accounts old → StandAccounts accounts new
@@ -46,6 +47,9 @@ pairs_stay crates held old new e h = subst (StandPairs crates held) (sym e) h
 
 pub marked_stay : (crates : List StoredCrate) (marked : finset.FinSet text_cmp) (old new : List Row) → new ≡ old → StandMarked crates marked old → StandMarked crates marked new
 marked_stay crates marked old new e h = subst (StandMarked crates marked) (sym e) h
+
+pub summaries_stay : (ids : Ids) (yanked : finset.FinSet mark_cmp) (old new : List Row) → new ≡ old → StandSummaries ids yanked old → StandSummaries ids yanked new
+summaries_stay ids yanked old new e h = subst (StandSummaries ids yanked) (sym e) h
 
 -- the tables, each by its place among them
 module _ (tree : ℕ) (old new : Trees) (others : KeepsOthers tree old new) where
@@ -110,6 +114,9 @@ module _ (ids : Ids) (s : Registry) (tree : ℕ) (old new : Trees) (others : Kee
   still_restricted : 17 ≢ tree → StandMarked ids.crates s.restricted (new 17)
   still_restricted h = marked_stay ids.crates s.restricted (old 17) (new 17) (same_restricted tree old new others h) stands.restricted
 
+  still_summaries : 16 ≢ tree → StandSummaries ids s.yanked (new 16)
+  still_summaries h = summaries_stay ids s.yanked (old 16) (new 16) (same_summaries tree old new others h) stands.summaries
+
 -- The registry after a change of one table.
 module _ (ids : Ids) (s : Registry) (old new : Trees) (stands : StandsBy ids s old) where
   pub with_accounts : (accounts : List Account) → KeepsOthers 1 old new → StandAccounts accounts new → StandsBy ids (record s { accounts = accounts }) new
@@ -122,6 +129,7 @@ module _ (ids : Ids) (s : Registry) (old new : Trees) (stands : StandsBy ids s o
     reserved = still_reserved ids s 1 old new others stands (λ e. cc);
     readers = still_readers ids s 1 old new others stands (λ e. cc);
     restricted = still_restricted ids s 1 old new others stands (λ e. cc);
+    summaries = still_summaries ids s 1 old new others stands (λ e. cc);
   }
 
   pub with_owners : (owners : finset.FinSet owner_cmp) → KeepsOthers 9 old new → StandPairs ids.crates owners (new 9) → StandsBy ids (record s { owners = owners }) new
@@ -134,6 +142,7 @@ module _ (ids : Ids) (s : Registry) (old new : Trees) (stands : StandsBy ids s o
     reserved = still_reserved ids s 9 old new others stands (λ e. cc);
     readers = still_readers ids s 9 old new others stands (λ e. cc);
     restricted = still_restricted ids s 9 old new others stands (λ e. cc);
+    summaries = still_summaries ids s 9 old new others stands (λ e. cc);
   }
 
   pub with_readers : (readers : finset.FinSet owner_cmp) → KeepsOthers 18 old new → StandPairs ids.crates readers (new 18) → StandsBy ids (record s { readers = readers }) new
@@ -146,6 +155,7 @@ module _ (ids : Ids) (s : Registry) (old new : Trees) (stands : StandsBy ids s o
     reserved = still_reserved ids s 18 old new others stands (λ e. cc);
     readers = changed;
     restricted = still_restricted ids s 18 old new others stands (λ e. cc);
+    summaries = still_summaries ids s 18 old new others stands (λ e. cc);
   }
 
   pub with_restricted : (restricted : finset.FinSet text_cmp) → KeepsOthers 17 old new → StandMarked ids.crates restricted (new 17) → StandsBy ids (record s { restricted = restricted }) new
@@ -158,6 +168,7 @@ module _ (ids : Ids) (s : Registry) (old new : Trees) (stands : StandsBy ids s o
     reserved = still_reserved ids s 17 old new others stands (λ e. cc);
     readers = still_readers ids s 17 old new others stands (λ e. cc);
     restricted = changed;
+    summaries = still_summaries ids s 17 old new others stands (λ e. cc);
   }
 
   pub with_reserved : (reserved : finset.FinSet text_cmp) → KeepsOthers 14 old new → StandReserved reserved new → StandsBy ids (record s { reserved = reserved }) new
@@ -170,18 +181,7 @@ module _ (ids : Ids) (s : Registry) (old new : Trees) (stands : StandsBy ids s o
     reserved = changed;
     readers = still_readers ids s 14 old new others stands (λ e. cc);
     restricted = still_restricted ids s 14 old new others stands (λ e. cc);
-  }
-
-  pub with_yanked : (yanked : finset.FinSet mark_cmp) → KeepsOthers 11 old new → StandCrates ids s.publications yanked new → StandsBy ids (record s { yanked = yanked }) new
-  with_yanked yanked others changed = record {
-    about = still_about ids s 11 old new others stands (λ e. cc) ∙ stands.about;
-    accounts = still_accounts ids s 11 old new others stands (λ e. cc);
-    tokens = still_tokens ids s 11 old new others stands (λ e. cc) (λ e. cc);
-    crates = changed;
-    owners = still_owners ids s 11 old new others stands (λ e. cc);
-    reserved = still_reserved ids s 11 old new others stands (λ e. cc);
-    readers = still_readers ids s 11 old new others stands (λ e. cc);
-    restricted = still_restricted ids s 11 old new others stands (λ e. cc);
+    summaries = still_summaries ids s 14 old new others stands (λ e. cc);
   }
 
   -- both tables of tokens
@@ -195,4 +195,5 @@ module _ (ids : Ids) (s : Registry) (old new : Trees) (stands : StandsBy ids s o
     reserved = still_reserved ids s tree old new others stands (apart 14 (λ e. cc) (λ e. cc));
     readers = still_readers ids s tree old new others stands (apart 18 (λ e. cc) (λ e. cc));
     restricted = still_restricted ids s tree old new others stands (apart 17 (λ e. cc) (λ e. cc));
+    summaries = still_summaries ids s tree old new others stands (apart 16 (λ e. cc) (λ e. cc));
   }

@@ -64,7 +64,7 @@ module _ (yanked : finset.FinSet mark_cmp) where
       let mark = mark_is _ _ (heads (tails (tails (tails (tails (tails later)))))) in
       λ i. record { version = version i; release = release i; digest = digest i; stem = stem i; description = description i; yanked = mark i }
 
-  ids_rise : (vs : List StoredVersion) → IsStrictlySortedBy nat_cmp (map (λ v. v.id) vs) → IsAscending (λ v w. v.id < w.id) vs
+  pub ids_rise : (vs : List StoredVersion) → IsStrictlySortedBy nat_cmp (map (λ v. v.id) vs) → IsAscending (λ v w. v.id < w.id) vs
   unfolding IsStrictlySortedBy
   ids_rise [] h = tt
   ids_rise (v ∷ vs) h = (Rattle.sqlite_trees.proofs.ListLemmas.all_weaker (λ w. nat_cmp v.id w.id ≡ Less) (λ w. v.id < w.id) (λ w e. less_is v.id w.id e) vs (all_from_map (λ n. nat_cmp v.id n ≡ Less) (λ w. w.id) vs h.0), ids_rise vs h.1)
@@ -73,9 +73,9 @@ module _ (yanked : finset.FinSet mark_cmp) where
   rows_rise vs up = ascending-map (λ a b. by_column 0 a b ≡ Less) (row_of_version yanked) vs (ascending_weaker (λ v w. v.id < w.id) (λ v w. by_column 0 (row_of_version yanked v) (row_of_version yanked w) ≡ Less) (λ v w e. number_below v.id w.id e) vs up)
 
 module _ (ids : Ids) (ps : List Publication) (yanked : finset.FinSet mark_cmp) (db : Trees) (h : StandCrates ids ps yanked db) where
-  its_versions : (id : ℕ) (list : List Version) → IsInOrder (by_column 0) (filter (is_number 2 id) (db 11)) (shows shown_places) (map columns_of_version list)
+  shown_versions : (id : ℕ) (list : List Version) → IsInOrder (by_column 0) (filter (is_number 2 id) (db 11)) (shows shown_places) (map columns_of_version list)
       → map shown_version list ≡ map (λ v. version_shown yanked v.publication) (filter (λ v. v.of_crate == id) ids.versions)
-  its_versions id list found =
+  shown_versions id list found =
       let row = row_of_version yanked in
       let its = filter (λ v. v.of_crate == id) ids.versions in
       let rows : IsPermutation (map row its) (filter (is_number 2 id) (db 11)) =
@@ -97,5 +97,5 @@ module _ (ids : Ids) (ps : List Publication) (yanked : finset.FinSet mark_cmp) (
   lists_versions id list found = split (spelling_at ids id) refl
     where
       split : (o : Option Words) → spelling_at ids id ≡ o → map shown_version list ≡ told_of o [] (λ name. map (version_shown yanked) (filter (λ p. collides p.name name) ps))
-      split None none = its_versions id list found ∙ ap (map (λ (v : StoredVersion). version_shown yanked v.publication)) (none_pass (λ _ _. true) (λ v. v.of_crate == id) ids.versions (none_of ids ps yanked db h id none))
-      split (Some name) at = its_versions id list found ∙ named_versions id name (there_at ids id name at)
+      split None none = shown_versions id list found ∙ ap (map (λ (v : StoredVersion). version_shown yanked v.publication)) (none_pass (λ _ _. true) (λ v. v.of_crate == id) ids.versions (none_of ids ps yanked db h id none))
+      split (Some name) at = shown_versions id list found ∙ named_versions id name (there_at ids id name at)

@@ -84,3 +84,14 @@ pub stops_read_after : {T E U F : Type 0} {P : T → Type 0} (a b c : State) (r 
 stops_read_after a b c r e q stops went is h =
     then_fails a b c q stops went.within went.survives
     (λ clean. let early : HasCleanDisk b = omega (arith, clean, h.survives.clean) in refused_fails b c early (went.within early).inside (rw is at (h.only clean)).1) h.survives
+
+-- a part of a call went well, after what went well
+pub went_more : {T E : Type 0} (a b c : State) (r : Result T E) (x : T) → Went a b → r ≡ Ok x → LeavesWithin b c r → Went a c
+went_more a b c r x went is h = record {
+  within = λ clean. let early : HasCleanDisk b = omega (arith, clean, h.survives.clean) in within_then a b c (went.within early) (rw is at (h.within clean));
+  survives = survives_then a b c _ _ _ (λ _ _ h. h) (λ _ _ h. h) went.survives h.survives;
+}
+
+-- it failed
+pub stops_more : {T E U F : Type 0} (a b c : State) (r : Result T E) (e : E) (q : Result U F) → IsErr q → Went a b → r ≡ Err e → LeavesWithin b c r → LeavesWithin a c q
+stops_more a b c r e q stops went is h = then_fails a b c q stops went.within went.survives (λ clean. rw is at (h.fails clean)) h.survives

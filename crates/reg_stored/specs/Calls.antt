@@ -19,6 +19,7 @@ use Rattle.reg_model.specs.Sound.{has_version}
 use Rattle.reg_statements.specs.declared.accounts.Account.{Account}
 use Rattle.reg_statements.specs.declared.crates.Crate.{Crate}
 use Rattle.reg_statements.specs.declared.scopes.Scope.{Scope}
+use Rattle.reg_statements.specs.declared.summaries.Summary.{Summary}
 use Rattle.reg_statements.specs.declared.tokens.Token.{Token}
 use Rattle.reg_statements.specs.declared.tokens.TokenRow.{TokenRow}
 use Rattle.reg_statements.specs.declared.versions.Version.{Version}
@@ -29,6 +30,7 @@ use Rattle.reg_stored.specs.declared.tokens.TokenRows.{TokenRows}
 use Rattle.reg_stored.specs.Entries.{entry_of_account, shown_version, version_shown}
 use Rattle.reg_stored.specs.FoundTokens.{IsFound, IsRow}
 use Rattle.reg_stored.specs.Stands.{Holds, Ids, StandsBy, scopes_of, spelling_at}
+use Rattle.reg_stored.specs.Summaries.{highest_of}
 use Rattle.reg_stored.specs.Changes.{ids_with_crate, ids_with_version, mark_at, next_crate, no_owner_at, no_reader_at, owner_at, reader_at, restricted_at, told_of}
 use Rattle.reg_stored.specs.TokenEntries.{entry_of_token, without_patterns}
 
@@ -186,6 +188,15 @@ TellsRestricted id db there = Tells
 -- whether the administrator reserved the name
 abbrev pub TellsReserved : Text → Trees → Bool → Type 0
 TellsReserved canon db there = Tells (λ ids s. there ≡ finset.contains s.reserved canon) db
+
+-- the summary of the crate with this id: the id of its highest version, and how long its index file
+-- is; none where there is no crate
+abbrev pub FindsSummary : ℕ → Trees → Option Summary → Type 0
+FindsSummary id db found = Tells
+    (λ ids s. (option_map (λ m. m.highest) found ≡ told_of (spelling_at ids id) None
+    (λ name. Some (highest_of ids s.yanked id)))
+    × (option_map (λ m. m.index_length) found ≡ told_of (spelling_at ids id) None
+    (λ name. Some (length (model.file s name))))) db
 
 -- a number of the registry
 abbrev pub Counted : (Registry → ℕ) → Trees → ℕ → Type 0

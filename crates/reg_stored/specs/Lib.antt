@@ -7,5 +7,8 @@ pub mod Ids
 pub mod Numbers
 pub mod Patterns
 pub mod Stands
+pub mod Stored
+pub mod Summaries
+pub mod SummaryChanges
 pub mod TokenEntries
 pub mod WholeRows

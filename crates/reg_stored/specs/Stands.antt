@@ -1,7 +1,7 @@
 -- The registry that the rows of the tables stand for.
 use Rattle.std.specs.Option.{option_map}
 use Rattle.reg_model.specs.Sound.{Sound}
-use Rattle.reg_schema.specs.Places.{restricted_tree, accounts_tree, tokens_tree, reserved_tree, crates_tree, about_tree, scopes_tree, versions_tree, owners_tree, archives_tree, readers_tree}
+use Rattle.reg_schema.specs.Places.{restricted_tree, accounts_tree, tokens_tree, reserved_tree, summaries_tree, crates_tree, about_tree, scopes_tree, versions_tree, owners_tree, archives_tree, readers_tree}
 use Rattle.std.proofs.Common.{Option, ◌+◌}
 use Rattle.reg_statements.specs.Pairs.{pair_columns}
 use Rattle.std.specs.Prelude.{◌≡◌, ℕ, pos, filter, ◌&&◌, ◌==◌, Bool, true, List, [], ◌∷◌, map, drop, IsPermutation, max}
@@ -20,6 +20,8 @@ use Rattle.reg_model.specs.Registry.{Text, Account, Token, Publication, Registry
 use Rattle.reg_schema.specs.declared.edition.Edition.TheVariants.{First, Second}
 use Rattle.reg_schema.specs.States.{about_columns}
 use Rattle.reg_stored.specs.Numbers.{AreNumbered}
+pub use Rattle.reg_stored.specs.Stored.{StoredCrate, StoredPair, StoredVersion, Ids}
+use Rattle.reg_stored.specs.Summaries.{StandSummaries}
 use Rattle.reg_statements.specs.Accounts.{account_row}
 use Rattle.reg_statements.specs.Tokens.{token_row}
 use Rattle.reg_statements.specs.Scopes.{scope_columns}
@@ -43,31 +45,11 @@ scope_of token p = scope_columns token p.0 p.1 (range_of p.1).low (range_of p.1)
 abbrev pub scopes_of : ℕ × Token → List Row
 scopes_of e = map (scope_of e.0) (enumerate_from 0 e.1.patterns)
 
--- a crate as it is stored: a spelling behind its id
-abbrev pub StoredCrate : Type 0
-StoredCrate = ℕ × Text
-
 abbrev pub row_of_crate : StoredCrate → Row
 row_of_crate c = crate_row c.0 (canon c.1) c.1
 
--- a crate and an account of a relation as it is stored: the ids of both
-abbrev pub StoredPair : Type 0
-StoredPair = ℕ × ℕ
-
 abbrev pub columns_of_stored : StoredPair → Row
 columns_of_stored o = pair_columns o.0 o.1
-
--- a version as it is stored
-pub record StoredVersion : Type 0 where
-  pub id : ℕ
-  pub of_crate : ℕ
-  pub publication : Publication
-
--- The ids under which the rows have the crates and the versions. Both rise, versions in the order of
--- publication. All that rows say of a crate they say by its id.
-pub record Ids : Type 0 where
-  pub crates : List StoredCrate
-  pub versions : List StoredVersion
 
 -- the spelling of the crate with this id
 abbrev pub spelling_at : Ids → ℕ → Option Text
@@ -166,6 +148,7 @@ pub record StandsBy (ids : Ids) (s : Registry) (db : Trees) : Type 0 where
   pub readers : StandPairs ids.crates s.readers (db readers_tree)
   pub reserved : StandReserved s.reserved db
   pub restricted : StandMarked ids.crates s.restricted (db restricted_tree)
+  pub summaries : StandSummaries ids s.yanked (db summaries_tree)
 
 -- The same of tables of schema 1: no crate is restricted there, and none has readers.
 pub record StandsOld (ids : Ids) (s : Registry) (db : Trees) : Type 0 where

@@ -10,6 +10,7 @@ ghost use Rattle.reg_stored.specs.Additions.{AddsCrate, AddsVersion};
 ghost use Rattle.reg_stored.specs.Ids.{IsNext};
 
 use crate::accounts::next_id;
+use crate::summaries;
 use reg_line::Digest;
 use reg_names::{CrateName, canon};
 use reg_statements::{archives, crates, owners, versions};
@@ -103,6 +104,7 @@ pub fn add_new<S: Alter>(
 {
     let id = insert_crate(conn, name, owner)?;
     insert_version(conn, id, version)?;
+    summaries::insert(conn, id)?;
     Ok(id)
 }
 
@@ -118,6 +120,7 @@ pub fn add_next<S: Alter>(
     ensures leaves { Steps S.Store conn.old conn.new result }
 {
     insert_version(conn, crate_id, version)?;
+    summaries::renew(conn, crate_id)?;
     Ok(())
 }
 
@@ -136,5 +139,6 @@ pub fn mark<S: Alter>(
     ensures leaves { Steps S.Store conn.old conn.new result }
 {
     versions::set_yanked(conn, crate_id, release_key(text), text, yanked)?;
+    summaries::renew(conn, crate_id)?;
     Ok(())
 }

@@ -17,4 +17,5 @@ pub mod owners;
 pub mod readers;
 pub mod reserved;
 pub mod restricted;
+pub mod summaries;
 pub mod tokens;
