@@ -158,6 +158,7 @@ pub record StandsOld (ids : Ids) (s : Registry) (db : Trees) : Type 0 where
   pub crates : StandCrates ids s.publications s.yanked db
   pub owners : StandPairs ids.crates s.owners (db owners_tree)
   pub reserved : StandReserved s.reserved db
+  pub summaries : StandSummaries ids s.yanked (db summaries_tree)
   pub restricted : s.restricted ≡ finset.empty
   pub readers : s.readers ≡ finset.empty
 

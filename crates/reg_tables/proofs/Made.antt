@@ -71,6 +71,7 @@ stands_empty base db made =
           apart = none_apart (db.trees 14) (crates.1.1.1.1.0 (λ e. cc));
           same = finset.contains-empty text_cmp;
         };
+        summaries = record { are = none_are (db.trees 16) (last.0 (λ e. cc)) };
       },
     )
 

@@ -1,4 +1,5 @@
 -- What the rows stand for after a migration.
+use Rattle.reg_stored.specs.Summaries.{StandSummaries}
 use Rattle.reg_names.specs.Names.{canon}
 use Rattle.reg_tables.proofs.Made.{none_apart, none_are, none_dropped}
 use Rattle.reg_model.proofs.Members.{in_each}
@@ -43,4 +44,5 @@ migrated ids s old new stands upgrade =
       readers = no_pairs ids.crates s.readers (new.trees 18) stands.readers upgrade.readers;
       restricted = no_marks ids.crates s.restricted (new.trees 17) stands.restricted upgrade.restricted;
       reserved = reserved_stay s.reserved old.trees new.trees (crates.1.1.1.1.0 (λ e. cc)) stands.reserved;
+      summaries = subst (StandSummaries ids s.yanked) (sym (crates.1.1.1.1.1.0 (λ e. cc))) stands.summaries;
     }

@@ -2,14 +2,15 @@
 
 ghost use Rattle.reg_statements.specs.Crates.{AreCrates, IsCrateOfCanon};
 ghost use Rattle.reg_statements.specs.Versions.{AreVersionsOf};
-ghost use Rattle.reg_stored.specs.Calls.{FindsArchive, FindsCrate, ListsCrates, ListsVersions};
+ghost use Rattle.reg_stored.specs.Calls.{FindsArchive, FindsCrate, FindsSummary, ListsCrates, ListsVersions};
 ghost use Rattle.reg_tables.specs.Works.{Heard, IsAtWork, IsCall, Unmoved, rows_seen};
 
 use crate::work::{StoreFault, Work, call};
 use reg_names::CanonText;
 use reg_statements::crates::Crate;
+use reg_statements::summaries::Summary;
 use reg_statements::versions::Version;
-use reg_stored::crate_lists;
+use reg_stored::{crate_lists, summaries};
 use sqlite::Alter;
 use std::alloc::Global;
 
@@ -55,6 +56,17 @@ impl<S: Alter> Work<'_, S> {
             self,
             crate_lists::archive(&mut self.tables.conn, crate_id, text)
         )
+    }
+
+    /// What is kept of the crate with this id: its highest version, and how long its index file is.
+    pub fn summary_of(&mut self, crate_id: u32) -> Result<Option<Summary>, StoreFault>
+        requires { IsAtWork S.Store self.old }
+        ensures found { Heard S.Store self.new result
+            (FindsSummary crate_id (rows_seen S.Store self.old)) }
+        ensures same { Unmoved S.Store result self.old self.new }
+        ensures leaves { IsCall S.Store result self.old self.new }
+    {
+        call!(self, summaries::of_crate(&mut self.tables.conn, crate_id))
     }
 
     /// All crates, in the order of their canonical names.
