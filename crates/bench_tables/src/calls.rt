@@ -41,7 +41,7 @@ fn begin<S: Alter>(tables: &mut Tables<S>) -> Result<usize, Fault>
     requires { AreOurs S.Store tables.old }
     ensures { AreOurs S.Store tables.new }
 {
-    let work = tables.work()?;
+    let work = tables.upgrade()?;
     drop(work);
     Ok(1)
 }
@@ -92,7 +92,7 @@ fn find<S: Alter>(
     requires { AreOurs S.Store tables.old }
     ensures { AreOurs S.Store tables.new }
 {
-    let mut work = tables.work()?;
+    let mut work = tables.upgrade()?;
     counted(call, perform(alloc, &mut work, made))
 }
 
@@ -106,7 +106,7 @@ fn change<S: Alter>(
     requires { AreOurs S.Store tables.old }
     ensures { AreOurs S.Store tables.new }
 {
-    let mut work = tables.work()?;
+    let mut work = tables.upgrade()?;
     counted(call, perform(alloc, &mut work, made))?;
     work.commit()?;
     Ok(1)

@@ -43,7 +43,7 @@ pub(crate) fn fill<S: Alter>(
     requires { AreOurs S.Store tables.old }
     ensures { AreOurs S.Store tables.new }
 {
-    let mut work = tables.work()?;
+    let mut work = tables.upgrade()?;
     add_each(alloc, &mut work, crates)?;
     work.commit()?;
     Ok(())

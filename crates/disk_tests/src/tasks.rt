@@ -101,7 +101,7 @@ fn committed<S: Alter>(
 ) -> Result<Reply, AllocError>
     requires { AreOurs S.Store tables.old }
 {
-    let Ok(mut work) = tables.work() else {
+    let Ok(mut work) = tables.upgrade() else {
         return fault(alloc);
     };
     let text = answer(alloc, &mut work, call, limits.call)?;

@@ -183,7 +183,8 @@ pub fn create_restricted<S: Alter>(conn: &mut Connection<S>) -> Result<usize, Er
     requires { HasCleanDisk (state S.Store conn.old) → IsInsideWith old_schema
         (state S.Store conn.old) }
     ensures made { HasCleanDisk (state S.Store conn.new) → OnOk result
-        (Grows old_schema (first_of_ours 11 7) 17 (state S.Store conn.old) (state S.Store conn.new)) }
+        (Grows old_schema (first_of_ours 11 7) 17
+        (state S.Store conn.old) (state S.Store conn.new)) }
     ensures refused { HasCleanDisk (state S.Store conn.new) → OnErr result
         (Refuses (state S.Store conn.old) (state S.Store conn.new)) }
     ensures survives { Survives (state S.Store conn.old) (state S.Store conn.new) (λ _. ⊥) }

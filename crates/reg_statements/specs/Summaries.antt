@@ -1,5 +1,5 @@
--- The table of what is known of a crate beside its versions: the greatest one that is not yanked, and
--- the length of its index file.
+-- The table of what is known of a crate beside its versions: the greatest one that is not yanked,
+-- and the length of its index file.
 use Rattle.std.specs.Prelude.{◌≡◌, ℕ, pos, List, [], ◌∷◌, Option, map, filter}
 use Rattle.sqlite.specs.declared.types.Value.TheVariants.{Int}
 use Rattle.sqlite.specs.Order.{Row}

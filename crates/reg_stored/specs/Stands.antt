@@ -80,7 +80,8 @@ pub record StandAccounts (accounts : List Account) (db : Trees) : Type 0 where
 
 pub record StandTokens (tokens : List Token) (db : Trees) : Type 0 where
   pub rows : IsPermutation (map row_of_token (enumerate_from 1 tokens)) (db tokens_tree)
-  pub scopes : IsPermutation (flat_map scopes_of (enumerate_from 1 tokens)) (map (drop 1) (db scopes_tree))
+  pub scopes : IsPermutation (flat_map scopes_of (enumerate_from 1 tokens))
+      (map (drop 1) (db scopes_tree))
 
 pub record StandReserved (reserved : finset.FinSet text_cmp) (db : Trees) : Type 0 where
   pub texts : List Text

@@ -16,8 +16,8 @@ pub record StoredVersion : Type 0 where
   pub of_crate : ℕ
   pub publication : Publication
 
--- The ids under which the rows have the crates and the versions. Both rise, versions in the order of
--- publication. All that rows say of a crate they say by its id.
+-- The ids under which the rows have the crates and the versions. Both rise, versions in the order
+-- of publication. All that rows say of a crate they say by its id.
 pub record Ids : Type 0 where
   pub crates : List StoredCrate
   pub versions : List StoredVersion

@@ -1,4 +1,5 @@
--- The kept summary of a crate: which of its versions is the highest, and how long its index file is.
+-- The kept summary of a crate: which of its versions is the highest, and how long its index file
+-- is.
 use Rattle.std.specs.Prelude.{ℕ, ◌==◌, ◌+◌, Bool, List, Option, map, length, unwrap_or, slice_get, IsPermutation, string_bytes}
 use Rattle.std.specs.FinSet as finset
 use Rattle.std.specs.List.{filter, sum_by}
@@ -31,7 +32,8 @@ abbrev pub top_among : finset.FinSet mark_cmp → List StoredVersion → Option 
 top_among yanked vs = option_and_then (slice_get vs) (top_place (map (marked_of yanked) vs))
 
 abbrev pub length_among : finset.FinSet mark_cmp → List StoredVersion → ℕ
-length_among yanked vs = length (file_text (map (λ v. (v.publication.stem, is_marked yanked v)) vs))
+length_among yanked vs =
+    length (file_text (map (λ v. (v.publication.stem, is_marked yanked v)) vs))
 
 -- the same of the versions of the crate with this id; there the highest is told by its id
 abbrev pub top_of : Ids → finset.FinSet mark_cmp → ℕ → Option StoredVersion

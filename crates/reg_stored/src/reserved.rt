@@ -14,7 +14,8 @@ use sqlite::{Alter, Connection, Error};
 pub fn add<S: Alter>(conn: &mut Connection<S>, canon: &str) -> Result<(), Error>
     requires { IsReady (state S.Store conn.old) }
     ensures stands { Done S.Store conn.new result
-        (Turns (λ ids. with_reserved canon.now) (rows_in S.Store conn.old) (rows_in S.Store conn.new)) }
+        (Turns (λ ids. with_reserved canon.now)
+        (rows_in S.Store conn.old) (rows_in S.Store conn.new)) }
     ensures leaves { Steps S.Store conn.old conn.new result }
 {
     if reserved::is_there(conn, canon)? {
@@ -29,7 +30,8 @@ pub fn add<S: Alter>(conn: &mut Connection<S>, canon: &str) -> Result<(), Error>
 pub fn free<S: Alter>(conn: &mut Connection<S>, canon: &str) -> Result<(), Error>
     requires { IsReady (state S.Store conn.old) }
     ensures stands { Done S.Store conn.new result
-        (Turns (λ ids. without_reserved canon.now) (rows_in S.Store conn.old) (rows_in S.Store conn.new)) }
+        (Turns (λ ids. without_reserved canon.now)
+        (rows_in S.Store conn.old) (rows_in S.Store conn.new)) }
     ensures leaves { Steps S.Store conn.old conn.new result }
 {
     reserved::remove(conn, canon)?;

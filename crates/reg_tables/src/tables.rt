@@ -254,7 +254,6 @@ impl<S: Alter> Tables<S> {
     }
 
     /// Brings the tables to schema 2, in one transaction; whether they were of schema 1.
-    #[tactic(auto, using(crate::proofs::Raising::upgraded, crate::proofs::Raising::commit_undone, crate::proofs::Raising::stops_before))]
     pub fn migrate(&mut self) -> Result<bool, StoreFault>
         requires { AreOurs S.Store self.old }
         ensures which { IfOk result (λ done. IsTrue done ↔

@@ -9,6 +9,7 @@ add-crate a 1 0.1.0 - -> 1
 add-version 1 a 0.2.0 - -> done
 commit -> done
 
+summary 1 -> 1:2:350;
 index 1 -> 350 {\"cksum\":\
 \"e3b0c44298fc1c149afbf4c8996fb92427ae41e4649b934ca495991b7852b855\",\
 \"deps\":[],\"features\":{},\"links\":null,\"name\":\"a\",\"rust_version\":null,\
@@ -21,6 +22,7 @@ index 1 -> 350 {\"cksum\":\
 yank 1 0.1.0 -> done
 commit -> done
 
+summary 1 -> 1:2:349;
 index 1 -> 349 {\"cksum\":\
 \"e3b0c44298fc1c149afbf4c8996fb92427ae41e4649b934ca495991b7852b855\",\
 \"deps\":[],\"features\":{},\"links\":null,\"name\":\"a\",\"rust_version\":null,\
@@ -33,6 +35,7 @@ index 1 -> 349 {\"cksum\":\
 unyank 1 0.1.0 -> done
 commit -> done
 
+summary 1 -> 1:2:350;
 index 1 -> 350 {\"cksum\":\
 \"e3b0c44298fc1c149afbf4c8996fb92427ae41e4649b934ca495991b7852b855\",\
 \"deps\":[],\"features\":{},\"links\":null,\"name\":\"a\",\"rust_version\":null,\
@@ -91,4 +94,85 @@ archive-id 2 -> none";
 #[test]
 fn an_archive_by_its_id(rt: HostRuntime) -> Result<(), Fail> {
     plays(&rt, rt.alloc(), AN_ARCHIVE_BY_ITS_ID)
+}
+
+/// The highest is the greatest that is not yanked, by precedence and not by its place; where all
+/// are yanked it is the greatest of all. A crate that is not there has no summary.
+const THE_HIGHEST_VERSION: &str = "add-account ada -> 1
+add-crate a 1 0.10.0 - -> 1
+add-version 1 a 0.9.0 - -> done
+summary 1 -> 1:1:351;
+yank 1 0.10.0 -> done
+summary 1 -> 1:2:350;
+yank 1 0.9.0 -> done
+summary 1 -> 1:1:349;
+yank 1 0.9.0 -> done
+summary 1 -> 1:1:349;
+unyank 1 0.9.0 -> done
+summary 1 -> 1:2:350;
+summary 2 -> none
+how-many-crates -> 1";
+
+#[test]
+fn the_highest_version(rt: HostRuntime) -> Result<(), Fail> {
+    plays(&rt, rt.alloc(), THE_HIGHEST_VERSION)
+}
+
+/// A change of what is not there is none.
+const WHAT_IS_NOT_THERE: &str = "add-account ada -> 1
+add-crate a 1 0.1.0 - -> 1
+disable 0 -> done
+disable 7 -> done
+revoke 3 -> done
+yank 2 0.1.0 -> done
+yank 1 0.2.0 -> done
+add-owner 2 1 -> done
+remove-owner 2 1 -> done
+restrict 2 -> done
+add-reader 2 1 -> done
+commit -> done
+
+accounts -> 1:ada:-:on;
+owners 1 -> 1:ada:-:on;
+owners 2 -> none
+readers 2 -> none
+restricted 2 -> no
+versions 2 -> none
+archive 2 0.1.0 -> none
+summary 1 -> 1:1:175;";
+
+#[test]
+fn what_is_not_there(rt: HostRuntime) -> Result<(), Fail> {
+    plays(&rt, rt.alloc(), WHAT_IS_NOT_THERE)
+}
+
+/// Readers may be named of a crate that is open, and opening it keeps them.
+const RESTRICT_AND_READERS: &str = "add-account ada Ada -> 1
+add-account bob -> 2
+add-crate a 1 0.1.0 - -> 1
+restricted 1 -> no
+restrict 1 -> done
+restrict 1 -> done
+restricted 1 -> yes
+add-reader 1 2 -> done
+add-reader 1 2 -> done
+readers 1 -> 2:bob:-:on;
+owners 1 -> 1:ada:Ada:on;
+remove-reader 1 1 -> done
+readers 1 -> 2:bob:-:on;
+commit -> done
+
+open 1 -> done
+restricted 1 -> no
+readers 1 -> 2:bob:-:on;
+open 1 -> done
+remove-reader 1 2 -> done
+commit -> done
+
+readers 1 -> none
+owners 1 -> 1:ada:Ada:on;";
+
+#[test]
+fn restrict_and_readers(rt: HostRuntime) -> Result<(), Fail> {
+    plays(&rt, rt.alloc(), RESTRICT_AND_READERS)
 }

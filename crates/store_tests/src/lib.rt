@@ -18,6 +18,8 @@ mod making;
 #[cfg(test)]
 mod memory;
 #[cfg(test)]
+mod old_schema;
+#[cfg(test)]
 mod opening;
 #[cfg(test)]
 mod owners;

@@ -13,7 +13,7 @@ fn an_empty_store(rt: HostRuntime) -> Result<(), Fail> {
 }
 
 const THE_ROW_OF_ABOUT: &str = "make https://index.example/ -> done
-rows SELECT schema, base FROM about -> 1:https://index.example/;";
+rows SELECT schema, base FROM about -> 2:https://index.example/;";
 
 #[test]
 fn the_row_of_about(rt: HostRuntime) -> Result<(), Fail> {

@@ -122,10 +122,11 @@ fn the_first_of_two(rt: HostRuntime) -> Result<(), Fail> {
     checks(&rt, rt.alloc(), THE_FIRST_OF_TWO)
 }
 
-const AN_UNKNOWN_SCHEMA: &str = "UPDATE about SET schema = 1 -> none
+const AN_UNKNOWN_SCHEMA: &str = "UPDATE about SET schema = 2 -> none
 DELETE FROM about -> unknown
 INSERT INTO about (schema, base) VALUES (1, 'https://index.example') -> unknown
-UPDATE about SET schema = 2 -> unknown
+UPDATE about SET schema = 1 -> unknown
+UPDATE about SET schema = 3 -> unknown
 DROP TABLE about -> unknown
 CREATE TABLE more (a INTEGER) -> unknown
 CREATE INDEX names ON crates (name) -> unknown";

@@ -1,7 +1,7 @@
 //! What a call is answered.
 
 use crate::records::{Shown, bytes_text, list, one};
-use reg_tables::{Account, AllRows, Counts, Crate, TokenLists, TokenRows, Version};
+use reg_tables::{Account, AllRows, Counts, Crate, Summary, TokenLists, TokenRows, Version};
 use sqlite::Row;
 use std::alloc::{AllocError, Global};
 
@@ -19,6 +19,8 @@ pub enum Answer {
     Crate(Option<Crate>),
     Crates(Vec<Crate>),
     Versions(Vec<Version>),
+    Summary(Option<Summary>),
+    Number(u64),
     Archive(Option<Vec<u8>>),
     Owners(Vec<Account>),
     All(AllRows),
@@ -30,8 +32,12 @@ fn short(alloc: Global, answer: &Answer) -> Result<String, AllocError> {
         Answer::Id(id) => format!(in alloc; "{id}"),
         Answer::Is(is) => String::from_str(alloc, if *is { "yes" } else { "no" }),
         Answer::Counts(n) => format!(in alloc; "{}:{}:{};", n.accounts, n.tokens, n.crates),
+        Answer::Number(n) => format!(in alloc; "{n}"),
+        Answer::Summary(Some(it)) => {
+            format!(in alloc; "{}:{}:{};", it.crate_id, it.highest, it.index_length)
+        }
         Answer::Archive(Some(bytes)) => bytes_text(alloc, bytes),
-        Answer::Archive(None) => String::from_str(alloc, "none"),
+        Answer::Archive(None) | Answer::Summary(None) => String::from_str(alloc, "none"),
         _ => String::from_str(alloc, "done"),
     }
 }

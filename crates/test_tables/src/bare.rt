@@ -93,6 +93,23 @@ fn adopted<S: Alter>(alloc: Global, conn: Connection<S>) -> (Connection<S>, &'st
     }
 }
 
+/// Tables are taken over, brought to schema 2, and given back: whether they were of schema 1.
+fn migrated<S: Alter>(alloc: Global, conn: Connection<S>) -> (Connection<S>, &'static str) {
+    if !conn.is_autocommit() {
+        return (conn, "a transaction is open");
+    }
+    match Tables::adopt(alloc, conn) {
+        Ok(mut tables) => {
+            let found = match tables.migrate() {
+                Ok(done) => yes(done),
+                Err(StoreFault) => "fault",
+            };
+            (tables.into_connection(), found)
+        }
+        Err((fault, conn)) => (conn, made(Err(fault))),
+    }
+}
+
 /// Tables are made, and given back.
 fn tables_made<S: Alter>(conn: Connection<S>, base: &str) -> (Connection<S>, &'static str) {
     match Tables::make(conn, base) {
@@ -109,6 +126,10 @@ fn answered<S: Alter + Drop>(
 ) -> (Connection<S>, Result<String, AllocError>) {
     if line == "adopt" {
         let (conn, found) = adopted(alloc, conn);
+        return (conn, String::from_str(alloc, found));
+    }
+    if line == "migrate" {
+        let (conn, found) = migrated(alloc, conn);
         return (conn, String::from_str(alloc, found));
     }
     if let Some(base) = line.strip_prefix("make-tables ") {

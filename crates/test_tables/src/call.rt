@@ -13,6 +13,7 @@ pub enum AccountCall<'a> {
     ByLogin(&'a str),
     All,
     Counts,
+    Crates,
 }
 
 /// A token that is added.
@@ -64,8 +65,19 @@ pub enum CrateCall<'a> {
     Yank(u32, &'a str, bool),
     All,
     Versions(u32),
+    Summary(u32),
     Archive(u32, &'a str),
     ArchiveWithId(u64),
+}
+
+/// A call on who reads a crate, and on whether it is restricted.
+#[derive(Clone, Copy)]
+pub enum ReaderCall {
+    Restrict(u32, bool),
+    IsRestricted(u32),
+    Add(u32, u32),
+    Remove(u32, u32),
+    All(u32),
 }
 
 /// A call on names and on owners.
@@ -95,5 +107,6 @@ pub enum Call<'a> {
     Token(TokenCall),
     Crate(CrateCall<'a>),
     Name(NameCall),
+    Reader(ReaderCall),
     Text(TextCall<'a>),
 }

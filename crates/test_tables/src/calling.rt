@@ -4,7 +4,7 @@ ghost use Rattle.std.specs.Prelude.{◌≡◌};
 ghost use Rattle.reg_tables.specs.Works.{IsAtWork};
 
 use crate::answer::Answer;
-use crate::call::{AccountCall, Call, CrateCall, NameCall, TextCall, TokenCall};
+use crate::call::{AccountCall, Call, CrateCall, NameCall, ReaderCall, TextCall, TokenCall};
 use reg_tables::{StoreFault, Work};
 use sqlite::{Alter, params};
 use std::alloc::Global;
@@ -30,6 +30,7 @@ fn on_accounts<S: Alter>(
         AccountCall::ByLogin(login) => work.account_by_login(login).map(Answer::Account),
         AccountCall::All => work.all_accounts(alloc).map(Answer::Accounts),
         AccountCall::Counts => work.counts().map(Answer::Counts),
+        AccountCall::Crates => work.crates().map(Answer::Number),
     }
 }
 
@@ -75,6 +76,7 @@ fn on_crates<S: Alter>(
         CrateCall::Yank(id, text, yanked) => done(work.set_yanked(*id, text, *yanked)),
         CrateCall::All => work.all_crates(alloc).map(Answer::Crates),
         CrateCall::Versions(id) => work.versions_of(alloc, *id).map(Answer::Versions),
+        CrateCall::Summary(id) => work.summary_of(*id).map(Answer::Summary),
         CrateCall::Archive(id, text) => work.archive_of(*id, text).map(Answer::Archive),
         CrateCall::ArchiveWithId(id) => work.archive_with_id(*id).map(Answer::Archive),
     }
@@ -97,6 +99,24 @@ fn on_names<S: Alter>(
         NameCall::AddOwner(id, account) => done(work.add_owner(*id, *account)),
         NameCall::RemoveOwner(id, account) => done(work.remove_owner(*id, *account)),
         NameCall::Owners(id) => work.owners_of(alloc, *id).map(Answer::Owners),
+    }
+}
+
+fn on_readers<S: Alter>(
+    alloc: Global,
+    work: &mut Work<'_, S>,
+    call: ReaderCall,
+) -> Result<Answer, StoreFault>
+    requires { IsAtWork S.Store work.old }
+    ensures at_work { IsAtWork S.Store work.new }
+    ensures same_reference { work.new.tables.ghost_name ≡ work.old.tables.ghost_name }
+{
+    match call {
+        ReaderCall::Restrict(id, restricted) => done(work.set_restricted(id, restricted)),
+        ReaderCall::IsRestricted(id) => work.is_restricted(id).map(Answer::Is),
+        ReaderCall::Add(id, account) => done(work.add_reader(id, account)),
+        ReaderCall::Remove(id, account) => done(work.remove_reader(id, account)),
+        ReaderCall::All(id) => work.readers_of(alloc, id).map(Answer::Owners),
     }
 }
 
@@ -136,6 +156,7 @@ pub fn perform<S: Alter>(
         Call::Token(call) => on_tokens(alloc, work, call),
         Call::Crate(call) => on_crates(alloc, work, call),
         Call::Name(call) => on_names(alloc, work, call),
+        Call::Reader(call) => on_readers(alloc, work, *call),
         Call::Text(call) => on_texts(alloc, work, *call),
     }
 }

@@ -1,6 +1,8 @@
 //! Reading a call's words.
 
-use crate::call::{AccountCall, Call, CrateCall, NameCall, NewToken, Release, TextCall, TokenCall};
+use crate::call::{
+    AccountCall, Call, CrateCall, NameCall, NewToken, ReaderCall, Release, TextCall, TokenCall,
+};
 use crate::fault::Fault;
 use reg_line::{Digest, digest_of, stem};
 use reg_manifest::{Manifest, read_manifest};
@@ -37,6 +39,7 @@ fn account_call<'a>(words: &[&'a str]) -> Option<AccountCall<'a>> {
     match words {
         ["accounts"] => Some(AccountCall::All),
         ["counts"] => Some(AccountCall::Counts),
+        ["how-many-crates"] => Some(AccountCall::Crates),
         ["add-account", login, name] => Some(AccountCall::Add(login, Some(name))),
         [word, of] => one_account(word, of),
         _ => None,
@@ -184,6 +187,7 @@ fn old_crate<'a>(words: &[&'a str]) -> Option<CrateCall<'a>> {
     match words {
         ["crates"] => Some(CrateCall::All),
         ["versions", id] => Some(CrateCall::Versions(id.parse().ok()?)),
+        ["summary", id] => Some(CrateCall::Summary(id.parse().ok()?)),
         ["archive-id", id] => Some(CrateCall::ArchiveWithId(id.parse().ok()?)),
         [word, id, text] => old_version(word, id.parse().ok()?, text),
         _ => None,
@@ -228,6 +232,20 @@ fn name_call(words: &[&str]) -> Option<NameCall> {
     }
 }
 
+fn reader_call(words: &[&str]) -> Option<ReaderCall> {
+    Some(match words {
+        ["restrict", id] => ReaderCall::Restrict(id.parse().ok()?, true),
+        ["open", id] => ReaderCall::Restrict(id.parse().ok()?, false),
+        ["restricted", id] => ReaderCall::IsRestricted(id.parse().ok()?),
+        ["readers", id] => ReaderCall::All(id.parse().ok()?),
+        ["add-reader", id, account] => ReaderCall::Add(id.parse().ok()?, account.parse().ok()?),
+        ["remove-reader", id, account] => {
+            ReaderCall::Remove(id.parse().ok()?, account.parse().ok()?)
+        }
+        _ => return None,
+    })
+}
+
 fn text_call<'a>(words: &[&'a str]) -> Option<TextCall<'a>> {
     Some(match words {
         ["all-rows"] => TextCall::AllRows,
@@ -241,6 +259,9 @@ fn text_call<'a>(words: &[&'a str]) -> Option<TextCall<'a>> {
 fn short_call<'a>(words: &[&'a str]) -> Option<Call<'a>> {
     if let Some(call) = account_call(words) {
         return Some(Call::Account(call));
+    }
+    if let Some(call) = reader_call(words) {
+        return Some(Call::Reader(call));
     }
     if let Some(call) = name_call(words) {
         return Some(Call::Name(call));

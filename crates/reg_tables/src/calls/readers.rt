@@ -14,7 +14,8 @@ impl<S: Alter> Work<'_, S> {
     pub fn add_reader(&mut self, crate_id: u32, account: u32) -> Result<(), StoreFault>
         requires { IsAtWork S.Store self.old }
         ensures added { Carried S.Store self.new result
-            (AddsReader crate_id account (rows_seen S.Store self.old) (rows_seen S.Store self.new)) }
+            (AddsReader crate_id account
+            (rows_seen S.Store self.old) (rows_seen S.Store self.new)) }
         ensures leaves { IsCall S.Store result self.old self.new }
     {
         call!(self, readers::add(&mut self.tables.conn, crate_id, account))
