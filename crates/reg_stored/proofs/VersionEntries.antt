@@ -1,4 +1,6 @@
 -- The versions of a crate, as a selection shows them.
+use Rattle.reg_names.specs.Names.{canon}
+use Rattle.sqlite.specs.Order.{Row}
 use Rattle.reg_stored.specs.Changes.{told_of}
 use Rattle.std.proofs.Common.{None, Some, Option, ◌≡◌, ◌==◌, inl, inr, ℕ, ◌<◌, List, [], ◌∷◌, map, Bool, true, false, nat_lt, Less, Equal, Greater, refl, sym, ap, subst, ◌∙◌, arith, Option, Some}
 use Rattle.std.specs.FinSet as finset
@@ -13,16 +15,16 @@ use Rattle.sqlite_trees.specs.Tree.{IsAscending}
 use Rattle.sqlite_trees.proofs.ListLemmas.{ascending-filter, ascending-map, ascending_weaker, all_from_map, IsPermutation-filter}
 use Rattle.reg_model.specs.Registry.{Text as Words, Publication, mark_cmp}
 use Rattle.reg_model.specs.Crates.{collides}
-use Rattle.reg_schema.specs.Rows.{IsInOrder, by_column}
+use Rattle.reg_schema.specs.Rows.{IsInOrder, by_column, mark}
 use Rattle.reg_schema.proofs.Queries.{same_filter, maps_twice}
 use Rattle.reg_statements.specs.declared.versions.Version.{Version}
 use Rattle.reg_statements.specs.Versions.{columns_of_version}
-use Rattle.reg_stored.specs.Entries.{shown_version, version_shown}
+use Rattle.reg_stored.specs.Entries.{shown_version, version_shown, entry_row}
 use Rattle.reg_stored.specs.Stands.{StoredVersion, row_of_version, StandCrates, Ids, spelling_at}
 use Rattle.reg_schema.specs.Tests.{is_number, shows}
 use Rattle.reg_stored.proofs.AccountEntries.{words_are, text_is, mark_is, heads, tails}
-use Rattle.reg_stored.proofs.CrateLemmas.{same_crate, none_of, there_at}
-use Rattle.reg_model.proofs.Members.{IsIn, none_pass}
+use Rattle.reg_stored.proofs.CrateLemmas.{same_crate, none_of, there_at, same_bytes}
+use Rattle.reg_model.proofs.Members.{IsIn, none_pass, filtered_passes, map_same}
 use Rattle.reg_schema.proofs.Permutes.{filter_map}
 use Rattle.reg_stored.proofs.Selected.{shown_in_turn, each_part, column_total, number_below}
 use Rattle.reg_stored.proofs.Standing.{same_number}
@@ -90,6 +92,42 @@ module _ (ids : Ids) (ps : List Publication) (yanked : finset.FinSet mark_cmp) (
       let named = same_passes _ (λ v. collides v.publication.name name) ids.versions (same_crate ids ps yanked db h id name there) in
       ap (map (λ v. version_shown yanked v.publication)) named ∙ sym (maps_twice (λ v. v.publication) (version_shown yanked) (filter (λ v. collides v.publication.name name) ids.versions))
       ∙ ap (map (version_shown yanked)) (sym (filter_map (λ v. v.publication) (λ p. collides p.name name) ids.versions) ∙ ap (filter (λ p. collides p.name name)) h.published)
+
+  -- the stems and the marks of the crate with this id; none where there is no crate
+  entry_shown : StoredVersion → Row
+  entry_shown v = Blob v.publication.stem ∷ mark (finset.contains yanked (canon v.publication.name, v.publication.version)) ∷ []
+
+  its_stems : (id : ℕ) (out : List Row) → IsInOrder (by_column 0) (filter (is_number 2 id) (db 11)) (shows (6 ∷ 8 ∷ [])) out → out ≡ map entry_shown (filter (λ v. v.of_crate == id) ids.versions)
+  unfolding entry_shown
+  its_stems id out found =
+      let row = row_of_version yanked in
+      let its = filter (λ v. v.of_crate == id) ids.versions in
+      let rows : IsPermutation (map row its) (filter (is_number 2 id) (db 11)) =
+      subst (λ ys. IsPermutation ys (filter (is_number 2 id) (db 11))) (filter_map row (is_number 2 id) ids.versions ∙ ap (map row) (same_filter _ _ (λ v. same_number v.of_crate id) ids.versions))
+      (IsPermutation-filter (is_number 2 id) (map row ids.versions) (db 11) h.version_rows) in
+      let up = rows_rise yanked its (ascending-filter (λ v w. v.id < w.id) (λ v. v.of_crate == id) ids.versions (ids_rise yanked ids.versions h.rising)) in
+      shown_in_turn row (shows (6 ∷ 8 ∷ [])) (by_column 0) (column_total 0) its (filter (is_number 2 id) (db 11)) out rows up found
+
+  entry_named : Words → Publication → Row
+  entry_named name p = Blob p.stem ∷ mark (finset.contains yanked (canon name, p.version)) ∷ []
+
+  its_entries : (id : ℕ) (name : Words) → IsIn (id, name) ids.crates → map entry_shown (filter (λ v. v.of_crate == id) ids.versions) ≡ map (entry_named name) (filter (λ p. collides p.name name) ps)
+  unfolding entry_shown entry_named
+  its_entries id name there =
+      let its = filter (λ v. collides v.publication.name name) ids.versions in
+      let named = same_passes _ (λ v. collides v.publication.name name) ids.versions (same_crate ids ps yanked db h id name there) in
+      let same = map_same entry_shown (λ v. entry_named name v.publication) its (λ v i.
+      ap (λ c. Blob v.publication.stem ∷ mark (finset.contains yanked (c, v.publication.version)) ∷ []) (same_bytes (canon v.publication.name) (canon name) (filtered_passes (λ v. collides v.publication.name name) ids.versions v i))) in
+      ap (map entry_shown) named ∙ same ∙ sym (maps_twice (λ v. v.publication) (entry_named name) its) ∙ ap (map (entry_named name)) (sym (filter_map (λ v. v.publication) (λ p. collides p.name name) ids.versions) ∙ ap (filter (λ p. collides p.name name)) h.published)
+
+  pub lists_stems : (id : ℕ) (out : List Row) → IsInOrder (by_column 0) (filter (is_number 2 id) (db 11)) (shows (6 ∷ 8 ∷ [])) out
+      → out ≡ map entry_row (told_of (spelling_at ids id) [] (λ name. map (λ p. (p.stem, finset.contains yanked (canon name, p.version))) (filter (λ p. collides p.name name) ps)))
+  unfolding entry_named
+  lists_stems id out found = split (spelling_at ids id) refl
+    where
+      split : (o : Option Words) → spelling_at ids id ≡ o → out ≡ map entry_row (told_of o [] (λ name. map (λ p. (p.stem, finset.contains yanked (canon name, p.version))) (filter (λ p. collides p.name name) ps)))
+      split None none = its_stems id out found ∙ ap (map entry_shown) (none_pass (λ _ _. true) (λ v. v.of_crate == id) ids.versions (none_of ids ps yanked db h id none))
+      split (Some name) at = its_stems id out found ∙ its_entries id name (there_at ids id name at) ∙ sym (maps_twice (λ p. (p.stem, finset.contains yanked (canon name, p.version))) entry_row (filter (λ p. collides p.name name) ps))
 
   -- the versions of the crate with this id; none where there is no crate
   pub lists_versions : (id : ℕ) (list : List Version) → IsInOrder (by_column 0) (filter (is_number 2 id) (db 11)) (shows shown_places) (map columns_of_version list)

@@ -1,9 +1,13 @@
 -- What the records of the program stand for in the registry.
-use Rattle.std.specs.Prelude.{ℕ, Bool, List, [], ◌∷◌, Option, Some, None, string_bytes}
+use Rattle.std.specs.Prelude.{map, ℕ, Bool, List, [], ◌∷◌, Option, Some, None, string_bytes}
 use Rattle.std.specs.Option.{option_map}
 use Rattle.std.specs.FinSet as finset
 use Rattle.reg_names.specs.Names.{canon}
 use Rattle.reg_versions.specs.Versions.{release_key_of}
+use Rattle.sqlite.specs.Order.{Row}
+use Rattle.sqlite.specs.declared.types.Value.TheVariants.{Blob}
+use Rattle.reg_schema.specs.Rows.{mark}
+use Rattle.reg_model.specs.Crates.{is_yanked, versions}
 use Rattle.reg_model.specs.Registry as model
 use Rattle.reg_model.specs.Registry.{mark_cmp}
 use Rattle.reg_statements.specs.declared.accounts.Account.{Account}
@@ -63,3 +67,10 @@ version_shown yanked p =
       yanked =
           finset.contains yanked (canon p.name, p.version);
     }
+
+-- the entries of a crate's index file, and how one is shown
+abbrev pub entries : model.Registry → model.Text → List (model.Text × Bool)
+entries s n = map (λ p. (p.stem, is_yanked s n p.version)) (versions s n)
+
+abbrev pub entry_row : model.Text × Bool → Row
+entry_row e = Blob e.0 ∷ mark e.1 ∷ []

@@ -13,6 +13,7 @@ pub mod all_rows;
 pub mod counts;
 pub mod crate_lists;
 pub mod crates;
+pub mod laws;
 pub mod owners;
 pub mod readers;
 pub mod reserved;

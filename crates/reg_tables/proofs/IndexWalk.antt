@@ -31,9 +31,3 @@ module _ {S : Type 0} (g : Ghosts S) (first now : Held S) (of_crate : ℕ) (rows
   -- the walk has come to its end
   pub entries_read : (last : State) → Shown entries_text (Int (pos of_crate) ∷ []) (state g now) last rows → AreStemsOf of_crate (state g first).now.trees rows
   entries_read last h = back rows (stems (state g now) of_crate schema_still last rows h)
-
-  -- what was given begins what is there
-  pub entries_begun : (tail : List Row) × AreStemsOf of_crate (state g first).now.trees (rows ++ tail)
-  entries_begun =
-      let all = stems_begun (state g now) of_crate schema_still rows same_now.0.is_open (given_begin g entries_text (Int (pos of_crate) ∷ []) now rows (w.given clean)) in
-      (all.0, back (rows ++ all.0) all.1)
