@@ -1,7 +1,7 @@
 //! Every call of the tables and of a transaction, each with its answer over the prepared registry.
 
-/// Three accounts, the last disabled, a token, a crate of two versions that two own, and a
-/// reserved name.
+/// Three accounts, the last disabled, a token, a crate of two versions that two own and one reads,
+/// and a reserved name.
 pub(crate) const PREPARED: &str = "add-account ada Ada -> 1
 add-account bob -> 2
 add-account cy -> 3
@@ -11,6 +11,7 @@ add-crate first 1 0.1.0 abc it-nets -> 1
 add-version 1 first 0.2.0 abc -> done
 yank 1 0.2.0 -> done
 add-owner 1 2 -> done
+add-reader 1 2 -> done
 reserve kept -> done
 commit -> done";
 
@@ -28,6 +29,9 @@ yank 1 0.1.0 -> done
 unyank 1 0.2.0 -> done
 add-owner 1 3 -> done
 remove-owner 1 1 -> done
+restrict 1 -> done
+add-reader 1 3 -> done
+remove-reader 1 2 -> done
 reserve acme -> done
 unreserve kept -> done";
 
@@ -45,6 +49,10 @@ crates -> 1:first:first;
 archive 1 0.1.0 -> abc
 archive-id 2 -> abc
 owners 1 -> 1:ada:Ada:on;2:bob:-:on;
+readers 1 -> 2:bob:-:on;
+restricted 1 -> no
+summary 1 -> 1:1:357;
+how-many-crates -> 1
 reserved kept -> yes
 logins -> 1:ada:Ada;2:bob:-;3:cy:-;
 id-of bob -> 2;

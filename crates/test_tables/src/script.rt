@@ -228,10 +228,14 @@ fn add_rows<S: Alter>(alloc: Global, work: &mut Work<'_, S>, text: &mut String) 
     add_answer(alloc, work, "all-rows", text)?;
     add_answer(alloc, work, "archive-id 1", text)?;
     add_answer(alloc, work, "archive-id 2", text)?;
-    add_answer(alloc, work, "archive-id 3", text)
+    add_answer(alloc, work, "archive-id 3", text)?;
+    add_answer(alloc, work, "readers 1", text)?;
+    add_answer(alloc, work, "restricted 1", text)?;
+    add_answer(alloc, work, "summary 1", text)
 }
 
-/// All rows and the archives of the first versions, as a text.
+/// All rows, the archives of the first versions, and what else is kept of the first crate, as a
+/// text.
 pub fn rows_text<S: Alter>(alloc: Global, tables: &mut Tables<S>) -> Result<String, Fault>
     requires { AreOurs S.Store tables.old }
     ensures { AreOurs S.Store tables.new }
