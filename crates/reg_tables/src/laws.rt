@@ -19,8 +19,8 @@ pub fn migrate_law()
         → StandsBy ids s new.trees }
 {}
 
-/// What `index_rows` has given so far begins all stems and marks of the crate; what these are in the
-/// registry says `entries_law` of `reg_stored`.
+/// What `index_rows` has given so far begins all stems and marks of the crate; what these are in
+/// the registry says `entries_law` of `reg_stored`.
 pub fn walk_law<S: Alter>(conn: &Connection<S>)
     ensures { HasCleanDisk (state S.Store conn.now) → (state S.Store conn.now).now.schema ≡ ours
         → IsTrue (state S.Store conn.now).is_open → (id : _) (rows : _)
