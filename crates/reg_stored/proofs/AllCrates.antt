@@ -51,7 +51,7 @@ all_rise c [] up apart = tt
 all_rise c (d ∷ cs) up apart = (text_rises (canon_of c) (canon_of d) up.0 apart.0, all_rise c cs up.1 apart.1)
 
 -- what does not fall and is distinct rises
-canons_rise : (cs : List StoredCrate) → IsAscending (λ c d. is_gt (by_column 2 (row_of_crate c) (row_of_crate d)) ≡ false) cs → IsDistinct (on canon_of bytes_eq) cs → IsStrictlySortedBy text_cmp (map canon_of cs)
+pub canons_rise : (cs : List StoredCrate) → IsAscending (λ c d. is_gt (by_column 2 (row_of_crate c) (row_of_crate d)) ≡ false) cs → IsDistinct (on canon_of bytes_eq) cs → IsStrictlySortedBy text_cmp (map canon_of cs)
 unfolding IsStrictlySortedBy IsDistinct
 canons_rise [] up apart = tt
 canons_rise (c ∷ cs) up apart = (all_rise c cs up.0 apart.0, canons_rise cs up.1 apart.1)

@@ -3,9 +3,8 @@ use Rattle.std.proofs.Common.{◌≡◌, ◌==◌, inl, inr, List, [], ◌∷◌
 use Rattle.std.specs.Prelude.{IfSome, string_bytes}
 use Rattle.std.specs.Option.{option_map}
 use Rattle.std.specs.FinSet as finset
-use Rattle.std.specs.List.{filter, find, list_any}
+use Rattle.std.specs.List.{filter, find}
 use Rattle.std.specs.Str.{bytes_eq}
-use Rattle.std.proofs.lemmas.Bool.{and_parts}
 use Rattle.sqlite.specs.Tree.{Trees}
 use Rattle.reg_names.specs.Names.{canon}
 use Rattle.reg_model.specs.Registry.{Text as Words, Publication, mark_cmp}
@@ -15,11 +14,11 @@ use Rattle.reg_statements.specs.declared.crates.Crate.{Crate}
 use Rattle.reg_statements.specs.Crates.{crate_columns}
 use Rattle.reg_stored.specs.Entries.{one_of, entry_of_crate}
 use Rattle.reg_schema.specs.Shown.{shown_of}
-use Rattle.reg_stored.specs.Stands.{StoredCrate, StoredVersion, row_of_crate, is_of, StandCrates, Ids, spelling_at}
+use Rattle.reg_stored.specs.Stands.{StoredCrate, StoredVersion, row_of_crate, StandCrates, Ids, spelling_at}
 use Rattle.reg_schema.specs.Tests.{is_text, shows}
 use Rattle.reg_stored.proofs.AccountEntries.{same_text, number_is, words_are, heads, tails}
-use Rattle.reg_stored.proofs.CrateLemmas.{same_bytes, bytes_same, crate_of, spelled_at}
-use Rattle.reg_model.proofs.Members.{IsIn, any_in, all_in, filtered_passes, in_filter}
+use Rattle.reg_stored.proofs.CrateLemmas.{same_bytes, bytes_same, crate_of, one_by_canon, spelled_at, version_of}
+use Rattle.reg_model.proofs.Members.{IsIn, filtered_passes, in_filter}
 use Rattle.reg_stored.proofs.Selected.{selected_one}
 
 pub kept : {X : Type 0} (p : X → Bool) (xs : List X) (x : X) → IsIn x xs → p x ≡ true → IsIn x (filter p xs)
@@ -74,6 +73,19 @@ module _ (ids : Ids) (ps : List Publication) (yanked : finset.FinSet mark_cmp) (
       let e0 = entry_of_crate x in
       spelled_at ids ps yanked db h e0.0 e0.1 (in_filter (named c) ids.crates e0 (subst (IsIn e0) (sym e) (inl refl)))
 
+  -- the first publication of a crate that is stored has its spelling
+  pub first_spelled : (x : StoredCrate) → IsIn x ids.crates → (n : Words) → canon n ≡ canon x.1 → first_of ps n ≡ Some x.1
+  first_spelled x i n at =
+      let of = version_of ids ps yanked db h x i in
+      let met = bytes_same (canon of.0.publication.name) (canon n) (ap canon (sym of.3) ∙ sym at) in
+      subst (λ qs. first_of qs n ≡ Some x.1) h.published (some_first n x.1 ids.versions spelled of.0 of.1 met)
+    where
+      spelled : (v : StoredVersion) → IsIn v ids.versions → collides v.publication.name n ≡ true → v.publication.name ≡ x.1
+      spelled v j met =
+          let c = crate_of ids ps yanked db h v j in
+          let same = one_by_canon ids ps yanked db h c.0 x c.1 i (ap canon c.3 ∙ same_bytes (canon v.publication.name) (canon n) met ∙ at) in
+          sym c.3 ∙ ap (λ d. d.1) same
+
   -- and that of the first publication
   pub crate_first : (c n : Words) (found : Option Crate) → canon n ≡ c → filter (named c) ids.crates ≡ one_of (option_map entry_of_crate found) → option_map (λ x. string_bytes x.name) found ≡ first_of ps n
   crate_first c n None at e = subst (λ qs. None ≡ first_of qs n) h.published (sym (none_first n ids.versions none))
@@ -82,30 +94,8 @@ module _ (ids : Ids) (ps : List Publication) (yanked : finset.FinSet mark_cmp) (
       none v i =
           let of = crate_of ids ps yanked db h v i in
           not_true _ (λ met. subst (IsIn of.0) e (in_named c of.0 of.1 (bytes_same _ _ (ap canon of.3 ∙ same_bytes _ _ met ∙ at))))
-  crate_first c n (Some x) at e = subst (λ qs. Some e0.1 ≡ first_of qs n) h.published (sym (some_first n e0.1 ids.versions spelled of.0 of.1 met))
-    where
-      e0 : StoredCrate
-      e0 = entry_of_crate x
-
-      shown : IsIn e0 (filter (named c) ids.crates)
-      shown = subst (IsIn e0) (sym e) (inl refl)
-
-      there : IsIn e0 ids.crates
-      there = in_filter (named c) ids.crates e0 shown
-
-      spelled : (v : StoredVersion) → IsIn v ids.versions → collides v.publication.name n ≡ true → v.publication.name ≡ e0.1
-      spelled v i met =
-          let its = crate_of ids ps yanked db h v i in
-          only its.0 its.3 (subst (IsIn its.0) e (in_named c its.0 its.1 (bytes_same _ _ (ap canon its.3 ∙ same_bytes _ _ met ∙ at))))
-        where
-          only : (y : StoredCrate) → y.1 ≡ v.publication.name → IsIn y (e0 ∷ []) → v.publication.name ≡ e0.1
-          only y is (inl same) = sym is ∙ ap (λ d. d.1) (sym same)
-          only y is (inr none) = absurd none
-
-      of : (v : StoredVersion) × IsIn v ids.versions × (is_of e0 v ≡ true)
-      of = any_in (is_of e0) ids.versions (all_in (λ c. list_any (is_of c) ids.versions) ids.crates e0 h.used there)
-
-      met : collides of.0.publication.name n ≡ true
-      met =
-          let parts = and_parts (e0.0 == of.0.of_crate) (bytes_eq e0.1 of.0.publication.name) of.2 in
-          bytes_same (canon of.0.publication.name) (canon n) (ap canon (sym (same_bytes e0.1 of.0.publication.name parts.1)) ∙ same_bytes (canon e0.1) c (filtered_passes (named c) ids.crates e0 shown) ∙ sym at)
+  crate_first c n (Some x) at e =
+      let e0 : StoredCrate = entry_of_crate x in
+      let shown : IsIn e0 (filter (named c) ids.crates) = subst (IsIn e0) (sym e) (inl refl) in
+      let is = filtered_passes (named c) ids.crates e0 shown in
+      sym (first_spelled e0 (in_filter (named c) ids.crates e0 shown) n (at ∙ sym (same_bytes (canon e0.1) c is)))

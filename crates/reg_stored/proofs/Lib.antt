@@ -1,30 +1,30 @@
-mod AccountEntries
+pub mod AccountEntries
 mod Additions
-mod AllCrates
+pub mod AllCrates
 mod ArchiveEntries
 mod CrateChanges
-mod CrateCounts
-mod CrateLemmas
-mod CrateNames
+pub mod CrateCounts
+pub mod CrateLemmas
+pub mod CrateNames
 mod CratesStand
 mod Dropped
-mod FoundTokens
+pub mod FoundTokens
 mod NextId
 mod MarkedStand
-mod Numbered
+pub mod Numbered
 mod PairsStand
 mod PairChanges
-mod PairEntries
+pub mod PairEntries
 pub mod Readings
 mod Removed
 mod ReservedChanges
 pub mod Results
 mod Rising
-mod Rowids
+pub mod Rowids
 mod ScopeRows
-mod Selected
-mod Standing
-mod SummaryRows
+pub mod Selected
+pub mod Standing
+pub mod SummaryRows
 pub mod SummaryLaws
 mod SummaryFound
 mod SummarySteps
@@ -32,8 +32,8 @@ mod SummaryChanges
 mod SummaryTops
 pub mod Stays
 mod TokenChanges
-mod TokenEntries
-mod VersionEntries
+pub mod TokenEntries
+pub mod VersionEntries
 pub mod Withins
 mod Went
 mod Yanks

@@ -1,0 +1,121 @@
+-- What the rows say of one crate of a registry.
+use Rattle.std.proofs.Common.{◌≡◌, ◌==◌, ℕ, zero, suc, pos, Bool, true, ◌&&◌, ◌||◌, not, List, [], ◌∷◌, map, Option, Some, None, inl, inr, refl, sym, ap, ◌∙◌}
+use Rattle.std.specs.Prelude.{nat_eq, slice_get}
+use Rattle.std.specs.FinSet as finset
+use Rattle.std.specs.List.{filter, list_any}
+use Rattle.std.specs.Option.{option_and_then, option_map}
+use Rattle.std.specs.Ordering.{on}
+use Rattle.std.specs.Str.{bytes_eq}
+use Rattle.std.proofs.lemmas.Bool.{and_parts, eq-eqb, eqb-true}
+use Rattle.std.proofs.lemmas.List.Sorted.{list_any-IsPermutation}
+use Rattle.sqlite.specs.Collation.TheVariants.{Binary}
+use Rattle.sqlite.specs.Order.{Row, column}
+use Rattle.sqlite.specs.Tree.{Trees}
+use Rattle.sqlite.specs.declared.types.Value.TheVariants.{Int}
+use Rattle.sqlite_schema.specs.Rules.{equal}
+use Rattle.reg_names.specs.Names.{canon}
+use Rattle.reg_versions.specs.Precedence.{Marked, top_place}
+use Rattle.reg_versions.proofs.TopPlace.{top_is_top}
+use Rattle.reg_model.specs.Crates.{has_crate, sees}
+use Rattle.reg_model.specs.Registry.{Registry, mark_cmp, owner_cmp}
+use Rattle.reg_model.specs.Search.{top}
+use Rattle.reg_model.proofs.Canons.{canon-canon}
+use Rattle.reg_model.proofs.Seen.{sees_alike}
+use Rattle.reg_model.proofs.Lists.{any_same, list_any_map}
+use Rattle.reg_model.proofs.Members.{IsIn, any_in, all_in, each_in, in_any, in_filter, one_passes}
+use Rattle.reg_schema.proofs.Permutes.{one_row}
+use Rattle.reg_schema.proofs.Queries.{equals_int, same_filter}
+use Rattle.reg_statements.specs.Restricted.{restricted_row}
+use Rattle.reg_stored.specs.Stands.{Holds, Ids, StandPairs, StoredCrate, StoredPair, StoredVersion, columns_of_stored, is_of, is_paired, row_of_version, spelling_at}
+use Rattle.reg_stored.specs.Summaries.{its_versions, marked_of, row_of_summary, top_among, top_of}
+use Rattle.reg_stored.proofs.CrateCounts.{crate_has}
+use Rattle.reg_stored.proofs.CrateLemmas.{apart_by, spelled_at, text_itself}
+use Rattle.reg_stored.proofs.CrateNames.{kept}
+use Rattle.reg_stored.proofs.Rowids.{any_columns, first_column, second_column}
+use Rattle.reg_stored.proofs.Standing.{same_number}
+use Rattle.reg_stored.proofs.SummaryLaws.{top_named}
+use Rattle.reg_stored.proofs.SummaryRows.{got_map}
+use Rattle.reg_search.proofs.Among.{among_held}
+use Rattle.reg_search.proofs.Tops.{there_is_top}
+
+-- SQL's = on two ids
+pub same_id : (n m : ℕ) → equal Binary (Int (pos n)) (Int (pos m)) ≡ (n == m)
+same_id n m = equals_int (Int (pos n)) (pos m) ∙ same_number n m
+
+got_in : {X : Type 0} (xs : List X) (k : ℕ) (x : X) → slice_get xs k ≡ Some x → IsIn x xs
+got_in [] k x h = cc
+got_in (y ∷ xs) zero x h = let same : y ≡ x = cc h in inl same
+got_in (y ∷ xs) (suc k) x h = inr (got_in xs k x h)
+
+-- versions of which there is one have a highest
+top_found : (yanked : finset.FinSet mark_cmp) (vs : List StoredVersion) (w : StoredVersion) → IsIn w vs → (v : StoredVersion) × IsIn v vs × (top_among yanked vs ≡ Some v)
+top_found yanked [] w i = absurd i
+top_found yanked (z ∷ vs) w i = let t = there_is_top (marked_of yanked z) (map (marked_of yanked) vs) in at t.0 t.1 (slice_get (z ∷ vs) t.0) refl
+  where
+    marks : List Marked
+    marks = map (marked_of yanked) (z ∷ vs)
+
+    at : (k : ℕ) → top_place (map (marked_of yanked) (z ∷ vs)) ≡ Some k → (o : Option StoredVersion) → slice_get (z ∷ vs) k ≡ o → (v : StoredVersion) × IsIn v (z ∷ vs) × (top_among yanked (z ∷ vs) ≡ Some v)
+    at k e (Some v) got = (v, got_in (z ∷ vs) k v got, ap (option_and_then (slice_get (z ∷ vs))) e ∙ got)
+    at k e None got =
+        let is = (top_is_top (map (marked_of yanked) (z ∷ vs)) k).0 e in
+        let none : Some is.0 ≡ None = sym is.1 ∙ got_map (marked_of yanked) k (z ∷ vs) ∙ ap (option_map (marked_of yanked)) got in
+        cc none
+
+module _ (ids : Ids) (s : Registry) (db : Trees) (h : Holds ids s db) (x : StoredCrate) (i : IsIn x ids.crates) where
+  at : spelling_at ids x.0 ≡ Some x.1
+  at = spelled_at ids s.publications s.yanked db h.stands.crates x.0 x.1 i
+
+  pub its_row : (test : Row → Bool) → ((c : StoredCrate) → test (row_of_summary ids s.yanked c) ≡ (c.0 == x.0)) → filter test (db 16) ≡ row_of_summary ids s.yanked x ∷ []
+  its_row test same =
+      one_row (row_of_summary ids s.yanked) test x ids.crates (db 16) h.stands.summaries.are
+      (same_filter (λ c. test (row_of_summary ids s.yanked c)) (λ c. c.0 == x.0) same ids.crates
+      ∙ one_passes (on (λ (c : StoredCrate). c.0) nat_eq) (λ c. c.0 == x.0) ids.crates x (apart_by (λ c. c.0) ids.crates h.stands.crates.up)
+      (λ c d j k p q. eq-eqb c.0 d.0 (eqb-true c.0 x.0 p ∙ sym (eqb-true d.0 x.0 q))) i (eq-eqb x.0 x.0 refl))
+
+  -- its highest version
+  pub highest : (v : StoredVersion) × IsIn v ids.versions × (top_of ids s.yanked x.0 ≡ Some v)
+  highest =
+      let w = any_in (is_of x) ids.versions (all_in (λ c. list_any (is_of c) ids.versions) ids.crates x h.stands.crates.used i) in
+      let of = (and_parts (x.0 == w.0.of_crate) (bytes_eq x.1 w.0.publication.name) w.2).0 in
+      let mine = kept (λ v. v.of_crate == x.0) ids.versions w.0 w.1 (eq-eqb w.0.of_crate x.0 (sym (eqb-true x.0 w.0.of_crate of))) in
+      let v = top_found s.yanked (its_versions ids x.0) w.0 mine in
+      (v.0, in_filter (λ v. v.of_crate == x.0) ids.versions v.0 v.1, v.2)
+
+  pub highest_row : (v : StoredVersion) → IsIn v ids.versions → (test : Row → Bool) → ((w : StoredVersion) → test (row_of_version s.yanked w) ≡ (w.id == v.id)) → filter test (db 11) ≡ row_of_version s.yanked v ∷ []
+  highest_row v j test same =
+      one_row (row_of_version s.yanked) test v ids.versions (db 11) h.stands.crates.version_rows
+      (same_filter (λ w. test (row_of_version s.yanked w)) (λ w. w.id == v.id) same ids.versions
+      ∙ one_passes (on (λ (w : StoredVersion). w.id) nat_eq) (λ w. w.id == v.id) ids.versions v (apart_by (λ w. w.id) ids.versions h.stands.crates.rising)
+      (λ c d k l p q. eq-eqb c.id d.id (eqb-true c.id v.id p ∙ sym (eqb-true d.id v.id q))) j (eq-eqb v.id v.id refl))
+
+  pub top_is : (v : StoredVersion) → top_of ids s.yanked x.0 ≡ Some v → top s x.1 ≡ Some v.publication
+  top_is v e = sym (top_named ids s db h.stands.crates x.0 x.1 at) ∙ ap (option_map (λ v. v.publication)) e
+
+  pub restricted_is : list_any (λ r. equal Binary (column r 0) (Int (pos x.0))) (db 17) ≡ finset.contains s.restricted (canon x.1)
+  restricted_is =
+      let stand = h.stands.restricted in
+      let test = λ (r : Row). equal Binary (column r 0) (Int (pos x.0)) in
+      sym (list_any-IsPermutation test (map restricted_row stand.marks) (db 17) stand.are)
+      ∙ list_any_map test restricted_row stand.marks ∙ any_same (λ n. test (restricted_row n)) (λ n. n == x.0) (λ n. same_id n x.0) stand.marks
+      ∙ sym (each_in (λ c. finset.contains s.restricted (canon c.1) ≡ list_any (λ n. n == c.0) stand.marks) ids.crates x stand.same i)
+
+  pub paired_is : (tree : ℕ) (held : finset.FinSet owner_cmp) → StandPairs ids.crates held (db tree) → (account : ℕ)
+      → list_any (λ o. equal Binary (column o 1) (Int (pos x.0)) && equal Binary (column o 2) (Int (pos account))) (db tree) ≡ finset.contains held (canon x.1, account)
+  paired_is tree held stand account =
+      let behind = λ (r : Row). equal Binary (column r 0) (Int (pos x.0)) && equal Binary (column r 1) (Int (pos account)) in
+      any_columns columns_of_stored stand.pairs (db tree) stand.are (λ o. equal Binary (column o 1) (Int (pos x.0)) && equal Binary (column o 2) (Int (pos account))) behind
+      (λ r j. equal Binary (first_column r j) (Int (pos x.0)) && equal Binary (second_column r j) (Int (pos account)))
+      ∙ any_same (λ (o : StoredPair). behind (columns_of_stored o)) (λ o. o.0 == x.0 && o.1 == account) (λ o j. same_id o.0 x.0 j && same_id o.1 account j) stand.pairs
+      ∙ sym (each_in (λ c. (a : ℕ) → finset.contains held (canon c.1, a) ≡ is_paired stand.pairs c.0 a) ids.crates x stand.same i account)
+
+  is_there : has_crate s (canon x.1) ≡ true
+  is_there = sym (crate_has ids s.publications s.yanked db h.stands.crates (canon x.1)) ∙ in_any (λ c. bytes_eq (canon c.1) (canon x.1)) ids.crates x i (text_itself (canon x.1))
+
+  -- what is seen of it, by the rows that say so
+  pub seen_is : (viewer : ℕ) → sees s (Some viewer) (canon x.1) ≡ (not (finset.contains s.restricted (canon x.1)) || (finset.contains s.owners (canon x.1, viewer) || finset.contains s.readers (canon x.1, viewer)))
+  seen_is viewer =
+      let owning = among_held s.accounts s.owners (canon x.1) (λ id e. (h.sound.owners (canon x.1) id e).1) viewer in
+      let reading = among_held s.accounts s.readers (canon x.1) (λ id e. (h.sound.readers (canon x.1) id e).1) viewer in
+      sees_alike s (Some viewer) (canon x.1) x.1 (canon-canon x.1)
+      ∙ (λ j. is_there j && (not (finset.contains s.restricted (canon x.1)) || (owning j || reading j)))

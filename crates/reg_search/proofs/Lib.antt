@@ -1,0 +1,11 @@
+mod Among
+mod CrateFacts
+mod Ends
+mod FoundRows
+mod Matching
+mod Rising
+mod RowsLaw
+mod SearchText
+mod Searched
+mod Tops
+mod Walked

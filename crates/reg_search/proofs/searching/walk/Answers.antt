@@ -1,0 +1,44 @@
+use Rattle.std.proofs.Common.{rules, arith, ◌≡◌, [], ◌∷◌, ◌++◌, refl, subst, ◌∙◌, pos}
+use Rattle.sqlite.specs.Held.{state}
+use Rattle.sqlite.specs.State.{HasCleanDisk}
+use Rattle.sqlite.specs.declared.types.Value.TheVariants.{Int}
+use Rattle.reg_schema.specs.declared.edition.Edition.TheVariants.{Second}
+use Rattle.reg_tables.proofs.Walks.{walked, walked_all}
+use Rattle.reg_search.proofs.Ends.{all_found}
+use Rattle.reg_search.proofs.SearchText.{search_is, search_text}
+use Rattle.reg_search.proofs.searching.walk.Goals as goal
+
+pub rows_of-requires : goal.rows_of-requires
+rows_of-requires g c = (Second, c.requires, search_is.plain)
+
+pub rows-init : goal.rows-init
+rows-init g c =
+    let made = c.in_ok-rows.ensures in
+    (refl, ([], (record { given = rw c.params-to_sql.ensures at made.begun; same = made.same; ours = made.ours; survives = made.survives }, record { total = refl; first = search rules })))
+
+pub returns-in_default-clause-found : goal.returns-in_default-clause-found
+returns-in_default-clause-found g c clean =
+    let now = c.next.follows.lender-at-none in
+    let back : c.conn-in_default-1.given.0 ≡ now.conn.now = search rules in
+    let late : HasCleanDisk (state g.S.Store now.conn.now) = subst (λ w. HasCleanDisk (state g.S.Store w)) back clean in
+    let moved = c.next.follows.holds-at-none in
+    let early : HasCleanDisk (state g.S.Store c.rows.rows.conn.now) = omega (arith, moved.survives.clean, late) in
+    let given = c.rows.invariant.1.0 in
+    let i = c.rows.invariant.1.1.0 in
+    let all = walked_all g.S.Store search_text (Int (pos c.args.viewer) ∷ []) c.args.conn.now c.rows.rows now given i c.in_ok-row.field-0 (rw c.in_default.is refl) (rw c.in_ok-row.was at moved) late in
+    all_found g.S.Store c.args.conn.now c.rows.rows.conn.now c.args.viewer c.args.most c.args.needle.now given c.rows.found c.requires early i c.rows.invariant.1.1.1 (state g.S.Store now.conn.now) all
+
+pub rows-preserved : goal.rows-preserved
+rows-preserved g c =
+    let given = c.rows.invariant.1.0 in
+    let moved = c.next.follows.holds-at-none in
+    let was = rw (c.in_ok-row.was, c.in-Some.is) at moved in (
+      moved.same_reference ∙ c.rows.invariant.0,
+      (
+        given ++ c.in-Some.row.now ∷ [],
+        (
+          walked g.S.Store search_text (Int (pos c.args.viewer) ∷ []) c.args.conn.now c.rows.rows c.next.follows.lender-at-none given c.rows.invariant.1.1.0 c.in-Some.row was,
+          c.in_ok-look_at.ensures given c.rows.invariant.1.1.1,
+        ),
+      ),
+    )
