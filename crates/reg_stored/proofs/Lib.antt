@@ -1,19 +1,19 @@
-mod AccountEntries
+pub mod AccountEntries
 mod Additions
 mod AllCrates
 mod ArchiveEntries
 mod CrateChanges
 mod CrateCounts
-mod CrateLemmas
+pub mod CrateLemmas
 mod CrateNames
 mod CratesStand
 mod Dropped
 mod FoundTokens
 mod NextId
-mod MarkedStand
-mod Numbered
+pub mod MarkedStand
+pub mod Numbered
 mod PairsStand
-mod PairChanges
+pub mod PairChanges
 mod PairEntries
 pub mod Readings
 mod Removed
@@ -23,7 +23,7 @@ mod Rising
 mod Rowids
 mod ScopeRows
 mod Selected
-mod Standing
+pub mod Standing
 mod SummaryRows
 pub mod SummaryLaws
 mod SummaryFound

@@ -1,0 +1,17 @@
+mod Answered
+mod Calls
+mod CrateLaw
+mod CrateText
+mod FoundFacts
+mod JoinLaw
+mod Joins
+mod Nulls
+mod Questions
+mod ReservedLaw
+mod ReservedText
+mod ScopeLaw
+mod ScopeText
+mod TokenLaw
+mod TokenText
+mod VersionLaw
+mod VersionTexts
