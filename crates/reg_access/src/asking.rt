@@ -44,7 +44,7 @@ fn read_one<T: FromRow>(rows: &[Row]) -> Result<Option<T>, Error>
 }
 
 /// The only row of a text, as a record; none where there is no row.
-#[tactic(auto, using(crate::proofs::Calls::called_ok, crate::proofs::Calls::called_err, crate::proofs::Calls::then_called))]
+#[tactic(auto, using(crate::proofs::Calls::called_ok, crate::proofs::Calls::called_err))]
 pub(crate) fn only_row<T: FromRow, S: Alter>(
     work: &mut Work<'_, S>,
     text: &str,
