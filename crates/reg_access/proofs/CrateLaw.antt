@@ -36,6 +36,7 @@ use Rattle.reg_stored.proofs.Standing.{none_row}
 use Rattle.reg_access.specs.JoinRows.{beside_all, crates_seen_by, is_mark_of, is_pair_of, value_at}
 use Rattle.reg_access.specs.Laws.{TellsCrate}
 use Rattle.reg_access.proofs.Nulls.{none_any, not_null}
+use Rattle.reg_access.proofs.Somes.{the_some}
 
 abbrev Words : Type 0
 Words = List ℕ
@@ -59,10 +60,6 @@ some_first n name (w ∷ vs) h v i met = split (collides w.publication.name n) r
     split : (b : Bool) → collides w.publication.name n ≡ b → (IsIn v vs → first_of (map (λ v. v.publication) vs) n ≡ Some name) → first_of (map (λ v. v.publication) (w ∷ vs)) n ≡ Some name
     split true e rest = rw e (ap Some (h w (inl refl) e))
     split false e rest = rw e (rest (later e i))
-
-the_some : {X : Type 0} (o : Option X) → is_some o ≡ true → (x : X) × (o ≡ Some x)
-the_some None h = absurd cc
-the_some (Some x) h = (x, refl)
 
 abbrev named : Words → StoredCrate → Bool
 named c x = bytes_eq (canon x.1) c

@@ -30,6 +30,7 @@ use Rattle.reg_access.proofs.ReservedLaw.{tells_reserved}
 use Rattle.reg_access.proofs.ScopeLaw.{covers_alike}
 use Rattle.reg_access.proofs.TokenLaw.{tells_token}
 use Rattle.reg_access.proofs.VersionLaw.{no_version_of_null, tells_release, tells_version}
+use Rattle.reg_access.proofs.Somes.{same_some}
 
 abbrev names_version : Action → Bool
 names_version (Download n v) = true
@@ -151,9 +152,6 @@ unknown_first f (Yank n v) h = rw h refl
 unknown_first f (Unyank n v) h = rw h refl
 unknown_first f (AddOwners n logins) h = rw h refl
 unknown_first f (RemoveOwners n logins) h = rw h refl
-
-same_some : {X : Type 0} {a b : X} → ◌≡◌ {A = Option X} (Some a) (Some b) → a ≡ b
-same_some e = cc
 
 -- what an action names is a name
 named : (t n : List ℕ) → name_of t ≡ Some n → is_name n ≡ true

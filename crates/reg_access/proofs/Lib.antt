@@ -11,6 +11,7 @@ mod ReservedLaw
 mod ReservedText
 mod ScopeLaw
 mod ScopeText
+mod Somes
 mod TokenLaw
 mod TokenText
 mod VersionLaw

@@ -1,5 +1,5 @@
 -- Where the rows stand for a registry, a scope of a token comes back where a pattern of it covers the name.
-use Rattle.std.proofs.Common.{◌≡◌, ◌==◌, ℕ, zero, suc, ◌+◌, ◌-◌, pos, List, [], ◌∷◌, map, Bool, true, false, ◌&&◌, ◌||◌, Option, Some, slice_get, refl, sym, ap, ap₂, ◌∙◌}
+use Rattle.std.proofs.Common.{◌≡◌, ◌==◌, ℕ, zero, suc, ◌+◌, ◌-◌, pos, List, [], ◌∷◌, map, Bool, true, false, ◌&&◌, ◌||◌, Some, slice_get, refl, sym, ap, ap₂, ◌∙◌}
 use Rattle.std.specs.Prelude.{drop, length, is_some, nat_lt}
 use Rattle.std.specs.List.{enumerate_from, filter, flat_map, list_all, list_any}
 use Rattle.std.specs.Ordering.{is_le, is_lt}
@@ -31,6 +31,7 @@ use Rattle.reg_schema.proofs.Permutes.{one_row}
 use Rattle.reg_stored.proofs.Standing.{same_number}
 use Rattle.reg_access.specs.JoinRows.{is_at_most, is_below, is_scope_over, is_there, scopes_over}
 use Rattle.reg_access.proofs.Answered.{there_filtered}
+use Rattle.reg_access.proofs.Somes.{same_some}
 
 truth_is : (b : Bool) → is_true (from_truth (Some b)) ≡ b
 truth_is true = refl
@@ -85,9 +86,6 @@ module _ (id : ℕ) (c : List ℕ) where
   at_tokens : (es : List (ℕ × model.Token)) → list_any is_over (flat_map scopes_of es) ≡ list_any (λ e. (e.0 == id) && list_any holds_it e.1.patterns) es
   at_tokens [] = refl
   at_tokens (e ∷ es) = list_any-append is_over (scopes_of e) (flat_map scopes_of es) ∙ ap₂ ◌||◌ (at_token e.0 0 e.1.patterns) (at_tokens es)
-
-same_some : {X : Type 0} {a b : X} → ◌≡◌ {A = Option X} (Some a) (Some b) → a ≡ b
-same_some e = cc
 
 pub all_at : {X : Type 0} (p : X → Bool) (xs : List X) (i : ℕ) (x : X) → list_all p xs ≡ true → slice_get xs i ≡ Some x → p x ≡ true
 all_at p [] i x h at = absurd cc

@@ -27,16 +27,10 @@ use Rattle.reg_stored.proofs.Standing.{none_row, same_number}
 use Rattle.reg_access.specs.JoinRows.{is_mark_set}
 use Rattle.reg_access.specs.Laws.{TellsToken}
 use Rattle.reg_access.proofs.ScopeLaw.{all_at}
+use Rattle.reg_access.proofs.Somes.{same_some, the_some}
 
 same_blob : (t u : List ℕ) → is_eq (value_cmp (Blob t) (Blob u)) ≡ bytes_eq t u
 same_blob t u = ap is_eq (value_cmp-Blob t u) ∙ is_eq-slice_cmp t u
-
-same_some : {X : Type 0} {a b : X} → ◌≡◌ {A = Option X} (Some a) (Some b) → a ≡ b
-same_some e = cc
-
-the_some : {X : Type 0} (o : Option X) → is_some o ≡ true → (x : X) × (o ≡ Some x)
-the_some None h = absurd cc
-the_some (Some x) h = (x, refl)
 
 set_is : (b : Bool) → is_mark_set (mark b) ≡ b
 set_is true = refl

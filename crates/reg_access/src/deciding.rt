@@ -63,14 +63,11 @@ fn is_absent(token: &TokenRow, found: &Found, action: &Action) -> bool
     let _ = token;
     match action {
         Action::Index(path) => !(is_visible(&found.row) && has_path(&found.row, path)),
-        Action::Read => !is_visible(&found.row),
-        Action::Download(_, _) => !is_visible(&found.row),
-        Action::ListOwners(_) => !is_visible(&found.row),
-        Action::Publish(_, _) => !is_visible(&found.row),
-        Action::Yank(_, _) => !is_visible(&found.row),
-        Action::Unyank(_, _) => !is_visible(&found.row),
-        Action::AddOwners(_, _) => !is_visible(&found.row),
-        Action::RemoveOwners(_, _) => !is_visible(&found.row),
+        Action::Read | Action::Download(_, _) | Action::ListOwners(_) => !is_visible(&found.row),
+        Action::Publish(_, _) | Action::Yank(_, _) | Action::Unyank(_, _) => {
+            !is_visible(&found.row)
+        }
+        Action::AddOwners(_, _) | Action::RemoveOwners(_, _) => !is_visible(&found.row),
     }
 }
 
@@ -84,14 +81,9 @@ fn is_misspelled(token: &TokenRow, found: &Found, action: &Action) -> bool
             Some(row) => !same_text(row.name.as_str(), name.as_str()),
             None => true,
         },
-        Action::Read => false,
-        Action::Index(_) => false,
-        Action::Download(_, _) => false,
-        Action::ListOwners(_) => false,
-        Action::Yank(_, _) => false,
-        Action::Unyank(_, _) => false,
-        Action::AddOwners(_, _) => false,
-        Action::RemoveOwners(_, _) => false,
+        Action::Read | Action::Index(_) | Action::Download(_, _) | Action::ListOwners(_) => false,
+        Action::Yank(_, _) | Action::Unyank(_, _) => false,
+        Action::AddOwners(_, _) | Action::RemoveOwners(_, _) => false,
     }
 }
 

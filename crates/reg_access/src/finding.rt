@@ -74,18 +74,15 @@ fn find_last<S: Alter>(
         (λ db b. is_there (last_rows (action_of action.now) (rows_of row.now) db) ≡ b) }
 {
     match action {
-        Action::Read => Ok(false),
-        Action::Index(_) => Ok(false),
-        Action::Download(_, version) => has_version_of(work, row, version),
-        Action::ListOwners(_) => Ok(false),
+        Action::Download(_, version) | Action::Yank(_, version) | Action::Unyank(_, version) => {
+            has_version_of(work, row, version)
+        }
         Action::Publish(name, version) => match row {
             Some(row) => has_release(work, row.id, version),
             None => is_reserved(work, &canon(name)),
         },
-        Action::Yank(_, version) => has_version_of(work, row, version),
-        Action::Unyank(_, version) => has_version_of(work, row, version),
-        Action::AddOwners(_, _) => Ok(false),
-        Action::RemoveOwners(_, _) => Ok(false),
+        Action::Read | Action::Index(_) | Action::ListOwners(_) => Ok(false),
+        Action::AddOwners(_, _) | Action::RemoveOwners(_, _) => Ok(false),
     }
 }
 

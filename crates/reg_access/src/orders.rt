@@ -58,9 +58,8 @@ pub(crate) fn order(row: &Option<CrateRow>, action: &Action) -> &'static [Rule]
 {
     match action {
         Action::Read => &READING,
-        Action::Index(_) => &READING_A_CRATE,
+        Action::Index(_) | Action::ListOwners(_) => &READING_A_CRATE,
         Action::Download(_, _) => &DOWNLOADING,
-        Action::ListOwners(_) => &READING_A_CRATE,
         Action::Publish(_, _) => {
             if row.is_some() {
                 &PUBLISHING_KNOWN
@@ -68,10 +67,8 @@ pub(crate) fn order(row: &Option<CrateRow>, action: &Action) -> &'static [Rule]
                 &PUBLISHING_NEW
             }
         }
-        Action::Yank(_, _) => &MARKING,
-        Action::Unyank(_, _) => &MARKING,
-        Action::AddOwners(_, _) => &CHANGING_OWNERS,
-        Action::RemoveOwners(_, _) => &CHANGING_OWNERS,
+        Action::Yank(_, _) | Action::Unyank(_, _) => &MARKING,
+        Action::AddOwners(_, _) | Action::RemoveOwners(_, _) => &CHANGING_OWNERS,
     }
 }
 
@@ -80,10 +77,7 @@ pub(crate) fn needed(row: &Option<CrateRow>, action: &Action) -> Option<Endpoint
     ensures { result ≡ needed_by (spelling_in row.now) (action_of action.now) }
 {
     match action {
-        Action::Read => None,
-        Action::Index(_) => None,
-        Action::Download(_, _) => None,
-        Action::ListOwners(_) => None,
+        Action::Read | Action::Index(_) | Action::Download(_, _) | Action::ListOwners(_) => None,
         Action::Publish(_, _) => {
             if row.is_some() {
                 Some(Endpoint::PublishUpdate)
@@ -91,10 +85,8 @@ pub(crate) fn needed(row: &Option<CrateRow>, action: &Action) -> Option<Endpoint
                 Some(Endpoint::PublishNew)
             }
         }
-        Action::Yank(_, _) => Some(Endpoint::Yank),
-        Action::Unyank(_, _) => Some(Endpoint::Yank),
-        Action::AddOwners(_, _) => Some(Endpoint::ChangeOwners),
-        Action::RemoveOwners(_, _) => Some(Endpoint::ChangeOwners),
+        Action::Yank(_, _) | Action::Unyank(_, _) => Some(Endpoint::Yank),
+        Action::AddOwners(_, _) | Action::RemoveOwners(_, _) => Some(Endpoint::ChangeOwners),
     }
 }
 
@@ -106,13 +98,8 @@ pub(crate) fn fits(action: &Action)
         Action::Publish(name, _) => {
             let _ = name.as_str();
         }
-        Action::Read => {}
-        Action::Index(_) => {}
-        Action::Download(_, _) => {}
-        Action::ListOwners(_) => {}
-        Action::Yank(_, _) => {}
-        Action::Unyank(_, _) => {}
-        Action::AddOwners(_, _) => {}
-        Action::RemoveOwners(_, _) => {}
+        Action::Read | Action::Index(_) | Action::Download(_, _) | Action::ListOwners(_) => {}
+        Action::Yank(_, _) | Action::Unyank(_, _) => {}
+        Action::AddOwners(_, _) | Action::RemoveOwners(_, _) => {}
     }
 }
