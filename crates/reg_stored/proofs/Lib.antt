@@ -10,10 +10,10 @@ mod CratesStand
 mod Dropped
 pub mod FoundTokens
 mod NextId
-mod MarkedStand
+pub mod MarkedStand
 pub mod Numbered
 mod PairsStand
-mod PairChanges
+pub mod PairChanges
 pub mod PairEntries
 pub mod Readings
 mod Removed

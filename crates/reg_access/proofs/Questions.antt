@@ -1,0 +1,89 @@
+-- Questions to the tables, one after another, and from a text to what it tells.
+use Rattle.std.proofs.Common.{◌≡◌, ◌==◌, ◌∙◌, [], Bool, false, not, ℕ, List, length, Ok, Err, Result, IsErr, Option, arith, refl, sym, ap, subst}
+use Rattle.std.specs.List.Sorted.{IsPermutation}
+use Rattle.sqlite.specs.Order.{Row}
+use Rattle.sqlite.specs.Program.{overlay}
+use Rattle.sqlite.specs.Query.{Query, IsSureAnswer}
+use Rattle.sqlite.specs.State.{HasCleanDisk, IsUnchanged, Shown}
+use Rattle.sqlite.specs.Tree.{Trees}
+use Rattle.sqlite_trees.specs.declared.store.Store.{Ghosts}
+use Rattle.reg_schema.specs.Schema.{ours}
+use Rattle.reg_schema.specs.Shown.{shown_of}
+use Rattle.reg_schema.specs.States.{IsInside}
+use Rattle.reg_schema.proofs.Reading.{IsSelection, selected}
+use Rattle.reg_schema.proofs.ShownRows.{shown_exactly}
+use Rattle.reg_stored.proofs.Readings.{same_then}
+use Rattle.reg_tables.specs.declared.work.StoreFault.{StoreFault}
+use Rattle.reg_tables.specs.declared.work.Work.{Work}
+use Rattle.reg_tables.specs.Works.{Heard, IsAtWork, IsCall, Unmoved, has_failed, rows_seen, seen}
+use Rattle.reg_access.specs.Asks.{Asks}
+use Rattle.reg_access.specs.JoinRows.{is_there}
+use Rattle.reg_access.proofs.Answered.{there_found}
+use Rattle.reg_access.proofs.Calls.{called_err, called_ok, inside, itself_called, then_called}
+
+module _ {S : Type 0} (g : Ghosts S) where
+  -- an answer made into another, and a fault passed on
+  pub asks_made : {T U E F : Type 0} {P : Trees → T → Type 0} {Q : Trees → U → Type 0} (x : T) (y : U) (a b : Work S) → (P (rows_seen g a) x → Q (rows_seen g a) y) → Asks {E = E} g a b (Ok x) P → Asks {E = F} g a b (Ok y) Q
+  asks_made x y a b made one = record { told = λ clean. made (one.told clean); same = one.same; leaves = called_ok g x y a b one.leaves }
+
+  pub asks_failed : {T U E F : Type 0} {P : Trees → T → Type 0} {Q : Trees → U → Type 0} (e : E) (r : Result U F) (a b : Work S) → IsErr r → Asks g a b (Err e) P → Asks g a b r Q
+  asks_failed e (Ok y) a b h one = absurd cc
+  asks_failed e (Err f) a b h one = record { told = λ clean. tt; same = λ clean. tt; leaves = called_err g e f a b one.leaves }
+
+  -- what was asked before another question
+  same_rows : {T E : Type 0} {P : Trees → T → Type 0} (x : T) (a b : Work S) → Asks {E = E} g a b (Ok x) P → HasCleanDisk (seen g b) → rows_seen g b ≡ rows_seen g a
+  same_rows x a b one clean = ap (λ d. d.trees) (one.same clean).0.now_is
+
+  pub asks_after : {T U E F : Type 0} {P : Trees → T → Type 0} {Q : Trees → U → Type 0} (x : T) (r : Result U F) (a b c : Work S) → Asks {E = E} g a b (Ok x) P → Asks g b c r Q → Asks g a c r Q
+  asks_after {Q} x (Ok y) a b c one two =
+      let early = λ (clean : HasCleanDisk (seen g c)). let h : HasCleanDisk (seen g b) = omega (arith, clean, two.leaves.survives.clean) in h in
+      record {
+        told = λ clean. subst (λ db. Q db y) (same_rows x a b one (early clean)) (two.told clean);
+        same = λ clean. same_then (seen g a) (seen g b) (seen g c) (one.same (early clean)) (two.same clean);
+        leaves = then_called g x (Ok y) a b c one.leaves two.leaves;
+      }
+  asks_after x (Err e) a b c one two = record { told = λ clean. tt; same = λ clean. tt; leaves = then_called g x (Err e) a b c one.leaves two.leaves }
+
+  -- and what both answered
+  pub asks_both : {T U E F : Type 0} {P : Trees → T → Type 0} {Q : Trees → U → Type 0} (x : T) (y : U) (a b c : Work S) → Asks {E = E} g a b (Ok x) P → Asks {E = F} g b c (Ok y) Q → Asks {T = T × U} {E = F} g a c (Ok (x, y)) (λ db p. P db p.0 × Q db p.1)
+  asks_both x y a b c one two =
+      let both = asks_after x (Ok y) a b c one two in
+      record {
+        told = λ clean. (one.told (omega (arith, clean, two.leaves.survives.clean)), both.told clean);
+        same = both.same;
+        leaves = called_ok g y (x, y) a c both.leaves;
+      }
+
+  -- nothing is asked
+  pub asks_nothing : {T E : Type 0} {P : Trees → T → Type 0} (x : T) (a : Work S) → has_failed a ≡ false → IsAtWork g a → P (rows_seen g a) x → Asks {E = E} g a a (Ok x) P
+  asks_nothing x a on at h = record {
+    told = λ clean. h;
+    same = λ clean. itself_unchanged (at.ready on clean);
+    leaves = itself_called g x a on at;
+  }
+    where
+      itself_unchanged : IsInside (seen g a) → IsUnchanged (seen g a) (seen g a)
+      itself_unchanged here = (record { was_open = here.is_open; is_open = here.is_open; now_is = refl; committed_is = refl; mode = refl }, record { changes = refl; last_rowid = refl }, refl)
+
+  -- from the rows of a text to the rows that its query means
+  module _ {text : List ℕ} {q : Query} {names : List (List ℕ)} (is : IsSelection ours text q names) (params : Row) (means : Trees → List Row) (gives : (db : Trees) (rows : List Row) → IsSureAnswer q (overlay db []) params rows → IsPermutation (means db) rows) (a b : Work S) where
+    permuted : IsInside (seen g a) → (rows : List Row) → Shown text params (seen g a) (seen g b) rows → IsPermutation (means (rows_seen g a)) rows
+    permuted at rows h = gives (rows_seen g a) rows (selected is params (seen g a) (seen g b) rows at h)
+
+    pub has_asked : (r : Result Bool StoreFault) → IsAtWork g a → Heard g b r (λ has. (rows : List Row) × Shown text params (seen g a) (seen g b) rows × (has ≡ not (length rows == 0))) → Unmoved g r a b → IsCall g r a b
+        → Asks g a b r (λ db has. is_there (means db) ≡ has)
+    has_asked (Ok has) at told same leaves = record {
+      told = λ clean. let h = told clean in there_found _ h.0 (permuted (inside g has a b at leaves clean) h.0 h.1) ∙ sym h.2;
+      same = same;
+      leaves = leaves;
+    }
+    has_asked (Err e) at told same leaves = record { told = λ clean. tt; same = same; leaves = leaves }
+
+    pub only_asked : {X : Type 0} (columns : X → Row) (r : Result (Option X) StoreFault) → IsAtWork g a → Heard g b r (λ found. Shown text params (seen g a) (seen g b) (shown_of columns found)) → Unmoved g r a b → IsCall g r a b
+        → Asks g a b r (λ db found. means db ≡ shown_of columns found)
+    only_asked columns (Ok found) at told same leaves = record {
+      told = λ clean. shown_exactly columns _ found (permuted (inside g found a b at leaves clean) (shown_of columns found) (told clean));
+      same = same;
+      leaves = leaves;
+    }
+    only_asked columns (Err e) at told same leaves = record { told = λ clean. tt; same = same; leaves = leaves }

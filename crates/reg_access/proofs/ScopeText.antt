@@ -1,0 +1,51 @@
+-- What the text on the scopes of a token means.
+use Rattle.std.proofs.Common.{◌≡◌, ℕ, List, [], ◌∷◌, codes, map, Bool, true, false, ◌&&◌, refl, ap, subst}
+use Rattle.std.specs.List.Sorted.{IsPermutation}
+use Rattle.sqlite.specs.Collation.TheVariants.{Binary}
+use Rattle.sqlite.specs.Listing.{understood}
+use Rattle.sqlite.specs.Order.{Row, column}
+use Rattle.sqlite.specs.Program.{overlay}
+use Rattle.sqlite.specs.Query.{Query, IsSureAnswer, inner, end, matches}
+use Rattle.sqlite.specs.Term.{Term, col, eval_all, op2}
+use Rattle.sqlite.specs.Tree.{Trees}
+use Rattle.sqlite.specs.declared.types.Value.{Value}
+use Rattle.sqlite.specs.declared.types.Value.TheVariants.{Text}
+use Rattle.sqlite_schema.specs.Rules.{equal}
+use Rattle.sqlite_sql.specs.declared.ops.BinaryOp.TheVariants.{Compare}
+use Rattle.sqlite_sql.specs.declared.ops.CompareOp.TheVariants.{Eq, Le, Lt}
+use Rattle.sqlite_tied.specs.Compute.{everything}
+use Rattle.reg_schema.specs.Schema.{ours}
+use Rattle.reg_schema.proofs.Queries.{plain, answers, and_true}
+use Rattle.reg_schema.proofs.Reading.{IsSelection}
+use Rattle.reg_access.specs.JoinRows.{is_at_most, is_below, is_scope_over, scopes_over}
+use Rattle.reg_access.proofs.Joins.{joined_where}
+
+abbrev pub scopes_text : List ℕ
+scopes_text = codes "SELECT s.place FROM tokens t JOIN scopes s ON s.token = t.id WHERE t.id = ?1 AND s.low <= ?2 AND ?2 < s.high"
+
+abbrev scopes_filter : List Term
+scopes_filter = op2 (Compare Eq Binary) (col 2 1) (col 1 0) ∷ op2 (Compare Eq Binary) (col 1 0) (col 0 0) ∷ op2 (Compare Le Binary) (col 2 4) (col 0 1) ∷ op2 (Compare Lt Binary) (col 0 1) (col 2 5) ∷ []
+
+abbrev pub scopes_query : Query
+scopes_query = plain (inner 3 (inner 5 end)) scopes_filter (col 2 2 ∷ [])
+
+pub scopes_is : IsSelection ours scopes_text scopes_query (codes "place" ∷ [])
+unfolding understood everything
+scopes_is = record { command = refl; unlisted = refl; plain = (refl, refl) }
+
+-- the terms of ON come first
+in_turn : (p b c d : Bool) → (p && (b && (c && (d && true)))) ≡ (b && (p && (c && d)))
+in_turn true b c d = ap (λ e. b && (c && e)) (and_true d)
+in_turn false true c d = refl
+in_turn false false c d = refl
+
+scopes_rows : (db : Trees) (id : Value) (canon : List ℕ) → map (eval_all (col 2 2 ∷ [])) (matches db scopes_filter (inner 3 (inner 5 end)) ((id ∷ Text canon ∷ []) ∷ [])) ≡ scopes_over id canon db
+scopes_rows db id canon =
+    let params : Row = id ∷ Text canon ∷ [] in
+    joined_where (λ (t s : Row). params ∷ t ∷ s ∷ []) (eval_all (col 2 2 ∷ [])) (λ (t : Row). db 5)
+    (λ t. equal Binary (column t 0) id) (is_scope_over canon) _
+    (λ t s. in_turn (equal Binary (column s 1) (column t 0)) (equal Binary (column t 0) id) (is_at_most (column s 4) (Text canon)) (is_below (Text canon) (column s 5))) (db 3)
+
+pub scopes_give : (id : Value) (canon : List ℕ) (db : Trees) (rows : List Row) → IsSureAnswer scopes_query (overlay db []) (id ∷ Text canon ∷ []) rows → IsPermutation (scopes_over id canon db) rows
+scopes_give id canon db rows h =
+    subst (λ xs. IsPermutation xs rows) (scopes_rows db id canon) (answers (overlay db []) (id ∷ Text canon ∷ []) (inner 3 (inner 5 end)) scopes_filter (col 2 2 ∷ []) rows h)

@@ -1,0 +1,11 @@
+use Rattle.std.proofs.Common.{ap, ◌∙◌}
+use Rattle.reg_policy.specs.Views.{action_of, decision_of}
+use Rattle.reg_stored.proofs.Results.{if_ok}
+use Rattle.reg_tables.specs.Works.{rows_seen}
+use Rattle.reg_access.proofs.JoinLaw.{joins_decide}
+use Rattle.reg_access.proofs.access.authorize.Goals as goal
+
+pub returns-clause-policy : goal.returns-clause-policy
+returns-clause-policy g c clean =
+    if_ok c.judge.result
+    (λ d told ids s holds. told ∙ ap decision_of (joins_decide ids s (rows_seen g.S.Store c.args.work.now) holds.sound holds.stands c.args.digest.now (action_of c.args.action.now) c.fits.ensures)) (c.judge.ensures.told clean)

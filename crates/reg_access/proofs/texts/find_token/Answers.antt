@@ -1,0 +1,14 @@
+use Rattle.std.proofs.Common.{[], ◌∷◌}
+use Rattle.sqlite.specs.declared.types.Value.TheVariants.{Blob}
+use Rattle.reg_statements.specs.Tokens.{columns_with_account, tokens_with_accounts}
+use Rattle.reg_access.proofs.Questions.{only_asked}
+use Rattle.reg_access.proofs.TokenText.{token_gives, token_is}
+use Rattle.reg_access.proofs.texts.find_token.Goals as goal
+
+pub only_row-requires-clause-reads : goal.only_row-requires-clause-reads
+only_row-requires-clause-reads g c = token_is.plain
+
+pub returns : goal.returns
+returns g c =
+    only_asked g.S.Store token_is (Blob c.args.digest.now ∷ []) (tokens_with_accounts c.args.digest.now) (token_gives c.args.digest.now) c.args.work.now c.only_row.new.work columns_with_account c.only_row.result c.requires
+    (rw (c.params-to_sql.ensures, c.as_slice.ensures) at c.only_row.ensures.rows) c.only_row.ensures.same c.only_row.ensures.leaves

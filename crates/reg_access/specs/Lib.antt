@@ -1,0 +1,5 @@
+pub mod Asks
+pub mod Found
+pub mod JoinRows
+pub mod Laws
+pub mod Verdict

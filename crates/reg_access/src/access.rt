@@ -1,0 +1,52 @@
+//! Whether a request may pass, decided from the rows of the access texts.
+
+ghost use Rattle.reg_policy.specs.Views.{action_of};
+ghost use Rattle.reg_tables.specs.Works.{Heard, IsAtWork, IsCall, Unmoved, rows_seen};
+ghost use Rattle.reg_access.specs.Asks.{Asks};
+ghost use Rattle.reg_access.specs.Verdict.{IsPolicy, IsVerdict};
+
+use crate::deciding::first_broken;
+use crate::finding::find_all;
+use crate::orders::fits;
+use crate::texts::find_token;
+use reg_line::Digest;
+use reg_model::Rule;
+use reg_policy::{Action, Decision};
+use reg_tables::{StoreFault, Work};
+use sqlite::Alter;
+
+fn judge<S: Alter>(
+    work: &mut Work<'_, S>,
+    digest: &Digest,
+    action: &Action,
+) -> Result<Decision, StoreFault>
+    requires { IsAtWork S.Store work.old }
+    ensures { Asks S.Store work.old work.new result
+        (IsVerdict digest.now (action_of action.now)) }
+{
+    let Some(token) = find_token(work, digest)? else {
+        return Ok(Decision::Denied(Rule::A2));
+    };
+    let found = find_all(work, &token, action)?;
+    Ok(first_broken(&token, &found, action))
+}
+
+/// Whether the tables let an action of the token with this digest pass, or the first rule on access
+/// that it breaks. What is decided is decided of any rows; where they stand for a registry it is
+/// the written policy's.
+pub fn authorize<S: Alter>(
+    work: &mut Work<'_, S>,
+    digest: &Digest,
+    action: &Action,
+) -> Result<Decision, StoreFault>
+    requires { IsAtWork S.Store work.old }
+    ensures decided { Heard S.Store work.new result
+        (IsVerdict digest.now (action_of action.now) (rows_seen S.Store work.old)) }
+    ensures policy { Heard S.Store work.new result
+        (IsPolicy digest.now (action_of action.now) (rows_seen S.Store work.old)) }
+    ensures same { Unmoved S.Store result work.old work.new }
+    ensures leaves { IsCall S.Store result work.old work.new }
+{
+    fits(action);
+    judge(work, digest, action)
+}

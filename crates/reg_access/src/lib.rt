@@ -1,0 +1,13 @@
+//! Which requests the tables let through.
+#![tactic(auto)]
+
+mod access;
+mod asking;
+mod deciding;
+mod finding;
+mod found;
+pub mod laws;
+mod orders;
+mod texts;
+
+pub use access::authorize;

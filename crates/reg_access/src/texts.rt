@@ -1,0 +1,121 @@
+//! The texts that decide access, a text a function.
+
+ghost use Rattle.std.specs.Prelude.{◌≡◌, pos};
+ghost use Rattle.sqlite.specs.declared.types.Value.TheVariants.{Int};
+ghost use Rattle.reg_statements.specs.Tokens.{IsTokenOfDigest};
+ghost use Rattle.reg_tables.specs.Works.{IsAtWork};
+ghost use Rattle.reg_access.specs.Asks.{Asks};
+ghost use Rattle.reg_access.specs.Found.{rows_of};
+ghost use Rattle.reg_access.specs.JoinRows.{crates_seen_by, is_there, reserved_as, scopes_over, versions_of_release, versions_with_text};
+
+use crate::asking::{has_row, only_row};
+use crate::found::CrateRow;
+use reg_line::Digest;
+use reg_names::CanonText;
+use reg_tables::{StoreFault, TokenRow, Work};
+use reg_versions::release_key;
+use sqlite::{Alter, params};
+
+/// The token with this digest, with its account, if there is one.
+pub(crate) fn find_token<S: Alter>(
+    work: &mut Work<'_, S>,
+    digest: &Digest,
+) -> Result<Option<TokenRow>, StoreFault>
+    requires { IsAtWork S.Store work.old }
+    ensures { Asks S.Store work.old work.new result (IsTokenOfDigest digest.now) }
+{
+    only_row(
+        work,
+        "SELECT t.id, t.account, t.live, t.publish_new, t.publish_update, t.yank, \
+        t.change_owners, a.login, a.enabled FROM tokens t JOIN accounts a ON a.id = t.account \
+        WHERE t.digest = ?1",
+        params![digest.as_slice()],
+    )
+}
+
+/// Whether a scope of the token holds the canonical text.
+pub(crate) fn is_covered<S: Alter>(
+    work: &mut Work<'_, S>,
+    token: u32,
+    canon: &CanonText,
+) -> Result<bool, StoreFault>
+    requires { IsAtWork S.Store work.old }
+    ensures { Asks S.Store work.old work.new result
+        (λ db b. is_there (scopes_over (Int (pos token)) canon.now db) ≡ b) }
+{
+    has_row(
+        work,
+        "SELECT s.place FROM tokens t JOIN scopes s ON s.token = t.id WHERE t.id = ?1 AND \
+        s.low <= ?2 AND ?2 < s.high",
+        params![token, canon.as_str()],
+    )
+}
+
+/// The crate with this canonical text, and what the account is to it.
+pub(crate) fn find_crate<S: Alter>(
+    work: &mut Work<'_, S>,
+    canon: &CanonText,
+    account: u32,
+) -> Result<Option<CrateRow>, StoreFault>
+    requires { IsAtWork S.Store work.old }
+    ensures { Asks S.Store work.old work.new result
+        (λ db found. crates_seen_by canon.now (Int (pos account)) db ≡ rows_of found) }
+{
+    only_row(
+        work,
+        "SELECT c.id, c.name, o.account, r.crate, d.account FROM crates c LEFT JOIN owners o ON \
+        o.crate = c.id AND o.account = ?2 LEFT JOIN restricted r ON r.crate = c.id LEFT JOIN \
+        readers d ON d.crate = c.id AND d.account = ?2 WHERE c.canon = ?1",
+        params![canon.as_str(), account],
+    )
+}
+
+/// Whether the crate has a version of this text.
+pub(crate) fn has_version<S: Alter>(
+    work: &mut Work<'_, S>,
+    of_crate: u32,
+    text: &str,
+) -> Result<bool, StoreFault>
+    requires { IsAtWork S.Store work.old }
+    ensures { Asks S.Store work.old work.new result
+        (λ db b. is_there (versions_with_text (Int (pos of_crate)) text.now db) ≡ b) }
+{
+    has_row(
+        work,
+        "SELECT id FROM versions WHERE crate = ?1 AND release = ?2 AND vers = ?3",
+        params![of_crate, release_key(text), text],
+    )
+}
+
+/// Whether the crate has a version of the release of this text.
+pub(crate) fn has_release<S: Alter>(
+    work: &mut Work<'_, S>,
+    of_crate: u32,
+    text: &str,
+) -> Result<bool, StoreFault>
+    requires { IsAtWork S.Store work.old }
+    ensures { Asks S.Store work.old work.new result
+        (λ db b. is_there (versions_of_release (Int (pos of_crate)) text.now db) ≡ b) }
+{
+    has_row(
+        work,
+        "SELECT id FROM versions WHERE crate = ?1 AND release = ?2",
+        params![of_crate, release_key(text)],
+    )
+}
+
+/// Whether the administrator reserved the canonical text.
+pub(crate) fn is_reserved<S: Alter>(
+    work: &mut Work<'_, S>,
+    canon: &CanonText,
+) -> Result<bool, StoreFault>
+    requires { IsAtWork S.Store work.old }
+    ensures { Asks S.Store work.old work.new result
+        (λ db b. is_there (reserved_as canon.now db) ≡ b) }
+{
+    has_row(
+        work,
+        "SELECT canon FROM reserved WHERE canon = ?1",
+        params![canon.as_str()],
+    )
+}
