@@ -1,4 +1,5 @@
 pub mod Lending
+pub mod Looks
 pub mod Readers
 pub mod Upgrades
 pub mod Walks
