@@ -1,5 +1,4 @@
 pub mod Genuine
-pub mod Looking
 pub mod Orders
 pub mod SameIds
 pub mod Scopes

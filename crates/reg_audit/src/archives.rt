@@ -8,7 +8,7 @@ ghost use Rattle.sqlite.specs.State.{HasCleanDisk, IsUnchanged};
 ghost use Rattle.reg_statements.specs.Archives.{archives_with_id};
 ghost use Rattle.reg_tables.specs.Works.{IsAtWork, has_failed, seen};
 ghost use Rattle.reg_audit.specs.Checks.{archives_pass as archives_pass_in, is_archive};
-ghost use Rattle.reg_audit.specs.Looks.{Looks};
+ghost use Rattle.reg_tables.specs.Looks.{Looks};
 
 use reg_line::digest_of;
 use reg_tables::{AllRows, StoreFault, Version, Work};

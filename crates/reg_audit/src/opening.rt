@@ -9,7 +9,7 @@ ghost use Rattle.reg_tables.specs.Upgrades.{AreBegun};
 ghost use Rattle.reg_tables.specs.Works.{AreOurs, IsAtWork, edition_in, has_failed, is_shut, seen, shown};
 ghost use Rattle.reg_stored.specs.declared.all_rows.AllRows.{AllRows as Rows};
 ghost use Rattle.reg_audit.specs.Checks.{IsFirst, IsFirstOf};
-ghost use Rattle.reg_audit.specs.Looks.{Looks};
+ghost use Rattle.reg_tables.specs.Looks.{Looks};
 ghost use Rattle.reg_audit.specs.declared.check.Check.TheVariants.{C1, C2, C3, C5, C6};
 
 use crate::accounts::accounts_pass;

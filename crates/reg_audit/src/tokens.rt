@@ -71,11 +71,11 @@ fn are_scopes(alloc: Global, scopes: &[Scope]) -> Result<bool, AllocError>
 }
 
 // Whether the scope is the next after that of this token at this place.
-fn is_next(scope: &Scope, token: u32, place: u32) -> bool
+fn is_next(scope: &Scope, token: u32, place: u64) -> bool
     ensures { result ≡ ((scope.now.token == token && scope.now.place == place + 1)
         || (scope.now.token == token + 1 && scope.now.place == 0)) }
 {
-    (scope.token == token && u64::from(scope.place) == u64::from(place) + 1)
+    (scope.token == token && scope.place.checked_sub(1) == Some(place))
         || (u64::from(scope.token) == u64::from(token) + 1 && scope.place == 0)
 }
 

@@ -16,7 +16,7 @@ use std::alloc::Global;
 #[derive(Debug, Drop)]
 pub struct Scope {
     pub token: u32,
-    pub place: u32,
+    pub place: u64,
     pub pattern: String,
     pub low: String,
     pub high: String,

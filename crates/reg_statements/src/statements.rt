@@ -30,7 +30,7 @@ pub fn rows_of<S: Alter>(
 }
 
 /// The only row of a text that only reads, as a record; none where there is no row.
-pub(crate) fn select_one<T: FromRow, S: Alter>(
+pub fn select_one<T: FromRow, S: Alter>(
     conn: &mut Connection<S>,
     text: &str,
     params: &[ValueRef<'_>],

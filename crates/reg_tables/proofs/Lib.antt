@@ -1,4 +1,5 @@
 pub mod IndexWalk
+pub mod Looking
 mod Made
 mod Migrated
 mod Raising

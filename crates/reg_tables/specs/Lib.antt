@@ -1,4 +1,6 @@
+pub mod Ends
 pub mod Lending
+pub mod Looks
 pub mod Readers
 pub mod Upgrades
 pub mod Walks

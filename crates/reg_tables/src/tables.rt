@@ -2,7 +2,7 @@
 
 ghost use Rattle.std.specs.Prelude.{◌≡◌, ◌≢◌, ◌↔◌, [], ◌∷◌, true, false, Ok, Err, IfErr, IfOk, OnErr, OnOk, IsTrue};
 ghost use Rattle.std.specs.Borrow.{sem, RestsIfErr};
-ghost use Rattle.sqlite.specs.State.{HasCleanDisk, KeepsCommit, Shows, Survives};
+ghost use Rattle.sqlite.specs.State.{HasCleanDisk, KeepsCommit, Survives};
 ghost use Rattle.sqlite.specs.Held.{state};
 ghost use Rattle.reg_model.specs.Registry.{empty_at};
 ghost use Rattle.reg_schema.specs.Schema.{blank, schema_of};
@@ -12,13 +12,14 @@ ghost use Rattle.reg_tables.specs.contracts.tables.Tables.{the_row};
 ghost use Rattle.reg_tables.specs.Lending.{LendsConnection, LendsReader};
 ghost use Rattle.reg_tables.specs.Readers.{is_closed, reached};
 ghost use Rattle.reg_stored.specs.Stands.{Stands};
-ghost use Rattle.reg_tables.specs.Works.{AreOurs, IsAtWork, IsKept, IsLeft, IsSame, edition_in, has_failed, held, is_shut, seen, shown};
+ghost use Rattle.reg_tables.specs.Ends.{Begins, SeesAll};
+ghost use Rattle.reg_tables.specs.Works.{AreOurs, IsKept, IsLeft, IsSame, edition_in, held, is_shut, shown};
 ghost use Rattle.reg_tables.specs.Upgrades.{BeginsSecond, IsUpgraded, AreUpgraded};
 
 use crate::reader::Reader;
 use crate::upgrade::begin_second;
 use crate::work::{StoreFault, Work};
-use reg_schema::laws::rest_law;
+use reg_schema::laws::{rest_law, stop_law};
 use reg_schema::{Edition, MakeFault, begin, edition_of, make_tables, undo};
 use reg_statements::about::{self, About};
 use sqlite::{Alter, Connection, Error};
@@ -84,12 +85,15 @@ impl<S: Alter> Tables<S> {
         mut conn: Connection<S>,
         base: &str,
     ) -> Result<Tables<S>, (MakeFault, Connection<S>)>
+        requires { (state S.Store conn).in_transaction ≡ false }
         ensures made { IfOk result (λ t. HasCleanDisk (shown S.Store t) → IsMade base.now
             (shown S.Store t).committed × IsAtRest (shown S.Store t)) }
         ensures stands { IfOk result (λ t. HasCleanDisk (shown S.Store t) → Stands
             (empty_at base.now) (shown S.Store t).now.trees) }
         ensures ours { IfOk result (λ t. AreOurs S.Store t × (is_shut t ≡ false)) }
         ensures second { IfOk result (λ t. edition_in t ≡ Edition.Second) }
+        ensures alone { IfOk result (λ t. HasCleanDisk (shown S.Store t) → LeavesCommit
+            (shown S.Store t)) }
         ensures unknown { IfErr result (λ e. (e.0 ≡ MakeFault.UnknownSchema) ↔
             ((state S.Store conn).now.schema ≢ blank)) }
         ensures blank { IfOk result (λ t. (state S.Store conn).now.schema ≡ blank) }
@@ -101,7 +105,9 @@ impl<S: Alter> Tables<S> {
         ensures handed_back { IfErr result (λ e. Survives (state S.Store conn) (state S.Store e.1)
             (λ trees. (db : _) × IsMade base.now db × (trees ≡ db.trees))) }
     {
-        match make_tables(&mut conn, base) {
+        let made = make_tables(&mut conn, base);
+        stop_law(&conn);
+        match made {
             Ok(()) => Ok(Tables {
                 conn,
                 edition: Edition::Second,
@@ -205,15 +211,7 @@ impl<S: Alter> Tables<S> {
         ensures* refused { sem 𝓛 (RestsIfErr (the_row S.row S.Store) self.entry
             (λ w. w.tables.ghost_name) result (IsLeft S.Store self.old)) }
         ensures same_reference { IfOk result (λ w. w.tables.ghost_name ≡ self.entry.ghost_name) }
-        ensures begun { IfOk result (λ w. (has_failed w ≡ false)
-            × (HasCleanDisk (seen S.Store w) → Shows (shown S.Store self.old) (seen S.Store w)
-            (shown S.Store self.old).now (shown S.Store self.old).committed true)) }
-        ensures at_work { IfOk result (IsAtWork S.Store) }
-        ensures open { IfOk result (λ w. (is_shut self.old ≡ false)
-            × (is_shut w.tables.now ≡ false)) }
-        ensures edition { IfOk result (λ w. edition_in w.tables.now ≡ edition_in self.old) }
-        ensures survives { IfOk result (λ w. Survives (shown S.Store self.old) (seen S.Store w)
-            (λ _. ⊥)) }
+        ensures begun { IfOk result (Begins S.Store SeesAll self.old) }
     {
         if self.shut {
             return Err(StoreFault);
@@ -234,15 +232,8 @@ impl<S: Alter> Tables<S> {
         ensures* refused { sem 𝓛 (RestsIfErr (the_row S.row S.Store) self.entry
             (λ w. w.tables.ghost_name) result (IsKept S.Store self.old)) }
         ensures same_reference { IfOk result (λ w. w.tables.ghost_name ≡ self.entry.ghost_name) }
-        ensures begun { IfOk result (λ w. (has_failed w ≡ false)
-            × (HasCleanDisk (seen S.Store w) → BeginsSecond (edition_in self.old)
-            (shown S.Store self.old) (seen S.Store w))) }
-        ensures at_work { IfOk result (IsAtWork S.Store) }
-        ensures open { IfOk result (λ w. (is_shut self.old ≡ false)
-            × (is_shut w.tables.now ≡ false)) }
-        ensures edition { IfOk result (λ w. edition_in w.tables.now ≡ edition_in self.old) }
-        ensures survives { IfOk result (λ w. Survives (shown S.Store self.old) (seen S.Store w)
-            (λ _. ⊥)) }
+        ensures begun { IfOk result
+            (Begins S.Store (BeginsSecond (edition_in self.old)) self.old) }
     {
         if self.shut || begin_second(&mut self.conn, self.edition).is_err() {
             return Err(StoreFault);

@@ -1,18 +1,20 @@
 //! A transaction of the tables.
 
 ghost use Rattle.std.proofs.Common.{IsErr};
-ghost use Rattle.std.specs.Prelude.{◌≡◌, true, false, OnErr, OnOk};
 ghost use Rattle.sqlite.specs.Given.{IsPlain};
 ghost use Rattle.sqlite.specs.Listing.{understood};
 ghost use Rattle.sqlite.specs.Values.{bound};
-ghost use Rattle.sqlite.specs.State.{HasCleanDisk, Shown, Shows, Survives};
+ghost use Rattle.sqlite.specs.State.{Shown};
 ghost use Rattle.reg_schema.specs.Schema.{ours};
-ghost use Rattle.reg_schema.specs.States.{GoesBack, IsUndone, LeavesCommit};
-ghost use Rattle.reg_tables.specs.Works.{AreOurs, Heard, IsAtWork, IsCall, Unmoved, edition_in, has_failed, is_shut, seen, shown};
+ghost use Rattle.reg_schema.specs.Shown.{shown_of};
+ghost use Rattle.reg_tables.specs.Ends.{IsDropped, IsEnded};
+ghost use Rattle.reg_tables.specs.Works.{Heard, IsAtWork, IsCall, Unmoved, seen};
 
 use crate::tables::Tables;
+use reg_schema::laws::stop_law;
 use reg_schema::{Edition, finish, undo};
-use reg_statements::statements::rows_of;
+use reg_statements::records::FromRow;
+use reg_statements::statements::{rows_of, select_one};
 use sqlite::types::ValueRef;
 use sqlite::{Alter, Row};
 use std::alloc::AllocError;
@@ -57,33 +59,17 @@ impl<S: Alter> Work<'_, S> {
     /// nothing more.
     pub fn commit(self) -> Result<(), StoreFault>
         requires { IsAtWork S.Store self }
-        ensures kept { HasCleanDisk (shown S.Store self.exit.0.now) → OnOk result
-            (Shows (seen S.Store self.entry) (shown S.Store self.exit.0.now)
-            (seen S.Store self.entry).now (seen S.Store self.entry).now false) }
-        ensures alone { HasCleanDisk (shown S.Store self.exit.0.now) → OnOk result
-            (LeavesCommit (shown S.Store self.exit.0.now)) }
-        ensures whole { OnOk result (has_failed self.entry ≡ false) }
-        ensures undone { HasCleanDisk (shown S.Store self.exit.0.now) → OnErr result
-            (IsUndone (seen S.Store self.entry) (shown S.Store self.exit.0.now)) }
-        ensures ours { AreOurs S.Store self.exit.0.now }
-        ensures second { OnOk result (edition_in self.exit.0.now ≡ Edition.Second) }
-        ensures edition { OnErr result (edition_in self.exit.0.now
-            ≡ edition_in self.entry.tables.now) }
-        ensures shut { OnErr result (has_failed self.entry ≡ false → is_shut self.exit.0.now
-            ≡ true) }
-        ensures still_open { OnErr result (has_failed self.entry ≡ true → is_shut self.exit.0.now
-            ≡ is_shut self.entry.tables.now) }
-        ensures open { OnOk result (is_shut self.exit.0.now ≡ is_shut self.entry.tables.now) }
-        ensures survives { Survives (seen S.Store self.entry) (shown S.Store self.exit.0.now)
-            (λ db. (has_failed self.entry ≡ false) × (db ≡ (seen S.Store self.entry).now.trees)) }
+        ensures { IsEnded S.Store result self.entry self.exit.0.now }
     {
         let Work { tables, failed } = self;
         if failed {
             undo(&mut tables.conn);
+            stop_law(&tables.conn);
             return Err(StoreFault);
         }
         if finish(&mut tables.conn).is_err() {
             tables.shut = true;
+            stop_law(&tables.conn);
             return Err(StoreFault);
         }
         tables.edition = Edition::Second;
@@ -113,18 +99,28 @@ impl<S: Alter> Work<'_, S> {
     {
         call!(self, rows_of(&mut self.tables.conn, text, params))
     }
+
+    /// The only row of a text that only reads, as a record; none where there is no row. More than
+    /// one row is a fault, as is one that cannot be read.
+    pub fn select_one<T: FromRow>(
+        &mut self,
+        text: &str,
+        params: &[ValueRef<'_>],
+    ) -> Result<Option<T>, StoreFault>
+        requires at_work { IsAtWork S.Store self.old }
+        requires reads { IsPlain (understood ours text.now) }
+        ensures row { Heard S.Store self.new result (λ found. Shown text.now (bound params.now)
+            (seen S.Store self.old) (seen S.Store self.new) (shown_of T.FromRow.columns found)) }
+        ensures same { Unmoved S.Store result self.old self.new }
+        ensures leaves { IsCall S.Store result self.old self.new }
+    {
+        call!(self, select_one(&mut self.tables.conn, text, params))
+    }
 }
 
 impl<S: Alter> Drop for Work<'_, S> {
     fn drop(self)
-        ensures undone { HasCleanDisk (shown S.Store self.exit.0.now) → IsUndone
-            (seen S.Store self.entry) (shown S.Store self.exit.0.now) }
-        ensures ours { GoesBack (edition_in self.entry.tables.now) (seen S.Store self.entry)
-            → AreOurs S.Store self.exit.0.now }
-        ensures edition { edition_in self.exit.0.now ≡ edition_in self.entry.tables.now }
-        ensures open { is_shut self.exit.0.now ≡ is_shut self.entry.tables.now }
-        ensures survives { Survives (seen S.Store self.entry) (shown S.Store self.exit.0.now)
-            (λ _. ⊥) }
+        ensures { IsDropped S.Store self.entry self.exit.0.now }
     {
         let Work { tables, failed: _ } = self;
         undo(&mut tables.conn);

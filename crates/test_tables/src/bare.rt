@@ -4,6 +4,7 @@ ghost use Rattle.sqlite.specs.Held.{state};
 ghost use Rattle.std.specs.Prelude.{◌≡◌, false};
 
 use crate::fault::Fault;
+use crate::old_store::make_old;
 use crate::records::list;
 use crate::script::{BASE, FILLED, check_text, compare, no_arrow, play_over};
 use reg_audit::audit;
@@ -20,7 +21,7 @@ fn made(made: Result<(), MakeFault>) -> &'static str {
     }
 }
 
-fn run(run: Result<usize, Error>) -> &'static str {
+fn run<T: Drop>(run: Result<T, Error>) -> &'static str {
     match run {
         Ok(_) => "done",
         Err(_) => "fault",
@@ -61,6 +62,7 @@ fn by_word<S: Alter>(
     Ok(Some(match line {
         "ours" => yes(edition_of(alloc, conn.schema())? == Some(Edition::Second)),
         "resting" => yes(conn.is_autocommit()),
+        "make-old" => run(make_old(conn)),
         "begin" => run(begin(conn)),
         "finish" => run(finish(conn)),
         "undo" => {
@@ -112,6 +114,9 @@ fn migrated<S: Alter>(alloc: Global, conn: Connection<S>) -> (Connection<S>, &'s
 
 /// Tables are made, and given back.
 fn tables_made<S: Alter>(conn: Connection<S>, base: &str) -> (Connection<S>, &'static str) {
+    if !conn.is_autocommit() {
+        return (conn, "a transaction is open");
+    }
     match Tables::make(conn, base) {
         Ok(tables) => (tables.into_connection(), "done"),
         Err((fault, conn)) => (conn, made(Err(fault))),
@@ -230,6 +235,9 @@ fn found<S: Alter + Drop>(
     conn: Connection<S>,
     statements: &str,
 ) -> Result<&'static str, Fault> {
+    if !conn.is_autocommit() {
+        return Err(Fault::NotMade);
+    }
     match Tables::make(conn, BASE) {
         Ok(mut tables) => match play_over(alloc, &mut tables, FILLED)? {
             None => checks_after(alloc, tables.into_connection(), statements),

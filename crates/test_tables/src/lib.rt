@@ -16,6 +16,7 @@ mod bare;
 mod call;
 mod calling;
 mod fault;
+mod old_store;
 mod records;
 mod script;
 mod words;
@@ -25,6 +26,7 @@ pub use bare::{check_each, over_a_connection};
 pub use call::{AccountCall, Call, CrateCall, NameCall, NewToken, Release, TextCall, TokenCall};
 pub use calling::perform;
 pub use fault::Fault;
+pub use old_store::make_old;
 pub use script::{
     BASE, FILLED, answer_of, check_text, first_broken, play, play_over, read_logins, reply_text,
     rows_text,

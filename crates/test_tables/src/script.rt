@@ -374,6 +374,9 @@ fn play_new<S: Alter + Drop>(
     conn: Connection<S>,
     script: &str,
 ) -> Result<Option<String>, Fault> {
+    if !conn.is_autocommit() {
+        return Err(Fault::NotMade);
+    }
     match Tables::make(conn, BASE) {
         Ok(tables) => play_in(alloc, tables, script),
         Err((_fault, _conn)) => Err(Fault::NotMade),

@@ -5,7 +5,7 @@ use Rattle.reg_statements.specs.Archives.{archives_with_id}
 use Rattle.reg_tables.specs.Works.{seen}
 use Rattle.reg_stored.proofs.Readings.{same_then}
 use Rattle.reg_audit.specs.Checks.{is_archive}
-use Rattle.reg_audit.proofs.Looking.{looks_then}
+use Rattle.reg_tables.proofs.Looking.{looks_then}
 use Rattle.reg_audit.proofs.SameIds.{all_more, all_taken}
 use Rattle.reg_audit.proofs.archives.have_archives.Goals as goal
 

@@ -4,7 +4,7 @@ use Rattle.sqlite.specs.State.{HasCleanDisk, IsUnchanged}
 use Rattle.reg_tables.specs.Works.{has_failed, seen}
 use Rattle.reg_statements.specs.Archives.{archives_with_id}
 use Rattle.reg_audit.specs.Checks.{is_archive}
-use Rattle.reg_audit.specs.Looks.{Looks}
+use Rattle.reg_tables.specs.Looks.{Looks}
 use Rattle.reg_audit.proofs.archives.have_archives.Given as goal
 
 -- the versions before the index have their archives

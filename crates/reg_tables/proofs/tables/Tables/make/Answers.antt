@@ -3,4 +3,4 @@ use Rattle.reg_tables.proofs.Made.{made_stands}
 use Rattle.reg_tables.proofs.tables.Tables.make.Goals as goal
 
 pub returns-in-Ok-clause-stands : goal.returns-in-Ok-clause-stands
-returns-in-Ok-clause-stands g c clean = made_stands c.args.base.now (state g.S.Store c.make_tables.new.conn) (c.in-Ok.ensures.made clean)
+returns-in-Ok-clause-stands g c clean = made_stands c.args.base.now (state g.S.Store c.make_tables-made.new.conn) (c.in-Ok.ensures.made clean)

@@ -4,4 +4,4 @@ use Rattle.reg_tables.proofs.tables.Tables.migrate.Goals as goal
 
 pub returns-in_err-commit-clause-survives : goal.returns-in_err-commit-clause-survives
 returns-in_err-commit-clause-survives g c =
-    let h = stops_between _ _ _ _ _ c.in-First.is c.in_ok-work.ensures.begun.1 c.in_ok-work.ensures.survives c.in_err-commit.ensures.survives in search (rules, h)
+    let h = stops_between _ _ _ _ _ c.in-First.is c.in_ok-work.ensures.begun.view c.in_ok-work.ensures.begun.survives c.in_err-commit.ensures.survives in search (rules, h)

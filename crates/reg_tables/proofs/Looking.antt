@@ -1,20 +1,17 @@
--- What functions that only read leave, one after another.
-use Rattle.std.proofs.Common.{Result, Ok, Err, OnOk, OnErr, IfOk, ap, refl, arith, ◌∙◌}
+-- What calls that may be followed by more leave of a transaction, one after another.
+use Rattle.std.proofs.Common.{Result, Ok, Err, OnOk, OnErr, IfOk, ap, inl, refl, arith, ◌∙◌}
 use Rattle.sqlite_trees.specs.declared.store.Store.{Ghosts}
-use Rattle.sqlite.specs.State.{State, HasCleanDisk, IsUnchanged, KeepsCommit}
+use Rattle.sqlite.specs.State.{State, IsUnchanged, KeepsCommit}
 use Rattle.sqlite.proofs.StateLemmas.{survives_then}
 use Rattle.reg_schema.specs.States.{IsInside}
-use Rattle.reg_schema.specs.Steps.{Fails}
+use Rattle.reg_schema.specs.Steps.{Fails, Within}
 use Rattle.sqlite.specs.Effect.{Database}
 use Rattle.reg_schema.specs.declared.edition.Edition.{Edition}
 use Rattle.reg_schema.specs.declared.edition.Edition.TheVariants.{First, Second}
 use Rattle.reg_tables.specs.Upgrades.{AreBegun, BeginsSecond}
-use Rattle.reg_tables.specs.Works.{IsCall, seen}
+use Rattle.reg_tables.specs.Works.{IsAtWork, IsCall, seen}
 use Rattle.reg_tables.specs.declared.work.Work.{Work}
-use Rattle.reg_audit.specs.Looks.{Looks}
-
-pub unchanged_keeps : (old new : State) → IsUnchanged old new → KeepsCommit old new
-unchanged_keeps old new same = record { was_open = λ _. same.0.was_open; committed = λ _. same.0.committed_is }
+use Rattle.reg_tables.specs.Looks.{Looks}
 
 pub keeps_then : (a b c : State) → KeepsCommit a b → KeepsCommit b c → KeepsCommit a c
 keeps_then a b c one two = record { was_open = λ h. one.was_open (two.was_open h); committed = λ h. two.committed h ∙ one.committed (two.was_open h) }
@@ -22,19 +19,30 @@ keeps_then a b c one two = record { was_open = λ h. one.was_open (two.was_open 
 pub itself_unchanged : (s : State) → IsInside s → IsUnchanged s s
 itself_unchanged s at = (record { was_open = at.is_open; is_open = at.is_open; now_is = refl; committed_is = refl; mode = refl }, record { changes = refl; last_rowid = refl }, refl)
 
-call_keeps : {T E : Type 0} (old new : State) (r : Result T E) → OnOk r (IsUnchanged old new) → OnErr r (Fails old new) → KeepsCommit old new
-call_keeps old new (Ok x) same fails = unchanged_keeps old new same
-call_keeps old new (Err e) same fails = fails.kept
+call_keeps : {T E : Type 0} (old new : State) (r : Result T E) → OnOk r (Within old new) → OnErr r (Fails old new) → KeepsCommit old new
+call_keeps old new (Ok x) within fails = record { was_open = λ _. within.was_open; committed = λ _. within.committed }
+call_keeps old new (Err e) within fails = fails.kept
 
 module _ {S : Type 0} (g : Ghosts S) where
-  pub call_looks : {T E : Type 0} (r : Result T E) (old new : Work S) → IsCall g r old new → (HasCleanDisk (seen g new) → OnOk r (IsUnchanged (seen g old) (seen g new))) → Looks g old new
-  call_looks r old new call same = record {
+  pub call_looks : {T E : Type 0} (r : Result T E) (old new : Work S) → IsCall g r old new → Looks g old new
+  call_looks r old new call = record {
     same_reference = call.same_reference;
     same_edition = call.same_edition;
     same_mode = call.same_mode;
     at_work = call.at_work;
-    kept = λ clean. call_keeps (seen g old) (seen g new) r (same clean) (call.failed clean);
+    kept = λ clean. call_keeps (seen g old) (seen g new) r (call.within clean) (call.failed clean);
     survives = call.survives;
+  }
+
+  -- where nothing is called
+  pub itself_looks : (w : Work S) → IsAtWork g w → Looks g w w
+  itself_looks w at = record {
+    same_reference = refl;
+    same_edition = refl;
+    same_mode = refl;
+    at_work = at;
+    kept = λ clean. record { was_open = λ h. h; committed = λ h. refl };
+    survives = record { clean = omega arith; shield = λ h. h; counts = omega arith; limit = refl; closes = λ clean h. inl h; crash = λ clean db h. inl h };
   }
 
   pub looks_then : (a b c : Work S) → Looks g a b → Looks g b c → Looks g a c
