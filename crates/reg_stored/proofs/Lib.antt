@@ -10,6 +10,7 @@ mod CratesStand
 mod Dropped
 mod FoundTokens
 mod NextId
+mod OwnRowids
 mod MarkedStand
 mod Numbered
 mod PairsStand
