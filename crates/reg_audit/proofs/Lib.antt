@@ -1,4 +1,5 @@
 pub mod Genuine
+pub mod Kept
 pub mod Orders
 pub mod SameIds
 pub mod Scopes

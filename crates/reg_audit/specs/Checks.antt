@@ -1,5 +1,5 @@
 -- The checks of all rows, when a store is opened.
-use Rattle.std.specs.Prelude.{◌≡◌, ◌⊎◌, ℕ, ◌+◌, ◌==◌, ◌&&◌, ◌||◌, Bool, true, false, not, List, [], ◌∷◌, Option, None, Some, length, map, string_bytes}
+use Rattle.std.specs.Prelude.{◌≡◌, ◌⊎◌, ℕ, ◌+◌, ◌==◌, ◌&&◌, ◌||◌, Bool, true, false, not, List, [], ◌∷◌, Option, None, Some, filter, length, map, string_bytes}
 use Rattle.std.specs.List.{AllByRecursion, find, list_all, list_any}
 use Rattle.std.specs.Option.{option_map}
 use Rattle.std.specs.Str.{bytes_eq}
@@ -22,10 +22,12 @@ use Rattle.reg_statements.specs.declared.accounts.Account.{Account}
 use Rattle.reg_stored.specs.declared.all_rows.AllRows.{AllRows}
 use Rattle.reg_statements.specs.declared.crates.Crate.{Crate}
 use Rattle.reg_statements.specs.declared.scopes.Scope.{Scope}
+use Rattle.reg_statements.specs.declared.summaries.Summary.{Summary}
 use Rattle.reg_statements.specs.declared.tokens.Token.{Token}
 use Rattle.reg_statements.specs.declared.versions.Version.{Version}
+use Rattle.reg_stored.specs.Summaries.{ShownMark, highest_in, length_in}
 use Rattle.reg_audit.specs.declared.check.Check.{Check}
-use Rattle.reg_audit.specs.declared.check.Check.TheVariants.{C1, C2, C3, C4, C5, C6}
+use Rattle.reg_audit.specs.declared.check.Check.TheVariants.{C1, C2, C3, C4, C5, C6, C7, C8}
 
 -- the numbers from this one on, without a gap
 abbrev pub are_counted : ℕ → List ℕ → Bool
@@ -120,6 +122,42 @@ is_reserved t = (is_name t && bytes_eq (canon t) t) && not (is_reserved_always t
 abbrev pub reserved_pass : AllRows → Bool
 reserved_pass it = list_all (λ s. is_reserved (string_bytes s)) it.reserved.items
 
+-- a version, as a summary is made of it
+abbrev pub shown_version : Version → ShownMark
+shown_version v = record {
+  id = v.id;
+  version = string_bytes v.vers;
+  stem_length = length v.stem.items;
+  yanked = v.yanked;
+}
+
+-- the versions of the crate with this id, in the order of publication
+abbrev pub its_versions : AllRows → ℕ → List ShownMark
+its_versions it id = map shown_version (filter (λ v. v.crate_id == id) it.versions.items)
+
+-- what a summary says, the versions of its crate give
+abbrev pub is_summary : AllRows → Summary → Bool
+is_summary it s =
+    let its = its_versions it s.crate_id in
+    s.highest == highest_in its && s.index_length == length_in its
+
+-- C7: each crate has one summary, and there is no other; each is what the crate's versions give
+abbrev pub summaries_pass : AllRows → Bool
+summaries_pass it =
+    bytes_eq (map (λ s. s.crate_id) it.summaries.items) (map (λ c. c.id) it.crates.items)
+    && list_all (is_summary it) it.summaries.items
+
+abbrev pub has_crate : AllRows → ℕ → Bool
+has_crate it id = list_any (λ c. c.id == id) it.crates.items
+
+abbrev pub has_account : AllRows → ℕ → Bool
+has_account it id = list_any (λ a. a.id == id) it.accounts.items
+
+-- C8: each restricted crate is there, and so are the crate and the account of each reader
+abbrev pub readers_pass : AllRows → Bool
+readers_pass it = list_all (has_crate it) it.restricted.items && list_all (λ r. has_crate it r.crate_id
+    && has_account it r.account) it.readers.items
+
 abbrev pub Passes : AllRows → Trees → Check → Type 0
 Passes it db C1 = accounts_pass it ≡ true
 Passes it db C2 = tokens_pass it ≡ true
@@ -127,6 +165,8 @@ Passes it db C3 = crates_pass it ≡ true
 Passes it db C4 = archives_pass it db ≡ true
 Passes it db C5 = VersionsPass it
 Passes it db C6 = reserved_pass it ≡ true
+Passes it db C7 = summaries_pass it ≡ true
+Passes it db C8 = readers_pass it ≡ true
 
 -- the first of these checks that fails; where all pass, none
 abbrev pub IsFirstOf : List Check → AllRows → Trees → Option Check → Type 0
@@ -135,4 +175,4 @@ IsFirstOf (c ∷ rest) it db found = (Passes it db c × IsFirstOf rest it db fou
     ⊎ ((Passes it db c → ⊥) × (found ≡ Some c))
 
 abbrev pub IsFirst : AllRows → Trees → Option Check → Type 0
-IsFirst = IsFirstOf (C1 ∷ C2 ∷ C3 ∷ C4 ∷ C5 ∷ C6 ∷ [])
+IsFirst = IsFirstOf (C1 ∷ C2 ∷ C3 ∷ C4 ∷ C5 ∷ C6 ∷ C7 ∷ C8 ∷ [])

@@ -15,4 +15,8 @@ pub enum Check {
     C5,
     /// the reserved names
     C6,
+    /// the summaries of the crates
+    C7,
+    /// the restricted crates and the readers
+    C8,
 }

@@ -6,11 +6,19 @@ ghost use Rattle.std.specs.BTreeSet.{contains};
 ghost use Rattle.std.specs.Ordering.{nat_cmp};
 ghost use Rattle.reg_audit.specs.Checks.{crates_pass as crates_pass_in, is_named as is_named_row};
 
-use crate::texts::same_text;
+use crate::texts::{HasId, same_text};
 use reg_names::{canon, parse_name};
 use reg_tables::{AllRows, Crate, Ownership, Version};
 use std::alloc::{AllocError, Global};
 use std::collections::BTreeSet;
+
+impl HasId for Crate {
+    ghost id_of = { λ c. c.id };
+
+    fn id(&self) -> u32 {
+        self.id
+    }
+}
 
 fn is_named(it: &Crate) -> bool
     ensures { result ≡ is_named_row it.now }

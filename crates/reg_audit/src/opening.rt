@@ -10,13 +10,15 @@ ghost use Rattle.reg_tables.specs.Works.{AreOurs, IsAtWork, edition_in, has_fail
 ghost use Rattle.reg_stored.specs.declared.all_rows.AllRows.{AllRows as Rows};
 ghost use Rattle.reg_audit.specs.Checks.{IsFirst, IsFirstOf};
 ghost use Rattle.reg_tables.specs.Looks.{Looks};
-ghost use Rattle.reg_audit.specs.declared.check.Check.TheVariants.{C1, C2, C3, C5, C6};
+ghost use Rattle.reg_audit.specs.declared.check.Check.TheVariants.{C1, C2, C3, C5, C6, C7, C8};
 
 use crate::accounts::accounts_pass;
 use crate::archives::archives_pass;
 use crate::check::Check;
 use crate::crates::crates_pass;
+use crate::readers::readers_pass;
 use crate::reserved::reserved_pass;
+use crate::summaries::summaries_pass;
 use crate::tokens::tokens_pass;
 use crate::versions::versions_pass;
 use reg_tables::{AllRows, StoreFault, Tables, Work};
@@ -41,14 +43,21 @@ fn first_before(alloc: Global, rows: &AllRows) -> Result<Option<Check>, AllocErr
 }
 
 // The checks after that of the archives.
-fn first_after(alloc: Global, rows: &AllRows) -> Result<Option<Check>, AllocError>
-    ensures { IfOk result (λ found. (db : Trees) → IsFirstOf (C5 ∷ C6 ∷ []) rows.now db found) }
+fn first_after(alloc: Global, rows: &AllRows) -> Result<Option<Check>, StoreFault>
+    ensures { IfOk result (λ found. (db : Trees) → IsFirstOf
+        (C5 ∷ C6 ∷ C7 ∷ C8 ∷ []) rows.now db found) }
 {
     if !versions_pass(alloc, rows)? {
         return Ok(Some(Check::C5));
     }
     if !reserved_pass(rows) {
         return Ok(Some(Check::C6));
+    }
+    if !summaries_pass(alloc, rows)? {
+        return Ok(Some(Check::C7));
+    }
+    if !readers_pass(alloc, rows)? {
+        return Ok(Some(Check::C8));
     }
     Ok(None)
 }

@@ -28,7 +28,7 @@ use Rattle.reg_schema.proofs.TableMatches.{equals_first, matches_text, matches_n
 use Rattle.reg_schema.proofs.WholeTables.{all_in_order, one_count}
 use Rattle.reg_statements.specs.declared.crates.Crate.{Crate}
 use Rattle.reg_statements.specs.Counts.{IsCount, IsLastId}
-use Rattle.reg_statements.specs.Crates.{AreCrates, IsCrateOfCanon, crate_columns, IsCrateThere}
+use Rattle.reg_statements.specs.Crates.{AreCrates, AreCratesById, IsCrateOfCanon, crate_columns, IsCrateThere}
 
 abbrev project : List Term
 project = col 1 0 ∷ col 1 2 ∷ col 1 3 ∷ []
@@ -59,6 +59,16 @@ listed_is = record { command = refl; unlisted = refl; plain = (refl, refl) }
 
 pub listed : (old new : State) (list : List Crate) → IsInside old → Shown listed_text [] old new (map crate_columns list) → AreCrates old.now.trees list
 listed old new list at h = all_in_order (overlay old.now.trees []) [] 7 project _ 2 (selected listed_is [] old new _ at h)
+
+abbrev pub listed_by_id_text : List ℕ
+listed_by_id_text = codes "SELECT id, canon, name FROM crates ORDER BY id"
+
+pub listed_by_id_is : IsSelection ours listed_by_id_text (in_order (inner 7 end) [] project ((col 1 0, ascending Binary) ∷ [])) (names)
+unfolding understood everything
+listed_by_id_is = record { command = refl; unlisted = refl; plain = (refl, refl) }
+
+pub listed_by_id : (old new : State) (list : List Crate) → IsInside old → Shown listed_by_id_text [] old new (map crate_columns list) → AreCratesById old.now.trees list
+listed_by_id old new list at h = all_in_order (overlay old.now.trees []) [] 7 project _ 0 (selected listed_by_id_is [] old new _ at h)
 
 abbrev pub last_text : List ℕ
 last_text = codes "SELECT id FROM crates ORDER BY id DESC LIMIT 1"

@@ -21,24 +21,32 @@ use Rattle.reg_statements.specs.Rowids.{AreRowids, rowid_columns}
 abbrev rowids_query : ℕ → Query
 rowids_query tree = in_order (inner tree end) [] (col 1 0 ∷ []) ((col 1 0, ascending Binary) ∷ [])
 
--- what our schema makes of a text: a query for the rowids of a table
-pub record AsksRowids (tree : ℕ) (text : List ℕ) : Type 0 where
-  pub is : IsSelection ours text (rowids_query tree) (codes "rowid" ∷ [])
+-- what our schema makes of a text: a query for the rowids of a table, under this name
+pub record AsksRowids (tree : ℕ) (name text : List ℕ) : Type 0 where
+  pub is : IsSelection ours text (rowids_query tree) (name ∷ [])
   pub seen : (db : Trees) → overlay db [] tree ≡ db tree
 
-pub rowids : {tree : ℕ} {text : List ℕ} → AsksRowids tree text → (old new : State) (list : List ℤ) → IsInside old → Shown text [] old new (map rowid_columns list) → AreRowids tree old.now.trees list
-rowids {tree} {text} it old new list at h =
+pub rowids : {tree : ℕ} {name text : List ℕ} → AsksRowids tree name text → (old new : State) (list : List ℤ) → IsInside old → Shown text [] old new (map rowid_columns list) → AreRowids tree old.now.trees list
+rowids {tree} {name} {text} it old new list at h =
     subst (λ rows. IsInOrder (by_column 0) rows (shows (0 ∷ [])) (map rowid_columns list)) (it.seen old.now.trees)
     (all_in_order (overlay old.now.trees []) [] tree (col 1 0 ∷ []) (map rowid_columns list) 0 (selected it.is [] old new (map rowid_columns list) at h))
 
-pub of_owners : AsksRowids 9 (codes "SELECT rowid FROM owners ORDER BY rowid")
+pub of_owners : AsksRowids 9 (codes "rowid") (codes "SELECT rowid FROM owners ORDER BY rowid")
 unfolding understood everything
 of_owners = record { is = record { command = refl; unlisted = refl; plain = (refl, refl) }; seen = λ db. refl }
 
-pub of_readers : AsksRowids 18 (codes "SELECT rowid FROM readers ORDER BY rowid")
+pub of_readers : AsksRowids 18 (codes "rowid") (codes "SELECT rowid FROM readers ORDER BY rowid")
 unfolding understood everything
 of_readers = record { is = record { command = refl; unlisted = refl; plain = (refl, refl) }; seen = λ db. refl }
 
-pub of_reserved : AsksRowids 14 (codes "SELECT rowid FROM reserved ORDER BY rowid")
+pub of_reserved : AsksRowids 14 (codes "rowid") (codes "SELECT rowid FROM reserved ORDER BY rowid")
 unfolding understood everything
 of_reserved = record { is = record { command = refl; unlisted = refl; plain = (refl, refl) }; seen = λ db. refl }
+
+pub of_crates : AsksRowids 7 (codes "id") (codes "SELECT id FROM crates ORDER BY id")
+unfolding understood everything
+of_crates = record { is = record { command = refl; unlisted = refl; plain = (refl, refl) }; seen = λ db. refl }
+
+pub of_versions : AsksRowids 11 (codes "id") (codes "SELECT id FROM versions ORDER BY id")
+unfolding understood everything
+of_versions = record { is = record { command = refl; unlisted = refl; plain = (refl, refl) }; seen = λ db. refl }

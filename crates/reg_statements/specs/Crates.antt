@@ -6,7 +6,7 @@ use Rattle.std.specs.Prelude.{◌≡◌, ℕ, pos, List, [], ◌∷◌, Option, 
 use Rattle.sqlite.specs.declared.types.Value.TheVariants.{Int, Text}
 use Rattle.sqlite.specs.Order.{Row}
 use Rattle.sqlite.specs.Tree.{Trees}
-use Rattle.reg_schema.specs.Places.{crate_canon_place, crates_tree}
+use Rattle.reg_schema.specs.Places.{crate_canon_place, crates_tree, id_place}
 use Rattle.reg_schema.specs.Rows.{IsInOrder, by_column, keyed}
 use Rattle.reg_schema.specs.Shown.{shown_of}
 use Rattle.reg_schema.specs.Tests.{is_text, shows}
@@ -28,6 +28,11 @@ abbrev pub AreCrates : Trees → List Crate → Type 0
 AreCrates db list =
     IsInOrder (by_column crate_canon_place) (db crates_tree) (shows crate_places)
     (map crate_columns list)
+
+-- these are the crates, by id
+abbrev pub AreCratesById : Trees → List Crate → Type 0
+AreCratesById db list =
+    IsInOrder (by_column id_place) (db crates_tree) (shows crate_places) (map crate_columns list)
 
 -- this is the crate with the canonical name, if there is one
 abbrev pub IsCrateOfCanon : List ℕ → Trees → Option Crate → Type 0

@@ -6,7 +6,8 @@ ghost use Rattle.reg_schema.specs.Places.{crates_tree};
 ghost use Rattle.reg_schema.specs.States.{IsReady};
 ghost use Rattle.reg_schema.specs.Statements.{Reads, Writes, rows_in};
 ghost use Rattle.reg_statements.specs.Counts.{IsCount, IsLastId};
-ghost use Rattle.reg_statements.specs.Crates.{AreCrates, IsCrateOfCanon, IsCrateThere, crate_columns, crate_row};
+ghost use Rattle.reg_statements.specs.Crates.{AreCrates, AreCratesById, IsCrateOfCanon, IsCrateThere, crate_columns, crate_row};
+ghost use Rattle.reg_statements.specs.Rowids.{AreRowids};
 
 use crate::records::FromRow;
 use crate::statements::{has_row, select_list, select_number, select_one, write};
@@ -88,6 +89,29 @@ pub fn all<S: Alter>(alloc: Global, conn: &mut Connection<S>) -> Result<Vec<Crat
         "SELECT id, canon, name FROM crates ORDER BY canon",
         &[],
     )
+}
+
+/// All the crates, in the order of their ids.
+pub fn all_by_id<S: Alter>(alloc: Global, conn: &mut Connection<S>) -> Result<Vec<Crate>, Error>
+    requires { IsReady (state S.Store conn.old) }
+    ensures { Reads S.Store conn.old conn.new result
+        (λ list. AreCratesById (rows_in S.Store conn.old) list.items) }
+{
+    select_list(
+        alloc,
+        conn,
+        "SELECT id, canon, name FROM crates ORDER BY id",
+        &[],
+    )
+}
+
+/// The ids of all crates, in order, as rowids.
+pub fn rowids<S: Alter>(alloc: Global, conn: &mut Connection<S>) -> Result<Vec<i64>, Error>
+    requires { IsReady (state S.Store conn.old) }
+    ensures { Reads S.Store conn.old conn.new result
+        (λ list. AreRowids crates_tree (rows_in S.Store conn.old) list.items) }
+{
+    select_list(alloc, conn, "SELECT id FROM crates ORDER BY id", &[])
 }
 
 /// The greatest id of a crate, if there is one.

@@ -11,6 +11,7 @@ ghost use Rattle.reg_schema.specs.Rows.{mark};
 ghost use Rattle.reg_schema.specs.States.{IsReady};
 ghost use Rattle.reg_schema.specs.Statements.{Reads, Writes, rows_in};
 ghost use Rattle.reg_statements.specs.Counts.{IsLastId};
+ghost use Rattle.reg_statements.specs.Rowids.{AreRowids};
 ghost use Rattle.reg_statements.specs.Stems.{AreEntriesOf, columns_of_stem};
 ghost use Rattle.reg_statements.specs.VersionMarks.{AreMarksOf, columns_of_mark};
 ghost use Rattle.reg_statements.specs.Versions.{AreVersions, AreVersionsOf, MarksYanked, columns_of_version, version_row};
@@ -197,6 +198,15 @@ pub fn all<S: Alter>(alloc: Global, conn: &mut Connection<S>) -> Result<Vec<Vers
         BY id",
         &[],
     )
+}
+
+/// The ids of all versions, in order, as rowids.
+pub fn rowids<S: Alter>(alloc: Global, conn: &mut Connection<S>) -> Result<Vec<i64>, Error>
+    requires { IsReady (state S.Store conn.old) }
+    ensures { Reads S.Store conn.old conn.new result
+        (λ list. AreRowids versions_tree (rows_in S.Store conn.old) list.items) }
+{
+    select_list(alloc, conn, "SELECT id FROM versions ORDER BY id", &[])
 }
 
 /// The rows of the index file of a crate.

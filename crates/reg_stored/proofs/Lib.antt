@@ -10,6 +10,7 @@ mod CratesStand
 mod Dropped
 pub mod FoundTokens
 mod NextId
+mod OwnRowids
 pub mod MarkedStand
 pub mod Numbered
 mod PairsStand

@@ -36,7 +36,7 @@ tied a b = is_eq (value_cmp (rowid a) (rowid b))
 pub values_tie : IsEquivalence (λ a b. is_eq (value_cmp a b))
 values_tie = eq_by_cmp_equiv value_cmp_total
 
-tied_back : (a b : Row) → tied a b ≡ tied b a
+pub tied_back : (a b : Row) → tied a b ≡ tied b a
 tied_back a b = values_tie.symm (rowid a) (rowid b)
 
 free_of : (new : Row) (rows : List Row) → is_taken rows new ≡ false → AllByRecursion (λ r. tied new r ≡ false) rows

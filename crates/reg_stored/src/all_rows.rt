@@ -2,34 +2,42 @@
 
 ghost use Rattle.std.specs.Prelude.{Some, string_bytes};
 ghost use Rattle.sqlite.specs.Held.{state};
+ghost use Rattle.reg_schema.specs.Places.{readers_tree};
 ghost use Rattle.reg_schema.specs.States.{IsReady};
 ghost use Rattle.reg_schema.specs.Statements.{rows_in};
-ghost use Rattle.reg_schema.specs.Steps.{KeepsAll, Told};
+ghost use Rattle.reg_schema.specs.Steps.{Done, KeepsAll, Told};
 ghost use Rattle.reg_statements.specs.Abouts.{IsBaseOf};
 ghost use Rattle.reg_statements.specs.Accounts.{AreAccounts};
 ghost use Rattle.reg_statements.specs.Archives.{AreArchiveIds, IsArchiveWithId};
-ghost use Rattle.reg_statements.specs.Crates.{AreCrates};
+ghost use Rattle.reg_statements.specs.Crates.{AreCratesById};
 ghost use Rattle.reg_statements.specs.Owners.{AreOwnerships};
+ghost use Rattle.reg_statements.specs.Pairs.{ArePairs};
 ghost use Rattle.reg_statements.specs.Reserved.{AreReserved};
+ghost use Rattle.reg_statements.specs.Restricted.{AreRestricted};
 ghost use Rattle.reg_statements.specs.Scopes.{AreScopes};
+ghost use Rattle.reg_statements.specs.Summaries.{AreSummaries};
 ghost use Rattle.reg_statements.specs.Tokens.{AreTokens};
 ghost use Rattle.reg_statements.specs.Versions.{AreVersions};
-ghost use Rattle.reg_stored.specs.WholeRows.{AreAllRows};
+ghost use Rattle.reg_stored.specs.WholeRows.{AreAllRows, AreApart};
 
+use crate::apart::check_rowids;
 use reg_statements::accounts::Account;
 use reg_statements::crates::Crate;
 use reg_statements::owners::Ownership;
+use reg_statements::pairs::Pair;
 use reg_statements::scopes::Scope;
+use reg_statements::summaries::Summary;
 use reg_statements::tokens::Token;
 use reg_statements::versions::Version;
 use reg_statements::{
-    about, accounts, archives, crates, owners, reserved, scopes, tokens, versions,
+    about, accounts, archives, crates, owners, readers, reserved, restricted, scopes, summaries,
+    tokens, versions,
 };
 use sqlite::{Alter, Connection, Error};
 use std::alloc::Global;
 
-/// The rows of all tables, each table in the order of its key (crates in that of their canonical
-/// names). Of the archives there are the ids alone.
+/// The rows of all tables, each table in the order of its key. Of the archives and of the restricted
+/// crates there are the ids alone.
 #[derive(Drop)]
 pub struct AllRows {
     pub base: String,
@@ -41,6 +49,9 @@ pub struct AllRows {
     pub versions: Vec<Version>,
     pub archives: Vec<u64>,
     pub reserved: Vec<String>,
+    pub summaries: Vec<Summary>,
+    pub restricted: Vec<u32>,
+    pub readers: Vec<Pair>,
 }
 
 /// The rows that tokens are of.
@@ -57,6 +68,14 @@ struct CrateTables {
     crates: Vec<Crate>,
     owners: Vec<Ownership>,
     versions: Vec<Version>,
+}
+
+/// What is kept of crates beside their versions.
+#[derive(Drop)]
+struct KeptTables {
+    summaries: Vec<Summary>,
+    restricted: Vec<u32>,
+    readers: Vec<Pair>,
 }
 
 /// All other rows.
@@ -87,23 +106,46 @@ fn token_tables<S: Alter>(alloc: Global, conn: &mut Connection<S>) -> Result<Tok
     })
 }
 
+// That rows have rowids of their own is seen before any is read.
 fn crate_tables<S: Alter>(alloc: Global, conn: &mut Connection<S>) -> Result<CrateTables, Error>
     requires { IsReady (state S.Store conn.old) }
     ensures crates { Told S.Store conn.new result
-        (λ it. AreCrates (rows_in S.Store conn.old) it.crates.items) }
+        (λ it. AreCratesById (rows_in S.Store conn.old) it.crates.items) }
     ensures owners { Told S.Store conn.new result
         (λ it. AreOwnerships (rows_in S.Store conn.old) it.owners.items) }
     ensures versions { Told S.Store conn.new result
         (λ it. AreVersions (rows_in S.Store conn.old) it.versions.items) }
+    ensures apart { Done S.Store conn.new result (AreApart (rows_in S.Store conn.old)) }
     ensures same { KeepsAll S.Store conn.old conn.new result }
 {
-    let crates = crates::all(alloc, conn)?;
+    check_rowids(alloc, conn)?;
+    let crates = crates::all_by_id(alloc, conn)?;
     let owners = owners::all(alloc, conn)?;
     let versions = versions::all(alloc, conn)?;
     Ok(CrateTables {
         crates,
         owners,
         versions,
+    })
+}
+
+fn kept_tables<S: Alter>(alloc: Global, conn: &mut Connection<S>) -> Result<KeptTables, Error>
+    requires { IsReady (state S.Store conn.old) }
+    ensures summaries { Told S.Store conn.new result
+        (λ it. AreSummaries (rows_in S.Store conn.old) it.summaries.items) }
+    ensures restricted { Told S.Store conn.new result
+        (λ it. AreRestricted (rows_in S.Store conn.old) it.restricted.items) }
+    ensures readers { Told S.Store conn.new result
+        (λ it. ArePairs readers_tree (rows_in S.Store conn.old) it.readers.items) }
+    ensures same { KeepsAll S.Store conn.old conn.new result }
+{
+    let summaries = summaries::all(alloc, conn)?;
+    let restricted = restricted::all(alloc, conn)?;
+    let readers = readers::all(alloc, conn)?;
+    Ok(KeptTables {
+        summaries,
+        restricted,
+        readers,
     })
 }
 
@@ -139,7 +181,7 @@ fn other_tables<S: Alter>(alloc: Global, conn: &mut Connection<S>) -> Result<Oth
     })
 }
 
-/// The rows of all tables.
+/// The rows of all tables. Rows that share a rowid are a fault.
 pub fn read<S: Alter>(alloc: Global, conn: &mut Connection<S>) -> Result<AllRows, Error>
     requires { IsReady (state S.Store conn.old) }
     ensures read { Told S.Store conn.new result (λ it. AreAllRows it (rows_in S.Store conn.old)) }
@@ -160,6 +202,11 @@ pub fn read<S: Alter>(alloc: Global, conn: &mut Connection<S>) -> Result<AllRows
         archives,
         reserved,
     } = other_tables(alloc, conn)?;
+    let KeptTables {
+        summaries,
+        restricted,
+        readers,
+    } = kept_tables(alloc, conn)?;
     Ok(AllRows {
         base,
         accounts,
@@ -170,6 +217,9 @@ pub fn read<S: Alter>(alloc: Global, conn: &mut Connection<S>) -> Result<AllRows
         versions,
         archives,
         reserved,
+        summaries,
+        restricted,
+        readers,
     })
 }
 

@@ -10,6 +10,7 @@
 
 pub mod accounts;
 pub mod all_rows;
+mod apart;
 pub mod counts;
 pub mod crate_lists;
 pub mod crates;

@@ -21,9 +21,9 @@ use std::alloc::{AllocError, Global};
 
 /// What a summary says of its crate.
 #[derive(Clone, Copy, Debug)]
-struct Numbers {
-    highest: u64,
-    index_length: u64,
+pub struct Numbers {
+    pub highest: u64,
+    pub index_length: u64,
 }
 
 fn read(alloc: Global, mark: &VersionMark) -> Result<(Release, bool), Error>
@@ -89,6 +89,20 @@ fn index_length(marks: &[VersionMark]) -> Result<u64, Error>
     Ok(length)
 }
 
+/// What the versions of a crate give, in the order of publication. A version whose text is none is
+/// an error.
+pub fn numbers_in(alloc: Global, marks: &[VersionMark]) -> Result<Numbers, Error>
+    ensures highest { IfOk result (λ n. n.highest ≡ highest_in (map shown_mark marks.now)) }
+    ensures length { IfOk result (λ n. n.index_length ≡ length_in (map shown_mark marks.now)) }
+{
+    let highest = highest_id(alloc, marks)?;
+    let index_length = index_length(marks)?;
+    Ok(Numbers {
+        highest,
+        index_length,
+    })
+}
+
 /// What the summary of a crate says by the rows of its versions.
 fn numbers_of<S: Alter>(conn: &mut Connection<S>, crate_id: u32) -> Result<Numbers, Error>
     requires { IsReady (state S.Store conn.old) }
@@ -98,12 +112,8 @@ fn numbers_of<S: Alter>(conn: &mut Connection<S>, crate_id: u32) -> Result<Numbe
 {
     let marks = versions::marks_of(conn, crate_id)?;
     let alloc = *marks.allocator();
-    let highest = highest_id(alloc, &marks)?;
-    let index_length = index_length(&marks)?;
-    Ok(Numbers {
-        highest,
-        index_length,
-    })
+    let numbers = numbers_in(alloc, &marks)?;
+    Ok(numbers)
 }
 
 /// Adds the summary of a crate that has none.

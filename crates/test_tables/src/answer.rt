@@ -33,9 +33,7 @@ fn short(alloc: Global, answer: &Answer) -> Result<String, AllocError> {
         Answer::Is(is) => String::from_str(alloc, if *is { "yes" } else { "no" }),
         Answer::Counts(n) => format!(in alloc; "{}:{}:{};", n.accounts, n.tokens, n.crates),
         Answer::Number(n) => format!(in alloc; "{n}"),
-        Answer::Summary(Some(it)) => {
-            format!(in alloc; "{}:{}:{};", it.crate_id, it.highest, it.index_length)
-        }
+        Answer::Summary(Some(it)) => it.show(alloc),
         Answer::Archive(Some(bytes)) => bytes_text(alloc, bytes),
         Answer::Archive(None) | Answer::Summary(None) => String::from_str(alloc, "none"),
         _ => String::from_str(alloc, "done"),

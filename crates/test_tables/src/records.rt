@@ -4,7 +4,8 @@ use crate::words::text_of;
 use reg_line::digest_of;
 use reg_model::Endpoints;
 use reg_tables::{
-    Account, AllRows, Crate, Ownership, Scope, Token, TokenLists, TokenRow, TokenRows, Version,
+    Account, AllRows, Crate, Ownership, Scope, Summary, Token, TokenLists, TokenRow, TokenRows,
+    Version,
 };
 use sqlite::Row;
 use sqlite::types::ValueRef;
@@ -167,6 +168,18 @@ impl Shown for Version {
     }
 }
 
+impl Shown for Summary {
+    fn show(&self, alloc: Global) -> Result<String, AllocError> {
+        format!(in alloc; "{}:{}:{};", self.crate_id, self.highest, self.index_length)
+    }
+}
+
+impl Shown for u32 {
+    fn show(&self, alloc: Global) -> Result<String, AllocError> {
+        format!(in alloc; "{self};")
+    }
+}
+
 impl Shown for u64 {
     fn show(&self, alloc: Global) -> Result<String, AllocError> {
         format!(in alloc; "{self};")
@@ -216,12 +229,20 @@ fn of_crates(alloc: Global, rows: &AllRows) -> Result<String, AllocError> {
     format!(in alloc; "{crates} {owners} {versions}")
 }
 
+fn kept_of_crates(alloc: Global, rows: &AllRows) -> Result<String, AllocError> {
+    let summaries = list(alloc, &rows.summaries)?;
+    let restricted = list(alloc, &rows.restricted)?;
+    let readers = list(alloc, &rows.readers)?;
+    format!(in alloc; "{summaries} {restricted} {readers}")
+}
+
 impl Shown for AllRows {
     fn show(&self, alloc: Global) -> Result<String, AllocError> {
         let of_tokens = of_tokens(alloc, self)?;
         let of_crates = of_crates(alloc, self)?;
         let archives = list(alloc, &self.archives)?;
         let reserved = list(alloc, &self.reserved)?;
-        format!(in alloc; "{of_tokens} {of_crates} {archives} {reserved}")
+        let kept_of_crates = kept_of_crates(alloc, self)?;
+        format!(in alloc; "{of_tokens} {of_crates} {archives} {reserved} {kept_of_crates}")
     }
 }

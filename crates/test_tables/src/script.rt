@@ -256,6 +256,8 @@ pub fn check_text(check: Option<Check>) -> &'static str {
         Some(Check::C4) => "C4",
         Some(Check::C5) => "C5",
         Some(Check::C6) => "C6",
+        Some(Check::C7) => "C7",
+        Some(Check::C8) => "C8",
     }
 }
 

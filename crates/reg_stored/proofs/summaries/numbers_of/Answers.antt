@@ -9,6 +9,6 @@ returns-clause-told g c clean ids ps yanked stands =
     let db = rows_in g.S.Store c.args.conn.now in
     let marks = c.in_ok-marks.marks.items in
     let found = c.in_ok-marks.ensures.told clean in (
-      c.in_ok-highest.ensures ∙ ap (λ l. highest_in (map shown_mark l)) c.deref.ensures.value ∙ highest_is ids ps yanked db stands c.args.crate_id marks found,
-      c.in_ok-index_length.ensures ∙ ap (λ l. length_in (map shown_mark l)) c.deref-2.ensures.value ∙ length_is ids ps yanked db stands c.args.crate_id marks found,
+      c.in_ok-numbers.ensures.highest ∙ ap (λ l. highest_in (map shown_mark l)) c.deref.ensures.value ∙ highest_is ids ps yanked db stands c.args.crate_id marks found,
+      c.in_ok-numbers.ensures.length ∙ ap (λ l. length_in (map shown_mark l)) c.deref.ensures.value ∙ length_is ids ps yanked db stands c.args.crate_id marks found,
     )

@@ -1,0 +1,52 @@
+//! The check of the restricted crates and of the readers.
+
+ghost use Rattle.std.specs.Prelude.{◌≡◌, ◌==◌, ◌&&◌, ℕ, IfOk};
+ghost use Rattle.std.specs.List.{list_all, list_any};
+ghost use Rattle.std.specs.BTreeSet.{contains};
+ghost use Rattle.std.specs.Ordering.{nat_cmp};
+ghost use Rattle.reg_audit.specs.Checks.{has_account, has_crate, readers_pass as readers_pass_in};
+
+use crate::texts::HasId;
+use reg_tables::AllRows;
+use std::alloc::{AllocError, Global};
+use std::collections::BTreeSet;
+
+// The ids of all.
+fn ids_of<T: HasId>(alloc: Global, list: &[T]) -> Result<BTreeSet<u32>, AllocError>
+    ensures { IfOk result (λ set. (id : ℕ) → contains nat_cmp set id ≡ list_any
+        (λ it. T.HasId.id_of it == id) list.now) }
+{
+    let mut ids = BTreeSet::new(alloc);
+    for it in list {
+        ids.insert(it.id())?;
+    }
+    Ok(ids)
+}
+
+fn are_crates(rows: &AllRows, crates: &BTreeSet<u32>) -> bool
+    requires { (id : ℕ) → contains nat_cmp crates.now id ≡ has_crate rows.now id }
+    ensures { result ≡ list_all (has_crate rows.now) rows.now.restricted.items }
+{
+    rows.restricted.iter().all(|id| crates.contains(id))
+}
+
+fn are_pairs(rows: &AllRows, crates: &BTreeSet<u32>, accounts: &BTreeSet<u32>) -> bool
+    requires crates { (id : ℕ) → contains nat_cmp crates.now id ≡ has_crate rows.now id }
+    requires accounts { (id : ℕ) → contains nat_cmp accounts.now id ≡ has_account rows.now id }
+    ensures { result ≡ list_all (λ it. has_crate rows.now it.crate_id
+        && has_account rows.now it.account) rows.now.readers.items }
+{
+    rows.readers.iter().all(|it| crates.contains(&it.crate_id) && accounts.contains(&it.account))
+}
+
+/// Whether each crate that is restricted is there, and the crate and the account of each reader.
+pub(crate) fn readers_pass(alloc: Global, rows: &AllRows) -> Result<bool, AllocError>
+    ensures { IfOk result (λ b. b ≡ readers_pass_in rows.now) }
+{
+    let crates = ids_of(alloc, &rows.crates)?;
+    if !are_crates(rows, &crates) {
+        return Ok(false);
+    }
+    let accounts = ids_of(alloc, &rows.accounts)?;
+    Ok(are_pairs(rows, &crates, &accounts))
+}
