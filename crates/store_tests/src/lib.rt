@@ -28,6 +28,8 @@ mod reading;
 #[cfg(test)]
 mod scripts;
 #[cfg(test)]
+mod searching;
+#[cfg(test)]
 mod tokens;
 #[cfg(test)]
 mod whole_rows;

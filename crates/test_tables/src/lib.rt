@@ -19,6 +19,7 @@ mod fault;
 mod old_store;
 mod records;
 mod script;
+mod searching;
 mod words;
 
 pub use answer::Answer;
@@ -31,4 +32,5 @@ pub use script::{
     BASE, FILLED, answer_of, check_text, first_broken, play, play_over, read_logins, reply_text,
     rows_text,
 };
+pub use searching::search_text;
 pub use words::{read_call, release_of};

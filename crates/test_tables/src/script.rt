@@ -8,6 +8,7 @@ use crate::call::Call;
 use crate::calling::perform;
 use crate::fault::Fault;
 use crate::records::{Shown, bytes_text};
+use crate::searching::search_text;
 use crate::words::read_call;
 use reg_audit::{Check, audit};
 use reg_line::{Entry, file};
@@ -261,6 +262,27 @@ pub fn check_text(check: Option<Check>) -> &'static str {
     }
 }
 
+/// A line that is answered over the tables themselves, or a transaction.
+fn line_over<S: Alter>(
+    alloc: Global,
+    tables: &mut Tables<S>,
+    block: &str,
+) -> Result<Option<String>, Fault>
+    requires { AreOurs S.Store tables.old }
+    ensures { AreOurs S.Store tables.new }
+{
+    let Some((line, want)) = block.split_once(" -> ") else {
+        return Ok(no_arrow(alloc, block)?);
+    };
+    match line.strip_prefix("search ") {
+        Some(words) => {
+            let found = search_text(alloc, tables, words)?;
+            Ok(compare(alloc, line, want, &found)?)
+        }
+        None => transaction(alloc, tables, block),
+    }
+}
+
 /// A transaction, or a line that is answered over the tables themselves.
 fn block_over<S: Alter>(
     alloc: Global,
@@ -276,7 +298,7 @@ fn block_over<S: Alter>(
             Ok(compare(alloc, block, want, check_text(found))?)
         }
         Some(("fill", "done")) => transaction(alloc, tables, FILLED),
-        _ => transaction(alloc, tables, block),
+        _ => line_over(alloc, tables, block),
     }
 }
 
