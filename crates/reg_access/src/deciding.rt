@@ -6,6 +6,7 @@ ghost use Rattle.reg_model.specs.Registry.{holds};
 ghost use Rattle.reg_model.specs.Rules.{access, breaks, is_absent as is_absent_of, is_misspelled as is_misspelled_of, lacks, needed as needed_by};
 ghost use Rattle.std.specs.Str.{bytes_eq};
 ghost use Rattle.reg_policy.specs.Views.{action_of, decision_of};
+ghost use Rattle.reg_statements.specs.declared.tokens.TokenRow.{TokenRow as AnyToken};
 ghost use Rattle.reg_access.specs.Found.{facts_found, is_owned as is_owned_of, is_visible as is_visible_of, spelling_in};
 ghost use Rattle.reg_access.specs.Verdict.{is_always_reserved as is_always_reserved_of};
 
@@ -56,11 +57,11 @@ fn has_path(row: &Option<CrateRow>, path: &str) -> bool
     }
 }
 
-fn is_absent(token: &TokenRow, found: &Found, action: &Action) -> bool
-    ensures { result ≡ is_absent_of
-        (facts_found (action_of action.now) token.now found.now) (action_of action.now) }
+/// Whether the account sees no crate, or not at this path.
+fn is_absent(found: &Found, action: &Action) -> bool
+    ensures { (t : AnyToken) → result ≡ is_absent_of
+        (facts_found (action_of action.now) t found.now) (action_of action.now) }
 {
-    let _ = token;
     match action {
         Action::Index(path) => !(is_visible(&found.row) && has_path(&found.row, path)),
         Action::Read | Action::Download(_, _) | Action::ListOwners(_) => !is_visible(&found.row),
@@ -71,11 +72,11 @@ fn is_absent(token: &TokenRow, found: &Found, action: &Action) -> bool
     }
 }
 
-fn is_misspelled(token: &TokenRow, found: &Found, action: &Action) -> bool
-    ensures { result ≡ is_misspelled_of
-        (facts_found (action_of action.now) token.now found.now) (action_of action.now) }
+/// Whether the crate is there under another spelling than is published.
+fn is_misspelled(found: &Found, action: &Action) -> bool
+    ensures { (t : AnyToken) → result ≡ is_misspelled_of
+        (facts_found (action_of action.now) t found.now) (action_of action.now) }
 {
-    let _ = token;
     match action {
         Action::Publish(name, _) => match &found.row {
             Some(row) => !same_text(row.name.as_str(), name.as_str()),
@@ -108,11 +109,11 @@ fn breaks_rule(token: &TokenRow, found: &Found, action: &Action, rule: Rule) -> 
         Rule::A4 => !token.enabled,
         Rule::A6 => lacks_endpoint(token, &found.row, action),
         Rule::A7 => !found.covered,
-        Rule::A8 => is_absent(token, found, action),
+        Rule::A8 => is_absent(found, action),
         Rule::A9 => !is_owned(&found.row),
         Rule::A10 => !found.last,
         Rule::N2 => is_always_reserved(action) || found.last,
-        Rule::N3 => is_misspelled(token, found, action),
+        Rule::N3 => is_misspelled(found, action),
         Rule::V2 => found.last,
         Rule::L1 | Rule::L2 | Rule::O2 | Rule::O3 | Rule::O4 => false,
         Rule::H1 | Rule::H2 | Rule::H3 | Rule::H4 | Rule::H5 | Rule::H6 | Rule::H7 => false,
