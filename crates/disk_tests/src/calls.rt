@@ -35,8 +35,15 @@ remove-reader 1 2 -> done
 reserve acme -> done
 unreserve kept -> done";
 
+/// The crate is restricted, and this opens it to all.
+pub(crate) const RESTRICTED: &str = "restrict 1 -> done
+commit -> done";
+
+pub(crate) const AN_OPENING: &str = "open 1 -> done";
+
 /// Each leaves the rows as they are.
 pub(crate) const SELECTIONS: &str = "adopt -> done
+migrate -> no
 audit -> none
 read-logins -> 1:ada:Ada;2:bob:-;3:cy:-;
 account ada -> 1:ada:Ada:on;

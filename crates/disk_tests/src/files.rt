@@ -6,6 +6,7 @@ use crate::playing::{filled, rows_over};
 use sqlite::{Connection, FileStore, Files, Options};
 use sqlite_disk::{Crash, Disk, Fuse, Memory};
 use std::alloc::Global;
+use test_tables::make_old;
 
 /// A file in memory that stops after some call.
 pub(crate) type Stopping = Fuse<Memory>;
@@ -100,6 +101,17 @@ fn filled_files<D: Disk + Drop>(
     }
 }
 
+/// The files once they were opened and a store of schema 1 was made in them.
+fn old_files<D: Disk + Drop>(alloc: Global, files: Files<D>) -> Result<Files<D>, Fault> {
+    match open(alloc, files) {
+        Ok(mut conn) => match make_old(&mut conn) {
+            Ok(()) => closed(conn),
+            Err(_error) => Err(Fault::NotMade),
+        },
+        Err(_files) => Err(Fault::NotOpened),
+    }
+}
+
 /// The connection's files, once they are closed.
 fn closed<D: Disk + Drop>(conn: Connection<FileStore<D>>) -> Result<Files<D>, Fault> {
     match conn.close_files() {
@@ -121,9 +133,21 @@ fn image_after(alloc: Global, script: &str) -> Result<Image, Fault> {
     image_of(alloc, &files)
 }
 
+fn with_its_rows(alloc: Global, image: Image) -> Result<Prepared, Fault> {
+    let rows = rows_after(alloc, files_of(alloc, &image, &NO_LIMITS)?)?;
+    Ok(Prepared { image, rows })
+}
+
 /// The prepared registry once this script was played over it.
 pub(crate) fn prepare_files(alloc: Global, script: &str) -> Result<Prepared, Fault> {
     let image = image_after(alloc, script)?;
-    let rows = rows_after(alloc, files_of(alloc, &image, &NO_LIMITS)?)?;
-    Ok(Prepared { image, rows })
+    with_its_rows(alloc, image)
+}
+
+/// A store of schema 1.
+pub(crate) fn prepare_old_files(alloc: Global) -> Result<Prepared, Fault> {
+    let files = files_of(alloc, &nothing(alloc).image, &NO_LIMITS)?;
+    let files = old_files(alloc, files)?;
+    let image = image_of(alloc, &files)?;
+    with_its_rows(alloc, image)
 }

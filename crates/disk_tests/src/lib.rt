@@ -21,6 +21,8 @@ mod limits;
 #[cfg(test)]
 mod lines;
 #[cfg(test)]
+mod migration;
+#[cfg(test)]
 mod playing;
 #[cfg(test)]
 mod refused;

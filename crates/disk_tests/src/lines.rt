@@ -1,7 +1,7 @@
 //! Lines that are tried in turn, each a task and its answer.
 
 use crate::fault::Fault;
-use crate::files::{Prepared, nothing, prepare_files};
+use crate::files::{Prepared, nothing, prepare_files, prepare_old_files};
 use crate::limits::Scarce;
 use crate::tasks::{Task, read_task};
 use crate::trials::{Seen, Trial, each_amount, rows_once_done};
@@ -101,5 +101,11 @@ pub(crate) fn over_nothing(alloc: Global, lines: &str, how: How) -> Result<(), F
 /// Tries each line over the prepared registry, once a script was played over that.
 pub(crate) fn over_files(alloc: Global, script: &str, lines: &str, how: How) -> Result<(), Fault> {
     let prepared = prepare_files(alloc, script)?;
+    each_line(alloc, &prepared, lines, how)
+}
+
+/// Tries each line over a store of schema 1.
+pub(crate) fn over_old_files(alloc: Global, lines: &str, how: How) -> Result<(), Fault> {
+    let prepared = prepare_old_files(alloc)?;
     each_line(alloc, &prepared, lines, how)
 }

@@ -4,7 +4,7 @@ ghost use Rattle.reg_tables.specs.Works.{AreOurs};
 
 use crate::calls::PREPARED;
 use crate::fault::Fault;
-use reg_tables::Tables;
+use reg_tables::{Edition, Tables};
 use sqlite::{Alter, Connection};
 use std::alloc::Global;
 use test_tables::{BASE, play_over, rows_text};
@@ -29,6 +29,9 @@ pub(crate) fn filled<S: Alter + Drop>(
     conn: Connection<S>,
     script: &str,
 ) -> Result<Connection<S>, Fault> {
+    if !conn.is_autocommit() {
+        return Err(Fault::NotMade);
+    }
     match Tables::make(conn, BASE) {
         Ok(mut tables) => {
             plays(alloc, &mut tables, PREPARED)?;
@@ -39,7 +42,23 @@ pub(crate) fn filled<S: Alter + Drop>(
     }
 }
 
-/// The rows of tables that were made before; none where nothing was made.
+/// The words before the rows, by the schema that the tables are of.
+pub(crate) fn schema_words(edition: Edition) -> &'static str {
+    match edition {
+        Edition::First => "schema 1: ",
+        Edition::Second => "schema 2: ",
+    }
+}
+
+fn schema_and_rows<S: Alter>(alloc: Global, tables: &mut Tables<S>) -> Result<String, Fault>
+    requires { AreOurs S.Store tables.old }
+{
+    let words = schema_words(tables.edition());
+    let rows = rows_text(alloc, tables)?;
+    Ok(format!(in alloc; "{words}{rows}")?)
+}
+
+/// The schema and the rows of tables that were made before; none where nothing was made.
 pub(crate) fn rows_over<S: Alter + Drop>(
     alloc: Global,
     conn: Connection<S>,
@@ -51,7 +70,7 @@ pub(crate) fn rows_over<S: Alter + Drop>(
         return Err(Fault::NotAdopted);
     }
     match Tables::adopt(alloc, conn) {
-        Ok(mut tables) => Ok(Some(rows_text(alloc, &mut tables)?)),
+        Ok(mut tables) => Ok(Some(schema_and_rows(alloc, &mut tables)?)),
         Err((_fault, _conn)) => Err(Fault::NotAdopted),
     }
 }

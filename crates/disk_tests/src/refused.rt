@@ -1,7 +1,7 @@
 //! A call with each amount of memory: it is answered as with ample memory, or it is refused and the
 //! rows are those before.
 
-use crate::calls::{A_CRATE, CHANGES, SELECTIONS, VERSIONS};
+use crate::calls::{A_CRATE, AN_OPENING, CHANGES, RESTRICTED, SELECTIONS, VERSIONS};
 use crate::fault::Fault;
 use crate::limits::Scarce;
 use crate::lines::{How, over_files, over_nothing};
@@ -34,6 +34,12 @@ fn a_crate_added(rt: HostRuntime) -> Result<(), Fault> {
 fn versions_found(rt: HostRuntime) -> Result<(), Fault> {
     let how = How::ScarceSelection(SELECTION_STEP, 6);
     over_files(rt.alloc(), "", VERSIONS, how)
+}
+
+#[test]
+fn a_crate_opened(rt: HostRuntime) -> Result<(), Fault> {
+    let how = How::ScarceChange(Scarce::Call, EACH_CHANGE_STEP, 1);
+    over_files(rt.alloc(), RESTRICTED, AN_OPENING, how)
 }
 
 #[test]

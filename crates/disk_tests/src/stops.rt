@@ -1,7 +1,7 @@
 //! Each file stops at each of its calls: after each stop the rows are those before or those after,
 //! and those after if the commit was acknowledged.
 
-use crate::calls::{A_CRATE, CHANGES, SELECTIONS};
+use crate::calls::{A_CRATE, AN_OPENING, CHANGES, RESTRICTED, SELECTIONS};
 use crate::fault::Fault;
 use crate::lines::{How, over_files, over_nothing};
 
@@ -28,6 +28,11 @@ fn a_stop_while_an_owner_is_removed(rt: HostRuntime) -> Result<(), Fault> {
         "remove-owner 1 1 -> done",
         How::StoppedChange,
     )
+}
+
+#[test]
+fn a_stop_while_a_crate_is_opened(rt: HostRuntime) -> Result<(), Fault> {
+    over_files(rt.alloc(), RESTRICTED, AN_OPENING, How::StoppedChange)
 }
 
 #[test]

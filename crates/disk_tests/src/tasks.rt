@@ -25,6 +25,8 @@ pub(crate) enum Task<'a> {
     Audit,
     /// They are read in no transaction.
     Logins,
+    /// They are brought to schema 2.
+    Migrate,
     /// A call is made in a transaction of its own.
     Call(Call<'a>),
 }
@@ -35,6 +37,7 @@ pub(crate) fn read_task<'a>(alloc: Global, text: &'a str) -> Result<Task<'a>, Fa
         "adopt" => Task::Adopt,
         "audit" => Task::Audit,
         "read-logins" => Task::Logins,
+        "migrate" => Task::Migrate,
         _ => match read_call(alloc, text)? {
             Some(call) => Task::Call(call),
             None => return Err(Fault::Words),
@@ -144,6 +147,23 @@ fn logins<S: Alter>(
     }
 }
 
+/// Whether the tables were of schema 1, once they are of schema 2.
+fn migrated<S: Alter>(
+    alloc: Global,
+    tables: &mut Tables<S>,
+    amount: Option<u32>,
+) -> Result<Reply, AllocError>
+    requires { AreOurs S.Store tables.old }
+{
+    let memory = leave_only(alloc, amount)?;
+    let found = tables.migrate();
+    drop(memory);
+    match found {
+        Ok(done) => reply_with(alloc, if done { "yes" } else { "no" }, true),
+        Err(StoreFault) => fault(alloc),
+    }
+}
+
 fn over_tables<S: Alter>(
     alloc: Global,
     tables: &mut Tables<S>,
@@ -156,6 +176,7 @@ fn over_tables<S: Alter>(
         Task::Call(call) => committed(alloc, tables, call, limits),
         Task::Audit => checked(alloc, tables, limits.call),
         Task::Logins => logins(alloc, tables, limits.call),
+        Task::Migrate => migrated(alloc, tables, limits.call),
         Task::Make | Task::Adopt => reply_with(alloc, "done", true),
     }
 }
@@ -165,6 +186,9 @@ type Ending<S> = (Connection<S>, Result<Reply, AllocError>);
 
 /// Makes the tables while there is no more memory than is left beside this.
 fn made<S: Alter + Drop>(conn: Connection<S>, memory: Option<Amounts>) -> (Connection<S>, bool) {
+    if !conn.is_autocommit() {
+        return (conn, false);
+    }
     let made = Tables::make(conn, BASE);
     drop(memory);
     match made {
