@@ -155,8 +155,8 @@ has_account it id = list_any (λ a. a.id == id) it.accounts.items
 
 -- C8: each restricted crate is there, and so are the crate and the account of each reader
 abbrev pub readers_pass : AllRows → Bool
-readers_pass it = list_all (has_crate it) it.restricted.items && list_all (λ r. has_crate it r.crate_id
-    && has_account it r.account) it.readers.items
+readers_pass it = list_all (has_crate it) it.restricted.items
+    && list_all (λ r. has_crate it r.crate_id && has_account it r.account) it.readers.items
 
 abbrev pub Passes : AllRows → Trees → Check → Type 0
 Passes it db C1 = accounts_pass it ≡ true

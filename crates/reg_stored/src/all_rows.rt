@@ -36,8 +36,8 @@ use reg_statements::{
 use sqlite::{Alter, Connection, Error};
 use std::alloc::Global;
 
-/// The rows of all tables, each table in the order of its key. Of the archives and of the restricted
-/// crates there are the ids alone.
+/// The rows of all tables, each table in the order of its key. Of the archives there are the ids
+/// alone.
 #[derive(Drop)]
 pub struct AllRows {
     pub base: String,

@@ -1,6 +1,6 @@
 //! The checks on opening, each on a registry with one row out of order.
 
-use crate::scripts::{checks, plays};
+use crate::scripts::{checks, connects, plays};
 use std::test::Fail;
 
 /// Opened again it has the same rows, and the checks find nothing.
@@ -11,7 +11,7 @@ all-rows -> https://index.example 1:ada:Ada:on;2:bob:-:on; \
 1:a:a; 1:1; 1:1:0.1.0:0.1.0:#abc:-:kept:{\"cksum\":\
 \"ba7816bf8f01cfea414140de5dae2223b00361a396177a9cb410ff61f20015ad\",\"deps\":[],\
 \"features\":{},\"links\":null,\"name\":\"a\",\"rust_version\":null,\"vers\":\"0.1.0\",\
-\"yanked\":; 1; acme_net;
+\"yanked\":; 1; acme_net; 1:1:175; none none
 archive-id 1 -> abc
 
 adopt -> done
@@ -21,7 +21,7 @@ all-rows -> https://index.example 1:ada:Ada:on;2:bob:-:on; \
 1:a:a; 1:1; 1:1:0.1.0:0.1.0:#abc:-:kept:{\"cksum\":\
 \"ba7816bf8f01cfea414140de5dae2223b00361a396177a9cb410ff61f20015ad\",\"deps\":[],\
 \"features\":{},\"links\":null,\"name\":\"a\",\"rust_version\":null,\"vers\":\"0.1.0\",\
-\"yanked\":; 1; acme_net;
+\"yanked\":; 1; acme_net; 1:1:175; none none
 archive-id 1 -> abc
 
 audit -> none";
@@ -114,8 +114,59 @@ fn a_reserved_name(rt: HostRuntime) -> Result<(), Fail> {
     checks(&rt, rt.alloc(), A_RESERVED_NAME)
 }
 
+const A_SUMMARY: &str = "UPDATE summaries SET index_length = 176 -> C7
+UPDATE versions SET yanked = 1 -> C7
+DELETE FROM summaries -> C7";
+
+#[test]
+fn a_summary(rt: HostRuntime) -> Result<(), Fail> {
+    checks(&rt, rt.alloc(), A_SUMMARY)
+}
+
+/// A second version whose line is as long: the first is not the highest any more.
+const THE_HIGHEST_OF_TWO: &str = "INSERT INTO versions (id, crate, vers, release, digest, stem, \
+yanked) VALUES (2, 1, '0.2.0', '0.2.0', \
+x'ba7816bf8f01cfea414140de5dae2223b00361a396177a9cb410ff61f20015ad', \
+x'7b22636b73756d223a226261373831366266386630316366656134313431343064653564616532323233623030\
+3336316133393631373761396362343130666636316632303031356164222c2264657073223a5b5d2c22666561\
+7475726573223a7b7d2c226c696e6b73223a6e756c6c2c226e616d65223a2261222c22727573745f7665727369\
+6f6e223a6e756c6c2c2276657273223a22302e322e30222c2279616e6b6564223a', 0); \
+INSERT INTO archives (version, bytes) VALUES (2, x'616263'); \
+UPDATE summaries SET index_length = 350 -> C7";
+
+#[test]
+fn the_highest_of_two(rt: HostRuntime) -> Result<(), Fail> {
+    checks(&rt, rt.alloc(), THE_HIGHEST_OF_TWO)
+}
+
+const A_RESTRICTED_CRATE_AND_ITS_READER: &str = "INSERT INTO restricted (crate) VALUES (1); \
+INSERT INTO readers (crate, account) VALUES (1, 2) -> none";
+
+#[test]
+fn a_restricted_crate_and_its_reader(rt: HostRuntime) -> Result<(), Fail> {
+    checks(&rt, rt.alloc(), A_RESTRICTED_CRATE_AND_ITS_READER)
+}
+
+/// The store refuses each statement after which C8 would fail.
+const RESTRICTED_CRATES_AND_READERS_OF_NONE: &str = "make https://index.example/ -> done
+INSERT INTO restricted (crate) VALUES (1) -> fault
+INSERT INTO accounts (id, login, name, enabled) VALUES (1, 'ada', NULL, 1) -> done
+INSERT INTO readers (crate, account) VALUES (1, 1) -> fault
+INSERT INTO crates (id, canon, name) VALUES (1, 'a', 'a') -> done
+INSERT INTO readers (crate, account) VALUES (1, 2) -> fault
+INSERT INTO readers (crate, account) VALUES (1, 1) -> done
+DELETE FROM accounts -> fault
+DELETE FROM crates -> fault";
+
+#[test]
+fn restricted_crates_and_readers_of_none(rt: HostRuntime) -> Result<(), Fail> {
+    connects(&rt, rt.alloc(), RESTRICTED_CRATES_AND_READERS_OF_NONE)
+}
+
 const THE_FIRST_OF_TWO: &str =
-    "INSERT INTO reserved (canon) VALUES ('con'); UPDATE archives SET bytes = x'616264' -> C4";
+    "INSERT INTO reserved (canon) VALUES ('con'); UPDATE archives SET bytes = x'616264' -> C4
+UPDATE summaries SET index_length = 176; INSERT INTO reserved (canon) VALUES ('con') -> C6
+UPDATE summaries SET index_length = 176; DELETE FROM scopes WHERE token = 2 -> C2";
 
 #[test]
 fn the_first_of_two(rt: HostRuntime) -> Result<(), Fail> {
