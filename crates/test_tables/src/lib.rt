@@ -16,6 +16,7 @@ mod bare;
 mod call;
 mod calling;
 mod fault;
+mod index_file;
 mod old_store;
 mod records;
 mod script;

@@ -7,12 +7,12 @@ use crate::answer::Answer;
 use crate::call::Call;
 use crate::calling::perform;
 use crate::fault::Fault;
-use crate::records::{Shown, bytes_text};
+use crate::index_file::index_of;
+use crate::records::Shown;
 use crate::searching::search_text;
 use crate::words::read_call;
 use reg_audit::{Check, audit};
-use reg_line::{Entry, file};
-use reg_tables::{StoreFault, Tables, Version, Work};
+use reg_tables::{StoreFault, Tables, Work};
 use sqlite::{Alter, Connection, Row};
 use std::alloc::{AllocError, Global};
 
@@ -26,49 +26,6 @@ add-token abd 2 nuyo acme-* -> 2
 add-crate a 1 0.1.0 abc -> 1
 reserve acme-net -> done
 commit -> done";
-
-fn entry_of(version: Version) -> Entry {
-    Entry {
-        stem: version.stem,
-        yanked: version.yanked,
-    }
-}
-
-fn index_file(alloc: Global, versions: Vec<Version>) -> Result<Vec<u8>, AllocError> {
-    let mut entries = Vec::new(alloc);
-    for version in versions {
-        entries.push(entry_of(version))?;
-    }
-    file(alloc, &entries)
-}
-
-/// A file: its length, and its lines with a semicolon in place of each line feed.
-fn file_text(alloc: Global, bytes: &[u8]) -> Result<String, AllocError> {
-    let lines = bytes_text(alloc, bytes)?;
-    let lines = lines.replace(alloc, "\n", ";")?;
-    format!(in alloc; "{} {lines}", bytes.len())
-}
-
-fn index_text(alloc: Global, versions: Vec<Version>) -> Result<String, AllocError> {
-    let bytes = index_file(alloc, versions)?;
-    file_text(alloc, &bytes)
-}
-
-/// The index file of a crate.
-fn index_of<S: Alter>(
-    alloc: Global,
-    work: &mut Work<'_, S>,
-    crate_id: u32,
-) -> Result<String, AllocError>
-    requires { IsAtWork S.Store work.old }
-    ensures at_work { IsAtWork S.Store work.new }
-    ensures same_reference { work.new.tables.ghost_name ≡ work.old.tables.ghost_name }
-{
-    match work.versions_of(alloc, crate_id) {
-        Ok(versions) => index_text(alloc, versions),
-        Err(StoreFault) => String::from_str(alloc, "fault"),
-    }
-}
 
 /// What a call was answered, as a text.
 pub fn reply_text(alloc: Global, found: Result<Answer, StoreFault>) -> Result<String, AllocError> {

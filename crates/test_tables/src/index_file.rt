@@ -1,0 +1,53 @@
+//! The index file of a crate, as a text.
+
+ghost use Rattle.std.specs.Prelude.{◌≡◌};
+ghost use Rattle.reg_tables.specs.Works.{IsAtWork};
+
+use crate::records::bytes_text;
+use reg_line::{Entry, file};
+use reg_tables::{StoreFault, Version, Work};
+use sqlite::Alter;
+use std::alloc::{AllocError, Global};
+
+fn entry_of(version: Version) -> Entry {
+    Entry {
+        stem: version.stem,
+        yanked: version.yanked,
+    }
+}
+
+fn index_file(alloc: Global, versions: Vec<Version>) -> Result<Vec<u8>, AllocError> {
+    let mut entries = Vec::new(alloc);
+    for version in versions {
+        entries.push(entry_of(version))?;
+    }
+    file(alloc, &entries)
+}
+
+/// A file: its length, and its lines with a semicolon in place of each line feed.
+fn file_text(alloc: Global, bytes: &[u8]) -> Result<String, AllocError> {
+    let lines = bytes_text(alloc, bytes)?;
+    let lines = lines.replace(alloc, "\n", ";")?;
+    format!(in alloc; "{} {lines}", bytes.len())
+}
+
+fn index_text(alloc: Global, versions: Vec<Version>) -> Result<String, AllocError> {
+    let bytes = index_file(alloc, versions)?;
+    file_text(alloc, &bytes)
+}
+
+/// The index file of a crate.
+pub(crate) fn index_of<S: Alter>(
+    alloc: Global,
+    work: &mut Work<'_, S>,
+    crate_id: u32,
+) -> Result<String, AllocError>
+    requires { IsAtWork S.Store work.old }
+    ensures at_work { IsAtWork S.Store work.new }
+    ensures same_reference { work.new.tables.ghost_name ≡ work.old.tables.ghost_name }
+{
+    match work.versions_of(alloc, crate_id) {
+        Ok(versions) => index_text(alloc, versions),
+        Err(StoreFault) => String::from_str(alloc, "fault"),
+    }
+}
