@@ -4,7 +4,8 @@ ghost use Rattle.reg_tables.specs.Works.{AreOurs};
 
 use crate::fault::Fault;
 use reg_audit::audit;
-use reg_tables::{StoreFault, Tables};
+use reg_line::digest_of;
+use reg_tables::{Edition, StemRow, StoreFault, Tables, index_entries};
 use sqlite::Alter;
 use std::alloc::{AllocError, Global};
 use test_tables::{Answer, Call as TableCall, CrateCall, perform, read_call, release_of};
@@ -20,19 +21,30 @@ pub(crate) enum Call {
     OwnersOf,
     ArchiveOf,
     IsReserved,
+    SummaryOf,
+    IndexRows,
     FirstCommit,
     SetYanked,
     AddVersion,
+    SetRestricted,
+    IsRestricted,
+    AddReader,
+    ReadersOf,
+    RemoveReader,
     Audit,
+    ShortIndex,
+    LongIndex,
+    DigestArchive,
     AddArchive,
     ReadArchive,
 }
 
-/// What a call is made with: the number of a crate, how often it was made before, and a long
-/// archive.
+/// What a call is made with: the number of a crate and that of all, how often it was made before,
+/// and a long archive.
 #[derive(Clone, Copy)]
 pub(crate) struct Given<'a> {
     pub(crate) at: u32,
+    pub(crate) crates: u32,
     pub(crate) round: u32,
     pub(crate) archive: &'a [u8],
 }
@@ -61,6 +73,19 @@ fn line_of(alloc: Global, call: Call, given: Given<'_>) -> Result<String, AllocE
             "add-version {at} Crate-{at:06} 0.3.{round} an-archive a-crate-of-the-bench"
         ),
         Call::FirstCommit | Call::SetYanked => format!(in alloc; "yank {at} 0.1.0"),
+        _ => line_of_late(alloc, call, at),
+    }
+}
+
+/// The line of a call that came with summaries and readers, or that of the long archive.
+fn line_of_late(alloc: Global, call: Call, at: u32) -> Result<String, AllocError> {
+    match call {
+        Call::SummaryOf => format!(in alloc; "summary {at}"),
+        Call::SetRestricted => format!(in alloc; "restrict {at}"),
+        Call::IsRestricted => format!(in alloc; "restricted {at}"),
+        Call::AddReader => format!(in alloc; "add-reader {at} {at}"),
+        Call::ReadersOf => format!(in alloc; "readers {at}"),
+        Call::RemoveReader => format!(in alloc; "remove-reader {at} {at}"),
         _ => String::from_str(alloc, "archive 1 0.4.0"),
     }
 }
@@ -122,9 +147,13 @@ fn make<S: Alter>(
     ensures { AreOurs S.Store tables.new }
 {
     match call {
-        Call::FirstCommit | Call::SetYanked | Call::AddVersion | Call::AddArchive => {
-            change(alloc, tables, call, &made)
-        }
+        Call::FirstCommit
+        | Call::SetYanked
+        | Call::AddVersion
+        | Call::SetRestricted
+        | Call::AddReader
+        | Call::RemoveReader
+        | Call::AddArchive => change(alloc, tables, call, &made),
         _ => find(alloc, tables, call, &made),
     }
 }
@@ -142,6 +171,26 @@ fn make_line<S: Alter>(
     match read_call(alloc, &line)? {
         Some(made) => Ok(make(alloc, tables, call, made)?),
         None => Err(Fault::Words),
+    }
+}
+
+/// How many bytes the stems of an index file have.
+fn stem_bytes(rows: &[StemRow]) -> usize {
+    rows.iter()
+        .fold(0_usize, |sum, row| sum.saturating_add(row.stem.len()))
+}
+
+fn read_index<S: Alter>(
+    alloc: Global,
+    tables: &mut Tables<S>,
+    crate_id: u32,
+) -> Result<usize, Fault>
+    requires { AreOurs S.Store tables.old }
+    ensures { AreOurs S.Store tables.new }
+{
+    match tables.edition() {
+        Edition::First => Err(Fault::NotMade),
+        Edition::Second => Ok(stem_bytes(&index_entries(alloc, tables, crate_id)?)),
     }
 }
 
@@ -169,8 +218,13 @@ pub(crate) fn once<S: Alter>(
     requires { AreOurs S.Store tables.old }
     ensures { AreOurs S.Store tables.new }
 {
+    let next = given.crates.saturating_add(1);
     match call {
         Call::Begin => begin(tables),
+        Call::IndexRows => read_index(alloc, tables, given.at),
+        Call::ShortIndex => read_index(alloc, tables, next),
+        Call::LongIndex => read_index(alloc, tables, next.saturating_add(1)),
+        Call::DigestArchive => Ok(digest_of(given.archive).as_slice().len()),
         Call::Audit => Ok(usize::from(audit(alloc, tables)?.is_none())),
         Call::AddArchive => add_archive(alloc, tables, given.archive),
         _ => make_line(alloc, tables, call, given),

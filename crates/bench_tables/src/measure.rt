@@ -4,7 +4,7 @@ ghost use Rattle.reg_tables.specs.Works.{AreOurs};
 
 use crate::calls::{Call, Given, once};
 use crate::fault::Fault;
-use crate::filling::fill;
+use crate::filling::{fill, fill_indexes};
 use crate::words::Words;
 use reg_tables::Tables;
 use sqlite::{Alter, Connection};
@@ -13,7 +13,7 @@ use std::io;
 use std::time::Instant;
 use test_tables::BASE;
 
-const CALLS: [Call; 10] = [
+const CALLS: [Call; 17] = [
     Call::Begin,
     Call::AccountByLogin,
     Call::TokenRows,
@@ -22,8 +22,24 @@ const CALLS: [Call; 10] = [
     Call::OwnersOf,
     Call::ArchiveOf,
     Call::IsReserved,
+    Call::SummaryOf,
+    Call::IndexRows,
     Call::SetYanked,
     Call::AddVersion,
+    Call::SetRestricted,
+    Call::IsRestricted,
+    Call::AddReader,
+    Call::ReadersOf,
+    Call::RemoveReader,
+];
+
+const LONG: [Call; 6] = [
+    Call::Audit,
+    Call::ShortIndex,
+    Call::LongIndex,
+    Call::DigestArchive,
+    Call::AddArchive,
+    Call::ReadArchive,
 ];
 
 const LENGTH: usize = 10_485_760;
@@ -59,6 +75,7 @@ fn repeat<S: Alter>(
     for round in 0..each.rounds {
         let given = Given {
             at: number_for(round, each.crates),
+            crates: each.crates,
             round,
             archive: each.archive,
         };
@@ -121,9 +138,10 @@ fn tell_once<S: Alter>(rt: &HostRuntime, tables: &mut Tables<S>, words: &Words) 
         crates: words.crates,
         archive: &archive,
     };
-    tell(rt, tables, Call::Audit, once, words.times)?;
-    tell(rt, tables, Call::AddArchive, once, words.times)?;
-    tell(rt, tables, Call::ReadArchive, once, words.times)
+    for call in LONG {
+        tell(rt, tables, call, once, words.times)?;
+    }
+    Ok(())
 }
 
 /// Fills the tables, and tells if asked how long that took.
@@ -137,6 +155,7 @@ fn tell_filling<S: Alter>(
 {
     let start = Instant::now(rt)?;
     fill(rt.alloc(), tables, words.crates)?;
+    fill_indexes(rt.alloc(), tables, words.crates, words.rounds)?;
     let taken = start.elapsed(rt)?.as_nanos();
     if words.times {
         println!(rt; "Fill {} {taken}", words.crates)?;
@@ -165,6 +184,9 @@ pub(crate) fn over_new_tables<S: Alter + Drop>(
     conn: Connection<S>,
     words: &Words,
 ) -> Result<(), Fault> {
+    if !conn.is_autocommit() {
+        return Err(Fault::NotMade);
+    }
     match Tables::make(conn, BASE) {
         Ok(mut tables) => all(rt, &mut tables, words),
         Err((_fault, _conn)) => Err(Fault::NotMade),

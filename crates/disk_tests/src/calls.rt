@@ -43,7 +43,6 @@ pub(crate) const AN_OPENING: &str = "open 1 -> done";
 
 /// Each leaves the rows as they are.
 pub(crate) const SELECTIONS: &str = "adopt -> done
-migrate -> no
 audit -> none
 read-logins -> 1:ada:Ada;2:bob:-;3:cy:-;
 account ada -> 1:ada:Ada:on;

@@ -4,7 +4,7 @@
 use crate::fault::Fault;
 use crate::files::prepare_old_files;
 use crate::limits::Scarce;
-use crate::lines::{How, over_old_files};
+use crate::lines::{How, over_files, over_old_files};
 use crate::playing::schema_words;
 use crate::tasks::Task;
 use crate::trials::rows_once_done;
@@ -59,6 +59,12 @@ fn a_stop_while_tables_are_migrated(rt: HostRuntime) -> Result<(), Fault> {
 #[test]
 fn a_stop_while_an_old_store_is_read(rt: HostRuntime) -> Result<(), Fault> {
     over_old_files(rt.alloc(), SELECTIONS, How::StoppedSelection)
+}
+
+/// Tables of schema 2 stay as they are.
+#[test]
+fn a_stop_where_nothing_is_to_be_migrated(rt: HostRuntime) -> Result<(), Fault> {
+    over_files(rt.alloc(), "", "migrate -> no", How::StoppedSelection)
 }
 
 #[test]
