@@ -5,6 +5,7 @@ ghost use Rattle.reg_tables.specs.Works.{AreOurs};
 use crate::fault::Fault;
 use reg_audit::audit;
 use reg_line::digest_of;
+use reg_search::search;
 use reg_tables::{Edition, StemRow, StoreFault, Tables, index_entries};
 use sqlite::Alter;
 use std::alloc::{AllocError, Global};
@@ -32,6 +33,7 @@ pub(crate) enum Call {
     ReadersOf,
     RemoveReader,
     Audit,
+    Search,
     ShortIndex,
     LongIndex,
     DigestArchive,
@@ -194,6 +196,17 @@ fn read_index<S: Alter>(
     }
 }
 
+/// How many crates a search finds whose page holds ten.
+fn find_crates<S: Alter>(alloc: Global, tables: &mut Tables<S>) -> Result<usize, Fault>
+    requires { AreOurs S.Store tables.old }
+    ensures { AreOurs S.Store tables.new }
+{
+    match tables.edition() {
+        Edition::First => Err(Fault::NotMade),
+        Edition::Second => Ok(search(alloc, tables, 1, "crate_0", 10)?.total as usize),
+    }
+}
+
 fn add_archive<S: Alter>(
     alloc: Global,
     tables: &mut Tables<S>,
@@ -225,6 +238,7 @@ pub(crate) fn once<S: Alter>(
         Call::ShortIndex => read_index(alloc, tables, next),
         Call::LongIndex => read_index(alloc, tables, next.saturating_add(1)),
         Call::DigestArchive => Ok(digest_of(given.archive).as_slice().len()),
+        Call::Search => find_crates(alloc, tables),
         Call::Audit => Ok(usize::from(audit(alloc, tables)?.is_none())),
         Call::AddArchive => add_archive(alloc, tables, given.archive),
         _ => make_line(alloc, tables, call, given),

@@ -33,8 +33,9 @@ const CALLS: [Call; 17] = [
     Call::RemoveReader,
 ];
 
-const LONG: [Call; 6] = [
+const LONG: [Call; 7] = [
     Call::Audit,
+    Call::Search,
     Call::ShortIndex,
     Call::LongIndex,
     Call::DigestArchive,
