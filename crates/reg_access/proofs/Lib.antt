@@ -3,6 +3,9 @@ mod Calls
 mod CrateLaw
 mod CrateText
 mod FoundFacts
+mod GrantRows
+mod GrantText
+mod GrantLists
 mod JoinLaw
 mod Joins
 mod Nulls

@@ -101,7 +101,7 @@ covered_alike n name [] h = refl
 covered_alike n name (p ∷ ps) h = let both = and_parts (is_pattern p) (list_all is_pattern ps) h in ap₂ ◌||◌ (within_covers p n both.0 name) (covered_alike n name ps both.1)
 
 module _ (ids : Ids) (s : model.Registry) (db : Trees) (stands : StandsBy ids s db) (id : ℕ) (t : model.Token) (found : with_id s.tokens id ≡ Some t) where
-  the_token : filter (λ r. equal Binary (column r 0) (Int (pos id))) (db 3) ≡ row_of_token (id, t) ∷ []
+  pub the_token : filter (λ r. equal Binary (column r 0) (Int (pos id))) (db 3) ≡ row_of_token (id, t) ∷ []
   the_token =
       one_row row_of_token (λ r. equal Binary (column r 0) (Int (pos id))) (id, t) (enumerate_from 1 s.tokens) (db 3) stands.tokens.rows
       (same_filter _ _ (λ e. equals_int (Int (pos e.0)) (pos id) ∙ same_number e.0 id) (enumerate_from 1 s.tokens) ∙ one_at id s.tokens t found)

@@ -3,3 +3,4 @@ pub mod Found
 pub mod JoinRows
 pub mod Laws
 pub mod Verdict
+pub mod Grants

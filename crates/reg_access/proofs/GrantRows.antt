@@ -1,0 +1,193 @@
+-- The text on the tokens that may act answers, where the rows stand for a registry, just these tokens.
+use Rattle.std.proofs.Common.{◌≡◌, ◌==◌, ℕ, ◌+◌, ◌-◌, suc, pos, arith, Bool, true, false, ◌&&◌, ◌||◌, cond, if◌then◌else◌, List, [], ◌∷◌, ◌++◌, map, length, Option, Some, None, Less, get_or, inl, inr, refl, sym, ap, subst, ◌∙◌, append-nil}
+use Rattle.std.specs.Prelude.{is_some, min, unwrap_or}
+use Rattle.std.specs.List.{enumerate_from, filter, flat_map, list_all, list_any}
+use Rattle.std.specs.List.Sorted.{IsPermutation, IsSorted}
+use Rattle.std.specs.Option.{option_map}
+use Rattle.std.specs.Ordering.{is_lt}
+use Rattle.std.proofs.lemmas.Bool.{and_parts, eq-eqb}
+use Rattle.std.proofs.lemmas.List.Sorted.{IsPermutation-map, IsPermutation-trans}
+use Rattle.sqlite.specs.Collation.TheVariants.{Binary}
+use Rattle.sqlite.specs.Ops.{binary}
+use Rattle.sqlite.specs.Order.{Row, column, value_cmp}
+use Rattle.sqlite.specs.Program.{overlay}
+use Rattle.sqlite.specs.Query.{IsSureAnswer, Output, end, matches, or_nulls, output, output_cmp}
+use Rattle.sqlite.specs.Term.{holds}
+use Rattle.sqlite.specs.Tree.{Trees}
+use Rattle.sqlite.specs.declared.types.Value.TheVariants.{Int, Text}
+use Rattle.sqlite_exec.proofs.PartitionLemmas.{IsSorted-from_map}
+use Rattle.sqlite_exec.proofs.RowsLemmas.{IsSorted-map}
+use Rattle.sqlite_keyed.proofs.ListLemmas.{ascending-map, ascending-filter, ascending_from_map}
+use Rattle.sqlite_keyed.proofs.SortLemmas.{sorted_unique}
+use Rattle.sqlite_schema.specs.Rules.{equal}
+use Rattle.sqlite_trees.specs.Tree.{IsAscending}
+use Rattle.sqlite_trees.proofs.ListLemmas.{IsPermutation-flat_map, flat_map-map, map-flat_map}
+use Rattle.reg_names.specs.Names.{canon, is_name}
+use Rattle.reg_names.specs.Patterns.{covers}
+use Rattle.reg_model.specs.declared.endpoint.Endpoints.{Endpoints}
+use Rattle.reg_model.specs.Registry.{holds as any_such}
+use Rattle.reg_model.specs.Registry.{Account, Registry, Text as Words, Token, is_enabled, with_id}
+use Rattle.reg_model.specs.Sound.{has_some, is_token}
+use Rattle.reg_model.proofs.Lists.{any_same}
+use Rattle.reg_model.proofs.Members.{IsIn}
+use Rattle.reg_schema.proofs.Permutes.{one_row}
+use Rattle.reg_schema.proofs.Queries.{and_true, equals_int, maps_twice, same_filter}
+use Rattle.reg_schema.proofs.Sorted.{rises, then_equal, unmapped}
+use Rattle.reg_schema.specs.Rows.{by_column, mark}
+use Rattle.reg_schema.specs.Tests.{shows}
+use Rattle.reg_statements.specs.Accounts.{account_row}
+use Rattle.reg_statements.specs.Tokens.{token_row}
+use Rattle.reg_stored.proofs.CrateNames.{kept}
+use Rattle.reg_stored.proofs.Numbered.{at_place, none_at, one_at}
+use Rattle.reg_stored.proofs.Selected.{column_total, places_rise}
+use Rattle.reg_stored.proofs.Standing.{same_number}
+use Rattle.reg_stored.specs.Stands.{Holds, Ids, row_of_account, row_of_token}
+use Rattle.reg_access.specs.Grants.{is_candidate, login_at, row_of_candidate}
+use Rattle.reg_access.specs.JoinRows.{is_at_most, is_below, is_scope_over, is_there, scopes_over}
+use Rattle.reg_access.proofs.Answered.{there_filtered}
+use Rattle.reg_access.proofs.GrantText.{after_token, from, on_account, over, query, scopes_counted, where_terms}
+use Rattle.reg_access.proofs.ScopeLaw.{all_at, covers_alike, the_token}
+
+abbrev bit : Bool → ℕ
+bit b = if b then 1 else 0
+
+-- rows are counted up to the first
+counted_any : {X Y : Type 0} (p : X → Bool) (f : X → Y) (xs : List X) → min 1 (length (flat_map (λ x. cond (p x) (f x ∷ []) []) xs)) ≡ bit (list_any p xs)
+counted_any p f [] = refl
+counted_any p f (x ∷ xs) = one (p x) (counted_any p f xs)
+  where
+    one : (b : Bool) → min 1 (length (flat_map (λ x. cond (p x) (f x ∷ []) []) xs)) ≡ bit (list_any p xs) → min 1 (length (cond b (f x ∷ []) [] ++ flat_map (λ x. cond (p x) (f x ∷ []) []) xs)) ≡ bit (b || list_any p xs)
+    one true h = at_least (length (flat_map (λ x. cond (p x) (f x ∷ []) []) xs))
+      where
+        at_least : (n : ℕ) → min 1 (suc n) ≡ 1
+        at_least n = omega arith
+    one false h = h
+
+each_gate : {A B : Type 0} (f : A → List B) (p : A → Bool) (g : A → B) (xs : List A) → ((x : A) → IsIn x xs → f x ≡ cond (p x) (g x ∷ []) []) → flat_map f xs ≡ map g (filter p xs)
+each_gate f p g [] h = refl
+each_gate f p g (x ∷ xs) h = ap (λ ys. ys ++ flat_map f xs) (h x (inl refl)) ∙ one (p x) (each_gate f p g xs (λ y i. h y (inr i)))
+  where
+    one : (b : Bool) → flat_map f xs ≡ map g (filter p xs) → cond b (g x ∷ []) [] ++ flat_map f xs ≡ map g (cond b (x ∷ filter p xs) (filter p xs))
+    one true e = ap (λ ys. g x ∷ ys) e
+    one false e = e
+
+-- what stands behind an id is what has it
+member_at : {X : Type 0} (id : ℕ) (x : X) (xs : List X) → IsIn {X = ℕ × X} (id, x) (enumerate_from 1 xs) → with_id xs id ≡ Some x
+member_at {X} id x xs i = by (with_id xs id) refl (kept (λ (e : ℕ × X). e.0 == id) (enumerate_from 1 xs) (id, x) i (eq-eqb id id refl))
+  where
+    by : (o : Option X) → with_id xs id ≡ o → IsIn {X = ℕ × X} (id, x) (filter (λ (e : ℕ × X). e.0 == id) (enumerate_from 1 xs)) → o ≡ Some x
+    by None none j = absurd (subst (IsIn {X = ℕ × X} (id, x)) (none_at id xs none) j)
+    by (Some y) some j = the_one (subst (IsIn {X = ℕ × X} (id, x)) (one_at id xs y some) j)
+      where
+        the_one : IsIn {X = ℕ × X} (id, x) ((id, y) ∷ []) → Some y ≡ Some x
+        the_one (inl e) = ap (λ (k : ℕ × X). Some k.1) e
+        the_one (inr none) = absurd none
+
+passes : (params digest login : List ℕ) (name : Option (List ℕ)) (id account : ℕ) (eps : Endpoints) (live enabled covered : Bool)
+    → list_all (holds ((Text params ∷ []) ∷ token_row id digest account live eps ∷ account_row account login name enabled ∷ (Int (pos (bit covered)) ∷ []) ∷ [])) where_terms ≡ ((live && enabled) && covered)
+unfolding binary value_cmp lib.Ieee.is_nan lib.Ieee.lt
+passes params digest login name id account eps true true true = refl
+passes params digest login name id account eps true true false = refl
+passes params digest login name id account eps true false true = refl
+passes params digest login name id account eps true false false = refl
+passes params digest login name id account eps false true true = refl
+passes params digest login name id account eps false true false = refl
+passes params digest login name id account eps false false true = refl
+passes params digest login name id account eps false false false = refl
+
+module _ (ids : Ids) (s : Registry) (db : Trees) (h : Holds ids s db) (n : Words) (name : is_name n ≡ true) where
+  abbrev params : Row
+  params = Text (canon n) ∷ []
+
+  abbrev entries : List (ℕ × Token)
+  entries = enumerate_from 1 s.tokens
+
+  abbrev shown : ℕ × Token → Row × Row
+  shown e = (Int (pos e.0) ∷ [], row_of_candidate s e)
+
+  abbrev may : ℕ × Token → Bool
+  may e = is_candidate s n e.1
+
+  module _ (id : ℕ) (t : Token) (found : with_id s.tokens id ≡ Some t) where
+    abbrev tok : Row
+    tok = row_of_token (id, t)
+
+    covered : list_any (λ r. equal Binary (column r 1) (Int (pos id)) && (is_at_most (column r 4) (Text (canon n)) && (is_below (Text (canon n)) (column r 5) && true))) (db 5) ≡ list_any (λ p. covers p n) t.patterns
+    covered =
+        let q = is_scope_over (canon n) tok in
+        let joined : scopes_over (Int (pos id)) (canon n) db ≡ map (shows (2 ∷ [])) (filter q (db 5)) =
+        ap (flat_map (λ k. map (shows (2 ∷ [])) (filter (is_scope_over (canon n) k) (db 5)))) (the_token ids s db h.stands id t found) ∙ append-nil (map (shows (2 ∷ [])) (filter q (db 5))) in
+        any_same _ q (λ r. ap (λ b. equal Binary (column r 1) (Int (pos id)) && (is_at_most (column r 4) (Text (canon n)) && b)) (and_true _)) (db 5)
+        ∙ sym (there_filtered (shows (2 ∷ [])) q (db 5)) ∙ ap is_there (sym joined) ∙ covers_alike ids s db h.stands id t found h.sound n name
+
+    account : (a : Account) × (with_id s.accounts t.account ≡ Some a)
+    account =
+        let fit = all_at (is_token s.accounts) s.tokens (id - 1) t h.sound.tokens (at_place id s.tokens t found).1 in
+        the_some (with_id s.accounts t.account) (and_parts (length t.digest == 32) _ (and_parts (length t.digest == 32 && is_some (with_id s.accounts t.account)) _ fit).0).1
+      where
+        the_some : {X : Type 0} (o : Option X) → is_some o ≡ true → (x : X) × (o ≡ Some x)
+        the_some None e = absurd cc
+        the_some (Some x) e = (x, refl)
+
+    comes_of : (a : Account) → with_id s.accounts t.account ≡ Some a → map (output query) (matches db where_terms after_token (params ∷ tok ∷ [])) ≡ cond (may (id, t)) (shown (id, t) ∷ []) []
+    comes_of a at =
+        let ar = row_of_account (t.account, a) in
+        let one : filter (λ r. equal Binary (column r 0) (Int (pos t.account)) && true) (db 1) ≡ ar ∷ [] =
+        one_row row_of_account (λ r. equal Binary (column r 0) (Int (pos t.account)) && true) (t.account, a) (enumerate_from 1 s.accounts) (db 1) h.stands.accounts.rows
+        (same_filter _ _ (λ e. and_true _ ∙ equals_int (Int (pos e.0)) (pos t.account) ∙ same_number e.0 t.account) (enumerate_from 1 s.accounts) ∙ one_at t.account s.accounts a at) in
+        let b = list_any (λ p. covers p n) t.patterns in
+        let count = counted_any (λ r. equal Binary (column r 1) (Int (pos id)) && (is_at_most (column r 4) (Text (canon n)) && (is_below (Text (canon n)) (column r 5) && true))) (λ r. params ∷ tok ∷ ar ∷ r ∷ []) (db 5) ∙ ap bit covered in
+        ap (map (output query))
+        ((λ i. flat_map (λ r. matches db where_terms scopes_counted (params ∷ tok ∷ r ∷ [])) (or_nulls (one i))) ∙ append-nil _
+        ∙ (λ i. matches db where_terms end (params ∷ tok ∷ ar ∷ (Int (pos (count i)) ∷ []) ∷ []))
+        ∙ (λ i. cond (passes (canon n) t.digest a.login a.name id t.account t.endpoints t.live a.enabled b i) ((params ∷ tok ∷ ar ∷ (Int (pos (bit b)) ∷ []) ∷ []) ∷ []) []))
+        ∙ split ((t.live && a.enabled) && b)
+        ∙ (λ i. cond ((t.live && any_such (λ x. x.enabled) (sym at i)) && b) (shown (id, t) ∷ []) [])
+      where
+        split : (g : Bool) → map (output query) (cond g ((params ∷ tok ∷ row_of_account (t.account, a) ∷ (Int (pos (bit (list_any (λ p. covers p n) t.patterns))) ∷ []) ∷ []) ∷ []) []) ≡ cond g (shown (id, t) ∷ []) []
+        split false = refl
+        split true =
+            λ i. (
+              Int (pos id) ∷ [],
+              Int (pos id) ∷ Int (pos t.account) ∷ mark t.live ∷ mark t.endpoints.publish_new ∷ mark t.endpoints.publish_update ∷ mark t.endpoints.yank ∷ mark t.endpoints.change_owners
+                  ∷ Text (unwrap_or (option_map (λ (x : Account). x.login) (sym at i)) []) ∷ mark (any_such (λ (x : Account). x.enabled) (sym at i)) ∷ [],
+            ) ∷ []
+
+  comes : (e : ℕ × Token) → IsIn e entries → map (output query) (matches db where_terms after_token (params ∷ row_of_token e ∷ [])) ≡ cond (may e) (shown e ∷ []) []
+  comes (id, t) i = let found = member_at id t s.tokens i in let a = account id t found in comes_of id t found a.0 a.1
+
+  module _ (ordered : List Output) (same : IsPermutation (map (output query) (matches db where_terms from (params ∷ []))) ordered) (sorted : IsSorted (output_cmp query) ordered) where
+    abbrev K : Row → List Output
+    K r = map (output query) (matches db where_terms after_token (params ∷ r ∷ []))
+
+    permuted : IsPermutation (map shown (filter may entries)) ordered
+    permuted =
+        let tokens = subst (λ ys. IsPermutation ys (flat_map K (db 3))) (flat_map-map K row_of_token entries ∙ each_gate (λ e. K (row_of_token e)) may shown entries comes)
+        (IsPermutation-flat_map K (map row_of_token entries) (db 3) h.stands.tokens.rows) in
+        IsPermutation-trans _ (flat_map K (db 3)) ordered tokens (subst (λ ys. IsPermutation ys ordered) (map-flat_map (output query) (λ r. matches db where_terms after_token (params ∷ r ∷ [])) (db 3)) same)
+
+    back : (zs : List (ℕ × Token)) × IsPermutation (filter may entries) zs × (ordered ≡ map shown zs)
+    back = unmapped shown (filter may entries) ordered permuted
+
+    abbrev zs : List (ℕ × Token)
+    zs = back.0
+
+    up : IsSorted (by_column 0) (map (row_of_candidate s) zs)
+    up =
+        let told = IsSorted-from_map (output_cmp query) shown zs (subst (IsSorted (output_cmp query)) back.2 sorted) in
+        IsSorted-map (by_column 0) (row_of_candidate s) zs (λ k d low high. ap is_lt (sym (then_equal (value_cmp (Int (pos (get_or zs (k + 1) d).0)) (Int (pos (get_or zs k d).0))))) ∙ told k d low high)
+
+    rising : IsAscending (λ a b. by_column 0 a b ≡ Less) (map (row_of_candidate s) (filter may entries))
+    rising =
+        let R = λ (a b : Row). by_column 0 a b ≡ Less in
+        ascending-map R (row_of_candidate s) (filter may entries) (ascending-filter (λ a b. R (row_of_candidate s a) (row_of_candidate s b)) may entries (ascending_from_map R (row_of_candidate s) entries (places_rise (row_of_candidate s) (λ e. refl) 1 s.tokens)))
+
+    in_turn : map (λ (o : Output). o.1) ordered ≡ map (row_of_candidate s) (filter may entries)
+    in_turn =
+        ap (map (λ (o : Output). o.1)) back.2 ∙ maps_twice shown (λ (o : Output). o.1) zs
+        ∙ sorted_unique (by_column 0) (column_total 0) (map (row_of_candidate s) (filter may entries)) (map (row_of_candidate s) zs) rising (IsPermutation-map (row_of_candidate s) (filter may entries) zs back.1) up
+
+  pub candidates_are : (rows : List Row) → IsSureAnswer query (overlay db []) params rows → rows ≡ map (row_of_candidate s) (filter may entries)
+  candidates_are rows answer =
+      let r = rises (overlay db []) params from where_terms query.project query.order rows answer in
+      r.shown ∙ in_turn r.ordered r.same r.sorted

@@ -1,0 +1,51 @@
+-- What the text on the tokens that may act on a name means.
+use Rattle.std.proofs.Common.{◌≡◌, ℕ, pos, List, [], ◌∷◌, codes, refl}
+use Rattle.sqlite.specs.Collation.TheVariants.{Binary}
+use Rattle.sqlite.specs.Listing.{understood}
+use Rattle.sqlite.specs.Query.{Join, Query, inner, left, counted, end}
+use Rattle.sqlite.specs.Term.{Term, col, lit, op2}
+use Rattle.sqlite.specs.declared.types.Value.TheVariants.{Int}
+use Rattle.sqlite_sql.specs.declared.ops.BinaryOp.TheVariants.{Compare}
+use Rattle.sqlite_sql.specs.declared.ops.CompareOp.TheVariants.{Eq, Le, Lt}
+use Rattle.sqlite_tied.specs.Compute.{everything}
+use Rattle.sqlite_value.specs.Keys.{ascending}
+use Rattle.reg_schema.specs.Schema.{ours}
+use Rattle.reg_schema.proofs.Reading.{IsSelection}
+use Rattle.reg_schema.proofs.Sorted.{in_order}
+
+abbrev pub grant_text : List ℕ
+grant_text = codes "SELECT t.id, t.account, t.live, t.publish_new, t.publish_update, t.yank, t.change_owners, a.login, a.enabled FROM tokens t LEFT JOIN accounts a ON a.id = t.account WHERE t.live = 1 AND a.enabled = 1 AND EXISTS (SELECT 1 FROM scopes s WHERE s.token = t.id AND s.low <= ?1 AND ?1 < s.high) ORDER BY t.id"
+
+abbrev pub eq : Term → Term → Term
+eq a b = op2 (Compare Eq Binary) a b
+
+abbrev pub on_account : List Term
+on_account = eq (col 2 0) (col 1 3) ∷ []
+
+abbrev pub over : List Term
+over = eq (col 3 1) (col 1 0) ∷ op2 (Compare Le Binary) (col 3 4) (col 0 0) ∷ op2 (Compare Lt Binary) (col 0 0) (col 3 5) ∷ []
+
+abbrev pub scopes_counted : Join
+scopes_counted = counted 1 (inner 5 end) over end
+
+abbrev pub after_token : Join
+after_token = left 1 on_account scopes_counted
+
+abbrev pub from : Join
+from = inner 3 after_token
+
+abbrev pub where_terms : List Term
+where_terms = eq (col 1 4) (lit (Int (pos 1))) ∷ eq (col 2 4) (lit (Int (pos 1))) ∷ col 3 0 ∷ []
+
+abbrev pub project : List Term
+project = col 1 0 ∷ col 1 3 ∷ col 1 4 ∷ col 1 5 ∷ col 1 6 ∷ col 1 7 ∷ col 1 8 ∷ col 2 2 ∷ col 2 4 ∷ []
+
+abbrev pub query : Query
+query = in_order from where_terms project ((col 1 0, ascending Binary) ∷ [])
+
+abbrev names : List (List ℕ)
+names = codes "id" ∷ codes "account" ∷ codes "live" ∷ codes "publish_new" ∷ codes "publish_update" ∷ codes "yank" ∷ codes "change_owners" ∷ codes "login" ∷ codes "enabled" ∷ []
+
+pub grant_is : IsSelection ours grant_text query names
+unfolding understood everything
+grant_is = record { command = refl; unlisted = refl; plain = (refl, refl) }

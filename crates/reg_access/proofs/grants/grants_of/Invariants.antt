@@ -1,0 +1,8 @@
+use Rattle.std.proofs.Common.{◌≡◌, map, take}
+use Rattle.std.specs.List.{flat_map}
+use Rattle.reg_access.specs.Grants.{told_by, told_of}
+use Rattle.reg_access.proofs.grants.grants_of.Given as goal
+
+-- what the tokens so far may use
+abbrev pub invariant-loop-row : goal.invariant-loop-row
+invariant-loop-row l = map told_of l.list.items ≡ flat_map (told_by l.owners l.free) (take l.row-index l.rows)
