@@ -5,6 +5,7 @@ mod CrateText
 mod FoundFacts
 mod GrantRows
 mod GrantText
+mod GrantAsked
 mod GrantLists
 mod JoinLaw
 mod Joins

@@ -6,6 +6,7 @@ mod asking;
 mod deciding;
 mod finding;
 mod found;
+mod granting;
 mod grants;
 pub mod laws;
 mod orders;

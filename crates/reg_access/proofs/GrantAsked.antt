@@ -1,0 +1,31 @@
+-- What the text on the tokens that may act tells, once it was asked.
+use Rattle.std.proofs.Common.{◌≡◌, ℕ, List, [], ◌∷◌, map, Ok, Err, Result, sym, subst}
+use Rattle.std.specs.Prelude.{Vec}
+use Rattle.std.specs.declared.alloc.Global.{Global}
+use Rattle.sqlite.specs.Order.{Row}
+use Rattle.sqlite.specs.State.{Shown}
+use Rattle.sqlite.specs.declared.types.Value.TheVariants.{Text}
+use Rattle.sqlite_trees.specs.declared.store.Store.{Ghosts}
+use Rattle.reg_schema.proofs.Reading.{selected}
+use Rattle.reg_statements.specs.Tokens.{columns_with_account}
+use Rattle.reg_statements.specs.declared.tokens.TokenRow.{TokenRow}
+use Rattle.reg_tables.specs.declared.work.StoreFault.{StoreFault}
+use Rattle.reg_tables.specs.declared.work.Work.{Work}
+use Rattle.reg_tables.specs.Works.{Heard, IsAtWork, IsCall, Unmoved, rows_seen, seen}
+use Rattle.reg_access.specs.Asks.{Asks}
+use Rattle.reg_access.specs.Grants.{AreCandidates}
+use Rattle.reg_access.proofs.Calls.{inside}
+use Rattle.reg_access.proofs.GrantRows.{candidates_are}
+use Rattle.reg_access.proofs.GrantText.{grant_is, grant_text}
+
+pub candidates_asked : {S : Type 0} (g : Ghosts S) (text : List ℕ) (old new : Work S) (r : Result (Vec TokenRow Global) StoreFault) → IsAtWork g old
+    → Heard g new r (λ list. Shown grant_text (Text text ∷ []) (seen g old) (seen g new) (map columns_with_account list.items)) → Unmoved g r old new → IsCall g r old new
+    → Asks g old new r (λ db list. AreCandidates text db list.items)
+candidates_asked g text old new (Ok list) at told same leaves = record {
+  told = λ clean ids s h n name is.
+      candidates_are ids s (rows_seen g old) h n name (map columns_with_account list.items)
+      (selected grant_is (Text _ ∷ []) (seen g old) (seen g new) (map columns_with_account list.items) (inside g list old new at leaves clean) (subst (λ t. Shown grant_text (Text t ∷ []) (seen g old) (seen g new) (map columns_with_account list.items)) (sym is) (told clean)));
+  same = same;
+  leaves = leaves;
+}
+candidates_asked g text old new (Err e) at told same leaves = record { told = λ clean. tt; same = same; leaves = leaves }
