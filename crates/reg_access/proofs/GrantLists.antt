@@ -1,15 +1,11 @@
 -- What a token may use, endpoint after endpoint, and what the tokens that may act are granted.
-use Rattle.std.proofs.Common.{◌≡◌, ◌==◌, ℕ, Bool, true, false, ◌&&◌, not, cond, List, [], ◌∷◌, ◌++◌, map, Option, Some, None, unwrap_or, refl, sym, ap, ◌∙◌, append-nil}
-use Rattle.std.specs.Prelude.{string_bytes}
+use Rattle.std.proofs.Common.{◌≡◌, ◌==◌, ℕ, Bool, true, false, ◌&&◌, cond, List, [], ◌∷◌, ◌++◌, map, refl, sym, ap, ◌∙◌, append-nil}
 use Rattle.std.specs.List.{enumerate_from, filter, flat_map, list_any}
-use Rattle.std.specs.Option.{option_map}
 use Rattle.std.proofs.lemmas.List.{append_assoc}
-use Rattle.sqlite.specs.Order.{Row}
 use Rattle.sqlite_trees.proofs.ListLemmas.{flat_map-map, map-flat_map}
 use Rattle.reg_names.specs.Patterns.{covers}
 use Rattle.reg_model.specs.declared.endpoint.Endpoint.{Endpoint}
 use Rattle.reg_model.specs.declared.endpoint.Endpoint.TheVariants as endpoint
-use Rattle.reg_model.specs.declared.endpoint.Endpoints.{Endpoints}
 use Rattle.reg_model.specs.Crates.{is_among, owners as owners_in}
 use Rattle.reg_model.specs.Grants.{all_endpoints, grants, has_right, is_granted}
 use Rattle.reg_model.specs.Registry.{Registry, Text as Words, Token, is_enabled}

@@ -26,8 +26,8 @@ use Rattle.reg_names.specs.Names.{canon, is_name}
 use Rattle.reg_names.specs.Patterns.{covers}
 use Rattle.reg_model.specs.declared.endpoint.Endpoints.{Endpoints}
 use Rattle.reg_model.specs.Registry.{holds as any_such}
-use Rattle.reg_model.specs.Registry.{Account, Registry, Text as Words, Token, is_enabled, with_id}
-use Rattle.reg_model.specs.Sound.{has_some, is_token}
+use Rattle.reg_model.specs.Registry.{Account, Registry, Text as Words, Token, with_id}
+use Rattle.reg_model.specs.Sound.{is_token}
 use Rattle.reg_model.proofs.Lists.{any_same}
 use Rattle.reg_model.proofs.Members.{IsIn}
 use Rattle.reg_schema.proofs.Permutes.{one_row}
@@ -42,10 +42,10 @@ use Rattle.reg_stored.proofs.Numbered.{at_place, none_at, one_at}
 use Rattle.reg_stored.proofs.Selected.{column_total, places_rise}
 use Rattle.reg_stored.proofs.Standing.{same_number}
 use Rattle.reg_stored.specs.Stands.{Holds, Ids, row_of_account, row_of_token}
-use Rattle.reg_access.specs.Grants.{is_candidate, login_at, row_of_candidate}
+use Rattle.reg_access.specs.Grants.{is_candidate, row_of_candidate}
 use Rattle.reg_access.specs.JoinRows.{is_at_most, is_below, is_scope_over, is_there, scopes_over}
 use Rattle.reg_access.proofs.Answered.{there_filtered}
-use Rattle.reg_access.proofs.GrantText.{after_token, from, on_account, over, query, scopes_counted, where_terms}
+use Rattle.reg_access.proofs.GrantText.{after_token, from, query, scopes_counted, where_terms}
 use Rattle.reg_access.proofs.ScopeLaw.{all_at, covers_alike, the_token}
 
 abbrev bit : Bool → ℕ

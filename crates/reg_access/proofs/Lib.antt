@@ -6,6 +6,7 @@ mod FoundFacts
 mod GrantRows
 mod GrantText
 mod GrantAsked
+mod GrantLaw
 mod GrantLists
 mod JoinLaw
 mod Joins

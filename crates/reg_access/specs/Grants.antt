@@ -1,5 +1,6 @@
 -- Who may act on a crate, as the program tells it.
-use Rattle.std.specs.Prelude.{◌≡◌, ◌&&◌, ◌==◌, ℕ, pos, Bool, true, not, List, [], ◌∷◌, map, Option, Some, unwrap_or, string_bytes}
+use Rattle.std.specs.Prelude.{◌≡◌, ◌&&◌, ◌||◌, ◌==◌, ℕ, pos, Bool, true, not, is_some, List, [], ◌∷◌, map, Option, None, Some, unwrap_or, string_bytes}
+use Rattle.std.specs.FinSet as finset
 use Rattle.std.specs.List.{enumerate_from, filter, flat_map, list_any}
 use Rattle.std.specs.Option.{option_map}
 use Rattle.sqlite.specs.Order.{Row}
@@ -9,7 +10,7 @@ use Rattle.reg_names.specs.Names.{canon, is_name}
 use Rattle.reg_names.specs.Patterns.{covers}
 use Rattle.reg_model.specs.declared.endpoint.Endpoint.{Endpoint}
 use Rattle.reg_model.specs.declared.endpoint.Endpoint.TheVariants as endpoint
-use Rattle.reg_model.specs.Crates.{exists, is_reserved}
+use Rattle.reg_model.specs.Crates.{exists, is_reserved, is_reserved_always}
 use Rattle.reg_model.specs.Grants.{all_endpoints, grants, is_granted}
 use Rattle.reg_model.specs.Registry.{Registry, Text as Words, Token, is_enabled, with_id}
 use Rattle.reg_model.specs.Rules.{has_endpoint}
@@ -17,7 +18,9 @@ use Rattle.reg_schema.specs.Rows.{mark}
 use Rattle.reg_statements.specs.declared.accounts.Account.{Account}
 use Rattle.reg_statements.specs.declared.tokens.TokenRow.{TokenRow}
 use Rattle.reg_statements.specs.Tokens.{columns_with_account}
-use Rattle.reg_stored.specs.Calls.{Tells}
+use Rattle.reg_stored.specs.Calls.{FindsCrate, ListsOwners, Tells}
+use Rattle.reg_statements.specs.declared.crates.Crate.{Crate}
+use Rattle.reg_access.specs.declared.granting.Standing.{Standing}
 use Rattle.reg_access.specs.declared.grants.Grant.{Grant}
 
 -- a token, an endpoint, and the login of the token's account
@@ -75,3 +78,18 @@ AreCandidates text db list = Tells
 -- whether the name is free to be made a crate
 abbrev pub is_free : Registry → Words → Bool
 is_free s n = not (exists s n) && not (is_reserved s n)
+
+-- the accounts that own the crate that was found, by their ids
+abbrev pub AreOwnersOf : Option Crate → Trees → List Account → Type 0
+AreOwnersOf None db list = list ≡ []
+AreOwnersOf (Some it) db list = ListsOwners it.id db list
+
+-- whether a name can't be made a crate, where this was found under its canonical text
+abbrev pub TellsTaken : Option Crate → Words → Trees → Bool → Type 0
+TellsTaken found text db b = Tells (λ ids s. b
+    ≡ (is_some found || (is_reserved_always text || finset.contains s.reserved text))) db
+
+-- what was found under a canonical text, and what it says of tokens
+abbrev pub IsStanding : Words → Trees → Standing → Type 0
+IsStanding text db it = (found : Option Crate) × FindsCrate text db found
+    × AreOwnersOf found db it.owners.items × TellsTaken found text db it.taken

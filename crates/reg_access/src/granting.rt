@@ -1,13 +1,17 @@
 //! Who may act on a crate, asked of the tables.
 
-ghost use Rattle.std.specs.Prelude.{◌≡◌, false};
-ghost use Rattle.reg_tables.specs.Works.{IsAtWork};
+ghost use Rattle.std.specs.Prelude.{◌≡◌, false, true};
+ghost use Rattle.reg_names.specs.Names.{is_name};
+ghost use Rattle.reg_stored.specs.Calls.{FindsCrate};
+ghost use Rattle.reg_tables.specs.Works.{IsAtWork, has_failed};
 ghost use Rattle.reg_access.specs.Asks.{Asks};
-ghost use Rattle.reg_access.specs.Grants.{AreCandidates};
+ghost use Rattle.reg_access.specs.Grants.{AreCandidates, AreGrants, AreOwnersOf, IsStanding, TellsTaken};
 
 use crate::asking::all_rows;
-use reg_names::CanonText;
-use reg_tables::{StoreFault, TokenRow, Work};
+use crate::grants::{Grant, grants_of};
+use reg_names::{CanonText, CrateName, canon};
+use reg_policy::is_reserved_always;
+use reg_tables::{Account, Crate, StoreFault, TokenRow, Work};
 use sqlite::{Alter, params};
 use std::alloc::Global;
 
@@ -30,4 +34,111 @@ pub(crate) fn find_candidates<S: Alter>(
         s.token = t.id AND s.low <= ?1 AND ?1 < s.high) ORDER BY t.id",
         params![canon.as_str()],
     )
+}
+
+/// What a name says of tokens: who owns the crate, and whether there can't be a new one.
+#[derive(Drop)]
+pub(crate) struct Standing {
+    pub owners: Vec<Account>,
+    pub taken: bool,
+}
+
+fn find_named<S: Alter>(
+    work: &mut Work<'_, S>,
+    canon: &CanonText,
+) -> Result<Option<Crate>, StoreFault>
+    requires { IsAtWork S.Store work.old }
+    ensures { Asks S.Store work.old work.new result (FindsCrate canon.now) }
+{
+    work.crate_by_canon(canon)
+}
+
+fn find_owners<S: Alter>(
+    alloc: Global,
+    work: &mut Work<'_, S>,
+    found: &Option<Crate>,
+) -> Result<Vec<Account>, StoreFault>
+    requires at_work { IsAtWork S.Store work.old }
+    requires goes_on { has_failed work.old ≡ false }
+    ensures { Asks S.Store work.old work.new result
+        (λ db list. AreOwnersOf found.now db list.items) }
+{
+    match found {
+        Some(it) => work.owners_of(alloc, it.id),
+        None => Ok(Vec::new(alloc)),
+    }
+}
+
+fn is_taken<S: Alter>(
+    work: &mut Work<'_, S>,
+    found: &Option<Crate>,
+    canon: &CanonText,
+) -> Result<bool, StoreFault>
+    requires at_work { IsAtWork S.Store work.old }
+    requires goes_on { has_failed work.old ≡ false }
+    ensures { Asks S.Store work.old work.new result (TellsTaken found.now canon.now) }
+{
+    if found.is_some() {
+        return Ok(true);
+    }
+    if is_reserved_always(canon) {
+        return Ok(true);
+    }
+    work.is_reserved(canon)
+}
+
+fn standing_of<S: Alter>(
+    alloc: Global,
+    work: &mut Work<'_, S>,
+    found: &Option<Crate>,
+    canon: &CanonText,
+) -> Result<Standing, StoreFault>
+    requires at_work { IsAtWork S.Store work.old }
+    requires goes_on { has_failed work.old ≡ false }
+    ensures { Asks S.Store work.old work.new result (λ db it.
+        AreOwnersOf found.now db it.owners.items
+        × TellsTaken found.now canon.now db it.taken) }
+{
+    let owners = find_owners(alloc, work, found)?;
+    let taken = is_taken(work, found, canon)?;
+    Ok(Standing { owners, taken })
+}
+
+fn find_standing<S: Alter>(
+    alloc: Global,
+    work: &mut Work<'_, S>,
+    canon: &CanonText,
+) -> Result<Standing, StoreFault>
+    requires { IsAtWork S.Store work.old }
+    ensures { Asks S.Store work.old work.new result (IsStanding canon.now) }
+{
+    let found = find_named(work, canon)?;
+    standing_of(alloc, work, &found, canon)
+}
+
+/// What has a name is named by one.
+fn is_named(name: &CrateName)
+    ensures { is_name name.now ≡ true }
+{
+    let _ = name.as_str();
+}
+
+/// Each token and endpoint that may be used on a crate, by token and then by endpoint, once.
+pub fn who_may<S: Alter>(
+    alloc: Global,
+    work: &mut Work<'_, S>,
+    name: &CrateName,
+) -> Result<Vec<Grant>, StoreFault>
+    requires { IsAtWork S.Store work.old }
+    ensures { Asks S.Store work.old work.new result
+        (λ db list. AreGrants name.now db list.items) }
+{
+    is_named(name);
+    let text = canon(name);
+    let standing = find_standing(alloc, work, &text)?;
+    let rows = find_candidates(alloc, work, &text)?;
+    match grants_of(alloc, &rows, &standing.owners, !standing.taken) {
+        Ok(list) => Ok(list),
+        Err(_) => work.fail(),
+    }
 }

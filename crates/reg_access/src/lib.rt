@@ -13,3 +13,5 @@ mod orders;
 mod texts;
 
 pub use access::authorize;
+pub use granting::who_may;
+pub use grants::Grant;
