@@ -38,7 +38,7 @@ none_any [] = refl
 none_any (x ∷ xs) = none_any xs
 
 -- the spelling of a crate has the canonical text of the name
-first_canon : (s : Registry) (n m : Words) → first s n ≡ Some m → canon m ≡ canon n
+pub first_canon : (s : Registry) (n m : Words) → first s n ≡ Some m → canon m ≡ canon n
 first_canon s n m e = by (find (λ p. collides p.name n) s.publications) refl e
   where
     by : (o : Option Publication) → find (λ p. collides p.name n) s.publications ≡ o → option_map (λ p. p.name) o ≡ Some m → canon m ≡ canon n
@@ -50,7 +50,7 @@ neither true b c = refl
 neither false b c = refl
 
 module _ (ids : Ids) (s : Registry) (db : Trees) (h : Holds ids s db) (n : Words) where
-  there_is : (found : Option Crate) → option_map (λ c. string_bytes c.name) found ≡ first s n → exists s n ≡ is_some found
+  pub there_is : (found : Option Crate) → option_map (λ c. string_bytes c.name) found ≡ first s n → exists s n ≡ is_some found
   there_is found e = sym (is_some_find (λ p. p.name) (λ p. collides p.name n) s.publications) ∙ ap is_some (sym e) ∙ mapped found
     where
       mapped : (o : Option Crate) → is_some (option_map (λ c. string_bytes c.name) o) ≡ is_some o

@@ -12,6 +12,7 @@ mod JoinLaw
 mod Joins
 mod Nulls
 mod Questions
+mod ReadLaw
 mod ReservedLaw
 mod ReservedText
 mod ScopeLaw

@@ -11,7 +11,7 @@ use Rattle.reg_names.specs.Patterns.{covers}
 use Rattle.reg_model.specs.declared.endpoint.Endpoint.{Endpoint}
 use Rattle.reg_model.specs.declared.endpoint.Endpoint.TheVariants as endpoint
 use Rattle.reg_model.specs.Crates.{exists, is_reserved, is_reserved_always}
-use Rattle.reg_model.specs.Grants.{all_endpoints, grants, is_granted}
+use Rattle.reg_model.specs.Grants.{all_endpoints, grants, is_granted, who_reads}
 use Rattle.reg_model.specs.Registry.{Registry, Text as Words, Token, is_enabled, with_id}
 use Rattle.reg_model.specs.Rules.{has_endpoint}
 use Rattle.reg_schema.specs.Rows.{mark}
@@ -19,6 +19,9 @@ use Rattle.reg_statements.specs.declared.accounts.Account.{Account}
 use Rattle.reg_statements.specs.declared.tokens.TokenRow.{TokenRow}
 use Rattle.reg_statements.specs.Tokens.{columns_with_account}
 use Rattle.reg_stored.specs.Calls.{FindsCrate, ListsOwners, Tells}
+use Rattle.reg_stored.specs.Changes.{told_of as told_where}
+use Rattle.reg_stored.specs.Entries.{entry_of_account}
+use Rattle.reg_stored.specs.Stands.{spelling_at}
 use Rattle.reg_statements.specs.declared.crates.Crate.{Crate}
 use Rattle.reg_access.specs.declared.granting.Standing.{Standing}
 use Rattle.reg_access.specs.declared.grants.Grant.{Grant}
@@ -93,3 +96,16 @@ TellsTaken found text db b = Tells (λ ids s. b
 abbrev pub IsStanding : Words → Trees → Standing → Type 0
 IsStanding text db it = (found : Option Crate) × FindsCrate text db found
     × AreOwnersOf found db it.owners.items × TellsTaken found text db it.taken
+
+-- the readers of a restricted crate, by their ids: of a name; of the crate with this id; of the crate
+-- that was found
+abbrev pub AreReaders : Words → Trees → List Account → Type 0
+AreReaders n db list = Tells (λ ids s. map entry_of_account list ≡ who_reads s n) db
+
+abbrev pub AreReadersAt : ℕ → Trees → List Account → Type 0
+AreReadersAt id db list = Tells
+    (λ ids s. map entry_of_account list ≡ told_where (spelling_at ids id) [] (who_reads s)) db
+
+abbrev pub AreReadersOf : Option Crate → Trees → List Account → Type 0
+AreReadersOf None db list = list ≡ []
+AreReadersOf (Some it) db list = AreReadersAt it.id db list

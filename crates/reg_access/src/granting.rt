@@ -43,7 +43,8 @@ pub(crate) struct Standing {
     pub taken: bool,
 }
 
-fn find_named<S: Alter>(
+/// The crate with a canonical text.
+pub(crate) fn find_named<S: Alter>(
     work: &mut Work<'_, S>,
     canon: &CanonText,
 ) -> Result<Option<Crate>, StoreFault>

@@ -10,8 +10,10 @@ mod granting;
 mod grants;
 pub mod laws;
 mod orders;
+mod reading;
 mod texts;
 
 pub use access::authorize;
 pub use granting::who_may;
 pub use grants::Grant;
+pub use reading::who_reads;

@@ -1,0 +1,59 @@
+//! Who reads a restricted crate, asked of the tables.
+
+ghost use Rattle.std.specs.Prelude.{◌≡◌, false};
+ghost use Rattle.reg_stored.specs.Calls.{FindsCrate};
+ghost use Rattle.reg_tables.specs.Works.{IsAtWork, has_failed};
+ghost use Rattle.reg_access.specs.Asks.{Asks};
+ghost use Rattle.reg_access.specs.Grants.{AreReaders, AreReadersAt, AreReadersOf};
+
+use crate::granting::find_named;
+use reg_names::{CrateName, canon};
+use reg_tables::{Account, Crate, StoreFault, Work};
+use sqlite::Alter;
+use std::alloc::Global;
+
+fn readers_at<S: Alter>(
+    alloc: Global,
+    work: &mut Work<'_, S>,
+    id: u32,
+) -> Result<Vec<Account>, StoreFault>
+    requires { IsAtWork S.Store work.old }
+    ensures { Asks S.Store work.old work.new result
+        (λ db list. AreReadersAt id db list.items) }
+{
+    if !work.is_restricted(id)? {
+        return Ok(Vec::new(alloc));
+    }
+    work.readers_of(alloc, id)
+}
+
+fn find_readers<S: Alter>(
+    alloc: Global,
+    work: &mut Work<'_, S>,
+    found: &Option<Crate>,
+) -> Result<Vec<Account>, StoreFault>
+    requires at_work { IsAtWork S.Store work.old }
+    requires goes_on { has_failed work.old ≡ false }
+    ensures { Asks S.Store work.old work.new result
+        (λ db list. AreReadersOf found.now db list.items) }
+{
+    match found {
+        Some(it) => readers_at(alloc, work, it.id),
+        None => Ok(Vec::new(alloc)),
+    }
+}
+
+/// The accounts that the administrator made readers of a restricted crate, by id; none of a crate
+/// that is open to all, or not there.
+pub fn who_reads<S: Alter>(
+    alloc: Global,
+    work: &mut Work<'_, S>,
+    name: &CrateName,
+) -> Result<Vec<Account>, StoreFault>
+    requires { IsAtWork S.Store work.old }
+    ensures { Asks S.Store work.old work.new result
+        (λ db list. AreReaders name.now db list.items) }
+{
+    let found = find_named(work, &canon(name))?;
+    find_readers(alloc, work, &found)
+}
