@@ -2,6 +2,7 @@
 
 ghost use Rattle.reg_tables.specs.Works.{AreOurs};
 
+use crate::access::{Asked, ask, count_grants};
 use crate::fault::Fault;
 use reg_audit::audit;
 use reg_line::digest_of;
@@ -32,8 +33,11 @@ pub(crate) enum Call {
     AddReader,
     ReadersOf,
     RemoveReader,
+    May(Asked),
+    WhoMay,
     Audit,
     Search,
+    LongQuery,
     ShortIndex,
     LongIndex,
     DigestArchive,
@@ -196,14 +200,17 @@ fn read_index<S: Alter>(
     }
 }
 
+/// A query that is longer than any name, so that a search for it walks the rows and no more.
+const LONG_QUERY: &str = "zzzzzzzzzzzzzzzzzzzzzzzzzzzzzzzzzzzzzzzzzzzzzzzzzzzzzzzzzzzzzzzzzzzzzzzz";
+
 /// How many crates a search finds whose page holds ten.
-fn find_crates<S: Alter>(alloc: Global, tables: &mut Tables<S>) -> Result<usize, Fault>
+fn find_crates<S: Alter>(alloc: Global, tables: &mut Tables<S>, query: &str) -> Result<usize, Fault>
     requires { AreOurs S.Store tables.old }
     ensures { AreOurs S.Store tables.new }
 {
     match tables.edition() {
         Edition::First => Err(Fault::NotMade),
-        Edition::Second => Ok(search(alloc, tables, 1, "crate_0", 10)?.total as usize),
+        Edition::Second => Ok(search(alloc, tables, 1, query, 10)?.total as usize),
     }
 }
 
@@ -238,7 +245,10 @@ pub(crate) fn once<S: Alter>(
         Call::ShortIndex => read_index(alloc, tables, next),
         Call::LongIndex => read_index(alloc, tables, next.saturating_add(1)),
         Call::DigestArchive => Ok(digest_of(given.archive).as_slice().len()),
-        Call::Search => find_crates(alloc, tables),
+        Call::Search => find_crates(alloc, tables, "crate_0"),
+        Call::LongQuery => find_crates(alloc, tables, LONG_QUERY),
+        Call::May(asked) => ask(alloc, tables, asked, given.at),
+        Call::WhoMay => count_grants(alloc, tables),
         Call::Audit => Ok(usize::from(audit(alloc, tables)?.is_none())),
         Call::AddArchive => add_archive(alloc, tables, given.archive),
         _ => make_line(alloc, tables, call, given),

@@ -4,6 +4,7 @@
 //! with the word `times` at the end also how long each took.
 #![tactic(auto)]
 
+mod access;
 mod calls;
 mod fault;
 mod filling;

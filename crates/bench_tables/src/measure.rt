@@ -2,6 +2,7 @@
 
 ghost use Rattle.reg_tables.specs.Works.{AreOurs};
 
+use crate::access::Asked;
 use crate::calls::{Call, Given, once};
 use crate::fault::Fault;
 use crate::filling::{fill, fill_indexes};
@@ -13,7 +14,7 @@ use std::io;
 use std::time::Instant;
 use test_tables::BASE;
 
-const CALLS: [Call; 17] = [
+const CALLS: [Call; 27] = [
     Call::Begin,
     Call::AccountByLogin,
     Call::TokenRows,
@@ -31,11 +32,23 @@ const CALLS: [Call; 17] = [
     Call::AddReader,
     Call::ReadersOf,
     Call::RemoveReader,
+    Call::May(Asked::Read),
+    Call::May(Asked::Index),
+    Call::May(Asked::Download),
+    Call::May(Asked::ListOwners),
+    Call::May(Asked::PublishNew),
+    Call::May(Asked::Publish),
+    Call::May(Asked::Yank),
+    Call::May(Asked::Unyank),
+    Call::May(Asked::AddOwners),
+    Call::May(Asked::RemoveOwners),
 ];
 
-const LONG: [Call; 7] = [
+const LONG: [Call; 9] = [
+    Call::WhoMay,
     Call::Audit,
     Call::Search,
+    Call::LongQuery,
     Call::ShortIndex,
     Call::LongIndex,
     Call::DigestArchive,
