@@ -97,8 +97,8 @@ abbrev pub IsStanding : Words → Trees → Standing → Type 0
 IsStanding text db it = (found : Option Crate) × FindsCrate text db found
     × AreOwnersOf found db it.owners.items × TellsTaken found text db it.taken
 
--- the readers of a restricted crate, by their ids: of a name; of the crate with this id; of what was
--- found
+-- the readers of a restricted crate, by their ids: of a name; of the crate with this id; of what
+-- was found
 abbrev pub AreReaders : Words → Trees → List Account → Type 0
 AreReaders n db list = Tells (λ ids s. map entry_of_account list ≡ who_reads s n) db
 
