@@ -1,17 +1,17 @@
 mod Answered
-mod Calls
+pub mod Calls
 mod CrateLaw
 mod CrateText
 mod FoundFacts
 mod GrantRows
 mod GrantText
 mod GrantAsked
-mod GrantLaw
+pub mod GrantLaw
 mod GrantLists
 mod JoinLaw
 mod Joins
 mod Nulls
-mod Questions
+pub mod Questions
 mod ReadLaw
 mod ReservedLaw
 mod ReservedText

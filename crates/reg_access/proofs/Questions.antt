@@ -31,7 +31,7 @@ module _ {S : Type 0} (g : Ghosts S) where
   asks_failed e (Err f) a b h one = record { told = λ clean. tt; same = λ clean. tt; leaves = called_err g e f a b one.leaves }
 
   -- what was asked before another question
-  same_rows : {T E : Type 0} {P : Trees → T → Type 0} (x : T) (a b : Work S) → Asks {E = E} g a b (Ok x) P → HasCleanDisk (seen g b) → rows_seen g b ≡ rows_seen g a
+  pub same_rows : {T E : Type 0} {P : Trees → T → Type 0} (x : T) (a b : Work S) → Asks {E = E} g a b (Ok x) P → HasCleanDisk (seen g b) → rows_seen g b ≡ rows_seen g a
   same_rows x a b one clean = ap (λ d. d.trees) (one.same clean).0.now_is
 
   pub asks_after : {T U E F : Type 0} {P : Trees → T → Type 0} {Q : Trees → U → Type 0} (x : T) (r : Result U F) (a b c : Work S) → Asks {E = E} g a b (Ok x) P → Asks g b c r Q → Asks g a c r Q

@@ -1,0 +1,6 @@
+mod Adding
+mod Commands
+mod Named
+mod Outcomes
+mod Owning
+mod Running
