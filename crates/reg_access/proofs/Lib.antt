@@ -1,5 +1,5 @@
 mod Answered
-mod Calls
+pub mod Calls
 mod CrateLaw
 mod CrateText
 mod FoundFacts
@@ -11,7 +11,7 @@ mod GrantLists
 mod JoinLaw
 mod Joins
 mod Nulls
-mod Questions
+pub mod Questions
 mod ReadLaw
 mod ReservedLaw
 mod ReservedText
