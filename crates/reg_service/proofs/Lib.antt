@@ -1,6 +1,9 @@
 mod Adding
 mod Commands
+mod Dispatch
+mod Frames
 mod Named
 mod Outcomes
 mod Owning
 mod Running
+mod Told

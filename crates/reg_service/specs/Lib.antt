@@ -1,2 +1,4 @@
+pub mod Answered
 pub mod Orders
 pub mod Runs
+pub mod Registries

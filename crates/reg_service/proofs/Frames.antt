@@ -1,0 +1,109 @@
+-- What the ends of a transaction make of an event.
+use Rattle.std.proofs.Common.{◌≡◌, ◌⊎◌, inl, inr, true, false, refl, sym, ap, subst, ◌∙◌, arith, IsTrue, Err}
+use Rattle.sqlite.specs.Tree.{Trees}
+use Rattle.sqlite.specs.Effect.{Database}
+use Rattle.sqlite_trees.specs.declared.store.Store.{Ghosts}
+use Rattle.sqlite.specs.Held.{Held, state}
+use Rattle.sqlite.specs.State.{State, HasCleanDisk, IsUnchanged, Survives}
+use Rattle.reg_body.specs.declared.limits.Limits.{Limits}
+use Rattle.reg_model.specs.Registry.{Registry}
+use Rattle.reg_model.specs.Events.{Event, Answer}
+use Rattle.reg_model.specs.Steps.{IsFit, Step, no_room, outcome}
+use Rattle.reg_model.specs.Laws.{StepsKeepSound}
+use Rattle.reg_schema.specs.States.{IsUndone, LeavesCommit, Refuses}
+use Rattle.reg_stored.specs.Stands.{Holds, Ids, Stands}
+use Rattle.reg_tables.specs.Ends.{Begins, IsCommitted, IsDropped, IsRefused, SeesAll}
+use Rattle.reg_tables.specs.Looks.{Looks}
+use Rattle.reg_tables.specs.Works.{AreOurs, IsLeft, has_failed, held, is_shut, rows_seen, seen, shown}
+use Rattle.reg_tables.specs.declared.tables.Tables.{Tables}
+use Rattle.reg_tables.specs.declared.work.Work.{Work}
+use Rattle.reg_service.specs.Answered.{Answers, Are, LeavesAlone, Shows}
+use Rattle.reg_service.specs.Orders.{HasOutcome}
+
+held_unchanged : (s : Registry) (old new : State) → Shows s old → IsUnchanged old new → Shows s new
+held_unchanged s old new held same up = subst (λ (d : Database). Are s d.trees) (sym same.0.now_is) (held same.0.was_open)
+
+module _ {S : Type 0} (g : Ghosts S) (limits : Limits) (s : Registry) (e : Event) (a : Answer) (old new : Tables S) (ours : AreOurs g old) (h : Shows s (shown g old)) (clean : HasCleanDisk (shown g new)) where
+  -- what was held is held where the state is the one that was committed
+  held_again : HasCleanDisk (shown g old) → (IsTrue (shown g new).is_open → IsTrue (shown g old).is_open) → (IsTrue (shown g new).is_open → (shown g new).now ≡ (shown g old).committed) → Shows s (shown g new)
+  held_again early was back up =
+      let same = back up ∙ sym (ours early (was up)).settled in
+      subst (λ (d : Database). Are s d.trees) (sym same) (h (was up))
+
+  still : IsLeft g old new → (held new ≡ held old) ⊎ Refuses (shown g old) (shown g new) → Shows s (shown g new)
+  still left (inl same) = subst (λ (it : Held S). Shows s (state g it)) (sym same) h
+  still left (inr (inl same)) = held_unchanged s (shown g old) (shown g new) h same
+  still left (inr (inr back)) = held_again (omega (arith, clean, left.survives.clean)) back.was_open (λ up. (back.undone up).0)
+
+  -- no transaction was begun
+  pub not_begun : a ≡ no_room e → IsLeft g old new → Answers g limits s e a old new
+  not_begun room left = record {
+    after = s;
+    step = inr (room, refl);
+    shows = still left (left.refused clean);
+    kept = inl room;
+    left = λ db l. elim (left.survives.crash clean db l) [ inl was ↦ inl was | inr none ↦ absurd none ];
+  }
+
+  module _ (begun done : Work S) (b : Begins g SeesAll old begun) (looks : Looks g begun done) (mid : HasCleanDisk (seen g done)) where
+    early : HasCleanDisk (seen g begun)
+    early = omega (arith, mid, looks.survives.clean)
+
+    first : HasCleanDisk (shown g old)
+    first = let at = early in omega (arith, at, b.survives.clean)
+
+    was_held : Are s (shown g old).now.trees
+    was_held = h (b.view early).was_open
+
+    sees : Are s (rows_seen g begun)
+    sees = subst (λ (d : Database). Are s d.trees) (sym (b.view early).now_is) was_held
+
+    -- what a stop may leave within it, it could leave before
+    before : (db : Trees) → (seen g done).may_leave db → (shown g old).may_leave db
+    before db l = elim (looks.survives.crash mid db l) [ inl at ↦ elim (b.survives.crash early db at) [ inl was ↦ was | inr none ↦ absurd none ] | inr none ↦ absurd none ]
+
+    shows_undone : IsUndone (seen g done) (shown g new) → Shows s (shown g new)
+    shows_undone back = held_again first (λ _. (b.view early).was_open) (λ up. (back.undone up).0 ∙ (looks.kept mid).committed (back.was_open up) ∙ (b.view early).committed_is)
+
+    it : (x : Answer) → HasOutcome limits e x (rows_seen g begun) (rows_seen g done) → (x ≡ (outcome limits s e).0) × Stands (outcome limits s e).1 (rows_seen g done)
+    it x has = has sees.0 s sees.1
+
+    pub committed : StepsKeepSound → IsFit e → HasOutcome limits e a (rows_seen g begun) (rows_seen g done) → IsCommitted g done new → Answers g limits s e a old new
+    committed law fit has end =
+        let t = (outcome limits s e).1 in
+        let step : Step limits s e a t = inl ((it a has).0, refl) in
+        let shows = end.kept clean in
+        let leaves : LeavesAlone t (shown g new) = λ db l. subst (λ (trees : Trees). Stands t trees) (sym (end.alone clean db l ∙ ap (λ (d : Database). d.trees) shows.committed_is)) (it a has).1 in
+        let stands = (it a has).1 in
+        let known : Are t (rows_seen g done) = (stands.0, record { sound = law limits s t e a fit sees.1.sound step; stands = stands.1 }) in
+        record {
+          after = t;
+          step = step;
+          shows = λ up. subst (λ (d : Database). Are t d.trees) (sym shows.now_is) known;
+          kept = inr leaves;
+          left = λ db l. inr (inl (it a has).0, leaves db l);
+        }
+
+    pub not_committed : (x : Answer) → HasOutcome limits e x (rows_seen g begun) (rows_seen g done) → a ≡ no_room e → IsRefused g done new
+        → Survives (seen g done) (shown g new) (λ db. (has_failed done ≡ false) × (db ≡ (seen g done).now.trees)) → Answers g limits s e a old new
+    not_committed x has room end survives =
+        let t = (outcome limits s e).1 in
+        record {
+          after = s;
+          step = inr (room, refl);
+          shows = shows_undone (end.undone clean);
+          kept = inl room;
+          left = λ db l. elim (survives.crash clean db l) [ inl at ↦ inl (before db at) | inr (whole, same) ↦ inr (inr (end.shut whole), subst (λ (trees : Trees). Stands t trees) (sym same) (it x has).1) ];
+        }
+
+    pub dropped : (Are s (rows_seen g begun) → Step limits s e a s) → IsDropped g done new → (IsTrue (shown g old).is_open → LeavesCommit (shown g old)) → Answers g limits s e a old new
+    dropped refuses end alone =
+        let was : (db : Trees) → (shown g new).may_leave db → (shown g old).may_leave db = λ db l. elim (end.survives.crash clean db l) [ inl at ↦ before db at | inr none ↦ absurd none ] in
+        let settled = (ours first (b.view early).was_open).settled in
+        record {
+          after = s;
+          step = refuses sees;
+          shows = shows_undone (end.undone clean);
+          kept = inr (λ db l. subst (λ (trees : Trees). Stands s trees) (ap (λ (d : Database). d.trees) settled ∙ sym (alone (b.view early).was_open db (was db l))) (was_held.0, was_held.1.stands));
+          left = λ db l. inl (was db l);
+        }

@@ -1,0 +1,50 @@
+-- Tables that hold a registry between two transactions, and what an event leaves of them.
+use Rattle.std.specs.Prelude.{◌≡◌, ◌⊎◌, true, IsTrue}
+use Rattle.sqlite.specs.State.{State, HasCleanDisk}
+use Rattle.sqlite.specs.Tree.{Trees}
+use Rattle.sqlite_trees.specs.declared.store.Store.{Ghosts}
+use Rattle.reg_body.specs.declared.limits.Limits.{Limits}
+use Rattle.reg_model.specs.Events.{Answer, Event}
+use Rattle.reg_model.specs.Registry.{Registry}
+use Rattle.reg_model.specs.Steps.{Step, no_room, outcome}
+use Rattle.reg_schema.specs.declared.edition.Edition.TheVariants.{Second}
+use Rattle.reg_stored.specs.Stands.{Holds, Ids, Stands}
+use Rattle.reg_tables.specs.declared.tables.Tables.{Tables}
+use Rattle.reg_tables.specs.Works.{AreOurs, edition_in, is_shut, shown}
+
+-- the rows are those of this sound registry
+abbrev pub Are : Registry → Trees → Type 0
+Are s db = (ids : Ids) × Holds ids s db
+
+-- the same of what a connection shows; one that is shut shows nothing
+abbrev pub Shows : Registry → State → Type 0
+Shows s at = IsTrue at.is_open → Are s at.now.trees
+
+-- a stop at this moment leaves the rows of this registry and nothing else
+abbrev pub LeavesAlone : Registry → State → Type 0
+LeavesAlone s at = (db : Trees) → at.may_leave db → Stands s db
+
+-- The event was answered so, by a step from the registry that was held to one that is held now.
+-- What was answered is kept through a stop. What had no room leaves a stop what it could leave
+-- before, or, where the commit was refused, the whole change.
+pub record Answers {S : Type 0} (g : Ghosts S) (limits : Limits) (s : Registry) (e : Event)
+    (a : Answer) (old new : Tables S) : Type 0 where
+  pub after : Registry
+  pub step : Step limits s e a after
+  pub shows : Shows after (shown g new)
+  pub kept : (a ≡ no_room e) ⊎ LeavesAlone after (shown g new)
+  pub left : (db : Trees) → (shown g new).may_leave db → (shown g old).may_leave db
+      ⊎ (((a ≡ (outcome limits s e).0) ⊎ (is_shut new ≡ true))
+      × Stands (outcome limits s e).1 db)
+
+-- whatever registry the tables held, the event is answered so
+abbrev pub IsAnswered : {S : Type 0} → Ghosts S → Limits → Event → Answer → Tables S → Tables S
+    → Type 0
+IsAnswered g limits e a old new =
+    HasCleanDisk (shown g new) → (s : Registry) → Shows s (shown g old)
+    → Answers g limits s e a old new
+
+-- our tables, of schema 2
+pub record AreUpToDate {S : Type 0} (g : Ghosts S) (t : Tables S) : Type 0 where
+  pub ours : AreOurs g t
+  pub second : edition_in t ≡ Second

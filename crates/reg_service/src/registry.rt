@@ -1,0 +1,62 @@
+//! A registry over a store.
+
+ghost use Rattle.std.specs.Prelude.{◌≡◌, true, Err};
+ghost use Rattle.reg_model.specs.Events.Event.{Order};
+ghost use Rattle.reg_model.specs.Steps.{IsFit};
+ghost use Rattle.reg_policy.specs.Events.{command_of, reply_of};
+ghost use Rattle.reg_service.specs.Answered.{AreUpToDate, IsAnswered};
+ghost use Rattle.reg_service.specs.Registries.{has_stopped, limits_of, tables_of};
+ghost use Rattle.reg_tables.specs.Works.{held};
+
+use crate::transactions::command_in;
+use reg_body::Limits;
+use reg_model::AdminRefusal;
+use reg_policy::{AdminCommand, AdminReply};
+use reg_tables::Tables;
+use sqlite::{Alter, Connection};
+use std::alloc::Global;
+
+/// A registry over a store. After a commit that the store refused it answers nothing more until the
+/// store is opened again.
+#[derive(Drop)]
+pub struct Registry<S: Alter> {
+    pub(crate) tables: Tables<S>,
+    pub(crate) limits: Limits,
+}
+
+impl<S: Alter> Registry<S> {
+    /// The limits that were handed in.
+    pub fn limits(&self) -> &Limits
+        ensures { result.now ≡ limits_of self.now }
+    {
+        &self.limits
+    }
+
+    /// Does what the administrator orders, in one transaction.
+    pub fn command(
+        &mut self,
+        alloc: Global,
+        command: &AdminCommand<'_>,
+    ) -> Result<AdminReply, AdminRefusal>
+        requires tables { AreUpToDate S.Store (tables_of self.old) }
+        requires fit { IsFit (Order (command_of command.now)) }
+        ensures answers { IsAnswered S.Store (limits_of self.old)
+            (Order (command_of command.now)) (reply_of result)
+            (tables_of self.old) (tables_of self.new) }
+        ensures tables { AreUpToDate S.Store (tables_of self.new) }
+        ensures limits { limits_of self.new ≡ limits_of self.old }
+        ensures stopped { has_stopped self.old ≡ true → result ≡ Err AdminRefusal.G10 }
+        ensures stays { has_stopped self.old ≡ true → has_stopped self.new ≡ true }
+        ensures stops { has_stopped self.new ≡ true → result ≡ Err AdminRefusal.G10 }
+    {
+        command_in(alloc, &mut self.tables, &self.limits, command)
+    }
+
+    /// The store, with what it holds.
+    pub fn into_connection(self) -> Connection<S>
+        ensures { result ≡ held (tables_of self) }
+    {
+        let Registry { tables, limits: _ } = self;
+        tables.into_connection()
+    }
+}
