@@ -1,5 +1,5 @@
 -- The bodies of replies (the Cargo Book, "Registry Web API").
-use Rattle.std.specs.Prelude.{ℕ, Option, List, [], ◌++◌, map, codes}
+use Rattle.std.specs.Prelude.{ℕ, List, [], ◌++◌, map, codes}
 use Rattle.serde_json.specs.Data.{Data, array, member, no_members, number, object, string, unsigned}
 use Rattle.serde_json.specs.View.{items_of}
 use Rattle.serde_json.specs.Written.{compact_text}

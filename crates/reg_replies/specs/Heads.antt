@@ -1,5 +1,5 @@
 -- The heads of replies (RFC 9112, sections 4 and 5; RFC 9110, section 15).
-use Rattle.std.specs.Prelude.{ℕ, ◌==◌, ◌++◌, Bool, if◌then◌else◌, List, [], Option, Some, None, codes, decimal}
+use Rattle.std.specs.Prelude.{ℕ, ◌==◌, ◌++◌, Bool, if◌then◌else◌, [], Option, Some, None, codes, decimal}
 use Rattle.reg_model.specs.declared.rule.Rule.{Rule}
 use Rattle.reg_model.specs.Registry.{Text}
 use Rattle.reg_model.specs.Events.{Answer}

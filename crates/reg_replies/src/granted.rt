@@ -7,26 +7,26 @@ ghost use Rattle.reg_replies.specs.Bodies as bodies;
 pub fn publish_body() -> &'static [u8]
     ensures { result.now ≡ bodies.publish_body }
 {
-    b"{\"warnings\":{\"invalid_badges\":[],\"invalid_categories\":[],\"other\":[]}}"
+    br#"{"warnings":{"invalid_badges":[],"invalid_categories":[],"other":[]}}"#
 }
 
 /// A version is yanked, or no longer.
 pub fn ok_body() -> &'static [u8]
     ensures { result.now ≡ bodies.ok_body }
 {
-    b"{\"ok\":true}"
+    br#"{"ok":true}"#
 }
 
 /// Owners are added.
 pub fn owners_added_body() -> &'static [u8]
     ensures { result.now ≡ bodies.owners_added_body }
 {
-    b"{\"msg\":\"owners added\",\"ok\":true}"
+    br#"{"msg":"owners added","ok":true}"#
 }
 
 /// Owners are removed.
 pub fn owners_removed_body() -> &'static [u8]
     ensures { result.now ≡ bodies.owners_removed_body }
 {
-    b"{\"msg\":\"owners removed\",\"ok\":true}"
+    br#"{"msg":"owners removed","ok":true}"#
 }

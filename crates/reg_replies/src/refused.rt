@@ -12,8 +12,8 @@ pub fn error_body(rule: Rule) -> FixedText
     ensures { result ≡ error_body_of rule }
 {
     let mut text = ArrayString::new();
-    text.push_str("{\"errors\":[{\"detail\":\"");
+    text.push_str(r#"{"errors":[{"detail":""#);
     text.push_str(rule_text(rule));
-    text.push_str("\"}]}");
+    text.push_str(r#""}]}"#);
     FixedText { text }
 }
