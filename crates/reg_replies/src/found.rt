@@ -37,7 +37,8 @@ fn hit_value(
     version: &str,
     description: Option<&str>,
 ) -> Result<Value, AllocError>
-    ensures { IfOk result (λ v. view v ≡ hit_data (hit_of name.now version.now (option_copied description.entry))) }
+    ensures { let hit = hit_of name.now version.now (option_copied description.entry) in
+        IfOk result (λ v. view v ≡ hit_data hit) }
 {
     let mut hit = Map::new(alloc);
     put_text_or_null(&mut hit, alloc, "description", description)?;
@@ -82,7 +83,8 @@ impl FoundBody {
         version: &str,
         description: Option<&str>,
     ) -> Result<(), AllocError>
-        ensures ok { OnOk result (self.new ≡ self.old ++ hit_of name.now version.now (option_copied description.entry) ∷ []) }
+        ensures ok { let hit = hit_of name.now version.now (option_copied description.entry) in
+            OnOk result (self.new ≡ self.old ++ hit ∷ []) }
         ensures err { OnErr result (self.new ≡ self.old) }
     {
         let alloc = *self.crates.allocator();

@@ -28,7 +28,7 @@ pub enum Methods {
 }
 
 /// What the head of a reply tells.
-#[derive(Clone, Copy, Debug, PartialEq, Eq)]
+#[derive(Clone, Copy)]
 pub struct Head {
     /// What the request is refused for, if it is.
     pub refusal: Option<Rule>,

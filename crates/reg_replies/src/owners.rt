@@ -31,7 +31,8 @@ impl Model for OwnersBody {
 }
 
 fn owner_value(alloc: Global, id: u32, login: &str, name: Option<&str>) -> Result<Value, AllocError>
-    ensures { IfOk result (λ v. view v ≡ owner_data (owner_of id login.now (option_copied name.entry))) }
+    ensures { IfOk result
+        (λ v. view v ≡ owner_data (owner_of id login.now (option_copied name.entry))) }
 {
     let mut owner = Map::new(alloc);
     put(&mut owner, alloc, "id", Value::from(id))?;
@@ -61,7 +62,8 @@ impl OwnersBody {
 
     /// `push` puts an owner behind those that are there.
     pub fn push(&mut self, id: u32, login: &str, name: Option<&str>) -> Result<(), AllocError>
-        ensures ok { OnOk result (self.new ≡ self.old ++ owner_of id login.now (option_copied name.entry) ∷ []) }
+        ensures ok { OnOk result (self.new
+            ≡ self.old ++ owner_of id login.now (option_copied name.entry) ∷ []) }
         ensures err { OnErr result (self.new ≡ self.old) }
     {
         let alloc = *self.users.allocator();
