@@ -1,0 +1,5 @@
+//! What a request asks for, from the request alone.
+#![tactic(auto)]
+
+mod owners;
+mod search;
