@@ -1,2 +1,5 @@
+pub mod Bodies
+pub mod Faults
 pub mod Owners
+pub mod Publish
 pub mod Search
