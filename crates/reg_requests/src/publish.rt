@@ -18,7 +18,7 @@ use std::alloc::{AllocError, Global};
 
 /// A version that is published, read from a body of which the archive stays a part.
 #[derive(Drop)]
-pub struct Release<'a> {
+pub(crate) struct Release<'a> {
     pub(crate) manifest: Manifest,
     pub(crate) stem: Vec<u8>,
     pub(crate) digest: Digest,
