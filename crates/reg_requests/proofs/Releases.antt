@@ -1,5 +1,5 @@
 -- What reading a publish body gives is what the body asks for.
-use Rattle.std.proofs.Common.{◌≡◌, ◌↔◌, ℕ, ◌-◌, Bor, List, length, take, codes, false, true, Result, Ok, Err, IsErrOf, IsOkAnd, MatchResult, refl, sym, ap, ◌∙◌, subst, arith, length-append, string_cmp, string_bytes}
+use Rattle.std.proofs.Common.{◌≡◌, ◌↔◌, ℕ, ◌-◌, Bor, List, length, take, codes, false, true, Result, Ok, Err, IsErrOf, IsOkAnd, MatchResult, refl, sym, ap, ◌∙◌, subst, arith, length-append, string_cmp}
 use Rattle.std.proofs.lemmas.Bool.{and_parts}
 use Rattle.std.proofs.lemmas.List.{take_at}
 use Rattle.std.specs.BTreeMap.{IsOrdered}

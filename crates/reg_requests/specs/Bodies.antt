@@ -1,6 +1,6 @@
 -- The parts of a publish body, or its first fault; `frame_law` ties them to the body's frame
 -- (the Cargo Book, "Registry Web API", "Publish").
-use Rattle.std.specs.Prelude.{ℕ, ◌+◌, ◌&&◌, nat_le, nat_lt, take, drop, length, Bool, List, [], ◌∷◌, Option, Some, None, Result, Ok, Err, if◌then◌else◌}
+use Rattle.std.specs.Prelude.{ℕ, ◌+◌, ◌&&◌, nat_le, nat_lt, take, drop, length, Bool, [], ◌∷◌, Option, Some, None, Result, Ok, Err, if◌then◌else◌}
 use Rattle.std.specs.Int.{w32, from_le_bytes}
 use Rattle.reg_body.specs.declared.limits.Limits.{Limits}
 use Rattle.reg_body.specs.declared.frame.BodyFault.{BodyFault}

@@ -1,6 +1,6 @@
 -- Which logins the body of an owner request names
 -- (the Cargo Book, "Registry Web API", "Owners: Add").
-use Rattle.std.specs.Prelude.{ℕ, ◌&&◌, nat_le, nat_lt, List, codes, length, Option, Some, None, Ok, Err, if◌then◌else◌}
+use Rattle.std.specs.Prelude.{◌&&◌, nat_le, nat_lt, List, codes, length, Option, Some, None, Ok, Err, if◌then◌else◌}
 use Rattle.serde_json.specs.Data.{Data}
 use Rattle.reg_body.specs.declared.limits.Limits.{Limits}
 use Rattle.reg_manifest.specs.Parsing.{Parsed, ◌>>=◌}

@@ -1,6 +1,6 @@
 -- What a publish body asks for, or the first rule that it breaks
 -- (the Cargo Book, "Registry Web API", "Publish").
-use Rattle.std.specs.Prelude.{◌≡◌, ℕ, ◌-◌, take, length, List, false, Option, option_map, Result, Ok, Err, string_bytes}
+use Rattle.std.specs.Prelude.{◌≡◌, ◌-◌, take, length, false, option_map, Result, Ok, Err, string_bytes}
 use Rattle.sha2.specs.Sha256.{sha256}
 use Rattle.reg_body.specs.declared.limits.Limits.{Limits}
 use Rattle.reg_body.specs.declared.frame.BodyFault.{BodyFault}

@@ -1,5 +1,5 @@
 -- What a routed request asks for (the Cargo Book, "Registry Web API" and "Registry Index").
-use Rattle.std.specs.Prelude.{ℕ, List, [], Option, Some, None, option_map, Result, Ok, Err, if◌then◌else◌}
+use Rattle.std.specs.Prelude.{[], Option, Some, None, option_map, Result, Ok, Err, if◌then◌else◌}
 use Rattle.std.specs.Str.{is_utf8}
 use Rattle.sha2.specs.Sha256.{sha256}
 use Rattle.reg_body.specs.declared.limits.Limits.{Limits}

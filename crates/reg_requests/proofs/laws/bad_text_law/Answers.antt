@@ -1,4 +1,4 @@
-use Rattle.std.proofs.Common.{◌≡◌, ◌∙◌, List, ℕ, ap, refl, false}
+use Rattle.std.proofs.Common.{ap}
 use Rattle.std.proofs.lemmas.Bool.{cond-false}
 use Rattle.std.specs.Str.{is_utf8}
 use Rattle.reg_names.specs.Names.{is_name, name_at}

@@ -1,9 +1,8 @@
-use Rattle.std.proofs.Common.{◌≡◌, ◌∙◌, ap, sym, subst, option_map, string_bytes}
+use Rattle.std.proofs.Common.{◌∙◌, ap, sym, subst}
 use Rattle.sha2.specs.Sha256.{sha256}
 use Rattle.reg_manifest.specs.Manifests.{manifest_view}
-use Rattle.reg_line.specs.Line.{IsStem}
 use Rattle.reg_model.specs.Steps.{IsGenuine}
-use Rattle.reg_requests.specs.Publish.{publication_of, release_view, stem_of}
+use Rattle.reg_requests.specs.Publish.{stem_of}
 use Rattle.reg_requests.proofs.Releases.{genuine, stem_same, stem_of-IsStem}
 use Rattle.reg_requests.proofs.publish.with_stem.Goals as goal
 

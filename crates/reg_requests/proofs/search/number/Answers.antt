@@ -1,4 +1,4 @@
-use Rattle.std.proofs.Common.{◌≡◌, ◌+◌, ◌*◌, ◌-◌, ◌<◌, ◌∙◌, min, true, sym, ap, arith, length, get_or}
+use Rattle.std.proofs.Common.{◌≡◌, ◌+◌, ◌*◌, ◌<◌, ◌∙◌, min, true, sym, ap, arith, length, get_or}
 use Rattle.std.specs.Char.{is_ascii_digit}
 use Rattle.reg_requests.proofs.Numbers.{more_digits, more_number}
 use Rattle.reg_requests.proofs.search.number.Goals as goal
