@@ -32,7 +32,7 @@ abbrev pub published : Result Publication Rule → Asked
 published (Ok p) = to_publish p
 published (Err r) = to_faulty r
 
--- what is asked for: the rule that the body or the query breaks, or what the request wants
+-- what is asked for: all that is wanted, or the rule that the body or the query breaks
 abbrev pub asked_by : Limits → Wanted → Asked
 asked_by limits Config = to_read to_config
 asked_by limits (Index path) = to_index (text_in path.now)
