@@ -1,0 +1,8 @@
+pub mod Bodies
+pub mod Contents
+pub mod Faults
+pub mod Owners
+pub mod Publish
+pub mod Requests
+pub mod Search
+pub mod Views
