@@ -1,6 +1,6 @@
 //! The report on the tokens.
 
-ghost use Rattle.std.specs.Prelude.{◌≡◌, ◌++◌, ◌==◌, List, IfOk, OnOk, drop, map, string_bytes, take};
+ghost use Rattle.std.specs.Prelude.{◌≡◌, ◌++◌, ◌==◌, List, IfOk, OnOk, map, string_bytes};
 ghost use Rattle.std.specs.List.{enumerate_from, flat_map, prefix_len};
 ghost use Rattle.reg_model.specs.Registry as model;
 ghost use Rattle.reg_model.specs.Reports.{token_line, tokens_text};
