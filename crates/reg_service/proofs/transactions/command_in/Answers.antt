@@ -14,8 +14,8 @@ returns-in_default-clause-answers g c clean s h =
     let left = rw c.in_default.is at c.work.follows.holds-at-none in
     not_begun g.S.Store c.args.limits.now s (Order (command_of c.args.command.now)) _ c.args.tables.now _ c.requires.tables.ours h clean refl left
 
-pub returns-in-Ok-Ok-in-Ok-clause-answers : goal.returns-in-Ok-Ok-in-Ok-clause-answers
-returns-in-Ok-Ok-in-Ok-clause-answers g c clean s h =
+pub returns-in-Ok-commit-clause-answers : goal.returns-in-Ok-commit-clause-answers
+returns-in-Ok-commit-clause-answers g c clean s h =
     let e = Order (command_of c.args.command.now) in
     let a = reply_of (Ok c.in-Ok-Ok.reply) in
     let back = c.tables-in-Ok-Ok-1.given.1 (sym (c.order.ensures.leaves.same_reference ∙ c.in-Ok.ensures.same_reference)) in
@@ -25,8 +25,8 @@ returns-in-Ok-Ok-in-Ok-clause-answers g c clean s h =
     subst (λ t. Answers g.S.Store c.args.limits.now s e a c.args.tables.now t) (sym back)
     (committed g.S.Store c.args.limits.now s e a c.args.tables.now c.commit.new.self.0 c.requires.tables.ours h still c.in-Ok.work c.order.new.work c.in-Ok.ensures.begun looks mid c.soundness_law.ensures.step c.requires.fit (rw c.in-Ok-Ok.field-0-is at c.in-Ok-Ok.ensures.told mid) c.in-Ok-commit.ensures.committed)
 
-pub returns-in-Ok-Ok-in-Err-clause-answers : goal.returns-in-Ok-Ok-in-Err-clause-answers
-returns-in-Ok-Ok-in-Err-clause-answers g c clean s h =
+pub returns-in-Err-commit-clause-answers : goal.returns-in-Err-commit-clause-answers
+returns-in-Err-commit-clause-answers g c clean s h =
     let e = Order (command_of c.args.command.now) in
     let a = reply_of (Err refusal.G10) in
     let back = c.tables-in-Ok-Ok-1.given.1 (sym (c.order.ensures.leaves.same_reference ∙ c.in-Ok.ensures.same_reference)) in
@@ -40,7 +40,7 @@ pub returns-in-Ok-Err-clause-answers : goal.returns-in-Ok-Err-clause-answers
 returns-in-Ok-Err-clause-answers g c clean s h =
     let e = Order (command_of c.args.command.now) in
     let a = reply_of (Err c.in-Ok-Err.refusal) in
-    let back = c.tables-in-Ok-Err-1.given.1 (sym (c.order.ensures.leaves.same_reference ∙ c.in-Ok.ensures.same_reference)) in
+    let back = c.tables-in-Err-order-2-1.given.1 (sym (c.order.ensures.leaves.same_reference ∙ c.in-Ok.ensures.same_reference)) in
     let still = subst (λ t. HasCleanDisk (shown g.S.Store t)) back clean in
     let mid : HasCleanDisk (seen g.S.Store c.order.new.work) = omega (arith, still, c.drop-work.ensures.survives.clean) in
     let looks = call_looks g.S.Store c.order.result c.in-Ok.work c.order.new.work c.order.ensures.leaves in
@@ -53,9 +53,9 @@ pub returns-in-Err-clause-answers : goal.returns-in-Err-clause-answers
 returns-in-Err-clause-answers g c clean s h =
     let e = Order (command_of c.args.command.now) in
     let a = reply_of (Err refusal.G10) in
-    let back = c.tables-in-Err-1.given.1 (sym (c.order.ensures.leaves.same_reference ∙ c.in-Ok.ensures.same_reference)) in
+    let back = c.tables-in-Err-order-1.given.1 (sym (c.order.ensures.leaves.same_reference ∙ c.in-Ok.ensures.same_reference)) in
     let still = subst (λ t. HasCleanDisk (shown g.S.Store t)) back clean in
-    let mid : HasCleanDisk (seen g.S.Store c.order.new.work) = omega (arith, still, c.drop-work.ensures.survives.clean) in
+    let mid : HasCleanDisk (seen g.S.Store c.order.new.work) = omega (arith, still, c.drop-work-in-Err-order.ensures.survives.clean) in
     let looks = call_looks g.S.Store c.order.result c.in-Ok.work c.order.new.work c.order.ensures.leaves in
     subst (λ t. Answers g.S.Store c.args.limits.now s e a c.args.tables.now t) (sym back)
-    (dropped g.S.Store c.args.limits.now s e a c.args.tables.now c.drop-work.new.self.0 c.requires.tables.ours h still c.in-Ok.work c.order.new.work c.in-Ok.ensures.begun looks mid (λ are. inr (refl, refl)) c.drop-work.ensures (λ up db l. g.met.S.Store.settled (held c.args.tables.now).store db up l))
+    (dropped g.S.Store c.args.limits.now s e a c.args.tables.now c.drop-work-in-Err-order.new.self.0 c.requires.tables.ours h still c.in-Ok.work c.order.new.work c.in-Ok.ensures.begun looks mid (λ are. inr (refl, refl)) c.drop-work-in-Err-order.ensures (λ up db l. g.met.S.Store.settled (held c.args.tables.now).store db up l))
