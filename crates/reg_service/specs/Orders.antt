@@ -44,7 +44,8 @@ Reply = Result AdminReply AdminRefusal
 abbrev pub ObeysUnder : {S : Type 0} → Limits → Ghosts S → Command → Result Reply StoreFault
     → Work S → Work S → Type 0
 ObeysUnder limits g c r old new =
-    Runs g old new r (λ before after reply. HasOutcome limits (Order c) (reply_of reply) before after)
+    Runs g old new r (λ before after reply.
+    HasOutcome limits (Order c) (reply_of reply) before after)
 
 -- it is so under any
 abbrev pub Obeys : {S : Type 0} → Ghosts S → Command → Result Reply StoreFault → Work S → Work S
@@ -93,7 +94,8 @@ abbrev pub IsScope : List Text → List Text → Result (Vec Text Global) AdminR
 IsScope words texts (Err g) = first_ground
     ((refusal.G9, length words == 0 || not (list_all is_endpoint words))
     ∷ (refusal.G4, not (list_all is_pattern texts)) ∷ []) ≡ Some g
-IsScope words texts (Ok patterns) = ((length words == 0 || not (list_all is_endpoint words)) ≡ false)
+IsScope words texts (Ok patterns) =
+    ((length words == 0 || not (list_all is_endpoint words)) ≡ false)
     × (list_all is_pattern texts ≡ true) × (patterns.items ≡ patterns_given texts)
 
 -- whether there are as many tokens as there may be, or so many patterns as none may have

@@ -1,8 +1,12 @@
 -- A registry over a store, as a caller sees it.
-use Rattle.std.specs.Prelude.{Bool}
+use Rattle.std.specs.Prelude.{◌≡◌, Bool, false}
+use Rattle.sqlite.specs.State.{HasCleanDisk}
+use Rattle.sqlite_trees.specs.declared.store.Store.{Ghosts}
 use Rattle.reg_body.specs.declared.limits.Limits.{Limits}
+use Rattle.reg_model.specs.Registry.{Text, empty_at}
 use Rattle.reg_tables.specs.declared.tables.Tables.{Tables}
-use Rattle.reg_tables.specs.Works.{is_shut}
+use Rattle.reg_tables.specs.Works.{is_shut, shown}
+use Rattle.reg_service.specs.Answered.{AreUpToDate, LeavesAlone, Shows}
 use Rattle.reg_service.specs.declared.registry.Registry.{Registry}
 
 abbrev pub tables_of : {S : Type 0} → Registry S → Tables S
@@ -14,3 +18,13 @@ limits_of r = r.limits
 -- a commit was refused: it answers nothing more
 abbrev pub has_stopped : {S : Type 0} → Registry S → Bool
 has_stopped r = is_shut (tables_of r)
+
+-- a registry of this base with nothing in it, which a stop leaves alone
+pub record IsNew {S : Type 0} (g : Ghosts S) (base : Text) (limits : Limits) (r : Registry S)
+    : Type 0 where
+  pub tables : AreUpToDate g (tables_of r)
+  pub goes_on : has_stopped r ≡ false
+  pub shows : HasCleanDisk (shown g (tables_of r)) → Shows (empty_at base) (shown g (tables_of r))
+  pub alone : HasCleanDisk (shown g (tables_of r))
+      → LeavesAlone (empty_at base) (shown g (tables_of r))
+  pub limited : limits_of r ≡ limits

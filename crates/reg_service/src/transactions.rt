@@ -40,7 +40,7 @@ pub(crate) fn command_in<S: Alter>(
     match order(alloc, &mut work, limits, command) {
         Ok(Ok(reply)) => match work.commit() {
             Ok(()) => Ok(reply),
-            Err(_) => Err(AdminRefusal::G10),
+            Err(_unkept) => Err(AdminRefusal::G10),
         },
         Ok(Err(refusal)) => Err(refusal),
         Err(_) => Err(AdminRefusal::G10),
