@@ -3,6 +3,7 @@ mod Commands
 mod Dispatch
 mod Frames
 mod Named
+mod Opened
 mod Outcomes
 mod Owning
 mod Running

@@ -1,21 +1,24 @@
-//! A registry is made in an empty store.
+//! A registry is made in an empty store, or opened.
 
 ghost use Rattle.std.specs.Prelude.{◌≡◌, ◌≢◌, ◌↔◌, false, true, IfErr, IfOk};
 ghost use Rattle.sqlite.specs.Held.{state};
 ghost use Rattle.sqlite.specs.State.{HasCleanDisk, Survives};
 ghost use Rattle.reg_line.specs.Base.{is_base as is_base_text};
-ghost use Rattle.reg_schema.specs.Schema.{blank};
+ghost use Rattle.reg_schema.specs.Schema.{blank, old_schema, schema_of};
 ghost use Rattle.reg_schema.specs.States.{IsMade, IsUndone};
-ghost use Rattle.reg_service.specs.Registries.{IsNew, limits_of, tables_of};
-ghost use Rattle.reg_tables.specs.Works.{shown};
+ghost use Rattle.reg_statements.specs.Abouts.{LacksBase};
+ghost use Rattle.reg_service.specs.Answered.{Are, AreUpToDate, Shows};
+ghost use Rattle.reg_service.specs.Registries.{IsNew, has_stopped, limits_of, tables_of};
+ghost use Rattle.reg_tables.specs.Works.{AreOurs, edition_in, is_shut, shown};
 
 use crate::registry::Registry;
-use reg_audit::Check;
+use reg_audit::{Check, audit};
 use reg_body::Limits;
 use reg_line::is_base;
 use reg_model::laws::soundness_law;
-use reg_tables::{MakeFault, Tables};
+use reg_tables::{Edition, MakeFault, Tables};
 use sqlite::{Alter, Connection};
+use std::alloc::Global;
 
 /// Why a registry could not be made or opened.
 #[derive(Clone, Copy, Debug, PartialEq, Eq)]
@@ -30,7 +33,80 @@ pub enum OpenFault {
     Storage,
 }
 
+/// A registry of tables that passed the checks, once they are of schema 2.
+fn brought_up<S: Alter>(
+    mut tables: Tables<S>,
+    limits: Limits,
+) -> Result<Registry<S>, (OpenFault, Connection<S>)>
+    requires { AreOurs S.Store tables }
+    ensures up_to_date { IfOk result (λ r. AreUpToDate S.Store (tables_of r)) }
+    ensures limited { IfOk result (λ r. limits_of r ≡ limits) }
+    ensures goes_on { IfOk result (λ r. has_stopped r ≡ is_shut tables) }
+    ensures same { edition_in tables ≡ Edition.Second → IfOk result (λ r. tables_of r ≡ tables) }
+    ensures clean { IfOk result (λ r. HasCleanDisk (shown S.Store (tables_of r))
+        → HasCleanDisk (shown S.Store tables)) }
+    ensures refused { IfErr result (λ e. e.0 ≡ OpenFault.Storage) }
+{
+    match tables.edition() {
+        Edition::Second => Ok(Registry { tables, limits }),
+        Edition::First => match tables.migrate() {
+            Ok(_) => Ok(Registry { tables, limits }),
+            Err(_) => Err((OpenFault::Storage, tables.into_connection())),
+        },
+    }
+}
+
+/// A registry of tables that pass the checks.
+fn examined<S: Alter>(
+    alloc: Global,
+    mut tables: Tables<S>,
+    limits: Limits,
+) -> Result<Registry<S>, (OpenFault, Connection<S>)>
+    requires { AreOurs S.Store tables }
+    ensures up_to_date { IfOk result (λ r. AreUpToDate S.Store (tables_of r)) }
+    ensures limited { IfOk result (λ r. limits_of r ≡ limits) }
+    ensures goes_on { IfOk result (λ r. has_stopped r ≡ is_shut tables) }
+    ensures same { edition_in tables ≡ Edition.Second → IfOk result (λ r. (s : _)
+        → HasCleanDisk (shown S.Store (tables_of r)) → Shows s (shown S.Store tables)
+        → Shows s (shown S.Store (tables_of r))) }
+    ensures clean { IfOk result (λ r. HasCleanDisk (shown S.Store (tables_of r))
+        → HasCleanDisk (shown S.Store tables)) }
+    ensures known { IfErr result (λ e. e.0 ≢ OpenFault.UnknownSchema) }
+{
+    match audit(alloc, &mut tables) {
+        Err(_) => Err((OpenFault::Storage, tables.into_connection())),
+        Ok(Some(check)) => Err((OpenFault::Damaged(check), tables.into_connection())),
+        Ok(None) => brought_up(tables, limits),
+    }
+}
+
 impl<S: Alter> Registry<S> {
+    /// Opens the registry that a store holds: its tables are taken over, checked, and brought to
+    /// schema 2. With a fault the connection is handed back.
+    pub fn open(
+        alloc: Global,
+        conn: Connection<S>,
+        limits: Limits,
+    ) -> Result<Registry<S>, (OpenFault, Connection<S>)>
+        requires { (state S.Store conn).in_transaction ≡ false }
+        ensures up_to_date { IfOk result (λ r. AreUpToDate S.Store (tables_of r)) }
+        ensures goes_on { IfOk result (λ r. has_stopped r ≡ false) }
+        ensures limited { IfOk result (λ r. limits_of r ≡ limits) }
+        ensures same { IfOk result (λ r. (s : _) → HasCleanDisk (shown S.Store (tables_of r))
+            → (state S.Store conn).now.schema ≢ old_schema → Are s (state S.Store conn).now.trees
+            → Shows s (shown S.Store (tables_of r))) }
+        ensures unknown { IfErr result (λ e. HasCleanDisk (state S.Store e.1)
+            → e.0 ≡ OpenFault.UnknownSchema → (edition : Edition)
+            → (state S.Store conn).now.schema ≡ schema_of edition
+            → LacksBase edition (state S.Store conn).now.trees) }
+    {
+        match Tables::adopt(alloc, conn) {
+            Ok(tables) => examined(alloc, tables, limits),
+            Err((MakeFault::UnknownSchema, conn)) => Err((OpenFault::UnknownSchema, conn)),
+            Err((MakeFault::Storage, conn)) => Err((OpenFault::Storage, conn)),
+        }
+    }
+
     /// Makes a registry with nothing in it. With a fault the connection is handed back.
     pub fn create(
         conn: Connection<S>,

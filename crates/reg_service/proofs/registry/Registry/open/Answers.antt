@@ -1,0 +1,12 @@
+use Rattle.std.proofs.Common.{refl}
+use Rattle.reg_tables.specs.Works.{edition_in}
+use Rattle.reg_service.proofs.Opened.{opened_same}
+use Rattle.reg_service.proofs.registry.Registry.open.Goals as goal
+
+pub returns-in-Ok-clause-same : goal.returns-in-Ok-clause-same
+returns-in-Ok-clause-same g c =
+    opened_same g.S.Store c.args.conn c.in-Ok.tables (edition_in c.in-Ok.tables) c.examined.result refl c.in-Ok.ensures.edition c.in-Ok.ensures.found c.examined.ensures.same c.examined.ensures.clean
+
+pub returns-in-Err-UnknownSchema-default-clause-unknown : goal.returns-in-Err-UnknownSchema-default-clause-unknown
+returns-in-Err-UnknownSchema-default-clause-unknown g c clean is edition schema =
+    c.in-Err-UnknownSchema-default.ensures.unknown clean c.in-Err-UnknownSchema-default.field-0-0-is edition schema
