@@ -9,6 +9,7 @@ mod granted;
 mod head;
 mod owners;
 mod refused;
+mod reply;
 mod values;
 
 pub use fixed_text::FixedText;
@@ -17,3 +18,4 @@ pub use granted::{ok_body, owners_added_body, owners_removed_body, publish_body}
 pub use head::{Head, Kind, Methods, reply_head};
 pub use owners::OwnersBody;
 pub use refused::error_body;
+pub use reply::Reply;

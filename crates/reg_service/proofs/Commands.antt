@@ -18,7 +18,7 @@ use Rattle.reg_statements.specs.declared.accounts.Account.{Account}
 use Rattle.reg_stored.specs.Calls.{FindsAccount, SetsEnabled, Turns}
 use Rattle.reg_stored.specs.Stands.{Stands, StandsBy}
 use Rattle.reg_service.specs.Orders.{HasOutcome, enabling, first_ground}
-use Rattle.reg_service.proofs.Named.{is_given, is_not}
+use Rattle.reg_serving.proofs.Names.{is_given, is_not}
 use Rattle.reg_service.proofs.Outcomes.{done_so, refused_so}
 
 -- accounts are enabled and disabled

@@ -6,5 +6,4 @@ mod Named
 mod Opened
 mod Outcomes
 mod Owning
-mod Running
 mod Told

@@ -22,7 +22,8 @@ use Rattle.reg_stored.specs.Changes.{insert_at, mark_in, remove_at}
 use Rattle.reg_stored.specs.Stands.{Stands}
 use Rattle.std.specs.Prelude.{Ok, Err, unwrap_or}
 use Rattle.std.specs.List.{cons_option}
-use Rattle.reg_service.specs.Orders.{FindsNamed, FindsPair, HasOutcome, first_ground, restricting}
+use Rattle.reg_serving.specs.Named.{FindsNamed}
+use Rattle.reg_service.specs.Orders.{FindsPair, HasOutcome, first_ground, restricting}
 use Rattle.reg_service.proofs.Named.{paired}
 use Rattle.reg_service.proofs.Outcomes.{done_so, refused_so}
 

@@ -1,4 +1,3 @@
 pub mod Answered
 pub mod Orders
-pub mod Runs
 pub mod Registries

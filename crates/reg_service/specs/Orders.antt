@@ -27,7 +27,8 @@ use Rattle.reg_stored.specs.Calls.{Tells}
 use Rattle.reg_stored.specs.Stands.{Holds, Ids, Stands, spelling_at}
 use Rattle.reg_tables.specs.declared.work.StoreFault.{StoreFault}
 use Rattle.reg_tables.specs.declared.work.Work.{Work}
-use Rattle.reg_service.specs.Runs.{Runs}
+use Rattle.reg_serving.specs.Named.{IsNamed}
+use Rattle.reg_serving.specs.Runs.{Runs}
 
 -- the answer is the event's, and the rows are those of the state after it
 abbrev pub HasOutcome : Limits → Event → Answer → Trees → Trees → Type 0
@@ -61,16 +62,6 @@ enabling false login = UserDisable login
 abbrev pub restricting : Bool → Text → Command
 restricting true n = CrateRestrict n
 restricting false n = CrateOpen n
-
--- the crate with this id is named by a text, in one of its spellings
-abbrev pub IsNamed : Ids → Registry → Text → ℕ → Type 0
-IsNamed ids s text id = ((is_name text && exists s text) ≡ true)
-    × ((n : Text) × (spelling_at ids id ≡ Some n) × (canon n ≡ canon text))
-
--- the crate that a text names; none where the text is no name or no crate has it
-abbrev pub FindsNamed : Text → Trees → Option Crate → Type 0
-FindsNamed text db None = Tells (λ ids s. (is_name text && exists s text) ≡ false) db
-FindsNamed text db (Some it) = Tells (λ ids s. IsNamed ids s text it.id) db
 
 -- the first ground whose test passes
 abbrev pub first_ground : List (AdminRefusal × Bool) → Option AdminRefusal

@@ -5,9 +5,10 @@ ghost use Rattle.reg_model.specs.Events.Command.{OwnerAdd, ReaderAdd, ReaderRemo
 ghost use Rattle.reg_tables.specs.Works.{IsAtWork, has_failed};
 ghost use Rattle.reg_service.specs.Orders.{Obeys, restricting};
 
-use crate::finding::{find_named, find_pair};
+use crate::finding::find_pair;
 use reg_model::AdminRefusal;
 use reg_policy::AdminReply;
+use reg_serving::find_named;
 use reg_tables::{StoreFault, Work};
 use sqlite::Alter;
 

@@ -3,28 +3,12 @@
 ghost use Rattle.std.specs.Prelude.{◌≡◌, ◌∷◌, [], false};
 ghost use Rattle.reg_tables.specs.Works.{IsAtWork, has_failed};
 ghost use Rattle.reg_access.specs.Asks.{Asks};
-ghost use Rattle.reg_service.specs.Orders.{FindsNamed, FindsPair, first_ground};
+ghost use Rattle.reg_service.specs.Orders.{FindsPair, first_ground};
 
 use reg_model::AdminRefusal;
-use reg_names::{canon, parse_name};
-use reg_tables::{Crate, StoreFault, Work};
+use reg_serving::find_named;
+use reg_tables::{StoreFault, Work};
 use sqlite::Alter;
-
-/// The crate that a text names, in any of its spellings; none where the text is no crate name or
-/// no crate has it.
-pub(crate) fn find_named<S: Alter>(
-    work: &mut Work<'_, S>,
-    text: &str,
-) -> Result<Option<Crate>, StoreFault>
-    requires at_work { IsAtWork S.Store work.old }
-    requires goes_on { has_failed work.old ≡ false }
-    ensures { Asks S.Store work.old work.new result (FindsNamed text.now) }
-{
-    match parse_name(text) {
-        Some(name) => work.crate_by_canon(&canon(&name)),
-        None => Ok(None),
-    }
-}
 
 /// The id of the crate that a text names and that of the account with a login, or why not.
 pub(crate) fn find_pair<S: Alter>(

@@ -9,7 +9,7 @@ ghost use Rattle.reg_stored.specs.Calls.{Tells};
 ghost use Rattle.reg_tables.specs.Works.{IsAtWork};
 ghost use Rattle.reg_access.specs.Asks.{Asks};
 ghost use Rattle.reg_service.specs.Orders.{IsScope, Obeys, ObeysUnder, PutsToken, is_full_for, token_refusal};
-ghost use Rattle.reg_service.specs.Runs.{Runs};
+ghost use Rattle.reg_serving.specs.Runs.{Runs};
 
 use crate::finding::refused_if;
 use reg_body::Limits;

@@ -1,7 +1,7 @@
 use Rattle.reg_tables.specs.Works.{rows_seen}
 use Rattle.reg_stored.specs.Calls.{AddsOwner}
 use Rattle.reg_service.proofs.Owning.{owner_done, owner_refused}
-use Rattle.reg_service.proofs.Running.{runs_asked, runs_changed}
+use Rattle.reg_serving.proofs.Running.{runs_asked, runs_changed}
 use Rattle.reg_service.proofs.crates.add_owner.Goals as goal
 
 pub returns-in-Err : goal.returns-in-Err

@@ -1,7 +1,7 @@
 use Rattle.reg_tables.specs.Works.{rows_seen}
 use Rattle.reg_stored.specs.Calls.{AddsReader}
 use Rattle.reg_service.proofs.Owning.{reader_done, add_refused}
-use Rattle.reg_service.proofs.Running.{runs_asked, runs_changed}
+use Rattle.reg_serving.proofs.Running.{runs_asked, runs_changed}
 use Rattle.reg_service.proofs.crates.add_reader.Goals as goal
 
 pub returns-in-Err : goal.returns-in-Err

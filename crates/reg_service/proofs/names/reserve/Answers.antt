@@ -1,6 +1,6 @@
 use Rattle.std.proofs.Common.{sym, ◌∙◌}
 use Rattle.reg_service.proofs.Commands.{bad_name, reserved_already, reserved_now}
-use Rattle.reg_service.proofs.Running.{runs_alone, runs_nothing}
+use Rattle.reg_serving.proofs.Running.{runs_alone, runs_nothing}
 use Rattle.reg_service.proofs.names.reserve.Goals as goal
 
 pub returns-in_default : goal.returns-in_default

@@ -1,5 +1,5 @@
 use Rattle.std.specs.Prelude.{string_bytes}
-use Rattle.reg_service.proofs.Running.{runs_asked}
+use Rattle.reg_serving.proofs.Running.{runs_asked}
 use Rattle.reg_service.proofs.Told.{tokens_told}
 use Rattle.reg_service.proofs.reports.report_tokens.Goals as goal
 

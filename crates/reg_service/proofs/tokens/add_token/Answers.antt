@@ -1,7 +1,7 @@
 use Rattle.reg_stored.specs.Calls.{FindsAccount}
 use Rattle.std.specs.Prelude.{map}
 use Rattle.reg_service.proofs.Adding.{bad_scope, no_account, token_added}
-use Rattle.reg_service.proofs.Running.{runs_after, runs_asked}
+use Rattle.reg_serving.proofs.Running.{runs_after, runs_asked}
 use Rattle.reg_service.proofs.tokens.add_token.Goals as goal
 
 pub returns-in_default : goal.returns-in_default

@@ -1,7 +1,7 @@
 use Rattle.reg_tables.specs.Works.{rows_seen}
 use Rattle.reg_stored.specs.Calls.{AddsToken}
 use Rattle.reg_service.proofs.Adding.{token_kept, token_put}
-use Rattle.reg_service.proofs.Running.{runs_asked, runs_changed}
+use Rattle.reg_serving.proofs.Running.{runs_asked, runs_changed}
 use Rattle.reg_service.proofs.tokens.put_token.Goals as goal
 
 pub returns-in-Some : goal.returns-in-Some

@@ -1,7 +1,7 @@
 use Rattle.reg_tables.specs.Works.{rows_seen}
 use Rattle.reg_stored.specs.Calls.{Ends}
 use Rattle.reg_service.proofs.Adding.{no_token, revoked_now}
-use Rattle.reg_service.proofs.Running.{runs_asked, runs_changed}
+use Rattle.reg_serving.proofs.Running.{runs_asked, runs_changed}
 use Rattle.reg_service.proofs.tokens.revoke.Goals as goal
 
 pub returns-then-not-has : goal.returns-then-not-has

@@ -1,9 +1,9 @@
 use Rattle.reg_stored.specs.Calls.{FindsCrate}
 use Rattle.std.proofs.Common.{sym, ◌∙◌}
 use Rattle.reg_access.proofs.Questions.{asks_nothing}
-use Rattle.reg_service.proofs.Named.{named, unnamed}
-use Rattle.reg_service.proofs.Running.{asks_as}
-use Rattle.reg_service.proofs.finding.find_named.Goals as goal
+use Rattle.reg_serving.proofs.Names.{named, unnamed}
+use Rattle.reg_serving.proofs.Running.{asks_as}
+use Rattle.reg_serving.proofs.naming.find_named.Goals as goal
 
 pub returns-in-Some : goal.returns-in-Some
 returns-in-Some g c =

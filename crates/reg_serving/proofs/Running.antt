@@ -8,7 +8,7 @@ use Rattle.reg_tables.specs.Works.{IsAtWork, IsCall, has_failed, rows_seen, seen
 use Rattle.reg_access.specs.Asks.{Asks}
 use Rattle.reg_access.proofs.Calls.{called_err, called_ok, itself_called, then_called}
 use Rattle.reg_access.proofs.Questions.{same_rows}
-use Rattle.reg_service.specs.Runs.{Runs}
+use Rattle.reg_serving.specs.Runs.{Runs}
 
 module _ {S : Type 0} (g : Ghosts S) where
   -- a call is refused

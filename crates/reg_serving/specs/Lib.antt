@@ -1,0 +1,4 @@
+pub mod Granted
+pub mod Named
+pub mod Runs
+pub mod Serves

@@ -1,0 +1,25 @@
+//! Versions are yanked, or no longer.
+
+ghost use Rattle.std.specs.Prelude.{◌≡◌, false};
+ghost use Rattle.reg_tables.specs.Works.{IsAtWork, has_failed};
+ghost use Rattle.reg_serving.specs.Granted.{Grants, marking};
+
+use crate::served::Served;
+use reg_tables::{StoreFault, Work};
+use sqlite::Alter;
+use std::alloc::Global;
+
+/// Yanks a version, or takes that back.
+pub(crate) fn set_yanked<S: Alter>(
+    alloc: Global,
+    work: &mut Work<'_, S>,
+    name: &str,
+    version: &str,
+    yanked: bool,
+) -> Result<Served, StoreFault>
+    requires at_work { IsAtWork S.Store work.old }
+    requires goes_on { has_failed work.old ≡ false }
+    ensures { Grants S.Store (marking yanked name.now version.now) result work.old work.new }
+{
+    work.fail()
+}
