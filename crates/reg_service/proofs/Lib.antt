@@ -6,4 +6,7 @@ mod Named
 mod Opened
 mod Outcomes
 mod Owning
+mod Replied
+mod Seeking
+mod Sequences
 mod Told
