@@ -66,7 +66,7 @@ module _ {S : Type 0} (g : Ghosts S) (limits : Limits) (s : Registry) (e : Event
     was_held : Are s (shown g old).now.trees
     was_held = h (b.view early).was_open
 
-    sees : Are s (rows_seen g begun)
+    pub sees : Are s (rows_seen g begun)
     sees = subst (λ (d : Database). Are s d.trees) (sym (b.view early).now_is) was_held
 
     -- what a stop may leave within it, it could leave before
@@ -76,7 +76,7 @@ module _ {S : Type 0} (g : Ghosts S) (limits : Limits) (s : Registry) (e : Event
     shows_undone : IsUndone (seen g done) (shown g new) → Shows s (shown g new)
     shows_undone back = held_again first (λ _. (b.view early).was_open) (λ up. (back.undone up).0 ∙ (looks.kept mid).committed (back.was_open up) ∙ (b.view early).committed_is)
 
-    pub committed : StepsKeepSound → IsFit e → HasOutcome limits e a (rows_seen g begun) (rows_seen g done) → IsCommitted g done new → Answers g limits s e a old new
+    pub committed : StepsKeepSound → IsFit e → (Are s (rows_seen g begun) → (a ≡ (outcome limits s e).0) × Stands (outcome limits s e).1 (rows_seen g done)) → IsCommitted g done new → Answers g limits s e a old new
     committed law fit has end =
         let t = (outcome limits s e).1 in
         let step : Step limits s e a t = inl ((has sees).0, refl) in
@@ -92,7 +92,7 @@ module _ {S : Type 0} (g : Ghosts S) (limits : Limits) (s : Registry) (e : Event
           left = λ db l. inr (inl (has sees).0, leaves db l);
         }
 
-    pub not_committed : (x : Answer) → HasOutcome limits e x (rows_seen g begun) (rows_seen g done) → a ≡ no_room e → IsRefused g done new
+    pub not_committed : (Are s (rows_seen g begun) → Stands (outcome limits s e).1 (rows_seen g done)) → a ≡ no_room e → IsRefused g done new
         → Survives (seen g done) (shown g new) (λ db. (has_failed done ≡ false) × (db ≡ (seen g done).now.trees)) → Answers g limits s e a old new
     not_committed has room end survives =
         let t = (outcome limits s e).1 in
@@ -114,7 +114,7 @@ module _ {S : Type 0} (g : Ghosts S) (limits : Limits) (s : Registry) (e : Event
           left = was;
         }
 
-    pub dropped : (Are s (rows_seen begun) → Step limits s e a s) → IsDropped g done new → (IsTrue (shown g old).is_open → LeavesCommit (shown g old)) → Answers g limits s e a old new
+    pub dropped : (Are s (rows_seen g begun) → Step limits s e a s) → IsDropped g done new → (IsTrue (shown g old).is_open → LeavesCommit (shown g old)) → Answers g limits s e a old new
     dropped refuses end alone = stayed (refuses sees) (dropped_so end alone)
 
 -- nothing was called

@@ -28,7 +28,7 @@ use Rattle.reg_service.specs.Handled.{RepliesTo, Sought}
 use Rattle.reg_service.proofs.Frames as frame
 
 module _ {S : Type 0} (g : Ghosts S) (limits : Limits) (s : Registry) (digest : Option Text) (asked : Asked) (old new : Tables S) (ours : AreOurs g old) (h : Shows s (shown g old)) (clean : HasCleanDisk (shown g new)) where
-  e : Event
+  abbrev pub e : Event
   e = Ask digest asked
 
   -- there was no room
@@ -58,7 +58,7 @@ module _ {S : Type 0} (g : Ghosts S) (limits : Limits) (s : Registry) (digest : 
 
 -- a search, once the transaction is dropped
 module _ {S : Type 0} (g : Ghosts S) (limits : Limits) (s : Registry) (digest : Option Text) (asked : Asked) (old at new : Tables S) (ours : AreOurs g old) (h : Shows s (shown g old)) (clean : HasCleanDisk (shown g new)) (early : HasCleanDisk (shown g at)) (begun done : Work S) (b : Begins g SeesAll old begun) (looks : Looks g begun done) (mid : HasCleanDisk (seen g done)) where
-  o : Answer
+  abbrev pub o : Answer
   o = to_denied rule.S1
 
   stays : IsDropped g done at → (IsTrue (shown g old).is_open → LeavesCommit (shown g old)) → Stays g s old at

@@ -13,6 +13,6 @@ use Rattle.reg_service.specs.Handled.{ListsFound, Sought}
 
 -- the reply shows what the account finds
 pub shows_found : (account : ℕ) (q : Text) (most : ℕ) (s : Registry) (f : FoundCrates) (reply : Reply) → ListsFound f reply → f ≡ found s (Some account) q most → Sought account (Read (Search q most)) s reply
-shows_found account q most s f (Done kind body) is same = inr (refl, (is.0, is.1 ∙ ap found_body same))
+shows_found account q most s f (Done kind body) is same = inr (refl, is.0, is.1 ∙ ap found_body same)
 shows_found account q most s f (Denied r) is same = inl (ap (λ it. Denied it) is)
 shows_found account q most s f (Method m) is same = absurd is
