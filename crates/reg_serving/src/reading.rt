@@ -12,7 +12,7 @@ use crate::bodies::{index_file, owners_list};
 use crate::naming::find_named;
 use crate::served::Served;
 use reg_line::config;
-use reg_names::name_of_path;
+use reg_names::{canon, name_of_path};
 use reg_replies::{Kind, Reply};
 use reg_tables::{StoreFault, Version, Work};
 use sqlite::Alter;
@@ -59,8 +59,8 @@ fn find_versions<S: Alter>(
     let Some(name) = name_of_path(path) else {
         return work.fail();
     };
-    match find_named(work, name.as_str())? {
-        Some(named) => work.versions_of(alloc, named.id),
+    match work.crate_by_canon(&canon(&name))? {
+        Some(found) => work.versions_of(alloc, found.id),
         None => work.fail(),
     }
 }
