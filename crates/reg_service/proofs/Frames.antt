@@ -101,7 +101,7 @@ module _ {S : Type 0} (g : Ghosts S) (limits : Limits) (s : Registry) (e : Event
           step = inr (room, refl);
           shows = shows_undone (end.undone clean);
           kept = inl room;
-          left = λ db l. elim (survives.crash clean db l) [ inl at ↦ inl (before db at) | inr (whole, same) ↦ inr (inr (end.shut whole), subst (λ (trees : Trees). Stands t trees) (sym same) has sees) ];
+          left = λ db l. elim (survives.crash clean db l) [ inl at ↦ inl (before db at) | inr (whole, same) ↦ inr (inr (end.shut whole), subst (λ (trees : Trees). Stands t trees) (sym same) (has sees)) ];
         }
 
     pub dropped_so : IsDropped g done new → (IsTrue (shown g old).is_open → LeavesCommit (shown g old)) → Stays g s old new
