@@ -1,2 +1,4 @@
+pub mod Judging
+pub mod Marking
 pub mod Names
 pub mod Running
