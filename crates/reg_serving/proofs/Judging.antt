@@ -1,6 +1,5 @@
 -- From what denies a request, or does not, to what it is answered.
-use Rattle.std.proofs.Common.{◌≡◌, ℕ, Option, Some, None, not, refl, sym, ap, subst, ◌∙◌}
-use Rattle.std.specs.Prelude.{unwrap_or}
+use Rattle.std.proofs.Common.{◌≡◌, Option, Some, None, not, sym, ap, subst, ◌∙◌}
 use Rattle.std.specs.List.{filter, find}
 use Rattle.sqlite.specs.Tree.{Trees}
 use Rattle.reg_body.specs.declared.limits.Limits.{Limits}

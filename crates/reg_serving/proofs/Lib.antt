@@ -1,4 +1,4 @@
 pub mod Judging
-pub mod Marking
+pub mod Marked
 pub mod Names
 pub mod Running
