@@ -90,7 +90,8 @@ fn publish_first<S: Alter>(
     ensures { Runs S.Store work.old work.new result
         (PublishesFirst limits.now digest.now (publication_of new.now)) }
 {
-    if is_full(work, limits)? {
+    let full = is_full(work, limits)?;
+    if full {
         return Ok(Served::Told(Reply::Denied(Rule::L2)));
     }
     make_crate(alloc, work, digest, new)
@@ -108,7 +109,8 @@ fn publish_next<S: Alter>(
     ensures { Runs S.Store work.old work.new result
         (PublishesNext limits.now crate_id (publication_of new.now)) }
 {
-    if is_full_of(alloc, work, limits, crate_id)? {
+    let full = is_full_of(alloc, work, limits, crate_id)?;
+    if full {
         return Ok(Served::Told(Reply::Denied(Rule::L1)));
     }
     let Ok(body) = publish_body().to_vec(alloc) else {
