@@ -43,7 +43,7 @@ use Rattle.reg_serving.specs.Publications.{IsNew, IsOf, MakesCrate, PublishesFir
 use Rattle.reg_serving.specs.Serves.{Serves}
 use Rattle.reg_serving.specs.declared.served.Served.{Served}
 use Rattle.reg_serving.specs.declared.served.Served.TheVariants.{Done, Told}
-use Rattle.reg_serving.proofs.Judging.{denied_by_others, done_served, others, told_denied}
+use Rattle.reg_serving.proofs.Judging.{denied_by_others, done_served, told_denied}
 
 module _ (limits : Limits) (s : Registry) (d : Text) (p : Publication) where
   -- what is left to deny what the rules on access let pass

@@ -1,4 +1,3 @@
-use Rattle.reg_names.specs.Names.{canon}
 use Rattle.reg_policy.specs.Events.{publication_of}
 use Rattle.reg_stored.specs.Calls.{FindsCrate}
 use Rattle.reg_serving.proofs.Publications.{of_known, of_new}
