@@ -1,7 +1,7 @@
 //! What the words of a line are answered.
 
 use crate::finding::found;
-use crate::orders::{add_token, command_of, parts};
+use crate::orders::add_token;
 use crate::publishing::{publish, publish_described};
 use crate::requests::request_of;
 use crate::splitting::split_within;
@@ -9,6 +9,7 @@ use crate::stage::Stage;
 use crate::texts::{length, told};
 use reg_policy::Asked;
 use std::alloc::{AllocError, Global};
+use test_orders::{command_of, parts};
 
 /// What a line is answered: a command, a request, or something else.
 pub(crate) fn answered(stage: &mut Stage, words: &[&str]) -> Result<String, AllocError> {

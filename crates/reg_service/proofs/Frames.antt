@@ -17,8 +17,7 @@ use Rattle.reg_tables.specs.Looks.{Looks}
 use Rattle.reg_tables.specs.Works.{AreOurs, IsLeft, has_failed, held, is_shut, rows_seen, seen, shown}
 use Rattle.reg_tables.specs.declared.tables.Tables.{Tables}
 use Rattle.reg_tables.specs.declared.work.Work.{Work}
-use Rattle.reg_service.specs.Answered.{Answers, Are, LeavesAlone, Shows}
-use Rattle.reg_service.specs.Orders.{HasOutcome}
+use Rattle.reg_service.specs.Answered.{Answers, Are, LeavesAlone, Shows, Stays}
 
 held_unchanged : (s : Registry) (old new : State) → Shows s old → IsUnchanged old new → Shows s new
 held_unchanged s old new held same up = subst (λ (d : Database). Are s d.trees) (sym same.0.now_is) (held same.0.was_open)
@@ -45,6 +44,18 @@ module _ {S : Type 0} (g : Ghosts S) (limits : Limits) (s : Registry) (e : Event
     left = λ db l. elim (left.survives.crash clean db l) [ inl was ↦ inl was | inr none ↦ absurd none ];
   }
 
+  -- all is as it was
+  pub stayed : Step limits s e a s → Stays g s old new → Answers g limits s e a old new
+  stayed step stays = record { after = s; step = step; shows = stays.shows; kept = inr stays.alone; left = λ db l. inl (stays.left db l) }
+
+  -- the tables were only looked at, after all stayed as it was
+  pub left_on : (was : Tables S) → Stays g s was old → IsLeft g old new → Stays g s was new
+  left_on was stays left = record {
+    shows = still left (left.refused clean);
+    alone = λ db l. elim (left.survives.crash clean db l) [ inl at ↦ stays.alone db at | inr none ↦ absurd none ];
+    left = λ db l. elim (left.survives.crash clean db l) [ inl at ↦ stays.left db at | inr none ↦ absurd none ];
+  }
+
   module _ (begun done : Work S) (b : Begins g SeesAll old begun) (looks : Looks g begun done) (mid : HasCleanDisk (seen g done)) where
     early : HasCleanDisk (seen g begun)
     early = omega (arith, mid, looks.survives.clean)
@@ -55,7 +66,7 @@ module _ {S : Type 0} (g : Ghosts S) (limits : Limits) (s : Registry) (e : Event
     was_held : Are s (shown g old).now.trees
     was_held = h (b.view early).was_open
 
-    sees : Are s (rows_seen g begun)
+    pub sees : Are s (rows_seen g begun)
     sees = subst (λ (d : Database). Are s d.trees) (sym (b.view early).now_is) was_held
 
     -- what a stop may leave within it, it could leave before
@@ -65,45 +76,47 @@ module _ {S : Type 0} (g : Ghosts S) (limits : Limits) (s : Registry) (e : Event
     shows_undone : IsUndone (seen g done) (shown g new) → Shows s (shown g new)
     shows_undone back = held_again first (λ _. (b.view early).was_open) (λ up. (back.undone up).0 ∙ (looks.kept mid).committed (back.was_open up) ∙ (b.view early).committed_is)
 
-    it : (x : Answer) → HasOutcome limits e x (rows_seen g begun) (rows_seen g done) → (x ≡ (outcome limits s e).0) × Stands (outcome limits s e).1 (rows_seen g done)
-    it x has = has sees.0 s sees.1
-
-    pub committed : StepsKeepSound → IsFit e → HasOutcome limits e a (rows_seen g begun) (rows_seen g done) → IsCommitted g done new → Answers g limits s e a old new
+    pub committed : StepsKeepSound → IsFit e → (Are s (rows_seen g begun) → (a ≡ (outcome limits s e).0) × Stands (outcome limits s e).1 (rows_seen g done)) → IsCommitted g done new → Answers g limits s e a old new
     committed law fit has end =
         let t = (outcome limits s e).1 in
-        let step : Step limits s e a t = inl ((it a has).0, refl) in
+        let step : Step limits s e a t = inl ((has sees).0, refl) in
         let shows = end.kept clean in
-        let leaves : LeavesAlone t (shown g new) = λ db l. subst (λ (trees : Trees). Stands t trees) (sym (end.alone clean db l ∙ ap (λ (d : Database). d.trees) shows.committed_is)) (it a has).1 in
-        let stands = (it a has).1 in
+        let leaves : LeavesAlone t (shown g new) = λ db l. subst (λ (trees : Trees). Stands t trees) (sym (end.alone clean db l ∙ ap (λ (d : Database). d.trees) shows.committed_is)) (has sees).1 in
+        let stands = (has sees).1 in
         let known : Are t (rows_seen g done) = (stands.0, record { sound = law limits s t e a fit sees.1.sound step; stands = stands.1 }) in
         record {
           after = t;
           step = step;
           shows = λ up. subst (λ (d : Database). Are t d.trees) (sym shows.now_is) known;
           kept = inr leaves;
-          left = λ db l. inr (inl (it a has).0, leaves db l);
+          left = λ db l. inr (inl (has sees).0, leaves db l);
         }
 
-    pub not_committed : (x : Answer) → HasOutcome limits e x (rows_seen g begun) (rows_seen g done) → a ≡ no_room e → IsRefused g done new
+    pub not_committed : (Are s (rows_seen g begun) → Stands (outcome limits s e).1 (rows_seen g done)) → a ≡ no_room e → IsRefused g done new
         → Survives (seen g done) (shown g new) (λ db. (has_failed done ≡ false) × (db ≡ (seen g done).now.trees)) → Answers g limits s e a old new
-    not_committed x has room end survives =
+    not_committed has room end survives =
         let t = (outcome limits s e).1 in
         record {
           after = s;
           step = inr (room, refl);
           shows = shows_undone (end.undone clean);
           kept = inl room;
-          left = λ db l. elim (survives.crash clean db l) [ inl at ↦ inl (before db at) | inr (whole, same) ↦ inr (inr (end.shut whole), subst (λ (trees : Trees). Stands t trees) (sym same) (it x has).1) ];
+          left = λ db l. elim (survives.crash clean db l) [ inl at ↦ inl (before db at) | inr (whole, same) ↦ inr (inr (end.shut whole), subst (λ (trees : Trees). Stands t trees) (sym same) has sees) ];
         }
 
-    pub dropped : (Are s (rows_seen g begun) → Step limits s e a s) → IsDropped g done new → (IsTrue (shown g old).is_open → LeavesCommit (shown g old)) → Answers g limits s e a old new
-    dropped refuses end alone =
+    pub dropped_so : IsDropped g done new → (IsTrue (shown g old).is_open → LeavesCommit (shown g old)) → Stays g s old new
+    dropped_so end alone =
         let was : (db : Trees) → (shown g new).may_leave db → (shown g old).may_leave db = λ db l. elim (end.survives.crash clean db l) [ inl at ↦ before db at | inr none ↦ absurd none ] in
         let settled = (ours first (b.view early).was_open).settled in
         record {
-          after = s;
-          step = refuses sees;
           shows = shows_undone (end.undone clean);
-          kept = inr (λ db l. subst (λ (trees : Trees). Stands s trees) (ap (λ (d : Database). d.trees) settled ∙ sym (alone (b.view early).was_open db (was db l))) (was_held.0, was_held.1.stands));
-          left = λ db l. inl (was db l);
+          alone = λ db l. subst (λ (trees : Trees). Stands s trees) (ap (λ (d : Database). d.trees) settled ∙ sym (alone (b.view early).was_open db (was db l))) (was_held.0, was_held.1.stands);
+          left = was;
         }
+
+    pub dropped : (Are s (rows_seen g begun) → Step limits s e a s) → IsDropped g done new → (IsTrue (shown g old).is_open → LeavesCommit (shown g old)) → Answers g limits s e a old new
+    dropped refuses end alone = stayed (refuses sees) (dropped_so end alone)
+
+-- nothing was called
+pub untouched : {S : Type 0} (g : Ghosts S) (limits : Limits) (s : Registry) (e : Event) (a : Answer) (t : Tables S) → Shows s (shown g t) → a ≡ no_room e → Answers g limits s e a t t
+untouched g limits s e a t h room = record { after = s; step = inr (room, refl); shows = h; kept = inl room; left = λ db l. inl l }

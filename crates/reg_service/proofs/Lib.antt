@@ -2,8 +2,11 @@ mod Adding
 mod Commands
 mod Dispatch
 mod Frames
+mod Histories
 mod Named
 mod Opened
 mod Outcomes
 mod Owning
-mod Told
+mod Replied
+mod Reporting
+mod Seeking

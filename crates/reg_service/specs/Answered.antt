@@ -24,6 +24,13 @@ Shows s at = IsTrue at.is_open → Are s at.now.trees
 abbrev pub LeavesAlone : Registry → State → Type 0
 LeavesAlone s at = (db : Trees) → at.may_leave db → Stands s db
 
+-- All is as it was: the same registry is held, a stop leaves it alone, and it leaves nothing that it
+-- could not leave before.
+pub record Stays {S : Type 0} (g : Ghosts S) (s : Registry) (old new : Tables S) : Type 0 where
+  pub shows : Shows s (shown g new)
+  pub alone : LeavesAlone s (shown g new)
+  pub left : (db : Trees) → (shown g new).may_leave db → (shown g old).may_leave db
+
 -- The event was answered so, by a step from the registry that was held to one that is held now.
 -- What was answered is kept through a stop. What had no room leaves a stop what it could leave
 -- before, or, where the commit was refused, the whole change.

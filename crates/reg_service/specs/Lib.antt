@@ -1,3 +1,5 @@
 pub mod Answered
+pub mod Handled
 pub mod Orders
 pub mod Registries
+pub mod Sequences

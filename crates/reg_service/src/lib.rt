@@ -1,5 +1,5 @@
-//! The service: each command is one step of the abstract registry, in one transaction of the
-//! tables.
+//! The service: each request and each command is one step of the abstract registry, in one
+//! transaction of the tables.
 #![tactic(auto)]
 
 mod accounts;
@@ -10,8 +10,11 @@ mod opening;
 mod orders;
 mod registry;
 mod reports;
+mod searching;
+mod sequences;
 mod tokens;
 mod transactions;
 
 pub use opening::OpenFault;
 pub use registry::Registry;
+pub use sequences::{Call, Told, answer_all};

@@ -1,17 +1,22 @@
 //! A registry over a store.
 
 ghost use Rattle.std.specs.Prelude.{◌≡◌, true, Err};
+ghost use Rattle.sqlite.specs.State.{HasCleanDisk};
 ghost use Rattle.reg_model.specs.Events.Event.{Order};
 ghost use Rattle.reg_model.specs.Steps.{IsFit};
 ghost use Rattle.reg_policy.specs.Events.{command_of, reply_of};
+ghost use Rattle.reg_requests.specs.Requests.{request_of};
 ghost use Rattle.reg_service.specs.Answered.{AreUpToDate, IsAnswered};
+ghost use Rattle.reg_service.specs.Handled.{IsReplied};
 ghost use Rattle.reg_service.specs.Registries.{has_stopped, limits_of, tables_of};
-ghost use Rattle.reg_tables.specs.Works.{held};
+ghost use Rattle.reg_tables.specs.Works.{held, shown};
 
-use crate::transactions::command_in;
+use crate::transactions::{command_in, request_in};
 use reg_body::Limits;
 use reg_model::AdminRefusal;
-use reg_policy::{AdminCommand, AdminReply};
+use reg_policy::{AdminCommand, AdminReply, Rule};
+use reg_replies::Reply;
+use reg_requests::{ApiRequest, read_request};
 use reg_tables::Tables;
 use sqlite::{Alter, Connection};
 use std::alloc::Global;
@@ -44,12 +49,44 @@ impl<S: Alter> Registry<S> {
             (Order (command_of command.now)) (reply_of result)
             (tables_of self.old) (tables_of self.new) }
         ensures tables { AreUpToDate S.Store (tables_of self.new) }
+        ensures clean { HasCleanDisk (shown S.Store (tables_of self.new)) → HasCleanDisk
+            (shown S.Store (tables_of self.old)) }
         ensures limits { limits_of self.new ≡ limits_of self.old }
         ensures stopped { has_stopped self.old ≡ true → result ≡ Err AdminRefusal.G10 }
         ensures stays { has_stopped self.old ≡ true → has_stopped self.new ≡ true }
         ensures stops { has_stopped self.new ≡ true → result ≡ Err AdminRefusal.G10 }
     {
         command_in(alloc, &mut self.tables, &self.limits, command)
+    }
+
+    /// Answers a request, in one transaction.
+    pub fn handle(&mut self, alloc: Global, request: &ApiRequest<'_>) -> Reply
+        requires { AreUpToDate S.Store (tables_of self.old) }
+        ensures replies { let asks = request_of (limits_of self.old) request.now in
+            IsReplied S.Store (limits_of self.old) asks.digest asks.asked result
+            (tables_of self.old) (tables_of self.new) }
+        ensures tables { AreUpToDate S.Store (tables_of self.new) }
+        ensures clean { HasCleanDisk (shown S.Store (tables_of self.new)) → HasCleanDisk
+            (shown S.Store (tables_of self.old)) }
+        ensures limits { limits_of self.new ≡ limits_of self.old }
+        ensures stopped { has_stopped self.old ≡ true → result ≡ Reply.Denied Rule.S1 }
+        ensures stays { has_stopped self.old ≡ true → has_stopped self.new ≡ true }
+        ensures stops { has_stopped self.new ≡ true → result ≡ Reply.Denied Rule.S1 }
+    {
+        let Ok(parts) = read_request(alloc, request, &self.limits) else {
+            return Reply::Denied(Rule::S1);
+        };
+        let Ok(logins) = parts.logins(alloc) else {
+            return Reply::Denied(Rule::S1);
+        };
+        let asked = parts.asked(&logins);
+        request_in(
+            alloc,
+            &mut self.tables,
+            &self.limits,
+            parts.digest(),
+            &asked,
+        )
     }
 
     /// The store, with what it holds.

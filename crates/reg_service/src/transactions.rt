@@ -1,17 +1,24 @@
-//! A command as one transaction.
+//! A request and a command, each as one transaction.
 
 ghost use Rattle.std.specs.Prelude.{◌≡◌, true, Err};
-ghost use Rattle.reg_model.specs.Events.Event.{Order};
+ghost use Rattle.std.specs.Option.{option_map};
+ghost use Rattle.sqlite.specs.State.{HasCleanDisk};
+ghost use Rattle.reg_model.specs.Events.Event.{Ask, Order};
 ghost use Rattle.reg_model.specs.Steps.{IsFit};
-ghost use Rattle.reg_policy.specs.Events.{command_of, reply_of};
-ghost use Rattle.reg_tables.specs.Works.{is_shut};
+ghost use Rattle.reg_policy.specs.Events.{asked_of, command_of, reply_of};
+ghost use Rattle.reg_tables.specs.Works.{is_shut, shown};
 ghost use Rattle.reg_service.specs.Answered.{AreUpToDate, IsAnswered};
+ghost use Rattle.reg_service.specs.Handled.{IsReplied};
 
 use crate::orders::order;
+use crate::searching::seek;
 use reg_body::Limits;
+use reg_line::Digest;
 use reg_model::AdminRefusal;
 use reg_model::laws::{denial_law, soundness_law};
-use reg_policy::{AdminCommand, AdminReply};
+use reg_policy::{AdminCommand, AdminReply, Asked, Rule};
+use reg_replies::Reply;
+use reg_serving::{Served, serve};
 use reg_tables::Tables;
 use sqlite::Alter;
 use std::alloc::Global;
@@ -28,6 +35,8 @@ pub(crate) fn command_in<S: Alter>(
     ensures answers { IsAnswered S.Store limits.now (Order (command_of command.now))
         (reply_of result) tables.old tables.new }
     ensures tables { AreUpToDate S.Store tables.new }
+    ensures clean { HasCleanDisk (shown S.Store tables.new) → HasCleanDisk
+        (shown S.Store tables.old) }
     ensures stopped { is_shut tables.old ≡ true → result ≡ Err AdminRefusal.G10 }
     ensures stays { is_shut tables.old ≡ true → is_shut tables.new ≡ true }
     ensures stops { is_shut tables.new ≡ true → result ≡ Err AdminRefusal.G10 }
@@ -44,5 +53,43 @@ pub(crate) fn command_in<S: Alter>(
         },
         Ok(Err(refusal)) => Err(refusal),
         Err(_) => Err(AdminRefusal::G10),
+    }
+}
+
+/// Answers a request in one transaction. Where nothing is changed nothing is kept; a search reads
+/// once the transaction is over.
+pub(crate) fn request_in<S: Alter>(
+    alloc: Global,
+    tables: &mut Tables<S>,
+    limits: &Limits,
+    digest: Option<&Digest>,
+    asked: &Asked<'_>,
+) -> Reply
+    requires tables { AreUpToDate S.Store tables.old }
+    requires fit { (d : _) → IsFit (Ask d (asked_of asked.now)) }
+    ensures replies { IsReplied S.Store limits.now (option_map (λ d. d.now) digest.entry)
+        (asked_of asked.now) result tables.old tables.new }
+    ensures tables { AreUpToDate S.Store tables.new }
+    ensures clean { HasCleanDisk (shown S.Store tables.new) → HasCleanDisk
+        (shown S.Store tables.old) }
+    ensures stopped { is_shut tables.old ≡ true → result ≡ Reply.Denied Rule.S1 }
+    ensures stays { is_shut tables.old ≡ true → is_shut tables.new ≡ true }
+    ensures stops { is_shut tables.new ≡ true → result ≡ Reply.Denied Rule.S1 }
+{
+    soundness_law();
+    let Ok(mut work) = tables.work() else {
+        return Reply::Denied(Rule::S1);
+    };
+    match serve(alloc, &mut work, limits, digest, asked) {
+        Ok(Served::Done(reply)) => match work.commit() {
+            Ok(()) => reply,
+            Err(_unkept) => Reply::Denied(Rule::S1),
+        },
+        Ok(Served::Told(reply)) => reply,
+        Ok(Served::Seeks(account)) => {
+            drop(work);
+            seek(alloc, tables, account, asked)
+        }
+        Err(_) => Reply::Denied(Rule::S1),
     }
 }

@@ -1,12 +1,11 @@
 -- A request within a transaction is answered as the registry answers that the rows stand for.
-use Rattle.std.specs.Prelude.{◌≡◌, None, Some, Option, Result}
+use Rattle.std.specs.Prelude.{◌≡◌, Some, Option, Result}
 use Rattle.sqlite.specs.Tree.{Trees}
 use Rattle.sqlite_trees.specs.declared.store.Store.{Ghosts}
 use Rattle.reg_body.specs.declared.limits.Limits.{Limits}
-use Rattle.reg_model.specs.Effects.{caller}
+use Rattle.reg_model.specs.Effects.{served}
 use Rattle.reg_model.specs.Events.{Asked}
 use Rattle.reg_model.specs.Events.Event.{Ask}
-use Rattle.reg_model.specs.Refusals.{denied}
 use Rattle.reg_model.specs.Registry.{Registry, Text}
 use Rattle.reg_model.specs.Steps.{outcome}
 use Rattle.reg_replies.specs.Replies.{Says}
@@ -18,7 +17,7 @@ use Rattle.reg_serving.specs.declared.served.Served.{Served}
 use Rattle.reg_serving.specs.declared.served.Served.TheVariants.{Done, Seeks, Told}
 
 -- What is told is the answer, and the state stays. What is done is answered so, and the rows are
--- those of the state after it. Whoever searches is let, and is this account.
+-- those of the state after it. A search is answered what this account is served.
 abbrev pub Serves : Limits → Option Text → Asked → Trees → Trees → Served → Type 0
 Serves limits digest asked old new (Told reply) =
     (ids : Ids) (s : Registry) → Holds ids s old
@@ -30,7 +29,7 @@ Serves limits digest asked old new (Done reply) =
     × Stands (outcome limits s (Ask digest asked)).1 new
 Serves limits digest asked old new (Seeks id) =
     (ids : Ids) (s : Registry) → Holds ids s old
-    → (denied limits s digest asked ≡ None) × (caller s digest ≡ Some id)
+    → outcome limits s (Ask digest asked) ≡ (served s (Some id) asked, s)
 
 abbrev pub IsServed : {S : Type 0} → Limits → Ghosts S → Option Text → Asked
     → Result Served StoreFault → Work S → Work S → Type 0

@@ -9,6 +9,7 @@
 //! ```
 #![tactic(auto)]
 
+mod bodies;
 mod marking;
 mod naming;
 mod owning;

@@ -1,13 +1,17 @@
 //! A request is decided, and what is let pass is served or done.
 
-ghost use Rattle.std.specs.Prelude.{◌≡◌, false};
+ghost use Rattle.std.specs.Prelude.{◌≡◌, None, Some, false};
 ghost use Rattle.std.specs.Option.{option_map};
+ghost use Rattle.reg_model.specs.Actions.Action.{Read as ToRead};
+ghost use Rattle.reg_model.specs.Events.Asked.{Read};
 ghost use Rattle.reg_model.specs.Events.Event.{Ask};
+ghost use Rattle.reg_model.specs.Events.Reading.{Search};
 ghost use Rattle.reg_model.specs.Steps.{IsFit};
 ghost use Rattle.reg_policy.specs.Events.{asked_of};
 ghost use Rattle.reg_tables.specs.Works.{IsAtWork, has_failed};
-ghost use Rattle.reg_serving.specs.Granted.{GrantsTo};
-ghost use Rattle.reg_serving.specs.Serves.{IsServed};
+ghost use Rattle.reg_serving.specs.Granted.{GrantsTo, IsLet};
+ghost use Rattle.reg_serving.specs.Runs.{Runs};
+ghost use Rattle.reg_serving.specs.Serves.{IsServed, Serves};
 
 use crate::marking::set_yanked;
 use crate::naming::find_viewer;
@@ -18,6 +22,7 @@ use crate::served::Served;
 use reg_access::authorize;
 use reg_body::Limits;
 use reg_line::Digest;
+use reg_model::laws::access_law;
 use reg_policy::{Asked, Decision, Reading, Rule, action_of};
 use reg_replies::Reply;
 use reg_tables::{StoreFault, Work};
@@ -31,6 +36,9 @@ fn seek<S: Alter>(
     digest: &Digest,
 ) -> Result<Served, StoreFault>
     requires { IsAtWork S.Store work.old }
+    ensures { Runs S.Store work.old work.new result (λ before after it.
+        (limits : _) (q : _) (most : _) → IsLet digest.now ToRead before
+        → Serves limits (Some digest.now) (Read (Search q most)) before after it) }
 {
     let account = find_viewer(alloc, work, digest)?;
     Ok(Served::Seeks(account))
@@ -75,9 +83,10 @@ pub fn serve<S: Alter>(
     requires at_work { IsAtWork S.Store work.old }
     requires goes_on { has_failed work.old ≡ false }
     requires fit { IsFit (Ask None (asked_of asked.now)) }
-    ensures { IsServed limits.now S.Store (option_map (λ d. d.now) digest) (asked_of asked.now)
+    ensures { IsServed limits.now S.Store (option_map (λ d. d.now) digest.entry) (asked_of asked.now)
         result work.old work.new }
 {
+    access_law();
     let Some(digest) = digest else {
         return Ok(Served::Told(Reply::Denied(Rule::A1)));
     };

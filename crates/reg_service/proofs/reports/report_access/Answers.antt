@@ -1,7 +1,7 @@
 use Rattle.std.proofs.Common.{sym, ◌∙◌}
 use Rattle.std.specs.Prelude.{string_bytes}
 use Rattle.reg_serving.proofs.Running.{runs_asked, runs_nothing}
-use Rattle.reg_service.proofs.Told.{access_told, no_report}
+use Rattle.reg_service.proofs.Reporting.{access_told, no_report}
 use Rattle.reg_service.proofs.reports.report_access.Goals as goal
 
 pub returns-in_default : goal.returns-in_default

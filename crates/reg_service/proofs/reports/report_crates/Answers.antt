@@ -1,6 +1,6 @@
 use Rattle.std.specs.Prelude.{string_bytes}
 use Rattle.reg_serving.proofs.Running.{runs_asked}
-use Rattle.reg_service.proofs.Told.{crates_told}
+use Rattle.reg_service.proofs.Reporting.{crates_told}
 use Rattle.reg_service.proofs.reports.report_crates.Goals as goal
 
 pub returns : goal.returns

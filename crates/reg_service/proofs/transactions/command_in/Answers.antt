@@ -23,7 +23,7 @@ returns-in-Ok-commit-clause-answers g c clean s h =
     let mid : HasCleanDisk (seen g.S.Store c.order.new.work) = omega (arith, still, c.commit.ensures.survives.clean) in
     let looks = call_looks g.S.Store c.order.result c.in-Ok.work c.order.new.work c.order.ensures.leaves in
     subst (λ t. Answers g.S.Store c.args.limits.now s e a c.args.tables.now t) (sym back)
-    (committed g.S.Store c.args.limits.now s e a c.args.tables.now c.commit.new.self.0 c.requires.tables.ours h still c.in-Ok.work c.order.new.work c.in-Ok.ensures.begun looks mid c.soundness_law.ensures.step c.requires.fit (rw c.in-Ok-Ok.field-0-is at c.in-Ok-Ok.ensures.told mid) c.in-Ok-commit.ensures.committed)
+    (committed g.S.Store c.args.limits.now s e a c.args.tables.now c.commit.new.self.0 c.requires.tables.ours h still c.in-Ok.work c.order.new.work c.in-Ok.ensures.begun looks mid c.soundness_law.ensures.step c.requires.fit (λ are. (rw c.in-Ok-Ok.field-0-is at c.in-Ok-Ok.ensures.told mid) are.0 s are.1) c.in-Ok-commit.ensures.committed)
 
 pub returns-in-Err-commit-clause-answers : goal.returns-in-Err-commit-clause-answers
 returns-in-Err-commit-clause-answers g c clean s h =
@@ -34,7 +34,7 @@ returns-in-Err-commit-clause-answers g c clean s h =
     let mid : HasCleanDisk (seen g.S.Store c.order.new.work) = omega (arith, still, c.commit.ensures.survives.clean) in
     let looks = call_looks g.S.Store c.order.result c.in-Ok.work c.order.new.work c.order.ensures.leaves in
     subst (λ t. Answers g.S.Store c.args.limits.now s e a c.args.tables.now t) (sym back)
-    (not_committed g.S.Store c.args.limits.now s e a c.args.tables.now c.commit.new.self.0 c.requires.tables.ours h still c.in-Ok.work c.order.new.work c.in-Ok.ensures.begun looks mid (reply_of (Ok c.in-Ok-Ok.reply)) (rw c.in-Ok-Ok.field-0-is at c.in-Ok-Ok.ensures.told mid) refl c.in-Err-commit.ensures.refused c.commit.ensures.survives)
+    (not_committed g.S.Store c.args.limits.now s e a c.args.tables.now c.commit.new.self.0 c.requires.tables.ours h still c.in-Ok.work c.order.new.work c.in-Ok.ensures.begun looks mid (λ are. ((rw c.in-Ok-Ok.field-0-is at c.in-Ok-Ok.ensures.told mid) are.0 s are.1).1) refl c.in-Err-commit.ensures.refused c.commit.ensures.survives)
 
 pub returns-in-Ok-Err-clause-answers : goal.returns-in-Ok-Err-clause-answers
 returns-in-Ok-Err-clause-answers g c clean s h =

@@ -1,0 +1,105 @@
+-- One more event behind a run.
+use Rattle.std.proofs.Common.{◌≡◌, ◌⊎◌, ◌++◌, inl, inr, List, [], ◌∷◌, map, refl, sym, ap, subst, ◌∙◌}
+use Rattle.std.proofs.lemmas.List.{append-nil, append_assoc}
+use Rattle.sqlite.specs.Tree.{Trees}
+use Rattle.sqlite_trees.specs.declared.store.Store.{Ghosts}
+use Rattle.reg_body.specs.declared.limits.Limits.{Limits}
+use Rattle.reg_model.specs.Events.{Answer, Event}
+use Rattle.reg_model.specs.Laws.{RunsJoin, RunsKeepSound, StemsGrow, StepsRun}
+use Rattle.reg_model.specs.Registry.{Registry}
+use Rattle.reg_model.specs.Steps.{IsFit, Run, no_room, outcome}
+use Rattle.reg_stored.specs.Stands.{Stands}
+use Rattle.reg_tables.specs.declared.tables.Tables.{Tables}
+use Rattle.reg_tables.specs.Works.{shown}
+use Rattle.reg_service.specs.Answered.{Answers, LeavesAlone, Shows}
+use Rattle.reg_service.specs.Sequences.{AreNoRoom, MayBeLeft, Ran, TellAll, TellsOf}
+use Rattle.reg_service.specs.declared.sequences.Call.{Call}
+use Rattle.reg_service.specs.declared.sequences.Told.{Told}
+
+no_room_on : (es : List Event) (xs : List Answer) (e : Event) (a : Answer) → AreNoRoom es xs → a ≡ no_room e → AreNoRoom (es ++ e ∷ []) (xs ++ a ∷ [])
+no_room_on [] [] e a all is = (is, tt)
+no_room_on (f ∷ es) (x ∷ xs) e a all is = (all.0, no_room_on es xs e a all.1 is)
+no_room_on [] (x ∷ xs) e a all is = absurd all
+no_room_on (f ∷ es) [] e a all is = absurd all
+
+pub tells_on : (limits : Limits) (cs : List Call) (xs : List Answer) (ts : List Told) (c : Call) (a : Answer) (t : Told) → TellAll limits cs xs ts → TellsOf limits c a t → TellAll limits (cs ++ c ∷ []) (xs ++ a ∷ []) (ts ++ t ∷ [])
+tells_on limits [] [] [] c a t all it = (it, tt)
+tells_on limits (d ∷ cs) (x ∷ xs) (u ∷ ts) c a t all it = (all.0, tells_on limits cs xs ts c a t all.1 it)
+tells_on limits [] [] (u ∷ ts) c a t all it = absurd all
+tells_on limits [] (x ∷ xs) ts c a t all it = absurd all
+tells_on limits (d ∷ cs) [] ts c a t all it = absurd all
+tells_on limits (d ∷ cs) (x ∷ xs) [] c a t all it = absurd all
+
+module _ {S : Type 0} (g : Ghosts S) (limits : Limits) (s : Registry) (sounds : RunsKeepSound) (grows : StemsGrow) where
+  ran : (es : List Event) (xs : List Answer) (t : Registry) (new : Tables S) → Run limits s es xs t → Shows t (shown g new) → ((db : Trees) → (shown g new).may_leave db → (m : Registry) × Stands m db × MayBeLeft limits s es xs m) → Ran g limits s es xs t new
+  ran es xs t new run shows left = record {
+    run = run;
+    sound = λ h. sounds limits s t es xs h run;
+    grows = grows limits s t es xs run;
+    shows = shows;
+    left = left;
+  }
+
+  -- what a stop leaves that is the state after all events
+  all_left : (es : List Event) (xs : List Answer) (t : Registry) → Run limits s es xs t → MayBeLeft limits s es xs t
+  all_left es xs t run = record {
+    first = es;
+    rest = [];
+    told = xs;
+    untold = [];
+    at = t;
+    events = sym (append-nil es);
+    answers = sym (append-nil xs);
+    run = run;
+    no_room = tt;
+    state = inl refl;
+  }
+
+  -- no event yet
+  pub ran_nothing : (t : Tables S) → Shows s (shown g t) → LeavesAlone s (shown g t) → Ran g limits s [] [] s t
+  ran_nothing t shows alone = ran [] [] s t refl shows (λ db l. (s, alone db l, all_left [] [] s refl))
+
+  module _ (steps : StepsRun) (joins : RunsJoin) (es : List Event) (xs : List Answer) (t : Registry) (e : Event) (a : Answer) (old new : Tables S) (fit : IsFit e) (so_far : Ran g limits s es xs t old) (it : Answers g limits t e a old new) where
+    run_on : Run limits s (es ++ e ∷ []) (xs ++ a ∷ []) it.after
+    run_on = joins limits s t it.after es (e ∷ []) xs (a ∷ []) so_far.run (steps limits t it.after e a fit it.step)
+
+    -- there was no room: what could be left before, or the change of this event
+    left_before : (m : Registry) → a ≡ no_room e → MayBeLeft limits s es xs m → MayBeLeft limits s (es ++ e ∷ []) (xs ++ a ∷ []) m
+    left_before m room was = record {
+      first = was.first;
+      rest = was.rest ++ e ∷ [];
+      told = was.told;
+      untold = was.untold ++ a ∷ [];
+      at = was.at;
+      events = ap (λ l. l ++ e ∷ []) was.events ∙ append_assoc was.first was.rest (e ∷ []);
+      answers = ap (λ l. l ++ a ∷ []) was.answers ∙ append_assoc was.told was.untold (a ∷ []);
+      run = was.run;
+      no_room = no_room_on was.rest was.untold e a was.no_room room;
+      state = elim was.state [ inl same ↦ inl same | inr (f, more, is, same) ↦ inr (f, more ++ e ∷ [], ap (λ l. l ++ e ∷ []) is, same) ];
+    }
+
+    left_change : a ≡ no_room e → MayBeLeft limits s (es ++ e ∷ []) (xs ++ a ∷ []) (outcome limits t e).1
+    left_change room = record {
+      first = es;
+      rest = e ∷ [];
+      told = xs;
+      untold = a ∷ [];
+      at = t;
+      events = refl;
+      answers = refl;
+      run = so_far.run;
+      no_room = (room, tt);
+      state = inr (e, [], refl, refl);
+    }
+
+    left_on : (db : Trees) → (shown g new).may_leave db → (m : Registry) × Stands m db × MayBeLeft limits s (es ++ e ∷ []) (xs ++ a ∷ []) m
+    left_on db l = elim it.kept [
+      inl room ↦ elim (it.left db l) [
+        inl was ↦ (let (m, stands, may) = so_far.left db was in (m, stands, left_before m room may))
+        | inr (why, stands) ↦ ((outcome limits t e).1, stands, left_change room)
+      ]
+      | inr alone ↦ (it.after, alone db l, all_left (es ++ e ∷ []) (xs ++ a ∷ []) it.after run_on)
+    ]
+
+    pub ran_on : Ran g limits s (es ++ e ∷ []) (xs ++ a ∷ []) it.after new
+    ran_on = ran (es ++ e ∷ []) (xs ++ a ∷ []) it.after new run_on it.shows left_on

@@ -1,0 +1,77 @@
+-- What the ends of a transaction make of a request.
+use Rattle.std.proofs.Common.{◌≡◌, ◌⊎◌, inl, inr, true, false, refl, sym, ap, subst, ◌∙◌, IsTrue, Option, Some, ℕ}
+use Rattle.sqlite.specs.Tree.{Trees}
+use Rattle.sqlite.specs.State.{HasCleanDisk, Survives}
+use Rattle.sqlite_trees.specs.declared.store.Store.{Ghosts}
+use Rattle.reg_body.specs.declared.limits.Limits.{Limits}
+use Rattle.reg_model.specs.declared.rule.Rule.TheVariants as rule
+use Rattle.reg_model.specs.Effects.{served}
+use Rattle.reg_model.specs.Events.{Answer, Asked, Event}
+use Rattle.reg_model.specs.Events.Answer.{Denied as to_denied}
+use Rattle.reg_model.specs.Events.Event.{Ask}
+use Rattle.reg_model.specs.Laws.{StepsKeepSound}
+use Rattle.reg_model.specs.Registry.{Registry, Text}
+use Rattle.reg_model.specs.Steps.{IsFit, Outcome, outcome}
+use Rattle.reg_replies.specs.Replies.{Says}
+use Rattle.reg_replies.specs.declared.reply.Reply.{Reply}
+use Rattle.reg_replies.specs.declared.reply.Reply.TheVariants.{Denied}
+use Rattle.reg_schema.specs.States.{LeavesCommit}
+use Rattle.reg_serving.specs.Serves.{Serves}
+use Rattle.reg_serving.specs.declared.served.Served.TheVariants.{Done, Seeks, Told}
+use Rattle.reg_tables.specs.Ends.{Begins, IsCommitted, IsDropped, IsRefused, SeesAll}
+use Rattle.reg_tables.specs.Looks.{Looks}
+use Rattle.reg_tables.specs.Works.{AreOurs, IsLeft, has_failed, rows_seen, seen, shown}
+use Rattle.reg_tables.specs.declared.tables.Tables.{Tables}
+use Rattle.reg_tables.specs.declared.work.Work.{Work}
+use Rattle.reg_service.specs.Answered.{Answers, Shows, Stays}
+use Rattle.reg_service.specs.Handled.{RepliesTo, Sought}
+use Rattle.reg_service.proofs.Frames as frame
+
+module _ {S : Type 0} (g : Ghosts S) (limits : Limits) (s : Registry) (digest : Option Text) (asked : Asked) (old new : Tables S) (ours : AreOurs g old) (h : Shows s (shown g old)) (clean : HasCleanDisk (shown g new)) where
+  abbrev pub e : Event
+  e = Ask digest asked
+
+  -- there was no room
+  pub not_begun : IsLeft g old new → RepliesTo g limits s digest asked (Denied rule.S1) old new
+  not_begun left = (to_denied rule.S1, refl, frame.not_begun g limits s e (to_denied rule.S1) old new ours h clean refl left)
+
+  module _ (begun done : Work S) (b : Begins g SeesAll old begun) (looks : Looks g begun done) (mid : HasCleanDisk (seen g done)) where
+    pub failed : IsDropped g done new → (IsTrue (shown g old).is_open → LeavesCommit (shown g old)) → RepliesTo g limits s digest asked (Denied rule.S1) old new
+    failed end alone = (to_denied rule.S1, refl, frame.dropped g limits s e (to_denied rule.S1) old new ours h clean begun done b looks mid (λ are. inr (refl, refl)) end alone)
+
+    pub told : (reply : Reply) → Serves limits digest asked (rows_seen g begun) (rows_seen g done) (Told reply) → IsDropped g done new → (IsTrue (shown g old).is_open → LeavesCommit (shown g old)) → RepliesTo g limits s digest asked reply old new
+    told reply serves end alone =
+        let are = frame.sees g limits s e (to_denied rule.S1) old new ours h clean begun done b looks mid in
+        let it = serves are.0 s are.1 in
+        ((outcome limits s e).0, it.0, frame.dropped g limits s e (outcome limits s e).0 old new ours h clean begun done b looks mid (λ are. inl (refl, sym it.1)) end alone)
+
+    pub committed : StepsKeepSound → IsFit e → (reply : Reply) → Serves limits digest asked (rows_seen g begun) (rows_seen g done) (Done reply) → IsCommitted g done new → RepliesTo g limits s digest asked reply old new
+    committed law fit reply serves end =
+        let are = frame.sees g limits s e (to_denied rule.S1) old new ours h clean begun done b looks mid in
+        let it = serves are.0 s are.1 in
+        ((outcome limits s e).0, it.0, frame.committed g limits s e (outcome limits s e).0 old new ours h clean begun done b looks mid law fit (λ are. (refl, it.1)) end)
+
+    pub not_committed : (reply : Reply) → Serves limits digest asked (rows_seen g begun) (rows_seen g done) (Done reply) → IsRefused g done new
+        → Survives (seen g done) (shown g new) (λ db. (has_failed done ≡ false) × (db ≡ (seen g done).now.trees)) → RepliesTo g limits s digest asked (Denied rule.S1) old new
+    not_committed reply serves end survives =
+        (to_denied rule.S1, refl, frame.not_committed g limits s e (to_denied rule.S1) old new ours h clean begun done b looks mid (λ are. (serves are.0 s are.1).1) refl end survives)
+
+-- a search, once the transaction is dropped
+module _ {S : Type 0} (g : Ghosts S) (limits : Limits) (s : Registry) (digest : Option Text) (asked : Asked) (old at new : Tables S) (ours : AreOurs g old) (h : Shows s (shown g old)) (clean : HasCleanDisk (shown g new)) (early : HasCleanDisk (shown g at)) (begun done : Work S) (b : Begins g SeesAll old begun) (looks : Looks g begun done) (mid : HasCleanDisk (seen g done)) where
+  abbrev pub o : Answer
+  o = to_denied rule.S1
+
+  stays : IsDropped g done at → (IsTrue (shown g old).is_open → LeavesCommit (shown g old)) → Stays g s old at
+  stays end alone = frame.dropped_so g limits s (Ask digest asked) o old at ours h early begun done b looks mid end alone
+
+  pub sought : (id : ℕ) (reply : Reply) → Serves limits digest asked (rows_seen g begun) (rows_seen g done) (Seeks id) → IsDropped g done at → (IsTrue (shown g old).is_open → LeavesCommit (shown g old)) → AreOurs g at → IsLeft g at new → (Shows s (shown g at) → Sought id asked s reply)
+      → RepliesTo g limits s digest asked reply old new
+  sought id reply serves end alone again left seeks =
+      let kept = stays end alone in
+      let on = frame.left_on g limits s (Ask digest asked) o at new again kept.shows clean old kept left in
+      let are = frame.sees g limits s (Ask digest asked) o old at ours h early begun done b looks mid in
+      let is = serves are.0 s are.1 in
+      elim (seeks kept.shows) [
+        | inl none ↦ subst (λ r. RepliesTo g limits s digest asked r old new) (sym none) (o, refl, frame.stayed g limits s (Ask digest asked) o old new ours h clean (inr (refl, refl)) on)
+        | inr says ↦ (served s (Some id) asked, says, frame.stayed g limits s (Ask digest asked) (served s (Some id) asked) old new ours h clean (inl (ap (λ (it : Outcome). it.0) (sym is), ap (λ (it : Outcome). it.1) (sym is))) on)
+      ]

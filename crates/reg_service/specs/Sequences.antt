@@ -1,0 +1,90 @@
+-- Requests and commands, one after another, and what a stop leaves at their end.
+use Rattle.std.specs.Prelude.{◌≡◌, ◌⊎◌, ◌++◌, List, [], ◌∷◌, map}
+use Rattle.sqlite.specs.State.{HasCleanDisk}
+use Rattle.sqlite.specs.Tree.{Trees}
+use Rattle.sqlite_trees.specs.declared.store.Store.{Ghosts}
+use Rattle.reg_body.specs.declared.limits.Limits.{Limits}
+use Rattle.reg_model.specs.Crates.{stems}
+use Rattle.reg_model.specs.Events.{Answer, Event}
+use Rattle.reg_model.specs.Events.Event.{Order}
+use Rattle.reg_model.specs.Laws.{IsPrefix}
+use Rattle.reg_model.specs.Registry as model
+use Rattle.reg_model.specs.Registry.{Text}
+use Rattle.reg_model.specs.Sound.{Sound}
+use Rattle.reg_model.specs.Steps.{Run, no_room, outcome}
+use Rattle.reg_policy.specs.Events.{command_of, reply_of}
+use Rattle.reg_replies.specs.Replies.{Says}
+use Rattle.reg_requests.specs.Requests.{request_of}
+use Rattle.reg_requests.specs.Views.{event_of}
+use Rattle.reg_stored.specs.Stands.{Stands}
+use Rattle.reg_tables.specs.declared.tables.Tables.{Tables}
+use Rattle.reg_tables.specs.Works.{shown}
+use Rattle.reg_service.specs.Answered.{Answers, Shows}
+use Rattle.reg_service.specs.declared.sequences.Call.{Call}
+use Rattle.reg_service.specs.declared.sequences.Call.TheVariants.{Request, Command as Commanded}
+use Rattle.reg_service.specs.declared.sequences.Told.{Told}
+use Rattle.reg_service.specs.declared.sequences.Told.TheVariants.{Reply, Command as Obeyed}
+
+-- the event that a call is
+abbrev pub event_at : Limits → Call → Event
+event_at limits (Request r) = event_of (request_of limits r)
+event_at limits (Commanded c) = Order (command_of c)
+
+-- what a call is told tells the answer
+abbrev pub TellsOf : Limits → Call → Answer → Told → Type 0
+TellsOf limits (Request r) a (Reply reply) = Says (request_of limits r).asked a reply
+TellsOf limits (Commanded c) a (Obeyed it) = a ≡ reply_of it
+TellsOf limits c a told = ⊥
+
+-- one call is answered so
+abbrev pub IsTold : {S : Type 0} → Ghosts S → Limits → Call → Told → Tables S → Tables S → Type 0
+IsTold g limits c told old new =
+    HasCleanDisk (shown g new) → (s : model.Registry) → Shows s (shown g old)
+    → (a : Answer) × TellsOf limits c a told × Answers g limits s (event_at limits c) a old new
+
+-- what the calls are told tells the answers, one by one
+abbrev pub TellAll : Limits → List Call → List Answer → List Told → Type 0
+TellAll limits [] [] [] = Unit {0}
+TellAll limits (c ∷ cs) (a ∷ as') (t ∷ ts) = TellsOf limits c a t × TellAll limits cs as' ts
+TellAll limits cs as' ts = ⊥
+
+-- each event is answered that there was no room
+abbrev pub AreNoRoom : List Event → List Answer → Type 0
+AreNoRoom [] [] = Unit {0}
+AreNoRoom (e ∷ es) (a ∷ as') = (a ≡ no_room e) × AreNoRoom es as'
+AreNoRoom es as' = ⊥
+
+-- A registry that a stop may leave after a run: it is the one after some first events, or after one
+-- more whose commit was refused; and all but the first events are answered that there was no room.
+-- So it holds each change that was acknowledged.
+pub record MayBeLeft (limits : Limits) (s : model.Registry) (es : List Event) (xs : List Answer)
+    (m : model.Registry) : Type 0 where
+  pub first : List Event
+  pub rest : List Event
+  pub told : List Answer
+  pub untold : List Answer
+  pub at : model.Registry
+  pub events : es ≡ first ++ rest
+  pub answers : xs ≡ told ++ untold
+  pub run : Run limits s first told at
+  pub no_room : AreNoRoom rest untold
+  pub state : (m ≡ at)
+      ⊎ ((e : Event) × (more : List Event) × (rest ≡ e ∷ more) × (m ≡ (outcome limits at e).1))
+
+-- The events are a run of the registry, which holds its end: that is sound, and no index file of it
+-- lost a line. What a stop may leave is as the run allows.
+pub record Ran {S : Type 0} (g : Ghosts S) (limits : Limits) (s : model.Registry) (es : List Event)
+    (xs : List Answer) (t : model.Registry) (new : Tables S) : Type 0 where
+  pub run : Run limits s es xs t
+  pub sound : Sound s → Sound t
+  pub grows : (n : Text) → IsPrefix (stems s n) (stems t n)
+  pub shows : Shows t (shown g new)
+  pub left : (db : Trees) → (shown g new).may_leave db
+      → (m : model.Registry) × Stands m db × MayBeLeft limits s es xs m
+
+-- the calls are told the answers of a run
+abbrev pub HasAnswered : {S : Type 0} → Ghosts S → Limits → model.Registry → List Call → List Told
+    → Tables S → Type 0
+HasAnswered g limits s calls told new =
+    (xs : List Answer) × (t : model.Registry) × TellAll limits calls xs told
+    × Ran g limits s (map (event_at limits) calls) xs t new

@@ -1,0 +1,76 @@
+//! Requests and commands, one after another.
+
+ghost use Rattle.std.specs.Prelude.{◌≡◌, IfOk, map};
+ghost use Rattle.std.specs.List.{AllByRecursion};
+ghost use Rattle.sqlite.specs.State.{HasCleanDisk};
+ghost use Rattle.reg_model.specs.Steps.{IsFit};
+ghost use Rattle.reg_tables.specs.Works.{shown};
+ghost use Rattle.reg_service.specs.Answered.{AreUpToDate, LeavesAlone, Shows};
+ghost use Rattle.reg_service.specs.Registries.{limits_of, tables_of};
+ghost use Rattle.reg_service.specs.Sequences.{HasAnswered, IsTold, event_at};
+
+use crate::registry::Registry;
+use reg_model::AdminRefusal;
+use reg_model::laws::{growth_law, run_law};
+use reg_policy::{AdminCommand, AdminReply};
+use reg_replies::Reply;
+use reg_requests::ApiRequest;
+use sqlite::Alter;
+use std::alloc::{AllocError, Global};
+
+/// What is asked of a registry.
+#[derive(Drop)]
+pub enum Call<'a> {
+    Request(ApiRequest<'a>),
+    Command(AdminCommand<'a>),
+}
+
+/// What a call is told.
+#[derive(Drop)]
+pub enum Told {
+    Reply(Reply),
+    Command(Result<AdminReply, AdminRefusal>),
+}
+
+/// Answers one call.
+fn answer<S: Alter>(alloc: Global, registry: &mut Registry<S>, call: &Call<'_>) -> Told
+    requires tables { AreUpToDate S.Store (tables_of registry.old) }
+    requires fit { IsFit (event_at (limits_of registry.old) call.now) }
+    ensures told { IsTold S.Store (limits_of registry.old) call.now result
+        (tables_of registry.old) (tables_of registry.new) }
+    ensures tables { AreUpToDate S.Store (tables_of registry.new) }
+    ensures clean { HasCleanDisk (shown S.Store (tables_of registry.new)) → HasCleanDisk
+        (shown S.Store (tables_of registry.old)) }
+    ensures limits { limits_of registry.new ≡ limits_of registry.old }
+{
+    match call {
+        Call::Request(request) => Told::Reply(registry.handle(alloc, request)),
+        Call::Command(command) => Told::Command(registry.command(alloc, command)),
+    }
+}
+
+/// Answers one call after another. Where there is no memory for the list of what they are told, it
+/// stops behind a call.
+pub fn answer_all<S: Alter>(
+    alloc: Global,
+    registry: &mut Registry<S>,
+    calls: &[Call<'_>],
+) -> Result<Vec<Told>, AllocError>
+    requires tables { AreUpToDate S.Store (tables_of registry.old) }
+    requires fit { AllByRecursion (λ c. IsFit (event_at (limits_of registry.old) c)) calls.now }
+    ensures answered { HasCleanDisk (shown S.Store (tables_of registry.new)) → (s : _)
+        → Shows s (shown S.Store (tables_of registry.old))
+        → LeavesAlone s (shown S.Store (tables_of registry.old))
+        → IfOk result (λ told. HasAnswered S.Store (limits_of registry.old) s calls.now told.items
+        (tables_of registry.new)) }
+    ensures tables { AreUpToDate S.Store (tables_of registry.new) }
+    ensures limits { limits_of registry.new ≡ limits_of registry.old }
+{
+    run_law();
+    growth_law();
+    let mut told = Vec::new(alloc);
+    for call in calls {
+        told.push(answer(alloc, registry, call))?;
+    }
+    Ok(told)
+}
