@@ -22,7 +22,7 @@ use reg_tables::{NewVersion, StoreFault, Work};
 use sqlite::Alter;
 use std::alloc::Global;
 
-/// What the tables keep of it, behind its crate.
+/// The version that the tables are given.
 fn version_of<'a>(new: &NewPublication<'a>) -> NewVersion<'a>
     ensures { published new.now.name.now result ≡ publication_of new.now }
 {
