@@ -1,7 +1,9 @@
 pub mod ConfigText
+mod Deciding
 pub mod Judging
+pub mod Marked
 pub mod Names
+pub mod Publications
 pub mod ReadingAsked
 pub mod ReadingServed
 pub mod Running
-mod Deciding

@@ -13,10 +13,7 @@ use std::alloc::Global;
 
 /// The crate that a text names, in any of its spellings; none where the text is no crate name or
 /// no crate has it.
-pub fn find_named<S: Alter>(
-    work: &mut Work<'_, S>,
-    text: &str,
-) -> Result<Option<Crate>, StoreFault>
+pub fn find_named<S: Alter>(work: &mut Work<'_, S>, text: &str) -> Result<Option<Crate>, StoreFault>
     requires at_work { IsAtWork S.Store work.old }
     requires goes_on { has_failed work.old ≡ false }
     ensures { Asks S.Store work.old work.new result (FindsNamed text.now) }

@@ -4,16 +4,122 @@ ghost use Rattle.std.specs.Prelude.{◌≡◌, false};
 ghost use Rattle.reg_model.specs.Events.Asked.{Publish};
 ghost use Rattle.reg_model.specs.Steps.{IsGenuine};
 ghost use Rattle.reg_policy.specs.Events.{publication_of};
+ghost use Rattle.reg_stored.specs.Calls.{published};
 ghost use Rattle.reg_tables.specs.Works.{IsAtWork, has_failed};
+ghost use Rattle.reg_access.specs.Asks.{Asks};
 ghost use Rattle.reg_serving.specs.Granted.{GrantsTo};
+ghost use Rattle.reg_serving.specs.Publications.{MakesCrate, PublishesFirst, PublishesNext, TellsFull, TellsFullOf};
+ghost use Rattle.reg_serving.specs.Runs.{Runs};
 
+use crate::naming::find_viewer;
 use crate::served::Served;
 use reg_body::Limits;
 use reg_line::Digest;
-use reg_policy::NewPublication;
-use reg_tables::{StoreFault, Work};
+use reg_names::canon;
+use reg_policy::{NewPublication, Rule};
+use reg_replies::{Kind, Reply, publish_body};
+use reg_tables::{NewVersion, StoreFault, Work};
 use sqlite::Alter;
 use std::alloc::Global;
+
+/// The version that the tables are given.
+fn version_of<'a>(new: &NewPublication<'a>) -> NewVersion<'a>
+    ensures { published new.now.name.now result ≡ publication_of new.now }
+{
+    NewVersion {
+        text: new.version,
+        description: new.description,
+        stem: new.stem,
+        digest: new.digest,
+        archive: new.archive,
+    }
+}
+
+/// Whether there are as many crates as there may be.
+fn is_full<S: Alter>(work: &mut Work<'_, S>, limits: &Limits) -> Result<bool, StoreFault>
+    requires { IsAtWork S.Store work.old }
+    ensures { Asks S.Store work.old work.new result (TellsFull limits.now) }
+{
+    let crates = work.crates()?;
+    Ok(limits.crates <= crates)
+}
+
+/// Whether a crate has as many versions as it may have.
+fn is_full_of<S: Alter>(
+    alloc: Global,
+    work: &mut Work<'_, S>,
+    limits: &Limits,
+    crate_id: u32,
+) -> Result<bool, StoreFault>
+    requires { IsAtWork S.Store work.old }
+    ensures { Asks S.Store work.old work.new result (TellsFullOf limits.now crate_id) }
+{
+    let versions = work.versions_of(alloc, crate_id)?;
+    Ok(limits.versions <= versions.len() as u64)
+}
+
+/// Makes a crate with its first version, whose owner the token's account becomes.
+fn make_crate<S: Alter>(
+    alloc: Global,
+    work: &mut Work<'_, S>,
+    digest: &Digest,
+    new: &NewPublication<'_>,
+) -> Result<Served, StoreFault>
+    requires { IsAtWork S.Store work.old }
+    ensures { Runs S.Store work.old work.new result
+        (MakesCrate digest.now (publication_of new.now)) }
+{
+    let owner = find_viewer(alloc, work, digest)?;
+    let Ok(body) = publish_body().to_vec(alloc) else {
+        return work.fail();
+    };
+    let version = version_of(new);
+    work.add_crate(new.name, owner, &version)?;
+    Ok(Served::Done(Reply::Done(Kind::Json, body)))
+}
+
+/// Publishes the first version of a crate.
+fn publish_first<S: Alter>(
+    alloc: Global,
+    work: &mut Work<'_, S>,
+    limits: &Limits,
+    digest: &Digest,
+    new: &NewPublication<'_>,
+) -> Result<Served, StoreFault>
+    requires { IsAtWork S.Store work.old }
+    ensures { Runs S.Store work.old work.new result
+        (PublishesFirst limits.now digest.now (publication_of new.now)) }
+{
+    let full = is_full(work, limits)?;
+    if full {
+        return Ok(Served::Told(Reply::Denied(Rule::L2)));
+    }
+    make_crate(alloc, work, digest, new)
+}
+
+/// Publishes a further version of the crate with this id.
+fn publish_next<S: Alter>(
+    alloc: Global,
+    work: &mut Work<'_, S>,
+    limits: &Limits,
+    crate_id: u32,
+    new: &NewPublication<'_>,
+) -> Result<Served, StoreFault>
+    requires { IsAtWork S.Store work.old }
+    ensures { Runs S.Store work.old work.new result
+        (PublishesNext limits.now crate_id (publication_of new.now)) }
+{
+    let full = is_full_of(alloc, work, limits, crate_id)?;
+    if full {
+        return Ok(Served::Told(Reply::Denied(Rule::L1)));
+    }
+    let Ok(body) = publish_body().to_vec(alloc) else {
+        return work.fail();
+    };
+    let version = version_of(new);
+    work.add_version(crate_id, &version)?;
+    Ok(Served::Done(Reply::Done(Kind::Json, body)))
+}
 
 /// Publishes a version: of a new crate, whose owner the token's account becomes, or of one that is
 /// there.
@@ -30,5 +136,8 @@ pub(crate) fn publish<S: Alter>(
     ensures { GrantsTo limits.now digest.now S.Store (Publish (publication_of new.now))
         result work.old work.new }
 {
-    work.fail()
+    match work.crate_by_canon(&canon(new.name))? {
+        Some(known) => publish_next(alloc, work, limits, known.id, new),
+        None => publish_first(alloc, work, limits, digest, new),
+    }
 }
