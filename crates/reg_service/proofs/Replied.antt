@@ -75,3 +75,7 @@ module _ {S : Type 0} (g : Ghosts S) (limits : Limits) (s : Registry) (digest : 
         | inl none ↦ subst (λ r. RepliesTo g limits s digest asked r old new) (sym none) (o, refl, frame.stayed g limits s (Ask digest asked) o old new ours h clean (inr (refl, refl)) on)
         | inr says ↦ (served s (Some id) asked, says, frame.stayed g limits s (Ask digest asked) (served s (Some id) asked) old new ours h clean (inl (ap (λ (it : Outcome). it.0) (sym is), ap (λ (it : Outcome). it.1) (sym is))) on)
       ]
+
+-- nothing was called, for want of memory
+pub no_memory : {S : Type 0} (g : Ghosts S) (limits : Limits) (s : Registry) (digest : Option Text) (asked : Asked) (t : Tables S) → Shows s (shown g t) → RepliesTo g limits s digest asked (Denied rule.S1) t t
+no_memory g limits s digest asked t h = (to_denied rule.S1, refl, frame.untouched g limits s (Ask digest asked) (to_denied rule.S1) t h refl)

@@ -11,7 +11,7 @@ ghost use Rattle.reg_service.specs.Handled.{IsReplied};
 ghost use Rattle.reg_service.specs.Registries.{has_stopped, limits_of, tables_of};
 ghost use Rattle.reg_tables.specs.Works.{held, shown};
 
-use crate::transactions::{command_in, request_in};
+use crate::transactions::{command_in, parts_in};
 use reg_body::Limits;
 use reg_model::AdminRefusal;
 use reg_policy::{AdminCommand, AdminReply, Rule};
@@ -76,17 +76,7 @@ impl<S: Alter> Registry<S> {
         let Ok(parts) = read_request(alloc, request, &self.limits) else {
             return Reply::Denied(Rule::S1);
         };
-        let Ok(logins) = parts.logins(alloc) else {
-            return Reply::Denied(Rule::S1);
-        };
-        let asked = parts.asked(&logins);
-        request_in(
-            alloc,
-            &mut self.tables,
-            &self.limits,
-            parts.digest(),
-            &asked,
-        )
+        parts_in(alloc, &mut self.tables, &self.limits, &parts)
     }
 
     /// The store, with what it holds.

@@ -18,6 +18,7 @@ use reg_model::AdminRefusal;
 use reg_model::laws::{denial_law, soundness_law};
 use reg_policy::{AdminCommand, AdminReply, Asked, Rule};
 use reg_replies::Reply;
+use reg_requests::Parts;
 use reg_serving::{Served, serve};
 use reg_tables::Tables;
 use sqlite::Alter;
@@ -92,4 +93,29 @@ pub(crate) fn request_in<S: Alter>(
         }
         Err(_) => Reply::Denied(Rule::S1),
     }
+}
+
+/// Answers a request that was read.
+pub(crate) fn parts_in<S: Alter>(
+    alloc: Global,
+    tables: &mut Tables<S>,
+    limits: &Limits,
+    parts: &Parts<'_>,
+) -> Reply
+    requires tables { AreUpToDate S.Store tables.old }
+    requires fit { (d : _) → IsFit (Ask d parts.now.asked) }
+    ensures replies { IsReplied S.Store limits.now parts.now.digest parts.now.asked result
+        tables.old tables.new }
+    ensures tables { AreUpToDate S.Store tables.new }
+    ensures clean { HasCleanDisk (shown S.Store tables.new) → HasCleanDisk
+        (shown S.Store tables.old) }
+    ensures stopped { is_shut tables.old ≡ true → result ≡ Reply.Denied Rule.S1 }
+    ensures stays { is_shut tables.old ≡ true → is_shut tables.new ≡ true }
+    ensures stops { is_shut tables.new ≡ true → result ≡ Reply.Denied Rule.S1 }
+{
+    let Ok(logins) = parts.logins(alloc) else {
+        return Reply::Denied(Rule::S1);
+    };
+    let asked = parts.asked(&logins);
+    request_in(alloc, tables, limits, parts.digest(), &asked)
 }

@@ -1,0 +1,18 @@
+use Rattle.std.proofs.Common.{sym, subst}
+use Rattle.reg_model.specs.Events.Event.{Ask}
+use Rattle.reg_model.specs.Steps.{IsFit}
+use Rattle.reg_service.specs.Handled.{IsReplied}
+use Rattle.reg_service.proofs.Replied.{no_memory}
+use Rattle.reg_service.proofs.transactions.parts_in.Goals as goal
+
+pub returns-in_default-clause-replies : goal.returns-in_default-clause-replies
+returns-in_default-clause-replies g c clean s h =
+    no_memory g.S.Store c.args.limits.now s c.args.parts.now.digest c.args.parts.now.asked c.args.tables.now h
+
+pub request_in-requires-clause-fit : goal.request_in-requires-clause-fit
+request_in-requires-clause-fit g c d =
+    subst (λ asked. IsFit (Ask d asked)) (sym c.asked-asked.ensures) (c.requires.fit d)
+
+pub returns-clause-replies : goal.returns-clause-replies
+returns-clause-replies g c =
+    rw (c.asked-asked.ensures, c.digest.ensures) at c.request_in.ensures.replies
