@@ -1,4 +1,5 @@
 pub mod Granted
 pub mod Named
+pub mod Owning
 pub mod Runs
 pub mod Serves
