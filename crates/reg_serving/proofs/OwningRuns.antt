@@ -42,6 +42,11 @@ module _ {S : Type 0} (g : Ghosts S) where
     pub all_set : (i : ℕ) (b : Work S) → take i all ≡ all → AreSet are id all i a b → Runs {T = Unit {0}} {E = StoreFault} g a b (Ok tt) (λ before after it. SetsOwners are id all before after)
     all_set i b is so = subst (λ some. Runs {T = Unit {0}} {E = StoreFault} g a b (Ok tt) (λ before after it. SetsSome are id all some before after)) is so
 
+  -- the transaction ends
+  asks_ended : {T E : Type 0} {Q : Trees → T → Type 0} (r : Result T E) (a b : Work S) → IsErr r → IsCall g r a b → Asks g a b r Q
+  asks_ended (Ok x) a b is call = absurd cc
+  asks_ended (Err e) a b is call = record { told = λ clean. tt; same = λ clean. tt; leaves = call }
+
   -- ids were found for the logins before these
   abbrev pub AreFound : List Text → List Text → List ℕ → Work S → Work S → Type 0
   AreFound all rest ids old new = Asks {T = List ℕ} {E = StoreFault} g old new (Ok ids) (λ db found. Tells (λ _ s. IsSoFar (is_known s) (id_of_login s) all rest found) db)
@@ -61,8 +66,12 @@ module _ {S : Type 0} (g : Ghosts S) where
           (λ both ids s h. so_far_ends (is_known s) (id_of_login s) texts i d below found (both.0 ids s h) (both.1 ids s h))
           (asks_both g {Q = FindsKnown (get_or texts i d).now} found None a b c so one)
 
+    module _ (i : ℕ) (found : List ℕ) (b c : Work S) (so : AreFound (texts_of texts) (texts_of (drop i texts)) found a b) where
       pub finding_fails : {T U E F : Type 0} {P : Trees → T → Type 0} {Q : Trees → U → Type 0} (e : E) (r : Result U F) → IsErr r → Asks g b c (Err e) P → Asks g a c r Q
       finding_fails {P} {Q} e r is one = asks_after g {Q = Q} found r a b c so (asks_failed g {P = P} e r b c is one)
+
+      pub room_fails : {T U E F : Type 0} {P : Trees → T → Type 0} {Q : Trees → U → Type 0} (x : T) (d : Work S) (r : Result U F) → IsErr r → Asks {E = E} g b c (Ok x) P → IsCall g r c d → Asks g a d r Q
+      room_fails {Q} x d r is one call = asks_after g {Q = Q} found r a b d so (asks_after g {Q = Q} x r b c d one (asks_ended r c d is call))
 
     pub all_found : {F : Type 0} (ids : Vec ℕ Global) (b : Work S) (rest : List (Bor Text)) → rest ≡ [] → AreFound (texts_of texts) (texts_of rest) ids.items a b → Asks {E = F} g a b (Ok (Some ids)) (FindsAllKnown (texts_of texts))
     all_found ids b rest is so = asks_made g ids.items (Some ids) a b (λ found it s h. so_far_all (is_known s) (id_of_login s) (texts_of texts) ids.items (subst (λ r. IsSoFar (is_known s) (id_of_login s) (texts_of texts) (texts_of r) ids.items) is (found it s h))) so
