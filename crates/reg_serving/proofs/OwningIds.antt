@@ -19,7 +19,7 @@ use Rattle.reg_model.specs.Crates.{owners, owns}
 use Rattle.reg_model.specs.Facts.{has_login, is_named}
 use Rattle.reg_model.specs.Registry as model
 use Rattle.reg_model.specs.Registry.{Registry, Text, holds, id_of_login, ids_of, is_enabled, is_known}
-use Rattle.reg_model.proofs.Lists.{is_some_find, true_not_false}
+use Rattle.reg_model.proofs.Lists.{is_some_find, list_any_map, true_not_false}
 use Rattle.reg_statements.specs.declared.accounts.Account.{Account}
 use Rattle.reg_stored.specs.Calls.{FindsAccount, ListsOwners}
 use Rattle.reg_stored.specs.Changes.{told_of}
@@ -91,20 +91,18 @@ owner_found list l found e = by found (same_found list l ∙ sym e)
     by (Some id) is = (sym tested ∙ ap is_some is, is)
 
 -- why owners may not leave, and that they may
-pub strangers_leave : (list : List Account) (logins : List Text) → list_all (has_login (entries_of list)) logins ≡ false → AreLeaving list logins (Err rule.O3)
-strangers_leave list logins e = ap (λ b. cond (not b) (Some rule.O3) (cond (list_all (λ o. is_named logins o.1.login) (entries_of list)) (Some rule.O4) None)) e
+module _ (list : List Account) (texts : List (Bor Text)) where
+  all_named : list_all (λ o. is_named (texts_of texts) o.1.login) (entries_of list) ≡ list_all (λ a. list_any (λ l. bytes_eq (string_bytes a.login) l.now) texts) list
+  all_named = list_all-map (λ (o : ℕ × model.Account). is_named (texts_of texts) o.1.login) entry_of_account list ∙ (λ i. list_all (λ a. list_any_map (bytes_eq (string_bytes a.login)) (λ (t : Bor Text). t.now) texts i) list)
 
-all_named : (list : List Account) (logins : List Text) → list_all (λ o. is_named logins o.1.login) (entries_of list) ≡ list_all (λ a. is_named logins (string_bytes a.login)) list
-all_named list logins = list_all-map (λ (o : ℕ × model.Account). is_named logins o.1.login) entry_of_account list
+  rule_known : (b : Bool) → list_all (has_login (entries_of list)) (texts_of texts) ≡ true → list_all (λ a. list_any (λ l. bytes_eq (string_bytes a.login) l.now) texts) list ≡ b → leaving_rule (entries_of list) (texts_of texts) ≡ cond b (Some rule.O4) None
+  rule_known b e f = ap (λ b. cond (not b) (Some rule.O3) (cond (list_all (λ o. is_named (texts_of texts) o.1.login) (entries_of list)) (Some rule.O4) None)) e ∙ ap (λ b. cond b (Some rule.O4) None) (all_named ∙ f)
 
-rule_known : (list : List Account) (logins : List Text) (b : Bool) → list_all (has_login (entries_of list)) logins ≡ true → list_all (λ a. is_named logins (string_bytes a.login)) list ≡ b → leaving_rule (entries_of list) logins ≡ cond b (Some rule.O4) None
-rule_known list logins b e f = ap (λ b. cond (not b) (Some rule.O3) (cond (list_all (λ o. is_named logins o.1.login) (entries_of list)) (Some rule.O4) None)) e ∙ ap (λ b. cond b (Some rule.O4) None) (all_named list logins ∙ f)
+  pub all_leave : list_all (has_login (entries_of list)) (texts_of texts) ≡ true → list_all (λ a. list_any (λ l. bytes_eq (string_bytes a.login) l.now) texts) list ≡ true → AreLeaving list (texts_of texts) (Err rule.O4)
+  all_leave e f = rule_known true e f
 
-pub all_leave : (list : List Account) (logins : List Text) → list_all (has_login (entries_of list)) logins ≡ true → list_all (λ a. is_named logins (string_bytes a.login)) list ≡ true → AreLeaving list logins (Err rule.O4)
-all_leave list logins e f = rule_known list logins true e f
-
-pub some_leave : (list : List Account) (logins : List Text) (ids : Vec ℕ Global) → (list_all (has_login (entries_of list)) logins ≡ true) × (ids.items ≡ filter_map (id_among (entries_of list)) logins) → list_all (λ a. is_named logins (string_bytes a.login)) list ≡ false → AreLeaving list logins (Ok ids)
-some_leave list logins ids e f = (rule_known list logins false e.0 f, e.1)
+  pub some_leave : (ids : Vec ℕ Global) → (list_all (has_login (entries_of list)) (texts_of texts) ≡ true) × (ids.items ≡ filter_map (id_among (entries_of list)) (texts_of texts)) → list_all (λ a. list_any (λ l. bytes_eq (string_bytes a.login) l.now) texts) list ≡ false → AreLeaving list (texts_of texts) (Ok ids)
+  some_leave ids e f = (rule_known false e.0 f, e.1)
 
 -- an owner's id is that of its login, since no two accounts have one
 module _ (l : Text) (q : ℕ × model.Account → Bool) where

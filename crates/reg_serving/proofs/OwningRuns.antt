@@ -42,10 +42,13 @@ module _ {S : Type 0} (g : Ghosts S) where
     pub all_set : (i : ℕ) (b : Work S) → take i all ≡ all → AreSet are id all i a b → Runs {T = Unit {0}} {E = StoreFault} g a b (Ok tt) (λ before after it. SetsOwners are id all before after)
     all_set i b is so = subst (λ some. Runs {T = Unit {0}} {E = StoreFault} g a b (Ok tt) (λ before after it. SetsSome are id all some before after)) is so
 
-  -- the transaction ends
+  -- the transaction ends, at once or once something was asked
   asks_ended : {T E : Type 0} {Q : Trees → T → Type 0} (r : Result T E) (a b : Work S) → IsErr r → IsCall g r a b → Asks g a b r Q
   asks_ended (Ok x) a b is call = absurd cc
   asks_ended (Err e) a b is call = record { told = λ clean. tt; same = λ clean. tt; leaves = call }
+
+  pub asks_stopped : {T U E F : Type 0} {P : Trees → T → Type 0} {Q : Trees → U → Type 0} (x : T) (r : Result U F) (a b c : Work S) → IsErr r → Asks {E = E} g a b (Ok x) P → IsCall g r b c → Asks g a c r Q
+  asks_stopped {Q} x r a b c is one call = asks_after g {Q = Q} x r a b c one (asks_ended r b c is call)
 
   -- ids were found for the logins before these
   abbrev pub AreFound : List Text → List Text → List ℕ → Work S → Work S → Type 0
@@ -71,7 +74,7 @@ module _ {S : Type 0} (g : Ghosts S) where
       finding_fails {P} {Q} e r is one = asks_after g {Q = Q} found r a b c so (asks_failed g {P = P} e r b c is one)
 
       pub room_fails : {T U E F : Type 0} {P : Trees → T → Type 0} {Q : Trees → U → Type 0} (x : T) (d : Work S) (r : Result U F) → IsErr r → Asks {E = E} g b c (Ok x) P → IsCall g r c d → Asks g a d r Q
-      room_fails {Q} x d r is one call = asks_after g {Q = Q} found r a b d so (asks_after g {Q = Q} x r b c d one (asks_ended r c d is call))
+      room_fails {Q} x d r is one call = asks_after g {Q = Q} found r a b d so (asks_stopped {Q = Q} x r b c d is one call)
 
     pub all_found : {F : Type 0} (ids : Vec ℕ Global) (b : Work S) (rest : List (Bor Text)) → rest ≡ [] → AreFound (texts_of texts) (texts_of rest) ids.items a b → Asks {E = F} g a b (Ok (Some ids)) (FindsAllKnown (texts_of texts))
     all_found ids b rest is so = asks_made g ids.items (Some ids) a b (λ found it s h. so_far_all (is_known s) (id_of_login s) (texts_of texts) ids.items (subst (λ r. IsSoFar (is_known s) (id_of_login s) (texts_of texts) (texts_of r) ids.items) is (found it s h))) so
