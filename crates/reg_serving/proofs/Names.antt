@@ -1,5 +1,5 @@
 -- Crates that are named by texts.
-use Rattle.std.proofs.Common.{◌≡◌, ◌&&◌, Bool, true, false, cond, Option, Some, None, sym, ap, ◌∙◌}
+use Rattle.std.proofs.Common.{◌≡◌, ◌&&◌, Bool, true, false, cond, Option, Some, None, refl, sym, ap, ◌∙◌}
 use Rattle.std.specs.Prelude.{string_bytes}
 use Rattle.sqlite.specs.Tree.{Trees}
 use Rattle.reg_names.specs.Names.{canon, is_name, name_of}
