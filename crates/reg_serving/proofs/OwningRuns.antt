@@ -42,6 +42,10 @@ module _ {S : Type 0} (g : Ghosts S) where
     pub all_set : (i : ℕ) (b : Work S) → take i all ≡ all → AreSet are id all i a b → Runs {T = Unit {0}} {E = StoreFault} g a b (Ok tt) (λ before after it. SetsOwners are id all before after)
     all_set i b is so = subst (λ some. Runs {T = Unit {0}} {E = StoreFault} g a b (Ok tt) (λ before after it. SetsSome are id all some before after)) is so
 
+  -- what is run means something else too
+  pub runs_made : {T U E F : Type 0} {P : Trees → Trees → T → Type 0} {Q : Trees → Trees → U → Type 0} (x : T) (y : U) (a b : Work S) → (P (rows_seen g a) (rows_seen g b) x → Q (rows_seen g a) (rows_seen g b) y) → Runs {E = E} g a b (Ok x) P → Runs {E = F} g a b (Ok y) Q
+  runs_made x y a b made one = record { told = λ clean. made (one.told clean); leaves = called_ok g x y a b one.leaves }
+
   -- the transaction ends, at once or once something was asked
   asks_ended : {T E : Type 0} {Q : Trees → T → Type 0} (r : Result T E) (a b : Work S) → IsErr r → IsCall g r a b → Asks g a b r Q
   asks_ended (Ok x) a b is call = absurd cc

@@ -1,5 +1,6 @@
 use Rattle.reg_serving.proofs.OwningDone.{owning_denied, owning_done}
-use Rattle.reg_serving.proofs.Running.{runs_after, runs_asked, runs_failed}
+use Rattle.reg_serving.proofs.OwningIds.{texts_of}
+use Rattle.reg_serving.proofs.Running.{runs_after, runs_asked}
 use Rattle.reg_serving.proofs.owning.add_owners.Goals as goal
 
 pub returns-in-Ok : goal.returns-in-Ok
