@@ -1,22 +1,21 @@
 -- Requests that change owners are denied or done, where the rules on access let them pass.
 use Rattle.std.proofs.Common.{◌≡◌, ℕ, List, [], ◌∷◌, ◌++◌, Bool, true, false, cond, Option, Some, None, Ok, Err, refl, sym, ap, subst, ◌∙◌}
 use Rattle.std.proofs.lemmas.Bool.{and_parts}
-use Rattle.std.specs.Prelude.{Vec, not, ◌&&◌, map, unwrap_or}
+use Rattle.std.specs.Prelude.{Vec, ◌&&◌, map, unwrap_or}
 use Rattle.std.specs.declared.alloc.Global.{Global}
 use Rattle.std.specs.FinSet as finset
-use Rattle.std.specs.List.{find, list_all}
+use Rattle.std.specs.List.{find}
 use Rattle.sqlite.specs.Tree.{Trees}
 use Rattle.reg_body.specs.declared.limits.Limits.{Limits}
 use Rattle.reg_names.specs.Names.{canon, is_name, name_of}
 use Rattle.reg_model.specs.declared.rule.Rule.{Rule}
 use Rattle.reg_model.specs.declared.rule.Rule.TheVariants as rule
-use Rattle.reg_model.specs.Actions.{Action}
 use Rattle.reg_model.specs.Crates.{exists, owners}
-use Rattle.reg_model.specs.Effects.{account_of, caller, done, owners_of, served}
+use Rattle.reg_model.specs.Effects.{caller, done, served}
 use Rattle.reg_model.specs.Events.{action_of}
-use Rattle.reg_model.specs.Facts.{access_facts, counts, has_login, is_named, lists}
+use Rattle.reg_model.specs.Facts.{access_facts, counts, lists}
 use Rattle.reg_model.specs.Refusals.{denied, or_else}
-use Rattle.reg_model.specs.Registry.{Registry, Text, ids_of, is_known}
+use Rattle.reg_model.specs.Registry.{Registry, Text, ids_of}
 use Rattle.reg_model.specs.Rules.{access, broken, verdict}
 use Rattle.reg_model.specs.Sound.{Sound}
 use Rattle.reg_model.specs.Steps.{Outcome, unless_denied}
@@ -24,10 +23,10 @@ use Rattle.reg_model.proofs.SoundOwners.{add_keeps_sound, remove_keeps_sound}
 use Rattle.reg_replies.specs.Replies.{Says}
 use Rattle.reg_replies.specs.declared.reply.Reply.{Reply}
 use Rattle.reg_replies.specs.declared.reply.Reply.TheVariants.{Denied}
-use Rattle.reg_stored.specs.Stands.{Holds, Ids, Stands, StandsBy, spelling_at}
+use Rattle.reg_stored.specs.Stands.{Holds, Ids, Stands, StandsBy}
 use Rattle.reg_serving.specs.Granted.{IsLet}
 use Rattle.reg_serving.specs.Named.{IsNamed}
-use Rattle.reg_serving.specs.Owning.{DoesOwning, FindsOwners, SaysOwning, SetsOwners, leaving_rule, logins_rule, owning, owners_set, with_owners}
+use Rattle.reg_serving.specs.Owning.{DoesOwning, FindsOwners, SaysOwning, leaving_rule, logins_rule, owning, with_owners}
 use Rattle.reg_serving.specs.Serves.{Serves}
 use Rattle.reg_serving.specs.declared.served.Served.{Served}
 use Rattle.reg_serving.specs.declared.served.Served.TheVariants.{Done, Seeks, Told}

@@ -1,5 +1,5 @@
 -- The ids that are found for logins.
-use Rattle.std.proofs.Common.{◌≡◌, ℕ, ◌+◌, ◌<◌, List, [], ◌∷◌, ◌++◌, Bool, true, false, cond, Option, Some, None, Result, Ok, Err, length, drop, get_or, suc, refl, sym, ap, subst, ◌∙◌}
+use Rattle.std.proofs.Common.{◌≡◌, ℕ, ◌+◌, ◌<◌, List, [], ◌∷◌, ◌++◌, Bool, true, false, cond, Option, Some, None, Ok, Err, length, drop, get_or, refl, sym, ap, subst, ◌∙◌}
 use Rattle.std.proofs.lemmas.Bool.{and_parts}
 use Rattle.std.proofs.lemmas.List.{append-nil, append_assoc, drop_more}
 use Rattle.std.proofs.lemmas.List.Folds.{list_all-map}
@@ -18,7 +18,7 @@ use Rattle.reg_model.specs.declared.rule.Rule.TheVariants as rule
 use Rattle.reg_model.specs.Crates.{owners, owns}
 use Rattle.reg_model.specs.Facts.{has_login, is_named}
 use Rattle.reg_model.specs.Registry as model
-use Rattle.reg_model.specs.Registry.{Registry, Text, holds, id_of_login, ids_of, is_enabled, is_known}
+use Rattle.reg_model.specs.Registry.{Registry, Text, holds, id_of_login, is_enabled, is_known}
 use Rattle.reg_model.proofs.Lists.{is_some_find, list_any_map, true_not_false}
 use Rattle.reg_statements.specs.declared.accounts.Account.{Account}
 use Rattle.reg_stored.specs.Calls.{FindsAccount, ListsOwners}

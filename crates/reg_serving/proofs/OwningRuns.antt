@@ -1,6 +1,6 @@
 -- Owners that are changed one after another, and logins that are asked for so, within a transaction.
-use Rattle.std.proofs.Common.{◌≡◌, ℕ, ◌+◌, ◌<◌, ◌++◌, ◌∷◌, [], List, Bool, false, arith, Option, Some, None, Ok, Err, Result, IsErr, length, take, drop, get_or, ap, subst}
-use Rattle.std.specs.Prelude.{OnOk, Vec}
+use Rattle.std.proofs.Common.{◌≡◌, ℕ, ◌+◌, ◌<◌, ◌++◌, ◌∷◌, [], List, Bool, false, arith, Some, None, Ok, Err, Result, IsErr, length, take, drop, get_or, subst}
+use Rattle.std.specs.Prelude.{Vec}
 use Rattle.std.specs.declared.alloc.Global.{Global}
 use Rattle.std.specs.Borrow.{Bor}
 use Rattle.sqlite.specs.State.{HasCleanDisk}

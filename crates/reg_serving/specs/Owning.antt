@@ -1,6 +1,6 @@
 -- How the owners of a crate are changed: who is found for the logins of a request, and what is made
 -- of them.
-use Rattle.std.specs.Prelude.{◌≡◌, ◌==◌, ℕ, Bool, true, false, not, if◌then◌else◌, List, Option, Some, None, Result, Ok, Err, Vec, map, string_bytes}
+use Rattle.std.specs.Prelude.{◌≡◌, ℕ, Bool, true, false, not, if◌then◌else◌, List, Option, Some, None, Result, Ok, Err, Vec, map}
 use Rattle.std.specs.declared.alloc.Global.{Global}
 use Rattle.std.specs.FinSet as finset
 use Rattle.std.specs.List.{filter_map, find, list_all}

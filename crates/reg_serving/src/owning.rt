@@ -37,12 +37,8 @@ fn id_if_enabled(found: &Option<Account>) -> Option<u32>
     ensures { result ≡ enabled_id found.now }
 {
     match found {
-        Some(account) => if account.enabled {
-            Some(account.id)
-        } else {
-            None
-        },
-        None => None,
+        Some(account) if account.enabled => Some(account.id),
+        _ => None,
     }
 }
 
@@ -107,10 +103,8 @@ fn id_of_owner(owners: &[Account], login: &str) -> Option<u32>
     ensures { result ≡ option_map (λ a. a.id)
         (find (λ a. bytes_eq (string_bytes a.login) login.now) owners.now) }
 {
-    match owners.iter().find(|owner| has_login(owner, login)) {
-        Some(owner) => Some(owner.id),
-        None => None,
-    }
+    let found = owners.iter().find(|owner| has_login(owner, login));
+    found.map(|owner| owner.id)
 }
 
 /// The ids of the owners with these logins; none unless each has one.

@@ -1,7 +1,5 @@
 use Rattle.std.proofs.Common.{◌≡◌, ◌<◌, ◌+◌, ◌++◌, ◌∷◌, [], drop, length, arith, rules, sym, subst}
 use Rattle.std.proofs.lemmas.List.{drop_all}
-use Rattle.reg_access.proofs.Calls.{then_called}
-use Rattle.reg_access.proofs.Questions.{asks_failed}
 use Rattle.reg_serving.proofs.OwningIds.{texts_of}
 use Rattle.reg_serving.proofs.OwningRuns.{AreFound, all_found, finding_fails, more_found, none_found, one_unknown, room_fails}
 use Rattle.reg_serving.proofs.owning.find_all_known.Goals as goal

@@ -1,4 +1,3 @@
-use Rattle.std.specs.Prelude.{map}
 use Rattle.reg_access.proofs.Questions.{asks_both, asks_made}
 use Rattle.reg_serving.specs.Owning.{FindsAllKnown}
 use Rattle.reg_serving.proofs.OwningIds.{joins, may_not_join, texts_of}

@@ -1,4 +1,4 @@
-use Rattle.std.proofs.Common.{◌+◌, ◌++◌, ◌∷◌, [], None, Some, drop, sym, subst}
+use Rattle.std.proofs.Common.{◌+◌, None, Some, drop, sym, subst}
 use Rattle.std.proofs.lemmas.List.{drop_all}
 use Rattle.reg_model.specs.Facts.{has_login}
 use Rattle.reg_serving.specs.Owning.{entries_of, id_among}
