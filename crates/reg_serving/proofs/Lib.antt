@@ -1,8 +1,12 @@
-pub mod ConfigText
 mod Deciding
+pub mod ConfigText
 pub mod Judging
 pub mod Marked
 pub mod Names
+pub mod OwningDone
+pub mod OwningIds
+pub mod OwningRuns
+pub mod OwningSets
 pub mod Publications
 pub mod ReadingAsked
 pub mod ReadingServed

@@ -1,5 +1,6 @@
 pub mod Granted
 pub mod Named
+pub mod Owning
 pub mod Publications
 pub mod Reads
 pub mod Runs
