@@ -1,6 +1,6 @@
 //! A registry is made in an empty store, or opened.
 
-ghost use Rattle.std.specs.Prelude.{◌≡◌, ◌≢◌, ◌↔◌, false, true, IfErr, IfOk};
+ghost use Rattle.std.specs.Prelude.{◌≡◌, ◌≢◌, ◌↔◌, false, true, IfErr, IfOk, IsTrue, Some};
 ghost use Rattle.sqlite.specs.Held.{state};
 ghost use Rattle.sqlite.specs.State.{HasCleanDisk, Survives};
 ghost use Rattle.reg_line.specs.Base.{is_base as is_base_text};
@@ -8,7 +8,7 @@ ghost use Rattle.reg_schema.specs.Schema.{blank, old_schema, schema_of};
 ghost use Rattle.reg_schema.specs.States.{IsMade, IsUndone};
 ghost use Rattle.reg_statements.specs.Abouts.{LacksBase};
 ghost use Rattle.reg_service.specs.Answered.{Are, AreUpToDate, Shows};
-ghost use Rattle.reg_service.specs.Registries.{IsNew, has_stopped, limits_of, tables_of};
+ghost use Rattle.reg_service.specs.Registries.{IsFirstFailing, IsNew, has_stopped, limits_of, tables_of};
 ghost use Rattle.reg_tables.specs.Works.{AreOurs, edition_in, is_shut, shown};
 
 use crate::registry::Registry;
@@ -75,6 +75,14 @@ fn examined<S: Alter>(
         HasCleanDisk (shown S.Store (tables_of r)) → (db : _)
         → (shown S.Store (tables_of r)).may_leave db → (shown S.Store tables).may_leave db) }
     ensures known { IfErr result (λ e. e.0 ≢ OpenFault.UnknownSchema) }
+    ensures found { IfErr result (λ e. HasCleanDisk (state S.Store e.1) → (check : _)
+        → e.0 ≡ OpenFault.Damaged check
+        → IsFirstFailing (edition_in tables) (shown S.Store tables).now (Some check)) }
+    ensures early { IfErr result (λ e. HasCleanDisk (state S.Store e.1)
+        → e.0 ≢ OpenFault.Storage → HasCleanDisk (shown S.Store tables)) }
+    ensures undone { (shown S.Store tables).in_transaction ≡ false → IfErr result (λ e.
+        HasCleanDisk (state S.Store e.1) → e.0 ≢ OpenFault.Storage
+        → IsUndone (shown S.Store tables) (state S.Store e.1)) }
 {
     match audit(alloc, &mut tables) {
         Err(_) => Err((OpenFault::Storage, tables.into_connection())),
@@ -105,6 +113,12 @@ impl<S: Alter> Registry<S> {
             → e.0 ≡ OpenFault.UnknownSchema → (edition : Edition)
             → (state S.Store conn).now.schema ≡ schema_of edition
             → LacksBase edition (state S.Store conn).now.trees) }
+        ensures damaged { IfErr result (λ e. HasCleanDisk (state S.Store e.1) → (check : _)
+            → e.0 ≡ OpenFault.Damaged check → IsTrue (state S.Store e.1).is_open
+            → (edition : Edition) × ((state S.Store conn).now.schema ≡ schema_of edition)
+            × IsFirstFailing edition (state S.Store conn).now (Some check)) }
+        ensures undone { IfErr result (λ e. HasCleanDisk (state S.Store e.1)
+            → e.0 ≢ OpenFault.Storage → IsUndone (state S.Store conn) (state S.Store e.1)) }
     {
         match Tables::adopt(alloc, conn) {
             Ok(tables) => examined(alloc, tables, limits),

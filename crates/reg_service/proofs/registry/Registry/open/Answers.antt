@@ -1,6 +1,6 @@
 use Rattle.std.proofs.Common.{refl}
 use Rattle.reg_tables.specs.Works.{edition_in}
-use Rattle.reg_service.proofs.Opened.{opened_left, opened_same}
+use Rattle.reg_service.proofs.Opened.{opened_left, opened_same, refused_damaged, refused_undone}
 use Rattle.reg_service.proofs.registry.Registry.open.Goals as goal
 
 pub returns-in-Ok-clause-same : goal.returns-in-Ok-clause-same
@@ -14,3 +14,11 @@ returns-in-Err-UnknownSchema-default-clause-unknown g c clean is edition schema 
 pub returns-in-Ok-clause-left : goal.returns-in-Ok-clause-left
 returns-in-Ok-clause-left g c =
     opened_left g.S.Store c.args.conn c.in-Ok.tables (edition_in c.in-Ok.tables) c.examined.result refl c.in-Ok.ensures.edition c.in-Ok.ensures.kept c.examined.ensures.left c.examined.ensures.clean
+
+pub returns-in-Ok-clause-undone : goal.returns-in-Ok-clause-undone
+returns-in-Ok-clause-undone g c =
+    refused_undone g.S.Store c.args.conn c.in-Ok.tables c.in-Ok.ensures.rests c.examined.result c.examined.ensures.early c.examined.ensures.undone
+
+pub returns-in-Ok-clause-damaged : goal.returns-in-Ok-clause-damaged
+returns-in-Ok-clause-damaged g c =
+    refused_damaged g.S.Store c.args.conn c.in-Ok.tables c.in-Ok.ensures.rests c.examined.result c.in-Ok.ensures.edition c.in-Ok.ensures.found c.examined.ensures.early c.examined.ensures.undone c.examined.ensures.found
