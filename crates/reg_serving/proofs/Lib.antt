@@ -1,9 +1,12 @@
 pub mod ConfigText
 mod Deciding
+mod ExportAsked
+mod IndexFiles
 pub mod Judging
 pub mod Marked
 pub mod Names
 pub mod Publications
 pub mod ReadingAsked
 pub mod ReadingServed
+mod Rising
 pub mod Running
