@@ -94,8 +94,8 @@ module _ {S : Type 0} (g : Ghosts S) (limits : Limits) (s : Registry) (sounds : 
 
     left_on : (db : Trees) → (shown g new).may_leave db → (m : Registry) × Stands m db × MayBeLeft limits s (es ++ e ∷ []) (xs ++ a ∷ []) m
     left_on db l = elim it.kept [
-      inl room ↦ elim (it.left db l) [
-        inl was ↦ (let (m, stands, may) = so_far.left db was in (m, stands, left_before m room may))
+      | inl room ↦ elim (it.left db l) [
+        | inl was ↦ (let (m, stands, may) = so_far.left db was in (m, stands, left_before m room may))
         | inr (why, stands) ↦ ((outcome limits t e).1, stands, left_change room)
       ]
       | inr alone ↦ (it.after, alone db l, all_left (es ++ e ∷ []) (xs ++ a ∷ []) it.after run_on)
