@@ -1,6 +1,9 @@
 -- One more event behind a run.
-use Rattle.std.proofs.Common.{◌≡◌, ◌⊎◌, ◌++◌, inl, inr, List, [], ◌∷◌, map, refl, sym, ap, subst, ◌∙◌}
-use Rattle.std.proofs.lemmas.List.{append-nil, append_assoc}
+use Rattle.std.proofs.Common.{◌≡◌, ◌⊎◌, ◌++◌, ◌+◌, ◌<◌, ℕ, suc, arith, get_or, inl, inr, length, List, [], ◌∷◌, map, take, refl, sym, ap, subst, ◌∙◌}
+use Rattle.std.specs.List.{AllByRecursion}
+use Rattle.std.proofs.Math.Seq.{take-suc}
+use Rattle.sqlite_trees.proofs.ListLemmas.{all-get_or}
+use Rattle.std.proofs.lemmas.List.{append-nil, append_assoc, map-append}
 use Rattle.sqlite.specs.Tree.{Trees}
 use Rattle.sqlite_trees.specs.declared.store.Store.{Ghosts}
 use Rattle.reg_body.specs.declared.limits.Limits.{Limits}
@@ -11,8 +14,21 @@ use Rattle.reg_model.specs.Steps.{IsFit, Run, no_room, outcome}
 use Rattle.reg_stored.specs.Stands.{Stands}
 use Rattle.reg_tables.specs.declared.tables.Tables.{Tables}
 use Rattle.reg_tables.specs.Works.{shown}
-use Rattle.reg_service.specs.Answered.{Answers, LeavesAlone, Shows}
-use Rattle.reg_service.specs.Sequences.{AreNoRoom, MayBeLeft, Ran, TellAll, TellsOf}
+use Rattle.std.specs.Prelude.{Result}
+use Rattle.sqlite.specs.State.{HasCleanDisk}
+use Rattle.reg_model.specs.Events.Event.{Order}
+use Rattle.reg_model.specs.declared.rule.AdminRefusal.{AdminRefusal}
+use Rattle.reg_policy.specs.declared.event.AdminCommand.{AdminCommand}
+use Rattle.reg_policy.specs.declared.event.AdminReply.{AdminReply}
+use Rattle.reg_policy.specs.Events.{command_of, reply_of}
+use Rattle.reg_replies.specs.declared.reply.Reply.{Reply}
+use Rattle.reg_requests.specs.Requests.{request_of}
+use Rattle.reg_requests.specs.declared.request.ApiRequest.{ApiRequest}
+use Rattle.reg_service.specs.Answered.{Answers, IsAnswered, LeavesAlone, Shows}
+use Rattle.reg_service.specs.Handled.{IsReplied}
+use Rattle.reg_service.specs.Sequences.{AreNoRoom, HasAnswered, IsTold, MayBeLeft, Ran, TellAll, TellsOf, event_at}
+use Rattle.reg_service.specs.declared.sequences.Call.TheVariants.{Request, Command as Commanded}
+use Rattle.reg_service.specs.declared.sequences.Told.TheVariants.{Reply as Replied, Command as Obeyed}
 use Rattle.reg_service.specs.declared.sequences.Call.{Call}
 use Rattle.reg_service.specs.declared.sequences.Told.{Told}
 
@@ -29,6 +45,14 @@ tells_on limits [] [] (u ∷ ts) c a t all it = absurd all
 tells_on limits [] (x ∷ xs) ts c a t all it = absurd all
 tells_on limits (d ∷ cs) [] ts c a t all it = absurd all
 tells_on limits (d ∷ cs) (x ∷ xs) [] c a t all it = absurd all
+
+-- one call is told what a request or a command is
+module _ {S : Type 0} (g : Ghosts S) (limits : Limits) (c : Call) (old new : Tables S) where
+  pub told_request : (r : ApiRequest) (reply : Reply) → c ≡ Request r → IsReplied g limits (request_of limits r).digest (request_of limits r).asked reply old new → IsTold g limits c (Replied reply) old new
+  told_request r reply same is = subst (λ it. IsTold g limits it (Replied reply) old new) (sym same) (λ clean s h. is clean s h)
+
+  pub told_command : (command : AdminCommand) (it : Result AdminReply AdminRefusal) → c ≡ Commanded command → IsAnswered g limits (Order (command_of command)) (reply_of it) old new → IsTold g limits c (Obeyed it) old new
+  told_command command it same is = subst (λ x. IsTold g limits x (Obeyed it) old new) (sym same) (λ clean s h. (reply_of it, refl, is clean s h))
 
 module _ {S : Type 0} (g : Ghosts S) (limits : Limits) (s : Registry) (sounds : RunsKeepSound) (grows : StemsGrow) where
   ran : (es : List Event) (xs : List Answer) (t : Registry) (new : Tables S) → Run limits s es xs t → Shows t (shown g new) → ((db : Trees) → (shown g new).may_leave db → (m : Registry) × Stands m db × MayBeLeft limits s es xs m) → Ran g limits s es xs t new
@@ -103,3 +127,25 @@ module _ {S : Type 0} (g : Ghosts S) (limits : Limits) (s : Registry) (sounds : 
 
     pub ran_on : Ran g limits s (es ++ e ∷ []) (xs ++ a ∷ []) it.after new
     ran_on = ran (es ++ e ∷ []) (xs ++ a ∷ []) it.after new run_on it.shows left_on
+
+  -- no call yet
+  pub answered_nothing : (t : Tables S) → Shows s (shown g t) → LeavesAlone s (shown g t) → HasAnswered g limits s [] [] t
+  answered_nothing t shows alone = ([], s, tt, ran_nothing t shows alone)
+
+  -- one more call
+  pub answered_on : StepsRun → RunsJoin → (cs : List Call) (ts : List Told) (c : Call) (it : Told) (old new : Tables S) → IsFit (event_at limits c) → HasCleanDisk (shown g new) → HasAnswered g limits s cs ts old → IsTold g limits c it old new → HasAnswered g limits s (cs ++ c ∷ []) (ts ++ it ∷ []) new
+  answered_on steps joins cs ts c it old new fit clean (xs, t, tells, so_far) told =
+      let (a, says, answers) = told clean t so_far.shows in
+      let on = ran_on steps joins (map (event_at limits) cs) xs t (event_at limits c) a old new fit so_far answers in (
+        xs ++ a ∷ [],
+        answers.after,
+        tells_on limits cs xs ts c a it tells says,
+        subst (λ es. Ran g limits s es (xs ++ a ∷ []) answers.after new) (sym (map-append (event_at limits) cs (c ∷ []))) on,
+      )
+
+  -- the call at this place
+  pub answered_next : StepsRun → RunsJoin → (cs : List Call) (i : ℕ) (d : Call) (ts : List Told) (it : Told) (old new : Tables S) → i < length cs → AllByRecursion (λ c. IsFit (event_at limits c)) cs → HasCleanDisk (shown g new) → HasAnswered g limits s (take i cs) ts old → IsTold g limits (get_or cs i d) it old new → HasAnswered g limits s (take (i + 1) cs) (ts ++ it ∷ []) new
+  answered_next steps joins cs i d ts it old new lt fits clean so_far told =
+      let next : suc i ≡ i + 1 = omega arith in
+      subst (λ l. HasAnswered g limits s l (ts ++ it ∷ []) new) (sym (take-suc cs i d lt) ∙ ap (λ n. take n cs) next)
+      (answered_on steps joins (take i cs) ts (get_or cs i d) it old new (all-get_or (λ c. IsFit (event_at limits c)) cs i d fits lt) clean so_far told)

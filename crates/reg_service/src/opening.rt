@@ -71,6 +71,9 @@ fn examined<S: Alter>(
         → Shows s (shown S.Store (tables_of r))) }
     ensures clean { IfOk result (λ r. HasCleanDisk (shown S.Store (tables_of r))
         → HasCleanDisk (shown S.Store tables)) }
+    ensures left { edition_in tables ≡ Edition.Second → IfOk result (λ r.
+        HasCleanDisk (shown S.Store (tables_of r)) → (db : _)
+        → (shown S.Store (tables_of r)).may_leave db → (shown S.Store tables).may_leave db) }
     ensures known { IfErr result (λ e. e.0 ≢ OpenFault.UnknownSchema) }
 {
     match audit(alloc, &mut tables) {
@@ -95,6 +98,9 @@ impl<S: Alter> Registry<S> {
         ensures same { IfOk result (λ r. (s : _) → HasCleanDisk (shown S.Store (tables_of r))
             → (state S.Store conn).now.schema ≢ old_schema → Are s (state S.Store conn).now.trees
             → Shows s (shown S.Store (tables_of r))) }
+        ensures left { IfOk result (λ r. HasCleanDisk (shown S.Store (tables_of r))
+            → (state S.Store conn).now.schema ≢ old_schema → (db : _)
+            → (shown S.Store (tables_of r)).may_leave db → (state S.Store conn).may_leave db) }
         ensures unknown { IfErr result (λ e. HasCleanDisk (state S.Store e.1)
             → e.0 ≡ OpenFault.UnknownSchema → (edition : Edition)
             → (state S.Store conn).now.schema ≡ schema_of edition

@@ -1,5 +1,5 @@
 -- A request that is decided, and what is let pass by another name of it.
-use Rattle.std.proofs.Common.{◌≡◌, Bool, true, false, List, [], Option, None, Some, Ok, Err, Result, refl, sym, ap, subst, ◌∙◌, ℕ}
+use Rattle.std.proofs.Common.{◌≡◌, Option, None, Some, Ok, Err, Result, refl, sym, ap, subst, ◌∙◌, ℕ}
 use Rattle.std.specs.Prelude.{not, unwrap_or}
 use Rattle.std.specs.List.{find, filter}
 use Rattle.sqlite.specs.Tree.{Trees}
@@ -27,7 +27,6 @@ use Rattle.reg_policy.specs.declared.event.Asked.{Asked as Wanted}
 use Rattle.reg_policy.specs.Events.{asked_of}
 use Rattle.reg_policy.specs.Views.{decision_of}
 use Rattle.reg_replies.specs.declared.reply.Reply.TheVariants.{Denied}
-use Rattle.reg_stored.specs.Stands.{Holds, Ids}
 use Rattle.reg_tables.specs.declared.work.StoreFault.{StoreFault}
 use Rattle.reg_tables.specs.declared.work.Work.{Work}
 use Rattle.reg_serving.specs.Granted.{Grants, GrantsTo, IsLet}
@@ -67,7 +66,7 @@ not_let law limits digest asked db r policy ids s h =
     let a = action_of asked in
     let is = rule_of _ r (policy ids s h) in
     let first : judged limits s digest a ≡ Some r = law limits (access_facts s digest a) (counts s a) a
-        ∙ ap (λ o. or_else o (find (broken limits (access_facts s digest a) (counts s a) a) (filter (λ it. not (is_access_rule it)) (order (access_facts s digest a).first a)))) is in
+    ∙ ap (λ o. or_else o (find (broken limits (access_facts s digest a) (counts s a) a) (filter (λ it. not (is_access_rule it)) (order (access_facts s digest a).first a)))) is in
     let e = is_denied limits s (Some digest) asked r (ap (λ o. or_else o (fault_of asked)) first) in
     (ap (λ (it : Outcome). it.0) e, ap (λ (it : Outcome). it.1) e)
 

@@ -5,6 +5,10 @@ mod IndexFiles
 pub mod Judging
 pub mod Marked
 pub mod Names
+pub mod OwningDone
+pub mod OwningIds
+pub mod OwningRuns
+pub mod OwningSets
 pub mod Publications
 pub mod ReadingAsked
 pub mod ReadingServed

@@ -1,5 +1,5 @@
 -- What a request is answered that the rules on access let pass.
-use Rattle.std.specs.Prelude.{◌≡◌, Bool, true, false, List, None, Some, Result}
+use Rattle.std.specs.Prelude.{◌≡◌, Bool, true, false, None, Some, Result}
 use Rattle.sqlite.specs.Tree.{Trees}
 use Rattle.sqlite_trees.specs.declared.store.Store.{Ghosts}
 use Rattle.reg_body.specs.declared.limits.Limits.{Limits}

@@ -1,6 +1,7 @@
 pub mod Exported
 pub mod Granted
 pub mod Named
+pub mod Owning
 pub mod Publications
 pub mod Reads
 pub mod Runs

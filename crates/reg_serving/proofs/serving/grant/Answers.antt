@@ -1,4 +1,3 @@
-use Rattle.reg_policy.specs.declared.event.Asked.TheVariants.{Faulty}
 use Rattle.reg_serving.proofs.Deciding.{as_given, faulty}
 use Rattle.reg_serving.proofs.Running.{runs_nothing}
 use Rattle.reg_serving.proofs.serving.grant.Goals as goal

@@ -1,6 +1,6 @@
 use Rattle.std.proofs.Common.{refl}
 use Rattle.reg_tables.specs.Works.{edition_in}
-use Rattle.reg_service.proofs.Opened.{opened_same}
+use Rattle.reg_service.proofs.Opened.{opened_left, opened_same}
 use Rattle.reg_service.proofs.registry.Registry.open.Goals as goal
 
 pub returns-in-Ok-clause-same : goal.returns-in-Ok-clause-same
@@ -10,3 +10,7 @@ returns-in-Ok-clause-same g c =
 pub returns-in-Err-UnknownSchema-default-clause-unknown : goal.returns-in-Err-UnknownSchema-default-clause-unknown
 returns-in-Err-UnknownSchema-default-clause-unknown g c clean is edition schema =
     c.in-Err-UnknownSchema-default.ensures.unknown clean c.in-Err-UnknownSchema-default.field-0-0-is edition schema
+
+pub returns-in-Ok-clause-left : goal.returns-in-Ok-clause-left
+returns-in-Ok-clause-left g c =
+    opened_left g.S.Store c.args.conn c.in-Ok.tables (edition_in c.in-Ok.tables) c.examined.result refl c.in-Ok.ensures.edition c.in-Ok.ensures.kept c.examined.ensures.left c.examined.ensures.clean

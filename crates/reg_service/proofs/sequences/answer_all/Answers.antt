@@ -1,0 +1,28 @@
+use Rattle.std.proofs.Common.{[], ◌+◌, take, subst, sym, refl, ◌∙◌, arith}
+use Rattle.reg_service.specs.Registries.{limits_of, tables_of}
+use Rattle.reg_service.specs.Sequences.{HasAnswered}
+use Rattle.std.proofs.lemmas.List.{take_all}
+use Rattle.reg_service.proofs.Histories.{answered_next, answered_nothing}
+use Rattle.reg_service.proofs.sequences.answer_all.Goals as goal
+
+pub loop-call-init : goal.loop-call-init
+loop-call-init g c = (
+  c.requires.tables,
+  refl,
+  λ clean s shows alone. subst (λ ts. HasAnswered g.S.Store (limits_of c.args.registry.now) s [] ts (tables_of c.args.registry.now)) (sym c.new-told.ensures.items)
+      (answered_nothing g.S.Store (limits_of c.args.registry.now) s c.growth_law.ensures.sound c.growth_law.ensures.grows (tables_of c.args.registry.now) shows alone),
+)
+
+pub loop-call-preserved : goal.loop-call-preserved
+loop-call-preserved g c = (
+  c.answer.ensures.tables,
+  c.answer.ensures.limits ∙ c.loop-call.invariant.1,
+  λ clean s shows alone. subst (λ ts. HasAnswered g.S.Store (limits_of c.args.registry.now) s (take (c.loop-call.call-index + 1) c.args.calls.now) ts (tables_of c.answer.new.registry)) (sym c.in_ok-push.ensures.items)
+      (answered_next g.S.Store (limits_of c.args.registry.now) s c.growth_law.ensures.sound c.growth_law.ensures.grows c.run_law.ensures.step c.run_law.ensures.join c.args.calls.now c.loop-call.call-index _ c.loop-call.told.items c.answer.result (tables_of c.loop-call.registry) (tables_of c.answer.new.registry) (omega arith) c.requires.fit clean
+      (c.loop-call.invariant.2 (c.answer.ensures.clean clean) s shows alone) (rw c.loop-call.invariant.1 at c.answer.ensures.told)),
+)
+
+pub returns-clause-answered : goal.returns-clause-answered
+returns-clause-answered g c clean s shows alone =
+    subst (λ cs. HasAnswered g.S.Store (limits_of c.args.registry.now) s cs c.loop-call.told.items (tables_of c.loop-call.registry)) (take_all c.loop-call.call-index c.args.calls.now (omega arith))
+    (c.loop-call.invariant.2 clean s shows alone)
