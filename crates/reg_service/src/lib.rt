@@ -4,6 +4,7 @@
 
 mod accounts;
 mod crates;
+mod exporting;
 mod finding;
 mod names;
 mod opening;
@@ -16,5 +17,6 @@ mod tokens;
 mod transactions;
 
 pub use opening::OpenFault;
+pub use reg_audit::Check;
 pub use registry::Registry;
 pub use sequences::{Call, Told, answer_all};

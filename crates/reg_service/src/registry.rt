@@ -1,6 +1,6 @@
 //! A registry over a store.
 
-ghost use Rattle.std.specs.Prelude.{◌≡◌, true, Err};
+ghost use Rattle.std.specs.Prelude.{◌≡◌, true, Err, IfOk, IsErr};
 ghost use Rattle.sqlite.specs.State.{HasCleanDisk};
 ghost use Rattle.reg_model.specs.Events.Event.{Order};
 ghost use Rattle.reg_model.specs.Steps.{IsFit};
@@ -8,16 +8,19 @@ ghost use Rattle.reg_policy.specs.Events.{command_of, reply_of};
 ghost use Rattle.reg_requests.specs.Requests.{request_of};
 ghost use Rattle.reg_service.specs.Answered.{AreUpToDate, IsAnswered};
 ghost use Rattle.reg_service.specs.Handled.{IsReplied};
+ghost use Rattle.reg_service.specs.Looked.{FailsFirst, IsIndex, IsTrueOf, Looked};
 ghost use Rattle.reg_service.specs.Registries.{has_stopped, limits_of, tables_of};
 ghost use Rattle.reg_tables.specs.Works.{held, shown};
 
+use crate::exporting::export_in;
 use crate::transactions::{command_in, parts_in};
+use reg_audit::{Check, audit};
 use reg_body::Limits;
 use reg_model::AdminRefusal;
 use reg_policy::{AdminCommand, AdminReply, Rule};
 use reg_replies::Reply;
 use reg_requests::{ApiRequest, read_request};
-use reg_tables::Tables;
+use reg_tables::{StoreFault, Tables};
 use sqlite::{Alter, Connection};
 use std::alloc::Global;
 
@@ -77,6 +80,34 @@ impl<S: Alter> Registry<S> {
             return Reply::Denied(Rule::S1);
         };
         parts_in(alloc, &mut self.tables, &self.limits, &parts)
+    }
+
+    /// The files of the index, each behind its path: the config, then each crate's in the order of
+    /// the canonical texts. Nothing is changed.
+    pub fn export(&mut self, alloc: Global) -> Result<Vec<(String, Vec<u8>)>, StoreFault>
+        requires { AreUpToDate S.Store (tables_of self.old) }
+        ensures exported { IsTrueOf S.Store IsIndex result (tables_of self.old)
+            (tables_of self.new) }
+        ensures looked { Looked S.Store (tables_of self.old) (tables_of self.new) }
+        ensures limits { limits_of self.new ≡ limits_of self.old }
+        ensures stopped { has_stopped self.old ≡ true → IsErr result }
+    {
+        export_in(alloc, &mut self.tables)
+    }
+
+    /// The first check of the rows that fails; where all pass, none. Nothing is changed.
+    pub fn audit(&mut self, alloc: Global) -> Result<Option<Check>, StoreFault>
+        requires { AreUpToDate S.Store (tables_of self.old) }
+        ensures found { HasCleanDisk (shown S.Store (tables_of self.new)) → IfOk result
+            (FailsFirst S.Store (tables_of self.old)) }
+        ensures looked { Looked S.Store (tables_of self.old) (tables_of self.new) }
+        ensures limits { limits_of self.new ≡ limits_of self.old }
+        ensures stopped { has_stopped self.old ≡ true → IsErr result }
+    {
+        if self.tables.is_shut() {
+            return Err(StoreFault);
+        }
+        audit(alloc, &mut self.tables)
     }
 
     /// The store, with what it holds.

@@ -1,5 +1,7 @@
-mod Deciding
 pub mod ConfigText
+mod Deciding
+mod ExportAsked
+mod IndexFiles
 pub mod Judging
 pub mod Marked
 pub mod Names
@@ -10,4 +12,5 @@ pub mod OwningSets
 pub mod Publications
 pub mod ReadingAsked
 pub mod ReadingServed
+mod Rising
 pub mod Running

@@ -84,11 +84,14 @@ entries_are s n (p ∷ ps) = one (collides p.name n) refl (filter (λ p. collide
     one true is qs h = let same = same_bytes (canon p.name) (canon n) is in λ i. (p.stem, finset.contains s.yanked (same i, p.version)) ∷ h i
     one false is qs h = h
 
+pub entries_told : (s : Registry) (n : Text) (list : List Version) → map shown_version list ≡ map (version_shown s.yanked) (versions s n) → map entry_of_version list ≡ map (λ p. (p.stem, is_yanked s n p.version)) (versions s n)
+entries_told s n list lists = sym (maps_twice shown_version shown_entry list) ∙ ap (map shown_entry) lists ∙ entries_are s n s.publications
+
 pub index_served : (path : Text) (list : List Version) (text : Vec ℕ Global) (db : Trees) → text.items ≡ file_text (map entry_of_version list) → ListsVersionsAt path db list
     → (limits : Limits) (digest : Text) → IsLet digest (action_of (Index path)) db → Serves limits (Some digest) (Index path) db db (Told (Done Plain text))
 unfolding done
 index_served path list text db made lists limits digest lets = told_served limits digest (Index path) (Done Plain text) db db (λ ids s h.
-    let same = sym (maps_twice shown_version shown_entry list) ∙ ap (map shown_entry) (lists ids s h) ∙ entries_are s (unwrap_or (name_at path) []) s.publications in
+    let same = entries_told s (unwrap_or (name_at path) []) list (lists ids s h) in
     (denied_by_others limits digest (Index path) s (lets ids s h), (refl, refl, made ∙ ap file_text same), refl))
 
 pub config_served : (base : Text) (text : Vec ℕ Global) (db : Trees) → text.items ≡ config_text base → TellsBase db base

@@ -1,3 +1,4 @@
+pub mod Exported
 pub mod Granted
 pub mod Named
 pub mod Owning

@@ -10,6 +10,7 @@
 #![tactic(auto)]
 
 mod bodies;
+mod exporting;
 mod marking;
 mod naming;
 mod owning;
@@ -18,6 +19,7 @@ mod reading;
 mod served;
 mod serving;
 
+pub use exporting::export_all;
 pub use naming::find_named;
 pub use served::Served;
 pub use serving::serve;

@@ -19,7 +19,7 @@ use sqlite::Alter;
 use std::alloc::Global;
 
 /// The base of the registry.
-fn find_base<S: Alter>(work: &mut Work<'_, S>) -> Result<String, StoreFault>
+pub(crate) fn find_base<S: Alter>(work: &mut Work<'_, S>) -> Result<String, StoreFault>
     requires { IsAtWork S.Store work.old }
     ensures { Asks S.Store work.old work.new result (λ db base. TellsBase db (string_bytes base)) }
 {

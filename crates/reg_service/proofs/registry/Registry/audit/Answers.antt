@@ -1,0 +1,24 @@
+use Rattle.std.proofs.Common.{◌≡◌, Option, subst}
+use Rattle.sqlite.specs.Effect.{Database}
+use Rattle.sqlite.specs.Tree.{Trees}
+use Rattle.reg_audit.specs.Checks.{IsFirst}
+use Rattle.reg_audit.specs.declared.check.Check.{Check}
+use Rattle.reg_schema.specs.declared.edition.Edition.{Edition}
+use Rattle.reg_schema.specs.declared.edition.Edition.TheVariants.{First, Second}
+use Rattle.reg_stored.specs.declared.all_rows.AllRows.{AllRows}
+use Rattle.reg_stored.specs.WholeRows.{AreAllRows}
+use Rattle.reg_stored.proofs.Results.{if_ok}
+use Rattle.reg_tables.specs.Upgrades.{AreBegun}
+use Rattle.reg_tables.specs.Works.{edition_in, shown}
+use Rattle.reg_service.specs.Registries.{tables_of}
+use Rattle.reg_service.proofs.registry.Registry.audit.Goals as goal
+
+-- tables of schema 2 are checked as they are
+as_they_are : (e : Edition) (d : Database) (found : Option Check) → e ≡ Second → (db : Trees) × AreBegun e d db × (it : AllRows) × AreAllRows it db × IsFirst it db found → (it : AllRows) × AreAllRows it d.trees × IsFirst it d.trees found
+as_they_are First d found is h = absurd cc
+as_they_are Second d found is (db, same, it, rows, first) = (it, subst (AreAllRows it) same rows, subst (λ t. IsFirst it t found) same first)
+
+pub returns-clause-found : goal.returns-clause-found
+returns-clause-found g c clean =
+    let old = tables_of c.args.self.now in
+    if_ok c.audit.result (λ found. as_they_are (edition_in old) (shown g.S.Store old).now found c.requires.second) (c.audit.ensures.found clean)

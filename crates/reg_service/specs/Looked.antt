@@ -1,0 +1,42 @@
+-- Calls that only look at the tables of a registry, and what they tell.
+use Rattle.std.specs.Prelude.{◌≡◌, ℕ, map, IfOk, Option, Result, String, Vec}
+use Rattle.std.specs.declared.alloc.Global.{Global}
+use Rattle.sqlite.specs.State.{HasCleanDisk}
+use Rattle.sqlite.specs.Tree.{Trees}
+use Rattle.sqlite_trees.specs.declared.store.Store.{Ghosts}
+use Rattle.reg_audit.specs.Checks.{IsFirst}
+use Rattle.reg_audit.specs.declared.check.Check.{Check}
+use Rattle.reg_model.specs.Crates.{exported}
+use Rattle.reg_model.specs.Registry.{Registry}
+use Rattle.reg_serving.specs.Exported.{texts_of}
+use Rattle.reg_stored.specs.declared.all_rows.AllRows.{AllRows}
+use Rattle.reg_stored.specs.WholeRows.{AreAllRows}
+use Rattle.reg_tables.specs.declared.tables.Tables.{Tables}
+use Rattle.reg_tables.specs.Works.{is_shut, shown}
+use Rattle.reg_service.specs.Answered.{AreUpToDate, Shows}
+
+-- The tables are only looked at: they hold the registry that they held, and a stop leaves nothing
+-- that it could not leave before.
+pub record Looked {S : Type 0} (g : Ghosts S) (old new : Tables S) : Type 0 where
+  pub shows : HasCleanDisk (shown g new) → (s : Registry) → Shows s (shown g old)
+      → Shows s (shown g new)
+  pub left : HasCleanDisk (shown g new) → (db : Trees) → (shown g new).may_leave db
+      → (shown g old).may_leave db
+  pub tables : AreUpToDate g new
+  pub clean : HasCleanDisk (shown g new) → HasCleanDisk (shown g old)
+  pub same_mode : is_shut new ≡ is_shut old
+
+-- whatever registry the tables held, what is answered is true of it
+abbrev pub IsTrueOf : {S T E : Type 0} → Ghosts S → (Registry → T → Type 0) → Result T E
+    → Tables S → Tables S → Type 0
+IsTrueOf g tells r old new =
+    HasCleanDisk (shown g new) → (s : Registry) → Shows s (shown g old) → IfOk r (tells s)
+
+-- these are the files of the index, each behind its path
+abbrev pub IsIndex : Registry → Vec (String Global × Vec ℕ Global) Global → Type 0
+IsIndex s files = map texts_of files.items ≡ exported s
+
+-- this check of the rows fails first; where there is none, all pass
+abbrev pub FailsFirst : {S : Type 0} → Ghosts S → Tables S → Option Check → Type 0
+FailsFirst g t found = let db = (shown g t).now.trees in
+    (it : AllRows) × AreAllRows it db × IsFirst it db found

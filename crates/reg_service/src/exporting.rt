@@ -1,0 +1,25 @@
+//! The index as files, in one transaction of which nothing is kept.
+
+ghost use Rattle.std.specs.Prelude.{◌≡◌, true, IsErr};
+ghost use Rattle.reg_tables.specs.Works.{is_shut};
+ghost use Rattle.reg_service.specs.Answered.{AreUpToDate};
+ghost use Rattle.reg_service.specs.Looked.{IsIndex, IsTrueOf, Looked};
+
+use reg_serving::export_all;
+use reg_tables::{StoreFault, Tables};
+use sqlite::Alter;
+use std::alloc::Global;
+
+/// The files of the index, each behind its path.
+pub(crate) fn export_in<S: Alter>(
+    alloc: Global,
+    tables: &mut Tables<S>,
+) -> Result<Vec<(String, Vec<u8>)>, StoreFault>
+    requires { AreUpToDate S.Store tables.old }
+    ensures exported { IsTrueOf S.Store IsIndex result tables.old tables.new }
+    ensures looked { Looked S.Store tables.old tables.new }
+    ensures stopped { is_shut tables.old ≡ true → IsErr result }
+{
+    let mut work = tables.work()?;
+    export_all(alloc, &mut work)
+}
