@@ -24,7 +24,7 @@ Shows s at = IsTrue at.is_open → Are s at.now.trees
 abbrev pub LeavesAlone : Registry → State → Type 0
 LeavesAlone s at = (db : Trees) → at.may_leave db → Stands s db
 
--- All is as it was: the same registry is held, a stop leaves it alone, and it leaves nothing that it
+-- All is as it was: the same registry is held, a stop leaves it alone, and leaves nothing that it
 -- could not leave before.
 pub record Stays {S : Type 0} (g : Ghosts S) (s : Registry) (old new : Tables S) : Type 0 where
   pub shows : Shows s (shown g new)

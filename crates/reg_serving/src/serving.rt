@@ -55,7 +55,8 @@ fn grant<S: Alter>(
     requires at_work { IsAtWork S.Store work.old }
     requires goes_on { has_failed work.old ≡ false }
     requires fit { IsFit (Ask None (asked_of asked.now)) }
-    ensures { GrantsTo limits.now digest.now S.Store (asked_of asked.now) result work.old work.new }
+    ensures { GrantsTo limits.now digest.now S.Store (asked_of asked.now)
+        result work.old work.new }
 {
     match asked {
         Asked::Faulty(rule) => Ok(Served::Told(Reply::Denied(*rule))),
