@@ -1,5 +1,5 @@
 -- What the ends of a transaction make of an event.
-use Rattle.std.proofs.Common.{◌≡◌, ◌⊎◌, inl, inr, true, false, refl, sym, ap, subst, ◌∙◌, arith, IsTrue, Err}
+use Rattle.std.proofs.Common.{◌≡◌, ◌⊎◌, inl, inr, false, refl, sym, ap, subst, ◌∙◌, arith, IsTrue}
 use Rattle.sqlite.specs.Tree.{Trees}
 use Rattle.sqlite.specs.Effect.{Database}
 use Rattle.sqlite_trees.specs.declared.store.Store.{Ghosts}
@@ -11,10 +11,10 @@ use Rattle.reg_model.specs.Events.{Event, Answer}
 use Rattle.reg_model.specs.Steps.{IsFit, Step, no_room, outcome}
 use Rattle.reg_model.specs.Laws.{StepsKeepSound}
 use Rattle.reg_schema.specs.States.{IsUndone, LeavesCommit, Refuses}
-use Rattle.reg_stored.specs.Stands.{Holds, Ids, Stands}
+use Rattle.reg_stored.specs.Stands.{Stands}
 use Rattle.reg_tables.specs.Ends.{Begins, IsCommitted, IsDropped, IsRefused, SeesAll}
 use Rattle.reg_tables.specs.Looks.{Looks}
-use Rattle.reg_tables.specs.Works.{AreOurs, IsLeft, has_failed, held, is_shut, rows_seen, seen, shown}
+use Rattle.reg_tables.specs.Works.{AreOurs, IsLeft, has_failed, held, rows_seen, seen, shown}
 use Rattle.reg_tables.specs.declared.tables.Tables.{Tables}
 use Rattle.reg_tables.specs.declared.work.Work.{Work}
 use Rattle.reg_service.specs.Answered.{Answers, Are, LeavesAlone, Shows, Stays}

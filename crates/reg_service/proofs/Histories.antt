@@ -1,5 +1,5 @@
 -- One more event behind a run.
-use Rattle.std.proofs.Common.{◌≡◌, ◌⊎◌, ◌++◌, ◌+◌, ◌<◌, ℕ, suc, arith, get_or, inl, inr, length, List, [], ◌∷◌, map, take, refl, sym, ap, subst, ◌∙◌}
+use Rattle.std.proofs.Common.{◌≡◌, ◌++◌, ◌+◌, ◌<◌, ℕ, suc, arith, get_or, inl, inr, length, List, [], ◌∷◌, map, take, refl, sym, ap, subst, ◌∙◌}
 use Rattle.std.specs.List.{AllByRecursion}
 use Rattle.std.proofs.Math.Seq.{take-suc}
 use Rattle.sqlite_trees.proofs.ListLemmas.{all-get_or}

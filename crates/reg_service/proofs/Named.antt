@@ -1,5 +1,5 @@
 -- Crates and accounts that are named by texts.
-use Rattle.std.proofs.Common.{◌≡◌, ◌∷◌, [], ◌&&◌, not, is_none, ℕ, Bool, true, false, Option, Some, None, is_some, sym, ap, ◌∙◌}
+use Rattle.std.proofs.Common.{◌≡◌, ◌∷◌, [], ◌&&◌, not, is_none, ℕ, Bool, true, Option, Some, None, sym, ap, ◌∙◌}
 use Rattle.std.specs.Prelude.{Ok, Err}
 use Rattle.sqlite.specs.Tree.{Trees}
 use Rattle.reg_names.specs.Names.{is_name}

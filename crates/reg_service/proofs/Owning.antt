@@ -14,7 +14,7 @@ use Rattle.reg_model.specs.Events.Answer.{Done, Refused}
 use Rattle.reg_model.specs.Events.Command.{OwnerAdd, ReaderAdd, ReaderRemove}
 use Rattle.reg_model.specs.Events.Event.{Order}
 use Rattle.reg_model.specs.Refusals.{refused}
-use Rattle.reg_model.specs.Registry.{Owner, Registry, Text, id_of_login, ids_of, owner_cmp, text_cmp}
+use Rattle.reg_model.specs.Registry.{Owner, Registry, Text, id_of_login, owner_cmp}
 use Rattle.reg_model.proofs.Keys.{owner_apart, owner_total}
 use Rattle.reg_statements.specs.declared.crates.Crate.{Crate}
 use Rattle.reg_stored.specs.Calls.{AddsOwner, AddsReader, RemovesReader, Restricts}

@@ -1,6 +1,5 @@
 -- What the ends of a transaction make of a request.
-use Rattle.std.proofs.Common.{◌≡◌, ◌⊎◌, inl, inr, true, false, refl, sym, ap, subst, ◌∙◌, IsTrue, Option, Some, ℕ}
-use Rattle.sqlite.specs.Tree.{Trees}
+use Rattle.std.proofs.Common.{◌≡◌, inl, inr, false, refl, sym, ap, subst, IsTrue, Option, Some, ℕ}
 use Rattle.sqlite.specs.State.{HasCleanDisk, Survives}
 use Rattle.sqlite_trees.specs.declared.store.Store.{Ghosts}
 use Rattle.reg_body.specs.declared.limits.Limits.{Limits}
@@ -12,7 +11,6 @@ use Rattle.reg_model.specs.Events.Event.{Ask}
 use Rattle.reg_model.specs.Laws.{StepsKeepSound}
 use Rattle.reg_model.specs.Registry.{Registry, Text}
 use Rattle.reg_model.specs.Steps.{IsFit, Outcome, outcome}
-use Rattle.reg_replies.specs.Replies.{Says}
 use Rattle.reg_replies.specs.declared.reply.Reply.{Reply}
 use Rattle.reg_replies.specs.declared.reply.Reply.TheVariants.{Denied}
 use Rattle.reg_schema.specs.States.{LeavesCommit}
@@ -23,7 +21,7 @@ use Rattle.reg_tables.specs.Looks.{Looks}
 use Rattle.reg_tables.specs.Works.{AreOurs, IsLeft, has_failed, rows_seen, seen, shown}
 use Rattle.reg_tables.specs.declared.tables.Tables.{Tables}
 use Rattle.reg_tables.specs.declared.work.Work.{Work}
-use Rattle.reg_service.specs.Answered.{Answers, Shows, Stays}
+use Rattle.reg_service.specs.Answered.{Shows, Stays}
 use Rattle.reg_service.specs.Handled.{RepliesTo, Sought}
 use Rattle.reg_service.proofs.Frames as frame
 

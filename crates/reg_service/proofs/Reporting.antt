@@ -1,10 +1,8 @@
 -- Commands that report.
-use Rattle.std.proofs.Common.{◌≡◌, ◌∷◌, [], not, true, Some, None, refl, sym, ap, ◌∙◌}
-use Rattle.std.specs.Prelude.{string_bytes}
-use Rattle.std.specs.declared.string.String.{String}
+use Rattle.std.proofs.Common.{◌≡◌, ◌∷◌, [], not, Some, None, refl, sym, ap, ◌∙◌}
 use Rattle.sqlite.specs.Tree.{Trees}
 use Rattle.reg_body.specs.declared.limits.Limits.{Limits}
-use Rattle.reg_names.specs.Names.{is_name, name_of}
+use Rattle.reg_names.specs.Names.{name_of}
 use Rattle.reg_model.specs.declared.rule.AdminRefusal.TheVariants as refusal
 use Rattle.reg_model.specs.Events.Answer.{Refused, Report}
 use Rattle.reg_model.specs.Events.Command.{Access, Crates, Tokens, Users}

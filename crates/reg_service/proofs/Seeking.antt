@@ -1,7 +1,7 @@
 -- From what is found to the reply to a search.
-use Rattle.std.proofs.Common.{◌≡◌, ◌⊎◌, inl, inr, refl, sym, ap, subst, ◌∙◌, ℕ, List, Some}
+use Rattle.std.proofs.Common.{◌≡◌, inl, inr, refl, ap, ◌∙◌, ℕ, Some}
 use Rattle.reg_model.specs.declared.rule.Rule.TheVariants as rule
-use Rattle.reg_model.specs.Events.{Asked, FoundCrates}
+use Rattle.reg_model.specs.Events.{FoundCrates}
 use Rattle.reg_model.specs.Events.Asked.{Read}
 use Rattle.reg_model.specs.Events.Reading.{Search}
 use Rattle.reg_model.specs.Registry.{Registry, Text}

@@ -1,16 +1,14 @@
 -- A command within a transaction is the command of the registry that the rows stand for.
-use Rattle.std.specs.Prelude.{◌≡◌, ◌&&◌, ◌||◌, ◌==◌, ◌+◌, ℕ, nat_le, nat_lt, not, Bool, true, false, is_some, List, [], ◌∷◌, length, Option, None, Some, Result, Ok, Err, Vec}
+use Rattle.std.specs.Prelude.{◌≡◌, ◌||◌, ◌==◌, ◌+◌, ℕ, nat_le, nat_lt, not, Bool, true, false, is_some, List, [], ◌∷◌, length, Option, Some, Result, Ok, Err, Vec}
 use Rattle.std.specs.declared.alloc.Global.{Global}
 use Rattle.std.specs.List.{find, list_all}
 use Rattle.std.specs.Option.{option_map}
 use Rattle.sqlite.specs.Tree.{Trees}
 use Rattle.sqlite_trees.specs.declared.store.Store.{Ghosts}
 use Rattle.reg_body.specs.declared.limits.Limits.{Limits}
-use Rattle.reg_names.specs.Names.{canon, is_name}
 use Rattle.reg_names.specs.Patterns.{is_pattern}
 use Rattle.reg_model.specs.declared.rule.AdminRefusal.{AdminRefusal}
 use Rattle.reg_model.specs.declared.rule.AdminRefusal.TheVariants as refusal
-use Rattle.reg_model.specs.Crates.{exists}
 use Rattle.reg_model.specs.declared.endpoint.Endpoints.{Endpoints}
 use Rattle.reg_model.specs.Changes.{with_token}
 use Rattle.reg_model.specs.Events.{Answer, Command, Event}
@@ -22,9 +20,8 @@ use Rattle.reg_model.specs.Registry.{Registry, Text, id_of_login, token_of}
 use Rattle.reg_model.specs.Steps.{Outcome, outcome, unless_refused}
 use Rattle.reg_policy.specs.declared.event.AdminReply.{AdminReply}
 use Rattle.reg_policy.specs.Events.{reply_of}
-use Rattle.reg_statements.specs.declared.crates.Crate.{Crate}
 use Rattle.reg_stored.specs.Calls.{Tells}
-use Rattle.reg_stored.specs.Stands.{Holds, Ids, Stands, spelling_at}
+use Rattle.reg_stored.specs.Stands.{Holds, Ids, Stands}
 use Rattle.reg_tables.specs.declared.work.StoreFault.{StoreFault}
 use Rattle.reg_tables.specs.declared.work.Work.{Work}
 use Rattle.reg_serving.specs.Named.{IsNamed}

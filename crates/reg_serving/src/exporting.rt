@@ -1,6 +1,6 @@
 //! The index as files, each with its path.
 
-ghost use Rattle.std.specs.Prelude.{◌≡◌, ◌∷◌, [], ◌++◌, codes, false, map, IfOk, OnOk, string_bytes};
+ghost use Rattle.std.specs.Prelude.{◌≡◌, ◌∷◌, [], ◌++◌, codes, false, map, IfOk, OnOk};
 ghost use Rattle.reg_line.specs.Config.{config_text};
 ghost use Rattle.reg_line.specs.File.{file_text};
 ghost use Rattle.reg_names.specs.Names.{path_of};

@@ -84,8 +84,8 @@ pub fn serve<S: Alter>(
     requires at_work { IsAtWork S.Store work.old }
     requires goes_on { has_failed work.old ≡ false }
     requires fit { IsFit (Ask None (asked_of asked.now)) }
-    ensures { IsServed limits.now S.Store (option_map (λ d. d.now) digest.entry) (asked_of asked.now)
-        result work.old work.new }
+    ensures { IsServed limits.now S.Store (option_map (λ d. d.now) digest.entry)
+        (asked_of asked.now) result work.old work.new }
 {
     access_law();
     let Some(digest) = digest else {

@@ -1,7 +1,6 @@
 use Rattle.std.proofs.Common.{sym, subst}
 use Rattle.reg_model.specs.Events.Event.{Ask}
 use Rattle.reg_model.specs.Steps.{IsFit}
-use Rattle.reg_service.specs.Handled.{IsReplied}
 use Rattle.reg_service.proofs.Replied.{no_memory}
 use Rattle.reg_service.proofs.transactions.parts_in.Goals as goal
 

@@ -1,4 +1,4 @@
-use Rattle.std.proofs.Common.{arith, None, sym, subst, refl, ◌∙◌}
+use Rattle.std.proofs.Common.{arith, None, sym, subst, ◌∙◌}
 use Rattle.std.specs.Option.{option_map}
 use Rattle.sqlite.specs.State.{HasCleanDisk}
 use Rattle.reg_policy.specs.Events.{asked_of}
