@@ -1,10 +1,10 @@
 //! Whether the plain registry answers alike.
 
-use crate::replies::order_text;
 use reg_model::AdminRefusal;
 use reg_policy::{AdminReply, Answer, OwnerEntry};
 use reg_replies::{OwnersBody, Reply};
 use std::alloc::{AllocError, Global};
+use test_service::order_text;
 
 fn owners_body(alloc: Global, owners: &[OwnerEntry]) -> Result<Vec<u8>, AllocError> {
     let mut body = OwnersBody::new(alloc);

@@ -4,7 +4,7 @@ use sqlite::Error;
 use std::alloc::AllocError;
 
 /// Why a script could not be played.
-#[derive(Debug)]
+#[derive(Debug, Drop)]
 pub(crate) enum Fault {
     Memory,
     Store,

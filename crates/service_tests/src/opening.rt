@@ -1,11 +1,11 @@
 //! Registries are made and opened.
 
 use crate::fault::Fault;
-use crate::script::BASE;
 use reg_body::Limits;
 use reg_service::{OpenFault, Registry};
 use sqlite::Connection;
 use std::alloc::Global;
+use test_service::BASE;
 
 /// Why an empty store is no registry.
 fn opened_empty(alloc: Global) -> Result<Option<OpenFault>, Fault> {

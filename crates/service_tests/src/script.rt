@@ -14,24 +14,7 @@ use reg_service::Registry;
 use sqlite::{Alter, Connection};
 use std::alloc::{AllocError, Global};
 use std::process::Abort;
-
-/// The base of each registry.
-pub(crate) const BASE: &str = "http://127.0.0.1:8080";
-
-/// The registry of *two accounts*: ada's token has all endpoints, and bob's has two.
-const TWO_ACCOUNTS: &str = "user-add ada Ada -> done
-user-add bob -> done
-token-add ada publish-new,publish-update,yank,change-owners - ada -> 1
-token-add bob publish-update,yank - bob -> 2
-";
-
-/// The registry of *two accounts and a*: that of *two accounts* after ada published `a`.
-const TWO_ACCOUNTS_AND_A: &str = r#"user-add ada Ada -> done
-user-add bob -> done
-token-add ada publish-new,publish-update,yank,change-owners - ada -> 1
-token-add bob publish-update,yank - bob -> 2
-ada release a 0.1.0 -> Json {"warnings":{"invalid_badges":[],"invalid_categories":[],"other":[]}}
-"#;
+use test_service::{BASE, TWO_ACCOUNTS, TWO_ACCOUNTS_AND_A};
 
 /// What is wrong with a line; none where it is answered as it says.
 fn fault_of<S: Alter>(

@@ -4,11 +4,18 @@
 //! `owner-add a bob` is `AdminCommand::OwnerAdd("a", "bob")`.
 #![tactic(auto)]
 
+ghost use Rattle.std.specs.Prelude.{IfSome};
+ghost use Rattle.reg_model.specs.Events.Event.{Order};
+ghost use Rattle.reg_model.specs.Steps.{IsFit};
+ghost use Rattle.reg_policy.specs.Events.{command_of as order_of};
+
 use reg_policy::AdminCommand;
 use std::alloc::{AllocError, Global};
 
 /// The report that a word asks for.
-fn report(word: &str) -> Option<AdminCommand<'_>> {
+fn report(word: &str) -> Option<AdminCommand<'_>>
+    ensures { IfSome result (λ c. IsFit (Order (order_of c))) }
+{
     Some(match word {
         "users" => AdminCommand::Users,
         "tokens" => AdminCommand::Tokens,
@@ -18,7 +25,9 @@ fn report(word: &str) -> Option<AdminCommand<'_>> {
 }
 
 /// A command about an account or a token.
-fn about_account<'a>(word: &str, login: &'a str) -> Option<AdminCommand<'a>> {
+fn about_account<'a>(word: &str, login: &'a str) -> Option<AdminCommand<'a>>
+    ensures { IfSome result (λ c. IsFit (Order (order_of c))) }
+{
     Some(match word {
         "user-add" => AdminCommand::UserAdd(login, None),
         "user-disable" => AdminCommand::UserDisable(login),
@@ -29,7 +38,9 @@ fn about_account<'a>(word: &str, login: &'a str) -> Option<AdminCommand<'a>> {
 }
 
 /// A command about a crate.
-fn about_crate<'a>(word: &str, name: &'a str) -> Option<AdminCommand<'a>> {
+fn about_crate<'a>(word: &str, name: &'a str) -> Option<AdminCommand<'a>>
+    ensures { IfSome result (λ c. IsFit (Order (order_of c))) }
+{
     Some(match word {
         "reserve" => AdminCommand::Reserve(name),
         "unreserve" => AdminCommand::Unreserve(name),
@@ -41,7 +52,9 @@ fn about_crate<'a>(word: &str, name: &'a str) -> Option<AdminCommand<'a>> {
 }
 
 /// A command about two names.
-fn about_two<'a>(word: &str, one: &'a str, other: &'a str) -> Option<AdminCommand<'a>> {
+fn about_two<'a>(word: &str, one: &'a str, other: &'a str) -> Option<AdminCommand<'a>>
+    ensures { IfSome result (λ c. IsFit (Order (order_of c))) }
+{
     Some(match word {
         "user-add" => AdminCommand::UserAdd(one, Some(other)),
         "owner-add" => AdminCommand::OwnerAdd(one, other),
@@ -52,7 +65,9 @@ fn about_two<'a>(word: &str, one: &'a str, other: &'a str) -> Option<AdminComman
 }
 
 /// The command that the words are; none where they are another, or none.
-pub fn command_of<'a>(words: &[&'a str]) -> Option<AdminCommand<'a>> {
+pub fn command_of<'a>(words: &[&'a str]) -> Option<AdminCommand<'a>>
+    ensures { IfSome result (λ c. IsFit (Order (order_of c))) }
+{
     match words {
         [word] => report(word),
         [word, name] => about_account(word, name).or(about_crate(word, name)),

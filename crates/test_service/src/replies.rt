@@ -3,6 +3,7 @@
 use reg_model::AdminRefusal;
 use reg_policy::AdminReply;
 use reg_replies::{Kind, Reply};
+use reg_service::Told;
 use std::alloc::{AllocError, Global};
 
 /// A body of UTF-8; a line feed stands as `<0a>`.
@@ -21,7 +22,7 @@ fn done_text(alloc: Global, kind: Kind, body: &[u8]) -> Result<String, AllocErro
 }
 
 /// A reply as scripts write it.
-pub(crate) fn reply_text(alloc: Global, reply: &Reply) -> Result<String, AllocError> {
+pub fn reply_text(alloc: Global, reply: &Reply) -> Result<String, AllocError> {
     match reply {
         Reply::Done(kind, body) => done_text(alloc, *kind, body),
         Reply::Denied(rule) => format!(in alloc; "{rule:?}"),
@@ -30,7 +31,7 @@ pub(crate) fn reply_text(alloc: Global, reply: &Reply) -> Result<String, AllocEr
 }
 
 /// What a command is answered, as scripts write it.
-pub(crate) fn order_text(
+pub fn order_text(
     alloc: Global,
     told: &Result<AdminReply, AdminRefusal>,
 ) -> Result<String, AllocError> {
@@ -39,5 +40,13 @@ pub(crate) fn order_text(
         Ok(AdminReply::Id(id)) => format!(in alloc; "{id}"),
         Ok(AdminReply::Text(report)) => body_text(alloc, report.as_bytes()),
         Err(refusal) => format!(in alloc; "{refusal:?}"),
+    }
+}
+
+/// What a call is told, as scripts write it.
+pub fn told_text(alloc: Global, told: &Told) -> Result<String, AllocError> {
+    match told {
+        Told::Reply(reply) => reply_text(alloc, reply),
+        Told::Command(told) => order_text(alloc, told),
     }
 }

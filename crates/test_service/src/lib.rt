@@ -1,0 +1,20 @@
+//! What the tests of the service share: words of scripts that are calls, what calls are told as
+//! texts, and the registries of the worked examples as the lines that make them.
+//!
+//! A line is a command or a request, an arrow, and its whole answer. Who asks is ada, bob, no-token,
+//! or the text of a token:
+//!
+//! ```text
+//! reserve acme -> done
+//! bob yank a 0.1.0 -> A9
+//! ```
+#![tactic(auto)]
+
+mod calls;
+mod replies;
+mod requests;
+mod setups;
+
+pub use calls::{Parts, answer};
+pub use replies::{order_text, reply_text, told_text};
+pub use setups::{BASE, TWO_ACCOUNTS, TWO_ACCOUNTS_AND_A};
