@@ -1,9 +1,10 @@
 //! Every kind of request and every command over files that stop at some call, and with scarce
 //! memory.
 //!
-//! A line of [`calls`] is a call and its answer. Whatever stops it, the registry that is found again
-//! is that before or that after, and that after once the answer was given. Where memory is scarce
-//! the answer is the same or that of no room, which changes nothing.
+//! A line of [`calls`] is a call and its answer.
+//! Whatever stops it, the registry that is found again is that before or that after, and that after
+//! once the answer was given.
+//! Where memory is scarce the answer is the same or that of no room, which changes nothing.
 #![tactic(auto)]
 
 #[cfg(test)]

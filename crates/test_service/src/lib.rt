@@ -1,8 +1,8 @@
 //! What the tests of the service share: words of scripts that are calls, what calls are told as
 //! texts, and the registries of the worked examples as the lines that make them.
 //!
-//! A line is a command or a request, an arrow, and its whole answer. Who asks is ada, bob, no-token,
-//! or the text of a token:
+//! A line is a command or a request, an arrow, and its whole answer.
+//! Who asks is ada, bob, no-token, or the text of a token:
 //!
 //! ```text
 //! reserve acme -> done
