@@ -22,5 +22,5 @@ pub lists_last : (word rest : List ℕ) (at : ℕ) → at ≡ position_or_len is
     → lists_word word rest ≡ same_word (trim_ows rest) word
 lists_last word rest at is past =
     ap (list_any (λ part. same_word (trim_ows part) word))
-        (slice_split_none is_comma rest (λ i d l. fails_before_first is_comma rest i d (omega arith)))
+    (slice_split_none is_comma rest (λ i d l. fails_before_first is_comma rest i d (omega arith)))
     ∙ or-false (same_word (trim_ows rest) word)

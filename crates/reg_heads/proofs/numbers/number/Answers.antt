@@ -1,4 +1,4 @@
-use Rattle.std.proofs.Common.{arith, ◌≡◌, true, min, ◌*◌, ◌+◌, ◌-◌, ◌^◌, ◌∙◌, ap, get_or}
+use Rattle.std.proofs.Common.{◌∙◌}
 use Rattle.std.specs.Char.{is_ascii_digit}
 use Rattle.std.proofs.lemmas.List.Sums.{AllPass-from_list_all}
 use Rattle.reg_heads.proofs.Digits.{number_more}

@@ -1,4 +1,4 @@
-use Rattle.std.proofs.Common.{arith, ◌≡◌, ◌∙◌, sym, ap, true, false, ◌||◌, take, drop}
+use Rattle.std.proofs.Common.{◌≡◌, ◌∙◌, sym, ap, true, false, ◌||◌, take, drop}
 use Rattle.httparse.specs.Grammar.{trim_ows}
 use Rattle.reg_heads.specs.Fields.{same_word, lists_word}
 use Rattle.reg_heads.proofs.Lists.{lists_more, lists_last}

@@ -1,4 +1,4 @@
-use Rattle.std.proofs.Common.{rules, ◌∙◌, ap, reverse}
+use Rattle.std.proofs.Common.{◌∙◌, ap, reverse}
 use Rattle.httparse.specs.Grammar.{trim_ows, skip_ows}
 use Rattle.reg_heads.proofs.words.trim.Goals as goal
 
