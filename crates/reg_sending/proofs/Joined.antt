@@ -1,10 +1,10 @@
 -- Texts that are sent one after another, and bytes in several calls.
-use Rattle.std.proofs.Common.{◌≡◌, ℕ, zero, suc, ◌+◌, ◌-◌, ◌<◌, List, ◌++◌, length, take, drop, Option, Result, Ok, Err, sym, ap, ◌∙◌, append_assoc, take-append-drop, length-append, arith}
+use Rattle.std.proofs.Common.{[], refl, append-nil, ◌≡◌, ℕ, zero, suc, ◌+◌, ◌-◌, ◌<◌, List, ◌++◌, length, take, drop, Option, Result, Ok, Err, sym, ap, ◌∙◌, append_assoc, take-append-drop, length-append, arith}
 use Rattle.std.specs.Io.KnownBytes.{Appends}
-use Rattle.std.proofs.KnownBytes.{Appends-trans}
+use Rattle.std.proofs.KnownBytes.{Appends-nil, Appends-trans}
 use Rattle.reg_sending.specs.declared.bytes.SendFault.{SendFault}
 use Rattle.reg_sending.specs.declared.bytes.SendFault.TheVariants.{Spent, Write}
-use Rattle.reg_sending.specs.Sent.{AppendsFront, IsStopped, Sends, SendsAll, Sink, after}
+use Rattle.reg_sending.specs.Sent.{AppendsFront, Piles, IsStopped, Sends, SendsAll, Sink, after}
 
 -- one more write: the front grows by what the writer took of the rest
 pub took_more : (a b c : Option (List ℕ)) (bytes front rest : List ℕ) (n : ℕ)
@@ -85,3 +85,33 @@ pub sends_behind : (a b : List ℕ) (writes used : ℕ) (s t u : Sink) (r : Resu
     → Sends (after used r) (a ++ b) writes s u
 sends_behind a b writes used s t u (Ok more) x y = all_behind a b writes used more s t u x y
 sends_behind a b writes used s t u (Err f) x y = stopped_behind f a b writes used s t u x y
+
+-- a text is put behind one that waits
+
+pub sends_nothing : (writes : ℕ) (s : Sink) → SendsAll [] writes 0 s s
+sends_nothing writes s = record {
+  all = Appends-nil s.contents;
+  within = omega arith;
+  some = λ h. absurd (omega (arith, h));
+  calls = omega arith;
+  failures = refl;
+}
+
+pub piles_both : (waiting text : List ℕ) (writes : ℕ) (s : Sink)
+    → Piles waiting text (waiting ++ text) writes 0 s s
+piles_both waiting text writes s =
+    record { sent = []; whole = refl; sends = sends_nothing writes s }
+
+pub piles_second : (waiting text : List ℕ) (writes used : ℕ) (s t : Sink)
+    → SendsAll waiting writes used s t → Piles waiting text text writes used s t
+piles_second waiting text writes used s t h =
+    record { sent = waiting; whole = refl; sends = h }
+
+pub piles_none : (waiting text : List ℕ) (writes used more : ℕ) (s t u : Sink)
+    → SendsAll waiting writes used s t → SendsAll text (writes - used) more t u
+    → Piles waiting text [] writes (used + more) s u
+piles_none waiting text writes used more s t u x y = record {
+  sent = waiting ++ text;
+  whole = sym (append-nil (waiting ++ text));
+  sends = all_behind waiting text writes used more s t u x y;
+}

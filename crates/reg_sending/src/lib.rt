@@ -5,7 +5,9 @@
 
 mod bytes;
 pub mod laws;
+mod pile;
 mod sending;
 
 pub use bytes::{SendFault, write_bytes};
+pub use pile::Pile;
 pub use sending::{write_parts, write_reply};
