@@ -1,0 +1,4 @@
+pub mod Exchanges
+pub mod Streams
+pub mod Taking
+pub mod Turns

@@ -1,0 +1,19 @@
+//! HTTP/1.1 over a stream: requests are cut from the bytes, routed, answered by a registry, and
+//! their replies are written.
+//!
+//! ```
+//! let mut reader = Counted::new(input);
+//! let mut writer = Counted::new(Vec::new(alloc));
+//! let replies = serve_stream(alloc, &mut registry, &mut reader, &mut writer)?;
+//! ```
+#![tactic(auto)]
+
+mod answering;
+mod fault;
+mod reading;
+mod stream;
+mod taking;
+mod turns;
+
+pub use fault::StreamFault;
+pub use stream::serve_stream;
