@@ -1,0 +1,4 @@
+pub mod Asking
+pub mod Deciding
+pub mod Rows
+pub mod Unsent
