@@ -1,4 +1,4 @@
 pub mod Asking
-pub mod Deciding
+pub mod Decisions
 pub mod Rows
 pub mod Unsent

@@ -39,6 +39,10 @@ pub entry_back : (stem : Text) (yanked : Bool) → entry_in (entry_row (stem, ya
 entry_back stem true = refl
 entry_back stem false = refl
 
+pub lines_told : (es : List (Text × Bool)) → lines_in (map entry_row es) ≡ file_text es
+lines_told [] = refl
+lines_told ((stem, yanked) ∷ es) = λ i. line_of (entry_back stem yanked i) ++ lines_told es i
+
 pub lines_both : (rows more : List Row) → lines_in (rows ++ more) ≡ lines_in rows ++ lines_in more
 lines_both rows more = ap file_text (map-append entry_in rows more) ∙ flat_map-append line_of (map entry_in rows) (map entry_in more)
 

@@ -60,6 +60,7 @@ fn find_file<S: Alter>(work: &mut Work<'_, S>, path: &str) -> Result<Decided, St
     ensures { Asks S.Store work.old work.new result (λ db it. (digest : _)
         → IsLet digest path.now db → Decides (Some digest) path.now db it) }
 {
+    access_law();
     let found = find_crate(work, path)?;
     find_length(work, found.id)
 }

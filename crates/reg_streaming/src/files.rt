@@ -8,8 +8,8 @@ ghost use Rattle.reg_tables.specs.Walks.{IsRead};
 ghost use Rattle.reg_sending.specs.Texts.{done_head};
 ghost use Rattle.reg_streaming.specs.Files.{SendsRows};
 
-use crate::found::FoundFile;
 use crate::fault::IndexFault;
+use crate::found::FoundFile;
 use crate::lines::put_line;
 use reg_body::Counted;
 use reg_replies::{Head, Kind, reply_head};

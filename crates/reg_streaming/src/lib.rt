@@ -6,6 +6,7 @@ mod deciding;
 mod fault;
 mod files;
 mod found;
+pub mod laws;
 mod lines;
 mod sending;
 

@@ -2,7 +2,7 @@ use Rattle.std.proofs.Common.{sym, ◌∙◌}
 use Rattle.reg_access.proofs.Questions.{asks_made}
 use Rattle.reg_streaming.proofs.Asking.{refused_then}
 use Rattle.reg_stored.specs.Calls.{FindsCrate}
-use Rattle.reg_streaming.proofs.Deciding.{at_path}
+use Rattle.reg_streaming.proofs.Decisions.{at_path}
 use Rattle.reg_streaming.proofs.deciding.find_crate.Goals as goal
 
 pub returns-in-Some-2 : goal.returns-in-Some-2

@@ -1,5 +1,5 @@
 -- From what the tables tell of an index file to what is decided.
-use Rattle.std.proofs.Common.{◌≡◌, ℕ, [], Bool, Option, None, Some, refl, sym, ap, subst, ◌∙◌, map, length, unwrap_or}
+use Rattle.std.proofs.Common.{◌≡◌, ℕ, [], Option, None, Some, refl, sym, ap, subst, ◌∙◌, map, length, unwrap_or}
 use Rattle.std.specs.Prelude.{string_bytes}
 use Rattle.std.specs.FinSet as finset
 use Rattle.std.specs.List.{filter}
@@ -31,11 +31,10 @@ use Rattle.reg_statements.specs.declared.crates.Crate.{Crate}
 use Rattle.reg_stored.specs.Calls.{FindsCrate}
 use Rattle.reg_stored.specs.Changes.{told_of}
 use Rattle.reg_stored.specs.Entries.{entries}
-use Rattle.reg_stored.specs.Stands.{Ids, spelling_at}
+use Rattle.reg_stored.specs.Stands.{spelling_at}
 use Rattle.reg_streaming.specs.Decides.{Decides, HasLength, IsAtPath, IsLet, file_at}
 use Rattle.reg_streaming.specs.declared.deciding.Decided.{Decided}
 use Rattle.reg_streaming.specs.declared.deciding.Decided.TheVariants.{Denied, Found}
-use Rattle.reg_streaming.specs.declared.found.FoundFile.{FoundFile}
 
 -- no token was shown
 no_token_at : (path : Text) (db : Trees) → Decides None path db (Denied rule.A1)
@@ -97,7 +96,7 @@ some_same a b e = ap (λ o. unwrap_or o 0) e
 -- a token is let read it
 pub file_found : AccessComesFirst → (path : Text) (c : Crate) (it : Decided) (db : Trees) → IsAtPath path db c → HasLength c.id db it → (digest : Text) → IsLet digest path db → Decides (Some digest) path db it
 file_found law path c (Denied r) db at len digest lets = absurd len
-file_found law path c (Found f) db at len digest lets ids s h =
+file_found law path c (Found f) db at len digest lets = λ ids s h.
     let spelled = at ids s h in
     let n = string_bytes c.name in
     let here : spelling_at ids f.crate_id ≡ Some n = ap (spelling_at ids) len.0 ∙ spelled.0 in
