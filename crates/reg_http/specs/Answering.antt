@@ -1,28 +1,30 @@
 -- One request is answered.
-use Rattle.std.specs.Prelude.{◌≡◌, ◌+◌, Bool, length, Option, Result}
+use Rattle.std.specs.Prelude.{◌≡◌, Bool, Option, Result}
 use Rattle.sqlite.specs.State.{HasCleanDisk}
 use Rattle.sqlite_trees.specs.declared.store.Store.{Ghosts}
 use Rattle.reg_body.specs.declared.limits.Limits.{Limits}
-use Rattle.reg_heads.specs.Heads.{Facts, IsHeadAt}
-use Rattle.reg_model.specs.Events.Event.{Ask}
+use Rattle.reg_heads.specs.Heads.{Facts}
 use Rattle.reg_model.specs.Registry as model
+use Rattle.reg_model.specs.Steps.{IsFit}
 use Rattle.reg_model.specs.Registry.{Text}
 use Rattle.reg_receiving.specs.Turns.{Streams}
 use Rattle.reg_receiving.specs.declared.fault.StreamFault.{StreamFault}
 use Rattle.reg_requests.specs.Requests.{request_from}
 use Rattle.reg_requests.specs.Views.{event_of}
-use Rattle.reg_service.specs.Answered.{Answers, Shows}
+use Rattle.reg_service.specs.Answered.{Answers, AreUpToDate, Shows}
+use Rattle.reg_service.specs.Registries.{limits_of, tables_of}
+use Rattle.reg_service.specs.declared.registry.Registry.{Registry}
 use Rattle.reg_tables.specs.declared.tables.Tables.{Tables}
 use Rattle.reg_tables.specs.Works.{shown}
 use Rattle.reg_http.specs.Exchanges.{IsOutcome, Outcome, outcome_text}
-use Rattle.reg_http.specs.Exchanges.Outcome.{Answered, NoMethod, NoRoom, NoRoute}
+use Rattle.reg_http.specs.Exchanges.Outcome.{Answered}
 use Rattle.reg_routes.specs.Routing.{Routing}
 
--- the tables move with the outcome: an event is answered by them, and else they stay
+-- the tables move with the outcome: an event that is fit is answered by them, and else they stay
 abbrev pub Moves : {S : Type 0} → Ghosts S → Limits → model.Registry → Facts → Outcome → Tables S
     → Tables S → Type 0
 Moves g limits s f (Answered w a) old new =
-    Answers g limits s (event_of (request_from limits f.token w)) a old new
+    let e = event_of (request_from limits f.token w) in IsFit e × Answers g limits s e a old new
 Moves g limits s f o old new = new ≡ old
 
 -- The request is answered by one of its outcomes, whose reply was sent, or a front of it.
@@ -41,7 +43,8 @@ IsReplied g limits f there close old new w0 w1 r =
     HasCleanDisk (shown g new) → (s : model.Registry) → Shows s (shown g old)
     → Replies g limits f there close s old new w0 w1 r
 
--- the message is one request, and its head tells these facts
-pub record IsMessage (limits : Limits) (message : Text) (f : Facts) : Type 0 where
-  pub head : IsHeadAt limits message f
-  pub whole : length message ≡ f.len + f.body_len
+-- the registry goes on: its tables are ours, and its limits the same
+pub record GoesOn {S : Type 0} (g : Ghosts S) (old new : Registry S) : Type 0 where
+  pub tables : AreUpToDate g (tables_of new)
+  pub clean : HasCleanDisk (shown g (tables_of new)) → HasCleanDisk (shown g (tables_of old))
+  pub limits : limits_of new ≡ limits_of old

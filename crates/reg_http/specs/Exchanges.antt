@@ -1,5 +1,5 @@
 -- A request on a stream and what it is replied (RFC 9112, section 9.3; RFC 9110, section 15).
-use Rattle.std.specs.Prelude.{◌≡◌, ◌+◌, ◌==◌, ◌||◌, ℕ, Bool, List, [], ◌∷◌, length, drop, map, None, Some}
+use Rattle.std.specs.Prelude.{◌≡◌, ◌+◌, ◌==◌, ◌||◌, ℕ, Bool, false, List, [], ◌∷◌, length, drop, map, None, Some}
 use Rattle.std.specs.List.{flat_map}
 use Rattle.reg_body.specs.declared.limits.Limits.{Limits}
 use Rattle.reg_heads.specs.Heads.{Facts, IsHeadAt}
@@ -19,10 +19,12 @@ use Rattle.reg_sending.specs.Texts.{answer_text, refusal_text}
 pub data Outcome : Type 0 where
   -- what it wants, and the answer
   Answered : Wants → Answer → Outcome
-  -- its path is no route, or that has other methods; there was no room to see it
+  -- its path is no route, or that has other methods
   NoRoute : Outcome
   NoMethod : Methods → Outcome
+  -- there was no room to route it, or to read what it wants
   NoRoom : Outcome
+  Unread : Wants → Outcome
 
 -- a request, what its head tells, and what it came to
 pub record Exchange : Type 0 where
@@ -40,6 +42,7 @@ IsOutcome routing (Answered w a) = routing ≡ to_wants w
 IsOutcome routing NoRoute = routing ≡ to_no_route
 IsOutcome routing (NoMethod m) = routing ≡ to_no_method m
 IsOutcome routing NoRoom = Unit {0}
+IsOutcome routing (Unread w) = routing ≡ to_wants w
 
 -- the message is one request, its head and its whole body, and nothing else
 pub record IsExchange (limits : Limits) (x : Exchange) : Type 0 where
@@ -67,6 +70,7 @@ outcome_text limits f close (Answered w a) = answer_text (asked_from limits w) a
 outcome_text limits f close NoRoute = refusal_text rule.H6 None close (is_head f)
 outcome_text limits f close (NoMethod m) = refusal_text rule.H7 (Some m) close (is_head f)
 outcome_text limits f close NoRoom = refusal_text rule.S1 None close (is_head f)
+outcome_text limits f close (Unread w) = refusal_text rule.S1 None close false
 
 abbrev pub reply_of : Limits → Bool → Exchange → Text
 reply_of limits close x = outcome_text limits x.facts close x.outcome

@@ -6,6 +6,7 @@ mod accounts;
 mod crates;
 mod exporting;
 mod finding;
+pub mod laws;
 mod names;
 mod opening;
 mod orders;
