@@ -1,7 +1,6 @@
 -- A request on a stream and what it is replied (RFC 9112, section 9.3; RFC 9110, section 15).
-use Rattle.std.specs.Prelude.{◌≡◌, ◌+◌, ◌==◌, ◌||◌, ◌++◌, ℕ, Bool, if◌then◌else◌, Unit, List, [], ◌∷◌, length, drop, codes, map, None, Some}
+use Rattle.std.specs.Prelude.{◌≡◌, ◌+◌, ◌==◌, ◌||◌, ℕ, Bool, List, [], ◌∷◌, length, drop, map, None, Some}
 use Rattle.std.specs.List.{flat_map}
-use Rattle.std.specs.Str.{bytes_eq}
 use Rattle.reg_body.specs.declared.limits.Limits.{Limits}
 use Rattle.reg_heads.specs.Heads.{Facts, IsHeadAt}
 use Rattle.reg_model.specs.declared.rule.Rule.TheVariants as rule
@@ -13,6 +12,7 @@ use Rattle.reg_requests.specs.Views.{event_of}
 use Rattle.reg_requests.specs.Wants.{Wants}
 use Rattle.reg_routes.specs.Routing.{Routing, routing_of}
 use Rattle.reg_routes.specs.Routing.Routing.{NoRoute as to_no_route, NoMethod as to_no_method, Wants as to_wants}
+use Rattle.reg_receiving.specs.Begun.{is_head}
 use Rattle.reg_sending.specs.Texts.{answer_text, refusal_text}
 
 -- what a request came to
@@ -60,17 +60,6 @@ events_in limits xs = map (λ p. p.0) (steps_in limits xs)
 
 abbrev pub answers_in : Limits → List Exchange → List Answer
 answers_in limits xs = map (λ p. p.1) (steps_in limits xs)
-
--- the method is HEAD: a refusal leaves its body out (RFC 9110, section 9.3.2)
-abbrev pub is_head : Facts → Bool
-is_head f = bytes_eq f.method (codes "HEAD")
-
--- the interim line (RFC 9110, section 15.2.1), where it is waited for
-abbrev pub interim_line : Text
-interim_line = codes "HTTP/1.1 100 Continue\r\n\r\n"
-
-abbrev pub interim_of : Facts → Text
-interim_of f = if f.interim then interim_line else []
 
 -- the reply, of which the last tells that the connection closes
 abbrev pub outcome_text : Limits → Facts → Bool → Outcome → Text

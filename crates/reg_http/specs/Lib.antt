@@ -1,4 +1,3 @@
+pub mod Answering
 pub mod Exchanges
 pub mod Streams
-pub mod Taking
-pub mod Turns

@@ -1,20 +1,20 @@
 -- What was read of a stream, and what was written for it.
-use Rattle.std.specs.Prelude.{◌≡◌, ◌⊎◌, ◌+◌, ◌<◌, ◌≤◌, ◌++◌, ℕ, Bool, true, false, List, [], ◌∷◌, length, take, None, Option, Result, Ok, Err, All}
+use Rattle.std.specs.Prelude.{◌≡◌, ◌⊎◌, ◌+◌, ◌≤◌, ◌++◌, ℕ, Bool, true, false, List, [], ◌∷◌, length, None, Option, Result, Ok, Err, All}
 use Rattle.std.specs.List.{flat_map}
 use Rattle.std.specs.Io.KnownBytes.{Appends, Consumes, IsAtEnd}
 use Rattle.sqlite_trees.specs.declared.store.Store.{Ghosts}
 use Rattle.reg_body.specs.declared.limits.Limits.{Limits}
-use Rattle.reg_heads.specs.Heads.{Facts, IsHeadAt, IsRefusedAt, IsUnfinished}
+use Rattle.reg_heads.specs.Heads.{Facts, IsHeadAt}
 use Rattle.reg_model.specs.declared.rule.Rule.{Rule}
-use Rattle.reg_model.specs.declared.rule.Rule.TheVariants as rule
 use Rattle.reg_model.specs.Registry as model
 use Rattle.reg_model.specs.Registry.{Text}
 use Rattle.reg_sending.specs.Texts.{refusal_text}
 use Rattle.reg_service.specs.Sequences.{Ran}
 use Rattle.reg_tables.specs.declared.tables.Tables.{Tables}
-use Rattle.reg_http.specs.Exchanges.{Exchange, IsExchange, answers_in, closes, events_in, interim_of, is_head, reply_of}
-use Rattle.reg_http.specs.declared.fault.StreamFault.{StreamFault}
-use Rattle.reg_http.specs.declared.fault.StreamFault.TheVariants.{Memory, ReadFault, StoreFault, TooManyTurns, WriteFault}
+use Rattle.reg_receiving.specs.Begun.{IsBegun, IsRefused, interim_of}
+use Rattle.reg_http.specs.Exchanges.{Exchange, IsExchange, answers_in, closes, events_in, reply_of}
+use Rattle.reg_receiving.specs.declared.fault.StreamFault.{StreamFault}
+use Rattle.reg_receiving.specs.declared.fault.StreamFault.TheVariants.{Memory, ReadFault, StoreFault, TooManyTurns, WriteFault}
 
 -- the bytes that were asked, and those that were replied, each after its interim line
 abbrev pub asked : List Exchange → Text
@@ -40,27 +40,6 @@ pub record Goes (limits : Limits) (done : List Exchange) (read written rest : Te
   pub count_is : count ≡ length done
   pub each : All (IsOpen limits) done
   pub before_last : limits.replies ≤ count → limits.replies ≡ 0
-
--- A request that has only begun: its head is not whole, or its body is not. What was written for
--- it is its interim line.
-abbrev pub IsBegun : Limits → Text → Text → Type 0
-IsBegun limits rest more =
-    (IsUnfinished limits rest × (more ≡ []))
-    ⊎ ((f : Facts) × IsHeadAt limits rest f × (length rest < f.len + f.body_len)
-    × (more ≡ interim_of f))
-
--- Memory was refused while a request was read: before its head was seen, or after.
-abbrev pub HasNoRoom : Limits → Text → Text → Bool → Type 0
-HasNoRoom limits rest more only =
-    ((more ≡ []) × (only ≡ false))
-    ⊎ ((f : Facts) × IsHeadAt limits rest f × (more ≡ interim_of f) × (only ≡ is_head f))
-
--- The rest is refused and the connection closes: for the rule that its head breaks, or for want of
--- memory; only the head of the reply is sent to a HEAD request.
-abbrev pub IsRefused : Limits → Text → Text → Rule → Bool → Type 0
-IsRefused limits rest more r only =
-    (IsRefusedAt limits rest r only × (more ≡ []))
-    ⊎ ((r ≡ rule.S1) × HasNoRoom limits rest more only)
 
 -- the last reply before the connection closes
 abbrev pub closing_text : Rule → Bool → Text

@@ -9,11 +9,7 @@
 #![tactic(auto)]
 
 mod answering;
-mod fault;
-mod reading;
 mod stream;
-mod taking;
-mod turns;
 
-pub use fault::StreamFault;
+pub use reg_receiving::StreamFault;
 pub use stream::serve_stream;

@@ -1,5 +1,5 @@
 -- Texts that are sent one after another, and bytes in several calls.
-use Rattle.std.proofs.Common.{[], refl, append-nil, ◌≡◌, ℕ, zero, suc, ◌+◌, ◌-◌, ◌<◌, List, ◌++◌, length, take, drop, Option, Result, Ok, Err, sym, ap, ◌∙◌, append_assoc, take-append-drop, length-append, arith}
+use Rattle.std.proofs.Common.{subst, [], refl, append-nil, ◌≡◌, ℕ, zero, suc, ◌+◌, ◌-◌, ◌<◌, List, ◌++◌, length, take, drop, Option, Result, Ok, Err, sym, ap, ◌∙◌, append_assoc, take-append-drop, length-append, arith}
 use Rattle.std.specs.Io.KnownBytes.{Appends}
 use Rattle.std.proofs.KnownBytes.{Appends-nil, Appends-trans}
 use Rattle.reg_sending.specs.declared.bytes.SendFault.{SendFault}
@@ -115,3 +115,37 @@ piles_none waiting text writes used more s t u x y = record {
   whole = sym (append-nil (waiting ++ text));
   sends = all_behind waiting text writes used more s t u x y;
 }
+
+-- two texts are put one after another
+
+puts_whole : (waiting a b sent between rest more : List ℕ) → waiting ++ a ≡ sent ++ between
+    → between ++ b ≡ more ++ rest → waiting ++ (a ++ b) ≡ (sent ++ more) ++ rest
+puts_whole waiting a b sent between rest more x y =
+    sym (append_assoc waiting a b) ∙ ap (λ l. l ++ b) x ∙ append_assoc sent between b
+    ∙ ap (λ l. sent ++ l) y ∙ sym (append_assoc sent more rest)
+
+pub piles_behind : (waiting a b between rest : List ℕ) (writes used more : ℕ) (s t u : Sink)
+    → Piles waiting a between writes used s t → Piles between b rest (writes - used) more t u
+    → Piles waiting (a ++ b) rest writes (used + more) s u
+piles_behind waiting a b between rest writes used more s t u x y = record {
+  sent = x.sent ++ y.sent;
+  whole = puts_whole waiting a b x.sent between rest y.sent x.whole y.whole;
+  sends = all_behind x.sent y.sent writes used more s t u x.sends y.sends;
+}
+
+pub pile_stopped : (f : SendFault) (waiting a b between : List ℕ) (writes used : ℕ) (s t u : Sink)
+    → Piles waiting a between writes used s t → IsStopped f (between ++ b) (writes - used) t u
+    → IsStopped f (waiting ++ (a ++ b)) writes s u
+pile_stopped f waiting a b between writes used s t u x h =
+    let same : x.sent ++ (between ++ b) ≡ waiting ++ (a ++ b) = sym (append_assoc x.sent between b)
+        ∙ ap (λ l. l ++ b) (sym x.whole) ∙ append_assoc waiting a b in
+    subst (λ l. IsStopped f l writes s u) same
+    (stopped_behind f x.sent (between ++ b) writes used s t u x.sends h)
+
+-- what waits is sent at last
+pub pile_sent : (waiting text rest : List ℕ) (writes used : ℕ) (s t u : Sink)
+    (r : Result ℕ SendFault) → Piles waiting text rest writes used s t
+    → Sends r rest (writes - used) t u → Sends (after used r) (waiting ++ text) writes s u
+pile_sent waiting text rest writes used s t u r x h =
+    subst (λ l. Sends (after used r) l writes s u) (sym x.whole)
+    (sends_behind x.sent rest writes used s t u r x.sends h)

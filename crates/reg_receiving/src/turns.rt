@@ -2,7 +2,7 @@
 
 ghost use Rattle.std.specs.Prelude.{◌+◌, ◌^◌, ◌<◌, OnOk, length};
 ghost use Rattle.reg_sending.specs.Texts.{reply_text};
-ghost use Rattle.reg_http.specs.Turns.{Sends, Spends, writes_of};
+ghost use Rattle.reg_receiving.specs.Turns.{Sends, Spends, writes_of};
 
 use crate::fault::StreamFault;
 use reg_body::Counted;
@@ -11,11 +11,7 @@ use reg_sending::{SendFault, write_bytes, write_reply};
 use std::io::Write;
 
 /// Writes the bytes.
-pub(crate) fn send<W: Write>(
-    w: &mut Counted<W>,
-    bytes: &[u8],
-    left: &mut u64,
-) -> Result<(), StreamFault>
+pub fn send<W: Write>(w: &mut Counted<W>, bytes: &[u8], left: &mut u64) -> Result<(), StreamFault>
     requires { w.old.calls + left.old < 2 ^ 64 }
     ensures sends { Sends bytes.now (W.contents w.old.inner) (W.contents w.new.inner) result }
     ensures spends { Spends left.old left.new (writes_of w.old) (writes_of w.new) result }
@@ -32,7 +28,7 @@ pub(crate) fn send<W: Write>(
 }
 
 /// Writes a reply, or its head alone.
-pub(crate) fn send_reply<W: Write>(
+pub fn send_reply<W: Write>(
     w: &mut Counted<W>,
     reply: &Reply,
     close: bool,

@@ -5,19 +5,18 @@ use Rattle.reg_body.specs.declared.limits.Limits.{Limits}
 use Rattle.reg_heads.specs.Heads.{Facts, IsHeadAt, IsUnfinished}
 use Rattle.reg_model.specs.Registry.{Text}
 use Rattle.reg_sending.specs.Sent.{AppendsFront}
-use Rattle.reg_http.specs.Exchanges.{interim_of, is_head}
-use Rattle.reg_http.specs.Streams.{IsBegun, IsRefused}
-use Rattle.reg_http.specs.declared.fault.StreamFault.{StreamFault}
-use Rattle.reg_http.specs.declared.fault.StreamFault.TheVariants.{ReadFault, TooManyTurns, WriteFault}
-use Rattle.reg_http.specs.declared.reading.Piece.{Piece}
-use Rattle.reg_http.specs.declared.reading.Piece.TheVariants as piece
-use Rattle.reg_http.specs.declared.taking.Awaited.{Awaited}
-use Rattle.reg_http.specs.declared.taking.Awaited.TheVariants as awaited
-use Rattle.reg_http.specs.declared.taking.Begun.{Begun}
-use Rattle.reg_http.specs.declared.taking.Rest.{Rest}
-use Rattle.reg_http.specs.declared.taking.Rest.TheVariants as remaining
-use Rattle.reg_http.specs.declared.taking.Taken.{Taken}
-use Rattle.reg_http.specs.declared.taking.Taken.TheVariants as taken
+use Rattle.reg_receiving.specs.Begun.{IsBegun, IsRefused, interim_of, is_head}
+use Rattle.reg_receiving.specs.declared.fault.StreamFault.{StreamFault}
+use Rattle.reg_receiving.specs.declared.fault.StreamFault.TheVariants.{ReadFault, TooManyTurns, WriteFault}
+use Rattle.reg_receiving.specs.declared.reading.Piece.{Piece}
+use Rattle.reg_receiving.specs.declared.reading.Piece.TheVariants as piece
+use Rattle.reg_receiving.specs.declared.taking.Awaited.{Awaited}
+use Rattle.reg_receiving.specs.declared.taking.Awaited.TheVariants as awaited
+use Rattle.reg_receiving.specs.declared.taking.Begun.{Begun}
+use Rattle.reg_receiving.specs.declared.taking.Rest.{Rest}
+use Rattle.reg_receiving.specs.declared.taking.Rest.TheVariants as remaining
+use Rattle.reg_receiving.specs.declared.taking.Taken.{Taken}
+use Rattle.reg_receiving.specs.declared.taking.Taken.TheVariants as taken
 
 -- what is kept of a head
 pub record Keeps (limits : Limits) (bytes : Text) (b : Begun) (f : Facts) : Type 0 where

@@ -2,14 +2,15 @@
 
 ghost use Rattle.std.specs.Prelude.{◌≡◌, ◌+◌, ◌^◌, ◌<◌, ◌≤◌, length};
 ghost use Rattle.reg_heads.specs.Reads.{facts_of};
-ghost use Rattle.reg_http.specs.Exchanges.{is_head as is_head_request};
-ghost use Rattle.reg_http.specs.Taking.{Awaits, Fills, Takes};
-ghost use Rattle.reg_http.specs.Turns.{Spends, reads_of, tally};
+ghost use Rattle.reg_receiving.specs.Begun.{interim_if, is_head as is_head_request};
+ghost use Rattle.reg_receiving.specs.Taking.{Awaits, Fills, Takes};
+ghost use Rattle.reg_receiving.specs.Turns.{Sends, Spends, reads_of, tally, writes_of};
 
 use crate::fault::StreamFault;
 use crate::reading::{Piece, read_piece};
 use crate::turns::send;
 use reg_body::{Counted, Limits};
+use reg_heads::laws::{append_law, bounds_law};
 use reg_heads::{Head, HeadRead, read_head};
 use reg_model::Rule;
 use std::alloc::Global;
@@ -20,13 +21,13 @@ const INTERIM: &[u8] = b"HTTP/1.1 100 Continue\r\n\r\n";
 
 /// What is kept of a head while its body is waited for.
 #[derive(Clone, Copy, Debug)]
-pub(crate) struct Begun {
-    pub(crate) len: usize,
-    pub(crate) body_len: u64,
-    pub(crate) interim: bool,
-    pub(crate) close: bool,
+pub struct Begun {
+    pub len: usize,
+    pub body_len: u64,
+    pub interim: bool,
+    pub close: bool,
     /// Whether the method is HEAD.
-    pub(crate) is_head: bool,
+    pub is_head: bool,
 }
 
 /// What was found where a head was waited for.
@@ -48,7 +49,7 @@ pub(crate) enum Rest {
 
 /// What was found where a request was waited for.
 #[derive(Clone, Copy, Debug)]
-pub(crate) enum Taken {
+pub enum Taken {
     End,
     Refused(Rule, bool),
     /// It is there, at the front of what waits.
@@ -56,7 +57,7 @@ pub(crate) enum Taken {
 }
 
 /// What is kept of a head.
-fn begun(head: &Head<'_>) -> Begun
+fn kept_of(head: &Head<'_>) -> Begun
     ensures len { result.len ≡ (facts_of head.now).len }
     ensures body_len { result.body_len ≡ (facts_of head.now).body_len }
     ensures interim { result.interim ≡ (facts_of head.now).interim }
@@ -91,7 +92,7 @@ fn await_head<R: Read>(
     'judged: loop {
         match read_head(alloc, pending, limits) {
             Ok(HeadRead::More) => {}
-            Ok(HeadRead::Head(head)) => return Ok(Awaited::Head(begun(&head))),
+            Ok(HeadRead::Head(head)) => return Ok(Awaited::Head(kept_of(&head))),
             Ok(HeadRead::Refused(rule, only)) => return Ok(Awaited::Refused(rule, only)),
             Err(_) => return Ok(Awaited::Refused(Rule::S1, false)),
         }
@@ -103,22 +104,24 @@ fn await_head<R: Read>(
     }
 }
 
-/// Reads until so many bytes wait.
+/// Reads until so many bytes wait behind the head, which has `len`.
 fn await_rest<R: Read>(
     r: &mut Counted<R>,
     chunk: &mut [u8],
     pending: &mut Vec<u8>,
-    total: u64,
+    len: usize,
+    body_len: u64,
     left: &mut u64,
 ) -> Result<Rest, StreamFault>
     requires room { r.old.calls + left.old < 2 ^ 64 }
     requires some { 0 < length chunk.old }
+    requires head { len ≤ length pending.old.items }
     ensures fills { Fills (R.remaining r.old.inner) (R.remaining r.new.inner)
-        pending.old.items pending.new.items total result }
+        pending.old.items pending.new.items (len + body_len) result }
     ensures spends { Spends left.old left.new (reads_of r.old) (reads_of r.new) result }
     ensures chunk { length chunk.new ≡ length chunk.old }
 {
-    'pieces: while (pending.len() as u64) < total {
+    'pieces: while ((pending.len() - len) as u64) < body_len {
         match read_piece(r, chunk, pending, left)? {
             Piece::More => {}
             Piece::End => return Ok(Rest::End),
@@ -128,8 +131,21 @@ fn await_rest<R: Read>(
     Ok(Rest::Whole)
 }
 
+/// Writes the interim line, where it is waited for.
+fn ask_on<W: Write>(w: &mut Counted<W>, interim: bool, left: &mut u64) -> Result<(), StreamFault>
+    requires { w.old.calls + left.old < 2 ^ 64 }
+    ensures sends { Sends (interim_if interim) (W.contents w.old.inner) (W.contents w.new.inner)
+        result }
+    ensures spends { Spends left.old left.new (writes_of w.old) (writes_of w.new) result }
+{
+    if !interim {
+        return Ok(());
+    }
+    send(w, INTERIM, left)
+}
+
 /// Reads until there is a request at the front of what waits, and writes its interim line.
-pub(crate) fn take_request<R: Read, W: Write>(
+pub fn take_request<R: Read, W: Write>(
     alloc: Global,
     r: &mut Counted<R>,
     w: &mut Counted<W>,
@@ -147,15 +163,15 @@ pub(crate) fn take_request<R: Read, W: Write>(
     ensures spends { Spends left.old left.new (tally r.old w.old) (tally r.new w.new) result }
     ensures chunk { length chunk.new ≡ length chunk.old }
 {
+    bounds_law();
+    append_law();
     let begun = match await_head(alloc, r, chunk, pending, limits, left)? {
         Awaited::End => return Ok(Taken::End),
         Awaited::Refused(rule, only) => return Ok(Taken::Refused(rule, only)),
         Awaited::Head(begun) => begun,
     };
-    if begun.interim {
-        send(w, INTERIM, left)?;
-    }
-    match await_rest(r, chunk, pending, begun.len as u64 + begun.body_len, left)? {
+    ask_on(w, begun.interim, left)?;
+    match await_rest(r, chunk, pending, begun.len, begun.body_len, left)? {
         Rest::Whole => Ok(Taken::Whole(begun)),
         Rest::End => Ok(Taken::End),
         Rest::NoMemory => Ok(Taken::Refused(Rule::S1, begun.is_head)),

@@ -1,8 +1,8 @@
 //! Reading with the turns that are left.
 
-ghost use Rattle.std.specs.Prelude.{◌≡◌, ◌+◌, ◌^◌, ◌<◌, ◌≤◌, length, drop, vec_len};
-ghost use Rattle.reg_http.specs.Taking.{IsPiece};
-ghost use Rattle.reg_http.specs.Turns.{Spends, reads_of};
+ghost use Rattle.std.specs.Prelude.{◌≡◌, ◌+◌, ◌^◌, ◌<◌, ◌≤◌, length, drop, vec_len, OnOk};
+ghost use Rattle.reg_receiving.specs.Taking.{IsPiece};
+ghost use Rattle.reg_receiving.specs.Turns.{Spends, reads_of};
 
 use crate::fault::StreamFault;
 use reg_body::Counted;
@@ -30,6 +30,8 @@ pub(crate) fn read_piece<R: Read>(
     ensures piece { IsPiece (R.remaining r.old.inner) (R.remaining r.new.inner)
         pending.old.items pending.new.items result }
     ensures spends { Spends left.old left.new (reads_of r.old) (reads_of r.new) result }
+    ensures grows { length pending.old.items ≤ length pending.new.items }
+    ensures fewer { OnOk result (left.new < left.old) }
     ensures chunk { length chunk.new ≡ length chunk.old }
 {
     if *left == 0 {
@@ -47,7 +49,7 @@ pub(crate) fn read_piece<R: Read>(
 }
 
 /// Drops the first n bytes of what waits.
-pub(crate) fn drop_front(pending: &mut Vec<u8>, n: usize)
+pub fn drop_front(pending: &mut Vec<u8>, n: usize)
     requires { n ≤ vec_len pending.old }
     ensures { pending.new.items ≡ drop n pending.old.items }
 {

@@ -5,8 +5,8 @@ use Rattle.std.specs.Io.KnownBytes.{Appends}
 use Rattle.reg_body.specs.Counting.{CountedEnd}
 use Rattle.reg_model.specs.Registry.{Text}
 use Rattle.reg_sending.specs.Sent.{AppendsFront}
-use Rattle.reg_http.specs.declared.fault.StreamFault.{StreamFault}
-use Rattle.reg_http.specs.declared.fault.StreamFault.TheVariants.{Memory, ReadFault, StoreFault, TooManyTurns, WriteFault}
+use Rattle.reg_receiving.specs.declared.fault.StreamFault.{StreamFault}
+use Rattle.reg_receiving.specs.declared.fault.StreamFault.TheVariants.{Memory, ReadFault, StoreFault, TooManyTurns, WriteFault}
 
 -- how often a reader and a writer were called, and how often each failed
 pub record Tally : Type 0 where
@@ -78,6 +78,14 @@ module _ (text : Text) (old new : Option Text) where
   -- what sending a text did to what a writer holds: a front was sent where it stopped
   abbrev pub Sends : {A : Type 0} → Result A StreamFault → Type 0
   Sends (Ok a) = Appends old new text
-  Sends (Err ReadFault) = ⊥
-  Sends (Err Memory) = ⊥
-  Sends (Err fault) = AppendsFront text old new
+  Sends (Err WriteFault) = AppendsFront text old new
+  Sends (Err TooManyTurns) = AppendsFront text old new
+  Sends (Err fault) = ⊥
+
+  -- the same of an index file, whose rows may fail to be read
+  abbrev pub Streams : {A : Type 0} → Result A StreamFault → Type 0
+  Streams (Ok a) = Appends old new text
+  Streams (Err WriteFault) = AppendsFront text old new
+  Streams (Err TooManyTurns) = AppendsFront text old new
+  Streams (Err StoreFault) = AppendsFront text old new
+  Streams (Err fault) = ⊥
