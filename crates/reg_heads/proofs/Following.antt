@@ -102,7 +102,7 @@ module _ (limits : Limits) (b more : Text) where
         told = broken.told;
       }))
 
-front_reads : (limit n : ℕ) (b : Text) (h : RequestHead) → IsHeadCut limit b n h → ReadsRequest b h (drop n b)
+pub front_reads : (limit n : ℕ) (b : Text) (h : RequestHead) → IsHeadCut limit b n h → ReadsRequest b h (drop n b)
 front_reads limit n b h it =
     subst (λ t. ReadsRequest t h (drop n b)) (take-append-drop n b)
     (ReadsRequest-append (take n b) h [] (drop n b) it.reads)

@@ -4,3 +4,4 @@ pub mod Following
 pub mod Judged
 pub mod Lists
 pub mod Read
+pub mod Readings

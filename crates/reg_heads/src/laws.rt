@@ -5,7 +5,7 @@ ghost use Rattle.std.specs.Prelude.{◌≡◌, ◌<◌, ◌≤◌, ◌++◌, Boo
 ghost use Rattle.reg_body.specs.declared.limits.Limits.{Limits};
 ghost use Rattle.reg_model.specs.Registry.{Text};
 ghost use Rattle.reg_model.specs.declared.rule.Rule.{Rule};
-ghost use Rattle.reg_heads.specs.Heads.{Facts, IsHeadAt, IsRefusedAt, greatest_body};
+ghost use Rattle.reg_heads.specs.Heads.{Facts, IsHeadAt, IsRefusedAt, IsUnfinished, greatest_body};
 
 /// A head is in the bytes, it is not empty, and its body is at most the greatest.
 pub fn bounds_law()
@@ -30,4 +30,19 @@ pub fn append_law()
 pub fn one_head_law()
     ensures { (limits : Limits) (b more : Text) (f g : Facts) → IsHeadAt limits b f
         → IsHeadAt limits (b ++ more) g → f ≡ g }
+{}
+
+/// What is read of bytes is one thing, and what follows does not change it: a head is not refused,
+/// a refusal is for one rule, and what is unfinished is neither.
+pub fn one_reading_law()
+    ensures head { (limits : Limits) (b more : Text) (f : Facts) (r : Rule) (is_head : Bool)
+        → IsHeadAt limits b f → IsRefusedAt limits (b ++ more) r is_head → ⊥ }
+    ensures refused { (limits : Limits) (b more : Text) (f : Facts) (r : Rule) (is_head : Bool)
+        → IsRefusedAt limits b r is_head → IsHeadAt limits (b ++ more) f → ⊥ }
+    ensures rule { (limits : Limits) (b more : Text) (r q : Rule) (x y : Bool)
+        → IsRefusedAt limits b r x → IsRefusedAt limits (b ++ more) q y → (r ≡ q) × (x ≡ y) }
+    ensures no_head { (limits : Limits) (b : Text) (f : Facts) → IsUnfinished limits b
+        → IsHeadAt limits b f → ⊥ }
+    ensures no_rule { (limits : Limits) (b : Text) (r : Rule) (is_head : Bool)
+        → IsUnfinished limits b → IsRefusedAt limits b r is_head → ⊥ }
 {}
