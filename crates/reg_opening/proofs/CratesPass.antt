@@ -1,5 +1,5 @@
 -- The crates of a sound registry pass.
-use Rattle.std.proofs.Common.{◌≡◌, ◌==◌, List, true, sym, ap, eqb-true, ◌∙◌}
+use Rattle.std.proofs.Common.{◌≡◌, ◌==◌, ℕ, List, true, sym, ap, ◌∙◌}
 use Rattle.std.specs.Prelude.{◌&&◌, string_bytes}
 use Rattle.std.specs.Str.{bytes_eq}
 use Rattle.std.specs.FinSet as finset
@@ -21,6 +21,9 @@ use Rattle.reg_opening.proofs.ListedCrates.{canon_is, crate_in}
 use Rattle.reg_opening.proofs.ListedPairs as pairs
 use Rattle.reg_opening.proofs.ListedVersions as versions
 use Rattle.reg_opening.proofs.Standing.{Standing}
+
+chained : (a b n : ℕ) → a ≡ b → (b == n) ≡ true → (a == n) ≡ true
+chained a b n same is = ap (λ k. k == n) same ∙ is
 
 module _ (it : AllRows) (db : Trees) (ids : Ids) (s : Registry) (h : Standing it db ids s) where
   abbrev list : List Crate
@@ -54,8 +57,8 @@ module _ (it : AllRows) (db : Trees) (ids : Ids) (s : Registry) (h : Standing it
       let same = each_in (λ e. (account : _) → finset.contains s.owners (canon e.1, account) ≡ is_paired stands.pairs e.0 account) ids.crates (entry_of_crate c) stands.same (crate_in it db ids s h c i) in
       let p = any_in (λ o. o.0 == c.id && o.1 == owner.0) stands.pairs (sym (same owner.0) ∙ owner.1) in
       let o = pairs.in_list ids.crates s.owners (db 9) stands it.owners.items h.are.owners p.0 p.1 in
-      let id = o.2 ∙ eqb-true p.0.0 c.id (and_parts (p.0.0 == c.id) (p.0.1 == owner.0) p.2).0 in
-      in_any (λ o. o.crate_id == c.id) it.owners.items o.0 o.1 (eq-eqb o.0.crate_id c.id id)
+      let same_id = (and_parts (p.0.0 == c.id) (p.0.1 == owner.0) p.2).0 in
+      in_any (λ o. o.crate_id == c.id) it.owners.items o.0 o.1 (chained o.0.crate_id p.0.0 c.id o.2 same_id)
 
   pub crates_pass_so : checks.crates_pass it ≡ true
   crates_pass_so = in_all (λ c. checks.is_named c && (checks.is_owned it c.id && checks.is_published it c.id)) list (λ c i.

@@ -14,7 +14,7 @@ use Rattle.reg_statements.specs.declared.versions.Version.{Version}
 use Rattle.reg_stored.proofs.CrateLemmas.{same_bytes}
 use Rattle.reg_stored.specs.WholeRows.{AreAllRows}
 use Rattle.reg_stored.specs.declared.all_rows.AllRows.{AllRows}
-use Rattle.reg_audit.specs.Checks.{IsGenuine, are_counted, are_placed, has_account, has_crate, is_account, is_archive, is_named, is_owned, is_published, is_scope, is_summary, is_token}
+use Rattle.reg_audit.specs.Checks.{IsGenuine, accounts_pass, are_counted, are_placed, has_account, has_crate, is_account, is_archive, is_named, is_owned, is_published, is_scope, is_summary, is_token, tokens_pass}
 use Rattle.reg_audit.specs.declared.check.Check.TheVariants.{C1, C2, C3, C4, C5, C7, C8}
 use Rattle.reg_opening.specs.Opening.{PassAll}
 use Rattle.reg_opening.specs.Rules.{KeepsRules}
@@ -41,25 +41,32 @@ pub record CrateIs (it : AllRows) (c : Crate) : Type 0 where
   pub owned : is_owned it c.id ≡ true
   pub published : is_published it c.id ≡ true
 
+-- what the first two checks say
+pub accounts_of : (it : AllRows) → accounts_pass it ≡ true → AccountsAre it
+accounts_of it h =
+    let list = it.accounts.items in
+    let counted = are_counted 1 (map (λ a. a.id) list) in
+    let p = and_parts (is_base (string_bytes it.base)) (counted && list_all is_account list) h in
+    let q = and_parts counted (list_all is_account list) p.1 in
+    record { base = p.0; counted = q.0; whole = q.1 }
+
+pub tokens_of : (it : AllRows) → tokens_pass it ≡ true → TokensAre it
+tokens_of it h =
+    let tokens = it.tokens.items in
+    let scopes = it.scopes.items in
+    let counted = are_counted 1 (map (λ t. t.id) tokens) in
+    let placed = are_placed (length tokens) scopes in
+    let p = and_parts (counted && list_all is_token tokens) (placed && list_all is_scope scopes) h in
+    let q = and_parts counted (list_all is_token tokens) p.0 in
+    let r = and_parts placed (list_all is_scope scopes) p.1 in
+    record { counted = q.0; whole = q.1; placed = r.0; scopes = r.1 }
+
 module _ (it : AllRows) (db : Trees) (h : Passing it db) where
   pub accounts_are : AccountsAre it
-  accounts_are =
-      let list = it.accounts.items in
-      let counted = are_counted 1 (map (λ a. a.id) list) in
-      let p = and_parts (is_base (string_bytes it.base)) (counted && list_all is_account list) (h.all C1) in
-      let q = and_parts counted (list_all is_account list) p.1 in
-      record { base = p.0; counted = q.0; whole = q.1 }
+  accounts_are = accounts_of it (h.all C1)
 
   pub tokens_are : TokensAre it
-  tokens_are =
-      let tokens = it.tokens.items in
-      let scopes = it.scopes.items in
-      let counted = are_counted 1 (map (λ t. t.id) tokens) in
-      let placed = are_placed (length tokens) scopes in
-      let p = and_parts (counted && list_all is_token tokens) (placed && list_all is_scope scopes) (h.all C2) in
-      let q = and_parts counted (list_all is_token tokens) p.0 in
-      let r = and_parts placed (list_all is_scope scopes) p.1 in
-      record { counted = q.0; whole = q.1; placed = r.0; scopes = r.1 }
+  tokens_are = tokens_of it (h.all C2)
 
   pub crate_is : (c : Crate) → IsIn c it.crates.items → CrateIs it c
   crate_is c i =

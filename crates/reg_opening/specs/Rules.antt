@@ -6,8 +6,10 @@ use Rattle.sqlite.specs.declared.types.Value.{Value}
 use Rattle.sqlite.specs.declared.types.Value.TheVariants.{Null}
 use Rattle.sqlite.specs.Order.{Row, column, value_cmp}
 use Rattle.sqlite.specs.Tree.{Trees}
+use Rattle.sqlite_schema.specs.Rules.{Obeys}
 use Rattle.sqlite_trees.specs.Tree.{rowid}
 use Rattle.reg_schema.specs.Places.{about_tree, accounts_tree, archives_tree, crate_canon_place, crates_tree, digest_place, login_place, owner_account_place, owner_crate_place, owners_tree, reader_account_place, reader_crate_place, readers_tree, release_place, reserved_tree, restricted_tree, scopes_tree, summaries_tree, token_account_place, tokens_tree, version_crate_place, versions_tree}
+use Rattle.reg_schema.specs.Schema.{ours}
 use Rattle.reg_schema.specs.Tests.{shows}
 
 -- two values that SQL compares as equal
@@ -74,3 +76,9 @@ pub record KeepsRules (db : Trees) : Type 0 where
   pub columns : HaveColumns db
   pub uniques : HaveUniques db
   pub parents : HaveParents db
+
+-- The rows are of our schema: they obey it as SQL's rules go, and each row of the one table that
+-- has no column but its key has that column.
+pub record IsOfSchema (db : Trees) : Type 0 where
+  pub obeys : Obeys ours db
+  pub marks : AllByRecursion (IsWhole (0 ∷ 1 ∷ [])) (db restricted_tree)

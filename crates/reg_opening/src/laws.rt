@@ -1,14 +1,16 @@
-//! The law of opening and its two halves, each the contract of a function that does nothing.
+//! The law of opening and its parts, each the contract of a function that does nothing.
 
-ghost use Rattle.reg_opening.specs.Opening.{HoldingPasses, OpeningLaw, PassingHolds};
+ghost use Rattle.reg_opening.specs.Opening.{AuditLaw, HoldingPasses, OpeningLaw, PassingHolds, SchemaKeeps};
 
-/// Rows that keep the rules of their tables pass all checks exactly where they are a sound
-/// registry.
+/// Rows of our schema pass all checks exactly where they are a sound registry, and so no check is
+/// found to fail exactly there.
 pub fn opening_law()
-    ensures { OpeningLaw }
+    ensures opening { OpeningLaw }
+    ensures audit { AuditLaw }
 {}
 
-/// Rows that pass all checks are those of the sound registry that is built from them.
+/// Rows that pass all checks, and keep the rules of their tables, are those of the sound registry
+/// that is built from them.
 pub fn passing_law()
     ensures { PassingHolds }
 {}
@@ -16,4 +18,9 @@ pub fn passing_law()
 /// The rows of a sound registry pass all checks.
 pub fn standing_law()
     ensures { HoldingPasses }
+{}
+
+/// Rows of our schema that pass all checks keep the rules of their tables.
+pub fn rules_law()
+    ensures { SchemaKeeps }
 {}
