@@ -47,7 +47,6 @@ HeadsStandAlone = (limits : Limits) (b : Text) (f : Facts) → IsHeadAt limits b
 abbrev HeadsStay : Type 0
 HeadsStay = (limits : Limits) (b more : Text) (f : Facts) → IsHeadAt limits b f → IsHeadAt limits (b ++ more) f
 
-
 module _ {S : Type 0} (g : Ghosts S) (limits : Limits) (s : model.Registry) where
   pub holds_start : (r w : Option Text) (now : Tables S) → Ran g limits s [] [] s now → Holds g limits s r r w w [] 0 now
   holds_start r w now ran = record {

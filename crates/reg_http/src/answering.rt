@@ -11,57 +11,24 @@ ghost use Rattle.reg_routes.specs.Routing.Routing.{Wants as to_wants};
 ghost use Rattle.reg_service.specs.Answered.{AreUpToDate};
 ghost use Rattle.reg_service.specs.Registries.{limits_of, tables_of};
 ghost use Rattle.reg_requests.specs.Wants.{wants_of};
-ghost use Rattle.reg_service.specs.Streamed.{AsksForFile};
 ghost use Rattle.reg_http.specs.Answering.{GoesOn, IsReplied};
 
 use reg_body::Counted;
 use reg_heads::laws::{bounds_law, one_head_law};
 use reg_heads::{Head, HeadRead, read_head};
+use reg_policy::Rule;
 use reg_receiving::{StreamFault, send_reply};
 use reg_replies::Reply;
-use reg_policy::Rule;
-use reg_requests::{ApiRequest, Wanted};
+use reg_requests::ApiRequest;
 use reg_routes::{RouteFault, Routes};
 use reg_sending::laws::answer_law;
 use reg_service::Registry;
-use reg_streaming::IndexFault;
 use sqlite::Alter;
 use std::alloc::Global;
 use std::io::Write;
 
-/// Sends the index file that is asked for.
-fn send_index<W: Write, S: Alter>(
-    alloc: Global,
-    registry: &mut Registry<S>,
-    w: &mut Counted<W>,
-    request: &ApiRequest<'_>,
-    close: bool,
-    left: &mut u64,
-) -> Result<(), StreamFault>
-    requires tables { AreUpToDate S.Store (tables_of registry.old) }
-    requires room { w.old.calls + left.old < 2 ^ 64 }
-    requires file { AsksForFile request.now.wanted }
-    ensures replied { (f : Facts) → f.token ≡ option_map (λ t. t.now) request.now.token
-        → IsReplied S.Store (limits_of registry.old) f (to_wants (wants_of request.now.wanted))
-        close (tables_of registry.old) (tables_of registry.new)
-        (W.contents w.old.inner) (W.contents w.new.inner) result }
-    ensures spends { Spends left.old left.new (writes_of w.old) (writes_of w.new) result }
-    ensures fewer { OnOk result (left.new < left.old) }
-    ensures keeps { GoesOn S.Store registry.old registry.new }
-{
-    match registry.stream_index(alloc, request, close, w, *left) {
-        Ok(used) => {
-            *left -= used;
-            Ok(())
-        }
-        Err(IndexFault::Write) => Err(StreamFault::WriteFault),
-        Err(IndexFault::Spent) => Err(StreamFault::TooManyTurns),
-        Err(IndexFault::Store) => Err(StreamFault::StoreFault),
-    }
-}
-
-/// Sends what the registry answers to a request for anything but an index file.
-fn send_answer<W: Write, S: Alter>(
+/// Answers a request that was routed.
+fn answer<W: Write, S: Alter>(
     alloc: Global,
     registry: &mut Registry<S>,
     w: &mut Counted<W>,
@@ -84,38 +51,14 @@ fn send_answer<W: Write, S: Alter>(
     send_reply(w, &reply, close, false, left)
 }
 
-/// Answers a request that was routed.
-fn answer<W: Write, S: Alter>(
-    alloc: Global,
-    registry: &mut Registry<S>,
-    w: &mut Counted<W>,
-    request: &ApiRequest<'_>,
-    close: bool,
-    left: &mut u64,
-) -> Result<(), StreamFault>
-    requires tables { AreUpToDate S.Store (tables_of registry.old) }
-    requires room { w.old.calls + left.old < 2 ^ 64 }
-    ensures replied { (f : Facts) → f.token ≡ option_map (λ t. t.now) request.now.token
-        → IsReplied S.Store (limits_of registry.old) f (to_wants (wants_of request.now.wanted))
-        close (tables_of registry.old) (tables_of registry.new)
-        (W.contents w.old.inner) (W.contents w.new.inner) result }
-    ensures spends { Spends left.old left.new (writes_of w.old) (writes_of w.new) result }
-    ensures fewer { OnOk result (left.new < left.old) }
-    ensures keeps { GoesOn S.Store registry.old registry.new }
-{
-    match request.wanted {
-        Wanted::Index(_) => send_index(alloc, registry, w, request, close, left),
-        _ => send_answer(alloc, registry, w, request, close, left),
-    }
-}
-
 /// Routes and answers a request whose head was read.
 fn answer_head<W: Write, S: Alter>(
     alloc: Global,
     registry: &mut Registry<S>,
     routes: &Routes,
     w: &mut Counted<W>,
-    (head, body): (&Head<'_>, &[u8]),
+    head: &Head<'_>,
+    body: &[u8],
     close: bool,
     left: &mut u64,
 ) -> Result<(), StreamFault>
@@ -167,7 +110,7 @@ pub(crate) fn answer_message<W: Write, S: Alter>(
     match read_head(alloc, message, registry.limits()) {
         Ok(HeadRead::Head(head)) => {
             let (_, body) = message.split_at(head.len);
-            answer_head(alloc, registry, routes, w, (&head, body), close, left)
+            answer_head(alloc, registry, routes, w, &head, body, close, left)
         }
         _ => send_reply(w, &Reply::Denied(Rule::S1), close, only, left),
     }

@@ -1,11 +1,12 @@
 //! A registry over a store.
 
-ghost use Rattle.std.specs.Prelude.{◌≡◌, true, Err, IfOk, IsErr};
+ghost use Rattle.std.specs.Prelude.{◌≡◌, ◌⊎◌, true, Err, IfOk, IsErr};
 ghost use Rattle.sqlite.specs.State.{HasCleanDisk};
 ghost use Rattle.reg_model.specs.Events.Event.{Order};
 ghost use Rattle.reg_model.specs.Steps.{IsFit};
 ghost use Rattle.reg_policy.specs.Events.{command_of, reply_of};
 ghost use Rattle.reg_requests.specs.Requests.{request_of};
+ghost use Rattle.reg_requests.specs.Views.{event_of};
 ghost use Rattle.reg_service.specs.Answered.{AreUpToDate, IsAnswered};
 ghost use Rattle.reg_service.specs.Handled.{IsReplied};
 ghost use Rattle.reg_service.specs.Looked.{FailsFirst, IsIndex, IsTrueOf, Looked};
@@ -72,6 +73,8 @@ impl<S: Alter> Registry<S> {
         ensures clean { HasCleanDisk (shown S.Store (tables_of self.new)) → HasCleanDisk
             (shown S.Store (tables_of self.old)) }
         ensures limits { limits_of self.new ≡ limits_of self.old }
+        ensures read { IsFit (event_of (request_of (limits_of self.old) request.now))
+            ⊎ ((result ≡ Reply.Denied Rule.S1) × (tables_of self.new ≡ tables_of self.old)) }
         ensures stopped { has_stopped self.old ≡ true → result ≡ Reply.Denied Rule.S1 }
         ensures stays { has_stopped self.old ≡ true → has_stopped self.new ≡ true }
         ensures stops { has_stopped self.new ≡ true → result ≡ Reply.Denied Rule.S1 }

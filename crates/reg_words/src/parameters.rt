@@ -50,24 +50,24 @@ pub fn option<'a>(alloc: Global, name: &'a str, value: &'a str, help: &'a str) -
 }
 
 /// `with_file` adds the option that names the registry's file.
-pub fn with_file(alloc: Global, command: Command<'_>) -> Result<Command<'_>, AllocError> {
+pub fn with_file<'a>(alloc: Global, command: Command<'a>) -> Result<Command<'a>, AllocError> {
     command.arg(option(alloc, "db", "FILE", "The registry's file").required(true))
 }
 
-fn login(alloc: Global) -> Arg<'static> {
+fn login<'a>(alloc: Global) -> Arg<'a> {
     word(alloc, "LOGIN", "The login of an account")
 }
 
-fn named(alloc: Global) -> Arg<'static> {
+fn named<'a>(alloc: Global) -> Arg<'a> {
     word(alloc, "CRATE", "The name of a crate")
 }
 
 /// The subcommand with its words.
-fn with_words(
+fn with_words<'a>(
     alloc: Global,
     words: Words,
-    command: Command<'_>,
-) -> Result<Command<'_>, AllocError> {
+    command: Command<'a>,
+) -> Result<Command<'a>, AllocError> {
     match words {
         Words::Nothing => Ok(command),
         Words::Login => command.arg(login(alloc)),
@@ -79,11 +79,11 @@ fn with_words(
 }
 
 /// The subcommand of an entry.
-pub(crate) fn subcommand(
+pub(crate) fn subcommand<'a>(
     alloc: Global,
     shape: Shape,
     entry: Entry,
-) -> Result<Command<'static>, AllocError> {
+) -> Result<Command<'a>, AllocError> {
     let command = Command::new(alloc, entry.name)
         .about(entry.about)
         .after_help(entry.example);

@@ -39,10 +39,10 @@ const REPORTS: [Entry; 4] = [
 ];
 
 /// `with_reports` adds the subcommands that only report.
-pub fn with_reports(
+pub fn with_reports<'a>(
     alloc: Global,
-    mut command: Command<'static>,
-) -> Result<Command<'static>, AllocError> {
+    mut command: Command<'a>,
+) -> Result<Command<'a>, AllocError> {
     for entry in REPORTS {
         command = command.subcommand(subcommand(alloc, Shape::Program, entry)?)?;
     }

@@ -84,13 +84,13 @@ const PLAIN: [Entry; 10] = [
 ];
 
 /// `user-add`.
-fn user_add(alloc: Global, shape: Shape) -> Result<Command<'static>, AllocError> {
+fn user_add<'a>(alloc: Global, shape: Shape) -> Result<Command<'a>, AllocError> {
     let help = "The name that owner lists show: 1 to 100 printable ASCII characters";
     subcommand(alloc, shape, USER_ADD)?.arg(option(alloc, "name", "TEXT", help))
 }
 
 /// The options of `token-add` that say what it may do.
-fn with_scopes(alloc: Global, command: Command<'static>) -> Result<Command<'static>, AllocError> {
+fn with_scopes<'a>(alloc: Global, command: Command<'a>) -> Result<Command<'a>, AllocError> {
     let endpoints =
         "What it may do: publish-new, publish-update, yank, change-owners, separated by commas";
     let patterns = "The crates that it may act on: names, or prefixes before *, separated by \
@@ -101,7 +101,7 @@ fn with_scopes(alloc: Global, command: Command<'static>) -> Result<Command<'stat
 }
 
 /// The options of `token-add` that say where its text or its digest is from.
-fn with_source(alloc: Global, command: Command<'static>) -> Result<Command<'static>, AllocError> {
+fn with_source<'a>(alloc: Global, command: Command<'a>) -> Result<Command<'a>, AllocError> {
     let random = "The file whose first 32 bytes make the token's text. Without it: /dev/urandom";
     let digest = "The SHA-256 of the token's text, as 64 hex digits, in place of random bytes";
     let digest = option(alloc, "digest", "HEX", digest).conflicts_with("random")?;
@@ -111,17 +111,17 @@ fn with_source(alloc: Global, command: Command<'static>) -> Result<Command<'stat
 }
 
 /// `token-add`.
-fn token_add(alloc: Global, shape: Shape) -> Result<Command<'static>, AllocError> {
+fn token_add<'a>(alloc: Global, shape: Shape) -> Result<Command<'a>, AllocError> {
     let command = subcommand(alloc, shape, TOKEN_ADD)?;
     with_source(alloc, with_scopes(alloc, command)?)
 }
 
 /// Those without options.
-fn with_plain(
+fn with_plain<'a>(
     alloc: Global,
     shape: Shape,
-    mut command: Command<'static>,
-) -> Result<Command<'static>, AllocError> {
+    mut command: Command<'a>,
+) -> Result<Command<'a>, AllocError> {
     for entry in PLAIN {
         command = command.subcommand(subcommand(alloc, shape, entry)?)?;
     }
@@ -129,11 +129,11 @@ fn with_plain(
 }
 
 /// `with_orders` adds the subcommands that a setup file may have too: all that change a registry.
-pub fn with_orders(
+pub fn with_orders<'a>(
     alloc: Global,
     shape: Shape,
-    command: Command<'static>,
-) -> Result<Command<'static>, AllocError> {
+    command: Command<'a>,
+) -> Result<Command<'a>, AllocError> {
     let command = command.subcommand(user_add(alloc, shape)?)?;
     let command = command.subcommand(token_add(alloc, shape)?)?;
     with_plain(alloc, shape, command)
