@@ -14,10 +14,12 @@ mod registry;
 mod reports;
 mod searching;
 mod sequences;
+mod streaming;
 mod tokens;
 mod transactions;
 
 pub use opening::OpenFault;
 pub use reg_audit::Check;
+pub use reg_streaming::IndexFault;
 pub use registry::Registry;
 pub use sequences::{Call, Told, answer_all};
