@@ -1,6 +1,7 @@
 -- One more exchange behind those that were done.
-use Rattle.std.proofs.Common.{◌≡◌, ◌≤◌, ◌<◌, ◌+◌, ◌++◌, ◌||◌, ◌==◌, ℕ, Bool, true, false, List, [], ◌∷◌, inl, inr, refl, sym, ap, ◌∙◌, subst, arith, append_assoc, append-nil, length, length-append, map, Option, Result, Ok, Err, All}
+use Rattle.std.proofs.Common.{◌≡◌, ◌≤◌, ◌<◌, ◌+◌, ◌++◌, ◌||◌, ◌==◌, ◌≢◌, ℕ, Bool, true, false, List, [], ◌∷◌, inl, inr, refl, sym, ap, ◌∙◌, subst, arith, append_assoc, append-nil, length, length-append, map, Option, Result, Ok, Err, All}
 use Rattle.std.specs.List.{flat_map}
+use Rattle.std.proofs.lemmas.Bool.{eqb-false}
 use Rattle.std.proofs.lemmas.Grind.{flat_map-append}
 use Rattle.std.proofs.lemmas.List.{map-append}
 use Rattle.std.proofs.lemmas.List.Elements.{All-push}
@@ -15,10 +16,15 @@ use Rattle.reg_service.specs.Answered.{Answers, Shows}
 use Rattle.reg_service.specs.Sequences.{Ran}
 use Rattle.reg_tables.specs.declared.tables.Tables.{Tables}
 use Rattle.reg_tables.specs.Works.{shown}
+use Rattle.reg_requests.specs.Requests.{request_from}
+use Rattle.reg_requests.specs.Views.{event_of}
 use Rattle.reg_http.specs.Answering.{Moves}
 use Rattle.reg_http.specs.Exchanges.{Exchange, Outcome, answers_in, event_in, events_in, steps_in}
 use Rattle.reg_http.specs.Exchanges.Outcome.{Answered, NoMethod, NoRoom, NoRoute, Unread}
 use Rattle.reg_http.specs.Streams.{Goes, HasRun, IsOpen, asked, replied, told}
+
+not_last : (m n : ℕ) → (m == n) ≡ false → m ≢ n
+not_last m n differ = eqb-false m n differ
 
 asked-push : (xs : List Exchange) (x : Exchange) → asked (xs ++ x ∷ []) ≡ asked xs ++ x.message
 asked-push xs x = flat_map-append _ xs (x ∷ []) ∙ ap (λ l. asked xs ++ l) (append-nil x.message)
@@ -52,7 +58,7 @@ module _ (limits : Limits) (done : List Exchange) (read written rest : Text) (co
     wrote = ap (λ l. l ++ told limits false x) goes.wrote ∙ sym (replied-push limits done x);
     count_is = omega (arith, goes.count_is, length-append done (x ∷ []));
     each = All-push (IsOpen limits) done x goes.each is_open;
-    before_last = λ le. goes.before_last (omega (arith, le, more));
+    before_last = λ le. goes.before_last (omega (arith, le, not_last (count + 1) limits.replies more));
   }
 
 -- one more event behind a run
@@ -71,16 +77,18 @@ module _ {S : Type 0} (g : Ghosts S) (limits : Limits) (s : model.Registry) (law
       let same : steps_in limits (done ++ x ∷ []) ≡ steps ++ more = steps-push limits done x ∙ ap (λ l. steps ++ l) is in
       let first = ap (λ l. map (λ p. p.0) l) same ∙ map-append (λ p. p.0) steps more in
       let second = ap (λ l. map (λ p. p.1) l) same ∙ map-append (λ p. p.1) steps more in
-      (t, subst (λ es. Ran g limits s es (answers_in limits (done ++ x ∷ [])) t new) (sym first) (subst (λ xs. Ran g limits s _ xs t new) (sym second) ran))
+      (t, subst (λ es. Ran g limits s es (answers_in limits (done ++ x ∷ [])) t new) (sym first) (subst (λ xs. Ran g limits s (map (λ p. p.0) steps ++ map (λ p. p.0) more) xs t new) (sym second) ran))
 
   stays : (t : model.Registry) → Ran g limits s (events_in limits done) (answers_in limits done) t old → new ≡ old → event_in limits x.facts x.outcome ≡ []
       → HasRun g limits s new (done ++ x ∷ [])
   stays t ran same is =
-      pushed t [] is (subst (λ xs. Ran g limits s _ xs t new) (sym (append-nil (answers_in limits done))) (subst (λ es. Ran g limits s es (answers_in limits done) t new) (sym (append-nil (events_in limits done))) (subst (λ it. Ran g limits s _ _ t it) (sym same) ran)))
+      pushed t [] is (subst (λ xs. Ran g limits s (events_in limits done ++ []) xs t new) (sym (append-nil (answers_in limits done))) (subst (λ es. Ran g limits s es (answers_in limits done) t new) (sym (append-nil (events_in limits done))) (subst (λ it. Ran g limits s (events_in limits done) (answers_in limits done) t it) (sym same) ran)))
 
   run_by : (t : model.Registry) → Ran g limits s (events_in limits done) (answers_in limits done) t old → (o : Outcome) → x.outcome ≡ o → Moves g limits t x.facts o old new
       → HasRun g limits s new (done ++ x ∷ [])
-  run_by t ran (Answered w a) is (fit, it) = pushed it.after _ (ap (event_in limits x.facts) is) (law limits s _ _ t _ a old new fit ran it)
+  run_by t ran (Answered w a) is (fit, it) =
+      let e = event_of (request_from limits x.facts.token w) in
+      pushed it.after ((e, a) ∷ []) (ap (event_in limits x.facts) is) (law limits s (events_in limits done) (answers_in limits done) t e a old new fit ran it)
   run_by t ran NoRoute is same = stays t ran same (ap (event_in limits x.facts) is)
   run_by t ran (NoMethod m) is same = stays t ran same (ap (event_in limits x.facts) is)
   run_by t ran NoRoom is same = stays t ran same (ap (event_in limits x.facts) is)

@@ -1,2 +1,3 @@
 pub mod Exchanged
+pub mod Outcomes
 pub mod Steps

@@ -11,9 +11,10 @@ use Rattle.reg_heads.specs.Heads.{Facts, IsHeadAt}
 use Rattle.reg_model.specs.declared.rule.Rule.{Rule}
 use Rattle.reg_model.specs.Registry as model
 use Rattle.reg_model.specs.Registry.{Text}
-use Rattle.reg_receiving.specs.Begun.{IsBegun, IsRefused, interim_of}
+use Rattle.reg_receiving.specs.Begun.{IsBegun, IsRefused, interim_of, is_head}
 use Rattle.reg_receiving.specs.Taking.{HasBegun, IsCutOff, Keeps, Reads, Takes}
-use Rattle.reg_receiving.specs.Turns.{Sends, Streams}
+use Rattle.reg_body.specs.Counting.{CountedEnd}
+use Rattle.reg_receiving.specs.Turns.{Sends, SpendsFor, SpendsSome, Streams, tally, writes_of}
 use Rattle.reg_receiving.specs.declared.fault.StreamFault.{StreamFault}
 use Rattle.reg_receiving.specs.declared.fault.StreamFault.TheVariants.{Memory, ReadFault, StoreFault, TooManyTurns, WriteFault}
 use Rattle.reg_receiving.specs.declared.taking.Begun.{Begun}
@@ -223,12 +224,12 @@ module _ {S : Type 0} (g : Ghosts S) (limits : Limits) (s : model.Registry) wher
 
         -- the connection goes on
         answered : Appends w2 w3 (outcome_text limits f close replies.outcome) → close ≡ false → Holds g limits s r0 r2 w0 w3 later (count + 1) new
-        answered sent no =
-            let parts = or_parts f.close (count + 1 == limits.replies) (sym close_is ∙ no) in record {
+        answered sent stays =
+            let parts = or_parts f.close (count + 1 == limits.replies) (sym close_is ∙ stays) in record {
               read = h.read ++ bytes;
               written = h.written ++ told limits false this;
               consumed = consumes bytes consumed;
-              appended = subst (λ c. Appends w0 w3 (h.written ++ told limits c this)) no (sends_all sent);
+              appended = subst (λ c. Appends w0 w3 (h.written ++ told limits c this)) stays (sends_all sent);
               done = h.done ++ this ∷ [];
               goes = goes_push limits h.done (h.read ++ bytes) h.written (message ++ later) count goes_whole this later (record { exchange = exchange; goes_on = parts.0 }) refl parts.1;
               run = run;
@@ -236,11 +237,11 @@ module _ {S : Type 0} (g : Ghosts S) (limits : Limits) (s : model.Registry) wher
 
         -- the connection is closed
         closed : Appends w2 w3 (outcome_text limits f close replies.outcome) → close ≡ true → Serves g limits s new r0 r2 w0 w3 (Ok (count + 1))
-        closed sent yes = (
+        closed sent ends = (
           h.read ++ bytes,
           h.written ++ told limits true this,
           consumes bytes consumed,
-          subst (λ c. Appends w0 w3 (h.written ++ told limits c this)) yes (sends_all sent),
+          subst (λ c. Appends w0 w3 (h.written ++ told limits c this)) ends (sends_all sent),
           inr (inl (record {
             done = h.done;
             last = this;
@@ -249,7 +250,7 @@ module _ {S : Type 0} (g : Ghosts S) (limits : Limits) (s : model.Registry) wher
             number = count;
             goes = goes_whole;
             exchange = exchange;
-            closing = sym close_is ∙ yes;
+            closing = sym close_is ∙ ends;
             wrote = refl;
             count_is = refl;
             run = run;
@@ -285,12 +286,12 @@ module _ {S : Type 0} (g : Ghosts S) (limits : Limits) (s : model.Registry) wher
       IsReplying result = (t : model.Registry) → Shows t (shown g now) → Replies g limits f (routing_of f (drop f.len message)) close t now new w2 w3 result
 
       pub reply_sent : (u : Unit {0}) → IsReplying (Ok u) → close ≡ false → Holds g limits s r0 r2 w0 w3 later (count + 1) new
-      reply_sent u all no =
-          let (t, ran) = h.run in let it = all t ran.shows in answered t (Ok u) ran it it.sends no
+      reply_sent u all stays =
+          let (t, ran) = h.run in let it = all t ran.shows in answered t (Ok u) ran it it.sends stays
 
       pub last_sent : (u : Unit {0}) → IsReplying (Ok u) → close ≡ true → Serves g limits s new r0 r2 w0 w3 (Ok (count + 1))
-      last_sent u all yes =
-          let (t, ran) = h.run in let it = all t ran.shows in closed t (Ok u) ran it it.sends yes
+      last_sent u all ends =
+          let (t, ran) = h.run in let it = all t ran.shows in closed t (Ok u) ran it it.sends ends
 
       pub reply_failed : (fault : StreamFault) → IsReplying (Err fault) → Serves g limits s new r0 r2 w0 w3 (Err fault)
       reply_failed WriteFault all = let (t, ran) = h.run in let it = all t ran.shows in reply_cut t (Err WriteFault) ran it it.sends
@@ -302,3 +303,49 @@ module _ {S : Type 0} (g : Ghosts S) (limits : Limits) (s : model.Registry) wher
           (read, written, c, a, inr stopped)
       reply_failed ReadFault all = let (t, ran) = h.run in let it = all t ran.shows in absurd it.sends
       reply_failed Memory all = let (t, ran) = h.run in let it = all t ran.shows in absurd it.sends
+
+    -- the same as the taking and the answering tell it
+    module _ (alone : HeadsStandAlone) (stay : HeadsStay) (law : EventsGoOn g) (waits : Text) (b : Begun) (takes : Takes r1 r2 rest waits w1 w2 limits (Ok (taken.Whole b))) (close : Bool)
+        (close_is : close ≡ (b.close || count + 1 == limits.replies)) (new : Tables S) (w3 : Option Text) where
+      abbrev Replied : Result (Unit {0}) StreamFault → Type 0
+      Replied result = (f : Facts) → IsHeadAt limits (take (b.len + b.body_len) waits) f → b.is_head ≡ is_head f → (t : model.Registry) → Shows t (shown g now)
+          → Replies g limits f (routing_of f (drop f.len (take (b.len + b.body_len) waits))) close t now new w2 w3 result
+
+      kept : Keeps limits waits b takes.2.1.0
+      kept = subst (λ l. Keeps limits l b takes.2.1.0) (sym takes.2.0) takes.2.1.1
+
+      fits : b.len + b.body_len ≤ length waits
+      fits = omega (arith, takes.2.1.1.len, takes.2.1.1.body_len, takes.2.1.2, ap (λ l. length l) takes.2.0)
+
+      closing_is : close ≡ closes limits takes.2.1.0 (count + 1)
+      closing_is = close_is ∙ ap (λ c. c || count + 1 == limits.replies) takes.2.1.1.close
+
+      the_head : IsHeadAt limits (take (b.len + b.body_len) waits) takes.2.1.0
+      the_head = head alone stay law waits b takes.2.1.0 kept fits takes.0 takes.1 takes.2.0 takes.2.1.3 close closing_is new w3
+
+      pub whole_sent : (u : Unit {0}) → Replied (Ok u) → close ≡ false → Holds g limits s r0 r2 w0 w3 (drop (b.len + b.body_len) waits) (count + 1) new
+      whole_sent u all = reply_sent alone stay law waits b takes.2.1.0 kept fits takes.0 takes.1 takes.2.0 takes.2.1.3 close closing_is new w3 u (all takes.2.1.0 the_head takes.2.1.1.only)
+
+      pub whole_last : (u : Unit {0}) → Replied (Ok u) → close ≡ true → Serves g limits s new r0 r2 w0 w3 (Ok (count + 1))
+      whole_last u all = last_sent alone stay law waits b takes.2.1.0 kept fits takes.0 takes.1 takes.2.0 takes.2.1.3 close closing_is new w3 u (all takes.2.1.0 the_head takes.2.1.1.only)
+
+      pub whole_failed : (fault : StreamFault) → Replied (Err fault) → Serves g limits s new r0 r2 w0 w3 (Err fault)
+      whole_failed fault all = reply_failed alone stay law waits b takes.2.1.0 kept fits takes.0 takes.1 takes.2.0 takes.2.1.3 close closing_is new w3 fault (all takes.2.1.0 the_head takes.2.1.1.only)
+
+-- turns that writes took, beside a reader that stays
+module _ {R W : Type 0} (r : CountedEnd R) (w0 w1 : CountedEnd W) (had left : ℕ) where
+  pub wrote_some : SpendsSome had left (writes_of w0) (writes_of w1) → SpendsSome had left (tally r w0) (tally r w1)
+  wrote_some it = record {
+    turns = omega (arith, it.turns);
+    reads = omega arith;
+    writes = it.writes;
+    failed_reads = refl;
+    failed_writes = it.failed_writes;
+  }
+
+  pub wrote_for : (f : StreamFault) → SpendsFor had left (writes_of w0) (writes_of w1) f → SpendsFor had left (tally r w0) (tally r w1) f
+  wrote_for ReadFault it = absurd (omega (arith, it.reads_are))
+  wrote_for WriteFault it = record { turns = omega (arith, it.turns); reads_are = omega arith; writes_are = it.writes_are }
+  wrote_for StoreFault it = record { turns = omega (arith, it.turns); reads_are = omega arith; writes_are = it.writes_are }
+  wrote_for TooManyTurns it = record { turns = omega (arith, it.turns); failed_reads = refl; failed_writes = it.failed_writes }
+  wrote_for Memory it = wrote_some it

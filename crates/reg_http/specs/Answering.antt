@@ -1,9 +1,10 @@
 -- One request is answered.
-use Rattle.std.specs.Prelude.{◌≡◌, Bool, Option, Result}
+use Rattle.std.specs.Prelude.{◌≡◌, Bool, None, Option, Result, Some}
 use Rattle.sqlite.specs.State.{HasCleanDisk}
 use Rattle.sqlite_trees.specs.declared.store.Store.{Ghosts}
 use Rattle.reg_body.specs.declared.limits.Limits.{Limits}
 use Rattle.reg_heads.specs.Heads.{Facts}
+use Rattle.reg_model.specs.declared.rule.Rule.TheVariants as rule
 use Rattle.reg_model.specs.Registry as model
 use Rattle.reg_model.specs.Steps.{IsFit}
 use Rattle.reg_model.specs.Registry.{Text}
@@ -19,6 +20,9 @@ use Rattle.reg_tables.specs.Works.{shown}
 use Rattle.reg_http.specs.Exchanges.{IsOutcome, Outcome, outcome_text}
 use Rattle.reg_http.specs.Exchanges.Outcome.{Answered}
 use Rattle.reg_routes.specs.Routing.{Routing}
+use Rattle.reg_routes.specs.declared.fault.RouteFault.{RouteFault}
+use Rattle.reg_routes.specs.declared.fault.RouteFault.TheVariants.{Memory, Method, NoRoute}
+use Rattle.reg_sending.specs.Texts.{refusal_text}
 
 -- the tables move with the outcome: an event that is fit is answered by them, and else they stay
 abbrev pub Moves : {S : Type 0} → Ghosts S → Limits → model.Registry → Facts → Outcome → Tables S
@@ -48,3 +52,9 @@ pub record GoesOn {S : Type 0} (g : Ghosts S) (old new : Registry S) : Type 0 wh
   pub tables : AreUpToDate g (tables_of new)
   pub clean : HasCleanDisk (shown g (tables_of new)) → HasCleanDisk (shown g (tables_of old))
   pub limits : limits_of new ≡ limits_of old
+
+-- what is sent where there is no route, no such method, or no room to route the request
+abbrev pub fault_text : RouteFault → Bool → Bool → Text
+fault_text NoRoute close only = refusal_text rule.H6 None close only
+fault_text (Method m) close only = refusal_text rule.H7 (Some m) close only
+fault_text Memory close only = refusal_text rule.S1 None close only

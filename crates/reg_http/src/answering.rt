@@ -1,34 +1,119 @@
 //! One request is routed, and answered by the registry.
 
-ghost use Rattle.std.specs.Prelude.{◌≡◌, ◌+◌, ◌^◌, ◌<◌, OnOk, drop};
+ghost use Rattle.std.specs.Prelude.{◌≡◌, ◌+◌, ◌^◌, ◌<◌, None, OnOk, Some, drop};
 ghost use Rattle.std.specs.Option.{option_map};
 ghost use Rattle.reg_heads.specs.Reads.{facts_of};
 ghost use Rattle.reg_heads.specs.Heads.{Facts, IsHeadAt};
 ghost use Rattle.reg_receiving.specs.Begun.{is_head};
-ghost use Rattle.reg_receiving.specs.Turns.{Spends, writes_of};
+ghost use Rattle.reg_receiving.specs.Turns.{Sends, Spends, writes_of};
 ghost use Rattle.reg_routes.specs.Routing.{routing_of};
 ghost use Rattle.reg_routes.specs.Routing.Routing.{Wants as to_wants};
+ghost use Rattle.reg_sending.specs.Texts.{refusal_text};
 ghost use Rattle.reg_service.specs.Answered.{AreUpToDate};
 ghost use Rattle.reg_service.specs.Registries.{limits_of, tables_of};
 ghost use Rattle.reg_requests.specs.Wants.{wants_of};
-ghost use Rattle.reg_http.specs.Answering.{GoesOn, IsReplied};
+ghost use Rattle.reg_service.specs.Streamed.{AsksForFile};
+ghost use Rattle.reg_http.specs.Answering.{GoesOn, IsReplied, fault_text};
 
 use reg_body::Counted;
 use reg_heads::laws::{bounds_law, one_head_law};
 use reg_heads::{Head, HeadRead, read_head};
 use reg_policy::Rule;
 use reg_receiving::{StreamFault, send_reply};
-use reg_replies::Reply;
-use reg_requests::ApiRequest;
+use reg_replies::{Methods, Reply};
+use reg_requests::{ApiRequest, Wanted};
 use reg_routes::{RouteFault, Routes};
 use reg_sending::laws::answer_law;
 use reg_service::Registry;
+use reg_streaming::IndexFault;
 use sqlite::Alter;
 use std::alloc::Global;
 use std::io::Write;
 
-/// Answers a request that was routed.
-fn answer<W: Write, S: Alter>(
+/// The reply that a rule makes, and that of a route with other methods.
+fn denial(rule: Rule) -> Reply
+    ensures { result ≡ Reply.Denied rule }
+{
+    Reply::Denied(rule)
+}
+
+fn other_methods(methods: Methods) -> Reply
+    ensures { result ≡ Reply.Method methods }
+{
+    Reply::Method(methods)
+}
+
+/// Refuses a request for a rule.
+pub(crate) fn deny<W: Write>(
+    w: &mut Counted<W>,
+    rule: Rule,
+    close: bool,
+    only: bool,
+    left: &mut u64,
+) -> Result<(), StreamFault>
+    requires { w.old.calls + left.old < 2 ^ 64 }
+    ensures sends { Sends (refusal_text rule None close only) (W.contents w.old.inner)
+        (W.contents w.new.inner) result }
+    ensures spends { Spends left.old left.new (writes_of w.old) (writes_of w.new) result }
+    ensures fewer { OnOk result (left.new < left.old) }
+{
+    let reply = denial(rule);
+    send_reply(w, &reply, close, only, left)
+}
+
+/// Tells the methods that a route has.
+fn tell_methods<W: Write>(
+    w: &mut Counted<W>,
+    methods: Methods,
+    close: bool,
+    only: bool,
+    left: &mut u64,
+) -> Result<(), StreamFault>
+    requires { w.old.calls + left.old < 2 ^ 64 }
+    ensures sends { Sends (refusal_text Rule.H7 (Some methods) close only)
+        (W.contents w.old.inner) (W.contents w.new.inner) result }
+    ensures spends { Spends left.old left.new (writes_of w.old) (writes_of w.new) result }
+    ensures fewer { OnOk result (left.new < left.old) }
+{
+    let reply = other_methods(methods);
+    send_reply(w, &reply, close, only, left)
+}
+
+/// Sends the index file that is asked for.
+fn send_index<W: Write, S: Alter>(
+    alloc: Global,
+    registry: &mut Registry<S>,
+    w: &mut Counted<W>,
+    request: &ApiRequest<'_>,
+    close: bool,
+    left: &mut u64,
+) -> Result<(), StreamFault>
+    requires tables { AreUpToDate S.Store (tables_of registry.old) }
+    requires room { w.old.calls + left.old < 2 ^ 64 }
+    requires file { AsksForFile request.now.wanted }
+    ensures replied { (f : Facts) → f.token ≡ option_map (λ t. t.now) request.now.token
+        → IsReplied S.Store (limits_of registry.old) f (to_wants (wants_of request.now.wanted))
+        close (tables_of registry.old) (tables_of registry.new)
+        (W.contents w.old.inner) (W.contents w.new.inner) result }
+    ensures spends { Spends left.old left.new (writes_of w.old) (writes_of w.new) result }
+    ensures fewer { OnOk result (left.new < left.old) }
+    ensures keeps { GoesOn S.Store registry.old registry.new }
+{
+    match registry.stream_index(alloc, request, close, w, *left) {
+        // No reply is empty.
+        Ok(0) => Err(StreamFault::StoreFault),
+        Ok(used) => {
+            *left -= used;
+            Ok(())
+        }
+        Err(IndexFault::Write) => Err(StreamFault::WriteFault),
+        Err(IndexFault::Spent) => Err(StreamFault::TooManyTurns),
+        Err(IndexFault::Store) => Err(StreamFault::StoreFault),
+    }
+}
+
+/// Sends what the registry answers to a request for anything but an index file.
+fn send_answer<W: Write, S: Alter>(
     alloc: Global,
     registry: &mut Registry<S>,
     w: &mut Counted<W>,
@@ -49,6 +134,52 @@ fn answer<W: Write, S: Alter>(
     answer_law();
     let reply = registry.handle(alloc, request);
     send_reply(w, &reply, close, false, left)
+}
+
+/// Answers a request that was routed.
+fn answer<W: Write, S: Alter>(
+    alloc: Global,
+    registry: &mut Registry<S>,
+    w: &mut Counted<W>,
+    request: &ApiRequest<'_>,
+    close: bool,
+    left: &mut u64,
+) -> Result<(), StreamFault>
+    requires tables { AreUpToDate S.Store (tables_of registry.old) }
+    requires room { w.old.calls + left.old < 2 ^ 64 }
+    ensures replied { (f : Facts) → f.token ≡ option_map (λ t. t.now) request.now.token
+        → IsReplied S.Store (limits_of registry.old) f (to_wants (wants_of request.now.wanted))
+        close (tables_of registry.old) (tables_of registry.new)
+        (W.contents w.old.inner) (W.contents w.new.inner) result }
+    ensures spends { Spends left.old left.new (writes_of w.old) (writes_of w.new) result }
+    ensures fewer { OnOk result (left.new < left.old) }
+    ensures keeps { GoesOn S.Store registry.old registry.new }
+{
+    match request.wanted {
+        Wanted::Index(_) => send_index(alloc, registry, w, request, close, left),
+        _ => send_answer(alloc, registry, w, request, close, left),
+    }
+}
+
+/// Refuses a request that has no route.
+fn refuse_route<W: Write>(
+    w: &mut Counted<W>,
+    fault: RouteFault,
+    close: bool,
+    only: bool,
+    left: &mut u64,
+) -> Result<(), StreamFault>
+    requires { w.old.calls + left.old < 2 ^ 64 }
+    ensures sends { Sends (fault_text fault close only) (W.contents w.old.inner)
+        (W.contents w.new.inner) result }
+    ensures spends { Spends left.old left.new (writes_of w.old) (writes_of w.new) result }
+    ensures fewer { OnOk result (left.new < left.old) }
+{
+    match fault {
+        RouteFault::NoRoute => deny(w, Rule::H6, close, only, left),
+        RouteFault::Method(methods) => tell_methods(w, methods, close, only, left),
+        RouteFault::Memory => deny(w, Rule::S1, close, only, left),
+    }
 }
 
 /// Routes and answers a request whose head was read.
@@ -75,11 +206,7 @@ fn answer_head<W: Write, S: Alter>(
     let only = head.method == "HEAD";
     match routes.route(alloc, head, body) {
         Ok(routed) => answer(alloc, registry, w, &routed.request(), close, left),
-        Err(RouteFault::NoRoute) => send_reply(w, &Reply::Denied(Rule::H6), close, only, left),
-        Err(RouteFault::Method(methods)) => {
-            send_reply(w, &Reply::Method(methods), close, only, left)
-        }
-        Err(RouteFault::Memory) => send_reply(w, &Reply::Denied(Rule::S1), close, only, left),
+        Err(fault) => refuse_route(w, fault, close, only, left),
     }
 }
 
@@ -112,6 +239,6 @@ pub(crate) fn answer_message<W: Write, S: Alter>(
             let (_, body) = message.split_at(head.len);
             answer_head(alloc, registry, routes, w, &head, body, close, left)
         }
-        _ => send_reply(w, &Reply::Denied(Rule::S1), close, only, left),
+        _ => deny(w, Rule::S1, close, only, left),
     }
 }

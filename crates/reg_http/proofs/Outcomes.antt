@@ -1,0 +1,122 @@
+-- What a request came to, by what the registry told.
+use Rattle.std.proofs.Common.{◌≡◌, ◌<◌, ◌++◌, ◌⊎◌, ℕ, Bool, true, false, [], inl, inr, refl, sym, ap, subst, arith, Option, None, Some, Result, Ok, Err, length}
+use Rattle.sqlite_trees.specs.declared.store.Store.{Ghosts}
+use Rattle.reg_body.specs.declared.limits.Limits.{Limits}
+use Rattle.reg_heads.specs.Heads.{Facts}
+use Rattle.reg_model.specs.declared.rule.Rule.TheVariants as rule
+use Rattle.reg_model.specs.Events.{Answer, Asked}
+use Rattle.reg_model.specs.Registry as model
+use Rattle.reg_model.specs.Registry.{Text}
+use Rattle.reg_model.specs.Steps.{IsFit}
+use Rattle.reg_receiving.specs.Turns.{Sends, Streams}
+use Rattle.reg_receiving.proofs.Replies.{answer_some}
+use Rattle.reg_receiving.specs.declared.fault.StreamFault.{StreamFault}
+use Rattle.reg_receiving.specs.declared.fault.StreamFault.TheVariants.{Memory, ReadFault, StoreFault, TooManyTurns, WriteFault}
+use Rattle.reg_replies.specs.Replies.{Says}
+use Rattle.reg_replies.specs.declared.reply.Reply.{Reply}
+use Rattle.reg_replies.specs.declared.reply.Reply.TheVariants.{Denied}
+use Rattle.reg_requests.specs.Requests.{asked_from, request_from}
+use Rattle.reg_requests.specs.Views.{event_of}
+use Rattle.reg_requests.specs.Wants.{Wants, wants_of}
+use Rattle.reg_requests.specs.declared.request.Wanted.{Wanted}
+use Rattle.reg_requests.specs.declared.request.Wanted.TheVariants as wanted
+use Rattle.reg_routes.specs.Routing.Routing.{Wants as to_wants}
+use Rattle.reg_sending.specs.Sent.{Sink}
+use Rattle.reg_sending.specs.Texts.{answer_text, refusal_text, reply_text}
+use Rattle.reg_service.specs.Answered.{Answers}
+use Rattle.reg_service.specs.Streamed.{AsksForFile, StreamsTo}
+use Rattle.reg_streaming.specs.Streams as stream
+use Rattle.reg_streaming.specs.declared.fault.IndexFault.{IndexFault}
+use Rattle.reg_streaming.specs.declared.fault.IndexFault.TheVariants.{Spent, Store, Write}
+use Rattle.reg_tables.specs.declared.tables.Tables.{Tables}
+use Rattle.reg_http.specs.Answering.{Replies, fault_text}
+use Rattle.reg_http.specs.Exchanges.Outcome.{Answered, NoMethod, NoRoom, NoRoute, Unread}
+use Rattle.reg_receiving.specs.Begun.{is_head}
+use Rattle.reg_routes.specs.Routed.{IsRouted}
+use Rattle.reg_routes.specs.Routing.{Routing}
+use Rattle.reg_routes.specs.declared.fault.RouteFault.{RouteFault}
+use Rattle.reg_routes.specs.declared.fault.RouteFault.TheVariants as route
+
+pub none_below : (n : ℕ) → n ≡ 0 → 0 < n → ⊥
+none_below n is lt = omega (arith, is, lt)
+
+-- a text that was sent is one whose sending may stop for the store too
+pub streams_of : (text : Text) (old new : Option Text) (r : Result (Unit {0}) StreamFault) → Sends text old new r → Streams text old new r
+streams_of text old new (Ok u) x = x
+streams_of text old new (Err WriteFault) x = x
+streams_of text old new (Err TooManyTurns) x = x
+streams_of text old new (Err ReadFault) x = absurd x
+streams_of text old new (Err StoreFault) x = absurd x
+streams_of text old new (Err Memory) x = absurd x
+
+file_fit : (limits : Limits) (token : Option Text) (w : Wanted) → AsksForFile w → IsFit (event_of (request_from limits token (wants_of w)))
+file_fit limits token (wanted.Index path) h = tt
+file_fit limits token wanted.Config h = absurd h
+file_fit limits token (wanted.Download n v) h = absurd h
+file_fit limits token (wanted.Publish b) h = absurd h
+file_fit limits token (wanted.ListOwners n) h = absurd h
+file_fit limits token (wanted.Yank n v) h = absurd h
+file_fit limits token (wanted.Unyank n v) h = absurd h
+file_fit limits token (wanted.AddOwners n b) h = absurd h
+file_fit limits token (wanted.RemoveOwners n b) h = absurd h
+file_fit limits token (wanted.Search q) h = absurd h
+
+module _ {S : Type 0} (g : Ghosts S) (limits : Limits) (s : model.Registry) (f : Facts) (token : Option Text) (same : f.token ≡ token) (close : Bool) (old new : Tables S) (w0 w1 : Option Text) (r : Result (Unit {0}) StreamFault) where
+  pub answered : (w : Wants) → IsFit (event_of (request_from limits token w)) → (a : Answer) → Answers g limits s (event_of (request_from limits token w)) a old new
+      → Streams (answer_text (asked_from limits w) a close) w0 w1 r → Replies g limits f (to_wants w) close s old new w0 w1 r
+  answered w fit a it sends = record {
+    outcome = Answered w a;
+    leads = refl;
+    moves = (
+      subst (λ t. IsFit (event_of (request_from limits t w))) (sym same) fit,
+      subst (λ t. Answers g limits s (event_of (request_from limits t w)) a old new) (sym same) it,
+    );
+    sends = sends;
+  }
+
+  -- what was told as a reply
+  pub handled : ((asked : Asked) (a : Answer) (reply : Reply) (close : Bool) → Says asked a reply → reply_text reply close false ≡ answer_text asked a close)
+      → (w : Wants) (reply : Reply)
+      → IsFit (event_of (request_from limits token w)) ⊎ ((reply ≡ Denied rule.S1) × (new ≡ old))
+      → (a : Answer) → Says (asked_from limits w) a reply → Answers g limits s (event_of (request_from limits token w)) a old new
+      → Sends (reply_text reply close false) w0 w1 r → Replies g limits f (to_wants w) close s old new w0 w1 r
+  handled law w reply (inl fit) a says it sends =
+      answered w fit a it (subst (λ t. Streams t w0 w1 r) (law (asked_from limits w) a reply close says) (streams_of (reply_text reply close false) w0 w1 r sends))
+  handled law w reply (inr (denied, kept)) a says it sends = record {
+    outcome = Unread w;
+    leads = refl;
+    moves = kept;
+    sends = subst (λ it. Streams (reply_text it close false) w0 w1 r) denied (streams_of (reply_text reply close false) w0 w1 r sends);
+  }
+
+module _ {S : Type 0} (g : Ghosts S) (limits : Limits) (s : model.Registry) (f : Facts) (token : Option Text) (same : f.token ≡ token) (w : Wanted) (file : AsksForFile w) (close : Bool) (old new : Tables S) (writes : ℕ) (before after : Sink) where
+  abbrev Told : Result ℕ IndexFault → Type 0
+  Told r = StreamsTo g limits s (request_from limits token (wants_of w)).digest (request_from limits token (wants_of w)).asked close r writes old new before after
+
+  abbrev IsSo : Result (Unit {0}) StreamFault → Type 0
+  IsSo r = Replies g limits f (to_wants (wants_of w)) close s old new before.contents after.contents r
+
+  pub file_sent : (used : ℕ) → Told (Ok used) → IsSo (Ok tt)
+  file_sent used (a, sends, it) = answered g limits s f token same close old new before.contents after.contents (Ok tt) (wants_of w) (file_fit limits token w file) a it sends.all
+
+  -- no reply is empty
+  pub file_some : (used : ℕ) → Told (Ok used) → 0 < used
+  file_some used (a, sends, it) = sends.some (answer_some (asked_from limits (wants_of w)) a close)
+
+  pub file_failed : Told (Err Write) → IsSo (Err WriteFault)
+  file_failed (a, sends, it) = answered g limits s f token same close old new before.contents after.contents (Err WriteFault) (wants_of w) (file_fit limits token w file) a it sends.front
+
+  pub file_spent : Told (Err Spent) → IsSo (Err TooManyTurns)
+  file_spent (a, sends, it) = answered g limits s f token same close old new before.contents after.contents (Err TooManyTurns) (wants_of w) (file_fit limits token w file) a it sends.front
+
+  pub file_broken : Told (Err Store) → IsSo (Err StoreFault)
+  file_broken (a, sends, it) =
+      answered g limits s f token same close old new before.contents after.contents (Err StoreFault) (wants_of w) (file_fit limits token w file) a it
+      (record { front = sends.front; rest = sends.rest; whole = sends.whole; appends = sends.sends.all })
+
+-- the request is not routed
+pub unrouted : {S : Type 0} (g : Ghosts S) (limits : Limits) (s : model.Registry) (f : Facts) (token : Option Text) (there : Routing) (close : Bool) (now : Tables S) (w0 w1 : Option Text) (r : Result (Unit {0}) StreamFault)
+    → (fault : RouteFault) → IsRouted token there (Err fault) → Sends (fault_text fault close (is_head f)) w0 w1 r → Replies g limits f there close s now now w0 w1 r
+unrouted g limits s f token there close now w0 w1 r route.NoRoute is sends = record { outcome = NoRoute; leads = is; moves = refl; sends = streams_of (refusal_text rule.H6 None close (is_head f)) w0 w1 r sends }
+unrouted g limits s f token there close now w0 w1 r (route.Method m) is sends = record { outcome = NoMethod m; leads = is; moves = refl; sends = streams_of (refusal_text rule.H7 (Some m) close (is_head f)) w0 w1 r sends }
+unrouted g limits s f token there close now w0 w1 r route.Memory is sends = record { outcome = NoRoom; leads = tt; moves = refl; sends = streams_of (refusal_text rule.S1 None close (is_head f)) w0 w1 r sends }

@@ -1,0 +1,19 @@
+use Rattle.std.proofs.Common.{◌≡◌, option_copied, rules, subst}
+use Rattle.reg_heads.specs.Reads.{facts_of}
+use Rattle.reg_receiving.specs.Begun.{is_head}
+use Rattle.reg_receiving.specs.Turns.{Sends}
+use Rattle.reg_routes.specs.Routing.{routing_of}
+use Rattle.reg_service.specs.Registries.{limits_of, tables_of}
+use Rattle.reg_http.specs.Answering.{fault_text}
+use Rattle.reg_http.proofs.Outcomes.{unrouted}
+use Rattle.reg_http.proofs.answering.answer_head.Goals as goal
+
+pub returns-in-Err-clause-replied : goal.returns-in-Err-clause-replied
+returns-in-Err-clause-replied g c clean s shows =
+    let only : c.eq-only.result ≡ is_head (facts_of c.args.head.now) = search rules in
+    let f = facts_of c.args.head.now in
+    let w0 = g.W.Write.contents c.args.w.now.inner in
+    let w1 = g.W.Write.contents c.refuse_route.new.w.inner in
+    unrouted g.S.Store (limits_of c.args.registry.now) s f f.token (routing_of f c.args.body.now) c.args.close (tables_of c.args.registry.now) w0 w1 c.refuse_route.result c.in-Err.fault
+    (rw c.in-Err.is at c.route.ensures)
+    (subst (λ o. Sends (fault_text c.in-Err.fault c.args.close o) w0 w1 c.refuse_route.result) only c.refuse_route.ensures.sends)

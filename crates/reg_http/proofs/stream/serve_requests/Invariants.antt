@@ -1,0 +1,26 @@
+use Rattle.std.proofs.Common.{◌≡◌, ◌≤◌, ◌<◌, ◌+◌, length}
+use Rattle.sqlite.specs.State.{HasCleanDisk}
+use Rattle.reg_model.specs.Registry as model
+use Rattle.reg_receiving.specs.Turns.{SpendsSome, tally}
+use Rattle.reg_service.specs.Answered.{AreUpToDate, LeavesAlone, Shows}
+use Rattle.reg_service.specs.Registries.{limits_of, tables_of}
+use Rattle.reg_tables.specs.Works.{shown}
+use Rattle.reg_http.proofs.Steps.{Holds}
+use Rattle.reg_http.proofs.stream.serve_requests.Given as goal
+
+-- the requests so far are answered
+abbrev pub invariant-requests : goal.invariant-requests
+invariant-requests g l = record {
+  tables : AreUpToDate g.S.Store (tables_of l.registry);
+  limits : limits_of l.registry ≡ limits_of l.fn.registry;
+  clean : HasCleanDisk (shown g.S.Store (tables_of l.registry)) → HasCleanDisk (shown g.S.Store (tables_of l.fn.registry));
+  held : HasCleanDisk (shown g.S.Store (tables_of l.registry)) → (s : model.Registry) → Shows s (shown g.S.Store (tables_of l.fn.registry)) → LeavesAlone s (shown g.S.Store (tables_of l.fn.registry))
+      → Holds g.S.Store (limits_of l.fn.registry) s (g.R.Read.remaining l.fn.r.inner) (g.R.Read.remaining l.r.inner) (g.W.Write.contents l.fn.w.inner) (g.W.Write.contents l.w.inner)
+      l.pending.items l.replies (tables_of l.registry);
+  spends : SpendsSome (limits_of l.fn.registry).turns l.left (tally l.fn.r l.fn.w) (tally l.r l.w);
+  chunk : 0 < length l.chunk;
+  replies : l.replies + l.left ≤ (limits_of l.fn.registry).turns;
+}
+
+abbrev pub decreases-requests : goal.decreases-requests
+decreases-requests g l = l.left
