@@ -138,7 +138,7 @@ pub pile_stopped : (f : SendFault) (waiting a b between : List ℕ) (writes used
     → IsStopped f (waiting ++ (a ++ b)) writes s u
 pile_stopped f waiting a b between writes used s t u x h =
     let same : x.sent ++ (between ++ b) ≡ waiting ++ (a ++ b) = sym (append_assoc x.sent between b)
-        ∙ ap (λ l. l ++ b) (sym x.whole) ∙ append_assoc waiting a b in
+    ∙ ap (λ l. l ++ b) (sym x.whole) ∙ append_assoc waiting a b in
     subst (λ l. IsStopped f l writes s u) same
     (stopped_behind f x.sent (between ++ b) writes used s t u x.sends h)
 

@@ -11,7 +11,8 @@ ghost use Rattle.reg_streaming.specs.Files.{rows_text};
 
 use reg_stored::laws::entries_law;
 
-/// What the rows of a crate are sent as is the answer that its index file is, if its length is told.
+/// What the rows of a crate are sent as is the answer that its index file is, if its length is
+/// told.
 pub fn file_law()
     ensures { (ids : _) (s : _) (db : _) → Holds ids s db → (f : _) (rows : _)
         → AreStemsOf f.crate_id db rows → f.length ≡ length (file_at ids s f) → (path : _)

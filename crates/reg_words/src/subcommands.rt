@@ -6,7 +6,7 @@ use std::alloc::{AllocError, Global};
 
 const USER_ADD: Entry = Entry {
     name: "user-add",
-    about: "Adds an account. A login has 1 to 32 lower-case letters, digits, - or _, a letter first",
+    about: "Adds an account. A login has 1 to 32 of a to z, 0 to 9, - and _, a letter first",
     example: "Example:\n  registry_cli user-add ada --name 'Ada Lovelace' --db r.db",
     words: Words::Login,
 };
