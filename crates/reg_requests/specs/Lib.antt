@@ -6,3 +6,4 @@ pub mod Publish
 pub mod Requests
 pub mod Search
 pub mod Views
+pub mod Wants

@@ -15,7 +15,8 @@ use Rattle.reg_requests.specs.Search.{sought}
 use Rattle.reg_requests.specs.Views.{Request}
 use Rattle.reg_requests.specs.declared.request.ApiRequest.{ApiRequest}
 use Rattle.reg_requests.specs.declared.request.Wanted.{Wanted}
-use Rattle.reg_requests.specs.declared.request.Wanted.TheVariants.{Config, Index, Download, ListOwners, Publish, Yank, Unyank, AddOwners, RemoveOwners, Search}
+use Rattle.reg_requests.specs.Wants.{Wants, wants_of}
+use Rattle.reg_requests.specs.Wants.Wants.{Config, Index, Download, ListOwners, Publish, Yank, Unyank, AddOwners, RemoveOwners, Search}
 
 -- the text of a path part; the empty text, which is no name, no version and no index path, where
 -- the bytes are no UTF-8
@@ -33,24 +34,32 @@ published (Ok p) = to_publish p
 published (Err r) = to_faulty r
 
 -- what is asked for: all that is wanted, or the rule that the body or the query breaks
-abbrev pub asked_by : Limits → Wanted → Asked
-asked_by limits Config = to_read to_config
-asked_by limits (Index path) = to_index (text_in path.now)
-asked_by limits (Download n v) = to_download (text_in n.now) (text_in v.now)
-asked_by limits (ListOwners n) = to_list (text_in n.now)
-asked_by limits (Publish body) = published (publish_of limits body.now)
-asked_by limits (Yank n v) = to_yank (text_in n.now) (text_in v.now)
-asked_by limits (Unyank n v) = to_unyank (text_in n.now) (text_in v.now)
-asked_by limits (AddOwners n body) =
-    or_faulty rule.O1 (to_add (text_in n.now)) (logins_named limits body.now)
-asked_by limits (RemoveOwners n body) =
-    or_faulty rule.O1 (to_remove (text_in n.now)) (logins_named limits body.now)
-asked_by limits (Search query) =
-    or_faulty rule.Q1 (λ p. to_read (to_search p.0 p.1)) (sought query.now)
+abbrev pub asked_from : Limits → Wants → Asked
+asked_from limits Config = to_read to_config
+asked_from limits (Index path) = to_index (text_in path)
+asked_from limits (Download n v) = to_download (text_in n) (text_in v)
+asked_from limits (ListOwners n) = to_list (text_in n)
+asked_from limits (Publish body) = published (publish_of limits body)
+asked_from limits (Yank n v) = to_yank (text_in n) (text_in v)
+asked_from limits (Unyank n v) = to_unyank (text_in n) (text_in v)
+asked_from limits (AddOwners n body) =
+    or_faulty rule.O1 (to_add (text_in n)) (logins_named limits body)
+asked_from limits (RemoveOwners n body) =
+    or_faulty rule.O1 (to_remove (text_in n)) (logins_named limits body)
+asked_from limits (Search query) =
+    or_faulty rule.Q1 (λ p. to_read (to_search p.0 p.1)) (sought query)
 
 -- the SHA-256 of the token, and what is asked for
-abbrev pub request_of : Limits → ApiRequest → Request
-request_of limits r = record {
-  digest = option_map (λ token. sha256 token.now) r.token;
-  asked = asked_by limits r.wanted;
+abbrev pub request_from : Limits → Option Text → Wants → Request
+request_from limits token w = record {
+  digest = option_map sha256 token;
+  asked = asked_from limits w;
 }
+
+-- the same of a request as its route gives it
+abbrev pub asked_by : Limits → Wanted → Asked
+asked_by limits w = asked_from limits (wants_of w)
+
+abbrev pub request_of : Limits → ApiRequest → Request
+request_of limits r =
+    request_from limits (option_map (λ token. token.now) r.token) (wants_of r.wanted)

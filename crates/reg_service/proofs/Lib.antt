@@ -10,3 +10,4 @@ mod Owning
 mod Replied
 mod Reporting
 mod Seeking
+mod Streams

@@ -4,3 +4,4 @@ pub mod Looked
 pub mod Orders
 pub mod Registries
 pub mod Sequences
+pub mod Streamed

@@ -1,28 +1,34 @@
 //! A registry over a store.
 
-ghost use Rattle.std.specs.Prelude.{◌≡◌, true, Err, IfOk, IsErr};
+ghost use Rattle.std.specs.Prelude.{◌≡◌, ◌+◌, ◌^◌, ◌<◌, ◌⊎◌, true, Err, IfOk, IsErr};
 ghost use Rattle.sqlite.specs.State.{HasCleanDisk};
 ghost use Rattle.reg_model.specs.Events.Event.{Order};
 ghost use Rattle.reg_model.specs.Steps.{IsFit};
 ghost use Rattle.reg_policy.specs.Events.{command_of, reply_of};
 ghost use Rattle.reg_requests.specs.Requests.{request_of};
+ghost use Rattle.reg_requests.specs.Views.{event_of};
 ghost use Rattle.reg_service.specs.Answered.{AreUpToDate, IsAnswered};
 ghost use Rattle.reg_service.specs.Handled.{IsReplied};
 ghost use Rattle.reg_service.specs.Looked.{FailsFirst, IsIndex, IsTrueOf, Looked};
 ghost use Rattle.reg_service.specs.Registries.{has_stopped, limits_of, tables_of};
+ghost use Rattle.reg_sending.specs.Sent.{sink};
+ghost use Rattle.reg_service.specs.Streamed.{AsksForFile, IsStreamed, LeavesStream};
 ghost use Rattle.reg_tables.specs.Works.{held, shown};
 
 use crate::exporting::export_in;
+use crate::streaming::stream_parts;
 use crate::transactions::{command_in, parts_in};
 use reg_audit::{Check, audit};
-use reg_body::Limits;
+use reg_body::{Counted, Limits};
 use reg_model::AdminRefusal;
 use reg_policy::{AdminCommand, AdminReply, Rule};
 use reg_replies::Reply;
 use reg_requests::{ApiRequest, read_request};
+use reg_streaming::{IndexFault, refuse};
 use reg_tables::{StoreFault, Tables};
 use sqlite::{Alter, Connection};
 use std::alloc::Global;
+use std::io::Write;
 
 /// A registry over a store. After a commit that the store refused it answers nothing more until the
 /// store is opened again.
@@ -72,6 +78,8 @@ impl<S: Alter> Registry<S> {
         ensures clean { HasCleanDisk (shown S.Store (tables_of self.new)) → HasCleanDisk
             (shown S.Store (tables_of self.old)) }
         ensures limits { limits_of self.new ≡ limits_of self.old }
+        ensures read { IsFit (event_of (request_of (limits_of self.old) request.now))
+            ⊎ ((result ≡ Reply.Denied Rule.S1) × (tables_of self.new ≡ tables_of self.old)) }
         ensures stopped { has_stopped self.old ≡ true → result ≡ Reply.Denied Rule.S1 }
         ensures stays { has_stopped self.old ≡ true → has_stopped self.new ≡ true }
         ensures stops { has_stopped self.new ≡ true → result ≡ Reply.Denied Rule.S1 }
@@ -80,6 +88,36 @@ impl<S: Alter> Registry<S> {
             return Reply::Denied(Rule::S1);
         };
         parts_in(alloc, &mut self.tables, &self.limits, &parts)
+    }
+
+    /// Sends the reply to a request for an index file, row by row, in at most `writes` write calls,
+    /// and answers how many it took. Where the store fails once the reply was begun, it ends there.
+    pub fn stream_index<W: Write>(
+        &mut self,
+        alloc: Global,
+        request: &ApiRequest<'_>,
+        close: bool,
+        writer: &mut Counted<W>,
+        writes: u64,
+    ) -> Result<u64, IndexFault>
+        requires tables { AreUpToDate S.Store (tables_of self.old) }
+        requires index { AsksForFile request.now.wanted }
+        requires room { writer.old.calls + writes < 2 ^ 64 }
+        ensures streams { let asks = request_of (limits_of self.old) request.now in
+            IsStreamed S.Store (limits_of self.old) asks.digest asks.asked close result writes
+            (tables_of self.old) (tables_of self.new)
+            (sink (W.contents writer.old.inner) writer.old)
+            (sink (W.contents writer.new.inner) writer.new) }
+        ensures leaves { LeavesStream S.Store close result writes
+            (tables_of self.old) (tables_of self.new)
+            (sink (W.contents writer.old.inner) writer.old)
+            (sink (W.contents writer.new.inner) writer.new) }
+        ensures limits { limits_of self.new ≡ limits_of self.old }
+    {
+        match read_request(alloc, request, &self.limits) {
+            Ok(parts) => stream_parts(&mut self.tables, &parts, close, writer, writes),
+            Err(_) => refuse(writer, Rule::S1, close, writes),
+        }
     }
 
     /// The files of the index, each behind its path: the config, then each crate's in the order of

@@ -7,9 +7,12 @@ ghost use Rattle.reg_service.specs.Answered.{AreUpToDate};
 ghost use Rattle.reg_service.specs.Registries.{tables_of};
 
 use crate::agreeing::{obeys_alike, replies_alike};
+use reg_body::Counted;
 use reg_plain::PlainRegistry;
 use reg_policy::{AdminCommand, Event};
-use reg_requests::{ApiRequest, read_request};
+use reg_replies::Reply;
+use reg_requests::{ApiRequest, Wanted, read_request};
+use reg_sending::write_reply;
 use reg_service::Registry;
 use sqlite::Alter;
 use std::alloc::{AllocError, Global};
@@ -21,12 +24,32 @@ fn is_alike(
     plain: &mut PlainRegistry,
     limits: &reg_body::Limits,
     request: &ApiRequest<'_>,
-    reply: &reg_replies::Reply,
+    reply: &Reply,
 ) -> Result<bool, AllocError> {
     let read = read_request(alloc, request, limits)?;
     let logins = read.logins(alloc)?;
     let answer = plain.step(&Event::Ask(read.digest(), read.asked(&logins)));
     replies_alike(alloc, reply, &answer)
+}
+
+/// Whether an index file is sent row by row as it was answered.
+fn is_streamed_alike<S: Alter>(
+    alloc: Global,
+    registry: &mut Registry<S>,
+    request: &ApiRequest<'_>,
+    reply: &Reply,
+) -> bool
+    requires { AreUpToDate S.Store (tables_of registry.old) }
+    ensures { AreUpToDate S.Store (tables_of registry.new) }
+{
+    let Wanted::Index(_) = request.wanted else {
+        return true;
+    };
+    let mut streamed = Counted::new(Vec::new(alloc));
+    let mut whole = Counted::new(Vec::new(alloc));
+    let sent = registry.stream_index(alloc, request, false, &mut streamed, 1_000);
+    let written = write_reply(&mut whole, reply, false, false, 1_000);
+    sent.is_ok() && written.is_ok() && streamed.inner().as_slice() == whole.inner().as_slice()
 }
 
 /// What a request is answered.
@@ -40,6 +63,9 @@ fn asked<S: Alter>(
     ensures { AreUpToDate S.Store (tables_of registry.new) }
 {
     let reply = registry.handle(alloc, request);
+    if !is_streamed_alike(alloc, registry, request, &reply) {
+        return String::from_str(alloc, "the file is sent otherwise");
+    }
     if is_alike(alloc, plain, registry.limits(), request, &reply)? {
         return reply_text(alloc, &reply);
     }

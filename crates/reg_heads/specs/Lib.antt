@@ -1,0 +1,4 @@
+pub mod Fronts
+pub mod Fields
+pub mod Heads
+pub mod Reads

@@ -1,0 +1,92 @@
+-- One more exchange behind those that were done.
+use Rattle.std.proofs.Common.{◌≡◌, ◌≤◌, ◌<◌, ◌+◌, ◌++◌, ◌||◌, ◌==◌, ℕ, Bool, true, false, List, [], ◌∷◌, inl, inr, refl, sym, ap, ◌∙◌, subst, arith, append_assoc, append-nil, length, length-append, map, Option, Result, Ok, Err, All}
+use Rattle.std.specs.List.{flat_map}
+use Rattle.std.proofs.lemmas.Grind.{flat_map-append}
+use Rattle.std.proofs.lemmas.List.{map-append}
+use Rattle.std.proofs.lemmas.List.Elements.{All-push}
+use Rattle.sqlite_trees.specs.declared.store.Store.{Ghosts}
+use Rattle.reg_body.specs.declared.limits.Limits.{Limits}
+use Rattle.reg_heads.specs.Heads.{Facts}
+use Rattle.reg_model.specs.Events.{Answer, Event}
+use Rattle.reg_model.specs.Registry as model
+use Rattle.reg_model.specs.Registry.{Text}
+use Rattle.reg_model.specs.Steps.{IsFit}
+use Rattle.reg_service.specs.Answered.{Answers, Shows}
+use Rattle.reg_service.specs.Sequences.{Ran}
+use Rattle.reg_tables.specs.declared.tables.Tables.{Tables}
+use Rattle.reg_tables.specs.Works.{shown}
+use Rattle.reg_http.specs.Answering.{Moves}
+use Rattle.reg_http.specs.Exchanges.{Exchange, Outcome, answers_in, event_in, events_in, steps_in}
+use Rattle.reg_http.specs.Exchanges.Outcome.{Answered, NoMethod, NoRoom, NoRoute, Unread}
+use Rattle.reg_http.specs.Streams.{Goes, HasRun, IsOpen, asked, replied, told}
+
+asked-push : (xs : List Exchange) (x : Exchange) → asked (xs ++ x ∷ []) ≡ asked xs ++ x.message
+asked-push xs x = flat_map-append _ xs (x ∷ []) ∙ ap (λ l. asked xs ++ l) (append-nil x.message)
+
+replied-push : (limits : Limits) (xs : List Exchange) (x : Exchange) → replied limits (xs ++ x ∷ []) ≡ replied limits xs ++ told limits false x
+replied-push limits xs x = flat_map-append _ xs (x ∷ []) ∙ ap (λ l. replied limits xs ++ l) (append-nil (told limits false x))
+
+steps-push : (limits : Limits) (xs : List Exchange) (x : Exchange) → steps_in limits (xs ++ x ∷ []) ≡ steps_in limits xs ++ event_in limits x.facts x.outcome
+steps-push limits xs x = flat_map-append _ xs (x ∷ []) ∙ ap (λ l. steps_in limits xs ++ l) (append-nil (event_in limits x.facts x.outcome))
+
+module _ (limits : Limits) (done : List Exchange) (read written rest : Text) (count : ℕ) (goes : Goes limits done read written rest count) where
+  -- more was read
+  pub goes_read : (bytes : Text) → Goes limits done (read ++ bytes) written (rest ++ bytes) count
+  goes_read bytes = record {
+    reads = ap (λ l. l ++ bytes) goes.reads ∙ append_assoc (asked done) rest bytes;
+    wrote = goes.wrote;
+    count_is = goes.count_is;
+    each = goes.each;
+    before_last = goes.before_last;
+  }
+
+  -- the same of an equal rest
+  pub goes_front : (front : Text) → rest ≡ front → Goes limits done read written front count
+  goes_front front same = subst (λ l. Goes limits done read written l count) same goes
+
+  -- one more exchange, which is not the last
+  pub goes_push : (x : Exchange) (later : Text) → IsOpen limits x → rest ≡ x.message ++ later → (count + 1 == limits.replies) ≡ false
+      → Goes limits (done ++ x ∷ []) read (written ++ told limits false x) later (count + 1)
+  goes_push x later is_open front more = record {
+    reads = goes.reads ∙ ap (λ l. asked done ++ l) front ∙ sym (append_assoc (asked done) x.message later) ∙ ap (λ l. l ++ later) (sym (asked-push done x));
+    wrote = ap (λ l. l ++ told limits false x) goes.wrote ∙ sym (replied-push limits done x);
+    count_is = omega (arith, goes.count_is, length-append done (x ∷ []));
+    each = All-push (IsOpen limits) done x goes.each is_open;
+    before_last = λ le. goes.before_last (omega (arith, le, more));
+  }
+
+-- one more event behind a run
+abbrev pub EventsGoOn : {S : Type 0} → Ghosts S → Type 0
+EventsGoOn g = (limits : Limits) (s : model.Registry) (es : List Event) (xs : List Answer) (t : model.Registry) (e : Event) (a : Answer) (old new : Tables _)
+    → IsFit e → Ran g limits s es xs t old → (it : Answers g limits t e a old new) → Ran g limits s (es ++ e ∷ []) (xs ++ a ∷ []) it.after new
+
+module _ {S : Type 0} (g : Ghosts S) (limits : Limits) (s : model.Registry) (law : EventsGoOn g) (done : List Exchange) (x : Exchange) (old new : Tables S) where
+  abbrev steps : List (Event × Answer)
+  steps = steps_in limits done
+
+  pushed : (t : model.Registry) (more : List (Event × Answer)) → event_in limits x.facts x.outcome ≡ more
+      → Ran g limits s (map (λ p. p.0) steps ++ map (λ p. p.0) more) (map (λ p. p.1) steps ++ map (λ p. p.1) more) t new
+      → HasRun g limits s new (done ++ x ∷ [])
+  pushed t more is ran =
+      let same : steps_in limits (done ++ x ∷ []) ≡ steps ++ more = steps-push limits done x ∙ ap (λ l. steps ++ l) is in
+      let first = ap (λ l. map (λ p. p.0) l) same ∙ map-append (λ p. p.0) steps more in
+      let second = ap (λ l. map (λ p. p.1) l) same ∙ map-append (λ p. p.1) steps more in
+      (t, subst (λ es. Ran g limits s es (answers_in limits (done ++ x ∷ [])) t new) (sym first) (subst (λ xs. Ran g limits s _ xs t new) (sym second) ran))
+
+  stays : (t : model.Registry) → Ran g limits s (events_in limits done) (answers_in limits done) t old → new ≡ old → event_in limits x.facts x.outcome ≡ []
+      → HasRun g limits s new (done ++ x ∷ [])
+  stays t ran same is =
+      pushed t [] is (subst (λ xs. Ran g limits s _ xs t new) (sym (append-nil (answers_in limits done))) (subst (λ es. Ran g limits s es (answers_in limits done) t new) (sym (append-nil (events_in limits done))) (subst (λ it. Ran g limits s _ _ t it) (sym same) ran)))
+
+  run_by : (t : model.Registry) → Ran g limits s (events_in limits done) (answers_in limits done) t old → (o : Outcome) → x.outcome ≡ o → Moves g limits t x.facts o old new
+      → HasRun g limits s new (done ++ x ∷ [])
+  run_by t ran (Answered w a) is (fit, it) = pushed it.after _ (ap (event_in limits x.facts) is) (law limits s _ _ t _ a old new fit ran it)
+  run_by t ran NoRoute is same = stays t ran same (ap (event_in limits x.facts) is)
+  run_by t ran (NoMethod m) is same = stays t ran same (ap (event_in limits x.facts) is)
+  run_by t ran NoRoom is same = stays t ran same (ap (event_in limits x.facts) is)
+  run_by t ran (Unread w) is same = stays t ran same (ap (event_in limits x.facts) is)
+
+  -- the run goes on by the exchange
+  pub run_on : (t : model.Registry) → Ran g limits s (events_in limits done) (answers_in limits done) t old → Moves g limits t x.facts x.outcome old new
+      → HasRun g limits s new (done ++ x ∷ [])
+  run_on t ran moves = run_by t ran x.outcome refl moves

@@ -1,0 +1,304 @@
+-- One turn of a stream after the exchanges so far.
+use Rattle.std.proofs.Common.{◌≡◌, ◌≤◌, ◌<◌, ◌+◌, ◌++◌, ◌||◌, ◌==◌, ◌⊎◌, ℕ, Bool, true, false, List, [], ◌∷◌, inl, inr, refl, sym, ap, ◌∙◌, subst, arith, append_assoc, append-nil, length, length-append, take, drop, take-append-drop, Option, Result, Ok, Err}
+use Rattle.std.proofs.lemmas.Bool.{or_parts}
+use Rattle.std.proofs.lemmas.List.{length-take-le, take-take}
+use Rattle.std.proofs.lemmas.List.Elements.{All-nil}
+use Rattle.std.specs.Io.KnownBytes.{Appends, Consumes, IsAtEnd}
+use Rattle.std.proofs.KnownBytes.{Appends-trans, Appends-nil, Consumes-trans, Consumes-nil}
+use Rattle.sqlite_trees.specs.declared.store.Store.{Ghosts}
+use Rattle.reg_body.specs.declared.limits.Limits.{Limits}
+use Rattle.reg_heads.specs.Heads.{Facts, IsHeadAt}
+use Rattle.reg_model.specs.declared.rule.Rule.{Rule}
+use Rattle.reg_model.specs.Registry as model
+use Rattle.reg_model.specs.Registry.{Text}
+use Rattle.reg_receiving.specs.Begun.{IsBegun, IsRefused, interim_of}
+use Rattle.reg_receiving.specs.Taking.{HasBegun, IsCutOff, Keeps, Reads, Takes}
+use Rattle.reg_receiving.specs.Turns.{Sends, Streams}
+use Rattle.reg_receiving.specs.declared.fault.StreamFault.{StreamFault}
+use Rattle.reg_receiving.specs.declared.fault.StreamFault.TheVariants.{Memory, ReadFault, StoreFault, TooManyTurns, WriteFault}
+use Rattle.reg_receiving.specs.declared.taking.Begun.{Begun}
+use Rattle.reg_receiving.specs.declared.taking.Taken.{Taken}
+use Rattle.reg_receiving.specs.declared.taking.Taken.TheVariants as taken
+use Rattle.reg_routes.specs.Routing.{routing_of}
+use Rattle.reg_sending.specs.Sent.{AppendsFront}
+use Rattle.reg_service.specs.Answered.{LeavesAlone, Shows}
+use Rattle.reg_service.specs.Sequences.{Ran}
+use Rattle.reg_tables.specs.declared.tables.Tables.{Tables}
+use Rattle.reg_tables.specs.Works.{shown}
+use Rattle.reg_http.specs.Answering.{Replies}
+use Rattle.reg_http.specs.Exchanges.{Exchange, IsExchange, answers_in, closes, events_in, outcome_text}
+use Rattle.reg_http.specs.Streams.{Goes, HasRun, IsEnded, IsOpen, IsServed, IsStopped, Serves, closing_text, told}
+use Rattle.reg_http.proofs.Exchanged.{EventsGoOn, goes_front, goes_push, goes_read, run_on}
+
+-- the exchanges so far, between two states of a reader and of a writer
+pub record Holds {S : Type 0} (g : Ghosts S) (limits : Limits) (s : model.Registry) (r0 r1 w0 w1 : Option Text) (rest : Text) (count : ℕ) (now : Tables S) : Type 0 where
+  pub read : Text
+  pub written : Text
+  pub consumed : Consumes r0 r1 read
+  pub appended : Appends w0 w1 written
+  pub done : List Exchange
+  pub goes : Goes limits done read written rest count
+  pub run : HasRun g limits s now done
+
+-- a head needs its own bytes alone, and stays one whatever follows
+abbrev HeadsStandAlone : Type 0
+HeadsStandAlone = (limits : Limits) (b : Text) (f : Facts) → IsHeadAt limits b f → IsHeadAt limits (take f.len b) f
+
+abbrev HeadsStay : Type 0
+HeadsStay = (limits : Limits) (b more : Text) (f : Facts) → IsHeadAt limits b f → IsHeadAt limits (b ++ more) f
+
+module _ {S : Type 0} (g : Ghosts S) (limits : Limits) (s : model.Registry) where
+  pub holds_start : (r w : Option Text) (now : Tables S) → Ran g limits s [] [] s now → Holds g limits s r r w w [] 0 now
+  holds_start r w now ran = record {
+    read = [];
+    written = [];
+    consumed = Consumes-nil r;
+    appended = Appends-nil w;
+    done = [];
+    goes = record { reads = refl; wrote = refl; count_is = refl; each = All-nil (IsOpen limits); before_last = λ le. omega (arith, le) };
+    run = (s, ran);
+  }
+
+  -- memory was refused before the first read
+  pub untouched : (r w : Option Text) (now : Tables S) → Ran g limits s [] [] s now → Serves g limits s now r r w w (Err Memory)
+  untouched r w now ran = ([], [], Consumes-nil r, Appends-nil w, record { nothing_read = refl; nothing_written = refl; run = (s, ran) })
+
+  module _ (r0 r1 w0 w1 : Option Text) (rest : Text) (count : ℕ) (now : Tables S) (h : Holds g limits s r0 r1 w0 w1 rest count now) (r2 w2 : Option Text) where
+    -- what was read since
+    module _ (bytes : Text) (consumed : Consumes r1 r2 bytes) where
+      all_read : Text
+      all_read = h.read ++ bytes
+
+      consumes : Consumes r0 r2 (h.read ++ bytes)
+      consumes = Consumes-trans r0 r1 r2 h.read bytes h.consumed consumed
+
+      goes : Goes limits h.done (h.read ++ bytes) h.written (rest ++ bytes) count
+      goes = goes_read limits h.done h.read h.written rest count h.goes bytes
+
+      appends : (more : Text) → Appends w1 w2 more → Appends w0 w2 (h.written ++ more)
+      appends more a = Appends-trans w0 w1 w2 h.written more h.appended a
+
+      ended : (more : Text) → IsBegun limits (rest ++ bytes) more → IsEnded g limits s now (h.read ++ bytes) (h.written ++ more) count
+      ended more begun = record {
+        done = h.done;
+        rest = rest ++ bytes;
+        before = h.written;
+        more = more;
+        goes = goes;
+        begun = begun;
+        wrote = refl;
+        run = h.run;
+      }
+
+      cut : (f : Facts) → IsHeadAt limits (rest ++ bytes) f → (a : AppendsFront (interim_of f) w1 w2) → IsStopped g limits s now (h.read ++ bytes) (h.written ++ a.front)
+      cut f head a = record {
+        done = h.done;
+        rest = rest ++ bytes;
+        before = h.written;
+        front = a.front;
+        back = a.rest;
+        number = count;
+        goes = goes;
+        next = inr (inl (f, head, sym a.whole, h.run));
+        wrote = refl;
+      }
+
+    -- no request was taken
+    pub taking_ended : (waits : Text) → Takes r1 r2 rest waits w1 w2 limits (Ok taken.End) → Serves g limits s now r0 r2 w0 w2 (Ok count)
+    taking_ended waits ((bytes, c, (more, a, begun)), end) =
+        (h.read ++ bytes, h.written ++ more, consumes bytes c, appends bytes c more a, inl (ended bytes c more begun, end))
+
+    taking_cut : IsCutOff r1 r2 rest [] w1 w2 limits → (written : Text) × Appends w0 w2 written × ((read : Text) × Consumes r0 r2 read × IsStopped g limits s now read written)
+    taking_cut (bytes, c, (f, head, a)) =
+        (h.written ++ a.front, appends bytes c a.front a.appends, (h.read ++ bytes, consumes bytes c, cut bytes c f head a))
+
+    pub taking_failed : (waits : Text) (fault : StreamFault) → Takes r1 r2 rest waits w1 w2 limits (Err fault) → Serves g limits s now r0 r2 w0 w2 (Err fault)
+    taking_failed waits ReadFault (bytes, c, (more, a, begun)) =
+        (h.read ++ bytes, h.written ++ more, consumes bytes c, appends bytes c more a, (count, ended bytes c more begun))
+    taking_failed waits TooManyTurns (inl (bytes, c, (more, a, begun))) =
+        (h.read ++ bytes, h.written ++ more, consumes bytes c, appends bytes c more a, inl (count, ended bytes c more begun))
+    taking_failed waits TooManyTurns (inr x) =
+        let (written, a, (read, c, stopped)) = taking_cut x in (read, written, c, a, inr stopped)
+    taking_failed waits WriteFault x =
+        let (written, a, (read, c, stopped)) = taking_cut x in (read, written, c, a, stopped)
+    taking_failed waits StoreFault x = absurd x
+    taking_failed waits Memory x = absurd x
+
+    -- the rest is refused, and the refusal is sent
+    module _ (waits : Text) (broken : Rule) (only : Bool) (takes : Takes r1 r2 rest waits w1 w2 limits (Ok (taken.Refused broken only))) (w3 : Option Text) where
+      pub refusal_sent : Appends w2 w3 (closing_text broken only) → Serves g limits s now r0 r2 w0 w3 (Ok (count + 1))
+      refusal_sent sent =
+          let (bytes, c, (more, a, refused)) = takes in (
+            h.read ++ bytes,
+            h.written ++ (more ++ closing_text broken only),
+            consumes bytes c,
+            subst (Appends w0 w3) (append_assoc h.written more (closing_text broken only)) (Appends-trans w0 w2 w3 (h.written ++ more) (closing_text broken only) (appends bytes c more a) sent),
+            inr (inr (record {
+              done = h.done;
+              rest = rest ++ bytes;
+              before = h.written;
+              more = more;
+              broken = broken;
+              only = only;
+              number = count;
+              goes = goes bytes c;
+              refused = refused;
+              wrote = refl;
+              count_is = refl;
+              run = h.run;
+            })),
+          )
+
+      refusal_cut : AppendsFront (closing_text broken only) w2 w3
+          → (read : Text) × (written : Text) × Consumes r0 r2 read × Appends w0 w3 written × IsStopped g limits s now read written
+      refusal_cut cut_off =
+          let (bytes, c, (more, a, refused)) = takes in
+          let front = more ++ cut_off.front in
+          let whole : more ++ closing_text broken only ≡ front ++ cut_off.rest = ap (λ l. more ++ l) cut_off.whole ∙ sym (append_assoc more cut_off.front cut_off.rest) in (
+            h.read ++ bytes,
+            h.written ++ front,
+            consumes bytes c,
+            subst (Appends w0 w3) (append_assoc h.written more cut_off.front) (Appends-trans w0 w2 w3 (h.written ++ more) cut_off.front (appends bytes c more a) cut_off.appends),
+            record {
+              done = h.done;
+              rest = rest ++ bytes;
+              before = h.written;
+              front = front;
+              back = cut_off.rest;
+              number = count;
+              goes = goes bytes c;
+              next = inr (inr (more, broken, only, refused, sym whole, h.run));
+              wrote = refl;
+            },
+          )
+
+      pub refusal_failed : (fault : StreamFault) → Sends (closing_text broken only) w2 w3 {A = Unit {0}} (Err fault) → Serves g limits s now r0 r2 w0 w3 (Err fault)
+      refusal_failed WriteFault x = refusal_cut x
+      refusal_failed TooManyTurns x = let (read, written, c, a, stopped) = refusal_cut x in (read, written, c, a, inr stopped)
+      refusal_failed ReadFault x = absurd x
+      refusal_failed StoreFault x = absurd x
+      refusal_failed Memory x = absurd x
+
+    -- a request is there whole, its interim line was sent, and it is answered
+    module _ (alone : HeadsStandAlone) (stay : HeadsStay) (law : EventsGoOn g) (waits : Text) (b : Begun) (f : Facts) (k : Keeps limits waits b f) (le : b.len + b.body_len ≤ length waits)
+        (bytes : Text) (consumed : Consumes r1 r2 bytes) (same : waits ≡ rest ++ bytes) (asked_on : Appends w1 w2 (interim_of f))
+        (close : Bool) (close_is : close ≡ closes limits f (count + 1)) (new : Tables S) (w3 : Option Text) where
+      abbrev message : Text
+      message = take (b.len + b.body_len) waits
+
+      abbrev later : Text
+      later = drop (b.len + b.body_len) waits
+
+      -- the head of the message tells the same
+      pub head : IsHeadAt limits message f
+      head =
+          let own : take f.len message ≡ take f.len waits = take-take f.len (b.len + b.body_len) waits (omega (arith, k.len)) in
+          subst (λ l. IsHeadAt limits l f) (ap (λ l. l ++ drop f.len message) (sym own) ∙ take-append-drop f.len message)
+          (stay limits (take f.len waits) (drop f.len message) f (alone limits waits f k.head))
+
+      goes_whole : Goes limits h.done (h.read ++ bytes) h.written (message ++ later) count
+      goes_whole =
+          goes_front limits h.done (h.read ++ bytes) h.written (rest ++ bytes) count (goes bytes consumed) (message ++ later)
+          (sym same ∙ sym (take-append-drop (b.len + b.body_len) waits))
+
+      module _ (t : model.Registry) (result : Result (Unit {0}) StreamFault) (ran : Ran g limits s (events_in limits h.done) (answers_in limits h.done) t now)
+          (replies : Replies g limits f (routing_of f (drop f.len message)) close t now new w2 w3 result) where
+        abbrev this : Exchange
+        this = record { message = message; facts = f; outcome = replies.outcome }
+
+        exchange : IsExchange limits this
+        exchange = record {
+          head = head;
+          whole = length-take-le (b.len + b.body_len) waits le ∙ omega (arith, k.len, k.body_len);
+          outcome = replies.leads;
+        }
+
+        run : HasRun g limits s new (h.done ++ this ∷ [])
+        run = run_on g limits s law h.done this now new t ran replies.moves
+
+        sends_all : Appends w2 w3 (outcome_text limits f close replies.outcome) → Appends w0 w3 (h.written ++ told limits close this)
+        sends_all sent =
+            subst (Appends w0 w3) (append_assoc h.written (interim_of f) (outcome_text limits f close replies.outcome))
+            (Appends-trans w0 w2 w3 (h.written ++ interim_of f) (outcome_text limits f close replies.outcome) (appends bytes consumed (interim_of f) asked_on) sent)
+
+        -- the connection goes on
+        answered : Appends w2 w3 (outcome_text limits f close replies.outcome) → close ≡ false → Holds g limits s r0 r2 w0 w3 later (count + 1) new
+        answered sent no =
+            let parts = or_parts f.close (count + 1 == limits.replies) (sym close_is ∙ no) in record {
+              read = h.read ++ bytes;
+              written = h.written ++ told limits false this;
+              consumed = consumes bytes consumed;
+              appended = subst (λ c. Appends w0 w3 (h.written ++ told limits c this)) no (sends_all sent);
+              done = h.done ++ this ∷ [];
+              goes = goes_push limits h.done (h.read ++ bytes) h.written (message ++ later) count goes_whole this later (record { exchange = exchange; goes_on = parts.0 }) refl parts.1;
+              run = run;
+            }
+
+        -- the connection is closed
+        closed : Appends w2 w3 (outcome_text limits f close replies.outcome) → close ≡ true → Serves g limits s new r0 r2 w0 w3 (Ok (count + 1))
+        closed sent yes = (
+          h.read ++ bytes,
+          h.written ++ told limits true this,
+          consumes bytes consumed,
+          subst (λ c. Appends w0 w3 (h.written ++ told limits c this)) yes (sends_all sent),
+          inr (inl (record {
+            done = h.done;
+            last = this;
+            later = later;
+            before = h.written;
+            number = count;
+            goes = goes_whole;
+            exchange = exchange;
+            closing = sym close_is ∙ yes;
+            wrote = refl;
+            count_is = refl;
+            run = run;
+          })),
+        )
+
+        -- the reply was cut off
+        reply_cut : AppendsFront (outcome_text limits f close replies.outcome) w2 w3
+            → (read : Text) × (written : Text) × Consumes r0 r2 read × Appends w0 w3 written × IsStopped g limits s new read written
+        reply_cut cut_off =
+            let front = interim_of f ++ cut_off.front in
+            let whole : told limits close this ≡ front ++ cut_off.rest = ap (λ l. interim_of f ++ l) cut_off.whole ∙ sym (append_assoc (interim_of f) cut_off.front cut_off.rest) in (
+              h.read ++ bytes,
+              h.written ++ front,
+              consumes bytes consumed,
+              subst (Appends w0 w3) (append_assoc h.written (interim_of f) cut_off.front)
+                  (Appends-trans w0 w2 w3 (h.written ++ interim_of f) cut_off.front (appends bytes consumed (interim_of f) asked_on) cut_off.appends),
+              record {
+                done = h.done;
+                rest = message ++ later;
+                before = h.written;
+                front = front;
+                back = cut_off.rest;
+                number = count;
+                goes = goes_whole;
+                next = inl (this, later, refl, exchange, sym whole ∙ ap (λ c. told limits c this) close_is, run);
+                wrote = refl;
+              },
+            )
+
+      -- what the registry replied, whatever it held
+      abbrev IsReplying : Result (Unit {0}) StreamFault → Type 0
+      IsReplying result = (t : model.Registry) → Shows t (shown g now) → Replies g limits f (routing_of f (drop f.len message)) close t now new w2 w3 result
+
+      pub reply_sent : (u : Unit {0}) → IsReplying (Ok u) → close ≡ false → Holds g limits s r0 r2 w0 w3 later (count + 1) new
+      reply_sent u all no =
+          let (t, ran) = h.run in let it = all t ran.shows in answered t (Ok u) ran it it.sends no
+
+      pub last_sent : (u : Unit {0}) → IsReplying (Ok u) → close ≡ true → Serves g limits s new r0 r2 w0 w3 (Ok (count + 1))
+      last_sent u all yes =
+          let (t, ran) = h.run in let it = all t ran.shows in closed t (Ok u) ran it it.sends yes
+
+      pub reply_failed : (fault : StreamFault) → IsReplying (Err fault) → Serves g limits s new r0 r2 w0 w3 (Err fault)
+      reply_failed WriteFault all = let (t, ran) = h.run in let it = all t ran.shows in reply_cut t (Err WriteFault) ran it it.sends
+      reply_failed StoreFault all = let (t, ran) = h.run in let it = all t ran.shows in reply_cut t (Err StoreFault) ran it it.sends
+      reply_failed TooManyTurns all =
+          let (t, ran) = h.run in
+          let it = all t ran.shows in
+          let (read, written, c, a, stopped) = reply_cut t (Err TooManyTurns) ran it it.sends in
+          (read, written, c, a, inr stopped)
+      reply_failed ReadFault all = let (t, ran) = h.run in let it = all t ran.shows in absurd it.sends
+      reply_failed Memory all = let (t, ran) = h.run in let it = all t ran.shows in absurd it.sends

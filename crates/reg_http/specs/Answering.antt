@@ -1,0 +1,50 @@
+-- One request is answered.
+use Rattle.std.specs.Prelude.{◌≡◌, Bool, Option, Result}
+use Rattle.sqlite.specs.State.{HasCleanDisk}
+use Rattle.sqlite_trees.specs.declared.store.Store.{Ghosts}
+use Rattle.reg_body.specs.declared.limits.Limits.{Limits}
+use Rattle.reg_heads.specs.Heads.{Facts}
+use Rattle.reg_model.specs.Registry as model
+use Rattle.reg_model.specs.Steps.{IsFit}
+use Rattle.reg_model.specs.Registry.{Text}
+use Rattle.reg_receiving.specs.Turns.{Streams}
+use Rattle.reg_receiving.specs.declared.fault.StreamFault.{StreamFault}
+use Rattle.reg_requests.specs.Requests.{request_from}
+use Rattle.reg_requests.specs.Views.{event_of}
+use Rattle.reg_service.specs.Answered.{Answers, AreUpToDate, Shows}
+use Rattle.reg_service.specs.Registries.{limits_of, tables_of}
+use Rattle.reg_service.specs.declared.registry.Registry.{Registry}
+use Rattle.reg_tables.specs.declared.tables.Tables.{Tables}
+use Rattle.reg_tables.specs.Works.{shown}
+use Rattle.reg_http.specs.Exchanges.{IsOutcome, Outcome, outcome_text}
+use Rattle.reg_http.specs.Exchanges.Outcome.{Answered}
+use Rattle.reg_routes.specs.Routing.{Routing}
+
+-- the tables move with the outcome: an event that is fit is answered by them, and else they stay
+abbrev pub Moves : {S : Type 0} → Ghosts S → Limits → model.Registry → Facts → Outcome → Tables S
+    → Tables S → Type 0
+Moves g limits s f (Answered w a) old new =
+    let e = event_of (request_from limits f.token w) in IsFit e × Answers g limits s e a old new
+Moves g limits s f o old new = new ≡ old
+
+-- The request is answered by one of its outcomes, whose reply was sent, or a front of it.
+pub record Replies {S : Type 0} (g : Ghosts S) (limits : Limits) (f : Facts) (there : Routing)
+    (close : Bool) (s : model.Registry) (old new : Tables S) (w0 w1 : Option Text)
+    (r : Result (Unit {0}) StreamFault) : Type 0 where
+  pub outcome : Outcome
+  pub leads : IsOutcome there outcome
+  pub moves : Moves g limits s f outcome old new
+  pub sends : Streams (outcome_text limits f close outcome) w0 w1 r
+
+-- it is so whatever registry the tables held
+abbrev pub IsReplied : {S : Type 0} → Ghosts S → Limits → Facts → Routing → Bool → Tables S
+    → Tables S → Option Text → Option Text → Result (Unit {0}) StreamFault → Type 0
+IsReplied g limits f there close old new w0 w1 r =
+    HasCleanDisk (shown g new) → (s : model.Registry) → Shows s (shown g old)
+    → Replies g limits f there close s old new w0 w1 r
+
+-- the registry goes on: its tables are ours, and its limits the same
+pub record GoesOn {S : Type 0} (g : Ghosts S) (old new : Registry S) : Type 0 where
+  pub tables : AreUpToDate g (tables_of new)
+  pub clean : HasCleanDisk (shown g (tables_of new)) → HasCleanDisk (shown g (tables_of old))
+  pub limits : limits_of new ≡ limits_of old

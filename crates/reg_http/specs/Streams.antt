@@ -1,0 +1,139 @@
+-- What was read of a stream, and what was written for it.
+use Rattle.std.specs.Prelude.{◌≡◌, ◌⊎◌, ◌+◌, ◌≤◌, ◌++◌, ℕ, Bool, true, false, List, [], ◌∷◌, length, None, Option, Result, Ok, Err, All}
+use Rattle.std.specs.List.{flat_map}
+use Rattle.std.specs.Io.KnownBytes.{Appends, Consumes, IsAtEnd}
+use Rattle.sqlite_trees.specs.declared.store.Store.{Ghosts}
+use Rattle.reg_body.specs.declared.limits.Limits.{Limits}
+use Rattle.reg_heads.specs.Heads.{Facts, IsHeadAt}
+use Rattle.reg_model.specs.declared.rule.Rule.{Rule}
+use Rattle.reg_model.specs.Registry as model
+use Rattle.reg_model.specs.Registry.{Text}
+use Rattle.reg_sending.specs.Texts.{refusal_text}
+use Rattle.reg_service.specs.Sequences.{Ran}
+use Rattle.reg_tables.specs.declared.tables.Tables.{Tables}
+use Rattle.reg_receiving.specs.Begun.{IsBegun, IsRefused, interim_of}
+use Rattle.reg_http.specs.Exchanges.{Exchange, IsExchange, answers_in, closes, events_in, reply_of}
+use Rattle.reg_receiving.specs.declared.fault.StreamFault.{StreamFault}
+use Rattle.reg_receiving.specs.declared.fault.StreamFault.TheVariants.{Memory, ReadFault, StoreFault, TooManyTurns, WriteFault}
+
+-- the bytes that were asked, and those that were replied, each after its interim line
+abbrev pub asked : List Exchange → Text
+asked xs = flat_map (λ x. x.message) xs
+
+abbrev pub told : Limits → Bool → Exchange → Text
+told limits close x = interim_of x.facts ++ reply_of limits close x
+
+abbrev pub replied : Limits → List Exchange → Text
+replied limits xs = flat_map (told limits false) xs
+
+-- one exchange, after which the connection goes on
+pub record IsOpen (limits : Limits) (x : Exchange) : Type 0 where
+  pub exchange : IsExchange limits x
+  pub goes_on : x.facts.close ≡ false
+
+-- These exchanges were done, one after another, and the rest was read beyond them. None of them
+-- closed the connection.
+pub record Goes (limits : Limits) (done : List Exchange) (read written rest : Text) (count : ℕ)
+    : Type 0 where
+  pub reads : read ≡ asked done ++ rest
+  pub wrote : written ≡ replied limits done
+  pub count_is : count ≡ length done
+  pub each : All (IsOpen limits) done
+  pub before_last : limits.replies ≤ count → limits.replies ≡ 0
+
+-- the last reply before the connection closes
+abbrev pub closing_text : Rule → Bool → Text
+closing_text r only = refusal_text r None true only
+
+module _ {S : Type 0} (g : Ghosts S) (limits : Limits) (s : model.Registry) (now : Tables S) where
+  -- the events of the exchanges are a run of the registry, which holds its end
+  abbrev pub HasRun : List Exchange → Type 0
+  HasRun xs = (t : model.Registry)
+      × Ran g limits s (events_in limits xs) (answers_in limits xs) t now
+
+  -- all requests that were read are replied to, but for one that has only begun
+  pub record IsEnded (read written : Text) (count : ℕ) : Type 0 where
+    pub done : List Exchange
+    pub rest : Text
+    pub before : Text
+    pub more : Text
+    pub goes : Goes limits done read before rest count
+    pub begun : IsBegun limits rest more
+    pub wrote : written ≡ before ++ more
+    pub run : HasRun done
+
+  -- the last reply closes the connection, and what follows its request is not looked at
+  pub record IsClosed (read written : Text) (count : ℕ) : Type 0 where
+    pub done : List Exchange
+    pub last : Exchange
+    pub later : Text
+    pub before : Text
+    pub number : ℕ
+    pub goes : Goes limits done read before (last.message ++ later) number
+    pub exchange : IsExchange limits last
+    pub closing : closes limits last.facts (number + 1) ≡ true
+    pub wrote : written ≡ before ++ told limits true last
+    pub count_is : count ≡ number + 1
+    pub run : HasRun (done ++ last ∷ [])
+
+  -- the rest is refused, and what follows is not looked at
+  pub record IsCutShort (read written : Text) (count : ℕ) : Type 0 where
+    pub done : List Exchange
+    pub rest : Text
+    pub before : Text
+    pub more : Text
+    pub broken : Rule
+    pub only : Bool
+    pub number : ℕ
+    pub goes : Goes limits done read before rest number
+    pub refused : IsRefused limits rest more broken only
+    pub wrote : written ≡ before ++ (more ++ closing_text broken only)
+    pub count_is : count ≡ number + 1
+    pub run : HasRun done
+
+  -- the next thing that was to be written after the exchanges: the interim line and the reply of a
+  -- request that is done, the interim line of one that is not, or a refusal that closes
+  abbrev pub IsNext : List Exchange → Text → ℕ → Text → Type 0
+  IsNext done rest number text =
+      ((x : Exchange) × (later : Text) × (rest ≡ x.message ++ later) × IsExchange limits x
+      × (text ≡ told limits (closes limits x.facts (number + 1)) x) × HasRun (done ++ x ∷ []))
+      ⊎ (((f : Facts) × IsHeadAt limits rest f × (text ≡ interim_of f) × HasRun done)
+      ⊎ ((more : Text) × (r : Rule) × (only : Bool) × IsRefused limits rest more r only
+      × (text ≡ more ++ closing_text r only) × HasRun done))
+
+  -- the writing stopped: after the exchanges a front of the next thing was written
+  pub record IsStopped (read written : Text) : Type 0 where
+    pub done : List Exchange
+    pub rest : Text
+    pub before : Text
+    pub front : Text
+    pub back : Text
+    pub number : ℕ
+    pub goes : Goes limits done read before rest number
+    pub next : IsNext done rest number (front ++ back)
+    pub wrote : written ≡ before ++ front
+
+  -- nothing was read or written
+  pub record IsUntouched (read written : Text) : Type 0 where
+    pub nothing_read : read ≡ []
+    pub nothing_written : written ≡ []
+    pub run : HasRun []
+
+  -- what the bytes that were read came to, by what is answered
+  abbrev pub IsServed : Text → Text → Type 0 → Result ℕ StreamFault → Type 0
+  IsServed read written at_end (Ok count) =
+      (IsEnded read written count × at_end)
+      ⊎ (IsClosed read written count ⊎ IsCutShort read written count)
+  IsServed read written at_end (Err ReadFault) = (count : ℕ) × IsEnded read written count
+  IsServed read written at_end (Err WriteFault) = IsStopped read written
+  IsServed read written at_end (Err StoreFault) = IsStopped read written
+  IsServed read written at_end (Err TooManyTurns) =
+      ((count : ℕ) × IsEnded read written count) ⊎ IsStopped read written
+  IsServed read written at_end (Err Memory) = IsUntouched read written
+
+  -- the same between two states of a reader and of a writer, however the reads cut the bytes
+  abbrev pub Serves : Option Text → Option Text → Option Text → Option Text
+      → Result ℕ StreamFault → Type 0
+  Serves r0 r1 w0 w1 result =
+      (read : Text) × (written : Text) × Consumes r0 r1 read × Appends w0 w1 written
+      × IsServed read written (IsAtEnd r1) result

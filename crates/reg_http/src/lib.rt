@@ -1,0 +1,15 @@
+//! HTTP/1.1 over a stream: requests are cut from the bytes, routed, answered by a registry, and
+//! their replies are written.
+//!
+//! ```
+//! let mut reader = Counted::new(input);
+//! let mut writer = Counted::new(Vec::new(alloc));
+//! let replies = serve_stream(alloc, &mut registry, &mut reader, &mut writer)?;
+//! ```
+#![tactic(auto)]
+
+mod answering;
+mod stream;
+
+pub use reg_receiving::StreamFault;
+pub use stream::serve_stream;

@@ -1,0 +1,101 @@
+//! A stream is served.
+
+ghost use Rattle.std.specs.Prelude.{◌≡◌, ◌+◌, ◌^◌, ◌<◌, ◌||◌, ◌==◌, ℕ, IfOk, vec_len};
+ghost use Rattle.sqlite.specs.State.{HasCleanDisk};
+ghost use Rattle.reg_receiving.specs.Turns.{Spends, tally};
+ghost use Rattle.reg_service.specs.Answered.{AreUpToDate, LeavesAlone, Shows};
+ghost use Rattle.reg_service.specs.Registries.{limits_of, tables_of};
+ghost use Rattle.reg_tables.specs.Works.{shown};
+ghost use Rattle.reg_http.specs.Streams.{Serves};
+
+use crate::answering::answer_message;
+use reg_body::{Counted, Limits};
+use reg_heads::laws::{append_law, one_head_law};
+use reg_receiving::{StreamFault, Taken, drop_front, send_reply, take_request};
+use reg_replies::Reply;
+use reg_routes::Routes;
+use reg_service::Registry;
+use reg_service::laws::history_law;
+use sqlite::Alter;
+use std::alloc::{AllocError, Global};
+use std::io::{Read, Write};
+
+/// How many bytes one read asks for.
+const CHUNK: usize = 65_536;
+
+/// Room to read into.
+fn room(alloc: Global) -> Result<Vec<u8>, AllocError>
+    ensures { IfOk result (λ chunk. vec_len chunk ≡ CHUNK) }
+{
+    vec![in alloc; 0; CHUNK]
+}
+
+/// Whether the connection closes after the reply of this number.
+fn closes(limits: &Limits, close: bool, number: u64) -> bool
+    ensures { result ≡ (close || number == limits.now.replies) }
+{
+    close || number == limits.replies
+}
+
+/// `serve_stream` answers the requests of a stream, one after another, until its input ends or a
+/// reply closes the connection. It answers how many replies it wrote, without interim lines, and
+/// makes at most `turns` read and write calls together.
+pub fn serve_stream<R: Read, W: Write, S: Alter>(
+    alloc: Global,
+    registry: &mut Registry<S>,
+    r: &mut Counted<R>,
+    w: &mut Counted<W>,
+) -> Result<u64, StreamFault>
+    requires tables { AreUpToDate S.Store (tables_of registry.old) }
+    requires reads { r.old.calls + (limits_of registry.old).turns < 2 ^ 64 }
+    requires writes { w.old.calls + (limits_of registry.old).turns < 2 ^ 64 }
+
+    // What was written is what a run of the registry replies to what was read.
+    ensures serves { HasCleanDisk (shown S.Store (tables_of registry.new)) → (s : _)
+        → Shows s (shown S.Store (tables_of registry.old))
+        → LeavesAlone s (shown S.Store (tables_of registry.old))
+        → Serves S.Store (limits_of registry.old) s (tables_of registry.new)
+        (R.remaining r.old.inner) (R.remaining r.new.inner)
+        (W.contents w.old.inner) (W.contents w.new.inner) result }
+
+    // Each call was a turn, and a fault has its cause.
+    ensures spends { (left : ℕ) × Spends (limits_of registry.old).turns left
+        (tally r.old w.old) (tally r.new w.new) result }
+
+    ensures tables { AreUpToDate S.Store (tables_of registry.new) }
+    ensures clean { HasCleanDisk (shown S.Store (tables_of registry.new)) → HasCleanDisk
+        (shown S.Store (tables_of registry.old)) }
+    ensures limits { limits_of registry.new ≡ limits_of registry.old }
+{
+    append_law();
+    one_head_law();
+    history_law::<S>();
+    let limits = *registry.limits();
+    let (Ok(routes), Ok(mut chunk)) = (Routes::new(alloc), room(alloc)) else {
+        return Err(StreamFault::Memory);
+    };
+    let mut pending = Vec::new(alloc);
+    let mut left = limits.turns;
+    let mut replies = 0;
+    'requests: loop {
+        match take_request(alloc, r, w, &mut chunk, &mut pending, &limits, &mut left)? {
+            Taken::End => return Ok(replies),
+            Taken::Refused(rule, only) => {
+                send_reply(w, &Reply::Denied(rule), true, only, &mut left)?;
+                return Ok(replies + 1);
+            }
+            Taken::Whole(begun) => {
+                let close = closes(&limits, begun.close, replies + 1);
+                let total = begun.len + begun.body_len as usize;
+                let (message, _) = pending.split_at(total);
+                let only = begun.is_head;
+                answer_message(alloc, registry, &routes, w, message, only, close, &mut left)?;
+                replies += 1;
+                if close {
+                    return Ok(replies);
+                }
+                drop_front(&mut pending, total);
+            }
+        }
+    }
+}

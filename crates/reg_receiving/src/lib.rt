@@ -1,0 +1,15 @@
+//! Taking requests from a stream, one after another, within a number of read and write calls.
+//!
+//! `take_request` reads until a request is there whole, and writes the interim line that it waits
+//! for. Nothing is decided here: what a request asks for is not looked at.
+#![tactic(auto)]
+
+mod fault;
+mod reading;
+mod taking;
+mod turns;
+
+pub use fault::StreamFault;
+pub use reading::drop_front;
+pub use taking::{Begun, Taken, take_request};
+pub use turns::{send, send_reply};

@@ -1,0 +1,4 @@
+pub mod Targets
+pub mod Table
+pub mod Routing
+pub mod Routed

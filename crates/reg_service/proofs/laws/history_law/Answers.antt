@@ -1,0 +1,10 @@
+use Rattle.reg_service.proofs.Histories.{ran_nothing, ran_on}
+use Rattle.reg_service.proofs.laws.history_law.Goals as goal
+
+pub returns-clause-begins : goal.returns-clause-begins
+returns-clause-begins g c limits s t shows alone =
+    ran_nothing g.S.Store limits s c.growth_law.ensures.sound c.growth_law.ensures.grows t shows alone
+
+pub returns-clause-goes_on : goal.returns-clause-goes_on
+returns-clause-goes_on g c limits s es xs t e a old new fit so_far it =
+    ran_on g.S.Store limits s c.growth_law.ensures.sound c.growth_law.ensures.grows c.run_law.ensures.step c.run_law.ensures.join es xs t e a old new fit so_far it

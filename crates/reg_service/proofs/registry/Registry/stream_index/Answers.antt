@@ -1,0 +1,28 @@
+use Rattle.std.proofs.Common.{[], ◌≡◌, subst, sym}
+use Rattle.reg_model.specs.Actions.{logins_of}
+use Rattle.reg_model.specs.Events.{action_of}
+use Rattle.reg_requests.specs.Requests.{request_of}
+use Rattle.reg_requests.specs.Views.{Request}
+use Rattle.reg_sending.specs.Sent.{sink}
+use Rattle.reg_service.specs.Registries.{limits_of, tables_of}
+use Rattle.reg_service.specs.Streamed.{IsStreamed}
+use Rattle.reg_service.proofs.Streams.{no_logins, untouched_leaves, untouched_sent}
+use Rattle.reg_service.proofs.registry.Registry.stream_index.Goals as goal
+
+pub stream_parts-requires-clause-plain : goal.stream_parts-requires-clause-plain
+stream_parts-requires-clause-plain g c =
+    subst (λ (it : Request). logins_of (action_of it.asked) ≡ []) (sym c.in-Ok.ensures.asked) (no_logins (limits_of c.args.self.now) c.args.request.now.wanted c.requires.index)
+
+pub returns-in-Ok-clause-streams : goal.returns-in-Ok-clause-streams
+returns-in-Ok-clause-streams g c =
+    let limits = limits_of c.args.self.now in
+    subst (λ (it : Request). IsStreamed g.S.Store limits it.digest it.asked c.args.close c.stream_parts.result c.args.writes (tables_of c.args.self.now) c.stream_parts.new.tables (sink (g.W.Write.contents c.args.writer.now.inner) c.args.writer.now) (sink (g.W.Write.contents c.stream_parts.new.w.inner) c.stream_parts.new.w)) c.in-Ok.ensures.asked (c.stream_parts.ensures.streams limits)
+
+pub returns-in-Err-clause-streams : goal.returns-in-Err-clause-streams
+returns-in-Err-clause-streams g c clean s h =
+    let asks = request_of (limits_of c.args.self.now) c.args.request.now in
+    untouched_sent g.S.Store c.args.close c.refuse.result c.args.writes _ _ (tables_of c.args.self.now) c.refuse.ensures.sends (limits_of c.args.self.now) asks.digest asks.asked s h
+
+pub returns-in-Err-clause-leaves : goal.returns-in-Err-clause-leaves
+returns-in-Err-clause-leaves g c =
+    untouched_leaves g.S.Store c.args.close c.refuse.result c.args.writes _ _ (tables_of c.args.self.now) c.refuse.ensures.sends c.requires.tables c.refuse.ensures.never

@@ -1,0 +1,4 @@
+pub mod Asking
+pub mod Decisions
+pub mod Rows
+pub mod Unsent

@@ -1,0 +1,4 @@
+pub mod Decides
+pub mod Files
+pub mod Lines
+pub mod Streams

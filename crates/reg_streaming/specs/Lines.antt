@@ -1,0 +1,20 @@
+-- The lines of an index file, of what the tables show.
+use Rattle.std.specs.Prelude.{Bool, List, [], map}
+use Rattle.sqlite.specs.declared.types.Value.{Value}
+use Rattle.sqlite.specs.declared.types.Value.TheVariants.{Blob}
+use Rattle.sqlite.specs.Order.{Row, column}
+use Rattle.reg_access.specs.JoinRows.{is_mark_set}
+use Rattle.reg_line.specs.File.{file_text}
+use Rattle.reg_model.specs.Registry.{Text}
+
+abbrev pub stem_in : Value → Text
+stem_in (Blob stem) = stem
+stem_in _ = []
+
+-- the stem and the mark that a row tells
+abbrev pub entry_in : Row → Text × Bool
+entry_in row = (stem_in (column row 0), is_mark_set (column row 1))
+
+-- the lines of these rows
+abbrev pub lines_in : List Row → Text
+lines_in rows = file_text (map entry_in rows)

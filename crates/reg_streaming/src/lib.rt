@@ -1,0 +1,16 @@
+//! Index files, sent one row at a time: it is decided first whether the file is shown, within a
+//! transaction; once that is over the rows are read and sent.
+#![tactic(auto)]
+
+mod deciding;
+mod fault;
+mod files;
+mod found;
+pub mod laws;
+mod lines;
+mod sending;
+
+pub use deciding::{Decided, decide_file};
+pub use fault::IndexFault;
+pub use found::FoundFile;
+pub use sending::{refuse, send_file};

@@ -1,0 +1,23 @@
+//! The words of the administrator's commands, as the command line and the lines of a setup file
+//! write them.
+//!
+//! ```
+//! let matches = setup_lines(alloc)?.try_get_matches_from(words)?;   // setup owner-add a bob
+//! let order = read_order(alloc, "owner-add", inner)?;               // Some(..)
+//! order.command(&digest)                                  // AdminCommand::OwnerAdd("a", "bob")
+//! ```
+//!
+//! `clap` judges how many words there are and which options; what they mean is read here.
+#![tactic(auto)]
+
+mod numbers;
+mod orders;
+mod parameters;
+mod reports;
+mod subcommands;
+
+pub use numbers::{decimal, is_port};
+pub use orders::{NewToken, Order, TokenSource, read_order};
+pub use parameters::{Shape, option, with_file, word};
+pub use reports::{read_report, with_reports};
+pub use subcommands::with_orders;

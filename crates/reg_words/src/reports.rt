@@ -1,0 +1,63 @@
+//! The subcommands that report on a registry.
+
+ghost use Rattle.std.specs.Prelude.{IfSome};
+ghost use Rattle.reg_model.specs.Events.Event.{Order};
+ghost use Rattle.reg_model.specs.Steps.{IsFit};
+ghost use Rattle.reg_policy.specs.Events.{command_of};
+
+use crate::parameters::{Entry, Shape, Words, subcommand};
+use clap::{ArgMatches, Command};
+use reg_policy::AdminCommand;
+use std::alloc::{AllocError, Global};
+
+const REPORTS: [Entry; 4] = [
+    Entry {
+        name: "users",
+        about: "Lists the accounts: number, login, whether it is enabled, name",
+        example: "Example:\n  registry_cli users --db r.db",
+        words: Words::Nothing,
+    },
+    Entry {
+        name: "tokens",
+        about: "Lists the tokens: number, login, whether it is live, endpoints, patterns",
+        example: "Example:\n  registry_cli tokens --db r.db",
+        words: Words::Nothing,
+    },
+    Entry {
+        name: "crates",
+        about: "Lists the crates: name, number of versions, highest version",
+        example: "Example:\n  registry_cli crates --db r.db",
+        words: Words::Nothing,
+    },
+    Entry {
+        name: "access",
+        about: "Lists who may act on a crate, by which token and endpoint, and who reads it where \
+                it is restricted",
+        example: "Example:\n  registry_cli access acme-net --db r.db",
+        words: Words::Crate,
+    },
+];
+
+/// `with_reports` adds the subcommands that only report.
+pub fn with_reports<'a>(
+    alloc: Global,
+    mut command: Command<'a>,
+) -> Result<Command<'a>, AllocError> {
+    for entry in REPORTS {
+        command = command.subcommand(subcommand(alloc, Shape::Program, entry)?)?;
+    }
+    Ok(command)
+}
+
+/// The report that a subcommand asks for, if it asks for one.
+pub fn read_report<'a>(name: &str, words: &ArgMatches<'a>) -> Option<AdminCommand<'a>>
+    ensures { IfSome result (λ c. IsFit (Order (command_of c))) }
+{
+    match name {
+        "users" => Some(AdminCommand::Users),
+        "tokens" => Some(AdminCommand::Tokens),
+        "crates" => Some(AdminCommand::Crates),
+        "access" => Some(AdminCommand::Access(words.get_str("CRATE")?)),
+        _ => None,
+    }
+}
