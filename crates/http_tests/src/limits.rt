@@ -4,16 +4,17 @@ use crate::script::play;
 
 #[test]
 fn interim_line_and_limits(rt: HostRuntime) {
-    let script = r#"given two-accounts json=1048576 archive=10485760
+    let script = r#"given two-accounts json=64 archive=192
 stream
 > PUT /api/v1/crates/new HTTP/1.1
 > host: r
 > authorization: abc
-> content-length: 10485796
+> content-length: 228
 > expect: 100-continue
 >
->: <1b000000>{"name":"a","vers":"0.1.0"}<0100a000>
-repeat 10485761 >: x
+>: <1b000000>{"name":"a","vers":"0.1.0"}<c1000000>
+repeat 3 >: xxxxxxxxxxxxxxxxxxxxxxxxxxxxxxxxxxxxxxxxxxxxxxxxxxxxxxxxxxxxxxxx
+repeat 1 >: x
 < HTTP/1.1 100 Continue
 <
 < HTTP/1.1 413 Content Too Large
@@ -26,11 +27,11 @@ stream
 > PUT /api/v1/crates/new HTTP/1.1
 > host: r
 > authorization: abc
-> content-length: 10485795
+> content-length: 227
 > expect: 100-continue
 >
->: <1b000000>{"name":"a","vers":"0.1.0"}<0000a000>
-repeat 10485760 >: x
+>: <1b000000>{"name":"a","vers":"0.1.0"}<c0000000>
+repeat 3 >: xxxxxxxxxxxxxxxxxxxxxxxxxxxxxxxxxxxxxxxxxxxxxxxxxxxxxxxxxxxxxxxx
 < HTTP/1.1 100 Continue
 <
 < HTTP/1.1 200 OK
@@ -43,7 +44,7 @@ stream
 > PUT /api/v1/crates/new HTTP/1.1
 > host: r
 > authorization: abc
-> content-length: 11534345
+> content-length: 265
 > expect: 100-continue
 >
 < HTTP/1.1 413 Content Too Large
@@ -57,42 +58,8 @@ stream
 }
 
 #[test]
-fn larger_archives(rt: HostRuntime) {
+fn larger_bodies(rt: HostRuntime) {
     let script = r#"given two-accounts
-stream
-> PUT /api/v1/crates/new HTTP/1.1
-> host: r
-> authorization: abc
-> content-length: 33554468
-> expect: 100-continue
->
->: <1b000000>{"name":"a","vers":"0.1.0"}<01000002>
-repeat 33554433 >: x
-< HTTP/1.1 100 Continue
-<
-< HTTP/1.1 413 Content Too Large
-< content-type: application/json
-< content-length: 57
-<
-<: {"errors":[{"detail":"B3 metadata or archive too long"}]}
-= 1
-stream
-> PUT /api/v1/crates/new HTTP/1.1
-> host: r
-> authorization: abc
-> content-length: 33554467
-> expect: 100-continue
->
->: <1b000000>{"name":"a","vers":"0.1.0"}<00000002>
-repeat 33554432 >: x
-< HTTP/1.1 100 Continue
-<
-< HTTP/1.1 200 OK
-< content-type: application/json
-< content-length: 69
-<
-<: {"warnings":{"invalid_badges":[],"invalid_categories":[],"other":[]}}
-= 1
 stream
 > PUT /api/v1/crates/new HTTP/1.1
 > host: r
@@ -105,7 +72,14 @@ stream
 < connection: close
 <
 <: {"errors":[{"detail":"H5 request body too large"}]}
-= 1"#;
+= 1
+stream
+> PUT /api/v1/crates/new HTTP/1.1
+> host: r
+> authorization: abc
+> content-length: 37748744
+>
+= 0"#;
     play(&rt, script);
 }
 

@@ -37,7 +37,7 @@ enum Went {
     Otherwise,
 }
 
-fn went(answer: Result<u64, StreamFault>, taken: &[u8], told: &[u8]) -> Went {
+fn outcome(answer: Result<u64, StreamFault>, taken: &[u8], told: &[u8]) -> Went {
     match answer {
         Err(StreamFault::Memory) if taken.is_empty() => Went::Before,
         Ok(1) if taken == WHILE_READ => Went::Read,
@@ -47,28 +47,20 @@ fn went(answer: Result<u64, StreamFault>, taken: &[u8], told: &[u8]) -> Went {
     }
 }
 
-/// How often it went so.
+/// How often it stopped while its request was read, and how often as it must not.
 #[derive(Clone, Copy)]
 struct Tally {
-    before: u32,
     read: u32,
-    well: u32,
     otherwise: u32,
 }
 
 impl Tally {
     fn count(&mut self, went: Went) {
         match went {
-            Went::Before => self.before = self.before.saturating_add(1),
             Went::Read => self.read = self.read.saturating_add(1),
-            Went::Within => {}
-            Went::Well => self.well = self.well.saturating_add(1),
             Went::Otherwise => self.otherwise = self.otherwise.saturating_add(1),
+            _ => {}
         }
-    }
-
-    fn is_right(&self) -> bool {
-        self.otherwise == 0 && self.before > 0 && self.read > 0 && self.well > 0
     }
 }
 
@@ -85,20 +77,18 @@ fn tally_of<S: Alter>(
     ensures { AreUpToDate S.Store (tables_of registry.new) }
 {
     let mut tally = Tally {
-        before: 0,
         read: 0,
-        well: 0,
         otherwise: 0,
     };
     let mut taken = Vec::with_capacity(alloc, 1_000)?;
     let mut amounts = Amounts::new(alloc, AMOUNTS.0, AMOUNTS.1)?;
-    for _ in 0..AMOUNTS.0 {
+    'amounts: for _ in 0..AMOUNTS.0 {
         if !amounts.advance(alloc) {
             return Ok(tally);
         }
         taken.clear();
         let (answer, written) = serve(alloc, registry, &stream.asked, &stream.ends, taken);
-        tally.count(went(answer, &written, &stream.told));
+        tally.count(outcome(answer, &written, &stream.told));
         taken = written;
     }
     Ok(tally)
@@ -113,17 +103,11 @@ pub(crate) fn amounts_fault<S: Alter>(
     requires { AreUpToDate S.Store (tables_of registry.old) }
     ensures { AreUpToDate S.Store (tables_of registry.new) }
 {
-    let tally = tally_of(alloc, registry, stream)?;
-    if tally.is_right() {
+    let Tally { read, otherwise } = tally_of(alloc, registry, stream)?;
+    if otherwise == 0 && read > 0 {
         return Ok(None);
     }
-    let Tally {
-        before,
-        read,
-        well,
-        otherwise,
-    } = tally;
-    Ok(Some(format!(in alloc; "{before} before, {read} read, {well} well, {otherwise} not")?))
+    Ok(Some(format!(in alloc; "{read} while read, {otherwise} otherwise")?))
 }
 
 #[test]

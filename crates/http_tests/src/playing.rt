@@ -5,7 +5,7 @@ ghost use Rattle.reg_service.specs.Registries.{tables_of};
 
 use crate::ends::{Ends, Sink, Source};
 use crate::stream::Stream;
-use crate::trials::{Each, Trial, trial};
+use crate::trials::{Each, Trial, tried_at};
 use reg_body::Counted;
 use reg_http::{StreamFault, serve_stream};
 use reg_service::Registry;
@@ -99,7 +99,7 @@ pub(crate) fn each_fault<S: Alter>(
 {
     let places = stream.asked.len().max(stream.told.len()).saturating_add(2);
     for place in 0..places {
-        let tried = trial(stream, each, place);
+        let tried = tried_at(stream, each, place);
         if let Some(fault) = trial_fault(alloc, registry, stream, &tried)? {
             return Ok(Some(format!(in alloc; "at {place}: {fault}")?));
         }

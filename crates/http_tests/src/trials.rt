@@ -100,7 +100,7 @@ fn failing_write(stream: &Stream, place: usize) -> Trial {
 }
 
 /// What is tried at a place.
-pub(crate) fn trial(stream: &Stream, each: Each, place: usize) -> Trial {
+pub(crate) fn tried_at(stream: &Stream, each: Each, place: usize) -> Trial {
     match each {
         Each::Cut => Trial {
             ends: Ends {
