@@ -46,7 +46,8 @@ pub record SendsRows {S : Type 0} (g : Ghosts S) (f : FoundFile) (close : Bool)
 
 -- the reply where the store failed before
 abbrev pub SendsNoRoom : Bool → Result ℕ IndexFault → ℕ → Sink → Sink → Type 0
-SendsNoRoom close r writes old new = Streams r (refusal_text rule.S1 None close false) writes old new
+SendsNoRoom close r writes old new =
+    Streams r (refusal_text rule.S1 None close false) writes old new
 
 -- the rows of the file were sent behind the head
 pub record SendsFile {S : Type 0} (g : Ghosts S) (f : FoundFile) (close : Bool)
