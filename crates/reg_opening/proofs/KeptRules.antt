@@ -5,8 +5,7 @@ use Rattle.std.specs.List.{AllByRecursion}
 use Rattle.std.proofs.lemmas.Bool.{and_parts, not-true}
 use Rattle.sqlite.specs.Order.{Row, column}
 use Rattle.sqlite.specs.Tree.{Trees}
-use Rattle.sqlite.specs.declared.types.Value.TheVariants.{Null}
-use Rattle.sqlite_schema.specs.Rules.{Keeps, clashes, has_parent}
+use Rattle.sqlite_schema.specs.Rules.{Keeps, Obeys, clashes, has_parent}
 use Rattle.sqlite_schema.specs.declared.schema.Constraint.TheVariants.{Datatype, ForeignKey, NotNull, Unique}
 use Rattle.sqlite_sql.specs.Ops.{is_null}
 use Rattle.sqlite_trees.proofs.ListLemmas.{all_weaker}
@@ -21,23 +20,18 @@ use Rattle.reg_statements.specs.declared.tokens.Token.{Token}
 use Rattle.reg_stored.specs.WholeRows.{AreAllRows}
 use Rattle.reg_stored.specs.declared.all_rows.AllRows.{AllRows}
 use Rattle.reg_audit.specs.Checks.{are_counted}
-use Rattle.reg_opening.specs.Rules.{HaveColumns, HaveParents, HaveUniques, IsKeyed, IsOfSchema, IsWhole, KeepsRules, RefersTo}
+use Rattle.reg_opening.specs.Rules.{HaveColumns, HaveParents, HaveUniques, KeepsRules, RefersTo}
 use Rattle.reg_opening.proofs.OwnRowids.{numbered_there, own_rowids, rowids_there}
-use Rattle.reg_opening.proofs.RowColumns.{filled, keyed_rows, keys_null, whole_rows}
+use Rattle.reg_opening.proofs.RowColumns.{filled, keyed_rows, whole_rows}
 use Rattle.reg_opening.proofs.RowKeys.{unique_at, unique_by}
 use Rattle.reg_opening.proofs.RowParents.{accounts_key, crates_key, refers_to}
 
-module _ (db : Trees) (h : IsOfSchema db) where
+module _ (db : Trees) (h : Obeys ours db) where
   typed : Keeps Datatype ours db
-  typed = h.obeys.rules Datatype
+  typed = h.rules Datatype
 
   present : Keeps NotNull ours db
-  present = h.obeys.rules NotNull
-
-  marks_keyed : AllByRecursion (IsKeyed (0 ∷ 1 ∷ [])) (db 17)
-  marks_keyed =
-      let null = keys_null db schema.restricted refl (db 17) typed.1.1.1.1.1.1.1.1.1.1.0 in
-      both_all (IsWhole (0 ∷ 1 ∷ [])) (λ row. column row 1 ≡ Null) (IsKeyed (0 ∷ 1 ∷ [])) (λ row whole key. (whole, key)) (db 17) h.marks null
+  present = h.rules NotNull
 
   have_columns : HaveColumns db
   have_columns = record {
@@ -51,12 +45,11 @@ module _ (db : Trees) (h : IsOfSchema db) where
     archives = keyed_rows db schema.archives 1 refl refl refl (db 13) typed.1.1.1.1.1.1.1.0 present.1.1.1.1.1.1.1.0;
     reserved = whole_rows db schema.reserved 0 refl refl (db 14) typed.1.1.1.1.1.1.1.1.0 present.1.1.1.1.1.1.1.1.0;
     summaries = keyed_rows db schema.summaries 2 refl refl refl (db 16) typed.1.1.1.1.1.1.1.1.1.0 present.1.1.1.1.1.1.1.1.1.0;
-    restricted = marks_keyed;
     readers = whole_rows db schema.readers 1 refl refl (db 18) typed.1.1.1.1.1.1.1.1.1.1.1.0 present.1.1.1.1.1.1.1.1.1.1.1.0;
   }
 
   unique : Keeps Unique ours db
-  unique = h.obeys.rules Unique
+  unique = h.rules Unique
 
   -- a row that keeps UNIQUE clashes with none
   free : (places : List ℕ) (rows : List Row) → AllByRecursion (λ row. (not (clashes plain places rows row) && true) ≡ true) rows → AllByRecursion (λ row. clashes plain places rows row ≡ false) rows
@@ -81,7 +74,7 @@ module _ (db : Trees) (h : IsOfSchema db) where
       }
 
   keys : Keeps ForeignKey ours db
-  keys = h.obeys.rules ForeignKey
+  keys = h.rules ForeignKey
 
   have_parents : HaveParents db
   have_parents =

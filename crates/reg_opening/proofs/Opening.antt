@@ -8,7 +8,7 @@ use Rattle.reg_stored.specs.declared.all_rows.AllRows.{AllRows}
 use Rattle.reg_audit.specs.Checks.{IsFirst, IsFirstOf, Passes}
 use Rattle.reg_audit.specs.declared.check.Check.{Check}
 use Rattle.reg_audit.specs.declared.check.Check.TheVariants.{C1, C2, C3, C4, C5, C6, C7, C8}
-use Rattle.reg_opening.specs.Opening.{AuditLaw, HoldingPasses, OpeningLaw, PassAll, SchemaKeeps}
+use Rattle.reg_opening.specs.Opening.{AuditLaw, HoldingPasses, OpeningLaw, PassAll, PassingHolds, SchemaKeeps}
 use Rattle.reg_opening.specs.RegistryFrom.{ids_from, registry_from}
 use Rattle.reg_opening.proofs.AccountsPass.{accounts_pass_so}
 use Rattle.reg_opening.proofs.CratesPass.{crates_pass_so}
@@ -36,11 +36,14 @@ pub holding_passes : HoldingPasses
 holding_passes it db are ids s holds = pass_each it db ids s (record { are = are; holds = holds })
 
 pub schema_keeps : SchemaKeeps
-schema_keeps it db are of_schema all = keeps_rules db of_schema it are (accounts_of it (all C1)).counted (tokens_of it (all C2)).counted
+schema_keeps it db are all = keeps_rules db are.obeys it are (accounts_of it (all C1)).counted (tokens_of it (all C2)).counted
+
+pub passing : PassingHolds
+passing it db are all = passing_holds it db are (schema_keeps it db are all) all
 
 pub opening : OpeningLaw
-opening it db are of_schema = (
-  λ all. (ids_from it db, registry_from it db, passing_holds it db are (schema_keeps it db are of_schema all) all),
+opening it db are = (
+  λ all. (ids_from it db, registry_from it db, passing it db are all),
   λ h. holding_passes it db are h.0 h.1 h.2,
 )
 
@@ -78,7 +81,7 @@ all_found it db h =
     by_check it db e C8 = e.1.1.1.1.1.1.1.0
 
 pub audited : AuditLaw
-audited it db are of_schema found first = (
-  λ none. (opening it db are of_schema).0 (all_found it db (subst (IsFirst it db) none first)),
-  λ h. none_found (C1 ∷ C2 ∷ C3 ∷ C4 ∷ C5 ∷ C6 ∷ C7 ∷ C8 ∷ []) it db found ((opening it db are of_schema).1 h) first,
+audited it db are found first = (
+  λ none. (opening it db are).0 (all_found it db (subst (IsFirst it db) none first)),
+  λ h. none_found (C1 ∷ C2 ∷ C3 ∷ C4 ∷ C5 ∷ C6 ∷ C7 ∷ C8 ∷ []) it db found ((opening it db are).1 h) first,
 )

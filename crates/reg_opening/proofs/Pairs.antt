@@ -36,18 +36,16 @@ use Rattle.reg_stored.proofs.Rowids.{first_column, second_column}
 use Rattle.reg_stored.proofs.Standing.{same_number}
 use Rattle.reg_audit.specs.Checks.{has_account, has_crate}
 use Rattle.reg_opening.specs.RegistryFrom.{canon_from, pair_from, registry_from}
-use Rattle.reg_opening.specs.Rules.{AreUniqueBy, IsKeyed, IsWhole, RefersTo, same_at, same_value}
+use Rattle.reg_opening.specs.Rules.{AreUniqueBy, IsWhole, RefersTo, same_at, same_value}
 use Rattle.reg_opening.proofs.Crates.{crate_rows, name_of, one_crate}
 use Rattle.reg_opening.proofs.Lists.{any_on}
 use Rattle.reg_opening.proofs.Passing.{Passing, readers_there, restricted_there}
-use Rattle.reg_opening.proofs.Shapes.{rows_from, whole_rows, with_null}
+use Rattle.reg_opening.proofs.Shapes.{rows_from}
+use Rattle.reg_opening.proofs.Shown.{shown_permutes}
 use Rattle.reg_opening.proofs.Uniques.{distinct_map, distinct_so, pairs_so, same_at_flips}
 
 told_pair : (r : Row) → IsWhole (0 ∷ 1 ∷ 2 ∷ []) r → shows (1 ∷ 2 ∷ []) r ≡ drop 1 r
 told_pair r h = ap (drop 1) h
-
-told_mark : (r : Row) → IsKeyed (0 ∷ 1 ∷ []) r → with_null (shows (0 ∷ []) r) ≡ r
-told_mark r h = (λ i. column r 0 ∷ sym h.1 i ∷ []) ∙ h.0
 
 -- two pairs tie exactly where their texts and their accounts are one
 tied_pairs : (c d : Text) (a b : ℕ) (same : Bool) → bytes_eq c d ≡ same → eq_by_cmp owner_cmp (c, a) (d, b) ≡ (same && b == a)
@@ -164,10 +162,10 @@ module _ (it : AllRows) (db : Trees) (h : Passing it db) where
   pub restricted_stands : StandMarked entries (registry_from it db).restricted (db 17)
   restricted_stands =
       let marks = it.restricted.items in
-      let whole = all_weaker (IsKeyed (0 ∷ 1 ∷ [])) (λ r. with_null (shows (0 ∷ []) r) ≡ r) told_mark (db 17) h.rules.columns.restricted in
+      let show = shows (0 ∷ []) in
       record {
         marks = marks;
-        are = whole_rows (shows (0 ∷ [])) with_null number_columns (by_column 0) (db 17) marks whole h.are.restricted;
+        are = IsPermutation-sym (map show (db 17)) (map number_columns marks) (shown_permutes (by_column 0) (db 17) show (map number_columns marks) h.are.restricted);
         of_crates = in_all (λ id. list_any (λ c. c.0 == id) entries) marks (λ id i. entry_there id (all_in (has_crate it) marks id (restricted_there it db h) i));
         same = in_each (λ c. finset.contains (registry_from it db).restricted (canon c.1) ≡ list_any (λ i. i == c.0) marks) entries (λ e i.
             let c = map_in entry_of_crate crates e i in

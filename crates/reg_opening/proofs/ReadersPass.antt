@@ -1,19 +1,17 @@
 -- The restricted crates and the readers of a sound registry pass.
-use Rattle.std.proofs.Common.{◌≡◌, ◌==◌, ℕ, [], ◌∷◌, map, true, refl, sym, ap, subst, eqb-true, ◌∙◌}
+use Rattle.std.proofs.Common.{◌≡◌, ◌==◌, ℕ, [], ◌∷◌, map, true, refl, sym, ap, eqb-true, ◌∙◌}
 use Rattle.std.specs.Prelude.{◌&&◌}
 use Rattle.std.specs.List.{list_all, list_any}
 use Rattle.std.specs.List.Sorted.{IsPermutation}
 use Rattle.std.specs.FinSet as finset
 use Rattle.std.proofs.lemmas.Bool.{and_from, eq-eqb}
-use Rattle.std.proofs.lemmas.List.Sorted.{IsPermutation-map, IsPermutation-sym, IsPermutation-trans}
+use Rattle.std.proofs.lemmas.List.Sorted.{IsPermutation-sym, IsPermutation-trans}
 use Rattle.sqlite.specs.Tree.{Trees}
 use Rattle.reg_names.specs.Names.{canon}
 use Rattle.reg_model.specs.Registry.{Registry}
 use Rattle.reg_model.proofs.Members.{IsIn, all_in, any_in, each_in, in_all, in_any, in_map, in_permuted, map_in}
 use Rattle.reg_schema.specs.Rows.{by_column, number_columns}
 use Rattle.reg_schema.specs.Tests.{shows}
-use Rattle.reg_schema.proofs.Queries.{maps_twice}
-use Rattle.reg_statements.specs.Restricted.{restricted_row}
 use Rattle.reg_statements.specs.declared.pairs.Pair.{Pair}
 use Rattle.reg_stored.specs.Stands.{is_paired}
 use Rattle.reg_stored.specs.Stored.{Ids}
@@ -32,9 +30,7 @@ module _ (it : AllRows) (db : Trees) (ids : Ids) (s : Registry) (h : Standing it
       let stands = h.holds.stands.restricted in
       let show = shows (0 ∷ []) in
       let out = map number_columns it.restricted.items in
-      let kept = IsPermutation-map show (map restricted_row stands.marks) (db 17) stands.are in
-      let read = shown_permutes (by_column 0) (db 17) show out h.are.restricted in
-      subst (λ xs. IsPermutation xs out) (maps_twice restricted_row show stands.marks) (IsPermutation-trans (map show (map restricted_row stands.marks)) (map show (db 17)) out kept read)
+      IsPermutation-trans (map number_columns stands.marks) (map show (db 17)) out stands.are (shown_permutes (by_column 0) (db 17) show out h.are.restricted)
 
   restricted_there : (id : ℕ) → IsIn id it.restricted.items → has_crate it id ≡ true
   restricted_there id i =

@@ -2,9 +2,11 @@
 use Rattle.reg_schema.proofs.Queries.{maps_twice}
 use Rattle.sqlite.specs.Tree.{Trees}
 use Rattle.reg_model.specs.Sound.{Sound}
-use Rattle.reg_stored.specs.Stands.{StandCrates, StandsBy}
+use Rattle.reg_stored.specs.Stands.{Holds, StandCrates, StandsBy}
 use Rattle.reg_stored.specs.declared.all_rows.AllRows.{AllRows}
-use Rattle.reg_opening.specs.Opening.{PassingHolds}
+use Rattle.reg_stored.specs.WholeRows.{AreAllRows}
+use Rattle.reg_opening.specs.Rules.{KeepsRules}
+use Rattle.reg_opening.specs.Opening.{PassAll}
 use Rattle.reg_opening.specs.RegistryFrom.{ids_from, registry_from, version_from}
 use Rattle.reg_opening.proofs.Accounts.{accounts_sound, accounts_stand}
 use Rattle.reg_opening.proofs.Archives.{archive_rows}
@@ -64,7 +66,7 @@ module _ (it : AllRows) (db : Trees) (h : Passing it db) where
     readers = readers_sound it db h;
   }
 
-pub passing_holds : PassingHolds
+pub passing_holds : (it : AllRows) (db : Trees) → AreAllRows it db → KeepsRules db → PassAll it db → Holds (ids_from it db) (registry_from it db) db
 passing_holds it db are rules all =
     let h : Passing it db = record { are = are; rules = rules; all = all } in
     record { sound = sound it db h; stands = stands it db h }

@@ -9,7 +9,7 @@ use Rattle.reg_stored.specs.declared.all_rows.AllRows.{AllRows}
 use Rattle.reg_audit.specs.Checks.{IsFirst, Passes}
 use Rattle.reg_audit.specs.declared.check.Check.{Check}
 use Rattle.reg_opening.specs.RegistryFrom.{ids_from, registry_from}
-use Rattle.reg_opening.specs.Rules.{IsOfSchema, KeepsRules}
+use Rattle.reg_opening.specs.Rules.{KeepsRules}
 
 -- the rows pass each check
 abbrev pub PassAll : AllRows → Trees → Type 0
@@ -21,17 +21,17 @@ AreRegistry db = (ids : Ids) × (s : Registry) × Holds ids s db
 
 -- what is read as these records passes all checks exactly where it is a sound registry
 abbrev pub OpeningLaw : Type 0
-OpeningLaw = (it : AllRows) (db : Trees) → AreAllRows it db → IsOfSchema db
+OpeningLaw = (it : AllRows) (db : Trees) → AreAllRows it db
     → PassAll it db ↔ AreRegistry db
 
 -- so no check is found to fail exactly where there is one
 abbrev pub AuditLaw : Type 0
-AuditLaw = (it : AllRows) (db : Trees) → AreAllRows it db → IsOfSchema db
+AuditLaw = (it : AllRows) (db : Trees) → AreAllRows it db
     → (found : Option Check) → IsFirst it db found → (found ≡ None) ↔ AreRegistry db
 
--- what passes, and keeps the rules of its tables, is the registry that is built from the records
+-- what passes is the registry that is built from the records
 abbrev pub PassingHolds : Type 0
-PassingHolds = (it : AllRows) (db : Trees) → AreAllRows it db → KeepsRules db → PassAll it db
+PassingHolds = (it : AllRows) (db : Trees) → AreAllRows it db → PassAll it db
     → Holds (ids_from it db) (registry_from it db) db
 
 -- what is a sound registry passes
@@ -39,7 +39,7 @@ abbrev pub HoldingPasses : Type 0
 HoldingPasses = (it : AllRows) (db : Trees) → AreAllRows it db → (ids : Ids) (s : Registry)
     → Holds ids s db → PassAll it db
 
--- what is of our schema, and passes, keeps the rules of its tables
+-- what passes keeps the rules of its tables
 abbrev pub SchemaKeeps : Type 0
-SchemaKeeps = (it : AllRows) (db : Trees) → AreAllRows it db → IsOfSchema db → PassAll it db
+SchemaKeeps = (it : AllRows) (db : Trees) → AreAllRows it db → PassAll it db
     → KeepsRules db

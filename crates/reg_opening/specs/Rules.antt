@@ -1,4 +1,4 @@
--- What the definitions of the tables say of their rows: the premises of the law of opening.
+-- What the definitions of the tables say of their rows, as far as the law of opening needs it.
 use Rattle.std.specs.Prelude.{◌≡◌, ◌&&◌, ℕ, Bool, true, List, [], ◌∷◌}
 use Rattle.std.specs.List.{AllByRecursion, IsDistinct, list_any}
 use Rattle.std.specs.Ordering.{is_eq, on}
@@ -6,10 +6,8 @@ use Rattle.sqlite.specs.declared.types.Value.{Value}
 use Rattle.sqlite.specs.declared.types.Value.TheVariants.{Null}
 use Rattle.sqlite.specs.Order.{Row, column, value_cmp}
 use Rattle.sqlite.specs.Tree.{Trees}
-use Rattle.sqlite_schema.specs.Rules.{Obeys}
 use Rattle.sqlite_trees.specs.Tree.{rowid}
-use Rattle.reg_schema.specs.Places.{about_tree, accounts_tree, archives_tree, crate_canon_place, crates_tree, digest_place, login_place, owner_account_place, owner_crate_place, owners_tree, reader_account_place, reader_crate_place, readers_tree, release_place, reserved_tree, restricted_tree, scopes_tree, summaries_tree, token_account_place, tokens_tree, version_crate_place, versions_tree}
-use Rattle.reg_schema.specs.Schema.{ours}
+use Rattle.reg_schema.specs.Places.{about_tree, accounts_tree, archives_tree, crate_canon_place, crates_tree, digest_place, login_place, owner_account_place, owner_crate_place, owners_tree, reader_account_place, reader_crate_place, readers_tree, release_place, reserved_tree, scopes_tree, summaries_tree, token_account_place, tokens_tree, version_crate_place, versions_tree}
 use Rattle.reg_schema.specs.Tests.{shows}
 
 -- two values that SQL compares as equal
@@ -38,7 +36,7 @@ AreUniqueBy first second rows = IsDistinct (λ a b. same_at first a b && same_at
 abbrev pub RefersTo : List Row → ℕ → Row → Type 0
 RefersTo parents place r = list_any (λ p. same_value (rowid p) (column r place)) parents ≡ true
 
--- Each row has the columns of its table.
+-- Each row has the columns of its table; of restricted crates the key alone is read.
 pub record HaveColumns (db : Trees) : Type 0 where
   pub about : AllByRecursion (IsWhole (0 ∷ 1 ∷ 2 ∷ [])) (db about_tree)
   pub accounts : AllByRecursion (IsKeyed (0 ∷ 1 ∷ 2 ∷ 3 ∷ 4 ∷ [])) (db accounts_tree)
@@ -51,7 +49,6 @@ pub record HaveColumns (db : Trees) : Type 0 where
   pub archives : AllByRecursion (IsKeyed (0 ∷ 1 ∷ 2 ∷ [])) (db archives_tree)
   pub reserved : AllByRecursion (IsWhole (0 ∷ 1 ∷ [])) (db reserved_tree)
   pub summaries : AllByRecursion (IsKeyed (0 ∷ 1 ∷ 2 ∷ 3 ∷ [])) (db summaries_tree)
-  pub restricted : AllByRecursion (IsKeyed (0 ∷ 1 ∷ [])) (db restricted_tree)
   pub readers : AllByRecursion (IsWhole (0 ∷ 1 ∷ 2 ∷ [])) (db readers_tree)
 
 -- What UNIQUE and PRIMARY KEY ask, as far as no check asks it.
@@ -76,9 +73,3 @@ pub record KeepsRules (db : Trees) : Type 0 where
   pub columns : HaveColumns db
   pub uniques : HaveUniques db
   pub parents : HaveParents db
-
--- The rows are of our schema: they obey it as SQL's rules go, and each row of the one table that
--- has no column but its key has that column.
-pub record IsOfSchema (db : Trees) : Type 0 where
-  pub obeys : Obeys ours db
-  pub marks : AllByRecursion (IsWhole (0 ∷ 1 ∷ [])) (db restricted_tree)

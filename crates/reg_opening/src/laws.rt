@@ -2,15 +2,14 @@
 
 ghost use Rattle.reg_opening.specs.Opening.{AuditLaw, HoldingPasses, OpeningLaw, PassingHolds, SchemaKeeps};
 
-/// Rows of our schema pass all checks exactly where they are a sound registry, and so no check is
-/// found to fail exactly there.
+/// Rows pass all checks exactly where they are a sound registry, and so no check is found to fail
+/// exactly there.
 pub fn opening_law()
     ensures opening { OpeningLaw }
     ensures audit { AuditLaw }
 {}
 
-/// Rows that pass all checks, and keep the rules of their tables, are those of the sound registry
-/// that is built from them.
+/// Rows that pass all checks are those of the sound registry that is built from them.
 pub fn passing_law()
     ensures { PassingHolds }
 {}
@@ -20,7 +19,7 @@ pub fn standing_law()
     ensures { HoldingPasses }
 {}
 
-/// Rows of our schema that pass all checks keep the rules of their tables.
+/// Rows that pass all checks keep the rules of their tables.
 pub fn rules_law()
     ensures { SchemaKeeps }
 {}

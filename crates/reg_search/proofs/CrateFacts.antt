@@ -25,7 +25,8 @@ use Rattle.reg_model.proofs.Lists.{any_same, list_any_map}
 use Rattle.reg_model.proofs.Members.{IsIn, any_in, all_in, each_in, in_any, in_filter, one_passes}
 use Rattle.reg_schema.proofs.Permutes.{one_row}
 use Rattle.reg_schema.proofs.Queries.{equals_int, same_filter}
-use Rattle.reg_statements.specs.Restricted.{restricted_row}
+use Rattle.reg_schema.specs.Tests.{shows}
+use Rattle.reg_schema.specs.Rows.{number_columns}
 use Rattle.reg_stored.specs.Stands.{Holds, Ids, StandPairs, StoredCrate, StoredPair, StoredVersion, columns_of_stored, is_of, is_paired, row_of_version, spelling_at}
 use Rattle.reg_stored.specs.Summaries.{its_versions, marked_of, row_of_summary, top_among, top_of}
 use Rattle.reg_stored.proofs.CrateCounts.{crate_has}
@@ -96,8 +97,9 @@ module _ (ids : Ids) (s : Registry) (db : Trees) (h : Holds ids s db) (x : Store
   restricted_is =
       let stand = h.stands.restricted in
       let test = λ (r : Row). equal Binary (column r 0) (Int (pos x.0)) in
-      sym (list_any-IsPermutation test (map restricted_row stand.marks) (db 17) stand.are)
-      ∙ list_any_map test restricted_row stand.marks ∙ any_same (λ n. test (restricted_row n)) (λ n. n == x.0) (λ n. same_id n x.0) stand.marks
+      let key_of = shows (0 ∷ []) in
+      sym (list_any_map test key_of (db 17)) ∙ sym (list_any-IsPermutation test (map number_columns stand.marks) (map key_of (db 17)) stand.are)
+      ∙ list_any_map test number_columns stand.marks ∙ any_same (λ n. test (number_columns n)) (λ n. n == x.0) (λ n. same_id n x.0) stand.marks
       ∙ sym (each_in (λ c. finset.contains s.restricted (canon c.1) ≡ list_any (λ n. n == c.0) stand.marks) ids.crates x stand.same i)
 
   pub paired_is : (tree : ℕ) (held : finset.FinSet owner_cmp) → StandPairs ids.crates held (db tree) → (account : ℕ)

@@ -1,14 +1,14 @@
 //! A registry is made in an empty store, or opened.
 
-ghost use Rattle.std.specs.Prelude.{◌≡◌, ◌≢◌, ◌↔◌, false, true, IfErr, IfOk, IsTrue, Some};
+ghost use Rattle.std.specs.Prelude.{◌≡◌, ◌≢◌, ◌↔◌, false, true, IfErr, IfOk, IsTrue, None, Some};
 ghost use Rattle.sqlite.specs.Held.{state};
 ghost use Rattle.sqlite.specs.State.{HasCleanDisk, Survives};
 ghost use Rattle.reg_line.specs.Base.{is_base as is_base_text};
 ghost use Rattle.reg_schema.specs.Schema.{blank, old_schema, schema_of};
 ghost use Rattle.reg_schema.specs.States.{IsMade, IsUndone};
 ghost use Rattle.reg_statements.specs.Abouts.{LacksBase};
-ghost use Rattle.reg_service.specs.Answered.{Are, AreUpToDate, Shows};
-ghost use Rattle.reg_service.specs.Registries.{IsFirstFailing, IsNew, has_stopped, limits_of, tables_of};
+ghost use Rattle.reg_service.specs.Answered.{Are, AreOne, AreUpToDate, Shows};
+ghost use Rattle.reg_service.specs.Registries.{AreDamaged, IsFirstFailing, IsNew, has_stopped, limits_of, tables_of};
 ghost use Rattle.reg_tables.specs.Works.{AreOurs, edition_in, is_shut, shown};
 
 use crate::registry::Registry;
@@ -16,6 +16,8 @@ use reg_audit::{Check, audit};
 use reg_body::Limits;
 use reg_line::is_base;
 use reg_model::laws::soundness_law;
+use reg_opening::laws::opening_law;
+use reg_tables::laws::migrate_law;
 use reg_tables::{Edition, MakeFault, Tables};
 use sqlite::{Alter, Connection};
 use std::alloc::Global;
@@ -74,6 +76,11 @@ fn examined<S: Alter>(
     ensures left { edition_in tables ≡ Edition.Second → IfOk result (λ r.
         HasCleanDisk (shown S.Store (tables_of r)) → (db : _)
         → (shown S.Store (tables_of r)).may_leave db → (shown S.Store tables).may_leave db) }
+    ensures was_open { edition_in tables ≡ Edition.Second → IfOk result (λ r.
+        HasCleanDisk (shown S.Store (tables_of r)) → IsTrue (shown S.Store (tables_of r)).is_open
+        → IsTrue (shown S.Store tables).is_open) }
+    ensures passed { IfOk result (λ r. HasCleanDisk (shown S.Store (tables_of r))
+        → IsFirstFailing (edition_in tables) (shown S.Store tables).now None) }
     ensures known { IfErr result (λ e. e.0 ≢ OpenFault.UnknownSchema) }
     ensures found { IfErr result (λ e. HasCleanDisk (state S.Store e.1) → (check : _)
         → e.0 ≡ OpenFault.Damaged check
@@ -106,6 +113,10 @@ impl<S: Alter> Registry<S> {
         ensures same { IfOk result (λ r. (s : _) → HasCleanDisk (shown S.Store (tables_of r))
             → (state S.Store conn).now.schema ≢ old_schema → Are s (state S.Store conn).now.trees
             → Shows s (shown S.Store (tables_of r))) }
+        ensures sound { IfOk result (λ r. HasCleanDisk (shown S.Store (tables_of r))
+            → IsTrue (shown S.Store (tables_of r)).is_open
+            → (state S.Store conn).now.schema ≢ old_schema
+            → AreOne (state S.Store conn).now.trees (shown S.Store (tables_of r)).now.trees) }
         ensures left { IfOk result (λ r. HasCleanDisk (shown S.Store (tables_of r))
             → (state S.Store conn).now.schema ≢ old_schema → (db : _)
             → (shown S.Store (tables_of r)).may_leave db → (state S.Store conn).may_leave db) }
@@ -115,11 +126,12 @@ impl<S: Alter> Registry<S> {
             → LacksBase edition (state S.Store conn).now.trees) }
         ensures damaged { IfErr result (λ e. HasCleanDisk (state S.Store e.1) → (check : _)
             → e.0 ≡ OpenFault.Damaged check → IsTrue (state S.Store e.1).is_open
-            → (edition : Edition) × ((state S.Store conn).now.schema ≡ schema_of edition)
-            × IsFirstFailing edition (state S.Store conn).now (Some check)) }
+            → AreDamaged (state S.Store conn).now check) }
         ensures undone { IfErr result (λ e. HasCleanDisk (state S.Store e.1)
             → e.0 ≢ OpenFault.Storage → IsUndone (state S.Store conn) (state S.Store e.1)) }
     {
+        opening_law();
+        migrate_law();
         match Tables::adopt(alloc, conn) {
             Ok(tables) => examined(alloc, tables, limits),
             Err((MakeFault::UnknownSchema, conn)) => Err((OpenFault::UnknownSchema, conn)),

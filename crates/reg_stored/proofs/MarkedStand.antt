@@ -10,7 +10,7 @@ use Rattle.std.specs.Cmp.Lexicographic.{nat_list_cmp_total}
 use Rattle.std.specs.Cmp.{nat_eq_equiv}
 use Rattle.reg_stored.specs.Changes.{mark_in, told_of}
 use Rattle.reg_stored.proofs.Removed.{keeps_all}
-use Rattle.reg_schema.specs.Tests.{is_number}
+use Rattle.reg_schema.specs.Tests.{is_number, shows}
 use Rattle.std.proofs.lemmas.Map.Text.{is_eq-slice_cmp}
 use Rattle.reg_schema.specs.Changes.{is_at_one_of}
 use Rattle.reg_model.proofs.Keys.{insert_again, text_apart}
@@ -24,26 +24,41 @@ use Rattle.reg_model.proofs.Lists.{any_same, list_any_map, not_true, true_not_fa
 use Rattle.std.proofs.lemmas.Map.Views.{any-filter_same}
 use Rattle.std.proofs.lemmas.Bool.{and_from, eq-eqb, eqb-true}
 use Rattle.sqlite.specs.Tree.{Trees}
-use Rattle.sqlite.specs.Order.{Row}
+use Rattle.sqlite.specs.declared.types.Value.{Value}
+use Rattle.sqlite.specs.declared.types.Value.TheVariants.{Int}
+use Rattle.std.specs.Ordering.{is_eq}
+use Rattle.reg_schema.specs.Rows.{number_columns}
+use Rattle.sqlite.specs.Order.{Row, value_cmp}
 use Rattle.reg_model.specs.Registry.{Publication, Text, mark_cmp, text_cmp}
 use Rattle.sqlite_trees.proofs.ListLemmas.{IsPermutation-filter}
-use Rattle.std.proofs.lemmas.List.Sorted.{IsPermutation-cons, IsPermutation-sym, IsPermutation-trans, list_any-IsPermutation}
+use Rattle.std.proofs.lemmas.List.Sorted.{IsPermutation-cons, IsPermutation-map, IsPermutation-sym, IsPermutation-trans, list_any-IsPermutation}
 use Rattle.std.specs.List.Sorted.{IsPermutation}
-use Rattle.reg_model.proofs.Members.{IsIn, all_in, any_in, each_in, filtered_passes, in_all, in_any, in_filter, in_permuted, map_in, none_in}
+use Rattle.reg_model.proofs.Members.{IsIn, all_in, any_in, each_in, filtered_passes, in_all, in_any, in_filter, in_map, in_permuted, map_in, none_in}
 use Rattle.reg_stored.specs.Stands.{Ids, StandCrates, StandMarked, StoredCrate, spelling_at}
 use Rattle.std.specs.List.{AllByRecursion, list_any, filter}
 use Rattle.std.proofs.Common.{◌≡◌, ◌==◌, ℕ, pos, List, [], ◌∷◌, map, Bool, true, false, not, ◌&&◌, ◌||◌, Option, Some, None, refl, sym, ap, subst, ◌∙◌}
 use Rattle.std.specs.FinSet as finset
 
--- the row of a mark has its id alone
-row_has : (id i : ℕ) → is_number 0 id (restricted_row i) ≡ (i == id)
+-- a row is told by its key
+abbrev key_of : Row → Row
+key_of r = shows (0 ∷ []) r
+
+row_has : (id i : ℕ) → is_number 0 id (number_columns i) ≡ (i == id)
 row_has id i = same_number i id
+
+heads : {a b : Value} → ◌≡◌ {A = Row} (a ∷ []) (b ∷ []) → a ≡ b
+heads e = cc
+
+-- rows with these keys have one rowid exactly where these are one
+at_key : (r x : Row) (i j : ℕ) → Int (pos i) ≡ rowid r → Int (pos j) ≡ rowid x → has_rowid (id_in (rowid x)) r ≡ (i == j)
+at_key r x i j e f = (λ n. is_eq (value_cmp (sym e n) (Int (id_in (sym f n))))) ∙ same_number i j
 
 module _ (ids : Ids) (publications : List Publication) (yanked : finset.FinSet mark_cmp) (db : Trees) (stands : StandCrates ids publications yanked db) (marked : finset.FinSet text_cmp) (rows : List Row) (all : StandMarked ids.crates marked rows) (id : ℕ) where
   -- whether a row has the id, and whether it is among the marks
   pub any_row : list_any (is_number 0 id) rows ≡ list_any (λ i. i == id) all.marks
   any_row =
-      sym (list_any-IsPermutation (is_number 0 id) (map restricted_row all.marks) rows all.are) ∙ list_any_map (is_number 0 id) restricted_row all.marks ∙ any_same (λ i. is_number 0 id (restricted_row i)) (λ i. i == id) (row_has id) all.marks
+      sym (list_any_map (is_number 0 id) key_of rows) ∙ sym (list_any-IsPermutation (is_number 0 id) (map number_columns all.marks) (map key_of rows) all.are)
+      ∙ list_any_map (is_number 0 id) number_columns all.marks ∙ any_same (λ i. is_number 0 id (number_columns i)) (λ i. i == id) (row_has id) all.marks
 
   at_crate : (name : Text) → IsIn (id, name) ids.crates → finset.contains marked (canon name) ≡ list_any (λ i. i == id) all.marks
   at_crate name there = each_in (λ c. finset.contains marked (canon c.1) ≡ list_any (λ i. i == c.0) all.marks) ids.crates (id, name) all.same there
@@ -105,16 +120,18 @@ module _ (ids : Ids) (publications : List Publication) (yanked : finset.FinSet m
           let there = there_at ids id name at in
           record {
             marks = id ∷ all.marks;
-            are = IsPermutation-trans _ (restricted_row id ∷ rows) _ (IsPermutation-cons (restricted_row id) (map restricted_row all.marks) rows all.are) (put_permutes (restricted_row id) rows free);
+            are = IsPermutation-trans (map number_columns (id ∷ all.marks)) (map key_of (restricted_row id ∷ rows)) (map key_of (put_row (restricted_row id) rows))
+                (IsPermutation-cons (number_columns id) (map number_columns all.marks) (map key_of rows) all.are) (IsPermutation-map key_of (restricted_row id ∷ rows) (put_row (restricted_row id) rows) (put_permutes (restricted_row id) rows free));
             of_crates = and_from _ _ (in_any (λ c. c.0 == id) ids.crates (id, name) there (eq-eqb id id refl)) all.of_crates;
             same = more_marked name ids.crates (alike_at name there) all.same;
           }
 
-  kept_rows : IsPermutation (map restricted_row (filter (λ i. not (i == id)) all.marks)) (filter (λ r. not (is_number 0 id r)) rows)
+  kept_rows : IsPermutation (map number_columns (filter (λ i. not (i == id)) all.marks)) (map key_of (filter (λ r. not (is_number 0 id r)) rows))
   kept_rows =
       let test = λ (r : Row). not (is_number 0 id r) in
-      subst (λ (rs : List Row). IsPermutation rs (filter test rows)) (filter_map restricted_row test all.marks ∙ ap (map restricted_row) (same_filter (λ i. test (restricted_row i)) (λ i. not (i == id)) (λ i. ap not (row_has id i)) all.marks))
-      (IsPermutation-filter test (map restricted_row all.marks) rows all.are)
+      let marks = filter_map number_columns test all.marks ∙ ap (map number_columns) (same_filter (λ i. test (number_columns i)) (λ i. not (i == id)) (λ i. ap not (row_has id i)) all.marks) in
+      subst (IsPermutation (map number_columns (filter (λ i. not (i == id)) all.marks))) (filter_map key_of test rows)
+      (subst (λ (rs : List Row). IsPermutation rs (filter test (map key_of rows))) marks (IsPermutation-filter test (map number_columns all.marks) (map key_of rows) all.are))
 
   less : (name : Text) → IsIn (id, name) ids.crates → StandMarked ids.crates (finset.remove marked (canon name)) (filter (λ r. not (is_number 0 id r)) rows)
   less name there = record {
@@ -132,11 +149,14 @@ module _ (ids : Ids) (publications : List Publication) (yanked : finset.FinSet m
       split (Some name) at = less name (there_at ids id name at)
 
   -- what DELETE leaves: each row is found again by its key
-  is_row : (r : Row) → IsIn r rows → (i : ℕ) × (restricted_row i ≡ r)
-  is_row r k = let i = map_in restricted_row all.marks r (in_permuted rows (map restricted_row all.marks) r (IsPermutation-sym (map restricted_row all.marks) rows all.are) k) in (i.0, i.2)
+  is_row : (r : Row) → IsIn r rows → (i : ℕ) × (Int (pos i) ≡ rowid r)
+  is_row r k =
+      let there = in_permuted (map key_of rows) (map number_columns all.marks) (key_of r) (IsPermutation-sym (map number_columns all.marks) (map key_of rows) all.are) (in_map key_of rows r k) in
+      let i = map_in number_columns all.marks (key_of r) there in
+      (i.0, heads i.2)
 
-  at_key : (i j : ℕ) → has_rowid (id_in (rowid (restricted_row j))) (restricted_row i) ≡ (i == j)
-  at_key i j = same_number i j
+  its_test : (i : ℕ) (r : Row) → Int (pos i) ≡ rowid r → (i == id) ≡ is_number 0 id r
+  its_test i r e = sym (row_has id i) ∙ ap (λ v. is_eq (value_cmp v (Int (pos id)))) e
 
   told : (r : Row) → IsIn r rows → is_at_one_of (filter (is_number 0 id) rows) r ≡ is_number 0 id r
   told r k = split (is_number 0 id r) refl
@@ -144,14 +164,14 @@ module _ (ids : Ids) (publications : List Publication) (yanked : finset.FinSet m
       split : (b : Bool) → is_number 0 id r ≡ b → is_at_one_of (filter (is_number 0 id) rows) r ≡ b
       split true has =
           let i = is_row r k in
-          in_any (λ x. has_rowid (id_in (rowid x)) r) (filter (is_number 0 id) rows) r (kept (is_number 0 id) rows r k has) (subst (λ (x : Row). has_rowid (id_in (rowid x)) x ≡ true) i.1 (at_key i.0 i.0 ∙ eq-eqb i.0 i.0 refl))
+          in_any (λ x. has_rowid (id_in (rowid x)) r) (filter (is_number 0 id) rows) r (kept (is_number 0 id) rows r k has) (at_key r r i.0 i.0 i.1 i.1 ∙ eq-eqb i.0 i.0 refl)
       split false lacks =
           let i = is_row r k in
-          let other : (i.0 == id) ≡ false = sym (row_has id i.0) ∙ ap (is_number 0 id) i.1 ∙ lacks in
+          let other : (i.0 == id) ≡ false = its_test i.0 r i.1 ∙ lacks in
           none_in (λ x. has_rowid (id_in (rowid x)) r) (filter (is_number 0 id) rows) (λ x l.
           let j = is_row x (in_filter (is_number 0 id) rows x l) in
-          let mine : j.0 ≡ id = eqb-true j.0 id (sym (row_has id j.0) ∙ ap (is_number 0 id) j.1 ∙ filtered_passes (is_number 0 id) rows x l) in
-          (λ n. has_rowid (id_in (rowid (sym j.1 n))) (sym i.1 n)) ∙ at_key i.0 j.0 ∙ ap (λ n. i.0 == n) mine ∙ other)
+          let mine : j.0 ≡ id = eqb-true j.0 id (its_test j.0 x j.1 ∙ filtered_passes (is_number 0 id) rows x l) in
+          at_key r x i.0 j.0 i.1 j.1 ∙ ap (λ n. i.0 == n) mine ∙ other)
 
   pub left : (now : List Row) → now ≡ filter (λ row. not (is_at_one_of (filter (is_number 0 id) rows) row)) rows → StandMarked ids.crates (mark_in (spelling_at ids id) false marked) now
   left now is =

@@ -1,7 +1,9 @@
 -- The registry that the rows of the tables stand for.
 use Rattle.std.specs.Option.{option_map}
 use Rattle.reg_model.specs.Sound.{Sound}
-use Rattle.reg_schema.specs.Places.{restricted_tree, accounts_tree, tokens_tree, reserved_tree, summaries_tree, crates_tree, about_tree, scopes_tree, versions_tree, owners_tree, archives_tree, readers_tree}
+use Rattle.reg_schema.specs.Rows.{number_columns}
+use Rattle.reg_schema.specs.Tests.{shows}
+use Rattle.reg_schema.specs.Places.{restricted_crate_place, restricted_tree, accounts_tree, tokens_tree, reserved_tree, summaries_tree, crates_tree, about_tree, scopes_tree, versions_tree, owners_tree, archives_tree, readers_tree}
 use Rattle.std.proofs.Common.{Option, ◌+◌}
 use Rattle.reg_statements.specs.Pairs.{pair_columns}
 use Rattle.std.specs.Prelude.{◌≡◌, ℕ, pos, filter, ◌&&◌, ◌==◌, Bool, true, List, [], ◌∷◌, map, drop, IsPermutation, max}
@@ -29,7 +31,6 @@ use Rattle.reg_statements.specs.Crates.{crate_row}
 use Rattle.reg_statements.specs.Versions.{version_row}
 use Rattle.reg_statements.specs.Archives.{archive_row}
 use Rattle.reg_statements.specs.Reserved.{reserved_columns}
-use Rattle.reg_statements.specs.Restricted.{restricted_row}
 
 -- accounts and tokens, each behind its id
 abbrev pub row_of_account : ℕ × Account → Row
@@ -125,11 +126,13 @@ pub record StandPairs (crates : List StoredCrate) (held : finset.FinSet owner_cm
   pub same : AllByRecursion (λ c. (account : ℕ) → finset.contains held (canon c.1, account)
       ≡ is_paired pairs c.0 account) crates
 
--- The crates that are marked in a table of their ids.
+-- The crates that are marked in a table of their ids. A row is told by its key: there is no other
+-- column.
 pub record StandMarked (crates : List StoredCrate) (marked : finset.FinSet text_cmp)
     (rows : List Row) : Type 0 where
   pub marks : List ℕ
-  pub are : IsPermutation (map restricted_row marks) rows
+  pub are : IsPermutation (map number_columns marks)
+      (map (shows (restricted_crate_place ∷ [])) rows)
   pub of_crates : list_all (λ i. list_any (λ c. c.0 == i) crates) marks ≡ true
   pub same : AllByRecursion (λ c. finset.contains marked (canon c.1)
       ≡ list_any (λ i. i == c.0) marks) crates

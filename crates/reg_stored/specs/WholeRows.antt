@@ -1,7 +1,9 @@
 -- All rows of the tables, read as records.
 use Rattle.std.specs.Prelude.{Some, string_bytes}
 use Rattle.sqlite.specs.Tree.{Trees}
+use Rattle.sqlite_schema.specs.Rules.{Obeys}
 use Rattle.reg_schema.specs.Places.{crates_tree, owners_tree, readers_tree, reserved_tree, versions_tree}
+use Rattle.reg_schema.specs.Schema.{ours}
 use Rattle.reg_statements.specs.Abouts.{IsBaseOf}
 use Rattle.reg_statements.specs.Accounts.{AreAccounts}
 use Rattle.reg_statements.specs.Archives.{AreArchiveIds}
@@ -25,8 +27,8 @@ pub record AreApart (db : Trees) : Type 0 where
   pub readers : HaveOwnRowids (db readers_tree)
   pub reserved : HaveOwnRowids (db reserved_tree)
 
--- there is this base; the records are the rows of their tables, in the order of their keys; and
--- rows have rowids of their own
+-- there is this base; the records are the rows of their tables, in the order of their keys; rows
+-- have rowids of their own; and they keep the rules of our schema
 pub record AreAllRows (it : AllRows) (db : Trees) : Type 0 where
   pub base : IsBaseOf db (Some (string_bytes it.base))
   pub accounts : AreAccounts db it.accounts.items
@@ -41,3 +43,4 @@ pub record AreAllRows (it : AllRows) (db : Trees) : Type 0 where
   pub restricted : AreRestricted db it.restricted.items
   pub readers : ArePairs readers_tree db it.readers.items
   pub apart : AreApart db
+  pub obeys : Obeys ours db

@@ -2,7 +2,9 @@
 
 ghost use Rattle.std.specs.Prelude.{Some, string_bytes};
 ghost use Rattle.sqlite.specs.Held.{state};
+ghost use Rattle.sqlite_schema.specs.Rules.{Obeys};
 ghost use Rattle.reg_schema.specs.Places.{readers_tree};
+ghost use Rattle.reg_schema.specs.Schema.{ours};
 ghost use Rattle.reg_schema.specs.States.{IsReady};
 ghost use Rattle.reg_schema.specs.Statements.{rows_in};
 ghost use Rattle.reg_schema.specs.Steps.{Done, KeepsAll, Told};
@@ -106,6 +108,16 @@ fn token_tables<S: Alter>(alloc: Global, conn: &mut Connection<S>) -> Result<Tok
     })
 }
 
+// Rows that a connection shows keep the rules of its schema.
+fn see_rules<S: Alter>(conn: &mut Connection<S>) -> Result<(), Error>
+    requires { IsReady (state S.Store conn.old) }
+    ensures obeys { Done S.Store conn.new result (Obeys ours (rows_in S.Store conn.old)) }
+    ensures same { KeepsAll S.Store conn.old conn.new result }
+{
+    let _schema = conn.schema();
+    Ok(())
+}
+
 // That rows have rowids of their own is seen before any is read.
 fn crate_tables<S: Alter>(alloc: Global, conn: &mut Connection<S>) -> Result<CrateTables, Error>
     requires { IsReady (state S.Store conn.old) }
@@ -116,8 +128,10 @@ fn crate_tables<S: Alter>(alloc: Global, conn: &mut Connection<S>) -> Result<Cra
     ensures versions { Told S.Store conn.new result
         (λ it. AreVersions (rows_in S.Store conn.old) it.versions.items) }
     ensures apart { Done S.Store conn.new result (AreApart (rows_in S.Store conn.old)) }
+    ensures obeys { Done S.Store conn.new result (Obeys ours (rows_in S.Store conn.old)) }
     ensures same { KeepsAll S.Store conn.old conn.new result }
 {
+    see_rules(conn)?;
     check_rowids(alloc, conn)?;
     let crates = crates::all_by_id(alloc, conn)?;
     let owners = owners::all(alloc, conn)?;

@@ -1,5 +1,5 @@
 -- Tables that were just made stand for a registry with nothing in it.
-use Rattle.std.proofs.Common.{◌≡◌, List, [], map, refl, sym, ap, subst}
+use Rattle.std.proofs.Common.{◌≡◌, List, [], ◌∷◌, map, refl, sym, ap, subst}
 use Rattle.std.specs.Prelude.{drop}
 use Rattle.std.specs.FinSet as finset
 use Rattle.std.specs.List.{IsDistinct}
@@ -11,6 +11,7 @@ use Rattle.sqlite.specs.State.{State}
 use Rattle.sqlite.specs.Tree.{Trees}
 use Rattle.reg_model.specs.Registry.{Text, text_cmp, empty_at}
 use Rattle.reg_schema.specs.States.{IsAtRest, IsMade}
+use Rattle.reg_schema.specs.Tests.{shows}
 use Rattle.reg_stored.specs.Stands.{HaveOwnRowids, StandCrates, Stands, StandMarked, StandPairs}
 
 pub none_are : (rows : List Row) → rows ≡ [] → IsPermutation [] rows
@@ -49,7 +50,7 @@ no_pairs rows none = record {
 }
 
 no_marks : (rows : List Row) → rows ≡ [] → StandMarked [] finset.empty rows
-no_marks rows none = record { marks = []; are = none_are rows none; of_crates = refl; same = tt }
+no_marks rows none = record { marks = []; are = none_are (map (shows (0 ∷ [])) rows) (ap (map (shows (0 ∷ []))) none); of_crates = refl; same = tt }
 
 stands_empty : (base : Text) (db : Database) → IsMade base db → Stands (empty_at base) db.trees
 stands_empty base db made =

@@ -8,9 +8,10 @@ use Rattle.sqlite.specs.Order.{Row}
 use Rattle.reg_model.specs.Registry.{Registry, owner_cmp, text_cmp}
 use Rattle.reg_tables.specs.Upgrades.{IsUpgrade}
 use Rattle.std.specs.List.{IsDistinct}
+use Rattle.reg_schema.specs.Tests.{shows}
 use Rattle.reg_stored.specs.Stands.{Ids, StandMarked, StandPairs, StandsBy, StandsOld, StoredCrate}
 use Rattle.sqlite.specs.Effect.{Database}
-use Rattle.std.proofs.Common.{◌≡◌, ℕ, List, [], false, refl, sym, subst}
+use Rattle.std.proofs.Common.{◌≡◌, ℕ, List, [], ◌∷◌, map, false, refl, sym, ap, subst}
 use Rattle.std.specs.FinSet as finset
 
 no_pairs : (crates : List StoredCrate) (held : finset.FinSet owner_cmp) (rows : List Row) → held ≡ finset.empty → rows ≡ [] → StandPairs crates held rows
@@ -27,7 +28,7 @@ no_pairs crates held rows none empty = record {
 no_marks : (crates : List StoredCrate) (marked : finset.FinSet text_cmp) (rows : List Row) → marked ≡ finset.empty → rows ≡ [] → StandMarked crates marked rows
 no_marks crates marked rows none empty = record {
   marks = [];
-  are = none_are rows empty;
+  are = none_are (map (shows (0 ∷ [])) rows) (ap (map (shows (0 ∷ []))) empty);
   of_crates = refl;
   same = in_each (λ c. finset.contains marked (canon c.1) ≡ false) crates (λ c i. subst (λ h. finset.contains h (canon c.1) ≡ false) (sym none) (finset.contains-empty text_cmp (canon c.1)));
 }

@@ -64,7 +64,7 @@ module _ (e : Edition) (old new : State) (early : HasCleanDisk new → HasCleanD
   kept_back h clean up = let k = h clean in ap (λ (d : Database). d.schema) (k.committed up) ∙ (at (early clean) (k.was_open up)).committed_is
 
 pub upgraded : (e : Edition) (old mid new : State) → e ≡ First → BeginsSecond e old mid → Shows mid new mid.now mid.now false → IsUpgraded old new
-upgraded First old mid new is h s = (subst (IsUpgrade old.now) (sym s.now_is) h.made, s.committed_is ∙ sym s.now_is)
+upgraded First old mid new is h s = record { was_open = h.shows.was_open; made = subst (IsUpgrade old.now) (sym s.now_is) h.made; settled = s.committed_is ∙ sym s.now_is }
 upgraded Second old mid new is h s = absurd cc
 
 pub commit_undone : (e : Edition) (old mid new : State) → BeginsSecond e old mid → IsUndone mid new → IsUndone old new

@@ -1,5 +1,5 @@
 -- Tables of schema 1 made tables of schema 2.
-use Rattle.std.specs.Prelude.{◌≡◌, ◌≢◌, ℕ, List, [], ◌∷◌, true, drop, map}
+use Rattle.std.specs.Prelude.{◌≡◌, ◌≢◌, ℕ, IsTrue, List, [], ◌∷◌, true, drop, map}
 use Rattle.std.specs.List.{AllByRecursion}
 use Rattle.sqlite.specs.Effect.{Database}
 use Rattle.sqlite.specs.State.{State, Shows}
@@ -32,9 +32,11 @@ abbrev pub BeginsSecond : Edition → State → State → Type 0
 BeginsSecond First old new = Upgrades old new
 BeginsSecond Second old new = Shows old new old.now old.committed true
 
--- the upgrade is committed
-abbrev pub IsUpgraded : State → State → Type 0
-IsUpgraded old new = IsUpgrade old.now new.now × (new.committed ≡ new.now)
+-- the upgrade of a connection that was open is committed
+pub record IsUpgraded (old new : State) : Type 0 where
+  pub was_open : IsTrue old.is_open
+  pub made : IsUpgrade old.now new.now
+  pub settled : new.committed ≡ new.now
 
 -- these are the rows of the tables upgraded
 abbrev pub AreUpgraded : Database → Trees → Type 0

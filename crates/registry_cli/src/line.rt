@@ -14,16 +14,9 @@ use reg_body::{Counted, Limits, split};
 use reg_line::{digest_of, line};
 use reg_manifest::{Manifest, ManifestFault, read_manifest};
 use reg_names::{LONGEST_PATH, index_path};
+use reg_pipe::Exit;
 use std::alloc::Global;
 use std::io::{Read, Write};
-
-/// How a run ended: its status, and the line for standard error, empty for none.
-#[derive(Clone, Copy, Debug, PartialEq, Eq)]
-pub struct Exit {
-    /// 0 done, 1 refused, 2 bad words, 3 a fault of storage, memory or a stream.
-    pub status: u8,
-    pub words: &'static str,
-}
 
 /// The index path and the line of a version that is not yanked, each ended by a line feed.
 fn lines(alloc: Global, manifest: &Manifest, archive: &[u8]) -> Result<Vec<u8>, LineFault>

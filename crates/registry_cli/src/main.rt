@@ -1,6 +1,10 @@
 //! The registry's command line.
 //!
 //! ```
+//! registry_cli init --base http://127.0.0.1:8080 --db registry.db
+//! registry_cli user-add ada --db registry.db
+//! registry_cli token-add ada --endpoints publish-new --db registry.db
+//! registry_cli serve --port 8080 --connections 1000 --db registry.db
 //! registry_cli line < publish-body                // prints the index path and the index line
 //! registry_cli --help
 //! ```
@@ -9,14 +13,20 @@
 //! memory failed.
 #![tactic(auto)]
 
+mod administering;
 mod ends;
+mod exporting;
 mod fault;
 mod line;
+mod printing;
+mod serving;
+mod store;
 #[cfg(test)]
 mod tests;
+mod tokens;
 mod words;
 
-use line::Exit;
+use reg_pipe::Exit;
 use std::alloc::Global;
 use std::io::ErrorKind;
 use std::process::ExitCode;
@@ -30,14 +40,8 @@ fn command_line(rt: &HostRuntime, alloc: Global) -> io::Result<Vec<String>> {
 fn run(rt: &HostRuntime) -> Exit {
     match command_line(rt, rt.alloc()) {
         Ok(given) => words::run_words(rt, given.as_slice()),
-        Err(error) if error.kind() == ErrorKind::OutOfMemory => Exit {
-            status: 3,
-            words: "memory",
-        },
-        Err(_) => Exit {
-            status: 2,
-            words: "bad words",
-        },
+        Err(error) if error.kind() == ErrorKind::OutOfMemory => Exit::MEMORY,
+        Err(_) => Exit::BAD_WORDS,
     }
 }
 

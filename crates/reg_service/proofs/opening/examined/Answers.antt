@@ -1,6 +1,7 @@
 use Rattle.std.proofs.Common.{Some, subst}
 use Rattle.sqlite.specs.Held.{state}
 use Rattle.sqlite.specs.State.{HasCleanDisk}
+use Rattle.reg_stored.proofs.Results.{if_ok}
 use Rattle.reg_tables.specs.Works.{edition_in, shown}
 use Rattle.reg_service.specs.Registries.{IsFirstFailing}
 use Rattle.reg_service.proofs.opening.examined.Goals as goal
@@ -9,3 +10,7 @@ pub returns-in-Ok-Some-clause-found : goal.returns-in-Ok-Some-clause-found
 returns-in-Ok-Some-clause-found g c clean check is =
     let still = subst (λ it. HasCleanDisk (state g.S.Store it)) c.into_connection-in-Ok-Some.ensures clean in
     subst (λ it. IsFirstFailing (edition_in c.args.tables) (shown g.S.Store c.args.tables).now (Some it)) (cc is) (rw c.in-Ok-Some.field-0-is at c.in-Ok-Some.ensures.found still)
+
+pub returns-in-Ok-None-clause-passed : goal.returns-in-Ok-None-clause-passed
+returns-in-Ok-None-clause-passed g c =
+    if_ok c.brought_up.result (λ r early clean. subst (λ it. IsFirstFailing (edition_in c.args.tables) (shown g.S.Store c.args.tables).now it) c.in-Ok-None.field-0-is (c.in-Ok-None.ensures.found (early clean))) c.brought_up.ensures.clean

@@ -1,0 +1,82 @@
+//! Requests after which the connection closes.
+
+use crate::script::play;
+
+#[test]
+fn closing(rt: HostRuntime) {
+    let script = r#"given two-accounts
+stream
+> GET /index/config.json HTTP/1.1
+> host: r
+> authorization: abc
+> connection: keep-alive, Close
+>
+> GET / HTTP/1.1
+> host: r
+>
+< HTTP/1.1 200 OK
+< content-type: application/json
+< content-length: 95
+< connection: close
+<
+<: {"api":"http://127.0.0.1:8080","auth-required":true,"dl":"http://127.0.0.1:8080/api/v1/crates"}
+= 1
+stream
+> GET /index/config.json HTTP/1.0
+> host: r
+> authorization: abc
+>
+> GET / HTTP/1.1
+> host: r
+>
+< HTTP/1.1 200 OK
+< content-type: application/json
+< content-length: 95
+< connection: close
+<
+<: {"api":"http://127.0.0.1:8080","auth-required":true,"dl":"http://127.0.0.1:8080/api/v1/crates"}
+= 1
+stream
+> GET /index/config.json HTTP/1.1
+> host: r
+> authorization: abc
+> connection: closed
+>
+< HTTP/1.1 200 OK
+< content-type: application/json
+< content-length: 95
+<
+<: {"api":"http://127.0.0.1:8080","auth-required":true,"dl":"http://127.0.0.1:8080/api/v1/crates"}
+= 1"#;
+    play(&rt, script);
+}
+
+#[test]
+fn last_reply(rt: HostRuntime) {
+    let script = r#"given two-accounts replies=2
+stream
+> GET /index/config.json HTTP/1.1
+> host: r
+> authorization: abc
+>
+< HTTP/1.1 200 OK
+< content-type: application/json
+< content-length: 95
+<
+<: {"api":"http://127.0.0.1:8080","auth-required":true,"dl":"http://127.0.0.1:8080/api/v1/crates"}
+> GET /index/config.json HTTP/1.1
+> host: r
+> authorization: abc
+>
+< HTTP/1.1 200 OK
+< content-type: application/json
+< content-length: 95
+< connection: close
+<
+<: {"api":"http://127.0.0.1:8080","auth-required":true,"dl":"http://127.0.0.1:8080/api/v1/crates"}
+> GET / HTTP/1.1
+> host: r
+>
+= 2"#;
+    play(&rt, script);
+}

@@ -1,0 +1,15 @@
+//! A registry that is set up by a list of commands, and then serves one stream.
+//!
+//! ```
+//! let exit = run_pipe(alloc, &mut registry, "user-add ada\n", &mut reader, &mut writer);
+//! // exit.status is 0 where the stream ended well
+//! ```
+#![tactic(auto)]
+
+mod exit;
+mod pipe;
+mod setup;
+
+pub use exit::Exit;
+pub use pipe::run_pipe;
+pub use setup::{SetupFault, run_setup};

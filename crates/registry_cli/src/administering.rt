@@ -1,0 +1,122 @@
+//! The administrator's commands on a file.
+
+use crate::exporting::export_to;
+use crate::printing::print;
+use crate::store::{FileRegistry, close, open, refused};
+use crate::tokens::{TokenText, make_token};
+use clap::ArgMatches;
+use reg_body::Limits;
+use reg_pipe::Exit;
+use reg_policy::{AdminCommand, AdminReply};
+use reg_service::OpenFault;
+use reg_words::{NewToken, Order, read_order, read_report};
+use std::alloc::AllocError;
+
+/// Does a command, and prints what it is answered.
+fn obey(rt: &HostRuntime, registry: &mut FileRegistry, command: &AdminCommand<'_>) -> Exit {
+    match registry.command(rt.alloc(), command) {
+        Ok(AdminReply::Done) => Exit::DONE,
+        Ok(AdminReply::Id(id)) => print_token(rt, id, None),
+        Ok(AdminReply::Text(text)) => print(rt, &text),
+        Err(refusal) => Exit::of_refusal(refusal),
+    }
+}
+
+/// The number of a token, and its text where it was made here.
+fn token_line(
+    rt: &HostRuntime,
+    id: u32,
+    text: Option<&TokenText>,
+) -> Result<String, AllocError> {
+    match text.and_then(|text| std::str::from_utf8(text.as_slice()).ok()) {
+        Some(text) => format!(in rt.alloc(); "{id} {text}\n"),
+        None => format!(in rt.alloc(); "{id}\n"),
+    }
+}
+
+fn print_token(rt: &HostRuntime, id: u32, text: Option<&TokenText>) -> Exit {
+    match token_line(rt, id, text) {
+        Ok(line) => print(rt, &line),
+        Err(_) => Exit::MEMORY,
+    }
+}
+
+/// Adds a token. Its text is made once the store is open, and printed once it is kept.
+fn add_token(rt: &HostRuntime, registry: &mut FileRegistry, token: &NewToken<'_>) -> Exit {
+    let made = match make_token(rt, &token.source) {
+        Ok(made) => made,
+        Err(exit) => return exit,
+    };
+    match registry.command(rt.alloc(), &token.command(&made.digest)) {
+        Ok(AdminReply::Id(id)) => print_token(rt, id, made.text.as_ref()),
+        Ok(_) => Exit::DONE,
+        Err(refusal) => Exit::of_refusal(refusal),
+    }
+}
+
+/// Tells the first check that fails, or that none does.
+fn audit(rt: &HostRuntime, registry: &mut FileRegistry) -> Exit {
+    match registry.audit(rt.alloc()) {
+        Ok(None) => print(rt, "ok\n"),
+        Ok(Some(check)) => refused(OpenFault::Damaged(check)),
+        Err(_) => Exit::STORAGE,
+    }
+}
+
+/// What is to be done with an open registry.
+#[derive(Drop)]
+enum Task<'a> {
+    Audit,
+    Export(&'a str),
+    Command(AdminCommand<'a>),
+    AddToken(NewToken<'a>),
+}
+
+/// The task that the words ask for.
+fn read_task<'a>(
+    rt: &HostRuntime,
+    name: &str,
+    words: &ArgMatches<'a>,
+) -> Result<Option<Task<'a>>, AllocError> {
+    match name {
+        "audit" => return Ok(Some(Task::Audit)),
+        "export" => return Ok(words.get_str("DIR").map(Task::Export)),
+        _ => {}
+    }
+    if let Some(report) = read_report(name, words) {
+        return Ok(Some(Task::Command(report)));
+    }
+    Ok(match read_order(rt.alloc(), name, words)? {
+        Some(Order::AddToken(token)) => Some(Task::AddToken(token)),
+        Some(Order::Other(command)) => Some(Task::Command(command)),
+        None => None,
+    })
+}
+
+fn do_task(rt: &HostRuntime, registry: &mut FileRegistry, task: &Task<'_>) -> Exit {
+    match task {
+        Task::Audit => audit(rt, registry),
+        Task::Export(folder) => export_to(rt, registry, folder),
+        Task::Command(command) => obey(rt, registry, command),
+        Task::AddToken(token) => add_token(rt, registry, token),
+    }
+}
+
+/// Does what the words of a subcommand ask for, on the file that they name.
+pub(crate) fn administer(rt: &HostRuntime, name: &str, words: &ArgMatches<'_>) -> Exit {
+    let task = match read_task(rt, name, words) {
+        Ok(Some(task)) => task,
+        Ok(None) => return Exit::BAD_WORDS,
+        Err(_) => return Exit::MEMORY,
+    };
+    let Some(file) = words.get_str("db") else {
+        return Exit::BAD_WORDS;
+    };
+    let mut registry = match open(rt, file, Limits::STANDARD) {
+        Ok(registry) => registry,
+        Err(exit) => return exit,
+    };
+    let exit = do_task(rt, &mut registry, &task);
+    close(registry);
+    exit
+}

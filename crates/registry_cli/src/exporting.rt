@@ -1,0 +1,39 @@
+//! The index as files of a folder.
+
+use crate::store::FileRegistry;
+use reg_pipe::Exit;
+use std::alloc::AllocError;
+use std::{fs, io};
+
+/// The folder of a file's path; empty where it has none.
+fn folder_of(path: &str) -> &str {
+    match path.rfind('/') {
+        Some(at) => path.get(..at).unwrap_or(""),
+        None => "",
+    }
+}
+
+fn joined(rt: &HostRuntime, folder: &str, path: &str) -> Result<String, AllocError> {
+    format!(in rt.alloc(); "{folder}/{path}")
+}
+
+/// Writes a file below the folder, and makes the folders that are missing.
+fn write_file(rt: &HostRuntime, folder: &str, path: &str, bytes: &[u8]) -> io::Result<()> {
+    let parent = joined(rt, folder, folder_of(path))?;
+    fs::create_dir_all(rt, parent.as_str())?;
+    let whole = joined(rt, folder, path)?;
+    fs::write(rt, whole.as_str(), bytes)
+}
+
+/// Writes the config and the index files below the folder. Files that stand there are overwritten.
+pub(crate) fn export_to(rt: &HostRuntime, registry: &mut FileRegistry, folder: &str) -> Exit {
+    let Ok(files) = registry.export(rt.alloc()) else {
+        return Exit::STORAGE;
+    };
+    for (path, bytes) in &files {
+        if write_file(rt, folder, path, bytes).is_err() {
+            return Exit::STORAGE;
+        }
+    }
+    Exit::DONE
+}

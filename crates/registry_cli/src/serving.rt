@@ -1,0 +1,171 @@
+//! Streams: one on standard input and output, or connections one after another.
+
+use crate::printing::print;
+use crate::store::{FileRegistry, close, create, open, refused};
+use clap::ArgMatches;
+use reg_body::{Counted, Limits};
+use reg_http::serve_stream;
+use reg_pipe::{Exit, run_pipe};
+use reg_service::Registry;
+use reg_words::{decimal, is_port};
+use sqlite::{Alter, Connection};
+use std::fs;
+use std::net::TcpListener;
+
+/// The base where none is told.
+const BASE: &str = "http://127.0.0.1:8080";
+
+/// The text of the setup file; empty where there is none.
+fn setup_text(rt: &HostRuntime, words: &ArgMatches<'_>) -> Result<String, Exit> {
+    let Some(file) = words.get_str("setup") else {
+        return Ok(String::new(rt.alloc()));
+    };
+    let Ok(bytes) = fs::read(rt, file) else {
+        return Err(Exit::STORAGE);
+    };
+    match String::from_utf8(bytes) {
+        Ok(text) => Ok(text),
+        Err(_) => Err(Exit {
+            status: 2,
+            words: "bad setup line",
+        }),
+    }
+}
+
+/// Does the setup and serves standard input and output.
+fn pipe_on<S: Alter>(
+    rt: &HostRuntime,
+    words: &ArgMatches<'_>,
+    registry: &mut Registry<S>,
+) -> Exit {
+    let setup = match setup_text(rt, words) {
+        Ok(setup) => setup,
+        Err(exit) => return exit,
+    };
+    let mut reader = Counted::new(rt.stdin());
+    let mut writer = Counted::new(rt.stdout());
+    run_pipe(rt.alloc(), registry, &setup, &mut reader, &mut writer)
+}
+
+/// `pipe` over a file.
+fn pipe_file(rt: &HostRuntime, words: &ArgMatches<'_>, file: &str) -> Exit {
+    match open(rt, file, Limits::STANDARD) {
+        Ok(mut registry) => {
+            let exit = pipe_on(rt, words, &mut registry);
+            close(registry);
+            exit
+        }
+        Err(exit) => exit,
+    }
+}
+
+/// `pipe` over a registry in memory, with nothing in it.
+fn pipe_memory(rt: &HostRuntime, words: &ArgMatches<'_>) -> Exit {
+    let Ok(conn) = Connection::open_in_memory(rt.alloc()) else {
+        return Exit::MEMORY;
+    };
+    let base = words.get_str("base").unwrap_or(BASE);
+    match Registry::create(conn, base, Limits::STANDARD) {
+        Ok(mut registry) => pipe_on(rt, words, &mut registry),
+        Err((fault, _)) => refused(fault),
+    }
+}
+
+/// `pipe`.
+pub(crate) fn pipe(rt: &HostRuntime, words: &ArgMatches<'_>) -> Exit {
+    match words.get_str("db") {
+        Some(file) => pipe_file(rt, words, file),
+        None => pipe_memory(rt, words),
+    }
+}
+
+/// `init`.
+pub(crate) fn init(rt: &HostRuntime, words: &ArgMatches<'_>) -> Exit {
+    let (Some(file), Some(base)) = (words.get_str("db"), words.get_str("base")) else {
+        return Exit::BAD_WORDS;
+    };
+    match create(rt, file, base) {
+        Ok(registry) => {
+            close(registry);
+            Exit::DONE
+        }
+        Err(exit) => exit,
+    }
+}
+
+/// What `serve` is told.
+#[derive(Drop)]
+struct Service {
+    port: u16,
+    connections: u64,
+    replies: u64,
+}
+
+/// The numbers among the words of `serve`.
+fn read_service(words: &ArgMatches<'_>) -> Option<Service> {
+    let replies = decimal(words.get_str("replies").unwrap_or("1"))?;
+    if replies == 0 {
+        return None;
+    }
+    Some(Service {
+        port: is_port(decimal(words.get_str("port")?)?)?,
+        connections: decimal(words.get_str("connections")?)?,
+        replies,
+    })
+}
+
+const NO_LISTENING: Exit = Exit {
+    status: 3,
+    words: "listen fault",
+};
+
+/// Serves connections, one after another. A stream that fails ends its connection alone.
+fn serve_all(
+    rt: &HostRuntime,
+    registry: &mut FileRegistry,
+    listener: &TcpListener,
+    connections: u64,
+) -> Exit {
+    for _ in 0..connections {
+        let Ok((stream, _)) = listener.accept() else {
+            return NO_LISTENING;
+        };
+        let mut reader = Counted::new(&stream);
+        let mut writer = Counted::new(&stream);
+        let _ = serve_stream(rt.alloc(), registry, &mut reader, &mut writer);
+    }
+    Exit::DONE
+}
+
+/// Listens on the loopback address, and says so.
+fn listen(rt: &HostRuntime, port: u16) -> Result<TcpListener, Exit> {
+    let Ok(listener) = TcpListener::bind(rt, ("127.0.0.1", port)) else {
+        return Err(NO_LISTENING);
+    };
+    let Ok(line) = format!(in rt.alloc(); "listening 127.0.0.1:{port}\n") else {
+        return Err(Exit::MEMORY);
+    };
+    let exit = print(rt, &line);
+    if exit == Exit::DONE { Ok(listener) } else { Err(exit) }
+}
+
+/// `serve`.
+pub(crate) fn serve(rt: &HostRuntime, words: &ArgMatches<'_>) -> Exit {
+    let (Some(service), Some(file)) = (read_service(words), words.get_str("db")) else {
+        return Exit::BAD_WORDS;
+    };
+    let limits = Limits {
+        replies: service.replies,
+        ..Limits::STANDARD
+    };
+    let mut registry = match open(rt, file, limits) {
+        Ok(registry) => registry,
+        Err(exit) => return exit,
+    };
+    let exit = match listen(rt, service.port) {
+        Ok(listener) => serve_all(rt, &mut registry, &listener, service.connections),
+        Err(exit) => exit,
+    };
+    close(registry);
+    exit
+}

@@ -1,0 +1,65 @@
+//! The texts of new tokens.
+
+use hex::encode_to_slice;
+use reg_line::{Digest, digest_of};
+use reg_pipe::Exit;
+use reg_words::TokenSource;
+use std::fs;
+use std::io::Read;
+
+/// How many random bytes make a token's text.
+const RANDOM: usize = 32;
+
+/// The text of a token: 64 lower-case hex digits.
+pub(crate) type TokenText = [u8; 64];
+
+/// The digest of a token, and its text where it is known here.
+#[derive(Drop)]
+pub(crate) struct TokenMade {
+    pub(crate) digest: Digest,
+    pub(crate) text: Option<TokenText>,
+}
+
+/// Fills the buffer from a reader; none where it has too few bytes.
+fn fill<R: Read>(reader: &mut R, bytes: &mut [u8; RANDOM]) -> Option<()> {
+    let mut filled = 0;
+    for _ in 0..RANDOM {
+        if filled == RANDOM {
+            break;
+        }
+        match reader.read(&mut bytes[filled..]) {
+            Ok(0) => return None,
+            Ok(n) => filled += n,
+            Err(_) => return None,
+        }
+    }
+    if filled == RANDOM { Some(()) } else { None }
+}
+
+/// The text that the first bytes of a file make.
+fn random_text(rt: &HostRuntime, file: &str) -> Option<TokenText> {
+    let mut bytes = [0; RANDOM];
+    fill(&mut fs::open(rt, file).ok()?, &mut bytes)?;
+    let mut text = [0; 64];
+    encode_to_slice(bytes.as_slice(), &mut text).ok()?;
+    Some(text)
+}
+
+/// The digest of a new token, which random bytes make where it is not told.
+pub(crate) fn make_token(rt: &HostRuntime, source: &TokenSource<'_>) -> Result<TokenMade, Exit> {
+    match source {
+        TokenSource::Told(digest) => Ok(TokenMade {
+            digest: *digest,
+            text: None,
+        }),
+        TokenSource::Random(file) => {
+            let Some(text) = random_text(rt, file) else {
+                return Err(Exit::STORAGE);
+            };
+            Ok(TokenMade {
+                digest: digest_of(&text),
+                text: Some(text),
+            })
+        }
+    }
+}
