@@ -37,7 +37,9 @@ fn init_words<'a>(alloc: Global) -> Result<Command<'a>, AllocError> {
 /// `export`.
 fn export_words<'a>(alloc: Global) -> Result<Command<'a>, AllocError> {
     let command = Command::new(alloc, "export")
-        .about("Writes config.json and the index files below a folder, as the sparse index has them")
+        .about(
+            "Writes config.json and the index files below a folder, as the sparse index has them",
+        )
         .after_help("Example:\n  registry_cli export index --db r.db");
     with_file(alloc, command.arg(word(alloc, "DIR", "The folder"))?)
 }
@@ -107,9 +109,7 @@ fn with_numbers<'a>(alloc: Global, command: Command<'a>) -> Result<Command<'a>, 
 fn serve_words<'a>(alloc: Global) -> Result<Command<'a>, AllocError> {
     let command = Command::new(alloc, "serve")
         .about("Serves HTTP on a port of 127.0.0.1, one connection after another")
-        .after_help(
-            "Example:\n  registry_cli serve --port 8080 --connections 1000000 --db r.db",
-        );
+        .after_help("Example:\n  registry_cli serve --port 8080 --connections 1000000 --db r.db");
     with_file(alloc, with_numbers(alloc, command)?)
 }
 
