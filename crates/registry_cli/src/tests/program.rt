@@ -71,8 +71,12 @@ user-disable carol --db FILE -> 1 G3 no such login
 user-enable bob --db FILE -> 0
 user-enable carol --db FILE -> 1 G3 no such login
 token-add ada --endpoints publish-new,yank --patterns a,b-* --db FILE -> 0
-token-add ada --endpoints publish-new --digest 2bd806c97f0e00af1a1fc3328fa763a9269723c8db8fac4f93af71db186d6e90 --db FILE -> 0
-token-add bob --endpoints yank --digest 2BD806C97F0E00AF1A1FC3328FA763A9269723C8DB8FAC4F93AF71DB186D6E90 --db FILE -> 1 G5 token digest taken
+token-add ada --endpoints publish-new --digest \
+2bd806c97f0e00af1a1fc3328fa763a9269723c8db8fac4f93af71db186d6e90 \
+--db FILE -> 0
+token-add bob --endpoints yank --digest \
+2BD806C97F0E00AF1A1FC3328FA763A9269723C8DB8FAC4F93AF71DB186D6E90 \
+--db FILE -> 1 G5 token digest taken
 token-add carol --endpoints yank --db FILE -> 1 G3 no such login
 token-add ada --endpoints all --db FILE -> 1 G9 no endpoint
 token-add ada --endpoints yank --patterns * --db FILE -> 0
