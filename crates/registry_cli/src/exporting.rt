@@ -26,7 +26,11 @@ fn write_file(rt: &HostRuntime, folder: &str, path: &str, bytes: &[u8]) -> io::R
 }
 
 /// Writes the config and the index files below the folder. Files that stand there are overwritten.
+/// The empty text names no folder.
 pub(crate) fn export_to(rt: &HostRuntime, registry: &mut FileRegistry, folder: &str) -> Exit {
+    if folder.is_empty() {
+        return Exit::STORAGE;
+    }
     let Ok(files) = registry.export(rt.alloc()) else {
         return Exit::STORAGE;
     };
