@@ -2,6 +2,7 @@
 
 use crate::administering::administer;
 use crate::line::run_line;
+use crate::printing::NO_WRITING;
 use crate::serving::{init, pipe, serve};
 use clap::error::ErrorKind;
 use clap::{Arg, ArgAction, ArgMatches, Command, Error};
@@ -37,7 +38,9 @@ fn init_words<'a>(alloc: Global) -> Result<Command<'a>, AllocError> {
 /// `export`.
 fn export_words<'a>(alloc: Global) -> Result<Command<'a>, AllocError> {
     let command = Command::new(alloc, "export")
-        .about("Writes config.json and the index files below a folder, as the sparse index has them")
+        .about(
+            "Writes config.json and the index files below a folder, as the sparse index has them",
+        )
         .after_help("Example:\n  registry_cli export index --db r.db");
     with_file(alloc, command.arg(word(alloc, "DIR", "The folder"))?)
 }
@@ -107,9 +110,7 @@ fn with_numbers<'a>(alloc: Global, command: Command<'a>) -> Result<Command<'a>, 
 fn serve_words<'a>(alloc: Global) -> Result<Command<'a>, AllocError> {
     let command = Command::new(alloc, "serve")
         .about("Serves HTTP on a port of 127.0.0.1, one connection after another")
-        .after_help(
-            "Example:\n  registry_cli serve --port 8080 --connections 1000000 --db r.db",
-        );
+        .after_help("Example:\n  registry_cli serve --port 8080 --connections 1000000 --db r.db");
     with_file(alloc, with_numbers(alloc, command)?)
 }
 
@@ -147,9 +148,17 @@ fn told(rt: &HostRuntime, error: &Error) -> Exit {
     if error.kind() == ErrorKind::OutOfMemory {
         return Exit::MEMORY;
     }
-    let _ = error.print(rt);
-    let status = if error.use_stderr() { 2 } else { 0 };
-    Exit { status, words: "" }
+    let printed = error.print(rt);
+    if error.use_stderr() {
+        return Exit {
+            status: 2,
+            words: "",
+        };
+    }
+    match printed {
+        Ok(()) => Exit::DONE,
+        Err(_) => NO_WRITING,
+    }
 }
 
 /// `line`, on standard input and output.
