@@ -30,6 +30,7 @@ fn write_file(rt: &HostRuntime, folder: &str, path: &str, bytes: &[u8]) -> io::R
 }
 
 /// Writes the config and the index files below the folder. Files that stand there are overwritten.
+/// The empty text names no folder.
 pub(crate) fn export_to<S: Alter>(
     rt: &HostRuntime,
     registry: &mut Registry<S>,
@@ -37,6 +38,9 @@ pub(crate) fn export_to<S: Alter>(
 ) -> Exit
     requires { AreUpToDate S.Store (tables_of registry.old) }
 {
+    if folder.is_empty() {
+        return Exit::STORAGE;
+    }
     let Ok(files) = registry.export(rt.alloc()) else {
         return Exit::STORAGE;
     };

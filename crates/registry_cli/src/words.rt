@@ -2,6 +2,7 @@
 
 use crate::administering::administer;
 use crate::line::run_line;
+use crate::printing::NO_WRITING;
 use crate::serving::{init, pipe, serve};
 use clap::error::ErrorKind;
 use clap::{Arg, ArgAction, ArgMatches, Command, Error};
@@ -147,9 +148,17 @@ fn told(rt: &HostRuntime, error: &Error) -> Exit {
     if error.kind() == ErrorKind::OutOfMemory {
         return Exit::MEMORY;
     }
-    let _ = error.print(rt);
-    let status = if error.use_stderr() { 2 } else { 0 };
-    Exit { status, words: "" }
+    let printed = error.print(rt);
+    if error.use_stderr() {
+        return Exit {
+            status: 2,
+            words: "",
+        };
+    }
+    match printed {
+        Ok(()) => Exit::DONE,
+        Err(_) => NO_WRITING,
+    }
 }
 
 /// `line`, on standard input and output.
