@@ -1,3 +1,2 @@
 mod LineFacts
 mod Orders
-mod Pipes

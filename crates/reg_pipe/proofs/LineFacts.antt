@@ -1,5 +1,5 @@
 -- Pieces with an empty one at the end, and pieces without.
-use Rattle.std.proofs.Common.{◌≡◌, ◌≢◌, ◌++◌, List, [], ◌∷◌, refl, ap}
+use Rattle.std.proofs.Common.{◌≡◌, ◌≢◌, ◌++◌, ◌∙◌, List, [], ◌∷◌, length, refl, sym, ap, subst}
 use Rattle.reg_model.specs.Registry.{Text}
 use Rattle.reg_pipe.specs.Lines.{but_empty_end}
 
@@ -13,3 +13,13 @@ end_stays [] [] not = absurd (not refl)
 end_stays [] (b ∷ bs) not = refl
 end_stays (q ∷ []) p not = ap (λ it. q ∷ it) (end_stays [] p not)
 end_stays (q ∷ r ∷ more) p not = ap (λ it. q ∷ it) (end_stays (r ∷ more) p not)
+
+pub cut : (pieces ps : List Text) (p : Text) → pieces ≡ ps ++ p ∷ [] → p ≡ [] → ps ≡ but_empty_end pieces
+cut pieces ps p is empty = sym (ap but_empty_end (is ∙ ap (λ e. ps ++ e ∷ []) empty) ∙ end_goes ps)
+
+pub kept : (pieces ps : List Text) (p : Text) → pieces ≡ ps ++ p ∷ [] → p ≢ [] → ps ++ p ∷ [] ≡ but_empty_end pieces
+kept pieces ps p is some = sym (ap but_empty_end is ∙ end_stays ps p some)
+
+pub no_bytes : (p : Text) → length p ≡ 0 → p ≡ []
+no_bytes [] is = refl
+no_bytes (b ∷ bs) is = absurd cc is

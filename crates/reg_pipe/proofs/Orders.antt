@@ -13,22 +13,45 @@ use Rattle.reg_model.specs.Registry.{Text}
 use Rattle.reg_model.specs.Steps.{IsFit, no_room}
 use Rattle.reg_tables.specs.declared.tables.Tables.{Tables}
 use Rattle.reg_tables.specs.Works.{shown}
-use Rattle.reg_service.specs.Answered.{Answers, LeavesAlone, Shows}
+use Rattle.reg_service.specs.Answered.{Answers, IsAnswered, LeavesAlone, Shows}
 use Rattle.reg_service.specs.Sequences.{Ran}
+use Rattle.reg_model.specs.declared.rule.AdminRefusal.{AdminRefusal}
+use Rattle.reg_policy.specs.declared.event.AdminReply.{AdminReply}
+use Rattle.reg_policy.specs.declared.event.AdminReply.TheVariants.{Done, Id, Text as Told}
+use Rattle.reg_policy.specs.Events.{reply_of}
 use Rattle.reg_pipe.specs.declared.setup.SetupFault.{SetupFault}
 use Rattle.reg_pipe.specs.declared.setup.SetupFault.TheVariants.{Memory, Refused, Unreadable}
-use Rattle.reg_pipe.specs.Setups.{HasDone, HasDoneAlone, IsObeyed, IsSetUp, Obeys, is_order, is_refused}
+use Rattle.reg_pipe.specs.Setups.{HasDone, HasDoneAlone, IsObeyed, IsOfWords, IsSetUp, MakesOf, Obeys, is_order, is_refused}
 
-pub abbrev RunsBegin : {S : Type 0} → Ghosts S → Type 0
+abbrev pub RunsBegin : {S : Type 0} → Ghosts S → Type 0
 RunsBegin g = (limits : Limits) (s : model.Registry) (t : Tables _) → Shows s (shown g t) → LeavesAlone s (shown g t) → Ran g limits s [] [] s t
 
-pub abbrev RunsGoOn : {S : Type 0} → Ghosts S → Type 0
+abbrev pub RunsGoOn : {S : Type 0} → Ghosts S → Type 0
 RunsGoOn g = (limits : Limits) (s : model.Registry) (es : List Event) (xs : List Answer) (t : model.Registry) (e : Event) (a : Answer) (old new : Tables _)
     → IsFit e → Ran g limits s es xs t old → (it : Answers g limits t e a old new) → Ran g limits s (es ++ e ∷ []) (xs ++ a ∷ []) it.after new
 
 -- what had no room is refused
 not_refused : (c : Command) (a : Answer) → is_refused a ≡ false → a ≢ no_room (Order c)
 not_refused c a is same = absurd cc (sym is ∙ ap is_refused same)
+
+reply_stands : (r : AdminReply) → is_refused (reply_of (Ok r)) ≡ false
+reply_stands Done = refl
+reply_stands (Id n) = refl
+reply_stands (Told t) = refl
+
+-- a command that was answered is an order that was done or refused
+pub obeys : {S : Type 0} (g : Ghosts S) (limits : Limits) (c : Command) (old new : Tables S) (reply : Result AdminReply AdminRefusal) (made : Result (Unit {0}) SetupFault)
+    → IsFit (Order c) → IsAnswered g limits (Order c) (reply_of reply) old new → MakesOf reply made → IsObeyed g limits old new made
+obeys g limits c old new (Ok r) made fit answers is =
+    subst (IsObeyed g limits old new) (sym is) (reply_of (Ok r), reply_stands r, record { command = c; fit = fit; answers = answers })
+obeys g limits c old new (Err f) made fit answers is =
+    subst (IsObeyed g limits old new) (sym is) (record { command = c; fit = fit; answers = answers })
+
+-- nothing was ordered
+pub obeys_nothing : {S : Type 0} (g : Ghosts S) (limits : Limits) (t : Tables S) (f : SetupFault) → IsOfWords f → IsObeyed g limits t t (Err f)
+obeys_nothing g limits t (Refused r) is = absurd is
+obeys_nothing g limits t Unreadable is = refl
+obeys_nothing g limits t Memory is = refl
 
 module _ {S : Type 0} (g : Ghosts S) (limits : Limits) (s : model.Registry) where
   pub begun : RunsBegin g → (now : Tables S) → Shows s (shown g now) → LeavesAlone s (shown g now) → HasDoneAlone g limits s now 0
@@ -60,7 +83,7 @@ module _ {S : Type 0} (g : Ghosts S) (limits : Limits) (s : model.Registry) wher
           orders = h.done.orders ++ Order o.command ∷ [];
           told = h.done.told ++ a ∷ [];
           each_order = each_order;
-          none_refused = list_any-append is_refused h.done.told (a ∷ []) ∙ cc h.done.none_refused is;
+          none_refused = list_any-append is_refused h.done.told (a ∷ []) ∙ ap (λ b. b || list_any is_refused (a ∷ [])) h.done.none_refused ∙ ap (λ b. b || false) is;
           count_is = length-append h.done.told (a ∷ []) ∙ ap (λ n. n + 1) h.done.count_is;
           ran = subst (λ xs. Ran g limits s (h.done.orders ++ Order o.command ∷ []) xs answers.after new) (sym (append-nil (h.done.told ++ a ∷ []))) ran;
         };

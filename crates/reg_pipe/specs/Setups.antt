@@ -3,6 +3,8 @@ use Rattle.std.specs.Prelude.{◌≡◌, ◌++◌, ◌<◌, ◌≤◌, ℕ, Bool
 use Rattle.std.specs.List.{list_all, list_any}
 use Rattle.sqlite_trees.specs.declared.store.Store.{Ghosts}
 use Rattle.reg_body.specs.declared.limits.Limits.{Limits}
+use Rattle.reg_model.specs.declared.rule.AdminRefusal.{AdminRefusal}
+use Rattle.reg_policy.specs.declared.event.AdminReply.{AdminReply}
 use Rattle.reg_model.specs.Events.{Answer, Command, Event}
 use Rattle.reg_model.specs.Events.Answer.{Refused as to_refused}
 use Rattle.reg_model.specs.Events.Event.{Ask, Order}
@@ -23,6 +25,11 @@ is_order (Order c) = true
 abbrev pub is_refused : Answer → Bool
 is_refused (to_refused r) = true
 is_refused _ = false
+
+-- what a setup makes of the reply to a command
+abbrev pub MakesOf : Result AdminReply AdminRefusal → Result (Unit {0}) SetupFault → Type 0
+MakesOf (Ok reply) made = made ≡ Ok tt
+MakesOf (Err refusal) made = made ≡ Err (Refused refusal)
 
 -- a command was ordered, and answered so
 pub record Obeys {S : Type 0} (g : Ghosts S) (limits : Limits) (a : Answer) (old new : Tables S)

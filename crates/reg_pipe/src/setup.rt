@@ -10,12 +10,12 @@ ghost use Rattle.reg_service.specs.Answered.{AreUpToDate, LeavesAlone, Shows};
 ghost use Rattle.reg_service.specs.Registries.{limits_of, tables_of};
 ghost use Rattle.reg_http.specs.Answering.{GoesOn};
 ghost use Rattle.reg_pipe.specs.Lines.{lines_in};
-ghost use Rattle.reg_pipe.specs.Setups.{IsObeyed, IsSetUp};
+ghost use Rattle.reg_pipe.specs.Setups.{IsObeyed, IsSetUp, MakesOf};
 
 use clap::error::ErrorKind;
 use clap::{ArgMatches, Command, Error};
 use reg_model::AdminRefusal;
-use reg_policy::AdminCommand;
+use reg_policy::{AdminCommand, AdminReply};
 use reg_service::Registry;
 use reg_service::laws::history_law;
 use reg_words::{NewToken, Order, Shape, TokenSource, read_order, with_orders};
@@ -73,11 +73,13 @@ fn lines_of<'a>(alloc: Global, text: &'a str) -> Result<Vec<&'a str>, AllocError
     ensures { IfOk result (λ lines. map (λ l. l.now) lines.items ≡ lines_in text.now) }
 {
     let mut lines: Vec<&'a str> = text.split('\n').collect(alloc)?;
-    if let Some(last) = lines.pop() {
-        if !last.is_empty() {
-            lines.push(last)?;
-        }
+    let Some(last) = lines.pop() else {
+        return Ok(lines);
+    };
+    if last.is_empty() {
+        return Ok(lines);
     }
+    lines.push(last)?;
     Ok(lines)
 }
 
@@ -101,6 +103,16 @@ fn split_words<'a>(alloc: Global, line: &'a str) -> Result<Vec<&'a str>, AllocEr
     Ok(words)
 }
 
+/// What a setup makes of the reply to a command.
+fn obeyed(reply: Result<AdminReply, AdminRefusal>) -> Result<(), SetupFault>
+    ensures { MakesOf reply result }
+{
+    match reply {
+        Ok(_) => Ok(()),
+        Err(refusal) => Err(SetupFault::Refused(refusal)),
+    }
+}
+
 /// Does one command.
 fn obey<S: Alter>(
     alloc: Global,
@@ -113,10 +125,7 @@ fn obey<S: Alter>(
         (tables_of registry.new) result }
     ensures keeps { GoesOn S.Store registry.old registry.new }
 {
-    match registry.command(alloc, command) {
-        Ok(_) => Ok(()),
-        Err(refusal) => Err(SetupFault::Refused(refusal)),
-    }
+    obeyed(registry.command(alloc, command))
 }
 
 /// Adds a token, whose digest a setup file has to tell.

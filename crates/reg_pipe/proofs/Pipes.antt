@@ -1,1 +1,0 @@
--- A setup, and a stream after it.
