@@ -1,5 +1,7 @@
 //! How a run ends.
 
+ghost use Rattle.reg_pipe.specs.Exits.{EndsRefused, EndsSetup, EndsStream};
+
 use crate::setup::SetupFault;
 use reg_http::StreamFault;
 use reg_model::AdminRefusal;
@@ -36,7 +38,9 @@ impl Exit {
     };
 
     /// The end of a run in which a command was refused.
-    pub fn of_refusal(refusal: AdminRefusal) -> Exit {
+    pub fn of_refusal(refusal: AdminRefusal) -> Exit
+        ensures { EndsRefused refusal result }
+    {
         let status = match refusal {
             AdminRefusal::G10 => 3,
             _ => 1,
@@ -48,7 +52,9 @@ impl Exit {
     }
 
     /// The end of a run whose setup was not done.
-    pub fn of_setup(fault: SetupFault) -> Exit {
+    pub fn of_setup(fault: SetupFault) -> Exit
+        ensures { EndsSetup fault result }
+    {
         match fault {
             SetupFault::Refused(refusal) => Exit::of_refusal(refusal),
             SetupFault::Unreadable => Exit {
@@ -59,14 +65,17 @@ impl Exit {
         }
     }
 
-    /// The end of a run whose stream stopped.
-    pub fn of_stream(fault: StreamFault) -> Exit {
-        let words = match fault {
-            StreamFault::ReadFault => "read fault",
-            StreamFault::WriteFault => "write fault",
-            StreamFault::TooManyTurns => "too many turns",
-            StreamFault::StoreFault => "store fault",
-            StreamFault::Memory => "memory",
+    /// The end of a run whose stream ended, or stopped; how many replies it had is not told.
+    pub fn of_stream(served: Result<u64, StreamFault>) -> Exit
+        ensures { EndsStream served result }
+    {
+        let words = match served {
+            Ok(_) => return Exit::DONE,
+            Err(StreamFault::ReadFault) => "read fault",
+            Err(StreamFault::WriteFault) => "write fault",
+            Err(StreamFault::TooManyTurns) => "too many turns",
+            Err(StreamFault::StoreFault) => "store fault",
+            Err(StreamFault::Memory) => "memory",
         };
         Exit { status: 3, words }
     }

@@ -1,5 +1,14 @@
 //! A registry is set up, and serves one stream.
 
+ghost use Rattle.std.specs.Prelude.{◌+◌, ◌^◌, ◌<◌};
+ghost use Rattle.sqlite.specs.State.{HasCleanDisk};
+ghost use Rattle.reg_tables.specs.Works.{shown};
+ghost use Rattle.reg_service.specs.Answered.{AreUpToDate, LeavesAlone, Shows};
+ghost use Rattle.reg_service.specs.Registries.{limits_of, tables_of};
+ghost use Rattle.reg_http.specs.Answering.{GoesOn};
+ghost use Rattle.reg_pipe.specs.Lines.{lines_in};
+ghost use Rattle.reg_pipe.specs.Piped.{IsPiped, SpendsIfServed};
+
 use crate::exit::Exit;
 use crate::setup::run_setup;
 use reg_body::Counted;
@@ -17,12 +26,22 @@ pub fn run_pipe<R: Read, W: Write, S: Alter>(
     setup: &str,
     r: &mut Counted<R>,
     w: &mut Counted<W>,
-) -> Exit {
+) -> Exit
+    requires tables { AreUpToDate S.Store (tables_of registry.old) }
+    requires reads { r.old.calls + (limits_of registry.old).turns < 2 ^ 64 }
+    requires writes { w.old.calls + (limits_of registry.old).turns < 2 ^ 64 }
+    ensures piped { HasCleanDisk (shown S.Store (tables_of registry.new)) → (s : _)
+        → Shows s (shown S.Store (tables_of registry.old))
+        → LeavesAlone s (shown S.Store (tables_of registry.old))
+        → IsPiped S.Store (limits_of registry.old) s (lines_in setup.now)
+        (tables_of registry.new) (R.remaining r.old.inner) (R.remaining r.new.inner)
+        (W.contents w.old.inner) (W.contents w.new.inner) result }
+    ensures spends { SpendsIfServed (limits_of registry.old).turns r.old r.new w.old w.new
+        result }
+    ensures keeps { GoesOn S.Store registry.old registry.new }
+{
     if let Err(fault) = run_setup(alloc, registry, setup) {
         return Exit::of_setup(fault);
     }
-    match serve_stream(alloc, registry, r, w) {
-        Ok(_replies) => Exit::DONE,
-        Err(fault) => Exit::of_stream(fault),
-    }
+    Exit::of_stream(serve_stream(alloc, registry, r, w))
 }

@@ -1,10 +1,23 @@
 //! The lines of a setup file, each a command of the administrator.
 
+ghost use Rattle.std.specs.Prelude.{◌≡◌, IfOk, map};
+ghost use Rattle.sqlite.specs.State.{HasCleanDisk};
+ghost use Rattle.reg_model.specs.Events.Event.{Order as ToOrder};
+ghost use Rattle.reg_model.specs.Steps.{IsFit};
+ghost use Rattle.reg_policy.specs.Events.{command_of};
+ghost use Rattle.reg_tables.specs.Works.{shown};
+ghost use Rattle.reg_service.specs.Answered.{AreUpToDate, LeavesAlone, Shows};
+ghost use Rattle.reg_service.specs.Registries.{limits_of, tables_of};
+ghost use Rattle.reg_http.specs.Answering.{GoesOn};
+ghost use Rattle.reg_pipe.specs.Lines.{lines_in};
+ghost use Rattle.reg_pipe.specs.Setups.{IsObeyed, IsSetUp};
+
 use clap::error::ErrorKind;
 use clap::{ArgMatches, Command, Error};
 use reg_model::AdminRefusal;
-use reg_policy::{AdminCommand, AdminReply};
+use reg_policy::AdminCommand;
 use reg_service::Registry;
+use reg_service::laws::history_law;
 use reg_words::{NewToken, Order, Shape, TokenSource, read_order, with_orders};
 use sqlite::Alter;
 use std::alloc::{AllocError, AllocFailed, Global};
@@ -21,24 +34,51 @@ pub enum SetupFault {
 }
 
 impl From<AllocError> for SetupFault {
+    ghost use Rattle.std.specs.Prelude.{◌≡◌};
+    ghost use Rattle.reg_pipe.specs.declared.setup.SetupFault.TheVariants.{Memory};
+
+    ghost from_gives = { λ _ f. f ≡ Memory };
+
     fn from(_: AllocError) -> SetupFault {
         SetupFault::Memory
     }
 }
 
 impl<T: Drop> From<AllocFailed<T>> for SetupFault {
+    ghost use Rattle.std.specs.Prelude.{◌≡◌};
+    ghost use Rattle.reg_pipe.specs.declared.setup.SetupFault.TheVariants.{Memory};
+
+    ghost from_gives = { λ _ f. f ≡ Memory };
+
     fn from(_: AllocFailed<T>) -> SetupFault {
         SetupFault::Memory
     }
 }
 
 impl From<Error> for SetupFault {
+    ghost use Rattle.reg_pipe.specs.Setups.{IsOfWords};
+
+    ghost from_gives = { λ _ f. IsOfWords f };
+
     fn from(error: Error) -> SetupFault {
         match error.kind() {
             ErrorKind::OutOfMemory => SetupFault::Memory,
             _ => SetupFault::Unreadable,
         }
     }
+}
+
+/// The lines of a text; the last may lack its line feed.
+fn lines_of<'a>(alloc: Global, text: &'a str) -> Result<Vec<&'a str>, AllocError>
+    ensures { IfOk result (λ lines. map (λ l. l.now) lines.items ≡ lines_in text.now) }
+{
+    let mut lines: Vec<&'a str> = text.split('\n').collect(alloc)?;
+    if let Some(last) = lines.pop() {
+        if !last.is_empty() {
+            lines.push(last)?;
+        }
+    }
+    Ok(lines)
 }
 
 /// What a line may be.
@@ -52,7 +92,7 @@ fn parsed<'a>(alloc: Global, words: &'a [&'a str]) -> Result<ArgMatches<'a>, Err
 }
 
 /// The words of a line, behind a name that is no word of it.
-fn split_words<'a>(alloc: Global, line: &'a str) -> Result<Vec<&'a str>, SetupFault> {
+fn split_words<'a>(alloc: Global, line: &'a str) -> Result<Vec<&'a str>, AllocError> {
     let mut words = Vec::new(alloc);
     words.push("setup")?;
     for word in line.split(' ') {
@@ -66,7 +106,13 @@ fn obey<S: Alter>(
     alloc: Global,
     registry: &mut Registry<S>,
     command: &AdminCommand<'_>,
-) -> Result<(), SetupFault> {
+) -> Result<(), SetupFault>
+    requires tables { AreUpToDate S.Store (tables_of registry.old) }
+    requires fit { IsFit (ToOrder (command_of command.now)) }
+    ensures obeyed { IsObeyed S.Store (limits_of registry.old) (tables_of registry.old)
+        (tables_of registry.new) result }
+    ensures keeps { GoesOn S.Store registry.old registry.new }
+{
     match registry.command(alloc, command) {
         Ok(_) => Ok(()),
         Err(refusal) => Err(SetupFault::Refused(refusal)),
@@ -78,20 +124,29 @@ fn add_token<S: Alter>(
     alloc: Global,
     registry: &mut Registry<S>,
     token: &NewToken<'_>,
-) -> Result<(), SetupFault> {
+) -> Result<(), SetupFault>
+    requires tables { AreUpToDate S.Store (tables_of registry.old) }
+    ensures obeyed { IsObeyed S.Store (limits_of registry.old) (tables_of registry.old)
+        (tables_of registry.new) result }
+    ensures keeps { GoesOn S.Store registry.old registry.new }
+{
     match &token.source {
         TokenSource::Told(digest) => obey(alloc, registry, &token.command(digest)),
         TokenSource::Random(_) => Err(SetupFault::Unreadable),
     }
 }
 
-/// Does the command of one line.
-fn run_words<S: Alter>(
+/// Does what the words order.
+fn obey_order<S: Alter>(
     alloc: Global,
     registry: &mut Registry<S>,
-    words: &[&str],
-) -> Result<(), SetupFault> {
-    let matches = parsed(alloc, words)?;
+    matches: &ArgMatches<'_>,
+) -> Result<(), SetupFault>
+    requires tables { AreUpToDate S.Store (tables_of registry.old) }
+    ensures obeyed { IsObeyed S.Store (limits_of registry.old) (tables_of registry.old)
+        (tables_of registry.new) result }
+    ensures keeps { GoesOn S.Store registry.old registry.new }
+{
     let Some((name, inner)) = matches.subcommand() else {
         return Err(SetupFault::Unreadable);
     };
@@ -102,19 +157,41 @@ fn run_words<S: Alter>(
     }
 }
 
+/// Does the command of one line.
+fn obey_line<S: Alter>(
+    alloc: Global,
+    registry: &mut Registry<S>,
+    line: &str,
+) -> Result<(), SetupFault>
+    requires tables { AreUpToDate S.Store (tables_of registry.old) }
+    ensures obeyed { IsObeyed S.Store (limits_of registry.old) (tables_of registry.old)
+        (tables_of registry.new) result }
+    ensures keeps { GoesOn S.Store registry.old registry.new }
+{
+    let words = split_words(alloc, line)?;
+    let matches = parsed(alloc, &words)?;
+    obey_order(alloc, registry, &matches)
+}
+
 /// Does the commands of a setup file, one after another, up to the first that is refused or no
 /// command.
 pub fn run_setup<S: Alter>(
     alloc: Global,
     registry: &mut Registry<S>,
     setup: &str,
-) -> Result<(), SetupFault> {
-    if setup.is_empty() {
-        return Ok(());
-    }
-    for line in setup.strip_suffix('\n').unwrap_or(setup).split('\n') {
-        let words = split_words(alloc, line)?;
-        run_words(alloc, registry, &words)?;
+) -> Result<(), SetupFault>
+    requires tables { AreUpToDate S.Store (tables_of registry.old) }
+    ensures done { HasCleanDisk (shown S.Store (tables_of registry.new)) → (s : _)
+        → Shows s (shown S.Store (tables_of registry.old))
+        → LeavesAlone s (shown S.Store (tables_of registry.old))
+        → IsSetUp S.Store (limits_of registry.old) s (tables_of registry.new)
+        (lines_in setup.now) result }
+    ensures keeps { GoesOn S.Store registry.old registry.new }
+{
+    history_law::<S>();
+    let lines = lines_of(alloc, setup)?;
+    for line in &lines {
+        obey_line(alloc, registry, line)?;
     }
     Ok(())
 }

@@ -1,3 +1,5 @@
-pub mod Faults
-pub mod Ends
 pub mod Answers
+pub mod Ends
+pub mod Faults
+pub mod Limited
+pub mod Tasks

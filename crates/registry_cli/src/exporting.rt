@@ -1,7 +1,11 @@
 //! The index as files of a folder.
 
-use crate::store::FileRegistry;
+ghost use Rattle.reg_service.specs.Answered.{AreUpToDate};
+ghost use Rattle.reg_service.specs.Registries.{tables_of};
+
 use reg_pipe::Exit;
+use reg_service::Registry;
+use sqlite::Alter;
 use std::alloc::AllocError;
 use std::{fs, io};
 
@@ -27,7 +31,13 @@ fn write_file(rt: &HostRuntime, folder: &str, path: &str, bytes: &[u8]) -> io::R
 
 /// Writes the config and the index files below the folder. Files that stand there are overwritten.
 /// The empty text names no folder.
-pub(crate) fn export_to(rt: &HostRuntime, registry: &mut FileRegistry, folder: &str) -> Exit {
+pub(crate) fn export_to<S: Alter>(
+    rt: &HostRuntime,
+    registry: &mut Registry<S>,
+    folder: &str,
+) -> Exit
+    requires { AreUpToDate S.Store (tables_of registry.old) }
+{
     if folder.is_empty() {
         return Exit::STORAGE;
     }

@@ -1,7 +1,12 @@
 //! Streams: one on standard input and output, or connections one after another.
 
+ghost use Rattle.std.specs.Prelude.{◌≡◌};
+ghost use Rattle.reg_service.specs.Answered.{AreUpToDate};
+ghost use Rattle.reg_service.specs.Registries.{limits_of, tables_of};
+ghost use Rattle.registry_cli.specs.Limited.{HasTurns};
+
 use crate::printing::print;
-use crate::store::{FileRegistry, close, create, open, refused};
+use crate::store::{close, connect, create, open};
 use clap::ArgMatches;
 use reg_body::{Counted, Limits};
 use reg_http::serve_stream;
@@ -33,11 +38,10 @@ fn setup_text(rt: &HostRuntime, words: &ArgMatches<'_>) -> Result<String, Exit> 
 }
 
 /// Does the setup and serves standard input and output.
-fn pipe_on<S: Alter>(
-    rt: &HostRuntime,
-    words: &ArgMatches<'_>,
-    registry: &mut Registry<S>,
-) -> Exit {
+fn pipe_on<S: Alter>(rt: &HostRuntime, words: &ArgMatches<'_>, registry: &mut Registry<S>) -> Exit
+    requires tables { AreUpToDate S.Store (tables_of registry.old) }
+    requires turns { HasTurns (limits_of registry.old) }
+{
     let setup = match setup_text(rt, words) {
         Ok(setup) => setup,
         Err(exit) => return exit,
@@ -48,35 +52,38 @@ fn pipe_on<S: Alter>(
 }
 
 /// `pipe` over a file.
-fn pipe_file(rt: &HostRuntime, words: &ArgMatches<'_>, file: &str) -> Exit {
-    match open(rt, file, Limits::STANDARD) {
-        Ok(mut registry) => {
-            let exit = pipe_on(rt, words, &mut registry);
-            close(registry);
-            exit
-        }
-        Err(exit) => exit,
-    }
+fn pipe_file(rt: &HostRuntime, words: &ArgMatches<'_>, file: &str) -> Result<Exit, Exit> {
+    let mut registry = open(rt.alloc(), connect(rt, file)?, Limits::STANDARD)?;
+    let exit = pipe_on(rt, words, &mut registry);
+    close(registry);
+    Ok(exit)
 }
 
 /// `pipe` over a registry in memory, with nothing in it.
-fn pipe_memory(rt: &HostRuntime, words: &ArgMatches<'_>) -> Exit {
+fn pipe_memory(rt: &HostRuntime, words: &ArgMatches<'_>) -> Result<Exit, Exit> {
     let Ok(conn) = Connection::open_in_memory(rt.alloc()) else {
-        return Exit::MEMORY;
+        return Err(Exit::MEMORY);
     };
     let base = words.get_str("base").unwrap_or(BASE);
-    match Registry::create(conn, base, Limits::STANDARD) {
-        Ok(mut registry) => pipe_on(rt, words, &mut registry),
-        Err((fault, _)) => refused(fault),
-    }
+    let mut registry = create(conn, base)?;
+    Ok(pipe_on(rt, words, &mut registry))
 }
 
 /// `pipe`.
 pub(crate) fn pipe(rt: &HostRuntime, words: &ArgMatches<'_>) -> Exit {
-    match words.get_str("db") {
+    let piped = match words.get_str("db") {
         Some(file) => pipe_file(rt, words, file),
         None => pipe_memory(rt, words),
+    };
+    match piped {
+        Ok(exit) | Err(exit) => exit,
     }
+}
+
+/// Makes a registry with nothing in it, in a file.
+fn make_file(rt: &HostRuntime, file: &str, base: &str) -> Result<(), Exit> {
+    close(create(connect(rt, file)?, base)?);
+    Ok(())
 }
 
 /// `init`.
@@ -84,11 +91,8 @@ pub(crate) fn init(rt: &HostRuntime, words: &ArgMatches<'_>) -> Exit {
     let (Some(file), Some(base)) = (words.get_str("db"), words.get_str("base")) else {
         return Exit::BAD_WORDS;
     };
-    match create(rt, file, base) {
-        Ok(registry) => {
-            close(registry);
-            Exit::DONE
-        }
+    match make_file(rt, file, base) {
+        Ok(()) => Exit::DONE,
         Err(exit) => exit,
     }
 }
@@ -120,12 +124,15 @@ const NO_LISTENING: Exit = Exit {
 };
 
 /// Serves connections, one after another. A stream that fails ends its connection alone.
-fn serve_all(
+fn serve_all<S: Alter>(
     rt: &HostRuntime,
-    registry: &mut FileRegistry,
+    registry: &mut Registry<S>,
     listener: &TcpListener,
     connections: u64,
-) -> Exit {
+) -> Exit
+    requires tables { AreUpToDate S.Store (tables_of registry.old) }
+    requires turns { HasTurns (limits_of registry.old) }
+{
     for _ in 0..connections {
         let Ok((stream, _)) = listener.accept() else {
             return NO_LISTENING;
@@ -146,7 +153,26 @@ fn listen(rt: &HostRuntime, port: u16) -> Result<TcpListener, Exit> {
         return Err(Exit::MEMORY);
     };
     let exit = print(rt, &line);
-    if exit == Exit::DONE { Ok(listener) } else { Err(exit) }
+    if exit == Exit::DONE {
+        Ok(listener)
+    } else {
+        Err(exit)
+    }
+}
+
+/// Serves connections on a file.
+fn serve_file(rt: &HostRuntime, file: &str, service: &Service) -> Result<Exit, Exit> {
+    let limits = Limits {
+        replies: service.replies,
+        ..Limits::STANDARD
+    };
+    let mut registry = open(rt.alloc(), connect(rt, file)?, limits)?;
+    let exit = match listen(rt, service.port) {
+        Ok(listener) => serve_all(rt, &mut registry, &listener, service.connections),
+        Err(exit) => exit,
+    };
+    close(registry);
+    Ok(exit)
 }
 
 /// `serve`.
@@ -154,18 +180,7 @@ pub(crate) fn serve(rt: &HostRuntime, words: &ArgMatches<'_>) -> Exit {
     let (Some(service), Some(file)) = (read_service(words), words.get_str("db")) else {
         return Exit::BAD_WORDS;
     };
-    let limits = Limits {
-        replies: service.replies,
-        ..Limits::STANDARD
-    };
-    let mut registry = match open(rt, file, limits) {
-        Ok(registry) => registry,
-        Err(exit) => return exit,
-    };
-    let exit = match listen(rt, service.port) {
-        Ok(listener) => serve_all(rt, &mut registry, &listener, service.connections),
-        Err(exit) => exit,
-    };
-    close(registry);
-    exit
+    match serve_file(rt, file, &service) {
+        Ok(exit) | Err(exit) => exit,
+    }
 }

@@ -1,12 +1,15 @@
 //! The registry's file.
 
+ghost use Rattle.std.specs.Prelude.{◌≡◌, false, IfOk};
+ghost use Rattle.sqlite.specs.Held.{IsNew, state};
+ghost use Rattle.reg_service.specs.Answered.{AreUpToDate};
+ghost use Rattle.reg_service.specs.Registries.{limits_of, tables_of};
+
 use reg_body::Limits;
 use reg_pipe::Exit;
 use reg_service::{Check, OpenFault, Registry};
-use sqlite::{Connection, File, FileStore};
-
-/// A registry in a file.
-pub(crate) type FileRegistry = Registry<FileStore<File>>;
+use sqlite::{Alter, Connection, File, FileStore};
+use std::alloc::Global;
 
 fn damaged(check: Check) -> &'static str {
     match check {
@@ -41,36 +44,44 @@ pub(crate) fn refused(fault: OpenFault) -> Exit {
 }
 
 /// A connection to the file.
-fn connect(rt: &HostRuntime, file: &str) -> Result<Connection<FileStore<File>>, Exit> {
+pub(crate) fn connect(rt: &HostRuntime, file: &str) -> Result<Connection<FileStore<File>>, Exit>
+    ensures { IfOk result IsNew }
+{
     match Connection::open(rt, file) {
         Ok(conn) => Ok(conn),
         Err(_) => Err(Exit::STORAGE),
     }
 }
 
-/// The registry of the file.
-pub(crate) fn open(rt: &HostRuntime, file: &str, limits: Limits) -> Result<FileRegistry, Exit> {
-    match Registry::open(rt.alloc(), connect(rt, file)?, limits) {
+/// The registry of a store.
+pub(crate) fn open<S: Alter + Drop>(
+    alloc: Global,
+    conn: Connection<S>,
+    limits: Limits,
+) -> Result<Registry<S>, Exit>
+    requires { (state S.Store conn).in_transaction ≡ false }
+    ensures tables { IfOk result (λ r. AreUpToDate S.Store (tables_of r)) }
+    ensures limited { IfOk result (λ r. limits_of r ≡ limits) }
+{
+    match Registry::open(alloc, conn, limits) {
         Ok(registry) => Ok(registry),
-        Err((fault, conn)) => {
-            let _ = conn.close();
-            Err(refused(fault))
-        }
+        Err((fault, _)) => Err(refused(fault)),
     }
 }
 
-/// Makes a registry with nothing in it, in the file.
-pub(crate) fn create(rt: &HostRuntime, file: &str, base: &str) -> Result<FileRegistry, Exit> {
-    match Registry::create(connect(rt, file)?, base, Limits::STANDARD) {
+/// Makes a registry with nothing in it.
+pub(crate) fn create<S: Alter + Drop>(conn: Connection<S>, base: &str) -> Result<Registry<S>, Exit>
+    requires { (state S.Store conn).in_transaction ≡ false }
+    ensures tables { IfOk result (λ r. AreUpToDate S.Store (tables_of r)) }
+    ensures limited { IfOk result (λ r. limits_of r ≡ Limits.STANDARD) }
+{
+    match Registry::create(conn, base, Limits::STANDARD) {
         Ok(registry) => Ok(registry),
-        Err((fault, conn)) => {
-            let _ = conn.close();
-            Err(refused(fault))
-        }
+        Err((fault, _)) => Err(refused(fault)),
     }
 }
 
 /// Closes the file. What was acknowledged is in it already; closing only tidies it up.
-pub(crate) fn close(registry: FileRegistry) {
+pub(crate) fn close(registry: Registry<FileStore<File>>) {
     let _ = registry.into_connection().close();
 }

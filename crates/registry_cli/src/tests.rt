@@ -1,10 +1,13 @@
 //! The program on the worked examples, on failing ends, without memory, and on bad words.
 
 mod counted;
+mod piping;
+mod program;
 
-use crate::line::{Exit, run_line};
+use crate::line::run_line;
 use crate::words::run_words;
 use reg_body::{Counted, Limits, join};
+use reg_pipe::Exit;
 use std::alloc::{AllocError, Global};
 use std::io;
 use std::io::{Read, Write};

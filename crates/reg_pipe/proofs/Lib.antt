@@ -1,0 +1,3 @@
+mod LineFacts
+mod Orders
+mod Pipes

@@ -1,0 +1,1 @@
+-- A setup, and a stream after it.

@@ -1,0 +1,4 @@
+pub mod Exits
+pub mod Lines
+pub mod Piped
+pub mod Setups
