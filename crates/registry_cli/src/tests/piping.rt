@@ -21,7 +21,7 @@ content-length: 95\r\n\r\n{\"api\":\"http://127.0.0.1:8080\",\"auth-required\":t
 \"dl\":\"http://127.0.0.1:8080/api/v1/crates\"}";
 
 /// How a run over a new registry ends, and what it writes.
-fn piped(alloc: Global, setup: &str) -> Option<(Exit, Vec<u8>)> {
+fn piped(alloc: Global, setup: &str, input: &[u8]) -> Option<(Exit, Vec<u8>)> {
     let conn = Connection::open_in_memory(alloc).ok()?;
     if !conn.is_autocommit() {
         return None;
@@ -30,7 +30,7 @@ fn piped(alloc: Global, setup: &str) -> Option<(Exit, Vec<u8>)> {
     let Ok(mut registry) = made else {
         return None;
     };
-    let mut reader = Counted::new(ASKED.as_bytes());
+    let mut reader = Counted::new(input);
     let mut writer = Counted::new(Vec::new(alloc));
     let exit = run_pipe(alloc, &mut registry, setup, &mut reader, &mut writer);
     Some((exit, writer.into_inner()))
@@ -39,7 +39,7 @@ fn piped(alloc: Global, setup: &str) -> Option<(Exit, Vec<u8>)> {
 /// Whether a setup of ada and these lines ends so, and nothing is served.
 fn serves_nothing(alloc: Global, lines: &str, status: u8, words: &str) -> Result<bool, AllocError> {
     let setup = format!(in alloc; "{ADA}{lines}")?;
-    Ok(match piped(alloc, &setup) {
+    Ok(match piped(alloc, &setup, ASKED.as_bytes()) {
         Some((exit, written)) => {
             exit.status == status && exit.words == words && written.is_empty()
         }
@@ -60,7 +60,7 @@ access a";
 #[test]
 fn a_setup_and_a_stream(rt: HostRuntime) {
     for setup in [ADA, ADA.trim_end()] {
-        let Some((exit, written)) = piped(rt.alloc(), setup) else {
+        let Some((exit, written)) = piped(rt.alloc(), setup, ASKED.as_bytes()) else {
             assert!(rt; false);
             return;
         };
@@ -85,6 +85,53 @@ fn an_unfinished_setup_serves_nothing(rt: HostRuntime) -> Result<(), Fail> {
     assert!(rt; serves_nothing(of, "\n", 2, "bad setup line")?);
     for line in UNREADABLE.split('\n') {
         assert!(rt; serves_nothing(of, line, 2, "bad setup line")?);
+    }
+    Ok(())
+}
+
+/// Two accounts, each with a token.
+const TWO_ACCOUNTS: &str = "user-add ada --name Ada
+user-add bob
+token-add ada --endpoints publish-new,publish-update,yank,change-owners --digest \
+ba7816bf8f01cfea414140de5dae2223b00361a396177a9cb410ff61f20015ad
+token-add bob --endpoints publish-update,yank --digest \
+248d6a61d20638b8e5c026930c3e6039a33ce45964ff2167f6ecedd419db06c1
+";
+
+/// A publish of `a`; one of `b` that is denied and whose archive reads as a request; a reading.
+const DENIED_BODY: &[u8] = b"PUT /api/v1/crates/new HTTP/1.1\r\nhost: r\r\n\
+authorization: abc\r\ncontent-length: 35\r\n\r\n\
+\x1b\0\0\0{\"name\":\"a\",\"vers\":\"0.1.0\"}\0\0\0\0\
+PUT /api/v1/crates/new HTTP/1.1\r\nhost: r\r\n\
+authorization: abcdbcdecdefdefgefghfghighijhijkijkljklmklmnlmnomnopnopq\r\n\
+content-length: 111\r\n\r\n\
+\x1b\0\0\0{\"name\":\"b\",\"vers\":\"0.1.0\"}\x4c\0\0\0\
+DELETE /api/v1/crates/a/0.1.0/yank HTTP/1.1\r\nhost: r\r\nauthorization: abc\r\n\r\n\
+GET /index/1/a HTTP/1.1\r\nhost: r\r\nauthorization: abc\r\n\r\n";
+
+const PUBLISHED_AND_DENIED: &str = "HTTP/1.1 200 OK\r\ncontent-type: application/json\r\n\
+content-length: 69\r\n\r\n\
+{\"warnings\":{\"invalid_badges\":[],\"invalid_categories\":[],\"other\":[]}}\
+HTTP/1.1 403 Forbidden\r\ncontent-type: application/json\r\ncontent-length: 56\r\n\r\n\
+{\"errors\":[{\"detail\":\"A6 endpoint not in token scope\"}]}";
+
+const INDEX_FILE: &str = "HTTP/1.1 200 OK\r\ncontent-type: text/plain\r\n\
+content-length: 175\r\n\r\n\
+{\"cksum\":\"e3b0c44298fc1c149afbf4c8996fb92427ae41e4649b934ca495991b7852b855\",\
+\"deps\":[],\"features\":{},\"links\":null,\"name\":\"a\",\"rust_version\":null,\
+\"vers\":\"0.1.0\",\"yanked\":false}\n";
+
+#[test]
+fn a_denied_body_is_no_request(rt: HostRuntime) -> Result<(), Fail> {
+    let whole = format!(in rt.alloc(); "{PUBLISHED_AND_DENIED}{INDEX_FILE}")?;
+    let short = &DENIED_BODY[..DENIED_BODY.len() - 1];
+    for (input, replies) in [(DENIED_BODY, whole.as_str()), (short, PUBLISHED_AND_DENIED)] {
+        let Some((exit, written)) = piped(rt.alloc(), TWO_ACCOUNTS, input) else {
+            assert!(rt; false);
+            return Ok(());
+        };
+        assert!(rt; exit == Exit::DONE);
+        assert_eq!(rt; written.as_slice(), replies.as_bytes());
     }
     Ok(())
 }
