@@ -8,7 +8,9 @@ use Rattle.std.specs.FinSet as finset
 use Rattle.std.specs.Cmp.Lexicographic.{nat_list_cmp_total}
 use Rattle.sqlite.specs.Effect.{Database}
 use Rattle.sqlite.specs.Order.{Row}
+use Rattle.sqlite.specs.Schema.{Schema}
 use Rattle.sqlite.specs.Tree.{Trees}
+use Rattle.sqlite_schema.specs.Rules.{Obeys}
 use Rattle.sqlite_schema.specs.declared.schema.Constraint.TheVariants.{Datatype, NotNull}
 use Rattle.sqlite_trees.proofs.ListLemmas.{all_weaker}
 use Rattle.reg_names.specs.Names.{canon}
@@ -72,11 +74,12 @@ module _ (ids : Ids) (s : Registry) (db : Trees) (h : Holds ids s db) where
       let same = each_in (λ c. (account : ℕ) → finset.contains s.readers (canon c.1, account) ≡ is_paired stands.pairs c.0 account) ids.crates x.0 stands.same x.1 in
       true_not_false (finset.contains s.readers q) there (ap (λ (c : Text). finset.contains s.readers (c, q.1)) (sym x.2) ∙ same q.1 ∙ ap (λ ps. is_paired ps x.0.0 q.1) none)) ∙ sym (finset.contains-empty owner_cmp q))
 
-module _ (old new : Database) (found : AreFound First old.trees) (up : IsUpgrade old new) (ids : Ids) (s : Registry) (h : Holds ids s new.trees) where
+module _ (old new : Database) (found : AreFound First old) (up : IsUpgrade old new) (ids : Ids) (s : Registry) (h : Holds ids s new.trees) where
   -- the row of `about` has no more than it shows
   about_first : map (drop 1) (old.trees 0) ≡ about_columns First found.about.0 ∷ []
   about_first =
-      let whole = whole_rows old.trees schema.about 1 refl refl (old.trees 0) (found.obeys.rules Datatype).0 (found.obeys.rules NotNull).0 in
+      let obeys = subst (λ (s : Schema). Obeys s old.trees) found.schema found.keeps in
+      let whole = whole_rows old.trees schema.about 1 refl refl (old.trees 0) (obeys.rules Datatype).0 (obeys.rules NotNull).0 in
       each_is (drop 1) (shows (1 ∷ 2 ∷ [])) (old.trees 0) (all_weaker (IsWhole (0 ∷ 1 ∷ 2 ∷ [])) (λ r. drop 1 r ≡ shows (1 ∷ 2 ∷ []) r) told_base (old.trees 0) whole) ∙ found.about.1
 
   about_is : map (drop 1) (old.trees 0) ≡ about_columns First s.base ∷ []

@@ -17,11 +17,16 @@ use Rattle.reg_tables.specs.Upgrades.{AreBegun}
 use Rattle.reg_audit.specs.Checks.{IsFirst}
 use Rattle.reg_audit.specs.declared.check.Check.{Check}
 
+-- the rows keep the rules of their schema
+abbrev pub KeepsSchema : Database → Type 0
+KeepsSchema now = Obeys now.schema now.trees
+
 -- our tables as they are found: they keep the rules of their schema, and `about` has one row, with
 -- its number
-pub record AreFound (e : Edition) (db : Trees) : Type 0 where
-  pub obeys : Obeys (schema_of e) db
-  pub about : HasBase e db
+pub record AreFound (e : Edition) (now : Database) : Type 0 where
+  pub schema : now.schema ≡ schema_of e
+  pub keeps : KeepsSchema now
+  pub about : HasBase e now.trees
 
 -- the registry is sound, and the rows are its
 abbrev pub HoldsAs : Edition → Ids → Registry → Trees → Type 0
@@ -34,11 +39,11 @@ AreRegistryAs e db = (ids : Ids) × (s : Registry) × HoldsAs e ids s db
 
 -- what is found is a sound registry exactly where what a transaction begins with is, and the same
 abbrev pub EditionLaw : Type 0
-EditionLaw = (e : Edition) (now : Database) (db : Trees) → AreFound e now.trees → AreBegun e now db
+EditionLaw = (e : Edition) (now : Database) (db : Trees) → AreFound e now → AreBegun e now db
     → (ids : Ids) (s : Registry) → HoldsAs e ids s now.trees ↔ Holds ids s db
 
 -- so no check is found to fail exactly where there is one
 abbrev pub FoundLaw : Type 0
-FoundLaw = (e : Edition) (now : Database) (db : Trees) → AreFound e now.trees → AreBegun e now db
+FoundLaw = (e : Edition) (now : Database) (db : Trees) → AreFound e now → AreBegun e now db
     → (it : AllRows) → AreAllRows it db → (found : Option Check) → IsFirst it db found
     → (found ≡ None) ↔ AreRegistryAs e now.trees

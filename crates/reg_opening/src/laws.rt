@@ -2,8 +2,7 @@
 
 ghost use Rattle.std.specs.Prelude.{IsTrue};
 ghost use Rattle.sqlite.specs.Held.{state};
-ghost use Rattle.sqlite_schema.specs.Rules.{Obeys};
-ghost use Rattle.reg_opening.specs.Editions.{EditionLaw, FoundLaw};
+ghost use Rattle.reg_opening.specs.Editions.{EditionLaw, FoundLaw, KeepsSchema};
 ghost use Rattle.reg_opening.specs.Opening.{AuditLaw, HoldingPasses, OpeningLaw, PassingHolds, SchemaKeeps};
 
 use reg_tables::laws::migrate_law;
@@ -28,8 +27,7 @@ pub fn edition_law()
 
 /// Rows that an open connection shows keep the rules of its schema.
 pub fn rows_law<S: Alter>(conn: &Connection<S>)
-    ensures { IsTrue (state S.Store conn.now).is_open → Obeys
-        (state S.Store conn.now).now.schema (state S.Store conn.now).now.trees }
+    ensures { IsTrue (state S.Store conn.now).is_open → KeepsSchema (state S.Store conn.now).now }
 {
     let _ = conn.schema();
 }
