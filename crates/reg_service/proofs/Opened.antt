@@ -1,10 +1,9 @@
 -- A registry that was opened is the one that the store held.
-use Rattle.std.proofs.Common.{◌≡◌, ◌≢◌, ◌∙◌, ◌⊎◌, arith, ℕ, inl, inr, false, length, refl, None, Some, Ok, Err, Result, IfErr, IfOk, IsTrue, ap, sym, subst}
+use Rattle.std.proofs.Common.{◌≡◌, ◌≢◌, ◌∙◌, arith, ℕ, inl, inr, false, length, refl, None, Some, Ok, Err, Result, IfErr, IfOk, IsTrue, ap, sym, subst}
 use Rattle.sqlite.specs.Effect.{Database}
 use Rattle.sqlite.specs.Held.{Held, state}
 use Rattle.sqlite.specs.Schema.{Schema}
 use Rattle.sqlite.specs.State.{State, HasCleanDisk, KeepsCommit, Survives}
-use Rattle.sqlite.specs.Tree.{Trees}
 use Rattle.sqlite_trees.specs.declared.store.Store.{Ghosts}
 use Rattle.reg_model.specs.Registry as model
 use Rattle.reg_schema.specs.declared.edition.Edition.{Edition}
@@ -49,9 +48,9 @@ brought_before e old mid new clean early rests_old rests_mid kept survives b = r
       let now : mid.now ≡ old.now = (rests_mid clean was).settled ∙ kept.committed was ∙ sym (rests_old early (kept.was_open was)).settled in
       subst (λ (d : Database). AreBegun e d new.now.trees) now (b.begun up);
   left = λ db l. elim (b.left db l) [
-      | inl m ↦ elim (survives.crash clean db m) [ inl o ↦ inl o | inr none ↦ absurd none ]
-      | inr last ↦ inr last
-      ];
+    | inl m ↦ elim (survives.crash clean db m) [ inl o ↦ inl o | inr none ↦ absurd none ]
+    | inr last ↦ inr last
+  ];
 }
 
 pub examined_brought : {S E : Type 0} (g : Ghosts S) (old mid : Tables S) (r : Result (Registry S) E) → AreOurs g old → AreOurs g mid → edition_in mid ≡ edition_in old
@@ -136,9 +135,9 @@ module _ {S : Type 0} (g : Ghosts S) (conn : Held S) (t : Tables S) (k : IsTaken
 
     held_left : Survives (state g conn) (shown g t) (λ _. ⊥) → HasCleanDisk held → LeavesOpened (state g conn) held
     held_left survives clean db l = elim ((brought clean).left db l) [
-        | inl m ↦ elim (survives.crash (early clean) db m) [ inl o ↦ inl o | inr none ↦ absurd none ]
-        | inr last ↦ inr (k.schema ∙ ap schema_of last.0, last.1)
-        ]
+      | inl m ↦ elim (survives.crash (early clean) db m) [ inl o ↦ inl o | inr none ↦ absurd none ]
+      | inr last ↦ inr (k.schema ∙ ap schema_of last.0, last.1)
+    ]
 
   module _ {E : Type 0} (r : Result (Registry S) E) where
     abbrev Early : Type 0

@@ -1,5 +1,4 @@
 use Rattle.std.proofs.Common.{Ok, ap, refl, sym, ◌∙◌}
-use Rattle.sqlite.specs.Held.{state}
 use Rattle.reg_tables.specs.Works.{edition_in, shown}
 use Rattle.reg_service.proofs.Opened.{still_brought, upgrade_brought}
 use Rattle.reg_service.proofs.opening.brought_up.Goals as goal
