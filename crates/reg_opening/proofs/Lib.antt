@@ -3,6 +3,7 @@ pub mod AccountsPass
 pub mod Archives
 pub mod Crates
 pub mod CratesPass
+pub mod Editions
 pub mod Ids
 pub mod KeptRules
 pub mod ListedCrates

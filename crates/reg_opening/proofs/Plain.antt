@@ -36,7 +36,7 @@ flips a b = go (bytes_eq a b) refl
         other true f = sym e ∙ bytes_same a b (sym (same_bytes b a f))
         other false f = refl
 
-told_base : (r : Row) → IsWhole (0 ∷ 1 ∷ 2 ∷ []) r → drop 1 r ≡ shows (1 ∷ 2 ∷ []) r
+pub told_base : (r : Row) → IsWhole (0 ∷ 1 ∷ 2 ∷ []) r → drop 1 r ≡ shows (1 ∷ 2 ∷ []) r
 told_base r h = sym (ap (drop 1) h)
 
 told : (r : Row) → IsWhole (0 ∷ 1 ∷ []) r → shows (1 ∷ []) r ≡ drop 1 r

@@ -12,7 +12,7 @@ use Rattle.reg_names.specs.Patterns.{is_pattern}
 use Rattle.reg_model.specs.declared.endpoint.Endpoints.{Endpoints}
 use Rattle.reg_model.specs.declared.rule.AdminRefusal.{AdminRefusal}
 use Rattle.reg_model.specs.declared.rule.AdminRefusal.TheVariants as refusal
-use Rattle.reg_model.specs.Changes.{with_account, with_token}
+use Rattle.reg_model.specs.Changes.{with_token}
 use Rattle.reg_model.specs.Effects.{commanded}
 use Rattle.reg_model.specs.Events.{Answer}
 use Rattle.reg_model.specs.Events.Answer.{Done, Id, Refused}

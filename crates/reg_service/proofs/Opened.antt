@@ -1,84 +1,83 @@
 -- A registry that was opened is the one that the store held.
-use Rattle.std.proofs.Common.{◌≡◌, ◌≢◌, ◌∙◌, inl, inr, false, refl, None, Some, Ok, Err, Result, IfErr, IfOk, IsTrue, sym, subst}
+use Rattle.std.proofs.Common.{◌≡◌, ◌≢◌, ◌∙◌, arith, ℕ, inl, inr, false, length, refl, None, Some, Ok, Err, Result, IfErr, IfOk, IsTrue, ap, sym, subst}
 use Rattle.sqlite.specs.Effect.{Database}
 use Rattle.sqlite.specs.Held.{Held, state}
-use Rattle.sqlite.specs.State.{State, HasCleanDisk, Survives}
-use Rattle.sqlite.specs.Tree.{Trees}
+use Rattle.sqlite.specs.Schema.{Schema}
+use Rattle.sqlite.specs.State.{State, HasCleanDisk, KeepsCommit, Survives}
 use Rattle.sqlite_trees.specs.declared.store.Store.{Ghosts}
 use Rattle.reg_model.specs.Registry as model
 use Rattle.reg_schema.specs.declared.edition.Edition.{Edition}
 use Rattle.reg_schema.specs.declared.edition.Edition.TheVariants.{First, Second}
 use Rattle.reg_audit.specs.declared.check.Check.{Check}
-use Rattle.reg_schema.specs.Schema.{old_schema, schema_of}
-use Rattle.reg_schema.specs.States.{IsUndone}
-use Rattle.reg_opening.specs.Opening.{AreRegistry, AuditLaw}
-use Rattle.reg_stored.specs.Stands.{Holds, Ids, StandsBy, StandsOld}
-use Rattle.reg_tables.specs.Upgrades.{AreBegun, IsUpgrade}
+use Rattle.reg_schema.specs.Schema.{schema_of}
+use Rattle.reg_schema.specs.States.{IsOurs, IsUndone, LeavesCommit}
+use Rattle.reg_statements.specs.Abouts.{HasBase}
+use Rattle.reg_opening.specs.Editions.{AreFound, EditionLaw, FoundLaw, HoldsAs, KeepsSchema}
+use Rattle.reg_tables.specs.Upgrades.{AreBegun, IsUpgraded}
 use Rattle.reg_tables.specs.declared.tables.Tables.{Tables}
-use Rattle.reg_tables.specs.Works.{edition_in, shown}
+use Rattle.reg_tables.specs.Works.{AreOurs, edition_in, shown}
 use Rattle.reg_service.specs.declared.registry.Registry.{Registry}
-use Rattle.reg_service.specs.Answered.{Are, AreAs, AreOne, Shows}
-use Rattle.reg_service.specs.Registries.{AreDamaged, IsFirstFailing, tables_of}
+use Rattle.reg_service.specs.Answered.{AreAs, Shows}
+use Rattle.reg_service.specs.Registries.{AreDamaged, AreOne, IsBrought, IsFirstFailing, LeavesOpened, tables_of}
 use Rattle.reg_service.specs.declared.opening.OpenFault.{OpenFault}
 use Rattle.reg_service.specs.declared.opening.OpenFault.TheVariants.{Damaged, Storage}
 
--- rows that pass all checks are a sound registry's
-passed_sound : AuditLaw → (now : Database) → IsFirstFailing Second now None → (s : model.Registry) × Are s now.trees
-passed_sound law now (db, same, it, rows, first) =
-    let held = (law it db rows None first).0 refl in
-    (held.1, (held.0, subst (Holds held.0 held.1) same held.2))
+-- tables of schema 2 are held as they are, and those of schema 1 upgraded
+pub still_brought : (e : Edition) (old new : State) → e ≡ Second → new ≡ old → IsBrought e old new
+still_brought First old new is same = absurd cc
+still_brought Second old new is same = record {
+  was_open = λ up. subst (λ (s : State). IsTrue s.is_open) same up;
+  begun = λ up. ap (λ (s : State). s.now.trees) same;
+  left = λ db l. inl (subst (λ (s : State). s.may_leave db) same l);
+}
 
--- a migration keeps the registry
-abbrev pub MigrateLaw : Type 0
-MigrateLaw = (ids : Ids) (s : model.Registry) (old new : Database) → StandsOld ids s old.trees → IsUpgrade old new → StandsBy ids s new.trees
+pub upgrade_brought : (e : Edition) (old new : State) → e ≡ First → IsUpgraded old new → LeavesCommit new → IsBrought e old new
+upgrade_brought Second old new is up alone = absurd cc
+upgrade_brought First old new is up alone = record {
+  was_open = λ _. up.was_open;
+  begun = λ _. (new.now, up.made, refl);
+  left = λ db l. inr (refl, alone db l ∙ ap (λ (d : Database). d.trees) up.settled);
+}
 
-brought : MigrateLaw → (e : Edition) (now : Database) (db : Trees) → AreBegun e now db → (s : model.Registry) → AreAs e s now.trees → AreRegistry db
-brought migrate First now db (d, upgrade, same) s (ids, sound, stands) =
-    (ids, s, subst (Holds ids s) (sym same) (record { sound = sound; stands = migrate ids s now d stands upgrade }))
-brought migrate Second now db same s (ids, holds) = (ids, s, subst (Holds ids s) (sym same) holds)
+-- and so are those of before the checks, which change nothing
+pub brought_before : (e : Edition) (old mid new : State) → HasCleanDisk mid → HasCleanDisk old → IsOurs e old → IsOurs e mid → KeepsCommit old mid → Survives old mid (λ _. ⊥) → IsBrought e mid new → IsBrought e old new
+brought_before e old mid new clean early rests_old rests_mid kept survives b = record {
+  was_open = λ up. kept.was_open (b.was_open up);
+  begun = λ up.
+      let was = b.was_open up in
+      let now : mid.now ≡ old.now = (rests_mid clean was).settled ∙ kept.committed was ∙ sym (rests_old early (kept.was_open was)).settled in
+      subst (λ (d : Database). AreBegun e d new.now.trees) now (b.begun up);
+  left = λ db l. elim (b.left db l) [
+    | inl m ↦ elim (survives.crash clean db m) [ inl o ↦ inl o | inr none ↦ absurd none ]
+    | inr last ↦ inr last
+  ];
+}
+
+pub examined_brought : {S E : Type 0} (g : Ghosts S) (old mid : Tables S) (r : Result (Registry S) E) → AreOurs g old → AreOurs g mid → edition_in mid ≡ edition_in old
+    → (HasCleanDisk (shown g mid) → KeepsCommit (shown g old) (shown g mid)) → Survives (shown g old) (shown g mid) (λ _. ⊥)
+    → IfOk r (λ x. HasCleanDisk (shown g (tables_of x)) → HasCleanDisk (shown g mid)) → IfOk r (λ x. HasCleanDisk (shown g (tables_of x)) → IsBrought (edition_in mid) (shown g mid) (shown g (tables_of x)))
+    → IfOk r (λ x. HasCleanDisk (shown g (tables_of x)) → IsBrought (edition_in old) (shown g old) (shown g (tables_of x)))
+examined_brought g old mid (Err f) rests_old rests_mid same kept survives early brought = tt
+examined_brought g old mid (Ok x) rests_old rests_mid same kept survives early brought = λ clean.
+    let still = early clean in
+    let start : HasCleanDisk (shown g old) = omega (arith, still, survives.clean) in
+    brought_before (edition_in old) (shown g old) (shown g mid) (shown g (tables_of x)) still start rests_old (subst (λ e. IsOurs e (shown g mid)) same rests_mid) (kept still) survives (subst (λ e. IsBrought e (shown g mid) (shown g (tables_of x))) same (brought clean))
+
+-- the schemas differ
+fewer : ◌≡◌ {A = ℕ} 10 12 → ⊥
+fewer e = absurd cc
+
+abbrev tables_in : Schema → ℕ
+tables_in s = length s.tables
+
+one_edition : (e f : Edition) → schema_of e ≡ schema_of f → e ≡ f
+one_edition First First h = refl
+one_edition Second Second h = refl
+one_edition First Second h = absurd (fewer (ap tables_in h))
+one_edition Second First h = absurd (fewer (sym (ap tables_in h)))
 
 not_none : {c : Check} → Some c ≡ None → ⊥
 not_none e = absurd cc
-
--- where a check fails there is none
-no_registry : AuditLaw → MigrateLaw → (e : Edition) (now : Database) (check : Check) → IsFirstFailing e now (Some check) → (s : model.Registry) → AreAs e s now.trees → ⊥
-no_registry law migrate e now check (db, begun, it, rows, first) s are =
-    not_none ((law it db rows (Some check) first).1 (brought migrate e now db begun s are))
-
-module _ {S : Type 0} (g : Ghosts S) (conn : Held S) (t : Tables S) where
-  pub opened_same : {E : Type 0} (e : Edition) (r : Result (Registry S) E) → edition_in t ≡ e → (state g conn).now.schema ≡ schema_of (edition_in t)
-      → (HasCleanDisk (shown g t) → IsTrue (shown g t).is_open → (shown g t).now ≡ (state g conn).now)
-      → (edition_in t ≡ Second → IfOk r (λ x. (s : model.Registry) → HasCleanDisk (shown g (tables_of x)) → Shows s (shown g t) → Shows s (shown g (tables_of x))))
-      → IfOk r (λ x. HasCleanDisk (shown g (tables_of x)) → HasCleanDisk (shown g t))
-      → IfOk r (λ x. (s : model.Registry) → HasCleanDisk (shown g (tables_of x)) → (state g conn).now.schema ≢ old_schema → Are s (state g conn).now.trees → Shows s (shown g (tables_of x)))
-  opened_same e (Err f) is schema found same early = tt
-  opened_same First (Ok x) is schema found same early = λ s clean new are. absurd (new (subst (λ it. (state g conn).now.schema ≡ schema_of it) is schema))
-  opened_same Second (Ok x) is schema found same early = λ s clean new are.
-      same is s clean (λ up. subst (λ (d : Database). Are s d.trees) (sym (found (early clean) up)) are)
-
-  -- what was found is a sound registry's
-  pub opened_sound : {E : Type 0} (e : Edition) (r : Result (Registry S) E) → AuditLaw → edition_in t ≡ e → (state g conn).now.schema ≡ schema_of (edition_in t)
-      → (HasCleanDisk (shown g t) → IsTrue (shown g t).is_open → (shown g t).now ≡ (state g conn).now)
-      → (edition_in t ≡ Second → IfOk r (λ x. HasCleanDisk (shown g (tables_of x)) → IsTrue (shown g (tables_of x)).is_open → IsTrue (shown g t).is_open))
-      → IfOk r (λ x. HasCleanDisk (shown g (tables_of x)) → IsFirstFailing (edition_in t) (shown g t).now None)
-      → IfOk r (λ x. HasCleanDisk (shown g (tables_of x)) → HasCleanDisk (shown g t))
-      → IfOk r (λ x. (s : model.Registry) → HasCleanDisk (shown g (tables_of x)) → (state g conn).now.schema ≢ old_schema → Are s (state g conn).now.trees → Shows s (shown g (tables_of x)))
-      → IfOk r (λ x. HasCleanDisk (shown g (tables_of x)) → IsTrue (shown g (tables_of x)).is_open → (state g conn).now.schema ≢ old_schema → AreOne (state g conn).now.trees (shown g (tables_of x)).now.trees)
-  opened_sound e (Err f) law is schema found was passed early same = tt
-  opened_sound First (Ok x) law is schema found was passed early same = λ clean up new. absurd (new (subst (λ it. (state g conn).now.schema ≡ schema_of it) is schema))
-  opened_sound Second (Ok x) law is schema found was passed early same = λ clean up new.
-      let held = passed_sound law (shown g t).now (subst (λ it. IsFirstFailing it (shown g t).now None) is (passed clean)) in
-      let before = subst (λ (d : Database). Are held.0 d.trees) (found (early clean) (was is clean up)) held.1 in
-      record { registry = held.0; before = before; after = same held.0 clean new before up }
-
-  -- and a stop leaves nothing that it could not leave before
-  pub opened_left : {E : Type 0} (e : Edition) (r : Result (Registry S) E) → edition_in t ≡ e → (state g conn).now.schema ≡ schema_of (edition_in t) → Survives (state g conn) (shown g t) (λ _. ⊥)
-      → (edition_in t ≡ Second → IfOk r (λ x. HasCleanDisk (shown g (tables_of x)) → (db : Trees) → (shown g (tables_of x)).may_leave db → (shown g t).may_leave db))
-      → IfOk r (λ x. HasCleanDisk (shown g (tables_of x)) → HasCleanDisk (shown g t))
-      → IfOk r (λ x. HasCleanDisk (shown g (tables_of x)) → (state g conn).now.schema ≢ old_schema → (db : Trees) → (shown g (tables_of x)).may_leave db → (state g conn).may_leave db)
-  opened_left e (Err f) is schema survives left early = tt
-  opened_left First (Ok x) is schema survives left early = λ clean new db l. absurd (new (subst (λ it. (state g conn).now.schema ≡ schema_of it) is schema))
-  opened_left Second (Ok x) is schema survives left early = λ clean new db l. elim (survives.crash (early clean) db (left is clean db l)) [ inl was ↦ was | inr none ↦ absurd none ]
 
 then_undone : (a b c : State) → IsUndone a b → IsUndone b c → IsUndone a c
 then_undone a b c one two = record {
@@ -87,29 +86,109 @@ then_undone a b c one two = record {
   autocommit = two.autocommit;
 }
 
--- it is refused, and the store is as it was
-module _ {S : Type 0} (g : Ghosts S) (conn : Held S) (t : Tables S) (rests : HasCleanDisk (shown g t) → IsUndone (state g conn) (shown g t)) where
+-- the tables that were taken over, and what they were found to be
+pub record IsTaken {S : Type 0} (g : Ghosts S) (conn : Held S) (t : Tables S) : Type 0 where
+  pub schema : (state g conn).now.schema ≡ schema_of (edition_in t)
+  pub found : HasCleanDisk (shown g t) → IsTrue (shown g t).is_open → (shown g t).now ≡ (state g conn).now
+  pub about : HasCleanDisk (shown g t) → HasBase (edition_in t) (state g conn).now.trees
+  pub rests : HasCleanDisk (shown g t) → IsUndone (state g conn) (shown g t)
+  pub keeps : IsTrue (state g conn).is_open → KeepsSchema (state g conn).now
+
+pub is_taken : {S : Type 0} (g : Ghosts S) (conn : Held S) (t : Tables S) → (state g conn).now.schema ≡ schema_of (edition_in t) → (HasCleanDisk (shown g t) → IsTrue (shown g t).is_open → (shown g t).now ≡ (state g conn).now)
+    → (HasCleanDisk (shown g t) → HasBase (edition_in t) (state g conn).now.trees) → (HasCleanDisk (shown g t) → IsUndone (state g conn) (shown g t)) → (IsTrue (state g conn).is_open → KeepsSchema (state g conn).now) → IsTaken g conn t
+is_taken g conn t schema found about rests keeps = record { schema = schema; found = found; about = about; rests = rests; keeps = keeps }
+
+module _ {S : Type 0} (g : Ghosts S) (conn : Held S) (t : Tables S) (k : IsTaken g conn t) where
+  abbrev now : Database
+  now = (state g conn).now
+
+  are_found : HasCleanDisk (shown g t) → IsTrue (shown g t).is_open → AreFound (edition_in t) now
+  are_found clean up = record {
+    schema = k.schema;
+    keeps = k.keeps ((k.rests clean).was_open up);
+    about = k.about clean;
+  }
+
+  -- what is held are the rows that a transaction on what was found begins with
+  module _ (law : EditionLaw) (x : Registry S) (early : HasCleanDisk (shown g (tables_of x)) → HasCleanDisk (shown g t)) (brought : HasCleanDisk (shown g (tables_of x)) → IsBrought (edition_in t) (shown g t) (shown g (tables_of x))) where
+    abbrev held : State
+    held = shown g (tables_of x)
+
+    held_by : HasCleanDisk held → IsTrue held.is_open → (ids : _) (s : model.Registry) → HoldsAs (edition_in t) ids s now.trees → HoldsAs Second ids s held.now.trees
+    held_by clean up ids s =
+        let b = brought clean in
+        let was = b.was_open up in
+        let begun = subst (λ (d : Database). AreBegun (edition_in t) d held.now.trees) (k.found (early clean) was) (b.begun up) in
+        (law (edition_in t) now held.now.trees (are_found (early clean) was) begun ids s).0
+
+    held_same : HasCleanDisk held → (e : Edition) (s : model.Registry) → now.schema ≡ schema_of e → AreAs e s now.trees → Shows s held
+    held_same clean e s is are up =
+        let same = one_edition e (edition_in t) (sym is ∙ k.schema) in
+        (are.0, held_by clean up are.0 s (subst (λ f. HoldsAs f are.0 s now.trees) same are.1))
+
+    held_sound : FoundLaw → (HasCleanDisk held → IsFirstFailing (edition_in t) (shown g t).now None) → HasCleanDisk held → IsTrue held.is_open → AreOne now held.now.trees
+    held_sound audited passed clean up =
+        let was = (brought clean).was_open up in
+        let first = subst (λ (d : Database). IsFirstFailing (edition_in t) d None) (k.found (early clean) was) (passed clean) in
+        let s = (audited (edition_in t) now first.0 (are_found (early clean) was) first.1 first.2 first.3 None first.4).0 refl in
+        record { edition = edition_in t; schema = k.schema; registry = s.1; before = (s.0, s.2); after = (s.0, held_by clean up s.0 s.1 s.2) }
+
+    held_left : Survives (state g conn) (shown g t) (λ _. ⊥) → HasCleanDisk held → LeavesOpened (state g conn) held
+    held_left survives clean db l = elim ((brought clean).left db l) [
+      | inl m ↦ elim (survives.crash (early clean) db m) [ inl o ↦ inl o | inr none ↦ absurd none ]
+      | inr last ↦ inr (k.schema ∙ ap schema_of last.0, last.1)
+    ]
+
+  module _ {E : Type 0} (r : Result (Registry S) E) where
+    abbrev Early : Type 0
+    Early = IfOk r (λ x. HasCleanDisk (shown g (tables_of x)) → HasCleanDisk (shown g t))
+
+    abbrev Brought : Type 0
+    Brought = IfOk r (λ x. HasCleanDisk (shown g (tables_of x)) → IsBrought (edition_in t) (shown g t) (shown g (tables_of x)))
+
+  pub opened_same : {E : Type 0} (r : Result (Registry S) E) → EditionLaw → Early r → Brought r
+      → IfOk r (λ x. HasCleanDisk (shown g (tables_of x)) → (e : Edition) (s : model.Registry) → now.schema ≡ schema_of e → AreAs e s now.trees → Shows s (shown g (tables_of x)))
+  opened_same (Err f) law early brought = tt
+  opened_same (Ok x) law early brought = held_same law x early brought
+
+  pub opened_sound : {E : Type 0} (r : Result (Registry S) E) → EditionLaw → FoundLaw → Early r → Brought r
+      → IfOk r (λ x. HasCleanDisk (shown g (tables_of x)) → IsFirstFailing (edition_in t) (shown g t).now None)
+      → IfOk r (λ x. HasCleanDisk (shown g (tables_of x)) → IsTrue (shown g (tables_of x)).is_open → AreOne now (shown g (tables_of x)).now.trees)
+  opened_sound (Err f) law audited early brought passed = tt
+  opened_sound (Ok x) law audited early brought passed = held_sound law x early brought audited passed
+
+  pub opened_left : {E : Type 0} (r : Result (Registry S) E) → EditionLaw → Early r → Brought r → Survives (state g conn) (shown g t) (λ _. ⊥)
+      → IfOk r (λ x. HasCleanDisk (shown g (tables_of x)) → LeavesOpened (state g conn) (shown g (tables_of x)))
+  opened_left (Err f) law early brought survives = tt
+  opened_left (Ok x) law early brought survives = held_left law x early brought survives
+
+  -- it is refused, and the store is as it was
   pub refused_undone : {R : Type 0} (r : Result R (OpenFault × Held S)) → IfErr r (λ e. HasCleanDisk (state g e.1) → e.0 ≢ Storage → HasCleanDisk (shown g t))
       → ((shown g t).in_transaction ≡ false → IfErr r (λ e. HasCleanDisk (state g e.1) → e.0 ≢ Storage → IsUndone (shown g t) (state g e.1)))
       → IfErr r (λ e. HasCleanDisk (state g e.1) → e.0 ≢ Storage → IsUndone (state g conn) (state g e.1))
   refused_undone (Ok x) early undone = tt
   refused_undone (Err e) early undone = λ clean not.
-      let first = rests (early clean not) in
+      let first = k.rests (early clean not) in
       then_undone (state g conn) (shown g t) (state g e.1) first (undone first.autocommit clean not)
 
   not_storage : (f : OpenFault) (check : Check) → f ≡ Damaged check → f ≢ Storage
   not_storage f check is same = absurd cc (sym is ∙ same)
 
-  pub refused_damaged : {R : Type 0} (r : Result R (OpenFault × Held S)) → AuditLaw → MigrateLaw → (state g conn).now.schema ≡ schema_of (edition_in t)
-      → (HasCleanDisk (shown g t) → IsTrue (shown g t).is_open → (shown g t).now ≡ (state g conn).now)
+  -- where a check fails there is no registry
+  pub refused_damaged : {R : Type 0} (r : Result R (OpenFault × Held S)) → FoundLaw
       → IfErr r (λ e. HasCleanDisk (state g e.1) → e.0 ≢ Storage → HasCleanDisk (shown g t))
       → ((shown g t).in_transaction ≡ false → IfErr r (λ e. HasCleanDisk (state g e.1) → e.0 ≢ Storage → IsUndone (shown g t) (state g e.1)))
       → IfErr r (λ e. HasCleanDisk (state g e.1) → (check : Check) → e.0 ≡ Damaged check → IsFirstFailing (edition_in t) (shown g t).now (Some check))
-      → IfErr r (λ e. HasCleanDisk (state g e.1) → (check : Check) → e.0 ≡ Damaged check → IsTrue (state g e.1).is_open → AreDamaged (state g conn).now check)
-  refused_damaged (Ok x) law migrate schema found early undone first = tt
-  refused_damaged (Err e) law migrate schema found early undone first = λ clean check is up.
+      → IfErr r (λ e. HasCleanDisk (state g e.1) → (check : Check) → e.0 ≡ Damaged check → IsTrue (state g e.1).is_open → AreDamaged now check)
+  refused_damaged (Ok x) audited early undone first = tt
+  refused_damaged (Err e) audited early undone first = λ clean check is up.
       let not = not_storage e.0 check is in
       let mid = early clean not in
-      let was = (undone (rests mid).autocommit clean not).was_open up in
-      let failing = subst (λ (d : Database). IsFirstFailing (edition_in t) d (Some check)) (found mid was) (first clean check is) in
-      record { edition = edition_in t; schema = schema; first = failing; no_registry = no_registry law migrate (edition_in t) (state g conn).now check failing }
+      let was = (undone (k.rests mid).autocommit clean not).was_open up in
+      let failing = subst (λ (d : Database). IsFirstFailing (edition_in t) d (Some check)) (k.found mid was) (first clean check is) in
+      record {
+        edition = edition_in t;
+        schema = k.schema;
+        first = failing;
+        no_registry = λ s are. not_none ((audited (edition_in t) now failing.0 (are_found mid was) failing.1 failing.2 failing.3 (Some check) failing.4).1 (are.0, s, are.1));
+      }

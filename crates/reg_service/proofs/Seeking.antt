@@ -1,6 +1,5 @@
 -- From what is found to the reply to a search.
 use Rattle.std.proofs.Common.{◌≡◌, inl, inr, refl, ap, ◌∙◌, ℕ, Some}
-use Rattle.reg_model.specs.declared.rule.Rule.TheVariants as rule
 use Rattle.reg_model.specs.Events.{FoundCrates}
 use Rattle.reg_model.specs.Events.Asked.{Read}
 use Rattle.reg_model.specs.Events.Reading.{Search}

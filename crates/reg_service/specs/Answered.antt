@@ -6,11 +6,11 @@ use Rattle.sqlite_trees.specs.declared.store.Store.{Ghosts}
 use Rattle.reg_body.specs.declared.limits.Limits.{Limits}
 use Rattle.reg_model.specs.Events.{Answer, Event}
 use Rattle.reg_model.specs.Registry.{Registry}
-use Rattle.reg_model.specs.Sound.{Sound}
 use Rattle.reg_model.specs.Steps.{Step, no_room, outcome}
 use Rattle.reg_schema.specs.declared.edition.Edition.{Edition}
-use Rattle.reg_schema.specs.declared.edition.Edition.TheVariants.{First, Second}
-use Rattle.reg_stored.specs.Stands.{Holds, Ids, Stands, StandsOld}
+use Rattle.reg_schema.specs.declared.edition.Edition.TheVariants.{Second}
+use Rattle.reg_stored.specs.Stands.{Holds, Ids, Stands}
+use Rattle.reg_opening.specs.Editions.{HoldsAs}
 use Rattle.reg_tables.specs.declared.tables.Tables.{Tables}
 use Rattle.reg_tables.specs.Works.{AreOurs, edition_in, is_shut, shown}
 
@@ -20,14 +20,7 @@ Are s db = (ids : Ids) × Holds ids s db
 
 -- the same of rows of either schema
 abbrev pub AreAs : Edition → Registry → Trees → Type 0
-AreAs First s db = (ids : Ids) × Sound s × StandsOld ids s db
-AreAs Second s db = Are s db
-
--- both are the rows of one sound registry
-pub record AreOne (old new : Trees) : Type 0 where
-  pub registry : Registry
-  pub before : Are registry old
-  pub after : Are registry new
+AreAs e s db = (ids : Ids) × HoldsAs e ids s db
 
 -- the same of what a connection shows; one that is shut shows nothing
 abbrev pub Shows : Registry → State → Type 0

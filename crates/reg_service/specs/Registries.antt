@@ -1,21 +1,22 @@
 -- A registry over a store, as a caller sees it.
-use Rattle.std.specs.Prelude.{◌≡◌, Bool, Option, Some, false}
+use Rattle.std.specs.Prelude.{◌≡◌, ◌⊎◌, Bool, Option, Some, false, IsTrue}
 use Rattle.sqlite.specs.Effect.{Database}
 use Rattle.sqlite.specs.Tree.{Trees}
-use Rattle.sqlite.specs.State.{HasCleanDisk}
+use Rattle.sqlite.specs.State.{HasCleanDisk, State}
 use Rattle.sqlite_trees.specs.declared.store.Store.{Ghosts}
 use Rattle.reg_body.specs.declared.limits.Limits.{Limits}
 use Rattle.reg_model.specs.Registry.{Text, empty_at, Registry as Modelled}
 use Rattle.reg_audit.specs.declared.check.Check.{Check}
 use Rattle.reg_audit.specs.Checks.{IsFirst}
-use Rattle.reg_schema.specs.Schema.{schema_of}
+use Rattle.reg_schema.specs.Schema.{old_schema, schema_of}
 use Rattle.reg_schema.specs.declared.edition.Edition.{Edition}
+use Rattle.reg_schema.specs.declared.edition.Edition.TheVariants.{First}
 use Rattle.reg_stored.specs.declared.all_rows.AllRows.{AllRows}
 use Rattle.reg_stored.specs.WholeRows.{AreAllRows}
 use Rattle.reg_tables.specs.declared.tables.Tables.{Tables}
 use Rattle.reg_tables.specs.Upgrades.{AreBegun}
 use Rattle.reg_tables.specs.Works.{is_shut, shown}
-use Rattle.reg_service.specs.Answered.{AreAs, AreUpToDate, LeavesAlone, Shows}
+use Rattle.reg_service.specs.Answered.{Are, AreAs, AreUpToDate, LeavesAlone, Shows}
 use Rattle.reg_service.specs.declared.registry.Registry.{Registry}
 
 abbrev pub tables_of : {S : Type 0} → Registry S → Tables S
@@ -32,6 +33,27 @@ has_stopped r = is_shut (tables_of r)
 abbrev pub IsFirstFailing : Edition → Database → Option Check → Type 0
 IsFirstFailing e now check =
     (db : Trees) × AreBegun e now db × (it : AllRows) × AreAllRows it db × IsFirst it db check
+
+-- what was found, of either schema, and what is held now are the rows of one sound registry
+pub record AreOne (found : Database) (held : Trees) : Type 0 where
+  pub edition : Edition
+  pub schema : found.schema ≡ schema_of edition
+  pub registry : Modelled
+  pub before : AreAs edition registry found.trees
+  pub after : Are registry held
+
+-- A stop leaves nothing that it could not leave before; where what was found is of schema 1, it may
+-- leave what is held now.
+abbrev pub LeavesOpened : State → State → Type 0
+LeavesOpened old new = (db : Trees) → new.may_leave db
+    → old.may_leave db ⊎ ((old.now.schema ≡ old_schema) × (db ≡ new.now.trees))
+
+-- tables of this edition are held as those of schema 2 that they are, or become
+pub record IsBrought (e : Edition) (old new : State) : Type 0 where
+  pub was_open : IsTrue new.is_open → IsTrue old.is_open
+  pub begun : IsTrue new.is_open → AreBegun e old.now new.now.trees
+  pub left : (db : Trees) → new.may_leave db
+      → old.may_leave db ⊎ ((e ≡ First) × (db ≡ new.now.trees))
 
 -- this check is the first that fails on our tables as they were found, and the rows are those of
 -- no sound registry

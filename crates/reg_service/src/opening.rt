@@ -4,11 +4,11 @@ ghost use Rattle.std.specs.Prelude.{◌≡◌, ◌≢◌, ◌↔◌, false, true
 ghost use Rattle.sqlite.specs.Held.{state};
 ghost use Rattle.sqlite.specs.State.{HasCleanDisk, Survives};
 ghost use Rattle.reg_line.specs.Base.{is_base as is_base_text};
-ghost use Rattle.reg_schema.specs.Schema.{blank, old_schema, schema_of};
+ghost use Rattle.reg_schema.specs.Schema.{blank, schema_of};
 ghost use Rattle.reg_schema.specs.States.{IsMade, IsUndone};
 ghost use Rattle.reg_statements.specs.Abouts.{LacksBase};
-ghost use Rattle.reg_service.specs.Answered.{Are, AreOne, AreUpToDate, Shows};
-ghost use Rattle.reg_service.specs.Registries.{AreDamaged, IsFirstFailing, IsNew, has_stopped, limits_of, tables_of};
+ghost use Rattle.reg_service.specs.Answered.{AreAs, AreUpToDate, Shows};
+ghost use Rattle.reg_service.specs.Registries.{AreDamaged, AreOne, IsBrought, IsFirstFailing, IsNew, LeavesOpened, has_stopped, limits_of, tables_of};
 ghost use Rattle.reg_tables.specs.Works.{AreOurs, edition_in, is_shut, shown};
 
 use crate::registry::Registry;
@@ -16,8 +16,7 @@ use reg_audit::{Check, audit};
 use reg_body::Limits;
 use reg_line::is_base;
 use reg_model::laws::soundness_law;
-use reg_opening::laws::opening_law;
-use reg_tables::laws::migrate_law;
+use reg_opening::laws::{edition_law, rows_law};
 use reg_tables::{Edition, MakeFault, Tables};
 use sqlite::{Alter, Connection};
 use std::alloc::Global;
@@ -44,7 +43,8 @@ fn brought_up<S: Alter>(
     ensures up_to_date { IfOk result (λ r. AreUpToDate S.Store (tables_of r)) }
     ensures limited { IfOk result (λ r. limits_of r ≡ limits) }
     ensures goes_on { IfOk result (λ r. has_stopped r ≡ is_shut tables) }
-    ensures same { edition_in tables ≡ Edition.Second → IfOk result (λ r. tables_of r ≡ tables) }
+    ensures brought { IfOk result (λ r. HasCleanDisk (shown S.Store (tables_of r))
+        → IsBrought (edition_in tables) (shown S.Store tables) (shown S.Store (tables_of r))) }
     ensures clean { IfOk result (λ r. HasCleanDisk (shown S.Store (tables_of r))
         → HasCleanDisk (shown S.Store tables)) }
     ensures refused { IfErr result (λ e. e.0 ≡ OpenFault.Storage) }
@@ -68,17 +68,10 @@ fn examined<S: Alter>(
     ensures up_to_date { IfOk result (λ r. AreUpToDate S.Store (tables_of r)) }
     ensures limited { IfOk result (λ r. limits_of r ≡ limits) }
     ensures goes_on { IfOk result (λ r. has_stopped r ≡ is_shut tables) }
-    ensures same { edition_in tables ≡ Edition.Second → IfOk result (λ r. (s : _)
-        → HasCleanDisk (shown S.Store (tables_of r)) → Shows s (shown S.Store tables)
-        → Shows s (shown S.Store (tables_of r))) }
+    ensures brought { IfOk result (λ r. HasCleanDisk (shown S.Store (tables_of r))
+        → IsBrought (edition_in tables) (shown S.Store tables) (shown S.Store (tables_of r))) }
     ensures clean { IfOk result (λ r. HasCleanDisk (shown S.Store (tables_of r))
         → HasCleanDisk (shown S.Store tables)) }
-    ensures left { edition_in tables ≡ Edition.Second → IfOk result (λ r.
-        HasCleanDisk (shown S.Store (tables_of r)) → (db : _)
-        → (shown S.Store (tables_of r)).may_leave db → (shown S.Store tables).may_leave db) }
-    ensures was_open { edition_in tables ≡ Edition.Second → IfOk result (λ r.
-        HasCleanDisk (shown S.Store (tables_of r)) → IsTrue (shown S.Store (tables_of r)).is_open
-        → IsTrue (shown S.Store tables).is_open) }
     ensures passed { IfOk result (λ r. HasCleanDisk (shown S.Store (tables_of r))
         → IsFirstFailing (edition_in tables) (shown S.Store tables).now None) }
     ensures known { IfErr result (λ e. e.0 ≢ OpenFault.UnknownSchema) }
@@ -110,16 +103,15 @@ impl<S: Alter> Registry<S> {
         ensures up_to_date { IfOk result (λ r. AreUpToDate S.Store (tables_of r)) }
         ensures goes_on { IfOk result (λ r. has_stopped r ≡ false) }
         ensures limited { IfOk result (λ r. limits_of r ≡ limits) }
-        ensures same { IfOk result (λ r. (s : _) → HasCleanDisk (shown S.Store (tables_of r))
-            → (state S.Store conn).now.schema ≢ old_schema → Are s (state S.Store conn).now.trees
+        ensures same { IfOk result (λ r. HasCleanDisk (shown S.Store (tables_of r))
+            → (edition : Edition) (s : _) → (state S.Store conn).now.schema ≡ schema_of edition
+            → AreAs edition s (state S.Store conn).now.trees
             → Shows s (shown S.Store (tables_of r))) }
         ensures sound { IfOk result (λ r. HasCleanDisk (shown S.Store (tables_of r))
             → IsTrue (shown S.Store (tables_of r)).is_open
-            → (state S.Store conn).now.schema ≢ old_schema
-            → AreOne (state S.Store conn).now.trees (shown S.Store (tables_of r)).now.trees) }
+            → AreOne (state S.Store conn).now (shown S.Store (tables_of r)).now.trees) }
         ensures left { IfOk result (λ r. HasCleanDisk (shown S.Store (tables_of r))
-            → (state S.Store conn).now.schema ≢ old_schema → (db : _)
-            → (shown S.Store (tables_of r)).may_leave db → (state S.Store conn).may_leave db) }
+            → LeavesOpened (state S.Store conn) (shown S.Store (tables_of r))) }
         ensures unknown { IfErr result (λ e. HasCleanDisk (state S.Store e.1)
             → e.0 ≡ OpenFault.UnknownSchema → (edition : Edition)
             → (state S.Store conn).now.schema ≡ schema_of edition
@@ -130,8 +122,8 @@ impl<S: Alter> Registry<S> {
         ensures undone { IfErr result (λ e. HasCleanDisk (state S.Store e.1)
             → e.0 ≢ OpenFault.Storage → IsUndone (state S.Store conn) (state S.Store e.1)) }
     {
-        opening_law();
-        migrate_law();
+        edition_law();
+        rows_law(&conn);
         match Tables::adopt(alloc, conn) {
             Ok(tables) => examined(alloc, tables, limits),
             Err((MakeFault::UnknownSchema, conn)) => Err((OpenFault::UnknownSchema, conn)),

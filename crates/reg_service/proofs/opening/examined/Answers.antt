@@ -4,6 +4,7 @@ use Rattle.sqlite.specs.State.{HasCleanDisk}
 use Rattle.reg_stored.proofs.Results.{if_ok}
 use Rattle.reg_tables.specs.Works.{edition_in, shown}
 use Rattle.reg_service.specs.Registries.{IsFirstFailing}
+use Rattle.reg_service.proofs.Opened.{examined_brought}
 use Rattle.reg_service.proofs.opening.examined.Goals as goal
 
 pub returns-in-Ok-Some-clause-found : goal.returns-in-Ok-Some-clause-found
@@ -14,3 +15,7 @@ returns-in-Ok-Some-clause-found g c clean check is =
 pub returns-in-Ok-None-clause-passed : goal.returns-in-Ok-None-clause-passed
 returns-in-Ok-None-clause-passed g c =
     if_ok c.brought_up.result (λ r early clean. subst (λ it. IsFirstFailing (edition_in c.args.tables) (shown g.S.Store c.args.tables).now it) c.in-Ok-None.field-0-is (c.in-Ok-None.ensures.found (early clean))) c.brought_up.ensures.clean
+
+pub returns-in-Ok-None-clause-brought : goal.returns-in-Ok-None-clause-brought
+returns-in-Ok-None-clause-brought g c =
+    examined_brought g.S.Store c.args.tables c.audit.new.tables c.brought_up.result c.requires c.audit.ensures.ours c.audit.ensures.edition c.audit.ensures.kept c.audit.ensures.survives c.brought_up.ensures.clean c.brought_up.ensures.brought
