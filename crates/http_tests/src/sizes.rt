@@ -74,7 +74,13 @@ repeat 1 >: x
 < content-length: 57
 <
 <: {"errors":[{"detail":"B3 metadata or archive too long"}]}
-= 1
+= 1"#;
+    play(&rt, script);
+}
+
+#[test]
+fn larger_archive_taken(rt: HostRuntime) {
+    let script = r#"given two-accounts
 stream
 > PUT /api/v1/crates/new HTTP/1.1
 > host: r

@@ -1,5 +1,5 @@
 -- What could not be judged still can't while no line ends.
-use Rattle.std.proofs.Common.{◌≡◌, ℕ, ◌+◌, ◌-◌, ◌<◌, ◌≤◌, ◌⊎◌, inl, inr, List, [], ◌∷◌, ◌++◌, length, get_or, take, drop, refl, sym, ap, ◌∙◌, subst, arith, length-append}
+use Rattle.std.proofs.Common.{◌≡◌, ℕ, ◌+◌, ◌-◌, ◌<◌, ◌≤◌, inl, inr, [], ◌∷◌, ◌++◌, length, get_or, take, drop, sym, ap, ◌∙◌, subst, arith, length-append}
 use Rattle.std.proofs.lemmas.Bool.{cases_lt}
 use Rattle.std.proofs.lemmas.List.{take-append-le, length-take-le, get_or-take}
 use Rattle.std.proofs.Math.Seq.{drop-append_seam, get_or-append_right, get_or-append_seam}
@@ -13,17 +13,17 @@ use Rattle.reg_receiving.specs.Taking.{HasNoLine}
 line_before : (b p : Text) (n : ℕ) → n ≤ length (b ++ p) → HasNoLine p → EndsLine (take n (b ++ p)) → n ≤ length b
 line_before b p n fits none (line, ends) =
     elim (cases_lt (length b) n) as (λ _. n ≤ length b) [
-      inr le ↦ le
-    | inl over ↦
-        let size : n ≡ length line + 1 =
-        omega (arith, length-take-le n (b ++ p) fits, ap length ends, length-append line (10 ∷ [])) in
-        let at : length line < n = omega arith in
-        let in_p : length line - length b < length p = omega (arith, length-append b p) in
-        let past : length b ≤ length line = omega arith in
-        let same = get_or-take n (b ++ p) (length line) 0 at in
-        let seam = get_or-append_seam line 10 [] 0 in
-        absurd (none (length line - length b) in_p
-            (sym (get_or-append_right b p (length line) 0 past) ∙ sym same ∙ ap (λ l. get_or l (length line) 0) ends ∙ seam))
+      | inr le ↦ le
+      | inl over ↦
+          let size : n ≡ length line + 1 =
+          omega (arith, length-take-le n (b ++ p) fits, ap length ends, length-append line (10 ∷ [])) in
+          let at : length line < n = omega arith in
+          let in_p : length line - length b < length p = omega (arith, length-append b p) in
+          let past : length b ≤ length line = omega arith in
+          let same = get_or-take n (b ++ p) (length line) 0 at in
+          let seam = get_or-append_seam line 10 [] 0 in
+          absurd (none (length line - length b) in_p
+          (sym (get_or-append_right b p (length line) 0 past) ∙ sym same ∙ ap (λ l. get_or l (length line) 0) ends ∙ seam))
     ]
 
 pub still_unfinished : (limits : Limits) (b p : Text) → IsUnfinished limits b → HasNoLine p

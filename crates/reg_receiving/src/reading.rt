@@ -91,11 +91,7 @@ pub(crate) fn read_line<R: Read>(
 }
 
 /// Makes room for a body of which so many bytes are missing, and for what one read may bring.
-pub(crate) fn make_room(
-    pending: &mut Vec<u8>,
-    missing: u64,
-    chunk: usize,
-) -> Result<(), AllocError>
+pub(crate) fn make_room(pending: &mut Vec<u8>, missing: u64, chunk: usize) -> Result<(), AllocError>
     ensures { pending.new.items ≡ pending.old.items }
 {
     pending.reserve_exact((missing as usize).saturating_add(chunk))

@@ -1,4 +1,4 @@
-use Rattle.std.proofs.Common.{◌≡◌, arith, ◌∙◌, sym, ap, refl, length}
+use Rattle.std.proofs.Common.{◌≡◌, arith, ◌∙◌}
 use Rattle.reg_receiving.proofs.Adding.{reads_on, spends_some}
 use Rattle.reg_receiving.proofs.Lines.{still_begun}
 use Rattle.reg_receiving.specs.Turns.{reads_of}
