@@ -12,6 +12,8 @@ mod failing;
 #[cfg(test)]
 mod fault;
 #[cfg(test)]
+mod grammar;
+#[cfg(test)]
 mod heads;
 #[cfg(test)]
 mod hostile;
@@ -22,7 +24,13 @@ mod limits;
 #[cfg(test)]
 mod memory;
 #[cfg(test)]
+mod owners;
+#[cfg(test)]
+mod paths;
+#[cfg(test)]
 mod playing;
+#[cfg(test)]
+mod queries;
 #[cfg(test)]
 mod releases;
 #[cfg(test)]
@@ -30,8 +38,12 @@ mod restricted;
 #[cfg(test)]
 mod script;
 #[cfg(test)]
+mod sizes;
+#[cfg(test)]
 mod stream;
 #[cfg(test)]
 mod tokens;
 #[cfg(test)]
 mod trials;
+#[cfg(test)]
+mod trickling;

@@ -1,5 +1,5 @@
 -- Reading a request from a stream.
-use Rattle.std.specs.Prelude.{◌≡◌, ◌⊎◌, ◌+◌, ◌<◌, ◌≤◌, ◌++◌, ℕ, [], length, Option, Result, Ok, Err, ⊤}
+use Rattle.std.specs.Prelude.{◌≡◌, ◌⊎◌, ◌+◌, ◌<◌, ◌≤◌, ◌++◌, ℕ, [], length, get_or, Option, Result, Ok, Err, ⊤}
 use Rattle.std.specs.Io.KnownBytes.{Appends, Consumes, IsAtEnd}
 use Rattle.reg_body.specs.declared.limits.Limits.{Limits}
 use Rattle.reg_heads.specs.Heads.{Facts, IsHeadAt, IsUnfinished}
@@ -27,6 +27,10 @@ pub record Keeps (limits : Limits) (bytes : Text) (b : Begun) (f : Facts) : Type
   pub close : b.close ≡ f.close
   pub only : b.is_head ≡ is_head f
 
+-- no line ends among the bytes
+abbrev pub HasNoLine : Text → Type 0
+HasNoLine bytes = (k : ℕ) → k < length bytes → get_or bytes k 0 ≡ 10 → ⊥
+
 -- the reader's bytes before and after, and the bytes that wait before and after
 module _ (r0 r1 : Option Text) (was now : Text) where
   -- some bytes were read, and this holds of all that wait with them
@@ -41,6 +45,15 @@ module _ (r0 r1 : Option Text) (was now : Text) where
   IsPiece (Err ReadFault) = Reads (λ rest. now ≡ rest) × (now ≡ was)
   IsPiece (Err TooManyTurns) = Reads (λ rest. now ≡ rest) × (now ≡ was)
   IsPiece (Err fault) = ⊥
+
+  -- what was found where more of a head was waited for
+  abbrev pub IsLine : Limits → Result Piece StreamFault → Type 0
+  IsLine limits (Ok piece.End) = Reads (λ rest. IsUnfinished limits rest) × IsAtEnd r1
+  IsLine limits (Ok piece.More) = Reads (λ rest. now ≡ rest)
+  IsLine limits (Ok piece.NoMemory) = Reads (λ rest. ⊤)
+  IsLine limits (Err ReadFault) = Reads (λ rest. IsUnfinished limits rest)
+  IsLine limits (Err TooManyTurns) = Reads (λ rest. IsUnfinished limits rest)
+  IsLine limits (Err fault) = ⊥
 
   -- what was found where a head was waited for
   abbrev pub Awaits : Limits → Result Awaited StreamFault → Type 0

@@ -7,7 +7,7 @@ ghost use Rattle.reg_receiving.specs.Taking.{Awaits, Fills, Takes};
 ghost use Rattle.reg_receiving.specs.Turns.{Sends, Spends, reads_of, tally, writes_of};
 
 use crate::fault::StreamFault;
-use crate::reading::{Piece, read_piece};
+use crate::reading::{Piece, make_room, read_line, read_piece};
 use crate::turns::send;
 use reg_body::{Counted, Limits};
 use reg_heads::laws::{append_law, bounds_law};
@@ -96,7 +96,7 @@ fn await_head<R: Read>(
             Ok(HeadRead::Refused(rule, only)) => return Ok(Awaited::Refused(rule, only)),
             Err(_) => return Ok(Awaited::Refused(Rule::S1, false)),
         }
-        match read_piece(r, chunk, pending, left)? {
+        match read_line(r, chunk, pending, limits, left)? {
             Piece::More => {}
             Piece::End => return Ok(Awaited::End),
             Piece::NoMemory => return Ok(Awaited::Refused(Rule::S1, false)),
@@ -121,6 +121,10 @@ fn await_rest<R: Read>(
     ensures spends { Spends left.old left.new (reads_of r.old) (reads_of r.new) result }
     ensures chunk { length chunk.new ≡ length chunk.old }
 {
+    let missing = body_len.saturating_sub((pending.len() - len) as u64);
+    if missing > 0 && make_room(pending, missing, chunk.len()).is_err() {
+        return Ok(Rest::NoMemory);
+    }
     'pieces: while ((pending.len() - len) as u64) < body_len {
         match read_piece(r, chunk, pending, left)? {
             Piece::More => {}

@@ -6,7 +6,7 @@ use Rattle.reg_receiving.proofs.taking.await_head.Goals as goal
 
 pub returns-in-NoMemory-clause-awaits : goal.returns-in-NoMemory-clause-awaits
 returns-in-NoMemory-clause-awaits g c =
-    let p = rw c.in-NoMemory.is at c.in_ok-read_piece.ensures.piece in
+    let p = rw c.in-NoMemory.is at c.in_ok-read_line.ensures.line in
     let read = g.R.Read.remaining in
-    reads_on (read c.args.r.now.inner) (read c.judged.r.inner) (read c.read_piece.new.r.inner) c.args.pending.now.items c.judged.pending.items c.read_piece.new.pending.items
+    reads_on (read c.args.r.now.inner) (read c.judged.r.inner) (read c.read_line.new.r.inner) c.args.pending.now.items c.judged.pending.items c.read_line.new.pending.items
     (λ rest. IsRefused c.args.limits.now rest [] rule.S1 false) c.judged.invariant.reads (p.0, p.1, inr (refl, inl (refl, refl)))
