@@ -12,6 +12,10 @@ mod bytes;
 #[cfg(test)]
 mod calls;
 #[cfg(test)]
+mod converting;
+#[cfg(test)]
+mod counted;
+#[cfg(test)]
 mod line_calls;
 #[cfg(test)]
 mod lines;

@@ -1,5 +1,6 @@
 -- One request is answered.
 use Rattle.std.specs.Prelude.{◌≡◌, Bool, None, Option, Result, Some}
+use Rattle.std.specs.Option.{option_map}
 use Rattle.sqlite.specs.State.{HasCleanDisk}
 use Rattle.sqlite_trees.specs.declared.store.Store.{Ghosts}
 use Rattle.reg_body.specs.declared.limits.Limits.{Limits}
@@ -12,6 +13,8 @@ use Rattle.reg_receiving.specs.Turns.{Streams}
 use Rattle.reg_receiving.specs.declared.fault.StreamFault.{StreamFault}
 use Rattle.reg_requests.specs.Requests.{request_from}
 use Rattle.reg_requests.specs.Views.{event_of}
+use Rattle.reg_requests.specs.Wants.{wants_of}
+use Rattle.reg_requests.specs.declared.request.ApiRequest.{ApiRequest}
 use Rattle.reg_service.specs.Answered.{Answers, AreUpToDate, Shows}
 use Rattle.reg_service.specs.Registries.{limits_of, tables_of}
 use Rattle.reg_service.specs.declared.registry.Registry.{Registry}
@@ -20,6 +23,7 @@ use Rattle.reg_tables.specs.Works.{shown}
 use Rattle.reg_http.specs.Exchanges.{IsOutcome, Outcome, outcome_text}
 use Rattle.reg_http.specs.Exchanges.Outcome.{Answered}
 use Rattle.reg_routes.specs.Routing.{Routing}
+use Rattle.reg_routes.specs.Routing.Routing.{Wants as to_wants}
 use Rattle.reg_routes.specs.declared.fault.RouteFault.{RouteFault}
 use Rattle.reg_routes.specs.declared.fault.RouteFault.TheVariants.{Memory, Method, NoRoute}
 use Rattle.reg_sending.specs.Texts.{refusal_text}
@@ -46,6 +50,13 @@ abbrev pub IsReplied : {S : Type 0} → Ghosts S → Limits → Facts → Routin
 IsReplied g limits f there close old new w0 w1 r =
     HasCleanDisk (shown g new) → (s : model.Registry) → Shows s (shown g old)
     → Replies g limits f there close s old new w0 w1 r
+
+-- what the request wants is replied so, whatever else its head tells
+abbrev pub IsRequestReplied : {S : Type 0} → Ghosts S → Limits → ApiRequest → Bool → Tables S
+    → Tables S → Option Text → Option Text → Result (Unit {0}) StreamFault → Type 0
+IsRequestReplied g limits request close old new w0 w1 r =
+    (f : Facts) → f.token ≡ option_map (λ t. t.now) request.token
+    → IsReplied g limits f (to_wants (wants_of request.wanted)) close old new w0 w1 r
 
 -- the registry goes on: its tables are ours, and its limits the same
 pub record GoesOn {S : Type 0} (g : Ghosts S) (old new : Registry S) : Type 0 where

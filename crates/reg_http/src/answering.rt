@@ -1,19 +1,16 @@
 //! One request is routed, and answered by the registry.
 
 ghost use Rattle.std.specs.Prelude.{◌≡◌, ◌+◌, ◌^◌, ◌<◌, None, OnOk, Some, drop};
-ghost use Rattle.std.specs.Option.{option_map};
 ghost use Rattle.reg_heads.specs.Reads.{facts_of};
 ghost use Rattle.reg_heads.specs.Heads.{Facts, IsHeadAt};
 ghost use Rattle.reg_receiving.specs.Begun.{is_head};
 ghost use Rattle.reg_receiving.specs.Turns.{Sends, Spends, writes_of};
 ghost use Rattle.reg_routes.specs.Routing.{routing_of};
-ghost use Rattle.reg_routes.specs.Routing.Routing.{Wants as to_wants};
 ghost use Rattle.reg_sending.specs.Texts.{refusal_text};
 ghost use Rattle.reg_service.specs.Answered.{AreUpToDate};
 ghost use Rattle.reg_service.specs.Registries.{limits_of, tables_of};
-ghost use Rattle.reg_requests.specs.Wants.{wants_of};
 ghost use Rattle.reg_service.specs.Streamed.{AsksForFile};
-ghost use Rattle.reg_http.specs.Answering.{GoesOn, IsReplied, fault_text};
+ghost use Rattle.reg_http.specs.Answering.{GoesOn, IsReplied, IsRequestReplied, fault_text};
 
 use reg_body::Counted;
 use reg_heads::laws::{bounds_law, one_head_law};
@@ -91,9 +88,8 @@ fn send_index<W: Write, S: Alter>(
     requires tables { AreUpToDate S.Store (tables_of registry.old) }
     requires room { w.old.calls + left.old < 2 ^ 64 }
     requires file { AsksForFile request.now.wanted }
-    ensures replied { (f : Facts) → f.token ≡ option_map (λ t. t.now) request.now.token
-        → IsReplied S.Store (limits_of registry.old) f (to_wants (wants_of request.now.wanted))
-        close (tables_of registry.old) (tables_of registry.new)
+    ensures replied { IsRequestReplied S.Store (limits_of registry.old) request.now close
+        (tables_of registry.old) (tables_of registry.new)
         (W.contents w.old.inner) (W.contents w.new.inner) result }
     ensures spends { Spends left.old left.new (writes_of w.old) (writes_of w.new) result }
     ensures fewer { OnOk result (left.new < left.old) }
@@ -123,9 +119,8 @@ fn send_answer<W: Write, S: Alter>(
 ) -> Result<(), StreamFault>
     requires tables { AreUpToDate S.Store (tables_of registry.old) }
     requires room { w.old.calls + left.old < 2 ^ 64 }
-    ensures replied { (f : Facts) → f.token ≡ option_map (λ t. t.now) request.now.token
-        → IsReplied S.Store (limits_of registry.old) f (to_wants (wants_of request.now.wanted))
-        close (tables_of registry.old) (tables_of registry.new)
+    ensures replied { IsRequestReplied S.Store (limits_of registry.old) request.now close
+        (tables_of registry.old) (tables_of registry.new)
         (W.contents w.old.inner) (W.contents w.new.inner) result }
     ensures spends { Spends left.old left.new (writes_of w.old) (writes_of w.new) result }
     ensures fewer { OnOk result (left.new < left.old) }
@@ -147,9 +142,8 @@ fn answer<W: Write, S: Alter>(
 ) -> Result<(), StreamFault>
     requires tables { AreUpToDate S.Store (tables_of registry.old) }
     requires room { w.old.calls + left.old < 2 ^ 64 }
-    ensures replied { (f : Facts) → f.token ≡ option_map (λ t. t.now) request.now.token
-        → IsReplied S.Store (limits_of registry.old) f (to_wants (wants_of request.now.wanted))
-        close (tables_of registry.old) (tables_of registry.new)
+    ensures replied { IsRequestReplied S.Store (limits_of registry.old) request.now close
+        (tables_of registry.old) (tables_of registry.new)
         (W.contents w.old.inner) (W.contents w.new.inner) result }
     ensures spends { Spends left.old left.new (writes_of w.old) (writes_of w.new) result }
     ensures fewer { OnOk result (left.new < left.old) }

@@ -6,7 +6,7 @@ use Rattle.reg_model.specs.declared.rule.AdminRefusal.TheVariants as refusal
 use Rattle.reg_policy.specs.Words.{admin_text_of}
 use Rattle.reg_receiving.specs.declared.fault.StreamFault.{StreamFault}
 use Rattle.reg_receiving.specs.declared.fault.StreamFault.TheVariants as stream
-use Rattle.reg_pipe.specs.declared.exit.Exit.{Exit}
+use Rattle.reg_converting.specs.declared.exit.Exit.{Exit}
 use Rattle.reg_pipe.specs.declared.setup.SetupFault.{SetupFault}
 use Rattle.reg_pipe.specs.declared.setup.SetupFault.TheVariants.{Memory, Refused, Unreadable}
 

@@ -9,7 +9,7 @@ use Rattle.reg_receiving.specs.Turns.{Spends, tally}
 use Rattle.reg_receiving.specs.declared.fault.StreamFault.{StreamFault}
 use Rattle.reg_tables.specs.declared.tables.Tables.{Tables}
 use Rattle.reg_http.specs.Streams.{Serves}
-use Rattle.reg_pipe.specs.declared.exit.Exit.{Exit}
+use Rattle.reg_converting.specs.declared.exit.Exit.{Exit}
 use Rattle.reg_pipe.specs.declared.setup.SetupFault.{SetupFault}
 use Rattle.reg_pipe.specs.Exits.{EndsSetup, EndsStream}
 use Rattle.reg_pipe.specs.Setups.{HasDoneAlone, IsSetUp}

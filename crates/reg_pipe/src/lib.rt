@@ -10,6 +10,6 @@ mod exit;
 mod pipe;
 mod setup;
 
-pub use exit::Exit;
+pub use exit::exit_of_refusal;
 pub use pipe::run_pipe;
 pub use setup::{SetupFault, run_setup};

@@ -9,9 +9,10 @@ ghost use Rattle.reg_http.specs.Answering.{GoesOn};
 ghost use Rattle.reg_pipe.specs.Lines.{lines_in};
 ghost use Rattle.reg_pipe.specs.Piped.{IsPiped, SpendsIfServed};
 
-use crate::exit::Exit;
+use crate::exit::{exit_of_setup, exit_of_stream};
 use crate::setup::run_setup;
 use reg_body::Counted;
+use reg_converting::Exit;
 use reg_http::serve_stream;
 use reg_service::Registry;
 use sqlite::Alter;
@@ -41,7 +42,7 @@ pub fn run_pipe<R: Read, W: Write, S: Alter>(
     ensures keeps { GoesOn S.Store registry.old registry.new }
 {
     if let Err(fault) = run_setup(alloc, registry, setup) {
-        return Exit::of_setup(fault);
+        return exit_of_setup(fault);
     }
-    Exit::of_stream(serve_stream(alloc, registry, r, w))
+    exit_of_stream(serve_stream(alloc, registry, r, w))
 }

@@ -1,5 +1,2 @@
-pub mod Answers
-pub mod Ends
-pub mod Faults
 pub mod Limited
 pub mod Tasks

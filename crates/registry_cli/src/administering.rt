@@ -14,7 +14,8 @@ use crate::store::{close, connect, open};
 use crate::tokens::{TokenText, make_token};
 use clap::ArgMatches;
 use reg_body::Limits;
-use reg_pipe::Exit;
+use reg_converting::Exit;
+use reg_pipe::exit_of_refusal;
 use reg_policy::{AdminCommand, AdminReply};
 use reg_service::Registry;
 use reg_words::{NewToken, Order, read_order, read_report};
@@ -30,7 +31,7 @@ fn obey<S: Alter>(rt: &HostRuntime, registry: &mut Registry<S>, command: &AdminC
         Ok(AdminReply::Done) => Exit::DONE,
         Ok(AdminReply::Id(id)) => print_token(rt, id, None),
         Ok(AdminReply::Text(text)) => print(rt, &text),
-        Err(refusal) => Exit::of_refusal(refusal),
+        Err(refusal) => exit_of_refusal(refusal),
     }
 }
 
@@ -60,7 +61,7 @@ fn add_token<S: Alter>(rt: &HostRuntime, registry: &mut Registry<S>, token: &New
     match registry.command(rt.alloc(), &token.command(&made.digest)) {
         Ok(AdminReply::Id(id)) => print_token(rt, id, made.text.as_ref()),
         Ok(_) => Exit::DONE,
-        Err(refusal) => Exit::of_refusal(refusal),
+        Err(refusal) => exit_of_refusal(refusal),
     }
 }
 

@@ -3,7 +3,7 @@
 ghost use Rattle.reg_service.specs.Answered.{AreUpToDate};
 ghost use Rattle.reg_service.specs.Registries.{tables_of};
 
-use reg_pipe::Exit;
+use reg_converting::Exit;
 use reg_service::Registry;
 use sqlite::Alter;
 use std::alloc::AllocError;

@@ -14,10 +14,7 @@
 #![tactic(auto)]
 
 mod administering;
-mod ends;
 mod exporting;
-mod fault;
-mod line;
 mod printing;
 mod serving;
 mod store;
@@ -26,7 +23,7 @@ mod tests;
 mod tokens;
 mod words;
 
-use reg_pipe::Exit;
+use reg_converting::Exit;
 use std::alloc::Global;
 use std::io::ErrorKind;
 use std::process::ExitCode;

@@ -1,6 +1,6 @@
 //! Standard output.
 
-use reg_pipe::Exit;
+use reg_converting::Exit;
 use std::io::{self, Write};
 
 /// Standard output failed.

@@ -6,7 +6,7 @@ ghost use Rattle.reg_service.specs.Answered.{AreUpToDate};
 ghost use Rattle.reg_service.specs.Registries.{limits_of, tables_of};
 
 use reg_body::Limits;
-use reg_pipe::Exit;
+use reg_converting::Exit;
 use reg_service::{Check, OpenFault, Registry};
 use sqlite::{Alter, Connection, File, FileStore};
 use std::alloc::Global;

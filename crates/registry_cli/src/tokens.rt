@@ -1,8 +1,8 @@
 //! The texts of new tokens.
 
 use hex::encode_to_slice;
+use reg_converting::Exit;
 use reg_line::{Digest, digest_of};
-use reg_pipe::Exit;
 use reg_words::TokenSource;
 use std::fs;
 use std::io::Read;

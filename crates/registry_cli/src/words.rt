@@ -1,13 +1,12 @@
 //! The words of the command line.
 
 use crate::administering::administer;
-use crate::line::run_line;
 use crate::printing::NO_WRITING;
 use crate::serving::{init, pipe, serve};
 use clap::error::ErrorKind;
 use clap::{Arg, ArgAction, ArgMatches, Command, Error};
 use reg_body::{Counted, Limits};
-use reg_pipe::Exit;
+use reg_converting::{Exit, run_line};
 use reg_words::{Shape, option, with_file, with_orders, with_reports, word};
 use std::alloc::{AllocError, Global};
 

@@ -1,7 +1,8 @@
 //! A setup file and a stream after it.
 
 use reg_body::{Counted, Limits};
-use reg_pipe::{Exit, run_pipe};
+use reg_converting::Exit;
+use reg_pipe::run_pipe;
 use reg_service::Registry;
 use sqlite::Connection;
 use std::alloc::{AllocError, Global};

@@ -10,7 +10,7 @@ returns-in-Err-clause-piped g c clean s shows alone =
     inl (record {
       fault = c.in-Err.fault;
       set_up = c.in-Err.ensures.done clean s shows alone;
-      ends = c.of_setup.ensures;
+      ends = c.exit_of_setup.ensures;
       unread = refl;
       unwritten = refl;
     })
@@ -24,5 +24,5 @@ returns-clause-piped g c clean s shows alone =
       result = c.serve_stream.result;
       serves = subst (λ l. Serves g.S.Store l up.done.after (tables_of c.serve_stream.new.registry) (g.R.Read.remaining c.args.r.now.inner) (g.R.Read.remaining c.serve_stream.new.r.inner) (g.W.Write.contents c.args.w.now.inner) (g.W.Write.contents c.serve_stream.new.w.inner) c.serve_stream.result)
           c.run_setup.ensures.keeps.limits (c.serve_stream.ensures.serves clean up.done.after up.done.ran.shows up.alone);
-      ends = c.of_stream.ensures;
+      ends = c.exit_of_stream.ensures;
     })

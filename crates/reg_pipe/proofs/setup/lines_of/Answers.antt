@@ -11,7 +11,7 @@ pub returns-then-is_empty : goal.returns-then-is_empty
 returns-then-is_empty c =
     let now = λ (l : Bor (List ℕ)). l.now in
     let pieces = map_from_collect {E = AllocError} (Ok c.in_ok-lines.lines) c.in_ok-lines.ensures.ran
-        (YieldsList-from_str_split 10 c.args.text.now (lit< tt) c.split.ensures.text c.split.ensures.has_more c.split.ensures.pattern) in
+    (YieldsList-from_str_split 10 c.args.text.now (lit< tt) c.split.ensures.text c.split.ensures.has_more c.split.ensures.pattern) in
     cut _ (map now c.pop.new.self.items) c.in-Some.last.now
     (sym pieces ∙ ap (map now) c.in-Some.ensures.items ∙ map-append now c.pop.new.self.items (c.in-Some.last ∷ []))
     (no_bytes c.in-Some.last.now (eqb-true (length c.in-Some.last.now) 0 (sym c.is_empty.ensures ∙ c.if-is_empty.true)))
@@ -20,7 +20,7 @@ pub returns : goal.returns
 returns c =
     let now = λ (l : Bor (List ℕ)). l.now in
     let pieces = map_from_collect {E = AllocError} (Ok c.in_ok-lines.lines) c.in_ok-lines.ensures.ran
-        (YieldsList-from_str_split 10 c.args.text.now (lit< tt) c.split.ensures.text c.split.ensures.has_more c.split.ensures.pattern) in
+    (YieldsList-from_str_split 10 c.args.text.now (lit< tt) c.split.ensures.text c.split.ensures.has_more c.split.ensures.pattern) in
     ap (map now) c.in_ok-push.ensures.items ∙ map-append now c.pop.new.self.items (c.in-Some.last ∷ [])
     ∙ kept _ (map now c.pop.new.self.items) c.in-Some.last.now
     (sym pieces ∙ ap (map now) c.in-Some.ensures.items ∙ map-append now c.pop.new.self.items (c.in-Some.last ∷ []))

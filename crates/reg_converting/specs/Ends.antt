@@ -2,8 +2,8 @@
 use Rattle.std.specs.Prelude.{◌≡◌, ℕ, ◌+◌, ◌<◌, List, ◌++◌, length, Option, Result, Ok, Err}
 use Rattle.std.specs.Io.KnownBytes.{Appends}
 use Rattle.reg_body.specs.Counting.{CountedEnd}
-use Rattle.registry_cli.specs.declared.ends.EndFault.{EndFault}
-use Rattle.registry_cli.specs.declared.ends.EndFault.TheVariants.{Failed, Spent, Memory}
+use Rattle.reg_converting.specs.declared.ends.EndFault.{EndFault}
+use Rattle.reg_converting.specs.declared.ends.EndFault.TheVariants.{Failed, Spent, Memory}
 
 -- known bytes grow by a front of bs, and some of bs is left
 pub record AppendsFront (old new : Option (List ℕ)) (bs : List ℕ) : Type 0 where

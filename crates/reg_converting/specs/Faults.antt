@@ -3,8 +3,8 @@ use Rattle.std.specs.Prelude.{ℕ, List}
 use Rattle.reg_body.specs.Words as body
 use Rattle.reg_manifest.specs.Words as metadata
 use Rattle.reg_manifest.specs.declared.fault.ManifestFault.TheVariants as manifest
-use Rattle.registry_cli.specs.declared.fault.LineFault.{LineFault}
-use Rattle.registry_cli.specs.declared.fault.LineFault.TheVariants as fault
+use Rattle.reg_converting.specs.declared.fault.LineFault.{LineFault}
+use Rattle.reg_converting.specs.declared.fault.LineFault.TheVariants as fault
 
 -- want of memory, which is no rule
 abbrev pub memory : LineFault

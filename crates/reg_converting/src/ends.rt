@@ -2,7 +2,7 @@
 
 ghost use Rattle.std.specs.Prelude.{◌≡◌, ◌+◌, ◌^◌, ◌<◌, ◌≤◌, IfOk, IfSome, IsErrOf, OnErr, OnOk, vec_len};
 ghost use Rattle.std.specs.Io.KnownBytes.{Appends, IsAtEnd};
-ghost use Rattle.registry_cli.specs.Ends.{AppendsFront, TellsFailure};
+ghost use Rattle.reg_converting.specs.Ends.{AppendsFront, TellsFailure};
 
 use reg_body::Counted;
 use std::alloc::{AllocError, Global};
@@ -24,7 +24,7 @@ pub enum EndFault {
 
 impl From<io::Error> for EndFault {
     ghost use Rattle.std.specs.Prelude.{◌≡◌};
-    ghost use Rattle.registry_cli.specs.declared.ends.EndFault.TheVariants.{Failed};
+    ghost use Rattle.reg_converting.specs.declared.ends.EndFault.TheVariants.{Failed};
 
     ghost from_gives = { λ _ fault. fault ≡ Failed };
 
@@ -35,7 +35,7 @@ impl From<io::Error> for EndFault {
 
 impl From<AllocError> for EndFault {
     ghost use Rattle.std.specs.Prelude.{◌≡◌};
-    ghost use Rattle.registry_cli.specs.declared.ends.EndFault.TheVariants.{Memory};
+    ghost use Rattle.reg_converting.specs.declared.ends.EndFault.TheVariants.{Memory};
 
     ghost from_gives = { λ _ fault. fault ≡ Memory };
 

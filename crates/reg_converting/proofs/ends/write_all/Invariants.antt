@@ -1,7 +1,7 @@
 use Rattle.std.proofs.Common.{◌≡◌, ◌+◌}
 use Rattle.std.proofs.Common.{List, ℕ, ◌++◌}
 use Rattle.std.specs.Io.KnownBytes.{Appends}
-use Rattle.registry_cli.proofs.ends.write_all.Given as goal
+use Rattle.reg_converting.proofs.ends.write_all.Given as goal
 
 abbrev pub invariant-loop-turn : goal.invariant-loop-turn
 invariant-loop-turn g l = record {

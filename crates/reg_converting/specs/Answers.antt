@@ -10,11 +10,11 @@ use Rattle.reg_manifest.specs.Manifests.{Metadata}
 use Rattle.reg_manifest.specs.Metadata.{metadata_of}
 use Rattle.reg_manifest.specs.Parsing.{FailsAs}
 use Rattle.reg_line.specs.Line.{line_text}
-use Rattle.registry_cli.specs.Ends.{NoneFailed, OneFailed}
-use Rattle.registry_cli.specs.declared.ends.EndFault.{EndFault}
-use Rattle.registry_cli.specs.declared.ends.EndFault.TheVariants as end
-use Rattle.registry_cli.specs.declared.fault.LineFault.{LineFault}
-use Rattle.registry_cli.specs.declared.fault.LineFault.TheVariants as fault
+use Rattle.reg_converting.specs.Ends.{NoneFailed, OneFailed}
+use Rattle.reg_converting.specs.declared.ends.EndFault.{EndFault}
+use Rattle.reg_converting.specs.declared.ends.EndFault.TheVariants as end
+use Rattle.reg_converting.specs.declared.fault.LineFault.{LineFault}
+use Rattle.reg_converting.specs.declared.fault.LineFault.TheVariants as fault
 
 -- the index path, and the line of a version that is not yanked, whose checksum is the archive's
 abbrev pub printed : Metadata → List ℕ → List ℕ

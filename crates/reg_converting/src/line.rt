@@ -3,18 +3,18 @@
 ghost use Rattle.std.specs.Prelude.{◌≡◌, ◌+◌, ◌<◌, ◌≤◌, ◌^◌, ◌⊎◌, IfErr, IfOk, IfSome, List, ℕ, []};
 ghost use Rattle.std.specs.Io.KnownBytes.{Appends, IsAtEnd};
 ghost use Rattle.reg_manifest.specs.Manifests.{manifest_view};
-ghost use Rattle.registry_cli.specs.Answers.{Breaks, IsAnswer, IsStop, printed, stop_words};
-ghost use Rattle.registry_cli.specs.Ends.{AppendsFront, NoneFailed};
-ghost use Rattle.registry_cli.specs.Faults.{memory, words_of};
-ghost use Rattle.registry_cli.specs.declared.fault.LineFault.{LineFault};
+ghost use Rattle.reg_converting.specs.Answers.{Breaks, IsAnswer, IsStop, printed, stop_words};
+ghost use Rattle.reg_converting.specs.Ends.{AppendsFront, NoneFailed};
+ghost use Rattle.reg_converting.specs.Faults.{memory, words_of};
+ghost use Rattle.reg_converting.specs.declared.fault.LineFault.{LineFault};
 
 use crate::ends::{EndFault, read_all, write_all};
+use crate::exit::Exit;
 use crate::fault::LineFault;
 use reg_body::{Counted, Limits, split};
 use reg_line::{digest_of, line};
 use reg_manifest::{Manifest, ManifestFault, read_manifest};
 use reg_names::{LONGEST_PATH, index_path};
-use reg_pipe::Exit;
 use std::alloc::Global;
 use std::io::{Read, Write};
 

@@ -1,5 +1,5 @@
 use Rattle.std.proofs.Common.{rules}
-use Rattle.registry_cli.proofs.fault.LineFault.words.Goals as goal
+use Rattle.reg_converting.proofs.fault.LineFault.words.Goals as goal
 
 pub returns-in-Body : goal.returns-in-Body
 returns-in-Body c = search rules

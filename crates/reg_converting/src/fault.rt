@@ -1,7 +1,7 @@
 //! Why `line` prints nothing.
 
 ghost use Rattle.std.specs.Prelude.{◌≡◌};
-ghost use Rattle.registry_cli.specs.Faults.{words_of};
+ghost use Rattle.reg_converting.specs.Faults.{words_of};
 
 use reg_body::BodyFault;
 use reg_manifest::ManifestFault;
@@ -29,7 +29,7 @@ impl LineFault {
 }
 
 impl From<BodyFault> for LineFault {
-    ghost use Rattle.registry_cli.specs.declared.fault.LineFault.TheVariants.{Body};
+    ghost use Rattle.reg_converting.specs.declared.fault.LineFault.TheVariants.{Body};
 
     ghost from_gives = { λ e f. f ≡ Body e };
 
@@ -39,7 +39,7 @@ impl From<BodyFault> for LineFault {
 }
 
 impl From<ManifestFault> for LineFault {
-    ghost use Rattle.registry_cli.specs.declared.fault.LineFault.TheVariants.{Manifest};
+    ghost use Rattle.reg_converting.specs.declared.fault.LineFault.TheVariants.{Manifest};
 
     ghost from_gives = { λ e f. f ≡ Manifest e };
 
@@ -49,7 +49,7 @@ impl From<ManifestFault> for LineFault {
 }
 
 impl From<AllocError> for LineFault {
-    ghost use Rattle.registry_cli.specs.Faults.{memory};
+    ghost use Rattle.reg_converting.specs.Faults.{memory};
 
     ghost from_gives = { λ _ f. f ≡ memory };
 
@@ -59,7 +59,7 @@ impl From<AllocError> for LineFault {
 }
 
 impl<T: Drop> From<AllocFailed<T>> for LineFault {
-    ghost use Rattle.registry_cli.specs.Faults.{memory};
+    ghost use Rattle.reg_converting.specs.Faults.{memory};
 
     ghost from_gives = { λ _ f. f ≡ memory };
 

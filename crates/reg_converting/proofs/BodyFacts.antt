@@ -1,8 +1,8 @@
 -- From what the layers below answered to what `line` answers.
 use Rattle.std.proofs.Common.{◌≡◌, List, ℕ, Result, Ok, Err, IfErr, IsErrAnd, subst, sym}
 use Rattle.reg_body.specs.declared.limits.Limits.{Limits}
-use Rattle.registry_cli.specs.Answers.{Breaks}
-use Rattle.registry_cli.specs.declared.fault.LineFault.{LineFault}
+use Rattle.reg_converting.specs.Answers.{Breaks}
+use Rattle.reg_converting.specs.declared.fault.LineFault.{LineFault}
 
 -- a failure breaks what its one fault breaks
 pub fails_by : {A : Type 0} (limits : Limits) (input : List ℕ) (r : Result A LineFault) (f : LineFault) → IfErr r (λ e. e ≡ f) → Breaks limits input f → IfErr r (λ e. Breaks limits input e)

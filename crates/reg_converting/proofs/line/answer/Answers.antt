@@ -1,10 +1,10 @@
 use Rattle.std.proofs.Common.{refl}
 use Rattle.std.proofs.lemmas.Result.{IfOk-weaker}
 use Rattle.reg_manifest.specs.Manifests.{manifest_view}
-use Rattle.registry_cli.specs.Faults.{memory}
-use Rattle.registry_cli.specs.declared.fault.LineFault.TheVariants as fault
-use Rattle.registry_cli.proofs.BodyFacts.{fails_by, passed_on}
-use Rattle.registry_cli.proofs.line.answer.Goals as goal
+use Rattle.reg_converting.specs.Faults.{memory}
+use Rattle.reg_converting.specs.declared.fault.LineFault.TheVariants as fault
+use Rattle.reg_converting.proofs.BodyFacts.{fails_by, passed_on}
+use Rattle.reg_converting.proofs.line.answer.Goals as goal
 
 pub returns-in_err-manifest-clause-broken : goal.returns-in_err-manifest-clause-broken
 returns-in_err-manifest-clause-broken c =

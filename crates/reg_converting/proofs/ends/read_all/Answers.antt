@@ -1,7 +1,7 @@
 use Rattle.std.proofs.Common.{rules}
 use Rattle.std.specs.Io.KnownBytes.{IsAtEnd}
-use Rattle.registry_cli.proofs.EndFacts.{read_none, read_whole}
-use Rattle.registry_cli.proofs.ends.read_all.Goals as goal
+use Rattle.reg_converting.proofs.EndFacts.{read_none, read_whole}
+use Rattle.reg_converting.proofs.ends.read_all.Goals as goal
 
 pub returns-then-count-eq0-clause-all : goal.returns-then-count-eq0-clause-all
 returns-then-count-eq0-clause-all g c =

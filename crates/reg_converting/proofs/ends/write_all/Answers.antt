@@ -1,6 +1,6 @@
 use Rattle.std.proofs.Common.{arith, ◌∙◌}
-use Rattle.registry_cli.proofs.EndFacts.{front_grown}
-use Rattle.registry_cli.proofs.ends.write_all.Goals as goal
+use Rattle.reg_converting.proofs.EndFacts.{front_grown}
+use Rattle.reg_converting.proofs.ends.write_all.Goals as goal
 
 pub loop-turn-preserved : goal.loop-turn-preserved
 loop-turn-preserved g c =
