@@ -13,17 +13,8 @@
 //! memory failed.
 #![tactic(auto)]
 
-mod administering;
-mod exporting;
-mod printing;
-mod serving;
-mod store;
-#[cfg(test)]
-mod tests;
-mod tokens;
-mod words;
-
 use reg_converting::Exit;
+use reg_program::run_words;
 use std::alloc::Global;
 use std::io::ErrorKind;
 use std::process::ExitCode;
@@ -36,7 +27,7 @@ fn command_line(rt: &HostRuntime, alloc: Global) -> io::Result<Vec<String>> {
 
 fn run(rt: &HostRuntime) -> Exit {
     match command_line(rt, rt.alloc()) {
-        Ok(given) => words::run_words(rt, given.as_slice()),
+        Ok(given) => run_words(rt, given.as_slice()),
         Err(error) if error.kind() == ErrorKind::OutOfMemory => Exit::MEMORY,
         Err(_) => Exit::BAD_WORDS,
     }

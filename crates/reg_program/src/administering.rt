@@ -6,7 +6,7 @@ ghost use Rattle.reg_model.specs.Steps.{IsFit};
 ghost use Rattle.reg_policy.specs.Events.{command_of};
 ghost use Rattle.reg_service.specs.Answered.{AreUpToDate};
 ghost use Rattle.reg_service.specs.Registries.{tables_of};
-ghost use Rattle.registry_cli.specs.Tasks.{IsFitTask};
+ghost use Rattle.reg_program.specs.Tasks.{IsFitTask};
 
 use crate::exporting::export_to;
 use crate::printing::print;

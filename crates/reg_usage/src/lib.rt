@@ -1,12 +1,14 @@
-//! The words of the command line.
+//! All subcommands of the program, with their help.
+//!
+//! ```
+//! let matches = read_words(alloc, &words)?;   // registry_cli user-add ada --db registry.db
+//! matches.subcommand_name()                   // Some("user-add")
+//! ```
+//!
+//! `clap` judges how many words there are and which options.
+#![tactic(auto)]
 
-use crate::administering::administer;
-use crate::printing::NO_WRITING;
-use crate::serving::{init, pipe, serve};
-use clap::error::ErrorKind;
 use clap::{Arg, ArgAction, ArgMatches, Command, Error};
-use reg_body::{Counted, Limits};
-use reg_converting::{Exit, run_line};
 use reg_words::{Shape, option, with_file, with_orders, with_reports, word};
 use std::alloc::{AllocError, Global};
 
@@ -138,49 +140,7 @@ fn command<'a>(alloc: Global) -> Result<Command<'a>, AllocError> {
     with_reports(alloc, with_orders(alloc, Shape::Program, command)?)
 }
 
-fn parsed<'a>(alloc: Global, words: &'a [String]) -> Result<ArgMatches<'a>, Error> {
+/// Judges the program's words, its own name first.
+pub fn read_words<'a>(alloc: Global, words: &'a [String]) -> Result<ArgMatches<'a>, Error> {
     command(alloc)?.try_get_matches_from(words)
-}
-
-/// Prints help, or what is wrong with the words.
-fn told(rt: &HostRuntime, error: &Error) -> Exit {
-    if error.kind() == ErrorKind::OutOfMemory {
-        return Exit::MEMORY;
-    }
-    let printed = error.print(rt);
-    if error.use_stderr() {
-        return Exit {
-            status: 2,
-            words: "",
-        };
-    }
-    match printed {
-        Ok(()) => Exit::DONE,
-        Err(_) => NO_WRITING,
-    }
-}
-
-/// `line`, on standard input and output.
-fn line(rt: &HostRuntime) -> Exit {
-    let mut reader = Counted::new(rt.stdin());
-    let mut writer = Counted::new(rt.stdout());
-    run_line(rt.alloc(), &mut reader, &mut writer, &Limits::STANDARD)
-}
-
-/// `run_words` runs the program's words, its own name first.
-/// Help is printed here, on standard output with status 0.
-/// So is what `clap` says of bad words, on standard error with status 2.
-pub fn run_words(rt: &HostRuntime, words: &[String]) -> Exit {
-    let matches = match parsed(rt.alloc(), words) {
-        Ok(matches) => matches,
-        Err(error) => return told(rt, &error),
-    };
-    match matches.subcommand() {
-        Some(("line", _)) => line(rt),
-        Some(("init", inner)) => init(rt, inner),
-        Some(("pipe", inner)) => pipe(rt, inner),
-        Some(("serve", inner)) => serve(rt, inner),
-        Some((name, inner)) => administer(rt, name, inner),
-        None => Exit::BAD_WORDS,
-    }
 }

@@ -1,7 +1,7 @@
 //! The program's words over a file, as scripts: a line for each run, and how it ends behind an
 //! arrow, its status and what it says on standard error.
 
-use crate::words::run_words;
+use reg_program::run_words;
 use std::alloc::{AllocError, Global};
 use std::test::Fail;
 use std::{env, fs, io};

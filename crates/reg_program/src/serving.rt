@@ -3,7 +3,7 @@
 ghost use Rattle.std.specs.Prelude.{◌≡◌};
 ghost use Rattle.reg_service.specs.Answered.{AreUpToDate};
 ghost use Rattle.reg_service.specs.Registries.{limits_of, tables_of};
-ghost use Rattle.registry_cli.specs.Limited.{HasTurns};
+ghost use Rattle.reg_program.specs.Limited.{HasTurns};
 
 use crate::printing::print;
 use crate::store::{close, connect, create, open};

@@ -20,26 +20,11 @@ pub(crate) struct TokenMade {
     pub(crate) text: Option<TokenText>,
 }
 
-/// Fills the buffer from a reader; none where it has too few bytes.
-fn fill<R: Read>(reader: &mut R, bytes: &mut [u8; RANDOM]) -> Option<()> {
-    let mut filled = 0;
-    for _ in 0..RANDOM {
-        if filled == RANDOM {
-            break;
-        }
-        match reader.read(&mut bytes[filled..]) {
-            Ok(0) => return None,
-            Ok(n) => filled += n,
-            Err(_) => return None,
-        }
-    }
-    if filled == RANDOM { Some(()) } else { None }
-}
-
 /// The text that the first bytes of a file make.
 fn random_text(rt: &HostRuntime, file: &str) -> Option<TokenText> {
     let mut bytes = [0; RANDOM];
-    fill(&mut fs::open(rt, file).ok()?, &mut bytes)?;
+    let mut from = fs::open(rt, file).ok()?;
+    from.read_exact(&mut bytes).ok()?;
     let mut text = [0; 64];
     encode_to_slice(bytes.as_slice(), &mut text).ok()?;
     Some(text)

@@ -2,8 +2,8 @@
 use Rattle.reg_model.specs.Events.Event.{Order as to_order}
 use Rattle.reg_model.specs.Steps.{IsFit}
 use Rattle.reg_policy.specs.Events.{command_of}
-use Rattle.registry_cli.specs.declared.administering.Task.{Task}
-use Rattle.registry_cli.specs.declared.administering.Task.TheVariants.{Command}
+use Rattle.reg_program.specs.declared.administering.Task.{Task}
+use Rattle.reg_program.specs.declared.administering.Task.TheVariants.{Command}
 
 -- a command is fit for a registry
 abbrev pub IsFitTask : Task → Type 0

@@ -1,9 +1,6 @@
-//! The program: its words, and a setup with a stream.
+//! Help and bad words.
 
-mod piping;
-mod program;
-
-use crate::words::run_words;
+use reg_program::run_words;
 use std::alloc::{AllocError, Global};
 use std::test::Fail;
 

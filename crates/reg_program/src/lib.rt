@@ -1,0 +1,17 @@
+//! The program, but for its `main`: what each subcommand does with files, standard ends and sockets.
+//!
+//! ```
+//! let exit = run_words(&rt, &words);   // registry_cli user-add ada --db registry.db
+//! // exit.status is 0 where it was done
+//! ```
+#![tactic(auto)]
+
+mod administering;
+mod exporting;
+mod printing;
+mod serving;
+mod store;
+mod tokens;
+mod words;
+
+pub use words::run_words;
