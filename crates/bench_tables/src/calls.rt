@@ -214,17 +214,15 @@ fn find_crates<S: Alter>(alloc: Global, tables: &mut Tables<S>, query: &str) -> 
     }
 }
 
-/// Adds a version of the first crate with this archive, and commits it.
-pub(crate) fn add_archive<S: Alter>(
+fn add_archive<S: Alter>(
     alloc: Global,
     tables: &mut Tables<S>,
-    text: &str,
     archive: &[u8],
 ) -> Result<usize, Fault>
     requires { AreOurs S.Store tables.old }
     ensures { AreOurs S.Store tables.new }
 {
-    let release = release_of(alloc, "Crate-000001", text, archive, None)?;
+    let release = release_of(alloc, "Crate-000001", "0.4.0", archive, None)?;
     let made = TableCall::Crate(CrateCall::AddVersion(1, release));
     Ok(make(alloc, tables, Call::AddArchive, made)?)
 }
@@ -252,7 +250,7 @@ pub(crate) fn once<S: Alter>(
         Call::May(asked) => ask(alloc, tables, asked, given.at),
         Call::WhoMay => count_grants(alloc, tables),
         Call::Audit => Ok(usize::from(audit(alloc, tables)?.is_none())),
-        Call::AddArchive => add_archive(alloc, tables, "0.4.0", given.archive),
+        Call::AddArchive => add_archive(alloc, tables, given.archive),
         _ => make_line(alloc, tables, call, given),
     }
 }

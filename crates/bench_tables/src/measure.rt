@@ -3,7 +3,6 @@
 ghost use Rattle.reg_tables.specs.Works.{AreOurs};
 
 use crate::access::Asked;
-use crate::archives::LENGTH;
 use crate::calls::{Call, Given, once};
 use crate::fault::Fault;
 use crate::filling::{fill, fill_indexes};
@@ -56,6 +55,8 @@ const LONG: [Call; 9] = [
     Call::AddArchive,
     Call::ReadArchive,
 ];
+
+const LENGTH: usize = 10_485_760;
 
 /// The number of a crate for each round, far from that of the round before.
 fn number_for(round: u32, crates: u32) -> u32 {

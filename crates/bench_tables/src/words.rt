@@ -3,14 +3,6 @@
 use crate::fault::Fault;
 use std::env;
 
-/// What is asked of a registry of long archives.
-#[derive(Clone, Copy, Debug, PartialEq, Eq)]
-pub(crate) enum Archives {
-    Add,
-    Audit,
-    Digest,
-}
-
 /// What a run is asked for.
 #[derive(Drop)]
 pub(crate) struct Words {
@@ -18,17 +10,6 @@ pub(crate) struct Words {
     pub(crate) crates: u32,
     pub(crate) rounds: u32,
     pub(crate) times: bool,
-    pub(crate) archives: Option<Archives>,
-}
-
-/// What a last word asks of long archives; none where it is a number of rounds.
-fn archives_of(last: &str) -> Option<Archives> {
-    match last {
-        "archives" => Some(Archives::Add),
-        "audit" => Some(Archives::Audit),
-        "digest" => Some(Archives::Digest),
-        _ => None,
-    }
 }
 
 fn number(text: &str) -> Result<u32, Fault> {
@@ -39,40 +20,22 @@ fn number(text: &str) -> Result<u32, Fault> {
 }
 
 impl Words {
-    /// Those of a run over long archives, so many of them.
-    fn of_archives(file: &String, count: &str, asked: Archives) -> Result<Words, Fault> {
-        Ok(Words {
-            file: file.clone()?,
-            crates: number(count)?,
-            rounds: 1,
-            times: true,
-            archives: Some(asked),
-        })
-    }
-
-    fn of_calls(file: &String, crates: &str, rounds: &str, times: bool) -> Result<Words, Fault> {
-        let crates = number(crates)?;
-        let rounds = number(rounds)?;
+    fn read(given: &[String]) -> Result<Words, Fault> {
+        let (file, crates, rounds, times) = match given {
+            [_, file, crates, rounds] => (file, crates, rounds, false),
+            [_, file, crates, rounds, last] if last.as_str() == "times" => {
+                (file, crates, rounds, true)
+            }
+            _ => return Err(Fault::Words),
+        };
+        let crates = number(crates.as_str())?;
+        let rounds = number(rounds.as_str())?;
         Ok(Words {
             file: file.clone()?,
             crates,
             rounds,
             times,
-            archives: None,
         })
-    }
-
-    fn read(given: &[String]) -> Result<Words, Fault> {
-        match given {
-            [_, file, count, last] => match archives_of(last.as_str()) {
-                Some(asked) => Words::of_archives(file, count.as_str(), asked),
-                None => Words::of_calls(file, count.as_str(), last.as_str(), false),
-            },
-            [_, file, crates, rounds, last] if last.as_str() == "times" => {
-                Words::of_calls(file, crates.as_str(), rounds.as_str(), true)
-            }
-            _ => Err(Fault::Words),
-        }
     }
 
     /// The program's words.
