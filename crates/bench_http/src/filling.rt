@@ -9,7 +9,8 @@ use sqlite::Alter;
 use std::alloc::Global;
 use test_service::{Parts, TWO_ACCOUNTS_AND_A, answer, told_text};
 
-const PUBLISHED: &str = r#"Json {"warnings":{"invalid_badges":[],"invalid_categories":[],"other":[]}}"#;
+const PUBLISHED: &str = "Json {\"warnings\":{\"invalid_badges\":[],\"invalid_categories\":[],\
+                         \"other\":[]}}";
 
 /// Makes a call, whose answer is to be this.
 fn call<S: Alter>(

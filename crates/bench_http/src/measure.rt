@@ -20,6 +20,7 @@ use test_service::BASE;
 /// The kinds that are asked for in each round, and those that are asked for once, where times are
 /// told.
 const MANY: [Kind; 3] = [Kind::Index, Kind::Search, Kind::Publish];
+
 const ONCE: [Kind; 5] = [
     Kind::PublishLong,
     Kind::Download,

@@ -43,9 +43,7 @@ impl Kind {
 }
 
 fn add_get(alloc: Global, asked: &mut Vec<u8>, target: &str) -> Result<(), AllocError> {
-    let head = format!(in alloc;
-        "GET {target} HTTP/1.1\r\nhost: r\r\nauthorization: abc\r\n\r\n"
-    )?;
+    let head = format!(in alloc; "GET {target} HTTP/1.1\r\nhost: r\r\nauthorization: abc\r\n\r\n")?;
     asked.extend_from_slice(head.as_bytes())
 }
 
@@ -75,12 +73,7 @@ fn add_version(alloc: Global, asked: &mut Vec<u8>, round: u32) -> Result<(), Fau
 
 fn add_long(alloc: Global, asked: &mut Vec<u8>) -> Result<(), Fault> {
     let archive = vec![in alloc; b'z'; LONG]?;
-    add_publish(
-        alloc,
-        asked,
-        r#"{"name":"long","vers":"0.1.0"}"#,
-        &archive,
-    )
+    add_publish(alloc, asked, r#"{"name":"long","vers":"0.1.0"}"#, &archive)
 }
 
 fn add_long_head(asked: &mut Vec<u8>) -> Result<(), AllocError> {

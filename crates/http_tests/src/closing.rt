@@ -2,9 +2,7 @@
 
 use crate::script::play;
 
-#[test]
-fn closing(rt: HostRuntime) {
-    let script = r#"given two-accounts
+const CLOSING: &str = r#"given two-accounts
 stream
 > GET /index/config.json HTTP/1.1
 > host: r
@@ -48,12 +46,13 @@ stream
 <
 <: {"api":"http://127.0.0.1:8080","auth-required":true,"dl":"http://127.0.0.1:8080/api/v1/crates"}
 = 1"#;
-    play(&rt, script);
-}
 
 #[test]
-fn last_reply(rt: HostRuntime) {
-    let script = r#"given two-accounts replies=2
+fn closing(rt: HostRuntime) {
+    play(&rt, CLOSING);
+}
+
+const LAST_REPLY: &str = r#"given two-accounts replies=2
 stream
 > GET /index/config.json HTTP/1.1
 > host: r
@@ -78,5 +77,8 @@ stream
 > host: r
 >
 = 2"#;
-    play(&rt, script);
+
+#[test]
+fn last_reply(rt: HostRuntime) {
+    play(&rt, LAST_REPLY);
 }

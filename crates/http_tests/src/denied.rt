@@ -2,9 +2,7 @@
 
 use crate::script::play;
 
-#[test]
-fn a_denied_body_is_no_request(rt: HostRuntime) {
-    let script = r#"given two-accounts-and-a
+const A_DENIED_BODY_IS_NO_REQUEST: &str = r#"given two-accounts-and-a
 stream
 > PUT /api/v1/crates/new HTTP/1.1
 > host: r
@@ -36,5 +34,8 @@ each cut
 each end
 each failing read
 each failing write"#;
-    play(&rt, script);
+
+#[test]
+fn a_denied_body_is_no_request(rt: HostRuntime) {
+    play(&rt, A_DENIED_BODY_IS_NO_REQUEST);
 }

@@ -2,9 +2,7 @@
 
 use crate::script::play;
 
-#[test]
-fn failing_writer(rt: HostRuntime) {
-    let script = r#"given two-accounts-and-a
+const FAILING_WRITER: &str = r#"given two-accounts-and-a
 stream room=10 writes=1
 > PUT /api/v1/crates/new HTTP/1.1
 > host: r
@@ -26,12 +24,13 @@ stream
 <: {"cksum":"e3b0c44298fc1c149afbf4c8996fb92427ae41e4649b934ca495991b7852b855","deps":[],
     "features":{},"links":null,"name":"b","rust_version":null,"vers":"0.1.0","yanked":false}<0a>
 = 1"#;
-    play(&rt, script);
-}
 
 #[test]
-fn too_many_turns(rt: HostRuntime) {
-    let script = r#"given two-accounts-and-a turns=2
+fn failing_writer(rt: HostRuntime) {
+    play(&rt, FAILING_WRITER);
+}
+
+const TOO_MANY_TURNS: &str = r#"given two-accounts-and-a turns=2
 stream piece=1
 > PUT /api/v1/crates/new HTTP/1.1
 > host: r
@@ -42,12 +41,13 @@ stream piece=1
 = TooManyTurns
 stream
 = 0"#;
-    play(&rt, script);
-}
 
 #[test]
-fn writer_fails_at_once(rt: HostRuntime) {
-    let script = r#"given two-accounts-and-a
+fn too_many_turns(rt: HostRuntime) {
+    play(&rt, TOO_MANY_TURNS);
+}
+
+const WRITER_FAILS_AT_ONCE: &str = r#"given two-accounts-and-a
 stream writes=0
 > PUT /api/v1/crates/new HTTP/1.1
 > host: r
@@ -76,12 +76,13 @@ stream
 <: {"cksum":"e3b0c44298fc1c149afbf4c8996fb92427ae41e4649b934ca495991b7852b855","deps":[],
     "features":{},"links":null,"name":"a","rust_version":null,"vers":"0.1.0","yanked":false}<0a>
 = 1"#;
-    play(&rt, script);
-}
 
 #[test]
-fn failing_reader(rt: HostRuntime) {
-    let script = r#"given two-accounts-and-a
+fn writer_fails_at_once(rt: HostRuntime) {
+    play(&rt, WRITER_FAILS_AT_ONCE);
+}
+
+const FAILING_READER: &str = r#"given two-accounts-and-a
 stream reads=0
 > GET /index/1/a HTTP/1.1
 > host: r
@@ -100,5 +101,8 @@ stream reads=1
 <: {"cksum":"e3b0c44298fc1c149afbf4c8996fb92427ae41e4649b934ca495991b7852b855","deps":[],
     "features":{},"links":null,"name":"a","rust_version":null,"vers":"0.1.0","yanked":false}<0a>
 = ReadFault"#;
-    play(&rt, script);
+
+#[test]
+fn failing_reader(rt: HostRuntime) {
+    play(&rt, FAILING_READER);
 }

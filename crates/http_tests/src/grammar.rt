@@ -2,9 +2,7 @@
 
 use crate::script::play;
 
-#[test]
-fn first_lines(rt: HostRuntime) {
-    let script = r#"given two-accounts
+const FIRST_LINES: &str = r#"given two-accounts
 stream
 >
 >
@@ -98,12 +96,13 @@ stream
 <
 <: {"errors":[{"detail":"H6 no such route"}]}
 = 1"#;
-    play(&rt, script);
-}
 
 #[test]
-fn lengths_of_bodies(rt: HostRuntime) {
-    let script = r#"given two-accounts
+fn first_lines(rt: HostRuntime) {
+    play(&rt, FIRST_LINES);
+}
+
+const LENGTHS_OF_BODIES: &str = r#"given two-accounts
 stream
 > GET / HTTP/1.1
 > host: r
@@ -177,12 +176,13 @@ stream
 <
 <: {"errors":[{"detail":"H3 transfer encoding not accepted"}]}
 = 1"#;
-    play(&rt, script);
-}
 
 #[test]
-fn token_values(rt: HostRuntime) {
-    let script = r#"given two-accounts
+fn lengths_of_bodies(rt: HostRuntime) {
+    play(&rt, LENGTHS_OF_BODIES);
+}
+
+const TOKEN_VALUES: &str = r#"given two-accounts
 stream
 > GET /index/config.json HTTP/1.1
 > host: r
@@ -212,5 +212,8 @@ stream
 <
 <: {"api":"http://127.0.0.1:8080","auth-required":true,"dl":"http://127.0.0.1:8080/api/v1/crates"}
 = 3"#;
-    play(&rt, script);
+
+#[test]
+fn token_values(rt: HostRuntime) {
+    play(&rt, TOKEN_VALUES);
 }

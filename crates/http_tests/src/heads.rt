@@ -2,9 +2,7 @@
 
 use crate::script::play;
 
-#[test]
-fn heads(rt: HostRuntime) {
-    let script = r#"given two-accounts
+const HEADS: &str = r#"given two-accounts
 stream
 > GET / HTTP/1.1
 > host: r
@@ -77,12 +75,13 @@ stream
 = 1
 stream
 = 0"#;
-    play(&rt, script);
-}
 
 #[test]
-fn lengths_of_heads(rt: HostRuntime) {
-    let script = r#"given two-accounts
+fn heads(rt: HostRuntime) {
+    play(&rt, HEADS);
+}
+
+const LENGTHS_OF_HEADS: &str = r#"given two-accounts
 stream
 > GET / HTTP/1.1
 > host: r
@@ -128,12 +127,13 @@ repeat 16353 >: y
 <
 <: {"errors":[{"detail":"H2 request head too large"}]}
 = 1"#;
-    play(&rt, script);
-}
 
 #[test]
-fn numbers_of_fields(rt: HostRuntime) {
-    let script = r#"given two-accounts
+fn lengths_of_heads(rt: HostRuntime) {
+    play(&rt, LENGTHS_OF_HEADS);
+}
+
+const NUMBERS_OF_FIELDS: &str = r#"given two-accounts
 stream
 > GET / HTTP/1.1
 > host: r
@@ -168,12 +168,13 @@ repeat 65 > x: y
 <
 <: {"errors":[{"detail":"H2 request head too large"}]}
 = 1"#;
-    play(&rt, script);
-}
 
 #[test]
-fn requests_of_head(rt: HostRuntime) {
-    let script = r#"given two-accounts
+fn numbers_of_fields(rt: HostRuntime) {
+    play(&rt, NUMBERS_OF_FIELDS);
+}
+
+const REQUESTS_OF_HEAD: &str = r#"given two-accounts
 stream
 > HEAD /index/config.json HTTP/1.1
 > host: r
@@ -211,12 +212,13 @@ stream
 <
 <: {"errors":[{"detail":"H1 bad request head"}]}
 = 1"#;
-    play(&rt, script);
-}
 
 #[test]
-fn methods_of_routes(rt: HostRuntime) {
-    let script = r#"given two-accounts
+fn requests_of_head(rt: HostRuntime) {
+    play(&rt, REQUESTS_OF_HEAD);
+}
+
+const METHODS_OF_ROUTES: &str = r#"given two-accounts
 stream
 > POST /index/1/a HTTP/1.1
 > host: r
@@ -273,5 +275,8 @@ stream
 <
 <: {"errors":[{"detail":"H7 method not allowed"}]}
 = 6"#;
-    play(&rt, script);
+
+#[test]
+fn methods_of_routes(rt: HostRuntime) {
+    play(&rt, METHODS_OF_ROUTES);
 }

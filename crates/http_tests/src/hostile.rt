@@ -2,9 +2,7 @@
 
 use crate::script::play;
 
-#[test]
-fn hostile_heads(rt: HostRuntime) {
-    let script = r#"given two-accounts
+const HOSTILE_HEADS: &str = r#"given two-accounts
 stream
 > GET / HTTP/1.1
 > host: r
@@ -76,12 +74,13 @@ stream
 <
 <: {"errors":[{"detail":"H1 bad request head"}]}
 = 1"#;
-    play(&rt, script);
-}
 
 #[test]
-fn hostile_bodies(rt: HostRuntime) {
-    let script = r#"given two-accounts
+fn hostile_heads(rt: HostRuntime) {
+    play(&rt, HOSTILE_HEADS);
+}
+
+const HOSTILE_BODIES: &str = r#"given two-accounts
 stream
 > PUT /api/v1/crates/new HTTP/1.1
 > host: r
@@ -118,5 +117,8 @@ stream
 <
 <: {"errors":[{"detail":"A8 no such crate"}]}
 = 1"#;
-    play(&rt, script);
+
+#[test]
+fn hostile_bodies(rt: HostRuntime) {
+    play(&rt, HOSTILE_BODIES);
 }

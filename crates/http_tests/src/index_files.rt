@@ -2,9 +2,7 @@
 
 use crate::script::play;
 
-#[test]
-fn growing_index_file(rt: HostRuntime) {
-    let script = r#"given two-accounts-and-a
+const GROWING_INDEX_FILE: &str = r#"given two-accounts-and-a
 stream
 > PUT /api/v1/crates/new HTTP/1.1
 > host: r
@@ -75,5 +73,8 @@ stream
     {"cksum":"e3b0c44298fc1c149afbf4c8996fb92427ae41e4649b934ca495991b7852b855","deps":[],
     "features":{},"links":null,"name":"a","rust_version":null,"vers":"0.2.0","yanked":false}<0a>
 = 6"#;
-    play(&rt, script);
+
+#[test]
+fn growing_index_file(rt: HostRuntime) {
+    play(&rt, GROWING_INDEX_FILE);
 }

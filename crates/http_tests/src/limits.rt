@@ -2,9 +2,7 @@
 
 use crate::script::play;
 
-#[test]
-fn interim_line_and_limits(rt: HostRuntime) {
-    let script = r#"given two-accounts json=64 archive=192
+const INTERIM_LINE_AND_LIMITS: &str = r#"given two-accounts json=64 archive=192
 stream
 > PUT /api/v1/crates/new HTTP/1.1
 > host: r
@@ -54,12 +52,13 @@ stream
 <
 <: {"errors":[{"detail":"H5 request body too large"}]}
 = 1"#;
-    play(&rt, script);
-}
 
 #[test]
-fn larger_bodies(rt: HostRuntime) {
-    let script = r#"given two-accounts
+fn interim_line_and_limits(rt: HostRuntime) {
+    play(&rt, INTERIM_LINE_AND_LIMITS);
+}
+
+const LARGER_BODIES: &str = r#"given two-accounts
 stream
 > PUT /api/v1/crates/new HTTP/1.1
 > host: r
@@ -80,12 +79,13 @@ stream
 > content-length: 37748744
 >
 = 0"#;
-    play(&rt, script);
-}
 
 #[test]
-fn larger_metadata(rt: HostRuntime) {
-    let script = r#"given two-accounts
+fn larger_bodies(rt: HostRuntime) {
+    play(&rt, LARGER_BODIES);
+}
+
+const LARGER_METADATA: &str = r#"given two-accounts
 stream
 > PUT /api/v1/crates/new HTTP/1.1
 > host: r
@@ -116,12 +116,13 @@ repeat 4194277 >: <20>
 <
 <: {"warnings":{"invalid_badges":[],"invalid_categories":[],"other":[]}}
 = 1"#;
-    play(&rt, script);
-}
 
 #[test]
-fn interim_line_of_a_body_that_ends(rt: HostRuntime) {
-    let script = r#"given two-accounts
+fn larger_metadata(rt: HostRuntime) {
+    play(&rt, LARGER_METADATA);
+}
+
+const INTERIM_LINE_OF_A_BODY_THAT_ENDS: &str = r#"given two-accounts
 stream
 > PUT /api/v1/crates/new HTTP/1.1
 > host: r
@@ -159,5 +160,8 @@ stream
 <
 <: {"errors":[{"detail":"H6 no such route"}]}
 = 1"#;
-    play(&rt, script);
+
+#[test]
+fn interim_line_of_a_body_that_ends(rt: HostRuntime) {
+    play(&rt, INTERIM_LINE_OF_A_BODY_THAT_ENDS);
 }

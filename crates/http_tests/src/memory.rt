@@ -110,9 +110,7 @@ pub(crate) fn amounts_fault<S: Alter>(
     Ok(Some(format!(in alloc; "{read} while read, {otherwise} otherwise")?))
 }
 
-#[test]
-fn memory_refused_while_a_request_is_read(rt: HostRuntime) {
-    let script = r#"given two-accounts
+const MEMORY_REFUSED_WHILE_A_REQUEST_IS_READ: &str = r#"given two-accounts
 stream
 > GET /index/config.json HTTP/1.1
 > host: r
@@ -129,5 +127,8 @@ repeat 100000 >: x
 = 1
 each amount of memory
 = 1"#;
-    play(&rt, script);
+
+#[test]
+fn memory_refused_while_a_request_is_read(rt: HostRuntime) {
+    play(&rt, MEMORY_REFUSED_WHILE_A_REQUEST_IS_READ);
 }

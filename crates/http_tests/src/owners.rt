@@ -2,9 +2,7 @@
 
 use crate::script::play;
 
-#[test]
-fn last_owner(rt: HostRuntime) {
-    let script = r#"given two-accounts-and-a
+const LAST_OWNER: &str = r#"given two-accounts-and-a
 user-disable bob -> done
 stream
 > PUT /api/v1/crates/a/owners HTTP/1.1
@@ -95,5 +93,8 @@ stream
 <
 <: {"errors":[{"detail":"A9 not an owner of this crate"}]}
 = 6"#;
-    play(&rt, script);
+
+#[test]
+fn last_owner(rt: HostRuntime) {
+    play(&rt, LAST_OWNER);
 }

@@ -2,9 +2,7 @@
 
 use crate::script::play;
 
-#[test]
-fn two_spellings(rt: HostRuntime) {
-    let script = r#"given two-accounts
+const TWO_SPELLINGS: &str = r#"given two-accounts
 stream
 > PUT /api/v1/crates/new HTTP/1.1
 > host: r
@@ -78,12 +76,13 @@ stream
 <
 <: abc
 = 7"#;
-    play(&rt, script);
-}
 
 #[test]
-fn targets(rt: HostRuntime) {
-    let script = r#"given two-accounts-and-a
+fn two_spellings(rt: HostRuntime) {
+    play(&rt, TWO_SPELLINGS);
+}
+
+const TARGETS: &str = r#"given two-accounts-and-a
 stream
 > GET /index HTTP/1.1
 > host: r
@@ -232,5 +231,8 @@ stream
 <
 <: {"errors":[{"detail":"A8 no such crate"}]}
 = 8"#;
-    play(&rt, script);
+
+#[test]
+fn targets(rt: HostRuntime) {
+    play(&rt, TARGETS);
 }

@@ -2,9 +2,7 @@
 
 use crate::script::play;
 
-#[test]
-fn search(rt: HostRuntime) {
-    let script = r#"given two-accounts
+const SEARCH: &str = r#"given two-accounts
 stream
 > GET /api/v1/crates HTTP/1.1
 > host: r
@@ -193,5 +191,8 @@ stream
 <
 <: {"crates":[],"meta":{"total":0}}
 = 7"#;
-    play(&rt, script);
+
+#[test]
+fn search(rt: HostRuntime) {
+    play(&rt, SEARCH);
 }

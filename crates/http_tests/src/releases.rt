@@ -2,9 +2,7 @@
 
 use crate::script::play;
 
-#[test]
-fn one_release(rt: HostRuntime) {
-    let script = r#"given two-accounts
+const ONE_RELEASE: &str = r#"given two-accounts
 stream
 > PUT /api/v1/crates/new HTTP/1.1
 > host: r
@@ -78,5 +76,8 @@ stream
 <
 <: {"ok":true}
 = 7"#;
-    play(&rt, script);
+
+#[test]
+fn one_release(rt: HostRuntime) {
+    play(&rt, ONE_RELEASE);
 }

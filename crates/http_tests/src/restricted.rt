@@ -2,9 +2,7 @@
 
 use crate::script::play;
 
-#[test]
-fn restricted_crate(rt: HostRuntime) {
-    let script = r#"given two-accounts-and-a
+const RESTRICTED_CRATE: &str = r#"given two-accounts-and-a
 crate-restrict a -> done
 stream
 > GET /index/1/a HTTP/1.1
@@ -76,12 +74,13 @@ stream
 <
 <: {"crates":[{"description":null,"max_version":"0.1.0","name":"a"}],"meta":{"total":1}}
 = 2"#;
-    play(&rt, script);
-}
 
 #[test]
-fn a_strangers_view(rt: HostRuntime) {
-    let script = r#"given two-accounts-and-a
+fn restricted_crate(rt: HostRuntime) {
+    play(&rt, RESTRICTED_CRATE);
+}
+
+const A_STRANGERS_VIEW: &str = r#"given two-accounts-and-a
 crate-restrict a -> done
 stream
 > GET /api/v1/crates/a/0.1.0/download HTTP/1.1
@@ -177,5 +176,8 @@ stream
 < content-length: 0
 <
 = 3"#;
-    play(&rt, script);
+
+#[test]
+fn a_strangers_view(rt: HostRuntime) {
+    play(&rt, A_STRANGERS_VIEW);
 }

@@ -2,9 +2,7 @@
 
 use crate::script::play;
 
-#[test]
-fn first_limits(rt: HostRuntime) {
-    let script = r#"given two-accounts json=1048576 archive=10485760
+const FIRST_LIMITS: &str = r#"given two-accounts json=1048576 archive=10485760
 stream
 > PUT /api/v1/crates/new HTTP/1.1
 > host: r
@@ -54,12 +52,13 @@ stream
 <
 <: {"errors":[{"detail":"H5 request body too large"}]}
 = 1"#;
-    play(&rt, script);
-}
 
 #[test]
-fn larger_archives(rt: HostRuntime) {
-    let script = r#"given two-accounts
+fn first_limits(rt: HostRuntime) {
+    play(&rt, FIRST_LIMITS);
+}
+
+const LARGER_ARCHIVES: &str = r#"given two-accounts
 stream
 > PUT /api/v1/crates/new HTTP/1.1
 > host: r
@@ -75,12 +74,13 @@ repeat 1 >: x
 <
 <: {"errors":[{"detail":"B3 metadata or archive too long"}]}
 = 1"#;
-    play(&rt, script);
-}
 
 #[test]
-fn larger_archive_taken(rt: HostRuntime) {
-    let script = r#"given two-accounts
+fn larger_archives(rt: HostRuntime) {
+    play(&rt, LARGER_ARCHIVES);
+}
+
+const LARGER_ARCHIVE_TAKEN: &str = r#"given two-accounts
 stream
 > PUT /api/v1/crates/new HTTP/1.1
 > host: r
@@ -95,5 +95,8 @@ repeat 524288 >: xxxxxxxxxxxxxxxxxxxxxxxxxxxxxxxxxxxxxxxxxxxxxxxxxxxxxxxxxxxxxxx
 <
 <: {"warnings":{"invalid_badges":[],"invalid_categories":[],"other":[]}}
 = 1"#;
-    play(&rt, script);
+
+#[test]
+fn larger_archive_taken(rt: HostRuntime) {
+    play(&rt, LARGER_ARCHIVE_TAKEN);
 }

@@ -2,9 +2,7 @@
 
 use crate::script::play;
 
-#[test]
-fn token_states(rt: HostRuntime) {
-    let script = r#"given two-accounts-and-a
+const TOKEN_STATES: &str = r#"given two-accounts-and-a
 stream
 > GET /index/config.json HTTP/1.1
 > host: r
@@ -69,5 +67,8 @@ stream
 <
 <: {"errors":[{"detail":"A4 user disabled"}]}
 = 1"#;
-    play(&rt, script);
+
+#[test]
+fn token_states(rt: HostRuntime) {
+    play(&rt, TOKEN_STATES);
 }

@@ -2,9 +2,7 @@
 
 use crate::script::play;
 
-#[test]
-fn heads_byte_by_byte(rt: HostRuntime) {
-    let script = r#"given two-accounts
+const HEADS_BYTE_BY_BYTE: &str = r#"given two-accounts
 stream piece=1
 > GET / HTTP/1.1
 > host: r
@@ -55,5 +53,8 @@ stream
 >
 = 2
 each cut"#;
-    play(&rt, script);
+
+#[test]
+fn heads_byte_by_byte(rt: HostRuntime) {
+    play(&rt, HEADS_BYTE_BY_BYTE);
 }

@@ -51,7 +51,7 @@ IsReplied g limits f there close old new w0 w1 r =
     HasCleanDisk (shown g new) → (s : model.Registry) → Shows s (shown g old)
     → Replies g limits f there close s old new w0 w1 r
 
--- what the request wants is replied so, whatever else its head tells
+-- what is wanted of a request is replied so, whatever else its head tells
 abbrev pub IsRequestReplied : {S : Type 0} → Ghosts S → Limits → ApiRequest → Bool → Tables S
     → Tables S → Option Text → Option Text → Result (Unit {0}) StreamFault → Type 0
 IsRequestReplied g limits request close old new w0 w1 r =

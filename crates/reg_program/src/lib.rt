@@ -1,4 +1,5 @@
-//! The program, but for its `main`: what each subcommand does with files, standard ends and sockets.
+//! The program, but for its `main`: what each subcommand does with files, standard ends and
+//! sockets.
 //!
 //! ```
 //! let exit = run_words(&rt, &words);   // registry_cli user-add ada --db registry.db
