@@ -215,11 +215,11 @@ fn find_crates<S: Alter>(alloc: Global, tables: &mut Tables<S>, query: &str) -> 
 }
 
 /// Adds a version of the first crate with this archive, and commits it.
-pub(crate) fn add_archive<S: Alter>(
+pub(crate) fn add_archive<'a, S: Alter>(
     alloc: Global,
     tables: &mut Tables<S>,
-    text: &str,
-    archive: &[u8],
+    text: &'a str,
+    archive: &'a [u8],
 ) -> Result<usize, Fault>
     requires { AreOurs S.Store tables.old }
     ensures { AreOurs S.Store tables.new }
