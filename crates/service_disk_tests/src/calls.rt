@@ -1,0 +1,60 @@
+//! Every kind of request and every command, each with its answer over the registry of *two accounts
+//! and a*.
+//!
+//! What is indented by four spaces goes on with the line above.
+
+/// Each changes the registry.
+pub(crate) const CHANGES: &str = r#"user-add carol Carol -> done
+user-disable bob -> done
+token-add bob yank a,b-* third -> 3
+token-revoke 2 -> done
+owner-add a bob -> done
+crate-restrict a -> done
+ada yank a 0.1.0 -> Json {"ok":true}
+ada release a 0.2.0 abc ->
+     Json {"warnings":{"invalid_badges":[],"invalid_categories":[],"other":[]}}
+ada release b 0.1.0 abc ->
+     Json {"warnings":{"invalid_badges":[],"invalid_categories":[],"other":[]}}
+ada add-owners a {"users":["bob"]} -> Json {"msg":"owners added","ok":true}
+reserve acme -> done"#;
+
+/// What the changes below take back.
+pub(crate) const CHANGED: &str = r#"user-add carol -> done
+user-disable carol -> done
+owner-add a bob -> done
+crate-restrict a -> done
+reader-add a carol -> done
+reserve acme -> done
+ada yank a 0.1.0 -> Json {"ok":true}
+"#;
+
+/// Each changes the registry after that.
+pub(crate) const CHANGES_BACK: &str = r#"user-enable carol -> done
+unreserve acme -> done
+crate-open a -> done
+reader-add a ada -> done
+reader-remove a carol -> done
+ada remove-owners a {"users":["bob"]} -> Json {"msg":"owners removed","ok":true}
+ada unyank a 0.1.0 -> Json {"ok":true}"#;
+
+/// Each leaves the registry as it is.
+pub(crate) const READS: &str =
+    r#"users ->        1  ada                               enabled   Ada<0a>
+           2  bob                               enabled   -<0a>
+tokens -> ?
+crates -> ?
+export -> ?
+stream ada 1/a -> ?
+stream ada 1/b -> ?
+ada index 1/a -> ?
+access b ->        1  publish-new     ada<0a>
+ada config -> Json {"api":"http://127.0.0.1:8080","auth-required":true,
+    "dl":"http://127.0.0.1:8080/api/v1/crates"}
+ada index 1/b -> A8
+ada download a 0.1.0 -> Archive(0) 
+ada owners a -> Json {"users":[{"id":1,"login":"ada","name":"Ada"}]}
+ada search  -> Json {"crates":[{"description":null,"max_version":"0.1.0","name":"a"}],
+    "meta":{"total":1}}
+bob yank a 0.1.0 -> A9
+ada release a 0.1.0 -> V2
+user-add ada -> G2"#;
