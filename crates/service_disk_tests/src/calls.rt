@@ -1,5 +1,5 @@
-//! Every kind of request and every command, each with its answer over the registry of *two accounts
-//! and a*.
+//! Every kind of request and every command, export and a file that is sent, each with its answer
+//! over the registry of *two accounts and a*.
 //!
 //! What is indented by four spaces goes on with the line above.
 
@@ -41,14 +41,26 @@ ada unyank a 0.1.0 -> Json {"ok":true}"#;
 pub(crate) const READS: &str =
     r#"users ->        1  ada                               enabled   Ada<0a>
            2  bob                               enabled   -<0a>
-tokens -> ?
-crates -> ?
-export -> ?
-stream ada 1/a -> ?
-stream ada 1/b -> ?
-ada index 1/a -> ?
-access b ->        1  publish-new     ada<0a>
-ada config -> Json {"api":"http://127.0.0.1:8080","auth-required":true,
+tokens ->        1  ada                               live     publish-new,publish-update,yank,change-owners  *<0a>
+           2  bob                               live     publish-update,yank  *<0a>
+crates -> a                                                                      1  0.1.0<0a>
+export -> config.json {"api":"http://127.0.0.1:8080","auth-required":true,
+    "dl":"http://127.0.0.1:8080/api/v1/crates"};1/a
+     {"cksum":"e3b0c44298fc1c149afbf4c8996fb92427ae41e4649b934ca495991b7852b855",
+    "deps":[],"features":{},"links":null,"name":"a","rust_version":null,
+    "vers":"0.1.0","yanked":false}<0a>;
+stream ada 1/a -> HTTP/1.1 200 OK|content-type: text/plain|content-length: 175||
+    {"cksum":"e3b0c44298fc1c149afbf4c8996fb92427ae41e4649b934ca495991b7852b855",
+    "deps":[],"features":{},"links":null,"name":"a","rust_version":null,
+    "vers":"0.1.0","yanked":false}<0a>
+ada index 1/a -> Plain(175)
+     {"cksum":"e3b0c44298fc1c149afbf4c8996fb92427ae41e4649b934ca495991b7852b855",
+    "deps":[],"features":{},"links":null,"name":"a","rust_version":null,
+    "vers":"0.1.0","yanked":false}<0a>
+access b ->        1  publish-new     ada<0a>"#;
+
+/// So does each of these requests.
+pub(crate) const REQUESTS: &str = r#"ada config -> Json {"api":"http://127.0.0.1:8080","auth-required":true,
     "dl":"http://127.0.0.1:8080/api/v1/crates"}
 ada index 1/b -> A8
 ada download a 0.1.0 -> Archive(0) 

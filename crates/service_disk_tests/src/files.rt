@@ -7,7 +7,6 @@ use crate::tasks::Task;
 use sqlite::{Connection, FileStore, Files, Options};
 use sqlite_disk::{Crash, Disk, Fuse, Memory};
 use std::alloc::{AllocError, Global};
-use test_tables::make_old;
 
 /// A file in memory that stops after some call.
 type Stopping = Fuse<Memory>;
@@ -98,17 +97,6 @@ fn closed<D: Disk + Drop>(conn: Connection<FileStore<D>>) -> Result<Files<D>, Fa
     }
 }
 
-/// The files once they were opened and a store of schema 1 was made in them.
-fn old_files<D: Disk + Drop>(alloc: Global, files: Files<D>) -> Result<Files<D>, Fault> {
-    match open(alloc, files) {
-        Ok(mut conn) => match make_old(&mut conn) {
-            Ok(()) => closed(conn),
-            Err(_error) => Err(Fault::NotMade),
-        },
-        Err(_files) => Err(Fault::NotOpened),
-    }
-}
-
 /// The files once they were opened and a registry was made in them by lines.
 fn filled_files<D: Disk + Drop>(
     alloc: Global,
@@ -141,8 +129,6 @@ fn new_files(alloc: Global) -> Result<Files<Stopping>, Fault> {
 pub(crate) enum Given<'a> {
     /// Nothing.
     Nothing,
-    /// A store of schema 1.
-    OldStore,
     /// The registry that lines make.
     Lines(&'a str),
 }
@@ -151,7 +137,6 @@ fn given_files(alloc: Global, given: Given<'_>) -> Result<Files<Stopping>, Fault
     let files = new_files(alloc)?;
     match given {
         Given::Nothing => Ok(files),
-        Given::OldStore => old_files(alloc, files),
         Given::Lines(lines) => filled_files(alloc, files, lines),
     }
 }

@@ -19,6 +19,8 @@ mod limits;
 #[cfg(test)]
 mod playing;
 #[cfg(test)]
+mod refused;
+#[cfg(test)]
 mod stops;
 #[cfg(test)]
 mod tasks;

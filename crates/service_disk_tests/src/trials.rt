@@ -5,6 +5,7 @@ use crate::files::{Given, Outcome, Prepared, done_over, outcome_of, prepare};
 use crate::limits::{Limits, Scarce};
 use crate::tasks::{Task, read_task};
 use std::alloc::Global;
+use test_service::TWO_ACCOUNTS_AND_A;
 
 /// More runs than any task needs.
 const MOST_RUNS: u32 = 1000;
@@ -218,7 +219,7 @@ pub(crate) fn try_lines(
     let before = prepare(alloc, given)?;
     let first = match given {
         Given::Lines(_) => taken_by_opening(alloc, &before, scarce)?,
-        Given::Nothing | Given::OldStore => 0,
+        Given::Nothing => 0,
     };
     let amounts = Amounts {
         scarce,
@@ -226,4 +227,16 @@ pub(crate) fn try_lines(
         step,
     };
     each_line(alloc, &before, &lines.replace(alloc, "\n    ", "")?, amounts)
+}
+
+/// Tries each line over the registry of *two accounts and a* once these others were played.
+pub(crate) fn try_calls(
+    alloc: Global,
+    others: &str,
+    lines: &str,
+    scarce: Scarce,
+    step: u32,
+) -> Result<(), Fault> {
+    let given = format!(in alloc; "{TWO_ACCOUNTS_AND_A}{others}")?;
+    try_lines(alloc, Given::Lines(&given), lines, scarce, step)
 }
