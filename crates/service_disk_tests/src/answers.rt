@@ -89,7 +89,9 @@ fn sent_text(alloc: Global, is_whole: bool, sent: &[u8]) -> Result<String, Alloc
         return String::from_str(alloc, "S1");
     }
     let text = std::str::from_utf8(sent).unwrap_or("<no text>");
-    let line = text.replace(alloc, "\r\n", "|")?.replace(alloc, "\n", "<0a>")?;
+    let line = text
+        .replace(alloc, "\r\n", "|")?
+        .replace(alloc, "\n", "<0a>")?;
     format!(in alloc; "{}{line}", if is_whole { "" } else { "front " })
 }
 

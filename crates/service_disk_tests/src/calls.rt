@@ -60,7 +60,8 @@ ada index 1/a -> Plain(175)
 access b ->        1  publish-new     ada<0a>"#;
 
 /// So does each of these requests.
-pub(crate) const REQUESTS: &str = r#"ada config -> Json {"api":"http://127.0.0.1:8080","auth-required":true,
+pub(crate) const REQUESTS: &str =
+    r#"ada config -> Json {"api":"http://127.0.0.1:8080","auth-required":true,
     "dl":"http://127.0.0.1:8080/api/v1/crates"}
 ada index 1/b -> A8
 ada download a 0.1.0 -> Archive(0) 

@@ -14,12 +14,24 @@ const STEP_OF_READS: u32 = 4_000;
 
 #[test]
 fn a_registry_made(rt: HostRuntime) -> Result<(), Fault> {
-    try_lines(rt.alloc(), Given::Nothing, "create -> done", Scarce::Memory, STEP)
+    try_lines(
+        rt.alloc(),
+        Given::Nothing,
+        "create -> done",
+        Scarce::Memory,
+        STEP,
+    )
 }
 
 #[test]
 fn a_registry_opened(rt: HostRuntime) -> Result<(), Fault> {
-    try_calls(rt.alloc(), "", "open -> done", Scarce::Memory, STEP_OF_READS)
+    try_calls(
+        rt.alloc(),
+        "",
+        "open -> done",
+        Scarce::Memory,
+        STEP_OF_READS,
+    )
 }
 
 #[test]

@@ -180,12 +180,7 @@ fn try_task(
     fault_in(alloc, trial, amounts)
 }
 
-fn try_line(
-    alloc: Global,
-    before: &Prepared,
-    line: &str,
-    amounts: Amounts,
-) -> Result<(), Fault> {
+fn try_line(alloc: Global, before: &Prepared, line: &str, amounts: Amounts) -> Result<(), Fault> {
     let Some((call, answer)) = line.split_once(" -> ") else {
         return Err(Fault::Words);
     };
@@ -196,12 +191,7 @@ fn try_line(
     }
 }
 
-fn each_line(
-    alloc: Global,
-    before: &Prepared,
-    lines: &str,
-    amounts: Amounts,
-) -> Result<(), Fault> {
+fn each_line(alloc: Global, before: &Prepared, lines: &str, amounts: Amounts) -> Result<(), Fault> {
     for line in lines.lines() {
         try_line(alloc, before, line, amounts)?;
     }
@@ -226,7 +216,12 @@ pub(crate) fn try_lines(
         first,
         step,
     };
-    each_line(alloc, &before, &lines.replace(alloc, "\n    ", "")?, amounts)
+    each_line(
+        alloc,
+        &before,
+        &lines.replace(alloc, "\n    ", "")?,
+        amounts,
+    )
 }
 
 /// Tries each line over the registry of *two accounts and a* once these others were played.
