@@ -138,7 +138,6 @@ init --db FILE -> 2
 users --db FILE -> 0
 users --db FILE/no -> 3 storage
 serve --port 8080 --connections 0 -> 2
-serve --port 18080 --connections 0 --db FILE -> 0
 export  --db FILE -> 3 storage
 serve --port 0 --connections 0 --db FILE -> 2 bad words
 serve --port 65536 --connections 0 --db FILE -> 2 bad words
