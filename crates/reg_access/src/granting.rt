@@ -7,7 +7,6 @@ ghost use Rattle.reg_tables.specs.Works.{IsAtWork, has_failed};
 ghost use Rattle.reg_access.specs.Asks.{Asks};
 ghost use Rattle.reg_access.specs.Grants.{AreCandidates, AreGrants, AreOwnersOf, IsStanding, TellsTaken};
 
-use crate::asking::all_rows;
 use crate::grants::{Grant, grants_of};
 use reg_names::{CanonText, CrateName, canon};
 use reg_policy::is_reserved_always;
@@ -25,9 +24,8 @@ pub(crate) fn find_candidates<S: Alter>(
     ensures { Asks S.Store work.old work.new result
         (λ db list. AreCandidates canon.now db list.items) }
 {
-    all_rows(
+    work.select_list(
         alloc,
-        work,
         "SELECT t.id, t.account, t.live, t.publish_new, t.publish_update, t.yank, \
         t.change_owners, a.login, a.enabled FROM tokens t LEFT JOIN accounts a ON a.id = \
         t.account WHERE t.live = 1 AND a.enabled = 1 AND EXISTS (SELECT 1 FROM scopes s WHERE \

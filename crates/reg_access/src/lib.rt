@@ -2,7 +2,6 @@
 #![tactic(auto)]
 
 mod access;
-mod asking;
 mod deciding;
 mod finding;
 mod found;

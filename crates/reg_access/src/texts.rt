@@ -8,7 +8,6 @@ ghost use Rattle.reg_access.specs.Asks.{Asks};
 ghost use Rattle.reg_access.specs.Found.{rows_of};
 ghost use Rattle.reg_access.specs.JoinRows.{crates_seen_by, is_there, reserved_as, scopes_over, versions_of_release, versions_with_text};
 
-use crate::asking::{has_row, only_row};
 use crate::found::CrateRow;
 use reg_line::Digest;
 use reg_names::CanonText;
@@ -24,8 +23,7 @@ pub(crate) fn find_token<S: Alter>(
     requires { IsAtWork S.Store work.old }
     ensures { Asks S.Store work.old work.new result (IsTokenOfDigest digest.now) }
 {
-    only_row(
-        work,
+    work.select_one(
         "SELECT t.id, t.account, t.live, t.publish_new, t.publish_update, t.yank, \
         t.change_owners, a.login, a.enabled FROM tokens t JOIN accounts a ON a.id = t.account \
         WHERE t.digest = ?1",
@@ -43,8 +41,7 @@ pub(crate) fn is_covered<S: Alter>(
     ensures { Asks S.Store work.old work.new result
         (λ db b. is_there (scopes_over (Int (pos token)) canon.now db) ≡ b) }
 {
-    has_row(
-        work,
+    work.has_row(
         "SELECT s.place FROM tokens t JOIN scopes s ON s.token = t.id WHERE t.id = ?1 AND \
         s.low <= ?2 AND ?2 < s.high",
         params![token, canon.as_str()],
@@ -61,8 +58,7 @@ pub(crate) fn find_crate<S: Alter>(
     ensures { Asks S.Store work.old work.new result
         (λ db found. crates_seen_by canon.now (Int (pos account)) db ≡ rows_of found) }
 {
-    only_row(
-        work,
+    work.select_one(
         "SELECT c.id, c.name, o.account, r.crate, d.account FROM crates c LEFT JOIN owners o ON \
         o.crate = c.id AND o.account = ?2 LEFT JOIN restricted r ON r.crate = c.id LEFT JOIN \
         readers d ON d.crate = c.id AND d.account = ?2 WHERE c.canon = ?1",
@@ -80,8 +76,7 @@ pub(crate) fn has_version<S: Alter>(
     ensures { Asks S.Store work.old work.new result
         (λ db b. is_there (versions_with_text (Int (pos of_crate)) text.now db) ≡ b) }
 {
-    has_row(
-        work,
+    work.has_row(
         "SELECT id FROM versions WHERE crate = ?1 AND release = ?2 AND vers = ?3",
         params![of_crate, release_key(text), text],
     )
@@ -97,8 +92,7 @@ pub(crate) fn has_release<S: Alter>(
     ensures { Asks S.Store work.old work.new result
         (λ db b. is_there (versions_of_release (Int (pos of_crate)) text.now db) ≡ b) }
 {
-    has_row(
-        work,
+    work.has_row(
         "SELECT id FROM versions WHERE crate = ?1 AND release = ?2",
         params![of_crate, release_key(text)],
     )
@@ -113,8 +107,7 @@ pub(crate) fn is_reserved<S: Alter>(
     ensures { Asks S.Store work.old work.new result
         (λ db b. is_there (reserved_as canon.now db) ≡ b) }
 {
-    has_row(
-        work,
+    work.has_row(
         "SELECT canon FROM reserved WHERE canon = ?1",
         params![canon.as_str()],
     )

@@ -19,7 +19,6 @@ mod RestrictedTexts
 mod RowidQueries
 mod ScopeQueries
 mod ScopeTexts
-pub mod StemQueries
 mod SummaryQueries
 mod SummaryTexts
 mod TokenQueries
@@ -29,3 +28,5 @@ mod VersionMarkQueries
 mod VersionQueries
 mod VersionRows
 mod VersionTexts
+pub mod StemQueries
+pub mod Walking

@@ -26,13 +26,13 @@ pub(crate) fn read_one<T: FromRow>(rows: &[Row]) -> Result<Option<T>, Error>
     }
 }
 
-/// The records of all rows, in their order.
-pub(crate) fn read_all<T: FromRow>(alloc: Global, rows: &[Row]) -> Result<Vec<T>, Error>
-    ensures { IfOk result (λ list. map T.FromRow.columns list.items ≡ rows.now) }
+/// The records of all rows, in their order. Each row goes as soon as its record is made.
+pub(crate) fn read_all<T: FromRow>(alloc: Global, rows: Vec<Row>) -> Result<Vec<T>, Error>
+    ensures { IfOk result (λ list. map T.FromRow.columns list.items ≡ rows.items) }
 {
     let mut list = Vec::new(alloc);
     for row in rows {
-        list.push(T::from_row(row)?)?;
+        list.push(T::from_row(&row)?)?;
     }
     Ok(list)
 }

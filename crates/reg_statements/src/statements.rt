@@ -10,6 +10,7 @@ ghost use Rattle.reg_schema.specs.Schema.{ours};
 ghost use Rattle.reg_schema.specs.Shown.{shown_of};
 ghost use Rattle.reg_schema.specs.States.{IsReady};
 ghost use Rattle.reg_schema.specs.Statements.{Answers, IsRowWrite, MayRead, Reads, Writes};
+ghost use Rattle.reg_schema.specs.Steps.{KeepsAll, Told};
 
 use crate::records::{FromRow, read_all, read_one};
 use sqlite::types::ValueRef;
@@ -44,8 +45,31 @@ pub fn select_one<T: FromRow, S: Alter>(
     read_one(&rows)
 }
 
-/// The rows of a text that only reads, as records.
-pub(crate) fn select_list<T: FromRow, S: Alter>(
+fn walk<T: FromRow, S: Alter>(
+    alloc: Global,
+    conn: &mut Connection<S>,
+    text: &str,
+    params: &[ValueRef<'_>],
+) -> Result<Vec<T>, Error>
+    requires { MayRead text.now (state S.Store conn.old) }
+    ensures told { Told S.Store conn.new result (λ list. Answers S.Store conn.old conn.new text.now
+        (bound params.now) (map T.FromRow.columns list.items)) }
+    ensures leaves { KeepsAll S.Store conn.old conn.new result }
+{
+    let mut list = Vec::new(alloc);
+    let mut rows = conn.query(text, params)?;
+    'rows: for _ in 0..u64::MAX {
+        let Some(row) = rows.next()? else {
+            return Ok(list);
+        };
+        list.push(T::from_row(row)?)?;
+    }
+    Err(Error::InvalidQuery)
+}
+
+/// The rows of a text that only reads, as records. They come one at a time, so that none is held
+/// beside its record.
+pub fn select_list<T: FromRow, S: Alter>(
     alloc: Global,
     conn: &mut Connection<S>,
     text: &str,
@@ -56,8 +80,7 @@ pub(crate) fn select_list<T: FromRow, S: Alter>(
         Answers S.Store conn.old conn.new text.now (bound params.now)
         (map T.FromRow.columns list.items)) }
 {
-    let rows = rows_of(conn, text, params)?;
-    read_all(alloc, &rows)
+    walk(alloc, conn, text, params)
 }
 
 /// The same, where the caller has no memory to give: the records are made in that of the rows.
@@ -73,7 +96,7 @@ pub(crate) fn select_here<T: FromRow, S: Alter>(
 {
     let rows = rows_of(conn, text, params)?;
     let alloc = *rows.allocator();
-    read_all(alloc, &rows)
+    read_all(alloc, rows)
 }
 
 /// The only row of a text that only reads, as a record. It is an error where there is none.
@@ -99,7 +122,7 @@ pub(crate) fn select_number<S: Alter>(conn: &mut Connection<S>, text: &str) -> R
 }
 
 /// Whether a text that only reads has a row.
-pub(crate) fn has_row<S: Alter>(
+pub fn has_row<S: Alter>(
     conn: &mut Connection<S>,
     text: &str,
     params: &[ValueRef<'_>],

@@ -1,6 +1,7 @@
 //! A transaction of the tables.
 
-ghost use Rattle.std.proofs.Common.{IsErr};
+ghost use Rattle.std.proofs.Common.{◌≡◌, IsErr};
+ghost use Rattle.std.specs.Prelude.{◌==◌, length, map, not};
 ghost use Rattle.sqlite.specs.Given.{IsPlain};
 ghost use Rattle.sqlite.specs.Listing.{understood};
 ghost use Rattle.sqlite.specs.Values.{bound};
@@ -14,10 +15,10 @@ use crate::tables::Tables;
 use reg_schema::laws::stop_law;
 use reg_schema::{Edition, finish, undo};
 use reg_statements::records::FromRow;
-use reg_statements::statements::{rows_of, select_one};
+use reg_statements::statements::{has_row, rows_of, select_list, select_one};
 use sqlite::types::ValueRef;
 use sqlite::{Alter, Row};
-use std::alloc::AllocError;
+use std::alloc::{AllocError, Global};
 
 /// The store failed, or there was no memory. Nothing has changed.
 #[derive(Clone, Copy, Debug, PartialEq, Eq)]
@@ -115,6 +116,40 @@ impl<S: Alter> Work<'_, S> {
         ensures leaves { IsCall S.Store result self.old self.new }
     {
         call!(self, select_one(&mut self.tables.conn, text, params))
+    }
+
+    /// The rows of a text that only reads, as records: none is held beside its record. One that
+    /// cannot be read is a fault.
+    pub fn select_list<T: FromRow>(
+        &mut self,
+        alloc: Global,
+        text: &str,
+        params: &[ValueRef<'_>],
+    ) -> Result<Vec<T>, StoreFault>
+        requires at_work { IsAtWork S.Store self.old }
+        requires reads { IsPlain (understood ours text.now) }
+        ensures rows { Heard S.Store self.new result (λ list. Shown text.now (bound params.now)
+            (seen S.Store self.old) (seen S.Store self.new) (map T.FromRow.columns list.items)) }
+        ensures same { Unmoved S.Store result self.old self.new }
+        ensures leaves { IsCall S.Store result self.old self.new }
+    {
+        call!(
+            self,
+            select_list(alloc, &mut self.tables.conn, text, params)
+        )
+    }
+
+    /// Whether a text that only reads has a row.
+    pub fn has_row(&mut self, text: &str, params: &[ValueRef<'_>]) -> Result<bool, StoreFault>
+        requires at_work { IsAtWork S.Store self.old }
+        requires reads { IsPlain (understood ours text.now) }
+        ensures rows { Heard S.Store self.new result (λ has. (rows : _)
+            × Shown text.now (bound params.now) (seen S.Store self.old) (seen S.Store self.new) rows
+            × (has ≡ not (length rows == 0))) }
+        ensures same { Unmoved S.Store result self.old self.new }
+        ensures leaves { IsCall S.Store result self.old self.new }
+    {
+        call!(self, has_row(&mut self.tables.conn, text, params))
     }
 }
 

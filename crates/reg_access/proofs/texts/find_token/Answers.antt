@@ -5,10 +5,10 @@ use Rattle.reg_access.proofs.Questions.{only_asked}
 use Rattle.reg_access.proofs.TokenText.{token_gives, token_is}
 use Rattle.reg_access.proofs.texts.find_token.Goals as goal
 
-pub only_row-requires-clause-reads : goal.only_row-requires-clause-reads
-only_row-requires-clause-reads g c = token_is.plain
+pub select_one-requires-clause-reads : goal.select_one-requires-clause-reads
+select_one-requires-clause-reads g c = token_is.plain
 
 pub returns : goal.returns
 returns g c =
-    only_asked g.S.Store token_is (Blob c.args.digest.now ∷ []) (tokens_with_accounts c.args.digest.now) (token_gives c.args.digest.now) c.args.work.now c.only_row.new.work columns_with_account c.only_row.result c.requires
-    (rw (c.params-to_sql.ensures, c.as_slice.ensures) at c.only_row.ensures.rows) c.only_row.ensures.same c.only_row.ensures.leaves
+    only_asked g.S.Store token_is (Blob c.args.digest.now ∷ []) (tokens_with_accounts c.args.digest.now) (token_gives c.args.digest.now) c.args.work.now c.select_one.new.self columns_with_account c.select_one.result c.requires
+    (rw (c.params-to_sql.ensures, c.as_slice.ensures) at c.select_one.ensures.row) c.select_one.ensures.same c.select_one.ensures.leaves

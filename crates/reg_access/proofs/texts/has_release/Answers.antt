@@ -10,5 +10,5 @@ has_row-requires-clause-reads g c = release_is.plain
 
 pub returns : goal.returns
 returns g c =
-    has_asked g.S.Store release_is (release_params (Int (pos c.args.of_crate)) c.args.text.now) (versions_of_release (Int (pos c.args.of_crate)) c.args.text.now) (release_gives (Int (pos c.args.of_crate)) c.args.text.now) c.args.work.now c.has_row.new.work c.has_row.result c.requires
+    has_asked g.S.Store release_is (release_params (Int (pos c.args.of_crate)) c.args.text.now) (versions_of_release (Int (pos c.args.of_crate)) c.args.text.now) (release_gives (Int (pos c.args.of_crate)) c.args.text.now) c.args.work.now c.has_row.new.self c.has_row.result c.requires
     (rw (c.params-to_sql.ensures, c.params-to_sql-2.ensures, c.release_key.ensures) at c.has_row.ensures.rows) c.has_row.ensures.same c.has_row.ensures.leaves

@@ -10,5 +10,5 @@ has_row-requires-clause-reads g c = scopes_is.plain
 
 pub returns : goal.returns
 returns g c =
-    has_asked g.S.Store scopes_is (Int (pos c.args.token) ∷ Text c.args.canon.now ∷ []) (scopes_over (Int (pos c.args.token)) c.args.canon.now) (scopes_give (Int (pos c.args.token)) c.args.canon.now) c.args.work.now c.has_row.new.work c.has_row.result c.requires
+    has_asked g.S.Store scopes_is (Int (pos c.args.token) ∷ Text c.args.canon.now ∷ []) (scopes_over (Int (pos c.args.token)) c.args.canon.now) (scopes_give (Int (pos c.args.token)) c.args.canon.now) c.args.work.now c.has_row.new.self c.has_row.result c.requires
     (rw (c.params-to_sql.ensures, c.params-to_sql-2.ensures, c.as_str.ensures) at c.has_row.ensures.rows) c.has_row.ensures.same c.has_row.ensures.leaves

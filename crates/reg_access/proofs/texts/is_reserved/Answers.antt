@@ -10,5 +10,5 @@ has_row-requires-clause-reads g c = reserved_is.plain
 
 pub returns : goal.returns
 returns g c =
-    has_asked g.S.Store reserved_is (Text c.args.canon.now ∷ []) (reserved_as c.args.canon.now) (reserved_gives c.args.canon.now) c.args.work.now c.has_row.new.work c.has_row.result c.requires
+    has_asked g.S.Store reserved_is (Text c.args.canon.now ∷ []) (reserved_as c.args.canon.now) (reserved_gives c.args.canon.now) c.args.work.now c.has_row.new.self c.has_row.result c.requires
     (rw (c.params-to_sql.ensures, c.as_str.ensures) at c.has_row.ensures.rows) c.has_row.ensures.same c.has_row.ensures.leaves
