@@ -39,7 +39,7 @@ shown_since sql params a b c rows plain p h =
       h.0,
       record { is = is; whole = h.1.whole; given = h.1.given; now = h.1.now },
       subst (ShowsRows a c sql h.0 full rows) (sym none)
-        (it.0, subst (λ (d : Database). IsSourceOf (reads_listing d.schema sql) d it.0) same it.1, it.2, unchanged_then a b c p it.3),
+          (it.0, subst (λ (d : Database). IsSourceOf (reads_listing d.schema sql) d it.0) same it.1, it.2, unchanged_then a b c p it.3),
     )
 
 module _ {S : Type 0} (g : Ghosts S) (text : List ℕ) (params : Row) (first : Held S) (may : MayRead text (state g first)) where
