@@ -1,9 +1,10 @@
 //! A registry over a store.
 
-ghost use Rattle.std.specs.Prelude.{◌≡◌, ◌+◌, ◌^◌, ◌<◌, ◌⊎◌, true, Err, IfOk, IsErr};
+ghost use Rattle.std.specs.Prelude.{◌≡◌, ◌↔◌, ◌+◌, ◌^◌, ◌<◌, ◌⊎◌, true, Err, IfOk, IsErr, None};
 ghost use Rattle.sqlite.specs.State.{HasCleanDisk};
 ghost use Rattle.reg_model.specs.Events.Event.{Order};
 ghost use Rattle.reg_model.specs.Steps.{IsFit};
+ghost use Rattle.reg_opening.specs.Opening.{AreRegistry};
 ghost use Rattle.reg_policy.specs.Events.{command_of, reply_of};
 ghost use Rattle.reg_requests.specs.Requests.{request_of};
 ghost use Rattle.reg_requests.specs.Views.{event_of};
@@ -21,6 +22,7 @@ use crate::transactions::{command_in, parts_in};
 use reg_audit::{Check, audit};
 use reg_body::{Counted, Limits};
 use reg_model::AdminRefusal;
+use reg_opening::laws::opening_law;
 use reg_policy::{AdminCommand, AdminReply, Rule};
 use reg_replies::Reply;
 use reg_requests::{ApiRequest, read_request};
@@ -133,11 +135,14 @@ impl<S: Alter> Registry<S> {
         export_in(alloc, &mut self.tables)
     }
 
-    /// The first check of the rows that fails; where all pass, none. Nothing is changed.
+    /// The first check of the rows that fails; where all pass, none, and then the rows are those of
+    /// a sound registry. Nothing is changed.
     pub fn audit(&mut self, alloc: Global) -> Result<Option<Check>, StoreFault>
         requires { AreUpToDate S.Store (tables_of self.old) }
         ensures found { HasCleanDisk (shown S.Store (tables_of self.new)) → IfOk result
             (FailsFirst S.Store (tables_of self.old)) }
+        ensures sound { HasCleanDisk (shown S.Store (tables_of self.new)) → IfOk result (λ found.
+            (found ≡ None) ↔ AreRegistry (shown S.Store (tables_of self.old)).now.trees) }
         ensures looked { Looked S.Store (tables_of self.old) (tables_of self.new) }
         ensures limits { limits_of self.new ≡ limits_of self.old }
         ensures stopped { has_stopped self.old ≡ true → IsErr result }
@@ -145,6 +150,7 @@ impl<S: Alter> Registry<S> {
         if self.tables.is_shut() {
             return Err(StoreFault);
         }
+        opening_law();
         audit(alloc, &mut self.tables)
     }
 

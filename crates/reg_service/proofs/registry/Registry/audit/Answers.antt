@@ -22,3 +22,9 @@ pub returns-clause-found : goal.returns-clause-found
 returns-clause-found g c clean =
     let old = tables_of c.args.self.now in
     if_ok c.audit.result (λ found. as_they_are (edition_in old) (shown g.S.Store old).now found c.requires.second) (c.audit.ensures.found clean)
+
+-- and so a sound registry is there exactly where none fails
+pub returns-clause-sound : goal.returns-clause-sound
+returns-clause-sound g c clean =
+    let db = (shown g.S.Store (tables_of c.args.self.now)).now.trees in
+    if_ok c.audit.result (λ found first. c.opening_law.ensures.audit first.0 db first.1 found first.2) (returns-clause-found g c clean)
