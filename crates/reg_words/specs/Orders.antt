@@ -37,6 +37,23 @@ number_below bound text =
     if (nat_lt 0 (length text) && list_all is_ascii_digit text)
     && nat_lt (digits_value 10 text) bound then Some (digits_value 10 text) else None
 
+-- the words that most commands have
+abbrev pub login_in : Given → Option Text
+login_in given = given (codes "LOGIN")
+
+abbrev pub crate_in : Given → Option Text
+crate_in given = given (codes "CRATE")
+
+abbrev pub name_in : Given → Option Text
+name_in given = given (codes "NAME")
+
+abbrev pub id_in : Given → Option ℕ
+id_in given = option_and_then (number_below (2 ^ 32)) (given (codes "ID"))
+
+-- an account with this login is added, with the name that is given
+abbrev pub user_from : Given → Text → Command
+user_from given login = to_user_add login (given (codes "name"))
+
 -- a command on a crate and an account
 abbrev pub on_both : Text → Text → Text → Option Command
 on_both name of login =
@@ -47,21 +64,25 @@ on_both name of login =
 
 module _ (name : Text) (given : Given) where
   abbrev pub pair_command : Option Command
-  pair_command = option_and_then
-      (λ of. option_and_then (on_both name of) (given (codes "LOGIN"))) (given (codes "CRATE"))
+  pair_command =
+      option_and_then (λ of. option_and_then (on_both name of) (login_in given)) (crate_in given)
 
   -- a command on an account or a token
   abbrev pub account_command : Option Command
   account_command =
-      if bytes_eq name (codes "user-add") then
-      option_map (λ l. to_user_add l (given (codes "name"))) (given (codes "LOGIN"))
-      else if bytes_eq name (codes "user-disable") then
-      option_map to_disable (given (codes "LOGIN"))
-      else if bytes_eq name (codes "user-enable") then
-      option_map to_enable (given (codes "LOGIN"))
-      else if bytes_eq name (codes "token-revoke") then
-      option_map to_revoke
-      (option_and_then (number_below (2 ^ 32)) (given (codes "ID")))
+      if bytes_eq name (codes "user-add") then option_map (user_from given) (login_in given)
+      else if bytes_eq name (codes "user-disable") then option_map to_disable (login_in given)
+      else if bytes_eq name (codes "user-enable") then option_map to_enable (login_in given)
+      else if bytes_eq name (codes "token-revoke") then option_map to_revoke (id_in given)
+      else None
+
+  -- a command on a name
+  abbrev pub name_command : Option Command
+  name_command =
+      if bytes_eq name (codes "reserve") then option_map to_reserve (name_in given)
+      else if bytes_eq name (codes "unreserve") then option_map to_unreserve (name_in given)
+      else if bytes_eq name (codes "crate-restrict") then option_map to_restrict (crate_in given)
+      else if bytes_eq name (codes "crate-open") then option_map to_open (crate_in given)
       else None
 
   -- a report
@@ -70,20 +91,7 @@ module _ (name : Text) (given : Given) where
       if bytes_eq name (codes "users") then Some to_users
       else if bytes_eq name (codes "tokens") then Some to_tokens
       else if bytes_eq name (codes "crates") then Some to_crates
-      else if bytes_eq name (codes "access") then
-      option_map to_access (given (codes "CRATE"))
-      else None
-
-  -- a command on a name
-  abbrev pub name_command : Option Command
-  name_command =
-      if bytes_eq name (codes "reserve") then option_map to_reserve (given (codes "NAME"))
-      else if bytes_eq name (codes "unreserve") then
-      option_map to_unreserve (given (codes "NAME"))
-      else if bytes_eq name (codes "crate-restrict") then
-      option_map to_restrict (given (codes "CRATE"))
-      else if bytes_eq name (codes "crate-open") then
-      option_map to_open (given (codes "CRATE"))
+      else if bytes_eq name (codes "access") then option_map to_access (crate_in given)
       else None
 
 -- where the text of a new token is from: its digest is told, or a file has the random bytes
@@ -129,7 +137,7 @@ token_words given = option_and_then (λ login. option_map (λ from. record {
   endpoints = parts_of (given (codes "endpoints"));
   patterns = parts_of (given (codes "patterns"));
   source = from;
-}) (source_given given)) (given (codes "LOGIN"))
+}) (source_given given)) (login_in given)
 
 abbrev pub is_pair : Text → Bool
 is_pair name = bytes_eq name (codes "owner-add")
