@@ -1,14 +1,35 @@
 //! Numbers among the words.
 
+ghost use Rattle.std.specs.Prelude.{◌≡◌, ◌^◌};
+ghost use Rattle.std.specs.Char.{is_ascii_digit};
+ghost use Rattle.std.specs.List.{list_all};
+ghost use Rattle.reg_words.specs.Orders.{number_below};
+
+fn are_digits(text: &str) -> bool
+    ensures { result ≡ list_all is_ascii_digit text.now }
+{
+    text.bytes().all(|b| b.is_ascii_digit())
+}
+
 /// The number that decimal digits write, where it is below 2^64. Zeros in front are taken; a sign
 /// is not.
-pub fn decimal(text: &str) -> Option<u64> {
-    if text.is_empty() || !text.bytes().all(|b| b.is_ascii_digit()) {
-        return None;
+pub fn decimal(text: &str) -> Option<u64>
+    ensures { result ≡ number_below (2 ^ 64) text.now }
+{
+    if are_digits(text) {
+        text.parse().ok()
+    } else {
+        None
     }
-    match text.trim_start_matches('0') {
-        "" => Some(0),
-        digits => digits.parse().ok(),
+}
+
+/// The number of a token, where it can be one.
+pub(crate) fn token_id(text: &str) -> Option<u32>
+    ensures { result ≡ number_below (2 ^ 32) text.now }
+{
+    match decimal(text) {
+        Some(number) => u32::try_from(number).ok(),
+        None => None,
     }
 }
 

@@ -1,12 +1,12 @@
 //! What the words of a subcommand order.
 
-ghost use Rattle.std.specs.Prelude.{IfOk, IfSome};
+ghost use Rattle.std.specs.Prelude.{◌≡◌, IfOk, IfSome, map, option_map};
 ghost use Rattle.reg_model.specs.Events.Event.{Order as ToOrder};
 ghost use Rattle.reg_model.specs.Steps.{IsFit};
 ghost use Rattle.reg_policy.specs.Events.{command_of};
-ghost use Rattle.reg_words.specs.Orders.{IsFitOrder};
+ghost use Rattle.reg_words.specs.Orders.{IsFitOrder, account_command, digest_from, given_by, name_command, order_from, ordered_of, pair_command, parts_of, source_given, source_of, token_command, token_words, words_of};
 
-use crate::numbers::decimal;
+use crate::numbers::token_id;
 use clap::ArgMatches;
 use hex::decode_to_slice;
 use reg_line::Digest;
@@ -34,7 +34,8 @@ pub struct NewToken<'a> {
 impl<'a> NewToken<'a> {
     /// The command that adds it, with the digest of its text.
     pub fn command<'b>(&'b self, digest: &'b Digest) -> AdminCommand<'b>
-        ensures { IsFit (ToOrder (command_of result)) }
+        ensures adds { command_of result ≡ token_command (words_of self.now) digest.now }
+        ensures fit { IsFit (ToOrder (command_of result)) }
     {
         AdminCommand::TokenAdd(self.login, &self.endpoints, &self.patterns, digest)
     }
@@ -48,7 +49,10 @@ pub enum Order<'a> {
 }
 
 /// The parts of a list that commas separate; of a list that is not given none.
-fn parts<'a>(alloc: Global, list: Option<&'a str>) -> Result<Vec<&'a str>, AllocError> {
+fn parts<'a>(alloc: Global, list: Option<&'a str>) -> Result<Vec<&'a str>, AllocError>
+    ensures { IfOk result (λ parts. map (λ p. p.now) parts.items
+        ≡ parts_of (option_map (λ l. l.now) list.entry)) }
+{
     match list {
         Some(list) => list.split(',').collect(alloc),
         None => Ok(Vec::new(alloc)),
@@ -56,7 +60,9 @@ fn parts<'a>(alloc: Global, list: Option<&'a str>) -> Result<Vec<&'a str>, Alloc
 }
 
 /// The digest that 64 hex digits write.
-fn told_digest(text: &str) -> Option<Digest> {
+fn told_digest(text: &str) -> Option<Digest>
+    ensures { result ≡ digest_from text.now }
+{
     let mut digest = [0; 32];
     match decode_to_slice(text, &mut digest) {
         Ok(()) => Some(digest),
@@ -65,7 +71,9 @@ fn told_digest(text: &str) -> Option<Digest> {
 }
 
 /// Where the token's text is from; none where the digest is of another form.
-fn token_source<'a>(words: &ArgMatches<'a>) -> Option<TokenSource<'a>> {
+fn token_source<'a>(words: &ArgMatches<'a>) -> Option<TokenSource<'a>>
+    ensures { option_map source_of result ≡ source_given (given_by words.now) }
+{
     match words.get_str("digest") {
         Some(text) => Some(TokenSource::Told(told_digest(text)?)),
         None => Some(TokenSource::Random(words.get_str("random").unwrap_or("/dev/urandom"))),
@@ -73,10 +81,9 @@ fn token_source<'a>(words: &ArgMatches<'a>) -> Option<TokenSource<'a>> {
 }
 
 /// The words of `token-add`.
-fn read_token<'a>(
-    alloc: Global,
-    words: &ArgMatches<'a>,
-) -> Result<Option<NewToken<'a>>, AllocError> {
+fn read_token<'a>(alloc: Global, words: &ArgMatches<'a>) -> Result<Option<NewToken<'a>>, AllocError>
+    ensures { IfOk result (λ t. option_map words_of t ≡ token_words (given_by words.now)) }
+{
     let (Some(login), Some(source)) = (words.get_str("LOGIN"), token_source(words)) else {
         return Ok(None);
     };
@@ -90,23 +97,22 @@ fn read_token<'a>(
 
 /// A command on an account, a token or a reserved name.
 fn on_account<'a>(name: &str, words: &ArgMatches<'a>) -> Option<AdminCommand<'a>>
-    ensures { IfSome result (λ c. IsFit (ToOrder (command_of c))) }
+    ensures orders { option_map command_of result ≡ account_command name.now (given_by words.now) }
+    ensures fit { IfSome result (λ c. IsFit (ToOrder (command_of c))) }
 {
     match name {
         "user-add" => Some(AdminCommand::UserAdd(words.get_str("LOGIN")?, words.get_str("name"))),
         "user-disable" => Some(AdminCommand::UserDisable(words.get_str("LOGIN")?)),
         "user-enable" => Some(AdminCommand::UserEnable(words.get_str("LOGIN")?)),
-        "token-revoke" => {
-            let id = decimal(words.get_str("ID")?)?;
-            Some(AdminCommand::TokenRevoke(u32::try_from(id).ok()?))
-        }
+        "token-revoke" => Some(AdminCommand::TokenRevoke(token_id(words.get_str("ID")?)?)),
         _ => None,
     }
 }
 
 /// A command on a name.
 fn on_name<'a>(name: &str, words: &ArgMatches<'a>) -> Option<AdminCommand<'a>>
-    ensures { IfSome result (λ c. IsFit (ToOrder (command_of c))) }
+    ensures orders { option_map command_of result ≡ name_command name.now (given_by words.now) }
+    ensures fit { IfSome result (λ c. IsFit (ToOrder (command_of c))) }
 {
     match name {
         "reserve" => Some(AdminCommand::Reserve(words.get_str("NAME")?)),
@@ -119,7 +125,8 @@ fn on_name<'a>(name: &str, words: &ArgMatches<'a>) -> Option<AdminCommand<'a>>
 
 /// A command on a crate and an account.
 fn on_pair<'a>(name: &str, words: &ArgMatches<'a>) -> Option<AdminCommand<'a>>
-    ensures { IfSome result (λ c. IsFit (ToOrder (command_of c))) }
+    ensures orders { option_map command_of result ≡ pair_command name.now (given_by words.now) }
+    ensures fit { IfSome result (λ c. IsFit (ToOrder (command_of c))) }
 {
     let (of, login) = (words.get_str("CRATE")?, words.get_str("LOGIN")?);
     match name {
@@ -136,7 +143,9 @@ pub fn read_order<'a>(
     name: &str,
     words: &ArgMatches<'a>,
 ) -> Result<Option<Order<'a>>, AllocError>
-    ensures { IfOk result (λ o. IfSome o IsFitOrder) }
+    ensures orders { IfOk result (λ o. option_map ordered_of o
+        ≡ order_from name.now (given_by words.now)) }
+    ensures fit { IfOk result (λ o. IfSome o IsFitOrder) }
 {
     let command = match name {
         "token-add" => {

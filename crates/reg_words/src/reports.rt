@@ -1,9 +1,10 @@
 //! The subcommands that report on a registry.
 
-ghost use Rattle.std.specs.Prelude.{IfSome};
+ghost use Rattle.std.specs.Prelude.{◌≡◌, IfSome, option_map};
 ghost use Rattle.reg_model.specs.Events.Event.{Order};
 ghost use Rattle.reg_model.specs.Steps.{IsFit};
 ghost use Rattle.reg_policy.specs.Events.{command_of};
+ghost use Rattle.reg_words.specs.Orders.{given_by, report_command};
 
 use crate::parameters::{Entry, Shape, Words, subcommand};
 use clap::{ArgMatches, Command};
@@ -51,7 +52,8 @@ pub fn with_reports<'a>(
 
 /// The report that a subcommand asks for, if it asks for one.
 pub fn read_report<'a>(name: &str, words: &ArgMatches<'a>) -> Option<AdminCommand<'a>>
-    ensures { IfSome result (λ c. IsFit (Order (command_of c))) }
+    ensures orders { option_map command_of result ≡ report_command name.now (given_by words.now) }
+    ensures fit { IfSome result (λ c. IsFit (Order (command_of c))) }
 {
     match name {
         "users" => Some(AdminCommand::Users),
