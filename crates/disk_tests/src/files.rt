@@ -5,7 +5,7 @@ use crate::playing::{filled, rows_over};
 use sqlite::Files;
 use sqlite_disk::{Crash, Disk};
 use std::alloc::Global;
-use test_files::{Image, NO_LIMITS, closed, files_of, image_of, nothing, open, revive};
+use test_files::{Image, MANY_PAGES, NO_LIMITS, closed, files_of, image_of, nothing, open, revive};
 use test_tables::make_old;
 
 /// The rows of files that a machine finds again after it stopped.
@@ -14,7 +14,7 @@ pub(crate) fn rows_after<D: Crash + Drop>(
     mut files: Files<D>,
 ) -> Result<Option<String>, Fault> {
     revive(&mut files);
-    match open(alloc, files) {
+    match open(alloc, files, MANY_PAGES) {
         Ok(conn) => rows_over(alloc, conn),
         Err(_files) => Err(Fault::NotOpened),
     }
@@ -41,7 +41,7 @@ fn filled_files<D: Disk + Drop>(
     files: Files<D>,
     script: &str,
 ) -> Result<Files<D>, Fault> {
-    match open(alloc, files) {
+    match open(alloc, files, MANY_PAGES) {
         Ok(conn) => closed(filled(alloc, conn, script)?).ok_or(Fault::NotClosed),
         Err(_files) => Err(Fault::NotOpened),
     }
@@ -49,7 +49,7 @@ fn filled_files<D: Disk + Drop>(
 
 /// The files once they were opened and a store of schema 1 was made in them.
 fn old_files<D: Disk + Drop>(alloc: Global, files: Files<D>) -> Result<Files<D>, Fault> {
-    match open(alloc, files) {
+    match open(alloc, files, MANY_PAGES) {
         Ok(mut conn) => match make_old(&mut conn) {
             Ok(()) => closed(conn).ok_or(Fault::NotClosed),
             Err(_error) => Err(Fault::NotMade),

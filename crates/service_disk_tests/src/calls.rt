@@ -41,7 +41,8 @@ ada remove-owners a {"users":["bob","carol"]} -> Json {"msg":"owners removed","o
 ada unyank a 0.1.0 -> Json {"ok":true}"#;
 
 /// Each leaves the registry as it is, and so do the others below.
-pub(crate) const READS: &str = r#"users ->        1  ada                               enabled   Ada<0a>
+pub(crate) const READS: &str =
+    r#"users ->        1  ada                               enabled   Ada<0a>
            2  bob                               enabled   -<0a>
 tokens ->        1  ada                               live     publish-new,publish-update,
     yank,change-owners  *<0a>

@@ -1,12 +1,12 @@
 //! Scripts over files that stop, and what is found of a registry in files.
 
 use crate::fault::Fault;
-use sqlite::{Alter, Connection, Files};
+use sqlite::{Alter, Connection, Files, Options};
 use sqlite_disk::Disk;
 use std::alloc::{AllocError, Global};
 use test_files::{
-    Image, Limits, NO_LIMITS, Stopping, closed, files_of, have_stopped, image_of, nothing, open,
-    revive,
+    FEW_PAGES, Image, Limits, MANY_PAGES, NO_LIMITS, Stopping, closed, files_of, have_stopped,
+    image_of, nothing, open, revive,
 };
 use test_service::{Played, play};
 
@@ -45,7 +45,7 @@ fn seen_over<S: Alter + Drop>(alloc: Global, conn: Connection<S>) -> Result<Stri
 }
 
 fn seen_in(alloc: Global, files: Files<Stopping>) -> Result<String, Fault> {
-    match open(alloc, files) {
+    match open(alloc, files, MANY_PAGES) {
         Ok(conn) => seen_over(alloc, conn),
         Err(_files) => Err(Fault::NotOpened),
     }
@@ -76,12 +76,8 @@ fn prepared_of(alloc: Global, mut files: Files<Stopping>) -> Result<Prepared, Fa
 }
 
 /// The files once lines were played in them, each of which is answered as it says.
-fn filled(
-    alloc: Global,
-    files: Files<Stopping>,
-    lines: &str,
-) -> Result<Files<Stopping>, Fault> {
-    let Ok(conn) = open(alloc, files) else {
+fn filled(alloc: Global, files: Files<Stopping>, lines: &str) -> Result<Files<Stopping>, Fault> {
+    let Ok(conn) = open(alloc, files, MANY_PAGES) else {
         return Err(Fault::NotOpened);
     };
     let (conn, played) = play(alloc, conn, lines, None);
@@ -109,8 +105,9 @@ fn played_in<D: Disk + Drop>(
     files: Files<D>,
     lines: &str,
     amount: Option<u32>,
+    options: Options,
 ) -> (Files<D>, Result<Played, AllocError>) {
-    match open(alloc, files) {
+    match open(alloc, files, options) {
         Ok(conn) => {
             let (conn, played) = play(alloc, conn, lines, amount);
             (conn.into_store().close(), played)
@@ -137,7 +134,7 @@ pub(crate) fn outcome_of(
     limits: &Limits,
 ) -> Result<Outcome, Fault> {
     let files = files_of(alloc, &prepared.image, limits)?;
-    let (mut files, played) = played_in(alloc, files, lines, limits.call);
+    let (mut files, played) = played_in(alloc, files, lines, limits.call, FEW_PAGES);
     let stopped = have_stopped(&mut files);
     let seen = seen_after(alloc, files, known)?;
     Ok(Outcome {
@@ -154,6 +151,6 @@ pub(crate) fn done_over(
     lines: &str,
 ) -> Result<(Played, Prepared), Fault> {
     let files = files_of(alloc, &prepared.image, &NO_LIMITS)?;
-    let (files, played) = played_in(alloc, files, lines, None);
+    let (files, played) = played_in(alloc, files, lines, None, FEW_PAGES);
     Ok((played?, prepared_of(alloc, files)?))
 }

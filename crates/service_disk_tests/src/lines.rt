@@ -1,8 +1,8 @@
 //! Lines that are tried in turn, each a task and its answer.
 
 use crate::fault::Fault;
-use crate::files::{Prepared, done_over, prepare, prepare_nothing};
-use crate::trials::{Later, Trial, each_amount};
+use crate::files::{Prepared, done_over, outcome_of, prepare, prepare_nothing};
+use crate::trials::{Amounts, Later, Trial, each_amount};
 use std::alloc::{AllocError, Global};
 use test_files::{Scarce, Seen};
 use test_service::TWO_ACCOUNTS_AND_A;
@@ -15,25 +15,78 @@ export";
 
 /// The lines that do a task, which has the mark.
 fn lines_of(alloc: Global, task: &str) -> Result<String, AllocError> {
-    match task {
-        "create" | "open" => format!(in alloc; "! {task}"),
-        _ => format!(in alloc; "open\n! {task}"),
+    if opens(task) {
+        return format!(in alloc; "! {task}");
     }
+    format!(in alloc; "open\n! {task}")
 }
 
-/// What is seen while each file stops at each of its calls, of the log and of the database.
-fn stopped(alloc: Global, trial: &Trial<'_>) -> Result<(Seen, Seen), Fault> {
-    let log = each_amount(alloc, trial, Scarce::Log, 1)?;
-    let db = each_amount(alloc, trial, Scarce::Db, 1)?;
-    Ok((log, db))
+/// Whether a task opens the registry itself.
+fn opens(task: &str) -> bool {
+    task.starts_with("create") || task.starts_with("open")
 }
 
-/// Tries a task over files that stop.
+/// How many calls of a file opening takes.
+fn taken_by_opening(alloc: Global, before: &Prepared, scarce: Scarce) -> Result<u32, Fault> {
+    let mut too_few: u32 = 0;
+    let mut gap: u32 = 512;
+    for _ in 0..10 {
+        let calls = too_few.saturating_add(gap);
+        let found = outcome_of(alloc, &[before], before, "open", &scarce.with(calls))?;
+        if found.played.lines.as_str() != "open -> done\n" {
+            too_few = calls;
+        }
+        gap /= 2;
+    }
+    Ok(too_few.saturating_add(1))
+}
+
+/// What is scarce while lines are tried.
+#[derive(Clone, Copy)]
+enum How {
+    /// The calls of the log and of the database: how many there are first.
+    Stops(u32, u32),
+    /// Memory: the bytes between two amounts.
+    Amounts(u32),
+}
+
+/// How lines are tried over files that stop. What stops while the registry is opened is tried with
+/// the task of opening alone.
+fn stops_of(alloc: Global, before: &Prepared, lines: &str) -> Result<How, Fault> {
+    if opens(lines) {
+        return Ok(How::Stops(0, 0));
+    }
+    let log = taken_by_opening(alloc, before, Scarce::Log)?;
+    let db = taken_by_opening(alloc, before, Scarce::Db)?;
+    Ok(How::Stops(log, db))
+}
+
+/// What is seen while a file stops at each of its calls, from the first on.
+fn stops(alloc: Global, trial: &Trial<'_>, scarce: Scarce, first: u32) -> Result<Seen, Fault> {
+    let amounts = Amounts {
+        scarce,
+        first,
+        step: 1,
+    };
+    each_amount(alloc, trial, amounts)
+}
+
+/// What came of the runs, unless some kept the task from being done and none broke anything.
+fn otherwise(alloc: Global, log: Seen, db: Seen) -> Result<Option<String>, Fault> {
+    let are_tried = log.before > 0 || db.before > 0;
+    if are_tried && log.broken.is_none() && db.broken.is_none() {
+        return Ok(None);
+    }
+    Ok(Some(format!(in alloc; "{log:?} {db:?}")?))
+}
+
+/// Tries a task over files that stop, of whose calls there are so many first.
 fn try_stops(
     alloc: Global,
     before: &Prepared,
     task: &str,
     answer: &str,
+    firsts: (u32, u32),
 ) -> Result<Option<String>, Fault> {
     let lines = lines_of(alloc, task)?;
     let (_played, after) = done_over(alloc, before, &lines)?;
@@ -44,11 +97,9 @@ fn try_stops(
         after: &after,
         later: None,
     };
-    let (log, db) = stopped(alloc, &trial)?;
-    if log.before > 0 && log.broken.is_none() && db.broken.is_none() {
-        return Ok(None);
-    }
-    Ok(Some(format!(in alloc; "{log:?} {db:?}")?))
+    let log = stops(alloc, &trial, Scarce::Log, firsts.0)?;
+    let db = stops(alloc, &trial, Scarce::Db, firsts.1)?;
+    otherwise(alloc, log, db)
 }
 
 /// Tries a task with amounts of memory by this step.
@@ -74,26 +125,22 @@ fn try_amounts(
         after: &after,
         later: Some(later),
     };
-    let seen = each_amount(alloc, &trial, Scarce::Call, step)?;
-    if seen.before > 0 && seen.broken.is_none() {
-        return Ok(None);
-    }
-    Ok(Some(format!(in alloc; "{seen:?}")?))
+    let amounts = Amounts {
+        scarce: Scarce::Call,
+        first: 0,
+        step,
+    };
+    let seen = each_amount(alloc, &trial, amounts)?;
+    otherwise(alloc, seen, Seen::NOTHING)
 }
 
-/// Tries a line over files that stop, or with amounts of memory by a step.
-fn try_line(
-    alloc: Global,
-    before: &Prepared,
-    line: &str,
-    step: Option<u32>,
-) -> Result<(), Fault> {
+fn try_line(alloc: Global, before: &Prepared, line: &str, how: How) -> Result<(), Fault> {
     let Some((task, answer)) = line.split_once(" -> ") else {
         return Err(Fault::Words);
     };
-    let broken = match step {
-        None => try_stops(alloc, before, task, answer)?,
-        Some(step) => try_amounts(alloc, before, task, answer, step)?,
+    let broken = match how {
+        How::Stops(log, db) => try_stops(alloc, before, task, answer, (log, db))?,
+        How::Amounts(step) => try_amounts(alloc, before, task, answer, step)?,
     };
     match broken {
         None => Ok(()),
@@ -101,15 +148,20 @@ fn try_line(
     }
 }
 
+/// Tries each line over files that stop, or with amounts of memory by a step.
 fn each_line(
     alloc: Global,
     before: &Prepared,
     lines: &str,
     step: Option<u32>,
 ) -> Result<(), Fault> {
+    let how = match step {
+        None => stops_of(alloc, before, lines)?,
+        Some(step) => How::Amounts(step),
+    };
     let whole = lines.replace(alloc, "\n    ", "")?;
     for line in whole.lines() {
-        try_line(alloc, before, line, step)?;
+        try_line(alloc, before, line, how)?;
     }
     Ok(())
 }

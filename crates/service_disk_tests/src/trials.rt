@@ -127,16 +127,30 @@ fn run(alloc: Global, trial: &Trial<'_>, limits: &Limits) -> Result<Came, Fault>
     Ok(came_of(trial, &found))
 }
 
-/// Does the task with none, one step, two steps, .. of what is scarce, until it is done.
+/// What is scarce, how much of it there is first, and by what step more.
+#[derive(Clone, Copy)]
+pub(crate) struct Amounts {
+    pub(crate) scarce: Scarce,
+    pub(crate) first: u32,
+    pub(crate) step: u32,
+}
+
+impl Amounts {
+    fn limits(self, at: u32) -> Limits {
+        let amount = at.saturating_mul(self.step).saturating_add(self.first);
+        self.scarce.with(amount)
+    }
+}
+
+/// Does the task with the first amount, one step more, two steps more, .. until it is done.
 pub(crate) fn each_amount(
     alloc: Global,
     trial: &Trial<'_>,
-    scarce: Scarce,
-    step: u32,
+    amounts: Amounts,
 ) -> Result<Seen, Fault> {
     let mut seen = Seen::NOTHING;
     for at in 0..MOST_RUNS {
-        let came = run(alloc, trial, &scarce.with(at.saturating_mul(step)))?;
+        let came = run(alloc, trial, &amounts.limits(at))?;
         if !seen.counts(came) {
             return Ok(seen);
         }

@@ -9,6 +9,23 @@ use std::io;
 /// A file in memory that stops after some call.
 pub type Stopping = Fuse<Memory>;
 
+/// The options of a program: each page that was read is kept in memory.
+pub const MANY_PAGES: Options = Options {
+    cache_pages: 2_000,
+    spill_pages: 2_000,
+    checkpoint_frames: 1_000,
+    seed: 7,
+};
+
+/// One page is kept, so that pages are read again and again, and each commit is copied from the log
+/// into the database at once.
+pub const FEW_PAGES: Options = Options {
+    cache_pages: 1,
+    spill_pages: 2_000,
+    checkpoint_frames: 1,
+    seed: 7,
+};
+
 /// The bytes of files that were closed.
 #[derive(Drop)]
 pub struct Image {
@@ -73,11 +90,12 @@ pub fn revive<D: Crash>(files: &mut Files<D>) {
 pub fn open<D: Disk + Drop>(
     alloc: Global,
     files: Files<D>,
+    options: Options,
 ) -> Result<Connection<FileStore<D>>, Files<D>> {
     if !files.log.may_be_used() || !files.db.may_be_used() {
         return Err(files);
     }
-    match Connection::open_files(alloc, files, Options::new(7)) {
+    match Connection::open_files(alloc, files, options) {
         Ok(conn) => Ok(conn),
         Err((_error, left)) => Err(left.into_files()),
     }

@@ -47,10 +47,7 @@ impl Scarce {
 }
 
 /// Leaves no more than this amount of memory, if there is one, until what is answered is dropped.
-pub fn leave_only(
-    alloc: Global,
-    amount: Option<u32>,
-) -> Result<Option<Amounts>, AllocError> {
+pub fn leave_only(alloc: Global, amount: Option<u32>) -> Result<Option<Amounts>, AllocError> {
     let Some(amount) = amount else {
         return Ok(None);
     };
