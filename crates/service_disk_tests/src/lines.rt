@@ -102,6 +102,30 @@ fn try_stops(
     otherwise(alloc, log, db)
 }
 
+/// What is asked after a task, and the task once more, unless it opens the registry itself.
+fn lines_behind(alloc: Global, task: &str) -> Result<String, AllocError> {
+    let again = if opens(task) { "" } else { task };
+    format!(in alloc; "{REPORTS}\n{again}")
+}
+
+/// What these lines are answered where nothing was done before them.
+fn undone_lines(alloc: Global, before: &Prepared, behind: &str) -> Result<String, Fault> {
+    let lines = format!(in alloc; "open\n{behind}")?;
+    let (played, _after) = done_over(alloc, before, &lines)?;
+    Ok(played.lines)
+}
+
+/// Does a task with no memory, one step, two steps, ..: what broke a promise, if something did.
+fn amounts(alloc: Global, trial: &Trial<'_>, step: u32) -> Result<Option<String>, Fault> {
+    let amounts = Amounts {
+        scarce: Scarce::Call,
+        first: 0,
+        step,
+    };
+    let seen = each_amount(alloc, trial, amounts)?;
+    otherwise(alloc, seen, Seen::NOTHING)
+}
+
 /// Tries a task with amounts of memory by this step.
 fn try_amounts(
     alloc: Global,
@@ -110,13 +134,13 @@ fn try_amounts(
     answer: &str,
     step: u32,
 ) -> Result<Option<String>, Fault> {
-    let lines = format!(in alloc; "{}\n{REPORTS}\n{task}", lines_of(alloc, task)?)?;
+    let behind = lines_behind(alloc, task)?;
+    let undone = undone_lines(alloc, before, &behind)?;
+    let lines = format!(in alloc; "{}\n{behind}", lines_of(alloc, task)?)?;
     let (done, after) = done_over(alloc, before, &lines)?;
-    let plain = format!(in alloc; "open\n{REPORTS}\n{task}")?;
-    let (undone, _after) = done_over(alloc, before, &plain)?;
     let later = Later {
         done: &done.lines,
-        undone: &undone.lines,
+        undone: &undone,
     };
     let trial = Trial {
         lines: &lines,
@@ -125,13 +149,7 @@ fn try_amounts(
         after: &after,
         later: Some(later),
     };
-    let amounts = Amounts {
-        scarce: Scarce::Call,
-        first: 0,
-        step,
-    };
-    let seen = each_amount(alloc, &trial, amounts)?;
-    otherwise(alloc, seen, Seen::NOTHING)
+    amounts(alloc, &trial, step)
 }
 
 fn try_line(alloc: Global, before: &Prepared, line: &str, how: How) -> Result<(), Fault> {

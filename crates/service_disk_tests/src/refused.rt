@@ -6,7 +6,7 @@ use crate::fault::Fault;
 use crate::lines::{over_files, over_nothing};
 
 /// Bytes between two amounts, while a registry is made or changed, and while it is read.
-const STEP: u32 = 16_000;
+const STEP: u32 = 24_000;
 
 const STEP_OF_READS: u32 = 4_000;
 
