@@ -2,8 +2,8 @@
 
 use crate::calls::{A_CRATE, CHANGES};
 use crate::fault::Fault;
-use crate::limits::Scarce;
 use crate::lines::{How, over_files};
+use test_files::Scarce;
 
 /// Bytes between two amounts: for one change, and for each of all changes.
 const STEP: u32 = 10_000;

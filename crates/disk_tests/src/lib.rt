@@ -17,8 +17,6 @@ mod fault;
 #[cfg(test)]
 mod files;
 #[cfg(test)]
-mod limits;
-#[cfg(test)]
 mod lines;
 #[cfg(test)]
 mod migration;

@@ -1,11 +1,11 @@
 //! Lines that are tried in turn, each a task and its answer.
 
 use crate::fault::Fault;
-use crate::files::{Prepared, nothing, prepare_files, prepare_old_files};
-use crate::limits::Scarce;
+use crate::files::{Prepared, prepare_files, prepare_nothing, prepare_old_files};
 use crate::tasks::{Task, read_task};
-use crate::trials::{Seen, Trial, each_amount, rows_once_done};
+use crate::trials::{Trial, each_amount, rows_once_done};
 use std::alloc::Global;
+use test_files::{Scarce, Seen};
 
 /// What is scarce while a line is tried, and what shall come of it.
 #[derive(Clone, Copy)]
@@ -95,7 +95,7 @@ fn each_line(alloc: Global, prepared: &Prepared, lines: &str, how: How) -> Resul
 
 /// Tries each line over files with nothing in them.
 pub(crate) fn over_nothing(alloc: Global, lines: &str, how: How) -> Result<(), Fault> {
-    each_line(alloc, &nothing(alloc), lines, how)
+    each_line(alloc, &prepare_nothing(alloc), lines, how)
 }
 
 /// Tries each line over the prepared registry, once a script was played over that.

@@ -3,13 +3,13 @@
 
 use crate::fault::Fault;
 use crate::files::prepare_old_files;
-use crate::limits::Scarce;
 use crate::lines::{How, over_files, over_old_files};
 use crate::playing::schema_words;
 use crate::tasks::Task;
 use crate::trials::rows_once_done;
 use reg_tables::Edition;
 use std::alloc::Global;
+use test_files::Scarce;
 
 /// Each leaves a store of schema 1 as it is.
 const SELECTIONS: &str = "adopt -> done

@@ -3,8 +3,8 @@
 
 use crate::calls::{A_CRATE, AN_OPENING, CHANGES, RESTRICTED, SELECTIONS, VERSIONS};
 use crate::fault::Fault;
-use crate::limits::Scarce;
 use crate::lines::{How, over_files, over_nothing};
+use test_files::Scarce;
 
 /// Bytes between two amounts: for one change and for each of all changes, for one selection and for
 /// each of all selections, and for the checks on opening.

@@ -4,13 +4,13 @@ ghost use Rattle.std.specs.Prelude.{◌≡◌, IfOk};
 ghost use Rattle.reg_tables.specs.Works.{AreOurs, IsAtWork};
 
 use crate::fault::Fault;
-use crate::files::{Image, files_of, have_stopped, open, rows_after};
-use crate::limits::{Limits, leave_only};
+use crate::files::rows_after;
 use reg_audit::audit;
 use reg_tables::{StoreFault, Tables, Work};
 use sqlite::{Alter, Connection, Files};
 use sqlite_disk::Disk;
 use std::alloc::{AllocError, Global};
+use test_files::{Image, Limits, MANY_PAGES, files_of, have_stopped, leave_only, open};
 use test_support::scarce_memory::Amounts;
 use test_tables::{BASE, Call, check_text, perform, read_call, read_logins, reply_text};
 
@@ -262,7 +262,7 @@ fn over_files<D: Disk + Drop>(
     task: &Task<'_>,
     limits: &Limits,
 ) -> (Files<D>, Result<Reply, AllocError>) {
-    match open(alloc, files) {
+    match open(alloc, files, MANY_PAGES) {
         Ok(conn) => {
             let (conn, reply) = over_connection(alloc, conn, task, limits);
             (conn.into_store().close(), reply)

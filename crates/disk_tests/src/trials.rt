@@ -3,31 +3,12 @@
 
 use crate::fault::Fault;
 use crate::files::Prepared;
-use crate::limits::{Limits, NO_LIMITS, Scarce};
 use crate::tasks::{Outcome, Task, outcome_of};
 use std::alloc::Global;
+use test_files::{Came, Limits, NO_LIMITS, Scarce, Seen};
 
 /// More runs than any task needs.
 const MOST_RUNS: u32 = 1000;
-
-/// How many runs that were not done left the rows before, and how many those after; none if a run
-/// broke what is promised, with what it broke.
-#[derive(Clone, Copy, Debug)]
-pub(crate) struct Seen {
-    pub(crate) before: u32,
-    pub(crate) after: u32,
-    pub(crate) broken: Option<&'static str>,
-}
-
-impl Seen {
-    fn broken(why: &'static str) -> Seen {
-        Seen {
-            before: 0,
-            after: 0,
-            broken: Some(why),
-        }
-    }
-}
 
 /// A task over these files, its answer, and the rows after it.
 #[derive(Clone, Copy)]
@@ -50,15 +31,6 @@ pub(crate) fn rows_once_done(
         return Ok(rows);
     }
     Err(Fault::Line(reply.text))
-}
-
-/// What came of a run.
-#[derive(Clone, Copy)]
-enum Came {
-    Done,
-    Before,
-    After,
-    Broken(&'static str),
 }
 
 /// What came of a run that was not done.
@@ -101,17 +73,11 @@ pub(crate) fn each_amount(
     scarce: Scarce,
     step: u32,
 ) -> Result<Seen, Fault> {
-    let mut seen = Seen {
-        before: 0,
-        after: 0,
-        broken: None,
-    };
+    let mut seen = Seen::NOTHING;
     for at in 0..MOST_RUNS {
-        match run(alloc, trial, &scarce.with(at.saturating_mul(step)))? {
-            Came::Done => return Ok(seen),
-            Came::Before => seen.before = seen.before.saturating_add(1),
-            Came::After => seen.after = seen.after.saturating_add(1),
-            Came::Broken(why) => return Ok(Seen::broken(why)),
+        let came = run(alloc, trial, &scarce.with(at.saturating_mul(step)))?;
+        if !seen.counts(came) {
+            return Ok(seen);
         }
     }
     Ok(Seen::broken("never done"))

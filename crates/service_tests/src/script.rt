@@ -14,7 +14,7 @@ use reg_service::Registry;
 use sqlite::{Alter, Connection};
 use std::alloc::{AllocError, Global};
 use std::process::Abort;
-use test_service::{BASE, TWO_ACCOUNTS, TWO_ACCOUNTS_AND_A};
+use test_service::{BASE, TWO_ACCOUNTS, TWO_ACCOUNTS_AND_A, limits_of};
 
 /// What is wrong with a line; none where it is answered as it says.
 fn fault_of<S: Alter>(
@@ -53,31 +53,8 @@ fn first_fault<S: Alter>(
     Ok(None)
 }
 
-/// Sets the limit with this name. Another name leaves no room for an account.
-fn limit(limits: &mut Limits, name: &str, number: u32) {
-    match name {
-        "logins" => limits.logins = number,
-        "patterns" => limits.patterns = number,
-        "versions" => limits.versions = u64::from(number),
-        "accounts" => limits.accounts = u64::from(number),
-        "crates" => limits.crates = u64::from(number),
-        _ => limits.accounts = 0,
-    }
-}
-
-/// The standard limits with those set that the words name, as `crates=1`.
-fn limits_of(words: &str) -> Limits {
-    let mut limits = Limits::STANDARD;
-    for word in words.split(' ') {
-        if let Some((name, number)) = word.split_once('=') {
-            limit(&mut limits, name, number.parse().unwrap_or(0));
-        }
-    }
-    limits
-}
-
 /// What a first line says that there is: the lines that make it.
-fn setup_of(first: &str) -> &'static str {
+pub(crate) fn setup_of(first: &str) -> &'static str {
     if first.starts_with("given two-accounts-and-a") {
         TWO_ACCOUNTS_AND_A
     } else if first.starts_with("given two-accounts") {

@@ -1,7 +1,8 @@
 //! What the tests of the service share: words of scripts that are calls, what calls are told as
 //! texts, and the registries of the worked examples as the lines that make them.
 //!
-//! A line is a command or a request, an arrow, and its whole answer.
+//! A line is a command or a request, `export`, `audit`, or `stream` before a request for an index
+//! file, an arrow, and its whole answer.
 //! Who asks is ada, bob, no-token, or the text of a token:
 //!
 //! ```text
@@ -11,10 +12,15 @@
 #![tactic(auto)]
 
 mod calls;
+mod limits;
+mod playing;
 mod replies;
 mod requests;
 mod setups;
+mod tasks;
 
 pub use calls::{Parts, answer};
+pub use limits::limits_of;
+pub use playing::{Played, play};
 pub use replies::{order_text, reply_text, told_text};
 pub use setups::{BASE, TWO_ACCOUNTS, TWO_ACCOUNTS_AND_A};

@@ -39,7 +39,15 @@ fn yes(is: bool) -> &'static str {
     if is { "yes" } else { "no" }
 }
 
-/// A line that reads, or a statement.
+/// Runs a statement, or sets the stem of every version.
+fn plant<S: Alter>(conn: &mut Connection<S>, statement: &str) -> Result<usize, Error> {
+    match statement.strip_prefix("stem ") {
+        Some(stem) => conn.execute("UPDATE versions SET stem = ?1", params![stem.as_bytes()]),
+        None => conn.execute(statement, &[]),
+    }
+}
+
+/// A line that makes the tables or reads, or a statement.
 fn by_statement<S: Alter>(
     alloc: Global,
     conn: &mut Connection<S>,
@@ -51,7 +59,7 @@ fn by_statement<S: Alter>(
     if let Some(text) = line.strip_prefix("rows ") {
         return rows_text(alloc, conn.query_all(text, &[]));
     }
-    String::from_str(alloc, run(conn.execute(line, &[])))
+    String::from_str(alloc, run(plant(conn, line)))
 }
 
 fn by_word<S: Alter>(
@@ -73,7 +81,8 @@ fn by_word<S: Alter>(
     }))
 }
 
-fn by_line<S: Alter>(
+/// What a word on the tables or a statement is answered.
+pub fn by_line<S: Alter>(
     alloc: Global,
     conn: &mut Connection<S>,
     line: &str,
@@ -187,15 +196,6 @@ fn play_each<S: Alter + Drop>(
 /// The first line that is answered otherwise.
 pub fn over_a_connection(alloc: Global, script: &str) -> Result<Option<String>, AllocError> {
     play_each(alloc, Connection::open_in_memory(alloc)?, script)
-}
-
-/// Runs a statement, or sets the stem of every version.
-fn plant<S: Alter>(conn: &mut Connection<S>, statement: &str) -> Result<(), Fault> {
-    match statement.strip_prefix("stem ") {
-        Some(stem) => conn.execute("UPDATE versions SET stem = ?1", params![stem.as_bytes()])?,
-        None => conn.execute(statement, &[])?,
-    };
-    Ok(())
 }
 
 fn plant_each<S: Alter>(conn: &mut Connection<S>, statements: &str) -> Result<(), Fault> {

@@ -24,7 +24,7 @@ mod searching;
 mod words;
 
 pub use answer::Answer;
-pub use bare::{check_each, over_a_connection};
+pub use bare::{by_line, check_each, over_a_connection};
 pub use call::{AccountCall, Call, CrateCall, NameCall, NewToken, Release, TextCall, TokenCall};
 pub use calling::perform;
 pub use fault::Fault;

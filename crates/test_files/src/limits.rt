@@ -5,7 +5,7 @@ use test_support::scarce_memory::Amounts;
 
 /// What runs out.
 #[derive(Clone, Copy)]
-pub(crate) enum Scarce {
+pub enum Scarce {
     /// The calls of the log.
     Log,
     /// The calls of the database.
@@ -18,14 +18,14 @@ pub(crate) enum Scarce {
 
 /// After how many calls each file stops, and how many bytes of memory are left.
 #[derive(Clone, Copy)]
-pub(crate) struct Limits {
-    pub(crate) log: u64,
-    pub(crate) db: u64,
-    pub(crate) call: Option<u32>,
-    pub(crate) commit: Option<u32>,
+pub struct Limits {
+    pub log: u64,
+    pub db: u64,
+    pub call: Option<u32>,
+    pub commit: Option<u32>,
 }
 
-pub(crate) const NO_LIMITS: Limits = Limits {
+pub const NO_LIMITS: Limits = Limits {
     log: u64::MAX,
     db: u64::MAX,
     call: None,
@@ -34,7 +34,7 @@ pub(crate) const NO_LIMITS: Limits = Limits {
 
 impl Scarce {
     /// There is so much of it.
-    pub(crate) fn with(self, amount: u32) -> Limits {
+    pub fn with(self, amount: u32) -> Limits {
         let mut limits = NO_LIMITS;
         match self {
             Scarce::Log => limits.log = u64::from(amount),
@@ -47,10 +47,7 @@ impl Scarce {
 }
 
 /// Leaves no more than this amount of memory, if there is one, until what is answered is dropped.
-pub(crate) fn leave_only(
-    alloc: Global,
-    amount: Option<u32>,
-) -> Result<Option<Amounts>, AllocError> {
+pub fn leave_only(alloc: Global, amount: Option<u32>) -> Result<Option<Amounts>, AllocError> {
     let Some(amount) = amount else {
         return Ok(None);
     };
