@@ -31,8 +31,8 @@ pub(crate) struct Prepared {
     pub(crate) seen: String,
 }
 
-/// What is seen of the registry that a store holds. Where there are no tables it is told of one that
-/// is made then.
+/// What is seen of the registry that a store holds. Where there are no tables it is told of one
+/// that is made then.
 fn seen_over<S: Alter + Drop>(alloc: Global, conn: Connection<S>) -> Result<String, Fault> {
     let is_empty = conn.schema().tables.is_empty();
     let (conn, played) = play(alloc, conn, LOOKS, None);

@@ -1,5 +1,5 @@
-//! A task with each amount of memory: it is answered as with ample memory, or that there is no room,
-//! and then the registry is as before.
+//! A task with each amount of memory: it is answered as with ample memory, or that there is no
+//! room, and then the registry is as before.
 
 use crate::calls::{CHANGED, CHANGES, CHANGES_BACK, PUBLISHES, READS, REFUSALS, REQUESTS};
 use crate::fault::Fault;

@@ -11,7 +11,8 @@ use std::process::Abort;
 use test_service::play as play_over;
 use test_tables::by_line;
 
-/// Statements and words on the tables, each with its answer. A line may have one, which is left out.
+/// Statements and words on the tables, each with its answer. A line may have one, which is left
+/// out.
 fn altered<S: Alter>(
     alloc: Global,
     conn: &mut Connection<S>,

@@ -45,8 +45,8 @@ impl Played {
     }
 }
 
-/// The call of a line, whether it has a mark, and the amount of memory that it is answered with. Its
-/// own answer is left out.
+/// The call of a line, whether it has a mark, and the amount of memory that it is answered with.
+/// Its own answer is left out.
 fn call_of(line: &str, amount: Option<u32>) -> (&str, bool, Option<u32>) {
     let (call, _answer) = line.split_once(" -> ").unwrap_or((line, ""));
     match call.strip_prefix("! ") {
@@ -86,8 +86,8 @@ fn play_lines<S: Alter>(
     Ok(())
 }
 
-/// A registry that a line makes or opens: `create`, `create BASE`, `open`, `open versions=1`; or the
-/// connection.
+/// A registry that a line makes or opens: `create`, `create BASE`, `open`, `open versions=1`; or
+/// the connection.
 fn begun<S: Alter>(
     alloc: Global,
     conn: Connection<S>,
