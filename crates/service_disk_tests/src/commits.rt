@@ -1,5 +1,6 @@
 //! The log stops in the commit of a task: from then on each request is answered S1, each command
-//! G10, until the files are opened again. So nothing is acknowledged on top of what a stop may undo.
+//! G10, until the files are opened again. So nothing is acknowledged on top of what a stop may
+//! undo.
 
 use crate::fault::Fault;
 use crate::files::outcome_of;
