@@ -3,11 +3,12 @@
 //! undo.
 
 use crate::fault::Fault;
-use crate::files::outcome_of;
+use crate::files::{Outcome, outcome_of};
 use crate::lines::files_with;
 use crate::trials::{MOST_RUNS, is_no_room};
 use std::alloc::Global;
 use test_files::Scarce;
+use test_service::Played;
 
 /// What is asked after a task whose commit was refused, and each answer. No unyank would find
 /// anything to change, and the reports would only read.
@@ -35,6 +36,14 @@ stream ada index 1/a -> HTTP/1.1 503 Service Unavailable|content-type: applicati
 content-length: 46||{\"errors\":[{\"detail\":\"S1 storage or memory\"}]}
 ";
 
+/// Whether there was room for what the task asked.
+fn is_answered(played: &Played) -> bool {
+    match &played.marked {
+        Some(answer) => !is_no_room(answer.as_str(), ""),
+        None => false,
+    }
+}
+
 /// What the lines behind a task are answered where the log stops at the last call that keeps the
 /// task from being done: that is one of its commit.
 fn after_the_last_stop(alloc: Global, task: &str) -> Result<String, Fault> {
@@ -42,11 +51,12 @@ fn after_the_last_stop(alloc: Global, task: &str) -> Result<String, Fault> {
     let lines = format!(in alloc; "open\n! {task}\n{AFTERWARDS}")?;
     let mut last = String::new(alloc);
     for calls in 0..MOST_RUNS {
-        let found = outcome_of(alloc, &[&before], &before, &lines, &Scarce::Log.with(calls))?;
-        match found.played.marked {
-            Some(answer) if !is_no_room(&answer, "") => return Ok(last),
-            _ => last = found.played.lines,
+        let limits = Scarce::Log.with(calls);
+        let Outcome { played, .. } = outcome_of(alloc, &[&before], &before, &lines, &limits)?;
+        if is_answered(&played) {
+            return Ok(last);
         }
+        last = played.lines;
     }
     Err(Fault::Line(last))
 }

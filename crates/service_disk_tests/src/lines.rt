@@ -71,6 +71,18 @@ fn stops(alloc: Global, trial: &Trial<'_>, scarce: Scarce, first: u32) -> Result
     each_amount(alloc, trial, amounts)
 }
 
+/// Does a task while the log stops, and then while the database does, of whose calls there are so
+/// many first: what broke a promise, if something did.
+fn both_stops(
+    alloc: Global,
+    trial: &Trial<'_>,
+    firsts: (u32, u32),
+) -> Result<Option<String>, Fault> {
+    let log = stops(alloc, trial, Scarce::Log, firsts.0)?;
+    let db = stops(alloc, trial, Scarce::Db, firsts.1)?;
+    otherwise(alloc, log, db)
+}
+
 /// What came of the runs, unless some kept the task from being done and none broke anything.
 fn otherwise(alloc: Global, log: Seen, db: Seen) -> Result<Option<String>, Fault> {
     let are_tried = log.before > 0 || db.before > 0;
@@ -97,9 +109,7 @@ fn try_stops(
         after: &after,
         later: None,
     };
-    let log = stops(alloc, &trial, Scarce::Log, firsts.0)?;
-    let db = stops(alloc, &trial, Scarce::Db, firsts.1)?;
-    otherwise(alloc, log, db)
+    both_stops(alloc, &trial, firsts)
 }
 
 /// What is asked after a task, and the task once more, unless it opens the registry itself.
