@@ -93,11 +93,11 @@ fn otherwise(alloc: Global, log: Seen, db: Seen) -> Result<Option<String>, Fault
 }
 
 /// Tries a task over files that stop, of whose calls there are so many first.
-fn try_stops(
+fn try_stops<'t>(
     alloc: Global,
-    before: &Prepared,
+    before: &'t Prepared,
     task: &str,
-    answer: &str,
+    answer: &'t str,
     firsts: (u32, u32),
 ) -> Result<Option<String>, Fault> {
     let lines = lines_of(alloc, task)?;
