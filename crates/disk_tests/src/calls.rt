@@ -58,7 +58,8 @@ owners 1 -> 1:ada:Ada:on;2:bob:-:on;
 readers 1 -> 2:bob:-:on;
 restricted 1 -> no
 summary 1 -> 1:1:357;
-how-many-crates -> 1
+reaches-crates 1 -> yes
+reaches-crates 3 -> no
 reserved kept -> yes
 logins -> 1:ada:Ada;2:bob:-;3:cy:-;
 id-of bob -> 2;

@@ -32,7 +32,7 @@ use Rattle.reg_replies.specs.declared.head.Kind.TheVariants.{Json}
 use Rattle.reg_replies.specs.declared.reply.Reply.TheVariants as reply
 use Rattle.reg_statements.specs.declared.crates.Crate.{Crate}
 use Rattle.reg_statements.specs.declared.versions.Version.{Version}
-use Rattle.reg_stored.specs.Calls.{AddsFirst, AddsNext, Counted, FindsCrate, ListsVersions, Tells, published}
+use Rattle.reg_stored.specs.Calls.{AddsFirst, AddsNext, FindsCrate, ListsVersions, Tells, published}
 use Rattle.reg_stored.specs.Changes.{told_of}
 use Rattle.reg_stored.specs.declared.crates.NewVersion.{NewVersion}
 use Rattle.reg_stored.specs.Entries.{shown_version, version_shown}
@@ -96,9 +96,6 @@ unfolding done
 next_done s d p there = ap (λ b. record (with_publication p s) { owners = cond b s.owners (finset.insert s.owners (canon p.name, account_of s d)) }) (sym there)
 
 -- what the tables tell
-pub crates_full : (limits : Limits) (n : ℕ) (db : Trees) → Counted crates db n → TellsFull limits db (nat_le limits.crates n)
-crates_full limits n db counted ids s h = ap (nat_le limits.crates) (counted ids s h)
-
 pub new_crate : (d : Text) (p : Publication) (owner : ℕ) (v : NewVersion) (id : ℕ) (body : Vec _ Global) (old new : Trees) → published p.name v ≡ p → body.items ≡ publish_body → FindsViewer d old owner → AddsFirst p.name owner v old new id
     → MakesCrate d p old new (Done (reply.Done Json body))
 new_crate d p owner v id body old new is text who adds limits fresh allowed = done_served limits d (Publish p) (reply.Done Json body) old new (λ ids s h.

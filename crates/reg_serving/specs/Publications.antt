@@ -2,12 +2,12 @@
 use Rattle.std.specs.Prelude.{◌≡◌, ℕ, Bool, None, Some, length, nat_le}
 use Rattle.sqlite.specs.Tree.{Trees}
 use Rattle.reg_body.specs.declared.limits.Limits.{Limits}
-use Rattle.reg_model.specs.Crates.{crates, first, versions}
+use Rattle.reg_model.specs.Crates.{first, versions}
 use Rattle.reg_model.specs.Events.{action_of}
 use Rattle.reg_model.specs.Events.Asked.{Publish}
 use Rattle.reg_model.specs.Refusals.{denied}
 use Rattle.reg_model.specs.Registry.{Publication, Text}
-use Rattle.reg_stored.specs.Calls.{Tells}
+use Rattle.reg_stored.specs.Calls.{ReachesCrates, Tells}
 use Rattle.reg_stored.specs.Stands.{spelling_at}
 use Rattle.reg_serving.specs.Granted.{IsLet}
 use Rattle.reg_serving.specs.Serves.{Serves}
@@ -23,7 +23,7 @@ IsOf id p db = Tells
 
 -- whether there are as many crates as there may be
 abbrev pub TellsFull : Limits → Trees → Bool → Type 0
-TellsFull limits db full = Tells (λ ids s. full ≡ nat_le limits.crates (crates s)) db
+TellsFull limits = ReachesCrates limits.crates
 
 -- whether the crate with this id has as many versions as it may have
 abbrev pub TellsFullOf : Limits → ℕ → Trees → Bool → Type 0

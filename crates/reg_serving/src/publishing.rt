@@ -40,8 +40,7 @@ fn is_full<S: Alter>(work: &mut Work<'_, S>, limits: &Limits) -> Result<bool, St
     requires { IsAtWork S.Store work.old }
     ensures { Asks S.Store work.old work.new result (TellsFull limits.now) }
 {
-    let crates = work.crates()?;
-    Ok(limits.crates <= crates)
+    work.reaches_crates(limits.crates)
 }
 
 /// Whether a crate has as many versions as it may have.

@@ -1,12 +1,12 @@
 -- How many accounts, tokens and crates the rows stand for.
-use Rattle.std.proofs.Common.{◌≡◌, ◌+◌, ◌==◌, ℕ, suc, pos, min, List, [], ◌∷◌, map, length, Bool, true, false, refl, sym, ap, ◌∙◌, arith, ◌<◌}
+use Rattle.std.proofs.Common.{◌≡◌, ◌+◌, ◌==◌, ℕ, suc, pos, min, max, List, [], ◌∷◌, map, length, Bool, true, false, nat_le, Option, refl, sym, ap, ◌∙◌, arith, ◌<◌, ◌≤◌}
 use Rattle.std.specs.FinSet as finset
 use Rattle.std.specs.List.{list_any, enumerate_from, IsDistinct}
-use Rattle.std.specs.List.Sorted.{IsPermutation}
-use Rattle.std.specs.Ordering.{on, eq_by_cmp}
+use Rattle.std.specs.List.Sorted.{IsPermutation, IsStrictlySortedBy}
+use Rattle.std.specs.Ordering.{on, eq_by_cmp, nat_cmp}
 use Rattle.std.specs.Str.{bytes_eq}
 use Rattle.std.specs.Cmp.Lexicographic.{nat_list_cmp_total}
-use Rattle.std.proofs.lemmas.Bool.{and_parts}
+use Rattle.std.proofs.lemmas.Bool.{and_parts, leb-true}
 use Rattle.std.proofs.lemmas.List.{length-map}
 use Rattle.std.proofs.lemmas.List.Sorted.{length_permutation}
 use Rattle.std.proofs.lemmas.Map.Text.{is_eq-slice_cmp}
@@ -18,16 +18,40 @@ use Rattle.reg_model.specs.Registry.{Text as Words, Publication, text_cmp, mark_
 use Rattle.reg_model.proofs.Keys.{text_apart}
 use Rattle.reg_model.proofs.Lists.{any_same, list_any_map}
 use Rattle.reg_schema.specs.Rows.{capped}
-use Rattle.reg_stored.specs.Stands.{StoredCrate, StoredVersion, is_of, StandCrates, Ids}
+use Rattle.reg_statements.specs.Counts.{IsLastId}
+use Rattle.reg_stored.specs.Changes.{next_crate}
+use Rattle.reg_stored.specs.Ids.{IsNext}
+use Rattle.reg_stored.specs.Stands.{StoredCrate, StoredVersion, is_of, next_of, row_of_crate, StandCrates, Ids}
 use Rattle.reg_stored.proofs.AccountEntries.{number_is}
 use Rattle.std.specs.Cmp.Lexicographic.{nat_list_eq_equiv}
 use Rattle.reg_stored.proofs.CrateLemmas.{same_bytes, bytes_same, crate_of}
+use Rattle.reg_stored.proofs.Rising.{next_as}
+use Rattle.reg_stored.proofs.VersionEntries.{less_is}
 use Rattle.reg_model.proofs.Members.{any_in, in_any, none_in, all_in, each_in}
 
 pub count_is : {X : Type 0} (row : X → Row) (xs : List X) (rows : List Row) (n m : ℕ) → (n ≡ m) × (n < 9223372036854775807) → IsPermutation (map row xs) rows → Int (pos m) ≡ capped (length rows) → n ≡ length xs
 count_is row xs rows n m is h e =
     let many : m ≡ min (length xs) 9223372036854775807 = number_is e ∙ ap (λ k. min k 9223372036854775807) (length_permutation (map row xs) rows h ∙ length-map xs row) in
     omega (arith, is.0, is.1, many)
+
+-- ids that rise are fewer than the next one, or as many
+rise_below : (n : ℕ) (ns : List ℕ) → IsStrictlySortedBy nat_cmp (n ∷ ns) → (n + 1) + length ns ≤ next_of (n ∷ ns)
+unfolding IsStrictlySortedBy
+rise_below n [] up = least n
+  where
+    least : (n : ℕ) → (n + 1) + 0 ≤ max (1 + n) 1
+    least n = omega arith
+rise_below n (m ∷ ns) up = more n m (length ns) (next_of (m ∷ ns)) (less_is n m up.0.0) (rise_below m ns up.1)
+  where
+    more : (n m l k : ℕ) → n < m → (m + 1) + l ≤ k → (n + 1) + suc l ≤ max (1 + n) k
+    more n m l k less h = omega (arith, less, h)
+
+no_more_than_next : (ns : List ℕ) → IsStrictlySortedBy nat_cmp ns → length ns ≤ next_of ns
+no_more_than_next [] up = omega arith
+no_more_than_next (n ∷ ns) up = few n (length ns) (next_of (n ∷ ns)) (rise_below n ns up)
+  where
+    few : (n l k : ℕ) → (n + 1) + l ≤ k → suc l ≤ k
+    few n l k h = omega (arith, h)
 
 pub entries_long : {X : Type 0} (n : ℕ) (xs : List X) → length (enumerate_from n xs) ≡ length xs
 entries_long n [] = refl
@@ -82,3 +106,17 @@ module _ (ids : Ids) (ps : List Publication) (yanked : finset.FinSet mark_cmp) (
 
   pub crates_are : length ids.crates ≡ finset.len (finset.from_list {R = text_cmp} (map (λ p. canon p.name) ps))
   crates_are = sym (size_of_distinct (λ (c : StoredCrate). canon c.1) ids.crates h.canons) ∙ ap finset.len same_texts
+
+  -- crates are counted only where the next id comes near the number
+  pub not_reached : (last : Option ℕ) (next number : ℕ) → IsLastId 7 db last → IsNext last next → next < number → nat_le number (length ids.crates) ≡ false
+  not_reached last next number greatest is low =
+      let at : next ≡ next_crate ids = next_as row_of_crate (λ c. c.0) (λ c. refl) ids.crates (db 7) last next h.crate_rows greatest is in
+      let few = no_more_than_next (map (λ (c : StoredCrate). c.0) ids.crates) h.up in
+      not_le number (length ids.crates) (omega (arith, at, few, length-map ids.crates (λ (c : StoredCrate). c.0), low))
+    where
+      not_le : (a b : ℕ) → b < a → nat_le a b ≡ false
+      not_le a b h = split (nat_le a b) refl
+        where
+          split : (r : Bool) → nat_le a b ≡ r → nat_le a b ≡ false
+          split true e = absurd (omega (arith, h, leb-true a b e))
+          split false e = e

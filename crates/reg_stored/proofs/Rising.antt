@@ -77,7 +77,7 @@ module _ {X : Type 0} (row : X → Row) (id_of : X → ℕ) (keyed : (x : X) →
       same_number_of : {a b : ℕ} → Int (pos a) ≡ Int (pos b) → a ≡ b
       same_number_of e = cc
 
-  next_as : (xs : List X) (rows : List Row) (last : Option ℕ) (id : ℕ) → IsPermutation (map row xs) rows → IsGreatest rows (row_of_id last) → IsNext last id → id ≡ next_of (map id_of xs)
+  pub next_as : (xs : List X) (rows : List Row) (last : Option ℕ) (id : ℕ) → IsPermutation (map row xs) rows → IsGreatest rows (row_of_id last) → IsNext last id → id ≡ next_of (map id_of xs)
   next_as xs rows None id same greatest next =
       let whole = IsPermutation-trans (map row xs) rows greatest.ordered same greatest.same in
       next ∙ sym (at_none xs greatest.ordered whole (none_shown greatest.ordered greatest.shown))

@@ -1,7 +1,7 @@
 -- What each call is on the registry that the rows stand for. A call on what is not there changes
 -- nothing and tells of nothing.
 use Rattle.std.proofs.Common.{[], None}
-use Rattle.std.specs.Prelude.{◌≡◌, ℕ, ◌+◌, Bool, false, List, map, length, Option, Some, IfSome, Vec, string_bytes}
+use Rattle.std.specs.Prelude.{◌≡◌, ℕ, ◌+◌, Bool, false, List, map, length, nat_le, Option, Some, IfSome, Vec, string_bytes}
 use Rattle.std.specs.declared.alloc.Global.{Global}
 use Rattle.std.specs.FinSet as finset
 use Rattle.std.specs.List.{AllByRecursion, enumerate_from, flat_map, list_any}
@@ -201,6 +201,10 @@ FindsSummary id db found = Tells
 -- a number of the registry
 abbrev pub Counted : (Registry → ℕ) → Trees → ℕ → Type 0
 Counted number db n = Tells (λ ids s. n ≡ number s) db
+
+-- whether there are as many crates as this
+abbrev pub ReachesCrates : ℕ → Trees → Bool → Type 0
+ReachesCrates number db is = Tells (λ ids s. is ≡ nat_le number (model.crates s)) db
 
 abbrev pub CountsAll : Trees → Counts → Type 0
 CountsAll db n = Tells

@@ -6,7 +6,8 @@ ghost use Rattle.reg_schema.specs.Rows.{greatest_number};
 ghost use Rattle.reg_schema.specs.States.{IsReady};
 ghost use Rattle.reg_schema.specs.Statements.{rows_in};
 ghost use Rattle.reg_schema.specs.Steps.{KeepsAll, Told};
-ghost use Rattle.reg_stored.specs.Calls.{Counted, CountsAll};
+ghost use Rattle.reg_stored.specs.Calls.{Counted, CountsAll, ReachesCrates};
+ghost use Rattle.reg_stored.specs.Ids.{IsNext};
 ghost use Rattle.reg_model.specs.Crates.{crates};
 
 use reg_statements::{accounts, crates, tokens};
@@ -51,14 +52,38 @@ fn count_tokens<S: Alter>(conn: &mut Connection<S>) -> Result<u64, Error>
     exact(n)
 }
 
-/// How many crates there are.
-pub fn count_crates<S: Alter>(conn: &mut Connection<S>) -> Result<u64, Error>
+fn count_crates<S: Alter>(conn: &mut Connection<S>) -> Result<u64, Error>
     requires { IsReady (state S.Store conn.old) }
     ensures counted { Told S.Store conn.new result (Counted crates (rows_in S.Store conn.old)) }
     ensures same { KeepsAll S.Store conn.old conn.new result }
 {
     let n = crates::count(conn)?;
     exact(n)
+}
+
+// No fewer than the ids that rise up to the last one.
+fn bound(last: Option<u32>) -> u64
+    ensures { IsNext last result }
+{
+    match last {
+        None => 1,
+        Some(id) => u64::from(id) + 1,
+    }
+}
+
+/// Whether there are as many crates as this. They are counted only where their ids come near it.
+pub fn reaches_crates<S: Alter>(conn: &mut Connection<S>, number: u64) -> Result<bool, Error>
+    requires { IsReady (state S.Store conn.old) }
+    ensures told { Told S.Store conn.new result
+        (ReachesCrates number (rows_in S.Store conn.old)) }
+    ensures same { KeepsAll S.Store conn.old conn.new result }
+{
+    let last = crates::last_id(conn)?;
+    if bound(last) < number {
+        return Ok(false);
+    }
+    let n = count_crates(conn)?;
+    Ok(number <= n)
 }
 
 /// How many accounts, tokens and crates there are.

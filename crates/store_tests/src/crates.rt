@@ -111,7 +111,11 @@ summary 1 -> 1:1:349;
 unyank 1 0.9.0 -> done
 summary 1 -> 1:2:350;
 summary 2 -> none
-how-many-crates -> 1";
+reaches-crates 0 -> yes
+reaches-crates 1 -> yes
+reaches-crates 2 -> no
+reaches-crates 3 -> no
+reaches-crates 18446744073709551615 -> no";
 
 #[test]
 fn the_highest_version(rt: HostRuntime) -> Result<(), Fail> {

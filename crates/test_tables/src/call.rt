@@ -13,7 +13,7 @@ pub enum AccountCall<'a> {
     ByLogin(&'a str),
     All,
     Counts,
-    Crates,
+    ReachesCrates(u64),
 }
 
 /// A token that is added.

@@ -30,7 +30,7 @@ fn on_accounts<S: Alter>(
         AccountCall::ByLogin(login) => work.account_by_login(login).map(Answer::Account),
         AccountCall::All => work.all_accounts(alloc).map(Answer::Accounts),
         AccountCall::Counts => work.counts().map(Answer::Counts),
-        AccountCall::Crates => work.crates().map(Answer::Number),
+        AccountCall::ReachesCrates(number) => work.reaches_crates(number).map(Answer::Is),
     }
 }
 

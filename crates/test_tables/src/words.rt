@@ -31,6 +31,7 @@ fn one_account<'a>(word: &str, of: &'a str) -> Option<AccountCall<'a>> {
         "account" => Some(AccountCall::ByLogin(of)),
         "enable" => Some(AccountCall::Enable(of.parse().ok()?, true)),
         "disable" => Some(AccountCall::Enable(of.parse().ok()?, false)),
+        "reaches-crates" => Some(AccountCall::ReachesCrates(of.parse().ok()?)),
         _ => None,
     }
 }
@@ -39,7 +40,6 @@ fn account_call<'a>(words: &[&'a str]) -> Option<AccountCall<'a>> {
     match words {
         ["accounts"] => Some(AccountCall::All),
         ["counts"] => Some(AccountCall::Counts),
-        ["how-many-crates"] => Some(AccountCall::Crates),
         ["add-account", login, name] => Some(AccountCall::Add(login, Some(name))),
         [word, of] => one_account(word, of),
         _ => None,

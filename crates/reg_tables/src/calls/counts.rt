@@ -1,7 +1,6 @@
 //! How much the registry has.
 
-ghost use Rattle.reg_stored.specs.Calls.{Counted, CountsAll};
-ghost use Rattle.reg_model.specs.Crates.{crates};
+ghost use Rattle.reg_stored.specs.Calls.{CountsAll, ReachesCrates};
 ghost use Rattle.reg_tables.specs.Works.{Heard, IsAtWork, IsCall, Unmoved, rows_seen};
 
 use crate::work::{StoreFault, Work, call};
@@ -19,14 +18,15 @@ impl<S: Alter> Work<'_, S> {
         call!(self, counts::count(&mut self.tables.conn))
     }
 
-    /// How many crates there are.
-    pub fn crates(&mut self) -> Result<u64, StoreFault>
+    /// Whether there are as many crates as this. It goes by a key, but where their ids come near
+    /// the number.
+    pub fn reaches_crates(&mut self, number: u64) -> Result<bool, StoreFault>
         requires { IsAtWork S.Store self.old }
-        ensures counted { Heard S.Store self.new result
-            (Counted crates (rows_seen S.Store self.old)) }
+        ensures told { Heard S.Store self.new result
+            (ReachesCrates number (rows_seen S.Store self.old)) }
         ensures same { Unmoved S.Store result self.old self.new }
         ensures leaves { IsCall S.Store result self.old self.new }
     {
-        call!(self, counts::count_crates(&mut self.tables.conn))
+        call!(self, counts::reaches_crates(&mut self.tables.conn, number))
     }
 }
