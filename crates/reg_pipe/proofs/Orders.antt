@@ -1,5 +1,5 @@
 -- One more order behind those that were done.
-use Rattle.std.proofs.Common.{◌≡◌, ◌≢◌, ◌<◌, ◌≤◌, ◌+◌, ◌++◌, ◌&&◌, ◌||◌, ℕ, Bool, true, false, List, [], ◌∷◌, inl, inr, refl, sym, ap, ◌∙◌, subst, arith, append-nil, length, length-append, Result, Ok, Err}
+use Rattle.std.proofs.Common.{◌≡◌, ◌≢◌, ◌<◌, ◌≤◌, ◌+◌, ◌++◌, ◌&&◌, ◌||◌, ℕ, Bool, true, false, List, [], ◌∷◌, inl, inr, refl, sym, ap, ◌∙◌, subst, arith, append-nil, length, length-append, Option, Some, Result, Ok, Err}
 use Rattle.std.specs.List.{list_all, list_any}
 use Rattle.std.proofs.lemmas.List.Folds.{list_all-append, list_any-append}
 use Rattle.sqlite.specs.State.{HasCleanDisk}
@@ -21,7 +21,7 @@ use Rattle.reg_policy.specs.declared.event.AdminReply.TheVariants.{Done, Id, Tex
 use Rattle.reg_policy.specs.Events.{reply_of}
 use Rattle.reg_pipe.specs.declared.setup.SetupFault.{SetupFault}
 use Rattle.reg_pipe.specs.declared.setup.SetupFault.TheVariants.{Memory, Refused, Unreadable}
-use Rattle.reg_pipe.specs.Setups.{HasDone, HasDoneAlone, IsObeyed, IsOfWords, IsSetUp, MakesOf, Obeys, is_order, is_refused}
+use Rattle.reg_pipe.specs.Setups.{HasDone, HasDoneAlone, IsObeyed, IsSetUp, IsSomeObeyed, MakesOf, Obeys, is_order, is_refused}
 
 abbrev pub RunsBegin : {S : Type 0} → Ghosts S → Type 0
 RunsBegin g = (limits : Limits) (s : model.Registry) (t : Tables _) → Shows s (shown g t) → LeavesAlone s (shown g t) → Ran g limits s [] [] s t
@@ -41,17 +41,11 @@ reply_stands (Told t) = refl
 
 -- a command that was answered is an order that was done or refused
 pub obeys : {S : Type 0} (g : Ghosts S) (limits : Limits) (c : Command) (old new : Tables S) (reply : Result AdminReply AdminRefusal) (made : Result (Unit {0}) SetupFault)
-    → IsFit (Order c) → IsAnswered g limits (Order c) (reply_of reply) old new → MakesOf reply made → IsObeyed g limits old new made
+    → IsFit (Order c) → IsAnswered g limits (Order c) (reply_of reply) old new → MakesOf reply made → IsObeyed g limits (Some c) old new made
 obeys g limits c old new (Ok r) made fit answers is =
-    subst (IsObeyed g limits old new) (sym is) (reply_of (Ok r), reply_stands r, record { command = c; fit = fit; answers = answers })
+    subst (IsObeyed g limits (Some c) old new) (sym is) (reply_of (Ok r), reply_stands r, record { command = c; is = refl; fit = fit; answers = answers })
 obeys g limits c old new (Err f) made fit answers is =
-    subst (IsObeyed g limits old new) (sym is) (record { command = c; fit = fit; answers = answers })
-
--- nothing was ordered
-pub obeys_nothing : {S : Type 0} (g : Ghosts S) (limits : Limits) (t : Tables S) (f : SetupFault) → IsOfWords f → IsObeyed g limits t t (Err f)
-obeys_nothing g limits t (Refused r) is = absurd is
-obeys_nothing g limits t Unreadable is = refl
-obeys_nothing g limits t Memory is = refl
+    subst (IsObeyed g limits (Some c) old new) (sym is) (record { command = c; is = refl; fit = fit; answers = answers })
 
 module _ {S : Type 0} (g : Ghosts S) (limits : Limits) (s : model.Registry) where
   pub begun : RunsBegin g → (now : Tables S) → Shows s (shown g now) → LeavesAlone s (shown g now) → HasDoneAlone g limits s now 0
@@ -61,7 +55,7 @@ module _ {S : Type 0} (g : Ghosts S) (limits : Limits) (s : model.Registry) wher
   }
 
   module _ (goes_on : RunsGoOn g) (count : ℕ) (old new : Tables S) (h : HasDoneAlone g limits s old count) (clean : HasCleanDisk (shown g new)) where
-    module _ (a : Answer) (o : Obeys g limits a old new) where
+    module _ {ordered : Option Command} (a : Answer) (o : Obeys g limits ordered a old new) where
       answers : Answers g limits h.done.after (Order o.command) a old new
       answers = o.answers clean h.done.after h.done.ran.shows
 
@@ -103,11 +97,11 @@ module _ {S : Type 0} (g : Ghosts S) (limits : Limits) (s : model.Registry) wher
       }
 
     -- a line was done
-    pub obeyed : (u : Unit {0}) → IsObeyed g limits old new (Ok u) → HasDoneAlone g limits s new (count + 1)
-    obeyed u (a, is, o) = next a o is
+    pub obeyed : (u : Unit {0}) → IsSomeObeyed g limits old new (Ok u) → HasDoneAlone g limits s new (count + 1)
+    obeyed u (used, (a, is, o)) = next a o is
 
     -- a line was not done
-    pub failed : (lines : List Text) (f : SetupFault) → count < length lines → IsObeyed g limits old new (Err f) → IsSetUp g limits s new lines (Err f)
-    failed lines (Refused r) less o = (count, less, last (to_refused r) o)
-    failed lines Unreadable less same = (count, less, subst (λ t. HasDoneAlone g limits s t count) (sym same) h)
-    failed lines Memory less same = (count, omega (arith, less), subst (λ t. HasDoneAlone g limits s t count) (sym same) h)
+    pub failed : (lines : List Text) (f : SetupFault) → count < length lines → IsSomeObeyed g limits old new (Err f) → IsSetUp g limits s new lines (Err f)
+    failed lines (Refused r) less (used, o) = (count, less, last (to_refused r) o)
+    failed lines Unreadable less (used, (none, same)) = (count, less, subst (λ t. HasDoneAlone g limits s t count) (sym same) h)
+    failed lines Memory less (used, same) = (count, omega (arith, less), subst (λ t. HasDoneAlone g limits s t count) (sym same) h)

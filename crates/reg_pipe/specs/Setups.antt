@@ -1,6 +1,8 @@
 -- What the lines of a setup file come to.
-use Rattle.std.specs.Prelude.{◌≡◌, ◌++◌, ◌<◌, ◌≤◌, ℕ, Bool, true, false, List, [], ◌∷◌, length, Result, Ok, Err}
+use Rattle.std.specs.Prelude.{◌≡◌, ◌++◌, ◌<◌, ◌≤◌, ℕ, Bool, true, false, List, [], ◌∷◌, length, Option, Some, None, option_and_then, Result, Ok, Err}
 use Rattle.std.specs.List.{list_all, list_any}
+use Rattle.clap.specs.Words.{Row, first_of, subcommand_rows_of}
+use Rattle.clap.specs.declared.parser.matches.ArgMatches.{ArgMatches}
 use Rattle.sqlite_trees.specs.declared.store.Store.{Ghosts}
 use Rattle.reg_body.specs.declared.limits.Limits.{Limits}
 use Rattle.reg_model.specs.declared.rule.AdminRefusal.{AdminRefusal}
@@ -15,6 +17,9 @@ use Rattle.reg_tables.specs.declared.tables.Tables.{Tables}
 use Rattle.reg_tables.specs.Works.{shown}
 use Rattle.reg_service.specs.Answered.{IsAnswered, LeavesAlone}
 use Rattle.reg_service.specs.Sequences.{Ran}
+use Rattle.reg_words.specs.Orders.{Ordered, Source, TokenWords, order_from, token_command}
+use Rattle.reg_words.specs.Orders.Ordered.{Token, Whole}
+use Rattle.reg_words.specs.Orders.Source.{Random, Told}
 use Rattle.reg_pipe.specs.declared.setup.SetupFault.{SetupFault}
 use Rattle.reg_pipe.specs.declared.setup.SetupFault.TheVariants.{Memory, Refused, Unreadable}
 
@@ -31,21 +36,51 @@ abbrev pub MakesOf : Result AdminReply AdminRefusal → Result (Unit {0}) SetupF
 MakesOf (Ok reply) made = made ≡ Ok tt
 MakesOf (Err refusal) made = made ≡ Err (Refused refusal)
 
--- a command was ordered, and answered so
-pub record Obeys {S : Type 0} (g : Ghosts S) (limits : Limits) (a : Answer) (old new : Tables S)
-    : Type 0 where
+-- the command that adds a token, where its digest is told
+abbrev pub adding : TokenWords → Source → Option Command
+adding words (Told digest) = Some (token_command words digest)
+adding words (Random file) = None
+
+abbrev pub token_order : TokenWords → Option Command
+token_order words = adding words words.source
+
+abbrev pub whole_order : Ordered → Option Command
+whole_order (Token words) = token_order words
+whole_order (Whole c) = Some c
+
+-- the command that a subcommand orders, by its name and its values
+abbrev pub order_of : Option (Text × List Row) → Option Command
+order_of None = None
+order_of (Some (name, rows)) =
+    option_and_then whole_order (order_from name (λ id. first_of id rows))
+
+abbrev pub order_in : ArgMatches → Option Command
+order_in words = order_of (subcommand_rows_of words)
+
+-- this command was ordered, and answered so
+pub record Obeys {S : Type 0} (g : Ghosts S) (limits : Limits) (ordered : Option Command)
+    (a : Answer) (old new : Tables S) : Type 0 where
   pub command : Command
+  pub is : ordered ≡ Some command
   pub fit : IsFit (Order command)
   pub answers : IsAnswered g limits (Order command) a old new
 
--- one line: a command that was done or refused, or nothing
-abbrev pub IsObeyed : {S : Type 0} → Ghosts S → Limits → Tables S → Tables S
+-- one line: the command that it orders was done or refused, or it orders none, or memory was
+-- refused
+abbrev pub IsObeyed : {S : Type 0} → Ghosts S → Limits → Option Command → Tables S → Tables S
     → Result (Unit {0}) SetupFault → Type 0
-IsObeyed g limits old new (Ok _) =
-    (a : Answer) × (is_refused a ≡ false) × Obeys g limits a old new
-IsObeyed g limits old new (Err (Refused r)) = Obeys g limits (to_refused r) old new
-IsObeyed g limits old new (Err Unreadable) = new ≡ old
-IsObeyed g limits old new (Err Memory) = new ≡ old
+IsObeyed g limits ordered old new (Ok _) =
+    (a : Answer) × (is_refused a ≡ false) × Obeys g limits ordered a old new
+IsObeyed g limits ordered old new (Err (Refused r)) =
+    Obeys g limits ordered (to_refused r) old new
+IsObeyed g limits ordered old new (Err Unreadable) = (ordered ≡ None) × (new ≡ old)
+IsObeyed g limits ordered old new (Err Memory) = new ≡ old
+
+-- the same, whatever subcommand the line has
+abbrev pub IsSomeObeyed : {S : Type 0} → Ghosts S → Limits → Tables S → Tables S
+    → Result (Unit {0}) SetupFault → Type 0
+IsSomeObeyed g limits old new result =
+    (used : Option (Text × List Row)) × IsObeyed g limits (order_of used) old new result
 
 -- a fault of the words alone
 abbrev pub IsOfWords : SetupFault → Type 0

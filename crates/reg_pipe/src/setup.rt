@@ -1,6 +1,6 @@
 //! The lines of a setup file, each a command of the administrator.
 
-ghost use Rattle.std.specs.Prelude.{◌≡◌, IfOk, map};
+ghost use Rattle.std.specs.Prelude.{◌≡◌, IfOk, Some, map};
 ghost use Rattle.sqlite.specs.State.{HasCleanDisk};
 ghost use Rattle.reg_model.specs.Events.Event.{Order as ToOrder};
 ghost use Rattle.reg_model.specs.Steps.{IsFit};
@@ -10,7 +10,8 @@ ghost use Rattle.reg_service.specs.Answered.{AreUpToDate, LeavesAlone, Shows};
 ghost use Rattle.reg_service.specs.Registries.{limits_of, tables_of};
 ghost use Rattle.reg_http.specs.Answering.{GoesOn};
 ghost use Rattle.reg_pipe.specs.Lines.{lines_in};
-ghost use Rattle.reg_pipe.specs.Setups.{IsObeyed, IsSetUp, MakesOf};
+ghost use Rattle.reg_words.specs.Orders.{words_of};
+ghost use Rattle.reg_pipe.specs.Setups.{IsObeyed, IsSetUp, IsSomeObeyed, MakesOf, order_in, token_order};
 
 use clap::error::ErrorKind;
 use clap::{ArgMatches, Command, Error};
@@ -121,8 +122,8 @@ fn obey<S: Alter>(
 ) -> Result<(), SetupFault>
     requires tables { AreUpToDate S.Store (tables_of registry.old) }
     requires fit { IsFit (ToOrder (command_of command.now)) }
-    ensures obeyed { IsObeyed S.Store (limits_of registry.old) (tables_of registry.old)
-        (tables_of registry.new) result }
+    ensures obeyed { IsObeyed S.Store (limits_of registry.old) (Some (command_of command.now))
+        (tables_of registry.old) (tables_of registry.new) result }
     ensures keeps { GoesOn S.Store registry.old registry.new }
 {
     obeyed(registry.command(alloc, command))
@@ -135,8 +136,8 @@ fn add_token<S: Alter>(
     token: &NewToken<'_>,
 ) -> Result<(), SetupFault>
     requires tables { AreUpToDate S.Store (tables_of registry.old) }
-    ensures obeyed { IsObeyed S.Store (limits_of registry.old) (tables_of registry.old)
-        (tables_of registry.new) result }
+    ensures obeyed { IsObeyed S.Store (limits_of registry.old) (token_order (words_of token.now))
+        (tables_of registry.old) (tables_of registry.new) result }
     ensures keeps { GoesOn S.Store registry.old registry.new }
 {
     match &token.source {
@@ -152,8 +153,8 @@ fn obey_order<S: Alter>(
     matches: &ArgMatches<'_>,
 ) -> Result<(), SetupFault>
     requires tables { AreUpToDate S.Store (tables_of registry.old) }
-    ensures obeyed { IsObeyed S.Store (limits_of registry.old) (tables_of registry.old)
-        (tables_of registry.new) result }
+    ensures obeyed { IsObeyed S.Store (limits_of registry.old) (order_in matches.now)
+        (tables_of registry.old) (tables_of registry.new) result }
     ensures keeps { GoesOn S.Store registry.old registry.new }
 {
     let Some((name, inner)) = matches.subcommand() else {
@@ -173,7 +174,7 @@ fn obey_line<S: Alter>(
     line: &str,
 ) -> Result<(), SetupFault>
     requires tables { AreUpToDate S.Store (tables_of registry.old) }
-    ensures obeyed { IsObeyed S.Store (limits_of registry.old) (tables_of registry.old)
+    ensures obeyed { IsSomeObeyed S.Store (limits_of registry.old) (tables_of registry.old)
         (tables_of registry.new) result }
     ensures keeps { GoesOn S.Store registry.old registry.new }
 {

@@ -3,7 +3,7 @@ use Rattle.std.proofs.lemmas.List.{length-map}
 use Rattle.std.proofs.lemmas.Result.{err_from_is_err_and}
 use Rattle.reg_service.specs.Registries.{limits_of, tables_of}
 use Rattle.reg_pipe.specs.Lines.{lines_in}
-use Rattle.reg_pipe.specs.Setups.{HasDoneAlone, IsObeyed}
+use Rattle.reg_pipe.specs.Setups.{HasDoneAlone, IsSomeObeyed}
 use Rattle.reg_pipe.proofs.Orders.{begun, failed, obeyed}
 use Rattle.reg_pipe.proofs.setup.run_setup.Goals as goal
 
@@ -37,7 +37,7 @@ returns-in_err-obey_line-clause-done g c clean s shows alone =
     rw (p.1, p.2)
     (failed g.S.Store (limits_of c.args.registry.now) s c.history_law.ensures.goes_on c.loop-line.line-index (tables_of c.loop-line.registry) (tables_of c.obey_line.new.registry)
     h clean (lines_in c.args.setup.now) c.in_err-obey_line.field-0.0 less
-    (subst (λ l. IsObeyed g.S.Store l (tables_of c.loop-line.registry) (tables_of c.obey_line.new.registry) (Err c.in_err-obey_line.field-0.0)) c.loop-line.invariant.keeps.limits c.in_err-obey_line.ensures.obeyed))
+    (subst (λ l. IsSomeObeyed g.S.Store l (tables_of c.loop-line.registry) (tables_of c.obey_line.new.registry) (Err c.in_err-obey_line.field-0.0)) c.loop-line.invariant.keeps.limits c.in_err-obey_line.ensures.obeyed))
 
 pub returns-clause-done : goal.returns-clause-done
 returns-clause-done g c clean s shows alone =
