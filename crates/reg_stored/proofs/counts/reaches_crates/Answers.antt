@@ -9,5 +9,5 @@ returns-then-bound-number-clause-told g c clean ids s h =
     let db = (state g.S.Store c.args.conn.now).now.trees in
     let stands = h.stands.crates in
     let few = not_reached ids s.publications s.yanked db stands c.in_ok-last.last c.bound.result c.args.number
-        (c.in_ok-last.ensures.told clean) c.bound.ensures c.if-bound-number.true in
+    (c.in_ok-last.ensures.told clean) c.bound.ensures c.if-bound-number.true in
     sym few ∙ ap (nat_le c.args.number) (crates_are ids s.publications s.yanked db stands)
