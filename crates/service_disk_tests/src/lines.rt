@@ -93,21 +93,26 @@ fn otherwise(alloc: Global, log: Seen, db: Seen) -> Result<Option<String>, Fault
 }
 
 /// Tries a task over files that stop, of whose calls there are so many first.
-fn try_stops<'t>(
+fn try_stops(
     alloc: Global,
-    before: &'t Prepared,
+    before: &Prepared,
     task: &str,
-    answer: &'t str,
+    answer: &str,
     firsts: (u32, u32),
 ) -> Result<Option<String>, Fault> {
     let lines = lines_of(alloc, task)?;
-    let (_played, after) = done_over(alloc, before, &lines)?;
+    let (done, after) = done_over(alloc, before, &lines)?;
+    let later = Later {
+        done: &done.lines,
+        undone: &done.lines,
+    };
     let trial = Trial {
         lines: &lines,
         answer,
         before,
         after: &after,
-        later: None,
+        later,
+        reports: false,
     };
     both_stops(alloc, &trial, firsts)
 }
@@ -157,7 +162,8 @@ fn try_amounts(
         answer,
         before,
         after: &after,
-        later: Some(later),
+        later,
+        reports: true,
     };
     amounts(alloc, &trial, step)
 }

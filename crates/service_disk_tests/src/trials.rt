@@ -8,7 +8,7 @@ use test_files::{Came, Limits, Scarce, Seen};
 /// More runs than any task needs.
 pub(crate) const MOST_RUNS: u32 = 1000;
 
-/// The answers to the lines behind a task, where memory is scarce for that alone.
+/// The answers to the lines beside a task.
 #[derive(Clone, Copy)]
 pub(crate) struct Later<'a> {
     /// Where the task was done.
@@ -17,15 +17,16 @@ pub(crate) struct Later<'a> {
     pub(crate) undone: &'a str,
 }
 
-/// Lines with a task among them, its answer, the registry after it, and the answers of the lines
-/// behind it, unless a file has stopped.
+/// Lines with a task among them, its answer, the registry after it, and the answers of the other
+/// lines; reports are asked behind the task where memory is scarce for that alone.
 #[derive(Clone, Copy)]
 pub(crate) struct Trial<'a> {
     pub(crate) lines: &'a str,
     pub(crate) answer: &'a str,
     pub(crate) before: &'a Prepared,
     pub(crate) after: &'a Prepared,
-    pub(crate) later: Option<Later<'a>>,
+    pub(crate) later: Later<'a>,
+    pub(crate) reports: bool,
 }
 
 /// The reply that there is no room, as it is sent.
@@ -77,13 +78,13 @@ fn came_undone(trial: &Trial<'_>, found: &Outcome) -> Came {
 
 /// What came of a run in which there was no room for the answer.
 fn came_refused(trial: &Trial<'_>, found: &Outcome, refusal: &str) -> Came {
-    let Some(later) = trial.later else {
+    if !trial.reports {
         return came_undone(trial, found);
-    };
+    }
     let lines = found.played.lines.as_str();
     if is_shut(lines, refusal) {
         came_undone(trial, found)
-    } else if lines != later.undone {
+    } else if lines != trial.later.undone {
         Came::Broken("another answer afterwards")
     } else if found.seen != trial.after.seen {
         Came::Broken("answered afterwards, and lost")
@@ -100,12 +101,10 @@ fn came_answered(trial: &Trial<'_>, found: &Outcome) -> Came {
     if found.stopped {
         return Came::After;
     }
-    match trial.later {
-        Some(later) if found.played.lines.as_str() != later.done => {
-            Came::Broken("another answer after it")
-        }
-        _ => Came::Done,
+    if found.played.lines.as_str() != trial.later.done {
+        return Came::Broken("another answer after it");
     }
+    Came::Done
 }
 
 fn came_of(trial: &Trial<'_>, found: &Outcome) -> Came {
