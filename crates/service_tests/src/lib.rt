@@ -1,27 +1,9 @@
-//! Tests of the service over a store in memory, by scripts of the words of [`test_service`].
-//!
-//! The plain registry is asked the same, and has to answer alike.
+//! Tests of the service over a store in memory, of streams of requests to it, and of the program.
 #![tactic(auto)]
 
 #[cfg(test)]
-mod agreeing;
+mod program;
 #[cfg(test)]
-mod commands;
+mod service;
 #[cfg(test)]
-mod fault;
-#[cfg(test)]
-mod opening;
-#[cfg(test)]
-mod owners;
-#[cfg(test)]
-mod publishing;
-#[cfg(test)]
-mod reading;
-#[cfg(test)]
-mod restricted;
-#[cfg(test)]
-mod script;
-#[cfg(test)]
-mod stage;
-#[cfg(test)]
-mod tokens;
+mod streams;

@@ -1,0 +1,15 @@
+//! Tests of the service over a store in memory, by scripts of the words of [`test_service`].
+//!
+//! The plain registry is asked the same, and has to answer alike.
+
+mod agreeing;
+mod commands;
+mod fault;
+mod opening;
+mod owners;
+mod publishing;
+mod reading;
+mod restricted;
+mod script;
+mod stage;
+mod tokens;
