@@ -1,4 +1,4 @@
-//! What is asked of access: each action by a token of the crate's owner, and who may act on it.
+//! What is asked of access: an action by a token, and who may act on a crate.
 
 ghost use Rattle.std.specs.Prelude.{◌≡◌};
 ghost use Rattle.reg_tables.specs.Works.{AreOurs, IsAtWork};
@@ -12,34 +12,20 @@ use reg_tables::{Tables, Work};
 use sqlite::Alter;
 use std::alloc::Global;
 
-/// An action that is asked for.
-#[derive(Clone, Copy, Debug, PartialEq, Eq)]
-pub(crate) enum Asked {
-    Read,
-    Index,
-    Download,
-    ListOwners,
-    PublishNew,
-    Publish,
-    Yank,
-    Unyank,
-    AddOwners,
-    RemoveOwners,
-}
-
-/// An action on a crate that is there, which has this name and its index file this path.
-fn on_crate<'a>(asked: Asked, path: &'a str, name: &'a CrateName) -> Action<'a> {
-    match asked {
-        Asked::Read => Action::Read,
-        Asked::Index => Action::Index(path),
-        Asked::Download => Action::Download(name.as_str(), "0.1.0"),
-        Asked::ListOwners => Action::ListOwners(name.as_str()),
-        Asked::PublishNew | Asked::Publish => Action::Publish(name, "9.0.0"),
-        Asked::Yank => Action::Yank(name.as_str(), "0.1.0"),
-        Asked::Unyank => Action::Unyank(name.as_str(), "0.1.0"),
-        Asked::AddOwners => Action::AddOwners(name.as_str(), &["user-000001"]),
-        Asked::RemoveOwners => Action::RemoveOwners(name.as_str(), &["user-000001"]),
-    }
+/// The action of a word on a crate of this name, whose index file has this path.
+fn action_of<'a>(word: &str, name: &'a CrateName, path: &'a str) -> Option<Action<'a>> {
+    Some(match word {
+        "read" => Action::Read,
+        "index" => Action::Index(path),
+        "download" => Action::Download(name.as_str(), "0.1.0"),
+        "owners" => Action::ListOwners(name.as_str()),
+        "publish" => Action::Publish(name, "9.0.0"),
+        "yank" => Action::Yank(name.as_str(), "0.1.0"),
+        "unyank" => Action::Unyank(name.as_str(), "0.1.0"),
+        "add-owners" => Action::AddOwners(name.as_str(), &["user-000001"]),
+        "remove-owners" => Action::RemoveOwners(name.as_str(), &["user-000001"]),
+        _ => return None,
+    })
 }
 
 fn is_allowed<S: Alter>(
@@ -55,41 +41,40 @@ fn is_allowed<S: Alter>(
     Ok(usize::from(decision == Decision::Allowed))
 }
 
-fn crate_asked(alloc: Global, asked: Asked, at: u32) -> Result<Option<CrateName>, Fault> {
-    let word = match asked {
-        Asked::PublishNew => "New",
-        _ => "Crate",
-    };
-    let text = format!(in alloc; "{word}-{at:06}")?;
-    Ok(parse_name(&text))
-}
-
-/// Whether the owner of the crate with a number may do this; one stands for yes.
-pub(crate) fn ask<S: Alter>(
+/// Whether a token may act, by its text, a word, a crate's name and the path of its index file: one
+/// stands for yes.
+pub(crate) fn may<S: Alter>(
     alloc: Global,
     tables: &mut Tables<S>,
-    asked: Asked,
-    at: u32,
+    words: &str,
 ) -> Result<usize, Fault>
     requires { AreOurs S.Store tables.old }
     ensures { AreOurs S.Store tables.new }
 {
-    let Some(name) = crate_asked(alloc, asked, at)? else {
+    let words: Vec<&str> = words.split(' ').collect(alloc)?;
+    let [token, word, name, path] = words.as_slice() else {
         return Err(Fault::Words);
     };
-    let token = format!(in alloc; "user-{at:06}")?;
-    let path = format!(in alloc; "cr/at/crate-{at:06}")?;
-    let action = on_crate(asked, &path, &name);
+    let Some(name) = parse_name(name) else {
+        return Err(Fault::Words);
+    };
+    let Some(action) = action_of(word, &name, path) else {
+        return Err(Fault::Words);
+    };
     let mut work = tables.upgrade()?;
-    is_allowed(&mut work, &token, &action)
+    is_allowed(&mut work, token, &action)
 }
 
-/// How many tokens and endpoints may be used on the first crate.
-pub(crate) fn count_grants<S: Alter>(alloc: Global, tables: &mut Tables<S>) -> Result<usize, Fault>
+/// How many tokens and endpoints may be used on a crate.
+pub(crate) fn grants<S: Alter>(
+    alloc: Global,
+    tables: &mut Tables<S>,
+    name: &str,
+) -> Result<usize, Fault>
     requires { AreOurs S.Store tables.old }
     ensures { AreOurs S.Store tables.new }
 {
-    let Some(name) = parse_name("Crate-000001") else {
+    let Some(name) = parse_name(name) else {
         return Err(Fault::Words);
     };
     let mut work = tables.upgrade()?;

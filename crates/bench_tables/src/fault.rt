@@ -10,7 +10,7 @@ use std::io;
 pub(crate) enum Fault {
     Words,
     NotMade,
-    Answer,
+    Answer(String),
     Script(test_tables::Fault),
     Memory,
     Open(Error),

@@ -1,22 +1,24 @@
-//! Times calls on the tables over a file.
+//! Times what a script asks of the tables over a file.
 //!
-//! `bench_tables FILE CRATES ROUNDS` makes a registry in a new file and tells what each call found;
-//! with the word `times` at the end also how long each took.
+//! `bench_tables FILE` makes a registry in a new file and plays the script on standard input: a
+//! block of lines is a transaction with its answers, a line by itself is answered how much it
+//! finds. With the word `times` behind the file the nanoseconds of each block are told instead.
 #![tactic(auto)]
 
 mod access;
-mod calls;
+mod archives;
 mod fault;
-mod filling;
-mod measure;
+mod playing;
 mod words;
 
 use fault::Fault;
 use sqlite::Connection;
+use std::io;
 use words::Words;
 
 fn main(rt: HostRuntime) -> Result<(), Fault> {
     let words = Words::given(&rt)?;
+    let script = io::read_to_string(rt.alloc(), rt.stdin())?;
     let conn = Connection::open(&rt, words.file.as_str())?;
-    measure::over_new_tables(&rt, conn, &words)
+    playing::over_new_tables(&rt, conn, &script, words.times)
 }

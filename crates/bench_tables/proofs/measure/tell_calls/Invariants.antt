@@ -1,6 +1,0 @@
-use Rattle.reg_tables.specs.Works.{AreOurs}
-use Rattle.bench_tables.proofs.measure.tell_calls.Given as goal
-
--- the tables are ours
-abbrev pub invariant-loop-call : goal.invariant-loop-call
-invariant-loop-call g l = AreOurs g.S.Store l.tables
