@@ -1,0 +1,53 @@
+//! A task with each amount of memory: it is answered as with ample memory, or that there is no
+//! room, and then the registry is as before.
+
+use crate::service_stops::calls::{
+    CHANGED, CHANGES, CHANGES_BACK, PUBLISHES, READS, REFUSALS, REQUESTS,
+};
+use crate::service_stops::fault::Fault;
+use crate::service_stops::lines::{over_files, over_nothing};
+
+/// Bytes between two amounts, while a registry is made or changed, and while it is read.
+const STEP: u32 = 24_000;
+
+const STEP_OF_READS: u32 = 4_000;
+
+#[test]
+fn a_registry_made(rt: HostRuntime) -> Result<(), Fault> {
+    over_nothing(rt.alloc(), Some(STEP))
+}
+
+#[test]
+fn a_registry_opened(rt: HostRuntime) -> Result<(), Fault> {
+    over_files(rt.alloc(), "", "open -> done", Some(STEP_OF_READS))
+}
+
+#[test]
+fn anything_changed(rt: HostRuntime) -> Result<(), Fault> {
+    over_files(rt.alloc(), "", CHANGES, Some(STEP))
+}
+
+#[test]
+fn anything_published(rt: HostRuntime) -> Result<(), Fault> {
+    over_files(rt.alloc(), "", PUBLISHES, Some(STEP))
+}
+
+#[test]
+fn anything_changed_back(rt: HostRuntime) -> Result<(), Fault> {
+    over_files(rt.alloc(), CHANGED, CHANGES_BACK, Some(STEP))
+}
+
+#[test]
+fn anything_read(rt: HostRuntime) -> Result<(), Fault> {
+    over_files(rt.alloc(), "", READS, Some(STEP_OF_READS))
+}
+
+#[test]
+fn any_request(rt: HostRuntime) -> Result<(), Fault> {
+    over_files(rt.alloc(), "", REQUESTS, Some(STEP_OF_READS))
+}
+
+#[test]
+fn anything_denied_or_refused(rt: HostRuntime) -> Result<(), Fault> {
+    over_files(rt.alloc(), "", REFUSALS, Some(STEP_OF_READS))
+}

@@ -1,0 +1,48 @@
+//! Each file stops at each of its calls: the registry that is found again is that before or that
+//! after, and that after once the task was answered.
+
+use crate::service_stops::calls::{
+    CHANGED, CHANGES, CHANGES_BACK, PUBLISHES, READS, REFUSALS, REQUESTS,
+};
+use crate::service_stops::fault::Fault;
+use crate::service_stops::lines::{over_files, over_nothing};
+
+#[test]
+fn a_stop_while_a_registry_is_made(rt: HostRuntime) -> Result<(), Fault> {
+    over_nothing(rt.alloc(), None)
+}
+
+#[test]
+fn a_stop_while_it_is_opened(rt: HostRuntime) -> Result<(), Fault> {
+    over_files(rt.alloc(), "", "open -> done", None)
+}
+
+#[test]
+fn a_stop_while_it_is_changed(rt: HostRuntime) -> Result<(), Fault> {
+    over_files(rt.alloc(), "", CHANGES, None)
+}
+
+#[test]
+fn a_stop_while_versions_are_published(rt: HostRuntime) -> Result<(), Fault> {
+    over_files(rt.alloc(), "", PUBLISHES, None)
+}
+
+#[test]
+fn a_stop_while_it_is_changed_back(rt: HostRuntime) -> Result<(), Fault> {
+    over_files(rt.alloc(), CHANGED, CHANGES_BACK, None)
+}
+
+#[test]
+fn a_stop_while_it_is_read(rt: HostRuntime) -> Result<(), Fault> {
+    over_files(rt.alloc(), "", READS, None)
+}
+
+#[test]
+fn a_stop_while_it_answers_requests(rt: HostRuntime) -> Result<(), Fault> {
+    over_files(rt.alloc(), "", REQUESTS, None)
+}
+
+#[test]
+fn a_stop_while_it_denies_and_refuses(rt: HostRuntime) -> Result<(), Fault> {
+    over_files(rt.alloc(), "", REFUSALS, None)
+}
