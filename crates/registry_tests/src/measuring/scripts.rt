@@ -51,7 +51,8 @@ may user-000003 yank Crate-000002 -
 
 who-may Crate-000002
 
-search 1 10 [crate_0] -> 3 Crate-000001:0.2.0:found;Crate-000002:0.2.0:found;Crate-000003:0.2.0:found;
+search 1 10 [crate_0] -> 3 Crate-000001:0.2.0:found;Crate-000002:0.2.0:found;\
+Crate-000003:0.2.0:found;
 
 yank 2 0.1.0 -> done
 commit -> done
