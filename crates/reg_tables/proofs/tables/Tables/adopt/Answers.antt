@@ -1,0 +1,11 @@
+use Rattle.std.proofs.Common.{rules}
+use Rattle.reg_tables.proofs.tables.Tables.adopt.Goals as goal
+
+pub has_base-requires : goal.has_base-requires
+has_base-requires g c = search rules
+
+pub returns-in-Ok-true-clause-edition : goal.returns-in-Ok-true-clause-edition
+returns-in-Ok-true-clause-edition g c = search rules
+
+pub returns-in-Ok-false-clause-unknown : goal.returns-in-Ok-false-clause-unknown
+returns-in-Ok-false-clause-unknown g c = search rules
