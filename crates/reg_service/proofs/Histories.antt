@@ -1,9 +1,7 @@
 -- One more event behind a run.
-use Rattle.std.proofs.Common.{◌≡◌, ◌++◌, ◌+◌, ◌<◌, ℕ, suc, arith, get_or, inl, inr, length, List, [], ◌∷◌, map, take, refl, sym, ap, subst, ◌∙◌}
-use Rattle.std.specs.List.{AllByRecursion}
+use Rattle.std.proofs.Common.{◌≡◌, ◌++◌, ◌+◌, ◌<◌, ◌⊎◌, ℕ, suc, arith, get_or, inl, inr, length, List, [], ◌∷◌, take, refl, sym, ap, subst, ◌∙◌}
 use Rattle.std.proofs.Math.Seq.{take-suc}
-use Rattle.sqlite_trees.proofs.ListLemmas.{all-get_or}
-use Rattle.std.proofs.lemmas.List.{append-nil, append_assoc, map-append}
+use Rattle.std.proofs.lemmas.List.{append-nil, append_assoc}
 use Rattle.sqlite.specs.Tree.{Trees}
 use Rattle.sqlite_trees.specs.declared.store.Store.{Ghosts}
 use Rattle.reg_body.specs.declared.limits.Limits.{Limits}
@@ -18,15 +16,18 @@ use Rattle.std.specs.Prelude.{Result}
 use Rattle.sqlite.specs.State.{HasCleanDisk}
 use Rattle.reg_model.specs.Events.Event.{Order}
 use Rattle.reg_model.specs.declared.rule.AdminRefusal.{AdminRefusal}
+use Rattle.reg_model.specs.declared.rule.Rule.TheVariants as rule
 use Rattle.reg_policy.specs.declared.event.AdminCommand.{AdminCommand}
 use Rattle.reg_policy.specs.declared.event.AdminReply.{AdminReply}
 use Rattle.reg_policy.specs.Events.{command_of, reply_of}
 use Rattle.reg_replies.specs.declared.reply.Reply.{Reply}
+use Rattle.reg_replies.specs.declared.reply.Reply.TheVariants.{Denied}
 use Rattle.reg_requests.specs.Requests.{request_of}
+use Rattle.reg_requests.specs.Views.{event_of}
 use Rattle.reg_requests.specs.declared.request.ApiRequest.{ApiRequest}
 use Rattle.reg_service.specs.Answered.{Answers, IsAnswered, LeavesAlone, Shows}
 use Rattle.reg_service.specs.Handled.{IsReplied}
-use Rattle.reg_service.specs.Sequences.{AreNoRoom, HasAnswered, IsTold, MayBeLeft, Ran, TellAll, TellsOf, event_at}
+use Rattle.reg_service.specs.Sequences.{AreNoRoom, AreTold, HasAnswered, IsFitCall, IsTold, IsUnread, MayBeLeft, Ran, TellsOf, event_at}
 use Rattle.reg_service.specs.declared.sequences.Call.TheVariants.{Request, Command as Commanded}
 use Rattle.reg_service.specs.declared.sequences.Told.TheVariants.{Reply as Replied, Command as Obeyed}
 use Rattle.reg_service.specs.declared.sequences.Call.{Call}
@@ -38,18 +39,39 @@ no_room_on (f ∷ es) (x ∷ xs) e a all is = (all.0, no_room_on es xs e a all.1
 no_room_on [] (x ∷ xs) e a all is = absurd all
 no_room_on (f ∷ es) [] e a all is = absurd all
 
-pub tells_on : (limits : Limits) (cs : List Call) (xs : List Answer) (ts : List Told) (c : Call) (a : Answer) (t : Told) → TellAll limits cs xs ts → TellsOf limits c a t → TellAll limits (cs ++ c ∷ []) (xs ++ a ∷ []) (ts ++ t ∷ [])
-tells_on limits [] [] [] c a t all it = (it, tt)
-tells_on limits (d ∷ cs) (x ∷ xs) (u ∷ ts) c a t all it = (all.0, tells_on limits cs xs ts c a t all.1 it)
-tells_on limits [] [] (u ∷ ts) c a t all it = absurd all
-tells_on limits [] (x ∷ xs) ts c a t all it = absurd all
-tells_on limits (d ∷ cs) [] ts c a t all it = absurd all
-tells_on limits (d ∷ cs) (x ∷ xs) [] c a t all it = absurd all
+-- one more call, which is an event
+pub told_on : (limits : Limits) (cs : List Call) (es : List Event) (xs : List Answer) (ts : List Told) (c : Call) (a : Answer) (t : Told) → AreTold limits cs es xs ts → TellsOf limits c a t → AreTold limits (cs ++ c ∷ []) (es ++ event_at limits c ∷ []) (xs ++ a ∷ []) (ts ++ t ∷ [])
+told_on limits [] [] [] [] c a t all it = inr (a, [], [], refl, refl, it, tt)
+told_on limits (d ∷ cs) es xs (u ∷ ts) c a t (inl (unread, all)) it = inl (unread, told_on limits cs es xs ts c a t all it)
+told_on limits (d ∷ cs) es xs (u ∷ ts) c a t (inr (b, more, others, is, are, says, all)) it =
+    inr (b, more ++ event_at limits c ∷ [], others ++ a ∷ [], ap (λ l. l ++ event_at limits c ∷ []) is, ap (λ l. l ++ a ∷ []) are, says, told_on limits cs more others ts c a t all it)
+told_on limits [] (e ∷ es) xs ts c a t all it = absurd all
+told_on limits [] [] (x ∷ xs) ts c a t all it = absurd all
+told_on limits [] [] [] (u ∷ ts) c a t all it = absurd all
+told_on limits (d ∷ cs) es xs [] c a t all it = absurd all
+
+-- one more call, which is none
+pub unread_on : (limits : Limits) (cs : List Call) (es : List Event) (xs : List Answer) (ts : List Told) (c : Call) (t : Told) → AreTold limits cs es xs ts → IsUnread c t → AreTold limits (cs ++ c ∷ []) es xs (ts ++ t ∷ [])
+unread_on limits [] [] [] [] c t all it = inl (it, tt)
+unread_on limits (d ∷ cs) es xs (u ∷ ts) c t (inl (unread, all)) it = inl (unread, unread_on limits cs es xs ts c t all it)
+unread_on limits (d ∷ cs) es xs (u ∷ ts) c t (inr (b, more, others, is, are, says, all)) it = inr (b, more, others, is, are, says, unread_on limits cs more others ts c t all it)
+unread_on limits [] (e ∷ es) xs ts c t all it = absurd all
+unread_on limits [] [] (x ∷ xs) ts c t all it = absurd all
+unread_on limits [] [] [] (u ∷ ts) c t all it = absurd all
+unread_on limits (d ∷ cs) es xs [] c t all it = absurd all
 
 -- one call is told what a request or a command is
 module _ {S : Type 0} (g : Ghosts S) (limits : Limits) (c : Call) (old new : Tables S) where
   pub told_request : (r : ApiRequest) (reply : Reply) → c ≡ Request r → IsReplied g limits (request_of limits r).digest (request_of limits r).asked reply old new → IsTold g limits c (Replied reply) old new
   told_request r reply same is = subst (λ it. IsTold g limits it (Replied reply) old new) (sym same) (λ clean s h. is clean s h)
+
+  -- a request is an event that may come, or was not read
+  pub read_request : (r : ApiRequest) (reply : Reply) → c ≡ Request r → (IsFit (event_of (request_of limits r)) ⊎ ((reply ≡ Denied rule.S1) × (new ≡ old))) → IsFit (event_at limits c) ⊎ (IsUnread c (Replied reply) × (new ≡ old))
+  read_request r reply same (inl fit) = inl (subst (λ it. IsFit (event_at limits it)) (sym same) fit)
+  read_request r reply same (inr (is, kept)) = inr (subst (λ it. IsUnread it (Replied reply)) (sym same) (ap Replied is), kept)
+
+  pub read_command : (command : AdminCommand) (told : Told) → c ≡ Commanded command → IsFitCall c → IsFit (event_at limits c) ⊎ (IsUnread c told × (new ≡ old))
+  read_command command told same fit = inl (subst (λ it. IsFitCall it → IsFit (event_at limits it)) (sym same) (λ is. is) fit)
 
   pub told_command : (command : AdminCommand) (it : Result AdminReply AdminRefusal) → c ≡ Commanded command → IsAnswered g limits (Order (command_of command)) (reply_of it) old new → IsTold g limits c (Obeyed it) old new
   told_command command it same is = subst (λ x. IsTold g limits x (Obeyed it) old new) (sym same) (λ clean s h. (reply_of it, refl, is clean s h))
@@ -130,22 +152,24 @@ module _ {S : Type 0} (g : Ghosts S) (limits : Limits) (s : Registry) (sounds : 
 
   -- no call yet
   pub answered_nothing : (t : Tables S) → Shows s (shown g t) → LeavesAlone s (shown g t) → HasAnswered g limits s [] [] t
-  answered_nothing t shows alone = ([], s, tt, ran_nothing t shows alone)
+  answered_nothing t shows alone = ([], [], s, tt, ran_nothing t shows alone)
 
   -- one more call
-  pub answered_on : StepsRun → RunsJoin → (cs : List Call) (ts : List Told) (c : Call) (it : Told) (old new : Tables S) → IsFit (event_at limits c) → HasCleanDisk (shown g new) → HasAnswered g limits s cs ts old → IsTold g limits c it old new → HasAnswered g limits s (cs ++ c ∷ []) (ts ++ it ∷ []) new
-  answered_on steps joins cs ts c it old new fit clean (xs, t, tells, so_far) told =
-      let (a, says, answers) = told clean t so_far.shows in
-      let on = ran_on steps joins (map (event_at limits) cs) xs t (event_at limits c) a old new fit so_far answers in (
+  pub answered_on : StepsRun → RunsJoin → (cs : List Call) (ts : List Told) (c : Call) (it : Told) (old new : Tables S) → IsFit (event_at limits c) ⊎ (IsUnread c it × (new ≡ old)) → HasCleanDisk (shown g new) → HasAnswered g limits s cs ts old → IsTold g limits c it old new → HasAnswered g limits s (cs ++ c ∷ []) (ts ++ it ∷ []) new
+  answered_on steps joins cs ts c it old new (inl fit) clean (es, xs, t, tells, so_far) told =
+      let (a, says, answers) = told clean t so_far.shows in (
+        es ++ event_at limits c ∷ [],
         xs ++ a ∷ [],
         answers.after,
-        tells_on limits cs xs ts c a it tells says,
-        subst (λ es. Ran g limits s es (xs ++ a ∷ []) answers.after new) (sym (map-append (event_at limits) cs (c ∷ []))) on,
+        told_on limits cs es xs ts c a it tells says,
+        ran_on steps joins es xs t (event_at limits c) a old new fit so_far answers,
       )
+  answered_on steps joins cs ts c it old new (inr (unread, kept)) clean (es, xs, t, tells, so_far) told =
+      (es, xs, t, unread_on limits cs es xs ts c it tells unread, subst (Ran g limits s es xs t) (sym kept) so_far)
 
   -- the call at this place
-  pub answered_next : StepsRun → RunsJoin → (cs : List Call) (i : ℕ) (d : Call) (ts : List Told) (it : Told) (old new : Tables S) → i < length cs → AllByRecursion (λ c. IsFit (event_at limits c)) cs → HasCleanDisk (shown g new) → HasAnswered g limits s (take i cs) ts old → IsTold g limits (get_or cs i d) it old new → HasAnswered g limits s (take (i + 1) cs) (ts ++ it ∷ []) new
-  answered_next steps joins cs i d ts it old new lt fits clean so_far told =
+  pub answered_next : StepsRun → RunsJoin → (cs : List Call) (i : ℕ) (d : Call) (ts : List Told) (it : Told) (old new : Tables S) → i < length cs → IsFit (event_at limits (get_or cs i d)) ⊎ (IsUnread (get_or cs i d) it × (new ≡ old)) → HasCleanDisk (shown g new) → HasAnswered g limits s (take i cs) ts old → IsTold g limits (get_or cs i d) it old new → HasAnswered g limits s (take (i + 1) cs) (ts ++ it ∷ []) new
+  answered_next steps joins cs i d ts it old new lt read clean so_far told =
       let next : suc i ≡ i + 1 = omega arith in
       subst (λ l. HasAnswered g limits s l (ts ++ it ∷ []) new) (sym (take-suc cs i d lt) ∙ ap (λ n. take n cs) next)
-      (answered_on steps joins (take i cs) ts (get_or cs i d) it old new (all-get_or (λ c. IsFit (event_at limits c)) cs i d fits lt) clean so_far told)
+      (answered_on steps joins (take i cs) ts (get_or cs i d) it old new read clean so_far told)

@@ -1,5 +1,5 @@
 -- Requests and commands, one after another, and what a stop leaves at their end.
-use Rattle.std.specs.Prelude.{◌≡◌, ◌⊎◌, ◌++◌, List, [], ◌∷◌, map}
+use Rattle.std.specs.Prelude.{◌≡◌, ◌⊎◌, ◌++◌, ℕ, List, [], ◌∷◌, take}
 use Rattle.sqlite.specs.State.{HasCleanDisk}
 use Rattle.sqlite.specs.Tree.{Trees}
 use Rattle.sqlite_trees.specs.declared.store.Store.{Ghosts}
@@ -11,9 +11,11 @@ use Rattle.reg_model.specs.Laws.{IsPrefix}
 use Rattle.reg_model.specs.Registry as model
 use Rattle.reg_model.specs.Registry.{Text}
 use Rattle.reg_model.specs.Sound.{Sound}
-use Rattle.reg_model.specs.Steps.{Run, no_room, outcome}
+use Rattle.reg_model.specs.declared.rule.Rule.TheVariants as rule
+use Rattle.reg_model.specs.Steps.{IsFit, Run, no_room, outcome}
 use Rattle.reg_policy.specs.Events.{command_of, reply_of}
 use Rattle.reg_replies.specs.Replies.{Says}
+use Rattle.reg_replies.specs.declared.reply.Reply.TheVariants.{Denied}
 use Rattle.reg_requests.specs.Requests.{request_of}
 use Rattle.reg_requests.specs.Views.{event_of}
 use Rattle.reg_stored.specs.Stands.{Stands}
@@ -42,11 +44,25 @@ IsTold g limits c told old new =
     HasCleanDisk (shown g new) → (s : model.Registry) → Shows s (shown g old)
     → (a : Answer) × TellsOf limits c a told × Answers g limits s (event_at limits c) a old new
 
--- what the calls are told tells the answers, one by one
-abbrev pub TellAll : Limits → List Call → List Answer → List Told → Type 0
-TellAll limits [] [] [] = Unit {0}
-TellAll limits (c ∷ cs) (a ∷ as') (t ∷ ts) = TellsOf limits c a t × TellAll limits cs as' ts
-TellAll limits cs as' ts = ⊥
+-- a request that there was no memory to read: it is told so, and is no event
+abbrev pub IsUnread : Call → Told → Type 0
+IsUnread (Request r) told = told ≡ Reply (Denied rule.S1)
+IsUnread (Commanded c) told = ⊥
+
+-- what one call brings is what an event may bring; whatever a request brings is read from it
+abbrev pub IsFitCall : Call → Type 0
+IsFitCall (Request r) = Unit {0}
+IsFitCall (Commanded c) = IsFit (Order (command_of c))
+
+-- The calls are told the answers to these events, one by one: each call is the next event, or a
+-- request that there was no memory to read.
+abbrev pub AreTold : Limits → List Call → List Event → List Answer → List Told → Type 0
+AreTold limits [] [] [] [] = Unit {0}
+AreTold limits (c ∷ cs) es xs (t ∷ ts) = (IsUnread c t × AreTold limits cs es xs ts)
+    ⊎ ((a : Answer) × (more : List Event) × (others : List Answer)
+    × (es ≡ event_at limits c ∷ more) × (xs ≡ a ∷ others) × TellsOf limits c a t
+    × AreTold limits cs more others ts)
+AreTold limits cs es xs ts = ⊥
 
 -- each event is answered that there was no room
 abbrev pub AreNoRoom : List Event → List Answer → Type 0
@@ -86,5 +102,11 @@ pub record Ran {S : Type 0} (g : Ghosts S) (limits : Limits) (s : model.Registry
 abbrev pub HasAnswered : {S : Type 0} → Ghosts S → Limits → model.Registry → List Call → List Told
     → Tables S → Type 0
 HasAnswered g limits s calls told new =
-    (xs : List Answer) × (t : model.Registry) × TellAll limits calls xs told
-    × Ran g limits s (map (event_at limits) calls) xs t new
+    (es : List Event) × (xs : List Answer) × (t : model.Registry)
+    × AreTold limits calls es xs told × Ran g limits s es xs t new
+
+-- so many first calls were told the answers of a run, and no other call was answered
+abbrev pub HasBegun : {S : Type 0} → Ghosts S → Limits → model.Registry → List Call → Tables S
+    → Type 0
+HasBegun g limits s calls new =
+    (n : ℕ) × (told : List Told) × HasAnswered g limits s (take n calls) told new

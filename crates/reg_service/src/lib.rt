@@ -1,5 +1,14 @@
 //! The service: each request and each command is one step of the abstract registry, in one
 //! transaction of the tables.
+//!
+//! ```
+//! let mut registry = Registry::create(conn, "http://127.0.0.1:8080", Limits::STANDARD)?;
+//! registry.command(alloc, &AdminCommand::UserAdd("ada", None))?       // AdminReply::Done
+//! let request = ApiRequest { token: None, wanted: Wanted::Config };
+//! registry.handle(alloc, &request)                                    // Reply::Denied(Rule::A1)
+//! let calls = [Call::Request(request), Call::Command(AdminCommand::Users)];
+//! answer_all(alloc, &mut registry, &calls)?                           // what each is told
+//! ```
 #![tactic(auto)]
 
 mod accounts;

@@ -1,13 +1,13 @@
 //! Requests and commands, one after another.
 
-ghost use Rattle.std.specs.Prelude.{◌≡◌, IfOk, map};
+ghost use Rattle.std.specs.Prelude.{◌≡◌, ◌⊎◌, IfOk, take};
 ghost use Rattle.std.specs.List.{AllByRecursion};
 ghost use Rattle.sqlite.specs.State.{HasCleanDisk};
 ghost use Rattle.reg_model.specs.Steps.{IsFit};
 ghost use Rattle.reg_tables.specs.Works.{shown};
 ghost use Rattle.reg_service.specs.Answered.{AreUpToDate, LeavesAlone, Shows};
 ghost use Rattle.reg_service.specs.Registries.{limits_of, tables_of};
-ghost use Rattle.reg_service.specs.Sequences.{HasAnswered, IsTold, event_at};
+ghost use Rattle.reg_service.specs.Sequences.{HasAnswered, HasBegun, IsFitCall, IsTold, IsUnread, event_at};
 
 use crate::registry::Registry;
 use reg_model::AdminRefusal;
@@ -35,7 +35,9 @@ pub enum Told {
 /// Answers one call.
 fn answer<S: Alter>(alloc: Global, registry: &mut Registry<S>, call: &Call<'_>) -> Told
     requires tables { AreUpToDate S.Store (tables_of registry.old) }
-    requires fit { IsFit (event_at (limits_of registry.old) call.now) }
+    requires fit { IsFitCall call.now }
+    ensures read { IsFit (event_at (limits_of registry.old) call.now)
+        ⊎ (IsUnread call.now result × (tables_of registry.new ≡ tables_of registry.old)) }
     ensures told { IsTold S.Store (limits_of registry.old) call.now result
         (tables_of registry.old) (tables_of registry.new) }
     ensures tables { AreUpToDate S.Store (tables_of registry.new) }
@@ -50,19 +52,23 @@ fn answer<S: Alter>(alloc: Global, registry: &mut Registry<S>, call: &Call<'_>) 
 }
 
 /// Answers one call after another. Where there is no memory for the list of what they are told, it
-/// stops behind a call.
+/// stops behind a call, and what was done before stands.
 pub fn answer_all<S: Alter>(
     alloc: Global,
     registry: &mut Registry<S>,
     calls: &[Call<'_>],
 ) -> Result<Vec<Told>, AllocError>
     requires tables { AreUpToDate S.Store (tables_of registry.old) }
-    requires fit { AllByRecursion (λ c. IsFit (event_at (limits_of registry.old) c)) calls.now }
+    requires fit { AllByRecursion IsFitCall calls.now }
     ensures answered { HasCleanDisk (shown S.Store (tables_of registry.new)) → (s : _)
         → Shows s (shown S.Store (tables_of registry.old))
         → LeavesAlone s (shown S.Store (tables_of registry.old))
         → IfOk result (λ told. HasAnswered S.Store (limits_of registry.old) s calls.now told.items
         (tables_of registry.new)) }
+    ensures begun { HasCleanDisk (shown S.Store (tables_of registry.new)) → (s : _)
+        → Shows s (shown S.Store (tables_of registry.old))
+        → LeavesAlone s (shown S.Store (tables_of registry.old))
+        → HasBegun S.Store (limits_of registry.old) s calls.now (tables_of registry.new) }
     ensures tables { AreUpToDate S.Store (tables_of registry.new) }
     ensures limits { limits_of registry.new ≡ limits_of registry.old }
 {

@@ -6,12 +6,13 @@ ghost use Rattle.reg_model.specs.Steps.{IsFit};
 ghost use Rattle.reg_policy.specs.Events.{command_of as order_of};
 ghost use Rattle.reg_service.specs.Answered.{AreUpToDate};
 ghost use Rattle.reg_service.specs.Registries.{tables_of};
+ghost use Rattle.reg_service.specs.Sequences.{IsFitCall};
 
 use crate::requests::{publish_body, request_of, token_text};
 use reg_line::{Digest, digest_of};
 use reg_policy::AdminCommand;
 use reg_requests::ApiRequest;
-use reg_service::{Registry, Told};
+use reg_service::{Call, Registry, Told};
 use sqlite::Alter;
 use std::alloc::{AllocError, Global};
 use test_orders::{command_of, parts};
@@ -83,6 +84,18 @@ impl<'a> Parts<'a> {
             [who, wanted @ ..] => request_of(who, wanted, &self.body),
             [] => None,
         }
+    }
+}
+
+impl Parts<'_> {
+    /// The call, if it is one.
+    pub(crate) fn call(&self) -> Option<Call<'_>>
+        ensures { IfSome result IsFitCall }
+    {
+        if let Some(command) = self.command() {
+            return Some(Call::Command(command));
+        }
+        Some(Call::Request(self.request()?))
     }
 }
 

@@ -16,6 +16,7 @@ mod limits;
 mod playing;
 mod replies;
 mod requests;
+mod sequences;
 mod setups;
 mod tasks;
 
@@ -23,4 +24,5 @@ pub use calls::{Parts, answer};
 pub use limits::limits_of;
 pub use playing::{Played, play};
 pub use replies::{order_text, reply_text, told_text};
+pub use sequences::told_otherwise;
 pub use setups::{BASE, TWO_ACCOUNTS, TWO_ACCOUNTS_AND_A};

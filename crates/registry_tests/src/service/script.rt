@@ -1,5 +1,6 @@
 //! Scripts: a line is a command or a request, an arrow, and its answer.
 //!
+//! All lines are played twice: each by a call of its own, and all by one call.
 //! The first line says what there is before: `given two-accounts crates=1`.
 //! What is indented by four spaces goes on with the line above.
 
@@ -14,7 +15,7 @@ use reg_service::Registry;
 use sqlite::{Alter, Connection};
 use std::alloc::{AllocError, Global};
 use std::process::Abort;
-use test_service::{BASE, TWO_ACCOUNTS, TWO_ACCOUNTS_AND_A, limits_of};
+use test_service::{BASE, TWO_ACCOUNTS, TWO_ACCOUNTS_AND_A, limits_of, told_otherwise};
 
 /// What is wrong with a line; none where it is answered as it says.
 fn fault_of<S: Alter>(
@@ -81,16 +82,32 @@ fn play_new<S: Alter + Drop>(
     }
 }
 
+/// Plays lines on a new registry once more, by one call.
+fn play_at_once<S: Alter + Drop>(
+    alloc: Global,
+    conn: Connection<S>,
+    limits: Limits,
+    lines: &str,
+) -> Result<Option<String>, Fault> {
+    if !conn.is_autocommit() {
+        return Err(Fault::NotMade);
+    }
+    match Registry::create(conn, BASE, limits) {
+        Ok(mut registry) => Ok(told_otherwise(alloc, &mut registry, lines)?),
+        Err((_fault, _conn)) => Err(Fault::NotMade),
+    }
+}
+
 fn fault_in(alloc: Global, script: &str) -> Result<Option<String>, Fault> {
     let (first, lines) = script.split_once('\n').unwrap_or((script, "no lines"));
     let whole = lines.replace(alloc, "\n    ", "")?;
     let all = format!(in alloc; "{}{whole}", setup_of(first))?;
-    play_new(
-        alloc,
-        Connection::open_in_memory(alloc)?,
-        limits_of(first),
-        &all,
-    )
+    let limits = limits_of(first);
+    let fault = play_new(alloc, Connection::open_in_memory(alloc)?, limits, &all)?;
+    if fault.is_some() {
+        return Ok(fault);
+    }
+    play_at_once(alloc, Connection::open_in_memory(alloc)?, limits, &all)
 }
 
 /// Plays a script: fails where a line of it is answered otherwise than it says.
