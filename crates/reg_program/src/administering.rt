@@ -9,9 +9,9 @@ ghost use Rattle.reg_service.specs.Registries.{tables_of};
 ghost use Rattle.reg_program.specs.Tasks.{IsFitTask};
 
 use crate::exporting::export_to;
-use crate::printing::print;
-use crate::store::{close, connect, open};
+use crate::printing::{NO_WRITING, print};
 use crate::tokens::{TokenText, make_token};
+use crate::using::{Use, on_file};
 use clap::ArgMatches;
 use reg_body::Limits;
 use reg_converting::Exit;
@@ -35,18 +35,16 @@ fn obey<S: Alter>(rt: &HostRuntime, registry: &mut Registry<S>, command: &AdminC
     }
 }
 
-/// The number of a token, and its text where it was made here.
-fn token_line(rt: &HostRuntime, id: u32, text: Option<&TokenText>) -> Result<String, AllocError> {
-    match text.and_then(|text| std::str::from_utf8(text.as_slice()).ok()) {
-        Some(text) => format!(in rt.alloc(); "{id} {text}\n"),
-        None => format!(in rt.alloc(); "{id}\n"),
-    }
-}
-
+/// Prints the number of a token, and its text where it was made here. The token is kept by then, so
+/// this takes no memory.
 fn print_token(rt: &HostRuntime, id: u32, text: Option<&TokenText>) -> Exit {
-    match token_line(rt, id, text) {
-        Ok(line) => print(rt, &line),
-        Err(_) => Exit::MEMORY,
+    let printed = match text.and_then(|text| std::str::from_utf8(text.as_slice()).ok()) {
+        Some(text) => println!(rt; "{id} {text}"),
+        None => println!(rt; "{id}"),
+    };
+    match printed {
+        Ok(()) => Exit::DONE,
+        Err(_) => NO_WRITING,
     }
 }
 
@@ -65,11 +63,9 @@ fn add_token<S: Alter>(rt: &HostRuntime, registry: &mut Registry<S>, token: &New
     }
 }
 
-/// What is to be done with an open registry.
+/// What the administrator wants of a registry.
 #[derive(Drop)]
-enum Task<'a> {
-    /// Nothing more: a registry is checked when it is opened.
-    Audit,
+pub(crate) enum Task<'a> {
     Export(&'a str),
     Command(AdminCommand<'a>),
     AddToken(NewToken<'a>),
@@ -83,10 +79,8 @@ fn read_task<'a>(
 ) -> Result<Option<Task<'a>>, AllocError>
     ensures { IfOk result (λ t. IfSome t IsFitTask) }
 {
-    match name {
-        "audit" => return Ok(Some(Task::Audit)),
-        "export" => return Ok(words.get_str("DIR").map(Task::Export)),
-        _ => {}
+    if name == "export" {
+        return Ok(words.get_str("DIR").map(Task::Export));
     }
     if let Some(report) = read_report(name, words) {
         return Ok(Some(Task::Command(report)));
@@ -98,26 +92,19 @@ fn read_task<'a>(
     })
 }
 
-fn do_task<S: Alter>(rt: &HostRuntime, registry: &mut Registry<S>, task: &Task<'_>) -> Exit
+pub(crate) fn do_task<S: Alter>(
+    rt: &HostRuntime,
+    registry: &mut Registry<S>,
+    task: &Task<'_>,
+) -> Exit
     requires tables { AreUpToDate S.Store (tables_of registry.old) }
     requires fit { IsFitTask task.now }
 {
     match task {
-        Task::Audit => print(rt, "ok\n"),
         Task::Export(folder) => export_to(rt, registry, folder),
         Task::Command(command) => obey(rt, registry, command),
         Task::AddToken(token) => add_token(rt, registry, token),
     }
-}
-
-/// Does a task on a file.
-fn do_on(rt: &HostRuntime, file: &str, task: &Task<'_>) -> Result<Exit, Exit>
-    requires { IsFitTask task.now }
-{
-    let mut registry = open(rt.alloc(), connect(rt, file)?, Limits::STANDARD)?;
-    let exit = do_task(rt, &mut registry, task);
-    close(registry);
-    Ok(exit)
 }
 
 /// Does what the words of a subcommand ask for, on the file that they name.
@@ -127,10 +114,8 @@ pub(crate) fn administer(rt: &HostRuntime, name: &str, words: &ArgMatches<'_>) -
         Ok(None) => return Exit::BAD_WORDS,
         Err(_) => return Exit::MEMORY,
     };
-    let Some(file) = words.get_str("db") else {
-        return Exit::BAD_WORDS;
-    };
-    match do_on(rt, file, &task) {
-        Ok(exit) | Err(exit) => exit,
+    match words.get_str("db") {
+        Some(file) => on_file(rt, file, Limits::STANDARD, &Use::Task(&task)),
+        None => Exit::BAD_WORDS,
     }
 }

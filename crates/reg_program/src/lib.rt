@@ -13,6 +13,7 @@ mod printing;
 mod serving;
 mod store;
 mod tokens;
+mod using;
 mod words;
 
 pub use words::run_words;

@@ -6,7 +6,8 @@ ghost use Rattle.reg_service.specs.Registries.{limits_of, tables_of};
 ghost use Rattle.reg_program.specs.Limited.{HasTurns};
 
 use crate::printing::print;
-use crate::store::{close, connect, create, open};
+use crate::store::create;
+use crate::using::{Use, make_file, on_file};
 use clap::ArgMatches;
 use reg_body::{Counted, Limits};
 use reg_converting::Exit;
@@ -39,7 +40,11 @@ fn setup_text(rt: &HostRuntime, words: &ArgMatches<'_>) -> Result<String, Exit> 
 }
 
 /// Does the setup and serves standard input and output.
-fn pipe_on<S: Alter>(rt: &HostRuntime, words: &ArgMatches<'_>, registry: &mut Registry<S>) -> Exit
+pub(crate) fn pipe_on<S: Alter>(
+    rt: &HostRuntime,
+    registry: &mut Registry<S>,
+    words: &ArgMatches<'_>,
+) -> Exit
     requires tables { AreUpToDate S.Store (tables_of registry.old) }
     requires turns { HasTurns (limits_of registry.old) }
 {
@@ -52,14 +57,6 @@ fn pipe_on<S: Alter>(rt: &HostRuntime, words: &ArgMatches<'_>, registry: &mut Re
     run_pipe(rt.alloc(), registry, &setup, &mut reader, &mut writer)
 }
 
-/// `pipe` over a file.
-fn pipe_file(rt: &HostRuntime, words: &ArgMatches<'_>, file: &str) -> Result<Exit, Exit> {
-    let mut registry = open(rt.alloc(), connect(rt, file)?, Limits::STANDARD)?;
-    let exit = pipe_on(rt, words, &mut registry);
-    close(registry);
-    Ok(exit)
-}
-
 /// `pipe` over a registry in memory, with nothing in it.
 fn pipe_memory(rt: &HostRuntime, words: &ArgMatches<'_>) -> Result<Exit, Exit> {
     let Ok(conn) = Connection::open_in_memory(rt.alloc()) else {
@@ -67,24 +64,17 @@ fn pipe_memory(rt: &HostRuntime, words: &ArgMatches<'_>) -> Result<Exit, Exit> {
     };
     let base = words.get_str("base").unwrap_or(BASE);
     let mut registry = create(conn, base)?;
-    Ok(pipe_on(rt, words, &mut registry))
+    Ok(pipe_on(rt, &mut registry, words))
 }
 
 /// `pipe`.
 pub(crate) fn pipe(rt: &HostRuntime, words: &ArgMatches<'_>) -> Exit {
-    let piped = match words.get_str("db") {
-        Some(file) => pipe_file(rt, words, file),
-        None => pipe_memory(rt, words),
-    };
-    match piped {
+    if let Some(file) = words.get_str("db") {
+        return on_file(rt, file, Limits::STANDARD, &Use::Pipe(words));
+    }
+    match pipe_memory(rt, words) {
         Ok(exit) | Err(exit) => exit,
     }
-}
-
-/// Makes a registry with nothing in it, in a file.
-fn make_file(rt: &HostRuntime, file: &str, base: &str) -> Result<(), Exit> {
-    close(create(connect(rt, file)?, base)?);
-    Ok(())
 }
 
 /// `init`.
@@ -100,7 +90,7 @@ pub(crate) fn init(rt: &HostRuntime, words: &ArgMatches<'_>) -> Exit {
 
 /// What `serve` is told.
 #[derive(Drop)]
-struct Service {
+pub(crate) struct Service {
     port: u16,
     connections: u64,
     replies: u64,
@@ -161,19 +151,19 @@ fn listen(rt: &HostRuntime, port: u16) -> Result<TcpListener, Exit> {
     }
 }
 
-/// Serves connections on a file.
-fn serve_file(rt: &HostRuntime, file: &str, service: &Service) -> Result<Exit, Exit> {
-    let limits = Limits {
-        replies: service.replies,
-        ..Limits::STANDARD
-    };
-    let mut registry = open(rt.alloc(), connect(rt, file)?, limits)?;
-    let exit = match listen(rt, service.port) {
-        Ok(listener) => serve_all(rt, &mut registry, &listener, service.connections),
+/// Listens, and serves as many connections as are told.
+pub(crate) fn serve_on<S: Alter>(
+    rt: &HostRuntime,
+    registry: &mut Registry<S>,
+    service: &Service,
+) -> Exit
+    requires tables { AreUpToDate S.Store (tables_of registry.old) }
+    requires turns { HasTurns (limits_of registry.old) }
+{
+    match listen(rt, service.port) {
+        Ok(listener) => serve_all(rt, registry, &listener, service.connections),
         Err(exit) => exit,
-    };
-    close(registry);
-    Ok(exit)
+    }
 }
 
 /// `serve`.
@@ -181,7 +171,17 @@ pub(crate) fn serve(rt: &HostRuntime, words: &ArgMatches<'_>) -> Exit {
     let (Some(service), Some(file)) = (read_service(words), words.get_str("db")) else {
         return Exit::BAD_WORDS;
     };
-    match serve_file(rt, file, &service) {
-        Ok(exit) | Err(exit) => exit,
+    let limits = Limits {
+        replies: service.replies,
+        ..Limits::STANDARD
+    };
+    on_file(rt, file, limits, &Use::Serve(&service))
+}
+
+/// `audit`.
+pub(crate) fn check(rt: &HostRuntime, words: &ArgMatches<'_>) -> Exit {
+    match words.get_str("db") {
+        Some(file) => on_file(rt, file, Limits::STANDARD, &Use::Check),
+        None => Exit::BAD_WORDS,
     }
 }

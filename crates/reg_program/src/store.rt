@@ -80,8 +80,3 @@ pub(crate) fn create<S: Alter + Drop>(conn: Connection<S>, base: &str) -> Result
         Err((fault, _)) => Err(refused(fault)),
     }
 }
-
-/// Closes the file. What was acknowledged is in it already; closing only tidies it up.
-pub(crate) fn close(registry: Registry<FileStore<File>>) {
-    let _ = registry.into_connection().close();
-}

@@ -2,7 +2,7 @@
 
 use crate::administering::administer;
 use crate::printing::NO_WRITING;
-use crate::serving::{init, pipe, serve};
+use crate::serving::{check, init, pipe, serve};
 use clap::Error;
 use clap::error::ErrorKind;
 use reg_body::{Counted, Limits};
@@ -47,6 +47,7 @@ pub fn run_words(rt: &HostRuntime, words: &[String]) -> Exit {
         Some(("init", inner)) => init(rt, inner),
         Some(("pipe", inner)) => pipe(rt, inner),
         Some(("serve", inner)) => serve(rt, inner),
+        Some(("audit", inner)) => check(rt, inner),
         Some((name, inner)) => administer(rt, name, inner),
         None => Exit::BAD_WORDS,
     }

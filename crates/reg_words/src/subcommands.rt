@@ -13,7 +13,8 @@ const USER_ADD: Entry = Entry {
 
 const TOKEN_ADD: Entry = Entry {
     name: "token-add",
-    about: "Adds a token of an account. Prints its number and its text, which is kept nowhere",
+    about: "Adds a token of an account. Prints its number, and its text, which is kept nowhere; \
+            with --digest its number alone",
     example: "Example:\n  registry_cli token-add ada --endpoints publish-new,publish-update \
               --patterns 'acme-*' --db r.db",
     words: Words::Login,

@@ -1,0 +1,98 @@
+//! What is done with the registry of a file.
+
+ghost use Rattle.std.specs.Prelude.{◌≡◌, false};
+ghost use Rattle.sqlite.specs.Held.{state};
+ghost use Rattle.reg_service.specs.Answered.{AreUpToDate};
+ghost use Rattle.reg_service.specs.Registries.{limits_of, tables_of};
+ghost use Rattle.reg_program.specs.Limited.{HasTurns};
+ghost use Rattle.reg_program.specs.Tasks.{IsFitUse};
+
+use crate::administering::{Task, do_task};
+use crate::printing::print;
+use crate::serving::{Service, pipe_on, serve_on};
+use crate::store::{connect, create, open};
+use clap::ArgMatches;
+use reg_body::Limits;
+use reg_converting::Exit;
+use reg_service::Registry;
+use sqlite::{Alter, Connection};
+
+/// What is done with an open registry.
+#[derive(Clone, Copy)]
+pub(crate) enum Use<'a> {
+    /// Nothing more: it is checked when it is opened.
+    Check,
+    Task(&'a Task<'a>),
+    Pipe(&'a ArgMatches<'a>),
+    Serve(&'a Service),
+}
+
+fn use_it<S: Alter>(rt: &HostRuntime, registry: &mut Registry<S>, using: &Use<'_>) -> Exit
+    requires tables { AreUpToDate S.Store (tables_of registry.old) }
+    requires turns { HasTurns (limits_of registry.old) }
+    requires fit { IsFitUse using.now }
+{
+    match using {
+        Use::Check => Exit::DONE,
+        Use::Task(task) => do_task(rt, registry, task),
+        Use::Pipe(words) => pipe_on(rt, registry, words),
+        Use::Serve(service) => serve_on(rt, registry, service),
+    }
+}
+
+/// Uses the registry of a store, and gives the connection back.
+fn used<S: Alter + Drop>(
+    rt: &HostRuntime,
+    conn: Connection<S>,
+    limits: Limits,
+    using: &Use<'_>,
+) -> Result<(Exit, Connection<S>), Exit>
+    requires begun { (state S.Store conn).in_transaction ≡ false }
+    requires turns { HasTurns limits }
+    requires fit { IsFitUse using.now }
+{
+    let mut registry = open(rt.alloc(), conn, limits)?;
+    let exit = use_it(rt, &mut registry, using);
+    Ok((exit, registry.into_connection()))
+}
+
+/// The end of a run, once the file is closed, which moves what stands in its log into it. What was
+/// acknowledged is kept also where that fails; only a check has to tell it.
+fn ended(rt: &HostRuntime, using: &Use<'_>, exit: Exit, is_closed: bool) -> Exit {
+    match using {
+        Use::Check if is_closed => print(rt, "ok\n"),
+        Use::Check => Exit::STORAGE,
+        _ => exit,
+    }
+}
+
+fn used_in(rt: &HostRuntime, file: &str, limits: Limits, using: &Use<'_>) -> Result<Exit, Exit>
+    requires turns { HasTurns limits }
+    requires fit { IsFitUse using.now }
+{
+    let (exit, conn) = used(rt, connect(rt, file)?, limits, using)?;
+    Ok(ended(rt, using, exit, conn.close().is_ok()))
+}
+
+/// Uses the registry of a file.
+pub(crate) fn on_file(rt: &HostRuntime, file: &str, limits: Limits, using: &Use<'_>) -> Exit
+    requires turns { HasTurns limits }
+    requires fit { IsFitUse using.now }
+{
+    match used_in(rt, file, limits, using) {
+        Ok(exit) | Err(exit) => exit,
+    }
+}
+
+/// Makes a registry with nothing in it, and gives the connection back.
+fn made<S: Alter + Drop>(conn: Connection<S>, base: &str) -> Result<Connection<S>, Exit>
+    requires { (state S.Store conn).in_transaction ≡ false }
+{
+    Ok(create(conn, base)?.into_connection())
+}
+
+/// Makes a registry with nothing in it, in a file.
+pub(crate) fn make_file(rt: &HostRuntime, file: &str, base: &str) -> Result<(), Exit> {
+    let _ = made(connect(rt, file)?, base)?.close();
+    Ok(())
+}
