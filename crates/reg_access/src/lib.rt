@@ -1,4 +1,15 @@
-//! Which requests the tables let through.
+//! Which requests the tables let through, and who may act on a crate or reads it.
+//!
+//! All is asked of the rows within a transaction; a name is compared with the ranges of a token's
+//! scopes, and no pattern is read.
+//!
+//! ```
+//! let mut work = tables.work()?;
+//! authorize(&mut work, &digest, &Action::Yank("a", "0.1.0"))?   // Decision::Denied(Rule::A9)
+//! let name = parse_name("a")?;
+//! who_may(alloc, &mut work, &name)?               // a `Grant` for each token and endpoint
+//! who_reads(alloc, &mut work, &name)?             // its readers, where it is restricted
+//! ```
 #![tactic(auto)]
 
 mod access;

@@ -1,4 +1,12 @@
-//! The checks of the rows of a registry when its store is opened.
+//! The checks of the rows of a registry when its store is opened: C1 to C8, in this order.
+//!
+//! They read in one transaction, of which nothing is kept. One archive at a time is held.
+//!
+//! ```
+//! let mut tables = Tables::adopt(alloc, conn)?;
+//! audit(alloc, &mut tables)?                      // None where all checks pass, else the first
+//!                                                 // that fails, as Some(Check::C4)
+//! ```
 #![tactic(auto)]
 
 mod accounts;

@@ -2,6 +2,14 @@
 //!
 //! A list is in the order of its ids, from 1 on; what stands in the vector of a set twice counts
 //! once.
+//!
+//! ```
+//! let mut accounts = Accounts::new(alloc);
+//! accounts.add(PlainAccount { login: parse_login("ada")?, name: None, enabled: true })?;
+//! accounts.id_of("ada")                           // Some(1)
+//! reserved.insert(&parse_name("Acme-Net")?)?;             // `reserved` is a `CrateTexts`
+//! reserved.contains(&canon(&parse_name("acme_net")?))     // true
+//! ```
 #![tactic(auto)]
 
 mod accounts;

@@ -1,4 +1,12 @@
 //! The law of opening: rows pass the checks exactly where they stand for a sound registry.
+//!
+//! Nothing here does anything: a function that calls a law has it for its own proof.
+//!
+//! ```
+//! edition_law();                                  // of rows of either schema, as they are found
+//! rows_law(&conn);                                // what `conn` shows keeps its schema's rules
+//! let tables = Tables::adopt(alloc, conn)?;
+//! ```
 #![tactic(auto)]
 
 pub mod laws;

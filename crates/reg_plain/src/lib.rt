@@ -1,4 +1,15 @@
 //! A plain registry, which follows the rules over vectors.
+//!
+//! It looks through all that it has for each answer: it is there to be read, and to be compared
+//! with.
+//!
+//! ```
+//! let mut registry = PlainRegistry::new(alloc, Limits::STANDARD);
+//! let add = Event::Order(AdminCommand::UserAdd("ada", None));
+//! registry.step(&add)                             // Answer::Replied(AdminReply::Done)
+//! registry.step(&Event::Ask(None, Asked::Index("1/a")))   // Answer::Denied(Rule::A1)
+//! registry.search(None, "a", 10)?.total           // 0
+//! ```
 #![tactic(auto)]
 
 mod asking;

@@ -1,5 +1,14 @@
 //! The rules as code: what is asked, the rows that a decision is made from, and the words of
 //! refusals.
+//!
+//! `decide` looks at the rows that it is handed and at nothing else.
+//!
+//! ```
+//! decide(&rows, &Action::Download("a", "0.1.0"))  // Decision::Denied(Rule::A8): no such crate
+//! rule_status(Rule::A8)                           // 404
+//! rule_text(Rule::A8)                             // A8 no such crate
+//! admin_text(AdminRefusal::G2)                    // G2 login taken
+//! ```
 #![tactic(auto)]
 
 mod action;

@@ -2,6 +2,14 @@
 //!
 //! `take_request` reads until a request is there whole, and writes the interim line that it waits
 //! for. Nothing is decided here: what a request asks for is not looked at.
+//!
+//! ```
+//! match take_request(alloc, &mut r, &mut w, &mut chunk, &mut pending, &limits, &mut left)? {
+//!     Taken::Whole(begun) => ..                   // it is at the front of `pending`
+//!     Taken::Refused(rule, head_only) => ..       // `send_reply` tells it, and it is the last
+//!     Taken::End => ..
+//! }
+//! ```
 #![tactic(auto)]
 
 mod fault;

@@ -1,5 +1,13 @@
 //! Index files, sent one row at a time: it is decided first whether the file is shown, within a
 //! transaction; once that is over the rows are read and sent.
+//!
+//! ```
+//! let decided = decide_file(&mut tables.work()?, Some(&digest), "1/a")?;
+//! match decided {
+//!     Decided::Found(file) => send_file(&mut tables, &file, close, &mut w, writes)?,
+//!     Decided::Denied(rule) => refuse(&mut w, rule, close, writes)?,
+//! }
+//! ```
 #![tactic(auto)]
 
 mod deciding;

@@ -1,11 +1,12 @@
 //! The index file of a crate, as a text.
 
 ghost use Rattle.std.specs.Prelude.{◌≡◌};
-ghost use Rattle.reg_tables.specs.Works.{IsAtWork};
+ghost use Rattle.reg_tables.specs.Works.{AreOurs, IsAtWork};
 
-use crate::records::bytes_text;
+use crate::fault::Fault;
+use crate::records::{Shown, bytes_text, list};
 use reg_line::{Entry, file};
-use reg_tables::{StoreFault, Version, Work};
+use reg_tables::{Edition, StemRow, StoreFault, Tables, Version, Work, index_entries};
 use sqlite::Alter;
 use std::alloc::{AllocError, Global};
 
@@ -49,5 +50,27 @@ pub(crate) fn index_of<S: Alter>(
     match work.versions_of(alloc, crate_id) {
         Ok(versions) => index_text(alloc, versions),
         Err(StoreFault) => String::from_str(alloc, "fault"),
+    }
+}
+
+impl Shown for StemRow {
+    fn show(&self, alloc: Global) -> Result<String, AllocError> {
+        let stem = bytes_text(alloc, self.stem.as_slice())?;
+        format!(in alloc; "{}:{stem};", if self.yanked { "yanked" } else { "kept" })
+    }
+}
+
+/// The marks and stems of a crate, which are read one row at a time.
+pub fn entries_text<S: Alter>(
+    alloc: Global,
+    tables: &mut Tables<S>,
+    crate_id: u32,
+) -> Result<String, Fault>
+    requires { AreOurs S.Store tables.old }
+    ensures { AreOurs S.Store tables.new }
+{
+    match tables.edition() {
+        Edition::First => Err(Fault::NotMade),
+        Edition::Second => Ok(list(alloc, &index_entries(alloc, tables, crate_id)?)?),
     }
 }

@@ -28,6 +28,7 @@ pub use bare::{by_line, check_each, over_a_connection};
 pub use call::{AccountCall, Call, CrateCall, NameCall, NewToken, Release, TextCall, TokenCall};
 pub use calling::perform;
 pub use fault::Fault;
+pub use index_file::entries_text;
 pub use old_store::make_old;
 pub use script::{
     BASE, FILLED, answer_of, check_text, first_broken, play, play_over, read_logins, reply_text,

@@ -49,11 +49,11 @@ fn new_file(rt: &HostRuntime, name: &str) -> io::Result<String> {
     Ok(file)
 }
 
-/// Plays a script over a new file; the setup is the text of a file beside it, `FILE.setup`.
-fn played(rt: &HostRuntime, name: &str, setup: &str, script: &str) -> io::Result<String> {
+/// Plays a script over a new file; the setup is what a file beside it has, `FILE.setup`.
+fn played(rt: &HostRuntime, name: &str, setup: &[u8], script: &str) -> io::Result<String> {
     let file = new_file(rt, name)?;
     let beside = format!(in rt.alloc(); "{file}.setup")?;
-    fs::write(rt, beside.as_str(), setup.as_bytes())?;
+    fs::write(rt, beside.as_str(), setup)?;
     Ok(first_fault(rt, script, &file)?)
 }
 
@@ -117,14 +117,14 @@ export --db FILE -> 2
 #[test]
 fn accounts_and_tokens(rt: HostRuntime) -> Result<(), Fail> {
     let script = format!(in rt.alloc(); "{NEW}{ACCOUNTS}")?;
-    assert_eq!(rt; played(&rt, "accounts", "", &script)?.as_str(), "");
+    assert_eq!(rt; played(&rt, "accounts", b"", &script)?.as_str(), "");
     Ok(())
 }
 
 #[test]
 fn names_and_crates(rt: HostRuntime) -> Result<(), Fail> {
     let script = format!(in rt.alloc(); "{NEW}{NAMES}")?;
-    assert_eq!(rt; played(&rt, "names", "", &script)?.as_str(), "");
+    assert_eq!(rt; played(&rt, "names", b"", &script)?.as_str(), "");
     Ok(())
 }
 
@@ -143,6 +143,31 @@ serve --port 0 --connections 0 --db FILE -> 2 bad words
 serve --port 65536 --connections 0 --db FILE -> 2 bad words
 serve --port 8080 --connections 0 --replies 0 --db FILE -> 2 bad words
 serve --port 8080 --connections 18446744073709551616 --db FILE -> 2 bad words";
-    assert_eq!(rt; played(&rt, "made", "", script)?.as_str(), "");
+    assert_eq!(rt; played(&rt, "made", b"", script)?.as_str(), "");
+    Ok(())
+}
+
+/// 32 bytes, of which a token is made; they are no text.
+const BYTES: &[u8] = &[0xff; 32];
+
+/// What is read from other files.
+const OTHER_FILES: &str = "user-add ada --db FILE -> 0
+token-add ada --endpoints yank --random FILE.setup --db FILE -> 0
+token-add ada --endpoints yank --random FILE.setup --db FILE -> 1 G5 token digest taken
+token-add carol --endpoints yank --random FILE.setup --db FILE -> 1 G3 no such login
+token-add carol --endpoints yank --random FILE.none --db FILE -> 3 storage
+token-add ada --endpoints yank --random FILE.none --db FILE.none -> 3 unknown schema
+pipe --db FILE --setup FILE.setup -> 2 bad setup line
+pipe --db FILE --setup FILE.none -> 3 storage
+pipe --memory --base r/ --setup FILE.none -> 1 bad base
+pipe --memory --setup FILE.none -> 3 storage
+pipe --memory --db FILE -> 2
+pipe --setup FILE.setup -> 2
+";
+
+#[test]
+fn other_files(rt: HostRuntime) -> Result<(), Fail> {
+    let script = format!(in rt.alloc(); "{NEW}{OTHER_FILES}")?;
+    assert_eq!(rt; played(&rt, "others", BYTES, &script)?.as_str(), "");
     Ok(())
 }

@@ -9,6 +9,7 @@ use test_files::{
     image_of, nothing, open, revive,
 };
 use test_service::{Played, play};
+use test_tables::make_old;
 
 /// What shows all that a task may change.
 const LOOKS: &str = "open
@@ -97,6 +98,18 @@ pub(crate) fn prepare_nothing(alloc: Global) -> Result<Prepared, Fault> {
 pub(crate) fn prepare(alloc: Global, lines: &str) -> Result<Prepared, Fault> {
     let files = files_of(alloc, &nothing(alloc), &NO_LIMITS)?;
     prepared_of(alloc, filled(alloc, files, lines)?)
+}
+
+/// Files that hold a store of schema 1.
+pub(crate) fn prepare_old(alloc: Global) -> Result<Prepared, Fault> {
+    let files = files_of(alloc, &nothing(alloc), &NO_LIMITS)?;
+    let Ok(mut conn) = open(alloc, files, MANY_PAGES) else {
+        return Err(Fault::NotOpened);
+    };
+    if make_old(&mut conn).is_err() {
+        return Err(Fault::Memory);
+    }
+    prepared_of(alloc, closed(conn).ok_or(Fault::NotClosed)?)
 }
 
 /// The files as lines leave them, and what was played.

@@ -1,7 +1,9 @@
 //! Lines that are tried in turn, each a task and its answer.
 
 use crate::service_stops::fault::Fault;
-use crate::service_stops::files::{Prepared, done_over, outcome_of, prepare, prepare_nothing};
+use crate::service_stops::files::{
+    Prepared, done_over, outcome_of, prepare, prepare_nothing, prepare_old,
+};
 use crate::service_stops::trials::{Amounts, Later, Trial, each_amount};
 use std::alloc::{AllocError, Global};
 use test_files::{Scarce, Seen};
@@ -204,6 +206,12 @@ fn each_line(
 pub(crate) fn over_nothing(alloc: Global, step: Option<u32>) -> Result<(), Fault> {
     let before = prepare_nothing(alloc)?;
     each_line(alloc, &before, "create -> done", step)
+}
+
+/// Tries opening a store of schema 1, which brings it to schema 2.
+pub(crate) fn over_old_files(alloc: Global, step: Option<u32>) -> Result<(), Fault> {
+    let before = prepare_old(alloc)?;
+    each_line(alloc, &before, "open -> done", step)
 }
 
 /// The files of *two accounts and a* once these other lines were played.

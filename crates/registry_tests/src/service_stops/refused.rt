@@ -5,10 +5,10 @@ use crate::service_stops::calls::{
     CHANGED, CHANGES, CHANGES_BACK, PUBLISHES, READS, REFUSALS, REQUESTS,
 };
 use crate::service_stops::fault::Fault;
-use crate::service_stops::lines::{over_files, over_nothing};
+use crate::service_stops::lines::{over_files, over_nothing, over_old_files};
 
 /// Bytes between two amounts, while a registry is made or changed, and while it is read.
-const STEP: u32 = 24_000;
+const STEP: u32 = 32_000;
 
 const STEP_OF_READS: u32 = 4_000;
 
@@ -20,6 +20,11 @@ fn a_registry_made(rt: HostRuntime) -> Result<(), Fault> {
 #[test]
 fn a_registry_opened(rt: HostRuntime) -> Result<(), Fault> {
     over_files(rt.alloc(), "", "open -> done", Some(STEP_OF_READS))
+}
+
+#[test]
+fn an_old_store_opened(rt: HostRuntime) -> Result<(), Fault> {
+    over_old_files(rt.alloc(), Some(STEP))
 }
 
 #[test]

@@ -5,7 +5,7 @@ use crate::service_stops::calls::{
     CHANGED, CHANGES, CHANGES_BACK, PUBLISHES, READS, REFUSALS, REQUESTS,
 };
 use crate::service_stops::fault::Fault;
-use crate::service_stops::lines::{over_files, over_nothing};
+use crate::service_stops::lines::{over_files, over_nothing, over_old_files};
 
 #[test]
 fn a_stop_while_a_registry_is_made(rt: HostRuntime) -> Result<(), Fault> {
@@ -15,6 +15,11 @@ fn a_stop_while_a_registry_is_made(rt: HostRuntime) -> Result<(), Fault> {
 #[test]
 fn a_stop_while_it_is_opened(rt: HostRuntime) -> Result<(), Fault> {
     over_files(rt.alloc(), "", "open -> done", None)
+}
+
+#[test]
+fn a_stop_while_an_old_store_is_opened(rt: HostRuntime) -> Result<(), Fault> {
+    over_old_files(rt.alloc(), None)
 }
 
 #[test]

@@ -45,6 +45,14 @@ pub(crate) const AN_OPENING: &str = "open 1 -> done";
 pub(crate) const SELECTIONS: &str = "adopt -> done
 audit -> none
 read-logins -> 1:ada:Ada;2:bob:-;3:cy:-;
+entries 1 -> kept:{\"cksum\":\
+\"ba7816bf8f01cfea414140de5dae2223b00361a396177a9cb410ff61f20015ad\",\"deps\":[],\
+\"features\":{},\"links\":null,\"name\":\"first\",\"rust_version\":null,\"vers\":\"0.1.0\",\
+\"yanked\":;yanked:{\"cksum\":\
+\"ba7816bf8f01cfea414140de5dae2223b00361a396177a9cb410ff61f20015ad\",\"deps\":[],\
+\"features\":{},\"links\":null,\"name\":\"first\",\"rust_version\":null,\"vers\":\"0.2.0\",\
+\"yanked\":;
+entries 2 -> none
 account ada -> 1:ada:Ada:on;
 accounts -> 1:ada:Ada:on;2:bob:-:on;3:cy:-:off;
 counts -> 3:1:1;

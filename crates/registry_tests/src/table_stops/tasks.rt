@@ -12,7 +12,9 @@ use sqlite_disk::Disk;
 use std::alloc::{AllocError, Global};
 use test_files::{Image, Limits, MANY_PAGES, files_of, have_stopped, leave_only, open};
 use test_support::scarce_memory::Amounts;
-use test_tables::{BASE, Call, check_text, perform, read_call, read_logins, reply_text};
+use test_tables::{
+    BASE, Call, check_text, entries_text, perform, read_call, read_logins, reply_text,
+};
 
 /// What is done.
 #[derive(Drop)]
@@ -25,6 +27,8 @@ pub(crate) enum Task<'a> {
     Audit,
     /// They are read in no transaction.
     Logins,
+    /// The entries of a crate's index file are read, one row at a time.
+    Entries(u32),
     /// They are brought to schema 2.
     Migrate,
     /// A call is made in a transaction of its own.
@@ -38,11 +42,19 @@ pub(crate) fn read_task<'a>(alloc: Global, text: &'a str) -> Result<Task<'a>, Fa
         "audit" => Task::Audit,
         "read-logins" => Task::Logins,
         "migrate" => Task::Migrate,
-        _ => match read_call(alloc, text)? {
-            Some(call) => Task::Call(call),
-            None => return Err(Fault::Words),
-        },
+        _ => return read_other(alloc, text),
     })
+}
+
+/// A task of more than one word.
+fn read_other<'a>(alloc: Global, text: &'a str) -> Result<Task<'a>, Fault> {
+    if let Some(id) = text.strip_prefix("entries ") {
+        return Ok(Task::Entries(id.parse().unwrap_or(0)));
+    }
+    match read_call(alloc, text)? {
+        Some(call) => Ok(Task::Call(call)),
+        None => Err(Fault::Words),
+    }
 }
 
 /// An answer, and whether it is one that was done or committed.
@@ -128,6 +140,17 @@ fn checked<S: Alter>(
     }
 }
 
+/// What was read of the tables, as a text.
+fn read(alloc: Global, found: Result<String, test_tables::Fault>) -> Result<Reply, AllocError> {
+    match found {
+        Ok(text) => Ok(Reply {
+            text,
+            acknowledged: true,
+        }),
+        Err(_fault) => fault(alloc),
+    }
+}
+
 fn logins<S: Alter>(
     alloc: Global,
     tables: &mut Tables<S>,
@@ -138,13 +161,21 @@ fn logins<S: Alter>(
     let memory = leave_only(alloc, amount)?;
     let found = read_logins(alloc, tables);
     drop(memory);
-    match found {
-        Ok(text) => Ok(Reply {
-            text,
-            acknowledged: true,
-        }),
-        Err(_fault) => fault(alloc),
-    }
+    read(alloc, found)
+}
+
+fn entries<S: Alter>(
+    alloc: Global,
+    tables: &mut Tables<S>,
+    crate_id: u32,
+    amount: Option<u32>,
+) -> Result<Reply, AllocError>
+    requires { AreOurs S.Store tables.old }
+{
+    let memory = leave_only(alloc, amount)?;
+    let found = entries_text(alloc, tables, crate_id);
+    drop(memory);
+    read(alloc, found)
 }
 
 /// Whether the tables were of schema 1, once they are of schema 2.
@@ -176,6 +207,7 @@ fn over_tables<S: Alter>(
         Task::Call(call) => committed(alloc, tables, call, limits),
         Task::Audit => checked(alloc, tables, limits.call),
         Task::Logins => logins(alloc, tables, limits.call),
+        Task::Entries(id) => entries(alloc, tables, *id, limits.call),
         Task::Migrate => migrated(alloc, tables, limits.call),
         Task::Make | Task::Adopt => reply_with(alloc, "done", true),
     }
