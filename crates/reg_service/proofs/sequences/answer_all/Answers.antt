@@ -1,4 +1,4 @@
-use Rattle.std.proofs.Common.{[], ◌+◌, take, subst, sym, refl, ◌∙◌, arith}
+use Rattle.std.proofs.Common.{[], ◌∷◌, ◌++◌, ◌+◌, take, subst, sym, refl, ◌∙◌, arith}
 use Rattle.reg_service.specs.Registries.{limits_of, tables_of}
 use Rattle.reg_service.specs.Sequences.{HasAnswered}
 use Rattle.std.proofs.lemmas.List.{take_all}
@@ -26,3 +26,14 @@ pub returns-clause-answered : goal.returns-clause-answered
 returns-clause-answered g c clean s shows alone =
     subst (λ cs. HasAnswered g.S.Store (limits_of c.args.registry.now) s cs c.loop-call.told.items (tables_of c.loop-call.registry)) (take_all c.loop-call.call-index c.args.calls.now (omega arith))
     (c.loop-call.invariant.2 clean s shows alone)
+
+pub returns-in_err-push-clause-begun : goal.returns-in_err-push-clause-begun
+returns-in_err-push-clause-begun g c clean s shows alone = (
+  c.loop-call.call-index + 1,
+  c.loop-call.told.items ++ c.answer.result ∷ [],
+  answered_next g.S.Store (limits_of c.args.registry.now) s c.growth_law.ensures.sound c.growth_law.ensures.grows c.run_law.ensures.step c.run_law.ensures.join c.args.calls.now c.loop-call.call-index _ c.loop-call.told.items c.answer.result (tables_of c.loop-call.registry) (tables_of c.answer.new.registry) (omega arith) (rw c.loop-call.invariant.1 at c.answer.ensures.read) clean
+      (c.loop-call.invariant.2 (c.answer.ensures.clean clean) s shows alone) (rw c.loop-call.invariant.1 at c.answer.ensures.told),
+)
+
+pub returns-clause-begun : goal.returns-clause-begun
+returns-clause-begun g c clean s shows alone = (c.loop-call.call-index, c.loop-call.told.items, c.loop-call.invariant.2 clean s shows alone)
