@@ -23,8 +23,8 @@ use std::net::TcpListener;
 const BASE: &str = "http://127.0.0.1:8080";
 
 /// The text of the setup file; empty where there is none.
-fn setup_text(rt: &HostRuntime, words: &ArgMatches<'_>) -> Result<String, Exit> {
-    let Some(file) = words.get_str("setup") else {
+fn setup_text(rt: &HostRuntime, setup: Option<&str>) -> Result<String, Exit> {
+    let Some(file) = setup else {
         return Ok(String::new(rt.alloc()));
     };
     let Ok(bytes) = fs::read(rt, file) else {
@@ -39,16 +39,16 @@ fn setup_text(rt: &HostRuntime, words: &ArgMatches<'_>) -> Result<String, Exit> 
     }
 }
 
-/// Does the setup and serves standard input and output.
+/// Does the setup, if a file has one, and serves standard input and output.
 pub(crate) fn pipe_on<S: Alter>(
     rt: &HostRuntime,
     registry: &mut Registry<S>,
-    words: &ArgMatches<'_>,
+    setup: Option<&str>,
 ) -> Exit
     requires tables { AreUpToDate S.Store (tables_of registry.old) }
     requires turns { HasTurns (limits_of registry.old) }
 {
-    let setup = match setup_text(rt, words) {
+    let setup = match setup_text(rt, setup) {
         Ok(setup) => setup,
         Err(exit) => return exit,
     };
@@ -64,13 +64,14 @@ fn pipe_memory(rt: &HostRuntime, words: &ArgMatches<'_>) -> Result<Exit, Exit> {
     };
     let base = words.get_str("base").unwrap_or(BASE);
     let mut registry = create(conn, base)?;
-    Ok(pipe_on(rt, &mut registry, words))
+    Ok(pipe_on(rt, &mut registry, words.get_str("setup")))
 }
 
 /// `pipe`.
 pub(crate) fn pipe(rt: &HostRuntime, words: &ArgMatches<'_>) -> Exit {
     if let Some(file) = words.get_str("db") {
-        return on_file(rt, file, Limits::STANDARD, &Use::Pipe(words));
+        let setup = words.get_str("setup");
+        return on_file(rt, file, Limits::STANDARD, &Use::Pipe(setup));
     }
     match pipe_memory(rt, words) {
         Ok(exit) | Err(exit) => exit,

@@ -11,7 +11,6 @@ use crate::administering::{Task, do_task};
 use crate::printing::print;
 use crate::serving::{Service, pipe_on, serve_on};
 use crate::store::{connect, create, open};
-use clap::ArgMatches;
 use reg_body::Limits;
 use reg_converting::Exit;
 use reg_service::Registry;
@@ -23,7 +22,8 @@ pub(crate) enum Use<'a> {
     /// Nothing more: it is checked when it is opened.
     Check,
     Task(&'a Task<'a>),
-    Pipe(&'a ArgMatches<'a>),
+    /// A stream on standard input and output, behind the setup that a file has.
+    Pipe(Option<&'a str>),
     Serve(&'a Service),
 }
 
@@ -35,7 +35,7 @@ fn use_it<S: Alter>(rt: &HostRuntime, registry: &mut Registry<S>, using: &Use<'_
     match using {
         Use::Check => Exit::DONE,
         Use::Task(task) => do_task(rt, registry, task),
-        Use::Pipe(words) => pipe_on(rt, registry, words),
+        Use::Pipe(setup) => pipe_on(rt, registry, *setup),
         Use::Serve(service) => serve_on(rt, registry, service),
     }
 }
