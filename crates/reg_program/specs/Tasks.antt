@@ -5,7 +5,7 @@ use Rattle.reg_policy.specs.Events.{command_of}
 use Rattle.reg_program.specs.declared.administering.Task.{Task}
 use Rattle.reg_program.specs.declared.administering.Task.TheVariants.{Command}
 use Rattle.reg_program.specs.declared.using.Use.{Use}
-use Rattle.reg_program.specs.declared.using.Use.TheVariants as using
+use Rattle.reg_program.specs.declared.using.Use.TheVariants as uses
 
 -- a command is fit for a registry
 abbrev pub IsFitTask : Task → Type 0
@@ -13,5 +13,5 @@ IsFitTask (Command command) = IsFit (to_order (command_of command))
 IsFitTask _ = Unit {0}
 
 abbrev pub IsFitUse : Use → Type 0
-IsFitUse (using.Task task) = IsFitTask task.now
+IsFitUse (uses.Task task) = IsFitTask task.now
 IsFitUse _ = Unit {0}

@@ -27,12 +27,12 @@ pub(crate) enum Use<'a> {
     Serve(&'a Service),
 }
 
-fn use_it<S: Alter>(rt: &HostRuntime, registry: &mut Registry<S>, using: &Use<'_>) -> Exit
+fn use_it<S: Alter>(rt: &HostRuntime, registry: &mut Registry<S>, wanted: &Use<'_>) -> Exit
     requires tables { AreUpToDate S.Store (tables_of registry.old) }
     requires turns { HasTurns (limits_of registry.old) }
-    requires fit { IsFitUse using.now }
+    requires fit { IsFitUse wanted.now }
 {
-    match using {
+    match wanted {
         Use::Check => Exit::DONE,
         Use::Task(task) => do_task(rt, registry, task),
         Use::Pipe(setup) => pipe_on(rt, registry, *setup),
@@ -45,41 +45,41 @@ fn used<S: Alter + Drop>(
     rt: &HostRuntime,
     conn: Connection<S>,
     limits: Limits,
-    using: &Use<'_>,
+    wanted: &Use<'_>,
 ) -> Result<(Exit, Connection<S>), Exit>
     requires begun { (state S.Store conn).in_transaction ≡ false }
     requires turns { HasTurns limits }
-    requires fit { IsFitUse using.now }
+    requires fit { IsFitUse wanted.now }
 {
     let mut registry = open(rt.alloc(), conn, limits)?;
-    let exit = use_it(rt, &mut registry, using);
+    let exit = use_it(rt, &mut registry, wanted);
     Ok((exit, registry.into_connection()))
 }
 
 /// The end of a run, once the file is closed, which moves what stands in its log into it. What was
 /// acknowledged is kept also where that fails; only a check has to tell it.
-fn ended(rt: &HostRuntime, using: &Use<'_>, exit: Exit, is_closed: bool) -> Exit {
-    match using {
+fn ended(rt: &HostRuntime, wanted: &Use<'_>, exit: Exit, is_closed: bool) -> Exit {
+    match wanted {
         Use::Check if is_closed => print(rt, "ok\n"),
         Use::Check => Exit::STORAGE,
         _ => exit,
     }
 }
 
-fn used_in(rt: &HostRuntime, file: &str, limits: Limits, using: &Use<'_>) -> Result<Exit, Exit>
+fn used_in(rt: &HostRuntime, file: &str, limits: Limits, wanted: &Use<'_>) -> Result<Exit, Exit>
     requires turns { HasTurns limits }
-    requires fit { IsFitUse using.now }
+    requires fit { IsFitUse wanted.now }
 {
-    let (exit, conn) = used(rt, connect(rt, file)?, limits, using)?;
-    Ok(ended(rt, using, exit, conn.close().is_ok()))
+    let (exit, conn) = used(rt, connect(rt, file)?, limits, wanted)?;
+    Ok(ended(rt, wanted, exit, conn.close().is_ok()))
 }
 
 /// Uses the registry of a file.
-pub(crate) fn on_file(rt: &HostRuntime, file: &str, limits: Limits, using: &Use<'_>) -> Exit
+pub(crate) fn on_file(rt: &HostRuntime, file: &str, limits: Limits, wanted: &Use<'_>) -> Exit
     requires turns { HasTurns limits }
-    requires fit { IsFitUse using.now }
+    requires fit { IsFitUse wanted.now }
 {
-    match used_in(rt, file, limits, using) {
+    match used_in(rt, file, limits, wanted) {
         Ok(exit) | Err(exit) => exit,
     }
 }
