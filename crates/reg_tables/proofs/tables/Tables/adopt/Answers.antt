@@ -9,3 +9,6 @@ returns-in-Ok-true-clause-edition g c = search rules
 
 pub returns-in-Ok-false-clause-unknown : goal.returns-in-Ok-false-clause-unknown
 returns-in-Ok-false-clause-unknown g c = search rules
+
+pub returns-in-Ok-true-clause-about : goal.returns-in-Ok-true-clause-about
+returns-in-Ok-true-clause-about g c = search rules
