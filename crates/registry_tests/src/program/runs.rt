@@ -156,7 +156,7 @@ token-add ada --endpoints yank --random FILE.setup --db FILE -> 0
 token-add ada --endpoints yank --random FILE.setup --db FILE -> 1 G5 token digest taken
 token-add carol --endpoints yank --random FILE.setup --db FILE -> 1 G3 no such login
 token-add carol --endpoints yank --random FILE.none --db FILE -> 3 storage
-token-add ada --endpoints yank --random FILE.none --db FILE.none -> 3 unknown schema
+token-add ada --endpoints yank --random FILE.none --db FILE.new -> 3 unknown schema
 pipe --db FILE --setup FILE.setup -> 2 bad setup line
 pipe --db FILE --setup FILE.none -> 3 storage
 pipe --memory --base r/ --setup FILE.none -> 1 bad base
