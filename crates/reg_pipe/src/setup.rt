@@ -1,6 +1,6 @@
 //! The lines of a setup file, each a command of the administrator.
 
-ghost use Rattle.std.specs.Prelude.{◌≡◌, IfOk, Some, map};
+ghost use Rattle.std.specs.Prelude.{◌≡◌, IfErr, IfOk, Some, map};
 ghost use Rattle.sqlite.specs.State.{HasCleanDisk};
 ghost use Rattle.reg_model.specs.Events.Event.{Order as ToOrder};
 ghost use Rattle.reg_model.specs.Steps.{IsFit};
@@ -11,7 +11,7 @@ ghost use Rattle.reg_service.specs.Registries.{limits_of, tables_of};
 ghost use Rattle.reg_http.specs.Answering.{GoesOn};
 ghost use Rattle.reg_pipe.specs.Lines.{lines_in};
 ghost use Rattle.reg_words.specs.Orders.{words_of};
-ghost use Rattle.reg_pipe.specs.Setups.{IsObeyed, IsSetUp, IsSomeObeyed, MakesOf, order_in, token_order};
+ghost use Rattle.reg_pipe.specs.Setups.{IsObeyed, IsOfWords, IsSetUp, IsSomeObeyed, MakesOf, order_in, token_order};
 
 use clap::error::ErrorKind;
 use clap::{ArgMatches, Command, Error};
@@ -19,7 +19,7 @@ use reg_model::AdminRefusal;
 use reg_policy::{AdminCommand, AdminReply};
 use reg_service::Registry;
 use reg_service::laws::history_law;
-use reg_words::{NewToken, Order, Shape, TokenSource, read_order, with_orders};
+use reg_words::{NewToken, Order, Shape, TokenSource, is_dashed, read_order, with_orders};
 use sqlite::Alter;
 use std::alloc::{AllocError, AllocFailed, Global};
 
@@ -94,11 +94,16 @@ fn parsed<'a>(alloc: Global, words: &'a [&'a str]) -> Result<ArgMatches<'a>, Err
     line_words(alloc)?.try_get_matches_from(words)
 }
 
-/// The words of a line, behind a name that is no word of it.
-fn split_words<'a>(alloc: Global, line: &'a str) -> Result<Vec<&'a str>, AllocError> {
+/// The words of a line, behind a name that is no word of it. No value begins with `-`.
+fn split_words<'a>(alloc: Global, line: &'a str) -> Result<Vec<&'a str>, SetupFault>
+    ensures { IfErr result IsOfWords }
+{
     let mut words = Vec::new(alloc);
     words.push("setup")?;
     for word in line.split(' ') {
+        if is_dashed(word) {
+            return Err(SetupFault::Unreadable);
+        }
         words.push(word)?;
     }
     Ok(words)

@@ -8,6 +8,7 @@ use clap::error::ErrorKind;
 use reg_body::{Counted, Limits};
 use reg_converting::{Exit, run_line};
 use reg_usage::read_words;
+use reg_words::is_dashed;
 
 /// Prints help, or what is wrong with the words.
 fn told(rt: &HostRuntime, error: &Error) -> Exit {
@@ -34,10 +35,18 @@ fn line(rt: &HostRuntime) -> Exit {
     run_line(rt.alloc(), &mut reader, &mut writer, &Limits::STANDARD)
 }
 
+/// Whether a value among the words behind the program's name begins with `-`.
+fn have_dashed(words: &[String]) -> bool {
+    words.iter().skip(1).any(|word| is_dashed(word))
+}
+
 /// `run_words` runs the program's words, its own name first.
 /// Help is printed here, on standard output with status 0.
 /// So is what `clap` says of bad words, on standard error with status 2.
 pub fn run_words(rt: &HostRuntime, words: &[String]) -> Exit {
+    if have_dashed(words) {
+        return Exit::BAD_WORDS;
+    }
     let matches = match read_words(rt.alloc(), words) {
         Ok(matches) => matches,
         Err(error) => return told(rt, &error),

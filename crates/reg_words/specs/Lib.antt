@@ -1,1 +1,2 @@
+pub mod Dashes
 pub mod Orders

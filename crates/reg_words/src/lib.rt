@@ -10,12 +10,14 @@
 //! `clap` judges how many words there are and which options; what they mean is read here.
 #![tactic(auto)]
 
+mod dashes;
 mod numbers;
 mod orders;
 mod parameters;
 mod reports;
 mod subcommands;
 
+pub use dashes::is_dashed;
 pub use numbers::{decimal, is_port};
 pub use orders::{NewToken, Order, TokenSource, read_order};
 pub use parameters::{Shape, option, with_file, word};

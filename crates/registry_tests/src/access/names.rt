@@ -64,10 +64,11 @@ fn ranges_decide(rt: HostRuntime) -> Result<(), Fail> {
     plays_turned(
         &rt,
         rt.alloc(),
-        TWO_ACCOUNTS,
-        "UPDATE scopes SET pattern = 'zed' WHERE token = 1",
-        "abc publish b 0.1.0 -> Allowed, and the policy says Denied(A7)
-abc publish zed 0.1.0 -> allowed
+        TWO_ACCOUNTS_AND_A,
+        "UPDATE scopes SET pattern = 'zzz' WHERE token = 1",
+        "abc yank a 0.1.0 -> Allowed, and the policy says Denied(A7)
+abc publish b 0.1.0 -> Allowed, and the policy says Denied(A7)
+abc publish zzz 0.1.0 -> allowed
 access b -> 1:PublishNew:ada; read ",
     )
 }
@@ -77,10 +78,11 @@ fn a_range_with_its_pattern_kept(rt: HostRuntime) -> Result<(), Fail> {
     plays_turned(
         &rt,
         rt.alloc(),
-        TWO_ACCOUNTS,
-        "UPDATE scopes SET low = 'c' WHERE token = 1",
-        "abc publish b 0.1.0 -> Denied(A7), and the policy says Allowed
-abc publish c 0.1.0 -> allowed
+        TWO_ACCOUNTS_AND_A,
+        "UPDATE scopes SET low = 'zzz', high = 'zzz!' WHERE token = 1",
+        "abc yank a 0.1.0 -> Denied(A7), and the policy says Allowed
+abc publish b 0.1.0 -> Denied(A7), and the policy says Allowed
+abc publish zzz 0.1.0 -> allowed
 access b ->  read ",
     )
 }

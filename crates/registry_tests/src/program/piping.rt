@@ -53,6 +53,10 @@ const UNREADABLE: &str = "user-add  carol
 user-add carol 
 users
 user-add carol --db x
+user-add -
+user-add -- carol
+user-add carol --name -x
+user-add carol --name=-x
 token-add ada --endpoints yank
 token-revoke 4294967296
 init --base http://127.0.0.1:8080
