@@ -7,8 +7,7 @@ use clap::Error;
 use clap::error::ErrorKind;
 use reg_body::{Counted, Limits};
 use reg_converting::{Exit, run_line};
-use reg_usage::read_words;
-use reg_words::is_dashed;
+use reg_words::{is_dashed, read_words};
 
 /// Prints help, or what is wrong with the words.
 fn told(rt: &HostRuntime, error: &Error) -> Exit {

@@ -1,13 +1,6 @@
-mod Adding
-mod Commands
-mod Dispatch
 mod Frames
 mod Histories
-mod Named
 mod Opened
-mod Outcomes
-mod Owning
 mod Replied
-mod Reporting
 mod Seeking
 mod Streams

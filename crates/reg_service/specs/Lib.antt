@@ -1,7 +1,6 @@
 pub mod Answered
 pub mod Handled
 pub mod Looked
-pub mod Orders
 pub mod Registries
 pub mod Sequences
 pub mod Streamed

@@ -11,20 +11,13 @@
 //! ```
 #![tactic(auto)]
 
-mod accounts;
-mod crates;
 mod exporting;
-mod finding;
 pub mod laws;
-mod names;
 mod opening;
-mod orders;
 mod registry;
-mod reports;
 mod searching;
 mod sequences;
 mod streaming;
-mod tokens;
 mod transactions;
 
 pub use opening::OpenFault;

@@ -10,9 +10,9 @@ ghost use Rattle.reg_tables.specs.Works.{is_shut, shown};
 ghost use Rattle.reg_service.specs.Answered.{AreUpToDate, IsAnswered};
 ghost use Rattle.reg_service.specs.Handled.{IsReplied};
 
-use crate::orders::order;
 use crate::searching::seek;
 use reg_body::Limits;
+use reg_commands::order;
 use reg_line::Digest;
 use reg_model::AdminRefusal;
 use reg_model::laws::{denial_law, soundness_law};

@@ -1,7 +1,10 @@
-//! The words of the administrator's commands, as the command line and the lines of a setup file
-//! write them.
+//! The words of the program and of the administrator's commands, as the command line and the lines
+//! of a setup file write them.
 //!
 //! ```
+//! let matches = read_words(alloc, &words)?;   // registry_cli user-add ada --db registry.db
+//! matches.subcommand_name()                   // Some("user-add")
+//!
 //! let matches = setup_lines(alloc)?.try_get_matches_from(words)?;   // setup owner-add a bob
 //! let order = read_order(alloc, "owner-add", inner)?;               // Some(..)
 //! order.command(&digest)                                  // AdminCommand::OwnerAdd("a", "bob")
@@ -16,10 +19,12 @@ mod orders;
 mod parameters;
 mod reports;
 mod subcommands;
+mod usage;
 
 pub use dashes::is_dashed;
 pub use numbers::{decimal, is_port};
 pub use orders::{NewToken, Order, TokenSource, read_order};
-pub use parameters::{Shape, option, with_file, word};
-pub use reports::{read_report, with_reports};
+pub use parameters::Shape;
+pub use reports::read_report;
 pub use subcommands::with_orders;
+pub use usage::read_words;

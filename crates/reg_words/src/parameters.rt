@@ -32,7 +32,7 @@ pub(crate) struct Entry {
 }
 
 /// A word that has to stand.
-pub fn word<'a>(alloc: Global, name: &'a str, help: &'a str) -> Arg<'a> {
+pub(crate) fn word<'a>(alloc: Global, name: &'a str, help: &'a str) -> Arg<'a> {
     Arg::new(alloc, name)
         .required(true)
         .action(ArgAction::Set)
@@ -41,7 +41,7 @@ pub fn word<'a>(alloc: Global, name: &'a str, help: &'a str) -> Arg<'a> {
 }
 
 /// An option with a value, which may be left out.
-pub fn option<'a>(alloc: Global, name: &'a str, value: &'a str, help: &'a str) -> Arg<'a> {
+pub(crate) fn option<'a>(alloc: Global, name: &'a str, value: &'a str, help: &'a str) -> Arg<'a> {
     Arg::new(alloc, name)
         .long(name)
         .action(ArgAction::Set)
@@ -50,7 +50,10 @@ pub fn option<'a>(alloc: Global, name: &'a str, value: &'a str, help: &'a str) -
 }
 
 /// `with_file` adds the option that names the registry's file.
-pub fn with_file<'a>(alloc: Global, command: Command<'a>) -> Result<Command<'a>, AllocError> {
+pub(crate) fn with_file<'a>(
+    alloc: Global,
+    command: Command<'a>,
+) -> Result<Command<'a>, AllocError> {
     command.arg(option(alloc, "db", "FILE", "The registry's file").required(true))
 }
 

@@ -40,7 +40,7 @@ const REPORTS: [Entry; 4] = [
 ];
 
 /// `with_reports` adds the subcommands that only report.
-pub fn with_reports<'a>(
+pub(crate) fn with_reports<'a>(
     alloc: Global,
     mut command: Command<'a>,
 ) -> Result<Command<'a>, AllocError> {

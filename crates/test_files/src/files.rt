@@ -108,3 +108,8 @@ pub fn closed<D: Disk + Drop>(conn: Connection<FileStore<D>>) -> Option<Files<D>
         Err((_error, _store)) => None,
     }
 }
+
+/// The connection's files, however closing them ends.
+pub fn left<D: Disk + Drop>(conn: Connection<FileStore<D>>) -> Files<D> {
+    conn.into_store().close()
+}

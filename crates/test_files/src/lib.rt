@@ -7,8 +7,8 @@ mod limits;
 mod trials;
 
 pub use files::{
-    FEW_PAGES, Image, MANY_PAGES, Stopping, closed, files_of, have_stopped, image_of, nothing,
-    open, revive,
+    FEW_PAGES, Image, MANY_PAGES, Stopping, closed, files_of, have_stopped, image_of, left,
+    nothing, open, revive,
 };
 pub use limits::{Limits, NO_LIMITS, Scarce, leave_only};
 pub use trials::{Came, Seen};

@@ -6,10 +6,10 @@ use sqlite_disk::Disk;
 use std::alloc::{AllocError, Global};
 use test_files::{
     FEW_PAGES, Image, Limits, MANY_PAGES, NO_LIMITS, Stopping, closed, files_of, have_stopped,
-    image_of, nothing, open, revive,
+    image_of, left, nothing, open, revive,
 };
 use test_service::{Played, play};
-use test_tables::make_old;
+use test_tables::with_old;
 
 /// What shows all that a task may change.
 const LOOKS: &str = "open
@@ -103,12 +103,10 @@ pub(crate) fn prepare(alloc: Global, lines: &str) -> Result<Prepared, Fault> {
 /// Files that hold a store of schema 1.
 pub(crate) fn prepare_old(alloc: Global) -> Result<Prepared, Fault> {
     let files = files_of(alloc, &nothing(alloc), &NO_LIMITS)?;
-    let Ok(mut conn) = open(alloc, files, MANY_PAGES) else {
+    let Ok(conn) = open(alloc, files, MANY_PAGES) else {
         return Err(Fault::NotOpened);
     };
-    if make_old(&mut conn).is_err() {
-        return Err(Fault::Memory);
-    }
+    let conn = with_old(conn).ok_or(Fault::Memory)?;
     prepared_of(alloc, closed(conn).ok_or(Fault::NotClosed)?)
 }
 
@@ -123,7 +121,7 @@ fn played_in<D: Disk + Drop>(
     match open(alloc, files, options) {
         Ok(conn) => {
             let (conn, played) = play(alloc, conn, lines, amount);
-            (conn.into_store().close(), played)
+            (left(conn), played)
         }
         Err(files) => (files, Ok(Played::new(alloc))),
     }

@@ -6,7 +6,7 @@ use sqlite::Files;
 use sqlite_disk::{Crash, Disk};
 use std::alloc::Global;
 use test_files::{Image, MANY_PAGES, NO_LIMITS, closed, files_of, image_of, nothing, open, revive};
-use test_tables::make_old;
+use test_tables::with_old;
 
 /// The rows of files that a machine finds again after it stopped.
 pub(crate) fn rows_after<D: Crash + Drop>(
@@ -50,10 +50,10 @@ fn filled_files<D: Disk + Drop>(
 /// The files once they were opened and a store of schema 1 was made in them.
 fn old_files<D: Disk + Drop>(alloc: Global, files: Files<D>) -> Result<Files<D>, Fault> {
     match open(alloc, files, MANY_PAGES) {
-        Ok(mut conn) => match make_old(&mut conn) {
-            Ok(()) => closed(conn).ok_or(Fault::NotClosed),
-            Err(_error) => Err(Fault::NotMade),
-        },
+        Ok(conn) => {
+            let conn = with_old(conn).ok_or(Fault::NotMade)?;
+            closed(conn).ok_or(Fault::NotClosed)
+        }
         Err(_files) => Err(Fault::NotOpened),
     }
 }

@@ -10,7 +10,7 @@ use reg_tables::{StoreFault, Tables, Work};
 use sqlite::{Alter, Connection, Files};
 use sqlite_disk::Disk;
 use std::alloc::{AllocError, Global};
-use test_files::{Image, Limits, MANY_PAGES, files_of, have_stopped, leave_only, open};
+use test_files::{Image, Limits, MANY_PAGES, files_of, have_stopped, leave_only, left, open};
 use test_support::scarce_memory::Amounts;
 use test_tables::{
     BASE, Call, check_text, entries_text, perform, read_call, read_logins, reply_text,
@@ -297,7 +297,7 @@ fn over_files<D: Disk + Drop>(
     match open(alloc, files, MANY_PAGES) {
         Ok(conn) => {
             let (conn, reply) = over_connection(alloc, conn, task, limits);
-            (conn.into_store().close(), reply)
+            (left(conn), reply)
         }
         Err(files) => (files, fault(alloc)),
     }

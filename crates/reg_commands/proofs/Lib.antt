@@ -1,0 +1,7 @@
+mod Adding
+mod Commands
+mod Dispatch
+mod Named
+mod Outcomes
+mod Owning
+mod Reporting
