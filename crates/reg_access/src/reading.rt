@@ -21,10 +21,10 @@ fn readers_at<S: Alter>(
     ensures { Asks S.Store work.old work.new result
         (λ db list. AreReadersAt id db list.items) }
 {
-    if !work.is_restricted(id)? {
+    if !reg_calls::is_restricted(work, id)? {
         return Ok(Vec::new(alloc));
     }
-    work.readers_of(alloc, id)
+    reg_calls::readers_of(alloc, work, id)
 }
 
 fn find_readers<S: Alter>(

@@ -19,7 +19,7 @@ use Rattle.reg_model.specs.Refusals.{may_name}
 use Rattle.reg_model.specs.Sound.{has_some}
 use Rattle.reg_statements.specs.Archives.{archives_with_id}
 use Rattle.reg_statements.specs.declared.accounts.Account.{Account}
-use Rattle.reg_stored.specs.declared.all_rows.AllRows.{AllRows}
+use Rattle.reg_whole.specs.declared.all_rows.AllRows.{AllRows}
 use Rattle.reg_statements.specs.declared.crates.Crate.{Crate}
 use Rattle.reg_statements.specs.declared.scopes.Scope.{Scope}
 use Rattle.reg_statements.specs.declared.summaries.Summary.{Summary}

@@ -7,9 +7,10 @@ ghost use Rattle.reg_stored.specs.Summaries.{highest_in, length_in, shown_mark};
 ghost use Rattle.reg_audit.specs.Checks.{is_summary, its_versions, shown_version, summaries_pass as summaries_pass_in};
 ghost use Rattle.reg_audit.specs.Marks.{marks_at};
 
+use reg_calls::AllRows;
 use reg_statements::versions::VersionMark;
 use reg_stored::summaries::numbers_in;
-use reg_tables::{AllRows, Crate, StoreFault, Summary, Version};
+use reg_tables::{Crate, StoreFault, Summary, Version};
 use std::alloc::{AllocError, Global};
 use std::collections::BTreeMap;
 

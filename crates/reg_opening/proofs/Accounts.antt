@@ -13,7 +13,7 @@ use Rattle.reg_schema.proofs.Queries.{maps_twice}
 use Rattle.reg_statements.specs.Accounts.{account_columns}
 use Rattle.reg_stored.specs.Entries.{entry_of_account}
 use Rattle.reg_stored.specs.Stands.{StandAccounts, row_of_account}
-use Rattle.reg_stored.specs.declared.all_rows.AllRows.{AllRows}
+use Rattle.reg_whole.specs.declared.all_rows.AllRows.{AllRows}
 use Rattle.reg_opening.specs.RegistryFrom.{account_from, registry_from}
 use Rattle.reg_opening.specs.Rules.{IsKeyed}
 use Rattle.reg_opening.proofs.Passing.{Passing, accounts_are}

@@ -17,7 +17,7 @@ use Rattle.reg_stored.proofs.AccountEntries.{lists_accounts, heads, tails, words
 use Rattle.sqlite.specs.Tree.{Trees}
 use Rattle.reg_model.specs.Registry.{Registry}
 use Rattle.reg_stored.specs.Stored.{Ids}
-use Rattle.reg_stored.specs.declared.all_rows.AllRows.{AllRows}
+use Rattle.reg_whole.specs.declared.all_rows.AllRows.{AllRows}
 use Rattle.reg_schema.specs.declared.edition.Edition.TheVariants.{Second}
 use Rattle.reg_model.specs.Registry as model
 use Rattle.reg_model.proofs.Lists.{list_any_map}

@@ -17,7 +17,7 @@ use Rattle.reg_schema.specs.Tests.{is_number, shows}
 use Rattle.reg_schema.proofs.Queries.{maps_twice}
 use Rattle.reg_statements.specs.declared.versions.Version.{Version}
 use Rattle.reg_stored.specs.Stands.{row_of_archive}
-use Rattle.reg_stored.specs.declared.all_rows.AllRows.{AllRows}
+use Rattle.reg_whole.specs.declared.all_rows.AllRows.{AllRows}
 use Rattle.reg_stored.proofs.CrateLemmas.{same_bytes}
 use Rattle.reg_stored.proofs.CrateNames.{kept}
 use Rattle.reg_stored.proofs.Standing.{same_number}

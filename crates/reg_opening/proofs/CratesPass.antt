@@ -14,7 +14,7 @@ use Rattle.reg_statements.specs.declared.crates.Crate.{Crate}
 use Rattle.reg_stored.specs.Entries.{entry_of_crate}
 use Rattle.reg_stored.specs.Stands.{is_paired}
 use Rattle.reg_stored.specs.Stored.{Ids, StoredVersion}
-use Rattle.reg_stored.specs.declared.all_rows.AllRows.{AllRows}
+use Rattle.reg_whole.specs.declared.all_rows.AllRows.{AllRows}
 use Rattle.reg_stored.proofs.CrateLemmas.{bytes_same, is_published, version_of}
 use Rattle.reg_audit.specs.Checks as checks
 use Rattle.reg_opening.proofs.ListedCrates.{canon_is, crate_in}

@@ -28,7 +28,7 @@ use Rattle.reg_stored.specs.Stored.{Ids, StoredCrate}
 use Rattle.reg_stored.specs.Summaries.{StandSummaries}
 use Rattle.reg_stored.proofs.CrateLemmas.{crate_of, is_stored, same_bytes}
 use Rattle.reg_stored.proofs.Stays.{accounts_stay, crates_stay, pairs_stay, reserved_stay, tokens_stay}
-use Rattle.reg_tables.specs.Upgrades.{IsUpgrade}
+use Rattle.reg_stored.specs.Upgrades.{IsUpgrade}
 use Rattle.reg_opening.specs.Editions.{AreFound, EditionLaw, FoundLaw}
 use Rattle.reg_opening.specs.Opening.{AuditLaw}
 use Rattle.reg_opening.specs.Rules.{IsWhole}

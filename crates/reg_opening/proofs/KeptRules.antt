@@ -17,8 +17,8 @@ use Rattle.reg_statements.specs.Accounts.{account_columns}
 use Rattle.reg_statements.specs.Tokens.{columns_of_token}
 use Rattle.reg_statements.specs.declared.accounts.Account.{Account}
 use Rattle.reg_statements.specs.declared.tokens.Token.{Token}
-use Rattle.reg_stored.specs.WholeRows.{AreAllRows}
-use Rattle.reg_stored.specs.declared.all_rows.AllRows.{AllRows}
+use Rattle.reg_whole.specs.WholeRows.{AreAllRows}
+use Rattle.reg_whole.specs.declared.all_rows.AllRows.{AllRows}
 use Rattle.reg_audit.specs.Checks.{are_counted}
 use Rattle.reg_opening.specs.Rules.{HaveColumns, HaveParents, HaveUniques, KeepsRules, RefersTo}
 use Rattle.reg_opening.proofs.OwnRowids.{numbered_there, own_rowids, rowids_there}

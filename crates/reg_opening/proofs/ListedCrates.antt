@@ -19,7 +19,7 @@ use Rattle.reg_statements.specs.declared.crates.Crate.{Crate}
 use Rattle.reg_stored.specs.Entries.{entry_of_crate}
 use Rattle.reg_stored.specs.Stands.{row_of_crate}
 use Rattle.reg_stored.specs.Stored.{Ids, StoredCrate}
-use Rattle.reg_stored.specs.declared.all_rows.AllRows.{AllRows}
+use Rattle.reg_whole.specs.declared.all_rows.AllRows.{AllRows}
 use Rattle.reg_stored.proofs.AccountEntries.{heads, tails, words_are}
 use Rattle.reg_stored.proofs.CrateLemmas.{apart_by}
 use Rattle.reg_stored.proofs.CrateNames.{same_shown}

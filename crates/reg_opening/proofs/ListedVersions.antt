@@ -17,7 +17,7 @@ use Rattle.reg_stored.specs.Stands.{row_of_version}
 use Rattle.reg_stored.specs.Stored.{Ids, StoredVersion}
 use Rattle.reg_stored.specs.Summaries.{ShownMark, mark_shown}
 use Rattle.reg_stored.specs.Summaries as stored
-use Rattle.reg_stored.specs.declared.all_rows.AllRows.{AllRows}
+use Rattle.reg_whole.specs.declared.all_rows.AllRows.{AllRows}
 use Rattle.reg_stored.proofs.AccountEntries.{heads, mark_is, number_is, tails, text_is, words_are}
 use Rattle.reg_stored.proofs.Selected.{column_total, each_part, shown_in_turn}
 use Rattle.reg_stored.proofs.VersionEntries.{bytes_are}

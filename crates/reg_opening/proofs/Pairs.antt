@@ -30,7 +30,7 @@ use Rattle.reg_statements.specs.declared.pairs.Pair.{Pair}
 use Rattle.reg_stored.specs.Entries.{entry_of_crate}
 use Rattle.reg_stored.specs.Stands.{HaveOwnRowids, StandMarked, StandPairs, columns_of_stored, is_paired, row_of_crate}
 use Rattle.reg_stored.specs.Stored.{StoredCrate, StoredPair}
-use Rattle.reg_stored.specs.declared.all_rows.AllRows.{AllRows}
+use Rattle.reg_whole.specs.declared.all_rows.AllRows.{AllRows}
 use Rattle.reg_stored.proofs.CrateLemmas.{same_bytes, bytes_same, same_owner, other_owner}
 use Rattle.reg_stored.proofs.Rowids.{first_column, second_column}
 use Rattle.reg_stored.proofs.Standing.{same_number}

@@ -12,8 +12,8 @@ use Rattle.reg_statements.specs.Archives.{archives_with_id}
 use Rattle.reg_statements.specs.declared.crates.Crate.{Crate}
 use Rattle.reg_statements.specs.declared.versions.Version.{Version}
 use Rattle.reg_stored.proofs.CrateLemmas.{same_bytes}
-use Rattle.reg_stored.specs.WholeRows.{AreAllRows}
-use Rattle.reg_stored.specs.declared.all_rows.AllRows.{AllRows}
+use Rattle.reg_whole.specs.WholeRows.{AreAllRows}
+use Rattle.reg_whole.specs.declared.all_rows.AllRows.{AllRows}
 use Rattle.reg_audit.specs.Checks.{IsGenuine, accounts_pass, are_counted, are_placed, has_account, has_crate, is_account, is_archive, is_named, is_owned, is_published, is_scope, is_summary, is_token, tokens_pass}
 use Rattle.reg_audit.specs.declared.check.Check.TheVariants.{C1, C2, C3, C4, C5, C7, C8}
 use Rattle.reg_opening.specs.Opening.{PassAll}

@@ -18,7 +18,7 @@ use Rattle.reg_schema.specs.Tests.{shows}
 use Rattle.reg_schema.proofs.Queries.{maps_twice}
 use Rattle.reg_statements.specs.Reserved.{reserved_columns}
 use Rattle.reg_stored.specs.Stands.{StandReserved}
-use Rattle.reg_stored.specs.declared.all_rows.AllRows.{AllRows}
+use Rattle.reg_whole.specs.declared.all_rows.AllRows.{AllRows}
 use Rattle.reg_stored.proofs.CrateLemmas.{same_bytes, bytes_same}
 use Rattle.reg_opening.specs.RegistryFrom.{registry_from}
 use Rattle.reg_opening.specs.Rules.{IsWhole}

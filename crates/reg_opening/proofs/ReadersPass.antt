@@ -15,7 +15,7 @@ use Rattle.reg_schema.specs.Tests.{shows}
 use Rattle.reg_statements.specs.declared.pairs.Pair.{Pair}
 use Rattle.reg_stored.specs.Stands.{is_paired}
 use Rattle.reg_stored.specs.Stored.{Ids}
-use Rattle.reg_stored.specs.declared.all_rows.AllRows.{AllRows}
+use Rattle.reg_whole.specs.declared.all_rows.AllRows.{AllRows}
 use Rattle.reg_stored.proofs.AccountEntries.{heads, number_is}
 use Rattle.reg_audit.specs.Checks.{has_account, has_crate, readers_pass}
 use Rattle.reg_opening.proofs.AccountsPass.{account_has}

@@ -20,7 +20,7 @@ use Rattle.reg_schema.specs.Tests.{shows}
 use Rattle.reg_schema.proofs.Queries.{maps_twice}
 use Rattle.reg_statements.specs.Reserved.{columns_of_text, reserved_columns}
 use Rattle.reg_stored.specs.Stored.{Ids}
-use Rattle.reg_stored.specs.declared.all_rows.AllRows.{AllRows}
+use Rattle.reg_whole.specs.declared.all_rows.AllRows.{AllRows}
 use Rattle.reg_stored.proofs.AccountEntries.{heads, words_are}
 use Rattle.reg_stored.proofs.CrateLemmas.{bytes_same}
 use Rattle.reg_audit.specs.Checks.{is_reserved, reserved_pass}

@@ -3,8 +3,8 @@ use Rattle.reg_schema.proofs.Queries.{maps_twice}
 use Rattle.sqlite.specs.Tree.{Trees}
 use Rattle.reg_model.specs.Sound.{Sound}
 use Rattle.reg_stored.specs.Stands.{Holds, StandCrates, StandsBy}
-use Rattle.reg_stored.specs.declared.all_rows.AllRows.{AllRows}
-use Rattle.reg_stored.specs.WholeRows.{AreAllRows}
+use Rattle.reg_whole.specs.declared.all_rows.AllRows.{AllRows}
+use Rattle.reg_whole.specs.WholeRows.{AreAllRows}
 use Rattle.reg_opening.specs.Rules.{KeepsRules}
 use Rattle.reg_opening.specs.Opening.{PassAll}
 use Rattle.reg_opening.specs.RegistryFrom.{ids_from, registry_from, version_from}

@@ -21,7 +21,7 @@ use Rattle.reg_model.proofs.Lists.{not_true}
 use Rattle.reg_model.proofs.Members.{IsIn, any_in, in_any, in_all, in_each, in_map, map_in, in_filter}
 use Rattle.reg_schema.specs.Tests.{is_number}
 use Rattle.reg_statements.specs.declared.versions.Version.{Version}
-use Rattle.reg_stored.specs.declared.all_rows.AllRows.{AllRows}
+use Rattle.reg_whole.specs.declared.all_rows.AllRows.{AllRows}
 use Rattle.reg_stored.proofs.CrateLemmas.{same_bytes, bytes_same}
 use Rattle.reg_opening.specs.RegistryFrom.{canon_from, mark_from, name_from, publication_from, registry_from, spelling}
 use Rattle.reg_opening.proofs.Archives.{archive_digest}

@@ -18,7 +18,7 @@ use Rattle.reg_model.proofs.Keys.{owner_total, owner_apart, same_key, text_apart
 use Rattle.reg_model.proofs.Members.{all_in, any_in, each_in, in_any, in_each, in_map, map_in}
 use Rattle.reg_statements.specs.declared.crates.Crate.{Crate}
 use Rattle.reg_statements.specs.declared.pairs.Pair.{Pair}
-use Rattle.reg_stored.specs.declared.all_rows.AllRows.{AllRows}
+use Rattle.reg_whole.specs.declared.all_rows.AllRows.{AllRows}
 use Rattle.reg_stored.proofs.CrateLemmas.{same_bytes, bytes_same}
 use Rattle.reg_audit.specs.Checks.{has_account, has_crate}
 use Rattle.reg_opening.specs.RegistryFrom.{canon_from, pair_from, publication_from, registry_from}

@@ -28,7 +28,7 @@ use Rattle.reg_model.proofs.Members.{any_in, all_in}
 use Rattle.reg_statements.specs.declared.scopes.Scope.{Scope}
 use Rattle.reg_statements.specs.declared.tokens.Token.{Token}
 use Rattle.reg_stored.specs.Stands.{row_of_account, row_of_token}
-use Rattle.reg_stored.specs.declared.all_rows.AllRows.{AllRows}
+use Rattle.reg_whole.specs.declared.all_rows.AllRows.{AllRows}
 use Rattle.reg_stored.proofs.AccountEntries.{same_text}
 use Rattle.reg_stored.proofs.CrateLemmas.{same_bytes}
 use Rattle.reg_stored.proofs.Standing.{same_number}

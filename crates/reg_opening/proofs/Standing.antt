@@ -3,8 +3,8 @@ use Rattle.sqlite.specs.Tree.{Trees}
 use Rattle.reg_model.specs.Registry.{Registry}
 use Rattle.reg_stored.specs.Stands.{Holds}
 use Rattle.reg_stored.specs.Stored.{Ids}
-use Rattle.reg_stored.specs.WholeRows.{AreAllRows}
-use Rattle.reg_stored.specs.declared.all_rows.AllRows.{AllRows}
+use Rattle.reg_whole.specs.WholeRows.{AreAllRows}
+use Rattle.reg_whole.specs.declared.all_rows.AllRows.{AllRows}
 
 pub record Standing (it : AllRows) (db : Trees) (ids : Ids) (s : Registry) : Type 0 where
   pub are : AreAllRows it db

@@ -25,7 +25,7 @@ use Rattle.reg_stored.specs.Entries.{entry_of_crate}
 use Rattle.reg_stored.specs.Stored.{Ids, StoredVersion}
 use Rattle.reg_stored.specs.Summaries.{StandSummaries, highest_in, id_among, is_marked, length_among, length_in, line_length, mark_shown, read_mark, row_among, row_of_summary}
 use Rattle.reg_stored.specs.Summaries as stored
-use Rattle.reg_stored.specs.declared.all_rows.AllRows.{AllRows}
+use Rattle.reg_whole.specs.declared.all_rows.AllRows.{AllRows}
 use Rattle.reg_stored.proofs.SummaryRows.{got_at}
 use Rattle.reg_versions.specs.Precedence.{top_place}
 use Rattle.reg_audit.specs.Checks.{is_summary, its_versions, shown_version}

@@ -17,7 +17,7 @@ use Rattle.reg_stored.specs.Entries.{entry_of_crate}
 use Rattle.reg_stored.specs.Stored.{Ids, StoredCrate}
 use Rattle.reg_stored.specs.Summaries.{highest_in, highest_of, length_in, length_of, row_of_summary}
 use Rattle.reg_stored.specs.Summaries as stored
-use Rattle.reg_stored.specs.declared.all_rows.AllRows.{AllRows}
+use Rattle.reg_whole.specs.declared.all_rows.AllRows.{AllRows}
 use Rattle.reg_stored.proofs.AccountEntries.{heads, number_is, tails}
 use Rattle.reg_stored.proofs.CrateLemmas.{bytes_same}
 use Rattle.reg_stored.proofs.Selected.{column_total, each_part, shown_in_turn}

@@ -9,7 +9,7 @@ use Rattle.reg_schema.proofs.Queries.{maps_twice}
 use Rattle.reg_statements.specs.Scopes.{columns_of_scope}
 use Rattle.reg_statements.specs.Tokens.{columns_of_token}
 use Rattle.reg_stored.specs.Stands.{StandTokens, row_of_token}
-use Rattle.reg_stored.specs.declared.all_rows.AllRows.{AllRows}
+use Rattle.reg_whole.specs.declared.all_rows.AllRows.{AllRows}
 use Rattle.sqlite.specs.Tree.{Trees}
 use Rattle.reg_schema.specs.Tests.{shows}
 use Rattle.reg_opening.specs.RegistryFrom.{registry_from, token_from}

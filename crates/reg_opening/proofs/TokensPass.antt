@@ -12,7 +12,7 @@ use Rattle.reg_schema.proofs.Queries.{maps_twice}
 use Rattle.reg_stored.specs.Stored.{Ids}
 use Rattle.reg_opening.proofs.Standing.{Standing}
 use Rattle.reg_stored.specs.TokenEntries.{entry_of_token, without_patterns}
-use Rattle.reg_stored.specs.declared.all_rows.AllRows.{AllRows}
+use Rattle.reg_whole.specs.declared.all_rows.AllRows.{AllRows}
 use Rattle.reg_stored.proofs.TokenEntries.{lists_tokens}
 use Rattle.reg_audit.specs.Checks.{are_counted, is_token, tokens_pass}
 use Rattle.reg_opening.proofs.AccountsPass.{are_places, each_value}

@@ -27,7 +27,7 @@ use Rattle.reg_statements.specs.declared.versions.Version.{Version}
 use Rattle.reg_stored.specs.Entries.{entry_of_crate}
 use Rattle.reg_stored.specs.Stands.{row_of_version, is_of}
 use Rattle.reg_stored.specs.Stored.{StoredCrate, StoredVersion}
-use Rattle.reg_stored.specs.declared.all_rows.AllRows.{AllRows}
+use Rattle.reg_whole.specs.declared.all_rows.AllRows.{AllRows}
 use Rattle.reg_stored.proofs.AccountEntries.{same_text}
 use Rattle.reg_stored.proofs.CrateLemmas.{bytes_same}
 use Rattle.reg_stored.proofs.Standing.{same_number}

@@ -20,7 +20,7 @@ use Rattle.reg_statements.specs.Archives.{archives_with_id}
 use Rattle.reg_statements.specs.declared.versions.Version.{Version}
 use Rattle.reg_stored.specs.Stands.{row_of_archive}
 use Rattle.reg_stored.specs.Stored.{Ids, StoredCrate, StoredVersion}
-use Rattle.reg_stored.specs.declared.all_rows.AllRows.{AllRows}
+use Rattle.reg_whole.specs.declared.all_rows.AllRows.{AllRows}
 use Rattle.reg_stored.proofs.AccountEntries.{heads, number_is}
 use Rattle.reg_stored.proofs.CrateLemmas.{apart_by, bytes_same, crate_of, is_published}
 use Rattle.reg_stored.proofs.Selected.{column_total, each_part, shown_in_turn}

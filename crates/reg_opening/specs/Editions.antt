@@ -11,9 +11,9 @@ use Rattle.reg_schema.specs.declared.edition.Edition.TheVariants.{First, Second}
 use Rattle.reg_statements.specs.Abouts.{HasBase}
 use Rattle.reg_stored.specs.Stands.{Holds, StandsOld}
 use Rattle.reg_stored.specs.Stored.{Ids}
-use Rattle.reg_stored.specs.WholeRows.{AreAllRows}
-use Rattle.reg_stored.specs.declared.all_rows.AllRows.{AllRows}
-use Rattle.reg_tables.specs.Upgrades.{AreBegun}
+use Rattle.reg_whole.specs.WholeRows.{AreAllRows}
+use Rattle.reg_whole.specs.declared.all_rows.AllRows.{AllRows}
+use Rattle.reg_stored.specs.Upgrades.{AreBegun}
 use Rattle.reg_audit.specs.Checks.{IsFirst}
 use Rattle.reg_audit.specs.declared.check.Check.{Check}
 

@@ -4,8 +4,8 @@ use Rattle.sqlite.specs.Tree.{Trees}
 use Rattle.reg_model.specs.Registry.{Registry}
 use Rattle.reg_stored.specs.Stands.{Holds}
 use Rattle.reg_stored.specs.Stored.{Ids}
-use Rattle.reg_stored.specs.WholeRows.{AreAllRows}
-use Rattle.reg_stored.specs.declared.all_rows.AllRows.{AllRows}
+use Rattle.reg_whole.specs.WholeRows.{AreAllRows}
+use Rattle.reg_whole.specs.declared.all_rows.AllRows.{AllRows}
 use Rattle.reg_audit.specs.Checks.{IsFirst, Passes}
 use Rattle.reg_audit.specs.declared.check.Check.{Check}
 use Rattle.reg_opening.specs.RegistryFrom.{ids_from, registry_from}

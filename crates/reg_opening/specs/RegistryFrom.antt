@@ -16,7 +16,7 @@ use Rattle.reg_statements.specs.declared.tokens.Token.{Token}
 use Rattle.reg_statements.specs.declared.versions.Version.{Version}
 use Rattle.reg_stored.specs.Entries.{entry_of_crate}
 use Rattle.reg_stored.specs.Stored.{Ids, StoredVersion}
-use Rattle.reg_stored.specs.declared.all_rows.AllRows.{AllRows}
+use Rattle.reg_whole.specs.declared.all_rows.AllRows.{AllRows}
 use Rattle.reg_audit.specs.Checks.{crate_of}
 
 abbrev pub account_from : Account → model.Account

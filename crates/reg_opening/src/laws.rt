@@ -5,7 +5,7 @@ ghost use Rattle.sqlite.specs.Held.{state};
 ghost use Rattle.reg_opening.specs.Editions.{EditionLaw, FoundLaw, KeepsSchema};
 ghost use Rattle.reg_opening.specs.Opening.{AuditLaw, HoldingPasses, OpeningLaw, PassingHolds, SchemaKeeps};
 
-use reg_tables::laws::migrate_law;
+use reg_stored::laws::migrate_law;
 use sqlite::{Alter, Connection};
 
 /// Rows pass all checks exactly where they are a sound registry, and so no check is found to fail

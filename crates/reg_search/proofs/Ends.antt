@@ -10,7 +10,7 @@ use Rattle.reg_schema.proofs.Reading.{selected_by}
 use Rattle.reg_schema.specs.States.{IsOurs}
 use Rattle.reg_schema.specs.declared.edition.Edition.TheVariants.{Second}
 use Rattle.reg_stored.specs.Stands.{Holds}
-use Rattle.reg_tables.specs.Walks.{HasWalked}
+use Rattle.reg_stored.specs.Walks.{HasWalked}
 use Rattle.reg_search.specs.Rows.{AreFound, FindsNeedle}
 use Rattle.reg_search.specs.declared.hit.Found.{Found}
 use Rattle.reg_search.proofs.RowsLaw.{rows_are}

@@ -13,7 +13,7 @@ use Rattle.reg_schema.specs.Schema.{schema_of}
 use Rattle.reg_schema.specs.States.{IsOurs, IsUndone, LeavesCommit}
 use Rattle.reg_statements.specs.Abouts.{HasBase}
 use Rattle.reg_opening.specs.Editions.{AreFound, EditionLaw, FoundLaw, HoldsAs, KeepsSchema}
-use Rattle.reg_tables.specs.Upgrades.{AreBegun, IsUpgraded}
+use Rattle.reg_stored.specs.Upgrades.{AreBegun, IsUpgraded}
 use Rattle.reg_tables.specs.declared.tables.Tables.{Tables}
 use Rattle.reg_tables.specs.Works.{AreOurs, edition_in, shown}
 use Rattle.reg_service.specs.declared.registry.Registry.{Registry}

@@ -11,10 +11,10 @@ use Rattle.reg_audit.specs.Checks.{IsFirst}
 use Rattle.reg_schema.specs.Schema.{old_schema, schema_of}
 use Rattle.reg_schema.specs.declared.edition.Edition.{Edition}
 use Rattle.reg_schema.specs.declared.edition.Edition.TheVariants.{First}
-use Rattle.reg_stored.specs.declared.all_rows.AllRows.{AllRows}
-use Rattle.reg_stored.specs.WholeRows.{AreAllRows}
+use Rattle.reg_whole.specs.declared.all_rows.AllRows.{AllRows}
+use Rattle.reg_whole.specs.WholeRows.{AreAllRows}
 use Rattle.reg_tables.specs.declared.tables.Tables.{Tables}
-use Rattle.reg_tables.specs.Upgrades.{AreBegun}
+use Rattle.reg_stored.specs.Upgrades.{AreBegun}
 use Rattle.reg_tables.specs.Works.{is_shut, shown}
 use Rattle.reg_service.specs.Answered.{Are, AreAs, AreUpToDate, LeavesAlone, Shows}
 use Rattle.reg_service.specs.declared.registry.Registry.{Registry}

@@ -9,18 +9,22 @@ pub mod CrateNames
 mod CratesStand
 mod Dropped
 pub mod FoundTokens
+pub mod IndexWalk
+pub mod Made
+mod Migrated
 mod NextId
-mod OwnRowids
 pub mod MarkedStand
 pub mod Numbered
 mod PairsStand
 pub mod PairChanges
 pub mod PairEntries
+pub mod Raising
 pub mod Readings
 mod Removed
 mod ReservedChanges
 pub mod Results
 mod Rising
+pub mod RowReading
 pub mod Rowids
 mod ScopeRows
 pub mod Selected
@@ -35,6 +39,7 @@ pub mod Stays
 mod TokenChanges
 pub mod TokenEntries
 pub mod VersionEntries
+pub mod Walking
 pub mod Withins
 mod Went
 mod Yanks

@@ -11,4 +11,5 @@ pub mod Stored
 pub mod Summaries
 pub mod SummaryChanges
 pub mod TokenEntries
-pub mod WholeRows
+pub mod Upgrades
+pub mod Walks

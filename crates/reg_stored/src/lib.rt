@@ -9,11 +9,12 @@
 #![tactic(auto)]
 
 pub mod accounts;
-pub mod all_rows;
-mod apart;
+pub mod archives;
 pub mod counts;
 pub mod crate_lists;
 pub mod crates;
+pub mod editions;
+pub mod entries;
 pub mod laws;
 pub mod owners;
 pub mod readers;
@@ -21,3 +22,5 @@ pub mod reserved;
 pub mod restricted;
 pub mod summaries;
 pub mod tokens;
+pub mod upgrade;
+pub mod walks;

@@ -26,7 +26,7 @@ use Rattle.reg_statements.specs.Stems.{AreStemsOf, columns_of_stem, entries_text
 use Rattle.reg_statements.specs.declared.versions.StemRow.{StemRow}
 use Rattle.reg_statements.proofs.StemQueries.{stems_begun}
 use Rattle.reg_stored.specs.Entries.{entry_row}
-use Rattle.reg_tables.specs.Walks.{HasWalked}
+use Rattle.reg_stored.specs.Walks.{HasWalked}
 use Rattle.reg_streaming.specs.Files.{BeginsFile, SendsRows}
 use Rattle.reg_streaming.specs.Lines.{entry_in, lines_in}
 use Rattle.reg_streaming.specs.Streams.{IsBroken, fault_of}

@@ -4,7 +4,7 @@ ghost use Rattle.std.specs.Prelude.{◌≡◌, ◌+◌, ◌^◌, ◌<◌};
 ghost use Rattle.sqlite.specs.Held.{state};
 ghost use Rattle.reg_schema.specs.States.{IsOurs};
 ghost use Rattle.reg_sending.specs.Sent.{sink};
-ghost use Rattle.reg_tables.specs.Walks.{IsRead};
+ghost use Rattle.reg_stored.specs.Walks.{IsRead};
 ghost use Rattle.reg_sending.specs.Texts.{done_head};
 ghost use Rattle.reg_streaming.specs.Files.{SendsRows};
 

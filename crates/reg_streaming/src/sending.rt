@@ -4,7 +4,7 @@ ghost use Rattle.std.specs.Prelude.{◌≡◌, ◌+◌, ◌^◌, ◌<◌, ◌⊎
 ghost use Rattle.sqlite.specs.State.{HasCleanDisk};
 ghost use Rattle.reg_sending.specs.Sent.{sink};
 ghost use Rattle.reg_sending.specs.Texts.{refusal_text};
-ghost use Rattle.reg_tables.specs.Walks.{IsRead};
+ghost use Rattle.reg_stored.specs.Walks.{IsRead};
 ghost use Rattle.reg_tables.specs.Works.{AreOurs, IsLeft, edition_in, held, is_shut, shown};
 ghost use Rattle.reg_streaming.specs.Files.{IsUnsent, SendsFile, SendsNoRoom, SendsRows, SendsSome};
 ghost use Rattle.reg_streaming.specs.Streams.{Streams};

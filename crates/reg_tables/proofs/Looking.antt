@@ -8,7 +8,7 @@ use Rattle.reg_schema.specs.Steps.{Fails, Within}
 use Rattle.sqlite.specs.Effect.{Database}
 use Rattle.reg_schema.specs.declared.edition.Edition.{Edition}
 use Rattle.reg_schema.specs.declared.edition.Edition.TheVariants.{First, Second}
-use Rattle.reg_tables.specs.Upgrades.{AreBegun, BeginsSecond}
+use Rattle.reg_stored.specs.Upgrades.{AreBegun, BeginsSecond}
 use Rattle.reg_tables.specs.Works.{IsAtWork, IsCall, seen}
 use Rattle.reg_tables.specs.declared.work.Work.{Work}
 use Rattle.reg_tables.specs.Looks.{Looks}

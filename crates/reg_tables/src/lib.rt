@@ -1,23 +1,18 @@
-//! The registry kept in tables: a file or a store is made or taken over, and typed calls run on it
-//! in transactions.
+//! The registry kept in tables: a file or a store is made or taken over, and calls run on it in
+//! transactions.
 //!
 //! ```text
 //! let mut work = tables.work()?;
-//! let ada = work.add_account("ada", Some("Ada"))?;
+//! let has_ada = work.has_row("SELECT id FROM accounts WHERE login = ?1", params!["ada"])?;
 //! work.commit()?;
 //! ```
+//!
+//! The typed calls of a transaction are the functions of `reg_calls`.
 #![tactic(auto)]
 
-mod calls;
-mod entries;
-pub mod laws;
-mod reader;
 mod tables;
-mod upgrade;
 mod work;
 
-pub use entries::{index_entries, index_rows};
-pub use reader::{Reader, rows_of};
 pub use reg_schema::{Edition, MakeFault};
 pub use reg_statements::accounts::Account;
 pub use reg_statements::crates::Crate;
@@ -27,9 +22,10 @@ pub use reg_statements::scopes::Scope;
 pub use reg_statements::summaries::Summary;
 pub use reg_statements::tokens::{Token, TokenRow};
 pub use reg_statements::versions::{StemRow, Version};
-pub use reg_stored::all_rows::AllRows;
 pub use reg_stored::counts::Counts;
 pub use reg_stored::crates::NewVersion;
+pub use reg_stored::entries::index_rows;
 pub use reg_stored::tokens::{TokenLists, TokenRows};
+pub use reg_stored::walks::rows_of;
 pub use tables::Tables;
 pub use work::{StoreFault, Work};

@@ -1,81 +1,36 @@
 //! The tables over a connection.
 
-ghost use Rattle.std.specs.Prelude.{◌≡◌, ◌≢◌, ◌↔◌, [], ◌∷◌, true, false, Ok, Err, IfErr, IfOk, OnErr, OnOk, IsTrue};
+ghost use Rattle.std.specs.Prelude.{◌≡◌, ◌≢◌, ◌↔◌, true, false, Ok, Err, IfErr, IfOk, OnErr, OnOk, IsTrue};
 ghost use Rattle.std.specs.Borrow.{sem, RestsIfErr};
-ghost use Rattle.sqlite.specs.State.{HasCleanDisk, KeepsCommit, Survives};
+ghost use Rattle.sqlite.specs.State.{HasCleanDisk, Survives};
 ghost use Rattle.sqlite.specs.Held.{state};
 ghost use Rattle.reg_model.specs.Registry.{empty_at};
 ghost use Rattle.reg_schema.specs.Schema.{blank, schema_of};
-ghost use Rattle.reg_schema.specs.States.{IsAtRest, IsMade, IsOurs, IsUndone, LeavesCommit, about_columns};
-ghost use Rattle.reg_statements.specs.Abouts.{HasBase, IsAbout, LacksBase};
+ghost use Rattle.reg_schema.specs.States.{IsAtRest, IsMade, IsUndone, LeavesCommit};
+ghost use Rattle.reg_statements.specs.Abouts.{HasBase, LacksBase};
 ghost use Rattle.reg_tables.specs.contracts.tables.Tables.{the_row};
-ghost use Rattle.reg_tables.specs.Lending.{LendsConnection, LendsReader};
-ghost use Rattle.reg_tables.specs.Readers.{is_closed, reached};
+ghost use Rattle.reg_tables.specs.Lending.{LendsConnection};
 ghost use Rattle.reg_stored.specs.Stands.{Stands};
 ghost use Rattle.reg_tables.specs.Ends.{Begins, SeesAll};
 ghost use Rattle.reg_tables.specs.Works.{AreOurs, IsKept, IsLeft, IsSame, edition_in, held, is_shut, shown};
-ghost use Rattle.reg_tables.specs.Upgrades.{BeginsSecond, IsUpgraded, AreUpgraded};
+ghost use Rattle.reg_stored.specs.Upgrades.{BeginsSecond, IsUpgraded, AreUpgraded};
 
-use crate::reader::Reader;
-use crate::upgrade::begin_second;
 use crate::work::{StoreFault, Work};
 use reg_schema::laws::{rest_law, stop_law};
-use reg_schema::{Edition, MakeFault, begin, edition_of, make_tables, undo};
-use reg_statements::about::{self, About};
-use sqlite::{Alter, Connection, Error};
+use reg_schema::{Edition, MakeFault, begin, edition_of, make_tables};
+use reg_stored::editions::has_base;
+use reg_stored::upgrade::begin_second;
+use sqlite::{Alter, Connection};
 use std::alloc::Global;
 
 /// The tables of a registry. After a commit that was refused they answer nothing more: what the
 /// store then holds is seen by opening it again.
 #[derive(Drop)]
 pub struct Tables<S: Alter> {
-    pub(crate) conn: Connection<S>,
+    /// Where a call runs its statements; public for `call!`.
+    pub conn: Connection<S>,
     pub(crate) edition: Edition,
     pub(crate) shut: bool,
-}
-
-fn is_of(about: &Option<About>, edition: Edition) -> bool
-    ensures is { (rows : _) → IsAbout rows about.now → IsTrue result → (base : _)
-        × (rows ≡ about_columns edition base ∷ []) }
-    ensures is_not { (rows : _) → IsAbout rows about.now → result ≡ false → (base : _)
-        → rows ≢ about_columns edition base ∷ [] }
-{
-    match about {
-        Some(about) => about.edition == edition,
-        None => false,
-    }
-}
-
-fn read_base<S: Alter>(conn: &mut Connection<S>, edition: Edition) -> Result<bool, Error>
-    requires ours { IsOurs edition (state S.Store conn.old) }
-    ensures found { HasCleanDisk (state S.Store conn.new) → IfOk result
-        (λ has. IsTrue has → HasBase edition (state S.Store conn.old).now.trees) }
-    ensures lacks { HasCleanDisk (state S.Store conn.new) → IfOk result
-        (λ has. has ≡ false → LacksBase edition (state S.Store conn.old).now.trees) }
-    ensures keeps { HasCleanDisk (state S.Store conn.new) → KeepsCommit (state S.Store conn.old)
-        (state S.Store conn.new) }
-    ensures survives { Survives (state S.Store conn.old) (state S.Store conn.new) (λ _. ⊥) }
-{
-    begin(conn)?;
-    let about = about::read(conn)?;
-    Ok(is_of(&about, edition))
-}
-
-/// Whether there is one row of `about`, of this schema. No transaction is left open.
-fn has_base<S: Alter>(conn: &mut Connection<S>, edition: Edition) -> Result<bool, Error>
-    requires ours { IsOurs edition (state S.Store conn.old) }
-    ensures found { HasCleanDisk (state S.Store conn.new) → IfOk result
-        (λ has. IsTrue has → HasBase edition (state S.Store conn.old).now.trees) }
-    ensures lacks { HasCleanDisk (state S.Store conn.new) → IfOk result
-        (λ has. has ≡ false → LacksBase edition (state S.Store conn.old).now.trees) }
-    ensures undone { HasCleanDisk (state S.Store conn.new) → IsUndone (state S.Store conn.old)
-        (state S.Store conn.new) }
-    ensures ours { IsOurs edition (state S.Store conn.new) }
-    ensures survives { Survives (state S.Store conn.old) (state S.Store conn.new) (λ _. ⊥) }
-{
-    let has = read_base(conn, edition);
-    undo(conn);
-    has
 }
 
 impl<S: Alter> Tables<S> {
@@ -189,19 +144,6 @@ impl<S: Alter> Tables<S> {
         ensures { result ≡ edition_in self.now }
     {
         self.edition
-    }
-
-    /// The tables, to be read in no transaction of their own.
-    pub fn reader(&mut self) -> Reader<'_, S>
-        ensures* lends { sem 𝓛 (LendsReader S.row S.Store self.entry result) }
-        ensures reaches { reached result ≡ held self.old }
-        ensures closed { is_closed result ≡ is_shut self.old }
-    {
-        let shut = self.shut;
-        Reader {
-            conn: &mut self.conn,
-            shut,
-        }
     }
 
     /// Begins a transaction, of tables that are of schema 2 already.

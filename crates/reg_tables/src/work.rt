@@ -11,6 +11,7 @@ ghost use Rattle.reg_schema.specs.Shown.{shown_of};
 ghost use Rattle.reg_tables.specs.Ends.{IsDropped, IsEnded};
 ghost use Rattle.reg_tables.specs.Works.{Heard, IsAtWork, IsCall, Unmoved, seen};
 
+use crate::call;
 use crate::tables::Tables;
 use reg_schema::laws::stop_law;
 use reg_schema::{Edition, finish, undo};
@@ -30,29 +31,31 @@ impl From<AllocError> for StoreFault {
     }
 }
 
-/// What a call answers, unless one has failed already. A fault ends the transaction.
+/// What a call of the transaction `$work` answers, unless one has failed already. A fault ends the
+/// transaction.
+#[macro_export]
 macro_rules! call {
     ($work:ident, $answer:expr) => {{
         if $work.failed {
-            return Err(StoreFault);
+            return Err($crate::StoreFault);
         }
         match $answer {
             Ok(told) => Ok(told),
             Err(_) => {
                 $work.failed = true;
-                Err(StoreFault)
+                Err($crate::StoreFault)
             }
         }
     }};
 }
 
-pub(crate) use call;
-
 /// A transaction of the tables. Once a call has failed nothing of it is kept. Dropped, it changes
 /// nothing.
 pub struct Work<'t, S: Alter> {
-    pub(crate) tables: &'t mut Tables<S>,
-    pub(crate) failed: bool,
+    /// The tables that it is on; public for `call!`.
+    pub tables: &'t mut Tables<S>,
+    /// Whether a call has failed; public for `call!`.
+    pub failed: bool,
 }
 
 impl<S: Alter> Work<'_, S> {

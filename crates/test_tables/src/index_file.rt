@@ -5,8 +5,9 @@ ghost use Rattle.reg_tables.specs.Works.{AreOurs, IsAtWork};
 
 use crate::fault::Fault;
 use crate::records::{Shown, bytes_text, list};
+use reg_calls::index_entries;
 use reg_line::{Entry, file};
-use reg_tables::{Edition, StemRow, StoreFault, Tables, Version, Work, index_entries};
+use reg_tables::{Edition, StemRow, StoreFault, Tables, Version, Work};
 use sqlite::Alter;
 use std::alloc::{AllocError, Global};
 
@@ -47,7 +48,7 @@ pub(crate) fn index_of<S: Alter>(
     ensures at_work { IsAtWork S.Store work.new }
     ensures same_reference { work.new.tables.ghost_name ≡ work.old.tables.ghost_name }
 {
-    match work.versions_of(alloc, crate_id) {
+    match reg_calls::versions_of(alloc, work, crate_id) {
         Ok(versions) => index_text(alloc, versions),
         Err(StoreFault) => String::from_str(alloc, "fault"),
     }
@@ -71,6 +72,6 @@ pub fn entries_text<S: Alter>(
 {
     match tables.edition() {
         Edition::First => Err(Fault::NotMade),
-        Edition::Second => Ok(list(alloc, &index_entries(alloc, tables, crate_id)?)?),
+        Edition::Second => Ok(list(alloc, &index_entries(alloc, tables.reading(), crate_id)?)?),
     }
 }

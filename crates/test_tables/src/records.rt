@@ -1,11 +1,11 @@
 //! The records of an answer as texts: each field, colons between them, a semicolon after each.
 
 use crate::words::text_of;
+use reg_calls::AllRows;
 use reg_line::digest_of;
 use reg_model::Endpoints;
 use reg_tables::{
-    Account, AllRows, Crate, Ownership, Scope, Summary, Token, TokenLists, TokenRow, TokenRows,
-    Version,
+    Account, Crate, Ownership, Scope, Summary, Token, TokenLists, TokenRow, TokenRows, Version,
 };
 use sqlite::Row;
 use sqlite::types::ValueRef;

@@ -12,7 +12,7 @@ use crate::records::Shown;
 use crate::searching::search_text;
 use crate::words::read_call;
 use reg_audit::{Check, audit};
-use reg_tables::{StoreFault, Tables, Work};
+use reg_tables::{StoreFault, Tables, Work, rows_of};
 use sqlite::{Alter, Connection, Row};
 use std::alloc::{AllocError, Global};
 
@@ -286,9 +286,11 @@ pub fn read_logins<S: Alter>(alloc: Global, tables: &mut Tables<S>) -> Result<St
     requires { AreOurs S.Store tables.old }
 {
     let mut text = String::new(alloc);
-    let mut rows = tables
-        .reader()
-        .rows("SELECT id, login, name FROM accounts ORDER BY id", &[])?;
+    let mut rows = rows_of(
+        tables.reading(),
+        "SELECT id, login, name FROM accounts ORDER BY id",
+        &[],
+    )?;
     for _ in 0..u32::MAX {
         match rows.next()? {
             Some(row) => add_shown(alloc, &mut text, &row)?,

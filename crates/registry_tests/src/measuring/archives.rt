@@ -3,8 +3,9 @@
 ghost use Rattle.reg_tables.specs.Works.{AreOurs};
 
 use crate::measuring::fault::Fault;
+use reg_calls::index_entries;
 use reg_line::digest_of;
-use reg_tables::{Edition, StemRow, Tables, index_entries};
+use reg_tables::{Edition, StemRow, Tables};
 use sqlite::Alter;
 use std::alloc::Global;
 use test_tables::{Call, CrateCall, perform, release_of};
@@ -29,7 +30,7 @@ pub(crate) fn index_bytes<S: Alter>(
     };
     match tables.edition() {
         Edition::First => Err(Fault::NotMade),
-        Edition::Second => Ok(stem_bytes(&index_entries(alloc, tables, id)?)),
+        Edition::Second => Ok(stem_bytes(&index_entries(alloc, tables.reading(), id)?)),
     }
 }
 

@@ -5,8 +5,8 @@ use Rattle.sqlite.specs.State.{HasCleanDisk}
 use Rattle.sqlite.specs.declared.types.Value.TheVariants.{Int}
 use Rattle.reg_replies.specs.Heads.{head_text}
 use Rattle.reg_statements.specs.Stems.{columns_of_stem, entries_text}
-use Rattle.reg_tables.proofs.IndexWalk.{entries_read}
-use Rattle.reg_tables.proofs.Walks.{walked_all, walked_as}
+use Rattle.reg_stored.proofs.IndexWalk.{entries_read}
+use Rattle.reg_stored.proofs.Walking.{walked_all, walked_as}
 use Rattle.reg_streaming.proofs.Rows.{end_stopped, head_stopped, rows_all, rows_broken, rows_more, rows_none, rows_stopped}
 use Rattle.reg_streaming.proofs.files.send_rows.Goals as goal
 

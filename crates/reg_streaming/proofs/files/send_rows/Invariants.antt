@@ -6,7 +6,7 @@ use Rattle.reg_replies.specs.declared.head.Kind.TheVariants.{Plain}
 use Rattle.reg_sending.specs.Sent.{Piles, sink}
 use Rattle.reg_sending.specs.Texts.{done_head}
 use Rattle.reg_statements.specs.Stems.{entries_text}
-use Rattle.reg_tables.specs.Walks.{HasWalked}
+use Rattle.reg_stored.specs.Walks.{HasWalked}
 use Rattle.reg_streaming.specs.Lines.{lines_in}
 use Rattle.reg_streaming.proofs.files.send_rows.Given as goal
 

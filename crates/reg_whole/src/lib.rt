@@ -1,0 +1,10 @@
+//! Everything that tables hold, read at once: all rows, as the checks on opening want them, and all
+//! entries of one crate.
+//!
+//! `all_rows::read(alloc, &mut conn)?` holds the rows of each table in the order of its key; two
+//! rows with one rowid are a fault.
+#![tactic(auto)]
+
+pub mod all_rows;
+mod apart;
+pub mod entries;
