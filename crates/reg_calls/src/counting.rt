@@ -17,8 +17,8 @@ pub fn counts<S: Alter>(work: &mut Work<'_, S>) -> Result<Counts, StoreFault>
     call!(work, counts::count(&mut work.tables.conn))
 }
 
-/// Whether there are as many crates as this. It goes by a key, but where their ids come near
-/// the number.
+/// Whether there are as many crates as this. They are counted only where their ids come near the
+/// number.
 pub fn reaches_crates<S: Alter>(work: &mut Work<'_, S>, number: u64) -> Result<bool, StoreFault>
     requires { IsAtWork S.Store work.old }
     ensures told { Heard S.Store work.new result

@@ -45,7 +45,7 @@ pub fn add_version<S: Alter>(
     )
 }
 
-/// Yanks a version of a crate, or takes that back. What is not there stays away.
+/// Yanks a version of a crate, or takes that back. Where it is not there, nothing changes.
 pub fn set_yanked<S: Alter>(
     work: &mut Work<'_, S>,
     crate_id: u32,

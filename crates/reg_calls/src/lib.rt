@@ -1,4 +1,5 @@
-//! The typed calls of a transaction, each with what it is on the registry that the rows stand for.
+//! The typed calls of a transaction, each with what it is on the registry that the rows stand for;
+//! and `index_entries`, which reads in none.
 //!
 //! ```text
 //! let mut work = tables.work()?;

@@ -1,7 +1,7 @@
 //! The administrator's reports, asked of the tables in a transaction.
 //!
 //! ```text
-//! let text = access_report(Global, &mut work, &name)?;
+//! let text = access_report(alloc, &mut work, &name)?;
 //! ```
 #![tactic(auto)]
 

@@ -16,7 +16,7 @@ use sqlite_schema::schema::Schema;
 /// Why no tables were made.
 #[derive(Clone, Copy, Debug, PartialEq, Eq)]
 pub enum MakeFault {
-    /// The store holds something already.
+    /// The store holds something already, or, where tables are taken over, not ours.
     UnknownSchema,
     /// The store failed, or there was no memory.
     Storage,

@@ -2,7 +2,7 @@
 //! one at a time.
 //!
 //! ```text
-//! let found = search(Global, &mut tables, ada, "serde", 10)?;
+//! let found = search(alloc, &mut tables, ada, "serde", 10)?;
 //! ```
 #![tactic(auto)]
 

@@ -4,6 +4,8 @@ use Rattle.sqlite.specs.Effect.{Database}
 use Rattle.sqlite.specs.Held.{Held, state}
 use Rattle.sqlite.specs.Schema.{Schema}
 use Rattle.sqlite.specs.State.{State, HasCleanDisk, KeepsCommit, Survives}
+use Rattle.sqlite.specs.Tree.{Trees}
+use Rattle.sqlite.proofs.StateLemmas.{survives_then, survives_weaker}
 use Rattle.sqlite_trees.specs.declared.store.Store.{Ghosts}
 use Rattle.reg_model.specs.Registry as model
 use Rattle.reg_schema.specs.declared.edition.Edition.{Edition}
@@ -13,12 +15,13 @@ use Rattle.reg_schema.specs.Schema.{schema_of}
 use Rattle.reg_schema.specs.States.{IsOurs, IsUndone, LeavesCommit}
 use Rattle.reg_statements.specs.Abouts.{HasBase}
 use Rattle.reg_opening.specs.Editions.{AreFound, EditionLaw, FoundLaw, HoldsAs, KeepsSchema}
-use Rattle.reg_stored.specs.Upgrades.{AreBegun, IsUpgraded}
+use Rattle.reg_stored.specs.Upgrades.{AreBegun, AreUpgraded, IsUpgraded}
 use Rattle.reg_tables.specs.declared.tables.Tables.{Tables}
-use Rattle.reg_tables.specs.Works.{AreOurs, edition_in, shown}
+use Rattle.reg_tables.specs.Works as works
+use Rattle.reg_tables.specs.Works.{AreOurs, IsSame, edition_in, shown}
 use Rattle.reg_service.specs.declared.registry.Registry.{Registry}
 use Rattle.reg_service.specs.Answered.{AreAs, Shows}
-use Rattle.reg_service.specs.Registries.{AreDamaged, AreOne, IsBrought, IsFirstFailing, LeavesOpened, tables_of}
+use Rattle.reg_service.specs.Registries.{AreDamaged, AreOne, IsBrought, IsFirstFailing, LeavesOpened, MayBeUpgraded, tables_of}
 use Rattle.reg_service.specs.declared.opening.OpenFault.{OpenFault}
 use Rattle.reg_service.specs.declared.opening.OpenFault.TheVariants.{Damaged, Storage}
 
@@ -28,7 +31,7 @@ still_brought First old new is same = absurd cc
 still_brought Second old new is same = record {
   was_open = λ up. subst (λ (s : State). IsTrue s.is_open) same up;
   begun = λ up. ap (λ (s : State). s.now.trees) same;
-  left = λ db l. inl (subst (λ (s : State). s.may_leave db) same l);
+  left = λ db l. inl (is, subst (λ (s : State). s.may_leave db) same l);
 }
 
 pub upgrade_brought : (e : Edition) (old new : State) → e ≡ First → IsUpgraded old new → LeavesCommit new → IsBrought e old new
@@ -48,7 +51,7 @@ brought_before e old mid new clean early rests_old rests_mid kept survives b = r
       let now : mid.now ≡ old.now = (rests_mid clean was).settled ∙ kept.committed was ∙ sym (rests_old early (kept.was_open was)).settled in
       subst (λ (d : Database). AreBegun e d new.now.trees) now (b.begun up);
   left = λ db l. elim (b.left db l) [
-    | inl m ↦ elim (survives.crash clean db m) [ inl o ↦ inl o | inr none ↦ absurd none ]
+    | inl m ↦ elim (survives.crash clean db m.1) [ inl o ↦ inl (m.0, o) | inr none ↦ absurd none ]
     | inr last ↦ inr last
   ];
 }
@@ -62,6 +65,56 @@ examined_brought g old mid (Ok x) rests_old rests_mid same kept survives early b
     let still = early clean in
     let start : HasCleanDisk (shown g old) = omega (arith, still, survives.clean) in
     brought_before (edition_in old) (shown g old) (shown g mid) (shown g (tables_of x)) still start rests_old (subst (λ e. IsOurs e (shown g mid)) same rests_mid) (kept still) survives (subst (λ e. IsBrought e (shown g mid) (shown g (tables_of x))) same (brought clean))
+
+then_undone : (a b c : State) → IsUndone a b → IsUndone b c → IsUndone a c
+then_undone a b c one two = record {
+  was_open = λ up. one.was_open (two.was_open up);
+  undone = λ up. let was = (one.undone (two.was_open up)).1 in ((two.undone up).0 ∙ was, (two.undone up).1 ∙ was);
+  autocommit = two.autocommit;
+}
+
+-- where nothing is in a transaction, a connection shows what was committed
+still_undone : (e : Edition) (s : State) → IsOurs e s → s.in_transaction ≡ false → HasCleanDisk s → IsUndone s s
+still_undone e s ours auto clean = record { was_open = λ up. up; undone = λ up. ((ours clean up).settled, refl); autocommit = auto }
+
+-- an upgrade that failed leaves it so
+pub upgrade_undone : {S : Type 0} (g : Ghosts S) (old new : Tables S) (back : Held S) → AreOurs g old → back ≡ works.held new → (HasCleanDisk (shown g new) → IsSame g old new)
+    → (shown g old).in_transaction ≡ false → HasCleanDisk (state g back) → IsUndone (shown g old) (state g back)
+upgrade_undone g old new back ours is same auto clean =
+    let now = subst (λ h. HasCleanDisk (state g h)) is clean in
+    subst (λ h. IsUndone (shown g old) (state g h)) (sym is) (elim (same now) [
+      | inl kept ↦ subst (λ h. IsUndone (shown g old) (state g h)) (sym kept) (still_undone (edition_in old) (shown g old) ours auto (subst (λ h. HasCleanDisk (state g h)) kept now))
+      | inr done ↦ done
+    ])
+
+-- and a stop what it could leave before, or the upgrade
+pub upgrade_left : {S : Type 0} (g : Ghosts S) (old new : Tables S) (back : Held S) → edition_in old ≡ First → back ≡ works.held new → Survives (shown g old) (shown g new) (AreUpgraded (shown g old).now)
+    → Survives (shown g old) (state g back) (λ _. edition_in old ≡ First)
+upgrade_left g old new back first is survives =
+    subst (λ h. Survives (shown g old) (state g h) (λ _. edition_in old ≡ First)) (sym is) (survives_weaker (shown g old) (shown g new) _ _ (λ _ db it. first) survives)
+
+-- what the checks and then the upgrade leave, where it failed
+pub examined_undone : {S R : Type 0} (g : Ghosts S) (old mid : Tables S) (r : Result R (OpenFault × Held S))
+    → (HasCleanDisk (shown g mid) → (shown g old).in_transaction ≡ false → IsUndone (shown g old) (shown g mid))
+    → IfErr r (λ e. Survives (shown g mid) (state g e.1) (λ _. edition_in mid ≡ First))
+    → ((shown g mid).in_transaction ≡ false → IfErr r (λ e. HasCleanDisk (state g e.1) → IsUndone (shown g mid) (state g e.1)))
+    → (shown g old).in_transaction ≡ false → IfErr r (λ e. HasCleanDisk (state g e.1) → IsUndone (shown g old) (state g e.1))
+examined_undone g old mid (Ok x) rests survives undone auto = tt
+examined_undone g old mid (Err e) rests survives undone auto = λ clean.
+    let first = rests (omega (arith, clean, survives.clean)) auto in
+    then_undone (shown g old) (shown g mid) (state g e.1) first (undone first.autocommit clean)
+
+pub examined_left : {S R : Type 0} (g : Ghosts S) (old mid : Tables S) (r : Result R (OpenFault × Held S)) → edition_in mid ≡ edition_in old → Survives (shown g old) (shown g mid) (λ _. ⊥)
+    → IfErr r (λ e. e.0 ≡ Storage) → IfErr r (λ e. Survives (shown g mid) (state g e.1) (λ _. edition_in mid ≡ First))
+    → IfErr r (λ e. Survives (shown g old) (state g e.1) (λ _. MayBeUpgraded e.0 (schema_of (edition_in old))))
+examined_left g old mid (Ok x) same one storage two = tt
+examined_left g old mid (Err e) same one storage two =
+    survives_then (shown g old) (shown g mid) (state g e.1) _ _ (λ _. MayBeUpgraded e.0 (schema_of (edition_in old))) (λ _ db none. absurd none) (λ _ db first. (storage, ap schema_of (sym same ∙ first))) one two
+
+-- a stop leaves nothing new of what is handed back as it was
+pub returned_left : {S : Type 0} (g : Ghosts S) (old : State) (new back : Held S) (P : Trees → Type 0) → back ≡ new → Survives old (state g new) (λ _. ⊥) → Survives old (state g back) P
+returned_left g old new back P is survives =
+    subst (λ h. Survives old (state g h) P) (sym is) (survives_weaker old (state g new) _ P (λ _ db none. absurd none) survives)
 
 -- the schemas differ
 fewer : ◌≡◌ {A = ℕ} 10 12 → ⊥
@@ -78,13 +131,6 @@ one_edition Second First h = absurd (fewer (sym (ap tables_in h)))
 
 not_none : {c : Check} → Some c ≡ None → ⊥
 not_none e = absurd cc
-
-then_undone : (a b c : State) → IsUndone a b → IsUndone b c → IsUndone a c
-then_undone a b c one two = record {
-  was_open = λ up. one.was_open (two.was_open up);
-  undone = λ up. let was = (one.undone (two.was_open up)).1 in ((two.undone up).0 ∙ was, (two.undone up).1 ∙ was);
-  autocommit = two.autocommit;
-}
 
 -- the tables that were taken over, and what they were found to be
 pub record IsTaken {S : Type 0} (g : Ghosts S) (conn : Held S) (t : Tables S) : Type 0 where
@@ -135,7 +181,7 @@ module _ {S : Type 0} (g : Ghosts S) (conn : Held S) (t : Tables S) (k : IsTaken
 
     held_left : Survives (state g conn) (shown g t) (λ _. ⊥) → HasCleanDisk held → LeavesOpened (state g conn) held
     held_left survives clean db l = elim ((brought clean).left db l) [
-      | inl m ↦ elim (survives.crash (early clean) db m) [ inl o ↦ inl o | inr none ↦ absurd none ]
+      | inl m ↦ elim (survives.crash (early clean) db m.1) [ inl o ↦ inl (k.schema ∙ ap schema_of m.0, o) | inr none ↦ absurd none ]
       | inr last ↦ inr (k.schema ∙ ap schema_of last.0, last.1)
     ]
 
@@ -163,32 +209,39 @@ module _ {S : Type 0} (g : Ghosts S) (conn : Held S) (t : Tables S) (k : IsTaken
   opened_left (Ok x) law early brought survives = held_left law x early brought survives
 
   -- it is refused, and the store is as it was
-  pub refused_undone : {R : Type 0} (r : Result R (OpenFault × Held S)) → IfErr r (λ e. HasCleanDisk (state g e.1) → e.0 ≢ Storage → HasCleanDisk (shown g t))
-      → ((shown g t).in_transaction ≡ false → IfErr r (λ e. HasCleanDisk (state g e.1) → e.0 ≢ Storage → IsUndone (shown g t) (state g e.1)))
-      → IfErr r (λ e. HasCleanDisk (state g e.1) → e.0 ≢ Storage → IsUndone (state g conn) (state g e.1))
-  refused_undone (Ok x) early undone = tt
-  refused_undone (Err e) early undone = λ clean not.
-      let first = k.rests (early clean not) in
-      then_undone (state g conn) (shown g t) (state g e.1) first (undone first.autocommit clean not)
+  module _ {R : Type 0} (r : Result R (OpenFault × Held S)) where
+    abbrev Returned : Type 0
+    Returned = IfErr r (λ e. Survives (shown g t) (state g e.1) (λ _. MayBeUpgraded e.0 (schema_of (edition_in t))))
 
-  not_storage : (f : OpenFault) (check : Check) → f ≡ Damaged check → f ≢ Storage
-  not_storage f check is same = absurd cc (sym is ∙ same)
+    abbrev Undone : Type 0
+    Undone = (shown g t).in_transaction ≡ false → IfErr r (λ e. HasCleanDisk (state g e.1) → IsUndone (shown g t) (state g e.1))
+
+  pub refused_undone : {R : Type 0} (r : Result R (OpenFault × Held S)) → Returned r → Undone r
+      → IfErr r (λ e. HasCleanDisk (state g e.1) → IsUndone (state g conn) (state g e.1))
+  refused_undone (Ok x) returned undone = tt
+  refused_undone (Err e) returned undone = λ clean.
+      let first = k.rests (omega (arith, clean, returned.clean)) in
+      then_undone (state g conn) (shown g t) (state g e.1) first (undone first.autocommit clean)
+
+  pub refused_left : {R : Type 0} (r : Result R (OpenFault × Held S)) → Survives (state g conn) (shown g t) (λ _. ⊥) → Returned r
+      → IfErr r (λ e. Survives (state g conn) (state g e.1) (λ _. MayBeUpgraded e.0 now.schema))
+  refused_left (Ok x) survives returned = tt
+  refused_left (Err e) survives returned =
+      survives_then (state g conn) (shown g t) (state g e.1) _ _ (λ _. MayBeUpgraded e.0 now.schema) (λ _ db none. absurd none) (λ _ db it. (it.0, k.schema ∙ it.1)) survives returned
 
   -- where a check fails there is no registry
-  pub refused_damaged : {R : Type 0} (r : Result R (OpenFault × Held S)) → FoundLaw
-      → IfErr r (λ e. HasCleanDisk (state g e.1) → e.0 ≢ Storage → HasCleanDisk (shown g t))
-      → ((shown g t).in_transaction ≡ false → IfErr r (λ e. HasCleanDisk (state g e.1) → e.0 ≢ Storage → IsUndone (shown g t) (state g e.1)))
+  pub refused_damaged : {R : Type 0} (r : Result R (OpenFault × Held S)) → FoundLaw → Returned r → Undone r
       → IfErr r (λ e. HasCleanDisk (state g e.1) → (check : Check) → e.0 ≡ Damaged check → IsFirstFailing (edition_in t) (shown g t).now (Some check))
       → IfErr r (λ e. HasCleanDisk (state g e.1) → (check : Check) → e.0 ≡ Damaged check → IsTrue (state g e.1).is_open → AreDamaged now check)
-  refused_damaged (Ok x) audited early undone first = tt
-  refused_damaged (Err e) audited early undone first = λ clean check is up.
-      let not = not_storage e.0 check is in
-      let mid = early clean not in
-      let was = (undone (k.rests mid).autocommit clean not).was_open up in
+  refused_damaged (Ok x) audited returned undone first = tt
+  refused_damaged (Err e) audited returned undone first = λ clean check is up.
+      let mid : HasCleanDisk (shown g t) = omega (arith, clean, returned.clean) in
+      let was = (undone (k.rests mid).autocommit clean).was_open up in
       let failing = subst (λ (d : Database). IsFirstFailing (edition_in t) d (Some check)) (k.found mid was) (first clean check is) in
       record {
         edition = edition_in t;
         schema = k.schema;
+        about = k.about mid;
         first = failing;
         no_registry = λ s are. not_none ((audited (edition_in t) now failing.0 (are_found mid was) failing.1 failing.2 failing.3 (Some check) failing.4).1 (are.0, s, are.1));
       }

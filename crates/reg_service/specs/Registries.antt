@@ -1,6 +1,7 @@
 -- A registry over a store, as a caller sees it.
 use Rattle.std.specs.Prelude.{◌≡◌, ◌⊎◌, Bool, Option, Some, false, IsTrue}
 use Rattle.sqlite.specs.Effect.{Database}
+use Rattle.sqlite.specs.Schema.{Schema}
 use Rattle.sqlite.specs.Tree.{Trees}
 use Rattle.sqlite.specs.State.{HasCleanDisk, State}
 use Rattle.sqlite_trees.specs.declared.store.Store.{Ghosts}
@@ -8,15 +9,18 @@ use Rattle.reg_body.specs.declared.limits.Limits.{Limits}
 use Rattle.reg_model.specs.Registry.{Text, empty_at, Registry as Modelled}
 use Rattle.reg_audit.specs.declared.check.Check.{Check}
 use Rattle.reg_audit.specs.Checks.{IsFirst}
-use Rattle.reg_schema.specs.Schema.{old_schema, schema_of}
+use Rattle.reg_schema.specs.Schema.{old_schema, ours, schema_of}
 use Rattle.reg_schema.specs.declared.edition.Edition.{Edition}
-use Rattle.reg_schema.specs.declared.edition.Edition.TheVariants.{First}
+use Rattle.reg_schema.specs.declared.edition.Edition.TheVariants.{First, Second}
+use Rattle.reg_statements.specs.Abouts.{HasBase}
 use Rattle.reg_whole.specs.declared.all_rows.AllRows.{AllRows}
 use Rattle.reg_whole.specs.WholeRows.{AreAllRows}
 use Rattle.reg_tables.specs.declared.tables.Tables.{Tables}
 use Rattle.reg_stored.specs.Upgrades.{AreBegun}
 use Rattle.reg_tables.specs.Works.{is_shut, shown}
 use Rattle.reg_service.specs.Answered.{Are, AreAs, AreUpToDate, LeavesAlone, Shows}
+use Rattle.reg_service.specs.declared.opening.OpenFault.{OpenFault}
+use Rattle.reg_service.specs.declared.opening.OpenFault.TheVariants.{Storage}
 use Rattle.reg_service.specs.declared.registry.Registry.{Registry}
 
 abbrev pub tables_of : {S : Type 0} → Registry S → Tables S
@@ -42,24 +46,31 @@ pub record AreOne (found : Database) (held : Trees) : Type 0 where
   pub before : AreAs edition registry found.trees
   pub after : Are registry held
 
--- A stop leaves nothing that it could not leave before; where what was found is of schema 1, it may
--- leave what is held now.
+-- A stop leaves what is held now where what was found is of schema 1, and else nothing that it
+-- could not leave before.
 abbrev pub LeavesOpened : State → State → Type 0
 LeavesOpened old new = (db : Trees) → new.may_leave db
-    → old.may_leave db ⊎ ((old.now.schema ≡ old_schema) × (db ≡ new.now.trees))
+    → ((old.now.schema ≡ ours) × old.may_leave db)
+    ⊎ ((old.now.schema ≡ old_schema) × (db ≡ new.now.trees))
+
+-- Of a store that is not opened a stop may leave what it could not leave before only where schema 1
+-- was to become schema 2, and the store or memory was refused.
+abbrev pub MayBeUpgraded : OpenFault → Schema → Type 0
+MayBeUpgraded fault found = (fault ≡ Storage) × (found ≡ old_schema)
 
 -- tables of this edition are held as those of schema 2 that they are, or become
 pub record IsBrought (e : Edition) (old new : State) : Type 0 where
   pub was_open : IsTrue new.is_open → IsTrue old.is_open
   pub begun : IsTrue new.is_open → AreBegun e old.now new.now.trees
   pub left : (db : Trees) → new.may_leave db
-      → old.may_leave db ⊎ ((e ≡ First) × (db ≡ new.now.trees))
+      → ((e ≡ Second) × old.may_leave db) ⊎ ((e ≡ First) × (db ≡ new.now.trees))
 
 -- this check is the first that fails on our tables as they were found, and the rows are those of
 -- no sound registry
 pub record AreDamaged (now : Database) (check : Check) : Type 0 where
   pub edition : Edition
   pub schema : now.schema ≡ schema_of edition
+  pub about : HasBase edition now.trees
   pub first : IsFirstFailing edition now (Some check)
   pub no_registry : (s : Modelled) → AreAs edition s now.trees → ⊥
 

@@ -8,7 +8,7 @@ ghost use Rattle.reg_schema.specs.Schema.{blank, schema_of};
 ghost use Rattle.reg_schema.specs.States.{IsMade, IsUndone};
 ghost use Rattle.reg_statements.specs.Abouts.{LacksBase};
 ghost use Rattle.reg_service.specs.Answered.{AreAs, AreUpToDate, Shows};
-ghost use Rattle.reg_service.specs.Registries.{AreDamaged, AreOne, IsBrought, IsFirstFailing, IsNew, LeavesOpened, has_stopped, limits_of, tables_of};
+ghost use Rattle.reg_service.specs.Registries.{AreDamaged, AreOne, IsBrought, IsFirstFailing, IsNew, LeavesOpened, MayBeUpgraded, has_stopped, limits_of, tables_of};
 ghost use Rattle.reg_tables.specs.Works.{AreOurs, edition_in, is_shut, shown};
 
 use crate::registry::Registry;
@@ -26,7 +26,8 @@ use std::alloc::Global;
 pub enum OpenFault {
     /// The base is none.
     BadBase,
-    /// The store has other tables than a registry's.
+    /// The store to be made in holds something, or the one to be opened holds no registry's tables
+    /// as they were made.
     UnknownSchema,
     /// This check of the rows fails first.
     Damaged(Check),
@@ -48,6 +49,10 @@ fn brought_up<S: Alter>(
     ensures clean { IfOk result (λ r. HasCleanDisk (shown S.Store (tables_of r))
         → HasCleanDisk (shown S.Store tables)) }
     ensures refused { IfErr result (λ e. e.0 ≡ OpenFault.Storage) }
+    ensures undone { (shown S.Store tables).in_transaction ≡ false → IfErr result (λ e.
+        HasCleanDisk (state S.Store e.1) → IsUndone (shown S.Store tables) (state S.Store e.1)) }
+    ensures handed_back { IfErr result (λ e. Survives (shown S.Store tables) (state S.Store e.1)
+        (λ _. edition_in tables ≡ Edition.First)) }
 {
     match tables.edition() {
         Edition::Second => Ok(Registry { tables, limits }),
@@ -74,15 +79,15 @@ fn examined<S: Alter>(
         → HasCleanDisk (shown S.Store tables)) }
     ensures passed { IfOk result (λ r. HasCleanDisk (shown S.Store (tables_of r))
         → IsFirstFailing (edition_in tables) (shown S.Store tables).now None) }
-    ensures known { IfErr result (λ e. e.0 ≢ OpenFault.UnknownSchema) }
+    ensures known { IfErr result
+        (λ e. (e.0 ≢ OpenFault.UnknownSchema) × (e.0 ≢ OpenFault.BadBase)) }
     ensures found { IfErr result (λ e. HasCleanDisk (state S.Store e.1) → (check : _)
         → e.0 ≡ OpenFault.Damaged check
         → IsFirstFailing (edition_in tables) (shown S.Store tables).now (Some check)) }
-    ensures early { IfErr result (λ e. HasCleanDisk (state S.Store e.1)
-        → e.0 ≢ OpenFault.Storage → HasCleanDisk (shown S.Store tables)) }
     ensures undone { (shown S.Store tables).in_transaction ≡ false → IfErr result (λ e.
-        HasCleanDisk (state S.Store e.1) → e.0 ≢ OpenFault.Storage
-        → IsUndone (shown S.Store tables) (state S.Store e.1)) }
+        HasCleanDisk (state S.Store e.1) → IsUndone (shown S.Store tables) (state S.Store e.1)) }
+    ensures handed_back { IfErr result (λ e. Survives (shown S.Store tables) (state S.Store e.1)
+        (λ _. MayBeUpgraded e.0 (schema_of (edition_in tables)))) }
 {
     match audit(alloc, &mut tables) {
         Err(_) => Err((OpenFault::Storage, tables.into_connection())),
@@ -119,8 +124,11 @@ impl<S: Alter> Registry<S> {
         ensures damaged { IfErr result (λ e. HasCleanDisk (state S.Store e.1) → (check : _)
             → e.0 ≡ OpenFault.Damaged check → IsTrue (state S.Store e.1).is_open
             → AreDamaged (state S.Store conn).now check) }
+        ensures known { IfErr result (λ e. e.0 ≢ OpenFault.BadBase) }
         ensures undone { IfErr result (λ e. HasCleanDisk (state S.Store e.1)
-            → e.0 ≢ OpenFault.Storage → IsUndone (state S.Store conn) (state S.Store e.1)) }
+            → IsUndone (state S.Store conn) (state S.Store e.1)) }
+        ensures handed_back { IfErr result (λ e. Survives (state S.Store conn) (state S.Store e.1)
+            (λ _. MayBeUpgraded e.0 (state S.Store conn).now.schema)) }
     {
         edition_law();
         rows_law(&conn);
@@ -143,11 +151,16 @@ impl<S: Alter> Registry<S> {
             (λ e. (e.0 ≡ OpenFault.BadBase) ↔ (is_base_text base.now ≡ false)) }
         ensures unknown { IfErr result (λ e. is_base_text base.now ≡ true
             → (e.0 ≡ OpenFault.UnknownSchema) ↔ ((state S.Store conn).now.schema ≢ blank)) }
+        ensures blank { IfOk result (λ r. (state S.Store conn).now.schema ≡ blank) }
+        ensures known { IfErr result (λ e. (check : _) → e.0 ≢ OpenFault.Damaged check) }
         ensures untouched { IfErr result (λ e. e.0 ≢ OpenFault.Storage → e.1 ≡ conn) }
         ensures undone { IfErr result (λ e. HasCleanDisk (state S.Store e.1)
             → e.0 ≡ OpenFault.Storage → IsUndone (state S.Store conn) (state S.Store e.1)) }
         ensures kept { IfOk result (λ r. Survives (state S.Store conn)
             (shown S.Store (tables_of r))
+            (λ trees. (db : _) × IsMade base.now db × (trees ≡ db.trees))) }
+        ensures handed_back { IfErr result (λ e. e.0 ≡ OpenFault.Storage
+            → Survives (state S.Store conn) (state S.Store e.1)
             (λ trees. (db : _) × IsMade base.now db × (trees ≡ db.trees))) }
     {
         soundness_law();

@@ -1,5 +1,5 @@
--- What each call is on the registry that the rows stand for. A call on what is not there changes
--- nothing and tells of nothing.
+-- What each call is on the registry that the rows stand for. Of an account, a token, a version or a
+-- crate that is not there it marks nothing, and of a crate that is not there it tells nothing.
 use Rattle.std.proofs.Common.{[], None}
 use Rattle.std.specs.Prelude.{◌≡◌, ℕ, ◌+◌, Bool, false, List, map, length, nat_le, Option, Some, IfSome, Vec, string_bytes}
 use Rattle.std.specs.declared.alloc.Global.{Global}

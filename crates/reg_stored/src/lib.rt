@@ -2,7 +2,8 @@
 //! each selection its part.
 //!
 //! `Stands` of `specs/` says which registry the rows are; a function here is one or more statements
-//! in a transaction, with what it is on that registry.
+//! in a transaction, with what it is on that registry. `walks` and `entries` read in none, and
+//! `editions` and `upgrade` know schema 1.
 //!
 //! `accounts::add(&mut conn, "ada", Some("Ada"))?` is the id of the account that was added: one
 //! more than there were.

@@ -89,7 +89,7 @@ fn index_length(marks: &[VersionMark]) -> Result<u64, Error>
     Ok(length)
 }
 
-/// What the versions of a crate give, in the order of publication. A version whose text is none is
+/// What the versions of a crate give, in the order of publication. A text that is no version is
 /// an error.
 pub fn numbers_in(alloc: Global, marks: &[VersionMark]) -> Result<Numbers, Error>
     ensures highest { IfOk result (λ n. n.highest ≡ highest_in (map shown_mark marks.now)) }

@@ -21,7 +21,8 @@ use sqlite::types::ValueRef;
 use sqlite::{Alter, Row};
 use std::alloc::{AllocError, Global};
 
-/// The store failed, or there was no memory. Nothing has changed.
+/// The store failed, or there was no memory. Nothing of the transaction is kept; after a commit
+/// that the disk refused a stop may leave it.
 #[derive(Clone, Copy, Debug, PartialEq, Eq)]
 pub struct StoreFault;
 
@@ -82,7 +83,8 @@ impl<S: Alter> Work<'_, S> {
 }
 
 impl<S: Alter> Work<'_, S> {
-    /// Ends the transaction as a fault does, for a row that cannot be read.
+    /// Ends the transaction as a fault does: for want of memory, a row that can't be read, or what
+    /// is not there.
     pub fn fail<T>(&mut self) -> Result<T, StoreFault>
         requires { IsAtWork S.Store self.old }
         ensures fails { IsErr result }

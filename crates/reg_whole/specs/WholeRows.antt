@@ -19,7 +19,7 @@ use Rattle.reg_statements.specs.Versions.{AreVersions}
 use Rattle.reg_whole.specs.declared.all_rows.AllRows.{AllRows}
 use Rattle.reg_stored.specs.Stands.{HaveOwnRowids}
 
--- In no table that the registry is told from by ids two rows have one rowid.
+-- in none of these tables two rows have one rowid
 pub record AreApart (db : Trees) : Type 0 where
   pub crates : HaveOwnRowids (db crates_tree)
   pub versions : HaveOwnRowids (db versions_tree)

@@ -195,7 +195,8 @@ fn other_tables<S: Alter>(alloc: Global, conn: &mut Connection<S>) -> Result<Oth
     })
 }
 
-/// The rows of all tables. Rows that share a rowid are a fault.
+/// The rows of all tables. Of crates, versions, owners, readers and reserved names two rows with
+/// one rowid are a fault.
 pub fn read<S: Alter>(alloc: Global, conn: &mut Connection<S>) -> Result<AllRows, Error>
     requires { IsReady (state S.Store conn.old) }
     ensures read { Told S.Store conn.new result (λ it. AreAllRows it (rows_in S.Store conn.old)) }

@@ -5,9 +5,9 @@
 //! let matches = read_words(alloc, &words)?;   // registry_cli user-add ada --db registry.db
 //! matches.subcommand_name()                   // Some("user-add")
 //!
-//! let matches = setup_lines(alloc)?.try_get_matches_from(words)?;   // setup owner-add a bob
-//! let order = read_order(alloc, "owner-add", inner)?;               // Some(..)
-//! order.command(&digest)                                  // AdminCommand::OwnerAdd("a", "bob")
+//! let line = with_orders(alloc, Shape::Setup, Command::new(alloc, "setup")?)?;
+//! line.try_get_matches_from(words)?;              // setup owner-add a bob
+//! read_order(alloc, "owner-add", inner)?          // AdminCommand::OwnerAdd("a", "bob")
 //! ```
 //!
 //! `clap` judges how many words there are and which options; what they mean is read here.

@@ -1,4 +1,4 @@
-use Rattle.reg_service.proofs.Opened.{is_taken, opened_left, opened_same, opened_sound, refused_damaged, refused_undone}
+use Rattle.reg_service.proofs.Opened.{is_taken, opened_left, opened_same, opened_sound, refused_damaged, refused_left, refused_undone}
 use Rattle.reg_service.proofs.registry.Registry.open.Goals as goal
 
 pub returns-in-Ok-clause-same : goal.returns-in-Ok-clause-same
@@ -19,8 +19,12 @@ returns-in-Err-UnknownSchema-default-clause-unknown g c clean is edition schema 
 
 pub returns-in-Ok-clause-undone : goal.returns-in-Ok-clause-undone
 returns-in-Ok-clause-undone g c =
-    refused_undone g.S.Store c.args.conn c.in-Ok.tables (is_taken g.S.Store c.args.conn c.in-Ok.tables c.in-Ok.ensures.edition c.in-Ok.ensures.found c.in-Ok.ensures.about c.in-Ok.ensures.rests c.rows_law.ensures) c.examined.result c.examined.ensures.early c.examined.ensures.undone
+    refused_undone g.S.Store c.args.conn c.in-Ok.tables (is_taken g.S.Store c.args.conn c.in-Ok.tables c.in-Ok.ensures.edition c.in-Ok.ensures.found c.in-Ok.ensures.about c.in-Ok.ensures.rests c.rows_law.ensures) c.examined.result c.examined.ensures.handed_back c.examined.ensures.undone
 
 pub returns-in-Ok-clause-damaged : goal.returns-in-Ok-clause-damaged
 returns-in-Ok-clause-damaged g c =
-    refused_damaged g.S.Store c.args.conn c.in-Ok.tables (is_taken g.S.Store c.args.conn c.in-Ok.tables c.in-Ok.ensures.edition c.in-Ok.ensures.found c.in-Ok.ensures.about c.in-Ok.ensures.rests c.rows_law.ensures) c.examined.result c.edition_law.ensures.audit c.examined.ensures.early c.examined.ensures.undone c.examined.ensures.found
+    refused_damaged g.S.Store c.args.conn c.in-Ok.tables (is_taken g.S.Store c.args.conn c.in-Ok.tables c.in-Ok.ensures.edition c.in-Ok.ensures.found c.in-Ok.ensures.about c.in-Ok.ensures.rests c.rows_law.ensures) c.examined.result c.edition_law.ensures.audit c.examined.ensures.handed_back c.examined.ensures.undone c.examined.ensures.found
+
+pub returns-in-Ok-clause-handed_back : goal.returns-in-Ok-clause-handed_back
+returns-in-Ok-clause-handed_back g c =
+    refused_left g.S.Store c.args.conn c.in-Ok.tables (is_taken g.S.Store c.args.conn c.in-Ok.tables c.in-Ok.ensures.edition c.in-Ok.ensures.found c.in-Ok.ensures.about c.in-Ok.ensures.rests c.rows_law.ensures) c.examined.result c.in-Ok.ensures.kept c.examined.ensures.handed_back
