@@ -63,7 +63,12 @@ fn pipe_memory(rt: &HostRuntime, words: &ArgMatches<'_>) -> Result<Exit, Exit> {
         return Err(Exit::MEMORY);
     };
     let base = words.get_str("base").unwrap_or(BASE);
-    let mut registry = create(conn, base)?;
+    let mut registry = match create(conn, base) {
+        Ok(registry) => registry,
+        // A store in memory is refused nothing but memory.
+        Err(Exit { status: 3, .. }) => return Err(Exit::MEMORY),
+        Err(exit) => return Err(exit),
+    };
     Ok(pipe_on(rt, &mut registry, words.get_str("setup")))
 }
 

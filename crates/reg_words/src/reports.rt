@@ -33,7 +33,7 @@ const REPORTS: [Entry; 4] = [
     Entry {
         name: "access",
         about: "Lists who may act on a crate, by which token and endpoint, and who reads it where \
-                it is restricted",
+                it is restricted; of a free name, who may publish it first",
         example: "Example:\n  registry_cli access acme-net --db r.db",
         words: Words::Crate,
     },

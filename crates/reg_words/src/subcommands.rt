@@ -48,7 +48,7 @@ const PLAIN: [Entry; 10] = [
     },
     Entry {
         name: "unreserve",
-        about: "Sets a reserved name free",
+        about: "Sets a reserved name free; con, nul and their like stay reserved",
         example: "Example:\n  registry_cli unreserve acme --db r.db",
         words: Words::Name,
     },
@@ -93,7 +93,8 @@ fn user_add<'a>(alloc: Global, shape: Shape) -> Result<Command<'a>, AllocError> 
 /// The options of `token-add` that say what it may do.
 fn with_scopes<'a>(alloc: Global, command: Command<'a>) -> Result<Command<'a>, AllocError> {
     let endpoints =
-        "What it may do: publish-new, publish-update, yank, change-owners, separated by commas";
+        "What it may do, one at least: publish-new, publish-update, yank, change-owners, separated \
+         by commas";
     let patterns = "The crates that it may act on: names, or prefixes before *, separated by \
                     commas. Without it: all";
     command

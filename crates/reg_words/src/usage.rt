@@ -34,7 +34,8 @@ fn init_words<'a>(alloc: Global) -> Result<Command<'a>, AllocError> {
 fn export_words<'a>(alloc: Global) -> Result<Command<'a>, AllocError> {
     let command = Command::new(alloc, "export")
         .about(
-            "Writes config.json and the index files below a folder, as the sparse index has them",
+            "Writes config.json and the index files below a folder, as the sparse index has them, \
+             those of restricted crates too",
         )
         .after_help("Example:\n  registry_cli export index --db r.db");
     with_file(alloc, command.arg(word(alloc, "DIR", "The folder"))?)
@@ -43,7 +44,10 @@ fn export_words<'a>(alloc: Global) -> Result<Command<'a>, AllocError> {
 /// `audit`.
 fn audit_words<'a>(alloc: Global) -> Result<Command<'a>, AllocError> {
     let command = Command::new(alloc, "audit")
-        .about("Checks the whole file, archives included, and prints ok")
+        .about(
+            "Checks the whole file, archives included, moves its log into it, and prints ok: \
+             then the file alone is the whole registry",
+        )
         .after_help("Example:\n  registry_cli audit --db r.db");
     with_file(alloc, command)
 }
@@ -75,7 +79,10 @@ fn pipe_words<'a>(alloc: Global) -> Result<Command<'a>, AllocError> {
         "Commands that are done first, one a line, without --db",
     );
     let command = Command::new(alloc, "pipe")
-        .about("Serves HTTP on standard input and output")
+        .about(
+            "Serves HTTP on standard input and output: from the registry of --db, or from a new \
+             one in memory",
+        )
         .after_help("Example:\n  registry_cli pipe --memory --setup commands < requests");
     with_place(alloc, command)?.arg(base)?.arg(setup)
 }
