@@ -1,4 +1,5 @@
 pub mod Exits
+pub mod LineOrders
 pub mod Lines
 pub mod Piped
 pub mod Setups

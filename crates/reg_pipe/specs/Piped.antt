@@ -1,5 +1,5 @@
 -- A setup, and a stream that is served after it.
-use Rattle.std.specs.Prelude.{◌≡◌, ◌⊎◌, ℕ, List, length, Option, Result, Ok, Err}
+use Rattle.std.specs.Prelude.{◌≡◌, ◌⊎◌, ℕ, List, length, Option, Result, Err}
 use Rattle.sqlite_trees.specs.declared.store.Store.{Ghosts}
 use Rattle.reg_body.specs.Counting.{CountedEnd}
 use Rattle.reg_body.specs.declared.limits.Limits.{Limits}
@@ -18,7 +18,7 @@ use Rattle.reg_pipe.specs.Setups.{HasDoneAlone, IsSetUp}
 pub record IsUnserved {S : Type 0} (g : Ghosts S) (limits : Limits) (s : model.Registry)
     (lines : List Text) (now : Tables S) (r0 r1 w0 w1 : Option Text) (exit : Exit) : Type 0 where
   pub fault : SetupFault
-  pub set_up : IsSetUp g limits s now lines (Err fault)
+  pub set_up : IsSetUp g limits s lines now (Err fault)
   pub ends : EndsSetup fault exit
   pub unread : r1 ≡ r0
   pub unwritten : w1 ≡ w0
@@ -27,7 +27,7 @@ pub record IsUnserved {S : Type 0} (g : Ghosts S) (limits : Limits) (s : model.R
 pub record IsServed {S : Type 0} (g : Ghosts S) (limits : Limits) (s : model.Registry)
     (lines : List Text) (now : Tables S) (r0 r1 w0 w1 : Option Text) (exit : Exit) : Type 0 where
   pub between : Tables S
-  pub set_up : HasDoneAlone g limits s between (length lines)
+  pub set_up : HasDoneAlone g limits s lines between (length lines)
   pub result : Result ℕ StreamFault
   pub serves : Serves g limits set_up.done.after now r0 r1 w0 w1 result
   pub ends : EndsStream result exit

@@ -1,6 +1,7 @@
 //! The lines of a setup file, each a command of the administrator.
 
-ghost use Rattle.std.specs.Prelude.{◌≡◌, IfErr, IfOk, Some, map};
+ghost use Rattle.std.specs.Prelude.{◌≡◌, IfErr, IfOk, Some, false, map};
+ghost use Rattle.std.specs.List.{list_any};
 ghost use Rattle.sqlite.specs.State.{HasCleanDisk};
 ghost use Rattle.reg_model.specs.Events.Event.{Order as ToOrder};
 ghost use Rattle.reg_model.specs.Steps.{IsFit};
@@ -9,17 +10,19 @@ ghost use Rattle.reg_tables.specs.Works.{shown};
 ghost use Rattle.reg_service.specs.Answered.{AreUpToDate, LeavesAlone, Shows};
 ghost use Rattle.reg_service.specs.Registries.{limits_of, tables_of};
 ghost use Rattle.reg_http.specs.Answering.{GoesOn};
-ghost use Rattle.reg_pipe.specs.Lines.{lines_in};
+ghost use Rattle.reg_words.specs.Dashes.{is_dashed};
 ghost use Rattle.reg_words.specs.Orders.{words_of};
-ghost use Rattle.reg_pipe.specs.Setups.{IsObeyed, IsOfWords, IsSetUp, IsSomeObeyed, MakesOf, order_in, token_order};
+ghost use Rattle.reg_pipe.specs.LineOrders.{IsUnread, line_order, order_in, token_order, words_in};
+ghost use Rattle.reg_pipe.specs.Lines.{lines_in};
+ghost use Rattle.reg_pipe.specs.Setups.{IsObeyed, IsSetUp, MakesOf};
 
 use clap::error::ErrorKind;
-use clap::{ArgMatches, Command, Error};
+use clap::{ArgMatches, Error};
 use reg_model::AdminRefusal;
 use reg_policy::{AdminCommand, AdminReply};
 use reg_service::Registry;
 use reg_service::laws::history_law;
-use reg_words::{NewToken, Order, Shape, TokenSource, is_dashed, read_order, with_orders};
+use reg_words::{NewToken, Order, TokenSource, is_dashed, read_line, read_order};
 use sqlite::Alter;
 use std::alloc::{AllocError, AllocFailed, Global};
 
@@ -57,9 +60,11 @@ impl<T: Drop> From<AllocFailed<T>> for SetupFault {
 }
 
 impl From<Error> for SetupFault {
-    ghost use Rattle.reg_pipe.specs.Setups.{IsOfWords};
+    ghost use Rattle.std.specs.Prelude.{◌≡◌};
+    ghost use Rattle.clap.specs.Values.{kind_of};
+    ghost use Rattle.reg_pipe.specs.LineOrders.{fault_by};
 
-    ghost from_gives = { λ _ f. IsOfWords f };
+    ghost from_gives = { λ e f. f ≡ fault_by (kind_of e) };
 
     fn from(error: Error) -> SetupFault {
         match error.kind() {
@@ -84,27 +89,21 @@ fn lines_of<'a>(alloc: Global, text: &'a str) -> Result<Vec<&'a str>, AllocError
     Ok(lines)
 }
 
-/// What a line may be.
-fn line_words<'a>(alloc: Global) -> Result<Command<'a>, AllocError> {
-    let line = Command::new(alloc, "setup").subcommand_required(true);
-    with_orders(alloc, Shape::Setup, line)
-}
-
-fn parsed<'a>(alloc: Global, words: &'a [&'a str]) -> Result<ArgMatches<'a>, Error> {
-    line_words(alloc)?.try_get_matches_from(words)
-}
-
-/// The words of a line, behind a name that is no word of it. No value begins with `-`.
-fn split_words<'a>(alloc: Global, line: &'a str) -> Result<Vec<&'a str>, SetupFault>
-    ensures { IfErr result IsOfWords }
+fn have_dashed(words: &[&str]) -> bool
+    ensures { result ≡ list_any (λ w. is_dashed w.now) words.now }
 {
-    let mut words = Vec::new(alloc);
-    words.push("setup")?;
-    for word in line.split(' ') {
-        if is_dashed(word) {
-            return Err(SetupFault::Unreadable);
-        }
-        words.push(word)?;
+    words.iter().any(|word| is_dashed(word))
+}
+
+/// The words of a line. No value begins with `-`.
+fn split_words<'a>(alloc: Global, line: &'a str) -> Result<Vec<&'a str>, SetupFault>
+    ensures words { IfOk result (λ words. map (λ w. w.now) words.items ≡ words_in line.now) }
+    ensures no_dash { IfOk result (λ _. list_any is_dashed (words_in line.now) ≡ false) }
+    ensures fails { IfErr result (IsUnread (line_order line.now)) }
+{
+    let words: Vec<&'a str> = line.split(' ').collect(alloc)?;
+    if have_dashed(&words) {
+        return Err(SetupFault::Unreadable);
     }
     Ok(words)
 }
@@ -179,12 +178,12 @@ fn obey_line<S: Alter>(
     line: &str,
 ) -> Result<(), SetupFault>
     requires tables { AreUpToDate S.Store (tables_of registry.old) }
-    ensures obeyed { IsSomeObeyed S.Store (limits_of registry.old) (tables_of registry.old)
-        (tables_of registry.new) result }
+    ensures obeyed { IsObeyed S.Store (limits_of registry.old) (line_order line.now)
+        (tables_of registry.old) (tables_of registry.new) result }
     ensures keeps { GoesOn S.Store registry.old registry.new }
 {
     let words = split_words(alloc, line)?;
-    let matches = parsed(alloc, &words)?;
+    let matches = read_line(alloc, &words)?;
     obey_order(alloc, registry, &matches)
 }
 
@@ -199,8 +198,8 @@ pub fn run_setup<S: Alter>(
     ensures done { HasCleanDisk (shown S.Store (tables_of registry.new)) → (s : _)
         → Shows s (shown S.Store (tables_of registry.old))
         → LeavesAlone s (shown S.Store (tables_of registry.old))
-        → IsSetUp S.Store (limits_of registry.old) s (tables_of registry.new)
-        (lines_in setup.now) result }
+        → IsSetUp S.Store (limits_of registry.old) s (lines_in setup.now)
+        (tables_of registry.new) result }
     ensures keeps { GoesOn S.Store registry.old registry.new }
 {
     history_law::<S>();

@@ -1,2 +1,4 @@
 pub mod Dashes
+pub mod Grammar
+pub mod Making
 pub mod Orders

@@ -5,9 +5,9 @@
 //! let matches = read_words(alloc, &words)?;   // registry_cli user-add ada --db registry.db
 //! matches.subcommand_name()                   // Some("user-add")
 //!
-//! let line = with_orders(alloc, Shape::Setup, Command::new(alloc, "setup")?)?;
-//! line.try_get_matches_from(words)?;              // setup owner-add a bob
-//! read_order(alloc, "owner-add", inner)?          // AdminCommand::OwnerAdd("a", "bob")
+//! let line = read_line(alloc, &words)?;       // owner-add a bob
+//! let (name, inner) = line.subcommand()?;
+//! read_order(alloc, name, inner)?             // AdminCommand::OwnerAdd("a", "bob")
 //! ```
 //!
 //! `clap` judges how many words there are and which options; what they mean is read here.
@@ -24,7 +24,5 @@ mod usage;
 pub use dashes::is_dashed;
 pub use numbers::{decimal, is_port};
 pub use orders::{NewToken, Order, TokenSource, read_order};
-pub use parameters::Shape;
 pub use reports::read_report;
-pub use subcommands::with_orders;
-pub use usage::read_words;
+pub use usage::{read_line, read_words};

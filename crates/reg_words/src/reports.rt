@@ -4,9 +4,12 @@ ghost use Rattle.std.specs.Prelude.{◌≡◌, IfSome, option_map};
 ghost use Rattle.reg_model.specs.Events.Event.{Order};
 ghost use Rattle.reg_model.specs.Steps.{IsFit};
 ghost use Rattle.reg_policy.specs.Events.{command_of};
+ghost use Rattle.reg_words.specs.declared.parameters.Shape.TheVariants.{Program};
+ghost use Rattle.reg_words.specs.Grammar.{plain_levels, report_words, with_levels};
+ghost use Rattle.reg_words.specs.Making.{Adds};
 ghost use Rattle.reg_words.specs.Orders.{given_by, report_command};
 
-use crate::parameters::{Entry, Shape, Words, subcommand};
+use crate::parameters::{Entry, Shape, Words, with_entries};
 use clap::{ArgMatches, Command};
 use reg_policy::AdminCommand;
 use std::alloc::{AllocError, Global};
@@ -42,12 +45,11 @@ const REPORTS: [Entry; 4] = [
 /// `with_reports` adds the subcommands that only report.
 pub(crate) fn with_reports<'a>(
     alloc: Global,
-    mut command: Command<'a>,
-) -> Result<Command<'a>, AllocError> {
-    for entry in REPORTS {
-        command = command.subcommand(subcommand(alloc, Shape::Program, entry)?)?;
-    }
-    Ok(command)
+    command: Command<'a>,
+) -> Result<Command<'a>, AllocError>
+    ensures { Adds (λ a. with_levels a (plain_levels Program report_words)) command.entry result }
+{
+    with_entries(alloc, Shape::Program, &REPORTS, command)
 }
 
 /// The report that a subcommand asks for, if it asks for one.

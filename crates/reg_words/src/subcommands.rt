@@ -1,6 +1,11 @@
 //! The subcommands that change a registry.
 
-use crate::parameters::{Entry, Shape, Words, option, subcommand};
+ghost use Rattle.std.specs.Prelude.{IfOk, [], ◌∷◌, ◌++◌, codes};
+ghost use Rattle.reg_words.specs.Grammar.{level, option_rule, order_levels, scope_rules, source_rules, with_levels, with_options, with_rules};
+ghost use Rattle.reg_words.specs.Making.{Adds, HasLevel};
+ghost use Rattle.reg_words.specs.declared.parameters.Words.TheVariants.{Login};
+
+use crate::parameters::{Entry, Shape, Words, option, subcommand, with_entries};
 use clap::Command;
 use std::alloc::{AllocError, Global};
 
@@ -85,13 +90,18 @@ const PLAIN: [Entry; 10] = [
 ];
 
 /// `user-add`.
-fn user_add<'a>(alloc: Global, shape: Shape) -> Result<Command<'a>, AllocError> {
+fn user_add<'a>(alloc: Global, shape: Shape) -> Result<Command<'a>, AllocError>
+    ensures { IfOk result (HasLevel (with_options (level shape (codes "user-add") Login)
+        (option_rule (codes "name") ∷ []))) }
+{
     let help = "The name that owner lists show: 1 to 100 printable ASCII characters";
-    subcommand(alloc, shape, USER_ADD)?.arg(option(alloc, "name", "TEXT", help))
+    subcommand(alloc, shape, &USER_ADD)?.arg(option(alloc, "name", "TEXT", help))
 }
 
 /// The options of `token-add` that say what it may do.
-fn with_scopes<'a>(alloc: Global, command: Command<'a>) -> Result<Command<'a>, AllocError> {
+fn with_scopes<'a>(alloc: Global, command: Command<'a>) -> Result<Command<'a>, AllocError>
+    ensures { Adds (λ a. with_rules a scope_rules) command.entry result }
+{
     let endpoints =
         "What it may do, one at least: publish-new, publish-update, yank, change-owners, separated \
          by commas";
@@ -103,40 +113,42 @@ fn with_scopes<'a>(alloc: Global, command: Command<'a>) -> Result<Command<'a>, A
 }
 
 /// The options of `token-add` that say where its text or its digest is from.
-fn with_source<'a>(alloc: Global, command: Command<'a>) -> Result<Command<'a>, AllocError> {
-    let random = "The file whose first 32 bytes make the token's text. Without it: /dev/urandom";
-    let digest = "The SHA-256 of the token's text, as 64 hex digits, in place of random bytes";
-    let digest = option(alloc, "digest", "HEX", digest).conflicts_with("random")?;
-    command
-        .arg(option(alloc, "random", "FILE", random))?
-        .arg(digest)
-}
-
-/// `token-add`.
-fn token_add<'a>(alloc: Global, shape: Shape) -> Result<Command<'a>, AllocError> {
-    let command = subcommand(alloc, shape, TOKEN_ADD)?;
-    with_source(alloc, with_scopes(alloc, command)?)
-}
-
-/// Those without options.
-fn with_plain<'a>(
-    alloc: Global,
-    shape: Shape,
-    mut command: Command<'a>,
-) -> Result<Command<'a>, AllocError> {
-    for entry in PLAIN {
-        command = command.subcommand(subcommand(alloc, shape, entry)?)?;
-    }
-    Ok(command)
-}
-
-/// `with_orders` adds the subcommands that a setup file may have too: all that change a registry.
-pub fn with_orders<'a>(
+fn with_source<'a>(
     alloc: Global,
     shape: Shape,
     command: Command<'a>,
-) -> Result<Command<'a>, AllocError> {
+) -> Result<Command<'a>, AllocError>
+    ensures { Adds (λ a. with_rules a (source_rules shape)) command.entry result }
+{
+    let random = "The file whose first 32 bytes make the token's text. Without it: /dev/urandom";
+    let digest = "The SHA-256 of the token's text, as 64 hex digits, in place of random bytes";
+    let digest = option(alloc, "digest", "HEX", digest);
+    match shape {
+        Shape::Setup => command.arg(digest),
+        Shape::Program => command
+            .arg(option(alloc, "random", "FILE", random))?
+            .arg(digest.conflicts_with("random")?),
+    }
+}
+
+/// `token-add`.
+fn token_add<'a>(alloc: Global, shape: Shape) -> Result<Command<'a>, AllocError>
+    ensures { IfOk result (HasLevel (with_options (level shape (codes "token-add") Login)
+        (scope_rules ++ source_rules shape))) }
+{
+    let command = subcommand(alloc, shape, &TOKEN_ADD)?;
+    with_source(alloc, shape, with_scopes(alloc, command)?)
+}
+
+/// `with_orders` adds the subcommands that a setup file may have too: all that change a registry.
+pub(crate) fn with_orders<'a>(
+    alloc: Global,
+    shape: Shape,
+    command: Command<'a>,
+) -> Result<Command<'a>, AllocError>
+    ensures { Adds (λ a. with_levels a (order_levels shape)) command.entry result }
+{
     let command = command.subcommand(user_add(alloc, shape)?)?;
     let command = command.subcommand(token_add(alloc, shape)?)?;
-    with_plain(alloc, shape, command)
+    with_entries(alloc, shape, &PLAIN, command)
 }

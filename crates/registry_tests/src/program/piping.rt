@@ -58,6 +58,7 @@ user-add -- carol
 user-add carol --name -x
 user-add carol --name=-x
 token-add ada --endpoints yank
+token-add ada --endpoints yank --random /dev/zero
 token-revoke 4294967296
 init --base http://127.0.0.1:8080
 access a";

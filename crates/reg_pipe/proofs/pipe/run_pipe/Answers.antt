@@ -1,8 +1,6 @@
-use Rattle.std.proofs.Common.{inl, inr, length, refl, subst, Err}
-use Rattle.reg_service.specs.Registries.{limits_of, tables_of}
+use Rattle.std.proofs.Common.{inl, inr, refl, subst}
+use Rattle.reg_service.specs.Registries.{tables_of}
 use Rattle.reg_http.specs.Streams.{Serves}
-use Rattle.reg_pipe.specs.Lines.{lines_in}
-use Rattle.reg_pipe.specs.Setups.{IsSetUp}
 use Rattle.reg_pipe.proofs.pipe.run_pipe.Goals as goal
 
 pub returns-in-Err-clause-piped : goal.returns-in-Err-clause-piped
