@@ -1,7 +1,8 @@
 //! All subcommands of the program, with their help, and those of a setup file.
 
-ghost use Rattle.std.specs.Prelude.{IfOk, [], ◌≡◌, ◌∷◌, ◌++◌, codes, map, string_bytes};
-ghost use Rattle.clap.specs.Words.{subcommand_of, subcommand_rows_of};
+ghost use Rattle.std.specs.Prelude.{IfErr, IfOk, [], ◌≡◌, ◌∷◌, ◌++◌, codes, map, string_bytes, true};
+ghost use Rattle.clap.specs.Words.{kind_of, subcommand_of, subcommand_rows_of, takes};
+ghost use Rattle.clap.specs.declared.error.kind.ErrorKind.TheVariants.{OutOfMemory};
 ghost use Rattle.reg_words.specs.Grammar.{IsJudged, file_rule, named_level, needed_rule, number_rules, option_rule, other_levels, place_rules, program_app, program_top, setup_app, setup_top, with_levels, with_rules, word_rule};
 ghost use Rattle.reg_words.specs.Making.{Adds, HasLevel, HasRules};
 
@@ -185,8 +186,11 @@ fn command<'a>(alloc: Global) -> Result<Command<'a>, AllocError>
 
 /// Judges the program's words, its own name first.
 pub fn read_words<'a>(alloc: Global, words: &'a [String]) -> Result<ArgMatches<'a>, Error>
-    ensures { IfOk result (λ m. subcommand_rows_of m
+    ensures reads { IfOk result (λ m. subcommand_rows_of m
         ≡ subcommand_of program_app (map (λ w. string_bytes w) words.entry.now)) }
+    ensures passes { IfErr result (λ e.
+        takes program_app (map (λ w. string_bytes w) words.entry.now) ≡ true
+        → kind_of e ≡ OutOfMemory) }
 {
     command(alloc)?.try_get_matches_from(words)
 }
