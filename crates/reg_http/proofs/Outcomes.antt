@@ -8,7 +8,7 @@ use Rattle.reg_model.specs.Events.{Answer, Asked}
 use Rattle.reg_model.specs.Registry as model
 use Rattle.reg_model.specs.Registry.{Text}
 use Rattle.reg_model.specs.Steps.{IsFit}
-use Rattle.reg_receiving.specs.Turns.{Sends, Streams}
+use Rattle.reg_receiving.specs.Turns.{Sends}
 use Rattle.reg_receiving.proofs.Replies.{answer_some}
 use Rattle.reg_receiving.specs.declared.fault.StreamFault.{StreamFault}
 use Rattle.reg_receiving.specs.declared.fault.StreamFault.TheVariants.{Memory, ReadFault, StoreFault, TooManyTurns, WriteFault}
@@ -29,7 +29,8 @@ use Rattle.reg_streaming.specs.Streams as stream
 use Rattle.reg_streaming.specs.declared.fault.IndexFault.{IndexFault}
 use Rattle.reg_streaming.specs.declared.fault.IndexFault.TheVariants.{Spent, Store, Write}
 use Rattle.reg_tables.specs.declared.tables.Tables.{Tables}
-use Rattle.reg_http.specs.Answering.{Replies, fault_text}
+use Rattle.reg_http.specs.Answering.{Replies, Streams, fault_text}
+use Rattle.reg_http.specs.Exchanges.{IsOfFile, Outcome}
 use Rattle.reg_http.specs.Exchanges.Outcome.{Answered, NoMethod, NoRoom, NoRoute, Unread}
 use Rattle.reg_receiving.specs.Begun.{is_head}
 use Rattle.reg_routes.specs.Routed.{IsRouted}
@@ -41,13 +42,13 @@ pub none_below : (n : ℕ) → n ≡ 0 → 0 < n → ⊥
 none_below n is lt = omega (arith, is, lt)
 
 -- a text that was sent is one whose sending may stop for the store too
-pub streams_of : (text : Text) (old new : Option Text) (r : Result (Unit {0}) StreamFault) → Sends text old new r → Streams text old new r
-streams_of text old new (Ok u) x = x
-streams_of text old new (Err WriteFault) x = x
-streams_of text old new (Err TooManyTurns) x = x
-streams_of text old new (Err ReadFault) x = absurd x
-streams_of text old new (Err StoreFault) x = absurd x
-streams_of text old new (Err Memory) x = absurd x
+pub streams_of : (o : Outcome) (text : Text) (old new : Option Text) (r : Result (Unit {0}) StreamFault) → Sends text old new r → Streams o text old new r
+streams_of o text old new (Ok u) x = x
+streams_of o text old new (Err WriteFault) x = x
+streams_of o text old new (Err TooManyTurns) x = x
+streams_of o text old new (Err ReadFault) x = absurd x
+streams_of o text old new (Err StoreFault) x = absurd x
+streams_of o text old new (Err Memory) x = absurd x
 
 file_fit : (limits : Limits) (token : Option Text) (w : Wanted) → AsksForFile w → IsFit (event_of (request_from limits token (wants_of w)))
 file_fit limits token (wanted.Index path) h = tt
@@ -61,9 +62,21 @@ file_fit limits token (wanted.AddOwners n b) h = absurd h
 file_fit limits token (wanted.RemoveOwners n b) h = absurd h
 file_fit limits token (wanted.Search q) h = absurd h
 
+file_is : (a : Answer) (w : Wanted) → AsksForFile w → IsOfFile (Answered (wants_of w) a)
+file_is a (wanted.Index path) h = tt
+file_is a wanted.Config h = absurd h
+file_is a (wanted.Download n v) h = absurd h
+file_is a (wanted.Publish b) h = absurd h
+file_is a (wanted.ListOwners n) h = absurd h
+file_is a (wanted.Yank n v) h = absurd h
+file_is a (wanted.Unyank n v) h = absurd h
+file_is a (wanted.AddOwners n b) h = absurd h
+file_is a (wanted.RemoveOwners n b) h = absurd h
+file_is a (wanted.Search q) h = absurd h
+
 module _ {S : Type 0} (g : Ghosts S) (limits : Limits) (s : model.Registry) (f : Facts) (token : Option Text) (same : f.token ≡ token) (close : Bool) (old new : Tables S) (w0 w1 : Option Text) (r : Result (Unit {0}) StreamFault) where
   pub answered : (w : Wants) → IsFit (event_of (request_from limits token w)) → (a : Answer) → Answers g limits s (event_of (request_from limits token w)) a old new
-      → Streams (answer_text (asked_from limits w) a close) w0 w1 r → Replies g limits f (to_wants w) close s old new w0 w1 r
+      → Streams (Answered w a) (answer_text (asked_from limits w) a close) w0 w1 r → Replies g limits f (to_wants w) close s old new w0 w1 r
   answered w fit a it sends = record {
     outcome = Answered w a;
     leads = refl;
@@ -81,12 +94,12 @@ module _ {S : Type 0} (g : Ghosts S) (limits : Limits) (s : model.Registry) (f :
       → (a : Answer) → Says (asked_from limits w) a reply → Answers g limits s (event_of (request_from limits token w)) a old new
       → Sends (reply_text reply close false) w0 w1 r → Replies g limits f (to_wants w) close s old new w0 w1 r
   handled law w reply (inl fit) a says it sends =
-      answered w fit a it (subst (λ t. Streams t w0 w1 r) (law (asked_from limits w) a reply close says) (streams_of (reply_text reply close false) w0 w1 r sends))
+      answered w fit a it (subst (λ t. Streams (Answered w a) t w0 w1 r) (law (asked_from limits w) a reply close says) (streams_of (Answered w a) (reply_text reply close false) w0 w1 r sends))
   handled law w reply (inr (denied, kept)) a says it sends = record {
     outcome = Unread w;
     leads = refl;
     moves = kept;
-    sends = subst (λ it. Streams (reply_text it close false) w0 w1 r) denied (streams_of (reply_text reply close false) w0 w1 r sends);
+    sends = subst (λ it. Streams (Unread w) (reply_text it close false) w0 w1 r) denied (streams_of (Unread w) (reply_text reply close false) w0 w1 r sends);
   }
 
 module _ {S : Type 0} (g : Ghosts S) (limits : Limits) (s : model.Registry) (f : Facts) (token : Option Text) (same : f.token ≡ token) (w : Wanted) (file : AsksForFile w) (close : Bool) (old new : Tables S) (writes : ℕ) (before after : Sink) where
@@ -109,14 +122,22 @@ module _ {S : Type 0} (g : Ghosts S) (limits : Limits) (s : model.Registry) (f :
   pub file_spent : Told (Err Spent) → IsSo (Err TooManyTurns)
   file_spent (a, sends, it) = answered g limits s f token same close old new before.contents after.contents (Err TooManyTurns) (wants_of w) (file_fit limits token w file) a it sends.front
 
-  pub file_broken : Told (Err Store) → IsSo (Err StoreFault)
-  file_broken (a, sends, it) =
-      answered g limits s f token same close old new before.contents after.contents (Err StoreFault) (wants_of w) (file_fit limits token w file) a it
-      (record { front = sends.front; rest = sends.rest; whole = sends.whole; appends = sends.sends.all })
+  pub file_broken : before.calls < after.calls → Told (Err Store) → IsSo (Err StoreFault)
+  file_broken begun (a, sends, it) =
+      answered g limits s f token same close old new before.contents after.contents (Err StoreFault) (wants_of w) (file_fit limits token w file) a it (
+        file_is a w file,
+        record {
+          front = sends.front;
+          rest = sends.rest;
+          whole = sends.whole;
+          some = sends.sends.sent (omega (arith, sends.sends.calls, begun));
+          appends = sends.sends.all;
+        },
+      )
 
 -- the request is not routed
 pub unrouted : {S : Type 0} (g : Ghosts S) (limits : Limits) (s : model.Registry) (f : Facts) (token : Option Text) (there : Routing) (close : Bool) (now : Tables S) (w0 w1 : Option Text) (r : Result (Unit {0}) StreamFault)
     → (fault : RouteFault) → IsRouted token there (Err fault) → Sends (fault_text fault close (is_head f)) w0 w1 r → Replies g limits f there close s now now w0 w1 r
-unrouted g limits s f token there close now w0 w1 r route.NoRoute is sends = record { outcome = NoRoute; leads = is; moves = refl; sends = streams_of (refusal_text rule.H6 None close (is_head f)) w0 w1 r sends }
-unrouted g limits s f token there close now w0 w1 r (route.Method m) is sends = record { outcome = NoMethod m; leads = is; moves = refl; sends = streams_of (refusal_text rule.H7 (Some m) close (is_head f)) w0 w1 r sends }
-unrouted g limits s f token there close now w0 w1 r route.Memory is sends = record { outcome = NoRoom; leads = tt; moves = refl; sends = streams_of (refusal_text rule.S1 None close (is_head f)) w0 w1 r sends }
+unrouted g limits s f token there close now w0 w1 r route.NoRoute is sends = record { outcome = NoRoute; leads = is; moves = refl; sends = streams_of NoRoute (refusal_text rule.H6 None close (is_head f)) w0 w1 r sends }
+unrouted g limits s f token there close now w0 w1 r (route.Method m) is sends = record { outcome = NoMethod m; leads = is; moves = refl; sends = streams_of (NoMethod m) (refusal_text rule.H7 (Some m) close (is_head f)) w0 w1 r sends }
+unrouted g limits s f token there close now w0 w1 r route.Memory is sends = record { outcome = NoRoom; leads = tt; moves = refl; sends = streams_of NoRoom (refusal_text rule.S1 None close (is_head f)) w0 w1 r sends }

@@ -14,7 +14,7 @@ use Rattle.reg_model.specs.Registry.{Text}
 use Rattle.reg_receiving.specs.Begun.{IsBegun, IsRefused, interim_of, is_head}
 use Rattle.reg_receiving.specs.Taking.{HasBegun, IsCutOff, Keeps, Reads, Takes}
 use Rattle.reg_body.specs.Counting.{CountedEnd}
-use Rattle.reg_receiving.specs.Turns.{Sends, SpendsFor, SpendsSome, Streams, tally, writes_of}
+use Rattle.reg_receiving.specs.Turns.{Sends, SpendsFor, SpendsSome, tally, writes_of}
 use Rattle.reg_receiving.specs.declared.fault.StreamFault.{StreamFault}
 use Rattle.reg_receiving.specs.declared.fault.StreamFault.TheVariants.{Memory, ReadFault, StoreFault, TooManyTurns, WriteFault}
 use Rattle.reg_receiving.specs.declared.taking.Begun.{Begun}
@@ -26,8 +26,8 @@ use Rattle.reg_service.specs.Answered.{LeavesAlone, Shows}
 use Rattle.reg_service.specs.Sequences.{Ran}
 use Rattle.reg_tables.specs.declared.tables.Tables.{Tables}
 use Rattle.reg_tables.specs.Works.{shown}
-use Rattle.reg_http.specs.Answering.{Replies}
-use Rattle.reg_http.specs.Exchanges.{Exchange, IsExchange, answers_in, closes, events_in, outcome_text}
+use Rattle.reg_http.specs.Answering.{AppendsSome, Replies}
+use Rattle.reg_http.specs.Exchanges.{Exchange, IsExchange, IsOfFile, answers_in, closes, events_in, outcome_text, reply_of}
 use Rattle.reg_http.specs.Streams.{Goes, HasRun, IsEnded, IsOpen, IsServed, IsStopped, Serves, closing_text, told}
 use Rattle.reg_http.proofs.Exchanged.{EventsGoOn, goes_front, goes_push, goes_read, run_on}
 
@@ -281,6 +281,32 @@ module _ {S : Type 0} (g : Ghosts S) (limits : Limits) (s : model.Registry) wher
               },
             )
 
+        -- the reply of an index file was broken off
+        reply_broken : IsOfFile replies.outcome → AppendsSome (outcome_text limits f close replies.outcome) w2 w3 → Serves g limits s new r0 r2 w0 w3 (Err StoreFault)
+        reply_broken file begun = (
+          h.read ++ bytes,
+          h.written ++ (interim_of f ++ begun.front),
+          consumes bytes consumed,
+          subst (Appends w0 w3) (append_assoc h.written (interim_of f) begun.front)
+              (Appends-trans w0 w2 w3 (h.written ++ interim_of f) begun.front (appends bytes consumed (interim_of f) asked_on) begun.appends),
+          record {
+            done = h.done;
+            last = this;
+            later = later;
+            before = h.written;
+            front = begun.front;
+            back = begun.rest;
+            number = count;
+            goes = goes_whole;
+            exchange = exchange;
+            of_file = file;
+            reply = ap (λ c. reply_of limits c this) (sym close_is) ∙ begun.whole;
+            some = begun.some;
+            wrote = refl;
+            run = run;
+          },
+        )
+
       -- what the registry replied, whatever it held
       abbrev IsReplying : Result (Unit {0}) StreamFault → Type 0
       IsReplying result = (t : model.Registry) → Shows t (shown g now) → Replies g limits f (routing_of f (drop f.len message)) close t now new w2 w3 result
@@ -295,7 +321,7 @@ module _ {S : Type 0} (g : Ghosts S) (limits : Limits) (s : model.Registry) wher
 
       pub reply_failed : (fault : StreamFault) → IsReplying (Err fault) → Serves g limits s new r0 r2 w0 w3 (Err fault)
       reply_failed WriteFault all = let (t, ran) = h.run in let it = all t ran.shows in reply_cut t (Err WriteFault) ran it it.sends
-      reply_failed StoreFault all = let (t, ran) = h.run in let it = all t ran.shows in reply_cut t (Err StoreFault) ran it it.sends
+      reply_failed StoreFault all = let (t, ran) = h.run in let it = all t ran.shows in reply_broken t (Err StoreFault) ran it it.sends.0 it.sends.1
       reply_failed TooManyTurns all =
           let (t, ran) = h.run in
           let it = all t ran.shows in
@@ -346,6 +372,6 @@ module _ {R W : Type 0} (r : CountedEnd R) (w0 w1 : CountedEnd W) (had left : �
   pub wrote_for : (f : StreamFault) → SpendsFor had left (writes_of w0) (writes_of w1) f → SpendsFor had left (tally r w0) (tally r w1) f
   wrote_for ReadFault it = absurd (omega (arith, it.reads_are))
   wrote_for WriteFault it = record { turns = omega (arith, it.turns); reads_are = omega arith; writes_are = it.writes_are }
-  wrote_for StoreFault it = record { turns = omega (arith, it.turns); reads_are = omega arith; writes_are = it.writes_are }
+  wrote_for StoreFault it = record { turns = omega (arith, it.turns); begun = it.begun; failed_reads = refl; failed_writes = it.failed_writes }
   wrote_for TooManyTurns it = record { turns = omega (arith, it.turns); failed_reads = refl; failed_writes = it.failed_writes }
   wrote_for Memory it = wrote_some it

@@ -1,5 +1,6 @@
 -- One request is answered.
-use Rattle.std.specs.Prelude.{◌≡◌, Bool, None, Option, Result, Some}
+use Rattle.std.specs.Prelude.{◌≡◌, ◌<◌, ◌++◌, Bool, length, None, Option, Result, Err, Some}
+use Rattle.std.specs.Io.KnownBytes.{Appends}
 use Rattle.std.specs.Option.{option_map}
 use Rattle.sqlite.specs.State.{HasCleanDisk}
 use Rattle.sqlite_trees.specs.declared.store.Store.{Ghosts}
@@ -9,8 +10,9 @@ use Rattle.reg_model.specs.declared.rule.Rule.TheVariants as rule
 use Rattle.reg_model.specs.Registry as model
 use Rattle.reg_model.specs.Steps.{IsFit}
 use Rattle.reg_model.specs.Registry.{Text}
-use Rattle.reg_receiving.specs.Turns.{Streams}
+use Rattle.reg_receiving.specs.Turns.{Sends}
 use Rattle.reg_receiving.specs.declared.fault.StreamFault.{StreamFault}
+use Rattle.reg_receiving.specs.declared.fault.StreamFault.TheVariants.{StoreFault}
 use Rattle.reg_requests.specs.Requests.{request_from}
 use Rattle.reg_requests.specs.Views.{event_of}
 use Rattle.reg_requests.specs.Wants.{wants_of}
@@ -20,7 +22,7 @@ use Rattle.reg_service.specs.Registries.{limits_of, tables_of}
 use Rattle.reg_service.specs.declared.registry.Registry.{Registry}
 use Rattle.reg_tables.specs.declared.tables.Tables.{Tables}
 use Rattle.reg_tables.specs.Works.{shown}
-use Rattle.reg_http.specs.Exchanges.{IsOutcome, Outcome, outcome_text}
+use Rattle.reg_http.specs.Exchanges.{IsOfFile, IsOutcome, Outcome, outcome_text}
 use Rattle.reg_http.specs.Exchanges.Outcome.{Answered}
 use Rattle.reg_routes.specs.Routing.{Routing}
 use Rattle.reg_routes.specs.Routing.Routing.{Wants as to_wants}
@@ -35,6 +37,21 @@ Moves g limits s f (Answered w a) old new =
     let e = event_of (request_from limits f.token w) in IsFit e × Answers g limits s e a old new
 Moves g limits s f o old new = new ≡ old
 
+-- a front of the text was appended, and it is not empty
+pub record AppendsSome (text : Text) (old new : Option Text) : Type 0 where
+  pub front : Text
+  pub rest : Text
+  pub whole : text ≡ front ++ rest
+  pub some : 0 < length front
+  pub appends : Appends old new front
+
+-- What sending the text of an outcome did. The rows of an index file may fail to be read once its
+-- reply was begun.
+abbrev pub Streams : Outcome → Text → Option Text → Option Text → Result (Unit {0}) StreamFault
+    → Type 0
+Streams o text w0 w1 (Err StoreFault) = IsOfFile o × AppendsSome text w0 w1
+Streams o text w0 w1 r = Sends text w0 w1 r
+
 -- The request is answered by one of its outcomes, whose reply was sent, or a front of it.
 pub record Replies {S : Type 0} (g : Ghosts S) (limits : Limits) (f : Facts) (there : Routing)
     (close : Bool) (s : model.Registry) (old new : Tables S) (w0 w1 : Option Text)
@@ -42,7 +59,7 @@ pub record Replies {S : Type 0} (g : Ghosts S) (limits : Limits) (f : Facts) (th
   pub outcome : Outcome
   pub leads : IsOutcome there outcome
   pub moves : Moves g limits s f outcome old new
-  pub sends : Streams (outcome_text limits f close outcome) w0 w1 r
+  pub sends : Streams outcome (outcome_text limits f close outcome) w0 w1 r
 
 -- it is so whatever registry the tables held
 abbrev pub IsReplied : {S : Type 0} → Ghosts S → Limits → Facts → Routing → Bool → Tables S

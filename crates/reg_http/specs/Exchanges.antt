@@ -10,6 +10,7 @@ use Rattle.reg_replies.specs.declared.head.Methods.{Methods}
 use Rattle.reg_requests.specs.Requests.{asked_from, request_from}
 use Rattle.reg_requests.specs.Views.{event_of}
 use Rattle.reg_requests.specs.Wants.{Wants}
+use Rattle.reg_requests.specs.Wants.Wants.{Index}
 use Rattle.reg_routes.specs.Routing.{Routing, routing_of}
 use Rattle.reg_routes.specs.Routing.Routing.{NoRoute as to_no_route, NoMethod as to_no_method, Wants as to_wants}
 use Rattle.reg_receiving.specs.Begun.{is_head}
@@ -25,6 +26,11 @@ pub data Outcome : Type 0 where
   -- there was no room to route it, or to read what it wants
   NoRoom : Outcome
   Unread : Wants → Outcome
+
+-- it is the answer to a request for an index file
+abbrev pub IsOfFile : Outcome → Type 0
+IsOfFile (Answered (Index path) a) = Unit {0}
+IsOfFile _ = ⊥
 
 -- a request, what its head tells, and what it came to
 pub record Exchange : Type 0 where

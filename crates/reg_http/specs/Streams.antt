@@ -1,5 +1,5 @@
 -- What was read of a stream, and what was written for it.
-use Rattle.std.specs.Prelude.{◌≡◌, ◌⊎◌, ◌+◌, ◌≤◌, ◌++◌, ℕ, Bool, true, false, List, [], ◌∷◌, length, None, Option, Result, Ok, Err, All}
+use Rattle.std.specs.Prelude.{◌≡◌, ◌⊎◌, ◌+◌, ◌≤◌, ◌<◌, ◌++◌, ℕ, Bool, true, false, List, [], ◌∷◌, length, None, Option, Result, Ok, Err, All}
 use Rattle.std.specs.List.{flat_map}
 use Rattle.std.specs.Io.KnownBytes.{Appends, Consumes, IsAtEnd}
 use Rattle.sqlite_trees.specs.declared.store.Store.{Ghosts}
@@ -12,7 +12,7 @@ use Rattle.reg_sending.specs.Texts.{refusal_text}
 use Rattle.reg_service.specs.Sequences.{Ran}
 use Rattle.reg_tables.specs.declared.tables.Tables.{Tables}
 use Rattle.reg_receiving.specs.Begun.{IsBegun, IsRefused, interim_of}
-use Rattle.reg_http.specs.Exchanges.{Exchange, IsExchange, answers_in, closes, events_in, reply_of}
+use Rattle.reg_http.specs.Exchanges.{Exchange, IsExchange, IsOfFile, answers_in, closes, events_in, reply_of}
 use Rattle.reg_receiving.specs.declared.fault.StreamFault.{StreamFault}
 use Rattle.reg_receiving.specs.declared.fault.StreamFault.TheVariants.{Memory, ReadFault, StoreFault, TooManyTurns, WriteFault}
 
@@ -113,6 +113,24 @@ module _ {S : Type 0} (g : Ghosts S) (limits : Limits) (s : model.Registry) (now
     pub next : IsNext done rest number (front ++ back)
     pub wrote : written ≡ before ++ front
 
+  -- The store failed: after the exchanges, and the interim line of one more, which asks for an index
+  -- file, a front of its reply was written that is not empty.
+  pub record IsBrokenOff (read written : Text) : Type 0 where
+    pub done : List Exchange
+    pub last : Exchange
+    pub later : Text
+    pub before : Text
+    pub front : Text
+    pub back : Text
+    pub number : ℕ
+    pub goes : Goes limits done read before (last.message ++ later) number
+    pub exchange : IsExchange limits last
+    pub of_file : IsOfFile last.outcome
+    pub reply : reply_of limits (closes limits last.facts (number + 1)) last ≡ front ++ back
+    pub some : 0 < length front
+    pub wrote : written ≡ before ++ (interim_of last.facts ++ front)
+    pub run : HasRun (done ++ last ∷ [])
+
   -- nothing was read or written
   pub record IsUntouched (read written : Text) : Type 0 where
     pub nothing_read : read ≡ []
@@ -126,7 +144,7 @@ module _ {S : Type 0} (g : Ghosts S) (limits : Limits) (s : model.Registry) (now
       ⊎ (IsClosed read written count ⊎ IsCutShort read written count)
   IsServed read written at_end (Err ReadFault) = (count : ℕ) × IsEnded read written count
   IsServed read written at_end (Err WriteFault) = IsStopped read written
-  IsServed read written at_end (Err StoreFault) = IsStopped read written
+  IsServed read written at_end (Err StoreFault) = IsBrokenOff read written
   IsServed read written at_end (Err TooManyTurns) =
       ((count : ℕ) × IsEnded read written count) ⊎ IsStopped read written
   IsServed read written at_end (Err Memory) = IsUntouched read written

@@ -97,7 +97,7 @@ fn send_index<W: Write, S: Alter>(
 {
     match registry.stream_index(alloc, request, close, w, *left) {
         // No reply is empty.
-        Ok(0) => Err(StreamFault::StoreFault),
+        Ok(0) => Err(StreamFault::Memory),
         Ok(used) => {
             *left -= used;
             Ok(())

@@ -51,8 +51,9 @@ module _ (had mid left : ℕ) (s t u : Tally) (first : SpendsSome had mid s t) w
   }
   spends_for StoreFault more = record {
     turns = omega (arith, first.turns, more.turns);
-    reads_are = omega (arith, first.failed_reads, more.reads_are);
-    writes_are = omega (arith, first.failed_writes, more.writes_are);
+    begun = omega (arith, first.writes, more.begun);
+    failed_reads = more.failed_reads ∙ first.failed_reads;
+    failed_writes = more.failed_writes ∙ first.failed_writes;
   }
   spends_for TooManyTurns more = record {
     turns = omega (arith, first.turns, more.turns);

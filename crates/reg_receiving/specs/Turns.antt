@@ -1,6 +1,6 @@
 -- Turns: how many read and write calls a stream may make, and what sending does with those that
 -- are left.
-use Rattle.std.specs.Prelude.{◌≡◌, ◌+◌, ◌≤◌, ℕ, Option, Result, Ok, Err}
+use Rattle.std.specs.Prelude.{◌≡◌, ◌+◌, ◌≤◌, ◌<◌, ℕ, Option, Result, Ok, Err}
 use Rattle.std.specs.Io.KnownBytes.{Appends}
 use Rattle.reg_body.specs.Counting.{CountedEnd}
 use Rattle.reg_model.specs.Registry.{Text}
@@ -55,6 +55,13 @@ module _ (had left : ℕ) (old new : Tally) where
     pub reads_are : new.failed_reads ≡ old.failed_reads + failed_reads
     pub writes_are : new.failed_writes ≡ old.failed_writes + failed_writes
 
+  -- a write was made, and none failed
+  pub record SpendsBegun : Type 0 where
+    pub turns : new.reads + new.writes ≤ old.reads + old.writes + had
+    pub begun : old.writes < new.writes
+    pub failed_reads : new.failed_reads ≡ old.failed_reads
+    pub failed_writes : new.failed_writes ≡ old.failed_writes
+
   -- all turns were used up
   pub record SpendsAll : Type 0 where
     pub turns : new.reads + new.writes ≡ old.reads + old.writes + had
@@ -65,7 +72,7 @@ module _ (had left : ℕ) (old new : Tally) where
   abbrev pub SpendsFor : StreamFault → Type 0
   SpendsFor ReadFault = SpendsUntil 1 0
   SpendsFor WriteFault = SpendsUntil 0 1
-  SpendsFor StoreFault = SpendsUntil 0 0
+  SpendsFor StoreFault = SpendsBegun
   SpendsFor TooManyTurns = SpendsAll
   SpendsFor Memory = SpendsSome
 
@@ -81,11 +88,3 @@ module _ (text : Text) (old new : Option Text) where
   Sends (Err WriteFault) = AppendsFront text old new
   Sends (Err TooManyTurns) = AppendsFront text old new
   Sends (Err fault) = ⊥
-
-  -- the same of an index file, whose rows may fail to be read
-  abbrev pub Streams : {A : Type 0} → Result A StreamFault → Type 0
-  Streams (Ok a) = Appends old new text
-  Streams (Err WriteFault) = AppendsFront text old new
-  Streams (Err TooManyTurns) = AppendsFront text old new
-  Streams (Err StoreFault) = AppendsFront text old new
-  Streams (Err fault) = ⊥

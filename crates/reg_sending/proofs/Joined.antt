@@ -69,6 +69,11 @@ some_behind : (m n used more : ℕ) → (0 < m → 0 < used) → (0 < n → 0 < 
 some_behind zero n used more x y h = omega (arith, y (omega arith))
 some_behind (suc m) n used more x y h = omega (arith, x (omega arith))
 
+sent_behind : (m n used more : ℕ) → (0 < used → 0 < m) → (0 < more → 0 < n) → 0 < used + more
+    → 0 < m + n
+sent_behind m n zero more x y h = omega (arith, y (omega arith))
+sent_behind m n (suc used) more x y h = omega (arith, x (omega arith))
+
 pub all_behind : (a b : List ℕ) (writes used more : ℕ) (s t u : Sink) → SendsAll a writes used s t
     → SendsAll b (writes - used) more t u → SendsAll (a ++ b) writes (used + more) s u
 all_behind a b writes used more s t u x y = record {
@@ -76,6 +81,8 @@ all_behind a b writes used more s t u x y = record {
   within = omega (arith, x.within, y.within);
   some = λ h. some_behind (length a) (length b) used more x.some y.some
       (rw (length-append a b) at h);
+  sent = λ h. rw (length-append a b)
+      (sent_behind (length a) (length b) used more x.sent y.sent h);
   calls = omega (arith, x.calls, y.calls);
   failures = y.failures ∙ x.failures;
 }
@@ -93,6 +100,7 @@ sends_nothing writes s = record {
   all = Appends-nil s.contents;
   within = omega arith;
   some = λ h. absurd (omega (arith, h));
+  sent = λ h. absurd (omega (arith, h));
   calls = omega arith;
   failures = refl;
 }

@@ -22,11 +22,12 @@ pub record AppendsFront (text : List ℕ) (old new : Option (List ℕ)) : Type 0
   pub whole : text ≡ front ++ rest
   pub appends : Appends old new front
 
--- all of the text was appended, in this number of calls
+-- all of the text was appended, in this number of calls: none where there was nothing to append
 pub record SendsAll (text : List ℕ) (writes used : ℕ) (old new : Sink) : Type 0 where
   pub all : Appends old.contents new.contents text
   pub within : used ≤ writes
   pub some : 0 < length text → 0 < used
+  pub sent : 0 < used → 0 < length text
   pub calls : new.calls ≡ old.calls + used
   pub failures : new.failures ≡ old.failures
 

@@ -62,6 +62,7 @@ all_then text writes used s t u x y = record {
   all = Appends-trans s.contents t.contents u.contents [] text x.contents y.all;
   within = y.within;
   some = y.some;
+  sent = y.sent;
   calls = y.calls ∙ ap (λ n. n + used) x.calls;
   failures = y.failures ∙ x.failures;
 }
