@@ -3,10 +3,10 @@ use Rattle.std.proofs.Common.{◌≡◌, inl, false, arith, Ok, Err, Result, ref
 use Rattle.sqlite.specs.State.{State, HasCleanDisk, Survives}
 use Rattle.sqlite.proofs.StateLemmas.{survives_then}
 use Rattle.sqlite_trees.specs.declared.store.Store.{Ghosts}
-use Rattle.reg_schema.specs.States.{IsInside}
+use Rattle.reg_tables_schema.specs.States.{IsInside}
 use Rattle.reg_tables.specs.declared.work.Work.{Work}
 use Rattle.reg_tables.specs.Works.{IsAtWork, IsCall, has_failed, seen}
-use Rattle.reg_stored.proofs.Withins.{fails_after, itself_within, within_then}
+use Rattle.reg_tables_meaning.proofs.Withins.{fails_after, itself_within, within_then}
 
 survives_itself : (a : State) → Survives a a (λ _. ⊥)
 survives_itself a = record { clean = omega arith; shield = λ h. h; counts = omega arith; limit = refl; closes = λ _ h. inl h; crash = λ _ db h. inl h }

@@ -22,17 +22,17 @@ use Rattle.reg_model.specs.Crates.{collides, first, has_crate, is_among, owners,
 use Rattle.reg_model.specs.Sound.{Sound}
 use Rattle.reg_model.proofs.Lists.{any_filter, any_same, is_some_find, not_true, true_not_false}
 use Rattle.reg_model.proofs.Members.{IsIn, any_in, in_any, in_filter, none_pass, one_passes}
-use Rattle.reg_schema.proofs.Permutes.{one_row}
-use Rattle.reg_schema.proofs.Queries.{equals_int, equals_text, same_filter}
-use Rattle.reg_schema.specs.Tests.{is_number, is_owner}
-use Rattle.reg_stored.specs.Stands.{Ids, StandCrates, StandPairs, StandsBy, StoredCrate, StoredVersion, row_of_crate}
-use Rattle.reg_stored.specs.Changes.{told_of}
-use Rattle.reg_stored.proofs.AccountEntries.{same_text}
-use Rattle.reg_stored.proofs.CrateLemmas.{bytes_same, crate_of, one_by_canon, same_bytes, spelled_at, version_of}
-use Rattle.reg_stored.proofs.MarkedStand.{is_marked}
-use Rattle.reg_stored.proofs.Numbered.{one_at}
-use Rattle.reg_stored.proofs.PairChanges as pairs
-use Rattle.reg_stored.proofs.Standing.{none_row}
+use Rattle.reg_tables_schema.proofs.Permutes.{one_row}
+use Rattle.reg_tables_schema.proofs.Queries.{equals_int, equals_text, same_filter}
+use Rattle.reg_tables_schema.specs.Tests.{is_number, is_owner}
+use Rattle.reg_tables_meaning.specs.Stands.{Ids, StandCrates, StandPairs, StandsBy, StoredCrate, StoredVersion, row_of_crate}
+use Rattle.reg_tables_meaning.specs.Changes.{told_of}
+use Rattle.reg_tables_meaning.proofs.AccountEntries.{same_text}
+use Rattle.reg_tables_meaning.proofs.CrateLemmas.{bytes_same, crate_of, one_by_canon, same_bytes, spelled_at, version_of}
+use Rattle.reg_tables_meaning.proofs.MarkedStand.{is_marked}
+use Rattle.reg_tables_meaning.proofs.Numbered.{one_at}
+use Rattle.reg_tables_meaning.proofs.PairChanges as pairs
+use Rattle.reg_tables_meaning.proofs.Standing.{none_row}
 use Rattle.reg_access.specs.JoinRows.{beside_all, crates_seen_by, is_mark_of, is_pair_of, value_at}
 use Rattle.reg_access.specs.Laws.{TellsCrate}
 use Rattle.reg_access.proofs.Nulls.{none_any, not_null}

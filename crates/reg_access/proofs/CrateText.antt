@@ -15,9 +15,9 @@ use Rattle.sqlite_schema.specs.Rules.{equal}
 use Rattle.sqlite_sql.specs.declared.ops.BinaryOp.TheVariants.{Compare}
 use Rattle.sqlite_sql.specs.declared.ops.CompareOp.TheVariants.{Eq}
 use Rattle.sqlite_tied.specs.Compute.{everything}
-use Rattle.reg_schema.specs.Schema.{ours}
-use Rattle.reg_schema.proofs.Queries.{plain, answers, and_true, same_filter}
-use Rattle.reg_schema.proofs.Reading.{IsSelection}
+use Rattle.reg_tables_schema.specs.Schema.{ours}
+use Rattle.reg_tables_schema.proofs.Queries.{plain, answers, and_true, same_filter}
+use Rattle.reg_tables_schema.proofs.Reading.{IsSelection}
 use Rattle.reg_access.specs.JoinRows.{beside_all, crates_seen_by, is_mark_of, is_pair_of}
 use Rattle.reg_access.proofs.Joins.{joined_thrice, same_join}
 

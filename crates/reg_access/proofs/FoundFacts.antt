@@ -12,9 +12,9 @@ use Rattle.reg_model.specs.Rules.{access}
 use Rattle.reg_model.specs.declared.rule.Rule.TheVariants as rule
 use Rattle.reg_policy.specs.Views.{decision_of}
 use Rattle.reg_policy.specs.declared.action.Decision.{Decision}
-use Rattle.reg_schema.specs.Rows.{mark}
-use Rattle.reg_statements.specs.declared.tokens.TokenRow.{TokenRow}
-use Rattle.reg_statements.specs.Tokens.{columns_with_account, tokens_with_accounts}
+use Rattle.reg_tables_schema.specs.Rows.{mark}
+use Rattle.reg_tables_sql.specs.declared.tokens.TokenRow.{TokenRow}
+use Rattle.reg_tables_sql.specs.Tokens.{columns_with_account, tokens_with_accounts}
 use Rattle.reg_access.specs.declared.found.CrateRow.{CrateRow}
 use Rattle.reg_access.specs.declared.finding.Found.{Found}
 use Rattle.reg_access.specs.Found.{AreFound, facts_found, is_owned, is_visible, number_or_null, rows_of, scopes_asked, spelling_in}

@@ -5,9 +5,9 @@ use Rattle.std.specs.declared.alloc.Global.{Global}
 use Rattle.sqlite.specs.State.{Shown}
 use Rattle.sqlite.specs.declared.types.Value.TheVariants.{Text}
 use Rattle.sqlite_trees.specs.declared.store.Store.{Ghosts}
-use Rattle.reg_schema.proofs.Reading.{selected}
-use Rattle.reg_statements.specs.Tokens.{columns_with_account}
-use Rattle.reg_statements.specs.declared.tokens.TokenRow.{TokenRow}
+use Rattle.reg_tables_schema.proofs.Reading.{selected}
+use Rattle.reg_tables_sql.specs.Tokens.{columns_with_account}
+use Rattle.reg_tables_sql.specs.declared.tokens.TokenRow.{TokenRow}
 use Rattle.reg_tables.specs.declared.work.StoreFault.{StoreFault}
 use Rattle.reg_tables.specs.declared.work.Work.{Work}
 use Rattle.reg_tables.specs.Works.{Heard, IsAtWork, IsCall, Unmoved, rows_seen, seen}

@@ -11,15 +11,15 @@ use Rattle.reg_model.specs.Crates.{collides, exists, first, is_among, is_reserve
 use Rattle.reg_model.specs.Grants.{grants}
 use Rattle.reg_model.specs.Registry.{Account as Of, Publication, Registry, Text as Words}
 use Rattle.reg_model.proofs.Lists.{any_filter, any_same, is_some_find, list_any_map, not_true, true_not_false}
-use Rattle.reg_schema.proofs.Queries.{maps_twice}
-use Rattle.reg_statements.specs.declared.accounts.Account.{Account}
-use Rattle.reg_statements.specs.declared.crates.Crate.{Crate}
-use Rattle.reg_statements.specs.declared.tokens.TokenRow.{TokenRow}
-use Rattle.reg_stored.proofs.CrateLemmas.{same_bytes}
-use Rattle.reg_stored.specs.Calls.{FindsCrate}
-use Rattle.reg_stored.specs.Changes.{told_of as told_where}
-use Rattle.reg_stored.specs.Entries.{entry_of_account}
-use Rattle.reg_stored.specs.Stands.{Holds, Ids}
+use Rattle.reg_tables_schema.proofs.Queries.{maps_twice}
+use Rattle.reg_tables_sql.specs.declared.accounts.Account.{Account}
+use Rattle.reg_tables_sql.specs.declared.crates.Crate.{Crate}
+use Rattle.reg_tables_sql.specs.declared.tokens.TokenRow.{TokenRow}
+use Rattle.reg_tables_meaning.proofs.CrateLemmas.{same_bytes}
+use Rattle.reg_tables_meaning.specs.Calls.{FindsCrate}
+use Rattle.reg_tables_meaning.specs.Changes.{told_of as told_where}
+use Rattle.reg_tables_meaning.specs.Entries.{entry_of_account}
+use Rattle.reg_tables_meaning.specs.Stands.{Holds, Ids}
 use Rattle.reg_access.specs.declared.granting.Standing.{Standing}
 use Rattle.reg_access.specs.declared.grants.Grant.{Grant}
 use Rattle.reg_access.specs.Grants.{AreCandidates, AreOwnersOf, IsStanding, Told, granted, is_free, told_by, told_of}

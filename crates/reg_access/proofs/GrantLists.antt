@@ -10,12 +10,12 @@ use Rattle.reg_model.specs.Crates.{is_among, owners as owners_in}
 use Rattle.reg_model.specs.Grants.{all_endpoints, grants, has_right, is_granted}
 use Rattle.reg_model.specs.Registry.{Registry, Text as Words, Token, is_enabled}
 use Rattle.reg_model.specs.Rules.{has_endpoint}
-use Rattle.reg_schema.proofs.Queries.{maps_twice, same_filter}
-use Rattle.reg_statements.specs.Tokens.{columns_with_account}
-use Rattle.reg_statements.specs.declared.accounts.Account.{Account}
-use Rattle.reg_statements.specs.declared.tokens.TokenRow.{TokenRow}
-use Rattle.reg_stored.proofs.AccountEntries.{heads, mark_is, number_is, tails, words_are}
-use Rattle.reg_stored.proofs.Selected.{each_part}
+use Rattle.reg_tables_schema.proofs.Queries.{maps_twice, same_filter}
+use Rattle.reg_tables_sql.specs.Tokens.{columns_with_account}
+use Rattle.reg_tables_sql.specs.declared.accounts.Account.{Account}
+use Rattle.reg_tables_sql.specs.declared.tokens.TokenRow.{TokenRow}
+use Rattle.reg_tables_meaning.proofs.AccountEntries.{heads, mark_is, number_is, tails, words_are}
+use Rattle.reg_tables_meaning.proofs.Selected.{each_part}
 use Rattle.reg_access.specs.Grants.{Told, granted, is_candidate, is_free, is_right, login_at, row_of_candidate, told_by}
 
 one_more : {X Y : Type 0} (b : Bool) (f : X → Y) (x : X) (xs : List X) → map f (cond b (x ∷ xs) xs) ≡ cond b (f x ∷ []) [] ++ map f xs

@@ -30,18 +30,18 @@ use Rattle.reg_model.specs.Registry.{Account, Registry, Text as Words, Token, wi
 use Rattle.reg_model.specs.Sound.{is_token}
 use Rattle.reg_model.proofs.Lists.{any_same}
 use Rattle.reg_model.proofs.Members.{IsIn}
-use Rattle.reg_schema.proofs.Permutes.{one_row}
-use Rattle.reg_schema.proofs.Queries.{and_true, equals_int, maps_twice, same_filter}
-use Rattle.reg_schema.proofs.Sorted.{rises, then_equal, unmapped}
-use Rattle.reg_schema.specs.Rows.{by_column, mark}
-use Rattle.reg_schema.specs.Tests.{shows}
-use Rattle.reg_statements.specs.Accounts.{account_row}
-use Rattle.reg_statements.specs.Tokens.{token_row}
-use Rattle.reg_stored.proofs.CrateNames.{kept}
-use Rattle.reg_stored.proofs.Numbered.{at_place, none_at, one_at}
-use Rattle.reg_stored.proofs.Selected.{column_total, places_rise}
-use Rattle.reg_stored.proofs.Standing.{same_number}
-use Rattle.reg_stored.specs.Stands.{Holds, Ids, row_of_account, row_of_token}
+use Rattle.reg_tables_schema.proofs.Permutes.{one_row}
+use Rattle.reg_tables_schema.proofs.Queries.{and_true, equals_int, maps_twice, same_filter}
+use Rattle.reg_tables_schema.proofs.Sorted.{rises, then_equal, unmapped}
+use Rattle.reg_tables_schema.specs.Rows.{by_column, mark}
+use Rattle.reg_tables_schema.specs.Tests.{shows}
+use Rattle.reg_tables_sql.specs.Accounts.{account_row}
+use Rattle.reg_tables_sql.specs.Tokens.{token_row}
+use Rattle.reg_tables_meaning.proofs.CrateNames.{kept}
+use Rattle.reg_tables_meaning.proofs.Numbered.{at_place, none_at, one_at}
+use Rattle.reg_tables_meaning.proofs.Selected.{column_total, places_rise}
+use Rattle.reg_tables_meaning.proofs.Standing.{same_number}
+use Rattle.reg_tables_meaning.specs.Stands.{Holds, Ids, row_of_account, row_of_token}
 use Rattle.reg_access.specs.Grants.{is_candidate, row_of_candidate}
 use Rattle.reg_access.specs.JoinRows.{is_at_most, is_below, is_scope_over, is_there, scopes_over}
 use Rattle.reg_access.proofs.Answered.{there_filtered}

@@ -9,9 +9,9 @@ use Rattle.sqlite_sql.specs.declared.ops.BinaryOp.TheVariants.{Compare}
 use Rattle.sqlite_sql.specs.declared.ops.CompareOp.TheVariants.{Eq, Le, Lt}
 use Rattle.sqlite_tied.specs.Compute.{everything}
 use Rattle.sqlite_value.specs.Keys.{ascending}
-use Rattle.reg_schema.specs.Schema.{ours}
-use Rattle.reg_schema.proofs.Reading.{IsSelection}
-use Rattle.reg_schema.proofs.Sorted.{in_order}
+use Rattle.reg_tables_schema.specs.Schema.{ours}
+use Rattle.reg_tables_schema.proofs.Reading.{IsSelection}
+use Rattle.reg_tables_schema.proofs.Sorted.{in_order}
 
 abbrev pub grant_text : List ℕ
 grant_text = codes "SELECT t.id, t.account, t.live, t.publish_new, t.publish_update, t.yank, t.change_owners, a.login, a.enabled FROM tokens t LEFT JOIN accounts a ON a.id = t.account WHERE t.live = 1 AND a.enabled = 1 AND EXISTS (SELECT 1 FROM scopes s WHERE s.token = t.id AND s.low <= ?1 AND ?1 < s.high) ORDER BY t.id"

@@ -20,8 +20,8 @@ use Rattle.reg_model.specs.Registry.{holds, token_of}
 use Rattle.reg_model.specs.Rules.{access}
 use Rattle.reg_model.specs.Sound.{Sound}
 use Rattle.reg_model.proofs.Lists.{is_some_find}
-use Rattle.reg_statements.specs.Tokens.{tokens_with_accounts}
-use Rattle.reg_stored.specs.Stands.{Ids, StandsBy}
+use Rattle.reg_tables_sql.specs.Tokens.{tokens_with_accounts}
+use Rattle.reg_tables_meaning.specs.Stands.{Ids, StandsBy}
 use Rattle.reg_access.specs.JoinRows.{crates_seen_by, is_shown, is_there, last_rows, scopes_over, text_in, value_at, versions_with_text}
 use Rattle.reg_access.specs.Laws.{TellsCrate, TellsToken}
 use Rattle.reg_access.specs.Verdict.{facts_in, is_always_reserved, is_fit, is_seen, join_rows, needs_scope, verdict_in}

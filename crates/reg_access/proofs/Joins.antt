@@ -1,7 +1,7 @@
 -- A join whose test is asked at its end, as its rows where each part of the test is asked as soon as it can be.
 use Rattle.std.proofs.Common.{◌≡◌, List, [], ◌∷◌, ◌++◌, map, Bool, true, false, ◌&&◌, cond, refl, ap, ◌∙◌}
 use Rattle.std.specs.List.{flat_map, filter}
-use Rattle.reg_schema.proofs.Queries.{shows_filtered, same_filter}
+use Rattle.reg_tables_schema.proofs.Queries.{shows_filtered, same_filter}
 
 none_pass : {D : Type 0} (ys : List D) → ◌≡◌ {A = List D} (filter (λ y. false) ys) []
 none_pass [] = refl

@@ -7,12 +7,12 @@ use Rattle.sqlite.specs.Query.{Query, IsSureAnswer}
 use Rattle.sqlite.specs.State.{HasCleanDisk, IsUnchanged, Shown}
 use Rattle.sqlite.specs.Tree.{Trees}
 use Rattle.sqlite_trees.specs.declared.store.Store.{Ghosts}
-use Rattle.reg_schema.specs.Schema.{ours}
-use Rattle.reg_schema.specs.Shown.{shown_of}
-use Rattle.reg_schema.specs.States.{IsInside}
-use Rattle.reg_schema.proofs.Reading.{IsSelection, selected}
-use Rattle.reg_schema.proofs.ShownRows.{shown_exactly}
-use Rattle.reg_stored.proofs.Readings.{same_then}
+use Rattle.reg_tables_schema.specs.Schema.{ours}
+use Rattle.reg_tables_schema.specs.Shown.{shown_of}
+use Rattle.reg_tables_schema.specs.States.{IsInside}
+use Rattle.reg_tables_schema.proofs.Reading.{IsSelection, selected}
+use Rattle.reg_tables_schema.proofs.ShownRows.{shown_exactly}
+use Rattle.reg_tables_meaning.proofs.Readings.{same_then}
 use Rattle.reg_tables.specs.declared.work.StoreFault.{StoreFault}
 use Rattle.reg_tables.specs.declared.work.Work.{Work}
 use Rattle.reg_tables.specs.Works.{Heard, IsAtWork, IsCall, Unmoved, has_failed, rows_seen, seen}

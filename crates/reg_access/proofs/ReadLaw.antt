@@ -11,12 +11,12 @@ use Rattle.reg_model.specs.Crates.{exists, is_restricted, readers as readers_in}
 use Rattle.reg_model.specs.Grants.{who_reads}
 use Rattle.reg_model.specs.Registry.{Text as Words}
 use Rattle.reg_model.proofs.Lists.{not_true, true_not_false}
-use Rattle.reg_statements.specs.declared.accounts.Account.{Account}
-use Rattle.reg_statements.specs.declared.crates.Crate.{Crate}
-use Rattle.reg_stored.specs.Calls.{FindsCrate, ListsReaders, TellsRestricted}
-use Rattle.reg_stored.specs.Changes.{told_of as told_where}
-use Rattle.reg_stored.specs.Entries.{entry_of_account}
-use Rattle.reg_stored.specs.Stands.{spelling_at}
+use Rattle.reg_tables_sql.specs.declared.accounts.Account.{Account}
+use Rattle.reg_tables_sql.specs.declared.crates.Crate.{Crate}
+use Rattle.reg_tables_meaning.specs.Calls.{FindsCrate, ListsReaders, TellsRestricted}
+use Rattle.reg_tables_meaning.specs.Changes.{told_of as told_where}
+use Rattle.reg_tables_meaning.specs.Entries.{entry_of_account}
+use Rattle.reg_tables_meaning.specs.Stands.{spelling_at}
 use Rattle.reg_tables.specs.declared.work.StoreFault.{StoreFault}
 use Rattle.reg_tables.specs.declared.work.Work.{Work}
 use Rattle.reg_access.specs.Asks.{Asks}

@@ -11,11 +11,11 @@ use Rattle.sqlite.specs.Tree.{Trees}
 use Rattle.sqlite_schema.specs.Rules.{equal}
 use Rattle.reg_model.specs.Registry as model
 use Rattle.reg_model.proofs.Lists.{any_same, list_any_map}
-use Rattle.reg_schema.specs.Tests.{shows}
-use Rattle.reg_schema.proofs.Queries.{equals_text}
-use Rattle.reg_statements.specs.Reserved.{reserved_columns}
-use Rattle.reg_stored.specs.Stands.{Ids, StandsBy}
-use Rattle.reg_stored.proofs.AccountEntries.{same_text}
+use Rattle.reg_tables_schema.specs.Tests.{shows}
+use Rattle.reg_tables_schema.proofs.Queries.{equals_text}
+use Rattle.reg_tables_sql.specs.Reserved.{reserved_columns}
+use Rattle.reg_tables_meaning.specs.Stands.{Ids, StandsBy}
+use Rattle.reg_tables_meaning.proofs.AccountEntries.{same_text}
 use Rattle.reg_access.specs.JoinRows.{is_there, reserved_as}
 use Rattle.reg_access.proofs.Answered.{there_filtered}
 

@@ -13,10 +13,10 @@ use Rattle.sqlite_schema.specs.Rules.{equal}
 use Rattle.sqlite_sql.specs.declared.ops.BinaryOp.TheVariants.{Compare}
 use Rattle.sqlite_sql.specs.declared.ops.CompareOp.TheVariants.{Eq}
 use Rattle.sqlite_tied.specs.Compute.{everything}
-use Rattle.reg_schema.specs.Schema.{ours}
-use Rattle.reg_schema.proofs.Queries.{plain, and_true, same_filter}
-use Rattle.reg_schema.proofs.Reading.{IsSelection}
-use Rattle.reg_schema.proofs.Selections.{matched, of_table}
+use Rattle.reg_tables_schema.specs.Schema.{ours}
+use Rattle.reg_tables_schema.proofs.Queries.{plain, and_true, same_filter}
+use Rattle.reg_tables_schema.proofs.Reading.{IsSelection}
+use Rattle.reg_tables_schema.proofs.Selections.{matched, of_table}
 use Rattle.reg_access.specs.JoinRows.{reserved_as}
 
 abbrev pub reserved_text : List ℕ

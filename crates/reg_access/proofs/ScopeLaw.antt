@@ -23,12 +23,12 @@ use Rattle.reg_model.specs.Registry as model
 use Rattle.reg_model.specs.Registry.{with_id}
 use Rattle.reg_model.specs.Sound.{Sound, has_some, is_token}
 use Rattle.reg_model.proofs.Lists.{any_filter, any_same, list_any_map, not_true, true_not_false}
-use Rattle.reg_schema.proofs.Queries.{equals_int, same_filter}
-use Rattle.reg_stored.specs.Stands.{Ids, StandsBy, row_of_token, scope_of, scopes_of}
-use Rattle.reg_schema.specs.Tests.{shows}
-use Rattle.reg_stored.proofs.Numbered.{at_place, one_at}
-use Rattle.reg_schema.proofs.Permutes.{one_row}
-use Rattle.reg_stored.proofs.Standing.{same_number}
+use Rattle.reg_tables_schema.proofs.Queries.{equals_int, same_filter}
+use Rattle.reg_tables_meaning.specs.Stands.{Ids, StandsBy, row_of_token, scope_of, scopes_of}
+use Rattle.reg_tables_schema.specs.Tests.{shows}
+use Rattle.reg_tables_meaning.proofs.Numbered.{at_place, one_at}
+use Rattle.reg_tables_schema.proofs.Permutes.{one_row}
+use Rattle.reg_tables_meaning.proofs.Standing.{same_number}
 use Rattle.reg_access.specs.JoinRows.{is_at_most, is_below, is_scope_over, is_there, scopes_over}
 use Rattle.reg_access.proofs.Answered.{there_filtered}
 use Rattle.reg_access.proofs.Somes.{same_some}

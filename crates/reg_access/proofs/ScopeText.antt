@@ -14,9 +14,9 @@ use Rattle.sqlite_schema.specs.Rules.{equal}
 use Rattle.sqlite_sql.specs.declared.ops.BinaryOp.TheVariants.{Compare}
 use Rattle.sqlite_sql.specs.declared.ops.CompareOp.TheVariants.{Eq, Le, Lt}
 use Rattle.sqlite_tied.specs.Compute.{everything}
-use Rattle.reg_schema.specs.Schema.{ours}
-use Rattle.reg_schema.proofs.Queries.{plain, answers, and_true}
-use Rattle.reg_schema.proofs.Reading.{IsSelection}
+use Rattle.reg_tables_schema.specs.Schema.{ours}
+use Rattle.reg_tables_schema.proofs.Queries.{plain, answers, and_true}
+use Rattle.reg_tables_schema.proofs.Reading.{IsSelection}
 use Rattle.reg_access.specs.JoinRows.{is_at_most, is_below, is_scope_over, scopes_over}
 use Rattle.reg_access.proofs.Joins.{joined_where}
 

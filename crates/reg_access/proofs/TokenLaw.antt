@@ -15,15 +15,15 @@ use Rattle.reg_model.specs.Registry.{token_of, with_id, holds, is_enabled}
 use Rattle.reg_model.specs.Facts.{endpoints_of}
 use Rattle.reg_model.specs.Sound.{Sound, is_token}
 use Rattle.reg_model.proofs.Lists.{not_true, true_not_false}
-use Rattle.reg_schema.specs.Rows.{mark}
-use Rattle.reg_schema.proofs.Queries.{equals_int, same_filter}
-use Rattle.reg_stored.specs.Stands.{Ids, StandsBy, row_of_account, row_of_token}
-use Rattle.reg_schema.specs.Tests.{is_blob}
-use Rattle.reg_statements.specs.Tokens.{is_of_token, token_and_account, tokens_with_accounts}
-use Rattle.reg_stored.proofs.CrateLemmas.{bytes_same, same_bytes}
-use Rattle.reg_stored.proofs.Numbered.{at_place, found_at, one_at}
-use Rattle.reg_schema.proofs.Permutes.{one_row}
-use Rattle.reg_stored.proofs.Standing.{none_row, same_number}
+use Rattle.reg_tables_schema.specs.Rows.{mark}
+use Rattle.reg_tables_schema.proofs.Queries.{equals_int, same_filter}
+use Rattle.reg_tables_meaning.specs.Stands.{Ids, StandsBy, row_of_account, row_of_token}
+use Rattle.reg_tables_schema.specs.Tests.{is_blob}
+use Rattle.reg_tables_sql.specs.Tokens.{is_of_token, token_and_account, tokens_with_accounts}
+use Rattle.reg_tables_meaning.proofs.CrateLemmas.{bytes_same, same_bytes}
+use Rattle.reg_tables_meaning.proofs.Numbered.{at_place, found_at, one_at}
+use Rattle.reg_tables_schema.proofs.Permutes.{one_row}
+use Rattle.reg_tables_meaning.proofs.Standing.{none_row, same_number}
 use Rattle.reg_access.specs.JoinRows.{is_mark_set}
 use Rattle.reg_access.specs.Laws.{TellsToken}
 use Rattle.reg_access.proofs.ScopeLaw.{all_at}

@@ -14,11 +14,11 @@ use Rattle.sqlite.specs.declared.types.Value.TheVariants.{Blob}
 use Rattle.sqlite_sql.specs.declared.ops.BinaryOp.TheVariants.{Compare}
 use Rattle.sqlite_sql.specs.declared.ops.CompareOp.TheVariants.{Eq}
 use Rattle.sqlite_tied.specs.Compute.{everything}
-use Rattle.reg_schema.specs.Schema.{ours}
-use Rattle.reg_schema.specs.Tests.{is_blob}
-use Rattle.reg_schema.proofs.Queries.{plain, answers, joined, same_filter, equals_blob}
-use Rattle.reg_schema.proofs.Reading.{IsSelection}
-use Rattle.reg_statements.specs.Tokens.{is_of_token, token_and_account, tokens_with_accounts}
+use Rattle.reg_tables_schema.specs.Schema.{ours}
+use Rattle.reg_tables_schema.specs.Tests.{is_blob}
+use Rattle.reg_tables_schema.proofs.Queries.{plain, answers, joined, same_filter, equals_blob}
+use Rattle.reg_tables_schema.proofs.Reading.{IsSelection}
+use Rattle.reg_tables_sql.specs.Tokens.{is_of_token, token_and_account, tokens_with_accounts}
 
 abbrev token_filter : List Term
 token_filter = op2 (Compare Eq Binary) (col 2 0) (col 1 3) ∷ op2 (Compare Eq Binary) (col 1 2) (col 0 0) ∷ []

@@ -17,12 +17,12 @@ use Rattle.reg_model.specs.Registry.{Publication}
 use Rattle.reg_model.specs.Crates.{collides, same_release, versions}
 use Rattle.reg_model.proofs.Lists.{any_filter, any_same, is_some_find, list_any_map, none_both}
 use Rattle.reg_model.proofs.Members.{in_each}
-use Rattle.reg_schema.specs.Tests.{shows}
-use Rattle.reg_schema.proofs.Queries.{equals_int, equals_text}
-use Rattle.reg_stored.specs.Stands.{Ids, StandCrates, StandsBy, StoredCrate, StoredVersion, row_of_version}
-use Rattle.reg_stored.proofs.AccountEntries.{same_text}
-use Rattle.reg_stored.proofs.CrateLemmas.{bytes_same, same_bytes, same_crate}
-use Rattle.reg_stored.proofs.Standing.{same_number}
+use Rattle.reg_tables_schema.specs.Tests.{shows}
+use Rattle.reg_tables_schema.proofs.Queries.{equals_int, equals_text}
+use Rattle.reg_tables_meaning.specs.Stands.{Ids, StandCrates, StandsBy, StoredCrate, StoredVersion, row_of_version}
+use Rattle.reg_tables_meaning.proofs.AccountEntries.{same_text}
+use Rattle.reg_tables_meaning.proofs.CrateLemmas.{bytes_same, same_bytes, same_crate}
+use Rattle.reg_tables_meaning.proofs.Standing.{same_number}
 use Rattle.reg_access.specs.JoinRows.{crates_seen_by, is_release, is_there, is_version, value_at, versions_of_release, versions_with_text}
 use Rattle.reg_access.proofs.Answered.{there_filtered}
 use Rattle.reg_access.proofs.CrateLaw.{IsFound, IsMissing, found_or_missing, id_shown, no_rows}

@@ -9,8 +9,8 @@ use Rattle.reg_names.specs.Names.{canon}
 use Rattle.reg_model.specs.Registry.{Text as Bytes, holds}
 use Rattle.reg_model.specs.Actions.{Action, crate_of}
 use Rattle.reg_model.specs.Facts.{Access, lists}
-use Rattle.reg_schema.specs.Shown.{shown_of}
-use Rattle.reg_statements.specs.declared.tokens.TokenRow.{TokenRow}
+use Rattle.reg_tables_schema.specs.Shown.{shown_of}
+use Rattle.reg_tables_sql.specs.declared.tokens.TokenRow.{TokenRow}
 use Rattle.reg_access.specs.declared.found.CrateRow.{CrateRow}
 use Rattle.reg_access.specs.declared.finding.Found.{Found}
 use Rattle.reg_access.specs.JoinRows.{crates_seen_by, is_there, last_rows, scopes_over}

@@ -14,15 +14,15 @@ use Rattle.reg_model.specs.Crates.{exists, is_reserved, is_reserved_always}
 use Rattle.reg_model.specs.Grants.{all_endpoints, grants, is_granted, who_reads}
 use Rattle.reg_model.specs.Registry.{Registry, Text as Words, Token, is_enabled, with_id}
 use Rattle.reg_model.specs.Rules.{has_endpoint}
-use Rattle.reg_schema.specs.Rows.{mark}
-use Rattle.reg_statements.specs.declared.accounts.Account.{Account}
-use Rattle.reg_statements.specs.declared.tokens.TokenRow.{TokenRow}
-use Rattle.reg_statements.specs.Tokens.{columns_with_account}
-use Rattle.reg_stored.specs.Calls.{FindsCrate, ListsOwners, Tells}
-use Rattle.reg_stored.specs.Changes.{told_of as told_where}
-use Rattle.reg_stored.specs.Entries.{entry_of_account}
-use Rattle.reg_stored.specs.Stands.{spelling_at}
-use Rattle.reg_statements.specs.declared.crates.Crate.{Crate}
+use Rattle.reg_tables_schema.specs.Rows.{mark}
+use Rattle.reg_tables_sql.specs.declared.accounts.Account.{Account}
+use Rattle.reg_tables_sql.specs.declared.tokens.TokenRow.{TokenRow}
+use Rattle.reg_tables_sql.specs.Tokens.{columns_with_account}
+use Rattle.reg_tables_meaning.specs.Calls.{FindsCrate, ListsOwners, Tells}
+use Rattle.reg_tables_meaning.specs.Changes.{told_of as told_where}
+use Rattle.reg_tables_meaning.specs.Entries.{entry_of_account}
+use Rattle.reg_tables_meaning.specs.Stands.{spelling_at}
+use Rattle.reg_tables_sql.specs.declared.crates.Crate.{Crate}
 use Rattle.reg_access.specs.declared.granting.Standing.{Standing}
 use Rattle.reg_access.specs.declared.grants.Grant.{Grant}
 

@@ -20,9 +20,9 @@ use Rattle.reg_versions.specs.Versions.{release_key_of}
 use Rattle.reg_model.specs.Registry.{Text as Bytes}
 use Rattle.reg_model.specs.Actions.{Action}
 use Rattle.reg_model.specs.Actions.Action.{Download, Publish, Yank, Unyank}
-use Rattle.reg_schema.specs.Places.{crate_canon_place, crates_tree, id_place, owners_tree, readers_tree, release_place, reserved_canon_place, reserved_tree, restricted_crate_place, restricted_tree, scope_place_place, scope_token_place, scopes_tree, tokens_tree, vers_place, version_crate_place, versions_tree}
-use Rattle.reg_schema.specs.Tests.{shows}
-use Rattle.reg_statements.specs.Pairs.{pair_account_place, pair_crate_place}
+use Rattle.reg_tables_schema.specs.Places.{crate_canon_place, crates_tree, id_place, owners_tree, readers_tree, release_place, reserved_canon_place, reserved_tree, restricted_crate_place, restricted_tree, scope_place_place, scope_token_place, scopes_tree, tokens_tree, vers_place, version_crate_place, versions_tree}
+use Rattle.reg_tables_schema.specs.Tests.{shows}
+use Rattle.reg_tables_sql.specs.Pairs.{pair_account_place, pair_crate_place}
 
 -- as SQL's <= and <, which are not true of NULL
 abbrev pub is_at_most : Value → Value → Bool

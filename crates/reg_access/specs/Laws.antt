@@ -14,8 +14,8 @@ use Rattle.reg_model.specs.Registry.{Text, Token, Registry, holds, is_enabled, t
 use Rattle.reg_model.specs.Crates.{exists, first, is_among, is_restricted, owners, readers, same_release, versions}
 use Rattle.reg_model.specs.Facts.{access_facts, endpoints_of}
 use Rattle.reg_model.specs.Rules.{access}
-use Rattle.reg_statements.specs.Tokens.{tokens_with_accounts}
-use Rattle.reg_stored.specs.Stands.{Holds, Ids}
+use Rattle.reg_tables_sql.specs.Tokens.{tokens_with_accounts}
+use Rattle.reg_tables_meaning.specs.Stands.{Holds, Ids}
 use Rattle.reg_access.specs.JoinRows.{crates_seen_by, is_mark_set, is_shown, is_there, reserved_as, scopes_over, text_in, value_at, versions_of_release, versions_with_text}
 use Rattle.reg_access.specs.Verdict.{endpoints_in, is_fit, join_rows, verdict_in}
 

@@ -6,7 +6,7 @@ ghost use Rattle.reg_model.specs.Registry.{holds};
 ghost use Rattle.reg_model.specs.Rules.{access, breaks, is_absent as is_absent_of, is_misspelled as is_misspelled_of, lacks, needed as needed_by};
 ghost use Rattle.std.specs.Str.{bytes_eq};
 ghost use Rattle.reg_policy.specs.Views.{action_of, decision_of};
-ghost use Rattle.reg_statements.specs.declared.tokens.TokenRow.{TokenRow as AnyToken};
+ghost use Rattle.reg_tables_sql.specs.declared.tokens.TokenRow.{TokenRow as AnyToken};
 ghost use Rattle.reg_access.specs.Found.{facts_found, is_owned as is_owned_of, is_visible as is_visible_of, spelling_in};
 ghost use Rattle.reg_access.specs.Verdict.{is_always_reserved as is_always_reserved_of};
 

@@ -2,7 +2,7 @@
 
 ghost use Rattle.std.specs.Prelude.{◌≡◌, false, true};
 ghost use Rattle.reg_names.specs.Names.{is_name};
-ghost use Rattle.reg_stored.specs.Calls.{FindsCrate};
+ghost use Rattle.reg_tables_meaning.specs.Calls.{FindsCrate};
 ghost use Rattle.reg_tables.specs.Works.{IsAtWork, has_failed};
 ghost use Rattle.reg_access.specs.Asks.{Asks};
 ghost use Rattle.reg_access.specs.Grants.{AreCandidates, AreGrants, AreOwnersOf, IsStanding, TellsTaken};
@@ -49,7 +49,7 @@ pub(crate) fn find_named<S: Alter>(
     requires { IsAtWork S.Store work.old }
     ensures { Asks S.Store work.old work.new result (FindsCrate canon.now) }
 {
-    reg_calls::crate_by_canon(work, canon)
+    reg_tables_calls::crate_by_canon(work, canon)
 }
 
 fn find_owners<S: Alter>(
@@ -63,7 +63,7 @@ fn find_owners<S: Alter>(
         (λ db list. AreOwnersOf found.now db list.items) }
 {
     match found {
-        Some(it) => reg_calls::owners_of(alloc, work, it.id),
+        Some(it) => reg_tables_calls::owners_of(alloc, work, it.id),
         None => Ok(Vec::new(alloc)),
     }
 }
@@ -83,7 +83,7 @@ fn is_taken<S: Alter>(
     if is_reserved_always(canon) {
         return Ok(true);
     }
-    reg_calls::is_reserved(work, canon)
+    reg_tables_calls::is_reserved(work, canon)
 }
 
 fn standing_of<S: Alter>(

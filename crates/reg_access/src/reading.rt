@@ -1,7 +1,7 @@
 //! Who reads a restricted crate, asked of the tables.
 
 ghost use Rattle.std.specs.Prelude.{◌≡◌, false};
-ghost use Rattle.reg_stored.specs.Calls.{FindsCrate};
+ghost use Rattle.reg_tables_meaning.specs.Calls.{FindsCrate};
 ghost use Rattle.reg_tables.specs.Works.{IsAtWork, has_failed};
 ghost use Rattle.reg_access.specs.Asks.{Asks};
 ghost use Rattle.reg_access.specs.Grants.{AreReaders, AreReadersAt, AreReadersOf};
@@ -21,10 +21,10 @@ fn readers_at<S: Alter>(
     ensures { Asks S.Store work.old work.new result
         (λ db list. AreReadersAt id db list.items) }
 {
-    if !reg_calls::is_restricted(work, id)? {
+    if !reg_tables_calls::is_restricted(work, id)? {
         return Ok(Vec::new(alloc));
     }
-    reg_calls::readers_of(alloc, work, id)
+    reg_tables_calls::readers_of(alloc, work, id)
 }
 
 fn find_readers<S: Alter>(

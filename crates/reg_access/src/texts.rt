@@ -2,7 +2,7 @@
 
 ghost use Rattle.std.specs.Prelude.{◌≡◌, pos};
 ghost use Rattle.sqlite.specs.declared.types.Value.TheVariants.{Int};
-ghost use Rattle.reg_statements.specs.Tokens.{IsTokenOfDigest};
+ghost use Rattle.reg_tables_sql.specs.Tokens.{IsTokenOfDigest};
 ghost use Rattle.reg_tables.specs.Works.{IsAtWork};
 ghost use Rattle.reg_access.specs.Asks.{Asks};
 ghost use Rattle.reg_access.specs.Found.{rows_of};

@@ -3,9 +3,9 @@ use Rattle.std.proofs.Common.{◌≡◌, length, Result, Ok, Err, IfOk, Bool, tr
 use Rattle.std.specs.Prelude.{◌↔◌, IsTrue, string_bytes}
 use Rattle.reg_versions.specs.Versions.{is_version, release_key_of}
 use Rattle.reg_line.specs.StemCheck.{IsStemOf}
-use Rattle.reg_whole.specs.declared.all_rows.AllRows.{AllRows}
-use Rattle.reg_statements.specs.declared.crates.Crate.{Crate}
-use Rattle.reg_statements.specs.declared.versions.Version.{Version}
+use Rattle.reg_tables_rows.specs.declared.all_rows.AllRows.{AllRows}
+use Rattle.reg_tables_sql.specs.declared.crates.Crate.{Crate}
+use Rattle.reg_tables_sql.specs.declared.versions.Version.{Version}
 use Rattle.reg_audit.specs.Checks.{IsGenuine, crate_of}
 
 module _ (it : AllRows) (v : Version) (o : Crate) where

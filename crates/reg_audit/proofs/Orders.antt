@@ -2,7 +2,7 @@
 use Rattle.std.proofs.Common.{◌≡◌, List, [], ◌∷◌, ◌++◌, Option, None, Some, true, inl, inr}
 use Rattle.std.specs.Prelude.{is_some}
 use Rattle.sqlite.specs.Tree.{Trees}
-use Rattle.reg_whole.specs.declared.all_rows.AllRows.{AllRows}
+use Rattle.reg_tables_rows.specs.declared.all_rows.AllRows.{AllRows}
 use Rattle.reg_audit.specs.declared.check.Check.{Check}
 use Rattle.reg_audit.specs.Checks.{IsFirstOf}
 

@@ -17,15 +17,15 @@ use Rattle.reg_line.specs.StemCheck.{IsStemOf}
 use Rattle.reg_model.specs.Crates.{is_reserved_always}
 use Rattle.reg_model.specs.Refusals.{may_name}
 use Rattle.reg_model.specs.Sound.{has_some}
-use Rattle.reg_statements.specs.Archives.{archives_with_id}
-use Rattle.reg_statements.specs.declared.accounts.Account.{Account}
-use Rattle.reg_whole.specs.declared.all_rows.AllRows.{AllRows}
-use Rattle.reg_statements.specs.declared.crates.Crate.{Crate}
-use Rattle.reg_statements.specs.declared.scopes.Scope.{Scope}
-use Rattle.reg_statements.specs.declared.summaries.Summary.{Summary}
-use Rattle.reg_statements.specs.declared.tokens.Token.{Token}
-use Rattle.reg_statements.specs.declared.versions.Version.{Version}
-use Rattle.reg_stored.specs.Summaries.{ShownMark, highest_in, length_in}
+use Rattle.reg_tables_sql.specs.Archives.{archives_with_id}
+use Rattle.reg_tables_sql.specs.declared.accounts.Account.{Account}
+use Rattle.reg_tables_rows.specs.declared.all_rows.AllRows.{AllRows}
+use Rattle.reg_tables_sql.specs.declared.crates.Crate.{Crate}
+use Rattle.reg_tables_sql.specs.declared.scopes.Scope.{Scope}
+use Rattle.reg_tables_sql.specs.declared.summaries.Summary.{Summary}
+use Rattle.reg_tables_sql.specs.declared.tokens.Token.{Token}
+use Rattle.reg_tables_sql.specs.declared.versions.Version.{Version}
+use Rattle.reg_tables_meaning.specs.Summaries.{ShownMark, highest_in, length_in}
 use Rattle.reg_audit.specs.declared.check.Check.{Check}
 use Rattle.reg_audit.specs.declared.check.Check.TheVariants.{C1, C2, C3, C4, C5, C6, C7, C8}
 

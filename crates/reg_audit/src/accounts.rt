@@ -5,11 +5,11 @@ ghost use Rattle.std.specs.List.{list_all};
 ghost use Rattle.reg_audit.specs.Checks.{accounts_pass as accounts_pass_in, is_account as is_account_row};
 
 use crate::texts::{HasId, are_counted};
-use reg_calls::AllRows;
 use reg_line::is_base;
 use reg_names::parse_login;
 use reg_policy::may_name;
 use reg_tables::Account;
+use reg_tables_calls::AllRows;
 
 impl HasId for Account {
     ghost id_of = { λ a. a.id };

@@ -5,14 +5,14 @@ ghost use Rattle.std.specs.List.{list_all};
 ghost use Rattle.std.specs.Str.{bytes_eq};
 ghost use Rattle.sha2.specs.Sha256.{sha256};
 ghost use Rattle.sqlite.specs.State.{HasCleanDisk, IsUnchanged};
-ghost use Rattle.reg_statements.specs.Archives.{archives_with_id};
+ghost use Rattle.reg_tables_sql.specs.Archives.{archives_with_id};
 ghost use Rattle.reg_tables.specs.Works.{IsAtWork, has_failed, seen};
 ghost use Rattle.reg_audit.specs.Checks.{archives_pass as archives_pass_in, is_archive};
 ghost use Rattle.reg_tables.specs.Looks.{Looks};
 
-use reg_calls::AllRows;
 use reg_line::digest_of;
 use reg_tables::{StoreFault, Version, Work};
+use reg_tables_calls::AllRows;
 use sqlite::Alter;
 
 fn has_digest(bytes: &[u8], digest: &[u8]) -> bool
@@ -45,7 +45,7 @@ fn has_archive<S: Alter>(work: &mut Work<'_, S>, version: &Version) -> Result<bo
         (IsUnchanged (seen S.Store work.old) (seen S.Store work.new)) }
     ensures looks { Looks S.Store work.old work.new }
 {
-    match reg_calls::archive_with_id(work, version.id)? {
+    match reg_tables_calls::archive_with_id(work, version.id)? {
         None => Ok(false),
         Some(bytes) => Ok(has_digest(&bytes, &version.digest)),
     }

@@ -7,9 +7,9 @@ ghost use Rattle.std.specs.Ordering.{nat_cmp};
 ghost use Rattle.reg_audit.specs.Checks.{crates_pass as crates_pass_in, is_named as is_named_row};
 
 use crate::texts::{HasId, same_text};
-use reg_calls::AllRows;
 use reg_names::{canon, parse_name};
 use reg_tables::{Crate, Ownership, Version};
+use reg_tables_calls::AllRows;
 use std::alloc::{AllocError, Global};
 use std::collections::BTreeSet;
 

@@ -3,11 +3,11 @@
 ghost use Rattle.std.specs.Prelude.{◌≡◌, false, [], ◌∷◌, IfOk};
 ghost use Rattle.sqlite.specs.State.{HasCleanDisk, KeepsCommit, Survives};
 ghost use Rattle.sqlite.specs.Tree.{Trees};
-ghost use Rattle.reg_schema.specs.States.{IsUndone};
-ghost use Rattle.reg_whole.specs.WholeRows.{AreAllRows};
-ghost use Rattle.reg_stored.specs.Upgrades.{AreBegun};
+ghost use Rattle.reg_tables_schema.specs.States.{IsUndone};
+ghost use Rattle.reg_tables_rows.specs.WholeRows.{AreAllRows};
+ghost use Rattle.reg_tables_meaning.specs.Upgrades.{AreBegun};
 ghost use Rattle.reg_tables.specs.Works.{AreOurs, IsAtWork, edition_in, has_failed, is_shut, seen, shown};
-ghost use Rattle.reg_whole.specs.declared.all_rows.AllRows.{AllRows as Rows};
+ghost use Rattle.reg_tables_rows.specs.declared.all_rows.AllRows.{AllRows as Rows};
 ghost use Rattle.reg_audit.specs.Checks.{IsFirst, IsFirstOf};
 ghost use Rattle.reg_tables.specs.Looks.{Looks};
 ghost use Rattle.reg_audit.specs.declared.check.Check.TheVariants.{C1, C2, C3, C5, C6, C7, C8};
@@ -21,8 +21,8 @@ use crate::reserved::reserved_pass;
 use crate::summaries::summaries_pass;
 use crate::tokens::tokens_pass;
 use crate::versions::versions_pass;
-use reg_calls::AllRows;
 use reg_tables::{StoreFault, Tables, Work};
+use reg_tables_calls::AllRows;
 use sqlite::Alter;
 use std::alloc::{AllocError, Global};
 
@@ -92,7 +92,7 @@ fn examine<S: Alter>(alloc: Global, work: &mut Work<'_, S>) -> Result<Option<Che
         (seen S.Store work.old).now.trees found) }
     ensures looks { Looks S.Store work.old work.new }
 {
-    let rows = reg_calls::all_rows(alloc, work)?;
+    let rows = reg_tables_calls::all_rows(alloc, work)?;
     first_failing(alloc, work, &rows)
 }
 

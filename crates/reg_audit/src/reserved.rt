@@ -5,9 +5,9 @@ ghost use Rattle.std.specs.List.{list_all};
 ghost use Rattle.reg_audit.specs.Checks.{is_reserved as is_reserved_text, reserved_pass as reserved_pass_in};
 
 use crate::texts::same_text;
-use reg_calls::AllRows;
 use reg_names::{canon, parse_name};
 use reg_policy::is_reserved_always;
+use reg_tables_calls::AllRows;
 
 fn is_reserved(text: &str) -> bool
     ensures { result ≡ is_reserved_text text.now }

@@ -8,10 +8,10 @@ ghost use Rattle.reg_model.specs.Sound.{has_some};
 ghost use Rattle.reg_audit.specs.Checks.{are_placed as are_placed_in, follow as follow_in, is_scope as is_scope_row, is_token as is_token_row, tokens_pass as tokens_pass_in};
 
 use crate::texts::{HasId, are_counted, same_text};
-use reg_calls::AllRows;
 use reg_model::Endpoints;
 use reg_names::{NameRange, Pattern, compile};
 use reg_tables::{Scope, Token};
+use reg_tables_calls::AllRows;
 use std::alloc::{AllocError, Global};
 
 impl HasId for Token {

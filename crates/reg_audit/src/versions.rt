@@ -10,9 +10,9 @@ ghost use Rattle.reg_line.specs.StemCheck.{IsStemOf};
 ghost use Rattle.reg_audit.specs.Checks.{crate_of as crate_in, IsGenuine, VersionsPass};
 
 use crate::texts::same_text;
-use reg_calls::AllRows;
 use reg_line::{Digest, check_stem};
 use reg_tables::{Crate, Version};
+use reg_tables_calls::AllRows;
 use reg_versions::{Release, VersionFault, release_key};
 use std::alloc::{AllocError, Global};
 use std::collections::BTreeMap;

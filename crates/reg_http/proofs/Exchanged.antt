@@ -7,7 +7,7 @@ use Rattle.std.proofs.lemmas.List.{map-append}
 use Rattle.std.proofs.lemmas.List.Elements.{All-push}
 use Rattle.sqlite_trees.specs.declared.store.Store.{Ghosts}
 use Rattle.reg_body.specs.declared.limits.Limits.{Limits}
-use Rattle.reg_heads.specs.Heads.{Facts}
+use Rattle.reg_http_read.specs.Heads.{Facts}
 use Rattle.reg_model.specs.Events.{Answer, Event}
 use Rattle.reg_model.specs.Registry as model
 use Rattle.reg_model.specs.Registry.{Text}
@@ -16,8 +16,8 @@ use Rattle.reg_service.specs.Answered.{Answers, Shows}
 use Rattle.reg_service.specs.Sequences.{Ran}
 use Rattle.reg_tables.specs.declared.tables.Tables.{Tables}
 use Rattle.reg_tables.specs.Works.{shown}
-use Rattle.reg_requests.specs.Requests.{request_from}
-use Rattle.reg_requests.specs.Views.{event_of}
+use Rattle.reg_api_requests.specs.Requests.{request_from}
+use Rattle.reg_api_requests.specs.Views.{event_of}
 use Rattle.reg_http.specs.Answering.{Moves}
 use Rattle.reg_http.specs.Exchanges.{Exchange, Outcome, answers_in, event_in, events_in, steps_in}
 use Rattle.reg_http.specs.Exchanges.Outcome.{Answered, NoMethod, NoRoom, NoRoute, Unread}

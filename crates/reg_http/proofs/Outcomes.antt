@@ -2,41 +2,41 @@
 use Rattle.std.proofs.Common.{◌≡◌, ◌<◌, ◌++◌, ◌⊎◌, ℕ, Bool, true, false, [], inl, inr, refl, sym, ap, subst, arith, Option, None, Some, Result, Ok, Err, length}
 use Rattle.sqlite_trees.specs.declared.store.Store.{Ghosts}
 use Rattle.reg_body.specs.declared.limits.Limits.{Limits}
-use Rattle.reg_heads.specs.Heads.{Facts}
+use Rattle.reg_http_read.specs.Heads.{Facts}
 use Rattle.reg_model.specs.declared.rule.Rule.TheVariants as rule
 use Rattle.reg_model.specs.Events.{Answer, Asked}
 use Rattle.reg_model.specs.Registry as model
 use Rattle.reg_model.specs.Registry.{Text}
 use Rattle.reg_model.specs.Steps.{IsFit}
-use Rattle.reg_receiving.specs.Turns.{Sends}
-use Rattle.reg_receiving.proofs.Replies.{answer_some}
-use Rattle.reg_receiving.specs.declared.fault.StreamFault.{StreamFault}
-use Rattle.reg_receiving.specs.declared.fault.StreamFault.TheVariants.{Memory, ReadFault, StoreFault, TooManyTurns, WriteFault}
-use Rattle.reg_replies.specs.Replies.{Says}
-use Rattle.reg_replies.specs.declared.reply.Reply.{Reply}
-use Rattle.reg_replies.specs.declared.reply.Reply.TheVariants.{Denied}
-use Rattle.reg_requests.specs.Requests.{asked_from, request_from}
-use Rattle.reg_requests.specs.Views.{event_of}
-use Rattle.reg_requests.specs.Wants.{Wants, wants_of}
-use Rattle.reg_requests.specs.declared.request.Wanted.{Wanted}
-use Rattle.reg_requests.specs.declared.request.Wanted.TheVariants as wanted
-use Rattle.reg_routes.specs.Routing.Routing.{Wants as to_wants}
-use Rattle.reg_sending.specs.Sent.{Sink}
-use Rattle.reg_sending.specs.Texts.{answer_text, refusal_text, reply_text}
+use Rattle.reg_http_read.specs.Turns.{Sends}
+use Rattle.reg_http_read.proofs.Replies.{answer_some}
+use Rattle.reg_http_read.specs.declared.fault.StreamFault.{StreamFault}
+use Rattle.reg_http_read.specs.declared.fault.StreamFault.TheVariants.{Memory, ReadFault, StoreFault, TooManyTurns, WriteFault}
+use Rattle.reg_api_replies.specs.Replies.{Says}
+use Rattle.reg_api_replies.specs.declared.reply.Reply.{Reply}
+use Rattle.reg_api_replies.specs.declared.reply.Reply.TheVariants.{Denied}
+use Rattle.reg_api_requests.specs.Requests.{asked_from, request_from}
+use Rattle.reg_api_requests.specs.Views.{event_of}
+use Rattle.reg_api_requests.specs.Wants.{Wants, wants_of}
+use Rattle.reg_api_requests.specs.declared.request.Wanted.{Wanted}
+use Rattle.reg_api_requests.specs.declared.request.Wanted.TheVariants as wanted
+use Rattle.reg_http_routes.specs.Routing.Routing.{Wants as to_wants}
+use Rattle.reg_api_replies.specs.Sent.{Sink}
+use Rattle.reg_api_replies.specs.Texts.{answer_text, refusal_text, reply_text}
 use Rattle.reg_service.specs.Answered.{Answers}
 use Rattle.reg_service.specs.Streamed.{AsksForFile, StreamsTo}
-use Rattle.reg_streaming.specs.Streams as stream
-use Rattle.reg_streaming.specs.declared.fault.IndexFault.{IndexFault}
-use Rattle.reg_streaming.specs.declared.fault.IndexFault.TheVariants.{Spent, Store, Write}
+use Rattle.reg_service_index.specs.Streams as stream
+use Rattle.reg_service_index.specs.declared.fault.IndexFault.{IndexFault}
+use Rattle.reg_service_index.specs.declared.fault.IndexFault.TheVariants.{Spent, Store, Write}
 use Rattle.reg_tables.specs.declared.tables.Tables.{Tables}
 use Rattle.reg_http.specs.Answering.{Replies, Streams, fault_text}
 use Rattle.reg_http.specs.Exchanges.{IsOfFile, Outcome}
 use Rattle.reg_http.specs.Exchanges.Outcome.{Answered, NoMethod, NoRoom, NoRoute, Unread}
-use Rattle.reg_receiving.specs.Begun.{is_head}
-use Rattle.reg_routes.specs.Routed.{IsRouted}
-use Rattle.reg_routes.specs.Routing.{Routing}
-use Rattle.reg_routes.specs.declared.fault.RouteFault.{RouteFault}
-use Rattle.reg_routes.specs.declared.fault.RouteFault.TheVariants as route
+use Rattle.reg_http_read.specs.Begun.{is_head}
+use Rattle.reg_http_routes.specs.Routed.{IsRouted}
+use Rattle.reg_http_routes.specs.Routing.{Routing}
+use Rattle.reg_http_routes.specs.declared.fault.RouteFault.{RouteFault}
+use Rattle.reg_http_routes.specs.declared.fault.RouteFault.TheVariants as route
 
 pub none_below : (n : ℕ) → n ≡ 0 → 0 < n → ⊥
 none_below n is lt = omega (arith, is, lt)

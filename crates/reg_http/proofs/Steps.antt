@@ -7,21 +7,21 @@ use Rattle.std.specs.Io.KnownBytes.{Appends, Consumes, IsAtEnd}
 use Rattle.std.proofs.KnownBytes.{Appends-trans, Appends-nil, Consumes-trans, Consumes-nil}
 use Rattle.sqlite_trees.specs.declared.store.Store.{Ghosts}
 use Rattle.reg_body.specs.declared.limits.Limits.{Limits}
-use Rattle.reg_heads.specs.Heads.{Facts, IsHeadAt}
+use Rattle.reg_http_read.specs.Heads.{Facts, IsHeadAt}
 use Rattle.reg_model.specs.declared.rule.Rule.{Rule}
 use Rattle.reg_model.specs.Registry as model
 use Rattle.reg_model.specs.Registry.{Text}
-use Rattle.reg_receiving.specs.Begun.{IsBegun, IsRefused, interim_of, is_head}
-use Rattle.reg_receiving.specs.Taking.{HasBegun, IsCutOff, Keeps, Reads, Takes}
+use Rattle.reg_http_read.specs.Begun.{IsBegun, IsRefused, interim_of, is_head}
+use Rattle.reg_http_read.specs.Taking.{HasBegun, IsCutOff, Keeps, Reads, Takes}
 use Rattle.reg_body.specs.Counting.{CountedEnd}
-use Rattle.reg_receiving.specs.Turns.{Sends, SpendsFor, SpendsSome, tally, writes_of}
-use Rattle.reg_receiving.specs.declared.fault.StreamFault.{StreamFault}
-use Rattle.reg_receiving.specs.declared.fault.StreamFault.TheVariants.{Memory, ReadFault, StoreFault, TooManyTurns, WriteFault}
-use Rattle.reg_receiving.specs.declared.taking.Begun.{Begun}
-use Rattle.reg_receiving.specs.declared.taking.Taken.{Taken}
-use Rattle.reg_receiving.specs.declared.taking.Taken.TheVariants as taken
-use Rattle.reg_routes.specs.Routing.{routing_of}
-use Rattle.reg_sending.specs.Sent.{AppendsFront}
+use Rattle.reg_http_read.specs.Turns.{Sends, SpendsFor, SpendsSome, tally, writes_of}
+use Rattle.reg_http_read.specs.declared.fault.StreamFault.{StreamFault}
+use Rattle.reg_http_read.specs.declared.fault.StreamFault.TheVariants.{Memory, ReadFault, StoreFault, TooManyTurns, WriteFault}
+use Rattle.reg_http_read.specs.declared.taking.Begun.{Begun}
+use Rattle.reg_http_read.specs.declared.taking.Taken.{Taken}
+use Rattle.reg_http_read.specs.declared.taking.Taken.TheVariants as taken
+use Rattle.reg_http_routes.specs.Routing.{routing_of}
+use Rattle.reg_api_replies.specs.Sent.{AppendsFront}
 use Rattle.reg_service.specs.Answered.{LeavesAlone, Shows}
 use Rattle.reg_service.specs.Sequences.{Ran}
 use Rattle.reg_tables.specs.declared.tables.Tables.{Tables}

@@ -5,18 +5,18 @@ use Rattle.std.specs.Option.{option_map}
 use Rattle.sqlite.specs.State.{HasCleanDisk}
 use Rattle.sqlite_trees.specs.declared.store.Store.{Ghosts}
 use Rattle.reg_body.specs.declared.limits.Limits.{Limits}
-use Rattle.reg_heads.specs.Heads.{Facts}
+use Rattle.reg_http_read.specs.Heads.{Facts}
 use Rattle.reg_model.specs.declared.rule.Rule.TheVariants as rule
 use Rattle.reg_model.specs.Registry as model
 use Rattle.reg_model.specs.Steps.{IsFit}
 use Rattle.reg_model.specs.Registry.{Text}
-use Rattle.reg_receiving.specs.Turns.{Sends}
-use Rattle.reg_receiving.specs.declared.fault.StreamFault.{StreamFault}
-use Rattle.reg_receiving.specs.declared.fault.StreamFault.TheVariants.{StoreFault}
-use Rattle.reg_requests.specs.Requests.{request_from}
-use Rattle.reg_requests.specs.Views.{event_of}
-use Rattle.reg_requests.specs.Wants.{wants_of}
-use Rattle.reg_requests.specs.declared.request.ApiRequest.{ApiRequest}
+use Rattle.reg_http_read.specs.Turns.{Sends}
+use Rattle.reg_http_read.specs.declared.fault.StreamFault.{StreamFault}
+use Rattle.reg_http_read.specs.declared.fault.StreamFault.TheVariants.{StoreFault}
+use Rattle.reg_api_requests.specs.Requests.{request_from}
+use Rattle.reg_api_requests.specs.Views.{event_of}
+use Rattle.reg_api_requests.specs.Wants.{wants_of}
+use Rattle.reg_api_requests.specs.declared.request.ApiRequest.{ApiRequest}
 use Rattle.reg_service.specs.Answered.{Answers, AreUpToDate, Shows}
 use Rattle.reg_service.specs.Registries.{limits_of, tables_of}
 use Rattle.reg_service.specs.declared.registry.Registry.{Registry}
@@ -24,11 +24,11 @@ use Rattle.reg_tables.specs.declared.tables.Tables.{Tables}
 use Rattle.reg_tables.specs.Works.{shown}
 use Rattle.reg_http.specs.Exchanges.{IsOfFile, IsOutcome, Outcome, outcome_text}
 use Rattle.reg_http.specs.Exchanges.Outcome.{Answered}
-use Rattle.reg_routes.specs.Routing.{Routing}
-use Rattle.reg_routes.specs.Routing.Routing.{Wants as to_wants}
-use Rattle.reg_routes.specs.declared.fault.RouteFault.{RouteFault}
-use Rattle.reg_routes.specs.declared.fault.RouteFault.TheVariants.{Memory, Method, NoRoute}
-use Rattle.reg_sending.specs.Texts.{refusal_text}
+use Rattle.reg_http_routes.specs.Routing.{Routing}
+use Rattle.reg_http_routes.specs.Routing.Routing.{Wants as to_wants}
+use Rattle.reg_http_routes.specs.declared.fault.RouteFault.{RouteFault}
+use Rattle.reg_http_routes.specs.declared.fault.RouteFault.TheVariants.{Memory, Method, NoRoute}
+use Rattle.reg_api_replies.specs.Texts.{refusal_text}
 
 -- the tables move with the outcome: an event that is fit is answered by them, and else they stay
 abbrev pub Moves : {S : Type 0} → Ghosts S → Limits → model.Registry → Facts → Outcome → Tables S

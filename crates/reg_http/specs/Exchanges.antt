@@ -2,19 +2,19 @@
 use Rattle.std.specs.Prelude.{◌≡◌, ◌+◌, ◌==◌, ◌||◌, ℕ, Bool, false, List, [], ◌∷◌, length, drop, map, None, Some}
 use Rattle.std.specs.List.{flat_map}
 use Rattle.reg_body.specs.declared.limits.Limits.{Limits}
-use Rattle.reg_heads.specs.Heads.{Facts, IsHeadAt}
+use Rattle.reg_http_read.specs.Heads.{Facts, IsHeadAt}
 use Rattle.reg_model.specs.declared.rule.Rule.TheVariants as rule
 use Rattle.reg_model.specs.Events.{Answer, Event}
 use Rattle.reg_model.specs.Registry.{Text}
-use Rattle.reg_replies.specs.declared.head.Methods.{Methods}
-use Rattle.reg_requests.specs.Requests.{asked_from, request_from}
-use Rattle.reg_requests.specs.Views.{event_of}
-use Rattle.reg_requests.specs.Wants.{Wants}
-use Rattle.reg_requests.specs.Wants.Wants.{Index}
-use Rattle.reg_routes.specs.Routing.{Routing, routing_of}
-use Rattle.reg_routes.specs.Routing.Routing.{NoRoute as to_no_route, NoMethod as to_no_method, Wants as to_wants}
-use Rattle.reg_receiving.specs.Begun.{is_head}
-use Rattle.reg_sending.specs.Texts.{answer_text, refusal_text}
+use Rattle.reg_api_replies.specs.declared.head.Methods.{Methods}
+use Rattle.reg_api_requests.specs.Requests.{asked_from, request_from}
+use Rattle.reg_api_requests.specs.Views.{event_of}
+use Rattle.reg_api_requests.specs.Wants.{Wants}
+use Rattle.reg_api_requests.specs.Wants.Wants.{Index}
+use Rattle.reg_http_routes.specs.Routing.{Routing, routing_of}
+use Rattle.reg_http_routes.specs.Routing.Routing.{NoRoute as to_no_route, NoMethod as to_no_method, Wants as to_wants}
+use Rattle.reg_http_read.specs.Begun.{is_head}
+use Rattle.reg_api_replies.specs.Texts.{answer_text, refusal_text}
 
 -- what a request came to
 pub data Outcome : Type 0 where

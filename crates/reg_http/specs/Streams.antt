@@ -4,17 +4,17 @@ use Rattle.std.specs.List.{flat_map}
 use Rattle.std.specs.Io.KnownBytes.{Appends, Consumes, IsAtEnd}
 use Rattle.sqlite_trees.specs.declared.store.Store.{Ghosts}
 use Rattle.reg_body.specs.declared.limits.Limits.{Limits}
-use Rattle.reg_heads.specs.Heads.{Facts, IsHeadAt}
+use Rattle.reg_http_read.specs.Heads.{Facts, IsHeadAt}
 use Rattle.reg_model.specs.declared.rule.Rule.{Rule}
 use Rattle.reg_model.specs.Registry as model
 use Rattle.reg_model.specs.Registry.{Text}
-use Rattle.reg_sending.specs.Texts.{refusal_text}
+use Rattle.reg_api_replies.specs.Texts.{refusal_text}
 use Rattle.reg_service.specs.Sequences.{Ran}
 use Rattle.reg_tables.specs.declared.tables.Tables.{Tables}
-use Rattle.reg_receiving.specs.Begun.{IsBegun, IsRefused, interim_of}
+use Rattle.reg_http_read.specs.Begun.{IsBegun, IsRefused, interim_of}
 use Rattle.reg_http.specs.Exchanges.{Exchange, IsExchange, IsOfFile, answers_in, closes, events_in, reply_of}
-use Rattle.reg_receiving.specs.declared.fault.StreamFault.{StreamFault}
-use Rattle.reg_receiving.specs.declared.fault.StreamFault.TheVariants.{Memory, ReadFault, StoreFault, TooManyTurns, WriteFault}
+use Rattle.reg_http_read.specs.declared.fault.StreamFault.{StreamFault}
+use Rattle.reg_http_read.specs.declared.fault.StreamFault.TheVariants.{Memory, ReadFault, StoreFault, TooManyTurns, WriteFault}
 
 -- the bytes that were asked, and those that were replied, each after its interim line
 abbrev pub asked : List Exchange → Text

@@ -1,28 +1,27 @@
 //! One request is routed, and answered by the registry.
 
 ghost use Rattle.std.specs.Prelude.{◌≡◌, ◌+◌, ◌^◌, ◌<◌, None, OnOk, Some, drop};
-ghost use Rattle.reg_heads.specs.Reads.{facts_of};
-ghost use Rattle.reg_heads.specs.Heads.{Facts, IsHeadAt};
-ghost use Rattle.reg_receiving.specs.Begun.{is_head};
-ghost use Rattle.reg_receiving.specs.Turns.{Sends, Spends, writes_of};
-ghost use Rattle.reg_routes.specs.Routing.{routing_of};
-ghost use Rattle.reg_sending.specs.Texts.{refusal_text};
+ghost use Rattle.reg_http_read.specs.Reads.{facts_of};
+ghost use Rattle.reg_http_read.specs.Heads.{Facts, IsHeadAt};
+ghost use Rattle.reg_http_read.specs.Begun.{is_head};
+ghost use Rattle.reg_http_read.specs.Turns.{Sends, Spends, writes_of};
+ghost use Rattle.reg_http_routes.specs.Routing.{routing_of};
+ghost use Rattle.reg_api_replies.specs.Texts.{refusal_text};
 ghost use Rattle.reg_service.specs.Answered.{AreUpToDate};
 ghost use Rattle.reg_service.specs.Registries.{limits_of, tables_of};
 ghost use Rattle.reg_service.specs.Streamed.{AsksForFile};
 ghost use Rattle.reg_http.specs.Answering.{GoesOn, IsReplied, IsRequestReplied, fault_text};
 
+use reg_api_replies::laws::answer_law;
+use reg_api_replies::{Methods, Reply};
+use reg_api_requests::{ApiRequest, Wanted};
 use reg_body::Counted;
-use reg_heads::laws::{bounds_law, one_head_law};
-use reg_heads::{Head, HeadRead, read_head};
+use reg_http_read::laws::{bounds_law, one_head_law};
+use reg_http_read::{Head, HeadRead, StreamFault, read_head, send_reply};
+use reg_http_routes::{RouteFault, Routes};
 use reg_policy::Rule;
-use reg_receiving::{StreamFault, send_reply};
-use reg_replies::{Methods, Reply};
-use reg_requests::{ApiRequest, Wanted};
-use reg_routes::{RouteFault, Routes};
-use reg_sending::laws::answer_law;
 use reg_service::Registry;
-use reg_streaming::IndexFault;
+use reg_service_index::IndexFault;
 use sqlite::Alter;
 use std::alloc::Global;
 use std::io::Write;

@@ -11,5 +11,5 @@
 mod answering;
 mod stream;
 
-pub use reg_receiving::StreamFault;
+pub use reg_http_read::StreamFault;
 pub use stream::serve_stream;

@@ -2,7 +2,7 @@
 
 ghost use Rattle.std.specs.Prelude.{◌≡◌, ◌+◌, ◌^◌, ◌<◌, ◌||◌, ◌==◌, ℕ, [], length, IfOk, vec_len};
 ghost use Rattle.sqlite.specs.State.{HasCleanDisk};
-ghost use Rattle.reg_receiving.specs.Turns.{Spends, tally};
+ghost use Rattle.reg_http_read.specs.Turns.{Spends, tally};
 ghost use Rattle.reg_service.specs.Answered.{AreUpToDate, LeavesAlone, Shows};
 ghost use Rattle.reg_service.specs.Registries.{limits_of, tables_of};
 ghost use Rattle.reg_tables.specs.Works.{shown};
@@ -11,9 +11,9 @@ ghost use Rattle.reg_http.specs.Streams.{Serves};
 
 use crate::answering::{answer_message, deny};
 use reg_body::{Counted, Limits};
-use reg_heads::laws::{append_law, bounds_law};
-use reg_receiving::{StreamFault, Taken, drop_front, take_request};
-use reg_routes::Routes;
+use reg_http_read::laws::{append_law, bounds_law};
+use reg_http_read::{StreamFault, Taken, drop_front, take_request};
+use reg_http_routes::Routes;
 use reg_service::Registry;
 use reg_service::laws::history_law;
 use sqlite::Alter;

@@ -8,7 +8,7 @@ use Rattle.reg_model.specs.Registry.{Account, Text, owner_cmp, with_id}
 use Rattle.reg_model.specs.Crates.{is_among}
 use Rattle.reg_model.proofs.Lists.{any_filter, any_same}
 use Rattle.reg_model.proofs.Members.{IsIn, in_any, in_filter}
-use Rattle.reg_stored.proofs.Numbered.{one_at}
+use Rattle.reg_tables_meaning.proofs.Numbered.{one_at}
 
 pub none_any : {X : Type 0} (xs : List X) → list_any (λ x. false) xs ≡ false
 none_any [] = refl

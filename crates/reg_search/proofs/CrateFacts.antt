@@ -23,19 +23,19 @@ use Rattle.reg_model.proofs.Canons.{canon-canon}
 use Rattle.reg_model.proofs.Seen.{sees_alike}
 use Rattle.reg_model.proofs.Lists.{any_same, list_any_map}
 use Rattle.reg_model.proofs.Members.{IsIn, any_in, all_in, each_in, in_any, in_filter, one_passes}
-use Rattle.reg_schema.proofs.Permutes.{one_row}
-use Rattle.reg_schema.proofs.Queries.{equals_int, same_filter}
-use Rattle.reg_schema.specs.Tests.{shows}
-use Rattle.reg_schema.specs.Rows.{number_columns}
-use Rattle.reg_stored.specs.Stands.{Holds, Ids, StandPairs, StoredCrate, StoredPair, StoredVersion, columns_of_stored, is_of, is_paired, row_of_version, spelling_at}
-use Rattle.reg_stored.specs.Summaries.{its_versions, marked_of, row_of_summary, top_among, top_of}
-use Rattle.reg_stored.proofs.CrateCounts.{crate_has}
-use Rattle.reg_stored.proofs.CrateLemmas.{apart_by, spelled_at, text_itself}
-use Rattle.reg_stored.proofs.CrateNames.{kept}
-use Rattle.reg_stored.proofs.Rowids.{any_columns, first_column, second_column}
-use Rattle.reg_stored.proofs.Standing.{same_number}
-use Rattle.reg_stored.proofs.SummaryLaws.{top_named}
-use Rattle.reg_stored.proofs.SummaryRows.{got_map}
+use Rattle.reg_tables_schema.proofs.Permutes.{one_row}
+use Rattle.reg_tables_schema.proofs.Queries.{equals_int, same_filter}
+use Rattle.reg_tables_schema.specs.Tests.{shows}
+use Rattle.reg_tables_schema.specs.Rows.{number_columns}
+use Rattle.reg_tables_meaning.specs.Stands.{Holds, Ids, StandPairs, StoredCrate, StoredPair, StoredVersion, columns_of_stored, is_of, is_paired, row_of_version, spelling_at}
+use Rattle.reg_tables_meaning.specs.Summaries.{its_versions, marked_of, row_of_summary, top_among, top_of}
+use Rattle.reg_tables_meaning.proofs.CrateCounts.{crate_has}
+use Rattle.reg_tables_meaning.proofs.CrateLemmas.{apart_by, spelled_at, text_itself}
+use Rattle.reg_tables_meaning.proofs.CrateNames.{kept}
+use Rattle.reg_tables_meaning.proofs.Rowids.{any_columns, first_column, second_column}
+use Rattle.reg_tables_meaning.proofs.Standing.{same_number}
+use Rattle.reg_tables_meaning.proofs.SummaryLaws.{top_named}
+use Rattle.reg_tables_meaning.proofs.SummaryRows.{got_map}
 use Rattle.reg_search.proofs.Among.{among_held}
 use Rattle.reg_search.proofs.Tops.{there_is_top}
 

@@ -6,11 +6,11 @@ use Rattle.sqlite.specs.State.{HasCleanDisk, Shown, State}
 use Rattle.sqlite.specs.declared.types.Value.TheVariants.{Int}
 use Rattle.sqlite_trees.specs.declared.store.Store.{Ghosts}
 use Rattle.reg_model.specs.Registry.{Text as Words}
-use Rattle.reg_schema.proofs.Reading.{selected_by}
-use Rattle.reg_schema.specs.States.{IsOurs}
-use Rattle.reg_schema.specs.declared.edition.Edition.TheVariants.{Second}
-use Rattle.reg_stored.specs.Stands.{Holds}
-use Rattle.reg_stored.specs.Walks.{HasWalked}
+use Rattle.reg_tables_schema.proofs.Reading.{selected_by}
+use Rattle.reg_tables_schema.specs.States.{IsOurs}
+use Rattle.reg_tables_schema.specs.declared.edition.Edition.TheVariants.{Second}
+use Rattle.reg_tables_meaning.specs.Stands.{Holds}
+use Rattle.reg_tables_meaning.specs.Walks.{HasWalked}
 use Rattle.reg_search.specs.Rows.{AreFound, FindsNeedle}
 use Rattle.reg_search.specs.declared.hit.Found.{Found}
 use Rattle.reg_search.proofs.RowsLaw.{rows_are}

@@ -11,7 +11,7 @@ use Rattle.reg_model.specs.Registry.{Registry, Text, text_cmp}
 use Rattle.reg_model.specs.Crates.{canons}
 use Rattle.reg_model.proofs.Canons.{Keyed, by_canon}
 use Rattle.reg_model.proofs.Keys.{text_apart}
-use Rattle.reg_schema.proofs.Permutes.{filter_map}
+use Rattle.reg_tables_schema.proofs.Permutes.{filter_map}
 
 abbrev as_key : Text → Keyed
 as_key t = (t, tt {0})

@@ -28,17 +28,17 @@ use Rattle.reg_model.specs.Search.{top}
 use Rattle.reg_model.proofs.Canons.{canon-canon, key_there, text_agrees}
 use Rattle.reg_model.proofs.Lists.{any_filter, any_same, list_any_map}
 use Rattle.reg_model.proofs.Members.{IsIn}
-use Rattle.reg_schema.proofs.Queries.{and_true, maps_twice}
-use Rattle.reg_schema.proofs.Sorted.{rises, then_equal, unmapped}
-use Rattle.reg_schema.specs.Rows.{text_or_null}
-use Rattle.reg_stored.proofs.AllCrates.{canons_rise}
-use Rattle.reg_stored.proofs.CrateCounts.{crate_has}
-use Rattle.reg_stored.proofs.CrateNames.{first_spelled}
-use Rattle.reg_stored.specs.Stands.{Holds, Ids, StoredCrate, StoredVersion, row_of_crate, row_of_version}
-use Rattle.reg_stored.specs.Summaries.{row_of_summary, top_of}
+use Rattle.reg_tables_schema.proofs.Queries.{and_true, maps_twice}
+use Rattle.reg_tables_schema.proofs.Sorted.{rises, then_equal, unmapped}
+use Rattle.reg_tables_schema.specs.Rows.{text_or_null}
+use Rattle.reg_tables_meaning.proofs.AllCrates.{canons_rise}
+use Rattle.reg_tables_meaning.proofs.CrateCounts.{crate_has}
+use Rattle.reg_tables_meaning.proofs.CrateNames.{first_spelled}
+use Rattle.reg_tables_meaning.specs.Stands.{Holds, Ids, StoredCrate, StoredVersion, row_of_crate, row_of_version}
+use Rattle.reg_tables_meaning.specs.Summaries.{row_of_summary, top_of}
 use Rattle.sqlite.specs.Collation.TheVariants.{Binary}
 use Rattle.sqlite_schema.specs.Rules.{equal}
-use Rattle.reg_stored.proofs.CrateLemmas.{same_bytes}
+use Rattle.reg_tables_meaning.proofs.CrateLemmas.{same_bytes}
 use Rattle.reg_search.proofs.Among.{and_false, none_any}
 use Rattle.reg_search.proofs.CrateFacts.{highest, highest_row, its_row, paired_is, restricted_is, same_id, seen_is, top_is}
 use Rattle.reg_search.proofs.Rising.{canons_passing}

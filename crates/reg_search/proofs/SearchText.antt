@@ -9,9 +9,9 @@ use Rattle.sqlite_sql.specs.declared.ops.UnaryOp.TheVariants.{Not}
 use Rattle.sqlite_sql.specs.declared.ops.CompareOp.TheVariants.{Eq}
 use Rattle.sqlite_tied.specs.Compute.{everything}
 use Rattle.sqlite_value.specs.Keys.{ascending}
-use Rattle.reg_schema.specs.Schema.{ours}
-use Rattle.reg_schema.proofs.Reading.{IsSelection}
-use Rattle.reg_schema.proofs.Sorted.{in_order}
+use Rattle.reg_tables_schema.specs.Schema.{ours}
+use Rattle.reg_tables_schema.proofs.Reading.{IsSelection}
+use Rattle.reg_tables_schema.proofs.Sorted.{in_order}
 
 abbrev pub search_text : List ℕ
 search_text = codes "SELECT c.canon, c.name, v.vers, v.description FROM crates c LEFT JOIN summaries s ON s.crate = c.id LEFT JOIN versions v ON v.id = s.highest WHERE NOT EXISTS (SELECT 1 FROM restricted r WHERE r.crate = c.id) OR EXISTS (SELECT 1 FROM owners o WHERE o.crate = c.id AND o.account = ?1) OR EXISTS (SELECT 1 FROM readers d WHERE d.crate = c.id AND d.account = ?1) ORDER BY c.canon"

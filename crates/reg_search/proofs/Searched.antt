@@ -9,10 +9,10 @@ use Rattle.reg_model.specs.Crates.{canons, sees}
 use Rattle.reg_model.specs.Events as model
 use Rattle.reg_model.specs.Registry.{Registry, Text as Words}
 use Rattle.reg_model.specs.Search.{found, hit, matches, occurs}
-use Rattle.reg_schema.proofs.Permutes.{filter_map}
-use Rattle.reg_schema.proofs.Queries.{maps_twice}
-use Rattle.reg_stored.proofs.AccountEntries.{heads, tails, text_is, words_are}
-use Rattle.reg_stored.proofs.Selected.{each}
+use Rattle.reg_tables_schema.proofs.Permutes.{filter_map}
+use Rattle.reg_tables_schema.proofs.Queries.{maps_twice}
+use Rattle.reg_tables_meaning.proofs.AccountEntries.{heads, tails, text_is, words_are}
+use Rattle.reg_tables_meaning.proofs.Selected.{each}
 use Rattle.reg_search.specs.Rows.{AreFound, columns_of_hit, columns_of_model, found_of, hit_of, is_hit, shown_in}
 use Rattle.reg_search.specs.declared.hit.Found.{Found}
 use Rattle.reg_search.specs.declared.hit.Hit.{Hit}

@@ -9,8 +9,8 @@ use Rattle.reg_model.specs.Events as model
 use Rattle.reg_model.specs.Registry.{Text as Words}
 use Rattle.reg_model.specs.Search.{found, occurs}
 use Rattle.reg_names.specs.Names.{canon}
-use Rattle.reg_schema.specs.Rows.{text_or_null}
-use Rattle.reg_stored.specs.Calls.{Tells}
+use Rattle.reg_tables_schema.specs.Rows.{text_or_null}
+use Rattle.reg_tables_meaning.specs.Calls.{Tells}
 use Rattle.reg_search.specs.declared.hit.Found.{Found}
 use Rattle.reg_search.specs.declared.hit.Hit.{Hit}
 

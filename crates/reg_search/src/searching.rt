@@ -3,9 +3,9 @@
 ghost use Rattle.std.specs.Prelude.{◌≡◌, IfOk};
 ghost use Rattle.sqlite.specs.Held.{state};
 ghost use Rattle.sqlite.specs.State.{HasCleanDisk};
-ghost use Rattle.reg_schema.specs.States.{IsOurs};
-ghost use Rattle.reg_schema.specs.Statements.{rows_in};
-ghost use Rattle.reg_stored.specs.Walks.{IsRead};
+ghost use Rattle.reg_tables_schema.specs.States.{IsOurs};
+ghost use Rattle.reg_tables_schema.specs.Statements.{rows_in};
+ghost use Rattle.reg_tables_meaning.specs.Walks.{IsRead};
 ghost use Rattle.reg_tables.specs.Works.{AreOurs, edition_in, held, is_shut, shown};
 ghost use Rattle.reg_search.specs.Rows.{FindsCrates, FindsNeedle};
 

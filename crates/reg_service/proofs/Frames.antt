@@ -10,8 +10,8 @@ use Rattle.reg_model.specs.Registry.{Registry}
 use Rattle.reg_model.specs.Events.{Event, Answer}
 use Rattle.reg_model.specs.Steps.{IsFit, Step, no_room, outcome}
 use Rattle.reg_model.specs.Laws.{StepsKeepSound}
-use Rattle.reg_schema.specs.States.{IsUndone, LeavesCommit, Refuses}
-use Rattle.reg_stored.specs.Stands.{Stands}
+use Rattle.reg_tables_schema.specs.States.{IsUndone, LeavesCommit, Refuses}
+use Rattle.reg_tables_meaning.specs.Stands.{Stands}
 use Rattle.reg_tables.specs.Ends.{Begins, IsCommitted, IsDropped, IsRefused, SeesAll}
 use Rattle.reg_tables.specs.Looks.{Looks}
 use Rattle.reg_tables.specs.Works.{AreOurs, IsLeft, has_failed, held, rows_seen, seen, shown}

@@ -9,7 +9,7 @@ use Rattle.reg_model.specs.Events.{Answer, Event}
 use Rattle.reg_model.specs.Laws.{RunsJoin, RunsKeepSound, StemsGrow, StepsRun}
 use Rattle.reg_model.specs.Registry.{Registry}
 use Rattle.reg_model.specs.Steps.{IsFit, Run, no_room, outcome}
-use Rattle.reg_stored.specs.Stands.{Stands}
+use Rattle.reg_tables_meaning.specs.Stands.{Stands}
 use Rattle.reg_tables.specs.declared.tables.Tables.{Tables}
 use Rattle.reg_tables.specs.Works.{shown}
 use Rattle.std.specs.Prelude.{Result}
@@ -20,11 +20,11 @@ use Rattle.reg_model.specs.declared.rule.Rule.TheVariants as rule
 use Rattle.reg_policy.specs.declared.event.AdminCommand.{AdminCommand}
 use Rattle.reg_policy.specs.declared.event.AdminReply.{AdminReply}
 use Rattle.reg_policy.specs.Events.{command_of, reply_of}
-use Rattle.reg_replies.specs.declared.reply.Reply.{Reply}
-use Rattle.reg_replies.specs.declared.reply.Reply.TheVariants.{Denied}
-use Rattle.reg_requests.specs.Requests.{request_of}
-use Rattle.reg_requests.specs.Views.{event_of}
-use Rattle.reg_requests.specs.declared.request.ApiRequest.{ApiRequest}
+use Rattle.reg_api_replies.specs.declared.reply.Reply.{Reply}
+use Rattle.reg_api_replies.specs.declared.reply.Reply.TheVariants.{Denied}
+use Rattle.reg_api_requests.specs.Requests.{request_of}
+use Rattle.reg_api_requests.specs.Views.{event_of}
+use Rattle.reg_api_requests.specs.declared.request.ApiRequest.{ApiRequest}
 use Rattle.reg_service.specs.Answered.{Answers, IsAnswered, LeavesAlone, Shows}
 use Rattle.reg_service.specs.Handled.{IsReplied}
 use Rattle.reg_service.specs.Sequences.{AreNoRoom, AreTold, HasAnswered, IsFitCall, IsTold, IsUnread, MayBeLeft, Ran, TellsOf, event_at}

@@ -8,14 +8,14 @@ use Rattle.sqlite.specs.Tree.{Trees}
 use Rattle.sqlite.proofs.StateLemmas.{survives_then, survives_weaker}
 use Rattle.sqlite_trees.specs.declared.store.Store.{Ghosts}
 use Rattle.reg_model.specs.Registry as model
-use Rattle.reg_schema.specs.declared.edition.Edition.{Edition}
-use Rattle.reg_schema.specs.declared.edition.Edition.TheVariants.{First, Second}
+use Rattle.reg_tables_schema.specs.declared.edition.Edition.{Edition}
+use Rattle.reg_tables_schema.specs.declared.edition.Edition.TheVariants.{First, Second}
 use Rattle.reg_audit.specs.declared.check.Check.{Check}
-use Rattle.reg_schema.specs.Schema.{schema_of}
-use Rattle.reg_schema.specs.States.{IsOurs, IsUndone, LeavesCommit}
-use Rattle.reg_statements.specs.Abouts.{HasBase}
-use Rattle.reg_opening.specs.Editions.{AreFound, EditionLaw, FoundLaw, HoldsAs, KeepsSchema}
-use Rattle.reg_stored.specs.Upgrades.{AreBegun, AreUpgraded, IsUpgraded}
+use Rattle.reg_tables_schema.specs.Schema.{schema_of}
+use Rattle.reg_tables_schema.specs.States.{IsOurs, IsUndone, LeavesCommit}
+use Rattle.reg_tables_sql.specs.Abouts.{HasBase}
+use Rattle.reg_audit_law.specs.Editions.{AreFound, EditionLaw, FoundLaw, HoldsAs, KeepsSchema}
+use Rattle.reg_tables_meaning.specs.Upgrades.{AreBegun, AreUpgraded, IsUpgraded}
 use Rattle.reg_tables.specs.declared.tables.Tables.{Tables}
 use Rattle.reg_tables.specs.Works as works
 use Rattle.reg_tables.specs.Works.{AreOurs, IsSame, edition_in, shown}

@@ -11,11 +11,11 @@ use Rattle.reg_model.specs.Events.Event.{Ask}
 use Rattle.reg_model.specs.Laws.{StepsKeepSound}
 use Rattle.reg_model.specs.Registry.{Registry, Text}
 use Rattle.reg_model.specs.Steps.{IsFit, Outcome, outcome}
-use Rattle.reg_replies.specs.declared.reply.Reply.{Reply}
-use Rattle.reg_replies.specs.declared.reply.Reply.TheVariants.{Denied}
-use Rattle.reg_schema.specs.States.{LeavesCommit}
-use Rattle.reg_serving.specs.Serves.{Serves}
-use Rattle.reg_serving.specs.declared.served.Served.TheVariants.{Done, Seeks, Told}
+use Rattle.reg_api_replies.specs.declared.reply.Reply.{Reply}
+use Rattle.reg_api_replies.specs.declared.reply.Reply.TheVariants.{Denied}
+use Rattle.reg_tables_schema.specs.States.{LeavesCommit}
+use Rattle.reg_service_requests.specs.Serves.{Serves}
+use Rattle.reg_service_requests.specs.declared.served.Served.TheVariants.{Done, Seeks, Told}
 use Rattle.reg_tables.specs.Ends.{Begins, IsCommitted, IsDropped, IsRefused, SeesAll}
 use Rattle.reg_tables.specs.Looks.{Looks}
 use Rattle.reg_tables.specs.Works.{AreOurs, IsLeft, has_failed, rows_seen, seen, shown}

@@ -5,9 +5,9 @@ use Rattle.reg_model.specs.Events.Asked.{Read}
 use Rattle.reg_model.specs.Events.Reading.{Search}
 use Rattle.reg_model.specs.Registry.{Registry, Text}
 use Rattle.reg_model.specs.Search.{found}
-use Rattle.reg_replies.specs.Bodies.{found_body}
-use Rattle.reg_replies.specs.declared.reply.Reply.{Reply}
-use Rattle.reg_replies.specs.declared.reply.Reply.TheVariants.{Denied, Done, Method}
+use Rattle.reg_api_replies.specs.Bodies.{found_body}
+use Rattle.reg_api_replies.specs.declared.reply.Reply.{Reply}
+use Rattle.reg_api_replies.specs.declared.reply.Reply.TheVariants.{Denied, Done, Method}
 use Rattle.reg_service.specs.Handled.{ListsFound, Sought}
 
 -- the reply shows what the account finds

@@ -15,22 +15,22 @@ use Rattle.reg_model.specs.Events.Answer.{Denied as to_denied, File}
 use Rattle.reg_model.specs.Events.Asked.{Index}
 use Rattle.reg_model.specs.Events.Event.{Ask}
 use Rattle.reg_model.specs.Registry.{Registry, Text}
-use Rattle.reg_schema.specs.States.{LeavesCommit}
-use Rattle.reg_sending.specs.Sent.{Sink}
-use Rattle.reg_requests.specs.declared.request.Wanted.{Wanted}
-use Rattle.reg_requests.specs.declared.request.Wanted.TheVariants as wanted
-use Rattle.reg_requests.specs.Requests.{asked_by}
-use Rattle.reg_sending.specs.Texts.{answer_text, refusal_text}
-use Rattle.reg_statements.specs.Stems.{AreStemsOf}
-use Rattle.reg_stored.specs.Stands.{Holds, Ids}
-use Rattle.reg_streaming.specs.Decides.{Decides, file_at}
-use Rattle.reg_streaming.specs.Files.{SendsFile, SendsNoRoom, rows_text}
-use Rattle.reg_streaming.specs.Streams.{Streams}
-use Rattle.reg_streaming.specs.declared.deciding.Decided.{Decided}
-use Rattle.reg_streaming.specs.declared.deciding.Decided.TheVariants.{Denied, Found}
-use Rattle.reg_streaming.specs.declared.fault.IndexFault.{IndexFault}
-use Rattle.reg_streaming.specs.declared.fault.IndexFault.TheVariants.{Store}
-use Rattle.reg_streaming.specs.declared.found.FoundFile.{FoundFile}
+use Rattle.reg_tables_schema.specs.States.{LeavesCommit}
+use Rattle.reg_api_replies.specs.Sent.{Sink}
+use Rattle.reg_api_requests.specs.declared.request.Wanted.{Wanted}
+use Rattle.reg_api_requests.specs.declared.request.Wanted.TheVariants as wanted
+use Rattle.reg_api_requests.specs.Requests.{asked_by}
+use Rattle.reg_api_replies.specs.Texts.{answer_text, refusal_text}
+use Rattle.reg_tables_sql.specs.Stems.{AreStemsOf}
+use Rattle.reg_tables_meaning.specs.Stands.{Holds, Ids}
+use Rattle.reg_service_index.specs.Decides.{Decides, file_at}
+use Rattle.reg_service_index.specs.Files.{SendsFile, SendsNoRoom, rows_text}
+use Rattle.reg_service_index.specs.Streams.{Streams}
+use Rattle.reg_service_index.specs.declared.deciding.Decided.{Decided}
+use Rattle.reg_service_index.specs.declared.deciding.Decided.TheVariants.{Denied, Found}
+use Rattle.reg_service_index.specs.declared.fault.IndexFault.{IndexFault}
+use Rattle.reg_service_index.specs.declared.fault.IndexFault.TheVariants.{Store}
+use Rattle.reg_service_index.specs.declared.found.FoundFile.{FoundFile}
 use Rattle.reg_tables.specs.declared.tables.Tables.{Tables}
 use Rattle.reg_tables.specs.declared.work.StoreFault.{StoreFault}
 use Rattle.reg_tables.specs.declared.work.Work.{Work}

@@ -7,10 +7,10 @@ use Rattle.reg_body.specs.declared.limits.Limits.{Limits}
 use Rattle.reg_model.specs.Events.{Answer, Event}
 use Rattle.reg_model.specs.Registry.{Registry}
 use Rattle.reg_model.specs.Steps.{Step, no_room, outcome}
-use Rattle.reg_schema.specs.declared.edition.Edition.{Edition}
-use Rattle.reg_schema.specs.declared.edition.Edition.TheVariants.{Second}
-use Rattle.reg_stored.specs.Stands.{Holds, Ids, Stands}
-use Rattle.reg_opening.specs.Editions.{HoldsAs}
+use Rattle.reg_tables_schema.specs.declared.edition.Edition.{Edition}
+use Rattle.reg_tables_schema.specs.declared.edition.Edition.TheVariants.{Second}
+use Rattle.reg_tables_meaning.specs.Stands.{Holds, Ids, Stands}
+use Rattle.reg_audit_law.specs.Editions.{HoldsAs}
 use Rattle.reg_tables.specs.declared.tables.Tables.{Tables}
 use Rattle.reg_tables.specs.Works.{AreOurs, edition_in, is_shut, shown}
 

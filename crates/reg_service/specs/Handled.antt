@@ -8,11 +8,11 @@ use Rattle.reg_model.specs.Effects.{served}
 use Rattle.reg_model.specs.Events.{Answer, Asked, FoundCrates}
 use Rattle.reg_model.specs.Events.Event.{Ask}
 use Rattle.reg_model.specs.Registry.{Registry, Text}
-use Rattle.reg_replies.specs.Bodies.{found_body}
-use Rattle.reg_replies.specs.Replies.{Says}
-use Rattle.reg_replies.specs.declared.head.Kind.TheVariants.{Json}
-use Rattle.reg_replies.specs.declared.reply.Reply.{Reply}
-use Rattle.reg_replies.specs.declared.reply.Reply.TheVariants.{Denied, Done, Method}
+use Rattle.reg_api_replies.specs.Bodies.{found_body}
+use Rattle.reg_api_replies.specs.Replies.{Says}
+use Rattle.reg_api_replies.specs.declared.head.Kind.TheVariants.{Json}
+use Rattle.reg_api_replies.specs.declared.reply.Reply.{Reply}
+use Rattle.reg_api_replies.specs.declared.reply.Reply.TheVariants.{Denied, Done, Method}
 use Rattle.reg_tables.specs.declared.tables.Tables.{Tables}
 use Rattle.reg_tables.specs.Works.{shown}
 use Rattle.reg_service.specs.Answered.{Answers, Shows}

@@ -8,9 +8,9 @@ use Rattle.reg_audit.specs.Checks.{IsFirst}
 use Rattle.reg_audit.specs.declared.check.Check.{Check}
 use Rattle.reg_model.specs.Crates.{exported}
 use Rattle.reg_model.specs.Registry.{Registry}
-use Rattle.reg_serving.specs.Exported.{texts_of}
-use Rattle.reg_whole.specs.declared.all_rows.AllRows.{AllRows}
-use Rattle.reg_whole.specs.WholeRows.{AreAllRows}
+use Rattle.reg_service_requests.specs.Exported.{texts_of}
+use Rattle.reg_tables_rows.specs.declared.all_rows.AllRows.{AllRows}
+use Rattle.reg_tables_rows.specs.WholeRows.{AreAllRows}
 use Rattle.reg_tables.specs.declared.tables.Tables.{Tables}
 use Rattle.reg_tables.specs.Works.{is_shut, shown}
 use Rattle.reg_service.specs.Answered.{AreUpToDate, Shows}

@@ -9,14 +9,14 @@ use Rattle.reg_body.specs.declared.limits.Limits.{Limits}
 use Rattle.reg_model.specs.Registry.{Text, empty_at, Registry as Modelled}
 use Rattle.reg_audit.specs.declared.check.Check.{Check}
 use Rattle.reg_audit.specs.Checks.{IsFirst}
-use Rattle.reg_schema.specs.Schema.{old_schema, ours, schema_of}
-use Rattle.reg_schema.specs.declared.edition.Edition.{Edition}
-use Rattle.reg_schema.specs.declared.edition.Edition.TheVariants.{First, Second}
-use Rattle.reg_statements.specs.Abouts.{HasBase}
-use Rattle.reg_whole.specs.declared.all_rows.AllRows.{AllRows}
-use Rattle.reg_whole.specs.WholeRows.{AreAllRows}
+use Rattle.reg_tables_schema.specs.Schema.{old_schema, ours, schema_of}
+use Rattle.reg_tables_schema.specs.declared.edition.Edition.{Edition}
+use Rattle.reg_tables_schema.specs.declared.edition.Edition.TheVariants.{First, Second}
+use Rattle.reg_tables_sql.specs.Abouts.{HasBase}
+use Rattle.reg_tables_rows.specs.declared.all_rows.AllRows.{AllRows}
+use Rattle.reg_tables_rows.specs.WholeRows.{AreAllRows}
 use Rattle.reg_tables.specs.declared.tables.Tables.{Tables}
-use Rattle.reg_stored.specs.Upgrades.{AreBegun}
+use Rattle.reg_tables_meaning.specs.Upgrades.{AreBegun}
 use Rattle.reg_tables.specs.Works.{is_shut, shown}
 use Rattle.reg_service.specs.Answered.{Are, AreAs, AreUpToDate, LeavesAlone, Shows}
 use Rattle.reg_service.specs.declared.opening.OpenFault.{OpenFault}

@@ -14,11 +14,11 @@ use Rattle.reg_model.specs.Sound.{Sound}
 use Rattle.reg_model.specs.declared.rule.Rule.TheVariants as rule
 use Rattle.reg_model.specs.Steps.{IsFit, Run, no_room, outcome}
 use Rattle.reg_policy.specs.Events.{command_of, reply_of}
-use Rattle.reg_replies.specs.Replies.{Says}
-use Rattle.reg_replies.specs.declared.reply.Reply.TheVariants.{Denied}
-use Rattle.reg_requests.specs.Requests.{request_of}
-use Rattle.reg_requests.specs.Views.{event_of}
-use Rattle.reg_stored.specs.Stands.{Stands}
+use Rattle.reg_api_replies.specs.Replies.{Says}
+use Rattle.reg_api_replies.specs.declared.reply.Reply.TheVariants.{Denied}
+use Rattle.reg_api_requests.specs.Requests.{request_of}
+use Rattle.reg_api_requests.specs.Views.{event_of}
+use Rattle.reg_tables_meaning.specs.Stands.{Stands}
 use Rattle.reg_tables.specs.declared.tables.Tables.{Tables}
 use Rattle.reg_tables.specs.Works.{shown}
 use Rattle.reg_service.specs.Answered.{Answers, Shows}

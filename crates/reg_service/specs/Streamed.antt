@@ -9,16 +9,16 @@ use Rattle.reg_model.specs.Events.Answer.{Denied}
 use Rattle.reg_model.specs.Events.Asked.{Index as to_index}
 use Rattle.reg_model.specs.Events.Event.{Ask}
 use Rattle.reg_model.specs.Registry.{Registry, Text}
-use Rattle.reg_requests.specs.declared.request.Wanted.{Wanted}
-use Rattle.reg_requests.specs.declared.request.Wanted.TheVariants.{Index}
-use Rattle.reg_sending.specs.Sent.{Sink}
-use Rattle.reg_sending.specs.Texts.{answer_text}
-use Rattle.reg_streaming.specs.Decides.{Decides}
-use Rattle.reg_streaming.specs.Files.{SendsNoRoom, SendsSome}
-use Rattle.reg_streaming.specs.Streams.{Streams}
-use Rattle.reg_streaming.specs.declared.deciding.Decided.{Decided}
-use Rattle.reg_streaming.specs.declared.fault.IndexFault.{IndexFault}
-use Rattle.reg_streaming.specs.declared.fault.IndexFault.TheVariants.{Store}
+use Rattle.reg_api_requests.specs.declared.request.Wanted.{Wanted}
+use Rattle.reg_api_requests.specs.declared.request.Wanted.TheVariants.{Index}
+use Rattle.reg_api_replies.specs.Sent.{Sink}
+use Rattle.reg_api_replies.specs.Texts.{answer_text}
+use Rattle.reg_service_index.specs.Decides.{Decides}
+use Rattle.reg_service_index.specs.Files.{SendsNoRoom, SendsSome}
+use Rattle.reg_service_index.specs.Streams.{Streams}
+use Rattle.reg_service_index.specs.declared.deciding.Decided.{Decided}
+use Rattle.reg_service_index.specs.declared.fault.IndexFault.{IndexFault}
+use Rattle.reg_service_index.specs.declared.fault.IndexFault.TheVariants.{Store}
 use Rattle.reg_tables.specs.declared.tables.Tables.{Tables}
 use Rattle.reg_tables.specs.declared.work.StoreFault.{StoreFault}
 use Rattle.reg_tables.specs.Works.{is_shut, shown}

@@ -22,6 +22,6 @@ mod transactions;
 
 pub use opening::OpenFault;
 pub use reg_audit::Check;
-pub use reg_streaming::IndexFault;
+pub use reg_service_index::IndexFault;
 pub use registry::Registry;
 pub use sequences::{Call, Told, answer_all};

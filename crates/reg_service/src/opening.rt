@@ -4,19 +4,19 @@ ghost use Rattle.std.specs.Prelude.{◌≡◌, ◌≢◌, ◌↔◌, false, true
 ghost use Rattle.sqlite.specs.Held.{state};
 ghost use Rattle.sqlite.specs.State.{HasCleanDisk, Survives};
 ghost use Rattle.reg_line.specs.Base.{is_base as is_base_text};
-ghost use Rattle.reg_schema.specs.Schema.{blank, schema_of};
-ghost use Rattle.reg_schema.specs.States.{IsMade, IsUndone};
-ghost use Rattle.reg_statements.specs.Abouts.{LacksBase};
+ghost use Rattle.reg_tables_schema.specs.Schema.{blank, schema_of};
+ghost use Rattle.reg_tables_schema.specs.States.{IsMade, IsUndone};
+ghost use Rattle.reg_tables_sql.specs.Abouts.{LacksBase};
 ghost use Rattle.reg_service.specs.Answered.{AreAs, AreUpToDate, Shows};
 ghost use Rattle.reg_service.specs.Registries.{AreDamaged, AreOne, IsBrought, IsFirstFailing, IsNew, LeavesOpened, MayBeUpgraded, has_stopped, limits_of, tables_of};
 ghost use Rattle.reg_tables.specs.Works.{AreOurs, edition_in, is_shut, shown};
 
 use crate::registry::Registry;
 use reg_audit::{Check, audit};
+use reg_audit_law::laws::{edition_law, rows_law};
 use reg_body::Limits;
 use reg_line::is_base;
 use reg_model::laws::soundness_law;
-use reg_opening::laws::{edition_law, rows_law};
 use reg_tables::{Edition, MakeFault, Tables};
 use sqlite::{Alter, Connection};
 use std::alloc::Global;

@@ -2,15 +2,15 @@
 
 ghost use Rattle.std.specs.Prelude.{◌≡◌, ◌++◌, ◌∷◌, [], IfOk, OnOk};
 ghost use Rattle.reg_policy.specs.Events.{asked_of};
-ghost use Rattle.reg_replies.specs.Bodies.{found_body as found_text};
+ghost use Rattle.reg_api_replies.specs.Bodies.{found_body as found_text};
 ghost use Rattle.reg_search.specs.Rows.{found_of, hit_of};
 ghost use Rattle.reg_tables.specs.Works.{IsLeft, shown};
 ghost use Rattle.sqlite.specs.State.{HasCleanDisk};
 ghost use Rattle.reg_service.specs.Answered.{AreUpToDate, Shows};
 ghost use Rattle.reg_service.specs.Handled.{ListsFound, Sought};
 
+use reg_api_replies::{FoundBody, Kind, Reply};
 use reg_policy::{Asked, Reading, Rule};
-use reg_replies::{FoundBody, Kind, Reply};
 use reg_search::{Found, Hit, search};
 use reg_tables::Tables;
 use sqlite::Alter;

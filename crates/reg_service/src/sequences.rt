@@ -10,11 +10,11 @@ ghost use Rattle.reg_service.specs.Registries.{limits_of, tables_of};
 ghost use Rattle.reg_service.specs.Sequences.{HasAnswered, HasBegun, IsFitCall, IsTold, IsUnread, event_at};
 
 use crate::registry::Registry;
+use reg_api_replies::Reply;
+use reg_api_requests::ApiRequest;
 use reg_model::AdminRefusal;
 use reg_model::laws::{growth_law, run_law};
 use reg_policy::{AdminCommand, AdminReply};
-use reg_replies::Reply;
-use reg_requests::ApiRequest;
 use sqlite::Alter;
 use std::alloc::{AllocError, Global};
 

@@ -3,12 +3,12 @@ use Rattle.std.proofs.Common.{Result, Ok, Err, OnOk, OnErr, IfOk, ap, inl, refl,
 use Rattle.sqlite_trees.specs.declared.store.Store.{Ghosts}
 use Rattle.sqlite.specs.State.{State, IsUnchanged, KeepsCommit}
 use Rattle.sqlite.proofs.StateLemmas.{survives_then}
-use Rattle.reg_schema.specs.States.{IsInside}
-use Rattle.reg_schema.specs.Steps.{Fails, Within}
+use Rattle.reg_tables_schema.specs.States.{IsInside}
+use Rattle.reg_tables_schema.specs.Steps.{Fails, Within}
 use Rattle.sqlite.specs.Effect.{Database}
-use Rattle.reg_schema.specs.declared.edition.Edition.{Edition}
-use Rattle.reg_schema.specs.declared.edition.Edition.TheVariants.{First, Second}
-use Rattle.reg_stored.specs.Upgrades.{AreBegun, BeginsSecond}
+use Rattle.reg_tables_schema.specs.declared.edition.Edition.{Edition}
+use Rattle.reg_tables_schema.specs.declared.edition.Edition.TheVariants.{First, Second}
+use Rattle.reg_tables_meaning.specs.Upgrades.{AreBegun, BeginsSecond}
 use Rattle.reg_tables.specs.Works.{IsAtWork, IsCall, seen}
 use Rattle.reg_tables.specs.declared.work.Work.{Work}
 use Rattle.reg_tables.specs.Looks.{Looks}

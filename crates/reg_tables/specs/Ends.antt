@@ -5,8 +5,8 @@ use Rattle.sqlite_trees.specs.declared.store.Store.{Ghosts}
 use Rattle.sqlite.specs.Effect.{Database}
 use Rattle.sqlite.specs.State.{State, HasCleanDisk, Shows, Survives}
 use Rattle.sqlite.specs.Tree.{Trees}
-use Rattle.reg_schema.specs.declared.edition.Edition.TheVariants.{Second}
-use Rattle.reg_schema.specs.States.{GoesBack, IsUndone, LeavesCommit}
+use Rattle.reg_tables_schema.specs.declared.edition.Edition.TheVariants.{Second}
+use Rattle.reg_tables_schema.specs.States.{GoesBack, IsUndone, LeavesCommit}
 use Rattle.reg_tables.specs.Works.{AreOurs, IsAtWork, edition_in, has_failed, is_shut, seen, shown}
 use Rattle.reg_tables.specs.declared.tables.Tables.{Tables}
 use Rattle.reg_tables.specs.declared.work.Work.{Work}

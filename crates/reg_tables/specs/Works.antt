@@ -4,9 +4,9 @@ use Rattle.sqlite_trees.specs.declared.store.Store.{Ghosts}
 use Rattle.sqlite.specs.Held.{Held, state}
 use Rattle.sqlite.specs.State.{State, HasCleanDisk, IsUnchanged, Survives}
 use Rattle.sqlite.specs.Tree.{Trees}
-use Rattle.reg_schema.specs.declared.edition.Edition.{Edition}
-use Rattle.reg_schema.specs.States.{GoesBack, IsReady, IsOurs, IsUndone, Refuses}
-use Rattle.reg_schema.specs.Steps.{Fails, Within}
+use Rattle.reg_tables_schema.specs.declared.edition.Edition.{Edition}
+use Rattle.reg_tables_schema.specs.States.{GoesBack, IsReady, IsOurs, IsUndone, Refuses}
+use Rattle.reg_tables_schema.specs.Steps.{Fails, Within}
 use Rattle.reg_tables.specs.declared.tables.Tables.{Tables}
 use Rattle.reg_tables.specs.declared.work.Work.{Work}
 

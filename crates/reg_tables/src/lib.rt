@@ -7,25 +7,25 @@
 //! work.commit()?;
 //! ```
 //!
-//! The typed calls of a transaction are the functions of `reg_calls`.
+//! The typed calls of a transaction are the functions of `reg_tables_calls`.
 #![tactic(auto)]
 
 mod tables;
 mod work;
 
-pub use reg_schema::{Edition, MakeFault};
-pub use reg_statements::accounts::Account;
-pub use reg_statements::crates::Crate;
-pub use reg_statements::owners::Ownership;
-pub use reg_statements::records::FromRow;
-pub use reg_statements::scopes::Scope;
-pub use reg_statements::summaries::Summary;
-pub use reg_statements::tokens::{Token, TokenRow};
-pub use reg_statements::versions::{StemRow, Version};
-pub use reg_stored::counts::Counts;
-pub use reg_stored::crates::NewVersion;
-pub use reg_stored::entries::index_rows;
-pub use reg_stored::tokens::{TokenLists, TokenRows};
-pub use reg_stored::walks::rows_of;
+pub use reg_tables_meaning::counts::Counts;
+pub use reg_tables_meaning::crates::NewVersion;
+pub use reg_tables_meaning::entries::index_rows;
+pub use reg_tables_meaning::tokens::{TokenLists, TokenRows};
+pub use reg_tables_meaning::walks::rows_of;
+pub use reg_tables_schema::{Edition, MakeFault};
+pub use reg_tables_sql::accounts::Account;
+pub use reg_tables_sql::crates::Crate;
+pub use reg_tables_sql::owners::Ownership;
+pub use reg_tables_sql::records::FromRow;
+pub use reg_tables_sql::scopes::Scope;
+pub use reg_tables_sql::summaries::Summary;
+pub use reg_tables_sql::tokens::{Token, TokenRow};
+pub use reg_tables_sql::versions::{StemRow, Version};
 pub use tables::Tables;
 pub use work::{StoreFault, Work};

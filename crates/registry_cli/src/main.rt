@@ -13,8 +13,8 @@
 //! memory failed.
 #![tactic(auto)]
 
-use reg_converting::Exit;
-use reg_program::run_words;
+use reg_cli::run_words;
+use reg_cli_line::Exit;
 use std::alloc::Global;
 use std::io::ErrorKind;
 use std::process::ExitCode;

@@ -9,13 +9,13 @@ ghost use Rattle.reg_service.specs.Registries.{tables_of};
 ghost use Rattle.reg_service.specs.Sequences.{IsFitCall};
 
 use crate::requests::{publish_body, request_of, token_text};
+use reg_api_requests::ApiRequest;
 use reg_line::{Digest, digest_of};
 use reg_policy::AdminCommand;
-use reg_requests::ApiRequest;
 use reg_service::{Call, Registry, Told};
 use sqlite::Alter;
 use std::alloc::{AllocError, Global};
-use test_orders::{command_of, parts};
+use test_support::orders::{command_of, parts};
 
 /// What the call of a line borrows: its words, the body of a publish, and of a token that is added
 /// the endpoints, the patterns and the digest.

@@ -1,8 +1,8 @@
 //! Replies as texts, with all that they hold.
 
+use reg_api_replies::{Kind, Reply};
 use reg_model::AdminRefusal;
 use reg_policy::AdminReply;
-use reg_replies::{Kind, Reply};
 use reg_service::Told;
 use std::alloc::{AllocError, Global};
 

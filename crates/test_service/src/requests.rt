@@ -1,7 +1,7 @@
 //! Words of scripts that are requests.
 
+use reg_api_requests::{ApiRequest, Wanted};
 use reg_body::{JoinFault, join};
-use reg_requests::{ApiRequest, Wanted};
 use std::alloc::{AllocError, Global};
 use test_support::examples::SECOND_TOKEN;
 

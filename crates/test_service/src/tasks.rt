@@ -5,8 +5,8 @@ ghost use Rattle.reg_service.specs.Registries.{tables_of};
 
 use crate::calls::{Parts, answer};
 use crate::replies::{body_text, told_text};
+use reg_api_requests::{ApiRequest, Wanted};
 use reg_body::Counted;
-use reg_requests::{ApiRequest, Wanted};
 use reg_service::{Check, Registry, Told};
 use sqlite::Alter;
 use std::alloc::{AllocError, Global};

@@ -3,9 +3,9 @@ use Rattle.std.proofs.Common.{codes, refl}
 use Rattle.sqlite.specs.Given.{IsPlain}
 use Rattle.sqlite.specs.Listing.{understood}
 use Rattle.sqlite_tied.specs.Compute.{everything}
-use Rattle.reg_schema.specs.Schema.{ours, old_schema, schema_of}
-use Rattle.reg_schema.specs.declared.edition.Edition.{Edition}
-use Rattle.reg_schema.specs.declared.edition.Edition.TheVariants.{First, Second}
+use Rattle.reg_tables_schema.specs.Schema.{ours, old_schema, schema_of}
+use Rattle.reg_tables_schema.specs.declared.edition.Edition.{Edition}
+use Rattle.reg_tables_schema.specs.declared.edition.Edition.TheVariants.{First, Second}
 
 first_plain : IsPlain (understood old_schema (codes "SELECT id, login, name FROM accounts ORDER BY id"))
 unfolding understood everything

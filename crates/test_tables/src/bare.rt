@@ -8,8 +8,8 @@ use crate::old_store::make_old;
 use crate::records::list;
 use crate::script::{BASE, FILLED, check_text, compare, no_arrow, play_over};
 use reg_audit::audit;
-use reg_schema::{Edition, MakeFault, begin, edition_of, finish, make_tables, undo};
 use reg_tables::{StoreFault, Tables};
+use reg_tables_schema::{Edition, MakeFault, begin, edition_of, finish, make_tables, undo};
 use sqlite::{Alter, Connection, Error, Row, params};
 use std::alloc::{AllocError, Global};
 

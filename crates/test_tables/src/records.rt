@@ -1,12 +1,12 @@
 //! The records of an answer as texts: each field, colons between them, a semicolon after each.
 
 use crate::words::text_of;
-use reg_calls::AllRows;
 use reg_line::digest_of;
 use reg_model::Endpoints;
 use reg_tables::{
     Account, Crate, Ownership, Scope, Summary, Token, TokenLists, TokenRow, TokenRows, Version,
 };
+use reg_tables_calls::AllRows;
 use sqlite::Row;
 use sqlite::types::ValueRef;
 use std::alloc::{AllocError, Global};

@@ -1,6 +1,6 @@
 use Rattle.std.proofs.Common.{ap, ◌∙◌}
 use Rattle.reg_policy.specs.Views.{action_of, decision_of}
-use Rattle.reg_stored.proofs.Results.{if_ok}
+use Rattle.reg_tables_meaning.proofs.Results.{if_ok}
 use Rattle.reg_tables.specs.Works.{rows_seen}
 use Rattle.reg_access.proofs.JoinLaw.{joins_decide}
 use Rattle.reg_access.proofs.access.authorize.Goals as goal

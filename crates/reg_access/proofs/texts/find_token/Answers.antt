@@ -1,6 +1,6 @@
 use Rattle.std.proofs.Common.{[], ◌∷◌}
 use Rattle.sqlite.specs.declared.types.Value.TheVariants.{Blob}
-use Rattle.reg_statements.specs.Tokens.{columns_with_account, tokens_with_accounts}
+use Rattle.reg_tables_sql.specs.Tokens.{columns_with_account, tokens_with_accounts}
 use Rattle.reg_access.proofs.Questions.{only_asked}
 use Rattle.reg_access.proofs.TokenText.{token_gives, token_is}
 use Rattle.reg_access.proofs.texts.find_token.Goals as goal

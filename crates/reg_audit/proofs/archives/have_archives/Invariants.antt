@@ -2,7 +2,7 @@ use Rattle.std.proofs.Common.{◌≡◌, take, true, false}
 use Rattle.std.specs.List.{list_all}
 use Rattle.sqlite.specs.State.{HasCleanDisk, IsUnchanged}
 use Rattle.reg_tables.specs.Works.{has_failed, seen}
-use Rattle.reg_statements.specs.Archives.{archives_with_id}
+use Rattle.reg_tables_sql.specs.Archives.{archives_with_id}
 use Rattle.reg_audit.specs.Checks.{is_archive}
 use Rattle.reg_tables.specs.Looks.{Looks}
 use Rattle.reg_audit.proofs.archives.have_archives.Given as goal

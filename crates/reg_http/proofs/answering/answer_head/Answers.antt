@@ -1,8 +1,8 @@
 use Rattle.std.proofs.Common.{◌≡◌, option_copied, rules, subst}
-use Rattle.reg_heads.specs.Reads.{facts_of}
-use Rattle.reg_receiving.specs.Begun.{is_head}
-use Rattle.reg_receiving.specs.Turns.{Sends}
-use Rattle.reg_routes.specs.Routing.{routing_of}
+use Rattle.reg_http_read.specs.Reads.{facts_of}
+use Rattle.reg_http_read.specs.Begun.{is_head}
+use Rattle.reg_http_read.specs.Turns.{Sends}
+use Rattle.reg_http_routes.specs.Routing.{routing_of}
 use Rattle.reg_service.specs.Registries.{limits_of, tables_of}
 use Rattle.reg_http.specs.Answering.{fault_text}
 use Rattle.reg_http.proofs.Outcomes.{unrouted}

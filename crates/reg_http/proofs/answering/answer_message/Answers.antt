@@ -1,7 +1,7 @@
 use Rattle.std.proofs.Common.{◌≡◌, [], ◌++◌, sym, subst, append-nil, drop}
-use Rattle.reg_heads.specs.Heads.{IsHeadAt}
-use Rattle.reg_heads.specs.Reads.{facts_of}
-use Rattle.reg_routes.specs.Routing.{routing_of}
+use Rattle.reg_http_read.specs.Heads.{IsHeadAt}
+use Rattle.reg_http_read.specs.Reads.{facts_of}
+use Rattle.reg_http_routes.specs.Routing.{routing_of}
 use Rattle.reg_service.specs.Registries.{limits_of, tables_of}
 use Rattle.reg_http.specs.Answering.{Replies}
 use Rattle.reg_http.proofs.answering.answer_message.Goals as goal

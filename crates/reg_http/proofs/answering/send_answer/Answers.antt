@@ -1,5 +1,5 @@
 use Rattle.std.specs.Option.{option_map}
-use Rattle.reg_requests.specs.Wants.{wants_of}
+use Rattle.reg_api_requests.specs.Wants.{wants_of}
 use Rattle.reg_service.specs.Registries.{limits_of, tables_of}
 use Rattle.reg_http.proofs.Outcomes.{handled}
 use Rattle.reg_http.proofs.answering.send_answer.Goals as goal

@@ -1,10 +1,10 @@
 use Rattle.std.proofs.Common.{◌≡◌, ◌<◌, ◌≤◌, ◌+◌, ◌||◌, ◌==◌, ◌∙◌, true, false, sym, refl, ap, arith, length, subst, Ok, Err}
 use Rattle.std.proofs.lemmas.Result.{err_from_is_err_and}
-use Rattle.reg_receiving.proofs.Adding.{spends_for, spends_nothing, spends_some}
+use Rattle.reg_http_read.proofs.Adding.{spends_for, spends_nothing, spends_some}
 use Rattle.reg_body.specs.declared.limits.Limits.{Limits}
-use Rattle.reg_receiving.specs.Taking.{Takes}
-use Rattle.reg_receiving.specs.Turns.{SpendsSome, tally}
-use Rattle.reg_receiving.specs.declared.taking.Taken.TheVariants as taken
+use Rattle.reg_http_read.specs.Taking.{Takes}
+use Rattle.reg_http_read.specs.Turns.{SpendsSome, tally}
+use Rattle.reg_http_read.specs.declared.taking.Taken.TheVariants as taken
 use Rattle.reg_service.specs.Registries.{limits_of, tables_of}
 use Rattle.reg_http.proofs.Steps.{holds_start, refusal_failed, refusal_sent, taking_ended, taking_failed, whole_failed, whole_last, whole_sent, wrote_for, wrote_some}
 use Rattle.reg_http.proofs.stream.serve_requests.Goals as goal

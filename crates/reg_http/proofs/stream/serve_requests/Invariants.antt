@@ -1,7 +1,7 @@
 use Rattle.std.proofs.Common.{◌≡◌, ◌≤◌, ◌<◌, ◌+◌, length}
 use Rattle.sqlite.specs.State.{HasCleanDisk}
 use Rattle.reg_model.specs.Registry as model
-use Rattle.reg_receiving.specs.Turns.{SpendsSome, tally}
+use Rattle.reg_http_read.specs.Turns.{SpendsSome, tally}
 use Rattle.reg_service.specs.Answered.{AreUpToDate, LeavesAlone, Shows}
 use Rattle.reg_service.specs.Registries.{limits_of, tables_of}
 use Rattle.reg_tables.specs.Works.{shown}

@@ -1,5 +1,5 @@
-use Rattle.reg_receiving.proofs.Adding.{spends_nothing}
-use Rattle.reg_receiving.specs.Turns.{tally}
+use Rattle.reg_http_read.proofs.Adding.{spends_nothing}
+use Rattle.reg_http_read.specs.Turns.{tally}
 use Rattle.reg_service.specs.Registries.{limits_of, tables_of}
 use Rattle.reg_http.proofs.Steps.{untouched}
 use Rattle.reg_http.proofs.stream.serve_stream.Goals as goal

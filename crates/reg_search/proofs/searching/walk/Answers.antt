@@ -2,8 +2,8 @@ use Rattle.std.proofs.Common.{rules, arith, ◌≡◌, [], ◌∷◌, ◌++◌, 
 use Rattle.sqlite.specs.Held.{state}
 use Rattle.sqlite.specs.State.{HasCleanDisk}
 use Rattle.sqlite.specs.declared.types.Value.TheVariants.{Int}
-use Rattle.reg_schema.specs.declared.edition.Edition.TheVariants.{Second}
-use Rattle.reg_stored.proofs.Walking.{walked, walked_all}
+use Rattle.reg_tables_schema.specs.declared.edition.Edition.TheVariants.{Second}
+use Rattle.reg_tables_meaning.proofs.Walking.{walked, walked_all}
 use Rattle.reg_search.proofs.Ends.{all_found}
 use Rattle.reg_search.proofs.SearchText.{search_is, search_text}
 use Rattle.reg_search.proofs.searching.walk.Goals as goal

@@ -1,7 +1,7 @@
 use Rattle.std.proofs.Common.{◌≡◌, List, pos, ◌∷◌, []}
 use Rattle.sqlite.specs.Order.{Row}
 use Rattle.sqlite.specs.declared.types.Value.TheVariants.{Int}
-use Rattle.reg_stored.specs.Walks.{HasWalked}
+use Rattle.reg_tables_meaning.specs.Walks.{HasWalked}
 use Rattle.reg_search.specs.Rows.{AreFound}
 use Rattle.reg_search.proofs.SearchText.{search_text}
 use Rattle.reg_search.proofs.searching.walk.Given as goal

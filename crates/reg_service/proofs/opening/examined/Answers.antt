@@ -1,7 +1,7 @@
 use Rattle.std.proofs.Common.{Some, subst}
 use Rattle.sqlite.specs.Held.{state}
 use Rattle.sqlite.specs.State.{HasCleanDisk}
-use Rattle.reg_stored.proofs.Results.{if_ok}
+use Rattle.reg_tables_meaning.proofs.Results.{if_ok}
 use Rattle.reg_tables.specs.Works.{edition_in, held, shown}
 use Rattle.reg_service.specs.Registries.{IsFirstFailing}
 use Rattle.reg_service.proofs.Opened.{examined_brought, examined_left, examined_undone, returned_left}

@@ -2,7 +2,7 @@ use Rattle.std.proofs.Common.{arith, None, sym, subst, ◌∙◌}
 use Rattle.std.specs.Option.{option_map}
 use Rattle.sqlite.specs.State.{HasCleanDisk}
 use Rattle.reg_policy.specs.Events.{asked_of}
-use Rattle.reg_replies.specs.declared.reply.Reply.TheVariants.{Denied}
+use Rattle.reg_api_replies.specs.declared.reply.Reply.TheVariants.{Denied}
 use Rattle.reg_model.specs.declared.rule.Rule.TheVariants as rule
 use Rattle.reg_tables.specs.Ends.{IsDropped}
 use Rattle.reg_tables.specs.Works.{AreOurs, held, seen, shown}

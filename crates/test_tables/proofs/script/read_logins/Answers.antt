@@ -1,6 +1,6 @@
 use Rattle.std.proofs.Common.{sym, subst}
 use Rattle.sqlite.specs.Held.{state}
-use Rattle.reg_schema.specs.States.{IsOurs}
+use Rattle.reg_tables_schema.specs.States.{IsOurs}
 use Rattle.reg_tables.specs.Works.{edition_in}
 use Rattle.test_tables.proofs.Texts.{logins_plain_on}
 use Rattle.test_tables.proofs.script.read_logins.Goals as goal

@@ -3,12 +3,12 @@ use Rattle.sqlite.specs.Effect.{Database}
 use Rattle.sqlite.specs.Tree.{Trees}
 use Rattle.reg_audit.specs.Checks.{IsFirst}
 use Rattle.reg_audit.specs.declared.check.Check.{Check}
-use Rattle.reg_schema.specs.declared.edition.Edition.{Edition}
-use Rattle.reg_schema.specs.declared.edition.Edition.TheVariants.{First, Second}
-use Rattle.reg_whole.specs.declared.all_rows.AllRows.{AllRows}
-use Rattle.reg_whole.specs.WholeRows.{AreAllRows}
-use Rattle.reg_stored.proofs.Results.{if_ok}
-use Rattle.reg_stored.specs.Upgrades.{AreBegun}
+use Rattle.reg_tables_schema.specs.declared.edition.Edition.{Edition}
+use Rattle.reg_tables_schema.specs.declared.edition.Edition.TheVariants.{First, Second}
+use Rattle.reg_tables_rows.specs.declared.all_rows.AllRows.{AllRows}
+use Rattle.reg_tables_rows.specs.WholeRows.{AreAllRows}
+use Rattle.reg_tables_meaning.proofs.Results.{if_ok}
+use Rattle.reg_tables_meaning.specs.Upgrades.{AreBegun}
 use Rattle.reg_tables.specs.Works.{edition_in, shown}
 use Rattle.reg_service.specs.Registries.{tables_of}
 use Rattle.reg_service.proofs.registry.Registry.audit.Goals as goal

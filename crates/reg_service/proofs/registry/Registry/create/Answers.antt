@@ -2,7 +2,7 @@ use Rattle.std.proofs.Common.{sym, ap, subst, refl, ◌∙◌}
 use Rattle.sqlite.specs.Effect.{Database}
 use Rattle.sqlite.specs.Tree.{Trees}
 use Rattle.reg_model.specs.Registry.{empty_at}
-use Rattle.reg_stored.specs.Stands.{Stands}
+use Rattle.reg_tables_meaning.specs.Stands.{Stands}
 use Rattle.reg_service.proofs.registry.Registry.create.Goals as goal
 
 pub returns-in-Ok-clause-made : goal.returns-in-Ok-clause-made

@@ -1,6 +1,6 @@
 use Rattle.std.proofs.Common.{subst}
-use Rattle.reg_requests.specs.Requests.{request_of}
-use Rattle.reg_requests.specs.Views.{Request}
+use Rattle.reg_api_requests.specs.Requests.{request_of}
+use Rattle.reg_api_requests.specs.Views.{Request}
 use Rattle.reg_service.specs.Handled.{IsReplied}
 use Rattle.reg_service.specs.Registries.{limits_of, tables_of}
 use Rattle.reg_service.proofs.Replied.{no_memory}

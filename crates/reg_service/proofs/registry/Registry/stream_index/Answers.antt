@@ -1,9 +1,9 @@
 use Rattle.std.proofs.Common.{[], ◌≡◌, subst, sym}
 use Rattle.reg_model.specs.Actions.{logins_of}
 use Rattle.reg_model.specs.Events.{action_of}
-use Rattle.reg_requests.specs.Requests.{request_of}
-use Rattle.reg_requests.specs.Views.{Request}
-use Rattle.reg_sending.specs.Sent.{sink}
+use Rattle.reg_api_requests.specs.Requests.{request_of}
+use Rattle.reg_api_requests.specs.Views.{Request}
+use Rattle.reg_api_replies.specs.Sent.{sink}
 use Rattle.reg_service.specs.Registries.{limits_of, tables_of}
 use Rattle.reg_service.specs.Streamed.{IsStreamed}
 use Rattle.reg_service.proofs.Streams.{no_logins, untouched_leaves, untouched_sent}

@@ -1,5 +1,5 @@
 use Rattle.sqlite.specs.Held.{state}
-use Rattle.reg_stored.proofs.Made.{made_stands}
+use Rattle.reg_tables_meaning.proofs.Made.{made_stands}
 use Rattle.reg_tables.proofs.tables.Tables.make.Goals as goal
 
 pub returns-in-Ok-clause-stands : goal.returns-in-Ok-clause-stands

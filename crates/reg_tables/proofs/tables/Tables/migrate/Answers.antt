@@ -1,5 +1,5 @@
 use Rattle.std.proofs.Common.{rules}
-use Rattle.reg_stored.proofs.Raising.{stops_between}
+use Rattle.reg_tables_meaning.proofs.Raising.{stops_between}
 use Rattle.reg_tables.proofs.tables.Tables.migrate.Goals as goal
 
 pub returns-in_err-commit-clause-survives : goal.returns-in_err-commit-clause-survives

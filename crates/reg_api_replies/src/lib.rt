@@ -1,0 +1,37 @@
+//! Replies: their bodies and their heads, and sending them in a bounded number of write calls.
+//!
+//! A head and a small body leave in one write, and sending takes no memory.
+//!
+//! ```
+//! error_body(Rule::A1).as_bytes()                 // {"errors":[{"detail":"A1 no token"}]}
+//! let mut w = Counted::new(stdout);
+//! write_reply(&mut w, &Reply::Denied(Rule::A1), false, false, 100)?   // the write calls it took
+//! let mut pile = Pile::new();
+//! pile.put(&mut w, b"one row", 100)?;             // 0: it waits
+//! pile.send(&mut w, 100)?                         // what waits is written
+//! ```
+#![tactic(auto)]
+
+mod bytes;
+mod fixed_text;
+mod found;
+mod granted;
+mod head;
+pub mod laws;
+mod owners;
+mod pile;
+mod refused;
+mod reply;
+mod sending;
+mod values;
+
+pub use bytes::{SendFault, write_bytes};
+pub use fixed_text::FixedText;
+pub use found::FoundBody;
+pub use granted::{ok_body, owners_added_body, owners_removed_body, publish_body};
+pub use head::{Head, Kind, Methods, reply_head};
+pub use owners::OwnersBody;
+pub use pile::Pile;
+pub use refused::error_body;
+pub use reply::Reply;
+pub use sending::{write_parts, write_reply};

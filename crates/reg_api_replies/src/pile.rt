@@ -1,0 +1,73 @@
+//! Small texts that wait until they leave in one write.
+
+ghost use Rattle.std.specs.Prelude.{◌≡◌, ◌+◌, ◌^◌, ◌<◌, [], OnOk};
+ghost use Rattle.reg_api_replies.specs.Sent.{Puts, Sends, sink};
+
+use crate::bytes::{SendFault, write_bytes};
+use arrayvec::ArrayVec;
+use reg_body::Counted;
+use std::io::Write;
+use std::marker::Model;
+
+/// How many bytes wait at most.
+const ROOM: usize = 4096;
+
+/// Texts that wait to be sent, one after another. It takes no memory.
+#[derive(Drop)]
+pub struct Pile {
+    bytes: ArrayVec<u8, ROOM>,
+}
+
+impl Model for Pile {
+    ghost use Rattle.std.specs.Prelude.{List, ℕ};
+
+    ghost Value = { List ℕ };
+
+    ghost view = { λ p. p.bytes.items };
+}
+
+impl Pile {
+    /// `new` gives a pile where nothing waits.
+    pub fn new() -> Pile
+        ensures { result ≡ [] }
+    {
+        Pile {
+            bytes: ArrayVec::new(),
+        }
+    }
+
+    /// `put` puts a text behind what waits. What waits is sent first where there is no room for
+    /// both, and the text is sent at once where there is none for it alone.
+    pub fn put<W: Write>(
+        &mut self,
+        w: &mut Counted<W>,
+        text: &[u8],
+        writes: u64,
+    ) -> Result<u64, SendFault>
+        requires { w.old.calls + writes < 2 ^ 64 }
+        ensures { Puts result self.old text.now self.new writes
+            (sink (W.contents w.old.inner) w.old) (sink (W.contents w.new.inner) w.new) }
+    {
+        let Err(_full) = self.bytes.try_extend_from_slice(text) else {
+            return Ok(0);
+        };
+        let used = self.send(w, writes)?;
+        let Err(_too_long) = self.bytes.try_extend_from_slice(text) else {
+            return Ok(used);
+        };
+        let more = write_bytes(w, text, writes - used)?;
+        Ok(used + more)
+    }
+
+    /// `send` sends what waits.
+    pub fn send<W: Write>(&mut self, w: &mut Counted<W>, writes: u64) -> Result<u64, SendFault>
+        requires { w.old.calls + writes < 2 ^ 64 }
+        ensures sends { Sends result self.old writes
+            (sink (W.contents w.old.inner) w.old) (sink (W.contents w.new.inner) w.new) }
+        ensures none { OnOk result (self.new ≡ []) }
+    {
+        let used = write_bytes(w, self.bytes.as_slice(), writes)?;
+        self.bytes.clear();
+        Ok(used)
+    }
+}

@@ -1,0 +1,134 @@
+//! Replies, as they are sent.
+
+ghost use Rattle.std.specs.Prelude.{◌≡◌, ◌+◌, ◌^◌, ◌<◌, ◌++◌, length, IfOk};
+ghost use Rattle.reg_api_replies.specs.Heads.{head_text};
+ghost use Rattle.reg_api_replies.specs.Sent.{Sends, sink};
+ghost use Rattle.reg_api_replies.specs.Texts.{body_if, done_head, refusal_head, refusal_text, reply_text};
+
+use crate::bytes::{SendFault, write_bytes};
+use crate::head::{Head, Kind, Methods, reply_head};
+use crate::refused::error_body;
+use crate::reply::Reply;
+use arrayvec::{ArrayVec, CapacityError};
+use reg_body::Counted;
+use reg_policy::Rule;
+use std::io::Write;
+
+/// How many bytes a head and its body have at most to leave in one write.
+const ROOM: usize = 1024;
+
+/// A head and its body in one piece, where they fit.
+fn in_one_piece(head: &[u8], body: &[u8]) -> Result<ArrayVec<u8, ROOM>, CapacityError>
+    ensures { IfOk result (λ piece. piece.items ≡ head.now ++ body.now) }
+{
+    let mut piece = ArrayVec::new();
+    piece.try_extend_from_slice(head)?;
+    piece.try_extend_from_slice(body)?;
+    Ok(piece)
+}
+
+/// Writes one text after another.
+fn write_both<W: Write>(
+    w: &mut Counted<W>,
+    first: &[u8],
+    second: &[u8],
+    writes: u64,
+) -> Result<u64, SendFault>
+    requires { w.old.calls + writes < 2 ^ 64 }
+    ensures { Sends result (first.now ++ second.now) writes
+        (sink (W.contents w.old.inner) w.old) (sink (W.contents w.new.inner) w.new) }
+{
+    let used = write_bytes(w, first, writes)?;
+    let more = write_bytes(w, second, writes - used)?;
+    Ok(used + more)
+}
+
+fn head_of_done(kind: Kind, body: &[u8], close: bool) -> Head
+    ensures { result ≡ done_head kind (length body.now) close }
+{
+    Head {
+        refusal: None,
+        kind,
+        length: body.len() as u64,
+        allow: None,
+        close,
+    }
+}
+
+fn head_of_refusal(rule: Rule, body: &[u8], allow: Option<Methods>, close: bool) -> Head
+    ensures { result ≡ refusal_head rule allow (length body.now) close }
+{
+    Head {
+        refusal: Some(rule),
+        kind: Kind::Json,
+        length: body.len() as u64,
+        allow,
+        close,
+    }
+}
+
+/// The body, if it is to be sent.
+fn body_or_none(body: &[u8], head_only: bool) -> &[u8]
+    ensures { result.now ≡ body_if head_only body.now }
+{
+    if head_only { &[] } else { body }
+}
+
+/// `write_parts` writes a head and a body.
+pub fn write_parts<W: Write>(
+    w: &mut Counted<W>,
+    head: &Head,
+    body: &[u8],
+    writes: u64,
+) -> Result<u64, SendFault>
+    requires { w.old.calls + writes < 2 ^ 64 }
+    ensures { Sends result (head_text head.now ++ body.now) writes
+        (sink (W.contents w.old.inner) w.old) (sink (W.contents w.new.inner) w.new) }
+{
+    let text = reply_head(head);
+    match in_one_piece(text.as_bytes(), body) {
+        Ok(piece) => write_bytes(w, piece.as_slice(), writes),
+        Err(_too_long) => write_both(w, text.as_bytes(), body, writes),
+    }
+}
+
+/// Writes the refusal of a request.
+fn write_refusal<W: Write>(
+    w: &mut Counted<W>,
+    rule: Rule,
+    allow: Option<Methods>,
+    close: bool,
+    head_only: bool,
+    writes: u64,
+) -> Result<u64, SendFault>
+    requires { w.old.calls + writes < 2 ^ 64 }
+    ensures { Sends result (refusal_text rule allow close head_only) writes
+        (sink (W.contents w.old.inner) w.old) (sink (W.contents w.new.inner) w.new) }
+{
+    let text = error_body(rule);
+    let body = text.as_bytes();
+    let head = head_of_refusal(rule, body, allow, close);
+    write_parts(w, &head, body_or_none(body, head_only), writes)
+}
+
+/// `write_reply` writes a reply; where only its head is asked for, its body is left out.
+pub fn write_reply<W: Write>(
+    w: &mut Counted<W>,
+    reply: &Reply,
+    close: bool,
+    head_only: bool,
+    writes: u64,
+) -> Result<u64, SendFault>
+    requires { w.old.calls + writes < 2 ^ 64 }
+    ensures { Sends result (reply_text reply.now close head_only) writes
+        (sink (W.contents w.old.inner) w.old) (sink (W.contents w.new.inner) w.new) }
+{
+    match reply {
+        Reply::Done(kind, body) => {
+            let head = head_of_done(*kind, body, close);
+            write_parts(w, &head, body_or_none(body, head_only), writes)
+        }
+        Reply::Denied(rule) => write_refusal(w, *rule, None, close, head_only, writes),
+        Reply::Method(allow) => write_refusal(w, Rule::H7, Some(*allow), close, head_only, writes),
+    }
+}

@@ -1,0 +1,38 @@
+-- Accounts that pass stand for accounts.
+use Rattle.std.proofs.Common.{◌≡◌, [], ◌∷◌, map, true, sym, ap, subst, ◌∙◌}
+use Rattle.std.specs.List.{list_all}
+use Rattle.std.specs.List.Sorted.{IsPermutation}
+use Rattle.std.proofs.lemmas.List.Folds.{list_all-map}
+use Rattle.sqlite.specs.Order.{Row, column}
+use Rattle.sqlite.specs.Tree.{Trees}
+use Rattle.sqlite_trees.proofs.ListLemmas.{all_weaker}
+use Rattle.reg_model.specs.Sound as sound
+use Rattle.reg_tables_schema.specs.Rows.{by_column}
+use Rattle.reg_tables_schema.specs.Tests.{shows}
+use Rattle.reg_tables_schema.proofs.Queries.{maps_twice}
+use Rattle.reg_tables_sql.specs.Accounts.{account_columns}
+use Rattle.reg_tables_meaning.specs.Entries.{entry_of_account}
+use Rattle.reg_tables_meaning.specs.Stands.{StandAccounts, row_of_account}
+use Rattle.reg_tables_rows.specs.declared.all_rows.AllRows.{AllRows}
+use Rattle.reg_audit_law.specs.RegistryFrom.{account_from, registry_from}
+use Rattle.reg_audit_law.specs.Rules.{IsKeyed}
+use Rattle.reg_audit_law.proofs.Passing.{Passing, accounts_are}
+use Rattle.reg_audit_law.proofs.Shapes.{with_null, whole_rows, counted_are}
+
+abbrev show : Row → Row
+show = shows (0 ∷ 2 ∷ 3 ∷ 4 ∷ [])
+
+told : (r : Row) → IsKeyed (0 ∷ 1 ∷ 2 ∷ 3 ∷ 4 ∷ []) r → with_null (show r) ≡ r
+told r h = (λ i. column r 0 ∷ sym h.1 i ∷ column r 2 ∷ column r 3 ∷ column r 4 ∷ []) ∙ h.0
+
+module _ (it : AllRows) (db : Trees) (h : Passing it db) where
+  pub accounts_stand : StandAccounts (registry_from it db).accounts db
+  accounts_stand =
+      let list = it.accounts.items in
+      let whole = all_weaker (IsKeyed (0 ∷ 1 ∷ 2 ∷ 3 ∷ 4 ∷ [])) (λ r. with_null (show r) ≡ r) told (db 1) h.rules.columns.accounts in
+      let rows = whole_rows show with_null account_columns (by_column 0) (db 1) list whole h.are.accounts in
+      let entries = sym (maps_twice entry_of_account row_of_account list) ∙ ap (map row_of_account) (counted_are (λ a. a.id) account_from 1 list (accounts_are it db h).counted) in
+      record { rows = subst (λ xs. IsPermutation xs (db 1)) entries rows }
+
+  pub accounts_sound : list_all sound.is_account (registry_from it db).accounts ≡ true
+  accounts_sound = list_all-map sound.is_account account_from it.accounts.items ∙ (accounts_are it db h).whole

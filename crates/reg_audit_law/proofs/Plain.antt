@@ -1,0 +1,60 @@
+-- The base, and the reserved names.
+use Rattle.std.proofs.Common.{◌≡◌, List, [], ◌∷◌, map, Bool, true, false, refl, sym, ap, subst, ◌∙◌}
+use Rattle.std.specs.Prelude.{string_bytes, drop}
+use Rattle.std.specs.List.Sorted.{IsPermutation}
+use Rattle.std.specs.Str.{bytes_eq}
+use Rattle.std.specs.FinSet as finset
+use Rattle.std.specs.Cmp.Lexicographic.{nat_list_cmp_total}
+use Rattle.std.proofs.lemmas.Map.Text.{is_eq-slice_cmp}
+use Rattle.sqlite.specs.Order.{Row}
+use Rattle.sqlite.specs.Tree.{Trees}
+use Rattle.sqlite_trees.proofs.ListLemmas.{all_weaker}
+use Rattle.reg_model.specs.Registry.{Text}
+use Rattle.reg_model.proofs.Lists.{any_same}
+use Rattle.reg_tables_schema.specs.declared.edition.Edition.TheVariants.{Second}
+use Rattle.reg_tables_schema.specs.Rows.{by_column}
+use Rattle.reg_tables_schema.specs.States.{about_columns}
+use Rattle.reg_tables_schema.specs.Tests.{shows}
+use Rattle.reg_tables_schema.proofs.Queries.{maps_twice}
+use Rattle.reg_tables_sql.specs.Reserved.{reserved_columns}
+use Rattle.reg_tables_meaning.specs.Stands.{StandReserved}
+use Rattle.reg_tables_rows.specs.declared.all_rows.AllRows.{AllRows}
+use Rattle.reg_tables_meaning.proofs.CrateLemmas.{same_bytes, bytes_same}
+use Rattle.reg_audit_law.specs.RegistryFrom.{registry_from}
+use Rattle.reg_audit_law.specs.Rules.{IsWhole}
+use Rattle.reg_audit_law.proofs.Passing.{Passing}
+use Rattle.reg_audit_law.proofs.Shapes.{rows_from, each_is}
+
+pub flips : (a b : Text) → bytes_eq a b ≡ bytes_eq b a
+flips a b = go (bytes_eq a b) refl
+  where
+    go : (r : Bool) → bytes_eq a b ≡ r → r ≡ bytes_eq b a
+    go true e = sym (bytes_same b a (sym (same_bytes a b e)))
+    go false e = other (bytes_eq b a) refl
+      where
+        other : (r : Bool) → bytes_eq b a ≡ r → false ≡ r
+        other true f = sym e ∙ bytes_same a b (sym (same_bytes b a f))
+        other false f = refl
+
+pub told_base : (r : Row) → IsWhole (0 ∷ 1 ∷ 2 ∷ []) r → drop 1 r ≡ shows (1 ∷ 2 ∷ []) r
+told_base r h = sym (ap (drop 1) h)
+
+told : (r : Row) → IsWhole (0 ∷ 1 ∷ []) r → shows (1 ∷ []) r ≡ drop 1 r
+told r h = ap (drop 1) h
+
+module _ (it : AllRows) (db : Trees) (h : Passing it db) where
+  pub base_stands : map (drop 1) (db 0) ≡ about_columns Second (string_bytes it.base) ∷ []
+  base_stands = each_is (drop 1) (shows (1 ∷ 2 ∷ [])) (db 0) (all_weaker (IsWhole (0 ∷ 1 ∷ 2 ∷ [])) (λ r. drop 1 r ≡ shows (1 ∷ 2 ∷ []) r) told_base (db 0) h.rules.columns.about) ∙ h.are.base
+
+  pub reserved_stand : StandReserved (registry_from it db).reserved db
+  reserved_stand =
+      let list = it.reserved.items in
+      let texts : List Text = map (λ s. string_bytes s) list in
+      let whole = all_weaker (IsWhole (0 ∷ 1 ∷ [])) (λ r. shows (1 ∷ []) r ≡ drop 1 r) told (db 14) h.rules.columns.reserved in
+      let rows = rows_from (shows (1 ∷ [])) (λ r. r) (drop 1) (λ s. reserved_columns (string_bytes s)) (by_column 1) (db 14) list whole h.are.reserved in
+      record {
+        texts = texts;
+        rows = subst (λ xs. IsPermutation xs (map (drop 1) (db 14))) (sym (maps_twice (λ s. string_bytes s) reserved_columns list)) rows;
+        apart = h.are.apart.reserved;
+        same = λ c. finset.contains-from_list nat_list_cmp_total texts c ∙ any_same _ _ (λ t. is_eq-slice_cmp c t ∙ flips c t) texts;
+      }

@@ -1,0 +1,81 @@
+-- The summaries of a sound registry pass.
+use Rattle.std.proofs.Common.{◌≡◌, ◌==◌, ℕ, List, [], ◌∷◌, map, true, sym, ap, subst, ◌∙◌}
+use Rattle.std.specs.Prelude.{drop}
+use Rattle.std.specs.Str.{bytes_eq}
+use Rattle.std.specs.FinSet as finset
+use Rattle.std.proofs.lemmas.Bool.{and_from, eq-eqb}
+use Rattle.sqlite.specs.Order.{Row}
+use Rattle.sqlite.specs.Tree.{Trees}
+use Rattle.reg_model.specs.Registry.{Registry, mark_cmp}
+use Rattle.reg_model.proofs.Members.{IsIn, in_all, in_map, map_in}
+use Rattle.reg_tables_schema.specs.Rows.{by_column}
+use Rattle.reg_tables_schema.specs.Tests.{shows}
+use Rattle.reg_tables_schema.proofs.Queries.{maps_twice}
+use Rattle.reg_tables_sql.specs.Summaries.{columns_of_summary}
+use Rattle.reg_tables_sql.specs.declared.summaries.Summary.{Summary}
+use Rattle.reg_tables_meaning.specs.Entries.{entry_of_crate}
+use Rattle.reg_tables_meaning.specs.Stored.{Ids, StoredCrate}
+use Rattle.reg_tables_meaning.specs.Summaries.{highest_in, highest_of, length_in, length_of, row_of_summary}
+use Rattle.reg_tables_meaning.specs.Summaries as stored
+use Rattle.reg_tables_rows.specs.declared.all_rows.AllRows.{AllRows}
+use Rattle.reg_tables_meaning.proofs.AccountEntries.{heads, number_is, tails}
+use Rattle.reg_tables_meaning.proofs.CrateLemmas.{bytes_same}
+use Rattle.reg_tables_meaning.proofs.Selected.{column_total, each_part, shown_in_turn}
+use Rattle.reg_audit.specs.Checks.{is_summary, its_versions, summaries_pass}
+use Rattle.reg_audit_law.proofs.ListedCrates.{crates_listed}
+use Rattle.reg_audit_law.proofs.ListedVersions.{its_listed}
+use Rattle.reg_audit_law.proofs.Shown.{rows_rise}
+use Rattle.reg_audit_law.proofs.Standing.{Standing}
+use Rattle.reg_audit_law.proofs.Summaries.{highest_same, length_same}
+
+abbrev show : Row → Row
+show = shows (0 ∷ 2 ∷ 3 ∷ [])
+
+-- what a row says of a crate: its id, its highest version and the length of its index file
+abbrev Told : Type 0
+Told = ℕ × ℕ × ℕ
+
+abbrev told : Summary → Told
+told m = (m.crate_id, m.highest, m.index_length)
+
+abbrev told_of : Ids → finset.FinSet mark_cmp → StoredCrate → Told
+told_of ids yanked c = (c.0, highest_of ids yanked c.0, length_of ids yanked c.0)
+
+same_told : (ids : Ids) (yanked : finset.FinSet mark_cmp) (c : StoredCrate) (m : Summary) → show (row_of_summary ids yanked c) ≡ columns_of_summary m → told_of ids yanked c ≡ told m
+same_told ids yanked c m h =
+    let id = number_is (heads h) in
+    let highest = number_is (heads (tails h)) in
+    let long = number_is (heads (tails (tails h))) in
+    λ i. (id i, highest i, long i)
+
+module _ (it : AllRows) (db : Trees) (ids : Ids) (s : Registry) (h : Standing it db ids s) where
+  abbrev list : List Summary
+  list = it.summaries.items
+
+  summaries_listed : map told list ≡ map (told_of ids s.yanked) ids.crates
+  summaries_listed =
+      let row = row_of_summary ids s.yanked in
+      let up = rows_rise (λ c. c.0) (λ c. drop 1 (row c)) ids.crates h.holds.stands.crates.up in
+      let shown = shown_in_turn row show (by_column 0) (column_total 0) ids.crates (db 16) (map columns_of_summary list) h.holds.stands.summaries.are up h.are.summaries in
+      each_part (λ c. show (row c)) columns_of_summary (told_of ids s.yanked) told (same_told ids s.yanked) ids.crates list shown
+
+  ids_same : map (λ m. m.crate_id) list ≡ map (λ c. c.id) it.crates.items
+  ids_same =
+      let read = sym (maps_twice told (λ t. t.0) list) ∙ ap (map (λ (t : Told). t.0)) summaries_listed ∙ maps_twice (told_of ids s.yanked) (λ t. t.0) ids.crates in
+      read ∙ ap (map (λ (e : StoredCrate). e.0)) (sym (crates_listed it db ids s h)) ∙ maps_twice entry_of_crate (λ e. e.0) it.crates.items
+
+  summary_right : (m : Summary) → IsIn m list → is_summary it m ≡ true
+  summary_right m i =
+      let c = map_in (told_of ids s.yanked) ids.crates (told m) (subst (IsIn (told m)) summaries_listed (in_map told list m i)) in
+      let id = ap (λ (t : Told). t.0) c.2 in
+      let its = its_versions it m.crate_id in
+      let same = its_listed it db ids s h m.crate_id in
+      let highest = ap (λ (t : Told). t.1) (sym c.2) ∙ ap (highest_of ids s.yanked) id ∙ sym (highest_same s.yanked (stored.its_versions ids m.crate_id)) ∙ ap highest_in (sym same) in
+      let long = ap (λ (t : Told). t.2) (sym c.2) ∙ ap (length_of ids s.yanked) id ∙ sym (length_same s.yanked (stored.its_versions ids m.crate_id)) ∙ ap length_in (sym same) in
+      and_from (m.highest == highest_in its) _ (eq-eqb m.highest (highest_in its) highest) (eq-eqb m.index_length (length_in its) long)
+
+  pub summaries_pass_so : summaries_pass it ≡ true
+  summaries_pass_so =
+      let found = map (λ (m : Summary). m.crate_id) list in
+      let crates = map (λ c. c.id) it.crates.items in
+      and_from (bytes_eq found crates) _ (bytes_same found crates ids_same) (in_all (is_summary it) list summary_right)

@@ -1,0 +1,50 @@
+-- The ids and the endpoints of tokens that stand for those of a sound registry.
+use Rattle.std.proofs.Common.{◌≡◌, ◌==◌, map, length, Bool, true, sym, ap, ◌∙◌}
+use Rattle.std.specs.Prelude.{◌&&◌}
+use Rattle.std.specs.List.{enumerate_from, list_all}
+use Rattle.std.proofs.lemmas.Bool.{and_parts, and_from}
+use Rattle.std.proofs.lemmas.List.Folds.{list_all-map}
+use Rattle.sqlite.specs.Tree.{Trees}
+use Rattle.reg_model.specs.Registry as model
+use Rattle.reg_model.specs.Sound as sound
+use Rattle.reg_model.proofs.Lists.{all_so}
+use Rattle.reg_tables_schema.proofs.Queries.{maps_twice}
+use Rattle.reg_tables_meaning.specs.Stored.{Ids}
+use Rattle.reg_audit_law.proofs.Standing.{Standing}
+use Rattle.reg_tables_meaning.specs.TokenEntries.{entry_of_token, without_patterns}
+use Rattle.reg_tables_rows.specs.declared.all_rows.AllRows.{AllRows}
+use Rattle.reg_tables_meaning.proofs.TokenEntries.{lists_tokens}
+use Rattle.reg_audit.specs.Checks.{are_counted, is_token, tokens_pass}
+use Rattle.reg_audit_law.proofs.AccountsPass.{are_places, each_value}
+use Rattle.reg_audit_law.proofs.ScopesPass.{has_patterns, placed}
+use Rattle.reg_audit_law.proofs.ScopeOrder.{lists_scopes}
+use Rattle.reg_tables_sql.specs.Scopes.{columns_of_scope}
+use Rattle.std.proofs.lemmas.List.{length-map}
+use Rattle.std.proofs.lemmas.List.FromFn.{length-enumerate_from}
+
+abbrev is_whole : model.Token → Bool
+is_whole t = length t.digest == 32 && sound.has_some t.endpoints
+
+module _ (it : AllRows) (db : Trees) (ids : Ids) (s : model.Registry) (h : Standing it db ids s) where
+  entries : map entry_of_token it.tokens.items ≡ map without_patterns (enumerate_from 1 s.tokens)
+  entries = lists_tokens s.tokens db h.holds.stands.tokens it.tokens.items h.are.tokens
+
+  pub tokens_counted : are_counted 1 (map (λ t. t.id) it.tokens.items) ≡ true
+  tokens_counted =
+      ap (are_counted 1) (sym (maps_twice entry_of_token (λ e. e.0) it.tokens.items) ∙ ap (map (λ e. e.0)) entries ∙ maps_twice without_patterns (λ e. e.0) (enumerate_from 1 s.tokens)) ∙ are_places 1 s.tokens
+
+  pub tokens_whole : list_all is_token it.tokens.items ≡ true
+  tokens_whole =
+      sym (list_all-map (λ e. is_whole e.1) entry_of_token it.tokens.items) ∙ ap (list_all (λ e. is_whole e.1)) entries ∙ list_all-map (λ e. is_whole e.1) without_patterns (enumerate_from 1 s.tokens)
+      ∙ each_value is_whole 1 s.tokens ∙ all_so (sound.is_token s.accounts) is_whole (λ t e.
+      let p = and_parts _ _ e in
+      let a = and_parts (length t.digest == 32) _ p.0 in
+      and_from _ _ a.0 (and_parts (sound.has_some t.endpoints) _ p.1).0) s.tokens h.holds.sound.tokens
+
+  pub tokens_pass_so : tokens_pass it ≡ true
+  tokens_pass_so =
+      let same : length s.tokens ≡ length it.tokens.items =
+      sym (length-enumerate_from 1 s.tokens) ∙ sym (length-map (enumerate_from 1 s.tokens) without_patterns) ∙ ap length (sym entries) ∙ length-map it.tokens.items entry_of_token in
+      let patterns = all_so (sound.is_token s.accounts) has_patterns (λ t e. (and_parts (sound.has_some t.endpoints) _ (and_parts _ _ e).1).1) s.tokens h.holds.sound.tokens in
+      let scopes = placed (length it.tokens.items) it.scopes.items s.tokens same patterns (lists_scopes s.tokens db h.holds.stands.tokens (map columns_of_scope it.scopes.items) h.are.scopes) in
+      and_from _ _ (and_from _ _ tokens_counted tokens_whole) (and_from _ _ scopes.0 scopes.1)

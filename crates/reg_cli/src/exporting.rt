@@ -1,0 +1,53 @@
+//! The index as files of a folder.
+
+ghost use Rattle.reg_service.specs.Answered.{AreUpToDate};
+ghost use Rattle.reg_service.specs.Registries.{tables_of};
+
+use reg_cli_line::Exit;
+use reg_service::Registry;
+use sqlite::Alter;
+use std::alloc::AllocError;
+use std::{fs, io};
+
+/// The folder of a file's path; empty where it has none.
+fn folder_of(path: &str) -> &str {
+    match path.rfind('/') {
+        Some(at) => path.get(..at).unwrap_or(""),
+        None => "",
+    }
+}
+
+fn joined(rt: &HostRuntime, folder: &str, path: &str) -> Result<String, AllocError> {
+    format!(in rt.alloc(); "{folder}/{path}")
+}
+
+/// Writes a file below the folder, and makes the folders that are missing.
+fn write_file(rt: &HostRuntime, folder: &str, path: &str, bytes: &[u8]) -> io::Result<()> {
+    let parent = joined(rt, folder, folder_of(path))?;
+    fs::create_dir_all(rt, parent.as_str())?;
+    let whole = joined(rt, folder, path)?;
+    fs::write(rt, whole.as_str(), bytes)
+}
+
+/// Writes the config and the index files below the folder. Files that stand there are overwritten.
+/// The empty text names no folder.
+pub(crate) fn export_to<S: Alter>(
+    rt: &HostRuntime,
+    registry: &mut Registry<S>,
+    folder: &str,
+) -> Exit
+    requires { AreUpToDate S.Store (tables_of registry.old) }
+{
+    if folder.is_empty() {
+        return Exit::STORAGE;
+    }
+    let Ok(files) = registry.export(rt.alloc()) else {
+        return Exit::STORAGE;
+    };
+    for (path, bytes) in &files {
+        if write_file(rt, folder, path, bytes).is_err() {
+            return Exit::STORAGE;
+        }
+    }
+    Exit::DONE
+}

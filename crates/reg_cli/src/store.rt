@@ -1,0 +1,82 @@
+//! The registry's file.
+
+ghost use Rattle.std.specs.Prelude.{◌≡◌, false, IfOk};
+ghost use Rattle.sqlite.specs.Held.{IsNew, state};
+ghost use Rattle.reg_service.specs.Answered.{AreUpToDate};
+ghost use Rattle.reg_service.specs.Registries.{limits_of, tables_of};
+
+use reg_body::Limits;
+use reg_cli_line::Exit;
+use reg_service::{Check, OpenFault, Registry};
+use sqlite::{Alter, Connection, File, FileStore};
+use std::alloc::Global;
+
+fn damaged(check: Check) -> &'static str {
+    match check {
+        Check::C1 => "damaged C1",
+        Check::C2 => "damaged C2",
+        Check::C3 => "damaged C3",
+        Check::C4 => "damaged C4",
+        Check::C5 => "damaged C5",
+        Check::C6 => "damaged C6",
+        Check::C7 => "damaged C7",
+        Check::C8 => "damaged C8",
+    }
+}
+
+/// The end of a run that could not open its registry.
+pub(crate) fn refused(fault: OpenFault) -> Exit {
+    match fault {
+        OpenFault::BadBase => Exit {
+            status: 1,
+            words: "bad base",
+        },
+        OpenFault::UnknownSchema => Exit {
+            status: 3,
+            words: "unknown schema",
+        },
+        OpenFault::Damaged(check) => Exit {
+            status: 3,
+            words: damaged(check),
+        },
+        OpenFault::Storage => Exit::STORAGE,
+    }
+}
+
+/// A connection to the file.
+pub(crate) fn connect(rt: &HostRuntime, file: &str) -> Result<Connection<FileStore<File>>, Exit>
+    ensures { IfOk result IsNew }
+{
+    match Connection::open(rt, file) {
+        Ok(conn) => Ok(conn),
+        Err(_) => Err(Exit::STORAGE),
+    }
+}
+
+/// The registry of a store.
+pub(crate) fn open<S: Alter + Drop>(
+    alloc: Global,
+    conn: Connection<S>,
+    limits: Limits,
+) -> Result<Registry<S>, Exit>
+    requires { (state S.Store conn).in_transaction ≡ false }
+    ensures tables { IfOk result (λ r. AreUpToDate S.Store (tables_of r)) }
+    ensures limited { IfOk result (λ r. limits_of r ≡ limits) }
+{
+    match Registry::open(alloc, conn, limits) {
+        Ok(registry) => Ok(registry),
+        Err((fault, _)) => Err(refused(fault)),
+    }
+}
+
+/// Makes a registry with nothing in it.
+pub(crate) fn create<S: Alter + Drop>(conn: Connection<S>, base: &str) -> Result<Registry<S>, Exit>
+    requires { (state S.Store conn).in_transaction ≡ false }
+    ensures tables { IfOk result (λ r. AreUpToDate S.Store (tables_of r)) }
+    ensures limited { IfOk result (λ r. limits_of r ≡ Limits.STANDARD) }
+{
+    match Registry::create(conn, base, Limits::STANDARD) {
+        Ok(registry) => Ok(registry),
+        Err((fault, _)) => Err(refused(fault)),
+    }
+}

@@ -1,0 +1,98 @@
+//! What is done with the registry of a file.
+
+ghost use Rattle.std.specs.Prelude.{◌≡◌, false};
+ghost use Rattle.sqlite.specs.Held.{state};
+ghost use Rattle.reg_service.specs.Answered.{AreUpToDate};
+ghost use Rattle.reg_service.specs.Registries.{limits_of, tables_of};
+ghost use Rattle.reg_cli.specs.Limited.{HasTurns};
+ghost use Rattle.reg_cli.specs.Tasks.{IsFitUse};
+
+use crate::administering::{Task, do_task};
+use crate::printing::print;
+use crate::serving::{Service, pipe_on, serve_on};
+use crate::store::{connect, create, open};
+use reg_body::Limits;
+use reg_cli_line::Exit;
+use reg_service::Registry;
+use sqlite::{Alter, Connection};
+
+/// What is done with an open registry.
+#[derive(Clone, Copy)]
+pub(crate) enum Use<'a> {
+    /// Nothing more: it is checked when it is opened.
+    Check,
+    Task(&'a Task<'a>),
+    /// A stream on standard input and output, behind the setup that a file has.
+    Pipe(Option<&'a str>),
+    Serve(&'a Service),
+}
+
+fn use_it<S: Alter>(rt: &HostRuntime, registry: &mut Registry<S>, wanted: &Use<'_>) -> Exit
+    requires tables { AreUpToDate S.Store (tables_of registry.old) }
+    requires turns { HasTurns (limits_of registry.old) }
+    requires fit { IsFitUse wanted.now }
+{
+    match wanted {
+        Use::Check => Exit::DONE,
+        Use::Task(task) => do_task(rt, registry, task),
+        Use::Pipe(setup) => pipe_on(rt, registry, *setup),
+        Use::Serve(service) => serve_on(rt, registry, service),
+    }
+}
+
+/// Uses the registry of a store, and gives the connection back.
+fn used<S: Alter + Drop>(
+    rt: &HostRuntime,
+    conn: Connection<S>,
+    limits: Limits,
+    wanted: &Use<'_>,
+) -> Result<(Exit, Connection<S>), Exit>
+    requires begun { (state S.Store conn).in_transaction ≡ false }
+    requires turns { HasTurns limits }
+    requires fit { IsFitUse wanted.now }
+{
+    let mut registry = open(rt.alloc(), conn, limits)?;
+    let exit = use_it(rt, &mut registry, wanted);
+    Ok((exit, registry.into_connection()))
+}
+
+/// The end of a run, once the file is closed, which moves what stands in its log into it. What was
+/// acknowledged is kept also where that fails; only a check has to tell it.
+fn ended(rt: &HostRuntime, wanted: &Use<'_>, exit: Exit, is_closed: bool) -> Exit {
+    match wanted {
+        Use::Check if is_closed => print(rt, "ok\n"),
+        Use::Check => Exit::STORAGE,
+        _ => exit,
+    }
+}
+
+fn used_in(rt: &HostRuntime, file: &str, limits: Limits, wanted: &Use<'_>) -> Result<Exit, Exit>
+    requires turns { HasTurns limits }
+    requires fit { IsFitUse wanted.now }
+{
+    let (exit, conn) = used(rt, connect(rt, file)?, limits, wanted)?;
+    Ok(ended(rt, wanted, exit, conn.close().is_ok()))
+}
+
+/// Uses the registry of a file.
+pub(crate) fn on_file(rt: &HostRuntime, file: &str, limits: Limits, wanted: &Use<'_>) -> Exit
+    requires turns { HasTurns limits }
+    requires fit { IsFitUse wanted.now }
+{
+    match used_in(rt, file, limits, wanted) {
+        Ok(exit) | Err(exit) => exit,
+    }
+}
+
+/// Makes a registry with nothing in it, and gives the connection back.
+fn made<S: Alter + Drop>(conn: Connection<S>, base: &str) -> Result<Connection<S>, Exit>
+    requires { (state S.Store conn).in_transaction ≡ false }
+{
+    Ok(create(conn, base)?.into_connection())
+}
+
+/// Makes a registry with nothing in it, in a file.
+pub(crate) fn make_file(rt: &HostRuntime, file: &str, base: &str) -> Result<(), Exit> {
+    let _ = made(connect(rt, file)?, base)?.close();
+    Ok(())
+}

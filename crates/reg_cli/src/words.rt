@@ -1,0 +1,62 @@
+//! The words of the command line.
+
+use crate::administering::administer;
+use crate::printing::NO_WRITING;
+use crate::serving::{check, init, pipe, serve};
+use clap::Error;
+use clap::error::ErrorKind;
+use reg_body::{Counted, Limits};
+use reg_cli_line::{Exit, run_line};
+use reg_cli_words::{is_dashed, read_words};
+
+/// Prints help, or what is wrong with the words.
+fn told(rt: &HostRuntime, error: &Error) -> Exit {
+    if error.kind() == ErrorKind::OutOfMemory {
+        return Exit::MEMORY;
+    }
+    let printed = error.print(rt);
+    if error.use_stderr() {
+        return Exit {
+            status: 2,
+            words: "",
+        };
+    }
+    match printed {
+        Ok(()) => Exit::DONE,
+        Err(_) => NO_WRITING,
+    }
+}
+
+/// `line`, on standard input and output.
+fn line(rt: &HostRuntime) -> Exit {
+    let mut reader = Counted::new(rt.stdin());
+    let mut writer = Counted::new(rt.stdout());
+    run_line(rt.alloc(), &mut reader, &mut writer, &Limits::STANDARD)
+}
+
+/// Whether a value among the words behind the program's name begins with `-`.
+fn have_dashed(words: &[String]) -> bool {
+    words.iter().skip(1).any(|word| is_dashed(word))
+}
+
+/// `run_words` runs the program's words, its own name first.
+/// Help is printed here, on standard output with status 0.
+/// So is what `clap` says of bad words, on standard error with status 2.
+pub fn run_words(rt: &HostRuntime, words: &[String]) -> Exit {
+    if have_dashed(words) {
+        return Exit::BAD_WORDS;
+    }
+    let matches = match read_words(rt.alloc(), words) {
+        Ok(matches) => matches,
+        Err(error) => return told(rt, &error),
+    };
+    match matches.subcommand() {
+        Some(("line", _)) => line(rt),
+        Some(("init", inner)) => init(rt, inner),
+        Some(("pipe", inner)) => pipe(rt, inner),
+        Some(("serve", inner)) => serve(rt, inner),
+        Some(("audit", inner)) => check(rt, inner),
+        Some((name, inner)) => administer(rt, name, inner),
+        None => Exit::BAD_WORDS,
+    }
+}

@@ -1,0 +1,142 @@
+-- One more order behind those that were done.
+use Rattle.std.proofs.Common.{◌≡◌, ◌≢◌, ◌<◌, ◌+◌, ◌++◌, ◌||◌, ℕ, false, List, [], ◌∷◌, inl, inr, refl, sym, ap, ap₂, ◌∙◌, subst, arith, append-nil, length, length-append, map, take, Option, Some, None, IsSomeAnd, Result, Ok, Err}
+use Rattle.std.specs.List.{list_any}
+use Rattle.std.proofs.Math.ListN.{get_or}
+use Rattle.std.proofs.lemmas.List.{map-append, take_more}
+use Rattle.std.proofs.lemmas.List.Folds.{list_any-append}
+use Rattle.std.proofs.lemmas.Option.{slice_get-get_or}
+use Rattle.sqlite.specs.State.{HasCleanDisk}
+use Rattle.sqlite_trees.specs.declared.store.Store.{Ghosts}
+use Rattle.reg_body.specs.declared.limits.Limits.{Limits}
+use Rattle.reg_model.specs.Events.{Answer, Command, Event}
+use Rattle.reg_model.specs.Events.Answer.{Refused as to_refused}
+use Rattle.reg_model.specs.Events.Event.{Order}
+use Rattle.reg_model.specs.Registry as model
+use Rattle.reg_model.specs.Registry.{Text}
+use Rattle.reg_model.specs.Steps.{IsFit, no_room}
+use Rattle.reg_tables.specs.declared.tables.Tables.{Tables}
+use Rattle.reg_tables.specs.Works.{shown}
+use Rattle.reg_service.specs.Answered.{Answers, IsAnswered, LeavesAlone, Shows}
+use Rattle.reg_service.specs.Sequences.{Ran}
+use Rattle.reg_model.specs.declared.rule.AdminRefusal.{AdminRefusal}
+use Rattle.reg_policy.specs.declared.event.AdminReply.{AdminReply}
+use Rattle.reg_policy.specs.declared.event.AdminReply.TheVariants.{Done, Id, Text as Told}
+use Rattle.reg_policy.specs.Events.{reply_of}
+use Rattle.reg_cli_pipe.specs.declared.setup.SetupFault.{SetupFault}
+use Rattle.reg_cli_pipe.specs.declared.setup.SetupFault.TheVariants.{Memory, Refused, Unreadable}
+use Rattle.reg_cli_pipe.specs.LineOrders.{IsUnread, line_order}
+use Rattle.reg_cli_pipe.specs.Setups.{HasDone, HasDoneAlone, IsObeyed, IsSetUp, MakesOf, Obeys, is_refused}
+
+abbrev pub RunsBegin : {S : Type 0} → Ghosts S → Type 0
+RunsBegin g = (limits : Limits) (s : model.Registry) (t : Tables _) → Shows s (shown g t) → LeavesAlone s (shown g t) → Ran g limits s [] [] s t
+
+abbrev pub RunsGoOn : {S : Type 0} → Ghosts S → Type 0
+RunsGoOn g = (limits : Limits) (s : model.Registry) (es : List Event) (xs : List Answer) (t : model.Registry) (e : Event) (a : Answer) (old new : Tables _)
+    → IsFit e → Ran g limits s es xs t old → (it : Answers g limits t e a old new) → Ran g limits s (es ++ e ∷ []) (xs ++ a ∷ []) it.after new
+
+-- what had no room is refused
+not_refused : (c : Command) (a : Answer) → is_refused a ≡ false → a ≢ no_room (Order c)
+not_refused c a is same = absurd cc (sym is ∙ ap is_refused same)
+
+reply_stands : (r : AdminReply) → is_refused (reply_of (Ok r)) ≡ false
+reply_stands Done = refl
+reply_stands (Id n) = refl
+reply_stands (Told t) = refl
+
+-- a command that was answered is an order that was done or refused
+pub obeys : {S : Type 0} (g : Ghosts S) (limits : Limits) (c : Command) (old new : Tables S) (reply : Result AdminReply AdminRefusal) (made : Result (Unit {0}) SetupFault)
+    → IsFit (Order c) → IsAnswered g limits (Order c) (reply_of reply) old new → MakesOf reply made → IsObeyed g limits (Some c) old new made
+obeys g limits c old new (Ok r) made fit answers is =
+    subst (IsObeyed g limits (Some c) old new) (sym is) (reply_of (Ok r), reply_stands r, record { command = c; is = refl; fit = fit; answers = answers })
+obeys g limits c old new (Err f) made fit answers is =
+    subst (IsObeyed g limits (Some c) old new) (sym is) (record { command = c; is = refl; fit = fit; answers = answers })
+
+-- where the words alone failed, nothing was done
+pub unread_obeyed : {S : Type 0} (g : Ghosts S) (limits : Limits) (ordered : Option Command) (t : Tables S) (f : SetupFault) → IsUnread ordered f → IsObeyed g limits ordered t t (Err f)
+unread_obeyed g limits ordered t (Refused r) not = absurd not
+unread_obeyed g limits ordered t Unreadable none = (none, refl)
+unread_obeyed g limits ordered t Memory u = refl
+
+module _ {S : Type 0} (g : Ghosts S) (limits : Limits) (s : model.Registry) (lines : List Text) where
+  pub begun : RunsBegin g → (now : Tables S) → Shows s (shown g now) → LeavesAlone s (shown g now) → HasDoneAlone g limits s lines now 0
+  begun begins now shows alone = record {
+    done = record { after = s; commands = []; told = []; ordered = refl; none_refused = refl; count_is = refl; ran = begins limits s now shows alone };
+    alone = alone;
+  }
+
+  module _ (goes_on : RunsGoOn g) (count : ℕ) (old new : Tables S) (h : HasDoneAlone g limits s lines old count) (clean : HasCleanDisk (shown g new))
+      (line : Text) (less : count < length lines) (at : get_or lines count line ≡ line) where
+    before : map line_order (take count lines) ≡ map Some h.done.commands
+    before = subst (λ n. map line_order (take n lines) ≡ map Some h.done.commands) (ap length (append-nil h.done.told) ∙ h.done.count_is) h.done.ordered
+
+    module _ (a : Answer) (o : Obeys g limits (line_order line) a old new) where
+      answers : Answers g limits h.done.after (Order o.command) a old new
+      answers = o.answers clean h.done.after h.done.ran.shows
+
+      abbrev commands : List Command
+      commands = h.done.commands ++ o.command ∷ []
+
+      ran : Ran g limits s (map Order commands) (h.done.told ++ a ∷ []) answers.after new
+      ran = subst (λ es. Ran g limits s es (h.done.told ++ a ∷ []) answers.after new) (sym (map-append Order h.done.commands (o.command ∷ [])))
+          (subst (λ xs. Ran g limits s (map Order h.done.commands ++ Order o.command ∷ []) (xs ++ a ∷ []) answers.after new) (append-nil h.done.told)
+          (goes_on limits s (map Order h.done.commands) (h.done.told ++ []) h.done.after (Order o.command) a old new o.fit h.done.ran answers))
+
+      ordered : (n : ℕ) → n ≡ count + 1 → map line_order (take n lines) ≡ map Some commands
+      ordered n is = ap (λ m. map line_order (take m lines)) is ∙ ap (map line_order) (take_more lines count line less)
+          ∙ map-append line_order (take count lines) (get_or lines count line ∷ [])
+          ∙ ap₂ (λ xs x. xs ++ x ∷ []) before (ap line_order at ∙ o.is)
+          ∙ sym (map-append Some h.done.commands (o.command ∷ []))
+
+      told_is : length (h.done.told ++ a ∷ []) ≡ count + 1
+      told_is = length-append h.done.told (a ∷ []) ∙ ap (λ n. n + 1) h.done.count_is
+
+      alone : is_refused a ≡ false → LeavesAlone answers.after (shown g new)
+      alone is = elim answers.kept [ inl none ↦ absurd (not_refused o.command a is none) | inr it ↦ it ]
+
+      -- it was done
+      pub next : is_refused a ≡ false → HasDoneAlone g limits s lines new (count + 1)
+      next is = record {
+        done = record {
+          after = answers.after;
+          commands = commands;
+          told = h.done.told ++ a ∷ [];
+          ordered = ordered (length ((h.done.told ++ a ∷ []) ++ [])) (ap length (append-nil (h.done.told ++ a ∷ [])) ∙ told_is);
+          none_refused = list_any-append is_refused h.done.told (a ∷ []) ∙ ap (λ b. b || list_any is_refused (a ∷ [])) h.done.none_refused ∙ ap (λ b. b || false) is;
+          count_is = told_is;
+          ran = subst (λ xs. Ran g limits s (map Order commands) xs answers.after new) (sym (append-nil (h.done.told ++ a ∷ []))) ran;
+        };
+        alone = alone is;
+      }
+
+      -- it was the last
+      pub last : HasDone g limits s lines new count (a ∷ [])
+      last = record {
+        after = answers.after;
+        commands = commands;
+        told = h.done.told;
+        ordered = ordered (length (h.done.told ++ a ∷ [])) told_is;
+        none_refused = h.done.none_refused;
+        count_is = h.done.count_is;
+        ran = ran;
+      }
+
+    was_done : (u : Unit {0}) → IsObeyed g limits (line_order line) old new (Ok u) → HasDoneAlone g limits s lines new (count + 1)
+    was_done u (a, is, o) = next a o is
+
+    was_not_done : (f : SetupFault) → IsObeyed g limits (line_order line) old new (Err f) → IsSetUp g limits s lines new (Err f)
+    was_not_done (Refused r) o = (count, less, last (to_refused r) o)
+    was_not_done Unreadable (none, same) = (
+      count,
+      subst (λ l. IsSomeAnd l (λ text. line_order text ≡ None)) (sym (slice_get-get_or lines count line less ∙ ap Some at)) none,
+      subst (λ t. HasDoneAlone g limits s lines t count) (sym same) h,
+    )
+    was_not_done Memory same = (count, omega (arith, less), subst (λ t. HasDoneAlone g limits s lines t count) (sym same) h)
+
+    module _ (was : Limits) (same : was ≡ limits) where
+      -- a line was done
+      pub obeyed : (u : Unit {0}) → IsObeyed g was (line_order line) old new (Ok u) → HasDoneAlone g limits s lines new (count + 1)
+      obeyed u it = was_done u (subst (λ l. IsObeyed g l (line_order line) old new (Ok u)) same it)
+
+      -- a line was not done
+      pub failed : (f : SetupFault) → IsObeyed g was (line_order line) old new (Err f) → IsSetUp g limits s lines new (Err f)
+      failed f it = was_not_done f (subst (λ l. IsObeyed g l (line_order line) old new (Err f)) same it)

@@ -1,0 +1,48 @@
+//! A registry is set up, and serves one stream.
+
+ghost use Rattle.std.specs.Prelude.{◌+◌, ◌^◌, ◌<◌};
+ghost use Rattle.sqlite.specs.State.{HasCleanDisk};
+ghost use Rattle.reg_tables.specs.Works.{shown};
+ghost use Rattle.reg_service.specs.Answered.{AreUpToDate, LeavesAlone, Shows};
+ghost use Rattle.reg_service.specs.Registries.{limits_of, tables_of};
+ghost use Rattle.reg_http.specs.Answering.{GoesOn};
+ghost use Rattle.reg_cli_pipe.specs.Lines.{lines_in};
+ghost use Rattle.reg_cli_pipe.specs.Piped.{IsPiped, SpendsIfServed};
+
+use crate::exit::{exit_of_setup, exit_of_stream};
+use crate::setup::run_setup;
+use reg_body::Counted;
+use reg_cli_line::Exit;
+use reg_http::serve_stream;
+use reg_service::Registry;
+use sqlite::Alter;
+use std::alloc::Global;
+use std::io::{Read, Write};
+
+/// `run_pipe` does the commands of the setup file and then serves the stream. Where a line of the
+/// setup is refused, or is no command, nothing is served.
+pub fn run_pipe<R: Read, W: Write, S: Alter>(
+    alloc: Global,
+    registry: &mut Registry<S>,
+    setup: &str,
+    r: &mut Counted<R>,
+    w: &mut Counted<W>,
+) -> Exit
+    requires tables { AreUpToDate S.Store (tables_of registry.old) }
+    requires reads { r.old.calls + (limits_of registry.old).turns < 2 ^ 64 }
+    requires writes { w.old.calls + (limits_of registry.old).turns < 2 ^ 64 }
+    ensures piped { HasCleanDisk (shown S.Store (tables_of registry.new)) → (s : _)
+        → Shows s (shown S.Store (tables_of registry.old))
+        → LeavesAlone s (shown S.Store (tables_of registry.old))
+        → IsPiped S.Store (limits_of registry.old) s (lines_in setup.now)
+        (tables_of registry.new) (R.remaining r.old.inner) (R.remaining r.new.inner)
+        (W.contents w.old.inner) (W.contents w.new.inner) result }
+    ensures spends { SpendsIfServed (limits_of registry.old).turns r.old r.new w.old w.new
+        result }
+    ensures keeps { GoesOn S.Store registry.old registry.new }
+{
+    if let Err(fault) = run_setup(alloc, registry, setup) {
+        return exit_of_setup(fault);
+    }
+    exit_of_stream(serve_stream(alloc, registry, r, w))
+}

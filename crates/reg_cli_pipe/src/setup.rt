@@ -1,0 +1,211 @@
+//! The lines of a setup file, each a command of the administrator.
+
+ghost use Rattle.std.specs.Prelude.{◌≡◌, IfErr, IfOk, Some, false, map};
+ghost use Rattle.std.specs.List.{list_any};
+ghost use Rattle.sqlite.specs.State.{HasCleanDisk};
+ghost use Rattle.reg_model.specs.Events.Event.{Order as ToOrder};
+ghost use Rattle.reg_model.specs.Steps.{IsFit};
+ghost use Rattle.reg_policy.specs.Events.{command_of};
+ghost use Rattle.reg_tables.specs.Works.{shown};
+ghost use Rattle.reg_service.specs.Answered.{AreUpToDate, LeavesAlone, Shows};
+ghost use Rattle.reg_service.specs.Registries.{limits_of, tables_of};
+ghost use Rattle.reg_http.specs.Answering.{GoesOn};
+ghost use Rattle.reg_cli_words.specs.Dashes.{is_dashed};
+ghost use Rattle.reg_cli_words.specs.Orders.{words_of};
+ghost use Rattle.reg_cli_pipe.specs.LineOrders.{IsUnread, line_order, order_in, token_order, words_in};
+ghost use Rattle.reg_cli_pipe.specs.Lines.{lines_in};
+ghost use Rattle.reg_cli_pipe.specs.Setups.{IsObeyed, IsSetUp, MakesOf};
+
+use clap::error::ErrorKind;
+use clap::{ArgMatches, Error};
+use reg_cli_words::{NewToken, Order, TokenSource, is_dashed, read_line, read_order};
+use reg_model::AdminRefusal;
+use reg_policy::{AdminCommand, AdminReply};
+use reg_service::Registry;
+use reg_service::laws::history_law;
+use sqlite::Alter;
+use std::alloc::{AllocError, AllocFailed, Global};
+
+/// Why a setup file was not done to its end. The lines before it were.
+#[derive(Clone, Copy, Debug, PartialEq, Eq)]
+pub enum SetupFault {
+    /// A command was refused.
+    Refused(AdminRefusal),
+    /// A line is no command that a setup file may have.
+    Unreadable,
+    /// Memory was refused.
+    Memory,
+}
+
+impl From<AllocError> for SetupFault {
+    ghost use Rattle.std.specs.Prelude.{◌≡◌};
+    ghost use Rattle.reg_cli_pipe.specs.declared.setup.SetupFault.TheVariants.{Memory};
+
+    ghost from_gives = { λ _ f. f ≡ Memory };
+
+    fn from(_: AllocError) -> SetupFault {
+        SetupFault::Memory
+    }
+}
+
+impl<T: Drop> From<AllocFailed<T>> for SetupFault {
+    ghost use Rattle.std.specs.Prelude.{◌≡◌};
+    ghost use Rattle.reg_cli_pipe.specs.declared.setup.SetupFault.TheVariants.{Memory};
+
+    ghost from_gives = { λ _ f. f ≡ Memory };
+
+    fn from(_: AllocFailed<T>) -> SetupFault {
+        SetupFault::Memory
+    }
+}
+
+impl From<Error> for SetupFault {
+    ghost use Rattle.std.specs.Prelude.{◌≡◌};
+    ghost use Rattle.clap.specs.Values.{kind_of};
+    ghost use Rattle.reg_cli_pipe.specs.LineOrders.{fault_by};
+
+    ghost from_gives = { λ e f. f ≡ fault_by (kind_of e) };
+
+    fn from(error: Error) -> SetupFault {
+        match error.kind() {
+            ErrorKind::OutOfMemory => SetupFault::Memory,
+            _ => SetupFault::Unreadable,
+        }
+    }
+}
+
+/// The lines of a text; the last may lack its line feed.
+fn lines_of<'a>(alloc: Global, text: &'a str) -> Result<Vec<&'a str>, AllocError>
+    ensures { IfOk result (λ lines. map (λ l. l.now) lines.items ≡ lines_in text.now) }
+{
+    let mut lines: Vec<&'a str> = text.split('\n').collect(alloc)?;
+    let Some(last) = lines.pop() else {
+        return Ok(lines);
+    };
+    if last.is_empty() {
+        return Ok(lines);
+    }
+    lines.push(last)?;
+    Ok(lines)
+}
+
+fn have_dashed(words: &[&str]) -> bool
+    ensures { result ≡ list_any (λ w. is_dashed w.now) words.now }
+{
+    words.iter().any(|word| is_dashed(word))
+}
+
+/// The words of a line. No value begins with `-`.
+fn split_words<'a>(alloc: Global, line: &'a str) -> Result<Vec<&'a str>, SetupFault>
+    ensures words { IfOk result (λ words. map (λ w. w.now) words.items ≡ words_in line.now) }
+    ensures no_dash { IfOk result (λ _. list_any is_dashed (words_in line.now) ≡ false) }
+    ensures fails { IfErr result (IsUnread (line_order line.now)) }
+{
+    let words: Vec<&'a str> = line.split(' ').collect(alloc)?;
+    if have_dashed(&words) {
+        return Err(SetupFault::Unreadable);
+    }
+    Ok(words)
+}
+
+/// What a setup makes of the reply to a command.
+fn obeyed(reply: Result<AdminReply, AdminRefusal>) -> Result<(), SetupFault>
+    ensures { MakesOf reply result }
+{
+    match reply {
+        Ok(_) => Ok(()),
+        Err(refusal) => Err(SetupFault::Refused(refusal)),
+    }
+}
+
+/// Does one command.
+fn obey<S: Alter>(
+    alloc: Global,
+    registry: &mut Registry<S>,
+    command: &AdminCommand<'_>,
+) -> Result<(), SetupFault>
+    requires tables { AreUpToDate S.Store (tables_of registry.old) }
+    requires fit { IsFit (ToOrder (command_of command.now)) }
+    ensures obeyed { IsObeyed S.Store (limits_of registry.old) (Some (command_of command.now))
+        (tables_of registry.old) (tables_of registry.new) result }
+    ensures keeps { GoesOn S.Store registry.old registry.new }
+{
+    obeyed(registry.command(alloc, command))
+}
+
+/// Adds a token, whose digest a setup file has to tell.
+fn add_token<S: Alter>(
+    alloc: Global,
+    registry: &mut Registry<S>,
+    token: &NewToken<'_>,
+) -> Result<(), SetupFault>
+    requires tables { AreUpToDate S.Store (tables_of registry.old) }
+    ensures obeyed { IsObeyed S.Store (limits_of registry.old) (token_order (words_of token.now))
+        (tables_of registry.old) (tables_of registry.new) result }
+    ensures keeps { GoesOn S.Store registry.old registry.new }
+{
+    match &token.source {
+        TokenSource::Told(digest) => obey(alloc, registry, &token.command(digest)),
+        TokenSource::Random(_) => Err(SetupFault::Unreadable),
+    }
+}
+
+/// Does what the words order.
+fn obey_order<S: Alter>(
+    alloc: Global,
+    registry: &mut Registry<S>,
+    matches: &ArgMatches<'_>,
+) -> Result<(), SetupFault>
+    requires tables { AreUpToDate S.Store (tables_of registry.old) }
+    ensures obeyed { IsObeyed S.Store (limits_of registry.old) (order_in matches.now)
+        (tables_of registry.old) (tables_of registry.new) result }
+    ensures keeps { GoesOn S.Store registry.old registry.new }
+{
+    let Some((name, inner)) = matches.subcommand() else {
+        return Err(SetupFault::Unreadable);
+    };
+    match read_order(alloc, name, inner)? {
+        Some(Order::AddToken(token)) => add_token(alloc, registry, &token),
+        Some(Order::Other(command)) => obey(alloc, registry, &command),
+        None => Err(SetupFault::Unreadable),
+    }
+}
+
+/// Does the command of one line.
+fn obey_line<S: Alter>(
+    alloc: Global,
+    registry: &mut Registry<S>,
+    line: &str,
+) -> Result<(), SetupFault>
+    requires tables { AreUpToDate S.Store (tables_of registry.old) }
+    ensures obeyed { IsObeyed S.Store (limits_of registry.old) (line_order line.now)
+        (tables_of registry.old) (tables_of registry.new) result }
+    ensures keeps { GoesOn S.Store registry.old registry.new }
+{
+    let words = split_words(alloc, line)?;
+    let matches = read_line(alloc, &words)?;
+    obey_order(alloc, registry, &matches)
+}
+
+/// Does the commands of a setup file, one after another, up to the first that is refused or no
+/// command.
+pub fn run_setup<S: Alter>(
+    alloc: Global,
+    registry: &mut Registry<S>,
+    setup: &str,
+) -> Result<(), SetupFault>
+    requires tables { AreUpToDate S.Store (tables_of registry.old) }
+    ensures done { HasCleanDisk (shown S.Store (tables_of registry.new)) → (s : _)
+        → Shows s (shown S.Store (tables_of registry.old))
+        → LeavesAlone s (shown S.Store (tables_of registry.old))
+        → IsSetUp S.Store (limits_of registry.old) s (lines_in setup.now)
+        (tables_of registry.new) result }
+    ensures keeps { GoesOn S.Store registry.old registry.new }
+{
+    history_law::<S>();
+    let lines = lines_of(alloc, setup)?;
+    for line in &lines {
+        obey_line(alloc, registry, line)?;
+    }
+    Ok(())
+}

@@ -1,0 +1,13 @@
+use Rattle.std.proofs.Common.{[], ◌∷◌, codes, subst}
+use Rattle.std.proofs.lemmas.Result.{IfOk-weaker}
+use Rattle.reg_cli_words.specs.Grammar.{needed_rule, option_rule}
+use Rattle.reg_cli_words.specs.Making.{HasRules}
+use Rattle.reg_cli_words.proofs.Making.{arg_added, needed, rules_append, two_added}
+use Rattle.reg_cli_words.proofs.usage.with_numbers.Goals as goal
+
+pub returns : goal.returns
+returns c = IfOk-weaker c.arg-3.result _ _
+    (λ new added app had. subst (λ it. HasRules it new) (rules_append app (needed_rule (codes "port") ∷ needed_rule (codes "connections") ∷ []) (option_rule (codes "replies") ∷ []))
+    (arg_added _ _ _ _ _ c.option-replies.ensures added
+    (two_added _ _ _ _ _ app _ _ (needed _ _ _ c.option.ensures c.required-port.ensures) (needed _ _ _ c.option-connections.ensures c.required.ensures) c.in_ok-arg.ensures c.in_ok-arg-2.ensures had)))
+    c.arg-3.ensures

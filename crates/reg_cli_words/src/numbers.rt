@@ -1,0 +1,43 @@
+//! Numbers among the words.
+
+ghost use Rattle.std.specs.Prelude.{◌≡◌, ◌^◌};
+ghost use Rattle.std.specs.Char.{is_ascii_digit};
+ghost use Rattle.std.specs.List.{list_all};
+ghost use Rattle.reg_cli_words.specs.Orders.{number_below};
+
+fn are_digits(text: &str) -> bool
+    ensures { result ≡ list_all is_ascii_digit text.now }
+{
+    text.bytes().all(|b| b.is_ascii_digit())
+}
+
+/// The number that decimal digits write, where it is below 2^64. Zeros in front are taken; a sign
+/// is not.
+pub fn decimal(text: &str) -> Option<u64>
+    ensures { result ≡ number_below (2 ^ 64) text.now }
+{
+    if are_digits(text) {
+        text.parse().ok()
+    } else {
+        None
+    }
+}
+
+/// The number of a token, where it can be one.
+pub(crate) fn token_id(text: &str) -> Option<u32>
+    ensures { result ≡ number_below (2 ^ 32) text.now }
+{
+    match decimal(text) {
+        Some(number) => u32::try_from(number).ok(),
+        None => None,
+    }
+}
+
+/// Whether a number is a port that can be listened on.
+pub fn is_port(number: u64) -> Option<u16> {
+    match u16::try_from(number) {
+        Ok(0) => None,
+        Ok(port) => Some(port),
+        Err(_) => None,
+    }
+}

@@ -1,0 +1,212 @@
+//! All subcommands of the program, with their help, and those of a setup file.
+
+ghost use Rattle.std.specs.Prelude.{IfErr, IfOk, [], ◌≡◌, ◌∷◌, ◌++◌, codes, map, string_bytes, true};
+ghost use Rattle.clap.specs.Words.{kind_of, subcommand_of, subcommand_rows_of, takes};
+ghost use Rattle.clap.specs.declared.error.kind.ErrorKind.TheVariants.{OutOfMemory};
+ghost use Rattle.reg_cli_words.specs.Grammar.{IsJudged, file_rule, named_level, needed_rule, number_rules, option_rule, other_levels, place_rules, program_app, program_top, setup_app, setup_top, with_levels, with_rules, word_rule};
+ghost use Rattle.reg_cli_words.specs.Making.{Adds, HasLevel, HasRules};
+
+use crate::parameters::{Shape, described, flag, option, with_file, word};
+use crate::reports::with_reports;
+use crate::subcommands::with_orders;
+use clap::{ArgMatches, Command, Error};
+use std::alloc::{AllocError, Global};
+
+/// `line`.
+fn line_words<'a>(alloc: Global) -> Command<'a>
+    ensures { HasLevel (named_level (codes "line") []) result }
+{
+    described(
+        alloc,
+        "line",
+        "Reads the body of a publish request from standard input and prints the crate's index \
+         path and its index line",
+        "Example:\n  registry_cli line < publish-body",
+    )
+}
+
+/// `init`.
+fn init_words<'a>(alloc: Global) -> Result<Command<'a>, AllocError>
+    ensures { IfOk result (HasLevel (named_level (codes "init")
+        (needed_rule (codes "base") ∷ file_rule ∷ []))) }
+{
+    let base = option(
+        alloc,
+        "base",
+        "URL",
+        "The address that clients use, as http://127.0.0.1:8080, without a / at its end",
+    );
+    let command = described(
+        alloc,
+        "init",
+        "Makes a registry with nothing in it, in a new file",
+        "Example:\n  registry_cli init --base http://127.0.0.1:8080 --db r.db",
+    );
+    with_file(alloc, command.arg(base.required(true))?)
+}
+
+/// `export`.
+fn export_words<'a>(alloc: Global) -> Result<Command<'a>, AllocError>
+    ensures { IfOk result (HasLevel (named_level (codes "export")
+        (word_rule (codes "DIR") ∷ file_rule ∷ []))) }
+{
+    let command = described(
+        alloc,
+        "export",
+        "Writes config.json and the index files below a folder, as the sparse index has them, \
+         those of restricted crates too",
+        "Example:\n  registry_cli export index --db r.db",
+    );
+    with_file(alloc, command.arg(word(alloc, "DIR", "The folder"))?)
+}
+
+/// `audit`.
+fn audit_words<'a>(alloc: Global) -> Result<Command<'a>, AllocError>
+    ensures { IfOk result (HasLevel (named_level (codes "audit") (file_rule ∷ []))) }
+{
+    let command = described(
+        alloc,
+        "audit",
+        "Checks the whole file, archives included, moves its log into it, and prints ok: then the \
+         file alone is the whole registry",
+        "Example:\n  registry_cli audit --db r.db",
+    );
+    with_file(alloc, command)
+}
+
+/// Where `pipe` finds its registry.
+fn with_place<'a>(alloc: Global, command: Command<'a>) -> Result<Command<'a>, AllocError>
+    ensures { Adds (λ a. with_rules a place_rules) command.entry result }
+{
+    let file = option(alloc, "db", "FILE", "The registry's file");
+    let help = "Serves a registry in memory, with nothing in it, which is gone afterwards";
+    let memory = flag(alloc, "memory", help);
+    command
+        .arg(file.required_unless_present("memory")?)?
+        .arg(memory.conflicts_with("db")?)
+}
+
+/// `pipe`.
+fn pipe_words<'a>(alloc: Global) -> Result<Command<'a>, AllocError>
+    ensures { IfOk result (HasLevel (named_level (codes "pipe") (place_rules
+        ++ option_rule (codes "base") ∷ option_rule (codes "setup") ∷ []))) }
+{
+    let base = option(
+        alloc,
+        "base",
+        "URL",
+        "The base of a registry in memory. Without it: http://127.0.0.1:8080",
+    );
+    let setup = option(
+        alloc,
+        "setup",
+        "FILE",
+        "Commands that are done first, one a line, without --db",
+    );
+    let command = described(
+        alloc,
+        "pipe",
+        "Serves HTTP on standard input and output: from the registry of --db, or from a new one in \
+         memory",
+        "Example:\n  registry_cli pipe --memory --setup commands < requests",
+    );
+    with_place(alloc, command)?.arg(base)?.arg(setup)
+}
+
+/// The numbers of `serve`.
+fn with_numbers<'a>(alloc: Global, command: Command<'a>) -> Result<Command<'a>, AllocError>
+    ensures { Adds (λ a. with_rules a number_rules) command.entry result }
+{
+    let port = option(alloc, "port", "P", "The port of 127.0.0.1 to listen on").required(true);
+    let connections = option(
+        alloc,
+        "connections",
+        "N",
+        "How many connections are served before it ends",
+    );
+    let replies = option(
+        alloc,
+        "replies",
+        "K",
+        "How many replies a connection has at most. Without it: 1, which suits cargo",
+    );
+    command
+        .arg(port)?
+        .arg(connections.required(true))?
+        .arg(replies)
+}
+
+/// `serve`.
+fn serve_words<'a>(alloc: Global) -> Result<Command<'a>, AllocError>
+    ensures { IfOk result (HasLevel (named_level (codes "serve")
+        (number_rules ++ file_rule ∷ []))) }
+{
+    let command = described(
+        alloc,
+        "serve",
+        "Serves HTTP on a port of 127.0.0.1, one connection after another",
+        "Example:\n  registry_cli serve --port 8080 --connections 1000000 --db r.db",
+    );
+    with_file(alloc, with_numbers(alloc, command)?)
+}
+
+/// Those that are no command of the administrator on what a registry holds.
+fn with_others<'a>(alloc: Global, command: Command<'a>) -> Result<Command<'a>, AllocError>
+    ensures { Adds (λ a. with_levels a other_levels) command.entry result }
+{
+    command
+        .subcommand(init_words(alloc)?)?
+        .subcommand(serve_words(alloc)?)?
+        .subcommand(pipe_words(alloc)?)?
+        .subcommand(export_words(alloc)?)?
+        .subcommand(audit_words(alloc)?)?
+        .subcommand(line_words(alloc))
+}
+
+fn program<'a>(alloc: Global) -> Command<'a>
+    ensures { HasRules program_top result }
+{
+    Command::new(alloc, "registry_cli")
+        .about("A private Cargo registry")
+        .after_help(
+            "Example:\n  registry_cli init --base http://127.0.0.1:8080 --db r.db\n  \
+             registry_cli user-add ada --db r.db\n\n\
+             A subcommand's own help: registry_cli user-add --help",
+        )
+        .subcommand_required(true)
+        .arg_required_else_help(true)
+}
+
+fn command<'a>(alloc: Global) -> Result<Command<'a>, AllocError>
+    ensures { IfOk result (HasRules program_app) }
+{
+    let command = with_others(alloc, program(alloc))?;
+    with_reports(alloc, with_orders(alloc, Shape::Program, command)?)
+}
+
+/// Judges the program's words, its own name first.
+pub fn read_words<'a>(alloc: Global, words: &'a [String]) -> Result<ArgMatches<'a>, Error>
+    ensures reads { IfOk result (λ m. subcommand_rows_of m
+        ≡ subcommand_of program_app (map (λ w. string_bytes w) words.entry.now)) }
+    ensures passes { IfErr result (λ e.
+        takes program_app (map (λ w. string_bytes w) words.entry.now) ≡ true
+        → kind_of e ≡ OutOfMemory) }
+{
+    command(alloc)?.try_get_matches_from(words)
+}
+
+fn setup_line<'a>(alloc: Global) -> Command<'a>
+    ensures { HasRules setup_top result }
+{
+    Command::new(alloc, "setup")
+        .no_binary_name(true)
+        .subcommand_required(true)
+}
+
+/// Judges the words of a line of a setup file, which are as those of the program, but without the
+/// program's name and `--db`.
+pub fn read_line<'a>(alloc: Global, words: &'a [&'a str]) -> Result<ArgMatches<'a>, Error>
+    ensures { IsJudged setup_app (map (λ w. w.now) words.entry.now) result }
+{
+    with_orders(alloc, Shape::Setup, setup_line(alloc))?.try_get_matches_from(words)
+}

@@ -1,9 +1,0 @@
-use Rattle.std.specs.Prelude.{string_bytes}
-use Rattle.reg_serving.proofs.Running.{runs_asked}
-use Rattle.reg_commands.proofs.Reporting.{users_told}
-use Rattle.reg_commands.proofs.reports.report_users.Goals as goal
-
-pub returns : goal.returns
-returns g c =
-    runs_asked g.S.Store c.in_ok-text.text _ c.args.work.now c.users_report.new.work c.in_ok-text.ensures
-    (λ told limits. users_told limits (string_bytes c.in_ok-text.text) _ told)

@@ -1,5 +1,0 @@
-use Rattle.std.proofs.Common.{rules}
-use Rattle.reg_converting.proofs.fault.LineFault.words.Goals as goal
-
-pub returns-in-Body : goal.returns-in-Body
-returns-in-Body c = search rules

@@ -1,5 +1,0 @@
-use Rattle.std.proofs.Common.{rules}
-use Rattle.reg_converting.proofs.line.stopped.Goals as goal
-
-pub returns-clause-words : goal.returns-clause-words
-returns-clause-words c = search rules

@@ -1,9 +1,0 @@
-use Rattle.reg_heads.proofs.Following.{IsHeadAt-append, IsRefusedAt-append, head_alone}
-use Rattle.reg_heads.proofs.laws.append_law.Goals as goal
-
-pub returns : goal.returns
-returns c = record {
-  head = IsHeadAt-append;
-  alone = head_alone;
-  refused = IsRefusedAt-append;
-}

@@ -1,9 +1,0 @@
-use Rattle.reg_heads.proofs.Following.{head_body, head_some, head_within}
-use Rattle.reg_heads.proofs.laws.bounds_law.Goals as goal
-
-pub returns : goal.returns
-returns c = record {
-  some = head_some;
-  within = head_within;
-  body = head_body;
-}

@@ -1,4 +1,0 @@
-pub mod Fronts
-pub mod Fields
-pub mod Heads
-pub mod Reads

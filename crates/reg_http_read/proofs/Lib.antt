@@ -1,0 +1,11 @@
+pub mod Cuts
+pub mod Digits
+pub mod Following
+pub mod Judged
+pub mod Lists
+pub mod Read
+pub mod Readings
+pub mod Adding
+pub mod Lines
+pub mod Replies
+pub mod Requests

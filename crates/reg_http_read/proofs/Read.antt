@@ -1,0 +1,47 @@
+-- From a parse of the longest front to what is read of all bytes.
+use Rattle.std.proofs.Common.{◌≡◌, ℕ, ◌≤◌, inl, inr, Bool, List, length, take, refl, sym, subst}
+use Rattle.httparse.specs.Grammar.{print_request}
+use Rattle.reg_body.specs.declared.limits.Limits.{Limits}
+use Rattle.reg_model.specs.declared.rule.Rule.{Rule}
+use Rattle.reg_http_read.specs.Fronts.{IsFront, IsHeadCut}
+use Rattle.reg_http_read.specs.Heads.{IsBroken, IsHeadAt}
+use Rattle.reg_http_read.specs.Reads.{IsJudgement, IsRead, IsWhole, facts_of}
+use Rattle.reg_http_read.specs.declared.head.Head.{Head}
+use Rattle.reg_http_read.specs.declared.head.HeadRead.{HeadRead}
+use Rattle.reg_http_read.specs.declared.head.HeadRead.TheVariants as read
+use Rattle.reg_http_read.proofs.Cuts.{bad_cut, head_cut}
+use Rattle.reg_http_read.proofs.Judged.{judged_len, refused_by, told_by}
+
+module _ (limits : Limits) (e : ℕ) (bytes : List ℕ) (front : IsFront limits.head bytes e)
+    (last : (n : ℕ) → IsFront limits.head bytes n → n ≤ e) where
+  whole_cut : (it : HeadRead) (w : IsWhole limits (take e bytes) it) → IsHeadCut limits.head bytes (length (print_request w.head)) w.head
+  whole_cut it w = head_cut limits.head e _ bytes w.head front.small front.there refl w.reads
+
+  pub head_read : (it : Head) → IsWhole limits (take e bytes) (read.Head it) → IsHeadAt limits bytes (facts_of it)
+  head_read it w =
+      let judged = told_by _ it w.head.method w.answer in
+      record {
+        head = w.head;
+        judged = judged;
+        cut =
+            subst (λ n. IsHeadCut limits.head bytes n w.head) (sym (judged_len limits w.head (facts_of it) judged))
+            (whole_cut (read.Head it) w);
+      }
+
+  pub refusal_read : (rule : Rule) (is_head : Bool) → IsWhole limits (take e bytes) (read.Refused rule is_head) → IsBroken limits bytes rule is_head
+  refusal_read rule is_head w =
+      let judged = refused_by _ rule is_head w.head.method w.answer in
+      record {
+        head = w.head;
+        len = length (print_request w.head);
+        cut = whole_cut (read.Refused rule is_head) w;
+        judged = judged.0;
+        told = judged.1;
+      }
+
+  pub read_from : (it : HeadRead) → IsJudgement limits (take e bytes) it → (it ≡ read.More → ⊥) → IsRead limits bytes it
+  read_from read.More judged other = absurd (other refl)
+  read_from (read.Head it) w other = head_read it w
+  read_from (read.Refused rule is_head) (inl bad) other =
+      inl (record { cut = bad_cut limits.head e bytes front last bad.never; rule_is = bad.rule_is; told = bad.told })
+  read_from (read.Refused rule is_head) (inr w) other = inr (inr (refusal_read rule is_head w))

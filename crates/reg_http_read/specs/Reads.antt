@@ -1,0 +1,71 @@
+-- What `read_head` answers.
+use Rattle.std.specs.Prelude.{◌≡◌, Bool, false, length, drop, Result, Ok, Err, option_copied, ◌⊎◌}
+use Rattle.httparse.specs.Grammar.{RequestHead, ReadsRequest, HasNoRequest, NeverHasRequest, MayBecomeRequest, print_request}
+use Rattle.reg_body.specs.declared.limits.Limits.{Limits}
+use Rattle.reg_model.specs.Registry.{Text}
+use Rattle.reg_model.specs.declared.rule.Rule.{Rule}
+use Rattle.reg_model.specs.declared.rule.Rule.TheVariants.{H1}
+use Rattle.reg_http_read.specs.Fields as spec
+use Rattle.reg_http_read.specs.Heads.{Facts, IsHeadAt, IsRefusedAt, IsUnfinished, answers_head, judge_head}
+use Rattle.reg_http_read.specs.declared.asked.Asked.{Asked}
+use Rattle.reg_http_read.specs.declared.head.Head.{Head}
+use Rattle.reg_http_read.specs.declared.head.HeadRead.{HeadRead}
+use Rattle.reg_http_read.specs.declared.head.HeadRead.TheVariants as read
+
+abbrev pub facts_of : Head → Facts
+facts_of it = record {
+  method = it.method.now;
+  target = it.target.now;
+  token = option_copied it.token;
+  len = it.len;
+  body_len = it.body_len;
+  interim = it.interim;
+  close = it.close;
+}
+
+-- the bytes begin with this head, are refused, or are too few to tell
+abbrev pub IsRead : Limits → Text → HeadRead → Type 0
+IsRead limits bytes read.More = IsUnfinished limits bytes
+IsRead limits bytes (read.Head it) = IsHeadAt limits bytes (facts_of it)
+IsRead limits bytes (read.Refused rule is_head) = IsRefusedAt limits bytes rule is_head
+
+-- the front is no head, and nothing continues it to one
+pub record IsBadFront (front : Text) (rule : Rule) (is_head : Bool) : Type 0 where
+  pub never : NeverHasRequest front
+  pub rule_is : rule ≡ H1
+  pub told : is_head ≡ false
+
+-- what a whole head, whose method is given, is answered
+abbrev pub IsAnswer : HeadRead → Text → Result Facts Rule → Type 0
+IsAnswer read.More method facts = ⊥
+IsAnswer (read.Head it) method (Ok facts) = facts_of it ≡ facts
+IsAnswer (read.Head it) method (Err r) = ⊥
+IsAnswer (read.Refused rule is_head) method (Ok facts) = ⊥
+IsAnswer (read.Refused rule is_head) method (Err r) =
+    (rule ≡ r) × (is_head ≡ answers_head r method)
+
+-- the front begins with a head, and that is the answer to it
+pub record IsWhole (limits : Limits) (front : Text) (it : HeadRead) : Type 0 where
+  pub head : RequestHead
+  pub reads : ReadsRequest front head (drop (length (print_request head)) front)
+  pub answer : IsAnswer it head.method (judge_head limits head)
+
+-- what one parse of the front tells
+abbrev pub IsJudgement : Limits → Text → HeadRead → Type 0
+IsJudgement limits front read.More = HasNoRequest front × MayBecomeRequest front
+IsJudgement limits front (read.Head it) = IsWhole limits front (read.Head it)
+IsJudgement limits front (read.Refused rule is_head) =
+    IsBadFront front rule is_head ⊎ IsWhole limits front (read.Refused rule is_head)
+
+-- the same values
+pub record HasAsked (it : Asked) (asked : spec.Asked) : Type 0 where
+  pub token : option_copied it.token ≡ asked.token
+  pub body_len : it.body_len ≡ asked.body_len
+  pub interim : it.interim ≡ asked.interim
+  pub close : it.close ≡ asked.close
+
+abbrev pub IsAsked : Result Asked Rule → Result spec.Asked Rule → Type 0
+IsAsked (Ok it) (Ok asked) = HasAsked it asked
+IsAsked (Ok it) (Err e) = ⊥
+IsAsked (Err e) (Ok asked) = ⊥
+IsAsked (Err e) (Err f) = e ≡ f

@@ -1,0 +1,69 @@
+//! The head at the front of a stream.
+
+ghost use Rattle.std.specs.Prelude.{IfOk};
+ghost use Rattle.reg_http_read.specs.Fronts.{IsUnjudged};
+ghost use Rattle.reg_http_read.specs.Reads.{IsRead};
+
+use crate::front::{judge_front, last_line};
+use reg_body::Limits;
+use reg_model::Rule;
+use std::alloc::{AllocError, Global};
+
+/// A head and what it tells.
+#[derive(Clone, Copy, Debug)]
+pub struct Head<'b> {
+    pub method: &'b str,
+    pub target: &'b str,
+    /// The value of the one `Authorization` field.
+    pub token: Option<&'b [u8]>,
+    /// How many bytes the head has.
+    pub len: usize,
+    /// How many bytes its body has.
+    pub body_len: u64,
+    /// Whether `100 Continue` is waited for.
+    pub interim: bool,
+    /// Whether the connection closes after the reply.
+    pub close: bool,
+}
+
+/// What the front of a stream was read as.
+#[derive(Clone, Copy, Debug)]
+pub enum HeadRead<'b> {
+    /// More bytes are waited for.
+    More,
+    Head(Head<'b>),
+    /// A rule is broken, by a HEAD request or not.
+    Refused(Rule, bool),
+}
+
+/// What is answered where no front is judged.
+fn unjudged<'b>(bytes: &'b [u8], limits: &Limits) -> HeadRead<'b>
+    requires { IsUnjudged limits.now.head bytes.now }
+    ensures { IsRead limits.now bytes.now result }
+{
+    if bytes.len() < limits.head as usize {
+        HeadRead::More
+    } else {
+        HeadRead::Refused(Rule::H2, false)
+    }
+}
+
+/// Reads the head at the front of the bytes, in one parse of their lines.
+pub fn read_head<'b>(
+    alloc: Global,
+    bytes: &'b [u8],
+    limits: &Limits,
+) -> Result<HeadRead<'b>, AllocError>
+    ensures { IfOk result (IsRead limits.now bytes.now) }
+{
+    let (within, _) = bytes.split_at(bytes.len().min(limits.head as usize));
+    let end = last_line(within);
+    if end == 0 {
+        return Ok(unjudged(bytes, limits));
+    }
+    let (front, _) = bytes.split_at(end);
+    match judge_front(alloc, front, limits)? {
+        HeadRead::More => Ok(unjudged(bytes, limits)),
+        read => Ok(read),
+    }
+}

@@ -1,0 +1,48 @@
+//! What holds of heads, whatever the code.
+//! The functions do nothing: their contracts are the laws.
+
+ghost use Rattle.std.specs.Prelude.{◌≡◌, ◌<◌, ◌≤◌, ◌++◌, Bool, length, take};
+ghost use Rattle.reg_body.specs.declared.limits.Limits.{Limits};
+ghost use Rattle.reg_model.specs.Registry.{Text};
+ghost use Rattle.reg_model.specs.declared.rule.Rule.{Rule};
+ghost use Rattle.reg_http_read.specs.Heads.{Facts, IsHeadAt, IsRefusedAt, IsUnfinished, greatest_body};
+
+/// A head is in the bytes, it is not empty, and its body is at most the greatest.
+pub fn bounds_law()
+    ensures some { (limits : Limits) (b : Text) (f : Facts) → IsHeadAt limits b f → 0 < f.len }
+    ensures within { (limits : Limits) (b : Text) (f : Facts) → IsHeadAt limits b f
+        → f.len ≤ length b }
+    ensures body { (limits : Limits) (b : Text) (f : Facts) → IsHeadAt limits b f
+        → f.body_len ≤ greatest_body limits }
+{}
+
+/// What was read stays so whatever follows, and a head needs its own bytes alone.
+pub fn append_law()
+    ensures head { (limits : Limits) (b more : Text) (f : Facts) → IsHeadAt limits b f
+        → IsHeadAt limits (b ++ more) f }
+    ensures alone { (limits : Limits) (b : Text) (f : Facts) → IsHeadAt limits b f
+        → IsHeadAt limits (take f.len b) f }
+    ensures refused { (limits : Limits) (b more : Text) (r : Rule) (is_head : Bool)
+        → IsRefusedAt limits b r is_head → IsRefusedAt limits (b ++ more) r is_head }
+{}
+
+/// The bytes begin with one head at most.
+pub fn one_head_law()
+    ensures { (limits : Limits) (b more : Text) (f g : Facts) → IsHeadAt limits b f
+        → IsHeadAt limits (b ++ more) g → f ≡ g }
+{}
+
+/// What is read of bytes is one thing, and what follows does not change it: a head is not refused,
+/// a refusal is for one rule, and what is unfinished is neither.
+pub fn one_reading_law()
+    ensures head { (limits : Limits) (b more : Text) (f : Facts) (r : Rule) (is_head : Bool)
+        → IsHeadAt limits b f → IsRefusedAt limits (b ++ more) r is_head → ⊥ }
+    ensures refused { (limits : Limits) (b more : Text) (f : Facts) (r : Rule) (is_head : Bool)
+        → IsRefusedAt limits b r is_head → IsHeadAt limits (b ++ more) f → ⊥ }
+    ensures rule { (limits : Limits) (b more : Text) (r q : Rule) (x y : Bool)
+        → IsRefusedAt limits b r x → IsRefusedAt limits (b ++ more) q y → (r ≡ q) × (x ≡ y) }
+    ensures no_head { (limits : Limits) (b : Text) (f : Facts) → IsUnfinished limits b
+        → IsHeadAt limits b f → ⊥ }
+    ensures no_rule { (limits : Limits) (b : Text) (r : Rule) (is_head : Bool)
+        → IsUnfinished limits b → IsRefusedAt limits b r is_head → ⊥ }
+{}

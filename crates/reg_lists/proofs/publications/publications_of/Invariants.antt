@@ -1,7 +1,0 @@
-use Rattle.std.proofs.Common.{◌≡◌, ◌++◌, map, drop}
-use Rattle.std.specs.List.{filter}
-use Rattle.reg_model.specs.Crates.{collides}
-use Rattle.reg_lists.proofs.publications.publications_of.Given as goal
-
-abbrev pub invariant-loop-publication : goal.invariant-loop-publication
-invariant-loop-publication l = map (λ p. p.now) l.publications.items ++ filter (λ p. collides p.name l.name) (drop l.publication-index l.list) ≡ filter (λ p. collides p.name l.name) l.list

@@ -1,9 +1,0 @@
-use Rattle.std.proofs.Common.{◌≡◌, map, take}
-use Rattle.std.specs.Prelude.{string_bytes}
-use Rattle.std.specs.FinSet as set
-use Rattle.reg_versions.specs.Versions.{parts_of}
-use Rattle.reg_lists.proofs.tops.releases.Given as goal
-
--- the versions so far are read
-abbrev pub invariant-loop-publication : goal.invariant-loop-publication
-invariant-loop-publication l = l.releases.items ≡ map (λ p. (parts_of (string_bytes p.now.version), set.contains l.yanked (l.crate_text, string_bytes p.now.version))) (take l.publication-index l.list)

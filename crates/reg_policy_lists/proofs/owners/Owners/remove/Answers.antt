@@ -1,0 +1,17 @@
+use Rattle.std.proofs.Common.{◌∙◌, ap, rules}
+use Rattle.std.specs.Prelude.{map}
+use Rattle.std.proofs.lemmas.Fn.{filter_same}
+use Rattle.std.specs.FinSet as set
+use Rattle.reg_model.specs.Registry.{Owner, owner_cmp}
+use Rattle.reg_model.proofs.Keys.{owner_total, owner_apart}
+use Rattle.reg_names.specs.Names.{canon}
+use Rattle.reg_policy_lists.specs.Sets.{owner_of}
+use Rattle.reg_policy_lists.proofs.SetViews.{remove_view, owner_agrees}
+use Rattle.reg_policy_lists.proofs.owners.Owners.remove.Goals as goal
+
+pub returns : goal.returns
+returns c =
+    let q : Owner = (canon c.args.name.now, c.args.account) in
+    ap (λ l. set.from_list {R = owner_cmp} (map owner_of l)) (filter_same _ _ _ (λ x b f' k. search rules) _ _ c.retain.ensures.filtered)
+    ∙ remove_view owner_total owner_apart owner_of q _ (λ m. owner_agrees q (owner_of m)) c.self.inside.list.items
+    ∙ ap (λ s. set.remove s q) c.self.view_is

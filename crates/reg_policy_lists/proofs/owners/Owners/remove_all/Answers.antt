@@ -1,0 +1,16 @@
+use Rattle.std.proofs.Common.{◌∙◌, ap, rules}
+use Rattle.std.specs.Prelude.{map}
+use Rattle.std.proofs.lemmas.Fn.{filter_same}
+use Rattle.std.specs.FinSet as set
+use Rattle.reg_model.specs.Registry.{owner_cmp}
+use Rattle.reg_model.proofs.Keys.{owner_total, owner_apart}
+use Rattle.reg_names.specs.Names.{canon}
+use Rattle.reg_policy_lists.specs.Sets.{owner_by, owner_of}
+use Rattle.reg_policy_lists.proofs.SetViews.{differ_view, owner_among}
+use Rattle.reg_policy_lists.proofs.owners.Owners.remove_all.Goals as goal
+
+pub returns : goal.returns
+returns c =
+    ap (λ l. set.from_list {R = owner_cmp} (map owner_of l)) (filter_same _ _ _ (λ x b f' k. search rules) _ _ c.retain.ensures.filtered)
+    ∙ differ_view owner_total owner_apart owner_of (map (owner_by c.args.name.now) c.args.accounts.now) _ (λ m. owner_among (canon c.args.name.now) c.args.accounts.now (owner_of m)) c.self.inside.list.items
+    ∙ ap (λ s. set.difference s (set.from_list (map (owner_by c.args.name.now) c.args.accounts.now))) c.self.view_is

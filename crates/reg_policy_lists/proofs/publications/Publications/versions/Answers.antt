@@ -1,0 +1,15 @@
+use Rattle.std.proofs.Common.{◌≡◌, ◌∙◌, ap, subst, map}
+use Rattle.std.specs.Prelude.{IfOk, string_bytes}
+use Rattle.std.specs.List.{filter}
+use Rattle.reg_model.specs.Crates.{collides}
+use Rattle.reg_policy_lists.specs.Publications.{versions_in}
+use Rattle.reg_policy_lists.proofs.PublicationViews.{versions_view}
+use Rattle.reg_policy_lists.proofs.publications.Publications.versions.Goals as goal
+
+pub returns : goal.returns
+returns c =
+    let e =
+    ap (λ l. map (λ p. string_bytes p.version) (filter (λ p. collides p.name c.args.name.now) l)) c.as_slice.ensures.value
+    ∙ versions_view c.self.inside.list.items c.args.name.now
+    ∙ ap (λ s. map (λ p. p.version) (versions_in s c.args.name.now)) c.self.view_is in
+    subst (λ y. IfOk c.version_texts.result (λ v. map (λ t. t.now) v.items ≡ y)) e c.version_texts.ensures

@@ -1,0 +1,10 @@
+use Rattle.std.proofs.Common.{◌≡◌, ◌++◌, map, drop}
+use Rattle.std.specs.List.{filter}
+use Rattle.reg_names.specs.Names.{canon}
+use Rattle.reg_line.specs.File.{entry_view}
+use Rattle.reg_model.specs.Crates.{collides}
+use Rattle.reg_policy_lists.specs.Publications.{marked_in, publication_of}
+use Rattle.reg_policy_lists.proofs.publications.entry_list.Given as goal
+
+abbrev pub invariant-loop-publication : goal.invariant-loop-publication
+invariant-loop-publication l = map entry_view l.entries.items ++ map (λ p. marked_in l.yanked (canon l.name) (publication_of p)) (filter (λ p. collides p.name l.name) (drop l.publication-index l.list)) ≡ map (λ p. marked_in l.yanked (canon l.name) (publication_of p)) (filter (λ p. collides p.name l.name) l.list)

@@ -1,0 +1,25 @@
+use Rattle.std.proofs.Common.{refl, sym, ap, ◌∙◌}
+use Rattle.std.specs.Prelude.{not}
+use Rattle.reg_names.specs.Names.{is_name}
+use Rattle.reg_model.specs.declared.rule.AdminRefusal.TheVariants.{G4}
+use Rattle.reg_model.specs.Registry.{Registry}
+use Rattle.reg_model.specs.Events.Answer.{Report}
+use Rattle.reg_model.specs.Events.Command.{Access}
+use Rattle.reg_model.specs.Effects.{commanded}
+use Rattle.reg_model.specs.Reports.{access_text}
+use Rattle.reg_policy_plain.specs.Plain.{limits_of, registry_of}
+use Rattle.reg_policy_plain.proofs.Joined.{read_none, read_some, refused_step}
+use Rattle.reg_policy_plain.proofs.ReportTexts.{told_step}
+use Rattle.reg_policy_plain.proofs.plain.PlainRegistry.access.Goals as goal
+
+pub returns-in-Some : goal.returns-in-Some
+unfolding commanded
+returns-in-Some c =
+    let s : Registry = registry_of c.args.self.now in
+    let read = read_some (is_name c.args.name.now) c.args.name.now c.in-Some.name (sym c.in-Some.is ∙ c.parse_name.ensures) in
+    told_step (limits_of c.args.self.now) s (Access c.args.name.now) (access_text s c.in-Some.name) c.access_report.result c.told.result (ap not read.0, tt) (ap (λ n. Report (access_text s n)) (sym read.1)) refl c.access_report.ensures c.told.ensures
+
+pub returns-in-None : goal.returns-in-None
+returns-in-None c =
+    let unread = read_none (is_name c.args.name.now) c.args.name.now (sym c.in-None.is ∙ c.parse_name.ensures) in
+    refused_step (limits_of c.args.self.now) (registry_of c.args.self.now) _ (Access c.args.name.now) _ 0 G4 (refl, ap not unread) refl refl

@@ -1,0 +1,14 @@
+use Rattle.std.proofs.Common.{refl}
+use Rattle.reg_model.specs.Registry.{Registry}
+use Rattle.reg_model.specs.Events.Command.{Crates}
+use Rattle.reg_model.specs.Effects.{commanded}
+use Rattle.reg_model.specs.Reports.{crates_text}
+use Rattle.reg_policy_plain.specs.Plain.{limits_of, registry_of}
+use Rattle.reg_policy_plain.proofs.ReportTexts.{told_step}
+use Rattle.reg_policy_plain.proofs.plain.PlainRegistry.crates.Goals as goal
+
+pub returns : goal.returns
+unfolding commanded
+returns c =
+    let s : Registry = registry_of c.args.self.now in
+    told_step (limits_of c.args.self.now) s Crates (crates_text s) c.crates_report.result c.told.result tt refl refl c.crates_report.ensures c.told.ensures

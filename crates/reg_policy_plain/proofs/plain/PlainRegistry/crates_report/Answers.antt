@@ -1,0 +1,13 @@
+use Rattle.std.proofs.Common.{◌++◌, ap, ◌∙◌}
+use Rattle.std.specs.List.{flat_map}
+use Rattle.reg_model.specs.Registry.{Registry}
+use Rattle.reg_policy_plain.specs.Plain.{line_at, registry_of}
+use Rattle.reg_policy_plain.proofs.ReportTexts.{crates_told}
+use Rattle.reg_policy_plain.proofs.plain.PlainRegistry.crates_report.Goals as goal
+
+pub returns : goal.returns
+returns c =
+    let s : Registry = registry_of c.args.self.now in
+    c.in_ok-push_crates.ensures ∙ ap (λ t. t ++ flat_map (λ n. line_at s n.now) c.as_slice.result.now) c.new-report.ensures.bytes
+    ∙ ap (flat_map (λ n. line_at s n.now)) c.as_slice.ensures.value
+    ∙ crates_told s c.in_ok-names.names.items c.in_ok-names.ensures

@@ -1,0 +1,15 @@
+use Rattle.std.proofs.Common.{[], None, sym, ap, ◌∙◌}
+use Rattle.std.specs.Prelude.{unwrap_or}
+use Rattle.std.specs.Option.{option_map}
+use Rattle.reg_model.specs.Search.{top}
+use Rattle.reg_policy_lists.specs.Publications.{publication_of}
+use Rattle.reg_policy_lists.proofs.TopVersions.{mapped}
+use Rattle.reg_policy_plain.proofs.plain.PlainRegistry.hit.Goals as goal
+
+pub returns : goal.returns
+unfolding top
+returns c =
+    let spelling = c.in_ok-from_str.ensures.ok ∙ c.spelling_of-spelling.ensures ∙ ap (λ o. unwrap_or o []) c.first.ensures in
+    let version = c.in_ok-from_str-2.ensures.ok ∙ c.version_of.ensures ∙ ap (λ o. unwrap_or o []) (sym (mapped (λ p. p.version) (λ p. publication_of p.now) c.in_ok-top.top) ∙ ap (option_map (λ p. p.version)) c.in_ok-top.ensures) in
+    let description = c.in_ok-description.ensures ∙ c.description_of.ensures ∙ ap (λ o. unwrap_or o None) (sym (mapped (λ p. p.description) (λ p. publication_of p.now) c.in_ok-top.top) ∙ ap (option_map (λ p. p.description)) c.in_ok-top.ensures) in
+    λ i. record { name = spelling i; version = version i; description = description i }

@@ -1,0 +1,16 @@
+use Rattle.std.proofs.Common.{sym, ◌∙◌}
+use Rattle.std.specs.FinSet as finset
+use Rattle.reg_names.specs.Names.{is_name}
+use Rattle.reg_model.specs.Registry.{Registry}
+use Rattle.reg_model.specs.Effects.{done, owners_of}
+use Rattle.reg_policy_plain.specs.Plain.{registry_of}
+use Rattle.reg_policy_plain.proofs.Joined.{read_some}
+use Rattle.reg_policy_plain.proofs.plain.PlainRegistry.remove_owners.Goals as goal
+
+pub returns-clause-state : goal.returns-clause-state
+unfolding done
+returns-clause-state c =
+    let s : Registry = registry_of c.args.self.now in
+    let read = read_some (is_name c.args.name.now) c.args.name.now c.in-Some.name (sym c.in-Some.is ∙ c.parse_name.ensures) in
+    let after = c.remove_all.ensures ∙ (λ i. finset.difference s.owners (owners_of (read.1 i) ((c.as_slice.ensures.value ∙ c.in_ok-ids.ensures) i))) in
+    λ id. λ i. record s { owners = after i }

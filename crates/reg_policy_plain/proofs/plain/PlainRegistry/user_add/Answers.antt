@@ -1,0 +1,63 @@
+use Rattle.std.proofs.Common.{◌≡◌, [], ◌∷◌, ◌++◌, true, Option, Some, refl, sym, ◌∙◌, ap, arith}
+use Rattle.std.specs.Prelude.{◌&&◌, not, is_some, string_bytes}
+use Rattle.std.specs.Option.{option_map}
+use Rattle.std.proofs.lemmas.Bool.{le-leb}
+use Rattle.reg_names.specs.Logins.{is_login}
+use Rattle.reg_model.specs.declared.rule.AdminRefusal.TheVariants.{G1, G2, G7}
+use Rattle.reg_model.specs.Registry.{Text, Registry, id_of_login}
+use Rattle.reg_model.specs.Refusals.{may_name}
+use Rattle.reg_model.specs.Events.Command.{UserAdd}
+use Rattle.reg_model.specs.Effects.{commanded}
+use Rattle.reg_policy_plain.specs.Plain.{limits_of, registry_of}
+use Rattle.reg_policy_plain.proofs.Joined.{refused_step, done_step, read_none, read_some, is_more}
+use Rattle.reg_policy_plain.proofs.plain.PlainRegistry.user_add.Goals as goal
+use Rattle.reg_policy_plain.proofs.plain.PlainRegistry.user_add.Goals.{in-Some-name+in-Ok, in-None}
+
+pub returns-in_default-clause-step : goal.returns-in_default-clause-step
+returns-in_default-clause-step c =
+    let name : Option Text = option_map (λ n. n.now) c.args.name in
+    let unread = read_none (is_login c.args.login.now) c.args.login.now (sym c.in_default.is ∙ c.parse_login.ensures) in
+    refused_step (limits_of c.args.self.now) (registry_of c.args.self.now) _ (UserAdd c.args.login.now name) _ 0 G1 (refl, ap (λ b. not (b && may_name name)) unread) refl refl
+
+pub returns-then-not-may_name-clause-step : goal.returns-then-not-may_name-clause-step
+returns-then-not-may_name-clause-step c =
+    let name : Option Text = option_map (λ n. n.now) c.args.name in
+    let read = read_some (is_login c.args.login.now) c.args.login.now c.in-Some.login (sym c.in-Some.is ∙ c.parse_login.ensures) in
+    let bad = sym c.may_name.ensures ∙ c.if-not-may_name.true in
+    refused_step (limits_of c.args.self.now) (registry_of c.args.self.now) _ (UserAdd c.args.login.now name) _ 0 G1 (refl, λ i. not (read.0 i && bad i)) refl refl
+
+pub returns-then-is_some-clause-step : goal.returns-then-is_some-clause-step
+returns-then-is_some-clause-step c =
+    let s : Registry = registry_of c.args.self.now in
+    let name : Option Text = option_map (λ n. n.now) c.args.name in
+    let read = read_some (is_login c.args.login.now) c.args.login.now c.in-Some.login (sym c.in-Some.is ∙ c.parse_login.ensures) in
+    let good = sym c.may_name.ensures ∙ c.if-not-may_name.false in
+    let login = c.as_str.ensures.value ∙ read.1 in
+    let taken = ap (λ t. is_some (id_of_login s t)) (sym login) ∙ ap is_some (sym c.id_of.ensures) ∙ sym c.is_some.ensures ∙ c.if-is_some.true in
+    refused_step (limits_of c.args.self.now) s _ (UserAdd c.args.login.now name) _ 1 G2 ((λ i. not (read.0 i && good i)), (refl, taken)) refl refl
+
+pub returns-then-self-len-clause-step : goal.returns-then-self-len-clause-step
+returns-then-self-len-clause-step c =
+    let s : Registry = registry_of c.args.self.now in
+    let name : Option Text = option_map (λ n. n.now) c.args.name in
+    let read = read_some (is_login c.args.login.now) c.args.login.now c.in-Some.login (sym c.in-Some.is ∙ c.parse_login.ensures) in
+    let good = sym c.may_name.ensures ∙ c.if-not-may_name.false in
+    let login = c.as_str.ensures.value ∙ read.1 in
+    let free = ap (λ t. is_some (id_of_login s t)) (sym login) ∙ ap is_some (sym c.id_of.ensures) ∙ sym c.is_some.ensures ∙ c.if-is_some.false in
+    refused_step (limits_of c.args.self.now) s _ (UserAdd c.args.login.now name) _ 2 G7 ((λ i. not (read.0 i && good i)), (free, (refl, le-leb _ _ (omega (arith, c.len.ensures.value))))) refl refl
+
+pub returns-in-Ok-add-clause-step : goal.returns-in-Ok-add-clause-step
+unfolding commanded
+returns-in-Ok-add-clause-step c =
+    let s : Registry = registry_of c.args.self.now in
+    let name : Option Text = option_map (λ n. n.now) c.args.name in
+    let read = read_some (is_login c.args.login.now) c.args.login.now c.in-Some.login (sym c.in-Some.is ∙ c.parse_login.ensures) in
+    let good = sym c.may_name.ensures ∙ c.if-not-may_name.false in
+    let login = c.as_str.ensures.value ∙ read.1 in
+    let free = ap (λ t. is_some (id_of_login s t)) (sym login) ∙ ap is_some (sym c.id_of.ensures) ∙ sym c.is_some.ensures ∙ c.if-is_some.false in
+    let named : option_map string_bytes c.match-name.name ≡ name = elim c.match-name.branch [
+      | in-Some-name+in-Ok w ↦ ap (option_map string_bytes) w.name-is ∙ ap (λ t. Some t) w.in-Ok.ensures.ok ∙ ap (option_map (λ n. n.now)) (sym w.in-Some-name.is)
+      | in-None w ↦ ap (option_map string_bytes) w.name-is ∙ ap (option_map (λ n. n.now)) (sym w.in-None.is)
+    ] in
+    let after = c.in-Ok-add.ensures.ok ∙ (λ i. s.accounts ++ record { login = read.1 i; name = named i; enabled = true } ∷ []) in
+    done_step (limits_of c.args.self.now) s _ (UserAdd c.args.login.now name) _ ((λ i. not (read.0 i && good i)), (free, (is_more _ _ (omega (arith, c.len.ensures.value)), tt))) refl (λ i. record s { accounts = after i })

@@ -1,0 +1,14 @@
+use Rattle.std.proofs.Common.{refl}
+use Rattle.reg_model.specs.Registry.{Registry}
+use Rattle.reg_model.specs.Events.Command.{Users}
+use Rattle.reg_model.specs.Effects.{commanded}
+use Rattle.reg_model.specs.Reports.{users_text}
+use Rattle.reg_policy_plain.specs.Plain.{limits_of, registry_of}
+use Rattle.reg_policy_plain.proofs.ReportTexts.{told_step}
+use Rattle.reg_policy_plain.proofs.plain.PlainRegistry.users.Goals as goal
+
+pub returns : goal.returns
+unfolding commanded
+returns c =
+    let s : Registry = registry_of c.args.self.now in
+    told_step (limits_of c.args.self.now) s Users (users_text s) c.users_report.result c.told.result tt refl refl c.users_report.ensures c.told.ensures

@@ -1,4 +1,0 @@
-pub mod Adding
-pub mod Lines
-pub mod Replies
-pub mod Requests

@@ -1,9 +1,0 @@
-use Rattle.std.proofs.Common.{arith}
-use Rattle.reg_receiving.proofs.Replies.{reply_some}
-use Rattle.reg_receiving.proofs.turns.send_reply.Goals as goal
-
-pub returns-in-Ok-clause-some : goal.returns-in-Ok-clause-some
-returns-in-Ok-clause-some g c =
-    let sent = rw c.in-Ok.is at c.write_reply.ensures in
-    let some = sent.some (reply_some c.args.reply.now c.args.close c.args.head_only) in
-    omega (arith, some, sent.within)

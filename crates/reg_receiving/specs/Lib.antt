@@ -1,3 +1,0 @@
-pub mod Begun
-pub mod Taking
-pub mod Turns

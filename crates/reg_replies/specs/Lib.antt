@@ -1,4 +1,0 @@
-pub mod Bodies
-pub mod Entries
-pub mod Heads
-pub mod Replies

@@ -1,5 +1,0 @@
-use Rattle.reg_requests.proofs.Releases.{stem_of-IsStem}
-use Rattle.reg_requests.proofs.laws.stem_law.Goals as goal
-
-pub returns : goal.returns
-returns c = stem_of-IsStem

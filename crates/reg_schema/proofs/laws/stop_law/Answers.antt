@@ -1,4 +1,0 @@
-use Rattle.reg_schema.proofs.laws.stop_law.Goals as goal
-
-pub returns : goal.returns
-returns g c is_open db left = g.met.S.Store.settled c.args.conn.now.store db is_open left

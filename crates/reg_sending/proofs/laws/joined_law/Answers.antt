@@ -1,5 +1,0 @@
-use Rattle.reg_sending.proofs.Joined.{sends_behind, stopped_first}
-use Rattle.reg_sending.proofs.laws.joined_law.Goals as goal
-
-pub returns : goal.returns
-returns c = record { both = sends_behind; first = stopped_first }

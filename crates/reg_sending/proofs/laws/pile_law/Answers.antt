@@ -1,5 +1,0 @@
-use Rattle.reg_sending.proofs.Joined.{pile_sent, pile_stopped, piles_behind}
-use Rattle.reg_sending.proofs.laws.pile_law.Goals as goal
-
-pub returns : goal.returns
-returns c = record { both = piles_behind; stopped = pile_stopped; sent = pile_sent }

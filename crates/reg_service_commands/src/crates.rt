@@ -1,0 +1,81 @@
+//! Commands on crates: who owns and reads them, and whether all see them.
+
+ghost use Rattle.std.specs.Prelude.{◌≡◌, false};
+ghost use Rattle.reg_model.specs.Events.Command.{OwnerAdd, ReaderAdd, ReaderRemove};
+ghost use Rattle.reg_tables.specs.Works.{IsAtWork, has_failed};
+ghost use Rattle.reg_service_commands.specs.Orders.{Obeys, restricting};
+
+use crate::finding::find_pair;
+use reg_model::AdminRefusal;
+use reg_policy::AdminReply;
+use reg_service_requests::find_named;
+use reg_tables::{StoreFault, Work};
+use sqlite::Alter;
+
+/// Lets only its owners and readers see a crate, or all.
+pub(crate) fn set_restricted<S: Alter>(
+    work: &mut Work<'_, S>,
+    name: &str,
+    restricted: bool,
+) -> Result<Result<AdminReply, AdminRefusal>, StoreFault>
+    requires at_work { IsAtWork S.Store work.old }
+    requires goes_on { has_failed work.old ≡ false }
+    ensures { Obeys S.Store (restricting restricted name.now) result work.old work.new }
+{
+    let Some(named) = find_named(work, name)? else {
+        return Ok(Err(AdminRefusal::G8));
+    };
+    reg_tables_calls::set_restricted(work, named.id, restricted)?;
+    Ok(Ok(AdminReply::Done))
+}
+
+/// Makes an account an owner of a crate, whether it is enabled or not.
+pub(crate) fn add_owner<S: Alter>(
+    work: &mut Work<'_, S>,
+    name: &str,
+    login: &str,
+) -> Result<Result<AdminReply, AdminRefusal>, StoreFault>
+    requires at_work { IsAtWork S.Store work.old }
+    requires goes_on { has_failed work.old ≡ false }
+    ensures { Obeys S.Store (OwnerAdd name.now login.now) result work.old work.new }
+{
+    match find_pair(work, name, login)? {
+        Ok((id, account)) => reg_tables_calls::add_owner(work, id, account)?,
+        Err(refusal) => return Ok(Err(refusal)),
+    }
+    Ok(Ok(AdminReply::Done))
+}
+
+/// Makes an account a reader of a crate.
+pub(crate) fn add_reader<S: Alter>(
+    work: &mut Work<'_, S>,
+    name: &str,
+    login: &str,
+) -> Result<Result<AdminReply, AdminRefusal>, StoreFault>
+    requires at_work { IsAtWork S.Store work.old }
+    requires goes_on { has_failed work.old ≡ false }
+    ensures { Obeys S.Store (ReaderAdd name.now login.now) result work.old work.new }
+{
+    match find_pair(work, name, login)? {
+        Ok((id, account)) => reg_tables_calls::add_reader(work, id, account)?,
+        Err(refusal) => return Ok(Err(refusal)),
+    }
+    Ok(Ok(AdminReply::Done))
+}
+
+/// Makes an account no reader of a crate.
+pub(crate) fn remove_reader<S: Alter>(
+    work: &mut Work<'_, S>,
+    name: &str,
+    login: &str,
+) -> Result<Result<AdminReply, AdminRefusal>, StoreFault>
+    requires at_work { IsAtWork S.Store work.old }
+    requires goes_on { has_failed work.old ≡ false }
+    ensures { Obeys S.Store (ReaderRemove name.now login.now) result work.old work.new }
+{
+    match find_pair(work, name, login)? {
+        Ok((id, account)) => reg_tables_calls::remove_reader(work, id, account)?,
+        Err(refusal) => return Ok(Err(refusal)),
+    }
+    Ok(Ok(AdminReply::Done))
+}

@@ -1,0 +1,37 @@
+//! The crates and accounts that the words of a command name.
+
+ghost use Rattle.std.specs.Prelude.{◌≡◌, ◌∷◌, [], false};
+ghost use Rattle.reg_tables.specs.Works.{IsAtWork, has_failed};
+ghost use Rattle.reg_access.specs.Asks.{Asks};
+ghost use Rattle.reg_service_commands.specs.Orders.{FindsPair, first_ground};
+
+use reg_model::AdminRefusal;
+use reg_service_requests::find_named;
+use reg_tables::{StoreFault, Work};
+use sqlite::Alter;
+
+/// The id of the crate that a text names and that of the account with a login, or why not.
+pub(crate) fn find_pair<S: Alter>(
+    work: &mut Work<'_, S>,
+    name: &str,
+    login: &str,
+) -> Result<Result<(u32, u32), AdminRefusal>, StoreFault>
+    requires at_work { IsAtWork S.Store work.old }
+    requires goes_on { has_failed work.old ≡ false }
+    ensures { Asks S.Store work.old work.new result (FindsPair name.now login.now) }
+{
+    let Some(named) = find_named(work, name)? else {
+        return Ok(Err(AdminRefusal::G8));
+    };
+    match reg_tables_calls::account_by_login(work, login)? {
+        Some(account) => Ok(Ok((named.id, account.id))),
+        None => Ok(Err(AdminRefusal::G3)),
+    }
+}
+
+/// The refusal, where it is one.
+pub(crate) fn refused_if(refusal: AdminRefusal, is: bool) -> Option<AdminRefusal>
+    ensures { result ≡ first_ground ((refusal, is) ∷ []) }
+{
+    if is { Some(refusal) } else { None }
+}

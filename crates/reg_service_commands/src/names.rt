@@ -1,0 +1,48 @@
+//! Commands on reserved names.
+
+ghost use Rattle.std.specs.Prelude.{◌≡◌, false};
+ghost use Rattle.reg_model.specs.Events.Command.{Reserve, Unreserve};
+ghost use Rattle.reg_tables.specs.Works.{IsAtWork, has_failed};
+ghost use Rattle.reg_service_commands.specs.Orders.{Obeys};
+
+use reg_model::AdminRefusal;
+use reg_names::{canon, parse_name};
+use reg_policy::{AdminReply, is_reserved_always};
+use reg_tables::{StoreFault, Work};
+use sqlite::Alter;
+
+/// Reserves a name. The names that are reserved always stay as they are.
+pub(crate) fn reserve<S: Alter>(
+    work: &mut Work<'_, S>,
+    name: &str,
+) -> Result<Result<AdminReply, AdminRefusal>, StoreFault>
+    requires at_work { IsAtWork S.Store work.old }
+    requires goes_on { has_failed work.old ≡ false }
+    ensures { Obeys S.Store (Reserve name.now) result work.old work.new }
+{
+    let Some(parsed) = parse_name(name) else {
+        return Ok(Err(AdminRefusal::G4));
+    };
+    let text = canon(&parsed);
+    if is_reserved_always(&text) {
+        return Ok(Ok(AdminReply::Done));
+    }
+    reg_tables_calls::reserve(work, &text)?;
+    Ok(Ok(AdminReply::Done))
+}
+
+/// Sets a name free.
+pub(crate) fn unreserve<S: Alter>(
+    work: &mut Work<'_, S>,
+    name: &str,
+) -> Result<Result<AdminReply, AdminRefusal>, StoreFault>
+    requires at_work { IsAtWork S.Store work.old }
+    requires goes_on { has_failed work.old ≡ false }
+    ensures { Obeys S.Store (Unreserve name.now) result work.old work.new }
+{
+    let Some(parsed) = parse_name(name) else {
+        return Ok(Err(AdminRefusal::G4));
+    };
+    reg_tables_calls::unreserve(work, &canon(&parsed))?;
+    Ok(Ok(AdminReply::Done))
+}

@@ -1,0 +1,67 @@
+//! Commands that report and change nothing.
+
+ghost use Rattle.std.specs.Prelude.{◌≡◌, false};
+ghost use Rattle.reg_model.specs.Events.Command.{Access, Crates, Tokens, Users};
+ghost use Rattle.reg_tables.specs.Works.{IsAtWork, has_failed};
+ghost use Rattle.reg_service_commands.specs.Orders.{Obeys};
+
+use reg_model::AdminRefusal;
+use reg_names::parse_name;
+use reg_policy::AdminReply;
+use reg_service_reports::{access_report, crates_report, tokens_report, users_report};
+use reg_tables::{StoreFault, Work};
+use sqlite::Alter;
+use std::alloc::Global;
+
+/// Who may act on a crate, and who reads it.
+pub(crate) fn report_access<S: Alter>(
+    alloc: Global,
+    work: &mut Work<'_, S>,
+    name: &str,
+) -> Result<Result<AdminReply, AdminRefusal>, StoreFault>
+    requires at_work { IsAtWork S.Store work.old }
+    requires goes_on { has_failed work.old ≡ false }
+    ensures { Obeys S.Store (Access name.now) result work.old work.new }
+{
+    let Some(parsed) = parse_name(name) else {
+        return Ok(Err(AdminRefusal::G4));
+    };
+    let text = access_report(alloc, work, &parsed)?;
+    Ok(Ok(AdminReply::Text(text)))
+}
+
+/// All accounts.
+pub(crate) fn report_users<S: Alter>(
+    alloc: Global,
+    work: &mut Work<'_, S>,
+) -> Result<Result<AdminReply, AdminRefusal>, StoreFault>
+    requires { IsAtWork S.Store work.old }
+    ensures { Obeys S.Store Users result work.old work.new }
+{
+    let text = users_report(alloc, work)?;
+    Ok(Ok(AdminReply::Text(text)))
+}
+
+/// All tokens.
+pub(crate) fn report_tokens<S: Alter>(
+    alloc: Global,
+    work: &mut Work<'_, S>,
+) -> Result<Result<AdminReply, AdminRefusal>, StoreFault>
+    requires { IsAtWork S.Store work.old }
+    ensures { Obeys S.Store Tokens result work.old work.new }
+{
+    let text = tokens_report(alloc, work)?;
+    Ok(Ok(AdminReply::Text(text)))
+}
+
+/// All crates.
+pub(crate) fn report_crates<S: Alter>(
+    alloc: Global,
+    work: &mut Work<'_, S>,
+) -> Result<Result<AdminReply, AdminRefusal>, StoreFault>
+    requires { IsAtWork S.Store work.old }
+    ensures { Obeys S.Store Crates result work.old work.new }
+{
+    let text = crates_report(alloc, work)?;
+    Ok(Ok(AdminReply::Text(text)))
+}

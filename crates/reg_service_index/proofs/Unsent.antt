@@ -1,0 +1,131 @@
+-- Replies where nothing was sent before, and files that were.
+use Rattle.std.proofs.Common.{◌≡◌, ◌⊎◌, ◌<◌, ℕ, zero, suc, ◌+◌, List, [], ◌∷◌, ◌++◌, Bool, Ok, Err, Result, inl, inr, refl, sym, ap, subst, ◌∙◌, arith, append-nil, append_assoc}
+use Rattle.std.specs.Io.KnownBytes.{Appends}
+use Rattle.std.proofs.KnownBytes.{Appends-trans}
+use Rattle.sqlite.specs.Held.{Held, state}
+use Rattle.sqlite.specs.Order.{Row}
+use Rattle.sqlite.specs.State.{HasCleanDisk}
+use Rattle.sqlite_trees.specs.declared.store.Store.{Ghosts}
+use Rattle.reg_model.specs.Registry.{Text}
+use Rattle.reg_api_replies.specs.Heads.{head_text}
+use Rattle.reg_api_replies.specs.declared.head.Kind.TheVariants.{Plain}
+use Rattle.reg_api_replies.specs.Sent.{AppendsFront, SendsAll, Sink}
+use Rattle.reg_api_replies.specs.Texts.{done_head}
+use Rattle.reg_tables.specs.declared.tables.Tables.{Tables}
+use Rattle.reg_tables.specs.Works.{held}
+use Rattle.reg_api_replies.proofs.Joined.{stopped_first}
+use Rattle.reg_api_replies.specs.declared.bytes.SendFault.{SendFault}
+use Rattle.reg_api_replies.specs.declared.bytes.SendFault.TheVariants as send
+use Rattle.reg_service_index.specs.Files.{BeginsFile, IsUnsent, SendsFile, SendsRows, rows_text}
+use Rattle.reg_service_index.specs.Lines.{lines_in}
+use Rattle.reg_service_index.specs.Streams.{BreaksOff, IsBroken, Streams, fault_of}
+use Rattle.reg_service_index.specs.declared.fault.IndexFault.{IndexFault}
+use Rattle.reg_service_index.specs.declared.fault.IndexFault.TheVariants.{Spent, Store, Write}
+use Rattle.reg_service_index.specs.declared.found.FoundFile.{FoundFile}
+use Rattle.reg_service_index.proofs.Rows.{lines_both}
+
+-- a longer text
+
+pub broken_longer : (f : IndexFault) (a b : Text) (writes : ℕ) (s t : Sink) → IsBroken f a writes s t → IsBroken f (a ++ b) writes s t
+broken_longer Write a b writes s t h = stopped_first send.Write a b writes s t h
+broken_longer Spent a b writes s t h = stopped_first send.Spent a b writes s t h
+broken_longer Store a b writes s t h = record {
+  front = h.front;
+  rest = h.rest ++ b;
+  used = h.used;
+  whole = ap (λ x. x ++ b) h.whole ∙ append_assoc h.front h.rest b;
+  sends = h.sends;
+}
+
+-- the writer is as it was
+pub record IsSameSink (s t : Sink) : Type 0 where
+  pub contents : Appends s.contents t.contents []
+  pub calls : t.calls ≡ s.calls
+  pub failures : t.failures ≡ s.failures
+
+-- nothing was sent where no call was made
+none_sent : (l : List ℕ) (writes used : ℕ) (s t : Sink) → SendsAll l writes used s t → used ≡ 0 → l ≡ []
+none_sent [] writes used s t h e = refl
+none_sent (x ∷ xs) writes used s t h e = absurd (omega (arith, h.some (omega arith), e))
+
+pub unsent : (text : Text) (writes : ℕ) (s t : Sink) → BreaksOff text writes s t → t.calls ≡ s.calls → IsSameSink s t
+unsent text writes s t h same = record {
+  contents = subst (λ l. Appends s.contents t.contents l) (none_sent h.front writes h.used s t h.sends (omega (arith, h.sends.calls, same))) h.sends.all;
+  calls = same;
+  failures = h.sends.failures;
+}
+
+-- and what is sent then is sent from the start
+
+all_then : (text : Text) (writes used : ℕ) (s t u : Sink) → IsSameSink s t → SendsAll text writes used t u → SendsAll text writes used s u
+all_then text writes used s t u x y = record {
+  all = Appends-trans s.contents t.contents u.contents [] text x.contents y.all;
+  within = y.within;
+  some = y.some;
+  sent = y.sent;
+  calls = y.calls ∙ ap (λ n. n + used) x.calls;
+  failures = y.failures ∙ x.failures;
+}
+
+front_then : (text : Text) (s t u : Sink) → IsSameSink s t → AppendsFront text t.contents u.contents → AppendsFront text s.contents u.contents
+front_then text s t u x y = record {
+  front = y.front;
+  rest = y.rest;
+  whole = y.whole;
+  appends = Appends-trans s.contents t.contents u.contents [] y.front x.contents y.appends;
+}
+
+broken_then : (f : IndexFault) (text : Text) (writes : ℕ) (s t u : Sink) → IsSameSink s t → IsBroken f text writes t u → IsBroken f text writes s u
+broken_then Write text writes s t u x y = record {
+  front = front_then text s t u x y.front;
+  begun = omega (arith, x.calls, y.begun);
+  within = omega (arith, x.calls, y.within);
+  failures = y.failures ∙ ap (λ n. n + 1) x.failures;
+}
+broken_then Spent text writes s t u x y = record {
+  front = front_then text s t u x y.front;
+  calls = y.calls ∙ ap (λ n. n + writes) x.calls;
+  failures = y.failures ∙ x.failures;
+}
+broken_then Store text writes s t u x y = record {
+  front = y.front;
+  rest = y.rest;
+  used = y.used;
+  whole = y.whole;
+  sends = all_then y.front writes y.used s t u x y.sends;
+}
+
+pub streams_then : (r : Result ℕ IndexFault) (text : Text) (writes : ℕ) (s t u : Sink) → IsSameSink s t → Streams r text writes t u → Streams r text writes s u
+streams_then (Ok used) text writes s t u x y = all_then text writes used s t u x y
+streams_then (Err f) text writes s t u x y = broken_then f text writes s t u x y
+
+pub broken_at : (r : Result ℕ IndexFault) (text : Text) (writes : ℕ) (s t : Sink) → r ≡ Err Store → Streams r text writes s t → BreaksOff text writes s t
+broken_at r text writes s t e h = subst (λ x. Streams x text writes s t) e h
+
+-- the store fails once something was sent
+pub was_begun : (text : Text) (writes : ℕ) (s t : Sink) → BreaksOff text writes s t → ¬ (t.calls ≡ s.calls) → s.calls < t.calls
+was_begun text writes s t h other = from h.used refl
+  where
+    from : (n : ℕ) → n ≡ h.used → s.calls < t.calls
+    from zero e = absurd (other (omega (arith, h.sends.calls, e)))
+    from (suc n) e = omega (arith, h.sends.calls, e)
+
+module _ {S : Type 0} (g : Ghosts S) (f : FoundFile) (close : Bool) (writes : ℕ) (db : Tables S) (s t : Sink) where
+  rows_longer : (rows tail : List Row) → rows_text f close rows ++ lines_in tail ≡ rows_text f close (rows ++ tail)
+  rows_longer rows tail = append_assoc (head_text (done_head Plain f.length close)) (lines_in rows) (lines_in tail) ∙ ap (λ l. head_text (done_head Plain f.length close) ++ l) (sym (lines_both rows tail))
+
+  text_so : (r : Result ℕ IndexFault) (rows : List Row) (b : BeginsFile g f.crate_id r (held db) rows) → Streams r (rows_text f close rows) writes s t → Streams r (rows_text f close (rows ++ b.tail)) writes s t
+  text_so (Ok used) rows b h = subst (λ l. Streams (Ok used) (rows_text f close l) writes s t) (sym (ap (λ l. rows ++ l) b.all ∙ append-nil rows)) h
+  text_so (Err e) rows b h = subst (λ l. IsBroken e l writes s t) (rows_longer rows b.tail) (broken_longer e (rows_text f close rows) (lines_in b.tail) writes s t h)
+
+  pub file_sent : (r : Result ℕ IndexFault) (left : Held S) → SendsRows g f close r writes (held db) left s t → HasCleanDisk (state g left) → ¬ (IsUnsent r s t) → SendsFile g f close r writes db s t
+  file_sent r left h clean sent = from (h.begins clean)
+    where
+      from : IsUnsent r s t ⊎ BeginsFile g f.crate_id r (held db) h.rows → SendsFile g f close r writes db s t
+      from (inl none) = absurd (sent none)
+      from (inr b) = record { rows = h.rows ++ b.tail; is_open = b.is_open; are = b.are; sends = text_so r h.rows b h.sends }
+
+-- a writer's fault is none of the store
+pub writer_fault : (f : SendFault) → let r : Result ℕ IndexFault = Err (fault_of f) in ¬ (r ≡ Err Store)
+writer_fault send.Write e = cc
+writer_fault send.Spent e = cc

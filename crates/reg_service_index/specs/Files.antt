@@ -1,0 +1,62 @@
+-- What sending the index file of a crate did.
+use Rattle.std.specs.Prelude.{◌≡◌, ◌⊎◌, ◌++◌, ℕ, Bool, false, IsTrue, List, [], None, Result, Err, OnOk}
+use Rattle.sqlite.specs.Held.{Held, state}
+use Rattle.sqlite.specs.Order.{Row}
+use Rattle.sqlite.specs.State.{HasCleanDisk}
+use Rattle.sqlite_trees.specs.declared.store.Store.{Ghosts}
+use Rattle.reg_model.specs.declared.rule.Rule.TheVariants as rule
+use Rattle.reg_model.specs.Registry.{Text}
+use Rattle.reg_api_replies.specs.Heads.{head_text}
+use Rattle.reg_api_replies.specs.declared.head.Kind.TheVariants.{Plain}
+use Rattle.reg_tables_schema.specs.Statements.{rows_in}
+use Rattle.reg_api_replies.specs.Sent.{Sink}
+use Rattle.reg_api_replies.specs.Texts.{done_head, refusal_text}
+use Rattle.reg_tables_sql.specs.Stems.{AreStemsOf}
+use Rattle.reg_tables.specs.declared.tables.Tables.{Tables}
+use Rattle.reg_tables.specs.Works.{shown}
+use Rattle.reg_service_index.specs.declared.found.FoundFile.{FoundFile}
+use Rattle.reg_service_index.specs.declared.fault.IndexFault.{IndexFault}
+use Rattle.reg_service_index.specs.declared.fault.IndexFault.TheVariants.{Store}
+use Rattle.reg_service_index.specs.Lines.{lines_in}
+use Rattle.reg_service_index.specs.Streams.{Streams}
+
+-- the tables were open, and these rows begin those of the crate's index file; at the end they are
+-- all of them
+pub record BeginsFile {S T E : Type 0} (g : Ghosts S) (id : ℕ) (r : Result T E) (db : Held S)
+    (rows : List Row) : Type 0 where
+  pub tail : List Row
+  pub is_open : IsTrue (state g db).is_open
+  pub are : AreStemsOf id (rows_in g db) (rows ++ tail)
+  pub all : OnOk r (tail ≡ [])
+
+-- the store failed before anything was sent
+abbrev pub IsUnsent : Result ℕ IndexFault → Sink → Sink → Type 0
+IsUnsent r old new = (r ≡ Err Store) × (new.calls ≡ old.calls)
+
+-- the head of an index file, and the lines of these rows behind it
+abbrev pub rows_text : FoundFile → Bool → List Row → Text
+rows_text f close rows = head_text (done_head Plain f.length close) ++ lines_in rows
+
+-- the lines of these rows were sent behind the head
+pub record SendsRows {S : Type 0} (g : Ghosts S) (f : FoundFile) (close : Bool)
+    (r : Result ℕ IndexFault) (writes : ℕ) (db left : Held S) (old new : Sink) : Type 0 where
+  pub rows : List Row
+  pub sends : Streams r (rows_text f close rows) writes old new
+  pub begins : HasCleanDisk (state g left) → IsUnsent r old new ⊎ BeginsFile g f.crate_id r db rows
+
+-- the reply where the store failed before
+abbrev pub SendsNoRoom : Bool → Result ℕ IndexFault → ℕ → Sink → Sink → Type 0
+SendsNoRoom close r writes old new =
+    Streams r (refusal_text rule.S1 None close false) writes old new
+
+-- the rows of the file were sent behind the head
+pub record SendsFile {S : Type 0} (g : Ghosts S) (f : FoundFile) (close : Bool)
+    (r : Result ℕ IndexFault) (writes : ℕ) (db : Tables S) (old new : Sink) : Type 0 where
+  pub rows : List Row
+  pub is_open : IsTrue (shown g db).is_open
+  pub are : AreStemsOf f.crate_id (shown g db).now.trees rows
+  pub sends : Streams r (rows_text f close rows) writes old new
+
+-- a text was sent, whatever the disk
+abbrev pub SendsSome : Result ℕ IndexFault → ℕ → Sink → Sink → Type 0
+SendsSome r writes old new = (text : Text) × Streams r text writes old new

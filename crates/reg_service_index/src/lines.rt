@@ -1,0 +1,33 @@
+//! The lines of index files.
+
+ghost use Rattle.std.specs.Prelude.{◌≡◌, ◌+◌, ◌^◌, ◌<◌};
+ghost use Rattle.reg_line.specs.File.{end_of, line_of};
+ghost use Rattle.reg_api_replies.specs.Sent.{Puts, sink};
+
+use reg_api_replies::{Pile, SendFault};
+use reg_body::Counted;
+use std::io::Write;
+
+/// What follows a stem in its line.
+fn end(yanked: bool) -> &'static [u8]
+    ensures { result.now ≡ end_of yanked }
+{
+    if yanked { b"true}\n" } else { b"false}\n" }
+}
+
+/// Puts a line behind what waits.
+pub(crate) fn put_line<W: Write>(
+    pile: &mut Pile,
+    w: &mut Counted<W>,
+    stem: &[u8],
+    yanked: bool,
+    writes: u64,
+) -> Result<u64, SendFault>
+    requires { w.old.calls + writes < 2 ^ 64 }
+    ensures { Puts result pile.old (line_of (stem.now, yanked)) pile.new writes
+        (sink (W.contents w.old.inner) w.old) (sink (W.contents w.new.inner) w.new) }
+{
+    let used = pile.put(w, stem, writes)?;
+    let more = pile.put(w, end(yanked), writes - used)?;
+    Ok(used + more)
+}

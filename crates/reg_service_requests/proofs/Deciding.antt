@@ -1,0 +1,105 @@
+-- A request that is decided, and what is let pass by another name of it.
+use Rattle.std.proofs.Common.{◌≡◌, Option, None, Some, Ok, Err, Result, refl, sym, ap, subst, ◌∙◌, ℕ}
+use Rattle.std.specs.Prelude.{not, unwrap_or}
+use Rattle.std.specs.List.{find, filter}
+use Rattle.sqlite.specs.Tree.{Trees}
+use Rattle.sqlite_trees.specs.declared.store.Store.{Ghosts}
+use Rattle.reg_body.specs.declared.limits.Limits.{Limits}
+use Rattle.reg_model.specs.declared.rule.Rule.{Rule}
+use Rattle.reg_model.specs.declared.rule.Rule.TheVariants as rule
+use Rattle.reg_model.specs.Actions.{Action}
+use Rattle.reg_model.specs.Actions.Action.{Read as to_read}
+use Rattle.reg_model.specs.Effects.{caller, done, served}
+use Rattle.reg_model.specs.Events.{Asked, action_of, fault_of}
+use Rattle.reg_model.specs.Events.Answer.{Denied as to_denied}
+use Rattle.reg_model.specs.Events.Asked.{Faulty, Read}
+use Rattle.reg_model.specs.Events.Event.{Ask}
+use Rattle.reg_model.specs.Events.Reading.{Search}
+use Rattle.reg_model.specs.Facts.{access_facts, counts}
+use Rattle.reg_model.specs.Laws.{AccessComesFirst}
+use Rattle.reg_model.specs.Refusals.{denied, judged, or_else}
+use Rattle.reg_model.specs.Registry.{Registry, Text}
+use Rattle.reg_model.specs.Rules.{access, broken, is_access_rule, order, verdict}
+use Rattle.reg_model.specs.Steps.{Outcome, outcome, unless_denied}
+use Rattle.reg_access.specs.Verdict.{IsPolicy}
+use Rattle.reg_policy.specs.declared.action.Decision.TheVariants.{Allowed, Denied as denies}
+use Rattle.reg_policy.specs.declared.event.Asked.{Asked as Wanted}
+use Rattle.reg_policy.specs.Events.{asked_of}
+use Rattle.reg_policy.specs.Views.{decision_of}
+use Rattle.reg_api_replies.specs.declared.reply.Reply.TheVariants.{Denied}
+use Rattle.reg_tables.specs.declared.work.StoreFault.{StoreFault}
+use Rattle.reg_tables.specs.declared.work.Work.{Work}
+use Rattle.reg_service_requests.specs.Granted.{Grants, GrantsTo, IsLet}
+use Rattle.reg_service_requests.specs.Named.{FindsViewer}
+use Rattle.reg_service_requests.specs.Serves.{Serves}
+use Rattle.reg_service_requests.specs.declared.served.Served.{Served}
+use Rattle.reg_service_requests.specs.declared.served.Served.TheVariants.{Seeks, Told}
+
+-- no token was shown
+no_token_at : (limits : Limits) (asked : Asked) (db : Trees) → Serves limits None asked db db (Told (Denied rule.A1))
+unfolding denied
+no_token_at limits asked db ids s h = (refl, refl)
+
+pub no_token : (limits : Limits) (d : Option Text) (asked : Asked) (db : Trees) → d ≡ None → Serves limits d asked db db (Told (Denied rule.A1))
+no_token limits d asked db e = subst (λ it. Serves limits it asked db db (Told (Denied rule.A1))) (sym e) (no_token_at limits asked db)
+
+-- some token was
+pub with_token : (limits : Limits) (d : Option Text) (digest : Text) (asked : Asked) (old new : Trees) (it : Served) → d ≡ Some digest → Serves limits (Some digest) asked old new it → Serves limits d asked old new it
+with_token limits d digest asked old new it e h = subst (λ x. Serves limits x asked old new it) (sym e) h
+
+-- it breaks a rule
+pub is_denied : (limits : Limits) (s : Registry) (digest : Option Text) (asked : Asked) (r : Rule) → denied limits s digest asked ≡ Some r → outcome limits s (Ask digest asked) ≡ (to_denied r, s)
+is_denied limits s digest asked r e = ap (λ it. unless_denied s it (served s (caller s digest) asked, done s (unwrap_or (caller s digest) 0) asked)) e
+
+rule_of : (o : Option Rule) (r : Rule) → denies r ≡ decision_of o → o ≡ Some r
+rule_of None r e = absurd cc e
+rule_of (Some x) r e = ap (λ it. Some it) (sym (cc e))
+
+none_of : (o : Option Rule) → Allowed ≡ decision_of o → o ≡ None
+none_of None e = refl
+none_of (Some x) e = absurd cc e
+
+-- the rules on access do not let it pass
+pub not_let : AccessComesFirst → (limits : Limits) (digest : Text) (asked : Asked) (db : Trees) (r : Rule) → IsPolicy digest (action_of asked) db (denies r) → Serves limits (Some digest) asked db db (Told (Denied r))
+unfolding denied
+not_let law limits digest asked db r policy ids s h =
+    let a = action_of asked in
+    let is = rule_of _ r (policy ids s h) in
+    let first : judged limits s digest a ≡ Some r = law limits (access_facts s digest a) (counts s a) a
+    ∙ ap (λ o. or_else o (find (broken limits (access_facts s digest a) (counts s a) a) (filter (λ it. not (is_access_rule it)) (order (access_facts s digest a).first a)))) is in
+    let e = is_denied limits s (Some digest) asked r (ap (λ o. or_else o (fault_of asked)) first) in
+    (ap (λ (it : Outcome). it.0) e, ap (λ (it : Outcome). it.1) e)
+
+-- or they do
+pub is_let : (digest : Text) (a : Action) (db : Trees) → IsPolicy digest a db Allowed → IsLet digest a db
+is_let digest a db policy ids s h = none_of _ (policy ids s h)
+
+-- reading asks only the rules on access
+pub read_judged : (limits : Limits) (s : Registry) (digest : Text) → access (access_facts s digest to_read) to_read ≡ None → judged limits s digest to_read ≡ None
+unfolding access verdict
+read_judged limits s digest e = e
+
+-- what the body or the query breaks comes after them
+pub faulty : (limits : Limits) (digest : Text) (r : Rule) (db : Trees) → IsLet digest to_read db → Serves limits (Some digest) (Faulty r) db db (Told (Denied r))
+unfolding denied
+faulty limits digest r db lets ids s h =
+    let e = is_denied limits s (Some digest) (Faulty r) r (ap (λ o. or_else o (Some r)) (read_judged limits s digest (lets ids s h))) in
+    (ap (λ (it : Outcome). it.0) e, ap (λ (it : Outcome). it.1) e)
+
+-- a search is let pass
+pub seeks : (limits : Limits) (digest q : Text) (most id : ℕ) (db : Trees) → FindsViewer digest db id → IsLet digest to_read db → Serves limits (Some digest) (Read (Search q most)) db db (Seeks id)
+unfolding denied done
+seeks limits digest q most id db finds lets ids s h =
+    ap (λ it. unless_denied s it (served s (caller s (Some digest)) (Read (Search q most)), s)) (ap (λ o. or_else o None) (read_judged limits s digest (lets ids s h)))
+    ∙ ap (λ who. (served s who (Read (Search q most)), s)) (finds ids s h)
+
+module _ {S : Type 0} (g : Ghosts S) (limits : Limits) (digest : Text) (asked given : Wanted) (same : asked ≡ given) (r : Result Served StoreFault) (old new : Work S) where
+  pub as_given : GrantsTo limits digest g (asked_of given) r old new → GrantsTo limits digest g (asked_of asked) r old new
+  as_given h = subst (λ it. GrantsTo limits digest g (asked_of it) r old new) (sym same) h
+
+  any : (r : Result Served StoreFault) (it : Asked) → Grants g it r old new → GrantsTo limits digest g it r old new
+  any (Ok x) it h = record { told = λ clean. h.told clean limits digest; leaves = h.leaves }
+  any (Err e) it h = record { told = λ clean. tt; leaves = h.leaves }
+
+  pub always_given : Grants g (asked_of given) r old new → GrantsTo limits digest g (asked_of asked) r old new
+  always_given h = as_given (any r (asked_of given) h)

@@ -1,0 +1,153 @@
+-- A version that is published, of a new crate or of one that is there.
+use Rattle.std.proofs.Common.{◌≡◌, [], ℕ, List, length, Bool, true, false, not, nat_le, cond, Option, Some, None, is_some, refl, sym, ap, subst, ◌∙◌}
+use Rattle.std.specs.Prelude.{Vec, map, string_bytes, unwrap_or}
+use Rattle.std.specs.declared.alloc.Global.{Global}
+use Rattle.std.specs.FinSet as finset
+use Rattle.std.specs.List.{filter, find, list_any}
+use Rattle.std.specs.Str.{bytes_eq}
+use Rattle.std.proofs.lemmas.List.{length-map}
+use Rattle.std.proofs.lemmas.Slice.Eq.{bytes_eq-Decides}
+use Rattle.sqlite.specs.Tree.{Trees}
+use Rattle.reg_body.specs.declared.limits.Limits.{Limits}
+use Rattle.reg_names.specs.Names.{canon}
+use Rattle.reg_versions.specs.Versions.{release_key_of}
+use Rattle.reg_model.specs.declared.rule.Rule.{Rule}
+use Rattle.reg_model.specs.declared.rule.Rule.TheVariants as rule
+use Rattle.reg_model.specs.Changes.{with_owner, with_publication}
+use Rattle.reg_model.specs.Crates.{collides, crates, exists, first, same_release, versions, viewer}
+use Rattle.reg_model.specs.Effects.{account_of, done}
+use Rattle.reg_model.specs.Events.{action_of}
+use Rattle.reg_model.specs.Events.Asked.{Publish}
+use Rattle.reg_model.specs.Facts.{access_facts, counts}
+use Rattle.reg_model.specs.Refusals.{denied, or_else}
+use Rattle.reg_model.specs.Registry.{Publication, Registry, Text, holds}
+use Rattle.reg_model.specs.Rules.{access, broken, is_access_rule, order}
+use Rattle.reg_model.specs.Sound.{has_version}
+use Rattle.reg_model.proofs.Cleared.{Clear, not_denied}
+use Rattle.reg_model.proofs.IndexPaths.{not_false, spelled}
+use Rattle.reg_model.proofs.Lists.{any_filter, is_some_find, not_true, true_not_false}
+use Rattle.reg_model.proofs.Members.{any_in, in_any}
+use Rattle.reg_api_replies.specs.Bodies.{publish_body}
+use Rattle.reg_api_replies.specs.declared.head.Kind.TheVariants.{Json}
+use Rattle.reg_api_replies.specs.declared.reply.Reply.TheVariants as reply
+use Rattle.reg_tables_sql.specs.declared.crates.Crate.{Crate}
+use Rattle.reg_tables_sql.specs.declared.versions.Version.{Version}
+use Rattle.reg_tables_meaning.specs.Calls.{AddsFirst, AddsNext, FindsCrate, ListsVersions, Tells, published}
+use Rattle.reg_tables_meaning.specs.Changes.{told_of}
+use Rattle.reg_tables_meaning.specs.declared.crates.NewVersion.{NewVersion}
+use Rattle.reg_tables_meaning.specs.Entries.{shown_version, version_shown}
+use Rattle.reg_tables_meaning.specs.Stands.{Stands}
+use Rattle.reg_service_requests.specs.Granted.{IsLet}
+use Rattle.reg_service_requests.specs.Named.{FindsViewer}
+use Rattle.reg_service_requests.specs.Publications.{IsNew, IsOf, MakesCrate, PublishesFirst, PublishesNext, TellsFull, TellsFullOf}
+use Rattle.reg_service_requests.specs.Serves.{Serves}
+use Rattle.reg_service_requests.specs.declared.served.Served.{Served}
+use Rattle.reg_service_requests.specs.declared.served.Served.TheVariants.{Done, Told}
+use Rattle.reg_service_requests.proofs.Judging.{denied_by_others, done_served, told_denied}
+
+module _ (limits : Limits) (s : Registry) (d : Text) (p : Publication) where
+  -- what is left to deny what the rules on access let pass
+  abbrev left : Option Text → Option Rule
+  left o = or_else (find (broken limits (access_facts s d (action_of (Publish p))) (counts s (action_of (Publish p))) (action_of (Publish p))) (filter (λ r. not (is_access_rule r)) (order o (action_of (Publish p))))) None
+
+  left_so : (o : Option Text) → first s p.name ≡ o → access (access_facts s d (action_of (Publish p))) (action_of (Publish p)) ≡ None → denied limits s (Some d) (Publish p) ≡ left o
+  unfolding access_facts
+  left_so o at passes = denied_by_others limits d (Publish p) s passes ∙ ap left at
+
+  first_left : left None ≡ cond (nat_le limits.crates (crates s)) (Some rule.L2) None
+  unfolding counts
+  first_left = elim (nat_le limits.crates (crates s)) as (λ b. or_else (cond b (Some rule.L2) None) None ≡ cond b (Some rule.L2) None) [ true ↦ refl | false ↦ refl ]
+
+  next_left : (n : Text) → left (Some n) ≡ cond (nat_le limits.versions (length (versions s p.name))) (Some rule.L1) None
+  unfolding counts
+  next_left n = elim (nat_le limits.versions (length (versions s p.name))) as (λ b. or_else (cond b (Some rule.L1) None) None ≡ cond b (Some rule.L1) None) [ true ↦ refl | false ↦ refl ]
+
+  -- of a crate that is there, in its spelling, a version of another release
+  next_clear : (n : Text) → first s p.name ≡ Some n → denied limits s (Some d) (Publish p) ≡ None → (n ≡ p.name) × (list_any (λ q. same_release q.version p.version) (versions s p.name) ≡ false)
+  unfolding access_facts
+  next_clear n at allowed =
+      let all = subst (λ (o : Option Text). Clear (broken limits (access_facts s d (action_of (Publish p))) (counts s (action_of (Publish p))) (action_of (Publish p))) (order o (action_of (Publish p)))) at (not_denied limits s d (Publish p) allowed) in
+      ((bytes_eq-Decides n p.name).0 (spelled all.1.1.1.1.1.0), all.1.1.1.1.1.1.1.0)
+    where
+      spelled : not (holds (λ m. bytes_eq m p.name) (first s p.name)) ≡ false → bytes_eq n p.name ≡ true
+      spelled e = ap (holds (λ m. bytes_eq m p.name)) (sym at) ∙ not_false _ e
+
+-- no version of one release, no version of one text
+other_version : (s : Registry) (n v : Text) → list_any (λ q. same_release q.version v) (versions s n) ≡ false → has_version s (canon n) v ≡ false
+other_version s n v none =
+    sym (any_filter (λ q. collides q.name n) (λ q. bytes_eq q.version v) s.publications)
+    ∙ not_true _ (λ e. let it = any_in (λ q. bytes_eq q.version v) (versions s n) e in true_not_false _ (in_any (λ q. same_release q.version v) (versions s n) it.0 it.1 (alike it.0.version it.2)) none)
+  where
+    alike : (w : Text) → bytes_eq w v ≡ true → same_release w v ≡ true
+    alike w e = (bytes_eq-Decides (release_key_of w) (release_key_of v)).1 (ap release_key_of ((bytes_eq-Decides w v).0 e))
+
+is_there : (s : Registry) (n : Text) (o : Option Text) → first s n ≡ o → exists s n ≡ is_some o
+is_there s n o e = sym (is_some_find (λ q. q.name) (λ q. collides q.name n) s.publications) ∙ ap is_some e
+
+-- the effects
+first_done : (s : Registry) (d : Text) (p : Publication) (owner : ℕ) → exists s p.name ≡ false → viewer s d ≡ Some owner → with_owner (canon p.name, owner) (with_publication p s) ≡ done s (account_of s d) (Publish p)
+unfolding done
+first_done s d p owner none who =
+    ap (λ w. with_owner (canon p.name, unwrap_or w 0) (with_publication p s)) (sym who)
+    ∙ ap (λ b. record (with_publication p s) { owners = cond b s.owners (finset.insert s.owners (canon p.name, account_of s d)) }) (sym none)
+
+next_done : (s : Registry) (d : Text) (p : Publication) → exists s p.name ≡ true → with_publication p s ≡ done s (account_of s d) (Publish p)
+unfolding done
+next_done s d p there = ap (λ b. record (with_publication p s) { owners = cond b s.owners (finset.insert s.owners (canon p.name, account_of s d)) }) (sym there)
+
+-- what the tables tell
+pub new_crate : (d : Text) (p : Publication) (owner : ℕ) (v : NewVersion) (id : ℕ) (body : Vec _ Global) (old new : Trees) → published p.name v ≡ p → body.items ≡ publish_body → FindsViewer d old owner → AddsFirst p.name owner v old new id
+    → MakesCrate d p old new (Done (reply.Done Json body))
+new_crate d p owner v id body old new is text who adds limits fresh allowed = done_served limits d (Publish p) (reply.Done Json body) old new (λ ids s h.
+    let none = is_there s p.name None (fresh ids s h) in (
+      allowed ids s h,
+      (refl, refl, text),
+      subst (λ t. Stands t new) (ap (λ q. with_owner (canon p.name, owner) (with_publication q s)) is ∙ first_done s d p owner none (who ids s h)) (_, (adds ids s h none).1),
+    ))
+
+pub versions_full : (limits : Limits) (id : ℕ) (list : List Version) (db : Trees) → ListsVersions id db list → TellsFullOf limits id db (nat_le limits.versions (length list))
+versions_full limits id list db lists ids s h n at = ap (nat_le limits.versions) (
+    sym (length-map list shown_version) ∙ ap length (lists ids s h ∙ ap (λ o. told_of o [] (λ m. map (version_shown s.yanked) (versions s m))) at) ∙ length-map (versions s n) (version_shown s.yanked))
+
+module _ (limits : Limits) (d : Text) (p : Publication) (old : Trees) where
+  judged_first : (b : Bool) → TellsFull limits old b → IsNew p old → IsLet d (action_of (Publish p)) old → Tells (λ ids s. denied limits s (Some d) (Publish p) ≡ cond b (Some rule.L2) None) old
+  judged_first b full fresh passes ids s h =
+      left_so limits s d p None (fresh ids s h) (passes ids s h) ∙ first_left limits s d p ∙ ap (λ b. cond b (Some rule.L2) None) (sym (full ids s h))
+
+  judged_next : (b : Bool) (id : ℕ) → TellsFullOf limits id old b → IsOf id p old → IsLet d (action_of (Publish p)) old → Tells (λ ids s. denied limits s (Some d) (Publish p) ≡ cond b (Some rule.L1) None) old
+  judged_next b id full of passes ids s h =
+      let (n, at, place) = of ids s h in
+      left_so limits s d p (Some n) at (passes ids s h) ∙ next_left limits s d p n
+      ∙ ap (λ c. cond (nat_le limits.versions (length (filter (λ q. bytes_eq (canon q.name) c) s.publications))) (Some rule.L1) None) (sym (spelled s.publications p.name n h.sound.publications at).1)
+      ∙ ap (λ b. cond b (Some rule.L1) None) (sym (full ids s h n place))
+
+  -- the first version of a crate
+  pub first_refused : TellsFull limits old true → PublishesFirst limits d p old old (Told (reply.Denied rule.L2))
+  first_refused full fresh passes = told_denied limits d (Publish p) rule.L2 old old (judged_first true full fresh passes)
+
+  pub first_let : (new : Trees) (it : Served) → TellsFull limits old false → MakesCrate d p old new it → PublishesFirst limits d p old new it
+  first_let new it full makes fresh passes = makes limits fresh (judged_first false full fresh passes)
+
+-- a further version
+module _ (limits : Limits) (p : Publication) (id : ℕ) (old : Trees) where
+  pub next_refused : TellsFullOf limits id old true → PublishesNext limits id p old old (Told (reply.Denied rule.L1))
+  next_refused full d of passes = told_denied limits d (Publish p) rule.L1 old old (judged_next limits d p old true id full of passes)
+
+  pub next_let : (v : NewVersion) (body : Vec _ Global) (new : Trees) → published p.name v ≡ p → body.items ≡ publish_body → TellsFullOf limits id old false → AddsNext id v old new → PublishesNext limits id p old new (Done (reply.Done Json body))
+  next_let v body new is text full adds d of passes = done_served limits d (Publish p) (reply.Done Json body) old new (λ ids s h.
+      let (n, at, place) = of ids s h in
+      let allowed = judged_next limits d p old false id full of passes ids s h in
+      let (same, none) = next_clear limits s d p n at allowed in
+      let fresh : has_version s (canon p.name) v.text.now ≡ false = ap (λ q. has_version s (canon p.name) q.version) is ∙ other_version s p.name p.version none in (
+        allowed,
+        (refl, refl, text),
+        subst (λ t. Stands t new) (ap (λ q. with_publication q s) is ∙ next_done s d p (is_there s p.name (Some n) at)) (_, adds ids s p.name h (place ∙ ap Some same) fresh),
+      ))
+
+-- the crate that has the name, if one has
+module _ (limits : Limits) (d : Text) (p : Publication) (old new : Trees) (it : Served) where
+  pub of_new : FindsCrate (canon p.name) old None → PublishesFirst limits d p old new it → IsLet d (action_of (Publish p)) old → Serves limits (Some d) (Publish p) old new it
+  of_new finds publishes = publishes (λ ids s h. sym ((finds ids s h).0 p.name refl))
+
+  pub of_known : (c : Crate) → FindsCrate (canon p.name) old (Some c) → PublishesNext limits c.id p old new it → IsLet d (action_of (Publish p)) old → Serves limits (Some d) (Publish p) old new it
+  of_known c finds publishes = publishes d (λ ids s h. let it = finds ids s h in (string_bytes c.name, sym (it.0 p.name refl), it.1))

@@ -1,0 +1,7 @@
+use Rattle.std.proofs.Common.{◌≡◌, map, take}
+use Rattle.reg_service_requests.specs.Reads.{owner_of_account}
+use Rattle.reg_service_requests.proofs.bodies.owners_list.Given as goal
+
+-- the owners so far are in the list
+abbrev pub invariant-loop-owner : goal.invariant-loop-owner
+invariant-loop-owner l = l.body ≡ map owner_of_account (take l.owner-index l.owners)

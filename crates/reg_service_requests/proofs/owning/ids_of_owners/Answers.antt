@@ -1,0 +1,30 @@
+use Rattle.std.proofs.Common.{◌+◌, None, Some, drop, sym, subst}
+use Rattle.std.proofs.lemmas.List.{drop_all}
+use Rattle.reg_model.specs.Facts.{has_login}
+use Rattle.reg_service_requests.specs.Owning.{entries_of, id_among}
+use Rattle.reg_service_requests.proofs.OwningIds.{IsSoFar, owner_found, so_far_all, so_far_ends, so_far_more, so_far_none, texts_of}
+use Rattle.reg_service_requests.proofs.owning.ids_of_owners.Goals as goal
+
+pub loop-login-init : goal.loop-login-init
+loop-login-init c =
+    let es = entries_of c.args.owners.now in
+    subst (λ ids. IsSoFar (has_login es) (id_among es) (texts_of c.args.logins.now) (texts_of c.args.logins.now) ids) (sym c.new-ids.ensures.items) (so_far_none (has_login es) (id_among es) (texts_of c.args.logins.now))
+
+pub returns-in-None : goal.returns-in-None
+returns-in-None c =
+    let es = entries_of c.args.owners.now in
+    so_far_ends (has_login es) (id_among es) c.args.logins.now c.loop-login.login-index _ c.loop-login-test.true c.loop-login.ids.items c.loop-login.invariant
+    (owner_found c.args.owners.now _ None c.in-None.ensures)
+
+pub loop-login-preserved : goal.loop-login-preserved
+loop-login-preserved c =
+    let es = entries_of c.args.owners.now in
+    subst (λ ids. IsSoFar (has_login es) (id_among es) (texts_of c.args.logins.now) (texts_of (drop (c.loop-login.login-index + 1) c.args.logins.now)) ids) (sym c.in_ok-push-in-Some.ensures.items)
+    (so_far_more (has_login es) (id_among es) c.args.logins.now c.loop-login.login-index _ c.loop-login-test.true c.loop-login.ids.items c.loop-login.invariant c.in-Some.id
+    (owner_found c.args.owners.now _ (Some c.in-Some.id) c.in-Some.ensures))
+
+pub returns : goal.returns
+returns c =
+    let es = entries_of c.args.owners.now in
+    so_far_all (has_login es) (id_among es) (texts_of c.args.logins.now) c.loop-login.ids.items
+    (subst (λ rest. IsSoFar (has_login es) (id_among es) (texts_of c.args.logins.now) (texts_of rest) c.loop-login.ids.items) (drop_all c.loop-login.login-index c.args.logins.now c.loop-login-test.false) c.loop-login.invariant)

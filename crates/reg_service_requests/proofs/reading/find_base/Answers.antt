@@ -1,0 +1,15 @@
+use Rattle.std.proofs.Common.{[], Ok}
+use Rattle.reg_tables_sql.specs.Reserved.{columns_of_text}
+use Rattle.reg_access.proofs.Questions.{asks_made, only_asked}
+use Rattle.reg_service_requests.proofs.ConfigText.{base_gives, base_is, base_told, bases}
+use Rattle.reg_service_requests.proofs.reading.find_base.Goals as goal
+
+pub select_one-requires-clause-reads : goal.select_one-requires-clause-reads
+select_one-requires-clause-reads g c = base_is.plain
+
+pub returns-in-Some : goal.returns-in-Some
+returns-in-Some g c =
+    asks_made g.S.Store c.in_ok-base.field-0 c.in-Some.base c.args.work.now c.select_one.new.self
+    (λ shown. base_told _ c.in-Some.base (rw c.in-Some.is at shown))
+    (only_asked g.S.Store base_is [] bases base_gives c.args.work.now c.select_one.new.self columns_of_text (Ok c.in_ok-base.field-0) c.requires
+    c.in_ok-base.ensures.row c.in_ok-base.ensures.same c.in_ok-base.ensures.leaves)

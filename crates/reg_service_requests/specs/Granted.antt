@@ -1,0 +1,40 @@
+-- What a request is answered that the rules on access let pass.
+use Rattle.std.specs.Prelude.{◌≡◌, Bool, true, false, None, Some, Result}
+use Rattle.sqlite.specs.Tree.{Trees}
+use Rattle.sqlite_trees.specs.declared.store.Store.{Ghosts}
+use Rattle.reg_body.specs.declared.limits.Limits.{Limits}
+use Rattle.reg_model.specs.Actions.{Action}
+use Rattle.reg_model.specs.Events.{Asked, action_of}
+use Rattle.reg_model.specs.Events.Asked.{Unyank, Yank}
+use Rattle.reg_model.specs.Facts.{access_facts}
+use Rattle.reg_model.specs.Registry.{Text}
+use Rattle.reg_model.specs.Rules.{access}
+use Rattle.reg_tables_meaning.specs.Calls.{Tells}
+use Rattle.reg_tables.specs.declared.work.StoreFault.{StoreFault}
+use Rattle.reg_tables.specs.declared.work.Work.{Work}
+use Rattle.reg_service_requests.specs.Runs.{Runs}
+use Rattle.reg_service_requests.specs.Serves.{Serves}
+use Rattle.reg_service_requests.specs.declared.served.Served.{Served}
+
+-- the rules on access let the token's action pass
+abbrev pub IsLet : Text → Action → Trees → Type 0
+IsLet digest a db = Tells (λ ids s. access (access_facts s digest a) a ≡ None) db
+
+-- what they let pass is served, under these limits and with this token
+abbrev pub GrantsTo : {S : Type 0} → Limits → Text → Ghosts S → Asked → Result Served StoreFault
+    → Work S → Work S → Type 0
+GrantsTo limits digest g asked r old new =
+    Runs g old new r (λ before after it. IsLet digest (action_of asked) before
+    → Serves limits (Some digest) asked before after it)
+
+-- it is so under any limits, with any token
+abbrev pub Grants : {S : Type 0} → Ghosts S → Asked → Result Served StoreFault → Work S → Work S
+    → Type 0
+Grants g asked r old new =
+    Runs g old new r (λ before after it. (limits : Limits) (digest : Text)
+    → IsLet digest (action_of asked) before → Serves limits (Some digest) asked before after it)
+
+-- the request that yanks a version, or takes that back
+abbrev pub marking : Bool → Text → Text → Asked
+marking true n v = Yank n v
+marking false n v = Unyank n v

@@ -1,0 +1,23 @@
+-- What the texts of a request or of a command name.
+use Rattle.std.specs.Prelude.{◌≡◌, ◌&&◌, ℕ, true, false, Option, None, Some}
+use Rattle.sqlite.specs.Tree.{Trees}
+use Rattle.reg_names.specs.Names.{canon, is_name}
+use Rattle.reg_model.specs.Crates.{exists, viewer}
+use Rattle.reg_model.specs.Registry.{Registry, Text}
+use Rattle.reg_tables_sql.specs.declared.crates.Crate.{Crate}
+use Rattle.reg_tables_meaning.specs.Calls.{Tells}
+use Rattle.reg_tables_meaning.specs.Stands.{Ids, spelling_at}
+
+-- the crate with this id is named by a text, in one of its spellings
+abbrev pub IsNamed : Ids → Registry → Text → ℕ → Type 0
+IsNamed ids s text id = ((is_name text && exists s text) ≡ true)
+    × ((n : Text) × (spelling_at ids id ≡ Some n) × (canon n ≡ canon text))
+
+-- the crate that a text names; none where the text is no name or no crate has it
+abbrev pub FindsNamed : Text → Trees → Option Crate → Type 0
+FindsNamed text db None = Tells (λ ids s. (is_name text && exists s text) ≡ false) db
+FindsNamed text db (Some it) = Tells (λ ids s. IsNamed ids s text it.id) db
+
+-- the account of the token with this digest
+abbrev pub FindsViewer : Text → Trees → ℕ → Type 0
+FindsViewer digest db id = Tells (λ ids s. viewer s digest ≡ Some id) db

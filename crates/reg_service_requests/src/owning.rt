@@ -1,0 +1,283 @@
+//! The owners of crates are changed.
+
+ghost use Rattle.std.specs.Prelude.{◌≡◌, IfOk, false, map, string_bytes, true};
+ghost use Rattle.std.specs.List.{find, list_all, list_any};
+ghost use Rattle.std.specs.Option.{option_map};
+ghost use Rattle.std.specs.Str.{bytes_eq};
+ghost use Rattle.reg_model.specs.Events.Asked.{AddOwners, RemoveOwners};
+ghost use Rattle.reg_model.specs.Facts.{has_login as has_login_of};
+ghost use Rattle.reg_tables.specs.Works.{Carried, IsAtWork, IsCall, has_failed, rows_seen};
+ghost use Rattle.reg_access.specs.Asks.{Asks};
+ghost use Rattle.reg_service_requests.specs.Granted.{Grants};
+ghost use Rattle.reg_service_requests.specs.Owning.{AreIdsOf, AreLeaving, DoesOwning, FindsAllKnown, FindsCrateId, FindsKnown, FindsOwners, SaysOwning, SetsOwner, SetsOwners, enabled_id, entries_of, id_among};
+ghost use Rattle.reg_service_requests.specs.Runs.{Runs};
+
+use crate::naming::find_named;
+use crate::served::Served;
+use reg_api_replies::{Kind, Reply, owners_added_body, owners_removed_body};
+use reg_policy::{Rule, same_text};
+use reg_tables::{Account, StoreFault, Work};
+use sqlite::Alter;
+use std::alloc::{AllocError, Global};
+
+/// The id of the crate that a request names. That it is there is known: it is a fault otherwise.
+fn find_crate<S: Alter>(work: &mut Work<'_, S>, name: &str) -> Result<u32, StoreFault>
+    requires at_work { IsAtWork S.Store work.old }
+    requires goes_on { has_failed work.old ≡ false }
+    ensures { Asks S.Store work.old work.new result (FindsCrateId name.now) }
+{
+    match find_named(work, name)? {
+        Some(found) => Ok(found.id),
+        None => work.fail(),
+    }
+}
+
+/// The id of an account that is enabled.
+fn id_if_enabled(found: &Option<Account>) -> Option<u32>
+    ensures { result ≡ enabled_id found.now }
+{
+    match found {
+        Some(account) if account.enabled => Some(account.id),
+        _ => None,
+    }
+}
+
+/// The id of the enabled account with this login, if there is one.
+fn find_known<S: Alter>(work: &mut Work<'_, S>, login: &str) -> Result<Option<u32>, StoreFault>
+    requires { IsAtWork S.Store work.old }
+    ensures { Asks S.Store work.old work.new result (FindsKnown login.now) }
+{
+    let found = reg_tables_calls::account_by_login(work, login)?;
+    Ok(id_if_enabled(&found))
+}
+
+/// The ids of the enabled accounts with these logins; none unless each has one.
+fn find_all_known<S: Alter>(
+    alloc: Global,
+    work: &mut Work<'_, S>,
+    logins: &[&str],
+) -> Result<Option<Vec<u32>>, StoreFault>
+    requires at_work { IsAtWork S.Store work.old }
+    requires goes_on { has_failed work.old ≡ false }
+    ensures { Asks S.Store work.old work.new result (FindsAllKnown (map (λ l. l.now) logins.now)) }
+{
+    let mut ids = Vec::new(alloc);
+    for login in logins {
+        let Some(id) = find_known(work, login)? else {
+            return Ok(None);
+        };
+        if ids.push(id).is_err() {
+            return work.fail();
+        }
+    }
+    Ok(Some(ids))
+}
+
+/// The crate and the accounts that become its owners; they are all to be enabled.
+fn find_joining<S: Alter>(
+    alloc: Global,
+    work: &mut Work<'_, S>,
+    name: &str,
+    logins: &[&str],
+) -> Result<Result<(u32, Vec<u32>), Rule>, StoreFault>
+    requires at_work { IsAtWork S.Store work.old }
+    requires goes_on { has_failed work.old ≡ false }
+    ensures { Asks S.Store work.old work.new result
+        (FindsOwners true name.now (map (λ l. l.now) logins.now)) }
+{
+    let id = find_crate(work, name)?;
+    match find_all_known(alloc, work, logins)? {
+        Some(accounts) => Ok(Ok((id, accounts))),
+        None => Ok(Err(Rule::O2)),
+    }
+}
+
+fn has_login(owner: &Account, login: &str) -> bool
+    ensures { result ≡ bytes_eq (string_bytes owner.now.login) login.now }
+{
+    same_text(&owner.login, login)
+}
+
+/// The id of the owner with this login, if there is one.
+fn id_of_owner(owners: &[Account], login: &str) -> Option<u32>
+    ensures { result ≡ option_map (λ a. a.id)
+        (find (λ a. bytes_eq (string_bytes a.login) login.now) owners.now) }
+{
+    let found = owners.iter().find(|owner| has_login(owner, login));
+    found.map(|owner| owner.id)
+}
+
+/// The ids of the owners with these logins; none unless each has one.
+fn ids_of_owners(
+    alloc: Global,
+    owners: &[Account],
+    logins: &[&str],
+) -> Result<Option<Vec<u32>>, AllocError>
+    ensures { IfOk result (AreIdsOf (has_login_of (entries_of owners.now))
+        (id_among (entries_of owners.now)) (map (λ l. l.now) logins.now)) }
+{
+    let mut ids = Vec::new(alloc);
+    for login in logins {
+        match id_of_owner(owners, login) {
+            Some(id) => ids.push(id)?,
+            None => return Ok(None),
+        }
+    }
+    Ok(Some(ids))
+}
+
+fn is_named(logins: &[&str], owner: &Account) -> bool
+    ensures { result ≡ list_any
+        (λ l. bytes_eq (string_bytes owner.now.login) l.now) logins.now }
+{
+    logins.iter().any(|login| has_login(owner, login))
+}
+
+fn are_all_named(owners: &[Account], logins: &[&str]) -> bool
+    ensures { result ≡ list_all (λ o. list_any
+        (λ l. bytes_eq (string_bytes o.login) l.now) logins.now) owners.now }
+{
+    owners.iter().all(|owner| is_named(logins, owner))
+}
+
+/// The ids of the owners who leave; each is to be an owner, and someone is to be left.
+fn leaving(
+    alloc: Global,
+    owners: &[Account],
+    logins: &[&str],
+) -> Result<Result<Vec<u32>, Rule>, AllocError>
+    ensures { IfOk result (AreLeaving owners.now (map (λ l. l.now) logins.now)) }
+{
+    let Some(ids) = ids_of_owners(alloc, owners, logins)? else {
+        return Ok(Err(Rule::O3));
+    };
+    if are_all_named(owners, logins) {
+        return Ok(Err(Rule::O4));
+    }
+    Ok(Ok(ids))
+}
+
+/// The crate and the accounts that leave its owners.
+fn find_leaving<S: Alter>(
+    alloc: Global,
+    work: &mut Work<'_, S>,
+    name: &str,
+    logins: &[&str],
+) -> Result<Result<(u32, Vec<u32>), Rule>, StoreFault>
+    requires at_work { IsAtWork S.Store work.old }
+    requires goes_on { has_failed work.old ≡ false }
+    ensures { Asks S.Store work.old work.new result
+        (FindsOwners false name.now (map (λ l. l.now) logins.now)) }
+{
+    let id = find_crate(work, name)?;
+    let owners = reg_tables_calls::owners_of(alloc, work, id)?;
+    match leaving(alloc, &owners, logins) {
+        Ok(Ok(accounts)) => Ok(Ok((id, accounts))),
+        Ok(Err(rule)) => Ok(Err(rule)),
+        Err(_) => work.fail(),
+    }
+}
+
+/// Makes an account an owner of a crate, or no longer.
+fn set_owner<S: Alter>(
+    work: &mut Work<'_, S>,
+    crate_id: u32,
+    account: u32,
+    is_owner: bool,
+) -> Result<(), StoreFault>
+    requires { IsAtWork S.Store work.old }
+    ensures set { Carried S.Store work.new result (SetsOwner is_owner crate_id account
+        (rows_seen S.Store work.old) (rows_seen S.Store work.new)) }
+    ensures leaves { IsCall S.Store result work.old work.new }
+{
+    if is_owner {
+        reg_tables_calls::add_owner(work, crate_id, account)
+    } else {
+        reg_tables_calls::remove_owner(work, crate_id, account)
+    }
+}
+
+/// Makes accounts owners of a crate, or no longer.
+fn set_owners<S: Alter>(
+    work: &mut Work<'_, S>,
+    crate_id: u32,
+    accounts: &[u32],
+    are_owners: bool,
+) -> Result<(), StoreFault>
+    requires at_work { IsAtWork S.Store work.old }
+    requires goes_on { has_failed work.old ≡ false }
+    ensures { Runs S.Store work.old work.new result
+        (λ before after it. SetsOwners are_owners crate_id accounts.now before after) }
+{
+    for account in accounts {
+        set_owner(work, crate_id, *account, are_owners)?;
+    }
+    Ok(())
+}
+
+/// The reply that tells that owners were changed.
+fn owning_reply(alloc: Global, are_owners: bool) -> Result<Reply, AllocError>
+    ensures { IfOk result (SaysOwning are_owners) }
+{
+    let body = if are_owners {
+        owners_added_body()
+    } else {
+        owners_removed_body()
+    };
+    Ok(Reply::Done(Kind::Json, body.to_vec(alloc)?))
+}
+
+/// Changes the owners, and tells so. The reply is made first: nothing takes memory after that.
+fn change_owners<S: Alter>(
+    alloc: Global,
+    work: &mut Work<'_, S>,
+    crate_id: u32,
+    accounts: &[u32],
+    are_owners: bool,
+) -> Result<Served, StoreFault>
+    requires at_work { IsAtWork S.Store work.old }
+    requires goes_on { has_failed work.old ≡ false }
+    ensures { Runs S.Store work.old work.new result (DoesOwning are_owners crate_id accounts.now) }
+{
+    let Ok(reply) = owning_reply(alloc, are_owners) else {
+        return work.fail();
+    };
+    set_owners(work, crate_id, accounts, are_owners)?;
+    Ok(Served::Done(reply))
+}
+
+/// Makes the accounts with these logins owners of a crate, or none of them.
+pub(crate) fn add_owners<S: Alter>(
+    alloc: Global,
+    work: &mut Work<'_, S>,
+    name: &str,
+    logins: &[&str],
+) -> Result<Served, StoreFault>
+    requires at_work { IsAtWork S.Store work.old }
+    requires goes_on { has_failed work.old ≡ false }
+    ensures { Grants S.Store (AddOwners name.now (map (λ l. l.now) logins.now))
+        result work.old work.new }
+{
+    match find_joining(alloc, work, name, logins)? {
+        Ok((id, accounts)) => change_owners(alloc, work, id, &accounts, true),
+        Err(rule) => Ok(Served::Told(Reply::Denied(rule))),
+    }
+}
+
+/// Takes the accounts with these logins out of a crate's owners, or none of them.
+pub(crate) fn remove_owners<S: Alter>(
+    alloc: Global,
+    work: &mut Work<'_, S>,
+    name: &str,
+    logins: &[&str],
+) -> Result<Served, StoreFault>
+    requires at_work { IsAtWork S.Store work.old }
+    requires goes_on { has_failed work.old ≡ false }
+    ensures { Grants S.Store (RemoveOwners name.now (map (λ l. l.now) logins.now))
+        result work.old work.new }
+{
+    match find_leaving(alloc, work, name, logins)? {
+        Ok((id, accounts)) => change_owners(alloc, work, id, &accounts, false),
+        Err(rule) => Ok(Served::Told(Reply::Denied(rule))),
+    }
+}

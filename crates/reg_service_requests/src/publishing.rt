@@ -1,0 +1,142 @@
+//! Versions are published.
+
+ghost use Rattle.std.specs.Prelude.{◌≡◌, false};
+ghost use Rattle.reg_model.specs.Events.Asked.{Publish};
+ghost use Rattle.reg_model.specs.Steps.{IsGenuine};
+ghost use Rattle.reg_policy.specs.Events.{publication_of};
+ghost use Rattle.reg_tables_meaning.specs.Calls.{published};
+ghost use Rattle.reg_tables.specs.Works.{IsAtWork, has_failed};
+ghost use Rattle.reg_access.specs.Asks.{Asks};
+ghost use Rattle.reg_service_requests.specs.Granted.{GrantsTo};
+ghost use Rattle.reg_service_requests.specs.Publications.{MakesCrate, PublishesFirst, PublishesNext, TellsFull, TellsFullOf};
+ghost use Rattle.reg_service_requests.specs.Runs.{Runs};
+
+use crate::naming::find_viewer;
+use crate::served::Served;
+use reg_api_replies::{Kind, Reply, publish_body};
+use reg_body::Limits;
+use reg_line::Digest;
+use reg_names::canon;
+use reg_policy::{NewPublication, Rule};
+use reg_tables::{NewVersion, StoreFault, Work};
+use sqlite::Alter;
+use std::alloc::Global;
+
+/// The version that the tables are given.
+fn version_of<'a>(new: &NewPublication<'a>) -> NewVersion<'a>
+    ensures { published new.now.name.now result ≡ publication_of new.now }
+{
+    NewVersion {
+        text: new.version,
+        description: new.description,
+        stem: new.stem,
+        digest: new.digest,
+        archive: new.archive,
+    }
+}
+
+/// Whether there are as many crates as there may be.
+fn is_full<S: Alter>(work: &mut Work<'_, S>, limits: &Limits) -> Result<bool, StoreFault>
+    requires { IsAtWork S.Store work.old }
+    ensures { Asks S.Store work.old work.new result (TellsFull limits.now) }
+{
+    reg_tables_calls::reaches_crates(work, limits.crates)
+}
+
+/// Whether a crate has as many versions as it may have.
+fn is_full_of<S: Alter>(
+    alloc: Global,
+    work: &mut Work<'_, S>,
+    limits: &Limits,
+    crate_id: u32,
+) -> Result<bool, StoreFault>
+    requires { IsAtWork S.Store work.old }
+    ensures { Asks S.Store work.old work.new result (TellsFullOf limits.now crate_id) }
+{
+    let versions = reg_tables_calls::versions_of(alloc, work, crate_id)?;
+    Ok(limits.versions <= versions.len() as u64)
+}
+
+/// Makes a crate with its first version, whose owner the token's account becomes.
+fn make_crate<S: Alter>(
+    alloc: Global,
+    work: &mut Work<'_, S>,
+    digest: &Digest,
+    new: &NewPublication<'_>,
+) -> Result<Served, StoreFault>
+    requires { IsAtWork S.Store work.old }
+    ensures { Runs S.Store work.old work.new result
+        (MakesCrate digest.now (publication_of new.now)) }
+{
+    let owner = find_viewer(alloc, work, digest)?;
+    let Ok(body) = publish_body().to_vec(alloc) else {
+        return work.fail();
+    };
+    let version = version_of(new);
+    reg_tables_calls::add_crate(work, new.name, owner, &version)?;
+    Ok(Served::Done(Reply::Done(Kind::Json, body)))
+}
+
+/// Publishes the first version of a crate.
+fn publish_first<S: Alter>(
+    alloc: Global,
+    work: &mut Work<'_, S>,
+    limits: &Limits,
+    digest: &Digest,
+    new: &NewPublication<'_>,
+) -> Result<Served, StoreFault>
+    requires { IsAtWork S.Store work.old }
+    ensures { Runs S.Store work.old work.new result
+        (PublishesFirst limits.now digest.now (publication_of new.now)) }
+{
+    let full = is_full(work, limits)?;
+    if full {
+        return Ok(Served::Told(Reply::Denied(Rule::L2)));
+    }
+    make_crate(alloc, work, digest, new)
+}
+
+/// Publishes a further version of the crate with this id.
+fn publish_next<S: Alter>(
+    alloc: Global,
+    work: &mut Work<'_, S>,
+    limits: &Limits,
+    crate_id: u32,
+    new: &NewPublication<'_>,
+) -> Result<Served, StoreFault>
+    requires { IsAtWork S.Store work.old }
+    ensures { Runs S.Store work.old work.new result
+        (PublishesNext limits.now crate_id (publication_of new.now)) }
+{
+    let full = is_full_of(alloc, work, limits, crate_id)?;
+    if full {
+        return Ok(Served::Told(Reply::Denied(Rule::L1)));
+    }
+    let Ok(body) = publish_body().to_vec(alloc) else {
+        return work.fail();
+    };
+    let version = version_of(new);
+    reg_tables_calls::add_version(work, crate_id, &version)?;
+    Ok(Served::Done(Reply::Done(Kind::Json, body)))
+}
+
+/// Publishes a version: of a new crate, whose owner the token's account becomes, or of one that is
+/// there.
+pub(crate) fn publish<S: Alter>(
+    alloc: Global,
+    work: &mut Work<'_, S>,
+    limits: &Limits,
+    digest: &Digest,
+    new: &NewPublication<'_>,
+) -> Result<Served, StoreFault>
+    requires at_work { IsAtWork S.Store work.old }
+    requires goes_on { has_failed work.old ≡ false }
+    requires genuine { IsGenuine (publication_of new.now) }
+    ensures { GrantsTo limits.now digest.now S.Store (Publish (publication_of new.now))
+        result work.old work.new }
+{
+    match reg_tables_calls::crate_by_canon(work, &canon(new.name))? {
+        Some(known) => publish_next(alloc, work, limits, known.id, new),
+        None => publish_first(alloc, work, limits, digest, new),
+    }
+}

@@ -1,0 +1,122 @@
+//! What requests read.
+
+ghost use Rattle.std.specs.Prelude.{◌≡◌, false, string_bytes};
+ghost use Rattle.reg_model.specs.Events.Asked.{Download, Index, ListOwners, Read};
+ghost use Rattle.reg_model.specs.Events.Reading.{Config};
+ghost use Rattle.reg_tables.specs.Works.{IsAtWork, has_failed};
+ghost use Rattle.reg_access.specs.Asks.{Asks};
+ghost use Rattle.reg_service_requests.specs.Granted.{Grants};
+ghost use Rattle.reg_service_requests.specs.Reads.{ListsVersionsAt, TellsBase};
+
+use crate::bodies::{index_file, owners_list};
+use crate::naming::find_named;
+use crate::served::Served;
+use reg_api_replies::{Kind, Reply};
+use reg_line::config;
+use reg_names::{canon, name_of_path};
+use reg_tables::{StoreFault, Version, Work};
+use sqlite::Alter;
+use std::alloc::Global;
+
+/// The base of the registry.
+pub(crate) fn find_base<S: Alter>(work: &mut Work<'_, S>) -> Result<String, StoreFault>
+    requires { IsAtWork S.Store work.old }
+    ensures { Asks S.Store work.old work.new result (λ db base. TellsBase db (string_bytes base)) }
+{
+    match work.select_one::<String>("SELECT base FROM about", &[])? {
+        Some(base) => Ok(base),
+        None => work.fail(),
+    }
+}
+
+/// The config of the registry.
+pub(crate) fn read_config<S: Alter>(
+    alloc: Global,
+    work: &mut Work<'_, S>,
+) -> Result<Served, StoreFault>
+    requires at_work { IsAtWork S.Store work.old }
+    requires goes_on { has_failed work.old ≡ false }
+    ensures { Grants S.Store (Read Config) result work.old work.new }
+{
+    let base = find_base(work)?;
+    match config(alloc, &base) {
+        Ok(text) => Ok(Served::Told(Reply::Done(Kind::Json, text))),
+        Err(_) => work.fail(),
+    }
+}
+
+/// The versions of the crate whose index file has this path, oldest first.
+fn find_versions<S: Alter>(
+    alloc: Global,
+    work: &mut Work<'_, S>,
+    path: &str,
+) -> Result<Vec<Version>, StoreFault>
+    requires at_work { IsAtWork S.Store work.old }
+    requires goes_on { has_failed work.old ≡ false }
+    ensures { Asks S.Store work.old work.new result
+        (λ db list. ListsVersionsAt path.now db list.items) }
+{
+    let Some(name) = name_of_path(path) else {
+        return work.fail();
+    };
+    match reg_tables_calls::crate_by_canon(work, &canon(&name))? {
+        Some(found) => reg_tables_calls::versions_of(alloc, work, found.id),
+        None => work.fail(),
+    }
+}
+
+/// The index file at a path.
+pub(crate) fn read_index<S: Alter>(
+    alloc: Global,
+    work: &mut Work<'_, S>,
+    path: &str,
+) -> Result<Served, StoreFault>
+    requires at_work { IsAtWork S.Store work.old }
+    requires goes_on { has_failed work.old ≡ false }
+    ensures { Grants S.Store (Index path.now) result work.old work.new }
+{
+    let versions = find_versions(alloc, work, path)?;
+    match index_file(alloc, versions) {
+        Ok(text) => Ok(Served::Told(Reply::Done(Kind::Plain, text))),
+        Err(_) => work.fail(),
+    }
+}
+
+/// The archive of a version.
+pub(crate) fn read_archive<S: Alter>(
+    work: &mut Work<'_, S>,
+    name: &str,
+    version: &str,
+) -> Result<Served, StoreFault>
+    requires at_work { IsAtWork S.Store work.old }
+    requires goes_on { has_failed work.old ≡ false }
+    ensures { Grants S.Store (Download name.now version.now) result work.old work.new }
+{
+    let Some(named) = find_named(work, name)? else {
+        return work.fail();
+    };
+    match reg_tables_calls::archive_of(work, named.id, version)? {
+        Some(archive) => Ok(Served::Told(Reply::Done(Kind::Archive, archive))),
+        None => work.fail(),
+    }
+}
+
+/// The owners of a crate.
+pub(crate) fn list_owners<S: Alter>(
+    alloc: Global,
+    work: &mut Work<'_, S>,
+    name: &str,
+) -> Result<Served, StoreFault>
+    requires at_work { IsAtWork S.Store work.old }
+    requires goes_on { has_failed work.old ≡ false }
+    ensures { Grants S.Store (ListOwners name.now) result work.old work.new }
+{
+    let Some(named) = find_named(work, name)? else {
+        return work.fail();
+    };
+    let owners = reg_tables_calls::owners_of(alloc, work, named.id)?;
+    match owners_list(alloc, &owners) {
+        Ok(text) => Ok(Served::Told(Reply::Done(Kind::Json, text))),
+        Err(_) => work.fail(),
+    }
+}

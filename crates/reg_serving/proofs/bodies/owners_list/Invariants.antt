@@ -1,7 +1,0 @@
-use Rattle.std.proofs.Common.{◌≡◌, map, take}
-use Rattle.reg_serving.specs.Reads.{owner_of_account}
-use Rattle.reg_serving.proofs.bodies.owners_list.Given as goal
-
--- the owners so far are in the list
-abbrev pub invariant-loop-owner : goal.invariant-loop-owner
-invariant-loop-owner l = l.body ≡ map owner_of_account (take l.owner-index l.owners)

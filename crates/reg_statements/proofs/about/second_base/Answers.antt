@@ -1,5 +1,0 @@
-use Rattle.reg_schema.specs.declared.edition.Edition.TheVariants.{Second}
-use Rattle.reg_statements.proofs.about.second_base.Goals as goal
-
-pub returns-in_err-edition : goal.returns-in_err-edition
-returns-in_err-edition c = rw (c.in_err-edition.was, c.from_residual.ensures) (λ rows none base. none Second base)

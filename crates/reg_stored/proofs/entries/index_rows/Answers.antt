@@ -1,6 +1,0 @@
-use Rattle.reg_schema.specs.declared.edition.Edition.TheVariants.{Second}
-use Rattle.reg_statements.proofs.StemQueries.{stems_are}
-use Rattle.reg_stored.proofs.entries.index_rows.Goals as goal
-
-pub rows_of-requires : goal.rows_of-requires
-rows_of-requires g c = (Second, c.requires, stems_are.plain)

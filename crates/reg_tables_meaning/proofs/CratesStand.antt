@@ -1,0 +1,214 @@
+-- The whole registry after a change of its crates.
+use Rattle.reg_tables_sql.specs.Owners.{owner_columns}
+use Rattle.sqlite.specs.declared.types.Value.TheVariants.{Int}
+use Rattle.sqlite_trees.specs.Tree.{put_row}
+use Rattle.reg_tables_meaning.specs.Changes.{next_crate, ids_with_crate, ids_with_version, if_there, mark_at, with_mark}
+use Rattle.std.proofs.Common.{◌≢◌, refl, sym, ◌≡◌, ℕ, List, [], ◌∷◌, ◌++◌, map, Bool, true, false, cond, Option, ap, subst, ◌∙◌, Some, sym, None}
+use Rattle.std.specs.Prelude.{drop}
+use Rattle.std.specs.List.{filter}
+use Rattle.std.specs.FinSet as finset
+use Rattle.std.specs.Str.{bytes_eq}
+use Rattle.sqlite.specs.State.{State}
+use Rattle.sqlite.specs.Tree.{Trees}
+use Rattle.reg_names.specs.Names.{canon}
+use Rattle.reg_versions.specs.Versions.{release_key_of}
+use Rattle.reg_tables_schema.specs.Changes.{KeepsOthers, Replaces}
+use Rattle.reg_model.specs.Registry.{Text, Publication, Registry, owner_cmp, mark_cmp}
+use Rattle.reg_model.specs.Crates.{exists}
+use Rattle.reg_model.specs.Sound.{Sound, has_version}
+use Rattle.reg_model.proofs.Lists.{none_both, not_true, true_not_false}
+use Rattle.reg_tables_meaning.specs.Additions.{KeepsAllBut, AddsCrate, AddsVersion}
+use Rattle.reg_tables_sql.specs.Versions.{version_row, MarksYanked}
+use Rattle.reg_tables_schema.specs.Tests.{is_version}
+use Rattle.reg_tables_meaning.specs.Stands.{StandCrates, Ids, StandsBy, Holds, StandPairs, spelling_at, StandMarked}
+use Rattle.reg_tables_meaning.proofs.CrateChanges.{adds_version, adds_crate, id_is, first_pair, unpaired, unmarked_crate}
+use Rattle.reg_tables_meaning.proofs.CrateLemmas.{there_at}
+use Rattle.reg_tables_meaning.proofs.Stays.{accounts_stay, tokens_stay, reserved_stay, same_crates, same_archives, pairs_stay, crates_stay, marked_stay, summaries_stay, same_about, same_accounts, same_tokens, same_scopes, same_owners, same_versions, same_reserved, same_summaries, same_restricted, same_readers}
+use Rattle.reg_tables_meaning.proofs.SummaryChanges.{summaries_first, summaries_marked, summaries_next, summaries_same}
+use Rattle.reg_tables_meaning.specs.Summaries.{StandSummaries}
+use Rattle.reg_tables_meaning.specs.SummaryChanges.{AddsSummary, IsNewRow, RenewsSummary}
+use Rattle.reg_tables_meaning.proofs.Yanks.{marks, target, row_found, yanks, no_such_version, no_version}
+
+-- the tables that are not of crates have the rows that they had
+record Rest (old new : Trees) : Type 0 where
+  about : new 0 ≡ old 0
+  accounts : new 1 ≡ old 1
+  tokens : new 3 ≡ old 3
+  scopes : new 5 ≡ old 5
+  reserved : new 14 ≡ old 14
+  restricted : new 17 ≡ old 17
+  readers : new 18 ≡ old 18
+
+rest_then : (a b c : Trees) → Rest a b → Rest b c → Rest a c
+rest_then a b c first next = record {
+  about = next.about ∙ first.about;
+  accounts = next.accounts ∙ first.accounts;
+  tokens = next.tokens ∙ first.tokens;
+  scopes = next.scopes ∙ first.scopes;
+  reserved = next.reserved ∙ first.reserved;
+  restricted = next.restricted ∙ first.restricted;
+  readers = next.readers ∙ first.readers;
+}
+
+rest_of_crate : (old new : Trees) → KeepsAllBut 7 9 old new → Rest old new
+rest_of_crate old new others = record {
+  about = others.0 (λ e. cc) (λ e. cc);
+  accounts = others.1.0 (λ e. cc) (λ e. cc);
+  tokens = others.1.1.0 (λ e. cc) (λ e. cc);
+  scopes = others.1.1.1.0 (λ e. cc) (λ e. cc);
+  reserved = others.1.1.1.1.1.1.1.1.0 (λ e. cc) (λ e. cc);
+  restricted = others.1.1.1.1.1.1.1.1.1.1.0 (λ e. cc) (λ e. cc);
+  readers = others.1.1.1.1.1.1.1.1.1.1.1.0 (λ e. cc) (λ e. cc);
+}
+
+rest_of_version : (old new : Trees) → KeepsAllBut 11 13 old new → Rest old new
+rest_of_version old new others = record {
+  about = others.0 (λ e. cc) (λ e. cc);
+  accounts = others.1.0 (λ e. cc) (λ e. cc);
+  tokens = others.1.1.0 (λ e. cc) (λ e. cc);
+  scopes = others.1.1.1.0 (λ e. cc) (λ e. cc);
+  reserved = others.1.1.1.1.1.1.1.1.0 (λ e. cc) (λ e. cc);
+  restricted = others.1.1.1.1.1.1.1.1.1.1.0 (λ e. cc) (λ e. cc);
+  readers = others.1.1.1.1.1.1.1.1.1.1.1.0 (λ e. cc) (λ e. cc);
+}
+
+rest_of_other : (tree : ℕ) → ((n : ℕ) → n ≢ 11 → n ≢ 16 → n ≢ tree) → (old new : Trees) → KeepsOthers tree old new → Rest old new
+rest_of_other tree apart old new others = record {
+  about = same_about tree old new others (apart 0 (λ e. cc) (λ e. cc));
+  accounts = same_accounts tree old new others (apart 1 (λ e. cc) (λ e. cc));
+  tokens = same_tokens tree old new others (apart 3 (λ e. cc) (λ e. cc));
+  scopes = same_scopes tree old new others (apart 5 (λ e. cc) (λ e. cc));
+  reserved = same_reserved tree old new others (apart 14 (λ e. cc) (λ e. cc));
+  restricted = same_restricted tree old new others (apart 17 (λ e. cc) (λ e. cc));
+  readers = same_readers tree old new others (apart 18 (λ e. cc) (λ e. cc));
+}
+
+with_crates : (ids after : Ids) (s : Registry) (publications : List Publication) (yanked : finset.FinSet mark_cmp) (owners : finset.FinSet owner_cmp) (old new : Trees) → Rest old new → StandsBy ids s old → StandCrates after publications yanked new → StandPairs after.crates owners (new 9) → StandPairs after.crates s.readers (new 18)
+    → StandMarked after.crates s.restricted (new 17) → StandSummaries after yanked (new 16) → StandsBy after (record s { publications = publications; yanked = yanked; owners = owners }) new
+with_crates ids after s publications yanked owners old new rest stands crates pairs readers restricted summaries = record {
+  about = ap (map (λ r. drop 1 r)) rest.about ∙ stands.about;
+  accounts = accounts_stay s.accounts old new rest.accounts stands.accounts;
+  tokens = tokens_stay s.tokens old new rest.tokens rest.scopes stands.tokens;
+  crates = crates;
+  owners = pairs;
+  readers = readers;
+  reserved = reserved_stay s.reserved old new rest.reserved stands.reserved;
+  restricted = restricted;
+  summaries = summaries;
+}
+
+-- what a change of the summaries leaves
+module _ (old new : Trees) (others : KeepsOthers 16 old new) where
+  rest_of_summary : Rest old new
+  rest_of_summary = rest_of_other 16 (λ n h k. k) old new others
+
+  still_crates : (ids : Ids) (ps : List Publication) (yanked : finset.FinSet mark_cmp) → StandCrates ids ps yanked old → StandCrates ids ps yanked new
+  still_crates ids ps yanked h = crates_stay ids ps yanked old new (same_crates 16 old new others (λ e. cc)) (same_versions 16 old new others (λ e. cc)) (same_archives 16 old new others (λ e. cc)) h
+
+  still_owners : new 9 ≡ old 9
+  still_owners = same_owners 16 old new others (λ e. cc)
+
+-- nothing is marked that is not there
+unmarked : (s : Registry) (p : Publication) → Sound s → has_version s (canon p.name) p.version ≡ false → finset.contains s.yanked (canon p.name, p.version) ≡ false
+unmarked s p sound fresh = not_true _ (λ h. true_not_false (has_version s (canon p.name) p.version) (sound.yanked (canon p.name) p.version h) fresh)
+
+pub adds_first : (ids : Ids) (s : Registry) (id owner : ℕ) (p : Publication) (old mid new last : Trees) → Holds ids s old → exists s p.name ≡ false → AddsCrate id p.name owner old mid → AddsVersion id p mid new → AddsSummary id new last
+    → (id ≡ next_crate ids) × StandsBy (ids_with_crate p ids) (record s { publications = s.publications ++ p ∷ []; owners = finset.insert s.owners (canon p.name, owner) }) last
+adds_first ids s id owner p old mid new last h fresh crate version summary =
+    let stands = h.stands in
+    let new_version = none_both (λ q. bytes_eq (canon q.name) (canon p.name)) (λ q. bytes_eq q.version p.version) s.publications fresh in
+    let unowned : (account : ℕ) → finset.contains s.owners (canon p.name, account) ≡ false = λ account. not_true _ (λ i. true_not_false (exists s p.name) (h.sound.owners (canon p.name) account i).0 fresh) in
+    let rest = rest_then old new last (rest_then old mid new (rest_of_crate old mid crate.others) (rest_of_version mid new version.others)) (rest_of_summary new last summary.others) in
+    let same_versions : mid 11 ≡ old 11 = crate.others.1.1.1.1.1.1.0 (λ e. cc) (λ e. cc) in
+    let same_archives : mid 13 ≡ old 13 = crate.others.1.1.1.1.1.1.1.0 (λ e. cc) (λ e. cc) in
+    let same_crates : new 7 ≡ mid 7 = version.others.1.1.1.1.0 (λ e. cc) (λ e. cc) in
+    let same_owners : new 9 ≡ mid 9 = version.others.1.1.1.1.1.0 (λ e. cc) (λ e. cc) in
+    let is = id_is ids s.publications s.yanked old mid new stands.crates id owner p crate fresh in
+    let unread : (account : ℕ) → finset.contains s.readers (canon p.name, account) ≡ false = λ account. not_true _ (λ i. true_not_false (exists s p.name) (h.sound.readers (canon p.name) account i).0 fresh) in
+    let crates = adds_crate ids s.publications s.yanked old mid new stands.crates id owner p crate fresh (unmarked s p h.sound new_version) same_versions same_archives same_crates version in
+    let pairs = first_pair ids s.publications s.yanked old mid new stands.crates id owner p crate fresh s.owners (old 9) stands.owners unowned crate.rowid crate.free in
+    let owned = subst (StandPairs (ids_with_crate p ids).crates (finset.insert s.owners (canon p.name, owner))) (sym (still_owners new last summary.others ∙ same_owners ∙ crate.owners)) (subst (λ n. StandPairs (ids.crates ++ (n, p.name) ∷ []) (finset.insert s.owners (canon p.name, owner)) (put_row (Int crate.rowid ∷ owner_columns id owner) (old 9))) is pairs) in
+    let no_reader = unpaired ids s.publications s.yanked old mid new stands.crates id owner p crate fresh s.readers (old 18) stands.readers unread in
+    let read = subst (λ n. StandPairs (ids.crates ++ (n, p.name) ∷ []) s.readers (last 18)) is (pairs_stay (ids.crates ++ (id, p.name) ∷ []) s.readers (old 18) (last 18) rest.readers no_reader) in
+    let unlisted : finset.contains s.restricted (canon p.name) ≡ false = not_true _ (λ i. true_not_false (exists s p.name) (h.sound.restricted (canon p.name) i) fresh) in
+    let not_marked = unmarked_crate ids s.publications s.yanked old mid new stands.crates id owner p crate fresh s.restricted (old 17) stands.restricted unlisted in
+    let marked = subst (λ n. StandMarked (ids.crates ++ (n, p.name) ∷ []) s.restricted (last 17)) is (marked_stay (ids.crates ++ (id, p.name) ∷ []) s.restricted (old 17) (last 17) rest.restricted not_marked) in
+    let kept : new 16 ≡ old 16 = version.others.1.1.1.1.1.1.1.1.1.0 (λ e. cc) (λ e. cc) ∙ crate.others.1.1.1.1.1.1.1.1.1.0 (λ e. cc) (λ e. cc) in
+    let before = summaries_stay ids s.yanked (old 16) (new 16) kept stands.summaries in
+    let row = subst (λ (n : ℕ). IsNewRow n (new 16) (last 16) (ids_with_crate p ids) s.yanked) is (summary.row (ids_with_crate p ids) _ s.yanked crates) in
+    let summaries = summaries_first ids s.publications s.yanked old stands.crates (new 16) (last 16) before p row in
+    (is, with_crates ids (ids_with_crate p ids) s _ s.yanked _ old last rest stands (still_crates new last summary.others _ _ _ crates) owned read marked summaries)
+
+pub adds_next : (ids : Ids) (s : Registry) (id : ℕ) (p : Publication) (old new last : Trees) → Holds ids s old → spelling_at ids id ≡ Some p.name → has_version s (canon p.name) p.version ≡ false → AddsVersion id p old new → RenewsSummary id new last
+    → StandsBy (ids_with_version id p ids) (record s { publications = s.publications ++ p ∷ [] }) last
+adds_next ids s id p old new last h at fresh version summary =
+    let there = there_at ids id p.name at in
+    let stands = h.stands in
+    let after = ids_with_version id p ids in
+    let same_crates : new 7 ≡ old 7 = version.others.1.1.1.1.0 (λ e. cc) (λ e. cc) in
+    let same_owners : new 9 ≡ old 9 = version.others.1.1.1.1.1.0 (λ e. cc) (λ e. cc) in
+    let kept : new 16 ≡ old 16 = version.others.1.1.1.1.1.1.1.1.1.0 (λ e. cc) (λ e. cc) in
+    let pairs = pairs_stay ids.crates s.owners (old 9) (last 9) (still_owners new last summary.others ∙ same_owners) stands.owners in
+    let rest = rest_then old new last (rest_of_version old new version.others) (rest_of_summary new last summary.others) in
+    let readers = pairs_stay ids.crates s.readers (old 18) (last 18) rest.readers stands.readers in
+    let restricted = marked_stay ids.crates s.restricted (old 17) (last 17) rest.restricted stands.restricted in
+    let crates = adds_version ids s.publications s.yanked old new stands.crates id p there (unmarked s p h.sound fresh) same_crates version in
+    let before = summaries_stay ids s.yanked (old 16) (new 16) kept stands.summaries in
+    let summaries = summaries_next ids s.publications s.yanked old stands.crates (new 16) (last 16) before id p (summary.row after _ s.yanked crates) in
+    with_crates ids after s _ s.yanked s.owners old last rest stands (still_crates new last summary.others _ _ _ crates) pairs readers restricted summaries
+
+-- what an update of the mark says, of the version that alone has the release and the text
+abbrev ReplacesMark : ℕ → Text → Text → Bool → State → State → Type 0
+ReplacesMark id release text b old new =
+    (n : ℕ) (digest stem : Text) (description : Option Text) (was : Bool) → filter (is_version id release text) (old.now.trees 11) ≡ version_row n id text release digest stem description was ∷ [] → Replaces 11 n (version_row n id text release digest stem description b) old new
+
+-- a mark of a version is changed, and the summary of its crate is renewed
+module _ (ids : Ids) (s : Registry) (id : ℕ) (old new : State) (last : Trees) (h : Holds ids s old.now.trees) (others : KeepsOthers 11 old.now.trees new.now.trees) (summary : RenewsSummary id new.now.trees last) where
+  with_yanked : (yanked : finset.FinSet mark_cmp) → StandCrates ids s.publications yanked new.now.trees → StandSummaries ids yanked (last 16) → StandsBy ids (record s { yanked = yanked }) last
+  with_yanked yanked crates summaries =
+      let before = old.now.trees in
+      let mid = new.now.trees in
+      let rest = rest_then before mid last (rest_of_other 11 (λ n h k. h) before mid others) (rest_of_summary mid last summary.others) in
+      let pairs = pairs_stay ids.crates s.owners (before 9) (last 9) (still_owners mid last summary.others ∙ same_owners 11 before mid others (λ e. cc)) h.stands.owners in
+      let readers = pairs_stay ids.crates s.readers (before 18) (last 18) rest.readers h.stands.readers in
+      let restricted = marked_stay ids.crates s.restricted (before 17) (last 17) rest.restricted h.stands.restricted in
+      with_crates ids ids s s.publications yanked s.owners before last rest h.stands (still_crates mid last summary.others _ _ _ crates) pairs readers restricted summaries
+
+  before_them : StandSummaries ids s.yanked (new.now.trees 16)
+  before_them = summaries_stay ids s.yanked (old.now.trees 16) (new.now.trees 16) (same_summaries 11 old.now.trees new.now.trees others (λ e. cc)) h.stands.summaries
+
+  -- where the versions have the rows that they had
+  kept_marks : new.now.trees 11 ≡ old.now.trees 11 → StandsBy ids s last
+  kept_marks rows =
+      let crates = crates_stay ids s.publications s.yanked old.now.trees new.now.trees (same_crates 11 old.now.trees new.now.trees others (λ e. cc)) rows (same_archives 11 old.now.trees new.now.trees others (λ e. cc)) h.stands.crates in
+      with_yanked s.yanked crates (summaries_same ids s.publications s.yanked old.now.trees h.stands.crates (new.now.trees 16) (last 16) before_them id (summary.row ids _ s.yanked crates))
+
+  marks_one : (name text : Text) (b : Bool) → spelling_at ids id ≡ Some name → has_version s (canon name) text ≡ true → ReplacesMark id (release_key_of text) text b old new
+      → StandsBy ids (record s { yanked = cond b (finset.insert s.yanked (canon name, text)) (finset.remove s.yanked (canon name, text)) }) last
+  marks_one name text b at published replaces =
+      let before = old.now.trees in
+      let after = new.now.trees in
+      let stands = h.stands in
+      let there = there_at ids id name at in
+      let v = target ids s.publications s.yanked before stands.crates h.sound.releases id name text there published in
+      let p = v.0.publication in
+      let row = row_found ids s.publications s.yanked before stands.crates h.sound.releases id name text there v.0 v.1 in
+      let replaced = replaces v.0.id p.digest p.stem p.description (finset.contains s.yanked (canon name, text)) row in
+      let changed = yanks ids s.publications s.yanked before stands.crates h.sound.releases id name text there b v.0 v.1 after (same_crates 11 before after others (λ e. cc)) (same_archives 11 before after others (λ e. cc)) replaced.rows_are in
+      let marked = marks s.yanked (canon name) text b in
+      with_yanked marked changed (summaries_marked ids s.publications s.yanked before stands.crates (after 16) (last 16) before_them id name text b there (summary.row ids _ marked changed))
+
+-- the same by the id alone: what is not there is not marked
+pub marks_at : (ids : Ids) (s : Registry) (id : ℕ) (text : Text) (b : Bool) (old new : State) (last : Trees) → Holds ids s old.now.trees → MarksYanked id (release_key_of text) text b old new → RenewsSummary id new.now.trees last → StandsBy ids (mark_at ids id text b s) last
+marks_at ids s id text b old new last h marks summary = split (spelling_at ids id) refl
+  where
+    kept : filter (is_version id (release_key_of text) text) (old.now.trees 11) ≡ [] → StandsBy ids s last
+    kept none = kept_marks ids s id old new last h marks.touches.others summary (marks.unmatched none)
+
+    split : (o : Option Text) → spelling_at ids id ≡ o → StandsBy ids (if_there o (with_mark text b) s) last
+    split None none = kept (no_version ids s.publications s.yanked old.now.trees h.stands.crates id text none)
+    split (Some name) at = by (has_version s (canon name) text) refl
+      where
+        by : (c : Bool) → has_version s (canon name) text ≡ c → StandsBy ids (cond c (record s { yanked = cond b (finset.insert s.yanked (canon name, text)) (finset.remove s.yanked (canon name, text)) }) s) last
+        by true there = marks_one ids s id old new last h marks.touches.others summary name text b at there marks.replaced
+        by false none = kept (no_such_version ids s.publications s.yanked old.now.trees h.stands.crates h.sound.releases id name text (there_at ids id name at) none)

@@ -1,0 +1,60 @@
+-- A relation after a change that names a crate by its id.
+use Rattle.reg_names.specs.Names.{canon}
+use Rattle.reg_model.proofs.Lists.{true_not_false}
+use Rattle.reg_tables_meaning.proofs.Stays.{pairs_stay}
+use Rattle.reg_tables_sql.specs.Owners.{owner_columns}
+use Rattle.std.specs.List.{list_any, filter}
+use Rattle.reg_tables_meaning.proofs.Removed.{keeps_all, removes_passing}
+use Rattle.reg_tables_meaning.proofs.PairChanges.{is_there}
+use Rattle.sqlite_rules.specs.Edit.{is_taken}
+use Rattle.reg_tables_schema.specs.Tests.{is_owner}
+use Rattle.reg_tables_schema.specs.Changes.{is_at_one_of}
+use Rattle.reg_tables_meaning.specs.Changes.{insert_at, remove_at}
+use Rattle.sqlite_trees.specs.Tree.{has_rowid, put_row}
+use Rattle.reg_tables_meaning.proofs.CrateLemmas.{crate_there, no_row, there_at}
+use Rattle.reg_tables_meaning.proofs.PairChanges.{adds_pair, held_again, none_passes, removes_pair}
+use Rattle.sqlite.specs.Tree.{Trees}
+use Rattle.sqlite.specs.Order.{Row}
+use Rattle.reg_model.specs.Registry.{Publication, Text, mark_cmp, owner_cmp}
+use Rattle.sqlite.specs.declared.types.Value.TheVariants.{Int}
+use Rattle.reg_tables_meaning.specs.Stands.{Ids, StandCrates, StandPairs, spelling_at}
+use Rattle.std.proofs.Common.{◌≡◌, ℕ, ℤ, pos, List, ◌∷◌, true, false, not, Option, Some, None, refl, sym, ◌∙◌}
+use Rattle.std.specs.FinSet as finset
+
+module _ (ids : Ids) (publications : List Publication) (yanked : finset.FinSet mark_cmp) (db : Trees) (stands : StandCrates ids publications yanked db) (held : finset.FinSet owner_cmp) (rows : List Row) (pairs : StandPairs ids.crates held rows) (id account : ℕ) where
+  -- a pair that is there already is not added
+  pub again : list_any (is_owner id account) rows ≡ true → held ≡ insert_at (spelling_at ids id) account held
+  again is = split (spelling_at ids id) refl
+    where
+      split : (o : Option Text) → spelling_at ids id ≡ o → held ≡ insert_at o account held
+      split None none = refl
+      split (Some name) at = held_again held (canon name, account) (sym (is_there ids publications yanked db stands held id name (there_at ids id name at) account rows pairs) ∙ is)
+
+  -- nor is a pair of a crate that is not there
+  pub no_crate : list_any (has_rowid (pos id)) (db 7) ≡ false → held ≡ insert_at (spelling_at ids id) account held
+  no_crate none = split (spelling_at ids id) refl
+    where
+      split : (o : Option Text) → spelling_at ids id ≡ o → held ≡ insert_at o account held
+      split None at = refl
+      split (Some name) at = true_not_false _ (crate_there ids publications yanked db stands id name (there_at ids id name at)) none
+
+  pub added : list_any (has_rowid (pos id)) (db 7) ≡ true → list_any (is_owner id account) rows ≡ false → (rowid : ℤ) → is_taken rows (Int rowid ∷ owner_columns id account) ≡ false
+      → StandPairs ids.crates (insert_at (spelling_at ids id) account held) (put_row (Int rowid ∷ owner_columns id account) rows)
+  added crate absent rowid free = split (spelling_at ids id) refl
+    where
+      split : (o : Option Text) → spelling_at ids id ≡ o → StandPairs ids.crates (insert_at o account held) (put_row (Int rowid ∷ owner_columns id account) rows)
+      split None none = true_not_false _ crate (no_row ids publications yanked db stands id none)
+      split (Some name) at =
+          let there = there_at ids id name at in
+          adds_pair ids publications yanked db stands held id name there account rows pairs (sym (is_there ids publications yanked db stands held id name there account rows pairs) ∙ absent) rowid free
+
+  pub removed : StandPairs ids.crates (remove_at (spelling_at ids id) account held) (filter (λ r. not (is_owner id account r)) rows)
+  removed = split (spelling_at ids id) refl
+    where
+      split : (o : Option Text) → spelling_at ids id ≡ o → StandPairs ids.crates (remove_at o account held) (filter (λ r. not (is_owner id account r)) rows)
+      split None none = pairs_stay ids.crates held rows (filter (λ r. not (is_owner id account r)) rows) (keeps_all (is_owner id account) rows (none_passes ids held rows pairs id none account)) pairs
+      split (Some name) at = removes_pair ids publications yanked db stands held id name (there_at ids id name at) account rows pairs
+
+  -- what DELETE leaves
+  pub left : (now : List Row) → now ≡ filter (λ row. not (is_at_one_of (filter (is_owner id account) rows) row)) rows → StandPairs ids.crates (remove_at (spelling_at ids id) account held) now
+  left now is = pairs_stay ids.crates (remove_at (spelling_at ids id) account held) (filter (λ r. not (is_owner id account r)) rows) now (is ∙ removes_passing (is_owner id account) rows pairs.apart) removed

@@ -1,0 +1,85 @@
+-- A transaction in which tables of schema 1 become tables of schema 2.
+use Rattle.std.proofs.Common.{◌≡◌, ◌≢◌, ℕ, List, [], ◌∷◌, map, true, false, Ok, Err, Result, OnOk, refl, sym, ap, subst, ◌∙◌, arith}
+use Rattle.std.specs.Prelude.{drop}
+use Rattle.std.specs.List.{AllByRecursion}
+use Rattle.sqlite.specs.Effect.{Database}
+use Rattle.sqlite.specs.State.{State, HasCleanDisk, KeepsCommit, Shows, Survives}
+use Rattle.sqlite.proofs.StateLemmas.{survives_then, survives_weaker}
+use Rattle.reg_tables_schema.specs.States.{IsUndone}
+use Rattle.std.proofs.Common.{Bool}
+use Rattle.sqlite.specs.Table.{Table}
+use Rattle.sqlite.specs.Tree.{Trees}
+use Rattle.reg_tables_schema.specs.declared.edition.Edition.{Edition}
+use Rattle.reg_tables_schema.specs.declared.edition.Edition.TheVariants.{First, Second}
+use Rattle.reg_tables_schema.specs.Schema.{old_tables, our_tables, schema_of}
+use Rattle.reg_tables_schema.specs.States.{Extends, GoesBack, IsOurs, IsReady}
+use Rattle.reg_tables_schema.proofs.MakeLemmas.{all_taken}
+use Rattle.reg_tables_sql.specs.Abouts.{BecomesSecond}
+use Rattle.reg_tables_meaning.specs.Upgrades.{BeginsSecond, IsUpgrade, IsUpgraded, AreUpgraded, Upgrades}
+
+kept_through : (tables : List Table) (a b c : Trees) → AllByRecursion (λ t. b t.tree ≡ a t.tree) tables → AllByRecursion (λ t. t.tree ≢ 0 → c t.tree ≡ b t.tree) tables
+    → AllByRecursion (λ t. t.tree ≢ 0 → c t.tree ≡ a t.tree) tables
+kept_through [] a b c one two = tt
+kept_through (t ∷ more) a b c one two = ((λ other. two.0 other ∙ one.0), kept_through more a b c one.1 two.1)
+
+upgrade_from : (was : Database) (mid last new : State) → Shows mid mid was mid.committed true → Extends mid last → BecomesSecond last new → IsUpgrade was new.now
+upgrade_from was mid last new begun grown made =
+    let from : (t : ℕ) → mid.now.trees t ≡ was.trees t = λ t. ap (λ (d : Database). d.trees t) begun.now_is in
+    record {
+      schema_is = made.touches.inside.schema_is;
+      kept = subst (λ (d : Database). AllByRecursion (λ t. t.tree ≢ 0 → new.now.trees t.tree ≡ d.trees t.tree) old_tables) begun.now_is
+          (kept_through old_tables mid.now.trees last.now.trees new.now.trees grown.kept (all_taken (λ t. t.tree ≢ 0 → new.now.trees t.tree ≡ last.now.trees t.tree) 10 our_tables made.touches.others));
+      restricted = made.touches.others.1.1.1.1.1.1.1.1.1.1.0 (λ e. cc) ∙ grown.restricted;
+      readers = made.touches.others.1.1.1.1.1.1.1.1.1.1.1.0 (λ e. cc) ∙ grown.readers;
+      about = λ base is. made.second base (ap (map (drop 1)) (grown.kept.0 ∙ from 0) ∙ is);
+    }
+
+pub upgrades : (old mid last new : State) → Shows old mid old.now old.committed true → Extends mid last → BecomesSecond last new → Upgrades old new
+upgrades old mid last new begun grown made = record {
+  made = upgrade_from old.now mid last new (record { was_open = begun.is_open; is_open = begun.is_open; now_is = begun.now_is; committed_is = refl; mode = begun.mode }) grown made;
+  shows = record { was_open = begun.was_open; is_open = made.touches.inside.is_open; now_is = refl; committed_is = made.touches.committed ∙ grown.committed ∙ begun.committed_is; mode = made.touches.inside.inside };
+}
+
+begun_shows : (e : Edition) (old new : State) → BeginsSecond e old new → Shows old new new.now old.committed true
+begun_shows First old new h = h.shows
+begun_shows Second old new h = record { was_open = h.was_open; is_open = h.is_open; now_is = refl; committed_is = h.committed_is; mode = h.mode }
+
+begun_schema : (e : Edition) (old new : State) → BeginsSecond e old new → old.now.schema ≡ schema_of e → new.now.schema ≡ schema_of Second
+begun_schema First old new h is = h.made.schema_is
+begun_schema Second old new h is = ap (λ (d : Database). d.schema) h.now_is ∙ is
+
+module _ (e : Edition) (old new : State) (early : HasCleanDisk new → HasCleanDisk old) (at : IsOurs e old) where
+  pub back_second : {T E : Type 0} (r : Result T E) → (HasCleanDisk new → OnOk r (BeginsSecond e old new)) → OnOk r (GoesBack e new)
+  back_second (Ok x) h = λ clean up. let s = begun_shows e old new (h clean) in ap (λ (d : Database). d.schema) s.committed_is ∙ (at (early clean) s.was_open).committed_is
+  back_second (Err f) h = tt
+
+  pub ready_second : {T E : Type 0} (r : Result T E) → (HasCleanDisk new → OnOk r (BeginsSecond e old new)) → OnOk r (IsReady new)
+  ready_second (Ok x) h = λ clean.
+      let s = begun_shows e old new (h clean) in
+      let it = at (early clean) s.was_open in
+      record { schema_is = begun_schema e old new (h clean) (ap (λ (d : Database). d.schema) it.settled ∙ it.committed_is); is_open = s.is_open; inside = s.mode }
+  ready_second (Err f) h = tt
+
+  pub kept_back : (HasCleanDisk new → KeepsCommit old new) → GoesBack e new
+  kept_back h clean up = let k = h clean in ap (λ (d : Database). d.schema) (k.committed up) ∙ (at (early clean) (k.was_open up)).committed_is
+
+pub upgraded : (e : Edition) (old mid new : State) → e ≡ First → BeginsSecond e old mid → Shows mid new mid.now mid.now false → IsUpgraded old new
+upgraded First old mid new is h s = record { was_open = h.shows.was_open; made = subst (IsUpgrade old.now) (sym s.now_is) h.made; settled = s.committed_is ∙ sym s.now_is }
+upgraded Second old mid new is h s = absurd cc
+
+pub commit_undone : (e : Edition) (old mid new : State) → BeginsSecond e old mid → IsUndone mid new → IsUndone old new
+commit_undone e old mid new h k =
+    let s = begun_shows e old mid h in
+    record { was_open = λ _. s.was_open; undone = λ up. ((k.undone up).0 ∙ s.committed_is, (k.undone up).1 ∙ s.committed_is); autocommit = k.autocommit }
+
+begun_upgrade : (e : Edition) (old mid : State) → e ≡ First → BeginsSecond e old mid → IsUpgrade old.now mid.now
+begun_upgrade First old mid is h = h.made
+begun_upgrade Second old mid is h = absurd cc
+
+pub stops_between : (e : Edition) (failed : Bool) (old mid new : State) → e ≡ First → (HasCleanDisk mid → BeginsSecond e old mid) → Survives old mid (λ _. ⊥)
+    → Survives mid new (λ db. (failed ≡ false) × (db ≡ mid.now.trees)) → Survives old new (AreUpgraded old.now)
+stops_between e failed old mid new is begun one two =
+    survives_then old mid new _ _ (AreUpgraded old.now) (λ _ db none. absurd none) (λ clean db it. (mid.now, begun_upgrade e old mid is (begun (omega (arith, two.clean))), it.1)) one two
+
+pub stops_before : (old new : State) → Survives old new (λ _. ⊥) → Survives old new (AreUpgraded old.now)
+stops_before old new s = survives_weaker old new _ _ (λ _ db none. absurd none) s

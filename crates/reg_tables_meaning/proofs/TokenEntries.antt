@@ -1,0 +1,66 @@
+-- Tokens that selections show.
+use Rattle.std.proofs.Common.{◌≡◌, ℕ, pos, List, [], ◌∷◌, map, refl, ◌∙◌, ap}
+use Rattle.std.specs.List.{enumerate_from}
+use Rattle.sqlite.specs.declared.types.Value.{Value}
+use Rattle.sqlite.specs.declared.types.Value.TheVariants.{Int, Blob}
+use Rattle.sqlite.specs.Order.{Row}
+use Rattle.sqlite.specs.Tree.{Trees}
+use Rattle.sqlite_keyed.proofs.SortLemmas.{sorted_unique}
+use Rattle.std.proofs.lemmas.List.Sorted.{IsPermutation-trans}
+use Rattle.reg_model.specs.Registry as model
+use Rattle.reg_tables_schema.specs.Rows.{IsInOrder, by_column}
+use Rattle.reg_tables_schema.proofs.Queries.{maps_twice}
+use Rattle.reg_tables_sql.specs.declared.tokens.Token.{Token}
+use Rattle.reg_tables_sql.specs.Tokens.{columns_of_token}
+use Rattle.reg_tables_meaning.specs.TokenEntries.{entry_of_token, without_patterns}
+use Rattle.reg_tables_meaning.specs.Stands.{row_of_token, StandTokens}
+use Rattle.reg_tables_schema.specs.Tests.{shows}
+use Rattle.reg_tables_meaning.proofs.AccountEntries.{mark_is}
+use Rattle.reg_tables_meaning.proofs.Selected.{column_total, places_rise}
+
+heads : {a b : Value} {xs ys : Row} → ◌≡◌ {A = Row} (a ∷ xs) (b ∷ ys) → a ≡ b
+heads e = cc
+
+tails : {a b : Value} {xs ys : Row} → ◌≡◌ {A = Row} (a ∷ xs) (b ∷ ys) → xs ≡ ys
+tails e = cc
+
+number_is : {n m : ℕ} → Int (pos n) ≡ Int (pos m) → n ≡ m
+number_is e = cc
+
+bytes_are : {t u : List ℕ} → Blob t ≡ Blob u → t ≡ u
+bytes_are e = cc
+
+abbrev show : Row → Row
+show = shows (0 ∷ 2 ∷ 3 ∷ 4 ∷ 5 ∷ 6 ∷ 7 ∷ 8 ∷ [])
+
+same_token : (e : ℕ × model.Token) (t : Token) → columns_of_token t ≡ show (row_of_token e) → entry_of_token t ≡ without_patterns e
+same_token e t h =
+    let id = number_is (heads h) in
+    let digest = bytes_are (heads (tails h)) in
+    let account = number_is (heads (tails (tails h))) in
+    let marks = tails (tails (tails h)) in
+    let live = mark_is _ _ (heads marks) in
+    let publish_new = mark_is _ _ (heads (tails marks)) in
+    let publish_update = mark_is _ _ (heads (tails (tails marks))) in
+    let yank = mark_is _ _ (heads (tails (tails (tails marks)))) in
+    let change_owners = mark_is _ _ (heads (tails (tails (tails (tails marks))))) in
+    λ i.
+    (id i, record { digest = digest i; account = account i; live = live i; endpoints = record { publish_new = publish_new i; publish_update = publish_update i; yank = yank i; change_owners = change_owners i }; patterns = [] })
+
+each_token : (es : List (ℕ × model.Token)) (list : List Token) → map columns_of_token list ≡ map (λ e. show (row_of_token e)) es → map entry_of_token list ≡ map without_patterns es
+each_token [] [] h = refl
+each_token (e ∷ es) [] h = absurd cc
+each_token [] (t ∷ list) h = absurd cc
+each_token (e ∷ es) (t ∷ list) h = rw (same_token e t (first h)) (ap (λ l. without_patterns e ∷ l) (each_token es list (rest h)))
+  where
+    first : {A : Type 0} {a b : A} {xs ys : List A} → ◌≡◌ {A = List A} (a ∷ xs) (b ∷ ys) → a ≡ b
+    first e = cc
+
+    rest : {A : Type 0} {a b : A} {xs ys : List A} → ◌≡◌ {A = List A} (a ∷ xs) (b ∷ ys) → xs ≡ ys
+    rest e = cc
+
+pub lists_tokens : (tokens : List model.Token) (db : Trees) → StandTokens tokens db → (list : List Token) → IsInOrder (by_column 0) (db 3) show (map columns_of_token list) → map entry_of_token list ≡ map without_patterns (enumerate_from 1 tokens)
+lists_tokens tokens db stands list h =
+    let es = enumerate_from 1 tokens in
+    let all = sorted_unique (by_column 0) (column_total 0) (map row_of_token es) h.ordered (places_rise row_of_token (λ e. refl) 1 tokens) (IsPermutation-trans (map row_of_token es) (db 3) h.ordered stands.rows h.same) h.sorted in
+    each_token es list (h.shown ∙ ap (map show) all ∙ maps_twice row_of_token show es)

@@ -1,0 +1,40 @@
+use Rattle.reg_tables_meaning.proofs.Went.{ends, stops_here, stops_read, stops_write, went_read, went_write}
+use Rattle.std.proofs.Common.{◌≡◌, arith, ◌∙◌}
+use Rattle.sqlite.specs.State.{HasCleanDisk}
+use Rattle.sqlite.specs.Held.{state}
+use Rattle.reg_tables_meaning.proofs.Additions.{adds_within, crate_added}
+use Rattle.reg_tables_meaning.proofs.Withins.{become_within}
+use Rattle.reg_tables_meaning.proofs.crates.insert_crate.Goals as goal
+
+pub returns-clause-added : goal.returns-clause-added
+returns-clause-added g c clean =
+    let old = state g.S.Store c.args.conn.now in
+    let read = state g.S.Store c.last_id.new.conn in
+    let mid = state g.S.Store c.insert.new.conn in
+    let new = state g.S.Store c.insert-2.new.conn in
+    let clean_mid : HasCleanDisk mid = omega (arith, c.insert-2.ensures.survives.clean) in
+    let clean_read : HasCleanDisk read = omega (arith, c.insert.ensures.survives.clean) in
+    let same : read.now ≡ old.now = (c.in_ok-last.ensures.only clean_read).0.0.now_is in
+    crate_added old read mid new same c.in_ok-last.last c.in_ok-id.id c.args.name.now c.args.owner (c.in_ok-last.ensures.told clean_read) c.in_ok-id.ensures _ _ (c.as_str.ensures ∙ c.canon.ensures) c.as_str-2.ensures.value (c.in_ok-insert.ensures.changes clean_mid) (c.in_ok-insert-2.ensures.changes clean)
+
+pub returns-in_err-last-clause-leaves : goal.returns-in_err-last-clause-leaves
+returns-in_err-last-clause-leaves g c = stops_read (state g.S.Store c.args.conn.now) (state g.S.Store c.last_id.new.conn) c.last_id.result _ c.from_residual.result c.from_residual.ensures.0 c.requires c.in_err-last.was c.last_id.ensures
+
+pub returns-in_err-id-clause-leaves : goal.returns-in_err-id-clause-leaves
+returns-in_err-id-clause-leaves g c = stops_here (state g.S.Store c.args.conn.now) (state g.S.Store c.last_id.new.conn) c.from_residual-in_err-id.result c.from_residual-in_err-id.ensures.0 (went_read (state g.S.Store c.args.conn.now) (state g.S.Store c.last_id.new.conn) c.last_id.result _ c.requires c.in_ok-last.was c.last_id.ensures)
+
+pub returns-in_err-insert-clause-leaves : goal.returns-in_err-insert-clause-leaves
+returns-in_err-insert-clause-leaves g c =
+    stops_write (state g.S.Store c.args.conn.now) (state g.S.Store c.last_id.new.conn) (state g.S.Store c.insert.new.conn) c.insert.result _ c.from_residual-in_err-insert.result c.from_residual-in_err-insert.ensures.0
+    (went_read (state g.S.Store c.args.conn.now) (state g.S.Store c.last_id.new.conn) c.last_id.result _ c.requires c.in_ok-last.was c.last_id.ensures) c.in_err-insert.was c.insert.ensures
+
+pub returns-in_err-insert-2-clause-leaves : goal.returns-in_err-insert-2-clause-leaves
+returns-in_err-insert-2-clause-leaves g c =
+    stops_write (state g.S.Store c.args.conn.now) (state g.S.Store c.insert.new.conn) (state g.S.Store c.insert-2.new.conn) c.insert-2.result _ c.from_residual-in_err-insert-2.result c.from_residual-in_err-insert-2.ensures.0
+    (went_write (state g.S.Store c.args.conn.now) (state g.S.Store c.last_id.new.conn) (state g.S.Store c.insert.new.conn) c.insert.result _ (went_read (state g.S.Store c.args.conn.now) (state g.S.Store c.last_id.new.conn) c.last_id.result _ c.requires c.in_ok-last.was c.last_id.ensures) c.in_ok-insert.was (λ clean at adds. adds_within (state g.S.Store c.last_id.new.conn) (state g.S.Store c.insert.new.conn) 7 _ clean at adds) c.insert.ensures) c.in_err-insert-2.was c.insert-2.ensures
+
+pub returns-clause-leaves : goal.returns-clause-leaves
+returns-clause-leaves g c =
+    ends (state g.S.Store c.args.conn.now) (state g.S.Store c.insert-2.new.conn) c.in_ok-id.id
+    (went_write (state g.S.Store c.args.conn.now) (state g.S.Store c.insert.new.conn) (state g.S.Store c.insert-2.new.conn) c.insert-2.result _
+    (went_write (state g.S.Store c.args.conn.now) (state g.S.Store c.last_id.new.conn) (state g.S.Store c.insert.new.conn) c.insert.result _ (went_read (state g.S.Store c.args.conn.now) (state g.S.Store c.last_id.new.conn) c.last_id.result _ c.requires c.in_ok-last.was c.last_id.ensures) c.in_ok-insert.was (λ clean at adds. adds_within (state g.S.Store c.last_id.new.conn) (state g.S.Store c.insert.new.conn) 7 _ clean at adds) c.insert.ensures) c.in_ok-insert-2.was (λ clean at adds. become_within (state g.S.Store c.insert.new.conn) (state g.S.Store c.insert-2.new.conn) 9 _ clean at adds.1.becomes) c.insert-2.ensures)

@@ -1,0 +1,11 @@
+use Rattle.sqlite.specs.Held.{state}
+use Rattle.reg_tables_meaning.proofs.PairsStand.{left}
+use Rattle.reg_tables_meaning.proofs.Stays.{with_owners}
+use Rattle.reg_tables_meaning.proofs.owners.remove.Goals as goal
+
+pub returns-clause-stands : goal.returns-clause-stands
+returns-clause-stands g c clean ids s h =
+    let old = (state g.S.Store c.args.conn.now).now.trees in
+    let new = (state g.S.Store c.remove.new.conn).now.trees in
+    let removed = c.in_ok-remove.ensures.changes clean in
+    with_owners ids s old new h.stands _ removed.others (left ids s.publications s.yanked old h.stands.crates s.owners (old 9) h.stands.owners c.args.crate_id c.args.account (new 9) removed.rows_are)

@@ -1,0 +1,13 @@
+use Rattle.std.proofs.Common.{sym, subst}
+use Rattle.std.specs.Prelude.{OnOk}
+use Rattle.sqlite.specs.Held.{state}
+use Rattle.reg_tables_meaning.specs.Calls.{Restricts}
+use Rattle.reg_tables_meaning.proofs.restricted.set.Goals as goal
+
+pub returns-then-restricted-clause-stands : goal.returns-then-restricted-clause-stands
+returns-then-restricted-clause-stands g c clean =
+    subst (λ b. OnOk c.restrict.result (Restricts b c.args.crate_id (state g.S.Store c.args.conn.now).now.trees (state g.S.Store c.restrict.new.conn).now.trees)) (sym c.if-restricted.true) (c.restrict.ensures.stands clean)
+
+pub returns-else-restricted-clause-stands : goal.returns-else-restricted-clause-stands
+returns-else-restricted-clause-stands g c clean =
+    subst (λ b. OnOk c.lift.result (Restricts b c.args.crate_id (state g.S.Store c.args.conn.now).now.trees (state g.S.Store c.lift.new.conn).now.trees)) (sym c.if-restricted.false) (c.lift.ensures.stands clean)

@@ -1,0 +1,40 @@
+use Rattle.std.proofs.Common.{◌+◌, take, arith, subst}
+use Rattle.sqlite.specs.State.{HasCleanDisk}
+use Rattle.sqlite.specs.Held.{state}
+use Rattle.reg_tables_schema.specs.Changes.{AddsColumns}
+use Rattle.reg_tables_meaning.specs.Stands.{scope_of}
+use Rattle.sqlite.proofs.StateLemmas.{survives_then}
+use Rattle.reg_tables_meaning.specs.Patterns.{GivesPatterns}
+use Rattle.reg_tables_schema.specs.Steps.{Within}
+use Rattle.reg_tables_meaning.proofs.TokenChanges.{gives_next, gives_all}
+use Rattle.reg_tables_meaning.proofs.Went.{ends, stops_here}
+use Rattle.reg_tables_meaning.proofs.Withins.{then_fails, within_then}
+use Rattle.reg_tables_meaning.proofs.tokens.add_scopes.Goals as goal
+
+pub loop-index-preserved : goal.loop-index-preserved
+loop-index-preserved g c =
+    let first = state g.S.Store c.args.conn.now in
+    let old = state g.S.Store c.loop-index.conn in
+    let new = state g.S.Store c.add_scope.new.conn in
+    let early : HasCleanDisk new → HasCleanDisk old = λ clean. omega (arith, clean, c.add_scope.ensures.leaves.survives.clean) in
+    let pattern = c.index-patterns-index.result in
+    let given : HasCleanDisk new → GivesPatterns c.args.token (take (c.loop-index.index + 1) c.args.patterns.now) first.now.trees new.now.trees = λ clean.
+    let added = subst (λ k. AddsColumns 5 (scope_of c.args.token (k, pattern)) old new) c.in_ok-place.ensures (c.in_ok-add_scope.ensures.added clean) in
+    gives_next c.args.token c.args.patterns.now c.loop-index.index pattern first.now.trees old new c.loop-index-test.true c.index-patterns-index.is (c.loop-index.invariant.0 (early clean)) added in
+    let within : HasCleanDisk new → Within first new = λ clean. within_then first old new (c.loop-index.invariant.1 (early clean)) (c.in_ok-add_scope.ensures.leaves.within clean) in
+    (given, within, survives_then first old new _ _ _ (λ _ _ h. h) (λ _ _ h. h) c.loop-index.invariant.2 c.add_scope.ensures.leaves.survives)
+
+pub returns-in_err-add_scope-clause-leaves : goal.returns-in_err-add_scope-clause-leaves
+returns-in_err-add_scope-clause-leaves g c =
+    then_fails (state g.S.Store c.args.conn.now) (state g.S.Store c.loop-index.conn) (state g.S.Store c.add_scope.new.conn) c.from_residual-in_err-add_scope.result c.from_residual-in_err-add_scope.ensures.0
+    c.loop-index.invariant.1 c.loop-index.invariant.2 c.in_err-add_scope.ensures.leaves.fails c.in_err-add_scope.ensures.leaves.survives
+
+pub returns-clause-given : goal.returns-clause-given
+returns-clause-given g c clean =
+    gives_all c.args.token c.args.patterns.now c.loop-index.index (state g.S.Store c.args.conn.now).now.trees (state g.S.Store c.loop-index.conn).now.trees c.loop-index-test.false (c.loop-index.invariant.0 clean)
+
+pub returns-in_err-place-clause-leaves : goal.returns-in_err-place-clause-leaves
+returns-in_err-place-clause-leaves g c = stops_here (state g.S.Store c.args.conn.now) (state g.S.Store c.loop-index.conn) c.from_residual.result c.from_residual.ensures.0 (record { within = c.loop-index.invariant.1; survives = c.loop-index.invariant.2 })
+
+pub returns-clause-leaves : goal.returns-clause-leaves
+returns-clause-leaves g c = ends (state g.S.Store c.args.conn.now) (state g.S.Store c.loop-index.conn) tt (record { within = c.loop-index.invariant.1; survives = c.loop-index.invariant.2 })

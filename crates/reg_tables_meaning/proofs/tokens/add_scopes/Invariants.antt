@@ -1,0 +1,15 @@
+use Rattle.std.proofs.Common.{take}
+use Rattle.sqlite.specs.Held.{state}
+use Rattle.sqlite.specs.State.{HasCleanDisk, Survives}
+use Rattle.reg_tables_meaning.specs.Patterns.{GivesPatterns}
+use Rattle.reg_tables_schema.specs.Steps.{Within}
+use Rattle.reg_tables_meaning.proofs.tokens.add_scopes.Given as goal
+
+-- the patterns before the index are given
+abbrev pub invariant-loop-index : goal.invariant-loop-index
+invariant-loop-index g l =
+    let old = state g.S.Store l.initial.conn in
+    let new = state g.S.Store l.conn in
+    (HasCleanDisk new → GivesPatterns l.token (take l.index l.patterns) old.now.trees new.now.trees)
+    × (HasCleanDisk new → Within old new)
+    × Survives old new (λ _. ⊥)

@@ -1,0 +1,103 @@
+//! How much the registry has.
+
+ghost use Rattle.std.specs.Prelude.{◌≡◌, ◌<◌, IfOk, length};
+ghost use Rattle.sqlite.specs.Held.{state};
+ghost use Rattle.reg_tables_schema.specs.Rows.{greatest_number};
+ghost use Rattle.reg_tables_schema.specs.States.{IsReady};
+ghost use Rattle.reg_tables_schema.specs.Statements.{rows_in};
+ghost use Rattle.reg_tables_schema.specs.Steps.{KeepsAll, Told};
+ghost use Rattle.reg_tables_meaning.specs.Calls.{Counted, CountsAll, ReachesCrates};
+ghost use Rattle.reg_tables_meaning.specs.Ids.{IsNext};
+ghost use Rattle.reg_model.specs.Crates.{crates};
+
+use reg_tables_sql::{accounts, crates, tokens};
+use sqlite::{Alter, Connection, Error};
+
+/// Numbers of accounts, tokens and crates.
+#[derive(Debug, Drop)]
+pub struct Counts {
+    pub accounts: u64,
+    pub tokens: u64,
+    pub crates: u64,
+}
+
+// SQL counts no further than its greatest number: what it answers there may be short.
+fn exact(n: u64) -> Result<u64, Error>
+    ensures { IfOk result (λ m. (m ≡ n) × (m < greatest_number)) }
+{
+    if n < i64::MAX as u64 {
+        Ok(n)
+    } else {
+        Err(Error::InvalidQuery)
+    }
+}
+
+fn count_accounts<S: Alter>(conn: &mut Connection<S>) -> Result<u64, Error>
+    requires { IsReady (state S.Store conn.old) }
+    ensures counted { Told S.Store conn.new result
+        (Counted (λ s. length s.accounts) (rows_in S.Store conn.old)) }
+    ensures same { KeepsAll S.Store conn.old conn.new result }
+{
+    let n = accounts::count(conn)?;
+    exact(n)
+}
+
+fn count_tokens<S: Alter>(conn: &mut Connection<S>) -> Result<u64, Error>
+    requires { IsReady (state S.Store conn.old) }
+    ensures counted { Told S.Store conn.new result
+        (Counted (λ s. length s.tokens) (rows_in S.Store conn.old)) }
+    ensures same { KeepsAll S.Store conn.old conn.new result }
+{
+    let n = tokens::count(conn)?;
+    exact(n)
+}
+
+fn count_crates<S: Alter>(conn: &mut Connection<S>) -> Result<u64, Error>
+    requires { IsReady (state S.Store conn.old) }
+    ensures counted { Told S.Store conn.new result (Counted crates (rows_in S.Store conn.old)) }
+    ensures same { KeepsAll S.Store conn.old conn.new result }
+{
+    let n = crates::count(conn)?;
+    exact(n)
+}
+
+// No fewer than the ids that rise up to the last one.
+fn bound(last: Option<u32>) -> u64
+    ensures { IsNext last result }
+{
+    match last {
+        None => 1,
+        Some(id) => u64::from(id) + 1,
+    }
+}
+
+/// Whether there are as many crates as this. They are counted only where their ids come near it.
+pub fn reaches_crates<S: Alter>(conn: &mut Connection<S>, number: u64) -> Result<bool, Error>
+    requires { IsReady (state S.Store conn.old) }
+    ensures told { Told S.Store conn.new result
+        (ReachesCrates number (rows_in S.Store conn.old)) }
+    ensures same { KeepsAll S.Store conn.old conn.new result }
+{
+    let last = crates::last_id(conn)?;
+    if bound(last) < number {
+        return Ok(false);
+    }
+    let n = count_crates(conn)?;
+    Ok(number <= n)
+}
+
+/// How many accounts, tokens and crates there are.
+pub fn count<S: Alter>(conn: &mut Connection<S>) -> Result<Counts, Error>
+    requires { IsReady (state S.Store conn.old) }
+    ensures counted { Told S.Store conn.new result (CountsAll (rows_in S.Store conn.old)) }
+    ensures same { KeepsAll S.Store conn.old conn.new result }
+{
+    let accounts = count_accounts(conn)?;
+    let tokens = count_tokens(conn)?;
+    let crates = count_crates(conn)?;
+    Ok(Counts {
+        accounts,
+        tokens,
+        crates,
+    })
+}

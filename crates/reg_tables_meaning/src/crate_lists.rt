@@ -1,0 +1,70 @@
+//! Selections of crates and of their versions.
+
+ghost use Rattle.sqlite.specs.Held.{state};
+ghost use Rattle.reg_tables_schema.specs.States.{IsReady};
+ghost use Rattle.reg_tables_schema.specs.Statements.{rows_in};
+ghost use Rattle.reg_tables_schema.specs.Steps.{KeepsAll, Told};
+ghost use Rattle.reg_tables_meaning.specs.Calls.{FindsArchive, FindsCrate, ListsCrates, ListsVersions};
+ghost use Rattle.reg_tables_sql.specs.Crates.{AreCrates, IsCrateOfCanon};
+ghost use Rattle.reg_tables_sql.specs.Versions.{AreVersionsOf};
+
+use reg_names::CanonText;
+use reg_tables_sql::archives;
+use reg_tables_sql::crates::{self, Crate};
+use reg_tables_sql::versions::{self, Version};
+use reg_versions::release_key;
+use sqlite::{Alter, Connection, Error};
+use std::alloc::Global;
+
+/// The crate with this canonical name, if there is one.
+pub fn find<S: Alter>(conn: &mut Connection<S>, text: &CanonText) -> Result<Option<Crate>, Error>
+    requires { IsReady (state S.Store conn.old) }
+    ensures rows { Told S.Store conn.new result
+        (IsCrateOfCanon text.now (rows_in S.Store conn.old)) }
+    ensures found { Told S.Store conn.new result (FindsCrate text.now (rows_in S.Store conn.old)) }
+    ensures same { KeepsAll S.Store conn.old conn.new result }
+{
+    crates::by_canon(conn, text.as_str())
+}
+
+/// The versions of a crate, oldest first.
+pub fn list<S: Alter>(
+    alloc: Global,
+    conn: &mut Connection<S>,
+    crate_id: u32,
+) -> Result<Vec<Version>, Error>
+    requires { IsReady (state S.Store conn.old) }
+    ensures rows { Told S.Store conn.new result
+        (λ list. AreVersionsOf crate_id (rows_in S.Store conn.old) list.items) }
+    ensures found { Told S.Store conn.new result
+        (λ list. ListsVersions crate_id (rows_in S.Store conn.old) list.items) }
+    ensures same { KeepsAll S.Store conn.old conn.new result }
+{
+    versions::of_crate(alloc, conn, crate_id)
+}
+
+/// The archive of this very version of a crate.
+pub fn archive<S: Alter>(
+    conn: &mut Connection<S>,
+    crate_id: u32,
+    text: &str,
+) -> Result<Option<Vec<u8>>, Error>
+    requires { IsReady (state S.Store conn.old) }
+    ensures found { Told S.Store conn.new result
+        (FindsArchive crate_id text.now (rows_in S.Store conn.old)) }
+    ensures same { KeepsAll S.Store conn.old conn.new result }
+{
+    archives::of_version(conn, crate_id, release_key(text), text)
+}
+
+/// All crates, in the order of their canonical names.
+pub fn all<S: Alter>(alloc: Global, conn: &mut Connection<S>) -> Result<Vec<Crate>, Error>
+    requires { IsReady (state S.Store conn.old) }
+    ensures rows { Told S.Store conn.new result
+        (λ list. AreCrates (rows_in S.Store conn.old) list.items) }
+    ensures found { Told S.Store conn.new result
+        (λ list. ListsCrates (rows_in S.Store conn.old) list.items) }
+    ensures same { KeepsAll S.Store conn.old conn.new result }
+{
+    crates::all(alloc, conn)
+}

@@ -1,0 +1,144 @@
+//! Changes of crates and their versions.
+
+ghost use Rattle.std.specs.Prelude.{◌<◌, ◌^◌, IfOk};
+ghost use Rattle.sqlite.specs.Held.{state};
+ghost use Rattle.reg_tables_schema.specs.States.{IsReady};
+ghost use Rattle.reg_tables_schema.specs.Statements.{rows_in};
+ghost use Rattle.reg_tables_schema.specs.Steps.{Done, Steps, Told};
+ghost use Rattle.reg_tables_meaning.specs.Calls.{AddsFirst, AddsNext, SetsYanked, published};
+ghost use Rattle.reg_tables_meaning.specs.Additions.{AddsCrate, AddsVersion};
+ghost use Rattle.reg_tables_meaning.specs.Ids.{IsNext};
+
+use crate::accounts::next_id;
+use crate::summaries;
+use reg_line::Digest;
+use reg_names::{CrateName, canon};
+use reg_tables_sql::{archives, crates, owners, versions};
+use reg_versions::release_key;
+use sqlite::{Alter, Connection, Error};
+
+/// A version of a crate to be added.
+#[derive(Clone, Copy, Debug)]
+pub struct NewVersion<'a> {
+    pub text: &'a str,
+    pub description: Option<&'a str>,
+    pub stem: &'a [u8],
+    pub digest: &'a Digest,
+    pub archive: &'a [u8],
+}
+
+// One more than the greatest id; none where SQL's integers hold no more.
+fn next_version(last: Option<u64>) -> Result<u64, Error>
+    ensures { IfOk result (λ id. IsNext last id × (id < 2 ^ 63)) }
+{
+    match last {
+        None => Ok(1),
+        Some(id) => {
+            if id < i64::MAX as u64 {
+                Ok(id + 1)
+            } else {
+                Err(Error::InvalidQuery)
+            }
+        }
+    }
+}
+
+fn insert_crate<S: Alter>(
+    conn: &mut Connection<S>,
+    name: &CrateName,
+    owner: u32,
+) -> Result<u32, Error>
+    requires { IsReady (state S.Store conn.old) }
+    ensures added { Told S.Store conn.new result (λ id.
+        AddsCrate id name.now owner (rows_in S.Store conn.old) (rows_in S.Store conn.new)) }
+    ensures leaves { Steps S.Store conn.old conn.new result }
+{
+    let last = crates::last_id(conn)?;
+    let id = next_id(last)?;
+    crates::insert(conn, id, canon(name).as_str(), name.as_str())?;
+    owners::insert(conn, id, owner)?;
+    Ok(id)
+}
+
+fn insert_version<S: Alter>(
+    conn: &mut Connection<S>,
+    crate_id: u32,
+    version: &NewVersion<'_>,
+) -> Result<(), Error>
+    requires { IsReady (state S.Store conn.old) }
+    ensures added { Done S.Store conn.new result ((name : _)
+        → AddsVersion crate_id (published name version.now)
+        (rows_in S.Store conn.old) (rows_in S.Store conn.new)) }
+    ensures leaves { Steps S.Store conn.old conn.new result }
+{
+    let last = versions::last_id(conn)?;
+    let id = next_version(last)?;
+    let release = release_key(version.text);
+    versions::insert(
+        conn,
+        id,
+        crate_id,
+        version.text,
+        release,
+        version.digest,
+        version.stem,
+        version.description,
+    )?;
+    archives::insert(conn, id, version.archive)?;
+    Ok(())
+}
+
+/// Adds a crate with its first version and its owner, and answers its id.
+#[tactic(auto, using(crate::proofs::Withins::fails_after, crate::proofs::Withins::within_then))]
+pub fn add_new<S: Alter>(
+    conn: &mut Connection<S>,
+    name: &CrateName,
+    owner: u32,
+    version: &NewVersion<'_>,
+) -> Result<u32, Error>
+    requires { IsReady (state S.Store conn.old) }
+    ensures stands { Told S.Store conn.new result
+        (AddsFirst name.now owner version.now
+        (rows_in S.Store conn.old) (rows_in S.Store conn.new)) }
+    ensures leaves { Steps S.Store conn.old conn.new result }
+{
+    let id = insert_crate(conn, name, owner)?;
+    insert_version(conn, id, version)?;
+    summaries::insert(conn, id)?;
+    Ok(id)
+}
+
+/// Adds a version to a crate that is there.
+pub fn add_next<S: Alter>(
+    conn: &mut Connection<S>,
+    crate_id: u32,
+    version: &NewVersion<'_>,
+) -> Result<(), Error>
+    requires { IsReady (state S.Store conn.old) }
+    ensures stands { Done S.Store conn.new result
+        (AddsNext crate_id version.now (rows_in S.Store conn.old) (rows_in S.Store conn.new)) }
+    ensures leaves { Steps S.Store conn.old conn.new result }
+{
+    insert_version(conn, crate_id, version)?;
+    summaries::renew(conn, crate_id)?;
+    Ok(())
+}
+
+/// Yanks a version of a crate that is there, or takes that back.
+#[tactic(auto, using(crate::proofs::Withins::refused_fails, crate::proofs::Withins::touch_within))]
+pub fn mark<S: Alter>(
+    conn: &mut Connection<S>,
+    crate_id: u32,
+    text: &str,
+    yanked: bool,
+) -> Result<(), Error>
+    requires { IsReady (state S.Store conn.old) }
+    ensures stands { Done S.Store conn.new result
+        (SetsYanked crate_id text.now yanked
+        (rows_in S.Store conn.old) (rows_in S.Store conn.new)) }
+    ensures leaves { Steps S.Store conn.old conn.new result }
+{
+    versions::set_yanked(conn, crate_id, release_key(text), text, yanked)?;
+    summaries::renew(conn, crate_id)?;
+    Ok(())
+}

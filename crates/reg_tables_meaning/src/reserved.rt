@@ -1,0 +1,50 @@
+//! Reserved names: changes of the registry that the rows stand for, and what they show of it.
+
+ghost use Rattle.sqlite.specs.Held.{state};
+ghost use Rattle.reg_tables_schema.specs.States.{IsReady};
+ghost use Rattle.reg_tables_schema.specs.Statements.{rows_in};
+ghost use Rattle.reg_tables_schema.specs.Steps.{Done, KeepsAll, Steps, Told};
+ghost use Rattle.reg_tables_meaning.specs.Calls.{TellsReserved, Turns};
+ghost use Rattle.reg_model.specs.Changes.{with_reserved, without_reserved};
+
+use reg_tables_sql::reserved;
+use sqlite::{Alter, Connection, Error};
+
+/// Reserves a canonical name.
+pub fn add<S: Alter>(conn: &mut Connection<S>, canon: &str) -> Result<(), Error>
+    requires { IsReady (state S.Store conn.old) }
+    ensures stands { Done S.Store conn.new result
+        (Turns (λ ids. with_reserved canon.now)
+        (rows_in S.Store conn.old) (rows_in S.Store conn.new)) }
+    ensures leaves { Steps S.Store conn.old conn.new result }
+{
+    if reserved::is_there(conn, canon)? {
+        return Ok(());
+    }
+    reserved::insert(conn, canon)?;
+    Ok(())
+}
+
+/// Sets a reserved name free.
+#[tactic(auto, using(crate::proofs::Withins::refused_fails, crate::proofs::Withins::become_within))]
+pub fn free<S: Alter>(conn: &mut Connection<S>, canon: &str) -> Result<(), Error>
+    requires { IsReady (state S.Store conn.old) }
+    ensures stands { Done S.Store conn.new result
+        (Turns (λ ids. without_reserved canon.now)
+        (rows_in S.Store conn.old) (rows_in S.Store conn.new)) }
+    ensures leaves { Steps S.Store conn.old conn.new result }
+{
+    reserved::remove(conn, canon)?;
+    Ok(())
+}
+
+/// Whether the administrator reserved the name.
+pub fn has<S: Alter>(conn: &mut Connection<S>, canon: &str) -> Result<bool, Error>
+    requires { IsReady (state S.Store conn.old) }
+    ensures found { Told S.Store conn.new result
+        (TellsReserved canon.now (rows_in S.Store conn.old)) }
+    ensures same { KeepsAll S.Store conn.old conn.new result }
+{
+    let there = reserved::is_there(conn, canon)?;
+    Ok(there)
+}

@@ -1,0 +1,65 @@
+//! Restricted crates: changes of the registry that the rows stand for, and what they show of it.
+
+ghost use Rattle.std.proofs.Common.{false, true};
+ghost use Rattle.sqlite.specs.Held.{state};
+ghost use Rattle.reg_tables_schema.specs.States.{IsReady};
+ghost use Rattle.reg_tables_schema.specs.Statements.{rows_in};
+ghost use Rattle.reg_tables_schema.specs.Steps.{Done, KeepsAll, Steps, Told};
+ghost use Rattle.reg_tables_meaning.specs.Calls.{Restricts, TellsRestricted};
+
+use reg_tables_sql::{crates, restricted};
+use sqlite::{Alter, Connection, Error};
+
+fn restrict<S: Alter>(conn: &mut Connection<S>, crate_id: u32) -> Result<(), Error>
+    requires { IsReady (state S.Store conn.old) }
+    ensures stands { Done S.Store conn.new result
+        (Restricts true crate_id (rows_in S.Store conn.old) (rows_in S.Store conn.new)) }
+    ensures leaves { Steps S.Store conn.old conn.new result }
+{
+    let is_crate = crates::has_id(conn, crate_id)?;
+    if !is_crate {
+        return Ok(());
+    }
+    let is_restricted = restricted::is_there(conn, crate_id)?;
+    if is_restricted {
+        return Ok(());
+    }
+    restricted::insert(conn, crate_id)?;
+    Ok(())
+}
+
+#[tactic(auto, using(crate::proofs::Withins::refused_fails, crate::proofs::Withins::become_within))]
+fn lift<S: Alter>(conn: &mut Connection<S>, crate_id: u32) -> Result<(), Error>
+    requires { IsReady (state S.Store conn.old) }
+    ensures stands { Done S.Store conn.new result
+        (Restricts false crate_id (rows_in S.Store conn.old) (rows_in S.Store conn.new)) }
+    ensures leaves { Steps S.Store conn.old conn.new result }
+{
+    restricted::remove(conn, crate_id)?;
+    Ok(())
+}
+
+/// Makes a crate restricted, or open to all. A crate that is not there is made neither.
+pub fn set<S: Alter>(conn: &mut Connection<S>, crate_id: u32, restricted: bool) -> Result<(), Error>
+    requires { IsReady (state S.Store conn.old) }
+    ensures stands { Done S.Store conn.new result
+        (Restricts restricted crate_id (rows_in S.Store conn.old) (rows_in S.Store conn.new)) }
+    ensures leaves { Steps S.Store conn.old conn.new result }
+{
+    if restricted {
+        restrict(conn, crate_id)
+    } else {
+        lift(conn, crate_id)
+    }
+}
+
+/// Whether a crate is restricted.
+pub fn is<S: Alter>(conn: &mut Connection<S>, crate_id: u32) -> Result<bool, Error>
+    requires { IsReady (state S.Store conn.old) }
+    ensures found { Told S.Store conn.new result
+        (TellsRestricted crate_id (rows_in S.Store conn.old)) }
+    ensures same { KeepsAll S.Store conn.old conn.new result }
+{
+    let there = restricted::is_there(conn, crate_id)?;
+    Ok(there)
+}

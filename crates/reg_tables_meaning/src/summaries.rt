@@ -1,0 +1,151 @@
+//! The kept summaries of crates: the highest version of each, and how long its index file is.
+//!
+//! A summary is made anew from the rows of its crate's versions after each change of them.
+
+ghost use Rattle.std.specs.Prelude.{◌≡◌, ◌+◌, [], IfOk, IsTrue, map, slice_get, unwrap_or};
+ghost use Rattle.std.specs.Option.{option_map};
+ghost use Rattle.sqlite.specs.Held.{state};
+ghost use Rattle.reg_tables_schema.specs.States.{IsReady};
+ghost use Rattle.reg_tables_schema.specs.Statements.{rows_in};
+ghost use Rattle.reg_tables_schema.specs.Steps.{Done, KeepsAll, Steps, Told};
+ghost use Rattle.reg_tables_meaning.specs.Calls.{FindsSummary};
+ghost use Rattle.reg_tables_meaning.specs.Summaries.{highest_in, length_in, line_length, read_mark, shown_mark};
+ghost use Rattle.reg_tables_meaning.specs.SummaryChanges.{AddsSummary, AreNumbers, RenewsSummary};
+
+use reg_line::line_len;
+use reg_tables_sql::summaries::{self, Summary};
+use reg_tables_sql::versions::{self, VersionMark};
+use reg_versions::{Release, VersionFault, highest};
+use sqlite::{Alter, Connection, Error};
+use std::alloc::{AllocError, Global};
+
+/// What a summary says of its crate.
+#[derive(Clone, Copy, Debug)]
+pub struct Numbers {
+    pub highest: u64,
+    pub index_length: u64,
+}
+
+fn read(alloc: Global, mark: &VersionMark) -> Result<(Release, bool), Error>
+    ensures { IfOk result (λ r. r ≡ read_mark (shown_mark mark.now)) }
+{
+    match Release::parse(alloc, mark.vers.as_str()) {
+        Ok(release) => Ok((release, mark.yanked)),
+        Err(VersionFault::Bad) => Err(Error::InvalidQuery),
+        Err(VersionFault::Memory) => Err(Error::from(AllocError)),
+    }
+}
+
+fn read_each(alloc: Global, marks: &[VersionMark]) -> Result<Vec<(Release, bool)>, Error>
+    ensures { IfOk result (λ v. v.items ≡ map (λ m. read_mark (shown_mark m)) marks.now) }
+{
+    let mut releases = Vec::new(alloc);
+    for mark in marks {
+        releases.push(read(alloc, mark)?)?;
+    }
+    Ok(releases)
+}
+
+fn id_at(marks: &[VersionMark], place: usize) -> u64
+    ensures { result ≡ unwrap_or (option_map (λ m. m.id) (slice_get marks.now place)) 0 }
+{
+    match marks.get(place) {
+        Some(mark) => mark.id,
+        None => 0,
+    }
+}
+
+/// The id of the highest of these versions.
+fn highest_id(alloc: Global, marks: &[VersionMark]) -> Result<u64, Error>
+    ensures { IfOk result (λ id. id ≡ highest_in (map shown_mark marks.now)) }
+{
+    let releases = read_each(alloc, marks)?;
+    match highest(&releases) {
+        Some(place) => Ok(id_at(marks, place)),
+        None => Ok(0),
+    }
+}
+
+fn with_line(before: u64, mark: &VersionMark) -> Result<u64, Error>
+    ensures { IfOk result (λ n. n ≡ before + line_length (shown_mark mark.now)) }
+{
+    match line_len(mark.stem_length, mark.yanked) {
+        Some(line) => match before.checked_add(line) {
+            Some(all) => Ok(all),
+            None => Err(Error::InvalidQuery),
+        },
+        None => Err(Error::InvalidQuery),
+    }
+}
+
+/// How long the index file is that these versions make.
+fn index_length(marks: &[VersionMark]) -> Result<u64, Error>
+    ensures { IfOk result (λ n. n ≡ length_in (map shown_mark marks.now)) }
+{
+    let mut length = 0;
+    for mark in marks {
+        length = with_line(length, mark)?;
+    }
+    Ok(length)
+}
+
+/// What the versions of a crate give, in the order of publication. A text that is no version is
+/// an error.
+pub fn numbers_in(alloc: Global, marks: &[VersionMark]) -> Result<Numbers, Error>
+    ensures highest { IfOk result (λ n. n.highest ≡ highest_in (map shown_mark marks.now)) }
+    ensures length { IfOk result (λ n. n.index_length ≡ length_in (map shown_mark marks.now)) }
+{
+    let highest = highest_id(alloc, marks)?;
+    let index_length = index_length(marks)?;
+    Ok(Numbers {
+        highest,
+        index_length,
+    })
+}
+
+/// What the summary of a crate says by the rows of its versions.
+fn numbers_of<S: Alter>(conn: &mut Connection<S>, crate_id: u32) -> Result<Numbers, Error>
+    requires { IsReady (state S.Store conn.old) }
+    ensures told { Told S.Store conn.new result
+        (λ n. AreNumbers crate_id (rows_in S.Store conn.old) n.highest n.index_length) }
+    ensures same { KeepsAll S.Store conn.old conn.new result }
+{
+    let marks = versions::marks_of(conn, crate_id)?;
+    let alloc = *marks.allocator();
+    let numbers = numbers_in(alloc, &marks)?;
+    Ok(numbers)
+}
+
+/// Adds the summary of a crate that has none.
+pub(crate) fn insert<S: Alter>(conn: &mut Connection<S>, crate_id: u32) -> Result<(), Error>
+    requires { IsReady (state S.Store conn.old) }
+    ensures added { Done S.Store conn.new result
+        (AddsSummary crate_id (rows_in S.Store conn.old) (rows_in S.Store conn.new)) }
+    ensures leaves { Steps S.Store conn.old conn.new result }
+{
+    let numbers = numbers_of(conn, crate_id)?;
+    summaries::insert(conn, crate_id, numbers.highest, numbers.index_length)?;
+    Ok(())
+}
+
+/// Makes the summary of a crate say what its versions are now.
+pub(crate) fn renew<S: Alter>(conn: &mut Connection<S>, crate_id: u32) -> Result<(), Error>
+    requires { IsReady (state S.Store conn.old) }
+    ensures renewed { Done S.Store conn.new result
+        (RenewsSummary crate_id (rows_in S.Store conn.old) (rows_in S.Store conn.new)) }
+    ensures leaves { Steps S.Store conn.old conn.new result }
+{
+    let numbers = numbers_of(conn, crate_id)?;
+    summaries::update(conn, crate_id, numbers.highest, numbers.index_length)?;
+    Ok(())
+}
+
+/// The summary of a crate.
+pub fn of_crate<S: Alter>(conn: &mut Connection<S>, crate_id: u32) -> Result<Option<Summary>, Error>
+    requires { IsReady (state S.Store conn.old) }
+    ensures found { Told S.Store conn.new result
+        (FindsSummary crate_id (rows_in S.Store conn.old)) }
+    ensures same { KeepsAll S.Store conn.old conn.new result }
+{
+    summaries::of_crate(conn, crate_id)
+}

@@ -1,0 +1,62 @@
+//! Tables of schema 1 brought to schema 2, in one transaction.
+
+ghost use Rattle.std.specs.Prelude.{OnErr, OnOk};
+ghost use Rattle.sqlite.specs.Held.{state};
+ghost use Rattle.sqlite.specs.State.{HasCleanDisk, KeepsCommit, Survives};
+ghost use Rattle.reg_tables_schema.specs.States.{GoesBack, IsOurs, IsReady, IsUndone};
+ghost use Rattle.reg_tables_meaning.specs.Upgrades.{BeginsSecond, Upgrades};
+
+use reg_tables_schema::{Edition, add_tables, begin, undo};
+use reg_tables_sql::about;
+use sqlite::{Alter, Connection, Error};
+
+#[tactic(auto, using(crate::proofs::Raising::upgrades))]
+fn extend<S: Alter>(conn: &mut Connection<S>) -> Result<(), Error>
+    requires { IsOurs Edition.First (state S.Store conn.old) }
+    ensures upgrades { HasCleanDisk (state S.Store conn.new) → OnOk result
+        (Upgrades (state S.Store conn.old) (state S.Store conn.new)) }
+    ensures kept { HasCleanDisk (state S.Store conn.new) → OnErr result
+        (KeepsCommit (state S.Store conn.old) (state S.Store conn.new)) }
+    ensures survives { Survives (state S.Store conn.old) (state S.Store conn.new) (λ _. ⊥) }
+{
+    begin(conn)?;
+    add_tables(conn)?;
+    about::set_second(conn)?;
+    Ok(())
+}
+
+fn begin_on<S: Alter>(conn: &mut Connection<S>, edition: Edition) -> Result<(), Error>
+    requires { IsOurs edition (state S.Store conn.old) }
+    ensures begun { HasCleanDisk (state S.Store conn.new) → OnOk result
+        (BeginsSecond edition (state S.Store conn.old) (state S.Store conn.new)) }
+    ensures kept { HasCleanDisk (state S.Store conn.new) → OnErr result
+        (KeepsCommit (state S.Store conn.old) (state S.Store conn.new)) }
+    ensures survives { Survives (state S.Store conn.old) (state S.Store conn.new) (λ _. ⊥) }
+{
+    match edition {
+        Edition::First => extend(conn)?,
+        Edition::Second => {
+            begin(conn)?;
+        }
+    }
+    Ok(())
+}
+
+/// Begins a transaction that sees schema 2. Where that fails, none is open.
+pub fn begin_second<S: Alter>(conn: &mut Connection<S>, edition: Edition) -> Result<(), Error>
+    requires { IsOurs edition (state S.Store conn.old) }
+    ensures begun { HasCleanDisk (state S.Store conn.new) → OnOk result
+        (BeginsSecond edition (state S.Store conn.old) (state S.Store conn.new)) }
+    ensures back { OnOk result (GoesBack edition (state S.Store conn.new)) }
+    ensures ready { OnOk result (IsReady (state S.Store conn.new)) }
+    ensures undone { HasCleanDisk (state S.Store conn.new) → OnErr result
+        (IsUndone (state S.Store conn.old) (state S.Store conn.new)) }
+    ensures ours { OnErr result (IsOurs edition (state S.Store conn.new)) }
+    ensures survives { Survives (state S.Store conn.old) (state S.Store conn.new) (λ _. ⊥) }
+{
+    if let Err(fault) = begin_on(conn, edition) {
+        undo(conn);
+        return Err(fault);
+    }
+    Ok(())
+}

@@ -1,0 +1,30 @@
+use Rattle.std.proofs.Common.{rules, arith, ◌≡◌, [], ◌∷◌, refl, subst, ◌∙◌, pos, map}
+use Rattle.std.proofs.lemmas.List.{map-append}
+use Rattle.sqlite.specs.Held.{state}
+use Rattle.sqlite.specs.declared.types.Value.TheVariants.{Int}
+use Rattle.sqlite.specs.State.{HasCleanDisk}
+use Rattle.reg_tables_sql.specs.Stems.{columns_of_stem, entries_text}
+use Rattle.reg_tables_meaning.proofs.IndexWalk.{entries_read}
+use Rattle.reg_tables_meaning.proofs.Walking.{walked_all, walked_as}
+use Rattle.reg_tables_rows.proofs.entries.index_entries.Goals as goal
+
+pub returns-in_default-clause-entries : goal.returns-in_default-clause-entries
+returns-in_default-clause-entries g c clean =
+    let now = c.next.follows.lender-at-none in
+    let back : c.conn-in_default-1.given.0 ≡ now.conn.now = search rules in
+    let late : HasCleanDisk (state g.S.Store now.conn.now) = subst (λ w. HasCleanDisk (state g.S.Store w)) back clean in
+    let moved = c.next.follows.holds-at-none in
+    let early : HasCleanDisk (state g.S.Store c.rows.rows.conn.now) = omega (arith, moved.survives.clean, late) in
+    let i = c.rows.invariant.1 in
+    let given = map columns_of_stem c.rows.list.items in
+    let all = walked_all g.S.Store entries_text (Int (pos c.args.crate_id) ∷ []) c.args.conn.now c.rows.rows now given i c.in_ok-row.field-0 (rw c.in_default.is refl) (rw c.in_ok-row.was at moved) late in
+    entries_read g.S.Store c.args.conn.now c.rows.rows.conn.now c.args.crate_id given c.requires early i (state g.S.Store now.conn.now) all
+
+pub rows-preserved : goal.rows-preserved
+rows-preserved g c =
+    let i = c.rows.invariant.1 in
+    let moved = c.next.follows.holds-at-none in
+    let more = map-append columns_of_stem c.rows.list.items (c.in_ok-from_row.field-0 ∷ []) in (
+      moved.same_reference ∙ c.rows.invariant.0,
+      rw (c.in_ok-push.ensures.items, more) (walked_as g.S.Store entries_text (Int (pos c.args.crate_id) ∷ []) c.args.conn.now c.rows.rows c.next.follows.lender-at-none (map columns_of_stem c.rows.list.items) i c.in-Some.row (columns_of_stem c.in_ok-from_row.field-0) c.in_ok-from_row.ensures (rw (c.in_ok-row.was, c.in-Some.is) at moved)),
+    )

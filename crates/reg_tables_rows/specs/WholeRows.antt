@@ -1,0 +1,46 @@
+-- All rows of the tables, read as records.
+use Rattle.std.specs.Prelude.{Some, string_bytes}
+use Rattle.sqlite.specs.Tree.{Trees}
+use Rattle.sqlite_schema.specs.Rules.{Obeys}
+use Rattle.reg_tables_schema.specs.Places.{crates_tree, owners_tree, readers_tree, reserved_tree, versions_tree}
+use Rattle.reg_tables_schema.specs.Schema.{ours}
+use Rattle.reg_tables_sql.specs.Abouts.{IsBaseOf}
+use Rattle.reg_tables_sql.specs.Accounts.{AreAccounts}
+use Rattle.reg_tables_sql.specs.Archives.{AreArchiveIds}
+use Rattle.reg_tables_sql.specs.Crates.{AreCratesById}
+use Rattle.reg_tables_sql.specs.Owners.{AreOwnerships}
+use Rattle.reg_tables_sql.specs.Pairs.{ArePairs}
+use Rattle.reg_tables_sql.specs.Reserved.{AreReserved}
+use Rattle.reg_tables_sql.specs.Restricted.{AreRestricted}
+use Rattle.reg_tables_sql.specs.Scopes.{AreScopes}
+use Rattle.reg_tables_sql.specs.Summaries.{AreSummaries}
+use Rattle.reg_tables_sql.specs.Tokens.{AreTokens}
+use Rattle.reg_tables_sql.specs.Versions.{AreVersions}
+use Rattle.reg_tables_rows.specs.declared.all_rows.AllRows.{AllRows}
+use Rattle.reg_tables_meaning.specs.Stands.{HaveOwnRowids}
+
+-- in none of these tables two rows have one rowid
+pub record AreApart (db : Trees) : Type 0 where
+  pub crates : HaveOwnRowids (db crates_tree)
+  pub versions : HaveOwnRowids (db versions_tree)
+  pub owners : HaveOwnRowids (db owners_tree)
+  pub readers : HaveOwnRowids (db readers_tree)
+  pub reserved : HaveOwnRowids (db reserved_tree)
+
+-- there is this base; the records are the rows of their tables, in the order of their keys; rows
+-- have rowids of their own; and they keep the rules of our schema
+pub record AreAllRows (it : AllRows) (db : Trees) : Type 0 where
+  pub base : IsBaseOf db (Some (string_bytes it.base))
+  pub accounts : AreAccounts db it.accounts.items
+  pub tokens : AreTokens db it.tokens.items
+  pub scopes : AreScopes db it.scopes.items
+  pub crates : AreCratesById db it.crates.items
+  pub owners : AreOwnerships db it.owners.items
+  pub versions : AreVersions db it.versions.items
+  pub archives : AreArchiveIds db it.archives.items
+  pub reserved : AreReserved db it.reserved.items
+  pub summaries : AreSummaries db it.summaries.items
+  pub restricted : AreRestricted db it.restricted.items
+  pub readers : ArePairs readers_tree db it.readers.items
+  pub apart : AreApart db
+  pub obeys : Obeys ours db

@@ -1,0 +1,239 @@
+//! All rows of the tables, as the checks on opening read them.
+
+ghost use Rattle.std.specs.Prelude.{Some, string_bytes};
+ghost use Rattle.sqlite.specs.Held.{state};
+ghost use Rattle.sqlite_schema.specs.Rules.{Obeys};
+ghost use Rattle.reg_tables_schema.specs.Places.{readers_tree};
+ghost use Rattle.reg_tables_schema.specs.Schema.{ours};
+ghost use Rattle.reg_tables_schema.specs.States.{IsReady};
+ghost use Rattle.reg_tables_schema.specs.Statements.{rows_in};
+ghost use Rattle.reg_tables_schema.specs.Steps.{Done, KeepsAll, Told};
+ghost use Rattle.reg_tables_sql.specs.Abouts.{IsBaseOf};
+ghost use Rattle.reg_tables_sql.specs.Accounts.{AreAccounts};
+ghost use Rattle.reg_tables_sql.specs.Archives.{AreArchiveIds};
+ghost use Rattle.reg_tables_sql.specs.Crates.{AreCratesById};
+ghost use Rattle.reg_tables_sql.specs.Owners.{AreOwnerships};
+ghost use Rattle.reg_tables_sql.specs.Pairs.{ArePairs};
+ghost use Rattle.reg_tables_sql.specs.Reserved.{AreReserved};
+ghost use Rattle.reg_tables_sql.specs.Restricted.{AreRestricted};
+ghost use Rattle.reg_tables_sql.specs.Scopes.{AreScopes};
+ghost use Rattle.reg_tables_sql.specs.Summaries.{AreSummaries};
+ghost use Rattle.reg_tables_sql.specs.Tokens.{AreTokens};
+ghost use Rattle.reg_tables_sql.specs.Versions.{AreVersions};
+ghost use Rattle.reg_tables_rows.specs.WholeRows.{AreAllRows, AreApart};
+
+use crate::apart::check_rowids;
+use reg_tables_sql::accounts::Account;
+use reg_tables_sql::crates::Crate;
+use reg_tables_sql::owners::Ownership;
+use reg_tables_sql::pairs::Pair;
+use reg_tables_sql::scopes::Scope;
+use reg_tables_sql::summaries::Summary;
+use reg_tables_sql::tokens::Token;
+use reg_tables_sql::versions::Version;
+use reg_tables_sql::{
+    about, accounts, archives, crates, owners, readers, reserved, restricted, scopes, summaries,
+    tokens, versions,
+};
+use sqlite::{Alter, Connection, Error};
+use std::alloc::Global;
+
+/// The rows of all tables, each table in the order of its key. Of the archives there are the ids
+/// alone.
+#[derive(Drop)]
+pub struct AllRows {
+    pub base: String,
+    pub accounts: Vec<Account>,
+    pub tokens: Vec<Token>,
+    pub scopes: Vec<Scope>,
+    pub crates: Vec<Crate>,
+    pub owners: Vec<Ownership>,
+    pub versions: Vec<Version>,
+    pub archives: Vec<u64>,
+    pub reserved: Vec<String>,
+    pub summaries: Vec<Summary>,
+    pub restricted: Vec<u32>,
+    pub readers: Vec<Pair>,
+}
+
+/// The rows that tokens are of.
+#[derive(Drop)]
+struct TokenTables {
+    accounts: Vec<Account>,
+    tokens: Vec<Token>,
+    scopes: Vec<Scope>,
+}
+
+/// The rows that crates are of.
+#[derive(Drop)]
+struct CrateTables {
+    crates: Vec<Crate>,
+    owners: Vec<Ownership>,
+    versions: Vec<Version>,
+}
+
+/// What is kept of crates beside their versions.
+#[derive(Drop)]
+struct KeptTables {
+    summaries: Vec<Summary>,
+    restricted: Vec<u32>,
+    readers: Vec<Pair>,
+}
+
+/// All other rows.
+#[derive(Drop)]
+struct OtherTables {
+    base: String,
+    archives: Vec<u64>,
+    reserved: Vec<String>,
+}
+
+fn token_tables<S: Alter>(alloc: Global, conn: &mut Connection<S>) -> Result<TokenTables, Error>
+    requires { IsReady (state S.Store conn.old) }
+    ensures accounts { Told S.Store conn.new result
+        (λ it. AreAccounts (rows_in S.Store conn.old) it.accounts.items) }
+    ensures tokens { Told S.Store conn.new result
+        (λ it. AreTokens (rows_in S.Store conn.old) it.tokens.items) }
+    ensures scopes { Told S.Store conn.new result
+        (λ it. AreScopes (rows_in S.Store conn.old) it.scopes.items) }
+    ensures same { KeepsAll S.Store conn.old conn.new result }
+{
+    let accounts = accounts::all(alloc, conn)?;
+    let tokens = tokens::all(alloc, conn)?;
+    let scopes = scopes::all(alloc, conn)?;
+    Ok(TokenTables {
+        accounts,
+        tokens,
+        scopes,
+    })
+}
+
+// Rows that a connection shows keep the rules of its schema.
+fn see_rules<S: Alter>(conn: &mut Connection<S>) -> Result<(), Error>
+    requires { IsReady (state S.Store conn.old) }
+    ensures obeys { Done S.Store conn.new result (Obeys ours (rows_in S.Store conn.old)) }
+    ensures same { KeepsAll S.Store conn.old conn.new result }
+{
+    let _schema = conn.schema();
+    Ok(())
+}
+
+// That rows have rowids of their own is seen before any is read.
+fn crate_tables<S: Alter>(alloc: Global, conn: &mut Connection<S>) -> Result<CrateTables, Error>
+    requires { IsReady (state S.Store conn.old) }
+    ensures crates { Told S.Store conn.new result
+        (λ it. AreCratesById (rows_in S.Store conn.old) it.crates.items) }
+    ensures owners { Told S.Store conn.new result
+        (λ it. AreOwnerships (rows_in S.Store conn.old) it.owners.items) }
+    ensures versions { Told S.Store conn.new result
+        (λ it. AreVersions (rows_in S.Store conn.old) it.versions.items) }
+    ensures apart { Done S.Store conn.new result (AreApart (rows_in S.Store conn.old)) }
+    ensures obeys { Done S.Store conn.new result (Obeys ours (rows_in S.Store conn.old)) }
+    ensures same { KeepsAll S.Store conn.old conn.new result }
+{
+    see_rules(conn)?;
+    check_rowids(alloc, conn)?;
+    let crates = crates::all_by_id(alloc, conn)?;
+    let owners = owners::all(alloc, conn)?;
+    let versions = versions::all(alloc, conn)?;
+    Ok(CrateTables {
+        crates,
+        owners,
+        versions,
+    })
+}
+
+fn kept_tables<S: Alter>(alloc: Global, conn: &mut Connection<S>) -> Result<KeptTables, Error>
+    requires { IsReady (state S.Store conn.old) }
+    ensures summaries { Told S.Store conn.new result
+        (λ it. AreSummaries (rows_in S.Store conn.old) it.summaries.items) }
+    ensures restricted { Told S.Store conn.new result
+        (λ it. AreRestricted (rows_in S.Store conn.old) it.restricted.items) }
+    ensures readers { Told S.Store conn.new result
+        (λ it. ArePairs readers_tree (rows_in S.Store conn.old) it.readers.items) }
+    ensures same { KeepsAll S.Store conn.old conn.new result }
+{
+    let summaries = summaries::all(alloc, conn)?;
+    let restricted = restricted::all(alloc, conn)?;
+    let readers = readers::all(alloc, conn)?;
+    Ok(KeptTables {
+        summaries,
+        restricted,
+        readers,
+    })
+}
+
+fn the_base<S: Alter>(conn: &mut Connection<S>) -> Result<String, Error>
+    requires { IsReady (state S.Store conn.old) }
+    ensures base { Told S.Store conn.new result
+        (λ base. IsBaseOf (rows_in S.Store conn.old) (Some (string_bytes base))) }
+    ensures same { KeepsAll S.Store conn.old conn.new result }
+{
+    match about::base(conn)? {
+        Some(base) => Ok(base),
+        None => Err(Error::InvalidQuery),
+    }
+}
+
+fn other_tables<S: Alter>(alloc: Global, conn: &mut Connection<S>) -> Result<OtherTables, Error>
+    requires { IsReady (state S.Store conn.old) }
+    ensures base { Told S.Store conn.new result
+        (λ it. IsBaseOf (rows_in S.Store conn.old) (Some (string_bytes it.base))) }
+    ensures archives { Told S.Store conn.new result
+        (λ it. AreArchiveIds (rows_in S.Store conn.old) it.archives.items) }
+    ensures reserved { Told S.Store conn.new result
+        (λ it. AreReserved (rows_in S.Store conn.old) it.reserved.items) }
+    ensures same { KeepsAll S.Store conn.old conn.new result }
+{
+    let base = the_base(conn)?;
+    let archives = archives::all_ids(alloc, conn)?;
+    let reserved = reserved::all(alloc, conn)?;
+    Ok(OtherTables {
+        base,
+        archives,
+        reserved,
+    })
+}
+
+/// The rows of all tables. Of crates, versions, owners, readers and reserved names two rows with
+/// one rowid are a fault.
+pub fn read<S: Alter>(alloc: Global, conn: &mut Connection<S>) -> Result<AllRows, Error>
+    requires { IsReady (state S.Store conn.old) }
+    ensures read { Told S.Store conn.new result (λ it. AreAllRows it (rows_in S.Store conn.old)) }
+    ensures same { KeepsAll S.Store conn.old conn.new result }
+{
+    let TokenTables {
+        accounts,
+        tokens,
+        scopes,
+    } = token_tables(alloc, conn)?;
+    let CrateTables {
+        crates,
+        owners,
+        versions,
+    } = crate_tables(alloc, conn)?;
+    let OtherTables {
+        base,
+        archives,
+        reserved,
+    } = other_tables(alloc, conn)?;
+    let KeptTables {
+        summaries,
+        restricted,
+        readers,
+    } = kept_tables(alloc, conn)?;
+    Ok(AllRows {
+        base,
+        accounts,
+        tokens,
+        scopes,
+        crates,
+        owners,
+        versions,
+        archives,
+        reserved,
+        summaries,
+        restricted,
+        readers,
+    })
+}

@@ -1,0 +1,107 @@
+-- What the queries on archives answer.
+use Rattle.std.proofs.Common.{◌≡◌, ℕ, pos, List, [], ◌∷◌, codes, map, Option, refl, sym, ap, subst, ◌∙◌}
+use Rattle.std.specs.List.{filter}
+use Rattle.sqlite.specs.declared.types.Value.TheVariants.{Int, Text}
+use Rattle.sqlite.specs.Collation.TheVariants.{Binary}
+use Rattle.sqlite_value.specs.Keys.{ascending}
+use Rattle.sqlite.specs.Order.{Row}
+use Rattle.sqlite.specs.Term.{Term, col}
+use Rattle.sqlite.specs.Query.{inner, end}
+use Rattle.sqlite.specs.Program.{overlay}
+use Rattle.sqlite.specs.Listing.{understood}
+use Rattle.sqlite.specs.State.{State, Shown}
+use Rattle.sqlite_tied.specs.Compute.{everything}
+use Rattle.reg_tables_schema.specs.Schema.{ours}
+use Rattle.reg_tables_schema.specs.States.{IsInside}
+use Rattle.reg_tables_schema.proofs.Reading.{IsSelection, selected}
+use Rattle.std.proofs.Common.{Bool, true, cond, ◌&&◌}
+use Rattle.std.specs.Prelude.{Vec}
+use Rattle.std.specs.declared.alloc.Global.{Global}
+use Rattle.std.specs.List.{flat_map}
+use Rattle.std.specs.List.Sorted.{IsPermutation}
+use Rattle.sqlite.specs.Term.{eval_all, op2}
+use Rattle.sqlite.specs.Tree.{Trees}
+use Rattle.sqlite.specs.Query.{Query, IsSureAnswer}
+use Rattle.sqlite_sql.specs.declared.ops.BinaryOp.TheVariants.{Compare}
+use Rattle.sqlite_sql.specs.declared.ops.CompareOp.TheVariants.{Eq}
+use Rattle.reg_tables_schema.specs.Rows.{number_columns}
+use Rattle.reg_tables_schema.specs.Shown.{shown_of}
+use Rattle.reg_tables_schema.specs.Tests.{is_number, is_version, shows}
+use Rattle.reg_tables_schema.proofs.Queries.{plain, answers, joined, same_filter, and_true}
+use Rattle.reg_tables_schema.proofs.Selections.{of_table}
+use Rattle.reg_tables_schema.proofs.ShownRows.{shown_exactly}
+use Rattle.reg_tables_schema.proofs.Sorted.{in_order}
+use Rattle.reg_tables_schema.proofs.TableMatches.{equals_first, matches_number}
+use Rattle.reg_tables_schema.proofs.WholeTables.{all_in_order}
+use Rattle.reg_tables_sql.specs.Archives.{AreArchiveIds, IsArchiveOf, IsArchiveWithId, archives_of, columns_of_bytes, is_archive_of}
+use Rattle.reg_tables_sql.proofs.VersionTexts.{wanted, is_wanted}
+
+abbrev bytes_project : List Term
+bytes_project = col 2 2 ∷ []
+
+abbrev of_version_filter : List Term
+of_version_filter =
+    op2 (Compare Eq Binary) (col 2 0) (col 1 0) ∷ op2 (Compare Eq Binary) (col 1 2) (col 0 0) ∷ op2 (Compare Eq Binary) (col 1 4) (col 0 1) ∷ op2 (Compare Eq Binary) (col 1 3) (col 0 2) ∷ []
+
+abbrev of_version_query : Query
+of_version_query = plain (inner 11 (inner 13 end)) of_version_filter bytes_project
+
+abbrev pub of_version_text : List ℕ
+of_version_text = codes "SELECT a.bytes FROM versions v JOIN archives a ON a.version = v.id WHERE v.crate = ?1 AND v.release = ?2 AND v.vers = ?3"
+
+pub of_version_is : IsSelection ours of_version_text (of_version_query) (codes "bytes" ∷ [])
+unfolding understood everything
+of_version_is = record { command = refl; unlisted = refl; plain = (refl, refl) }
+
+same_join : {A B : Type 0} (f g : A → List B) → ((x : A) → f x ≡ g x) → (xs : List A) → flat_map f xs ≡ flat_map g xs
+same_join f g h [] = refl
+same_join f g h (x ∷ xs) = rw (h x, same_join f g h xs)
+
+-- a join on a test of both rows, where another test is on the first row alone
+pub joined_where : {A D B C : Type 0} (p : A → D → Bool) (b : A → Bool) (f : A → D → B) (g : B → C) (xs : List A) (ys : List D)
+    → map g (flat_map (λ x. flat_map (λ y. cond (p x y && b x) (f x y ∷ []) []) ys) xs) ≡ flat_map (λ x. map (λ y. g (f x y)) (filter (p x) ys)) (filter b xs)
+joined_where p b f g xs ys =
+    ap (map g) (same_join _ (λ x. flat_map (λ y. cond (p x y && (b x && true)) (f x y ∷ []) []) ys) (λ x. same_join _ _ (λ y. ap (λ c. cond (p x y && c) (f x y ∷ []) []) (sym (and_true (b x)))) ys) xs)
+    ∙ joined p b f g xs ys
+
+abbrev of_version_params : ℕ → List ℕ → List ℕ → Row
+of_version_params of_crate release vers = Int (pos of_crate) ∷ Text release ∷ Text vers ∷ []
+
+of_version_gives : (db : Trees) (of_crate : ℕ) (release vers : List ℕ) (rows : List Row) → IsSureAnswer of_version_query (overlay db []) (of_version_params of_crate release vers) rows
+    → IsPermutation (archives_of of_crate release vers db) rows
+of_version_gives db of_crate release vers rows h =
+    let params = of_version_params of_crate release vers in
+    let all = joined_where is_archive_of (wanted of_crate release vers) (λ (v a : Row). params ∷ v ∷ a ∷ []) (eval_all bytes_project) (db 11) (db 13) in
+    let test = same_filter (wanted of_crate release vers) (is_version of_crate release vers) (is_wanted of_crate release vers) (db 11) in
+    subst (λ xs. IsPermutation xs rows) (all ∙ ap (flat_map (λ v. map (shows (2 ∷ [])) (filter (is_archive_of v) (db 13)))) test)
+    (answers (overlay db []) params (inner 11 (inner 13 end)) of_version_filter bytes_project rows h)
+
+pub of_version : (old new : State) (of_crate : ℕ) (release vers : List ℕ) (found : Option (Vec ℕ Global)) → IsInside old
+    → Shown of_version_text (of_version_params of_crate release vers) old new (shown_of columns_of_bytes found) → IsArchiveOf of_crate release vers old.now.trees found
+of_version old new of_crate release vers found at h =
+    shown_exactly columns_of_bytes _ found (of_version_gives old.now.trees of_crate release vers _ (selected of_version_is (of_version_params of_crate release vers) old new _ at h))
+
+abbrev pub by_id_text : List ℕ
+by_id_text = codes "SELECT bytes FROM archives WHERE version = ?1"
+
+pub by_id_is : IsSelection ours by_id_text (plain (inner 13 end) (equals_first 0) (col 1 2 ∷ [])) (codes "bytes" ∷ [])
+unfolding understood everything
+by_id_is = record { command = refl; unlisted = refl; plain = (refl, refl) }
+
+pub by_id : (old new : State) (version : ℕ) (found : Option (Vec ℕ Global)) → IsInside old
+    → Shown by_id_text (Int (pos version) ∷ []) old new (shown_of columns_of_bytes found) → IsArchiveWithId version old.now.trees found
+by_id old new version found at h =
+    let db = overlay old.now.trees [] in
+    shown_exactly columns_of_bytes _ found
+    (of_table db (Int (pos version) ∷ []) 13 (equals_first 0) (col 1 2 ∷ []) _ (is_number 0 version) (matches_number db 13 0 version)
+    (selected by_id_is (Int (pos version) ∷ []) old new _ at h))
+
+abbrev pub ids_text : List ℕ
+ids_text = codes "SELECT version FROM archives ORDER BY version"
+
+pub ids_is : IsSelection ours ids_text (in_order (inner 13 end) [] (col 1 0 ∷ []) ((col 1 0, ascending Binary) ∷ [])) (codes "version" ∷ [])
+unfolding understood everything
+ids_is = record { command = refl; unlisted = refl; plain = (refl, refl) }
+
+pub ids : (old new : State) (list : List ℕ) → IsInside old → Shown ids_text [] old new (map number_columns list) → AreArchiveIds old.now.trees list
+ids old new list at h = all_in_order (overlay old.now.trees []) [] 13 (col 1 0 ∷ []) _ 0 (selected ids_is [] old new _ at h)

@@ -1,0 +1,23 @@
+-- What our schema makes of the queries on readers.
+use Rattle.std.proofs.Common.{ℕ, List, codes, refl}
+use Rattle.sqlite.specs.Listing.{understood}
+use Rattle.sqlite_tied.specs.Compute.{everything}
+use Rattle.reg_tables_sql.proofs.PairQueries.{ArePairQueries}
+
+abbrev pair_text : List ℕ
+pair_text = codes "SELECT crate, account FROM readers WHERE crate = ?1 AND account = ?2"
+
+abbrev of_crate_text : List ℕ
+of_crate_text = codes "SELECT a.id, a.login, a.name, a.enabled FROM readers r JOIN accounts a ON a.id = r.account WHERE r.crate = ?1 ORDER BY a.id"
+
+abbrev listed_text : List ℕ
+listed_text = codes "SELECT crate, account FROM readers ORDER BY crate, account"
+
+pub queries_are : ArePairQueries 18 pair_text of_crate_text listed_text
+unfolding understood everything
+queries_are = record {
+  pair_is = record { command = refl; unlisted = refl; plain = (refl, refl) };
+  of_crate_is = record { command = refl; unlisted = refl; plain = (refl, refl) };
+  listed_is = record { command = refl; unlisted = refl; plain = (refl, refl) };
+  seen = λ db. refl;
+}

@@ -1,0 +1,106 @@
+-- What the queries on tokens answer.
+use Rattle.std.proofs.Common.{◌≡◌, ℕ, List, [], ◌∷◌, codes, map, Option, refl, ap, subst, ◌∙◌}
+use Rattle.std.specs.List.{filter}
+use Rattle.sqlite.specs.Collation.TheVariants.{Binary}
+use Rattle.sqlite_value.specs.Keys.{ascending}
+use Rattle.sqlite.specs.Order.{Row}
+use Rattle.sqlite.specs.Term.{Term, col}
+use Rattle.sqlite.specs.Query.{inner, end}
+use Rattle.sqlite.specs.Program.{overlay}
+use Rattle.sqlite.specs.Listing.{understood}
+use Rattle.sqlite.specs.State.{State, Shown}
+use Rattle.sqlite_tied.specs.Compute.{everything}
+use Rattle.reg_tables_schema.specs.Schema.{ours}
+use Rattle.reg_tables_schema.specs.States.{IsInside}
+use Rattle.reg_tables_schema.proofs.Reading.{IsSelection, selected}
+use Rattle.std.specs.List.{flat_map}
+use Rattle.std.specs.List.Sorted.{IsPermutation}
+use Rattle.sqlite.specs.declared.types.Value.TheVariants.{Blob}
+use Rattle.sqlite.specs.Ops.{binary, is_true}
+use Rattle.sqlite.specs.Order.{column}
+use Rattle.sqlite.specs.Query.{matches}
+use Rattle.sqlite.specs.Term.{eval_all, op2}
+use Rattle.sqlite.specs.Tree.{Trees}
+use Rattle.sqlite_sql.specs.declared.ops.BinaryOp.TheVariants.{Compare}
+use Rattle.sqlite_sql.specs.declared.ops.CompareOp.TheVariants.{Eq}
+use Rattle.reg_tables_schema.specs.Rows.{number_columns}
+use Rattle.reg_tables_schema.specs.Shown.{shown_of}
+use Rattle.reg_tables_schema.specs.Tests.{is_blob}
+use Rattle.reg_tables_schema.proofs.Counts.{counted}
+use Rattle.reg_tables_schema.proofs.Greatest.{greatest, greatest_of}
+use Rattle.reg_tables_schema.proofs.Queries.{plain, answers, joined, same_filter, equals_blob}
+use Rattle.reg_tables_schema.proofs.Sorted.{in_order}
+use Rattle.reg_tables_schema.proofs.ShownRows.{shown_exactly}
+use Rattle.reg_tables_schema.proofs.WholeTables.{all_in_order, one_count}
+use Rattle.reg_tables_sql.specs.declared.tokens.Token.{Token}
+use Rattle.reg_tables_sql.specs.declared.tokens.TokenRow.{TokenRow}
+use Rattle.reg_tables_sql.specs.Counts.{IsCount, IsLastId}
+use Rattle.reg_tables_sql.specs.Tokens.{AreTokens, IsTokenOfDigest, columns_of_token, columns_with_account, is_of_token, token_and_account, tokens_with_accounts}
+
+abbrev by_digest_filter : List Term
+by_digest_filter = op2 (Compare Eq Binary) (col 2 0) (col 1 3) ∷ op2 (Compare Eq Binary) (col 1 2) (col 0 0) ∷ []
+
+abbrev by_digest_project : List Term
+by_digest_project = col 1 0 ∷ col 1 3 ∷ col 1 4 ∷ col 1 5 ∷ col 1 6 ∷ col 1 7 ∷ col 1 8 ∷ col 2 2 ∷ col 2 4 ∷ []
+
+abbrev by_digest_names : List (List ℕ)
+by_digest_names = codes "id" ∷ codes "account" ∷ codes "live" ∷ codes "publish_new" ∷ codes "publish_update" ∷ codes "yank" ∷ codes "change_owners" ∷ codes "login" ∷ codes "enabled" ∷ []
+
+abbrev pub by_digest_text : List ℕ
+by_digest_text = codes "SELECT t.id, t.account, t.live, t.publish_new, t.publish_update, t.yank, t.change_owners, a.login, a.enabled FROM tokens t JOIN accounts a ON a.id = t.account WHERE t.digest = ?1"
+
+pub by_digest_is : IsSelection ours by_digest_text (plain (inner 3 (inner 1 end)) by_digest_filter by_digest_project) (by_digest_names)
+unfolding understood everything
+by_digest_is = record { command = refl; unlisted = refl; plain = (refl, refl) }
+
+by_digest_rows : (db : Trees) (digest : List ℕ) → map (eval_all by_digest_project) (matches db by_digest_filter (inner 3 (inner 1 end)) ((Blob digest ∷ []) ∷ [])) ≡ tokens_with_accounts digest db
+by_digest_rows db digest =
+    let params : Row = Blob digest ∷ [] in
+    let of_it = λ (t : Row). is_true (binary (Compare Eq Binary) (column t 2) (Blob digest)) in
+    let all = joined is_of_token of_it (λ (t a : Row). params ∷ t ∷ a ∷ []) (eval_all by_digest_project) (db 3) (db 1) in
+    let test = same_filter of_it (is_blob 2 digest) (λ t. equals_blob (column t 2) digest) (db 3) in
+    all ∙ ap (flat_map (λ t. map (token_and_account t) (filter (is_of_token t) (db 1)))) test
+
+pub by_digest : (old new : State) (digest : List ℕ) (found : Option TokenRow) → IsInside old → Shown by_digest_text (Blob digest ∷ []) old new (shown_of columns_with_account found)
+    → IsTokenOfDigest digest old.now.trees found
+by_digest old new digest found at h =
+    let params : Row = Blob digest ∷ [] in
+    shown_exactly columns_with_account _ found
+    (subst (λ xs. IsPermutation xs (shown_of columns_with_account found)) (by_digest_rows old.now.trees digest)
+    (answers (overlay old.now.trees []) params (inner 3 (inner 1 end)) by_digest_filter by_digest_project _ (selected by_digest_is params old new _ at h)))
+
+abbrev project : List Term
+project = col 1 0 ∷ col 1 2 ∷ col 1 3 ∷ col 1 4 ∷ col 1 5 ∷ col 1 6 ∷ col 1 7 ∷ col 1 8 ∷ []
+
+abbrev names : List (List ℕ)
+names = codes "id" ∷ codes "digest" ∷ codes "account" ∷ codes "live" ∷ codes "publish_new" ∷ codes "publish_update" ∷ codes "yank" ∷ codes "change_owners" ∷ []
+
+abbrev pub listed_text : List ℕ
+listed_text = codes "SELECT id, digest, account, live, publish_new, publish_update, yank, change_owners FROM tokens ORDER BY id"
+
+pub listed_is : IsSelection ours listed_text (in_order (inner 3 end) [] project ((col 1 0, ascending Binary) ∷ [])) (names)
+unfolding understood everything
+listed_is = record { command = refl; unlisted = refl; plain = (refl, refl) }
+
+pub listed : (old new : State) (list : List Token) → IsInside old → Shown listed_text [] old new (map columns_of_token list) → AreTokens old.now.trees list
+listed old new list at h = all_in_order (overlay old.now.trees []) [] 3 project _ 0 (selected listed_is [] old new _ at h)
+
+abbrev pub last_text : List ℕ
+last_text = codes "SELECT id FROM tokens ORDER BY id DESC LIMIT 1"
+
+pub last_is : IsSelection ours last_text (greatest 3) (codes "id" ∷ [])
+unfolding understood everything
+last_is = record { command = refl; unlisted = refl; plain = (refl, refl) }
+
+pub last : (old new : State) (id : Option ℕ) → IsInside old → Shown last_text [] old new (shown_of number_columns id) → IsLastId 3 old.now.trees id
+last old new id at h = greatest_of (overlay old.now.trees []) 3 _ (selected last_is [] old new _ at h)
+
+abbrev pub count_text : List ℕ
+count_text = codes "SELECT count(*) FROM tokens"
+
+pub count_is : IsSelection ours count_text (counted (inner 3 end) []) (codes "count(*)" ∷ [])
+unfolding understood everything
+count_is = record { command = refl; unlisted = refl; plain = (refl, refl) }
+
+pub count : (old new : State) (n : ℕ) → IsInside old → Shown count_text [] old new (number_columns n ∷ []) → IsCount 3 old.now.trees n
+count old new n at h = one_count (overlay old.now.trees []) 3 n (selected count_is [] old new _ at h)

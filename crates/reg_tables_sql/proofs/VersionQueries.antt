@@ -1,0 +1,69 @@
+-- What the queries on versions answer.
+use Rattle.std.proofs.Common.{ℕ, pos, List, [], ◌∷◌, codes, map, Option, refl}
+use Rattle.sqlite.specs.declared.types.Value.TheVariants.{Int}
+use Rattle.sqlite.specs.Collation.TheVariants.{Binary}
+use Rattle.sqlite_value.specs.Keys.{ascending}
+use Rattle.sqlite.specs.Order.{Row}
+use Rattle.sqlite.specs.Term.{Term, col}
+use Rattle.sqlite.specs.Query.{inner, end}
+use Rattle.sqlite.specs.Program.{overlay}
+use Rattle.sqlite.specs.Listing.{understood}
+use Rattle.sqlite.specs.State.{State, Shown}
+use Rattle.sqlite_tied.specs.Compute.{everything}
+use Rattle.reg_tables_schema.specs.Schema.{ours}
+use Rattle.reg_tables_schema.specs.States.{IsInside}
+use Rattle.reg_tables_schema.proofs.Reading.{IsSelection, selected}
+use Rattle.sqlite_value.specs.declared.keys.Key.{Key}
+use Rattle.reg_tables_schema.specs.Rows.{by_column, number_columns}
+use Rattle.reg_tables_schema.specs.Shown.{shown_of}
+use Rattle.reg_tables_schema.specs.Tests.{is_number}
+use Rattle.reg_tables_schema.proofs.Greatest.{greatest, greatest_of}
+use Rattle.reg_tables_schema.proofs.Sorted.{in_order, in_order_of, then_equal}
+use Rattle.reg_tables_schema.proofs.TableMatches.{equals_first, matches_number}
+use Rattle.reg_tables_schema.proofs.WholeTables.{all_in_order}
+use Rattle.reg_tables_sql.specs.declared.versions.Version.{Version}
+use Rattle.reg_tables_sql.specs.Counts.{IsLastId}
+use Rattle.reg_tables_sql.specs.Versions.{AreVersions, AreVersionsOf, columns_of_version}
+
+abbrev by_id : List (Term × Key)
+by_id = (col 1 0, ascending Binary) ∷ []
+
+abbrev project : List Term
+project = col 1 0 ∷ col 1 2 ∷ col 1 3 ∷ col 1 4 ∷ col 1 5 ∷ col 1 6 ∷ col 1 7 ∷ col 1 8 ∷ []
+
+abbrev names : List (List ℕ)
+names = codes "id" ∷ codes "crate" ∷ codes "vers" ∷ codes "release" ∷ codes "digest" ∷ codes "stem" ∷ codes "description" ∷ codes "yanked" ∷ []
+
+abbrev pub of_crate_text : List ℕ
+of_crate_text = codes "SELECT id, crate, vers, release, digest, stem, description, yanked FROM versions WHERE crate = ?1 ORDER BY id"
+
+pub of_crate_is : IsSelection ours of_crate_text (in_order (inner 11 end) (equals_first 2) project by_id) (names)
+unfolding understood everything
+of_crate_is = record { command = refl; unlisted = refl; plain = (refl, refl) }
+
+pub of_crate : (old new : State) (id : ℕ) (list : List Version) → IsInside old → Shown of_crate_text (Int (pos id) ∷ []) old new (map columns_of_version list)
+    → AreVersionsOf id old.now.trees list
+of_crate old new id list at h =
+    let params : Row = Int (pos id) ∷ [] in
+    in_order_of (overlay old.now.trees []) params 11 (equals_first 2) project by_id _ (is_number 2 id) (by_column 0) (matches_number old.now.trees 11 2 id)
+    (λ a b. then_equal (by_column 0 a b)) (selected of_crate_is params old new _ at h)
+
+abbrev pub listed_text : List ℕ
+listed_text = codes "SELECT id, crate, vers, release, digest, stem, description, yanked FROM versions ORDER BY id"
+
+pub listed_is : IsSelection ours listed_text (in_order (inner 11 end) [] project by_id) (names)
+unfolding understood everything
+listed_is = record { command = refl; unlisted = refl; plain = (refl, refl) }
+
+pub listed : (old new : State) (list : List Version) → IsInside old → Shown listed_text [] old new (map columns_of_version list) → AreVersions old.now.trees list
+listed old new list at h = all_in_order (overlay old.now.trees []) [] 11 project _ 0 (selected listed_is [] old new _ at h)
+
+abbrev pub last_text : List ℕ
+last_text = codes "SELECT id FROM versions ORDER BY id DESC LIMIT 1"
+
+pub last_is : IsSelection ours last_text (greatest 11) (codes "id" ∷ [])
+unfolding understood everything
+last_is = record { command = refl; unlisted = refl; plain = (refl, refl) }
+
+pub last : (old new : State) (id : Option ℕ) → IsInside old → Shown last_text [] old new (shown_of number_columns id) → IsLastId 11 old.now.trees id
+last old new id at h = greatest_of (overlay old.now.trees []) 11 _ (selected last_is [] old new _ at h)

@@ -1,0 +1,11 @@
+use Rattle.sqlite.specs.Held.{state}
+use Rattle.reg_tables_schema.proofs.Writing.{writes_as}
+use Rattle.reg_tables_sql.proofs.AboutTexts.{second_is, numbers}
+use Rattle.reg_tables_sql.proofs.about.number_second.Goals as goal
+
+pub write-requires-clause-writes : goal.write-requires-clause-writes
+write-requires-clause-writes g c = second_is.writing
+
+pub returns : goal.returns
+returns g c =
+    writes_as (state g.S.Store c.args.conn.now) (state g.S.Store c.write.new.conn) c.write.result c.requires (λ at h. numbers (state g.S.Store c.args.conn.now) (state g.S.Store c.write.new.conn) c.args.id h.0 at h.1) (rw c.params-to_sql.ensures at c.write.ensures)

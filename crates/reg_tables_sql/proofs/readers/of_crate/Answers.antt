@@ -1,0 +1,12 @@
+use Rattle.sqlite.specs.Held.{state}
+use Rattle.reg_tables_schema.proofs.Reading.{reads_as}
+use Rattle.reg_tables_schema.proofs.Selections.{may_read}
+use Rattle.reg_tables_sql.proofs.PairQueries.{of_crate}
+use Rattle.reg_tables_sql.proofs.ReaderQueries.{queries_are}
+use Rattle.reg_tables_sql.proofs.readers.of_crate.Goals as goal
+
+pub select_list-requires : goal.select_list-requires
+select_list-requires g c = may_read _ queries_are.of_crate_is.plain _ c.requires
+
+pub returns : goal.returns
+returns g c = reads_as (state g.S.Store c.args.conn.now) (state g.S.Store c.select_list.new.conn) c.select_list.result c.requires (λ at list h. of_crate queries_are (state g.S.Store c.args.conn.now) (state g.S.Store c.select_list.new.conn) at c.args.crate_id list.items h) (rw c.params-to_sql.ensures at c.select_list.ensures)

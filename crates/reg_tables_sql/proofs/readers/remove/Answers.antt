@@ -1,0 +1,12 @@
+use Rattle.std.proofs.Common.{Ok}
+use Rattle.sqlite.specs.Held.{state}
+use Rattle.reg_tables_schema.proofs.Writing.{writes_as}
+use Rattle.reg_tables_sql.proofs.ReaderTexts.{removes_reader, texts_are}
+use Rattle.reg_tables_sql.proofs.readers.remove.Goals as goal
+
+pub write-requires-clause-writes : goal.write-requires-clause-writes
+write-requires-clause-writes g c = texts_are.remove_writes
+
+pub returns : goal.returns
+returns g c =
+    writes_as (state g.S.Store c.args.conn.now) (state g.S.Store c.write.new.conn) c.write.result c.requires (λ at h. removes_reader (state g.S.Store c.args.conn.now) (state g.S.Store c.write.new.conn) c.args.crate_id c.args.account (Ok h.0) at h.1) (rw (c.params-to_sql.ensures, c.params-to_sql-2.ensures) at c.write.ensures)

@@ -1,0 +1,11 @@
+use Rattle.sqlite.specs.Held.{state}
+use Rattle.reg_tables_schema.proofs.Reading.{reads_as}
+use Rattle.reg_tables_schema.proofs.Selections.{may_read}
+use Rattle.reg_tables_sql.proofs.ReservedQueries.{listed, listed_is}
+use Rattle.reg_tables_sql.proofs.reserved.all.Goals as goal
+
+pub select_list-requires : goal.select_list-requires
+select_list-requires g c = may_read _ listed_is.plain _ c.requires
+
+pub returns : goal.returns
+returns g c = reads_as (state g.S.Store c.args.conn.now) (state g.S.Store c.select_list.new.conn) c.select_list.result c.requires (λ at list h. listed (state g.S.Store c.args.conn.now) (state g.S.Store c.select_list.new.conn) list.items at h) c.select_list.ensures

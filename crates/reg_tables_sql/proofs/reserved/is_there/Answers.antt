@@ -1,0 +1,11 @@
+use Rattle.sqlite.specs.Held.{state}
+use Rattle.reg_tables_schema.proofs.Reading.{reads_as}
+use Rattle.reg_tables_schema.proofs.Selections.{may_read}
+use Rattle.reg_tables_sql.proofs.ReservedQueries.{by_canon, by_canon_is}
+use Rattle.reg_tables_sql.proofs.reserved.is_there.Goals as goal
+
+pub has_row-requires : goal.has_row-requires
+has_row-requires g c = may_read _ by_canon_is.plain _ c.requires
+
+pub returns : goal.returns
+returns g c = reads_as (state g.S.Store c.args.conn.now) (state g.S.Store c.has_row.new.conn) c.has_row.result c.requires (λ at there h. by_canon (state g.S.Store c.args.conn.now) (state g.S.Store c.has_row.new.conn) c.args.canon.now h.0 there at h.1 h.2) (rw c.params-to_sql.ensures at c.has_row.ensures)

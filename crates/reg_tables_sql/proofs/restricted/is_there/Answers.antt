@@ -1,0 +1,11 @@
+use Rattle.sqlite.specs.Held.{state}
+use Rattle.reg_tables_schema.proofs.Reading.{reads_as}
+use Rattle.reg_tables_schema.proofs.Selections.{may_read}
+use Rattle.reg_tables_sql.proofs.RestrictedQueries.{there, there_is}
+use Rattle.reg_tables_sql.proofs.restricted.is_there.Goals as goal
+
+pub has_row-requires : goal.has_row-requires
+has_row-requires g c = may_read _ there_is.plain _ c.requires
+
+pub returns : goal.returns
+returns g c = reads_as (state g.S.Store c.args.conn.now) (state g.S.Store c.has_row.new.conn) c.has_row.result c.requires (λ at has h. there (state g.S.Store c.args.conn.now) (state g.S.Store c.has_row.new.conn) c.args.crate_id h.0 has at h.1 h.2) (rw c.params-to_sql.ensures at c.has_row.ensures)

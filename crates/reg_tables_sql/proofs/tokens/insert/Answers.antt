@@ -1,0 +1,12 @@
+use Rattle.std.proofs.Common.{Ok}
+use Rattle.sqlite.specs.Held.{state}
+use Rattle.reg_tables_schema.proofs.Writing.{writes_as}
+use Rattle.reg_tables_sql.proofs.TokenTexts.{inserts_token, insert_writes}
+use Rattle.reg_tables_sql.proofs.tokens.insert.Goals as goal
+
+pub write-requires-clause-writes : goal.write-requires-clause-writes
+write-requires-clause-writes g c = insert_writes
+
+pub returns : goal.returns
+returns g c =
+    writes_as (state g.S.Store c.args.conn.now) (state g.S.Store c.write.new.conn) c.write.result c.requires (λ at h. inserts_token (state g.S.Store c.args.conn.now) (state g.S.Store c.write.new.conn) c.args.id c.args.digest.now c.args.account c.args.endpoints.now (Ok h.0) at h.1) (rw (c.params-to_sql.ensures, c.params-to_sql-2.ensures, c.params-to_sql-3.ensures, c.params-to_sql-4.ensures, c.params-to_sql-5.ensures, c.params-to_sql-6.ensures, c.params-to_sql-7.ensures, c.as_slice.ensures) at c.write.ensures)

@@ -1,0 +1,18 @@
+use Rattle.std.proofs.Common.{Ok}
+use Rattle.std.proofs.Common.{◌∙◌, w64}
+use Rattle.std.proofs.Math.Facts.{to_z_pos}
+use Rattle.std.specs.Option.{option_map}
+use Rattle.reg_tables_schema.proofs.Binding.{text_is, binds_text}
+use Rattle.sqlite.specs.Held.{state}
+use Rattle.reg_tables_schema.proofs.Writing.{writes_as}
+use Rattle.reg_tables_sql.proofs.VersionTexts.{inserts_version, insert_writes}
+use Rattle.reg_tables_sql.proofs.versions.insert.Goals as goal
+
+pub write-requires-clause-writes : goal.write-requires-clause-writes
+write-requires-clause-writes g c = insert_writes
+
+pub returns : goal.returns
+returns g c =
+    let described = option_map (λ d. d.now) c.args.description in
+    let description = c.params-to_sql-7.ensures ∙ text_is c.args.description in
+    writes_as (state g.S.Store c.args.conn.now) (state g.S.Store c.write.new.conn) c.write.result c.requires.ready (λ at h. inserts_version (state g.S.Store c.args.conn.now) (state g.S.Store c.write.new.conn) c.args.id c.args.crate_id c.args.vers.now c.args.release.now c.args.digest.now c.args.stem.now described (Ok h.0) at h.1) (rw (c.params-to_sql.ensures, c.params-to_sql-2.ensures, c.params-to_sql-3.ensures, c.params-to_sql-4.ensures, c.params-to_sql-5.ensures, c.params-to_sql-6.ensures, description, binds_text described, to_z_pos w64 c.requires.small, c.as_slice.ensures) at c.write.ensures)

@@ -1,0 +1,94 @@
+//! The table of the one row that says what the store is.
+
+ghost use Rattle.std.specs.Prelude.{◌≡◌, [], ◌∷◌, IfOk, map, string_bytes};
+ghost use Rattle.std.specs.Option.{option_map};
+ghost use Rattle.sqlite.specs.Held.{state};
+ghost use Rattle.reg_tables_schema.specs.Places.{about_tree, id_place};
+ghost use Rattle.reg_tables_schema.specs.Rows.{number_columns};
+ghost use Rattle.reg_tables_schema.specs.States.{IsReady, IsReadyOf};
+ghost use Rattle.reg_tables_schema.specs.Statements.{Reads, Writes, rows_in};
+ghost use Rattle.reg_tables_schema.specs.Tests.{shows};
+ghost use Rattle.reg_tables_sql.specs.Abouts.{BecomesSecond, IsAbout, IsAboutOf, IsBase, IsBaseOf, NumbersSecond};
+
+use crate::statements::{rows_of, select_only, write};
+use reg_tables_schema::Edition;
+use sqlite::{Alter, Connection, Error, Row, params};
+
+/// What the one row says: of which schema the tables are, and the base of the registry.
+#[derive(Debug, Drop)]
+pub struct About {
+    pub edition: Edition,
+    pub base: String,
+}
+
+fn about_of(rows: &[Row]) -> Result<Option<About>, Error>
+    ensures { IfOk result (IsAbout rows.now) }
+{
+    if rows.len() != 1 || rows[0].column_count() != 2 {
+        return Ok(None);
+    }
+    let edition = match rows[0].get::<i64>(0)? {
+        1 => Edition::First,
+        2 => Edition::Second,
+        _ => return Ok(None),
+    };
+    let base = rows[0].get(1)?;
+    Ok(Some(About { edition, base }))
+}
+
+/// What the row says; none where it is not alone, or its number is that of no schema of ours.
+pub fn read<S: Alter>(conn: &mut Connection<S>) -> Result<Option<About>, Error>
+    requires { (e : Edition) × IsReadyOf e (state S.Store conn.old) }
+    ensures { Reads S.Store conn.old conn.new result (IsAboutOf (rows_in S.Store conn.old)) }
+{
+    let rows = rows_of(conn, "SELECT schema, base FROM about", &[])?;
+    about_of(&rows)
+}
+
+fn second_base(about: Option<About>) -> Option<String>
+    ensures { (rows : _) → IsAbout rows about → IsBase rows (option_map string_bytes result) }
+{
+    let About { edition, base } = about?;
+    match edition {
+        Edition::First => None,
+        Edition::Second => Some(base),
+    }
+}
+
+/// The base of a registry of schema 2; none where the row is not alone, or is not of that schema.
+pub fn base<S: Alter>(conn: &mut Connection<S>) -> Result<Option<String>, Error>
+    requires { IsReady (state S.Store conn.old) }
+    ensures { Reads S.Store conn.old conn.new result
+        (λ base. IsBaseOf (rows_in S.Store conn.old) (option_map string_bytes base)) }
+{
+    let about = read(conn)?;
+    Ok(second_base(about))
+}
+
+fn the_rowid<S: Alter>(conn: &mut Connection<S>) -> Result<u32, Error>
+    requires { IsReady (state S.Store conn.old) }
+    ensures { Reads S.Store conn.old conn.new result (λ id. map (shows (id_place ∷ []))
+        (rows_in S.Store conn.old about_tree) ≡ number_columns id ∷ []) }
+{
+    select_only::<u32, S>(conn, "SELECT rowid FROM about")
+}
+
+fn number_second<S: Alter>(conn: &mut Connection<S>, id: u32) -> Result<(), Error>
+    requires { IsReady (state S.Store conn.old) }
+    ensures { Writes S.Store conn.old conn.new result (NumbersSecond id) }
+{
+    write(
+        conn,
+        "UPDATE about SET schema = 2 WHERE rowid = ?1",
+        params![id],
+    )
+}
+
+/// Gives the row the number of schema 2. It is refused where the row is not alone.
+pub fn set_second<S: Alter>(conn: &mut Connection<S>) -> Result<(), Error>
+    requires { IsReady (state S.Store conn.old) }
+    ensures { Writes S.Store conn.old conn.new result BecomesSecond }
+{
+    let id = the_rowid(conn)?;
+    number_second(conn, id)
+}

@@ -1,0 +1,122 @@
+//! The table of accounts, a statement a function.
+
+ghost use Rattle.std.specs.Prelude.{true};
+ghost use Rattle.std.specs.Option.{option_map};
+ghost use Rattle.sqlite.specs.Held.{state};
+ghost use Rattle.reg_tables_schema.specs.Changes.{Adds};
+ghost use Rattle.reg_tables_schema.specs.Places.{accounts_tree};
+ghost use Rattle.reg_tables_schema.specs.States.{IsReady};
+ghost use Rattle.reg_tables_schema.specs.Statements.{Reads, Writes, rows_in};
+ghost use Rattle.reg_tables_sql.specs.Accounts.{AreAccounts, Enables, IsAccountOfLogin, account_columns, account_row};
+ghost use Rattle.reg_tables_sql.specs.Counts.{IsCount, IsLastId};
+
+use crate::marks::mark_of;
+use crate::records::FromRow;
+use crate::statements::{select_list, select_number, select_one, write};
+use sqlite::{Alter, Connection, Error, Row, params};
+use std::alloc::Global;
+
+/// An account as it is stored.
+#[derive(Debug, Drop)]
+pub struct Account {
+    pub id: u32,
+    pub login: String,
+    pub name: Option<String>,
+    pub enabled: bool,
+}
+
+impl FromRow for Account {
+    ghost columns = { account_columns };
+
+    fn from_row(row: &Row) -> Result<Account, Error> {
+        if row.column_count() != 4 {
+            return Err(Error::InvalidQuery);
+        }
+        Ok(Account {
+            id: row.get(0)?,
+            login: row.get(1)?,
+            name: row.get(2)?,
+            enabled: mark_of(row, 3)?,
+        })
+    }
+}
+
+/// Adds an account that is enabled.
+pub fn insert<S: Alter>(
+    conn: &mut Connection<S>,
+    id: u32,
+    login: &str,
+    name: Option<&str>,
+) -> Result<(), Error>
+    requires { IsReady (state S.Store conn.old) }
+    ensures { Writes S.Store conn.old conn.new result
+        (Adds accounts_tree
+        (account_row id login.now (option_map (λ n. n.now) name.entry) true)) }
+{
+    write(
+        conn,
+        "INSERT INTO accounts (id, login, name, enabled) VALUES (?1, ?2, ?3, 1)",
+        params![id, login, name],
+    )
+}
+
+/// Makes an account enabled or not.
+pub fn enable<S: Alter>(conn: &mut Connection<S>, id: u32, enabled: bool) -> Result<(), Error>
+    requires { IsReady (state S.Store conn.old) }
+    ensures { Writes S.Store conn.old conn.new result (Enables id enabled) }
+{
+    write(
+        conn,
+        "UPDATE accounts SET enabled = ?2 WHERE id = ?1",
+        params![id, enabled],
+    )
+}
+
+/// The account that has the login, if there is one.
+pub fn by_login<S: Alter>(conn: &mut Connection<S>, login: &str) -> Result<Option<Account>, Error>
+    requires { IsReady (state S.Store conn.old) }
+    ensures { Reads S.Store conn.old conn.new result
+        (IsAccountOfLogin login.now (rows_in S.Store conn.old)) }
+{
+    select_one(
+        conn,
+        "SELECT id, login, name, enabled FROM accounts WHERE login = ?1",
+        params![login],
+    )
+}
+
+/// All the accounts, in the order of their ids.
+pub fn all<S: Alter>(alloc: Global, conn: &mut Connection<S>) -> Result<Vec<Account>, Error>
+    requires { IsReady (state S.Store conn.old) }
+    ensures { Reads S.Store conn.old conn.new result
+        (λ list. AreAccounts (rows_in S.Store conn.old) list.items) }
+{
+    select_list(
+        alloc,
+        conn,
+        "SELECT id, login, name, enabled FROM accounts ORDER BY id",
+        &[],
+    )
+}
+
+/// The greatest id of an account, if there is one.
+pub fn last_id<S: Alter>(conn: &mut Connection<S>) -> Result<Option<u32>, Error>
+    requires { IsReady (state S.Store conn.old) }
+    ensures { Reads S.Store conn.old conn.new result
+        (IsLastId accounts_tree (rows_in S.Store conn.old)) }
+{
+    select_one(
+        conn,
+        "SELECT id FROM accounts ORDER BY id DESC LIMIT 1",
+        &[],
+    )
+}
+
+/// How many accounts there are, up to the greatest count of SQL.
+pub fn count<S: Alter>(conn: &mut Connection<S>) -> Result<u64, Error>
+    requires { IsReady (state S.Store conn.old) }
+    ensures { Reads S.Store conn.old conn.new result
+        (IsCount accounts_tree (rows_in S.Store conn.old)) }
+{
+    select_number(conn, "SELECT count(*) FROM accounts")
+}

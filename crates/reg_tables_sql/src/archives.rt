@@ -1,0 +1,86 @@
+//! The table of archives, a statement a function.
+
+ghost use Rattle.std.specs.Prelude.{◌<◌, ◌^◌};
+ghost use Rattle.sqlite.specs.Held.{state};
+ghost use Rattle.reg_tables_schema.specs.Changes.{Adds};
+ghost use Rattle.reg_tables_schema.specs.Places.{archives_tree};
+ghost use Rattle.reg_tables_schema.specs.States.{IsReady};
+ghost use Rattle.reg_tables_schema.specs.Statements.{Reads, Writes, rows_in};
+ghost use Rattle.reg_tables_sql.specs.Archives.{AreArchiveIds, IsArchiveOf, IsArchiveWithId, archive_row, columns_of_bytes};
+
+use crate::records::FromRow;
+use crate::statements::{select_list, select_one, write};
+use sqlite::{Alter, Connection, Error, Row, params};
+use std::alloc::Global;
+
+impl FromRow for Vec<u8> {
+    ghost columns = { columns_of_bytes };
+
+    fn from_row(row: &Row) -> Result<Vec<u8>, Error> {
+        if row.column_count() != 1 {
+            return Err(Error::InvalidQuery);
+        }
+        row.get(0)
+    }
+}
+
+/// Adds the archive of a version. SQL keeps ids below 2^63.
+pub fn insert<S: Alter>(conn: &mut Connection<S>, version: u64, bytes: &[u8]) -> Result<(), Error>
+    requires ready { IsReady (state S.Store conn.old) }
+    requires small { version < 2 ^ 63 }
+    ensures { Writes S.Store conn.old conn.new result
+        (Adds archives_tree (archive_row version bytes.now)) }
+{
+    write(
+        conn,
+        "INSERT INTO archives (version, bytes) VALUES (?1, ?2)",
+        params![version as i64, bytes],
+    )
+}
+
+/// The archive of a version of a crate, by its release and its text.
+pub fn of_version<S: Alter>(
+    conn: &mut Connection<S>,
+    crate_id: u32,
+    release: &str,
+    vers: &str,
+) -> Result<Option<Vec<u8>>, Error>
+    requires { IsReady (state S.Store conn.old) }
+    ensures { Reads S.Store conn.old conn.new result
+        (IsArchiveOf crate_id release.now vers.now (rows_in S.Store conn.old)) }
+{
+    select_one(
+        conn,
+        "SELECT a.bytes FROM versions v JOIN archives a ON a.version = v.id WHERE v.crate = ?1 \
+        AND v.release = ?2 AND v.vers = ?3",
+        params![crate_id, release, vers],
+    )
+}
+
+/// The archive of the version with this id.
+pub fn by_id<S: Alter>(conn: &mut Connection<S>, version: u64) -> Result<Option<Vec<u8>>, Error>
+    requires ready { IsReady (state S.Store conn.old) }
+    requires small { version < 2 ^ 63 }
+    ensures { Reads S.Store conn.old conn.new result
+        (IsArchiveWithId version (rows_in S.Store conn.old)) }
+{
+    select_one(
+        conn,
+        "SELECT bytes FROM archives WHERE version = ?1",
+        params![version as i64],
+    )
+}
+
+/// The ids of the versions that have an archive, in their order.
+pub fn all_ids<S: Alter>(alloc: Global, conn: &mut Connection<S>) -> Result<Vec<u64>, Error>
+    requires { IsReady (state S.Store conn.old) }
+    ensures { Reads S.Store conn.old conn.new result
+        (λ list. AreArchiveIds (rows_in S.Store conn.old) list.items) }
+{
+    select_list(
+        alloc,
+        conn,
+        "SELECT version FROM archives ORDER BY version",
+        &[],
+    )
+}

@@ -1,0 +1,133 @@
+//! The table of crates, a statement a function.
+
+ghost use Rattle.sqlite.specs.Held.{state};
+ghost use Rattle.reg_tables_schema.specs.Changes.{Adds};
+ghost use Rattle.reg_tables_schema.specs.Places.{crates_tree};
+ghost use Rattle.reg_tables_schema.specs.States.{IsReady};
+ghost use Rattle.reg_tables_schema.specs.Statements.{Reads, Writes, rows_in};
+ghost use Rattle.reg_tables_sql.specs.Counts.{IsCount, IsLastId};
+ghost use Rattle.reg_tables_sql.specs.Crates.{AreCrates, AreCratesById, IsCrateOfCanon, IsCrateThere, crate_columns, crate_row};
+ghost use Rattle.reg_tables_sql.specs.Rowids.{AreRowids};
+
+use crate::records::FromRow;
+use crate::statements::{has_row, select_list, select_number, select_one, write};
+use sqlite::{Alter, Connection, Error, Row, params};
+use std::alloc::Global;
+
+/// A crate as it is stored.
+#[derive(Debug, Drop)]
+pub struct Crate {
+    pub id: u32,
+    pub canon: String,
+    pub name: String,
+}
+
+impl FromRow for Crate {
+    ghost columns = { crate_columns };
+
+    fn from_row(row: &Row) -> Result<Crate, Error> {
+        if row.column_count() != 3 {
+            return Err(Error::InvalidQuery);
+        }
+        Ok(Crate {
+            id: row.get(0)?,
+            canon: row.get(1)?,
+            name: row.get(2)?,
+        })
+    }
+}
+
+/// Adds a crate.
+pub fn insert<S: Alter>(
+    conn: &mut Connection<S>,
+    id: u32,
+    canon: &str,
+    name: &str,
+) -> Result<(), Error>
+    requires { IsReady (state S.Store conn.old) }
+    ensures { Writes S.Store conn.old conn.new result
+        (Adds crates_tree (crate_row id canon.now name.now)) }
+{
+    write(
+        conn,
+        "INSERT INTO crates (id, canon, name) VALUES (?1, ?2, ?3)",
+        params![id, canon, name],
+    )
+}
+
+/// The crate that has the canonical name, if there is one.
+pub fn by_canon<S: Alter>(conn: &mut Connection<S>, canon: &str) -> Result<Option<Crate>, Error>
+    requires { IsReady (state S.Store conn.old) }
+    ensures { Reads S.Store conn.old conn.new result
+        (IsCrateOfCanon canon.now (rows_in S.Store conn.old)) }
+{
+    select_one(
+        conn,
+        "SELECT id, canon, name FROM crates WHERE canon = ?1",
+        params![canon],
+    )
+}
+
+/// Whether there is a crate with this id.
+pub fn has_id<S: Alter>(conn: &mut Connection<S>, id: u32) -> Result<bool, Error>
+    requires { IsReady (state S.Store conn.old) }
+    ensures { Reads S.Store conn.old conn.new result
+        (IsCrateThere id (rows_in S.Store conn.old)) }
+{
+    has_row(conn, "SELECT id FROM crates WHERE id = ?1", params![id])
+}
+
+/// All the crates, in the order of their canonical names.
+pub fn all<S: Alter>(alloc: Global, conn: &mut Connection<S>) -> Result<Vec<Crate>, Error>
+    requires { IsReady (state S.Store conn.old) }
+    ensures { Reads S.Store conn.old conn.new result
+        (λ list. AreCrates (rows_in S.Store conn.old) list.items) }
+{
+    select_list(
+        alloc,
+        conn,
+        "SELECT id, canon, name FROM crates ORDER BY canon",
+        &[],
+    )
+}
+
+/// All the crates, in the order of their ids.
+pub fn all_by_id<S: Alter>(alloc: Global, conn: &mut Connection<S>) -> Result<Vec<Crate>, Error>
+    requires { IsReady (state S.Store conn.old) }
+    ensures { Reads S.Store conn.old conn.new result
+        (λ list. AreCratesById (rows_in S.Store conn.old) list.items) }
+{
+    select_list(
+        alloc,
+        conn,
+        "SELECT id, canon, name FROM crates ORDER BY id",
+        &[],
+    )
+}
+
+/// The ids of all crates, in order, as rowids.
+pub fn rowids<S: Alter>(alloc: Global, conn: &mut Connection<S>) -> Result<Vec<i64>, Error>
+    requires { IsReady (state S.Store conn.old) }
+    ensures { Reads S.Store conn.old conn.new result
+        (λ list. AreRowids crates_tree (rows_in S.Store conn.old) list.items) }
+{
+    select_list(alloc, conn, "SELECT id FROM crates ORDER BY id", &[])
+}
+
+/// The greatest id of a crate, if there is one.
+pub fn last_id<S: Alter>(conn: &mut Connection<S>) -> Result<Option<u32>, Error>
+    requires { IsReady (state S.Store conn.old) }
+    ensures { Reads S.Store conn.old conn.new result
+        (IsLastId crates_tree (rows_in S.Store conn.old)) }
+{
+    select_one(conn, "SELECT id FROM crates ORDER BY id DESC LIMIT 1", &[])
+}
+
+/// How many crates there are, up to the greatest count of SQL.
+pub fn count<S: Alter>(conn: &mut Connection<S>) -> Result<u64, Error>
+    requires { IsReady (state S.Store conn.old) }
+    ensures { Reads S.Store conn.old conn.new result
+        (IsCount crates_tree (rows_in S.Store conn.old)) }
+{
+    select_number(conn, "SELECT count(*) FROM crates")
+}

@@ -1,0 +1,38 @@
+//! The rows of an answer, read as records.
+
+ghost use Rattle.std.specs.Prelude.{◌≡◌, IfOk, map};
+ghost use Rattle.sqlite.specs.Order.{Row as Values};
+ghost use Rattle.reg_tables_schema.specs.Shown.{shown_of};
+
+use sqlite::{Error, Row};
+use std::alloc::Global;
+
+/// A record that is the columns of a row.
+pub trait FromRow: Sized + Drop {
+    ghost columns: { Self → Values };
+
+    fn from_row(row: &Row) -> Result<Self, Error>
+        ensures { IfOk result (λ it. row.now ≡ columns it) };
+}
+
+/// The record of the only row; none where there is no row.
+pub(crate) fn read_one<T: FromRow>(rows: &[Row]) -> Result<Option<T>, Error>
+    ensures { IfOk result (λ found. rows.now ≡ shown_of T.FromRow.columns found) }
+{
+    match rows {
+        [] => Ok(None),
+        [row] => Ok(Some(T::from_row(row)?)),
+        _ => Err(Error::InvalidQuery),
+    }
+}
+
+/// The records of all rows, in their order. Each row goes as soon as its record is made.
+pub(crate) fn read_all<T: FromRow>(alloc: Global, rows: Vec<Row>) -> Result<Vec<T>, Error>
+    ensures { IfOk result (λ list. map T.FromRow.columns list.items ≡ rows.items) }
+{
+    let mut list = Vec::new(alloc);
+    for row in rows {
+        list.push(T::from_row(&row)?)?;
+    }
+    Ok(list)
+}

@@ -1,0 +1,81 @@
+//! The table of reserved names, a statement a function.
+
+ghost use Rattle.sqlite.specs.Held.{state};
+ghost use Rattle.reg_tables_schema.specs.Changes.{AddsColumns, Removes};
+ghost use Rattle.reg_tables_schema.specs.Places.{reserved_canon_place, reserved_tree};
+ghost use Rattle.reg_tables_schema.specs.States.{IsReady};
+ghost use Rattle.reg_tables_schema.specs.Statements.{Reads, Writes, rows_in};
+ghost use Rattle.reg_tables_schema.specs.Tests.{is_text};
+ghost use Rattle.reg_tables_sql.specs.Reserved.{AreReserved, IsReserved, reserved_columns};
+ghost use Rattle.reg_tables_sql.specs.Rowids.{AreRowids};
+
+use crate::statements::{has_row, select_list, write};
+use sqlite::{Alter, Connection, Error, params};
+use std::alloc::Global;
+
+/// Reserves a canonical name.
+pub fn insert<S: Alter>(conn: &mut Connection<S>, canon: &str) -> Result<(), Error>
+    requires { IsReady (state S.Store conn.old) }
+    ensures { Writes S.Store conn.old conn.new result
+        (AddsColumns reserved_tree (reserved_columns canon.now)) }
+{
+    write(
+        conn,
+        "INSERT INTO reserved (canon) VALUES (?1)",
+        params![canon],
+    )
+}
+
+/// Sets a canonical name free.
+pub fn remove<S: Alter>(conn: &mut Connection<S>, canon: &str) -> Result<(), Error>
+    requires { IsReady (state S.Store conn.old) }
+    ensures { Writes S.Store conn.old conn.new result
+        (Removes reserved_tree (is_text reserved_canon_place canon.now)) }
+{
+    write(
+        conn,
+        "DELETE FROM reserved WHERE canon = ?1",
+        params![canon],
+    )
+}
+
+/// Whether the canonical name is reserved.
+pub fn is_there<S: Alter>(conn: &mut Connection<S>, canon: &str) -> Result<bool, Error>
+    requires { IsReady (state S.Store conn.old) }
+    ensures { Reads S.Store conn.old conn.new result
+        (IsReserved canon.now (rows_in S.Store conn.old)) }
+{
+    has_row(
+        conn,
+        "SELECT canon FROM reserved WHERE canon = ?1",
+        params![canon],
+    )
+}
+
+/// All the reserved names, in order.
+pub fn all<S: Alter>(alloc: Global, conn: &mut Connection<S>) -> Result<Vec<String>, Error>
+    requires { IsReady (state S.Store conn.old) }
+    ensures { Reads S.Store conn.old conn.new result
+        (λ list. AreReserved (rows_in S.Store conn.old) list.items) }
+{
+    select_list(
+        alloc,
+        conn,
+        "SELECT canon FROM reserved ORDER BY canon",
+        &[],
+    )
+}
+
+/// The rowids of all reserved names, in order.
+pub fn rowids<S: Alter>(alloc: Global, conn: &mut Connection<S>) -> Result<Vec<i64>, Error>
+    requires { IsReady (state S.Store conn.old) }
+    ensures { Reads S.Store conn.old conn.new result
+        (λ list. AreRowids reserved_tree (rows_in S.Store conn.old) list.items) }
+{
+    select_list(
+        alloc,
+        conn,
+        "SELECT rowid FROM reserved ORDER BY rowid",
+        &[],
+    )
+}

@@ -1,0 +1,65 @@
+//! The table of the crates that are not for everyone, a statement a function.
+
+ghost use Rattle.sqlite.specs.Held.{state};
+ghost use Rattle.reg_tables_schema.specs.Changes.{Adds, Removes};
+ghost use Rattle.reg_tables_schema.specs.Places.{restricted_tree};
+ghost use Rattle.reg_tables_schema.specs.States.{IsReady};
+ghost use Rattle.reg_tables_schema.specs.Statements.{Reads, Writes, rows_in};
+ghost use Rattle.reg_tables_sql.specs.Restricted.{AreRestricted, IsRestricted, is_restricted, restricted_row};
+
+use crate::statements::{has_row, select_list, write};
+use sqlite::{Alter, Connection, Error, params};
+use std::alloc::Global;
+
+/// Restricts a crate to its readers.
+pub fn insert<S: Alter>(conn: &mut Connection<S>, crate_id: u32) -> Result<(), Error>
+    requires { IsReady (state S.Store conn.old) }
+    ensures { Writes S.Store conn.old conn.new result
+        (Adds restricted_tree (restricted_row crate_id)) }
+{
+    write(
+        conn,
+        "INSERT INTO restricted (crate) VALUES (?1)",
+        params![crate_id],
+    )
+}
+
+/// Opens a crate to everyone.
+pub fn remove<S: Alter>(conn: &mut Connection<S>, crate_id: u32) -> Result<(), Error>
+    requires { IsReady (state S.Store conn.old) }
+    ensures { Writes S.Store conn.old conn.new result
+        (Removes restricted_tree (is_restricted crate_id)) }
+{
+    write(
+        conn,
+        "DELETE FROM restricted WHERE crate = ?1",
+        params![crate_id],
+    )
+}
+
+/// Whether a crate is restricted.
+pub fn is_there<S: Alter>(conn: &mut Connection<S>, crate_id: u32) -> Result<bool, Error>
+    requires { IsReady (state S.Store conn.old) }
+    ensures { Reads S.Store conn.old conn.new result
+        (IsRestricted crate_id (rows_in S.Store conn.old)) }
+{
+    has_row(
+        conn,
+        "SELECT crate FROM restricted WHERE crate = ?1",
+        params![crate_id],
+    )
+}
+
+/// The ids of the restricted crates, in order.
+pub fn all<S: Alter>(alloc: Global, conn: &mut Connection<S>) -> Result<Vec<u32>, Error>
+    requires { IsReady (state S.Store conn.old) }
+    ensures { Reads S.Store conn.old conn.new result
+        (λ list. AreRestricted (rows_in S.Store conn.old) list.items) }
+{
+    select_list(
+        alloc,
+        conn,
+        "SELECT crate FROM restricted ORDER BY crate",
+        &[],
+    )
+}

@@ -1,0 +1,152 @@
+//! One text that reads or writes, whichever it is.
+
+ghost use Rattle.std.specs.Prelude.{◌≡◌, ◌==◌, [], ◌∷◌, Ok, length, map, not};
+ghost use Rattle.sqlite.specs.Held.{state};
+ghost use Rattle.sqlite.specs.Listing.{understood};
+ghost use Rattle.sqlite.specs.State.{Executes};
+ghost use Rattle.sqlite.specs.Values.{bound};
+ghost use Rattle.reg_tables_schema.specs.Rows.{number_columns};
+ghost use Rattle.reg_tables_schema.specs.Schema.{ours};
+ghost use Rattle.reg_tables_schema.specs.Shown.{shown_of};
+ghost use Rattle.reg_tables_schema.specs.States.{IsReady};
+ghost use Rattle.reg_tables_schema.specs.Statements.{Answers, IsRowWrite, MayRead, Reads, Writes};
+ghost use Rattle.reg_tables_schema.specs.Steps.{KeepsAll, Told};
+
+use crate::records::{FromRow, read_all, read_one};
+use sqlite::types::ValueRef;
+use sqlite::{Alter, Connection, Error, Row};
+use std::alloc::Global;
+
+/// The rows of a text that only reads.
+pub fn rows_of<S: Alter>(
+    conn: &mut Connection<S>,
+    text: &str,
+    params: &[ValueRef<'_>],
+) -> Result<Vec<Row>, Error>
+    requires { MayRead text.now (state S.Store conn.old) }
+    ensures { Reads S.Store conn.old conn.new result
+        (λ rows. Answers S.Store conn.old conn.new text.now (bound params.now) rows.items) }
+{
+    conn.query_all(text, params)
+}
+
+/// The only row of a text that only reads, as a record; none where there is no row.
+pub fn select_one<T: FromRow, S: Alter>(
+    conn: &mut Connection<S>,
+    text: &str,
+    params: &[ValueRef<'_>],
+) -> Result<Option<T>, Error>
+    requires { MayRead text.now (state S.Store conn.old) }
+    ensures { Reads S.Store conn.old conn.new result (λ found.
+        Answers S.Store conn.old conn.new text.now (bound params.now)
+        (shown_of T.FromRow.columns found)) }
+{
+    let rows = rows_of(conn, text, params)?;
+    read_one(&rows)
+}
+
+fn walk<T: FromRow, S: Alter>(
+    alloc: Global,
+    conn: &mut Connection<S>,
+    text: &str,
+    params: &[ValueRef<'_>],
+) -> Result<Vec<T>, Error>
+    requires { MayRead text.now (state S.Store conn.old) }
+    ensures told { Told S.Store conn.new result (λ list. Answers S.Store conn.old conn.new text.now
+        (bound params.now) (map T.FromRow.columns list.items)) }
+    ensures leaves { KeepsAll S.Store conn.old conn.new result }
+{
+    let mut list = Vec::new(alloc);
+    let mut rows = conn.query(text, params)?;
+    'rows: for _ in 0..u64::MAX {
+        let Some(row) = rows.next()? else {
+            return Ok(list);
+        };
+        list.push(T::from_row(row)?)?;
+    }
+    Err(Error::InvalidQuery)
+}
+
+/// The rows of a text that only reads, as records. They come one at a time, so that none is held
+/// beside its record.
+pub fn select_list<T: FromRow, S: Alter>(
+    alloc: Global,
+    conn: &mut Connection<S>,
+    text: &str,
+    params: &[ValueRef<'_>],
+) -> Result<Vec<T>, Error>
+    requires { MayRead text.now (state S.Store conn.old) }
+    ensures { Reads S.Store conn.old conn.new result (λ list.
+        Answers S.Store conn.old conn.new text.now (bound params.now)
+        (map T.FromRow.columns list.items)) }
+{
+    walk(alloc, conn, text, params)
+}
+
+/// The same, where the caller has no memory to give: the records are made in that of the rows.
+pub(crate) fn select_here<T: FromRow, S: Alter>(
+    conn: &mut Connection<S>,
+    text: &str,
+    params: &[ValueRef<'_>],
+) -> Result<Vec<T>, Error>
+    requires { MayRead text.now (state S.Store conn.old) }
+    ensures { Reads S.Store conn.old conn.new result (λ list.
+        Answers S.Store conn.old conn.new text.now (bound params.now)
+        (map T.FromRow.columns list.items)) }
+{
+    let rows = rows_of(conn, text, params)?;
+    let alloc = *rows.allocator();
+    read_all(alloc, rows)
+}
+
+/// The only row of a text that only reads, as a record. It is an error where there is none.
+pub(crate) fn select_only<T: FromRow, S: Alter>(
+    conn: &mut Connection<S>,
+    text: &str,
+) -> Result<T, Error>
+    requires { MayRead text.now (state S.Store conn.old) }
+    ensures { Reads S.Store conn.old conn.new result (λ it.
+        Answers S.Store conn.old conn.new text.now [] (T.FromRow.columns it ∷ [])) }
+{
+    let found = select_one::<T, S>(conn, text, &[])?;
+    found.ok_or(Error::InvalidQuery)
+}
+
+/// The number that is the only value of the only row of a text that only reads.
+pub(crate) fn select_number<S: Alter>(conn: &mut Connection<S>, text: &str) -> Result<u64, Error>
+    requires { MayRead text.now (state S.Store conn.old) }
+    ensures { Reads S.Store conn.old conn.new result
+        (λ n. Answers S.Store conn.old conn.new text.now [] (number_columns n ∷ [])) }
+{
+    select_only::<u64, S>(conn, text)
+}
+
+/// Whether a text that only reads has a row.
+pub fn has_row<S: Alter>(
+    conn: &mut Connection<S>,
+    text: &str,
+    params: &[ValueRef<'_>],
+) -> Result<bool, Error>
+    requires { MayRead text.now (state S.Store conn.old) }
+    ensures { Reads S.Store conn.old conn.new result (λ has. (rows : _)
+        × Answers S.Store conn.old conn.new text.now (bound params.now) rows
+        × (has ≡ not (length rows == 0))) }
+{
+    let rows = rows_of(conn, text, params)?;
+    Ok(!rows.is_empty())
+}
+
+/// Runs a text that writes rows.
+pub(crate) fn write<S: Alter>(
+    conn: &mut Connection<S>,
+    text: &str,
+    params: &[ValueRef<'_>],
+) -> Result<(), Error>
+    requires ready { IsReady (state S.Store conn.old) }
+    requires writes { IsRowWrite (understood ours text.now) }
+    ensures { Writes S.Store conn.old conn.new result
+        (λ old new. (count : _) × Executes text.now (bound params.now) old new (Ok count)) }
+{
+    conn.execute(text, params)?;
+    Ok(())
+}

@@ -1,0 +1,182 @@
+//! The table of tokens, a statement a function.
+
+ghost use Rattle.std.specs.Prelude.{◌≡◌, ◌+◌, ◌<◌, true, IfOk};
+ghost use Rattle.sqlite.specs.Held.{state};
+ghost use Rattle.sqlite.specs.Order.{column};
+ghost use Rattle.reg_tables_schema.specs.Changes.{Adds};
+ghost use Rattle.reg_tables_schema.specs.Places.{tokens_tree};
+ghost use Rattle.reg_tables_schema.specs.Rows.{mark};
+ghost use Rattle.reg_tables_schema.specs.States.{IsReady};
+ghost use Rattle.reg_tables_schema.specs.Statements.{Reads, Writes, rows_in};
+ghost use Rattle.reg_tables_sql.specs.Counts.{IsCount, IsLastId};
+ghost use Rattle.reg_tables_sql.specs.Tokens.{AreTokens, IsTokenOfDigest, Revokes, columns_of_token, columns_with_account, token_row};
+
+use crate::marks::mark_of;
+use crate::records::FromRow;
+use crate::statements::{select_list, select_number, select_one, write};
+use reg_model::Endpoints;
+use sqlite::{Alter, Connection, Error, Row, params};
+use std::alloc::Global;
+
+/// A token as it is stored.
+#[derive(Debug, Drop)]
+pub struct Token {
+    pub id: u32,
+    pub digest: Vec<u8>,
+    pub account: u32,
+    pub live: bool,
+    pub endpoints: Endpoints,
+}
+
+/// A token that was found by its digest, and what a request needs to know of its account.
+#[derive(Debug, Drop)]
+pub struct TokenRow {
+    pub id: u32,
+    pub account: u32,
+    pub live: bool,
+    pub endpoints: Endpoints,
+    pub login: String,
+    pub enabled: bool,
+}
+
+/// The endpoints, which are four marks from this place on.
+fn endpoints_of(row: &Row, at: usize) -> Result<Endpoints, Error>
+    requires { at < 9 }
+    ensures publish_new { IfOk result (λ e. column row.now at ≡ mark e.publish_new) }
+    ensures publish_update { IfOk result (λ e. column row.now (at + 1) ≡ mark e.publish_update) }
+    ensures yank { IfOk result (λ e. column row.now (at + 2) ≡ mark e.yank) }
+    ensures change_owners { IfOk result (λ e. column row.now (at + 3) ≡ mark e.change_owners) }
+{
+    Ok(Endpoints {
+        publish_new: mark_of(row, at)?,
+        publish_update: mark_of(row, at + 1)?,
+        yank: mark_of(row, at + 2)?,
+        change_owners: mark_of(row, at + 3)?,
+    })
+}
+
+impl FromRow for Token {
+    ghost columns = { columns_of_token };
+
+    fn from_row(row: &Row) -> Result<Token, Error> {
+        if row.column_count() != 8 {
+            return Err(Error::InvalidQuery);
+        }
+        Ok(Token {
+            id: row.get(0)?,
+            digest: row.get(1)?,
+            account: row.get(2)?,
+            live: mark_of(row, 3)?,
+            endpoints: endpoints_of(row, 4)?,
+        })
+    }
+}
+
+impl FromRow for TokenRow {
+    ghost columns = { columns_with_account };
+
+    fn from_row(row: &Row) -> Result<TokenRow, Error> {
+        if row.column_count() != 9 {
+            return Err(Error::InvalidQuery);
+        }
+        Ok(TokenRow {
+            id: row.get(0)?,
+            account: row.get(1)?,
+            live: mark_of(row, 2)?,
+            endpoints: endpoints_of(row, 3)?,
+            login: row.get(7)?,
+            enabled: mark_of(row, 8)?,
+        })
+    }
+}
+
+/// Adds a token that is live.
+pub fn insert<S: Alter>(
+    conn: &mut Connection<S>,
+    id: u32,
+    digest: &[u8; 32],
+    account: u32,
+    endpoints: &Endpoints,
+) -> Result<(), Error>
+    requires { IsReady (state S.Store conn.old) }
+    ensures { Writes S.Store conn.old conn.new result
+        (Adds tokens_tree (token_row id digest.now account true endpoints.now)) }
+{
+    write(
+        conn,
+        "INSERT INTO tokens (id, digest, account, live, publish_new, publish_update, yank, \
+        change_owners) VALUES (?1, ?2, ?3, 1, ?4, ?5, ?6, ?7)",
+        params![
+            id,
+            digest.as_slice(),
+            account,
+            endpoints.publish_new,
+            endpoints.publish_update,
+            endpoints.yank,
+            endpoints.change_owners
+        ],
+    )
+}
+
+/// Makes a token no longer live.
+pub fn revoke<S: Alter>(conn: &mut Connection<S>, id: u32) -> Result<(), Error>
+    requires { IsReady (state S.Store conn.old) }
+    ensures { Writes S.Store conn.old conn.new result (Revokes id) }
+{
+    write(
+        conn,
+        "UPDATE tokens SET live = 0 WHERE id = ?1",
+        params![id],
+    )
+}
+
+/// The token with this digest, with its account, if there is one.
+pub fn by_digest<S: Alter>(
+    conn: &mut Connection<S>,
+    digest: &[u8; 32],
+) -> Result<Option<TokenRow>, Error>
+    requires { IsReady (state S.Store conn.old) }
+    ensures { Reads S.Store conn.old conn.new result
+        (IsTokenOfDigest digest.now (rows_in S.Store conn.old)) }
+{
+    select_one(
+        conn,
+        "SELECT t.id, t.account, t.live, t.publish_new, t.publish_update, t.yank, \
+        t.change_owners, a.login, a.enabled FROM tokens t JOIN accounts a ON a.id = t.account \
+        WHERE t.digest = ?1",
+        params![digest.as_slice()],
+    )
+}
+
+/// All tokens, in order of their ids.
+pub fn all<S: Alter>(alloc: Global, conn: &mut Connection<S>) -> Result<Vec<Token>, Error>
+    requires { IsReady (state S.Store conn.old) }
+    ensures { Reads S.Store conn.old conn.new result
+        (λ list. AreTokens (rows_in S.Store conn.old) list.items) }
+{
+    select_list(
+        alloc,
+        conn,
+        "SELECT id, digest, account, live, publish_new, publish_update, yank, change_owners FROM \
+        tokens ORDER BY id",
+        &[],
+    )
+}
+
+/// The greatest id of a token, if there is one.
+pub fn last_id<S: Alter>(conn: &mut Connection<S>) -> Result<Option<u32>, Error>
+    requires { IsReady (state S.Store conn.old) }
+    ensures { Reads S.Store conn.old conn.new result
+        (IsLastId tokens_tree (rows_in S.Store conn.old)) }
+{
+    select_one(conn, "SELECT id FROM tokens ORDER BY id DESC LIMIT 1", &[])
+}
+
+/// How many tokens there are, up to the greatest count of SQL.
+pub fn count<S: Alter>(conn: &mut Connection<S>) -> Result<u64, Error>
+    requires { IsReady (state S.Store conn.old) }
+    ensures { Reads S.Store conn.old conn.new result
+        (IsCount tokens_tree (rows_in S.Store conn.old)) }
+{
+    select_number(conn, "SELECT count(*) FROM tokens")
+}

@@ -1,0 +1,252 @@
+//! The table of versions, a statement a function.
+
+ghost use Rattle.std.specs.Prelude.{◌≡◌, ◌<◌, ◌^◌, ◌∷◌, [], false, pos, IfOk};
+ghost use Rattle.std.specs.Option.{option_map};
+ghost use Rattle.sqlite.specs.Held.{state};
+ghost use Rattle.sqlite.specs.Order.{column};
+ghost use Rattle.sqlite.specs.declared.types.Value.TheVariants.{Int};
+ghost use Rattle.reg_tables_schema.specs.Changes.{Adds};
+ghost use Rattle.reg_tables_schema.specs.Places.{versions_tree};
+ghost use Rattle.reg_tables_schema.specs.Rows.{mark};
+ghost use Rattle.reg_tables_schema.specs.States.{IsReady};
+ghost use Rattle.reg_tables_schema.specs.Statements.{Reads, Writes, rows_in};
+ghost use Rattle.reg_tables_sql.specs.Counts.{IsLastId};
+ghost use Rattle.reg_tables_sql.specs.Rowids.{AreRowids};
+ghost use Rattle.reg_tables_sql.specs.Stems.{AreEntriesOf, columns_of_stem};
+ghost use Rattle.reg_tables_sql.specs.VersionMarks.{AreMarksOf, columns_of_mark};
+ghost use Rattle.reg_tables_sql.specs.Versions.{AreVersions, AreVersionsOf, MarksYanked, columns_of_version, version_row};
+
+use crate::marks::mark_of;
+use crate::records::FromRow;
+use crate::statements::{select_here, select_list, select_one, write};
+use sqlite::{Alter, Connection, Error, Row, params};
+use std::alloc::Global;
+
+/// A version of a crate.
+#[derive(Debug, Drop)]
+pub struct Version {
+    pub id: u64,
+    pub crate_id: u32,
+    pub vers: String,
+    pub release: String,
+    pub digest: Vec<u8>,
+    pub stem: Vec<u8>,
+    pub description: Option<String>,
+    pub yanked: bool,
+}
+
+impl FromRow for Version {
+    ghost columns = { columns_of_version };
+
+    fn from_row(row: &Row) -> Result<Version, Error> {
+        if row.column_count() != 8 {
+            return Err(Error::InvalidQuery);
+        }
+        with_texts(row, row.get(0)?, row.get(1)?, mark_of(row, 7)?)
+    }
+}
+
+// The numbers come first: what owns no memory costs the check little where it lives long.
+fn with_texts(row: &Row, id: u64, crate_id: u32, yanked: bool) -> Result<Version, Error>
+    ensures { IfOk result (λ it. columns_of_version it ≡ Int (pos id) ∷ Int (pos crate_id)
+        ∷ column row.now 2 ∷ column row.now 3 ∷ column row.now 4 ∷ column row.now 5
+        ∷ column row.now 6 ∷ mark yanked ∷ []) }
+{
+    Ok(Version {
+        id,
+        crate_id,
+        vers: row.get(2)?,
+        release: row.get(3)?,
+        digest: row.get(4)?,
+        stem: row.get(5)?,
+        description: row.get(6)?,
+        yanked,
+    })
+}
+
+/// What the line of a version in an index file is made of.
+#[derive(Debug, Drop)]
+pub struct StemRow {
+    pub stem: Vec<u8>,
+    pub yanked: bool,
+}
+
+impl FromRow for StemRow {
+    ghost columns = { columns_of_stem };
+
+    fn from_row(row: &Row) -> Result<StemRow, Error> {
+        if row.column_count() != 2 {
+            return Err(Error::InvalidQuery);
+        }
+        Ok(StemRow {
+            stem: row.get(0)?,
+            yanked: mark_of(row, 1)?,
+        })
+    }
+}
+
+/// What the summary of a crate is made of: one of its versions, and how long its stem is.
+#[derive(Debug, Drop)]
+pub struct VersionMark {
+    pub id: u64,
+    pub vers: String,
+    pub stem_length: u64,
+    pub yanked: bool,
+}
+
+impl FromRow for VersionMark {
+    ghost columns = { columns_of_mark };
+
+    fn from_row(row: &Row) -> Result<VersionMark, Error> {
+        if row.column_count() != 4 {
+            return Err(Error::InvalidQuery);
+        }
+        Ok(VersionMark {
+            id: row.get(0)?,
+            vers: row.get(1)?,
+            stem_length: row.get(2)?,
+            yanked: mark_of(row, 3)?,
+        })
+    }
+}
+
+/// The rows of the index file of a crate, in the order of the versions' ids; each is a `StemRow`.
+pub const ENTRIES_TEXT: &str = "SELECT stem, yanked FROM versions WHERE crate = ?1 ORDER BY id";
+
+/// Adds a version that is not yanked. SQL keeps ids below 2^63.
+pub fn insert<S: Alter>(
+    conn: &mut Connection<S>,
+    id: u64,
+    crate_id: u32,
+    vers: &str,
+    release: &str,
+    digest: &[u8; 32],
+    stem: &[u8],
+    description: Option<&str>,
+) -> Result<(), Error>
+    requires ready { IsReady (state S.Store conn.old) }
+    requires small { id < 2 ^ 63 }
+    ensures { Writes S.Store conn.old conn.new result
+        (Adds versions_tree
+        (version_row id crate_id vers.now release.now digest.now stem.now
+        (option_map (λ d. d.now) description.entry) false)) }
+{
+    write(
+        conn,
+        "INSERT INTO versions (id, crate, vers, release, digest, stem, description, yanked) \
+        VALUES (?1, ?2, ?3, ?4, ?5, ?6, ?7, 0)",
+        params![
+            id as i64,
+            crate_id,
+            vers,
+            release,
+            digest.as_slice(),
+            stem,
+            description
+        ],
+    )
+}
+
+/// Yanks a version, or takes that back.
+pub fn set_yanked<S: Alter>(
+    conn: &mut Connection<S>,
+    crate_id: u32,
+    release: &str,
+    vers: &str,
+    yanked: bool,
+) -> Result<(), Error>
+    requires { IsReady (state S.Store conn.old) }
+    ensures { Writes S.Store conn.old conn.new result
+        (MarksYanked crate_id release.now vers.now yanked) }
+{
+    write(
+        conn,
+        "UPDATE versions SET yanked = ?4 WHERE crate = ?1 AND release = ?2 AND vers = ?3",
+        params![crate_id, release, vers, yanked],
+    )
+}
+
+/// The versions of a crate, in the order of their ids.
+pub fn of_crate<S: Alter>(
+    alloc: Global,
+    conn: &mut Connection<S>,
+    crate_id: u32,
+) -> Result<Vec<Version>, Error>
+    requires { IsReady (state S.Store conn.old) }
+    ensures { Reads S.Store conn.old conn.new result
+        (λ list. AreVersionsOf crate_id (rows_in S.Store conn.old) list.items) }
+{
+    select_list(
+        alloc,
+        conn,
+        "SELECT id, crate, vers, release, digest, stem, description, yanked FROM versions WHERE \
+        crate = ?1 ORDER BY id",
+        params![crate_id],
+    )
+}
+
+/// All versions, in the order of their ids.
+pub fn all<S: Alter>(alloc: Global, conn: &mut Connection<S>) -> Result<Vec<Version>, Error>
+    requires { IsReady (state S.Store conn.old) }
+    ensures { Reads S.Store conn.old conn.new result
+        (λ list. AreVersions (rows_in S.Store conn.old) list.items) }
+{
+    select_list(
+        alloc,
+        conn,
+        "SELECT id, crate, vers, release, digest, stem, description, yanked FROM versions ORDER \
+        BY id",
+        &[],
+    )
+}
+
+/// The ids of all versions, in order, as rowids.
+pub fn rowids<S: Alter>(alloc: Global, conn: &mut Connection<S>) -> Result<Vec<i64>, Error>
+    requires { IsReady (state S.Store conn.old) }
+    ensures { Reads S.Store conn.old conn.new result
+        (λ list. AreRowids versions_tree (rows_in S.Store conn.old) list.items) }
+{
+    select_list(alloc, conn, "SELECT id FROM versions ORDER BY id", &[])
+}
+
+/// The rows of the index file of a crate.
+pub fn entries<S: Alter>(
+    alloc: Global,
+    conn: &mut Connection<S>,
+    crate_id: u32,
+) -> Result<Vec<StemRow>, Error>
+    requires { IsReady (state S.Store conn.old) }
+    ensures { Reads S.Store conn.old conn.new result
+        (λ list. AreEntriesOf crate_id (rows_in S.Store conn.old) list.items) }
+{
+    select_list(alloc, conn, ENTRIES_TEXT, params![crate_id])
+}
+
+/// The marks of the versions of a crate, in the order of their ids.
+pub fn marks_of<S: Alter>(
+    conn: &mut Connection<S>,
+    crate_id: u32,
+) -> Result<Vec<VersionMark>, Error>
+    requires { IsReady (state S.Store conn.old) }
+    ensures { Reads S.Store conn.old conn.new result
+        (λ list. AreMarksOf crate_id (rows_in S.Store conn.old) list.items) }
+{
+    select_here(
+        conn,
+        "SELECT id, vers, length(stem), yanked FROM versions WHERE crate = ?1 ORDER BY id",
+        params![crate_id],
+    )
+}
+
+/// The greatest id of a version, if there is one.
+pub fn last_id<S: Alter>(conn: &mut Connection<S>) -> Result<Option<u64>, Error>
+    requires { IsReady (state S.Store conn.old) }
+    ensures { Reads S.Store conn.old conn.new result
+        (IsLastId versions_tree (rows_in S.Store conn.old)) }
+{
+    select_one(
+        conn,
+        "SELECT id FROM versions ORDER BY id DESC LIMIT 1",
+        &[],
+    )
+}

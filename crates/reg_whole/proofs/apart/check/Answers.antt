@@ -1,5 +1,0 @@
-use Rattle.reg_whole.proofs.OwnRowids.{own_rising}
-use Rattle.reg_whole.proofs.apart.check.Goals as goal
-
-pub returns : goal.returns
-returns c tree db are = own_rising tree db c.args.rowids.now are (c.rise.ensures.0 c.if-not-rise.false)

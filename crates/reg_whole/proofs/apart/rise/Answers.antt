@@ -1,6 +1,0 @@
-use Rattle.std.proofs.Common.{refl}
-use Rattle.reg_whole.proofs.OwnRowids.{rises_nowhere}
-use Rattle.reg_whole.proofs.apart.rise.Goals as goal
-
-pub returns-in-empty : goal.returns-in-empty
-returns-in-empty c = (λ yes. rises_nowhere c.args.ids.now c.in-empty.len_below, λ up. refl)

@@ -1,9 +1,0 @@
-use Rattle.std.proofs.Common.{◌∷◌, drop}
-use Rattle.std.specs.Prelude.{◌↔◌}
-use Rattle.std.specs.List.Sorted.{IsStrictlySortedBy}
-use Rattle.std.specs.Ordering.{int_cmp}
-use Rattle.reg_whole.proofs.apart.rise_from.Given as goal
-
--- what is left decides
-abbrev pub invariant-loop-id : goal.invariant-loop-id
-invariant-loop-id l = IsStrictlySortedBy int_cmp (l.first ∷ l.rest) ↔ IsStrictlySortedBy int_cmp (l.last ∷ drop l.id-index l.rest)

@@ -1,7 +1,0 @@
-use Rattle.reg_service.specs.Answered.{AreUpToDate}
-use Rattle.reg_service.specs.Registries.{tables_of}
-use Rattle.registry_tests.proofs.service.script.first_fault.Given as goal
-
--- the tables are ours between two calls
-abbrev pub invariant-loop-line : goal.invariant-loop-line
-invariant-loop-line g l = AreUpToDate g.S.Store (tables_of l.registry)

@@ -1,0 +1,111 @@
+//! What a script is played on.
+
+ghost use Rattle.reg_model.specs.Events.Event.{Order};
+ghost use Rattle.reg_model.specs.Steps.{IsFit};
+ghost use Rattle.reg_policy.specs.Events.{command_of};
+ghost use Rattle.reg_service.specs.Answered.{AreUpToDate};
+ghost use Rattle.reg_service.specs.Registries.{tables_of};
+
+use crate::service::agreeing::{obeys_alike, replies_alike};
+use reg_api_replies::{Reply, write_reply};
+use reg_api_requests::{ApiRequest, Wanted, read_request};
+use reg_body::Counted;
+use reg_policy::{AdminCommand, Event};
+use reg_policy_plain::PlainRegistry;
+use reg_service::Registry;
+use sqlite::Alter;
+use std::alloc::{AllocError, Global};
+use test_service::{Parts, order_text, reply_text};
+
+/// Whether the plain registry answers a request as it was answered.
+fn is_alike(
+    alloc: Global,
+    plain: &mut PlainRegistry,
+    limits: &reg_body::Limits,
+    request: &ApiRequest<'_>,
+    reply: &Reply,
+) -> Result<bool, AllocError> {
+    let read = read_request(alloc, request, limits)?;
+    let logins = read.logins(alloc)?;
+    let answer = plain.step(&Event::Ask(read.digest(), read.asked(&logins)));
+    replies_alike(alloc, reply, &answer)
+}
+
+/// Whether an index file is sent row by row as it was answered.
+fn is_streamed_alike<S: Alter>(
+    alloc: Global,
+    registry: &mut Registry<S>,
+    request: &ApiRequest<'_>,
+    reply: &Reply,
+) -> bool
+    requires { AreUpToDate S.Store (tables_of registry.old) }
+    ensures { AreUpToDate S.Store (tables_of registry.new) }
+{
+    let Wanted::Index(_) = request.wanted else {
+        return true;
+    };
+    let mut streamed = Counted::new(Vec::new(alloc));
+    let mut whole = Counted::new(Vec::new(alloc));
+    let sent = registry.stream_index(alloc, request, false, &mut streamed, 1_000);
+    let written = write_reply(&mut whole, reply, false, false, 1_000);
+    sent.is_ok() && written.is_ok() && streamed.inner().as_slice() == whole.inner().as_slice()
+}
+
+/// What a request is answered.
+fn asked<S: Alter>(
+    alloc: Global,
+    registry: &mut Registry<S>,
+    plain: &mut PlainRegistry,
+    request: &ApiRequest<'_>,
+) -> Result<String, AllocError>
+    requires { AreUpToDate S.Store (tables_of registry.old) }
+    ensures { AreUpToDate S.Store (tables_of registry.new) }
+{
+    let reply = registry.handle(alloc, request);
+    if !is_streamed_alike(alloc, registry, request, &reply) {
+        return String::from_str(alloc, "the file is sent otherwise");
+    }
+    if is_alike(alloc, plain, registry.limits(), request, &reply)? {
+        return reply_text(alloc, &reply);
+    }
+    String::from_str(alloc, "the plain registry answers otherwise")
+}
+
+/// What a command is answered.
+fn ordered<S: Alter>(
+    alloc: Global,
+    registry: &mut Registry<S>,
+    plain: &mut PlainRegistry,
+    command: AdminCommand<'_>,
+) -> Result<String, AllocError>
+    requires tables { AreUpToDate S.Store (tables_of registry.old) }
+    requires fit { IsFit (Order (command_of command)) }
+    ensures { AreUpToDate S.Store (tables_of registry.new) }
+{
+    let told = registry.command(alloc, &command);
+    let answer = plain.step(&Event::Order(command));
+    if obeys_alike(alloc, &told, answer)? {
+        return order_text(alloc, &told);
+    }
+    String::from_str(alloc, "the plain registry answers otherwise")
+}
+
+/// What a line is answered.
+pub(crate) fn answered<S: Alter>(
+    alloc: Global,
+    registry: &mut Registry<S>,
+    plain: &mut PlainRegistry,
+    line: &str,
+) -> Result<String, AllocError>
+    requires { AreUpToDate S.Store (tables_of registry.old) }
+    ensures { AreUpToDate S.Store (tables_of registry.new) }
+{
+    let parts = Parts::read(alloc, line)?;
+    if let Some(command) = parts.command() {
+        return ordered(alloc, registry, plain, command);
+    }
+    match parts.request() {
+        Some(request) => asked(alloc, registry, plain, &request),
+        None => String::from_str(alloc, "no such words"),
+    }
+}
