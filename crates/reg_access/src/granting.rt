@@ -49,7 +49,7 @@ pub(crate) fn find_named<S: Alter>(
     requires { IsAtWork S.Store work.old }
     ensures { Asks S.Store work.old work.new result (FindsCrate canon.now) }
 {
-    reg_tables_calls::crate_by_canon(work, canon)
+    work.crate_by_canon(canon)
 }
 
 fn find_owners<S: Alter>(
@@ -63,7 +63,7 @@ fn find_owners<S: Alter>(
         (λ db list. AreOwnersOf found.now db list.items) }
 {
     match found {
-        Some(it) => reg_tables_calls::owners_of(alloc, work, it.id),
+        Some(it) => work.owners_of(alloc, it.id),
         None => Ok(Vec::new(alloc)),
     }
 }
@@ -83,7 +83,7 @@ fn is_taken<S: Alter>(
     if is_reserved_always(canon) {
         return Ok(true);
     }
-    reg_tables_calls::is_reserved(work, canon)
+    work.is_reserved(canon)
 }
 
 fn standing_of<S: Alter>(

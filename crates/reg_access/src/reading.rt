@@ -21,10 +21,10 @@ fn readers_at<S: Alter>(
     ensures { Asks S.Store work.old work.new result
         (λ db list. AreReadersAt id db list.items) }
 {
-    if !reg_tables_calls::is_restricted(work, id)? {
+    if !work.is_restricted(id)? {
         return Ok(Vec::new(alloc));
     }
-    reg_tables_calls::readers_of(alloc, work, id)
+    work.readers_of(alloc, id)
 }
 
 fn find_readers<S: Alter>(

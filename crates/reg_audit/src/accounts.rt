@@ -8,8 +8,7 @@ use crate::texts::{HasId, are_counted};
 use reg_line::is_base;
 use reg_names::parse_login;
 use reg_policy::may_name;
-use reg_tables::Account;
-use reg_tables_calls::AllRows;
+use reg_tables::{Account, AllRows};
 
 impl HasId for Account {
     ghost id_of = { λ a. a.id };

@@ -11,8 +11,7 @@ ghost use Rattle.reg_audit.specs.Checks.{archives_pass as archives_pass_in, is_a
 ghost use Rattle.reg_tables.specs.Looks.{Looks};
 
 use reg_line::digest_of;
-use reg_tables::{StoreFault, Version, Work};
-use reg_tables_calls::AllRows;
+use reg_tables::{AllRows, StoreFault, Version, Work};
 use sqlite::Alter;
 
 fn has_digest(bytes: &[u8], digest: &[u8]) -> bool
@@ -45,7 +44,7 @@ fn has_archive<S: Alter>(work: &mut Work<'_, S>, version: &Version) -> Result<bo
         (IsUnchanged (seen S.Store work.old) (seen S.Store work.new)) }
     ensures looks { Looks S.Store work.old work.new }
 {
-    match reg_tables_calls::archive_with_id(work, version.id)? {
+    match work.archive_with_id(version.id)? {
         None => Ok(false),
         Some(bytes) => Ok(has_digest(&bytes, &version.digest)),
     }

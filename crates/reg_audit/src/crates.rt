@@ -8,8 +8,7 @@ ghost use Rattle.reg_audit.specs.Checks.{crates_pass as crates_pass_in, is_named
 
 use crate::texts::{HasId, same_text};
 use reg_names::{canon, parse_name};
-use reg_tables::{Crate, Ownership, Version};
-use reg_tables_calls::AllRows;
+use reg_tables::{AllRows, Crate, Ownership, Version};
 use std::alloc::{AllocError, Global};
 use std::collections::BTreeSet;
 

@@ -1,6 +1,6 @@
 //! The checks in their order.
 
-ghost use Rattle.std.specs.Prelude.{◌≡◌, false, [], ◌∷◌, IfOk};
+ghost use Rattle.std.specs.Prelude.{◌≡◌, false, true, [], ◌∷◌, IfOk, IsErr};
 ghost use Rattle.sqlite.specs.State.{HasCleanDisk, KeepsCommit, Survives};
 ghost use Rattle.sqlite.specs.Tree.{Trees};
 ghost use Rattle.reg_tables_schema.specs.States.{IsUndone};
@@ -21,8 +21,7 @@ use crate::reserved::reserved_pass;
 use crate::summaries::summaries_pass;
 use crate::tokens::tokens_pass;
 use crate::versions::versions_pass;
-use reg_tables::{StoreFault, Tables, Work};
-use reg_tables_calls::AllRows;
+use reg_tables::{AllRows, StoreFault, Tables, Work};
 use sqlite::Alter;
 use std::alloc::{AllocError, Global};
 
@@ -92,7 +91,7 @@ fn examine<S: Alter>(alloc: Global, work: &mut Work<'_, S>) -> Result<Option<Che
         (seen S.Store work.old).now.trees found) }
     ensures looks { Looks S.Store work.old work.new }
 {
-    let rows = reg_tables_calls::all_rows(alloc, work)?;
+    let rows = work.all_rows(alloc)?;
     first_failing(alloc, work, &rows)
 }
 
@@ -111,6 +110,7 @@ pub fn audit<S: Alter>(alloc: Global, tables: &mut Tables<S>) -> Result<Option<C
     ensures ours { AreOurs S.Store tables.new }
     ensures edition { edition_in tables.new ≡ edition_in tables.old }
     ensures open { is_shut tables.new ≡ is_shut tables.old }
+    ensures stopped { is_shut tables.old ≡ true → IsErr result }
     ensures survives { Survives (shown S.Store tables.old) (shown S.Store tables.new) (λ _. ⊥) }
 {
     let mut work = tables.upgrade()?;

@@ -7,7 +7,7 @@ ghost use Rattle.std.specs.Ordering.{nat_cmp};
 ghost use Rattle.reg_audit.specs.Checks.{has_account, has_crate, readers_pass as readers_pass_in};
 
 use crate::texts::HasId;
-use reg_tables_calls::AllRows;
+use reg_tables::AllRows;
 use std::alloc::{AllocError, Global};
 use std::collections::BTreeSet;
 

@@ -7,7 +7,7 @@ ghost use Rattle.reg_audit.specs.Checks.{is_reserved as is_reserved_text, reserv
 use crate::texts::same_text;
 use reg_names::{canon, parse_name};
 use reg_policy::is_reserved_always;
-use reg_tables_calls::AllRows;
+use reg_tables::AllRows;
 
 fn is_reserved(text: &str) -> bool
     ensures { result ≡ is_reserved_text text.now }

@@ -7,8 +7,7 @@ ghost use Rattle.reg_tables_meaning.specs.Summaries.{highest_in, length_in, show
 ghost use Rattle.reg_audit.specs.Checks.{is_summary, its_versions, shown_version, summaries_pass as summaries_pass_in};
 ghost use Rattle.reg_audit.specs.Marks.{marks_at};
 
-use reg_tables::{Crate, StoreFault, Summary, Version};
-use reg_tables_calls::AllRows;
+use reg_tables::{AllRows, Crate, StoreFault, Summary, Version};
 use reg_tables_meaning::summaries::numbers_in;
 use reg_tables_sql::versions::VersionMark;
 use std::alloc::{AllocError, Global};

@@ -10,8 +10,7 @@ ghost use Rattle.reg_audit.specs.Checks.{are_placed as are_placed_in, follow as 
 use crate::texts::{HasId, are_counted, same_text};
 use reg_model::Endpoints;
 use reg_names::{NameRange, Pattern, compile};
-use reg_tables::{Scope, Token};
-use reg_tables_calls::AllRows;
+use reg_tables::{AllRows, Scope, Token};
 use std::alloc::{AllocError, Global};
 
 impl HasId for Token {

@@ -11,8 +11,7 @@ ghost use Rattle.reg_audit.specs.Checks.{crate_of as crate_in, IsGenuine, Versio
 
 use crate::texts::same_text;
 use reg_line::{Digest, check_stem};
-use reg_tables::{Crate, Version};
-use reg_tables_calls::AllRows;
+use reg_tables::{AllRows, Crate, Version};
 use reg_versions::{Release, VersionFault, release_key};
 use std::alloc::{AllocError, Global};
 use std::collections::BTreeMap;

@@ -16,4 +16,6 @@ mod tokens;
 mod using;
 mod words;
 
+pub use reg_cli_line::{Exit, run_line};
+pub use reg_cli_pipe::run_pipe;
 pub use words::run_words;

@@ -12,7 +12,7 @@ use clap::ArgMatches;
 use reg_body::{Counted, Limits};
 use reg_cli_line::Exit;
 use reg_cli_pipe::run_pipe;
-use reg_cli_words::{decimal, is_port};
+use reg_cli_words::{decimal, port};
 use reg_http::serve_stream;
 use reg_service::Registry;
 use sqlite::{Alter, Connection};
@@ -109,7 +109,7 @@ fn read_service(words: &ArgMatches<'_>) -> Option<Service> {
         return None;
     }
     Some(Service {
-        port: is_port(decimal(words.get_str("port")?)?)?,
+        port: port(decimal(words.get_str("port")?)?)?,
         connections: decimal(words.get_str("connections")?)?,
         replies,
     })

@@ -65,7 +65,7 @@ pub(crate) fn open<S: Alter + Drop>(
 {
     match Registry::open(alloc, conn, limits) {
         Ok(registry) => Ok(registry),
-        Err((fault, _)) => Err(refused(fault)),
+        Err((_, fault)) => Err(refused(fault)),
     }
 }
 
@@ -77,6 +77,6 @@ pub(crate) fn create<S: Alter + Drop>(conn: Connection<S>, base: &str) -> Result
 {
     match Registry::create(conn, base, Limits::STANDARD) {
         Ok(registry) => Ok(registry),
-        Err((fault, _)) => Err(refused(fault)),
+        Err((_, fault)) => Err(refused(fault)),
     }
 }

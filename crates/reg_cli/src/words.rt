@@ -5,7 +5,7 @@ use crate::printing::NO_WRITING;
 use crate::serving::{check, init, pipe, serve};
 use clap::Error;
 use clap::error::ErrorKind;
-use reg_body::{Counted, Limits};
+use reg_body::Counted;
 use reg_cli_line::{Exit, run_line};
 use reg_cli_words::{is_dashed, read_words};
 
@@ -31,7 +31,7 @@ fn told(rt: &HostRuntime, error: &Error) -> Exit {
 fn line(rt: &HostRuntime) -> Exit {
     let mut reader = Counted::new(rt.stdin());
     let mut writer = Counted::new(rt.stdout());
-    run_line(rt.alloc(), &mut reader, &mut writer, &Limits::STANDARD)
+    run_line(rt.alloc(), &mut reader, &mut writer)
 }
 
 /// Whether a value among the words behind the program's name begins with `-`.

@@ -6,6 +6,7 @@ ghost use Rattle.reg_manifest.specs.Manifests.{manifest_view};
 ghost use Rattle.reg_cli_line.specs.Answers.{Breaks, IsAnswer, IsStop, printed, stop_words};
 ghost use Rattle.reg_cli_line.specs.Ends.{AppendsFront, NoneFailed};
 ghost use Rattle.reg_cli_line.specs.Faults.{memory, words_of};
+ghost use Rattle.reg_cli_line.specs.Runs.{IsRun, an_end};
 ghost use Rattle.reg_cli_line.specs.declared.fault.LineFault.{LineFault};
 
 use crate::ends::{EndFault, read_all, write_all};
@@ -72,9 +73,9 @@ fn refused(fault: LineFault) -> Exit
     }
 }
 
-/// `run_line` reads a publish body to its end and prints its index path and its line.
+/// `run_line_within` reads a publish body to its end and prints its index path and its line.
 /// It makes at most `turns` read and write calls together.
-pub fn run_line<R: Read, W: Write>(
+pub fn run_line_within<R: Read, W: Write>(
     alloc: Global,
     reader: &mut Counted<R>,
     writer: &mut Counted<W>,
@@ -131,4 +132,19 @@ pub fn run_line<R: Read, W: Write>(
         },
         Err(fault) => stopped(fault, "write fault"),
     }
+}
+
+/// `run_line` is `run_line_within` with the standard limits.
+pub fn run_line<R: Read, W: Write>(
+    alloc: Global,
+    reader: &mut Counted<R>,
+    writer: &mut Counted<W>,
+) -> Exit
+    requires reads { reader.old.calls + Limits.STANDARD.turns < 2 ^ 64 }
+    requires writes { writer.old.calls + Limits.STANDARD.turns < 2 ^ 64 }
+    ensures { IsRun Limits.STANDARD result.status result.words.now
+        (an_end reader.old reader.new (R.remaining reader.old.inner) (R.remaining reader.new.inner))
+        (an_end writer.old writer.new (W.contents writer.old.inner) (W.contents writer.new.inner)) }
+{
+    run_line_within(alloc, reader, writer, &Limits::STANDARD)
 }

@@ -37,6 +37,10 @@ number_below bound text =
     if (nat_lt 0 (length text) && list_all is_ascii_digit text)
     && nat_lt (digits_value 10 text) bound then Some (digits_value 10 text) else None
 
+-- a port that can be listened on
+abbrev pub port_of : ℕ → Option ℕ
+port_of number = if nat_lt 0 number && nat_lt number (2 ^ 16) then Some number else None
+
 -- the words that most commands have
 abbrev pub login_in : Given → Option Text
 login_in given = given (codes "LOGIN")

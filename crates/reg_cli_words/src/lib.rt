@@ -22,7 +22,7 @@ mod subcommands;
 mod usage;
 
 pub use dashes::is_dashed;
-pub use numbers::{decimal, is_port};
+pub use numbers::{decimal, port};
 pub use orders::{NewToken, Order, TokenSource, read_order};
 pub use reports::read_report;
 pub use usage::{read_line, read_words};

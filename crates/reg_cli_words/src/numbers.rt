@@ -3,7 +3,7 @@
 ghost use Rattle.std.specs.Prelude.{◌≡◌, ◌^◌};
 ghost use Rattle.std.specs.Char.{is_ascii_digit};
 ghost use Rattle.std.specs.List.{list_all};
-ghost use Rattle.reg_cli_words.specs.Orders.{number_below};
+ghost use Rattle.reg_cli_words.specs.Orders.{number_below, port_of};
 
 fn are_digits(text: &str) -> bool
     ensures { result ≡ list_all is_ascii_digit text.now }
@@ -33,8 +33,10 @@ pub(crate) fn token_id(text: &str) -> Option<u32>
     }
 }
 
-/// Whether a number is a port that can be listened on.
-pub fn is_port(number: u64) -> Option<u16> {
+/// The port of this number, from 1 to 65535.
+pub fn port(number: u64) -> Option<u16>
+    ensures { result ≡ port_of number }
+{
     match u16::try_from(number) {
         Ok(0) => None,
         Ok(port) => Some(port),

@@ -1,6 +1,6 @@
 //! The walk over the crates that an account sees.
 
-ghost use Rattle.std.specs.Prelude.{◌≡◌, IfOk};
+ghost use Rattle.std.specs.Prelude.{◌≡◌, true, IfOk, IsErr};
 ghost use Rattle.sqlite.specs.Held.{state};
 ghost use Rattle.sqlite.specs.State.{HasCleanDisk};
 ghost use Rattle.reg_tables_schema.specs.States.{IsOurs};
@@ -68,6 +68,7 @@ pub fn search<S: Alter>(
         (FindsCrates viewer q.now per_page (shown S.Store tables.old).now.trees) }
     ensures reads { IsRead S.Store result (held tables.old) (held tables.new) }
     ensures shut { is_shut tables.new ≡ is_shut tables.old }
+    ensures stopped { is_shut tables.old ≡ true → IsErr result }
     ensures edition { edition_in tables.new ≡ edition_in tables.old }
 {
     if tables.is_shut() {

@@ -94,22 +94,22 @@ upgrade_left g old new back first is survives =
     subst (λ h. Survives (shown g old) (state g h) (λ _. edition_in old ≡ First)) (sym is) (survives_weaker (shown g old) (shown g new) _ _ (λ _ db it. first) survives)
 
 -- what the checks and then the upgrade leave, where it failed
-pub examined_undone : {S R : Type 0} (g : Ghosts S) (old mid : Tables S) (r : Result R (OpenFault × Held S))
+pub examined_undone : {S R : Type 0} (g : Ghosts S) (old mid : Tables S) (r : Result R (Held S × OpenFault))
     → (HasCleanDisk (shown g mid) → (shown g old).in_transaction ≡ false → IsUndone (shown g old) (shown g mid))
-    → IfErr r (λ e. Survives (shown g mid) (state g e.1) (λ _. edition_in mid ≡ First))
-    → ((shown g mid).in_transaction ≡ false → IfErr r (λ e. HasCleanDisk (state g e.1) → IsUndone (shown g mid) (state g e.1)))
-    → (shown g old).in_transaction ≡ false → IfErr r (λ e. HasCleanDisk (state g e.1) → IsUndone (shown g old) (state g e.1))
+    → IfErr r (λ e. Survives (shown g mid) (state g e.0) (λ _. edition_in mid ≡ First))
+    → ((shown g mid).in_transaction ≡ false → IfErr r (λ e. HasCleanDisk (state g e.0) → IsUndone (shown g mid) (state g e.0)))
+    → (shown g old).in_transaction ≡ false → IfErr r (λ e. HasCleanDisk (state g e.0) → IsUndone (shown g old) (state g e.0))
 examined_undone g old mid (Ok x) rests survives undone auto = tt
 examined_undone g old mid (Err e) rests survives undone auto = λ clean.
     let first = rests (omega (arith, clean, survives.clean)) auto in
-    then_undone (shown g old) (shown g mid) (state g e.1) first (undone first.autocommit clean)
+    then_undone (shown g old) (shown g mid) (state g e.0) first (undone first.autocommit clean)
 
-pub examined_left : {S R : Type 0} (g : Ghosts S) (old mid : Tables S) (r : Result R (OpenFault × Held S)) → edition_in mid ≡ edition_in old → Survives (shown g old) (shown g mid) (λ _. ⊥)
-    → IfErr r (λ e. e.0 ≡ Storage) → IfErr r (λ e. Survives (shown g mid) (state g e.1) (λ _. edition_in mid ≡ First))
-    → IfErr r (λ e. Survives (shown g old) (state g e.1) (λ _. MayBeUpgraded e.0 (schema_of (edition_in old))))
+pub examined_left : {S R : Type 0} (g : Ghosts S) (old mid : Tables S) (r : Result R (Held S × OpenFault)) → edition_in mid ≡ edition_in old → Survives (shown g old) (shown g mid) (λ _. ⊥)
+    → IfErr r (λ e. e.1 ≡ Storage) → IfErr r (λ e. Survives (shown g mid) (state g e.0) (λ _. edition_in mid ≡ First))
+    → IfErr r (λ e. Survives (shown g old) (state g e.0) (λ _. MayBeUpgraded e.1 (schema_of (edition_in old))))
 examined_left g old mid (Ok x) same one storage two = tt
 examined_left g old mid (Err e) same one storage two =
-    survives_then (shown g old) (shown g mid) (state g e.1) _ _ (λ _. MayBeUpgraded e.0 (schema_of (edition_in old))) (λ _ db none. absurd none) (λ _ db first. (storage, ap schema_of (sym same ∙ first))) one two
+    survives_then (shown g old) (shown g mid) (state g e.0) _ _ (λ _. MayBeUpgraded e.1 (schema_of (edition_in old))) (λ _ db none. absurd none) (λ _ db first. (storage, ap schema_of (sym same ∙ first))) one two
 
 -- a stop leaves nothing new of what is handed back as it was
 pub returned_left : {S : Type 0} (g : Ghosts S) (old : State) (new back : Held S) (P : Trees → Type 0) → back ≡ new → Survives old (state g new) (λ _. ⊥) → Survives old (state g back) P
@@ -209,30 +209,30 @@ module _ {S : Type 0} (g : Ghosts S) (conn : Held S) (t : Tables S) (k : IsTaken
   opened_left (Ok x) law early brought survives = held_left law x early brought survives
 
   -- it is refused, and the store is as it was
-  module _ {R : Type 0} (r : Result R (OpenFault × Held S)) where
+  module _ {R : Type 0} (r : Result R (Held S × OpenFault)) where
     abbrev Returned : Type 0
-    Returned = IfErr r (λ e. Survives (shown g t) (state g e.1) (λ _. MayBeUpgraded e.0 (schema_of (edition_in t))))
+    Returned = IfErr r (λ e. Survives (shown g t) (state g e.0) (λ _. MayBeUpgraded e.1 (schema_of (edition_in t))))
 
     abbrev Undone : Type 0
-    Undone = (shown g t).in_transaction ≡ false → IfErr r (λ e. HasCleanDisk (state g e.1) → IsUndone (shown g t) (state g e.1))
+    Undone = (shown g t).in_transaction ≡ false → IfErr r (λ e. HasCleanDisk (state g e.0) → IsUndone (shown g t) (state g e.0))
 
-  pub refused_undone : {R : Type 0} (r : Result R (OpenFault × Held S)) → Returned r → Undone r
-      → IfErr r (λ e. HasCleanDisk (state g e.1) → IsUndone (state g conn) (state g e.1))
+  pub refused_undone : {R : Type 0} (r : Result R (Held S × OpenFault)) → Returned r → Undone r
+      → IfErr r (λ e. HasCleanDisk (state g e.0) → IsUndone (state g conn) (state g e.0))
   refused_undone (Ok x) returned undone = tt
   refused_undone (Err e) returned undone = λ clean.
       let first = k.rests (omega (arith, clean, returned.clean)) in
-      then_undone (state g conn) (shown g t) (state g e.1) first (undone first.autocommit clean)
+      then_undone (state g conn) (shown g t) (state g e.0) first (undone first.autocommit clean)
 
-  pub refused_left : {R : Type 0} (r : Result R (OpenFault × Held S)) → Survives (state g conn) (shown g t) (λ _. ⊥) → Returned r
-      → IfErr r (λ e. Survives (state g conn) (state g e.1) (λ _. MayBeUpgraded e.0 now.schema))
+  pub refused_left : {R : Type 0} (r : Result R (Held S × OpenFault)) → Survives (state g conn) (shown g t) (λ _. ⊥) → Returned r
+      → IfErr r (λ e. Survives (state g conn) (state g e.0) (λ _. MayBeUpgraded e.1 now.schema))
   refused_left (Ok x) survives returned = tt
   refused_left (Err e) survives returned =
-      survives_then (state g conn) (shown g t) (state g e.1) _ _ (λ _. MayBeUpgraded e.0 now.schema) (λ _ db none. absurd none) (λ _ db it. (it.0, k.schema ∙ it.1)) survives returned
+      survives_then (state g conn) (shown g t) (state g e.0) _ _ (λ _. MayBeUpgraded e.1 now.schema) (λ _ db none. absurd none) (λ _ db it. (it.0, k.schema ∙ it.1)) survives returned
 
   -- where a check fails there is no registry
-  pub refused_damaged : {R : Type 0} (r : Result R (OpenFault × Held S)) → FoundLaw → Returned r → Undone r
-      → IfErr r (λ e. HasCleanDisk (state g e.1) → (check : Check) → e.0 ≡ Damaged check → IsFirstFailing (edition_in t) (shown g t).now (Some check))
-      → IfErr r (λ e. HasCleanDisk (state g e.1) → (check : Check) → e.0 ≡ Damaged check → IsTrue (state g e.1).is_open → AreDamaged now check)
+  pub refused_damaged : {R : Type 0} (r : Result R (Held S × OpenFault)) → FoundLaw → Returned r → Undone r
+      → IfErr r (λ e. HasCleanDisk (state g e.0) → (check : Check) → e.1 ≡ Damaged check → IsFirstFailing (edition_in t) (shown g t).now (Some check))
+      → IfErr r (λ e. HasCleanDisk (state g e.0) → (check : Check) → e.1 ≡ Damaged check → IsTrue (state g e.0).is_open → AreDamaged now check)
   refused_damaged (Ok x) audited returned undone first = tt
   refused_damaged (Err e) audited returned undone first = λ clean check is up.
       let mid : HasCleanDisk (shown g t) = omega (arith, clean, returned.clean) in

@@ -39,7 +39,7 @@ pub enum OpenFault {
 fn brought_up<S: Alter>(
     mut tables: Tables<S>,
     limits: Limits,
-) -> Result<Registry<S>, (OpenFault, Connection<S>)>
+) -> Result<Registry<S>, (Connection<S>, OpenFault)>
     requires { AreOurs S.Store tables }
     ensures up_to_date { IfOk result (λ r. AreUpToDate S.Store (tables_of r)) }
     ensures limited { IfOk result (λ r. limits_of r ≡ limits) }
@@ -48,17 +48,17 @@ fn brought_up<S: Alter>(
         → IsBrought (edition_in tables) (shown S.Store tables) (shown S.Store (tables_of r))) }
     ensures clean { IfOk result (λ r. HasCleanDisk (shown S.Store (tables_of r))
         → HasCleanDisk (shown S.Store tables)) }
-    ensures refused { IfErr result (λ e. e.0 ≡ OpenFault.Storage) }
+    ensures refused { IfErr result (λ e. e.1 ≡ OpenFault.Storage) }
     ensures undone { (shown S.Store tables).in_transaction ≡ false → IfErr result (λ e.
-        HasCleanDisk (state S.Store e.1) → IsUndone (shown S.Store tables) (state S.Store e.1)) }
-    ensures handed_back { IfErr result (λ e. Survives (shown S.Store tables) (state S.Store e.1)
+        HasCleanDisk (state S.Store e.0) → IsUndone (shown S.Store tables) (state S.Store e.0)) }
+    ensures handed_back { IfErr result (λ e. Survives (shown S.Store tables) (state S.Store e.0)
         (λ _. edition_in tables ≡ Edition.First)) }
 {
     match tables.edition() {
         Edition::Second => Ok(Registry { tables, limits }),
         Edition::First => match tables.migrate() {
             Ok(_) => Ok(Registry { tables, limits }),
-            Err(_) => Err((OpenFault::Storage, tables.into_connection())),
+            Err(_) => Err((tables.into_connection(), OpenFault::Storage)),
         },
     }
 }
@@ -68,7 +68,7 @@ fn examined<S: Alter>(
     alloc: Global,
     mut tables: Tables<S>,
     limits: Limits,
-) -> Result<Registry<S>, (OpenFault, Connection<S>)>
+) -> Result<Registry<S>, (Connection<S>, OpenFault)>
     requires { AreOurs S.Store tables }
     ensures up_to_date { IfOk result (λ r. AreUpToDate S.Store (tables_of r)) }
     ensures limited { IfOk result (λ r. limits_of r ≡ limits) }
@@ -80,18 +80,18 @@ fn examined<S: Alter>(
     ensures passed { IfOk result (λ r. HasCleanDisk (shown S.Store (tables_of r))
         → IsFirstFailing (edition_in tables) (shown S.Store tables).now None) }
     ensures known { IfErr result
-        (λ e. (e.0 ≢ OpenFault.UnknownSchema) × (e.0 ≢ OpenFault.BadBase)) }
-    ensures found { IfErr result (λ e. HasCleanDisk (state S.Store e.1) → (check : _)
-        → e.0 ≡ OpenFault.Damaged check
+        (λ e. (e.1 ≢ OpenFault.UnknownSchema) × (e.1 ≢ OpenFault.BadBase)) }
+    ensures found { IfErr result (λ e. HasCleanDisk (state S.Store e.0) → (check : _)
+        → e.1 ≡ OpenFault.Damaged check
         → IsFirstFailing (edition_in tables) (shown S.Store tables).now (Some check)) }
     ensures undone { (shown S.Store tables).in_transaction ≡ false → IfErr result (λ e.
-        HasCleanDisk (state S.Store e.1) → IsUndone (shown S.Store tables) (state S.Store e.1)) }
-    ensures handed_back { IfErr result (λ e. Survives (shown S.Store tables) (state S.Store e.1)
-        (λ _. MayBeUpgraded e.0 (schema_of (edition_in tables)))) }
+        HasCleanDisk (state S.Store e.0) → IsUndone (shown S.Store tables) (state S.Store e.0)) }
+    ensures handed_back { IfErr result (λ e. Survives (shown S.Store tables) (state S.Store e.0)
+        (λ _. MayBeUpgraded e.1 (schema_of (edition_in tables)))) }
 {
     match audit(alloc, &mut tables) {
-        Err(_) => Err((OpenFault::Storage, tables.into_connection())),
-        Ok(Some(check)) => Err((OpenFault::Damaged(check), tables.into_connection())),
+        Err(_) => Err((tables.into_connection(), OpenFault::Storage)),
+        Ok(Some(check)) => Err((tables.into_connection(), OpenFault::Damaged(check))),
         Ok(None) => brought_up(tables, limits),
     }
 }
@@ -103,7 +103,7 @@ impl<S: Alter> Registry<S> {
         alloc: Global,
         conn: Connection<S>,
         limits: Limits,
-    ) -> Result<Registry<S>, (OpenFault, Connection<S>)>
+    ) -> Result<Registry<S>, (Connection<S>, OpenFault)>
         requires { (state S.Store conn).in_transaction ≡ false }
         ensures up_to_date { IfOk result (λ r. AreUpToDate S.Store (tables_of r)) }
         ensures goes_on { IfOk result (λ r. has_stopped r ≡ false) }
@@ -117,25 +117,25 @@ impl<S: Alter> Registry<S> {
             → AreOne (state S.Store conn).now (shown S.Store (tables_of r)).now.trees) }
         ensures left { IfOk result (λ r. HasCleanDisk (shown S.Store (tables_of r))
             → LeavesOpened (state S.Store conn) (shown S.Store (tables_of r))) }
-        ensures unknown { IfErr result (λ e. HasCleanDisk (state S.Store e.1)
-            → e.0 ≡ OpenFault.UnknownSchema → (edition : Edition)
+        ensures unknown { IfErr result (λ e. HasCleanDisk (state S.Store e.0)
+            → e.1 ≡ OpenFault.UnknownSchema → (edition : Edition)
             → (state S.Store conn).now.schema ≡ schema_of edition
             → LacksBase edition (state S.Store conn).now.trees) }
-        ensures damaged { IfErr result (λ e. HasCleanDisk (state S.Store e.1) → (check : _)
-            → e.0 ≡ OpenFault.Damaged check → IsTrue (state S.Store e.1).is_open
+        ensures damaged { IfErr result (λ e. HasCleanDisk (state S.Store e.0) → (check : _)
+            → e.1 ≡ OpenFault.Damaged check → IsTrue (state S.Store e.0).is_open
             → AreDamaged (state S.Store conn).now check) }
-        ensures known { IfErr result (λ e. e.0 ≢ OpenFault.BadBase) }
-        ensures undone { IfErr result (λ e. HasCleanDisk (state S.Store e.1)
-            → IsUndone (state S.Store conn) (state S.Store e.1)) }
-        ensures handed_back { IfErr result (λ e. Survives (state S.Store conn) (state S.Store e.1)
-            (λ _. MayBeUpgraded e.0 (state S.Store conn).now.schema)) }
+        ensures known { IfErr result (λ e. e.1 ≢ OpenFault.BadBase) }
+        ensures undone { IfErr result (λ e. HasCleanDisk (state S.Store e.0)
+            → IsUndone (state S.Store conn) (state S.Store e.0)) }
+        ensures handed_back { IfErr result (λ e. Survives (state S.Store conn) (state S.Store e.0)
+            (λ _. MayBeUpgraded e.1 (state S.Store conn).now.schema)) }
     {
         edition_law();
         rows_law(&conn);
         match Tables::adopt(alloc, conn) {
             Ok(tables) => examined(alloc, tables, limits),
-            Err((MakeFault::UnknownSchema, conn)) => Err((OpenFault::UnknownSchema, conn)),
-            Err((MakeFault::Storage, conn)) => Err((OpenFault::Storage, conn)),
+            Err((conn, MakeFault::UnknownSchema)) => Err((conn, OpenFault::UnknownSchema)),
+            Err((conn, MakeFault::Storage)) => Err((conn, OpenFault::Storage)),
         }
     }
 
@@ -144,33 +144,33 @@ impl<S: Alter> Registry<S> {
         conn: Connection<S>,
         base: &str,
         limits: Limits,
-    ) -> Result<Registry<S>, (OpenFault, Connection<S>)>
+    ) -> Result<Registry<S>, (Connection<S>, OpenFault)>
         requires { (state S.Store conn).in_transaction ≡ false }
         ensures made { IfOk result (IsNew S.Store base.now limits) }
         ensures bad_base { IfErr result
-            (λ e. (e.0 ≡ OpenFault.BadBase) ↔ (is_base_text base.now ≡ false)) }
+            (λ e. (e.1 ≡ OpenFault.BadBase) ↔ (is_base_text base.now ≡ false)) }
         ensures unknown { IfErr result (λ e. is_base_text base.now ≡ true
-            → (e.0 ≡ OpenFault.UnknownSchema) ↔ ((state S.Store conn).now.schema ≢ blank)) }
+            → (e.1 ≡ OpenFault.UnknownSchema) ↔ ((state S.Store conn).now.schema ≢ blank)) }
         ensures blank { IfOk result (λ r. (state S.Store conn).now.schema ≡ blank) }
-        ensures known { IfErr result (λ e. (check : _) → e.0 ≢ OpenFault.Damaged check) }
-        ensures untouched { IfErr result (λ e. e.0 ≢ OpenFault.Storage → e.1 ≡ conn) }
-        ensures undone { IfErr result (λ e. HasCleanDisk (state S.Store e.1)
-            → e.0 ≡ OpenFault.Storage → IsUndone (state S.Store conn) (state S.Store e.1)) }
+        ensures known { IfErr result (λ e. (check : _) → e.1 ≢ OpenFault.Damaged check) }
+        ensures untouched { IfErr result (λ e. e.1 ≢ OpenFault.Storage → e.0 ≡ conn) }
+        ensures undone { IfErr result (λ e. HasCleanDisk (state S.Store e.0)
+            → e.1 ≡ OpenFault.Storage → IsUndone (state S.Store conn) (state S.Store e.0)) }
         ensures kept { IfOk result (λ r. Survives (state S.Store conn)
             (shown S.Store (tables_of r))
             (λ trees. (db : _) × IsMade base.now db × (trees ≡ db.trees))) }
-        ensures handed_back { IfErr result (λ e. e.0 ≡ OpenFault.Storage
-            → Survives (state S.Store conn) (state S.Store e.1)
+        ensures handed_back { IfErr result (λ e. e.1 ≡ OpenFault.Storage
+            → Survives (state S.Store conn) (state S.Store e.0)
             (λ trees. (db : _) × IsMade base.now db × (trees ≡ db.trees))) }
     {
         soundness_law();
         if !is_base(base) {
-            return Err((OpenFault::BadBase, conn));
+            return Err((conn, OpenFault::BadBase));
         }
         match Tables::make(conn, base) {
             Ok(tables) => Ok(Registry { tables, limits }),
-            Err((MakeFault::UnknownSchema, conn)) => Err((OpenFault::UnknownSchema, conn)),
-            Err((MakeFault::Storage, conn)) => Err((OpenFault::Storage, conn)),
+            Err((conn, MakeFault::UnknownSchema)) => Err((conn, OpenFault::UnknownSchema)),
+            Err((conn, MakeFault::Storage)) => Err((conn, OpenFault::Storage)),
         }
     }
 }

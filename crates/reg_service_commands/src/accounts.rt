@@ -27,10 +27,10 @@ pub(crate) fn set_enabled<S: Alter>(
     requires { IsAtWork S.Store work.old }
     ensures { Obeys S.Store (enabling enabled login.now) result work.old work.new }
 {
-    let Some(account) = reg_tables_calls::account_by_login(work, login)? else {
+    let Some(account) = work.account_by_login(login)? else {
         return Ok(Err(AdminRefusal::G3));
     };
-    reg_tables_calls::set_enabled(work, account.id, enabled)?;
+    work.set_enabled(account.id, enabled)?;
     Ok(Ok(AdminReply::Done))
 }
 
@@ -48,7 +48,7 @@ fn is_full<S: Alter>(work: &mut Work<'_, S>, limits: &Limits) -> Result<bool, St
     ensures { Asks S.Store work.old work.new result
         (λ db full. Tells (λ ids s. full ≡ nat_le limits.now.accounts (length s.accounts)) db) }
 {
-    let counts = reg_tables_calls::counts(work)?;
+    let counts = work.counts()?;
     Ok(limits.accounts <= counts.accounts)
 }
 
@@ -62,7 +62,7 @@ fn refuses_account<S: Alter>(
     ensures { Asks S.Store work.old work.new result (λ db found.
         Tells (λ ids s. account_refusal limits.now login.now s ≡ found) db) }
 {
-    let found = reg_tables_calls::account_by_login(work, login)?;
+    let found = work.account_by_login(login)?;
     if found.is_some() {
         return Ok(Some(AdminRefusal::G2));
     }
@@ -88,6 +88,6 @@ pub(crate) fn add_account<S: Alter>(
     if let Some(refusal) = refuses_account(work, limits, login)? {
         return Ok(Err(refusal));
     }
-    reg_tables_calls::add_account(work, login, name)?;
+    work.add_account(login, name)?;
     Ok(Ok(AdminReply::Done))
 }

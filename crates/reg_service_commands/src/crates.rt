@@ -25,7 +25,7 @@ pub(crate) fn set_restricted<S: Alter>(
     let Some(named) = find_named(work, name)? else {
         return Ok(Err(AdminRefusal::G8));
     };
-    reg_tables_calls::set_restricted(work, named.id, restricted)?;
+    work.set_restricted(named.id, restricted)?;
     Ok(Ok(AdminReply::Done))
 }
 
@@ -40,7 +40,7 @@ pub(crate) fn add_owner<S: Alter>(
     ensures { Obeys S.Store (OwnerAdd name.now login.now) result work.old work.new }
 {
     match find_pair(work, name, login)? {
-        Ok((id, account)) => reg_tables_calls::add_owner(work, id, account)?,
+        Ok((id, account)) => work.add_owner(id, account)?,
         Err(refusal) => return Ok(Err(refusal)),
     }
     Ok(Ok(AdminReply::Done))
@@ -57,7 +57,7 @@ pub(crate) fn add_reader<S: Alter>(
     ensures { Obeys S.Store (ReaderAdd name.now login.now) result work.old work.new }
 {
     match find_pair(work, name, login)? {
-        Ok((id, account)) => reg_tables_calls::add_reader(work, id, account)?,
+        Ok((id, account)) => work.add_reader(id, account)?,
         Err(refusal) => return Ok(Err(refusal)),
     }
     Ok(Ok(AdminReply::Done))
@@ -74,7 +74,7 @@ pub(crate) fn remove_reader<S: Alter>(
     ensures { Obeys S.Store (ReaderRemove name.now login.now) result work.old work.new }
 {
     match find_pair(work, name, login)? {
-        Ok((id, account)) => reg_tables_calls::remove_reader(work, id, account)?,
+        Ok((id, account)) => work.remove_reader(id, account)?,
         Err(refusal) => return Ok(Err(refusal)),
     }
     Ok(Ok(AdminReply::Done))

@@ -23,7 +23,7 @@ pub(crate) fn find_pair<S: Alter>(
     let Some(named) = find_named(work, name)? else {
         return Ok(Err(AdminRefusal::G8));
     };
-    match reg_tables_calls::account_by_login(work, login)? {
+    match work.account_by_login(login)? {
         Some(account) => Ok(Ok((named.id, account.id))),
         None => Ok(Err(AdminRefusal::G3)),
     }

@@ -27,7 +27,7 @@ pub(crate) fn reserve<S: Alter>(
     if is_reserved_always(&text) {
         return Ok(Ok(AdminReply::Done));
     }
-    reg_tables_calls::reserve(work, &text)?;
+    work.reserve(&text)?;
     Ok(Ok(AdminReply::Done))
 }
 
@@ -43,6 +43,6 @@ pub(crate) fn unreserve<S: Alter>(
     let Some(parsed) = parse_name(name) else {
         return Ok(Err(AdminRefusal::G4));
     };
-    reg_tables_calls::unreserve(work, &canon(&parsed))?;
+    work.unreserve(&canon(&parsed))?;
     Ok(Ok(AdminReply::Done))
 }

@@ -34,7 +34,7 @@ fn has_token<S: Alter>(work: &mut Work<'_, S>, id: u32) -> Result<bool, StoreFau
     ensures { Asks S.Store work.old work.new result
         (λ db has. Tells (λ ids s. has ≡ is_some (with_id s.tokens id)) db) }
 {
-    let counts = reg_tables_calls::counts(work)?;
+    let counts = work.counts()?;
     Ok(is_id(id, counts.tokens))
 }
 
@@ -50,7 +50,7 @@ pub(crate) fn revoke<S: Alter>(
     if !has {
         return Ok(Err(AdminRefusal::G6));
     }
-    reg_tables_calls::revoke(work, id)?;
+    work.revoke(id)?;
     Ok(Ok(AdminReply::Done))
 }
 
@@ -70,7 +70,7 @@ fn is_full<S: Alter>(
     ensures { Asks S.Store work.old work.new result (λ db full.
         Tells (λ ids s. full ≡ is_full_for limits.now patterns.now s) db) }
 {
-    let counts = reg_tables_calls::counts(work)?;
+    let counts = work.counts()?;
     Ok(are_too_many(limits, patterns.len(), counts.tokens))
 }
 
@@ -90,7 +90,7 @@ fn refuses_token<S: Alter>(
     if full {
         return Ok(Some(AdminRefusal::G7));
     }
-    let found = reg_tables_calls::token_rows(alloc, work, digest)?;
+    let found = work.token_rows(alloc, digest)?;
     Ok(refused_if(AdminRefusal::G5, found.is_some()))
 }
 
@@ -111,7 +111,7 @@ fn put_token<S: Alter>(
     if let Some(refusal) = refuses_token(alloc, work, limits, digest, patterns)? {
         return Ok(Err(refusal));
     }
-    let id = reg_tables_calls::add_token(alloc, work, digest, account, endpoints, patterns)?;
+    let id = work.add_token(alloc, digest, account, endpoints, patterns)?;
     Ok(Ok(AdminReply::Id(id)))
 }
 
@@ -154,7 +154,7 @@ pub(crate) fn add_token<S: Alter>(
     ensures { ObeysUnder limits.now S.Store (TokenAdd login.now (map (λ w. w.now) words.now)
         (map (λ t. t.now) texts.now) digest.now) result work.old work.new }
 {
-    let Some(account) = reg_tables_calls::account_by_login(work, login)? else {
+    let Some(account) = work.account_by_login(login)? else {
         return Ok(Err(AdminRefusal::G3));
     };
     let patterns = match read_scopes(alloc, words, texts) {

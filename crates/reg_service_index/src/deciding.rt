@@ -33,7 +33,7 @@ fn find_crate<S: Alter>(work: &mut Work<'_, S>, path: &str) -> Result<Crate, Sto
     let Some(name) = name_of_path(path) else {
         return work.fail();
     };
-    match reg_tables_calls::crate_by_canon(work, &canon(&name))? {
+    match work.crate_by_canon(&canon(&name))? {
         Some(found) => Ok(found),
         None => work.fail(),
     }
@@ -44,7 +44,7 @@ fn find_length<S: Alter>(work: &mut Work<'_, S>, crate_id: u32) -> Result<Decide
     requires { IsAtWork S.Store work.old }
     ensures { Asks S.Store work.old work.new result (HasLength crate_id) }
 {
-    match reg_tables_calls::summary_of(work, crate_id)? {
+    match work.summary_of(crate_id)? {
         Some(summary) => Ok(Decided::Found(FoundFile {
             crate_id,
             length: summary.index_length,

@@ -33,7 +33,7 @@ fn add_line<S: Alter>(
     ensures { Asks S.Store work.old work.new result
         (λ db _. AddsLine listed.now (string_bytes report.old) (string_bytes report.new) db) }
 {
-    let versions = reg_tables_calls::versions_of(alloc, work, listed.id)?;
+    let versions = work.versions_of(alloc, listed.id)?;
     match push_versions(report, listed.name.as_str(), &versions) {
         Ok(()) => Ok(()),
         Err(_) => work.fail(),
@@ -62,6 +62,6 @@ pub fn crates_report<S: Alter>(alloc: Global, work: &mut Work<'_, S>) -> Result<
     requires { IsAtWork S.Store work.old }
     ensures { Asks S.Store work.old work.new result (Reports crates_text) }
 {
-    let crates = reg_tables_calls::all_crates(alloc, work)?;
+    let crates = work.all_crates(alloc)?;
     lines_of(alloc, work, &crates)
 }

@@ -117,8 +117,8 @@ pub fn tokens_report<S: Alter>(alloc: Global, work: &mut Work<'_, S>) -> Result<
     requires { IsAtWork S.Store work.old }
     ensures { Asks S.Store work.old work.new result (Reports tokens_text) }
 {
-    let accounts = reg_tables_calls::all_accounts(alloc, work)?;
-    let both = reg_tables_calls::all_tokens(alloc, work)?;
+    let accounts = work.all_accounts(alloc)?;
+    let both = work.all_tokens(alloc)?;
     match lines_of(alloc, &accounts, &both.tokens, &both.scopes) {
         Ok(text) => Ok(text),
         Err(_) => work.fail(),

@@ -46,7 +46,7 @@ pub fn users_report<S: Alter>(alloc: Global, work: &mut Work<'_, S>) -> Result<S
     requires { IsAtWork S.Store work.old }
     ensures { Asks S.Store work.old work.new result (Reports users_text) }
 {
-    let accounts = reg_tables_calls::all_accounts(alloc, work)?;
+    let accounts = work.all_accounts(alloc)?;
     match lines_of(alloc, &accounts) {
         Ok(text) => Ok(text),
         Err(_) => work.fail(),

@@ -70,7 +70,7 @@ fn add_file<S: Alter>(
     ensures { Asks S.Store work.old work.new result (λ db _. AddsFile listed.now
         (map texts_of files.old.items) (map texts_of files.new.items) db) }
 {
-    let versions = reg_tables_calls::versions_of(alloc, work, listed.id)?;
+    let versions = work.versions_of(alloc, listed.id)?;
     let Some(name) = parse_name(listed.name.as_str()) else {
         return work.fail();
     };
@@ -108,6 +108,6 @@ pub fn export_all<S: Alter>(
     ensures { Asks S.Store work.old work.new result (λ db files. Exports files.items db) }
 {
     let first = first_file(alloc, work)?;
-    let crates = reg_tables_calls::all_crates(alloc, work)?;
+    let crates = work.all_crates(alloc)?;
     add_files(alloc, work, first, &crates)
 }

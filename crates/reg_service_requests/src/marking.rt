@@ -29,6 +29,6 @@ pub(crate) fn set_yanked<S: Alter>(
     let Ok(body) = ok_body().to_vec(alloc) else {
         return work.fail();
     };
-    reg_tables_calls::set_yanked(work, named.id, version, yanked)?;
+    work.set_yanked(named.id, version, yanked)?;
     Ok(Served::Done(Reply::Done(Kind::Json, body)))
 }

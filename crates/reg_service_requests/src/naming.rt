@@ -19,7 +19,7 @@ pub fn find_named<S: Alter>(work: &mut Work<'_, S>, text: &str) -> Result<Option
     ensures { Asks S.Store work.old work.new result (FindsNamed text.now) }
 {
     match parse_name(text) {
-        Some(name) => reg_tables_calls::crate_by_canon(work, &canon(&name)),
+        Some(name) => work.crate_by_canon(&canon(&name)),
         None => Ok(None),
     }
 }
@@ -34,7 +34,7 @@ pub(crate) fn find_viewer<S: Alter>(
     requires { IsAtWork S.Store work.old }
     ensures { Asks S.Store work.old work.new result (FindsViewer digest.now) }
 {
-    match reg_tables_calls::token_rows(alloc, work, digest)? {
+    match work.token_rows(alloc, digest)? {
         Some(found) => Ok(found.token.account),
         None => work.fail(),
     }

@@ -47,7 +47,7 @@ fn find_known<S: Alter>(work: &mut Work<'_, S>, login: &str) -> Result<Option<u3
     requires { IsAtWork S.Store work.old }
     ensures { Asks S.Store work.old work.new result (FindsKnown login.now) }
 {
-    let found = reg_tables_calls::account_by_login(work, login)?;
+    let found = work.account_by_login(login)?;
     Ok(id_if_enabled(&found))
 }
 
@@ -170,7 +170,7 @@ fn find_leaving<S: Alter>(
         (FindsOwners false name.now (map (λ l. l.now) logins.now)) }
 {
     let id = find_crate(work, name)?;
-    let owners = reg_tables_calls::owners_of(alloc, work, id)?;
+    let owners = work.owners_of(alloc, id)?;
     match leaving(alloc, &owners, logins) {
         Ok(Ok(accounts)) => Ok(Ok((id, accounts))),
         Ok(Err(rule)) => Ok(Err(rule)),
@@ -191,9 +191,9 @@ fn set_owner<S: Alter>(
     ensures leaves { IsCall S.Store result work.old work.new }
 {
     if is_owner {
-        reg_tables_calls::add_owner(work, crate_id, account)
+        work.add_owner(crate_id, account)
     } else {
-        reg_tables_calls::remove_owner(work, crate_id, account)
+        work.remove_owner(crate_id, account)
     }
 }
 

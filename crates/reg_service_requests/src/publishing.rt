@@ -40,7 +40,7 @@ fn is_full<S: Alter>(work: &mut Work<'_, S>, limits: &Limits) -> Result<bool, St
     requires { IsAtWork S.Store work.old }
     ensures { Asks S.Store work.old work.new result (TellsFull limits.now) }
 {
-    reg_tables_calls::reaches_crates(work, limits.crates)
+    work.reaches_crates(limits.crates)
 }
 
 /// Whether a crate has as many versions as it may have.
@@ -53,7 +53,7 @@ fn is_full_of<S: Alter>(
     requires { IsAtWork S.Store work.old }
     ensures { Asks S.Store work.old work.new result (TellsFullOf limits.now crate_id) }
 {
-    let versions = reg_tables_calls::versions_of(alloc, work, crate_id)?;
+    let versions = work.versions_of(alloc, crate_id)?;
     Ok(limits.versions <= versions.len() as u64)
 }
 
@@ -73,7 +73,7 @@ fn make_crate<S: Alter>(
         return work.fail();
     };
     let version = version_of(new);
-    reg_tables_calls::add_crate(work, new.name, owner, &version)?;
+    work.add_crate(new.name, owner, &version)?;
     Ok(Served::Done(Reply::Done(Kind::Json, body)))
 }
 
@@ -116,7 +116,7 @@ fn publish_next<S: Alter>(
         return work.fail();
     };
     let version = version_of(new);
-    reg_tables_calls::add_version(work, crate_id, &version)?;
+    work.add_version(crate_id, &version)?;
     Ok(Served::Done(Reply::Done(Kind::Json, body)))
 }
 
@@ -135,7 +135,7 @@ pub(crate) fn publish<S: Alter>(
     ensures { GrantsTo limits.now digest.now S.Store (Publish (publication_of new.now))
         result work.old work.new }
 {
-    match reg_tables_calls::crate_by_canon(work, &canon(new.name))? {
+    match work.crate_by_canon(&canon(new.name))? {
         Some(known) => publish_next(alloc, work, limits, known.id, new),
         None => publish_first(alloc, work, limits, digest, new),
     }

@@ -59,8 +59,8 @@ fn find_versions<S: Alter>(
     let Some(name) = name_of_path(path) else {
         return work.fail();
     };
-    match reg_tables_calls::crate_by_canon(work, &canon(&name))? {
-        Some(found) => reg_tables_calls::versions_of(alloc, work, found.id),
+    match work.crate_by_canon(&canon(&name))? {
+        Some(found) => work.versions_of(alloc, found.id),
         None => work.fail(),
     }
 }
@@ -95,7 +95,7 @@ pub(crate) fn read_archive<S: Alter>(
     let Some(named) = find_named(work, name)? else {
         return work.fail();
     };
-    match reg_tables_calls::archive_of(work, named.id, version)? {
+    match work.archive_of(named.id, version)? {
         Some(archive) => Ok(Served::Told(Reply::Done(Kind::Archive, archive))),
         None => work.fail(),
     }
@@ -114,7 +114,7 @@ pub(crate) fn list_owners<S: Alter>(
     let Some(named) = find_named(work, name)? else {
         return work.fail();
     };
-    let owners = reg_tables_calls::owners_of(alloc, work, named.id)?;
+    let owners = work.owners_of(alloc, named.id)?;
     match owners_list(alloc, &owners) {
         Ok(text) => Ok(Served::Told(Reply::Done(Kind::Json, text))),
         Err(_) => work.fail(),

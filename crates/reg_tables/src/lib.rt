@@ -1,16 +1,25 @@
 //! The registry kept in tables: a file or a store is made or taken over, and calls run on it in
-//! transactions.
+//! transactions, each with what it is on the registry that the rows stand for.
 //!
 //! ```text
 //! let mut work = tables.work()?;
+//! let ada = work.add_account("ada", Some("Ada"))?;
 //! let has_ada = work.has_row("SELECT id FROM accounts WHERE login = ?1", params!["ada"])?;
 //! work.commit()?;
 //! ```
-//!
-//! The typed calls of a transaction are the functions of `reg_tables_calls`.
 #![tactic(auto)]
 
+mod accounts;
+mod counting;
+mod crate_lists;
+mod crates;
+mod owners;
+mod readers;
+mod reserved;
+mod restricted;
 mod tables;
+mod tokens;
+mod whole_rows;
 mod work;
 
 pub use reg_tables_meaning::counts::Counts;
@@ -18,6 +27,8 @@ pub use reg_tables_meaning::crates::NewVersion;
 pub use reg_tables_meaning::entries::index_rows;
 pub use reg_tables_meaning::tokens::{TokenLists, TokenRows};
 pub use reg_tables_meaning::walks::rows_of;
+pub use reg_tables_rows::all_rows::AllRows;
+pub use reg_tables_rows::entries::index_entries;
 pub use reg_tables_schema::{Edition, MakeFault};
 pub use reg_tables_sql::accounts::Account;
 pub use reg_tables_sql::crates::Crate;

@@ -27,8 +27,7 @@ use std::alloc::Global;
 /// store then holds is seen by opening it again.
 #[derive(Drop)]
 pub struct Tables<S: Alter> {
-    /// Where a call runs its statements; public for `call!`.
-    pub conn: Connection<S>,
+    pub(crate) conn: Connection<S>,
     pub(crate) edition: Edition,
     pub(crate) shut: bool,
 }
@@ -39,7 +38,7 @@ impl<S: Alter> Tables<S> {
     pub fn make(
         mut conn: Connection<S>,
         base: &str,
-    ) -> Result<Tables<S>, (MakeFault, Connection<S>)>
+    ) -> Result<Tables<S>, (Connection<S>, MakeFault)>
         requires { (state S.Store conn).in_transaction ≡ false }
         ensures made { IfOk result (λ t. HasCleanDisk (shown S.Store t) → IsMade base.now
             (shown S.Store t).committed × IsAtRest (shown S.Store t)) }
@@ -49,15 +48,15 @@ impl<S: Alter> Tables<S> {
         ensures second { IfOk result (λ t. edition_in t ≡ Edition.Second) }
         ensures alone { IfOk result (λ t. HasCleanDisk (shown S.Store t) → LeavesCommit
             (shown S.Store t)) }
-        ensures unknown { IfErr result (λ e. (e.0 ≡ MakeFault.UnknownSchema) ↔
+        ensures unknown { IfErr result (λ e. (e.1 ≡ MakeFault.UnknownSchema) ↔
             ((state S.Store conn).now.schema ≢ blank)) }
         ensures blank { IfOk result (λ t. (state S.Store conn).now.schema ≡ blank) }
-        ensures untouched { IfErr result (λ e. e.0 ≡ MakeFault.UnknownSchema → e.1 ≡ conn) }
-        ensures undone { IfErr result (λ e. HasCleanDisk (state S.Store e.1) → e.0
-            ≡ MakeFault.Storage → IsUndone (state S.Store conn) (state S.Store e.1)) }
+        ensures untouched { IfErr result (λ e. e.1 ≡ MakeFault.UnknownSchema → e.0 ≡ conn) }
+        ensures undone { IfErr result (λ e. HasCleanDisk (state S.Store e.0) → e.1
+            ≡ MakeFault.Storage → IsUndone (state S.Store conn) (state S.Store e.0)) }
         ensures kept { IfOk result (λ t. Survives (state S.Store conn) (shown S.Store t)
             (λ trees. (db : _) × IsMade base.now db × (trees ≡ db.trees))) }
-        ensures handed_back { IfErr result (λ e. Survives (state S.Store conn) (state S.Store e.1)
+        ensures handed_back { IfErr result (λ e. Survives (state S.Store conn) (state S.Store e.0)
             (λ trees. (db : _) × IsMade base.now db × (trees ≡ db.trees))) }
     {
         let made = make_tables(&mut conn, base);
@@ -68,7 +67,7 @@ impl<S: Alter> Tables<S> {
                 edition: Edition::Second,
                 shut: false,
             }),
-            Err(fault) => Err((fault, conn)),
+            Err(fault) => Err((conn, fault)),
         }
     }
 
@@ -77,7 +76,7 @@ impl<S: Alter> Tables<S> {
     pub fn adopt(
         alloc: Global,
         mut conn: Connection<S>,
-    ) -> Result<Tables<S>, (MakeFault, Connection<S>)>
+    ) -> Result<Tables<S>, (Connection<S>, MakeFault)>
         requires { (state S.Store conn).in_transaction ≡ false }
         ensures found { IfOk result (λ t. HasCleanDisk (shown S.Store t) → IsTrue
             (shown S.Store t).is_open → (shown S.Store t).now ≡ (state S.Store conn).now) }
@@ -88,25 +87,25 @@ impl<S: Alter> Tables<S> {
         ensures edition { IfOk result (λ t. (state S.Store conn).now.schema
             ≡ schema_of (edition_in t)) }
         ensures ours { IfOk result (λ t. AreOurs S.Store t × (is_shut t ≡ false)) }
-        ensures unknown { IfErr result (λ e. HasCleanDisk (state S.Store e.1) → e.0
+        ensures unknown { IfErr result (λ e. HasCleanDisk (state S.Store e.0) → e.1
             ≡ MakeFault.UnknownSchema → (edition : Edition)
             → (state S.Store conn).now.schema ≡ schema_of edition
             → LacksBase edition (state S.Store conn).now.trees) }
-        ensures handed_back { IfErr result (λ e. HasCleanDisk (state S.Store e.1) → IsUndone
-            (state S.Store conn) (state S.Store e.1)) }
+        ensures handed_back { IfErr result (λ e. HasCleanDisk (state S.Store e.0) → IsUndone
+            (state S.Store conn) (state S.Store e.0)) }
         ensures kept { IfOk result (λ t. Survives (state S.Store conn) (shown S.Store t) (λ _. ⊥)) }
-        ensures left { IfErr result (λ e. Survives (state S.Store conn) (state S.Store e.1)
+        ensures left { IfErr result (λ e. Survives (state S.Store conn) (state S.Store e.0)
             (λ _. ⊥)) }
     {
         rest_law(&conn);
         let edition = match edition_of(alloc, conn.schema()) {
-            Err(_) => return Err((MakeFault::Storage, conn)),
-            Ok(None) => return Err((MakeFault::UnknownSchema, conn)),
+            Err(_) => return Err((conn, MakeFault::Storage)),
+            Ok(None) => return Err((conn, MakeFault::UnknownSchema)),
             Ok(Some(edition)) => edition,
         };
         match has_base(&mut conn, edition) {
-            Err(_) => Err((MakeFault::Storage, conn)),
-            Ok(false) => Err((MakeFault::UnknownSchema, conn)),
+            Err(_) => Err((conn, MakeFault::Storage)),
+            Ok(false) => Err((conn, MakeFault::UnknownSchema)),
             Ok(true) => Ok(Tables {
                 conn,
                 edition,

@@ -11,7 +11,6 @@ ghost use Rattle.reg_tables_schema.specs.Shown.{shown_of};
 ghost use Rattle.reg_tables.specs.Ends.{IsDropped, IsEnded};
 ghost use Rattle.reg_tables.specs.Works.{Heard, IsAtWork, IsCall, Unmoved, seen};
 
-use crate::call;
 use crate::tables::Tables;
 use reg_tables_schema::laws::stop_law;
 use reg_tables_schema::{Edition, finish, undo};
@@ -34,29 +33,28 @@ impl From<AllocError> for StoreFault {
 
 /// What a call of the transaction `$work` answers, unless one has failed already. A fault ends the
 /// transaction.
-#[macro_export]
 macro_rules! call {
     ($work:ident, $answer:expr) => {{
         if $work.failed {
-            return Err($crate::StoreFault);
+            return Err(StoreFault);
         }
         match $answer {
             Ok(told) => Ok(told),
             Err(_) => {
                 $work.failed = true;
-                Err($crate::StoreFault)
+                Err(StoreFault)
             }
         }
     }};
 }
 
+pub(crate) use call;
+
 /// A transaction of the tables. Once a call has failed nothing of it is kept. Dropped, it changes
 /// nothing.
 pub struct Work<'t, S: Alter> {
-    /// The tables that it is on; public for `call!`.
-    pub tables: &'t mut Tables<S>,
-    /// Whether a call has failed; public for `call!`.
-    pub failed: bool,
+    pub(crate) tables: &'t mut Tables<S>,
+    pub(crate) failed: bool,
 }
 
 impl<S: Alter> Work<'_, S> {

@@ -13,8 +13,7 @@
 //! memory failed.
 #![tactic(auto)]
 
-use reg_cli::run_words;
-use reg_cli_line::Exit;
+use reg_cli::{Exit, run_words};
 use std::alloc::Global;
 use std::io::ErrorKind;
 use std::process::ExitCode;

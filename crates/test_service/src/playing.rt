@@ -93,15 +93,15 @@ fn begun<S: Alter>(
     conn: Connection<S>,
     call: &str,
     amount: Option<u32>,
-) -> Result<Registry<S>, (OpenFault, Connection<S>)>
+) -> Result<Registry<S>, (Connection<S>, OpenFault)>
     ensures { IfOk result (λ r. AreUpToDate S.Store (tables_of r)) }
 {
     if !conn.is_autocommit() {
-        return Err((OpenFault::Storage, conn));
+        return Err((conn, OpenFault::Storage));
     }
     let limits = limits_of(call);
     let Ok(memory) = leave_only(alloc, amount) else {
-        return Err((OpenFault::Storage, conn));
+        return Err((conn, OpenFault::Storage));
     };
     let registry = if call.starts_with("create") {
         let base = call.strip_prefix("create ").unwrap_or(BASE);
@@ -161,6 +161,6 @@ pub fn play<S: Alter + Drop>(
             let played = play_rest(alloc, &mut registry, first, rest, amount);
             (registry.into_connection(), played)
         }
-        Err((fault, conn)) => (conn, play_refused(alloc, first, fault)),
+        Err((conn, fault)) => (conn, play_refused(alloc, first, fault)),
     }
 }

@@ -1,8 +1,7 @@
 //! What a call is answered.
 
 use crate::records::{Shown, bytes_text, list, one};
-use reg_tables::{Account, Counts, Crate, Summary, TokenLists, TokenRows, Version};
-use reg_tables_calls::AllRows;
+use reg_tables::{Account, AllRows, Counts, Crate, Summary, TokenLists, TokenRows, Version};
 use sqlite::Row;
 use std::alloc::{AllocError, Global};
 

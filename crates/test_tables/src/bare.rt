@@ -100,7 +100,7 @@ fn adopted<S: Alter>(alloc: Global, conn: Connection<S>) -> (Connection<S>, &'st
     }
     match Tables::adopt(alloc, conn) {
         Ok(tables) => (tables.into_connection(), "done"),
-        Err((fault, conn)) => (conn, made(Err(fault))),
+        Err((conn, fault)) => (conn, made(Err(fault))),
     }
 }
 
@@ -117,7 +117,7 @@ fn migrated<S: Alter>(alloc: Global, conn: Connection<S>) -> (Connection<S>, &'s
             };
             (tables.into_connection(), found)
         }
-        Err((fault, conn)) => (conn, made(Err(fault))),
+        Err((conn, fault)) => (conn, made(Err(fault))),
     }
 }
 
@@ -128,7 +128,7 @@ fn tables_made<S: Alter>(conn: Connection<S>, base: &str) -> (Connection<S>, &'s
     }
     match Tables::make(conn, base) {
         Ok(tables) => (tables.into_connection(), "done"),
-        Err((fault, conn)) => (conn, made(Err(fault))),
+        Err((conn, fault)) => (conn, made(Err(fault))),
     }
 }
 
@@ -215,7 +215,7 @@ fn checks_of<S: Alter + Drop>(
     }
     match Tables::adopt(alloc, conn) {
         Ok(mut tables) => Ok(check_text(audit(alloc, &mut tables)?)),
-        Err((fault, _conn)) => Ok(made(Err(fault))),
+        Err((_conn, fault)) => Ok(made(Err(fault))),
     }
 }
 
@@ -243,7 +243,7 @@ fn found<S: Alter + Drop>(
             None => checks_after(alloc, tables.into_connection(), statements),
             Some(_line) => Ok("not filled"),
         },
-        Err((_fault, _conn)) => Err(Fault::NotMade),
+        Err((_conn, _fault)) => Err(Fault::NotMade),
     }
 }
 

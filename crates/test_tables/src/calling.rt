@@ -25,18 +25,12 @@ fn on_accounts<S: Alter>(
     ensures same_reference { work.new.tables.ghost_name ≡ work.old.tables.ghost_name }
 {
     match call {
-        AccountCall::Add(login, name) => reg_tables_calls::add_account(work, login, name).map(
-            Answer::Id,
-        ),
-        AccountCall::Enable(id, enabled) => done(reg_tables_calls::set_enabled(work, id, enabled)),
-        AccountCall::ByLogin(login) => reg_tables_calls::account_by_login(work, login).map(
-            Answer::Account,
-        ),
-        AccountCall::All => reg_tables_calls::all_accounts(alloc, work).map(Answer::Accounts),
-        AccountCall::Counts => reg_tables_calls::counts(work).map(Answer::Counts),
-        AccountCall::ReachesCrates(number) => reg_tables_calls::reaches_crates(work, number).map(
-            Answer::Is,
-        ),
+        AccountCall::Add(login, name) => work.add_account(login, name).map(Answer::Id),
+        AccountCall::Enable(id, enabled) => done(work.set_enabled(id, enabled)),
+        AccountCall::ByLogin(login) => work.account_by_login(login).map(Answer::Account),
+        AccountCall::All => work.all_accounts(alloc).map(Answer::Accounts),
+        AccountCall::Counts => work.counts().map(Answer::Counts),
+        AccountCall::ReachesCrates(number) => work.reaches_crates(number).map(Answer::Is),
     }
 }
 
@@ -50,20 +44,18 @@ fn on_tokens<S: Alter>(
     ensures same_reference { work.new.tables.ghost_name ≡ work.old.tables.ghost_name }
 {
     match call {
-        TokenCall::Add(token) => reg_tables_calls::add_token(
-            alloc,
-            work,
-            &token.digest,
-            token.account,
-            token.endpoints,
-            &token.patterns,
-        )
-        .map(Answer::Id),
-        TokenCall::Revoke(id) => done(reg_tables_calls::revoke(work, *id)),
-        TokenCall::Find(digest) => reg_tables_calls::token_rows(alloc, work, digest).map(
-            Answer::Token,
-        ),
-        TokenCall::All => reg_tables_calls::all_tokens(alloc, work).map(Answer::Tokens),
+        TokenCall::Add(token) => work
+            .add_token(
+                alloc,
+                &token.digest,
+                token.account,
+                token.endpoints,
+                &token.patterns,
+            )
+            .map(Answer::Id),
+        TokenCall::Revoke(id) => done(work.revoke(*id)),
+        TokenCall::Find(digest) => work.token_rows(alloc, digest).map(Answer::Token),
+        TokenCall::All => work.all_tokens(alloc).map(Answer::Tokens),
     }
 }
 
@@ -77,31 +69,16 @@ fn on_crates<S: Alter>(
     ensures same_reference { work.new.tables.ghost_name ≡ work.old.tables.ghost_name }
 {
     match call {
-        CrateCall::Add(name, account, release) => reg_tables_calls::add_crate(
-            work,
-            name,
-            *account,
-            &release.new_version(),
-        ).map(Answer::Id),
-        CrateCall::AddVersion(id, release) => done(reg_tables_calls::add_version(
-            work,
-            *id,
-            &release.new_version(),
-        )),
-        CrateCall::Yank(id, text, yanked) => done(reg_tables_calls::set_yanked(
-            work, *id, text, *yanked,
-        )),
-        CrateCall::All => reg_tables_calls::all_crates(alloc, work).map(Answer::Crates),
-        CrateCall::Versions(id) => reg_tables_calls::versions_of(alloc, work, *id).map(
-            Answer::Versions,
-        ),
-        CrateCall::Summary(id) => reg_tables_calls::summary_of(work, *id).map(Answer::Summary),
-        CrateCall::Archive(id, text) => reg_tables_calls::archive_of(work, *id, text).map(
-            Answer::Archive,
-        ),
-        CrateCall::ArchiveWithId(id) => reg_tables_calls::archive_with_id(work, *id).map(
-            Answer::Archive,
-        ),
+        CrateCall::Add(name, account, release) => work
+            .add_crate(name, *account, &release.new_version())
+            .map(Answer::Id),
+        CrateCall::AddVersion(id, release) => done(work.add_version(*id, &release.new_version())),
+        CrateCall::Yank(id, text, yanked) => done(work.set_yanked(*id, text, *yanked)),
+        CrateCall::All => work.all_crates(alloc).map(Answer::Crates),
+        CrateCall::Versions(id) => work.versions_of(alloc, *id).map(Answer::Versions),
+        CrateCall::Summary(id) => work.summary_of(*id).map(Answer::Summary),
+        CrateCall::Archive(id, text) => work.archive_of(*id, text).map(Answer::Archive),
+        CrateCall::ArchiveWithId(id) => work.archive_with_id(*id).map(Answer::Archive),
     }
 }
 
@@ -115,15 +92,13 @@ fn on_names<S: Alter>(
     ensures same_reference { work.new.tables.ghost_name ≡ work.old.tables.ghost_name }
 {
     match call {
-        NameCall::Crate(name) => reg_tables_calls::crate_by_canon(work, name).map(Answer::Crate),
-        NameCall::Reserve(name) => done(reg_tables_calls::reserve(work, name)),
-        NameCall::Unreserve(name) => done(reg_tables_calls::unreserve(work, name)),
-        NameCall::IsReserved(name) => reg_tables_calls::is_reserved(work, name).map(Answer::Is),
-        NameCall::AddOwner(id, account) => done(reg_tables_calls::add_owner(work, *id, *account)),
-        NameCall::RemoveOwner(id, account) => done(reg_tables_calls::remove_owner(
-            work, *id, *account,
-        )),
-        NameCall::Owners(id) => reg_tables_calls::owners_of(alloc, work, *id).map(Answer::Owners),
+        NameCall::Crate(name) => work.crate_by_canon(name).map(Answer::Crate),
+        NameCall::Reserve(name) => done(work.reserve(name)),
+        NameCall::Unreserve(name) => done(work.unreserve(name)),
+        NameCall::IsReserved(name) => work.is_reserved(name).map(Answer::Is),
+        NameCall::AddOwner(id, account) => done(work.add_owner(*id, *account)),
+        NameCall::RemoveOwner(id, account) => done(work.remove_owner(*id, *account)),
+        NameCall::Owners(id) => work.owners_of(alloc, *id).map(Answer::Owners),
     }
 }
 
@@ -137,13 +112,11 @@ fn on_readers<S: Alter>(
     ensures same_reference { work.new.tables.ghost_name ≡ work.old.tables.ghost_name }
 {
     match call {
-        ReaderCall::Restrict(id, restricted) => done(reg_tables_calls::set_restricted(
-            work, id, restricted,
-        )),
-        ReaderCall::IsRestricted(id) => reg_tables_calls::is_restricted(work, id).map(Answer::Is),
-        ReaderCall::Add(id, account) => done(reg_tables_calls::add_reader(work, id, account)),
-        ReaderCall::Remove(id, account) => done(reg_tables_calls::remove_reader(work, id, account)),
-        ReaderCall::All(id) => reg_tables_calls::readers_of(alloc, work, id).map(Answer::Owners),
+        ReaderCall::Restrict(id, restricted) => done(work.set_restricted(id, restricted)),
+        ReaderCall::IsRestricted(id) => work.is_restricted(id).map(Answer::Is),
+        ReaderCall::Add(id, account) => done(work.add_reader(id, account)),
+        ReaderCall::Remove(id, account) => done(work.remove_reader(id, account)),
+        ReaderCall::All(id) => work.readers_of(alloc, id).map(Answer::Owners),
     }
 }
 
@@ -158,7 +131,7 @@ fn on_texts<S: Alter>(
     ensures same_reference { work.new.tables.ghost_name ≡ work.old.tables.ghost_name }
 {
     match call {
-        TextCall::AllRows => reg_tables_calls::all_rows(alloc, work).map(Answer::All),
+        TextCall::AllRows => work.all_rows(alloc).map(Answer::All),
         TextCall::Logins => work
             .select("SELECT id, login, name FROM accounts ORDER BY id", &[])
             .map(Answer::Selected),

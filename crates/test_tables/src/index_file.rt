@@ -6,8 +6,7 @@ ghost use Rattle.reg_tables.specs.Works.{AreOurs, IsAtWork};
 use crate::fault::Fault;
 use crate::records::{Shown, bytes_text, list};
 use reg_line::{Entry, file};
-use reg_tables::{Edition, StemRow, StoreFault, Tables, Version, Work};
-use reg_tables_calls::index_entries;
+use reg_tables::{Edition, StemRow, StoreFault, Tables, Version, Work, index_entries};
 use sqlite::Alter;
 use std::alloc::{AllocError, Global};
 
@@ -48,7 +47,7 @@ pub(crate) fn index_of<S: Alter>(
     ensures at_work { IsAtWork S.Store work.new }
     ensures same_reference { work.new.tables.ghost_name ≡ work.old.tables.ghost_name }
 {
-    match reg_tables_calls::versions_of(alloc, work, crate_id) {
+    match work.versions_of(alloc, crate_id) {
         Ok(versions) => index_text(alloc, versions),
         Err(StoreFault) => String::from_str(alloc, "fault"),
     }

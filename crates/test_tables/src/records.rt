@@ -4,9 +4,9 @@ use crate::words::text_of;
 use reg_line::digest_of;
 use reg_model::Endpoints;
 use reg_tables::{
-    Account, Crate, Ownership, Scope, Summary, Token, TokenLists, TokenRow, TokenRows, Version,
+    Account, AllRows, Crate, Ownership, Scope, Summary, Token, TokenLists, TokenRow, TokenRows,
+    Version,
 };
-use reg_tables_calls::AllRows;
 use sqlite::Row;
 use sqlite::types::ValueRef;
 use std::alloc::{AllocError, Global};

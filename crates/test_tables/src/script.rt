@@ -331,7 +331,7 @@ fn play_again<S: Alter + Drop>(
     }
     match Tables::adopt(alloc, conn) {
         Ok(mut tables) => play_last(alloc, &mut tables, script),
-        Err((_fault, _conn)) => Err(Fault::NotAdopted),
+        Err((_conn, _fault)) => Err(Fault::NotAdopted),
     }
 }
 
@@ -362,7 +362,7 @@ fn play_new<S: Alter + Drop>(
     }
     match Tables::make(conn, BASE) {
         Ok(tables) => play_in(alloc, tables, script),
-        Err((_fault, _conn)) => Err(Fault::NotMade),
+        Err((_conn, _fault)) => Err(Fault::NotMade),
     }
 }
 

@@ -1,7 +1,7 @@
 //! A publish body becomes a line: the worked examples, failing ends, and without memory.
 
 use reg_body::{Counted, Limits, join};
-use reg_cli_line::{Exit, run_line};
+use reg_cli_line::{Exit, run_line, run_line_within};
 use std::alloc::{AllocError, Global};
 use std::io;
 use std::io::{Read, Write};
@@ -13,7 +13,7 @@ use test_support::scarce_memory::Amounts;
 fn line_on(alloc: Global, input: &[u8]) -> (Exit, Vec<u8>) {
     let mut reader = Counted::new(input);
     let mut writer = Counted::new(Vec::new(alloc));
-    let exit = run_line(alloc, &mut reader, &mut writer, &Limits::STANDARD);
+    let exit = run_line(alloc, &mut reader, &mut writer);
     (exit, writer.into_inner())
 }
 
@@ -26,7 +26,7 @@ fn line_within(alloc: Global, input: &[u8], (json, archive): (u32, u32)) -> (Exi
     };
     let mut reader = Counted::new(input);
     let mut writer = Counted::new(Vec::new(alloc));
-    let exit = run_line(alloc, &mut reader, &mut writer, &limits);
+    let exit = run_line_within(alloc, &mut reader, &mut writer, &limits);
     (exit, writer.into_inner())
 }
 
@@ -120,7 +120,7 @@ fn first_by_bytes(alloc: Global, reads: u32, writes: u32, turns: u64) -> (Exit, 
         taken,
         left: writes,
     });
-    let exit = run_line(alloc, &mut reader, &mut writer, &limits);
+    let exit = run_line_within(alloc, &mut reader, &mut writer, &limits);
     (exit, writer.into_inner().taken)
 }
 
@@ -332,7 +332,7 @@ fn each_amount_of_memory(rt: HostRuntime) -> Result<(), Fail> {
             rest: want.as_slice(),
             is_wrong: false,
         });
-        let exit = run_line(alloc, &mut reader, &mut writer, &Limits::STANDARD);
+        let exit = run_line(alloc, &mut reader, &mut writer);
         let end = writer.into_inner();
         assert!(rt; !end.is_wrong);
         if exit == DONE {

@@ -42,14 +42,14 @@ fn known_of<S: Alter>(alloc: Global, work: &mut Work<'_, S>, it: &Crate) -> Resu
     ensures at_work { IsAtWork S.Store work.new }
     ensures same_reference { work.new.tables.ghost_name ≡ work.old.tables.ghost_name }
 {
-    let owners = reg_tables_calls::owners_of(alloc, work, it.id)?;
-    let readers = reg_tables_calls::readers_of(alloc, work, it.id)?;
-    let versions = reg_tables_calls::versions_of(alloc, work, it.id)?;
+    let owners = work.owners_of(alloc, it.id)?;
+    let readers = work.readers_of(alloc, it.id)?;
+    let versions = work.versions_of(alloc, it.id)?;
     Ok(Known {
         first: parse_name(&it.name),
         owners,
         readers,
-        restricted: reg_tables_calls::is_restricted(work, it.id)?,
+        restricted: work.is_restricted(it.id)?,
         versions,
         reserved: false,
     })
@@ -60,10 +60,10 @@ fn named<S: Alter>(alloc: Global, work: &mut Work<'_, S>, text: &CanonText) -> R
     ensures at_work { IsAtWork S.Store work.new }
     ensures same_reference { work.new.tables.ghost_name ≡ work.old.tables.ghost_name }
 {
-    match reg_tables_calls::crate_by_canon(work, text)? {
+    match work.crate_by_canon(text)? {
         Some(it) => known_of(alloc, work, &it),
         None => Ok(Known {
-            reserved: is_reserved_always(text) || reg_tables_calls::is_reserved(work, text)?,
+            reserved: is_reserved_always(text) || work.is_reserved(text)?,
             ..nothing_known(alloc)
         }),
     }
@@ -179,7 +179,7 @@ pub(crate) fn second_opinion<S: Alter>(
     ensures at_work { IsAtWork S.Store work.new }
     ensures same_reference { work.new.tables.ghost_name ≡ work.old.tables.ghost_name }
 {
-    let found = reg_tables_calls::token_rows(alloc, work, digest)?;
+    let found = work.token_rows(alloc, digest)?;
     let known = match crate_of(action) {
         Some(name) => named(alloc, work, &canon(&name))?,
         None => nothing_known(alloc),

@@ -169,7 +169,7 @@ fn answers_in<S: Alter + Drop>(alloc: Global, conn: Connection<S>) -> Result<Str
     }
     match Tables::adopt(alloc, conn) {
         Ok(tables) => answers_over(alloc, tables),
-        Err((_fault, _conn)) => Err(Fault::NotMade),
+        Err((_conn, _fault)) => Err(Fault::NotMade),
     }
 }
 

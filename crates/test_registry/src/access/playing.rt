@@ -91,7 +91,7 @@ fn play_turned<S: Alter + Drop>(
     }
     match Tables::adopt(alloc, conn) {
         Ok(tables) => play_lines(alloc, tables, lines),
-        Err((_fault, _conn)) => Err(Fault::NotMade),
+        Err((_conn, _fault)) => Err(Fault::NotMade),
     }
 }
 
@@ -119,7 +119,7 @@ pub(crate) fn set_up<S: Alter + Drop>(
     }
     match Tables::make(conn, BASE) {
         Ok(tables) => play_setup(alloc, tables, setup),
-        Err((_fault, _conn)) => Err(Fault::NotMade),
+        Err((_conn, _fault)) => Err(Fault::NotMade),
     }
 }
 

@@ -4,8 +4,7 @@ ghost use Rattle.reg_tables.specs.Works.{AreOurs};
 
 use crate::measuring::fault::Fault;
 use reg_line::digest_of;
-use reg_tables::{Edition, StemRow, Tables};
-use reg_tables_calls::index_entries;
+use reg_tables::{Edition, StemRow, Tables, index_entries};
 use sqlite::Alter;
 use std::alloc::Global;
 use test_tables::{Call, CrateCall, perform, release_of};

@@ -110,6 +110,6 @@ pub(crate) fn over_new_tables<S: Alter + Drop>(
     }
     match Tables::make(conn, BASE) {
         Ok(mut tables) => tell_each(rt, &mut tables, script, how),
-        Err((_fault, _conn)) => Err(Fault::NotMade),
+        Err((_conn, _fault)) => Err(Fault::NotMade),
     }
 }

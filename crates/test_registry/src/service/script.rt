@@ -78,7 +78,7 @@ fn play_new<S: Alter + Drop>(
     let mut plain = PlainRegistry::new(alloc, limits);
     match Registry::create(conn, BASE, limits) {
         Ok(mut registry) => Ok(first_fault(alloc, &mut registry, &mut plain, lines)?),
-        Err((_fault, _conn)) => Err(Fault::NotMade),
+        Err((_conn, _fault)) => Err(Fault::NotMade),
     }
 }
 
@@ -94,7 +94,7 @@ fn play_at_once<S: Alter + Drop>(
     }
     match Registry::create(conn, BASE, limits) {
         Ok(mut registry) => Ok(told_otherwise(alloc, &mut registry, lines)?),
-        Err((_fault, _conn)) => Err(Fault::NotMade),
+        Err((_conn, _fault)) => Err(Fault::NotMade),
     }
 }
 

@@ -144,7 +144,7 @@ fn play_new<S: Alter + Drop>(
     }
     match Registry::create(conn, BASE, limits) {
         Ok(mut registry) => Ok(first_fault(alloc, &mut registry, lines)?),
-        Err((_fault, _conn)) => Err(Fault::NotMade),
+        Err((_conn, _fault)) => Err(Fault::NotMade),
     }
 }
 

@@ -38,7 +38,7 @@ pub(crate) fn filled<S: Alter + Drop>(
             plays(alloc, &mut tables, script)?;
             Ok(tables.into_connection())
         }
-        Err((_fault, _conn)) => Err(Fault::NotMade),
+        Err((_conn, _fault)) => Err(Fault::NotMade),
     }
 }
 
@@ -71,6 +71,6 @@ pub(crate) fn rows_over<S: Alter + Drop>(
     }
     match Tables::adopt(alloc, conn) {
         Ok(mut tables) => Ok(Some(schema_and_rows(alloc, &mut tables)?)),
-        Err((_fault, _conn)) => Err(Fault::NotAdopted),
+        Err((_conn, _fault)) => Err(Fault::NotAdopted),
     }
 }

@@ -225,7 +225,7 @@ fn made<S: Alter + Drop>(conn: Connection<S>, memory: Option<Amounts>) -> (Conne
     drop(memory);
     match made {
         Ok(tables) => (tables.into_connection(), true),
-        Err((_fault, conn)) => (conn, false),
+        Err((conn, _fault)) => (conn, false),
     }
 }
 
@@ -246,7 +246,7 @@ fn adopt<S: Alter + Drop>(
     drop(memory);
     match adopted {
         Ok(tables) => Ok(tables),
-        Err((_fault, conn)) => Err(conn),
+        Err((conn, _fault)) => Err(conn),
     }
 }
 

@@ -13,9 +13,9 @@ pub returns-in-Ok-clause-left : goal.returns-in-Ok-clause-left
 returns-in-Ok-clause-left g c =
     opened_left g.S.Store c.args.conn c.in-Ok.tables (is_taken g.S.Store c.args.conn c.in-Ok.tables c.in-Ok.ensures.edition c.in-Ok.ensures.found c.in-Ok.ensures.about c.in-Ok.ensures.rests c.rows_law.ensures) c.examined.result c.edition_law.ensures.same c.examined.ensures.clean c.examined.ensures.brought c.in-Ok.ensures.kept
 
-pub returns-in-Err-UnknownSchema-default-clause-unknown : goal.returns-in-Err-UnknownSchema-default-clause-unknown
-returns-in-Err-UnknownSchema-default-clause-unknown g c clean is edition schema =
-    c.in-Err-UnknownSchema-default.ensures.unknown clean c.in-Err-UnknownSchema-default.field-0-0-is edition schema
+pub returns-in-Err-default-UnknownSchema-clause-unknown : goal.returns-in-Err-default-UnknownSchema-clause-unknown
+returns-in-Err-default-UnknownSchema-clause-unknown g c clean is edition schema =
+    c.in-Err-default-UnknownSchema.ensures.unknown clean c.in-Err-default-UnknownSchema.field-0-1-is edition schema
 
 pub returns-in-Ok-clause-undone : goal.returns-in-Ok-clause-undone
 returns-in-Ok-clause-undone g c =

@@ -1,5 +1,5 @@
 use Rattle.std.proofs.Common.{rules}
-use Rattle.reg_cli_line.proofs.line.run_line.Goals as goal
+use Rattle.reg_cli_line.proofs.line.run_line_within.Goals as goal
 
 pub returns-in-Ok-write_all-clause-turns : goal.returns-in-Ok-write_all-clause-turns
 returns-in-Ok-write_all-clause-turns g c = search rules

@@ -1,0 +1,84 @@
+//! Selections of crates and of their versions.
+
+ghost use Rattle.reg_tables_sql.specs.Crates.{AreCrates, IsCrateOfCanon};
+ghost use Rattle.reg_tables_sql.specs.Versions.{AreVersionsOf};
+ghost use Rattle.reg_tables_meaning.specs.Calls.{FindsArchive, FindsCrate, FindsSummary, ListsCrates, ListsVersions};
+ghost use Rattle.reg_tables.specs.Works.{Heard, IsAtWork, IsCall, Unmoved, rows_seen};
+
+use crate::work::{StoreFault, Work, call};
+use reg_names::CanonText;
+use reg_tables_meaning::{crate_lists, summaries};
+use reg_tables_sql::crates::Crate;
+use reg_tables_sql::summaries::Summary;
+use reg_tables_sql::versions::Version;
+use sqlite::Alter;
+use std::alloc::Global;
+
+impl<S: Alter> Work<'_, S> {
+    /// The crate with this canonical name: its id and its spelling.
+    pub fn crate_by_canon(&mut self, text: &CanonText) -> Result<Option<Crate>, StoreFault>
+        requires { IsAtWork S.Store self.old }
+        ensures rows { Heard S.Store self.new result
+            (IsCrateOfCanon text.now (rows_seen S.Store self.old)) }
+        ensures found { Heard S.Store self.new result
+            (FindsCrate text.now (rows_seen S.Store self.old)) }
+        ensures same { Unmoved S.Store result self.old self.new }
+        ensures leaves { IsCall S.Store result self.old self.new }
+    {
+        call!(self, crate_lists::find(&mut self.tables.conn, text))
+    }
+
+    /// The versions of the crate with this id, oldest first; none where it is not there.
+    pub fn versions_of(&mut self, alloc: Global, crate_id: u32) -> Result<Vec<Version>, StoreFault>
+        requires { IsAtWork S.Store self.old }
+        ensures rows { Heard S.Store self.new result
+            (λ list. AreVersionsOf crate_id (rows_seen S.Store self.old) list.items) }
+        ensures found { Heard S.Store self.new result
+            (λ list. ListsVersions crate_id (rows_seen S.Store self.old) list.items) }
+        ensures same { Unmoved S.Store result self.old self.new }
+        ensures leaves { IsCall S.Store result self.old self.new }
+    {
+        call!(
+            self,
+            crate_lists::list(alloc, &mut self.tables.conn, crate_id)
+        )
+    }
+
+    /// The archive of this very version of the crate with this id.
+    pub fn archive_of(&mut self, crate_id: u32, text: &str) -> Result<Option<Vec<u8>>, StoreFault>
+        requires { IsAtWork S.Store self.old }
+        ensures found { Heard S.Store self.new result
+            (FindsArchive crate_id text.now (rows_seen S.Store self.old)) }
+        ensures same { Unmoved S.Store result self.old self.new }
+        ensures leaves { IsCall S.Store result self.old self.new }
+    {
+        call!(
+            self,
+            crate_lists::archive(&mut self.tables.conn, crate_id, text)
+        )
+    }
+
+    /// What is kept of the crate with this id: its highest version, and how long its index file is.
+    pub fn summary_of(&mut self, crate_id: u32) -> Result<Option<Summary>, StoreFault>
+        requires { IsAtWork S.Store self.old }
+        ensures found { Heard S.Store self.new result
+            (FindsSummary crate_id (rows_seen S.Store self.old)) }
+        ensures same { Unmoved S.Store result self.old self.new }
+        ensures leaves { IsCall S.Store result self.old self.new }
+    {
+        call!(self, summaries::of_crate(&mut self.tables.conn, crate_id))
+    }
+
+    /// All crates, in the order of their canonical names.
+    pub fn all_crates(&mut self, alloc: Global) -> Result<Vec<Crate>, StoreFault>
+        requires { IsAtWork S.Store self.old }
+        ensures rows { Heard S.Store self.new result
+            (λ list. AreCrates (rows_seen S.Store self.old) list.items) }
+        ensures found { Heard S.Store self.new result
+            (λ list. ListsCrates (rows_seen S.Store self.old) list.items) }
+        ensures same { Unmoved S.Store result self.old self.new }
+        ensures leaves { IsCall S.Store result self.old self.new }
+    {
+        call!(self, crate_lists::all(alloc, &mut self.tables.conn))
+    }
+}

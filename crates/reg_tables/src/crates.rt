@@ -1,0 +1,58 @@
+//! Calls on crates and their versions.
+
+ghost use Rattle.reg_tables_meaning.specs.Calls.{AddsFirst, AddsNext, SetsYanked};
+ghost use Rattle.reg_tables.specs.Works.{Carried, Heard, IsAtWork, IsCall, rows_seen};
+
+use crate::work::{StoreFault, Work, call};
+use reg_names::CrateName;
+use reg_tables_meaning::crates::{self, NewVersion};
+use sqlite::Alter;
+
+impl<S: Alter> Work<'_, S> {
+    /// Adds a crate with its first version and its owner, and answers its id.
+    pub fn add_crate(
+        &mut self,
+        name: &CrateName,
+        owner: u32,
+        version: &NewVersion<'_>,
+    ) -> Result<u32, StoreFault>
+        requires { IsAtWork S.Store self.old }
+        ensures added { Heard S.Store self.new result
+            (AddsFirst name.now owner version.now
+            (rows_seen S.Store self.old) (rows_seen S.Store self.new)) }
+        ensures leaves { IsCall S.Store result self.old self.new }
+    {
+        call!(
+            self,
+            crates::add_new(&mut self.tables.conn, name, owner, version)
+        )
+    }
+
+    /// Adds a version to a crate that is there.
+    pub fn add_version(&mut self, crate_id: u32, version: &NewVersion<'_>) -> Result<(), StoreFault>
+        requires { IsAtWork S.Store self.old }
+        ensures added { Carried S.Store self.new result
+            (AddsNext crate_id version.now
+            (rows_seen S.Store self.old) (rows_seen S.Store self.new)) }
+        ensures leaves { IsCall S.Store result self.old self.new }
+    {
+        call!(
+            self,
+            crates::add_next(&mut self.tables.conn, crate_id, version)
+        )
+    }
+
+    /// Yanks a version of a crate, or takes that back. Where it is not there, nothing changes.
+    pub fn set_yanked(&mut self, crate_id: u32, text: &str, yanked: bool) -> Result<(), StoreFault>
+        requires { IsAtWork S.Store self.old }
+        ensures set { Carried S.Store self.new result
+            (SetsYanked crate_id text.now yanked
+            (rows_seen S.Store self.old) (rows_seen S.Store self.new)) }
+        ensures leaves { IsCall S.Store result self.old self.new }
+    {
+        call!(
+            self,
+            crates::mark(&mut self.tables.conn, crate_id, text, yanked)
+        )
+    }
+}

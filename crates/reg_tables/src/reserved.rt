@@ -1,0 +1,46 @@
+//! Calls on reserved names.
+
+ghost use Rattle.reg_model.specs.Changes.{with_reserved, without_reserved};
+ghost use Rattle.reg_tables_meaning.specs.Calls.{TellsReserved, Turns};
+ghost use Rattle.reg_tables.specs.Works.{Carried, Heard, IsAtWork, IsCall, Unmoved, rows_seen};
+
+use crate::work::{StoreFault, Work, call};
+use reg_names::CanonText;
+use reg_tables_meaning::reserved;
+use sqlite::Alter;
+
+impl<S: Alter> Work<'_, S> {
+    /// Reserves a canonical name.
+    pub fn reserve(&mut self, canon: &CanonText) -> Result<(), StoreFault>
+        requires { IsAtWork S.Store self.old }
+        ensures reserved { Carried S.Store self.new result
+            (Turns (λ ids. with_reserved canon.now)
+            (rows_seen S.Store self.old) (rows_seen S.Store self.new)) }
+        ensures leaves { IsCall S.Store result self.old self.new }
+    {
+        call!(self, reserved::add(&mut self.tables.conn, canon.as_str()))
+    }
+
+    /// Sets a reserved name free. The names that are reserved always stay so.
+    pub fn unreserve(&mut self, canon: &CanonText) -> Result<(), StoreFault>
+        requires { IsAtWork S.Store self.old }
+        ensures freed { Carried S.Store self.new result
+            (Turns (λ ids. without_reserved canon.now)
+            (rows_seen S.Store self.old) (rows_seen S.Store self.new)) }
+        ensures leaves { IsCall S.Store result self.old self.new }
+    {
+        call!(self, reserved::free(&mut self.tables.conn, canon.as_str()))
+    }
+
+    /// Whether the administrator reserved the name. The names that are reserved always are not
+    /// among them.
+    pub fn is_reserved(&mut self, canon: &CanonText) -> Result<bool, StoreFault>
+        requires { IsAtWork S.Store self.old }
+        ensures found { Heard S.Store self.new result
+            (TellsReserved canon.now (rows_seen S.Store self.old)) }
+        ensures same { Unmoved S.Store result self.old self.new }
+        ensures leaves { IsCall S.Store result self.old self.new }
+    {
+        call!(self, reserved::has(&mut self.tables.conn, canon.as_str()))
+    }
+}
