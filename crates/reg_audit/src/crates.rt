@@ -30,7 +30,7 @@ fn is_named(it: &Crate) -> bool
 }
 
 // The crates that have an owner.
-fn owned(alloc: Global, owners: &[Ownership]) -> Result<BTreeSet<u32>, AllocError>
+fn owned_crates(alloc: Global, owners: &[Ownership]) -> Result<BTreeSet<u32>, AllocError>
     ensures { IfOk result (λ set. (id : ℕ) → contains nat_cmp set id ≡ list_any
         (λ o. o.crate_id == id) owners.now) }
 {
@@ -42,7 +42,7 @@ fn owned(alloc: Global, owners: &[Ownership]) -> Result<BTreeSet<u32>, AllocErro
 }
 
 // The crates that have a version.
-fn published(alloc: Global, versions: &[Version]) -> Result<BTreeSet<u32>, AllocError>
+fn published_crates(alloc: Global, versions: &[Version]) -> Result<BTreeSet<u32>, AllocError>
     ensures { IfOk result (λ set. (id : ℕ) → contains nat_cmp set id ≡ list_any
         (λ v. v.crate_id == id) versions.now) }
 {
@@ -57,8 +57,8 @@ fn published(alloc: Global, versions: &[Version]) -> Result<BTreeSet<u32>, Alloc
 pub(crate) fn crates_pass(alloc: Global, rows: &AllRows) -> Result<bool, AllocError>
     ensures { IfOk result (λ b. b ≡ crates_pass_in rows.now) }
 {
-    let owned = owned(alloc, &rows.owners)?;
-    let published = published(alloc, &rows.versions)?;
+    let owned = owned_crates(alloc, &rows.owners)?;
+    let published = published_crates(alloc, &rows.versions)?;
     Ok(
         rows.crates.iter().all(|it| {
             is_named(it) && owned.contains(&it.id) && published.contains(&it.id)

@@ -71,7 +71,7 @@ fn add(
 }
 
 // The versions of each crate.
-fn grouped(
+fn group_by_crate(
     alloc: Global,
     versions: &[Version],
 ) -> Result<BTreeMap<u32, Vec<VersionMark>>, AllocError>
@@ -114,7 +114,7 @@ fn is_right(
 fn are_right(alloc: Global, rows: &AllRows) -> Result<bool, StoreFault>
     ensures { IfOk result (λ b. b ≡ list_all (is_summary rows.now) rows.now.summaries.items) }
 {
-    let groups = grouped(alloc, &rows.versions)?;
+    let groups = group_by_crate(alloc, &rows.versions)?;
     for summary in rows.summaries.iter() {
         if !is_right(alloc, rows, &groups, summary)? {
             return Ok(false);

@@ -17,15 +17,15 @@ fn folder_of(path: &str) -> &str {
     }
 }
 
-fn joined(rt: &HostRuntime, folder: &str, path: &str) -> Result<String, AllocError> {
+fn join_path(rt: &HostRuntime, folder: &str, path: &str) -> Result<String, AllocError> {
     format!(in rt.alloc(); "{folder}/{path}")
 }
 
 /// Writes a file below the folder, and makes the folders that are missing.
 fn write_file(rt: &HostRuntime, folder: &str, path: &str, bytes: &[u8]) -> io::Result<()> {
-    let parent = joined(rt, folder, folder_of(path))?;
+    let parent = join_path(rt, folder, folder_of(path))?;
     fs::create_dir_all(rt, parent.as_str())?;
-    let whole = joined(rt, folder, path)?;
+    let whole = join_path(rt, folder, path)?;
     fs::write(rt, whole.as_str(), bytes)
 }
 

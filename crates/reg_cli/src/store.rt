@@ -4,6 +4,7 @@ ghost use Rattle.std.specs.Prelude.{◌≡◌, false, IfOk};
 ghost use Rattle.sqlite.specs.Held.{IsNew, state};
 ghost use Rattle.reg_service.specs.Answered.{AreUpToDate};
 ghost use Rattle.reg_service.specs.Registries.{limits_of, tables_of};
+ghost use Rattle.reg_cli.specs.Exits.{status_of_opening, words_of_damage, words_of_opening};
 
 use reg_body::Limits;
 use reg_cli_line::Exit;
@@ -11,7 +12,9 @@ use reg_service::{Check, OpenFault, Registry};
 use sqlite::{Alter, Connection, File, FileStore};
 use std::alloc::Global;
 
-fn damaged(check: Check) -> &'static str {
+fn damage_words(check: Check) -> &'static str
+    ensures { result.now ≡ words_of_damage check }
+{
     match check {
         Check::C1 => "damaged C1",
         Check::C2 => "damaged C2",
@@ -25,7 +28,10 @@ fn damaged(check: Check) -> &'static str {
 }
 
 /// The end of a run that could not open its registry.
-pub(crate) fn refused(fault: OpenFault) -> Exit {
+pub(crate) fn exit_of_opening(fault: OpenFault) -> Exit
+    ensures status { result.status ≡ status_of_opening fault }
+    ensures words { result.words.now ≡ words_of_opening fault }
+{
     match fault {
         OpenFault::BadBase => Exit {
             status: 1,
@@ -37,7 +43,7 @@ pub(crate) fn refused(fault: OpenFault) -> Exit {
         },
         OpenFault::Damaged(check) => Exit {
             status: 3,
-            words: damaged(check),
+            words: damage_words(check),
         },
         OpenFault::Storage => Exit::STORAGE,
     }
@@ -65,7 +71,7 @@ pub(crate) fn open<S: Alter + Drop>(
 {
     match Registry::open(alloc, conn, limits) {
         Ok(registry) => Ok(registry),
-        Err((_, fault)) => Err(refused(fault)),
+        Err((_, fault)) => Err(exit_of_opening(fault)),
     }
 }
 
@@ -77,6 +83,6 @@ pub(crate) fn create<S: Alter + Drop>(conn: Connection<S>, base: &str) -> Result
 {
     match Registry::create(conn, base, Limits::STANDARD) {
         Ok(registry) => Ok(registry),
-        Err((_, fault)) => Err(refused(fault)),
+        Err((_, fault)) => Err(exit_of_opening(fault)),
     }
 }

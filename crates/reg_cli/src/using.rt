@@ -41,7 +41,7 @@ fn use_it<S: Alter>(rt: &HostRuntime, registry: &mut Registry<S>, wanted: &Use<'
 }
 
 /// Uses the registry of a store, and gives the connection back.
-fn used<S: Alter + Drop>(
+fn use_store<S: Alter + Drop>(
     rt: &HostRuntime,
     conn: Connection<S>,
     limits: Limits,
@@ -58,7 +58,7 @@ fn used<S: Alter + Drop>(
 
 /// The end of a run, once the file is closed, which moves what stands in its log into it. What was
 /// acknowledged is kept also where that fails; only a check has to tell it.
-fn ended(rt: &HostRuntime, wanted: &Use<'_>, exit: Exit, is_closed: bool) -> Exit {
+fn exit_of_use(rt: &HostRuntime, wanted: &Use<'_>, exit: Exit, is_closed: bool) -> Exit {
     match wanted {
         Use::Check if is_closed => print(rt, "ok\n"),
         Use::Check => Exit::STORAGE,
@@ -66,12 +66,12 @@ fn ended(rt: &HostRuntime, wanted: &Use<'_>, exit: Exit, is_closed: bool) -> Exi
     }
 }
 
-fn used_in(rt: &HostRuntime, file: &str, limits: Limits, wanted: &Use<'_>) -> Result<Exit, Exit>
+fn use_file(rt: &HostRuntime, file: &str, limits: Limits, wanted: &Use<'_>) -> Result<Exit, Exit>
     requires turns { HasTurns limits }
     requires fit { IsFitUse wanted.now }
 {
-    let (exit, conn) = used(rt, connect(rt, file)?, limits, wanted)?;
-    Ok(ended(rt, wanted, exit, conn.close().is_ok()))
+    let (exit, conn) = use_store(rt, connect(rt, file)?, limits, wanted)?;
+    Ok(exit_of_use(rt, wanted, exit, conn.close().is_ok()))
 }
 
 /// Uses the registry of a file.
@@ -79,13 +79,13 @@ pub(crate) fn on_file(rt: &HostRuntime, file: &str, limits: Limits, wanted: &Use
     requires turns { HasTurns limits }
     requires fit { IsFitUse wanted.now }
 {
-    match used_in(rt, file, limits, wanted) {
+    match use_file(rt, file, limits, wanted) {
         Ok(exit) | Err(exit) => exit,
     }
 }
 
 /// Makes a registry with nothing in it, and gives the connection back.
-fn made<S: Alter + Drop>(conn: Connection<S>, base: &str) -> Result<Connection<S>, Exit>
+fn make_in<S: Alter + Drop>(conn: Connection<S>, base: &str) -> Result<Connection<S>, Exit>
     requires { (state S.Store conn).in_transaction ≡ false }
 {
     Ok(create(conn, base)?.into_connection())
@@ -93,6 +93,6 @@ fn made<S: Alter + Drop>(conn: Connection<S>, base: &str) -> Result<Connection<S
 
 /// Makes a registry with nothing in it, in a file.
 pub(crate) fn make_file(rt: &HostRuntime, file: &str, base: &str) -> Result<(), Exit> {
-    let _ = made(connect(rt, file)?, base)?.close();
+    let _ = make_in(connect(rt, file)?, base)?.close();
     Ok(())
 }

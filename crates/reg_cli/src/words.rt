@@ -10,7 +10,7 @@ use reg_cli_line::{Exit, run_line};
 use reg_cli_words::{is_dashed, read_words};
 
 /// Prints help, or what is wrong with the words.
-fn told(rt: &HostRuntime, error: &Error) -> Exit {
+fn print_error(rt: &HostRuntime, error: &Error) -> Exit {
     if error.kind() == ErrorKind::OutOfMemory {
         return Exit::MEMORY;
     }
@@ -48,7 +48,7 @@ pub fn run_words(rt: &HostRuntime, words: &[String]) -> Exit {
     }
     let matches = match read_words(rt.alloc(), words) {
         Ok(matches) => matches,
-        Err(error) => return told(rt, &error),
+        Err(error) => return print_error(rt, &error),
     };
     match matches.subcommand() {
         Some(("line", _)) => line(rt),

@@ -45,7 +45,7 @@ fn answer(alloc: Global, input: &[u8], limits: &Limits) -> Result<Vec<u8>, LineF
 }
 
 /// The end of a run in which the reader or the writer stopped; the words are those of its failing.
-fn stopped(fault: EndFault, words: &'static str) -> Exit
+fn exit_of_stop(fault: EndFault, words: &'static str) -> Exit
     ensures status { result.status ≡ 3 }
     ensures words { result.words.now ≡ stop_words fault words.entry.now }
 {
@@ -58,7 +58,7 @@ fn stopped(fault: EndFault, words: &'static str) -> Exit
 }
 
 /// The end of a run whose input has no line.
-fn refused(fault: LineFault) -> Exit
+fn exit_of_fault(fault: LineFault) -> Exit
     ensures words { result.words.now ≡ words_of fault }
     ensures status { (result.status ≡ 1) ⊎ ((result.status ≡ 3) × (fault ≡ memory)) }
     ensures rule { result.status ≡ 1 → ¬ (fault ≡ memory) }
@@ -118,11 +118,11 @@ pub fn run_line_within<R: Read, W: Write>(
     let before = reader.calls();
     let input = match read_all(alloc, reader, limits.turns) {
         Ok(input) => input,
-        Err(fault) => return stopped(fault, "read fault"),
+        Err(fault) => return exit_of_stop(fault, "read fault"),
     };
     let text = match answer(alloc, &input, limits) {
         Ok(text) => text,
-        Err(fault) => return refused(fault),
+        Err(fault) => return exit_of_fault(fault),
     };
     let left = limits.turns - (reader.calls() - before);
     match write_all(writer, &text, left) {
@@ -130,7 +130,7 @@ pub fn run_line_within<R: Read, W: Write>(
             status: 0,
             words: "",
         },
-        Err(fault) => stopped(fault, "write fault"),
+        Err(fault) => exit_of_stop(fault, "write fault"),
     }
 }
 

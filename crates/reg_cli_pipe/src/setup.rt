@@ -109,7 +109,7 @@ fn split_words<'a>(alloc: Global, line: &'a str) -> Result<Vec<&'a str>, SetupFa
 }
 
 /// What a setup makes of the reply to a command.
-fn obeyed(reply: Result<AdminReply, AdminRefusal>) -> Result<(), SetupFault>
+fn setup_result(reply: Result<AdminReply, AdminRefusal>) -> Result<(), SetupFault>
     ensures { MakesOf reply result }
 {
     match reply {
@@ -130,7 +130,7 @@ fn obey<S: Alter>(
         (tables_of registry.old) (tables_of registry.new) result }
     ensures keeps { GoesOn S.Store registry.old registry.new }
 {
-    obeyed(registry.command(alloc, command))
+    setup_result(registry.command(alloc, command))
 }
 
 /// Adds a token, whose digest a setup file has to tell.

@@ -36,7 +36,7 @@ pub enum OpenFault {
 }
 
 /// A registry of tables that passed the checks, once they are of schema 2.
-fn brought_up<S: Alter>(
+fn bring_up<S: Alter>(
     mut tables: Tables<S>,
     limits: Limits,
 ) -> Result<Registry<S>, (Connection<S>, OpenFault)>
@@ -64,7 +64,7 @@ fn brought_up<S: Alter>(
 }
 
 /// A registry of tables that pass the checks.
-fn examined<S: Alter>(
+fn examine<S: Alter>(
     alloc: Global,
     mut tables: Tables<S>,
     limits: Limits,
@@ -92,7 +92,7 @@ fn examined<S: Alter>(
     match audit(alloc, &mut tables) {
         Err(_) => Err((tables.into_connection(), OpenFault::Storage)),
         Ok(Some(check)) => Err((tables.into_connection(), OpenFault::Damaged(check))),
-        Ok(None) => brought_up(tables, limits),
+        Ok(None) => bring_up(tables, limits),
     }
 }
 
@@ -133,7 +133,7 @@ impl<S: Alter> Registry<S> {
         edition_law();
         rows_law(&conn);
         match Tables::adopt(alloc, conn) {
-            Ok(tables) => examined(alloc, tables, limits),
+            Ok(tables) => examine(alloc, tables, limits),
             Err((conn, MakeFault::UnknownSchema)) => Err((conn, OpenFault::UnknownSchema)),
             Err((conn, MakeFault::Storage)) => Err((conn, OpenFault::Storage)),
         }

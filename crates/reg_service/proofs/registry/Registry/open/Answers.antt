@@ -3,15 +3,15 @@ use Rattle.reg_service.proofs.registry.Registry.open.Goals as goal
 
 pub returns-in-Ok-clause-same : goal.returns-in-Ok-clause-same
 returns-in-Ok-clause-same g c =
-    opened_same g.S.Store c.args.conn c.in-Ok.tables (is_taken g.S.Store c.args.conn c.in-Ok.tables c.in-Ok.ensures.edition c.in-Ok.ensures.found c.in-Ok.ensures.about c.in-Ok.ensures.rests c.rows_law.ensures) c.examined.result c.edition_law.ensures.same c.examined.ensures.clean c.examined.ensures.brought
+    opened_same g.S.Store c.args.conn c.in-Ok.tables (is_taken g.S.Store c.args.conn c.in-Ok.tables c.in-Ok.ensures.edition c.in-Ok.ensures.found c.in-Ok.ensures.about c.in-Ok.ensures.rests c.rows_law.ensures) c.examine.result c.edition_law.ensures.same c.examine.ensures.clean c.examine.ensures.brought
 
 pub returns-in-Ok-clause-sound : goal.returns-in-Ok-clause-sound
 returns-in-Ok-clause-sound g c =
-    opened_sound g.S.Store c.args.conn c.in-Ok.tables (is_taken g.S.Store c.args.conn c.in-Ok.tables c.in-Ok.ensures.edition c.in-Ok.ensures.found c.in-Ok.ensures.about c.in-Ok.ensures.rests c.rows_law.ensures) c.examined.result c.edition_law.ensures.same c.edition_law.ensures.audit c.examined.ensures.clean c.examined.ensures.brought c.examined.ensures.passed
+    opened_sound g.S.Store c.args.conn c.in-Ok.tables (is_taken g.S.Store c.args.conn c.in-Ok.tables c.in-Ok.ensures.edition c.in-Ok.ensures.found c.in-Ok.ensures.about c.in-Ok.ensures.rests c.rows_law.ensures) c.examine.result c.edition_law.ensures.same c.edition_law.ensures.audit c.examine.ensures.clean c.examine.ensures.brought c.examine.ensures.passed
 
 pub returns-in-Ok-clause-left : goal.returns-in-Ok-clause-left
 returns-in-Ok-clause-left g c =
-    opened_left g.S.Store c.args.conn c.in-Ok.tables (is_taken g.S.Store c.args.conn c.in-Ok.tables c.in-Ok.ensures.edition c.in-Ok.ensures.found c.in-Ok.ensures.about c.in-Ok.ensures.rests c.rows_law.ensures) c.examined.result c.edition_law.ensures.same c.examined.ensures.clean c.examined.ensures.brought c.in-Ok.ensures.kept
+    opened_left g.S.Store c.args.conn c.in-Ok.tables (is_taken g.S.Store c.args.conn c.in-Ok.tables c.in-Ok.ensures.edition c.in-Ok.ensures.found c.in-Ok.ensures.about c.in-Ok.ensures.rests c.rows_law.ensures) c.examine.result c.edition_law.ensures.same c.examine.ensures.clean c.examine.ensures.brought c.in-Ok.ensures.kept
 
 pub returns-in-Err-default-UnknownSchema-clause-unknown : goal.returns-in-Err-default-UnknownSchema-clause-unknown
 returns-in-Err-default-UnknownSchema-clause-unknown g c clean is edition schema =
@@ -19,12 +19,12 @@ returns-in-Err-default-UnknownSchema-clause-unknown g c clean is edition schema 
 
 pub returns-in-Ok-clause-undone : goal.returns-in-Ok-clause-undone
 returns-in-Ok-clause-undone g c =
-    refused_undone g.S.Store c.args.conn c.in-Ok.tables (is_taken g.S.Store c.args.conn c.in-Ok.tables c.in-Ok.ensures.edition c.in-Ok.ensures.found c.in-Ok.ensures.about c.in-Ok.ensures.rests c.rows_law.ensures) c.examined.result c.examined.ensures.handed_back c.examined.ensures.undone
+    refused_undone g.S.Store c.args.conn c.in-Ok.tables (is_taken g.S.Store c.args.conn c.in-Ok.tables c.in-Ok.ensures.edition c.in-Ok.ensures.found c.in-Ok.ensures.about c.in-Ok.ensures.rests c.rows_law.ensures) c.examine.result c.examine.ensures.handed_back c.examine.ensures.undone
 
 pub returns-in-Ok-clause-damaged : goal.returns-in-Ok-clause-damaged
 returns-in-Ok-clause-damaged g c =
-    refused_damaged g.S.Store c.args.conn c.in-Ok.tables (is_taken g.S.Store c.args.conn c.in-Ok.tables c.in-Ok.ensures.edition c.in-Ok.ensures.found c.in-Ok.ensures.about c.in-Ok.ensures.rests c.rows_law.ensures) c.examined.result c.edition_law.ensures.audit c.examined.ensures.handed_back c.examined.ensures.undone c.examined.ensures.found
+    refused_damaged g.S.Store c.args.conn c.in-Ok.tables (is_taken g.S.Store c.args.conn c.in-Ok.tables c.in-Ok.ensures.edition c.in-Ok.ensures.found c.in-Ok.ensures.about c.in-Ok.ensures.rests c.rows_law.ensures) c.examine.result c.edition_law.ensures.audit c.examine.ensures.handed_back c.examine.ensures.undone c.examine.ensures.found
 
 pub returns-in-Ok-clause-handed_back : goal.returns-in-Ok-clause-handed_back
 returns-in-Ok-clause-handed_back g c =
-    refused_left g.S.Store c.args.conn c.in-Ok.tables (is_taken g.S.Store c.args.conn c.in-Ok.tables c.in-Ok.ensures.edition c.in-Ok.ensures.found c.in-Ok.ensures.about c.in-Ok.ensures.rests c.rows_law.ensures) c.examined.result c.in-Ok.ensures.kept c.examined.ensures.handed_back
+    refused_left g.S.Store c.args.conn c.in-Ok.tables (is_taken g.S.Store c.args.conn c.in-Ok.tables c.in-Ok.ensures.edition c.in-Ok.ensures.found c.in-Ok.ensures.about c.in-Ok.ensures.rests c.rows_law.ensures) c.examine.result c.in-Ok.ensures.kept c.examine.ensures.handed_back

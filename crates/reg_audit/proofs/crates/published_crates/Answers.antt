@@ -1,5 +1,5 @@
 use Rattle.reg_audit.proofs.Sets.{has_one_more}
-use Rattle.reg_audit.proofs.crates.published.Goals as goal
+use Rattle.reg_audit.proofs.crates.published_crates.Goals as goal
 
 pub loop-version-preserved : goal.loop-version-preserved
 loop-version-preserved c =

@@ -2,7 +2,7 @@ use Rattle.std.proofs.Common.{◌++◌, ◌∷◌, [], ◌∙◌, ap, sym}
 use Rattle.std.specs.Prelude.{◌==◌, if◌then◌else◌}
 use Rattle.reg_audit.specs.Checks.{shown_version}
 use Rattle.reg_audit.proofs.Kept.{kept_more}
-use Rattle.reg_audit.proofs.summaries.grouped.Goals as goal
+use Rattle.reg_audit.proofs.summaries.group_by_crate.Goals as goal
 
 pub loop-version-preserved : goal.loop-version-preserved
 loop-version-preserved c id =

@@ -5,7 +5,7 @@ use Rattle.reg_tables_meaning.proofs.Results.{if_ok}
 use Rattle.reg_tables.specs.Works.{edition_in, held, shown}
 use Rattle.reg_service.specs.Registries.{IsFirstFailing}
 use Rattle.reg_service.proofs.Opened.{examined_brought, examined_left, examined_undone, returned_left}
-use Rattle.reg_service.proofs.opening.examined.Goals as goal
+use Rattle.reg_service.proofs.opening.examine.Goals as goal
 
 pub returns-in-Ok-Some-clause-found : goal.returns-in-Ok-Some-clause-found
 returns-in-Ok-Some-clause-found g c clean check is =
@@ -22,16 +22,16 @@ returns-in-Ok-Some-clause-handed_back g c =
 
 pub returns-in-Ok-None-clause-passed : goal.returns-in-Ok-None-clause-passed
 returns-in-Ok-None-clause-passed g c =
-    if_ok c.brought_up.result (λ r early clean. subst (λ it. IsFirstFailing (edition_in c.args.tables) (shown g.S.Store c.args.tables).now it) c.in-Ok-None.field-0-is (c.in-Ok-None.ensures.found (early clean))) c.brought_up.ensures.clean
+    if_ok c.bring_up.result (λ r early clean. subst (λ it. IsFirstFailing (edition_in c.args.tables) (shown g.S.Store c.args.tables).now it) c.in-Ok-None.field-0-is (c.in-Ok-None.ensures.found (early clean))) c.bring_up.ensures.clean
 
 pub returns-in-Ok-None-clause-brought : goal.returns-in-Ok-None-clause-brought
 returns-in-Ok-None-clause-brought g c =
-    examined_brought g.S.Store c.args.tables c.audit.new.tables c.brought_up.result c.requires c.audit.ensures.ours c.audit.ensures.edition c.audit.ensures.kept c.audit.ensures.survives c.brought_up.ensures.clean c.brought_up.ensures.brought
+    examined_brought g.S.Store c.args.tables c.audit.new.tables c.bring_up.result c.requires c.audit.ensures.ours c.audit.ensures.edition c.audit.ensures.kept c.audit.ensures.survives c.bring_up.ensures.clean c.bring_up.ensures.brought
 
 pub returns-in-Ok-None-clause-undone : goal.returns-in-Ok-None-clause-undone
 returns-in-Ok-None-clause-undone g c =
-    examined_undone g.S.Store c.args.tables c.audit.new.tables c.brought_up.result c.audit.ensures.rests c.brought_up.ensures.handed_back c.brought_up.ensures.undone
+    examined_undone g.S.Store c.args.tables c.audit.new.tables c.bring_up.result c.audit.ensures.rests c.bring_up.ensures.handed_back c.bring_up.ensures.undone
 
 pub returns-in-Ok-None-clause-handed_back : goal.returns-in-Ok-None-clause-handed_back
 returns-in-Ok-None-clause-handed_back g c =
-    examined_left g.S.Store c.args.tables c.audit.new.tables c.brought_up.result c.audit.ensures.edition c.audit.ensures.survives c.brought_up.ensures.refused c.brought_up.ensures.handed_back
+    examined_left g.S.Store c.args.tables c.audit.new.tables c.bring_up.result c.audit.ensures.edition c.audit.ensures.survives c.bring_up.ensures.refused c.bring_up.ensures.handed_back

@@ -1,7 +1,7 @@
 use Rattle.std.proofs.Common.{Ok, ap, refl, sym, ◌∙◌}
 use Rattle.reg_tables.specs.Works.{edition_in, shown}
 use Rattle.reg_service.proofs.Opened.{still_brought, upgrade_brought, upgrade_left, upgrade_undone}
-use Rattle.reg_service.proofs.opening.brought_up.Goals as goal
+use Rattle.reg_service.proofs.opening.bring_up.Goals as goal
 
 pub returns-in-Second-clause-brought : goal.returns-in-Second-clause-brought
 returns-in-Second-clause-brought g c clean =

@@ -1,5 +1,5 @@
 use Rattle.reg_audit.proofs.Sets.{has_more}
-use Rattle.reg_audit.proofs.crates.owned.Goals as goal
+use Rattle.reg_audit.proofs.crates.owned_crates.Goals as goal
 
 pub loop-owner-preserved : goal.loop-owner-preserved
 loop-owner-preserved c =
