@@ -8,7 +8,7 @@ ghost use Rattle.reg_audit.specs.Checks.{crates_pass as crates_pass_in, is_named
 
 use crate::texts::{HasId, same_text};
 use reg_names::{canon, parse_name};
-use reg_tables::{AllRows, Crate, Ownership, Version};
+use reg_tables::{AllRows, Crate, Pair, Version};
 use std::alloc::{AllocError, Global};
 use std::collections::BTreeSet;
 
@@ -30,7 +30,7 @@ fn is_named(it: &Crate) -> bool
 }
 
 // The crates that have an owner.
-fn owned_crates(alloc: Global, owners: &[Ownership]) -> Result<BTreeSet<u32>, AllocError>
+fn owned_crates(alloc: Global, owners: &[Pair]) -> Result<BTreeSet<u32>, AllocError>
     ensures { IfOk result (λ set. (id : ℕ) → contains nat_cmp set id ≡ list_any
         (λ o. o.crate_id == id) owners.now) }
 {

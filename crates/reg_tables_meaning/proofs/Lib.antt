@@ -22,6 +22,7 @@ pub mod Raising
 pub mod Readings
 mod Removed
 mod ReservedChanges
+mod Relations
 pub mod Results
 mod Rising
 pub mod RowReading

@@ -13,11 +13,13 @@ use Rattle.reg_names.specs.Names.{canon}
 use Rattle.reg_model.specs.declared.endpoint.Endpoints.{Endpoints}
 use Rattle.reg_model.specs.Changes.{with_account, with_enabled, with_owner, with_publication, with_revoked, with_token}
 use Rattle.reg_model.specs.Crates as model
-use Rattle.reg_model.specs.Crates.{exists, first, has_crate, is_restricted, owners, readers, version, versions}
+use Rattle.reg_model.specs.Crates.{exists, first, has_crate, is_restricted, version, versions}
 use Rattle.reg_model.specs.Registry.{Publication, Registry, Text, text_cmp, with_id, id_of_login}
 use Rattle.reg_model.specs.Sound.{has_version}
 use Rattle.reg_tables_sql.specs.declared.accounts.Account.{Account}
 use Rattle.reg_tables_sql.specs.declared.crates.Crate.{Crate}
+use Rattle.reg_tables_sql.specs.declared.pairs.Relation.{Relation}
+use Rattle.reg_tables_sql.specs.declared.pairs.Relation.TheVariants.{Owners, Readers}
 use Rattle.reg_tables_sql.specs.declared.scopes.Scope.{Scope}
 use Rattle.reg_tables_sql.specs.declared.summaries.Summary.{Summary}
 use Rattle.reg_tables_sql.specs.declared.tokens.Token.{Token}
@@ -29,9 +31,10 @@ use Rattle.reg_tables_meaning.specs.declared.crates.NewVersion.{NewVersion}
 use Rattle.reg_tables_meaning.specs.declared.tokens.TokenRows.{TokenRows}
 use Rattle.reg_tables_meaning.specs.Entries.{entry_of_account, shown_version, version_shown}
 use Rattle.reg_tables_meaning.specs.FoundTokens.{IsFound, IsRow}
+use Rattle.reg_tables_meaning.specs.Relations.{accounts_related}
 use Rattle.reg_tables_meaning.specs.Stands.{Holds, Ids, StandsBy, scopes_of, spelling_at}
 use Rattle.reg_tables_meaning.specs.Summaries.{highest_of}
-use Rattle.reg_tables_meaning.specs.Changes.{ids_with_crate, ids_with_version, mark_at, next_crate, no_owner_at, no_reader_at, owner_at, reader_at, restricted_at, told_of}
+use Rattle.reg_tables_meaning.specs.Changes.{ids_with_crate, ids_with_version, mark_at, next_crate, no_pair_at, pair_at, restricted_at, told_of}
 use Rattle.reg_tables_meaning.specs.TokenEntries.{entry_of_token, without_patterns}
 
 -- the rows of a registry become those of another, under the same ids
@@ -154,28 +157,36 @@ AddsNext id v old new =
 abbrev pub SetsYanked : ℕ → Text → Bool → Trees → Trees → Type 0
 SetsYanked id text yanked = Turns (λ ids. mark_at ids id text yanked)
 
--- an account is an owner of a crate, or no longer
+-- an account is in a relation with a crate, or no longer
+abbrev pub AddsPair : Relation → ℕ → ℕ → Trees → Trees → Type 0
+AddsPair relation id account = Turns (λ ids. pair_at relation ids id account)
+
+abbrev pub RemovesPair : Relation → ℕ → ℕ → Trees → Trees → Type 0
+RemovesPair relation id account = Turns (λ ids. no_pair_at relation ids id account)
+
+-- the accounts in a relation with the crate of this id, by their ids
+abbrev pub ListsPairs : Relation → ℕ → Trees → List Account → Type 0
+ListsPairs relation id db list = Tells (λ ids s. map entry_of_account list
+    ≡ told_of (spelling_at ids id) [] (accounts_related relation s)) db
+
+-- the same of owners, and of readers
 abbrev pub AddsOwner : ℕ → ℕ → Trees → Trees → Type 0
-AddsOwner id account = Turns (λ ids. owner_at ids id account)
+AddsOwner = AddsPair Owners
 
 abbrev pub RemovesOwner : ℕ → ℕ → Trees → Trees → Type 0
-RemovesOwner id account = Turns (λ ids. no_owner_at ids id account)
+RemovesOwner = RemovesPair Owners
 
--- the accounts that own the crate with this id, by their ids
 abbrev pub ListsOwners : ℕ → Trees → List Account → Type 0
-ListsOwners id db list = Tells
-    (λ ids s. map entry_of_account list ≡ told_of (spelling_at ids id) [] (owners s)) db
+ListsOwners = ListsPairs Owners
 
--- the same of its readers
 abbrev pub AddsReader : ℕ → ℕ → Trees → Trees → Type 0
-AddsReader id account = Turns (λ ids. reader_at ids id account)
+AddsReader = AddsPair Readers
 
 abbrev pub RemovesReader : ℕ → ℕ → Trees → Trees → Type 0
-RemovesReader id account = Turns (λ ids. no_reader_at ids id account)
+RemovesReader = RemovesPair Readers
 
 abbrev pub ListsReaders : ℕ → Trees → List Account → Type 0
-ListsReaders id db list = Tells
-    (λ ids s. map entry_of_account list ≡ told_of (spelling_at ids id) [] (readers s)) db
+ListsReaders = ListsPairs Readers
 
 -- a crate is restricted, or open to all
 abbrev pub Restricts : Bool → ℕ → Trees → Trees → Type 0

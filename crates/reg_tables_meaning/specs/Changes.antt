@@ -5,6 +5,9 @@ use Rattle.reg_names.specs.Names.{canon}
 use Rattle.reg_model.specs.Changes.{with_yanked}
 use Rattle.reg_model.specs.Registry.{Publication, Registry, Text, owner_cmp, text_cmp}
 use Rattle.reg_model.specs.Sound.{has_version}
+use Rattle.reg_tables_sql.specs.declared.pairs.Relation.{Relation}
+use Rattle.reg_tables_sql.specs.declared.pairs.Relation.TheVariants.{Owners}
+use Rattle.reg_tables_meaning.specs.Relations.{related, with_related}
 use Rattle.reg_tables_meaning.specs.Stands.{Ids, next_of, spelling_at}
 
 -- the ids that a crate and a version get that are added
@@ -53,22 +56,21 @@ abbrev pub remove_at : Option Text → ℕ → finset.FinSet owner_cmp → finse
 remove_at None account held = held
 remove_at (Some name) account held = finset.remove held (canon name, account)
 
--- the account owns the crate with this id, or no longer; and the same of its readers
+-- the account is in a relation with the crate of this id, or no longer
+abbrev pub pair_at : Relation → Ids → ℕ → ℕ → Registry → Registry
+pair_at relation ids id account s =
+    with_related relation (insert_at (spelling_at ids id) account (related relation s)) s
+
+abbrev pub no_pair_at : Relation → Ids → ℕ → ℕ → Registry → Registry
+no_pair_at relation ids id account s =
+    with_related relation (remove_at (spelling_at ids id) account (related relation s)) s
+
+-- it owns the crate, or no longer
 abbrev pub owner_at : Ids → ℕ → ℕ → Registry → Registry
-owner_at ids id account s =
-    record s { owners = insert_at (spelling_at ids id) account s.owners }
+owner_at = pair_at Owners
 
 abbrev pub no_owner_at : Ids → ℕ → ℕ → Registry → Registry
-no_owner_at ids id account s =
-    record s { owners = remove_at (spelling_at ids id) account s.owners }
-
-abbrev pub reader_at : Ids → ℕ → ℕ → Registry → Registry
-reader_at ids id account s =
-    record s { readers = insert_at (spelling_at ids id) account s.readers }
-
-abbrev pub no_reader_at : Ids → ℕ → ℕ → Registry → Registry
-no_reader_at ids id account s =
-    record s { readers = remove_at (spelling_at ids id) account s.readers }
+no_owner_at = no_pair_at Owners
 
 -- the crate with this spelling is in a set, or no longer; none where there is no crate
 abbrev pub mark_in : Option Text → Bool → finset.FinSet text_cmp → finset.FinSet text_cmp

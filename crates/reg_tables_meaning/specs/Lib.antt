@@ -6,6 +6,7 @@ pub mod FoundTokens
 pub mod Ids
 pub mod Numbers
 pub mod Patterns
+pub mod Relations
 pub mod Stands
 pub mod Stored
 pub mod Summaries

@@ -13,7 +13,8 @@ use crate::accounts::next_id;
 use crate::summaries;
 use reg_line::Digest;
 use reg_names::{CrateName, canon};
-use reg_tables_sql::{archives, crates, owners, versions};
+use reg_tables_sql::pairs::Relation;
+use reg_tables_sql::{archives, crates, pairs, versions};
 use reg_versions::release_key;
 use sqlite::{Alter, Connection, Error};
 
@@ -56,7 +57,7 @@ fn insert_crate<S: Alter>(
     let last = crates::last_id(conn)?;
     let id = next_id(last)?;
     crates::insert(conn, id, canon(name).as_str(), name.as_str())?;
-    owners::insert(conn, id, owner)?;
+    pairs::insert(conn, Relation::Owners, id, owner)?;
     Ok(id)
 }
 

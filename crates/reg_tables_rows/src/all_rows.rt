@@ -25,15 +25,14 @@ ghost use Rattle.reg_tables_rows.specs.WholeRows.{AreAllRows, AreApart};
 use crate::apart::check_rowids;
 use reg_tables_sql::accounts::Account;
 use reg_tables_sql::crates::Crate;
-use reg_tables_sql::owners::Ownership;
-use reg_tables_sql::pairs::Pair;
+use reg_tables_sql::pairs::{Pair, Relation};
 use reg_tables_sql::scopes::Scope;
 use reg_tables_sql::summaries::Summary;
 use reg_tables_sql::tokens::Token;
 use reg_tables_sql::versions::Version;
 use reg_tables_sql::{
-    about, accounts, archives, crates, owners, readers, reserved, restricted, scopes, summaries,
-    tokens, versions,
+    about, accounts, archives, crates, pairs, reserved, restricted, scopes, summaries, tokens,
+    versions,
 };
 use sqlite::{Alter, Connection, Error};
 use std::alloc::Global;
@@ -47,7 +46,7 @@ pub struct AllRows {
     pub tokens: Vec<Token>,
     pub scopes: Vec<Scope>,
     pub crates: Vec<Crate>,
-    pub owners: Vec<Ownership>,
+    pub owners: Vec<Pair>,
     pub versions: Vec<Version>,
     pub archives: Vec<u64>,
     pub reserved: Vec<String>,
@@ -68,7 +67,7 @@ struct TokenTables {
 #[derive(Drop)]
 struct CrateTables {
     crates: Vec<Crate>,
-    owners: Vec<Ownership>,
+    owners: Vec<Pair>,
     versions: Vec<Version>,
 }
 
@@ -134,7 +133,7 @@ fn crate_tables<S: Alter>(alloc: Global, conn: &mut Connection<S>) -> Result<Cra
     see_rules(conn)?;
     check_rowids(alloc, conn)?;
     let crates = crates::all_by_id(alloc, conn)?;
-    let owners = owners::all(alloc, conn)?;
+    let owners = pairs::all(alloc, conn, Relation::Owners)?;
     let versions = versions::all(alloc, conn)?;
     Ok(CrateTables {
         crates,
@@ -155,7 +154,7 @@ fn kept_tables<S: Alter>(alloc: Global, conn: &mut Connection<S>) -> Result<Kept
 {
     let summaries = summaries::all(alloc, conn)?;
     let restricted = restricted::all(alloc, conn)?;
-    let readers = readers::all(alloc, conn)?;
+    let readers = pairs::all(alloc, conn, Relation::Readers)?;
     Ok(KeptTables {
         summaries,
         restricted,

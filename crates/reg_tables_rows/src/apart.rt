@@ -13,7 +13,8 @@ ghost use Rattle.reg_tables_sql.specs.Rowids.{AreRowids};
 ghost use Rattle.reg_tables_meaning.specs.Stands.{HaveOwnRowids};
 ghost use Rattle.reg_tables_rows.specs.WholeRows.{AreApart};
 
-use reg_tables_sql::{crates, owners, readers, reserved, versions};
+use reg_tables_sql::pairs::Relation;
+use reg_tables_sql::{crates, pairs, reserved, versions};
 use sqlite::{Alter, Connection, Error};
 use std::alloc::Global;
 
@@ -77,9 +78,9 @@ fn check_others<S: Alter>(alloc: Global, conn: &mut Connection<S>) -> Result<(),
         (HaveOwnRowids (rows_in S.Store conn.old reserved_tree)) }
     ensures same { KeepsAll S.Store conn.old conn.new result }
 {
-    let owners = owners::rowids(alloc, conn)?;
+    let owners = pairs::rowids(alloc, conn, Relation::Owners)?;
     check(&owners)?;
-    let readers = readers::rowids(alloc, conn)?;
+    let readers = pairs::rowids(alloc, conn, Relation::Readers)?;
     check(&readers)?;
     let reserved = reserved::rowids(alloc, conn)?;
     check(&reserved)?;

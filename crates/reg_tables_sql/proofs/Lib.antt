@@ -6,12 +6,9 @@ mod ArchiveQueries
 mod ArchiveTexts
 mod CrateQueries
 mod CrateTexts
-mod OwnerQueries
-mod OwnerTexts
 mod PairQueries
 mod PairTexts
-mod ReaderQueries
-mod ReaderTexts
+mod Relations
 mod ReservedQueries
 mod ReservedTexts
 mod RestrictedQueries

@@ -5,6 +5,7 @@ pub mod Counts
 pub mod Crates
 pub mod Owners
 pub mod Pairs
+pub mod Relations
 pub mod Reserved
 pub mod Restricted
 pub mod Rowids

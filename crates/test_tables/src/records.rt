@@ -4,8 +4,7 @@ use crate::words::text_of;
 use reg_line::digest_of;
 use reg_model::Endpoints;
 use reg_tables::{
-    Account, AllRows, Crate, Ownership, Scope, Summary, Token, TokenLists, TokenRow, TokenRows,
-    Version,
+    Account, AllRows, Crate, Pair, Scope, Summary, Token, TokenLists, TokenRow, TokenRows, Version,
 };
 use sqlite::Row;
 use sqlite::types::ValueRef;
@@ -91,7 +90,7 @@ impl Shown for Account {
     }
 }
 
-impl Shown for Ownership {
+impl Shown for Pair {
     fn show(&self, alloc: Global) -> Result<String, AllocError> {
         format!(in alloc; "{}:{};", self.crate_id, self.account)
     }

@@ -1,0 +1,68 @@
+use Rattle.std.specs.List.{list_any}
+use Rattle.sqlite_trees.specs.Tree.{has_rowid}
+use Rattle.reg_tables_schema.specs.Tests.{is_owner}
+use Rattle.std.proofs.Common.{pos, ◌≡◌, arith, sym, subst, ap, ◌∙◌}
+use Rattle.sqlite.specs.Effect.{Database}
+use Rattle.sqlite.specs.State.{HasCleanDisk}
+use Rattle.sqlite.specs.Held.{state}
+use Rattle.reg_tables_sql.specs.Relations.{tree_of}
+use Rattle.reg_tables_meaning.specs.Relations.{related, with_related}
+use Rattle.reg_tables_meaning.specs.Stands.{Holds, StandsBy}
+use Rattle.reg_tables_meaning.proofs.PairsStand.{added, again, no_crate}
+use Rattle.reg_tables_meaning.proofs.Relations.{pairs_of, with_itself, with_pairs}
+use Rattle.reg_tables_meaning.proofs.Stays.{pairs_stay}
+use Rattle.reg_tables_meaning.proofs.Went.{ends, stops_read, stops_read_after, stops_write, went_read, went_read_after, went_write}
+use Rattle.reg_tables_meaning.proofs.Withins.{become_within}
+use Rattle.reg_tables_meaning.proofs.pairs.add.Goals as goal
+
+pub returns-then-not-is_crate-clause-stands : goal.returns-then-not-is_crate-clause-stands
+returns-then-not-is_crate-clause-stands g c clean ids s h =
+    let old = state g.S.Store c.args.conn.now in
+    let new = state g.S.Store c.has_id.new.conn in
+    let same : new.now ≡ old.now = (c.in_ok-is_crate.ensures.only clean).0.0.now_is in
+    let none = sym (c.in_ok-is_crate.ensures.told clean) ∙ c.if-not-is_crate.true in
+    let kept = no_crate ids s.publications s.yanked old.now.trees h.stands.crates (related c.args.relation s) (old.now.trees (tree_of c.args.relation)) (pairs_of c.args.relation ids s old.now.trees h.stands) c.args.crate_id c.args.account none in
+    subst (λ os. StandsBy ids (with_related c.args.relation os s) new.now.trees) kept (with_itself c.args.relation ids s new.now.trees (subst (λ (d : Database). StandsBy ids s d.trees) (sym same) h.stands))
+
+pub returns-then-is_pair-clause-stands : goal.returns-then-is_pair-clause-stands
+returns-then-is_pair-clause-stands g c clean ids s h =
+    let old = state g.S.Store c.args.conn.now in
+    let mid = state g.S.Store c.has_id.new.conn in
+    let new = state g.S.Store c.is_there.new.conn in
+    let early : HasCleanDisk mid = omega (arith, clean, c.is_there.ensures.survives.clean) in
+    let before : mid.now ≡ old.now = (c.in_ok-is_crate.ensures.only early).0.0.now_is in
+    let same : new.now ≡ old.now = (c.in_ok-is_pair.ensures.only clean).0.0.now_is ∙ before in
+    let there = ap (λ (d : Database). list_any (is_owner c.args.crate_id c.args.account) (d.trees (tree_of c.args.relation))) (sym before) ∙ sym (c.in_ok-is_pair.ensures.told clean) ∙ c.if-is_pair.true in
+    let kept = again ids s.publications s.yanked old.now.trees h.stands.crates (related c.args.relation s) (old.now.trees (tree_of c.args.relation)) (pairs_of c.args.relation ids s old.now.trees h.stands) c.args.crate_id c.args.account there in
+    subst (λ os. StandsBy ids (with_related c.args.relation os s) new.now.trees) kept (with_itself c.args.relation ids s new.now.trees (subst (λ (d : Database). StandsBy ids s d.trees) (sym same) h.stands))
+
+pub returns-clause-stands : goal.returns-clause-stands
+returns-clause-stands g c clean ids s h =
+    let old = state g.S.Store c.args.conn.now in
+    let one = state g.S.Store c.has_id.new.conn in
+    let two = state g.S.Store c.is_there.new.conn in
+    let new = state g.S.Store c.insert.new.conn in
+    let clean_two : HasCleanDisk two = omega (arith, clean, c.insert.ensures.survives.clean) in
+    let clean_one : HasCleanDisk one = omega (arith, clean_two, c.is_there.ensures.survives.clean) in
+    let before : one.now ≡ old.now = (c.in_ok-is_crate.ensures.only clean_one).0.0.now_is in
+    let same : two.now ≡ old.now = (c.in_ok-is_pair.ensures.only clean_two).0.0.now_is ∙ before in
+    let crate = sym (c.in_ok-is_crate.ensures.told clean_one) ∙ c.if-not-is_crate.false in
+    let absent = ap (λ (d : Database). list_any (is_owner c.args.crate_id c.args.account) (d.trees (tree_of c.args.relation))) (sym before) ∙ sym (c.in_ok-is_pair.ensures.told clean_two) ∙ c.if-is_pair.false in
+    let then = subst (λ (d : Database). Holds ids s d.trees) (sym same) h in
+    let crate_then = ap (λ (d : Database). list_any (has_rowid (pos c.args.crate_id)) (d.trees 7)) same ∙ crate in
+    let absent_then = ap (λ (d : Database). list_any (is_owner c.args.crate_id c.args.account) (d.trees (tree_of c.args.relation))) same ∙ absent in
+    let put = c.in_ok-insert.ensures.changes clean in
+    let pairs = added ids s.publications s.yanked two.now.trees then.stands.crates (related c.args.relation s) (two.now.trees (tree_of c.args.relation)) (pairs_of c.args.relation ids s two.now.trees then.stands) c.args.crate_id c.args.account crate_then absent_then put.0 put.1.fresh in
+    with_pairs c.args.relation ids s two.now.trees new.now.trees then.stands _ put.1.becomes.others (pairs_stay ids.crates _ _ (new.now.trees (tree_of c.args.relation)) put.1.becomes.rows_are pairs)
+
+pub returns-in_err-is_crate-clause-leaves : goal.returns-in_err-is_crate-clause-leaves
+returns-in_err-is_crate-clause-leaves g c = stops_read (state g.S.Store c.args.conn.now) (state g.S.Store c.has_id.new.conn) c.has_id.result _ c.from_residual.result c.from_residual.ensures.0 c.requires c.in_err-is_crate.was c.has_id.ensures
+
+pub returns-in_err-is_pair-clause-leaves : goal.returns-in_err-is_pair-clause-leaves
+returns-in_err-is_pair-clause-leaves g c = stops_read_after (state g.S.Store c.args.conn.now) (state g.S.Store c.has_id.new.conn) (state g.S.Store c.is_there.new.conn) c.is_there.result _ c.from_residual-in_err-is_pair.result c.from_residual-in_err-is_pair.ensures.0 (went_read (state g.S.Store c.args.conn.now) (state g.S.Store c.has_id.new.conn) c.has_id.result _ c.requires c.in_ok-is_crate.was c.has_id.ensures) c.in_err-is_pair.was c.is_there.ensures
+
+pub returns-in_err-insert-clause-leaves : goal.returns-in_err-insert-clause-leaves
+returns-in_err-insert-clause-leaves g c = stops_write (state g.S.Store c.args.conn.now) (state g.S.Store c.is_there.new.conn) (state g.S.Store c.insert.new.conn) c.insert.result _ c.from_residual-in_err-insert.result c.from_residual-in_err-insert.ensures.0 (went_read_after (state g.S.Store c.args.conn.now) (state g.S.Store c.has_id.new.conn) (state g.S.Store c.is_there.new.conn) c.is_there.result _ (went_read (state g.S.Store c.args.conn.now) (state g.S.Store c.has_id.new.conn) c.has_id.result _ c.requires c.in_ok-is_crate.was c.has_id.ensures) c.in_ok-is_pair.was c.is_there.ensures) c.in_err-insert.was c.insert.ensures
+
+pub returns-clause-leaves : goal.returns-clause-leaves
+returns-clause-leaves g c = ends (state g.S.Store c.args.conn.now) (state g.S.Store c.insert.new.conn) tt (went_write (state g.S.Store c.args.conn.now) (state g.S.Store c.is_there.new.conn) (state g.S.Store c.insert.new.conn) c.insert.result _ (went_read_after (state g.S.Store c.args.conn.now) (state g.S.Store c.has_id.new.conn) (state g.S.Store c.is_there.new.conn) c.is_there.result _ (went_read (state g.S.Store c.args.conn.now) (state g.S.Store c.has_id.new.conn) c.has_id.result _ c.requires c.in_ok-is_crate.was c.has_id.ensures) c.in_ok-is_pair.was c.is_there.ensures) c.in_ok-insert.was (λ clean at adds. become_within (state g.S.Store c.is_there.new.conn) (state g.S.Store c.insert.new.conn) (tree_of c.args.relation) _ clean at adds.1.becomes) c.insert.ensures)

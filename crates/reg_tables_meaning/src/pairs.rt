@@ -1,0 +1,72 @@
+//! Owners and readers of crates: changes of the registry that the rows stand for, and what they show
+//! of it.
+
+ghost use Rattle.sqlite.specs.Held.{state};
+ghost use Rattle.reg_tables_schema.specs.States.{IsReady};
+ghost use Rattle.reg_tables_schema.specs.Statements.{rows_in};
+ghost use Rattle.reg_tables_schema.specs.Steps.{Done, KeepsAll, Steps, Told};
+ghost use Rattle.reg_tables_meaning.specs.Calls.{AddsPair, ListsPairs, RemovesPair};
+
+use reg_tables_sql::accounts::Account;
+use reg_tables_sql::pairs::Relation;
+use reg_tables_sql::{crates, pairs};
+use sqlite::{Alter, Connection, Error};
+use std::alloc::Global;
+
+/// Puts an account into the relation with a crate. A crate that is not there gets none.
+pub fn add<S: Alter>(
+    conn: &mut Connection<S>,
+    relation: Relation,
+    crate_id: u32,
+    account: u32,
+) -> Result<(), Error>
+    requires { IsReady (state S.Store conn.old) }
+    ensures stands { Done S.Store conn.new result
+        (AddsPair relation crate_id account
+        (rows_in S.Store conn.old) (rows_in S.Store conn.new)) }
+    ensures leaves { Steps S.Store conn.old conn.new result }
+{
+    let is_crate = crates::has_id(conn, crate_id)?;
+    if !is_crate {
+        return Ok(());
+    }
+    let is_pair = pairs::is_there(conn, relation, crate_id, account)?;
+    if is_pair {
+        return Ok(());
+    }
+    pairs::insert(conn, relation, crate_id, account)?;
+    Ok(())
+}
+
+/// Takes an account out of the relation with a crate.
+#[tactic(auto, using(crate::proofs::Withins::refused_fails, crate::proofs::Withins::become_within))]
+pub fn remove<S: Alter>(
+    conn: &mut Connection<S>,
+    relation: Relation,
+    crate_id: u32,
+    account: u32,
+) -> Result<(), Error>
+    requires { IsReady (state S.Store conn.old) }
+    ensures stands { Done S.Store conn.new result
+        (RemovesPair relation crate_id account
+        (rows_in S.Store conn.old) (rows_in S.Store conn.new)) }
+    ensures leaves { Steps S.Store conn.old conn.new result }
+{
+    pairs::remove(conn, relation, crate_id, account)?;
+    Ok(())
+}
+
+/// The accounts in the relation with a crate, by id.
+pub fn list<S: Alter>(
+    alloc: Global,
+    conn: &mut Connection<S>,
+    relation: Relation,
+    crate_id: u32,
+) -> Result<Vec<Account>, Error>
+    requires { IsReady (state S.Store conn.old) }
+    ensures found { Told S.Store conn.new result
+        (λ list. ListsPairs relation crate_id (rows_in S.Store conn.old) list.items) }
+    ensures same { KeepsAll S.Store conn.old conn.new result }
+{
+    pairs::of_crate(alloc, conn, relation, crate_id)
+}

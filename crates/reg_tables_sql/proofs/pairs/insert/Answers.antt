@@ -1,0 +1,12 @@
+use Rattle.std.proofs.Common.{Ok}
+use Rattle.sqlite.specs.Held.{state}
+use Rattle.reg_tables_schema.proofs.Writing.{writes_as}
+use Rattle.reg_tables_sql.proofs.Relations.{insert_writes, inserts}
+use Rattle.reg_tables_sql.proofs.pairs.insert.Goals as goal
+
+pub write-requires-clause-writes : goal.write-requires-clause-writes
+write-requires-clause-writes g c = rw c.texts.ensures.insert (insert_writes c.args.relation)
+
+pub returns : goal.returns
+returns g c =
+    writes_as (state g.S.Store c.args.conn.now) (state g.S.Store c.write.new.conn) c.write.result c.requires (λ at h. inserts (state g.S.Store c.args.conn.now) (state g.S.Store c.write.new.conn) c.args.crate_id c.args.account (Ok h.0) at c.args.relation h.1) (rw (c.texts.ensures.insert, c.params-to_sql.ensures, c.params-to_sql-2.ensures) at c.write.ensures)
