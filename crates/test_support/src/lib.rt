@@ -1,5 +1,5 @@
-//! What the tests share: the worked examples' texts, words of scripts that are commands, and running
-//! a call with each amount of memory.
+//! What the tests share: the worked examples' texts, words of scripts that are commands, and
+//! running a call with each amount of memory.
 #![tactic(auto)]
 
 pub mod examples;
