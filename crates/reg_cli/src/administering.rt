@@ -66,7 +66,8 @@ fn add_token<S: Alter>(rt: &HostRuntime, registry: &mut Registry<S>, token: &New
 /// What the administrator wants of a registry.
 #[derive(Drop)]
 pub(crate) enum Task<'a> {
-    Export(&'a str),
+    /// The index as files: their folder, and the registry's own file.
+    Export(&'a str, &'a str),
     Command(AdminCommand<'a>),
     AddToken(NewToken<'a>),
 }
@@ -80,7 +81,10 @@ fn read_task<'a>(
     ensures { IfOk result (λ t. IfSome t IsFitTask) }
 {
     if name == "export" {
-        return Ok(words.get_str("DIR").map(Task::Export));
+        return Ok(match (words.get_str("DIR"), words.get_str("db")) {
+            (Some(folder), Some(file)) => Some(Task::Export(folder, file)),
+            _ => None,
+        });
     }
     if let Some(report) = read_report(name, words) {
         return Ok(Some(Task::Command(report)));
@@ -101,7 +105,7 @@ pub(crate) fn do_task<S: Alter>(
     requires fit { IsFitTask task.now }
 {
     match task {
-        Task::Export(folder) => export_to(rt, registry, folder),
+        Task::Export(folder, file) => export_to(rt, registry, folder, file),
         Task::Command(command) => obey(rt, registry, command),
         Task::AddToken(token) => add_token(rt, registry, token),
     }

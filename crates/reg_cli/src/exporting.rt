@@ -3,6 +3,7 @@
 ghost use Rattle.reg_service.specs.Answered.{AreUpToDate};
 ghost use Rattle.reg_service.specs.Registries.{tables_of};
 
+use crate::files::is_registry;
 use reg_cli_line::Exit;
 use reg_service::Registry;
 use sqlite::Alter;
@@ -29,12 +30,39 @@ fn write_file(rt: &HostRuntime, folder: &str, path: &str, bytes: &[u8]) -> io::R
     fs::write(rt, whole.as_str(), bytes)
 }
 
-/// Writes the config and the index files below the folder. Files that stand there are overwritten.
-/// The empty text names no folder.
+/// Whether one of the files is the registry's own, or its log.
+fn have_registry(
+    rt: &HostRuntime,
+    folder: &str,
+    files: &[(String, Vec<u8>)],
+    registry: &str,
+) -> Result<bool, AllocError> {
+    for (path, _) in files {
+        let whole = join_path(rt, folder, path)?;
+        if is_registry(rt, &whole, registry)? {
+            return Ok(true);
+        }
+    }
+    Ok(false)
+}
+
+fn write_files(rt: &HostRuntime, folder: &str, files: &[(String, Vec<u8>)]) -> Exit {
+    for (path, bytes) in files {
+        if write_file(rt, folder, path, bytes).is_err() {
+            return Exit::STORAGE;
+        }
+    }
+    Exit::DONE
+}
+
+/// Writes the config and the index files below the folder. Files that stand there are overwritten,
+/// but for the registry's own `file` and its log: then nothing is written. The empty text names no
+/// folder.
 pub(crate) fn export_to<S: Alter>(
     rt: &HostRuntime,
     registry: &mut Registry<S>,
     folder: &str,
+    file: &str,
 ) -> Exit
     requires { AreUpToDate S.Store (tables_of registry.old) }
 {
@@ -44,10 +72,9 @@ pub(crate) fn export_to<S: Alter>(
     let Ok(files) = registry.export(rt.alloc()) else {
         return Exit::STORAGE;
     };
-    for (path, bytes) in &files {
-        if write_file(rt, folder, path, bytes).is_err() {
-            return Exit::STORAGE;
-        }
+    match have_registry(rt, folder, &files, file) {
+        Ok(false) => write_files(rt, folder, &files),
+        Ok(true) => Exit::STORAGE,
+        Err(_) => Exit::MEMORY,
     }
-    Exit::DONE
 }

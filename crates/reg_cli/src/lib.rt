@@ -9,6 +9,7 @@
 
 mod administering;
 mod exporting;
+mod files;
 mod printing;
 mod serving;
 mod store;

@@ -6,6 +6,7 @@ ghost use Rattle.reg_service.specs.Answered.{AreUpToDate};
 ghost use Rattle.reg_service.specs.Registries.{limits_of, tables_of};
 ghost use Rattle.reg_cli.specs.Exits.{status_of_opening, words_of_damage, words_of_opening};
 
+use crate::files::is_orphaned;
 use reg_body::Limits;
 use reg_cli_line::Exit;
 use reg_service::{Check, OpenFault, Registry};
@@ -49,10 +50,15 @@ pub(crate) fn exit_of_opening(fault: OpenFault) -> Exit
     }
 }
 
-/// A connection to the file.
+/// A connection to the file. Where its log has lost it, neither is touched.
 pub(crate) fn connect(rt: &HostRuntime, file: &str) -> Result<Connection<FileStore<File>>, Exit>
     ensures { IfOk result IsNew }
 {
+    match is_orphaned(rt, file) {
+        Ok(false) => {}
+        Ok(true) => return Err(Exit::STORAGE),
+        Err(_) => return Err(Exit::MEMORY),
+    }
     match Connection::open(rt, file) {
         Ok(conn) => Ok(conn),
         Err(_) => Err(Exit::STORAGE),

@@ -28,11 +28,11 @@ use Rattle.reg_cli_pipe.specs.LineOrders.{IsUnread, line_order}
 use Rattle.reg_cli_pipe.specs.Setups.{HasDone, HasDoneAlone, IsObeyed, IsSetUp, MakesOf, Obeys, is_refused}
 
 abbrev pub RunsBegin : {S : Type 0} → Ghosts S → Type 0
-RunsBegin g = (limits : Limits) (s : model.Registry) (t : Tables _) → Shows s (shown g t) → LeavesAlone s (shown g t) → Ran g limits s [] [] s t
+RunsBegin g = (limits : Limits) (s : model.Registry) (t : Tables _) → Shows s (shown g t) → Ran g limits s t [] [] s t
 
 abbrev pub RunsGoOn : {S : Type 0} → Ghosts S → Type 0
-RunsGoOn g = (limits : Limits) (s : model.Registry) (es : List Event) (xs : List Answer) (t : model.Registry) (e : Event) (a : Answer) (old new : Tables _)
-    → IsFit e → Ran g limits s es xs t old → (it : Answers g limits t e a old new) → Ran g limits s (es ++ e ∷ []) (xs ++ a ∷ []) it.after new
+RunsGoOn g = (limits : Limits) (s : model.Registry) (entry : Tables _) (es : List Event) (xs : List Answer) (t : model.Registry) (e : Event) (a : Answer) (old new : Tables _)
+    → IsFit e → Ran g limits s entry es xs t old → (it : Answers g limits t e a old new) → Ran g limits s entry (es ++ e ∷ []) (xs ++ a ∷ []) it.after new
 
 -- what had no room is refused
 not_refused : (c : Command) (a : Answer) → is_refused a ≡ false → a ≢ no_room (Order c)
@@ -57,14 +57,14 @@ unread_obeyed g limits ordered t (Refused r) not = absurd not
 unread_obeyed g limits ordered t Unreadable none = (none, refl)
 unread_obeyed g limits ordered t Memory u = refl
 
-module _ {S : Type 0} (g : Ghosts S) (limits : Limits) (s : model.Registry) (lines : List Text) where
-  pub begun : RunsBegin g → (now : Tables S) → Shows s (shown g now) → LeavesAlone s (shown g now) → HasDoneAlone g limits s lines now 0
-  begun begins now shows alone = record {
-    done = record { after = s; commands = []; told = []; ordered = refl; none_refused = refl; count_is = refl; ran = begins limits s now shows alone };
-    alone = alone;
+module _ {S : Type 0} (g : Ghosts S) (limits : Limits) (s : model.Registry) (entry : Tables S) (lines : List Text) where
+  pub begun : RunsBegin g → Shows s (shown g entry) → HasDoneAlone g limits s entry lines entry 0
+  begun begins shows = record {
+    done = record { after = s; commands = []; told = []; ordered = refl; none_refused = refl; count_is = refl; ran = begins limits s entry shows };
+    alone = λ lt. omega (arith, lt);
   }
 
-  module _ (goes_on : RunsGoOn g) (count : ℕ) (old new : Tables S) (h : HasDoneAlone g limits s lines old count) (clean : HasCleanDisk (shown g new))
+  module _ (goes_on : RunsGoOn g) (count : ℕ) (old new : Tables S) (h : HasDoneAlone g limits s entry lines old count) (clean : HasCleanDisk (shown g new))
       (line : Text) (less : count < length lines) (at : get_or lines count line ≡ line) where
     before : map line_order (take count lines) ≡ map Some h.done.commands
     before = subst (λ n. map line_order (take n lines) ≡ map Some h.done.commands) (ap length (append-nil h.done.told) ∙ h.done.count_is) h.done.ordered
@@ -76,10 +76,10 @@ module _ {S : Type 0} (g : Ghosts S) (limits : Limits) (s : model.Registry) (lin
       abbrev commands : List Command
       commands = h.done.commands ++ o.command ∷ []
 
-      ran : Ran g limits s (map Order commands) (h.done.told ++ a ∷ []) answers.after new
-      ran = subst (λ es. Ran g limits s es (h.done.told ++ a ∷ []) answers.after new) (sym (map-append Order h.done.commands (o.command ∷ [])))
-          (subst (λ xs. Ran g limits s (map Order h.done.commands ++ Order o.command ∷ []) (xs ++ a ∷ []) answers.after new) (append-nil h.done.told)
-          (goes_on limits s (map Order h.done.commands) (h.done.told ++ []) h.done.after (Order o.command) a old new o.fit h.done.ran answers))
+      ran : Ran g limits s entry (map Order commands) (h.done.told ++ a ∷ []) answers.after new
+      ran = subst (λ es. Ran g limits s entry es (h.done.told ++ a ∷ []) answers.after new) (sym (map-append Order h.done.commands (o.command ∷ [])))
+          (subst (λ xs. Ran g limits s entry (map Order h.done.commands ++ Order o.command ∷ []) (xs ++ a ∷ []) answers.after new) (append-nil h.done.told)
+          (goes_on limits s entry (map Order h.done.commands) (h.done.told ++ []) h.done.after (Order o.command) a old new o.fit h.done.ran answers))
 
       ordered : (n : ℕ) → n ≡ count + 1 → map line_order (take n lines) ≡ map Some commands
       ordered n is = ap (λ m. map line_order (take m lines)) is ∙ ap (map line_order) (take_more lines count line less)
@@ -94,7 +94,7 @@ module _ {S : Type 0} (g : Ghosts S) (limits : Limits) (s : model.Registry) (lin
       alone is = elim answers.kept [ inl none ↦ absurd (not_refused o.command a is none) | inr it ↦ it ]
 
       -- it was done
-      pub next : is_refused a ≡ false → HasDoneAlone g limits s lines new (count + 1)
+      pub next : is_refused a ≡ false → HasDoneAlone g limits s entry lines new (count + 1)
       next is = record {
         done = record {
           after = answers.after;
@@ -103,13 +103,13 @@ module _ {S : Type 0} (g : Ghosts S) (limits : Limits) (s : model.Registry) (lin
           ordered = ordered (length ((h.done.told ++ a ∷ []) ++ [])) (ap length (append-nil (h.done.told ++ a ∷ [])) ∙ told_is);
           none_refused = list_any-append is_refused h.done.told (a ∷ []) ∙ ap (λ b. b || list_any is_refused (a ∷ [])) h.done.none_refused ∙ ap (λ b. b || false) is;
           count_is = told_is;
-          ran = subst (λ xs. Ran g limits s (map Order commands) xs answers.after new) (sym (append-nil (h.done.told ++ a ∷ []))) ran;
+          ran = subst (λ xs. Ran g limits s entry (map Order commands) xs answers.after new) (sym (append-nil (h.done.told ++ a ∷ []))) ran;
         };
-        alone = alone is;
+        alone = λ some. alone is;
       }
 
       -- it was the last
-      pub last : HasDone g limits s lines new count (a ∷ [])
+      pub last : HasDone g limits s entry lines new count (a ∷ [])
       last = record {
         after = answers.after;
         commands = commands;
@@ -120,23 +120,23 @@ module _ {S : Type 0} (g : Ghosts S) (limits : Limits) (s : model.Registry) (lin
         ran = ran;
       }
 
-    was_done : (u : Unit {0}) → IsObeyed g limits (line_order line) old new (Ok u) → HasDoneAlone g limits s lines new (count + 1)
+    was_done : (u : Unit {0}) → IsObeyed g limits (line_order line) old new (Ok u) → HasDoneAlone g limits s entry lines new (count + 1)
     was_done u (a, is, o) = next a o is
 
-    was_not_done : (f : SetupFault) → IsObeyed g limits (line_order line) old new (Err f) → IsSetUp g limits s lines new (Err f)
+    was_not_done : (f : SetupFault) → IsObeyed g limits (line_order line) old new (Err f) → IsSetUp g limits s entry lines new (Err f)
     was_not_done (Refused r) o = (count, less, last (to_refused r) o)
     was_not_done Unreadable (none, same) = (
       count,
       subst (λ l. IsSomeAnd l (λ text. line_order text ≡ None)) (sym (slice_get-get_or lines count line less ∙ ap Some at)) none,
-      subst (λ t. HasDoneAlone g limits s lines t count) (sym same) h,
+      subst (λ t. HasDoneAlone g limits s entry lines t count) (sym same) h,
     )
-    was_not_done Memory same = (count, omega (arith, less), subst (λ t. HasDoneAlone g limits s lines t count) (sym same) h)
+    was_not_done Memory same = (count, omega (arith, less), subst (λ t. HasDoneAlone g limits s entry lines t count) (sym same) h)
 
     module _ (was : Limits) (same : was ≡ limits) where
       -- a line was done
-      pub obeyed : (u : Unit {0}) → IsObeyed g was (line_order line) old new (Ok u) → HasDoneAlone g limits s lines new (count + 1)
+      pub obeyed : (u : Unit {0}) → IsObeyed g was (line_order line) old new (Ok u) → HasDoneAlone g limits s entry lines new (count + 1)
       obeyed u it = was_done u (subst (λ l. IsObeyed g l (line_order line) old new (Ok u)) same it)
 
       -- a line was not done
-      pub failed : (f : SetupFault) → IsObeyed g was (line_order line) old new (Err f) → IsSetUp g limits s lines new (Err f)
+      pub failed : (f : SetupFault) → IsObeyed g was (line_order line) old new (Err f) → IsSetUp g limits s entry lines new (Err f)
       failed f it = was_not_done f (subst (λ l. IsObeyed g l (line_order line) old new (Err f)) same it)

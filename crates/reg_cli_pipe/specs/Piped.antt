@@ -16,27 +16,29 @@ use Rattle.reg_cli_pipe.specs.Setups.{HasDoneAlone, IsSetUp}
 
 -- the setup was not done to its end, and nothing was read or written
 pub record IsUnserved {S : Type 0} (g : Ghosts S) (limits : Limits) (s : model.Registry)
-    (lines : List Text) (now : Tables S) (r0 r1 w0 w1 : Option Text) (exit : Exit) : Type 0 where
+    (entry : Tables S) (lines : List Text) (now : Tables S) (r0 r1 w0 w1 : Option Text)
+    (exit : Exit) : Type 0 where
   pub fault : SetupFault
-  pub set_up : IsSetUp g limits s lines now (Err fault)
+  pub set_up : IsSetUp g limits s entry lines now (Err fault)
   pub ends : EndsSetup fault exit
   pub unread : r1 ≡ r0
   pub unwritten : w1 ≡ w0
 
 -- all lines were done, and from the registry that they made the stream was served
 pub record IsServed {S : Type 0} (g : Ghosts S) (limits : Limits) (s : model.Registry)
-    (lines : List Text) (now : Tables S) (r0 r1 w0 w1 : Option Text) (exit : Exit) : Type 0 where
+    (entry : Tables S) (lines : List Text) (now : Tables S) (r0 r1 w0 w1 : Option Text)
+    (exit : Exit) : Type 0 where
   pub between : Tables S
-  pub set_up : HasDoneAlone g limits s lines between (length lines)
+  pub set_up : HasDoneAlone g limits s entry lines between (length lines)
   pub result : Result ℕ StreamFault
-  pub serves : Serves g limits set_up.done.after now r0 r1 w0 w1 result
+  pub serves : Serves g limits set_up.done.after between now r0 r1 w0 w1 result
   pub ends : EndsStream result exit
 
-abbrev pub IsPiped : {S : Type 0} → Ghosts S → Limits → model.Registry → List Text → Tables S
-    → Option Text → Option Text → Option Text → Option Text → Exit → Type 0
-IsPiped g limits s lines now r0 r1 w0 w1 exit =
-    IsUnserved g limits s lines now r0 r1 w0 w1 exit
-    ⊎ IsServed g limits s lines now r0 r1 w0 w1 exit
+abbrev pub IsPiped : {S : Type 0} → Ghosts S → Limits → model.Registry → Tables S → List Text
+    → Tables S → Option Text → Option Text → Option Text → Option Text → Exit → Type 0
+IsPiped g limits s entry lines now r0 r1 w0 w1 exit =
+    IsUnserved g limits s entry lines now r0 r1 w0 w1 exit
+    ⊎ IsServed g limits s entry lines now r0 r1 w0 w1 exit
 
 -- the calls of the reader and the writer: none, or those of a stream, by its turns
 abbrev pub SpendsIfServed : {R W : Type 0} → ℕ → CountedEnd R → CountedEnd R → CountedEnd W

@@ -47,8 +47,8 @@ IsObeyed g limits ordered old new (Err (Refused r)) =
 IsObeyed g limits ordered old new (Err Unreadable) = (ordered ≡ None) × (new ≡ old)
 IsObeyed g limits ordered old new (Err Memory) = new ≡ old
 
-module _ {S : Type 0} (g : Ghosts S) (limits : Limits) (s : model.Registry) (lines : List Text)
-    (now : Tables S) where
+module _ {S : Type 0} (g : Ghosts S) (limits : Limits) (s : model.Registry) (entry : Tables S)
+    (lines : List Text) (now : Tables S) where
   -- The commands of the first lines were done, one after another, and none of so many was refused.
   -- Then the commands of the next lines were given these answers. All of it is a run of the
   -- registry, which holds its end.
@@ -59,12 +59,13 @@ module _ {S : Type 0} (g : Ghosts S) (limits : Limits) (s : model.Registry) (lin
     pub ordered : map line_order (take (length (told ++ last)) lines) ≡ map Some commands
     pub none_refused : list_any is_refused told ≡ false
     pub count_is : length told ≡ count
-    pub ran : Ran g limits s (map Order commands) (told ++ last) after now
+    pub ran : Ran g limits s entry (map Order commands) (told ++ last) after now
 
-  -- the commands of so many lines were done and no more, and a stop leaves what they made alone
+  -- the commands of so many lines were done and no more, and a stop leaves what they made, if there
+  -- were any, alone
   pub record HasDoneAlone (count : ℕ) : Type 0 where
     pub done : HasDone count []
-    pub alone : LeavesAlone done.after (shown g now)
+    pub alone : 0 < count → LeavesAlone done.after (shown g now)
 
   -- the line at this place orders nothing
   abbrev pub IsNoOrder : ℕ → Type 0

@@ -3,7 +3,7 @@
 ghost use Rattle.std.specs.Prelude.{◌+◌, ◌^◌, ◌<◌};
 ghost use Rattle.sqlite.specs.State.{HasCleanDisk};
 ghost use Rattle.reg_tables.specs.Works.{shown};
-ghost use Rattle.reg_service.specs.Answered.{AreUpToDate, LeavesAlone, Shows};
+ghost use Rattle.reg_service.specs.Answered.{AreUpToDate, Shows};
 ghost use Rattle.reg_service.specs.Registries.{limits_of, tables_of};
 ghost use Rattle.reg_http.specs.Answering.{GoesOn};
 ghost use Rattle.reg_cli_pipe.specs.Lines.{lines_in};
@@ -33,9 +33,9 @@ pub fn run_pipe<R: Read, W: Write, S: Alter>(
     requires writes { w.old.calls + (limits_of registry.old).turns < 2 ^ 64 }
     ensures piped { HasCleanDisk (shown S.Store (tables_of registry.new)) → (s : _)
         → Shows s (shown S.Store (tables_of registry.old))
-        → LeavesAlone s (shown S.Store (tables_of registry.old))
-        → IsPiped S.Store (limits_of registry.old) s (lines_in setup.now)
-        (tables_of registry.new) (R.remaining r.old.inner) (R.remaining r.new.inner)
+        → IsPiped S.Store (limits_of registry.old) s (tables_of registry.old)
+        (lines_in setup.now) (tables_of registry.new)
+        (R.remaining r.old.inner) (R.remaining r.new.inner)
         (W.contents w.old.inner) (W.contents w.new.inner) result }
     ensures spends { SpendsIfServed (limits_of registry.old).turns r.old r.new w.old w.new
         result }

@@ -7,7 +7,7 @@ ghost use Rattle.reg_model.specs.Events.Event.{Order as ToOrder};
 ghost use Rattle.reg_model.specs.Steps.{IsFit};
 ghost use Rattle.reg_policy.specs.Events.{command_of};
 ghost use Rattle.reg_tables.specs.Works.{shown};
-ghost use Rattle.reg_service.specs.Answered.{AreUpToDate, LeavesAlone, Shows};
+ghost use Rattle.reg_service.specs.Answered.{AreUpToDate, Shows};
 ghost use Rattle.reg_service.specs.Registries.{limits_of, tables_of};
 ghost use Rattle.reg_http.specs.Answering.{GoesOn};
 ghost use Rattle.reg_cli_words.specs.Dashes.{is_dashed};
@@ -197,9 +197,8 @@ pub fn run_setup<S: Alter>(
     requires tables { AreUpToDate S.Store (tables_of registry.old) }
     ensures done { HasCleanDisk (shown S.Store (tables_of registry.new)) → (s : _)
         → Shows s (shown S.Store (tables_of registry.old))
-        → LeavesAlone s (shown S.Store (tables_of registry.old))
-        → IsSetUp S.Store (limits_of registry.old) s (lines_in setup.now)
-        (tables_of registry.new) result }
+        → IsSetUp S.Store (limits_of registry.old) s (tables_of registry.old)
+        (lines_in setup.now) (tables_of registry.new) result }
     ensures keeps { GoesOn S.Store registry.old registry.new }
 {
     history_law::<S>();

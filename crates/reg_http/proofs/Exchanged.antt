@@ -63,38 +63,38 @@ module _ (limits : Limits) (done : List Exchange) (read written rest : Text) (co
 
 -- one more event behind a run
 abbrev pub EventsGoOn : {S : Type 0} → Ghosts S → Type 0
-EventsGoOn g = (limits : Limits) (s : model.Registry) (es : List Event) (xs : List Answer) (t : model.Registry) (e : Event) (a : Answer) (old new : Tables _)
-    → IsFit e → Ran g limits s es xs t old → (it : Answers g limits t e a old new) → Ran g limits s (es ++ e ∷ []) (xs ++ a ∷ []) it.after new
+EventsGoOn g = (limits : Limits) (s : model.Registry) (entry : Tables _) (es : List Event) (xs : List Answer) (t : model.Registry) (e : Event) (a : Answer) (old new : Tables _)
+    → IsFit e → Ran g limits s entry es xs t old → (it : Answers g limits t e a old new) → Ran g limits s entry (es ++ e ∷ []) (xs ++ a ∷ []) it.after new
 
-module _ {S : Type 0} (g : Ghosts S) (limits : Limits) (s : model.Registry) (law : EventsGoOn g) (done : List Exchange) (x : Exchange) (old new : Tables S) where
+module _ {S : Type 0} (g : Ghosts S) (limits : Limits) (s : model.Registry) (entry : Tables S) (law : EventsGoOn g) (done : List Exchange) (x : Exchange) (old new : Tables S) where
   abbrev steps : List (Event × Answer)
   steps = steps_in limits done
 
   pushed : (t : model.Registry) (more : List (Event × Answer)) → event_in limits x.facts x.outcome ≡ more
-      → Ran g limits s (map (λ p. p.0) steps ++ map (λ p. p.0) more) (map (λ p. p.1) steps ++ map (λ p. p.1) more) t new
-      → HasRun g limits s new (done ++ x ∷ [])
+      → Ran g limits s entry (map (λ p. p.0) steps ++ map (λ p. p.0) more) (map (λ p. p.1) steps ++ map (λ p. p.1) more) t new
+      → HasRun g limits s entry new (done ++ x ∷ [])
   pushed t more is ran =
       let same : steps_in limits (done ++ x ∷ []) ≡ steps ++ more = steps-push limits done x ∙ ap (λ l. steps ++ l) is in
       let first = ap (λ l. map (λ p. p.0) l) same ∙ map-append (λ p. p.0) steps more in
       let second = ap (λ l. map (λ p. p.1) l) same ∙ map-append (λ p. p.1) steps more in
-      (t, subst (λ es. Ran g limits s es (answers_in limits (done ++ x ∷ [])) t new) (sym first) (subst (λ xs. Ran g limits s (map (λ p. p.0) steps ++ map (λ p. p.0) more) xs t new) (sym second) ran))
+      (t, subst (λ es. Ran g limits s entry es (answers_in limits (done ++ x ∷ [])) t new) (sym first) (subst (λ xs. Ran g limits s entry (map (λ p. p.0) steps ++ map (λ p. p.0) more) xs t new) (sym second) ran))
 
-  stays : (t : model.Registry) → Ran g limits s (events_in limits done) (answers_in limits done) t old → new ≡ old → event_in limits x.facts x.outcome ≡ []
-      → HasRun g limits s new (done ++ x ∷ [])
+  stays : (t : model.Registry) → Ran g limits s entry (events_in limits done) (answers_in limits done) t old → new ≡ old → event_in limits x.facts x.outcome ≡ []
+      → HasRun g limits s entry new (done ++ x ∷ [])
   stays t ran same is =
-      pushed t [] is (subst (λ xs. Ran g limits s (events_in limits done ++ []) xs t new) (sym (append-nil (answers_in limits done))) (subst (λ es. Ran g limits s es (answers_in limits done) t new) (sym (append-nil (events_in limits done))) (subst (λ it. Ran g limits s (events_in limits done) (answers_in limits done) t it) (sym same) ran)))
+      pushed t [] is (subst (λ xs. Ran g limits s entry (events_in limits done ++ []) xs t new) (sym (append-nil (answers_in limits done))) (subst (λ es. Ran g limits s entry es (answers_in limits done) t new) (sym (append-nil (events_in limits done))) (subst (λ it. Ran g limits s entry (events_in limits done) (answers_in limits done) t it) (sym same) ran)))
 
-  run_by : (t : model.Registry) → Ran g limits s (events_in limits done) (answers_in limits done) t old → (o : Outcome) → x.outcome ≡ o → Moves g limits t x.facts o old new
-      → HasRun g limits s new (done ++ x ∷ [])
+  run_by : (t : model.Registry) → Ran g limits s entry (events_in limits done) (answers_in limits done) t old → (o : Outcome) → x.outcome ≡ o → Moves g limits t x.facts o old new
+      → HasRun g limits s entry new (done ++ x ∷ [])
   run_by t ran (Answered w a) is (fit, it) =
       let e = event_of (request_from limits x.facts.token w) in
-      pushed it.after ((e, a) ∷ []) (ap (event_in limits x.facts) is) (law limits s (events_in limits done) (answers_in limits done) t e a old new fit ran it)
+      pushed it.after ((e, a) ∷ []) (ap (event_in limits x.facts) is) (law limits s entry (events_in limits done) (answers_in limits done) t e a old new fit ran it)
   run_by t ran NoRoute is same = stays t ran same (ap (event_in limits x.facts) is)
   run_by t ran (NoMethod m) is same = stays t ran same (ap (event_in limits x.facts) is)
   run_by t ran NoRoom is same = stays t ran same (ap (event_in limits x.facts) is)
   run_by t ran (Unread w) is same = stays t ran same (ap (event_in limits x.facts) is)
 
   -- the run goes on by the exchange
-  pub run_on : (t : model.Registry) → Ran g limits s (events_in limits done) (answers_in limits done) t old → Moves g limits t x.facts x.outcome old new
-      → HasRun g limits s new (done ++ x ∷ [])
+  pub run_on : (t : model.Registry) → Ran g limits s entry (events_in limits done) (answers_in limits done) t old → Moves g limits t x.facts x.outcome old new
+      → HasRun g limits s entry new (done ++ x ∷ [])
   run_on t ran moves = run_by t ran x.outcome refl moves

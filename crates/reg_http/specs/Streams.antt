@@ -45,11 +45,12 @@ pub record Goes (limits : Limits) (done : List Exchange) (read written rest : Te
 abbrev pub closing_text : Rule → Bool → Text
 closing_text r only = refusal_text r None true only
 
-module _ {S : Type 0} (g : Ghosts S) (limits : Limits) (s : model.Registry) (now : Tables S) where
+module _ {S : Type 0} (g : Ghosts S) (limits : Limits) (s : model.Registry)
+    (entry now : Tables S) where
   -- the events of the exchanges are a run of the registry, which holds its end
   abbrev pub HasRun : List Exchange → Type 0
   HasRun xs = (t : model.Registry)
-      × Ran g limits s (events_in limits xs) (answers_in limits xs) t now
+      × Ran g limits s entry (events_in limits xs) (answers_in limits xs) t now
 
   -- all requests that were read are replied to, but for one that has only begun
   pub record IsEnded (read written : Text) (count : ℕ) : Type 0 where
@@ -113,8 +114,8 @@ module _ {S : Type 0} (g : Ghosts S) (limits : Limits) (s : model.Registry) (now
     pub next : IsNext done rest number (front ++ back)
     pub wrote : written ≡ before ++ front
 
-  -- The store failed: after the exchanges, and the interim line of one more, which asks for an index
-  -- file, a front of its reply was written that is not empty.
+  -- The store failed: after the exchanges, and the interim line of one more that asks for an
+  -- index file, a front of its reply was written that is not empty.
   pub record IsBrokenOff (read written : Text) : Type 0 where
     pub done : List Exchange
     pub last : Exchange

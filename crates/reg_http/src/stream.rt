@@ -3,7 +3,7 @@
 ghost use Rattle.std.specs.Prelude.{◌≡◌, ◌+◌, ◌^◌, ◌<◌, ◌||◌, ◌==◌, ℕ, [], length, IfOk, vec_len};
 ghost use Rattle.sqlite.specs.State.{HasCleanDisk};
 ghost use Rattle.reg_http_read.specs.Turns.{Spends, tally};
-ghost use Rattle.reg_service.specs.Answered.{AreUpToDate, LeavesAlone, Shows};
+ghost use Rattle.reg_service.specs.Answered.{AreUpToDate, Shows};
 ghost use Rattle.reg_service.specs.Registries.{limits_of, tables_of};
 ghost use Rattle.reg_tables.specs.Works.{shown};
 ghost use Rattle.reg_http.specs.Answering.{GoesOn};
@@ -54,8 +54,8 @@ fn serve_requests<R: Read, W: Write, S: Alter>(
     requires nothing { pending.old.items ≡ [] }
     ensures serves { HasCleanDisk (shown S.Store (tables_of registry.new)) → (s : _)
         → Shows s (shown S.Store (tables_of registry.old))
-        → LeavesAlone s (shown S.Store (tables_of registry.old))
-        → Serves S.Store (limits_of registry.old) s (tables_of registry.new)
+        → Serves S.Store (limits_of registry.old) s
+        (tables_of registry.old) (tables_of registry.new)
         (R.remaining r.old.inner) (R.remaining r.new.inner)
         (W.contents w.old.inner) (W.contents w.new.inner) result }
     ensures spends { (left : ℕ) × Spends (limits_of registry.old).turns left
@@ -107,8 +107,8 @@ pub fn serve_stream<R: Read, W: Write, S: Alter>(
     // What was written is what a run of the registry replies to what was read.
     ensures serves { HasCleanDisk (shown S.Store (tables_of registry.new)) → (s : _)
         → Shows s (shown S.Store (tables_of registry.old))
-        → LeavesAlone s (shown S.Store (tables_of registry.old))
-        → Serves S.Store (limits_of registry.old) s (tables_of registry.new)
+        → Serves S.Store (limits_of registry.old) s
+        (tables_of registry.old) (tables_of registry.new)
         (R.remaining r.old.inner) (R.remaining r.new.inner)
         (W.contents w.old.inner) (W.contents w.new.inner) result }
 

@@ -76,8 +76,8 @@ module _ {S : Type 0} (g : Ghosts S) (limits : Limits) (c : Call) (old new : Tab
   pub told_command : (command : AdminCommand) (it : Result AdminReply AdminRefusal) → c ≡ Commanded command → IsAnswered g limits (Order (command_of command)) (reply_of it) old new → IsTold g limits c (Obeyed it) old new
   told_command command it same is = subst (λ x. IsTold g limits x (Obeyed it) old new) (sym same) (λ clean s h. (reply_of it, refl, is clean s h))
 
-module _ {S : Type 0} (g : Ghosts S) (limits : Limits) (s : Registry) (sounds : RunsKeepSound) (grows : StemsGrow) where
-  ran : (es : List Event) (xs : List Answer) (t : Registry) (new : Tables S) → Run limits s es xs t → Shows t (shown g new) → ((db : Trees) → (shown g new).may_leave db → (m : Registry) × Stands m db × MayBeLeft limits s es xs m) → Ran g limits s es xs t new
+module _ {S : Type 0} (g : Ghosts S) (limits : Limits) (s : Registry) (entry : Tables S) (sounds : RunsKeepSound) (grows : StemsGrow) where
+  ran : (es : List Event) (xs : List Answer) (t : Registry) (new : Tables S) → Run limits s es xs t → Shows t (shown g new) → ((db : Trees) → (shown g new).may_leave db → ((shown g entry).may_leave db × AreNoRoom es xs) ⊎ ((m : Registry) × Stands m db × MayBeLeft limits s es xs m)) → Ran g limits s entry es xs t new
   ran es xs t new run shows left = record {
     run = run;
     sound = λ h. sounds limits s t es xs h run;
@@ -102,10 +102,21 @@ module _ {S : Type 0} (g : Ghosts S) (limits : Limits) (s : Registry) (sounds : 
   }
 
   -- no event yet
-  pub ran_nothing : (t : Tables S) → Shows s (shown g t) → LeavesAlone s (shown g t) → Ran g limits s [] [] s t
-  ran_nothing t shows alone = ran [] [] s t refl shows (λ db l. (s, alone db l, all_left [] [] s refl))
+  pub ran_nothing : Shows s (shown g entry) → Ran g limits s entry [] [] s entry
+  ran_nothing shows = ran [] [] s entry refl shows (λ db l. inl (l, tt))
 
-  module _ (steps : StepsRun) (joins : RunsJoin) (es : List Event) (xs : List Answer) (t : Registry) (e : Event) (a : Answer) (old new : Tables S) (fit : IsFit e) (so_far : Ran g limits s es xs t old) (it : Answers g limits t e a old new) where
+  -- there was no room for any event
+  none_left : (es : List Event) (xs : List Answer) → AreNoRoom es xs → MayBeLeft limits s es xs s
+  none_left es xs none = record { first = []; rest = es; told = []; untold = xs; at = s; events = refl; answers = refl; run = refl; no_room = none; state = inl refl }
+
+  -- what a stop leaves of a registry that it left alone on entry
+  pub left_alone : (es : List Event) (xs : List Answer) (t : Registry) (new : Tables S) → LeavesAlone s (shown g entry) → Ran g limits s entry es xs t new → (db : Trees) → (shown g new).may_leave db → (m : Registry) × Stands m db × MayBeLeft limits s es xs m
+  left_alone es xs t new alone so_far db l = elim (so_far.left db l) [
+    | inl was ↦ (s, alone db was.0, none_left es xs was.1)
+    | inr it ↦ it
+  ]
+
+  module _ (steps : StepsRun) (joins : RunsJoin) (es : List Event) (xs : List Answer) (t : Registry) (e : Event) (a : Answer) (old new : Tables S) (fit : IsFit e) (so_far : Ran g limits s entry es xs t old) (it : Answers g limits t e a old new) where
     run_on : Run limits s (es ++ e ∷ []) (xs ++ a ∷ []) it.after
     run_on = joins limits s t it.after es (e ∷ []) xs (a ∷ []) so_far.run (steps limits t it.after e a fit it.step)
 
@@ -138,24 +149,27 @@ module _ {S : Type 0} (g : Ghosts S) (limits : Limits) (s : Registry) (sounds : 
       state = inr (e, [], refl, refl);
     }
 
-    left_on : (db : Trees) → (shown g new).may_leave db → (m : Registry) × Stands m db × MayBeLeft limits s (es ++ e ∷ []) (xs ++ a ∷ []) m
+    left_on : (db : Trees) → (shown g new).may_leave db → ((shown g entry).may_leave db × AreNoRoom (es ++ e ∷ []) (xs ++ a ∷ [])) ⊎ ((m : Registry) × Stands m db × MayBeLeft limits s (es ++ e ∷ []) (xs ++ a ∷ []) m)
     left_on db l = elim it.kept [
       | inl room ↦ elim (it.left db l) [
-        | inl was ↦ (let (m, stands, may) = so_far.left db was in (m, stands, left_before m room may))
-        | inr (why, stands) ↦ ((outcome limits t e).1, stands, left_change room)
+        | inl was ↦ elim (so_far.left db was) [
+          | inl (first, none) ↦ inl (first, no_room_on es xs e a none room)
+          | inr (m, stands, may) ↦ inr (m, stands, left_before m room may)
+        ]
+        | inr (why, stands) ↦ inr ((outcome limits t e).1, stands, left_change room)
       ]
-      | inr alone ↦ (it.after, alone db l, all_left (es ++ e ∷ []) (xs ++ a ∷ []) it.after run_on)
+      | inr alone ↦ inr (it.after, alone db l, all_left (es ++ e ∷ []) (xs ++ a ∷ []) it.after run_on)
     ]
 
-    pub ran_on : Ran g limits s (es ++ e ∷ []) (xs ++ a ∷ []) it.after new
+    pub ran_on : Ran g limits s entry (es ++ e ∷ []) (xs ++ a ∷ []) it.after new
     ran_on = ran (es ++ e ∷ []) (xs ++ a ∷ []) it.after new run_on it.shows left_on
 
   -- no call yet
-  pub answered_nothing : (t : Tables S) → Shows s (shown g t) → LeavesAlone s (shown g t) → HasAnswered g limits s [] [] t
-  answered_nothing t shows alone = ([], [], s, tt, ran_nothing t shows alone)
+  pub answered_nothing : Shows s (shown g entry) → HasAnswered g limits s entry [] [] entry
+  answered_nothing shows = ([], [], s, tt, ran_nothing shows)
 
   -- one more call
-  pub answered_on : StepsRun → RunsJoin → (cs : List Call) (ts : List Told) (c : Call) (it : Told) (old new : Tables S) → IsFit (event_at limits c) ⊎ (IsUnread c it × (new ≡ old)) → HasCleanDisk (shown g new) → HasAnswered g limits s cs ts old → IsTold g limits c it old new → HasAnswered g limits s (cs ++ c ∷ []) (ts ++ it ∷ []) new
+  pub answered_on : StepsRun → RunsJoin → (cs : List Call) (ts : List Told) (c : Call) (it : Told) (old new : Tables S) → IsFit (event_at limits c) ⊎ (IsUnread c it × (new ≡ old)) → HasCleanDisk (shown g new) → HasAnswered g limits s entry cs ts old → IsTold g limits c it old new → HasAnswered g limits s entry (cs ++ c ∷ []) (ts ++ it ∷ []) new
   answered_on steps joins cs ts c it old new (inl fit) clean (es, xs, t, tells, so_far) told =
       let (a, says, answers) = told clean t so_far.shows in (
         es ++ event_at limits c ∷ [],
@@ -165,11 +179,11 @@ module _ {S : Type 0} (g : Ghosts S) (limits : Limits) (s : Registry) (sounds : 
         ran_on steps joins es xs t (event_at limits c) a old new fit so_far answers,
       )
   answered_on steps joins cs ts c it old new (inr (unread, kept)) clean (es, xs, t, tells, so_far) told =
-      (es, xs, t, unread_on limits cs es xs ts c it tells unread, subst (Ran g limits s es xs t) (sym kept) so_far)
+      (es, xs, t, unread_on limits cs es xs ts c it tells unread, subst (Ran g limits s entry es xs t) (sym kept) so_far)
 
   -- the call at this place
-  pub answered_next : StepsRun → RunsJoin → (cs : List Call) (i : ℕ) (d : Call) (ts : List Told) (it : Told) (old new : Tables S) → i < length cs → IsFit (event_at limits (get_or cs i d)) ⊎ (IsUnread (get_or cs i d) it × (new ≡ old)) → HasCleanDisk (shown g new) → HasAnswered g limits s (take i cs) ts old → IsTold g limits (get_or cs i d) it old new → HasAnswered g limits s (take (i + 1) cs) (ts ++ it ∷ []) new
+  pub answered_next : StepsRun → RunsJoin → (cs : List Call) (i : ℕ) (d : Call) (ts : List Told) (it : Told) (old new : Tables S) → i < length cs → IsFit (event_at limits (get_or cs i d)) ⊎ (IsUnread (get_or cs i d) it × (new ≡ old)) → HasCleanDisk (shown g new) → HasAnswered g limits s entry (take i cs) ts old → IsTold g limits (get_or cs i d) it old new → HasAnswered g limits s entry (take (i + 1) cs) (ts ++ it ∷ []) new
   answered_next steps joins cs i d ts it old new lt read clean so_far told =
       let next : suc i ≡ i + 1 = omega arith in
-      subst (λ l. HasAnswered g limits s l (ts ++ it ∷ []) new) (sym (take-suc cs i d lt) ∙ ap (λ n. take n cs) next)
+      subst (λ l. HasAnswered g limits s entry l (ts ++ it ∷ []) new) (sym (take-suc cs i d lt) ∙ ap (λ n. take n cs) next)
       (answered_on steps joins (take i cs) ts (get_or cs i d) it old new read clean so_far told)

@@ -87,26 +87,29 @@ pub record MayBeLeft (limits : Limits) (s : model.Registry) (es : List Event) (x
   pub state : (m ≡ at)
       ⊎ ((e : Event) × (more : List Event) × (rest ≡ e ∷ more) × (m ≡ (outcome limits at e).1))
 
--- The events are a run of the registry, which holds its end: that is sound, and no index file of it
--- lost a line. What a stop may leave is as the run allows.
-pub record Ran {S : Type 0} (g : Ghosts S) (limits : Limits) (s : model.Registry) (es : List Event)
-    (xs : List Answer) (t : model.Registry) (new : Tables S) : Type 0 where
+-- The events are a run of the registry that was held on entry, and its end is held now: that is
+-- sound, and no index file of it lost a line. A stop leaves what the run allows; or, where there
+-- was no room for any event, what it could leave on entry.
+pub record Ran {S : Type 0} (g : Ghosts S) (limits : Limits) (s : model.Registry)
+    (entry : Tables S) (es : List Event) (xs : List Answer) (t : model.Registry) (new : Tables S)
+    : Type 0 where
   pub run : Run limits s es xs t
   pub sound : Sound s → Sound t
   pub grows : (n : Text) → IsPrefix (stems s n) (stems t n)
   pub shows : Shows t (shown g new)
   pub left : (db : Trees) → (shown g new).may_leave db
-      → (m : model.Registry) × Stands m db × MayBeLeft limits s es xs m
+      → ((shown g entry).may_leave db × AreNoRoom es xs)
+      ⊎ ((m : model.Registry) × Stands m db × MayBeLeft limits s es xs m)
 
 -- the calls are told the answers of a run
-abbrev pub HasAnswered : {S : Type 0} → Ghosts S → Limits → model.Registry → List Call → List Told
-    → Tables S → Type 0
-HasAnswered g limits s calls told new =
+abbrev pub HasAnswered : {S : Type 0} → Ghosts S → Limits → model.Registry → Tables S → List Call
+    → List Told → Tables S → Type 0
+HasAnswered g limits s entry calls told new =
     (es : List Event) × (xs : List Answer) × (t : model.Registry)
-    × AreTold limits calls es xs told × Ran g limits s es xs t new
+    × AreTold limits calls es xs told × Ran g limits s entry es xs t new
 
 -- so many first calls were told the answers of a run, and no other call was answered
-abbrev pub HasBegun : {S : Type 0} → Ghosts S → Limits → model.Registry → List Call → Tables S
-    → Type 0
-HasBegun g limits s calls new =
-    (n : ℕ) × (told : List Told) × HasAnswered g limits s (take n calls) told new
+abbrev pub HasBegun : {S : Type 0} → Ghosts S → Limits → model.Registry → Tables S → List Call
+    → Tables S → Type 0
+HasBegun g limits s entry calls new =
+    (n : ℕ) × (told : List Told) × HasAnswered g limits s entry (take n calls) told new

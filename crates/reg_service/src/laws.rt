@@ -4,21 +4,27 @@
 ghost use Rattle.std.specs.Prelude.{[], ◌∷◌, ◌++◌};
 ghost use Rattle.reg_model.specs.Steps.{IsFit};
 ghost use Rattle.reg_tables.specs.Works.{shown};
+ghost use Rattle.reg_tables_meaning.specs.Stands.{Stands};
 ghost use Rattle.reg_service.specs.Answered.{Answers, LeavesAlone, Shows};
-ghost use Rattle.reg_service.specs.Sequences.{Ran};
+ghost use Rattle.reg_service.specs.Sequences.{MayBeLeft, Ran};
 
 use reg_model::laws::{growth_law, run_law};
 use sqlite::Alter;
 
 /// No event is a run, and one more event behind a run makes another. What a stop may leave at its
-/// end follows from what each event leaves.
+/// end follows from what each event leaves. Where a stop leaves the registry alone on entry, it
+/// leaves what the run allows.
 pub fn history_law<S: Alter>()
     ensures begins { (limits : _) (s : _) (t : _) → Shows s (shown S.Store t)
-        → LeavesAlone s (shown S.Store t) → Ran S.Store limits s [] [] s t }
-    ensures goes_on { (limits : _) (s : _) (es : _) (xs : _) (t : _) (e : _) (a : _) (old : _)
-        (new : _) → IsFit e → Ran S.Store limits s es xs t old
+        → Ran S.Store limits s t [] [] s t }
+    ensures goes_on { (limits : _) (s : _) (entry : _) (es : _) (xs : _) (t : _) (e : _) (a : _)
+        (old : _) (new : _) → IsFit e → Ran S.Store limits s entry es xs t old
         → (it : Answers S.Store limits t e a old new)
-        → Ran S.Store limits s (es ++ e ∷ []) (xs ++ a ∷ []) it.after new }
+        → Ran S.Store limits s entry (es ++ e ∷ []) (xs ++ a ∷ []) it.after new }
+    ensures alone { (limits : _) (s : _) (entry : _) (es : _) (xs : _) (t : _) (new : _)
+        → LeavesAlone s (shown S.Store entry) → Ran S.Store limits s entry es xs t new
+        → (db : _) → (shown S.Store new).may_leave db
+        → (m : _) × Stands m db × MayBeLeft limits s es xs m }
 {
     run_law();
     growth_law();

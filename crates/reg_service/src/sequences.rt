@@ -5,7 +5,7 @@ ghost use Rattle.std.specs.List.{AllByRecursion};
 ghost use Rattle.sqlite.specs.State.{HasCleanDisk};
 ghost use Rattle.reg_model.specs.Steps.{IsFit};
 ghost use Rattle.reg_tables.specs.Works.{shown};
-ghost use Rattle.reg_service.specs.Answered.{AreUpToDate, LeavesAlone, Shows};
+ghost use Rattle.reg_service.specs.Answered.{AreUpToDate, Shows};
 ghost use Rattle.reg_service.specs.Registries.{limits_of, tables_of};
 ghost use Rattle.reg_service.specs.Sequences.{HasAnswered, HasBegun, IsFitCall, IsTold, IsUnread, event_at};
 
@@ -62,13 +62,12 @@ pub fn answer_all<S: Alter>(
     requires fit { AllByRecursion IsFitCall calls.now }
     ensures answered { HasCleanDisk (shown S.Store (tables_of registry.new)) → (s : _)
         → Shows s (shown S.Store (tables_of registry.old))
-        → LeavesAlone s (shown S.Store (tables_of registry.old))
-        → IfOk result (λ told. HasAnswered S.Store (limits_of registry.old) s calls.now told.items
-        (tables_of registry.new)) }
+        → IfOk result (λ told. HasAnswered S.Store (limits_of registry.old) s
+        (tables_of registry.old) calls.now told.items (tables_of registry.new)) }
     ensures begun { HasCleanDisk (shown S.Store (tables_of registry.new)) → (s : _)
         → Shows s (shown S.Store (tables_of registry.old))
-        → LeavesAlone s (shown S.Store (tables_of registry.old))
-        → HasBegun S.Store (limits_of registry.old) s calls.now (tables_of registry.new) }
+        → HasBegun S.Store (limits_of registry.old) s (tables_of registry.old) calls.now
+        (tables_of registry.new) }
     ensures tables { AreUpToDate S.Store (tables_of registry.new) }
     ensures limits { limits_of registry.new ≡ limits_of registry.old }
 {

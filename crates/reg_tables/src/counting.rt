@@ -18,8 +18,8 @@ impl<S: Alter> Work<'_, S> {
         call!(self, counts::count(&mut self.tables.conn))
     }
 
-    /// Whether there are as many crates as this. They are counted only where their ids come near the
-    /// number.
+    /// Whether there are as many crates as this. They are counted only where their ids come near
+    /// the number.
     pub fn reaches_crates(&mut self, number: u64) -> Result<bool, StoreFault>
         requires { IsAtWork S.Store self.old }
         ensures told { Heard S.Store self.new result

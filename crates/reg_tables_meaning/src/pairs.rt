@@ -1,5 +1,5 @@
-//! Owners and readers of crates: changes of the registry that the rows stand for, and what they show
-//! of it.
+//! Owners and readers of crates: changes of the registry that the rows stand for, and what they
+//! show of it.
 
 ghost use Rattle.sqlite.specs.Held.{state};
 ghost use Rattle.reg_tables_schema.specs.States.{IsReady};

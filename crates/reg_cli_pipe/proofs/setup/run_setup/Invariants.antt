@@ -1,7 +1,7 @@
 use Rattle.sqlite.specs.State.{HasCleanDisk}
 use Rattle.reg_model.specs.Registry as model
 use Rattle.reg_tables.specs.Works.{shown}
-use Rattle.reg_service.specs.Answered.{LeavesAlone, Shows}
+use Rattle.reg_service.specs.Answered.{Shows}
 use Rattle.reg_service.specs.Registries.{limits_of, tables_of}
 use Rattle.reg_http.specs.Answering.{GoesOn}
 use Rattle.reg_cli_pipe.specs.Lines.{lines_in}
@@ -12,6 +12,6 @@ use Rattle.reg_cli_pipe.proofs.setup.run_setup.Given as goal
 abbrev pub invariant-loop-line : goal.invariant-loop-line
 invariant-loop-line g l = record {
   keeps : GoesOn g.S.Store l.fn.registry l.registry;
-  held : HasCleanDisk (shown g.S.Store (tables_of l.registry)) → (s : model.Registry) → Shows s (shown g.S.Store (tables_of l.fn.registry)) → LeavesAlone s (shown g.S.Store (tables_of l.fn.registry))
-      → HasDoneAlone g.S.Store (limits_of l.fn.registry) s (lines_in l.fn.setup) (tables_of l.registry) l.line-index;
+  held : HasCleanDisk (shown g.S.Store (tables_of l.registry)) → (s : model.Registry) → Shows s (shown g.S.Store (tables_of l.fn.registry))
+      → HasDoneAlone g.S.Store (limits_of l.fn.registry) s (tables_of l.fn.registry) (lines_in l.fn.setup) (tables_of l.registry) l.line-index;
 }

@@ -14,50 +14,50 @@ requests-init g c = record {
   tables = c.requires.tables;
   limits = refl;
   clean = λ clean. clean;
-  held = λ clean s shows alone.
-      rw c.requires.nothing (holds_start g.S.Store (limits_of c.args.registry.now) s (g.R.Read.remaining c.args.r.now.inner) (g.W.Write.contents c.args.w.now.inner) (tables_of c.args.registry.now)
-      (c.history_law.ensures.begins (limits_of c.args.registry.now) s (tables_of c.args.registry.now) shows alone));
+  held = λ clean s shows.
+      rw c.requires.nothing (holds_start g.S.Store (limits_of c.args.registry.now) s (tables_of c.args.registry.now) (g.R.Read.remaining c.args.r.now.inner) (g.W.Write.contents c.args.w.now.inner) (tables_of c.args.registry.now)
+      (c.history_law.ensures.begins (limits_of c.args.registry.now) s (tables_of c.args.registry.now) shows));
   spends = rw (c.limits.ensures) (spends_nothing (limits_of c.args.registry.now).turns (tally c.args.r.now c.args.w.now));
   chunk = c.requires.some;
   replies = omega (arith, ap (λ l. l.turns) c.limits.ensures);
 }
 
 pub returns-in_err-take_request-clause-serves : goal.returns-in_err-take_request-clause-serves
-returns-in_err-take_request-clause-serves g c clean s shows alone =
+returns-in_err-take_request-clause-serves g c clean s shows =
     let p = err_from_is_err_and c.from_residual.result c.from_residual.ensures.1 in
     let lim = limits_of c.args.registry.now in
     let read = g.R.Read.remaining in
     let held = g.W.Write.contents in
-    let h = c.requests.invariant.held clean s shows alone in
+    let h = c.requests.invariant.held clean s shows in
     rw (p.1, p.2)
-    (taking_failed g.S.Store lim s (read c.args.r.now.inner) (read c.requests.r.inner) (held c.args.w.now.inner) (held c.requests.w.inner) c.requests.pending.items c.requests.replies (tables_of c.requests.registry) h (read c.take_request.new.r.inner) (held c.take_request.new.w.inner) c.take_request.new.pending.items c.in_err-take_request.field-0.0 (subst (λ l. Takes (g.R.Read.remaining c.requests.r.inner) (g.R.Read.remaining c.take_request.new.r.inner) c.requests.pending.items c.take_request.new.pending.items (g.W.Write.contents c.requests.w.inner) (g.W.Write.contents c.take_request.new.w.inner) l (Err c.in_err-take_request.field-0.0)) c.limits.ensures c.in_err-take_request.ensures.takes))
+    (taking_failed g.S.Store lim s (tables_of c.args.registry.now) (read c.args.r.now.inner) (read c.requests.r.inner) (held c.args.w.now.inner) (held c.requests.w.inner) c.requests.pending.items c.requests.replies (tables_of c.requests.registry) h (read c.take_request.new.r.inner) (held c.take_request.new.w.inner) c.take_request.new.pending.items c.in_err-take_request.field-0.0 (subst (λ l. Takes (g.R.Read.remaining c.requests.r.inner) (g.R.Read.remaining c.take_request.new.r.inner) c.requests.pending.items c.take_request.new.pending.items (g.W.Write.contents c.requests.w.inner) (g.W.Write.contents c.take_request.new.w.inner) l (Err c.in_err-take_request.field-0.0)) c.limits.ensures c.in_err-take_request.ensures.takes))
 
 pub returns-in-End-clause-serves : goal.returns-in-End-clause-serves
-returns-in-End-clause-serves g c clean s shows alone =
+returns-in-End-clause-serves g c clean s shows =
     let lim = limits_of c.args.registry.now in
     let read = g.R.Read.remaining in
     let held = g.W.Write.contents in
-    let h = c.requests.invariant.held clean s shows alone in
-    taking_ended g.S.Store lim s (read c.args.r.now.inner) (read c.requests.r.inner) (held c.args.w.now.inner) (held c.requests.w.inner) c.requests.pending.items c.requests.replies (tables_of c.requests.registry) h (read c.take_request.new.r.inner) (held c.take_request.new.w.inner) c.take_request.new.pending.items (subst (λ l. Takes (g.R.Read.remaining c.requests.r.inner) (g.R.Read.remaining c.take_request.new.r.inner) c.requests.pending.items c.take_request.new.pending.items (g.W.Write.contents c.requests.w.inner) (g.W.Write.contents c.take_request.new.w.inner) l (Ok taken.End)) c.limits.ensures (rw c.in-End.is at c.in_ok-take_request.ensures.takes))
+    let h = c.requests.invariant.held clean s shows in
+    taking_ended g.S.Store lim s (tables_of c.args.registry.now) (read c.args.r.now.inner) (read c.requests.r.inner) (held c.args.w.now.inner) (held c.requests.w.inner) c.requests.pending.items c.requests.replies (tables_of c.requests.registry) h (read c.take_request.new.r.inner) (held c.take_request.new.w.inner) c.take_request.new.pending.items (subst (λ l. Takes (g.R.Read.remaining c.requests.r.inner) (g.R.Read.remaining c.take_request.new.r.inner) c.requests.pending.items c.take_request.new.pending.items (g.W.Write.contents c.requests.w.inner) (g.W.Write.contents c.take_request.new.w.inner) l (Ok taken.End)) c.limits.ensures (rw c.in-End.is at c.in_ok-take_request.ensures.takes))
 
 pub returns-in_err-deny-in-Refused-clause-serves : goal.returns-in_err-deny-in-Refused-clause-serves
-returns-in_err-deny-in-Refused-clause-serves g c clean s shows alone =
+returns-in_err-deny-in-Refused-clause-serves g c clean s shows =
     let p = err_from_is_err_and c.from_residual-in_err-deny-in-Refused.result c.from_residual-in_err-deny-in-Refused.ensures.1 in
     let lim = limits_of c.args.registry.now in
     let read = g.R.Read.remaining in
     let held = g.W.Write.contents in
-    let h = c.requests.invariant.held clean s shows alone in
+    let h = c.requests.invariant.held clean s shows in
     rw (p.1, p.2)
-    (refusal_failed g.S.Store lim s (read c.args.r.now.inner) (read c.requests.r.inner) (held c.args.w.now.inner) (held c.requests.w.inner) c.requests.pending.items c.requests.replies (tables_of c.requests.registry) h (read c.take_request.new.r.inner) (held c.take_request.new.w.inner) c.take_request.new.pending.items c.in-Refused.rule c.in-Refused.only
+    (refusal_failed g.S.Store lim s (tables_of c.args.registry.now) (read c.args.r.now.inner) (read c.requests.r.inner) (held c.args.w.now.inner) (held c.requests.w.inner) c.requests.pending.items c.requests.replies (tables_of c.requests.registry) h (read c.take_request.new.r.inner) (held c.take_request.new.w.inner) c.take_request.new.pending.items c.in-Refused.rule c.in-Refused.only
     (subst (λ l. Takes (g.R.Read.remaining c.requests.r.inner) (g.R.Read.remaining c.take_request.new.r.inner) c.requests.pending.items c.take_request.new.pending.items (g.W.Write.contents c.requests.w.inner) (g.W.Write.contents c.take_request.new.w.inner) l (Ok (taken.Refused c.in-Refused.rule c.in-Refused.only))) c.limits.ensures (rw c.in-Refused.is at c.in_ok-take_request.ensures.takes)) (held c.deny.new.w.inner) c.in_err-deny-in-Refused.field-0.0 c.in_err-deny-in-Refused.ensures.sends)
 
 pub returns-in-Refused-clause-serves : goal.returns-in-Refused-clause-serves
-returns-in-Refused-clause-serves g c clean s shows alone =
+returns-in-Refused-clause-serves g c clean s shows =
     let lim = limits_of c.args.registry.now in
     let read = g.R.Read.remaining in
     let held = g.W.Write.contents in
-    let h = c.requests.invariant.held clean s shows alone in
-    refusal_sent g.S.Store lim s (read c.args.r.now.inner) (read c.requests.r.inner) (held c.args.w.now.inner) (held c.requests.w.inner) c.requests.pending.items c.requests.replies (tables_of c.requests.registry) h (read c.take_request.new.r.inner) (held c.take_request.new.w.inner) c.take_request.new.pending.items c.in-Refused.rule c.in-Refused.only
+    let h = c.requests.invariant.held clean s shows in
+    refusal_sent g.S.Store lim s (tables_of c.args.registry.now) (read c.args.r.now.inner) (read c.requests.r.inner) (held c.args.w.now.inner) (held c.requests.w.inner) c.requests.pending.items c.requests.replies (tables_of c.requests.registry) h (read c.take_request.new.r.inner) (held c.take_request.new.w.inner) c.take_request.new.pending.items c.in-Refused.rule c.in-Refused.only
     (subst (λ l. Takes (g.R.Read.remaining c.requests.r.inner) (g.R.Read.remaining c.take_request.new.r.inner) c.requests.pending.items c.take_request.new.pending.items (g.W.Write.contents c.requests.w.inner) (g.W.Write.contents c.take_request.new.w.inner) l (Ok (taken.Refused c.in-Refused.rule c.in-Refused.only))) c.limits.ensures (rw c.in-Refused.is at c.in_ok-take_request.ensures.takes)) (held c.deny.new.w.inner) c.in_ok-deny-in-Refused.ensures.sends
 
 pub returns-in-Refused-clause-spends : goal.returns-in-Refused-clause-spends
@@ -73,17 +73,17 @@ returns-in-Refused-clause-spends g c =
     )
 
 pub returns-in_err-answer_message-in-Whole-clause-serves : goal.returns-in_err-answer_message-in-Whole-clause-serves
-returns-in_err-answer_message-in-Whole-clause-serves g c clean s shows alone =
+returns-in_err-answer_message-in-Whole-clause-serves g c clean s shows =
     let p = err_from_is_err_and c.from_residual-in_err-answer_message-in-Whole.result c.from_residual-in_err-answer_message-in-Whole.ensures.1 in
     let lim = limits_of c.args.registry.now in
     let read = g.R.Read.remaining in
     let held = g.W.Write.contents in
     let whole = (subst (λ l. Takes (g.R.Read.remaining c.requests.r.inner) (g.R.Read.remaining c.take_request.new.r.inner) c.requests.pending.items c.take_request.new.pending.items (g.W.Write.contents c.requests.w.inner) (g.W.Write.contents c.take_request.new.w.inner) l (Ok (taken.Whole c.in-Whole.begun))) c.limits.ensures (rw c.in-Whole.is at c.in_ok-take_request.ensures.takes)) in
     let closing = c.closes-close.ensures ∙ ap (λ l. c.in-Whole.begun.close || c.requests.replies + 1 == l.replies) c.limits.ensures in
-    let h = c.requests.invariant.held (c.answer_message.ensures.keeps.clean clean) s shows alone in
+    let h = c.requests.invariant.held (c.answer_message.ensures.keeps.clean clean) s shows in
     let told = rw (c.split_at.ensures.front, c.deref.ensures.value, c.requests.invariant.limits) at c.in_err-answer_message-in-Whole.ensures.replied in
     rw (p.1, p.2)
-    (whole_failed g.S.Store lim s (read c.args.r.now.inner) (read c.requests.r.inner) (held c.args.w.now.inner) (held c.requests.w.inner) c.requests.pending.items c.requests.replies (tables_of c.requests.registry) h (read c.take_request.new.r.inner) (held c.take_request.new.w.inner) c.append_law.ensures.alone c.append_law.ensures.head c.history_law.ensures.goes_on
+    (whole_failed g.S.Store lim s (tables_of c.args.registry.now) (read c.args.r.now.inner) (read c.requests.r.inner) (held c.args.w.now.inner) (held c.requests.w.inner) c.requests.pending.items c.requests.replies (tables_of c.requests.registry) h (read c.take_request.new.r.inner) (held c.take_request.new.w.inner) c.append_law.ensures.alone c.append_law.ensures.head c.history_law.ensures.goes_on
     c.take_request.new.pending.items c.in-Whole.begun whole c.closes-close.result closing (tables_of c.answer_message.new.registry) (held c.answer_message.new.w.inner)
     c.in_err-answer_message-in-Whole.field-0.0 (λ f head only t seen. told f head only clean t seen))
 
@@ -103,15 +103,15 @@ returns-in_err-answer_message-in-Whole-clause-spends g c =
     )
 
 pub returns-then-close-clause-serves : goal.returns-then-close-clause-serves
-returns-then-close-clause-serves g c clean s shows alone =
+returns-then-close-clause-serves g c clean s shows =
     let lim = limits_of c.args.registry.now in
     let read = g.R.Read.remaining in
     let held = g.W.Write.contents in
     let whole = (subst (λ l. Takes (g.R.Read.remaining c.requests.r.inner) (g.R.Read.remaining c.take_request.new.r.inner) c.requests.pending.items c.take_request.new.pending.items (g.W.Write.contents c.requests.w.inner) (g.W.Write.contents c.take_request.new.w.inner) l (Ok (taken.Whole c.in-Whole.begun))) c.limits.ensures (rw c.in-Whole.is at c.in_ok-take_request.ensures.takes)) in
     let closing = c.closes-close.ensures ∙ ap (λ l. c.in-Whole.begun.close || c.requests.replies + 1 == l.replies) c.limits.ensures in
-    let h = c.requests.invariant.held (c.answer_message.ensures.keeps.clean clean) s shows alone in
+    let h = c.requests.invariant.held (c.answer_message.ensures.keeps.clean clean) s shows in
     let told = rw (c.split_at.ensures.front, c.deref.ensures.value, c.requests.invariant.limits) at c.in_ok-answer_message-in-Whole.ensures.replied in
-    whole_last g.S.Store lim s (read c.args.r.now.inner) (read c.requests.r.inner) (held c.args.w.now.inner) (held c.requests.w.inner) c.requests.pending.items c.requests.replies (tables_of c.requests.registry) h (read c.take_request.new.r.inner) (held c.take_request.new.w.inner) c.append_law.ensures.alone c.append_law.ensures.head c.history_law.ensures.goes_on
+    whole_last g.S.Store lim s (tables_of c.args.registry.now) (read c.args.r.now.inner) (read c.requests.r.inner) (held c.args.w.now.inner) (held c.requests.w.inner) c.requests.pending.items c.requests.replies (tables_of c.requests.registry) h (read c.take_request.new.r.inner) (held c.take_request.new.w.inner) c.append_law.ensures.alone c.append_law.ensures.head c.history_law.ensures.goes_on
     c.take_request.new.pending.items c.in-Whole.begun whole c.closes-close.result closing (tables_of c.answer_message.new.registry) (held c.answer_message.new.w.inner)
     tt (λ f head only t seen. told f head only clean t seen) c.if-close.true
 
@@ -147,10 +147,10 @@ requests-preserved g c =
       tables = keeps.tables;
       limits = keeps.limits ∙ inv.limits;
       clean = λ clean. inv.clean (keeps.clean clean);
-      held = λ clean s shows alone.
-          (let h = inv.held (keeps.clean clean) s shows alone in
+      held = λ clean s shows.
+          (let h = inv.held (keeps.clean clean) s shows in
           rw c.drop_front.ensures
-          (whole_sent g.S.Store lim s (read c.args.r.now.inner) (read c.requests.r.inner) (held c.args.w.now.inner) (held c.requests.w.inner) c.requests.pending.items c.requests.replies (tables_of c.requests.registry) h (read c.take_request.new.r.inner) (held c.take_request.new.w.inner) c.append_law.ensures.alone c.append_law.ensures.head c.history_law.ensures.goes_on
+          (whole_sent g.S.Store lim s (tables_of c.args.registry.now) (read c.args.r.now.inner) (read c.requests.r.inner) (held c.args.w.now.inner) (held c.requests.w.inner) c.requests.pending.items c.requests.replies (tables_of c.requests.registry) h (read c.take_request.new.r.inner) (held c.take_request.new.w.inner) c.append_law.ensures.alone c.append_law.ensures.head c.history_law.ensures.goes_on
           c.take_request.new.pending.items c.in-Whole.begun whole c.closes-close.result closing (tables_of c.answer_message.new.registry) (held c.answer_message.new.w.inner)
           tt (λ f head only t seen. told f head only clean t seen) c.if-close.false));
       spends = spends_some turns c.take_request.new.left c.answer_message.new.left first mid last both

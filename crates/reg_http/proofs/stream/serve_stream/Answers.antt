@@ -5,17 +5,17 @@ use Rattle.reg_http.proofs.Steps.{untouched}
 use Rattle.reg_http.proofs.stream.serve_stream.Goals as goal
 
 pub returns-in_default-clause-serves : goal.returns-in_default-clause-serves
-returns-in_default-clause-serves g c clean s shows alone =
-    untouched g.S.Store (limits_of c.args.registry.now) s (g.R.Read.remaining c.args.r.now.inner) (g.W.Write.contents c.args.w.now.inner) (tables_of c.args.registry.now)
-    (c.history_law.ensures.begins (limits_of c.args.registry.now) s (tables_of c.args.registry.now) shows alone)
+returns-in_default-clause-serves g c clean s shows =
+    untouched g.S.Store (limits_of c.args.registry.now) s (tables_of c.args.registry.now) (g.R.Read.remaining c.args.r.now.inner) (g.W.Write.contents c.args.w.now.inner) (tables_of c.args.registry.now)
+    (c.history_law.ensures.begins (limits_of c.args.registry.now) s (tables_of c.args.registry.now) shows)
 
 pub returns-in_default-clause-spends : goal.returns-in_default-clause-spends
 returns-in_default-clause-spends g c = ((limits_of c.args.registry.now).turns, spends_nothing (limits_of c.args.registry.now).turns (tally c.args.r.now c.args.w.now))
 
 pub returns-in_default-room-clause-serves : goal.returns-in_default-room-clause-serves
-returns-in_default-room-clause-serves g c clean s shows alone =
-    untouched g.S.Store (limits_of c.args.registry.now) s (g.R.Read.remaining c.args.r.now.inner) (g.W.Write.contents c.args.w.now.inner) (tables_of c.args.registry.now)
-    (c.history_law.ensures.begins (limits_of c.args.registry.now) s (tables_of c.args.registry.now) shows alone)
+returns-in_default-room-clause-serves g c clean s shows =
+    untouched g.S.Store (limits_of c.args.registry.now) s (tables_of c.args.registry.now) (g.R.Read.remaining c.args.r.now.inner) (g.W.Write.contents c.args.w.now.inner) (tables_of c.args.registry.now)
+    (c.history_law.ensures.begins (limits_of c.args.registry.now) s (tables_of c.args.registry.now) shows)
 
 pub returns-in_default-room-clause-spends : goal.returns-in_default-room-clause-spends
 returns-in_default-room-clause-spends g c = ((limits_of c.args.registry.now).turns, spends_nothing (limits_of c.args.registry.now).turns (tally c.args.r.now c.args.w.now))

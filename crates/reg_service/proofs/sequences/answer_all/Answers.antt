@@ -9,31 +9,31 @@ pub loop-call-init : goal.loop-call-init
 loop-call-init g c = (
   c.requires.tables,
   refl,
-  λ clean s shows alone. subst (λ ts. HasAnswered g.S.Store (limits_of c.args.registry.now) s [] ts (tables_of c.args.registry.now)) (sym c.new-told.ensures.items)
-      (answered_nothing g.S.Store (limits_of c.args.registry.now) s c.growth_law.ensures.sound c.growth_law.ensures.grows (tables_of c.args.registry.now) shows alone),
+  λ clean s shows. subst (λ ts. HasAnswered g.S.Store (limits_of c.args.registry.now) s (tables_of c.args.registry.now) [] ts (tables_of c.args.registry.now)) (sym c.new-told.ensures.items)
+      (answered_nothing g.S.Store (limits_of c.args.registry.now) s (tables_of c.args.registry.now) c.growth_law.ensures.sound c.growth_law.ensures.grows shows),
 )
 
 pub loop-call-preserved : goal.loop-call-preserved
 loop-call-preserved g c = (
   c.answer.ensures.tables,
   c.answer.ensures.limits ∙ c.loop-call.invariant.1,
-  λ clean s shows alone. subst (λ ts. HasAnswered g.S.Store (limits_of c.args.registry.now) s (take (c.loop-call.call-index + 1) c.args.calls.now) ts (tables_of c.answer.new.registry)) (sym c.in_ok-push.ensures.items)
-      (answered_next g.S.Store (limits_of c.args.registry.now) s c.growth_law.ensures.sound c.growth_law.ensures.grows c.run_law.ensures.step c.run_law.ensures.join c.args.calls.now c.loop-call.call-index _ c.loop-call.told.items c.answer.result (tables_of c.loop-call.registry) (tables_of c.answer.new.registry) (omega arith) (rw c.loop-call.invariant.1 at c.answer.ensures.read) clean
-      (c.loop-call.invariant.2 (c.answer.ensures.clean clean) s shows alone) (rw c.loop-call.invariant.1 at c.answer.ensures.told)),
+  λ clean s shows. subst (λ ts. HasAnswered g.S.Store (limits_of c.args.registry.now) s (tables_of c.args.registry.now) (take (c.loop-call.call-index + 1) c.args.calls.now) ts (tables_of c.answer.new.registry)) (sym c.in_ok-push.ensures.items)
+      (answered_next g.S.Store (limits_of c.args.registry.now) s (tables_of c.args.registry.now) c.growth_law.ensures.sound c.growth_law.ensures.grows c.run_law.ensures.step c.run_law.ensures.join c.args.calls.now c.loop-call.call-index _ c.loop-call.told.items c.answer.result (tables_of c.loop-call.registry) (tables_of c.answer.new.registry) (omega arith) (rw c.loop-call.invariant.1 at c.answer.ensures.read) clean
+      (c.loop-call.invariant.2 (c.answer.ensures.clean clean) s shows) (rw c.loop-call.invariant.1 at c.answer.ensures.told)),
 )
 
 pub returns-clause-answered : goal.returns-clause-answered
-returns-clause-answered g c clean s shows alone =
-    subst (λ cs. HasAnswered g.S.Store (limits_of c.args.registry.now) s cs c.loop-call.told.items (tables_of c.loop-call.registry)) (take_all c.loop-call.call-index c.args.calls.now (omega arith))
-    (c.loop-call.invariant.2 clean s shows alone)
+returns-clause-answered g c clean s shows =
+    subst (λ cs. HasAnswered g.S.Store (limits_of c.args.registry.now) s (tables_of c.args.registry.now) cs c.loop-call.told.items (tables_of c.loop-call.registry)) (take_all c.loop-call.call-index c.args.calls.now (omega arith))
+    (c.loop-call.invariant.2 clean s shows)
 
 pub returns-in_err-push-clause-begun : goal.returns-in_err-push-clause-begun
-returns-in_err-push-clause-begun g c clean s shows alone = (
+returns-in_err-push-clause-begun g c clean s shows = (
   c.loop-call.call-index + 1,
   c.loop-call.told.items ++ c.answer.result ∷ [],
-  answered_next g.S.Store (limits_of c.args.registry.now) s c.growth_law.ensures.sound c.growth_law.ensures.grows c.run_law.ensures.step c.run_law.ensures.join c.args.calls.now c.loop-call.call-index _ c.loop-call.told.items c.answer.result (tables_of c.loop-call.registry) (tables_of c.answer.new.registry) (omega arith) (rw c.loop-call.invariant.1 at c.answer.ensures.read) clean
-      (c.loop-call.invariant.2 (c.answer.ensures.clean clean) s shows alone) (rw c.loop-call.invariant.1 at c.answer.ensures.told),
+  answered_next g.S.Store (limits_of c.args.registry.now) s (tables_of c.args.registry.now) c.growth_law.ensures.sound c.growth_law.ensures.grows c.run_law.ensures.step c.run_law.ensures.join c.args.calls.now c.loop-call.call-index _ c.loop-call.told.items c.answer.result (tables_of c.loop-call.registry) (tables_of c.answer.new.registry) (omega arith) (rw c.loop-call.invariant.1 at c.answer.ensures.read) clean
+      (c.loop-call.invariant.2 (c.answer.ensures.clean clean) s shows) (rw c.loop-call.invariant.1 at c.answer.ensures.told),
 )
 
 pub returns-clause-begun : goal.returns-clause-begun
-returns-clause-begun g c clean s shows alone = (c.loop-call.call-index, c.loop-call.told.items, c.loop-call.invariant.2 clean s shows alone)
+returns-clause-begun g c clean s shows = (c.loop-call.call-index, c.loop-call.told.items, c.loop-call.invariant.2 clean s shows)
