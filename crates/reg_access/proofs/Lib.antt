@@ -1,3 +1,4 @@
+mod Admitting
 mod Answered
 pub mod Calls
 mod CrateLaw

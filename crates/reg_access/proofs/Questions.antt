@@ -54,6 +54,11 @@ module _ {S : Type 0} (g : Ghosts S) where
         leaves = called_ok g y (x, y) a c both.leaves;
       }
 
+  -- and then a call is refused
+  pub asks_refused : {T U E F : Type 0} {P : Trees → T → Type 0} {Q : Trees → U → Type 0} (x : T) (r : Result U F) (a b c : Work S) → IsErr r → Asks {E = E} g a b (Ok x) P → IsCall g r b c → Asks g a c r Q
+  asks_refused x (Ok y) a b c h one call = absurd cc
+  asks_refused x (Err e) a b c h one call = record { told = λ clean. tt; same = λ clean. tt; leaves = then_called g x (Err e) a b c one.leaves call }
+
   -- nothing is asked
   pub asks_nothing : {T E : Type 0} {P : Trees → T → Type 0} (x : T) (a : Work S) → has_failed a ≡ false → IsAtWork g a → P (rows_seen g a) x → Asks {E = E} g a a (Ok x) P
   asks_nothing x a on at h = record {

@@ -97,10 +97,14 @@ abbrev pub IsStanding : Words → Trees → Standing → Type 0
 IsStanding text db it = (found : Option Crate) × FindsCrate text db found
     × AreOwnersOf found db it.owners.items × TellsTaken found text db it.taken
 
--- the readers of a restricted crate, by their ids: of a name; of the crate with this id; of what
--- was found
-abbrev pub AreReaders : Words → Trees → List Account → Type 0
-AreReaders n db list = Tells (λ ids s. map entry_of_account list ≡ who_reads s n) db
+-- a reader, by its id and its login
+abbrev pub reader_of : Account → ℕ × Words
+reader_of a = (a.id, string_bytes a.login)
+
+-- the readers of a restricted crate, by their ids: of a name; as accounts of the crate with this
+-- id, and of what was found
+abbrev pub AreReaders : Words → Trees → List (ℕ × Words) → Type 0
+AreReaders n db list = Tells (λ ids s. list ≡ map (λ o. (o.0, o.1.login)) (who_reads s n)) db
 
 abbrev pub AreReadersAt : ℕ → Trees → List Account → Type 0
 AreReadersAt id db list = Tells

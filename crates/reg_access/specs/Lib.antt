@@ -1,3 +1,4 @@
+pub mod Admitted
 pub mod Asks
 pub mod Found
 pub mod JoinRows

@@ -1,11 +1,13 @@
 //! Whether a request may pass, decided from the rows of the access texts.
 
+ghost use Rattle.std.specs.Prelude.{IfOk};
 ghost use Rattle.reg_policy.specs.Views.{action_of};
 ghost use Rattle.reg_tables.specs.Works.{Heard, IsAtWork, IsCall, Unmoved, rows_seen};
+ghost use Rattle.reg_access.specs.Admitted.{HasItsCrate, IsAdmission, TellsCaller, decision_in};
 ghost use Rattle.reg_access.specs.Asks.{Asks};
 ghost use Rattle.reg_access.specs.Verdict.{IsPolicy, IsVerdict};
 
-use crate::deciding::first_broken;
+use crate::admission::{Admission, admission_of};
 use crate::finding::find_all;
 use crate::orders::fits;
 use crate::texts::find_token;
@@ -19,21 +21,43 @@ fn judge<S: Alter>(
     work: &mut Work<'_, S>,
     digest: &Digest,
     action: &Action,
-) -> Result<Decision, StoreFault>
+) -> Result<Admission, StoreFault>
     requires { IsAtWork S.Store work.old }
-    ensures { Asks S.Store work.old work.new result
-        (IsVerdict digest.now (action_of action.now)) }
+    ensures asks { Asks S.Store work.old work.new result
+        (IsAdmission digest.now (action_of action.now)) }
+    ensures there { IfOk result (HasItsCrate (action_of action.now)) }
 {
     let Some(token) = find_token(work, digest)? else {
-        return Ok(Decision::Denied(Rule::A2));
+        return Ok(Admission::Denied(Rule::A2));
     };
     let found = find_all(work, &token, action)?;
-    Ok(first_broken(&token, &found, action))
+    Ok(admission_of(&token, found, action))
 }
 
-/// Whether the tables let an action of the token with this digest pass, or the first rule on access
-/// that it breaks. What is decided is decided of any rows; where they stand for a registry it is
-/// the written policy's.
+/// Whether the tables let an action of the token with this digest pass; the first rule on access
+/// that it breaks, or who is let pass and the crate that was found. What is decided is decided of
+/// any rows; where they stand for a registry it is the written policy's.
+pub fn admit<S: Alter>(
+    work: &mut Work<'_, S>,
+    digest: &Digest,
+    action: &Action,
+) -> Result<Admission, StoreFault>
+    requires { IsAtWork S.Store work.old }
+    ensures decided { Heard S.Store work.new result (λ it. IsVerdict digest.now
+        (action_of action.now) (rows_seen S.Store work.old) (decision_in it)) }
+    ensures policy { Heard S.Store work.new result (λ it. IsPolicy digest.now
+        (action_of action.now) (rows_seen S.Store work.old) (decision_in it)) }
+    ensures found { Heard S.Store work.new result
+        (TellsCaller digest.now (action_of action.now) (rows_seen S.Store work.old)) }
+    ensures there { IfOk result (HasItsCrate (action_of action.now)) }
+    ensures same { Unmoved S.Store result work.old work.new }
+    ensures leaves { IsCall S.Store result work.old work.new }
+{
+    fits(action);
+    judge(work, digest, action)
+}
+
+/// What `admit` decides, alone.
 pub fn authorize<S: Alter>(
     work: &mut Work<'_, S>,
     digest: &Digest,
@@ -47,6 +71,6 @@ pub fn authorize<S: Alter>(
     ensures same { Unmoved S.Store result work.old work.new }
     ensures leaves { IsCall S.Store result work.old work.new }
 {
-    fits(action);
-    judge(work, digest, action)
+    let admission = admit(work, digest, action)?;
+    Ok(admission.decision())
 }

@@ -6,6 +6,7 @@
 //! ```
 //! let mut work = tables.work()?;
 //! authorize(&mut work, &digest, &Action::Yank("a", "0.1.0"))?   // Decision::Denied(Rule::A9)
+//! admit(&mut work, &digest, &Action::Index("1/a"))?       // the decision, and what was found
 //! let name = parse_name("a")?;
 //! who_may(alloc, &mut work, &name)?               // a `Grant` for each token and endpoint
 //! who_reads(alloc, &mut work, &name)?             // its readers, where it is restricted
@@ -13,6 +14,7 @@
 #![tactic(auto)]
 
 mod access;
+mod admission;
 mod deciding;
 mod finding;
 mod found;
@@ -23,7 +25,8 @@ mod orders;
 mod reading;
 mod texts;
 
-pub use access::authorize;
+pub use access::{admit, authorize};
+pub use admission::{Admission, Caller, FoundCrate};
 pub use granting::who_may;
 pub use grants::Grant;
 pub use reading::who_reads;

@@ -1,15 +1,15 @@
 //! Who reads a restricted crate, asked of the tables.
 
-ghost use Rattle.std.specs.Prelude.{◌≡◌, false};
+ghost use Rattle.std.specs.Prelude.{◌≡◌, IfOk, false, map};
 ghost use Rattle.reg_tables_meaning.specs.Calls.{FindsCrate};
 ghost use Rattle.reg_tables.specs.Works.{IsAtWork, has_failed};
 ghost use Rattle.reg_access.specs.Asks.{Asks};
-ghost use Rattle.reg_access.specs.Grants.{AreReaders, AreReadersAt, AreReadersOf};
+ghost use Rattle.reg_access.specs.Grants.{AreReaders, AreReadersAt, AreReadersOf, reader_of};
 
 use crate::granting::find_named;
-use reg_names::{CrateName, canon};
+use reg_names::{CrateName, Login, canon, parse_login};
 use reg_tables::{Account, Crate, StoreFault, Work};
-use sqlite::Alter;
+use sqlite::{Alter, Error};
 use std::alloc::Global;
 
 fn readers_at<S: Alter>(
@@ -43,17 +43,40 @@ fn find_readers<S: Alter>(
     }
 }
 
-/// The accounts that the administrator made readers of a restricted crate, by id; none of a crate
-/// that is open to all, or not there.
+fn reader_of(account: &Account) -> Result<(u32, Login), Error>
+    ensures { IfOk result (λ reader. reader ≡ reader_of account.now) }
+{
+    match parse_login(&account.login) {
+        Some(login) => Ok((account.id, login)),
+        None => Err(Error::InvalidQuery),
+    }
+}
+
+fn readers_from(alloc: Global, accounts: &[Account]) -> Result<Vec<(u32, Login)>, Error>
+    ensures { IfOk result (λ list. list.items ≡ map reader_of accounts.now) }
+{
+    let mut list = Vec::new(alloc);
+    for account in accounts {
+        list.push(reader_of(account)?)?;
+    }
+    Ok(list)
+}
+
+/// The readers that the administrator gave a restricted crate, by id, each with its login; none of
+/// a crate that is open to all, or not there.
 pub fn who_reads<S: Alter>(
     alloc: Global,
     work: &mut Work<'_, S>,
     name: &CrateName,
-) -> Result<Vec<Account>, StoreFault>
+) -> Result<Vec<(u32, Login)>, StoreFault>
     requires { IsAtWork S.Store work.old }
     ensures { Asks S.Store work.old work.new result
         (λ db list. AreReaders name.now db list.items) }
 {
     let found = find_named(work, &canon(name))?;
-    find_readers(alloc, work, &found)
+    let accounts = find_readers(alloc, work, &found)?;
+    match readers_from(alloc, &accounts) {
+        Ok(list) => Ok(list),
+        Err(_) => work.fail(),
+    }
 }

@@ -1,12 +1,15 @@
 -- From what the tables tell of an index file to what is decided.
 use Rattle.std.proofs.Common.{◌≡◌, ℕ, [], Option, None, Some, refl, sym, ap, subst, ◌∙◌, map, length, unwrap_or}
-use Rattle.std.specs.Prelude.{string_bytes}
 use Rattle.std.specs.FinSet as finset
 use Rattle.std.specs.List.{filter}
+use Rattle.std.specs.Option.{option_map}
 use Rattle.std.specs.Str.{bytes_eq}
 use Rattle.sqlite.specs.Tree.{Trees}
+use Rattle.reg_access.specs.Admitted.{IsFoundOf, TellsCaller}
+use Rattle.reg_access.specs.declared.admission.Admission.TheVariants.{Allowed as Lets}
+use Rattle.reg_access.specs.declared.admission.Caller.{Caller}
+use Rattle.reg_access.specs.declared.admission.FoundCrate.{FoundCrate}
 use Rattle.reg_access.specs.Verdict.{IsPolicy}
-use Rattle.reg_access.proofs.GrantLaw.{first_canon}
 use Rattle.reg_body.specs.declared.limits.Limits.{Limits}
 use Rattle.reg_line.specs.File.{file_text}
 use Rattle.reg_model.specs.declared.rule.Rule.{Rule}
@@ -27,8 +30,6 @@ use Rattle.reg_model.specs.Steps.{Outcome, outcome, unless_denied}
 use Rattle.reg_names.specs.Names.{canon, name_at}
 use Rattle.reg_policy.specs.declared.action.Decision.TheVariants.{Allowed, Denied as denies}
 use Rattle.reg_policy.specs.Views.{decision_of}
-use Rattle.reg_tables_sql.specs.declared.crates.Crate.{Crate}
-use Rattle.reg_tables_meaning.specs.Calls.{FindsCrate}
 use Rattle.reg_tables_meaning.specs.Changes.{told_of}
 use Rattle.reg_tables_meaning.specs.Entries.{entries}
 use Rattle.reg_tables_meaning.specs.Stands.{spelling_at}
@@ -80,11 +81,10 @@ file_denied law digest path db r policy ids s h =
 pub is_let : (digest path : Text) (db : Trees) → IsPolicy digest (to_index path) db Allowed → IsLet digest path db
 is_let digest path db policy ids s h = none_of _ (policy ids s h)
 
--- the crate by the path of its index file
-pub at_path : (path n : Text) (c : Crate) (db : Trees) → name_at path ≡ Some n → FindsCrate (canon n) db (Some c) → IsAtPath path db c
-at_path path n c db given finds ids s h =
-    let it = finds ids s h in
-    (it.1, first_canon s n (string_bytes c.name) (sym (it.0 n refl)) ∙ ap (λ o. canon (unwrap_or o [])) (sym given))
+-- a crate that was found has a spelling of the name
+alike : (o : Option Text) (n : Text) → option_map canon o ≡ Some (canon n) → canon n ≡ canon (unwrap_or o [])
+alike None n e = absurd cc e
+alike (Some m) n e = sym (ap (λ o. unwrap_or o []) e)
 
 -- the file of a crate is that of its canonical text
 abbrev file_by : Registry → Text → Text
@@ -94,18 +94,20 @@ some_same : (a b : ℕ) → Some a ≡ Some b → a ≡ b
 some_same a b e = ap (λ o. unwrap_or o 0) e
 
 -- a token is let read it
-pub file_found : AccessComesFirst → (path : Text) (c : Crate) (it : Decided) (db : Trees) → IsAtPath path db c → HasLength c.id db it → (digest : Text) → IsLet digest path db → Decides (Some digest) path db it
+pub file_found : AccessComesFirst → (path : Text) (c : FoundCrate) (it : Decided) (db : Trees) → IsAtPath path db c → HasLength c.id db it → (digest : Text) → IsLet digest path db → Decides (Some digest) path db it
 file_found law path c (Denied r) db at len digest lets = absurd len
 file_found law path c (Found f) db at len digest lets = λ ids s h.
-    let spelled = at ids s h in
-    let n = string_bytes c.name in
-    let here : spelling_at ids f.crate_id ≡ Some n = ap (spelling_at ids) len.0 ∙ spelled.0 in
-    let same : file_at ids s f ≡ file s n = ap (λ o. file_text (told_of o [] (entries s))) here in
+    let is = at ids s h in
+    let here : spelling_at ids f.crate_id ≡ Some c.name = ap (spelling_at ids) len.0 ∙ is.placed in
+    let same : file_at ids s f ≡ file s c.name = ap (λ o. file_text (told_of o [] (entries s))) here in
     let e = λ (limits : Limits). outcome_by law limits s digest path None (lets ids s h) in
     record {
       answer = record {
-        answer = λ limits. ap (λ (o : Outcome). o.0) (e limits) ∙ ap (λ t. File t) (sym (same ∙ ap (file_by s) spelled.1));
+        answer = λ limits. ap (λ (o : Outcome). o.0) (e limits) ∙ ap (λ t. File t) (sym (same ∙ ap (file_by s) (alike (name_at path) c.name is.alike)));
         state = λ limits. ap (λ (o : Outcome). o.1) (e limits);
       };
-      len = some_same f.length (length (file s n)) (len.1 ids s h ∙ ap (λ o. told_of o None (λ name. Some (length (file s name)))) spelled.0) ∙ ap length (sym same);
+      len = some_same f.length (length (file s c.name)) (len.1 ids s h ∙ ap (λ o. told_of o None (λ name. Some (length (file s name)))) is.placed) ∙ ap length (sym same);
     }
+
+pub at_path : (digest path : Text) (caller : Caller) (c : FoundCrate) (db : Trees) → TellsCaller digest (to_index path) db (Lets caller) → caller.found ≡ Some c → IsAtPath path db c
+at_path digest path caller c db told found ids s h = subst (IsFoundOf ids s (name_at path)) found (told ids s h).found

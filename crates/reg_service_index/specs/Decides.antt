@@ -1,6 +1,8 @@
 -- What is decided of a request for an index file.
-use Rattle.std.specs.Prelude.{◌≡◌, ℕ, [], Option, Some, None, length, string_bytes, unwrap_or}
+use Rattle.std.specs.Prelude.{◌≡◌, ℕ, [], Option, Some, None, length}
 use Rattle.sqlite.specs.Tree.{Trees}
+use Rattle.reg_access.specs.Admitted.{IsCrateOf}
+use Rattle.reg_access.specs.declared.admission.FoundCrate.{FoundCrate}
 use Rattle.reg_body.specs.declared.limits.Limits.{Limits}
 use Rattle.reg_line.specs.File.{file_text}
 use Rattle.reg_model.specs.Actions.Action.{Index as to_index}
@@ -13,8 +15,7 @@ use Rattle.reg_model.specs.Facts.{access_facts}
 use Rattle.reg_model.specs.Registry.{Registry, Text}
 use Rattle.reg_model.specs.Rules.{access}
 use Rattle.reg_model.specs.Steps.{outcome}
-use Rattle.reg_names.specs.Names.{canon, name_at}
-use Rattle.reg_tables_sql.specs.declared.crates.Crate.{Crate}
+use Rattle.reg_names.specs.Names.{name_at}
 use Rattle.reg_tables_meaning.specs.Calls.{Tells}
 use Rattle.reg_tables_meaning.specs.Changes.{told_of}
 use Rattle.reg_tables_meaning.specs.Entries.{entries}
@@ -43,10 +44,9 @@ abbrev pub Decides : Option Text → Text → Trees → Decided → Type 0
 Decides digest path db (Denied r) = Tells (λ ids s. IsAnswer digest path s (to_denied r)) db
 Decides digest path db (Found f) = Tells (λ ids s. IsFile digest path ids s f) db
 
--- the crate whose index file has this path
-abbrev pub IsAtPath : Text → Trees → Crate → Type 0
-IsAtPath path db c = Tells (λ ids s. (spelling_at ids c.id ≡ Some (string_bytes c.name))
-    × (canon (string_bytes c.name) ≡ canon (unwrap_or (name_at path) []))) db
+-- this is the crate whose index file has the path
+abbrev pub IsAtPath : Text → Trees → FoundCrate → Type 0
+IsAtPath path db c = Tells (λ ids s. IsCrateOf ids s (name_at path) c) db
 
 -- the index file of the crate with this id
 abbrev pub HasLength : ℕ → Trees → Decided → Type 0

@@ -50,9 +50,9 @@ module _ (s : Registry) (n : Text) where
       ∙ sym (flat_map-map (λ (g : ℕ × Endpoint). grant_line g (login_of_token s g.0)) (λ e. (1 + k, e)) (its_grants t)))
       ∙ sym (flat_flat (λ g. grant_line g (login_of_token s g.0)) (λ (e : ℕ × model.Token). map (λ k. (e.0, k)) (its_grants e.1)) (enumerate_from 1 s.tokens))
 
-  pub access_told : (list : List Grant) (readers : List Account) (text : Text) → text ≡ flat_map line_of_grant list ++ flat_map line_of_reader readers → map told_of list ≡ granted s n → map entry_of_account readers ≡ who_reads s n → text ≡ access_text s n
+  pub access_told : (list : List Grant) (readers : List (ℕ × Text)) (text : Text) → text ≡ flat_map line_of_grant list ++ flat_map line_of_reader readers → map told_of list ≡ granted s n → readers ≡ map (λ o. (o.0, o.1.login)) (who_reads s n) → text ≡ access_text s n
   unfolding access_text
   access_told list readers text told asked read =
       let acting : flat_map line_of_grant list ≡ flat_map (λ g. grant_line g (login_of_token s g.0)) (grants s n) = sym (flat_map-map line told_of list) ∙ ap (flat_map line) asked ∙ grants_told in
-      let reading : flat_map line_of_reader readers ≡ flat_map (λ r. reader_line r.1.login) (who_reads s n) = sym (flat_map-map (λ (r : ℕ × model.Account). reader_line r.1.login) entry_of_account readers) ∙ ap (flat_map (λ (r : ℕ × model.Account). reader_line r.1.login)) read in
+      let reading : flat_map line_of_reader readers ≡ flat_map (λ r. reader_line r.1.login) (who_reads s n) = ap (flat_map line_of_reader) read ∙ flat_map-map line_of_reader (λ (r : ℕ × model.Account). (r.0, r.1.login)) (who_reads s n) in
       told ∙ (λ i. acting i ++ reading i)

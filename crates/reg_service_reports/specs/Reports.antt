@@ -1,10 +1,9 @@
 -- What a report tells of the registry that the rows stand for.
-use Rattle.std.specs.Prelude.{◌≡◌, String, string_bytes}
+use Rattle.std.specs.Prelude.{◌≡◌, ℕ, String, string_bytes}
 use Rattle.std.specs.declared.alloc.Global.{Global}
 use Rattle.sqlite.specs.Tree.{Trees}
 use Rattle.reg_model.specs.Registry.{Registry, Text}
 use Rattle.reg_model.specs.Reports.{grant_line, reader_line}
-use Rattle.reg_tables_sql.specs.declared.accounts.Account.{Account}
 use Rattle.reg_tables_meaning.specs.Calls.{Tells}
 use Rattle.reg_access.specs.declared.grants.Grant.{Grant}
 
@@ -16,5 +15,5 @@ Reports text db report = Tells (λ ids s. string_bytes report ≡ text s) db
 abbrev pub line_of_grant : Grant → Text
 line_of_grant g = grant_line (g.token, g.endpoint) g.login
 
-abbrev pub line_of_reader : Account → Text
-line_of_reader a = reader_line (string_bytes a.login)
+abbrev pub line_of_reader : ℕ × Text → Text
+line_of_reader r = reader_line r.1

@@ -8,9 +8,9 @@ ghost use Rattle.reg_access.specs.Asks.{Asks};
 ghost use Rattle.reg_service_reports.specs.Reports.{Reports, line_of_grant, line_of_reader};
 
 use reg_access::{Grant, who_may, who_reads};
-use reg_names::CrateName;
+use reg_names::{CrateName, Login};
 use reg_policy::{push_grant_line, push_reader_line};
-use reg_tables::{Account, StoreFault, Work};
+use reg_tables::{StoreFault, Work};
 use sqlite::Alter;
 use std::alloc::{AllocError, Global};
 
@@ -24,14 +24,15 @@ fn push_grants(report: &mut String, grants: &[Grant]) -> Result<(), AllocError>
     Ok(())
 }
 
-fn push_reader(report: &mut String, reader: &Account) -> Result<(), AllocError>
+fn push_reader(report: &mut String, reader: &(u32, Login)) -> Result<(), AllocError>
     ensures { OnOk result (string_bytes report.new
         ≡ string_bytes report.old ++ line_of_reader reader.now) }
 {
-    push_reader_line(report, reader.login.as_str())
+    let (_, login) = reader;
+    push_reader_line(report, login.as_str())
 }
 
-fn push_readers(report: &mut String, readers: &[Account]) -> Result<(), AllocError>
+fn push_readers(report: &mut String, readers: &[(u32, Login)]) -> Result<(), AllocError>
     ensures { OnOk result (string_bytes report.new
         ≡ string_bytes report.old ++ flat_map line_of_reader readers.now) }
 {
@@ -41,7 +42,7 @@ fn push_readers(report: &mut String, readers: &[Account]) -> Result<(), AllocErr
     Ok(())
 }
 
-fn lines_of(alloc: Global, grants: &[Grant], readers: &[Account]) -> Result<String, AllocError>
+fn lines_of(alloc: Global, grants: &[Grant], readers: &[(u32, Login)]) -> Result<String, AllocError>
     ensures { IfOk result (λ text. string_bytes text
         ≡ flat_map line_of_grant grants.now ++ flat_map line_of_reader readers.now) }
 {

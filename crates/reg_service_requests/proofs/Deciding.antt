@@ -7,7 +7,7 @@ use Rattle.sqlite_trees.specs.declared.store.Store.{Ghosts}
 use Rattle.reg_body.specs.declared.limits.Limits.{Limits}
 use Rattle.reg_model.specs.declared.rule.Rule.{Rule}
 use Rattle.reg_model.specs.declared.rule.Rule.TheVariants as rule
-use Rattle.reg_model.specs.Actions.{Action}
+use Rattle.reg_model.specs.Actions.{Action, crate_of}
 use Rattle.reg_model.specs.Actions.Action.{Read as to_read}
 use Rattle.reg_model.specs.Effects.{caller, done, served}
 use Rattle.reg_model.specs.Events.{Asked, action_of, fault_of}
@@ -21,6 +21,9 @@ use Rattle.reg_model.specs.Refusals.{denied, judged, or_else}
 use Rattle.reg_model.specs.Registry.{Registry, Text}
 use Rattle.reg_model.specs.Rules.{access, broken, is_access_rule, order, verdict}
 use Rattle.reg_model.specs.Steps.{Outcome, outcome, unless_denied}
+use Rattle.reg_access.specs.Admitted.{IsFoundOf}
+use Rattle.reg_access.specs.declared.admission.Caller.{Caller}
+use Rattle.reg_access.specs.declared.admission.FoundCrate.{FoundCrate}
 use Rattle.reg_access.specs.Verdict.{IsPolicy}
 use Rattle.reg_policy.specs.declared.action.Decision.TheVariants.{Allowed, Denied as denies}
 use Rattle.reg_policy.specs.declared.event.Asked.{Asked as Wanted}
@@ -29,8 +32,8 @@ use Rattle.reg_policy.specs.Views.{decision_of}
 use Rattle.reg_api_replies.specs.declared.reply.Reply.TheVariants.{Denied}
 use Rattle.reg_tables.specs.declared.work.StoreFault.{StoreFault}
 use Rattle.reg_tables.specs.declared.work.Work.{Work}
-use Rattle.reg_service_requests.specs.Granted.{Grants, GrantsTo, IsLet}
-use Rattle.reg_service_requests.specs.Named.{FindsViewer}
+use Rattle.reg_service_requests.specs.Granted.{Grants, GrantsOf, GrantsTo, IsLet}
+use Rattle.reg_service_requests.specs.Named.{IsViewer}
 use Rattle.reg_service_requests.specs.Serves.{Serves}
 use Rattle.reg_service_requests.specs.declared.served.Served.{Served}
 use Rattle.reg_service_requests.specs.declared.served.Served.TheVariants.{Seeks, Told}
@@ -87,19 +90,31 @@ faulty limits digest r db lets ids s h =
     (ap (λ (it : Outcome). it.0) e, ap (λ (it : Outcome). it.1) e)
 
 -- a search is let pass
-pub seeks : (limits : Limits) (digest q : Text) (most id : ℕ) (db : Trees) → FindsViewer digest db id → IsLet digest to_read db → Serves limits (Some digest) (Read (Search q most)) db db (Seeks id)
+pub seeks : (limits : Limits) (digest q : Text) (most id : ℕ) (db : Trees) → IsViewer digest id db → IsLet digest to_read db → Serves limits (Some digest) (Read (Search q most)) db db (Seeks id)
 unfolding denied done
 seeks limits digest q most id db finds lets ids s h =
     ap (λ it. unless_denied s it (served s (caller s (Some digest)) (Read (Search q most)), s)) (ap (λ o. or_else o None) (read_judged limits s digest (lets ids s h)))
     ∙ ap (λ who. (served s who (Read (Search q most)), s)) (finds ids s h)
 
-module _ {S : Type 0} (g : Ghosts S) (limits : Limits) (digest : Text) (asked given : Wanted) (same : asked ≡ given) (r : Result Served StoreFault) (old new : Work S) where
-  pub as_given : GrantsTo limits digest g (asked_of given) r old new → GrantsTo limits digest g (asked_of asked) r old new
-  as_given h = subst (λ it. GrantsTo limits digest g (asked_of it) r old new) (sym same) h
+module _ {S : Type 0} (g : Ghosts S) (limits : Limits) (caller : Caller) (asked given : Wanted) (same : asked ≡ given) (r : Result Served StoreFault) (old new : Work S) where
+  pub as_given : GrantsTo limits caller g (asked_of given) r old new → GrantsTo limits caller g (asked_of asked) r old new
+  as_given h = subst (λ it. GrantsTo limits caller g (asked_of it) r old new) (sym same) h
 
-  any : (r : Result Served StoreFault) (it : Asked) → Grants g it r old new → GrantsTo limits digest g it r old new
-  any (Ok x) it h = record { told = λ clean. h.told clean limits digest; leaves = h.leaves }
-  any (Err e) it h = record { told = λ clean. tt; leaves = h.leaves }
+  -- to any caller
+  to_any : (r : Result Served StoreFault) (it : Asked) → Grants g it r old new → GrantsTo limits caller g it r old new
+  to_any (Ok x) it h = record { told = λ clean digest lets who. h.told clean limits digest lets; leaves = h.leaves }
+  to_any (Err e) it h = record { told = λ clean. tt; leaves = h.leaves }
 
-  pub always_given : Grants g (asked_of given) r old new → GrantsTo limits digest g (asked_of asked) r old new
-  always_given h = as_given (any r (asked_of given) h)
+  pub always_given : Grants g (asked_of given) r old new → GrantsTo limits caller g (asked_of asked) r old new
+  always_given h = as_given (to_any r (asked_of given) h)
+
+  -- of the crate that was found
+  of_crate : (r : Result Served StoreFault) (it : Text → Asked) (text : Text) (c : FoundCrate) → caller.found ≡ Some c → GrantsOf c g it r old new → GrantsTo limits caller g (it text) r old new
+  of_crate (Ok x) it text c found h = record {
+    told = λ clean digest lets who. h.told clean text limits digest lets (λ ids s holds. subst (λ f. IsFoundOf ids s (crate_of (action_of (it text))) f) found (who ids s holds).found);
+    leaves = h.leaves;
+  }
+  of_crate (Err e) it text c found h = record { told = λ clean. tt; leaves = h.leaves }
+
+  pub crate_given : (it : Text → Asked) (text : Text) (c : FoundCrate) → asked_of given ≡ it text → caller.found ≡ Some c → GrantsOf c g it r old new → GrantsTo limits caller g (asked_of asked) r old new
+  crate_given it text c is found h = as_given (subst (λ a. GrantsTo limits caller g a r old new) (sym is) (of_crate r it text c found h))

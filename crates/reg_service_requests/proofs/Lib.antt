@@ -10,7 +10,6 @@ pub mod OwningIds
 pub mod OwningRuns
 pub mod OwningSets
 pub mod Publications
-pub mod ReadingAsked
 pub mod ReadingServed
 mod Rising
 pub mod Running

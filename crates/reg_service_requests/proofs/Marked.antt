@@ -8,6 +8,7 @@ use Rattle.sqlite.specs.Tree.{Trees}
 use Rattle.reg_body.specs.declared.limits.Limits.{Limits}
 use Rattle.reg_names.specs.Names.{canon, name_of}
 use Rattle.reg_model.specs.Changes.{with_yanked}
+use Rattle.reg_model.specs.Actions.{crate_of}
 use Rattle.reg_model.specs.Crates.{collides, versions, viewer, visible}
 use Rattle.reg_model.specs.Effects.{account_of, done, served}
 use Rattle.reg_model.specs.Events.{action_of}
@@ -24,15 +25,16 @@ use Rattle.reg_api_replies.specs.Bodies.{ok_body}
 use Rattle.reg_api_replies.specs.Replies.{Says}
 use Rattle.reg_api_replies.specs.declared.head.Kind.TheVariants.{Json}
 use Rattle.reg_api_replies.specs.declared.reply.Reply.TheVariants as reply
-use Rattle.reg_tables_sql.specs.declared.crates.Crate.{Crate}
 use Rattle.reg_tables_meaning.specs.Calls.{SetsYanked}
 use Rattle.reg_tables_meaning.specs.Changes.{if_there, with_mark}
 use Rattle.reg_tables_meaning.specs.Stands.{Stands}
-use Rattle.reg_service_requests.specs.Granted.{IsLet, marking}
-use Rattle.reg_service_requests.specs.Named.{FindsNamed}
+use Rattle.reg_access.specs.Admitted.{IsCrateOf}
+use Rattle.reg_access.specs.declared.admission.FoundCrate.{FoundCrate}
+use Rattle.reg_service_requests.specs.Granted.{IsCrate, IsLet, marking}
 use Rattle.reg_service_requests.specs.Serves.{Serves}
 use Rattle.reg_service_requests.specs.declared.served.Served.TheVariants.{Done}
 use Rattle.reg_service_requests.proofs.Judging.{denied_by_others, done_served}
+use Rattle.reg_service_requests.proofs.Names.{spelled_as}
 
 -- a version that is not missing is there
 published : (s : Registry) (d n v : Text) → not (holds (visible s d) (name_of n)) ≡ false → not (list_any (λ p. bytes_eq p.version v) (lists (versions s) (name_of n))) ≡ false → has_version s (canon n) v ≡ true
@@ -61,8 +63,12 @@ says_ok : (b : Bool) (s : Registry) (d n v : Text) (body : Vec _ Global) → bod
 says_ok true s d n v body is = (refl, refl, is)
 says_ok false s d n v body is = (refl, refl, is)
 
-pub marked : (limits : Limits) (d n v : Text) (b : Bool) (c : Crate) (body : Vec _ Global) (old new : Trees) → body.items ≡ ok_body → FindsNamed n old (Some c) → SetsYanked c.id v b old new → IsLet d (action_of (marking b n v)) old → Serves limits (Some d) (marking b n v) old new (Done (reply.Done Json body))
-marked limits d n v b c body old new is finds sets passes = done_served limits d (marking b n v) (reply.Done Json body) old new (λ ids s h.
+named_in : (b : Bool) (n v : Text) → crate_of (action_of (marking b n v)) ≡ name_of n
+named_in true n v = refl
+named_in false n v = refl
+
+pub marked : (limits : Limits) (d n v : Text) (b : Bool) (c : FoundCrate) (body : Vec _ Global) (old new : Trees) → body.items ≡ ok_body → SetsYanked c.id v b old new → IsLet d (action_of (marking b n v)) old → IsCrate (action_of (marking b n v)) c old → Serves limits (Some d) (marking b n v) old new (Done (reply.Done Json body))
+marked limits d n v b c body old new is sets passes its = done_served limits d (marking b n v) (reply.Done Json body) old new (λ ids s h.
     let allowed = let_so limits s d n v b (passes ids s h) in
-    let (m, at, same) = (finds ids s h).1 in
+    let (m, at, same) = (spelled_as ids s c n (subst (λ o. IsCrateOf ids s o c) (named_in b n v) (its ids s h))).1 in
     (allowed, says_ok b s d n v body is, subst (λ t. Stands t new) (marked_so s d n v m _ b at same (is_published limits s d n v b allowed)) (ids, sets ids s h)))

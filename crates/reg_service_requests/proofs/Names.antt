@@ -1,14 +1,21 @@
 -- Crates that are named by texts.
 use Rattle.std.proofs.Common.{◌≡◌, ◌&&◌, Bool, true, false, cond, Option, Some, None, refl, sym, ap, ◌∙◌}
-use Rattle.std.specs.Prelude.{string_bytes}
+use Rattle.std.specs.Prelude.{[], string_bytes, unwrap_or}
+use Rattle.std.specs.Option.{option_map}
 use Rattle.sqlite.specs.Tree.{Trees}
-use Rattle.reg_names.specs.Names.{canon, is_name, name_of}
+use Rattle.reg_names.specs.Names.{canon, is_name, name_at, name_of}
 use Rattle.reg_model.specs.Crates.{exists}
-use Rattle.reg_model.specs.Registry.{Text}
+use Rattle.reg_model.specs.Registry.{Registry, Text}
 use Rattle.reg_tables_sql.specs.declared.crates.Crate.{Crate}
 use Rattle.reg_tables_meaning.specs.Calls.{FindsCrate}
+use Rattle.reg_tables_meaning.specs.Stands.{Ids}
 use Rattle.reg_access.proofs.GrantLaw.{first_canon, there_is}
-use Rattle.reg_service_requests.specs.Named.{FindsNamed}
+use Rattle.reg_access.specs.Admitted.{IsCrateOf}
+use Rattle.reg_access.specs.declared.admission.FoundCrate.{FoundCrate}
+use Rattle.reg_service_requests.specs.Named.{FindsNamed, IsSpelled}
+
+same_some : {X : Type 0} {a b : X} → ◌≡◌ {A = Option X} (Some a) (Some b) → a ≡ b
+same_some e = cc
 
 pub is_given : (t n : Text) → name_of t ≡ Some n → (is_name t ≡ true) × (t ≡ n)
 is_given t n e = by (is_name t) refl e
@@ -39,3 +46,19 @@ named t n db (Some c) given finds = λ ids s h.
 -- the text is no name
 pub unnamed : (t : Text) (db : Trees) → name_of t ≡ None → FindsNamed t db None
 unnamed t db given ids s h = ap (λ b. b && exists s t) (is_not t given)
+
+-- the crate of an action, by the text that names it and by the path of its index file
+module _ (ids : Ids) (s : Registry) (c : FoundCrate) where
+  pub spelled_as : (t : Text) → IsCrateOf ids s (name_of t) c → (is_name t ≡ true) × IsSpelled ids t c.id
+  spelled_as t it = by (is_name t) refl it.alike
+    where
+      by : (b : Bool) → is_name t ≡ b → option_map canon (cond b (Some t) None) ≡ Some (canon c.name) → (is_name t ≡ true) × IsSpelled ids t c.id
+      by true is same = (is, (c.name, it.placed, sym (same_some same)))
+      by false is none = absurd cc none
+
+  pub spelled_at : (path : Text) → IsCrateOf ids s (name_at path) c → IsSpelled ids (unwrap_or (name_at path) []) c.id
+  spelled_at path it = by (name_at path) it.alike
+    where
+      by : (o : Option Text) → option_map canon o ≡ Some (canon c.name) → IsSpelled ids (unwrap_or o []) c.id
+      by None none = absurd cc none
+      by (Some n) same = (c.name, it.placed, sym (same_some same))

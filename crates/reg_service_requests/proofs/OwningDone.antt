@@ -1,7 +1,6 @@
 -- Requests that change owners are denied or done, where the rules on access let them pass.
 use Rattle.std.proofs.Common.{◌≡◌, ℕ, List, [], ◌∷◌, ◌++◌, Bool, true, false, cond, Option, Some, None, Ok, Err, refl, sym, ap, subst, ◌∙◌}
-use Rattle.std.proofs.lemmas.Bool.{and_parts}
-use Rattle.std.specs.Prelude.{Vec, ◌&&◌, map, unwrap_or}
+use Rattle.std.specs.Prelude.{Vec, map, unwrap_or}
 use Rattle.std.specs.declared.alloc.Global.{Global}
 use Rattle.std.specs.FinSet as finset
 use Rattle.std.specs.List.{find}
@@ -10,7 +9,8 @@ use Rattle.reg_body.specs.declared.limits.Limits.{Limits}
 use Rattle.reg_names.specs.Names.{canon, is_name, name_of}
 use Rattle.reg_model.specs.declared.rule.Rule.{Rule}
 use Rattle.reg_model.specs.declared.rule.Rule.TheVariants as rule
-use Rattle.reg_model.specs.Crates.{exists, owners}
+use Rattle.reg_model.specs.Actions.{crate_of}
+use Rattle.reg_model.specs.Crates.{owners}
 use Rattle.reg_model.specs.Effects.{caller, done, served}
 use Rattle.reg_model.specs.Events.{action_of}
 use Rattle.reg_model.specs.Facts.{access_facts, counts, lists}
@@ -24,12 +24,15 @@ use Rattle.reg_api_replies.specs.Replies.{Says}
 use Rattle.reg_api_replies.specs.declared.reply.Reply.{Reply}
 use Rattle.reg_api_replies.specs.declared.reply.Reply.TheVariants.{Denied}
 use Rattle.reg_tables_meaning.specs.Stands.{Holds, Ids, Stands, StandsBy}
-use Rattle.reg_service_requests.specs.Granted.{IsLet}
-use Rattle.reg_service_requests.specs.Named.{IsNamed}
+use Rattle.reg_access.specs.Admitted.{IsCrateOf}
+use Rattle.reg_access.specs.declared.admission.FoundCrate.{FoundCrate}
+use Rattle.reg_service_requests.specs.Granted.{IsCrate, IsLet}
+use Rattle.reg_service_requests.specs.Named.{IsSpelled}
 use Rattle.reg_service_requests.specs.Owning.{DoesOwning, FindsOwners, SaysOwning, leaving_rule, logins_rule, owning, with_owners}
 use Rattle.reg_service_requests.specs.Serves.{Serves}
 use Rattle.reg_service_requests.specs.declared.served.Served.{Served}
 use Rattle.reg_service_requests.specs.declared.served.Served.TheVariants.{Done, Seeks, Told}
+use Rattle.reg_service_requests.proofs.Names.{spelled_as}
 
 -- a rule behind those that are kept
 find_past : {X : Type 0} (p : X → Bool) (xs ys : List X) → find p xs ≡ None → find p (xs ++ ys) ≡ find p ys
@@ -44,9 +47,9 @@ else_none : (r : Option Rule) → or_else r None ≡ r
 else_none None = refl
 else_none (Some r) = refl
 
--- a text that is the name of a crate
-is_given : (n : Text) (b : Bool) → (is_name n && b) ≡ true → name_of n ≡ Some n
-is_given n b e = ap (λ c. cond c (Some n) None) (and_parts _ _ e).0
+named_in : (are : Bool) (n : Text) (logins : List Text) → crate_of (action_of (owning are n logins)) ≡ name_of n
+named_in true n logins = refl
+named_in false n logins = refl
 
 denied_by : (limits : Limits) (are : Bool) (s : Registry) (digest n : Text) (logins : List Text) → name_of n ≡ Some n → access (access_facts s digest (action_of (owning are n logins))) (action_of (owning are n logins)) ≡ None → denied limits s (Some digest) (owning are n logins) ≡ logins_rule are s n logins
 unfolding denied verdict access counts
@@ -75,25 +78,28 @@ same_owners : (are : Bool) (n m : Text) (accounts : List ℕ) (s : Registry) →
 same_owners true n m accounts s same = ap (λ c. record s { owners = finset.union s.owners (finset.from_list (map (λ id. (c, id)) accounts)) }) same
 same_owners false n m accounts s same = ap (λ c. record s { owners = finset.difference s.owners (finset.from_list (map (λ id. (c, id)) accounts)) }) same
 
-module _ (limits : Limits) (digest : Text) (are : Bool) (name : Text) (logins : List Text) (old : Trees) (let_pass : IsLet digest (action_of (owning are name logins)) old) where
-  judged : (ids : Ids) (s : Registry) (h : Holds ids s old) (id : ℕ) → IsNamed ids s name id → denied limits s (Some digest) (owning are name logins) ≡ logins_rule are s name logins
-  judged ids s h id is = denied_by limits are s digest name logins (is_given name (exists s name) is.0) (let_pass ids s h)
+module _ (limits : Limits) (digest : Text) (are : Bool) (name : Text) (logins : List Text) (old : Trees) (let_pass : IsLet digest (action_of (owning are name logins)) old) (c : FoundCrate) (its : IsCrate (action_of (owning are name logins)) c old) where
+  spelled : (ids : Ids) (s : Registry) → Holds ids s old → (is_name name ≡ true) × IsSpelled ids name c.id
+  spelled ids s h = spelled_as ids s c name (subst (λ o. IsCrateOf ids s o c) (named_in are name logins) (its ids s h))
 
-  pub owning_denied : (r : Rule) → FindsOwners are name logins old (Err r) → Serves limits (Some digest) (owning are name logins) old old (Told (Denied r))
+  judged : (ids : Ids) (s : Registry) (h : Holds ids s old) → denied limits s (Some digest) (owning are name logins) ≡ logins_rule are s name logins
+  judged ids s h = denied_by limits are s digest name logins (ap (λ b. cond b (Some name) None) (spelled ids s h).0) (let_pass ids s h)
+
+  pub owning_denied : (r : Rule) → FindsOwners are c.id logins old (Err r) → Serves limits (Some digest) (owning are name logins) old old (Told (Denied r))
   owning_denied r finds ids s h =
-      let it = finds ids s h in
-      let why = judged ids s h it.0.0 it.0.1 ∙ it.1 in
+      let why = judged ids s h ∙ finds ids s h name (spelled ids s h).1 in
       let rest : Outcome = (served s (caller s (Some digest)) (owning are name logins), done s (unwrap_or (caller s (Some digest)) 0) (owning are name logins)) in
       (ap (λ o. (unless_denied s o rest).0) why, ap (λ o. (unless_denied s o rest).1) why)
 
-  pub owning_done : (id : ℕ) (accounts : Vec ℕ Global) (new : Trees) (it : Served) → FindsOwners are name logins old (Ok (id, accounts)) → DoesOwning are id accounts.items old new it → Serves limits (Some digest) (owning are name logins) old new it
-  owning_done id accounts new (Told reply) finds does = absurd does
-  owning_done id accounts new (Seeks account) finds does = absurd does
-  owning_done id accounts new (Done reply) finds does = λ ids s h.
-      let it = finds ids s h in
-      let (n, at, same) = it.0.1 in
-      let free = judged ids s h id it.0 ∙ it.1 in
-      let whole = same_owners are n name accounts.items s same ∙ ap (λ xs. with_owners are name xs s) it.2 in
+  pub owning_done : (accounts : Vec ℕ Global) (new : Trees) (it : Served) → FindsOwners are c.id logins old (Ok accounts) → DoesOwning are c.id accounts.items old new it → Serves limits (Some digest) (owning are name logins) old new it
+  owning_done accounts new (Told reply) finds does = absurd does
+  owning_done accounts new (Seeks account) finds does = absurd does
+  owning_done accounts new (Done reply) finds does = λ ids s h.
+      let is = (spelled ids s h).1 in
+      let (n, at, same) = is in
+      let it = finds ids s h name is in
+      let free = judged ids s h ∙ it.0 in
+      let whole = same_owners are n name accounts.items s same ∙ ap (λ xs. with_owners are name xs s) it.1 in
       let stands : StandsBy ids (with_owners are n accounts.items s) new = does.1 ids s n h at (subst Sound (sym whole) (keeps_sound limits are s digest name logins h.sound free)) in
       let rest : Outcome = (served s (caller s (Some digest)) (owning are name logins), done s (unwrap_or (caller s (Some digest)) 0) (owning are name logins)) in
       subst (λ o. Says (owning are name logins) (unless_denied s o rest).0 reply × Stands (unless_denied s o rest).1 new) (sym free)

@@ -25,7 +25,8 @@ use Rattle.reg_tables_meaning.specs.Calls.{FindsAccount, ListsOwners}
 use Rattle.reg_tables_meaning.specs.Changes.{told_of}
 use Rattle.reg_tables_meaning.specs.Entries.{entry_of_account}
 use Rattle.reg_tables_meaning.specs.Stands.{Holds, Ids}
-use Rattle.reg_service_requests.specs.Owning.{AreLeaving, FindsAllKnown, FindsCrateId, FindsKnown, FindsOwners, IsIdOf, enabled_id, entries_of, id_among, leaving_rule}
+use Rattle.reg_service_requests.specs.Named.{IsSpelled}
+use Rattle.reg_service_requests.specs.Owning.{AreLeaving, FindsAllKnown, FindsKnown, FindsOwners, IsIdOf, enabled_id, entries_of, id_among, leaving_rule}
 
 -- an enabled account is known, and its id is that of its login
 pub known_one : (login : Text) (db : Trees) (found : Option Account) → FindsAccount login db found → FindsKnown login db (enabled_id found)
@@ -138,28 +139,27 @@ same_ids f g p same [] e = refl
 same_ids f g p same (l ∷ logins) e = let both = and_parts _ _ e in λ i. cons_option (same l both.0 i) (same_ids f g p same logins both.1 i)
 
 -- who joins a crate's owners, or that someone may not
-module _ (name : Text) (logins : List Text) (db : Trees) (id : ℕ) (is : FindsCrateId name db id) where
-  pub may_not_join : FindsAllKnown logins db None → FindsOwners true name logins db (Err rule.O2)
-  may_not_join all ids s h = ((id, is ids s h), ap (λ b. cond (not b) (Some rule.O2) None) (all ids s h))
+module _ (logins : List Text) (db : Trees) (id : ℕ) where
+  pub may_not_join : FindsAllKnown logins db None → FindsOwners true id logins db (Err rule.O2)
+  may_not_join all ids s h name is = ap (λ b. cond (not b) (Some rule.O2) None) (all ids s h)
 
-  pub joins : (accounts : Vec ℕ Global) → FindsAllKnown logins db (Some accounts) → FindsOwners true name logins db (Ok (id, accounts))
-  joins accounts all ids s h = (is ids s h, ap (λ b. cond (not b) (Some rule.O2) None) (all ids s h).0, (all ids s h).1)
+  pub joins : (accounts : Vec ℕ Global) → FindsAllKnown logins db (Some accounts) → FindsOwners true id logins db (Ok accounts)
+  joins accounts all ids s h name is = (ap (λ b. cond (not b) (Some rule.O2) None) (all ids s h).0, (all ids s h).1)
 
   -- who leaves them, or that someone may not
   module _ (list : List Account) (lists : ListsOwners id db list) where
-    are_owners : (ids : Ids) (s : Registry) → Holds ids s db → entries_of list ≡ owners s name
-    are_owners ids s h =
-        let (n, at, same) = (is ids s h).1 in
+    are_owners : (ids : Ids) (s : Registry) → Holds ids s db → (name : Text) → IsSpelled ids name id → entries_of list ≡ owners s name
+    are_owners ids s h name (n, at, same) =
         lists ids s h ∙ ap (λ o. told_of o [] (owners s)) at ∙ ap (λ c. filter (λ o. finset.contains s.owners (c, o.0)) (enumerate_from 1 s.accounts)) same
 
-    pub may_not_leave : (r : Rule) → AreLeaving list logins (Err r) → FindsOwners false name logins db (Err r)
-    may_not_leave r why ids s h = ((id, is ids s h), ap (λ os. leaving_rule os logins) (sym (are_owners ids s h)) ∙ why)
+    pub may_not_leave : (r : Rule) → AreLeaving list logins (Err r) → FindsOwners false id logins db (Err r)
+    may_not_leave r why ids s h name is = ap (λ os. leaving_rule os logins) (sym (are_owners ids s h name is)) ∙ why
 
-    pub leaves : (accounts : Vec ℕ Global) → AreLeaving list logins (Ok accounts) → FindsOwners false name logins db (Ok (id, accounts))
-    leaves accounts may ids s h =
-        let are = are_owners ids s h in
+    pub leaves : (accounts : Vec ℕ Global) → AreLeaving list logins (Ok accounts) → FindsOwners false id logins db (Ok accounts)
+    leaves accounts may ids s h name is =
+        let are = are_owners ids s h name is in
         let none = ap (λ os. leaving_rule os logins) (sym are) ∙ may.0 in
-        (is ids s h, none, may.1 ∙ ap (λ os. filter_map (id_among os) logins) are ∙ same_ids (id_among (owners s name)) (id_of_login s) (has_login (owners s name)) (λ l e. at_place l (λ o. owns s name o.0) s.accounts 1 h.sound.logins e) logins (all_there _ _ none))
+        (none, may.1 ∙ ap (λ os. filter_map (id_among os) logins) are ∙ same_ids (id_among (owners s name)) (id_of_login s) (has_login (owners s name)) (λ l e. at_place l (λ o. owns s name o.0) s.accounts 1 h.sound.logins e) logins (all_there _ _ none))
       where
         all_there : (b : Bool) (rest : Option Rule) → cond (not b) (Some rule.O3) rest ≡ None → b ≡ true
         all_there true rest e = refl

@@ -1,6 +1,6 @@
 -- A version that is published, of a new crate or of one that is there.
 use Rattle.std.proofs.Common.{◌≡◌, [], ℕ, List, length, Bool, true, false, not, nat_le, cond, Option, Some, None, is_some, refl, sym, ap, subst, ◌∙◌}
-use Rattle.std.specs.Prelude.{Vec, map, string_bytes, unwrap_or}
+use Rattle.std.specs.Prelude.{Vec, map, unwrap_or}
 use Rattle.std.specs.declared.alloc.Global.{Global}
 use Rattle.std.specs.FinSet as finset
 use Rattle.std.specs.List.{filter, find, list_any}
@@ -30,15 +30,16 @@ use Rattle.reg_model.proofs.Members.{any_in, in_any}
 use Rattle.reg_api_replies.specs.Bodies.{publish_body}
 use Rattle.reg_api_replies.specs.declared.head.Kind.TheVariants.{Json}
 use Rattle.reg_api_replies.specs.declared.reply.Reply.TheVariants as reply
-use Rattle.reg_tables_sql.specs.declared.crates.Crate.{Crate}
 use Rattle.reg_tables_sql.specs.declared.versions.Version.{Version}
-use Rattle.reg_tables_meaning.specs.Calls.{AddsFirst, AddsNext, FindsCrate, ListsVersions, Tells, published}
+use Rattle.reg_tables_meaning.specs.Calls.{AddsFirst, AddsNext, ListsVersions, Tells, published}
 use Rattle.reg_tables_meaning.specs.Changes.{told_of}
 use Rattle.reg_tables_meaning.specs.declared.crates.NewVersion.{NewVersion}
 use Rattle.reg_tables_meaning.specs.Entries.{shown_version, version_shown}
 use Rattle.reg_tables_meaning.specs.Stands.{Stands}
-use Rattle.reg_service_requests.specs.Granted.{IsLet}
-use Rattle.reg_service_requests.specs.Named.{FindsViewer}
+use Rattle.reg_access.specs.Admitted.{IsFoundOf}
+use Rattle.reg_access.specs.declared.admission.Caller.{Caller}
+use Rattle.reg_access.specs.declared.admission.FoundCrate.{FoundCrate}
+use Rattle.reg_service_requests.specs.Granted.{IsCaller, IsLet}
 use Rattle.reg_service_requests.specs.Publications.{IsNew, IsOf, MakesCrate, PublishesFirst, PublishesNext, TellsFull, TellsFullOf}
 use Rattle.reg_service_requests.specs.Serves.{Serves}
 use Rattle.reg_service_requests.specs.declared.served.Served.{Served}
@@ -96,9 +97,9 @@ unfolding done
 next_done s d p there = ap (λ b. record (with_publication p s) { owners = cond b s.owners (finset.insert s.owners (canon p.name, account_of s d)) }) (sym there)
 
 -- what the tables tell
-pub new_crate : (d : Text) (p : Publication) (owner : ℕ) (v : NewVersion) (id : ℕ) (body : Vec _ Global) (old new : Trees) → published p.name v ≡ p → body.items ≡ publish_body → FindsViewer d old owner → AddsFirst p.name owner v old new id
-    → MakesCrate d p old new (Done (reply.Done Json body))
-new_crate d p owner v id body old new is text who adds limits fresh allowed = done_served limits d (Publish p) (reply.Done Json body) old new (λ ids s h.
+pub new_crate : (p : Publication) (owner : ℕ) (v : NewVersion) (id : ℕ) (body : Vec _ Global) (old new : Trees) → published p.name v ≡ p → body.items ≡ publish_body → AddsFirst p.name owner v old new id
+    → MakesCrate owner p old new (Done (reply.Done Json body))
+new_crate p owner v id body old new is text adds limits d who fresh allowed = done_served limits d (Publish p) (reply.Done Json body) old new (λ ids s h.
     let none = is_there s p.name None (fresh ids s h) in (
       allowed ids s h,
       (refl, refl, text),
@@ -121,12 +122,13 @@ module _ (limits : Limits) (d : Text) (p : Publication) (old : Trees) where
       ∙ ap (λ c. cond (nat_le limits.versions (length (filter (λ q. bytes_eq (canon q.name) c) s.publications))) (Some rule.L1) None) (sym (spelled s.publications p.name n h.sound.publications at).1)
       ∙ ap (λ b. cond b (Some rule.L1) None) (sym (full ids s h n place))
 
-  -- the first version of a crate
-  pub first_refused : TellsFull limits old true → PublishesFirst limits d p old old (Told (reply.Denied rule.L2))
-  first_refused full fresh passes = told_denied limits d (Publish p) rule.L2 old old (judged_first true full fresh passes)
+-- the first version of a crate
+module _ (limits : Limits) (owner : ℕ) (p : Publication) (old : Trees) where
+  pub first_refused : TellsFull limits old true → PublishesFirst limits owner p old old (Told (reply.Denied rule.L2))
+  first_refused full d who fresh passes = told_denied limits d (Publish p) rule.L2 old old (judged_first limits d p old true full fresh passes)
 
-  pub first_let : (new : Trees) (it : Served) → TellsFull limits old false → MakesCrate d p old new it → PublishesFirst limits d p old new it
-  first_let new it full makes fresh passes = makes limits fresh (judged_first false full fresh passes)
+  pub first_let : (new : Trees) (it : Served) → TellsFull limits old false → MakesCrate owner p old new it → PublishesFirst limits owner p old new it
+  first_let new it full makes d who fresh passes = makes limits d who fresh (judged_first limits d p old false full fresh passes)
 
 -- a further version
 module _ (limits : Limits) (p : Publication) (id : ℕ) (old : Trees) where
@@ -144,10 +146,16 @@ module _ (limits : Limits) (p : Publication) (id : ℕ) (old : Trees) where
         subst (λ t. Stands t new) (ap (λ q. with_publication q s) is ∙ next_done s d p (is_there s p.name (Some n) at)) (_, adds ids s p.name h (place ∙ ap Some same) fresh),
       ))
 
--- the crate that has the name, if one has
-module _ (limits : Limits) (d : Text) (p : Publication) (old new : Trees) (it : Served) where
-  pub of_new : FindsCrate (canon p.name) old None → PublishesFirst limits d p old new it → IsLet d (action_of (Publish p)) old → Serves limits (Some d) (Publish p) old new it
-  of_new finds publishes = publishes (λ ids s h. sym ((finds ids s h).0 p.name refl))
+-- the crate that was found, if one was
+module _ (limits : Limits) (caller : Caller) (p : Publication) (old new : Trees) (it : Served) where
+  abbrev Granted : Type 0
+  Granted = (d : Text) → IsLet d (action_of (Publish p)) old → IsCaller d (action_of (Publish p)) caller old → Serves limits (Some d) (Publish p) old new it
 
-  pub of_known : (c : Crate) → FindsCrate (canon p.name) old (Some c) → PublishesNext limits c.id p old new it → IsLet d (action_of (Publish p)) old → Serves limits (Some d) (Publish p) old new it
-  of_known c finds publishes = publishes d (λ ids s h. let it = finds ids s h in (string_bytes c.name, sym (it.0 p.name refl), it.1))
+  found_is : (o : Option FoundCrate) → caller.found ≡ o → (d : Text) → IsCaller d (action_of (Publish p)) caller old → Tells (λ ids s. IsFoundOf ids s (Some p.name) o) old
+  found_is o e d who ids s h = subst (λ f. IsFoundOf ids s (Some p.name) f) e (who ids s h).found
+
+  pub of_new : caller.found ≡ None → PublishesFirst limits caller.account p old new it → Granted
+  of_new none publishes d passes who = publishes d (λ ids s h. (who ids s h).account) (found_is None none d who) passes
+
+  pub of_known : (c : FoundCrate) → caller.found ≡ Some c → PublishesNext limits c.id p old new it → Granted
+  of_known c some publishes d passes who = publishes d (λ ids s h. let is = found_is (Some c) some d who ids s h in (c.name, is.first, is.placed)) passes

@@ -1,6 +1,6 @@
 -- What the tables tell of a read is what it is served.
 use Rattle.std.proofs.Common.{◌≡◌, List, [], ◌∷◌, ℕ, Bool, true, false, cond, map, Some, None, unwrap_or, refl, sym, ap, ◌∙◌}
-use Rattle.std.specs.Prelude.{Vec, string_bytes}
+use Rattle.std.specs.Prelude.{Vec}
 use Rattle.std.specs.declared.alloc.Global.{Global}
 use Rattle.std.specs.FinSet as finset
 use Rattle.std.specs.List.{enumerate_from, filter, find}
@@ -22,52 +22,40 @@ use Rattle.reg_api_replies.specs.declared.head.Kind.TheVariants.{Archive, Json, 
 use Rattle.reg_api_replies.specs.declared.reply.Reply.TheVariants.{Done}
 use Rattle.reg_tables_schema.proofs.Queries.{maps_twice}
 use Rattle.reg_tables_sql.specs.declared.accounts.Account.{Account}
-use Rattle.reg_tables_sql.specs.declared.crates.Crate.{Crate}
 use Rattle.reg_tables_sql.specs.declared.versions.Version.{Version}
-use Rattle.reg_tables_meaning.specs.Calls.{FindsArchive, FindsCrate, ListsOwners, ListsVersions}
+use Rattle.reg_tables_meaning.specs.Calls.{FindsArchive, ListsOwners, ListsVersions}
 use Rattle.reg_tables_meaning.specs.Changes.{told_of}
 use Rattle.reg_tables_meaning.specs.Entries.{ShownVersion, entry_of_account, shown_version, version_shown}
 use Rattle.reg_tables_meaning.specs.Stands.{Ids, spelling_at}
 use Rattle.reg_tables_meaning.proofs.CrateLemmas.{same_bytes}
-use Rattle.reg_access.proofs.GrantLaw.{first_canon}
-use Rattle.reg_service_requests.specs.Granted.{IsLet}
-use Rattle.reg_service_requests.specs.Named.{FindsNamed}
-use Rattle.reg_service_requests.specs.Reads.{ListsVersionsAt, TellsBase, entry_of_version, owner_of_account}
+use Rattle.reg_access.specs.declared.admission.FoundCrate.{FoundCrate}
+use Rattle.reg_service_requests.specs.Granted.{IsCrate, IsLet}
+use Rattle.reg_service_requests.specs.Named.{IsSpelled}
+use Rattle.reg_service_requests.specs.Reads.{TellsBase, entry_of_version, owner_of_account}
 use Rattle.reg_service_requests.specs.Serves.{Serves}
 use Rattle.reg_service_requests.specs.declared.served.Served.TheVariants.{Told}
 use Rattle.reg_service_requests.proofs.Judging.{denied_by_others, told_served}
-
--- the crate with this id has a spelling of this name
-abbrev IsSpelled : Ids → Text → ℕ → Type 0
-IsSpelled ids n id = (m : Text) × (spelling_at ids id ≡ Some m) × (canon m ≡ canon n)
+use Rattle.reg_service_requests.proofs.Names.{spelled_as, spelled_at}
 
 -- what is told of a crate by its canonical text is the same by its id
 by_canon : {X : Type 0} (tell : Text → X) (nothing : X) (ids : Ids) (n : Text) (id : ℕ) → IsSpelled ids n id → told_of (spelling_at ids id) nothing (λ name. tell (canon name)) ≡ tell (canon n)
 by_canon tell nothing ids n id (m, at, same) = ap (λ o. told_of o nothing (λ name. tell (canon name))) at ∙ ap tell same
 
-pub archive_served : (n v : Text) (c : Crate) (archive : Vec ℕ Global) (db : Trees) → FindsNamed n db (Some c) → FindsArchive c.id v db (Some archive)
-    → (limits : Limits) (digest : Text) → IsLet digest (action_of (Download n v)) db → Serves limits (Some digest) (Download n v) db db (Told (Done Archive archive))
+pub archive_served : (n v : Text) (c : FoundCrate) (archive : Vec ℕ Global) (db : Trees) → FindsArchive c.id v db (Some archive)
+    → (limits : Limits) (digest : Text) → IsLet digest (action_of (Download n v)) db → IsCrate (action_of (Download n v)) c db → Serves limits (Some digest) (Download n v) db db (Told (Done Archive archive))
 unfolding done
-archive_served n v c archive db named found limits digest lets = told_served limits digest (Download n v) (Done Archive archive) db db (λ ids s h.
+archive_served n v c archive db found limits digest lets is = told_served limits digest (Download n v) (Done Archive archive) db db (λ ids s h.
     let archive_by = λ (text : Text). option_map (λ (p : Publication). p.archive) (find (λ p. bytes_eq p.version v) (filter (λ p. bytes_eq (canon p.name) text) s.publications)) in
-    let same = found ids s h ∙ by_canon archive_by None ids n c.id (named ids s h).1 in
+    let same = found ids s h ∙ by_canon archive_by None ids n c.id (spelled_as ids s c n (is ids s h)).1 in
     (denied_by_others limits digest (Download n v) s (lets ids s h), (refl, refl, ap (λ o. unwrap_or o []) same), refl))
 
-pub owners_served : (n : Text) (c : Crate) (list : List Account) (text : Vec ℕ Global) (db : Trees) → text.items ≡ owners_body (map owner_of_account list) → FindsNamed n db (Some c) → ListsOwners c.id db list
-    → (limits : Limits) (digest : Text) → IsLet digest (action_of (ListOwners n)) db → Serves limits (Some digest) (ListOwners n) db db (Told (Done Json text))
+pub owners_served : (n : Text) (c : FoundCrate) (list : List Account) (text : Vec ℕ Global) (db : Trees) → text.items ≡ owners_body (map owner_of_account list) → ListsOwners c.id db list
+    → (limits : Limits) (digest : Text) → IsLet digest (action_of (ListOwners n)) db → IsCrate (action_of (ListOwners n)) c db → Serves limits (Some digest) (ListOwners n) db db (Told (Done Json text))
 unfolding done
-owners_served n c list text db made named lists limits digest lets = told_served limits digest (ListOwners n) (Done Json text) db db (λ ids s h.
+owners_served n c list text db made lists limits digest lets is = told_served limits digest (ListOwners n) (Done Json text) db db (λ ids s h.
     let owners_by = λ (text : Text). filter (λ o. finset.contains s.owners (text, o.0)) (enumerate_from 1 s.accounts) in
-    let same = lists ids s h ∙ by_canon owners_by [] ids n c.id (named ids s h).1 in
+    let same = lists ids s h ∙ by_canon owners_by [] ids n c.id (spelled_as ids s c n (is ids s h)).1 in
     (denied_by_others limits digest (ListOwners n) s (lets ids s h), (refl, refl, made ∙ ap owners_body (sym (maps_twice entry_of_account owner_entry list) ∙ ap (map owner_entry) same)), refl))
-
--- the versions by the path of their index file
-pub versions_at : (path n : Text) (c : Crate) (list : List Version) (db : Trees) → name_at path ≡ Some n → FindsCrate (canon n) db (Some c) → ListsVersions c.id db list → ListsVersionsAt path db list
-versions_at path n c list db given finds lists ids s h =
-    let it = finds ids s h in
-    let name = string_bytes c.name in
-    let shown_by = λ (text : Text). map (version_shown s.yanked) (filter (λ p. bytes_eq (canon p.name) text) s.publications) in
-    lists ids s h ∙ by_canon shown_by [] ids n c.id (name, it.1, first_canon s n name (sym (it.0 n refl))) ∙ ap (λ o. map (version_shown s.yanked) (versions s (unwrap_or o []))) (sym given)
 
 abbrev shown_entry : ShownVersion → Text × Bool
 shown_entry v = (v.stem, v.yanked)
@@ -87,11 +75,13 @@ entries_are s n (p ∷ ps) = one (collides p.name n) refl (filter (λ p. collide
 pub entries_told : (s : Registry) (n : Text) (list : List Version) → map shown_version list ≡ map (version_shown s.yanked) (versions s n) → map entry_of_version list ≡ map (λ p. (p.stem, is_yanked s n p.version)) (versions s n)
 entries_told s n list lists = sym (maps_twice shown_version shown_entry list) ∙ ap (map shown_entry) lists ∙ entries_are s n s.publications
 
-pub index_served : (path : Text) (list : List Version) (text : Vec ℕ Global) (db : Trees) → text.items ≡ file_text (map entry_of_version list) → ListsVersionsAt path db list
-    → (limits : Limits) (digest : Text) → IsLet digest (action_of (Index path)) db → Serves limits (Some digest) (Index path) db db (Told (Done Plain text))
+pub index_served : (path : Text) (c : FoundCrate) (list : List Version) (text : Vec ℕ Global) (db : Trees) → text.items ≡ file_text (map entry_of_version list) → ListsVersions c.id db list
+    → (limits : Limits) (digest : Text) → IsLet digest (action_of (Index path)) db → IsCrate (action_of (Index path)) c db → Serves limits (Some digest) (Index path) db db (Told (Done Plain text))
 unfolding done
-index_served path list text db made lists limits digest lets = told_served limits digest (Index path) (Done Plain text) db db (λ ids s h.
-    let same = entries_told s (unwrap_or (name_at path) []) list (lists ids s h) in
+index_served path c list text db made lists limits digest lets is = told_served limits digest (Index path) (Done Plain text) db db (λ ids s h.
+    let n = unwrap_or (name_at path) [] in
+    let shown_by = λ (text : Text). map (version_shown s.yanked) (filter (λ p. bytes_eq (canon p.name) text) s.publications) in
+    let same = entries_told s n list (lists ids s h ∙ by_canon shown_by [] ids n c.id (spelled_at ids s c path (is ids s h))) in
     (denied_by_others limits digest (Index path) s (lets ids s h), (refl, refl, made ∙ ap file_text same), refl))
 
 pub config_served : (base : Text) (text : Vec ℕ Global) (db : Trees) → text.items ≡ config_text base → TellsBase db base

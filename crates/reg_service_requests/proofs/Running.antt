@@ -43,6 +43,11 @@ module _ {S : Type 0} (g : Ghosts S) where
   pub runs_alone : {T U E F X : Type 0} {Q : Trees → Trees → U → Type 0} (z : T) (y : U) (a b : Work S) → IsCall {E = E} g (Ok z) a b → (HasCleanDisk (seen g b) → X) → (X → Q (rows_seen g a) (rows_seen g b) y) → Runs {E = F} g a b (Ok y) Q
   runs_alone z y a b call carried made = record { told = λ clean. made (carried clean); leaves = called_ok g z y a b call }
 
+  -- what is run means something else too
+  pub runs_as : {T E : Type 0} {P Q : Trees → Trees → T → Type 0} (r : Result T E) (a b : Work S) → ((x : T) → P (rows_seen g a) (rows_seen g b) x → Q (rows_seen g a) (rows_seen g b) x) → Runs g a b r P → Runs g a b r Q
+  runs_as (Ok x) a b made one = record { told = λ clean. made x (one.told clean); leaves = one.leaves }
+  runs_as (Err e) a b made one = record { told = λ clean. tt; leaves = one.leaves }
+
   -- the answer means something else too
   pub asks_as : {T E : Type 0} {P Q : Trees → T → Type 0} (r : Result T E) (a b : Work S) → ((x : T) → P (rows_seen g a) x → Q (rows_seen g a) x) → Asks g a b r P → Asks g a b r Q
   asks_as (Ok x) a b made one = record { told = λ clean. made x (one.told clean); same = one.same; leaves = one.leaves }

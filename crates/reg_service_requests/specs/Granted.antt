@@ -2,8 +2,11 @@
 use Rattle.std.specs.Prelude.{◌≡◌, Bool, true, false, None, Some, Result}
 use Rattle.sqlite.specs.Tree.{Trees}
 use Rattle.sqlite_trees.specs.declared.store.Store.{Ghosts}
+use Rattle.reg_access.specs.Admitted.{IsCallerOf, IsCrateOf}
+use Rattle.reg_access.specs.declared.admission.Caller.{Caller}
+use Rattle.reg_access.specs.declared.admission.FoundCrate.{FoundCrate}
 use Rattle.reg_body.specs.declared.limits.Limits.{Limits}
-use Rattle.reg_model.specs.Actions.{Action}
+use Rattle.reg_model.specs.Actions.{Action, crate_of}
 use Rattle.reg_model.specs.Events.{Asked, action_of}
 use Rattle.reg_model.specs.Events.Asked.{Unyank, Yank}
 use Rattle.reg_model.specs.Facts.{access_facts}
@@ -20,19 +23,36 @@ use Rattle.reg_service_requests.specs.declared.served.Served.{Served}
 abbrev pub IsLet : Text → Action → Trees → Type 0
 IsLet digest a db = Tells (λ ids s. access (access_facts s digest a) a ≡ None) db
 
--- what they let pass is served, under these limits and with this token
-abbrev pub GrantsTo : {S : Type 0} → Limits → Text → Ghosts S → Asked → Result Served StoreFault
+-- this is who asks with the token, and the crate of the action
+abbrev pub IsCaller : Text → Action → Caller → Trees → Type 0
+IsCaller digest a caller db = Tells (λ ids s. IsCallerOf ids s digest a caller) db
+
+-- this is the crate of an action
+abbrev pub IsCrate : Action → FoundCrate → Trees → Type 0
+IsCrate a it db = Tells (λ ids s. IsCrateOf ids s (crate_of a) it) db
+
+-- what they let pass is served to this caller, under these limits, with any token
+abbrev pub GrantsTo : {S : Type 0} → Limits → Caller → Ghosts S → Asked → Result Served StoreFault
     → Work S → Work S → Type 0
-GrantsTo limits digest g asked r old new =
-    Runs g old new r (λ before after it. IsLet digest (action_of asked) before
+GrantsTo limits caller g asked r old new =
+    Runs g old new r (λ before after it. (digest : Text) → IsLet digest (action_of asked) before
+    → IsCaller digest (action_of asked) caller before
     → Serves limits (Some digest) asked before after it)
 
--- it is so under any limits, with any token
+-- it is so under any limits, to any caller
 abbrev pub Grants : {S : Type 0} → Ghosts S → Asked → Result Served StoreFault → Work S → Work S
     → Type 0
 Grants g asked r old new =
     Runs g old new r (λ before after it. (limits : Limits) (digest : Text)
     → IsLet digest (action_of asked) before → Serves limits (Some digest) asked before after it)
+
+-- it is so of this crate, by whichever text the request names it
+abbrev pub GrantsOf : {S : Type 0} → FoundCrate → Ghosts S → (Text → Asked)
+    → Result Served StoreFault → Work S → Work S → Type 0
+GrantsOf found g asked r old new =
+    Runs g old new r (λ before after it. (text : Text) (limits : Limits) (digest : Text)
+    → IsLet digest (action_of (asked text)) before → IsCrate (action_of (asked text)) found before
+    → Serves limits (Some digest) (asked text) before after it)
 
 -- the request that yanks a version, or takes that back
 abbrev pub marking : Bool → Text → Text → Asked

@@ -8,10 +8,13 @@ use Rattle.reg_tables_sql.specs.declared.crates.Crate.{Crate}
 use Rattle.reg_tables_meaning.specs.Calls.{Tells}
 use Rattle.reg_tables_meaning.specs.Stands.{Ids, spelling_at}
 
--- the crate with this id is named by a text, in one of its spellings
+-- the crate with this id has a spelling of a name
+abbrev pub IsSpelled : Ids → Text → ℕ → Type 0
+IsSpelled ids name id = (n : Text) × (spelling_at ids id ≡ Some n) × (canon n ≡ canon name)
+
+-- it is named by a text, in one of its spellings
 abbrev pub IsNamed : Ids → Registry → Text → ℕ → Type 0
-IsNamed ids s text id = ((is_name text && exists s text) ≡ true)
-    × ((n : Text) × (spelling_at ids id ≡ Some n) × (canon n ≡ canon text))
+IsNamed ids s text id = ((is_name text && exists s text) ≡ true) × IsSpelled ids text id
 
 -- the crate that a text names; none where the text is no name or no crate has it
 abbrev pub FindsNamed : Text → Trees → Option Crate → Type 0
@@ -19,5 +22,5 @@ FindsNamed text db None = Tells (λ ids s. (is_name text && exists s text) ≡ f
 FindsNamed text db (Some it) = Tells (λ ids s. IsNamed ids s text it.id) db
 
 -- the account of the token with this digest
-abbrev pub FindsViewer : Text → Trees → ℕ → Type 0
-FindsViewer digest db id = Tells (λ ids s. viewer s digest ≡ Some id) db
+abbrev pub IsViewer : Text → ℕ → Trees → Type 0
+IsViewer digest id db = Tells (λ ids s. viewer s digest ≡ Some id) db

@@ -25,7 +25,7 @@ use Rattle.reg_tables_meaning.specs.Calls.{Tells, Turns}
 use Rattle.reg_tables_meaning.specs.Changes.{no_owner_at, owner_at}
 use Rattle.reg_tables_meaning.specs.Entries.{entry_of_account}
 use Rattle.reg_tables_meaning.specs.Stands.{Holds, Ids, StandsBy, spelling_at}
-use Rattle.reg_service_requests.specs.Named.{IsNamed}
+use Rattle.reg_service_requests.specs.Named.{IsSpelled}
 use Rattle.reg_service_requests.specs.declared.served.Served.{Served}
 use Rattle.reg_service_requests.specs.declared.served.Served.TheVariants.{Done}
 
@@ -84,17 +84,12 @@ abbrev pub logins_rule : Bool → Registry → Text → List Text → Option Rul
 logins_rule true s n logins = if not (list_all (is_known s) logins) then Some rule.O2 else None
 logins_rule false s n logins = leaving_rule (owners s n) logins
 
--- the crate that is named
-abbrev pub FindsCrateId : Text → Trees → ℕ → Type 0
-FindsCrateId name db id = Tells (λ ids s. IsNamed ids s name id) db
-
--- the crate and the accounts of the request, or the rule on logins that it breaks
-abbrev pub FindsOwners : Bool → Text → List Text → Trees → Result (ℕ × Vec ℕ Global) Rule → Type 0
-FindsOwners are name logins db (Err r) =
-    Tells (λ ids s. ((id : ℕ) × IsNamed ids s name id)
-    × (logins_rule are s name logins ≡ Some r)) db
-FindsOwners are name logins db (Ok (id, accounts)) =
-    Tells (λ ids s. IsNamed ids s name id × (logins_rule are s name logins ≡ None)
+-- the accounts of the request, or the rule on logins that it breaks, where the crate has this id
+abbrev pub FindsOwners : Bool → ℕ → List Text → Trees → Result (Vec ℕ Global) Rule → Type 0
+FindsOwners are id logins db (Err r) =
+    Tells (λ ids s. (n : Text) → IsSpelled ids n id → logins_rule are s n logins ≡ Some r) db
+FindsOwners are id logins db (Ok accounts) =
+    Tells (λ ids s. (n : Text) → IsSpelled ids n id → (logins_rule are s n logins ≡ None)
     × (accounts.items ≡ ids_of s logins)) db
 
 -- owners with these accounts of a crate, or without them

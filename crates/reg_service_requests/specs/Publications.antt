@@ -10,6 +10,7 @@ use Rattle.reg_model.specs.Registry.{Publication, Text}
 use Rattle.reg_tables_meaning.specs.Calls.{ReachesCrates, Tells}
 use Rattle.reg_tables_meaning.specs.Stands.{spelling_at}
 use Rattle.reg_service_requests.specs.Granted.{IsLet}
+use Rattle.reg_service_requests.specs.Named.{IsViewer}
 use Rattle.reg_service_requests.specs.Serves.{Serves}
 use Rattle.reg_service_requests.specs.declared.served.Served.{Served}
 
@@ -31,16 +32,18 @@ TellsFullOf limits id db full = Tells
     (λ ids s. (n : Text) → spelling_at ids id ≡ Some n
     → full ≡ nat_le limits.versions (length (versions s n))) db
 
--- a crate is made, where nothing denies it
-abbrev pub MakesCrate : Text → Publication → Trees → Trees → Served → Type 0
-MakesCrate digest p old new it = (limits : Limits) → IsNew p old
-    → Tells (λ ids s. denied limits s (Some digest) (Publish p) ≡ None) old
+-- a crate is made that this account owns, where nothing denies it
+abbrev pub MakesCrate : ℕ → Publication → Trees → Trees → Served → Type 0
+MakesCrate owner p old new it = (limits : Limits) (digest : Text) → IsViewer digest owner old
+    → IsNew p old → Tells (λ ids s. denied limits s (Some digest) (Publish p) ≡ None) old
     → Serves limits (Some digest) (Publish p) old new it
 
--- the first version of a crate is published, and a further one of the crate with this id
-abbrev pub PublishesFirst : Limits → Text → Publication → Trees → Trees → Served → Type 0
-PublishesFirst limits digest p old new it =
-    IsNew p old → IsLet digest (action_of (Publish p)) old
+-- the first version of a crate is published for this account, and a further one of the crate with
+-- this id
+abbrev pub PublishesFirst : Limits → ℕ → Publication → Trees → Trees → Served → Type 0
+PublishesFirst limits owner p old new it =
+    (digest : Text) → IsViewer digest owner old → IsNew p old
+    → IsLet digest (action_of (Publish p)) old
     → Serves limits (Some digest) (Publish p) old new it
 
 abbrev pub PublishesNext : Limits → ℕ → Publication → Trees → Trees → Served → Type 0

@@ -1,6 +1,6 @@
 //! The owners of crates are changed.
 
-ghost use Rattle.std.specs.Prelude.{◌≡◌, IfOk, false, map, string_bytes, true};
+ghost use Rattle.std.specs.Prelude.{◌≡◌, IfOk, false, map, string_bytes};
 ghost use Rattle.std.specs.List.{find, list_all, list_any};
 ghost use Rattle.std.specs.Option.{option_map};
 ghost use Rattle.std.specs.Str.{bytes_eq};
@@ -8,29 +8,17 @@ ghost use Rattle.reg_model.specs.Events.Asked.{AddOwners, RemoveOwners};
 ghost use Rattle.reg_model.specs.Facts.{has_login as has_login_of};
 ghost use Rattle.reg_tables.specs.Works.{Carried, IsAtWork, IsCall, has_failed, rows_seen};
 ghost use Rattle.reg_access.specs.Asks.{Asks};
-ghost use Rattle.reg_service_requests.specs.Granted.{Grants};
-ghost use Rattle.reg_service_requests.specs.Owning.{AreIdsOf, AreLeaving, DoesOwning, FindsAllKnown, FindsCrateId, FindsKnown, FindsOwners, SaysOwning, SetsOwner, SetsOwners, enabled_id, entries_of, id_among};
+ghost use Rattle.reg_service_requests.specs.Granted.{GrantsOf};
+ghost use Rattle.reg_service_requests.specs.Owning.{AreIdsOf, AreLeaving, DoesOwning, FindsAllKnown, FindsKnown, SaysOwning, SetsOwner, SetsOwners, enabled_id, entries_of, id_among};
 ghost use Rattle.reg_service_requests.specs.Runs.{Runs};
 
-use crate::naming::find_named;
 use crate::served::Served;
+use reg_access::FoundCrate;
 use reg_api_replies::{Kind, Reply, owners_added_body, owners_removed_body};
 use reg_policy::{Rule, same_text};
 use reg_tables::{Account, StoreFault, Work};
 use sqlite::Alter;
 use std::alloc::{AllocError, Global};
-
-/// The id of the crate that a request names. That it is there is known: it is a fault otherwise.
-fn find_crate<S: Alter>(work: &mut Work<'_, S>, name: &str) -> Result<u32, StoreFault>
-    requires at_work { IsAtWork S.Store work.old }
-    requires goes_on { has_failed work.old ≡ false }
-    ensures { Asks S.Store work.old work.new result (FindsCrateId name.now) }
-{
-    match find_named(work, name)? {
-        Some(found) => Ok(found.id),
-        None => work.fail(),
-    }
-}
 
 /// The id of an account that is enabled.
 fn id_if_enabled(found: &Option<Account>) -> Option<u32>
@@ -71,25 +59,6 @@ fn find_all_known<S: Alter>(
         }
     }
     Ok(Some(ids))
-}
-
-/// The crate and the accounts that become its owners; they are all to be enabled.
-fn find_joining<S: Alter>(
-    alloc: Global,
-    work: &mut Work<'_, S>,
-    name: &str,
-    logins: &[&str],
-) -> Result<Result<(u32, Vec<u32>), Rule>, StoreFault>
-    requires at_work { IsAtWork S.Store work.old }
-    requires goes_on { has_failed work.old ≡ false }
-    ensures { Asks S.Store work.old work.new result
-        (FindsOwners true name.now (map (λ l. l.now) logins.now)) }
-{
-    let id = find_crate(work, name)?;
-    match find_all_known(alloc, work, logins)? {
-        Some(accounts) => Ok(Ok((id, accounts))),
-        None => Ok(Err(Rule::O2)),
-    }
 }
 
 fn has_login(owner: &Account, login: &str) -> bool
@@ -155,27 +124,6 @@ fn leaving(
         return Ok(Err(Rule::O4));
     }
     Ok(Ok(ids))
-}
-
-/// The crate and the accounts that leave its owners.
-fn find_leaving<S: Alter>(
-    alloc: Global,
-    work: &mut Work<'_, S>,
-    name: &str,
-    logins: &[&str],
-) -> Result<Result<(u32, Vec<u32>), Rule>, StoreFault>
-    requires at_work { IsAtWork S.Store work.old }
-    requires goes_on { has_failed work.old ≡ false }
-    ensures { Asks S.Store work.old work.new result
-        (FindsOwners false name.now (map (λ l. l.now) logins.now)) }
-{
-    let id = find_crate(work, name)?;
-    let owners = work.owners_of(alloc, id)?;
-    match leaving(alloc, &owners, logins) {
-        Ok(Ok(accounts)) => Ok(Ok((id, accounts))),
-        Ok(Err(rule)) => Ok(Err(rule)),
-        Err(_) => work.fail(),
-    }
 }
 
 /// Makes an account an owner of a crate, or no longer.
@@ -250,17 +198,17 @@ fn change_owners<S: Alter>(
 pub(crate) fn add_owners<S: Alter>(
     alloc: Global,
     work: &mut Work<'_, S>,
-    name: &str,
+    found: &FoundCrate,
     logins: &[&str],
 ) -> Result<Served, StoreFault>
     requires at_work { IsAtWork S.Store work.old }
     requires goes_on { has_failed work.old ≡ false }
-    ensures { Grants S.Store (AddOwners name.now (map (λ l. l.now) logins.now))
+    ensures { GrantsOf found.now S.Store (λ name. AddOwners name (map (λ l. l.now) logins.now))
         result work.old work.new }
 {
-    match find_joining(alloc, work, name, logins)? {
-        Ok((id, accounts)) => change_owners(alloc, work, id, &accounts, true),
-        Err(rule) => Ok(Served::Told(Reply::Denied(rule))),
+    match find_all_known(alloc, work, logins)? {
+        Some(accounts) => change_owners(alloc, work, found.id, &accounts, true),
+        None => Ok(Served::Told(Reply::Denied(Rule::O2))),
     }
 }
 
@@ -268,16 +216,17 @@ pub(crate) fn add_owners<S: Alter>(
 pub(crate) fn remove_owners<S: Alter>(
     alloc: Global,
     work: &mut Work<'_, S>,
-    name: &str,
+    found: &FoundCrate,
     logins: &[&str],
 ) -> Result<Served, StoreFault>
-    requires at_work { IsAtWork S.Store work.old }
-    requires goes_on { has_failed work.old ≡ false }
-    ensures { Grants S.Store (RemoveOwners name.now (map (λ l. l.now) logins.now))
+    requires { IsAtWork S.Store work.old }
+    ensures { GrantsOf found.now S.Store (λ name. RemoveOwners name (map (λ l. l.now) logins.now))
         result work.old work.new }
 {
-    match find_leaving(alloc, work, name, logins)? {
-        Ok((id, accounts)) => change_owners(alloc, work, id, &accounts, false),
-        Err(rule) => Ok(Served::Told(Reply::Denied(rule))),
+    let owners = work.owners_of(alloc, found.id)?;
+    match leaving(alloc, &owners, logins) {
+        Ok(Ok(accounts)) => change_owners(alloc, work, found.id, &accounts, false),
+        Ok(Err(rule)) => Ok(Served::Told(Reply::Denied(rule))),
+        Err(_) => work.fail(),
     }
 }

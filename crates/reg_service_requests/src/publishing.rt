@@ -1,22 +1,20 @@
 //! Versions are published.
 
-ghost use Rattle.std.specs.Prelude.{◌≡◌, false};
+ghost use Rattle.std.specs.Prelude.{◌≡◌};
 ghost use Rattle.reg_model.specs.Events.Asked.{Publish};
 ghost use Rattle.reg_model.specs.Steps.{IsGenuine};
 ghost use Rattle.reg_policy.specs.Events.{publication_of};
 ghost use Rattle.reg_tables_meaning.specs.Calls.{published};
-ghost use Rattle.reg_tables.specs.Works.{IsAtWork, has_failed};
+ghost use Rattle.reg_tables.specs.Works.{IsAtWork};
 ghost use Rattle.reg_access.specs.Asks.{Asks};
 ghost use Rattle.reg_service_requests.specs.Granted.{GrantsTo};
 ghost use Rattle.reg_service_requests.specs.Publications.{MakesCrate, PublishesFirst, PublishesNext, TellsFull, TellsFullOf};
 ghost use Rattle.reg_service_requests.specs.Runs.{Runs};
 
-use crate::naming::find_viewer;
 use crate::served::Served;
+use reg_access::Caller;
 use reg_api_replies::{Kind, Reply, publish_body};
 use reg_body::Limits;
-use reg_line::Digest;
-use reg_names::canon;
 use reg_policy::{NewPublication, Rule};
 use reg_tables::{NewVersion, StoreFault, Work};
 use sqlite::Alter;
@@ -57,18 +55,17 @@ fn is_full_of<S: Alter>(
     Ok(limits.versions <= versions.len() as u64)
 }
 
-/// Makes a crate with its first version, whose owner the token's account becomes.
+/// Makes a crate with its first version and its owner.
 fn make_crate<S: Alter>(
     alloc: Global,
     work: &mut Work<'_, S>,
-    digest: &Digest,
+    owner: u32,
     new: &NewPublication<'_>,
 ) -> Result<Served, StoreFault>
     requires { IsAtWork S.Store work.old }
     ensures { Runs S.Store work.old work.new result
-        (MakesCrate digest.now (publication_of new.now)) }
+        (MakesCrate owner (publication_of new.now)) }
 {
-    let owner = find_viewer(alloc, work, digest)?;
     let Ok(body) = publish_body().to_vec(alloc) else {
         return work.fail();
     };
@@ -82,18 +79,18 @@ fn publish_first<S: Alter>(
     alloc: Global,
     work: &mut Work<'_, S>,
     limits: &Limits,
-    digest: &Digest,
+    owner: u32,
     new: &NewPublication<'_>,
 ) -> Result<Served, StoreFault>
     requires { IsAtWork S.Store work.old }
     ensures { Runs S.Store work.old work.new result
-        (PublishesFirst limits.now digest.now (publication_of new.now)) }
+        (PublishesFirst limits.now owner (publication_of new.now)) }
 {
     let full = is_full(work, limits)?;
     if full {
         return Ok(Served::Told(Reply::Denied(Rule::L2)));
     }
-    make_crate(alloc, work, digest, new)
+    make_crate(alloc, work, owner, new)
 }
 
 /// Publishes a further version of the crate with this id.
@@ -120,23 +117,22 @@ fn publish_next<S: Alter>(
     Ok(Served::Done(Reply::Done(Kind::Json, body)))
 }
 
-/// Publishes a version: of a new crate, whose owner the token's account becomes, or of one that is
-/// there.
+/// Publishes a version: of a new crate, whose owner the caller becomes, or of the one that was
+/// found.
 pub(crate) fn publish<S: Alter>(
     alloc: Global,
     work: &mut Work<'_, S>,
     limits: &Limits,
-    digest: &Digest,
+    caller: &Caller,
     new: &NewPublication<'_>,
 ) -> Result<Served, StoreFault>
     requires at_work { IsAtWork S.Store work.old }
-    requires goes_on { has_failed work.old ≡ false }
     requires genuine { IsGenuine (publication_of new.now) }
-    ensures { GrantsTo limits.now digest.now S.Store (Publish (publication_of new.now))
+    ensures { GrantsTo limits.now caller.now S.Store (Publish (publication_of new.now))
         result work.old work.new }
 {
-    match work.crate_by_canon(&canon(new.name))? {
-        Some(known) => publish_next(alloc, work, limits, known.id, new),
-        None => publish_first(alloc, work, limits, digest, new),
+    match &caller.found {
+        Some(found) => publish_next(alloc, work, limits, found.id, new),
+        None => publish_first(alloc, work, limits, caller.account, new),
     }
 }

@@ -5,16 +5,15 @@ ghost use Rattle.reg_model.specs.Events.Asked.{Download, Index, ListOwners, Read
 ghost use Rattle.reg_model.specs.Events.Reading.{Config};
 ghost use Rattle.reg_tables.specs.Works.{IsAtWork, has_failed};
 ghost use Rattle.reg_access.specs.Asks.{Asks};
-ghost use Rattle.reg_service_requests.specs.Granted.{Grants};
-ghost use Rattle.reg_service_requests.specs.Reads.{ListsVersionsAt, TellsBase};
+ghost use Rattle.reg_service_requests.specs.Granted.{Grants, GrantsOf};
+ghost use Rattle.reg_service_requests.specs.Reads.{TellsBase};
 
 use crate::bodies::{index_file, owners_list};
-use crate::naming::find_named;
 use crate::served::Served;
+use reg_access::FoundCrate;
 use reg_api_replies::{Kind, Reply};
 use reg_line::config;
-use reg_names::{canon, name_of_path};
-use reg_tables::{StoreFault, Version, Work};
+use reg_tables::{StoreFault, Work};
 use sqlite::Alter;
 use std::alloc::Global;
 
@@ -45,37 +44,16 @@ pub(crate) fn read_config<S: Alter>(
     }
 }
 
-/// The versions of the crate whose index file has this path, oldest first.
-fn find_versions<S: Alter>(
-    alloc: Global,
-    work: &mut Work<'_, S>,
-    path: &str,
-) -> Result<Vec<Version>, StoreFault>
-    requires at_work { IsAtWork S.Store work.old }
-    requires goes_on { has_failed work.old ≡ false }
-    ensures { Asks S.Store work.old work.new result
-        (λ db list. ListsVersionsAt path.now db list.items) }
-{
-    let Some(name) = name_of_path(path) else {
-        return work.fail();
-    };
-    match work.crate_by_canon(&canon(&name))? {
-        Some(found) => work.versions_of(alloc, found.id),
-        None => work.fail(),
-    }
-}
-
-/// The index file at a path.
+/// The index file of a crate.
 pub(crate) fn read_index<S: Alter>(
     alloc: Global,
     work: &mut Work<'_, S>,
-    path: &str,
+    found: &FoundCrate,
 ) -> Result<Served, StoreFault>
-    requires at_work { IsAtWork S.Store work.old }
-    requires goes_on { has_failed work.old ≡ false }
-    ensures { Grants S.Store (Index path.now) result work.old work.new }
+    requires { IsAtWork S.Store work.old }
+    ensures { GrantsOf found.now S.Store Index result work.old work.new }
 {
-    let versions = find_versions(alloc, work, path)?;
+    let versions = work.versions_of(alloc, found.id)?;
     match index_file(alloc, versions) {
         Ok(text) => Ok(Served::Told(Reply::Done(Kind::Plain, text))),
         Err(_) => work.fail(),
@@ -85,17 +63,14 @@ pub(crate) fn read_index<S: Alter>(
 /// The archive of a version.
 pub(crate) fn read_archive<S: Alter>(
     work: &mut Work<'_, S>,
-    name: &str,
+    found: &FoundCrate,
     version: &str,
 ) -> Result<Served, StoreFault>
-    requires at_work { IsAtWork S.Store work.old }
-    requires goes_on { has_failed work.old ≡ false }
-    ensures { Grants S.Store (Download name.now version.now) result work.old work.new }
+    requires { IsAtWork S.Store work.old }
+    ensures { GrantsOf found.now S.Store (λ name. Download name version.now)
+        result work.old work.new }
 {
-    let Some(named) = find_named(work, name)? else {
-        return work.fail();
-    };
-    match work.archive_of(named.id, version)? {
+    match work.archive_of(found.id, version)? {
         Some(archive) => Ok(Served::Told(Reply::Done(Kind::Archive, archive))),
         None => work.fail(),
     }
@@ -105,16 +80,12 @@ pub(crate) fn read_archive<S: Alter>(
 pub(crate) fn list_owners<S: Alter>(
     alloc: Global,
     work: &mut Work<'_, S>,
-    name: &str,
+    found: &FoundCrate,
 ) -> Result<Served, StoreFault>
-    requires at_work { IsAtWork S.Store work.old }
-    requires goes_on { has_failed work.old ≡ false }
-    ensures { Grants S.Store (ListOwners name.now) result work.old work.new }
+    requires { IsAtWork S.Store work.old }
+    ensures { GrantsOf found.now S.Store ListOwners result work.old work.new }
 {
-    let Some(named) = find_named(work, name)? else {
-        return work.fail();
-    };
-    let owners = work.owners_of(alloc, named.id)?;
+    let owners = work.owners_of(alloc, found.id)?;
     match owners_list(alloc, &owners) {
         Ok(text) => Ok(Served::Told(Reply::Done(Kind::Json, text))),
         Err(_) => work.fail(),

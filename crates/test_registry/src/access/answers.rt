@@ -8,9 +8,9 @@ use crate::access::fault::Fault;
 use crate::access::opinion::second_opinion;
 use reg_access::{Grant, authorize, who_may, who_reads};
 use reg_line::{Digest, digest_of};
-use reg_names::{CrateName, parse_name};
+use reg_names::{CrateName, Login, parse_name};
 use reg_policy::{Action, Decision};
-use reg_tables::{Account, Work};
+use reg_tables::Work;
 use sqlite::Alter;
 use std::alloc::{AllocError, Global};
 
@@ -82,10 +82,11 @@ fn grants_text(alloc: Global, grants: &[Grant]) -> Result<String, AllocError> {
     Ok(text)
 }
 
-fn readers_text(alloc: Global, readers: &[Account]) -> Result<String, AllocError> {
+fn readers_text(alloc: Global, readers: &[(u32, Login)]) -> Result<String, AllocError> {
     let mut text = String::new(alloc);
     for reader in readers {
-        let line = format!(in alloc; "{}:{};", reader.id, reader.login)?;
+        let (id, login) = reader;
+        let line = format!(in alloc; "{}:{};", id, login.as_str())?;
         text.push_str(&line)?;
     }
     Ok(text)

@@ -1,16 +1,17 @@
 use Rattle.reg_policy.specs.Views.{action_of}
 use Rattle.reg_tables.specs.Works.{rows_seen}
-use Rattle.reg_access.proofs.FoundFacts.{found_verdict, unknown_verdict}
+use Rattle.reg_access.proofs.Admitting.{admission_made}
+use Rattle.reg_access.proofs.FoundFacts.{unknown_verdict}
 use Rattle.reg_access.proofs.Questions.{asks_both, asks_made}
 use Rattle.reg_access.proofs.access.judge.Goals as goal
 
-pub returns-in_default : goal.returns-in_default
-returns-in_default g c =
+pub returns-in_default-clause-asks : goal.returns-in_default-clause-asks
+returns-in_default-clause-asks g c =
     asks_made g.S.Store c.in_ok-token.field-0 _ c.args.work.now c.find_token.new.work
-    (λ h. unknown_verdict (rows_seen g.S.Store c.args.work.now) c.args.digest.now (action_of c.args.action.now) (rw c.in_default.is at h)) c.in_ok-token.ensures
+    (λ h. record { decided = unknown_verdict (rows_seen g.S.Store c.args.work.now) c.args.digest.now (action_of c.args.action.now) (rw c.in_default.is at h); shown = tt }) c.in_ok-token.ensures
 
-pub returns : goal.returns
-returns g c =
+pub returns-clause-asks : goal.returns-clause-asks
+returns-clause-asks g c =
     asks_made g.S.Store (c.in_ok-token.field-0, c.in_ok-found.found) _ c.args.work.now c.find_all.new.work
-    (λ h. found_verdict (rows_seen g.S.Store c.args.work.now) c.args.digest.now (action_of c.args.action.now) c.in-Some.token c.in_ok-found.found (rw c.in-Some.is at h.0) h.1 _ c.first_broken.ensures)
+    (λ h. admission_made c.args.digest.now (action_of c.args.action.now) (rows_seen g.S.Store c.args.work.now) c.in-Some.token c.in_ok-found.found c.admission_of.result (rw c.in-Some.is at h.0) h.1 c.admission_of.ensures)
     (asks_both g.S.Store c.in_ok-token.field-0 c.in_ok-found.found c.args.work.now c.find_token.new.work c.find_all.new.work c.in_ok-token.ensures c.in_ok-found.ensures)

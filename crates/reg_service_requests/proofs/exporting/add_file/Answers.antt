@@ -17,8 +17,8 @@ pub returns-in-Ok : goal.returns-in-Ok
 returns-in-Ok g c =
     let list = c.in_ok-versions.versions in
     let told = c.in_ok-versions.ensures in
-    let asked : Asks {E = StoreFault} g.S.Store c.args.work.now c.versions_of.new.work (Ok list) (λ db list. ListsVersions c.args.listed.now.id db list.items) = record { told = told.found; same = told.same; leaves = told.leaves } in
+    let asked : Asks {E = StoreFault} g.S.Store c.args.work.now c.versions_of.new.self (Ok list) (λ db list. ListsVersions c.args.listed.now.id db list.items) = record { told = told.found; same = told.same; leaves = told.leaves } in
     let name = sym (is_given (string_bytes c.args.listed.now.name) c.in-Some.name (rw c.as_str.ensures.value at (sym c.parse_name.ensures ∙ c.in-Some.is))).1 in
-    asks_made g.S.Store list tt c.args.work.now c.versions_of.new.work
+    asks_made g.S.Store list tt c.args.work.now c.versions_of.new.self
     (λ lists. file_added (rows_seen g.S.Store c.args.work.now) c.args.listed.now list.items (map texts_of c.args.files.now.items) (map texts_of c.push_file.new.files.items) lists
     (c.in-Ok.ensures ∙ ap (λ n. map texts_of c.args.files.now.items ++ (path_of n, file_text (map entry_of_version list.items)) ∷ []) name)) asked

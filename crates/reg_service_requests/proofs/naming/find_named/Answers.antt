@@ -7,7 +7,7 @@ use Rattle.reg_service_requests.proofs.naming.find_named.Goals as goal
 
 pub returns-in-Some : goal.returns-in-Some
 returns-in-Some g c =
-    asks_as g.S.Store {P = FindsCrate c.canon.result} c.crate_by_canon.result c.args.work.now c.crate_by_canon.new.work
+    asks_as g.S.Store {P = FindsCrate c.canon.result} c.crate_by_canon.result c.args.work.now c.crate_by_canon.new.self
     (λ found finds. named c.args.text.now c.in-Some.name _ found (sym c.parse_name.ensures ∙ c.in-Some.is) (rw c.canon.ensures at finds))
     (record { told = c.crate_by_canon.ensures.found; same = c.crate_by_canon.ensures.same; leaves = c.crate_by_canon.ensures.leaves })
 

@@ -1,18 +1,27 @@
-use Rattle.std.proofs.Common.{rules, false}
-use Rattle.reg_service_requests.specs.Owning.{DoesOwning}
+use Rattle.std.proofs.Common.{Ok, Err, rules, false}
+use Rattle.reg_tables_meaning.specs.Calls.{ListsOwners}
+use Rattle.reg_service_requests.specs.Owning.{AreLeaving, DoesOwning}
 use Rattle.reg_service_requests.specs.Runs.{Runs}
 use Rattle.reg_service_requests.proofs.OwningDone.{owning_denied, owning_done}
-use Rattle.reg_service_requests.proofs.OwningIds.{texts_of}
+use Rattle.reg_service_requests.proofs.OwningIds.{leaves, may_not_leave, texts_of}
 use Rattle.reg_service_requests.proofs.Running.{runs_after, runs_asked}
 use Rattle.reg_service_requests.proofs.owning.remove_owners.Goals as goal
 
-pub returns-in-Ok : goal.returns-in-Ok
-returns-in-Ok g c =
-    let did : Runs g.S.Store c.find_leaving.new.work c.change_owners.new.work c.change_owners.result (DoesOwning false c.in-Ok.id c.in-Ok.accounts.items) = search rules in
-    runs_after g.S.Store {R = DoesOwning false c.in-Ok.id c.in-Ok.accounts.items} c.in_ok-id.field-0 c.change_owners.result c.args.work.now c.find_leaving.new.work c.change_owners.new.work c.in_ok-id.ensures did
-    (λ it finds does limits digest lets. owning_done limits digest false c.args.name.now (texts_of c.args.logins.now) _ lets c.in-Ok.id c.in-Ok.accounts _ it (rw c.in-Ok.is at finds) does)
+pub returns-in-Ok-Ok : goal.returns-in-Ok-Ok
+returns-in-Ok-Ok g c =
+    let id = c.args.found.now.id in
+    let logins = texts_of c.args.logins.now in
+    let may : AreLeaving c.in_ok-owners.owners.items logins (Ok c.in-Ok-Ok.accounts) = search rules in
+    let did : Runs g.S.Store c.owners_of.new.self c.change_owners.new.work c.change_owners.result (DoesOwning false id c.in-Ok-Ok.accounts.items) = search rules in
+    runs_after g.S.Store {P = λ db list. ListsOwners id db list.items} {R = DoesOwning false id c.in-Ok-Ok.accounts.items} c.in_ok-owners.owners c.change_owners.result c.args.work.now c.owners_of.new.self c.change_owners.new.work
+    (record { told = c.in_ok-owners.ensures.found; same = c.in_ok-owners.ensures.same; leaves = c.in_ok-owners.ensures.leaves }) did
+    (λ it lists does name limits digest lets is. owning_done limits digest false name logins _ lets c.args.found.now is c.in-Ok-Ok.accounts _ it (leaves logins _ id c.in_ok-owners.owners.items lists c.in-Ok-Ok.accounts may) does)
 
-pub returns-in-Err : goal.returns-in-Err
-returns-in-Err g c =
-    runs_asked g.S.Store c.in_ok-id.field-0 _ c.args.work.now c.find_leaving.new.work c.in_ok-id.ensures
-    (λ finds limits digest lets. owning_denied limits digest false c.args.name.now (texts_of c.args.logins.now) _ lets c.in-Err.rule (rw c.in-Err.is at finds))
+pub returns-in-Ok-Err : goal.returns-in-Ok-Err
+returns-in-Ok-Err g c =
+    let id = c.args.found.now.id in
+    let logins = texts_of c.args.logins.now in
+    let why : AreLeaving c.in_ok-owners.owners.items logins (Err c.in-Ok-Err.rule) = search rules in
+    runs_asked g.S.Store {P = λ db list. ListsOwners id db list.items} c.in_ok-owners.owners _ c.args.work.now c.owners_of.new.self
+    (record { told = c.in_ok-owners.ensures.found; same = c.in_ok-owners.ensures.same; leaves = c.in_ok-owners.ensures.leaves })
+    (λ lists name limits digest lets is. owning_denied limits digest false name logins _ lets c.args.found.now is c.in-Ok-Err.rule (may_not_leave logins _ id c.in_ok-owners.owners.items lists c.in-Ok-Err.rule why))

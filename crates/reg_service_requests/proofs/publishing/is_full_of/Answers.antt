@@ -9,6 +9,6 @@ pub returns : goal.returns
 returns g c =
     let list = c.in_ok-versions.versions in
     let counted : c.len.result ≡ length list.items = omega (arith, list.ok.0) in
-    asks_made g.S.Store {P = λ db list. ListsVersions c.args.crate_id db list.items} list _ c.args.work.now c.versions_of.new.work
+    asks_made g.S.Store {P = λ db list. ListsVersions c.args.crate_id db list.items} list _ c.args.work.now c.versions_of.new.self
     (λ h ids s holds n at. ap (nat_le c.args.limits.now.versions) counted ∙ versions_full c.args.limits.now c.args.crate_id list.items _ h ids s holds n at)
     (record { told = c.in_ok-versions.ensures.found; same = c.in_ok-versions.ensures.same; leaves = c.in_ok-versions.ensures.leaves })

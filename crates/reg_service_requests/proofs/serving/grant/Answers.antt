@@ -1,8 +1,29 @@
-use Rattle.reg_service_requests.proofs.Deciding.{as_given, faulty}
+use Rattle.std.proofs.Common.{◌≡◌, map, refl, rules}
+use Rattle.reg_model.specs.Events.Asked.{AddOwners, RemoveOwners}
+use Rattle.reg_policy.specs.declared.event.Asked.TheVariants.{Read}
+use Rattle.reg_policy.specs.declared.event.Reading.TheVariants.{Search}
+use Rattle.reg_service_requests.proofs.Deciding.{as_given, crate_given, faulty, seeks}
 use Rattle.reg_service_requests.proofs.Running.{runs_nothing}
 use Rattle.reg_service_requests.proofs.serving.grant.Goals as goal
 
 pub returns-in-Faulty : goal.returns-in-Faulty
 returns-in-Faulty g c =
-    as_given g.S.Store c.args.limits.now c.args.digest.now c.args.asked.now _ c.in-Faulty.is _ c.args.work.now c.args.work.now
-    (runs_nothing g.S.Store _ c.args.work.now c.requires.goes_on c.requires.at_work (λ lets. faulty c.args.limits.now c.args.digest.now c.in-Faulty.rule _ lets))
+    as_given g.S.Store c.args.limits.now c.args.caller.now c.args.asked.now _ c.in-Faulty.is _ c.args.work.now c.args.work.now
+    (runs_nothing g.S.Store _ c.args.work.now c.requires.goes_on c.requires.at_work (λ digest lets who. faulty c.args.limits.now digest c.in-Faulty.rule _ lets))
+
+pub returns-in-Read-Search : goal.returns-in-Read-Search
+returns-in-Read-Search g c =
+    let same : c.args.asked.now ≡ Read (Search c.in-Read-Search.field-0-0 c.in-Read-Search.field-0-1) = search rules in
+    as_given g.S.Store c.args.limits.now c.args.caller.now c.args.asked.now _ same _ c.args.work.now c.args.work.now
+    (runs_nothing g.S.Store _ c.args.work.now c.requires.goes_on c.requires.at_work
+    (λ digest lets who. seeks c.args.limits.now digest c.in-Read-Search.field-0-0.now c.in-Read-Search.field-0-1 c.args.caller.now.account _ (λ ids s h. (who ids s h).account) lets))
+
+pub returns-in-AddOwners : goal.returns-in-AddOwners
+returns-in-AddOwners g c =
+    crate_given g.S.Store c.args.limits.now c.args.caller.now c.args.asked.now _ c.in-AddOwners.is c.add_owners.result c.args.work.now c.add_owners.new.work
+    (λ name. AddOwners name (map (λ l. l.now) c.in-AddOwners.logins.now)) c.in-AddOwners.field-0.now c.found_crate-in-AddOwners.result.now refl c.found_crate-in-AddOwners.ensures c.add_owners.ensures
+
+pub returns-in-RemoveOwners : goal.returns-in-RemoveOwners
+returns-in-RemoveOwners g c =
+    crate_given g.S.Store c.args.limits.now c.args.caller.now c.args.asked.now _ c.in-RemoveOwners.is c.remove_owners.result c.args.work.now c.remove_owners.new.work
+    (λ name. RemoveOwners name (map (λ l. l.now) c.in-RemoveOwners.logins.now)) c.in-RemoveOwners.field-0.now c.found_crate-in-RemoveOwners.result.now refl c.found_crate-in-RemoveOwners.ensures c.remove_owners.ensures

@@ -2,6 +2,7 @@ use Rattle.std.proofs.Common.{ap}
 use Rattle.std.specs.Option.{option_map}
 use Rattle.reg_model.specs.Events.{action_of}
 use Rattle.reg_policy.specs.Events.{asked_of}
+use Rattle.reg_access.specs.Admitted.{TellsCaller, decision_in}
 use Rattle.reg_access.specs.Verdict.{IsPolicy}
 use Rattle.reg_api_replies.specs.declared.reply.Reply.TheVariants.{Denied}
 use Rattle.reg_service_requests.specs.declared.served.Served.TheVariants.{Told}
@@ -18,7 +19,7 @@ returns-in_default g c =
 pub returns-in-Denied : goal.returns-in-Denied
 returns-in-Denied g c =
     let asked = asked_of c.args.asked.now in
-    runs_asked g.S.Store {P = IsPolicy c.in-Some.digest.now (action_of asked)} c.in_ok-rule.field-0 _ c.args.work.now c.authorize.new.work
+    runs_asked g.S.Store {P = λ db it. IsPolicy c.in-Some.digest.now (action_of asked) db (decision_in it)} c.in_ok-rule.field-0 _ c.args.work.now c.admit.new.work
     (record { told = rw c.action_of.ensures at c.in_ok-rule.ensures.policy; same = c.in_ok-rule.ensures.same; leaves = c.in_ok-rule.ensures.leaves })
     (λ policy. with_token c.args.limits.now _ c.in-Some.digest.now asked (rows_seen g.S.Store c.args.work.now) (rows_seen g.S.Store c.args.work.now) (Told (Denied c.in-Denied.rule)) (ap (option_map (λ d. d.now)) c.in-Some.is)
     (not_let c.access_law.ensures c.args.limits.now c.in-Some.digest.now asked _ c.in-Denied.rule (rw c.in-Denied.is at policy)))
@@ -26,7 +27,8 @@ returns-in-Denied g c =
 pub returns-in-Allowed : goal.returns-in-Allowed
 returns-in-Allowed g c =
     let asked = asked_of c.args.asked.now in
-    runs_after g.S.Store {P = IsPolicy c.in-Some.digest.now (action_of asked)} c.in_ok-rule.field-0 c.grant.result c.args.work.now c.authorize.new.work c.grant.new.work
-    (record { told = rw c.action_of.ensures at c.in_ok-rule.ensures.policy; same = c.in_ok-rule.ensures.same; leaves = c.in_ok-rule.ensures.leaves }) c.grant.ensures
-    (λ it policy granted. with_token c.args.limits.now _ c.in-Some.digest.now asked (rows_seen g.S.Store c.args.work.now) (rows_seen g.S.Store c.grant.new.work) it (ap (option_map (λ d. d.now)) c.in-Some.is)
-    (granted (is_let c.in-Some.digest.now (action_of asked) _ (rw c.in-Allowed.is at policy))))
+    let digest = c.in-Some.digest.now in
+    runs_after g.S.Store {P = λ db it. IsPolicy digest (action_of asked) db (decision_in it) × TellsCaller digest (action_of asked) db it} c.in_ok-rule.field-0 c.grant.result c.args.work.now c.admit.new.work c.grant.new.work
+    (record { told = λ clean. ((rw c.action_of.ensures at c.in_ok-rule.ensures.policy) clean, (rw c.action_of.ensures at c.in_ok-rule.ensures.found) clean); same = c.in_ok-rule.ensures.same; leaves = c.in_ok-rule.ensures.leaves }) c.grant.ensures
+    (λ it told granted. with_token c.args.limits.now _ digest asked (rows_seen g.S.Store c.args.work.now) (rows_seen g.S.Store c.grant.new.work) it (ap (option_map (λ d. d.now)) c.in-Some.is)
+    (granted digest (is_let digest (action_of asked) _ (rw c.in-Allowed.is at told.0)) (rw c.in-Allowed.is at told.1)))

@@ -1,0 +1,94 @@
+-- What is found of a request that is let pass.
+use Rattle.std.specs.Prelude.{◌≡◌, Bool, true, false, IsSome, ⊤, [], ◌∷◌, Option, Some, None}
+use Rattle.std.specs.Option.{option_map}
+use Rattle.sqlite.specs.Tree.{Trees}
+use Rattle.reg_names.specs.Names.{canon}
+use Rattle.reg_model.specs.Actions.{Action, crate_of}
+use Rattle.reg_model.specs.Actions.Action.{Publish, Read}
+use Rattle.reg_model.specs.Crates.{viewer}
+use Rattle.reg_model.specs.Facts.{spelling}
+use Rattle.reg_model.specs.Registry.{Registry, Text}
+use Rattle.reg_model.specs.Rules.{access}
+use Rattle.reg_policy.specs.declared.action.Decision.{Decision}
+use Rattle.reg_policy.specs.declared.action.Decision.TheVariants as decision
+use Rattle.reg_policy.specs.Views.{decision_of}
+use Rattle.reg_tables_meaning.specs.Calls.{Tells}
+use Rattle.reg_tables_meaning.specs.Stands.{Ids, spelling_at}
+use Rattle.reg_tables_sql.specs.declared.tokens.TokenRow.{TokenRow}
+use Rattle.reg_tables_sql.specs.Tokens.{columns_with_account, tokens_with_accounts}
+use Rattle.reg_access.specs.declared.admission.Admission.{Admission}
+use Rattle.reg_access.specs.declared.admission.Admission.TheVariants.{Allowed, Denied}
+use Rattle.reg_access.specs.declared.admission.Caller.{Caller}
+use Rattle.reg_access.specs.declared.admission.FoundCrate.{FoundCrate}
+use Rattle.reg_access.specs.declared.finding.Found.{Found}
+use Rattle.reg_access.specs.declared.found.CrateRow.{CrateRow}
+use Rattle.reg_access.specs.Found.{AreFound, facts_found}
+use Rattle.reg_access.specs.Verdict.{IsVerdict}
+
+abbrev pub decision_in : Admission → Decision
+decision_in (Denied r) = decision.Denied r
+decision_in (Allowed c) = decision.Allowed
+
+-- who is let pass, if it is
+abbrev pub OfCaller : Admission → (Caller → Type 0) → Type 0
+OfCaller (Denied r) fact = ⊤
+OfCaller (Allowed c) fact = fact c
+
+-- this is the crate of a name that was given, in its spelling, and the tables know it by this id
+pub record IsCrateOf (ids : Ids) (s : Registry) (name : Option Text) (c : FoundCrate) : Type 0 where
+  pub first : spelling s name ≡ Some c.name
+  pub placed : spelling_at ids c.id ≡ Some c.name
+  pub alike : option_map canon name ≡ Some (canon c.name)
+
+-- this is found under a name, or none is given or there
+abbrev pub IsFoundOf : Ids → Registry → Option Text → Option FoundCrate → Type 0
+IsFoundOf ids s name None = spelling s name ≡ None
+IsFoundOf ids s name (Some c) = IsCrateOf ids s name c
+
+-- the account is that of the token with this digest, and the crate is that of the action
+pub record IsCallerOf (ids : Ids) (s : Registry) (digest : Text) (a : Action) (c : Caller) : Type 0
+  where
+    pub account : viewer s digest ≡ Some c.account
+    pub found : IsFoundOf ids s (crate_of a) c.found
+
+abbrev pub TellsCaller : Text → Action → Trees → Admission → Type 0
+TellsCaller digest a db it =
+    OfCaller it (λ c. Tells (λ ids s. IsCallerOf ids s digest a c) db)
+
+-- whether an action is let pass only where its crate is there
+abbrev pub needs_crate : Action → Bool
+needs_crate Read = false
+needs_crate (Publish n v) = false
+needs_crate _ = true
+
+-- and then it was found
+abbrev pub HasItsCrate : Action → Admission → Type 0
+HasItsCrate a it = OfCaller it (λ c. needs_crate a ≡ true → IsSome c.found)
+
+-- a crate as it is handed on
+abbrev pub shown_crate : CrateRow → FoundCrate
+shown_crate r = record { id = r.id; name = r.name }
+
+-- the account and the crate of this token and of what was found
+pub record IsCallerIn (t : TokenRow) (it : Found) (c : Caller) : Type 0 where
+  pub account : c.account ≡ t.account
+  pub found : c.found ≡ option_map shown_crate it.row
+
+-- what follows from them
+pub record IsAdmitted (a : Action) (t : TokenRow) (it : Found) (m : Admission) : Type 0 where
+  pub decided : decision_in m ≡ decision_of (access (facts_found a t it) a)
+  pub handed : OfCaller m (IsCallerIn t it)
+  pub there : HasItsCrate a m
+
+-- the account and the crate are those of the rows
+pub record ShowsCaller (digest : Text) (a : Action) (db : Trees) (c : Caller) : Type 0 where
+  pub token : TokenRow
+  pub it : Found
+  pub known : tokens_with_accounts digest db ≡ columns_with_account token ∷ []
+  pub are : AreFound a token.id token.account db it
+  pub handed : IsCallerIn token it c
+
+-- what the rows decide, and whom they show
+pub record IsAdmission (digest : Text) (a : Action) (db : Trees) (m : Admission) : Type 0 where
+  pub decided : IsVerdict digest a db (decision_in m)
+  pub shown : OfCaller m (ShowsCaller digest a db)
