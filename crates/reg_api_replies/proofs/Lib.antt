@@ -1,2 +1,3 @@
 pub mod EntryFacts
 pub mod Joined
+pub mod Statuses

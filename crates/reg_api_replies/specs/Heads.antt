@@ -5,9 +5,8 @@ use Rattle.reg_model.specs.Registry.{Text}
 use Rattle.reg_model.specs.Events.{Answer}
 use Rattle.reg_model.specs.Events.Answer.{Denied, Archive as archive_answer, File}
 use Rattle.reg_policy.specs.Words.{status_of}
-use Rattle.reg_api_replies.specs.declared.head.Head.{Head}
 use Rattle.reg_api_replies.specs.declared.head.Kind.{Kind}
-use Rattle.reg_api_replies.specs.declared.head.Kind.TheVariants.{Archive, Json, Plain}
+use Rattle.reg_api_replies.specs.declared.head.Kind.TheVariants as kind
 use Rattle.reg_api_replies.specs.declared.head.Methods.{Methods}
 use Rattle.reg_api_replies.specs.declared.head.Methods.TheVariants.{Delete, Get, GetPutDelete, Put}
 
@@ -18,9 +17,9 @@ refusal_of _ = None
 
 -- what the body of an answer is
 abbrev pub kind_of : Answer → Kind
-kind_of (File t) = Plain
-kind_of (archive_answer t) = Archive
-kind_of _ = Json
+kind_of (File t) = kind.Text
+kind_of (archive_answer t) = kind.Archive
+kind_of _ = kind.Json
 
 -- the status of a reply: that of the refusal, or success
 abbrev pub code_of : Option Rule → ℕ
@@ -42,9 +41,9 @@ phrase_of code =
     codes "Service Unavailable"
 
 abbrev pub type_of : Kind → Text
-type_of Json = codes "application/json"
-type_of Plain = codes "text/plain"
-type_of Archive = codes "application/octet-stream"
+type_of kind.Json = codes "application/json"
+type_of kind.Text = codes "text/plain"
+type_of kind.Archive = codes "application/octet-stream"
 
 abbrev pub methods_text : Methods → Text
 methods_text Get = codes "GET"
@@ -65,12 +64,12 @@ abbrev pub close_line : Bool → Text
 close_line close = if close then codes "connection: close\r\n" else []
 
 -- the status line, the header lines in their order, and the empty line
-unfoldable pub head_text : Head → Text
-head_text h =
-    codes "HTTP/1.1 " ++ decimal (code_of h.refusal) ++ codes " " ++ phrase_of (code_of h.refusal)
-    ++ codes "\r\ncontent-type: " ++ type_of h.kind
-    ++ codes "\r\ncontent-length: " ++ decimal h.length ++ codes "\r\n"
-    ++ challenge_line (code_of h.refusal)
-    ++ allow_line (code_of h.refusal) h.allow
-    ++ close_line h.close
+unfoldable pub head_text : ℕ → Kind → Option Methods → ℕ → Bool → Text
+head_text status kind allow len close =
+    codes "HTTP/1.1 " ++ decimal status ++ codes " " ++ phrase_of status
+    ++ codes "\r\ncontent-type: " ++ type_of kind
+    ++ codes "\r\ncontent-length: " ++ decimal len ++ codes "\r\n"
+    ++ challenge_line status
+    ++ allow_line status allow
+    ++ close_line close
     ++ codes "\r\n"

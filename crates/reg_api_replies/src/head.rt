@@ -2,20 +2,22 @@
 
 ghost use Rattle.std.specs.Prelude.{◌≡◌, ◌+◌, ◌≤◌, ◌++◌, length};
 ghost use Rattle.arrayvec.specs.ArrayString.{array_string_len};
-ghost use Rattle.reg_api_replies.specs.Heads.{allow_line, challenge_line, close_line, code_of, head_text, methods_text, phrase_of, type_of};
+ghost use Rattle.reg_policy.specs.Words.{status_of};
+ghost use Rattle.reg_api_replies.specs.Heads.{allow_line, challenge_line, close_line, head_text, methods_text, phrase_of, type_of};
 
 use crate::fixed_text::{FixedText, ROOM};
 use arrayvec::ArrayString;
+use http::StatusCode;
 use itoa::Buffer;
 use reg_policy::{Rule, rule_status};
 
 /// What a body is.
 #[derive(Clone, Copy, Debug, PartialEq, Eq)]
 pub enum Kind {
-    Json,
     /// An index file.
-    Plain,
+    Text,
     Archive,
+    Json,
 }
 
 /// The methods of a route.
@@ -27,28 +29,12 @@ pub enum Methods {
     GetPutDelete,
 }
 
-/// What the head of a reply tells.
-#[derive(Clone, Copy)]
-pub struct Head {
-    /// What the request is refused for, if it is.
-    pub refusal: Option<Rule>,
-    pub kind: Kind,
-    /// The length of the body in bytes, also where the body is left out.
-    pub length: u64,
-    /// The methods of the request's route, if it has one; they are told where its method is none of
-    /// them.
-    pub allow: Option<Methods>,
-    /// Whether the connection closes after the reply.
-    pub close: bool,
-}
-
-fn code(refusal: Option<Rule>) -> u16
-    ensures { result ≡ code_of refusal }
+/// The status of a refusal.
+#[tactic(auto, using(crate::proofs::Statuses::status_fits))]
+pub(crate) fn refusal_status(rule: Rule) -> StatusCode
+    ensures { result ≡ status_of rule }
 {
-    match refusal {
-        Some(rule) => rule_status(rule),
-        None => 200,
-    }
+    StatusCode::from_u16(rule_status(rule)).unwrap()
 }
 
 fn phrase(code: u16) -> &'static str
@@ -76,7 +62,7 @@ fn media_type(kind: Kind) -> &'static str
 {
     match kind {
         Kind::Json => "application/json",
-        Kind::Plain => "text/plain",
+        Kind::Text => "text/plain",
         Kind::Archive => "application/octet-stream",
     }
 }
@@ -127,12 +113,19 @@ fn push_close(head: &mut ArrayString<ROOM>, close: bool)
     }
 }
 
-/// `reply_head` lays out the head of a reply, up to its empty line.
+/// `reply_head` lays out the head of a reply, up to its empty line. The length is that of the body,
+/// also where the body is left out; `allow` is empty but where the route has other methods.
 #[tactic(auto, unfolding(crate::specs::Heads::head_text))]
-pub fn reply_head(head: &Head) -> FixedText
-    ensures { result ≡ head_text head.now }
+pub fn reply_head(
+    status: StatusCode,
+    kind: Kind,
+    allow: Option<Methods>,
+    length: u64,
+    close: bool,
+) -> FixedText
+    ensures { result ≡ head_text status kind allow length close }
 {
-    let code = code(head.refusal);
+    let code = status.as_u16();
     let mut text = ArrayString::new();
     let mut digits = Buffer::new();
     text.push_str("HTTP/1.1 ");
@@ -140,13 +133,13 @@ pub fn reply_head(head: &Head) -> FixedText
     text.push_str(" ");
     text.push_str(phrase(code));
     text.push_str("\r\ncontent-type: ");
-    text.push_str(media_type(head.kind));
+    text.push_str(media_type(kind));
     text.push_str("\r\ncontent-length: ");
-    text.push_str(digits.format(head.length));
+    text.push_str(digits.format(length));
     text.push_str("\r\n");
     push_challenge(&mut text, code);
-    push_allow(&mut text, code, head.allow);
-    push_close(&mut text, head.close);
+    push_allow(&mut text, code, allow);
+    push_close(&mut text, close);
     text.push_str("\r\n");
     FixedText { text }
 }

@@ -1,15 +1,16 @@
 //! Replies, as they are sent.
 
 ghost use Rattle.std.specs.Prelude.{◌≡◌, ◌+◌, ◌^◌, ◌<◌, ◌++◌, length, IfOk};
-ghost use Rattle.reg_api_replies.specs.Heads.{head_text};
 ghost use Rattle.reg_api_replies.specs.Sent.{Sends, sink};
-ghost use Rattle.reg_api_replies.specs.Texts.{body_if, done_head, refusal_head, refusal_text, reply_text};
+ghost use Rattle.reg_api_replies.specs.Texts.{body_if, refusal_text, reply_text};
 
 use crate::bytes::{SendFault, write_bytes};
-use crate::head::{Head, Kind, Methods, reply_head};
+use crate::fixed_text::FixedText;
+use crate::head::{Kind, Methods, refusal_status, reply_head};
 use crate::refused::error_body;
 use crate::reply::Reply;
 use arrayvec::{ArrayVec, CapacityError};
+use http::StatusCode;
 use reg_body::Counted;
 use reg_policy::Rule;
 use std::io::Write;
@@ -43,30 +44,6 @@ fn write_both<W: Write>(
     Ok(used + more)
 }
 
-fn head_of_done(kind: Kind, body: &[u8], close: bool) -> Head
-    ensures { result ≡ done_head kind (length body.now) close }
-{
-    Head {
-        refusal: None,
-        kind,
-        length: body.len() as u64,
-        allow: None,
-        close,
-    }
-}
-
-fn head_of_refusal(rule: Rule, body: &[u8], allow: Option<Methods>, close: bool) -> Head
-    ensures { result ≡ refusal_head rule allow (length body.now) close }
-{
-    Head {
-        refusal: Some(rule),
-        kind: Kind::Json,
-        length: body.len() as u64,
-        allow,
-        close,
-    }
-}
-
 /// The body, if it is to be sent.
 fn body_or_none(body: &[u8], head_only: bool) -> &[u8]
     ensures { result.now ≡ body_if head_only body.now }
@@ -74,21 +51,20 @@ fn body_or_none(body: &[u8], head_only: bool) -> &[u8]
     if head_only { &[] } else { body }
 }
 
-/// `write_parts` writes a head and a body.
-pub fn write_parts<W: Write>(
+/// Writes a head and a body.
+fn write_parts<W: Write>(
     w: &mut Counted<W>,
-    head: &Head,
+    head: &FixedText,
     body: &[u8],
     writes: u64,
 ) -> Result<u64, SendFault>
     requires { w.old.calls + writes < 2 ^ 64 }
-    ensures { Sends result (head_text head.now ++ body.now) writes
+    ensures { Sends result (head.now ++ body.now) writes
         (sink (W.contents w.old.inner) w.old) (sink (W.contents w.new.inner) w.new) }
 {
-    let text = reply_head(head);
-    match in_one_piece(text.as_bytes(), body) {
+    match in_one_piece(head.as_bytes(), body) {
         Ok(piece) => write_bytes(w, piece.as_slice(), writes),
-        Err(_too_long) => write_both(w, text.as_bytes(), body, writes),
+        Err(_too_long) => write_both(w, head.as_bytes(), body, writes),
     }
 }
 
@@ -107,7 +83,8 @@ fn write_refusal<W: Write>(
 {
     let text = error_body(rule);
     let body = text.as_bytes();
-    let head = head_of_refusal(rule, body, allow, close);
+    let status = refusal_status(rule);
+    let head = reply_head(status, Kind::Json, allow, body.len() as u64, close);
     write_parts(w, &head, body_or_none(body, head_only), writes)
 }
 
@@ -125,7 +102,7 @@ pub fn write_reply<W: Write>(
 {
     match reply {
         Reply::Done(kind, body) => {
-            let head = head_of_done(*kind, body, close);
+            let head = reply_head(StatusCode::OK, *kind, None, body.len() as u64, close);
             write_parts(w, &head, body_or_none(body, head_only), writes)
         }
         Reply::Denied(rule) => write_refusal(w, *rule, None, close, head_only, writes),

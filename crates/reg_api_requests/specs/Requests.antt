@@ -1,5 +1,5 @@
 -- What a routed request asks for (the Cargo Book, "Registry Web API" and "Registry Index").
-use Rattle.std.specs.Prelude.{[], Option, Some, None, option_map, Result, Ok, Err, if◌then◌else◌}
+use Rattle.std.specs.Prelude.{[], Option, Some, None, option_map, unwrap_or, Result, Ok, Err, if◌then◌else◌}
 use Rattle.std.specs.Str.{is_utf8}
 use Rattle.sha2.specs.Sha256.{sha256}
 use Rattle.reg_body.specs.declared.limits.Limits.{Limits}
@@ -11,10 +11,10 @@ use Rattle.reg_model.specs.Events.Reading.{Config as to_config, Search as to_sea
 use Rattle.reg_model.specs.Events.Asked.{Faulty as to_faulty, Read as to_read, Index as to_index, Download as to_download, ListOwners as to_list, Publish as to_publish, Yank as to_yank, Unyank as to_unyank, AddOwners as to_add, RemoveOwners as to_remove}
 use Rattle.reg_api_requests.specs.Owners.{logins_named}
 use Rattle.reg_api_requests.specs.Publish.{publish_of}
-use Rattle.reg_api_requests.specs.Search.{sought}
+use Rattle.reg_api_requests.specs.Search.{page_of}
 use Rattle.reg_api_requests.specs.Views.{Request}
+use Rattle.reg_api_requests.specs.declared.request.ApiCall.{ApiCall}
 use Rattle.reg_api_requests.specs.declared.request.ApiRequest.{ApiRequest}
-use Rattle.reg_api_requests.specs.declared.request.Wanted.{Wanted}
 use Rattle.reg_api_requests.specs.Wants.{Wants, wants_of}
 use Rattle.reg_api_requests.specs.Wants.Wants.{Config, Index, Download, ListOwners, Publish, Yank, Unyank, AddOwners, RemoveOwners, Search}
 
@@ -27,6 +27,11 @@ text_in bytes = if is_utf8 bytes then bytes else []
 abbrev pub or_faulty : {A : Type 0} → Rule → (A → Asked) → Option A → Asked
 or_faulty r ask None = to_faulty r
 or_faulty r ask (Some a) = ask a
+
+-- a search for what `q` says, or for nothing where it is missing; a bad `per_page` breaks Q1
+abbrev pub searched : Option Text → Option Text → Asked
+searched q per_page =
+    or_faulty rule.Q1 (λ most. to_read (to_search (unwrap_or q []) most)) (page_of per_page)
 
 -- the version that is published, or the rule that its body breaks
 abbrev pub published : Result Publication Rule → Asked
@@ -46,8 +51,7 @@ asked_from limits (AddOwners n body) =
     or_faulty rule.O1 (to_add (text_in n)) (logins_named limits body)
 asked_from limits (RemoveOwners n body) =
     or_faulty rule.O1 (to_remove (text_in n)) (logins_named limits body)
-asked_from limits (Search query) =
-    or_faulty rule.Q1 (λ p. to_read (to_search p.0 p.1)) (sought query)
+asked_from limits (Search q per_page) = searched q per_page
 
 -- the SHA-256 of the token, and what is asked for
 abbrev pub request_from : Limits → Option Text → Wants → Request
@@ -57,9 +61,9 @@ request_from limits token w = record {
 }
 
 -- the same of a request as its route gives it
-abbrev pub asked_by : Limits → Wanted → Asked
-asked_by limits w = asked_from limits (wants_of w)
+abbrev pub asked_by : Limits → ApiCall → Asked
+asked_by limits call = asked_from limits (wants_of call)
 
 abbrev pub request_of : Limits → ApiRequest → Request
 request_of limits r =
-    request_from limits (option_map (λ token. token.now) r.token) (wants_of r.wanted)
+    request_from limits (option_map (λ token. token.now) r.token) (wants_of r.call)

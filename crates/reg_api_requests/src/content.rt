@@ -12,14 +12,13 @@ use crate::publish::Release;
 use reg_model::Rule;
 use reg_policy::{Asked, NewPublication, Reading};
 use std::alloc::{AllocError, Global};
-use std::borrow::CowStr;
 
 /// What a request asks for, with what had to be made of its bytes.
 #[derive(Drop)]
 pub(crate) enum Content<'a> {
     Faulty(Rule),
     Config,
-    Search(CowStr<'a>, u32),
+    Search(&'a str, u32),
     Index(&'a str),
     Download(&'a str, &'a str),
     ListOwners(&'a str),
@@ -85,7 +84,7 @@ pub(crate) fn lent<'b>(content: &'b Content<'b>, logins: &'b [&'b str]) -> Asked
     match content {
         Content::Faulty(rule) => Asked::Faulty(*rule),
         Content::Config => Asked::Read(Reading::Config),
-        Content::Search(text, most) => Asked::Read(Reading::Search(text.as_str(), *most)),
+        Content::Search(text, most) => Asked::Read(Reading::Search(text, *most)),
         Content::Index(path) => Asked::Index(path),
         Content::Download(name, version) => Asked::Download(name, version),
         Content::ListOwners(name) => Asked::ListOwners(name),

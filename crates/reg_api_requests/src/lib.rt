@@ -1,15 +1,15 @@
 //! What a request asks for, from the request alone: no table and no state is looked at.
 //!
-//! A router hands over an `ApiRequest`: the token, and what is wanted in the bytes as they came.
+//! A router hands over an `ApiRequest`: the token, and what is called for.
 //! `read_request` gives its `Parts`, which lend what the rules are asked about.
 //! A body or a query that is bad makes no error: what is asked for is then the rule that it breaks.
 //!
 //! ```
-//! let wanted = Wanted::Search(b"q=serde&per_page=7");
-//! let request = ApiRequest { token: Some(b"abc"), wanted };
+//! let call = ApiCall::Search { q: Some(CowStr::Borrowed("serde")), per_page: None };
+//! let request = ApiRequest { token: Some(b"abc"), call };
 //! let parts = read_request(alloc, &request, &Limits::STANDARD)?;
 //! let logins = parts.logins(alloc)?;
-//! parts.asked(&logins)                // Asked::Read(Reading::Search("serde", 7))
+//! parts.asked(&logins)                // Asked::Read(Reading::Search("serde", 10))
 //! parts.digest()                      // the SHA-256 of "abc"
 //! ```
 #![tactic(auto)]
@@ -26,4 +26,4 @@ mod search;
 
 pub use parts::Parts;
 pub use reading::read_request;
-pub use request::{ApiRequest, Wanted};
+pub use request::{ApiCall, ApiRequest};

@@ -2,17 +2,15 @@
 
 ghost use Rattle.std.specs.Prelude.{◌≡◌, IfOk, string_bytes, map};
 ghost use Rattle.std.specs.Option.{option_map};
-ghost use Rattle.std.specs.Cow.{cow_str_bytes};
+ghost use Rattle.std.specs.Cow.{cow_slice_items, cow_str_bytes};
 ghost use Rattle.sha2.specs.Sha256.{sha256};
 ghost use Rattle.reg_model.specs.declared.rule.Rule.TheVariants as rule;
-ghost use Rattle.reg_model.specs.Events.Reading.{Search as to_search};
-ghost use Rattle.reg_model.specs.Events.Asked.{Read as to_read, AddOwners as to_add, RemoveOwners as to_remove};
+ghost use Rattle.reg_model.specs.Events.Asked.{AddOwners as to_add, RemoveOwners as to_remove};
 ghost use Rattle.reg_model.specs.Steps.{IsFit};
 ghost use Rattle.reg_api_requests.specs.Contents.{asked_in};
 ghost use Rattle.reg_api_requests.specs.Owners.{logins_named};
 ghost use Rattle.reg_api_requests.specs.Publish.{publish_of};
-ghost use Rattle.reg_api_requests.specs.Requests.{asked_by, or_faulty, published, request_of, text_in};
-ghost use Rattle.reg_api_requests.specs.Search.{sought};
+ghost use Rattle.reg_api_requests.specs.Requests.{asked_by, or_faulty, published, request_of, searched, text_in};
 ghost use Rattle.reg_api_requests.specs.Views.{IsFitAsked, event_of};
 
 use crate::content::Content;
@@ -20,18 +18,19 @@ use crate::fault::RequestFault;
 use crate::owners::read_logins;
 use crate::parts::Parts;
 use crate::publish::read_publish;
-use crate::request::{ApiRequest, Wanted};
-use crate::search::read_query;
+use crate::request::{ApiCall, ApiRequest};
+use crate::search::{or_empty, page_of};
 use reg_body::Limits;
 use reg_line::{Digest, digest_of};
 use reg_model::Rule;
 use std::alloc::{AllocError, Global};
+use std::borrow::{CowSlice, CowStr};
 
 /// The text of a path part, empty where it is no UTF-8.
-fn text(bytes: &[u8]) -> &str
-    ensures { result.now ≡ text_in bytes.now }
+fn text<'a>(part: &'a CowSlice<'a, u8>) -> &'a str
+    ensures { result.now ≡ text_in (cow_slice_items part.now) }
 {
-    match std::str::from_utf8(bytes) {
+    match std::str::from_utf8(part.as_slice()) {
         Ok(text) => text,
         Err(_) => "",
     }
@@ -51,15 +50,15 @@ fn publish<'a>(alloc: Global, limits: &Limits, body: &'a [u8]) -> Result<Content
 fn add_owners<'a>(
     alloc: Global,
     limits: &Limits,
-    name: &'a [u8],
+    name: &'a str,
     body: &[u8],
 ) -> Result<Content<'a>, AllocError>
     ensures asked { IfOk result (λ c. asked_in c
-        ≡ or_faulty rule.O1 (to_add (text_in name.now)) (logins_named limits.now body.now)) }
+        ≡ or_faulty rule.O1 (to_add name.now) (logins_named limits.now body.now)) }
     ensures fit { IfOk result (λ c. IsFitAsked (asked_in c)) }
 {
     match read_logins(alloc, limits, body)? {
-        Some(logins) => Ok(Content::AddOwners(text(name), logins)),
+        Some(logins) => Ok(Content::AddOwners(name, logins)),
         None => Ok(Content::Faulty(Rule::O1)),
     }
 }
@@ -67,49 +66,49 @@ fn add_owners<'a>(
 fn remove_owners<'a>(
     alloc: Global,
     limits: &Limits,
-    name: &'a [u8],
+    name: &'a str,
     body: &[u8],
 ) -> Result<Content<'a>, AllocError>
     ensures asked { IfOk result (λ c. asked_in c
-        ≡ or_faulty rule.O1 (to_remove (text_in name.now)) (logins_named limits.now body.now)) }
+        ≡ or_faulty rule.O1 (to_remove name.now) (logins_named limits.now body.now)) }
     ensures fit { IfOk result (λ c. IsFitAsked (asked_in c)) }
 {
     match read_logins(alloc, limits, body)? {
-        Some(logins) => Ok(Content::RemoveOwners(text(name), logins)),
+        Some(logins) => Ok(Content::RemoveOwners(name, logins)),
         None => Ok(Content::Faulty(Rule::O1)),
     }
 }
 
-fn search<'a>(alloc: Global, query: &'a [u8]) -> Result<Content<'a>, AllocError>
-    ensures asked { IfOk result (λ c. asked_in c
-        ≡ or_faulty rule.Q1 (λ p. to_read (to_search p.0 p.1)) (sought query.now)) }
-    ensures fit { IfOk result (λ c. IsFitAsked (asked_in c)) }
+fn search<'a>(q: &'a Option<CowStr<'a>>, per_page: &Option<CowStr<'_>>) -> Content<'a>
+    ensures asked { asked_in result
+        ≡ searched (option_map cow_str_bytes q.now) (option_map cow_str_bytes per_page.now) }
+    ensures fit { IsFitAsked (asked_in result) }
 {
-    match read_query(alloc, query)? {
-        Some((text, most)) => Ok(Content::Search(text, most)),
-        None => Ok(Content::Faulty(Rule::Q1)),
+    match page_of(per_page) {
+        Some(most) => Content::Search(or_empty(q), most),
+        None => Content::Faulty(Rule::Q1),
     }
 }
 
 fn content<'a>(
     alloc: Global,
     limits: &Limits,
-    wanted: &Wanted<'a>,
+    call: &'a ApiCall<'a>,
 ) -> Result<Content<'a>, AllocError>
-    ensures asked { IfOk result (λ c. asked_in c ≡ asked_by limits.now wanted.now) }
+    ensures asked { IfOk result (λ c. asked_in c ≡ asked_by limits.now call.now) }
     ensures fit { IfOk result (λ c. IsFitAsked (asked_in c)) }
 {
-    match wanted {
-        Wanted::Config => Ok(Content::Config),
-        Wanted::Index(path) => Ok(Content::Index(text(path))),
-        Wanted::Download(name, version) => Ok(Content::Download(text(name), text(version))),
-        Wanted::ListOwners(name) => Ok(Content::ListOwners(text(name))),
-        Wanted::Publish(body) => publish(alloc, limits, body),
-        Wanted::Yank(name, version) => Ok(Content::Yank(text(name), text(version))),
-        Wanted::Unyank(name, version) => Ok(Content::Unyank(text(name), text(version))),
-        Wanted::AddOwners(name, body) => add_owners(alloc, limits, name, body),
-        Wanted::RemoveOwners(name, body) => remove_owners(alloc, limits, name, body),
-        Wanted::Search(query) => search(alloc, query),
+    match call {
+        ApiCall::Config => Ok(Content::Config),
+        ApiCall::Index(path) => Ok(Content::Index(text(path))),
+        ApiCall::Download(name, version) => Ok(Content::Download(text(name), text(version))),
+        ApiCall::ListOwners(name) => Ok(Content::ListOwners(text(name))),
+        ApiCall::Publish(body) => publish(alloc, limits, body),
+        ApiCall::Yank(name, version) => Ok(Content::Yank(text(name), text(version))),
+        ApiCall::Unyank(name, version) => Ok(Content::Unyank(text(name), text(version))),
+        ApiCall::AddOwners(name, body) => add_owners(alloc, limits, text(name), body),
+        ApiCall::RemoveOwners(name, body) => remove_owners(alloc, limits, text(name), body),
+        ApiCall::Search { q, per_page } => Ok(search(q, per_page)),
     }
 }
 
@@ -127,13 +126,13 @@ fn token_digest(token: Option<&[u8]>) -> Option<Digest>
 /// answered by that rule.
 pub fn read_request<'a>(
     alloc: Global,
-    request: &ApiRequest<'a>,
+    request: &'a ApiRequest<'a>,
     limits: &Limits,
 ) -> Result<Parts<'a>, AllocError>
     ensures asked { IfOk result (λ parts. parts ≡ request_of limits.now request.now) }
     ensures fit { IfOk result (λ parts. IsFit (event_of parts)) }
 {
-    let content = content(alloc, limits, &request.wanted)?;
+    let content = content(alloc, limits, &request.call)?;
     Ok(Parts {
         digest: token_digest(request.token),
         content,

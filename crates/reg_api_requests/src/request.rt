@@ -1,29 +1,34 @@
 //! A request as its route gives it.
 
-/// What a request wants. Parts of a path are decoded bytes, which may be no UTF-8; bodies and the
-/// query are as they were sent.
-#[derive(Clone, Copy, PartialEq, Debug)]
-pub enum Wanted<'a> {
+use std::borrow::{CowSlice, CowStr};
+
+/// What a request calls for. Paths, crates and versions are decoded bytes, which may be no UTF-8;
+/// bodies are as they were sent.
+#[derive(Drop)]
+pub enum ApiCall<'a> {
     Config,
     /// An index path.
-    Index(&'a [u8]),
+    Index(CowSlice<'a, u8>),
     /// A crate and a version.
-    Download(&'a [u8], &'a [u8]),
-    ListOwners(&'a [u8]),
+    Download(CowSlice<'a, u8>, CowSlice<'a, u8>),
+    Yank(CowSlice<'a, u8>, CowSlice<'a, u8>),
+    Unyank(CowSlice<'a, u8>, CowSlice<'a, u8>),
+    ListOwners(CowSlice<'a, u8>),
     /// A publish body.
     Publish(&'a [u8]),
-    Yank(&'a [u8], &'a [u8]),
-    Unyank(&'a [u8], &'a [u8]),
     /// A crate and a body that names logins.
-    AddOwners(&'a [u8], &'a [u8]),
-    RemoveOwners(&'a [u8], &'a [u8]),
-    /// A query without its `?`.
-    Search(&'a [u8]),
+    AddOwners(CowSlice<'a, u8>, &'a [u8]),
+    RemoveOwners(CowSlice<'a, u8>, &'a [u8]),
+    /// The first `q` and the first `per_page` of a query, decoded.
+    Search {
+        q: Option<CowStr<'a>>,
+        per_page: Option<CowStr<'a>>,
+    },
 }
 
-/// A request: its token, if just one was shown, and what it wants.
-#[derive(Clone, Copy, PartialEq, Debug)]
+/// A request: its token, if just one was shown, and what it calls for.
+#[derive(Drop)]
 pub struct ApiRequest<'a> {
     pub token: Option<&'a [u8]>,
-    pub wanted: Wanted<'a>,
+    pub call: ApiCall<'a>,
 }

@@ -1,5 +1,5 @@
 -- What a request came to, by what the registry told.
-use Rattle.std.proofs.Common.{◌≡◌, ◌<◌, ◌++◌, ◌⊎◌, ℕ, Bool, true, false, [], inl, inr, refl, sym, ap, subst, arith, Option, None, Some, Result, Ok, Err, length}
+use Rattle.std.proofs.Common.{◌≡◌, ◌<◌, ◌⊎◌, ℕ, Bool, false, inl, inr, refl, sym, subst, arith, Option, None, Some, Result, Ok, Err}
 use Rattle.sqlite_trees.specs.declared.store.Store.{Ghosts}
 use Rattle.reg_body.specs.declared.limits.Limits.{Limits}
 use Rattle.reg_http_read.specs.Heads.{Facts}
@@ -18,14 +18,13 @@ use Rattle.reg_api_replies.specs.declared.reply.Reply.TheVariants.{Denied}
 use Rattle.reg_api_requests.specs.Requests.{asked_from, request_from}
 use Rattle.reg_api_requests.specs.Views.{event_of}
 use Rattle.reg_api_requests.specs.Wants.{Wants, wants_of}
-use Rattle.reg_api_requests.specs.declared.request.Wanted.{Wanted}
-use Rattle.reg_api_requests.specs.declared.request.Wanted.TheVariants as wanted
+use Rattle.reg_api_requests.specs.declared.request.ApiCall.{ApiCall}
+use Rattle.reg_api_requests.specs.declared.request.ApiCall.TheVariants as call
 use Rattle.reg_http_routes.specs.Routing.Routing.{Wants as to_wants}
 use Rattle.reg_api_replies.specs.Sent.{Sink}
 use Rattle.reg_api_replies.specs.Texts.{answer_text, refusal_text, reply_text}
 use Rattle.reg_service.specs.Answered.{Answers}
 use Rattle.reg_service.specs.Streamed.{AsksForFile, StreamsTo}
-use Rattle.reg_service_index.specs.Streams as stream
 use Rattle.reg_service_index.specs.declared.fault.IndexFault.{IndexFault}
 use Rattle.reg_service_index.specs.declared.fault.IndexFault.TheVariants.{Spent, Store, Write}
 use Rattle.reg_tables.specs.declared.tables.Tables.{Tables}
@@ -50,29 +49,29 @@ streams_of o text old new (Err ReadFault) x = absurd x
 streams_of o text old new (Err StoreFault) x = absurd x
 streams_of o text old new (Err Memory) x = absurd x
 
-file_fit : (limits : Limits) (token : Option Text) (w : Wanted) → AsksForFile w → IsFit (event_of (request_from limits token (wants_of w)))
-file_fit limits token (wanted.Index path) h = tt
-file_fit limits token wanted.Config h = absurd h
-file_fit limits token (wanted.Download n v) h = absurd h
-file_fit limits token (wanted.Publish b) h = absurd h
-file_fit limits token (wanted.ListOwners n) h = absurd h
-file_fit limits token (wanted.Yank n v) h = absurd h
-file_fit limits token (wanted.Unyank n v) h = absurd h
-file_fit limits token (wanted.AddOwners n b) h = absurd h
-file_fit limits token (wanted.RemoveOwners n b) h = absurd h
-file_fit limits token (wanted.Search q) h = absurd h
+file_fit : (limits : Limits) (token : Option Text) (w : ApiCall) → AsksForFile w → IsFit (event_of (request_from limits token (wants_of w)))
+file_fit limits token (call.Index path) h = tt
+file_fit limits token call.Config h = absurd h
+file_fit limits token (call.Download n v) h = absurd h
+file_fit limits token (call.Publish b) h = absurd h
+file_fit limits token (call.ListOwners n) h = absurd h
+file_fit limits token (call.Yank n v) h = absurd h
+file_fit limits token (call.Unyank n v) h = absurd h
+file_fit limits token (call.AddOwners n b) h = absurd h
+file_fit limits token (call.RemoveOwners n b) h = absurd h
+file_fit limits token (call.Search q per_page) h = absurd h
 
-file_is : (a : Answer) (w : Wanted) → AsksForFile w → IsOfFile (Answered (wants_of w) a)
-file_is a (wanted.Index path) h = tt
-file_is a wanted.Config h = absurd h
-file_is a (wanted.Download n v) h = absurd h
-file_is a (wanted.Publish b) h = absurd h
-file_is a (wanted.ListOwners n) h = absurd h
-file_is a (wanted.Yank n v) h = absurd h
-file_is a (wanted.Unyank n v) h = absurd h
-file_is a (wanted.AddOwners n b) h = absurd h
-file_is a (wanted.RemoveOwners n b) h = absurd h
-file_is a (wanted.Search q) h = absurd h
+file_is : (a : Answer) (w : ApiCall) → AsksForFile w → IsOfFile (Answered (wants_of w) a)
+file_is a (call.Index path) h = tt
+file_is a call.Config h = absurd h
+file_is a (call.Download n v) h = absurd h
+file_is a (call.Publish b) h = absurd h
+file_is a (call.ListOwners n) h = absurd h
+file_is a (call.Yank n v) h = absurd h
+file_is a (call.Unyank n v) h = absurd h
+file_is a (call.AddOwners n b) h = absurd h
+file_is a (call.RemoveOwners n b) h = absurd h
+file_is a (call.Search q per_page) h = absurd h
 
 module _ {S : Type 0} (g : Ghosts S) (limits : Limits) (s : model.Registry) (f : Facts) (token : Option Text) (same : f.token ≡ token) (close : Bool) (old new : Tables S) (w0 w1 : Option Text) (r : Result (Unit {0}) StreamFault) where
   pub answered : (w : Wants) → IsFit (event_of (request_from limits token w)) → (a : Answer) → Answers g limits s (event_of (request_from limits token w)) a old new
@@ -102,7 +101,7 @@ module _ {S : Type 0} (g : Ghosts S) (limits : Limits) (s : model.Registry) (f :
     sends = subst (λ it. Streams (Unread w) (reply_text it close false) w0 w1 r) denied (streams_of (Unread w) (reply_text reply close false) w0 w1 r sends);
   }
 
-module _ {S : Type 0} (g : Ghosts S) (limits : Limits) (s : model.Registry) (f : Facts) (token : Option Text) (same : f.token ≡ token) (w : Wanted) (file : AsksForFile w) (close : Bool) (old new : Tables S) (writes : ℕ) (before after : Sink) where
+module _ {S : Type 0} (g : Ghosts S) (limits : Limits) (s : model.Registry) (f : Facts) (token : Option Text) (same : f.token ≡ token) (w : ApiCall) (file : AsksForFile w) (close : Bool) (old new : Tables S) (writes : ℕ) (before after : Sink) where
   abbrev Told : Result ℕ IndexFault → Type 0
   Told r = StreamsTo g limits s (request_from limits token (wants_of w)).digest (request_from limits token (wants_of w)).asked close r writes old new before after
 

@@ -1,9 +1,9 @@
 -- One turn of a stream after the exchanges so far.
-use Rattle.std.proofs.Common.{◌≡◌, ◌≤◌, ◌<◌, ◌+◌, ◌++◌, ◌||◌, ◌==◌, ◌⊎◌, ℕ, Bool, true, false, List, [], ◌∷◌, inl, inr, refl, sym, ap, ◌∙◌, subst, arith, append_assoc, append-nil, length, length-append, take, drop, take-append-drop, Option, Result, Ok, Err}
+use Rattle.std.proofs.Common.{◌≡◌, ◌≤◌, ◌+◌, ◌++◌, ◌||◌, ◌==◌, ℕ, Bool, true, false, List, [], ◌∷◌, inl, inr, refl, sym, ap, ◌∙◌, subst, arith, append_assoc, length, take, drop, take-append-drop, Option, Result, Ok, Err}
 use Rattle.std.proofs.lemmas.Bool.{or_parts}
 use Rattle.std.proofs.lemmas.List.{length-take-le, take-take}
 use Rattle.std.proofs.lemmas.List.Elements.{All-nil}
-use Rattle.std.specs.Io.KnownBytes.{Appends, Consumes, IsAtEnd}
+use Rattle.std.specs.Io.KnownBytes.{Appends, Consumes}
 use Rattle.std.proofs.KnownBytes.{Appends-trans, Appends-nil, Consumes-trans, Consumes-nil}
 use Rattle.sqlite_trees.specs.declared.store.Store.{Ghosts}
 use Rattle.reg_body.specs.declared.limits.Limits.{Limits}
@@ -11,24 +11,23 @@ use Rattle.reg_http_read.specs.Heads.{Facts, IsHeadAt}
 use Rattle.reg_model.specs.declared.rule.Rule.{Rule}
 use Rattle.reg_model.specs.Registry as model
 use Rattle.reg_model.specs.Registry.{Text}
-use Rattle.reg_http_read.specs.Begun.{IsBegun, IsRefused, interim_of, is_head}
-use Rattle.reg_http_read.specs.Taking.{HasBegun, IsCutOff, Keeps, Reads, Takes}
+use Rattle.reg_http_read.specs.Begun.{IsBegun, interim_of, is_head}
+use Rattle.reg_http_read.specs.Taking.{IsCutOff, Keeps, Takes}
 use Rattle.reg_body.specs.Counting.{CountedEnd}
 use Rattle.reg_http_read.specs.Turns.{Sends, SpendsFor, SpendsSome, tally, writes_of}
 use Rattle.reg_http_read.specs.declared.fault.StreamFault.{StreamFault}
 use Rattle.reg_http_read.specs.declared.fault.StreamFault.TheVariants.{Memory, ReadFault, StoreFault, TooManyTurns, WriteFault}
 use Rattle.reg_http_read.specs.declared.taking.Begun.{Begun}
-use Rattle.reg_http_read.specs.declared.taking.Taken.{Taken}
 use Rattle.reg_http_read.specs.declared.taking.Taken.TheVariants as taken
 use Rattle.reg_http_routes.specs.Routing.{routing_of}
 use Rattle.reg_api_replies.specs.Sent.{AppendsFront}
-use Rattle.reg_service.specs.Answered.{LeavesAlone, Shows}
+use Rattle.reg_service.specs.Answered.{Shows}
 use Rattle.reg_service.specs.Sequences.{Ran}
 use Rattle.reg_tables.specs.declared.tables.Tables.{Tables}
 use Rattle.reg_tables.specs.Works.{shown}
 use Rattle.reg_http.specs.Answering.{AppendsSome, Replies}
 use Rattle.reg_http.specs.Exchanges.{Exchange, IsExchange, IsOfFile, answers_in, closes, events_in, outcome_text, reply_of}
-use Rattle.reg_http.specs.Streams.{Goes, HasRun, IsEnded, IsOpen, IsServed, IsStopped, Serves, closing_text, told}
+use Rattle.reg_http.specs.Streams.{Goes, HasRun, IsEnded, IsOpen, IsStopped, Serves, closing_text, told}
 use Rattle.reg_http.proofs.Exchanged.{EventsGoOn, goes_front, goes_push, goes_read, run_on}
 
 -- the exchanges so far, between two states of a reader and of a writer

@@ -73,7 +73,7 @@ abbrev pub IsRequestReplied : {S : Type 0} → Ghosts S → Limits → ApiReques
     → Tables S → Option Text → Option Text → Result (Unit {0}) StreamFault → Type 0
 IsRequestReplied g limits request close old new w0 w1 r =
     (f : Facts) → f.token ≡ option_map (λ t. t.now) request.token
-    → IsReplied g limits f (to_wants (wants_of request.wanted)) close old new w0 w1 r
+    → IsReplied g limits f (to_wants (wants_of request.call)) close old new w0 w1 r
 
 -- the registry goes on: its tables are ours, and its limits the same
 pub record GoesOn {S : Type 0} (g : Ghosts S) (old new : Registry S) : Type 0 where

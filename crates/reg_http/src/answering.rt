@@ -14,7 +14,7 @@ ghost use Rattle.reg_http.specs.Answering.{GoesOn, IsReplied, IsRequestReplied, 
 
 use reg_api_replies::laws::answer_law;
 use reg_api_replies::{Methods, Reply};
-use reg_api_requests::{ApiRequest, Wanted};
+use reg_api_requests::{ApiCall, ApiRequest};
 use reg_body::Counted;
 use reg_http_read::laws::{bounds_law, one_head_law};
 use reg_http_read::{Head, HeadRead, StreamFault, read_head, send_reply};
@@ -86,7 +86,7 @@ fn send_index<W: Write, S: Alter>(
 ) -> Result<(), StreamFault>
     requires tables { AreUpToDate S.Store (tables_of registry.old) }
     requires room { w.old.calls + left.old < 2 ^ 64 }
-    requires file { AsksForFile request.now.wanted }
+    requires file { AsksForFile request.now.call }
     ensures replied { IsRequestReplied S.Store (limits_of registry.old) request.now close
         (tables_of registry.old) (tables_of registry.new)
         (W.contents w.old.inner) (W.contents w.new.inner) result }
@@ -148,8 +148,8 @@ fn answer<W: Write, S: Alter>(
     ensures fewer { OnOk result (left.new < left.old) }
     ensures keeps { GoesOn S.Store registry.old registry.new }
 {
-    match request.wanted {
-        Wanted::Index(_) => send_index(alloc, registry, w, request, close, left),
+    match &request.call {
+        ApiCall::Index(_) => send_index(alloc, registry, w, request, close, left),
         _ => send_answer(alloc, registry, w, request, close, left),
     }
 }
@@ -198,7 +198,7 @@ fn answer_head<W: Write, S: Alter>(
 {
     let only = head.method == "HEAD";
     match routes.route(alloc, head, body) {
-        Ok(routed) => answer(alloc, registry, w, &routed.request(), close, left),
+        Ok(request) => answer(alloc, registry, w, &request, close, left),
         Err(fault) => refuse_route(w, fault, close, only, left),
     }
 }

@@ -6,7 +6,8 @@ use Rattle.reg_model.specs.Registry.{Text}
 use Rattle.reg_api_replies.specs.declared.head.Methods.{Methods}
 use Rattle.reg_api_replies.specs.declared.head.Methods.TheVariants.{Get, Put, Delete, GetPutDelete}
 use Rattle.reg_api_requests.specs.Wants as wants
-use Rattle.reg_api_requests.specs.Wants.Wants.{Config as to_config, Index as to_index, Download as to_download, ListOwners as to_list, Publish as to_publish, Yank as to_yank, Unyank as to_unyank, AddOwners as to_add, RemoveOwners as to_remove, Search as to_search}
+use Rattle.reg_api_requests.specs.Wants.Wants.{Config as to_config, Index as to_index, Download as to_download, ListOwners as to_list, Publish as to_publish, Yank as to_yank, Unyank as to_unyank, AddOwners as to_add, RemoveOwners as to_remove}
+use Rattle.reg_http_routes.specs.Queries.{search_wants}
 use Rattle.reg_http_routes.specs.Table.{place_of}
 use Rattle.reg_http_routes.specs.Targets.{index_rest, part_of, path_of, query_of}
 use Rattle.reg_http_routes.specs.declared.place.Place.{Place}
@@ -57,7 +58,7 @@ owners_wants method name body =
 -- part 4 of a path, a version part 5
 abbrev pub wants_at : Place → Text → Text → Text → wants.Wants
 wants_at Index method target body = index_wants (index_rest (path_of target))
-wants_at Crates method target body = to_search (query_of target)
+wants_at Crates method target body = search_wants (query_of target)
 wants_at New method target body = to_publish body
 wants_at Owners method target body = owners_wants method (part_of 4 (path_of target)) body
 wants_at Yank method target body =

@@ -2,18 +2,17 @@
 //!
 //! ```
 //! let routes = Routes::new(alloc)?;
-//! let routed = routes.route(alloc, &head, body)?;   // GET /index/1/a
-//! routed.request().wanted                           // Wanted::Index(b"1/a")
+//! let request = routes.route(alloc, &head, body)?;  // GET /index/1/a
+//! request.call                                      // ApiCall::Index, of b"1/a"
 //! ```
 #![tactic(auto)]
 
+mod calls;
 mod fault;
-mod kept;
 mod place;
-mod routed;
+mod query;
 mod routes;
 mod target;
 
 pub use fault::RouteFault;
-pub use routed::Routed;
 pub use routes::Routes;

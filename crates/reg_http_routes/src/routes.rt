@@ -6,12 +6,12 @@ ghost use Rattle.reg_http_routes.specs.Routed.{IsRouted};
 ghost use Rattle.reg_http_routes.specs.Routing.{routing_of};
 ghost use Rattle.reg_http_routes.specs.Table.{place_of, table, with_route};
 
+use crate::calls::call_at;
 use crate::fault::RouteFault;
-use crate::kept::keep;
 use crate::place::{Place, are_with};
-use crate::routed::Routed;
 use crate::target::split;
 use matchit::Router;
+use reg_api_requests::ApiRequest;
 use reg_http_read::Head;
 use std::alloc::{AllocError, Global};
 
@@ -74,7 +74,7 @@ impl Routes {
         alloc: Global,
         head: &Head<'b>,
         body: &'b [u8],
-    ) -> Result<Routed<'b>, RouteFault>
+    ) -> Result<ApiRequest<'b>, RouteFault>
         ensures { IsRouted (option_copied head.now.token) (routing_of (facts_of head.now) body.now)
             result }
     {
@@ -86,10 +86,9 @@ impl Routes {
         if !are_with(methods, head.method) {
             return Err(RouteFault::Method(methods));
         }
-        let kept = keep(alloc, place, head.method, head.target, body)?;
-        Ok(Routed {
+        Ok(ApiRequest {
             token: head.token,
-            kept,
+            call: call_at(alloc, place, head.method, head.target, body)?,
         })
     }
 }

@@ -182,8 +182,8 @@ module _ {S : Type 0} (g : Ghosts S) (limits : Limits) (s : Registry) (entry : T
       (es, xs, t, unread_on limits cs es xs ts c it tells unread, subst (Ran g limits s entry es xs t) (sym kept) so_far)
 
   -- the call at this place
-  pub answered_next : StepsRun → RunsJoin → (cs : List Call) (i : ℕ) (d : Call) (ts : List Told) (it : Told) (old new : Tables S) → i < length cs → IsFit (event_at limits (get_or cs i d)) ⊎ (IsUnread (get_or cs i d) it × (new ≡ old)) → HasCleanDisk (shown g new) → HasAnswered g limits s entry (take i cs) ts old → IsTold g limits (get_or cs i d) it old new → HasAnswered g limits s entry (take (i + 1) cs) (ts ++ it ∷ []) new
-  answered_next steps joins cs i d ts it old new lt read clean so_far told =
+  pub answered_next : StepsRun → RunsJoin → (cs : List Call) (i : ℕ) (c : Call) (ts : List Told) (it : Told) (old new : Tables S) → i < length cs → c ≡ get_or cs i c → IsFit (event_at limits c) ⊎ (IsUnread c it × (new ≡ old)) → HasCleanDisk (shown g new) → HasAnswered g limits s entry (take i cs) ts old → IsTold g limits c it old new → HasAnswered g limits s entry (take (i + 1) cs) (ts ++ it ∷ []) new
+  answered_next steps joins cs i c ts it old new lt is read clean so_far told =
       let next : suc i ≡ i + 1 = omega arith in
-      subst (λ l. HasAnswered g limits s entry l (ts ++ it ∷ []) new) (sym (take-suc cs i d lt) ∙ ap (λ n. take n cs) next)
-      (answered_on steps joins (take i cs) ts (get_or cs i d) it old new read clean so_far told)
+      subst (λ l. HasAnswered g limits s entry l (ts ++ it ∷ []) new) (ap (λ x. take i cs ++ x ∷ []) is ∙ sym (take-suc cs i c lt) ∙ ap (λ n. take n cs) next)
+      (answered_on steps joins (take i cs) ts c it old new read clean so_far told)

@@ -17,8 +17,8 @@ use Rattle.reg_model.specs.Events.Event.{Ask}
 use Rattle.reg_model.specs.Registry.{Registry, Text}
 use Rattle.reg_tables_schema.specs.States.{LeavesCommit}
 use Rattle.reg_api_replies.specs.Sent.{Sink}
-use Rattle.reg_api_requests.specs.declared.request.Wanted.{Wanted}
-use Rattle.reg_api_requests.specs.declared.request.Wanted.TheVariants as wanted
+use Rattle.reg_api_requests.specs.declared.request.ApiCall.{ApiCall}
+use Rattle.reg_api_requests.specs.declared.request.ApiCall.TheVariants as call
 use Rattle.reg_api_requests.specs.Requests.{asked_by}
 use Rattle.reg_api_replies.specs.Texts.{answer_text, refusal_text}
 use Rattle.reg_tables_sql.specs.Stems.{AreStemsOf}
@@ -123,14 +123,14 @@ module _ {S : Type 0} (g : Ghosts S) (close : Bool) (r : Result ℕ IndexFault) 
   }
 
 -- a request for an index file names no logins
-pub no_logins : (limits : Limits) (w : Wanted) → AsksForFile w → logins_of (action_of (asked_by limits w)) ≡ []
-no_logins limits (wanted.Index path) h = refl
-no_logins limits wanted.Config h = absurd h
-no_logins limits (wanted.Download n v) h = absurd h
-no_logins limits (wanted.ListOwners n) h = absurd h
-no_logins limits (wanted.Publish body) h = absurd h
-no_logins limits (wanted.Yank n v) h = absurd h
-no_logins limits (wanted.Unyank n v) h = absurd h
-no_logins limits (wanted.AddOwners n body) h = absurd h
-no_logins limits (wanted.RemoveOwners n body) h = absurd h
-no_logins limits (wanted.Search query) h = absurd h
+pub no_logins : (limits : Limits) (w : ApiCall) → AsksForFile w → logins_of (action_of (asked_by limits w)) ≡ []
+no_logins limits (call.Index path) h = refl
+no_logins limits call.Config h = absurd h
+no_logins limits (call.Download n v) h = absurd h
+no_logins limits (call.ListOwners n) h = absurd h
+no_logins limits (call.Publish body) h = absurd h
+no_logins limits (call.Yank n v) h = absurd h
+no_logins limits (call.Unyank n v) h = absurd h
+no_logins limits (call.AddOwners n body) h = absurd h
+no_logins limits (call.RemoveOwners n body) h = absurd h
+no_logins limits (call.Search q per_page) h = absurd h

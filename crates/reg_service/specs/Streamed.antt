@@ -9,8 +9,8 @@ use Rattle.reg_model.specs.Events.Answer.{Denied}
 use Rattle.reg_model.specs.Events.Asked.{Index as to_index}
 use Rattle.reg_model.specs.Events.Event.{Ask}
 use Rattle.reg_model.specs.Registry.{Registry, Text}
-use Rattle.reg_api_requests.specs.declared.request.Wanted.{Wanted}
-use Rattle.reg_api_requests.specs.declared.request.Wanted.TheVariants.{Index}
+use Rattle.reg_api_requests.specs.declared.request.ApiCall.{ApiCall}
+use Rattle.reg_api_requests.specs.declared.request.ApiCall.TheVariants.{Index}
 use Rattle.reg_api_replies.specs.Sent.{Sink}
 use Rattle.reg_api_replies.specs.Texts.{answer_text}
 use Rattle.reg_service_index.specs.Decides.{Decides}
@@ -25,7 +25,7 @@ use Rattle.reg_tables.specs.Works.{is_shut, shown}
 use Rattle.reg_service.specs.Answered.{Answers, AreUpToDate, IsAnswered, Shows, Stays}
 
 -- an index file is asked for
-abbrev pub AsksForFile : Wanted → Type 0
+abbrev pub AsksForFile : ApiCall → Type 0
 AsksForFile (Index path) = Unit {0}
 AsksForFile _ = ⊥
 

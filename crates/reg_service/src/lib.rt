@@ -4,7 +4,7 @@
 //! ```
 //! let mut registry = Registry::create(conn, "http://127.0.0.1:8080", Limits::STANDARD)?;
 //! registry.command(alloc, &AdminCommand::UserAdd("ada", None))?       // AdminReply::Done
-//! let request = ApiRequest { token: None, wanted: Wanted::Config };
+//! let request = ApiRequest { token: None, call: ApiCall::Config };
 //! registry.handle(alloc, &request)                                    // Reply::Denied(Rule::A1)
 //! let calls = [Call::Request(request), Call::Command(AdminCommand::Users)];
 //! answer_all(alloc, &mut registry, &calls)?                           // what each is told
@@ -21,6 +21,8 @@ mod streaming;
 mod transactions;
 
 pub use opening::OpenFault;
+pub use reg_api_replies::{Kind, Methods, Reply, reply_head};
+pub use reg_api_requests::{ApiCall, ApiRequest};
 pub use reg_audit::Check;
 pub use reg_service_index::IndexFault;
 pub use registry::Registry;

@@ -103,7 +103,7 @@ impl<S: Alter> Registry<S> {
         writes: u64,
     ) -> Result<u64, IndexFault>
         requires tables { AreUpToDate S.Store (tables_of self.old) }
-        requires index { AsksForFile request.now.wanted }
+        requires index { AsksForFile request.now.call }
         requires room { writer.old.calls + writes < 2 ^ 64 }
         ensures streams { let asks = request_of (limits_of self.old) request.now in
             IsStreamed S.Store (limits_of self.old) asks.digest asks.asked close result writes

@@ -11,8 +11,6 @@ use Rattle.sqlite.proofs.Callers.{given_begin}
 use Rattle.sqlite_trees.specs.declared.store.Store.{Ghosts}
 use Rattle.reg_line.specs.File.{file_text, line_of}
 use Rattle.reg_model.specs.Registry.{Text}
-use Rattle.reg_api_replies.specs.Heads.{head_text}
-use Rattle.reg_api_replies.specs.declared.head.Kind.TheVariants.{Plain}
 use Rattle.reg_tables_schema.specs.declared.edition.Edition.TheVariants.{Second}
 use Rattle.reg_tables_schema.specs.Schema.{ours}
 use Rattle.reg_tables_schema.specs.States.{IsOurs}
@@ -20,7 +18,7 @@ use Rattle.reg_tables_schema.specs.Statements.{rows_in}
 use Rattle.reg_api_replies.specs.declared.bytes.SendFault.{SendFault}
 use Rattle.reg_api_replies.specs.declared.bytes.SendFault.TheVariants.{Spent, Write}
 use Rattle.reg_api_replies.specs.Sent.{IsStopped, Piles, SendsAll, Sink}
-use Rattle.reg_api_replies.specs.Texts.{done_head}
+use Rattle.reg_api_replies.specs.Texts.{file_head}
 use Rattle.reg_api_replies.proofs.Joined.{pile_sent, pile_stopped, piles_behind, sends_nothing}
 use Rattle.reg_tables_sql.specs.Stems.{AreStemsOf, columns_of_stem, entries_text}
 use Rattle.reg_tables_sql.specs.declared.versions.StemRow.{StemRow}
@@ -76,7 +74,7 @@ module _ {S : Type 0} (g : Ghosts S) (first : Held S) (f : FoundFile) (at : IsOu
 
   module _ (close : Bool) (writes : ℕ) (s : Sink) where
     abbrev head : Text
-    head = head_text (done_head Plain f.length close)
+    head = file_head f.length close
 
     no_rows : head ≡ head ++ lines_in []
     no_rows = sym (append-nil head)

@@ -7,10 +7,8 @@ use Rattle.sqlite.specs.Order.{Row}
 use Rattle.sqlite.specs.State.{HasCleanDisk}
 use Rattle.sqlite_trees.specs.declared.store.Store.{Ghosts}
 use Rattle.reg_model.specs.Registry.{Text}
-use Rattle.reg_api_replies.specs.Heads.{head_text}
-use Rattle.reg_api_replies.specs.declared.head.Kind.TheVariants.{Plain}
 use Rattle.reg_api_replies.specs.Sent.{AppendsFront, SendsAll, Sink}
-use Rattle.reg_api_replies.specs.Texts.{done_head}
+use Rattle.reg_api_replies.specs.Texts.{file_head}
 use Rattle.reg_tables.specs.declared.tables.Tables.{Tables}
 use Rattle.reg_tables.specs.Works.{held}
 use Rattle.reg_api_replies.proofs.Joined.{stopped_first}
@@ -112,7 +110,7 @@ was_begun text writes s t h other = from h.used refl
 
 module _ {S : Type 0} (g : Ghosts S) (f : FoundFile) (close : Bool) (writes : ℕ) (db : Tables S) (s t : Sink) where
   rows_longer : (rows tail : List Row) → rows_text f close rows ++ lines_in tail ≡ rows_text f close (rows ++ tail)
-  rows_longer rows tail = append_assoc (head_text (done_head Plain f.length close)) (lines_in rows) (lines_in tail) ∙ ap (λ l. head_text (done_head Plain f.length close) ++ l) (sym (lines_both rows tail))
+  rows_longer rows tail = append_assoc (file_head f.length close) (lines_in rows) (lines_in tail) ∙ ap (λ l. file_head f.length close ++ l) (sym (lines_both rows tail))
 
   text_so : (r : Result ℕ IndexFault) (rows : List Row) (b : BeginsFile g f.crate_id r (held db) rows) → Streams r (rows_text f close rows) writes s t → Streams r (rows_text f close (rows ++ b.tail)) writes s t
   text_so (Ok used) rows b h = subst (λ l. Streams (Ok used) (rows_text f close l) writes s t) (sym (ap (λ l. rows ++ l) b.all ∙ append-nil rows)) h

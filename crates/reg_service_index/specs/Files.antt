@@ -6,11 +6,9 @@ use Rattle.sqlite.specs.State.{HasCleanDisk}
 use Rattle.sqlite_trees.specs.declared.store.Store.{Ghosts}
 use Rattle.reg_model.specs.declared.rule.Rule.TheVariants as rule
 use Rattle.reg_model.specs.Registry.{Text}
-use Rattle.reg_api_replies.specs.Heads.{head_text}
-use Rattle.reg_api_replies.specs.declared.head.Kind.TheVariants.{Plain}
 use Rattle.reg_tables_schema.specs.Statements.{rows_in}
 use Rattle.reg_api_replies.specs.Sent.{Sink}
-use Rattle.reg_api_replies.specs.Texts.{done_head, refusal_text}
+use Rattle.reg_api_replies.specs.Texts.{file_head, refusal_text}
 use Rattle.reg_tables_sql.specs.Stems.{AreStemsOf}
 use Rattle.reg_tables.specs.declared.tables.Tables.{Tables}
 use Rattle.reg_tables.specs.Works.{shown}
@@ -35,7 +33,7 @@ IsUnsent r old new = (r ≡ Err Store) × (new.calls ≡ old.calls)
 
 -- the head of an index file, and the lines of these rows behind it
 abbrev pub rows_text : FoundFile → Bool → List Row → Text
-rows_text f close rows = head_text (done_head Plain f.length close) ++ lines_in rows
+rows_text f close rows = file_head f.length close ++ lines_in rows
 
 -- the lines of these rows were sent behind the head
 pub record SendsRows {S : Type 0} (g : Ghosts S) (f : FoundFile) (close : Bool)

@@ -5,29 +5,17 @@ ghost use Rattle.sqlite.specs.Held.{state};
 ghost use Rattle.reg_tables_schema.specs.States.{IsOurs};
 ghost use Rattle.reg_api_replies.specs.Sent.{sink};
 ghost use Rattle.reg_tables_meaning.specs.Walks.{IsRead};
-ghost use Rattle.reg_api_replies.specs.Texts.{done_head};
 ghost use Rattle.reg_service_index.specs.Files.{SendsRows};
 
 use crate::fault::IndexFault;
 use crate::found::FoundFile;
 use crate::lines::put_line;
-use reg_api_replies::{Head, Kind, Pile, reply_head};
+use http::StatusCode;
+use reg_api_replies::{Kind, Pile, reply_head};
 use reg_body::Counted;
 use reg_tables::{Edition, FromRow, StemRow, index_rows};
 use sqlite::{Alter, Connection};
 use std::io::Write;
-
-fn head_of(file: &FoundFile, close: bool) -> Head
-    ensures { result ≡ done_head Kind.Plain file.now.length close }
-{
-    Head {
-        refusal: None,
-        kind: Kind::Plain,
-        length: file.length,
-        allow: None,
-        close,
-    }
-}
 
 /// Sends the head and the lines of the file. Nothing is sent before the rows can be read.
 pub(crate) fn send_rows<S: Alter, W: Write>(
@@ -43,7 +31,7 @@ pub(crate) fn send_rows<S: Alter, W: Write>(
         (sink (W.contents w.old.inner) w.old) (sink (W.contents w.new.inner) w.new) }
     ensures reads { IsRead S.Store result conn.old conn.new }
 {
-    let head = reply_head(&head_of(file, close));
+    let head = reply_head(StatusCode::OK, Kind::Text, None, file.length, close);
     let mut pile = Pile::new();
     let mut rows = index_rows(conn, file.crate_id)?;
     let mut used = pile.put(w, head.as_bytes(), writes)?;

@@ -18,7 +18,7 @@ use Rattle.reg_model.specs.Events.Asked.{Download, Index, ListOwners, Read}
 use Rattle.reg_model.specs.Events.Reading.{Config}
 use Rattle.reg_model.specs.Registry.{Publication, Registry, Text}
 use Rattle.reg_api_replies.specs.Bodies.{owners_body}
-use Rattle.reg_api_replies.specs.declared.head.Kind.TheVariants.{Archive, Json, Plain}
+use Rattle.reg_api_replies.specs.declared.head.Kind.TheVariants as kind
 use Rattle.reg_api_replies.specs.declared.reply.Reply.TheVariants.{Done}
 use Rattle.reg_tables_schema.proofs.Queries.{maps_twice}
 use Rattle.reg_tables_sql.specs.declared.accounts.Account.{Account}
@@ -42,17 +42,17 @@ by_canon : {X : Type 0} (tell : Text → X) (nothing : X) (ids : Ids) (n : Text)
 by_canon tell nothing ids n id (m, at, same) = ap (λ o. told_of o nothing (λ name. tell (canon name))) at ∙ ap tell same
 
 pub archive_served : (n v : Text) (c : FoundCrate) (archive : Vec ℕ Global) (db : Trees) → FindsArchive c.id v db (Some archive)
-    → (limits : Limits) (digest : Text) → IsLet digest (action_of (Download n v)) db → IsCrate (action_of (Download n v)) c db → Serves limits (Some digest) (Download n v) db db (Told (Done Archive archive))
+    → (limits : Limits) (digest : Text) → IsLet digest (action_of (Download n v)) db → IsCrate (action_of (Download n v)) c db → Serves limits (Some digest) (Download n v) db db (Told (Done kind.Archive archive))
 unfolding done
-archive_served n v c archive db found limits digest lets is = told_served limits digest (Download n v) (Done Archive archive) db db (λ ids s h.
+archive_served n v c archive db found limits digest lets is = told_served limits digest (Download n v) (Done kind.Archive archive) db db (λ ids s h.
     let archive_by = λ (text : Text). option_map (λ (p : Publication). p.archive) (find (λ p. bytes_eq p.version v) (filter (λ p. bytes_eq (canon p.name) text) s.publications)) in
     let same = found ids s h ∙ by_canon archive_by None ids n c.id (spelled_as ids s c n (is ids s h)).1 in
     (denied_by_others limits digest (Download n v) s (lets ids s h), (refl, refl, ap (λ o. unwrap_or o []) same), refl))
 
 pub owners_served : (n : Text) (c : FoundCrate) (list : List Account) (text : Vec ℕ Global) (db : Trees) → text.items ≡ owners_body (map owner_of_account list) → ListsOwners c.id db list
-    → (limits : Limits) (digest : Text) → IsLet digest (action_of (ListOwners n)) db → IsCrate (action_of (ListOwners n)) c db → Serves limits (Some digest) (ListOwners n) db db (Told (Done Json text))
+    → (limits : Limits) (digest : Text) → IsLet digest (action_of (ListOwners n)) db → IsCrate (action_of (ListOwners n)) c db → Serves limits (Some digest) (ListOwners n) db db (Told (Done kind.Json text))
 unfolding done
-owners_served n c list text db made lists limits digest lets is = told_served limits digest (ListOwners n) (Done Json text) db db (λ ids s h.
+owners_served n c list text db made lists limits digest lets is = told_served limits digest (ListOwners n) (Done kind.Json text) db db (λ ids s h.
     let owners_by = λ (text : Text). filter (λ o. finset.contains s.owners (text, o.0)) (enumerate_from 1 s.accounts) in
     let same = lists ids s h ∙ by_canon owners_by [] ids n c.id (spelled_as ids s c n (is ids s h)).1 in
     (denied_by_others limits digest (ListOwners n) s (lets ids s h), (refl, refl, made ∙ ap owners_body (sym (maps_twice entry_of_account owner_entry list) ∙ ap (map owner_entry) same)), refl))
@@ -76,16 +76,16 @@ pub entries_told : (s : Registry) (n : Text) (list : List Version) → map shown
 entries_told s n list lists = sym (maps_twice shown_version shown_entry list) ∙ ap (map shown_entry) lists ∙ entries_are s n s.publications
 
 pub index_served : (path : Text) (c : FoundCrate) (list : List Version) (text : Vec ℕ Global) (db : Trees) → text.items ≡ file_text (map entry_of_version list) → ListsVersions c.id db list
-    → (limits : Limits) (digest : Text) → IsLet digest (action_of (Index path)) db → IsCrate (action_of (Index path)) c db → Serves limits (Some digest) (Index path) db db (Told (Done Plain text))
+    → (limits : Limits) (digest : Text) → IsLet digest (action_of (Index path)) db → IsCrate (action_of (Index path)) c db → Serves limits (Some digest) (Index path) db db (Told (Done kind.Text text))
 unfolding done
-index_served path c list text db made lists limits digest lets is = told_served limits digest (Index path) (Done Plain text) db db (λ ids s h.
+index_served path c list text db made lists limits digest lets is = told_served limits digest (Index path) (Done kind.Text text) db db (λ ids s h.
     let n = unwrap_or (name_at path) [] in
     let shown_by = λ (text : Text). map (version_shown s.yanked) (filter (λ p. bytes_eq (canon p.name) text) s.publications) in
     let same = entries_told s n list (lists ids s h ∙ by_canon shown_by [] ids n c.id (spelled_at ids s c path (is ids s h))) in
     (denied_by_others limits digest (Index path) s (lets ids s h), (refl, refl, made ∙ ap file_text same), refl))
 
 pub config_served : (base : Text) (text : Vec ℕ Global) (db : Trees) → text.items ≡ config_text base → TellsBase db base
-    → (limits : Limits) (digest : Text) → IsLet digest (action_of (Read Config)) db → Serves limits (Some digest) (Read Config) db db (Told (Done Json text))
+    → (limits : Limits) (digest : Text) → IsLet digest (action_of (Read Config)) db → Serves limits (Some digest) (Read Config) db db (Told (Done kind.Json text))
 unfolding done
-config_served base text db made tells limits digest lets = told_served limits digest (Read Config) (Done Json text) db db (λ ids s h.
+config_served base text db made tells limits digest lets = told_served limits digest (Read Config) (Done kind.Json text) db db (λ ids s h.
     (denied_by_others limits digest (Read Config) s (lets ids s h), (refl, refl, made ∙ ap config_text (tells ids s h)), refl))

@@ -55,7 +55,7 @@ pub(crate) fn read_index<S: Alter>(
 {
     let versions = work.versions_of(alloc, found.id)?;
     match index_file(alloc, versions) {
-        Ok(text) => Ok(Served::Told(Reply::Done(Kind::Plain, text))),
+        Ok(text) => Ok(Served::Told(Reply::Done(Kind::Text, text))),
         Err(_) => work.fail(),
     }
 }

@@ -1,9 +1,8 @@
 //! Replies as texts, with all that they hold.
 
-use reg_api_replies::{Kind, Reply};
 use reg_model::AdminRefusal;
 use reg_policy::AdminReply;
-use reg_service::Told;
+use reg_service::{Kind, Reply, Told};
 use std::alloc::{AllocError, Global};
 
 /// A body of UTF-8; a line feed stands as `<0a>`.
@@ -16,7 +15,7 @@ fn done_text(alloc: Global, kind: Kind, body: &[u8]) -> Result<String, AllocErro
     let text = body_text(alloc, body)?;
     match kind {
         Kind::Json => format!(in alloc; "Json {text}"),
-        Kind::Plain => format!(in alloc; "Plain({}) {text}", body.len()),
+        Kind::Text => format!(in alloc; "Text({}) {text}", body.len()),
         Kind::Archive => format!(in alloc; "Archive({}) {text}", body.len()),
     }
 }

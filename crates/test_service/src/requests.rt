@@ -1,8 +1,9 @@
 //! Words of scripts that are requests.
 
-use reg_api_requests::{ApiRequest, Wanted};
 use reg_body::{JoinFault, join};
+use reg_service::{ApiCall, ApiRequest};
 use std::alloc::{AllocError, Global};
+use std::borrow::{CowSlice, CowStr};
 use test_support::examples::SECOND_TOKEN;
 
 /// The text of the token that a script names.
@@ -59,29 +60,45 @@ pub(crate) fn publish_body(alloc: Global, words: &[&str]) -> Result<Vec<u8>, All
     }
 }
 
-/// What is read.
-fn reading<'a>(words: &[&'a str]) -> Option<Wanted<'a>> {
+/// A part of a path.
+fn part(word: &str) -> CowSlice<'_, u8> {
+    CowSlice::Borrowed(word.as_bytes())
+}
+
+/// What stands behind the name in a word as `q=a`.
+fn value<'a>(word: &'a str, name: &str) -> Option<CowStr<'a>> {
+    Some(CowStr::Borrowed(word.strip_prefix(name)?))
+}
+
+/// What is read; a search has one word.
+fn reading<'a>(words: &[&'a str]) -> Option<ApiCall<'a>> {
     Some(match words {
-        ["config"] => Wanted::Config,
-        ["index", path] => Wanted::Index(path.as_bytes()),
-        ["download", name, version] => Wanted::Download(name.as_bytes(), version.as_bytes()),
-        ["owners", name] => Wanted::ListOwners(name.as_bytes()),
-        ["search", query] => Wanted::Search(query.as_bytes()),
-        ["search"] => Wanted::Search(b""),
+        ["config"] => ApiCall::Config,
+        ["index", path] => ApiCall::Index(part(path)),
+        ["download", name, version] => ApiCall::Download(part(name), part(version)),
+        ["owners", name] => ApiCall::ListOwners(part(name)),
+        ["search", word] => ApiCall::Search {
+            q: value(word, "q="),
+            per_page: value(word, "per_page="),
+        },
+        ["search"] => ApiCall::Search {
+            q: None,
+            per_page: None,
+        },
         _ => return None,
     })
 }
 
 /// What is changed; a publish has its body beside the words.
-fn changing<'a>(words: &[&'a str], body: &'a [u8]) -> Option<Wanted<'a>> {
+fn changing<'a>(words: &[&'a str], body: &'a [u8]) -> Option<ApiCall<'a>> {
     Some(match words {
-        ["release", ..] => Wanted::Publish(body),
-        ["publish", ..] => Wanted::Publish(body),
-        ["publish-bytes", ..] => Wanted::Publish(body),
-        ["yank", name, version] => Wanted::Yank(name.as_bytes(), version.as_bytes()),
-        ["unyank", name, version] => Wanted::Unyank(name.as_bytes(), version.as_bytes()),
-        ["add-owners", name, json] => Wanted::AddOwners(name.as_bytes(), json.as_bytes()),
-        ["remove-owners", name, json] => Wanted::RemoveOwners(name.as_bytes(), json.as_bytes()),
+        ["release", ..] => ApiCall::Publish(body),
+        ["publish", ..] => ApiCall::Publish(body),
+        ["publish-bytes", ..] => ApiCall::Publish(body),
+        ["yank", name, version] => ApiCall::Yank(part(name), part(version)),
+        ["unyank", name, version] => ApiCall::Unyank(part(name), part(version)),
+        ["add-owners", name, json] => ApiCall::AddOwners(part(name), json.as_bytes()),
+        ["remove-owners", name, json] => ApiCall::RemoveOwners(part(name), json.as_bytes()),
         _ => return None,
     })
 }
@@ -92,9 +109,9 @@ pub(crate) fn request_of<'a>(
     words: &[&'a str],
     body: &'a [u8],
 ) -> Option<ApiRequest<'a>> {
-    let wanted = reading(words).or(changing(words, body))?;
+    let call = reading(words).or(changing(words, body))?;
     Some(ApiRequest {
         token: token_of(who),
-        wanted,
+        call,
     })
 }

@@ -5,9 +5,8 @@ ghost use Rattle.reg_service.specs.Registries.{tables_of};
 
 use crate::calls::{Parts, answer};
 use crate::replies::{body_text, told_text};
-use reg_api_requests::{ApiRequest, Wanted};
 use reg_body::Counted;
-use reg_service::{Check, Registry, Told};
+use reg_service::{ApiCall, ApiRequest, Check, Registry, Told};
 use sqlite::Alter;
 use std::alloc::{AllocError, Global};
 use test_files::leave_only;
@@ -57,7 +56,7 @@ fn sent<S: Alter>(alloc: Global, registry: &mut Registry<S>, request: &ApiReques
     requires { AreUpToDate S.Store (tables_of registry.old) }
     ensures { AreUpToDate S.Store (tables_of registry.new) }
 {
-    let Wanted::Index(_) = request.wanted else {
+    let ApiCall::Index(_) = &request.call else {
         return Answer::NoSuchWords;
     };
     let mut writer = Counted::new(Vec::new(alloc));

@@ -161,7 +161,7 @@ make-old -> done
 rows SELECT schema FROM about -> 1;
 
 open -> done
-ada index 1/a -> Plain(175)
+ada index 1/a -> Text(175)
      {"cksum":"ba7816bf8f01cfea414140de5dae2223b00361a396177a9cb410ff61f20015ad",
     "deps":[],"features":{},"links":null,"name":"a","rust_version":null,
     "vers":"0.1.0","yanked":false}<0a>
@@ -169,7 +169,7 @@ ada index 1/a -> Plain(175)
 rows SELECT schema FROM about -> 2;
 
 open -> done
-ada index 1/a -> Plain(175)
+ada index 1/a -> Text(175)
      {"cksum":"ba7816bf8f01cfea414140de5dae2223b00361a396177a9cb410ff61f20015ad",
     "deps":[],"features":{},"links":null,"name":"a","rust_version":null,
     "vers":"0.1.0","yanked":false}<0a>

@@ -21,7 +21,7 @@ fn two_spellings(rt: HostRuntime) {
 ada release acme-net 1.0.0 abc -> Json
      {"warnings":{"invalid_badges":[],"invalid_categories":[],"other":[]}}
 ada release Acme_Net 1.1.0 -> N3
-ada index ac/me/acme-net -> Plain(182)
+ada index ac/me/acme-net -> Text(182)
      {"cksum":"ba7816bf8f01cfea414140de5dae2223b00361a396177a9cb410ff61f20015ad",
     "deps":[],"features":{},"links":null,"name":"acme-net","rust_version":null,
     "vers":"1.0.0","yanked":false}<0a>
@@ -92,7 +92,7 @@ fn growing_index_file(rt: HostRuntime) {
     let script = r#"given two-accounts-and-a
 ada release a 0.2.0 -> Json
      {"warnings":{"invalid_badges":[],"invalid_categories":[],"other":[]}}
-ada index 1/a -> Plain(350)
+ada index 1/a -> Text(350)
      {"cksum":"e3b0c44298fc1c149afbf4c8996fb92427ae41e4649b934ca495991b7852b855",
     "deps":[],"features":{},"links":null,"name":"a","rust_version":null,
     "vers":"0.1.0","yanked":false}<0a>
@@ -100,7 +100,7 @@ ada index 1/a -> Plain(350)
     "deps":[],"features":{},"links":null,"name":"a","rust_version":null,
     "vers":"0.2.0","yanked":false}<0a>
 ada yank a 0.1.0 -> Json {"ok":true}
-ada index 1/a -> Plain(349)
+ada index 1/a -> Text(349)
      {"cksum":"e3b0c44298fc1c149afbf4c8996fb92427ae41e4649b934ca495991b7852b855",
     "deps":[],"features":{},"links":null,"name":"a","rust_version":null,
     "vers":"0.1.0","yanked":true}<0a>
@@ -108,7 +108,7 @@ ada index 1/a -> Plain(349)
     "deps":[],"features":{},"links":null,"name":"a","rust_version":null,
     "vers":"0.2.0","yanked":false}<0a>
 ada unyank a 0.1.0 -> Json {"ok":true}
-ada index 1/a -> Plain(350)
+ada index 1/a -> Text(350)
      {"cksum":"e3b0c44298fc1c149afbf4c8996fb92427ae41e4649b934ca495991b7852b855",
     "deps":[],"features":{},"links":null,"name":"a","rust_version":null,
     "vers":"0.1.0","yanked":false}<0a>
@@ -126,7 +126,7 @@ ada publish {"name":"acme-net","vers":"1.0.0-rc.1","deps":[{"name":"serde","vers
     "registry":null,"explicit_name_in_toml":"codec"}],"features":{"std":[],"wire":["dep:codec"]},
     "rust_version":"1.70"} abc -> Json
      {"warnings":{"invalid_badges":[],"invalid_categories":[],"other":[]}}
-ada index ac/me/acme-net -> Plain(394)
+ada index ac/me/acme-net -> Text(394)
      {"cksum":"ba7816bf8f01cfea414140de5dae2223b00361a396177a9cb410ff61f20015ad",
     "deps":[{"default_features":false,"features":["derive"],"kind":"normal","name":"codec",
     "optional":true,"package":"serde","registry":null,"req":"^1.0","target":null}],

@@ -12,7 +12,7 @@ bob search  -> Json {"crates":[],"meta":{"total":0}}
 ada search  -> Json {"crates":[{"description":null,"max_version":"0.1.0","name":"a"}],
     "meta":{"total":1}}
 reader-add a bob -> done
-bob index 1/a -> Plain(175)
+bob index 1/a -> Text(175)
      {"cksum":"e3b0c44298fc1c149afbf4c8996fb92427ae41e4649b934ca495991b7852b855",
     "deps":[],"features":{},"links":null,"name":"a","rust_version":null,
     "vers":"0.1.0","yanked":false}<0a>"#;

@@ -8,7 +8,7 @@ ghost use Rattle.reg_service.specs.Registries.{tables_of};
 
 use crate::service::agreeing::{obeys_alike, replies_alike};
 use reg_api_replies::{Reply, write_reply};
-use reg_api_requests::{ApiRequest, Wanted, read_request};
+use reg_api_requests::{ApiCall, ApiRequest, read_request};
 use reg_body::Counted;
 use reg_policy::{AdminCommand, Event};
 use reg_policy_plain::PlainRegistry;
@@ -41,7 +41,7 @@ fn is_streamed_alike<S: Alter>(
     requires { AreUpToDate S.Store (tables_of registry.old) }
     ensures { AreUpToDate S.Store (tables_of registry.new) }
 {
-    let Wanted::Index(_) = request.wanted else {
+    let ApiCall::Index(_) = &request.call else {
         return true;
     };
     let mut streamed = Counted::new(Vec::new(alloc));

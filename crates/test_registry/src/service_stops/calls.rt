@@ -61,7 +61,7 @@ audit -> none"#;
 pub(crate) const REQUESTS: &str = r#"ada config -> Json
      {"api":"http://127.0.0.1:8080","auth-required":true,
     "dl":"http://127.0.0.1:8080/api/v1/crates"}
-ada index 1/a -> Plain(175)
+ada index 1/a -> Text(175)
      {"cksum":"e3b0c44298fc1c149afbf4c8996fb92427ae41e4649b934ca495991b7852b855",
     "deps":[],"features":{},"links":null,"name":"a","rust_version":null,
     "vers":"0.1.0","yanked":false}<0a>

@@ -7,10 +7,10 @@ use Rattle.reg_api_requests.proofs.reading.text.Goals as goal
 pub returns-in-Ok : goal.returns-in-Ok
 returns-in-Ok c =
     let h = c.in-Ok.ensures.cases in
-    h.0 ∙ sym (cond-true _ _ _ (is_utf8-from_IsUtf8 c.args.bytes.now h.1))
+    rw (← c.as_slice.ensures.value) (h.0 ∙ sym (cond-true _ _ _ (is_utf8-from_IsUtf8 c.as_slice.result.now h.1)))
 
 pub returns-in-Err : goal.returns-in-Err
-returns-in-Err c = elim (cases_Bool (is_utf8 c.args.bytes.now)) [
-  | inl text ↦ absurd (c.in-Err.ensures.cases.0 (IsUtf8-from_is_utf8 c.args.bytes.now text))
+returns-in-Err c = rw (← c.as_slice.ensures.value) elim (cases_Bool (is_utf8 c.as_slice.result.now)) [
+  | inl text ↦ absurd (c.in-Err.ensures.cases.0 (IsUtf8-from_is_utf8 c.as_slice.result.now text))
   | inr other ↦ sym (cond-false _ _ _ other)
 ]

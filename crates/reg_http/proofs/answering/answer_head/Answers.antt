@@ -1,4 +1,4 @@
-use Rattle.std.proofs.Common.{◌≡◌, option_copied, rules, subst}
+use Rattle.std.proofs.Common.{◌≡◌, rules, subst}
 use Rattle.reg_http_read.specs.Reads.{facts_of}
 use Rattle.reg_http_read.specs.Begun.{is_head}
 use Rattle.reg_http_read.specs.Turns.{Sends}

@@ -1,4 +1,4 @@
-use Rattle.std.proofs.Common.{◌≡◌, [], ◌++◌, sym, subst, append-nil, drop}
+use Rattle.std.proofs.Common.{◌≡◌, [], sym, subst, append-nil, drop}
 use Rattle.reg_http_read.specs.Heads.{IsHeadAt}
 use Rattle.reg_http_read.specs.Reads.{facts_of}
 use Rattle.reg_http_routes.specs.Routing.{routing_of}

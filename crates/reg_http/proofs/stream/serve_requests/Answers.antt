@@ -1,7 +1,6 @@
-use Rattle.std.proofs.Common.{◌≡◌, ◌<◌, ◌≤◌, ◌+◌, ◌||◌, ◌==◌, ◌∙◌, true, false, sym, refl, ap, arith, length, subst, Ok, Err}
+use Rattle.std.proofs.Common.{◌+◌, ◌||◌, ◌==◌, ◌∙◌, refl, ap, arith, subst, Ok, Err}
 use Rattle.std.proofs.lemmas.Result.{err_from_is_err_and}
 use Rattle.reg_http_read.proofs.Adding.{spends_for, spends_nothing, spends_some}
-use Rattle.reg_body.specs.declared.limits.Limits.{Limits}
 use Rattle.reg_http_read.specs.Taking.{Takes}
 use Rattle.reg_http_read.specs.Turns.{SpendsSome, tally}
 use Rattle.reg_http_read.specs.declared.taking.Taken.TheVariants as taken

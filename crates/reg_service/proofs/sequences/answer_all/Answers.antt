@@ -18,7 +18,7 @@ loop-call-preserved g c = (
   c.answer.ensures.tables,
   c.answer.ensures.limits ∙ c.loop-call.invariant.1,
   λ clean s shows. subst (λ ts. HasAnswered g.S.Store (limits_of c.args.registry.now) s (tables_of c.args.registry.now) (take (c.loop-call.call-index + 1) c.args.calls.now) ts (tables_of c.answer.new.registry)) (sym c.in_ok-push.ensures.items)
-      (answered_next g.S.Store (limits_of c.args.registry.now) s (tables_of c.args.registry.now) c.growth_law.ensures.sound c.growth_law.ensures.grows c.run_law.ensures.step c.run_law.ensures.join c.args.calls.now c.loop-call.call-index _ c.loop-call.told.items c.answer.result (tables_of c.loop-call.registry) (tables_of c.answer.new.registry) (omega arith) (rw c.loop-call.invariant.1 at c.answer.ensures.read) clean
+      (answered_next g.S.Store (limits_of c.args.registry.now) s (tables_of c.args.registry.now) c.growth_law.ensures.sound c.growth_law.ensures.grows c.run_law.ensures.step c.run_law.ensures.join c.args.calls.now c.loop-call.call-index c.call-item.result c.loop-call.told.items c.answer.result (tables_of c.loop-call.registry) (tables_of c.answer.new.registry) (omega arith) c.call-item.is (rw c.loop-call.invariant.1 at c.answer.ensures.read) clean
       (c.loop-call.invariant.2 (c.answer.ensures.clean clean) s shows) (rw c.loop-call.invariant.1 at c.answer.ensures.told)),
 )
 
@@ -31,7 +31,7 @@ pub returns-in_err-push-clause-begun : goal.returns-in_err-push-clause-begun
 returns-in_err-push-clause-begun g c clean s shows = (
   c.loop-call.call-index + 1,
   c.loop-call.told.items ++ c.answer.result ∷ [],
-  answered_next g.S.Store (limits_of c.args.registry.now) s (tables_of c.args.registry.now) c.growth_law.ensures.sound c.growth_law.ensures.grows c.run_law.ensures.step c.run_law.ensures.join c.args.calls.now c.loop-call.call-index _ c.loop-call.told.items c.answer.result (tables_of c.loop-call.registry) (tables_of c.answer.new.registry) (omega arith) (rw c.loop-call.invariant.1 at c.answer.ensures.read) clean
+  answered_next g.S.Store (limits_of c.args.registry.now) s (tables_of c.args.registry.now) c.growth_law.ensures.sound c.growth_law.ensures.grows c.run_law.ensures.step c.run_law.ensures.join c.args.calls.now c.loop-call.call-index c.call-item.result c.loop-call.told.items c.answer.result (tables_of c.loop-call.registry) (tables_of c.answer.new.registry) (omega arith) c.call-item.is (rw c.loop-call.invariant.1 at c.answer.ensures.read) clean
       (c.loop-call.invariant.2 (c.answer.ensures.clean clean) s shows) (rw c.loop-call.invariant.1 at c.answer.ensures.told),
 )
 

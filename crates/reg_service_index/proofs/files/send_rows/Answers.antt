@@ -3,7 +3,6 @@ use Rattle.std.proofs.lemmas.Result.{err_from_is_err_and}
 use Rattle.sqlite.specs.Held.{state}
 use Rattle.sqlite.specs.State.{HasCleanDisk}
 use Rattle.sqlite.specs.declared.types.Value.TheVariants.{Int}
-use Rattle.reg_api_replies.specs.Heads.{head_text}
 use Rattle.reg_tables_sql.specs.Stems.{columns_of_stem, entries_text}
 use Rattle.reg_tables_meaning.proofs.IndexWalk.{entries_read}
 use Rattle.reg_tables_meaning.proofs.Walking.{walked_all, walked_as}
@@ -19,7 +18,7 @@ pub returns-in_err-used-clause-rows : goal.returns-in_err-used-clause-rows
 returns-in_err-used-clause-rows g c =
     let p = err_from_is_err_and c.from_residual-in_err-used.result c.from_residual-in_err-used.ensures.1 in
     let back : c.conn-in_err-used-1.given.0 ≡ c.in_ok-rows.rows.conn.now = search rules in
-    let headed = c.as_bytes.ensures ∙ c.reply_head-head.ensures ∙ ap head_text c.head_of.ensures in
+    let headed = c.as_bytes.ensures ∙ c.reply_head-head.ensures in
     let made = c.in_ok-rows.ensures in
     rw (p.1, p.2, back)
     (head_stopped g.S.Store c.args.conn.now c.args.file.now c.requires.ours c.args.close c.args.writes _ c.in_err-used.field-0.0 _ c.in_ok-rows.rows.conn.now

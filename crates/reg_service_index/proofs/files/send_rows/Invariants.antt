@@ -1,10 +1,8 @@
 use Rattle.std.proofs.Common.{◌≡◌, List, pos, ◌++◌, ◌∷◌, []}
 use Rattle.sqlite.specs.Order.{Row}
 use Rattle.sqlite.specs.declared.types.Value.TheVariants.{Int}
-use Rattle.reg_api_replies.specs.Heads.{head_text}
-use Rattle.reg_api_replies.specs.declared.head.Kind.TheVariants.{Plain}
 use Rattle.reg_api_replies.specs.Sent.{Piles, sink}
-use Rattle.reg_api_replies.specs.Texts.{done_head}
+use Rattle.reg_api_replies.specs.Texts.{file_head}
 use Rattle.reg_tables_sql.specs.Stems.{entries_text}
 use Rattle.reg_tables_meaning.specs.Walks.{HasWalked}
 use Rattle.reg_service_index.specs.Lines.{lines_in}
@@ -14,5 +12,5 @@ abbrev pub invariant-rows : goal.invariant-rows
 invariant-rows g l = record {
   same_reference : l.rows.conn.ghost_name ≡ l.initial.rows.conn.ghost_name;
   walked : (given : List Row) × HasWalked g.S.Store entries_text (Int (pos l.file.crate_id) ∷ []) l.fn.conn l.rows.conn.now given
-      × Piles [] (head_text (done_head Plain l.file.length l.close) ++ lines_in given) l.pile l.writes l.used (sink (g.W.Write.contents l.fn.w.inner) l.fn.w) (sink (g.W.Write.contents l.w.inner) l.w);
+      × Piles [] (file_head l.file.length l.close ++ lines_in given) l.pile l.writes l.used (sink (g.W.Write.contents l.fn.w.inner) l.fn.w) (sink (g.W.Write.contents l.w.inner) l.w);
 }

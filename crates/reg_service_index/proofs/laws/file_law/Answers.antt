@@ -1,7 +1,5 @@
 use Rattle.std.proofs.Common.{◌++◌, ◌∙◌, [], ap}
-use Rattle.reg_api_replies.specs.Heads.{head_text}
-use Rattle.reg_api_replies.specs.declared.head.Kind.TheVariants.{Plain}
-use Rattle.reg_api_replies.specs.Texts.{done_head}
+use Rattle.reg_api_replies.specs.Texts.{file_head}
 use Rattle.reg_tables_meaning.specs.Changes.{told_of}
 use Rattle.reg_tables_meaning.specs.Entries.{entries}
 use Rattle.reg_tables_meaning.specs.Stands.{spelling_at}
@@ -12,4 +10,4 @@ use Rattle.reg_service_index.proofs.laws.file_law.Goals as goal
 pub returns : goal.returns
 returns c ids s db holds f rows are len path close =
     let told = ap lines_in (c.entries_law.ensures ids s db holds f.crate_id rows are) ∙ lines_told (told_of (spelling_at ids f.crate_id) [] (entries s)) in
-    λ i. head_text (done_head Plain (len i) close) ++ told i
+    λ i. file_head (len i) close ++ told i

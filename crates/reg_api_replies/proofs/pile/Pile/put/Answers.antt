@@ -1,4 +1,4 @@
-use Rattle.std.proofs.Common.{◌≡◌, [], ap, sym, ◌∙◌}
+use Rattle.std.proofs.Common.{◌≡◌, [], ap, ◌∙◌}
 use Rattle.std.proofs.lemmas.Result.{err_from_is_err_and}
 use Rattle.reg_api_replies.proofs.Joined.{piles_none, stopped_behind}
 use Rattle.reg_api_replies.proofs.pile.Pile.put.Goals as goal

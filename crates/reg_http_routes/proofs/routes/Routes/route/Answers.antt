@@ -17,5 +17,5 @@ pub returns : goal.returns
 returns c = (
   refl,
   right_method (facts_of c.args.head.now) c.args.body.now c.split.result.0.now c.split.ensures.path
-      c.in-Some.place c.methods-methods.result c.in-Some.ensures c.methods-methods.ensures _ c.if-not-are_with.ensures c.in_ok-kept.ensures,
+      c.in-Some.place c.methods-methods.result c.in-Some.ensures c.methods-methods.ensures _ c.if-not-are_with.ensures c.in_ok-call_at.ensures,
 )

@@ -11,7 +11,7 @@ use Rattle.reg_service.proofs.registry.Registry.stream_index.Goals as goal
 
 pub stream_parts-requires-clause-plain : goal.stream_parts-requires-clause-plain
 stream_parts-requires-clause-plain g c =
-    subst (λ (it : Request). logins_of (action_of it.asked) ≡ []) (sym c.in-Ok.ensures.asked) (no_logins (limits_of c.args.self.now) c.args.request.now.wanted c.requires.index)
+    subst (λ (it : Request). logins_of (action_of it.asked) ≡ []) (sym c.in-Ok.ensures.asked) (no_logins (limits_of c.args.self.now) c.args.request.now.call c.requires.index)
 
 pub returns-in-Ok-clause-streams : goal.returns-in-Ok-clause-streams
 returns-in-Ok-clause-streams g c =

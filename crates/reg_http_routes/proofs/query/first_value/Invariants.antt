@@ -1,8 +1,8 @@
 use Rattle.std.proofs.Common.{◌≡◌}
 use Rattle.form_urlencoded.specs.Form.{raw_pairs}
 use Rattle.form_urlencoded.specs.Parse.{raw_pairs_left}
-use Rattle.reg_api_requests.specs.Search.{first_value}
-use Rattle.reg_api_requests.proofs.search.first_value.Given as goal
+use Rattle.reg_http_routes.specs.Queries.{first_value}
+use Rattle.reg_http_routes.proofs.query.first_value.Given as goal
 
 abbrev pub invariant-loop-raw : goal.invariant-loop-raw
 invariant-loop-raw l = record {

@@ -1,0 +1,43 @@
+-- The statuses of refusals are statuses.
+use Rattle.std.proofs.Common.{arith}
+use Rattle.http.specs.StatusCode.{IsStatusCode}
+use Rattle.reg_model.specs.declared.rule.Rule.{Rule}
+use Rattle.reg_model.specs.declared.rule.Rule.TheVariants as rule
+use Rattle.reg_policy.specs.Words.{status_of}
+
+pub status_fits : (r : Rule) → IsStatusCode (status_of r)
+status_fits rule.H1 = (omega arith, omega arith)
+status_fits rule.H2 = (omega arith, omega arith)
+status_fits rule.H3 = (omega arith, omega arith)
+status_fits rule.H4 = (omega arith, omega arith)
+status_fits rule.H5 = (omega arith, omega arith)
+status_fits rule.H6 = (omega arith, omega arith)
+status_fits rule.H7 = (omega arith, omega arith)
+status_fits rule.A1 = (omega arith, omega arith)
+status_fits rule.A2 = (omega arith, omega arith)
+status_fits rule.A3 = (omega arith, omega arith)
+status_fits rule.A4 = (omega arith, omega arith)
+status_fits rule.A6 = (omega arith, omega arith)
+status_fits rule.A7 = (omega arith, omega arith)
+status_fits rule.A8 = (omega arith, omega arith)
+status_fits rule.A9 = (omega arith, omega arith)
+status_fits rule.A10 = (omega arith, omega arith)
+status_fits rule.B1 = (omega arith, omega arith)
+status_fits rule.B2 = (omega arith, omega arith)
+status_fits rule.B3 = (omega arith, omega arith)
+status_fits rule.B4 = (omega arith, omega arith)
+status_fits rule.B5 = (omega arith, omega arith)
+status_fits rule.N1 = (omega arith, omega arith)
+status_fits rule.N2 = (omega arith, omega arith)
+status_fits rule.N3 = (omega arith, omega arith)
+status_fits rule.V1 = (omega arith, omega arith)
+status_fits rule.V2 = (omega arith, omega arith)
+status_fits rule.M1 = (omega arith, omega arith)
+status_fits rule.L1 = (omega arith, omega arith)
+status_fits rule.L2 = (omega arith, omega arith)
+status_fits rule.O1 = (omega arith, omega arith)
+status_fits rule.O2 = (omega arith, omega arith)
+status_fits rule.O3 = (omega arith, omega arith)
+status_fits rule.O4 = (omega arith, omega arith)
+status_fits rule.Q1 = (omega arith, omega arith)
+status_fits rule.S1 = (omega arith, omega arith)
