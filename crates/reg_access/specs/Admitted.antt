@@ -29,23 +29,23 @@ abbrev pub decision_in : Admission → Decision
 decision_in (Denied r) = decision.Denied r
 decision_in (Allowed c) = decision.Allowed
 
--- who is let pass, if it is
+-- this is true of whoever is let pass
 abbrev pub OfCaller : Admission → (Caller → Type 0) → Type 0
 OfCaller (Denied r) fact = ⊤
 OfCaller (Allowed c) fact = fact c
 
--- this is the crate of a name that was given, in its spelling, and the tables know it by this id
+-- this is the crate of the name that is given: it has this spelling, and this id in the tables
 pub record IsCrateOf (ids : Ids) (s : Registry) (name : Option Text) (c : FoundCrate) : Type 0 where
   pub first : spelling s name ≡ Some c.name
   pub placed : spelling_at ids c.id ≡ Some c.name
   pub alike : option_map canon name ≡ Some (canon c.name)
 
--- this is found under a name, or none is given or there
+-- what is found of a name: its crate; or nothing, where no name is given or no crate has it
 abbrev pub IsFoundOf : Ids → Registry → Option Text → Option FoundCrate → Type 0
 IsFoundOf ids s name None = spelling s name ≡ None
 IsFoundOf ids s name (Some c) = IsCrateOf ids s name c
 
--- the account is that of the token with this digest, and the crate is that of the action
+-- whom the token with this digest speaks for, and the crate that the action names
 pub record IsCallerOf (ids : Ids) (s : Registry) (digest : Text) (a : Action) (c : Caller) : Type 0
   where
     pub account : viewer s digest ≡ Some c.account
@@ -61,7 +61,7 @@ needs_crate Read = false
 needs_crate (Publish n v) = false
 needs_crate _ = true
 
--- and then it was found
+-- where it is so, its crate was found
 abbrev pub HasItsCrate : Action → Admission → Type 0
 HasItsCrate a it = OfCaller it (λ c. needs_crate a ≡ true → IsSome c.found)
 

@@ -13,7 +13,7 @@ use Rattle.reg_tables.specs.declared.work.Work.{Work}
 use Rattle.reg_tables.specs.Works.{IsAtWork, IsCall, has_failed, rows_seen, seen}
 use Rattle.reg_access.specs.Asks.{Asks}
 use Rattle.reg_access.proofs.Calls.{called_ok, then_called}
-use Rattle.reg_access.proofs.Questions.{asks_after, asks_both, asks_failed, asks_made, asks_nothing}
+use Rattle.reg_access.proofs.Questions.{asks_after, asks_both, asks_failed, asks_made, asks_nothing, asks_refused}
 use Rattle.reg_service_requests.specs.Owning.{FindsAllKnown, FindsKnown, SetsOwner, SetsOwners, SetsSome}
 use Rattle.reg_service_requests.specs.Runs.{Runs}
 use Rattle.reg_service_requests.proofs.OwningIds.{IsSoFar, so_far_all, so_far_ends, so_far_more, so_far_none, texts_of}
@@ -46,14 +46,6 @@ module _ {S : Type 0} (g : Ghosts S) where
   pub runs_made : {T U E F : Type 0} {P : Trees → Trees → T → Type 0} {Q : Trees → Trees → U → Type 0} (x : T) (y : U) (a b : Work S) → (P (rows_seen g a) (rows_seen g b) x → Q (rows_seen g a) (rows_seen g b) y) → Runs {E = E} g a b (Ok x) P → Runs {E = F} g a b (Ok y) Q
   runs_made x y a b made one = record { told = λ clean. made (one.told clean); leaves = called_ok g x y a b one.leaves }
 
-  -- the transaction ends, at once or once something was asked
-  asks_ended : {T E : Type 0} {Q : Trees → T → Type 0} (r : Result T E) (a b : Work S) → IsErr r → IsCall g r a b → Asks g a b r Q
-  asks_ended (Ok x) a b is call = absurd cc
-  asks_ended (Err e) a b is call = record { told = λ clean. tt; same = λ clean. tt; leaves = call }
-
-  pub asks_stopped : {T U E F : Type 0} {P : Trees → T → Type 0} {Q : Trees → U → Type 0} (x : T) (r : Result U F) (a b c : Work S) → IsErr r → Asks {E = E} g a b (Ok x) P → IsCall g r b c → Asks g a c r Q
-  asks_stopped {Q} x r a b c is one call = asks_after g {Q = Q} x r a b c one (asks_ended r b c is call)
-
   -- ids were found for the logins before these
   abbrev pub AreFound : List Text → List Text → List ℕ → Work S → Work S → Type 0
   AreFound all rest ids old new = Asks {T = List ℕ} {E = StoreFault} g old new (Ok ids) (λ db found. Tells (λ _ s. IsSoFar (is_known s) (id_of_login s) all rest found) db)
@@ -78,7 +70,7 @@ module _ {S : Type 0} (g : Ghosts S) where
       finding_fails {P} {Q} e r is one = asks_after g {Q = Q} found r a b c so (asks_failed g {P = P} e r b c is one)
 
       pub room_fails : {T U E F : Type 0} {P : Trees → T → Type 0} {Q : Trees → U → Type 0} (x : T) (d : Work S) (r : Result U F) → IsErr r → Asks {E = E} g b c (Ok x) P → IsCall g r c d → Asks g a d r Q
-      room_fails {Q} x d r is one call = asks_after g {Q = Q} found r a b d so (asks_stopped {Q = Q} x r b c d is one call)
+      room_fails {Q} x d r is one call = asks_after g {Q = Q} found r a b d so (asks_refused g {Q = Q} x r b c d is one call)
 
     pub all_found : {F : Type 0} (ids : Vec ℕ Global) (b : Work S) (rest : List (Bor Text)) → rest ≡ [] → AreFound (texts_of texts) (texts_of rest) ids.items a b → Asks {E = F} g a b (Ok (Some ids)) (FindsAllKnown (texts_of texts))
     all_found ids b rest is so = asks_made g ids.items (Some ids) a b (λ found it s h. so_far_all (is_known s) (id_of_login s) (texts_of texts) ids.items (subst (λ r. IsSoFar (is_known s) (id_of_login s) (texts_of texts) (texts_of r) ids.items) is (found it s h))) so

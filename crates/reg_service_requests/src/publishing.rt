@@ -2,7 +2,6 @@
 
 ghost use Rattle.std.specs.Prelude.{◌≡◌};
 ghost use Rattle.reg_model.specs.Events.Asked.{Publish};
-ghost use Rattle.reg_model.specs.Steps.{IsGenuine};
 ghost use Rattle.reg_policy.specs.Events.{publication_of};
 ghost use Rattle.reg_tables_meaning.specs.Calls.{published};
 ghost use Rattle.reg_tables.specs.Works.{IsAtWork};
@@ -126,8 +125,7 @@ pub(crate) fn publish<S: Alter>(
     caller: &Caller,
     new: &NewPublication<'_>,
 ) -> Result<Served, StoreFault>
-    requires at_work { IsAtWork S.Store work.old }
-    requires genuine { IsGenuine (publication_of new.now) }
+    requires { IsAtWork S.Store work.old }
     ensures { GrantsTo limits.now caller.now S.Store (Publish (publication_of new.now))
         result work.old work.new }
 {

@@ -1,11 +1,9 @@
 //! A request is decided, and what is let pass is served or done.
 
-ghost use Rattle.std.specs.Prelude.{◌≡◌, IsSome, None, Some, false, true};
+ghost use Rattle.std.specs.Prelude.{◌≡◌, IsSome, false, true};
 ghost use Rattle.std.specs.Option.{option_map};
 ghost use Rattle.reg_access.specs.Admitted.{needs_crate};
 ghost use Rattle.reg_model.specs.Events.{action_of as action_asked};
-ghost use Rattle.reg_model.specs.Events.Event.{Ask};
-ghost use Rattle.reg_model.specs.Steps.{IsFit};
 ghost use Rattle.reg_policy.specs.Events.{asked_of};
 ghost use Rattle.reg_tables.specs.Works.{IsAtWork, has_failed};
 ghost use Rattle.reg_service_requests.specs.Granted.{GrantsTo};
@@ -36,7 +34,6 @@ fn grant<S: Alter>(
 ) -> Result<Served, StoreFault>
     requires at_work { IsAtWork S.Store work.old }
     requires goes_on { has_failed work.old ≡ false }
-    requires fit { IsFit (Ask None (asked_of asked.now)) }
     requires there { needs_crate (action_asked (asked_of asked.now)) ≡ true
         → IsSome caller.now.found }
     ensures { GrantsTo limits.now caller.now S.Store (asked_of asked.now)
@@ -67,7 +64,6 @@ pub fn serve<S: Alter>(
 ) -> Result<Served, StoreFault>
     requires at_work { IsAtWork S.Store work.old }
     requires goes_on { has_failed work.old ≡ false }
-    requires fit { IsFit (Ask None (asked_of asked.now)) }
     ensures { IsServed limits.now S.Store (option_map (λ d. d.now) digest.entry)
         (asked_of asked.now) result work.old work.new }
 {

@@ -1,4 +1,4 @@
-use Rattle.std.proofs.Common.{arith, None, sym, subst, ◌∙◌}
+use Rattle.std.proofs.Common.{arith, sym, subst, ◌∙◌}
 use Rattle.std.specs.Option.{option_map}
 use Rattle.sqlite.specs.State.{HasCleanDisk}
 use Rattle.reg_policy.specs.Events.{asked_of}
@@ -74,6 +74,3 @@ returns-in-Ok-Seeks-clause-replies g c clean s h =
     let ours = subst (λ t. AreOurs g.S.Store t) (sym back) (c.drop.ensures.ours c.serve.ensures.leaves.at_work.back) in
     sought g.S.Store c.args.limits.now s digest asked c.args.tables.now at c.seek.new.tables c.requires.tables.ours h clean early c.in-Ok.work c.serve.new.work c.in-Ok.ensures.begun looks mid
     c.in-Ok-Seeks.account c.seek.result (rw c.in-Ok-Seeks.field-0-is at c.in-Ok-Seeks.ensures.told mid) dropped (λ up db l. g.met.S.Store.settled (held c.args.tables.now).store db up l) ours c.seek.ensures.left (c.seek.ensures.sought clean s)
-
-pub serve-requires-clause-fit : goal.serve-requires-clause-fit
-serve-requires-clause-fit g c = c.requires.fit None
