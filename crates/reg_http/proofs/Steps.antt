@@ -11,13 +11,14 @@ use Rattle.reg_http_read.specs.Heads.{Facts, IsHeadAt}
 use Rattle.reg_model.specs.declared.rule.Rule.{Rule}
 use Rattle.reg_model.specs.Registry as model
 use Rattle.reg_model.specs.Registry.{Text}
-use Rattle.reg_http_read.specs.Begun.{IsBegun, interim_of, is_head}
-use Rattle.reg_http_read.specs.Taking.{IsCutOff, Keeps, Takes}
+use Rattle.reg_http_read.specs.Begun.{IsBegun, interim_of}
+use Rattle.reg_http_read.specs.Owned.{facts_owned}
+use Rattle.reg_http_read.specs.Taking.{IsCutOff, Takes}
 use Rattle.reg_body.specs.Counting.{CountedEnd}
 use Rattle.reg_http_read.specs.Turns.{Sends, SpendsFor, SpendsSome, tally, writes_of}
 use Rattle.reg_http_read.specs.declared.fault.StreamFault.{StreamFault}
 use Rattle.reg_http_read.specs.declared.fault.StreamFault.TheVariants.{Memory, ReadFault, StoreFault, TooManyTurns, WriteFault}
-use Rattle.reg_http_read.specs.declared.taking.Begun.{Begun}
+use Rattle.reg_http_read.specs.declared.owned.OwnedHead.{OwnedHead}
 use Rattle.reg_http_read.specs.declared.taking.Taken.TheVariants as taken
 use Rattle.reg_http_routes.specs.Routing.{routing_of}
 use Rattle.reg_api_replies.specs.Sent.{AppendsFront}
@@ -125,21 +126,21 @@ module _ {S : Type 0} (g : Ghosts S) (limits : Limits) (s : model.Registry) (ent
     taking_failed waits Memory x = absurd x
 
     -- the rest is refused, and the refusal is sent
-    module _ (waits : Text) (broken : Rule) (only : Bool) (takes : Takes r1 r2 rest waits w1 w2 limits (Ok (taken.Refused broken only))) (w3 : Option Text) where
-      pub refusal_sent : Appends w2 w3 (closing_text broken only) → Serves g limits s entry now r0 r2 w0 w3 (Ok (count + 1))
+    module _ (waits : Text) (broken : Rule) (head_only : Bool) (takes : Takes r1 r2 rest waits w1 w2 limits (Ok (taken.Refused broken head_only))) (w3 : Option Text) where
+      pub refusal_sent : Appends w2 w3 (closing_text broken head_only) → Serves g limits s entry now r0 r2 w0 w3 (Ok (count + 1))
       refusal_sent sent =
           let (bytes, c, (more, a, refused)) = takes in (
             h.read ++ bytes,
-            h.written ++ (more ++ closing_text broken only),
+            h.written ++ (more ++ closing_text broken head_only),
             consumes bytes c,
-            subst (Appends w0 w3) (append_assoc h.written more (closing_text broken only)) (Appends-trans w0 w2 w3 (h.written ++ more) (closing_text broken only) (appends bytes c more a) sent),
+            subst (Appends w0 w3) (append_assoc h.written more (closing_text broken head_only)) (Appends-trans w0 w2 w3 (h.written ++ more) (closing_text broken head_only) (appends bytes c more a) sent),
             inr (inr (record {
               done = h.done;
               rest = rest ++ bytes;
               before = h.written;
               more = more;
               broken = broken;
-              only = only;
+              head_only = head_only;
               number = count;
               goes = goes bytes c;
               refused = refused;
@@ -149,12 +150,12 @@ module _ {S : Type 0} (g : Ghosts S) (limits : Limits) (s : model.Registry) (ent
             })),
           )
 
-      refusal_cut : AppendsFront (closing_text broken only) w2 w3
+      refusal_cut : AppendsFront (closing_text broken head_only) w2 w3
           → (read : Text) × (written : Text) × Consumes r0 r2 read × Appends w0 w3 written × IsStopped g limits s entry now read written
       refusal_cut cut_off =
           let (bytes, c, (more, a, refused)) = takes in
           let front = more ++ cut_off.front in
-          let whole : more ++ closing_text broken only ≡ front ++ cut_off.rest = ap (λ l. more ++ l) cut_off.whole ∙ sym (append_assoc more cut_off.front cut_off.rest) in (
+          let whole : more ++ closing_text broken head_only ≡ front ++ cut_off.rest = ap (λ l. more ++ l) cut_off.whole ∙ sym (append_assoc more cut_off.front cut_off.rest) in (
             h.read ++ bytes,
             h.written ++ front,
             consumes bytes c,
@@ -167,12 +168,12 @@ module _ {S : Type 0} (g : Ghosts S) (limits : Limits) (s : model.Registry) (ent
               back = cut_off.rest;
               number = count;
               goes = goes bytes c;
-              next = inr (inr (more, broken, only, refused, sym whole, h.run));
+              next = inr (inr (more, broken, head_only, refused, sym whole, h.run));
               wrote = refl;
             },
           )
 
-      pub refusal_failed : (fault : StreamFault) → Sends (closing_text broken only) w2 w3 {A = Unit {0}} (Err fault) → Serves g limits s entry now r0 r2 w0 w3 (Err fault)
+      pub refusal_failed : (fault : StreamFault) → Sends (closing_text broken head_only) w2 w3 {A = Unit {0}} (Err fault) → Serves g limits s entry now r0 r2 w0 w3 (Err fault)
       refusal_failed WriteFault x = refusal_cut x
       refusal_failed TooManyTurns x = let (read, written, c, a, stopped) = refusal_cut x in (read, written, c, a, inr stopped)
       refusal_failed ReadFault x = absurd x
@@ -180,9 +181,12 @@ module _ {S : Type 0} (g : Ghosts S) (limits : Limits) (s : model.Registry) (ent
       refusal_failed Memory x = absurd x
 
     -- a request is there whole, its interim line was sent, and it is answered
-    module _ (alone : HeadsStandAlone) (stay : HeadsStay) (law : EventsGoOn g) (waits : Text) (b : Begun) (f : Facts) (k : Keeps limits waits b f) (le : b.len + b.body_len ≤ length waits)
-        (bytes : Text) (consumed : Consumes r1 r2 bytes) (same : waits ≡ rest ++ bytes) (asked_on : Appends w1 w2 (interim_of f))
-        (close : Bool) (close_is : close ≡ closes limits f (count + 1)) (new : Tables S) (w3 : Option Text) where
+    module _ (alone : HeadsStandAlone) (stay : HeadsStay) (law : EventsGoOn g) (waits : Text) (b : OwnedHead) (there : IsHeadAt limits waits (facts_owned b)) (le : b.len + b.body_len ≤ length waits)
+        (bytes : Text) (consumed : Consumes r1 r2 bytes) (same : waits ≡ rest ++ bytes) (asked_on : Appends w1 w2 (interim_of (facts_owned b)))
+        (close : Bool) (close_is : close ≡ closes limits (facts_owned b) (count + 1)) (new : Tables S) (w3 : Option Text) where
+      abbrev f : Facts
+      f = facts_owned b
+
       abbrev message : Text
       message = take (b.len + b.body_len) waits
 
@@ -192,9 +196,9 @@ module _ {S : Type 0} (g : Ghosts S) (limits : Limits) (s : model.Registry) (ent
       -- the head of the message tells the same
       pub head : IsHeadAt limits message f
       head =
-          let own : take f.len message ≡ take f.len waits = take-take f.len (b.len + b.body_len) waits (omega (arith, k.len)) in
+          let own : take f.len message ≡ take f.len waits = take-take f.len (b.len + b.body_len) waits (omega arith) in
           subst (λ l. IsHeadAt limits l f) (ap (λ l. l ++ drop f.len message) (sym own) ∙ take-append-drop f.len message)
-          (stay limits (take f.len waits) (drop f.len message) f (alone limits waits f k.head))
+          (stay limits (take f.len waits) (drop f.len message) f (alone limits waits f there))
 
       goes_whole : Goes limits h.done (h.read ++ bytes) h.written (message ++ later) count
       goes_whole =
@@ -209,7 +213,7 @@ module _ {S : Type 0} (g : Ghosts S) (limits : Limits) (s : model.Registry) (ent
         exchange : IsExchange limits this
         exchange = record {
           head = head;
-          whole = length-take-le (b.len + b.body_len) waits le ∙ omega (arith, k.len, k.body_len);
+          whole = length-take-le (b.len + b.body_len) waits le;
           outcome = replies.leads;
         }
 
@@ -330,32 +334,26 @@ module _ {S : Type 0} (g : Ghosts S) (limits : Limits) (s : model.Registry) (ent
       reply_failed Memory all = let (t, ran) = h.run in let it = all t ran.shows in absurd it.sends
 
     -- the same as the taking and the answering tell it
-    module _ (alone : HeadsStandAlone) (stay : HeadsStay) (law : EventsGoOn g) (waits : Text) (b : Begun) (takes : Takes r1 r2 rest waits w1 w2 limits (Ok (taken.Whole b))) (close : Bool)
+    module _ (alone : HeadsStandAlone) (stay : HeadsStay) (law : EventsGoOn g) (waits : Text) (b : OwnedHead) (takes : Takes r1 r2 rest waits w1 w2 limits (Ok (taken.Whole b))) (close : Bool)
         (close_is : close ≡ (b.close || count + 1 == limits.replies)) (new : Tables S) (w3 : Option Text) where
       abbrev Replied : Result (Unit {0}) StreamFault → Type 0
-      Replied result = (f : Facts) → IsHeadAt limits (take (b.len + b.body_len) waits) f → b.is_head ≡ is_head f → (t : model.Registry) → Shows t (shown g now)
-          → Replies g limits f (routing_of f (drop f.len (take (b.len + b.body_len) waits))) close t now new w2 w3 result
+      Replied result = (t : model.Registry) → Shows t (shown g now)
+          → Replies g limits (facts_owned b) (routing_of (facts_owned b) (drop b.len (take (b.len + b.body_len) waits))) close t now new w2 w3 result
 
-      kept : Keeps limits waits b takes.2.1.0
-      kept = subst (λ l. Keeps limits l b takes.2.1.0) (sym takes.2.0) takes.2.1.1
+      there_is : IsHeadAt limits waits (facts_owned b)
+      there_is = subst (λ l. IsHeadAt limits l (facts_owned b)) (sym takes.2.0) takes.2.1
 
       fits : b.len + b.body_len ≤ length waits
-      fits = omega (arith, takes.2.1.1.len, takes.2.1.1.body_len, takes.2.1.2, ap (λ l. length l) takes.2.0)
-
-      closing_is : close ≡ closes limits takes.2.1.0 (count + 1)
-      closing_is = close_is ∙ ap (λ c. c || count + 1 == limits.replies) takes.2.1.1.close
-
-      the_head : IsHeadAt limits (take (b.len + b.body_len) waits) takes.2.1.0
-      the_head = head alone stay law waits b takes.2.1.0 kept fits takes.0 takes.1 takes.2.0 takes.2.1.3 close closing_is new w3
+      fits = omega (arith, takes.2.2, ap (λ l. length l) takes.2.0)
 
       pub whole_sent : (u : Unit {0}) → Replied (Ok u) → close ≡ false → Holds g limits s entry r0 r2 w0 w3 (drop (b.len + b.body_len) waits) (count + 1) new
-      whole_sent u all = reply_sent alone stay law waits b takes.2.1.0 kept fits takes.0 takes.1 takes.2.0 takes.2.1.3 close closing_is new w3 u (all takes.2.1.0 the_head takes.2.1.1.only)
+      whole_sent u all = reply_sent alone stay law waits b there_is fits takes.0 takes.1 takes.2.0 takes.2.3 close close_is new w3 u all
 
       pub whole_last : (u : Unit {0}) → Replied (Ok u) → close ≡ true → Serves g limits s entry new r0 r2 w0 w3 (Ok (count + 1))
-      whole_last u all = last_sent alone stay law waits b takes.2.1.0 kept fits takes.0 takes.1 takes.2.0 takes.2.1.3 close closing_is new w3 u (all takes.2.1.0 the_head takes.2.1.1.only)
+      whole_last u all = last_sent alone stay law waits b there_is fits takes.0 takes.1 takes.2.0 takes.2.3 close close_is new w3 u all
 
       pub whole_failed : (fault : StreamFault) → Replied (Err fault) → Serves g limits s entry new r0 r2 w0 w3 (Err fault)
-      whole_failed fault all = reply_failed alone stay law waits b takes.2.1.0 kept fits takes.0 takes.1 takes.2.0 takes.2.1.3 close closing_is new w3 fault (all takes.2.1.0 the_head takes.2.1.1.only)
+      whole_failed fault all = reply_failed alone stay law waits b there_is fits takes.0 takes.1 takes.2.0 takes.2.3 close close_is new w3 fault all
 
 -- turns that writes took, beside a reader that stays
 module _ {R W : Type 0} (r : CountedEnd R) (w0 w1 : CountedEnd W) (had left : ℕ) where

@@ -83,6 +83,6 @@ pub record GoesOn {S : Type 0} (g : Ghosts S) (old new : Registry S) : Type 0 wh
 
 -- what is sent where there is no route, no such method, or no room to route the request
 abbrev pub fault_text : RouteFault → Bool → Bool → Text
-fault_text NoRoute close only = refusal_text rule.H6 None close only
-fault_text (Method m) close only = refusal_text rule.H7 (Some m) close only
-fault_text Memory close only = refusal_text rule.S1 None close only
+fault_text NoRoute close head_only = refusal_text rule.H6 None close head_only
+fault_text (Method m) close head_only = refusal_text rule.H7 (Some m) close head_only
+fault_text Memory close head_only = refusal_text rule.S1 None close head_only

@@ -13,7 +13,7 @@ use Rattle.reg_api_requests.specs.Wants.{Wants}
 use Rattle.reg_api_requests.specs.Wants.Wants.{Index}
 use Rattle.reg_http_routes.specs.Routing.{Routing, routing_of}
 use Rattle.reg_http_routes.specs.Routing.Routing.{NoRoute as to_no_route, NoMethod as to_no_method, Wants as to_wants}
-use Rattle.reg_http_read.specs.Begun.{is_head}
+use Rattle.reg_http_read.specs.Begun.{is_head_only}
 use Rattle.reg_api_replies.specs.Texts.{answer_text, refusal_text}
 
 -- what a request came to
@@ -73,9 +73,9 @@ answers_in limits xs = map (λ p. p.1) (steps_in limits xs)
 -- the reply, of which the last tells that the connection closes
 abbrev pub outcome_text : Limits → Facts → Bool → Outcome → Text
 outcome_text limits f close (Answered w a) = answer_text (asked_from limits w) a close
-outcome_text limits f close NoRoute = refusal_text rule.H6 None close (is_head f)
-outcome_text limits f close (NoMethod m) = refusal_text rule.H7 (Some m) close (is_head f)
-outcome_text limits f close NoRoom = refusal_text rule.S1 None close (is_head f)
+outcome_text limits f close NoRoute = refusal_text rule.H6 None close (is_head_only f)
+outcome_text limits f close (NoMethod m) = refusal_text rule.H7 (Some m) close (is_head_only f)
+outcome_text limits f close NoRoom = refusal_text rule.S1 None close (is_head_only f)
 outcome_text limits f close (Unread w) = refusal_text rule.S1 None close false
 
 abbrev pub reply_of : Limits → Bool → Exchange → Text

@@ -43,7 +43,7 @@ pub record Goes (limits : Limits) (done : List Exchange) (read written rest : Te
 
 -- the last reply before the connection closes
 abbrev pub closing_text : Rule → Bool → Text
-closing_text r only = refusal_text r None true only
+closing_text r head_only = refusal_text r None true head_only
 
 module _ {S : Type 0} (g : Ghosts S) (limits : Limits) (s : model.Registry)
     (entry now : Tables S) where
@@ -84,11 +84,11 @@ module _ {S : Type 0} (g : Ghosts S) (limits : Limits) (s : model.Registry)
     pub before : Text
     pub more : Text
     pub broken : Rule
-    pub only : Bool
+    pub head_only : Bool
     pub number : ℕ
     pub goes : Goes limits done read before rest number
-    pub refused : IsRefused limits rest more broken only
-    pub wrote : written ≡ before ++ (more ++ closing_text broken only)
+    pub refused : IsRefused limits rest more broken head_only
+    pub wrote : written ≡ before ++ (more ++ closing_text broken head_only)
     pub count_is : count ≡ number + 1
     pub run : HasRun done
 
@@ -99,8 +99,8 @@ module _ {S : Type 0} (g : Ghosts S) (limits : Limits) (s : model.Registry)
       ((x : Exchange) × (later : Text) × (rest ≡ x.message ++ later) × IsExchange limits x
       × (text ≡ told limits (closes limits x.facts (number + 1)) x) × HasRun (done ++ x ∷ []))
       ⊎ (((f : Facts) × IsHeadAt limits rest f × (text ≡ interim_of f) × HasRun done)
-      ⊎ ((more : Text) × (r : Rule) × (only : Bool) × IsRefused limits rest more r only
-      × (text ≡ more ++ closing_text r only) × HasRun done))
+      ⊎ ((more : Text) × (r : Rule) × (head_only : Bool) × IsRefused limits rest more r head_only
+      × (text ≡ more ++ closing_text r head_only) × HasRun done))
 
   -- the writing stopped: after the exchanges a front of the next thing was written
   pub record IsStopped (read written : Text) : Type 0 where
@@ -114,7 +114,7 @@ module _ {S : Type 0} (g : Ghosts S) (limits : Limits) (s : model.Registry)
     pub next : IsNext done rest number (front ++ back)
     pub wrote : written ≡ before ++ front
 
-  -- The store failed: after the exchanges, and the interim line of one more that asks for an
+  -- The store failed: after the exchanges, and the interim line of one more, which asks for an
   -- index file, a front of its reply was written that is not empty.
   pub record IsBrokenOff (read written : Text) : Type 0 where
     pub done : List Exchange

@@ -1,9 +1,7 @@
 //! One request is routed, and answered by the registry.
 
-ghost use Rattle.std.specs.Prelude.{◌≡◌, ◌+◌, ◌^◌, ◌<◌, None, OnOk, Some, drop};
+ghost use Rattle.std.specs.Prelude.{◌≡◌, ◌+◌, ◌^◌, ◌<◌, None, OnOk, Some};
 ghost use Rattle.reg_http_read.specs.Reads.{facts_of};
-ghost use Rattle.reg_http_read.specs.Heads.{Facts, IsHeadAt};
-ghost use Rattle.reg_http_read.specs.Begun.{is_head};
 ghost use Rattle.reg_http_read.specs.Turns.{Sends, Spends, writes_of};
 ghost use Rattle.reg_http_routes.specs.Routing.{routing_of};
 ghost use Rattle.reg_api_replies.specs.Texts.{refusal_text};
@@ -16,8 +14,7 @@ use reg_api_replies::laws::answer_law;
 use reg_api_replies::{Methods, Reply};
 use reg_api_requests::{ApiCall, ApiRequest};
 use reg_body::Counted;
-use reg_http_read::laws::{bounds_law, one_head_law};
-use reg_http_read::{Head, HeadRead, StreamFault, read_head, send_reply};
+use reg_http_read::{Head, StreamFault, send_reply};
 use reg_http_routes::{RouteFault, Routes};
 use reg_policy::Rule;
 use reg_service::Registry;
@@ -25,6 +22,15 @@ use reg_service_index::IndexFault;
 use sqlite::Alter;
 use std::alloc::Global;
 use std::io::Write;
+
+/// A request that is there whole.
+#[derive(Clone, Copy)]
+pub(crate) struct Message<'h, 'b> {
+    pub head: Head<'h>,
+    pub body: &'b [u8],
+    /// Whether the connection closes after the reply.
+    pub close: bool,
+}
 
 /// The reply that a rule makes, and that of a route with other methods.
 fn denial(rule: Rule) -> Reply
@@ -44,17 +50,17 @@ pub(crate) fn deny<W: Write>(
     w: &mut Counted<W>,
     rule: Rule,
     close: bool,
-    only: bool,
+    head_only: bool,
     left: &mut u64,
 ) -> Result<(), StreamFault>
     requires { w.old.calls + left.old < 2 ^ 64 }
-    ensures sends { Sends (refusal_text rule None close only) (W.contents w.old.inner)
+    ensures sends { Sends (refusal_text rule None close head_only) (W.contents w.old.inner)
         (W.contents w.new.inner) result }
     ensures spends { Spends left.old left.new (writes_of w.old) (writes_of w.new) result }
     ensures fewer { OnOk result (left.new < left.old) }
 {
     let reply = denial(rule);
-    send_reply(w, &reply, close, only, left)
+    send_reply(w, &reply, close, head_only, left)
 }
 
 /// Tells the methods that a route has.
@@ -62,17 +68,17 @@ fn tell_methods<W: Write>(
     w: &mut Counted<W>,
     methods: Methods,
     close: bool,
-    only: bool,
+    head_only: bool,
     left: &mut u64,
 ) -> Result<(), StreamFault>
     requires { w.old.calls + left.old < 2 ^ 64 }
-    ensures sends { Sends (refusal_text Rule.H7 (Some methods) close only)
+    ensures sends { Sends (refusal_text Rule.H7 (Some methods) close head_only)
         (W.contents w.old.inner) (W.contents w.new.inner) result }
     ensures spends { Spends left.old left.new (writes_of w.old) (writes_of w.new) result }
     ensures fewer { OnOk result (left.new < left.old) }
 {
     let reply = other_methods(methods);
-    send_reply(w, &reply, close, only, left)
+    send_reply(w, &reply, close, head_only, left)
 }
 
 /// Sends the index file that is asked for.
@@ -159,79 +165,46 @@ fn refuse_route<W: Write>(
     w: &mut Counted<W>,
     fault: RouteFault,
     close: bool,
-    only: bool,
+    head_only: bool,
     left: &mut u64,
 ) -> Result<(), StreamFault>
     requires { w.old.calls + left.old < 2 ^ 64 }
-    ensures sends { Sends (fault_text fault close only) (W.contents w.old.inner)
+    ensures sends { Sends (fault_text fault close head_only) (W.contents w.old.inner)
         (W.contents w.new.inner) result }
     ensures spends { Spends left.old left.new (writes_of w.old) (writes_of w.new) result }
     ensures fewer { OnOk result (left.new < left.old) }
 {
     match fault {
-        RouteFault::NoRoute => deny(w, Rule::H6, close, only, left),
-        RouteFault::Method(methods) => tell_methods(w, methods, close, only, left),
-        RouteFault::Memory => deny(w, Rule::S1, close, only, left),
+        RouteFault::NoRoute => deny(w, Rule::H6, close, head_only, left),
+        RouteFault::Method(methods) => tell_methods(w, methods, close, head_only, left),
+        RouteFault::Memory => deny(w, Rule::S1, close, head_only, left),
     }
 }
 
-/// Routes and answers a request whose head was read.
-fn answer_head<W: Write, S: Alter>(
+/// Routes a request and answers it.
+pub(crate) fn answer_message<W: Write, S: Alter>(
     alloc: Global,
     registry: &mut Registry<S>,
     routes: &Routes,
     w: &mut Counted<W>,
-    head: &Head<'_>,
-    body: &[u8],
-    close: bool,
+    message: &Message<'_, '_>,
     left: &mut u64,
 ) -> Result<(), StreamFault>
     requires tables { AreUpToDate S.Store (tables_of registry.old) }
     requires room { w.old.calls + left.old < 2 ^ 64 }
-    ensures replied { IsReplied S.Store (limits_of registry.old) (facts_of head.now)
-        (routing_of (facts_of head.now) body.now) close
+    ensures replied { let f = facts_of message.now.head in IsReplied S.Store
+        (limits_of registry.old) f (routing_of f message.now.body.now) message.now.close
         (tables_of registry.old) (tables_of registry.new)
         (W.contents w.old.inner) (W.contents w.new.inner) result }
     ensures spends { Spends left.old left.new (writes_of w.old) (writes_of w.new) result }
     ensures fewer { OnOk result (left.new < left.old) }
     ensures keeps { GoesOn S.Store registry.old registry.new }
 {
-    let only = head.method == "HEAD";
-    match routes.route(alloc, head, body) {
-        Ok(request) => answer(alloc, registry, w, &request, close, left),
-        Err(fault) => refuse_route(w, fault, close, only, left),
-    }
-}
-
-/// Answers a request that is there whole. `only` tells whether its method is HEAD.
-pub(crate) fn answer_message<W: Write, S: Alter>(
-    alloc: Global,
-    registry: &mut Registry<S>,
-    routes: &Routes,
-    w: &mut Counted<W>,
-    message: &[u8],
-    only: bool,
-    close: bool,
-    left: &mut u64,
-) -> Result<(), StreamFault>
-    requires tables { AreUpToDate S.Store (tables_of registry.old) }
-    requires room { w.old.calls + left.old < 2 ^ 64 }
-    ensures replied { (f : Facts) → IsHeadAt (limits_of registry.old) message.now f
-        → only ≡ is_head f
-        → IsReplied S.Store (limits_of registry.old) f (routing_of f (drop f.len message.now))
-        close (tables_of registry.old) (tables_of registry.new)
-        (W.contents w.old.inner) (W.contents w.new.inner) result }
-    ensures spends { Spends left.old left.new (writes_of w.old) (writes_of w.new) result }
-    ensures fewer { OnOk result (left.new < left.old) }
-    ensures keeps { GoesOn S.Store registry.old registry.new }
-{
-    bounds_law();
-    one_head_law();
-    match read_head(alloc, message, registry.limits()) {
-        Ok(HeadRead::Head(head)) => {
-            let (_, body) = message.split_at(head.len);
-            answer_head(alloc, registry, routes, w, &head, body, close, left)
+    match routes.route(alloc, &message.head, message.body) {
+        Ok(request) => answer(alloc, registry, w, &request, message.close, left),
+        Err(fault) => {
+            let head_only = message.head.is_head_only();
+            refuse_route(w, fault, message.close, head_only, left)
         }
-        _ => deny(w, Rule::S1, close, only, left),
     }
 }

@@ -1,7 +1,9 @@
 //! A stream is served.
 
-ghost use Rattle.std.specs.Prelude.{◌≡◌, ◌+◌, ◌^◌, ◌<◌, ◌||◌, ◌==◌, ℕ, [], length, IfOk, vec_len};
+ghost use Rattle.std.specs.Prelude.{◌≡◌, ◌+◌, ◌^◌, ◌<◌, ◌≤◌, ◌||◌, ◌==◌, ℕ, [], drop, length, take, IfOk, vec_len};
 ghost use Rattle.sqlite.specs.State.{HasCleanDisk};
+ghost use Rattle.reg_http_read.specs.Owned.{facts_owned};
+ghost use Rattle.reg_http_read.specs.Reads.{facts_of};
 ghost use Rattle.reg_http_read.specs.Turns.{Spends, tally};
 ghost use Rattle.reg_service.specs.Answered.{AreUpToDate, Shows};
 ghost use Rattle.reg_service.specs.Registries.{limits_of, tables_of};
@@ -9,10 +11,10 @@ ghost use Rattle.reg_tables.specs.Works.{shown};
 ghost use Rattle.reg_http.specs.Answering.{GoesOn};
 ghost use Rattle.reg_http.specs.Streams.{Serves};
 
-use crate::answering::{answer_message, deny};
+use crate::answering::{Message, answer_message, deny};
 use reg_body::{Counted, Limits};
 use reg_http_read::laws::{append_law, bounds_law};
-use reg_http_read::{StreamFault, Taken, drop_front, take_request};
+use reg_http_read::{OwnedHead, StreamFault, Taken, drop_front, take_request};
 use reg_http_routes::Routes;
 use reg_service::Registry;
 use reg_service::laws::history_law;
@@ -35,6 +37,23 @@ fn closes(limits: &Limits, close: bool, replies: u64) -> bool
     ensures { result ≡ (close || replies + 1 == limits.now.replies) }
 {
     close || replies as u128 + 1 == limits.replies as u128
+}
+
+/// The request at the front of what waits.
+fn message_of<'h, 'b>(head: &'h OwnedHead, pending: &'b [u8], close: bool) -> Message<'h, 'b>
+    requires { head.now.len + head.now.body_len ≤ length pending.now }
+    ensures head { facts_of result.head ≡ facts_owned head.now }
+    ensures body { result.body.now
+        ≡ drop head.now.len (take (head.now.len + head.now.body_len) pending.now) }
+    ensures close { result.close ≡ close }
+{
+    let (whole, _) = pending.split_at(head.len + head.body_len as usize);
+    let (_, body) = whole.split_at(head.len);
+    Message {
+        head: head.as_head(),
+        body,
+        close,
+    }
 }
 
 /// Answers the requests of a stream, one after another.
@@ -69,25 +88,24 @@ fn serve_requests<R: Read, W: Write, S: Alter>(
     let mut left = limits.turns;
     let mut replies = 0;
     'requests: loop {
-        match take_request(alloc, r, w, chunk, pending, &limits, &mut left)? {
+        let head = match take_request(alloc, r, w, chunk, pending, &limits, &mut left)? {
             Taken::End => return Ok(replies),
-            Taken::Refused(rule, only) => {
-                deny(w, rule, true, only, &mut left)?;
+            Taken::Refused(rule, head_only) => {
+                deny(w, rule, true, head_only, &mut left)?;
                 return Ok(replies + 1);
             }
-            Taken::Whole(begun) => {
-                let close = closes(&limits, begun.close, replies);
-                let total = begun.len + begun.body_len as usize;
-                let (message, _) = pending.split_at(total);
-                let only = begun.is_head;
-                answer_message(alloc, registry, routes, w, message, only, close, &mut left)?;
-                replies += 1;
-                if close {
-                    return Ok(replies);
-                }
-                drop_front(pending, total);
-            }
+            Taken::Whole(head) => head,
+        };
+        let close = closes(&limits, head.close, replies);
+        let total = head.len + head.body_len as usize;
+        let message = message_of(&head, pending, close);
+        answer_message(alloc, registry, routes, w, &message, &mut left)?;
+        replies += 1;
+        if close {
+            return Ok(replies);
         }
+        drop_front(pending, total);
+        drop(head);
     }
 }
 

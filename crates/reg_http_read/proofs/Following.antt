@@ -82,10 +82,10 @@ module _ (limits : Limits) (b more : Text) where
   pub IsHeadAt-append : (f : Facts) → IsHeadAt limits b f → IsHeadAt limits (b ++ more) f
   IsHeadAt-append f it = record { head = it.head; cut = head_after limits.head b more f.len it.head it.cut; judged = it.judged }
 
-  pub IsRefusedAt-append : (r : Rule) (is_head : Bool) → IsRefusedAt limits b r is_head → IsRefusedAt limits (b ++ more) r is_head
-  IsRefusedAt-append r is_head (inl bad) =
+  pub IsRefusedAt-append : (r : Rule) (head_only : Bool) → IsRefusedAt limits b r head_only → IsRefusedAt limits (b ++ more) r head_only
+  IsRefusedAt-append r head_only (inl bad) =
       inl (record { cut = bad_after limits.head b more bad.cut; rule_is = bad.rule_is; told = bad.told })
-  IsRefusedAt-append r is_head (inr (inl large)) =
+  IsRefusedAt-append r head_only (inr (inl large)) =
       let long = large.long in
       inr (inl (record {
         unjudged = unjudged_after limits.head b more large.long large.unjudged;
@@ -93,7 +93,7 @@ module _ (limits : Limits) (b more : Text) where
         rule_is = large.rule_is;
         told = large.told;
       }))
-  IsRefusedAt-append r is_head (inr (inr broken)) =
+  IsRefusedAt-append r head_only (inr (inr broken)) =
       inr (inr (record {
         head = broken.head;
         len = broken.len;

@@ -83,10 +83,10 @@ module _ (limits : Limits) (h : RequestHead) (f : Facts) (is : judge_head limits
 
 -- ---- answers
 
-pub refused_by : (x : Result Facts Rule) (rule : Rule) (is_head : Bool) (method : List ℕ)
-    → IsAnswer (read.Refused rule is_head) method x → (x ≡ Err rule) × (is_head ≡ answers_head rule method)
-refused_by (Ok f) rule is_head method a = absurd a
-refused_by (Err r) rule is_head method a = (ap Err (sym a.0), a.1 ∙ ap (λ q. answers_head q method) (sym a.0))
+pub refused_by : (x : Result Facts Rule) (rule : Rule) (head_only : Bool) (method : List ℕ)
+    → IsAnswer (read.Refused rule head_only) method x → (x ≡ Err rule) × (head_only ≡ answers_head rule method)
+refused_by (Ok f) rule head_only method a = absurd a
+refused_by (Err r) rule head_only method a = (ap Err (sym a.0), a.1 ∙ ap (λ q. answers_head q method) (sym a.0))
 
 pub told_by : (x : Result Facts Rule) (it : Head) (method : List ℕ) → IsAnswer (read.Head it) method x → x ≡ Ok (facts_of it)
 told_by (Ok f) it method a = ap Ok (sym a)
@@ -99,11 +99,11 @@ pub answer_of_parts : (limits : Limits) (h : RequestHead) (it : HeadRead) (m t :
 unfolding judge_head
 answer_of_parts limits h it m t minor n fields em et ei en ef a = rw (em, et, ei, en, ef) at a
 
-pub refused_parts : (method target : List ℕ) (n : ℕ) (x : Result spec.Asked Rule) (rule : Rule) (is_head : Bool)
-    → IsAsked (Err rule) x → is_head ≡ answers_head rule method
-    → IsAnswer (read.Refused rule is_head) method (with_asked method target n x)
-refused_parts method target n (Ok a) rule is_head asked told = absurd asked
-refused_parts method target n (Err r) rule is_head asked told = (asked, told ∙ ap (λ q. answers_head q method) asked)
+pub refused_parts : (method target : List ℕ) (n : ℕ) (x : Result spec.Asked Rule) (rule : Rule) (head_only : Bool)
+    → IsAsked (Err rule) x → head_only ≡ answers_head rule method
+    → IsAnswer (read.Refused rule head_only) method (with_asked method target n x)
+refused_parts method target n (Ok a) rule head_only asked told = absurd asked
+refused_parts method target n (Err r) rule head_only asked told = (asked, told ∙ ap (λ q. answers_head q method) asked)
 
 -- a head at the front, and the answer to it
 pub judgement_from : (limits : Limits) (front : List ℕ) (h : RequestHead) (n : ℕ) (it : HeadRead)
@@ -111,7 +111,7 @@ pub judgement_from : (limits : Limits) (front : List ℕ) (h : RequestHead) (n :
     → IsJudgement limits front it
 judgement_from limits front h n read.More reads len a = absurd a
 judgement_from limits front h n (read.Head it) reads len a = record { head = h; reads = rw len at reads; answer = a }
-judgement_from limits front h n (read.Refused rule is_head) reads len a =
+judgement_from limits front h n (read.Refused rule head_only) reads len a =
     inr (record { head = h; reads = rw len at reads; answer = a })
 
 copied_is : (o : Option (Bor (List ℕ))) (r : Bor (List ℕ)) (t : List ℕ) → o ≡ Some r → option_copied o ≡ Some t → r.now ≡ t

@@ -28,13 +28,13 @@ module _ (limits : Limits) (e : ℕ) (bytes : List ℕ) (front : IsFront limits.
             (whole_cut (read.Head it) w);
       }
 
-  pub refusal_read : (rule : Rule) (is_head : Bool) → IsWhole limits (take e bytes) (read.Refused rule is_head) → IsBroken limits bytes rule is_head
-  refusal_read rule is_head w =
-      let judged = refused_by _ rule is_head w.head.method w.answer in
+  pub refusal_read : (rule : Rule) (head_only : Bool) → IsWhole limits (take e bytes) (read.Refused rule head_only) → IsBroken limits bytes rule head_only
+  refusal_read rule head_only w =
+      let judged = refused_by _ rule head_only w.head.method w.answer in
       record {
         head = w.head;
         len = length (print_request w.head);
-        cut = whole_cut (read.Refused rule is_head) w;
+        cut = whole_cut (read.Refused rule head_only) w;
         judged = judged.0;
         told = judged.1;
       }
@@ -42,6 +42,6 @@ module _ (limits : Limits) (e : ℕ) (bytes : List ℕ) (front : IsFront limits.
   pub read_from : (it : HeadRead) → IsJudgement limits (take e bytes) it → (it ≡ read.More → ⊥) → IsRead limits bytes it
   read_from read.More judged other = absurd (other refl)
   read_from (read.Head it) w other = head_read it w
-  read_from (read.Refused rule is_head) (inl bad) other =
+  read_from (read.Refused rule head_only) (inl bad) other =
       inl (record { cut = bad_cut limits.head e bytes front last bad.never; rule_is = bad.rule_is; told = bad.told })
-  read_from (read.Refused rule is_head) (inr w) other = inr (inr (refusal_read rule is_head w))
+  read_from (read.Refused rule head_only) (inr w) other = inr (inr (refusal_read rule head_only w))

@@ -15,10 +15,10 @@ same_heads limit n m b h k x y =
 
 module _ (limits : Limits) (b : Text) where
   -- a head is not refused
-  not_both : (f : Facts) (r : Rule) (is_head : Bool) → IsHeadAt limits b f → IsRefusedAt limits b r is_head → ⊥
-  not_both f r is_head it (inl bad) = bad.cut.none f.len it.cut.cut.line (it.head, it.cut.reads)
-  not_both f r is_head it (inr (inl large)) = large.unjudged f.len it.cut.cut.line it.cut.cut.judged
-  not_both f r is_head it (inr (inr broken)) =
+  not_both : (f : Facts) (r : Rule) (head_only : Bool) → IsHeadAt limits b f → IsRefusedAt limits b r head_only → ⊥
+  not_both f r head_only it (inl bad) = bad.cut.none f.len it.cut.cut.line (it.head, it.cut.reads)
+  not_both f r head_only it (inr (inl large)) = large.unjudged f.len it.cut.cut.line it.cut.cut.judged
+  not_both f r head_only it (inr (inr broken)) =
       let same : it.head ≡ broken.head = same_heads limits.head f.len broken.len b it.head broken.head it.cut broken.cut in
       let kept : judge_head limits it.head ≡ Ok f = it.judged in
       let lost : judge_head limits broken.head ≡ Err r = broken.judged in
@@ -51,22 +51,22 @@ module _ (limits : Limits) (b : Text) where
   pub no_head_yet : (f : Facts) → IsUnfinished limits b → IsHeadAt limits b f → ⊥
   no_head_yet f waits it = waits.unjudged f.len it.cut.cut.line it.cut.cut.judged
 
-  pub no_rule_yet : (r : Rule) (is_head : Bool) → IsUnfinished limits b → IsRefusedAt limits b r is_head → ⊥
-  no_rule_yet r is_head waits (inl bad) = waits.unjudged bad.cut.front bad.cut.line (inr bad.cut.never)
-  no_rule_yet r is_head waits (inr (inl large)) =
+  pub no_rule_yet : (r : Rule) (head_only : Bool) → IsUnfinished limits b → IsRefusedAt limits b r head_only → ⊥
+  no_rule_yet r head_only waits (inl bad) = waits.unjudged bad.cut.front bad.cut.line (inr bad.cut.never)
+  no_rule_yet r head_only waits (inr (inl large)) =
       let short = waits.short in
       let long = large.long in
       omega arith
-  no_rule_yet r is_head waits (inr (inr broken)) =
+  no_rule_yet r head_only waits (inr (inr broken)) =
       waits.unjudged broken.len broken.cut.cut.line broken.cut.cut.judged
 
 module _ (limits : Limits) (b more : Text) where
-  pub head_not_refused : (f : Facts) (r : Rule) (is_head : Bool) → IsHeadAt limits b f → IsRefusedAt limits (b ++ more) r is_head → ⊥
-  head_not_refused f r is_head it = not_both limits (b ++ more) f r is_head (IsHeadAt-append limits b more f it)
+  pub head_not_refused : (f : Facts) (r : Rule) (head_only : Bool) → IsHeadAt limits b f → IsRefusedAt limits (b ++ more) r head_only → ⊥
+  head_not_refused f r head_only it = not_both limits (b ++ more) f r head_only (IsHeadAt-append limits b more f it)
 
-  pub refused_no_head : (f : Facts) (r : Rule) (is_head : Bool) → IsRefusedAt limits b r is_head → IsHeadAt limits (b ++ more) f → ⊥
-  refused_no_head f r is_head refused it =
-      not_both limits (b ++ more) f r is_head it (IsRefusedAt-append limits b more r is_head refused)
+  pub refused_no_head : (f : Facts) (r : Rule) (head_only : Bool) → IsRefusedAt limits b r head_only → IsHeadAt limits (b ++ more) f → ⊥
+  refused_no_head f r head_only refused it =
+      not_both limits (b ++ more) f r head_only it (IsRefusedAt-append limits b more r head_only refused)
 
   pub one_refusal : (r q : Rule) (x y : Bool) → IsRefusedAt limits b r x → IsRefusedAt limits (b ++ more) q y → (r ≡ q) × (x ≡ y)
   one_refusal r q x y first = one_rule limits (b ++ more) r q x y (IsRefusedAt-append limits b more r x first)

@@ -1,5 +1,5 @@
 -- What is known of a request while its body is read.
-use Rattle.std.proofs.Common.{◌≡◌, ◌≤◌, ◌<◌, ◌+◌, ◌++◌, inl, inr, refl, ap, ◌∙◌, subst, arith, append_assoc, length, Option, Ok, Err}
+use Rattle.std.proofs.Common.{◌≡◌, ◌≤◌, ◌<◌, ◌+◌, ◌++◌, inl, inr, refl, ap, ◌∙◌, subst, append_assoc, length, sym, [], ◌&&◌, not, Bool, true, false, Option, Some, Ok, Err}
 use Rattle.std.specs.Io.KnownBytes.{Appends}
 use Rattle.std.proofs.KnownBytes.{Consumes-trans}
 use Rattle.reg_body.specs.declared.limits.Limits.{Limits}
@@ -7,12 +7,15 @@ use Rattle.reg_http_read.specs.Heads.{Facts, IsHeadAt}
 use Rattle.reg_model.specs.Registry.{Text}
 use Rattle.reg_model.specs.declared.rule.Rule.TheVariants as rule
 use Rattle.reg_api_replies.specs.Sent.{AppendsFront}
-use Rattle.reg_http_read.specs.Begun.{interim_if, interim_of}
-use Rattle.reg_http_read.specs.Taking.{Fills, HasBegun, IsCutOff, Keeps, Reads, Takes}
+use Rattle.reg_http_read.specs.Begun.{IsRefused, interim_if, interim_of, is_head_only}
+use Rattle.reg_http_read.specs.Owned.{facts_owned}
+use Rattle.reg_http_read.specs.Taking.{Awaits, Fills, HasBegun, IsCutOff, IsFound, Reads, Takes}
 use Rattle.reg_http_read.specs.Turns.{Sends}
 use Rattle.reg_http_read.specs.declared.fault.StreamFault.{StreamFault}
 use Rattle.reg_http_read.specs.declared.fault.StreamFault.TheVariants.{Memory, ReadFault, StoreFault, TooManyTurns, WriteFault}
-use Rattle.reg_http_read.specs.declared.taking.Begun.{Begun}
+use Rattle.reg_http_read.specs.declared.owned.OwnedHead.{OwnedHead}
+use Rattle.reg_http_read.specs.declared.taking.Awaited.{Awaited}
+use Rattle.reg_http_read.specs.declared.taking.Awaited.TheVariants as awaited
 use Rattle.reg_http_read.specs.declared.taking.Rest.TheVariants as remaining
 use Rattle.reg_http_read.specs.declared.taking.Taken.TheVariants as taken
 
@@ -20,37 +23,46 @@ use Rattle.reg_http_read.specs.declared.taking.Taken.TheVariants as taken
 abbrev HeadsStay : Type 0
 HeadsStay = (limits : Limits) (b more : Text) (f : Facts) → IsHeadAt limits b f → IsHeadAt limits (b ++ more) f
 
-module _ (limits : Limits) (stay : HeadsStay) (b : Begun) (r0 r1 : Option Text) (was mid : Text)
-    (first : Reads r0 r1 was mid (λ rest. (mid ≡ rest) × ((f : Facts) × Keeps limits rest b f))) where
-  keeps_on : (bytes more : Text) (f : Facts) → Keeps limits bytes b f → Keeps limits (bytes ++ more) b f
-  keeps_on bytes more f k = record {
-    head = stay limits bytes more f k.head;
-    len = k.len;
-    body_len = k.body_len;
-    interim = k.interim;
-    close = k.close;
-    only = k.only;
-  }
+-- there is no room for the head, and nothing was written
+module _ (limits : Limits) (bytes : Text) (f : Facts) (head : IsHeadAt limits bytes f) where
+  by_interim : (waits : Bool) → f.interim ≡ waits → (head_only : Bool) → head_only ≡ (not waits && is_head_only f) → IsRefused limits bytes [] rule.S1 head_only
+  by_interim true is head_only told = inr (refl, inl (refl, told))
+  by_interim false is head_only told = inr (refl, inr (f, head, ap interim_if (sym is), told))
+
+  pub no_room_kept : (head_only : Bool) → head_only ≡ (not f.interim && is_head_only f) → IsRefused limits bytes [] rule.S1 head_only
+  no_room_kept = by_interim f.interim refl
+
+-- what was found in all that was read
+pub found_awaits : (r0 r1 : Option Text) (was now : Text) (limits : Limits) (found : Awaited) → Reads r0 r1 was now (λ rest. now ≡ rest)
+    → IsFound limits now (Some found) → Awaits r0 r1 was now limits (Ok found)
+found_awaits r0 r1 was now limits awaited.End reads is = absurd is
+found_awaits r0 r1 was now limits (awaited.Refused broken head_only) (a, c, same) is =
+    (a, c, subst (λ l. IsRefused limits l [] broken head_only) same is)
+found_awaits r0 r1 was now limits (awaited.Head it) (a, c, same) is =
+    (a, c, (same, subst (λ l. IsHeadAt limits l (facts_owned it)) same is))
+
+module _ (limits : Limits) (stay : HeadsStay) (it : OwnedHead) (r0 r1 : Option Text) (was mid : Text)
+    (first : Reads r0 r1 was mid (λ rest. (mid ≡ rest) × IsHeadAt limits rest (facts_owned it))) where
+  abbrev f : Facts
+  f = facts_owned it
 
   -- the head stands in all that was read since
   head_on : (r2 : Option Text) (now : Text) (holds : Text → Type 0) → Reads r1 r2 mid now holds
-      → Reads r0 r2 was now (λ rest. ((f : Facts) × Keeps limits rest b f) × holds rest)
+      → Reads r0 r2 was now (λ rest. IsHeadAt limits rest f × holds rest)
   head_on r2 now holds (d, e, h) =
-      let (a, c, (same, (f, k))) = first in
+      let (a, c, (same, head)) = first in
       let is : mid ++ d ≡ was ++ (a ++ d) = ap (λ l. l ++ d) same ∙ append_assoc was a d in (
         a ++ d,
         Consumes-trans r0 r1 r2 a d c e,
-        ((f, subst (λ l. Keeps limits l b f) (append_assoc was a d) (keeps_on (was ++ a) d f k)), subst holds is h),
+        (subst (λ l. IsHeadAt limits l f) (append_assoc was a d) (stay limits (was ++ a) d f head), subst holds is h),
       )
 
   module _ (w0 w1 : Option Text) where
     -- the interim line was cut off
-    pub cut_off : AppendsFront (interim_if b.interim) w0 w1 → IsCutOff r0 r1 was mid w0 w1 limits
-    cut_off front =
-        let (a, c, (same, (f, k))) = first in
-        (a, c, (f, k.head, subst (λ v. AppendsFront (interim_if v) w0 w1) k.interim front))
+    pub cut_off : AppendsFront (interim_if it.interim) w0 w1 → IsCutOff r0 r1 was mid w0 w1 limits
+    cut_off front = let (a, c, (same, head)) = first in (a, c, (f, head, front))
 
-    pub ask_failed : (f : StreamFault) → Sends (interim_if b.interim) w0 w1 {A = Unit {0}} (Err f) → Takes r0 r1 was mid w0 w1 limits (Err f)
+    pub ask_failed : (fault : StreamFault) → Sends (interim_if it.interim) w0 w1 {A = Unit {0}} (Err fault) → Takes r0 r1 was mid w0 w1 limits (Err fault)
     ask_failed ReadFault x = absurd x
     ask_failed Memory x = absurd x
     ask_failed StoreFault x = absurd x
@@ -58,37 +70,28 @@ module _ (limits : Limits) (stay : HeadsStay) (b : Begun) (r0 r1 : Option Text) 
     ask_failed TooManyTurns x = inr (cut_off x)
 
     -- the interim line was sent, and more was read
-    module _ (sent : Appends w0 w1 (interim_if b.interim)) (r2 : Option Text) (now : Text) where
-      waits : Reads r1 r2 mid now (λ rest. length rest < b.len + b.body_len) → HasBegun r0 r2 was now w0 w1 limits
+    module _ (sent : Appends w0 w1 (interim_if it.interim)) (r2 : Option Text) (now : Text) where
+      waits : Reads r1 r2 mid now (λ rest. length rest < it.len + it.body_len) → HasBegun r0 r2 was now w0 w1 limits
       waits short =
-          let (a, c, ((f, k), lt)) = head_on r2 now (λ rest. length rest < b.len + b.body_len) short in (
-            a,
-            c,
-            (interim_of f, subst (λ v. Appends w0 w1 (interim_if v)) k.interim sent, inr (f, k.head, omega (arith, k.len, k.body_len, lt), refl)),
-          )
+          let (a, c, (head, lt)) = head_on r2 now (λ rest. length rest < it.len + it.body_len) short in
+          (a, c, (interim_of f, sent, inr (f, head, lt, refl)))
 
-      pub rest_failed : (f : StreamFault) → Fills r1 r2 mid now (b.len + b.body_len) (Err f) → Takes r0 r2 was now w0 w1 limits (Err f)
+      pub rest_failed : (fault : StreamFault) → Fills r1 r2 mid now (it.len + it.body_len) (Err fault) → Takes r0 r2 was now w0 w1 limits (Err fault)
       rest_failed ReadFault x = waits x
       rest_failed TooManyTurns x = inl (waits x)
       rest_failed WriteFault x = absurd x
       rest_failed StoreFault x = absurd x
       rest_failed Memory x = absurd x
 
-      pub rest_ended : Fills r1 r2 mid now (b.len + b.body_len) (Ok remaining.End) → Takes r0 r2 was now w0 w1 limits (Ok taken.End)
+      pub rest_ended : Fills r1 r2 mid now (it.len + it.body_len) (Ok remaining.End) → Takes r0 r2 was now w0 w1 limits (Ok taken.End)
       rest_ended (short, end) = (waits short, end)
 
-      pub rest_refused : Fills r1 r2 mid now (b.len + b.body_len) (Ok remaining.NoMemory) → Takes r0 r2 was now w0 w1 limits (Ok (taken.Refused rule.S1 b.is_head))
-      rest_refused x =
-          let (a, c, ((f, k), any)) = head_on r2 now (λ rest. Unit {0}) x in (
-            a,
-            c,
-            (interim_of f, subst (λ v. Appends w0 w1 (interim_if v)) k.interim sent, inr (refl, inr (f, k.head, refl, k.only))),
-          )
+      pub rest_refused : (head_only : Bool) → head_only ≡ is_head_only f → Fills r1 r2 mid now (it.len + it.body_len) (Ok remaining.NoMemory)
+          → Takes r0 r2 was now w0 w1 limits (Ok (taken.Refused rule.S1 head_only))
+      rest_refused head_only told x =
+          let (a, c, (head, any)) = head_on r2 now (λ rest. Unit {0}) x in (a, c, (interim_of f, sent, inr (refl, inr (f, head, refl, told))))
 
-      pub rest_whole : Fills r1 r2 mid now (b.len + b.body_len) (Ok remaining.Whole) → Takes r0 r2 was now w0 w1 limits (Ok (taken.Whole b))
+      pub rest_whole : Fills r1 r2 mid now (it.len + it.body_len) (Ok remaining.Whole) → Takes r0 r2 was now w0 w1 limits (Ok (taken.Whole it))
       rest_whole x =
-          let (a, c, ((f, k), (same, le))) = head_on r2 now (λ rest. (now ≡ rest) × (b.len + b.body_len ≤ length rest)) x in (
-            a,
-            c,
-            (same, (f, k, omega (arith, k.len, k.body_len, le), subst (λ v. Appends w0 w1 (interim_if v)) k.interim sent)),
-          )
+          let (a, c, (head, (same, le))) = head_on r2 now (λ rest. (now ≡ rest) × (it.len + it.body_len ≤ length rest)) x in
+          (a, c, (same, head, le, sent))

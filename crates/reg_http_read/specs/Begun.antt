@@ -9,8 +9,8 @@ use Rattle.reg_model.specs.declared.rule.Rule.TheVariants as rule
 use Rattle.reg_model.specs.Registry.{Text}
 
 -- the method is HEAD: a refusal leaves its body out (RFC 9110, section 9.3.2)
-abbrev pub is_head : Facts → Bool
-is_head f = bytes_eq f.method (codes "HEAD")
+abbrev pub is_head_only : Facts → Bool
+is_head_only f = bytes_eq f.method (codes "HEAD")
 
 -- the interim line (RFC 9110, section 15.2.1), where it is waited for
 abbrev pub interim_line : Text
@@ -32,13 +32,13 @@ IsBegun limits rest more =
 
 -- Memory was refused while a request was read: before its head was seen, or after.
 abbrev pub HasNoRoom : Limits → Text → Text → Bool → Type 0
-HasNoRoom limits rest more only =
-    ((more ≡ []) × (only ≡ false))
-    ⊎ ((f : Facts) × IsHeadAt limits rest f × (more ≡ interim_of f) × (only ≡ is_head f))
+HasNoRoom limits rest more head_only =
+    ((more ≡ []) × (head_only ≡ false))
+    ⊎ ((f : Facts) × IsHeadAt limits rest f × (more ≡ interim_of f) × (head_only ≡ is_head_only f))
 
 -- The rest is refused and the connection closes: for the rule that its head breaks, or for want of
 -- memory; only the head of the reply is sent to a HEAD request.
 abbrev pub IsRefused : Limits → Text → Text → Rule → Bool → Type 0
-IsRefused limits rest more r only =
-    (IsRefusedAt limits rest r only × (more ≡ []))
-    ⊎ ((r ≡ rule.S1) × HasNoRoom limits rest more only)
+IsRefused limits rest more r head_only =
+    (IsRefusedAt limits rest r head_only × (more ≡ []))
+    ⊎ ((r ≡ rule.S1) × HasNoRoom limits rest more head_only)

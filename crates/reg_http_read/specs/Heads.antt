@@ -65,31 +65,32 @@ answers_head H2 method = false
 answers_head r method = bytes_eq method (codes "HEAD")
 
 -- the head of the bytes breaks the rule
-pub record IsBroken (limits : Limits) (bytes : Text) (rule : Rule) (is_head : Bool) : Type 0 where
+pub record IsBroken (limits : Limits) (bytes : Text) (rule : Rule) (head_only : Bool) : Type 0 where
   pub head : RequestHead
   pub len : ℕ
   pub cut : IsHeadCut limits.head bytes len head
   pub judged : judge_head limits head ≡ Err rule
-  pub told : is_head ≡ answers_head rule head.method
+  pub told : head_only ≡ answers_head rule head.method
 
 -- the bytes begin with no head
-pub record IsBad (limits : Limits) (bytes : Text) (rule : Rule) (is_head : Bool) : Type 0 where
+pub record IsBad (limits : Limits) (bytes : Text) (rule : Rule) (head_only : Bool) : Type 0 where
   pub cut : IsBadCut limits.head bytes
   pub rule_is : rule ≡ H1
-  pub told : is_head ≡ false
+  pub told : head_only ≡ false
 
 -- as many bytes as a head may have, and no front of them is judged
-pub record IsTooLarge (limits : Limits) (bytes : Text) (rule : Rule) (is_head : Bool) : Type 0 where
+pub record IsTooLarge (limits : Limits) (bytes : Text) (rule : Rule) (head_only : Bool)
+    : Type 0 where
   pub unjudged : IsUnjudged limits.head bytes
   pub long : limits.head ≤ length bytes
   pub rule_is : rule ≡ H2
-  pub told : is_head ≡ false
+  pub told : head_only ≡ false
 
--- the bytes are refused for the rule; is_head where that answers a HEAD request
+-- the bytes are refused for the rule; head_only where that answers a HEAD request
 abbrev pub IsRefusedAt : Limits → Text → Rule → Bool → Type 0
-IsRefusedAt limits bytes rule is_head =
-    IsBad limits bytes rule is_head
-    ⊎ (IsTooLarge limits bytes rule is_head ⊎ IsBroken limits bytes rule is_head)
+IsRefusedAt limits bytes rule head_only =
+    IsBad limits bytes rule head_only
+    ⊎ (IsTooLarge limits bytes rule head_only ⊎ IsBroken limits bytes rule head_only)
 
 -- more bytes are waited for
 pub record IsUnfinished (limits : Limits) (bytes : Text) : Type 0 where

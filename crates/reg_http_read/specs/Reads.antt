@@ -27,22 +27,22 @@ facts_of it = record {
 abbrev pub IsRead : Limits → Text → HeadRead → Type 0
 IsRead limits bytes read.More = IsUnfinished limits bytes
 IsRead limits bytes (read.Head it) = IsHeadAt limits bytes (facts_of it)
-IsRead limits bytes (read.Refused rule is_head) = IsRefusedAt limits bytes rule is_head
+IsRead limits bytes (read.Refused rule head_only) = IsRefusedAt limits bytes rule head_only
 
 -- the front is no head, and nothing continues it to one
-pub record IsBadFront (front : Text) (rule : Rule) (is_head : Bool) : Type 0 where
+pub record IsBadFront (front : Text) (rule : Rule) (head_only : Bool) : Type 0 where
   pub never : NeverHasRequest front
   pub rule_is : rule ≡ H1
-  pub told : is_head ≡ false
+  pub told : head_only ≡ false
 
 -- what a whole head, whose method is given, is answered
 abbrev pub IsAnswer : HeadRead → Text → Result Facts Rule → Type 0
 IsAnswer read.More method facts = ⊥
 IsAnswer (read.Head it) method (Ok facts) = facts_of it ≡ facts
 IsAnswer (read.Head it) method (Err r) = ⊥
-IsAnswer (read.Refused rule is_head) method (Ok facts) = ⊥
-IsAnswer (read.Refused rule is_head) method (Err r) =
-    (rule ≡ r) × (is_head ≡ answers_head r method)
+IsAnswer (read.Refused rule head_only) method (Ok facts) = ⊥
+IsAnswer (read.Refused rule head_only) method (Err r) =
+    (rule ≡ r) × (head_only ≡ answers_head r method)
 
 -- the front begins with a head, and that is the answer to it
 pub record IsWhole (limits : Limits) (front : Text) (it : HeadRead) : Type 0 where
@@ -54,8 +54,8 @@ pub record IsWhole (limits : Limits) (front : Text) (it : HeadRead) : Type 0 whe
 abbrev pub IsJudgement : Limits → Text → HeadRead → Type 0
 IsJudgement limits front read.More = HasNoRequest front × MayBecomeRequest front
 IsJudgement limits front (read.Head it) = IsWhole limits front (read.Head it)
-IsJudgement limits front (read.Refused rule is_head) =
-    IsBadFront front rule is_head ⊎ IsWhole limits front (read.Refused rule is_head)
+IsJudgement limits front (read.Refused rule head_only) =
+    IsBadFront front rule head_only ⊎ IsWhole limits front (read.Refused rule head_only)
 
 -- the same values
 pub record HasAsked (it : Asked) (asked : spec.Asked) : Type 0 where

@@ -1,31 +1,30 @@
 -- Reading a request from a stream.
-use Rattle.std.specs.Prelude.{◌≡◌, ◌⊎◌, ◌+◌, ◌<◌, ◌≤◌, ◌++◌, ℕ, [], length, get_or, Option, Result, Ok, Err, ⊤}
+use Rattle.std.specs.Prelude.{◌≡◌, ◌⊎◌, ◌+◌, ◌<◌, ◌≤◌, ◌++◌, ℕ, [], length, get_or, Option, Some, None, Result, Ok, Err, ⊤}
 use Rattle.std.specs.Io.KnownBytes.{Appends, Consumes, IsAtEnd}
 use Rattle.reg_body.specs.declared.limits.Limits.{Limits}
 use Rattle.reg_http_read.specs.Heads.{Facts, IsHeadAt, IsUnfinished}
 use Rattle.reg_model.specs.Registry.{Text}
 use Rattle.reg_api_replies.specs.Sent.{AppendsFront}
-use Rattle.reg_http_read.specs.Begun.{IsBegun, IsRefused, interim_of, is_head}
+use Rattle.reg_http_read.specs.Begun.{IsBegun, IsRefused, interim_if, interim_of}
+use Rattle.reg_http_read.specs.Owned.{facts_owned}
 use Rattle.reg_http_read.specs.declared.fault.StreamFault.{StreamFault}
 use Rattle.reg_http_read.specs.declared.fault.StreamFault.TheVariants.{ReadFault, TooManyTurns, WriteFault}
 use Rattle.reg_http_read.specs.declared.reading.Piece.{Piece}
 use Rattle.reg_http_read.specs.declared.reading.Piece.TheVariants as piece
 use Rattle.reg_http_read.specs.declared.taking.Awaited.{Awaited}
 use Rattle.reg_http_read.specs.declared.taking.Awaited.TheVariants as awaited
-use Rattle.reg_http_read.specs.declared.taking.Begun.{Begun}
 use Rattle.reg_http_read.specs.declared.taking.Rest.{Rest}
 use Rattle.reg_http_read.specs.declared.taking.Rest.TheVariants as remaining
 use Rattle.reg_http_read.specs.declared.taking.Taken.{Taken}
 use Rattle.reg_http_read.specs.declared.taking.Taken.TheVariants as taken
 
--- what is kept of a head
-pub record Keeps (limits : Limits) (bytes : Text) (b : Begun) (f : Facts) : Type 0 where
-  pub head : IsHeadAt limits bytes f
-  pub len : b.len ≡ f.len
-  pub body_len : b.body_len ≡ f.body_len
-  pub interim : b.interim ≡ f.interim
-  pub close : b.close ≡ f.close
-  pub only : b.is_head ≡ is_head f
+-- the bytes begin with this head, are refused with nothing written, or are too few to tell
+abbrev pub IsFound : Limits → Text → Option Awaited → Type 0
+IsFound limits bytes None = IsUnfinished limits bytes
+IsFound limits bytes (Some awaited.End) = ⊥
+IsFound limits bytes (Some (awaited.Refused broken head_only)) =
+    IsRefused limits bytes [] broken head_only
+IsFound limits bytes (Some (awaited.Head it)) = IsHeadAt limits bytes (facts_owned it)
 
 -- no line ends among the bytes
 abbrev pub HasNoLine : Text → Type 0
@@ -58,10 +57,10 @@ module _ (r0 r1 : Option Text) (was now : Text) where
   -- what was found where a head was waited for
   abbrev pub Awaits : Limits → Result Awaited StreamFault → Type 0
   Awaits limits (Ok awaited.End) = Reads (λ rest. IsUnfinished limits rest) × IsAtEnd r1
-  Awaits limits (Ok (awaited.Refused broken only)) =
-      Reads (λ rest. IsRefused limits rest [] broken only)
-  Awaits limits (Ok (awaited.Head b)) =
-      Reads (λ rest. (now ≡ rest) × ((f : Facts) × Keeps limits rest b f))
+  Awaits limits (Ok (awaited.Refused broken head_only)) =
+      Reads (λ rest. IsRefused limits rest [] broken head_only)
+  Awaits limits (Ok (awaited.Head it)) =
+      Reads (λ rest. (now ≡ rest) × IsHeadAt limits rest (facts_owned it))
   Awaits limits (Err ReadFault) = Reads (λ rest. IsUnfinished limits rest)
   Awaits limits (Err TooManyTurns) = Reads (λ rest. IsUnfinished limits rest)
   Awaits limits (Err fault) = ⊥
@@ -87,10 +86,11 @@ module _ (r0 r1 : Option Text) (was now : Text) where
 
     abbrev pub Takes : Result Taken StreamFault → Type 0
     Takes (Ok taken.End) = HasBegun × IsAtEnd r1
-    Takes (Ok (taken.Refused broken only)) = Reads (λ rest. (more : Text) × Appends w0 w1 more
-        × IsRefused limits rest more broken only)
-    Takes (Ok (taken.Whole b)) = Reads (λ rest. (now ≡ rest) × ((f : Facts) × Keeps limits rest b f
-        × (f.len + f.body_len ≤ length rest) × Appends w0 w1 (interim_of f)))
+    Takes (Ok (taken.Refused broken head_only)) = Reads (λ rest. (more : Text) × Appends w0 w1 more
+        × IsRefused limits rest more broken head_only)
+    Takes (Ok (taken.Whole it)) = Reads (λ rest. (now ≡ rest)
+        × IsHeadAt limits rest (facts_owned it) × (it.len + it.body_len ≤ length rest)
+        × Appends w0 w1 (interim_if it.interim))
     Takes (Err ReadFault) = HasBegun
     Takes (Err TooManyTurns) = HasBegun ⊎ IsCutOff
     Takes (Err WriteFault) = IsCutOff

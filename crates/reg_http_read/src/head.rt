@@ -1,8 +1,9 @@
 //! The head at the front of a stream.
 
-ghost use Rattle.std.specs.Prelude.{IfOk};
+ghost use Rattle.std.specs.Prelude.{◌≡◌, IfOk};
 ghost use Rattle.reg_http_read.specs.Fronts.{IsUnjudged};
-ghost use Rattle.reg_http_read.specs.Reads.{IsRead};
+ghost use Rattle.reg_http_read.specs.Begun.{is_head_only};
+ghost use Rattle.reg_http_read.specs.Reads.{IsRead, facts_of};
 
 use crate::front::{judge_front, last_line};
 use reg_body::Limits;
@@ -26,13 +27,22 @@ pub struct Head<'b> {
     pub close: bool,
 }
 
+impl Head<'_> {
+    /// Whether the method is HEAD, so that only the head of a reply is sent.
+    pub fn is_head_only(&self) -> bool
+        ensures { result ≡ is_head_only (facts_of self.now) }
+    {
+        self.method == "HEAD"
+    }
+}
+
 /// What the front of a stream was read as.
 #[derive(Clone, Copy, Debug)]
 pub enum HeadRead<'b> {
     /// More bytes are waited for.
     More,
     Head(Head<'b>),
-    /// A rule is broken, by a HEAD request or not.
+    /// The rule that is broken, and whether only the head of the refusal is sent.
     Refused(Rule, bool),
 }
 

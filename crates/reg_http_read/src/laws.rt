@@ -22,8 +22,8 @@ pub fn append_law()
         → IsHeadAt limits (b ++ more) f }
     ensures alone { (limits : Limits) (b : Text) (f : Facts) → IsHeadAt limits b f
         → IsHeadAt limits (take f.len b) f }
-    ensures refused { (limits : Limits) (b more : Text) (r : Rule) (is_head : Bool)
-        → IsRefusedAt limits b r is_head → IsRefusedAt limits (b ++ more) r is_head }
+    ensures refused { (limits : Limits) (b more : Text) (r : Rule) (head_only : Bool)
+        → IsRefusedAt limits b r head_only → IsRefusedAt limits (b ++ more) r head_only }
 {}
 
 /// The bytes begin with one head at most.
@@ -35,14 +35,14 @@ pub fn one_head_law()
 /// What is read of bytes is one thing, and what follows does not change it: a head is not refused,
 /// a refusal is for one rule, and what is unfinished is neither.
 pub fn one_reading_law()
-    ensures head { (limits : Limits) (b more : Text) (f : Facts) (r : Rule) (is_head : Bool)
-        → IsHeadAt limits b f → IsRefusedAt limits (b ++ more) r is_head → ⊥ }
-    ensures refused { (limits : Limits) (b more : Text) (f : Facts) (r : Rule) (is_head : Bool)
-        → IsRefusedAt limits b r is_head → IsHeadAt limits (b ++ more) f → ⊥ }
+    ensures head { (limits : Limits) (b more : Text) (f : Facts) (r : Rule) (head_only : Bool)
+        → IsHeadAt limits b f → IsRefusedAt limits (b ++ more) r head_only → ⊥ }
+    ensures refused { (limits : Limits) (b more : Text) (f : Facts) (r : Rule) (head_only : Bool)
+        → IsRefusedAt limits b r head_only → IsHeadAt limits (b ++ more) f → ⊥ }
     ensures rule { (limits : Limits) (b more : Text) (r q : Rule) (x y : Bool)
         → IsRefusedAt limits b r x → IsRefusedAt limits (b ++ more) q y → (r ≡ q) × (x ≡ y) }
     ensures no_head { (limits : Limits) (b : Text) (f : Facts) → IsUnfinished limits b
         → IsHeadAt limits b f → ⊥ }
-    ensures no_rule { (limits : Limits) (b : Text) (r : Rule) (is_head : Bool)
-        → IsUnfinished limits b → IsRefusedAt limits b r is_head → ⊥ }
+    ensures no_rule { (limits : Limits) (b : Text) (r : Rule) (head_only : Bool)
+        → IsUnfinished limits b → IsRefusedAt limits b r head_only → ⊥ }
 {}

@@ -10,7 +10,7 @@
 //! let HeadRead::Head(head) = read_head(alloc, bytes, &Limits::STANDARD)? else { .. };
 //! // head.target is "/index/1/a", head.token is Some(b"abc"), head.len is 56
 //! match take_request(alloc, &mut r, &mut w, &mut chunk, &mut pending, &limits, &mut left)? {
-//!     Taken::Whole(begun) => ..                   // it is at the front of `pending`
+//!     Taken::Whole(head) => ..                    // it is at the front of `pending`
 //!     Taken::Refused(rule, head_only) => ..       // `send_reply` tells it, and it is the last
 //!     Taken::End => ..
 //! }
@@ -24,6 +24,7 @@ mod front;
 mod head;
 pub mod laws;
 mod numbers;
+mod owned;
 mod reading;
 mod taking;
 mod turns;
@@ -31,6 +32,7 @@ mod words;
 
 pub use fault::StreamFault;
 pub use head::{Head, HeadRead, read_head};
+pub use owned::OwnedHead;
 pub use reading::drop_front;
-pub use taking::{Begun, Taken, take_request};
+pub use taking::{Taken, take_request};
 pub use turns::{send, send_reply};

@@ -1,42 +1,33 @@
 //! A request is taken from a stream: its head, its interim line, its body.
 
-ghost use Rattle.std.specs.Prelude.{◌≡◌, ◌+◌, ◌^◌, ◌<◌, ◌≤◌, length};
+ghost use Rattle.std.specs.Prelude.{◌≡◌, ◌+◌, ◌^◌, ◌<◌, ◌≤◌, ◌&&◌, not, IfOk, Some, length};
+ghost use Rattle.reg_http_read.specs.Begun.{interim_if, is_head_only};
+ghost use Rattle.reg_http_read.specs.Heads.{IsHeadAt};
 ghost use Rattle.reg_http_read.specs.Reads.{facts_of};
-ghost use Rattle.reg_http_read.specs.Begun.{interim_if, is_head as is_head_request};
-ghost use Rattle.reg_http_read.specs.Taking.{Awaits, Fills, Takes};
+ghost use Rattle.reg_http_read.specs.Taking.{Awaits, Fills, IsFound, Takes};
 ghost use Rattle.reg_http_read.specs.Turns.{Sends, Spends, reads_of, tally, writes_of};
 
 use crate::fault::StreamFault;
 use crate::head::{Head, HeadRead, read_head};
 use crate::laws::{append_law, bounds_law};
+use crate::owned::{OwnedHead, keep};
 use crate::reading::{Piece, make_room, read_line, read_piece};
 use crate::turns::send;
 use reg_body::{Counted, Limits};
 use reg_model::Rule;
-use std::alloc::Global;
+use std::alloc::{AllocError, Global};
 use std::io::{Read, Write};
 
 /// The interim line, which asks the client for the body.
 const INTERIM: &[u8] = b"HTTP/1.1 100 Continue\r\n\r\n";
 
-/// What is kept of a head while its body is waited for.
-#[derive(Clone, Copy, Debug)]
-pub struct Begun {
-    pub len: usize,
-    pub body_len: u64,
-    pub interim: bool,
-    pub close: bool,
-    /// Whether the method is HEAD.
-    pub is_head: bool,
-}
-
 /// What was found where a head was waited for.
-#[derive(Clone, Copy, Debug)]
+#[derive(Drop)]
 pub(crate) enum Awaited {
     End,
     /// The rule, and whether only the head of the refusal is sent.
     Refused(Rule, bool),
-    Head(Begun),
+    Head(OwnedHead),
 }
 
 /// What was found where the rest of a body was waited for.
@@ -48,28 +39,42 @@ pub(crate) enum Rest {
 }
 
 /// What was found where a request was waited for.
-#[derive(Clone, Copy, Debug)]
+#[derive(Drop)]
 pub enum Taken {
     End,
+    /// The rule, and whether only the head of the refusal is sent.
     Refused(Rule, bool),
     /// It is there, at the front of what waits.
-    Whole(Begun),
+    Whole(OwnedHead),
 }
 
-/// What is kept of a head.
-fn kept_of(head: &Head<'_>) -> Begun
-    ensures len { result.len ≡ (facts_of head.now).len }
-    ensures body_len { result.body_len ≡ (facts_of head.now).body_len }
-    ensures interim { result.interim ≡ (facts_of head.now).interim }
-    ensures close { result.close ≡ (facts_of head.now).close }
-    ensures is_head { result.is_head ≡ is_head_request (facts_of head.now) }
+/// Whether only the head of the refusal is sent where there is no room for a head: not where the
+/// interim line is still waited for.
+fn is_unkept_head_only(head: &Head<'_>) -> bool
+    ensures { let f = facts_of head.now in result ≡ (not f.interim && is_head_only f) }
 {
-    Begun {
-        len: head.len,
-        body_len: head.body_len,
-        interim: head.interim,
-        close: head.close,
-        is_head: head.method == "HEAD",
+    !head.interim && head.is_head_only()
+}
+
+/// The head, kept, or that there is no room for it.
+fn kept(alloc: Global, head: &Head<'_>) -> Awaited
+    ensures { (limits : _) (bytes : _) → IsHeadAt limits bytes (facts_of head.now)
+        → IsFound limits bytes (Some result) }
+{
+    match keep(alloc, head) {
+        Ok(head) => Awaited::Head(head),
+        Err(_) => Awaited::Refused(Rule::S1, is_unkept_head_only(head)),
+    }
+}
+
+/// The head at the front of what waits, or why it is refused; none where more is waited for.
+fn find_head(alloc: Global, pending: &[u8], limits: &Limits) -> Result<Option<Awaited>, AllocError>
+    ensures { IfOk result (IsFound limits.now pending.now) }
+{
+    match read_head(alloc, pending, limits)? {
+        HeadRead::More => Ok(None),
+        HeadRead::Head(head) => Ok(Some(kept(alloc, &head))),
+        HeadRead::Refused(rule, head_only) => Ok(Some(Awaited::Refused(rule, head_only))),
     }
 }
 
@@ -90,10 +95,9 @@ fn await_head<R: Read>(
     ensures chunk { length chunk.new ≡ length chunk.old }
 {
     'judged: loop {
-        match read_head(alloc, pending, limits) {
-            Ok(HeadRead::More) => {}
-            Ok(HeadRead::Head(head)) => return Ok(Awaited::Head(kept_of(&head))),
-            Ok(HeadRead::Refused(rule, only)) => return Ok(Awaited::Refused(rule, only)),
+        match find_head(alloc, pending, limits) {
+            Ok(None) => {}
+            Ok(Some(found)) => return Ok(found),
             Err(_) => return Ok(Awaited::Refused(Rule::S1, false)),
         }
         match read_line(r, chunk, pending, limits, left)? {
@@ -169,15 +173,15 @@ pub fn take_request<R: Read, W: Write>(
 {
     bounds_law();
     append_law();
-    let begun = match await_head(alloc, r, chunk, pending, limits, left)? {
+    let head = match await_head(alloc, r, chunk, pending, limits, left)? {
         Awaited::End => return Ok(Taken::End),
-        Awaited::Refused(rule, only) => return Ok(Taken::Refused(rule, only)),
-        Awaited::Head(begun) => begun,
+        Awaited::Refused(rule, head_only) => return Ok(Taken::Refused(rule, head_only)),
+        Awaited::Head(head) => head,
     };
-    ask_on(w, begun.interim, left)?;
-    match await_rest(r, chunk, pending, begun.len, begun.body_len, left)? {
-        Rest::Whole => Ok(Taken::Whole(begun)),
+    ask_on(w, head.interim, left)?;
+    match await_rest(r, chunk, pending, head.len, head.body_len, left)? {
+        Rest::Whole => Ok(Taken::Whole(head)),
         Rest::End => Ok(Taken::End),
-        Rest::NoMemory => Ok(Taken::Refused(Rule::S1, begun.is_head)),
+        Rest::NoMemory => Ok(Taken::Refused(Rule::S1, head.as_head().is_head_only())),
     }
 }

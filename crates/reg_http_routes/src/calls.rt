@@ -5,9 +5,10 @@ ghost use Rattle.std.specs.Cow.{cow_slice_items};
 ghost use Rattle.reg_api_requests.specs.Wants.{wants_of};
 ghost use Rattle.reg_http_routes.specs.Routing.{index_wants, owners_wants, wants_at};
 
-use crate::place::Place;
+use crate::place::{Place, is_method};
 use crate::query::search;
 use crate::target::{index_rest, part, split};
+use http::Method;
 use reg_api_requests::ApiCall;
 use std::alloc::{AllocError, Global};
 use std::borrow::CowSlice;
@@ -32,9 +33,9 @@ fn index(rest: CowSlice<'_, u8>) -> ApiCall<'_>
 fn owners<'b>(method: &str, name: CowSlice<'b, u8>, body: &'b [u8]) -> ApiCall<'b>
     ensures { wants_of result ≡ owners_wants method.now (cow_slice_items name.entry) body.now }
 {
-    if method == "GET" {
+    if is_method(method, &Method::GET) {
         ApiCall::ListOwners(name)
-    } else if method == "PUT" {
+    } else if is_method(method, &Method::PUT) {
         ApiCall::AddOwners(name, body)
     } else {
         ApiCall::RemoveOwners(name, body)

@@ -1,8 +1,10 @@
 //! The places that paths lead to, and their methods.
 
 ghost use Rattle.std.specs.Prelude.{◌≡◌};
+ghost use Rattle.std.specs.Str.{bytes_eq};
 ghost use Rattle.reg_http_routes.specs.Routing.{has_method, methods_of};
 
+use http::Method;
 use reg_api_replies::Methods;
 
 /// A place that a path leads to.
@@ -32,14 +34,25 @@ impl Place {
     }
 }
 
+/// Whether the text is this method.
+pub(crate) fn is_method(text: &str, method: &Method) -> bool
+    ensures { result ≡ bytes_eq text.now method.now }
+{
+    text == method.as_str()
+}
+
 /// Whether the method is one of these.
 pub(crate) fn are_with(methods: Methods, method: &str) -> bool
     ensures { result ≡ has_method methods method.now }
 {
     match methods {
-        Methods::Get => method == "GET",
-        Methods::Put => method == "PUT",
-        Methods::Delete => method == "DELETE",
-        Methods::GetPutDelete => method == "GET" || method == "PUT" || method == "DELETE",
+        Methods::Get => is_method(method, &Method::GET),
+        Methods::Put => is_method(method, &Method::PUT),
+        Methods::Delete => is_method(method, &Method::DELETE),
+        Methods::GetPutDelete => {
+            is_method(method, &Method::GET)
+                || is_method(method, &Method::PUT)
+                || is_method(method, &Method::DELETE)
+        }
     }
 }

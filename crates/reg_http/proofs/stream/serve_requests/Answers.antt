@@ -1,4 +1,4 @@
-use Rattle.std.proofs.Common.{◌+◌, ◌||◌, ◌==◌, ◌∙◌, refl, ap, arith, subst, Ok, Err}
+use Rattle.std.proofs.Common.{◌+◌, ◌||◌, ◌==◌, ◌∙◌, refl, ap, arith, length, subst, Ok, Err}
 use Rattle.std.proofs.lemmas.Result.{err_from_is_err_and}
 use Rattle.reg_http_read.proofs.Adding.{spends_for, spends_nothing, spends_some}
 use Rattle.reg_http_read.specs.Taking.{Takes}
@@ -47,8 +47,8 @@ returns-in_err-deny-in-Refused-clause-serves g c clean s shows =
     let held = g.W.Write.contents in
     let h = c.requests.invariant.held clean s shows in
     rw (p.1, p.2)
-    (refusal_failed g.S.Store lim s (tables_of c.args.registry.now) (read c.args.r.now.inner) (read c.requests.r.inner) (held c.args.w.now.inner) (held c.requests.w.inner) c.requests.pending.items c.requests.replies (tables_of c.requests.registry) h (read c.take_request.new.r.inner) (held c.take_request.new.w.inner) c.take_request.new.pending.items c.in-Refused.rule c.in-Refused.only
-    (subst (λ l. Takes (g.R.Read.remaining c.requests.r.inner) (g.R.Read.remaining c.take_request.new.r.inner) c.requests.pending.items c.take_request.new.pending.items (g.W.Write.contents c.requests.w.inner) (g.W.Write.contents c.take_request.new.w.inner) l (Ok (taken.Refused c.in-Refused.rule c.in-Refused.only))) c.limits.ensures (rw c.in-Refused.is at c.in_ok-take_request.ensures.takes)) (held c.deny.new.w.inner) c.in_err-deny-in-Refused.field-0.0 c.in_err-deny-in-Refused.ensures.sends)
+    (refusal_failed g.S.Store lim s (tables_of c.args.registry.now) (read c.args.r.now.inner) (read c.requests.r.inner) (held c.args.w.now.inner) (held c.requests.w.inner) c.requests.pending.items c.requests.replies (tables_of c.requests.registry) h (read c.take_request.new.r.inner) (held c.take_request.new.w.inner) c.take_request.new.pending.items c.in-Refused.rule c.in-Refused.head_only
+    (subst (λ l. Takes (g.R.Read.remaining c.requests.r.inner) (g.R.Read.remaining c.take_request.new.r.inner) c.requests.pending.items c.take_request.new.pending.items (g.W.Write.contents c.requests.w.inner) (g.W.Write.contents c.take_request.new.w.inner) l (Ok (taken.Refused c.in-Refused.rule c.in-Refused.head_only))) c.limits.ensures (rw c.in-Refused.is at c.in_ok-take_request.ensures.takes)) (held c.deny.new.w.inner) c.in_err-deny-in-Refused.field-0.0 c.in_err-deny-in-Refused.ensures.sends)
 
 pub returns-in-Refused-clause-serves : goal.returns-in-Refused-clause-serves
 returns-in-Refused-clause-serves g c clean s shows =
@@ -56,8 +56,8 @@ returns-in-Refused-clause-serves g c clean s shows =
     let read = g.R.Read.remaining in
     let held = g.W.Write.contents in
     let h = c.requests.invariant.held clean s shows in
-    refusal_sent g.S.Store lim s (tables_of c.args.registry.now) (read c.args.r.now.inner) (read c.requests.r.inner) (held c.args.w.now.inner) (held c.requests.w.inner) c.requests.pending.items c.requests.replies (tables_of c.requests.registry) h (read c.take_request.new.r.inner) (held c.take_request.new.w.inner) c.take_request.new.pending.items c.in-Refused.rule c.in-Refused.only
-    (subst (λ l. Takes (g.R.Read.remaining c.requests.r.inner) (g.R.Read.remaining c.take_request.new.r.inner) c.requests.pending.items c.take_request.new.pending.items (g.W.Write.contents c.requests.w.inner) (g.W.Write.contents c.take_request.new.w.inner) l (Ok (taken.Refused c.in-Refused.rule c.in-Refused.only))) c.limits.ensures (rw c.in-Refused.is at c.in_ok-take_request.ensures.takes)) (held c.deny.new.w.inner) c.in_ok-deny-in-Refused.ensures.sends
+    refusal_sent g.S.Store lim s (tables_of c.args.registry.now) (read c.args.r.now.inner) (read c.requests.r.inner) (held c.args.w.now.inner) (held c.requests.w.inner) c.requests.pending.items c.requests.replies (tables_of c.requests.registry) h (read c.take_request.new.r.inner) (held c.take_request.new.w.inner) c.take_request.new.pending.items c.in-Refused.rule c.in-Refused.head_only
+    (subst (λ l. Takes (g.R.Read.remaining c.requests.r.inner) (g.R.Read.remaining c.take_request.new.r.inner) c.requests.pending.items c.take_request.new.pending.items (g.W.Write.contents c.requests.w.inner) (g.W.Write.contents c.take_request.new.w.inner) l (Ok (taken.Refused c.in-Refused.rule c.in-Refused.head_only))) c.limits.ensures (rw c.in-Refused.is at c.in_ok-take_request.ensures.takes)) (held c.deny.new.w.inner) c.in_ok-deny-in-Refused.ensures.sends
 
 pub returns-in-Refused-clause-spends : goal.returns-in-Refused-clause-spends
 returns-in-Refused-clause-spends g c =
@@ -71,34 +71,34 @@ returns-in-Refused-clause-spends g c =
           (wrote_some c.take_request.new.r c.take_request.new.w c.deny.new.w c.take_request.new.left c.deny.new.left c.in_ok-deny-in-Refused.ensures.spends),
     )
 
-pub returns-in_err-answer_message-in-Whole-clause-serves : goal.returns-in_err-answer_message-in-Whole-clause-serves
-returns-in_err-answer_message-in-Whole-clause-serves g c clean s shows =
-    let p = err_from_is_err_and c.from_residual-in_err-answer_message-in-Whole.result c.from_residual-in_err-answer_message-in-Whole.ensures.1 in
+pub returns-in_err-answer_message-clause-serves : goal.returns-in_err-answer_message-clause-serves
+returns-in_err-answer_message-clause-serves g c clean s shows =
+    let p = err_from_is_err_and c.from_residual-in_err-answer_message.result c.from_residual-in_err-answer_message.ensures.1 in
     let lim = limits_of c.args.registry.now in
     let read = g.R.Read.remaining in
     let held = g.W.Write.contents in
-    let whole = (subst (λ l. Takes (g.R.Read.remaining c.requests.r.inner) (g.R.Read.remaining c.take_request.new.r.inner) c.requests.pending.items c.take_request.new.pending.items (g.W.Write.contents c.requests.w.inner) (g.W.Write.contents c.take_request.new.w.inner) l (Ok (taken.Whole c.in-Whole.begun))) c.limits.ensures (rw c.in-Whole.is at c.in_ok-take_request.ensures.takes)) in
-    let closing = c.closes-close.ensures ∙ ap (λ l. c.in-Whole.begun.close || c.requests.replies + 1 == l.replies) c.limits.ensures in
+    let whole = (subst (λ l. Takes (g.R.Read.remaining c.requests.r.inner) (g.R.Read.remaining c.take_request.new.r.inner) c.requests.pending.items c.take_request.new.pending.items (g.W.Write.contents c.requests.w.inner) (g.W.Write.contents c.take_request.new.w.inner) l (Ok (taken.Whole c.in-Whole.head))) c.limits.ensures (rw c.in-Whole.is at c.in_ok-take_request.ensures.takes)) in
+    let closing = c.closes-close.ensures ∙ ap (λ l. c.in-Whole.head.close || c.requests.replies + 1 == l.replies) c.limits.ensures in
     let h = c.requests.invariant.held (c.answer_message.ensures.keeps.clean clean) s shows in
-    let told = rw (c.split_at.ensures.front, c.deref.ensures.value, c.requests.invariant.limits) at c.in_err-answer_message-in-Whole.ensures.replied in
+    let told = rw (c.message_of-message.ensures.head, c.message_of-message.ensures.body, c.message_of-message.ensures.close, c.deref.ensures.value, c.requests.invariant.limits) at c.in_err-answer_message.ensures.replied in
     rw (p.1, p.2)
     (whole_failed g.S.Store lim s (tables_of c.args.registry.now) (read c.args.r.now.inner) (read c.requests.r.inner) (held c.args.w.now.inner) (held c.requests.w.inner) c.requests.pending.items c.requests.replies (tables_of c.requests.registry) h (read c.take_request.new.r.inner) (held c.take_request.new.w.inner) c.append_law.ensures.alone c.append_law.ensures.head c.history_law.ensures.goes_on
-    c.take_request.new.pending.items c.in-Whole.begun whole c.closes-close.result closing (tables_of c.answer_message.new.registry) (held c.answer_message.new.w.inner)
-    c.in_err-answer_message-in-Whole.field-0.0 (λ f head only t seen. told f head only clean t seen))
+    c.take_request.new.pending.items c.in-Whole.head whole c.closes-close.result closing (tables_of c.answer_message.new.registry) (held c.answer_message.new.w.inner)
+    c.in_err-answer_message.field-0.0 (λ t seen. told clean t seen))
 
-pub returns-in_err-answer_message-in-Whole-clause-spends : goal.returns-in_err-answer_message-in-Whole-clause-spends
-returns-in_err-answer_message-in-Whole-clause-spends g c =
-    let p = err_from_is_err_and c.from_residual-in_err-answer_message-in-Whole.result c.from_residual-in_err-answer_message-in-Whole.ensures.1 in
+pub returns-in_err-answer_message-clause-spends : goal.returns-in_err-answer_message-clause-spends
+returns-in_err-answer_message-clause-spends g c =
+    let p = err_from_is_err_and c.from_residual-in_err-answer_message.result c.from_residual-in_err-answer_message.ensures.1 in
     let turns = (limits_of c.args.registry.now).turns in
     let first = tally c.args.r.now c.args.w.now in
     let mid = tally c.take_request.new.r c.take_request.new.w in
     let both : SpendsSome turns c.take_request.new.left first mid = spends_some turns c.requests.left c.take_request.new.left first (tally c.requests.r c.requests.w) mid c.requests.invariant.spends c.in_ok-take_request.ensures.spends in
     let last = tally c.take_request.new.r c.answer_message.new.w in
-    let f = c.in_err-answer_message-in-Whole.field-0.0 in
+    let f = c.in_err-answer_message.field-0.0 in
     rw (p.1, p.2) (
       c.answer_message.new.left,
       spends_for turns c.take_request.new.left c.answer_message.new.left first mid last both f
-          (wrote_for c.take_request.new.r c.take_request.new.w c.answer_message.new.w c.take_request.new.left c.answer_message.new.left f c.in_err-answer_message-in-Whole.ensures.spends),
+          (wrote_for c.take_request.new.r c.take_request.new.w c.answer_message.new.w c.take_request.new.left c.answer_message.new.left f c.in_err-answer_message.ensures.spends),
     )
 
 pub returns-then-close-clause-serves : goal.returns-then-close-clause-serves
@@ -106,13 +106,13 @@ returns-then-close-clause-serves g c clean s shows =
     let lim = limits_of c.args.registry.now in
     let read = g.R.Read.remaining in
     let held = g.W.Write.contents in
-    let whole = (subst (λ l. Takes (g.R.Read.remaining c.requests.r.inner) (g.R.Read.remaining c.take_request.new.r.inner) c.requests.pending.items c.take_request.new.pending.items (g.W.Write.contents c.requests.w.inner) (g.W.Write.contents c.take_request.new.w.inner) l (Ok (taken.Whole c.in-Whole.begun))) c.limits.ensures (rw c.in-Whole.is at c.in_ok-take_request.ensures.takes)) in
-    let closing = c.closes-close.ensures ∙ ap (λ l. c.in-Whole.begun.close || c.requests.replies + 1 == l.replies) c.limits.ensures in
+    let whole = (subst (λ l. Takes (g.R.Read.remaining c.requests.r.inner) (g.R.Read.remaining c.take_request.new.r.inner) c.requests.pending.items c.take_request.new.pending.items (g.W.Write.contents c.requests.w.inner) (g.W.Write.contents c.take_request.new.w.inner) l (Ok (taken.Whole c.in-Whole.head))) c.limits.ensures (rw c.in-Whole.is at c.in_ok-take_request.ensures.takes)) in
+    let closing = c.closes-close.ensures ∙ ap (λ l. c.in-Whole.head.close || c.requests.replies + 1 == l.replies) c.limits.ensures in
     let h = c.requests.invariant.held (c.answer_message.ensures.keeps.clean clean) s shows in
-    let told = rw (c.split_at.ensures.front, c.deref.ensures.value, c.requests.invariant.limits) at c.in_ok-answer_message-in-Whole.ensures.replied in
+    let told = rw (c.message_of-message.ensures.head, c.message_of-message.ensures.body, c.message_of-message.ensures.close, c.deref.ensures.value, c.requests.invariant.limits) at c.in_ok-answer_message.ensures.replied in
     whole_last g.S.Store lim s (tables_of c.args.registry.now) (read c.args.r.now.inner) (read c.requests.r.inner) (held c.args.w.now.inner) (held c.requests.w.inner) c.requests.pending.items c.requests.replies (tables_of c.requests.registry) h (read c.take_request.new.r.inner) (held c.take_request.new.w.inner) c.append_law.ensures.alone c.append_law.ensures.head c.history_law.ensures.goes_on
-    c.take_request.new.pending.items c.in-Whole.begun whole c.closes-close.result closing (tables_of c.answer_message.new.registry) (held c.answer_message.new.w.inner)
-    tt (λ f head only t seen. told f head only clean t seen) c.if-close.true
+    c.take_request.new.pending.items c.in-Whole.head whole c.closes-close.result closing (tables_of c.answer_message.new.registry) (held c.answer_message.new.w.inner)
+    tt (λ t seen. told clean t seen) c.if-close.true
 
 pub returns-then-close-clause-spends : goal.returns-then-close-clause-spends
 returns-then-close-clause-spends g c =
@@ -123,7 +123,7 @@ returns-then-close-clause-spends g c =
     let last = tally c.take_request.new.r c.answer_message.new.w in (
       c.answer_message.new.left,
       spends_some turns c.take_request.new.left c.answer_message.new.left first mid last both
-          (wrote_some c.take_request.new.r c.take_request.new.w c.answer_message.new.w c.take_request.new.left c.answer_message.new.left c.in_ok-answer_message-in-Whole.ensures.spends),
+          (wrote_some c.take_request.new.r c.take_request.new.w c.answer_message.new.w c.take_request.new.left c.answer_message.new.left c.in_ok-answer_message.ensures.spends),
     )
 
 pub requests-preserved : goal.requests-preserved
@@ -135,13 +135,13 @@ requests-preserved g c =
     let lim = limits_of c.args.registry.now in
     let read = g.R.Read.remaining in
     let held = g.W.Write.contents in
-    let whole = (subst (λ l. Takes (g.R.Read.remaining c.requests.r.inner) (g.R.Read.remaining c.take_request.new.r.inner) c.requests.pending.items c.take_request.new.pending.items (g.W.Write.contents c.requests.w.inner) (g.W.Write.contents c.take_request.new.w.inner) l (Ok (taken.Whole c.in-Whole.begun))) c.limits.ensures (rw c.in-Whole.is at c.in_ok-take_request.ensures.takes)) in
-    let closing = c.closes-close.ensures ∙ ap (λ l. c.in-Whole.begun.close || c.requests.replies + 1 == l.replies) c.limits.ensures in
+    let whole = (subst (λ l. Takes (g.R.Read.remaining c.requests.r.inner) (g.R.Read.remaining c.take_request.new.r.inner) c.requests.pending.items c.take_request.new.pending.items (g.W.Write.contents c.requests.w.inner) (g.W.Write.contents c.take_request.new.w.inner) l (Ok (taken.Whole c.in-Whole.head))) c.limits.ensures (rw c.in-Whole.is at c.in_ok-take_request.ensures.takes)) in
+    let closing = c.closes-close.ensures ∙ ap (λ l. c.in-Whole.head.close || c.requests.replies + 1 == l.replies) c.limits.ensures in
     let last = tally c.take_request.new.r c.answer_message.new.w in
     let inv = c.requests.invariant in
     let keeps = c.answer_message.ensures.keeps in
-    let told = rw (c.split_at.ensures.front, c.deref.ensures.value, c.requests.invariant.limits) at c.in_ok-answer_message-in-Whole.ensures.replied in
-    let fewer = c.in_ok-answer_message-in-Whole.ensures.fewer in
+    let told = rw (c.message_of-message.ensures.head, c.message_of-message.ensures.body, c.message_of-message.ensures.close, c.deref.ensures.value, c.requests.invariant.limits) at c.in_ok-answer_message.ensures.replied in
+    let fewer = c.in_ok-answer_message.ensures.fewer in
     record {
       tables = keeps.tables;
       limits = keeps.limits ∙ inv.limits;
@@ -150,10 +150,15 @@ requests-preserved g c =
           (let h = inv.held (keeps.clean clean) s shows in
           rw c.drop_front.ensures
           (whole_sent g.S.Store lim s (tables_of c.args.registry.now) (read c.args.r.now.inner) (read c.requests.r.inner) (held c.args.w.now.inner) (held c.requests.w.inner) c.requests.pending.items c.requests.replies (tables_of c.requests.registry) h (read c.take_request.new.r.inner) (held c.take_request.new.w.inner) c.append_law.ensures.alone c.append_law.ensures.head c.history_law.ensures.goes_on
-          c.take_request.new.pending.items c.in-Whole.begun whole c.closes-close.result closing (tables_of c.answer_message.new.registry) (held c.answer_message.new.w.inner)
-          tt (λ f head only t seen. told f head only clean t seen) c.if-close.false));
+          c.take_request.new.pending.items c.in-Whole.head whole c.closes-close.result closing (tables_of c.answer_message.new.registry) (held c.answer_message.new.w.inner)
+          tt (λ t seen. told clean t seen) c.if-close.false));
       spends = spends_some turns c.take_request.new.left c.answer_message.new.left first mid last both
-          (wrote_some c.take_request.new.r c.take_request.new.w c.answer_message.new.w c.take_request.new.left c.answer_message.new.left c.in_ok-answer_message-in-Whole.ensures.spends);
+          (wrote_some c.take_request.new.r c.take_request.new.w c.answer_message.new.w c.take_request.new.left c.answer_message.new.left c.in_ok-answer_message.ensures.spends);
       chunk = rw c.in_ok-take_request.ensures.chunk inv.chunk;
       replies = omega (arith, inv.replies, fewer, c.in_ok-take_request.ensures.spends.turns, c.in_ok-take_request.ensures.spends.reads, c.in_ok-take_request.ensures.spends.writes);
     }
+
+pub message_of-message-requires : goal.message_of-message-requires
+message_of-message-requires g c =
+    let takes = rw c.in-Whole.is at c.in_ok-take_request.ensures.takes in
+    omega (arith, takes.2.2, ap (λ l. length l) takes.2.0, ap (λ l. length l) c.deref.ensures.value)

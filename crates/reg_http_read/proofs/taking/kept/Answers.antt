@@ -1,0 +1,11 @@
+use Rattle.std.proofs.Common.{subst, sym}
+use Rattle.reg_http_read.specs.Heads.{IsHeadAt}
+use Rattle.reg_http_read.specs.Reads.{facts_of}
+use Rattle.reg_http_read.proofs.Requests.{no_room_kept}
+use Rattle.reg_http_read.proofs.taking.kept.Goals as goal
+
+pub returns-in-Ok : goal.returns-in-Ok
+returns-in-Ok c limits bytes at = subst (IsHeadAt limits bytes) (sym c.in-Ok.ensures) at
+
+pub returns-in-Err : goal.returns-in-Err
+returns-in-Err c limits bytes at = no_room_kept limits bytes (facts_of c.args.head.now) at _ c.is_unkept_head_only.ensures
