@@ -11,7 +11,7 @@
 mod answering;
 mod stream;
 
-pub use reg_api_replies::write_reply;
+pub use reg_api_replies::{SendFault, write_reply};
 pub use reg_http_read::{Head, HeadRead, StreamFault, read_head};
 pub use reg_http_routes::{RouteFault, Routes};
 pub use stream::serve_stream;

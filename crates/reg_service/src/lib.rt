@@ -21,7 +21,7 @@ mod streaming;
 mod transactions;
 
 pub use opening::OpenFault;
-pub use reg_api_replies::{Kind, Methods, Reply, reply_head};
+pub use reg_api_replies::{FixedText, Kind, Methods, Reply, reply_head};
 pub use reg_api_requests::{ApiCall, ApiRequest};
 pub use reg_audit::Check;
 pub use reg_service_index::IndexFault;
