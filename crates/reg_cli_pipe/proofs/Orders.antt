@@ -61,7 +61,7 @@ module _ {S : Type 0} (g : Ghosts S) (limits : Limits) (s : model.Registry) (ent
   pub begun : RunsBegin g → Shows s (shown g entry) → HasDoneAlone g limits s entry lines entry 0
   begun begins shows = record {
     done = record { after = s; commands = []; told = []; ordered = refl; none_refused = refl; count_is = refl; ran = begins limits s entry shows };
-    alone = λ lt. omega (arith, lt);
+    alone = λ lt. absurd (omega (arith, lt));
   }
 
   module _ (goes_on : RunsGoOn g) (count : ℕ) (old new : Tables S) (h : HasDoneAlone g limits s entry lines old count) (clean : HasCleanDisk (shown g new))
