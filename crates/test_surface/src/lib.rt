@@ -9,6 +9,7 @@
 mod access;
 mod audit;
 mod body;
+mod cli;
 mod http;
 mod line;
 mod manifest;
