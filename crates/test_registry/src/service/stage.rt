@@ -25,7 +25,7 @@ fn is_alike(
     request: &ApiRequest<'_>,
     reply: &Reply,
 ) -> Result<bool, AllocError> {
-    let read = read_request(alloc, request, limits)?;
+    let read = read_request(alloc, &*request, limits)?;
     let logins = read.logins(alloc)?;
     let answer = plain.step(&Event::Ask(read.digest(), read.asked(&logins)));
     replies_alike(alloc, reply, &answer)
