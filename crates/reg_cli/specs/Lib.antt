@@ -1,3 +1,9 @@
 pub mod Exits
+pub mod Folders
 pub mod Limited
+pub mod Meanings
+pub mod Printing
+pub mod Services
+pub mod Setups
 pub mod Tasks
+pub mod Tokens

@@ -1,66 +1,75 @@
 //! The administrator's commands on a file.
 
-ghost use Rattle.std.specs.Prelude.{IfOk, IfSome};
+ghost use Rattle.std.specs.Prelude.{◌≡◌, ◌+◌, ◌^◌, ◌<◌, None, IfOk, IfSome};
+ghost use Rattle.std.specs.Option.{option_map};
+ghost use Rattle.reg_api_replies.specs.Sent.{sink};
+ghost use Rattle.reg_cli_words.specs.Orders.{given_by, token_command, words_of};
 ghost use Rattle.reg_model.specs.Events.Event.{Order as ToOrder};
 ghost use Rattle.reg_model.specs.Steps.{IsFit};
 ghost use Rattle.reg_policy.specs.Events.{command_of};
 ghost use Rattle.reg_service.specs.Answered.{AreUpToDate};
-ghost use Rattle.reg_service.specs.Registries.{tables_of};
-ghost use Rattle.reg_cli.specs.Tasks.{IsFitTask};
+ghost use Rattle.reg_service.specs.Registries.{limits_of, tables_of};
+ghost use Rattle.reg_cli.specs.Printing.{IsObeyed};
+ghost use Rattle.reg_cli.specs.Tasks.{IsFitTask, IsTaskDone, task_from, task_of};
 
 use crate::exporting::export_to;
-use crate::printing::{NO_WRITING, print};
-use crate::tokens::{TokenText, make_token};
+use crate::printing::{CALLS, print_reply};
+use crate::tokens::{TokenMade, TokenText, make_token};
 use crate::using::{Use, on_file};
 use clap::ArgMatches;
-use reg_body::Limits;
+use reg_body::{Counted, Limits};
 use reg_cli_line::Exit;
 use reg_cli_pipe::exit_of_refusal;
 use reg_cli_words::{NewToken, Order, read_order, read_report};
-use reg_policy::{AdminCommand, AdminReply};
+use reg_policy::AdminCommand;
 use reg_service::Registry;
 use sqlite::Alter;
-use std::alloc::AllocError;
+use std::alloc::{AllocError, Global};
+use std::io::Write;
 
-/// Does a command, and prints what it is answered.
-fn obey<S: Alter>(rt: &HostRuntime, registry: &mut Registry<S>, command: &AdminCommand<'_>) -> Exit
+/// Does a command, and prints what its reply tells. The text of a new token was made here.
+fn obey<S: Alter, W: Write>(
+    alloc: Global,
+    registry: &mut Registry<S>,
+    w: &mut Counted<W>,
+    command: &AdminCommand<'_>,
+    text: Option<&TokenText>,
+) -> Exit
     requires tables { AreUpToDate S.Store (tables_of registry.old) }
     requires fit { IsFit (ToOrder (command_of command.now)) }
+    requires room { w.old.calls + CALLS < 2 ^ 64 }
+    ensures { IsObeyed S.Store (limits_of registry.old) (command_of command.now)
+        (option_map (λ t. t.now) text.entry) (tables_of registry.old) (tables_of registry.new)
+        (sink (W.contents w.old.inner) w.old) (sink (W.contents w.new.inner) w.new) result }
 {
-    match registry.command(rt.alloc(), command) {
-        Ok(AdminReply::Done) => Exit::DONE,
-        Ok(AdminReply::Id(id)) => print_token(rt, id, None),
-        Ok(AdminReply::Text(text)) => print(rt, &text),
+    match registry.command(alloc, command) {
+        Ok(reply) => print_reply(w, &reply, text),
         Err(refusal) => exit_of_refusal(refusal),
     }
 }
 
-/// Prints the number of a token, and its text where it was made here. The token is kept by then, so
-/// this takes no memory.
-fn print_token(rt: &HostRuntime, id: u32, text: Option<&TokenText>) -> Exit {
-    let printed = match text.and_then(|text| std::str::from_utf8(text.as_slice()).ok()) {
-        Some(text) => println!(rt; "{id} {text}"),
-        None => println!(rt; "{id}"),
-    };
-    match printed {
-        Ok(()) => Exit::DONE,
-        Err(_) => NO_WRITING,
-    }
-}
-
-/// Adds a token. Its text is made once the store is open, and printed once it is kept.
-fn add_token<S: Alter>(rt: &HostRuntime, registry: &mut Registry<S>, token: &NewToken<'_>) -> Exit
-    requires { AreUpToDate S.Store (tables_of registry.old) }
+/// Adds a token, and prints its text only once it is kept.
+fn add_token<S: Alter, W: Write>(
+    alloc: Global,
+    registry: &mut Registry<S>,
+    w: &mut Counted<W>,
+    token: &NewToken<'_>,
+    made: &TokenMade,
+) -> Exit
+    requires tables { AreUpToDate S.Store (tables_of registry.old) }
+    requires room { w.old.calls + CALLS < 2 ^ 64 }
+    ensures { IsObeyed S.Store (limits_of registry.old)
+        (token_command (words_of token.now) made.now.digest) made.now.text
+        (tables_of registry.old) (tables_of registry.new)
+        (sink (W.contents w.old.inner) w.old) (sink (W.contents w.new.inner) w.new) result }
 {
-    let made = match make_token(rt, &token.source) {
-        Ok(made) => made,
-        Err(exit) => return exit,
-    };
-    match registry.command(rt.alloc(), &token.command(&made.digest)) {
-        Ok(AdminReply::Id(id)) => print_token(rt, id, made.text.as_ref()),
-        Ok(_) => Exit::DONE,
-        Err(refusal) => exit_of_refusal(refusal),
-    }
+    obey(
+        alloc,
+        registry,
+        w,
+        &token.command(&made.digest),
+        made.text.as_ref(),
+    )
 }
 
 /// What the administrator wants of a registry.
@@ -74,11 +83,13 @@ pub(crate) enum Task<'a> {
 
 /// The task that the words ask for.
 fn read_task<'a>(
-    rt: &HostRuntime,
+    alloc: Global,
     name: &str,
     words: &ArgMatches<'a>,
 ) -> Result<Option<Task<'a>>, AllocError>
-    ensures { IfOk result (λ t. IfSome t IsFitTask) }
+    ensures wanted { IfOk result (λ t. option_map task_of t
+        ≡ task_from name.now (given_by words.now)) }
+    ensures fit { IfOk result (λ t. IfSome t IsFitTask) }
 {
     if name == "export" {
         return Ok(match (words.get_str("DIR"), words.get_str("db")) {
@@ -89,31 +100,40 @@ fn read_task<'a>(
     if let Some(report) = read_report(name, words) {
         return Ok(Some(Task::Command(report)));
     }
-    Ok(match read_order(rt.alloc(), name, words)? {
+    Ok(match read_order(alloc, name, words)? {
         Some(Order::AddToken(token)) => Some(Task::AddToken(token)),
         Some(Order::Other(command)) => Some(Task::Command(command)),
         None => None,
     })
 }
 
-pub(crate) fn do_task<S: Alter>(
+/// Does a task, and prints what it tells.
+pub(crate) fn do_task<S: Alter, W: Write>(
     rt: &HostRuntime,
     registry: &mut Registry<S>,
+    w: &mut Counted<W>,
     task: &Task<'_>,
 ) -> Exit
     requires tables { AreUpToDate S.Store (tables_of registry.old) }
     requires fit { IsFitTask task.now }
+    requires room { w.old.calls + CALLS < 2 ^ 64 }
+    ensures { IsTaskDone S.Store (limits_of registry.old) task.now
+        (tables_of registry.old) (tables_of registry.new)
+        (sink (W.contents w.old.inner) w.old) (sink (W.contents w.new.inner) w.new) result }
 {
     match task {
         Task::Export(folder, file) => export_to(rt, registry, folder, file),
-        Task::Command(command) => obey(rt, registry, command),
-        Task::AddToken(token) => add_token(rt, registry, token),
+        Task::Command(command) => obey(rt.alloc(), registry, w, command, None),
+        Task::AddToken(token) => match make_token(rt, &token.source) {
+            Ok(made) => add_token(rt.alloc(), registry, w, token, &made),
+            Err(exit) => exit,
+        },
     }
 }
 
 /// Does what the words of a subcommand ask for, on the file that they name.
 pub(crate) fn administer(rt: &HostRuntime, name: &str, words: &ArgMatches<'_>) -> Exit {
-    let task = match read_task(rt, name, words) {
+    let task = match read_task(rt.alloc(), name, words) {
         Ok(Some(task)) => task,
         Ok(None) => return Exit::BAD_WORDS,
         Err(_) => return Exit::MEMORY,

@@ -2,33 +2,14 @@
 
 ghost use Rattle.reg_service.specs.Answered.{AreUpToDate};
 ghost use Rattle.reg_service.specs.Registries.{tables_of};
+ghost use Rattle.reg_cli.specs.Folders.{EndsWriting};
 
 use crate::files::is_registry;
+use crate::folder::{Folder, FolderAt, join_path};
 use reg_cli_line::Exit;
 use reg_service::Registry;
 use sqlite::Alter;
 use std::alloc::AllocError;
-use std::{fs, io};
-
-/// The folder of a file's path; empty where it has none.
-fn folder_of(path: &str) -> &str {
-    match path.rfind('/') {
-        Some(at) => path.get(..at).unwrap_or(""),
-        None => "",
-    }
-}
-
-fn join_path(rt: &HostRuntime, folder: &str, path: &str) -> Result<String, AllocError> {
-    format!(in rt.alloc(); "{folder}/{path}")
-}
-
-/// Writes a file below the folder, and makes the folders that are missing.
-fn write_file(rt: &HostRuntime, folder: &str, path: &str, bytes: &[u8]) -> io::Result<()> {
-    let parent = join_path(rt, folder, folder_of(path))?;
-    fs::create_dir_all(rt, parent.as_str())?;
-    let whole = join_path(rt, folder, path)?;
-    fs::write(rt, whole.as_str(), bytes)
-}
 
 /// Whether one of the files is the registry's own, or its log.
 fn have_registry(
@@ -38,7 +19,7 @@ fn have_registry(
     registry: &str,
 ) -> Result<bool, AllocError> {
     for (path, _) in files {
-        let whole = join_path(rt, folder, path)?;
+        let whole = join_path(rt.alloc(), folder, path)?;
         if is_registry(rt, &whole, registry)? {
             return Ok(true);
         }
@@ -46,9 +27,13 @@ fn have_registry(
     Ok(false)
 }
 
-fn write_files(rt: &HostRuntime, folder: &str, files: &[(String, Vec<u8>)]) -> Exit {
-    for (path, bytes) in files {
-        if write_file(rt, folder, path, bytes).is_err() {
+/// Writes the files, one after another.
+fn write_files<F: Folder>(folder: &mut F, files: &[(String, Vec<u8>)]) -> Exit
+    ensures { EndsWriting (F.files folder.old) (F.files folder.new) files.now result }
+{
+    for file in files {
+        let (path, bytes) = file;
+        if folder.write_file(path, bytes).is_err() {
             return Exit::STORAGE;
         }
     }
@@ -73,7 +58,7 @@ pub(crate) fn export_to<S: Alter>(
         return Exit::STORAGE;
     };
     match have_registry(rt, folder, &files, file) {
-        Ok(false) => write_files(rt, folder, &files),
+        Ok(false) => write_files(&mut FolderAt::new(rt, folder), &files),
         Ok(true) => Exit::STORAGE,
         Err(_) => Exit::MEMORY,
     }

@@ -8,9 +8,14 @@
 #![tactic(auto)]
 
 mod administering;
+mod door;
+mod explaining;
 mod exporting;
 mod files;
+mod folder;
+mod meanings;
 mod printing;
+mod service;
 mod serving;
 mod store;
 mod tokens;

@@ -1,41 +1,50 @@
 //! Streams: one on standard input and output, or connections one after another.
 
-ghost use Rattle.std.specs.Prelude.{◌≡◌};
+ghost use Rattle.std.specs.Prelude.{◌≡◌, ◌⊎◌, ◌+◌, ◌^◌, ◌<◌, ◌≤◌, true, IfErr, IfOk, OnErr, OnOk};
 ghost use Rattle.reg_service.specs.Answered.{AreUpToDate};
-ghost use Rattle.reg_service.specs.Registries.{limits_of, tables_of};
+ghost use Rattle.reg_service.specs.Registries.{has_stopped, limits_of, tables_of};
 ghost use Rattle.reg_cli.specs.Limited.{HasTurns};
+ghost use Rattle.reg_cli.specs.Setups.{IsSetup};
 
-use crate::printing::print;
-use crate::store::create;
+use crate::door::{Door, NO_LISTENING};
+use crate::service::{Service, read_service};
+use crate::store::{connect, create, open};
 use crate::using::{Use, make_file, on_file};
 use clap::ArgMatches;
 use reg_body::{Counted, Limits};
 use reg_cli_line::Exit;
 use reg_cli_pipe::run_pipe;
-use reg_cli_words::{decimal, port};
 use reg_http::serve_stream;
 use reg_service::Registry;
 use sqlite::{Alter, Connection};
+use std::alloc::Global;
 use std::fs;
-use std::net::TcpListener;
+use std::net::TcpStream;
 
 /// The base where none is told.
 const BASE: &str = "http://127.0.0.1:8080";
 
-/// The text of the setup file; empty where there is none.
-fn setup_text(rt: &HostRuntime, setup: Option<&str>) -> Result<String, Exit> {
-    let Some(file) = setup else {
-        return Ok(String::new(rt.alloc()));
-    };
-    let Ok(bytes) = fs::read(rt, file) else {
-        return Err(Exit::STORAGE);
-    };
+/// The setup that the bytes of a file are.
+fn setup_of(bytes: Vec<u8>) -> Result<String, Exit>
+    ensures { IsSetup bytes.items result }
+{
     match String::from_utf8(bytes) {
         Ok(text) => Ok(text),
         Err(_) => Err(Exit {
             status: 2,
             words: "bad setup line",
         }),
+    }
+}
+
+/// The text of the setup file; empty where there is none.
+fn read_setup(rt: &HostRuntime, setup: Option<&str>) -> Result<String, Exit> {
+    let Some(file) = setup else {
+        return Ok(String::new(rt.alloc()));
+    };
+    match fs::read(rt, file) {
+        Ok(bytes) => setup_of(bytes),
+        Err(_) => Err(Exit::STORAGE),
     }
 }
 
@@ -48,7 +57,7 @@ pub(crate) fn pipe_on<S: Alter>(
     requires tables { AreUpToDate S.Store (tables_of registry.old) }
     requires turns { HasTurns (limits_of registry.old) }
 {
-    let setup = match setup_text(rt, setup) {
+    let setup = match read_setup(rt, setup) {
         Ok(setup) => setup,
         Err(exit) => return exit,
     };
@@ -94,81 +103,78 @@ pub(crate) fn init(rt: &HostRuntime, words: &ArgMatches<'_>) -> Exit {
     }
 }
 
-/// What `serve` is told.
-#[derive(Drop)]
-pub(crate) struct Service {
-    port: u16,
-    connections: u64,
-    replies: u64,
-}
-
-/// The numbers among the words of `serve`.
-fn read_service(words: &ArgMatches<'_>) -> Option<Service> {
-    let replies = decimal(words.get_str("replies").unwrap_or("1"))?;
-    if replies == 0 {
-        return None;
-    }
-    Some(Service {
-        port: port(decimal(words.get_str("port")?)?)?,
-        connections: decimal(words.get_str("connections")?)?,
-        replies,
-    })
-}
-
-const NO_LISTENING: Exit = Exit {
-    status: 3,
-    words: "listen fault",
-};
-
-/// Serves connections, one after another. A stream that fails ends its connection alone.
-fn serve_all<S: Alter>(
-    rt: &HostRuntime,
-    registry: &mut Registry<S>,
-    listener: &TcpListener,
-    connections: u64,
-) -> Exit
+/// Serves one connection. A stream that fails ends its connection alone.
+fn serve_connection<S: Alter>(alloc: Global, registry: &mut Registry<S>, stream: &TcpStream)
     requires tables { AreUpToDate S.Store (tables_of registry.old) }
     requires turns { HasTurns (limits_of registry.old) }
+    ensures tables { AreUpToDate S.Store (tables_of registry.new) }
+    ensures limits { limits_of registry.new ≡ limits_of registry.old }
 {
-    for _ in 0..connections {
-        let Ok((stream, _)) = listener.accept() else {
-            return NO_LISTENING;
-        };
-        let mut reader = Counted::new(&stream);
-        let mut writer = Counted::new(&stream);
-        let _ = serve_stream(rt.alloc(), registry, &mut reader, &mut writer);
-    }
-    Exit::DONE
+    let mut reader = Counted::new(stream);
+    let mut writer = Counted::new(stream);
+    let _ = serve_stream(alloc, registry, &mut reader, &mut writer);
 }
 
-/// Listens on the loopback address, and says so.
-fn listen(rt: &HostRuntime, port: u16) -> Result<TcpListener, Exit> {
-    let Ok(listener) = TcpListener::bind(rt, ("127.0.0.1", port)) else {
-        return Err(NO_LISTENING);
-    };
-    let Ok(line) = format!(in rt.alloc(); "listening 127.0.0.1:{port}\n") else {
-        return Err(Exit::MEMORY);
-    };
-    let exit = print(rt, &line);
-    if exit == Exit::DONE {
-        Ok(listener)
-    } else {
-        Err(exit)
-    }
-}
-
-/// Listens, and serves as many connections as are told.
-pub(crate) fn serve_on<S: Alter>(
-    rt: &HostRuntime,
+/// Serves connections, one after another, until so many are served or a commit is refused: then the
+/// registry answers nothing more, and its store has to be opened again.
+fn serve_connections<S: Alter>(
+    alloc: Global,
     registry: &mut Registry<S>,
-    service: &Service,
-) -> Exit
+    door: &mut Door,
+    left: &mut u64,
+) -> Result<(), Exit>
     requires tables { AreUpToDate S.Store (tables_of registry.old) }
     requires turns { HasTurns (limits_of registry.old) }
+    requires room { door.old.accepted + left.old < 2 ^ 64 }
+    ensures counts { door.new.accepted + left.new ≡ door.old.accepted + left.old }
+    ensures ok { OnOk result ((left.new ≡ 0)
+        ⊎ ((has_stopped registry.new ≡ true) × (left.new < left.old))) }
+    ensures err { IfErr result (λ exit. exit ≡ NO_LISTENING) }
 {
-    match listen(rt, service.port) {
-        Ok(listener) => serve_all(rt, registry, &listener, service.connections),
-        Err(exit) => exit,
+    'connections: while *left > 0 {
+        let stream = door.accept()?;
+        *left -= 1;
+        serve_connection(alloc, registry, &stream);
+        if registry.has_stopped() {
+            return Ok(());
+        }
+    }
+    Ok(())
+}
+
+/// Opens the file, listens if that was not done before, serves connections, and closes the file.
+fn serve_opening(
+    rt: &HostRuntime,
+    file: &str,
+    limits: Limits,
+    door: &mut Door,
+    left: &mut u64,
+) -> Result<(), Exit>
+    requires turns { HasTurns limits }
+    requires room { door.old.accepted + left.old < 2 ^ 64 }
+    ensures counts { OnOk result (door.new.accepted + left.new ≡ door.old.accepted + left.old) }
+    ensures fewer { OnOk result (0 < left.new → left.new < left.old) }
+{
+    let mut registry = open(rt.alloc(), connect(rt, file)?, limits)?;
+    let opened = door.open(rt);
+    let served = match opened {
+        Ok(()) => serve_connections(rt.alloc(), &mut registry, door, left),
+        Err(exit) => Err(exit),
+    };
+    let _ = registry.into_connection().close();
+    served
+}
+
+/// Serves as many connections as are told. After a refused commit the file is opened again before
+/// the next connection; where that is refused the run ends.
+fn serve_file(rt: &HostRuntime, file: &str, service: &Service) -> Result<(), Exit> {
+    let mut door = Door::at(service.port);
+    let mut left = service.connections;
+    'openings: loop {
+        serve_opening(rt, file, service.limits(), &mut door, &mut left)?;
+        if left == 0 {
+            return Ok(());
+        }
     }
 }
 
@@ -177,11 +183,10 @@ pub(crate) fn serve(rt: &HostRuntime, words: &ArgMatches<'_>) -> Exit {
     let (Some(service), Some(file)) = (read_service(words), words.get_str("db")) else {
         return Exit::BAD_WORDS;
     };
-    let limits = Limits {
-        replies: service.replies,
-        ..Limits::STANDARD
-    };
-    on_file(rt, file, limits, &Use::Serve(&service))
+    match serve_file(rt, file, &service) {
+        Ok(()) => Exit::DONE,
+        Err(exit) => exit,
+    }
 }
 
 /// `audit`.

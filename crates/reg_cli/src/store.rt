@@ -13,7 +13,7 @@ use reg_service::{Check, OpenFault, Registry};
 use sqlite::{Alter, Connection, File, FileStore};
 use std::alloc::Global;
 
-fn damage_words(check: Check) -> &'static str
+pub(crate) fn damage_words(check: Check) -> &'static str
     ensures { result.now ≡ words_of_damage check }
 {
     match check {

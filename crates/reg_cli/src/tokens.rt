@@ -1,5 +1,10 @@
 //! The texts of new tokens.
 
+ghost use Rattle.std.specs.Prelude.{◌≡◌};
+ghost use Rattle.hex.specs.Hex.{encode_lower};
+ghost use Rattle.reg_cli_words.specs.Orders.{source_of};
+ghost use Rattle.reg_cli.specs.Tokens.{IsTokenOf, Makes};
+
 use hex::encode_to_slice;
 use reg_cli_line::Exit;
 use reg_cli_words::TokenSource;
@@ -20,31 +25,45 @@ pub(crate) struct TokenMade {
     pub(crate) text: Option<TokenText>,
 }
 
-/// The text that the first bytes of a file make.
-fn random_text(rt: &HostRuntime, file: &str) -> Option<TokenText> {
+/// The first bytes of a file.
+fn random_bytes(rt: &HostRuntime, file: &str) -> Option<[u8; RANDOM]> {
     let mut bytes = [0; RANDOM];
     let mut from = fs::open(rt, file).ok()?;
     from.read_exact(&mut bytes).ok()?;
+    Some(bytes)
+}
+
+/// The text that random bytes make: the digits of all of them.
+fn text_of(bytes: [u8; RANDOM]) -> TokenText
+    ensures { result ≡ encode_lower bytes }
+{
     let mut text = [0; 64];
-    encode_to_slice(bytes.as_slice(), &mut text).ok()?;
-    Some(text)
+    let _fits = encode_to_slice(bytes.as_slice(), &mut text);
+    text
+}
+
+/// The token of a text that is made here.
+fn token_of(text: TokenText) -> TokenMade
+    ensures { IsTokenOf text result }
+{
+    TokenMade {
+        digest: digest_of(&text),
+        text: Some(text),
+    }
 }
 
 /// The digest of a new token, which random bytes make where it is not told.
-pub(crate) fn make_token(rt: &HostRuntime, source: &TokenSource<'_>) -> Result<TokenMade, Exit> {
+pub(crate) fn make_token(rt: &HostRuntime, source: &TokenSource<'_>) -> Result<TokenMade, Exit>
+    ensures { Makes (source_of source.now) result }
+{
     match source {
         TokenSource::Told(digest) => Ok(TokenMade {
             digest: *digest,
             text: None,
         }),
-        TokenSource::Random(file) => {
-            let Some(text) = random_text(rt, file) else {
-                return Err(Exit::STORAGE);
-            };
-            Ok(TokenMade {
-                digest: digest_of(&text),
-                text: Some(text),
-            })
-        }
+        TokenSource::Random(file) => match random_bytes(rt, file) {
+            Some(bytes) => Ok(token_of(text_of(bytes))),
+            None => Err(Exit::STORAGE),
+        },
     }
 }

@@ -9,12 +9,13 @@ ghost use Rattle.reg_cli.specs.Tasks.{IsFitUse};
 
 use crate::administering::{Task, do_task};
 use crate::printing::print;
-use crate::serving::{Service, pipe_on, serve_on};
+use crate::serving::pipe_on;
 use crate::store::{connect, create, open};
-use reg_body::Limits;
+use reg_body::{Counted, Limits};
 use reg_cli_line::Exit;
 use reg_service::Registry;
 use sqlite::{Alter, Connection};
+use std::io;
 
 /// What is done with an open registry.
 #[derive(Clone, Copy)]
@@ -24,7 +25,6 @@ pub(crate) enum Use<'a> {
     Task(&'a Task<'a>),
     /// A stream on standard input and output, behind the setup that a file has.
     Pipe(Option<&'a str>),
-    Serve(&'a Service),
 }
 
 fn use_it<S: Alter>(rt: &HostRuntime, registry: &mut Registry<S>, wanted: &Use<'_>) -> Exit
@@ -34,9 +34,8 @@ fn use_it<S: Alter>(rt: &HostRuntime, registry: &mut Registry<S>, wanted: &Use<'
 {
     match wanted {
         Use::Check => Exit::DONE,
-        Use::Task(task) => do_task(rt, registry, task),
+        Use::Task(task) => do_task(rt, registry, &mut Counted::new(io::writer(rt)), task),
         Use::Pipe(setup) => pipe_on(rt, registry, *setup),
-        Use::Serve(service) => serve_on(rt, registry, service),
     }
 }
 

@@ -1,6 +1,7 @@
 //! The words of the command line.
 
 use crate::administering::administer;
+use crate::explaining::explain;
 use crate::printing::NO_WRITING;
 use crate::serving::{check, init, pipe, serve};
 use clap::Error;
@@ -52,6 +53,7 @@ pub fn run_words(rt: &HostRuntime, words: &[String]) -> Exit {
     };
     match matches.subcommand() {
         Some(("line", _)) => line(rt),
+        Some(("explain", inner)) => explain(rt, inner),
         Some(("init", inner)) => init(rt, inner),
         Some(("pipe", inner)) => pipe(rt, inner),
         Some(("serve", inner)) => serve(rt, inner),

@@ -121,15 +121,20 @@ number_rules =
     needed_rule (codes "port") ∷ needed_rule (codes "connections")
     ∷ option_rule (codes "replies") ∷ []
 
-abbrev pub other_levels : List Level
-other_levels =
+abbrev pub service_levels : List Level
+service_levels =
     named_level (codes "init") (needed_rule (codes "base") ∷ file_rule ∷ [])
     ∷ named_level (codes "serve") (number_rules ++ file_rule ∷ [])
     ∷ named_level (codes "pipe")
     (place_rules ++ option_rule (codes "base") ∷ option_rule (codes "setup") ∷ [])
-    ∷ named_level (codes "export") (word_rule (codes "DIR") ∷ file_rule ∷ [])
+    ∷ []
+
+abbrev pub other_levels : List Level
+other_levels =
+    named_level (codes "export") (word_rule (codes "DIR") ∷ file_rule ∷ [])
     ∷ named_level (codes "audit") (file_rule ∷ [])
     ∷ named_level (codes "line") []
+    ∷ named_level (codes "explain") (word_rule (codes "CODE") ∷ [])
     ∷ []
 
 -- the reports
@@ -141,18 +146,20 @@ report_words =
     ∷ (codes "access", Crate)
     ∷ []
 
--- the program's words, its own name first
+-- the program's words, its own name first; `--version` stands beside `--help`
 abbrev pub program_top : App
 program_top = record {
   top = record (new_shape (codes "registry_cli")) {
     subcommand_required = true;
     arg_required_else_help = true;
+    has_version = true;
   };
   subs = [];
 }
 
 unfoldable pub program_app : App
-program_app = with_levels (with_levels (with_levels program_top other_levels)
+program_app =
+    with_levels (with_levels (with_levels (with_levels program_top service_levels) other_levels)
     (order_levels Program)) (plain_levels Program report_words)
 
 -- the words are judged by these rules, and a subcommand and its values are read by them

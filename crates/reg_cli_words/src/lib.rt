@@ -20,6 +20,7 @@ mod parameters;
 mod reports;
 mod subcommands;
 mod usage;
+mod version;
 
 pub use dashes::is_dashed;
 pub use numbers::{decimal, port};

@@ -3,12 +3,13 @@
 ghost use Rattle.std.specs.Prelude.{IfErr, IfOk, [], ◌≡◌, ◌∷◌, ◌++◌, codes, map, string_bytes, true};
 ghost use Rattle.clap.specs.Words.{kind_of, subcommand_of, subcommand_rows_of, takes};
 ghost use Rattle.clap.specs.declared.error.kind.ErrorKind.TheVariants.{OutOfMemory};
-ghost use Rattle.reg_cli_words.specs.Grammar.{IsJudged, file_rule, named_level, needed_rule, number_rules, option_rule, other_levels, place_rules, program_app, program_top, setup_app, setup_top, with_levels, with_rules, word_rule};
+ghost use Rattle.reg_cli_words.specs.Grammar.{IsJudged, file_rule, named_level, needed_rule, number_rules, option_rule, other_levels, place_rules, program_app, program_top, service_levels, setup_app, setup_top, with_levels, with_rules, word_rule};
 ghost use Rattle.reg_cli_words.specs.Making.{Adds, HasLevel, HasRules};
 
 use crate::parameters::{Shape, described, flag, option, with_file, word};
 use crate::reports::with_reports;
 use crate::subcommands::with_orders;
+use crate::version::VERSION;
 use clap::{ArgMatches, Command, Error};
 use std::alloc::{AllocError, Global};
 
@@ -150,17 +151,40 @@ fn serve_words<'a>(alloc: Global) -> Result<Command<'a>, AllocError>
     with_file(alloc, with_numbers(alloc, command)?)
 }
 
-/// Those that are no command of the administrator on what a registry holds.
-fn with_others<'a>(alloc: Global, command: Command<'a>) -> Result<Command<'a>, AllocError>
-    ensures { Adds (λ a. with_levels a other_levels) command.entry result }
+/// `explain`.
+fn explain_words<'a>(alloc: Global) -> Result<Command<'a>, AllocError>
+    ensures { IfOk result (HasLevel (named_level (codes "explain")
+        (word_rule (codes "CODE") ∷ []))) }
+{
+    let command = described(
+        alloc,
+        "explain",
+        "Tells what a refusal means and what to do about it",
+        "Examples:\n  registry_cli explain A9\n  registry_cli explain 'listen fault'",
+    );
+    let help = "The code of the refusal, or the line that a run ended with";
+    command.arg(word(alloc, "CODE", help))
+}
+
+/// Those that make a registry and serve it.
+fn with_services<'a>(alloc: Global, command: Command<'a>) -> Result<Command<'a>, AllocError>
+    ensures { Adds (λ a. with_levels a service_levels) command.entry result }
 {
     command
         .subcommand(init_words(alloc)?)?
         .subcommand(serve_words(alloc)?)?
-        .subcommand(pipe_words(alloc)?)?
+        .subcommand(pipe_words(alloc)?)
+}
+
+/// Those that look at a registry's file, and those that need none.
+fn with_others<'a>(alloc: Global, command: Command<'a>) -> Result<Command<'a>, AllocError>
+    ensures { Adds (λ a. with_levels a other_levels) command.entry result }
+{
+    command
         .subcommand(export_words(alloc)?)?
         .subcommand(audit_words(alloc)?)?
-        .subcommand(line_words(alloc))
+        .subcommand(line_words(alloc))?
+        .subcommand(explain_words(alloc)?)
 }
 
 fn program<'a>(alloc: Global) -> Command<'a>
@@ -168,10 +192,12 @@ fn program<'a>(alloc: Global) -> Command<'a>
 {
     Command::new(alloc, "registry_cli")
         .about("A private Cargo registry")
+        .version(VERSION)
         .after_help(
             "Example:\n  registry_cli init --base http://127.0.0.1:8080 --db r.db\n  \
              registry_cli user-add ada --db r.db\n\n\
-             A subcommand's own help: registry_cli user-add --help",
+             A subcommand's own help: registry_cli user-add --help\n\
+             What a refusal means: registry_cli explain A9",
         )
         .subcommand_required(true)
         .arg_required_else_help(true)
@@ -180,7 +206,7 @@ fn program<'a>(alloc: Global) -> Command<'a>
 fn command<'a>(alloc: Global) -> Result<Command<'a>, AllocError>
     ensures { IfOk result (HasRules program_app) }
 {
-    let command = with_others(alloc, program(alloc))?;
+    let command = with_others(alloc, with_services(alloc, program(alloc))?)?;
     with_reports(alloc, with_orders(alloc, Shape::Program, command)?)
 }
 

@@ -48,6 +48,13 @@ impl<S: Alter> Registry<S> {
         &self.limits
     }
 
+    /// Whether a commit was refused: until the store is opened again nothing is answered.
+    pub fn has_stopped(&self) -> bool
+        ensures { result ≡ has_stopped self.now }
+    {
+        self.tables.is_shut()
+    }
+
     /// Does what the administrator orders, in one transaction.
     pub fn command(
         &mut self,

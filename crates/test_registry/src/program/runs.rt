@@ -112,6 +112,13 @@ audit --db FILE -> 0
 audit FILE -> 2
 export FILE.index --db FILE -> 0
 export --db FILE -> 2
+explain A9 -> 0
+explain C4 -> 0
+explain storage -> 0
+explain A5 -> 2 bad words
+explain -> 2
+explain A9 --db FILE -> 2
+--version -> 0
 ";
 
 #[test]

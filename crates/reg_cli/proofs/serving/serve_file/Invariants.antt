@@ -1,0 +1,9 @@
+use Rattle.std.proofs.Common.{◌≡◌, ◌+◌}
+use Rattle.reg_cli.proofs.serving.serve_file.Given as goal
+
+-- the connections that came in, and those that are left
+abbrev pub invariant-openings : goal.invariant-openings
+invariant-openings l = l.door.accepted + l.left ≡ l.service.connections
+
+abbrev pub decreases-openings : goal.decreases-openings
+decreases-openings l = l.left

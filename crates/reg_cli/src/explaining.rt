@@ -1,0 +1,91 @@
+//! What a refusal means, as `docs/REFUSALS.md` tells it.
+
+ghost use Rattle.std.specs.Prelude.{◌≡◌};
+ghost use Rattle.reg_cli.specs.Meanings.{title_of};
+
+use crate::meanings::{COMMANDS, DAMAGES, REQUESTS, WORDS};
+use crate::printing::print;
+use crate::store::damage_words;
+use clap::ArgMatches;
+use reg_cli_line::Exit;
+use reg_model::AdminRefusal;
+use reg_policy::{Rule, admin_text, rule_text};
+use reg_service::Check;
+
+/// What is refused, or how a run ends.
+#[derive(Clone, Copy)]
+pub(crate) enum Subject {
+    /// A request, for the rule that it breaks.
+    Rule(Rule),
+    /// A command of the administrator.
+    Command(AdminRefusal),
+    /// A file, for the check that it fails.
+    Damage(Check),
+    /// A run that ends with this line.
+    Words(&'static str),
+}
+
+/// What a refusal means, and what to do about it.
+#[derive(Clone, Copy)]
+pub(crate) struct Meaning {
+    pub(crate) subject: Subject,
+    pub(crate) text: &'static str,
+}
+
+impl Subject {
+    /// The line that is printed of it.
+    fn title(&self) -> &'static str
+        ensures { result.now ≡ title_of self.now }
+    {
+        match self {
+            Subject::Rule(rule) => rule_text(*rule),
+            Subject::Command(refusal) => admin_text(*refusal),
+            Subject::Damage(check) => damage_words(*check),
+            Subject::Words(words) => words,
+        }
+    }
+}
+
+/// Whether a title is called so: by its code, which stands before or behind its first space, or
+/// whole.
+fn is_called(subject: &Subject, name: &str) -> bool {
+    let title = subject.title();
+    if title == name {
+        return true;
+    }
+    match (subject, title.split_once(' ')) {
+        (Subject::Rule(_) | Subject::Command(_), Some((code, _))) => code == name,
+        (Subject::Damage(_), Some((_, code))) => code == name,
+        _ => false,
+    }
+}
+
+fn find_in(meanings: &[Meaning], name: &str) -> Option<Meaning> {
+    meanings
+        .iter()
+        .find(|meaning| is_called(&meaning.subject, name))
+        .copied()
+}
+
+/// The meaning of the refusal with this code, or of the run that ends with this line.
+fn find(name: &str) -> Option<Meaning> {
+    find_in(&REQUESTS, name)
+        .or(find_in(&COMMANDS, name))
+        .or(find_in(&DAMAGES, name))
+        .or(find_in(&WORDS, name))
+}
+
+/// `explain`.
+pub(crate) fn explain(rt: &HostRuntime, words: &ArgMatches<'_>) -> Exit {
+    let Some(name) = words.get_str("CODE") else {
+        return Exit::BAD_WORDS;
+    };
+    let Some(meaning) = find(name) else {
+        return Exit::BAD_WORDS;
+    };
+    let title = meaning.subject.title();
+    match format!(in rt.alloc(); "{title}\n\n{}", meaning.text) {
+        Ok(text) => print(rt, &text),
+        Err(_) => Exit::MEMORY,
+    }
+}

@@ -1,0 +1,57 @@
+//! Folders that files are written into.
+
+ghost use Rattle.std.specs.Prelude.{◌≡◌, IfOk, OnOk, Option, List, None};
+ghost use Rattle.reg_model.specs.Registry.{Text};
+ghost use Rattle.reg_cli.specs.Folders.{Gains, folder_of, joined};
+
+use std::alloc::{AllocError, Global};
+use std::{fs, io};
+
+/// A folder that files are written into.
+pub(crate) trait Folder {
+    // The files that were written, each with its path, where that is known.
+    ghost files: { Self → Option (List (Text × Text)) } = { λ _. None };
+
+    /// Writes a file at a path below the folder, and makes the folders that are missing.
+    fn write_file(&mut self, path: &str, bytes: &[u8]) -> io::Result<()>
+        ensures { OnOk result (Gains (files self.old) (files self.new) path.now bytes.now) };
+}
+
+/// The folder of a file's path; empty where it has none.
+fn folder_of(path: &str) -> &str
+    ensures { result.now ≡ folder_of path.now }
+{
+    match path.rsplit_once('/') {
+        Some((folder, _)) => folder,
+        None => "",
+    }
+}
+
+/// The path of what stands at `path` in the folder.
+pub(crate) fn join_path(alloc: Global, folder: &str, path: &str) -> Result<String, AllocError>
+    ensures { IfOk result (λ whole. whole.bytes ≡ joined folder.now path.now) }
+{
+    format!(in alloc; "{folder}/{path}")
+}
+
+/// A folder of the file system.
+#[derive(Drop)]
+pub(crate) struct FolderAt<'a> {
+    rt: &'a HostRuntime,
+    path: &'a str,
+}
+
+impl<'a> FolderAt<'a> {
+    pub(crate) fn new(rt: &'a HostRuntime, path: &'a str) -> FolderAt<'a> {
+        FolderAt { rt, path }
+    }
+}
+
+impl Folder for FolderAt<'_> {
+    fn write_file(&mut self, path: &str, bytes: &[u8]) -> io::Result<()> {
+        let parent = join_path(self.rt.alloc(), self.path, folder_of(path))?;
+        fs::create_dir_all(self.rt, parent.as_str())?;
+        let whole = join_path(self.rt.alloc(), self.path, path)?;
+        fs::write(self.rt, whole.as_str(), bytes)
+    }
+}

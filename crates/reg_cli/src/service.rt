@@ -1,0 +1,62 @@
+//! What `serve` is told.
+
+ghost use Rattle.std.specs.Prelude.{◌≡◌};
+ghost use Rattle.reg_cli_words.specs.Orders.{given_by};
+ghost use Rattle.reg_cli.specs.Services.{number_in, port_in, replies_in, service_from};
+
+use clap::ArgMatches;
+use reg_body::Limits;
+use reg_cli_words::{decimal, port};
+
+/// What `serve` is told: where to listen, for how many connections, and how many replies each of
+/// them has at most.
+#[derive(Clone, Copy)]
+pub(crate) struct Service {
+    pub(crate) port: u16,
+    pub(crate) connections: u64,
+    pub(crate) replies: u64,
+}
+
+impl Service {
+    /// The limits of its streams.
+    pub(crate) fn limits(&self) -> Limits
+        ensures { result ≡ record Limits.STANDARD { replies = self.now.replies } }
+    {
+        Limits {
+            replies: self.replies,
+            ..Limits::STANDARD
+        }
+    }
+}
+
+fn read_number(words: &ArgMatches<'_>, name: &str) -> Option<u64>
+    ensures { result ≡ number_in (given_by words.now) name.now }
+{
+    decimal(words.get_str(name)?)
+}
+
+fn read_port(words: &ArgMatches<'_>) -> Option<u16>
+    ensures { result ≡ port_in (given_by words.now) }
+{
+    port(read_number(words, "port")?)
+}
+
+fn read_replies(words: &ArgMatches<'_>) -> Option<u64>
+    ensures { result ≡ replies_in (given_by words.now) }
+{
+    match decimal(words.get_str("replies").unwrap_or("1")) {
+        Some(0) => None,
+        replies => replies,
+    }
+}
+
+/// What the words of `serve` tell.
+pub(crate) fn read_service(words: &ArgMatches<'_>) -> Option<Service>
+    ensures { result ≡ service_from (given_by words.now) }
+{
+    Some(Service {
+        port: read_port(words)?,
+        connections: read_number(words, "connections")?,
+        replies: read_replies(words)?,
+    })
+}
