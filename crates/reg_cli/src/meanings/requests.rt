@@ -8,20 +8,19 @@ pub(crate) const REQUESTS: [Meaning; 35] = [
     Meaning {
         subject: Subject::Rule(Rule::H1),
         text: "The head is not well-formed HTTP, or has no `Host` field, or has two.\n\
-               Send well-formed lines and exactly one `Host`; only HTTP/1.0 may leave it \
-               out.\n\
-               The connection closes at once, so the reply is lost if you keep on sending.\n",
+               Send well-formed lines and one `Host`, which only HTTP/1.0 may leave out.\n\
+               The connection closes at once: if you keep on sending, the reply may be \
+               lost.\n",
     },
     Meaning {
         subject: Subject::Rule(Rule::H2),
         text: "The head is longer than 16,384 bytes or has more than 64 fields.\n\
-               Send fewer or shorter fields; behind a proxy, look at what the proxy adds.\n",
+               Send fewer or shorter fields; a proxy in front may add some.\n",
     },
     Meaning {
         subject: Subject::Rule(Rule::H3),
-        text: "The request has a `Transfer-Encoding` field, and the registry reads none.\n\
-               Send the body with its `Content-Length`, not in chunks.\n\
-               A proxy in front has to read each request whole before it passes it on.\n",
+        text: "The request has a `Transfer-Encoding` field.\n\
+               Send the body with its `Content-Length`, not in chunks.\n",
     },
     Meaning {
         subject: Subject::Rule(Rule::H4),
@@ -38,8 +37,7 @@ pub(crate) const REQUESTS: [Meaning; 35] = [
     Meaning {
         subject: Subject::Rule(Rule::H6),
         text: "The registry has no such path.\n\
-               The index in `.cargo/config.toml` must be the registry's base followed by \
-               `/index/`.\n\
+               The index in `.cargo/config.toml` must be the base followed by `/index/`.\n\
                If it is, the registry was made with the wrong base: tell the administrator.\n\
                With a wrong index `cargo` says `config.json not found in registry`.\n",
     },
@@ -65,8 +63,7 @@ pub(crate) const REQUESTS: [Meaning; 35] = [
     Meaning {
         subject: Subject::Rule(Rule::A3),
         text: "The administrator has revoked this token, and it stays revoked.\n\
-               Ask for a new one, run `cargo logout --registry NAME`, and log in with the \
-               new one.\n",
+               Get a new one, run `cargo logout --registry NAME`, and log in with it.\n",
     },
     Meaning {
         subject: Subject::Rule(Rule::A4),
@@ -76,10 +73,9 @@ pub(crate) const REQUESTS: [Meaning; 35] = [
     Meaning {
         subject: Subject::Rule(Rule::A6),
         text: "Your token may not do this.\n\
-               A new crate needs `publish-new`, and a further version needs \
-               `publish-update`.\n\
-               Yank and unyank need `yank`, and a change of owners needs `change-owners`.\n\
-               Ask the administrator for a token with that endpoint; a token never changes.\n",
+               A new crate needs `publish-new`, a further version `publish-update`.\n\
+               Yank and unyank need `yank`, and a change of owners `change-owners`.\n\
+               Ask the administrator for another token with that endpoint.\n",
     },
     Meaning {
         subject: Subject::Rule(Rule::A7),
@@ -89,10 +85,8 @@ pub(crate) const REQUESTS: [Meaning; 35] = [
     Meaning {
         subject: Subject::Rule(Rule::A8),
         text: "There is no such crate, or it is restricted and you neither own nor read it.\n\
-               Check the name; if the crate should be there, ask the administrator to make \
-               you a reader.\n\
-               For an index file `cargo` says that the crate was not found, or that no \
-               package matches.\n",
+               Check the name, or ask the administrator to make you a reader.\n\
+               `cargo` may say that the crate was not found, or that no package matches.\n",
     },
     Meaning {
         subject: Subject::Rule(Rule::A9),
@@ -103,34 +97,36 @@ pub(crate) const REQUESTS: [Meaning; 35] = [
     Meaning {
         subject: Subject::Rule(Rule::A10),
         text: "The crate has no version of exactly this text.\n\
-               Write the version as it was published, with everything after its `+`.\n",
+               Write it as it was published, with everything after its `+`.\n",
     },
     Meaning {
         subject: Subject::Rule(Rule::B1),
-        text: "The upload ends before it is complete: it was cut or changed on its way.\n\
-               Publish again; if it happens every time, look at the proxy or the client.\n",
+        text: "The upload is not complete: it was cut or changed on its way.\n\
+               Publish again; if it happens every time, the proxy or the client is at \
+               fault.\n",
     },
     Meaning {
         subject: Subject::Rule(Rule::B2),
         text: "The upload goes on after the archive: it was changed on its way.\n\
-               Publish again; if it happens every time, look at the proxy or the client.\n",
+               Publish again; if it happens every time, the proxy or the client is at \
+               fault.\n",
     },
     Meaning {
         subject: Subject::Rule(Rule::B3),
         text: "The package is larger than 32 MiB, or its metadata is larger than 4 MiB.\n\
-               Leave files out of the package with `exclude` in `Cargo.toml`.\n\
-               The metadata holds the whole readme, so a shorter readme helps.\n",
+               Leave files out with `exclude` in `Cargo.toml`; the metadata holds the \
+               whole readme.\n",
     },
     Meaning {
         subject: Subject::Rule(Rule::B4),
         text: "The metadata of the publish is not JSON.\n\
-               The client is not `cargo`, or a `cargo` that this registry does not know.\n",
+               The client is not `cargo`, or one that this registry does not know.\n",
     },
     Meaning {
         subject: Subject::Rule(Rule::B5),
         text: "A field of the metadata is missing, or is not the kind of value that it \
                must be.\n\
-               The client is not `cargo`, or a `cargo` that this registry does not know.\n",
+               The client is not `cargo`, or one that this registry does not know.\n",
     },
     Meaning {
         subject: Subject::Rule(Rule::N1),
@@ -140,31 +136,28 @@ pub(crate) const REQUESTS: [Meaning; 35] = [
     },
     Meaning {
         subject: Subject::Rule(Rule::N2),
-        text: "The name is reserved, by the administrator or because Windows has a device \
-               of that name.\n\
+        text: "The name is reserved, by the administrator or as the name of a Windows \
+               device.\n\
                Take another name, or ask the administrator to run `unreserve NAME`.\n\
-               `con`, `prn`, `aux`, `nul`, `com1` to `com9` and `lpt1` to `lpt9` are \
-               always reserved.\n",
+               Names of Windows devices, such as `con` and `nul`, are always reserved.\n",
     },
     Meaning {
         subject: Subject::Rule(Rule::N3),
-        text: "A crate of this name exists, spelled with other capitals or with `-` and \
-               `_` exchanged.\n\
+        text: "This crate exists with other capitals, or with `-` and `_` exchanged.\n\
                Publish under the first spelling.\n",
     },
     Meaning {
         subject: Subject::Rule(Rule::V1),
-        text: "The version is not one of SemVer 2.0.0, or one of its three numbers does \
-               not fit 64 bits.\n\
+        text: "This is no version of SemVer 2.0.0, or a number of it does not fit 64 bits.\n\
                Correct `version` in `Cargo.toml`.\n",
     },
     Meaning {
         subject: Subject::Rule(Rule::V2),
         text: "This version exists already; versions that differ only after a `+` count as \
                one.\n\
-               Raise the version: what was published can be yanked, but never replaced.\n\
-               After an upload that broke off or was answered S1, this says that it was \
-               done after all.\n",
+               Raise it: what was published can be yanked, but never replaced.\n\
+               After an upload that broke off or was `S1`, this says that it was done \
+               after all.\n",
     },
     Meaning {
         subject: Subject::Rule(Rule::M1),
@@ -205,14 +198,12 @@ pub(crate) const REQUESTS: [Meaning; 35] = [
     Meaning {
         subject: Subject::Rule(Rule::Q1),
         text: "`per_page` of a search is a decimal number from 1 up.\n\
-               Send one, or leave it out to get 10 crates.\n",
+               Send one, or none to get 10 crates.\n",
     },
     Meaning {
         subject: Subject::Rule(Rule::S1),
-        text: "The registry's disk or memory failed, and nothing was changed; tell the \
-               administrator.\n\
-               Only if the commit itself failed, as on a full disk, may the whole change \
-               be there.\n\
+        text: "Disk or memory failed, and nothing was changed; tell the administrator.\n\
+               Only if the commit failed, as on a full disk, may the whole change be there.\n\
                Look before you repeat it: `V2` after a repeated publish means that it was \
                there.\n\
                The server then opens its file again before the next connection, and ends \

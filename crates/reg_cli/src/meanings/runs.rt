@@ -42,8 +42,8 @@ pub(crate) const COMMANDS: [Meaning; 10] = [
     },
     Meaning {
         subject: Subject::Command(AdminRefusal::G7),
-        text: "The registry has 1,000,000 accounts or tokens, or you gave a token more \
-               than 64 patterns.\n\
+        text: "The registry has 1,000,000 accounts or tokens, or the token more than 64 \
+               patterns.\n\
                One pattern with a `*` can stand for many names.\n",
     },
     Meaning {
@@ -61,9 +61,8 @@ pub(crate) const COMMANDS: [Meaning; 10] = [
     },
     Meaning {
         subject: Subject::Command(AdminRefusal::G10),
-        text: "The disk or memory failed, and nothing was changed.\n\
-               Only if the commit itself failed, as on a full disk, may the whole change \
-               be there.\n\
+        text: "Disk or memory failed, and nothing was changed.\n\
+               Only if the commit failed, as on a full disk, may the whole change be there.\n\
                Make room, look with `users`, `tokens` or `crates`, and then repeat the \
                command.\n\
                `token-add` may have left a token whose text nobody saw: revoke it.\n",
@@ -89,8 +88,7 @@ pub(crate) const DAMAGES: [Meaning; 8] = [
     },
     Meaning {
         subject: Subject::Damage(Check::C4),
-        text: "An archive is missing, left over, or not the one that was published: its \
-               SHA-256 differs.\n\
+        text: "An archive is missing or left over, or its SHA-256 differs.\n\
                Restore a backup with `registry-restore`.\n",
     },
     Meaning {
@@ -106,8 +104,7 @@ pub(crate) const DAMAGES: [Meaning; 8] = [
     },
     Meaning {
         subject: Subject::Damage(Check::C7),
-        text: "What is kept of a crate's versions, the highest and the index length, does \
-               not fit them.\n\
+        text: "A crate's summary does not fit its versions.\n\
                Restore a backup with `registry-restore`.\n",
     },
     Meaning {
@@ -128,8 +125,8 @@ pub(crate) const WORDS: [Meaning; 11] = [
     Meaning {
         subject: Subject::Words("unknown schema"),
         text: "The file holds no registry, or a registry of another program.\n\
-               Check that `--db` names the right file; an empty one left by a typing error \
-               can be removed.\n\
+               Check that `--db` names the right file; one made by a mistyped name may go, \
+               with its log.\n\
                From `init` it means that the file holds something already; it stays as it \
                is.\n",
     },
@@ -137,8 +134,8 @@ pub(crate) const WORDS: [Meaning; 11] = [
         subject: Subject::Words("storage"),
         text: "A file, its log, the disk or memory failed, or another run, such as the \
                server, has the file.\n\
-               Stop the server; check disk and memory, and the permissions and hard links \
-               of file and log.\n\
+               Stop the server; check disk, memory and permissions, and that file and log \
+               have no second name.\n\
                If the file is gone or empty and its log is not, put the file back beside \
                its log.\n\
                With `--random`, `--setup` or `export` it may be that file or folder; else \
@@ -160,9 +157,9 @@ pub(crate) const WORDS: [Meaning; 11] = [
     },
     Meaning {
         subject: Subject::Words("listen fault"),
-        text: "The port is taken or not allowed to this user, or a connection could not be \
-               accepted.\n\
-               Stop the program that has the port, or take another port.\n",
+        text: "The port is taken or not allowed to this user, or accepting a connection \
+               failed.\n\
+               Stop the program that has the port, or take another.\n",
     },
     Meaning {
         subject: Subject::Words("read fault"),
@@ -173,7 +170,7 @@ pub(crate) const WORDS: [Meaning; 11] = [
         subject: Subject::Words("write fault"),
         text: "Standard output failed, as on a full disk or a closed pipe.\n\
                The command itself may be done, so look before you repeat it.\n\
-               After `token-add` the token exists, but nobody saw its text: find it with \
+               After `token-add` the token exists and nobody saw its text: find it with \
                `tokens`, revoke it.\n",
     },
     Meaning {
