@@ -210,3 +210,30 @@ ada yank a 0.1.0 -> Json {"ok":true}"#;
 fn store_above_a_limit(rt: HostRuntime) {
     play(&rt, STORE_ABOVE_A_LIMIT);
 }
+
+const LARGER_LIMITS: &str = r#"given two-accounts-and-a
+ada yank a 0.1.0 -> Json {"ok":true}
+
+open versions=1 crates=1 -> done
+ada release b 0.1.0 -> L2
+export -> config.json(95) {"api":"http://127.0.0.1:8080","auth-required":true,
+    "dl":"http://127.0.0.1:8080/api/v1/crates"};1/a(174)
+     {"cksum":"e3b0c44298fc1c149afbf4c8996fb92427ae41e4649b934ca495991b7852b855",
+    "deps":[],"features":{},"links":null,"name":"a","rust_version":null,
+    "vers":"0.1.0","yanked":true}<0a>;
+ada download a 0.1.0 -> Archive(0) 
+
+open -> done
+export -> config.json(95) {"api":"http://127.0.0.1:8080","auth-required":true,
+    "dl":"http://127.0.0.1:8080/api/v1/crates"};1/a(174)
+     {"cksum":"e3b0c44298fc1c149afbf4c8996fb92427ae41e4649b934ca495991b7852b855",
+    "deps":[],"features":{},"links":null,"name":"a","rust_version":null,
+    "vers":"0.1.0","yanked":true}<0a>;
+ada download a 0.1.0 -> Archive(0) 
+ada release b 0.1.0 -> Json
+     {"warnings":{"invalid_badges":[],"invalid_categories":[],"other":[]}}"#;
+
+#[test]
+fn larger_limits(rt: HostRuntime) {
+    play(&rt, LARGER_LIMITS);
+}

@@ -30,14 +30,21 @@ bob owners a -> A8
 bob search  -> Json {"crates":[],"meta":{"total":0}}
 bob yank a 0.1.0 -> A8
 bob release a 0.2.0 -> A9
+ada download a 0.1.0 -> Archive(0) 
+ada search  -> Json {"crates":[{"description":null,"max_version":"0.1.0","name":"a"}],
+    "meta":{"total":1}}
 reader-add a bob -> done
 bob search  -> Json {"crates":[{"description":null,"max_version":"0.1.0","name":"a"}],
     "meta":{"total":1}}
 bob yank a 0.1.0 -> A9
+ada owners a -> Json {"users":[{"id":1,"login":"ada","name":"Ada"}]}
 reader-remove a bob -> done
 bob index 1/a -> A8
+ada download a 0.1.0 -> Archive(0) 
 crate-open a -> done
 bob owners a -> Json {"users":[{"id":1,"login":"ada","name":"Ada"}]}
+bob search  -> Json {"crates":[{"description":null,"max_version":"0.1.0","name":"a"}],
+    "meta":{"total":1}}
 ada yank a 0.1.0 -> Json {"ok":true}"#;
     play(&rt, script);
 }

@@ -32,8 +32,13 @@ reserve acme -> done
 ada yank a 0.1.0 -> Json {"ok":true}
 "#;
 
-/// Each changes the registry after that. The owners that are removed are removed together.
-pub(crate) const CHANGES_BACK: &str = r#"user-enable carol -> done
+/// The report of a restricted crate, and then what changes the registry after that. The owners that
+/// are removed are removed together.
+pub(crate) const CHANGES_BACK: &str = r#"access a ->        1  publish-update  ada<0a>
+           1  yank            ada<0a>       1  change-owners   ada<0a>
+           2  publish-update  bob<0a>       2  yank            bob<0a>
+           -  read            carol<0a>
+user-enable carol -> done
 unreserve acme -> done
 crate-open a -> done
 reader-remove a carol -> done
