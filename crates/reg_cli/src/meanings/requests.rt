@@ -120,13 +120,13 @@ pub(crate) const REQUESTS: [Meaning; 35] = [
     Meaning {
         subject: Subject::Rule(Rule::B4),
         text: "The metadata of the publish is not JSON.\n\
-               The client is not `cargo`, or one that this registry does not know.\n",
+               The client is not `cargo`, or is a `cargo` that this registry does not know.\n",
     },
     Meaning {
         subject: Subject::Rule(Rule::B5),
         text: "A field of the metadata is missing, or is not the kind of value that it \
                must be.\n\
-               The client is not `cargo`, or one that this registry does not know.\n",
+               The client is not `cargo`, or is a `cargo` that this registry does not know.\n",
     },
     Meaning {
         subject: Subject::Rule(Rule::N1),
@@ -188,7 +188,7 @@ pub(crate) const REQUESTS: [Meaning; 35] = [
     Meaning {
         subject: Subject::Rule(Rule::O3),
         text: "One of the logins does not own the crate; nobody was removed.\n\
-               See who does with `cargo owner --list CRATE`.\n",
+               List the owners with `cargo owner --list CRATE`.\n",
     },
     Meaning {
         subject: Subject::Rule(Rule::O4),
@@ -198,12 +198,13 @@ pub(crate) const REQUESTS: [Meaning; 35] = [
     Meaning {
         subject: Subject::Rule(Rule::Q1),
         text: "`per_page` of a search is a decimal number from 1 up.\n\
-               Send one, or none to get 10 crates.\n",
+               Send such a number, or leave it out to get 10 crates.\n",
     },
     Meaning {
         subject: Subject::Rule(Rule::S1),
         text: "Disk or memory failed, and nothing was changed; tell the administrator.\n\
-               Only if the commit failed, as on a full disk, may the whole change be there.\n\
+               One exception: if the commit failed, as on a full disk, the whole change \
+               may be there.\n\
                Look before you repeat it: `V2` after a repeated publish means that it was \
                there.\n\
                The server then opens its file again before the next connection, and ends \

@@ -62,7 +62,8 @@ pub(crate) const COMMANDS: [Meaning; 10] = [
     Meaning {
         subject: Subject::Command(AdminRefusal::G10),
         text: "Disk or memory failed, and nothing was changed.\n\
-               Only if the commit failed, as on a full disk, may the whole change be there.\n\
+               One exception: if the commit failed, as on a full disk, the whole change \
+               may be there.\n\
                Make room, look with `users`, `tokens` or `crates`, and then repeat the \
                command.\n\
                `token-add` may have left a token whose text nobody saw: revoke it.\n",
@@ -125,8 +126,8 @@ pub(crate) const WORDS: [Meaning; 11] = [
     Meaning {
         subject: Subject::Words("unknown schema"),
         text: "The file holds no registry, or a registry of another program.\n\
-               Check that `--db` names the right file; one made by a mistyped name may go, \
-               with its log.\n\
+               Check that `--db` names the right file; one made by a mistyped name may be \
+               deleted with its log.\n\
                From `init` it means that the file holds something already; it stays as it \
                is.\n",
     },
@@ -186,8 +187,8 @@ pub(crate) const WORDS: [Meaning; 11] = [
     },
     Meaning {
         subject: Subject::Words("memory"),
-        text: "The program ran out of memory, as while it read its arguments or the input \
-               of `line`.\n\
+        text: "The program ran out of memory, for example while it read its arguments or \
+               the input of `line`.\n\
                Give it more memory.\n\
                While a file is opened this is `storage`, in a command `G10`, and in a \
                request `S1`.\n",
