@@ -1,5 +1,6 @@
 -- Files that are written into a folder, and their paths.
-use Rattle.std.specs.Prelude.{◌≡◌, ◌⊎◌, ◌++◌, ⊤, ℕ, List, [], ◌∷◌, codes, map, Option, Some, None, option_map, unwrap_or}
+use Rattle.std.specs.Prelude.{◌≡◌, ◌⊎◌, ◌++◌, ⊤, ℕ, List, [], ◌∷◌, codes, map, Option, Some, None, option_map, unwrap_or, String, Vec}
+use Rattle.std.specs.declared.alloc.Global.{Global}
 use Rattle.std.specs.Path.{rsplit_once, slash}
 use Rattle.reg_model.specs.Registry.{Text}
 use Rattle.reg_service_requests.specs.Exported.{texts_of}

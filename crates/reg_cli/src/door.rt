@@ -1,13 +1,14 @@
 //! Where connections come from.
 
-ghost use Rattle.std.specs.Prelude.{◌≡◌, ◌+◌, ◌^◌, ◌<◌, MatchResult};
+ghost use Rattle.std.specs.Prelude.{◌≡◌, ◌+◌, ◌^◌, ◌<◌, codes, MatchResult};
+ghost use Rattle.reg_cli_pipe.specs.Exits.{EndsWith};
 
 use crate::printing::print;
 use reg_cli_line::Exit;
 use std::net::{TcpListener, TcpStream};
 
 /// Nobody can be listened to.
-pub(crate) const NO_LISTENING: Exit = Exit {
+const NO_LISTENING: Exit = Exit {
     status: 3,
     words: "listen fault",
 };
@@ -63,7 +64,7 @@ impl Door {
     pub(crate) fn accept(&mut self) -> Result<TcpStream, Exit>
         requires { self.old.accepted + 1 < 2 ^ 64 }
         ensures { MatchResult result (λ _. self.new.accepted ≡ self.old.accepted + 1)
-            (λ exit. (exit ≡ NO_LISTENING) × (self.new ≡ self.old)) }
+            (λ exit. EndsWith 3 (codes "listen fault") exit × (self.new ≡ self.old)) }
     {
         let Some(listener) = &self.listener else {
             return Err(NO_LISTENING);

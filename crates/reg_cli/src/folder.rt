@@ -1,6 +1,6 @@
 //! Folders that files are written into.
 
-ghost use Rattle.std.specs.Prelude.{◌≡◌, IfOk, OnOk, Option, List, None};
+ghost use Rattle.std.specs.Prelude.{◌≡◌, IfOk, OnOk, Option, List, None, string_bytes};
 ghost use Rattle.reg_model.specs.Registry.{Text};
 ghost use Rattle.reg_cli.specs.Folders.{Gains, folder_of, joined};
 
@@ -29,7 +29,7 @@ fn folder_of(path: &str) -> &str
 
 /// The path of what stands at `path` in the folder.
 pub(crate) fn join_path(alloc: Global, folder: &str, path: &str) -> Result<String, AllocError>
-    ensures { IfOk result (λ whole. whole.bytes ≡ joined folder.now path.now) }
+    ensures { IfOk result (λ whole. string_bytes whole ≡ joined folder.now path.now) }
 {
     format!(in alloc; "{folder}/{path}")
 }

@@ -1,12 +1,13 @@
 //! Streams: one on standard input and output, or connections one after another.
 
-ghost use Rattle.std.specs.Prelude.{◌≡◌, ◌⊎◌, ◌+◌, ◌^◌, ◌<◌, ◌≤◌, true, IfErr, IfOk, OnErr, OnOk};
+ghost use Rattle.std.specs.Prelude.{◌≡◌, ◌⊎◌, ◌+◌, ◌^◌, ◌<◌, ◌≤◌, true, codes, IfErr, OnOk};
 ghost use Rattle.reg_service.specs.Answered.{AreUpToDate};
 ghost use Rattle.reg_service.specs.Registries.{has_stopped, limits_of, tables_of};
+ghost use Rattle.reg_cli_pipe.specs.Exits.{EndsWith};
 ghost use Rattle.reg_cli.specs.Limited.{HasTurns};
 ghost use Rattle.reg_cli.specs.Setups.{IsSetup};
 
-use crate::door::{Door, NO_LISTENING};
+use crate::door::Door;
 use crate::service::{Service, read_service};
 use crate::store::{connect, create, open};
 use crate::using::{Use, make_file, on_file};
@@ -129,7 +130,7 @@ fn serve_connections<S: Alter>(
     ensures counts { door.new.accepted + left.new ≡ door.old.accepted + left.old }
     ensures ok { OnOk result ((left.new ≡ 0)
         ⊎ ((has_stopped registry.new ≡ true) × (left.new < left.old))) }
-    ensures err { IfErr result (λ exit. exit ≡ NO_LISTENING) }
+    ensures err { IfErr result (EndsWith 3 (codes "listen fault")) }
 {
     'connections: while *left > 0 {
         let stream = door.accept()?;
