@@ -1,3 +1,4 @@
 pub mod EntryFacts
 pub mod Joined
 pub mod Statuses
+pub mod Some

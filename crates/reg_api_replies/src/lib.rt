@@ -1,6 +1,7 @@
 //! Replies: their bodies and their heads, and sending them in a bounded number of write calls.
 //!
-//! A head and a small body leave in one write, and sending takes no memory.
+//! A head and its body leave in one write where they fit a pile of 32 KiB, and sending takes no
+//! memory.
 //!
 //! ```
 //! error_body(Rule::A1).as_bytes()                 // {"errors":[{"detail":"A1 no token"}]}

@@ -1,48 +1,19 @@
 //! Replies, as they are sent.
 
-ghost use Rattle.std.specs.Prelude.{◌≡◌, ◌+◌, ◌^◌, ◌<◌, ◌++◌, length, IfOk};
+ghost use Rattle.std.specs.Prelude.{◌≡◌, ◌+◌, ◌^◌, ◌<◌, ◌++◌};
 ghost use Rattle.reg_api_replies.specs.Sent.{Sends, sink};
 ghost use Rattle.reg_api_replies.specs.Texts.{body_if, refusal_text, reply_text};
 
-use crate::bytes::{SendFault, write_bytes};
+use crate::bytes::SendFault;
 use crate::fixed_text::FixedText;
 use crate::head::{Kind, Methods, refusal_status, reply_head};
+use crate::pile::Pile;
 use crate::refused::error_body;
 use crate::reply::Reply;
-use arrayvec::{ArrayVec, CapacityError};
 use http::StatusCode;
 use reg_body::Counted;
 use reg_policy::Rule;
 use std::io::Write;
-
-/// How many bytes a head and its body have at most to leave in one write.
-const ROOM: usize = 1024;
-
-/// A head and its body in one piece, where they fit.
-fn in_one_piece(head: &[u8], body: &[u8]) -> Result<ArrayVec<u8, ROOM>, CapacityError>
-    ensures { IfOk result (λ piece. piece.items ≡ head.now ++ body.now) }
-{
-    let mut piece = ArrayVec::new();
-    piece.try_extend_from_slice(head)?;
-    piece.try_extend_from_slice(body)?;
-    Ok(piece)
-}
-
-/// Writes one text after another.
-fn write_both<W: Write>(
-    w: &mut Counted<W>,
-    first: &[u8],
-    second: &[u8],
-    writes: u64,
-) -> Result<u64, SendFault>
-    requires { w.old.calls + writes < 2 ^ 64 }
-    ensures { Sends result (first.now ++ second.now) writes
-        (sink (W.contents w.old.inner) w.old) (sink (W.contents w.new.inner) w.new) }
-{
-    let used = write_bytes(w, first, writes)?;
-    let more = write_bytes(w, second, writes - used)?;
-    Ok(used + more)
-}
 
 /// The body, if it is to be sent.
 fn body_or_none(body: &[u8], head_only: bool) -> &[u8]
@@ -51,7 +22,8 @@ fn body_or_none(body: &[u8], head_only: bool) -> &[u8]
     if head_only { &[] } else { body }
 }
 
-/// Writes a head and a body.
+/// Writes a head and a body, in one write where they fit a pile. A body that is longer is written
+/// as it lies.
 fn write_parts<W: Write>(
     w: &mut Counted<W>,
     head: &FixedText,
@@ -62,10 +34,11 @@ fn write_parts<W: Write>(
     ensures { Sends result (head.now ++ body.now) writes
         (sink (W.contents w.old.inner) w.old) (sink (W.contents w.new.inner) w.new) }
 {
-    match in_one_piece(head.as_bytes(), body) {
-        Ok(piece) => write_bytes(w, piece.as_slice(), writes),
-        Err(_too_long) => write_both(w, head.as_bytes(), body, writes),
-    }
+    let mut pile = Pile::new();
+    let used = pile.put(w, head.as_bytes(), writes)?;
+    let more = pile.put(w, body, writes - used)?;
+    let last = pile.send(w, writes - (used + more))?;
+    Ok(used + more + last)
 }
 
 /// Writes the refusal of a request.

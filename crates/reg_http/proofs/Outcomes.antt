@@ -9,7 +9,6 @@ use Rattle.reg_model.specs.Registry as model
 use Rattle.reg_model.specs.Registry.{Text}
 use Rattle.reg_model.specs.Steps.{IsFit}
 use Rattle.reg_http_read.specs.Turns.{Sends}
-use Rattle.reg_http_read.proofs.Replies.{answer_some}
 use Rattle.reg_http_read.specs.declared.fault.StreamFault.{StreamFault}
 use Rattle.reg_http_read.specs.declared.fault.StreamFault.TheVariants.{Memory, ReadFault, StoreFault, TooManyTurns, WriteFault}
 use Rattle.reg_api_replies.specs.Replies.{Says}
@@ -24,7 +23,7 @@ use Rattle.reg_http_routes.specs.Routing.Routing.{Wants as to_wants}
 use Rattle.reg_api_replies.specs.Sent.{Sink}
 use Rattle.reg_api_replies.specs.Texts.{answer_text, refusal_text, reply_text}
 use Rattle.reg_service.specs.Answered.{Answers}
-use Rattle.reg_service.specs.Streamed.{AsksForFile, StreamsTo}
+use Rattle.reg_service.specs.Streamed.{AsksForFile, IsFileAnswer, StreamsTo}
 use Rattle.reg_service_index.specs.declared.fault.IndexFault.{IndexFault}
 use Rattle.reg_service_index.specs.declared.fault.IndexFault.TheVariants.{Spent, Store, Write}
 use Rattle.reg_tables.specs.declared.tables.Tables.{Tables}
@@ -36,9 +35,6 @@ use Rattle.reg_http_routes.specs.Routed.{IsRouted}
 use Rattle.reg_http_routes.specs.Routing.{Routing}
 use Rattle.reg_http_routes.specs.declared.fault.RouteFault.{RouteFault}
 use Rattle.reg_http_routes.specs.declared.fault.RouteFault.TheVariants as route
-
-pub none_below : (n : ℕ) → n ≡ 0 → 0 < n → ⊥
-none_below n is lt = omega (arith, is, lt)
 
 -- a text that was sent is one whose sending may stop for the store too
 pub streams_of : (o : Outcome) (text : Text) (old new : Option Text) (r : Result (Unit {0}) StreamFault) → Sends text old new r → Streams o text old new r
@@ -61,17 +57,17 @@ file_fit limits token (call.AddOwners n b) h = absurd h
 file_fit limits token (call.RemoveOwners n b) h = absurd h
 file_fit limits token (call.Search q per_page) h = absurd h
 
-file_is : (a : Answer) (w : ApiCall) → AsksForFile w → IsOfFile (Answered (wants_of w) a)
-file_is a (call.Index path) h = tt
-file_is a call.Config h = absurd h
-file_is a (call.Download n v) h = absurd h
-file_is a (call.Publish b) h = absurd h
-file_is a (call.ListOwners n) h = absurd h
-file_is a (call.Yank n v) h = absurd h
-file_is a (call.Unyank n v) h = absurd h
-file_is a (call.AddOwners n b) h = absurd h
-file_is a (call.RemoveOwners n b) h = absurd h
-file_is a (call.Search q per_page) h = absurd h
+file_is : (a : Answer) (w : ApiCall) → AsksForFile w → IsFileAnswer a → IsOfFile (Answered (wants_of w) a)
+file_is a (call.Index path) h file = file
+file_is a call.Config h file = absurd h
+file_is a (call.Download n v) h file = absurd h
+file_is a (call.Publish b) h file = absurd h
+file_is a (call.ListOwners n) h file = absurd h
+file_is a (call.Yank n v) h file = absurd h
+file_is a (call.Unyank n v) h file = absurd h
+file_is a (call.AddOwners n b) h file = absurd h
+file_is a (call.RemoveOwners n b) h file = absurd h
+file_is a (call.Search q per_page) h file = absurd h
 
 module _ {S : Type 0} (g : Ghosts S) (limits : Limits) (s : model.Registry) (f : Facts) (token : Option Text) (same : f.token ≡ token) (close : Bool) (old new : Tables S) (w0 w1 : Option Text) (r : Result (Unit {0}) StreamFault) where
   pub answered : (w : Wants) → IsFit (event_of (request_from limits token w)) → (a : Answer) → Answers g limits s (event_of (request_from limits token w)) a old new
@@ -109,28 +105,24 @@ module _ {S : Type 0} (g : Ghosts S) (limits : Limits) (s : model.Registry) (f :
   IsSo r = Replies g limits f (to_wants (wants_of w)) close s old new before.contents after.contents r
 
   pub file_sent : (used : ℕ) → Told (Ok used) → IsSo (Ok tt)
-  file_sent used (a, sends, it) = answered g limits s f token same close old new before.contents after.contents (Ok tt) (wants_of w) (file_fit limits token w file) a it sends.all
-
-  -- no reply is empty
-  pub file_some : (used : ℕ) → Told (Ok used) → 0 < used
-  file_some used (a, sends, it) = sends.some (answer_some (asked_from limits (wants_of w)) a close)
+  file_sent used (a, sends, it) = answered g limits s f token same close old new before.contents after.contents (Ok tt) (wants_of w) (file_fit limits token w file) a it sends.sends.all
 
   pub file_failed : Told (Err Write) → IsSo (Err WriteFault)
-  file_failed (a, sends, it) = answered g limits s f token same close old new before.contents after.contents (Err WriteFault) (wants_of w) (file_fit limits token w file) a it sends.front
+  file_failed (a, sends, it) = answered g limits s f token same close old new before.contents after.contents (Err WriteFault) (wants_of w) (file_fit limits token w file) a it sends.sends.front
 
   pub file_spent : Told (Err Spent) → IsSo (Err TooManyTurns)
-  file_spent (a, sends, it) = answered g limits s f token same close old new before.contents after.contents (Err TooManyTurns) (wants_of w) (file_fit limits token w file) a it sends.front
+  file_spent (a, sends, it) = answered g limits s f token same close old new before.contents after.contents (Err TooManyTurns) (wants_of w) (file_fit limits token w file) a it sends.sends.front
 
   pub file_broken : before.calls < after.calls → Told (Err Store) → IsSo (Err StoreFault)
   file_broken begun (a, sends, it) =
       answered g limits s f token same close old new before.contents after.contents (Err StoreFault) (wants_of w) (file_fit limits token w file) a it (
-        file_is a w file,
+        file_is a w file (sends.of_file refl),
         record {
-          front = sends.front;
-          rest = sends.rest;
-          whole = sends.whole;
-          some = sends.sends.sent (omega (arith, sends.sends.calls, begun));
-          appends = sends.sends.all;
+          front = sends.sends.front;
+          rest = sends.sends.rest;
+          whole = sends.sends.whole;
+          some = sends.sends.sends.sent (omega (arith, sends.sends.sends.calls, begun));
+          appends = sends.sends.sends.all;
         },
       )
 

@@ -371,4 +371,4 @@ module _ {R W : Type 0} (r : CountedEnd R) (w0 w1 : CountedEnd W) (had left : â„
   wrote_for WriteFault it = record { turns = omega (arith, it.turns); reads_are = omega arith; writes_are = it.writes_are }
   wrote_for StoreFault it = record { turns = omega (arith, it.turns); begun = it.begun; failed_reads = refl; failed_writes = it.failed_writes }
   wrote_for TooManyTurns it = record { turns = omega (arith, it.turns); failed_reads = refl; failed_writes = it.failed_writes }
-  wrote_for Memory it = wrote_some it
+  wrote_for Memory it = absurd it

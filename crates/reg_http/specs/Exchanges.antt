@@ -11,6 +11,7 @@ use Rattle.reg_api_requests.specs.Requests.{asked_from, request_from}
 use Rattle.reg_api_requests.specs.Views.{event_of}
 use Rattle.reg_api_requests.specs.Wants.{Wants}
 use Rattle.reg_api_requests.specs.Wants.Wants.{Index}
+use Rattle.reg_service.specs.Streamed.{IsFileAnswer}
 use Rattle.reg_http_routes.specs.Routing.{Routing, routing_of}
 use Rattle.reg_http_routes.specs.Routing.Routing.{NoRoute as to_no_route, NoMethod as to_no_method, Wants as to_wants}
 use Rattle.reg_http_read.specs.Begun.{is_head_only}
@@ -27,9 +28,9 @@ pub data Outcome : Type 0 where
   NoRoom : Outcome
   Unread : Wants → Outcome
 
--- it is the answer to a request for an index file
+-- it is an index file, which was asked for
 abbrev pub IsOfFile : Outcome → Type 0
-IsOfFile (Answered (Index path) a) = Unit {0}
+IsOfFile (Answered (Index path) a) = IsFileAnswer a
 IsOfFile _ = ⊥
 
 -- a request, what its head tells, and what it came to

@@ -114,7 +114,7 @@ module _ {S : Type 0} (g : Ghosts S) (limits : Limits) (s : model.Registry)
     pub next : IsNext done rest number (front ++ back)
     pub wrote : written ≡ before ++ front
 
-  -- The store failed: after the exchanges, and the interim line of one more, which asks for an
+  -- The store failed: after the exchanges, and the interim line of one more, whose answer is an
   -- index file, a front of its reply was written that is not empty.
   pub record IsBrokenOff (read written : Text) : Type 0 where
     pub done : List Exchange

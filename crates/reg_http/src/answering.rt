@@ -2,7 +2,7 @@
 
 ghost use Rattle.std.specs.Prelude.{◌≡◌, ◌+◌, ◌^◌, ◌<◌, None, OnOk, Some};
 ghost use Rattle.reg_http_read.specs.Reads.{facts_of};
-ghost use Rattle.reg_http_read.specs.Turns.{Sends, Spends, writes_of};
+ghost use Rattle.reg_http_read.specs.Turns.{Sends, SpendsTurns, writes_of};
 ghost use Rattle.reg_http_routes.specs.Routing.{routing_of};
 ghost use Rattle.reg_api_replies.specs.Texts.{refusal_text};
 ghost use Rattle.reg_service.specs.Answered.{AreUpToDate};
@@ -56,7 +56,7 @@ pub(crate) fn deny<W: Write>(
     requires { w.old.calls + left.old < 2 ^ 64 }
     ensures sends { Sends (refusal_text rule None close head_only) (W.contents w.old.inner)
         (W.contents w.new.inner) result }
-    ensures spends { Spends left.old left.new (writes_of w.old) (writes_of w.new) result }
+    ensures spends { SpendsTurns left.old left.new (writes_of w.old) (writes_of w.new) result }
     ensures fewer { OnOk result (left.new < left.old) }
 {
     let reply = denial(rule);
@@ -74,7 +74,7 @@ fn tell_methods<W: Write>(
     requires { w.old.calls + left.old < 2 ^ 64 }
     ensures sends { Sends (refusal_text Rule.H7 (Some methods) close head_only)
         (W.contents w.old.inner) (W.contents w.new.inner) result }
-    ensures spends { Spends left.old left.new (writes_of w.old) (writes_of w.new) result }
+    ensures spends { SpendsTurns left.old left.new (writes_of w.old) (writes_of w.new) result }
     ensures fewer { OnOk result (left.new < left.old) }
 {
     let reply = other_methods(methods);
@@ -96,13 +96,11 @@ fn send_index<W: Write, S: Alter>(
     ensures replied { IsRequestReplied S.Store (limits_of registry.old) request.now close
         (tables_of registry.old) (tables_of registry.new)
         (W.contents w.old.inner) (W.contents w.new.inner) result }
-    ensures spends { Spends left.old left.new (writes_of w.old) (writes_of w.new) result }
+    ensures spends { SpendsTurns left.old left.new (writes_of w.old) (writes_of w.new) result }
     ensures fewer { OnOk result (left.new < left.old) }
     ensures keeps { GoesOn S.Store registry.old registry.new }
 {
     match registry.stream_index(alloc, request, close, w, *left) {
-        // No reply is empty.
-        Ok(0) => Err(StreamFault::Memory),
         Ok(used) => {
             *left -= used;
             Ok(())
@@ -127,7 +125,7 @@ fn send_answer<W: Write, S: Alter>(
     ensures replied { IsRequestReplied S.Store (limits_of registry.old) request.now close
         (tables_of registry.old) (tables_of registry.new)
         (W.contents w.old.inner) (W.contents w.new.inner) result }
-    ensures spends { Spends left.old left.new (writes_of w.old) (writes_of w.new) result }
+    ensures spends { SpendsTurns left.old left.new (writes_of w.old) (writes_of w.new) result }
     ensures fewer { OnOk result (left.new < left.old) }
     ensures keeps { GoesOn S.Store registry.old registry.new }
 {
@@ -150,7 +148,7 @@ fn answer<W: Write, S: Alter>(
     ensures replied { IsRequestReplied S.Store (limits_of registry.old) request.now close
         (tables_of registry.old) (tables_of registry.new)
         (W.contents w.old.inner) (W.contents w.new.inner) result }
-    ensures spends { Spends left.old left.new (writes_of w.old) (writes_of w.new) result }
+    ensures spends { SpendsTurns left.old left.new (writes_of w.old) (writes_of w.new) result }
     ensures fewer { OnOk result (left.new < left.old) }
     ensures keeps { GoesOn S.Store registry.old registry.new }
 {
@@ -171,7 +169,7 @@ fn refuse_route<W: Write>(
     requires { w.old.calls + left.old < 2 ^ 64 }
     ensures sends { Sends (fault_text fault close head_only) (W.contents w.old.inner)
         (W.contents w.new.inner) result }
-    ensures spends { Spends left.old left.new (writes_of w.old) (writes_of w.new) result }
+    ensures spends { SpendsTurns left.old left.new (writes_of w.old) (writes_of w.new) result }
     ensures fewer { OnOk result (left.new < left.old) }
 {
     match fault {
@@ -196,7 +194,7 @@ pub(crate) fn answer_message<W: Write, S: Alter>(
         (limits_of registry.old) f (routing_of f message.now.body.now) message.now.close
         (tables_of registry.old) (tables_of registry.new)
         (W.contents w.old.inner) (W.contents w.new.inner) result }
-    ensures spends { Spends left.old left.new (writes_of w.old) (writes_of w.new) result }
+    ensures spends { SpendsTurns left.old left.new (writes_of w.old) (writes_of w.new) result }
     ensures fewer { OnOk result (left.new < left.old) }
     ensures keeps { GoesOn S.Store registry.old registry.new }
 {

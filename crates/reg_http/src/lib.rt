@@ -4,14 +4,16 @@
 //! ```
 //! let mut reader = Counted::new(input);
 //! let mut writer = Counted::new(Vec::new(alloc));
-//! let replies = serve_stream(alloc, &mut registry, &mut reader, &mut writer)?;
+//! let mut server = Server::new(alloc)?;
+//! let replies = server.serve(alloc, &mut registry, &mut reader, &mut writer)?;
 //! ```
 #![tactic(auto)]
 
 mod answering;
+mod server;
 mod stream;
 
 pub use reg_api_replies::{SendFault, write_reply};
 pub use reg_http_read::{Head, HeadRead, StreamFault, read_head};
 pub use reg_http_routes::{RouteFault, Routes};
-pub use stream::serve_stream;
+pub use server::{Server, serve_stream};

@@ -1,10 +1,10 @@
-//! A stream is served.
+//! The requests of a stream are taken and answered.
 
-ghost use Rattle.std.specs.Prelude.{◌≡◌, ◌+◌, ◌^◌, ◌<◌, ◌≤◌, ◌||◌, ◌==◌, ℕ, [], drop, length, take, IfOk, vec_len};
+ghost use Rattle.std.specs.Prelude.{◌≡◌, ◌+◌, ◌^◌, ◌<◌, ◌≤◌, ◌||◌, ◌==◌, ℕ, [], drop, length, take};
 ghost use Rattle.sqlite.specs.State.{HasCleanDisk};
 ghost use Rattle.reg_http_read.specs.Owned.{facts_owned};
 ghost use Rattle.reg_http_read.specs.Reads.{facts_of};
-ghost use Rattle.reg_http_read.specs.Turns.{Spends, tally};
+ghost use Rattle.reg_http_read.specs.Turns.{SpendsTurns, tally};
 ghost use Rattle.reg_service.specs.Answered.{AreUpToDate, Shows};
 ghost use Rattle.reg_service.specs.Registries.{limits_of, tables_of};
 ghost use Rattle.reg_tables.specs.Works.{shown};
@@ -19,18 +19,8 @@ use reg_http_routes::Routes;
 use reg_service::Registry;
 use reg_service::laws::history_law;
 use sqlite::Alter;
-use std::alloc::{AllocError, Global};
+use std::alloc::Global;
 use std::io::{Read, Write};
-
-/// How many bytes one read asks for.
-const CHUNK: usize = 65_536;
-
-/// Room to read into.
-fn room(alloc: Global) -> Result<Vec<u8>, AllocError>
-    ensures { IfOk result (λ chunk. vec_len chunk ≡ CHUNK) }
-{
-    vec![in alloc; 0; CHUNK]
-}
 
 /// Whether the connection closes after the reply that comes behind so many.
 fn closes(limits: &Limits, close: bool, replies: u64) -> bool
@@ -57,7 +47,7 @@ fn message_of<'h, 'b>(head: &'h OwnedHead, pending: &'b [u8], close: bool) -> Me
 }
 
 /// Answers the requests of a stream, one after another.
-fn serve_requests<R: Read, W: Write, S: Alter>(
+pub(crate) fn serve_requests<R: Read, W: Write, S: Alter>(
     alloc: Global,
     registry: &mut Registry<S>,
     routes: &Routes,
@@ -77,8 +67,9 @@ fn serve_requests<R: Read, W: Write, S: Alter>(
         (tables_of registry.old) (tables_of registry.new)
         (R.remaining r.old.inner) (R.remaining r.new.inner)
         (W.contents w.old.inner) (W.contents w.new.inner) result }
-    ensures spends { (left : ℕ) × Spends (limits_of registry.old).turns left
+    ensures spends { (left : ℕ) × SpendsTurns (limits_of registry.old).turns left
         (tally r.old w.old) (tally r.new w.new) result }
+    ensures chunk { length chunk.new ≡ length chunk.old }
     ensures keeps { GoesOn S.Store registry.old registry.new }
 {
     append_law();
@@ -107,42 +98,4 @@ fn serve_requests<R: Read, W: Write, S: Alter>(
         drop_front(pending, total);
         drop(head);
     }
-}
-
-/// `serve_stream` answers the requests of a stream, one after another, until its input ends or a
-/// reply closes the connection. It answers how many replies it wrote, without interim lines, and
-/// makes at most `turns` read and write calls together.
-pub fn serve_stream<R: Read, W: Write, S: Alter>(
-    alloc: Global,
-    registry: &mut Registry<S>,
-    r: &mut Counted<R>,
-    w: &mut Counted<W>,
-) -> Result<u64, StreamFault>
-    requires tables { AreUpToDate S.Store (tables_of registry.old) }
-    requires reads { r.old.calls + (limits_of registry.old).turns < 2 ^ 64 }
-    requires writes { w.old.calls + (limits_of registry.old).turns < 2 ^ 64 }
-
-    // What was written is what a run of the registry replies to what was read.
-    ensures serves { HasCleanDisk (shown S.Store (tables_of registry.new)) → (s : _)
-        → Shows s (shown S.Store (tables_of registry.old))
-        → Serves S.Store (limits_of registry.old) s
-        (tables_of registry.old) (tables_of registry.new)
-        (R.remaining r.old.inner) (R.remaining r.new.inner)
-        (W.contents w.old.inner) (W.contents w.new.inner) result }
-
-    // Each call was a turn, and a fault has its cause.
-    ensures spends { (left : ℕ) × Spends (limits_of registry.old).turns left
-        (tally r.old w.old) (tally r.new w.new) result }
-
-    ensures keeps { GoesOn S.Store registry.old registry.new }
-{
-    history_law::<S>();
-    let Ok(routes) = Routes::new(alloc) else {
-        return Err(StreamFault::Memory);
-    };
-    let Ok(mut chunk) = room(alloc) else {
-        return Err(StreamFault::Memory);
-    };
-    let mut pending = Vec::new(alloc);
-    serve_requests(alloc, registry, &routes, r, w, &mut chunk, &mut pending)
 }

@@ -3,7 +3,7 @@ use Rattle.std.proofs.Common.{◌≡◌, ◌++◌, ℕ, [], refl, sym, ap, ◌�
 use Rattle.std.proofs.KnownBytes.{Consumes-nil, Consumes-trans}
 use Rattle.reg_model.specs.Registry.{Text}
 use Rattle.reg_http_read.specs.Taking.{Reads}
-use Rattle.reg_http_read.specs.Turns.{Spends, SpendsFor, SpendsSome, Tally}
+use Rattle.reg_http_read.specs.Turns.{Spends, SpendsFor, SpendsSome, SpendsTurns, Tally}
 use Rattle.reg_http_read.specs.declared.fault.StreamFault.{StreamFault}
 use Rattle.reg_http_read.specs.declared.fault.StreamFault.TheVariants.{Memory, ReadFault, StoreFault, TooManyTurns, WriteFault}
 
@@ -60,8 +60,17 @@ module _ (had mid left : ℕ) (s t u : Tally) (first : SpendsSome had mid s t) w
     failed_reads = more.failed_reads ∙ first.failed_reads;
     failed_writes = more.failed_writes ∙ first.failed_writes;
   }
-  spends_for Memory more = spends_some more
+  spends_for Memory more = absurd more
 
-  pub spends_on : {A : Type 0} (r : Result A StreamFault) → Spends mid left t u r → Spends had left s u r
+  pub spends_on : {A : Type 0} (r : Result A StreamFault) → SpendsTurns mid left t u r → SpendsTurns had left s u r
   spends_on (Ok a) more = spends_some more
   spends_on (Err f) more = spends_for f more
+
+-- a stream whose memory was there from the first call on
+pub spends_whole : {A : Type 0} (had left : ℕ) (s t : Tally) (r : Result A StreamFault) → SpendsTurns had left s t r → Spends had left s t r
+spends_whole had left s t (Ok a) it = it
+spends_whole had left s t (Err ReadFault) it = it
+spends_whole had left s t (Err WriteFault) it = it
+spends_whole had left s t (Err StoreFault) it = it
+spends_whole had left s t (Err TooManyTurns) it = it
+spends_whole had left s t (Err Memory) it = absurd it

@@ -7,5 +7,4 @@ pub mod Read
 pub mod Readings
 pub mod Adding
 pub mod Lines
-pub mod Replies
 pub mod Requests

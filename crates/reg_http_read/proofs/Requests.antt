@@ -1,5 +1,5 @@
 -- What is known of a request while its body is read.
-use Rattle.std.proofs.Common.{◌≡◌, ◌≤◌, ◌<◌, ◌+◌, ◌++◌, inl, inr, refl, ap, ◌∙◌, subst, append_assoc, length, sym, [], ◌&&◌, not, Bool, true, false, Option, Some, Ok, Err}
+use Rattle.std.proofs.Common.{arith, ◌≡◌, ◌≤◌, ◌<◌, ◌+◌, ◌++◌, inl, inr, refl, ap, ◌∙◌, subst, append_assoc, length, sym, [], ◌&&◌, not, Bool, true, false, Option, Some, Ok, Err}
 use Rattle.std.specs.Io.KnownBytes.{Appends}
 use Rattle.std.proofs.KnownBytes.{Consumes-trans}
 use Rattle.reg_body.specs.declared.limits.Limits.{Limits}
@@ -11,6 +11,7 @@ use Rattle.reg_http_read.specs.Begun.{IsRefused, interim_if, interim_of, is_head
 use Rattle.reg_http_read.specs.Owned.{facts_owned}
 use Rattle.reg_http_read.specs.Taking.{Awaits, Fills, HasBegun, IsCutOff, IsFound, Reads, Takes}
 use Rattle.reg_http_read.specs.Turns.{Sends}
+use Rattle.reg_http_read.proofs.Following.{head_some, head_within}
 use Rattle.reg_http_read.specs.declared.fault.StreamFault.{StreamFault}
 use Rattle.reg_http_read.specs.declared.fault.StreamFault.TheVariants.{Memory, ReadFault, StoreFault, TooManyTurns, WriteFault}
 use Rattle.reg_http_read.specs.declared.owned.OwnedHead.{OwnedHead}
@@ -26,7 +27,7 @@ HeadsStay = (limits : Limits) (b more : Text) (f : Facts) → IsHeadAt limits b 
 -- there is no room for the head, and nothing was written
 module _ (limits : Limits) (bytes : Text) (f : Facts) (head : IsHeadAt limits bytes f) where
   by_interim : (waits : Bool) → f.interim ≡ waits → (head_only : Bool) → head_only ≡ (not waits && is_head_only f) → IsRefused limits bytes [] rule.S1 head_only
-  by_interim true is head_only told = inr (refl, inl (refl, told))
+  by_interim true is head_only told = inr (refl, inl (omega (arith, head_some limits bytes f head, head_within limits bytes f head), refl, told))
   by_interim false is head_only told = inr (refl, inr (f, head, ap interim_if (sym is), told))
 
   pub no_room_kept : (head_only : Bool) → head_only ≡ (not f.interim && is_head_only f) → IsRefused limits bytes [] rule.S1 head_only

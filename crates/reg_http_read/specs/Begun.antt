@@ -30,10 +30,11 @@ IsBegun limits rest more =
     ⊎ ((f : Facts) × IsHeadAt limits rest f × (length rest < f.len + f.body_len)
     × (more ≡ interim_of f))
 
--- Memory was refused while a request was read: before its head was seen, or after.
+-- Memory was refused while a request was read: once something of it came and before its head was
+-- seen, or after.
 abbrev pub HasNoRoom : Limits → Text → Text → Bool → Type 0
 HasNoRoom limits rest more head_only =
-    ((more ≡ []) × (head_only ≡ false))
+    ((0 < length rest) × (more ≡ []) × (head_only ≡ false))
     ⊎ ((f : Facts) × IsHeadAt limits rest f × (more ≡ interim_of f) × (head_only ≡ is_head_only f))
 
 -- The rest is refused and the connection closes: for the rule that its head breaks, or for want of

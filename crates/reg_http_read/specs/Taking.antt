@@ -40,7 +40,7 @@ module _ (r0 r1 : Option Text) (was now : Text) where
   abbrev pub IsPiece : Result Piece StreamFault → Type 0
   IsPiece (Ok piece.End) = Reads (λ rest. now ≡ rest) × IsAtEnd r1 × (now ≡ was)
   IsPiece (Ok piece.More) = Reads (λ rest. now ≡ rest)
-  IsPiece (Ok piece.NoMemory) = Reads (λ rest. ⊤)
+  IsPiece (Ok piece.NoMemory) = Reads (λ rest. 0 < length rest)
   IsPiece (Err ReadFault) = Reads (λ rest. now ≡ rest) × (now ≡ was)
   IsPiece (Err TooManyTurns) = Reads (λ rest. now ≡ rest) × (now ≡ was)
   IsPiece (Err fault) = ⊥
@@ -49,7 +49,7 @@ module _ (r0 r1 : Option Text) (was now : Text) where
   abbrev pub IsLine : Limits → Result Piece StreamFault → Type 0
   IsLine limits (Ok piece.End) = Reads (λ rest. IsUnfinished limits rest) × IsAtEnd r1
   IsLine limits (Ok piece.More) = Reads (λ rest. now ≡ rest)
-  IsLine limits (Ok piece.NoMemory) = Reads (λ rest. ⊤)
+  IsLine limits (Ok piece.NoMemory) = Reads (λ rest. 0 < length rest)
   IsLine limits (Err ReadFault) = Reads (λ rest. IsUnfinished limits rest)
   IsLine limits (Err TooManyTurns) = Reads (λ rest. IsUnfinished limits rest)
   IsLine limits (Err fault) = ⊥

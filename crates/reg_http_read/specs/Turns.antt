@@ -68,18 +68,23 @@ module _ (had left : ℕ) (old new : Tally) where
     pub failed_reads : new.failed_reads ≡ old.failed_reads
     pub failed_writes : new.failed_writes ≡ old.failed_writes
 
-  -- a fault comes only of its cause
+  -- a fault comes only of its cause; no read and no write stops for want of memory
   abbrev pub SpendsFor : StreamFault → Type 0
   SpendsFor ReadFault = SpendsUntil 1 0
   SpendsFor WriteFault = SpendsUntil 0 1
   SpendsFor StoreFault = SpendsBegun
   SpendsFor TooManyTurns = SpendsAll
-  SpendsFor Memory = SpendsSome
+  SpendsFor Memory = ⊥
 
   -- what a call did with the turns
+  abbrev pub SpendsTurns : {A : Type 0} → Result A StreamFault → Type 0
+  SpendsTurns (Ok a) = SpendsSome
+  SpendsTurns (Err fault) = SpendsFor fault
+
+  -- what a whole stream did with them: where memory was refused, no call was made
   abbrev pub Spends : {A : Type 0} → Result A StreamFault → Type 0
-  Spends (Ok a) = SpendsSome
-  Spends (Err fault) = SpendsFor fault
+  Spends (Err Memory) = new ≡ old
+  Spends r = SpendsTurns r
 
 module _ (text : Text) (old new : Option Text) where
   -- what sending a text did to what a writer holds: a front was sent where it stopped

@@ -1,6 +1,6 @@
 //! The head at the front of a stream.
 
-ghost use Rattle.std.specs.Prelude.{◌≡◌, IfOk};
+ghost use Rattle.std.specs.Prelude.{◌≡◌, ◌<◌, length, IfOk, OnErr};
 ghost use Rattle.reg_http_read.specs.Fronts.{IsUnjudged};
 ghost use Rattle.reg_http_read.specs.Begun.{is_head_only};
 ghost use Rattle.reg_http_read.specs.Reads.{IsRead, facts_of};
@@ -64,7 +64,10 @@ pub fn read_head<'b>(
     bytes: &'b [u8],
     limits: &Limits,
 ) -> Result<HeadRead<'b>, AllocError>
-    ensures { IfOk result (IsRead limits.now bytes.now) }
+    ensures read { IfOk result (IsRead limits.now bytes.now) }
+
+    // No bytes need no memory.
+    ensures some { OnErr result (0 < length bytes.now) }
 {
     let (within, _) = bytes.split_at(bytes.len().min(limits.head as usize));
     let end = last_line(within);

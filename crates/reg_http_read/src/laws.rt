@@ -1,10 +1,11 @@
 //! What holds of heads, whatever the code.
 //! The functions do nothing: their contracts are the laws.
 
-ghost use Rattle.std.specs.Prelude.{◌≡◌, ◌<◌, ◌≤◌, ◌++◌, Bool, length, take};
+ghost use Rattle.std.specs.Prelude.{◌≡◌, ◌<◌, ◌≤◌, ◌++◌, [], Bool, length, take};
 ghost use Rattle.reg_body.specs.declared.limits.Limits.{Limits};
 ghost use Rattle.reg_model.specs.Registry.{Text};
 ghost use Rattle.reg_model.specs.declared.rule.Rule.{Rule};
+ghost use Rattle.reg_http_read.specs.Begun.{IsRefused};
 ghost use Rattle.reg_http_read.specs.Heads.{Facts, IsHeadAt, IsRefusedAt, IsUnfinished, greatest_body};
 
 /// A head is in the bytes, it is not empty, and its body is at most the greatest.
@@ -24,6 +25,12 @@ pub fn append_law()
         → IsHeadAt limits (take f.len b) f }
     ensures refused { (limits : Limits) (b more : Text) (r : Rule) (head_only : Bool)
         → IsRefusedAt limits b r head_only → IsRefusedAt limits (b ++ more) r head_only }
+{}
+
+/// Nothing is refused where nothing came, unless no head may have a byte.
+pub fn quiet_law()
+    ensures { (limits : Limits) (more : Text) (r : Rule) (head_only : Bool) → 0 < limits.head
+        → IsRefused limits [] more r head_only → ⊥ }
 {}
 
 /// The bytes begin with one head at most.

@@ -3,7 +3,7 @@
 ghost use Rattle.std.specs.Prelude.{◌≡◌, ◌+◌, ◌^◌, ◌<◌, ◌≤◌, length, drop, vec_len, OnOk, IsFalse};
 ghost use Rattle.reg_http_read.specs.Heads.{IsUnfinished};
 ghost use Rattle.reg_http_read.specs.Taking.{HasNoLine, IsLine, IsPiece};
-ghost use Rattle.reg_http_read.specs.Turns.{Spends, reads_of};
+ghost use Rattle.reg_http_read.specs.Turns.{SpendsTurns, reads_of};
 
 use crate::fault::StreamFault;
 use memchr::memchr;
@@ -32,7 +32,7 @@ pub(crate) fn read_piece<R: Read>(
     requires some { 0 < length chunk.old }
     ensures piece { IsPiece (R.remaining r.old.inner) (R.remaining r.new.inner)
         pending.old.items pending.new.items result }
-    ensures spends { Spends left.old left.new (reads_of r.old) (reads_of r.new) result }
+    ensures spends { SpendsTurns left.old left.new (reads_of r.old) (reads_of r.new) result }
     ensures grows { length pending.old.items ≤ length pending.new.items }
     ensures fewer { OnOk result (left.new < left.old) }
     ensures chunk { length chunk.new ≡ length chunk.old }
@@ -72,7 +72,7 @@ pub(crate) fn read_line<R: Read>(
     requires begun { IsUnfinished limits.now pending.old.items }
     ensures line { IsLine (R.remaining r.old.inner) (R.remaining r.new.inner)
         pending.old.items pending.new.items limits.now result }
-    ensures spends { Spends left.old left.new (reads_of r.old) (reads_of r.new) result }
+    ensures spends { SpendsTurns left.old left.new (reads_of r.old) (reads_of r.new) result }
     ensures fewer { OnOk result (left.new < left.old) }
     ensures chunk { length chunk.new ≡ length chunk.old }
 {

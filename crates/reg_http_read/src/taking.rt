@@ -1,11 +1,11 @@
 //! A request is taken from a stream: its head, its interim line, its body.
 
-ghost use Rattle.std.specs.Prelude.{◌≡◌, ◌+◌, ◌^◌, ◌<◌, ◌≤◌, ◌&&◌, not, IfOk, Some, length};
+ghost use Rattle.std.specs.Prelude.{◌≡◌, ◌+◌, ◌^◌, ◌<◌, ◌≤◌, ◌&&◌, not, IfOk, OnErr, Some, length};
 ghost use Rattle.reg_http_read.specs.Begun.{interim_if, is_head_only};
 ghost use Rattle.reg_http_read.specs.Heads.{IsHeadAt};
 ghost use Rattle.reg_http_read.specs.Reads.{facts_of};
 ghost use Rattle.reg_http_read.specs.Taking.{Awaits, Fills, IsFound, Takes};
-ghost use Rattle.reg_http_read.specs.Turns.{Sends, Spends, reads_of, tally, writes_of};
+ghost use Rattle.reg_http_read.specs.Turns.{Sends, SpendsTurns, reads_of, tally, writes_of};
 
 use crate::fault::StreamFault;
 use crate::head::{Head, HeadRead, read_head};
@@ -69,7 +69,8 @@ fn kept(alloc: Global, head: &Head<'_>) -> Awaited
 
 /// The head at the front of what waits, or why it is refused; none where more is waited for.
 fn find_head(alloc: Global, pending: &[u8], limits: &Limits) -> Result<Option<Awaited>, AllocError>
-    ensures { IfOk result (IsFound limits.now pending.now) }
+    ensures found { IfOk result (IsFound limits.now pending.now) }
+    ensures some { OnErr result (0 < length pending.now) }
 {
     match read_head(alloc, pending, limits)? {
         HeadRead::More => Ok(None),
@@ -91,7 +92,7 @@ fn await_head<R: Read>(
     requires some { 0 < length chunk.old }
     ensures awaits { Awaits (R.remaining r.old.inner) (R.remaining r.new.inner)
         pending.old.items pending.new.items limits.now result }
-    ensures spends { Spends left.old left.new (reads_of r.old) (reads_of r.new) result }
+    ensures spends { SpendsTurns left.old left.new (reads_of r.old) (reads_of r.new) result }
     ensures chunk { length chunk.new ≡ length chunk.old }
 {
     'judged: loop {
@@ -122,7 +123,7 @@ fn await_rest<R: Read>(
     requires head { len ≤ length pending.old.items }
     ensures fills { Fills (R.remaining r.old.inner) (R.remaining r.new.inner)
         pending.old.items pending.new.items (len + body_len) result }
-    ensures spends { Spends left.old left.new (reads_of r.old) (reads_of r.new) result }
+    ensures spends { SpendsTurns left.old left.new (reads_of r.old) (reads_of r.new) result }
     ensures chunk { length chunk.new ≡ length chunk.old }
 {
     let missing = body_len.saturating_sub((pending.len() - len) as u64);
@@ -144,7 +145,7 @@ fn ask_on<W: Write>(w: &mut Counted<W>, interim: bool, left: &mut u64) -> Result
     requires { w.old.calls + left.old < 2 ^ 64 }
     ensures sends { Sends (interim_if interim) (W.contents w.old.inner) (W.contents w.new.inner)
         result }
-    ensures spends { Spends left.old left.new (writes_of w.old) (writes_of w.new) result }
+    ensures spends { SpendsTurns left.old left.new (writes_of w.old) (writes_of w.new) result }
 {
     if !interim {
         return Ok(());
@@ -168,7 +169,7 @@ pub fn take_request<R: Read, W: Write>(
     ensures takes { Takes (R.remaining r.old.inner) (R.remaining r.new.inner)
         pending.old.items pending.new.items (W.contents w.old.inner) (W.contents w.new.inner)
         limits.now result }
-    ensures spends { Spends left.old left.new (tally r.old w.old) (tally r.new w.new) result }
+    ensures spends { SpendsTurns left.old left.new (tally r.old w.old) (tally r.new w.new) result }
     ensures chunk { length chunk.new ≡ length chunk.old }
 {
     bounds_law();

@@ -1,5 +1,6 @@
 -- What the ends of a transaction make of an event.
 use Rattle.std.proofs.Common.{◌≡◌, ◌⊎◌, inl, inr, false, refl, sym, ap, subst, ◌∙◌, arith, IsTrue}
+use Rattle.std.proofs.lemmas.Bool.{false≢true}
 use Rattle.sqlite.specs.Tree.{Trees}
 use Rattle.sqlite.specs.Effect.{Database}
 use Rattle.sqlite_trees.specs.declared.store.Store.{Ghosts}
@@ -14,7 +15,7 @@ use Rattle.reg_tables_schema.specs.States.{IsUndone, LeavesCommit, Refuses}
 use Rattle.reg_tables_meaning.specs.Stands.{Stands}
 use Rattle.reg_tables.specs.Ends.{Begins, IsCommitted, IsDropped, IsRefused, SeesAll}
 use Rattle.reg_tables.specs.Looks.{Looks}
-use Rattle.reg_tables.specs.Works.{AreOurs, IsLeft, has_failed, held, rows_seen, seen, shown}
+use Rattle.reg_tables.specs.Works.{AreOurs, IsLeft, has_failed, is_shut, held, rows_seen, seen, shown}
 use Rattle.reg_tables.specs.declared.tables.Tables.{Tables}
 use Rattle.reg_tables.specs.declared.work.Work.{Work}
 use Rattle.reg_service.specs.Answered.{Answers, Are, LeavesAlone, Shows, Stays}
@@ -42,11 +43,12 @@ module _ {S : Type 0} (g : Ghosts S) (limits : Limits) (s : Registry) (e : Event
     shows = still left (left.refused clean);
     kept = inl room;
     left = λ db l. elim (left.survives.crash clean db l) [ inl was ↦ inl was | inr none ↦ absurd none ];
+    shut = λ was. (room, left.shut ∙ was);
   }
 
   -- all is as it was
-  pub stayed : Step limits s e a s → Stays g s old new → Answers g limits s e a old new
-  stayed step stays = record { after = s; step = step; shows = stays.shows; kept = inr stays.alone; left = λ db l. inl (stays.left db l) }
+  pub stayed : is_shut old ≡ false → Step limits s e a s → Stays g s old new → Answers g limits s e a old new
+  stayed goes_on step stays = record { after = s; step = step; shows = stays.shows; kept = inr stays.alone; left = λ db l. inl (stays.left db l); shut = λ was. absurd (false≢true (sym goes_on ∙ was)) }
 
   -- the tables were only looked at, after all stayed as it was
   pub left_on : (was : Tables S) → Stays g s was old → IsLeft g old new → Stays g s was new
@@ -90,6 +92,7 @@ module _ {S : Type 0} (g : Ghosts S) (limits : Limits) (s : Registry) (e : Event
           shows = λ up. subst (λ (d : Database). Are t d.trees) (sym shows.now_is) known;
           kept = inr leaves;
           left = λ db l. inr (inl (has sees).0, leaves db l);
+          shut = λ was. absurd (false≢true (sym b.was_open ∙ was));
         }
 
     pub not_committed : (Are s (rows_seen g begun) → Stands (outcome limits s e).1 (rows_seen g done)) → a ≡ no_room e → IsRefused g done new
@@ -102,6 +105,7 @@ module _ {S : Type 0} (g : Ghosts S) (limits : Limits) (s : Registry) (e : Event
           shows = shows_undone (end.undone clean);
           kept = inl room;
           left = λ db l. elim (survives.crash clean db l) [ inl at ↦ inl (before db at) | inr (whole, same) ↦ inr (inr (end.shut whole), subst (λ (trees : Trees). Stands t trees) (sym same) (has sees)) ];
+          shut = λ was. absurd (false≢true (sym b.was_open ∙ was));
         }
 
     pub dropped_so : IsDropped g done new → (IsTrue (shown g old).is_open → LeavesCommit (shown g old)) → Stays g s old new
@@ -115,8 +119,8 @@ module _ {S : Type 0} (g : Ghosts S) (limits : Limits) (s : Registry) (e : Event
         }
 
     pub dropped : (Are s (rows_seen g begun) → Step limits s e a s) → IsDropped g done new → (IsTrue (shown g old).is_open → LeavesCommit (shown g old)) → Answers g limits s e a old new
-    dropped refuses end alone = stayed (refuses sees) (dropped_so end alone)
+    dropped refuses end alone = stayed b.was_open (refuses sees) (dropped_so end alone)
 
 -- nothing was called
 pub untouched : {S : Type 0} (g : Ghosts S) (limits : Limits) (s : Registry) (e : Event) (a : Answer) (t : Tables S) → Shows s (shown g t) → a ≡ no_room e → Answers g limits s e a t t
-untouched g limits s e a t h room = record { after = s; step = inr (room, refl); shows = h; kept = inl room; left = λ db l. inl l }
+untouched g limits s e a t h room = record { after = s; step = inr (room, refl); shows = h; kept = inl room; left = λ db l. inl l; shut = λ was. (room, was) }

@@ -1,5 +1,5 @@
 -- One more event behind a run.
-use Rattle.std.proofs.Common.{◌≡◌, ◌++◌, ◌+◌, ◌<◌, ◌⊎◌, ℕ, suc, arith, get_or, inl, inr, length, List, [], ◌∷◌, take, refl, sym, ap, subst, ◌∙◌}
+use Rattle.std.proofs.Common.{◌≡◌, ◌++◌, ◌+◌, ◌<◌, ◌⊎◌, ℕ, true, suc, arith, get_or, inl, inr, length, List, [], ◌∷◌, take, refl, sym, ap, subst, ◌∙◌}
 use Rattle.std.proofs.Math.Seq.{take-suc}
 use Rattle.std.proofs.lemmas.List.{append-nil, append_assoc}
 use Rattle.sqlite.specs.Tree.{Trees}
@@ -11,7 +11,7 @@ use Rattle.reg_model.specs.Registry.{Registry}
 use Rattle.reg_model.specs.Steps.{IsFit, Run, no_room, outcome}
 use Rattle.reg_tables_meaning.specs.Stands.{Stands}
 use Rattle.reg_tables.specs.declared.tables.Tables.{Tables}
-use Rattle.reg_tables.specs.Works.{shown}
+use Rattle.reg_tables.specs.Works.{is_shut, shown}
 use Rattle.std.specs.Prelude.{Result}
 use Rattle.sqlite.specs.State.{HasCleanDisk}
 use Rattle.reg_model.specs.Events.Event.{Order}
@@ -77,13 +77,14 @@ module _ {S : Type 0} (g : Ghosts S) (limits : Limits) (c : Call) (old new : Tab
   told_command command it same is = subst (λ x. IsTold g limits x (Obeyed it) old new) (sym same) (λ clean s h. (reply_of it, refl, is clean s h))
 
 module _ {S : Type 0} (g : Ghosts S) (limits : Limits) (s : Registry) (entry : Tables S) (sounds : RunsKeepSound) (grows : StemsGrow) where
-  ran : (es : List Event) (xs : List Answer) (t : Registry) (new : Tables S) → Run limits s es xs t → Shows t (shown g new) → ((db : Trees) → (shown g new).may_leave db → ((shown g entry).may_leave db × AreNoRoom es xs) ⊎ ((m : Registry) × Stands m db × MayBeLeft limits s es xs m)) → Ran g limits s entry es xs t new
-  ran es xs t new run shows left = record {
+  ran : (es : List Event) (xs : List Answer) (t : Registry) (new : Tables S) → Run limits s es xs t → Shows t (shown g new) → ((db : Trees) → (shown g new).may_leave db → ((shown g entry).may_leave db × AreNoRoom es xs) ⊎ ((m : Registry) × Stands m db × MayBeLeft limits s es xs m)) → (is_shut entry ≡ true → AreNoRoom es xs × (is_shut new ≡ true)) → Ran g limits s entry es xs t new
+  ran es xs t new run shows left shut = record {
     run = run;
     sound = λ h. sounds limits s t es xs h run;
     grows = grows limits s t es xs run;
     shows = shows;
     left = left;
+    shut = shut;
   }
 
   -- what a stop leaves that is the state after all events
@@ -103,7 +104,7 @@ module _ {S : Type 0} (g : Ghosts S) (limits : Limits) (s : Registry) (entry : T
 
   -- no event yet
   pub ran_nothing : Shows s (shown g entry) → Ran g limits s entry [] [] s entry
-  ran_nothing shows = ran [] [] s entry refl shows (λ db l. inl (l, tt))
+  ran_nothing shows = ran [] [] s entry refl shows (λ db l. inl (l, tt)) (λ was. (tt, was))
 
   -- there was no room for any event
   none_left : (es : List Event) (xs : List Answer) → AreNoRoom es xs → MayBeLeft limits s es xs s
@@ -162,7 +163,9 @@ module _ {S : Type 0} (g : Ghosts S) (limits : Limits) (s : Registry) (entry : T
     ]
 
     pub ran_on : Ran g limits s entry (es ++ e ∷ []) (xs ++ a ∷ []) it.after new
-    ran_on = ran (es ++ e ∷ []) (xs ++ a ∷ []) it.after new run_on it.shows left_on
+    ran_on =
+        ran (es ++ e ∷ []) (xs ++ a ∷ []) it.after new run_on it.shows left_on
+        (λ was. let (none, still) = so_far.shut was in let (room, stays) = it.shut still in (no_room_on es xs e a none room, stays))
 
   -- no call yet
   pub answered_nothing : Shows s (shown g entry) → HasAnswered g limits s entry [] [] entry

@@ -70,8 +70,8 @@ module _ {S : Type 0} (g : Ghosts S) (limits : Limits) (s : Registry) (digest : 
       let are = frame.sees g limits s (Ask digest asked) o old at ours h early begun done b looks mid in
       let is = serves are.0 s are.1 in
       elim (seeks kept.shows) [
-        | inl none ↦ subst (λ r. RepliesTo g limits s digest asked r old new) (sym none) (o, refl, frame.stayed g limits s (Ask digest asked) o old new ours h clean (inr (refl, refl)) on)
-        | inr says ↦ (served s (Some id) asked, says, frame.stayed g limits s (Ask digest asked) (served s (Some id) asked) old new ours h clean (inl (ap (λ (it : Outcome). it.0) (sym is), ap (λ (it : Outcome). it.1) (sym is))) on)
+        | inl none ↦ subst (λ r. RepliesTo g limits s digest asked r old new) (sym none) (o, refl, frame.stayed g limits s (Ask digest asked) o old new ours h clean b.was_open (inr (refl, refl)) on)
+        | inr says ↦ (served s (Some id) asked, says, frame.stayed g limits s (Ask digest asked) (served s (Some id) asked) old new ours h clean b.was_open (inl (ap (λ (it : Outcome). it.0) (sym is), ap (λ (it : Outcome). it.1) (sym is))) on)
       ]
 
 -- nothing was called, for want of memory

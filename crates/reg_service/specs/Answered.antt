@@ -39,7 +39,8 @@ pub record Stays {S : Type 0} (g : Ghosts S) (s : Registry) (old new : Tables S)
 
 -- The event was answered so, by a step from the registry that was held to one that is held now.
 -- What was answered is kept through a stop. What had no room leaves a stop what it could leave
--- before, or, where the commit was refused, the whole change.
+-- before, or, where the commit was refused, the whole change. Where a commit was refused before,
+-- there is no room, and it stays so.
 pub record Answers {S : Type 0} (g : Ghosts S) (limits : Limits) (s : Registry) (e : Event)
     (a : Answer) (old new : Tables S) : Type 0 where
   pub after : Registry
@@ -49,6 +50,7 @@ pub record Answers {S : Type 0} (g : Ghosts S) (limits : Limits) (s : Registry) 
   pub left : (db : Trees) → (shown g new).may_leave db → (shown g old).may_leave db
       ⊎ (((a ≡ (outcome limits s e).0) ⊎ (is_shut new ≡ true))
       × Stands (outcome limits s e).1 db)
+  pub shut : is_shut old ≡ true → (a ≡ no_room e) × (is_shut new ≡ true)
 
 -- whatever registry the tables held, the event is answered so
 abbrev pub IsAnswered : {S : Type 0} → Ghosts S → Limits → Event → Answer → Tables S → Tables S

@@ -1,5 +1,5 @@
 -- Requests and commands, one after another, and what a stop leaves at their end.
-use Rattle.std.specs.Prelude.{◌≡◌, ◌⊎◌, ◌++◌, ℕ, List, [], ◌∷◌, take}
+use Rattle.std.specs.Prelude.{◌≡◌, ◌⊎◌, ◌++◌, ℕ, true, List, [], ◌∷◌, take}
 use Rattle.sqlite.specs.State.{HasCleanDisk}
 use Rattle.sqlite.specs.Tree.{Trees}
 use Rattle.sqlite_trees.specs.declared.store.Store.{Ghosts}
@@ -20,7 +20,7 @@ use Rattle.reg_api_requests.specs.Requests.{request_of}
 use Rattle.reg_api_requests.specs.Views.{event_of}
 use Rattle.reg_tables_meaning.specs.Stands.{Stands}
 use Rattle.reg_tables.specs.declared.tables.Tables.{Tables}
-use Rattle.reg_tables.specs.Works.{shown}
+use Rattle.reg_tables.specs.Works.{is_shut, shown}
 use Rattle.reg_service.specs.Answered.{Answers, Shows}
 use Rattle.reg_service.specs.declared.sequences.Call.{Call}
 use Rattle.reg_service.specs.declared.sequences.Call.TheVariants.{Request, Command as Commanded}
@@ -89,7 +89,8 @@ pub record MayBeLeft (limits : Limits) (s : model.Registry) (es : List Event) (x
 
 -- The events are a run of the registry that was held on entry, and its end is held now: that is
 -- sound, and no index file of it lost a line. A stop leaves what the run allows; or, where there
--- was no room for any event, what it could leave on entry.
+-- was no room for any event, what it could leave on entry. Where a commit was refused before, there
+-- is no room for any event, and it stays so.
 pub record Ran {S : Type 0} (g : Ghosts S) (limits : Limits) (s : model.Registry)
     (entry : Tables S) (es : List Event) (xs : List Answer) (t : model.Registry) (new : Tables S)
     : Type 0 where
@@ -100,6 +101,7 @@ pub record Ran {S : Type 0} (g : Ghosts S) (limits : Limits) (s : model.Registry
   pub left : (db : Trees) → (shown g new).may_leave db
       → ((shown g entry).may_leave db × AreNoRoom es xs)
       ⊎ ((m : model.Registry) × Stands m db × MayBeLeft limits s es xs m)
+  pub shut : is_shut entry ≡ true → AreNoRoom es xs × (is_shut new ≡ true)
 
 -- the calls are told the answers of a run
 abbrev pub HasAnswered : {S : Type 0} → Ghosts S → Limits → model.Registry → Tables S → List Call

@@ -1,11 +1,11 @@
 -- Index files, answered as they are sent.
-use Rattle.std.specs.Prelude.{◌≡◌, ◌<◌, ℕ, true, Bool, IsTrue, Option, Result, Ok, Err}
+use Rattle.std.specs.Prelude.{◌≡◌, ◌<◌, ℕ, true, false, Bool, IsTrue, Option, Result, Ok, Err}
 use Rattle.sqlite.specs.State.{HasCleanDisk}
 use Rattle.sqlite_trees.specs.declared.store.Store.{Ghosts}
 use Rattle.reg_body.specs.declared.limits.Limits.{Limits}
 use Rattle.reg_model.specs.declared.rule.Rule.TheVariants.{S1}
 use Rattle.reg_model.specs.Events.{Answer, Asked}
-use Rattle.reg_model.specs.Events.Answer.{Denied}
+use Rattle.reg_model.specs.Events.Answer.{Denied, File}
 use Rattle.reg_model.specs.Events.Asked.{Index as to_index}
 use Rattle.reg_model.specs.Events.Event.{Ask}
 use Rattle.reg_model.specs.Registry.{Registry, Text}
@@ -29,11 +29,23 @@ abbrev pub AsksForFile : ApiCall → Type 0
 AsksForFile (Index path) = Unit {0}
 AsksForFile _ = ⊥
 
+-- the answer is an index file
+abbrev pub IsFileAnswer : Answer → Type 0
+IsFileAnswer (File text) = Unit {0}
+IsFileAnswer _ = ⊥
+
+-- The text of the answer was sent, or a front of it. Where the store broke it off, the answer is an
+-- index file: no denial is broken off.
+pub record SendsAnswer (asked : Asked) (a : Answer) (close : Bool) (r : Result ℕ IndexFault)
+    (writes : ℕ) (before after : Sink) : Type 0 where
+  pub sends : Streams r (answer_text asked a close) writes before after
+  pub of_file : r ≡ Err Store → IsFileAnswer a
+
 -- the event is answered so, and the text of the answer was sent
 abbrev pub StreamsTo : {S : Type 0} → Ghosts S → Limits → Registry → Option Text → Asked → Bool
     → Result ℕ IndexFault → ℕ → Tables S → Tables S → Sink → Sink → Type 0
 StreamsTo g limits s digest asked close r writes old new before after =
-    (a : Answer) × Streams r (answer_text asked a close) writes before after
+    (a : Answer) × SendsAnswer asked a close r writes before after
     × Answers g limits s (Ask digest asked) a old new
 
 -- it is so whatever registry the tables held
@@ -58,6 +70,7 @@ pub record LeavesStream {S : Type 0} (g : Ghosts S) (close : Bool) (r : Result �
 pub record WasDecided {S : Type 0} (g : Ghosts S) (digest : Option Text) (path : Text)
     (d : Decided) (old new : Tables S) : Type 0 where
   pub is_open : IsTrue (shown g old).is_open
+  pub goes_on : is_shut old ≡ false
   pub decides : Decides digest path (shown g old).now.trees d
   pub same : IsTrue (shown g new).is_open → (shown g new).now ≡ (shown g old).now
   pub stays : (s : Registry) → Shows s (shown g old) → Stays g s old new

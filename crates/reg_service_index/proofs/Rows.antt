@@ -52,7 +52,7 @@ lines_more rows it =
     sym (lines_both rows (columns_of_stem it ∷ []) ∙ ap (λ l. lines_in rows ++ l) (append-nil (line_of (entry_in (columns_of_stem it))) ∙ ap line_of (entry_back it.stem.items it.yanked)))
 
 -- what a writer's fault leaves, as it is told
-stop_is_break : (f : SendFault) (text : Text) (writes : ℕ) (s t : Sink) → IsStopped f text writes s t → IsBroken (fault_of f) text writes s t
+pub stop_is_break : (f : SendFault) (text : Text) (writes : ℕ) (s t : Sink) → IsStopped f text writes s t → IsBroken (fault_of f) text writes s t
 stop_is_break Write text writes s t h = h
 stop_is_break Spent text writes s t h = h
 

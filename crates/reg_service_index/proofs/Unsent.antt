@@ -1,5 +1,5 @@
 -- Replies where nothing was sent before, and files that were.
-use Rattle.std.proofs.Common.{◌≡◌, ◌⊎◌, ◌<◌, ℕ, zero, suc, ◌+◌, List, [], ◌∷◌, ◌++◌, Bool, Ok, Err, Result, inl, inr, refl, sym, ap, subst, ◌∙◌, arith, append-nil, append_assoc}
+use Rattle.std.proofs.Common.{◌≡◌, ◌⊎◌, ◌<◌, ℕ, zero, suc, ◌+◌, List, [], ◌∷◌, ◌++◌, Bool, false, None, Ok, Err, Result, inl, inr, refl, sym, ap, subst, ◌∙◌, arith, append-nil, append_assoc}
 use Rattle.std.specs.Io.KnownBytes.{Appends}
 use Rattle.std.proofs.KnownBytes.{Appends-trans}
 use Rattle.sqlite.specs.Held.{Held, state}
@@ -7,20 +7,24 @@ use Rattle.sqlite.specs.Order.{Row}
 use Rattle.sqlite.specs.State.{HasCleanDisk}
 use Rattle.sqlite_trees.specs.declared.store.Store.{Ghosts}
 use Rattle.reg_model.specs.Registry.{Text}
-use Rattle.reg_api_replies.specs.Sent.{AppendsFront, SendsAll, Sink}
-use Rattle.reg_api_replies.specs.Texts.{file_head}
+use Rattle.reg_model.specs.declared.rule.Rule.{Rule}
+use Rattle.reg_api_replies.specs.Sent.{AppendsFront, IsStopped, SendsAll, Sink}
+use Rattle.reg_api_replies.specs.Texts.{file_head, refusal_text}
+use Rattle.reg_api_replies.specs.declared.head.Kind.TheVariants as kind
+use Rattle.reg_api_replies.specs.declared.reply.Reply.TheVariants.{Denied}
+use Rattle.reg_api_replies.proofs.Some.{head_some, reply_some}
 use Rattle.reg_tables.specs.declared.tables.Tables.{Tables}
 use Rattle.reg_tables.specs.Works.{held}
 use Rattle.reg_api_replies.proofs.Joined.{stopped_first}
 use Rattle.reg_api_replies.specs.declared.bytes.SendFault.{SendFault}
 use Rattle.reg_api_replies.specs.declared.bytes.SendFault.TheVariants as send
-use Rattle.reg_service_index.specs.Files.{BeginsFile, IsUnsent, SendsFile, SendsRows, rows_text}
+use Rattle.reg_service_index.specs.Files.{BeginsFile, IsUnsent, SendsDenial, SendsFile, SendsRows, SendsSome, rows_text}
 use Rattle.reg_service_index.specs.Lines.{lines_in}
 use Rattle.reg_service_index.specs.Streams.{BreaksOff, IsBroken, Streams, fault_of}
 use Rattle.reg_service_index.specs.declared.fault.IndexFault.{IndexFault}
 use Rattle.reg_service_index.specs.declared.fault.IndexFault.TheVariants.{Spent, Store, Write}
 use Rattle.reg_service_index.specs.declared.found.FoundFile.{FoundFile}
-use Rattle.reg_service_index.proofs.Rows.{lines_both}
+use Rattle.reg_service_index.proofs.Rows.{lines_both, stop_is_break}
 
 -- a longer text
 
@@ -97,6 +101,12 @@ pub streams_then : (r : Result ℕ IndexFault) (text : Text) (writes : ℕ) (s t
 streams_then (Ok used) text writes s t u x y = all_then text writes used s t u x y
 streams_then (Err f) text writes s t u x y = broken_then f text writes s t u x y
 
+pub denial_then : (broken : Rule) (close : Bool) (r : Result ℕ IndexFault) (writes : ℕ) (s t u : Sink) → IsSameSink s t → SendsDenial broken close r writes t u → SendsDenial broken close r writes s u
+denial_then broken close r writes s t u x y = record { sends = streams_then r (refusal_text broken None close false) writes s t u x y.sends; never = y.never }
+
+pub some_then : (r : Result ℕ IndexFault) (writes : ℕ) (s t u : Sink) → IsSameSink s t → SendsSome r writes t u → SendsSome r writes s u
+some_then r writes s t u x (text, some, sends) = (text, some, streams_then r text writes s t u x sends)
+
 pub broken_at : (r : Result ℕ IndexFault) (text : Text) (writes : ℕ) (s t : Sink) → r ≡ Err Store → Streams r text writes s t → BreaksOff text writes s t
 broken_at r text writes s t e h = subst (λ x. Streams x text writes s t) e h
 
@@ -127,3 +137,17 @@ module _ {S : Type 0} (g : Ghosts S) (f : FoundFile) (close : Bool) (writes : �
 pub writer_fault : (f : SendFault) → let r : Result ℕ IndexFault = Err (fault_of f) in ¬ (r ≡ Err Store)
 writer_fault send.Write e = cc
 writer_fault send.Spent e = cc
+
+-- a refusal is stopped by the writer alone
+pub denial_stopped : (broken : Rule) (close : Bool) (f : SendFault) (writes : ℕ) (s t : Sink) → IsStopped f (refusal_text broken None close false) writes s t → SendsDenial broken close (Err (fault_of f)) writes s t
+denial_stopped broken close f writes s t h = record { sends = stop_is_break f (refusal_text broken None close false) writes s t h; never = writer_fault f }
+
+pub denial_whole : (broken : Rule) (close : Bool) (used writes : ℕ) (s t : Sink) → SendsAll (refusal_text broken None close false) writes used s t → SendsDenial broken close (Ok used) writes s t
+denial_whole broken close used writes s t h = record { sends = h; never = λ e. cc }
+
+-- no refusal is empty, and no file with its head
+pub denial_some : (broken : Rule) (close : Bool) (r : Result ℕ IndexFault) (writes : ℕ) (s t : Sink) → SendsDenial broken close r writes s t → SendsSome r writes s t
+denial_some broken close r writes s t h = (refusal_text broken None close false, reply_some (Denied broken) close false, h.sends)
+
+pub rows_some : (f : FoundFile) (close : Bool) (r : Result ℕ IndexFault) (writes : ℕ) (rows : List Row) (s t : Sink) → Streams r (rows_text f close rows) writes s t → SendsSome r writes s t
+rows_some f close r writes rows s t h = (rows_text f close rows, head_some 200 kind.Text None f.length close (lines_in rows), h)

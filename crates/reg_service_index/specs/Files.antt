@@ -1,9 +1,10 @@
 -- What sending the index file of a crate did.
-use Rattle.std.specs.Prelude.{◌≡◌, ◌⊎◌, ◌++◌, ℕ, Bool, false, IsTrue, List, [], None, Result, Err, OnOk}
+use Rattle.std.specs.Prelude.{◌≡◌, ◌⊎◌, ◌<◌, ◌++◌, ℕ, length, Bool, false, IsTrue, List, [], None, Result, Err, OnOk}
 use Rattle.sqlite.specs.Held.{Held, state}
 use Rattle.sqlite.specs.Order.{Row}
 use Rattle.sqlite.specs.State.{HasCleanDisk}
 use Rattle.sqlite_trees.specs.declared.store.Store.{Ghosts}
+use Rattle.reg_model.specs.declared.rule.Rule.{Rule}
 use Rattle.reg_model.specs.declared.rule.Rule.TheVariants as rule
 use Rattle.reg_model.specs.Registry.{Text}
 use Rattle.reg_tables_schema.specs.Statements.{rows_in}
@@ -42,10 +43,16 @@ pub record SendsRows {S : Type 0} (g : Ghosts S) (f : FoundFile) (close : Bool)
   pub sends : Streams r (rows_text f close rows) writes old new
   pub begins : HasCleanDisk (state g left) → IsUnsent r old new ⊎ BeginsFile g f.crate_id r db rows
 
+-- A refusal for the rule was sent, or a front of it where the writer failed or the calls were used
+-- up. Whatever the store does, it does not break off.
+pub record SendsDenial (broken : Rule) (close : Bool) (r : Result ℕ IndexFault) (writes : ℕ)
+    (old new : Sink) : Type 0 where
+  pub sends : Streams r (refusal_text broken None close false) writes old new
+  pub never : ¬ (r ≡ Err Store)
+
 -- the reply where the store failed before
 abbrev pub SendsNoRoom : Bool → Result ℕ IndexFault → ℕ → Sink → Sink → Type 0
-SendsNoRoom close r writes old new =
-    Streams r (refusal_text rule.S1 None close false) writes old new
+SendsNoRoom close r writes old new = SendsDenial rule.S1 close r writes old new
 
 -- the rows of the file were sent behind the head
 pub record SendsFile {S : Type 0} (g : Ghosts S) (f : FoundFile) (close : Bool)
@@ -55,6 +62,6 @@ pub record SendsFile {S : Type 0} (g : Ghosts S) (f : FoundFile) (close : Bool)
   pub are : AreStemsOf f.crate_id (shown g db).now.trees rows
   pub sends : Streams r (rows_text f close rows) writes old new
 
--- a text was sent, whatever the disk
+-- a text was sent that is not empty, whatever the disk
 abbrev pub SendsSome : Result ℕ IndexFault → ℕ → Sink → Sink → Type 0
-SendsSome r writes old new = (text : Text) × Streams r text writes old new
+SendsSome r writes old new = (text : Text) × (0 < length text) × Streams r text writes old new

@@ -1,13 +1,11 @@
 //! The reply to a request for an index file, once it is decided.
 
-ghost use Rattle.std.specs.Prelude.{◌≡◌, ◌+◌, ◌^◌, ◌<◌, ◌⊎◌, None, false, Err, MatchBool};
+ghost use Rattle.std.specs.Prelude.{◌≡◌, ◌+◌, ◌^◌, ◌<◌, ◌⊎◌, Err, MatchBool};
 ghost use Rattle.sqlite.specs.State.{HasCleanDisk};
 ghost use Rattle.reg_api_replies.specs.Sent.{sink};
-ghost use Rattle.reg_api_replies.specs.Texts.{refusal_text};
 ghost use Rattle.reg_tables_meaning.specs.Walks.{IsRead};
 ghost use Rattle.reg_tables.specs.Works.{AreOurs, IsLeft, edition_in, held, is_shut, shown};
-ghost use Rattle.reg_service_index.specs.Files.{IsUnsent, SendsFile, SendsNoRoom, SendsRows, SendsSome};
-ghost use Rattle.reg_service_index.specs.Streams.{Streams};
+ghost use Rattle.reg_service_index.specs.Files.{IsUnsent, SendsDenial, SendsFile, SendsNoRoom, SendsRows, SendsSome};
 
 use crate::fault::IndexFault;
 use crate::files::send_rows;
@@ -27,9 +25,10 @@ pub fn refuse<W: Write>(
     writes: u64,
 ) -> Result<u64, IndexFault>
     requires { w.old.calls + writes < 2 ^ 64 }
-    ensures sends { Streams result (refusal_text rule None close false) writes
-        (sink (W.contents w.old.inner) w.old) (sink (W.contents w.new.inner) w.new) }
-    ensures never { ¬ (result ≡ Err IndexFault.Store) }
+    ensures denies { SendsDenial rule close result writes (sink (W.contents w.old.inner) w.old)
+        (sink (W.contents w.new.inner) w.new) }
+    ensures some { SendsSome result writes (sink (W.contents w.old.inner) w.old)
+        (sink (W.contents w.new.inner) w.new) }
 {
     let used = write_reply(w, &Reply::Denied(rule), close, false, writes)?;
     Ok(used)

@@ -1,8 +1,8 @@
-use Rattle.std.proofs.Common.{◌<◌, arith, refl, ◌≡◌}
+use Rattle.std.proofs.Common.{arith, refl}
 use Rattle.std.specs.Option.{option_map}
 use Rattle.reg_api_replies.specs.Sent.{sink}
 use Rattle.reg_service.specs.Registries.{limits_of, tables_of}
-use Rattle.reg_http.proofs.Outcomes.{file_broken, file_failed, file_sent, file_some, file_spent, none_below}
+use Rattle.reg_http.proofs.Outcomes.{file_broken, file_failed, file_sent, file_spent}
 use Rattle.reg_http.proofs.answering.send_index.Goals as goal
 
 pub returns-in-Ok-clause-replied : goal.returns-in-Ok-clause-replied
@@ -30,19 +30,10 @@ returns-in-Err-Store-clause-replied g c f same clean s shows =
     ((rw c.in-Err-Store.field-0-is at c.in-Err-Store.ensures.leaves).begun refl)
     (rw c.in-Err-Store.field-0-is at c.in-Err-Store.ensures.streams clean s shows)
 
-pub returns-in-Ok-eq0-clause-replied : goal.returns-in-Ok-eq0-clause-replied
-returns-in-Ok-eq0-clause-replied g c f same clean s shows =
-    let used = c.in-Ok-eq0.field-0 in
-    let some : 0 < used = file_some g.S.Store (limits_of c.args.registry.now) s f (option_map (λ t. t.now) c.args.request.now.token) same c.args.request.now.call c.requires.file c.args.close (tables_of c.args.registry.now) (tables_of c.stream_index.new.self) c.args.left.now
-    (sink (g.W.Write.contents c.args.w.now.inner) c.args.w.now) (sink (g.W.Write.contents c.stream_index.new.writer.inner) c.stream_index.new.writer)
-    used (rw c.in-Ok-eq0.is at c.stream_index.ensures.streams clean s shows) in
-    let none : used ≡ 0 = c.in-Ok-eq0.field-0-test in
-    absurd (none_below used none some)
-
 pub returns-in-Err-Store-clause-spends : goal.returns-in-Err-Store-clause-spends
 returns-in-Err-Store-clause-spends g c =
     let leaves = rw c.in-Err-Store.field-0-is at c.in-Err-Store.ensures.leaves in
-    let (text, sends) = leaves.some in
+    let (text, some, sends) = leaves.some in
     record {
       turns = omega (arith, sends.sends.calls, sends.sends.within);
       begun = leaves.begun refl;

@@ -18,8 +18,8 @@ unjudged-requires-in-More c =
     (lines_within c.args.limits.now.head c.min.result c.last_line-end.result c.args.bytes.now c.min.ensures lines.last)
     judged.0 judged.1
 
-pub returns-in_default : goal.returns-in_default
-returns-in_default c =
+pub returns-in_default-clause-read : goal.returns-in_default-clause-read
+returns-in_default-clause-read c =
     let some : 0 < c.last_line-end.result = omega arith in
     let lines = rw c.split_at.ensures.front at c.last_line-end.ensures in
     let judged = rw c.split_at-2.ensures.front at c.in_ok-read.ensures in

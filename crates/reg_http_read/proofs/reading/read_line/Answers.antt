@@ -1,4 +1,4 @@
-use Rattle.std.proofs.Common.{◌≡◌, arith, ◌∙◌}
+use Rattle.std.proofs.Common.{◌≡◌, ◌<◌, arith, length, ◌∙◌}
 use Rattle.reg_http_read.proofs.Adding.{reads_on, spends_some}
 use Rattle.reg_http_read.proofs.Lines.{still_begun}
 use Rattle.reg_http_read.specs.Turns.{reads_of}
@@ -9,7 +9,7 @@ returns-in-NoMemory-clause-line g c =
     let p = rw c.in-NoMemory.is at c.in_ok-read_piece.ensures.piece in
     let read = g.R.Read.remaining in
     reads_on (read c.args.r.now.inner) (read c.pieces.r.inner) (read c.read_piece.new.r.inner) c.args.pending.now.items c.pieces.pending.items c.read_piece.new.pending.items
-    (λ rest. Unit {0}) c.pieces.invariant.reads p
+    (λ rest. 0 < length rest) c.pieces.invariant.reads p
 
 pub pieces-preserved : goal.pieces-preserved
 pieces-preserved g c =

@@ -1,5 +1,5 @@
 use Rattle.std.proofs.Common.{arith}
-use Rattle.reg_http_read.proofs.Replies.{reply_some}
+use Rattle.reg_api_replies.proofs.Some.{reply_some}
 use Rattle.reg_http_read.proofs.turns.send_reply.Goals as goal
 
 pub returns-in-Ok-clause-some : goal.returns-in-Ok-clause-some

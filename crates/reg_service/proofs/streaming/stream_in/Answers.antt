@@ -8,7 +8,7 @@ use Rattle.reg_service.proofs.streaming.stream_in.Goals as goal
 pub returns-in-Ok-Denied-clause-streams : goal.returns-in-Ok-Denied-clause-streams
 returns-in-Ok-Denied-clause-streams g c limits clean s h =
     let was = rw c.in-Ok-Denied.field-0-is at c.in-Ok-Denied.ensures.decided limits clean in
-    denial_sent g.S.Store limits (option_map (λ d. d.now) c.args.digest) c.args.path.now c.args.tables.now c.requires.tables.ours c.args.close c.refuse.result c.args.writes _ _ c.decide_in.new.tables c.in-Ok-Denied.rule was c.refuse.ensures.sends clean s h
+    denial_sent g.S.Store limits (option_map (λ d. d.now) c.args.digest) c.args.path.now c.args.tables.now c.requires.tables.ours c.args.close c.refuse.result c.args.writes _ _ c.decide_in.new.tables c.in-Ok-Denied.rule was c.refuse.ensures.denies clean s h
 
 pub returns-in-Ok-Found-clause-streams : goal.returns-in-Ok-Found-clause-streams
 returns-in-Ok-Found-clause-streams g c limits clean s h =
@@ -19,4 +19,4 @@ returns-in-Ok-Found-clause-streams g c limits clean s h =
 
 pub returns-in-Err-clause-streams : goal.returns-in-Err-clause-streams
 returns-in-Err-clause-streams g c limits clean s h =
-    no_room_sent g.S.Store limits (option_map (λ d. d.now) c.args.digest) c.args.path.now c.args.tables.now c.requires.tables.ours c.args.close c.refuse-in-Err.result c.args.writes _ _ c.decide_in.new.tables c.in-Err.field-0 (c.in-Err.ensures.decided limits) c.refuse-in-Err.ensures.sends clean s h
+    no_room_sent g.S.Store limits (option_map (λ d. d.now) c.args.digest) c.args.path.now c.args.tables.now c.requires.tables.ours c.args.close c.refuse-in-Err.result c.args.writes _ _ c.decide_in.new.tables c.in-Err.field-0 (c.in-Err.ensures.decided limits) c.refuse-in-Err.ensures.denies clean s h

@@ -7,8 +7,8 @@ returns-in-Index-clause-streams g c =
 
 pub returns-in_default : goal.returns-in_default
 returns-in_default g c =
-    let sends = c.refuse.ensures.sends in
+    let sends = c.refuse.ensures.denies in
     record {
       streams = λ limits clean s h. untouched_sent g.S.Store c.args.close c.refuse.result c.args.writes _ _ c.args.tables.now sends limits c.args.parts.now.digest c.args.parts.now.asked s h;
-      leaves = untouched_leaves g.S.Store c.args.close c.refuse.result c.args.writes _ _ c.args.tables.now sends c.requires.tables c.refuse.ensures.never;
+      leaves = untouched_leaves g.S.Store c.args.close c.refuse.result c.args.writes _ _ c.args.tables.now sends c.requires.tables c.refuse.ensures.some;
     }

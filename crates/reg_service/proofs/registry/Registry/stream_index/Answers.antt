@@ -21,8 +21,8 @@ returns-in-Ok-clause-streams g c =
 pub returns-in-Err-clause-streams : goal.returns-in-Err-clause-streams
 returns-in-Err-clause-streams g c clean s h =
     let asks = request_of (limits_of c.args.self.now) c.args.request.now in
-    untouched_sent g.S.Store c.args.close c.refuse.result c.args.writes _ _ (tables_of c.args.self.now) c.refuse.ensures.sends (limits_of c.args.self.now) asks.digest asks.asked s h
+    untouched_sent g.S.Store c.args.close c.refuse.result c.args.writes _ _ (tables_of c.args.self.now) c.refuse.ensures.denies (limits_of c.args.self.now) asks.digest asks.asked s h
 
 pub returns-in-Err-clause-leaves : goal.returns-in-Err-clause-leaves
 returns-in-Err-clause-leaves g c =
-    untouched_leaves g.S.Store c.args.close c.refuse.result c.args.writes _ _ (tables_of c.args.self.now) c.refuse.ensures.sends c.requires.tables c.refuse.ensures.never
+    untouched_leaves g.S.Store c.args.close c.refuse.result c.args.writes _ _ (tables_of c.args.self.now) c.refuse.ensures.denies c.requires.tables c.refuse.ensures.some

@@ -1,0 +1,114 @@
+//! Streams are served.
+
+ghost use Rattle.std.specs.Prelude.{◌+◌, ◌^◌, ◌<◌, ℕ, vec_len};
+ghost use Rattle.sqlite.specs.State.{HasCleanDisk};
+ghost use Rattle.reg_http_read.specs.Turns.{Spends, SpendsTurns, tally};
+ghost use Rattle.reg_service.specs.Answered.{AreUpToDate, Shows};
+ghost use Rattle.reg_service.specs.Registries.{limits_of, tables_of};
+ghost use Rattle.reg_tables.specs.Works.{shown};
+ghost use Rattle.reg_http.specs.Answering.{GoesOn};
+ghost use Rattle.reg_http.specs.Streams.{Serves};
+
+use crate::stream::serve_requests;
+use reg_body::Counted;
+use reg_http_read::StreamFault;
+use reg_http_routes::Routes;
+use reg_service::Registry;
+use reg_service::laws::history_law;
+use sqlite::Alter;
+use std::alloc::{AllocError, Global};
+use std::io::{Read, Write};
+
+/// How many bytes one read asks for.
+const CHUNK: usize = 65_536;
+
+/// What is made once and lent to each connection: the table of routes, and the buffer that is read
+/// into.
+#[derive(Drop)]
+pub struct Server {
+    routes: Routes,
+    chunk: Vec<u8>,
+    ghost some: { 0 < vec_len chunk },
+}
+
+impl Server {
+    /// `new` makes it, before the first connection.
+    pub fn new(alloc: Global) -> Result<Server, AllocError> {
+        Ok(Server {
+            routes: Routes::new(alloc)?,
+            chunk: vec![in alloc; 0; CHUNK]?,
+        })
+    }
+
+    /// `serve` answers the requests of a stream, one after another, until its input ends or a reply
+    /// closes the connection. It answers how many replies it wrote, without interim lines, and
+    /// makes at most `turns` read and write calls together. It never answers `Memory`.
+    pub fn serve<R: Read, W: Write, S: Alter>(
+        &mut self,
+        alloc: Global,
+        registry: &mut Registry<S>,
+        r: &mut Counted<R>,
+        w: &mut Counted<W>,
+    ) -> Result<u64, StreamFault>
+        requires tables { AreUpToDate S.Store (tables_of registry.old) }
+        requires reads { r.old.calls + (limits_of registry.old).turns < 2 ^ 64 }
+        requires writes { w.old.calls + (limits_of registry.old).turns < 2 ^ 64 }
+
+        // What was written is what a run of the registry replies to what was read.
+        ensures serves { HasCleanDisk (shown S.Store (tables_of registry.new)) → (s : _)
+            → Shows s (shown S.Store (tables_of registry.old))
+            → Serves S.Store (limits_of registry.old) s
+            (tables_of registry.old) (tables_of registry.new)
+            (R.remaining r.old.inner) (R.remaining r.new.inner)
+            (W.contents w.old.inner) (W.contents w.new.inner) result }
+
+        // Each call was a turn, and a fault has its cause, which is not want of memory.
+        ensures spends { (left : ℕ) × SpendsTurns (limits_of registry.old).turns left
+            (tally r.old w.old) (tally r.new w.new) result }
+
+        ensures keeps { GoesOn S.Store registry.old registry.new }
+    {
+        let mut pending = Vec::new(alloc);
+        serve_requests(
+            alloc,
+            registry,
+            &self.routes,
+            r,
+            w,
+            &mut self.chunk,
+            &mut pending,
+        )
+    }
+}
+
+/// `serve_stream` serves one stream, as `Server::serve` does, with a `Server` of its own.
+pub fn serve_stream<R: Read, W: Write, S: Alter>(
+    alloc: Global,
+    registry: &mut Registry<S>,
+    r: &mut Counted<R>,
+    w: &mut Counted<W>,
+) -> Result<u64, StreamFault>
+    requires tables { AreUpToDate S.Store (tables_of registry.old) }
+    requires reads { r.old.calls + (limits_of registry.old).turns < 2 ^ 64 }
+    requires writes { w.old.calls + (limits_of registry.old).turns < 2 ^ 64 }
+
+    // What was written is what a run of the registry replies to what was read.
+    ensures serves { HasCleanDisk (shown S.Store (tables_of registry.new)) → (s : _)
+        → Shows s (shown S.Store (tables_of registry.old))
+        → Serves S.Store (limits_of registry.old) s
+        (tables_of registry.old) (tables_of registry.new)
+        (R.remaining r.old.inner) (R.remaining r.new.inner)
+        (W.contents w.old.inner) (W.contents w.new.inner) result }
+
+    // Each call was a turn, and a fault has its cause: want of memory came before the first call.
+    ensures spends { (left : ℕ) × Spends (limits_of registry.old).turns left
+        (tally r.old w.old) (tally r.new w.new) result }
+
+    ensures keeps { GoesOn S.Store registry.old registry.new }
+{
+    history_law::<S>();
+    let Ok(mut server) = Server::new(alloc) else {
+        return Err(StreamFault::Memory);
+    };
+    server.serve(alloc, registry, r, w)
+}
