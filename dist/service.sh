@@ -117,7 +117,7 @@ start_service() {
         sleep 0.2
     done
     started_again=yes
-    say "the registry was away for $((SECONDS - since)) seconds"
+    say "the registry was away for $((SECONDS - since)) s"
 }
 
 # finish: the end, however it comes.
