@@ -47,7 +47,8 @@ Exit status: 0 done, 1 refused, 2 bad use, 3 a fault of storage or of the servic
 END
 }
 
-# can_work: root or the service's user runs this, the program is there, and no one else is at it.
+# can_work: root or the service's user runs this, the program is there, and no other command is at
+# work.
 can_work() {
     [ -x "$cli" ] || give_up 3 "no program at $cli"
     id "$user" > /dev/null 2>&1 || give_up 3 "no user $user on this machine"
@@ -74,8 +75,8 @@ as_service() {
 
 has_systemd() { [ -d /run/systemd/system ]; }
 
-# stop_service: stops the server, if it runs or has failed. One that was stopped before stays so
-# afterwards.
+# stop_service: stops the server, if it runs or has failed. A server that was not running stays
+# stopped afterwards.
 stop_service() {
     if [ -n "$stop_command" ]; then
         stopped=$SECONDS
@@ -96,8 +97,8 @@ has_failed() {
 }
 
 # start_service: starts the server again, if it was stopped here, waits until it listens, and tells
-# how long it was away. Meanwhile it checks its whole file. It is started apart from the terminal,
-# whose signals may be what ended the script.
+# how long it was away. Meanwhile the server checks its whole file. It is started apart from the
+# terminal, whose signals may be what ended the script.
 start_service() {
     local since=$stopped deadline
     [ -n "$since" ] || return 0
