@@ -1,16 +1,12 @@
 -- Files that are written into a folder, and their paths.
-use Rattle.std.specs.Prelude.{◌≡◌, ◌⊎◌, ◌++◌, ⊤, ℕ, List, [], ◌∷◌, codes, map, Option, Some, None, option_map, unwrap_or, String, Vec}
+use Rattle.std.specs.Prelude.{◌≡◌, ◌⊎◌, ◌++◌, ⊤, ℕ, List, [], ◌∷◌, codes, map, Option, Some, None, String, Vec}
 use Rattle.std.specs.declared.alloc.Global.{Global}
-use Rattle.std.specs.Path.{rsplit_once, slash}
 use Rattle.reg_model.specs.Registry.{Text}
 use Rattle.reg_service_requests.specs.Exported.{texts_of}
 use Rattle.reg_cli_line.specs.declared.exit.Exit.{Exit}
 use Rattle.reg_cli_pipe.specs.Exits.{EndsWith}
 
--- what stands before the last slash; empty where there is none
-abbrev pub folder_of : Text → Text
-folder_of path = unwrap_or (option_map (λ parts. parts.0) (rsplit_once slash path)) []
-
+-- what stands at a path in a folder
 abbrev pub joined : Text → Text → Text
 joined folder path = folder ++ (codes "/" ++ path)
 

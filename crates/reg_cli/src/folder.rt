@@ -2,9 +2,10 @@
 
 ghost use Rattle.std.specs.Prelude.{◌≡◌, IfOk, OnOk, Option, List, None, string_bytes};
 ghost use Rattle.reg_model.specs.Registry.{Text};
-ghost use Rattle.reg_cli.specs.Folders.{Gains, folder_of, joined};
+ghost use Rattle.reg_cli.specs.Folders.{Gains, joined};
 
 use std::alloc::{AllocError, Global};
+use std::path::Path;
 use std::{fs, io};
 
 /// A folder that files are written into.
@@ -15,16 +16,6 @@ pub(crate) trait Folder {
     /// Writes a file at a path below the folder, and makes the folders that are missing.
     fn write_file(&mut self, path: &str, bytes: &[u8]) -> io::Result<()>
         ensures { OnOk result (Gains (files self.old) (files self.new) path.now bytes.now) };
-}
-
-/// The folder of a file's path; empty where it has none.
-fn folder_of(path: &str) -> &str
-    ensures { result.now ≡ folder_of path.now }
-{
-    match path.rsplit_once('/') {
-        Some((folder, _)) => folder,
-        None => "",
-    }
 }
 
 /// The path of what stands at `path` in the folder.
@@ -49,9 +40,10 @@ impl<'a> FolderAt<'a> {
 
 impl Folder for FolderAt<'_> {
     fn write_file(&mut self, path: &str, bytes: &[u8]) -> io::Result<()> {
-        let parent = join_path(self.rt.alloc(), self.path, folder_of(path))?;
-        fs::create_dir_all(self.rt, parent.as_str())?;
         let whole = join_path(self.rt.alloc(), self.path, path)?;
+        if let Some(parent) = Path::new(whole.as_str()).parent() {
+            fs::create_dir_all(self.rt, parent)?;
+        }
         fs::write(self.rt, whole.as_str(), bytes)
     }
 }

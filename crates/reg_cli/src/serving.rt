@@ -15,7 +15,7 @@ use clap::ArgMatches;
 use reg_body::{Counted, Limits};
 use reg_cli_line::Exit;
 use reg_cli_pipe::run_pipe;
-use reg_http::serve_stream;
+use reg_http::Server;
 use reg_service::Registry;
 use sqlite::{Alter, Connection};
 use std::alloc::Global;
@@ -105,7 +105,12 @@ pub(crate) fn init(rt: &HostRuntime, words: &ArgMatches<'_>) -> Exit {
 }
 
 /// Serves one connection. A stream that fails ends its connection alone.
-fn serve_connection<S: Alter>(alloc: Global, registry: &mut Registry<S>, stream: &TcpStream)
+fn serve_connection<S: Alter>(
+    alloc: Global,
+    server: &mut Server,
+    registry: &mut Registry<S>,
+    stream: &TcpStream,
+)
     requires tables { AreUpToDate S.Store (tables_of registry.old) }
     requires turns { HasTurns (limits_of registry.old) }
     ensures tables { AreUpToDate S.Store (tables_of registry.new) }
@@ -113,13 +118,14 @@ fn serve_connection<S: Alter>(alloc: Global, registry: &mut Registry<S>, stream:
 {
     let mut reader = Counted::new(stream);
     let mut writer = Counted::new(stream);
-    let _ = serve_stream(alloc, registry, &mut reader, &mut writer);
+    let _ = server.serve(alloc, registry, &mut reader, &mut writer);
 }
 
 /// Serves connections, one after another, until so many are served or a commit is refused: then the
 /// registry answers nothing more, and its store has to be opened again.
 fn serve_connections<S: Alter>(
     alloc: Global,
+    server: &mut Server,
     registry: &mut Registry<S>,
     door: &mut Door,
     left: &mut u64,
@@ -135,7 +141,7 @@ fn serve_connections<S: Alter>(
     'connections: while *left > 0 {
         let stream = door.accept()?;
         *left -= 1;
-        serve_connection(alloc, registry, &stream);
+        serve_connection(alloc, server, registry, &stream);
         if registry.has_stopped() {
             return Ok(());
         }
@@ -143,9 +149,28 @@ fn serve_connections<S: Alter>(
     Ok(())
 }
 
-/// Opens the file, listens if that was not done before, serves connections, and closes the file.
+/// Listens, if that was not done before, and serves connections.
+fn serve_door<S: Alter>(
+    rt: &HostRuntime,
+    server: &mut Server,
+    registry: &mut Registry<S>,
+    door: &mut Door,
+    left: &mut u64,
+) -> Result<(), Exit>
+    requires tables { AreUpToDate S.Store (tables_of registry.old) }
+    requires turns { HasTurns (limits_of registry.old) }
+    requires room { door.old.accepted + left.old < 2 ^ 64 }
+    ensures counts { door.new.accepted + left.new ≡ door.old.accepted + left.old }
+    ensures fewer { OnOk result (0 < left.new → left.new < left.old) }
+{
+    door.open(rt)?;
+    serve_connections(rt.alloc(), server, registry, door, left)
+}
+
+/// Opens the file, serves connections, and closes the file.
 fn serve_opening(
     rt: &HostRuntime,
+    server: &mut Server,
     file: &str,
     limits: Limits,
     door: &mut Door,
@@ -153,15 +178,11 @@ fn serve_opening(
 ) -> Result<(), Exit>
     requires turns { HasTurns limits }
     requires room { door.old.accepted + left.old < 2 ^ 64 }
-    ensures counts { OnOk result (door.new.accepted + left.new ≡ door.old.accepted + left.old) }
+    ensures counts { door.new.accepted + left.new ≡ door.old.accepted + left.old }
     ensures fewer { OnOk result (0 < left.new → left.new < left.old) }
 {
     let mut registry = open(rt.alloc(), connect(rt, file)?, limits)?;
-    let opened = door.open(rt);
-    let served = match opened {
-        Ok(()) => serve_connections(rt.alloc(), &mut registry, door, left),
-        Err(exit) => Err(exit),
-    };
+    let served = serve_door(rt, server, &mut registry, door, left);
     let _ = registry.into_connection().close();
     served
 }
@@ -169,10 +190,20 @@ fn serve_opening(
 /// Serves as many connections as are told. After a refused commit the file is opened again before
 /// the next connection; where that is refused the run ends.
 fn serve_file(rt: &HostRuntime, file: &str, service: &Service) -> Result<(), Exit> {
+    let Ok(mut server) = Server::new(rt.alloc()) else {
+        return Err(Exit::MEMORY);
+    };
     let mut door = Door::at(service.port);
     let mut left = service.connections;
     'openings: loop {
-        serve_opening(rt, file, service.limits(), &mut door, &mut left)?;
+        serve_opening(
+            rt,
+            &mut server,
+            file,
+            service.limits(),
+            &mut door,
+            &mut left,
+        )?;
         if left == 0 {
             return Ok(());
         }

@@ -1,0 +1,140 @@
+# What registry-admin, registry-backup and registry-restore share: the settings, and a service that
+# is stopped for a while and started again whatever happens.
+#
+# shellcheck shell=bash
+
+# The settings: each is a variable of the environment, and these are what the package installs.
+cli=${REGISTRY_CLI:-/usr/bin/registry_cli}
+db=${REGISTRY_DB:-/var/lib/registry/team.db}
+user=${REGISTRY_USER:-registry}
+unit=${REGISTRY_UNIT:-registry.service}
+port=${REGISTRY_PORT:-8080}
+patience=${REGISTRY_WAIT:-120}
+lock=${REGISTRY_LOCK:-/run/registry-admin.lock}
+# Where systemd does not run, these two are commands that stop and start the server.
+stop_command=${REGISTRY_STOP:-}
+start_command=${REGISTRY_START:-}
+
+me=$(basename "$0")
+stopped=
+started_again=yes
+
+say() { echo "$me: $*" >&2; }
+
+# give_up STATUS TEXT: the script ends. 1 is refused, 2 is bad use, 3 is a fault.
+give_up() {
+    local status=$1
+    shift
+    say "$*"
+    exit "$status"
+}
+bad_use() { give_up 2 "$* (see $me -h)"; }
+
+# settings_help: what help says of the settings.
+settings_help() {
+    cat << END
+Settings, from the environment:
+  REGISTRY_DB     the registry's file          ($db)
+  REGISTRY_CLI    the program                  ($cli)
+  REGISTRY_USER   the service's user           ($user)
+  REGISTRY_UNIT   the unit of systemd          ($unit)
+  REGISTRY_PORT   the port that it listens on  ($port)
+  REGISTRY_WAIT   seconds to wait until it listens again  ($patience)
+  REGISTRY_STOP, REGISTRY_START
+                  commands that stop and start the server where systemd does not run
+
+Exit status: 0 done, 1 refused, 2 bad use, 3 a fault of storage or of the service.
+END
+}
+
+# can_work: root or the service's user runs this, the program is there, and no other command is at
+# work.
+can_work() {
+    [ -x "$cli" ] || give_up 3 "no program at $cli"
+    id "$user" > /dev/null 2>&1 || give_up 3 "no user $user on this machine"
+    [ "$(id -u)" = 0 ] || [ "$(id -un)" = "$user" ] || give_up 3 "run it as root"
+    umask 077
+    exec 9> "$lock" || give_up 3 "can't write $lock"
+    flock -w "$patience" 9 || give_up 3 "another command has held $lock for $patience seconds"
+}
+
+# as_service COMMAND ARGUMENT..: runs it as the service's user, so that each file that it makes is
+# that user's. It does not inherit the lock.
+as_service() {
+    if [ "$(id -un)" = "$user" ]; then
+        "$@" 9>&-
+    elif command -v setpriv > /dev/null; then
+        setpriv --reuid "$user" --regid "$(id -g "$user")" --init-groups -- "$@" 9>&-
+    elif command -v runuser > /dev/null; then
+        runuser -u "$user" -- "$@" 9>&-
+    else
+        # shellcheck disable=SC2016 # the inner shell expands it
+        su -s /bin/sh -c 'exec "$0" "$@"' -- "$user" "$@" 9>&-
+    fi
+}
+
+has_systemd() { [ -d /run/systemd/system ]; }
+
+# stop_service: stops the server, if it runs or has failed. A server that was not running stays
+# stopped afterwards.
+stop_service() {
+    if [ -n "$stop_command" ]; then
+        stopped=$SECONDS
+        bash -c "$stop_command" >&2 9>&- || give_up 3 "REGISTRY_STOP failed: $stop_command"
+    elif has_systemd; then
+        [ "$(systemctl is-active "$unit")" != inactive ] || return 0
+        stopped=$SECONDS
+        systemctl stop "$unit" || give_up 3 "can't stop $unit"
+    fi
+}
+
+# is_listening: the server accepts connections.
+is_listening() {
+    timeout 5 bash -c "exec 3<> /dev/tcp/127.0.0.1/$port" 2> /dev/null
+}
+has_failed() {
+    [ -z "$start_command" ] && has_systemd && systemctl is-failed --quiet "$unit"
+}
+
+# start_service: starts the server again, if it was stopped here, waits until it listens, and tells
+# how long it was away. Meanwhile the server checks its whole file. It is started apart from the
+# terminal, whose signals may be what ended the script.
+start_service() {
+    local since=$stopped deadline
+    [ -n "$since" ] || return 0
+    stopped=
+    started_again=
+    if [ -n "$start_command" ]; then
+        setsid --wait bash -c "$start_command" >&2 9>&- || return 0
+    else
+        systemctl reset-failed "$unit" 2> /dev/null
+        setsid --wait systemctl start "$unit" || return 0
+    fi
+    deadline=$((SECONDS + patience))
+    until is_listening; do
+        if has_failed || [ $SECONDS -ge $deadline ]; then
+            return 0
+        fi
+        sleep 0.2
+    done
+    started_again=yes
+    say "the registry was away for $((SECONDS - since)) s"
+}
+
+# finish: the end, however it comes.
+finish() {
+    local status=$?
+    trap : INT TERM HUP
+    start_service
+    if [ -z "$started_again" ]; then
+        say "the registry does not listen on port $port yet: see journalctl -u $unit"
+        [ "$status" != 0 ] || status=3
+    fi
+    clean_up
+    exit "$status"
+}
+# clean_up: a script that makes files for a while has one of its own.
+clean_up() { :; }
+
+trap finish EXIT
+trap 'exit 3' INT TERM HUP
