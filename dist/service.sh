@@ -40,6 +40,7 @@ Settings, from the environment:
   REGISTRY_UNIT   the unit of systemd          ($unit)
   REGISTRY_PORT   the port that it listens on  ($port)
   REGISTRY_WAIT   seconds to wait until it listens again  ($patience)
+  REGISTRY_LOCK   the file that keeps two commands apart  ($lock)
   REGISTRY_STOP, REGISTRY_START
                   commands that stop and start the server where systemd does not run
 

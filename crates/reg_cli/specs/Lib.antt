@@ -1,7 +1,6 @@
 pub mod Exits
 pub mod Folders
 pub mod Limited
-pub mod Meanings
 pub mod Printing
 pub mod Services
 pub mod Setups

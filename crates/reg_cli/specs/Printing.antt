@@ -1,5 +1,5 @@
 -- What is printed, and how a run ends by it.
-use Rattle.std.specs.Prelude.{◌≡◌, ◌++◌, ◌^◌, ◌*◌, ℕ, [], codes, decimal, Option, Some, None, Result, Ok, Err, string_bytes}
+use Rattle.std.specs.Prelude.{◌≡◌, ◌++◌, ℕ, [], codes, decimal, Option, Some, None, Result, Ok, Err, string_bytes}
 use Rattle.sqlite_trees.specs.declared.store.Store.{Ghosts}
 use Rattle.reg_body.specs.declared.limits.Limits.{Limits}
 use Rattle.reg_api_replies.specs.Sent.{Sends, Sink}

@@ -1,5 +1,5 @@
--- What `serve` is told, and what serving its connections comes to.
-use Rattle.std.specs.Prelude.{◌≡◌, ◌⊎◌, ◌^◌, ◌+◌, ◌<◌, ◌==◌, ℕ, codes, if◌then◌else◌, true, Option, Some, None, option_and_then, option_map, unwrap_or, Result, Ok, Err}
+-- What `serve` is told.
+use Rattle.std.specs.Prelude.{◌^◌, ◌==◌, ℕ, codes, if◌then◌else◌, Option, Some, None, option_and_then, option_map, unwrap_or}
 use Rattle.reg_model.specs.Registry.{Text}
 use Rattle.reg_cli_words.specs.Orders.{Given, number_below, port_of}
 use Rattle.reg_cli.specs.declared.service.Service.{Service}

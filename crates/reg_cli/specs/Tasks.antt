@@ -1,5 +1,5 @@
 -- What the words of a subcommand ask for, and what doing it comes to.
-use Rattle.std.specs.Prelude.{◌≡◌, List, codes, if◌then◌else◌, Option, Some, None, option_and_then, option_map, Result, Ok, Err}
+use Rattle.std.specs.Prelude.{◌≡◌, codes, if◌then◌else◌, Option, Some, None, option_and_then, option_map, Result, Ok, Err}
 use Rattle.std.specs.Str.{bytes_eq}
 use Rattle.sqlite_trees.specs.declared.store.Store.{Ghosts}
 use Rattle.reg_body.specs.declared.limits.Limits.{Limits}
@@ -11,7 +11,6 @@ use Rattle.reg_model.specs.Steps.{IsFit}
 use Rattle.reg_policy.specs.Events.{command_of}
 use Rattle.reg_tables.specs.declared.tables.Tables.{Tables}
 use Rattle.reg_cli_line.specs.declared.exit.Exit.{Exit}
-use Rattle.reg_cli_pipe.specs.Exits.{EndsWith}
 use Rattle.reg_cli_words.specs.Orders.{Given, Ordered, TokenWords, order_from, report_command, source_of, token_command, words_of}
 use Rattle.reg_cli_words.specs.Orders.Ordered.{Token, Whole}
 use Rattle.reg_cli.specs.Printing.{IsObeyed}

@@ -7,7 +7,7 @@ use crate::printing::print;
 use reg_cli_line::Exit;
 use std::net::{TcpListener, TcpStream};
 
-/// Nobody can be listened to.
+/// The port cannot be listened on, or a connection cannot be accepted.
 const NO_LISTENING: Exit = Exit {
     status: 3,
     words: "listen fault",

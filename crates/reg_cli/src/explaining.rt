@@ -1,8 +1,5 @@
 //! What a refusal means, as `docs/REFUSALS.md` tells it.
 
-ghost use Rattle.std.specs.Prelude.{◌≡◌};
-ghost use Rattle.reg_cli.specs.Meanings.{title_of};
-
 use crate::meanings::{COMMANDS, DAMAGES, REQUESTS, WORDS};
 use crate::printing::print;
 use crate::store::damage_words;
@@ -34,9 +31,7 @@ pub(crate) struct Meaning {
 
 impl Subject {
     /// The line that is printed of it.
-    fn title(&self) -> &'static str
-        ensures { result.now ≡ title_of self.now }
-    {
+    fn title(&self) -> &'static str {
         match self {
             Subject::Rule(rule) => rule_text(*rule),
             Subject::Command(refusal) => admin_text(*refusal),

@@ -1,6 +1,6 @@
 //! Streams: one on standard input and output, or connections one after another.
 
-ghost use Rattle.std.specs.Prelude.{◌≡◌, ◌⊎◌, ◌+◌, ◌^◌, ◌<◌, ◌≤◌, true, codes, IfErr, OnOk};
+ghost use Rattle.std.specs.Prelude.{◌≡◌, ◌⊎◌, ◌+◌, ◌^◌, ◌<◌, true, codes, IfErr, MatchResult, OnOk};
 ghost use Rattle.reg_service.specs.Answered.{AreUpToDate};
 ghost use Rattle.reg_service.specs.Registries.{has_stopped, limits_of, tables_of};
 ghost use Rattle.reg_cli_pipe.specs.Exits.{EndsWith};
@@ -93,15 +93,22 @@ pub(crate) fn pipe(rt: &HostRuntime, words: &ArgMatches<'_>) -> Exit {
     }
 }
 
+/// How a run ended that was done, or ended before.
+fn exit_of(done: Result<(), Exit>) -> Exit
+    ensures { MatchResult done.entry (λ _. result ≡ Exit.DONE) (λ exit. result ≡ exit) }
+{
+    match done {
+        Ok(()) => Exit::DONE,
+        Err(exit) => exit,
+    }
+}
+
 /// `init`.
 pub(crate) fn init(rt: &HostRuntime, words: &ArgMatches<'_>) -> Exit {
     let (Some(file), Some(base)) = (words.get_str("db"), words.get_str("base")) else {
         return Exit::BAD_WORDS;
     };
-    match make_file(rt, file, base) {
-        Ok(()) => Exit::DONE,
-        Err(exit) => exit,
-    }
+    exit_of(make_file(rt, file, base))
 }
 
 /// Serves one connection. A stream that fails ends its connection alone.
@@ -122,7 +129,7 @@ fn serve_connection<S: Alter>(
 }
 
 /// Serves connections, one after another, until so many are served or a commit is refused: then the
-/// registry answers nothing more, and its store has to be opened again.
+/// registry answers S1 alone, and its store has to be opened again.
 fn serve_connections<S: Alter>(
     alloc: Global,
     server: &mut Server,
@@ -189,21 +196,16 @@ fn serve_opening(
 
 /// Serves as many connections as are told. After a refused commit the file is opened again before
 /// the next connection; where that is refused the run ends.
-fn serve_file(rt: &HostRuntime, file: &str, service: &Service) -> Result<(), Exit> {
+fn serve_file(rt: &HostRuntime, file: &str, service: &Service, door: &mut Door) -> Result<(), Exit>
+    requires { door.old.accepted ≡ 0 }
+    ensures served { OnOk result (door.new.accepted ≡ service.now.connections) }
+{
     let Ok(mut server) = Server::new(rt.alloc()) else {
         return Err(Exit::MEMORY);
     };
-    let mut door = Door::at(service.port);
     let mut left = service.connections;
     'openings: loop {
-        serve_opening(
-            rt,
-            &mut server,
-            file,
-            service.limits(),
-            &mut door,
-            &mut left,
-        )?;
+        serve_opening(rt, &mut server, file, service.limits(), door, &mut left)?;
         if left == 0 {
             return Ok(());
         }
@@ -215,10 +217,7 @@ pub(crate) fn serve(rt: &HostRuntime, words: &ArgMatches<'_>) -> Exit {
     let (Some(service), Some(file)) = (read_service(words), words.get_str("db")) else {
         return Exit::BAD_WORDS;
     };
-    match serve_file(rt, file, &service) {
-        Ok(()) => Exit::DONE,
-        Err(exit) => exit,
-    }
+    exit_of(serve_file(rt, file, &service, &mut Door::at(service.port)))
 }
 
 /// `audit`.

@@ -1,6 +1,7 @@
 //! The texts of new tokens.
 
-ghost use Rattle.std.specs.Prelude.{◌≡◌};
+ghost use Rattle.std.specs.Prelude.{◌≡◌, IfSome};
+ghost use Rattle.std.specs.Io.KnownBytes.{Consumes};
 ghost use Rattle.hex.specs.Hex.{encode_lower};
 ghost use Rattle.reg_cli_words.specs.Orders.{source_of};
 ghost use Rattle.reg_cli.specs.Tokens.{IsTokenOf, Makes};
@@ -25,12 +26,20 @@ pub(crate) struct TokenMade {
     pub(crate) text: Option<TokenText>,
 }
 
+/// The bytes that a reader begins with.
+fn first_bytes<R: Read>(from: &mut R) -> Option<[u8; RANDOM]>
+    ensures { IfSome result (Consumes (R.remaining from.old) (R.remaining from.new)) }
+{
+    let mut bytes = [0; RANDOM];
+    match from.read_exact(&mut bytes) {
+        Ok(()) => Some(bytes),
+        Err(_) => None,
+    }
+}
+
 /// The first bytes of a file.
 fn random_bytes(rt: &HostRuntime, file: &str) -> Option<[u8; RANDOM]> {
-    let mut bytes = [0; RANDOM];
-    let mut from = fs::open(rt, file).ok()?;
-    from.read_exact(&mut bytes).ok()?;
-    Some(bytes)
+    first_bytes(&mut fs::open(rt, file).ok()?)
 }
 
 /// The text that random bytes make: the digits of all of them.

@@ -48,7 +48,8 @@ impl<S: Alter> Registry<S> {
         &self.limits
     }
 
-    /// Whether a commit was refused: until the store is opened again nothing is answered.
+    /// Whether a commit was refused: until the store is opened again each request is S1 and each
+    /// command G10.
     pub fn has_stopped(&self) -> bool
         ensures { result ≡ has_stopped self.now }
     {

@@ -176,7 +176,7 @@ pub(crate) const WORDS: [Meaning; 11] = [
     },
     Meaning {
         subject: Subject::Words("too many turns"),
-        text: "`line` or `pipe` used up its 100,000,000 read and write calls.\n\
+        text: "The run used up its 100,000,000 read and write calls.\n\
                Send less at once; what `pipe` had answered by then is kept.\n",
     },
     Meaning {

@@ -146,7 +146,12 @@ fn a_denied_body_is_no_request(rt: HostRuntime) -> Result<(), Fail> {
 /// How many amounts of memory there are, and by how many bytes they differ.
 const AMOUNTS: (u32, u32) = (300, 4_096);
 
-/// Memory ran out while the request was answered.
+/// Memory ran out while the request was read, and the connection closes.
+const NO_ROOM_TO_READ: &str = "HTTP/1.1 503 Service Unavailable\r\n\
+content-type: application/json\r\ncontent-length: 46\r\nconnection: close\r\n\r\n\
+{\"errors\":[{\"detail\":\"S1 storage or memory\"}]}";
+
+/// Memory ran out while it was answered.
 const NO_ROOM: &str = "HTTP/1.1 503 Service Unavailable\r\n\
 content-type: application/json\r\ncontent-length: 46\r\n\r\n\
 {\"errors\":[{\"detail\":\"S1 storage or memory\"}]}";
@@ -155,7 +160,9 @@ content-type: application/json\r\ncontent-length: 46\r\n\r\n\
 /// of the reply, or before it wrote anything, for memory.
 fn is_allowed(exit: Exit, written: &[u8]) -> bool {
     if exit == Exit::DONE {
-        return written == REPLIED.as_bytes() || written.starts_with(&NO_ROOM.as_bytes()[..12]);
+        return [REPLIED, NO_ROOM, NO_ROOM_TO_READ]
+            .iter()
+            .any(|text| written == text.as_bytes());
     }
     let for_memory = exit.words == "memory" || exit.words == "G10 storage or memory";
     exit.status == 3 && for_memory && written.is_empty()
