@@ -1,6 +1,6 @@
 //! Streams: one on standard input and output, or connections one after another.
 
-ghost use Rattle.std.specs.Prelude.{◌≡◌, ◌⊎◌, ◌+◌, ◌^◌, ◌<◌, true, codes, IfErr, MatchResult, OnOk};
+ghost use Rattle.std.specs.Prelude.{◌≡◌, ◌⊎◌, ◌+◌, ◌^◌, ◌<◌, true, [], codes, IfErr, MatchResult, OnOk};
 ghost use Rattle.reg_service.specs.Answered.{AreUpToDate};
 ghost use Rattle.reg_service.specs.Registries.{has_stopped, limits_of, tables_of};
 ghost use Rattle.reg_cli_pipe.specs.Exits.{EndsWith};
@@ -95,7 +95,7 @@ pub(crate) fn pipe(rt: &HostRuntime, words: &ArgMatches<'_>) -> Exit {
 
 /// How a run ended that was done, or ended before.
 fn exit_of(done: Result<(), Exit>) -> Exit
-    ensures { MatchResult done.entry (λ _. result ≡ Exit.DONE) (λ exit. result ≡ exit) }
+    ensures { MatchResult done (λ _. EndsWith 0 [] result) (λ exit. result ≡ exit) }
 {
     match done {
         Ok(()) => Exit::DONE,

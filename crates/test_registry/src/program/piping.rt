@@ -7,7 +7,6 @@ use reg_service::Registry;
 use sqlite::Connection;
 use std::alloc::{AllocError, Global};
 use std::test::Fail;
-use test_support::scarce_memory::Amounts;
 
 /// An account, and its token `abc`.
 const ADA: &str = "user-add ada --name=Ada
@@ -140,49 +139,5 @@ fn a_denied_body_is_no_request(rt: HostRuntime) -> Result<(), Fail> {
         assert!(rt; exit == Exit::DONE);
         assert_eq!(rt; written.as_slice(), replies.as_bytes());
     }
-    Ok(())
-}
-
-/// How many amounts of memory there are, and by how many bytes they differ.
-const AMOUNTS: (u32, u32) = (300, 4_096);
-
-/// Memory ran out while the request was read, and the connection closes.
-const NO_ROOM_TO_READ: &str = "HTTP/1.1 503 Service Unavailable\r\n\
-content-type: application/json\r\ncontent-length: 46\r\nconnection: close\r\n\r\n\
-{\"errors\":[{\"detail\":\"S1 storage or memory\"}]}";
-
-/// Memory ran out while it was answered.
-const NO_ROOM: &str = "HTTP/1.1 503 Service Unavailable\r\n\
-content-type: application/json\r\ncontent-length: 46\r\n\r\n\
-{\"errors\":[{\"detail\":\"S1 storage or memory\"}]}";
-
-/// Whether a run that had little memory ended as it may: as with ample memory, with an S1 in place
-/// of the reply, or before it wrote anything, for memory.
-fn is_allowed(exit: Exit, written: &[u8]) -> bool {
-    if exit == Exit::DONE {
-        return [REPLIED, NO_ROOM, NO_ROOM_TO_READ]
-            .iter()
-            .any(|text| written == text.as_bytes());
-    }
-    let for_memory = exit.words == "memory" || exit.words == "G10 storage or memory";
-    exit.status == 3 && for_memory && written.is_empty()
-}
-
-#[test]
-fn each_amount_of_memory(rt: HostRuntime) -> Result<(), Fail> {
-    let of = rt.alloc();
-    let mut amounts = Amounts::new(of, AMOUNTS.0, AMOUNTS.1)?;
-    let (mut stopped, mut done) = (false, false);
-    for _ in 0..AMOUNTS.0 {
-        if !amounts.advance(of) {
-            break;
-        }
-        if let Some((exit, written)) = piped(of, ADA, ASKED.as_bytes()) {
-            assert!(rt; is_allowed(exit, &written));
-            stopped |= exit.status == 3;
-            done |= exit == Exit::DONE && written.as_slice() == REPLIED.as_bytes();
-        }
-    }
-    assert!(rt; stopped && done);
     Ok(())
 }
