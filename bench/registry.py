@@ -1,6 +1,7 @@
 """What the measuring scripts share: the program, requests to it, and a registry that it fills."""
 import hashlib
 import os
+import socket
 import subprocess
 import sys
 from pathlib import Path
@@ -64,6 +65,12 @@ def peak_of(process):
     for line in open(f"/proc/{process.pid}/status"):
         if line.startswith("VmHWM"):
             return int(line.split()[1]) * 1024
+
+
+def free_port():
+    with socket.socket() as probe:
+        probe.bind(("127.0.0.1", 0))
+        return probe.getsockname()[1]
 
 
 class Pipe:
