@@ -1,4 +1,4 @@
-//! A reader or a writer that counts what was asked of it.
+//! A reader or a writer that counts its calls.
 
 mod reading;
 mod writing;
@@ -25,7 +25,7 @@ impl<T> Model for Counted<T> {
 }
 
 impl<T> Counted<T> {
-    /// `Counted::new` gives an end that was not called yet.
+    /// An end that was not yet called.
     pub fn new(inner: T) -> Counted<T>
         ensures { result ≡ record { inner = inner; calls = 0; failures = 0 } }
     {
@@ -36,7 +36,7 @@ impl<T> Counted<T> {
         }
     }
 
-    /// The end itself, out of its counters.
+    /// The end itself, without its counters.
     pub fn into_inner(self) -> T
         ensures { result ≡ self.inner }
     {

@@ -1,5 +1,5 @@
-//! The publish body (the Cargo Book, "Registry Web API", "Publish").
-//! It is the JSON and the archive, each after its length.
+//! The publish body (the Cargo Book, "Registry Web API", "Publish"): the JSON and the archive, each
+//! after its length.
 
 ghost use Rattle.std.specs.Prelude.{◌≡◌, ◌+◌, ◌^◌, ◌<◌, ◌≤◌, ◌↔◌, ◌⊎◌, ◌++◌, List, ℕ, length, IfOk, IsErrOf, IsOkAnd, MatchOption, MatchResult};
 ghost use Rattle.reg_body.specs.Words.{words_of};
@@ -8,8 +8,8 @@ ghost use Rattle.reg_body.specs.Frames.{Frame, IsCut, IsCutPart, IsTooLong, IsTr
 use crate::limits::Limits;
 use std::alloc::{AllocError, Global};
 
-/// Why bytes are no publish body, in the order of the checks.
-/// Each is a rule of the registry, whose words are given by `words`.
+/// Why bytes are no publish body, in the order of the checks. Each is a rule of the registry;
+/// `words` gives its text.
 #[derive(Clone, Copy, Debug, PartialEq, Eq)]
 pub enum BodyFault {
     /// Fewer bytes than the two lengths ask for.
@@ -21,7 +21,7 @@ pub enum BodyFault {
 }
 
 impl BodyFault {
-    /// The rule's code and its words, as a refused request is told them.
+    /// The rule's code and text, as a refused request gets them.
     pub fn words(self) -> &'static str
         ensures { result.now ≡ words_of self }
     {
@@ -36,9 +36,9 @@ impl BodyFault {
 /// Why two parts make no publish body.
 #[derive(Clone, Copy, Debug, PartialEq, Eq)]
 pub enum JoinFault {
-    /// Memory was refused.
+    /// Out of memory.
     Memory,
-    /// A part is of 2^32 bytes or more.
+    /// A part has 2^32 bytes or more.
     TooLong,
 }
 
@@ -63,8 +63,7 @@ fn take_part(bytes: &[u8]) -> Option<(&[u8], &[u8])>
     rest.split_at_checked(len as usize)
 }
 
-/// `split` accepts bytes exactly when they are a publish body within the limits.
-/// It gives the body's JSON and archive.
+/// Splits bytes into JSON and archive, exactly when they are a publish body within the limits.
 pub fn split<'a>(bytes: &'a [u8], limits: &Limits) -> Result<(&'a [u8], &'a [u8]), BodyFault>
     ensures parts { (j a : List ℕ) → IsOkAnd result (λ p. (p.0.now ≡ j) × (p.1.now ≡ a))
         ↔ (Frame bytes.now j a × IsWithin limits.now j a) }
@@ -87,7 +86,7 @@ pub fn split<'a>(bytes: &'a [u8], limits: &Limits) -> Result<(&'a [u8], &'a [u8]
     Ok((json, archive))
 }
 
-/// The length of a part as it stands before it.
+/// The length of a part, as written before it.
 fn length_bytes(part: &[u8]) -> Result<[u8; 4], JoinFault>
     ensures { MatchResult result
         (λ digits. (length part.now < 2 ^ 32) × (digits ≡ le4 (length part.now)))
@@ -99,7 +98,7 @@ fn length_bytes(part: &[u8]) -> Result<[u8; 4], JoinFault>
     }
 }
 
-/// `join` gives the publish body of a JSON and an archive.
+/// Joins a JSON and an archive into a publish body.
 pub fn join(alloc: Global, json: &[u8], archive: &[u8]) -> Result<Vec<u8>, JoinFault>
     ensures frame { IfOk result (λ body. Frame body.items json.now archive.now) }
     ensures too_long { IsErrOf result JoinFault.TooLong

@@ -1,5 +1,5 @@
-//! What holds of publish bodies, whatever the code.
-//! The functions do nothing: their contracts are the laws.
+//! What holds for publish bodies, whatever the code. The functions do nothing: their contracts are
+//! the laws.
 
 ghost use Rattle.std.specs.Prelude.{◌≡◌, ◌≤◌, List, ℕ};
 ghost use Rattle.reg_body.specs.Frames.{Frame, IsFrame, IsProperPrefix, IsWithin};

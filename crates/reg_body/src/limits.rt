@@ -1,8 +1,8 @@
-//! How much a registry takes.
+//! How much a registry accepts.
 
 ghost use Rattle.std.specs.Prelude.{◌≡◌, ◌+◌};
 
-/// The limits of a registry and of its streams. What is at its limit is still taken.
+/// The limits of a registry and of its streams. What is at its limit is still accepted.
 #[derive(Clone, Copy, Debug, PartialEq, Eq)]
 pub struct Limits {
     /// Bytes of the JSON of a publish body.
@@ -32,7 +32,7 @@ pub struct Limits {
 }
 
 impl Limits {
-    /// The limits where none are given.
+    /// The limits if none are given.
     pub const STANDARD: Limits = Limits {
         json: 4_194_304,
         archive: 33_554_432,
@@ -48,7 +48,7 @@ impl Limits {
         turns: 100_000_000,
     };
 
-    /// How many bytes the greatest publish body has.
+    /// How many bytes the largest publish body has.
     pub fn greatest_body(&self) -> u64
         ensures { result ≡ 8 + (self.now.json + self.now.archive) }
     {

@@ -1,4 +1,4 @@
-//! All that a reader has, and all of some bytes to a writer, each by so many calls.
+//! Reads all that a reader has, and writes all bytes to a writer, in so many calls each.
 
 ghost use Rattle.std.specs.Prelude.{◌≡◌, ◌+◌, ◌^◌, ◌<◌, ◌≤◌, IfOk, IfSome, IsErrOf, OnErr, OnOk, vec_len};
 ghost use Rattle.std.specs.Io.KnownBytes.{Appends, IsAtEnd};
@@ -11,14 +11,14 @@ use std::io::{self, Read, Write};
 /// How many bytes one read asks for.
 const CHUNK: usize = 65_536;
 
-/// Why less was read or written than all.
+/// Why not all was read or written.
 #[derive(Clone, Copy, Debug, PartialEq, Eq)]
 pub enum EndFault {
     /// The reader or the writer failed.
     Failed,
     /// The calls were used up.
     Spent,
-    /// Memory was refused.
+    /// Out of memory.
     Memory,
 }
 
@@ -44,15 +44,14 @@ impl From<AllocError> for EndFault {
     }
 }
 
-/// So many bytes to read into.
+/// A buffer of so many bytes.
 fn buffer(alloc: Global, len: usize) -> Result<Vec<u8>, AllocError>
     ensures { IfOk result (λ bytes. vec_len bytes ≡ len) }
 {
     vec![in alloc; 0; len]
 }
 
-/// `read_all` reads all that the reader has, by at most so many calls.
-/// The last call is the one that finds the end.
+/// Reads all that the reader has, in at most so many calls. The last call finds the end.
 pub fn read_all<R: Read>(
     alloc: Global,
     reader: &mut Counted<R>,
@@ -79,7 +78,7 @@ pub fn read_all<R: Read>(
     Err(EndFault::Spent)
 }
 
-/// `write_all` writes the bytes, by at most so many calls. It takes no memory.
+/// Writes the bytes, in at most so many calls. It takes no memory.
 pub fn write_all<W: Write>(
     writer: &mut Counted<W>,
     bytes: &[u8],

@@ -1,9 +1,9 @@
 //! How a run ends.
 
-/// How a run ended: its status, and the line for standard error, empty for none.
+/// How a run ended: its status, and the line for standard error (empty if none).
 #[derive(Clone, Copy, Debug, PartialEq, Eq)]
 pub struct Exit {
-    /// 0 done, 1 refused, 2 bad words, 3 a fault of storage, memory or a stream.
+    /// 0 done, 1 refused, 2 bad arguments, 3 a fault of storage, memory or a stream.
     pub status: u8,
     pub words: &'static str,
 }
@@ -14,17 +14,17 @@ impl Exit {
         status: 0,
         words: "",
     };
-    /// Memory was refused.
+    /// Out of memory.
     pub const MEMORY: Exit = Exit {
         status: 3,
         words: "memory",
     };
-    /// The store, or another file, was refused.
+    /// The store, or another file, failed.
     pub const STORAGE: Exit = Exit {
         status: 3,
         words: "storage",
     };
-    /// The words are bad, which the parser of words did not see.
+    /// The arguments are bad, which their parser did not see.
     pub const BAD_WORDS: Exit = Exit {
         status: 2,
         words: "bad words",

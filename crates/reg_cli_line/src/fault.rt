@@ -7,17 +7,17 @@ use reg_body::BodyFault;
 use reg_manifest::ManifestFault;
 use std::alloc::{AllocError, AllocFailed};
 
-/// Why an input has no line: the first rule that it breaks, or want of memory.
+/// Why an input has no line: the first rule that it breaks, or out of memory.
 #[derive(Clone, Copy, Debug, PartialEq)]
 pub enum LineFault {
     /// It is no publish body within the limits.
     Body(BodyFault),
-    /// Its metadata is refused, or memory was.
+    /// Refused metadata, or out of memory.
     Manifest(ManifestFault),
 }
 
 impl LineFault {
-    /// The code and its words, as they are printed on standard error.
+    /// The code and text, as printed on standard error.
     pub fn words(self) -> &'static str
         ensures { result.now ≡ words_of self }
     {

@@ -1,8 +1,8 @@
-//! The body of a publish becomes an index path and an index line, from one end to another.
+//! Turns a publish body into an index path and an index line, from a reader to a writer.
 //!
 //! ```
 //! let exit = run_line(alloc, &mut reader, &mut writer);
-//! // exit.status is 0 where both were written
+//! // exit.status is 0 if both were written
 //! ```
 #![tactic(auto)]
 

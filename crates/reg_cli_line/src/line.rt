@@ -19,7 +19,7 @@ use reg_names::{LONGEST_PATH, index_path};
 use std::alloc::Global;
 use std::io::{Read, Write};
 
-/// The index path and the line of a version that is not yanked, each ended by a line feed.
+/// The index path and the line of a version that is not yanked, each with a line feed.
 fn lines(alloc: Global, manifest: &Manifest, archive: &[u8]) -> Result<Vec<u8>, LineFault>
     ensures printed { IfOk result (λ text. text.items
         ≡ printed (manifest_view manifest.now) archive.now) }
@@ -44,7 +44,7 @@ fn answer(alloc: Global, input: &[u8], limits: &Limits) -> Result<Vec<u8>, LineF
     lines(alloc, &manifest, archive)
 }
 
-/// The end of a run in which the reader or the writer stopped; the words are those of its failing.
+/// The exit of a run whose reader or writer did not finish; `words` is used if it failed.
 fn exit_of_stop(fault: EndFault, words: &'static str) -> Exit
     ensures status { result.status ≡ 3 }
     ensures words { result.words.now ≡ stop_words fault words.entry.now }
@@ -57,7 +57,7 @@ fn exit_of_stop(fault: EndFault, words: &'static str) -> Exit
     Exit { status: 3, words }
 }
 
-/// The end of a run whose input has no line.
+/// The exit of a run whose input has no line.
 fn exit_of_fault(fault: LineFault) -> Exit
     ensures words { result.words.now ≡ words_of fault }
     ensures status { (result.status ≡ 1) ⊎ ((result.status ≡ 3) × (fault ≡ memory)) }
@@ -73,8 +73,8 @@ fn exit_of_fault(fault: LineFault) -> Exit
     }
 }
 
-/// `run_line_within` reads a publish body to its end and prints its index path and its line.
-/// It makes at most `turns` read and write calls together.
+/// Reads a publish body to its end and prints its index path and its line. It makes at most `turns`
+/// read and write calls in all.
 pub fn run_line_within<R: Read, W: Write>(
     alloc: Global,
     reader: &mut Counted<R>,
@@ -100,7 +100,7 @@ pub fn run_line_within<R: Read, W: Write>(
     ensures whole { ¬ (result.status ≡ 3) → IsAtEnd (R.remaining reader.new.inner)
         × NoneFailed reader.old reader.new × NoneFailed writer.old writer.new }
 
-    // Stopped: nothing was printed, or, once the whole input was read, a front of the answer.
+    // Stopped: nothing was printed, or, once the whole input was read, a prefix of the answer.
     ensures stopped { result.status ≡ 3 → (writer.new ≡ writer.old)
         ⊎ (IsAtEnd (R.remaining reader.new.inner)
         × IfSome (R.remaining reader.old.inner) (λ input. (text : List ℕ)

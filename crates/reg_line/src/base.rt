@@ -22,9 +22,8 @@ fn is_under(scheme: &[u8], text: &[u8]) -> bool
     text.starts_with(scheme) && scheme.len() < text.len()
 }
 
-/// `is_base` tells whether a text may be a registry's base.
-/// That is `http://` or `https://` and something after it, in visible ASCII characters, without a
-/// slash at its end.
+/// Whether a text may be a registry's base: `http://` or `https://` and something after it, in
+/// visible ASCII characters, without a slash at the end.
 pub fn is_base(text: &str) -> bool
     ensures { result ≡ is_base text.now }
 {

@@ -1,5 +1,5 @@
-//! The features that go to `features`, and those that go to `features2`
-//! (the Cargo Book, "Registry Index", "JSON schema").
+//! The features that go into `features`, and those that go into `features2` (the Cargo Book,
+//! "Registry Index", "JSON schema").
 
 ghost use Rattle.std.specs.Prelude.{◌≡◌, IfOk, OnOk, map, string_bytes, string_cmp};
 ghost use Rattle.std.specs.BTreeMap.{IsOrdered};

@@ -5,7 +5,7 @@ ghost use Rattle.reg_line.specs.File.{end_of, entry_view, file_text, line_of};
 
 use std::alloc::{AllocError, Global};
 
-/// What is kept of a line: its stem, and its yanked mark.
+/// What is stored of a line: its stem and its yanked mark.
 #[derive(Drop)]
 pub struct Entry {
     pub stem: Vec<u8>,
@@ -19,8 +19,8 @@ fn end(yanked: bool) -> &'static [u8]
     if yanked { b"true}\n" } else { b"false}\n" }
 }
 
-/// `line_len` gives the length of a line in bytes from the length of its stem.
-/// The line feed counts, and there is no answer where 64 bits do not hold the length.
+/// The length of a line in bytes, from the length of its stem. The line feed counts. `None` if 64
+/// bits do not hold the length.
 pub fn line_len(stem_len: u64, yanked: bool) -> Option<u64>
     ensures some { IfSome result (λ n. n ≡ stem_len + length (end_of yanked)) }
     ensures none { IsNone result ↔ (2 ^ 64 ≤ stem_len + length (end_of yanked)) }
@@ -35,7 +35,7 @@ fn push_line(text: &mut Vec<u8>, entry: &Entry) -> Result<(), AllocError>
     text.extend_from_slice(end(entry.yanked))
 }
 
-/// `file` gives the index file of these lines.
+/// The index file of these lines.
 pub fn file(alloc: Global, entries: &[Entry]) -> Result<Vec<u8>, AllocError>
     ensures { IfOk result (λ v. v.items ≡ file_text (map entry_view entries.now)) }
 {

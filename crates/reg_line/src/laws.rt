@@ -1,4 +1,4 @@
-//! Laws over the definitions, each on a function that does nothing.
+//! Laws of the definitions, each on a function that does nothing.
 
 ghost use Rattle.std.specs.Prelude.{◌≡◌};
 ghost use Rattle.reg_manifest.specs.Manifests.{manifest_view};

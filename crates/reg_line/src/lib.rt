@@ -1,7 +1,7 @@
-//! Index lines, index files and the config: their bytes, and the check that kept bytes are a line's
-//! stem.
+//! Index lines, index files and the config: their bytes, and the check that stored bytes are a
+//! line's stem.
 //!
-//! A stem is a line without its yanked mark, so that a yank changes no kept bytes.
+//! A stem is a line without its yanked mark, so a yank changes no stored bytes.
 //!
 //! ```
 //! let digest = digest_of(archive);

@@ -30,7 +30,7 @@ fn names(name: String, own: Option<String>) -> (String, Option<String>)
     }
 }
 
-/// Where a dependency is from, what of it is asked for, and what it is for.
+/// Where a dependency comes from, what of it is wanted, and what it is for.
 #[derive(Drop)]
 struct Origin {
     own: Option<String>,
@@ -39,7 +39,7 @@ struct Origin {
     target: Option<String>,
 }
 
-/// What else is told of a version.
+/// What else is said about a version.
 #[derive(Drop)]
 struct About {
     links: Option<String>,
@@ -158,7 +158,7 @@ fn read_value(alloc: Global, value: &Value) -> Result<Manifest, ManifestFault>
     })
 }
 
-/// The manifest that the bytes of a line tell of.
+/// The manifest that the bytes of a line describe.
 #[tactic(auto, unfolding(crate::specs::LineRead::bytes_from))]
 pub(crate) fn read_line(alloc: Global, bytes: &[u8]) -> Result<Manifest, ManifestFault>
     ensures { Gives manifest_view result (bytes_from bytes.now) }

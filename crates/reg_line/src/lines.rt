@@ -56,7 +56,7 @@ fn members(
     Ok(line)
 }
 
-/// Puts the newer features into a line, and the format that they ask for.
+/// Puts the newer features into a line, and the format that they need.
 fn put_newer(
     alloc: Global,
     line: &mut Map<String, Value>,
@@ -90,7 +90,7 @@ fn line_value(
     Ok(Value::Object(line))
 }
 
-/// The text of a value that has no float.
+/// The text of a value without floats.
 fn written(alloc: Global, value: &Value) -> Result<Vec<u8>, AllocError>
     requires { has_float (view value.now) ≡ false }
     ensures { IfOk result (λ text. text.items ≡ compact_text (view value.now)) }
@@ -113,7 +113,7 @@ pub(crate) fn line_json(
     written(alloc, &value)
 }
 
-/// `line` gives the index line of a manifest whose archive has this digest, with its line feed.
+/// The index line, with its line feed, of a manifest whose archive has this digest.
 pub fn line(
     alloc: Global,
     manifest: &Manifest,
@@ -131,7 +131,7 @@ pub fn line(
 /// How many bytes follow the stem of a line that is not yanked, its line feed aside: `false}`.
 const END_OF_LINE: usize = 6;
 
-/// `stem` gives the line's stem: all of it up to the value of `yanked`.
+/// The stem of the line: all of it up to the value of `yanked`.
 pub fn stem(alloc: Global, manifest: &Manifest, digest: &Digest) -> Result<Vec<u8>, AllocError>
     ensures stem { IfOk result (λ v. IsStem (manifest_view manifest.now) digest.now v.items) }
     ensures ordered { IsOrdered string_cmp manifest.now.features }

@@ -52,7 +52,7 @@ fn fits(
     Ok(line_json(alloc, manifest, digest, false)?.as_slice() == whole)
 }
 
-/// The line of a stem that is not yanked, without its line feed.
+/// The unyanked line of a stem, without its line feed.
 fn whole_line(alloc: Global, stem: &[u8]) -> Result<Vec<u8>, AllocError>
     ensures { IfOk result (λ line. line.items ≡ stem.now ++ codes "false}") }
 {
@@ -78,9 +78,8 @@ fn read_stem(
     Ok(fits(alloc, &manifest, whole.as_slice(), name, vers, digest)?)
 }
 
-/// `check_stem` tells whether bytes are the stem of some manifest's line.
-/// The manifest has to keep the rules of metadata and to have this name and version.
-/// Its archive has to have this digest.
+/// Whether bytes are the stem of some manifest's line. The manifest must keep the rules of metadata
+/// and have this name and version. Its archive must have this digest.
 pub fn check_stem(
     alloc: Global,
     stem: &[u8],

@@ -11,7 +11,7 @@ use reg_manifest::Dep;
 use serde_json::{Map, Value, put};
 use std::alloc::{AllocError, Global};
 
-/// A text that may be null.
+/// A text, or null.
 pub(crate) fn text_or_null(alloc: Global, text: &Option<String>) -> Result<Value, AllocError>
     ensures { IfOk result (λ v. view v ≡ text_or_null (option_map string_bytes text.now)) }
 {
@@ -34,7 +34,7 @@ pub(crate) fn put_text(
     put(object, alloc, key, Value::try_from_str(alloc, text)?)
 }
 
-/// Each of some texts.
+/// Texts as values.
 pub(crate) fn texts(alloc: Global, list: &[String]) -> Result<Vec<Value>, AllocError>
     ensures { IfOk result (λ v. map view v.items ≡ map string (map string_bytes list.now)) }
 {
@@ -45,7 +45,7 @@ pub(crate) fn texts(alloc: Global, list: &[String]) -> Result<Vec<Value>, AllocE
     Ok(values)
 }
 
-/// Puts a text that may be null at a key.
+/// Puts a text, or null, at a key.
 pub(crate) fn put_text_or_null(
     object: &mut Map<String, Value>,
     alloc: Global,
@@ -59,7 +59,7 @@ pub(crate) fn put_text_or_null(
     put(object, alloc, key, text_or_null(alloc, text)?)
 }
 
-/// Puts the members of a dependency up to its name.
+/// Puts in a dependency's members up to its name.
 fn put_first(
     object: &mut Map<String, Value>,
     alloc: Global,
@@ -111,7 +111,7 @@ fn dep_value(alloc: Global, dep: &Dep) -> Result<Value, AllocError>
     }
 }
 
-/// Each of some dependencies.
+/// Dependencies as values.
 pub(crate) fn dep_values(alloc: Global, list: &[Dep]) -> Result<Vec<Value>, AllocError>
     ensures { IfOk result (λ v. map view v.items ≡ map dep_data (map dep_view list.now)) }
 {

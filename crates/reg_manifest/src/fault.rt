@@ -5,8 +5,8 @@ ghost use Rattle.reg_manifest.specs.Words.{words_of};
 
 use std::alloc::{AllocError, AllocFailed};
 
-/// Why metadata is refused, in the order in which it is judged; memory where it was met.
-/// Each but memory is a rule of the registry, whose words are given by `words`.
+/// Why metadata is refused, in the order of the checks; `Memory` wherever it runs out. Each but
+/// `Memory` is a rule of the registry; `words` gives its text.
 #[derive(Clone, Copy, PartialEq, Debug)]
 pub enum ManifestFault {
     /// The bytes are not one JSON value, not UTF-8, or nest past 127 levels.
@@ -17,15 +17,14 @@ pub enum ManifestFault {
     Name,
     /// `vers` is no version of SemVer 2.0.0.
     Version,
-    /// A dependency has no name, an empty new name, an unknown kind, or no requirement that can be
-    /// read.
+    /// A dependency has no name, an empty new name, an unknown kind, or an unreadable requirement.
     Dependency,
-    /// A growth of memory was refused.
+    /// Out of memory.
     Memory,
 }
 
 impl ManifestFault {
-    /// The rule's code and its words, as a refused request is told them; of memory its name.
+    /// The rule's code and text, as a refused request gets them; for `Memory` its name.
     pub fn words(self) -> &'static str
         ensures { result.now ≡ words_of self }
     {

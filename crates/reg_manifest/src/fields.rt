@@ -1,8 +1,8 @@
 //! A reader of JSON fields, shared by all that the registry reads: metadata here, index lines in
 //! the crate above.
 //!
-//! It knows no field by its name. A null stands for a field that is missing, and a value of the
-//! wrong kind is a `Field` fault.
+//! It knows no field by its name. A null counts as a missing field, and a value of the wrong kind
+//! is a `Field` fault.
 //!
 //! ```
 //! let value = read_json(alloc, b"{\"name\":\"a\"}")?;
@@ -27,7 +27,7 @@ use serde_json::{Category, Map, Value};
 use std::alloc::Global;
 use std::collections::BTreeMap;
 
-/// The JSON value that bytes are.
+/// The bytes as a JSON value.
 pub fn read_json(alloc: Global, bytes: &[u8]) -> Result<Value, ManifestFault>
     ensures { Gives view result (json_of bytes.now) }
 {
@@ -79,7 +79,7 @@ pub fn members(value: &Value) -> Result<&Map<String, Value>, ManifestFault>
     }
 }
 
-/// A text that has to be there.
+/// A text that must be there.
 pub fn required_text(alloc: Global, object: &Value, key: &str) -> Result<String, ManifestFault>
     ensures { Gives (λ s. string_bytes s) result
         (required text_of (field key.now (view object.now))) }
@@ -90,7 +90,7 @@ pub fn required_text(alloc: Global, object: &Value, key: &str) -> Result<String,
     text(alloc, value)
 }
 
-/// A text with another for null.
+/// A text, or `default` for null.
 pub fn text_or(
     alloc: Global,
     object: &Value,
@@ -121,7 +121,7 @@ pub fn optional_text(
     }
 }
 
-/// True or false, with one of them for null.
+/// True or false, or `default` for null.
 pub fn flag_or(object: &Value, key: &str, default: bool) -> Result<bool, ManifestFault>
     ensures { Gives (λ b. b) result
         (or_else default flag_of (field key.now (view object.now))) }
@@ -132,7 +132,7 @@ pub fn flag_or(object: &Value, key: &str, default: bool) -> Result<bool, Manifes
     }
 }
 
-/// A list, or none for null.
+/// A list, empty for null.
 pub fn list_or_empty<'a>(object: &'a Value, key: &str) -> Result<&'a [Value], ManifestFault>
     ensures { Gives (λ s. items_view s.now) result
         (or_else no_items list_of (field key.now (view object.now))) }
@@ -161,7 +161,7 @@ pub fn texts(alloc: Global, value: &Value) -> Result<Vec<String>, ManifestFault>
     each_text(alloc, list(value)?)
 }
 
-/// A list of texts, or none for null.
+/// A list of texts, empty for null.
 pub fn texts_or_empty(
     alloc: Global,
     object: &Value,
@@ -190,7 +190,7 @@ fn insert_list(
     Ok(())
 }
 
-/// The lists that were found before, with those of an object's members put in.
+/// The lists found before, with those of an object's members put in.
 pub fn lists_onto(
     alloc: Global,
     found: BTreeMap<String, Vec<String>>,

@@ -1,4 +1,4 @@
-//! The metadata of a publish request, read into a manifest or refused by its first fault.
+//! The metadata of a publish request, read into a manifest or refused for its first fault.
 //!
 //! ```
 //! let manifest = read_manifest(alloc, b"{\"name\":\"a\",\"vers\":\"0.1.0\"}")?;
@@ -6,7 +6,7 @@
 //! read_manifest(alloc, b"[]")                     // Err(ManifestFault::Field)
 //! ```
 //!
-//! `fields` reads the fields of any JSON object of this registry; index lines are read by it too.
+//! `fields` reads the fields of any JSON object of this registry, index lines included.
 #![tactic(auto)]
 
 mod fault;

@@ -6,7 +6,7 @@ use std::collections::BTreeMap;
 /// A dependency as it was sent, with the nulls replaced.
 #[derive(Drop)]
 pub struct Dep {
-    /// The package's own name, also where it is renamed.
+    /// The package's own name, even if it is renamed.
     pub name: String,
     /// The requirement as it was sent.
     pub version_req: String,
@@ -17,13 +17,13 @@ pub struct Dep {
     pub target: Option<String>,
     /// `normal`, `build` or `dev`.
     pub kind: String,
-    /// The index of the registry that it is from, or none for this one.
+    /// The index of the registry that it comes from, or none for this one.
     pub registry: Option<String>,
     /// The name that it has in the manifest, if it was renamed.
     pub explicit_name_in_toml: Option<String>,
 }
 
-/// What a publish request says of the version that it publishes.
+/// What a publish request says about the version that it publishes.
 #[derive(Drop)]
 pub struct Manifest {
     pub name: CrateName,

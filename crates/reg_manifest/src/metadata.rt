@@ -19,7 +19,7 @@ use serde_json::Value;
 use std::alloc::Global;
 use std::collections::BTreeMap;
 
-/// The fields before the rules are asked.
+/// The fields before the rules are checked.
 #[derive(Drop)]
 struct Draft {
     name: String,
@@ -31,7 +31,7 @@ struct Draft {
     rust_version: Option<String>,
 }
 
-/// What a dependency is for, and where it is from.
+/// What a dependency is for, and where it comes from.
 #[derive(Drop)]
 struct Place {
     target: Option<String>,
@@ -40,7 +40,7 @@ struct Place {
     explicit_name_in_toml: Option<String>,
 }
 
-/// What else is told of a version.
+/// What else is said about a version.
 #[derive(Drop)]
 struct About {
     description: Option<String>,
@@ -175,9 +175,8 @@ fn check(alloc: Global, draft: Draft) -> Result<Manifest, ManifestFault>
     Ok(named(name, draft))
 }
 
-/// `read_manifest` gives the manifest that the metadata stands for, or its first fault.
-/// An unknown field is ignored, and a missing one counts as null.
-/// Of a key that is written twice the last value counts.
+/// The manifest that the metadata stands for, or its first fault. An unknown field is ignored, and
+/// a missing one counts as null. For a repeated key the last value counts.
 #[tactic(auto, unfolding(crate::specs::Metadata::metadata_of))]
 pub fn read_manifest(alloc: Global, bytes: &[u8]) -> Result<Manifest, ManifestFault>
     ensures meaning { Gives manifest_view result (metadata_of bytes.now) }

@@ -1,4 +1,4 @@
-//! What is asked of the fields, once each has its kind.
+//! The rules on the fields, once each has its kind.
 
 ghost use Rattle.std.specs.Prelude.{◌≡◌, IfOk, is_ok, map, option_map, string_bytes};
 ghost use Rattle.std.specs.List.{list_all};
@@ -69,8 +69,8 @@ fn is_dep(alloc: Global, found: &Dep) -> Result<bool, AllocError>
     is_requirement(alloc, found.version_req.as_str())
 }
 
-/// `are_deps` tells whether each dependency keeps the rules: it has a name, a new name that is not
-/// empty if any, a known kind, and a requirement that `semver` reads.
+/// Whether each dependency keeps the rules: it has a name, no empty new name, a known kind, and a
+/// requirement that `semver` reads.
 pub fn are_deps(alloc: Global, deps: &[Dep]) -> Result<bool, AllocError>
     ensures { IfOk result (λ b. b ≡ list_all is_dep (map dep_view deps.now)) }
 {

@@ -2,20 +2,19 @@
 
 ghost use Rattle.reg_model.specs.Laws.{AccessComesFirst, DenialsKeep, DenialsName, EmptySound, GrantsArePolicy, IndexPathsAreOfCrates, PlainMatches, PlainVerdicts, RefusalsKeep, RunsJoin, RunsKeepSound, SightAnswers, StemsGrow, StepsAgree, StepsKeepSound, StepsRun, WiderAllows, WiderOrders};
 
-/// Steps in a row are a run.
+/// Steps in a row form a run.
 pub fn run_law()
     ensures step { StepsRun }
     ensures join { RunsJoin }
 {}
 
-/// A request that is denied and a command that is refused change nothing.
+/// A denied request and a refused command change nothing.
 pub fn denial_law()
     ensures denied { DenialsKeep }
     ensures refused { RefusalsKeep }
 {}
 
-/// A request is answered with its first broken rule exactly where it breaks one, want of memory
-/// aside.
+/// A request gets its first broken rule exactly when it breaks one, running out of memory aside.
 pub fn names_law()
     ensures { DenialsName }
 {}
@@ -25,12 +24,12 @@ pub fn access_law()
     ensures { AccessComesFirst }
 {}
 
-/// An event has one answer and one state after it, want of memory aside.
+/// An event has one answer and one next state, running out of memory aside.
 pub fn agreement_law()
     ensures { StepsAgree }
 {}
 
-/// Index files only grow, their yanked marks aside, and every state that is reached is sound.
+/// Index files only grow, yanked marks aside, and every state that is reached is sound.
 pub fn growth_law()
     ensures grows { StemsGrow }
     ensures sound { RunsKeepSound }
@@ -43,22 +42,22 @@ pub fn soundness_law()
     ensures run { RunsKeepSound }
 {}
 
-/// An index path is allowed exactly where it is that of the spelling of a crate that is visible.
+/// An index path is allowed exactly when it is the path of a visible crate's spelling.
 pub fn index_law()
     ensures { IndexPathsAreOfCrates }
 {}
 
-/// The report on who may act lists exactly what the rules on access let pass.
+/// The report on who may act lists exactly what the rules on access allow.
 pub fn grant_law()
     ensures { GrantsArePolicy }
 {}
 
-/// What a token is answered depends on what it may see alone, publishing and adding owners aside.
+/// A token's answers depend only on what it may see, publishing and adding owners aside.
 pub fn sight_law()
     ensures { SightAnswers }
 {}
 
-/// Where no crate is restricted all is as without visibility.
+/// If no crate is restricted, all is as without visibility.
 pub fn plain_law()
     ensures verdicts { PlainVerdicts }
     ensures matches { PlainMatches }

@@ -1,4 +1,4 @@
-//! What a request or a command can be refused for. The names are the codes that the program prints.
+//! The reasons to refuse a request or a command. The names are the codes that the program prints.
 
 ghost use Rattle.std.specs.Prelude.{◌≡◌};
 
@@ -20,7 +20,7 @@ pub enum Rule {
     H5,
     /// no route
     H6,
-    /// a method that the route has not
+    /// a method that the route lacks
     H7,
     /// no token
     A1,
@@ -30,7 +30,7 @@ pub enum Rule {
     A3,
     /// a disabled account
     A4,
-    /// an endpoint that the token has not
+    /// an endpoint that the token lacks
     A6,
     /// a crate that no pattern of the token covers
     A7,
@@ -42,11 +42,11 @@ pub enum Rule {
     A10,
     /// a publish body that is too short
     B1,
-    /// a publish body with bytes behind it
+    /// a publish body with bytes after it
     B2,
     /// metadata or an archive that is too long
     B3,
-    /// metadata that is no JSON
+    /// metadata that is not JSON
     B4,
     /// a field of the metadata that is missing or of the wrong kind
     B5,
@@ -58,7 +58,7 @@ pub enum Rule {
     N3,
     /// a bad version
     V1,
-    /// a release that is published already
+    /// a release that is already published
     V2,
     /// a bad dependency
     M1,
@@ -76,11 +76,11 @@ pub enum Rule {
     O4,
     /// a bad `per_page`
     Q1,
-    /// memory or the store was refused
+    /// memory or the store failed
     S1,
 }
 
-/// What a command of the administrator can be refused for.
+/// The reasons to refuse a command of the administrator.
 #[derive(Clone, Copy, Debug, PartialEq, Eq)]
 pub enum AdminRefusal {
     /// a bad login or name
@@ -99,9 +99,9 @@ pub enum AdminRefusal {
     G7,
     /// no such crate
     G8,
-    /// no endpoint, or a word that is none
+    /// no endpoint, or a word that names none
     G9,
-    /// memory or the store was refused
+    /// memory or the store failed
     G10,
 }
 

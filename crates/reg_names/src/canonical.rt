@@ -41,8 +41,7 @@ pub(crate) fn canon_byte(b: u8) -> u8
     }
 }
 
-/// `canon` gives the name in ASCII lower case with `_` for `-`.
-/// Names that differ in nothing else are one crate.
+/// The name in ASCII lower case with `_` for `-`. Names that differ in nothing else are one crate.
 pub fn canon(name: &CrateName) -> CanonText
     ensures { result ≡ canon name.now }
 {
@@ -53,8 +52,7 @@ pub fn canon(name: &CrateName) -> CanonText
     CanonText { text }
 }
 
-/// `collides` tells whether two names have one canonical text.
-/// A registry holds only one of such names.
+/// Whether two names have the same canonical text. A registry holds only one of them.
 pub fn collides(one: &CrateName, other: &CrateName) -> bool
     ensures { IsTrue result ↔ (canon one.now ≡ canon other.now) }
 {

@@ -1,8 +1,7 @@
 //! The names of a registry: crate names, logins, and the patterns of token scopes.
 //!
-//! Each is a small value that takes no memory of the heap, made from a text by its parser alone.
-//! From a crate name come its index path and its canonical text, which two spellings of one crate
-//! share.
+//! Each is a small value that takes no heap memory, made from a text only by its parser. A crate
+//! name gives its index path and its canonical text, which two spellings of one crate share.
 //!
 //! ```
 //! let name = parse_name("Cargo-Tools")?;

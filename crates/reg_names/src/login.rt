@@ -43,7 +43,7 @@ fn is_login(text: &str) -> bool
     bytes[0].is_ascii_lowercase() && all_login_bytes(bytes)
 }
 
-/// `parse_login` accepts a text exactly when it is a login.
+/// Accepts a text exactly when it is a login.
 pub fn parse_login(text: &str) -> Option<Login>
     ensures { result ≡ login_of text.now }
 {
@@ -66,7 +66,7 @@ impl Login {
         self.text.as_str()
     }
 
-    /// The same login once more.
+    /// A copy of the login.
     pub fn copy(&self) -> Login
         ensures { result ≡ self.now }
     {

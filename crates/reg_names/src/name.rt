@@ -51,7 +51,7 @@ pub(crate) fn is_name(bytes: &[u8]) -> bool
     bytes[0].is_ascii_alphabetic() && all_name_bytes(bytes)
 }
 
-/// `parse_name` accepts a text exactly when it is a crate name.
+/// Accepts a text exactly when it is a crate name.
 pub fn parse_name(text: &str) -> Option<CrateName>
     ensures { result ≡ name_of text.now }
 {
@@ -75,7 +75,7 @@ impl CrateName {
         self.text.as_str()
     }
 
-    /// The same name once more.
+    /// A copy of the name.
     pub fn copy(&self) -> CrateName
         ensures { result ≡ self.now }
     {
@@ -83,7 +83,7 @@ impl CrateName {
     }
 }
 
-/// `lower` gives the name in ASCII lower case, as index paths spell it.
+/// The name in ASCII lower case, as index paths spell it.
 pub fn lower(name: &CrateName) -> CrateName
     ensures { result ≡ lower name.now }
 {

@@ -8,10 +8,10 @@ use crate::name::{CrateName, lower, parse_name};
 use arrayvec::ArrayString;
 use std::marker::Model;
 
-/// How many bytes an index path has at most: a folder of 6 and a name of 64.
+/// The most bytes in an index path: a folder of 6 and a name of 64.
 pub const LONGEST_PATH: usize = 70;
 
-/// The index path of some crate name, as `ca/rg/cargo`.
+/// The index path of some crate name, like `ca/rg/cargo`.
 #[derive(Drop)]
 pub struct PathText {
     text: ArrayString<LONGEST_PATH>,
@@ -34,7 +34,7 @@ impl PathText {
     }
 }
 
-/// The folder of a lower-case name, with its last slash.
+/// The folder of a lower-case name, with its trailing slash.
 fn folder(name: &str) -> ArrayString<6>
     requires { IsAscii name.now }
     ensures { result.bytes ≡ folder_of name.now }
@@ -61,7 +61,7 @@ fn folder(name: &str) -> ArrayString<6>
     text
 }
 
-/// `index_path` gives the path of a crate's index file.
+/// The path of a crate's index file.
 pub fn index_path(name: &CrateName) -> PathText
     ensures { result ≡ path_of name.now }
 {
@@ -72,7 +72,7 @@ pub fn index_path(name: &CrateName) -> PathText
     PathText { text }
 }
 
-/// How long the folder of a path is, told by the length of the path.
+/// The length of a path's folder, from the length of the path.
 #[tactic(auto, using(crate::proofs::PathFacts::path_lengths))]
 fn folder_len(path_len: usize) -> usize
     ensures { (m : List ℕ) → 0 < length m → path_len ≡ length (folder_of m ++ m)
@@ -85,7 +85,7 @@ fn folder_len(path_len: usize) -> usize
     }
 }
 
-/// What stands behind the folder of a path, or nothing for a text that is no path.
+/// What stands after the folder of a path, or nothing for a text that is no path.
 fn file_name(path: &str) -> &str
     ensures { (n : List ℕ) → is_name n ≡ true → path_of n ≡ path.now → result.now ≡ lower n }
 {
@@ -95,7 +95,7 @@ fn file_name(path: &str) -> &str
     }
 }
 
-/// What stands behind the folder of a path, where the text is its path.
+/// The name after the folder of a path, if the text is its path.
 fn named_by(path: &str) -> Option<CrateName>
     ensures { (n : List ℕ) → (result ≡ Some n) ↔ IsPathOf n path.now }
 {
@@ -107,8 +107,7 @@ fn named_by(path: &str) -> Option<CrateName>
     }
 }
 
-/// `name_of_path` accepts a text exactly when it is the index path of a name in lower case.
-/// It gives that name.
+/// Accepts a text exactly when it is the index path of a name in lower case. Returns that name.
 pub fn name_of_path(path: &str) -> Option<CrateName>
     ensures meaning { (n : List ℕ) → (result ≡ Some n) ↔ IsPathOf n path.now }
     ensures value { result ≡ name_at path.now }

@@ -70,7 +70,7 @@ fn begins_like(name: &[u8], prefix: &[u8]) -> bool
 }
 
 impl Pattern {
-    /// `Pattern::parse` accepts a text exactly when it is a pattern.
+    /// Accepts a text exactly when it is a pattern.
     pub fn parse(text: &str) -> Option<Pattern>
         ensures { result ≡ pattern_of text.now }
     {
@@ -83,7 +83,7 @@ impl Pattern {
         }
     }
 
-    /// The pattern as it was given.
+    /// The pattern as given.
     pub fn as_str(&self) -> &str
         ensures value { result.now ≡ self.now }
         ensures pattern { is_pattern result.now ≡ true }
@@ -93,8 +93,7 @@ impl Pattern {
     }
 }
 
-/// `covers` tells whether the pattern covers the name.
-/// Case makes no difference, and neither does `-` for `_`.
+/// Whether the pattern covers the name. Case makes no difference, and neither does `-` for `_`.
 pub fn covers(pattern: &Pattern, name: &CrateName) -> bool
     ensures meaning { IsTrue result ↔ Covers pattern.now name.now }
     ensures test { result ≡ covers pattern.now name.now }

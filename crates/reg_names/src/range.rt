@@ -1,5 +1,5 @@
-//! Patterns compiled to ranges of canonical texts.
-//! Whether a pattern covers a name is then two comparisons.
+//! Patterns compiled to ranges of canonical texts. Whether a pattern covers a name then takes two
+//! comparisons.
 
 ghost use Rattle.std.specs.Prelude.{◌≡◌, IfOk, string_bytes};
 ghost use Rattle.std.specs.Str.{IsAscii};
@@ -41,7 +41,7 @@ fn range_to(alloc: Global, base: &[u8], end: &str) -> Result<NameRange, AllocErr
     Ok(NameRange { low, high })
 }
 
-/// `compile` gives the range in which a name lies exactly when the pattern covers it.
+/// The range in which a name lies exactly when the pattern covers it.
 pub fn compile(alloc: Global, pattern: &Pattern) -> Result<NameRange, AllocError>
     ensures { IfOk result (λ r. range_view r ≡ range_of pattern.now) }
 {
@@ -53,7 +53,7 @@ pub fn compile(alloc: Global, pattern: &Pattern) -> Result<NameRange, AllocError
     }
 }
 
-/// `in_range` tells whether a name's canonical text is in a range.
+/// Whether a name's canonical text is in a range.
 pub fn in_range(range: &NameRange, name: &CrateName) -> bool
     ensures { result ≡ is_within (range_view range.now) (canon name.now) }
 {

@@ -1,11 +1,11 @@
-//! What a decision is about, and what it is made from.
+//! What a decision is about, and what it rests on.
 
 use reg_body::Limits;
 use reg_model::{Endpoints, Rule};
 use reg_names::{CrateName, Pattern};
 
 /// What a request does, as far as the rules on the state look at it. Crates and versions are as
-/// they stood in a path.
+/// written in a path.
 #[derive(Drop)]
 pub enum Action<'a> {
     /// Reads the config, or searches.
@@ -20,15 +20,15 @@ pub enum Action<'a> {
     Publish(&'a CrateName, &'a str),
     /// Yanks a version of a crate.
     Yank(&'a str, &'a str),
-    /// Takes back a yank.
+    /// Undoes a yank.
     Unyank(&'a str, &'a str),
     /// Makes the accounts with these logins owners of a crate.
     AddOwners(&'a str, &'a [&'a str]),
-    /// Takes them out of a crate's owners.
+    /// Removes these accounts from a crate's owners.
     RemoveOwners(&'a str, &'a [&'a str]),
 }
 
-/// Whether the rules on the state let an action pass, or the first that it breaks.
+/// Whether the rules on the state allow an action, or the first one it breaks.
 #[derive(Clone, Copy, Debug, PartialEq, Eq)]
 pub enum Decision {
     Allowed,
@@ -50,7 +50,7 @@ pub struct OwnerRow<'a> {
     pub login: &'a str,
 }
 
-/// What a registry says of one caller and one crate.
+/// What a registry holds about one caller and one crate.
 #[derive(Drop)]
 pub struct Rows<'a> {
     /// The token, if it is known.
@@ -59,7 +59,7 @@ pub struct Rows<'a> {
     pub enabled: bool,
     /// The token's patterns.
     pub patterns: &'a [Pattern],
-    /// The crate's spelling, if it is there.
+    /// The crate's spelling, if it exists.
     pub first: Option<&'a CrateName>,
     /// The crate's owners.
     pub owners: &'a [OwnerRow<'a>],
@@ -67,7 +67,7 @@ pub struct Rows<'a> {
     pub versions: &'a [&'a str],
     /// Whether the crate's name is reserved.
     pub reserved: bool,
-    /// Whether only its owners and readers may see the crate.
+    /// Whether only the crate's owners and readers may see it.
     pub restricted: bool,
     /// The ids of the crate's readers.
     pub readers: &'a [u32],

@@ -89,7 +89,7 @@ pub fn has_endpoint(endpoints: &Endpoints, endpoint: Endpoint) -> bool
     }
 }
 
-/// Whether the token has not the endpoint that the action needs. An unknown token has none.
+/// Whether the token lacks the endpoint that the action needs. An unknown token has none.
 fn lacks_endpoint(rows: &Rows, action: &Action) -> bool
     ensures { result ≡ lacks (endpoints_of rows.now.token)
         (needed (spelling_of rows.now) (action_of action.now)) }
@@ -115,8 +115,7 @@ pub fn is_covered(patterns: &[Pattern], name: &CrateName) -> bool
     patterns.iter().any(|pattern| covers(pattern, name))
 }
 
-/// The name of the crate that an action is about; none where the text in its place is no crate
-/// name.
+/// The name of the crate that an action is about; none if the text there is no crate name.
 pub fn crate_of(action: &Action) -> Option<CrateName>
     ensures { result ≡ crate_of (action_of action.now) }
 {
@@ -154,7 +153,7 @@ fn is_admitted(rows: &Rows) -> bool
     }
 }
 
-/// Whether the token sees the crate: it is there, and it is not restricted, or the account is
+/// Whether the token sees the crate: it exists, and it is not restricted or the account is
 /// admitted.
 fn is_seen(rows: &Rows) -> bool
     ensures { result ≡ is_seen rows.now }
@@ -162,7 +161,7 @@ fn is_seen(rows: &Rows) -> bool
     rows.first.is_some() && (!rows.restricted || is_admitted(rows))
 }
 
-/// Whether the path is that of the crate.
+/// Whether this is the crate's path.
 fn has_path(rows: &Rows, path: &str) -> bool
     ensures { result ≡ holds (λ n. bytes_eq (path_of n) path.now) (spelling_of rows.now) }
 {
@@ -209,7 +208,7 @@ fn is_misspelled(rows: &Rows, action: &Action) -> bool
     }
 }
 
-/// Whether two texts are the same bytes.
+/// Whether two texts have the same bytes.
 pub fn same_text(one: &str, other: &str) -> bool
     ensures { result ≡ bytes_eq one.now other.now }
 {
@@ -319,7 +318,7 @@ fn broken(rows: &Rows, action: &Action, rule: Rule) -> bool
     }
 }
 
-/// The first rule of the action's order that it breaks.
+/// The first rule in the action's order that it breaks.
 #[tactic(auto, unfolding(reg_model::specs::Rules::verdict))]
 fn first_broken(rows: &Rows, action: &Action) -> Decision
     ensures { result ≡ decision_of (verdict rows.now.limits.now
@@ -334,8 +333,8 @@ fn first_broken(rows: &Rows, action: &Action) -> Decision
     Decision::Allowed
 }
 
-/// The first rule on the state that the action breaks, in the order of its line. Whether there is a
-/// token, and what its body or query breaks, is judged before.
+/// The first rule on the state that the action breaks, in the action's order. Whether there is a
+/// token, and what the body or query breaks, is judged before.
 pub fn decide(rows: &Rows, action: &Action) -> Decision
     ensures facts { result ≡ decision_of (verdict rows.now.limits.now
         (access_of rows.now (action_of action.now)) (counts_of rows.now (action_of action.now))

@@ -9,12 +9,12 @@ use crate::action::Action;
 use reg_model::{AdminRefusal, Rule};
 use reg_names::{CrateName, Login};
 
-/// What a request reads beside index files, archives and owners.
+/// What a request reads besides index files, archives and owners.
 #[derive(Drop)]
 pub enum Reading<'a> {
     /// The config of the registry.
     Config,
-    /// The crates in whose names a text occurs, at most so many.
+    /// The crates whose names contain a text, at most so many.
     Search(&'a str, u32),
 }
 
@@ -30,10 +30,10 @@ pub struct NewPublication<'a> {
     pub archive: &'a [u8],
 }
 
-/// What a request asks for. Crates and versions are as they stood in a path.
+/// What a request asks for. Crates and versions are as written in a path.
 #[derive(Drop)]
 pub enum Asked<'a> {
-    /// Its body or its query breaks this rule, and none before it.
+    /// The body or the query breaks this rule, and none before it.
     Faulty(Rule),
     Read(Reading<'a>),
     Index(&'a str),
@@ -68,9 +68,9 @@ pub enum AdminCommand<'a> {
     Tokens,
     /// Reports all crates.
     Crates,
-    /// Lets only its owners and readers see a crate.
+    /// Lets only the owners and readers see a crate.
     CrateRestrict(&'a str),
-    /// Lets all see it.
+    /// Lets everyone see it.
     CrateOpen(&'a str),
     /// A crate and a login.
     ReaderAdd(&'a str, &'a str),
@@ -80,7 +80,7 @@ pub enum AdminCommand<'a> {
 /// A request or a command.
 #[derive(Drop)]
 pub enum Event<'a> {
-    /// The digest of the token, if just one was shown, and what is asked for.
+    /// The digest of the token, if exactly one was shown, and what is asked for.
     Ask(Option<&'a [u8; 32]>, Asked<'a>),
     Order(AdminCommand<'a>),
 }
@@ -93,7 +93,7 @@ pub struct OwnerEntry {
     pub name: Option<String>,
 }
 
-/// What a command that is done is answered.
+/// The reply to a command that was done.
 #[derive(Drop)]
 pub enum AdminReply {
     Done,
@@ -103,7 +103,7 @@ pub enum AdminReply {
     Text(String),
 }
 
-/// What an event is answered.
+/// The answer to an event.
 #[derive(Drop)]
 pub enum Answer {
     Denied(Rule),
@@ -118,7 +118,7 @@ pub enum Answer {
     Replied(AdminReply),
 }
 
-/// The action of what is asked: all of it that the rules on the state look at.
+/// The action that is asked for: all that the rules on the state look at.
 pub fn action_of<'a>(asked: &Asked<'a>) -> Action<'a>
     ensures { view_of result ≡ action_asked (asked_of asked.now) }
 {

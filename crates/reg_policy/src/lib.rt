@@ -1,7 +1,6 @@
-//! The rules as code: what is asked, the rows that a decision is made from, and the words of
-//! refusals.
+//! The rules as code: what is asked, the rows that a decision rests on, and the texts of refusals.
 //!
-//! `decide` looks at the rows that it is handed and at nothing else.
+//! `decide` looks only at the rows that it is given.
 //!
 //! ```
 //! decide(&rows, &Action::Download("a", "0.1.0"))  // Decision::Denied(Rule::A8): no such crate

@@ -1,4 +1,4 @@
-//! The rules that look at the state, in the order of each action.
+//! The rules that look at the state, in each action's order.
 
 ghost use Rattle.std.specs.Prelude.{◌≡◌};
 ghost use Rattle.reg_model.specs.Rules.{order as order_of};
@@ -69,7 +69,7 @@ const REMOVING: [Rule; 9] = [
     Rule::O4,
 ];
 
-/// The rules that an action is asked, in their order.
+/// The rules that are checked for an action, in order.
 pub(crate) fn order(rows: &Rows, action: &Action) -> &'static [Rule]
     ensures { result.now ≡ order_of (spelling_of rows.now) (action_of action.now) }
 {

@@ -1,4 +1,4 @@
-//! A line for each entry of the administrator's reports, by columns.
+//! A line for each entry of the administrator's reports, in columns.
 
 ghost use Rattle.std.specs.Prelude.{◌≡◌, ◌++◌, [], IfOk, OnOk, map, string_bytes};
 ghost use Rattle.std.specs.Fmt.{WritesOnOk};
@@ -15,7 +15,7 @@ use reg_names::Pattern;
 use std::alloc::{AllocError, Global};
 use std::fmt;
 
-/// What an endpoint scope is called (RFC 2947, "Endpoint scopes").
+/// The name of an endpoint scope (RFC 2947, "Endpoint scopes").
 pub fn word_of(endpoint: Endpoint) -> &'static str
     ensures { result.now ≡ word_of endpoint }
 {
@@ -27,7 +27,7 @@ pub fn word_of(endpoint: Endpoint) -> &'static str
     }
 }
 
-/// A number in a column of so many bytes, with spaces before it. A longer number pushes on.
+/// A number, padded on the left to a column of so many bytes. A longer number widens it.
 #[derive(Drop)]
 struct Right(usize, usize);
 
@@ -43,7 +43,7 @@ impl fmt::Display for Right {
     }
 }
 
-/// A text in a column of so many bytes, with spaces behind it. A longer text pushes on.
+/// A text, padded on the right to a column of so many bytes. A longer text widens it.
 #[derive(Drop)]
 struct Left<'a>(usize, &'a str);
 
@@ -134,7 +134,7 @@ impl<T: Word> fmt::Display for WithCommas<'_, T> {
     }
 }
 
-/// What a reader has in the column of the tokens.
+/// What a reader's line shows in the token column.
 const NO_TOKEN: &str = "       -";
 
 /// An account: its id, login and state, and its name.
@@ -172,7 +172,7 @@ pub fn push_token_line(
     endpoints: &Endpoints,
     patterns: &[Pattern],
 ) -> Result<(), AllocError>
-    // A line shows neither the digest nor the account of a token: here they are any.
+    // A line shows neither the digest nor the account of a token: any will do here.
     ensures { let t : Token = record {
       digest = [];
       account = 0;
@@ -209,7 +209,7 @@ pub fn push_crate_line(
     writeln!(report, "{}  {}  {highest}", Left(64, name), Right(6, count))
 }
 
-/// What a token may do at a crate: its id, the endpoint, and its account's login.
+/// What a token may do with a crate: its id, the endpoint, and its account's login.
 pub fn push_grant_line(
     report: &mut String,
     token: u32,

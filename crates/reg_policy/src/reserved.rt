@@ -1,4 +1,4 @@
-//! The names that are reserved always.
+//! The names that are always reserved.
 
 ghost use Rattle.std.specs.Prelude.{◌≡◌};
 ghost use Rattle.std.specs.List.{list_any};
@@ -19,7 +19,7 @@ fn is_among(texts: &[&str], text: &str) -> bool
     texts.iter().any(|known| same_text(known, text))
 }
 
-/// Whether a canonical text is one that is reserved always: names of Windows devices.
+/// Whether a canonical text is a Windows device name, and so always reserved.
 #[tactic(auto, unfolding(reg_model::specs::Crates::is_reserved_always))]
 pub fn is_reserved_always(crate_text: &CanonText) -> bool
     ensures { result ≡ is_reserved_always_of crate_text.now }

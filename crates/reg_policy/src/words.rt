@@ -1,4 +1,4 @@
-//! What refusals are called.
+//! The texts of refusals.
 
 ghost use Rattle.std.specs.Prelude.{◌≡◌};
 ghost use Rattle.reg_policy.specs.Words.{admin_text_of, status_of, text_of};
@@ -50,7 +50,7 @@ pub fn rule_status(rule: Rule) -> u16
     }
 }
 
-/// What a refused request is told: the code of the rule, a space and words.
+/// The text that a refused request gets: the rule's code, a space and words.
 pub fn rule_text(rule: Rule) -> &'static str
     ensures { result.now ≡ text_of rule }
 {
@@ -93,7 +93,7 @@ pub fn rule_text(rule: Rule) -> &'static str
     }
 }
 
-/// What a refused command is told: the code of the refusal, a space and words.
+/// The text that a refused command gets: the refusal's code, a space and words.
 pub fn admin_text(refusal: AdminRefusal) -> &'static str
     ensures { result.now ≡ admin_text_of refusal }
 {

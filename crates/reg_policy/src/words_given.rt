@@ -1,4 +1,4 @@
-//! The words of a command: names of accounts, endpoints, patterns.
+//! The arguments of a command: account names, endpoints, patterns.
 
 ghost use Rattle.std.specs.Prelude.{◌≡◌, ◌&&◌, if◌then◌else◌, IfOk, None, Some, map, nat_le};
 ghost use Rattle.std.specs.Option.{option_map};
@@ -111,8 +111,8 @@ fn or_all_names(mut patterns: Vec<Pattern>) -> Result<Vec<Pattern>, AllocError>
     Ok(patterns)
 }
 
-/// The patterns that are given, or the one that covers all names where none is; none where a text
-/// is no pattern.
+/// The given patterns, or the one that covers all names if none is given; `None` if a text is no
+/// pattern.
 pub fn parse_patterns(alloc: Global, texts: &[&str]) -> Result<Option<Vec<Pattern>>, AllocError>
     ensures { IfOk result (λ o. option_map (λ v. v.items) o
         ≡ (if list_all is_pattern (map (λ t. t.now) texts.now) then Some

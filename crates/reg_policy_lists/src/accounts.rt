@@ -1,4 +1,4 @@
-//! Accounts, whose ids are their places from 1 on.
+//! Accounts, whose ids are their places counted from 1.
 
 ghost use Rattle.std.specs.Prelude.{◌≡◌, ◌≤◌, ◌++◌, [], ◌∷◌, IfOk, OnErr, OnOk, filter_map, is_some, length, map};
 ghost use Rattle.std.specs.List.{position};
@@ -24,7 +24,7 @@ pub struct PlainAccount {
     pub enabled: bool,
 }
 
-/// Accounts, so few that 32 bits hold their ids.
+/// Accounts, few enough for 32-bit ids.
 #[derive(Drop)]
 pub struct Accounts {
     list: Vec<PlainAccount>,
@@ -83,7 +83,7 @@ impl Accounts {
         self.list.as_slice()
     }
 
-    /// The login of the account with this id; none where it is not there.
+    /// The login of the account with this id, or an empty text.
     pub fn login(&self, id: u32) -> &str
         ensures { result.now ≡ login_in self.now id }
     {
@@ -113,14 +113,14 @@ impl Accounts {
         id != 0 && id as usize <= self.list.len()
     }
 
-    /// Whether the account is there, and among the owners of a crate, or its readers.
+    /// Whether the account exists and is among the owners of a crate, or its readers.
     pub fn is_among(&self, owners: &Owners, crate_text: &CanonText, account: u32) -> bool
         ensures { result ≡ is_among (owned owners.now crate_text.now self.now) account }
     {
         self.has(account) && owners.contains(crate_text, account)
     }
 
-    /// Whether the account with this id is there and enabled.
+    /// Whether the account with this id exists and is enabled.
     pub fn is_enabled(&self, id: u32) -> bool
         ensures { result ≡ holds (λ a. a.enabled) (with_id self.now id) }
     {
@@ -243,7 +243,7 @@ impl Accounts {
         Ok(entries)
     }
 
-    /// Adds an account. Where 32 bits do not hold its id there is no room.
+    /// Adds an account. If 32 bits do not hold its id, there is no room.
     pub fn add(&mut self, account: PlainAccount) -> Result<(), AllocError>
         ensures ok { OnOk result (self.new ≡ self.old ++ account_of account ∷ []) }
         ensures err { OnErr result (self.new ≡ self.old) }
@@ -255,7 +255,7 @@ impl Accounts {
         Ok(())
     }
 
-    /// Makes the account with this id enabled or not.
+    /// Enables or disables the account with this id.
     pub fn enable(&mut self, id: u32, enabled: bool)
         ensures { self.new ≡ change_at (λ a. record a { enabled = enabled }) id self.old }
     {

@@ -11,14 +11,14 @@ use crate::publications::{Publication, collide};
 use reg_names::{CrateName, canon};
 use std::alloc::{AllocError, Global};
 
-/// Whether the one's canonical text stands behind the other's.
+/// Whether the one's canonical text comes after the other's.
 fn is_behind(one: &CrateName, other: &CrateName) -> bool
     ensures { result ≡ is_gt (text_cmp (canon_of one.now) (canon_of other.now)) }
 {
     canon(one).as_str() > canon(other).as_str()
 }
 
-/// How many names at the front the new one stands behind.
+/// How many names at the front the new one comes after.
 fn place_of(names: &[&CrateName], new: &CrateName) -> usize
     ensures place { result ≡ place_for (canon_of new.now) (map (λ n. canon_of n.now) names.now) }
     ensures bound { result ≤ length names.now }
@@ -45,7 +45,7 @@ fn is_at(names: &[&CrateName], place: usize, name: &CrateName) -> bool
     }
 }
 
-/// Puts a name in its place, unless one of its crate stands there.
+/// Puts a name in its place, unless its crate has one there.
 fn put<'a>(names: &mut Vec<&'a CrateName>, name: &'a CrateName) -> Result<(), AllocError>
     ensures { OnOk result (map (λ n. canon_of n.now) names.new.items ≡ put_text
         (canon_of name.now) (map (λ n. canon_of n.now) names.old.items)) }
@@ -57,7 +57,7 @@ fn put<'a>(names: &mut Vec<&'a CrateName>, name: &'a CrateName) -> Result<(), Al
     Ok(())
 }
 
-/// A name of each crate that these are publications of, in the order of their canonical texts.
+/// A name of each crate among these publications, in the order of their canonical texts.
 pub(crate) fn names_of(alloc: Global, list: &[Publication]) -> Result<Vec<&CrateName>, AllocError>
     ensures { IfOk result (λ v. map (λ n. canon_of n.now) v.items ≡ canons_in
         (map publication_of list.now)) }

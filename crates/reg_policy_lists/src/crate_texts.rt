@@ -11,7 +11,7 @@ use reg_policy::same_text;
 use std::alloc::{AllocError, Global};
 use std::marker::Model;
 
-/// A set of canonical texts. What stands in the list twice counts once.
+/// A set of canonical texts. What the list holds twice counts once.
 #[derive(Drop)]
 pub struct CrateTexts {
     list: Vec<CanonText>,
@@ -42,7 +42,7 @@ fn has_text(texts: &[CanonText], crate_text: &CanonText) -> bool
 }
 
 impl CrateTexts {
-    /// Nothing.
+    /// Empty.
     pub fn new(alloc: Global) -> CrateTexts
         ensures { result ≡ set.empty }
     {
@@ -67,7 +67,7 @@ impl CrateTexts {
         Ok(())
     }
 
-    /// Takes it out of the set.
+    /// Removes it from the set.
     pub fn remove(&mut self, name: &CrateName)
         ensures { self.new ≡ set.remove self.old (canon_of name.now) }
     {

@@ -1,7 +1,6 @@
 //! The lists and sets of the plain registry, as vectors that stand for those of the abstract one.
 //!
-//! A list is in the order of its ids, from 1 on; what stands in the vector of a set twice counts
-//! once.
+//! A list is in the order of its ids, from 1 on; what a set's vector holds twice counts once.
 //!
 //! ```
 //! let mut accounts = Accounts::new(alloc);

@@ -13,14 +13,14 @@ use reg_policy::same_text;
 use std::alloc::{AllocError, Global};
 use std::marker::Model;
 
-/// That an account owns a crate, or reads it.
+/// An account that owns a crate, or reads it.
 #[derive(Drop)]
 pub struct PlainOwner {
     pub crate_text: CanonText,
     pub account: u32,
 }
 
-/// A set of owners, or of readers. What stands in the list twice counts once.
+/// A set of owners, or of readers. What the list holds twice counts once.
 #[derive(Drop)]
 pub struct Owners {
     list: Vec<PlainOwner>,
@@ -58,7 +58,7 @@ fn has_owner(owners: &[PlainOwner], crate_text: &CanonText, account: u32) -> boo
         .any(|owner| is_owner(owner, crate_text, account))
 }
 
-/// Whether this is an owner of the crate that is among the accounts.
+/// Whether this is an owner of the crate and among the accounts.
 fn is_among(owner: &PlainOwner, crate_text: &CanonText, accounts: &[u32]) -> bool
     ensures { result ≡ (bytes_eq owner.now.crate_text crate_text.now && list_any
         (λ id. id == owner.now.account) accounts.now) }
@@ -113,7 +113,7 @@ impl Owners {
         Ok(())
     }
 
-    /// Makes the accounts owners of the crate, all of them or none.
+    /// Makes the accounts owners of the crate, all or none.
     pub fn insert_all(
         &mut self,
         alloc: Global,
@@ -128,7 +128,7 @@ impl Owners {
         Ok(())
     }
 
-    /// Takes the account out of the owners of the crate.
+    /// Removes the account from the owners of the crate.
     pub fn remove(&mut self, name: &CrateName, account: u32)
         ensures { self.new ≡ set.remove self.old (canon_of name.now, account) }
     {
@@ -137,7 +137,7 @@ impl Owners {
             .retain(|owner| !is_owner(owner, &crate_text, account));
     }
 
-    /// Takes the accounts out of the owners of the crate.
+    /// Removes the accounts from the owners of the crate.
     pub fn remove_all(&mut self, name: &CrateName, accounts: &[u32])
         ensures { self.new ≡ set.difference self.old (owners_of name.now accounts.now) }
     {

@@ -1,4 +1,4 @@
-//! What is published, in its order.
+//! What is published, in order.
 
 ghost use Rattle.std.specs.Prelude.{◌≡◌, ◌≤◌, ◌&&◌, ◌++◌, [], ◌∷◌, IfOk, OnErr, OnOk, length, map, string_bytes};
 ghost use Rattle.std.specs.Option.{option_map};
@@ -173,7 +173,7 @@ impl Publications {
         }
     }
 
-    /// Whether a crate of this name is there.
+    /// Whether a crate of this name exists.
     pub fn exists(&self, name: &CrateName) -> bool
         ensures { result ≡ list_any (λ p. collides_of p.name name.now) self.now }
     {
@@ -224,7 +224,7 @@ impl Publications {
         names_of(alloc, self.list.as_slice())
     }
 
-    /// The archive of this very version of a crate.
+    /// The archive of exactly this version of a crate.
     pub fn archive(&self, name: &CrateName, version: &str) -> Option<&[u8]>
         ensures { option_map (λ a. a.now) result ≡ option_map (λ p. p.archive)
             (find (λ p. bytes_eq p.version version.now) (versions_in self.now name.now)) }
@@ -285,7 +285,7 @@ impl Publications {
     }
 }
 
-/// How many crates these are publications of.
+/// How many crates these publications belong to.
 fn count_crates(list: &[Publication]) -> u64
     ensures value { result ≡ set.len (set.from_list {R = text_cmp}
         (map (λ p. canon_of p.name) list.now)) }
@@ -304,7 +304,7 @@ fn count_crates(list: &[Publication]) -> u64
     }
 }
 
-/// A publication of what is new.
+/// The publication of a new version.
 pub fn published(alloc: Global, new: &NewPublication) -> Result<Publication, AllocError>
     ensures { IfOk result (λ p. publication_of p ≡ new_publication new.now) }
 {

@@ -1,4 +1,4 @@
-//! Tokens, whose ids are their places from 1 on.
+//! Tokens, whose ids are their places counted from 1.
 
 ghost use Rattle.std.specs.Prelude.{◌≡◌, ◌≤◌, ◌++◌, ◌+◌, [], ◌∷◌, false, is_some, IfOk, OnErr, OnOk, length, map};
 ghost use Rattle.std.specs.Option.{option_map};
@@ -22,7 +22,7 @@ pub struct PlainToken {
     pub patterns: Vec<Pattern>,
 }
 
-/// Tokens, so few that 32 bits hold their ids.
+/// Tokens, few enough for 32-bit ids.
 #[derive(Drop)]
 pub struct Tokens {
     list: Vec<PlainToken>,
@@ -103,7 +103,7 @@ impl Tokens {
         id != 0 && id as usize <= self.list.len()
     }
 
-    /// Adds a token, and tells its id. Where 32 bits do not hold it there is no room.
+    /// Adds a token and returns its id. If 32 bits do not hold it, there is no room.
     pub fn add(&mut self, token: PlainToken) -> Result<u32, AllocError>
         ensures ok { OnOk result (self.new ≡ self.old ++ token_of token ∷ []) }
         ensures id { IfOk result (λ id. id ≡ length self.old + 1) }

@@ -1,4 +1,4 @@
-//! The versions of a crate, read, and the publication at a place.
+//! The versions of a crate, parsed, and the publication at a place.
 
 ghost use Rattle.std.specs.Prelude.{◌≡◌, [], IfOk, map, slice_get, string_bytes};
 ghost use Rattle.std.specs.Option.{option_map};
@@ -22,7 +22,7 @@ fn release_of(alloc: Global, version: &str) -> Result<Release, AllocError>
     }
 }
 
-/// What a text that is no version counts as.
+/// The stand-in for a text that is no version.
 fn zero(alloc: Global) -> Result<Release, AllocError>
     ensures { IfOk result (λ r. r ≡ (0, 0, 0, [], [])) }
 {
@@ -42,7 +42,7 @@ pub(crate) fn publication_at<'a>(list: &[&'a Publication], place: usize) -> Opti
     }
 }
 
-/// The versions of publications of a crate, read, with their marks.
+/// The parsed versions of a crate's publications, with their marks.
 pub(crate) fn releases(
     alloc: Global,
     list: &[&Publication],

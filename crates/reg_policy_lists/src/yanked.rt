@@ -11,14 +11,14 @@ use reg_policy::same_text;
 use std::alloc::{AllocError, Global};
 use std::marker::Model;
 
-/// That a version of a crate is yanked.
+/// A yanked version of a crate.
 #[derive(Drop)]
 pub struct Mark {
     pub crate_text: CanonText,
     pub version: String,
 }
 
-/// A set of marks. What stands in the list twice counts once.
+/// A set of marks. What the list holds twice counts once.
 #[derive(Drop)]
 pub struct Marks {
     list: Vec<Mark>,
@@ -90,7 +90,7 @@ impl Marks {
         Ok(())
     }
 
-    /// Takes the mark from the version.
+    /// Removes the version's mark.
     pub fn remove(&mut self, name: &CrateName, version: &str)
         ensures { self.new ≡ set.remove self.old (canon_of name.now, version.now) }
     {

@@ -1,4 +1,4 @@
-//! What the registry over vectors does for a request that is allowed.
+//! What the registry over vectors does for an allowed request.
 
 ghost use Rattle.std.specs.Prelude.{◌≡◌, ℕ, IfOk, OnErr, OnOk, None, is_some, map, true};
 ghost use Rattle.std.specs.Option.{option_map};
@@ -42,7 +42,7 @@ impl PlainRegistry {
         }
     }
 
-    /// Does what is asked for, where the rules on the state let it pass.
+    /// Does what is asked for, which the rules on the state allow.
     fn serve(&mut self, digest: &[u8; 32], asked: &Asked) -> Result<Answer, AllocError>
         requires allowed { judged (limits_of self.old) (registry_of self.old) digest.now
             (action_asked (asked_of asked.now)) ≡ None }

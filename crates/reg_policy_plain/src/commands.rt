@@ -66,7 +66,7 @@ impl PlainRegistry {
         }
     }
 
-    /// The id of the account with this login, or that there is none.
+    /// The id of the account with this login, or a refusal.
     pub(crate) fn known_login(&self, login: &str) -> Result<u32, AdminRefusal>
         ensures { result ≡ login_found (registry_of self.now) login.now }
     {
@@ -132,7 +132,7 @@ impl PlainRegistry {
         Ok(AdminReply::Done)
     }
 
-    /// Whether a token with so many patterns is one too many, or has too many.
+    /// Whether a token with so many patterns exceeds the limit of tokens or of patterns.
     fn is_full_for(&self, patterns: usize) -> bool
         ensures { result ≡ (nat_lt (limits_of self.now).patterns patterns || nat_le
             (limits_of self.now).tokens (length (registry_of self.now).tokens)) }

@@ -13,7 +13,7 @@ use reg_names::{CrateName, canon, parse_name};
 use reg_policy::{AdminReply, is_reserved_always};
 
 impl PlainRegistry {
-    /// The crate of this name, or that there is none.
+    /// The crate of this name, or a refusal.
     fn known_crate(&self, name: &str) -> Result<CrateName, AdminRefusal>
         ensures { result ≡ crate_found (registry_of self.now) name.now }
     {

@@ -1,7 +1,6 @@
-//! A plain registry, which follows the rules over vectors.
+//! A plain registry that follows the rules over vectors.
 //!
-//! It looks through all that it has for each answer: it is there to be read, and to be compared
-//! with.
+//! It searches all that it has for each answer: it is meant to be read, and to compare with.
 //!
 //! ```
 //! let mut registry = PlainRegistry::new(alloc, Limits::STANDARD);

@@ -14,8 +14,8 @@ use reg_policy::{Answer, Event, is_reserved_always};
 use reg_policy_lists::{Accounts, CrateTexts, Marks, Owners, Publications, Tokens};
 use std::alloc::Global;
 
-/// A registry over vectors, whose base is `http://127.0.0.1:8080`. It looks through all that it
-/// has for each answer.
+/// A registry over vectors, whose base is `http://127.0.0.1:8080`. It searches all that it has for
+/// each answer.
 #[derive(Drop)]
 pub struct PlainRegistry {
     pub(crate) alloc: Global,
@@ -58,14 +58,14 @@ impl PlainRegistry {
         is_reserved_always(&crate_text) || self.reserved.contains(&crate_text)
     }
 
-    /// Whether the account is there, and owns the crate.
+    /// Whether the account exists and owns the crate.
     pub(crate) fn is_owner(&self, name: &CrateName, account: u32) -> bool
         ensures { result ≡ is_among (owners_in (registry_of self.now) name.now) account }
     {
         self.accounts.is_among(&self.owners, &canon(name), account)
     }
 
-    /// The id of the token's account; 0 where the token is unknown.
+    /// The id of the token's account; 0 if the token is unknown.
     pub(crate) fn account_of(&self, digest: &[u8; 32]) -> u32
         ensures { result ≡ account_of (registry_of self.now) digest.now }
     {
@@ -76,7 +76,7 @@ impl PlainRegistry {
     }
 
     /// Answers a request or a command, and does what it asks for unless it is refused. A request
-    /// for the config or a search is given its decision alone.
+    /// for the config or a search gets only its decision.
     pub fn step(&mut self, event: &Event) -> Answer
         ensures step { PlainStep (limits_of self.old) (registry_of self.old) (event_of event.now)
             (answer_of result) (registry_of self.new) }

@@ -45,7 +45,7 @@ fn push_user(report: &mut String, id: u32, account: &PlainAccount) -> Result<(),
     push_user_line(report, id, account.login.as_str(), name, account.enabled)
 }
 
-/// A line for each account, behind so many others.
+/// A line for each account, after so many others.
 fn push_users(report: &mut String, before: u32, accounts: &[PlainAccount]) -> Result<(), AllocError>
     requires { before + length accounts.now ≤ 4294967295 }
     ensures { OnOk result (string_bytes report.new ≡ string_bytes report.old ++ flat_map user_line
@@ -60,7 +60,7 @@ fn push_users(report: &mut String, before: u32, accounts: &[PlainAccount]) -> Re
     }
 }
 
-/// A line for each token, behind so many others.
+/// A line for each token, after so many others.
 fn push_tokens(
     report: &mut String,
     before: u32,
@@ -90,7 +90,7 @@ fn push_tokens(
     }
 }
 
-/// A line for the account, where it reads the crate.
+/// A line for the account, if it reads the crate.
 fn push_if_reader(
     report: &mut String,
     id: u32,
@@ -109,7 +109,7 @@ fn push_if_reader(
     }
 }
 
-/// A line for each of the accounts that reads the crate, behind so many others.
+/// A line for each account that reads the crate, after so many others.
 fn push_readers(
     report: &mut String,
     before: u32,
@@ -132,7 +132,7 @@ fn push_readers(
     }
 }
 
-/// The name; none where there is none.
+/// The name, or an empty text.
 pub(crate) fn spelling_of(first: Option<&CrateName>) -> &str
     ensures { result.now ≡ unwrap_or (option_map (λ n. n.now) first.entry) [] }
 {
@@ -142,7 +142,7 @@ pub(crate) fn spelling_of(first: Option<&CrateName>) -> &str
     }
 }
 
-/// The version of a publication; none where there is none.
+/// The version of a publication, or an empty text.
 pub(crate) fn version_of(top: Option<&Publication>) -> &str
     ensures { result.now ≡ unwrap_or (option_map (λ p. string_bytes p.now.version) top.entry) [] }
 {
@@ -212,7 +212,7 @@ impl PlainRegistry {
         }
     }
 
-    /// The lines of each token, behind so many others.
+    /// The lines of each token, after so many others.
     fn push_grants(
         &self,
         report: &mut String,
@@ -234,7 +234,7 @@ impl PlainRegistry {
         }
     }
 
-    /// A line for each reader of the crate, where it is restricted.
+    /// A line for each reader of the crate, if it is restricted.
     fn push_who_reads(&self, report: &mut String, name: &CrateName) -> Result<(), AllocError>
         ensures { OnOk result (string_bytes report.new ≡ string_bytes report.old ++ flat_map
             (λ r. reader_line r.1.login) (who_reads (registry_of self.now) name.now)) }

@@ -32,7 +32,7 @@ fn token_facts(token: Option<&PlainToken>) -> Option<TokenFacts>
     }
 }
 
-/// The patterns of a token; none where it is unknown.
+/// The patterns of a token; none if it is unknown.
 fn patterns_of<'a>(token: Option<&'a PlainToken>) -> &'a [Pattern]
     ensures { result.now ≡ patterns_held (option_map (λ t. token_of t.now) token.entry) }
 {

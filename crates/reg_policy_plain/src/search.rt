@@ -24,7 +24,7 @@ pub struct Hit {
     pub name: String,
     /// Its highest version.
     pub version: String,
-    /// What is said of that version, if anything is.
+    /// The description of that version, if any.
     pub description: Option<String>,
 }
 
@@ -55,7 +55,7 @@ fn canon_text(alloc: Global, text: &str) -> Result<Vec<u8>, AllocError>
         .collect(alloc)
 }
 
-/// Whether the query stands somewhere in the text.
+/// Whether the query occurs in the text.
 fn occurs(query: &[u8], text: &[u8]) -> bool
     ensures { result ≡ occurs query.now text.now }
 {
@@ -101,7 +101,7 @@ fn first_of<'a, 'b>(names: &'b [&'a CrateName], most: usize) -> &'b [&'a CrateNa
 }
 
 impl PlainRegistry {
-    /// Whether the account is there, and reads the crate.
+    /// Whether the account exists and reads the crate.
     fn is_reader(&self, name: &CrateName, account: u32) -> bool
         ensures { result ≡ is_among (readers_in (registry_of self.now) name.now) account }
     {
@@ -176,8 +176,8 @@ impl PlainRegistry {
         Ok(hits)
     }
 
-    /// The crates that an account, or nobody, sees and whose canonical texts hold that of a query:
-    /// how many there are, and the first of them by canonical text, at most so many.
+    /// The crates that an account, or nobody, sees and whose canonical texts contain that of a
+    /// query: how many there are, and the first of them by canonical text, at most so many.
     pub fn search(&self, viewer: Option<u32>, query: &str, most: u32) -> Result<Found, AllocError>
         ensures { IfOk result (λ f. found_of f ≡ found (registry_of self.now) viewer query.now
             most) }

@@ -9,8 +9,7 @@ use crate::counted::Counted;
 use std::io::{self, Read};
 
 impl<R: Read> Counted<R> {
-    /// One read of the end. What the end answers is passed on.
-    /// An interrupted read is therefore a failure too.
+    /// Reads once from the end. Its answer is passed on, so an interrupted read is a failure too.
     pub fn read(&mut self, buf: &mut [u8]) -> io::Result<usize>
         requires { self.old.calls < 2 ^ 64 - 1 }
         ensures bound { ReadsAtMost result buf.new }

@@ -9,7 +9,7 @@ use crate::counted::Counted;
 use std::io::{self, ErrorKind, Write};
 
 impl<W: Write> Counted<W> {
-    /// One write to the end. A write that takes none of some bytes is answered `WriteZero`.
+    /// Writes once to the end. A write that takes none of some bytes gives `WriteZero`.
     pub fn write(&mut self, buf: &[u8]) -> io::Result<usize>
         requires { self.old.calls < 2 ^ 64 - 1 }
         ensures bound { WritesAtMost result buf.now }
