@@ -1,4 +1,4 @@
-//! Whether a request may pass, decided from the rows of the access texts.
+//! Whether a request may pass, decided from the rows of the access queries.
 
 ghost use Rattle.std.specs.Prelude.{IfOk};
 ghost use Rattle.reg_policy.specs.Views.{action_of};
@@ -34,9 +34,9 @@ fn judge<S: Alter>(
     Ok(admission_of(&token, found, action))
 }
 
-/// Whether the tables let an action of the token with this digest pass; the first rule on access
-/// that it breaks, or who is let pass and the crate that was found. What is decided is decided of
-/// any rows; where they stand for a registry it is the written policy's.
+/// Whether the tables allow an action of the token with this digest: the first access rule that it
+/// breaks, or who is allowed and the crate that was found. The decision holds for any rows; if they
+/// stand for a registry, it is the written policy's.
 pub fn admit<S: Alter>(
     work: &mut Work<'_, S>,
     digest: &Digest,
@@ -57,7 +57,7 @@ pub fn admit<S: Alter>(
     judge(work, digest, action)
 }
 
-/// What `admit` decides, alone.
+/// Only what `admit` decides.
 pub fn authorize<S: Alter>(
     work: &mut Work<'_, S>,
     digest: &Digest,

@@ -1,4 +1,4 @@
-//! Whether a request is let pass, and what was found on the way.
+//! Whether a request is allowed, and what was found on the way.
 
 ghost use Rattle.std.specs.Prelude.{◌≡◌, IsSome, Some};
 ghost use Rattle.std.specs.Option.{option_map};
@@ -16,24 +16,24 @@ use reg_tables::TokenRow;
 /// A crate that an action names.
 #[derive(Drop)]
 pub struct FoundCrate {
-    /// The id that the tables have given it.
+    /// Its id in the tables.
     pub id: u32,
-    /// Its spelling, which may not be the one in which the action names it.
+    /// Its spelling, which may differ from the one that the action uses.
     pub name: CrateName,
 }
 
-/// Who is let pass, and the crate of the action.
+/// Who is allowed, and the crate of the action.
 #[derive(Drop)]
 pub struct Caller {
     /// The id of the token's account.
     pub account: u32,
-    /// The crate that the action names, if it is there. Only an action that names none, and one
-    /// that publishes, are let pass without.
+    /// The crate that the action names, if it is there. Only an action that names none, or one that
+    /// publishes, is allowed without one.
     pub found: Option<FoundCrate>,
 }
 
 impl Caller {
-    /// The crate of an action that is not let pass without.
+    /// The crate of an action that is not allowed without one.
     pub fn found_crate(&self) -> &FoundCrate
         requires { IsSome self.now.found }
         ensures { self.now.found ≡ Some result.now }
@@ -42,10 +42,10 @@ impl Caller {
     }
 }
 
-/// Whether a request is let pass.
+/// Whether a request is allowed.
 #[derive(Drop)]
 pub enum Admission {
-    /// This is the first rule on access that it breaks.
+    /// This is the first access rule that it breaks.
     Denied(Rule),
     /// It breaks none.
     Allowed(Caller),
@@ -75,7 +75,7 @@ fn crate_of_row(row: Option<CrateRow>) -> Option<FoundCrate>
     }
 }
 
-/// What follows for an action from what was found.
+/// The admission of an action, given what was found.
 pub(crate) fn admission_of(token: &TokenRow, found: Found, action: &Action) -> Admission
     ensures { IsAdmitted (action_of action.now) token.now found result }
 {

@@ -1,4 +1,4 @@
-//! The first rule on access that an action breaks, of what was found.
+//! The first access rule that an action breaks, given what was found.
 
 ghost use Rattle.std.specs.Prelude.{◌≡◌};
 ghost use Rattle.reg_names.specs.Names.{path_of};
@@ -37,7 +37,7 @@ fn is_owned(row: &Option<CrateRow>) -> bool
     }
 }
 
-/// Whether the crate is there, and is not restricted, or the account owns it or reads it.
+/// Whether the crate is there, and is unrestricted, or owned or read by the account.
 fn is_visible(row: &Option<CrateRow>) -> bool
     ensures { result ≡ is_visible_of row.now }
 {
@@ -47,7 +47,7 @@ fn is_visible(row: &Option<CrateRow>) -> bool
     }
 }
 
-/// Whether the path is that of the crate.
+/// Whether the path is the crate's.
 fn has_path(row: &Option<CrateRow>, path: &str) -> bool
     ensures { result ≡ holds (λ n. bytes_eq (path_of n) path.now) (spelling_in row.now) }
 {
@@ -57,7 +57,7 @@ fn has_path(row: &Option<CrateRow>, path: &str) -> bool
     }
 }
 
-/// Whether the account sees no crate, or not at this path.
+/// Whether the account sees no crate, or none at this path.
 fn is_absent(found: &Found, action: &Action) -> bool
     ensures { (t : AnyToken) → result ≡ is_absent_of
         (facts_found (action_of action.now) t found.now) (action_of action.now) }
@@ -72,7 +72,7 @@ fn is_absent(found: &Found, action: &Action) -> bool
     }
 }
 
-/// Whether the crate is there under another spelling than is published.
+/// Whether the crate is there, but spelled differently than published.
 fn is_misspelled(found: &Found, action: &Action) -> bool
     ensures { (t : AnyToken) → result ≡ is_misspelled_of
         (facts_found (action_of action.now) t found.now) (action_of action.now) }
@@ -88,7 +88,7 @@ fn is_misspelled(found: &Found, action: &Action) -> bool
     }
 }
 
-/// Whether the name of the crate is one that is reserved always.
+/// Whether the crate's name is always reserved.
 fn is_always_reserved(action: &Action) -> bool
     ensures { result ≡ is_always_reserved_of (action_of action.now) }
 {
@@ -98,7 +98,7 @@ fn is_always_reserved(action: &Action) -> bool
     }
 }
 
-/// Whether the action breaks the rule on access. A token that was found is known.
+/// Whether the action breaks the access rule. A token that was found is known.
 fn breaks_rule(token: &TokenRow, found: &Found, action: &Action, rule: Rule) -> bool
     ensures { result ≡ breaks (facts_found (action_of action.now) token.now found.now)
         (action_of action.now) rule }
@@ -122,7 +122,7 @@ fn breaks_rule(token: &TokenRow, found: &Found, action: &Action, rule: Rule) -> 
     }
 }
 
-/// The first rule on access that the action breaks.
+/// The first access rule that the action breaks.
 #[tactic(auto, unfolding(reg_model::specs::Rules::access))]
 pub(crate) fn first_broken(token: &TokenRow, found: &Found, action: &Action) -> Decision
     ensures { result ≡ decision_of

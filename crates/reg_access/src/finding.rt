@@ -1,4 +1,4 @@
-//! What the tables say of the crate of an action.
+//! What the tables say about an action's crate.
 
 ghost use Rattle.std.specs.Prelude.{◌≡◌, false, pos, Some};
 ghost use Rattle.reg_model.specs.Actions.{crate_of as crate_asked};
@@ -17,14 +17,14 @@ use reg_policy::{Action, crate_of};
 use reg_tables::{StoreFault, TokenRow, Work};
 use sqlite::Alter;
 
-/// What was found of the crate of an action; what the action does not ask is false.
+/// What was found about an action's crate; what the action does not ask is false.
 #[derive(Drop)]
 pub(crate) struct Found {
     /// Whether a scope of the token covers its name.
     pub covered: bool,
     pub row: Option<CrateRow>,
-    /// Whether the version that is named is there; or what stands against a publication: a version
-    /// of its release or, where the crate is not there, that its name is reserved.
+    /// Whether the named version is there; or what stands against a publication: a version of its
+    /// release or, if the crate is not there, that its name is reserved.
     pub last: bool,
 }
 
@@ -62,7 +62,7 @@ fn has_version_of<S: Alter>(
     }
 }
 
-/// What is asked last of the crate that was found.
+/// What is asked last about the crate that was found.
 fn find_last<S: Alter>(
     work: &mut Work<'_, S>,
     row: &Option<CrateRow>,
@@ -104,7 +104,7 @@ fn find_named<S: Alter>(
     Ok(Found { covered, row, last })
 }
 
-/// What the tables say of the crate of an action, to this token.
+/// What the tables say about an action's crate, for this token.
 pub(crate) fn find_all<S: Alter>(
     work: &mut Work<'_, S>,
     token: &TokenRow,

@@ -6,16 +6,16 @@ use reg_names::{CrateName, parse_name};
 use reg_tables::FromRow;
 use sqlite::{Error, Row};
 
-/// A crate that was found by its canonical text, and what one account is to it.
+/// A crate found by its canonical text, and what one account is to it.
 #[derive(Drop)]
 pub(crate) struct CrateRow {
     pub id: u32,
     pub name: CrateName,
-    /// The account, where it owns the crate.
+    /// The account, if it owns the crate.
     pub owner: Option<u32>,
-    /// The crate, where it is restricted.
+    /// The crate, if it is restricted.
     pub restricted: Option<u32>,
-    /// The account, where it is a reader of the crate.
+    /// The account, if it is a reader of the crate.
     pub reader: Option<u32>,
 }
 

@@ -34,14 +34,14 @@ pub(crate) fn find_candidates<S: Alter>(
     )
 }
 
-/// What a name says of tokens: who owns the crate, and whether there can't be a new one.
+/// What a name says about tokens: who owns the crate, and whether a new one is impossible.
 #[derive(Drop)]
 pub(crate) struct Standing {
     pub owners: Vec<Account>,
     pub taken: bool,
 }
 
-/// The crate with a canonical text.
+/// The crate with this canonical text.
 pub(crate) fn find_named<S: Alter>(
     work: &mut Work<'_, S>,
     canon: &CanonText,
@@ -115,14 +115,14 @@ fn find_standing<S: Alter>(
     standing_of(alloc, work, &found, canon)
 }
 
-/// What has a name is named by one.
+/// A crate name is a name.
 fn is_named(name: &CrateName)
     ensures { is_name name.now ≡ true }
 {
     let _ = name.as_str();
 }
 
-/// Each token and endpoint that may be used on a crate, by token and then by endpoint, once.
+/// Each token and endpoint that may be used on a crate, once, by token and then by endpoint.
 pub fn who_may<S: Alter>(
     alloc: Global,
     work: &mut Work<'_, S>,

@@ -23,7 +23,7 @@ pub struct Grant {
 /// What stands for or against a token.
 #[derive(Clone, Copy)]
 struct Rights {
-    /// The crate is free to be made.
+    /// The crate can be created.
     free: bool,
     /// The token's account owns the crate.
     owned: bool,
@@ -38,7 +38,7 @@ fn is_right(rights: Rights, endpoint: Endpoint) -> bool
     }
 }
 
-/// Adds what a token may use, if it is this endpoint.
+/// Adds this endpoint if the token may use it.
 fn add_one(
     list: &mut Vec<Grant>,
     row: &TokenRow,
@@ -67,7 +67,7 @@ fn is_owner(owners: &[Account], account: u32) -> bool
     owners.iter().any(|owner| owner.id == account)
 }
 
-/// Adds what a token may use, where the crate is free to be made or not.
+/// Adds what a token may use, given whether the crate can be created.
 fn add_of(
     list: &mut Vec<Grant>,
     row: &TokenRow,
@@ -91,7 +91,7 @@ fn add_of(
     Ok(())
 }
 
-/// What the tokens may use, one after another.
+/// What the tokens may use, in order.
 pub(crate) fn grants_of(
     alloc: Global,
     rows: &[TokenRow],

@@ -1,7 +1,7 @@
-//! Which requests the tables let through, and who may act on a crate or reads it.
+//! Which requests the tables allow, and who may act on a crate or read it.
 //!
-//! All is asked of the rows within a transaction; a name is compared with the ranges of a token's
-//! scopes, and no pattern is read.
+//! Everything is asked of the rows within a transaction. A name is compared with the ranges of a
+//! token's scopes; no pattern is read.
 //!
 //! ```
 //! let mut work = tables.work()?;
@@ -9,7 +9,7 @@
 //! admit(&mut work, &digest, &Action::Index("1/a"))?       // the decision, and what was found
 //! let name = parse_name("a")?;
 //! who_may(alloc, &mut work, &name)?               // a `Grant` for each token and endpoint
-//! who_reads(alloc, &mut work, &name)?             // its readers, where it is restricted
+//! who_reads(alloc, &mut work, &name)?             // its readers, if it is restricted
 //! ```
 #![tactic(auto)]
 

@@ -1,4 +1,4 @@
-//! The rules on access in the order of each action, and the endpoint that it needs.
+//! The access rules in the order of each action, and the endpoint that it needs.
 
 ghost use Rattle.std.specs.Prelude.{◌≡◌, true};
 ghost use Rattle.std.specs.List.{filter};
@@ -51,7 +51,7 @@ const CHANGING_OWNERS: [Rule; 7] = [
     Rule::A9,
 ];
 
-/// The rules on access that an action is asked, in their order, where this crate was found.
+/// The access rules that an action is checked against, in order, given the crate found.
 pub(crate) fn order(row: &Option<CrateRow>, action: &Action) -> &'static [Rule]
     ensures { result.now ≡ filter is_access_rule
         (order_of (spelling_in row.now) (action_of action.now)) }
@@ -72,7 +72,7 @@ pub(crate) fn order(row: &Option<CrateRow>, action: &Action) -> &'static [Rule]
     }
 }
 
-/// The endpoint that an action needs, where this crate was found.
+/// The endpoint that an action needs, given the crate found.
 pub(crate) fn needed(row: &Option<CrateRow>, action: &Action) -> Option<Endpoint>
     ensures { result ≡ needed_by (spelling_in row.now) (action_of action.now) }
 {

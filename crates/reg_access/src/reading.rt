@@ -62,7 +62,7 @@ fn readers_from(alloc: Global, accounts: &[Account]) -> Result<Vec<(u32, Login)>
     Ok(list)
 }
 
-/// The readers that the administrator gave a restricted crate, by id, each with its login; none of
+/// The readers that the administrator gave a restricted crate, by id, each with its login; none for
 /// a crate that is open to all, or not there.
 pub fn who_reads<S: Alter>(
     alloc: Global,

@@ -1,4 +1,4 @@
-//! The texts that decide access, a text a function.
+//! The queries that decide access, one per function.
 
 ghost use Rattle.std.specs.Prelude.{◌≡◌, pos};
 ghost use Rattle.sqlite.specs.declared.types.Value.TheVariants.{Int};
@@ -31,7 +31,7 @@ pub(crate) fn find_token<S: Alter>(
     )
 }
 
-/// Whether a scope of the token holds the canonical text.
+/// Whether a scope of the token covers the canonical text.
 pub(crate) fn is_covered<S: Alter>(
     work: &mut Work<'_, S>,
     token: u32,
@@ -66,7 +66,7 @@ pub(crate) fn find_crate<S: Alter>(
     )
 }
 
-/// Whether the crate has a version of this text.
+/// Whether the crate has a version with this text.
 pub(crate) fn has_version<S: Alter>(
     work: &mut Work<'_, S>,
     of_crate: u32,
@@ -82,7 +82,7 @@ pub(crate) fn has_version<S: Alter>(
     )
 }
 
-/// Whether the crate has a version of the release of this text.
+/// Whether the crate has a version of this text's release.
 pub(crate) fn has_release<S: Alter>(
     work: &mut Work<'_, S>,
     of_crate: u32,

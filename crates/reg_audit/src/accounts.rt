@@ -1,4 +1,4 @@
-//! The check of the base and of the accounts.
+//! The check of the base and the accounts.
 
 ghost use Rattle.std.specs.Prelude.{◌≡◌, string_bytes};
 ghost use Rattle.std.specs.List.{list_all};
@@ -30,7 +30,7 @@ fn are_accounts(accounts: &[Account]) -> bool
     accounts.iter().all(|account| is_account(account))
 }
 
-/// Whether the base is one, and the accounts have ids without a gap and well-formed logins and
+/// Whether the base is valid, and the accounts have ids without gaps and well-formed logins and
 /// names.
 pub(crate) fn accounts_pass(rows: &AllRows) -> bool
     ensures { result ≡ accounts_pass_in rows.now }

@@ -69,7 +69,7 @@ fn have_archives<S: Alter>(work: &mut Work<'_, S>, versions: &[Version]) -> Resu
     Ok(true)
 }
 
-/// Whether each version has its archive, and no other archive is there.
+/// Whether each version has its archive, and there is no other.
 pub(crate) fn archives_pass<S: Alter>(
     work: &mut Work<'_, S>,
     rows: &AllRows,

@@ -1,6 +1,6 @@
 //! The checks by their codes.
 
-/// A check that the rows of a store have to pass when it is opened.
+/// A check that a store's rows must pass when it is opened.
 #[derive(Clone, Copy, Debug, PartialEq, Eq)]
 pub enum Check {
     /// the base and the accounts

@@ -53,7 +53,7 @@ fn published_crates(alloc: Global, versions: &[Version]) -> Result<BTreeSet<u32>
     Ok(ids)
 }
 
-/// Whether each crate is named as it should be, and has an owner and a version.
+/// Whether each crate is properly named, and has an owner and a version.
 pub(crate) fn crates_pass(alloc: Global, rows: &AllRows) -> Result<bool, AllocError>
     ensures { IfOk result (λ b. b ≡ crates_pass_in rows.now) }
 {

@@ -1,11 +1,11 @@
-//! The checks of the rows of a registry when its store is opened: C1 to C8, in this order.
+//! The checks of a registry's rows when its store is opened: C1 to C8, in this order.
 //!
-//! They read in one transaction, of which nothing is kept. One archive at a time is held.
+//! They read in one transaction, of which nothing is kept. One archive is held at a time.
 //!
 //! ```
 //! let mut tables = Tables::adopt(alloc, conn)?;
-//! audit(alloc, &mut tables)?                      // None where all checks pass, else the first
-//!                                                 // that fails, as Some(Check::C4)
+//! audit(alloc, &mut tables)?                      // None if all checks pass, otherwise the
+//!                                                 // first that fails, as Some(Check::C4)
 //! ```
 #![tactic(auto)]
 

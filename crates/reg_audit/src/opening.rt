@@ -95,8 +95,8 @@ fn examine<S: Alter>(alloc: Global, work: &mut Work<'_, S>) -> Result<Option<Che
     first_failing(alloc, work, &rows)
 }
 
-/// The first check that fails; where all pass, none. Tables of schema 1 are seen as those of schema
-/// 2 that they become. Nothing is changed, and no archive is kept in memory.
+/// The first check that fails; none if all pass. Tables of schema 1 are seen as the schema 2 tables
+/// that they become. Nothing is changed, and no archive is kept in memory.
 pub fn audit<S: Alter>(alloc: Global, tables: &mut Tables<S>) -> Result<Option<Check>, StoreFault>
     requires { AreOurs S.Store tables.old }
     ensures found { HasCleanDisk (shown S.Store tables.new) → IfOk result

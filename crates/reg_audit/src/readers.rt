@@ -1,4 +1,4 @@
-//! The check of the restricted crates and of the readers.
+//! The check of the restricted crates and the readers.
 
 ghost use Rattle.std.specs.Prelude.{◌≡◌, ◌==◌, ◌&&◌, ℕ, IfOk};
 ghost use Rattle.std.specs.List.{list_all, list_any};
@@ -39,7 +39,7 @@ fn are_pairs(rows: &AllRows, crates: &BTreeSet<u32>, accounts: &BTreeSet<u32>) -
     rows.readers.iter().all(|it| crates.contains(&it.crate_id) && accounts.contains(&it.account))
 }
 
-/// Whether each crate that is restricted is there, and the crate and the account of each reader.
+/// Whether each restricted crate is there, and the crate and account of each reader.
 pub(crate) fn readers_pass(alloc: Global, rows: &AllRows) -> Result<bool, AllocError>
     ensures { IfOk result (λ b. b ≡ readers_pass_in rows.now) }
 {

@@ -21,7 +21,7 @@ fn is_reserved(text: &str) -> bool
     }
 }
 
-/// Whether each reserved text is the canonical text of a crate name that is not reserved always.
+/// Whether each reserved text is the canonical text of a crate name that is not always reserved.
 pub(crate) fn reserved_pass(rows: &AllRows) -> bool
     ensures { result ≡ reserved_pass_in rows.now }
 {

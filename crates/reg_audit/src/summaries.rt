@@ -39,7 +39,7 @@ fn mark_of(alloc: Global, version: &Version) -> Result<VersionMark, AllocError>
     })
 }
 
-// The versions of this crate, taken out.
+// Takes out the versions of this crate.
 fn take_out(
     alloc: Global,
     groups: &mut BTreeMap<u32, Vec<VersionMark>>,

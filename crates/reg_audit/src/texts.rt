@@ -4,7 +4,7 @@ ghost use Rattle.std.specs.Prelude.{◌≡◌, ℕ, map};
 ghost use Rattle.std.specs.Str.{bytes_eq};
 ghost use Rattle.reg_audit.specs.Checks.{are_counted as are_counted_from};
 
-/// What has an id.
+/// Something with an id.
 pub(crate) trait HasId {
     ghost id_of: { Self → ℕ };
 
@@ -12,7 +12,7 @@ pub(crate) trait HasId {
         ensures { result ≡ id_of self.now };
 }
 
-/// Whether the ids are 1 to their number, in this order.
+/// Whether the ids are 1 to their count, in this order.
 pub(crate) fn are_counted<T: HasId>(list: &[T]) -> bool
     ensures { result ≡ are_counted_from 1 (map T.HasId.id_of list.now) }
 {

@@ -1,4 +1,4 @@
-//! The check of the tokens and of their patterns.
+//! The check of the tokens and their patterns.
 
 ghost use Rattle.std.specs.Prelude.{◌≡◌, ◌==◌, ◌+◌, ◌&&◌, ◌||◌, IfOk, string_bytes};
 ghost use Rattle.std.specs.Str.{bytes_eq};
@@ -70,7 +70,7 @@ fn are_scopes(alloc: Global, scopes: &[Scope]) -> Result<bool, AllocError>
     Ok(true)
 }
 
-// Whether the scope is the next after that of this token at this place.
+// Whether the scope comes right after this token's scope at this place.
 fn is_next(scope: &Scope, token: u32, place: u64) -> bool
     ensures { result ≡ ((scope.now.token == token && scope.now.place == place + 1)
         || (scope.now.token == token + 1 && scope.now.place == 0)) }
@@ -102,8 +102,8 @@ fn are_placed(last: usize, scopes: &[Scope]) -> bool
     }
 }
 
-/// Whether the tokens have ids without a gap, whole digests, endpoints, and patterns at their
-/// places with the right ranges.
+/// Whether the tokens have ids without gaps, whole digests, endpoints, and patterns at their places
+/// with the right ranges.
 pub(crate) fn tokens_pass(alloc: Global, rows: &AllRows) -> Result<bool, AllocError>
     ensures { IfOk result (λ b. b ≡ tokens_pass_in rows.now) }
 {

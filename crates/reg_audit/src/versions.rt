@@ -1,4 +1,4 @@
-//! The check of the versions and of their lines.
+//! The check of the versions and their lines.
 
 ghost use Rattle.std.specs.Prelude.{◌≡◌, ◌==◌, ◌↔◌, ℕ, IfOk, IsTrue, None, OnOk, Some, if◌then◌else◌, length, string_bytes};
 ghost use Rattle.std.specs.Option.{option_map, option_or};
@@ -16,7 +16,7 @@ use reg_versions::{Release, VersionFault, release_key};
 use std::alloc::{AllocError, Global};
 use std::collections::BTreeMap;
 
-// Adds the place of an id, unless the id is there.
+// Adds the place of an id, unless it has one.
 fn add(places: &mut BTreeMap<u32, usize>, id: u32, place: usize) -> Result<(), AllocError>
     ensures { OnOk result ((q : ℕ) → get nat_cmp places.new q ≡ option_or (get nat_cmp places.old q)
         (if id == q then Some place else None)) }
@@ -61,7 +61,7 @@ fn is_version(alloc: Global, text: &str) -> Result<bool, AllocError>
     }
 }
 
-// Whether the stem is that of the version's line under the name of this crate.
+// Whether the stem is that of the version's line under this crate's name.
 fn has_stem(alloc: Global, version: &Version, it: &Crate) -> Result<bool, AllocError>
     ensures { IfOk result (λ b. IsTrue b ↔ ((length version.now.digest.items ≡ 32)
         × IsStemOf version.now.stem.items (string_bytes it.now.name)
@@ -95,7 +95,7 @@ fn is_genuine(
     }
 }
 
-/// Whether each version is one, with its release and the stem of its line.
+/// Whether each version is valid, with its release and the stem of its line.
 pub(crate) fn versions_pass(alloc: Global, rows: &AllRows) -> Result<bool, AllocError>
     ensures { IfOk result (λ b. IsTrue b ↔ VersionsPass rows.now) }
 {

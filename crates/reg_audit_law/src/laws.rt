@@ -8,15 +8,15 @@ ghost use Rattle.reg_audit_law.specs.Opening.{AuditLaw, HoldingPasses, OpeningLa
 use reg_tables_meaning::laws::migrate_law;
 use sqlite::{Alter, Connection};
 
-/// Rows pass all checks exactly where they are a sound registry, and so no check is found to fail
-/// exactly there.
+/// Rows pass all checks exactly when they are a sound registry, so exactly then no check is found
+/// to fail.
 pub fn opening_law()
     ensures opening { OpeningLaw }
     ensures audit { AuditLaw }
 {}
 
-/// Of either schema, what is found is a sound registry exactly where what a transaction begins with
-/// is, and so no check is found to fail exactly there.
+/// For either schema, what is found is a sound registry exactly when what a transaction begins with
+/// is, so exactly then no check is found to fail.
 pub fn edition_law()
     ensures same { EditionLaw }
     ensures audit { FoundLaw }
@@ -32,7 +32,7 @@ pub fn rows_law<S: Alter>(conn: &Connection<S>)
     let _ = conn.schema();
 }
 
-/// Rows that pass all checks are those of the sound registry that is built from them.
+/// Rows that pass all checks are those of the sound registry built from them.
 pub fn passing_law()
     ensures { PassingHolds }
 {}

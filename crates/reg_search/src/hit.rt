@@ -14,7 +14,7 @@ pub struct Hit {
     pub name: String,
     /// Its highest version.
     pub max_version: String,
-    /// What is said of that version, if anything is.
+    /// The description of that version, if any.
     pub description: Option<String>,
 }
 
@@ -25,7 +25,7 @@ pub struct Found {
     pub crates: Vec<Hit>,
 }
 
-// The canonical text of the crate comes first: it is what is searched, and is not kept.
+// The crate's canonical text comes first: it is searched, and is not kept.
 fn read_hit(row: &Row) -> Result<Hit, Error>
     ensures { IfOk result (λ hit. shown_in row.now ≡ columns_of_hit hit) }
 {
@@ -37,7 +37,7 @@ fn read_hit(row: &Row) -> Result<Hit, Error>
 }
 
 impl Found {
-    /// Counts one more crate, and keeps it as long as there are fewer than `most`.
+    /// Counts one more crate, and keeps it while there are fewer than `most`.
     fn add(&mut self, row: &Row, most: u32) -> Result<(), Error>
         ensures { OnOk result ((needle : _) (rows : _) → AreFound needle most rows self.old
             → is_hit needle row.now ≡ true → AreFound needle most (rows ++ row.now ∷ []) self.new) }
@@ -52,7 +52,7 @@ impl Found {
         Ok(())
     }
 
-    /// Goes on to one more row, which counts where it is a hit.
+    /// Looks at one more row, which counts if it is a hit.
     pub(crate) fn look_at(&mut self, needle: &Finder<'_>, row: &Row, most: u32) -> Result<(), Error>
         ensures { OnOk result ((rows : _) → AreFound needle.now most rows self.old
             → AreFound needle.now most (rows ++ row.now ∷ []) self.new) }

@@ -1,4 +1,4 @@
-//! Search over the tables (the Cargo Book, "Registry Web API", "Search"): one text whose rows come
+//! Search over the tables (the Cargo Book, "Registry Web API", "Search"): one query whose rows come
 //! one at a time.
 //!
 //! ```text

@@ -22,7 +22,7 @@ fn canon_byte(byte: u8) -> u8
     }
 }
 
-/// The canonical text of any text, also of one that is no name.
+/// The canonical text of any text, even one that is no name.
 pub(crate) fn canon_text(alloc: Global, text: &str) -> Result<Vec<u8>, AllocError>
     ensures { IfOk result (λ v. v.items ≡ canon_of text.now) }
 {
@@ -38,7 +38,7 @@ fn occurs_in(needle: &Finder<'_>, text: &[u8]) -> bool
     needle.find(text).is_some()
 }
 
-/// Whether a row's canonical text, its first column, has the needle in it.
+/// Whether a row's canonical text, its first column, contains the needle.
 pub(crate) fn is_hit(needle: &Finder<'_>, row: &Row) -> Result<bool, Error>
     ensures { IfOk result (λ b. b ≡ is_hit needle.now row.now) }
 {

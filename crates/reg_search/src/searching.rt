@@ -1,4 +1,4 @@
-//! The walk over the crates that an account sees.
+//! Walking the crates that an account sees.
 
 ghost use Rattle.std.specs.Prelude.{◌≡◌, true, IfOk, IsErr};
 ghost use Rattle.sqlite.specs.Held.{state};
@@ -17,8 +17,8 @@ use sqlite::{Alter, Connection, Error, params};
 use std::alloc::Global;
 
 /// The crates that the account ?1 sees, by canonical text, each with its spelling, its highest
-/// version and that version's description. Without a third JOIN of its own it is never sorted, and
-/// so its rows come one at a time.
+/// version and that version's description. With no third JOIN of its own, the query is never
+/// sorted, so its rows come one at a time.
 const SEARCH_TEXT: &str = "SELECT c.canon, c.name, v.vers, v.description FROM crates c \
     LEFT JOIN summaries s ON s.crate = c.id LEFT JOIN versions v ON v.id = s.highest \
     WHERE NOT EXISTS (SELECT 1 FROM restricted r WHERE r.crate = c.id) \
@@ -52,7 +52,7 @@ fn walk<S: Alter>(
     Err(Error::InvalidQuery)
 }
 
-/// The crates that the account with id `viewer` sees and whose canonical texts hold that of `q`,
+/// The crates that the account with id `viewer` sees and whose canonical texts contain that of `q`,
 /// which is any text: how many there are, and the first of them by canonical text, at most
 /// `per_page`. The tables are only read, one row at a time.
 pub fn search<S: Alter>(

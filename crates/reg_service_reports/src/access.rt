@@ -53,7 +53,7 @@ fn lines_of(alloc: Global, grants: &[Grant], readers: &[(u32, Login)]) -> Result
 }
 
 /// A line for each token and endpoint that may be used on a crate, by token and then by endpoint;
-/// then, where it is restricted, one for each of its readers, by id.
+/// then, if it is restricted, one for each of its readers, by id.
 pub fn access_report<S: Alter>(
     alloc: Global,
     work: &mut Work<'_, S>,

@@ -15,7 +15,7 @@ use reg_tables::{Account, Scope, StoreFault, Token, Work};
 use sqlite::{Alter, Error};
 use std::alloc::Global;
 
-/// The login of the account with this id, where these are all accounts by id.
+/// The login of the account with this id, given all accounts by id.
 fn login_of(accounts: &[Account], id: u32) -> &str
     ensures { result.now ≡ login_among accounts.now id }
 {
@@ -28,7 +28,7 @@ fn login_of(accounts: &[Account], id: u32) -> &str
     }
 }
 
-/// How many scopes at the front are those of this token.
+/// How many scopes at the front belong to this token.
 fn count_of(scopes: &[Scope], token: u32) -> usize
     ensures { result ≡ prefix_len (λ s. s.token == token) scopes.now }
 {
@@ -78,7 +78,7 @@ fn push_token(
     Ok(())
 }
 
-/// Adds the line of a token, whose scopes stand in front, and answers those behind them.
+/// Adds the line of a token, whose scopes come first, and returns those after them.
 fn push_next<'a>(
     report: &mut String,
     accounts: &[Account],

@@ -39,7 +39,7 @@ fn text_at(versions: &[Version], place: usize) -> &str
     }
 }
 
-/// The highest of these versions that is not yanked; of all, where all are yanked.
+/// The highest of these versions that is not yanked; of all, if all are yanked.
 pub(crate) fn highest_of(alloc: Global, versions: &[Version]) -> Result<&str, Error>
     ensures { IfOk result (λ text. text.now ≡ highest_among versions.now) }
 {

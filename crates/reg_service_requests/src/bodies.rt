@@ -1,4 +1,4 @@
-//! The bodies of what requests read of the tables.
+//! The bodies of what requests read from the tables.
 
 ghost use Rattle.std.specs.Prelude.{◌≡◌, ◌∷◌, [], ◌++◌, IfOk, OnOk, map};
 ghost use Rattle.reg_line.specs.File.{entry_view, file_text};

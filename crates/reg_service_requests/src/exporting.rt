@@ -98,8 +98,8 @@ fn add_files<S: Alter>(
     Ok(files)
 }
 
-/// The files of the index, each behind its path: the config, then each crate's in the order of the
-/// canonical texts.
+/// The files of the index, each after its path: the config, then each crate's, ordered by canonical
+/// text.
 pub fn export_all<S: Alter>(
     alloc: Global,
     work: &mut Work<'_, S>,

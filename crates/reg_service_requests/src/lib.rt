@@ -4,7 +4,7 @@
 //! match serve(alloc, &mut work, &limits, Some(&digest), &asked)? {
 //!     Served::Told(reply) => reply,        // nothing is to be kept
 //!     Served::Done(reply) => ..            // committed first
-//!     Served::Seeks(account) => ..         // it is let search
+//!     Served::Seeks(account) => ..         // it may search
 //! }
 //! ```
 #![tactic(auto)]

@@ -1,4 +1,4 @@
-//! Versions are yanked, or no longer.
+//! Yanking and unyanking versions.
 
 ghost use Rattle.reg_tables.specs.Works.{IsAtWork};
 ghost use Rattle.reg_service_requests.specs.Granted.{GrantsOf, marking};
@@ -10,7 +10,7 @@ use reg_tables::{StoreFault, Work};
 use sqlite::Alter;
 use std::alloc::Global;
 
-/// Yanks a version, or takes that back.
+/// Yanks or unyanks a version.
 pub(crate) fn set_yanked<S: Alter>(
     alloc: Global,
     work: &mut Work<'_, S>,

@@ -9,8 +9,8 @@ use reg_names::{canon, parse_name};
 use reg_tables::{Crate, StoreFault, Work};
 use sqlite::Alter;
 
-/// The crate that a text names, in any of its spellings; none where the text is no crate name or
-/// no crate has it.
+/// The crate that a text names, in any of its spellings; none if the text is no crate name or no
+/// crate has it.
 pub fn find_named<S: Alter>(work: &mut Work<'_, S>, text: &str) -> Result<Option<Crate>, StoreFault>
     requires at_work { IsAtWork S.Store work.old }
     requires goes_on { has_failed work.old ≡ false }

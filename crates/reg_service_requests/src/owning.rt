@@ -1,4 +1,4 @@
-//! The owners of crates are changed.
+//! Changing the owners of crates.
 
 ghost use Rattle.std.specs.Prelude.{◌≡◌, IfOk, false, map, string_bytes};
 ghost use Rattle.std.specs.List.{find, list_all, list_any};
@@ -20,7 +20,7 @@ use reg_tables::{Account, StoreFault, Work};
 use sqlite::Alter;
 use std::alloc::{AllocError, Global};
 
-/// The id of an account that is enabled.
+/// The id of an account if enabled.
 fn id_if_enabled(found: &Option<Account>) -> Option<u32>
     ensures { result ≡ enabled_id found.now }
 {
@@ -109,7 +109,7 @@ fn are_all_named(owners: &[Account], logins: &[&str]) -> bool
     owners.iter().all(|owner| is_named(logins, owner))
 }
 
-/// The ids of the owners who leave; each is to be an owner, and someone is to be left.
+/// The ids of the owners who leave; each must be an owner, and someone must remain.
 fn leaving(
     alloc: Global,
     owners: &[Account],
@@ -126,7 +126,7 @@ fn leaving(
     Ok(Ok(ids))
 }
 
-/// Makes an account an owner of a crate, or no longer.
+/// Adds or removes an account as an owner of a crate.
 fn set_owner<S: Alter>(
     work: &mut Work<'_, S>,
     crate_id: u32,
@@ -145,7 +145,7 @@ fn set_owner<S: Alter>(
     }
 }
 
-/// Makes accounts owners of a crate, or no longer.
+/// Adds or removes accounts as owners of a crate.
 fn set_owners<S: Alter>(
     work: &mut Work<'_, S>,
     crate_id: u32,
@@ -163,7 +163,7 @@ fn set_owners<S: Alter>(
     Ok(())
 }
 
-/// The reply that tells that owners were changed.
+/// The reply that says that owners were changed.
 fn owning_reply(alloc: Global, are_owners: bool) -> Result<Reply, AllocError>
     ensures { IfOk result (SaysOwning are_owners) }
 {
@@ -175,7 +175,7 @@ fn owning_reply(alloc: Global, are_owners: bool) -> Result<Reply, AllocError>
     Ok(Reply::Done(Kind::Json, body.to_vec(alloc)?))
 }
 
-/// Changes the owners, and tells so. The reply is made first: nothing takes memory after that.
+/// Changes the owners, and says so. The reply is made first: nothing allocates after that.
 fn change_owners<S: Alter>(
     alloc: Global,
     work: &mut Work<'_, S>,
@@ -212,7 +212,7 @@ pub(crate) fn add_owners<S: Alter>(
     }
 }
 
-/// Takes the accounts with these logins out of a crate's owners, or none of them.
+/// Removes the accounts with these logins from a crate's owners, or none of them.
 pub(crate) fn remove_owners<S: Alter>(
     alloc: Global,
     work: &mut Work<'_, S>,

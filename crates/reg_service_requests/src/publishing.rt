@@ -1,4 +1,4 @@
-//! Versions are published.
+//! Publishing versions.
 
 ghost use Rattle.std.specs.Prelude.{◌≡◌};
 ghost use Rattle.reg_model.specs.Events.Asked.{Publish};
@@ -19,7 +19,7 @@ use reg_tables::{NewVersion, StoreFault, Work};
 use sqlite::Alter;
 use std::alloc::Global;
 
-/// The version that the tables are given.
+/// The version to give the tables.
 fn version_of<'a>(new: &NewPublication<'a>) -> NewVersion<'a>
     ensures { published new.now.name.now result ≡ publication_of new.now }
 {
@@ -32,7 +32,7 @@ fn version_of<'a>(new: &NewPublication<'a>) -> NewVersion<'a>
     }
 }
 
-/// Whether there are as many crates as there may be.
+/// Whether there are as many crates as allowed.
 fn is_full<S: Alter>(work: &mut Work<'_, S>, limits: &Limits) -> Result<bool, StoreFault>
     requires { IsAtWork S.Store work.old }
     ensures { Asks S.Store work.old work.new result (TellsFull limits.now) }
@@ -40,7 +40,7 @@ fn is_full<S: Alter>(work: &mut Work<'_, S>, limits: &Limits) -> Result<bool, St
     work.reaches_crates(limits.crates)
 }
 
-/// Whether a crate has as many versions as it may have.
+/// Whether a crate has as many versions as allowed.
 fn is_full_of<S: Alter>(
     alloc: Global,
     work: &mut Work<'_, S>,
@@ -54,7 +54,7 @@ fn is_full_of<S: Alter>(
     Ok(limits.versions <= versions.len() as u64)
 }
 
-/// Makes a crate with its first version and its owner.
+/// Creates a crate with its first version and its owner.
 fn make_crate<S: Alter>(
     alloc: Global,
     work: &mut Work<'_, S>,
@@ -116,8 +116,7 @@ fn publish_next<S: Alter>(
     Ok(Served::Done(Reply::Done(Kind::Json, body)))
 }
 
-/// Publishes a version: of a new crate, whose owner the caller becomes, or of the one that was
-/// found.
+/// Publishes a version: of a new crate, whose owner the caller becomes, or of the one found.
 pub(crate) fn publish<S: Alter>(
     alloc: Global,
     work: &mut Work<'_, S>,

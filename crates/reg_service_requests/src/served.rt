@@ -1,14 +1,14 @@
-//! What is made of a request within a transaction.
+//! The outcome of a request within a transaction.
 
 use reg_api_replies::Reply;
 
-/// What is made of a request within a transaction.
+/// The outcome of a request within a transaction.
 #[derive(Drop)]
 pub enum Served {
     /// It is denied or served, and nothing of the transaction is to be kept.
     Told(Reply),
     /// It is done, once the transaction is committed.
     Done(Reply),
-    /// It is let search: the id of its token's account.
+    /// It may search: the id of its token's account.
     Seeks(u32),
 }

@@ -1,4 +1,4 @@
-//! A request is decided, and what is let pass is served or done.
+//! Deciding a request, and serving or doing what is allowed.
 
 ghost use Rattle.std.specs.Prelude.{◌≡◌, IsSome, false, true};
 ghost use Rattle.std.specs.Option.{option_map};
@@ -24,7 +24,7 @@ use reg_tables::{StoreFault, Work};
 use sqlite::Alter;
 use std::alloc::Global;
 
-/// Serves or does what the rules on access let pass.
+/// Serves or does what the access rules allow.
 fn grant<S: Alter>(
     alloc: Global,
     work: &mut Work<'_, S>,
@@ -54,7 +54,7 @@ fn grant<S: Alter>(
     }
 }
 
-/// What is made of a request, with the digest of its token if just one was shown.
+/// The outcome of a request, with the digest of its token if exactly one was shown.
 pub fn serve<S: Alter>(
     alloc: Global,
     work: &mut Work<'_, S>,

@@ -11,7 +11,7 @@ use sqlite::Alter;
 use std::alloc::Global;
 
 impl<S: Alter> Work<'_, S> {
-    /// Adds an account that is enabled, and answers its id.
+    /// Adds an enabled account and returns its id.
     pub fn add_account(&mut self, login: &str, name: Option<&str>) -> Result<u32, StoreFault>
         requires { IsAtWork S.Store self.old }
         ensures added { Heard S.Store self.new result
@@ -22,7 +22,7 @@ impl<S: Alter> Work<'_, S> {
         call!(self, accounts::add(&mut self.tables.conn, login, name))
     }
 
-    /// Makes an account enabled or not. Where no account has the id, nothing changes.
+    /// Enables or disables an account. If no account has the id, nothing changes.
     pub fn set_enabled(&mut self, id: u32, enabled: bool) -> Result<(), StoreFault>
         requires { IsAtWork S.Store self.old }
         ensures set { Carried S.Store self.new result

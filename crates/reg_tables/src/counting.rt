@@ -18,7 +18,7 @@ impl<S: Alter> Work<'_, S> {
         call!(self, counts::count(&mut self.tables.conn))
     }
 
-    /// Whether there are as many crates as this. They are counted only where their ids come near
+    /// Whether there are at least this many crates. They are counted only if their ids come near
     /// the number.
     pub fn reaches_crates(&mut self, number: u64) -> Result<bool, StoreFault>
         requires { IsAtWork S.Store self.old }

@@ -28,7 +28,7 @@ impl<S: Alter> Work<'_, S> {
         call!(self, crate_lists::find(&mut self.tables.conn, text))
     }
 
-    /// The versions of the crate with this id, oldest first; none where it is not there.
+    /// The versions of the crate with this id, oldest first; none if it does not exist.
     pub fn versions_of(&mut self, alloc: Global, crate_id: u32) -> Result<Vec<Version>, StoreFault>
         requires { IsAtWork S.Store self.old }
         ensures rows { Heard S.Store self.new result
@@ -44,7 +44,7 @@ impl<S: Alter> Work<'_, S> {
         )
     }
 
-    /// The archive of this very version of the crate with this id.
+    /// The archive of exactly this version of the crate with this id.
     pub fn archive_of(&mut self, crate_id: u32, text: &str) -> Result<Option<Vec<u8>>, StoreFault>
         requires { IsAtWork S.Store self.old }
         ensures found { Heard S.Store self.new result
@@ -58,7 +58,7 @@ impl<S: Alter> Work<'_, S> {
         )
     }
 
-    /// What is kept of the crate with this id: its highest version, and how long its index file is.
+    /// What is kept about the crate with this id: its highest version, and its index file's length.
     pub fn summary_of(&mut self, crate_id: u32) -> Result<Option<Summary>, StoreFault>
         requires { IsAtWork S.Store self.old }
         ensures found { Heard S.Store self.new result
@@ -69,7 +69,7 @@ impl<S: Alter> Work<'_, S> {
         call!(self, summaries::of_crate(&mut self.tables.conn, crate_id))
     }
 
-    /// All crates, in the order of their canonical names.
+    /// All crates, by canonical name.
     pub fn all_crates(&mut self, alloc: Global) -> Result<Vec<Crate>, StoreFault>
         requires { IsAtWork S.Store self.old }
         ensures rows { Heard S.Store self.new result

@@ -9,7 +9,7 @@ use reg_tables_meaning::crates::{self, NewVersion};
 use sqlite::Alter;
 
 impl<S: Alter> Work<'_, S> {
-    /// Adds a crate with its first version and its owner, and answers its id.
+    /// Adds a crate with its first version and its owner, and returns its id.
     pub fn add_crate(
         &mut self,
         name: &CrateName,
@@ -28,7 +28,7 @@ impl<S: Alter> Work<'_, S> {
         )
     }
 
-    /// Adds a version to a crate that is there.
+    /// Adds a version to an existing crate.
     pub fn add_version(&mut self, crate_id: u32, version: &NewVersion<'_>) -> Result<(), StoreFault>
         requires { IsAtWork S.Store self.old }
         ensures added { Carried S.Store self.new result
@@ -42,7 +42,7 @@ impl<S: Alter> Work<'_, S> {
         )
     }
 
-    /// Yanks a version of a crate, or takes that back. Where it is not there, nothing changes.
+    /// Yanks or unyanks a version of a crate. If it is not there, nothing changes.
     pub fn set_yanked(&mut self, crate_id: u32, text: &str, yanked: bool) -> Result<(), StoreFault>
         requires { IsAtWork S.Store self.old }
         ensures set { Carried S.Store self.new result

@@ -1,5 +1,5 @@
-//! The registry kept in tables: a file or a store is made or taken over, and calls run on it in
-//! transactions, each with what it is on the registry that the rows stand for.
+//! The registry kept in tables: a file or store is made or adopted, and calls run on it in
+//! transactions. Each call states what it means on the registry that the rows stand for.
 //!
 //! ```text
 //! let mut work = tables.work()?;

@@ -11,7 +11,7 @@ use sqlite::Alter;
 use std::alloc::Global;
 
 impl<S: Alter> Work<'_, S> {
-    /// Makes an account an owner of a crate. A crate that is not there gets none.
+    /// Makes an account an owner of a crate. A crate that does not exist gets none.
     pub fn add_owner(&mut self, crate_id: u32, account: u32) -> Result<(), StoreFault>
         requires { IsAtWork S.Store self.old }
         ensures added { Carried S.Store self.new result
@@ -24,7 +24,7 @@ impl<S: Alter> Work<'_, S> {
         )
     }
 
-    /// Makes an account no owner of a crate.
+    /// Removes an account from a crate's owners.
     pub fn remove_owner(&mut self, crate_id: u32, account: u32) -> Result<(), StoreFault>
         requires { IsAtWork S.Store self.old }
         ensures removed { Carried S.Store self.new result
@@ -38,7 +38,7 @@ impl<S: Alter> Work<'_, S> {
         )
     }
 
-    /// The accounts that own a crate, by id; none where it is not there.
+    /// The accounts that own a crate, by id; none if it does not exist.
     pub fn owners_of(&mut self, alloc: Global, crate_id: u32) -> Result<Vec<Account>, StoreFault>
         requires { IsAtWork S.Store self.old }
         ensures found { Heard S.Store self.new result
@@ -52,7 +52,7 @@ impl<S: Alter> Work<'_, S> {
         )
     }
 
-    /// Makes an account a reader of a crate. A crate that is not there gets none.
+    /// Makes an account a reader of a crate. A crate that does not exist gets none.
     pub fn add_reader(&mut self, crate_id: u32, account: u32) -> Result<(), StoreFault>
         requires { IsAtWork S.Store self.old }
         ensures added { Carried S.Store self.new result
@@ -66,7 +66,7 @@ impl<S: Alter> Work<'_, S> {
         )
     }
 
-    /// Makes an account no reader of a crate.
+    /// Removes an account from a crate's readers.
     pub fn remove_reader(&mut self, crate_id: u32, account: u32) -> Result<(), StoreFault>
         requires { IsAtWork S.Store self.old }
         ensures removed { Carried S.Store self.new result
@@ -80,7 +80,7 @@ impl<S: Alter> Work<'_, S> {
         )
     }
 
-    /// The accounts that read a crate, by id; none where it is not there.
+    /// The accounts that read a crate, by id; none if it does not exist.
     pub fn readers_of(&mut self, alloc: Global, crate_id: u32) -> Result<Vec<Account>, StoreFault>
         requires { IsAtWork S.Store self.old }
         ensures found { Heard S.Store self.new result

@@ -21,7 +21,7 @@ impl<S: Alter> Work<'_, S> {
         call!(self, reserved::add(&mut self.tables.conn, canon.as_str()))
     }
 
-    /// Sets a reserved name free. The names that are reserved always stay so.
+    /// Frees a reserved name. Names that are always reserved stay so.
     pub fn unreserve(&mut self, canon: &CanonText) -> Result<(), StoreFault>
         requires { IsAtWork S.Store self.old }
         ensures freed { Carried S.Store self.new result
@@ -32,8 +32,8 @@ impl<S: Alter> Work<'_, S> {
         call!(self, reserved::free(&mut self.tables.conn, canon.as_str()))
     }
 
-    /// Whether the administrator reserved the name. The names that are reserved always are not
-    /// among them.
+    /// Whether the administrator reserved the name. Names that are always reserved are not among
+    /// them.
     pub fn is_reserved(&mut self, canon: &CanonText) -> Result<bool, StoreFault>
         requires { IsAtWork S.Store self.old }
         ensures found { Heard S.Store self.new result

@@ -8,7 +8,7 @@ use reg_tables_meaning::restricted;
 use sqlite::Alter;
 
 impl<S: Alter> Work<'_, S> {
-    /// Restricts a crate to its owners and readers, or opens it to all. A crate that is not there
+    /// Restricts a crate to its owners and readers, or opens it to all. A crate that does not exist
     /// becomes neither.
     pub fn set_restricted(&mut self, crate_id: u32, restricted: bool) -> Result<(), StoreFault>
         requires { IsAtWork S.Store self.old }
@@ -23,7 +23,7 @@ impl<S: Alter> Work<'_, S> {
         )
     }
 
-    /// Whether a crate is restricted. One that is not there is not.
+    /// Whether a crate is restricted. A missing one is not.
     pub fn is_restricted(&mut self, crate_id: u32) -> Result<bool, StoreFault>
         requires { IsAtWork S.Store self.old }
         ensures told { Heard S.Store self.new result

@@ -1,4 +1,4 @@
-//! The tables over a connection.
+//! The tables on a connection.
 
 ghost use Rattle.std.specs.Prelude.{◌≡◌, ◌≢◌, ◌↔◌, true, false, Ok, Err, IfErr, IfOk, OnErr, OnOk, IsTrue};
 ghost use Rattle.std.specs.Borrow.{sem, RestsIfErr};
@@ -23,8 +23,8 @@ use reg_tables_schema::{Edition, MakeFault, begin, edition_of, make_tables};
 use sqlite::{Alter, Connection};
 use std::alloc::Global;
 
-/// The tables of a registry. After a commit that was refused they answer nothing more: what the
-/// store then holds is seen by opening it again.
+/// The tables of a registry. After the store fails to commit, they no longer answer; opening it
+/// again shows what it then holds.
 #[derive(Drop)]
 pub struct Tables<S: Alter> {
     pub(crate) conn: Connection<S>,
@@ -33,8 +33,7 @@ pub struct Tables<S: Alter> {
 }
 
 impl<S: Alter> Tables<S> {
-    /// Makes the tables of a registry with nothing in it. With a fault the connection is handed
-    /// back.
+    /// Makes the tables of an empty registry. On a fault, hands the connection back.
     pub fn make(
         mut conn: Connection<S>,
         base: &str,
@@ -71,8 +70,8 @@ impl<S: Alter> Tables<S> {
         }
     }
 
-    /// Takes over tables that were made before, of either schema. A store that holds anything else,
-    /// or not one row of `about` with the number of its schema, is not known.
+    /// Adopts existing tables, of either schema. A store is unknown if it holds anything else, or
+    /// if `about` is not one row with the number of its schema.
     pub fn adopt(
         alloc: Global,
         mut conn: Connection<S>,
@@ -122,8 +121,8 @@ impl<S: Alter> Tables<S> {
         conn
     }
 
-    /// The connection on loan, for `rows_of` and `index_rows`: what is left of it when nothing is
-    /// read any more is what the tables have. It shows them also where a commit was refused.
+    /// The connection on loan, for `rows_of` and `index_rows`: what is left of it after the last
+    /// read is what the tables have. It shows them even after a failed commit.
     pub fn reading(&mut self) -> &mut Connection<S>
         ensures* lends { sem 𝓛 (LendsConnection S.row S.Store self.entry result) }
         ensures value { result.now ≡ held self.old }
@@ -131,21 +130,21 @@ impl<S: Alter> Tables<S> {
         &mut self.conn
     }
 
-    /// Whether a commit was refused.
+    /// Whether a commit failed.
     pub fn is_shut(&self) -> bool
         ensures { result ≡ is_shut self.now }
     {
         self.shut
     }
 
-    /// Of which schema the tables are.
+    /// Which schema the tables have.
     pub fn edition(&self) -> Edition
         ensures { result ≡ edition_in self.now }
     {
         self.edition
     }
 
-    /// Begins a transaction, of tables that are of schema 2 already.
+    /// Begins a transaction on tables already of schema 2.
     pub fn work(&mut self) -> Result<Work<'_, S>, StoreFault>
         requires ours { AreOurs S.Store self.old }
         requires second { edition_in self.old ≡ Edition.Second }
@@ -166,8 +165,8 @@ impl<S: Alter> Tables<S> {
         })
     }
 
-    /// Begins a transaction that sees schema 2: tables of schema 1 are brought to it first. Until
-    /// it is committed, the store has the schema that it had.
+    /// Begins a transaction that sees schema 2: tables of schema 1 are migrated first. Until it is
+    /// committed, the store keeps the schema that it had.
     pub fn upgrade(&mut self) -> Result<Work<'_, S>, StoreFault>
         requires { AreOurs S.Store self.old }
         ensures* refused { sem 𝓛 (RestsIfErr (the_row S.row S.Store) self.entry
@@ -185,7 +184,7 @@ impl<S: Alter> Tables<S> {
         })
     }
 
-    /// Brings the tables to schema 2, in one transaction; whether they were of schema 1.
+    /// Migrates the tables to schema 2 in one transaction; returns whether they had schema 1.
     pub fn migrate(&mut self) -> Result<bool, StoreFault>
         requires { AreOurs S.Store self.old }
         ensures which { IfOk result (λ done. IsTrue done ↔

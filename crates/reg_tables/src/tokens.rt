@@ -40,7 +40,7 @@ impl<S: Alter> Work<'_, S> {
         call!(self, tokens::list_both(alloc, &mut self.tables.conn))
     }
 
-    /// Adds a token that is live, and answers its id.
+    /// Adds a live token and returns its id.
     pub fn add_token(
         &mut self,
         alloc: Global,
@@ -68,7 +68,7 @@ impl<S: Alter> Work<'_, S> {
         )
     }
 
-    /// Makes the token with this id no longer live. Where there is none, nothing changes.
+    /// Revokes the token with this id. If there is none, nothing changes.
     pub fn revoke(&mut self, id: u32) -> Result<(), StoreFault>
         requires { IsAtWork S.Store self.old }
         ensures revoked { Carried S.Store self.new result

@@ -1,4 +1,4 @@
-//! Selections of whole tables, for the checks on opening.
+//! Selections of whole tables, for the opening checks.
 
 ghost use Rattle.reg_tables_sql.specs.Archives.{IsArchiveWithId};
 ghost use Rattle.reg_tables_rows.specs.WholeRows.{AreAllRows};
@@ -11,7 +11,7 @@ use sqlite::Alter;
 use std::alloc::Global;
 
 impl<S: Alter> Work<'_, S> {
-    /// The rows of all tables, archives aside.
+    /// The rows of all tables, except archives.
     pub fn all_rows(&mut self, alloc: Global) -> Result<AllRows, StoreFault>
         requires { IsAtWork S.Store self.old }
         ensures read { Heard S.Store self.new result
@@ -22,7 +22,7 @@ impl<S: Alter> Work<'_, S> {
         call!(self, all_rows::read(alloc, &mut self.tables.conn))
     }
 
-    /// The archive of the version with this id. No id of a version is 2^63 or more: such a one is a
+    /// The archive of the version with this id. No version's id is 2^63 or more: such an id is a
     /// fault.
     pub fn archive_with_id(&mut self, version: u64) -> Result<Option<Vec<u8>>, StoreFault>
         requires { IsAtWork S.Store self.old }

@@ -1,4 +1,4 @@
-//! A transaction of the tables.
+//! A transaction on the tables.
 
 ghost use Rattle.std.proofs.Common.{◌≡◌, IsErr};
 ghost use Rattle.std.specs.Prelude.{◌==◌, length, map, not};
@@ -20,8 +20,8 @@ use sqlite::types::ValueRef;
 use sqlite::{Alter, Row};
 use std::alloc::{AllocError, Global};
 
-/// The store failed, or there was no memory. Nothing of the transaction is kept; after a commit
-/// that the disk refused a stop may leave it.
+/// The store failed, or memory ran out. Nothing of the transaction is kept; after a commit that
+/// failed on disk, a crash may leave it.
 #[derive(Clone, Copy, Debug, PartialEq, Eq)]
 pub struct StoreFault;
 
@@ -31,7 +31,7 @@ impl From<AllocError> for StoreFault {
     }
 }
 
-/// What a call of the transaction `$work` answers, unless one has failed already. A fault ends the
+/// What a call of the transaction `$work` returns, unless one has already failed. A fault ends the
 /// transaction.
 macro_rules! call {
     ($work:ident, $answer:expr) => {{
@@ -50,7 +50,7 @@ macro_rules! call {
 
 pub(crate) use call;
 
-/// A transaction of the tables. Once a call has failed nothing of it is kept. Dropped, it changes
+/// A transaction on the tables. After a failed call, nothing of it is kept. If dropped, it changes
 /// nothing.
 pub struct Work<'t, S: Alter> {
     pub(crate) tables: &'t mut Tables<S>,
@@ -58,8 +58,8 @@ pub struct Work<'t, S: Alter> {
 }
 
 impl<S: Alter> Work<'_, S> {
-    /// Keeps the changes, unless a call has failed. Where the store refuses, the tables answer
-    /// nothing more.
+    /// Commits the changes, unless a call has failed. If the store fails, the tables no longer
+    /// answer.
     pub fn commit(self) -> Result<(), StoreFault>
         requires { IsAtWork S.Store self }
         ensures { IsEnded S.Store result self.entry self.exit.0.now }
@@ -81,8 +81,8 @@ impl<S: Alter> Work<'_, S> {
 }
 
 impl<S: Alter> Work<'_, S> {
-    /// Ends the transaction as a fault does: for want of memory, a row that can't be read, or what
-    /// is not there.
+    /// Ends the transaction as a fault does: out of memory, an unreadable row, or something
+    /// missing.
     pub fn fail<T>(&mut self) -> Result<T, StoreFault>
         requires { IsAtWork S.Store self.old }
         ensures fails { IsErr result }
@@ -92,7 +92,7 @@ impl<S: Alter> Work<'_, S> {
         Err(StoreFault)
     }
 
-    /// All rows of a text that only reads.
+    /// All rows of a read-only query.
     pub fn select(&mut self, text: &str, params: &[ValueRef<'_>]) -> Result<Vec<Row>, StoreFault>
         requires at_work { IsAtWork S.Store self.old }
         requires reads { IsPlain (understood ours text.now) }
@@ -104,8 +104,8 @@ impl<S: Alter> Work<'_, S> {
         call!(self, rows_of(&mut self.tables.conn, text, params))
     }
 
-    /// The only row of a text that only reads, as a record; none where there is no row. More than
-    /// one row is a fault, as is one that cannot be read.
+    /// The only row of a read-only query, as a record; none if there is no row. More than one row,
+    /// or an unreadable one, is a fault.
     pub fn select_one<T: FromRow>(
         &mut self,
         text: &str,
@@ -121,8 +121,8 @@ impl<S: Alter> Work<'_, S> {
         call!(self, select_one(&mut self.tables.conn, text, params))
     }
 
-    /// The rows of a text that only reads, as records: none is held beside its record. One that
-    /// cannot be read is a fault.
+    /// The rows of a read-only query, as records; no row is held beside its record. An unreadable
+    /// one is a fault.
     pub fn select_list<T: FromRow>(
         &mut self,
         alloc: Global,
@@ -142,7 +142,7 @@ impl<S: Alter> Work<'_, S> {
         )
     }
 
-    /// Whether a text that only reads has a row.
+    /// Whether a read-only query has a row.
     pub fn has_row(&mut self, text: &str, params: &[ValueRef<'_>]) -> Result<bool, StoreFault>
         requires at_work { IsAtWork S.Store self.old }
         requires reads { IsPlain (understood ours text.now) }

@@ -1,4 +1,4 @@
-//! Accounts: changes of the registry that the rows stand for, and what they show of it.
+//! Accounts: changes to the registry that the rows stand for, and what they show of it.
 
 ghost use Rattle.std.specs.Prelude.{IfOk};
 ghost use Rattle.std.specs.Option.{option_map};
@@ -13,7 +13,7 @@ use reg_tables_sql::accounts::{self, Account};
 use sqlite::{Alter, Connection, Error};
 use std::alloc::Global;
 
-// One more than the greatest id; none where 32 bits hold no more.
+// One more than the greatest id; none if 32 bits hold no more.
 pub(crate) fn next_id(last: Option<u32>) -> Result<u32, Error>
     ensures { IfOk result (λ id. IsNext last id) }
 {
@@ -26,7 +26,7 @@ pub(crate) fn next_id(last: Option<u32>) -> Result<u32, Error>
     }
 }
 
-/// Adds an account that is enabled, and answers its id.
+/// Adds an enabled account and returns its id.
 pub fn add<S: Alter>(
     conn: &mut Connection<S>,
     login: &str,
@@ -44,7 +44,7 @@ pub fn add<S: Alter>(
     Ok(id)
 }
 
-/// Makes an account that is there enabled or not.
+/// Enables or disables an existing account.
 #[tactic(auto, using(crate::proofs::Withins::refused_fails, crate::proofs::Withins::touch_within))]
 pub fn enable<S: Alter>(conn: &mut Connection<S>, id: u32, enabled: bool) -> Result<(), Error>
     requires { IsReady (state S.Store conn.old) }

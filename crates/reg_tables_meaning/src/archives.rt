@@ -9,7 +9,7 @@ ghost use Rattle.reg_tables_sql.specs.Archives.{IsArchiveWithId};
 use reg_tables_sql::archives;
 use sqlite::{Alter, Connection, Error};
 
-/// The greatest integer of SQL.
+/// SQL's greatest integer.
 const GREATEST: u64 = i64::MAX as u64;
 
 /// The archive of the version with this id.

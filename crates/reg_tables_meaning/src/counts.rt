@@ -21,7 +21,7 @@ pub struct Counts {
     pub crates: u64,
 }
 
-// SQL counts no further than its greatest number: what it answers there may be short.
+// SQL counts only up to its greatest number; there, its answer may be too low.
 fn exact(n: u64) -> Result<u64, Error>
     ensures { IfOk result (λ m. (m ≡ n) × (m < greatest_number)) }
 {
@@ -61,7 +61,7 @@ fn count_crates<S: Alter>(conn: &mut Connection<S>) -> Result<u64, Error>
     exact(n)
 }
 
-// No fewer than the ids that rise up to the last one.
+// At least as many as the ascending ids up to the last.
 fn bound(last: Option<u32>) -> u64
     ensures { IsNext last result }
 {
@@ -71,7 +71,7 @@ fn bound(last: Option<u32>) -> u64
     }
 }
 
-/// Whether there are as many crates as this. They are counted only where their ids come near it.
+/// Whether there are at least this many crates. They are counted only if their ids come near it.
 pub fn reaches_crates<S: Alter>(conn: &mut Connection<S>, number: u64) -> Result<bool, Error>
     requires { IsReady (state S.Store conn.old) }
     ensures told { Told S.Store conn.new result

@@ -43,7 +43,7 @@ pub fn list<S: Alter>(
     versions::of_crate(alloc, conn, crate_id)
 }
 
-/// The archive of this very version of a crate.
+/// The archive of exactly this version of a crate.
 pub fn archive<S: Alter>(
     conn: &mut Connection<S>,
     crate_id: u32,
@@ -57,7 +57,7 @@ pub fn archive<S: Alter>(
     archives::of_version(conn, crate_id, release_key(text), text)
 }
 
-/// All crates, in the order of their canonical names.
+/// All crates, by canonical name.
 pub fn all<S: Alter>(alloc: Global, conn: &mut Connection<S>) -> Result<Vec<Crate>, Error>
     requires { IsReady (state S.Store conn.old) }
     ensures rows { Told S.Store conn.new result

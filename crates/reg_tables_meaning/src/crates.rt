@@ -1,4 +1,4 @@
-//! Changes of crates and their versions.
+//! Changes to crates and their versions.
 
 ghost use Rattle.std.specs.Prelude.{◌<◌, ◌^◌, IfOk};
 ghost use Rattle.sqlite.specs.Held.{state};
@@ -18,7 +18,7 @@ use reg_tables_sql::{archives, crates, pairs, versions};
 use reg_versions::release_key;
 use sqlite::{Alter, Connection, Error};
 
-/// A version of a crate to be added.
+/// A version of a crate to add.
 #[derive(Clone, Copy, Debug)]
 pub struct NewVersion<'a> {
     pub text: &'a str,
@@ -28,7 +28,7 @@ pub struct NewVersion<'a> {
     pub archive: &'a [u8],
 }
 
-// One more than the greatest id; none where SQL's integers hold no more.
+// One more than the greatest id; none if SQL's integers hold no more.
 fn next_version(last: Option<u64>) -> Result<u64, Error>
     ensures { IfOk result (λ id. IsNext last id × (id < 2 ^ 63)) }
 {
@@ -89,7 +89,7 @@ fn insert_version<S: Alter>(
     Ok(())
 }
 
-/// Adds a crate with its first version and its owner, and answers its id.
+/// Adds a crate with its first version and its owner, and returns its id.
 #[tactic(auto, using(crate::proofs::Withins::fails_after, crate::proofs::Withins::within_then))]
 pub fn add_new<S: Alter>(
     conn: &mut Connection<S>,
@@ -109,7 +109,7 @@ pub fn add_new<S: Alter>(
     Ok(id)
 }
 
-/// Adds a version to a crate that is there.
+/// Adds a version to an existing crate.
 pub fn add_next<S: Alter>(
     conn: &mut Connection<S>,
     crate_id: u32,
@@ -125,7 +125,7 @@ pub fn add_next<S: Alter>(
     Ok(())
 }
 
-/// Yanks a version of a crate that is there, or takes that back.
+/// Yanks or unyanks a version of a crate that is there.
 #[tactic(auto, using(crate::proofs::Withins::refused_fails, crate::proofs::Withins::touch_within))]
 pub fn mark<S: Alter>(
     conn: &mut Connection<S>,

@@ -1,4 +1,4 @@
-//! Whether tables tell the schema that they have.
+//! Whether tables state the schema that they have.
 
 ghost use Rattle.std.specs.Prelude.{◌≡◌, ◌≢◌, [], ◌∷◌, false, IfOk, IsTrue};
 ghost use Rattle.sqlite.specs.Held.{state};
@@ -37,7 +37,7 @@ fn read_base<S: Alter>(conn: &mut Connection<S>, edition: Edition) -> Result<boo
     Ok(is_of(&about, edition))
 }
 
-/// Whether there is one row of `about`, of this schema. No transaction is left open.
+/// Whether `about` has one row, of this schema. No transaction is left open.
 pub fn has_base<S: Alter>(conn: &mut Connection<S>, edition: Edition) -> Result<bool, Error>
     requires ours { IsOurs edition (state S.Store conn.old) }
     ensures found { HasCleanDisk (state S.Store conn.new) → IfOk result

@@ -16,7 +16,7 @@ use reg_tables_schema::Edition;
 use reg_tables_sql::versions::ENTRIES_TEXT;
 use sqlite::{Alter, Connection, Error, Rows, params};
 
-/// The entries of the crate with this id, in the order of publication, one row at a time: each is a
+/// The entries of the crate with this id, in order of publication, one row at a time: each is a
 /// `StemRow`. They may be dropped at any row.
 pub fn index_rows<'c, S: Alter>(
     conn: &'c mut Connection<S>,

@@ -1,4 +1,4 @@
-//! Laws over the definitions, each as the contract of a function that does nothing.
+//! Laws of the definitions, each as the contract of a function that does nothing.
 
 ghost use Rattle.std.specs.Prelude.{◌≡◌, [], ◌∷◌, ◌++◌, map, pos, IsTrue};
 ghost use Rattle.sqlite.specs.Given.{HasGiven};
@@ -15,8 +15,8 @@ ghost use Rattle.reg_tables_meaning.specs.Upgrades.{IsUpgrade};
 
 use sqlite::{Alter, Connection};
 
-/// The stems and marks that the rows of a crate show are the entries of its index file, in the
-/// order of publication; of a crate that is not there, there are none.
+/// The stems and marks that the rows of a crate show are the entries of its index file, in order of
+/// publication; a crate that does not exist has none.
 pub fn entries_law()
     ensures { (ids : _) (s : _) (db : _) → Holds ids s db → (id : _) (rows : _)
         → AreStemsOf id db rows
@@ -29,8 +29,8 @@ pub fn migrate_law()
         → StandsBy ids s new.trees }
 {}
 
-/// What `index_rows` has given so far begins all stems and marks of the crate; what these are in
-/// the registry says `entries_law`.
+/// What `index_rows` has given so far begins the crate's stems and marks; `entries_law` says what
+/// they are in the registry.
 pub fn walk_law<S: Alter>(conn: &Connection<S>)
     ensures { HasCleanDisk (state S.Store conn.now) → (state S.Store conn.now).now.schema ≡ ours
         → IsTrue (state S.Store conn.now).is_open → (id : _) (rows : _)

@@ -1,12 +1,12 @@
-//! What the rows of the tables stand for: each change of the rows is a change of the registry, and
-//! each selection its part.
+//! What the tables' rows stand for: each change to the rows is a change to the registry, and each
+//! selection a part of it.
 //!
-//! `Stands` of `specs/` says which registry the rows are; a function here is one or more statements
-//! in a transaction, with what it is on that registry. `walks` and `entries` read in none, and
-//! `editions` and `upgrade` know schema 1.
+//! `Stands` in `specs/` says which registry the rows are. A function here is one or more statements
+//! in a transaction, with what it means on that registry. `walks` and `entries` read outside one,
+//! and `editions` and `upgrade` know schema 1.
 //!
-//! `accounts::add(&mut conn, "ada", Some("Ada"))?` is the id of the account that was added: one
-//! more than there were.
+//! `accounts::add(&mut conn, "ada", Some("Ada"))?` is the id of the new account: one more than
+//! there were.
 #![tactic(auto)]
 
 pub mod accounts;

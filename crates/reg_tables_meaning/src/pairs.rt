@@ -1,4 +1,4 @@
-//! Owners and readers of crates: changes of the registry that the rows stand for, and what they
+//! Owners and readers of crates: changes to the registry that the rows stand for, and what they
 //! show of it.
 
 ghost use Rattle.sqlite.specs.Held.{state};
@@ -13,7 +13,7 @@ use reg_tables_sql::{crates, pairs};
 use sqlite::{Alter, Connection, Error};
 use std::alloc::Global;
 
-/// Puts an account into the relation with a crate. A crate that is not there gets none.
+/// Puts an account into the relation with a crate. A crate that does not exist gets none.
 pub fn add<S: Alter>(
     conn: &mut Connection<S>,
     relation: Relation,
@@ -38,7 +38,7 @@ pub fn add<S: Alter>(
     Ok(())
 }
 
-/// Takes an account out of the relation with a crate.
+/// Removes an account from the relation with a crate.
 #[tactic(auto, using(crate::proofs::Withins::refused_fails, crate::proofs::Withins::become_within))]
 pub fn remove<S: Alter>(
     conn: &mut Connection<S>,

@@ -1,4 +1,4 @@
-//! Reserved names: changes of the registry that the rows stand for, and what they show of it.
+//! Reserved names: changes to the registry that the rows stand for, and what they show of it.
 
 ghost use Rattle.sqlite.specs.Held.{state};
 ghost use Rattle.reg_tables_schema.specs.States.{IsReady};
@@ -25,7 +25,7 @@ pub fn add<S: Alter>(conn: &mut Connection<S>, canon: &str) -> Result<(), Error>
     Ok(())
 }
 
-/// Sets a reserved name free.
+/// Frees a reserved name.
 #[tactic(auto, using(crate::proofs::Withins::refused_fails, crate::proofs::Withins::become_within))]
 pub fn free<S: Alter>(conn: &mut Connection<S>, canon: &str) -> Result<(), Error>
     requires { IsReady (state S.Store conn.old) }

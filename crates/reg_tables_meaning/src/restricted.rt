@@ -1,4 +1,4 @@
-//! Restricted crates: changes of the registry that the rows stand for, and what they show of it.
+//! Restricted crates: changes to the registry that the rows stand for, and what they show of it.
 
 ghost use Rattle.std.proofs.Common.{false, true};
 ghost use Rattle.sqlite.specs.Held.{state};
@@ -39,7 +39,7 @@ fn lift<S: Alter>(conn: &mut Connection<S>, crate_id: u32) -> Result<(), Error>
     Ok(())
 }
 
-/// Makes a crate restricted, or open to all. A crate that is not there is made neither.
+/// Restricts a crate, or opens it to all. A crate that does not exist becomes neither.
 pub fn set<S: Alter>(conn: &mut Connection<S>, crate_id: u32, restricted: bool) -> Result<(), Error>
     requires { IsReady (state S.Store conn.old) }
     ensures stands { Done S.Store conn.new result

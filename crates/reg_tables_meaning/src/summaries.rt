@@ -1,6 +1,6 @@
-//! The kept summaries of crates: the highest version of each, and how long its index file is.
+//! The kept summaries of crates: the highest version of each, and its index file's length.
 //!
-//! A summary is made anew from the rows of its crate's versions after each change of them.
+//! A summary is rebuilt from the rows of its crate's versions after each change to them.
 
 ghost use Rattle.std.specs.Prelude.{◌≡◌, ◌+◌, [], IfOk, IsTrue, map, slice_get, unwrap_or};
 ghost use Rattle.std.specs.Option.{option_map};
@@ -19,7 +19,7 @@ use reg_versions::{Release, VersionFault, highest};
 use sqlite::{Alter, Connection, Error};
 use std::alloc::{AllocError, Global};
 
-/// What a summary says of its crate.
+/// What a summary says about its crate.
 #[derive(Clone, Copy, Debug)]
 pub struct Numbers {
     pub highest: u64,
@@ -78,7 +78,7 @@ fn with_line(before: u64, mark: &VersionMark) -> Result<u64, Error>
     }
 }
 
-/// How long the index file is that these versions make.
+/// The length of the index file that these versions make.
 fn index_length(marks: &[VersionMark]) -> Result<u64, Error>
     ensures { IfOk result (λ n. n ≡ length_in (map shown_mark marks.now)) }
 {
@@ -89,8 +89,8 @@ fn index_length(marks: &[VersionMark]) -> Result<u64, Error>
     Ok(length)
 }
 
-/// What the versions of a crate give, in the order of publication. A text that is no version is
-/// an error.
+/// What the versions of a crate yield, in order of publication. A text that is no version is an
+/// error.
 pub fn numbers_in(alloc: Global, marks: &[VersionMark]) -> Result<Numbers, Error>
     ensures highest { IfOk result (λ n. n.highest ≡ highest_in (map shown_mark marks.now)) }
     ensures length { IfOk result (λ n. n.index_length ≡ length_in (map shown_mark marks.now)) }
@@ -103,7 +103,7 @@ pub fn numbers_in(alloc: Global, marks: &[VersionMark]) -> Result<Numbers, Error
     })
 }
 
-/// What the summary of a crate says by the rows of its versions.
+/// What the summary of a crate says, from its versions' rows.
 fn numbers_of<S: Alter>(conn: &mut Connection<S>, crate_id: u32) -> Result<Numbers, Error>
     requires { IsReady (state S.Store conn.old) }
     ensures told { Told S.Store conn.new result
@@ -128,7 +128,7 @@ pub(crate) fn insert<S: Alter>(conn: &mut Connection<S>, crate_id: u32) -> Resul
     Ok(())
 }
 
-/// Makes the summary of a crate say what its versions are now.
+/// Updates the summary of a crate to what its versions are now.
 pub(crate) fn renew<S: Alter>(conn: &mut Connection<S>, crate_id: u32) -> Result<(), Error>
     requires { IsReady (state S.Store conn.old) }
     ensures renewed { Done S.Store conn.new result

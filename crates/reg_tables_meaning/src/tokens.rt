@@ -1,4 +1,4 @@
-//! Tokens and their scopes: changes of the registry that the rows stand for, and what they show of
+//! Tokens and their scopes: changes to the registry that the rows stand for, and what they show of
 //! it.
 
 ghost use Rattle.std.specs.Prelude.{◌≡◌, [], IfOk};
@@ -21,7 +21,7 @@ use reg_tables_sql::tokens::{self, Token, TokenRow};
 use sqlite::{Alter, Connection, Error};
 use std::alloc::Global;
 
-/// A token that was found by its digest, with its account, and its scopes by place.
+/// A token found by its digest, with its account, and its scopes by place.
 #[derive(Debug, Drop)]
 pub struct TokenRows {
     pub token: TokenRow,
@@ -35,7 +35,7 @@ pub struct TokenLists {
     pub scopes: Vec<Scope>,
 }
 
-/// Makes a token no longer live.
+/// Revokes a token.
 #[tactic(auto, using(crate::proofs::Withins::refused_fails, crate::proofs::Withins::touch_within))]
 pub fn end<S: Alter>(conn: &mut Connection<S>, id: u32) -> Result<(), Error>
     requires { IsReady (state S.Store conn.old) }
@@ -65,7 +65,7 @@ fn add_row<S: Alter>(
     Ok(id)
 }
 
-// The place of a pattern; 32 bits hold each that there can be.
+// The place of a pattern; 32 bits hold every possible one.
 fn place_of(index: usize) -> Result<u32, Error>
     ensures { IfOk result (λ place. place ≡ index) }
 {
@@ -119,7 +119,7 @@ fn add_scopes<S: Alter>(
     Ok(())
 }
 
-/// Adds a token that is live, and answers its id.
+/// Adds a live token and returns its id.
 pub fn add<S: Alter>(
     alloc: Global,
     conn: &mut Connection<S>,

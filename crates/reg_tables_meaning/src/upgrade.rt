@@ -1,4 +1,4 @@
-//! Tables of schema 1 brought to schema 2, in one transaction.
+//! Migrating tables of schema 1 to schema 2, in one transaction.
 
 ghost use Rattle.std.specs.Prelude.{OnErr, OnOk};
 ghost use Rattle.sqlite.specs.Held.{state};
@@ -42,7 +42,7 @@ fn begin_on<S: Alter>(conn: &mut Connection<S>, edition: Edition) -> Result<(), 
     Ok(())
 }
 
-/// Begins a transaction that sees schema 2. Where that fails, none is open.
+/// Begins a transaction that sees schema 2. If that fails, none is open.
 pub fn begin_second<S: Alter>(conn: &mut Connection<S>, edition: Edition) -> Result<(), Error>
     requires { IsOurs edition (state S.Store conn.old) }
     ensures begun { HasCleanDisk (state S.Store conn.new) → OnOk result

@@ -14,8 +14,8 @@ use reg_tables_schema::Edition;
 use sqlite::types::ValueRef;
 use sqlite::{Alter, Connection, Error, Rows};
 
-/// The rows of a text that only reads, one at a time, from a connection to our tables. They may be
-/// dropped at any row. The text is prepared first, since that alone shows that the connection is
+/// The rows of a read-only query, one at a time, from a connection to our tables. They may be
+/// dropped at any row. The query is prepared first, since that alone shows that the connection is
 /// open.
 pub fn rows_of<'c, S: Alter>(
     conn: &'c mut Connection<S>,

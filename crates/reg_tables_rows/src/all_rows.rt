@@ -1,4 +1,4 @@
-//! All rows of the tables, as the checks on opening read them.
+//! All rows of the tables, as the opening checks read them.
 
 ghost use Rattle.std.specs.Prelude.{Some, string_bytes};
 ghost use Rattle.sqlite.specs.Held.{state};
@@ -37,8 +37,7 @@ use reg_tables_sql::{
 use sqlite::{Alter, Connection, Error};
 use std::alloc::Global;
 
-/// The rows of all tables, each table in the order of its key. Of the archives there are the ids
-/// alone.
+/// The rows of all tables, each table ordered by its key. For archives there are only the ids.
 #[derive(Drop)]
 pub struct AllRows {
     pub base: String,
@@ -55,7 +54,7 @@ pub struct AllRows {
     pub readers: Vec<Pair>,
 }
 
-/// The rows that tokens are of.
+/// The rows that make up tokens.
 #[derive(Drop)]
 struct TokenTables {
     accounts: Vec<Account>,
@@ -63,7 +62,7 @@ struct TokenTables {
     scopes: Vec<Scope>,
 }
 
-/// The rows that crates are of.
+/// The rows that make up crates.
 #[derive(Drop)]
 struct CrateTables {
     crates: Vec<Crate>,
@@ -71,7 +70,7 @@ struct CrateTables {
     versions: Vec<Version>,
 }
 
-/// What is kept of crates beside their versions.
+/// What is kept about crates besides their versions.
 #[derive(Drop)]
 struct KeptTables {
     summaries: Vec<Summary>,
@@ -117,7 +116,7 @@ fn see_rules<S: Alter>(conn: &mut Connection<S>) -> Result<(), Error>
     Ok(())
 }
 
-// That rows have rowids of their own is seen before any is read.
+// Rows are checked to have their own rowids before any is read.
 fn crate_tables<S: Alter>(alloc: Global, conn: &mut Connection<S>) -> Result<CrateTables, Error>
     requires { IsReady (state S.Store conn.old) }
     ensures crates { Told S.Store conn.new result
@@ -194,8 +193,8 @@ fn other_tables<S: Alter>(alloc: Global, conn: &mut Connection<S>) -> Result<Oth
     })
 }
 
-/// The rows of all tables. Of crates, versions, owners, readers and reserved names two rows with
-/// one rowid are a fault.
+/// The rows of all tables. For crates, versions, owners, readers and reserved names, two rows
+/// sharing a rowid are a fault.
 pub fn read<S: Alter>(alloc: Global, conn: &mut Connection<S>) -> Result<AllRows, Error>
     requires { IsReady (state S.Store conn.old) }
     ensures read { Told S.Store conn.new result (λ it. AreAllRows it (rows_in S.Store conn.old)) }

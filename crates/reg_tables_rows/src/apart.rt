@@ -1,4 +1,4 @@
-//! Whether each row of a table has a rowid of its own: seen from the rowids, read in order.
+//! Whether each row of a table has its own rowid, as seen from the rowids, read in order.
 
 ghost use Rattle.std.specs.Prelude.{◌∷◌, ◌↔◌, ℕ, IsTrue, OnOk};
 ghost use Rattle.std.specs.List.Sorted.{IsStrictlySortedBy};
@@ -87,7 +87,7 @@ fn check_others<S: Alter>(alloc: Global, conn: &mut Connection<S>) -> Result<(),
     Ok(())
 }
 
-/// An answer only where no two rows of a table have one rowid.
+/// Succeeds only if no two rows of a table share a rowid.
 pub(crate) fn check_rowids<S: Alter>(alloc: Global, conn: &mut Connection<S>) -> Result<(), Error>
     requires { IsReady (state S.Store conn.old) }
     ensures apart { Done S.Store conn.new result (AreApart (rows_in S.Store conn.old)) }

@@ -15,7 +15,7 @@ use reg_tables_sql::versions::StemRow;
 use sqlite::{Alter, Connection, Error};
 use std::alloc::Global;
 
-/// All entries of the crate with this id, in the order of publication. They are only read.
+/// All entries of the crate with this id, in order of publication. They are only read.
 pub fn index_entries<S: Alter>(
     alloc: Global,
     conn: &mut Connection<S>,

@@ -1,4 +1,4 @@
-//! The tables of a registry: their texts, and the words and laws by which each statement on them is
+//! The tables of a registry: their texts, and the terms and laws by which each statement on them is
 //! understood.
 //!
 //! ```

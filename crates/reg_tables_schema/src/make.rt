@@ -16,9 +16,9 @@ use sqlite_schema::schema::Schema;
 /// Why no tables were made.
 #[derive(Clone, Copy, Debug, PartialEq, Eq)]
 pub enum MakeFault {
-    /// The store holds something already, or, where tables are taken over, not ours.
+    /// The store already holds something or, if tables are adopted, something not ours.
     UnknownSchema,
-    /// The store failed, or there was no memory.
+    /// The store failed, or memory ran out.
     Storage,
 }
 
@@ -61,7 +61,7 @@ fn create_crate_tables<S: Alter>(conn: &mut Connection<S>) -> Result<(), Error>
     Ok(())
 }
 
-/// Makes the two tables that schema 2 has and schema 1 has not, in the transaction that is open.
+/// Makes the two tables that schema 2 has and schema 1 lacks, in the open transaction.
 #[tactic(auto, using(crate::proofs::MakeLemmas::extends))]
 pub fn add_tables<S: Alter>(conn: &mut Connection<S>) -> Result<(), Error>
     requires { IsReadyOf Edition.First (state S.Store conn.old) }
@@ -76,7 +76,7 @@ pub fn add_tables<S: Alter>(conn: &mut Connection<S>) -> Result<(), Error>
     Ok(())
 }
 
-/// Makes the tables, in the transaction that is open.
+/// Makes the tables, in the open transaction.
 #[tactic(auto, using(crate::proofs::MakeLemmas::extends_then))]
 pub fn create_tables<S: Alter>(conn: &mut Connection<S>) -> Result<(), Error>
     requires { HasCleanDisk (state S.Store conn.old) → HasMade blank (state S.Store conn.old) }
@@ -135,7 +135,7 @@ fn fill_and_commit<S: Alter>(conn: &mut Connection<S>, base: &str) -> Result<(),
     Ok(())
 }
 
-/// Makes the tables of a registry with nothing in it, all in one transaction.
+/// Makes the tables of an empty registry, all in one transaction.
 pub fn make_tables<S: Alter>(conn: &mut Connection<S>, base: &str) -> Result<(), MakeFault>
     ensures made { HasCleanDisk (state S.Store conn.new) → OnOk result
         (IsMade base.now (state S.Store conn.new).committed × IsAtRest (state S.Store conn.new)) }

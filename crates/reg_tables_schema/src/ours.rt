@@ -1,4 +1,4 @@
-//! Which of our schemas a schema is that was found.
+//! Which of our schemas a found schema is.
 
 ghost use Rattle.std.specs.Prelude.{◌≡◌, ◌↔◌, ◌+◌, ◌<◌, true, false, Ok, Some, IsTrue, IfOk, take, drop};
 ghost use Rattle.sqlite.specs.Compile.{table_defined_by};
@@ -16,7 +16,7 @@ use sqlite_schema::schema::{Index, Schema, Table};
 use sqlite_value::keys::Order;
 use std::alloc::{AllocError, Global};
 
-// The texts are ours and are understood, so that want of memory is their only fault.
+// The texts are ours and are understood, so out of memory is their only fault.
 fn is_table(alloc: Global, table: &Table, text: &str, tree: u32) -> Result<bool, AllocError>
     ensures { IfOk result (λ same. (made : _) → table_defined_by text.now ≡ Ok made → IsTrue same ↔
         (table.now ≡ record made { tree = tree })) }
@@ -27,7 +27,7 @@ fn is_table(alloc: Global, table: &Table, text: &str, tree: u32) -> Result<bool,
     Ok(table.tree == tree && same_table(table, &made))
 }
 
-// The twelve tables stand in three functions, since the check of one grows faster than its steps.
+// The twelve tables are in three functions, since the check of one grows faster than its steps.
 fn are_token_tables(alloc: Global, tables: &[Table]) -> Result<bool, AllocError>
     ensures { IfOk result (λ same. IsTrue same ↔ (tables.now ≡ take 4 our_tables)) }
 {
@@ -42,7 +42,7 @@ fn are_token_tables(alloc: Global, tables: &[Table]) -> Result<bool, AllocError>
     )
 }
 
-// The six that are of crates and of names.
+// The six for crates and names.
 fn are_crate_tables(alloc: Global, tables: &[Table]) -> Result<bool, AllocError>
     ensures { IfOk result (λ same. IsTrue same ↔ (tables.now ≡ take 6 (drop 4 our_tables))) }
 {
@@ -59,7 +59,7 @@ fn are_crate_tables(alloc: Global, tables: &[Table]) -> Result<bool, AllocError>
     )
 }
 
-// The two that are of readers.
+// The two for readers.
 fn are_reader_tables(alloc: Global, tables: &[Table]) -> Result<bool, AllocError>
     ensures { IfOk result (λ same. IsTrue same ↔ (tables.now ≡ drop 10 our_tables)) }
 {
@@ -76,7 +76,7 @@ fn are_first_tables(alloc: Global, tables: &[Table]) -> Result<bool, AllocError>
     Ok(are_token_tables(alloc, of_tokens)? & are_crate_tables(alloc, of_crates)?)
 }
 
-// Which edition has a list, told by its first part and its rest.
+// The edition of a list, judged by its first part and its rest.
 fn edition_by(first: bool, no_more: bool, added: bool) -> Option<Edition>
     ensures first { (result ≡ Some Edition.First) ↔ (IsTrue first × IsTrue no_more) }
     ensures second { (result ≡ Some Edition.Second) ↔
@@ -151,7 +151,7 @@ fn edition_of_indexes(indexes: &[Index]) -> Option<Edition>
     edition_by(is_first, added.is_empty(), is_second)
 }
 
-/// Which of our schemas this is, if it is one.
+/// Which of our schemas this is, if any.
 pub fn edition_of(alloc: Global, schema: &Schema) -> Result<Option<Edition>, AllocError>
     ensures { IfOk result (λ found. (e : Edition) → (found ≡ Some e) ↔
         (schema.now ≡ schema_of e)) }

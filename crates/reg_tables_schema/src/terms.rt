@@ -1,5 +1,4 @@
-//! Whether two expressions are the same, as trees: the places where their nodes stand do not
-//! matter.
+//! Whether two expressions are the same, as trees: where their nodes stand does not matter.
 
 ghost use Rattle.std.specs.Prelude.{◌≡◌, ◌↔◌, ◌⊎◌, ◌<◌, IsTrue};
 ghost use Rattle.sqlite_value.specs.Value.{owned};
@@ -48,8 +47,8 @@ fn lend(op: &Op) -> Node<'_>
     }
 }
 
-// The node at a place, and the depth to which its operands are read: NULL at depth 0 and where no
-// node stands.
+// The node at a place, and the depth to which its operands are read: NULL at depth 0 or where no
+// node is.
 fn open(ops: &[Op], depth: usize, at: usize) -> (Node<'_>, usize)
     ensures term { term_to ops.now depth at ≡ node_term (term_to ops.now result.1) result.0 }
     ensures falls { (result.1 < depth) ⊎ (result.0 ≡ Node.Literal ValueRef.Null) }

@@ -9,7 +9,7 @@ use crate::edition::Edition;
 use crate::laws::rest_law;
 use sqlite::{Alter, Connection, Error};
 
-/// Begins a transaction. Inside another one it is refused.
+/// Begins a transaction. This is refused inside another.
 pub fn begin<S: Alter>(conn: &mut Connection<S>) -> Result<usize, Error>
     ensures begun { HasCleanDisk (state S.Store conn.new) → OnOk result
         (Shows (state S.Store conn.old) (state S.Store conn.new) (state S.Store conn.old).now
@@ -27,7 +27,7 @@ pub fn begin<S: Alter>(conn: &mut Connection<S>) -> Result<usize, Error>
     conn.execute("BEGIN", &[])
 }
 
-/// Commits the transaction. Where that is refused, the transaction is undone.
+/// Commits the transaction. If that fails, the transaction is undone.
 pub fn finish<S: Alter>(conn: &mut Connection<S>) -> Result<usize, Error>
     ensures kept { HasCleanDisk (state S.Store conn.new) → OnOk result
         (Shows (state S.Store conn.old) (state S.Store conn.new) (state S.Store conn.old).now

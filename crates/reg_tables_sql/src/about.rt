@@ -14,7 +14,7 @@ use crate::statements::{rows_of, select_only, write};
 use reg_tables_schema::Edition;
 use sqlite::{Alter, Connection, Error, Row, params};
 
-/// What the one row says: of which schema the tables are, and the base of the registry.
+/// What the one row says: the schema of the tables, and the base of the registry.
 #[derive(Debug, Drop)]
 pub struct About {
     pub edition: Edition,
@@ -36,7 +36,7 @@ fn about_of(rows: &[Row]) -> Result<Option<About>, Error>
     Ok(Some(About { edition, base }))
 }
 
-/// What the row says; none where it is not alone, or its number is that of no schema of ours.
+/// What the row says; none if it is not alone, or its number belongs to no schema of ours.
 pub fn read<S: Alter>(conn: &mut Connection<S>) -> Result<Option<About>, Error>
     requires { (e : Edition) × IsReadyOf e (state S.Store conn.old) }
     ensures { Reads S.Store conn.old conn.new result (IsAboutOf (rows_in S.Store conn.old)) }
@@ -55,7 +55,7 @@ fn second_base(about: Option<About>) -> Option<String>
     }
 }
 
-/// The base of a registry of schema 2; none where the row is not alone, or is not of that schema.
+/// The base of a registry of schema 2; none if the row is not alone, or is not of that schema.
 pub fn base<S: Alter>(conn: &mut Connection<S>) -> Result<Option<String>, Error>
     requires { IsReady (state S.Store conn.old) }
     ensures { Reads S.Store conn.old conn.new result
@@ -84,7 +84,7 @@ fn number_second<S: Alter>(conn: &mut Connection<S>, id: u32) -> Result<(), Erro
     )
 }
 
-/// Gives the row the number of schema 2. It is refused where the row is not alone.
+/// Gives the row the number of schema 2. This is refused if the row is not alone.
 pub fn set_second<S: Alter>(conn: &mut Connection<S>) -> Result<(), Error>
     requires { IsReady (state S.Store conn.old) }
     ensures { Writes S.Store conn.old conn.new result BecomesSecond }

@@ -1,4 +1,4 @@
-//! The table of accounts, a statement a function.
+//! The table of accounts, one statement per function.
 
 ghost use Rattle.std.specs.Prelude.{true};
 ghost use Rattle.std.specs.Option.{option_map};
@@ -16,7 +16,7 @@ use crate::statements::{select_list, select_number, select_one, write};
 use sqlite::{Alter, Connection, Error, Row, params};
 use std::alloc::Global;
 
-/// An account as it is stored.
+/// An account as stored.
 #[derive(Debug, Drop)]
 pub struct Account {
     pub id: u32,
@@ -41,7 +41,7 @@ impl FromRow for Account {
     }
 }
 
-/// Adds an account that is enabled.
+/// Adds an enabled account.
 pub fn insert<S: Alter>(
     conn: &mut Connection<S>,
     id: u32,
@@ -60,7 +60,7 @@ pub fn insert<S: Alter>(
     )
 }
 
-/// Makes an account enabled or not.
+/// Enables or disables an account.
 pub fn enable<S: Alter>(conn: &mut Connection<S>, id: u32, enabled: bool) -> Result<(), Error>
     requires { IsReady (state S.Store conn.old) }
     ensures { Writes S.Store conn.old conn.new result (Enables id enabled) }
@@ -72,7 +72,7 @@ pub fn enable<S: Alter>(conn: &mut Connection<S>, id: u32, enabled: bool) -> Res
     )
 }
 
-/// The account that has the login, if there is one.
+/// The account with this login, if there is one.
 pub fn by_login<S: Alter>(conn: &mut Connection<S>, login: &str) -> Result<Option<Account>, Error>
     requires { IsReady (state S.Store conn.old) }
     ensures { Reads S.Store conn.old conn.new result
@@ -85,7 +85,7 @@ pub fn by_login<S: Alter>(conn: &mut Connection<S>, login: &str) -> Result<Optio
     )
 }
 
-/// All the accounts, in the order of their ids.
+/// All accounts, by id.
 pub fn all<S: Alter>(alloc: Global, conn: &mut Connection<S>) -> Result<Vec<Account>, Error>
     requires { IsReady (state S.Store conn.old) }
     ensures { Reads S.Store conn.old conn.new result
@@ -99,7 +99,7 @@ pub fn all<S: Alter>(alloc: Global, conn: &mut Connection<S>) -> Result<Vec<Acco
     )
 }
 
-/// The greatest id of an account, if there is one.
+/// The greatest account id, if there is one.
 pub fn last_id<S: Alter>(conn: &mut Connection<S>) -> Result<Option<u32>, Error>
     requires { IsReady (state S.Store conn.old) }
     ensures { Reads S.Store conn.old conn.new result
@@ -112,7 +112,7 @@ pub fn last_id<S: Alter>(conn: &mut Connection<S>) -> Result<Option<u32>, Error>
     )
 }
 
-/// How many accounts there are, up to the greatest count of SQL.
+/// How many accounts there are, up to SQL's greatest count.
 pub fn count<S: Alter>(conn: &mut Connection<S>) -> Result<u64, Error>
     requires { IsReady (state S.Store conn.old) }
     ensures { Reads S.Store conn.old conn.new result

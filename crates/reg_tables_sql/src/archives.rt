@@ -1,4 +1,4 @@
-//! The table of archives, a statement a function.
+//! The table of archives, one statement per function.
 
 ghost use Rattle.std.specs.Prelude.{◌<◌, ◌^◌};
 ghost use Rattle.sqlite.specs.Held.{state};
@@ -71,7 +71,7 @@ pub fn by_id<S: Alter>(conn: &mut Connection<S>, version: u64) -> Result<Option<
     )
 }
 
-/// The ids of the versions that have an archive, in their order.
+/// The ids of the versions that have an archive, in order.
 pub fn all_ids<S: Alter>(alloc: Global, conn: &mut Connection<S>) -> Result<Vec<u64>, Error>
     requires { IsReady (state S.Store conn.old) }
     ensures { Reads S.Store conn.old conn.new result

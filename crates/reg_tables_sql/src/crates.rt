@@ -1,4 +1,4 @@
-//! The table of crates, a statement a function.
+//! The table of crates, one statement per function.
 
 ghost use Rattle.sqlite.specs.Held.{state};
 ghost use Rattle.reg_tables_schema.specs.Changes.{Adds};
@@ -14,7 +14,7 @@ use crate::statements::{has_row, select_list, select_number, select_one, write};
 use sqlite::{Alter, Connection, Error, Row, params};
 use std::alloc::Global;
 
-/// A crate as it is stored.
+/// A crate as stored.
 #[derive(Debug, Drop)]
 pub struct Crate {
     pub id: u32,
@@ -55,7 +55,7 @@ pub fn insert<S: Alter>(
     )
 }
 
-/// The crate that has the canonical name, if there is one.
+/// The crate with this canonical name, if there is one.
 pub fn by_canon<S: Alter>(conn: &mut Connection<S>, canon: &str) -> Result<Option<Crate>, Error>
     requires { IsReady (state S.Store conn.old) }
     ensures { Reads S.Store conn.old conn.new result
@@ -77,7 +77,7 @@ pub fn has_id<S: Alter>(conn: &mut Connection<S>, id: u32) -> Result<bool, Error
     has_row(conn, "SELECT id FROM crates WHERE id = ?1", params![id])
 }
 
-/// All the crates, in the order of their canonical names.
+/// All crates, by canonical name.
 pub fn all<S: Alter>(alloc: Global, conn: &mut Connection<S>) -> Result<Vec<Crate>, Error>
     requires { IsReady (state S.Store conn.old) }
     ensures { Reads S.Store conn.old conn.new result
@@ -91,7 +91,7 @@ pub fn all<S: Alter>(alloc: Global, conn: &mut Connection<S>) -> Result<Vec<Crat
     )
 }
 
-/// All the crates, in the order of their ids.
+/// All crates, by id.
 pub fn all_by_id<S: Alter>(alloc: Global, conn: &mut Connection<S>) -> Result<Vec<Crate>, Error>
     requires { IsReady (state S.Store conn.old) }
     ensures { Reads S.Store conn.old conn.new result
@@ -114,7 +114,7 @@ pub fn rowids<S: Alter>(alloc: Global, conn: &mut Connection<S>) -> Result<Vec<i
     select_list(alloc, conn, "SELECT id FROM crates ORDER BY id", &[])
 }
 
-/// The greatest id of a crate, if there is one.
+/// The greatest crate id, if there is one.
 pub fn last_id<S: Alter>(conn: &mut Connection<S>) -> Result<Option<u32>, Error>
     requires { IsReady (state S.Store conn.old) }
     ensures { Reads S.Store conn.old conn.new result
@@ -123,7 +123,7 @@ pub fn last_id<S: Alter>(conn: &mut Connection<S>) -> Result<Option<u32>, Error>
     select_one(conn, "SELECT id FROM crates ORDER BY id DESC LIMIT 1", &[])
 }
 
-/// How many crates there are, up to the greatest count of SQL.
+/// How many crates there are, up to SQL's greatest count.
 pub fn count<S: Alter>(conn: &mut Connection<S>) -> Result<u64, Error>
     requires { IsReady (state S.Store conn.old) }
     ensures { Reads S.Store conn.old conn.new result

@@ -1,9 +1,9 @@
-//! The statements on the tables of a registry: one SQL text a function, over a connection in a
+//! The statements on the tables of a registry: one SQL text per function, on a connection in a
 //! transaction.
 //!
-//! Each function says what its text answers or changes, in the words of its table in `specs/`; what
-//! a statement leaves beside that is one word, `Reads` or `Writes`. No function here begins or ends
-//! a transaction.
+//! Each function says what its text returns or changes, in the terms of its table in `specs/`; what
+//! else a statement leaves is one word, `Reads` or `Writes`. No function here begins or ends a
+//! transaction.
 //!
 //! `accounts::by_login(&mut conn, "ada")?` is the account with this login, if there is one.
 #![tactic(auto)]

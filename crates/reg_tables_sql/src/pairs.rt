@@ -1,5 +1,5 @@
-//! The tables of pairs, a crate and an account: who owns a crate, and who reads it. A statement a
-//! function.
+//! The tables of pairs, a crate and an account: who owns a crate, and who reads it. One statement
+//! per function.
 
 ghost use Rattle.std.specs.Prelude.{◌≡◌};
 ghost use Rattle.sqlite.specs.Held.{state};
@@ -16,7 +16,7 @@ use crate::statements::{has_row, select_list, write};
 use sqlite::{Alter, Connection, Error, Row, params};
 use std::alloc::Global;
 
-/// A crate and an account that owns it, or that reads it.
+/// A crate and an account that owns or reads it.
 #[derive(Clone, Copy, Debug, PartialEq, Eq)]
 pub struct Pair {
     pub crate_id: u32,
@@ -37,7 +37,7 @@ impl FromRow for Pair {
     }
 }
 
-/// Which accounts of a crate are meant: each relation has a table of its own.
+/// Which accounts of a crate are meant: each relation has its own table.
 #[derive(Clone, Copy, Debug, PartialEq, Eq)]
 pub enum Relation {
     Owners,
@@ -103,7 +103,7 @@ pub fn insert<S: Alter>(
     write(conn, texts(relation).insert, params![crate_id, account])
 }
 
-/// Takes an account out of the relation with a crate.
+/// Removes an account from the relation with a crate.
 pub fn remove<S: Alter>(
     conn: &mut Connection<S>,
     relation: Relation,
@@ -131,7 +131,7 @@ pub fn is_there<S: Alter>(
     has_row(conn, texts(relation).pair, params![crate_id, account])
 }
 
-/// The accounts in the relation with a crate, in order of their ids.
+/// The accounts in the relation with a crate, by id.
 pub fn of_crate<S: Alter>(
     alloc: Global,
     conn: &mut Connection<S>,

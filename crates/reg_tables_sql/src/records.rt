@@ -1,4 +1,4 @@
-//! The rows of an answer, read as records.
+//! The rows of a result, read as records.
 
 ghost use Rattle.std.specs.Prelude.{◌≡◌, IfOk, map};
 ghost use Rattle.sqlite.specs.Order.{Row as Values};
@@ -7,7 +7,7 @@ ghost use Rattle.reg_tables_schema.specs.Shown.{shown_of};
 use sqlite::{Error, Row};
 use std::alloc::Global;
 
-/// A record that is the columns of a row.
+/// A record made of a row's columns.
 pub trait FromRow: Sized + Drop {
     ghost columns: { Self → Values };
 
@@ -15,7 +15,7 @@ pub trait FromRow: Sized + Drop {
         ensures { IfOk result (λ it. row.now ≡ columns it) };
 }
 
-/// The record of the only row; none where there is no row.
+/// The record of the only row; none if there is no row.
 pub(crate) fn read_one<T: FromRow>(rows: &[Row]) -> Result<Option<T>, Error>
     ensures { IfOk result (λ found. rows.now ≡ shown_of T.FromRow.columns found) }
 {
@@ -26,7 +26,7 @@ pub(crate) fn read_one<T: FromRow>(rows: &[Row]) -> Result<Option<T>, Error>
     }
 }
 
-/// The records of all rows, in their order. Each row goes as soon as its record is made.
+/// The records of all rows, in order. Each row is dropped as soon as its record is made.
 pub(crate) fn read_all<T: FromRow>(alloc: Global, rows: Vec<Row>) -> Result<Vec<T>, Error>
     ensures { IfOk result (λ list. map T.FromRow.columns list.items ≡ rows.items) }
 {

@@ -1,4 +1,4 @@
-//! The table of reserved names, a statement a function.
+//! The table of reserved names, one statement per function.
 
 ghost use Rattle.sqlite.specs.Held.{state};
 ghost use Rattle.reg_tables_schema.specs.Changes.{AddsColumns, Removes};
@@ -26,7 +26,7 @@ pub fn insert<S: Alter>(conn: &mut Connection<S>, canon: &str) -> Result<(), Err
     )
 }
 
-/// Sets a canonical name free.
+/// Frees a canonical name.
 pub fn remove<S: Alter>(conn: &mut Connection<S>, canon: &str) -> Result<(), Error>
     requires { IsReady (state S.Store conn.old) }
     ensures { Writes S.Store conn.old conn.new result
@@ -52,7 +52,7 @@ pub fn is_there<S: Alter>(conn: &mut Connection<S>, canon: &str) -> Result<bool,
     )
 }
 
-/// All the reserved names, in order.
+/// All reserved names, in order.
 pub fn all<S: Alter>(alloc: Global, conn: &mut Connection<S>) -> Result<Vec<String>, Error>
     requires { IsReady (state S.Store conn.old) }
     ensures { Reads S.Store conn.old conn.new result

@@ -1,4 +1,4 @@
-//! The table of the crates that are not for everyone, a statement a function.
+//! The table of restricted crates, one statement per function.
 
 ghost use Rattle.sqlite.specs.Held.{state};
 ghost use Rattle.reg_tables_schema.specs.Changes.{Adds, Removes};

@@ -1,4 +1,4 @@
-//! The table of the crates that tokens are for, a statement a function.
+//! The table of the crates that tokens are for, one statement per function.
 
 ghost use Rattle.sqlite.specs.Held.{state};
 ghost use Rattle.reg_tables_schema.specs.Changes.{AddsColumns};
@@ -59,7 +59,7 @@ pub fn insert<S: Alter>(
     )
 }
 
-/// The scopes of a token, in order of their places.
+/// The scopes of a token, by place.
 pub fn of_token<S: Alter>(
     alloc: Global,
     conn: &mut Connection<S>,

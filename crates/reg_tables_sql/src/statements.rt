@@ -1,4 +1,4 @@
-//! One text that reads or writes, whichever it is.
+//! Any single text that reads or writes.
 
 ghost use Rattle.std.specs.Prelude.{◌≡◌, ◌==◌, [], ◌∷◌, Ok, length, map, not};
 ghost use Rattle.sqlite.specs.Held.{state};
@@ -17,7 +17,7 @@ use sqlite::types::ValueRef;
 use sqlite::{Alter, Connection, Error, Row};
 use std::alloc::Global;
 
-/// The rows of a text that only reads.
+/// The rows of a read-only query.
 pub fn rows_of<S: Alter>(
     conn: &mut Connection<S>,
     text: &str,
@@ -30,7 +30,7 @@ pub fn rows_of<S: Alter>(
     conn.query_all(text, params)
 }
 
-/// The only row of a text that only reads, as a record; none where there is no row.
+/// The only row of a read-only query, as a record; none if there is no row.
 pub fn select_one<T: FromRow, S: Alter>(
     conn: &mut Connection<S>,
     text: &str,
@@ -67,8 +67,8 @@ fn walk<T: FromRow, S: Alter>(
     Err(Error::InvalidQuery)
 }
 
-/// The rows of a text that only reads, as records. They come one at a time, so that none is held
-/// beside its record.
+/// The rows of a read-only query, as records. They come one at a time, so that none is held beside
+/// its record.
 pub fn select_list<T: FromRow, S: Alter>(
     alloc: Global,
     conn: &mut Connection<S>,
@@ -83,7 +83,7 @@ pub fn select_list<T: FromRow, S: Alter>(
     walk(alloc, conn, text, params)
 }
 
-/// The same, where the caller has no memory to give: the records are made in that of the rows.
+/// The same, for a caller with no memory to give: the records are made in the rows' memory.
 pub(crate) fn select_here<T: FromRow, S: Alter>(
     conn: &mut Connection<S>,
     text: &str,
@@ -99,7 +99,7 @@ pub(crate) fn select_here<T: FromRow, S: Alter>(
     read_all(alloc, rows)
 }
 
-/// The only row of a text that only reads, as a record. It is an error where there is none.
+/// The only row of a read-only query, as a record. It is an error if there is none.
 pub(crate) fn select_only<T: FromRow, S: Alter>(
     conn: &mut Connection<S>,
     text: &str,
@@ -112,7 +112,7 @@ pub(crate) fn select_only<T: FromRow, S: Alter>(
     found.ok_or(Error::InvalidQuery)
 }
 
-/// The number that is the only value of the only row of a text that only reads.
+/// The number that is the only value in the only row of a read-only query.
 pub(crate) fn select_number<S: Alter>(conn: &mut Connection<S>, text: &str) -> Result<u64, Error>
     requires { MayRead text.now (state S.Store conn.old) }
     ensures { Reads S.Store conn.old conn.new result
@@ -121,7 +121,7 @@ pub(crate) fn select_number<S: Alter>(conn: &mut Connection<S>, text: &str) -> R
     select_only::<u64, S>(conn, text)
 }
 
-/// Whether a text that only reads has a row.
+/// Whether a read-only query has a row.
 pub fn has_row<S: Alter>(
     conn: &mut Connection<S>,
     text: &str,
@@ -136,7 +136,7 @@ pub fn has_row<S: Alter>(
     Ok(!rows.is_empty())
 }
 
-/// Runs a text that writes rows.
+/// Runs a statement that writes rows.
 pub(crate) fn write<S: Alter>(
     conn: &mut Connection<S>,
     text: &str,

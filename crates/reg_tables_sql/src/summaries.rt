@@ -1,4 +1,4 @@
-//! The table of summaries of crates, a statement a function.
+//! The table of summaries of crates, one statement per function.
 //!
 //! A number that SQL can't hold, from 2^63 on, is refused before anything is written.
 
@@ -15,7 +15,7 @@ use crate::statements::{select_list, select_one, write};
 use sqlite::{Alter, Connection, Error, Row, params};
 use std::alloc::Global;
 
-/// The greatest version of a crate that is not yanked, and how long its index file is.
+/// The greatest version of a crate that is not yanked, and its index file's length.
 #[derive(Clone, Copy, Debug, PartialEq, Eq)]
 pub struct Summary {
     pub crate_id: u32,
@@ -102,7 +102,7 @@ pub fn of_crate<S: Alter>(conn: &mut Connection<S>, crate_id: u32) -> Result<Opt
     )
 }
 
-/// All summaries, in the order of their crates' ids.
+/// All summaries, by crate id.
 pub fn all<S: Alter>(alloc: Global, conn: &mut Connection<S>) -> Result<Vec<Summary>, Error>
     requires { IsReady (state S.Store conn.old) }
     ensures { Reads S.Store conn.old conn.new result

@@ -1,4 +1,4 @@
-//! The table of tokens, a statement a function.
+//! The table of tokens, one statement per function.
 
 ghost use Rattle.std.specs.Prelude.{◌≡◌, ◌+◌, ◌<◌, true, IfOk};
 ghost use Rattle.sqlite.specs.Held.{state};
@@ -18,7 +18,7 @@ use reg_model::Endpoints;
 use sqlite::{Alter, Connection, Error, Row, params};
 use std::alloc::Global;
 
-/// A token as it is stored.
+/// A token as stored.
 #[derive(Debug, Drop)]
 pub struct Token {
     pub id: u32,
@@ -28,7 +28,7 @@ pub struct Token {
     pub endpoints: Endpoints,
 }
 
-/// A token that was found by its digest, and what a request needs to know of its account.
+/// A token found by its digest, and what a request needs to know about its account.
 #[derive(Debug, Drop)]
 pub struct TokenRow {
     pub id: u32,
@@ -39,7 +39,7 @@ pub struct TokenRow {
     pub enabled: bool,
 }
 
-/// The endpoints, which are four marks from this place on.
+/// The endpoints: four marks from this place on.
 fn endpoints_of(row: &Row, at: usize) -> Result<Endpoints, Error>
     requires { at < 9 }
     ensures publish_new { IfOk result (λ e. column row.now at ≡ mark e.publish_new) }
@@ -90,7 +90,7 @@ impl FromRow for TokenRow {
     }
 }
 
-/// Adds a token that is live.
+/// Adds a live token.
 pub fn insert<S: Alter>(
     conn: &mut Connection<S>,
     id: u32,
@@ -118,7 +118,7 @@ pub fn insert<S: Alter>(
     )
 }
 
-/// Makes a token no longer live.
+/// Revokes a token.
 pub fn revoke<S: Alter>(conn: &mut Connection<S>, id: u32) -> Result<(), Error>
     requires { IsReady (state S.Store conn.old) }
     ensures { Writes S.Store conn.old conn.new result (Revokes id) }
@@ -148,7 +148,7 @@ pub fn by_digest<S: Alter>(
     )
 }
 
-/// All tokens, in order of their ids.
+/// All tokens, by id.
 pub fn all<S: Alter>(alloc: Global, conn: &mut Connection<S>) -> Result<Vec<Token>, Error>
     requires { IsReady (state S.Store conn.old) }
     ensures { Reads S.Store conn.old conn.new result
@@ -163,7 +163,7 @@ pub fn all<S: Alter>(alloc: Global, conn: &mut Connection<S>) -> Result<Vec<Toke
     )
 }
 
-/// The greatest id of a token, if there is one.
+/// The greatest token id, if there is one.
 pub fn last_id<S: Alter>(conn: &mut Connection<S>) -> Result<Option<u32>, Error>
     requires { IsReady (state S.Store conn.old) }
     ensures { Reads S.Store conn.old conn.new result
@@ -172,7 +172,7 @@ pub fn last_id<S: Alter>(conn: &mut Connection<S>) -> Result<Option<u32>, Error>
     select_one(conn, "SELECT id FROM tokens ORDER BY id DESC LIMIT 1", &[])
 }
 
-/// How many tokens there are, up to the greatest count of SQL.
+/// How many tokens there are, up to SQL's greatest count.
 pub fn count<S: Alter>(conn: &mut Connection<S>) -> Result<u64, Error>
     requires { IsReady (state S.Store conn.old) }
     ensures { Reads S.Store conn.old conn.new result

@@ -1,4 +1,4 @@
-//! The table of versions, a statement a function.
+//! The table of versions, one statement per function.
 
 ghost use Rattle.std.specs.Prelude.{◌≡◌, ◌<◌, ◌^◌, ◌∷◌, [], false, pos, IfOk};
 ghost use Rattle.std.specs.Option.{option_map};
@@ -46,7 +46,7 @@ impl FromRow for Version {
     }
 }
 
-// The numbers come first: what owns no memory costs the check little where it lives long.
+// The numbers come first: what owns no memory costs the check little if it lives long.
 fn with_texts(row: &Row, id: u64, crate_id: u32, yanked: bool) -> Result<Version, Error>
     ensures { IfOk result (λ it. columns_of_version it ≡ Int (pos id) ∷ Int (pos crate_id)
         ∷ column row.now 2 ∷ column row.now 3 ∷ column row.now 4 ∷ column row.now 5
@@ -64,7 +64,7 @@ fn with_texts(row: &Row, id: u64, crate_id: u32, yanked: bool) -> Result<Version
     })
 }
 
-/// What the line of a version in an index file is made of.
+/// What a version's line in an index file is made of.
 #[derive(Debug, Drop)]
 pub struct StemRow {
     pub stem: Vec<u8>,
@@ -85,7 +85,7 @@ impl FromRow for StemRow {
     }
 }
 
-/// What the summary of a crate is made of: one of its versions, and how long its stem is.
+/// What a crate's summary is made of: one of its versions, and its stem's length.
 #[derive(Debug, Drop)]
 pub struct VersionMark {
     pub id: u64,
@@ -110,7 +110,7 @@ impl FromRow for VersionMark {
     }
 }
 
-/// The rows of the index file of a crate, in the order of the versions' ids; each is a `StemRow`.
+/// The rows of the index file of a crate, by version id; each is a `StemRow`.
 pub const ENTRIES_TEXT: &str = "SELECT stem, yanked FROM versions WHERE crate = ?1 ORDER BY id";
 
 /// Adds a version that is not yanked. SQL keeps ids below 2^63.
@@ -147,7 +147,7 @@ pub fn insert<S: Alter>(
     )
 }
 
-/// Yanks a version, or takes that back.
+/// Yanks or unyanks a version.
 pub fn set_yanked<S: Alter>(
     conn: &mut Connection<S>,
     crate_id: u32,
@@ -166,7 +166,7 @@ pub fn set_yanked<S: Alter>(
     )
 }
 
-/// The versions of a crate, in the order of their ids.
+/// The versions of a crate, by id.
 pub fn of_crate<S: Alter>(
     alloc: Global,
     conn: &mut Connection<S>,
@@ -185,7 +185,7 @@ pub fn of_crate<S: Alter>(
     )
 }
 
-/// All versions, in the order of their ids.
+/// All versions, by id.
 pub fn all<S: Alter>(alloc: Global, conn: &mut Connection<S>) -> Result<Vec<Version>, Error>
     requires { IsReady (state S.Store conn.old) }
     ensures { Reads S.Store conn.old conn.new result
@@ -209,7 +209,7 @@ pub fn rowids<S: Alter>(alloc: Global, conn: &mut Connection<S>) -> Result<Vec<i
     select_list(alloc, conn, "SELECT id FROM versions ORDER BY id", &[])
 }
 
-/// The rows of the index file of a crate.
+/// The rows of a crate's index file.
 pub fn entries<S: Alter>(
     alloc: Global,
     conn: &mut Connection<S>,
@@ -222,7 +222,7 @@ pub fn entries<S: Alter>(
     select_list(alloc, conn, ENTRIES_TEXT, params![crate_id])
 }
 
-/// The marks of the versions of a crate, in the order of their ids.
+/// The marks of the versions of a crate, by id.
 pub fn marks_of<S: Alter>(
     conn: &mut Connection<S>,
     crate_id: u32,
@@ -238,7 +238,7 @@ pub fn marks_of<S: Alter>(
     )
 }
 
-/// The greatest id of a version, if there is one.
+/// The greatest version id, if there is one.
 pub fn last_id<S: Alter>(conn: &mut Connection<S>) -> Result<Option<u64>, Error>
     requires { IsReady (state S.Store conn.old) }
     ensures { Reads S.Store conn.old conn.new result
