@@ -6,7 +6,7 @@ ghost use Rattle.reg_api_replies.specs.Sent.{Sends, sink};
 use reg_body::Counted;
 use std::io::Write;
 
-/// Why not all was sent. A front of it was.
+/// Why not everything was sent. A prefix of it was.
 #[derive(Clone, Copy, Debug, PartialEq, Eq)]
 pub enum SendFault {
     /// The writer failed.
@@ -15,7 +15,7 @@ pub enum SendFault {
     Spent,
 }
 
-/// `write_bytes` writes the bytes in at most `writes` calls, and answers how many it made.
+/// Writes the bytes in at most `writes` calls, and returns how many it made.
 pub fn write_bytes<W: Write>(
     w: &mut Counted<W>,
     bytes: &[u8],

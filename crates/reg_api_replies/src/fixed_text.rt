@@ -5,7 +5,7 @@ ghost use Rattle.std.specs.Prelude.{◌≡◌};
 use arrayvec::ArrayString;
 use std::marker::Model;
 
-/// How many bytes such a text has at most: no head is longer.
+/// How many bytes such a text has at most; no head is longer.
 pub(crate) const ROOM: usize = 200;
 
 /// A short text that needs no memory.

@@ -1,4 +1,4 @@
-//! The body that lists the crates that a search finds.
+//! The body that lists the crates a search finds.
 
 ghost use Rattle.std.specs.Prelude.{◌≡◌, ℕ, [], ◌∷◌, ◌++◌, IfOk, OnErr, OnOk};
 ghost use Rattle.std.specs.Option.{option_copied};
@@ -66,7 +66,7 @@ fn found_value(alloc: Global, crates: Vec<Value>, total: u64) -> Result<Value, A
 }
 
 impl FoundBody {
-    /// `new` begins a body, with no crate.
+    /// Begins a body with no crates.
     pub fn new(alloc: Global) -> FoundBody
         ensures { result ≡ [] }
     {
@@ -75,8 +75,8 @@ impl FoundBody {
         }
     }
 
-    /// `push` puts a crate behind those that are there: its name, its highest version, and that
-    /// version's description.
+    /// Adds a crate after those already there: its name, its highest version, and that version's
+    /// description.
     pub fn push(
         &mut self,
         name: &str,
@@ -93,7 +93,7 @@ impl FoundBody {
         Ok(())
     }
 
-    /// `finish` gives the body; `total` is how many crates match.
+    /// Returns the body; `total` is how many crates match.
     pub fn finish(self, total: u64) -> Result<Vec<u8>, AllocError>
         ensures { IfOk result (λ v. v.items ≡ found_body (found_of total self)) }
     {

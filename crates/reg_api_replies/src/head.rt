@@ -11,7 +11,7 @@ use http::StatusCode;
 use itoa::Buffer;
 use reg_policy::{Rule, rule_status};
 
-/// What a body is.
+/// A body's kind.
 #[derive(Clone, Copy, Debug, PartialEq, Eq)]
 pub enum Kind {
     /// An index file.
@@ -113,8 +113,8 @@ fn push_close(head: &mut ArrayString<ROOM>, close: bool)
     }
 }
 
-/// `reply_head` lays out the head of a reply, up to its empty line. The length is that of the body,
-/// also where the body is left out; `allow` is empty but where the route has other methods.
+/// Builds the head of a reply, up to its empty line. The length is that of the body, even if the
+/// body is left out; `allow` is empty unless the route has other methods.
 #[tactic(auto, unfolding(crate::specs::Heads::head_text))]
 pub fn reply_head(
     status: StatusCode,

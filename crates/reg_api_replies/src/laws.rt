@@ -9,7 +9,7 @@ ghost use Rattle.reg_api_replies.specs.Sent.{IsStopped, Piles, Sends, SendsAll, 
 ghost use Rattle.reg_api_replies.specs.Texts.{answer_text, reply_text};
 ghost use Rattle.reg_api_replies.specs.declared.bytes.SendFault.{SendFault};
 
-/// Sending two texts one after another is sending the one that they are together.
+/// Sending two texts one after another is sending their concatenation.
 pub fn joined_law()
     ensures both { (a b : List ℕ) (writes used : ℕ) (s t u : Sink) (r : Result ℕ SendFault)
         → SendsAll a writes used s t → Sends r b (writes - used) t u
@@ -18,8 +18,8 @@ pub fn joined_law()
         → IsStopped f a writes s t → IsStopped f (a ++ b) writes s t }
 {}
 
-/// Two texts that are put behind one that waits, one after another, are put there together; and
-/// all of it is sent once the rest is.
+/// Two texts put after a waiting one, one after another, are put there together; and all is sent
+/// once the rest is.
 pub fn pile_law()
     ensures both { (waiting a b between rest : List ℕ) (writes used more : ℕ) (s t u : Sink)
         → Piles waiting a between writes used s t
@@ -34,7 +34,7 @@ pub fn pile_law()
         → Sends r rest (writes - used) t u → Sends (after used r) (waiting ++ text) writes s u }
 {}
 
-/// A reply that tells an answer is sent as the answer's text.
+/// A reply that gives an answer is sent as the answer's text.
 pub fn answer_law()
     ensures { (asked : Asked) (a : Answer) (reply : Reply) (close : Bool) → Says asked a reply
         → reply_text reply close false ≡ answer_text asked a close }

@@ -1,6 +1,6 @@
-//! Replies: their bodies and their heads, and sending them in a bounded number of write calls.
+//! Replies: their bodies, their heads, and sending them in a bounded number of write calls.
 //!
-//! A head and its body leave in one write where they fit a pile of 32 KiB, and sending takes no
+//! A head and its body leave in one write if they fit a pile of 32 KiB, and sending takes no
 //! memory.
 //!
 //! ```

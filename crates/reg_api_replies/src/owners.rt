@@ -51,7 +51,7 @@ fn owners_value(alloc: Global, users: Vec<Value>) -> Result<Value, AllocError>
 }
 
 impl OwnersBody {
-    /// `new` begins a body, with no owner.
+    /// Begins a body with no owners.
     pub fn new(alloc: Global) -> OwnersBody
         ensures { result ≡ [] }
     {
@@ -60,7 +60,7 @@ impl OwnersBody {
         }
     }
 
-    /// `push` puts an owner behind those that are there.
+    /// Adds an owner after those already there.
     pub fn push(&mut self, id: u32, login: &str, name: Option<&str>) -> Result<(), AllocError>
         ensures ok { OnOk result (self.new
             ≡ self.old ++ owner_of id login.now (option_copied name.entry) ∷ []) }
@@ -72,7 +72,7 @@ impl OwnersBody {
         Ok(())
     }
 
-    /// `finish` gives the body.
+    /// Returns the body.
     pub fn finish(self) -> Result<Vec<u8>, AllocError>
         ensures { IfOk result (λ v. v.items ≡ owners_body self) }
     {

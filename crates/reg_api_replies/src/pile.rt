@@ -9,12 +9,12 @@ use reg_body::Counted;
 use std::io::Write;
 use std::marker::Model;
 
-/// How many bytes wait at most: an index file of 700 kB leaves in some 20 writes. To make a pile of
-/// this size takes a quarter of a microsecond where it is made in place, and ten times that where
-/// it is given on by value.
+/// How many bytes wait at most: an index file of 700 kB leaves in some 20 writes. Making a pile of
+/// this size takes a quarter of a microsecond if made in place, and ten times that if passed on by
+/// value.
 const ROOM: usize = 32_768;
 
-/// Texts that wait to be sent, one after another. It takes no memory.
+/// Texts that wait to be sent, one after another. They take no memory.
 #[derive(Drop)]
 pub struct Pile {
     bytes: ArrayVec<u8, ROOM>,
@@ -29,7 +29,7 @@ impl Model for Pile {
 }
 
 impl Pile {
-    /// `new` gives a pile where nothing waits.
+    /// Makes an empty pile.
     pub fn new() -> Pile
         ensures { result ≡ [] }
     {
@@ -38,8 +38,8 @@ impl Pile {
         }
     }
 
-    /// `put` puts a text behind what waits. What waits is sent first where there is no room for
-    /// both, and the text is sent at once where there is none for it alone.
+    /// Puts a text after what waits. What waits is sent first if there is no room for both, and the
+    /// text is sent at once if there is none for it alone.
     pub fn put<W: Write>(
         &mut self,
         w: &mut Counted<W>,
@@ -61,7 +61,7 @@ impl Pile {
         Ok(used + more)
     }
 
-    /// `send` sends what waits.
+    /// Sends what waits.
     pub fn send<W: Write>(&mut self, w: &mut Counted<W>, writes: u64) -> Result<u64, SendFault>
         requires { w.old.calls + writes < 2 ^ 64 }
         ensures sends { Sends result self.old writes

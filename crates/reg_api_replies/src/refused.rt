@@ -1,4 +1,4 @@
-//! What a refused request is told.
+//! The answer to a refused request.
 
 ghost use Rattle.std.specs.Prelude.{◌≡◌};
 ghost use Rattle.reg_api_replies.specs.Bodies.{error_body as error_body_of};
@@ -7,7 +7,7 @@ use crate::fixed_text::FixedText;
 use arrayvec::ArrayString;
 use reg_policy::{Rule, rule_text};
 
-/// `error_body` gives the body of a refusal: JSON with the rule's code and words.
+/// Returns the body of a refusal: JSON with the rule's code and words.
 pub fn error_body(rule: Rule) -> FixedText
     ensures { result ≡ error_body_of rule }
 {

@@ -1,15 +1,15 @@
-//! What a request is answered.
+//! The answer to a request.
 
 use crate::head::{Kind, Methods};
 use reg_policy::Rule;
 
-/// What a request is answered.
+/// The answer to a request.
 #[derive(Drop)]
 pub enum Reply {
-    /// It is served or done: what the body is, and the body.
+    /// It is served or done: the body's kind, and the body.
     Done(Kind, Vec<u8>),
     /// It breaks this rule.
     Denied(Rule),
-    /// Its route has no such method, but these.
+    /// Its route lacks this method, but has these.
     Method(Methods),
 }

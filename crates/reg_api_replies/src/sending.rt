@@ -1,4 +1,4 @@
-//! Replies, as they are sent.
+//! Sending replies.
 
 ghost use Rattle.std.specs.Prelude.{◌≡◌, ◌+◌, ◌^◌, ◌<◌, ◌++◌};
 ghost use Rattle.reg_api_replies.specs.Sent.{Sends, sink};
@@ -22,8 +22,8 @@ fn body_or_none(body: &[u8], head_only: bool) -> &[u8]
     if head_only { &[] } else { body }
 }
 
-/// Writes a head and a body, in one write where they fit a pile. A body that is longer is written
-/// as it lies.
+/// Writes a head and a body, in one write if they fit a pile. A longer body is written without
+/// copying.
 fn write_parts<W: Write>(
     w: &mut Counted<W>,
     head: &FixedText,
@@ -61,7 +61,7 @@ fn write_refusal<W: Write>(
     write_parts(w, &head, body_or_none(body, head_only), writes)
 }
 
-/// `write_reply` writes a reply; where only its head is asked for, its body is left out.
+/// Writes a reply; if only its head is asked for, its body is left out.
 pub fn write_reply<W: Write>(
     w: &mut Counted<W>,
     reply: &Reply,

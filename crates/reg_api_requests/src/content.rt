@@ -1,4 +1,4 @@
-//! What is read of a request, and what of it is lent.
+//! What is read from a request, and what is lent.
 
 ghost use Rattle.std.specs.Prelude.{◌≡◌, IfOk, [], map, string_bytes};
 ghost use Rattle.std.specs.Option.{option_map};
@@ -13,7 +13,7 @@ use reg_model::Rule;
 use reg_policy::{Asked, NewPublication, Reading};
 use std::alloc::{AllocError, Global};
 
-/// What a request asks for, with what had to be made of its bytes.
+/// What a request asks for, with what had to be built from its bytes.
 #[derive(Drop)]
 pub(crate) enum Content<'a> {
     Faulty(Rule),

@@ -1,4 +1,4 @@
-//! Why nothing is read of a request's body.
+//! Why a request's body cannot be read.
 
 ghost use Rattle.std.specs.Prelude.{◌≡◌};
 
@@ -7,12 +7,12 @@ use reg_manifest::ManifestFault;
 use reg_model::Rule;
 use std::alloc::AllocError;
 
-/// Why nothing is read of a request's body.
+/// Why a request's body cannot be read.
 #[derive(Clone, Copy, PartialEq, Debug)]
 pub(crate) enum RequestFault {
     /// The body breaks this rule, and none before it.
     Broken(Rule),
-    /// A growth of memory was refused.
+    /// Out of memory.
     Memory,
 }
 

@@ -25,12 +25,12 @@ pub fn frame_law()
         → body_parts limits b ≡ Err TooLong }
 {}
 
-/// The stem of a manifest is the one that its line begins with, whatever the yanked mark.
+/// The stem of a manifest is the one its line begins with, whatever the yanked mark.
 pub fn stem_law()
     ensures { (m : Metadata) (digest : List ℕ) → IsStem m digest (stem_of m digest) }
 {}
 
-/// Bytes that are no UTF-8 name no crate, no version and no index file.
+/// Bytes that are not UTF-8 name no crate, no version and no index file.
 pub fn bad_text_law()
     ensures name { (b : List ℕ) → is_utf8 b ≡ false → is_name (text_in b) ≡ false }
     ensures version { (b : List ℕ) → is_utf8 b ≡ false → is_version (text_in b) ≡ false }

@@ -1,8 +1,8 @@
 //! What a request asks for, from the request alone: no table and no state is looked at.
 //!
-//! A router hands over an `ApiRequest`: the token, and what is called for.
-//! `read_request` gives its `Parts`, which lend what the rules are asked about.
-//! A body or a query that is bad makes no error: what is asked for is then the rule that it breaks.
+//! A router hands over an `ApiRequest`: the token, and what is called for. `read_request` returns
+//! its `Parts`, which lend what the rules are asked about. A bad body or query is no error: what is
+//! asked for is then the rule that it breaks.
 //!
 //! ```
 //! let call = ApiCall::Search { q: Some(CowStr::Borrowed("serde")), per_page: None };

@@ -43,7 +43,7 @@ fn read_users(alloc: Global, limits: &Limits, body: &[u8]) -> Result<Vec<String>
     users(alloc, limits, &value)
 }
 
-/// The logins that an owner request names, or none where its body is bad.
+/// The logins that an owner request names, or none if its body is bad.
 pub(crate) fn read_logins(
     alloc: Global,
     limits: &Limits,

@@ -36,7 +36,7 @@ impl<'a> Parts<'a> {
         self.digest.as_ref()
     }
 
-    /// The logins that an owner request names, for `asked`; of other requests none.
+    /// The logins that an owner request names, for `asked`; none for other requests.
     pub fn logins(&self, alloc: Global) -> Result<Vec<&str>, AllocError>
         ensures { IfOk result (λ v. map (λ l. l.now) v.items
             ≡ logins_of (action_of self.now.asked)) }
@@ -44,7 +44,7 @@ impl<'a> Parts<'a> {
         logins(alloc, &self.content)
     }
 
-    /// What is asked for. It is handed the request's own logins, since it takes no memory.
+    /// What is asked for. It is given the request's own logins, since it takes no memory.
     pub fn asked<'b>(&'b self, logins: &'b [&'b str]) -> Asked<'b>
         requires { map (λ l. l.now) logins.now ≡ logins_of (action_of self.now.asked) }
         ensures { asked_of result ≡ self.now.asked }

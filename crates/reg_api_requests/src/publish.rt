@@ -16,7 +16,7 @@ use reg_line::{Digest, digest_of, stem};
 use reg_manifest::{Manifest, read_manifest};
 use std::alloc::{AllocError, Global};
 
-/// A version that is published, read from a body of which the archive stays a part.
+/// A published version, read from a body; the archive stays a part of it.
 #[derive(Drop)]
 pub(crate) struct Release<'a> {
     pub(crate) manifest: Manifest,

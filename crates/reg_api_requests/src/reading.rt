@@ -1,4 +1,4 @@
-//! A request, read.
+//! Reading a request.
 
 ghost use Rattle.std.specs.Prelude.{◌≡◌, IfOk, string_bytes, map};
 ghost use Rattle.std.specs.Option.{option_map};
@@ -26,7 +26,7 @@ use reg_model::Rule;
 use std::alloc::{AllocError, Global};
 use std::borrow::{CowSlice, CowStr};
 
-/// The text of a path part, empty where it is no UTF-8.
+/// The text of a path part, empty if it is not UTF-8.
 fn text<'a>(part: &'a CowSlice<'a, u8>) -> &'a str
     ensures { result.now ≡ text_in (cow_slice_items part.now) }
 {
@@ -121,9 +121,8 @@ fn token_digest(token: Option<&[u8]>) -> Option<Digest>
     }
 }
 
-/// `read_request` reads what a request asks for, from the request alone.
-/// A body or a query that breaks a rule is no error of it: such a request asks for what is then
-/// answered by that rule.
+/// Reads what a request asks for, from the request alone. A body or a query that breaks a rule is
+/// no error here: such a request asks for what that rule then answers.
 pub fn read_request<'a>(
     alloc: Global,
     request: &'a ApiRequest<'a>,

@@ -2,7 +2,7 @@
 
 use std::borrow::{CowSlice, CowStr};
 
-/// What a request calls for. Paths, crates and versions are decoded bytes, which may be no UTF-8;
+/// What a request calls for. Paths, crates and versions are decoded bytes, possibly not UTF-8;
 /// bodies are as they were sent.
 #[derive(Drop)]
 pub enum ApiCall<'a> {
@@ -26,7 +26,7 @@ pub enum ApiCall<'a> {
     },
 }
 
-/// A request: its token, if just one was shown, and what it calls for.
+/// A request: its token, if exactly one was shown, and what it calls for.
 #[derive(Drop)]
 pub struct ApiRequest<'a> {
     pub token: Option<&'a [u8]>,

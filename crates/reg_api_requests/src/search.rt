@@ -9,12 +9,12 @@ ghost use Rattle.reg_api_requests.specs.Search.{page_of as page_given, page_size
 
 use std::borrow::CowStr;
 
-/// How many crates a search gives at most where the query does not say, and whatever it says.
+/// How many crates a search gives at most: if the query does not say, and whatever it says.
 const PAGE: u32 = 10;
 
 const LARGEST_PAGE: u32 = 100;
 
-/// The number that digits write, or the largest page where it is more.
+/// The number that the digits denote, or the largest page if more.
 fn number(digits: &[u8]) -> Option<u32>
     ensures { result ≡ (if list_all is_ascii_digit digits.now
         then Some (min 100 (digits_value 10 digits.now)) else None) }
@@ -38,7 +38,7 @@ fn page_size(text: &str) -> Option<u32>
     }
 }
 
-/// How many crates are asked for at most; none where the text is no number above 0.
+/// How many crates are asked for at most; none if the text is no number above 0.
 pub(crate) fn page_of(text: &Option<CowStr<'_>>) -> Option<u32>
     ensures { result ≡ page_given (option_map cow_str_bytes text.now) }
 {

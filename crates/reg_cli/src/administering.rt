@@ -27,7 +27,7 @@ use sqlite::Alter;
 use std::alloc::{AllocError, Global};
 use std::io::Write;
 
-/// Does a command, and prints what its reply tells. The text of a new token was made here.
+/// Runs a command, and prints what its reply says. The text of a new token was made here.
 fn obey<S: Alter, W: Write>(
     alloc: Global,
     registry: &mut Registry<S>,
@@ -81,7 +81,7 @@ pub(crate) enum Task<'a> {
     AddToken(NewToken<'a>),
 }
 
-/// The task that the words ask for.
+/// The task that the arguments ask for.
 fn read_task<'a>(
     alloc: Global,
     name: &str,
@@ -107,7 +107,7 @@ fn read_task<'a>(
     })
 }
 
-/// Does a task, and prints what it tells.
+/// Runs a task, and prints its output.
 pub(crate) fn do_task<S: Alter, W: Write>(
     rt: &HostRuntime,
     registry: &mut Registry<S>,
@@ -131,7 +131,7 @@ pub(crate) fn do_task<S: Alter, W: Write>(
     }
 }
 
-/// Does what the words of a subcommand ask for, on the file that they name.
+/// Does what the arguments of a subcommand ask for, on the file that they name.
 pub(crate) fn administer(rt: &HostRuntime, name: &str, words: &ArgMatches<'_>) -> Exit {
     let task = match read_task(rt.alloc(), name, words) {
         Ok(Some(task)) => task,

@@ -13,8 +13,7 @@ const NO_LISTENING: Exit = Exit {
     words: "listen fault",
 };
 
-/// A port of the loopback address, which is listened on once it is open. It counts the connections
-/// that came in.
+/// A port of the loopback address, listened on once it is open. It counts the accepted connections.
 #[derive(Drop)]
 pub(crate) struct Door {
     port: u16,
@@ -49,7 +48,7 @@ impl Door {
         }
     }
 
-    /// Listens, if it does not do so yet.
+    /// Listens, unless it does already.
     pub(crate) fn open(&mut self, rt: &HostRuntime) -> Result<(), Exit>
         ensures { self.new.accepted ≡ self.old.accepted }
     {
@@ -59,8 +58,8 @@ impl Door {
         Ok(())
     }
 
-    /// Waits for a connection. What is written to it leaves at once, without waiting for what was
-    /// written before to be acknowledged.
+    /// Waits for a connection. What is written to it leaves at once, without waiting for earlier
+    /// data to be acknowledged.
     pub(crate) fn accept(&mut self) -> Result<TcpStream, Exit>
         requires { self.old.accepted + 1 < 2 ^ 64 }
         ensures { MatchResult result (λ _. self.new.accepted ≡ self.old.accepted + 1)

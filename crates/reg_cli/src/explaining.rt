@@ -1,4 +1,4 @@
-//! What a refusal means, as `docs/REFUSALS.md` tells it.
+//! What a refusal means, as `docs/REFUSALS.md` says.
 
 use crate::meanings::{COMMANDS, DAMAGES, REQUESTS, WORDS};
 use crate::printing::print;
@@ -12,11 +12,11 @@ use reg_service::Check;
 /// What is refused, or how a run ends.
 #[derive(Clone, Copy)]
 pub(crate) enum Subject {
-    /// A request, for the rule that it breaks.
+    /// A request, by the rule that it breaks.
     Rule(Rule),
-    /// A command of the administrator.
+    /// An administrator's command.
     Command(AdminRefusal),
-    /// A file, for the check that it fails.
+    /// A file, by the check that it fails.
     Damage(Check),
     /// A run that ends with this line.
     Words(&'static str),
@@ -30,7 +30,7 @@ pub(crate) struct Meaning {
 }
 
 impl Subject {
-    /// The line that is printed of it.
+    /// The line that is printed for it.
     fn title(&self) -> &'static str {
         match self {
             Subject::Rule(rule) => rule_text(*rule),
@@ -41,8 +41,7 @@ impl Subject {
     }
 }
 
-/// Whether a title is called so: by its code, which stands before or behind its first space, or
-/// whole.
+/// Whether a title has this name: its code, before or after its first space, or the whole title.
 fn is_called(subject: &Subject, name: &str) -> bool {
     let title = subject.title();
     if title == name {

@@ -1,4 +1,4 @@
-//! The index as files of a folder.
+//! The index as files in a folder.
 
 ghost use Rattle.reg_service.specs.Answered.{AreUpToDate};
 ghost use Rattle.reg_service.specs.Registries.{tables_of};
@@ -40,8 +40,8 @@ fn write_files<F: Folder>(folder: &mut F, files: &[(String, Vec<u8>)]) -> Exit
     Exit::DONE
 }
 
-/// Writes the config and the index files below the folder. Files that stand there are overwritten,
-/// but for the registry's own `file` and its log: then nothing is written. The empty text names no
+/// Writes the config and the index files below the folder. Existing files are overwritten, unless
+/// one is the registry's own `file` or its log: then nothing is written. The empty text names no
 /// folder.
 pub(crate) fn export_to<S: Alter>(
     rt: &HostRuntime,

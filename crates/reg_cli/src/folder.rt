@@ -10,15 +10,15 @@ use std::{fs, io};
 
 /// A folder that files are written into.
 pub(crate) trait Folder {
-    // The files that were written, each with its path, where that is known.
+    // The files that were written, each with its path, if that is known.
     ghost files: { Self → Option (List (Text × Text)) } = { λ _. None };
 
-    /// Writes a file at a path below the folder, and makes the folders that are missing.
+    /// Writes a file at a path below the folder, and makes any missing folders.
     fn write_file(&mut self, path: &str, bytes: &[u8]) -> io::Result<()>
         ensures { OnOk result (Gains (files self.old) (files self.new) path.now bytes.now) };
 }
 
-/// The path of what stands at `path` in the folder.
+/// The path of what is at `path` in the folder.
 pub(crate) fn join_path(alloc: Global, folder: &str, path: &str) -> Result<String, AllocError>
     ensures { IfOk result (λ whole. string_bytes whole ≡ joined folder.now path.now) }
 {

@@ -1,9 +1,9 @@
-//! The program, but for its `main`: what each subcommand does with files, standard ends and
+//! The program except its `main`: what each subcommand does with files, standard streams and
 //! sockets.
 //!
 //! ```
 //! let exit = run_words(&rt, &words);   // registry_cli user-add ada --db registry.db
-//! // exit.status is 0 where it was done
+//! // exit.status is 0 if it was done
 //! ```
 #![tactic(auto)]
 

@@ -14,7 +14,7 @@ use reg_cli_line::Exit;
 use reg_policy::AdminReply;
 use std::io::{self, Write};
 
-/// How many calls one text takes at most to be printed.
+/// How many calls printing one text takes at most.
 pub(crate) const CALLS: u64 = 100_000_000;
 
 /// How many bytes the line of a new token has at most.
@@ -50,8 +50,8 @@ pub(crate) fn print(rt: &HostRuntime, text: &str) -> Exit {
     print_to(&mut Counted::new(io::writer(rt)), text.as_bytes())
 }
 
-/// The line that tells a new token: its number, and its text where that was made here. A token is
-/// kept before it is told, so this takes no memory.
+/// The line for a new token: its number, and its text if it was made here. A token is kept before
+/// it is printed, so this takes no memory.
 fn line_of_token(id: u32, text: Option<&TokenText>) -> ArrayVec<u8, LINE>
     ensures { result.items ≡ token_line id (option_map (λ t. t.now) text.entry) }
 {
@@ -66,7 +66,7 @@ fn line_of_token(id: u32, text: Option<&TokenText>) -> ArrayVec<u8, LINE>
     line
 }
 
-/// Prints what a reply tells, if anything. The text of a token was made here.
+/// Prints what a reply says, if anything. The text of a token was made here.
 pub(crate) fn print_reply<W: Write>(
     w: &mut Counted<W>,
     reply: &AdminReply,

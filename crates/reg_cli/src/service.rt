@@ -1,4 +1,4 @@
-//! What `serve` is told.
+//! The arguments of `serve`.
 
 ghost use Rattle.std.specs.Prelude.{◌≡◌};
 ghost use Rattle.reg_cli_words.specs.Orders.{given_by};
@@ -8,8 +8,8 @@ use clap::ArgMatches;
 use reg_body::Limits;
 use reg_cli_words::{decimal, port};
 
-/// What `serve` is told: where to listen, for how many connections, and how many replies each of
-/// them has at most.
+/// The arguments of `serve`: where to listen, for how many connections, and how many replies each
+/// has at most.
 #[derive(Clone, Copy)]
 pub(crate) struct Service {
     pub(crate) port: u16,
@@ -50,7 +50,7 @@ fn read_replies(words: &ArgMatches<'_>) -> Option<u64>
     }
 }
 
-/// What the words of `serve` tell.
+/// What the arguments of `serve` say.
 pub(crate) fn read_service(words: &ArgMatches<'_>) -> Option<Service>
     ensures { result ≡ service_from (given_by words.now) }
 {

@@ -22,10 +22,10 @@ use std::alloc::Global;
 use std::fs;
 use std::net::TcpStream;
 
-/// The base where none is told.
+/// The base if none is given.
 const BASE: &str = "http://127.0.0.1:8080";
 
-/// The setup that the bytes of a file are.
+/// The setup in the bytes of a file.
 fn setup_of(bytes: Vec<u8>) -> Result<String, Exit>
     ensures { IsSetup bytes.items result }
 {
@@ -38,7 +38,7 @@ fn setup_of(bytes: Vec<u8>) -> Result<String, Exit>
     }
 }
 
-/// The text of the setup file; empty where there is none.
+/// The text of the setup file; empty if there is none.
 fn read_setup(rt: &HostRuntime, setup: Option<&str>) -> Result<String, Exit> {
     let Some(file) = setup else {
         return Ok(String::new(rt.alloc()));
@@ -49,7 +49,7 @@ fn read_setup(rt: &HostRuntime, setup: Option<&str>) -> Result<String, Exit> {
     }
 }
 
-/// Does the setup, if a file has one, and serves standard input and output.
+/// Runs the setup, if there is one, and serves standard input and output.
 pub(crate) fn pipe_on<S: Alter>(
     rt: &HostRuntime,
     registry: &mut Registry<S>,
@@ -67,7 +67,7 @@ pub(crate) fn pipe_on<S: Alter>(
     run_pipe(rt.alloc(), registry, &setup, &mut reader, &mut writer)
 }
 
-/// `pipe` over a registry in memory, with nothing in it.
+/// `pipe` over an empty registry in memory.
 fn pipe_memory(rt: &HostRuntime, words: &ArgMatches<'_>) -> Result<Exit, Exit> {
     let Ok(conn) = Connection::open_in_memory(rt.alloc()) else {
         return Err(Exit::MEMORY);
@@ -75,7 +75,7 @@ fn pipe_memory(rt: &HostRuntime, words: &ArgMatches<'_>) -> Result<Exit, Exit> {
     let base = words.get_str("base").unwrap_or(BASE);
     let mut registry = match create(conn, base) {
         Ok(registry) => registry,
-        // A store in memory is refused nothing but memory.
+        // An in-memory store can only run out of memory.
         Err(Exit { status: 3, .. }) => return Err(Exit::MEMORY),
         Err(exit) => return Err(exit),
     };
@@ -93,7 +93,7 @@ pub(crate) fn pipe(rt: &HostRuntime, words: &ArgMatches<'_>) -> Exit {
     }
 }
 
-/// How a run ended that was done, or ended before.
+/// How a run ended, whether done or cut short.
 fn exit_of(done: Result<(), Exit>) -> Exit
     ensures { MatchResult done (λ _. EndsWith 0 [] result) (λ exit. result ≡ exit) }
 {
@@ -128,8 +128,8 @@ fn serve_connection<S: Alter>(
     let _ = server.serve(alloc, registry, &mut reader, &mut writer);
 }
 
-/// Serves connections, one after another, until so many are served or a commit is refused: then the
-/// registry answers S1 alone, and its store has to be opened again.
+/// Serves connections, one after another, until `left` are served or a commit fails: then the
+/// registry answers only S1, and its store has to be opened again.
 fn serve_connections<S: Alter>(
     alloc: Global,
     server: &mut Server,
@@ -156,7 +156,7 @@ fn serve_connections<S: Alter>(
     Ok(())
 }
 
-/// Listens, if that was not done before, and serves connections.
+/// Listens, unless it does already, and serves connections.
 fn serve_door<S: Alter>(
     rt: &HostRuntime,
     server: &mut Server,
@@ -194,8 +194,8 @@ fn serve_opening(
     served
 }
 
-/// Serves as many connections as are told. After a refused commit the file is opened again before
-/// the next connection; where that is refused the run ends.
+/// Serves as many connections as asked. After a failed commit the file is opened again before the
+/// next connection; if that fails, the run ends.
 fn serve_file(rt: &HostRuntime, file: &str, service: &Service, door: &mut Door) -> Result<(), Exit>
     requires { door.old.accepted ≡ 0 }
     ensures served { OnOk result (door.new.accepted ≡ service.now.connections) }

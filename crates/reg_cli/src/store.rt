@@ -50,7 +50,7 @@ pub(crate) fn exit_of_opening(fault: OpenFault) -> Exit
     }
 }
 
-/// A connection to the file. Where its log has lost it, neither is touched.
+/// A connection to the file. If its log has lost it, neither is touched.
 pub(crate) fn connect(rt: &HostRuntime, file: &str) -> Result<Connection<FileStore<File>>, Exit>
     ensures { IfOk result IsNew }
 {
@@ -65,7 +65,7 @@ pub(crate) fn connect(rt: &HostRuntime, file: &str) -> Result<Connection<FileSto
     }
 }
 
-/// The registry of a store.
+/// Opens a store's registry.
 pub(crate) fn open<S: Alter + Drop>(
     alloc: Global,
     conn: Connection<S>,
@@ -81,7 +81,7 @@ pub(crate) fn open<S: Alter + Drop>(
     }
 }
 
-/// Makes a registry with nothing in it.
+/// Makes an empty registry.
 pub(crate) fn create<S: Alter + Drop>(conn: Connection<S>, base: &str) -> Result<Registry<S>, Exit>
     requires { (state S.Store conn).in_transaction ≡ false }
     ensures tables { IfOk result (λ r. AreUpToDate S.Store (tables_of r)) }

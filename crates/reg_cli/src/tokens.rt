@@ -19,14 +19,14 @@ const RANDOM: usize = 32;
 /// The text of a token: 64 lower-case hex digits.
 pub(crate) type TokenText = [u8; 64];
 
-/// The digest of a token, and its text where it is known here.
+/// The digest of a token, and its text if known here.
 #[derive(Drop)]
 pub(crate) struct TokenMade {
     pub(crate) digest: Digest,
     pub(crate) text: Option<TokenText>,
 }
 
-/// The bytes that a reader begins with.
+/// The first bytes from a reader.
 fn first_bytes<R: Read>(from: &mut R) -> Option<[u8; RANDOM]>
     ensures { IfSome result (Consumes (R.remaining from.old) (R.remaining from.new)) }
 {
@@ -42,7 +42,7 @@ fn random_bytes(rt: &HostRuntime, file: &str) -> Option<[u8; RANDOM]> {
     first_bytes(&mut fs::open(rt, file).ok()?)
 }
 
-/// The text that random bytes make: the digits of all of them.
+/// The text of random bytes: their hex digits.
 fn text_of(bytes: [u8; RANDOM]) -> TokenText
     ensures { result ≡ encode_lower bytes }
 {
@@ -61,7 +61,7 @@ fn token_of(text: TokenText) -> TokenMade
     }
 }
 
-/// The digest of a new token, which random bytes make where it is not told.
+/// The digest of a new token, made from random bytes if it is not given.
 pub(crate) fn make_token(rt: &HostRuntime, source: &TokenSource<'_>) -> Result<TokenMade, Exit>
     ensures { Makes (source_of source.now) result }
 {

@@ -20,10 +20,10 @@ use std::io;
 /// What is done with an open registry.
 #[derive(Clone, Copy)]
 pub(crate) enum Use<'a> {
-    /// Nothing more: it is checked when it is opened.
+    /// Nothing more: opening checks it.
     Check,
     Task(&'a Task<'a>),
-    /// A stream on standard input and output, behind the setup that a file has.
+    /// A stream on standard input and output, after the setup in a file.
     Pipe(Option<&'a str>),
 }
 
@@ -39,7 +39,7 @@ fn use_it<S: Alter>(rt: &HostRuntime, registry: &mut Registry<S>, wanted: &Use<'
     }
 }
 
-/// Uses the registry of a store, and gives the connection back.
+/// Uses the registry of a store, and returns the connection.
 fn use_store<S: Alter + Drop>(
     rt: &HostRuntime,
     conn: Connection<S>,
@@ -55,8 +55,8 @@ fn use_store<S: Alter + Drop>(
     Ok((exit, registry.into_connection()))
 }
 
-/// The end of a run, once the file is closed, which moves what stands in its log into it. What was
-/// acknowledged is kept also where that fails; only a check has to tell it.
+/// The end of a run, once the file is closed, which moves the log into the file. What was
+/// acknowledged is kept even if that fails; only a check has to report it.
 fn exit_of_use(rt: &HostRuntime, wanted: &Use<'_>, exit: Exit, is_closed: bool) -> Exit {
     match wanted {
         Use::Check if is_closed => print(rt, "ok\n"),
@@ -83,14 +83,14 @@ pub(crate) fn on_file(rt: &HostRuntime, file: &str, limits: Limits, wanted: &Use
     }
 }
 
-/// Makes a registry with nothing in it, and gives the connection back.
+/// Makes an empty registry, and returns the connection.
 fn make_in<S: Alter + Drop>(conn: Connection<S>, base: &str) -> Result<Connection<S>, Exit>
     requires { (state S.Store conn).in_transaction ≡ false }
 {
     Ok(create(conn, base)?.into_connection())
 }
 
-/// Makes a registry with nothing in it, in a file.
+/// Makes an empty registry in a file.
 pub(crate) fn make_file(rt: &HostRuntime, file: &str, base: &str) -> Result<(), Exit> {
     let _ = make_in(connect(rt, file)?, base)?.close();
     Ok(())

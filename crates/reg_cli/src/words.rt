@@ -1,4 +1,4 @@
-//! The words of the command line.
+//! The arguments of the command line.
 
 use crate::administering::administer;
 use crate::explaining::explain;
@@ -10,7 +10,7 @@ use reg_body::Counted;
 use reg_cli_line::{Exit, run_line};
 use reg_cli_words::{is_dashed, read_words};
 
-/// Prints help, or what is wrong with the words.
+/// Prints help, or what is wrong with the arguments.
 fn print_error(rt: &HostRuntime, error: &Error) -> Exit {
     if error.kind() == ErrorKind::OutOfMemory {
         return Exit::MEMORY;
@@ -35,14 +35,13 @@ fn line(rt: &HostRuntime) -> Exit {
     run_line(rt.alloc(), &mut reader, &mut writer)
 }
 
-/// Whether a value among the words behind the program's name begins with `-`.
+/// Whether a value among the arguments after the program's name begins with `-`.
 fn have_dashed(words: &[String]) -> bool {
     words.iter().skip(1).any(|word| is_dashed(word))
 }
 
-/// `run_words` runs the program's words, its own name first.
-/// Help is printed here, on standard output with status 0.
-/// So is what `clap` says of bad words, on standard error with status 2.
+/// Runs the program on its arguments, its name first. Help is printed here, on standard output with
+/// status 0. So is what `clap` says of bad arguments, on standard error with status 2.
 pub fn run_words(rt: &HostRuntime, words: &[String]) -> Exit {
     if have_dashed(words) {
         return Exit::BAD_WORDS;

@@ -22,7 +22,7 @@ pub fn exit_of_refusal(refusal: AdminRefusal) -> Exit
     }
 }
 
-/// The end of a run whose setup was not done.
+/// The end of a run whose setup was not completed.
 pub(crate) fn exit_of_setup(fault: SetupFault) -> Exit
     ensures { EndsSetup fault result }
 {
@@ -36,7 +36,7 @@ pub(crate) fn exit_of_setup(fault: SetupFault) -> Exit
     }
 }
 
-/// The end of a run whose stream ended, or stopped; how many replies it had is not told.
+/// The end of a run whose stream ended or broke off; its number of replies is not shown.
 pub(crate) fn exit_of_stream(served: Result<u64, StreamFault>) -> Exit
     ensures { EndsStream served result }
 {

@@ -2,7 +2,7 @@
 //!
 //! ```
 //! let exit = run_pipe(alloc, &mut registry, "user-add ada\n", &mut reader, &mut writer);
-//! // exit.status is 0 where the stream ended well
+//! // exit.status is 0 if the stream ended well
 //! ```
 #![tactic(auto)]
 

@@ -1,4 +1,4 @@
-//! A registry is set up, and serves one stream.
+//! Setting up a registry, and serving one stream.
 
 ghost use Rattle.std.specs.Prelude.{◌+◌, ◌^◌, ◌<◌};
 ghost use Rattle.sqlite.specs.State.{HasCleanDisk};
@@ -19,8 +19,8 @@ use sqlite::Alter;
 use std::alloc::Global;
 use std::io::{Read, Write};
 
-/// `run_pipe` does the commands of the setup file and then serves the stream. Where a line of the
-/// setup is refused, or is no command, nothing is served.
+/// Runs the commands of the setup file and then serves the stream. If a line of the setup is
+/// refused, or is no command, nothing is served.
 pub fn run_pipe<R: Read, W: Write, S: Alter>(
     alloc: Global,
     registry: &mut Registry<S>,

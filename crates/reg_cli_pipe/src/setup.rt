@@ -1,4 +1,4 @@
-//! The lines of a setup file, each a command of the administrator.
+//! The lines of a setup file, each an administrator's command.
 
 ghost use Rattle.std.specs.Prelude.{◌≡◌, IfErr, IfOk, Some, false, map};
 ghost use Rattle.std.specs.List.{list_any};
@@ -26,14 +26,14 @@ use reg_service::laws::history_law;
 use sqlite::Alter;
 use std::alloc::{AllocError, AllocFailed, Global};
 
-/// Why a setup file was not done to its end. The lines before it were.
+/// Why a setup file was not run to its end. The earlier lines were run.
 #[derive(Clone, Copy, Debug, PartialEq, Eq)]
 pub enum SetupFault {
     /// A command was refused.
     Refused(AdminRefusal),
-    /// A line is no command that a setup file may have.
+    /// A line is not a command that setup files may have.
     Unreadable,
-    /// Memory was refused.
+    /// Out of memory.
     Memory,
 }
 
@@ -108,7 +108,7 @@ fn split_words<'a>(alloc: Global, line: &'a str) -> Result<Vec<&'a str>, SetupFa
     Ok(words)
 }
 
-/// What a setup makes of the reply to a command.
+/// The setup's result, from the reply to a command.
 fn setup_result(reply: Result<AdminReply, AdminRefusal>) -> Result<(), SetupFault>
     ensures { MakesOf reply result }
 {
@@ -118,7 +118,7 @@ fn setup_result(reply: Result<AdminReply, AdminRefusal>) -> Result<(), SetupFaul
     }
 }
 
-/// Does one command.
+/// Runs one command.
 fn obey<S: Alter>(
     alloc: Global,
     registry: &mut Registry<S>,
@@ -133,7 +133,7 @@ fn obey<S: Alter>(
     setup_result(registry.command(alloc, command))
 }
 
-/// Adds a token, whose digest a setup file has to tell.
+/// Adds a token, whose digest a setup file must give.
 fn add_token<S: Alter>(
     alloc: Global,
     registry: &mut Registry<S>,
@@ -150,7 +150,7 @@ fn add_token<S: Alter>(
     }
 }
 
-/// Does what the words order.
+/// Runs the parsed command.
 fn obey_order<S: Alter>(
     alloc: Global,
     registry: &mut Registry<S>,
@@ -171,7 +171,7 @@ fn obey_order<S: Alter>(
     }
 }
 
-/// Does the command of one line.
+/// Runs the command of one line.
 fn obey_line<S: Alter>(
     alloc: Global,
     registry: &mut Registry<S>,
@@ -187,8 +187,8 @@ fn obey_line<S: Alter>(
     obey_order(alloc, registry, &matches)
 }
 
-/// Does the commands of a setup file, one after another, up to the first that is refused or no
-/// command.
+/// Runs the commands of a setup file, one after another, up to the first that is refused or
+/// invalid.
 pub fn run_setup<S: Alter>(
     alloc: Global,
     registry: &mut Registry<S>,

@@ -13,8 +13,8 @@ fn has_dash_behind(word: &str) -> bool
     }
 }
 
-/// Whether a word is a value that begins with `-`, or `--`, behind which such values could stand.
-/// `clap` takes both: the value of an option behind `=`, and `-` alone.
+/// Whether an argument is a value that begins with `-`, or `--`, after which such values could
+/// follow. `clap` takes both: the value of an option after `=`, and `-` alone.
 pub fn is_dashed(word: &str) -> bool
     ensures { result ≡ is_dashed word.now }
 {

@@ -1,5 +1,5 @@
-//! The words of the program and of the administrator's commands, as the command line and the lines
-//! of a setup file write them.
+//! The arguments of the program and of the administrator's commands, as the command line and the
+//! lines of a setup file have them.
 //!
 //! ```
 //! let matches = read_words(alloc, &words)?;   // registry_cli user-add ada --db registry.db
@@ -10,7 +10,7 @@
 //! read_order(alloc, name, inner)?             // AdminCommand::OwnerAdd("a", "bob")
 //! ```
 //!
-//! `clap` judges how many words there are and which options; what they mean is read here.
+//! `clap` judges how many arguments there are and which options; what they mean is read here.
 #![tactic(auto)]
 
 mod dashes;

@@ -1,4 +1,4 @@
-//! Numbers among the words.
+//! Numbers among the arguments.
 
 ghost use Rattle.std.specs.Prelude.{◌≡◌, ◌^◌};
 ghost use Rattle.std.specs.Char.{is_ascii_digit};
@@ -11,7 +11,7 @@ fn are_digits(text: &str) -> bool
     text.bytes().all(|b| b.is_ascii_digit())
 }
 
-/// The number that decimal digits write, where it is below 2^64. Zeros in front are taken; a sign
+/// The number that decimal digits denote, if it is below 2^64. Leading zeros are accepted; a sign
 /// is not.
 pub fn decimal(text: &str) -> Option<u64>
     ensures { result ≡ number_below (2 ^ 64) text.now }
@@ -23,7 +23,7 @@ pub fn decimal(text: &str) -> Option<u64>
     }
 }
 
-/// The number of a token, where it can be one.
+/// The number of a token, if it can be one.
 pub(crate) fn token_id(text: &str) -> Option<u32>
     ensures { result ≡ number_below (2 ^ 32) text.now }
 {

@@ -1,4 +1,4 @@
-//! What the words of a subcommand order.
+//! The command that a subcommand's arguments give.
 
 ghost use Rattle.std.specs.Prelude.{◌≡◌, IfOk, IfSome, map, option_map};
 ghost use Rattle.reg_model.specs.Events.Event.{Order as ToOrder};
@@ -13,16 +13,16 @@ use reg_line::Digest;
 use reg_policy::AdminCommand;
 use std::alloc::{AllocError, Global};
 
-/// Where the text of a new token is from.
+/// Where the text of a new token comes from.
 #[derive(Clone, Copy, Drop)]
 pub enum TokenSource<'a> {
-    /// Its digest was told, and its text is not known here.
+    /// Its digest was given, and its text is not known here.
     Told(Digest),
-    /// The first 32 bytes of this file are random.
+    /// Random bytes: the first 32 of this file.
     Random(&'a str),
 }
 
-/// A token that is to be added.
+/// A token to be added.
 #[derive(Drop)]
 pub struct NewToken<'a> {
     login: &'a str,
@@ -41,14 +41,14 @@ impl<'a> NewToken<'a> {
     }
 }
 
-/// What the words of a subcommand order.
+/// The command that a subcommand's arguments give.
 #[derive(Drop)]
 pub enum Order<'a> {
     AddToken(NewToken<'a>),
     Other(AdminCommand<'a>),
 }
 
-/// The parts of a list that commas separate; of a list that is not given none.
+/// The comma-separated parts of a list; none if no list is given.
 fn parts<'a>(alloc: Global, list: Option<&'a str>) -> Result<Vec<&'a str>, AllocError>
     ensures { IfOk result (λ parts. map (λ p. p.now) parts.items
         ≡ parts_of (option_map (λ l. l.now) list.entry)) }
@@ -59,7 +59,7 @@ fn parts<'a>(alloc: Global, list: Option<&'a str>) -> Result<Vec<&'a str>, Alloc
     }
 }
 
-/// The digest that 64 hex digits write.
+/// The digest that 64 hex digits encode.
 fn told_digest(text: &str) -> Option<Digest>
     ensures { result ≡ digest_from text.now }
 {
@@ -70,7 +70,7 @@ fn told_digest(text: &str) -> Option<Digest>
     }
 }
 
-/// Where the token's text is from; none where the digest is of another form.
+/// Where the token's text comes from; none if the digest is malformed.
 fn token_source<'a>(words: &ArgMatches<'a>) -> Option<TokenSource<'a>>
     ensures { option_map source_of result ≡ source_given (given_by words.now) }
 {
@@ -80,7 +80,7 @@ fn token_source<'a>(words: &ArgMatches<'a>) -> Option<TokenSource<'a>>
     }
 }
 
-/// The words of `token-add`.
+/// The arguments of `token-add`.
 fn read_token<'a>(alloc: Global, words: &ArgMatches<'a>) -> Result<Option<NewToken<'a>>, AllocError>
     ensures { IfOk result (λ t. option_map words_of t ≡ token_words (given_by words.now)) }
 {
@@ -137,7 +137,7 @@ fn on_pair<'a>(name: &str, words: &ArgMatches<'a>) -> Option<AdminCommand<'a>>
     }
 }
 
-/// What the words of this subcommand order; none where they are bad, or order nothing.
+/// The command that this subcommand's arguments give; none if they are bad, or give none.
 pub fn read_order<'a>(
     alloc: Global,
     name: &str,

@@ -8,15 +8,15 @@ ghost use Rattle.reg_cli_words.specs.Making.{Adds, HasLevel, HasRule, HasRules, 
 use clap::{Arg, ArgAction, Command};
 use std::alloc::{AllocError, Global};
 
-/// How subcommands are written: on the command line each has the option `--db`, in a setup file
-/// none has, and none reads random bytes.
+/// The forms of subcommands: on the command line each has the option `--db`; in a setup file none
+/// has, and none reads random bytes.
 #[derive(Clone, Copy)]
 pub(crate) enum Shape {
     Program,
     Setup,
 }
 
-/// The words that have to stand behind a subcommand's name.
+/// The arguments that must follow a subcommand's name.
 #[derive(Clone, Copy)]
 pub(crate) enum Words {
     Nothing,
@@ -36,7 +36,7 @@ pub(crate) struct Entry {
     pub(crate) words: Words,
 }
 
-/// A word that has to stand.
+/// A required argument.
 pub(crate) fn word<'a>(alloc: Global, name: &'a str, help: &'a str) -> Arg<'a>
     ensures { HasRule (word_rule name.entry.now) result }
 {
@@ -47,7 +47,7 @@ pub(crate) fn word<'a>(alloc: Global, name: &'a str, help: &'a str) -> Arg<'a>
         .help(help)
 }
 
-/// An option with a value, which may be left out.
+/// An option with a value; it may be omitted.
 pub(crate) fn option<'a>(alloc: Global, name: &'a str, value: &'a str, help: &'a str) -> Arg<'a>
     ensures { HasRule (option_rule name.entry.now) result }
 {
@@ -68,7 +68,7 @@ pub(crate) fn flag<'a>(alloc: Global, name: &'a str, help: &'a str) -> Arg<'a>
         .help(help)
 }
 
-/// `with_file` adds the option that names the registry's file.
+/// Adds the option that names the registry's file.
 pub(crate) fn with_file<'a>(alloc: Global, command: Command<'a>) -> Result<Command<'a>, AllocError>
     ensures { Adds (λ a. with_rule a file_rule) command.entry result }
 {
@@ -87,7 +87,7 @@ fn named<'a>(alloc: Global) -> Arg<'a>
     word(alloc, "CRATE", "The name of a crate")
 }
 
-/// The subcommand with its words.
+/// The subcommand with its arguments.
 fn with_words<'a>(
     alloc: Global,
     words: Words,
@@ -105,7 +105,7 @@ fn with_words<'a>(
     }
 }
 
-/// A command with its help, and no words yet.
+/// A command with its help, and no arguments yet.
 pub(crate) fn described<'a>(
     alloc: Global,
     name: &'a str,

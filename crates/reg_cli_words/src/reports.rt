@@ -42,7 +42,7 @@ const REPORTS: [Entry; 4] = [
     },
 ];
 
-/// `with_reports` adds the subcommands that only report.
+/// Adds the subcommands that only report.
 pub(crate) fn with_reports<'a>(
     alloc: Global,
     command: Command<'a>,
@@ -52,7 +52,7 @@ pub(crate) fn with_reports<'a>(
     with_entries(alloc, Shape::Program, &REPORTS, command)
 }
 
-/// The report that a subcommand asks for, if it asks for one.
+/// The report that a subcommand asks for, if any.
 pub fn read_report<'a>(name: &str, words: &ArgMatches<'a>) -> Option<AdminCommand<'a>>
     ensures orders { option_map command_of result ≡ report_command name.now (given_by words.now) }
     ensures fit { IfSome result (λ c. IsFit (Order (command_of c))) }

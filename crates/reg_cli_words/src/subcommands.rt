@@ -112,7 +112,7 @@ fn with_scopes<'a>(alloc: Global, command: Command<'a>) -> Result<Command<'a>, A
         .arg(option(alloc, "patterns", "LIST", patterns))
 }
 
-/// The options of `token-add` that say where its text or its digest is from.
+/// The options of `token-add` that say where its text or digest comes from.
 fn with_source<'a>(
     alloc: Global,
     shape: Shape,
@@ -140,7 +140,7 @@ fn token_add<'a>(alloc: Global, shape: Shape) -> Result<Command<'a>, AllocError>
     with_source(alloc, shape, with_scopes(alloc, command)?)
 }
 
-/// `with_orders` adds the subcommands that a setup file may have too: all that change a registry.
+/// Adds the subcommands that a setup file may also have: all that change a registry.
 pub(crate) fn with_orders<'a>(
     alloc: Global,
     shape: Shape,

@@ -166,7 +166,7 @@ fn explain_words<'a>(alloc: Global) -> Result<Command<'a>, AllocError>
     command.arg(word(alloc, "CODE", help))
 }
 
-/// Those that make a registry and serve it.
+/// The subcommands that make and serve a registry.
 fn with_services<'a>(alloc: Global, command: Command<'a>) -> Result<Command<'a>, AllocError>
     ensures { Adds (λ a. with_levels a service_levels) command.entry result }
 {
@@ -176,7 +176,7 @@ fn with_services<'a>(alloc: Global, command: Command<'a>) -> Result<Command<'a>,
         .subcommand(pipe_words(alloc)?)
 }
 
-/// Those that look at a registry's file, and those that need none.
+/// The subcommands that look at a registry's file, or need none.
 fn with_others<'a>(alloc: Global, command: Command<'a>) -> Result<Command<'a>, AllocError>
     ensures { Adds (λ a. with_levels a other_levels) command.entry result }
 {
@@ -210,7 +210,7 @@ fn command<'a>(alloc: Global) -> Result<Command<'a>, AllocError>
     with_reports(alloc, with_orders(alloc, Shape::Program, command)?)
 }
 
-/// Judges the program's words, its own name first.
+/// Parses the program's arguments, its own name first.
 pub fn read_words<'a>(alloc: Global, words: &'a [String]) -> Result<ArgMatches<'a>, Error>
     ensures reads { IfOk result (λ m. subcommand_rows_of m
         ≡ subcommand_of program_app (map (λ w. string_bytes w) words.entry.now)) }
@@ -229,7 +229,7 @@ fn setup_line<'a>(alloc: Global) -> Command<'a>
         .subcommand_required(true)
 }
 
-/// Judges the words of a line of a setup file, which are as those of the program, but without the
+/// Parses the words of a setup file's line, which are like the program's arguments, but without the
 /// program's name and `--db`.
 pub fn read_line<'a>(alloc: Global, words: &'a [&'a str]) -> Result<ArgMatches<'a>, Error>
     ensures { IsJudged setup_app (map (λ w. w.now) words.entry.now) result }

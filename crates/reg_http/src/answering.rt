@@ -1,4 +1,4 @@
-//! One request is routed, and answered by the registry.
+//! Routing one request, and answering it from the registry.
 
 ghost use Rattle.std.specs.Prelude.{◌≡◌, ◌+◌, ◌^◌, ◌<◌, None, OnOk, Some};
 ghost use Rattle.reg_http_read.specs.Reads.{facts_of};
@@ -23,7 +23,7 @@ use sqlite::Alter;
 use std::alloc::Global;
 use std::io::Write;
 
-/// A request that is there whole.
+/// A request that has arrived whole.
 #[derive(Clone, Copy)]
 pub(crate) struct Message<'h, 'b> {
     pub head: Head<'h>,
@@ -32,7 +32,7 @@ pub(crate) struct Message<'h, 'b> {
     pub close: bool,
 }
 
-/// The reply that a rule makes, and that of a route with other methods.
+/// The reply for a rule, and the one for a route with other methods.
 fn denial(rule: Rule) -> Reply
     ensures { result ≡ Reply.Denied rule }
 {
@@ -45,7 +45,7 @@ fn other_methods(methods: Methods) -> Reply
     Reply::Method(methods)
 }
 
-/// Refuses a request for a rule.
+/// Refuses a request under a rule.
 pub(crate) fn deny<W: Write>(
     w: &mut Counted<W>,
     rule: Rule,
@@ -63,7 +63,7 @@ pub(crate) fn deny<W: Write>(
     send_reply(w, &reply, close, head_only, left)
 }
 
-/// Tells the methods that a route has.
+/// Answers with the methods of a route.
 fn tell_methods<W: Write>(
     w: &mut Counted<W>,
     methods: Methods,
@@ -81,7 +81,7 @@ fn tell_methods<W: Write>(
     send_reply(w, &reply, close, head_only, left)
 }
 
-/// Sends the index file that is asked for.
+/// Sends the index file that was requested.
 fn send_index<W: Write, S: Alter>(
     alloc: Global,
     registry: &mut Registry<S>,
@@ -111,7 +111,7 @@ fn send_index<W: Write, S: Alter>(
     }
 }
 
-/// Sends what the registry answers to a request for anything but an index file.
+/// Sends the registry's answer to a request for anything but an index file.
 fn send_answer<W: Write, S: Alter>(
     alloc: Global,
     registry: &mut Registry<S>,
@@ -134,7 +134,7 @@ fn send_answer<W: Write, S: Alter>(
     send_reply(w, &reply, close, false, left)
 }
 
-/// Answers a request that was routed.
+/// Answers a routed request.
 fn answer<W: Write, S: Alter>(
     alloc: Global,
     registry: &mut Registry<S>,

@@ -1,5 +1,5 @@
-//! HTTP/1.1 over a stream: requests are cut from the bytes, routed, answered by a registry, and
-//! their replies are written.
+//! HTTP/1.1 over a stream: requests are cut from the bytes, routed, and answered by a registry;
+//! replies are written.
 //!
 //! ```
 //! let mut reader = Counted::new(input);

@@ -1,4 +1,4 @@
-//! Streams are served.
+//! Serving streams.
 
 ghost use Rattle.std.specs.Prelude.{◌+◌, ◌^◌, ◌<◌, ℕ, vec_len};
 ghost use Rattle.sqlite.specs.State.{HasCleanDisk};
@@ -22,8 +22,7 @@ use std::io::{Read, Write};
 /// How many bytes one read asks for.
 const CHUNK: usize = 65_536;
 
-/// What is made once and lent to each connection: the table of routes, and the buffer that is read
-/// into.
+/// What is made once and lent to each connection: the table of routes, and the read buffer.
 #[derive(Drop)]
 pub struct Server {
     routes: Routes,
@@ -32,7 +31,7 @@ pub struct Server {
 }
 
 impl Server {
-    /// `new` makes it, before the first connection.
+    /// Makes a server, before the first connection.
     pub fn new(alloc: Global) -> Result<Server, AllocError> {
         Ok(Server {
             routes: Routes::new(alloc)?,
@@ -40,9 +39,9 @@ impl Server {
         })
     }
 
-    /// `serve` answers the requests of a stream, one after another, until its input ends or a reply
-    /// closes the connection. It answers how many replies it wrote, without interim lines, and
-    /// makes at most `turns` read and write calls together. It never answers `Memory`.
+    /// Answers the requests of a stream, one after another, until its input ends or a reply closes
+    /// the connection. Returns how many replies it wrote, without interim lines, and makes at most
+    /// `turns` read and write calls together. It never returns `Memory`.
     pub fn serve<R: Read, W: Write, S: Alter>(
         &mut self,
         alloc: Global,
@@ -62,7 +61,7 @@ impl Server {
             (R.remaining r.old.inner) (R.remaining r.new.inner)
             (W.contents w.old.inner) (W.contents w.new.inner) result }
 
-        // Each call was a turn, and a fault has its cause, which is not want of memory.
+        // Each call was a turn, and a fault has its cause, which is not `Memory`.
         ensures spends { (left : ℕ) × SpendsTurns (limits_of registry.old).turns left
             (tally r.old w.old) (tally r.new w.new) result }
 
@@ -81,7 +80,7 @@ impl Server {
     }
 }
 
-/// `serve_stream` serves one stream, as `Server::serve` does, with a `Server` of its own.
+/// Serves one stream, as `Server::serve` does, with a `Server` of its own.
 pub fn serve_stream<R: Read, W: Write, S: Alter>(
     alloc: Global,
     registry: &mut Registry<S>,
@@ -100,7 +99,7 @@ pub fn serve_stream<R: Read, W: Write, S: Alter>(
         (R.remaining r.old.inner) (R.remaining r.new.inner)
         (W.contents w.old.inner) (W.contents w.new.inner) result }
 
-    // Each call was a turn, and a fault has its cause: want of memory came before the first call.
+    // Each call was a turn, and a fault has its cause: `Memory` came before the first call.
     ensures spends { (left : ℕ) × Spends (limits_of registry.old).turns left
         (tally r.old w.old) (tally r.new w.new) result }
 

@@ -1,4 +1,4 @@
-//! The requests of a stream are taken and answered.
+//! Taking and answering the requests of a stream.
 
 ghost use Rattle.std.specs.Prelude.{◌≡◌, ◌+◌, ◌^◌, ◌<◌, ◌≤◌, ◌||◌, ◌==◌, ℕ, [], drop, length, take};
 ghost use Rattle.sqlite.specs.State.{HasCleanDisk};
@@ -22,14 +22,14 @@ use sqlite::Alter;
 use std::alloc::Global;
 use std::io::{Read, Write};
 
-/// Whether the connection closes after the reply that comes behind so many.
+/// Whether the connection closes after the reply that follows `replies` others.
 fn closes(limits: &Limits, close: bool, replies: u64) -> bool
     ensures { result ≡ (close || replies + 1 == limits.now.replies) }
 {
     close || replies as u128 + 1 == limits.replies as u128
 }
 
-/// The request at the front of what waits.
+/// The request at the front of `pending`.
 fn message_of<'h, 'b>(head: &'h OwnedHead, pending: &'b [u8], close: bool) -> Message<'h, 'b>
     requires { head.now.len + head.now.body_len ≤ length pending.now }
     ensures head { facts_of result.head ≡ facts_owned head.now }

@@ -20,14 +20,14 @@ pub(crate) struct Asked<'b> {
     pub close: bool,
 }
 
-/// Whether the interim line is waited for.
+/// Whether the client awaits the interim line.
 fn expects(fields: &[Header<'_>]) -> bool
     ensures { result ≡ spec.expects (map header_parts fields.now) }
 {
     count_with(fields, b"expect", b"100-continue") > 0
 }
 
-/// Whether the connection is to be closed after the reply.
+/// Whether the connection is to close after the reply.
 fn closes(fields: &[Header<'_>]) -> bool
     ensures { result ≡ spec.closes (map header_parts fields.now) }
 {
@@ -42,7 +42,7 @@ fn are_hosts_fit(fields: &[Header<'_>], minor: u8) -> bool
     if minor == 1 { hosts == 1 } else { hosts <= 1 }
 }
 
-/// What the fields ask for, where the body has that length.
+/// What the fields ask for, given the length of the body.
 fn ask<'b>(fields: &[Header<'b>], minor: u8, body_len: u64) -> Asked<'b>
     ensures { HasAsked result (spec.asked_for minor (map header_parts fields.now) body_len) }
 {
@@ -54,7 +54,7 @@ fn ask<'b>(fields: &[Header<'b>], minor: u8, body_len: u64) -> Asked<'b>
     }
 }
 
-/// How many bytes the greatest body has; a saturated number is more.
+/// How many bytes the largest body has; a saturated number is more.
 fn greatest_length(limits: &Limits) -> u64
     ensures value { result ≡ greatest_body limits.now }
     ensures small { result < 2 ^ 64 - 1 }

@@ -11,6 +11,6 @@ pub enum StreamFault {
     TooManyTurns,
     /// The store failed in the middle of an index file.
     StoreFault,
-    /// Memory was refused before the first read.
+    /// Out of memory before the first read.
     Memory,
 }

@@ -1,4 +1,4 @@
-//! The fields of a head, by their names.
+//! The fields of a head, by name.
 
 ghost use Rattle.std.specs.Prelude.{◌≡◌, ◌&&◌, ◌-◌, ◌^◌, map, min, option_copied, option_map};
 ghost use Rattle.std.specs.List.{count_by};
@@ -34,7 +34,7 @@ fn first_value<'b>(fields: &[Header<'b>], name: &[u8]) -> Option<&'b [u8]>
     None
 }
 
-/// The value of the one field of this name.
+/// The value of the only field of this name.
 pub(crate) fn only_value<'b>(fields: &[Header<'b>], name: &[u8]) -> Option<&'b [u8]>
     ensures { option_copied result ≡ spec.only_of name.now (map header_parts fields.now) }
 {
@@ -79,7 +79,7 @@ pub(crate) fn count_listing(fields: &[Header<'_>], name: &[u8], word: &[u8]) -> 
     named.count()
 }
 
-/// How many bytes the body has, up to the greatest number of the type; none where the fields do not
+/// How many bytes the body has, up to the largest number of the type; none if the fields do not
 /// agree.
 pub(crate) fn body_length(fields: &[Header<'_>]) -> Option<u64>
     ensures { result ≡ option_map (λ n. min n (2 ^ 64 - 1))

@@ -1,4 +1,4 @@
-//! The lines of a front, and what one parse of it tells.
+//! The lines of a front, and what one parse of it gives.
 
 ghost use Rattle.std.specs.Prelude.{◌≡◌, ◌<◌, ◌≤◌, ◌==◌, ℕ, List, IfOk, length, map, take};
 ghost use Rattle.std.specs.List.{count_by};
@@ -24,7 +24,7 @@ pub(crate) struct FirstLine<'b> {
     pub len: usize,
 }
 
-/// How many bytes there are up to the last line feed, and with it.
+/// How many bytes there are up to and including the last line feed.
 pub(crate) fn last_line(bytes: &[u8]) -> usize
     ensures within { result ≤ length bytes.now }
     ensures ends { 0 < result → EndsLine (take result bytes.now) }
@@ -43,7 +43,7 @@ fn line_feeds(bytes: &[u8]) -> usize
     bytes.iter().filter(|b| **b == b'\n').count()
 }
 
-/// Whether a refusal for the rule answers a HEAD request.
+/// Whether a refusal for this rule answers a HEAD request.
 fn answers_head(rule: Rule, method: &str) -> bool
     ensures { result ≡ answers rule method.now }
 {
@@ -53,7 +53,7 @@ fn answers_head(rule: Rule, method: &str) -> bool
     }
 }
 
-/// What a whole head is answered.
+/// The outcome for a whole head.
 fn judge_head<'b>(line: FirstLine<'b>, fields: &[Header<'b>], limits: &Limits) -> HeadRead<'b>
     ensures { IsAnswer result line.entry.method.now (judge_parts limits.now line.entry.method.now
         line.entry.target.now line.entry.minor line.entry.len (map header_parts fields.now)) }

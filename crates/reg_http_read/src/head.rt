@@ -10,18 +10,18 @@ use reg_body::Limits;
 use reg_model::Rule;
 use std::alloc::{AllocError, Global};
 
-/// A head and what it tells.
+/// A head and what it says.
 #[derive(Clone, Copy, Debug)]
 pub struct Head<'b> {
     pub method: &'b str,
     pub target: &'b str,
-    /// The value of the one `Authorization` field.
+    /// The value of the only `Authorization` field.
     pub token: Option<&'b [u8]>,
     /// How many bytes the head has.
     pub len: usize,
     /// How many bytes its body has.
     pub body_len: u64,
-    /// Whether `100 Continue` is waited for.
+    /// Whether the client awaits `100 Continue`.
     pub interim: bool,
     /// Whether the connection closes after the reply.
     pub close: bool,
@@ -39,14 +39,14 @@ impl Head<'_> {
 /// What the front of a stream was read as.
 #[derive(Clone, Copy, Debug)]
 pub enum HeadRead<'b> {
-    /// More bytes are waited for.
+    /// More bytes are needed.
     More,
     Head(Head<'b>),
     /// The rule that is broken, and whether only the head of the refusal is sent.
     Refused(Rule, bool),
 }
 
-/// What is answered where no front is judged.
+/// The outcome if no front is judged.
 fn unjudged<'b>(bytes: &'b [u8], limits: &Limits) -> HeadRead<'b>
     requires { IsUnjudged limits.now.head bytes.now }
     ensures { IsRead limits.now bytes.now result }

@@ -8,7 +8,7 @@ ghost use Rattle.reg_model.specs.declared.rule.Rule.{Rule};
 ghost use Rattle.reg_http_read.specs.Begun.{IsRefused};
 ghost use Rattle.reg_http_read.specs.Heads.{Facts, IsHeadAt, IsRefusedAt, IsUnfinished, greatest_body};
 
-/// A head is in the bytes, it is not empty, and its body is at most the greatest.
+/// A head lies within the bytes, is not empty, and its body is at most the largest.
 pub fn bounds_law()
     ensures some { (limits : Limits) (b : Text) (f : Facts) → IsHeadAt limits b f → 0 < f.len }
     ensures within { (limits : Limits) (b : Text) (f : Facts) → IsHeadAt limits b f
@@ -17,7 +17,7 @@ pub fn bounds_law()
         → f.body_len ≤ greatest_body limits }
 {}
 
-/// What was read stays so whatever follows, and a head needs its own bytes alone.
+/// What was read stays so whatever follows, and a head needs only its own bytes.
 pub fn append_law()
     ensures head { (limits : Limits) (b more : Text) (f : Facts) → IsHeadAt limits b f
         → IsHeadAt limits (b ++ more) f }
@@ -27,20 +27,20 @@ pub fn append_law()
         → IsRefusedAt limits b r head_only → IsRefusedAt limits (b ++ more) r head_only }
 {}
 
-/// Nothing is refused where nothing came, unless no head may have a byte.
+/// Nothing is refused if nothing came, unless no head may have a byte.
 pub fn quiet_law()
     ensures { (limits : Limits) (more : Text) (r : Rule) (head_only : Bool) → 0 < limits.head
         → IsRefused limits [] more r head_only → ⊥ }
 {}
 
-/// The bytes begin with one head at most.
+/// The bytes begin with at most one head.
 pub fn one_head_law()
     ensures { (limits : Limits) (b more : Text) (f g : Facts) → IsHeadAt limits b f
         → IsHeadAt limits (b ++ more) g → f ≡ g }
 {}
 
-/// What is read of bytes is one thing, and what follows does not change it: a head is not refused,
-/// a refusal is for one rule, and what is unfinished is neither.
+/// Bytes are read in only one way, and what follows does not change it: a head is not refused, a
+/// refusal is for one rule, and what is unfinished is neither.
 pub fn one_reading_law()
     ensures head { (limits : Limits) (b more : Text) (f : Facts) (r : Rule) (head_only : Bool)
         → IsHeadAt limits b f → IsRefusedAt limits (b ++ more) r head_only → ⊥ }

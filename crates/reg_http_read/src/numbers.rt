@@ -17,7 +17,7 @@ pub(crate) fn is_number(text: &[u8]) -> bool
     !text.is_empty()
 }
 
-/// The digits from the first that is no zero.
+/// The digits from the first that is not zero.
 fn without_zeros(text: &[u8]) -> &[u8]
     ensures { result.now ≡ spec.without_zeros text.now }
 {
@@ -28,14 +28,14 @@ fn without_zeros(text: &[u8]) -> &[u8]
     rest
 }
 
-/// Whether the second is a number, and the same as the first.
+/// Whether the second is a number, and equal to the first.
 pub(crate) fn is_same_number(a: &[u8], b: &[u8]) -> bool
     ensures { result ≡ spec.is_same_number a.now b.now }
 {
     is_number(b) && without_zeros(b) == without_zeros(a)
 }
 
-/// The number that the digits write, or the greatest of its type where it is more.
+/// The number that the digits denote, or the largest of its type if it is more.
 pub(crate) fn number(digits: &[u8]) -> u64
     requires { IsTrue (list_all is_ascii_digit digits.now) }
     ensures { result ≡ min (digits_value 10 digits.now) (2 ^ 64 - 1) }

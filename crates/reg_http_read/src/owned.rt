@@ -1,4 +1,4 @@
-//! A head that owns what it tells.
+//! A head that owns its parts.
 
 ghost use Rattle.std.specs.Prelude.{◌≡◌, IfOk};
 ghost use Rattle.std.specs.Option.{option_map};
@@ -8,7 +8,7 @@ ghost use Rattle.reg_http_read.specs.Reads.{facts_of};
 use crate::head::Head;
 use std::alloc::{AllocError, Global};
 
-/// A head that owns what it tells, kept while its body is waited for.
+/// A head that owns its parts, kept until its body has arrived.
 #[derive(Drop)]
 pub struct OwnedHead {
     pub(crate) method: String,
@@ -29,7 +29,7 @@ fn owned_token(alloc: Global, token: Option<&[u8]>) -> Result<Option<Vec<u8>>, A
     }
 }
 
-/// Keeps a head.
+/// Copies a head.
 pub(crate) fn keep(alloc: Global, head: &Head<'_>) -> Result<OwnedHead, AllocError>
     ensures { IfOk result (λ it. facts_owned it ≡ facts_of head.now) }
 {
@@ -54,7 +54,7 @@ fn lent_token(token: &Option<Vec<u8>>) -> Option<&[u8]>
 }
 
 impl OwnedHead {
-    /// The head, lent.
+    /// The head, borrowed.
     pub fn as_head(&self) -> Head<'_>
         ensures { facts_of result ≡ facts_owned self.now }
     {

@@ -1,4 +1,4 @@
-//! Reading with the turns that are left.
+//! Reading within the turns that are left.
 
 ghost use Rattle.std.specs.Prelude.{◌≡◌, ◌+◌, ◌^◌, ◌<◌, ◌≤◌, length, drop, vec_len, OnOk, IsFalse};
 ghost use Rattle.reg_http_read.specs.Heads.{IsUnfinished};
@@ -17,11 +17,11 @@ pub(crate) enum Piece {
     /// The input has ended.
     End,
     More,
-    /// There was no room for what was read.
+    /// There was no memory for what was read.
     NoMemory,
 }
 
-/// Reads once, to the end of what waits.
+/// Reads once, onto the end of `pending`.
 pub(crate) fn read_piece<R: Read>(
     r: &mut Counted<R>,
     chunk: &mut [u8],
@@ -51,15 +51,15 @@ pub(crate) fn read_piece<R: Read>(
     }
 }
 
-/// Whether a line ends among the bytes.
+/// Whether a line ends in the bytes.
 fn ends_line(bytes: &[u8]) -> bool
     ensures { IsFalse result → HasNoLine bytes.now }
 {
     memchr(b'\n', bytes).is_some()
 }
 
-/// Reads on where no head could be judged yet: until a line ends in what came, or as many bytes
-/// wait as a head may have. Before that there is nothing to judge anew.
+/// Reads on if no head could be judged yet: until a line ends in what came, or `pending` has as
+/// many bytes as a head may. Before that there is nothing new to judge.
 pub(crate) fn read_line<R: Read>(
     r: &mut Counted<R>,
     chunk: &mut [u8],
@@ -90,14 +90,14 @@ pub(crate) fn read_line<R: Read>(
     }
 }
 
-/// Makes room for a body of which so many bytes are missing, and for what one read may bring.
+/// Makes room for the missing bytes of a body, and for what one read may bring.
 pub(crate) fn make_room(pending: &mut Vec<u8>, missing: u64, chunk: usize) -> Result<(), AllocError>
     ensures { pending.new.items ≡ pending.old.items }
 {
     pending.reserve_exact((missing as usize).saturating_add(chunk))
 }
 
-/// Drops the first n bytes of what waits.
+/// Drops the first n bytes of `pending`.
 pub fn drop_front(pending: &mut Vec<u8>, n: usize)
     requires { n ≤ vec_len pending.old }
     ensures { pending.new.items ≡ drop n pending.old.items }

@@ -1,4 +1,4 @@
-//! A request is taken from a stream: its head, its interim line, its body.
+//! Taking a request from a stream: its head, its interim line, its body.
 
 ghost use Rattle.std.specs.Prelude.{◌≡◌, ◌+◌, ◌^◌, ◌<◌, ◌≤◌, ◌&&◌, not, IfOk, OnErr, Some, length};
 ghost use Rattle.reg_http_read.specs.Begun.{interim_if, is_head_only};
@@ -21,7 +21,7 @@ use std::io::{Read, Write};
 /// The interim line, which asks the client for the body.
 const INTERIM: &[u8] = b"HTTP/1.1 100 Continue\r\n\r\n";
 
-/// What was found where a head was waited for.
+/// What came when a head was awaited.
 #[derive(Drop)]
 pub(crate) enum Awaited {
     End,
@@ -30,7 +30,7 @@ pub(crate) enum Awaited {
     Head(OwnedHead),
 }
 
-/// What was found where the rest of a body was waited for.
+/// What came when the rest of a body was awaited.
 #[derive(Clone, Copy, Debug)]
 pub(crate) enum Rest {
     Whole,
@@ -38,25 +38,25 @@ pub(crate) enum Rest {
     NoMemory,
 }
 
-/// What was found where a request was waited for.
+/// What came when a request was awaited.
 #[derive(Drop)]
 pub enum Taken {
     End,
     /// The rule, and whether only the head of the refusal is sent.
     Refused(Rule, bool),
-    /// It is there, at the front of what waits.
+    /// It is there, at the front of `pending`.
     Whole(OwnedHead),
 }
 
-/// Whether only the head of the refusal is sent where there is no room for a head: not where the
-/// interim line is still waited for.
+/// Whether only the head of the refusal is sent if there is no memory for a head: not if the client
+/// still awaits the interim line.
 fn is_unkept_head_only(head: &Head<'_>) -> bool
     ensures { let f = facts_of head.now in result ≡ (not f.interim && is_head_only f) }
 {
     !head.interim && head.is_head_only()
 }
 
-/// The head, kept, or that there is no room for it.
+/// The head, kept, or a refusal if out of memory.
 fn kept(alloc: Global, head: &Head<'_>) -> Awaited
     ensures { (limits : _) (bytes : _) → IsHeadAt limits bytes (facts_of head.now)
         → IsFound limits bytes (Some result) }
@@ -67,7 +67,7 @@ fn kept(alloc: Global, head: &Head<'_>) -> Awaited
     }
 }
 
-/// The head at the front of what waits, or why it is refused; none where more is waited for.
+/// The head at the front of `pending`, or why it is refused; none if more bytes are needed.
 fn find_head(alloc: Global, pending: &[u8], limits: &Limits) -> Result<Option<Awaited>, AllocError>
     ensures found { IfOk result (IsFound limits.now pending.now) }
     ensures some { OnErr result (0 < length pending.now) }
@@ -79,7 +79,7 @@ fn find_head(alloc: Global, pending: &[u8], limits: &Limits) -> Result<Option<Aw
     }
 }
 
-/// Reads until there is a head at the front of what waits.
+/// Reads until there is a head at the front of `pending`.
 fn await_head<R: Read>(
     alloc: Global,
     r: &mut Counted<R>,
@@ -109,7 +109,7 @@ fn await_head<R: Read>(
     }
 }
 
-/// Reads until so many bytes wait behind the head, which has `len`.
+/// Reads until `body_len` bytes of `pending` follow the head, which has `len`.
 fn await_rest<R: Read>(
     r: &mut Counted<R>,
     chunk: &mut [u8],
@@ -140,7 +140,7 @@ fn await_rest<R: Read>(
     Ok(Rest::Whole)
 }
 
-/// Writes the interim line, where it is waited for.
+/// Writes the interim line, if the client awaits it.
 fn ask_on<W: Write>(w: &mut Counted<W>, interim: bool, left: &mut u64) -> Result<(), StreamFault>
     requires { w.old.calls + left.old < 2 ^ 64 }
     ensures sends { Sends (interim_if interim) (W.contents w.old.inner) (W.contents w.new.inner)
@@ -153,7 +153,7 @@ fn ask_on<W: Write>(w: &mut Counted<W>, interim: bool, left: &mut u64) -> Result
     send(w, INTERIM, left)
 }
 
-/// Reads until there is a request at the front of what waits, and writes its interim line.
+/// Reads until there is a request at the front of `pending`, and writes its interim line.
 pub fn take_request<R: Read, W: Write>(
     alloc: Global,
     r: &mut Counted<R>,

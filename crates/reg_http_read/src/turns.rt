@@ -1,4 +1,4 @@
-//! Writing with the turns that are left.
+//! Writing within the turns that are left.
 
 ghost use Rattle.std.specs.Prelude.{◌+◌, ◌^◌, ◌<◌, OnOk, length};
 ghost use Rattle.reg_api_replies.specs.Texts.{reply_text};

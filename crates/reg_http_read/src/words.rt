@@ -38,7 +38,7 @@ fn trim(text: &[u8]) -> &[u8]
     trim_end(trim_start(text))
 }
 
-/// How many bytes stand before the first comma.
+/// How many bytes come before the first comma.
 #[tactic(auto, using(std::proofs::lemmas::List::Sums::position_or_len_is))]
 fn to_comma(rest: &[u8]) -> usize
     ensures { result ≡ position_or_len (λ b. b == 44) rest.now }
@@ -51,14 +51,14 @@ fn to_comma(rest: &[u8]) -> usize
     rest.len()
 }
 
-/// Whether an element of a list is this word, with spaces and tabs around it.
+/// Whether an element of a list is this word, ignoring spaces and tabs around it.
 fn is_listed(part: &[u8], word: &[u8]) -> bool
     ensures { result ≡ spec.same_word (trim_ows part.now) word.now }
 {
     is_same_word(trim(part), word)
 }
 
-/// Whether the word stands in the list, whose elements are parted by commas.
+/// Whether the word is in the list, whose elements are separated by commas.
 pub(crate) fn lists_word(value: &[u8], word: &[u8]) -> bool
     ensures { result ≡ spec.lists_word word.now value.now }
 {

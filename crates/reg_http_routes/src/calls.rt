@@ -13,7 +13,7 @@ use reg_api_requests::ApiCall;
 use std::alloc::{AllocError, Global};
 use std::borrow::CowSlice;
 
-/// The place of a crate in a path's parts, and of its version.
+/// The index of a crate in a path's parts, and of its version.
 const CRATE: usize = 4;
 
 const VERSION: usize = 5;
@@ -29,7 +29,7 @@ fn index(rest: CowSlice<'_, u8>) -> ApiCall<'_>
     }
 }
 
-/// The owners of a crate, which are listed, added or removed.
+/// The call that lists, adds or removes a crate's owners.
 fn owners<'b>(method: &str, name: CowSlice<'b, u8>, body: &'b [u8]) -> ApiCall<'b>
     ensures { wants_of result ≡ owners_wants method.now (cow_slice_items name.entry) body.now }
 {
@@ -42,7 +42,7 @@ fn owners<'b>(method: &str, name: CowSlice<'b, u8>, body: &'b [u8]) -> ApiCall<'
     }
 }
 
-/// What is called for at the place, by a method that it has.
+/// The call at the place, by a method that it has.
 pub(crate) fn call_at<'b>(
     alloc: Global,
     place: Place,

@@ -8,9 +8,9 @@ use std::alloc::AllocError;
 pub enum RouteFault {
     /// No route has its path.
     NoRoute,
-    /// The route has these methods, and not the request's.
+    /// The route has these methods, but not the request's.
     Method(Methods),
-    /// A growth of memory was refused.
+    /// Out of memory.
     Memory,
 }
 

@@ -11,9 +11,9 @@ use reg_api_replies::Methods;
 #[derive(Clone, Copy, PartialEq, Eq, Debug, Drop)]
 pub(crate) enum Place {
     Index,
-    /// All crates, which are searched.
+    /// All crates, to be searched.
     Crates,
-    /// A crate that is published, new or not.
+    /// A crate to be published, new or not.
     New,
     Owners,
     Yank,

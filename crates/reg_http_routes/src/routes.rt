@@ -22,7 +22,7 @@ pub struct Routes {
     ghost whole: { router ≡ table },
 }
 
-/// Adds a route. All routes are well formed and none is there twice, so that only memory can lack.
+/// Adds a route. All routes are well formed and none is there twice, so only memory can run out.
 fn add(router: &mut Router<Place>, route: &str, place: Place) -> Result<(), AllocError>
     ensures { OnOk result (router.new ≡ with_route route.now place router.old) }
 {
@@ -68,7 +68,7 @@ impl Routes {
         }
     }
 
-    /// Routes a request, by its head, with its body.
+    /// Routes a request, given its head and its body.
     pub fn route<'b>(
         &self,
         alloc: Global,

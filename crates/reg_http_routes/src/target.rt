@@ -20,7 +20,7 @@ pub(crate) fn split(target: &str) -> (&str, &str)
     }
 }
 
-/// The part of a path between two slashes, as it stands.
+/// The part of a path between two slashes, still encoded.
 fn raw_part(path: &str, n: usize) -> &str
     ensures { result.now ≡ unwrap_or (slice_get (slice_split is_slash path.now) n) [] }
 {
@@ -38,7 +38,7 @@ pub(crate) fn part<'b>(
     percent_decode(raw_part(path, n).as_bytes()).into_cow(alloc)
 }
 
-/// What follows `/index/`, as it stands.
+/// What follows `/index/`, still encoded.
 fn raw_rest(path: &[u8]) -> &[u8]
     ensures { result.now ≡ drop (length (codes "/index/")) path.now }
 {

@@ -1,4 +1,4 @@
-//! The index as files, in one transaction of which nothing is kept.
+//! The index as files, read in one transaction that keeps nothing.
 
 ghost use Rattle.std.specs.Prelude.{◌≡◌, true, IsErr};
 ghost use Rattle.reg_tables.specs.Works.{is_shut};
@@ -10,7 +10,7 @@ use reg_tables::{StoreFault, Tables};
 use sqlite::Alter;
 use std::alloc::Global;
 
-/// The files of the index, each behind its path.
+/// The files of the index, each after its path.
 pub(crate) fn export_in<S: Alter>(
     alloc: Global,
     tables: &mut Tables<S>,

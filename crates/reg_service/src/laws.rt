@@ -11,9 +11,9 @@ ghost use Rattle.reg_service.specs.Sequences.{MayBeLeft, Ran};
 use reg_model::laws::{growth_law, run_law};
 use sqlite::Alter;
 
-/// No event is a run, and one more event behind a run makes another. What a stop may leave at its
-/// end follows from what each event leaves. Where a stop leaves the registry alone on entry, it
-/// leaves what the run allows.
+/// The empty sequence is a run, and one more event makes another. What a crash may leave at its end
+/// follows from what each event leaves. If a crash leaves the registry alone on entry, it leaves
+/// what the run allows.
 pub fn history_law<S: Alter>()
     ensures begins { (limits : _) (s : _) (t : _) → Shows s (shown S.Store t)
         → Ran S.Store limits s t [] [] s t }

@@ -7,7 +7,7 @@
 //! let request = ApiRequest { token: None, call: ApiCall::Config };
 //! registry.handle(alloc, &request)                                    // Reply::Denied(Rule::A1)
 //! let calls = [Call::Request(request), Call::Command(AdminCommand::Users)];
-//! answer_all(alloc, &mut registry, &calls)?                           // what each is told
+//! answer_all(alloc, &mut registry, &calls)?                           // the answers
 //! ```
 #![tactic(auto)]
 

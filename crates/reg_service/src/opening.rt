@@ -1,4 +1,4 @@
-//! A registry is made in an empty store, or opened.
+//! Making a registry in an empty store, or opening one.
 
 ghost use Rattle.std.specs.Prelude.{◌≡◌, ◌≢◌, ◌↔◌, false, true, IfErr, IfOk, IsTrue, None, Some};
 ghost use Rattle.sqlite.specs.Held.{state};
@@ -24,18 +24,18 @@ use std::alloc::Global;
 /// Why a registry could not be made or opened.
 #[derive(Clone, Copy, Debug, PartialEq, Eq)]
 pub enum OpenFault {
-    /// The base is none.
+    /// The base is invalid.
     BadBase,
-    /// The store to be made in holds something, or the one to be opened holds no registry's tables
-    /// as they were made.
+    /// The store to make it in is not empty, or the one to open holds no registry's tables as they
+    /// were made.
     UnknownSchema,
-    /// This check of the rows fails first.
+    /// The first failing check of the rows.
     Damaged(Check),
-    /// The store or memory was refused.
+    /// The store or memory failed.
     Storage,
 }
 
-/// A registry of tables that passed the checks, once they are of schema 2.
+/// A registry of tables that passed the checks, upgraded to schema 2.
 fn bring_up<S: Alter>(
     mut tables: Tables<S>,
     limits: Limits,
@@ -97,8 +97,8 @@ fn examine<S: Alter>(
 }
 
 impl<S: Alter> Registry<S> {
-    /// Opens the registry that a store holds: its tables are taken over, checked, and brought to
-    /// schema 2. With a fault the connection is handed back.
+    /// Opens the registry that a store holds: its tables are taken over, checked, and upgraded to
+    /// schema 2. On a fault the connection is handed back.
     pub fn open(
         alloc: Global,
         conn: Connection<S>,
@@ -139,7 +139,7 @@ impl<S: Alter> Registry<S> {
         }
     }
 
-    /// Makes a registry with nothing in it. With a fault the connection is handed back.
+    /// Makes an empty registry. On a fault the connection is handed back.
     pub fn create(
         conn: Connection<S>,
         base: &str,

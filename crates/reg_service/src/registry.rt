@@ -32,8 +32,8 @@ use sqlite::{Alter, Connection};
 use std::alloc::Global;
 use std::io::Write;
 
-/// A registry over a store. After a commit that the store refused it answers nothing more until the
-/// store is opened again.
+/// A registry over a store. After a commit has failed, it refuses everything until the store is
+/// opened again.
 #[derive(Drop)]
 pub struct Registry<S: Alter> {
     pub(crate) tables: Tables<S>,
@@ -41,14 +41,14 @@ pub struct Registry<S: Alter> {
 }
 
 impl<S: Alter> Registry<S> {
-    /// The limits that were handed in.
+    /// The limits that it was given.
     pub fn limits(&self) -> &Limits
         ensures { result.now ≡ limits_of self.now }
     {
         &self.limits
     }
 
-    /// Whether a commit was refused: until the store is opened again each request is S1 and each
+    /// Whether a commit failed: until the store is opened again, each request is S1 and each
     /// command G10.
     pub fn has_stopped(&self) -> bool
         ensures { result ≡ has_stopped self.now }
@@ -56,7 +56,7 @@ impl<S: Alter> Registry<S> {
         self.tables.is_shut()
     }
 
-    /// Does what the administrator orders, in one transaction.
+    /// Runs an administrator's command, in one transaction.
     pub fn command(
         &mut self,
         alloc: Global,
@@ -101,7 +101,7 @@ impl<S: Alter> Registry<S> {
     }
 
     /// Sends the reply to a request for an index file, row by row, in at most `writes` write calls,
-    /// and answers how many it took. Where the store fails once the reply was begun, it ends there.
+    /// and returns how many it made. If the store fails mid-reply, the reply ends there.
     pub fn stream_index<W: Write>(
         &mut self,
         alloc: Global,
@@ -130,7 +130,7 @@ impl<S: Alter> Registry<S> {
         }
     }
 
-    /// The files of the index, each behind its path: the config, then each crate's in the order of
+    /// The files of the index, each after its path: the config, then each crate's in the order of
     /// the canonical texts. Nothing is changed.
     pub fn export(&mut self, alloc: Global) -> Result<Vec<(String, Vec<u8>)>, StoreFault>
         requires { AreUpToDate S.Store (tables_of self.old) }
@@ -143,8 +143,8 @@ impl<S: Alter> Registry<S> {
         export_in(alloc, &mut self.tables)
     }
 
-    /// The first check of the rows that fails; where all pass, none, and then the rows are those of
-    /// a sound registry. Nothing is changed.
+    /// The first check of the rows that fails; none if all pass, and then the rows are those of a
+    /// sound registry. Nothing is changed.
     pub fn audit(&mut self, alloc: Global) -> Result<Option<Check>, StoreFault>
         requires { AreUpToDate S.Store (tables_of self.old) }
         ensures found { HasCleanDisk (shown S.Store (tables_of self.new)) → IfOk result

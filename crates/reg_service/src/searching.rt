@@ -1,4 +1,4 @@
-//! Searches: the tables are read once the request is decided.
+//! Searches: the tables are read after the request is decided.
 
 ghost use Rattle.std.specs.Prelude.{◌≡◌, ◌++◌, ◌∷◌, [], IfOk, OnOk};
 ghost use Rattle.reg_policy.specs.Events.{asked_of};

@@ -18,14 +18,14 @@ use reg_policy::{AdminCommand, AdminReply};
 use sqlite::Alter;
 use std::alloc::{AllocError, Global};
 
-/// What is asked of a registry.
+/// A call to a registry.
 #[derive(Drop)]
 pub enum Call<'a> {
     Request(ApiRequest<'a>),
     Command(AdminCommand<'a>),
 }
 
-/// What a call is told.
+/// The answer to a call.
 #[derive(Drop)]
 pub enum Told {
     Reply(Reply),
@@ -51,8 +51,8 @@ fn answer<S: Alter>(alloc: Global, registry: &mut Registry<S>, call: &Call<'_>) 
     }
 }
 
-/// Answers one call after another. Where there is no memory for the list of what they are told, it
-/// stops behind a call, and what was done before stands.
+/// Answers one call after another. If there is no memory for the list of the answers, it stops
+/// after a call, and what was done before stands.
 pub fn answer_all<S: Alter>(
     alloc: Global,
     registry: &mut Registry<S>,

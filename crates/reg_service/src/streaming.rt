@@ -1,5 +1,4 @@
-//! Index files, sent as they are read. The request is decided in a transaction, of which nothing is
-//! kept.
+//! Index files, sent as they are read. The request is decided in a transaction that keeps nothing.
 
 ghost use Rattle.std.specs.Prelude.{◌≡◌, ◌+◌, ◌^◌, ◌<◌, [], true, IsErr};
 ghost use Rattle.std.specs.Option.{option_map};
@@ -22,7 +21,7 @@ use reg_tables::{StoreFault, Tables};
 use sqlite::Alter;
 use std::io::Write;
 
-/// Decides a request for the index file at a path, in a transaction of which nothing is kept.
+/// Decides a request for the index file at a path, in a transaction that keeps nothing.
 fn decide_in<S: Alter>(
     tables: &mut Tables<S>,
     digest: Option<&Digest>,

@@ -1,4 +1,4 @@
-//! A request and a command, each as one transaction.
+//! A request or a command as one transaction.
 
 ghost use Rattle.std.specs.Prelude.{◌≡◌, true, Err};
 ghost use Rattle.std.specs.Option.{option_map};
@@ -24,7 +24,7 @@ use reg_tables::Tables;
 use sqlite::Alter;
 use std::alloc::Global;
 
-/// Does what the administrator orders in one transaction. Where it is refused nothing is kept.
+/// Runs an administrator's command in one transaction. If it is refused, nothing is kept.
 pub(crate) fn command_in<S: Alter>(
     alloc: Global,
     tables: &mut Tables<S>,
@@ -57,8 +57,8 @@ pub(crate) fn command_in<S: Alter>(
     }
 }
 
-/// Answers a request in one transaction. Where nothing is changed nothing is kept; a search reads
-/// once the transaction is over.
+/// Answers a request in one transaction. If nothing is changed, nothing is kept; a search reads
+/// after the transaction is over.
 pub(crate) fn request_in<S: Alter>(
     alloc: Global,
     tables: &mut Tables<S>,

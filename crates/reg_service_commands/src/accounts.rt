@@ -18,7 +18,7 @@ use reg_policy::{AdminReply, may_name};
 use reg_tables::{StoreFault, Work};
 use sqlite::Alter;
 
-/// Enables an account or disables it.
+/// Enables or disables an account.
 pub(crate) fn set_enabled<S: Alter>(
     work: &mut Work<'_, S>,
     login: &str,
@@ -42,7 +42,7 @@ fn is_account(login: &str, name: Option<&str>) -> bool
     parse_login(login).is_some() && may_name(name)
 }
 
-/// Whether there are as many accounts as there may be.
+/// Whether there are as many accounts as allowed.
 fn is_full<S: Alter>(work: &mut Work<'_, S>, limits: &Limits) -> Result<bool, StoreFault>
     requires { IsAtWork S.Store work.old }
     ensures { Asks S.Store work.old work.new result
@@ -70,7 +70,7 @@ fn refuses_account<S: Alter>(
     Ok(refused_if(AdminRefusal::G7, full))
 }
 
-/// Adds an account that is enabled.
+/// Adds an enabled account.
 pub(crate) fn add_account<S: Alter>(
     work: &mut Work<'_, S>,
     limits: &Limits,

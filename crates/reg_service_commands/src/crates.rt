@@ -12,7 +12,7 @@ use reg_service_requests::find_named;
 use reg_tables::{StoreFault, Work};
 use sqlite::Alter;
 
-/// Lets only its owners and readers see a crate, or all.
+/// Lets everyone see a crate, or only its owners and readers.
 pub(crate) fn set_restricted<S: Alter>(
     work: &mut Work<'_, S>,
     name: &str,
@@ -29,7 +29,7 @@ pub(crate) fn set_restricted<S: Alter>(
     Ok(Ok(AdminReply::Done))
 }
 
-/// Makes an account an owner of a crate, whether it is enabled or not.
+/// Makes an account, enabled or not, an owner of a crate.
 pub(crate) fn add_owner<S: Alter>(
     work: &mut Work<'_, S>,
     name: &str,
@@ -63,7 +63,7 @@ pub(crate) fn add_reader<S: Alter>(
     Ok(Ok(AdminReply::Done))
 }
 
-/// Makes an account no reader of a crate.
+/// Removes an account from a crate's readers.
 pub(crate) fn remove_reader<S: Alter>(
     work: &mut Work<'_, S>,
     name: &str,

@@ -1,4 +1,4 @@
-//! The crates and accounts that the words of a command name.
+//! The crates and accounts that the arguments of a command name.
 
 ghost use Rattle.std.specs.Prelude.{◌≡◌, ◌∷◌, [], false};
 ghost use Rattle.reg_tables.specs.Works.{IsAtWork, has_failed};
@@ -10,7 +10,7 @@ use reg_service_requests::find_named;
 use reg_tables::{StoreFault, Work};
 use sqlite::Alter;
 
-/// The id of the crate that a text names and that of the account with a login, or why not.
+/// The ids of the crate with this name and the account with this login, or why not.
 pub(crate) fn find_pair<S: Alter>(
     work: &mut Work<'_, S>,
     name: &str,
@@ -29,7 +29,7 @@ pub(crate) fn find_pair<S: Alter>(
     }
 }
 
-/// The refusal, where it is one.
+/// The refusal, if `is` holds.
 pub(crate) fn refused_if(refusal: AdminRefusal, is: bool) -> Option<AdminRefusal>
     ensures { result ≡ first_ground ((refusal, is) ∷ []) }
 {

@@ -1,4 +1,4 @@
-//! The administrator's commands, each within a transaction that the caller begins and keeps.
+//! The administrator's commands, each within a transaction that the caller begins and commits.
 //!
 //! ```
 //! let add = AdminCommand::UserAdd("ada", None);

@@ -11,7 +11,7 @@ use reg_policy::{AdminReply, is_reserved_always};
 use reg_tables::{StoreFault, Work};
 use sqlite::Alter;
 
-/// Reserves a name. The names that are reserved always stay as they are.
+/// Reserves a name. Names that are always reserved stay as they are.
 pub(crate) fn reserve<S: Alter>(
     work: &mut Work<'_, S>,
     name: &str,
@@ -31,7 +31,7 @@ pub(crate) fn reserve<S: Alter>(
     Ok(Ok(AdminReply::Done))
 }
 
-/// Sets a name free.
+/// Unreserves a name.
 pub(crate) fn unreserve<S: Alter>(
     work: &mut Work<'_, S>,
     name: &str,

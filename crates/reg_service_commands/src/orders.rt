@@ -1,4 +1,4 @@
-//! What the administrator orders, within a transaction.
+//! The administrator's commands, within a transaction.
 
 ghost use Rattle.std.specs.Prelude.{◌≡◌, false};
 ghost use Rattle.reg_policy.specs.Events.{command_of};
@@ -17,7 +17,7 @@ use reg_tables::{StoreFault, Work};
 use sqlite::Alter;
 use std::alloc::Global;
 
-/// Does what is ordered, or refuses it.
+/// Runs a command, or refuses it.
 pub fn order<S: Alter>(
     alloc: Global,
     work: &mut Work<'_, S>,

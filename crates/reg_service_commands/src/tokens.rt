@@ -21,7 +21,7 @@ use reg_tables::{StoreFault, Work};
 use sqlite::Alter;
 use std::alloc::{AllocError, Global};
 
-/// Whether one of so many tokens has this id: they are numbered from 1 on.
+/// Whether one of so many tokens has this id: they are numbered from 1.
 fn is_id(id: u32, tokens: u64) -> bool
     ensures { result ≡ (nat_lt 0 id && nat_le id tokens) }
 {
@@ -38,7 +38,7 @@ fn has_token<S: Alter>(work: &mut Work<'_, S>, id: u32) -> Result<bool, StoreFau
     Ok(is_id(id, counts.tokens))
 }
 
-/// Makes the token with this id no longer live.
+/// Revokes the token with this id.
 pub(crate) fn revoke<S: Alter>(
     work: &mut Work<'_, S>,
     id: u32,
@@ -54,7 +54,7 @@ pub(crate) fn revoke<S: Alter>(
     Ok(Ok(AdminReply::Done))
 }
 
-/// Whether there are as many tokens as there may be, or so many patterns as none may have.
+/// Whether there are as many tokens as allowed, or more patterns than a token may have.
 fn are_too_many(limits: &Limits, patterns: usize, tokens: u64) -> bool
     ensures { result ≡ (nat_lt limits.now.patterns patterns || nat_le limits.now.tokens tokens) }
 {
@@ -94,7 +94,7 @@ fn refuses_token<S: Alter>(
     Ok(refused_if(AdminRefusal::G5, found.is_some()))
 }
 
-/// Adds a token of an account that is there.
+/// Adds a token to an existing account.
 fn put_token<S: Alter>(
     alloc: Global,
     work: &mut Work<'_, S>,
@@ -115,7 +115,7 @@ fn put_token<S: Alter>(
     Ok(Ok(AdminReply::Id(id)))
 }
 
-/// Whether the words name endpoints, one or more.
+/// Whether the words name one or more endpoints.
 fn name_endpoints(words: &[&str]) -> bool
     ensures { not result ≡ (length (map (λ w. w.now) words.now) == 0 || not
         (list_all is_endpoint (map (λ w. w.now) words.now))) }
@@ -123,7 +123,7 @@ fn name_endpoints(words: &[&str]) -> bool
     !words.is_empty() && are_endpoints(words)
 }
 
-/// The patterns of a token, unless they or the words for its endpoints are refused.
+/// The patterns of a token, unless they or its endpoint words are refused.
 fn read_scopes(
     alloc: Global,
     words: &[&str],
@@ -140,7 +140,7 @@ fn read_scopes(
     }
 }
 
-/// Adds a token, and answers its id.
+/// Adds a token, and returns its id.
 pub(crate) fn add_token<S: Alter>(
     alloc: Global,
     work: &mut Work<'_, S>,

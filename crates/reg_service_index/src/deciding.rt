@@ -1,4 +1,4 @@
-//! Whether a request for an index file is let pass, and which file answers it.
+//! Whether a request for an index file is admitted, and which file answers it.
 
 ghost use Rattle.std.specs.Prelude.{◌≡◌, false};
 ghost use Rattle.std.specs.Option.{option_map};
@@ -14,7 +14,7 @@ use reg_policy::{Action, Rule};
 use reg_tables::{StoreFault, Work};
 use sqlite::Alter;
 
-/// What is decided of a request for an index file.
+/// The decision on a request for an index file.
 #[derive(Clone, Copy, Debug, PartialEq, Eq)]
 pub enum Decided {
     /// It breaks this rule.
@@ -37,8 +37,8 @@ fn find_file<S: Alter>(work: &mut Work<'_, S>, found: &FoundCrate) -> Result<Dec
     }
 }
 
-/// `decide_file` decides a request for the index file at a path, with the digest of its token if
-/// just one was shown.
+/// Decides a request for the index file at a path, with the digest of its token if exactly one was
+/// shown.
 pub fn decide_file<S: Alter>(
     work: &mut Work<'_, S>,
     digest: Option<&Digest>,

@@ -11,8 +11,7 @@ ghost use Rattle.reg_service_index.specs.Files.{rows_text};
 
 use reg_tables_meaning::laws::entries_law;
 
-/// What the rows of a crate are sent as is the answer that its index file is, if its length is
-/// told.
+/// The rows of a crate are sent as the answer with its index file, if its length is given.
 pub fn file_law()
     ensures { (ids : _) (s : _) (db : _) → Holds ids s db → (f : _) (rows : _)
         → AreStemsOf f.crate_id db rows → f.length ≡ length (file_at ids s f) → (path : _)

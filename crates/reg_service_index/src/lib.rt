@@ -1,5 +1,5 @@
-//! Index files, sent one row at a time: it is decided first whether the file is shown, within a
-//! transaction; once that is over the rows are read and sent.
+//! Index files, sent one row at a time. First it is decided, within a transaction, whether the file
+//! is shown; after the transaction the rows are read and sent.
 //!
 //! ```
 //! let decided = decide_file(&mut tables.work()?, Some(&digest), "1/a")?;

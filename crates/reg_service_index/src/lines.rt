@@ -15,7 +15,7 @@ fn end(yanked: bool) -> &'static [u8]
     if yanked { b"true}\n" } else { b"false}\n" }
 }
 
-/// Puts a line behind what waits.
+/// Puts a line after what waits.
 pub(crate) fn put_line<W: Write>(
     pile: &mut Pile,
     w: &mut Counted<W>,

@@ -1,4 +1,4 @@
-//! The reply to a request for an index file, once it is decided.
+//! The reply to a request for an index file, once decided.
 
 ghost use Rattle.std.specs.Prelude.{◌≡◌, ◌+◌, ◌^◌, ◌<◌, ◌⊎◌, Err, MatchBool};
 ghost use Rattle.sqlite.specs.State.{HasCleanDisk};
@@ -17,7 +17,7 @@ use reg_tables::{Edition, Tables};
 use sqlite::Alter;
 use std::io::Write;
 
-/// `refuse` sends the reply that tells a broken rule.
+/// Sends the reply for a broken rule.
 pub fn refuse<W: Write>(
     w: &mut Counted<W>,
     rule: Rule,
@@ -66,8 +66,8 @@ fn send_over<S: Alter, W: Write>(
     send_rows(tables.reading(), file, close, w, writes)
 }
 
-/// `send_file` sends the file with its head; where the store fails before anything is sent, the
-/// reply tells so. The tables are only read.
+/// Sends the file with its head; if the store fails before anything is sent, the reply says so. The
+/// tables are only read.
 pub fn send_file<S: Alter, W: Write>(
     tables: &mut Tables<S>,
     file: &FoundFile,

@@ -9,8 +9,8 @@
 //! registry_cli --help
 //! ```
 //!
-//! It ends with status 0 for done, 1 for a refused input, 2 for bad words, and 3 where an end or
-//! memory failed.
+//! The exit status is 0 for done, 1 for refused input, 2 for bad arguments, and 3 if I/O or memory
+//! failed.
 #![tactic(auto)]
 
 use reg_cli::{Exit, run_words};
@@ -19,7 +19,7 @@ use std::io::ErrorKind;
 use std::process::ExitCode;
 use std::{env, io};
 
-/// The program's words, its own name first.
+/// The program's arguments, its own name first.
 fn command_line(rt: &HostRuntime, alloc: Global) -> io::Result<Vec<String>> {
     Ok(env::args(rt)?.collect(alloc)?)
 }

@@ -115,7 +115,7 @@ pub(crate) const DAMAGES: [Meaning; 8] = [
     },
 ];
 
-/// How a run ends otherwise.
+/// Other ends of a run.
 pub(crate) const WORDS: [Meaning; 11] = [
     Meaning {
         subject: Subject::Words("bad base"),
