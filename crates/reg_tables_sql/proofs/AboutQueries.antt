@@ -1,7 +1,8 @@
 -- What the queries on the one row of `about` answer.
-use Rattle.std.proofs.Common.{◌≡◌, ℕ, List, [], ◌∷◌, codes, map, Option, Some, None, refl, subst}
+use Rattle.std.proofs.Common.{◌≡◌, ℕ, ℤ, List, [], ◌∷◌, codes, map, Option, Some, None, refl, subst}
 use Rattle.std.specs.List.Sorted.{IsPermutation}
 use Rattle.std.proofs.lemmas.List.Sorted.{IsPermutation-sym}
+use Rattle.sqlite.specs.declared.types.Value.TheVariants.{Int}
 use Rattle.sqlite.specs.Order.{Row}
 use Rattle.sqlite.specs.Term.{col}
 use Rattle.sqlite.specs.Query.{inner, end}
@@ -12,7 +13,6 @@ use Rattle.sqlite.proofs.Callers.{one_permutation}
 use Rattle.sqlite_tied.specs.Compute.{everything}
 use Rattle.reg_tables_schema.specs.declared.edition.Edition.{Edition}
 use Rattle.reg_tables_schema.specs.declared.edition.Edition.TheVariants.{First, Second}
-use Rattle.reg_tables_schema.specs.Rows.{number_columns}
 use Rattle.reg_tables_schema.specs.Schema.{ours, old_schema, schema_of}
 use Rattle.reg_tables_schema.specs.States.{IsInside, IsInsideOf, about_columns}
 use Rattle.reg_tables_schema.specs.Tests.{shows}
@@ -56,5 +56,5 @@ pub rowid_is : IsSelection ours rowid_text (plain (inner 0 end) [] (col 1 0 ∷ 
 unfolding understood everything
 rowid_is = record { command = refl; unlisted = refl; plain = (refl, refl) }
 
-pub the_rowid : (old new : State) (id : ℕ) → IsInside old → Shown rowid_text [] old new (number_columns id ∷ []) → map (shows (0 ∷ [])) (old.now.trees 0) ≡ number_columns id ∷ []
-the_rowid old new id at h = one_row _ _ (number_columns id) (all_rows (overlay old.now.trees []) [] 0 (col 1 0 ∷ []) _ (selected rowid_is [] old new _ at h)) refl
+pub the_rowid : (old new : State) (id : ℤ) → IsInside old → Shown rowid_text [] old new ((Int id ∷ []) ∷ []) → map (shows (0 ∷ [])) (old.now.trees 0) ≡ (Int id ∷ []) ∷ []
+the_rowid old new id at h = one_row _ _ (Int id ∷ []) (all_rows (overlay old.now.trees []) [] 0 (col 1 0 ∷ []) _ (selected rowid_is [] old new _ at h)) refl

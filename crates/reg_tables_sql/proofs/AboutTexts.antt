@@ -1,5 +1,5 @@
 -- The statement that gives the one row of `about` another number.
-use Rattle.std.proofs.Common.{◌≡◌, ℕ, pos, List, [], ◌∷◌, codes, map, true, false, not, cond, Ok, refl, ap, subst, ◌∙◌}
+use Rattle.std.proofs.Common.{◌≡◌, ℕ, ℤ, pos, List, [], ◌∷◌, codes, map, true, false, not, cond, Ok, refl, ap, subst, ◌∙◌}
 use Rattle.std.specs.Prelude.{drop}
 use Rattle.std.specs.List.{filter}
 use Rattle.sqlite.specs.declared.types.Value.TheVariants.{Int}
@@ -18,7 +18,6 @@ use Rattle.reg_tables_schema.proofs.Edits.{replacing}
 use Rattle.reg_tables_schema.proofs.Statements.{cast_int}
 use Rattle.reg_tables_schema.proofs.TableMatches.{equals_first}
 use Rattle.reg_tables_sql.specs.Abouts.{BecomesSecond, NumbersSecond}
-use Rattle.reg_tables_schema.specs.Rows.{number_columns}
 use Rattle.reg_tables_schema.specs.Tests.{shows}
 use Rattle.reg_tables_schema.specs.Changes.{KeepsOthers}
 use Rattle.sqlite.specs.Effect.{Database}
@@ -26,7 +25,7 @@ use Rattle.sqlite.specs.State.{IsUnchanged}
 use Rattle.sqlite.specs.declared.types.Value.{Value}
 use Rattle.sqlite_value.proofs.OrderLemmas.{value_cmp-Int}
 use Rattle.std.proofs.Common.{Bool, arith, rules}
-use Rattle.reg_tables_sql.proofs.Updates.{IsUpdate, matches_key, updates_one, updates_only}
+use Rattle.reg_tables_sql.proofs.Updates.{IsUpdate, matches_rowid, rewrites_one, updates_only}
 
 abbrev second_text : List ℕ
 second_text = codes "UPDATE about SET schema = 2 WHERE rowid = ?1"
@@ -39,8 +38,8 @@ pub second_is : IsUpdate second_text 0 about (equals_first 0) second_project
 unfolding understood everything
 second_is = record { found = refl; bare = (refl, refl); command = refl; writing = refl; seen = λ db. refl }
 
-itself : (id : ℕ) (columns : Row) → has_rowid (pos id) (Int (pos id) ∷ columns) ≡ true
-itself id columns = rw (value_cmp-Int (pos id) (pos id)) (grind (arith, rules))
+itself : (id : ℤ) (columns : Row) → has_rowid id (Int id ∷ columns) ≡ true
+itself id columns = rw (value_cmp-Int id id) (grind (arith, rules))
 
 left_by : (b : Bool) (x : Row) → b ≡ true → cond (not b) (x ∷ []) [] ≡ []
 left_by true x h = refl
@@ -50,23 +49,23 @@ found_by : (b : Bool) (x : Row) → b ≡ true → cond b (x ∷ []) [] ≡ x �
 found_by true x h = refl
 found_by false x h = absurd cc
 
-second_edit : (db : Trees) (id : ℕ) (base : List ℕ) → edited db (replacing db about ((Int (pos id) ∷ Int (pos id) ∷ about_columns Second base) ∷ [])) ≡ put_row (Int (pos id) ∷ about_columns Second base) (without_rowid (pos id) (db 0))
-second_edit db id base = rw (cast_int (pos id), cast_int (pos 2))
+second_edit : (db : Trees) (id : ℤ) (base : List ℕ) → edited db (replacing db about ((Int id ∷ Int id ∷ about_columns Second base) ∷ [])) ≡ put_row (Int id ∷ about_columns Second base) (without_rowid id (db 0))
+second_edit db id base = rw (cast_int id, cast_int (pos 2))
 
-numbered : (old new : State) (id : ℕ) (count : ℕ) → IsInside old → Executes second_text (Int (pos id) ∷ []) old new (Ok count)
-    → (base : List ℕ) → old.now.trees 0 ≡ (Int (pos id) ∷ about_columns First base) ∷ [] → new.now.trees 0 ≡ (Int (pos id) ∷ about_columns Second base) ∷ []
+numbered : (old new : State) (id : ℤ) (count : ℕ) → IsInside old → Executes second_text (Int id ∷ []) old new (Ok count)
+    → (base : List ℕ) → old.now.trees 0 ≡ (Int id ∷ about_columns First base) ∷ [] → new.now.trees 0 ≡ (Int id ∷ about_columns Second base) ∷ []
 numbered old new id count at h base one =
-    let row : Row = Int (pos id) ∷ about_columns Second base in
-    let was : Row = Int (pos id) ∷ about_columns First base in
+    let row : Row = Int id ∷ about_columns Second base in
+    let was : Row = Int id ∷ about_columns First base in
     let here = itself id (about_columns First base) in
-    let found = ap (filter (has_rowid (pos id))) one ∙ found_by (has_rowid (pos id) was) was here in
-    let done = updates_one second_is _ (has_rowid (pos id)) (matches_key 0 id []) old new count at h id was row (second_edit old.now.trees id base) found in
-    done.rows_are ∙ ap (λ xs. put_row row (without_rowid (pos id) xs)) one ∙ ap (put_row row) (left_by (has_rowid (pos id) was) was here)
+    let found = ap (filter (has_rowid id)) one ∙ found_by (has_rowid id was) was here in
+    let done = rewrites_one second_is _ (has_rowid id) (matches_rowid 0 id []) old new count at h was found in
+    done ∙ second_edit old.now.trees id base ∙ ap (λ xs. put_row row (without_rowid id xs)) one ∙ ap (put_row row) (left_by (has_rowid id was) was here)
 
-pub numbers : (old new : State) (id : ℕ) (count : ℕ) → IsInside old → Executes second_text (Int (pos id) ∷ []) old new (Ok count) → NumbersSecond id old new
+pub numbers : (old new : State) (id : ℤ) (count : ℕ) → IsInside old → Executes second_text (Int id ∷ []) old new (Ok count) → NumbersSecond id old new
 numbers old new id count at h = record {
   second = numbered old new id count at h;
-  touches = updates_only second_is _ (has_rowid (pos id)) (matches_key 0 id []) old new count at h;
+  touches = updates_only second_is _ (has_rowid id) (matches_rowid 0 id []) old new count at h;
 }
 
 -- a row is told by its rowid and the columns after it
@@ -76,7 +75,7 @@ whole_row ([] ∷ rows) v w more ids is = absurd cc
 whole_row ((x ∷ xs) ∷ []) v w more ids is = cc
 whole_row ((x ∷ xs) ∷ y ∷ rows) v w more ids is = absurd cc
 
-pub becomes_second : (old mid new : State) (id : ℕ) → IsUnchanged old mid → map (shows (0 ∷ [])) (old.now.trees 0) ≡ number_columns id ∷ [] → NumbersSecond id mid new → BecomesSecond old new
+pub becomes_second : (old mid new : State) (id : ℤ) → IsUnchanged old mid → map (shows (0 ∷ [])) (old.now.trees 0) ≡ (Int id ∷ []) ∷ [] → NumbersSecond id mid new → BecomesSecond old new
 becomes_second old mid new id same ids made = record {
   second = λ base is. ap (map (drop 1)) (made.second base (ap (λ (d : Database). d.trees 0) same.0.now_is ∙ whole_row _ _ _ _ ids is));
   touches = record {

@@ -1,5 +1,5 @@
 -- What an UPDATE does, from its text, its table and the test of its WHERE.
-use Rattle.std.proofs.Common.{◌≡◌, ℕ, pos, List, [], ◌∷◌, slice_get, map, Bool, true, ◌&&◌, Some, None, Ok, refl, ap, subst, ◌∙◌}
+use Rattle.std.proofs.Common.{◌≡◌, ℕ, ℤ, pos, List, [], ◌∷◌, slice_get, map, Bool, true, ◌&&◌, Some, None, Ok, refl, ap, subst, ◌∙◌}
 use Rattle.std.specs.List.{filter}
 use Rattle.std.specs.List.Sorted.{IsPermutation}
 use Rattle.std.proofs.lemmas.List.Sorted.{IsPermutation-sym}
@@ -39,12 +39,15 @@ abbrev pub Matches : ℕ → List Term → Row → (Row → Bool) → Type 0
 Matches tree filters params test = (db : Trees) → matches db filters (inner tree end) (params ∷ []) ≡ map (λ r. params ∷ r ∷ []) (filter test (db tree))
 
 -- WHERE key = ?1
-pub matches_key : (tree id : ℕ) (rest : Row) → Matches tree (equals_first 0) (Int (pos id) ∷ rest) (has_rowid (pos id))
-matches_key tree id rest db =
-    let params : Row = Int (pos id) ∷ rest in
-    let test = λ (r : Row). is_true (binary (Compare Eq Binary) (column r 0) (Int (pos id))) && true in
+pub matches_rowid : (tree : ℕ) (id : ℤ) (rest : Row) → Matches tree (equals_first 0) (Int id ∷ rest) (has_rowid id)
+matches_rowid tree id rest db =
+    let params : Row = Int id ∷ rest in
+    let test = λ (r : Row). is_true (binary (Compare Eq Binary) (column r 0) (Int id)) && true in
     matched test (λ (r : Row). params ∷ r ∷ []) (db tree)
-    ∙ ap (map (λ (r : Row). params ∷ r ∷ [])) (same_filter test (has_rowid (pos id)) (λ r. and_true _ ∙ equals_int (column r 0) (pos id)) (db tree))
+    ∙ ap (map (λ (r : Row). params ∷ r ∷ [])) (same_filter test (has_rowid id) (λ r. and_true _ ∙ equals_int (column r 0) id) (db tree))
+
+pub matches_key : (tree id : ℕ) (rest : Row) → Matches tree (equals_first 0) (Int (pos id) ∷ rest) (has_rowid (pos id))
+matches_key tree id = matches_rowid tree (pos id)
 
 -- the query of an UPDATE of one table
 abbrev pub update_of : ℕ → List Term → List Term → Program
@@ -78,6 +81,15 @@ module _ {text : List ℕ} {at : ℕ} {table : Table} {filters project : List Te
   updates_one id was row edit one =
       replaces text at table is.found is.bare (update_of table.tree filters project) is.command params id row old new (Ok count) inside
       (λ rows a. ap (λ rs. edited old.now.trees (replacing old.now.trees table rs)) (one_permutation (writes was) rows (subst (λ xs. IsPermutation (map writes xs) rows) one (written rows a))) ∙ edit) h
+
+  -- the same of any rowid
+  pub rewrites_one : (was : Row) → filter test (old.now.trees table.tree) ≡ was ∷ []
+      → new.now.trees table.tree ≡ edited old.now.trees (replacing old.now.trees table (writes was ∷ []))
+  rewrites_one was one =
+      let w = runs_as text params old new ours inside.schema_is (Update at (update_of table.tree filters project)) is.command is.bare count h in
+      let done = updated old new ours inside.schema_is at table is.found (statement_of text (understood ours text)) params count refl (update_of table.tree filters project) w in
+      let one_written = one_permutation (writes was) done.rows (subst (λ xs. IsPermutation (map writes xs) done.rows) one (written done.rows done.answer)) in
+      done.put.step.rows ∙ ap (λ rs. edited old.now.trees (replacing old.now.trees table rs)) one_written
 
   none_written : (rows : List Row) → filter test (old.now.trees table.tree) ≡ [] → Answers old.now (update_of table.tree filters project) params rows → rows ≡ []
   none_written rows none a =

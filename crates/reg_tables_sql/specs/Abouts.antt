@@ -1,5 +1,5 @@
 -- The one row of the table `about`.
-use Rattle.std.specs.Prelude.{◌≡◌, ◌≢◌, ℕ, pos, List, [], ◌∷◌, Option, Some, None, drop, map, string_bytes}
+use Rattle.std.specs.Prelude.{◌≡◌, ◌≢◌, ℕ, ℤ, List, [], ◌∷◌, Option, Some, None, drop, map, string_bytes}
 use Rattle.sqlite.specs.declared.types.Value.TheVariants.{Int}
 use Rattle.sqlite.specs.Order.{Row}
 use Rattle.sqlite.specs.State.{State}
@@ -45,10 +45,10 @@ LacksBase e db = (base : List ℕ) → map (shows about_places) (db about_tree) 
     ∷ []
 
 -- the row at this rowid was that of schema 1 with a base, and is that of schema 2
-pub record NumbersSecond (id : ℕ) (old new : State) : Type 0 where
+pub record NumbersSecond (id : ℤ) (old new : State) : Type 0 where
   pub second : (base : List ℕ)
-      → old.now.trees about_tree ≡ (Int (pos id) ∷ about_columns First base) ∷ []
-      → new.now.trees about_tree ≡ (Int (pos id) ∷ about_columns Second base) ∷ []
+      → old.now.trees about_tree ≡ (Int id ∷ about_columns First base) ∷ []
+      → new.now.trees about_tree ≡ (Int id ∷ about_columns Second base) ∷ []
   pub touches : Touches about_tree old new
 
 -- the one row was that of schema 1 with a base, and is that of schema 2

@@ -3,8 +3,8 @@
 ghost use Rattle.std.specs.Prelude.{◌≡◌, [], ◌∷◌, IfOk, map, string_bytes};
 ghost use Rattle.std.specs.Option.{option_map};
 ghost use Rattle.sqlite.specs.Held.{state};
+ghost use Rattle.sqlite.specs.declared.types.Value.TheVariants.{Int};
 ghost use Rattle.reg_tables_schema.specs.Places.{about_tree, id_place};
-ghost use Rattle.reg_tables_schema.specs.Rows.{number_columns};
 ghost use Rattle.reg_tables_schema.specs.States.{IsReady, IsReadyOf};
 ghost use Rattle.reg_tables_schema.specs.Statements.{Reads, Writes, rows_in};
 ghost use Rattle.reg_tables_schema.specs.Tests.{shows};
@@ -65,15 +65,15 @@ pub fn base<S: Alter>(conn: &mut Connection<S>) -> Result<Option<String>, Error>
     Ok(second_base(about))
 }
 
-fn the_rowid<S: Alter>(conn: &mut Connection<S>) -> Result<u32, Error>
+fn the_rowid<S: Alter>(conn: &mut Connection<S>) -> Result<i64, Error>
     requires { IsReady (state S.Store conn.old) }
     ensures { Reads S.Store conn.old conn.new result (λ id. map (shows (id_place ∷ []))
-        (rows_in S.Store conn.old about_tree) ≡ number_columns id ∷ []) }
+        (rows_in S.Store conn.old about_tree) ≡ (Int id ∷ []) ∷ []) }
 {
-    select_only::<u32, S>(conn, "SELECT rowid FROM about")
+    select_only::<i64, S>(conn, "SELECT rowid FROM about")
 }
 
-fn number_second<S: Alter>(conn: &mut Connection<S>, id: u32) -> Result<(), Error>
+fn number_second<S: Alter>(conn: &mut Connection<S>, id: i64) -> Result<(), Error>
     requires { IsReady (state S.Store conn.old) }
     ensures { Writes S.Store conn.old conn.new result (NumbersSecond id) }
 {

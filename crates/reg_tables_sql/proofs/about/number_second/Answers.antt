@@ -1,3 +1,7 @@
+use Rattle.std.proofs.Common.{rules}
+use mir.Syntax.{w64}
+use mir.Val.{SFits}
+use Rattle.std.proofs.lemmas.Int.{to_z-of_z}
 use Rattle.sqlite.specs.Held.{state}
 use Rattle.reg_tables_schema.proofs.Writing.{writes_as}
 use Rattle.reg_tables_sql.proofs.AboutTexts.{second_is, numbers}
@@ -8,4 +12,7 @@ write-requires-clause-writes g c = second_is.writing
 
 pub returns : goal.returns
 returns g c =
-    writes_as (state g.S.Store c.args.conn.now) (state g.S.Store c.write.new.conn) c.write.result c.requires (λ at h. numbers (state g.S.Store c.args.conn.now) (state g.S.Store c.write.new.conn) c.args.id h.0 at h.1) (rw c.params-to_sql.ensures at c.write.ensures)
+    let old = state g.S.Store c.args.conn.now in
+    let new = state g.S.Store c.write.new.conn in
+    let fits : SFits w64 c.args.id = search rules in
+    writes_as old new c.write.result c.requires (λ at h. numbers old new c.args.id h.0 at h.1) (rw (c.params-to_sql.ensures, to_z-of_z w64 c.args.id fits) at c.write.ensures)
