@@ -48,8 +48,8 @@ fn is_full<S: Alter>(work: &mut Work<'_, S>, limits: &Limits) -> Result<bool, St
     ensures { Asks S.Store work.old work.new result
         (λ db full. Tells (λ ids s. full ≡ nat_le limits.now.accounts (length s.accounts)) db) }
 {
-    let counts = work.counts()?;
-    Ok(limits.accounts <= counts.accounts)
+    let accounts = work.count_accounts()?;
+    Ok(limits.accounts <= accounts)
 }
 
 /// Why an account with this login can't be added, if there is a reason.

@@ -34,8 +34,8 @@ fn has_token<S: Alter>(work: &mut Work<'_, S>, id: u32) -> Result<bool, StoreFau
     ensures { Asks S.Store work.old work.new result
         (λ db has. Tells (λ ids s. has ≡ is_some (with_id s.tokens id)) db) }
 {
-    let counts = work.counts()?;
-    Ok(is_id(id, counts.tokens))
+    let tokens = work.count_tokens()?;
+    Ok(is_id(id, tokens))
 }
 
 /// Revokes the token with this id.
@@ -70,8 +70,8 @@ fn is_full<S: Alter>(
     ensures { Asks S.Store work.old work.new result (λ db full.
         Tells (λ ids s. full ≡ is_full_for limits.now patterns.now s) db) }
 {
-    let counts = work.counts()?;
-    Ok(are_too_many(limits, patterns.len(), counts.tokens))
+    let tokens = work.count_tokens()?;
+    Ok(are_too_many(limits, patterns.len(), tokens))
 }
 
 /// Why a token with this digest and these patterns can't be added, if there is a reason.

@@ -20,8 +20,7 @@ use Rattle.reg_api_replies.specs.declared.bytes.SendFault.TheVariants.{Spent, Wr
 use Rattle.reg_api_replies.specs.Sent.{IsStopped, Piles, SendsAll, Sink}
 use Rattle.reg_api_replies.specs.Texts.{file_head}
 use Rattle.reg_api_replies.proofs.Joined.{pile_sent, pile_stopped, piles_behind, sends_nothing}
-use Rattle.reg_tables_sql.specs.Stems.{AreStemsOf, columns_of_stem, entries_text}
-use Rattle.reg_tables_sql.specs.declared.versions.StemRow.{StemRow}
+use Rattle.reg_tables_sql.specs.Stems.{AreStemsOf, entries_text}
 use Rattle.reg_tables_sql.proofs.StemQueries.{stems_begun}
 use Rattle.reg_tables_meaning.specs.Entries.{entry_row}
 use Rattle.reg_tables_meaning.specs.Walks.{HasWalked}
@@ -44,12 +43,12 @@ lines_told ((stem, yanked) ∷ es) = λ i. line_of (entry_back stem yanked i) ++
 pub lines_both : (rows more : List Row) → lines_in (rows ++ more) ≡ lines_in rows ++ lines_in more
 lines_both rows more = ap file_text (map-append entry_in rows more) ∙ flat_map-append line_of (map entry_in rows) (map entry_in more)
 
-abbrev line_in : StemRow → Text
-line_in it = line_of (it.stem.items, it.yanked)
+abbrev line_in : Text × Bool → Text
+line_in it = line_of it
 
-lines_more : (rows : List Row) (it : StemRow) → lines_in rows ++ line_in it ≡ lines_in (rows ++ columns_of_stem it ∷ [])
+lines_more : (rows : List Row) (it : Text × Bool) → lines_in rows ++ line_in it ≡ lines_in (rows ++ entry_row it ∷ [])
 lines_more rows it =
-    sym (lines_both rows (columns_of_stem it ∷ []) ∙ ap (λ l. lines_in rows ++ l) (append-nil (line_of (entry_in (columns_of_stem it))) ∙ ap line_of (entry_back it.stem.items it.yanked)))
+    sym (lines_both rows (entry_row it ∷ []) ∙ ap (λ l. lines_in rows ++ l) (append-nil (line_of (entry_in (entry_row it))) ∙ ap line_of (entry_back it.0 it.1)))
 
 -- what a writer's fault leaves, as it is told
 pub stop_is_break : (f : SendFault) (text : Text) (writes : ℕ) (s t : Sink) → IsStopped f text writes s t → IsBroken (fault_of f) text writes s t
@@ -127,16 +126,16 @@ module _ {S : Type 0} (g : Ghosts S) (first : Held S) (f : FoundFile) (at : IsOu
         begins = λ clean. inr (begins_so (fault_of fault) now rows w (back clean));
       }
 
-      one_more : (it : StemRow) → (head ++ lines_in rows) ++ line_in it ≡ head ++ lines_in (rows ++ columns_of_stem it ∷ [])
+      one_more : (it : Text × Bool) → (head ++ lines_in rows) ++ line_in it ≡ head ++ lines_in (rows ++ entry_row it ∷ [])
       one_more it = append_assoc head (lines_in rows) (line_in it) ∙ ap (λ l. head ++ l) (lines_more rows it)
 
       -- one line more is put, or that is stopped
-      pub rows_more : (it : StemRow) (u : Sink) (more : ℕ) (next : Text) → Piles rest (line_in it) next (writes - used) more t u → Piles [] (head ++ lines_in (rows ++ columns_of_stem it ∷ [])) next writes (used + more) s u
+      pub rows_more : (it : Text × Bool) (u : Sink) (more : ℕ) (next : Text) → Piles rest (line_in it) next (writes - used) more t u → Piles [] (head ++ lines_in (rows ++ entry_row it ∷ [])) next writes (used + more) s u
       rows_more it u more next h = subst (λ l. Piles [] l next writes (used + more) s u) (one_more it) (piles_behind [] (head ++ lines_in rows) (line_in it) rest next writes used more s t u puts h)
 
-      pub rows_stopped : (fault : SendFault) (it : StemRow) (u : Sink) (on : Held S) → IsStopped fault (rest ++ line_in it) (writes - used) t u → HasWalked g entries_text params first on (rows ++ columns_of_stem it ∷ []) → SendsRows g f close (Err (fault_of fault)) writes first on s u
+      pub rows_stopped : (fault : SendFault) (it : Text × Bool) (u : Sink) (on : Held S) → IsStopped fault (rest ++ line_in it) (writes - used) t u → HasWalked g entries_text params first on (rows ++ entry_row it ∷ []) → SendsRows g f close (Err (fault_of fault)) writes first on s u
       rows_stopped fault it u on h walked = record {
-        rows = rows ++ columns_of_stem it ∷ [];
+        rows = rows ++ entry_row it ∷ [];
         sends = subst (λ l. IsBroken (fault_of fault) l writes s u) (one_more it) (stop_is_break fault ((head ++ lines_in rows) ++ line_in it) writes s u (pile_stopped fault [] (head ++ lines_in rows) (line_in it) rest writes used s t u puts h));
-        begins = λ clean. inr (begins_so (fault_of fault) on (rows ++ columns_of_stem it ∷ []) walked clean);
+        begins = λ clean. inr (begins_so (fault_of fault) on (rows ++ entry_row it ∷ []) walked clean);
       }

@@ -1,7 +1,9 @@
 -- What sending the index file of a crate did.
-use Rattle.std.specs.Prelude.{◌≡◌, ◌⊎◌, ◌<◌, ◌++◌, ℕ, length, Bool, false, IsTrue, List, [], None, Result, Err, OnOk}
+use Rattle.std.specs.Prelude.{◌≡◌, ◌≢◌, ◌⊎◌, ◌<◌, ◌≤◌, ◌+◌, ◌^◌, ◌++◌, ◌∷◌, ℕ, pos, length, Bool, false, IsTrue, List, [], None, Result, Err, OnOk}
+use Rattle.sqlite.specs.Given.{HasGiven, IsEnded}
 use Rattle.sqlite.specs.Held.{Held, state}
 use Rattle.sqlite.specs.Order.{Row}
+use Rattle.sqlite.specs.declared.types.Value.TheVariants.{Int}
 use Rattle.sqlite.specs.State.{HasCleanDisk}
 use Rattle.sqlite_trees.specs.declared.store.Store.{Ghosts}
 use Rattle.reg_model.specs.declared.rule.Rule.{Rule}
@@ -10,7 +12,8 @@ use Rattle.reg_model.specs.Registry.{Text}
 use Rattle.reg_tables_schema.specs.Statements.{rows_in}
 use Rattle.reg_api_replies.specs.Sent.{Sink}
 use Rattle.reg_api_replies.specs.Texts.{file_head, refusal_text}
-use Rattle.reg_tables_sql.specs.Stems.{AreStemsOf}
+use Rattle.reg_tables_sql.specs.Stems.{AreStemsOf, entries_text}
+use Rattle.reg_tables_meaning.specs.Entries.{entry_row}
 use Rattle.reg_tables.specs.declared.tables.Tables.{Tables}
 use Rattle.reg_tables.specs.Works.{shown}
 use Rattle.reg_service_index.specs.declared.found.FoundFile.{FoundFile}
@@ -53,6 +56,19 @@ pub record SendsDenial (broken : Rule) (close : Bool) (r : Result ℕ IndexFault
 -- the reply where the store failed before
 abbrev pub SendsNoRoom : Bool → Result ℕ IndexFault → ℕ → Sink → Sink → Type 0
 SendsNoRoom close r writes old new = SendsDenial rule.S1 close r writes old new
+
+-- these rows end in one that no index file has
+abbrev pub EndUnread : List Row → Type 0
+EndUnread rows = (front : List Row) × (row : Row) × (rows ≡ front ++ row ∷ [])
+    × ((it : Text × Bool) → row ≢ entry_row it)
+
+-- No more of the file could be read: its rows have ended, all given or in a fault of their own; or
+-- those given end in one that no index file has, or are more than can be counted.
+abbrev pub EndsItself : {S : Type 0} → Ghosts S → ℕ → Held S → Type 0
+EndsItself g id h = IsEnded h
+    ⊎ ((rows : List Row)
+    × (HasCleanDisk (state g h) → HasGiven g entries_text (Int (pos id) ∷ []) h rows)
+    × (EndUnread rows ⊎ (2 ^ 64 ≤ 1 + length rows)))
 
 -- the rows of the file were sent behind the head
 pub record SendsFile {S : Type 0} (g : Ghosts S) (f : FoundFile) (close : Bool)

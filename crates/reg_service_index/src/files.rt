@@ -1,11 +1,15 @@
 //! Index files, row by row.
 
-ghost use Rattle.std.specs.Prelude.{◌≡◌, ◌+◌, ◌^◌, ◌<◌};
+ghost use Rattle.std.specs.Prelude.{◌≡◌, ◌≢◌, ◌⊎◌, ◌+◌, ◌^◌, ◌<◌, Err, MatchOption};
+ghost use Rattle.sqlite.specs.declared.types.Value.TheVariants.{Blob};
+ghost use Rattle.sqlite_value.specs.Value.{owned};
 ghost use Rattle.sqlite.specs.Held.{state};
 ghost use Rattle.reg_tables_schema.specs.States.{IsOurs};
 ghost use Rattle.reg_api_replies.specs.Sent.{sink};
+ghost use Rattle.reg_tables_meaning.specs.Entries.{entry_row};
 ghost use Rattle.reg_tables_meaning.specs.Walks.{IsRead};
-ghost use Rattle.reg_service_index.specs.Files.{SendsRows};
+ghost use Rattle.reg_tables_schema.specs.Rows.{mark};
+ghost use Rattle.reg_service_index.specs.Files.{EndsItself, SendsRows};
 
 use crate::fault::IndexFault;
 use crate::found::FoundFile;
@@ -13,9 +17,52 @@ use crate::lines::put_line;
 use http::StatusCode;
 use reg_api_replies::{Kind, Pile, reply_head};
 use reg_body::Counted;
-use reg_tables::{Edition, FromRow, StemRow, index_rows};
-use sqlite::{Alter, Connection};
+use reg_tables::{Edition, index_rows};
+use sqlite::types::ValueRef;
+use sqlite::{Alter, Connection, Row};
 use std::io::Write;
+
+/// What a line of an index file is made of, as its row has it.
+#[derive(Clone, Copy)]
+struct Entry<'r> {
+    stem: &'r [u8],
+    yanked: bool,
+}
+
+fn stem_of(value: ValueRef<'_>) -> Option<&[u8]>
+    ensures { MatchOption result ((stem : _) → owned value.entry ≢ Blob stem)
+        (λ stem. owned value.entry ≡ Blob stem.now) }
+{
+    match value {
+        ValueRef::Blob(stem) => Some(stem),
+        _ => None,
+    }
+}
+
+fn mark_of(value: ValueRef<'_>) -> Option<bool>
+    ensures { MatchOption result ((yanked : _) → owned value.entry ≢ mark yanked)
+        (λ yanked. owned value.entry ≡ mark yanked) }
+{
+    match value {
+        ValueRef::Int(0) => Some(false),
+        ValueRef::Int(1) => Some(true),
+        _ => None,
+    }
+}
+
+/// The entry that a row tells, with nothing copied; none if it tells none.
+fn entry_of(row: &Row) -> Option<Entry<'_>>
+    ensures { MatchOption result ((it : _) → row.now ≢ entry_row it)
+        (λ it. row.now ≡ entry_row (it.stem.now, it.yanked)) }
+{
+    if row.column_count() != 2 {
+        return None;
+    }
+    Some(Entry {
+        stem: stem_of(row.get_ref(0).ok()?)?,
+        yanked: mark_of(row.get_ref(1).ok()?)?,
+    })
+}
 
 /// Sends the head and the lines of the file. Nothing is sent before the rows can be read.
 pub(crate) fn send_rows<S: Alter, W: Write>(
@@ -30,18 +77,22 @@ pub(crate) fn send_rows<S: Alter, W: Write>(
     ensures rows { SendsRows S.Store file.now close result writes conn.old conn.new
         (sink (W.contents w.old.inner) w.old) (sink (W.contents w.new.inner) w.new) }
     ensures reads { IsRead S.Store result conn.old conn.new }
+    ensures ends { result ≡ Err IndexFault.Store → (w.new.calls ≡ w.old.calls)
+        ⊎ EndsItself S.Store file.now.crate_id conn.new }
 {
     let head = reply_head(StatusCode::OK, Kind::Text, None, file.length, close);
     let mut pile = Pile::new();
     let mut rows = index_rows(conn, file.crate_id)?;
     let mut used = pile.put(w, head.as_bytes(), writes)?;
-    'rows: for _ in 0..u64::MAX {
+    'rows: for count in 0..u64::MAX {
         let Some(row) = rows.next()? else {
             let last = pile.send(w, writes - used)?;
             return Ok(used + last);
         };
-        let entry = StemRow::from_row(row)?;
-        let more = put_line(&mut pile, w, &entry.stem, entry.yanked, writes - used)?;
+        let Some(entry) = entry_of(row) else {
+            return Err(IndexFault::Store);
+        };
+        let more = put_line(&mut pile, w, entry.stem, entry.yanked, writes - used)?;
         used += more;
     }
     Err(IndexFault::Store)

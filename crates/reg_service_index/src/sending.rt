@@ -5,7 +5,7 @@ ghost use Rattle.sqlite.specs.State.{HasCleanDisk};
 ghost use Rattle.reg_api_replies.specs.Sent.{sink};
 ghost use Rattle.reg_tables_meaning.specs.Walks.{IsRead};
 ghost use Rattle.reg_tables.specs.Works.{AreOurs, IsLeft, edition_in, held, is_shut, shown};
-ghost use Rattle.reg_service_index.specs.Files.{IsUnsent, SendsDenial, SendsFile, SendsNoRoom, SendsRows, SendsSome};
+ghost use Rattle.reg_service_index.specs.Files.{EndsItself, IsUnsent, SendsDenial, SendsFile, SendsNoRoom, SendsRows, SendsSome};
 
 use crate::fault::IndexFault;
 use crate::files::send_rows;
@@ -62,6 +62,8 @@ fn send_over<S: Alter, W: Write>(
     ensures reads { IsRead S.Store result (held tables.old) (held tables.new) }
     ensures shut { is_shut tables.new ≡ is_shut tables.old }
     ensures edition { edition_in tables.new ≡ edition_in tables.old }
+    ensures ends { result ≡ Err IndexFault.Store → (w.new.calls ≡ w.old.calls)
+        ⊎ EndsItself S.Store file.now.crate_id (held tables.new) }
 {
     send_rows(tables.reading(), file, close, w, writes)
 }
@@ -86,6 +88,8 @@ pub fn send_file<S: Alter, W: Write>(
     ensures some { SendsSome result writes (sink (W.contents w.old.inner) w.old)
         (sink (W.contents w.new.inner) w.new) }
     ensures begun { result ≡ Err IndexFault.Store → w.old.calls < w.new.calls }
+    ensures ends { result ≡ Err IndexFault.Store
+        → EndsItself S.Store file.now.crate_id (held tables.new) }
     ensures left { IsLeft S.Store tables.old tables.new }
 {
     let before = w.calls();

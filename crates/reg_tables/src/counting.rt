@@ -1,6 +1,7 @@
 //! How much the registry has.
 
-ghost use Rattle.reg_tables_meaning.specs.Calls.{CountsAll, ReachesCrates};
+ghost use Rattle.std.specs.Prelude.{length};
+ghost use Rattle.reg_tables_meaning.specs.Calls.{Counted, CountsAll, ReachesCrates, ReachesVersions};
 ghost use Rattle.reg_tables.specs.Works.{Heard, IsAtWork, IsCall, Unmoved, rows_seen};
 
 use crate::work::{StoreFault, Work, call};
@@ -18,6 +19,28 @@ impl<S: Alter> Work<'_, S> {
         call!(self, counts::count(&mut self.tables.conn))
     }
 
+    /// How many accounts there are, by the id of the last.
+    pub fn count_accounts(&mut self) -> Result<u64, StoreFault>
+        requires { IsAtWork S.Store self.old }
+        ensures counted { Heard S.Store self.new result
+            (Counted (λ s. length s.accounts) (rows_seen S.Store self.old)) }
+        ensures same { Unmoved S.Store result self.old self.new }
+        ensures leaves { IsCall S.Store result self.old self.new }
+    {
+        call!(self, counts::count_accounts(&mut self.tables.conn))
+    }
+
+    /// How many tokens there are, by the id of the last.
+    pub fn count_tokens(&mut self) -> Result<u64, StoreFault>
+        requires { IsAtWork S.Store self.old }
+        ensures counted { Heard S.Store self.new result
+            (Counted (λ s. length s.tokens) (rows_seen S.Store self.old)) }
+        ensures same { Unmoved S.Store result self.old self.new }
+        ensures leaves { IsCall S.Store result self.old self.new }
+    {
+        call!(self, counts::count_tokens(&mut self.tables.conn))
+    }
+
     /// Whether there are at least this many crates. They are counted only if their ids come near
     /// the number.
     pub fn reaches_crates(&mut self, number: u64) -> Result<bool, StoreFault>
@@ -28,5 +51,19 @@ impl<S: Alter> Work<'_, S> {
         ensures leaves { IsCall S.Store result self.old self.new }
     {
         call!(self, counts::reaches_crates(&mut self.tables.conn, number))
+    }
+
+    /// Whether a crate that is there has at least this many versions.
+    pub fn reaches_versions(&mut self, crate_id: u32, number: u64) -> Result<bool, StoreFault>
+        requires { IsAtWork S.Store self.old }
+        ensures told { Heard S.Store self.new result
+            (ReachesVersions crate_id number (rows_seen S.Store self.old)) }
+        ensures same { Unmoved S.Store result self.old self.new }
+        ensures leaves { IsCall S.Store result self.old self.new }
+    {
+        call!(
+            self,
+            counts::reaches_versions(&mut self.tables.conn, crate_id, number)
+        )
     }
 }

@@ -6,11 +6,11 @@ ghost use Rattle.reg_tables_schema.specs.Rows.{greatest_number};
 ghost use Rattle.reg_tables_schema.specs.States.{IsReady};
 ghost use Rattle.reg_tables_schema.specs.Statements.{rows_in};
 ghost use Rattle.reg_tables_schema.specs.Steps.{KeepsAll, Told};
-ghost use Rattle.reg_tables_meaning.specs.Calls.{Counted, CountsAll, ReachesCrates};
+ghost use Rattle.reg_tables_meaning.specs.Calls.{Counted, CountsAll, CountsVersions, ReachesCrates, ReachesVersions};
 ghost use Rattle.reg_tables_meaning.specs.Ids.{IsNext};
 ghost use Rattle.reg_model.specs.Crates.{crates};
 
-use reg_tables_sql::{accounts, crates, tokens};
+use reg_tables_sql::{accounts, crates, tokens, versions};
 use sqlite::{Alter, Connection, Error};
 
 /// Numbers of accounts, tokens and crates.
@@ -32,24 +32,37 @@ fn exact(n: u64) -> Result<u64, Error>
     }
 }
 
-fn count_accounts<S: Alter>(conn: &mut Connection<S>) -> Result<u64, Error>
+// One more than the last of ids that are taken in turn.
+fn next(last: Option<u32>) -> u64
+    ensures next { IsNext last result }
+    ensures some { 0 < result }
+{
+    match last {
+        None => 1,
+        Some(id) => u64::from(id) + 1,
+    }
+}
+
+/// How many accounts there are: their ids are taken in turn, so the last one tells it.
+pub fn count_accounts<S: Alter>(conn: &mut Connection<S>) -> Result<u64, Error>
     requires { IsReady (state S.Store conn.old) }
     ensures counted { Told S.Store conn.new result
         (Counted (λ s. length s.accounts) (rows_in S.Store conn.old)) }
     ensures same { KeepsAll S.Store conn.old conn.new result }
 {
-    let n = accounts::count(conn)?;
-    exact(n)
+    let last = accounts::last_id(conn)?;
+    Ok(next(last) - 1)
 }
 
-fn count_tokens<S: Alter>(conn: &mut Connection<S>) -> Result<u64, Error>
+/// How many tokens there are; the same holds of their ids.
+pub fn count_tokens<S: Alter>(conn: &mut Connection<S>) -> Result<u64, Error>
     requires { IsReady (state S.Store conn.old) }
     ensures counted { Told S.Store conn.new result
         (Counted (λ s. length s.tokens) (rows_in S.Store conn.old)) }
     ensures same { KeepsAll S.Store conn.old conn.new result }
 {
-    let n = tokens::count(conn)?;
-    exact(n)
+    let last = tokens::last_id(conn)?;
+    Ok(next(last) - 1)
 }
 
 fn count_crates<S: Alter>(conn: &mut Connection<S>) -> Result<u64, Error>
@@ -61,17 +74,8 @@ fn count_crates<S: Alter>(conn: &mut Connection<S>) -> Result<u64, Error>
     exact(n)
 }
 
-// At least as many as the ascending ids up to the last.
-fn bound(last: Option<u32>) -> u64
-    ensures { IsNext last result }
-{
-    match last {
-        None => 1,
-        Some(id) => u64::from(id) + 1,
-    }
-}
-
-/// Whether there are at least this many crates. They are counted only if their ids come near it.
+/// Whether there are at least this many crates: no more than ids were taken. They are counted only
+/// if their ids come near it.
 pub fn reaches_crates<S: Alter>(conn: &mut Connection<S>, number: u64) -> Result<bool, Error>
     requires { IsReady (state S.Store conn.old) }
     ensures told { Told S.Store conn.new result
@@ -79,10 +83,35 @@ pub fn reaches_crates<S: Alter>(conn: &mut Connection<S>, number: u64) -> Result
     ensures same { KeepsAll S.Store conn.old conn.new result }
 {
     let last = crates::last_id(conn)?;
-    if bound(last) < number {
+    if next(last) < number {
         return Ok(false);
     }
     let n = count_crates(conn)?;
+    Ok(number <= n)
+}
+
+fn count_versions<S: Alter>(conn: &mut Connection<S>, crate_id: u32) -> Result<u64, Error>
+    requires { IsReady (state S.Store conn.old) }
+    ensures counted { Told S.Store conn.new result
+        (CountsVersions crate_id (rows_in S.Store conn.old)) }
+    ensures same { KeepsAll S.Store conn.old conn.new result }
+{
+    let n = versions::count_of(conn, crate_id)?;
+    exact(n)
+}
+
+/// Whether a crate that is there has at least this many versions.
+pub fn reaches_versions<S: Alter>(
+    conn: &mut Connection<S>,
+    crate_id: u32,
+    number: u64,
+) -> Result<bool, Error>
+    requires { IsReady (state S.Store conn.old) }
+    ensures told { Told S.Store conn.new result
+        (ReachesVersions crate_id number (rows_in S.Store conn.old)) }
+    ensures same { KeepsAll S.Store conn.old conn.new result }
+{
+    let n = count_versions(conn, crate_id)?;
     Ok(number <= n)
 }
 

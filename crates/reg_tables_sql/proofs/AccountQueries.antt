@@ -15,17 +15,16 @@ use Rattle.reg_tables_schema.proofs.Reading.{IsSelection, selected}
 use Rattle.reg_tables_schema.specs.Rows.{number_columns}
 use Rattle.reg_tables_schema.specs.Shown.{shown_of}
 use Rattle.reg_tables_schema.specs.Tests.{is_text}
-use Rattle.reg_tables_schema.proofs.Counts.{counted}
 use Rattle.reg_tables_schema.proofs.Greatest.{greatest, greatest_of}
 use Rattle.reg_tables_schema.proofs.Queries.{plain}
 use Rattle.reg_tables_schema.proofs.Selections.{of_table}
 use Rattle.reg_tables_schema.proofs.ShownRows.{shown_exactly}
 use Rattle.reg_tables_schema.proofs.Sorted.{in_order}
 use Rattle.reg_tables_schema.proofs.TableMatches.{equals_first, matches_text}
-use Rattle.reg_tables_schema.proofs.WholeTables.{all_in_order, one_count}
+use Rattle.reg_tables_schema.proofs.WholeTables.{all_in_order}
 use Rattle.reg_tables_sql.specs.declared.accounts.Account.{Account}
 use Rattle.reg_tables_sql.specs.Accounts.{AreAccounts, IsAccountOfLogin, account_columns}
-use Rattle.reg_tables_sql.specs.Counts.{IsCount, IsLastId}
+use Rattle.reg_tables_sql.specs.Counts.{IsLastId}
 
 abbrev project : List Term
 project = col 1 0 ∷ col 1 2 ∷ col 1 3 ∷ col 1 4 ∷ []
@@ -66,13 +65,3 @@ last_is = record { command = refl; unlisted = refl; plain = (refl, refl) }
 
 pub last : (old new : State) (id : Option ℕ) → IsInside old → Shown last_text [] old new (shown_of number_columns id) → IsLastId 1 old.now.trees id
 last old new id at h = greatest_of (overlay old.now.trees []) 1 _ (selected last_is [] old new _ at h)
-
-abbrev pub count_text : List ℕ
-count_text = codes "SELECT count(*) FROM accounts"
-
-pub count_is : IsSelection ours count_text (counted (inner 1 end) []) (codes "count(*)" ∷ [])
-unfolding understood everything
-count_is = record { command = refl; unlisted = refl; plain = (refl, refl) }
-
-pub count : (old new : State) (n : ℕ) → IsInside old → Shown count_text [] old new (number_columns n ∷ []) → IsCount 1 old.now.trees n
-count old new n at h = one_count (overlay old.now.trees []) 1 n (selected count_is [] old new _ at h)

@@ -21,6 +21,7 @@ mod SummaryTexts
 mod TokenQueries
 mod TokenTexts
 mod Updates
+mod VersionCounts
 mod VersionMarkQueries
 mod VersionQueries
 mod VersionRows

@@ -26,15 +26,14 @@ use Rattle.sqlite_sql.specs.declared.ops.CompareOp.TheVariants.{Eq}
 use Rattle.reg_tables_schema.specs.Rows.{number_columns}
 use Rattle.reg_tables_schema.specs.Shown.{shown_of}
 use Rattle.reg_tables_schema.specs.Tests.{is_blob}
-use Rattle.reg_tables_schema.proofs.Counts.{counted}
 use Rattle.reg_tables_schema.proofs.Greatest.{greatest, greatest_of}
 use Rattle.reg_tables_schema.proofs.Queries.{plain, answers, joined, same_filter, equals_blob}
 use Rattle.reg_tables_schema.proofs.Sorted.{in_order}
 use Rattle.reg_tables_schema.proofs.ShownRows.{shown_exactly}
-use Rattle.reg_tables_schema.proofs.WholeTables.{all_in_order, one_count}
+use Rattle.reg_tables_schema.proofs.WholeTables.{all_in_order}
 use Rattle.reg_tables_sql.specs.declared.tokens.Token.{Token}
 use Rattle.reg_tables_sql.specs.declared.tokens.TokenRow.{TokenRow}
-use Rattle.reg_tables_sql.specs.Counts.{IsCount, IsLastId}
+use Rattle.reg_tables_sql.specs.Counts.{IsLastId}
 use Rattle.reg_tables_sql.specs.Tokens.{AreTokens, IsTokenOfDigest, columns_of_token, columns_with_account, is_of_token, token_and_account, tokens_with_accounts}
 
 abbrev by_digest_filter : List Term
@@ -94,13 +93,3 @@ last_is = record { command = refl; unlisted = refl; plain = (refl, refl) }
 
 pub last : (old new : State) (id : Option ℕ) → IsInside old → Shown last_text [] old new (shown_of number_columns id) → IsLastId 3 old.now.trees id
 last old new id at h = greatest_of (overlay old.now.trees []) 3 _ (selected last_is [] old new _ at h)
-
-abbrev pub count_text : List ℕ
-count_text = codes "SELECT count(*) FROM tokens"
-
-pub count_is : IsSelection ours count_text (counted (inner 3 end) []) (codes "count(*)" ∷ [])
-unfolding understood everything
-count_is = record { command = refl; unlisted = refl; plain = (refl, refl) }
-
-pub count : (old new : State) (n : ℕ) → IsInside old → Shown count_text [] old new (number_columns n ∷ []) → IsCount 3 old.now.trees n
-count old new n at h = one_count (overlay old.now.trees []) 3 n (selected count_is [] old new _ at h)

@@ -70,7 +70,7 @@ fn the_rowid<S: Alter>(conn: &mut Connection<S>) -> Result<i64, Error>
     ensures { Reads S.Store conn.old conn.new result (λ id. map (shows (id_place ∷ []))
         (rows_in S.Store conn.old about_tree) ≡ (Int id ∷ []) ∷ []) }
 {
-    select_only::<i64, S>(conn, "SELECT rowid FROM about")
+    select_only::<i64, S>(conn, "SELECT rowid FROM about", &[])
 }
 
 fn number_second<S: Alter>(conn: &mut Connection<S>, id: i64) -> Result<(), Error>

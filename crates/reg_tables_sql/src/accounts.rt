@@ -8,11 +8,11 @@ ghost use Rattle.reg_tables_schema.specs.Places.{accounts_tree};
 ghost use Rattle.reg_tables_schema.specs.States.{IsReady};
 ghost use Rattle.reg_tables_schema.specs.Statements.{Reads, Writes, rows_in};
 ghost use Rattle.reg_tables_sql.specs.Accounts.{AreAccounts, Enables, IsAccountOfLogin, account_columns, account_row};
-ghost use Rattle.reg_tables_sql.specs.Counts.{IsCount, IsLastId};
+ghost use Rattle.reg_tables_sql.specs.Counts.{IsLastId};
 
 use crate::marks::mark_of;
 use crate::records::FromRow;
-use crate::statements::{select_list, select_number, select_one, write};
+use crate::statements::{select_list, select_one, write};
 use sqlite::{Alter, Connection, Error, Row, params};
 use std::alloc::Global;
 
@@ -110,13 +110,4 @@ pub fn last_id<S: Alter>(conn: &mut Connection<S>) -> Result<Option<u32>, Error>
         "SELECT id FROM accounts ORDER BY id DESC LIMIT 1",
         &[],
     )
-}
-
-/// How many accounts there are, up to SQL's greatest count.
-pub fn count<S: Alter>(conn: &mut Connection<S>) -> Result<u64, Error>
-    requires { IsReady (state S.Store conn.old) }
-    ensures { Reads S.Store conn.old conn.new result
-        (IsCount accounts_tree (rows_in S.Store conn.old)) }
-{
-    select_number(conn, "SELECT count(*) FROM accounts")
 }

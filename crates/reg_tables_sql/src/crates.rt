@@ -10,7 +10,7 @@ ghost use Rattle.reg_tables_sql.specs.Crates.{AreCrates, AreCratesById, IsCrateO
 ghost use Rattle.reg_tables_sql.specs.Rowids.{AreRowids};
 
 use crate::records::FromRow;
-use crate::statements::{has_row, select_list, select_number, select_one, write};
+use crate::statements::{has_row, select_list, select_one, select_only, write};
 use sqlite::{Alter, Connection, Error, Row, params};
 use std::alloc::Global;
 
@@ -129,5 +129,5 @@ pub fn count<S: Alter>(conn: &mut Connection<S>) -> Result<u64, Error>
     ensures { Reads S.Store conn.old conn.new result
         (IsCount crates_tree (rows_in S.Store conn.old)) }
 {
-    select_number(conn, "SELECT count(*) FROM crates")
+    select_only::<u64, S>(conn, "SELECT count(*) FROM crates", &[])
 }

@@ -103,22 +103,15 @@ pub(crate) fn select_here<T: FromRow, S: Alter>(
 pub(crate) fn select_only<T: FromRow, S: Alter>(
     conn: &mut Connection<S>,
     text: &str,
+    params: &[ValueRef<'_>],
 ) -> Result<T, Error>
     requires { MayRead text.now (state S.Store conn.old) }
     ensures { Reads S.Store conn.old conn.new result (λ it.
-        Answers S.Store conn.old conn.new text.now [] (T.FromRow.columns it ∷ [])) }
+        Answers S.Store conn.old conn.new text.now (bound params.now)
+        (T.FromRow.columns it ∷ [])) }
 {
-    let found = select_one::<T, S>(conn, text, &[])?;
+    let found = select_one::<T, S>(conn, text, params)?;
     found.ok_or(Error::InvalidQuery)
-}
-
-/// The number that is the only value in the only row of a read-only query.
-pub(crate) fn select_number<S: Alter>(conn: &mut Connection<S>, text: &str) -> Result<u64, Error>
-    requires { MayRead text.now (state S.Store conn.old) }
-    ensures { Reads S.Store conn.old conn.new result
-        (λ n. Answers S.Store conn.old conn.new text.now [] (number_columns n ∷ [])) }
-{
-    select_only::<u64, S>(conn, text)
 }
 
 /// Whether a read-only query has a row.

@@ -8,12 +8,12 @@ ghost use Rattle.reg_tables_schema.specs.Places.{tokens_tree};
 ghost use Rattle.reg_tables_schema.specs.Rows.{mark};
 ghost use Rattle.reg_tables_schema.specs.States.{IsReady};
 ghost use Rattle.reg_tables_schema.specs.Statements.{Reads, Writes, rows_in};
-ghost use Rattle.reg_tables_sql.specs.Counts.{IsCount, IsLastId};
+ghost use Rattle.reg_tables_sql.specs.Counts.{IsLastId};
 ghost use Rattle.reg_tables_sql.specs.Tokens.{AreTokens, IsTokenOfDigest, Revokes, columns_of_token, columns_with_account, token_row};
 
 use crate::marks::mark_of;
 use crate::records::FromRow;
-use crate::statements::{select_list, select_number, select_one, write};
+use crate::statements::{select_list, select_one, write};
 use reg_model::Endpoints;
 use sqlite::{Alter, Connection, Error, Row, params};
 use std::alloc::Global;
@@ -170,13 +170,4 @@ pub fn last_id<S: Alter>(conn: &mut Connection<S>) -> Result<Option<u32>, Error>
         (IsLastId tokens_tree (rows_in S.Store conn.old)) }
 {
     select_one(conn, "SELECT id FROM tokens ORDER BY id DESC LIMIT 1", &[])
-}
-
-/// How many tokens there are, up to SQL's greatest count.
-pub fn count<S: Alter>(conn: &mut Connection<S>) -> Result<u64, Error>
-    requires { IsReady (state S.Store conn.old) }
-    ensures { Reads S.Store conn.old conn.new result
-        (IsCount tokens_tree (rows_in S.Store conn.old)) }
-{
-    select_number(conn, "SELECT count(*) FROM tokens")
 }

@@ -20,3 +20,4 @@ mod part_calls;
 mod patterns;
 mod script;
 mod versions;
+mod wire;

@@ -16,7 +16,7 @@ const COUNT: u32 = 1500;
 
 /// How often the answer with ample memory came, the want of memory, and another answer.
 #[derive(Clone, Copy)]
-struct Tally {
+pub(crate) struct Tally {
     answers: u32,
     wants: u32,
     others: u32,
@@ -32,7 +32,7 @@ impl Tally {
     }
 
     /// Both the answer and the want came, and nothing else.
-    fn is_right(&self) -> bool {
+    pub(crate) fn is_right(&self) -> bool {
         self.answers > 5 && self.wants > 5 && self.others == 0
     }
 }
@@ -40,7 +40,7 @@ impl Tally {
 /// Runs a call with each amount of memory.
 ///
 /// It tells whether its answer is the one with ample memory.
-fn each_amount<F: Fn(Global) -> Result<bool, AllocError>>(
+pub(crate) fn each_amount<F: Fn(Global) -> Result<bool, AllocError>>(
     alloc: Global,
     step: u32,
     call: F,

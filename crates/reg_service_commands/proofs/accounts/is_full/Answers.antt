@@ -1,11 +1,11 @@
-use Rattle.reg_tables_meaning.specs.Calls.{CountsAll}
-use Rattle.std.specs.Prelude.{nat_le}
+use Rattle.reg_tables_meaning.specs.Calls.{Counted}
+use Rattle.std.specs.Prelude.{length, nat_le}
 use Rattle.std.proofs.Common.{ap}
 use Rattle.reg_access.proofs.Questions.{asks_made}
 use Rattle.reg_service_commands.proofs.accounts.is_full.Goals as goal
 
 pub returns : goal.returns
 returns g c =
-    asks_made g.S.Store {P = CountsAll} c.in_ok-counts.counts _ c.args.work.now c.counts.new.self
-    (λ h ids s holds. ap (nat_le c.args.limits.now.accounts) (h ids s holds).0)
-    (record { told = c.in_ok-counts.ensures.counted; same = c.in_ok-counts.ensures.same; leaves = c.in_ok-counts.ensures.leaves })
+    asks_made g.S.Store {P = Counted (λ s. length s.accounts)} c.in_ok-accounts.accounts _ c.args.work.now c.count_accounts.new.self
+    (λ h ids s holds. ap (nat_le c.args.limits.now.accounts) (h ids s holds))
+    (record { told = c.in_ok-accounts.ensures.counted; same = c.in_ok-accounts.ensures.same; leaves = c.in_ok-accounts.ensures.leaves })

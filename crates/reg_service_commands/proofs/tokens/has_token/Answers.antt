@@ -1,10 +1,11 @@
-use Rattle.reg_tables_meaning.specs.Calls.{CountsAll}
+use Rattle.std.specs.Prelude.{length}
+use Rattle.reg_tables_meaning.specs.Calls.{Counted}
 use Rattle.reg_access.proofs.Questions.{asks_made}
 use Rattle.reg_service_commands.proofs.Adding.{has_id}
 use Rattle.reg_service_commands.proofs.tokens.has_token.Goals as goal
 
 pub returns : goal.returns
 returns g c =
-    asks_made g.S.Store {P = CountsAll} c.in_ok-counts.counts _ c.args.work.now c.counts.new.self
-    (λ h ids s holds. has_id s.tokens c.args.id c.in_ok-counts.counts.tokens _ (h ids s holds).1 c.is_id.ensures)
-    (record { told = c.in_ok-counts.ensures.counted; same = c.in_ok-counts.ensures.same; leaves = c.in_ok-counts.ensures.leaves })
+    asks_made g.S.Store {P = Counted (λ s. length s.tokens)} c.in_ok-tokens.tokens _ c.args.work.now c.count_tokens.new.self
+    (λ h ids s holds. has_id s.tokens c.args.id c.in_ok-tokens.tokens _ (h ids s holds) c.is_id.ensures)
+    (record { told = c.in_ok-tokens.ensures.counted; same = c.in_ok-tokens.ensures.same; leaves = c.in_ok-tokens.ensures.leaves })

@@ -1,12 +1,16 @@
-use Rattle.std.proofs.Common.{rules, arith, ◌≡◌, ◌∙◌, [], ◌∷◌, ◌++◌, refl, pos}
+use Rattle.std.proofs.Common.{rules, arith, Bool, ◌≡◌, ◌∙◌, ◌+◌, [], ◌∷◌, ◌++◌, ap, refl, inl, inr, pos}
+use Rattle.std.proofs.lemmas.List.{length_push}
 use Rattle.std.proofs.lemmas.Result.{err_from_is_err_and}
 use Rattle.sqlite.specs.Held.{state}
 use Rattle.sqlite.specs.State.{HasCleanDisk}
 use Rattle.sqlite.specs.declared.types.Value.TheVariants.{Int}
-use Rattle.reg_tables_sql.specs.Stems.{columns_of_stem, entries_text}
+use Rattle.reg_model.specs.Registry.{Text}
+use Rattle.reg_tables_sql.specs.Stems.{entries_text}
+use Rattle.reg_tables_meaning.specs.Entries.{entry_row}
 use Rattle.reg_tables_meaning.proofs.IndexWalk.{entries_read}
 use Rattle.reg_tables_meaning.proofs.Walking.{walked_all, walked_as}
 use Rattle.reg_service_index.proofs.Rows.{end_stopped, head_stopped, rows_all, rows_broken, rows_more, rows_none, rows_stopped}
+use Rattle.reg_service_index.proofs.Unsent.{writer_fault}
 use Rattle.reg_service_index.proofs.files.send_rows.Goals as goal
 
 pub returns-in_err-rows-clause-rows : goal.returns-in_err-rows-clause-rows
@@ -31,7 +35,7 @@ returns-in_err-row-clause-rows g c =
     let back : c.conn-in_err-row-1.given.0 ≡ now.conn.now = search rules in
     let i = c.rows.invariant.walked in
     rw (p.1, p.2, back)
-    (rows_broken g.S.Store c.args.conn.now c.args.file.now c.requires.ours c.args.close c.args.writes _ _ c.rows.used c.rows.rows.conn.now c.rows.pile i.0 i.1 i.2 now.conn.now (λ late. omega (arith, c.next.follows.holds-at-none.survives.clean, late)))
+    (rows_broken g.S.Store c.args.conn.now c.args.file.now c.requires.ours c.args.close c.args.writes _ _ c.rows.used c.rows.rows.conn.now c.rows.pile i.0 i.2 i.3 now.conn.now (λ late. omega (arith, c.next.follows.holds-at-none.survives.clean, late)))
 
 pub returns-in_err-last-clause-rows : goal.returns-in_err-last-clause-rows
 returns-in_err-last-clause-rows g c =
@@ -40,7 +44,7 @@ returns-in_err-last-clause-rows g c =
     let back : c.conn-in_err-last-1.given.0 ≡ now.conn.now = search rules in
     let i = c.rows.invariant.walked in
     rw (p.1, p.2, back)
-    (end_stopped g.S.Store c.args.conn.now c.args.file.now c.requires.ours c.args.close c.args.writes _ _ c.rows.used c.rows.rows.conn.now c.rows.pile i.0 i.1 i.2 c.in_err-last.field-0.0 _ now.conn.now (λ late. omega (arith, c.next.follows.holds-at-none.survives.clean, late)) c.in_err-last.ensures.sends)
+    (end_stopped g.S.Store c.args.conn.now c.args.file.now c.requires.ours c.args.close c.args.writes _ _ c.rows.used c.rows.rows.conn.now c.rows.pile i.0 i.2 i.3 c.in_err-last.field-0.0 _ now.conn.now (λ late. omega (arith, c.next.follows.holds-at-none.survives.clean, late)) c.in_err-last.ensures.sends)
 
 pub returns-in_default-clause-rows : goal.returns-in_default-clause-rows
 returns-in_default-clause-rows g c =
@@ -50,19 +54,18 @@ returns-in_default-clause-rows g c =
     let moved = c.next.follows.holds-at-none in
     let file = c.args.file.now in
     let before = λ (late : HasCleanDisk (state g.S.Store now.conn.now)). let early : HasCleanDisk (state g.S.Store c.rows.rows.conn.now) = omega (arith, moved.survives.clean, late) in early in
-    let all = λ (late : HasCleanDisk (state g.S.Store now.conn.now)). walked_all g.S.Store entries_text (Int (pos file.crate_id) ∷ []) c.args.conn.now c.rows.rows now i.0 i.1 c.in_ok-row.field-0 (rw c.in_default.is refl) (rw c.in_ok-row.was at moved) late in
-    let are = λ (late : HasCleanDisk (state g.S.Store now.conn.now)). entries_read g.S.Store c.args.conn.now c.rows.rows.conn.now file.crate_id i.0 c.requires.ours (before late) i.1 (state g.S.Store now.conn.now) (all late) in
+    let all = λ (late : HasCleanDisk (state g.S.Store now.conn.now)). walked_all g.S.Store entries_text (Int (pos file.crate_id) ∷ []) c.args.conn.now c.rows.rows now i.0 i.2 c.in_ok-row.field-0 (rw c.in_default.is refl) (rw c.in_ok-row.was at moved) late in
+    let are = λ (late : HasCleanDisk (state g.S.Store now.conn.now)). entries_read g.S.Store c.args.conn.now c.rows.rows.conn.now file.crate_id i.0 c.requires.ours (before late) i.2 (state g.S.Store now.conn.now) (all late) in
     rw back
-    (rows_all g.S.Store c.args.conn.now file c.requires.ours c.args.close c.args.writes _ _ c.rows.used c.rows.rows.conn.now c.rows.pile i.0 i.1 i.2 _ c.in_ok-last.last now.conn.now are before c.in_ok-last.ensures.sends)
+    (rows_all g.S.Store c.args.conn.now file c.requires.ours c.args.close c.args.writes _ _ c.rows.used c.rows.rows.conn.now c.rows.pile i.0 i.2 i.3 _ c.in_ok-last.last now.conn.now are before c.in_ok-last.ensures.sends)
 
-pub returns-in_err-entry-clause-rows : goal.returns-in_err-entry-clause-rows
-returns-in_err-entry-clause-rows g c =
-    let p = err_from_is_err_and c.from_residual-in_err-entry.result c.from_residual-in_err-entry.ensures.1 in
+pub returns-in_default-entry_of-clause-rows : goal.returns-in_default-entry_of-clause-rows
+returns-in_default-entry_of-clause-rows g c =
     let now = c.next.follows.lender-at-none in
-    let back : c.conn-in_err-entry-1.given.0 ≡ now.conn.now = search rules in
+    let back : c.conn-in_default-entry_of-1.given.0 ≡ now.conn.now = search rules in
     let i = c.rows.invariant.walked in
-    rw (p.1, p.2, back)
-    (rows_broken g.S.Store c.args.conn.now c.args.file.now c.requires.ours c.args.close c.args.writes _ _ c.rows.used c.rows.rows.conn.now c.rows.pile i.0 i.1 i.2 now.conn.now (λ late. omega (arith, c.next.follows.holds-at-none.survives.clean, late)))
+    rw back
+    (rows_broken g.S.Store c.args.conn.now c.args.file.now c.requires.ours c.args.close c.args.writes _ _ c.rows.used c.rows.rows.conn.now c.rows.pile i.0 i.2 i.3 now.conn.now (λ late. omega (arith, c.next.follows.holds-at-none.survives.clean, late)))
 
 pub returns-in_err-more-clause-rows : goal.returns-in_err-more-clause-rows
 returns-in_err-more-clause-rows g c =
@@ -70,24 +73,27 @@ returns-in_err-more-clause-rows g c =
     let now = c.next.follows.lender-at-none in
     let back : c.conn-in_err-more-1.given.0 ≡ now.conn.now = search rules in
     let i = c.rows.invariant.walked in
-    let entry = c.in_ok-entry.entry in
-    let on = walked_as g.S.Store entries_text (Int (pos c.args.file.now.crate_id) ∷ []) c.args.conn.now c.rows.rows now i.0 i.1 c.in-Some.row (columns_of_stem entry) c.in_ok-entry.ensures (rw (c.in_ok-row.was, c.in-Some.is) at c.next.follows.holds-at-none) in
+    let entry = c.in-Some-entry_of.entry in
+    let it : Text × Bool = (entry.stem.now, entry.yanked) in
+    let on = walked_as g.S.Store entries_text (Int (pos c.args.file.now.crate_id) ∷ []) c.args.conn.now c.rows.rows now i.0 i.2 c.in-Some.row (entry_row it) c.in-Some-entry_of.ensures (rw (c.in_ok-row.was, c.in-Some.is) at c.next.follows.holds-at-none) in
     rw (p.1, p.2, back)
-    (rows_stopped g.S.Store c.args.conn.now c.args.file.now c.requires.ours c.args.close c.args.writes _ _ c.rows.used c.rows.rows.conn.now c.rows.pile i.0 i.1 i.2 c.in_err-more.field-0.0 entry _ now.conn.now (rw c.deref.ensures.value at c.in_err-more.ensures) on)
+    (rows_stopped g.S.Store c.args.conn.now c.args.file.now c.requires.ours c.args.close c.args.writes _ _ c.rows.used c.rows.rows.conn.now c.rows.pile i.0 i.2 i.3 c.in_err-more.field-0.0 it _ now.conn.now c.in_err-more.ensures on)
 
 pub rows-preserved : goal.rows-preserved
 rows-preserved g c =
     let now = c.next.follows.lender-at-none in
     let moved = c.next.follows.holds-at-none in
     let i = c.rows.invariant.walked in
-    let entry = c.in_ok-entry.entry in
-    let on = walked_as g.S.Store entries_text (Int (pos c.args.file.now.crate_id) ∷ []) c.args.conn.now c.rows.rows now i.0 i.1 c.in-Some.row (columns_of_stem entry) c.in_ok-entry.ensures (rw (c.in_ok-row.was, c.in-Some.is) at moved) in
+    let entry = c.in-Some-entry_of.entry in
+    let it : Text × Bool = (entry.stem.now, entry.yanked) in
+    let on = walked_as g.S.Store entries_text (Int (pos c.args.file.now.crate_id) ∷ []) c.args.conn.now c.rows.rows now i.0 i.2 c.in-Some.row (entry_row it) c.in-Some-entry_of.ensures (rw (c.in_ok-row.was, c.in-Some.is) at moved) in
     record {
       same_reference = moved.same_reference ∙ c.rows.invariant.same_reference;
       walked = (
-        i.0 ++ columns_of_stem entry ∷ [],
+        i.0 ++ entry_row it ∷ [],
+        length_push i.0 (entry_row it) ∙ ap (λ n. n + 1) i.1,
         on,
-        rows_more g.S.Store c.args.conn.now c.args.file.now c.requires.ours c.args.close c.args.writes _ _ c.rows.used c.rows.rows.conn.now c.rows.pile i.0 i.1 i.2 entry _ c.in_ok-more.more c.put_line.new.pile (rw c.deref.ensures.value at c.in_ok-more.ensures),
+        rows_more g.S.Store c.args.conn.now c.args.file.now c.requires.ours c.args.close c.args.writes _ _ c.rows.used c.rows.rows.conn.now c.rows.pile i.0 i.2 i.3 it _ c.in_ok-more.more c.put_line.new.pile c.in_ok-more.ensures,
       );
     }
 
@@ -96,4 +102,45 @@ returns-clause-rows g c =
     let back : c.conn-2-1.given.0 ≡ c.rows.rows.conn.now = search rules in
     let i = c.rows.invariant.walked in
     rw back
-    (rows_broken g.S.Store c.args.conn.now c.args.file.now c.requires.ours c.args.close c.args.writes _ _ c.rows.used c.rows.rows.conn.now c.rows.pile i.0 i.1 i.2 c.rows.rows.conn.now (λ late. late))
+    (rows_broken g.S.Store c.args.conn.now c.args.file.now c.requires.ours c.args.close c.args.writes _ _ c.rows.used c.rows.rows.conn.now c.rows.pile i.0 i.2 i.3 c.rows.rows.conn.now (λ late. late))
+
+-- why no further row is sent
+
+pub returns-in_err-used-clause-ends : goal.returns-in_err-used-clause-ends
+returns-in_err-used-clause-ends g c =
+    let p = err_from_is_err_and c.from_residual-in_err-used.result c.from_residual-in_err-used.ensures.1 in
+    rw (p.1, p.2) (λ e. absurd (writer_fault c.in_err-used.field-0.0 e))
+
+pub returns-in_err-last-clause-ends : goal.returns-in_err-last-clause-ends
+returns-in_err-last-clause-ends g c =
+    let p = err_from_is_err_and c.from_residual-in_err-last.result c.from_residual-in_err-last.ensures.1 in
+    rw (p.1, p.2) (λ e. absurd (writer_fault c.in_err-last.field-0.0 e))
+
+pub returns-in_err-more-clause-ends : goal.returns-in_err-more-clause-ends
+returns-in_err-more-clause-ends g c =
+    let p = err_from_is_err_and c.from_residual-in_err-more.result c.from_residual-in_err-more.ensures.1 in
+    rw (p.1, p.2) (λ e. absurd (writer_fault c.in_err-more.field-0.0 e))
+
+pub returns-in_err-row-clause-ends : goal.returns-in_err-row-clause-ends
+returns-in_err-row-clause-ends g c =
+    let now = c.next.follows.lender-at-none in
+    let back : c.conn-in_err-row-1.given.0 ≡ now.conn.now = search rules in
+    let moved = rw c.in_err-row.was at c.next.follows.holds-at-none in
+    rw back (λ e. inr (inl moved.ends))
+
+pub returns-in_default-entry_of-clause-ends : goal.returns-in_default-entry_of-clause-ends
+returns-in_default-entry_of-clause-ends g c =
+    let now = c.next.follows.lender-at-none in
+    let back : c.conn-in_default-entry_of-1.given.0 ≡ now.conn.now = search rules in
+    let moved = rw (c.in_ok-row.was, c.in-Some.is) at c.next.follows.holds-at-none in
+    let i = c.rows.invariant.walked in
+    let row = c.in-Some.row.now in
+    let on = walked_as g.S.Store entries_text (Int (pos c.args.file.now.crate_id) ∷ []) c.args.conn.now c.rows.rows now i.0 i.2 c.in-Some.row row refl moved in
+    let other = rw c.in_default-entry_of.is at c.entry_of.ensures in
+    rw back (λ e. inr (inr (i.0 ++ row ∷ [], on.given, inl (i.0, row, refl, other))))
+
+pub returns-clause-ends : goal.returns-clause-ends
+returns-clause-ends g c =
+    let back : c.conn-2-1.given.0 ≡ c.rows.rows.conn.now = search rules in
+    let i = c.rows.invariant.walked in
+    rw back (λ e. inr (inr (i.0, i.2.given, inr (omega (arith, i.1)))))

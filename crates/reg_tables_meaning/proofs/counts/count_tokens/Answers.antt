@@ -1,16 +1,11 @@
-use Rattle.std.proofs.Common.{◌∙◌}
+use Rattle.std.proofs.Common.{◌≡◌, ◌+◌, ℕ, length, arith}
 use Rattle.sqlite.specs.Held.{state}
-use Rattle.std.specs.List.{enumerate_from}
 use Rattle.reg_tables_meaning.specs.Stands.{row_of_token}
-use Rattle.reg_tables_meaning.proofs.CrateCounts.{count_is, entries_long}
-use Rattle.reg_tables_meaning.proofs.Readings.{same_whatever}
-use Rattle.reg_tables_meaning.proofs.Results.{if_ok}
+use Rattle.reg_tables_meaning.proofs.NextId.{next_id}
 use Rattle.reg_tables_meaning.proofs.counts.count_tokens.Goals as goal
 
 pub returns-clause-counted : goal.returns-clause-counted
-returns-clause-counted g c clean =
+returns-clause-counted g c clean ids s h =
     let db = (state g.S.Store c.args.conn.now).now.trees in
-    if_ok c.exact.result (λ n is ids s h. count_is row_of_token (enumerate_from 1 s.tokens) (db 3) n c.in_ok-n.n is h.stands.tokens.rows (c.in_ok-n.ensures.told clean) ∙ entries_long 1 s.tokens) c.exact.ensures
-
-pub returns-clause-same : goal.returns-clause-same
-returns-clause-same g c = same_whatever (state g.S.Store c.args.conn.now) (state g.S.Store c.count.new.conn) c.exact.result (λ clean. (c.in_ok-n.ensures.only clean).0) c.count.ensures.survives
+    let is : c.next.result ≡ 1 + length s.tokens = next_id row_of_token (λ e. refl) s.tokens (db 3) c.in_ok-last.last c.next.result h.stands.tokens.rows (c.in_ok-last.ensures.told clean) c.next.ensures.next in
+    omega (arith, is)
