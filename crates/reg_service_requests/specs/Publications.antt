@@ -1,13 +1,13 @@
 -- What publishing asks of the tables, and what it makes of the answers.
-use Rattle.std.specs.Prelude.{◌≡◌, ℕ, Bool, None, Some}
+use Rattle.std.specs.Prelude.{◌≡◌, ℕ, Bool, None, Some, length, nat_le}
 use Rattle.sqlite.specs.Tree.{Trees}
 use Rattle.reg_body.specs.declared.limits.Limits.{Limits}
-use Rattle.reg_model.specs.Crates.{first}
+use Rattle.reg_model.specs.Crates.{first, versions}
 use Rattle.reg_model.specs.Events.{action_of}
 use Rattle.reg_model.specs.Events.Asked.{Publish}
 use Rattle.reg_model.specs.Refusals.{denied}
 use Rattle.reg_model.specs.Registry.{Publication, Text}
-use Rattle.reg_tables_meaning.specs.Calls.{ReachesCrates, ReachesVersions, Tells}
+use Rattle.reg_tables_meaning.specs.Calls.{ReachesCrates, Tells}
 use Rattle.reg_tables_meaning.specs.Stands.{spelling_at}
 use Rattle.reg_service_requests.specs.Granted.{IsLet}
 use Rattle.reg_service_requests.specs.Named.{IsViewer}
@@ -28,7 +28,9 @@ TellsFull limits = ReachesCrates limits.crates
 
 -- whether the crate with this id has as many versions as it may have
 abbrev pub TellsFullOf : Limits → ℕ → Trees → Bool → Type 0
-TellsFullOf limits id db full = ReachesVersions id limits.versions db full
+TellsFullOf limits id db full = Tells
+    (λ ids s. (n : Text) → spelling_at ids id ≡ Some n
+    → full ≡ nat_le limits.versions (length (versions s n))) db
 
 -- a crate is made that this account owns, where nothing denies it
 abbrev pub MakesCrate : ℕ → Publication → Trees → Trees → Served → Type 0

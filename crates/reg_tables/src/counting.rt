@@ -1,7 +1,7 @@
 //! How much the registry has.
 
 ghost use Rattle.std.specs.Prelude.{length};
-ghost use Rattle.reg_tables_meaning.specs.Calls.{Counted, CountsAll, ReachesCrates, ReachesVersions};
+ghost use Rattle.reg_tables_meaning.specs.Calls.{Counted, CountsAll, ReachesCrates};
 ghost use Rattle.reg_tables.specs.Works.{Heard, IsAtWork, IsCall, Unmoved, rows_seen};
 
 use crate::work::{StoreFault, Work, call};
@@ -51,19 +51,5 @@ impl<S: Alter> Work<'_, S> {
         ensures leaves { IsCall S.Store result self.old self.new }
     {
         call!(self, counts::reaches_crates(&mut self.tables.conn, number))
-    }
-
-    /// Whether a crate that is there has at least this many versions.
-    pub fn reaches_versions(&mut self, crate_id: u32, number: u64) -> Result<bool, StoreFault>
-        requires { IsAtWork S.Store self.old }
-        ensures told { Heard S.Store self.new result
-            (ReachesVersions crate_id number (rows_seen S.Store self.old)) }
-        ensures same { Unmoved S.Store result self.old self.new }
-        ensures leaves { IsCall S.Store result self.old self.new }
-    {
-        call!(
-            self,
-            counts::reaches_versions(&mut self.tables.conn, crate_id, number)
-        )
     }
 }

@@ -29,14 +29,10 @@ use Rattle.reg_tables_meaning.proofs.Rising.{next_as}
 use Rattle.reg_tables_meaning.proofs.VersionEntries.{less_is}
 use Rattle.reg_model.proofs.Members.{any_in, in_any, none_in, all_in, each_in}
 
--- what is below SQL's greatest count is the count
-pub exact_is : (rows : List Row) (n m : ℕ) → (n ≡ m) × (n < 9223372036854775807) → Int (pos m) ≡ capped (length rows) → n ≡ length rows
-exact_is rows n m is e =
-    let many : m ≡ min (length rows) 9223372036854775807 = number_is e in
-    omega (arith, is.0, is.1, many)
-
 pub count_is : {X : Type 0} (row : X → Row) (xs : List X) (rows : List Row) (n m : ℕ) → (n ≡ m) × (n < 9223372036854775807) → IsPermutation (map row xs) rows → Int (pos m) ≡ capped (length rows) → n ≡ length xs
-count_is row xs rows n m is h e = exact_is rows n m is e ∙ length_permutation (map row xs) rows h ∙ length-map xs row
+count_is row xs rows n m is h e =
+    let many : m ≡ min (length xs) 9223372036854775807 = number_is e ∙ ap (λ k. min k 9223372036854775807) (length_permutation (map row xs) rows h ∙ length-map xs row) in
+    omega (arith, is.0, is.1, many)
 
 -- ids that rise are fewer than the next one, or as many
 rise_below : (n : ℕ) (ns : List ℕ) → IsStrictlySortedBy nat_cmp (n ∷ ns) → (n + 1) + length ns ≤ next_of (n ∷ ns)

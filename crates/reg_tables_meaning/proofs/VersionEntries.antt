@@ -2,15 +2,13 @@
 use Rattle.reg_names.specs.Names.{canon}
 use Rattle.sqlite.specs.Order.{Row}
 use Rattle.reg_tables_meaning.specs.Changes.{told_of}
-use Rattle.std.proofs.Common.{None, Some, Option, ◌≡◌, ◌==◌, inl, inr, ℕ, ◌<◌, List, [], ◌∷◌, map, length, Bool, true, false, nat_lt, Less, Equal, Greater, refl, sym, ap, subst, ◌∙◌, arith, Option, Some}
+use Rattle.std.proofs.Common.{None, Some, Option, ◌≡◌, ◌==◌, inl, inr, ℕ, ◌<◌, List, [], ◌∷◌, map, Bool, true, false, nat_lt, Less, Equal, Greater, refl, sym, ap, subst, ◌∙◌, arith, Option, Some}
 use Rattle.std.specs.FinSet as finset
 use Rattle.std.specs.Cmp.{nat_cmp_is}
 use Rattle.std.specs.List.{filter}
 use Rattle.std.specs.List.Sorted.{IsPermutation, IsStrictlySortedBy}
 use Rattle.std.specs.Ordering.{nat_cmp}
 use Rattle.std.proofs.lemmas.Bool.{ltb-true, ltb-false}
-use Rattle.std.proofs.lemmas.List.{length-map}
-use Rattle.std.proofs.lemmas.List.Sorted.{length_permutation}
 use Rattle.sqlite.specs.declared.types.Value.TheVariants.{Blob}
 use Rattle.sqlite.specs.Tree.{Trees}
 use Rattle.sqlite_trees.specs.Tree.{IsAscending}
@@ -78,24 +76,11 @@ module _ (yanked : finset.FinSet mark_cmp) where
 
 module _ (ids : Ids) (ps : List Publication) (yanked : finset.FinSet mark_cmp) (db : Trees) (h : StandCrates ids ps yanked db) where
   -- the rows of the versions of the crate with this id
-  its_rows : (id : ℕ) → IsPermutation (map (row_of_version yanked) (filter (λ v. v.of_crate == id) ids.versions)) (filter (is_number 2 id) (db 11))
+  pub its_rows : (id : ℕ) → IsPermutation (map (row_of_version yanked) (filter (λ v. v.of_crate == id) ids.versions)) (filter (is_number 2 id) (db 11))
   its_rows id =
       let row = row_of_version yanked in
       subst (λ ys. IsPermutation ys (filter (is_number 2 id) (db 11))) (filter_map row (is_number 2 id) ids.versions ∙ ap (map row) (same_filter _ _ (λ v. same_number v.of_crate id) ids.versions))
       (IsPermutation-filter (is_number 2 id) (map row ids.versions) (db 11) h.version_rows)
-
-  -- the publications of the crate with this id
-  its_publications : (id : ℕ) (name : Words) → IsIn (id, name) ids.crates → map (λ v. v.publication) (filter (λ v. v.of_crate == id) ids.versions) ≡ filter (λ p. collides p.name name) ps
-  its_publications id name there =
-      ap (map (λ v. v.publication)) (same_passes _ (λ v. collides v.publication.name name) ids.versions (same_crate ids ps yanked db h id name there))
-      ∙ sym (filter_map (λ v. v.publication) (λ p. collides p.name name) ids.versions) ∙ ap (filter (λ p. collides p.name name)) h.published
-
-  -- how many they are
-  pub counted : (id : ℕ) (name : Words) → spelling_at ids id ≡ Some name → length (filter (is_number 2 id) (db 11)) ≡ length (filter (λ p. collides p.name name) ps)
-  counted id name at =
-      let its = filter (λ v. v.of_crate == id) ids.versions in
-      length_permutation (map (row_of_version yanked) its) (filter (is_number 2 id) (db 11)) (its_rows id) ∙ length-map its (row_of_version yanked)
-      ∙ sym (length-map its (λ v. v.publication)) ∙ ap length (its_publications id name (there_at ids id name at))
 
   shown_versions : (id : ℕ) (list : List Version) → IsInOrder (by_column 0) (filter (is_number 2 id) (db 11)) (shows shown_places) (map columns_of_version list)
       → map shown_version list ≡ map (λ v. version_shown yanked v.publication) (filter (λ v. v.of_crate == id) ids.versions)

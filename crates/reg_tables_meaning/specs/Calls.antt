@@ -217,15 +217,6 @@ Counted number db n = Tells (λ ids s. n ≡ number s) db
 abbrev pub ReachesCrates : ℕ → Trees → Bool → Type 0
 ReachesCrates number db is = Tells (λ ids s. is ≡ nat_le number (model.crates s)) db
 
--- how many versions the crate with this id has, and whether they are as many as this
-abbrev pub CountsVersions : ℕ → Trees → ℕ → Type 0
-CountsVersions id db n = Tells (λ ids s. (name : Text) → spelling_at ids id ≡ Some name
-    → n ≡ length (versions s name)) db
-
-abbrev pub ReachesVersions : ℕ → ℕ → Trees → Bool → Type 0
-ReachesVersions id number db is = Tells (λ ids s. (name : Text) → spelling_at ids id ≡ Some name
-    → is ≡ nat_le number (length (versions s name))) db
-
 abbrev pub CountsAll : Trees → Counts → Type 0
 CountsAll db n = Tells
     (λ ids s. (n.accounts ≡ length s.accounts) × (n.tokens ≡ length s.tokens)

@@ -6,11 +6,11 @@ ghost use Rattle.reg_tables_schema.specs.Rows.{greatest_number};
 ghost use Rattle.reg_tables_schema.specs.States.{IsReady};
 ghost use Rattle.reg_tables_schema.specs.Statements.{rows_in};
 ghost use Rattle.reg_tables_schema.specs.Steps.{KeepsAll, Told};
-ghost use Rattle.reg_tables_meaning.specs.Calls.{Counted, CountsAll, CountsVersions, ReachesCrates, ReachesVersions};
+ghost use Rattle.reg_tables_meaning.specs.Calls.{Counted, CountsAll, ReachesCrates};
 ghost use Rattle.reg_tables_meaning.specs.Ids.{IsNext};
 ghost use Rattle.reg_model.specs.Crates.{crates};
 
-use reg_tables_sql::{accounts, crates, tokens, versions};
+use reg_tables_sql::{accounts, crates, tokens};
 use sqlite::{Alter, Connection, Error};
 
 /// Numbers of accounts, tokens and crates.
@@ -87,31 +87,6 @@ pub fn reaches_crates<S: Alter>(conn: &mut Connection<S>, number: u64) -> Result
         return Ok(false);
     }
     let n = count_crates(conn)?;
-    Ok(number <= n)
-}
-
-fn count_versions<S: Alter>(conn: &mut Connection<S>, crate_id: u32) -> Result<u64, Error>
-    requires { IsReady (state S.Store conn.old) }
-    ensures counted { Told S.Store conn.new result
-        (CountsVersions crate_id (rows_in S.Store conn.old)) }
-    ensures same { KeepsAll S.Store conn.old conn.new result }
-{
-    let n = versions::count_of(conn, crate_id)?;
-    exact(n)
-}
-
-/// Whether a crate that is there has at least this many versions.
-pub fn reaches_versions<S: Alter>(
-    conn: &mut Connection<S>,
-    crate_id: u32,
-    number: u64,
-) -> Result<bool, Error>
-    requires { IsReady (state S.Store conn.old) }
-    ensures told { Told S.Store conn.new result
-        (ReachesVersions crate_id number (rows_in S.Store conn.old)) }
-    ensures same { KeepsAll S.Store conn.old conn.new result }
-{
-    let n = count_versions(conn, crate_id)?;
     Ok(number <= n)
 }
 

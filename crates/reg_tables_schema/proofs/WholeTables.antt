@@ -39,7 +39,7 @@ module _ (db : Trees) (params : Row) (tree : ℕ) (project : List Term) (rows : 
       let number = ap length (matches_all db params tree) ∙ length-map (db tree) (λ (r : Row). params ∷ r ∷ []) in
       counts db params (inner tree end) [] rows h ∙ ap (λ n. (capped n ∷ []) ∷ []) number
 
-pub one_number : (n : ℕ) (v : Value) → ◌≡◌ {A = List Row} (number_columns n ∷ []) ((v ∷ []) ∷ []) → Int (pos n) ≡ v
+one_number : (n : ℕ) (v : Value) → ◌≡◌ {A = List Row} (number_columns n ∷ []) ((v ∷ []) ∷ []) → Int (pos n) ≡ v
 one_number n v e = cc
 
 -- count(*) as a number

@@ -21,7 +21,6 @@ mod SummaryTexts
 mod TokenQueries
 mod TokenTexts
 mod Updates
-mod VersionCounts
 mod VersionMarkQueries
 mod VersionQueries
 mod VersionRows

@@ -10,7 +10,7 @@ ghost use Rattle.reg_tables_schema.specs.Places.{versions_tree};
 ghost use Rattle.reg_tables_schema.specs.Rows.{mark};
 ghost use Rattle.reg_tables_schema.specs.States.{IsReady};
 ghost use Rattle.reg_tables_schema.specs.Statements.{Reads, Writes, rows_in};
-ghost use Rattle.reg_tables_sql.specs.Counts.{IsCountOf, IsLastId};
+ghost use Rattle.reg_tables_sql.specs.Counts.{IsLastId};
 ghost use Rattle.reg_tables_sql.specs.Rowids.{AreRowids};
 ghost use Rattle.reg_tables_sql.specs.Stems.{AreEntriesOf, columns_of_stem};
 ghost use Rattle.reg_tables_sql.specs.VersionMarks.{AreMarksOf, columns_of_mark};
@@ -18,7 +18,7 @@ ghost use Rattle.reg_tables_sql.specs.Versions.{AreVersions, AreVersionsOf, Mark
 
 use crate::marks::mark_of;
 use crate::records::FromRow;
-use crate::statements::{select_here, select_list, select_one, select_only, write};
+use crate::statements::{select_here, select_list, select_one, write};
 use sqlite::{Alter, Connection, Error, Row, params};
 use std::alloc::Global;
 
@@ -248,18 +248,5 @@ pub fn last_id<S: Alter>(conn: &mut Connection<S>) -> Result<Option<u64>, Error>
         conn,
         "SELECT id FROM versions ORDER BY id DESC LIMIT 1",
         &[],
-    )
-}
-
-/// How many versions a crate has, up to SQL's greatest count.
-pub fn count_of<S: Alter>(conn: &mut Connection<S>, crate_id: u32) -> Result<u64, Error>
-    requires { IsReady (state S.Store conn.old) }
-    ensures { Reads S.Store conn.old conn.new result
-        (IsCountOf crate_id (rows_in S.Store conn.old)) }
-{
-    select_only::<u64, S>(
-        conn,
-        "SELECT count(*) FROM versions WHERE crate = ?1",
-        params![crate_id],
     )
 }
