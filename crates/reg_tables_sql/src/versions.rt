@@ -1,6 +1,6 @@
 //! The table of versions, one statement per function.
 
-ghost use Rattle.std.specs.Prelude.{◌≡◌, ◌<◌, ◌^◌, ◌∷◌, [], false, pos, IfOk};
+ghost use Rattle.std.specs.Prelude.{◌≡◌, ◌<◌, ◌^◌, ◌∷◌, [], false, pos, IfOk, OnOk};
 ghost use Rattle.std.specs.Option.{option_map};
 ghost use Rattle.sqlite.specs.Held.{state};
 ghost use Rattle.sqlite.specs.Order.{column};
@@ -13,7 +13,7 @@ ghost use Rattle.reg_tables_schema.specs.Statements.{Reads, Writes, rows_in};
 ghost use Rattle.reg_tables_sql.specs.Counts.{IsLastId};
 ghost use Rattle.reg_tables_sql.specs.Rowids.{AreRowids};
 ghost use Rattle.reg_tables_sql.specs.Stems.{AreEntriesOf, columns_of_stem};
-ghost use Rattle.reg_tables_sql.specs.VersionMarks.{AreMarksOf, columns_of_mark};
+ghost use Rattle.reg_tables_sql.specs.VersionMarks.{AreMarksOf, IsMarkOf, IsMarkWithId, columns_of_mark};
 ghost use Rattle.reg_tables_sql.specs.Versions.{AreVersions, AreVersionsOf, MarksYanked, columns_of_version, version_row};
 
 use crate::marks::mark_of;
@@ -235,6 +235,48 @@ pub fn marks_of<S: Alter>(
         conn,
         "SELECT id, vers, length(stem), yanked FROM versions WHERE crate = ?1 ORDER BY id",
         params![crate_id],
+    )
+}
+
+fn check_id(id: u64) -> Result<(), Error>
+    ensures { OnOk result (id < 2 ^ 63) }
+{
+    if id > i64::MAX as u64 {
+        return Err(Error::InvalidQuery);
+    }
+    Ok(())
+}
+
+/// The mark of the version with this id, if there is one. SQL keeps ids below 2^63.
+pub fn mark_by_id<S: Alter>(conn: &mut Connection<S>, id: u64) -> Result<Option<VersionMark>, Error>
+    requires { IsReady (state S.Store conn.old) }
+    ensures { Reads S.Store conn.old conn.new result
+        (IsMarkWithId id (rows_in S.Store conn.old)) }
+{
+    check_id(id)?;
+    select_one(
+        conn,
+        "SELECT id, vers, length(stem), yanked FROM versions WHERE id = ?1",
+        params![id as i64],
+    )
+}
+
+/// The mark of a version of a crate, by its release and its text.
+pub fn mark_by_text<S: Alter>(
+    conn: &mut Connection<S>,
+    crate_id: u32,
+    release: &str,
+    vers: &str,
+) -> Result<Option<VersionMark>, Error>
+    requires { IsReady (state S.Store conn.old) }
+    ensures { Reads S.Store conn.old conn.new result
+        (IsMarkOf crate_id release.now vers.now (rows_in S.Store conn.old)) }
+{
+    select_one(
+        conn,
+        "SELECT id, vers, length(stem), yanked FROM versions WHERE crate = ?1 AND release = ?2 \
+        AND vers = ?3",
+        params![crate_id, release, vers],
     )
 }
 

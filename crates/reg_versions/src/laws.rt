@@ -17,7 +17,9 @@ pub fn versions_are_the_grammar(text: &str)
 
 /// The place of the top, found by going through the list, is the defined one.
 pub fn top_law()
-    ensures { (l : List Marked) (i : ℕ) → (top_place l ≡ Some i) ↔ IsTop l i }
+    ensures place { (l : List Marked) (i : ℕ) → (top_place l ≡ Some i) ↔ IsTop l i }
+    ensures there { (x : Marked) (l : List Marked) → (i : ℕ) × IsTop (x ∷ l) i }
+    ensures alone { (x : Marked) → IsTop (x ∷ []) 0 }
 {}
 
 /// The top of a list with one more release is the old top or the new one, by these two alone.
