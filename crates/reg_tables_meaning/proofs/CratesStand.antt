@@ -6,6 +6,7 @@ use Rattle.reg_tables_meaning.specs.Changes.{next_crate, ids_with_crate, ids_wit
 use Rattle.std.proofs.Common.{◌≢◌, refl, sym, ◌≡◌, ℕ, List, [], ◌∷◌, ◌++◌, map, Bool, true, false, cond, Option, ap, subst, ◌∙◌, Some, sym, None}
 use Rattle.std.specs.Prelude.{drop}
 use Rattle.std.specs.List.{filter}
+use Rattle.std.specs.List.Sorted.{IsPermutation}
 use Rattle.std.specs.FinSet as finset
 use Rattle.std.specs.Str.{bytes_eq}
 use Rattle.sqlite.specs.State.{State}
@@ -20,13 +21,13 @@ use Rattle.reg_model.proofs.Lists.{none_both, not_true, true_not_false}
 use Rattle.reg_tables_meaning.specs.Additions.{KeepsAllBut, AddsCrate, AddsVersion}
 use Rattle.reg_tables_sql.specs.Versions.{version_row, MarksYanked}
 use Rattle.reg_tables_schema.specs.Tests.{is_version}
-use Rattle.reg_tables_meaning.specs.Stands.{StandCrates, Ids, StandsBy, Holds, StandPairs, spelling_at, StandMarked}
-use Rattle.reg_tables_meaning.proofs.CrateChanges.{adds_version, adds_crate, id_is, first_pair, unpaired, unmarked_crate}
+use Rattle.reg_tables_meaning.specs.Stands.{StandCrates, Ids, StandsBy, Holds, StandPairs, spelling_at, StandMarked, row_of_version}
+use Rattle.reg_tables_meaning.proofs.CrateChanges.{adds_version, adds_crate, id_is, next_id_of, first_pair, unpaired, unmarked_crate}
 use Rattle.reg_tables_meaning.proofs.CrateLemmas.{there_at}
 use Rattle.reg_tables_meaning.proofs.Stays.{accounts_stay, tokens_stay, reserved_stay, same_crates, same_archives, pairs_stay, crates_stay, marked_stay, summaries_stay, same_about, same_accounts, same_tokens, same_scopes, same_owners, same_versions, same_reserved, same_summaries, same_restricted, same_readers}
 use Rattle.reg_tables_meaning.proofs.SummaryChanges.{summaries_first, summaries_marked, summaries_next, summaries_same}
 use Rattle.reg_tables_meaning.specs.Summaries.{StandSummaries}
-use Rattle.reg_tables_meaning.specs.SummaryChanges.{AddsSummary, IsNewRow, RenewsSummary}
+use Rattle.reg_tables_meaning.specs.SummaryChanges.{AddsSummary, PushesSummary, RenewsSummary}
 use Rattle.reg_tables_meaning.proofs.Yanks.{marks, target, row_found, yanks, no_such_version, no_version}
 
 -- the tables that are not of crates have the rows that they had
@@ -112,9 +113,9 @@ module _ (old new : Trees) (others : KeepsOthers 16 old new) where
 unmarked : (s : Registry) (p : Publication) → Sound s → has_version s (canon p.name) p.version ≡ false → finset.contains s.yanked (canon p.name, p.version) ≡ false
 unmarked s p sound fresh = not_true _ (λ h. true_not_false (has_version s (canon p.name) p.version) (sound.yanked (canon p.name) p.version h) fresh)
 
-pub adds_first : (ids : Ids) (s : Registry) (id owner : ℕ) (p : Publication) (old mid new last : Trees) → Holds ids s old → exists s p.name ≡ false → AddsCrate id p.name owner old mid → AddsVersion id p mid new → AddsSummary id new last
+pub adds_first : (ids : Ids) (s : Registry) (id owner key : ℕ) (p : Publication) (old mid new last : Trees) → Holds ids s old → exists s p.name ≡ false → AddsCrate id p.name owner old mid → AddsVersion key id p mid new → AddsSummary id key new last
     → (id ≡ next_crate ids) × StandsBy (ids_with_crate p ids) (record s { publications = s.publications ++ p ∷ []; owners = finset.insert s.owners (canon p.name, owner) }) last
-adds_first ids s id owner p old mid new last h fresh crate version summary =
+adds_first ids s id owner key p old mid new last h fresh crate version summary =
     let stands = h.stands in
     let new_version = none_both (λ q. bytes_eq (canon q.name) (canon p.name)) (λ q. bytes_eq q.version p.version) s.publications fresh in
     let unowned : (account : ℕ) → finset.contains s.owners (canon p.name, account) ≡ false = λ account. not_true _ (λ i. true_not_false (exists s p.name) (h.sound.owners (canon p.name) account i).0 fresh) in
@@ -125,7 +126,7 @@ adds_first ids s id owner p old mid new last h fresh crate version summary =
     let same_owners : new 9 ≡ mid 9 = version.others.1.1.1.1.1.0 (λ e. cc) (λ e. cc) in
     let is = id_is ids s.publications s.yanked old mid new stands.crates id owner p crate fresh in
     let unread : (account : ℕ) → finset.contains s.readers (canon p.name, account) ≡ false = λ account. not_true _ (λ i. true_not_false (exists s p.name) (h.sound.readers (canon p.name) account i).0 fresh) in
-    let crates = adds_crate ids s.publications s.yanked old mid new stands.crates id owner p crate fresh (unmarked s p h.sound new_version) same_versions same_archives same_crates version in
+    let crates = adds_crate ids s.publications s.yanked old mid new stands.crates id owner p crate fresh key (unmarked s p h.sound new_version) same_versions same_archives same_crates version in
     let pairs = first_pair ids s.publications s.yanked old mid new stands.crates id owner p crate fresh s.owners (old 9) stands.owners unowned crate.rowid crate.free in
     let owned = subst (StandPairs (ids_with_crate p ids).crates (finset.insert s.owners (canon p.name, owner))) (sym (still_owners new last summary.others ∙ same_owners ∙ crate.owners)) (subst (λ n. StandPairs (ids.crates ++ (n, p.name) ∷ []) (finset.insert s.owners (canon p.name, owner)) (put_row (Int crate.rowid ∷ owner_columns id owner) (old 9))) is pairs) in
     let no_reader = unpaired ids s.publications s.yanked old mid new stands.crates id owner p crate fresh s.readers (old 18) stands.readers unread in
@@ -135,13 +136,13 @@ adds_first ids s id owner p old mid new last h fresh crate version summary =
     let marked = subst (λ n. StandMarked (ids.crates ++ (n, p.name) ∷ []) s.restricted (last 17)) is (marked_stay (ids.crates ++ (id, p.name) ∷ []) s.restricted (old 17) (last 17) rest.restricted not_marked) in
     let kept : new 16 ≡ old 16 = version.others.1.1.1.1.1.1.1.1.1.0 (λ e. cc) (λ e. cc) ∙ crate.others.1.1.1.1.1.1.1.1.1.0 (λ e. cc) (λ e. cc) in
     let before = summaries_stay ids s.yanked (old 16) (new 16) kept stands.summaries in
-    let row = subst (λ (n : ℕ). IsNewRow n (new 16) (last 16) (ids_with_crate p ids) s.yanked) is (summary.row (ids_with_crate p ids) _ s.yanked crates) in
-    let summaries = summaries_first ids s.publications s.yanked old stands.crates (new 16) (last 16) before p row in
+    let next = next_id_of ids s.yanked key id p mid new version (subst (IsPermutation (map (row_of_version s.yanked) ids.versions)) (sym same_versions) stands.crates.version_rows) in
+    let summaries = summaries_first ids s.publications _ s.yanked old new last stands.crates p crates before key next (subst (λ n. AddsSummary n key new last) is summary) in
     (is, with_crates ids (ids_with_crate p ids) s _ s.yanked _ old last rest stands (still_crates new last summary.others _ _ _ crates) owned read marked summaries)
 
-pub adds_next : (ids : Ids) (s : Registry) (id : ℕ) (p : Publication) (old new last : Trees) → Holds ids s old → spelling_at ids id ≡ Some p.name → has_version s (canon p.name) p.version ≡ false → AddsVersion id p old new → RenewsSummary id new last
+pub adds_next : (ids : Ids) (s : Registry) (id key : ℕ) (p : Publication) (old new last : Trees) → Holds ids s old → spelling_at ids id ≡ Some p.name → has_version s (canon p.name) p.version ≡ false → AddsVersion key id p old new → PushesSummary id key new last
     → StandsBy (ids_with_version id p ids) (record s { publications = s.publications ++ p ∷ [] }) last
-adds_next ids s id p old new last h at fresh version summary =
+adds_next ids s id key p old new last h at fresh version summary =
     let there = there_at ids id p.name at in
     let stands = h.stands in
     let after = ids_with_version id p ids in
@@ -152,9 +153,10 @@ adds_next ids s id p old new last h at fresh version summary =
     let rest = rest_then old new last (rest_of_version old new version.others) (rest_of_summary new last summary.others) in
     let readers = pairs_stay ids.crates s.readers (old 18) (last 18) rest.readers stands.readers in
     let restricted = marked_stay ids.crates s.restricted (old 17) (last 17) rest.restricted stands.restricted in
-    let crates = adds_version ids s.publications s.yanked old new stands.crates id p there (unmarked s p h.sound fresh) same_crates version in
+    let crates = adds_version ids s.publications s.yanked old new stands.crates key id p there (unmarked s p h.sound fresh) same_crates version in
     let before = summaries_stay ids s.yanked (old 16) (new 16) kept stands.summaries in
-    let summaries = summaries_next ids s.publications s.yanked old stands.crates (new 16) (last 16) before id p (summary.row after _ s.yanked crates) in
+    let next = next_id_of ids s.yanked key id p old new version stands.crates.version_rows in
+    let summaries = summaries_next ids s.publications _ s.yanked old new last stands.crates id p crates there before key next summary in
     with_crates ids after s _ s.yanked s.owners old last rest stands (still_crates new last summary.others _ _ _ crates) pairs readers restricted summaries
 
 -- what an update of the mark says, of the version that alone has the release and the text

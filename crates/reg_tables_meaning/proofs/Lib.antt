@@ -33,6 +33,7 @@ pub mod Standing
 pub mod SummaryRows
 pub mod SummaryLaws
 mod SummaryFound
+mod SummaryPushed
 mod SummarySteps
 mod SummaryChanges
 mod SummaryTops

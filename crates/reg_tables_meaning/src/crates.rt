@@ -65,10 +65,10 @@ fn insert_version<S: Alter>(
     conn: &mut Connection<S>,
     crate_id: u32,
     version: &NewVersion<'_>,
-) -> Result<(), Error>
+) -> Result<u64, Error>
     requires { IsReady (state S.Store conn.old) }
-    ensures added { Done S.Store conn.new result ((name : _)
-        → AddsVersion crate_id (published name version.now)
+    ensures added { Told S.Store conn.new result (λ id. (name : _)
+        → AddsVersion id crate_id (published name version.now)
         (rows_in S.Store conn.old) (rows_in S.Store conn.new)) }
     ensures leaves { Steps S.Store conn.old conn.new result }
 {
@@ -86,7 +86,7 @@ fn insert_version<S: Alter>(
         version.description,
     )?;
     archives::insert(conn, id, version.archive)?;
-    Ok(())
+    Ok(id)
 }
 
 /// Adds a crate with its first version and its owner, and returns its id.
@@ -104,8 +104,8 @@ pub fn add_new<S: Alter>(
     ensures leaves { Steps S.Store conn.old conn.new result }
 {
     let id = insert_crate(conn, name, owner)?;
-    insert_version(conn, id, version)?;
-    summaries::insert(conn, id)?;
+    let first = insert_version(conn, id, version)?;
+    summaries::insert(conn, id, first)?;
     Ok(id)
 }
 
@@ -120,8 +120,8 @@ pub fn add_next<S: Alter>(
         (AddsNext crate_id version.now (rows_in S.Store conn.old) (rows_in S.Store conn.new)) }
     ensures leaves { Steps S.Store conn.old conn.new result }
 {
-    insert_version(conn, crate_id, version)?;
-    summaries::renew(conn, crate_id)?;
+    let id = insert_version(conn, crate_id, version)?;
+    summaries::push(conn, crate_id, id)?;
     Ok(())
 }
 

@@ -1,6 +1,7 @@
 //! The kept summaries of crates: the highest version of each, and its index file's length.
 //!
-//! A summary is rebuilt from the rows of its crate's versions after each change to them.
+//! A publish looks at no other version than the highest; a yank makes the summary from all versions
+//! of its crate.
 
 ghost use Rattle.std.specs.Prelude.{◌≡◌, ◌+◌, [], IfOk, IsTrue, map, slice_get, unwrap_or};
 ghost use Rattle.std.specs.Option.{option_map};
@@ -9,13 +10,13 @@ ghost use Rattle.reg_tables_schema.specs.States.{IsReady};
 ghost use Rattle.reg_tables_schema.specs.Statements.{rows_in};
 ghost use Rattle.reg_tables_schema.specs.Steps.{Done, KeepsAll, Steps, Told};
 ghost use Rattle.reg_tables_meaning.specs.Calls.{FindsSummary};
-ghost use Rattle.reg_tables_meaning.specs.Summaries.{highest_in, length_in, line_length, read_mark, shown_mark};
-ghost use Rattle.reg_tables_meaning.specs.SummaryChanges.{AddsSummary, AreNumbers, RenewsSummary};
+ghost use Rattle.reg_tables_meaning.specs.Summaries.{higher_of, highest_in, length_in, line_length, read_mark, shown_mark};
+ghost use Rattle.reg_tables_meaning.specs.SummaryChanges.{AddsSummary, AreNumbers, ArePushed, IsKept, IsVersionAt, PushesSummary, RenewsSummary};
 
 use reg_line::line_len;
 use reg_tables_sql::summaries::{self, Summary};
 use reg_tables_sql::versions::{self, VersionMark};
-use reg_versions::{Release, VersionFault, highest};
+use reg_versions::{Release, VersionFault, highest, takes_over};
 use sqlite::{Alter, Connection, Error};
 use std::alloc::{AllocError, Global};
 
@@ -116,15 +117,88 @@ fn numbers_of<S: Alter>(conn: &mut Connection<S>, crate_id: u32) -> Result<Numbe
     Ok(numbers)
 }
 
-/// Adds the summary of a crate that has none.
-pub(crate) fn insert<S: Alter>(conn: &mut Connection<S>, crate_id: u32) -> Result<(), Error>
+/// The summary of a crate that has one.
+fn kept<S: Alter>(conn: &mut Connection<S>, crate_id: u32) -> Result<Summary, Error>
+    requires { IsReady (state S.Store conn.old) }
+    ensures told { Told S.Store conn.new result (IsKept crate_id (rows_in S.Store conn.old)) }
+    ensures same { KeepsAll S.Store conn.old conn.new result }
+{
+    let found = summaries::of_crate(conn, crate_id)?;
+    found.ok_or(Error::InvalidQuery)
+}
+
+/// The version with this id.
+fn version_at<S: Alter>(conn: &mut Connection<S>, id: u64) -> Result<VersionMark, Error>
+    requires { IsReady (state S.Store conn.old) }
+    ensures told { Told S.Store conn.new result (IsVersionAt id (rows_in S.Store conn.old)) }
+    ensures same { KeepsAll S.Store conn.old conn.new result }
+{
+    let found = versions::mark_by_id(conn, id)?;
+    found.ok_or(Error::InvalidQuery)
+}
+
+/// The id of the higher of two versions, of which the second follows the first.
+fn higher(one: &VersionMark, next: &VersionMark) -> Result<u64, Error>
+    ensures { IfOk result (λ id. id ≡ (higher_of (shown_mark one.now) (shown_mark next.now)).id) }
+{
+    let alloc = *one.vers.allocator();
+    let first = read(alloc, one)?;
+    let second = read(alloc, next)?;
+    if takes_over(&first, &second) {
+        Ok(next.id)
+    } else {
+        Ok(one.id)
+    }
+}
+
+/// What the summary of a crate says once it counts one more version, the last one.
+fn pushed<S: Alter>(conn: &mut Connection<S>, crate_id: u32, version: u64) -> Result<Numbers, Error>
+    requires { IsReady (state S.Store conn.old) }
+    ensures told { Told S.Store conn.new result
+        (λ n. ArePushed crate_id version (rows_in S.Store conn.old) n.highest n.index_length) }
+    ensures same { KeepsAll S.Store conn.old conn.new result }
+{
+    let kept = kept(conn, crate_id)?;
+    let top = version_at(conn, kept.highest)?;
+    let next = version_at(conn, version)?;
+    let highest = higher(&top, &next)?;
+    let index_length = with_line(kept.index_length, &next)?;
+    Ok(Numbers {
+        highest,
+        index_length,
+    })
+}
+
+/// Adds the summary of a crate that has only this version.
+pub(crate) fn insert<S: Alter>(
+    conn: &mut Connection<S>,
+    crate_id: u32,
+    version: u64,
+) -> Result<(), Error>
     requires { IsReady (state S.Store conn.old) }
     ensures added { Done S.Store conn.new result
-        (AddsSummary crate_id (rows_in S.Store conn.old) (rows_in S.Store conn.new)) }
+        (AddsSummary crate_id version (rows_in S.Store conn.old) (rows_in S.Store conn.new)) }
     ensures leaves { Steps S.Store conn.old conn.new result }
 {
-    let numbers = numbers_of(conn, crate_id)?;
-    summaries::insert(conn, crate_id, numbers.highest, numbers.index_length)?;
+    let only = version_at(conn, version)?;
+    let index_length = with_line(0, &only)?;
+    summaries::insert(conn, crate_id, version, index_length)?;
+    Ok(())
+}
+
+/// Updates the summary of a crate to one more version, the last one.
+pub(crate) fn push<S: Alter>(
+    conn: &mut Connection<S>,
+    crate_id: u32,
+    version: u64,
+) -> Result<(), Error>
+    requires { IsReady (state S.Store conn.old) }
+    ensures pushed { Done S.Store conn.new result
+        (PushesSummary crate_id version (rows_in S.Store conn.old) (rows_in S.Store conn.new)) }
+    ensures leaves { Steps S.Store conn.old conn.new result }
+{
+    let numbers = pushed(conn, crate_id, version)?;
+    summaries::update(conn, crate_id, numbers.highest, numbers.index_length)?;
     Ok(())
 }
 
