@@ -3,7 +3,7 @@ use Rattle.std.proofs.Common.{◌≡◌, ◌==◌, ◌+◌, ◌≤◌, ℕ, pos,
 use Rattle.std.specs.Prelude.{nat_eq, drop}
 use Rattle.std.specs.FinSet as finset
 use Rattle.std.specs.Cmp.{nat_eq_equiv}
-use Rattle.std.specs.List.{filter, list_any}
+use Rattle.std.specs.List.{filter}
 use Rattle.std.specs.List.Sorted.{IsPermutation, IsStrictlySortedBy}
 use Rattle.std.specs.Ordering.{nat_cmp, on}
 use Rattle.std.proofs.lemmas.Bool.{eq-eqb, eqb-true}
@@ -18,22 +18,22 @@ use Rattle.sqlite_trees.proofs.ListLemmas.{IsPermutation-filter}
 use Rattle.reg_model.specs.Crates.{collides}
 use Rattle.reg_model.specs.Registry.{Publication, Text, mark_cmp}
 use Rattle.reg_model.proofs.Lists.{not_true, true_not_false}
-use Rattle.reg_model.proofs.Members.{IsIn, any_in, filtered_passes, in_any, in_filter, in_last, in_map, in_more, map_same, none_pass, one_passes}
+use Rattle.reg_model.proofs.Members.{IsIn, filtered_passes, in_filter, in_last, in_map, in_more, map_same, none_pass, one_passes}
 use Rattle.reg_names.specs.Names.{canon}
 use Rattle.reg_tables_schema.proofs.Permutes.{filter_map, free_without, one_row, put_permutes}
 use Rattle.reg_tables_schema.proofs.Queries.{same_filter}
 use Rattle.reg_tables_meaning.proofs.CrateLemmas.{above_other, apart_by, bytes_same, crate_of, pushed, same_crate, version_of}
 use Rattle.reg_tables_meaning.proofs.CrateNames.{kept}
 use Rattle.reg_tables_meaning.proofs.Rising.{reaches}
-use Rattle.reg_tables_meaning.proofs.Standing.{none_row, same_number}
+use Rattle.reg_tables_meaning.proofs.Standing.{same_number}
 use Rattle.reg_tables_meaning.proofs.SummaryPushed.{IsTopOf, id_found, in_at, length_pushed, only_top, some_top, top_pushed_by}
 use Rattle.reg_tables_meaning.proofs.SummaryRows.{same_row, version_at}
 use Rattle.reg_tables_meaning.proofs.Yanks.{mark_of_other, marks}
 use Rattle.reg_tables_meaning.specs.Changes.{ids_with_crate, ids_with_version, next_crate, next_version}
 use Rattle.reg_tables_meaning.specs.Stands.{StandCrates}
 use Rattle.reg_tables_meaning.specs.Stored.{Ids, StoredCrate, StoredVersion}
-use Rattle.reg_tables_meaning.specs.Summaries.{StandSummaries, higher_of, id_among, its_versions, length_among, line_length, mark_shown, row_among, row_of_summary}
-use Rattle.reg_tables_meaning.specs.SummaryChanges.{AddsSummary, HasSummary, IsRenewed, PushesSummary}
+use Rattle.reg_tables_meaning.specs.Summaries.{StandSummaries, higher_of, its_versions, length_among, line_length, mark_shown, row_among, row_of_summary}
+use Rattle.reg_tables_meaning.specs.SummaryChanges.{AddsSummary, HasSummary, PushesSummary}
 use Rattle.reg_tables_sql.specs.Summaries.{summary_row}
 
 flipped : (a b : ℕ) → (a == b) ≡ false → (b == a) ≡ false
@@ -72,12 +72,6 @@ module _ (crates : List StoredCrate) (up : IsStrictlySortedBy nat_cmp (map (λ c
       let ended : IsPermutation (now c ∷ rest) after = subst (IsPermutation (now c ∷ rest)) (sym put) (subst (λ (r : Row). IsPermutation (r ∷ rest) (put_row (Int (pos c.0) ∷ columns) rest)) (sym is) (put_permutes (Int (pos c.0) ∷ columns) rest (free_without (pos c.0) columns rows))) in
       IsPermutation-trans _ (map now (c ∷ others c.0)) _ (IsPermutation-map now crates (c ∷ others c.0) first) (IsPermutation-trans _ (now c ∷ rest) _ all ended)
 
-  pub kept_all : (id : ℕ) → list_any (λ c. c.0 == id) crates ≡ false → ((d : StoredCrate) → IsIn d crates → (d.0 == id) ≡ false → now d ≡ row d) → (filter (has_rowid (pos id)) rows ≡ [] → after ≡ rows) → IsPermutation (map now crates) after
-  kept_all id none same kept =
-      let apart : (d : StoredCrate) → IsIn d crates → (d.0 == id) ≡ false = λ d i. not_true _ (λ e. true_not_false _ (in_any (λ c. c.0 == id) crates d i e) none) in
-      let empty = none_row row (has_rowid (pos id)) crates rows are (same_filter (λ d. has_rowid (pos id) (row d)) (λ d. d.0 == id) (λ d. keyed d id) crates ∙ none_pass (λ _ _. true) (λ d. d.0 == id) crates apart) in
-      subst (IsPermutation (map now crates)) (sym (kept empty)) (subst (λ (rs : List Row). IsPermutation rs rows) (sym (map_same now row crates (λ d i. same d i (apart d i)))) are)
-
 -- the same of summaries
 module _ (ids after : Ids) (yanked marked : finset.FinSet mark_cmp) (rows new : List Row) (up : IsStrictlySortedBy nat_cmp (map (λ c. c.0) ids.crates)) (stand : StandSummaries ids yanked rows) where
   abbrev row : StoredCrate → Row
@@ -95,22 +89,6 @@ module _ (ids after : Ids) (yanked marked : finset.FinSet mark_cmp) (rows new : 
 
   pub summary_at : (c : StoredCrate) → IsIn c ids.crates → filter (has_rowid (pos c.0)) rows ≡ row c ∷ []
   summary_at c i = row_at ids.crates up row now keyed rows new stand.are c i
-
-  renewed_at : (c : StoredCrate) → IsIn c ids.crates → IsRenewed c.0 (now c) rows new → ((d : StoredCrate) → IsIn d ids.crates → (d.0 == c.0) ≡ false → now d ≡ row d) → IsPermutation (map now ids.crates) new
-  renewed_at c i renewed same =
-      let its = its_versions ids c.0 in
-      let found = row_at ids.crates up row now keyed rows new stand.are c i in
-      replaced ids.crates up row now keyed rows new stand.are c (drop 1 (now c)) i refl same (renewed.there (id_among yanked its) (length_among yanked its) found)
-
-  pub renewed_all : (id : ℕ) → IsRenewed id (row_among marked id (its_versions after id)) rows new → ((d : StoredCrate) → IsIn d ids.crates → (d.0 == id) ≡ false → now d ≡ row d) → IsPermutation (map now ids.crates) new
-  renewed_all id renewed same = split (list_any (λ c. c.0 == id) ids.crates) refl
-    where
-      split : (b : Bool) → list_any (λ c. c.0 == id) ids.crates ≡ b → IsPermutation (map now ids.crates) new
-      split false none = kept_all ids.crates up row now keyed rows new stand.are id none same renewed.none
-      split true some =
-          let c = any_in (λ c. c.0 == id) ids.crates some in
-          let e : id ≡ c.0.0 = sym (eqb-true c.0.0 id c.2) in
-          renewed_at c.0 c.1 (subst (λ (n : ℕ). IsRenewed n (row_among marked n (its_versions after n)) rows new) e renewed) (subst (λ (n : ℕ). (d : StoredCrate) → IsIn d ids.crates → (d.0 == n) ≡ false → now d ≡ row d) e same)
 
 -- a version that is added is none of another crate
 pub its_other : (ids : Ids) (of_crate : ℕ) (p : Publication) (id : ℕ) → (of_crate == id) ≡ false → its_versions (ids_with_version of_crate p ids) id ≡ its_versions ids id
@@ -165,8 +143,8 @@ module _ (ids : Ids) (ps more : List Publication) (yanked : finset.FinSet mark_c
 
 module _ (ids : Ids) (ps : List Publication) (yanked : finset.FinSet mark_cmp) (db : Trees) (h : StandCrates ids ps yanked db) (rows new : List Row) (stand : StandSummaries ids yanked rows) where
   -- a mark of a version of a crate that is there is changed
-  pub summaries_marked : (id : ℕ) (name text : Text) (b : Bool) → IsIn (id, name) ids.crates → IsRenewed id (row_among (marks yanked (canon name) text b) id (its_versions ids id)) rows new → StandSummaries ids (marks yanked (canon name) text b) new
-  summaries_marked id name text b there renewed = record { are = renewed_all ids ids yanked marked rows new h.up stand id renewed same }
+  pub summaries_marked : (id : ℕ) (name text : Text) (b : Bool) → IsIn (id, name) ids.crates → new ≡ put_row (row_among (marks yanked (canon name) text b) id (its_versions ids id)) (without_rowid (pos id) rows) → StandSummaries ids (marks yanked (canon name) text b) new
+  summaries_marked id name text b there put = record { are = put_at ids ids yanked marked rows new h.up stand (id, name) there put same }
     where
       marked : finset.FinSet mark_cmp
       marked = marks yanked (canon name) text b
@@ -178,10 +156,6 @@ module _ (ids : Ids) (ps : List Publication) (yanked : finset.FinSet mark_cmp) (
           let of_d = eqb-true v.of_crate d.0 (filtered_passes (λ v. v.of_crate == d.0) ids.versions v j) in
           let differs : collides p.name name ≡ false = sym (same_crate ids ps yanked db h id name there v stored) ∙ ap (λ n. n == id) of_d ∙ apart in
           mark_of_other yanked (canon name) text b (canon p.name) p.version (λ e f. true_not_false _ (bytes_same _ _ e) differs))
-
-  -- nothing that is shown has changed
-  pub summaries_same : (id : ℕ) → IsRenewed id (row_among yanked id (its_versions ids id)) rows new → StandSummaries ids yanked new
-  summaries_same id renewed = record { are = renewed_all ids ids yanked yanked rows new h.up stand id renewed (λ d i apart. refl) }
 
 -- a crate is added with its first version
 module _ (ids : Ids) (ps more : List Publication) (yanked : finset.FinSet mark_cmp) (old mid last : Trees) (h : StandCrates ids ps yanked old) (p : Publication) (after : StandCrates (ids_with_crate p ids) more yanked mid) (stand : StandSummaries ids yanked (mid 16)) where

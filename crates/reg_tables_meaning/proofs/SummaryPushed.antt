@@ -1,5 +1,5 @@
 -- The highest of a crate's versions, and the length of its index file, once there is one more.
-use Rattle.std.proofs.Common.{◌≡◌, ◌<◌, ◌+◌, ℕ, zero, suc, List, [], ◌∷◌, ◌++◌, map, length, Bool, true, false, cond, Option, Some, None, inl, inr, refl, sym, ap, subst, ◌∙◌, arith}
+use Rattle.std.proofs.Common.{◌≡◌, ◌<◌, ◌+◌, ℕ, zero, suc, List, [], ◌∷◌, ◌++◌, map, length, Bool, true, false, cond, Some, inl, inr, refl, sym, ap, subst, ◌∙◌, arith}
 use Rattle.std.specs.Prelude.{slice_get, unwrap_or}
 use Rattle.std.specs.FinSet as finset
 use Rattle.std.specs.Option.{option_and_then, option_map}
@@ -12,7 +12,7 @@ use Rattle.reg_model.proofs.Members.{IsIn}
 use Rattle.reg_tables_meaning.proofs.SummaryRows.{got_map}
 use Rattle.reg_tables_meaning.specs.Stored.{StoredVersion}
 use Rattle.reg_tables_meaning.specs.Summaries.{higher_of, id_among, is_marked, length_among, line_length, mark_shown, marked_of, top_among}
-use Rattle.reg_versions.specs.Precedence.{IsTop, Marked, top_place}
+use Rattle.reg_versions.specs.Precedence.{IsTop, Marked}
 use Rattle.reg_versions.specs.Pushed.{place_after, takes_over}
 use Rattle.reg_versions.proofs.Pushed.{top_alone, top_pushed, top_there}
 use Rattle.reg_versions.proofs.TopPlace.{top_is_top}
@@ -33,7 +33,7 @@ in_at (y ∷ xs) zero x e = inl cc
 in_at (y ∷ xs) (suc k) x e = inr (in_at xs k x e)
 
 module _ (yanked : finset.FinSet mark_cmp) where
-  abbrev all : List StoredVersion → List Marked
+  abbrev pub all : List StoredVersion → List Marked
   all vs = map (marked_of yanked) vs
 
   -- the place of a top, and what stands there
@@ -63,7 +63,7 @@ module _ (yanked : finset.FinSet mark_cmp) where
   pub only_top : (v : StoredVersion) → IsTopOf (v ∷ []) v
   only_top v = record { place = 0; top = top_alone (marked_of yanked v); at = refl }
 
-  shown_at : (vs : List StoredVersion) (k : ℕ) (v : StoredVersion) → slice_get vs k ≡ Some v → slice_get (all vs) k ≡ Some (marked_of yanked v)
+  pub shown_at : (vs : List StoredVersion) (k : ℕ) (v : StoredVersion) → slice_get vs k ≡ Some v → slice_get (all vs) k ≡ Some (marked_of yanked v)
   shown_at vs k v e = got_map (marked_of yanked) k vs ∙ ap (option_map (marked_of yanked)) e
 
   -- one more: it or the old one is the highest

@@ -10,8 +10,8 @@ use Rattle.reg_tables_schema.specs.Changes.{Adds, KeepsOthers}
 use Rattle.reg_tables_sql.specs.Summaries.{Summarizes, summary_row}
 use Rattle.reg_tables_sql.specs.declared.versions.VersionMark.{VersionMark}
 use Rattle.reg_tables_meaning.proofs.Additions.{more_rows}
-use Rattle.reg_tables_meaning.specs.SummaryChanges.{AddsSummary, AreNumbers, ArePushed, HasSummary, IsRenewed, IsVersionAt, PushesSummary, RenewsSummary}
-use Rattle.reg_tables_meaning.specs.Summaries.{line_length, shown_mark}
+use Rattle.reg_tables_meaning.specs.SummaryChanges.{AddsSummary, ArePushed, AreRemarked, HasSummary, IsVersionAt, PushesSummary, RemarksSummary}
+use Rattle.reg_tables_meaning.specs.Summaries.{highest_of, length_of, line_length, shown_mark}
 
 module _ (old read new : State) (same : read.now ≡ old.now) where
   since : (P : Trees → Type 0) → P read.now.trees → P old.now.trees
@@ -37,12 +37,12 @@ module _ (old read new : State) (same : read.now ≡ old.now) where
         (since (λ db. new.now.trees 16 ≡ put_row (summary_row id highest length) (without_rowid (pos id) (db 16))) (renews.replaced top.id was (before (λ db. HasSummary id top.id was db) has)).rows_are);
   }
 
-module _ (old read new : State) (same : read.now ≡ old.now) (id highest length : ℕ) (numbers : AreNumbers id old.now.trees highest length) where
-  pub summary_renewed : Summarizes id highest length read new → RenewsSummary id old.now.trees new.now.trees
-  summary_renewed renews = record {
-    others = since old read new same (λ db. KeepsOthers 16 db new.now.trees) renews.touches.others;
-    row = λ ids ps yanked stands.
-        let n = numbers ids ps yanked stands in
-        subst (λ (r : Row). IsRenewed id r (old.now.trees 16) (new.now.trees 16)) (λ i. summary_row id (n.0 i) (n.1 i))
-        (since old read new same (λ db. IsRenewed id (summary_row id highest length) (db 16) (new.now.trees 16)) (record { there = λ h l found. (renews.replaced h l found).rows_are; none = renews.unmatched }));
+  pub summary_remarked : (id version highest length : ℕ) → AreRemarked id version old.now.trees highest length → Summarizes id highest length read new → RemarksSummary id version old.now.trees new.now.trees
+  summary_remarked id version highest length numbers renews = record {
+    others = since (λ db. KeepsOthers 16 db new.now.trees) renews.touches.others;
+    row = λ ids ps was is v stands has e change.
+        let n = numbers ids ps was is v stands has e change in
+        let now = before (λ db. HasSummary id (highest_of ids was id) (length_of ids was id) db) has in
+        subst (λ (r : Row). new.now.trees 16 ≡ put_row r (without_rowid (pos id) (old.now.trees 16))) (λ i. summary_row id (n.0 i) (n.1 i))
+        (since (λ db. new.now.trees 16 ≡ put_row (summary_row id highest length) (without_rowid (pos id) (db 16))) (renews.replaced (highest_of ids was id) (length_of ids was id) now).rows_are);
   }

@@ -1,6 +1,6 @@
 -- The kept summary of a crate: which of its versions is the highest, and how long its index file
 -- is.
-use Rattle.std.specs.Prelude.{ℕ, ◌==◌, ◌+◌, pos, Bool, if◌then◌else◌, List, [], ◌∷◌, Option, map, length, unwrap_or, slice_get, IsPermutation, string_bytes}
+use Rattle.std.specs.Prelude.{ℕ, ◌==◌, ◌+◌, ◌||◌, nat_lt, pos, Bool, if◌then◌else◌, List, [], ◌∷◌, Option, map, length, unwrap_or, slice_get, IsPermutation, string_bytes}
 use Rattle.std.specs.FinSet as finset
 use Rattle.std.specs.List.{filter, sum_by}
 use Rattle.std.specs.Option.{option_and_then, option_map}
@@ -109,3 +109,13 @@ length_in ms = sum_by line_length ms
 -- the higher of two that follow one another in the order of publication
 abbrev pub higher_of : ShownMark → ShownMark → ShownMark
 higher_of one next = if takes_over (read_mark one) (read_mark next) then next else one
+
+-- the higher of two, which follow one another as their ids do
+abbrev pub higher_by_id : ShownMark → ShownMark → ShownMark
+higher_by_id one other =
+    if nat_lt one.id other.id then higher_of one other else higher_of other one
+
+-- the highest once the mark of a version is this one, where it was `top`; not where `top` is yanked
+abbrev pub higher_marked : ShownMark → ShownMark → ShownMark
+higher_marked top now =
+    if now.yanked || now.id == top.id then top else higher_by_id now top

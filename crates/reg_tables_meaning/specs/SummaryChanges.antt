@@ -1,9 +1,9 @@
 -- What is done to the table of summaries, told by the versions that the rows are of.
-use Rattle.std.specs.Prelude.{◌≡◌, ℕ, ◌+◌, pos, List, [], ◌∷◌, filter, map, IsPermutation}
+use Rattle.std.specs.Prelude.{◌≡◌, ℕ, ◌+◌, pos, not, List, [], ◌∷◌, filter, map, IsPermutation}
 use Rattle.std.specs.FinSet as finset
-use Rattle.sqlite.specs.Order.{Row}
 use Rattle.sqlite.specs.Tree.{Trees}
 use Rattle.sqlite_trees.specs.Tree.{has_rowid, put_row, without_rowid}
+use Rattle.reg_model.specs.Lists.{IsIn}
 use Rattle.reg_model.specs.Registry.{Publication, mark_cmp}
 use Rattle.reg_tables_schema.specs.Changes.{KeepsOthers}
 use Rattle.reg_tables_schema.specs.Places.{id_place, summaries_tree, versions_tree}
@@ -13,8 +13,8 @@ use Rattle.reg_tables_sql.specs.VersionMarks.{shows_mark}
 use Rattle.reg_tables_sql.specs.declared.summaries.Summary.{Summary}
 use Rattle.reg_tables_sql.specs.declared.versions.VersionMark.{VersionMark}
 use Rattle.reg_tables_meaning.specs.Stands.{StandCrates}
-use Rattle.reg_tables_meaning.specs.Stored.{Ids}
-use Rattle.reg_tables_meaning.specs.Summaries.{ShownMark, columns_of_shown, higher_of, highest_of, its_versions, length_of, line_length, row_among, shown_mark}
+use Rattle.reg_tables_meaning.specs.Stored.{Ids, StoredVersion}
+use Rattle.reg_tables_meaning.specs.Summaries.{ShownMark, columns_of_shown, higher_marked, higher_of, highest_of, is_marked, its_versions, length_of, line_length, row_among, shown_mark}
 
 -- it is so of the crates and versions that the rows are of
 abbrev pub TellsOfCrates : (Ids → finset.FinSet mark_cmp → Type 0) → Trees → Type 0
@@ -68,18 +68,35 @@ pub record PushesSummary (id version : ℕ) (old new : Trees) : Type 0 where
       ≡ put_row (summary_row id (higher_of top next).id (length + line_length next))
       (without_rowid (pos id) (old summaries_tree))
 
--- this is the row of a crate now, if it had one
-pub record IsRenewed (id : ℕ) (row : Row) (rows after : List Row) : Type 0 where
-  pub there : (highest length : ℕ)
-      → filter (has_rowid (pos id)) rows ≡ summary_row id highest length ∷ []
-      → after ≡ put_row row (without_rowid (pos id) rows)
-  pub none : filter (has_rowid (pos id)) rows ≡ [] → after ≡ rows
+-- these are the marks of some versions before and after that of one of them was changed
+pub record IsMarkChange (vs : List StoredVersion) (v : StoredVersion)
+    (before after : finset.FinSet mark_cmp) : Type 0 where
+  pub there : IsIn v vs
+  pub changed : is_marked before v ≡ not (is_marked after v)
+  pub others : (w : StoredVersion) → IsIn w vs → (w.id ≡ v.id → ⊥)
+      → is_marked before w ≡ is_marked after w
 
-abbrev pub IsNewlyOf : ℕ → List Row → List Row → Ids → finset.FinSet mark_cmp → Type 0
-IsNewlyOf id rows after ids yanked =
-    IsRenewed id (row_among yanked id (its_versions ids id)) rows after
+-- it is so where the mark of the version with this id was changed, and the summary of its crate is
+-- as it was before
+abbrev pub TellsOfChange : ℕ → ℕ → (Ids → finset.FinSet mark_cmp → Type 0) → Trees → Type 0
+TellsOfChange id version fact db = (ids : Ids) (ps : List Publication)
+    (before after : finset.FinSet mark_cmp) (v : StoredVersion) → StandCrates ids ps after db
+    → HasSummary id (highest_of ids before id) (length_of ids before id) db
+    → v.id ≡ version → IsMarkChange (its_versions ids id) v before after → fact ids after
 
--- the summary of a crate, if it has one, is what its versions are now
-pub record RenewsSummary (id : ℕ) (old new : Trees) : Type 0 where
+-- this is the id of the highest, where it was that with the other id, and the mark is now this
+abbrev pub IsHigherMarked : ℕ → ShownMark → Trees → ℕ → Type 0
+IsHigherMarked highest now db n =
+    (top : ShownMark) → top.id ≡ highest → HasVersion top db → n ≡ (higher_marked top now).id
+
+-- these are the numbers of a crate after such a change
+abbrev pub AreRemarked : ℕ → ℕ → Trees → ℕ → ℕ → Type 0
+AreRemarked id version db highest length = TellsOfChange id version (λ ids yanked.
+    (highest ≡ highest_of ids yanked id) × (length ≡ length_of ids yanked id)) db
+
+-- the summary of the crate follows such a change
+pub record RemarksSummary (id version : ℕ) (old new : Trees) : Type 0 where
   pub others : KeepsOthers summaries_tree old new
-  pub row : TellsOfCrates (IsNewlyOf id (old summaries_tree) (new summaries_tree)) old
+  pub row : TellsOfChange id version (λ ids yanked. new summaries_tree
+      ≡ put_row (row_among yanked id (its_versions ids id))
+      (without_rowid (pos id) (old summaries_tree))) old

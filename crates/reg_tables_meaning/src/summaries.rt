@@ -1,17 +1,18 @@
 //! The kept summaries of crates: the highest version of each, and its index file's length.
 //!
-//! A publish looks at no other version than the highest; a yank makes the summary from all versions
-//! of its crate.
+//! A publish and a yank look at no other version than the highest. Only where the highest itself is
+//! yanked is the summary made from all versions of its crate.
 
-ghost use Rattle.std.specs.Prelude.{◌≡◌, ◌+◌, [], IfOk, IsTrue, map, slice_get, unwrap_or};
+ghost use Rattle.std.specs.Prelude.{◌≡◌, ◌+◌, [], IfOk, IsTrue, length, map, not, slice_get, unwrap_or};
 ghost use Rattle.std.specs.Option.{option_map};
+ghost use Rattle.reg_line.specs.File.{end_of};
 ghost use Rattle.sqlite.specs.Held.{state};
 ghost use Rattle.reg_tables_schema.specs.States.{IsReady};
 ghost use Rattle.reg_tables_schema.specs.Statements.{rows_in};
 ghost use Rattle.reg_tables_schema.specs.Steps.{Done, KeepsAll, Steps, Told};
 ghost use Rattle.reg_tables_meaning.specs.Calls.{FindsSummary};
-ghost use Rattle.reg_tables_meaning.specs.Summaries.{higher_of, highest_in, length_in, line_length, read_mark, shown_mark};
-ghost use Rattle.reg_tables_meaning.specs.SummaryChanges.{AddsSummary, AreNumbers, ArePushed, IsKept, IsVersionAt, PushesSummary, RenewsSummary};
+ghost use Rattle.reg_tables_meaning.specs.Summaries.{higher_by_id, higher_of, highest_in, length_in, line_length, read_mark, shown_mark};
+ghost use Rattle.reg_tables_meaning.specs.SummaryChanges.{AddsSummary, AreNumbers, ArePushed, AreRemarked, IsHigherMarked, IsKept, IsVersionAt, PushesSummary, RemarksSummary};
 
 use reg_line::line_len;
 use reg_tables_sql::summaries::{self, Summary};
@@ -202,14 +203,86 @@ pub(crate) fn push<S: Alter>(
     Ok(())
 }
 
-/// Updates the summary of a crate to what its versions are now.
-pub(crate) fn renew<S: Alter>(conn: &mut Connection<S>, crate_id: u32) -> Result<(), Error>
+/// The id of the higher of two versions.
+fn higher_of_two(one: &VersionMark, other: &VersionMark) -> Result<u64, Error>
+    ensures { IfOk result
+        (λ id. id ≡ (higher_by_id (shown_mark one.now) (shown_mark other.now)).id) }
+{
+    if one.id < other.id {
+        higher(one, other)
+    } else {
+        higher(other, one)
+    }
+}
+
+/// The id of the highest version, which it was before the mark of a version became this one. It is
+/// not the highest itself that is yanked.
+fn highest_marked<S: Alter>(
+    conn: &mut Connection<S>,
+    highest: u64,
+    now: &VersionMark,
+) -> Result<u64, Error>
     requires { IsReady (state S.Store conn.old) }
-    ensures renewed { Done S.Store conn.new result
-        (RenewsSummary crate_id (rows_in S.Store conn.old) (rows_in S.Store conn.new)) }
+    ensures told { Told S.Store conn.new result
+        (IsHigherMarked highest (shown_mark now.now) (rows_in S.Store conn.old)) }
+    ensures same { KeepsAll S.Store conn.old conn.new result }
+{
+    if now.yanked || now.id == highest {
+        return Ok(highest);
+    }
+    let top = version_at(conn, highest)?;
+    higher_of_two(now, &top)
+}
+
+/// The length of an index file once the mark of a version is this one: `true` is a byte shorter.
+fn length_marked(before: u64, yanked: bool) -> Result<u64, Error>
+    ensures { IfOk result
+        (λ n. n + length (end_of (not yanked)) ≡ before + length (end_of yanked)) }
+{
+    let length = if yanked {
+        before.checked_sub(1)
+    } else {
+        before.checked_add(1)
+    };
+    length.ok_or(Error::InvalidQuery)
+}
+
+/// What the summary of a crate says once the mark of a version is changed.
+fn remarked<S: Alter>(
+    conn: &mut Connection<S>,
+    crate_id: u32,
+    version: u64,
+) -> Result<Numbers, Error>
+    requires { IsReady (state S.Store conn.old) }
+    ensures told { Told S.Store conn.new result
+        (λ n. AreRemarked crate_id version (rows_in S.Store conn.old) n.highest n.index_length) }
+    ensures same { KeepsAll S.Store conn.old conn.new result }
+{
+    let kept = kept(conn, crate_id)?;
+    let now = version_at(conn, version)?;
+    if now.yanked && now.id == kept.highest {
+        return numbers_of(conn, crate_id);
+    }
+    let highest = highest_marked(conn, kept.highest, &now)?;
+    let index_length = length_marked(kept.index_length, now.yanked)?;
+    Ok(Numbers {
+        highest,
+        index_length,
+    })
+}
+
+/// Updates the summary of a crate after the mark of a version was changed.
+pub(crate) fn remark<S: Alter>(
+    conn: &mut Connection<S>,
+    crate_id: u32,
+    version: u64,
+) -> Result<(), Error>
+    requires { IsReady (state S.Store conn.old) }
+    ensures remarked { Done S.Store conn.new result
+        (RemarksSummary crate_id version (rows_in S.Store conn.old) (rows_in S.Store conn.new)) }
     ensures leaves { Steps S.Store conn.old conn.new result }
 {
-    let numbers = numbers_of(conn, crate_id)?;
+    let numbers = remarked(conn, crate_id, version)?;
     summaries::update(conn, crate_id, numbers.highest, numbers.index_length)?;
     Ok(())
 }
