@@ -42,6 +42,7 @@ mod SummaryTops
 pub mod Stays
 mod TokenChanges
 pub mod TokenEntries
+mod VersionCounts
 pub mod VersionEntries
 pub mod Walking
 pub mod Withins
