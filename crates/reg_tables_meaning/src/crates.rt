@@ -137,7 +137,7 @@ fn id_unless(found: &VersionMark, yanked: bool) -> Option<u64>
     }
 }
 
-/// The id of a version, if it is there and has another mark.
+/// The id of a version, if it is there and has the other mark.
 fn otherwise<S: Alter>(
     conn: &mut Connection<S>,
     crate_id: u32,
@@ -156,8 +156,8 @@ fn otherwise<S: Alter>(
     }
 }
 
-/// Yanks or unyanks a version of a crate that is there. A mark that is so already is left alone,
-/// and so is the summary.
+/// Yanks or unyanks a version of a crate that is there. If it has this mark already, nothing is
+/// written.
 #[tactic(auto, using(crate::proofs::Withins::refused_fails, crate::proofs::Withins::touch_within))]
 pub fn mark<S: Alter>(
     conn: &mut Connection<S>,

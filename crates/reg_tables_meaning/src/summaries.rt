@@ -1,7 +1,7 @@
 //! The kept summaries of crates: the highest version of each, and its index file's length.
 //!
-//! A publish and a yank look at no other version than the highest. Only where the highest itself is
-//! yanked is the summary made from all versions of its crate.
+//! A publish and a yank look at no other version than the highest. Only if the highest itself is
+//! yanked, the summary is rebuilt from all versions of its crate.
 
 ghost use Rattle.std.specs.Prelude.{◌≡◌, ◌+◌, [], IfOk, IsTrue, length, map, not, slice_get, unwrap_or};
 ghost use Rattle.std.specs.Option.{option_map};
@@ -138,7 +138,7 @@ fn version_at<S: Alter>(conn: &mut Connection<S>, id: u64) -> Result<VersionMark
     found.ok_or(Error::InvalidQuery)
 }
 
-/// The id of the higher of two versions, of which the second follows the first.
+/// The id of the higher of two versions, the second of them published later.
 fn higher(one: &VersionMark, next: &VersionMark) -> Result<u64, Error>
     ensures { IfOk result (λ id. id ≡ (higher_of (shown_mark one.now) (shown_mark next.now)).id) }
 {
@@ -152,7 +152,7 @@ fn higher(one: &VersionMark, next: &VersionMark) -> Result<u64, Error>
     }
 }
 
-/// What the summary of a crate says once it counts one more version, the last one.
+/// What the summary of a crate says with one more version, the last.
 fn pushed<S: Alter>(conn: &mut Connection<S>, crate_id: u32, version: u64) -> Result<Numbers, Error>
     requires { IsReady (state S.Store conn.old) }
     ensures told { Told S.Store conn.new result
@@ -187,7 +187,7 @@ pub(crate) fn insert<S: Alter>(
     Ok(())
 }
 
-/// Updates the summary of a crate to one more version, the last one.
+/// Updates the summary of a crate for one more version, the last.
 pub(crate) fn push<S: Alter>(
     conn: &mut Connection<S>,
     crate_id: u32,
@@ -203,7 +203,7 @@ pub(crate) fn push<S: Alter>(
     Ok(())
 }
 
-/// The id of the higher of two versions.
+/// The id of the higher of two versions, given in either order.
 fn higher_of_two(one: &VersionMark, other: &VersionMark) -> Result<u64, Error>
     ensures { IfOk result
         (λ id. id ≡ (higher_by_id (shown_mark one.now) (shown_mark other.now)).id) }
@@ -215,8 +215,8 @@ fn higher_of_two(one: &VersionMark, other: &VersionMark) -> Result<u64, Error>
     }
 }
 
-/// The id of the highest version, which it was before the mark of a version became this one. It is
-/// not the highest itself that is yanked.
+/// The id of the highest version once another has its mark changed, or the highest is unyanked:
+/// `highest` was it before, and `now` has the new mark.
 fn highest_marked<S: Alter>(
     conn: &mut Connection<S>,
     highest: u64,
@@ -234,7 +234,7 @@ fn highest_marked<S: Alter>(
     higher_of_two(now, &top)
 }
 
-/// The length of an index file once the mark of a version is this one: `true` is a byte shorter.
+/// The length of an index file once one of its marks is this one: `true` is shorter by a byte.
 fn length_marked(before: u64, yanked: bool) -> Result<u64, Error>
     ensures { IfOk result
         (λ n. n + length (end_of (not yanked)) ≡ before + length (end_of yanked)) }
@@ -247,7 +247,7 @@ fn length_marked(before: u64, yanked: bool) -> Result<u64, Error>
     length.ok_or(Error::InvalidQuery)
 }
 
-/// What the summary of a crate says once the mark of a version is changed.
+/// What the summary of a crate says once the mark of a version has changed.
 fn remarked<S: Alter>(
     conn: &mut Connection<S>,
     crate_id: u32,
@@ -271,7 +271,7 @@ fn remarked<S: Alter>(
     })
 }
 
-/// Updates the summary of a crate after the mark of a version was changed.
+/// Updates the summary of a crate once the mark of a version has changed.
 pub(crate) fn remark<S: Alter>(
     conn: &mut Connection<S>,
     crate_id: u32,

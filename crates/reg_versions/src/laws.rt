@@ -15,7 +15,8 @@ pub fn versions_are_the_grammar(text: &str)
         ↔ IsVersionOf text.now parts }
 {}
 
-/// The place of the top, found by going through the list, is the defined one.
+/// The place of the top, found by going through the list, is the defined one. A list that is not
+/// empty has a top, and a release alone is it.
 pub fn top_law()
     ensures place { (l : List Marked) (i : ℕ) → (top_place l ≡ Some i) ↔ IsTop l i }
     ensures there { (x : Marked) (l : List Marked) → (i : ℕ) × IsTop (x ∷ l) i }
