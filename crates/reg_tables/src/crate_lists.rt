@@ -2,7 +2,7 @@
 
 ghost use Rattle.reg_tables_sql.specs.Crates.{AreCrates, IsCrateOfCanon};
 ghost use Rattle.reg_tables_sql.specs.Versions.{AreVersionsOf};
-ghost use Rattle.reg_tables_meaning.specs.Calls.{FindsArchive, FindsCrate, FindsSummary, ListsCrates, ListsVersions};
+ghost use Rattle.reg_tables_meaning.specs.Calls.{FindsArchive, FindsCrate, FindsSummary, ListsCrates, ListsVersions, ReachesVersions};
 ghost use Rattle.reg_tables.specs.Works.{Heard, IsAtWork, IsCall, Unmoved, rows_seen};
 
 use crate::work::{StoreFault, Work, call};
@@ -41,6 +41,20 @@ impl<S: Alter> Work<'_, S> {
         call!(
             self,
             crate_lists::list(alloc, &mut self.tables.conn, crate_id)
+        )
+    }
+
+    /// Whether the crate with this id has at least this many versions; none if it does not exist.
+    pub fn reaches_versions(&mut self, crate_id: u32, number: u64) -> Result<bool, StoreFault>
+        requires { IsAtWork S.Store self.old }
+        ensures told { Heard S.Store self.new result
+            (ReachesVersions crate_id number (rows_seen S.Store self.old)) }
+        ensures same { Unmoved S.Store result self.old self.new }
+        ensures leaves { IsCall S.Store result self.old self.new }
+    {
+        call!(
+            self,
+            crate_lists::reaches_versions(&mut self.tables.conn, crate_id, number)
         )
     }
 

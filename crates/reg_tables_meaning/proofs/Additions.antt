@@ -67,14 +67,13 @@ module _ (old read mid new : State) (same : read.now ≡ old.now) where
       }
 
   pub version_added : (last : Option ℕ) (id of_crate : ℕ) (p : Publication) → IsGreatest (old.now.trees 11) (row_of_id last) → IsNext last id
-      → (release : Text) → release ≡ release_key_of p.version → Adds 11 (version_row id of_crate p.version release p.digest p.stem p.description false) read mid → Adds 13 (archive_row id p.archive) mid new → AddsVersion of_crate p old.now.trees new.now.trees
+      → (release : Text) → release ≡ release_key_of p.version → Adds 11 (version_row id of_crate p.version release p.digest p.stem p.description false) read mid → Adds 13 (archive_row id p.archive) mid new → AddsVersion id of_crate p old.now.trees new.now.trees
   version_added last id of_crate p greatest next release is put_version archives =
       let row = version_row id of_crate p.version (release_key_of p.version) p.digest p.stem p.description false in
       let versions : Adds 11 row read mid = subst (λ t. Adds 11 (version_row id of_crate p.version t p.digest p.stem p.description false) read mid) is put_version in
       let put = archives.becomes in
       let kept : mid.now.trees 13 ≡ old.now.trees 13 = since (λ db. mid.now.trees 13 ≡ db 13) (same_archives 11 read.now.trees mid.now.trees versions.becomes.others (λ e. cc)) in
       record {
-        id = id;
         is_next = record { last = last; greatest = greatest; next = next };
         versions = subst (IsPermutation (row ∷ old.now.trees 11)) (sym (same_versions 13 mid.now.trees new.now.trees put.others (λ e. cc)))
             (since (λ db. IsPermutation (row ∷ db 11) (mid.now.trees 11)) (more_rows 11 row read mid versions));

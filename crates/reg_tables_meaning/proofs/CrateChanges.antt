@@ -33,13 +33,13 @@ use Rattle.reg_tables_meaning.proofs.Rising.{above, rises_on, next_is}
 use Rattle.reg_tables_meaning.proofs.Rowids.{own_put, put_columns}
 
 -- a version that is added, behind all that are there
-module _ (yanked : finset.FinSet mark_cmp) (versions : List StoredVersion) (of_crate : ℕ) (p : Publication) (old new : Trees) (adds : AddsVersion of_crate p old new) where
+module _ (yanked : finset.FinSet mark_cmp) (versions : List StoredVersion) (key of_crate : ℕ) (p : Publication) (old new : Trees) (adds : AddsVersion key of_crate p old new) where
   abbrev pub added : StoredVersion
-  added = record { id = adds.id; of_crate = of_crate; publication = p }
+  added = record { id = key; of_crate = of_crate; publication = p }
 
   pub versions_after : finset.contains yanked (canon p.name, p.version) ≡ false → IsPermutation (map (row_of_version yanked) versions) (old 11) → IsPermutation (map (row_of_version yanked) (versions ++ added ∷ [])) (new 11)
   versions_after unmarked rows =
-      let row : Bool → Row = λ b. version_row adds.id of_crate p.version (release_key_of p.version) p.digest p.stem p.description b in
+      let row : Bool → Row = λ b. version_row key of_crate p.version (release_key_of p.version) p.digest p.stem p.description b in
       pushed (row_of_version yanked) versions added (old 11) (new 11) rows (subst (λ b. IsPermutation (row b ∷ old 11) (new 11)) (sym unmarked) adds.versions)
 
   pub archives_after : IsPermutation (map row_of_archive versions) (old 13) → IsPermutation (map row_of_archive (versions ++ added ∷ [])) (new 13)
@@ -48,38 +48,38 @@ module _ (yanked : finset.FinSet mark_cmp) (versions : List StoredVersion) (of_c
   pub rising_after : IsPermutation (map (row_of_version yanked) versions) (old 11) → IsStrictlySortedBy nat_cmp (map (λ v. v.id) versions) → IsStrictlySortedBy nat_cmp (map (λ v. v.id) (versions ++ added ∷ []))
   rising_after rows up =
       let ids = map (λ (v : StoredVersion). v.id) versions in
-      let below : (n : ℕ) → IsIn n ids → n < adds.id = λ n i. let v = map_in (λ v. v.id) versions n i in subst (λ k. k < adds.id) v.2 (above (row_of_version yanked) (λ v. v.id) (λ v. refl) versions (old 11) adds.id rows adds.is_next v.0 v.1) in
-      subst (IsStrictlySortedBy nat_cmp) (sym (map-append (λ (v : StoredVersion). v.id) versions (added ∷ []))) (rises_on ids adds.id (in_each (λ n. n < adds.id) ids below) up)
+      let below : (n : ℕ) → IsIn n ids → n < key = λ n i. let v = map_in (λ v. v.id) versions n i in subst (λ k. k < key) v.2 (above (row_of_version yanked) (λ v. v.id) (λ v. refl) versions (old 11) key rows adds.is_next v.0 v.1) in
+      subst (IsStrictlySortedBy nat_cmp) (sym (map-append (λ (v : StoredVersion). v.id) versions (added ∷ []))) (rises_on ids key (in_each (λ n. n < key) ids below) up)
 
   pub published_after : (publications : List Publication) → map (λ v. v.publication) versions ≡ publications → map (λ v. v.publication) (versions ++ added ∷ []) ≡ publications ++ p ∷ []
   published_after publications e = map-append (λ (v : StoredVersion). v.publication) versions (added ∷ []) ∙ ap (λ ps. ps ++ p ∷ []) e
 
 -- the id of a version that is added is the next
-module _ (ids : Ids) (yanked : finset.FinSet mark_cmp) (of_crate : ℕ) (p : Publication) (old new : Trees) (adds : AddsVersion of_crate p old new) where
-  next_id_of : IsPermutation (map (row_of_version yanked) ids.versions) (old 11) → adds.id ≡ next_version ids
-  next_id_of rows = next_is (row_of_version yanked) (λ v. v.id) (λ v. refl) ids.versions (old 11) adds.id rows adds.is_next
+module _ (ids : Ids) (yanked : finset.FinSet mark_cmp) (key of_crate : ℕ) (p : Publication) (old new : Trees) (adds : AddsVersion key of_crate p old new) where
+  pub next_id_of : IsPermutation (map (row_of_version yanked) ids.versions) (old 11) → key ≡ next_version ids
+  next_id_of rows = next_is (row_of_version yanked) (λ v. v.id) (λ v. refl) ids.versions (old 11) key rows adds.is_next
 
-  pub same_ids : IsPermutation (map (row_of_version yanked) ids.versions) (old 11) → ids.versions ++ added yanked ids.versions of_crate p old new adds ∷ [] ≡ (ids_with_version of_crate p ids).versions
+  pub same_ids : IsPermutation (map (row_of_version yanked) ids.versions) (old 11) → ids.versions ++ added yanked ids.versions key of_crate p old new adds ∷ [] ≡ (ids_with_version of_crate p ids).versions
   same_ids rows i = ids.versions ++ record { id = next_id_of rows i; of_crate = of_crate; publication = p } ∷ []
 
 -- a version of a crate that is there
 module _ (ids : Ids) (publications : List Publication) (yanked : finset.FinSet mark_cmp) (old new : Trees) (stands : StandCrates ids publications yanked old) where
-  pub adds_version : (of_crate : ℕ) (p : Publication) → IsIn (of_crate, p.name) ids.crates → finset.contains yanked (canon p.name, p.version) ≡ false → new 7 ≡ old 7 → AddsVersion of_crate p old new
+  pub adds_version : (key of_crate : ℕ) (p : Publication) → IsIn (of_crate, p.name) ids.crates → finset.contains yanked (canon p.name, p.version) ≡ false → new 7 ≡ old 7 → AddsVersion key of_crate p old new
       → StandCrates (ids_with_version of_crate p ids) (publications ++ p ∷ []) yanked new
-  adds_version of_crate p there unmarked same_crates adds =
-      let v = added yanked ids.versions of_crate p old new adds in
+  adds_version key of_crate p there unmarked same_crates adds =
+      let v = added yanked ids.versions key of_crate p old new adds in
       let after = ids.versions ++ v ∷ [] in
       let mine : StoredCrate = (of_crate, p.name) in
-      subst (λ (vs : List StoredVersion). StandCrates (record ids { versions = vs }) (publications ++ p ∷ []) yanked new) (same_ids ids yanked of_crate p old new adds stands.version_rows) (record {
+      subst (λ (vs : List StoredVersion). StandCrates (record ids { versions = vs }) (publications ++ p ∷ []) yanked new) (same_ids ids yanked key of_crate p old new adds stands.version_rows) (record {
         crate_rows = subst (IsPermutation (map row_of_crate ids.crates)) (sym same_crates) stands.crate_rows;
-        version_rows = versions_after yanked ids.versions of_crate p old new adds unmarked stands.version_rows;
-        archive_rows = archives_after yanked ids.versions of_crate p old new adds stands.archive_rows;
+        version_rows = versions_after yanked ids.versions key of_crate p old new adds unmarked stands.version_rows;
+        archive_rows = archives_after yanked ids.versions key of_crate p old new adds stands.archive_rows;
         canons = stands.canons;
         used = all_so (λ c. list_any (is_of c) ids.versions) (λ c. list_any (is_of c) after) (λ c h. any_more (is_of c) ids.versions (v ∷ []) h) ids.crates stands.used;
         of_crates = all_push (λ w. list_any (λ c. is_of c w) ids.crates) ids.versions v stands.of_crates (in_any (λ c. is_of c v) ids.crates mine there (and_from _ _ (eq-eqb of_crate of_crate refl) (text_itself p.name)));
         up = stands.up;
-        rising = rising_after yanked ids.versions of_crate p old new adds stands.version_rows stands.rising;
-        published = published_after yanked ids.versions of_crate p old new adds publications stands.published;
+        rising = rising_after yanked ids.versions key of_crate p old new adds stands.version_rows stands.rising;
+        published = published_after yanked ids.versions key of_crate p old new adds publications stands.published;
       })
 
 -- a new crate with its first version
@@ -118,10 +118,10 @@ module _ (ids : Ids) (publications : List Publication) (yanked : finset.FinSet m
       let low : (n : ℕ) → IsIn n before → n < id = λ n i. let c = map_in (λ c. c.0) ids.crates n i in subst (λ k. k < id) c.2 (below c.0 c.1) in
       subst (IsStrictlySortedBy nat_cmp) (sym (map-append (λ (c : StoredCrate). c.0) ids.crates (mine ∷ []))) (rises_on before id (in_each (λ n. n < id) before low) stands.up)
 
-  pub adds_crate : finset.contains yanked (canon p.name, p.version) ≡ false → mid 11 ≡ old 11 → mid 13 ≡ old 13 → new 7 ≡ mid 7 → AddsVersion id p mid new
+  pub adds_crate : (key : ℕ) → finset.contains yanked (canon p.name, p.version) ≡ false → mid 11 ≡ old 11 → mid 13 ≡ old 13 → new 7 ≡ mid 7 → AddsVersion key id p mid new
       → StandCrates (ids_with_crate p ids) (publications ++ p ∷ []) yanked new
-  adds_crate unmarked e11 e13 e7 version =
-      let v = added yanked ids.versions id p mid new version in
+  adds_crate key unmarked e11 e13 e7 version =
+      let v = added yanked ids.versions key id p mid new version in
       let after = ids.versions ++ v ∷ [] in
       let version_rows = subst (IsPermutation (map (row_of_version yanked) ids.versions)) (sym e11) stands.version_rows in
       let archive_rows = subst (IsPermutation (map row_of_archive ids.versions)) (sym e13) stands.archive_rows in
@@ -129,17 +129,17 @@ module _ (ids : Ids) (publications : List Publication) (yanked : finset.FinSet m
       let last_any : (w : StoredVersion) → list_any (λ c. is_of c w) ids.crates ≡ true → list_any (λ c. is_of c w) crates_now ≡ true = λ w h. any_more (λ c. is_of c w) ids.crates (mine ∷ []) h in
       let so : StandCrates (record { crates = crates_now; versions = after }) (publications ++ p ∷ []) yanked new = record {
         crate_rows = subst (IsPermutation (map row_of_crate crates_now)) (sym e7) crate_rows;
-        version_rows = versions_after yanked ids.versions id p mid new version unmarked version_rows;
-        archive_rows = archives_after yanked ids.versions id p mid new version archive_rows;
+        version_rows = versions_after yanked ids.versions key id p mid new version unmarked version_rows;
+        archive_rows = archives_after yanked ids.versions key id p mid new version archive_rows;
         canons = canons_after;
         used = all_push (λ c. list_any (is_of c) after) ids.crates mine (all_so (λ c. list_any (is_of c) ids.versions) (λ c. list_any (is_of c) after) (λ c h. any_more (is_of c) ids.versions (v ∷ []) h) ids.crates stands.used) (in_any (is_of mine) after v (in_last ids.versions v) mine_has);
         of_crates = all_push (λ w. list_any (λ c. is_of c w) crates_now) ids.versions v (all_so (λ w. list_any (λ c. is_of c w) ids.crates) (λ w. list_any (λ c. is_of c w) crates_now) last_any ids.versions stands.of_crates) (in_any (λ c. is_of c v) crates_now mine (in_last ids.crates mine) mine_has);
         up = up_after;
-        rising = rising_after yanked ids.versions id p mid new version version_rows stands.rising;
-        published = published_after yanked ids.versions id p mid new version publications stands.published;
+        rising = rising_after yanked ids.versions key id p mid new version version_rows stands.rising;
+        published = published_after yanked ids.versions key id p mid new version publications stands.published;
       } in
       let n : id ≡ next_crate ids = id_is in
-      let k : version.id ≡ next_version ids = next_id_of ids yanked id p mid new version version_rows in
+      let k : key ≡ next_version ids = next_id_of ids yanked key id p mid new version version_rows in
       subst (λ (it : Ids). StandCrates it (publications ++ p ∷ []) yanked new) (λ i. record { crates = ids.crates ++ (n i, p.name) ∷ []; versions = ids.versions ++ record { id = k i; of_crate = n i; publication = p } ∷ [] }) so
 
   of_each : (P : StoredCrate → Type 0) → ((c : StoredCrate) → IsIn c ids.crates → P c) → P mine → AllByRecursion P crates_now

@@ -3,9 +3,10 @@ use Rattle.reg_tables_sql.specs.Owners.{owner_columns}
 use Rattle.sqlite.specs.declared.types.Value.TheVariants.{Int}
 use Rattle.sqlite_trees.specs.Tree.{put_row}
 use Rattle.reg_tables_meaning.specs.Changes.{next_crate, ids_with_crate, ids_with_version, if_there, mark_at, with_mark}
-use Rattle.std.proofs.Common.{◌≢◌, refl, sym, ◌≡◌, ℕ, List, [], ◌∷◌, ◌++◌, map, Bool, true, false, cond, Option, ap, subst, ◌∙◌, Some, sym, None}
+use Rattle.std.proofs.Common.{◌≢◌, refl, sym, ◌≡◌, ◌==◌, not, ℕ, List, [], ◌∷◌, ◌++◌, map, Bool, true, false, cond, Option, ap, subst, ◌∙◌, Some, sym, None}
 use Rattle.std.specs.Prelude.{drop}
 use Rattle.std.specs.List.{filter}
+use Rattle.std.specs.List.Sorted.{IsPermutation}
 use Rattle.std.specs.FinSet as finset
 use Rattle.std.specs.Str.{bytes_eq}
 use Rattle.sqlite.specs.State.{State}
@@ -20,14 +21,19 @@ use Rattle.reg_model.proofs.Lists.{none_both, not_true, true_not_false}
 use Rattle.reg_tables_meaning.specs.Additions.{KeepsAllBut, AddsCrate, AddsVersion}
 use Rattle.reg_tables_sql.specs.Versions.{version_row, MarksYanked}
 use Rattle.reg_tables_schema.specs.Tests.{is_version}
-use Rattle.reg_tables_meaning.specs.Stands.{StandCrates, Ids, StandsBy, Holds, StandPairs, spelling_at, StandMarked}
-use Rattle.reg_tables_meaning.proofs.CrateChanges.{adds_version, adds_crate, id_is, first_pair, unpaired, unmarked_crate}
+use Rattle.reg_tables_meaning.specs.Stands.{StandCrates, StoredVersion, Ids, StandsBy, Holds, StandPairs, spelling_at, StandMarked, row_of_version}
+use Rattle.reg_tables_meaning.proofs.CrateChanges.{adds_version, adds_crate, id_is, next_id_of, first_pair, unpaired, unmarked_crate}
 use Rattle.reg_tables_meaning.proofs.CrateLemmas.{there_at}
 use Rattle.reg_tables_meaning.proofs.Stays.{accounts_stay, tokens_stay, reserved_stay, same_crates, same_archives, pairs_stay, crates_stay, marked_stay, summaries_stay, same_about, same_accounts, same_tokens, same_scopes, same_owners, same_versions, same_reserved, same_summaries, same_restricted, same_readers}
-use Rattle.reg_tables_meaning.proofs.SummaryChanges.{summaries_first, summaries_marked, summaries_next, summaries_same}
-use Rattle.reg_tables_meaning.specs.Summaries.{StandSummaries}
-use Rattle.reg_tables_meaning.specs.SummaryChanges.{AddsSummary, IsNewRow, RenewsSummary}
-use Rattle.reg_tables_meaning.proofs.Yanks.{marks, target, row_found, yanks, no_such_version, no_version}
+use Rattle.reg_tables_meaning.proofs.SummaryChanges.{summaries_first, summaries_marked, summaries_next, summary_at}
+use Rattle.reg_tables_meaning.specs.Summaries.{StandSummaries, is_marked, its_versions}
+use Rattle.reg_tables_meaning.specs.SummaryChanges.{AddsSummary, IsMarkChange, PushesSummary, RemarksSummary}
+use Rattle.reg_tables_meaning.specs.Marking.{IsOtherwise, id_unless}
+use Rattle.reg_tables_meaning.proofs.Marking.{no_id, one_id, unless_none, unless_some}
+use Rattle.reg_tables_meaning.proofs.CrateNames.{kept}
+use Rattle.reg_model.proofs.Members.{IsIn, in_filter}
+use Rattle.std.proofs.lemmas.Bool.{eq-eqb}
+use Rattle.reg_tables_meaning.proofs.Yanks.{IsTarget, mark_is, mark_kept, marks, marks_again, target, row_found, yanks, no_such_version, no_version}
 
 -- the tables that are not of crates have the rows that they had
 record Rest (old new : Trees) : Type 0 where
@@ -112,9 +118,9 @@ module _ (old new : Trees) (others : KeepsOthers 16 old new) where
 unmarked : (s : Registry) (p : Publication) → Sound s → has_version s (canon p.name) p.version ≡ false → finset.contains s.yanked (canon p.name, p.version) ≡ false
 unmarked s p sound fresh = not_true _ (λ h. true_not_false (has_version s (canon p.name) p.version) (sound.yanked (canon p.name) p.version h) fresh)
 
-pub adds_first : (ids : Ids) (s : Registry) (id owner : ℕ) (p : Publication) (old mid new last : Trees) → Holds ids s old → exists s p.name ≡ false → AddsCrate id p.name owner old mid → AddsVersion id p mid new → AddsSummary id new last
+pub adds_first : (ids : Ids) (s : Registry) (id owner key : ℕ) (p : Publication) (old mid new last : Trees) → Holds ids s old → exists s p.name ≡ false → AddsCrate id p.name owner old mid → AddsVersion key id p mid new → AddsSummary id key new last
     → (id ≡ next_crate ids) × StandsBy (ids_with_crate p ids) (record s { publications = s.publications ++ p ∷ []; owners = finset.insert s.owners (canon p.name, owner) }) last
-adds_first ids s id owner p old mid new last h fresh crate version summary =
+adds_first ids s id owner key p old mid new last h fresh crate version summary =
     let stands = h.stands in
     let new_version = none_both (λ q. bytes_eq (canon q.name) (canon p.name)) (λ q. bytes_eq q.version p.version) s.publications fresh in
     let unowned : (account : ℕ) → finset.contains s.owners (canon p.name, account) ≡ false = λ account. not_true _ (λ i. true_not_false (exists s p.name) (h.sound.owners (canon p.name) account i).0 fresh) in
@@ -125,7 +131,7 @@ adds_first ids s id owner p old mid new last h fresh crate version summary =
     let same_owners : new 9 ≡ mid 9 = version.others.1.1.1.1.1.0 (λ e. cc) (λ e. cc) in
     let is = id_is ids s.publications s.yanked old mid new stands.crates id owner p crate fresh in
     let unread : (account : ℕ) → finset.contains s.readers (canon p.name, account) ≡ false = λ account. not_true _ (λ i. true_not_false (exists s p.name) (h.sound.readers (canon p.name) account i).0 fresh) in
-    let crates = adds_crate ids s.publications s.yanked old mid new stands.crates id owner p crate fresh (unmarked s p h.sound new_version) same_versions same_archives same_crates version in
+    let crates = adds_crate ids s.publications s.yanked old mid new stands.crates id owner p crate fresh key (unmarked s p h.sound new_version) same_versions same_archives same_crates version in
     let pairs = first_pair ids s.publications s.yanked old mid new stands.crates id owner p crate fresh s.owners (old 9) stands.owners unowned crate.rowid crate.free in
     let owned = subst (StandPairs (ids_with_crate p ids).crates (finset.insert s.owners (canon p.name, owner))) (sym (still_owners new last summary.others ∙ same_owners ∙ crate.owners)) (subst (λ n. StandPairs (ids.crates ++ (n, p.name) ∷ []) (finset.insert s.owners (canon p.name, owner)) (put_row (Int crate.rowid ∷ owner_columns id owner) (old 9))) is pairs) in
     let no_reader = unpaired ids s.publications s.yanked old mid new stands.crates id owner p crate fresh s.readers (old 18) stands.readers unread in
@@ -135,13 +141,13 @@ adds_first ids s id owner p old mid new last h fresh crate version summary =
     let marked = subst (λ n. StandMarked (ids.crates ++ (n, p.name) ∷ []) s.restricted (last 17)) is (marked_stay (ids.crates ++ (id, p.name) ∷ []) s.restricted (old 17) (last 17) rest.restricted not_marked) in
     let kept : new 16 ≡ old 16 = version.others.1.1.1.1.1.1.1.1.1.0 (λ e. cc) (λ e. cc) ∙ crate.others.1.1.1.1.1.1.1.1.1.0 (λ e. cc) (λ e. cc) in
     let before = summaries_stay ids s.yanked (old 16) (new 16) kept stands.summaries in
-    let row = subst (λ (n : ℕ). IsNewRow n (new 16) (last 16) (ids_with_crate p ids) s.yanked) is (summary.row (ids_with_crate p ids) _ s.yanked crates) in
-    let summaries = summaries_first ids s.publications s.yanked old stands.crates (new 16) (last 16) before p row in
+    let next = next_id_of ids s.yanked key id p mid new version (subst (IsPermutation (map (row_of_version s.yanked) ids.versions)) (sym same_versions) stands.crates.version_rows) in
+    let summaries = summaries_first ids s.publications _ s.yanked old new last stands.crates p crates before key next (subst (λ n. AddsSummary n key new last) is summary) in
     (is, with_crates ids (ids_with_crate p ids) s _ s.yanked _ old last rest stands (still_crates new last summary.others _ _ _ crates) owned read marked summaries)
 
-pub adds_next : (ids : Ids) (s : Registry) (id : ℕ) (p : Publication) (old new last : Trees) → Holds ids s old → spelling_at ids id ≡ Some p.name → has_version s (canon p.name) p.version ≡ false → AddsVersion id p old new → RenewsSummary id new last
+pub adds_next : (ids : Ids) (s : Registry) (id key : ℕ) (p : Publication) (old new last : Trees) → Holds ids s old → spelling_at ids id ≡ Some p.name → has_version s (canon p.name) p.version ≡ false → AddsVersion key id p old new → PushesSummary id key new last
     → StandsBy (ids_with_version id p ids) (record s { publications = s.publications ++ p ∷ [] }) last
-adds_next ids s id p old new last h at fresh version summary =
+adds_next ids s id key p old new last h at fresh version summary =
     let there = there_at ids id p.name at in
     let stands = h.stands in
     let after = ids_with_version id p ids in
@@ -152,9 +158,10 @@ adds_next ids s id p old new last h at fresh version summary =
     let rest = rest_then old new last (rest_of_version old new version.others) (rest_of_summary new last summary.others) in
     let readers = pairs_stay ids.crates s.readers (old 18) (last 18) rest.readers stands.readers in
     let restricted = marked_stay ids.crates s.restricted (old 17) (last 17) rest.restricted stands.restricted in
-    let crates = adds_version ids s.publications s.yanked old new stands.crates id p there (unmarked s p h.sound fresh) same_crates version in
+    let crates = adds_version ids s.publications s.yanked old new stands.crates key id p there (unmarked s p h.sound fresh) same_crates version in
     let before = summaries_stay ids s.yanked (old 16) (new 16) kept stands.summaries in
-    let summaries = summaries_next ids s.publications s.yanked old stands.crates (new 16) (last 16) before id p (summary.row after _ s.yanked crates) in
+    let next = next_id_of ids s.yanked key id p old new version stands.crates.version_rows in
+    let summaries = summaries_next ids s.publications _ s.yanked old new last stands.crates id p crates there before key next summary in
     with_crates ids after s _ s.yanked s.owners old last rest stands (still_crates new last summary.others _ _ _ crates) pairs readers restricted summaries
 
 -- what an update of the mark says, of the version that alone has the release and the text
@@ -162,8 +169,8 @@ abbrev ReplacesMark : ℕ → Text → Text → Bool → State → State → Typ
 ReplacesMark id release text b old new =
     (n : ℕ) (digest stem : Text) (description : Option Text) (was : Bool) → filter (is_version id release text) (old.now.trees 11) ≡ version_row n id text release digest stem description was ∷ [] → Replaces 11 n (version_row n id text release digest stem description b) old new
 
--- a mark of a version is changed, and the summary of its crate is renewed
-module _ (ids : Ids) (s : Registry) (id : ℕ) (old new : State) (last : Trees) (h : Holds ids s old.now.trees) (others : KeepsOthers 11 old.now.trees new.now.trees) (summary : RenewsSummary id new.now.trees last) where
+-- a mark of a version is changed, and the summary of its crate follows
+module _ (ids : Ids) (s : Registry) (id version : ℕ) (old new : State) (last : Trees) (h : Holds ids s old.now.trees) (others : KeepsOthers 11 old.now.trees new.now.trees) (summary : RemarksSummary id version new.now.trees last) where
   with_yanked : (yanked : finset.FinSet mark_cmp) → StandCrates ids s.publications yanked new.now.trees → StandSummaries ids yanked (last 16) → StandsBy ids (record s { yanked = yanked }) last
   with_yanked yanked crates summaries =
       let before = old.now.trees in
@@ -177,38 +184,76 @@ module _ (ids : Ids) (s : Registry) (id : ℕ) (old new : State) (last : Trees) 
   before_them : StandSummaries ids s.yanked (new.now.trees 16)
   before_them = summaries_stay ids s.yanked (old.now.trees 16) (new.now.trees 16) (same_summaries 11 old.now.trees new.now.trees others (λ e. cc)) h.stands.summaries
 
-  -- where the versions have the rows that they had
-  kept_marks : new.now.trees 11 ≡ old.now.trees 11 → StandsBy ids s last
-  kept_marks rows =
-      let crates = crates_stay ids s.publications s.yanked old.now.trees new.now.trees (same_crates 11 old.now.trees new.now.trees others (λ e. cc)) rows (same_archives 11 old.now.trees new.now.trees others (λ e. cc)) h.stands.crates in
-      with_yanked s.yanked crates (summaries_same ids s.publications s.yanked old.now.trees h.stands.crates (new.now.trees 16) (last 16) before_them id (summary.row ids _ s.yanked crates))
+  module _ (name text : Text) (b : Bool) (there : IsIn (id, name) ids.crates) (v : StoredVersion) (is : IsTarget ids s.publications s.yanked old.now.trees h.stands.crates h.sound.releases id name text there v) where
+    mark_at_it : (yanked : finset.FinSet mark_cmp) → is_marked yanked v ≡ finset.contains yanked (canon name, text)
+    mark_at_it yanked i = finset.contains yanked (is.canonical i, is.version i)
 
-  marks_one : (name text : Text) (b : Bool) → spelling_at ids id ≡ Some name → has_version s (canon name) text ≡ true → ReplacesMark id (release_key_of text) text b old new
-      → StandsBy ids (record s { yanked = cond b (finset.insert s.yanked (canon name, text)) (finset.remove s.yanked (canon name, text)) }) last
-  marks_one name text b at published replaces =
-      let before = old.now.trees in
-      let after = new.now.trees in
-      let stands = h.stands in
-      let there = there_at ids id name at in
-      let v = target ids s.publications s.yanked before stands.crates h.sound.releases id name text there published in
-      let p = v.0.publication in
-      let row = row_found ids s.publications s.yanked before stands.crates h.sound.releases id name text there v.0 v.1 in
-      let replaced = replaces v.0.id p.digest p.stem p.description (finset.contains s.yanked (canon name, text)) row in
-      let changed = yanks ids s.publications s.yanked before stands.crates h.sound.releases id name text there b v.0 v.1 after (same_crates 11 before after others (λ e. cc)) (same_archives 11 before after others (λ e. cc)) replaced.rows_are in
-      let marked = marks s.yanked (canon name) text b in
-      with_yanked marked changed (summaries_marked ids s.publications s.yanked before stands.crates (after 16) (last 16) before_them id name text b there (summary.row ids _ marked changed))
+    mark_changed : finset.contains s.yanked (canon name, text) ≡ not b → IsMarkChange (its_versions ids id) v s.yanked (marks s.yanked (canon name) text b)
+    mark_changed was = record {
+      there = kept (λ v. v.of_crate == id) ids.versions v is.stored (eq-eqb v.of_crate id is.crate);
+      changed = mark_at_it s.yanked ∙ was ∙ ap not (sym (mark_at_it (marks s.yanked (canon name) text b) ∙ mark_is s.yanked (canon name) text b));
+      others = λ w i apart. sym (mark_kept ids s.publications s.yanked old.now.trees h.stands.crates h.sound.releases id name text there b v w is (in_filter (λ v. v.of_crate == id) ids.versions w i) apart);
+    }
 
--- the same by the id alone: what is not there is not marked
-pub marks_at : (ids : Ids) (s : Registry) (id : ℕ) (text : Text) (b : Bool) (old new : State) (last : Trees) → Holds ids s old.now.trees → MarksYanked id (release_key_of text) text b old new → RenewsSummary id new.now.trees last → StandsBy ids (mark_at ids id text b s) last
-marks_at ids s id text b old new last h marks summary = split (spelling_at ids id) refl
+    marks_one : finset.contains s.yanked (canon name, text) ≡ not b → v.id ≡ version → ReplacesMark id (release_key_of text) text b old new → StandsBy ids (record s { yanked = marks s.yanked (canon name) text b }) last
+    marks_one was same replaces =
+        let before = old.now.trees in
+        let after = new.now.trees in
+        let stands = h.stands in
+        let p = v.publication in
+        let row = row_found ids s.publications s.yanked before stands.crates h.sound.releases id name text there v is in
+        let replaced = replaces v.id p.digest p.stem p.description (finset.contains s.yanked (canon name, text)) row in
+        let changed = yanks ids s.publications s.yanked before stands.crates h.sound.releases id name text there b v is after (same_crates 11 before after others (λ e. cc)) (same_archives 11 before after others (λ e. cc)) replaced.rows_are in
+        let marked = marks s.yanked (canon name) text b in
+        let has = summary_at ids ids s.yanked marked (after 16) (last 16) stands.crates.up before_them (id, name) there in
+        with_yanked marked changed (summaries_marked ids s.publications s.yanked before stands.crates (after 16) (last 16) before_them id name text b there (summary.row ids _ s.yanked marked v changed has same (mark_changed was)))
+
+-- what is told of the version that gets another mark
+module _ (ids : Ids) (s : Registry) (id : ℕ) (text : Text) (b : Bool) (db : Trees) (h : Holds ids s db) (found : Option ℕ) (told : IsOtherwise id text b db found) where
+  none_at : spelling_at ids id ≡ None → found ≡ None
+  none_at none = no_id id text b db found told (no_version ids s.publications s.yanked db h.stands.crates id text none)
+
+  none_of_it : (name : Text) → spelling_at ids id ≡ Some name → has_version s (canon name) text ≡ false → found ≡ None
+  none_of_it name at none = no_id id text b db found told (no_such_version ids s.publications s.yanked db h.stands.crates h.sound.releases id name text (there_at ids id name at) none)
+
+  target_at : (name : Text) (at : spelling_at ids id ≡ Some name) → has_version s (canon name) text ≡ true → (v : StoredVersion) × IsTarget ids s.publications s.yanked db h.stands.crates h.sound.releases id name text (there_at ids id name at) v
+  target_at name at published = target ids s.publications s.yanked db h.stands.crates h.sound.releases id name text (there_at ids id name at) published
+
+  one_of_it : (name : Text) (at : spelling_at ids id ≡ Some name) (v : StoredVersion) → IsTarget ids s.publications s.yanked db h.stands.crates h.sound.releases id name text (there_at ids id name at) v → found ≡ id_unless (finset.contains s.yanked (canon name, text)) b v.id
+  one_of_it name at v is =
+      one_id id text b db found told v.id v.publication.digest v.publication.stem v.publication.description (finset.contains s.yanked (canon name, text))
+      (row_found ids s.publications s.yanked db h.stands.crates h.sound.releases id name text (there_at ids id name at) v is)
+
+-- none does: all is as it was
+pub marks_none : (ids : Ids) (s : Registry) (id : ℕ) (text : Text) (b : Bool) (db : Trees) → Holds ids s db → IsOtherwise id text b db None → StandsBy ids (mark_at ids id text b s) db
+marks_none ids s id text b db h told = split (spelling_at ids id) refl
   where
-    kept : filter (is_version id (release_key_of text) text) (old.now.trees 11) ≡ [] → StandsBy ids s last
-    kept none = kept_marks ids s id old new last h marks.touches.others summary (marks.unmatched none)
-
-    split : (o : Option Text) → spelling_at ids id ≡ o → StandsBy ids (if_there o (with_mark text b) s) last
-    split None none = kept (no_version ids s.publications s.yanked old.now.trees h.stands.crates id text none)
+    split : (o : Option Text) → spelling_at ids id ≡ o → StandsBy ids (if_there o (with_mark text b) s) db
+    split None none = h.stands
     split (Some name) at = by (has_version s (canon name) text) refl
       where
-        by : (c : Bool) → has_version s (canon name) text ≡ c → StandsBy ids (cond c (record s { yanked = cond b (finset.insert s.yanked (canon name, text)) (finset.remove s.yanked (canon name, text)) }) s) last
-        by true there = marks_one ids s id old new last h marks.touches.others summary name text b at there marks.replaced
-        by false none = kept (no_such_version ids s.publications s.yanked old.now.trees h.stands.crates h.sound.releases id name text (there_at ids id name at) none)
+        by : (c : Bool) → has_version s (canon name) text ≡ c → StandsBy ids (cond c (record s { yanked = marks s.yanked (canon name) text b }) s) db
+        by false none = h.stands
+        by true published =
+            let v = target_at ids s id text b db h None told name at published in
+            let was = unless_none _ b v.0.id (one_of_it ids s id text b db h None told name at v.0 v.1) in
+            subst (λ y. StandsBy ids (record s { yanked = y }) db) (sym (marks_again s.yanked (canon name) text b was)) h.stands
+
+-- one does
+pub marks_some : (ids : Ids) (s : Registry) (id version : ℕ) (text : Text) (b : Bool) (old new : State) (last : Trees) → Holds ids s old.now.trees → IsOtherwise id text b old.now.trees (Some version) → MarksYanked id (release_key_of text) text b old new → RemarksSummary id version new.now.trees last
+    → StandsBy ids (mark_at ids id text b s) last
+marks_some ids s id version text b old new last h told marked summary = split (spelling_at ids id) refl
+  where
+    not_there : {P : Type 0} → ◌≡◌ {A = Option ℕ} (Some version) None → P
+    not_there e = absurd cc
+
+    split : (o : Option Text) → spelling_at ids id ≡ o → StandsBy ids (if_there o (with_mark text b) s) last
+    split None none = not_there (none_at ids s id text b old.now.trees h (Some version) told none)
+    split (Some name) at = by (has_version s (canon name) text) refl
+      where
+        by : (c : Bool) → has_version s (canon name) text ≡ c → StandsBy ids (cond c (record s { yanked = marks s.yanked (canon name) text b }) s) last
+        by false none = not_there (none_of_it ids s id text b old.now.trees h (Some version) told name at none)
+        by true published =
+            let v = target_at ids s id text b old.now.trees h (Some version) told name at published in
+            let was = unless_some _ b v.0.id version (one_of_it ids s id text b old.now.trees h (Some version) told name at v.0 v.1) in
+            marks_one ids s id version old new last h marked.touches.others summary name text b (there_at ids id name at) v.0 v.1 was.0 was.1 marked.replaced

@@ -13,6 +13,7 @@ pub mod IndexWalk
 pub mod Made
 mod Migrated
 mod NextId
+mod Marking
 pub mod MarkedStand
 pub mod Numbered
 mod PairsStand
@@ -33,12 +34,15 @@ pub mod Standing
 pub mod SummaryRows
 pub mod SummaryLaws
 mod SummaryFound
+mod SummaryMarked
+mod SummaryPushed
 mod SummarySteps
 mod SummaryChanges
 mod SummaryTops
 pub mod Stays
 mod TokenChanges
 pub mod TokenEntries
+mod VersionCounts
 pub mod VersionEntries
 pub mod Walking
 pub mod Withins

@@ -1,9 +1,9 @@
 -- What a change of the versions of one crate is on the summaries of all.
-use Rattle.std.proofs.Common.{◌≡◌, ◌==◌, ◌+◌, ◌≤◌, ℕ, pos, List, [], ◌∷◌, ◌++◌, map, Bool, true, false, not, refl, sym, ap, subst, ◌∙◌, arith}
+use Rattle.std.proofs.Common.{◌≡◌, ◌==◌, ◌+◌, ◌≤◌, ℕ, pos, List, [], ◌∷◌, ◌++◌, map, Bool, true, false, not, refl, sym, ap, subst, ◌∙◌, arith, zero-add}
 use Rattle.std.specs.Prelude.{nat_eq, drop}
 use Rattle.std.specs.FinSet as finset
 use Rattle.std.specs.Cmp.{nat_eq_equiv}
-use Rattle.std.specs.List.{filter, list_any}
+use Rattle.std.specs.List.{filter}
 use Rattle.std.specs.List.Sorted.{IsPermutation, IsStrictlySortedBy}
 use Rattle.std.specs.Ordering.{nat_cmp, on}
 use Rattle.std.proofs.lemmas.Bool.{eq-eqb, eqb-true}
@@ -18,20 +18,23 @@ use Rattle.sqlite_trees.proofs.ListLemmas.{IsPermutation-filter}
 use Rattle.reg_model.specs.Crates.{collides}
 use Rattle.reg_model.specs.Registry.{Publication, Text, mark_cmp}
 use Rattle.reg_model.proofs.Lists.{not_true, true_not_false}
-use Rattle.reg_model.proofs.Members.{IsIn, any_in, filtered_passes, in_any, in_filter, in_map, map_same, none_pass, one_passes}
+use Rattle.reg_model.proofs.Members.{IsIn, filtered_passes, in_filter, in_last, in_map, in_more, map_same, none_pass, one_passes}
 use Rattle.reg_names.specs.Names.{canon}
 use Rattle.reg_tables_schema.proofs.Permutes.{filter_map, free_without, one_row, put_permutes}
 use Rattle.reg_tables_schema.proofs.Queries.{same_filter}
-use Rattle.reg_tables_meaning.proofs.CrateLemmas.{above_other, apart_by, bytes_same, pushed, same_crate}
+use Rattle.reg_tables_meaning.proofs.CrateLemmas.{above_other, apart_by, bytes_same, crate_of, pushed, same_crate, version_of}
+use Rattle.reg_tables_meaning.proofs.CrateNames.{kept}
 use Rattle.reg_tables_meaning.proofs.Rising.{reaches}
-use Rattle.reg_tables_meaning.proofs.Standing.{none_row, same_number}
-use Rattle.reg_tables_meaning.proofs.SummaryRows.{same_row}
+use Rattle.reg_tables_meaning.proofs.Standing.{same_number}
+use Rattle.reg_tables_meaning.proofs.SummaryPushed.{IsTopOf, id_found, in_at, length_pushed, only_top, some_top, top_pushed_by}
+use Rattle.reg_tables_meaning.proofs.SummaryRows.{same_row, version_at}
 use Rattle.reg_tables_meaning.proofs.Yanks.{mark_of_other, marks}
 use Rattle.reg_tables_meaning.specs.Changes.{ids_with_crate, ids_with_version, next_crate, next_version}
 use Rattle.reg_tables_meaning.specs.Stands.{StandCrates}
 use Rattle.reg_tables_meaning.specs.Stored.{Ids, StoredCrate, StoredVersion}
-use Rattle.reg_tables_meaning.specs.Summaries.{StandSummaries, id_among, its_versions, length_among, row_among, row_of_summary}
-use Rattle.reg_tables_meaning.specs.SummaryChanges.{IsNewRow, IsRenewed}
+use Rattle.reg_tables_meaning.specs.Summaries.{StandSummaries, higher_of, its_versions, length_among, line_length, mark_shown, row_among, row_of_summary}
+use Rattle.reg_tables_meaning.specs.SummaryChanges.{AddsSummary, HasSummary, PushesSummary}
+use Rattle.reg_tables_sql.specs.Summaries.{summary_row}
 
 flipped : (a b : ℕ) → (a == b) ≡ false → (b == a) ≡ false
 flipped a b h = nat_eq_equiv.symm b a ∙ h
@@ -69,12 +72,6 @@ module _ (crates : List StoredCrate) (up : IsStrictlySortedBy nat_cmp (map (λ c
       let ended : IsPermutation (now c ∷ rest) after = subst (IsPermutation (now c ∷ rest)) (sym put) (subst (λ (r : Row). IsPermutation (r ∷ rest) (put_row (Int (pos c.0) ∷ columns) rest)) (sym is) (put_permutes (Int (pos c.0) ∷ columns) rest (free_without (pos c.0) columns rows))) in
       IsPermutation-trans _ (map now (c ∷ others c.0)) _ (IsPermutation-map now crates (c ∷ others c.0) first) (IsPermutation-trans _ (now c ∷ rest) _ all ended)
 
-  pub kept_all : (id : ℕ) → list_any (λ c. c.0 == id) crates ≡ false → ((d : StoredCrate) → IsIn d crates → (d.0 == id) ≡ false → now d ≡ row d) → (filter (has_rowid (pos id)) rows ≡ [] → after ≡ rows) → IsPermutation (map now crates) after
-  kept_all id none same kept =
-      let apart : (d : StoredCrate) → IsIn d crates → (d.0 == id) ≡ false = λ d i. not_true _ (λ e. true_not_false _ (in_any (λ c. c.0 == id) crates d i e) none) in
-      let empty = none_row row (has_rowid (pos id)) crates rows are (same_filter (λ d. has_rowid (pos id) (row d)) (λ d. d.0 == id) (λ d. keyed d id) crates ∙ none_pass (λ _ _. true) (λ d. d.0 == id) crates apart) in
-      subst (IsPermutation (map now crates)) (sym (kept empty)) (subst (λ (rs : List Row). IsPermutation rs rows) (sym (map_same now row crates (λ d i. same d i (apart d i)))) are)
-
 -- the same of summaries
 module _ (ids after : Ids) (yanked marked : finset.FinSet mark_cmp) (rows new : List Row) (up : IsStrictlySortedBy nat_cmp (map (λ c. c.0) ids.crates)) (stand : StandSummaries ids yanked rows) where
   abbrev row : StoredCrate → Row
@@ -86,21 +83,12 @@ module _ (ids after : Ids) (yanked marked : finset.FinSet mark_cmp) (rows new : 
   keyed : (c : StoredCrate) (n : ℕ) → has_rowid (pos n) (row c) ≡ (c.0 == n)
   keyed c n = same_number c.0 n
 
-  renewed_at : (c : StoredCrate) → IsIn c ids.crates → IsRenewed c.0 (now c) rows new → ((d : StoredCrate) → IsIn d ids.crates → (d.0 == c.0) ≡ false → now d ≡ row d) → IsPermutation (map now ids.crates) new
-  renewed_at c i renewed same =
-      let its = its_versions ids c.0 in
-      let found = row_at ids.crates up row now keyed rows new stand.are c i in
-      replaced ids.crates up row now keyed rows new stand.are c (drop 1 (now c)) i refl same (renewed.there (id_among yanked its) (length_among yanked its) found)
+  -- the row of one crate is put in the place of its old one
+  pub put_at : (c : StoredCrate) → IsIn c ids.crates → new ≡ put_row (now c) (without_rowid (pos c.0) rows) → ((d : StoredCrate) → IsIn d ids.crates → (d.0 == c.0) ≡ false → now d ≡ row d) → IsPermutation (map now ids.crates) new
+  put_at c i put same = replaced ids.crates up row now keyed rows new stand.are c (drop 1 (now c)) i refl same put
 
-  pub renewed_all : (id : ℕ) → IsRenewed id (row_among marked id (its_versions after id)) rows new → ((d : StoredCrate) → IsIn d ids.crates → (d.0 == id) ≡ false → now d ≡ row d) → IsPermutation (map now ids.crates) new
-  renewed_all id renewed same = split (list_any (λ c. c.0 == id) ids.crates) refl
-    where
-      split : (b : Bool) → list_any (λ c. c.0 == id) ids.crates ≡ b → IsPermutation (map now ids.crates) new
-      split false none = kept_all ids.crates up row now keyed rows new stand.are id none same renewed.none
-      split true some =
-          let c = any_in (λ c. c.0 == id) ids.crates some in
-          let e : id ≡ c.0.0 = sym (eqb-true c.0.0 id c.2) in
-          renewed_at c.0 c.1 (subst (λ (n : ℕ). IsRenewed n (row_among marked n (its_versions after n)) rows new) e renewed) (subst (λ (n : ℕ). (d : StoredCrate) → IsIn d ids.crates → (d.0 == n) ≡ false → now d ≡ row d) e same)
+  pub summary_at : (c : StoredCrate) → IsIn c ids.crates → filter (has_rowid (pos c.0)) rows ≡ row c ∷ []
+  summary_at c i = row_at ids.crates up row now keyed rows new stand.are c i
 
 -- a version that is added is none of another crate
 pub its_other : (ids : Ids) (of_crate : ℕ) (p : Publication) (id : ℕ) → (of_crate == id) ≡ false → its_versions (ids_with_version of_crate p ids) id ≡ its_versions ids id
@@ -110,15 +98,53 @@ its_other ids of_crate p id apart =
     let none : filter mine (v ∷ []) ≡ [] = rw apart refl in
     filter-append mine ids.versions (v ∷ []) ∙ ap (λ vs. its_versions ids id ++ vs) none ∙ append-nil (its_versions ids id)
 
-module _ (ids : Ids) (ps : List Publication) (yanked : finset.FinSet mark_cmp) (db : Trees) (h : StandCrates ids ps yanked db) (rows new : List Row) (stand : StandSummaries ids yanked rows) where
-  -- a version is added to a crate
-  pub summaries_next : (id : ℕ) (p : Publication) → IsRenewed id (row_among yanked id (its_versions (ids_with_version id p ids) id)) rows new → StandSummaries (ids_with_version id p ids) yanked new
-  summaries_next id p renewed =
-      record { are = renewed_all ids (ids_with_version id p ids) yanked yanked rows new h.up stand id renewed (λ d i apart. ap (row_among yanked d.0) (its_other ids id p d.0 (flipped d.0 id apart))) }
+abbrev last_of : Ids → ℕ → Publication → StoredVersion
+last_of ids of_crate p = record { id = next_version ids; of_crate = of_crate; publication = p }
 
+-- it is the last one of its own
+its_more : (ids : Ids) (id : ℕ) (p : Publication) → its_versions (ids_with_version id p ids) id ≡ its_versions ids id ++ last_of ids id p ∷ []
+its_more ids id p =
+    let mine : StoredVersion → Bool = λ v. v.of_crate == id in
+    let one : filter mine (last_of ids id p ∷ []) ≡ last_of ids id p ∷ [] = rw (eq-eqb id id refl) refl in
+    filter-append mine ids.versions (last_of ids id p ∷ []) ∙ ap (λ vs. its_versions ids id ++ vs) one
+
+-- a list with an element is not empty
+first_of : {X : Type 0} (xs : List X) (x : X) → IsIn x xs → (y : X) × (ys : List X) × (xs ≡ y ∷ ys)
+first_of [] x i = absurd i
+first_of (y ∷ ys) x i = (y, ys, refl)
+
+-- one more version of a crate that is there
+module _ (ids : Ids) (ps more : List Publication) (yanked : finset.FinSet mark_cmp) (old mid last : Trees) (h : StandCrates ids ps yanked old) (id : ℕ) (p : Publication) (after : StandCrates (ids_with_version id p ids) more yanked mid) (there : IsIn (id, p.name) ids.crates)
+    (stand : StandSummaries ids yanked (mid 16)) where
+  its : List StoredVersion
+  its = its_versions ids id
+
+  -- the highest of those before
+  top : (b : StoredVersion) × IsTopOf yanked its b × IsIn b ids.versions
+  unfolding its
+  top =
+      let v = version_of ids ps yanked old h (id, p.name) there in
+      let first = first_of its v.0 (kept (λ v. v.of_crate == id) ids.versions v.0 v.1 (eq-eqb v.0.of_crate id (sym v.2))) in
+      let b = some_top yanked first.0 first.1 in
+      let is : IsTopOf yanked its b.0 = subst (λ vs. IsTopOf yanked vs b.0) (sym first.2) b.1 in
+      (b.0, is, in_filter (λ v. v.of_crate == id) ids.versions b.0 (in_at its is.place b.0 is.at))
+
+  pub summaries_next : (key : ℕ) → key ≡ next_version ids → PushesSummary id key mid last → StandSummaries (ids_with_version id p ids) yanked (last 16)
+  unfolding its
+  summaries_next key is push =
+      let all = ids_with_version id p ids in
+      let v = last_of ids id p in
+      let b = top.0 in
+      let same : row_of_summary all yanked (id, p.name) ≡ summary_row id (higher_of (mark_shown yanked b) (mark_shown yanked v)).id (length_among yanked its + line_length (mark_shown yanked v)) =
+      ap (row_among yanked id) (its_more ids id p) ∙ (λ i. summary_row id (top_pushed_by yanked its b v top.1 i) (length_pushed yanked its v i)) in
+      let has : HasSummary id b.id (length_among yanked its) mid = summary_at ids ids yanked yanked (mid 16) (mid 16) h.up stand (id, p.name) there ∙ ap (λ n. summary_row id n (length_among yanked its) ∷ []) (id_found yanked its b top.1) in
+      let put = push.row (mark_shown yanked b) (mark_shown yanked v) (length_among yanked its) (sym is) has (version_at all more yanked mid after b (in_more ids.versions (v ∷ []) b top.2)) (version_at all more yanked mid after v (in_last ids.versions v)) in
+      record { are = put_at ids all yanked yanked (mid 16) (last 16) h.up stand (id, p.name) there (put ∙ ap (λ r. put_row r (without_rowid (pos id) (mid 16))) (sym same)) (λ d i apart. ap (row_among yanked d.0) (its_other ids id p d.0 (flipped d.0 id apart))) }
+
+module _ (ids : Ids) (ps : List Publication) (yanked : finset.FinSet mark_cmp) (db : Trees) (h : StandCrates ids ps yanked db) (rows new : List Row) (stand : StandSummaries ids yanked rows) where
   -- a mark of a version of a crate that is there is changed
-  pub summaries_marked : (id : ℕ) (name text : Text) (b : Bool) → IsIn (id, name) ids.crates → IsRenewed id (row_among (marks yanked (canon name) text b) id (its_versions ids id)) rows new → StandSummaries ids (marks yanked (canon name) text b) new
-  summaries_marked id name text b there renewed = record { are = renewed_all ids ids yanked marked rows new h.up stand id renewed same }
+  pub summaries_marked : (id : ℕ) (name text : Text) (b : Bool) → IsIn (id, name) ids.crates → new ≡ put_row (row_among (marks yanked (canon name) text b) id (its_versions ids id)) (without_rowid (pos id) rows) → StandSummaries ids (marks yanked (canon name) text b) new
+  summaries_marked id name text b there put = record { are = put_at ids ids yanked marked rows new h.up stand (id, name) there put same }
     where
       marked : finset.FinSet mark_cmp
       marked = marks yanked (canon name) text b
@@ -131,15 +157,23 @@ module _ (ids : Ids) (ps : List Publication) (yanked : finset.FinSet mark_cmp) (
           let differs : collides p.name name ≡ false = sym (same_crate ids ps yanked db h id name there v stored) ∙ ap (λ n. n == id) of_d ∙ apart in
           mark_of_other yanked (canon name) text b (canon p.name) p.version (λ e f. true_not_false _ (bytes_same _ _ e) differs))
 
-  -- nothing that is shown has changed
-  pub summaries_same : (id : ℕ) → IsRenewed id (row_among yanked id (its_versions ids id)) rows new → StandSummaries ids yanked new
-  summaries_same id renewed = record { are = renewed_all ids ids yanked yanked rows new h.up stand id renewed (λ d i apart. refl) }
+-- a crate is added with its first version
+module _ (ids : Ids) (ps more : List Publication) (yanked : finset.FinSet mark_cmp) (old mid last : Trees) (h : StandCrates ids ps yanked old) (p : Publication) (after : StandCrates (ids_with_crate p ids) more yanked mid) (stand : StandSummaries ids yanked (mid 16)) where
+  -- no version was of it
+  none_yet : its_versions ids (next_crate ids) ≡ []
+  none_yet = none_pass (λ _ _. true) (λ v. v.of_crate == next_crate ids) ids.versions (λ v i.
+      let c = crate_of ids ps yanked old h v i in
+      flipped (next_crate ids) v.of_crate (subst (λ n. (next_crate ids == n) ≡ false) c.2 (next_other (next_crate ids) c.0.0 (reaches (map (λ c. c.0) ids.crates) c.0.0 (in_map (λ c. c.0) ids.crates c.0 c.1)))))
 
-  -- a crate is added with its first version
-  pub summaries_first : (p : Publication) → IsNewRow (next_crate ids) rows new (ids_with_crate p ids) yanked → StandSummaries (ids_with_crate p ids) yanked new
-  summaries_first p added =
-      let after = ids_with_crate p ids in
-      let mine : StoredCrate = (next_crate ids, p.name) in
-      let below : (c : StoredCrate) → IsIn c ids.crates → (next_crate ids == c.0) ≡ false = λ c i. next_other (next_crate ids) c.0 (reaches (map (λ c. c.0) ids.crates) c.0 (in_map (λ c. c.0) ids.crates c i)) in
-      let same = map_same (row_of_summary after yanked) (row_of_summary ids yanked) ids.crates (λ c i. ap (row_among yanked c.0) (its_other ids (next_crate ids) p c.0 (below c i))) in
-      record { are = pushed (row_of_summary after yanked) ids.crates mine rows new (subst (λ (rs : List Row). IsPermutation rs rows) (sym same) stand.are) added }
+  pub summaries_first : (key : ℕ) → key ≡ next_version ids → AddsSummary (next_crate ids) key mid last → StandSummaries (ids_with_crate p ids) yanked (last 16)
+  summaries_first key is added =
+      let id = next_crate ids in
+      let all = ids_with_crate p ids in
+      let mine : StoredCrate = (id, p.name) in
+      let v = last_of ids id p in
+      let only : its_versions all id ≡ v ∷ [] = its_more ids id p ∙ ap (λ vs. vs ++ v ∷ []) none_yet in
+      let row : row_of_summary all yanked mine ≡ summary_row id key (line_length (mark_shown yanked v)) = ap (row_among yanked id) only ∙ (λ i. summary_row id ((id_found yanked (v ∷ []) v (only_top yanked v) ∙ sym is) i) ((length_pushed yanked [] v ∙ zero-add (line_length (mark_shown yanked v))) i)) in
+      let put = subst (λ (r : Row). IsPermutation (r ∷ mid 16) (last 16)) (sym row) (added.row (mark_shown yanked v) (sym is) (version_at all more yanked mid after v (in_last ids.versions v))) in
+      let below : (c : StoredCrate) → IsIn c ids.crates → (id == c.0) ≡ false = λ c i. next_other id c.0 (reaches (map (λ c. c.0) ids.crates) c.0 (in_map (λ c. c.0) ids.crates c i)) in
+      let same = map_same (row_of_summary all yanked) (row_of_summary ids yanked) ids.crates (λ c i. ap (row_among yanked c.0) (its_other ids id p c.0 (below c i))) in
+      record { are = pushed (row_of_summary all yanked) ids.crates mine (mid 16) (last 16) (subst (λ (rs : List Row). IsPermutation rs (mid 16)) (sym same) stand.are) put }

@@ -1,31 +1,38 @@
 -- What the rows of versions say of the highest of a crate and of its index file.
-use Rattle.std.proofs.Common.{◌≡◌, ◌==◌, ◌+◌, ◌<◌, ℕ, zero, suc, List, [], ◌∷◌, ◌++◌, map, length, Option, Some, None, refl, sym, ap, subst, ◌∙◌}
-use Rattle.std.specs.Prelude.{slice_get, unwrap_or}
+use Rattle.std.proofs.Common.{◌≡◌, ◌==◌, ◌+◌, ◌<◌, ℕ, zero, suc, List, [], ◌∷◌, ◌++◌, map, length, Bool, true, Option, Some, None, refl, sym, ap, subst, ◌∙◌}
+use Rattle.std.specs.Prelude.{nat_eq, slice_get, unwrap_or}
+use Rattle.std.specs.Ordering.{on}
+use Rattle.std.proofs.lemmas.Bool.{eq-eqb, eqb-true}
 use Rattle.std.specs.FinSet as finset
 use Rattle.std.specs.List.{filter}
 use Rattle.std.specs.List.Sorted.{IsPermutation}
 use Rattle.std.specs.Option.{option_and_then, option_map}
 use Rattle.std.proofs.lemmas.List.{length-append}
 use Rattle.std.proofs.lemmas.List.Sums.{sum_by-cons}
+use Rattle.sqlite.specs.Order.{Row}
 use Rattle.sqlite.specs.Tree.{Trees}
 use Rattle.sqlite_trees.proofs.ListLemmas.{ascending-filter, IsPermutation-filter}
 use Rattle.reg_line.specs.File.{end_of, file_text}
 use Rattle.reg_model.specs.Registry.{Publication, mark_cmp}
-use Rattle.reg_model.proofs.Members.{IsIn, map_same}
-use Rattle.reg_tables_schema.proofs.Permutes.{filter_map}
+use Rattle.reg_model.proofs.Members.{IsIn, map_same, one_passes}
+use Rattle.reg_tables_schema.proofs.Permutes.{filter_map, one_row}
 use Rattle.reg_tables_schema.proofs.Queries.{same_filter, maps_twice}
-use Rattle.reg_tables_schema.specs.Tests.{is_number}
+use Rattle.reg_tables_schema.specs.Shown.{shown_of}
+use Rattle.reg_tables_schema.specs.Tests.{is_number, shows}
 use Rattle.reg_tables_schema.specs.Rows.{by_column}
-use Rattle.reg_tables_sql.specs.VersionMarks.{AreMarksOf, columns_of_mark, shows_mark}
-use Rattle.reg_tables_sql.specs.Summaries.{summary_row}
+use Rattle.reg_tables_sql.specs.VersionMarks.{AreMarksOf, IsMarkWithId, columns_of_mark, shows_mark}
+use Rattle.reg_tables_sql.specs.Summaries.{IsSummaryOf, columns_of_summary, summary_places, summary_row}
+use Rattle.reg_tables_sql.specs.declared.summaries.Summary.{Summary}
 use Rattle.reg_tables_sql.specs.declared.versions.VersionMark.{VersionMark}
 use Rattle.reg_tables_meaning.proofs.AccountEntries.{heads, mark_is, number_is, tails, words_are}
+use Rattle.reg_tables_meaning.proofs.CrateLemmas.{apart_by}
 use Rattle.reg_tables_meaning.proofs.Selected.{column_total, each_part, shown_in_turn}
 use Rattle.reg_tables_meaning.proofs.Standing.{same_number}
 use Rattle.reg_tables_meaning.proofs.VersionEntries.{ids_rise, rows_rise}
 use Rattle.reg_tables_meaning.specs.Stands.{StandCrates, row_of_version}
 use Rattle.reg_tables_meaning.specs.Stored.{Ids, StoredVersion}
-use Rattle.reg_tables_meaning.specs.Summaries.{highest_in, highest_of, id_among, is_marked, its_versions, length_among, length_in, length_of, line_length, mark_shown, marked_of, read_mark, row_among, shown_mark}
+use Rattle.reg_tables_meaning.specs.SummaryChanges.{HasVersion, IsKept, IsVersionAt}
+use Rattle.reg_tables_meaning.specs.Summaries.{ShownMark, columns_of_shown, highest_in, highest_of, id_among, is_marked, its_versions, length_among, length_in, length_of, line_length, mark_shown, marked_of, read_mark, row_among, shown_mark}
 use Rattle.reg_versions.specs.Precedence.{top_place}
 use Rattle.reg_versions.specs.Versions.{parts_of}
 
@@ -85,6 +92,36 @@ module _ (ids : Ids) (ps : List Publication) (yanked : finset.FinSet mark_cmp) (
 
   pub length_is : (id : ℕ) (list : List VersionMark) → AreMarksOf id db list → length_in (map shown_mark list) ≡ length_of ids yanked id
   length_is id list found = ap length_in (marks_shown id list found) ∙ length_same yanked (its_versions ids id)
+
+  -- the row of a version that is there is the only one with its id
+  pub version_at : (v : StoredVersion) → IsIn v ids.versions → HasVersion (mark_shown yanked v) db
+  version_at v i =
+      let test : StoredVersion → Bool = λ w. is_number 0 v.id (row_of_version yanked w) in
+      let passes : (w : StoredVersion) → test w ≡ true → w.id ≡ v.id = λ w p. eqb-true w.id v.id (sym (same_number w.id v.id) ∙ p) in
+      let one = one_passes (on (λ w. w.id) nat_eq) test ids.versions v (apart_by (λ w. w.id) ids.versions h.rising) (λ w x j k p q. eq-eqb w.id x.id (passes w p ∙ sym (passes x q))) i (same_number v.id v.id ∙ eq-eqb v.id v.id refl) in
+      ap (map shows_mark) (one_row (row_of_version yanked) (is_number 0 v.id) v ids.versions (db 11) h.version_rows one)
+
+same_columns : {a b : Row} → ◌≡◌ {A = List Row} (a ∷ []) (b ∷ []) → a ≡ b
+same_columns e = cc
+
+same_mark : (v : ShownMark) (m : VersionMark) → columns_of_shown v ≡ columns_of_mark m → shown_mark m ≡ v
+same_mark v m e =
+    let id = number_is (heads e) in
+    let version = words_are (heads (tails e)) in
+    let long = number_is (heads (tails (tails e))) in
+    let mark = mark_is _ _ (heads (tails (tails (tails e)))) in
+    sym (λ i. record { id = id i; version = version i; stem_length = long i; yanked = mark i })
+
+-- what was found of the version with this id
+pub mark_found : (id : ℕ) (db : Trees) (found : Option VersionMark) (m : VersionMark) → found ≡ Some m → IsMarkWithId id db found → IsVersionAt id db m
+mark_found id db found m is told v e has =
+    same_mark v m (same_columns (sym has ∙ (λ i. map shows_mark (filter (is_number 0 (e i)) (db 11))) ∙ told ∙ ap (shown_of columns_of_mark) is))
+
+-- what was found of the summary of the crate
+pub kept_found : (id : ℕ) (db : Trees) (found : Option Summary) (m : Summary) → found ≡ Some m → IsSummaryOf id db found → IsKept id db m
+kept_found id db found m is told highest length has =
+    let e : shows summary_places (summary_row id highest length) ≡ columns_of_summary m = same_columns (sym (ap (map (shows summary_places)) has) ∙ told ∙ ap (shown_of columns_of_summary) is) in
+    (sym (number_is (heads (tails e))), sym (number_is (heads (tails (tails e)))))
 
 -- where the versions have the same marks, the row is the same
 pub same_row : (one other : finset.FinSet mark_cmp) (id : ℕ) (vs : List StoredVersion) → ((v : StoredVersion) → IsIn v vs → is_marked one v ≡ is_marked other v) → row_among one id vs ≡ row_among other id vs

@@ -65,6 +65,14 @@ module _ (yanked : finset.FinSet mark_cmp) (c t : Text) where
       by true = finset.contains-insert mark_total yanked key (d, v) ∙ ap (λ b. b || finset.contains yanked (d, v)) apart
       by false = finset.contains-remove mark_total yanked key (d, v) ∙ ap (λ b. not b && finset.contains yanked (d, v)) apart
 
+  -- a mark that is so already
+  pub marks_again : (b : Bool) → finset.contains yanked key ≡ b → marks b ≡ yanked
+  marks_again b was = finset.same_set mark_total mark_apart (marks b) yanked (λ q. split q (eq_by_cmp mark_cmp q key) refl)
+    where
+      split : (q : Mark) (e : Bool) → eq_by_cmp mark_cmp q key ≡ e → finset.contains (marks b) q ≡ finset.contains yanked q
+      split q true tied = let e = same_key mark_apart q key tied in ap (finset.contains (marks b)) e ∙ mark_is b ∙ sym was ∙ ap (finset.contains yanked) (sym e)
+      split q false apart = mark_of_other b q.0 q.1 (λ e f. true_not_false (eq_by_cmp mark_cmp q key) (ap (λ (k : Mark). eq_by_cmp mark_cmp k key) (λ i. (e i, f i)) ∙ ties_itself mark_total key) apart)
+
 module _ (ids : Ids) (publications : List Publication) (yanked : finset.FinSet mark_cmp) (old : Trees) (stands : StandCrates ids publications yanked old) (releases : IsDistinct one_release publications) (id : ℕ) (name text : Text) (there : IsIn (id, name) ids.crates) where
   -- the version of the crate with this text
   pub record IsTarget (v : StoredVersion) : Type 0 where
@@ -146,15 +154,21 @@ module _ (ids : Ids) (publications : List Publication) (yanked : finset.FinSet m
       let one = one_passes (on (λ w. w.id) (eq_by_cmp nat_cmp)) mine ids.versions v by_id same i (eq-eqb v.id v.id refl) in
       subst (λ vs. IsPermutation ids.versions (vs ++ others v)) one (IsPermutation-filter_both mine (λ w. not (mine w)) (λ w. refl) ids.versions)
 
+  -- another version is another release
+  differs : (v w : StoredVersion) → IsTarget v → IsIn w ids.versions → (w.id ≡ v.id → ⊥) → canon w.publication.name ≡ canon name → w.publication.version ≡ text → ⊥
+  differs v w is stored apart e f =
+      let same = one_of (on (λ v. v.publication) one_release) (λ x y. releases_equivalence.symm x.publication y.publication) ids.versions w v by_release stored is.stored (one_target w v (e ∙ sym is.canonical) (f ∙ sym is.version)) in
+      apart (ap (λ (x : StoredVersion). x.id) same)
+
+  pub mark_kept : (b : Bool) (v w : StoredVersion) → IsTarget v → IsIn w ids.versions → (w.id ≡ v.id → ⊥) → finset.contains (marks yanked (canon name) text b) (canon w.publication.name, w.publication.version) ≡ finset.contains yanked (canon w.publication.name, w.publication.version)
+  mark_kept b v w is stored apart = mark_of_other yanked (canon name) text b (canon w.publication.name) w.publication.version (differs v w is stored apart)
+
   other_row : (b : Bool) (v w : StoredVersion) → IsTarget v → IsIn w (others v) → row_of_version (marks yanked (canon name) text b) w ≡ row_of_version yanked w
   unfolding others
   other_row b v w is i =
       let p = w.publication in
-      let stored = in_filter (λ w. not (w.id == v.id)) ids.versions w i in
-      let differs : canon p.name ≡ canon name → p.version ≡ text → ⊥ = λ e f.
-      let same = one_of (on (λ v. v.publication) one_release) (λ x y. releases_equivalence.symm x.publication y.publication) ids.versions w v by_release stored is.stored (one_target w v (e ∙ sym is.canonical) (f ∙ sym is.version)) in
-      true_not_false (not (w.id == v.id)) (filtered_passes (λ w. not (w.id == v.id)) ids.versions w i) (ap not (eq-eqb w.id v.id (ap (λ (x : StoredVersion). x.id) same))) in
-      ap (version_row w.id w.of_crate p.version (release_key_of p.version) p.digest p.stem p.description) (mark_of_other yanked (canon name) text b (canon p.name) p.version differs)
+      let other : (w.id ≡ v.id → ⊥) = λ e. true_not_false (not (w.id == v.id)) (filtered_passes (λ w. not (w.id == v.id)) ids.versions w i) (ap not (eq-eqb w.id v.id e)) in
+      ap (version_row w.id w.of_crate p.version (release_key_of p.version) p.digest p.stem p.description) (mark_kept b v w is (in_filter (λ w. not (w.id == v.id)) ids.versions w i) other)
 
   pub rows_after : (b : Bool) (v : StoredVersion) → IsTarget v → IsPermutation (map (row_of_version (marks yanked (canon name) text b)) ids.versions)
       (put_row (version_row v.id id text (release_key_of text) v.publication.digest v.publication.stem v.publication.description b) (without_rowid (pos v.id) (old 11)))

@@ -37,9 +37,8 @@ pub record AddsCrate (id : ℕ) (name : Text) (owner : ℕ) (old new : Trees) : 
   pub owners : new 9 ≡ put_row (Int rowid ∷ owner_columns id owner) (old 9)
   pub others : KeepsAllBut 7 9 old new
 
--- a version of a crate, not yanked, with its archive
-pub record AddsVersion (of_crate : ℕ) (p : Publication) (old new : Trees) : Type 0 where
-  pub id : ℕ
+-- a version of a crate, not yanked, with its archive; this is its id
+pub record AddsVersion (id of_crate : ℕ) (p : Publication) (old new : Trees) : Type 0 where
   pub is_next : IsNextOf (old 11) id
   pub versions : IsPermutation (version_row id of_crate p.version
       (release_key_of p.version) p.digest p.stem p.description false ∷ old 11) (new 11)

@@ -217,6 +217,11 @@ Counted number db n = Tells (λ ids s. n ≡ number s) db
 abbrev pub ReachesCrates : ℕ → Trees → Bool → Type 0
 ReachesCrates number db is = Tells (λ ids s. is ≡ nat_le number (model.crates s)) db
 
+-- whether the crate with this id has as many versions as this; none where there is no crate
+abbrev pub ReachesVersions : ℕ → ℕ → Trees → Bool → Type 0
+ReachesVersions id number db is = Tells (λ ids s.
+    is ≡ nat_le number (told_of (spelling_at ids id) 0 (λ name. length (versions s name)))) db
+
 abbrev pub CountsAll : Trees → Counts → Type 0
 CountsAll db n = Tells
     (λ ids s. (n.accounts ≡ length s.accounts) × (n.tokens ≡ length s.tokens)

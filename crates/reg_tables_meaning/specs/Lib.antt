@@ -4,6 +4,7 @@ pub mod Changes
 pub mod Entries
 pub mod FoundTokens
 pub mod Ids
+pub mod Marking
 pub mod Numbers
 pub mod Patterns
 pub mod Relations

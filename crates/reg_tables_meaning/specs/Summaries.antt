@@ -1,17 +1,20 @@
 -- The kept summary of a crate: which of its versions is the highest, and how long its index file
 -- is.
-use Rattle.std.specs.Prelude.{ℕ, ◌==◌, ◌+◌, Bool, List, Option, map, length, unwrap_or, slice_get, IsPermutation, string_bytes}
+use Rattle.std.specs.Prelude.{ℕ, ◌==◌, ◌+◌, ◌||◌, nat_lt, pos, Bool, if◌then◌else◌, List, [], ◌∷◌, Option, map, length, unwrap_or, slice_get, IsPermutation, string_bytes}
 use Rattle.std.specs.FinSet as finset
 use Rattle.std.specs.List.{filter, sum_by}
 use Rattle.std.specs.Option.{option_and_then, option_map}
+use Rattle.sqlite.specs.declared.types.Value.TheVariants.{Int, Text as Words}
 use Rattle.sqlite.specs.Order.{Row}
 use Rattle.reg_line.specs.File.{end_of, file_text}
 use Rattle.reg_model.specs.Registry.{Text, mark_cmp}
 use Rattle.reg_names.specs.Names.{canon}
+use Rattle.reg_tables_schema.specs.Rows.{mark}
 use Rattle.reg_tables_sql.specs.Summaries.{summary_row}
 use Rattle.reg_tables_sql.specs.declared.versions.VersionMark.{VersionMark}
 use Rattle.reg_tables_meaning.specs.Stored.{Ids, StoredCrate, StoredVersion}
 use Rattle.reg_versions.specs.Precedence.{Marked, top_place}
+use Rattle.reg_versions.specs.Pushed.{takes_over}
 use Rattle.reg_versions.specs.Versions.{parts_of}
 
 -- the versions of the crate with this id, in the order of publication
@@ -83,6 +86,11 @@ mark_shown yanked v = record {
   yanked = is_marked yanked v;
 }
 
+-- the same in columns
+abbrev pub columns_of_shown : ShownMark → Row
+columns_of_shown m =
+    Int (pos m.id) ∷ Words m.version ∷ Int (pos m.stem_length) ∷ mark m.yanked ∷ []
+
 -- what they say of the highest and of the index file
 abbrev pub read_mark : ShownMark → Marked
 read_mark m = (parts_of m.version, m.yanked)
@@ -97,3 +105,17 @@ line_length m = m.stem_length + length (end_of m.yanked)
 
 abbrev pub length_in : List ShownMark → ℕ
 length_in ms = sum_by line_length ms
+
+-- the higher of two that follow one another in the order of publication
+abbrev pub higher_of : ShownMark → ShownMark → ShownMark
+higher_of one next = if takes_over (read_mark one) (read_mark next) then next else one
+
+-- the higher of two, which follow one another as their ids do
+abbrev pub higher_by_id : ShownMark → ShownMark → ShownMark
+higher_by_id one other =
+    if nat_lt one.id other.id then higher_of one other else higher_of other one
+
+-- the highest once the mark of a version is this one, where it was `top`; not where `top` is yanked
+abbrev pub higher_marked : ShownMark → ShownMark → ShownMark
+higher_marked top now =
+    if now.yanked || now.id == top.id then top else higher_by_id now top

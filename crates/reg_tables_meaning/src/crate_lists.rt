@@ -1,10 +1,12 @@
 //! Selections of crates and of their versions.
 
+ghost use Rattle.std.specs.Prelude.{◌≡◌, ◌<◌, IfOk, nat_le};
 ghost use Rattle.sqlite.specs.Held.{state};
+ghost use Rattle.reg_tables_schema.specs.Rows.{greatest_number};
 ghost use Rattle.reg_tables_schema.specs.States.{IsReady};
 ghost use Rattle.reg_tables_schema.specs.Statements.{rows_in};
 ghost use Rattle.reg_tables_schema.specs.Steps.{KeepsAll, Told};
-ghost use Rattle.reg_tables_meaning.specs.Calls.{FindsArchive, FindsCrate, ListsCrates, ListsVersions};
+ghost use Rattle.reg_tables_meaning.specs.Calls.{FindsArchive, FindsCrate, ListsCrates, ListsVersions, ReachesVersions};
 ghost use Rattle.reg_tables_sql.specs.Crates.{AreCrates, IsCrateOfCanon};
 ghost use Rattle.reg_tables_sql.specs.Versions.{AreVersionsOf};
 
@@ -41,6 +43,32 @@ pub fn list<S: Alter>(
     ensures same { KeepsAll S.Store conn.old conn.new result }
 {
     versions::of_crate(alloc, conn, crate_id)
+}
+
+// SQL counts only up to its greatest number; there, its answer may be too low.
+fn reaches(number: u64, count: u64) -> Result<bool, Error>
+    ensures { IfOk result (λ is. (is ≡ nat_le number count) × (count < greatest_number)) }
+{
+    if count < i64::MAX as u64 {
+        Ok(number <= count)
+    } else {
+        Err(Error::InvalidQuery)
+    }
+}
+
+/// Whether a crate has at least this many versions. They are counted, but not read.
+pub fn reaches_versions<S: Alter>(
+    conn: &mut Connection<S>,
+    crate_id: u32,
+    number: u64,
+) -> Result<bool, Error>
+    requires { IsReady (state S.Store conn.old) }
+    ensures told { Told S.Store conn.new result
+        (ReachesVersions crate_id number (rows_in S.Store conn.old)) }
+    ensures same { KeepsAll S.Store conn.old conn.new result }
+{
+    let count = versions::count_of(conn, crate_id)?;
+    reaches(number, count)
 }
 
 /// The archive of exactly this version of a crate.

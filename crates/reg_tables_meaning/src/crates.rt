@@ -1,20 +1,22 @@
 //! Changes to crates and their versions.
 
-ghost use Rattle.std.specs.Prelude.{◌<◌, ◌^◌, IfOk};
+ghost use Rattle.std.specs.Prelude.{◌≡◌, ◌<◌, ◌^◌, IfOk};
 ghost use Rattle.sqlite.specs.Held.{state};
 ghost use Rattle.reg_tables_schema.specs.States.{IsReady};
 ghost use Rattle.reg_tables_schema.specs.Statements.{rows_in};
-ghost use Rattle.reg_tables_schema.specs.Steps.{Done, Steps, Told};
+ghost use Rattle.reg_tables_schema.specs.Steps.{Done, KeepsAll, Steps, Told};
 ghost use Rattle.reg_tables_meaning.specs.Calls.{AddsFirst, AddsNext, SetsYanked, published};
 ghost use Rattle.reg_tables_meaning.specs.Additions.{AddsCrate, AddsVersion};
 ghost use Rattle.reg_tables_meaning.specs.Ids.{IsNext};
+ghost use Rattle.reg_tables_meaning.specs.Marking.{IsOtherwise, id_unless};
 
 use crate::accounts::next_id;
 use crate::summaries;
 use reg_line::Digest;
 use reg_names::{CrateName, canon};
 use reg_tables_sql::pairs::Relation;
-use reg_tables_sql::{archives, crates, pairs, versions};
+use reg_tables_sql::versions::{self, VersionMark};
+use reg_tables_sql::{archives, crates, pairs};
 use reg_versions::release_key;
 use sqlite::{Alter, Connection, Error};
 
@@ -65,10 +67,10 @@ fn insert_version<S: Alter>(
     conn: &mut Connection<S>,
     crate_id: u32,
     version: &NewVersion<'_>,
-) -> Result<(), Error>
+) -> Result<u64, Error>
     requires { IsReady (state S.Store conn.old) }
-    ensures added { Done S.Store conn.new result ((name : _)
-        → AddsVersion crate_id (published name version.now)
+    ensures added { Told S.Store conn.new result (λ id. (name : _)
+        → AddsVersion id crate_id (published name version.now)
         (rows_in S.Store conn.old) (rows_in S.Store conn.new)) }
     ensures leaves { Steps S.Store conn.old conn.new result }
 {
@@ -86,7 +88,7 @@ fn insert_version<S: Alter>(
         version.description,
     )?;
     archives::insert(conn, id, version.archive)?;
-    Ok(())
+    Ok(id)
 }
 
 /// Adds a crate with its first version and its owner, and returns its id.
@@ -104,8 +106,8 @@ pub fn add_new<S: Alter>(
     ensures leaves { Steps S.Store conn.old conn.new result }
 {
     let id = insert_crate(conn, name, owner)?;
-    insert_version(conn, id, version)?;
-    summaries::insert(conn, id)?;
+    let first = insert_version(conn, id, version)?;
+    summaries::insert(conn, id, first)?;
     Ok(id)
 }
 
@@ -120,12 +122,42 @@ pub fn add_next<S: Alter>(
         (AddsNext crate_id version.now (rows_in S.Store conn.old) (rows_in S.Store conn.new)) }
     ensures leaves { Steps S.Store conn.old conn.new result }
 {
-    insert_version(conn, crate_id, version)?;
-    summaries::renew(conn, crate_id)?;
+    let id = insert_version(conn, crate_id, version)?;
+    summaries::push(conn, crate_id, id)?;
     Ok(())
 }
 
-/// Yanks or unyanks a version of a crate that is there.
+fn id_unless(found: &VersionMark, yanked: bool) -> Option<u64>
+    ensures { result ≡ id_unless found.now.yanked yanked found.now.id }
+{
+    if found.yanked == yanked {
+        None
+    } else {
+        Some(found.id)
+    }
+}
+
+/// The id of a version, if it is there and has the other mark.
+fn otherwise<S: Alter>(
+    conn: &mut Connection<S>,
+    crate_id: u32,
+    text: &str,
+    yanked: bool,
+) -> Result<Option<u64>, Error>
+    requires { IsReady (state S.Store conn.old) }
+    ensures told { Told S.Store conn.new result
+        (IsOtherwise crate_id text.now yanked (rows_in S.Store conn.old)) }
+    ensures same { KeepsAll S.Store conn.old conn.new result }
+{
+    let found = versions::mark_by_text(conn, crate_id, release_key(text), text)?;
+    match found {
+        Some(version) => Ok(id_unless(&version, yanked)),
+        None => Ok(None),
+    }
+}
+
+/// Yanks or unyanks a version of a crate that is there. If it has this mark already, nothing is
+/// written.
 #[tactic(auto, using(crate::proofs::Withins::refused_fails, crate::proofs::Withins::touch_within))]
 pub fn mark<S: Alter>(
     conn: &mut Connection<S>,
@@ -139,7 +171,11 @@ pub fn mark<S: Alter>(
         (rows_in S.Store conn.old) (rows_in S.Store conn.new)) }
     ensures leaves { Steps S.Store conn.old conn.new result }
 {
+    let found = otherwise(conn, crate_id, text, yanked)?;
+    let Some(version) = found else {
+        return Ok(());
+    };
     versions::set_yanked(conn, crate_id, release_key(text), text, yanked)?;
-    summaries::renew(conn, crate_id)?;
+    summaries::remark(conn, crate_id, version)?;
     Ok(())
 }

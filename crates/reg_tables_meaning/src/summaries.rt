@@ -1,21 +1,23 @@
 //! The kept summaries of crates: the highest version of each, and its index file's length.
 //!
-//! A summary is rebuilt from the rows of its crate's versions after each change to them.
+//! A publish and a yank look at no other version than the highest. Only if the highest itself is
+//! yanked, the summary is rebuilt from all versions of its crate.
 
-ghost use Rattle.std.specs.Prelude.{◌≡◌, ◌+◌, [], IfOk, IsTrue, map, slice_get, unwrap_or};
+ghost use Rattle.std.specs.Prelude.{◌≡◌, ◌+◌, [], IfOk, IsTrue, length, map, not, slice_get, unwrap_or};
 ghost use Rattle.std.specs.Option.{option_map};
+ghost use Rattle.reg_line.specs.File.{end_of};
 ghost use Rattle.sqlite.specs.Held.{state};
 ghost use Rattle.reg_tables_schema.specs.States.{IsReady};
 ghost use Rattle.reg_tables_schema.specs.Statements.{rows_in};
 ghost use Rattle.reg_tables_schema.specs.Steps.{Done, KeepsAll, Steps, Told};
 ghost use Rattle.reg_tables_meaning.specs.Calls.{FindsSummary};
-ghost use Rattle.reg_tables_meaning.specs.Summaries.{highest_in, length_in, line_length, read_mark, shown_mark};
-ghost use Rattle.reg_tables_meaning.specs.SummaryChanges.{AddsSummary, AreNumbers, RenewsSummary};
+ghost use Rattle.reg_tables_meaning.specs.Summaries.{higher_by_id, higher_of, highest_in, length_in, line_length, read_mark, shown_mark};
+ghost use Rattle.reg_tables_meaning.specs.SummaryChanges.{AddsSummary, AreNumbers, ArePushed, AreRemarked, IsHigherMarked, IsKept, IsVersionAt, PushesSummary, RemarksSummary};
 
 use reg_line::line_len;
 use reg_tables_sql::summaries::{self, Summary};
 use reg_tables_sql::versions::{self, VersionMark};
-use reg_versions::{Release, VersionFault, highest};
+use reg_versions::{Release, VersionFault, highest, takes_over};
 use sqlite::{Alter, Connection, Error};
 use std::alloc::{AllocError, Global};
 
@@ -116,26 +118,171 @@ fn numbers_of<S: Alter>(conn: &mut Connection<S>, crate_id: u32) -> Result<Numbe
     Ok(numbers)
 }
 
-/// Adds the summary of a crate that has none.
-pub(crate) fn insert<S: Alter>(conn: &mut Connection<S>, crate_id: u32) -> Result<(), Error>
+/// The summary of a crate that has one.
+fn kept<S: Alter>(conn: &mut Connection<S>, crate_id: u32) -> Result<Summary, Error>
+    requires { IsReady (state S.Store conn.old) }
+    ensures told { Told S.Store conn.new result (IsKept crate_id (rows_in S.Store conn.old)) }
+    ensures same { KeepsAll S.Store conn.old conn.new result }
+{
+    let found = summaries::of_crate(conn, crate_id)?;
+    found.ok_or(Error::InvalidQuery)
+}
+
+/// The version with this id.
+fn version_at<S: Alter>(conn: &mut Connection<S>, id: u64) -> Result<VersionMark, Error>
+    requires { IsReady (state S.Store conn.old) }
+    ensures told { Told S.Store conn.new result (IsVersionAt id (rows_in S.Store conn.old)) }
+    ensures same { KeepsAll S.Store conn.old conn.new result }
+{
+    let found = versions::mark_by_id(conn, id)?;
+    found.ok_or(Error::InvalidQuery)
+}
+
+/// The id of the higher of two versions, the second of them published later.
+fn higher(one: &VersionMark, next: &VersionMark) -> Result<u64, Error>
+    ensures { IfOk result (λ id. id ≡ (higher_of (shown_mark one.now) (shown_mark next.now)).id) }
+{
+    let alloc = *one.vers.allocator();
+    let first = read(alloc, one)?;
+    let second = read(alloc, next)?;
+    if takes_over(&first, &second) {
+        Ok(next.id)
+    } else {
+        Ok(one.id)
+    }
+}
+
+/// What the summary of a crate says with one more version, the last.
+fn pushed<S: Alter>(conn: &mut Connection<S>, crate_id: u32, version: u64) -> Result<Numbers, Error>
+    requires { IsReady (state S.Store conn.old) }
+    ensures told { Told S.Store conn.new result
+        (λ n. ArePushed crate_id version (rows_in S.Store conn.old) n.highest n.index_length) }
+    ensures same { KeepsAll S.Store conn.old conn.new result }
+{
+    let kept = kept(conn, crate_id)?;
+    let top = version_at(conn, kept.highest)?;
+    let next = version_at(conn, version)?;
+    let highest = higher(&top, &next)?;
+    let index_length = with_line(kept.index_length, &next)?;
+    Ok(Numbers {
+        highest,
+        index_length,
+    })
+}
+
+/// Adds the summary of a crate that has only this version.
+pub(crate) fn insert<S: Alter>(
+    conn: &mut Connection<S>,
+    crate_id: u32,
+    version: u64,
+) -> Result<(), Error>
     requires { IsReady (state S.Store conn.old) }
     ensures added { Done S.Store conn.new result
-        (AddsSummary crate_id (rows_in S.Store conn.old) (rows_in S.Store conn.new)) }
+        (AddsSummary crate_id version (rows_in S.Store conn.old) (rows_in S.Store conn.new)) }
     ensures leaves { Steps S.Store conn.old conn.new result }
 {
-    let numbers = numbers_of(conn, crate_id)?;
-    summaries::insert(conn, crate_id, numbers.highest, numbers.index_length)?;
+    let only = version_at(conn, version)?;
+    let index_length = with_line(0, &only)?;
+    summaries::insert(conn, crate_id, version, index_length)?;
     Ok(())
 }
 
-/// Updates the summary of a crate to what its versions are now.
-pub(crate) fn renew<S: Alter>(conn: &mut Connection<S>, crate_id: u32) -> Result<(), Error>
+/// Updates the summary of a crate for one more version, the last.
+pub(crate) fn push<S: Alter>(
+    conn: &mut Connection<S>,
+    crate_id: u32,
+    version: u64,
+) -> Result<(), Error>
     requires { IsReady (state S.Store conn.old) }
-    ensures renewed { Done S.Store conn.new result
-        (RenewsSummary crate_id (rows_in S.Store conn.old) (rows_in S.Store conn.new)) }
+    ensures pushed { Done S.Store conn.new result
+        (PushesSummary crate_id version (rows_in S.Store conn.old) (rows_in S.Store conn.new)) }
     ensures leaves { Steps S.Store conn.old conn.new result }
 {
-    let numbers = numbers_of(conn, crate_id)?;
+    let numbers = pushed(conn, crate_id, version)?;
+    summaries::update(conn, crate_id, numbers.highest, numbers.index_length)?;
+    Ok(())
+}
+
+/// The id of the higher of two versions, given in either order.
+fn higher_of_two(one: &VersionMark, other: &VersionMark) -> Result<u64, Error>
+    ensures { IfOk result
+        (λ id. id ≡ (higher_by_id (shown_mark one.now) (shown_mark other.now)).id) }
+{
+    if one.id < other.id {
+        higher(one, other)
+    } else {
+        higher(other, one)
+    }
+}
+
+/// The id of the highest version once another has its mark changed, or the highest is unyanked:
+/// `highest` was it before, and `now` has the new mark.
+fn highest_marked<S: Alter>(
+    conn: &mut Connection<S>,
+    highest: u64,
+    now: &VersionMark,
+) -> Result<u64, Error>
+    requires { IsReady (state S.Store conn.old) }
+    ensures told { Told S.Store conn.new result
+        (IsHigherMarked highest (shown_mark now.now) (rows_in S.Store conn.old)) }
+    ensures same { KeepsAll S.Store conn.old conn.new result }
+{
+    if now.yanked || now.id == highest {
+        return Ok(highest);
+    }
+    let top = version_at(conn, highest)?;
+    higher_of_two(now, &top)
+}
+
+/// The length of an index file once one of its marks is this one: `true` is shorter by a byte.
+fn length_marked(before: u64, yanked: bool) -> Result<u64, Error>
+    ensures { IfOk result
+        (λ n. n + length (end_of (not yanked)) ≡ before + length (end_of yanked)) }
+{
+    let length = if yanked {
+        before.checked_sub(1)
+    } else {
+        before.checked_add(1)
+    };
+    length.ok_or(Error::InvalidQuery)
+}
+
+/// What the summary of a crate says once the mark of a version has changed.
+fn remarked<S: Alter>(
+    conn: &mut Connection<S>,
+    crate_id: u32,
+    version: u64,
+) -> Result<Numbers, Error>
+    requires { IsReady (state S.Store conn.old) }
+    ensures told { Told S.Store conn.new result
+        (λ n. AreRemarked crate_id version (rows_in S.Store conn.old) n.highest n.index_length) }
+    ensures same { KeepsAll S.Store conn.old conn.new result }
+{
+    let kept = kept(conn, crate_id)?;
+    let now = version_at(conn, version)?;
+    if now.yanked && now.id == kept.highest {
+        return numbers_of(conn, crate_id);
+    }
+    let highest = highest_marked(conn, kept.highest, &now)?;
+    let index_length = length_marked(kept.index_length, now.yanked)?;
+    Ok(Numbers {
+        highest,
+        index_length,
+    })
+}
+
+/// Updates the summary of a crate once the mark of a version has changed.
+pub(crate) fn remark<S: Alter>(
+    conn: &mut Connection<S>,
+    crate_id: u32,
+    version: u64,
+) -> Result<(), Error>
+    requires { IsReady (state S.Store conn.old) }
+    ensures remarked { Done S.Store conn.new result
+        (RemarksSummary crate_id version (rows_in S.Store conn.old) (rows_in S.Store conn.new)) }
+    ensures leaves { Steps S.Store conn.old conn.new result }
+{
+    let numbers = remarked(conn, crate_id, version)?;
     summaries::update(conn, crate_id, numbers.highest, numbers.index_length)?;
     Ok(())
 }

@@ -1,5 +1,8 @@
 -- What the queries on versions answer.
-use Rattle.std.proofs.Common.{ℕ, pos, List, [], ◌∷◌, codes, map, Option, refl}
+use Rattle.std.proofs.Common.{◌≡◌, ℕ, pos, List, [], ◌∷◌, codes, length, map, Option, refl, ap, ◌∙◌}
+use Rattle.std.specs.List.{filter}
+use Rattle.std.proofs.lemmas.List.{length-map}
+use Rattle.sqlite.specs.declared.types.Value.{Value}
 use Rattle.sqlite.specs.declared.types.Value.TheVariants.{Int}
 use Rattle.sqlite.specs.Collation.TheVariants.{Binary}
 use Rattle.sqlite_value.specs.Keys.{ascending}
@@ -14,15 +17,16 @@ use Rattle.reg_tables_schema.specs.Schema.{ours}
 use Rattle.reg_tables_schema.specs.States.{IsInside}
 use Rattle.reg_tables_schema.proofs.Reading.{IsSelection, selected}
 use Rattle.sqlite_value.specs.declared.keys.Key.{Key}
-use Rattle.reg_tables_schema.specs.Rows.{by_column, number_columns}
+use Rattle.reg_tables_schema.specs.Rows.{by_column, capped, number_columns}
 use Rattle.reg_tables_schema.specs.Shown.{shown_of}
 use Rattle.reg_tables_schema.specs.Tests.{is_number}
+use Rattle.reg_tables_schema.proofs.Counts.{counted, counts}
 use Rattle.reg_tables_schema.proofs.Greatest.{greatest, greatest_of}
 use Rattle.reg_tables_schema.proofs.Sorted.{in_order, in_order_of, then_equal}
 use Rattle.reg_tables_schema.proofs.TableMatches.{equals_first, matches_number}
 use Rattle.reg_tables_schema.proofs.WholeTables.{all_in_order}
 use Rattle.reg_tables_sql.specs.declared.versions.Version.{Version}
-use Rattle.reg_tables_sql.specs.Counts.{IsLastId}
+use Rattle.reg_tables_sql.specs.Counts.{IsCountOf, IsLastId}
 use Rattle.reg_tables_sql.specs.Versions.{AreVersions, AreVersionsOf, columns_of_version}
 
 abbrev by_id : List (Term × Key)
@@ -67,3 +71,25 @@ last_is = record { command = refl; unlisted = refl; plain = (refl, refl) }
 
 pub last : (old new : State) (id : Option ℕ) → IsInside old → Shown last_text [] old new (shown_of number_columns id) → IsLastId 11 old.now.trees id
 last old new id at h = greatest_of (overlay old.now.trees []) 11 _ (selected last_is [] old new _ at h)
+
+abbrev pub count_text : List ℕ
+count_text = codes "SELECT count(*) FROM versions WHERE crate = ?1"
+
+pub count_is : IsSelection ours count_text (counted (inner 11 end) (equals_first 2)) (codes "count(*)" ∷ [])
+unfolding understood everything
+count_is = record { command = refl; unlisted = refl; plain = (refl, refl) }
+
+one_number : {a b : Row} → ◌≡◌ {A = List Row} (a ∷ []) (b ∷ []) → a ≡ b
+one_number e = cc
+
+only_value : {a b : Value} → ◌≡◌ {A = Row} (a ∷ []) (b ∷ []) → a ≡ b
+only_value e = cc
+
+pub count : (old new : State) (id n : ℕ) → IsInside old → Shown count_text (Int (pos id) ∷ []) old new (number_columns n ∷ []) → IsCountOf 11 2 id old.now.trees n
+count old new id n at h =
+    let params : Row = Int (pos id) ∷ [] in
+    let db = overlay old.now.trees [] in
+    let met = matches_number db 11 2 id in
+    let counted = counts db params (inner 11 end) (equals_first 2) _ (selected count_is params old new _ at h) in
+    only_value (one_number counted)
+    ∙ ap capped (ap length met ∙ length-map (filter (is_number 2 id) (old.now.trees 11)) (λ (r : Row). params ∷ r ∷ []))

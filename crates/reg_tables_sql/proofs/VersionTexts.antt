@@ -67,7 +67,7 @@ insert_writes = refl
 abbrev yank_text : List ℕ
 yank_text = codes "UPDATE versions SET yanked = ?4 WHERE crate = ?1 AND release = ?2 AND vers = ?3"
 
-abbrev yank_filter : List Term
+abbrev pub yank_filter : List Term
 yank_filter = op2 (Compare Eq Binary) (col 1 2) (col 0 0) ∷ op2 (Compare Eq Binary) (col 1 4) (col 0 1) ∷ op2 (Compare Eq Binary) (col 1 3) (col 0 2) ∷ []
 
 -- the old rowid, and then the new row

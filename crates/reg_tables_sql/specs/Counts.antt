@@ -1,13 +1,18 @@
--- How many rows a table has, and its greatest id.
-use Rattle.std.specs.Prelude.{◌≡◌, ℕ, pos, length, Option}
+-- How many rows a table has, in all or of one kind, and its greatest id.
+use Rattle.std.specs.Prelude.{◌≡◌, ℕ, pos, filter, length, Option}
 use Rattle.sqlite.specs.declared.types.Value.TheVariants.{Int}
 use Rattle.sqlite.specs.Tree.{Trees}
 use Rattle.reg_tables_schema.specs.Greatest.{IsGreatest, row_of_id}
 use Rattle.reg_tables_schema.specs.Rows.{capped}
+use Rattle.reg_tables_schema.specs.Tests.{is_number}
 
 -- the number of rows, up to the greatest count of SQL
 abbrev pub IsCount : ℕ → Trees → ℕ → Type 0
 IsCount tree db n = Int (pos n) ≡ capped (length (db tree))
+
+-- the same of the rows that have this number at a place
+abbrev pub IsCountOf : ℕ → ℕ → ℕ → Trees → ℕ → Type 0
+IsCountOf tree place id db n = Int (pos n) ≡ capped (length (filter (is_number place id) (db tree)))
 
 -- the greatest id, if there is a row
 abbrev pub IsLastId : ℕ → Trees → Option ℕ → Type 0

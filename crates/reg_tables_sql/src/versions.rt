@@ -1,24 +1,26 @@
 //! The table of versions, one statement per function.
 
-ghost use Rattle.std.specs.Prelude.{◌≡◌, ◌<◌, ◌^◌, ◌∷◌, [], false, pos, IfOk};
+ghost use Rattle.std.specs.Prelude.{◌≡◌, ◌<◌, ◌^◌, ◌∷◌, [], false, pos, IfOk, OnOk};
 ghost use Rattle.std.specs.Option.{option_map};
 ghost use Rattle.sqlite.specs.Held.{state};
 ghost use Rattle.sqlite.specs.Order.{column};
+ghost use Rattle.sqlite.specs.Values.{bound};
 ghost use Rattle.sqlite.specs.declared.types.Value.TheVariants.{Int};
 ghost use Rattle.reg_tables_schema.specs.Changes.{Adds};
-ghost use Rattle.reg_tables_schema.specs.Places.{versions_tree};
-ghost use Rattle.reg_tables_schema.specs.Rows.{mark};
+ghost use Rattle.reg_tables_schema.specs.Places.{version_crate_place, versions_tree};
+ghost use Rattle.reg_tables_schema.specs.Rows.{mark, number_columns};
 ghost use Rattle.reg_tables_schema.specs.States.{IsReady};
-ghost use Rattle.reg_tables_schema.specs.Statements.{Reads, Writes, rows_in};
-ghost use Rattle.reg_tables_sql.specs.Counts.{IsLastId};
+ghost use Rattle.reg_tables_schema.specs.Statements.{Answers, MayRead, Reads, Writes, rows_in};
+ghost use Rattle.reg_tables_sql.specs.Counts.{IsCountOf, IsLastId};
 ghost use Rattle.reg_tables_sql.specs.Rowids.{AreRowids};
 ghost use Rattle.reg_tables_sql.specs.Stems.{AreEntriesOf, columns_of_stem};
-ghost use Rattle.reg_tables_sql.specs.VersionMarks.{AreMarksOf, columns_of_mark};
+ghost use Rattle.reg_tables_sql.specs.VersionMarks.{AreMarksOf, IsMarkOf, IsMarkWithId, columns_of_mark};
 ghost use Rattle.reg_tables_sql.specs.Versions.{AreVersions, AreVersionsOf, MarksYanked, columns_of_version, version_row};
 
 use crate::marks::mark_of;
 use crate::records::FromRow;
 use crate::statements::{select_here, select_list, select_one, write};
+use sqlite::types::ValueRef;
 use sqlite::{Alter, Connection, Error, Row, params};
 use std::alloc::Global;
 
@@ -234,6 +236,75 @@ pub fn marks_of<S: Alter>(
     select_here(
         conn,
         "SELECT id, vers, length(stem), yanked FROM versions WHERE crate = ?1 ORDER BY id",
+        params![crate_id],
+    )
+}
+
+fn check_id(id: u64) -> Result<(), Error>
+    ensures { OnOk result (id < 2 ^ 63) }
+{
+    if id > i64::MAX as u64 {
+        return Err(Error::InvalidQuery);
+    }
+    Ok(())
+}
+
+/// The mark of the version with this id, if there is one. SQL keeps ids below 2^63.
+pub fn mark_by_id<S: Alter>(conn: &mut Connection<S>, id: u64) -> Result<Option<VersionMark>, Error>
+    requires { IsReady (state S.Store conn.old) }
+    ensures { Reads S.Store conn.old conn.new result
+        (IsMarkWithId id (rows_in S.Store conn.old)) }
+{
+    check_id(id)?;
+    select_one(
+        conn,
+        "SELECT id, vers, length(stem), yanked FROM versions WHERE id = ?1",
+        params![id as i64],
+    )
+}
+
+/// The mark of a version of a crate, by its release and its text.
+pub fn mark_by_text<S: Alter>(
+    conn: &mut Connection<S>,
+    crate_id: u32,
+    release: &str,
+    vers: &str,
+) -> Result<Option<VersionMark>, Error>
+    requires { IsReady (state S.Store conn.old) }
+    ensures { Reads S.Store conn.old conn.new result
+        (IsMarkOf crate_id release.now vers.now (rows_in S.Store conn.old)) }
+{
+    select_one(
+        conn,
+        "SELECT id, vers, length(stem), yanked FROM versions WHERE crate = ?1 AND release = ?2 \
+        AND vers = ?3",
+        params![crate_id, release, vers],
+    )
+}
+
+// The number that is the only value in the only row of a read-only query.
+fn select_count<S: Alter>(
+    conn: &mut Connection<S>,
+    text: &str,
+    params: &[ValueRef<'_>],
+) -> Result<u64, Error>
+    requires { MayRead text.now (state S.Store conn.old) }
+    ensures { Reads S.Store conn.old conn.new result (λ n.
+        Answers S.Store conn.old conn.new text.now (bound params.now) (number_columns n ∷ [])) }
+{
+    let found = select_one::<u64, S>(conn, text, params)?;
+    found.ok_or(Error::InvalidQuery)
+}
+
+/// How many versions a crate has, up to SQL's greatest count.
+pub fn count_of<S: Alter>(conn: &mut Connection<S>, crate_id: u32) -> Result<u64, Error>
+    requires { IsReady (state S.Store conn.old) }
+    ensures { Reads S.Store conn.old conn.new result
+        (IsCountOf versions_tree version_crate_place crate_id (rows_in S.Store conn.old)) }
+{
+    select_count(
+        conn,
+        "SELECT count(*) FROM versions WHERE crate = ?1",
         params![crate_id],
     )
 }

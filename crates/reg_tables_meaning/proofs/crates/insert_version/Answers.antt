@@ -37,6 +37,6 @@ returns-in_err-insert-2-clause-leaves g c =
 
 pub returns-clause-leaves : goal.returns-clause-leaves
 returns-clause-leaves g c =
-    ends (state g.S.Store c.args.conn.now) (state g.S.Store c.insert-2.new.conn) tt
+    ends (state g.S.Store c.args.conn.now) (state g.S.Store c.insert-2.new.conn) c.in_ok-id.id
     (went_write (state g.S.Store c.args.conn.now) (state g.S.Store c.insert.new.conn) (state g.S.Store c.insert-2.new.conn) c.insert-2.result _
     (went_write (state g.S.Store c.args.conn.now) (state g.S.Store c.last_id.new.conn) (state g.S.Store c.insert.new.conn) c.insert.result _ (went_read (state g.S.Store c.args.conn.now) (state g.S.Store c.last_id.new.conn) c.last_id.result _ c.requires c.in_ok-last.was c.last_id.ensures) c.in_ok-insert.was (λ clean at adds. adds_within (state g.S.Store c.last_id.new.conn) (state g.S.Store c.insert.new.conn) 11 _ clean at adds) c.insert.ensures) c.in_ok-insert-2.was (λ clean at adds. adds_within (state g.S.Store c.insert.new.conn) (state g.S.Store c.insert-2.new.conn) 13 _ clean at adds) c.insert-2.ensures)

@@ -1,31 +1,37 @@
-use Rattle.std.proofs.Common.{arith, subst}
+use Rattle.std.proofs.Common.{◌≡◌, None, Some, arith, subst, sym}
+use Rattle.sqlite.specs.Effect.{Database}
 use Rattle.sqlite.specs.Held.{state}
 use Rattle.sqlite.specs.State.{HasCleanDisk}
 use Rattle.reg_tables_sql.specs.Versions.{MarksYanked}
-use Rattle.reg_tables_meaning.proofs.CratesStand.{marks_at}
-use Rattle.reg_tables_meaning.proofs.Went.{ends, stops_more, went_more, went_none, went_write}
-use Rattle.reg_tables_meaning.proofs.Withins.{touch_within}
+use Rattle.reg_tables_meaning.specs.Changes.{mark_at}
+use Rattle.reg_tables_meaning.specs.Marking.{IsOtherwise}
+use Rattle.reg_tables_meaning.specs.Stands.{Holds, StandsBy}
+use Rattle.reg_tables_meaning.proofs.CratesStand.{marks_none, marks_some}
 use Rattle.reg_tables_meaning.proofs.crates.mark.Goals as goal
 
-pub returns-in_err-renew-clause-leaves : goal.returns-in_err-renew-clause-leaves
-returns-in_err-renew-clause-leaves g c =
+pub returns-in_default-clause-stands : goal.returns-in_default-clause-stands
+returns-in_default-clause-stands g c clean ids s h =
     let old = state g.S.Store c.args.conn.now in
-    let mid = state g.S.Store c.set_yanked.new.conn in
-    stops_more old mid (state g.S.Store c.renew.new.conn) c.renew.result _ c.from_residual-in_err-renew.result c.from_residual-in_err-renew.ensures.0
-    (went_write old old mid c.set_yanked.result _ (went_none old c.requires) c.in_ok-set_yanked.was (λ clean at m. touch_within old mid 11 clean at m.touches) c.set_yanked.ensures) c.in_err-renew.was c.renew.ensures.leaves
+    let read = state g.S.Store c.otherwise.new.conn in
+    let id = c.args.crate_id in
+    let text = c.args.text.now in
+    let b = c.args.yanked in
+    let same : read.now ≡ old.now = (c.in_ok-found.ensures.same.only clean).0.0.now_is in
+    let told : IsOtherwise id text b old.now.trees None = subst (IsOtherwise id text b old.now.trees) c.in_default.is (c.in_ok-found.ensures.told clean) in
+    subst (λ (db : Database). StandsBy ids (mark_at ids id text b s) db.trees) (sym same) (marks_none ids s id text b old.now.trees h told)
 
 pub returns-clause-stands : goal.returns-clause-stands
 returns-clause-stands g c clean ids s h =
     let old = state g.S.Store c.args.conn.now in
+    let read = state g.S.Store c.otherwise.new.conn in
     let mid = state g.S.Store c.set_yanked.new.conn in
-    let new = state g.S.Store c.renew.new.conn in
-    let clean_mid : HasCleanDisk mid = omega (arith, c.renew.ensures.leaves.survives.clean) in
-    marks_at ids s c.args.crate_id c.args.text.now c.args.yanked old mid new.now.trees h (subst (λ release. MarksYanked c.args.crate_id release c.args.text.now c.args.yanked old mid) c.release_key.ensures (c.in_ok-set_yanked.ensures.changes clean_mid)) (c.in_ok-renew.ensures.renewed clean)
-
-pub returns-clause-leaves : goal.returns-clause-leaves
-returns-clause-leaves g c =
-    let old = state g.S.Store c.args.conn.now in
-    let mid = state g.S.Store c.set_yanked.new.conn in
-    let new = state g.S.Store c.renew.new.conn in
-    ends old new tt
-    (went_more old mid new c.renew.result _ (went_write old old mid c.set_yanked.result _ (went_none old c.requires) c.in_ok-set_yanked.was (λ clean at m. touch_within old mid 11 clean at m.touches) c.set_yanked.ensures) c.in_ok-renew.was c.renew.ensures.leaves)
+    let new = state g.S.Store c.remark.new.conn in
+    let clean_mid : HasCleanDisk mid = omega (arith, c.remark.ensures.leaves.survives.clean) in
+    let clean_read : HasCleanDisk read = omega (arith, c.set_yanked.ensures.survives.clean) in
+    let id = c.args.crate_id in
+    let text = c.args.text.now in
+    let b = c.args.yanked in
+    let same : read.now ≡ old.now = (c.in_ok-found.ensures.same.only clean_read).0.0.now_is in
+    let told : IsOtherwise id text b old.now.trees (Some c.in-Some.version) = subst (IsOtherwise id text b old.now.trees) c.in-Some.is (c.in_ok-found.ensures.told clean_read) in
+    marks_some ids s id c.in-Some.version text b read mid new.now.trees (subst (λ (db : Database). Holds ids s db.trees) (sym same) h) (subst (λ (db : Database). IsOtherwise id text b db.trees (Some c.in-Some.version)) (sym same) told)
+    (subst (λ release. MarksYanked id release text b read mid) c.release_key.ensures (c.in_ok-set_yanked.ensures.changes clean_mid)) (c.in_ok-remark.ensures.remarked clean)
