@@ -90,8 +90,8 @@ pub record AreIdsOf (ids : Ids) (numbers : List ℕ) (texts : List Words) : Type
   pub named : texts ≡ map (λ x. canon x.1) crates
   pub there : AllByRecursion (λ x. IsIn x ids.crates) crates
 
--- the number of hits, and the ids of the first of them, where the crates are hidden that the account
--- does not see
+-- the number of hits, and the ids of the first of them, where those crates are hidden that the
+-- account does not see
 abbrev pub FindsIds : Words → List ℕ → ℕ → Trees → Hits → Type 0
 FindsIds needle hidden most db h = Tells
     (λ ids s. (viewer : ℕ) (q : Words) → needle ≡ canon q → Hides viewer ids s hidden

@@ -1,5 +1,5 @@
-//! Search over the tables (the Cargo Book, "Registry Web API", "Search"): one walk over the canonical
-//! texts, then the rows of the crates that are shown.
+//! Search over the tables (the Cargo Book, "Registry Web API", "Search"): one walk over the
+//! canonical texts, then the rows of the crates that are shown.
 //!
 //! ```text
 //! let found = search(alloc, &mut tables, ada, "serde", 10)?;

@@ -36,7 +36,8 @@ pub(crate) fn read_page<S: Alter>(
     ids: &[u32],
 ) -> Result<Vec<Hit>, Error>
     requires ours { IsOurs Edition.Second (state S.Store conn.old) }
-    requires open { HasCleanDisk (state S.Store conn.old) → IsTrue (state S.Store conn.old).is_open }
+    requires open { HasCleanDisk (state S.Store conn.old)
+        → IsTrue (state S.Store conn.old).is_open }
     ensures shown { HasCleanDisk (state S.Store conn.new) → IfOk result
         (λ hits. ShowsCrates ids.now (rows_in S.Store conn.old) hits.items) }
     ensures reads { IsRead S.Store result conn.old conn.new }

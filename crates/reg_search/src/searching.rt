@@ -1,4 +1,4 @@
-//! Walking the crates that an account sees.
+//! Walking the crates, and showing those that an account sees.
 
 ghost use Rattle.std.specs.Prelude.{◌≡◌, true, IfOk, IsErr};
 ghost use Rattle.std.specs.List.Sorted.{IsSorted};
@@ -74,7 +74,7 @@ fn find<S: Alter>(
 
 /// The crates that the account with id `viewer` sees and whose canonical texts contain that of `q`,
 /// which is any text: how many there are, and the first of them by canonical text, at most
-/// `per_page`. The tables are only read: one row at a time, and then the rows of those that are shown.
+/// `per_page`. The tables are only read, and no memory grows with the crates that everyone sees.
 pub fn search<S: Alter>(
     alloc: Global,
     tables: &mut Tables<S>,
