@@ -11,7 +11,7 @@ use memchr::memmem::Finder;
 use sqlite::{Error, Row};
 
 /// How many hits there are, and the ids of the first of them.
-#[derive(Debug, Drop)]
+#[derive(Drop)]
 pub(crate) struct Hits {
     pub(crate) total: u64,
     pub(crate) ids: Vec<u32>,
