@@ -7,7 +7,6 @@ use Rattle.std.specs.Option.{option_and_then, option_map}
 use Rattle.std.specs.Ordering.{on}
 use Rattle.std.specs.Str.{bytes_eq}
 use Rattle.std.proofs.lemmas.Bool.{and_parts, eq-eqb, eqb-true}
-use Rattle.std.proofs.lemmas.List.Sorted.{list_any-IsPermutation}
 use Rattle.sqlite.specs.Collation.TheVariants.{Binary}
 use Rattle.sqlite.specs.Order.{Row, column}
 use Rattle.sqlite.specs.Tree.{Trees}
@@ -21,12 +20,10 @@ use Rattle.reg_model.specs.Registry.{Registry, mark_cmp, owner_cmp}
 use Rattle.reg_model.specs.Search.{top}
 use Rattle.reg_model.proofs.Canons.{canon-canon}
 use Rattle.reg_model.proofs.Seen.{sees_alike}
-use Rattle.reg_model.proofs.Lists.{any_same, list_any_map}
+use Rattle.reg_model.proofs.Lists.{any_same}
 use Rattle.reg_model.proofs.Members.{IsIn, any_in, all_in, each_in, in_any, in_filter, one_passes}
 use Rattle.reg_tables_schema.proofs.Permutes.{one_row}
 use Rattle.reg_tables_schema.proofs.Queries.{equals_int, same_filter}
-use Rattle.reg_tables_schema.specs.Tests.{shows}
-use Rattle.reg_tables_schema.specs.Rows.{number_columns}
 use Rattle.reg_tables_meaning.specs.Stands.{Holds, Ids, StandPairs, StoredCrate, StoredPair, StoredVersion, columns_of_stored, is_of, is_paired, row_of_version, spelling_at}
 use Rattle.reg_tables_meaning.specs.Summaries.{its_versions, marked_of, row_of_summary, top_among, top_of}
 use Rattle.reg_tables_meaning.proofs.CrateCounts.{crate_has}
@@ -92,15 +89,6 @@ module _ (ids : Ids) (s : Registry) (db : Trees) (h : Holds ids s db) (x : Store
 
   pub top_is : (v : StoredVersion) → top_of ids s.yanked x.0 ≡ Some v → top s x.1 ≡ Some v.publication
   top_is v e = sym (top_named ids s db h.stands.crates x.0 x.1 at) ∙ ap (option_map (λ v. v.publication)) e
-
-  pub restricted_is : list_any (λ r. equal Binary (column r 0) (Int (pos x.0))) (db 17) ≡ finset.contains s.restricted (canon x.1)
-  restricted_is =
-      let stand = h.stands.restricted in
-      let test = λ (r : Row). equal Binary (column r 0) (Int (pos x.0)) in
-      let key_of = shows (0 ∷ []) in
-      sym (list_any_map test key_of (db 17)) ∙ sym (list_any-IsPermutation test (map number_columns stand.marks) (map key_of (db 17)) stand.are)
-      ∙ list_any_map test number_columns stand.marks ∙ any_same (λ n. test (number_columns n)) (λ n. n == x.0) (λ n. same_id n x.0) stand.marks
-      ∙ sym (each_in (λ c. finset.contains s.restricted (canon c.1) ≡ list_any (λ n. n == c.0) stand.marks) ids.crates x stand.same i)
 
   pub paired_is : (tree : ℕ) (held : finset.FinSet owner_cmp) → StandPairs ids.crates held (db tree) → (account : ℕ)
       → list_any (λ o. equal Binary (column o 1) (Int (pos x.0)) && equal Binary (column o 2) (Int (pos account))) (db tree) ≡ finset.contains held (canon x.1, account)

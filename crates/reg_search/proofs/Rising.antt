@@ -1,9 +1,9 @@
 -- Texts that rise and are the same texts are the same list.
-use Rattle.std.proofs.Common.{◌≡◌, Bool, true, List, [], ◌∷◌, map, Option, Some, None, Less, refl, sym, ap, ◌∙◌}
+use Rattle.std.proofs.Common.{◌≡◌, true, List, [], ◌∷◌, map, Option, Some, None, Less, refl, sym, ap, ◌∙◌}
 use Rattle.std.specs.Prelude.{is_some}
 use Rattle.std.specs.FinMap as finmap
 use Rattle.std.specs.FinMap.Entries as entries
-use Rattle.std.specs.List.{AllByRecursion, filter, list_any}
+use Rattle.std.specs.List.{AllByRecursion, list_any}
 use Rattle.std.specs.List.Sorted.{IsStrictlySortedBy}
 use Rattle.std.specs.Ordering.{eq_by_cmp}
 use Rattle.std.specs.Cmp.Lexicographic.{nat_list_cmp_total}
@@ -11,7 +11,6 @@ use Rattle.reg_model.specs.Registry.{Registry, Text, text_cmp}
 use Rattle.reg_model.specs.Crates.{canons}
 use Rattle.reg_model.proofs.Canons.{Keyed, by_canon}
 use Rattle.reg_model.proofs.Keys.{text_apart}
-use Rattle.reg_tables_schema.proofs.Permutes.{filter_map}
 
 abbrev as_key : Text → Keyed
 as_key t = (t, tt {0})
@@ -35,14 +34,12 @@ one_unit (Some x) (Some y) e = refl
 one_unit None (Some y) e = absurd cc
 one_unit (Some x) None e = absurd cc
 
--- texts that rise, of which there are those that pass, are those of the crates that pass
-pub canons_passing : (s : Registry) (p : Text → Bool) (ts : List Text) → IsStrictlySortedBy text_cmp ts → ((q : Text) → list_any (eq_by_cmp text_cmp q) ts ≡ list_any (eq_by_cmp text_cmp q) (filter p (canons s))) → ts ≡ filter p (canons s)
-canons_passing s p ts up same =
+-- texts that rise, and are there as those of the crates are, are those of the crates
+pub all_canons : (s : Registry) (ts : List Text) → IsStrictlySortedBy text_cmp ts → ((q : Text) → list_any (eq_by_cmp text_cmp q) ts ≡ list_any (eq_by_cmp text_cmp q) (canons s)) → ts ≡ canons s
+all_canons s ts up same =
     let all = finmap.entries (by_canon s) in
-    let some = entries.where_key text_cmp p all in
-    let keys : map (λ e. e.0) some ≡ filter p (canons s) = sym (filter_map (λ (e : Keyed). e.0) p all) in
-    let is : map as_key ts ≡ some =
-    entries.same_entries text_cmp nat_list_cmp_total text_apart (map as_key ts) some (rw (rises ts up) tt) (entries.is_sorted-where_key text_cmp p all (finmap.entries_sorted (by_canon s)))
-    (λ q. one_unit (entries.find text_cmp q (map as_key ts)) (entries.find text_cmp q some)
-    (entries.is_some-find text_cmp q (map as_key ts) ∙ ap (list_any (eq_by_cmp text_cmp q)) (keys_back ts) ∙ same q ∙ sym (ap (list_any (eq_by_cmp text_cmp q)) keys) ∙ sym (entries.is_some-find text_cmp q some))) in
-    sym (keys_back ts) ∙ ap (map (λ e. e.0)) is ∙ keys
+    let is : map as_key ts ≡ all =
+    entries.same_entries text_cmp nat_list_cmp_total text_apart (map as_key ts) all (rw (rises ts up) tt) (finmap.entries_sorted (by_canon s))
+    (λ q. one_unit (entries.find text_cmp q (map as_key ts)) (entries.find text_cmp q all)
+    (entries.is_some-find text_cmp q (map as_key ts) ∙ ap (list_any (eq_by_cmp text_cmp q)) (keys_back ts) ∙ same q ∙ sym (entries.is_some-find text_cmp q all))) in
+    sym (keys_back ts) ∙ ap (map (λ e. e.0)) is

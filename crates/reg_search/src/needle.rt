@@ -5,7 +5,7 @@ ghost use Rattle.sqlite.specs.Order.{column};
 ghost use Rattle.sqlite.specs.declared.types.Value.TheVariants.{Text};
 ghost use Rattle.reg_names.specs.Names.{canon as canon_of, canon_byte};
 ghost use Rattle.reg_model.specs.Search.{occurs};
-ghost use Rattle.reg_search.specs.Rows.{is_hit};
+ghost use Rattle.reg_search.specs.Rows.{is_match};
 
 use memchr::memmem::Finder;
 use sqlite::types::ValueRef;
@@ -39,8 +39,8 @@ fn occurs_in(needle: &Finder<'_>, text: &[u8]) -> bool
 }
 
 /// Whether a row's canonical text, its first column, contains the needle.
-pub(crate) fn is_hit(needle: &Finder<'_>, row: &Row) -> Result<bool, Error>
-    ensures { IfOk result (λ b. b ≡ is_hit needle.now row.now) }
+pub(crate) fn is_match(needle: &Finder<'_>, row: &Row) -> Result<bool, Error>
+    ensures { IfOk result (λ b. b ≡ is_match needle.now row.now) }
 {
     match row.get_ref(0)? {
         ValueRef::Text(canon) => Ok(occurs_in(needle, canon)),

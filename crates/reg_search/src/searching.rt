@@ -1,32 +1,57 @@
-//! Walking the crates that an account sees.
+//! Walking the crates, and showing those that an account sees.
 
 ghost use Rattle.std.specs.Prelude.{◌≡◌, true, IfOk, IsErr};
+ghost use Rattle.std.specs.List.Sorted.{IsSorted};
+ghost use Rattle.std.specs.Ordering.{nat_cmp};
 ghost use Rattle.sqlite.specs.Held.{state};
 ghost use Rattle.sqlite.specs.State.{HasCleanDisk};
 ghost use Rattle.reg_tables_schema.specs.States.{IsOurs};
 ghost use Rattle.reg_tables_schema.specs.Statements.{rows_in};
 ghost use Rattle.reg_tables_meaning.specs.Walks.{IsRead};
 ghost use Rattle.reg_tables.specs.Works.{AreOurs, edition_in, held, is_shut, shown};
-ghost use Rattle.reg_search.specs.Rows.{FindsCrates, FindsNeedle};
+ghost use Rattle.reg_search.specs.Rows.{FindsCrates, FindsIds, FindsNeedle};
 
+use crate::hidden::read_hidden;
 use crate::hit::Found;
 use crate::needle::canon_text;
+use crate::numbered::Hits;
+use crate::page::read_page;
 use memchr::memmem::Finder;
 use reg_tables::{Edition, StoreFault, Tables, rows_of};
-use sqlite::{Alter, Connection, Error, params};
+use sqlite::{Alter, Connection, Error};
 use std::alloc::Global;
 
-/// The crates that the account ?1 sees, by canonical text, each with its spelling, its highest
-/// version and that version's description. With no third JOIN of its own, the query is never
-/// sorted, so its rows come one at a time.
-const SEARCH_TEXT: &str = "SELECT c.canon, c.name, v.vers, v.description FROM crates c \
-    LEFT JOIN summaries s ON s.crate = c.id LEFT JOIN versions v ON v.id = s.highest \
-    WHERE NOT EXISTS (SELECT 1 FROM restricted r WHERE r.crate = c.id) \
-    OR EXISTS (SELECT 1 FROM owners o WHERE o.crate = c.id AND o.account = ?1) \
-    OR EXISTS (SELECT 1 FROM readers d WHERE d.crate = c.id AND d.account = ?1) \
-    ORDER BY c.canon";
+/// Every crate's canonical text and id, by canonical text. The index of the texts has both.
+const WALK_TEXT: &str = "SELECT canon, id FROM crates ORDER BY canon";
 
 fn walk<S: Alter>(
+    alloc: Global,
+    conn: &mut Connection<S>,
+    needle: &Finder<'_>,
+    hidden: &[u32],
+    most: u32,
+) -> Result<Hits, Error>
+    requires ours { IsOurs Edition.Second (state S.Store conn.old) }
+    requires sorted { IsSorted nat_cmp hidden.now }
+    ensures found { HasCleanDisk (state S.Store conn.new) → IfOk result
+        (FindsIds needle.now hidden.now most (rows_in S.Store conn.old)) }
+    ensures reads { IsRead S.Store result conn.old conn.new }
+{
+    let mut hits = Hits {
+        total: 0,
+        ids: Vec::new(alloc),
+    };
+    let mut rows = rows_of(conn, WALK_TEXT, &[])?;
+    'rows: for _ in 0..u64::MAX {
+        let Some(row) = rows.next()? else {
+            return Ok(hits);
+        };
+        hits.look_at(needle, hidden, row, most)?;
+    }
+    Err(Error::InvalidQuery)
+}
+
+fn find<S: Alter>(
     alloc: Global,
     conn: &mut Connection<S>,
     viewer: u32,
@@ -38,23 +63,18 @@ fn walk<S: Alter>(
         (FindsNeedle viewer needle.now most (rows_in S.Store conn.old)) }
     ensures reads { IsRead S.Store result conn.old conn.new }
 {
-    let mut found = Found {
-        total: 0,
-        crates: Vec::new(alloc),
-    };
-    let mut rows = rows_of(conn, SEARCH_TEXT, params![viewer])?;
-    'rows: for _ in 0..u64::MAX {
-        let Some(row) = rows.next()? else {
-            return Ok(found);
-        };
-        found.look_at(needle, row, most)?;
-    }
-    Err(Error::InvalidQuery)
+    let hidden = read_hidden(alloc, conn, viewer)?;
+    let hits = walk(alloc, conn, needle, &hidden, most)?;
+    let crates = read_page(alloc, conn, &hits.ids)?;
+    Ok(Found {
+        total: hits.total,
+        crates,
+    })
 }
 
 /// The crates that the account with id `viewer` sees and whose canonical texts contain that of `q`,
 /// which is any text: how many there are, and the first of them by canonical text, at most
-/// `per_page`. The tables are only read, one row at a time.
+/// `per_page`. The tables are only read, and no memory grows with the crates that everyone sees.
 pub fn search<S: Alter>(
     alloc: Global,
     tables: &mut Tables<S>,
@@ -76,7 +96,7 @@ pub fn search<S: Alter>(
     }
     let query = canon_text(alloc, q)?;
     let needle = Finder::new(query.as_slice());
-    match walk(alloc, tables.reading(), viewer, &needle, per_page) {
+    match find(alloc, tables.reading(), viewer, &needle, per_page) {
         Ok(found) => Ok(found),
         Err(_) => Err(StoreFault),
     }

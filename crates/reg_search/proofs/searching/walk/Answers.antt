@@ -1,20 +1,21 @@
-use Rattle.std.proofs.Common.{rules, arith, ◌≡◌, [], ◌∷◌, ◌++◌, refl, subst, ◌∙◌, pos}
+use Rattle.std.proofs.Common.{rules, arith, ◌≡◌, [], ◌∷◌, ◌++◌, Ok, refl, subst, ◌∙◌}
 use Rattle.sqlite.specs.Held.{state}
 use Rattle.sqlite.specs.State.{HasCleanDisk}
-use Rattle.sqlite.specs.declared.types.Value.TheVariants.{Int}
+use Rattle.sqlite.specs.declared.error.Error.{Error}
 use Rattle.reg_tables_schema.specs.declared.edition.Edition.TheVariants.{Second}
-use Rattle.reg_tables_meaning.proofs.Walking.{walked, walked_all}
-use Rattle.reg_search.proofs.Ends.{all_found}
-use Rattle.reg_search.proofs.SearchText.{search_is, search_text}
+use Rattle.reg_tables_meaning.specs.Walks.{IsRead}
+use Rattle.reg_tables_meaning.proofs.Walking.{walk_ends, walked, walked_all}
+use Rattle.reg_search.proofs.Texts.{walk_is, walk_text}
+use Rattle.reg_search.proofs.Told.{walk_told}
 use Rattle.reg_search.proofs.searching.walk.Goals as goal
 
 pub rows_of-requires : goal.rows_of-requires
-rows_of-requires g c = (Second, c.requires, search_is.plain)
+rows_of-requires g c = (Second, c.requires.ours, walk_is.plain)
 
 pub rows-init : goal.rows-init
 rows-init g c =
     let made = c.in_ok-rows.ensures in
-    (refl, ([], (record { given = rw c.params-to_sql.ensures at made.begun; same = made.same; ours = made.ours; survives = made.survives }, record { total = refl; first = search rules })))
+    (refl, ([], (record { given = made.begun; same = made.same; ours = made.ours; survives = made.survives }, record { total = refl; first = search rules })))
 
 pub returns-in_default-clause-found : goal.returns-in_default-clause-found
 returns-in_default-clause-found g c clean =
@@ -25,8 +26,10 @@ returns-in_default-clause-found g c clean =
     let early : HasCleanDisk (state g.S.Store c.rows.rows.conn.now) = omega (arith, moved.survives.clean, late) in
     let given = c.rows.invariant.1.0 in
     let i = c.rows.invariant.1.1.0 in
-    let all = walked_all g.S.Store search_text (Int (pos c.args.viewer) ∷ []) c.args.conn.now c.rows.rows now given i c.in_ok-row.field-0 (rw c.in_default.is refl) (rw c.in_ok-row.was at moved) late in
-    all_found g.S.Store c.args.conn.now c.rows.rows.conn.now c.args.viewer c.args.most c.args.needle.now given c.rows.found c.requires early i c.rows.invariant.1.1.1 (state g.S.Store now.conn.now) all
+    let was = rw c.in_ok-row.was at moved in
+    let all = walked_all g.S.Store walk_text [] c.args.conn.now c.rows.rows now given i c.in_ok-row.field-0 (rw c.in_default.is refl) was late in
+    let reads : IsRead {E = Error} g.S.Store (Ok (tt {0})) c.args.conn.now now.conn.now = walk_ends g.S.Store walk_text [] c.args.conn.now c.rows.rows now given i (tt {0}) c.in_ok-row.field-0 was in
+    walk_told g.S.Store c.args.conn.now now.conn.now (tt {0}) c.requires.ours reads late c.args.needle.now c.args.hidden.now c.args.most given c.rows.hits c.rows.invariant.1.1.1 (c.rows.rows.conn.now, (i.same early).0.now_is, all)
 
 pub rows-preserved : goal.rows-preserved
 rows-preserved g c =
@@ -37,7 +40,7 @@ rows-preserved g c =
       (
         given ++ c.in-Some.row.now ∷ [],
         (
-          walked g.S.Store search_text (Int (pos c.args.viewer) ∷ []) c.args.conn.now c.rows.rows c.next.follows.lender-at-none given c.rows.invariant.1.1.0 c.in-Some.row was,
+          walked g.S.Store walk_text [] c.args.conn.now c.rows.rows c.next.follows.lender-at-none given c.rows.invariant.1.1.0 c.in-Some.row was,
           c.in_ok-look_at.ensures given c.rows.invariant.1.1.1,
         ),
       ),
