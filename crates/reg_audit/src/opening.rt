@@ -1,6 +1,6 @@
 //! The checks in their order.
 
-ghost use Rattle.std.specs.Prelude.{◌≡◌, false, true, [], ◌∷◌, IfOk, IsErr};
+ghost use Rattle.std.specs.Prelude.{◌≡◌, false, true, [], ◌∷◌, IfOk, IsErr, IsTrue, OnOk};
 ghost use Rattle.sqlite.specs.State.{HasCleanDisk, KeepsCommit, Survives};
 ghost use Rattle.sqlite.specs.Tree.{Trees};
 ghost use Rattle.reg_tables_schema.specs.States.{IsUndone};
@@ -102,6 +102,8 @@ pub fn audit<S: Alter>(alloc: Global, tables: &mut Tables<S>) -> Result<Option<C
     ensures found { HasCleanDisk (shown S.Store tables.new) → IfOk result
         (λ found. (db : Trees) × AreBegun (edition_in tables.old) (shown S.Store tables.old).now db
         × (it : Rows) × AreAllRows it db × IsFirst it db found) }
+    ensures was_open { HasCleanDisk (shown S.Store tables.new) → OnOk result
+        (IsTrue (shown S.Store tables.old).is_open) }
     ensures kept { HasCleanDisk (shown S.Store tables.new) → KeepsCommit (shown S.Store tables.old)
         (shown S.Store tables.new) }
     ensures rests { HasCleanDisk (shown S.Store tables.new)

@@ -1,5 +1,5 @@
 -- One more event behind a run.
-use Rattle.std.proofs.Common.{◌≡◌, ◌++◌, ◌+◌, ◌<◌, ◌⊎◌, ℕ, true, suc, arith, get_or, inl, inr, length, List, [], ◌∷◌, take, refl, sym, ap, subst, ◌∙◌}
+use Rattle.std.proofs.Common.{◌≡◌, ◌++◌, ◌+◌, ◌<◌, ◌⊎◌, ℕ, Bool, true, suc, arith, get_or, inl, inr, length, List, [], ◌∷◌, take, refl, sym, ap, subst, ◌∙◌}
 use Rattle.std.proofs.Math.Seq.{take-suc}
 use Rattle.std.proofs.lemmas.List.{append-nil, append_assoc}
 use Rattle.sqlite.specs.Tree.{Trees}
@@ -77,7 +77,7 @@ module _ {S : Type 0} (g : Ghosts S) (limits : Limits) (c : Call) (old new : Tab
   told_command command it same is = subst (λ x. IsTold g limits x (Obeyed it) old new) (sym same) (λ clean s h. (reply_of it, refl, is clean s h))
 
 module _ {S : Type 0} (g : Ghosts S) (limits : Limits) (s : Registry) (entry : Tables S) (sounds : RunsKeepSound) (grows : StemsGrow) where
-  ran : (es : List Event) (xs : List Answer) (t : Registry) (new : Tables S) → Run limits s es xs t → Shows t (shown g new) → ((db : Trees) → (shown g new).may_leave db → ((shown g entry).may_leave db × AreNoRoom es xs) ⊎ ((m : Registry) × Stands m db × MayBeLeft limits s es xs m)) → (is_shut entry ≡ true → AreNoRoom es xs × (is_shut new ≡ true)) → Ran g limits s entry es xs t new
+  ran : (es : List Event) (xs : List Answer) (t : Registry) (new : Tables S) → Run limits s es xs t → Shows t (shown g new) → ((db : Trees) → (shown g new).may_leave db → ((shown g entry).may_leave db × AreNoRoom es xs) ⊎ ((m : Registry) × Stands m db × MayBeLeft limits s es xs (is_shut new) m)) → (is_shut entry ≡ true → AreNoRoom es xs × (is_shut new ≡ true)) → Ran g limits s entry es xs t new
   ran es xs t new run shows left shut = record {
     run = run;
     sound = λ h. sounds limits s t es xs h run;
@@ -88,8 +88,8 @@ module _ {S : Type 0} (g : Ghosts S) (limits : Limits) (s : Registry) (entry : T
   }
 
   -- what a stop leaves that is the state after all events
-  all_left : (es : List Event) (xs : List Answer) (t : Registry) → Run limits s es xs t → MayBeLeft limits s es xs t
-  all_left es xs t run = record {
+  all_left : (es : List Event) (xs : List Answer) (stopped : Bool) (t : Registry) → Run limits s es xs t → MayBeLeft limits s es xs stopped t
+  all_left es xs stopped t run = record {
     first = es;
     rest = [];
     told = xs;
@@ -107,13 +107,13 @@ module _ {S : Type 0} (g : Ghosts S) (limits : Limits) (s : Registry) (entry : T
   ran_nothing shows = ran [] [] s entry refl shows (λ db l. inl (l, tt)) (λ was. (tt, was))
 
   -- there was no room for any event
-  none_left : (es : List Event) (xs : List Answer) → AreNoRoom es xs → MayBeLeft limits s es xs s
-  none_left es xs none = record { first = []; rest = es; told = []; untold = xs; at = s; events = refl; answers = refl; run = refl; no_room = none; state = inl refl }
+  none_left : (es : List Event) (xs : List Answer) (stopped : Bool) → AreNoRoom es xs → MayBeLeft limits s es xs stopped s
+  none_left es xs stopped none = record { first = []; rest = es; told = []; untold = xs; at = s; events = refl; answers = refl; run = refl; no_room = none; state = inl refl }
 
   -- what a stop leaves of a registry that it left alone on entry
-  pub left_alone : (es : List Event) (xs : List Answer) (t : Registry) (new : Tables S) → LeavesAlone s (shown g entry) → Ran g limits s entry es xs t new → (db : Trees) → (shown g new).may_leave db → (m : Registry) × Stands m db × MayBeLeft limits s es xs m
+  pub left_alone : (es : List Event) (xs : List Answer) (t : Registry) (new : Tables S) → LeavesAlone s (shown g entry) → Ran g limits s entry es xs t new → (db : Trees) → (shown g new).may_leave db → (m : Registry) × Stands m db × MayBeLeft limits s es xs (is_shut new) m
   left_alone es xs t new alone so_far db l = elim (so_far.left db l) [
-    | inl was ↦ (s, alone db was.0, none_left es xs was.1)
+    | inl was ↦ (s, alone db was.0, none_left es xs (is_shut new) was.1)
     | inr it ↦ it
   ]
 
@@ -121,8 +121,8 @@ module _ {S : Type 0} (g : Ghosts S) (limits : Limits) (s : Registry) (entry : T
     run_on : Run limits s (es ++ e ∷ []) (xs ++ a ∷ []) it.after
     run_on = joins limits s t it.after es (e ∷ []) xs (a ∷ []) so_far.run (steps limits t it.after e a fit it.step)
 
-    -- there was no room: what could be left before, or the change of this event
-    left_before : (m : Registry) → a ≡ no_room e → MayBeLeft limits s es xs m → MayBeLeft limits s (es ++ e ∷ []) (xs ++ a ∷ []) m
+    -- there was no room: what could be left before
+    left_before : (m : Registry) → a ≡ no_room e → MayBeLeft limits s es xs (is_shut old) m → MayBeLeft limits s (es ++ e ∷ []) (xs ++ a ∷ []) (is_shut new) m
     left_before m room was = record {
       first = was.first;
       rest = was.rest ++ e ∷ [];
@@ -133,11 +133,12 @@ module _ {S : Type 0} (g : Ghosts S) (limits : Limits) (s : Registry) (entry : T
       answers = ap (λ l. l ++ a ∷ []) was.answers ∙ append_assoc was.told was.untold (a ∷ []);
       run = was.run;
       no_room = no_room_on was.rest was.untold e a was.no_room room;
-      state = elim was.state [ inl same ↦ inl same | inr (f, more, is, same) ↦ inr (f, more ++ e ∷ [], ap (λ l. l ++ e ∷ []) is, same) ];
+      state = elim was.state [ inl same ↦ inl same | inr (stopped, f, more, is, same) ↦ inr ((it.shut stopped).1, f, more ++ e ∷ [], ap (λ l. l ++ e ∷ []) is, same) ];
     }
 
-    left_change : a ≡ no_room e → MayBeLeft limits s (es ++ e ∷ []) (xs ++ a ∷ []) (outcome limits t e).1
-    left_change room = record {
+    -- or the change of this event, whose commit was refused
+    left_change : a ≡ no_room e → is_shut new ≡ true → MayBeLeft limits s (es ++ e ∷ []) (xs ++ a ∷ []) (is_shut new) (outcome limits t e).1
+    left_change room stopped = record {
       first = es;
       rest = e ∷ [];
       told = xs;
@@ -147,19 +148,24 @@ module _ {S : Type 0} (g : Ghosts S) (limits : Limits) (s : Registry) (entry : T
       answers = refl;
       run = so_far.run;
       no_room = (room, tt);
-      state = inr (e, [], refl, refl);
+      state = inr (stopped, e, [], refl, refl);
     }
 
-    left_on : (db : Trees) → (shown g new).may_leave db → ((shown g entry).may_leave db × AreNoRoom (es ++ e ∷ []) (xs ++ a ∷ [])) ⊎ ((m : Registry) × Stands m db × MayBeLeft limits s (es ++ e ∷ []) (xs ++ a ∷ []) m)
+    -- or it was answered as it was done
+    left_done : a ≡ (outcome limits t e).0 → MayBeLeft limits s (es ++ e ∷ []) (xs ++ a ∷ []) (is_shut new) (outcome limits t e).1
+    left_done done =
+        all_left (es ++ e ∷ []) (xs ++ a ∷ []) (is_shut new) (outcome limits t e).1 (joins limits s t (outcome limits t e).1 es (e ∷ []) xs (a ∷ []) so_far.run (steps limits t (outcome limits t e).1 e a fit (inl (done, refl))))
+
+    left_on : (db : Trees) → (shown g new).may_leave db → ((shown g entry).may_leave db × AreNoRoom (es ++ e ∷ []) (xs ++ a ∷ [])) ⊎ ((m : Registry) × Stands m db × MayBeLeft limits s (es ++ e ∷ []) (xs ++ a ∷ []) (is_shut new) m)
     left_on db l = elim it.kept [
       | inl room ↦ elim (it.left db l) [
         | inl was ↦ elim (so_far.left db was) [
           | inl (first, none) ↦ inl (first, no_room_on es xs e a none room)
           | inr (m, stands, may) ↦ inr (m, stands, left_before m room may)
         ]
-        | inr (why, stands) ↦ inr ((outcome limits t e).1, stands, left_change room)
+        | inr (why, stands) ↦ inr ((outcome limits t e).1, stands, elim why [ inl done ↦ left_done done | inr stopped ↦ left_change room stopped ])
       ]
-      | inr alone ↦ inr (it.after, alone db l, all_left (es ++ e ∷ []) (xs ++ a ∷ []) it.after run_on)
+      | inr alone ↦ inr (it.after, alone db l, all_left (es ++ e ∷ []) (xs ++ a ∷ []) (is_shut new) it.after run_on)
     ]
 
     pub ran_on : Ran g limits s entry (es ++ e ∷ []) (xs ++ a ∷ []) it.after new

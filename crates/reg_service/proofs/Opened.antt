@@ -12,16 +12,19 @@ use Rattle.reg_tables_schema.specs.declared.edition.Edition.{Edition}
 use Rattle.reg_tables_schema.specs.declared.edition.Edition.TheVariants.{First, Second}
 use Rattle.reg_audit.specs.declared.check.Check.{Check}
 use Rattle.reg_tables_schema.specs.Schema.{schema_of}
+use Rattle.reg_tables_schema.proofs.MakeLemmas.{undone_keeps}
 use Rattle.reg_tables_schema.specs.States.{IsOurs, IsUndone, LeavesCommit}
 use Rattle.reg_tables_sql.specs.Abouts.{HasBase}
 use Rattle.reg_audit_law.specs.Editions.{AreFound, EditionLaw, FoundLaw, HoldsAs, KeepsSchema}
 use Rattle.reg_tables_meaning.specs.Upgrades.{AreBegun, AreUpgraded, IsUpgraded}
 use Rattle.reg_tables.specs.declared.tables.Tables.{Tables}
+use Rattle.reg_tables.proofs.Stopping.{leaves_last}
+use Rattle.reg_tables.specs.Ends.{LeavesLast}
 use Rattle.reg_tables.specs.Works as works
 use Rattle.reg_tables.specs.Works.{AreOurs, IsSame, edition_in, shown}
 use Rattle.reg_service.specs.declared.registry.Registry.{Registry}
 use Rattle.reg_service.specs.Answered.{AreAs, Shows}
-use Rattle.reg_service.specs.Registries.{AreDamaged, AreOne, IsBrought, IsFirstFailing, LeavesOpened, MayBeUpgraded, tables_of}
+use Rattle.reg_service.specs.Registries.{AreChecked, AreDamaged, AreOne, IsBrought, IsFirstFailing, LeavesOpened, MayBeUpgraded, MayBecome, tables_of}
 use Rattle.reg_service.specs.declared.opening.OpenFault.{OpenFault}
 use Rattle.reg_service.specs.declared.opening.OpenFault.TheVariants.{Damaged, Storage}
 
@@ -42,14 +45,17 @@ upgrade_brought First old new is up alone = record {
   left = λ db l. inr (refl, alone db l ∙ ap (λ (d : Database). d.trees) up.settled);
 }
 
--- and so are those of before the checks, which change nothing
+-- the checks change nothing
+still_now : (e : Edition) (old mid : State) → HasCleanDisk old → HasCleanDisk mid → IsOurs e old → IsOurs e mid → KeepsCommit old mid → IsTrue mid.is_open → mid.now ≡ old.now
+still_now e old mid early clean rests_old rests_mid kept was = (rests_mid clean was).settled ∙ kept.committed was ∙ sym (rests_old early (kept.was_open was)).settled
+
+-- and so are those of before the checks
 pub brought_before : (e : Edition) (old mid new : State) → HasCleanDisk mid → HasCleanDisk old → IsOurs e old → IsOurs e mid → KeepsCommit old mid → Survives old mid (λ _. ⊥) → IsBrought e mid new → IsBrought e old new
 brought_before e old mid new clean early rests_old rests_mid kept survives b = record {
   was_open = λ up. kept.was_open (b.was_open up);
   begun = λ up.
       let was = b.was_open up in
-      let now : mid.now ≡ old.now = (rests_mid clean was).settled ∙ kept.committed was ∙ sym (rests_old early (kept.was_open was)).settled in
-      subst (λ (d : Database). AreBegun e d new.now.trees) now (b.begun up);
+      subst (λ (d : Database). AreBegun e d new.now.trees) (still_now e old mid early clean rests_old rests_mid kept was) (b.begun up);
   left = λ db l. elim (b.left db l) [
     | inl m ↦ elim (survives.crash clean db m.1) [ inl o ↦ inl (m.0, o) | inr none ↦ absurd none ]
     | inr last ↦ inr last
@@ -88,15 +94,15 @@ upgrade_undone g old new back ours is same auto clean =
     ])
 
 -- and a stop what it could leave before, or the upgrade
-pub upgrade_left : {S : Type 0} (g : Ghosts S) (old new : Tables S) (back : Held S) → edition_in old ≡ First → back ≡ works.held new → Survives (shown g old) (shown g new) (AreUpgraded (shown g old).now)
-    → Survives (shown g old) (state g back) (λ _. edition_in old ≡ First)
+pub upgrade_left : {S : Type 0} (g : Ghosts S) (old new : Tables S) (back : Held S) → edition_in old ≡ First → back ≡ works.held new → Survives (shown g old) (shown g new) (λ db. IsTrue (shown g old).is_open × AreUpgraded (shown g old).now db)
+    → Survives (shown g old) (state g back) (MayBecome (edition_in old) (shown g old))
 upgrade_left g old new back first is survives =
-    subst (λ h. Survives (shown g old) (state g h) (λ _. edition_in old ≡ First)) (sym is) (survives_weaker (shown g old) (shown g new) _ _ (λ _ db it. first) survives)
+    subst (λ h. Survives (shown g old) (state g h) (MayBecome (edition_in old) (shown g old))) (sym is) (survives_weaker (shown g old) (shown g new) _ _ (λ _ db it. (first, it.0, it.1)) survives)
 
 -- what the checks and then the upgrade leave, where it failed
 pub examined_undone : {S R : Type 0} (g : Ghosts S) (old mid : Tables S) (r : Result R (Held S × OpenFault))
     → (HasCleanDisk (shown g mid) → (shown g old).in_transaction ≡ false → IsUndone (shown g old) (shown g mid))
-    → IfErr r (λ e. Survives (shown g mid) (state g e.0) (λ _. edition_in mid ≡ First))
+    → IfErr r (λ e. Survives (shown g mid) (state g e.0) (MayBecome (edition_in mid) (shown g mid)))
     → ((shown g mid).in_transaction ≡ false → IfErr r (λ e. HasCleanDisk (state g e.0) → IsUndone (shown g mid) (state g e.0)))
     → (shown g old).in_transaction ≡ false → IfErr r (λ e. HasCleanDisk (state g e.0) → IsUndone (shown g old) (state g e.0))
 examined_undone g old mid (Ok x) rests survives undone auto = tt
@@ -104,17 +110,37 @@ examined_undone g old mid (Err e) rests survives undone auto = λ clean.
     let first = rests (omega (arith, clean, survives.clean)) auto in
     then_undone (shown g old) (shown g mid) (state g e.0) first (undone first.autocommit clean)
 
-pub examined_left : {S R : Type 0} (g : Ghosts S) (old mid : Tables S) (r : Result R (Held S × OpenFault)) → edition_in mid ≡ edition_in old → Survives (shown g old) (shown g mid) (λ _. ⊥)
-    → IfErr r (λ e. e.1 ≡ Storage) → IfErr r (λ e. Survives (shown g mid) (state g e.0) (λ _. edition_in mid ≡ First))
-    → IfErr r (λ e. Survives (shown g old) (state g e.0) (λ _. MayBeUpgraded e.1 (schema_of (edition_in old))))
-examined_left g old mid (Ok x) same one storage two = tt
-examined_left g old mid (Err e) same one storage two =
-    survives_then (shown g old) (shown g mid) (state g e.0) _ _ (λ _. MayBeUpgraded e.1 (schema_of (edition_in old))) (λ _ db none. absurd none) (λ _ db first. (storage, ap schema_of (sym same ∙ first))) one two
+pub examined_left : {S R : Type 0} (g : Ghosts S) (old mid : Tables S) (r : Result R (Held S × OpenFault)) → AreOurs g old → AreOurs g mid → edition_in mid ≡ edition_in old
+    → (HasCleanDisk (shown g mid) → KeepsCommit (shown g old) (shown g mid)) → Survives (shown g old) (shown g mid) (λ _. ⊥)
+    → IfErr r (λ e. e.1 ≡ Storage) → IfErr r (λ e. Survives (shown g mid) (state g e.0) (MayBecome (edition_in mid) (shown g mid)))
+    → IfErr r (λ e. Survives (shown g old) (state g e.0) (λ db. (e.1 ≡ Storage) × MayBecome (edition_in old) (shown g old) db))
+examined_left g old mid (Ok x) rests_old rests_mid same kept one storage two = tt
+examined_left g old mid (Err e) rests_old rests_mid same kept one storage two =
+    survives_then (shown g old) (shown g mid) (state g e.0) _ _ (λ db. (e.1 ≡ Storage) × MayBecome (edition_in old) (shown g old) db) (λ _ db none. absurd none)
+    (λ clean db it.
+    let (first, was, made) = it in
+    let still : HasCleanDisk (shown g mid) = omega (arith, clean, two.clean) in
+    let start : HasCleanDisk (shown g old) = omega (arith, still, one.clean) in
+    let now = still_now (edition_in old) (shown g old) (shown g mid) start still rests_old (subst (λ f. IsOurs f (shown g mid)) same rests_mid) (kept still) was in
+    (storage, (sym same ∙ first, (kept still).was_open was, subst (λ (d : Database). AreUpgraded d db) now made)))
+    one two
 
 -- a stop leaves nothing new of what is handed back as it was
 pub returned_left : {S : Type 0} (g : Ghosts S) (old : State) (new back : Held S) (P : Trees → Type 0) → back ≡ new → Survives old (state g new) (λ _. ⊥) → Survives old (state g back) P
 returned_left g old new back P is survives =
     subst (λ h. Survives old (state g h) P) (sym is) (survives_weaker old (state g new) _ P (λ _ db none. absurd none) survives)
+
+-- while a connection is open, a stop leaves its last commit alone
+abbrev pub Settles : {S : Type 0} → Ghosts S → Type 0
+Settles {S} g = (h : Held S) → IsTrue (state g h).is_open → LeavesCommit (state g h)
+
+pub itself_last : {S : Type 0} (g : Ghosts S) (conn : Held S) → Settles g → LeavesLast (state g conn) (state g conn)
+itself_last g conn law up = inl (law conn up)
+
+-- and so what is handed back leaves that commit alone, or the disk failed
+pub handed_last : {S : Type 0} (g : Ghosts S) (conn back : Held S) (P : Trees → Type 0) → Settles g → IsUndone (state g conn) (state g back) → Survives (state g conn) (state g back) P
+    → HasCleanDisk (state g back) → LeavesLast (state g conn) (state g back)
+handed_last g conn back P law undone survives clean = leaves_last (state g conn) (state g back) P (law back) (undone_keeps (state g conn) (state g back) undone) survives clean
 
 -- the schemas differ
 fewer : ◌≡◌ {A = ℕ} 10 12 → ⊥
@@ -172,12 +198,12 @@ module _ {S : Type 0} (g : Ghosts S) (conn : Held S) (t : Tables S) (k : IsTaken
         let same = one_edition e (edition_in t) (sym is ∙ k.schema) in
         (are.0, held_by clean up are.0 s (subst (λ f. HoldsAs f are.0 s now.trees) same are.1))
 
-    held_sound : FoundLaw → (HasCleanDisk held → IsFirstFailing (edition_in t) (shown g t).now None) → HasCleanDisk held → IsTrue held.is_open → AreOne now held.now.trees
-    held_sound audited passed clean up =
-        let was = (brought clean).was_open up in
-        let first = subst (λ (d : Database). IsFirstFailing (edition_in t) d None) (k.found (early clean) was) (passed clean) in
+    held_sound : FoundLaw → (HasCleanDisk held → AreChecked (edition_in t) (shown g t) None) → HasCleanDisk held → AreOne now held
+    held_sound audited passed clean =
+        let (was, none) = passed clean in
+        let first = subst (λ (d : Database). IsFirstFailing (edition_in t) d None) (k.found (early clean) was) none in
         let s = (audited (edition_in t) now first.0 (are_found (early clean) was) first.1 first.2 first.3 None first.4).0 refl in
-        record { edition = edition_in t; schema = k.schema; registry = s.1; before = (s.0, s.2); after = (s.0, held_by clean up s.0 s.1 s.2) }
+        record { edition = edition_in t; schema = k.schema; registry = s.1; before = (s.0, s.2); after = λ up. (s.0, held_by clean up s.0 s.1 s.2) }
 
     held_left : Survives (state g conn) (shown g t) (λ _. ⊥) → HasCleanDisk held → LeavesOpened (state g conn) held
     held_left survives clean db l = elim ((brought clean).left db l) [
@@ -198,8 +224,8 @@ module _ {S : Type 0} (g : Ghosts S) (conn : Held S) (t : Tables S) (k : IsTaken
   opened_same (Ok x) law early brought = held_same law x early brought
 
   pub opened_sound : {E : Type 0} (r : Result (Registry S) E) → EditionLaw → FoundLaw → Early r → Brought r
-      → IfOk r (λ x. HasCleanDisk (shown g (tables_of x)) → IsFirstFailing (edition_in t) (shown g t).now None)
-      → IfOk r (λ x. HasCleanDisk (shown g (tables_of x)) → IsTrue (shown g (tables_of x)).is_open → AreOne now (shown g (tables_of x)).now.trees)
+      → IfOk r (λ x. HasCleanDisk (shown g (tables_of x)) → AreChecked (edition_in t) (shown g t) None)
+      → IfOk r (λ x. HasCleanDisk (shown g (tables_of x)) → AreOne now (shown g (tables_of x)))
   opened_sound (Err f) law audited early brought passed = tt
   opened_sound (Ok x) law audited early brought passed = held_sound law x early brought audited passed
 
@@ -211,7 +237,7 @@ module _ {S : Type 0} (g : Ghosts S) (conn : Held S) (t : Tables S) (k : IsTaken
   -- it is refused, and the store is as it was
   module _ {R : Type 0} (r : Result R (Held S × OpenFault)) where
     abbrev Returned : Type 0
-    Returned = IfErr r (λ e. Survives (shown g t) (state g e.0) (λ _. MayBeUpgraded e.1 (schema_of (edition_in t))))
+    Returned = IfErr r (λ e. Survives (shown g t) (state g e.0) (λ db. (e.1 ≡ Storage) × MayBecome (edition_in t) (shown g t) db))
 
     abbrev Undone : Type 0
     Undone = (shown g t).in_transaction ≡ false → IfErr r (λ e. HasCleanDisk (state g e.0) → IsUndone (shown g t) (state g e.0))
@@ -224,20 +250,31 @@ module _ {S : Type 0} (g : Ghosts S) (conn : Held S) (t : Tables S) (k : IsTaken
       then_undone (state g conn) (shown g t) (state g e.0) first (undone first.autocommit clean)
 
   pub refused_left : {R : Type 0} (r : Result R (Held S × OpenFault)) → Survives (state g conn) (shown g t) (λ _. ⊥) → Returned r
-      → IfErr r (λ e. Survives (state g conn) (state g e.0) (λ _. MayBeUpgraded e.1 now.schema))
+      → IfErr r (λ e. Survives (state g conn) (state g e.0) (MayBeUpgraded e.1 now))
   refused_left (Ok x) survives returned = tt
   refused_left (Err e) survives returned =
-      survives_then (state g conn) (shown g t) (state g e.0) _ _ (λ _. MayBeUpgraded e.1 now.schema) (λ _ db none. absurd none) (λ _ db it. (it.0, k.schema ∙ it.1)) survives returned
+      survives_then (state g conn) (shown g t) (state g e.0) _ _ (MayBeUpgraded e.1 now) (λ _ db none. absurd none)
+      (λ clean db it.
+      let (first, was, made) = it.1 in
+      let mid : HasCleanDisk (shown g t) = omega (arith, clean, returned.clean) in
+      (it.0, k.schema ∙ ap schema_of first, subst (λ (d : Database). AreUpgraded d db) (k.found mid was) made))
+      survives returned
+
+  pub refused_last : {R : Type 0} (r : Result R (Held S × OpenFault)) → Settles g → Survives (state g conn) (shown g t) (λ _. ⊥) → Returned r → Undone r
+      → IfErr r (λ e. HasCleanDisk (state g e.0) → LeavesLast (state g conn) (state g e.0))
+  refused_last {R} (Ok x) law survives returned undone = tt
+  refused_last {R} (Err e) law survives returned undone = λ clean.
+      handed_last g conn e.0 (MayBeUpgraded e.1 now) law (refused_undone {R = R} (Err e) returned undone clean) (refused_left {R = R} (Err e) survives returned) clean
 
   -- where a check fails there is no registry
-  pub refused_damaged : {R : Type 0} (r : Result R (Held S × OpenFault)) → FoundLaw → Returned r → Undone r
-      → IfErr r (λ e. HasCleanDisk (state g e.0) → (check : Check) → e.1 ≡ Damaged check → IsFirstFailing (edition_in t) (shown g t).now (Some check))
-      → IfErr r (λ e. HasCleanDisk (state g e.0) → (check : Check) → e.1 ≡ Damaged check → IsTrue (state g e.0).is_open → AreDamaged now check)
-  refused_damaged (Ok x) audited returned undone first = tt
-  refused_damaged (Err e) audited returned undone first = λ clean check is up.
+  pub refused_damaged : {R : Type 0} (r : Result R (Held S × OpenFault)) → FoundLaw → Returned r
+      → IfErr r (λ e. HasCleanDisk (state g e.0) → (check : Check) → e.1 ≡ Damaged check → AreChecked (edition_in t) (shown g t) (Some check))
+      → IfErr r (λ e. HasCleanDisk (state g e.0) → (check : Check) → e.1 ≡ Damaged check → AreDamaged now check)
+  refused_damaged (Ok x) audited returned checked = tt
+  refused_damaged (Err e) audited returned checked = λ clean check is.
       let mid : HasCleanDisk (shown g t) = omega (arith, clean, returned.clean) in
-      let was = (undone (k.rests mid).autocommit clean).was_open up in
-      let failing = subst (λ (d : Database). IsFirstFailing (edition_in t) d (Some check)) (k.found mid was) (first clean check is) in
+      let (was, first) = checked clean check is in
+      let failing = subst (λ (d : Database). IsFirstFailing (edition_in t) d (Some check)) (k.found mid was) first in
       record {
         edition = edition_in t;
         schema = k.schema;

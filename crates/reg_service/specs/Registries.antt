@@ -1,7 +1,6 @@
 -- A registry over a store, as a caller sees it.
 use Rattle.std.specs.Prelude.{◌≡◌, ◌⊎◌, Bool, Option, Some, false, IsTrue}
 use Rattle.sqlite.specs.Effect.{Database}
-use Rattle.sqlite.specs.Schema.{Schema}
 use Rattle.sqlite.specs.Tree.{Trees}
 use Rattle.sqlite.specs.State.{HasCleanDisk, State}
 use Rattle.sqlite_trees.specs.declared.store.Store.{Ghosts}
@@ -16,9 +15,9 @@ use Rattle.reg_tables_sql.specs.Abouts.{HasBase}
 use Rattle.reg_tables_rows.specs.declared.all_rows.AllRows.{AllRows}
 use Rattle.reg_tables_rows.specs.WholeRows.{AreAllRows}
 use Rattle.reg_tables.specs.declared.tables.Tables.{Tables}
-use Rattle.reg_tables_meaning.specs.Upgrades.{AreBegun}
+use Rattle.reg_tables_meaning.specs.Upgrades.{AreBegun, AreUpgraded}
 use Rattle.reg_tables.specs.Works.{is_shut, shown}
-use Rattle.reg_service.specs.Answered.{Are, AreAs, AreUpToDate, LeavesAlone, Shows}
+use Rattle.reg_service.specs.Answered.{AreAs, AreUpToDate, LeavesAlone, Shows}
 use Rattle.reg_service.specs.declared.opening.OpenFault.{OpenFault}
 use Rattle.reg_service.specs.declared.opening.OpenFault.TheVariants.{Storage}
 use Rattle.reg_service.specs.declared.registry.Registry.{Registry}
@@ -38,13 +37,17 @@ abbrev pub IsFirstFailing : Edition → Database → Option Check → Type 0
 IsFirstFailing e now check =
     (db : Trees) × AreBegun e now db × (it : AllRows) × AreAllRows it db × IsFirst it db check
 
--- what was found, of either schema, and what is held now are the rows of one sound registry
-pub record AreOne (found : Database) (held : Trees) : Type 0 where
+-- tables that could be read were checked so
+abbrev pub AreChecked : Edition → State → Option Check → Type 0
+AreChecked e old check = IsTrue old.is_open × IsFirstFailing e old.now check
+
+-- what was found, of either schema, are the rows of a sound registry, and that one is held now
+pub record AreOne (found : Database) (held : State) : Type 0 where
   pub edition : Edition
   pub schema : found.schema ≡ schema_of edition
   pub registry : Modelled
   pub before : AreAs edition registry found.trees
-  pub after : Are registry held
+  pub after : Shows registry held
 
 -- A stop leaves what is held now where what was found is of schema 1, and else nothing that it
 -- could not leave before.
@@ -53,10 +56,15 @@ LeavesOpened old new = (db : Trees) → new.may_leave db
     → ((old.now.schema ≡ ours) × old.may_leave db)
     ⊎ ((old.now.schema ≡ old_schema) × (db ≡ new.now.trees))
 
+-- what a stop may leave of the upgrade of open tables of schema 1: the same rows, upgraded
+abbrev pub MayBecome : Edition → State → Trees → Type 0
+MayBecome e old db = (e ≡ First) × IsTrue old.is_open × AreUpgraded old.now db
+
 -- Of a store that is not opened a stop may leave what it could not leave before only where schema 1
--- was to become schema 2, and the store or memory was refused.
-abbrev pub MayBeUpgraded : OpenFault → Schema → Type 0
-MayBeUpgraded fault found = (fault ≡ Storage) × (found ≡ old_schema)
+-- was to become schema 2, and the store or memory was refused: then the same rows, upgraded.
+abbrev pub MayBeUpgraded : OpenFault → Database → Trees → Type 0
+MayBeUpgraded fault found db =
+    (fault ≡ Storage) × (found.schema ≡ old_schema) × AreUpgraded found db
 
 -- tables of this edition are held as those of schema 2 that they are, or become
 pub record IsBrought (e : Edition) (old new : State) : Type 0 where

@@ -1,5 +1,5 @@
 -- Requests and commands, one after another, and what a stop leaves at their end.
-use Rattle.std.specs.Prelude.{◌≡◌, ◌⊎◌, ◌++◌, ℕ, true, List, [], ◌∷◌, take}
+use Rattle.std.specs.Prelude.{◌≡◌, ◌⊎◌, ◌++◌, ℕ, Bool, true, List, [], ◌∷◌, take}
 use Rattle.sqlite.specs.State.{HasCleanDisk}
 use Rattle.sqlite.specs.Tree.{Trees}
 use Rattle.sqlite_trees.specs.declared.store.Store.{Ghosts}
@@ -70,11 +70,11 @@ AreNoRoom [] [] = Unit {0}
 AreNoRoom (e ∷ es) (a ∷ as') = (a ≡ no_room e) × AreNoRoom es as'
 AreNoRoom es as' = ⊥
 
--- A registry that a stop may leave after a run: it is the one after some first events, or after one
--- more whose commit was refused; and all but the first events are answered that there was no room.
--- So it holds each change that was acknowledged.
+-- A registry that a stop may leave after a run: it is the one after some first events, or, where a
+-- commit was refused and so the registry has stopped, after one more; and all but the first events
+-- are answered that there was no room. So it holds each change that was acknowledged.
 pub record MayBeLeft (limits : Limits) (s : model.Registry) (es : List Event) (xs : List Answer)
-    (m : model.Registry) : Type 0 where
+    (stopped : Bool) (m : model.Registry) : Type 0 where
   pub first : List Event
   pub rest : List Event
   pub told : List Answer
@@ -85,7 +85,8 @@ pub record MayBeLeft (limits : Limits) (s : model.Registry) (es : List Event) (x
   pub run : Run limits s first told at
   pub no_room : AreNoRoom rest untold
   pub state : (m ≡ at)
-      ⊎ ((e : Event) × (more : List Event) × (rest ≡ e ∷ more) × (m ≡ (outcome limits at e).1))
+      ⊎ ((stopped ≡ true) × (e : Event) × (more : List Event) × (rest ≡ e ∷ more)
+      × (m ≡ (outcome limits at e).1))
 
 -- The events are a run of the registry that was held on entry, and its end is held now: that is
 -- sound, and no index file of it lost a line. A stop leaves what the run allows; or, where there
@@ -100,7 +101,7 @@ pub record Ran {S : Type 0} (g : Ghosts S) (limits : Limits) (s : model.Registry
   pub shows : Shows t (shown g new)
   pub left : (db : Trees) → (shown g new).may_leave db
       → ((shown g entry).may_leave db × AreNoRoom es xs)
-      ⊎ ((m : model.Registry) × Stands m db × MayBeLeft limits s es xs m)
+      ⊎ ((m : model.Registry) × Stands m db × MayBeLeft limits s es xs (is_shut new) m)
   pub shut : is_shut entry ≡ true → AreNoRoom es xs × (is_shut new ≡ true)
 
 -- the calls are told the answers of a run

@@ -3,7 +3,7 @@
 
 ghost use Rattle.std.specs.Prelude.{[], ◌∷◌, ◌++◌};
 ghost use Rattle.reg_model.specs.Steps.{IsFit};
-ghost use Rattle.reg_tables.specs.Works.{shown};
+ghost use Rattle.reg_tables.specs.Works.{is_shut, shown};
 ghost use Rattle.reg_tables_meaning.specs.Stands.{Stands};
 ghost use Rattle.reg_service.specs.Answered.{Answers, LeavesAlone, Shows};
 ghost use Rattle.reg_service.specs.Sequences.{MayBeLeft, Ran};
@@ -24,7 +24,7 @@ pub fn history_law<S: Alter>()
     ensures alone { (limits : _) (s : _) (entry : _) (es : _) (xs : _) (t : _) (new : _)
         → LeavesAlone s (shown S.Store entry) → Ran S.Store limits s entry es xs t new
         → (db : _) → (shown S.Store new).may_leave db
-        → (m : _) × Stands m db × MayBeLeft limits s es xs m }
+        → (m : _) × Stands m db × MayBeLeft limits s es xs (is_shut new) m }
 {
     run_law();
     growth_law();

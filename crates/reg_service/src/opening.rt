@@ -8,7 +8,8 @@ ghost use Rattle.reg_tables_schema.specs.Schema.{blank, schema_of};
 ghost use Rattle.reg_tables_schema.specs.States.{IsMade, IsUndone};
 ghost use Rattle.reg_tables_sql.specs.Abouts.{LacksBase};
 ghost use Rattle.reg_service.specs.Answered.{AreAs, AreUpToDate, Shows};
-ghost use Rattle.reg_service.specs.Registries.{AreDamaged, AreOne, IsBrought, IsFirstFailing, IsNew, LeavesOpened, MayBeUpgraded, has_stopped, limits_of, tables_of};
+ghost use Rattle.reg_service.specs.Registries.{AreChecked, AreDamaged, AreOne, IsBrought, IsNew, LeavesOpened, MayBeUpgraded, MayBecome, has_stopped, limits_of, tables_of};
+ghost use Rattle.reg_tables.specs.Ends.{LeavesLast};
 ghost use Rattle.reg_tables.specs.Works.{AreOurs, edition_in, is_shut, shown};
 
 use crate::registry::Registry;
@@ -52,7 +53,7 @@ fn bring_up<S: Alter>(
     ensures undone { (shown S.Store tables).in_transaction ≡ false → IfErr result (λ e.
         HasCleanDisk (state S.Store e.0) → IsUndone (shown S.Store tables) (state S.Store e.0)) }
     ensures handed_back { IfErr result (λ e. Survives (shown S.Store tables) (state S.Store e.0)
-        (λ _. edition_in tables ≡ Edition.First)) }
+        (MayBecome (edition_in tables) (shown S.Store tables))) }
 {
     match tables.edition() {
         Edition::Second => Ok(Registry { tables, limits }),
@@ -78,16 +79,17 @@ fn examine<S: Alter>(
     ensures clean { IfOk result (λ r. HasCleanDisk (shown S.Store (tables_of r))
         → HasCleanDisk (shown S.Store tables)) }
     ensures passed { IfOk result (λ r. HasCleanDisk (shown S.Store (tables_of r))
-        → IsFirstFailing (edition_in tables) (shown S.Store tables).now None) }
+        → AreChecked (edition_in tables) (shown S.Store tables) None) }
     ensures known { IfErr result
         (λ e. (e.1 ≢ OpenFault.UnknownSchema) × (e.1 ≢ OpenFault.BadBase)) }
     ensures found { IfErr result (λ e. HasCleanDisk (state S.Store e.0) → (check : _)
         → e.1 ≡ OpenFault.Damaged check
-        → IsFirstFailing (edition_in tables) (shown S.Store tables).now (Some check)) }
+        → AreChecked (edition_in tables) (shown S.Store tables) (Some check)) }
     ensures undone { (shown S.Store tables).in_transaction ≡ false → IfErr result (λ e.
         HasCleanDisk (state S.Store e.0) → IsUndone (shown S.Store tables) (state S.Store e.0)) }
     ensures handed_back { IfErr result (λ e. Survives (shown S.Store tables) (state S.Store e.0)
-        (λ _. MayBeUpgraded e.1 (schema_of (edition_in tables)))) }
+        (λ db. (e.1 ≡ OpenFault.Storage)
+        × MayBecome (edition_in tables) (shown S.Store tables) db)) }
 {
     match audit(alloc, &mut tables) {
         Err(_) => Err((tables.into_connection(), OpenFault::Storage)),
@@ -113,8 +115,7 @@ impl<S: Alter> Registry<S> {
             → AreAs edition s (state S.Store conn).now.trees
             → Shows s (shown S.Store (tables_of r))) }
         ensures sound { IfOk result (λ r. HasCleanDisk (shown S.Store (tables_of r))
-            → IsTrue (shown S.Store (tables_of r)).is_open
-            → AreOne (state S.Store conn).now (shown S.Store (tables_of r)).now.trees) }
+            → AreOne (state S.Store conn).now (shown S.Store (tables_of r))) }
         ensures left { IfOk result (λ r. HasCleanDisk (shown S.Store (tables_of r))
             → LeavesOpened (state S.Store conn) (shown S.Store (tables_of r))) }
         ensures unknown { IfErr result (λ e. HasCleanDisk (state S.Store e.0)
@@ -122,13 +123,14 @@ impl<S: Alter> Registry<S> {
             → (state S.Store conn).now.schema ≡ schema_of edition
             → LacksBase edition (state S.Store conn).now.trees) }
         ensures damaged { IfErr result (λ e. HasCleanDisk (state S.Store e.0) → (check : _)
-            → e.1 ≡ OpenFault.Damaged check → IsTrue (state S.Store e.0).is_open
-            → AreDamaged (state S.Store conn).now check) }
+            → e.1 ≡ OpenFault.Damaged check → AreDamaged (state S.Store conn).now check) }
         ensures known { IfErr result (λ e. e.1 ≢ OpenFault.BadBase) }
         ensures undone { IfErr result (λ e. HasCleanDisk (state S.Store e.0)
             → IsUndone (state S.Store conn) (state S.Store e.0)) }
         ensures handed_back { IfErr result (λ e. Survives (state S.Store conn) (state S.Store e.0)
-            (λ _. MayBeUpgraded e.1 (state S.Store conn).now.schema)) }
+            (MayBeUpgraded e.1 (state S.Store conn).now)) }
+        ensures last { IfErr result (λ e. HasCleanDisk (state S.Store e.0)
+            → LeavesLast (state S.Store conn) (state S.Store e.0)) }
     {
         edition_law();
         rows_law(&conn);
@@ -162,6 +164,8 @@ impl<S: Alter> Registry<S> {
         ensures handed_back { IfErr result (λ e. e.1 ≡ OpenFault.Storage
             → Survives (state S.Store conn) (state S.Store e.0)
             (λ trees. (db : _) × IsMade base.now db × (trees ≡ db.trees))) }
+        ensures last { IfErr result (λ e. HasCleanDisk (state S.Store e.0)
+            → LeavesLast (state S.Store conn) (state S.Store e.0)) }
     {
         soundness_law();
         if !is_base(base) {

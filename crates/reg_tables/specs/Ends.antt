@@ -30,6 +30,11 @@ pub record Begins {S : Type 0} (g : Ghosts S) (sees : State → State → Type 0
 abbrev pub LeavesOnly : Database → State → Type 0
 LeavesOnly db s = (trees : Trees) → s.may_leave trees → trees ≡ db.trees
 
+-- where the connection was open, a stop leaves the last commit alone, or the disk failed since
+abbrev pub LeavesLast : State → State → Type 0
+LeavesLast old new = IsTrue old.is_open
+    → LeavesOnly old.committed new ⊎ MoreFaults old.faults new.faults
+
 -- the changes are committed, and the tables are of schema 2
 pub record IsCommitted {S : Type 0} (g : Ghosts S) (old : Work S) (new : Tables S) : Type 0 where
   pub whole : has_failed old ≡ false
@@ -43,9 +48,7 @@ pub record IsCommitted {S : Type 0} (g : Ghosts S) (old : Work S) (new : Tables 
 -- the last commit it may leave only where the disk failed
 pub record IsRefused {S : Type 0} (g : Ghosts S) (old : Work S) (new : Tables S) : Type 0 where
   pub undone : HasCleanDisk (shown g new) → IsUndone (seen g old) (shown g new)
-  pub alone : HasCleanDisk (shown g new) → IsTrue (seen g old).is_open
-      → LeavesOnly (seen g old).committed (shown g new)
-      ⊎ MoreFaults (seen g old).faults (shown g new).faults
+  pub alone : HasCleanDisk (shown g new) → LeavesLast (seen g old) (shown g new)
   pub edition : edition_in new ≡ edition_in old.tables.now
   pub shut : has_failed old ≡ false → is_shut new ≡ true
   pub same_mode : has_failed old ≡ true → is_shut new ≡ is_shut old.tables.now

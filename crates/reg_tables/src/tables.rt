@@ -1,6 +1,6 @@
 //! The tables on a connection.
 
-ghost use Rattle.std.specs.Prelude.{◌≡◌, ◌≢◌, ◌↔◌, true, false, Ok, Err, IfErr, IfOk, OnErr, OnOk, IsTrue};
+ghost use Rattle.std.specs.Prelude.{◌≡◌, ◌≢◌, ◌↔◌, true, false, Ok, Err, IfErr, IfOk, IsErr, OnErr, OnOk, IsTrue};
 ghost use Rattle.std.specs.Borrow.{sem, RestsIfErr};
 ghost use Rattle.sqlite.specs.State.{HasCleanDisk, Survives};
 ghost use Rattle.sqlite.specs.Held.{state};
@@ -11,7 +11,7 @@ ghost use Rattle.reg_tables_sql.specs.Abouts.{HasBase, LacksBase};
 ghost use Rattle.reg_tables.specs.contracts.tables.Tables.{the_row};
 ghost use Rattle.reg_tables.specs.Lending.{LendsConnection};
 ghost use Rattle.reg_tables_meaning.specs.Stands.{Stands};
-ghost use Rattle.reg_tables.specs.Ends.{Begins, SeesAll};
+ghost use Rattle.reg_tables.specs.Ends.{Begins, LeavesLast, SeesAll};
 ghost use Rattle.reg_tables.specs.Works.{AreOurs, IsKept, IsLeft, IsSame, edition_in, held, is_shut, shown};
 ghost use Rattle.reg_tables_meaning.specs.Upgrades.{BeginsSecond, IsUpgraded, AreUpgraded};
 
@@ -57,6 +57,8 @@ impl<S: Alter> Tables<S> {
             (λ trees. (db : _) × IsMade base.now db × (trees ≡ db.trees))) }
         ensures handed_back { IfErr result (λ e. Survives (state S.Store conn) (state S.Store e.0)
             (λ trees. (db : _) × IsMade base.now db × (trees ≡ db.trees))) }
+        ensures last { IfErr result (λ e. HasCleanDisk (state S.Store e.0) → LeavesLast
+            (state S.Store conn) (state S.Store e.0)) }
     {
         let made = make_tables(&mut conn, base);
         stop_law(&conn);
@@ -184,7 +186,8 @@ impl<S: Alter> Tables<S> {
         })
     }
 
-    /// Migrates the tables to schema 2 in one transaction; returns whether they had schema 1.
+    /// Migrates the tables to schema 2 in one transaction; returns whether they had schema 1. After
+    /// a failed commit it is refused.
     pub fn migrate(&mut self) -> Result<bool, StoreFault>
         requires { AreOurs S.Store self.old }
         ensures which { IfOk result (λ done. IsTrue done ↔
@@ -200,9 +203,16 @@ impl<S: Alter> Tables<S> {
         ensures ours { AreOurs S.Store self.new }
         ensures second { OnOk result (edition_in self.new ≡ Edition.Second) }
         ensures edition { OnErr result (edition_in self.new ≡ edition_in self.old) }
+        ensures stopped { is_shut self.old ≡ true → IsErr result }
         ensures survives { Survives (shown S.Store self.old) (shown S.Store self.new)
-            (AreUpgraded (shown S.Store self.old).now) }
+            (λ db. IsTrue (shown S.Store self.old).is_open
+            × AreUpgraded (shown S.Store self.old).now db) }
+        ensures last { HasCleanDisk (shown S.Store self.new) → OnErr result (LeavesLast
+            (shown S.Store self.old) (shown S.Store self.new)) }
     {
+        if self.is_shut() {
+            return Err(StoreFault);
+        }
         match self.edition {
             Edition::First => {}
             Edition::Second => return Ok(false),

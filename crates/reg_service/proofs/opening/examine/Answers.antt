@@ -3,14 +3,14 @@ use Rattle.sqlite.specs.Held.{state}
 use Rattle.sqlite.specs.State.{HasCleanDisk}
 use Rattle.reg_tables_meaning.proofs.Results.{if_ok}
 use Rattle.reg_tables.specs.Works.{edition_in, held, shown}
-use Rattle.reg_service.specs.Registries.{IsFirstFailing}
+use Rattle.reg_service.specs.Registries.{AreChecked, IsFirstFailing}
 use Rattle.reg_service.proofs.Opened.{examined_brought, examined_left, examined_undone, returned_left}
 use Rattle.reg_service.proofs.opening.examine.Goals as goal
 
 pub returns-in-Ok-Some-clause-found : goal.returns-in-Ok-Some-clause-found
 returns-in-Ok-Some-clause-found g c clean check is =
     let still = subst (λ it. HasCleanDisk (state g.S.Store it)) c.into_connection-in-Ok-Some.ensures clean in
-    subst (λ it. IsFirstFailing (edition_in c.args.tables) (shown g.S.Store c.args.tables).now (Some it)) (cc is) (rw c.in-Ok-Some.field-0-is at c.in-Ok-Some.ensures.found still)
+    (c.in-Ok-Some.ensures.was_open still, subst (λ it. IsFirstFailing (edition_in c.args.tables) (shown g.S.Store c.args.tables).now (Some it)) (cc is) (rw c.in-Ok-Some.field-0-is at c.in-Ok-Some.ensures.found still))
 
 pub returns-in-Err-clause-handed_back : goal.returns-in-Err-clause-handed_back
 returns-in-Err-clause-handed_back g c =
@@ -22,7 +22,7 @@ returns-in-Ok-Some-clause-handed_back g c =
 
 pub returns-in-Ok-None-clause-passed : goal.returns-in-Ok-None-clause-passed
 returns-in-Ok-None-clause-passed g c =
-    if_ok c.bring_up.result (λ r early clean. subst (λ it. IsFirstFailing (edition_in c.args.tables) (shown g.S.Store c.args.tables).now it) c.in-Ok-None.field-0-is (c.in-Ok-None.ensures.found (early clean))) c.bring_up.ensures.clean
+    if_ok c.bring_up.result (λ r early clean. subst (λ it. AreChecked (edition_in c.args.tables) (shown g.S.Store c.args.tables) it) c.in-Ok-None.field-0-is (c.in-Ok-None.ensures.was_open (early clean), c.in-Ok-None.ensures.found (early clean))) c.bring_up.ensures.clean
 
 pub returns-in-Ok-None-clause-brought : goal.returns-in-Ok-None-clause-brought
 returns-in-Ok-None-clause-brought g c =
@@ -34,4 +34,4 @@ returns-in-Ok-None-clause-undone g c =
 
 pub returns-in-Ok-None-clause-handed_back : goal.returns-in-Ok-None-clause-handed_back
 returns-in-Ok-None-clause-handed_back g c =
-    examined_left g.S.Store c.args.tables c.audit.new.tables c.bring_up.result c.audit.ensures.edition c.audit.ensures.survives c.bring_up.ensures.refused c.bring_up.ensures.handed_back
+    examined_left g.S.Store c.args.tables c.audit.new.tables c.bring_up.result c.requires c.audit.ensures.ours c.audit.ensures.edition c.audit.ensures.kept c.audit.ensures.survives c.bring_up.ensures.refused c.bring_up.ensures.handed_back

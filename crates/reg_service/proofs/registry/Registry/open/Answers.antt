@@ -1,4 +1,4 @@
-use Rattle.reg_service.proofs.Opened.{is_taken, opened_left, opened_same, opened_sound, refused_damaged, refused_left, refused_undone}
+use Rattle.reg_service.proofs.Opened.{handed_last, is_taken, opened_left, opened_same, opened_sound, refused_damaged, refused_last, refused_left, refused_undone}
 use Rattle.reg_service.proofs.registry.Registry.open.Goals as goal
 
 pub returns-in-Ok-clause-same : goal.returns-in-Ok-clause-same
@@ -23,8 +23,20 @@ returns-in-Ok-clause-undone g c =
 
 pub returns-in-Ok-clause-damaged : goal.returns-in-Ok-clause-damaged
 returns-in-Ok-clause-damaged g c =
-    refused_damaged g.S.Store c.args.conn c.in-Ok.tables (is_taken g.S.Store c.args.conn c.in-Ok.tables c.in-Ok.ensures.edition c.in-Ok.ensures.found c.in-Ok.ensures.about c.in-Ok.ensures.rests c.rows_law.ensures) c.examine.result c.edition_law.ensures.audit c.examine.ensures.handed_back c.examine.ensures.undone c.examine.ensures.found
+    refused_damaged g.S.Store c.args.conn c.in-Ok.tables (is_taken g.S.Store c.args.conn c.in-Ok.tables c.in-Ok.ensures.edition c.in-Ok.ensures.found c.in-Ok.ensures.about c.in-Ok.ensures.rests c.rows_law.ensures) c.examine.result c.edition_law.ensures.audit c.examine.ensures.handed_back c.examine.ensures.found
 
 pub returns-in-Ok-clause-handed_back : goal.returns-in-Ok-clause-handed_back
 returns-in-Ok-clause-handed_back g c =
     refused_left g.S.Store c.args.conn c.in-Ok.tables (is_taken g.S.Store c.args.conn c.in-Ok.tables c.in-Ok.ensures.edition c.in-Ok.ensures.found c.in-Ok.ensures.about c.in-Ok.ensures.rests c.rows_law.ensures) c.examine.result c.in-Ok.ensures.kept c.examine.ensures.handed_back
+
+pub returns-in-Ok-clause-last : goal.returns-in-Ok-clause-last
+returns-in-Ok-clause-last g c =
+    refused_last g.S.Store c.args.conn c.in-Ok.tables (is_taken g.S.Store c.args.conn c.in-Ok.tables c.in-Ok.ensures.edition c.in-Ok.ensures.found c.in-Ok.ensures.about c.in-Ok.ensures.rests c.rows_law.ensures) c.examine.result (λ h up db l. g.met.S.Store.settled h.store db up l) c.in-Ok.ensures.kept c.examine.ensures.handed_back c.examine.ensures.undone
+
+pub returns-in-Err-default-UnknownSchema-clause-last : goal.returns-in-Err-default-UnknownSchema-clause-last
+returns-in-Err-default-UnknownSchema-clause-last g c clean =
+    handed_last g.S.Store c.args.conn c.in-Err-default-UnknownSchema.conn (λ _. ⊥) (λ h up db l. g.met.S.Store.settled h.store db up l) (c.in-Err-default-UnknownSchema.ensures.handed_back clean) c.in-Err-default-UnknownSchema.ensures.left clean
+
+pub returns-in-Err-default-Storage-clause-last : goal.returns-in-Err-default-Storage-clause-last
+returns-in-Err-default-Storage-clause-last g c clean =
+    handed_last g.S.Store c.args.conn c.in-Err-default-Storage.conn (λ _. ⊥) (λ h up db l. g.met.S.Store.settled h.store db up l) (c.in-Err-default-Storage.ensures.handed_back clean) c.in-Err-default-Storage.ensures.left clean
