@@ -4,13 +4,12 @@ ghost use Rattle.std.specs.Prelude.{◌≡◌, ◌<◌, ◌^◌, ◌∷◌, [], 
 ghost use Rattle.std.specs.Option.{option_map};
 ghost use Rattle.sqlite.specs.Held.{state};
 ghost use Rattle.sqlite.specs.Order.{column};
-ghost use Rattle.sqlite.specs.Values.{bound};
 ghost use Rattle.sqlite.specs.declared.types.Value.TheVariants.{Int};
 ghost use Rattle.reg_tables_schema.specs.Changes.{Adds};
 ghost use Rattle.reg_tables_schema.specs.Places.{version_crate_place, versions_tree};
-ghost use Rattle.reg_tables_schema.specs.Rows.{mark, number_columns};
+ghost use Rattle.reg_tables_schema.specs.Rows.{mark};
 ghost use Rattle.reg_tables_schema.specs.States.{IsReady};
-ghost use Rattle.reg_tables_schema.specs.Statements.{Answers, MayRead, Reads, Writes, rows_in};
+ghost use Rattle.reg_tables_schema.specs.Statements.{Reads, Writes, rows_in};
 ghost use Rattle.reg_tables_sql.specs.Counts.{IsCountOf, IsLastId};
 ghost use Rattle.reg_tables_sql.specs.Rowids.{AreRowids};
 ghost use Rattle.reg_tables_sql.specs.Stems.{AreEntriesOf, columns_of_stem};
@@ -19,8 +18,7 @@ ghost use Rattle.reg_tables_sql.specs.Versions.{AreVersions, AreVersionsOf, Mark
 
 use crate::marks::mark_of;
 use crate::records::FromRow;
-use crate::statements::{select_here, select_list, select_one, write};
-use sqlite::types::ValueRef;
+use crate::statements::{select_here, select_list, select_one, select_only, write};
 use sqlite::{Alter, Connection, Error, Row, params};
 use std::alloc::Global;
 
@@ -282,27 +280,13 @@ pub fn mark_by_text<S: Alter>(
     )
 }
 
-// The number that is the only value in the only row of a read-only query.
-fn select_count<S: Alter>(
-    conn: &mut Connection<S>,
-    text: &str,
-    params: &[ValueRef<'_>],
-) -> Result<u64, Error>
-    requires { MayRead text.now (state S.Store conn.old) }
-    ensures { Reads S.Store conn.old conn.new result (λ n.
-        Answers S.Store conn.old conn.new text.now (bound params.now) (number_columns n ∷ [])) }
-{
-    let found = select_one::<u64, S>(conn, text, params)?;
-    found.ok_or(Error::InvalidQuery)
-}
-
 /// How many versions a crate has, up to SQL's greatest count.
 pub fn count_of<S: Alter>(conn: &mut Connection<S>, crate_id: u32) -> Result<u64, Error>
     requires { IsReady (state S.Store conn.old) }
     ensures { Reads S.Store conn.old conn.new result
         (IsCountOf versions_tree version_crate_place crate_id (rows_in S.Store conn.old)) }
 {
-    select_count(
+    select_only::<u64, S>(
         conn,
         "SELECT count(*) FROM versions WHERE crate = ?1",
         params![crate_id],

@@ -4,8 +4,8 @@ use Rattle.reg_tables_schema.proofs.Selections.{may_read}
 use Rattle.reg_tables_sql.proofs.VersionQueries.{count, count_is}
 use Rattle.reg_tables_sql.proofs.versions.count_of.Goals as goal
 
-pub select_count-requires : goal.select_count-requires
-select_count-requires g c = may_read _ count_is.plain _ c.requires
+pub select_only-requires : goal.select_only-requires
+select_only-requires g c = may_read _ count_is.plain _ c.requires
 
 pub returns : goal.returns
-returns g c = reads_as (state g.S.Store c.args.conn.now) (state g.S.Store c.select_count.new.conn) c.select_count.result c.requires (λ at n h. count (state g.S.Store c.args.conn.now) (state g.S.Store c.select_count.new.conn) c.args.crate_id n at h) (rw c.params-to_sql.ensures at c.select_count.ensures)
+returns g c = reads_as (state g.S.Store c.args.conn.now) (state g.S.Store c.select_only.new.conn) c.select_only.result c.requires (λ at n h. count (state g.S.Store c.args.conn.now) (state g.S.Store c.select_only.new.conn) c.args.crate_id n at h) (rw c.params-to_sql.ensures at c.select_only.ensures)
