@@ -1,11 +1,10 @@
 -- A version that is published, of a new crate or of one that is there.
-use Rattle.std.proofs.Common.{◌≡◌, [], ℕ, List, length, Bool, true, false, not, nat_le, cond, Option, Some, None, is_some, refl, sym, ap, subst, ◌∙◌}
-use Rattle.std.specs.Prelude.{Vec, map, unwrap_or}
+use Rattle.std.proofs.Common.{◌≡◌, ℕ, length, Bool, true, false, not, nat_le, cond, Option, Some, None, is_some, refl, sym, ap, subst, ◌∙◌}
+use Rattle.std.specs.Prelude.{Vec, unwrap_or}
 use Rattle.std.specs.declared.alloc.Global.{Global}
 use Rattle.std.specs.FinSet as finset
 use Rattle.std.specs.List.{filter, find, list_any}
 use Rattle.std.specs.Str.{bytes_eq}
-use Rattle.std.proofs.lemmas.List.{length-map}
 use Rattle.std.proofs.lemmas.Slice.Eq.{bytes_eq-Decides}
 use Rattle.sqlite.specs.Tree.{Trees}
 use Rattle.reg_body.specs.declared.limits.Limits.{Limits}
@@ -30,11 +29,9 @@ use Rattle.reg_model.proofs.Members.{any_in, in_any}
 use Rattle.reg_api_replies.specs.Bodies.{publish_body}
 use Rattle.reg_api_replies.specs.declared.head.Kind.TheVariants.{Json}
 use Rattle.reg_api_replies.specs.declared.reply.Reply.TheVariants as reply
-use Rattle.reg_tables_sql.specs.declared.versions.Version.{Version}
-use Rattle.reg_tables_meaning.specs.Calls.{AddsFirst, AddsNext, ListsVersions, Tells, published}
+use Rattle.reg_tables_meaning.specs.Calls.{AddsFirst, AddsNext, ReachesVersions, Tells, published}
 use Rattle.reg_tables_meaning.specs.Changes.{told_of}
 use Rattle.reg_tables_meaning.specs.declared.crates.NewVersion.{NewVersion}
-use Rattle.reg_tables_meaning.specs.Entries.{shown_version, version_shown}
 use Rattle.reg_tables_meaning.specs.Stands.{Stands}
 use Rattle.reg_access.specs.Admitted.{IsFoundOf}
 use Rattle.reg_access.specs.declared.admission.Caller.{Caller}
@@ -106,9 +103,8 @@ new_crate p owner v id body old new is text adds limits d who fresh allowed = do
       subst (λ t. Stands t new) (ap (λ q. with_owner (canon p.name, owner) (with_publication q s)) is ∙ first_done s d p owner none (who ids s h)) (_, (adds ids s h none).1),
     ))
 
-pub versions_full : (limits : Limits) (id : ℕ) (list : List Version) (db : Trees) → ListsVersions id db list → TellsFullOf limits id db (nat_le limits.versions (length list))
-versions_full limits id list db lists ids s h n at = ap (nat_le limits.versions) (
-    sym (length-map list shown_version) ∙ ap length (lists ids s h ∙ ap (λ o. told_of o [] (λ m. map (version_shown s.yanked) (versions s m))) at) ∙ length-map (versions s n) (version_shown s.yanked))
+pub versions_full : (limits : Limits) (id : ℕ) (full : Bool) (db : Trees) → ReachesVersions id limits.versions db full → TellsFullOf limits id db full
+versions_full limits id full db told ids s h n at = told ids s h ∙ ap (λ o. nat_le limits.versions (told_of o 0 (λ m. length (versions s m)))) at
 
 module _ (limits : Limits) (d : Text) (p : Publication) (old : Trees) where
   judged_first : (b : Bool) → TellsFull limits old b → IsNew p old → IsLet d (action_of (Publish p)) old → Tells (λ ids s. denied limits s (Some d) (Publish p) ≡ cond b (Some rule.L2) None) old

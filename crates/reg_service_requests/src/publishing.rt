@@ -42,7 +42,6 @@ fn is_full<S: Alter>(work: &mut Work<'_, S>, limits: &Limits) -> Result<bool, St
 
 /// Whether a crate has as many versions as allowed.
 fn is_full_of<S: Alter>(
-    alloc: Global,
     work: &mut Work<'_, S>,
     limits: &Limits,
     crate_id: u32,
@@ -50,8 +49,8 @@ fn is_full_of<S: Alter>(
     requires { IsAtWork S.Store work.old }
     ensures { Asks S.Store work.old work.new result (TellsFullOf limits.now crate_id) }
 {
-    let versions = work.versions_of(alloc, crate_id)?;
-    Ok(limits.versions <= versions.len() as u64)
+    let full = work.reaches_versions(crate_id, limits.versions)?;
+    Ok(full)
 }
 
 /// Creates a crate with its first version and its owner.
@@ -104,7 +103,7 @@ fn publish_next<S: Alter>(
     ensures { Runs S.Store work.old work.new result
         (PublishesNext limits.now crate_id (publication_of new.now)) }
 {
-    let full = is_full_of(alloc, work, limits, crate_id)?;
+    let full = is_full_of(work, limits, crate_id)?;
     if full {
         return Ok(Served::Told(Reply::Denied(Rule::L1)));
     }
