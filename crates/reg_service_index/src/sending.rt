@@ -1,6 +1,6 @@
 //! The reply to a request for an index file, once decided.
 
-ghost use Rattle.std.specs.Prelude.{◌≡◌, ◌+◌, ◌^◌, ◌<◌, ◌⊎◌, Err, MatchBool};
+ghost use Rattle.std.specs.Prelude.{◌≡◌, ◌+◌, ◌^◌, ◌<◌, ◌⊎◌, Err, MatchBool, false, true};
 ghost use Rattle.sqlite.specs.State.{HasCleanDisk};
 ghost use Rattle.reg_api_replies.specs.Sent.{sink};
 ghost use Rattle.reg_tables_meaning.specs.Walks.{IsRead};
@@ -55,6 +55,7 @@ fn send_over<S: Alter, W: Write>(
 ) -> Result<u64, IndexFault>
     requires ours { AreOurs S.Store tables.old }
     requires second { edition_in tables.old ≡ Edition.Second }
+    requires open { is_shut tables.old ≡ false }
     requires room { w.old.calls + writes < 2 ^ 64 }
     ensures rows { SendsRows S.Store file.now close result writes (held tables.old)
         (held tables.new) (sink (W.contents w.old.inner) w.old)
@@ -90,8 +91,14 @@ pub fn send_file<S: Alter, W: Write>(
     ensures begun { result ≡ Err IndexFault.Store → w.old.calls < w.new.calls }
     ensures ends { result ≡ Err IndexFault.Store
         → EndsItself S.Store file.now.crate_id (held tables.new) }
+    ensures stopped { is_shut tables.old ≡ true
+        → SendsNoRoom close result writes (sink (W.contents w.old.inner) w.old)
+        (sink (W.contents w.new.inner) w.new) }
     ensures left { IsLeft S.Store tables.old tables.new }
 {
+    if tables.is_shut() {
+        return refuse(w, Rule::S1, close, writes);
+    }
     let before = w.calls();
     let sent = send_over(tables, file, close, w, writes);
     if is_unsent(&sent, before, w.calls()) {

@@ -124,8 +124,9 @@ impl<S: Alter> Tables<S> {
     }
 
     /// The connection on loan, for `rows_of` and `index_rows`: what is left of it after the last
-    /// read is what the tables have. It shows them even after a failed commit.
+    /// read is what the tables have. After a failed commit it is not lent.
     pub fn reading(&mut self) -> &mut Connection<S>
+        requires open { is_shut self.old ≡ false }
         ensures* lends { sem 𝓛 (LendsConnection S.row S.Store self.entry result) }
         ensures value { result.now ≡ held self.old }
     {

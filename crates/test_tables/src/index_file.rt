@@ -69,6 +69,9 @@ pub fn entries_text<S: Alter>(
     requires { AreOurs S.Store tables.old }
     ensures { AreOurs S.Store tables.new }
 {
+    if tables.is_shut() {
+        return Err(Fault::Store);
+    }
     match tables.edition() {
         Edition::First => Err(Fault::NotMade),
         Edition::Second => Ok(list(alloc, &index_entries(alloc, tables.reading(), crate_id)?)?),

@@ -285,6 +285,9 @@ fn add_shown(alloc: Global, text: &mut String, row: &Row) -> Result<(), AllocErr
 pub fn read_logins<S: Alter>(alloc: Global, tables: &mut Tables<S>) -> Result<String, Fault>
     requires { AreOurs S.Store tables.old }
 {
+    if tables.is_shut() {
+        return Err(Fault::Store);
+    }
     let mut text = String::new(alloc);
     let mut rows = rows_of(
         tables.reading(),

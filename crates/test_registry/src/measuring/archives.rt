@@ -4,7 +4,7 @@ ghost use Rattle.reg_tables.specs.Works.{AreOurs};
 
 use crate::measuring::fault::Fault;
 use reg_line::digest_of;
-use reg_tables::{Edition, StemRow, Tables, index_entries};
+use reg_tables::{Edition, StemRow, StoreFault, Tables, index_entries};
 use sqlite::Alter;
 use std::alloc::Global;
 use test_tables::{Call, CrateCall, perform, release_of};
@@ -27,6 +27,9 @@ pub(crate) fn index_bytes<S: Alter>(
     let Ok(id) = id.parse() else {
         return Err(Fault::Words);
     };
+    if tables.is_shut() {
+        return Err(Fault::Store(StoreFault));
+    }
     match tables.edition() {
         Edition::First => Err(Fault::NotMade),
         Edition::Second => Ok(stem_bytes(&index_entries(alloc, tables.reading(), id)?)),

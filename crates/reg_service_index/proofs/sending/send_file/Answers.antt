@@ -33,3 +33,14 @@ returns-clause-sends g c clean =
 pub returns-clause-some : goal.returns-clause-some
 returns-clause-some g c =
     rows_some c.args.file.now c.args.close c.send_over-sent.result c.args.writes c.send_over-sent.ensures.rows.rows _ _ c.send_over-sent.ensures.rows.sends
+
+-- tables that have stopped
+
+pub returns-then-is_shut-clause-sends : goal.returns-then-is_shut-clause-sends
+returns-then-is_shut-clause-sends g c clean = inl c.refuse.ensures.denies
+
+pub returns-then-is_shut-clause-begun : goal.returns-then-is_shut-clause-begun
+returns-then-is_shut-clause-begun g c e = absurd (c.refuse.ensures.denies.never e)
+
+pub returns-then-is_shut-clause-ends : goal.returns-then-is_shut-clause-ends
+returns-then-is_shut-clause-ends g c e = absurd (c.refuse.ensures.denies.never e)
