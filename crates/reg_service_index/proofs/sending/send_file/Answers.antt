@@ -11,7 +11,7 @@ returns-then-is_unsent-clause-sends g c clean =
     let text = rows_text c.args.file.now c.args.close rows.rows in
     let broken = broken_at c.send_over-sent.result text c.args.writes _ _ none.0 rows.sends in
     let same = unsent text c.args.writes _ _ broken (sym c.calls.ensures ∙ none.1 ∙ c.calls-before.ensures) in
-    inl (denial_then S1 c.args.close c.refuse.result c.args.writes _ _ _ same c.refuse.ensures.denies)
+    inl (denial_then S1 c.args.close c.refuse-then-is_unsent.result c.args.writes _ _ _ same c.refuse-then-is_unsent.ensures.denies)
 
 pub returns-then-is_unsent-clause-some : goal.returns-then-is_unsent-clause-some
 returns-then-is_unsent-clause-some g c =
@@ -20,10 +20,10 @@ returns-then-is_unsent-clause-some g c =
     let text = rows_text c.args.file.now c.args.close rows.rows in
     let broken = broken_at c.send_over-sent.result text c.args.writes _ _ none.0 rows.sends in
     let same = unsent text c.args.writes _ _ broken (sym c.calls.ensures ∙ none.1 ∙ c.calls-before.ensures) in
-    some_then c.refuse.result c.args.writes _ _ _ same c.refuse.ensures.some
+    some_then c.refuse-then-is_unsent.result c.args.writes _ _ _ same c.refuse-then-is_unsent.ensures.some
 
 pub returns-then-is_unsent-clause-begun : goal.returns-then-is_unsent-clause-begun
-returns-then-is_unsent-clause-begun g c e = absurd (c.refuse.ensures.denies.never e)
+returns-then-is_unsent-clause-begun g c e = absurd (c.refuse-then-is_unsent.ensures.denies.never e)
 
 pub returns-clause-sends : goal.returns-clause-sends
 returns-clause-sends g c clean =
