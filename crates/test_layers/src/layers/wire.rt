@@ -10,8 +10,15 @@ use std::borrow::CowStr;
 use std::test::Fail;
 
 /// A search whose text is decoded.
-const SEARCH: &[u8] = b"GET /api/v1/crates?q=a%20name%20of%20some%20length&per_page=20 HTTP/1.1\r\n\
+const SEARCH: &[u8] = b"GET /api/v1/crates?q=\
+    a%20name%20of%20some%20length%20that%20takes%20memory%20for%20its%20decoded%20text\
+    %20a%20name%20of%20some%20length%20that%20takes%20memory%20for%20its%20decoded%20text\
+    %20a%20name%20of%20some%20length%20that%20takes%20memory%20for%20its%20decoded%20text&per_page=20 HTTP/1.1\r\n\
     host: r\r\nauthorization: abc\r\n\r\n";
+
+const SEARCHED: &str = "a name of some length that takes memory for its decoded text \
+    a name of some length that takes memory for its decoded text \
+    a name of some length that takes memory for its decoded text";
 
 /// An index file whose name is decoded.
 const INDEX: &[u8] = b"GET /index/ac/me/%61cme-net HTTP/1.1\r\n\
@@ -28,7 +35,8 @@ fn head_of(alloc: Global, bytes: &[u8]) -> Result<Head<'_>, AllocError> {
 fn reading_a_head(rt: HostRuntime) -> Result<(), Fail> {
     let tally = each_amount(rt.alloc(), 16, |alloc| {
         Ok(match read_head(alloc, SEARCH, &Limits::STANDARD)? {
-            HeadRead::Head(head) => head.len == SEARCH.len() && head.token == Some(b"abc"),
+            HeadRead::Head(head) => head.len == SEARCH.len()
+                && head.token == Some(b"abc".as_slice()),
             _ => false,
         })
     })?;
@@ -47,10 +55,8 @@ fn is_text(text: &Option<CowStr<'_>>, wanted: &str) -> bool {
 fn is_asked(alloc: Global, routes: &Routes, head: &Head<'_>) -> Result<bool, AllocError> {
     match routes.route(alloc, head, b"") {
         Ok(request) => Ok(match request.call {
-            ApiCall::Search { q, per_page } => {
-                is_text(&q, "a name of some length") && is_text(&per_page, "20")
-            }
-            ApiCall::Index(path) => path.as_slice() == b"ac/me/acme-net",
+            ApiCall::Search { q, per_page } => { is_text(&q, SEARCHED) && is_text(&per_page, "20") }
+            ApiCall::Index(path) => path.as_slice() == b"ac/me/acme-net".as_slice(),
             _ => false,
         }),
         Err(RouteFault::Memory) => Err(AllocError),
