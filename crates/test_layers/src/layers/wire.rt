@@ -5,18 +5,16 @@ use reg_body::Limits;
 use reg_http_read::{HeadRead, read_head};
 use std::test::Fail;
 
-/// A search.
-const SEARCH: &[u8] = b"GET /api/v1/crates?q=\
-    a%20name%20of%20some%20length%20that%20takes%20memory%20for%20its%20decoded%20text\
-    %20a%20name%20of%20some%20length%20that%20takes%20memory%20for%20its%20decoded%20text\
-    %20a%20name%20of%20some%20length%20that%20takes%20memory%20for%20its%20decoded%20text&per_page=20 HTTP/1.1\r\n\
-    host: r\r\nauthorization: abc\r\n\r\n";
+/// A request with some fields.
+const ASKED: &[u8] = b"GET /index/config.json HTTP/1.1\r\nhost: r\r\nauthorization: abc\r\n\
+    accept: */*\r\naccept-encoding: gzip\r\ncache-control: no-cache\r\npragma: no-cache\r\n\
+    accept-language: en\r\nuser-agent: cargo\r\ncargo-protocol: version=1\r\n\r\n";
 
 #[test]
 fn reading_a_head(rt: HostRuntime) -> Result<(), Fail> {
     let tally = each_amount(rt.alloc(), 16, |alloc| {
-        Ok(match read_head(alloc, SEARCH, &Limits::STANDARD)? {
-            HeadRead::Head(head) => head.len == SEARCH.len()
+        Ok(match read_head(alloc, ASKED, &Limits::STANDARD)? {
+            HeadRead::Head(head) => head.len == ASKED.len()
                 && head.token == Some(b"abc".as_slice()),
             _ => false,
         })
