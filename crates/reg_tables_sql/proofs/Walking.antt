@@ -1,5 +1,6 @@
 -- Rows one at a time in a transaction: from the first to the end, or to a failure.
-use Rattle.std.proofs.Common.{◌≡◌, ◌⊎◌, inl, inr, arith, ℕ, List, [], ◌∷◌, ◌++◌, false, is_some, Ok, Err, Some, None, Option, Result, OnErr, sym, subst}
+use Rattle.std.proofs.Common.{◌≡◌, ◌==◌, ◌⊎◌, inl, inr, arith, ℕ, ◌+◌, List, [], ◌∷◌, ◌++◌, length, length-append, true, false, not, nat_lt, is_some, Ok, Err, Some, None, Option, Result, OnErr, refl, sym, ap, subst, ◌∙◌}
+use Rattle.std.proofs.lemmas.Bool.Decides.{nat_tests}
 use Rattle.std.specs.Borrow.{Bor}
 use Rattle.sqlite.specs.Effect.{Database}
 use Rattle.sqlite.specs.Clock.{timed}
@@ -15,7 +16,7 @@ use Rattle.sqlite.specs.State.{State, Fails, HasCleanDisk, IsUnchanged, Survives
 use Rattle.sqlite.proofs.Callers.{begun_plain, unchanged_then}
 use Rattle.sqlite.proofs.StateLemmas.{survives_then}
 use Rattle.reg_tables_schema.specs.States.{Refuses}
-use Rattle.reg_tables_schema.specs.Statements.{MayRead}
+use Rattle.reg_tables_schema.specs.Statements.{IsReading, MayRead}
 use Rattle.reg_tables_schema.specs.Steps.{LeavesSame}
 use Rattle.reg_tables_schema.proofs.ReadLemmas.{query_refused}
 use Rattle.reg_tables_schema.proofs.Selections.{reading_survives}
@@ -41,6 +42,14 @@ shown_since sql params a b c rows plain p h =
       subst (ShowsRows a c sql h.0 full rows) (sym none)
           (it.0, subst (λ (d : Database). IsSourceOf (reads_listing d.schema sql) d it.0) same it.1, it.2, unchanged_then a b c p it.3),
     )
+
+-- whether a list of this length has a row
+pub counted_some : (n : ℕ) (rows : List Row) → length rows ≡ n → nat_lt 0 n ≡ not (length rows == 0)
+counted_some n rows h = grind (arith, nat_tests)
+
+-- a failure tells nothing
+pub reads_none : {T E : Type 0} (tells : T → Type 0) (old new : State) (e : E) → LeavesSame {T = T} old new (Err e) → IsReading old new (Err e) tells
+reads_none tells old new e h = record { told = λ clean. tt; only = h.only; survives = h.survives }
 
 module _ {S : Type 0} (g : Ghosts S) (text : List ℕ) (params : Row) (first : Held S) (may : MayRead text (state g first)) where
   pub begins : (new : Held S) → (HasCleanDisk (state g new) → HasBegun g text params first new) → Survives (state g first) (state g new) (CommitsShowing text params (state g first)) → Walks g text params first new []
@@ -70,6 +79,11 @@ module _ {S : Type 0} (g : Ghosts S) (text : List ℕ) (params : Row) (first : H
       survives = silent m;
     }
 
+    -- one row more, counted
+    pub walked_more : (o : Option (Bor Row)) → is_some o ≡ true → (n : ℕ) → length given ≡ n → HasMoved g old (Ok o) new → (rows : List Row) × (length rows ≡ n + 1) × Walks g text params first new.conn.now rows
+    walked_more (Some row) some n counted m = (given ++ row.now ∷ [], length-append given (row.now ∷ []) ∙ ap (λ k. k + 1) counted, walked row row.now refl m)
+    walked_more None some n counted m = absurd cc
+
     pub walked_all : (o : Option (Bor Row)) → is_some o ≡ false → HasMoved g old (Ok o) new → HasCleanDisk (state g new.conn.now) → Shown text params (state g first) (state g new.conn.now) given
     walked_all (Some row) none m clean = absurd cc
     walked_all None none m clean =
@@ -92,3 +106,15 @@ module _ {S : Type 0} (g : Ghosts S) (text : List ℕ) (params : Row) (first : H
         left : HasCleanDisk (state g new.conn.now) → Fails (state g old.conn.now) (state g new.conn.now) ⊥ e ⊎ IsUnchanged (state g old.conn.now) (state g new.conn.now) → Refuses (state g old.conn.now) (state g new.conn.now)
         left clean (inl failed) = inr failed.3
         left clean (inr still) = inl still
+
+    -- the same, with what is told
+    pub reads_all : {T E : Type 0} (tells : T → Type 0) (x : T) → (Shown text params (state g first) (state g new.conn.now) given → tells x) → (o : Option (Bor Row)) → is_some o ≡ false → HasMoved g old (Ok o) new
+        → IsReading {E = E} (state g first) (state g new.conn.now) (Ok x) tells
+    reads_all {E = E} tells x shows o none m =
+        let ends = walk_ends {E = E} x o m in record { told = λ clean. shows (walked_all o none m clean); only = ends.only; survives = ends.survives }
+
+    pub reads_left : {T E : Type 0} (tells : T → Type 0) (e : E) → IsReading (state g first) (state g old.conn.now) (Err e) tells
+    reads_left tells e = reads_none tells (state g first) (state g old.conn.now) e (walk_left e)
+
+    pub reads_failed : {T E : Type 0} (tells : T → Type 0) (e : Error) (f : E) → HasMoved g old (Err e) new → IsReading (state g first) (state g new.conn.now) (Err f) tells
+    reads_failed tells e f m = reads_none tells (state g first) (state g new.conn.now) f (walk_fails e f m)

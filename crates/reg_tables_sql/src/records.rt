@@ -2,7 +2,6 @@
 
 ghost use Rattle.std.specs.Prelude.{◌≡◌, IfOk, map};
 ghost use Rattle.sqlite.specs.Order.{Row as Values};
-ghost use Rattle.reg_tables_schema.specs.Shown.{shown_of};
 
 use sqlite::{Error, Row};
 use std::alloc::Global;
@@ -13,17 +12,6 @@ pub trait FromRow: Sized + Drop {
 
     fn from_row(row: &Row) -> Result<Self, Error>
         ensures { IfOk result (λ it. row.now ≡ columns it) };
-}
-
-/// The record of the only row; none if there is no row.
-pub(crate) fn read_one<T: FromRow>(rows: &[Row]) -> Result<Option<T>, Error>
-    ensures { IfOk result (λ found. rows.now ≡ shown_of T.FromRow.columns found) }
-{
-    match rows {
-        [] => Ok(None),
-        [row] => Ok(Some(T::from_row(row)?)),
-        _ => Err(Error::InvalidQuery),
-    }
 }
 
 /// The records of all rows, in order. Each row is dropped as soon as its record is made.

@@ -12,7 +12,7 @@ ghost use Rattle.reg_tables_schema.specs.States.{IsReady};
 ghost use Rattle.reg_tables_schema.specs.Statements.{Answers, IsRowWrite, MayRead, Reads, Writes};
 ghost use Rattle.reg_tables_schema.specs.Steps.{KeepsAll, Told};
 
-use crate::records::{FromRow, read_all, read_one};
+use crate::records::{FromRow, read_all};
 use sqlite::types::ValueRef;
 use sqlite::{Alter, Connection, Error, Row};
 use std::alloc::Global;
@@ -30,7 +30,8 @@ pub fn rows_of<S: Alter>(
     conn.query_all(text, params)
 }
 
-/// The only row of a read-only query, as a record; none if there is no row.
+/// The only row of a read-only query, as a record; none if there is no row. The record is made of
+/// the row where it stands.
 pub fn select_one<T: FromRow, S: Alter>(
     conn: &mut Connection<S>,
     text: &str,
@@ -41,8 +42,15 @@ pub fn select_one<T: FromRow, S: Alter>(
         Answers S.Store conn.old conn.new text.now (bound params.now)
         (shown_of T.FromRow.columns found)) }
 {
-    let rows = rows_of(conn, text, params)?;
-    read_one(&rows)
+    let mut rows = conn.query(text, params)?;
+    let Some(row) = rows.next()? else {
+        return Ok(None);
+    };
+    let found = T::from_row(row)?;
+    match rows.next()? {
+        None => Ok(Some(found)),
+        Some(_) => Err(Error::InvalidQuery),
+    }
 }
 
 fn walk<T: FromRow, S: Alter>(
@@ -125,8 +133,13 @@ pub fn has_row<S: Alter>(
         × Answers S.Store conn.old conn.new text.now (bound params.now) rows
         × (has ≡ not (length rows == 0))) }
 {
-    let rows = rows_of(conn, text, params)?;
-    Ok(!rows.is_empty())
+    let mut rows = conn.query(text, params)?;
+    'rows: for count in 0..u64::MAX {
+        if rows.next()?.is_none() {
+            return Ok(count > 0);
+        }
+    }
+    Err(Error::InvalidQuery)
 }
 
 /// Runs a statement that writes rows.
