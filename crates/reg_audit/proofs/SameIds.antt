@@ -1,4 +1,4 @@
--- The check of archives: the ids of two lists, and one version after another.
+-- What two lists of records have in common, and what each of a list passes.
 use Rattle.std.proofs.Common.{◌≡◌, ◌<◌, ◌≤◌, ◌+◌, ℕ, List, map, take, length, get_or, Bool, true, false, refl, sym, ap, ◌∙◌}
 use Rattle.std.specs.Prelude.{◌&&◌}
 use Rattle.std.specs.List.{list_all}
@@ -7,21 +7,7 @@ use Rattle.std.proofs.lemmas.List.{get_or-map, take_all}
 use Rattle.std.proofs.lemmas.List.Folds.{list_all_more}
 use Rattle.std.proofs.lemmas.Slice.Eq.{bytes_eq-Decides}
 
-module _ {X : Type 0} (f : X → ℕ) (xs : List X) (ys : List ℕ) where
-  pub ids_differ : (i : ℕ) (x : X) (e : ℕ) → i < length xs → x ≡ get_or xs i x → (f x ≡ get_or ys i e → ⊥) → false ≡ bytes_eq (map f xs) ys
-  ids_differ i x e within is differ = go (bytes_eq (map f xs) ys) refl
-    where
-      go : (b : Bool) → bytes_eq (map f xs) ys ≡ b → false ≡ b
-      go false h = refl
-      go true h =
-          let same : map f xs ≡ ys = (bytes_eq-Decides (map f xs) ys).0 h in
-          let at : f x ≡ get_or ys i e = ap f is ∙ sym (get_or-map f xs i x e within) ∙ ap (λ l. get_or l i e) same in
-          absurd (differ at)
-
-  pub ids_agree : (i : ℕ) → length xs ≤ i → length ys ≤ i → map f (take i xs) ≡ take i ys → true ≡ bytes_eq (map f xs) ys
-  ids_agree i all both same = sym ((bytes_eq-Decides (map f xs) ys).1 (ap (map f) (sym (take_all i xs all)) ∙ same ∙ take_all i ys both))
-
--- the same of two lists of records
+-- the ids of two lists of records
 module _ {X Y : Type 0} (f : X → ℕ) (g : Y → ℕ) (xs : List X) (ys : List Y) where
   pub keys_differ : (i : ℕ) (x : X) (y : Y) → i < length xs → i < length ys → (f (get_or xs i x) ≡ g (get_or ys i y) → ⊥) → false ≡ bytes_eq (map f xs) (map g ys)
   keys_differ i x y within too differ = go (bytes_eq (map f xs) (map g ys)) refl

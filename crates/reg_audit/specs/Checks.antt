@@ -6,7 +6,7 @@ use Rattle.std.specs.Str.{bytes_eq}
 use Rattle.sha2.specs.Sha256.{sha256}
 use Rattle.sqlite.specs.Order.{Row}
 use Rattle.sqlite.specs.Tree.{Trees}
-use Rattle.sqlite.specs.declared.types.Value.TheVariants.{Blob}
+use Rattle.sqlite.specs.declared.types.Value.TheVariants.{Blob, Int}
 use Rattle.reg_names.specs.Logins.{is_login}
 use Rattle.reg_names.specs.Names.{canon, is_name}
 use Rattle.reg_names.specs.Patterns.{is_pattern}
@@ -89,13 +89,14 @@ crates_pass it = list_all (λ c. is_named c && (is_owned it c.id
 
 -- one archive, which has this digest
 abbrev pub is_archive : List ℕ → List Row → Bool
-is_archive digest ((Blob bytes ∷ []) ∷ []) = bytes_eq (sha256 bytes) digest
+is_archive digest ((Int id ∷ Blob bytes ∷ []) ∷ []) = bytes_eq (sha256 bytes) digest
 is_archive digest rows = false
 
--- C4: there is no archive but of a version, and each version has one, whose SHA-256 is its digest
+-- C4: each version has one archive, whose SHA-256 is its digest; that there is no archive but of a
+-- version is a rule of the tables, the foreign key of archives
 abbrev pub archives_pass : AllRows → Trees → Bool
-archives_pass it db = bytes_eq (map (λ v. v.id) it.versions.items) it.archives.items && list_all
-    (λ v. is_archive v.digest.items (archives_with_id v.id db)) it.versions.items
+archives_pass it db =
+    list_all (λ v. is_archive v.digest.items (archives_with_id v.id db)) it.versions.items
 
 -- the crate with this id
 abbrev pub crate_of : AllRows → ℕ → Option Crate

@@ -1,37 +1,23 @@
 //! The check of the archives, one by one.
 
-ghost use Rattle.std.specs.Prelude.{◌≡◌, false, map, IfOk, OnOk};
+ghost use Rattle.std.specs.Prelude.{◌≡◌, false, IfOk, OnOk};
 ghost use Rattle.std.specs.List.{list_all};
 ghost use Rattle.std.specs.Str.{bytes_eq};
 ghost use Rattle.sha2.specs.Sha256.{sha256};
 ghost use Rattle.sqlite.specs.State.{HasCleanDisk, IsUnchanged};
 ghost use Rattle.reg_tables_sql.specs.Archives.{archives_with_id};
 ghost use Rattle.reg_tables.specs.Works.{IsAtWork, has_failed, seen};
-ghost use Rattle.reg_audit.specs.Checks.{archives_pass as archives_pass_in, is_archive};
+ghost use Rattle.reg_audit.specs.Checks.{is_archive};
 ghost use Rattle.reg_tables.specs.Looks.{Looks};
 
 use reg_line::digest_of;
-use reg_tables::{AllRows, StoreFault, Version, Work};
+use reg_tables::{StoreFault, Version, Work};
 use sqlite::Alter;
 
 fn has_digest(bytes: &[u8], digest: &[u8]) -> bool
     ensures { result ≡ bytes_eq (sha256 bytes.now) digest.now }
 {
     digest_of(bytes).as_slice() == digest
-}
-
-fn have_ids(versions: &[Version], ids: &[u64]) -> bool
-    ensures { result ≡ bytes_eq (map (λ v. v.id) versions.now) ids.now }
-{
-    if versions.len() != ids.len() {
-        return false;
-    }
-    for (index, version) in versions.iter().enumerate() {
-        if version.id != ids[index] {
-            return false;
-        }
-    }
-    true
 }
 
 fn has_archive<S: Alter>(work: &mut Work<'_, S>, version: &Version) -> Result<bool, StoreFault>
@@ -46,11 +32,15 @@ fn has_archive<S: Alter>(work: &mut Work<'_, S>, version: &Version) -> Result<bo
 {
     match work.archive_with_id(version.id)? {
         None => Ok(false),
-        Some(bytes) => Ok(has_digest(&bytes, &version.digest)),
+        Some(archive) => Ok(has_digest(&archive.bytes, &version.digest)),
     }
 }
 
-fn have_archives<S: Alter>(work: &mut Work<'_, S>, versions: &[Version]) -> Result<bool, StoreFault>
+/// Whether each version has its archive. That there is no other is a rule of the tables.
+pub(crate) fn archives_pass<S: Alter>(
+    work: &mut Work<'_, S>,
+    versions: &[Version],
+) -> Result<bool, StoreFault>
     requires at_work { IsAtWork S.Store work.old }
     requires goes_on { has_failed work.old ≡ false }
     ensures found { HasCleanDisk (seen S.Store work.new) → IfOk result
@@ -67,24 +57,4 @@ fn have_archives<S: Alter>(work: &mut Work<'_, S>, versions: &[Version]) -> Resu
         }
     }
     Ok(true)
-}
-
-/// Whether each version has its archive, and there is no other.
-pub(crate) fn archives_pass<S: Alter>(
-    work: &mut Work<'_, S>,
-    rows: &AllRows,
-) -> Result<bool, StoreFault>
-    requires at_work { IsAtWork S.Store work.old }
-    requires goes_on { has_failed work.old ≡ false }
-    ensures found { HasCleanDisk (seen S.Store work.new) → IfOk result
-        (λ b. b ≡ archives_pass_in rows.now (seen S.Store work.old).now.trees) }
-    ensures went_on { OnOk result (has_failed work.new ≡ false) }
-    ensures same { HasCleanDisk (seen S.Store work.new) → OnOk result
-        (IsUnchanged (seen S.Store work.old) (seen S.Store work.new)) }
-    ensures looks { Looks S.Store work.old work.new }
-{
-    if !have_ids(&rows.versions, &rows.archives) {
-        return Ok(false);
-    }
-    have_archives(work, &rows.versions)
 }

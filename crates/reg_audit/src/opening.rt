@@ -77,7 +77,7 @@ fn first_failing<S: Alter>(
     if before.is_some() {
         return Ok(before);
     }
-    if !archives_pass(work, rows)? {
+    if !archives_pass(work, &rows.versions)? {
         return Ok(Some(Check::C4));
     }
     let after = first_after(alloc, rows)?;

@@ -1,97 +1,117 @@
 -- Archives that pass: their rows are those of the versions.
-use Rattle.std.proofs.Common.{◌≡◌, inl, inr, ℕ, pos, List, [], ◌∷◌, map, sym, ap, ap₂, subst, true, ◌∙◌, refl}
+use Rattle.std.proofs.Common.{◌≡◌, ◌==◌, inl, inr, ℕ, ℤ, pos, List, [], ◌∷◌, map, Bool, true, false, sym, ap, ap₂, subst, eqb-true, ◌∙◌, refl, Ordering, Less, Equal, Greater}
 use Rattle.std.specs.Prelude.{filter}
+use Rattle.std.specs.List.{flat_map, list_any}
 use Rattle.std.specs.List.Sorted.{IsPermutation}
-use Rattle.std.specs.Ordering.{is_eq}
-use Rattle.std.proofs.lemmas.Bool.{eq-eqb}
+use Rattle.std.specs.FinMap.{int_cmp-IsAntisymmetric}
+use Rattle.std.specs.Ordering.{int_cmp, is_eq}
+use Rattle.std.specs.Str.{bytes_eq}
 use Rattle.std.proofs.lemmas.List.Sorted.{IsPermutation-sym}
 use Rattle.sha2.specs.Sha256.{sha256}
 use Rattle.sqlite.specs.Order.{Row, column, value_cmp}
 use Rattle.sqlite.specs.Tree.{Trees}
-use Rattle.sqlite.specs.declared.types.Value.{Value}
 use Rattle.sqlite.specs.declared.types.Value.TheVariants.{Null, Int, Real, Text, Blob}
-use Rattle.sqlite_trees.proofs.ListLemmas.{all-permutation}
-use Rattle.reg_model.proofs.Members.{IsIn, each_in, in_permuted}
-use Rattle.reg_tables_schema.specs.Rows.{number_columns}
+use Rattle.sqlite_trees.specs.Tree.{rowid}
+use Rattle.sqlite_trees.proofs.ListLemmas.{filter_all}
+use Rattle.sqlite_value.proofs.OrderLemmas.{value_cmp-Int}
+use Rattle.reg_model.proofs.Members.{IsIn, any_in, each_in, filtered_passes, in_any, in_each, in_filter, in_permuted, map_in}
 use Rattle.reg_tables_schema.specs.Tests.{is_number, shows}
+use Rattle.reg_tables_schema.proofs.Joined.{joined_once}
 use Rattle.reg_tables_schema.proofs.Queries.{maps_twice}
+use Rattle.reg_tables_sql.specs.Archives.{archive_places, archives_with_id}
 use Rattle.reg_tables_sql.specs.declared.versions.Version.{Version}
 use Rattle.reg_tables_meaning.specs.Stands.{row_of_archive}
 use Rattle.reg_tables_rows.specs.declared.all_rows.AllRows.{AllRows}
 use Rattle.reg_tables_meaning.proofs.CrateLemmas.{same_bytes}
-use Rattle.reg_tables_meaning.proofs.CrateNames.{kept}
+use Rattle.reg_tables_meaning.proofs.Rowids.{values_tie}
 use Rattle.reg_tables_meaning.proofs.Standing.{same_number}
 use Rattle.reg_audit.specs.Checks.{is_archive}
 use Rattle.reg_audit_law.specs.RegistryFrom.{archive_from, version_from}
-use Rattle.reg_audit_law.specs.Rules.{IsKeyed}
-use Rattle.reg_audit_law.proofs.Passing.{Passing, archive_ids, archive_is}
+use Rattle.reg_audit_law.specs.Rules.{IsKeyed, RefersTo, same_value}
+use Rattle.reg_audit_law.proofs.Passing.{Passing, archive_is}
+use Rattle.reg_audit_law.proofs.Uniques.{value_flips}
+use Rattle.reg_audit_law.proofs.Versions.{row, rows_of_versions, version_ids_apart}
 
--- the one archive shows its bytes
-one_value : (digest : List ℕ) (v : Value) → is_archive digest ((v ∷ []) ∷ []) ≡ true → v ≡ Blob (archive_from ((v ∷ []) ∷ []))
-one_value digest (Blob b) h = refl
-one_value digest Null h = absurd cc
-one_value digest (Int n) h = absurd cc
-one_value digest (Real x) h = absurd cc
-one_value digest (Text t) h = absurd cc
+-- what passes is one archive, shown as its id and its bytes
+one_archive : (digest : List ℕ) (shown : List Row) → is_archive digest shown ≡ true → (id : ℤ) × (bytes : List ℕ) × (shown ≡ (Int id ∷ Blob bytes ∷ []) ∷ []) × (bytes_eq (sha256 bytes) digest ≡ true)
+one_archive digest [] h = absurd cc
+one_archive digest ([] ∷ more) h = absurd cc
+one_archive digest ((Null ∷ r) ∷ more) h = absurd cc
+one_archive digest ((Real x ∷ r) ∷ more) h = absurd cc
+one_archive digest ((Text t ∷ r) ∷ more) h = absurd cc
+one_archive digest ((Blob b ∷ r) ∷ more) h = absurd cc
+one_archive digest ((Int n ∷ []) ∷ more) h = absurd cc
+one_archive digest ((Int n ∷ Null ∷ r) ∷ more) h = absurd cc
+one_archive digest ((Int n ∷ Int m ∷ r) ∷ more) h = absurd cc
+one_archive digest ((Int n ∷ Real x ∷ r) ∷ more) h = absurd cc
+one_archive digest ((Int n ∷ Text t ∷ r) ∷ more) h = absurd cc
+one_archive digest ((Int n ∷ Blob b ∷ v ∷ r) ∷ more) h = absurd cc
+one_archive digest ((Int n ∷ Blob b ∷ []) ∷ s ∷ more) h = absurd cc
+one_archive digest ((Int n ∷ Blob b ∷ []) ∷ []) h = (n, b, refl, h)
 
-archive_told : (digest : List ℕ) (rows : List Row) (r : Row) → IsIn r rows → is_archive digest (map (shows (2 ∷ [])) rows) ≡ true → column r 2 ≡ Blob (archive_from (map (shows (2 ∷ [])) rows))
-archive_told digest [] r i h = absurd i
-archive_told digest (x ∷ []) r (inl e) h = ap (λ y. column y 2) (sym e) ∙ one_value digest (column x 2) h
-archive_told digest (x ∷ []) r (inr i) h = absurd i
-archive_told digest (x ∷ y ∷ rest) r i h = many (column x 2) h
-  where
-    many : (v : Value) → is_archive digest ((v ∷ []) ∷ map (shows (2 ∷ [])) (y ∷ rest)) ≡ true → column r 2 ≡ Blob (archive_from (map (shows (2 ∷ [])) (x ∷ y ∷ rest)))
-    many (Blob b) e = absurd cc
-    many Null e = absurd cc
-    many (Int n) e = absurd cc
-    many (Real f) e = absurd cc
-    many (Text t) e = absurd cc
+pub archive_digest : (digest : List ℕ) (shown : List Row) → is_archive digest shown ≡ true → sha256 (archive_from shown) ≡ digest
+archive_digest digest shown h =
+    let one = one_archive digest shown h in
+    ap (λ rows. sha256 (archive_from rows)) one.2 ∙ same_bytes (sha256 one.1) digest one.3
 
-one_digest : (digest : List ℕ) (v : Value) → is_archive digest ((v ∷ []) ∷ []) ≡ true → sha256 (archive_from ((v ∷ []) ∷ [])) ≡ digest
-one_digest digest (Blob b) h = same_bytes (sha256 b) digest h
-one_digest digest Null h = absurd cc
-one_digest digest (Int n) h = absurd cc
-one_digest digest (Real x) h = absurd cc
-one_digest digest (Text t) h = absurd cc
+only_row : {A B : Type 0} (show : A → B) (rows : List A) (out : B) → map show rows ≡ out ∷ [] → (r : A) × (rows ≡ r ∷ []) × (show r ≡ out)
+only_row show [] out h = absurd cc
+only_row show (r ∷ []) out h = (r, refl, cc)
+only_row show (r ∷ s ∷ rows) out h = absurd cc
 
-pub archive_digest : (digest : List ℕ) (rows : List Row) → is_archive digest (map (shows (2 ∷ [])) rows) ≡ true → sha256 (archive_from (map (shows (2 ∷ [])) rows)) ≡ digest
-archive_digest digest [] h = absurd cc
-archive_digest digest (x ∷ []) h = one_digest digest (column x 2) h
-archive_digest digest (x ∷ y ∷ rest) h = many (column x 2) h
-  where
-    many : (v : Value) → is_archive digest ((v ∷ []) ∷ map (shows (2 ∷ [])) (y ∷ rest)) ≡ true → sha256 (archive_from (map (shows (2 ∷ [])) (x ∷ y ∷ rest))) ≡ digest
-    many (Blob b) e = absurd cc
-    many Null e = absurd cc
-    many (Int n) e = absurd cc
-    many (Real f) e = absurd cc
-    many (Text t) e = absurd cc
+each_once : {A B : Type 0} (f : A → List B) (g : A → B) (xs : List A) → ((x : A) → IsIn x xs → f x ≡ g x ∷ []) → flat_map f xs ≡ map g xs
+each_once f g [] h = refl
+each_once f g (x ∷ xs) h = rw (h x (inl refl), each_once f g xs (λ y i. h y (inr i)))
 
-same_head : {A : Type 0} {a b : A} {xs ys : List A} → ◌≡◌ {A = List A} (a ∷ xs) (b ∷ ys) → a ≡ b
-same_head e = cc
+equal_is : (o : Ordering) → is_eq o ≡ true → o ≡ Equal
+equal_is Less h = absurd cc
+equal_is Equal h = refl
+equal_is Greater h = absurd cc
 
-same_tail : {A : Type 0} {a b : A} {xs ys : List A} → ◌≡◌ {A = List A} (a ∷ xs) (b ∷ ys) → xs ≡ ys
-same_tail e = cc
+same_int : (n m : ℤ) → is_eq (value_cmp (Int n) (Int m)) ≡ true → n ≡ m
+same_int n m h = int_cmp-IsAntisymmetric n m (equal_is (int_cmp n m) (ap is_eq (sym (value_cmp-Int n m)) ∙ h))
 
--- rows that show the ids of these versions, each told by its id
-zipped : (g : Version → Row) (rows : List Row) (vs : List Version) → map (shows (0 ∷ [])) rows ≡ map (λ v. number_columns v.id) vs
-    → ((r : Row) (v : Version) → IsIn r rows → IsIn v vs → column r 0 ≡ Int (pos v.id) → r ≡ g v) → rows ≡ map g vs
-zipped g [] [] h each = refl
-zipped g (r ∷ rows) [] h each = absurd cc
-zipped g [] (v ∷ vs) h each = absurd cc
-zipped g (r ∷ rows) (v ∷ vs) h each = ap₂ ◌∷◌ (each r v (inl refl) (inl refl) (same_head (same_head h))) (zipped g rows vs (same_tail h) (λ s w i j. each s w (inr i) (inr j)))
+-- a row has the id of one version
+apart : (v w : Version) (r : Row) → (v.id == w.id) ≡ false → is_number 0 v.id r ≡ true → is_number 0 w.id r ≡ false
+apart v w r other is = values_tie.congr (column r 0) (Int (pos v.id)) (Int (pos w.id)) is ∙ same_number v.id w.id ∙ other
 
 module _ (it : AllRows) (db : Trees) (h : Passing it db) where
-  pub archive_rows : IsPermutation (map row_of_archive (map (version_from it db) it.versions.items)) (db 13)
+  abbrev vs : List Version
+  vs = it.versions.items
+
+  abbrev stored : Version → Row
+  stored v = row_of_archive (version_from it db v)
+
+  abbrev its_rows : Version → List Row
+  its_rows v = filter (is_number 0 v.id) (db 13)
+
+  -- the one row with a version's id is that of its archive
+  its_archive : (v : Version) → IsIn v vs → its_rows v ≡ stored v ∷ []
+  its_archive v i =
+      let one = one_archive v.digest.items (archives_with_id v.id db) (archive_is it db h v i) in
+      let found = only_row (shows archive_places) (its_rows v) (Int one.0 ∷ Blob one.1 ∷ []) one.2 in
+      let r = found.0 in
+      let here : IsIn r (its_rows v) = subst (IsIn r) (sym found.1) (inl refl) in
+      let keyed = each_in (IsKeyed (0 ∷ 1 ∷ 2 ∷ [])) (db 13) r h.rules.columns.archives (in_filter (is_number 0 v.id) (db 13) r here) in
+      let id : column r 0 ≡ Int one.0 = ap (λ s. column s 0) found.2 in
+      let bytes : column r 2 ≡ Blob one.1 = ap (λ s. column s 1) found.2 in
+      let same : one.0 ≡ pos v.id = same_int one.0 (pos v.id) (ap (λ x. is_eq (value_cmp x (Int (pos v.id)))) (sym id) ∙ filtered_passes (is_number 0 v.id) (db 13) r here) in
+      let kept : one.1 ≡ archive_from (archives_with_id v.id db) = ap archive_from (sym one.2) in
+      let is : r ≡ stored v = sym keyed.0 ∙ (λ k. (id ∙ ap Int same) k ∷ keyed.1 k ∷ (bytes ∙ ap Blob kept) k ∷ []) in
+      found.1 ∙ ap (λ s. s ∷ []) is
+
+  -- each archive is of a version
+  of_version : (r : Row) → IsIn r (db 13) → list_any (λ v. is_number 0 v.id r) vs ≡ true
+  of_version r i =
+      let p = any_in (λ p. same_value (rowid p) (column r 0)) (db 11) (each_in (RefersTo (db 11) 0) (db 13) r h.rules.parents.archive_versions i) in
+      let listed = in_permuted (db 11) (map (row it db h) vs) p.0 (IsPermutation-sym (map (row it db h) vs) (db 11) (rows_of_versions it db h)) p.1 in
+      let v = map_in (row it db h) vs p.0 listed in
+      let same : same_value (Int (pos v.0.id)) (column r 0) ≡ true = ap (λ s. same_value (rowid s) (column r 0)) v.2 ∙ p.2 in
+      in_any (λ v. is_number 0 v.id r) vs v.0 v.1 (value_flips (column r 0) (Int (pos v.0.id)) ∙ same)
+
+  pub archive_rows : IsPermutation (map row_of_archive (map (version_from it db) vs)) (db 13)
   archive_rows =
-      let vs = it.versions.items in
-      let found = h.are.archives in
-      let shown = sym found.shown ∙ ap (map number_columns) (sym (archive_ids it db h)) ∙ maps_twice (λ (v : Version). v.id) number_columns vs in
-      let whole = all-permutation (IsKeyed (0 ∷ 1 ∷ 2 ∷ [])) (db 13) found.ordered found.same h.rules.columns.archives in
-      let back = IsPermutation-sym (db 13) found.ordered found.same in
-      let is = zipped (λ v. row_of_archive (version_from it db v)) found.ordered vs shown (λ r v i j at.
-      let keyed = each_in (IsKeyed (0 ∷ 1 ∷ 2 ∷ [])) found.ordered r whole i in
-      let its_id = ap (λ x. is_eq (value_cmp x (Int (pos v.id)))) at ∙ same_number v.id v.id ∙ eq-eqb v.id v.id refl in
-      let there = kept (is_number 0 v.id) (db 13) r (in_permuted found.ordered (db 13) r back i) its_id in
-      let bytes = archive_told v.digest.items (filter (is_number 0 v.id) (db 13)) r there (archive_is it db h v j) in
-      sym keyed.0 ∙ (λ k. at k ∷ keyed.1 k ∷ bytes k ∷ [])) in
-      subst (λ xs. IsPermutation xs (db 13)) (is ∙ sym (maps_twice (version_from it db) row_of_archive vs)) back
+      let each = each_once its_rows stored vs its_archive in
+      let all = filter_all (λ r. list_any (λ v. is_number 0 v.id r) vs) (db 13) (in_each (λ r. list_any (λ v. is_number 0 v.id r) vs ≡ true) (db 13) of_version) in
+      let joined = joined_once (λ v r. is_number 0 v.id r) (λ v w. v.id == w.id) apart (db 13) vs (version_ids_apart it db h) in
+      subst (λ xs. IsPermutation xs (db 13)) (each ∙ sym (maps_twice (version_from it db) row_of_archive vs)) (subst (IsPermutation (flat_map its_rows vs)) all joined)

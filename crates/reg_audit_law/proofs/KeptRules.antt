@@ -17,14 +17,14 @@ use Rattle.reg_tables_sql.specs.Accounts.{account_columns}
 use Rattle.reg_tables_sql.specs.Tokens.{columns_of_token}
 use Rattle.reg_tables_sql.specs.declared.accounts.Account.{Account}
 use Rattle.reg_tables_sql.specs.declared.tokens.Token.{Token}
-use Rattle.reg_tables_rows.specs.WholeRows.{AreAllRows}
+use Rattle.reg_tables_rows.specs.WholeRows.{AreAllRows, HaveIds}
 use Rattle.reg_tables_rows.specs.declared.all_rows.AllRows.{AllRows}
 use Rattle.reg_audit.specs.Checks.{are_counted}
 use Rattle.reg_audit_law.specs.Rules.{HaveColumns, HaveParents, HaveUniques, KeepsRules, RefersTo}
 use Rattle.reg_audit_law.proofs.OwnRowids.{numbered_there, own_rowids, rowids_there}
 use Rattle.reg_audit_law.proofs.RowColumns.{filled, keyed_rows, whole_rows}
 use Rattle.reg_audit_law.proofs.RowKeys.{unique_at, unique_by}
-use Rattle.reg_audit_law.proofs.RowParents.{accounts_key, crates_key, refers_to}
+use Rattle.reg_audit_law.proofs.RowParents.{accounts_key, crates_key, refers_to, versions_key}
 
 module _ (db : Trees) (h : Obeys ours db) where
   typed : Keeps Datatype ours db
@@ -76,10 +76,11 @@ module _ (db : Trees) (h : Obeys ours db) where
   keys : Keeps ForeignKey ours db
   keys = h.rules ForeignKey
 
-  have_parents : HaveParents db
-  have_parents =
+  have_parents : HaveIds (db 13) → HaveParents db
+  have_parents archive_ids =
       let to_accounts = λ (place : ℕ) (row : Row). has_parent our_tables db row (refers place (codes "accounts")) in
       let to_crates = λ (place : ℕ) (row : Row). has_parent our_tables db row (refers place (codes "crates")) in
+      let to_versions = λ (place : ℕ) (row : Row). has_parent our_tables db row (refers place (codes "versions")) in
       let owner_keys = λ (row : Row). (to_crates 1 row && (to_accounts 2 row && true)) ≡ true in
       record {
         token_accounts = both_all (λ row. (to_accounts 3 row && true) ≡ true) (λ row. is_null (column row 3) ≡ false) (RefersTo (db 1) 3)
@@ -91,11 +92,14 @@ module _ (db : Trees) (h : Obeys ours db) where
         owner_accounts = both_all owner_keys (λ row. is_null (column row 2) ≡ false) (RefersTo (db 1) 2)
             (λ row kept there. refers_to db 2 1 (codes "accounts") (accounts_key 2) row (and_parts (to_accounts 2 row) true (and_parts (to_crates 1 row) (to_accounts 2 row && true) kept).1).0 there)
             (db 9) keys.1.1.1.1.1.0 (filled db schema.owners 1 refl (db 9) present.1.1.1.1.1.0);
+        archive_versions = both_all (λ row. (to_versions 0 row && true) ≡ true) (λ row. is_null (column row 0) ≡ false) (RefersTo (db 11) 0)
+            (λ row kept there. refers_to db 0 11 (codes "versions") (versions_key 0) row (and_parts (to_versions 0 row) true kept).0 there)
+            (db 13) keys.1.1.1.1.1.1.1.0 archive_ids;
       }
 
   pub keeps_rules : (it : AllRows) → AreAllRows it db → are_counted 1 (map (λ a. a.id) it.accounts.items) ≡ true → are_counted 1 (map (λ t. t.id) it.tokens.items) ≡ true → KeepsRules db
   keeps_rules it are accounts tokens = record {
     columns = have_columns;
     uniques = have_uniques it are accounts tokens;
-    parents = have_parents;
+    parents = have_parents are.archives;
   }

@@ -72,9 +72,6 @@ module _ (it : AllRows) (db : Trees) (ids : Ids) (s : Registry) (h : Standing it
   pub in_list : (w : StoredVersion) → IsIn w ids.versions → (v : Version) × IsIn v list × (told v ≡ told_of s.yanked w)
   in_list w i = map_in told list (told_of s.yanked w) (subst (IsIn (told_of s.yanked w)) (sym versions_listed) (in_map (told_of s.yanked) ids.versions w i))
 
-  pub ids_listed : map (λ v. v.id) list ≡ map (λ w. w.id) ids.versions
-  ids_listed = sym (maps_twice told (λ t. t.id) list) ∙ ap (map (λ (t : Told). t.id)) versions_listed ∙ maps_twice (told_of s.yanked) (λ t. t.id) ids.versions
-
   abbrev mark_told : Told → ShownMark
   mark_told t = record { id = t.id; version = t.shown.version; stem_length = length t.shown.stem; yanked = t.shown.yanked }
 

@@ -76,16 +76,8 @@ module _ (it : AllRows) (db : Trees) (h : Passing it db) where
       let r = and_parts (is_owned it c.id) (is_published it c.id) p.1 in
       record { name = q.0; canon_is = same_bytes (canon name) (string_bytes c.canon) q.1; owned = r.0; published = r.1 }
 
-  pub archive_ids : map (λ v. v.id) it.versions.items ≡ it.archives.items
-  archive_ids =
-      let ids = map (λ v. v.id) it.versions.items in
-      same_bytes ids it.archives.items (and_parts (bytes_eq ids it.archives.items) (list_all (λ v. is_archive v.digest.items (archives_with_id v.id db)) it.versions.items) (h.all C4)).0
-
   pub archive_is : (v : Version) → IsIn v it.versions.items → is_archive v.digest.items (archives_with_id v.id db) ≡ true
-  archive_is v i =
-      let ids = map (λ v. v.id) it.versions.items in
-      let test = λ (v : Version). is_archive v.digest.items (archives_with_id v.id db) in
-      all_in test it.versions.items v (and_parts (bytes_eq ids it.archives.items) (list_all test it.versions.items) (h.all C4)).1 i
+  archive_is v i = all_in (λ v. is_archive v.digest.items (archives_with_id v.id db)) it.versions.items v (h.all C4) i
 
   pub genuine : (v : Version) → IsIn v it.versions.items → IsGenuine it v
   genuine v i = each_in (IsGenuine it) it.versions.items v (h.all C5) i

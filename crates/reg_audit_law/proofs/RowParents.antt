@@ -24,6 +24,10 @@ pub crates_key : (place : ℕ) → parent_key our_tables (refers place (codes "c
 unfolding same_name joined
 crates_key place = refl
 
+pub versions_key : (place : ℕ) → parent_key our_tables (refers place (codes "versions")) ≡ Some (11, 0 ∷ [], plain)
+unfolding same_name joined
+versions_key place = refl
+
 module _ (db : Trees) (place tree : ℕ) (parent : List ℕ) (key : parent_key our_tables (refers place parent) ≡ Some (tree, 0 ∷ [], plain)) (row : Row) where
   pub refers_to : has_parent our_tables db row (refers place parent) ≡ true → is_null (column row place) ≡ false → RefersTo (db tree) place row
   refers_to h there = or_split (is_null (column row place) || false) (is_held db (place ∷ []) row (parent_key our_tables (refers place parent))) h

@@ -19,7 +19,7 @@ use Rattle.reg_model.specs.Steps as steps
 use Rattle.reg_model.proofs.Keys.{mark_total, mark_apart, same_key}
 use Rattle.reg_model.proofs.Lists.{not_true}
 use Rattle.reg_model.proofs.Members.{IsIn, any_in, in_any, in_all, in_each, in_map, map_in, in_filter}
-use Rattle.reg_tables_schema.specs.Tests.{is_number}
+use Rattle.reg_tables_sql.specs.Archives.{archives_with_id}
 use Rattle.reg_tables_sql.specs.declared.versions.Version.{Version}
 use Rattle.reg_tables_rows.specs.declared.all_rows.AllRows.{AllRows}
 use Rattle.reg_tables_meaning.proofs.CrateLemmas.{same_bytes, bytes_same}
@@ -47,7 +47,7 @@ module _ (it : AllRows) (db : Trees) (h : Passing it db) where
       record {
         name = ap is_name c.3 ∙ (crate_is it db h c.0 c.1).name;
         version = g.version;
-        digest = archive_digest v.digest.items (filter (is_number 0 v.id) (db 13)) (archive_is it db h v i);
+        digest = archive_digest v.digest.items (archives_with_id v.id db) (archive_is it db h v i);
         stem = subst (λ n. IsStemOf v.stem.items n (string_bytes v.vers) v.digest.items) (sym (ap spelling g.has_crate)) g.stem;
       }))
 

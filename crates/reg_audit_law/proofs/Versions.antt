@@ -50,13 +50,13 @@ module _ (it : AllRows) (db : Trees) (h : Passing it db) where
   abbrev vs : List Version
   vs = it.versions.items
 
-  abbrev row : Version → Row
+  abbrev pub row : Version → Row
   row v = with_null (columns_of_version v)
 
-  rows_of_versions : IsPermutation (map row vs) (db 11)
+  pub rows_of_versions : IsPermutation (map row vs) (db 11)
   rows_of_versions = whole_rows show with_null columns_of_version (by_column 0) (db 11) vs (all_weaker (IsKeyed (0 ∷ 1 ∷ 2 ∷ 3 ∷ 4 ∷ 5 ∷ 6 ∷ 7 ∷ 8 ∷ [])) (λ r. with_null (show r) ≡ r) told (db 11) h.rules.columns.versions) h.are.versions
 
-  version_ids_apart : IsDistinct (λ v w. v.id == w.id) vs
+  pub version_ids_apart : IsDistinct (λ v w. v.id == w.id) vs
   version_ids_apart = own_so row vs (db 11) rows_of_versions (λ v w. v.id == w.id) (λ v w. same_number v.id w.id) h.are.apart.versions
 
   pub rising : IsStrictlySortedBy nat_cmp (map (λ v. v.id) (map (version_from it db) vs))

@@ -1,42 +1,30 @@
 -- The versions and archives of a sound registry pass.
-use Rattle.std.proofs.Common.{◌≡◌, ℕ, List, [], ◌∷◌, map, length, Bool, true, refl, sym, ap, subst, eqb-true, ◌∙◌}
-use Rattle.std.specs.Prelude.{drop, nat_eq, string_bytes}
-use Rattle.std.specs.Str.{bytes_eq}
+use Rattle.std.proofs.Common.{◌≡◌, pos, List, [], ◌∷◌, map, length, Bool, true, sym, ap, subst, eqb-true, ◌∙◌}
+use Rattle.std.specs.Prelude.{nat_eq, string_bytes}
 use Rattle.std.specs.Ordering.{on}
-use Rattle.std.proofs.lemmas.Bool.{and_from, eq-eqb}
+use Rattle.std.proofs.lemmas.Bool.{eq-eqb}
 use Rattle.sha2.specs.Sha256.{sha256}
 use Rattle.sha2.proofs.Facts256.{length-sha256}
 use Rattle.sqlite.specs.Tree.{Trees}
-use Rattle.sqlite.specs.declared.types.Value.TheVariants.{Blob}
+use Rattle.sqlite.specs.declared.types.Value.TheVariants.{Blob, Int}
 use Rattle.reg_versions.specs.Versions.{is_version, release_key_of}
 use Rattle.reg_line.specs.StemCheck.{IsStemOf}
 use Rattle.reg_model.specs.Registry.{Registry}
 use Rattle.reg_model.specs.Steps as steps
 use Rattle.reg_model.proofs.Members.{IsIn, each_in, in_all, in_each, one_passes}
-use Rattle.reg_tables_schema.specs.Rows.{by_column, number_columns}
 use Rattle.reg_tables_schema.specs.Tests.{is_number, shows}
 use Rattle.reg_tables_schema.proofs.Permutes.{one_row}
-use Rattle.reg_tables_sql.specs.Archives.{archives_with_id}
+use Rattle.reg_tables_sql.specs.Archives.{archive_places, archives_with_id}
 use Rattle.reg_tables_sql.specs.declared.versions.Version.{Version}
 use Rattle.reg_tables_meaning.specs.Stands.{row_of_archive}
 use Rattle.reg_tables_meaning.specs.Stored.{Ids, StoredCrate, StoredVersion}
 use Rattle.reg_tables_rows.specs.declared.all_rows.AllRows.{AllRows}
-use Rattle.reg_tables_meaning.proofs.AccountEntries.{heads, number_is}
 use Rattle.reg_tables_meaning.proofs.CrateLemmas.{apart_by, bytes_same, crate_of, is_published}
-use Rattle.reg_tables_meaning.proofs.Selected.{column_total, each_part, shown_in_turn}
 use Rattle.reg_tables_meaning.proofs.Standing.{same_number}
 use Rattle.reg_audit.specs.Checks as checks
 use Rattle.reg_audit_law.proofs.ListedCrates.{found_at, in_list}
-use Rattle.reg_audit_law.proofs.ListedVersions.{Told, ids_listed, version_in}
-use Rattle.reg_audit_law.proofs.Shown.{rows_rise}
+use Rattle.reg_audit_law.proofs.ListedVersions.{Told, version_in}
 use Rattle.reg_audit_law.proofs.Standing.{Standing}
-
-same_id : (w : StoredVersion) (n : ℕ) → shows (0 ∷ []) (row_of_archive w) ≡ number_columns n → w.id ≡ n
-same_id w n h = number_is (heads h)
-
-map_id : (ns : List ℕ) → map (λ n. n) ns ≡ ns
-map_id [] = refl
-map_id (n ∷ ns) = ap (λ xs. n ∷ xs) (map_id ns)
 
 module _ (it : AllRows) (db : Trees) (ids : Ids) (s : Registry) (h : Standing it db ids s) where
   abbrev list : List Version
@@ -45,24 +33,15 @@ module _ (it : AllRows) (db : Trees) (ids : Ids) (s : Registry) (h : Standing it
   genuine : (w : StoredVersion) → IsIn w ids.versions → steps.IsGenuine w.publication
   genuine w i = each_in steps.IsGenuine s.publications w.publication h.holds.sound.publications (is_published ids s.publications s.yanked db h.holds.stands.crates w i)
 
-  -- the ids of the archives are those of the versions
-  archive_ids : it.archives.items ≡ map (λ w. w.id) ids.versions
-  archive_ids =
-      let stands = h.holds.stands.crates in
-      let out = it.archives.items in
-      let up = rows_rise (λ w. w.id) (λ w. drop 1 (row_of_archive w)) ids.versions stands.rising in
-      let shown = shown_in_turn row_of_archive (shows (0 ∷ [])) (by_column 0) (column_total 0) ids.versions (db 13) (map number_columns out) stands.archive_rows up h.are.archives in
-      sym (map_id out) ∙ each_part (λ w. shows (0 ∷ []) (row_of_archive w)) number_columns (λ w. w.id) (λ n. n) same_id ids.versions out shown
-
   -- a version has one archive, with its bytes
-  archive_at : (w : StoredVersion) → IsIn w ids.versions → archives_with_id w.id db ≡ (Blob w.publication.archive ∷ []) ∷ []
+  archive_at : (w : StoredVersion) → IsIn w ids.versions → archives_with_id w.id db ≡ (Int (pos w.id) ∷ Blob w.publication.archive ∷ []) ∷ []
   archive_at w i =
       let stands = h.holds.stands.crates in
       let test : StoredVersion → Bool = λ x. is_number 0 w.id (row_of_archive x) in
       let at = λ (x : StoredVersion) (p : test x ≡ true). eqb-true x.id w.id (sym (same_number x.id w.id) ∙ p) in
       let alike = λ (x : StoredVersion) (y : StoredVersion) (j : IsIn x ids.versions) (k : IsIn y ids.versions) (p : test x ≡ true) (q : test y ≡ true). eq-eqb x.id y.id (at x p ∙ sym (at y q)) in
       let one = one_passes (on (λ (x : StoredVersion). x.id) nat_eq) test ids.versions w (apart_by (λ (x : StoredVersion). x.id) ids.versions stands.rising) alike i (same_number w.id w.id ∙ eq-eqb w.id w.id refl) in
-      ap (map (shows (2 ∷ []))) (one_row row_of_archive (is_number 0 w.id) w ids.versions (db 13) stands.archive_rows one)
+      ap (map (shows archive_places)) (one_row row_of_archive (is_number 0 w.id) w ids.versions (db 13) stands.archive_rows one)
 
   archive_right : (v : Version) → IsIn v list → checks.is_archive v.digest.items (archives_with_id v.id db) ≡ true
   archive_right v i =
@@ -72,9 +51,7 @@ module _ (it : AllRows) (db : Trees) (ids : Ids) (s : Registry) (h : Standing it
       ap (checks.is_archive v.digest.items) at ∙ bytes_same (sha256 w.0.publication.archive) v.digest.items digest
 
   pub archives_pass_so : checks.archives_pass it db ≡ true
-  archives_pass_so =
-      let found = bytes_same (map (λ v. v.id) list) it.archives.items (ids_listed it db ids s h ∙ sym archive_ids) in
-      and_from (bytes_eq (map (λ v. v.id) list) it.archives.items) _ found (in_all (λ v. checks.is_archive v.digest.items (archives_with_id v.id db)) list archive_right)
+  archives_pass_so = in_all (λ v. checks.is_archive v.digest.items (archives_with_id v.id db)) list archive_right
 
   version_right : (v : Version) → IsIn v list → checks.IsGenuine it v
   version_right v i =

@@ -52,7 +52,7 @@ canon_from it id = canon (name_from it id)
 
 -- the bytes of the one archive
 abbrev pub archive_from : List Row → model.Text
-archive_from ((Blob bytes ∷ []) ∷ []) = bytes
+archive_from ((id ∷ Blob bytes ∷ []) ∷ []) = bytes
 archive_from rows = []
 
 -- a version of this crate, with the archive of its id

@@ -7,7 +7,7 @@ use Rattle.sqlite.specs.declared.types.Value.TheVariants.{Null}
 use Rattle.sqlite.specs.Order.{Row, column, value_cmp}
 use Rattle.sqlite.specs.Tree.{Trees}
 use Rattle.sqlite_trees.specs.Tree.{rowid}
-use Rattle.reg_tables_schema.specs.Places.{about_tree, accounts_tree, archives_tree, crate_canon_place, crates_tree, digest_place, login_place, owner_account_place, owner_crate_place, owners_tree, reader_account_place, reader_crate_place, readers_tree, release_place, reserved_tree, scopes_tree, summaries_tree, token_account_place, tokens_tree, version_crate_place, versions_tree}
+use Rattle.reg_tables_schema.specs.Places.{about_tree, accounts_tree, archives_tree, crate_canon_place, crates_tree, digest_place, id_place, login_place, owner_account_place, owner_crate_place, owners_tree, reader_account_place, reader_crate_place, readers_tree, release_place, reserved_tree, scopes_tree, summaries_tree, token_account_place, tokens_tree, version_crate_place, versions_tree}
 use Rattle.reg_tables_schema.specs.Tests.{shows}
 
 -- two values that SQL compares as equal
@@ -67,6 +67,7 @@ pub record HaveParents (db : Trees) : Type 0 where
   pub owner_crates : AllByRecursion (RefersTo (db crates_tree) owner_crate_place) (db owners_tree)
   pub owner_accounts : AllByRecursion (RefersTo (db accounts_tree) owner_account_place)
       (db owners_tree)
+  pub archive_versions : AllByRecursion (RefersTo (db versions_tree) id_place) (db archives_tree)
 
 -- The rows keep the rules of their tables.
 pub record KeepsRules (db : Trees) : Type 0 where

@@ -30,6 +30,7 @@ pub use reg_tables_rows::all_rows::AllRows;
 pub use reg_tables_rows::entries::index_entries;
 pub use reg_tables_schema::{Edition, MakeFault};
 pub use reg_tables_sql::accounts::Account;
+pub use reg_tables_sql::archives::Archive;
 pub use reg_tables_sql::crates::Crate;
 pub use reg_tables_sql::pairs::Pair;
 pub use reg_tables_sql::records::FromRow;

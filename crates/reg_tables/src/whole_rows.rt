@@ -7,6 +7,7 @@ ghost use Rattle.reg_tables.specs.Works.{Heard, IsAtWork, IsCall, Unmoved, rows_
 use crate::work::{StoreFault, Work, call};
 use reg_tables_meaning::archives;
 use reg_tables_rows::all_rows::{self, AllRows};
+use reg_tables_sql::archives::Archive;
 use sqlite::Alter;
 use std::alloc::Global;
 
@@ -24,7 +25,7 @@ impl<S: Alter> Work<'_, S> {
 
     /// The archive of the version with this id. No version's id is 2^63 or more: such an id is a
     /// fault.
-    pub fn archive_with_id(&mut self, version: u64) -> Result<Option<Vec<u8>>, StoreFault>
+    pub fn archive_with_id(&mut self, version: u64) -> Result<Option<Archive>, StoreFault>
         requires { IsAtWork S.Store self.old }
         ensures found { Heard S.Store self.new result
             (IsArchiveWithId version (rows_seen S.Store self.old)) }

@@ -6,14 +6,14 @@ ghost use Rattle.reg_tables_schema.specs.Statements.{rows_in};
 ghost use Rattle.reg_tables_schema.specs.Steps.{KeepsAll, Told};
 ghost use Rattle.reg_tables_sql.specs.Archives.{IsArchiveWithId};
 
-use reg_tables_sql::archives;
+use reg_tables_sql::archives::{self, Archive};
 use sqlite::{Alter, Connection, Error};
 
 /// SQL's greatest integer.
 const GREATEST: u64 = i64::MAX as u64;
 
 /// The archive of the version with this id.
-pub fn with_id<S: Alter>(conn: &mut Connection<S>, version: u64) -> Result<Option<Vec<u8>>, Error>
+pub fn with_id<S: Alter>(conn: &mut Connection<S>, version: u64) -> Result<Option<Archive>, Error>
     requires { IsReady (state S.Store conn.old) }
     ensures found { Told S.Store conn.new result
         (IsArchiveWithId version (rows_in S.Store conn.old)) }

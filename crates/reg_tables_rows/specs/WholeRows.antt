@@ -1,12 +1,15 @@
 -- All rows of the tables, read as records.
-use Rattle.std.specs.Prelude.{Some, string_bytes}
+use Rattle.std.specs.Prelude.{◌≡◌, false, List, Some, string_bytes}
+use Rattle.std.specs.List.{AllByRecursion}
+use Rattle.sqlite.specs.Order.{Row}
 use Rattle.sqlite.specs.Tree.{Trees}
 use Rattle.sqlite_schema.specs.Rules.{Obeys}
-use Rattle.reg_tables_schema.specs.Places.{crates_tree, owners_tree, readers_tree, reserved_tree, versions_tree}
+use Rattle.sqlite_sql.specs.Ops.{is_null}
+use Rattle.sqlite_trees.specs.Tree.{rowid}
+use Rattle.reg_tables_schema.specs.Places.{archives_tree, crates_tree, owners_tree, readers_tree, reserved_tree, versions_tree}
 use Rattle.reg_tables_schema.specs.Schema.{ours}
 use Rattle.reg_tables_sql.specs.Abouts.{IsBaseOf}
 use Rattle.reg_tables_sql.specs.Accounts.{AreAccounts}
-use Rattle.reg_tables_sql.specs.Archives.{AreArchiveIds}
 use Rattle.reg_tables_sql.specs.Crates.{AreCratesById}
 use Rattle.reg_tables_sql.specs.Owners.{AreOwnerships}
 use Rattle.reg_tables_sql.specs.Pairs.{ArePairs}
@@ -27,8 +30,12 @@ pub record AreApart (db : Trees) : Type 0 where
   pub readers : HaveOwnRowids (db readers_tree)
   pub reserved : HaveOwnRowids (db reserved_tree)
 
+-- no row's rowid is NULL
+abbrev pub HaveIds : List Row → Type 0
+HaveIds = AllByRecursion (λ r. is_null (rowid r) ≡ false)
+
 -- there is this base; the records are the rows of their tables, in the order of their keys; rows
--- have rowids of their own; and they keep the rules of our schema
+-- have rowids of their own, and archives have ids; and they keep the rules of our schema
 pub record AreAllRows (it : AllRows) (db : Trees) : Type 0 where
   pub base : IsBaseOf db (Some (string_bytes it.base))
   pub accounts : AreAccounts db it.accounts.items
@@ -37,7 +44,7 @@ pub record AreAllRows (it : AllRows) (db : Trees) : Type 0 where
   pub crates : AreCratesById db it.crates.items
   pub owners : AreOwnerships db it.owners.items
   pub versions : AreVersions db it.versions.items
-  pub archives : AreArchiveIds db it.archives.items
+  pub archives : HaveIds (db archives_tree)
   pub reserved : AreReserved db it.reserved.items
   pub summaries : AreSummaries db it.summaries.items
   pub restricted : AreRestricted db it.restricted.items

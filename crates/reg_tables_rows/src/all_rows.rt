@@ -1,16 +1,17 @@
 //! All rows of the tables, as the opening checks read them.
 
-ghost use Rattle.std.specs.Prelude.{Some, string_bytes};
+ghost use Rattle.std.specs.Prelude.{ℕ, Some, string_bytes};
 ghost use Rattle.sqlite.specs.Held.{state};
+ghost use Rattle.sqlite.specs.Tree.{Trees};
 ghost use Rattle.sqlite_schema.specs.Rules.{Obeys};
-ghost use Rattle.reg_tables_schema.specs.Places.{readers_tree};
+ghost use Rattle.reg_tables_schema.specs.Places.{archives_tree, readers_tree};
 ghost use Rattle.reg_tables_schema.specs.Schema.{ours};
 ghost use Rattle.reg_tables_schema.specs.States.{IsReady};
 ghost use Rattle.reg_tables_schema.specs.Statements.{rows_in};
 ghost use Rattle.reg_tables_schema.specs.Steps.{Done, KeepsAll, Told};
 ghost use Rattle.reg_tables_sql.specs.Abouts.{IsBaseOf};
 ghost use Rattle.reg_tables_sql.specs.Accounts.{AreAccounts};
-ghost use Rattle.reg_tables_sql.specs.Archives.{AreArchiveIds};
+ghost use Rattle.reg_tables_sql.specs.Counts.{IsFirstId};
 ghost use Rattle.reg_tables_sql.specs.Crates.{AreCratesById};
 ghost use Rattle.reg_tables_sql.specs.Owners.{AreOwnerships};
 ghost use Rattle.reg_tables_sql.specs.Pairs.{ArePairs};
@@ -20,7 +21,7 @@ ghost use Rattle.reg_tables_sql.specs.Scopes.{AreScopes};
 ghost use Rattle.reg_tables_sql.specs.Summaries.{AreSummaries};
 ghost use Rattle.reg_tables_sql.specs.Tokens.{AreTokens};
 ghost use Rattle.reg_tables_sql.specs.Versions.{AreVersions};
-ghost use Rattle.reg_tables_rows.specs.WholeRows.{AreAllRows, AreApart};
+ghost use Rattle.reg_tables_rows.specs.WholeRows.{AreAllRows, AreApart, HaveIds};
 
 use crate::apart::check_rowids;
 use reg_tables_sql::accounts::Account;
@@ -37,7 +38,7 @@ use reg_tables_sql::{
 use sqlite::{Alter, Connection, Error};
 use std::alloc::Global;
 
-/// The rows of all tables, each table ordered by its key. For archives there are only the ids.
+/// The rows of all tables but archives, each table ordered by its key.
 #[derive(Drop)]
 pub struct AllRows {
     pub base: String,
@@ -47,7 +48,6 @@ pub struct AllRows {
     pub crates: Vec<Crate>,
     pub owners: Vec<Pair>,
     pub versions: Vec<Version>,
-    pub archives: Vec<u64>,
     pub reserved: Vec<String>,
     pub summaries: Vec<Summary>,
     pub restricted: Vec<u32>,
@@ -82,7 +82,6 @@ struct KeptTables {
 #[derive(Drop)]
 struct OtherTables {
     base: String,
-    archives: Vec<u64>,
     reserved: Vec<String>,
 }
 
@@ -173,24 +172,36 @@ fn the_base<S: Alter>(conn: &mut Connection<S>) -> Result<String, Error>
     }
 }
 
+// Where the first id is a number, none is NULL, which would come before it.
+fn see_ids(first: Option<u64>)
+    ensures { (tree : ℕ) (db : Trees) → IsFirstId tree db first → HaveIds (db tree) }
+{}
+
+// That archives have ids is seen from the first alone: each row that is read is read whole.
+fn see_archives<S: Alter>(conn: &mut Connection<S>) -> Result<(), Error>
+    requires { IsReady (state S.Store conn.old) }
+    ensures ids { Done S.Store conn.new result (HaveIds (rows_in S.Store conn.old archives_tree)) }
+    ensures same { KeepsAll S.Store conn.old conn.new result }
+{
+    let first = archives::first_id(conn)?;
+    see_ids(first);
+    Ok(())
+}
+
 fn other_tables<S: Alter>(alloc: Global, conn: &mut Connection<S>) -> Result<OtherTables, Error>
     requires { IsReady (state S.Store conn.old) }
     ensures base { Told S.Store conn.new result
         (λ it. IsBaseOf (rows_in S.Store conn.old) (Some (string_bytes it.base))) }
-    ensures archives { Told S.Store conn.new result
-        (λ it. AreArchiveIds (rows_in S.Store conn.old) it.archives.items) }
+    ensures archives { Done S.Store conn.new result
+        (HaveIds (rows_in S.Store conn.old archives_tree)) }
     ensures reserved { Told S.Store conn.new result
         (λ it. AreReserved (rows_in S.Store conn.old) it.reserved.items) }
     ensures same { KeepsAll S.Store conn.old conn.new result }
 {
     let base = the_base(conn)?;
-    let archives = archives::all_ids(alloc, conn)?;
+    see_archives(conn)?;
     let reserved = reserved::all(alloc, conn)?;
-    Ok(OtherTables {
-        base,
-        archives,
-        reserved,
-    })
+    Ok(OtherTables { base, reserved })
 }
 
 /// The rows of all tables. For crates, versions, owners, readers and reserved names, two rows
@@ -210,11 +221,7 @@ pub fn read<S: Alter>(alloc: Global, conn: &mut Connection<S>) -> Result<AllRows
         owners,
         versions,
     } = crate_tables(alloc, conn)?;
-    let OtherTables {
-        base,
-        archives,
-        reserved,
-    } = other_tables(alloc, conn)?;
+    let OtherTables { base, reserved } = other_tables(alloc, conn)?;
     let KeptTables {
         summaries,
         restricted,
@@ -228,7 +235,6 @@ pub fn read<S: Alter>(alloc: Global, conn: &mut Connection<S>) -> Result<AllRows
         crates,
         owners,
         versions,
-        archives,
         reserved,
         summaries,
         restricted,

@@ -3,7 +3,6 @@ use Rattle.std.proofs.Common.{◌≡◌, ℕ, pos, List, [], ◌∷◌, codes, m
 use Rattle.std.specs.List.{filter}
 use Rattle.sqlite.specs.declared.types.Value.TheVariants.{Int, Text}
 use Rattle.sqlite.specs.Collation.TheVariants.{Binary}
-use Rattle.sqlite_value.specs.Keys.{ascending}
 use Rattle.sqlite.specs.Order.{Row}
 use Rattle.sqlite.specs.Term.{Term, col}
 use Rattle.sqlite.specs.Query.{inner, end}
@@ -30,10 +29,11 @@ use Rattle.reg_tables_schema.specs.Tests.{is_number, is_version, shows}
 use Rattle.reg_tables_schema.proofs.Queries.{plain, answers, joined, same_filter, and_true}
 use Rattle.reg_tables_schema.proofs.Selections.{of_table}
 use Rattle.reg_tables_schema.proofs.ShownRows.{shown_exactly}
-use Rattle.reg_tables_schema.proofs.Sorted.{in_order}
 use Rattle.reg_tables_schema.proofs.TableMatches.{equals_first, matches_number}
-use Rattle.reg_tables_schema.proofs.WholeTables.{all_in_order}
-use Rattle.reg_tables_sql.specs.Archives.{AreArchiveIds, IsArchiveOf, IsArchiveWithId, archives_of, columns_of_bytes, is_archive_of}
+use Rattle.reg_tables_sql.specs.Archives.{IsArchiveOf, IsArchiveWithId, archives_of, columns_of_archive, columns_of_bytes, is_archive_of}
+use Rattle.reg_tables_sql.specs.Counts.{IsFirstId}
+use Rattle.reg_tables_sql.specs.declared.archives.Archive.{Archive}
+use Rattle.reg_tables_sql.proofs.FirstIds.{first, first_of}
 use Rattle.reg_tables_sql.proofs.VersionTexts.{wanted, is_wanted}
 
 abbrev bytes_project : List Term
@@ -82,26 +82,26 @@ of_version old new of_crate release vers found at h =
     shown_exactly columns_of_bytes _ found (of_version_gives old.now.trees of_crate release vers _ (selected of_version_is (of_version_params of_crate release vers) old new _ at h))
 
 abbrev pub by_id_text : List ℕ
-by_id_text = codes "SELECT bytes FROM archives WHERE version = ?1"
+by_id_text = codes "SELECT version, bytes FROM archives WHERE version = ?1"
 
-pub by_id_is : IsSelection ours by_id_text (plain (inner 13 end) (equals_first 0) (col 1 2 ∷ [])) (codes "bytes" ∷ [])
+pub by_id_is : IsSelection ours by_id_text (plain (inner 13 end) (equals_first 0) (col 1 0 ∷ col 1 2 ∷ [])) (codes "version" ∷ codes "bytes" ∷ [])
 unfolding understood everything
 by_id_is = record { command = refl; unlisted = refl; plain = (refl, refl) }
 
-pub by_id : (old new : State) (version : ℕ) (found : Option (Vec ℕ Global)) → IsInside old
-    → Shown by_id_text (Int (pos version) ∷ []) old new (shown_of columns_of_bytes found) → IsArchiveWithId version old.now.trees found
+pub by_id : (old new : State) (version : ℕ) (found : Option Archive) → IsInside old
+    → Shown by_id_text (Int (pos version) ∷ []) old new (shown_of columns_of_archive found) → IsArchiveWithId version old.now.trees found
 by_id old new version found at h =
     let db = overlay old.now.trees [] in
-    shown_exactly columns_of_bytes _ found
-    (of_table db (Int (pos version) ∷ []) 13 (equals_first 0) (col 1 2 ∷ []) _ (is_number 0 version) (matches_number db 13 0 version)
+    shown_exactly columns_of_archive _ found
+    (of_table db (Int (pos version) ∷ []) 13 (equals_first 0) (col 1 0 ∷ col 1 2 ∷ []) _ (is_number 0 version) (matches_number db 13 0 version)
     (selected by_id_is (Int (pos version) ∷ []) old new _ at h))
 
-abbrev pub ids_text : List ℕ
-ids_text = codes "SELECT version FROM archives ORDER BY version"
+abbrev pub first_text : List ℕ
+first_text = codes "SELECT version FROM archives ORDER BY version LIMIT 1"
 
-pub ids_is : IsSelection ours ids_text (in_order (inner 13 end) [] (col 1 0 ∷ []) ((col 1 0, ascending Binary) ∷ [])) (codes "version" ∷ [])
+pub first_is : IsSelection ours first_text (first 13) (codes "version" ∷ [])
 unfolding understood everything
-ids_is = record { command = refl; unlisted = refl; plain = (refl, refl) }
+first_is = record { command = refl; unlisted = refl; plain = (refl, refl) }
 
-pub ids : (old new : State) (list : List ℕ) → IsInside old → Shown ids_text [] old new (map number_columns list) → AreArchiveIds old.now.trees list
-ids old new list at h = all_in_order (overlay old.now.trees []) [] 13 (col 1 0 ∷ []) _ 0 (selected ids_is [] old new _ at h)
+pub first_id : (old new : State) (id : Option ℕ) → IsInside old → Shown first_text [] old new (shown_of number_columns id) → IsFirstId 13 old.now.trees id
+first_id old new id at h = first_of (overlay old.now.trees []) 13 _ (selected first_is [] old new _ at h)

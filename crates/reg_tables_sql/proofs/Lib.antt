@@ -6,6 +6,7 @@ mod ArchiveQueries
 mod ArchiveTexts
 mod CrateQueries
 mod CrateTexts
+mod FirstIds
 mod PairQueries
 mod PairTexts
 mod Relations

@@ -6,12 +6,33 @@ ghost use Rattle.reg_tables_schema.specs.Changes.{Adds};
 ghost use Rattle.reg_tables_schema.specs.Places.{archives_tree};
 ghost use Rattle.reg_tables_schema.specs.States.{IsReady};
 ghost use Rattle.reg_tables_schema.specs.Statements.{Reads, Writes, rows_in};
-ghost use Rattle.reg_tables_sql.specs.Archives.{AreArchiveIds, IsArchiveOf, IsArchiveWithId, archive_row, columns_of_bytes};
+ghost use Rattle.reg_tables_sql.specs.Archives.{IsArchiveOf, IsArchiveWithId, archive_row, columns_of_archive, columns_of_bytes};
+ghost use Rattle.reg_tables_sql.specs.Counts.{IsFirstId};
 
 use crate::records::FromRow;
-use crate::statements::{select_list, select_one, write};
+use crate::statements::{select_one, write};
 use sqlite::{Alter, Connection, Error, Row, params};
-use std::alloc::Global;
+
+/// The archive of a version.
+#[derive(Debug, Drop)]
+pub struct Archive {
+    pub version: u64,
+    pub bytes: Vec<u8>,
+}
+
+impl FromRow for Archive {
+    ghost columns = { columns_of_archive };
+
+    fn from_row(row: &Row) -> Result<Archive, Error> {
+        if row.column_count() != 2 {
+            return Err(Error::InvalidQuery);
+        }
+        Ok(Archive {
+            version: row.get(0)?,
+            bytes: row.get(1)?,
+        })
+    }
+}
 
 impl FromRow for Vec<u8> {
     ghost columns = { columns_of_bytes };
@@ -58,7 +79,7 @@ pub fn of_version<S: Alter>(
 }
 
 /// The archive of the version with this id.
-pub fn by_id<S: Alter>(conn: &mut Connection<S>, version: u64) -> Result<Option<Vec<u8>>, Error>
+pub fn by_id<S: Alter>(conn: &mut Connection<S>, version: u64) -> Result<Option<Archive>, Error>
     requires ready { IsReady (state S.Store conn.old) }
     requires small { version < 2 ^ 63 }
     ensures { Reads S.Store conn.old conn.new result
@@ -66,21 +87,21 @@ pub fn by_id<S: Alter>(conn: &mut Connection<S>, version: u64) -> Result<Option<
 {
     select_one(
         conn,
-        "SELECT bytes FROM archives WHERE version = ?1",
+        "SELECT version, bytes FROM archives WHERE version = ?1",
         params![version as i64],
     )
 }
 
-/// The ids of the versions that have an archive, in order.
-pub fn all_ids<S: Alter>(alloc: Global, conn: &mut Connection<S>) -> Result<Vec<u64>, Error>
+/// The first id of a version that has an archive, if there is one. An id that is NULL would be the
+/// first, and is an error.
+pub fn first_id<S: Alter>(conn: &mut Connection<S>) -> Result<Option<u64>, Error>
     requires { IsReady (state S.Store conn.old) }
     ensures { Reads S.Store conn.old conn.new result
-        (λ list. AreArchiveIds (rows_in S.Store conn.old) list.items) }
+        (IsFirstId archives_tree (rows_in S.Store conn.old)) }
 {
-    select_list(
-        alloc,
+    select_one(
         conn,
-        "SELECT version FROM archives ORDER BY version",
+        "SELECT version FROM archives ORDER BY version LIMIT 1",
         &[],
     )
 }

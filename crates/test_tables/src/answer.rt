@@ -1,7 +1,9 @@
 //! What a call is answered.
 
 use crate::records::{Shown, bytes_text, list, one};
-use reg_tables::{Account, AllRows, Counts, Crate, Summary, TokenLists, TokenRows, Version};
+use reg_tables::{
+    Account, AllRows, Archive, Counts, Crate, Summary, TokenLists, TokenRows, Version,
+};
 use sqlite::Row;
 use std::alloc::{AllocError, Global};
 
@@ -21,6 +23,7 @@ pub enum Answer {
     Versions(Vec<Version>),
     Summary(Option<Summary>),
     Archive(Option<Vec<u8>>),
+    ArchiveWithId(Option<Archive>),
     Owners(Vec<Account>),
     All(AllRows),
     Selected(Vec<Row>),
@@ -49,6 +52,7 @@ impl Answer {
             Answer::Crate(found) => one(alloc, found.as_ref()),
             Answer::Crates(found) => list(alloc, found),
             Answer::Versions(found) => list(alloc, found),
+            Answer::ArchiveWithId(found) => one(alloc, found.as_ref()),
             Answer::Owners(found) => list(alloc, found),
             Answer::All(found) => found.show(alloc),
             Answer::Selected(found) => list(alloc, found),
@@ -65,7 +69,8 @@ impl Answer {
             Answer::Versions(found) => found.len(),
             Answer::Owners(found) => found.len(),
             Answer::Archive(Some(bytes)) => bytes.len(),
-            Answer::Archive(None) | Answer::Is(false) => 0,
+            Answer::ArchiveWithId(Some(archive)) => archive.bytes.len(),
+            Answer::Archive(None) | Answer::ArchiveWithId(None) | Answer::Is(false) => 0,
             _ => 1,
         }
     }

@@ -78,7 +78,7 @@ fn on_crates<S: Alter>(
         CrateCall::Versions(id) => work.versions_of(alloc, *id).map(Answer::Versions),
         CrateCall::Summary(id) => work.summary_of(*id).map(Answer::Summary),
         CrateCall::Archive(id, text) => work.archive_of(*id, text).map(Answer::Archive),
-        CrateCall::ArchiveWithId(id) => work.archive_with_id(*id).map(Answer::Archive),
+        CrateCall::ArchiveWithId(id) => work.archive_with_id(*id).map(Answer::ArchiveWithId),
     }
 }
 

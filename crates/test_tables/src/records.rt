@@ -4,7 +4,7 @@ use crate::words::text_of;
 use reg_line::digest_of;
 use reg_model::Endpoints;
 use reg_tables::{
-    Account, AllRows, Crate, Pair, Scope, Summary, Token, TokenLists, TokenRow, TokenRows, Version,
+    Account, AllRows, Archive, Crate, Pair, Scope, Summary, Token, TokenLists, TokenRow, TokenRows, Version,
 };
 use sqlite::Row;
 use sqlite::types::ValueRef;
@@ -179,12 +179,6 @@ impl Shown for u32 {
     }
 }
 
-impl Shown for u64 {
-    fn show(&self, alloc: Global) -> Result<String, AllocError> {
-        format!(in alloc; "{self};")
-    }
-}
-
 impl Shown for String {
     fn show(&self, alloc: Global) -> Result<String, AllocError> {
         format!(in alloc; "{self};")
@@ -228,6 +222,13 @@ fn of_crates(alloc: Global, rows: &AllRows) -> Result<String, AllocError> {
     format!(in alloc; "{crates} {owners} {versions}")
 }
 
+impl Shown for Archive {
+    fn show(&self, alloc: Global) -> Result<String, AllocError> {
+        let bytes = bytes_text(alloc, &self.bytes)?;
+        format!(in alloc; "{}:{bytes};", self.version)
+    }
+}
+
 fn kept_of_crates(alloc: Global, rows: &AllRows) -> Result<String, AllocError> {
     let summaries = list(alloc, &rows.summaries)?;
     let restricted = list(alloc, &rows.restricted)?;
@@ -239,9 +240,8 @@ impl Shown for AllRows {
     fn show(&self, alloc: Global) -> Result<String, AllocError> {
         let of_tokens = of_tokens(alloc, self)?;
         let of_crates = of_crates(alloc, self)?;
-        let archives = list(alloc, &self.archives)?;
         let reserved = list(alloc, &self.reserved)?;
         let kept_of_crates = kept_of_crates(alloc, self)?;
-        format!(in alloc; "{of_tokens} {of_crates} {archives} {reserved} {kept_of_crates}")
+        format!(in alloc; "{of_tokens} {of_crates} {reserved} {kept_of_crates}")
     }
 }

@@ -61,7 +61,7 @@ tokens -> 1:#abc:1:live:nuyo; 1:0:*::{;
 crate FIRST -> 1:first:first;
 crates -> 1:first:first;
 archive 1 0.1.0 -> abc
-archive-id 2 -> abc
+archive-id 2 -> 2:abc;
 owners 1 -> 1:ada:Ada:on;2:bob:-:on;
 readers 1 -> 2:bob:-:on;
 restricted 1 -> no
@@ -88,7 +88,7 @@ all-rows -> https://index.example 1:ada:Ada:on;2:bob:-:on;3:cy:-:off; \
 2:1:0.2.0:0.2.0:#abc:-:yanked:{\"cksum\":\
 \"ba7816bf8f01cfea414140de5dae2223b00361a396177a9cb410ff61f20015ad\",\"deps\":[],\
 \"features\":{},\"links\":null,\"name\":\"first\",\"rust_version\":null,\"vers\":\"0.2.0\",\
-\"yanked\":; 1;2; kept; 1:1:357; none 1:2;";
+\"yanked\":; kept; 1:1:357; none 1:2;";
 
 /// The versions of the crate.
 pub(crate) const VERSIONS: &str = "versions 1 -> 1:1:0.1.0:0.1.0:#abc:it-nets:kept:{\"cksum\":\

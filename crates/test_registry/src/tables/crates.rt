@@ -88,7 +88,7 @@ fn archives_and_counts(rt: HostRuntime) -> Result<(), Fail> {
 
 const AN_ARCHIVE_BY_ITS_ID: &str = "add-account ada -> 1
 add-crate a 1 1.0.0 abc -> 1
-archive-id 1 -> abc
+archive-id 1 -> 1:abc;
 archive-id 2 -> none";
 
 #[test]

@@ -11,8 +11,8 @@ all-rows -> https://index.example 1:ada:Ada:on;2:bob:-:on; \
 1:a:a; 1:1; 1:1:0.1.0:0.1.0:#abc:-:kept:{\"cksum\":\
 \"ba7816bf8f01cfea414140de5dae2223b00361a396177a9cb410ff61f20015ad\",\"deps\":[],\
 \"features\":{},\"links\":null,\"name\":\"a\",\"rust_version\":null,\"vers\":\"0.1.0\",\
-\"yanked\":; 1; acme_net; 1:1:175; none none
-archive-id 1 -> abc
+\"yanked\":; acme_net; 1:1:175; none none
+archive-id 1 -> 1:abc;
 
 adopt -> done
 
@@ -21,8 +21,8 @@ all-rows -> https://index.example 1:ada:Ada:on;2:bob:-:on; \
 1:a:a; 1:1; 1:1:0.1.0:0.1.0:#abc:-:kept:{\"cksum\":\
 \"ba7816bf8f01cfea414140de5dae2223b00361a396177a9cb410ff61f20015ad\",\"deps\":[],\
 \"features\":{},\"links\":null,\"name\":\"a\",\"rust_version\":null,\"vers\":\"0.1.0\",\
-\"yanked\":; 1; acme_net; 1:1:175; none none
-archive-id 1 -> abc
+\"yanked\":; acme_net; 1:1:175; none none
+archive-id 1 -> 1:abc;
 
 audit -> none";
 

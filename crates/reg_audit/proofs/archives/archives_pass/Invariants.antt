@@ -5,7 +5,7 @@ use Rattle.reg_tables.specs.Works.{has_failed, seen}
 use Rattle.reg_tables_sql.specs.Archives.{archives_with_id}
 use Rattle.reg_audit.specs.Checks.{is_archive}
 use Rattle.reg_tables.specs.Looks.{Looks}
-use Rattle.reg_audit.proofs.archives.have_archives.Given as goal
+use Rattle.reg_audit.proofs.archives.archives_pass.Given as goal
 
 -- the versions before the index have their archives
 abbrev pub invariant-loop-version : goal.invariant-loop-version

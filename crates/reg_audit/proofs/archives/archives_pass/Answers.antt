@@ -7,7 +7,7 @@ use Rattle.reg_tables_meaning.proofs.Readings.{same_then}
 use Rattle.reg_audit.specs.Checks.{is_archive}
 use Rattle.reg_tables.proofs.Looking.{looks_then}
 use Rattle.reg_audit.proofs.SameIds.{all_more, all_taken}
-use Rattle.reg_audit.proofs.archives.have_archives.Goals as goal
+use Rattle.reg_audit.proofs.archives.archives_pass.Goals as goal
 
 pub loop-version-preserved : goal.loop-version-preserved
 loop-version-preserved g c =
