@@ -19,6 +19,7 @@ use Rattle.reg_tables_schema.specs.Tests.{is_number, shows}
 use Rattle.reg_tables_schema.proofs.Joined.{joined_once}
 use Rattle.reg_tables_schema.proofs.Queries.{maps_twice}
 use Rattle.reg_tables_sql.specs.Archives.{archive_places, archives_with_id}
+use Rattle.reg_tables_sql.specs.Versions.{columns_of_version}
 use Rattle.reg_tables_sql.specs.declared.versions.Version.{Version}
 use Rattle.reg_tables_meaning.specs.Stands.{row_of_archive}
 use Rattle.reg_tables_rows.specs.declared.all_rows.AllRows.{AllRows}
@@ -29,8 +30,9 @@ use Rattle.reg_audit.specs.Checks.{is_archive}
 use Rattle.reg_audit_law.specs.RegistryFrom.{archive_from, version_from}
 use Rattle.reg_audit_law.specs.Rules.{IsKeyed, RefersTo, same_value}
 use Rattle.reg_audit_law.proofs.Passing.{Passing, archive_is}
+use Rattle.reg_audit_law.proofs.Shapes.{with_null}
 use Rattle.reg_audit_law.proofs.Uniques.{value_flips}
-use Rattle.reg_audit_law.proofs.Versions.{row, rows_of_versions, version_ids_apart}
+use Rattle.reg_audit_law.proofs.Versions.{rows_of_versions, version_ids_apart}
 
 -- what passes is one archive, shown as its id and its bytes
 one_archive : (digest : List ℕ) (shown : List Row) → is_archive digest shown ≡ true → (id : ℤ) × (bytes : List ℕ) × (shown ≡ (Int id ∷ Blob bytes ∷ []) ∷ []) × (bytes_eq (sha256 bytes) digest ≡ true)
@@ -82,6 +84,9 @@ module _ (it : AllRows) (db : Trees) (h : Passing it db) where
   abbrev stored : Version → Row
   stored v = row_of_archive (version_from it db v)
 
+  abbrev row : Version → Row
+  row v = with_null (columns_of_version v)
+
   abbrev its_rows : Version → List Row
   its_rows v = filter (is_number 0 v.id) (db 13)
 
@@ -104,8 +109,8 @@ module _ (it : AllRows) (db : Trees) (h : Passing it db) where
   of_version : (r : Row) → IsIn r (db 13) → list_any (λ v. is_number 0 v.id r) vs ≡ true
   of_version r i =
       let p = any_in (λ p. same_value (rowid p) (column r 0)) (db 11) (each_in (RefersTo (db 11) 0) (db 13) r h.rules.parents.archive_versions i) in
-      let listed = in_permuted (db 11) (map (row it db h) vs) p.0 (IsPermutation-sym (map (row it db h) vs) (db 11) (rows_of_versions it db h)) p.1 in
-      let v = map_in (row it db h) vs p.0 listed in
+      let listed = in_permuted (db 11) (map row vs) p.0 (IsPermutation-sym (map row vs) (db 11) (rows_of_versions it db h)) p.1 in
+      let v = map_in row vs p.0 listed in
       let same : same_value (Int (pos v.0.id)) (column r 0) ≡ true = ap (λ s. same_value (rowid s) (column r 0)) v.2 ∙ p.2 in
       in_any (λ v. is_number 0 v.id r) vs v.0 v.1 (value_flips (column r 0) (Int (pos v.0.id)) ∙ same)
 

@@ -50,7 +50,7 @@ module _ (it : AllRows) (db : Trees) (h : Passing it db) where
   abbrev vs : List Version
   vs = it.versions.items
 
-  abbrev pub row : Version → Row
+  abbrev row : Version → Row
   row v = with_null (columns_of_version v)
 
   pub rows_of_versions : IsPermutation (map row vs) (db 11)
