@@ -46,7 +46,7 @@ rise_below n (m ∷ ns) up = more n m (length ns) (next_of (m ∷ ns)) (less_is 
     more : (n m l k : ℕ) → n < m → (m + 1) + l ≤ k → (n + 1) + suc l ≤ max (1 + n) k
     more n m l k less h = omega (arith, less, h)
 
-no_more_than_next : (ns : List ℕ) → IsStrictlySortedBy nat_cmp ns → length ns ≤ next_of ns
+pub no_more_than_next : (ns : List ℕ) → IsStrictlySortedBy nat_cmp ns → length ns ≤ next_of ns
 no_more_than_next [] up = omega arith
 no_more_than_next (n ∷ ns) up = few n (length ns) (next_of (n ∷ ns)) (rise_below n ns up)
   where
@@ -78,6 +78,13 @@ together true true f g = refl
 together true false f g = sym (f refl)
 together false true f g = g refl
 together false false f g = refl
+
+pub not_le : (a b : ℕ) → b < a → nat_le a b ≡ false
+not_le a b h = split (nat_le a b) refl
+  where
+    split : (r : Bool) → nat_le a b ≡ r → nat_le a b ≡ false
+    split true e = absurd (omega (arith, h, leb-true a b e))
+    split false e = e
 
 module _ (ids : Ids) (ps : List Publication) (yanked : finset.FinSet mark_cmp) (db : Trees) (h : StandCrates ids ps yanked db) where
   -- a crate has a canonical text where a version has it
@@ -113,10 +120,3 @@ module _ (ids : Ids) (ps : List Publication) (yanked : finset.FinSet mark_cmp) (
       let at : next ≡ next_crate ids = next_as row_of_crate (λ c. c.0) (λ c. refl) ids.crates (db 7) last next h.crate_rows greatest is in
       let few = no_more_than_next (map (λ (c : StoredCrate). c.0) ids.crates) h.up in
       not_le number (length ids.crates) (omega (arith, at, few, length-map ids.crates (λ (c : StoredCrate). c.0), low))
-    where
-      not_le : (a b : ℕ) → b < a → nat_le a b ≡ false
-      not_le a b h = split (nat_le a b) refl
-        where
-          split : (r : Bool) → nat_le a b ≡ r → nat_le a b ≡ false
-          split true e = absurd (omega (arith, h, leb-true a b e))
-          split false e = e

@@ -1,6 +1,6 @@
 //! Selections of crates and of their versions.
 
-ghost use Rattle.std.specs.Prelude.{◌≡◌, ◌<◌, IfOk, nat_le};
+ghost use Rattle.std.specs.Prelude.{◌≡◌, ◌<◌, ◌-◌, IfOk, nat_le, nat_lt, unwrap_or};
 ghost use Rattle.sqlite.specs.Held.{state};
 ghost use Rattle.reg_tables_schema.specs.Rows.{greatest_number};
 ghost use Rattle.reg_tables_schema.specs.States.{IsReady};
@@ -56,8 +56,8 @@ fn reaches(number: u64, count: u64) -> Result<bool, Error>
     }
 }
 
-/// Whether a crate has at least this many versions. They are counted, but not read.
-pub fn reaches_versions<S: Alter>(
+// The same as `reaches_versions`, by counting them.
+fn has_versions<S: Alter>(
     conn: &mut Connection<S>,
     crate_id: u32,
     number: u64,
@@ -69,6 +69,32 @@ pub fn reaches_versions<S: Alter>(
 {
     let count = versions::count_of(conn, crate_id)?;
     reaches(number, count)
+}
+
+// Whether fewer ids were taken, up to the last, than make this number.
+fn are_few(last: Option<u64>, number: u64) -> bool
+    ensures { result ≡ nat_lt (unwrap_or last 0) (number - 1) }
+{
+    last.unwrap_or(0) < number.saturating_sub(1)
+}
+
+/// Whether a crate has at least this many versions: no more than ids were taken. They are counted
+/// only if the ids of all crates' versions come near it, and are not read.
+pub fn reaches_versions<S: Alter>(
+    conn: &mut Connection<S>,
+    crate_id: u32,
+    number: u64,
+) -> Result<bool, Error>
+    requires { IsReady (state S.Store conn.old) }
+    ensures told { Told S.Store conn.new result
+        (ReachesVersions crate_id number (rows_in S.Store conn.old)) }
+    ensures same { KeepsAll S.Store conn.old conn.new result }
+{
+    let last = versions::last_id(conn)?;
+    if are_few(last, number) {
+        return Ok(false);
+    }
+    has_versions(conn, crate_id, number)
 }
 
 /// The archive of exactly this version of a crate.

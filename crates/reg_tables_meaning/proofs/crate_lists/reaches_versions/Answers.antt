@@ -1,15 +1,10 @@
-use Rattle.std.proofs.Common.{ap, ◌∙◌}
-use Rattle.std.specs.Prelude.{nat_le}
+use Rattle.std.proofs.Common.{◌∙◌, sym}
+use Rattle.std.proofs.lemmas.Bool.{ltb-true}
 use Rattle.sqlite.specs.Held.{state}
-use Rattle.reg_tables_meaning.proofs.Readings.{same_whatever}
-use Rattle.reg_tables_meaning.proofs.Results.{if_ok}
-use Rattle.reg_tables_meaning.proofs.VersionCounts.{versions_counted}
+use Rattle.reg_tables_meaning.proofs.VersionCounts.{few_versions}
 use Rattle.reg_tables_meaning.proofs.crate_lists.reaches_versions.Goals as goal
 
-pub returns-clause-told : goal.returns-clause-told
-returns-clause-told g c clean =
+pub returns-then-are_few-clause-told : goal.returns-then-are_few-clause-told
+returns-then-are_few-clause-told g c clean ids s h =
     let db = (state g.S.Store c.args.conn.now).now.trees in
-    if_ok c.reaches.result (λ is e ids s h. e.0 ∙ ap (nat_le c.args.number) (versions_counted ids s db h.stands.crates c.args.crate_id c.in_ok-count.count e.1 (c.in_ok-count.ensures.told clean))) c.reaches.ensures
-
-pub returns-clause-same : goal.returns-clause-same
-returns-clause-same g c = same_whatever (state g.S.Store c.args.conn.now) (state g.S.Store c.count_of.new.conn) c.reaches.result (λ clean. (c.in_ok-count.ensures.only clean).0) c.count_of.ensures.survives
+    sym (few_versions ids s db h.stands.crates c.args.crate_id c.in_ok-last.last c.args.number (c.in_ok-last.ensures.told clean) (ltb-true _ _ (sym c.are_few.ensures ∙ c.if-are_few.true)))
