@@ -4,7 +4,8 @@ use crate::words::text_of;
 use reg_line::digest_of;
 use reg_model::Endpoints;
 use reg_tables::{
-    Account, AllRows, Archive, Crate, Pair, Scope, Summary, Token, TokenLists, TokenRow, TokenRows, Version,
+    Account, AllRows, Archive, Crate, Pair, Scope, Summary, Token, TokenLists, TokenRow, TokenRows,
+    Version,
 };
 use sqlite::Row;
 use sqlite::types::ValueRef;

@@ -3,8 +3,8 @@
 use crate::tables::scripts::plays;
 use std::test::Fail;
 
-/// A base, accounts, tokens, scopes, crates, owners, versions, reserved names, summaries, restricted
-/// crates and readers.
+/// A base, accounts, tokens, scopes, crates, owners, versions, reserved names, summaries,
+/// restricted crates and readers.
 const ALL_ROWS: &str = "fill -> done
 
 all-rows -> https://index.example 1:ada:Ada:on;2:bob:-:on; \
