@@ -1,1 +1,3 @@
+mod ArchiveIds
+mod OwnIds
 mod OwnRowids

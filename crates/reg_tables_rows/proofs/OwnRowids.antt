@@ -4,7 +4,7 @@ use Rattle.std.specs.Prelude.{◌↔◌}
 use Rattle.std.specs.Cmp.{int_cmp_is}
 use Rattle.std.specs.Int.Signed.{le_z, ◌<ℤ◌}
 use Rattle.std.specs.List.{AllByRecursion, IsDistinct}
-use Rattle.std.specs.List.Sorted.{IsStrictlySortedBy}
+use Rattle.std.specs.List.Sorted.{IsPermutation, IsStrictlySortedBy}
 use Rattle.std.specs.Ordering.{int_cmp, is_eq}
 use Rattle.std.proofs.lemmas.Cmp.{int_cmp_total, int_ranked}
 use Rattle.std.proofs.lemmas.Int.{ints, to_z-of_z}
@@ -29,7 +29,7 @@ above_all : (a b : ℤ) → int_cmp a b ≡ Less → (ys : List ℤ) → AllByRe
 above_all a b up [] h = tt
 above_all a b up (y ∷ ys) h = (int_cmp_total.trans a b y up h.0, above_all a b up ys h.1)
 
-rises_next : (a b : ℤ) (ys : List ℤ) → int_cmp a b ≡ Less → IsStrictlySortedBy int_cmp (a ∷ b ∷ ys) ↔ IsStrictlySortedBy int_cmp (b ∷ ys)
+pub rises_next : (a b : ℤ) (ys : List ℤ) → int_cmp a b ≡ Less → IsStrictlySortedBy int_cmp (a ∷ b ∷ ys) ↔ IsStrictlySortedBy int_cmp (b ∷ ys)
 unfolding IsStrictlySortedBy
 rises_next a b ys up = (λ h. h.1, λ h. ((up, above_all a b up ys h.0), h))
 
@@ -104,10 +104,14 @@ own_shown (n ∷ ids) (r ∷ rows) same up =
       (number_is r n is, rest.1),
     )
 
-pub own_rising : (tree : ℕ) (db : Trees) (ids : List ℤ) → AreRowids tree db ids → IsStrictlySortedBy int_cmp ids → HaveOwnRowids (db tree)
-own_rising tree db ids h up =
-    let own = own_shown ids h.ordered h.shown up in
-    let back = IsPermutation-sym (db tree) h.ordered h.same in (
-      IsDistinct-IsPermutation tied tied_back h.ordered (db tree) back own.0,
-      all-permutation IsNumbered h.ordered (db tree) back own.1,
+-- rows in another order
+pub own_ordered : (rows ordered : List Row) (ids : List ℤ) → IsPermutation rows ordered → map rowid_columns ids ≡ map (shows (0 ∷ [])) ordered → IsStrictlySortedBy int_cmp ids → HaveOwnRowids rows
+own_ordered rows ordered ids same shown up =
+    let own = own_shown ids ordered shown up in
+    let back = IsPermutation-sym rows ordered same in (
+      IsDistinct-IsPermutation tied tied_back ordered rows back own.0,
+      all-permutation IsNumbered ordered rows back own.1,
     )
+
+pub own_rising : (tree : ℕ) (db : Trees) (ids : List ℤ) → AreRowids tree db ids → IsStrictlySortedBy int_cmp ids → HaveOwnRowids (db tree)
+own_rising tree db ids h up = own_ordered (db tree) h.ordered ids h.same h.shown up

@@ -23,7 +23,7 @@ ghost use Rattle.reg_tables_sql.specs.Tokens.{AreTokens};
 ghost use Rattle.reg_tables_sql.specs.Versions.{AreVersions};
 ghost use Rattle.reg_tables_rows.specs.WholeRows.{AreAllRows, AreApart, HaveIds};
 
-use crate::apart::check_rowids;
+use crate::apart::{check_crates, check_rowids, check_versions};
 use reg_tables_sql::accounts::Account;
 use reg_tables_sql::crates::Crate;
 use reg_tables_sql::pairs::{Pair, Relation};
@@ -115,7 +115,6 @@ fn see_rules<S: Alter>(conn: &mut Connection<S>) -> Result<(), Error>
     Ok(())
 }
 
-// Rows are checked to have their own rowids before any is read.
 fn crate_tables<S: Alter>(alloc: Global, conn: &mut Connection<S>) -> Result<CrateTables, Error>
     requires { IsReady (state S.Store conn.old) }
     ensures crates { Told S.Store conn.new result
@@ -131,8 +130,10 @@ fn crate_tables<S: Alter>(alloc: Global, conn: &mut Connection<S>) -> Result<Cra
     see_rules(conn)?;
     check_rowids(alloc, conn)?;
     let crates = crates::all_by_id(alloc, conn)?;
+    check_crates(&crates)?;
     let owners = pairs::all(alloc, conn, Relation::Owners)?;
     let versions = versions::all(alloc, conn)?;
+    check_versions(&versions)?;
     Ok(CrateTables {
         crates,
         owners,

@@ -1,6 +1,8 @@
-//! Whether each row of a table has its own rowid, as seen from the rowids, read in order.
+//! Whether each row of a table has its own rowid, as seen from the rowids, read in order. Those of
+//! crates and versions are their ids, which are read with them.
 
-ghost use Rattle.std.specs.Prelude.{◌∷◌, ◌↔◌, ℕ, IsTrue, OnOk};
+ghost use Rattle.std.specs.Prelude.{◌<◌, ◌∷◌, ◌↔◌, ℕ, length, IsTrue, OnOk};
+ghost use Rattle.std.specs.List.{AllAdjacentBelow};
 ghost use Rattle.std.specs.List.Sorted.{IsStrictlySortedBy};
 ghost use Rattle.std.specs.Ordering.{int_cmp};
 ghost use Rattle.sqlite.specs.Held.{state};
@@ -9,12 +11,15 @@ ghost use Rattle.reg_tables_schema.specs.Places.{crates_tree, owners_tree, reade
 ghost use Rattle.reg_tables_schema.specs.States.{IsReady};
 ghost use Rattle.reg_tables_schema.specs.Statements.{rows_in};
 ghost use Rattle.reg_tables_schema.specs.Steps.{Done, KeepsAll};
+ghost use Rattle.reg_tables_sql.specs.Crates.{AreCratesById};
 ghost use Rattle.reg_tables_sql.specs.Rowids.{AreRowids};
+ghost use Rattle.reg_tables_sql.specs.Versions.{AreVersions};
 ghost use Rattle.reg_tables_meaning.specs.Stands.{HaveOwnRowids};
-ghost use Rattle.reg_tables_rows.specs.WholeRows.{AreApart};
 
+use reg_tables_sql::crates::Crate;
 use reg_tables_sql::pairs::Relation;
-use reg_tables_sql::{crates, pairs, reserved, versions};
+use reg_tables_sql::versions::Version;
+use reg_tables_sql::{pairs, reserved};
 use sqlite::{Alter, Connection, Error};
 use std::alloc::Global;
 
@@ -51,24 +56,53 @@ fn check(rowids: &[i64]) -> Result<(), Error>
     Ok(())
 }
 
-// The tables whose rowids are ids.
-fn check_ids<S: Alter>(alloc: Global, conn: &mut Connection<S>) -> Result<(), Error>
-    requires { IsReady (state S.Store conn.old) }
-    ensures crates { Done S.Store conn.new result
-        (HaveOwnRowids (rows_in S.Store conn.old crates_tree)) }
-    ensures versions { Done S.Store conn.new result
-        (HaveOwnRowids (rows_in S.Store conn.old versions_tree)) }
-    ensures same { KeepsAll S.Store conn.old conn.new result }
+fn crates_rise(crates: &[Crate]) -> bool
+    ensures { IsTrue result ↔ AllAdjacentBelow (λ a b. a.id < b.id) crates.now (length crates.now) }
 {
-    let crates = crates::rowids(alloc, conn)?;
-    check(&crates)?;
-    let versions = versions::rowids(alloc, conn)?;
-    check(&versions)?;
+    for i in 1..crates.len() {
+        if crates[i].id <= crates[i - 1].id {
+            return false;
+        }
+    }
+    true
+}
+
+fn versions_rise(versions: &[Version]) -> bool
+    ensures { IsTrue result
+        ↔ AllAdjacentBelow (λ a b. a.id < b.id) versions.now (length versions.now) }
+{
+    for i in 1..versions.len() {
+        if versions[i].id <= versions[i - 1].id {
+            return false;
+        }
+    }
+    true
+}
+
+/// Succeeds only if no two of all crates share a rowid, which is their id.
+pub(crate) fn check_crates(crates: &[Crate]) -> Result<(), Error>
+    ensures { OnOk result ((db : Trees) → AreCratesById db crates.now
+        → HaveOwnRowids (db crates_tree)) }
+{
+    if !crates_rise(crates) {
+        return Err(Error::InvalidQuery);
+    }
     Ok(())
 }
 
-// The tables whose rowids are SQL's own.
-fn check_others<S: Alter>(alloc: Global, conn: &mut Connection<S>) -> Result<(), Error>
+/// Succeeds only if no two of all versions share a rowid, which is their id.
+pub(crate) fn check_versions(versions: &[Version]) -> Result<(), Error>
+    ensures { OnOk result ((db : Trees) → AreVersions db versions.now
+        → HaveOwnRowids (db versions_tree)) }
+{
+    if !versions_rise(versions) {
+        return Err(Error::InvalidQuery);
+    }
+    Ok(())
+}
+
+/// Succeeds only if no two rows of a table share a rowid, in the tables whose rowids are SQL's own.
+pub(crate) fn check_rowids<S: Alter>(alloc: Global, conn: &mut Connection<S>) -> Result<(), Error>
     requires { IsReady (state S.Store conn.old) }
     ensures owners { Done S.Store conn.new result
         (HaveOwnRowids (rows_in S.Store conn.old owners_tree)) }
@@ -84,16 +118,5 @@ fn check_others<S: Alter>(alloc: Global, conn: &mut Connection<S>) -> Result<(),
     check(&readers)?;
     let reserved = reserved::rowids(alloc, conn)?;
     check(&reserved)?;
-    Ok(())
-}
-
-/// Succeeds only if no two rows of a table share a rowid.
-pub(crate) fn check_rowids<S: Alter>(alloc: Global, conn: &mut Connection<S>) -> Result<(), Error>
-    requires { IsReady (state S.Store conn.old) }
-    ensures apart { Done S.Store conn.new result (AreApart (rows_in S.Store conn.old)) }
-    ensures same { KeepsAll S.Store conn.old conn.new result }
-{
-    check_ids(alloc, conn)?;
-    check_others(alloc, conn)?;
     Ok(())
 }
