@@ -42,11 +42,3 @@ of_readers = record { is = record { command = refl; unlisted = refl; plain = (re
 pub of_reserved : AsksRowids 14 (codes "rowid") (codes "SELECT rowid FROM reserved ORDER BY rowid")
 unfolding understood everything
 of_reserved = record { is = record { command = refl; unlisted = refl; plain = (refl, refl) }; seen = λ db. refl }
-
-pub of_crates : AsksRowids 7 (codes "id") (codes "SELECT id FROM crates ORDER BY id")
-unfolding understood everything
-of_crates = record { is = record { command = refl; unlisted = refl; plain = (refl, refl) }; seen = λ db. refl }
-
-pub of_versions : AsksRowids 11 (codes "id") (codes "SELECT id FROM versions ORDER BY id")
-unfolding understood everything
-of_versions = record { is = record { command = refl; unlisted = refl; plain = (refl, refl) }; seen = λ db. refl }

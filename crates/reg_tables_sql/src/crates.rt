@@ -7,7 +7,6 @@ ghost use Rattle.reg_tables_schema.specs.States.{IsReady};
 ghost use Rattle.reg_tables_schema.specs.Statements.{Reads, Writes, rows_in};
 ghost use Rattle.reg_tables_sql.specs.Counts.{IsCount, IsLastId};
 ghost use Rattle.reg_tables_sql.specs.Crates.{AreCrates, AreCratesById, IsCrateOfCanon, IsCrateThere, crate_columns, crate_row};
-ghost use Rattle.reg_tables_sql.specs.Rowids.{AreRowids};
 
 use crate::records::FromRow;
 use crate::statements::{has_row, select_list, select_one, select_only, write};
@@ -103,15 +102,6 @@ pub fn all_by_id<S: Alter>(alloc: Global, conn: &mut Connection<S>) -> Result<Ve
         "SELECT id, canon, name FROM crates ORDER BY id",
         &[],
     )
-}
-
-/// The ids of all crates, in order, as rowids.
-pub fn rowids<S: Alter>(alloc: Global, conn: &mut Connection<S>) -> Result<Vec<i64>, Error>
-    requires { IsReady (state S.Store conn.old) }
-    ensures { Reads S.Store conn.old conn.new result
-        (λ list. AreRowids crates_tree (rows_in S.Store conn.old) list.items) }
-{
-    select_list(alloc, conn, "SELECT id FROM crates ORDER BY id", &[])
 }
 
 /// The greatest crate id, if there is one.

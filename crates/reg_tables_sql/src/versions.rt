@@ -11,7 +11,6 @@ ghost use Rattle.reg_tables_schema.specs.Rows.{mark};
 ghost use Rattle.reg_tables_schema.specs.States.{IsReady};
 ghost use Rattle.reg_tables_schema.specs.Statements.{Reads, Writes, rows_in};
 ghost use Rattle.reg_tables_sql.specs.Counts.{IsCountOf, IsLastId};
-ghost use Rattle.reg_tables_sql.specs.Rowids.{AreRowids};
 ghost use Rattle.reg_tables_sql.specs.Stems.{AreEntriesOf, columns_of_stem};
 ghost use Rattle.reg_tables_sql.specs.VersionMarks.{AreMarksOf, IsMarkOf, IsMarkWithId, columns_of_mark};
 ghost use Rattle.reg_tables_sql.specs.Versions.{AreVersions, AreVersionsOf, MarksYanked, columns_of_version, version_row};
@@ -198,15 +197,6 @@ pub fn all<S: Alter>(alloc: Global, conn: &mut Connection<S>) -> Result<Vec<Vers
         BY id",
         &[],
     )
-}
-
-/// The ids of all versions, in order, as rowids.
-pub fn rowids<S: Alter>(alloc: Global, conn: &mut Connection<S>) -> Result<Vec<i64>, Error>
-    requires { IsReady (state S.Store conn.old) }
-    ensures { Reads S.Store conn.old conn.new result
-        (λ list. AreRowids versions_tree (rows_in S.Store conn.old) list.items) }
-{
-    select_list(alloc, conn, "SELECT id FROM versions ORDER BY id", &[])
 }
 
 /// The rows of a crate's index file.
