@@ -1,5 +1,5 @@
 -- The versions and archives of a sound registry pass.
-use Rattle.std.proofs.Common.{◌≡◌, pos, List, [], ◌∷◌, map, length, Bool, true, sym, ap, subst, eqb-true, ◌∙◌}
+use Rattle.std.proofs.Common.{◌≡◌, pos, List, [], ◌∷◌, map, length, Bool, true, refl, sym, ap, subst, eqb-true, ◌∙◌}
 use Rattle.std.specs.Prelude.{nat_eq, string_bytes}
 use Rattle.std.specs.Ordering.{on}
 use Rattle.std.proofs.lemmas.Bool.{eq-eqb}
