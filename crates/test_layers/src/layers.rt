@@ -18,6 +18,7 @@ mod name_calls;
 mod names;
 mod part_calls;
 mod patterns;
+mod routing;
 mod script;
 mod versions;
 mod wire;

@@ -35,9 +35,14 @@ impl Tally {
     pub(crate) fn is_right(&self) -> bool {
         self.answers > 5 && self.wants > 5 && self.others == 0
     }
+
+    /// The answer came, the want exactly if the call takes memory, and nothing else.
+    pub(crate) fn is_right_if(&self, takes: bool) -> bool {
+        self.answers > 5 && (self.wants > 0) == takes && self.others == 0
+    }
 }
 
-/// Runs a call with each amount of memory.
+/// Runs a call with each amount of memory, beginning with none.
 ///
 /// It tells whether its answer is the one with ample memory.
 pub(crate) fn each_amount<F: Fn(Global) -> Result<bool, AllocError>>(
@@ -47,12 +52,17 @@ pub(crate) fn each_amount<F: Fn(Global) -> Result<bool, AllocError>>(
 ) -> Result<Tally, AllocError>
     requires { F.IsAlwaysCallable call }
 {
-    let mut amounts = Amounts::new(alloc, COUNT, step)?;
     let mut tally = Tally {
         answers: 0,
         wants: 0,
         others: 0,
     };
+    let mut none = Amounts::new(alloc, 1, 0)?;
+    if none.advance(alloc) {
+        tally.add(call(alloc));
+    }
+    drop(none);
+    let mut amounts = Amounts::new(alloc, COUNT, step)?;
     for _ in 0..COUNT {
         if !amounts.advance(alloc) {
             break;
