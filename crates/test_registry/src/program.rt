@@ -3,5 +3,6 @@
 //! A line of a script is the words of a run, an arrow, and how it ends: `users --db FILE -> 0`.
 
 mod piping;
+mod piping_memory;
 mod runs;
 mod words;

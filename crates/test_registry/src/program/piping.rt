@@ -17,7 +17,7 @@ ba7816bf8f01cfea414140de5dae2223b00361a396177a9cb410ff61f20015ad
 /// The request for the config, and its reply.
 const ASKED: &str = "GET /index/config.json HTTP/1.1\r\nhost: r\r\nauthorization: abc\r\n\r\n";
 
-const REPLIED: &str = "HTTP/1.1 200 OK\r\ncontent-type: application/json\r\n\
+pub(super) const REPLIED: &str = "HTTP/1.1 200 OK\r\ncontent-type: application/json\r\n\
 content-length: 95\r\n\r\n{\"api\":\"http://127.0.0.1:8080\",\"auth-required\":true,\
 \"dl\":\"http://127.0.0.1:8080/api/v1/crates\"}";
 
@@ -96,7 +96,7 @@ fn an_unfinished_setup_serves_nothing(rt: HostRuntime) -> Result<(), Fail> {
 }
 
 /// Two accounts, each with a token.
-const TWO_ACCOUNTS: &str = "user-add ada --name Ada
+pub(super) const TWO_ACCOUNTS: &str = "user-add ada --name Ada
 user-add bob
 token-add ada --endpoints publish-new,publish-update,yank,change-owners --digest \
 ba7816bf8f01cfea414140de5dae2223b00361a396177a9cb410ff61f20015ad
@@ -121,7 +121,7 @@ content-length: 69\r\n\r\n\
 HTTP/1.1 403 Forbidden\r\ncontent-type: application/json\r\ncontent-length: 56\r\n\r\n\
 {\"errors\":[{\"detail\":\"A6 endpoint not in token scope\"}]}";
 
-const INDEX_FILE: &str = "HTTP/1.1 200 OK\r\ncontent-type: text/plain\r\n\
+pub(super) const INDEX_FILE: &str = "HTTP/1.1 200 OK\r\ncontent-type: text/plain\r\n\
 content-length: 175\r\n\r\n\
 {\"cksum\":\"e3b0c44298fc1c149afbf4c8996fb92427ae41e4649b934ca495991b7852b855\",\
 \"deps\":[],\"features\":{},\"links\":null,\"name\":\"a\",\"rust_version\":null,\
