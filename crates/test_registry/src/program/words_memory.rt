@@ -1,0 +1,142 @@
+//! The program's words with each amount of memory, as a script: a line is the words of a run, an
+//! arrow, how the run ends, and behind a bar how it ends once it was done.
+//!
+//! With too little memory it is refused, and has done nothing: the next run ends as the first.
+
+use crate::program::runs::{ending, new_file, words_of};
+use reg_cli::run_words;
+use std::alloc::AllocError;
+use std::test::Fail;
+use std::{fs, io};
+use test_support::scarce_memory::Amounts;
+
+/// How many amounts there are at most. The bytes of each are so many times the square of its
+/// number.
+const AMOUNTS: (u32, u32) = (80, 1_200);
+
+/// How a run ends with too little memory.
+const REFUSED: [&str; 3] = ["3 memory", "3 storage", "3 G10 storage or memory"];
+
+/// How a run ends that has so many bytes of memory.
+fn scarce_ending(
+    rt: &HostRuntime,
+    line: &str,
+    file: &str,
+    size: u32,
+) -> Result<String, AllocError> {
+    let words = words_of(rt.alloc(), line, file)?;
+    let mut amounts = Amounts::new(rt.alloc(), 1, size)?;
+    if !amounts.advance(rt.alloc()) {
+        return Err(AllocError);
+    }
+    let exit = run_words(rt, &words);
+    drop(amounts);
+    let (status, words) = (exit.status, exit.words);
+    if words.is_empty() {
+        return format!(in rt.alloc(); "{status}");
+    }
+    format!(in rt.alloc(); "{status} {words}")
+}
+
+/// How a line goes with an amount of memory.
+#[derive(Drop)]
+enum Went {
+    Done,
+    Refused,
+    Wrong(String),
+}
+
+/// Runs a line with the amount of this number, and once more with ample memory. `NEW` stands for
+/// a number of four digits, another one for each amount.
+fn went(rt: &HostRuntime, line: &str, file: &str, k: u32) -> io::Result<Went> {
+    let number = format!(in rt.alloc(); "{}", k.saturating_add(1_000))?;
+    let line = line.replace(rt.alloc(), "NEW", &number)?;
+    let (words, ends) = line.split_once(" -> ").unwrap_or((&line, "no arrow"));
+    let (first, again) = ends.split_once(" | ").unwrap_or((ends, ends));
+    let found = scarce_ending(
+        rt,
+        words,
+        file,
+        k.saturating_mul(k).saturating_mul(AMOUNTS.1),
+    )?;
+    let next = ending(rt, words, file)?;
+    if found.as_str() == first && next.as_str() == again {
+        return Ok(Went::Done);
+    }
+    if REFUSED.iter().any(|end| *end == found.as_str()) && next.as_str() == first {
+        return Ok(Went::Refused);
+    }
+    Ok(Went::Wrong(format!(in rt.alloc(); "{k}: {words} -> {found}, then {next}")?))
+}
+
+/// What is wrong with a line up to the first amount that is enough.
+fn line_fault(rt: &HostRuntime, line: &str, file: &str) -> io::Result<Option<String>> {
+    for k in 0..AMOUNTS.0 {
+        match went(rt, line, file, k)? {
+            Went::Done => return Ok(None),
+            Went::Refused => {}
+            Went::Wrong(fault) => return Ok(Some(fault)),
+        }
+    }
+    Ok(Some(String::from_str(rt.alloc(), line)?))
+}
+
+/// Each command that changes a file.
+const CHANGES: &str = "user-add aNEW --name Ada --db FILE -> 0 | 1 G2 login taken
+user-disable ada --db FILE -> 0
+user-enable ada --db FILE -> 0
+token-add ada --endpoints yank --patterns a,b-* --db FILE --digest \
+000000000000000000000000000000000000000000000000000000000000NEW -> 0 | 1 G5 token digest taken
+token-revoke 1 --db FILE -> 0
+reserve acmeNEW --db FILE -> 0
+unreserve acmeNEW --db FILE -> 0";
+
+/// What changes nothing.
+const READINGS: &str = "users --db FILE -> 0
+tokens --db FILE -> 0
+crates --db FILE -> 0
+access a --db FILE -> 0
+audit --db FILE -> 0
+export FILE.index --db FILE -> 0
+explain A9 -> 0
+--version -> 0
+users ada --db FILE -> 2
+user-add ada --db FILE -> 1 G2 login taken
+user-disable carol --db FILE -> 1 G3 no such login
+owner-add a ada --db FILE -> 1 G8 no such crate
+token-add ada --endpoints yank --digest 00 --db FILE -> 2 bad words
+token-add ada --endpoints yank --random FILE.none --db FILE -> 3 storage
+pipe --db FILE --setup FILE.none -> 3 storage
+pipe --memory --base r/ -> 1 bad base";
+
+fn played(rt: &HostRuntime, name: &str, script: &str) -> io::Result<Option<String>> {
+    let file = new_file(rt, name)?;
+    for line in [
+        "init --base http://127.0.0.1:8080 --db FILE",
+        "user-add ada --db FILE",
+    ] {
+        let _ = ending(rt, line, &file)?;
+    }
+    for line in script.lines() {
+        if let Some(fault) = line_fault(rt, line, &file)? {
+            return Ok(Some(fault));
+        }
+    }
+    Ok(None)
+}
+
+#[test]
+fn changes(rt: HostRuntime) -> Result<(), Fail> {
+    match played(&rt, "memory_changes", CHANGES)? {
+        Some(fault) => Err(Fail::new(fault)),
+        None => Ok(()),
+    }
+}
+
+#[test]
+fn readings(rt: HostRuntime) -> Result<(), Fail> {
+    match played(&rt, "memory_readings", READINGS)? {
+        Some(fault) => Err(Fail::new(fault)),
+        None => Ok(()),
+    }
+}
