@@ -1,5 +1,5 @@
 -- Archives that pass: their rows are those of the versions.
-use Rattle.std.proofs.Common.{◌≡◌, ◌==◌, inl, inr, ℕ, ℤ, pos, List, [], ◌∷◌, map, Bool, true, false, sym, ap, ap₂, subst, eqb-true, ◌∙◌, refl, Ordering, Less, Equal, Greater}
+use Rattle.std.proofs.Common.{◌≡◌, ◌==◌, inl, inr, ℕ, ℤ, pos, List, [], ◌∷◌, map, true, false, sym, ap, subst, ◌∙◌, refl, Ordering, Less, Equal, Greater}
 use Rattle.std.specs.Prelude.{filter}
 use Rattle.std.specs.List.{flat_map, list_any}
 use Rattle.std.specs.List.Sorted.{IsPermutation}
