@@ -12,7 +12,7 @@ use test_support::scarce_memory::Amounts;
 
 /// How many amounts there are at most. The bytes of each are so many times the square of its
 /// number.
-const AMOUNTS: (u32, u32) = (80, 1_200);
+const AMOUNTS: (u32, u32) = (40, 12_000);
 
 /// How a run ends with too little memory.
 const REFUSED: [&str; 3] = ["3 memory", "3 storage", "3 G10 storage or memory"];
