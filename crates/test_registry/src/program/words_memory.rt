@@ -48,7 +48,7 @@ enum Went {
 
 /// Runs a line with the amount of this number, and once more with ample memory. `NEW` stands for
 /// a number of four digits, another one for each amount.
-fn went(rt: &HostRuntime, line: &str, file: &str, k: u32) -> io::Result<Went> {
+fn with_amount(rt: &HostRuntime, line: &str, file: &str, k: u32) -> io::Result<Went> {
     let number = format!(in rt.alloc(); "{}", k.saturating_add(1_000))?;
     let line = line.replace(rt.alloc(), "NEW", &number)?;
     let (words, ends) = line.split_once(" -> ").unwrap_or((&line, "no arrow"));
@@ -72,7 +72,7 @@ fn went(rt: &HostRuntime, line: &str, file: &str, k: u32) -> io::Result<Went> {
 /// What is wrong with a line up to the first amount that is enough.
 fn line_fault(rt: &HostRuntime, line: &str, file: &str) -> io::Result<Option<String>> {
     for k in 0..AMOUNTS.0 {
-        match went(rt, line, file, k)? {
+        match with_amount(rt, line, file, k)? {
             Went::Done => return Ok(None),
             Went::Refused => {}
             Went::Wrong(fault) => return Ok(Some(fault)),
