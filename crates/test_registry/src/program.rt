@@ -6,4 +6,3 @@ mod piping;
 mod piping_memory;
 mod runs;
 mod words;
-mod words_memory;
