@@ -6,3 +6,4 @@ mod piping;
 mod piping_memory;
 mod runs;
 mod words;
+mod words_memory;

@@ -7,7 +7,7 @@ use std::test::Fail;
 use std::{env, fs, io};
 
 /// The words of a line behind the program's name. `FILE` stands for the test's own file.
-fn words_of(alloc: Global, line: &str, file: &str) -> Result<Vec<String>, AllocError> {
+pub(super) fn words_of(alloc: Global, line: &str, file: &str) -> Result<Vec<String>, AllocError> {
     let mut words = Vec::new(alloc);
     words.push(String::from_str(alloc, "registry_cli")?)?;
     for word in line.split(' ') {
@@ -17,7 +17,7 @@ fn words_of(alloc: Global, line: &str, file: &str) -> Result<Vec<String>, AllocE
 }
 
 /// How a run ends.
-fn ending(rt: &HostRuntime, line: &str, file: &str) -> Result<String, AllocError> {
+pub(super) fn ending(rt: &HostRuntime, line: &str, file: &str) -> Result<String, AllocError> {
     let exit = run_words(rt, &words_of(rt.alloc(), line, file)?);
     let (status, words) = (exit.status, exit.words);
     if words.is_empty() {
@@ -39,7 +39,7 @@ fn first_fault(rt: &HostRuntime, script: &str, file: &str) -> Result<String, All
 }
 
 /// A file of the test's own, which is not there.
-fn new_file(rt: &HostRuntime, name: &str) -> io::Result<String> {
+pub(super) fn new_file(rt: &HostRuntime, name: &str) -> io::Result<String> {
     let folder = env::temp_dir(rt)?;
     let folder = folder.to_str().unwrap_or("/tmp");
     let file = format!(in rt.alloc(); "{folder}/registry_cli_{name}")?;
