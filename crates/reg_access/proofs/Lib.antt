@@ -22,5 +22,6 @@ mod ScopeText
 mod Somes
 mod TokenLaw
 mod TokenText
+pub mod VersionIds
 mod VersionLaw
 mod VersionTexts

@@ -3,7 +3,7 @@
 ghost use Rattle.std.specs.Prelude.{◌≡◌, IfOk, true};
 ghost use Rattle.reg_policy.specs.Views.{action_of};
 ghost use Rattle.reg_tables.specs.Works.{Heard, IsAtWork, IsCall, Unmoved, rows_seen};
-ghost use Rattle.reg_access.specs.Admitted.{HasItsCrate, IsAdmission, TellsCaller, decision_in};
+ghost use Rattle.reg_access.specs.Admitted.{HasItsCrate, HasItsVersion, IsAdmission, TellsCaller, decision_in};
 ghost use Rattle.reg_access.specs.Asks.{Asks};
 ghost use Rattle.reg_access.specs.Verdict.{IsPolicy, IsVerdict, is_fit};
 
@@ -25,6 +25,7 @@ fn judge<S: Alter>(
     ensures asks { Asks S.Store work.old work.new result
         (IsAdmission digest.now (action_of action.now)) }
     ensures there { IfOk result (HasItsCrate (action_of action.now)) }
+    ensures named { IfOk result (HasItsVersion (action_of action.now)) }
 {
     let Some(token) = find_token(work, digest)? else {
         return Ok(Admission::Denied(Rule::A2));
@@ -44,7 +45,7 @@ fn fits(action: &Action)
 }
 
 /// Whether the tables allow an action of the token with this digest: the first access rule that it
-/// breaks, or who is allowed and the crate that was found. The decision holds for any rows; if they
+/// breaks, or who is allowed and what was found. The decision holds for any rows; if they
 /// stand for a registry, it is the written policy's.
 pub fn admit<S: Alter>(
     work: &mut Work<'_, S>,
@@ -59,6 +60,7 @@ pub fn admit<S: Alter>(
     ensures found { Heard S.Store work.new result
         (TellsCaller digest.now (action_of action.now) (rows_seen S.Store work.old)) }
     ensures there { IfOk result (HasItsCrate (action_of action.now)) }
+    ensures named { IfOk result (HasItsVersion (action_of action.now)) }
     ensures same { Unmoved S.Store result work.old work.new }
     ensures leaves { IsCall S.Store result work.old work.new }
 {
