@@ -84,12 +84,6 @@ FindsTokenRow digest db found = Tells (λ ids s. IsRow s digest found) db
 abbrev pub FindsToken : Text → Trees → Option TokenRows → Type 0
 FindsToken digest db found = Tells (λ ids s. IsFound s digest found) db
 
--- the scopes of a token that is there, by place
-abbrev pub ListsScopesOf : ℕ → Trees → List Scope → Type 0
-ListsScopesOf token db list = Tells
-    (λ ids s. (t : _) → with_id s.tokens token ≡ Some t
-    → map columns_of_scope list ≡ scopes_of (token, t)) db
-
 abbrev pub ListsTokens : Trees → List Token → Type 0
 ListsTokens db list = Tells (λ ids s.
     map entry_of_token list ≡ map without_patterns (enumerate_from 1 s.tokens)) db

@@ -56,21 +56,6 @@ fn reaches(number: u64, count: u64) -> Result<bool, Error>
     }
 }
 
-// The same as `reaches_versions`, by counting them.
-fn has_versions<S: Alter>(
-    conn: &mut Connection<S>,
-    crate_id: u32,
-    number: u64,
-) -> Result<bool, Error>
-    requires { IsReady (state S.Store conn.old) }
-    ensures told { Told S.Store conn.new result
-        (ReachesVersions crate_id number (rows_in S.Store conn.old)) }
-    ensures same { KeepsAll S.Store conn.old conn.new result }
-{
-    let count = versions::count_of(conn, crate_id)?;
-    reaches(number, count)
-}
-
 // Whether fewer ids were taken, up to the last, than make this number.
 fn are_few(last: Option<u64>, number: u64) -> bool
     ensures { result ≡ nat_lt (unwrap_or last 0) (number - 1) }
@@ -94,7 +79,8 @@ pub fn reaches_versions<S: Alter>(
     if are_few(last, number) {
         return Ok(false);
     }
-    has_versions(conn, crate_id, number)
+    let count = versions::count_of(conn, crate_id)?;
+    reaches(number, count)
 }
 
 /// The archive of exactly this version of a crate.
