@@ -89,7 +89,9 @@ impl FromRow for VersionMark {
     ghost columns = { columns_of_mark };
 
     fn from_row(row: &Row) -> Result<VersionMark, Error> {
-        read_columns!(row, 4 => VersionMark { id: 0, vers: 1, stem_length: 2, yanked: 3 by mark_of })
+        read_columns!(row, 4 => VersionMark {
+            id: 0, vers: 1, stem_length: 2, yanked: 3 by mark_of
+        })
     }
 }
 
