@@ -13,6 +13,7 @@ pub mod Masked
 pub mod Members
 pub mod Places
 pub mod Plain
+pub mod Room
 pub mod Runs
 pub mod Seen
 pub mod SightAnswers

@@ -1,6 +1,6 @@
 //! Laws of the definitions, each the contract of a function that does nothing.
 
-ghost use Rattle.reg_model.specs.Laws.{AccessComesFirst, DenialsKeep, DenialsName, EmptySound, GrantsArePolicy, IndexPathsAreOfCrates, PlainMatches, PlainVerdicts, RefusalsKeep, RunsJoin, RunsKeepSound, SightAnswers, StemsGrow, StepsAgree, StepsKeepSound, StepsRun, WiderAllows, WiderOrders};
+ghost use Rattle.reg_model.specs.Laws.{AccessComesFirst, DenialsKeep, DenialsName, EmptySound, FilesHaveRoom, GrantsArePolicy, IndexPathsAreOfCrates, PlainMatches, PlainVerdicts, RefusalsKeep, RunsJoin, RunsKeepSound, SightAnswers, StemsGrow, StepsAgree, StepsKeepSound, StepsRun, WiderAllows, WiderOrders};
 
 /// Steps in a row form a run.
 pub fn run_law()
@@ -33,6 +33,11 @@ pub fn agreement_law()
 pub fn growth_law()
     ensures grows { StemsGrow }
     ensures sound { RunsKeepSound }
+{}
+
+/// A crate has no more versions than its index file has room for.
+pub fn room_law()
+    ensures { FilesHaveRoom }
 {}
 
 /// What begins sound stays sound.
