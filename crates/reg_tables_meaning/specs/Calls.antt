@@ -211,10 +211,10 @@ Counted number db n = Tells (λ ids s. n ≡ number s) db
 abbrev pub ReachesCrates : ℕ → Trees → Bool → Type 0
 ReachesCrates number db is = Tells (λ ids s. is ≡ nat_le number (model.crates s)) db
 
--- whether the crate with this id has as many versions as this; none where there is no crate
-abbrev pub ReachesVersions : ℕ → ℕ → Trees → Bool → Type 0
-ReachesVersions id number db is = Tells (λ ids s.
-    is ≡ nat_le number (told_of (spelling_at ids id) 0 (λ name. length (versions s name)))) db
+-- whether the crate with this id and this spelling has as many versions as this
+abbrev pub ReachesVersions : ℕ → Text → ℕ → Trees → Bool → Type 0
+ReachesVersions id name number db is = Tells (λ ids s.
+    spelling_at ids id ≡ Some name → is ≡ nat_le number (length (versions s name))) db
 
 abbrev pub CountsAll : Trees → Counts → Type 0
 CountsAll db n = Tells
