@@ -6,7 +6,7 @@ ghost use Rattle.sqlite.specs.Held.{state};
 ghost use Rattle.reg_tables_schema.specs.States.{IsReady};
 ghost use Rattle.reg_tables_schema.specs.Statements.{rows_in};
 ghost use Rattle.reg_tables_schema.specs.Steps.{Done, KeepsAll, Steps, Told};
-ghost use Rattle.reg_tables_meaning.specs.Calls.{AddsToken, Ends, FindsToken, FindsTokenRow, ListsScopes, ListsTokens};
+ghost use Rattle.reg_tables_meaning.specs.Calls.{AddsToken, Ends, FindsToken, FindsTokenRow, ListsScopes, ListsTokens, TellsLive};
 ghost use Rattle.reg_tables_schema.specs.Changes.{AddsColumns};
 ghost use Rattle.reg_tables_schema.specs.Places.{scopes_tree};
 ghost use Rattle.reg_tables_meaning.specs.Patterns.{GivesPatterns};
@@ -166,6 +166,18 @@ pub fn find<S: Alter>(
             let scopes = scopes::of_token(alloc, conn, token.id)?;
             Ok(Some(TokenRows { token, scopes }))
         }
+    }
+}
+
+/// Whether a token is live, if there is one with this id.
+pub fn is_live<S: Alter>(conn: &mut Connection<S>, id: u32) -> Result<Option<bool>, Error>
+    requires { IsReady (state S.Store conn.old) }
+    ensures told { Told S.Store conn.new result (TellsLive id (rows_in S.Store conn.old)) }
+    ensures same { KeepsAll S.Store conn.old conn.new result }
+{
+    match tokens::by_id(conn, id)? {
+        Some(token) => Ok(Some(token.live)),
+        None => Ok(None),
     }
 }
 

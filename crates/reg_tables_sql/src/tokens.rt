@@ -9,7 +9,7 @@ ghost use Rattle.reg_tables_schema.specs.Rows.{mark};
 ghost use Rattle.reg_tables_schema.specs.States.{IsReady};
 ghost use Rattle.reg_tables_schema.specs.Statements.{Reads, Writes, rows_in};
 ghost use Rattle.reg_tables_sql.specs.Counts.{IsLastId};
-ghost use Rattle.reg_tables_sql.specs.Tokens.{AreTokens, IsTokenOfDigest, Revokes, columns_of_token, columns_with_account, token_row};
+ghost use Rattle.reg_tables_sql.specs.Tokens.{AreTokens, IsTokenOfDigest, IsTokenWithId, Revokes, columns_of_token, columns_with_account, token_row};
 
 use crate::marks::mark_of;
 use crate::records::{FromRow, read_columns};
@@ -127,6 +127,19 @@ pub fn by_digest<S: Alter>(
         t.change_owners, a.login, a.enabled FROM tokens t JOIN accounts a ON a.id = t.account \
         WHERE t.digest = ?1";
     select_one(conn, text, params![digest.as_slice()])
+}
+
+/// The token with this id, if there is one.
+pub fn by_id<S: Alter>(conn: &mut Connection<S>, id: u32) -> Result<Option<Token>, Error>
+    requires { IsReady (state S.Store conn.old) }
+    ensures { Reads S.Store conn.old conn.new result (IsTokenWithId id (rows_in S.Store conn.old)) }
+{
+    select_one(
+        conn,
+        "SELECT id, digest, account, live, publish_new, publish_update, yank, change_owners FROM \
+        tokens WHERE id = ?1",
+        params![id],
+    )
 }
 
 /// All tokens, by id.
