@@ -82,11 +82,11 @@ finds_with_id tokens db stands id found h =
 
 short_filter : (id : ℕ) (es : List (ℕ × model.Token)) → filter (λ e. e.0 == id) (map without_patterns es) ≡ map without_patterns (filter (λ e. e.0 == id) es)
 short_filter id [] = refl
-short_filter id (e ∷ es) = by (e.0 == id)
+short_filter id (e ∷ es) = by (short_filter id es) (e.0 == id)
   where
-    by : (b : Bool) → cond b (without_patterns e ∷ filter (λ e. e.0 == id) (map without_patterns es)) (filter (λ e. e.0 == id) (map without_patterns es)) ≡ map without_patterns (cond b (e ∷ filter (λ e. e.0 == id) es) (filter (λ e. e.0 == id) es))
-    by true = ?
-    by false = ?
+    by : filter (λ e. e.0 == id) (map without_patterns es) ≡ map without_patterns (filter (λ e. e.0 == id) es) → (b : Bool) → cond b (without_patterns e ∷ filter (λ e. e.0 == id) (map without_patterns es)) (filter (λ e. e.0 == id) (map without_patterns es)) ≡ map without_patterns (cond b (e ∷ filter (λ e. e.0 == id) es) (filter (λ e. e.0 == id) es))
+    by rest true = ap (λ l. without_patterns e ∷ l) rest
+    by rest false = rest
 
 pub live_told : (tokens : List model.Token) (db : Trees) → StandTokens tokens db → (id : ℕ) (found : Option Token) → IsTokenWithId id db found → option_map (λ t. t.live) found ≡ option_map (λ t. t.live) (model.with_id tokens id)
 live_told tokens db stands id found h = by (model.with_id tokens id) refl found (sym (short_filter id (enumerate_from 1 tokens)) ∙ finds_with_id tokens db stands id found h)
