@@ -20,7 +20,7 @@ pub mod laws;
 mod line_read;
 mod lines;
 mod stem_check;
-mod values;
+pub mod values;
 
 pub use base::is_base;
 pub use config_file::config;
