@@ -4,6 +4,7 @@ pub mod Asking
 mod Frames
 pub mod Given
 mod Histories
+pub mod Lines
 pub mod Marks
 mod Opened
 pub mod Ordered

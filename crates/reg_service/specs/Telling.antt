@@ -1,5 +1,5 @@
 -- What an event would change, told before it is done.
-use Rattle.std.specs.Prelude.{◌≡◌, ◌∷◌, Bool, true, false, List, [], codes, not, None, Option, Some, Result, Ok, String, string_bytes}
+use Rattle.std.specs.Prelude.{◌≡◌, ◌∷◌, Bool, true, false, List, [], codes, not, None, Option, Some, Result, Ok, Err, String, string_bytes}
 use Rattle.std.specs.List.{list_all, list_any}
 use Rattle.std.specs.declared.alloc.AllocError.{AllocError}
 use Rattle.std.specs.declared.alloc.Global.{Global}
@@ -7,18 +7,53 @@ use Rattle.std.specs.Fmt.{decimal}
 use Rattle.std.specs.Option.{option_map}
 use Rattle.sqlite.specs.Tree.{Trees}
 use Rattle.reg_body.specs.declared.limits.Limits.{Limits}
-use Rattle.reg_model.specs.Events.{Asked, Event}
+use Rattle.reg_model.specs.declared.rule.AdminRefusal.{AdminRefusal}
+use Rattle.reg_model.specs.Events.{Asked, Command, Event}
+use Rattle.reg_model.specs.Events.Event.{Ask, Order}
 use Rattle.reg_model.specs.Events.Asked.{AddOwners, Publish, RemoveOwners, Unyank, Yank}
 use Rattle.reg_model.specs.Refusals.{denied}
 use Rattle.reg_model.specs.Registry.{Text, token_of}
 use Rattle.reg_model.specs.Trail.{IsPassed, asker, line, line_of, request_words}
 use Rattle.reg_tables_meaning.specs.Calls.{Tells}
 use Rattle.reg_service.specs.declared.telling.requests.Asker.{Asker}
+use Rattle.reg_policy.specs.Events.{reply_of}
+use Rattle.reg_policy.specs.declared.event.AdminReply.{AdminReply}
+use Rattle.reg_service_commands.specs.Orders.{HasOutcome}
+use Rattle.reg_service.specs.declared.telling.ordering.OrderTold.{OrderTold}
+use Rattle.reg_service.specs.declared.telling.serving.ServedTold.{ServedTold}
+use Rattle.reg_api_replies.specs.declared.reply.Reply.{Reply}
+use Rattle.reg_api_replies.specs.declared.reply.Reply.TheVariants.{Done}
+use Rattle.reg_service_requests.specs.Serves.{Serves}
 
 -- this is the line of the event, where nothing refuses it
 abbrev pub TellsLine : Event → Trees → Option (String Global) → Type 0
 TellsLine e db found = Tells (λ ids s. (limits : Limits) → IsPassed limits s e
     → line limits s e ≡ option_map string_bytes found) db
+
+-- the same, if a line is wanted
+abbrev pub TellsIf : Bool → Event → Trees → Option (String Global) → Type 0
+TellsIf true e db found = TellsLine e db found
+TellsIf false e db found = found ≡ None
+
+-- the outcome of a request, and its line if one is wanted
+abbrev pub ServesTold : Bool → Limits → Option Text → Asked → Trees → Trees → ServedTold → Type 0
+ServesTold traced limits digest asked old new it =
+    Serves limits digest asked old new it.served × TellsIf traced (Ask digest asked) old it.line
+
+-- the line that goes with a reply: a denial has none
+abbrev pub line_with : Reply → Option (String Global) → Option Text
+line_with (Done kind body) found = option_map string_bytes found
+line_with _ found = None
+
+-- the same of a command
+abbrev pub OrdersTold : Bool → Limits → Command → Trees → Trees → OrderTold → Type 0
+OrdersTold traced limits c old new it =
+    HasOutcome limits (Order c) (reply_of it.answer) old new × TellsIf traced (Order c) old it.line
+
+-- the line that goes with an answer: a refusal has none
+abbrev pub line_of_answer : Result AdminReply AdminRefusal → Option (String Global) → Option Text
+line_of_answer (Ok reply) found = option_map string_bytes found
+line_of_answer (Err g) found = None
 
 -- this is who asks with the token of this digest
 abbrev pub IsAsker : Text → Asker → Trees → Type 0
