@@ -1,4 +1,3 @@
-mod AccessOrder
 mod Admitting
 mod Answered
 pub mod Calls
@@ -22,6 +21,5 @@ mod ScopeText
 mod Somes
 mod TokenLaw
 mod TokenText
-pub mod VersionIds
 mod VersionLaw
 mod VersionTexts

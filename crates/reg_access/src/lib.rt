@@ -21,6 +21,7 @@ mod found;
 mod granting;
 mod grants;
 pub mod laws;
+mod orders;
 mod reading;
 mod texts;
 

@@ -24,6 +24,7 @@ mod pile;
 mod refused;
 mod reply;
 mod sending;
+mod values;
 
 pub use bytes::{SendFault, write_bytes};
 pub use fixed_text::FixedText;

@@ -4,6 +4,5 @@ pub mod Features
 pub mod File
 pub mod Line
 pub mod LineRead
-pub mod Shortest
 pub mod StemCheck
 pub mod Parts

@@ -24,12 +24,15 @@ fn put_manifest(
     ensures { OnOk result (members_view line.new.entries
         ≡ manifest_members (manifest_view manifest.now) (members_view line.old.entries)) }
 {
-    let deps = Value::Array(dep_values(alloc, &manifest.deps)?);
-    put(line, alloc, "deps", deps)?;
-    put_text_or_null(line, alloc, "links", manifest.links.as_deref())?;
+    put(
+        line,
+        alloc,
+        "deps",
+        Value::Array(dep_values(alloc, &manifest.deps)?),
+    )?;
+    put_text_or_null(line, alloc, "links", &manifest.links)?;
     put_text(line, alloc, "name", manifest.name.as_str())?;
-    let rust_version = manifest.rust_version.as_deref();
-    put_text_or_null(line, alloc, "rust_version", rust_version)?;
+    put_text_or_null(line, alloc, "rust_version", &manifest.rust_version)?;
     put_text(line, alloc, "vers", manifest.vers.as_str())
 }
 

@@ -1,7 +1,6 @@
 //! The parts of a line as JSON values.
 
-ghost use Rattle.std.specs.Prelude.{◌≡◌, IfOk, OnOk, map, string_bytes};
-ghost use Rattle.std.specs.Option.{option_copied};
+ghost use Rattle.std.specs.Prelude.{◌≡◌, IfOk, OnOk, map, option_map, string_bytes};
 ghost use Rattle.serde_json.specs.Data.{put, string};
 ghost use Rattle.serde_json.specs.View.{members_view, view};
 ghost use Rattle.reg_manifest.specs.Manifests.{dep_view};
@@ -13,17 +12,17 @@ use serde_json::{Map, Value, put};
 use std::alloc::{AllocError, Global};
 
 /// A text, or null.
-fn text_or_null(alloc: Global, text: Option<&str>) -> Result<Value, AllocError>
-    ensures { IfOk result (λ v. view v ≡ text_or_null (option_copied text.entry)) }
+pub(crate) fn text_or_null(alloc: Global, text: &Option<String>) -> Result<Value, AllocError>
+    ensures { IfOk result (λ v. view v ≡ text_or_null (option_map string_bytes text.now)) }
 {
     match text {
-        Some(text) => Value::try_from_str(alloc, text),
+        Some(text) => Value::try_from_str(alloc, text.as_str()),
         None => Ok(Value::Null),
     }
 }
 
 /// Puts a text at a key.
-pub fn put_text(
+pub(crate) fn put_text(
     object: &mut Map<String, Value>,
     alloc: Global,
     key: &str,
@@ -47,14 +46,14 @@ pub(crate) fn texts(alloc: Global, list: &[String]) -> Result<Vec<Value>, AllocE
 }
 
 /// Puts a text, or null, at a key.
-pub fn put_text_or_null(
+pub(crate) fn put_text_or_null(
     object: &mut Map<String, Value>,
     alloc: Global,
     key: &str,
-    text: Option<&str>,
+    text: &Option<String>,
 ) -> Result<(), AllocError>
     ensures { OnOk result (members_view object.new.entries
-        ≡ put key.now (text_or_null (option_copied text.entry))
+        ≡ put key.now (text_or_null (option_map string_bytes text.now))
         (members_view object.old.entries)) }
 {
     put(object, alloc, key, text_or_null(alloc, text)?)
@@ -76,8 +75,12 @@ fn put_first(
         "default_features",
         Value::Bool(dep.default_features),
     )?;
-    let features = Value::Array(texts(alloc, &dep.features)?);
-    put(object, alloc, "features", features)?;
+    put(
+        object,
+        alloc,
+        "features",
+        Value::Array(texts(alloc, &dep.features)?),
+    )?;
     put_text(object, alloc, "kind", dep.kind.as_str())?;
     put_text(object, alloc, "name", name)?;
     put(object, alloc, "optional", Value::Bool(dep.optional))
@@ -90,9 +93,9 @@ fn dep_object(alloc: Global, dep: &Dep, name: &str, own: Value) -> Result<Value,
     let mut object = Map::new(alloc);
     put(&mut object, alloc, "package", own)?;
     put_first(&mut object, alloc, dep, name)?;
-    put_text_or_null(&mut object, alloc, "registry", dep.registry.as_deref())?;
+    put_text_or_null(&mut object, alloc, "registry", &dep.registry)?;
     put_text(&mut object, alloc, "req", dep.version_req.as_str())?;
-    put_text_or_null(&mut object, alloc, "target", dep.target.as_deref())?;
+    put_text_or_null(&mut object, alloc, "target", &dep.target)?;
     Ok(Value::Object(object))
 }
 

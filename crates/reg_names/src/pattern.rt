@@ -13,14 +13,16 @@ use std::marker::Model;
 
 /// A crate name, or a prefix of names followed by `*`. It keeps its text as given.
 #[derive(Drop)]
-pub struct Pattern(ArrayString<65>);
+pub struct Pattern {
+    text: ArrayString<65>,
+}
 
 impl Model for Pattern {
     ghost Value = { List ℕ };
 
-    ghost view = { λ p. p.0.bytes };
+    ghost view = { λ p. p.text.bytes };
 
-    ghost invariant = { λ p. is_pattern p.0.bytes ≡ true };
+    ghost invariant = { λ p. is_pattern p.text.bytes ≡ true };
 }
 
 pub(crate) fn has_star(bytes: &[u8]) -> bool
@@ -76,7 +78,7 @@ impl Pattern {
             return None;
         }
         match ArrayString::from(text) {
-            Ok(text) => Some(Pattern(text)),
+            Ok(text) => Some(Pattern { text }),
             Err(_) => None,
         }
     }
@@ -87,7 +89,7 @@ impl Pattern {
         ensures pattern { is_pattern result.now ≡ true }
         ensures fits { length result.now ≤ 65 }
     {
-        self.0.as_str()
+        self.text.as_str()
     }
 }
 

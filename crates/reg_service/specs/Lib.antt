@@ -1,9 +1,6 @@
 pub mod Answered
 pub mod Handled
 pub mod Looked
-pub mod Reading
 pub mod Registries
 pub mod Sequences
-pub mod Spelled
 pub mod Streamed
-pub mod Telling

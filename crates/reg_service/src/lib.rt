@@ -18,7 +18,6 @@ mod registry;
 mod searching;
 mod sequences;
 mod streaming;
-mod telling;
 mod transactions;
 
 pub use opening::OpenFault;

@@ -1,4 +1,1 @@
 pub mod Orders
-pub mod ReportedCrates
-pub mod ReportedTokens
-pub mod Reports

@@ -13,4 +13,3 @@ pub mod Publications
 pub mod ReadingServed
 mod Rising
 pub mod Running
-mod VersionArchives

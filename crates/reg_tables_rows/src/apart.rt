@@ -46,33 +46,37 @@ fn rise(ids: &[i64]) -> bool
     }
 }
 
-fn check_that(holds: bool) -> Result<(), Error>
-    ensures { OnOk result (IsTrue holds) }
+fn check(rowids: &[i64]) -> Result<(), Error>
+    ensures { OnOk result ((tree : ℕ) (db : Trees) → AreRowids tree db rowids.now
+        → HaveOwnRowids (db tree)) }
 {
-    if !holds {
+    if !rise(rowids) {
         return Err(Error::InvalidQuery);
     }
     Ok(())
 }
 
-fn check(rowids: &[i64]) -> Result<(), Error>
-    ensures { OnOk result ((tree : ℕ) (db : Trees) → AreRowids tree db rowids.now
-        → HaveOwnRowids (db tree)) }
-{
-    check_that(rise(rowids))
-}
-
 fn crates_rise(crates: &[Crate]) -> bool
     ensures { IsTrue result ↔ AllAdjacentBelow (λ a b. a.id < b.id) crates.now (length crates.now) }
 {
-    crates.windows(2).all(|pair| pair[0].id < pair[1].id)
+    for i in 1..crates.len() {
+        if crates[i].id <= crates[i - 1].id {
+            return false;
+        }
+    }
+    true
 }
 
 fn versions_rise(versions: &[Version]) -> bool
     ensures { IsTrue result
         ↔ AllAdjacentBelow (λ a b. a.id < b.id) versions.now (length versions.now) }
 {
-    versions.windows(2).all(|pair| pair[0].id < pair[1].id)
+    for i in 1..versions.len() {
+        if versions[i].id <= versions[i - 1].id {
+            return false;
+        }
+    }
+    true
 }
 
 /// Succeeds only if no two of all crates share a rowid, which is their id.
@@ -80,7 +84,10 @@ pub(crate) fn check_crates(crates: &[Crate]) -> Result<(), Error>
     ensures { OnOk result ((db : Trees) → AreCratesById db crates.now
         → HaveOwnRowids (db crates_tree)) }
 {
-    check_that(crates_rise(crates))
+    if !crates_rise(crates) {
+        return Err(Error::InvalidQuery);
+    }
+    Ok(())
 }
 
 /// Succeeds only if no two of all versions share a rowid, which is their id.
@@ -88,7 +95,10 @@ pub(crate) fn check_versions(versions: &[Version]) -> Result<(), Error>
     ensures { OnOk result ((db : Trees) → AreVersions db versions.now
         → HaveOwnRowids (db versions_tree)) }
 {
-    check_that(versions_rise(versions))
+    if !versions_rise(versions) {
+        return Err(Error::InvalidQuery);
+    }
+    Ok(())
 }
 
 /// Succeeds only if no two rows of a table share a rowid, in the tables whose rowids are SQL's own.

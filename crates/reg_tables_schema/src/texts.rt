@@ -1,10 +1,10 @@
 //! The texts that make the tables, and one function for each.
 
-ghost use Rattle.sqlite.specs.State.{HasCleanDisk};
+ghost use Rattle.sqlite.specs.State.{HasCleanDisk, Survives};
 ghost use Rattle.sqlite.specs.Held.{state};
+ghost use Rattle.std.specs.Prelude.{OnOk, OnErr};
 ghost use Rattle.reg_tables_schema.specs.Schema.{ours, old_schema, blank, first_of_ours};
-ghost use Rattle.reg_tables_schema.specs.States.{Grows, HasMade, IsInsideWith, Makes};
-ghost use Rattle.reg_tables_schema.specs.Statements.{Writes};
+ghost use Rattle.reg_tables_schema.specs.States.{Grows, HasMade, IsInsideWith, Makes, Refuses};
 
 use sqlite::{Alter, Connection, Error};
 
@@ -62,7 +62,11 @@ pub(crate) const READERS: &str =
 
 pub fn create_about<S: Alter>(conn: &mut Connection<S>) -> Result<usize, Error>
     requires { HasCleanDisk (state S.Store conn.old) → HasMade blank (state S.Store conn.old) }
-    ensures { Writes S.Store conn.old conn.new result (Makes (first_of_ours 1 0)) }
+    ensures made { HasCleanDisk (state S.Store conn.new) → OnOk result
+        (Makes (first_of_ours 1 0) (state S.Store conn.old) (state S.Store conn.new)) }
+    ensures refused { HasCleanDisk (state S.Store conn.new) → OnErr result
+        (Refuses (state S.Store conn.old) (state S.Store conn.new)) }
+    ensures survives { Survives (state S.Store conn.old) (state S.Store conn.new) (λ _. ⊥) }
 {
     conn.execute(ABOUT, &[])
 }
@@ -70,7 +74,11 @@ pub fn create_about<S: Alter>(conn: &mut Connection<S>) -> Result<usize, Error>
 pub fn create_accounts<S: Alter>(conn: &mut Connection<S>) -> Result<usize, Error>
     requires { HasCleanDisk (state S.Store conn.old) → HasMade (first_of_ours 1 0)
         (state S.Store conn.old) }
-    ensures { Writes S.Store conn.old conn.new result (Makes (first_of_ours 2 1)) }
+    ensures made { HasCleanDisk (state S.Store conn.new) → OnOk result
+        (Makes (first_of_ours 2 1) (state S.Store conn.old) (state S.Store conn.new)) }
+    ensures refused { HasCleanDisk (state S.Store conn.new) → OnErr result
+        (Refuses (state S.Store conn.old) (state S.Store conn.new)) }
+    ensures survives { Survives (state S.Store conn.old) (state S.Store conn.new) (λ _. ⊥) }
 {
     conn.execute(ACCOUNTS, &[])
 }
@@ -78,7 +86,11 @@ pub fn create_accounts<S: Alter>(conn: &mut Connection<S>) -> Result<usize, Erro
 pub fn create_tokens<S: Alter>(conn: &mut Connection<S>) -> Result<usize, Error>
     requires { HasCleanDisk (state S.Store conn.old) → HasMade (first_of_ours 2 1)
         (state S.Store conn.old) }
-    ensures { Writes S.Store conn.old conn.new result (Makes (first_of_ours 3 2)) }
+    ensures made { HasCleanDisk (state S.Store conn.new) → OnOk result
+        (Makes (first_of_ours 3 2) (state S.Store conn.old) (state S.Store conn.new)) }
+    ensures refused { HasCleanDisk (state S.Store conn.new) → OnErr result
+        (Refuses (state S.Store conn.old) (state S.Store conn.new)) }
+    ensures survives { Survives (state S.Store conn.old) (state S.Store conn.new) (λ _. ⊥) }
 {
     conn.execute(TOKENS, &[])
 }
@@ -86,7 +98,11 @@ pub fn create_tokens<S: Alter>(conn: &mut Connection<S>) -> Result<usize, Error>
 pub fn create_scopes<S: Alter>(conn: &mut Connection<S>) -> Result<usize, Error>
     requires { HasCleanDisk (state S.Store conn.old) → HasMade (first_of_ours 3 2)
         (state S.Store conn.old) }
-    ensures { Writes S.Store conn.old conn.new result (Makes (first_of_ours 4 3)) }
+    ensures made { HasCleanDisk (state S.Store conn.new) → OnOk result
+        (Makes (first_of_ours 4 3) (state S.Store conn.old) (state S.Store conn.new)) }
+    ensures refused { HasCleanDisk (state S.Store conn.new) → OnErr result
+        (Refuses (state S.Store conn.old) (state S.Store conn.new)) }
+    ensures survives { Survives (state S.Store conn.old) (state S.Store conn.new) (λ _. ⊥) }
 {
     conn.execute(SCOPES, &[])
 }
@@ -94,7 +110,11 @@ pub fn create_scopes<S: Alter>(conn: &mut Connection<S>) -> Result<usize, Error>
 pub fn create_crates<S: Alter>(conn: &mut Connection<S>) -> Result<usize, Error>
     requires { HasCleanDisk (state S.Store conn.old) → HasMade (first_of_ours 4 3)
         (state S.Store conn.old) }
-    ensures { Writes S.Store conn.old conn.new result (Makes (first_of_ours 5 4)) }
+    ensures made { HasCleanDisk (state S.Store conn.new) → OnOk result
+        (Makes (first_of_ours 5 4) (state S.Store conn.old) (state S.Store conn.new)) }
+    ensures refused { HasCleanDisk (state S.Store conn.new) → OnErr result
+        (Refuses (state S.Store conn.old) (state S.Store conn.new)) }
+    ensures survives { Survives (state S.Store conn.old) (state S.Store conn.new) (λ _. ⊥) }
 {
     conn.execute(CRATES, &[])
 }
@@ -102,7 +122,11 @@ pub fn create_crates<S: Alter>(conn: &mut Connection<S>) -> Result<usize, Error>
 pub fn create_owners<S: Alter>(conn: &mut Connection<S>) -> Result<usize, Error>
     requires { HasCleanDisk (state S.Store conn.old) → HasMade (first_of_ours 5 4)
         (state S.Store conn.old) }
-    ensures { Writes S.Store conn.old conn.new result (Makes (first_of_ours 6 5)) }
+    ensures made { HasCleanDisk (state S.Store conn.new) → OnOk result
+        (Makes (first_of_ours 6 5) (state S.Store conn.old) (state S.Store conn.new)) }
+    ensures refused { HasCleanDisk (state S.Store conn.new) → OnErr result
+        (Refuses (state S.Store conn.old) (state S.Store conn.new)) }
+    ensures survives { Survives (state S.Store conn.old) (state S.Store conn.new) (λ _. ⊥) }
 {
     conn.execute(OWNERS, &[])
 }
@@ -110,7 +134,11 @@ pub fn create_owners<S: Alter>(conn: &mut Connection<S>) -> Result<usize, Error>
 pub fn create_versions<S: Alter>(conn: &mut Connection<S>) -> Result<usize, Error>
     requires { HasCleanDisk (state S.Store conn.old) → HasMade (first_of_ours 6 5)
         (state S.Store conn.old) }
-    ensures { Writes S.Store conn.old conn.new result (Makes (first_of_ours 7 6)) }
+    ensures made { HasCleanDisk (state S.Store conn.new) → OnOk result
+        (Makes (first_of_ours 7 6) (state S.Store conn.old) (state S.Store conn.new)) }
+    ensures refused { HasCleanDisk (state S.Store conn.new) → OnErr result
+        (Refuses (state S.Store conn.old) (state S.Store conn.new)) }
+    ensures survives { Survives (state S.Store conn.old) (state S.Store conn.new) (λ _. ⊥) }
 {
     conn.execute(VERSIONS, &[])
 }
@@ -118,7 +146,11 @@ pub fn create_versions<S: Alter>(conn: &mut Connection<S>) -> Result<usize, Erro
 pub fn create_archives<S: Alter>(conn: &mut Connection<S>) -> Result<usize, Error>
     requires { HasCleanDisk (state S.Store conn.old) → HasMade (first_of_ours 7 6)
         (state S.Store conn.old) }
-    ensures { Writes S.Store conn.old conn.new result (Makes (first_of_ours 8 6)) }
+    ensures made { HasCleanDisk (state S.Store conn.new) → OnOk result
+        (Makes (first_of_ours 8 6) (state S.Store conn.old) (state S.Store conn.new)) }
+    ensures refused { HasCleanDisk (state S.Store conn.new) → OnErr result
+        (Refuses (state S.Store conn.old) (state S.Store conn.new)) }
+    ensures survives { Survives (state S.Store conn.old) (state S.Store conn.new) (λ _. ⊥) }
 {
     conn.execute(ARCHIVES, &[])
 }
@@ -126,7 +158,11 @@ pub fn create_archives<S: Alter>(conn: &mut Connection<S>) -> Result<usize, Erro
 pub fn create_reserved<S: Alter>(conn: &mut Connection<S>) -> Result<usize, Error>
     requires { HasCleanDisk (state S.Store conn.old) → HasMade (first_of_ours 8 6)
         (state S.Store conn.old) }
-    ensures { Writes S.Store conn.old conn.new result (Makes (first_of_ours 9 7)) }
+    ensures made { HasCleanDisk (state S.Store conn.new) → OnOk result
+        (Makes (first_of_ours 9 7) (state S.Store conn.old) (state S.Store conn.new)) }
+    ensures refused { HasCleanDisk (state S.Store conn.new) → OnErr result
+        (Refuses (state S.Store conn.old) (state S.Store conn.new)) }
+    ensures survives { Survives (state S.Store conn.old) (state S.Store conn.new) (λ _. ⊥) }
 {
     conn.execute(RESERVED, &[])
 }
@@ -134,7 +170,11 @@ pub fn create_reserved<S: Alter>(conn: &mut Connection<S>) -> Result<usize, Erro
 pub fn create_summaries<S: Alter>(conn: &mut Connection<S>) -> Result<usize, Error>
     requires { HasCleanDisk (state S.Store conn.old) → HasMade (first_of_ours 9 7)
         (state S.Store conn.old) }
-    ensures { Writes S.Store conn.old conn.new result (Makes old_schema) }
+    ensures made { HasCleanDisk (state S.Store conn.new) → OnOk result
+        (Makes old_schema (state S.Store conn.old) (state S.Store conn.new)) }
+    ensures refused { HasCleanDisk (state S.Store conn.new) → OnErr result
+        (Refuses (state S.Store conn.old) (state S.Store conn.new)) }
+    ensures survives { Survives (state S.Store conn.old) (state S.Store conn.new) (λ _. ⊥) }
 {
     conn.execute(SUMMARIES, &[])
 }
@@ -142,7 +182,12 @@ pub fn create_summaries<S: Alter>(conn: &mut Connection<S>) -> Result<usize, Err
 pub fn create_restricted<S: Alter>(conn: &mut Connection<S>) -> Result<usize, Error>
     requires { HasCleanDisk (state S.Store conn.old) → IsInsideWith old_schema
         (state S.Store conn.old) }
-    ensures { Writes S.Store conn.old conn.new result (Grows old_schema (first_of_ours 11 7) 17) }
+    ensures made { HasCleanDisk (state S.Store conn.new) → OnOk result
+        (Grows old_schema (first_of_ours 11 7) 17
+        (state S.Store conn.old) (state S.Store conn.new)) }
+    ensures refused { HasCleanDisk (state S.Store conn.new) → OnErr result
+        (Refuses (state S.Store conn.old) (state S.Store conn.new)) }
+    ensures survives { Survives (state S.Store conn.old) (state S.Store conn.new) (λ _. ⊥) }
 {
     conn.execute(RESTRICTED, &[])
 }
@@ -150,7 +195,11 @@ pub fn create_restricted<S: Alter>(conn: &mut Connection<S>) -> Result<usize, Er
 pub fn create_readers<S: Alter>(conn: &mut Connection<S>) -> Result<usize, Error>
     requires { HasCleanDisk (state S.Store conn.old) → IsInsideWith (first_of_ours 11 7)
         (state S.Store conn.old) }
-    ensures { Writes S.Store conn.old conn.new result (Grows (first_of_ours 11 7) ours 18) }
+    ensures made { HasCleanDisk (state S.Store conn.new) → OnOk result
+        (Grows (first_of_ours 11 7) ours 18 (state S.Store conn.old) (state S.Store conn.new)) }
+    ensures refused { HasCleanDisk (state S.Store conn.new) → OnErr result
+        (Refuses (state S.Store conn.old) (state S.Store conn.new)) }
+    ensures survives { Survives (state S.Store conn.old) (state S.Store conn.new) (λ _. ⊥) }
 {
     conn.execute(READERS, &[])
 }

@@ -1,0 +1,10 @@
+mod CrateLines
+mod CratesAsked
+mod Lines
+mod Logins
+mod Rising
+mod Told
+mod TokenScopes
+mod TokenWalk
+mod TokensAsked
+mod Tops

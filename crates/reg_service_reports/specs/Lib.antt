@@ -1,0 +1,3 @@
+pub mod Crates
+pub mod Reports
+pub mod Tokens
