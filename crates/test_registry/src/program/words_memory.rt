@@ -70,8 +70,18 @@ fn with_amount(rt: &HostRuntime, line: &str, file: &str, unit: u32, k: u32) -> i
     Ok(Went::Wrong(format!(in rt.alloc(); "{k}: {words} -> {found}, then {next}")?))
 }
 
+/// Runs a line with ample memory, so that the stack has grown as far as the line needs it: where
+/// all addresses are taken, it cannot grow.
+fn run_before(rt: &HostRuntime, line: &str, file: &str) -> io::Result<()> {
+    let line = line.replace(rt.alloc(), "NEW", "0999")?;
+    let (words, _) = line.split_once(" -> ").unwrap_or((&line, ""));
+    let _ = ending(rt, words, file)?;
+    Ok(())
+}
+
 /// What is wrong with a line up to the first amount that is enough.
 fn line_fault(rt: &HostRuntime, line: &str, file: &str, unit: u32) -> io::Result<Option<String>> {
+    run_before(rt, line, file)?;
     for k in 0..AMOUNTS {
         match with_amount(rt, line, file, unit, k)? {
             Went::Done => return Ok(None),
