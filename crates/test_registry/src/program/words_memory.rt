@@ -70,18 +70,8 @@ fn with_amount(rt: &HostRuntime, line: &str, file: &str, unit: u32, k: u32) -> i
     Ok(Went::Wrong(format!(in rt.alloc(); "{k}: {words} -> {found}, then {next}")?))
 }
 
-/// Runs a line with ample memory, so that the stack has grown as far as the line needs it: where
-/// all addresses are taken, it cannot grow.
-fn run_before(rt: &HostRuntime, line: &str, file: &str) -> io::Result<()> {
-    let line = line.replace(rt.alloc(), "NEW", "0999")?;
-    let (words, _) = line.split_once(" -> ").unwrap_or((&line, ""));
-    let _ = ending(rt, words, file)?;
-    Ok(())
-}
-
 /// What is wrong with a line up to the first amount that is enough.
 fn line_fault(rt: &HostRuntime, line: &str, file: &str, unit: u32) -> io::Result<Option<String>> {
-    run_before(rt, line, file)?;
     for k in 0..AMOUNTS {
         match with_amount(rt, line, file, unit, k)? {
             Went::Done => return Ok(None),
@@ -113,13 +103,6 @@ access a --db FILE -> 0";
 /// What reads all rows.
 const WHOLE: &str = "audit --db FILE -> 0
 export FILE.index --db FILE -> 0";
-
-/// What is refused once the file is open, and what another file stops.
-const REFUSALS: &str = "user-add ada --db FILE -> 1 G2 login taken
-user-disable carol --db FILE -> 1 G3 no such login
-owner-add a ada --db FILE -> 1 G8 no such crate
-token-add ada --endpoints yank --random FILE.none --db FILE -> 3 storage
-pipe --db FILE --setup FILE.none -> 3 storage";
 
 /// What opens no file.
 const WORDS: &str = "explain A9 -> 0
@@ -163,11 +146,6 @@ fn reports(rt: HostRuntime) -> Result<(), Fail> {
 #[test]
 fn whole(rt: HostRuntime) -> Result<(), Fail> {
     play(&rt, "memory_whole", LARGE, WHOLE)
-}
-
-#[test]
-fn refusals(rt: HostRuntime) -> Result<(), Fail> {
-    play(&rt, "memory_refusals", LARGE, REFUSALS)
 }
 
 #[test]
