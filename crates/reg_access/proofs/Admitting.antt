@@ -1,4 +1,4 @@
--- What is handed on of a request that is let pass: the token's account and the crate that the action names.
+-- What is handed on of a request that is let pass: the token's account, the crate and the version that the action names.
 use Rattle.std.proofs.Common.{◌≡◌, ◌⊎◌, inl, inr, ℕ, pos, List, [], ◌∷◌, Bool, true, false, cond, Option, Some, None, is_some, refl, sym, ap, subst, ◌∙◌}
 use Rattle.std.proofs.lemmas.Bool.{and_parts}
 use Rattle.std.specs.List.{filter, find}
@@ -23,7 +23,7 @@ use Rattle.reg_tables_meaning.specs.Stands.{Holds, Ids, StoredCrate, spelling_at
 use Rattle.reg_tables_meaning.proofs.CrateLemmas.{spelled_at}
 use Rattle.reg_tables_sql.specs.declared.tokens.TokenRow.{TokenRow}
 use Rattle.reg_tables_sql.specs.Tokens.{columns_with_account, tokens_with_accounts}
-use Rattle.reg_access.specs.Admitted.{IsAdmission, IsAdmitted, IsCallerIn, IsCallerOf, IsFoundOf, OfCaller, ShowsCaller, TellsCaller, decision_in, needs_crate, shown_crate}
+use Rattle.reg_access.specs.Admitted.{IsAdmission, IsAdmitted, IsCallerIn, IsCallerOf, IsFoundOf, IsIdOf, OfCaller, ShowsCaller, TellsCaller, decision_in, needs_crate, shown_crate, version_named}
 use Rattle.reg_access.specs.declared.admission.Admission.{Admission}
 use Rattle.reg_access.specs.declared.admission.Admission.TheVariants.{Allowed, Denied}
 use Rattle.reg_access.specs.declared.admission.Caller.{Caller}
@@ -31,12 +31,13 @@ use Rattle.reg_access.specs.declared.admission.FoundCrate.{FoundCrate}
 use Rattle.reg_access.specs.declared.finding.Found.{Found}
 use Rattle.reg_access.specs.declared.found.CrateRow.{CrateRow}
 use Rattle.reg_access.specs.Found.{AreFound, facts_found, rows_of}
-use Rattle.reg_access.specs.JoinRows.{crates_seen_by, is_there, text_in, value_at}
+use Rattle.reg_access.specs.JoinRows.{crates_seen_by, is_there, names_version, text_in, value_at}
 use Rattle.reg_access.specs.Laws.{TellsCrate, TellsToken}
 use Rattle.reg_access.proofs.CrateLaw.{IsFound, IsMissing, found_or_missing, id_shown, no_rows, tells_crate}
 use Rattle.reg_access.proofs.FoundFacts.{found_verdict}
 use Rattle.reg_access.proofs.GrantLaw.{first_canon}
 use Rattle.reg_access.proofs.TokenLaw.{tells_token}
+use Rattle.reg_access.proofs.VersionIds.{id_named}
 
 -- where no rule is broken, the crate that an action needs is seen
 clear : (p : Rule → Bool) (rs : List Rule) → find p rs ≡ None → Clear p rs
@@ -58,6 +59,18 @@ is_seen f (Unyank n v) h e = not_false _ (passed f (Unyank n v) e).1.1.1.1.0
 is_seen f (AddOwners n logins) h e = not_false _ (passed f (AddOwners n logins) e).1.1.1.1.0
 is_seen f (RemoveOwners n logins) h e = not_false _ (passed f (RemoveOwners n logins) e).1.1.1.1.0
 
+-- and the version that it names is there
+has_version : (f : Access) (a : Action) → names_version a ≡ true → access f a ≡ None → f.has_version ≡ true
+has_version f Read h e = absurd cc
+has_version f (Index path) h e = absurd cc
+has_version f (Download n v) h e = not_false _ (passed f (Download n v) e).1.1.1.1.0
+has_version f (ListOwners n) h e = absurd cc
+has_version f (Publish n v) h e = absurd cc
+has_version f (Yank n v) h e = not_false _ (passed f (Yank n v) e).1.1.1.1.1.1.1.0
+has_version f (Unyank n v) h e = not_false _ (passed f (Unyank n v) e).1.1.1.1.1.1.1.0
+has_version f (AddOwners n logins) h e = absurd cc
+has_version f (RemoveOwners n logins) h e = absurd cc
+
 pub none_of : (o : Option Rule) → decision.Allowed ≡ decision_of o → o ≡ None
 none_of None e = refl
 none_of (Some r) e = absurd cc e
@@ -68,6 +81,9 @@ held p (Some r) e = refl
 
 pub has_its_crate : (a : Action) (t : TokenRow) (it : Found) (found : Option FoundCrate) → access (facts_found a t it) a ≡ None → found ≡ option_map shown_crate it.row → needs_crate a ≡ true → is_some found ≡ true
 has_its_crate a t it found passes is needs = ap is_some is ∙ held _ it.row (is_seen (facts_found a t it) a needs passes)
+
+pub has_its_version : (a : Action) (t : TokenRow) (it : Found) → access (facts_found a t it) a ≡ None → names_version a ≡ true → is_some it.version ≡ true
+has_its_version a t it passes names = has_version (facts_found a t it) a names passes
 
 -- what is made of what was found is what the rows show
 pub admission_made : (digest : Text) (a : Action) (db : Trees) (t : TokenRow) (it : Found) (m : Admission) → tokens_with_accounts digest db ≡ columns_with_account t ∷ [] → AreFound a t.id t.account db it → IsAdmitted a t it m → IsAdmission digest a db m
@@ -122,6 +138,9 @@ module _ (ids : Ids) (s : Registry) (db : Trees) (h : Holds ids s db) where
   caller_is digest a c shows = record {
     account = viewer_is digest shows.token shows.known ∙ ap Some (sym shows.handed.account);
     found = subst (IsFoundOf ids s (crate_of a)) (sym shows.handed.found) (found_is (crate_of a) shows.token.account shows.it.row shows.are.row);
+    version =
+        subst (IsIdOf ids (version_named s a)) (sym shows.handed.version)
+        (id_named ids s db h.stands a (Int (pos shows.token.account)) (rows_of shows.it.row) shows.it.version shows.are.row shows.are.version);
   }
 
 pub caller_told : (digest : Text) (a : Action) (db : Trees) (m : Admission) → IsAdmission digest a db m → TellsCaller digest a db m

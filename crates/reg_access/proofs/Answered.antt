@@ -24,6 +24,10 @@ there_counted : (rows : List Row) → is_there rows ≡ not (length rows == 0)
 there_counted [] = refl
 there_counted (r ∷ rows) = grind (arith, nat_tests)
 
+pub none_there : (rows : List Row) → is_there rows ≡ false → rows ≡ []
+none_there [] h = refl
+none_there (r ∷ rows) h = absurd cc
+
 -- in any order
 pub there_found : (xs rows : List Row) → IsPermutation xs rows → is_there xs ≡ not (length rows == 0)
 there_found xs rows h = any_there xs ∙ list_any-IsPermutation (λ r. true) xs rows h ∙ sym (any_there rows) ∙ there_counted rows

@@ -22,7 +22,7 @@ use Rattle.reg_model.specs.Sound.{Sound}
 use Rattle.reg_model.proofs.Lists.{is_some_find}
 use Rattle.reg_tables_sql.specs.Tokens.{tokens_with_accounts}
 use Rattle.reg_tables_meaning.specs.Stands.{Ids, StandsBy}
-use Rattle.reg_access.specs.JoinRows.{crates_seen_by, is_shown, is_there, last_rows, scopes_over, text_in, value_at, versions_with_text}
+use Rattle.reg_access.specs.JoinRows.{crates_seen_by, is_shown, is_there, last_rows, names_version, publishes, scopes_over, text_in, value_at, versions_with_text}
 use Rattle.reg_access.specs.Laws.{TellsCrate, TellsToken}
 use Rattle.reg_access.specs.Verdict.{facts_in, is_always_reserved, is_fit, is_seen, join_rows, needs_scope, verdict_in}
 use Rattle.reg_access.proofs.CrateLaw.{tells_crate}
@@ -31,16 +31,6 @@ use Rattle.reg_access.proofs.ScopeLaw.{covers_alike}
 use Rattle.reg_access.proofs.TokenLaw.{tells_token}
 use Rattle.reg_access.proofs.VersionLaw.{no_version_of_null, tells_release, tells_version}
 use Rattle.reg_access.proofs.Somes.{same_some}
-
-abbrev names_version : Action → Bool
-names_version (Download n v) = true
-names_version (Yank n v) = true
-names_version (Unyank n v) = true
-names_version _ = false
-
-abbrev publishes : Action → Bool
-publishes (Publish n v) = true
-publishes _ = false
 
 -- what the rules on access read, for one action
 pub record Agree (a : Action) (f g : Access) : Type 0 where
@@ -119,7 +109,7 @@ publish_alike f g n v e = split (is_some g.first) refl
     split false h = ap (λ k. access k (Publish n v)) (to_new f g n v h e) ∙ from_new f g n v h
 
 -- where the facts agree on all that the rules on access read for the action, the first that is broken is the same
-same_verdict : (f g : Access) (a : Action) → Agree a f g → access f a ≡ access g a
+pub same_verdict : (f g : Access) (a : Action) → Agree a f g → access f a ≡ access g a
 unfolding access
 same_verdict f g Read e = λ i. access (record f { is_known = e.known i; is_live = e.live i; is_enabled = e.enabled i }) Read
 same_verdict f g (Index path) e = λ i. access (record f { is_known = e.known i; is_live = e.live i; is_enabled = e.enabled i; first = e.spelled i; is_visible = e.seen i }) (Index path)

@@ -1,3 +1,4 @@
+mod AccessOrder
 mod Admitting
 mod Answered
 pub mod Calls
@@ -21,5 +22,6 @@ mod ScopeText
 mod Somes
 mod TokenLaw
 mod TokenText
+pub mod VersionIds
 mod VersionLaw
 mod VersionTexts

@@ -32,7 +32,7 @@ use Rattle.reg_access.proofs.Nulls.{equals_null, none_any}
 none_passes : (rest : Row → Bool) (rows : List Row) → list_any (λ r. equal Binary (column r 2) Null && rest r) rows ≡ false
 none_passes rest rows = any_same (λ r. equal Binary (column r 2) Null && rest r) (λ r. false) (λ r. ap (λ b. b && rest r) (equals_null (column r 2))) rows ∙ none_any rows
 
-and_twice : (a b c : Bool) → ((a && b) && c) ≡ (a && (b && c))
+pub and_twice : (a b c : Bool) → ((a && b) && c) ≡ (a && (b && c))
 and_twice true b c = refl
 and_twice false b c = refl
 
@@ -95,7 +95,7 @@ module _ (ids : Ids) (s : model.Registry) (db : Trees) (stands : StandsBy ids s 
   abbrev key : List ℕ
   key = release_key_of text
 
-  abbrev of_release : Row → Bool
+  abbrev pub of_release : Row → Bool
   of_release r = equal Binary (column r 4) (Text key)
 
   is_of_release : (v : StoredVersion) → of_release (row_of_version s.yanked v) ≡ same_release v.publication.version text
@@ -106,10 +106,10 @@ module _ (ids : Ids) (s : model.Registry) (db : Trees) (stands : StandsBy ids s 
       versions_told ids s db stands n of_release (λ v. same_release v text) is_of_release (λ v. versions_of_release v text db) (no_release_of_null text db)
       (λ id. there_filtered (shows (0 ∷ [])) (is_release (Int (pos id)) key) (db 11)) account
 
-  abbrev of_text : Row → Bool
+  abbrev pub of_text : Row → Bool
   of_text r = of_release r && equal Binary (column r 3) (Text text)
 
-  is_of_text : (v : StoredVersion) → of_text (row_of_version s.yanked v) ≡ bytes_eq v.publication.version text
+  pub is_of_text : (v : StoredVersion) → of_text (row_of_version s.yanked v) ≡ bytes_eq v.publication.version text
   is_of_text v =
       ap₂ ◌&&◌ (is_of_release v) (equals_text (Text v.publication.version) text ∙ same_text v.publication.version text) ∙ same_key v.publication.version text
 

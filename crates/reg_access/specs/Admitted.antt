@@ -1,18 +1,20 @@
 -- What is found of a request that is let pass.
-use Rattle.std.specs.Prelude.{◌≡◌, Bool, true, false, IsSome, ⊤, [], ◌∷◌, Option, Some, None}
+use Rattle.std.specs.Prelude.{◌≡◌, ◌==◌, if◌then◌else◌, ℕ, Bool, true, false, IsSome, ⊤, [], ◌∷◌, Option, Some, None}
+use Rattle.std.specs.List.{find}
 use Rattle.std.specs.Option.{option_map}
 use Rattle.sqlite.specs.Tree.{Trees}
 use Rattle.reg_names.specs.Names.{canon}
-use Rattle.reg_model.specs.Actions.{Action, crate_of}
+use Rattle.reg_model.specs.Actions.{Action, crate_of, version_of}
 use Rattle.reg_model.specs.Actions.Action.{Publish, Read}
-use Rattle.reg_model.specs.Crates.{viewer}
+use Rattle.reg_model.specs.Crates.{version, viewer}
 use Rattle.reg_model.specs.Facts.{spelling}
-use Rattle.reg_model.specs.Registry.{Registry, Text}
+use Rattle.reg_model.specs.Registry.{Publication, Registry, Text}
 use Rattle.reg_model.specs.Rules.{access}
 use Rattle.reg_policy.specs.declared.action.Decision.{Decision}
 use Rattle.reg_policy.specs.declared.action.Decision.TheVariants as decision
 use Rattle.reg_policy.specs.Views.{decision_of}
 use Rattle.reg_tables_meaning.specs.Calls.{Tells}
+use Rattle.reg_tables_meaning.specs.Changes.{told_of}
 use Rattle.reg_tables_meaning.specs.Stands.{Ids, spelling_at}
 use Rattle.reg_tables_sql.specs.declared.tokens.TokenRow.{TokenRow}
 use Rattle.reg_tables_sql.specs.Tokens.{columns_with_account, tokens_with_accounts}
@@ -23,6 +25,7 @@ use Rattle.reg_access.specs.declared.admission.FoundCrate.{FoundCrate}
 use Rattle.reg_access.specs.declared.finding.Found.{Found}
 use Rattle.reg_access.specs.declared.found.CrateRow.{CrateRow}
 use Rattle.reg_access.specs.Found.{AreFound, facts_found}
+use Rattle.reg_access.specs.JoinRows.{names_version}
 use Rattle.reg_access.specs.Verdict.{IsVerdict}
 
 abbrev pub decision_in : Admission → Decision
@@ -45,11 +48,26 @@ abbrev pub IsFoundOf : Ids → Registry → Option Text → Option FoundCrate �
 IsFoundOf ids s name None = spelling s name ≡ None
 IsFoundOf ids s name (Some c) = IsCrateOf ids s name c
 
--- whom the token with this digest speaks for, and the crate that the action names
+-- the publication of the version with this id in the tables
+abbrev pub publication_at : Ids → ℕ → Option Publication
+publication_at ids id = option_map (λ v. v.publication) (find (λ v. v.id == id) ids.versions)
+
+-- the version that is to be there for an action, if it is
+abbrev pub version_named : Registry → Action → Option Publication
+version_named s a =
+    if names_version a then told_of (crate_of a) None (λ n. version s n (version_of a)) else None
+
+-- what is found of a version: its id in the tables; or nothing, where it is not there
+abbrev pub IsIdOf : Ids → Option Publication → Option ℕ → Type 0
+IsIdOf ids p None = p ≡ None
+IsIdOf ids p (Some id) = (publication_at ids id ≡ p) × IsSome p
+
+-- whom the token with this digest speaks for, and the crate and the version that the action names
 pub record IsCallerOf (ids : Ids) (s : Registry) (digest : Text) (a : Action) (c : Caller) : Type 0
   where
     pub account : viewer s digest ≡ Some c.account
     pub found : IsFoundOf ids s (crate_of a) c.found
+    pub version : IsIdOf ids (version_named s a) c.version
 
 abbrev pub TellsCaller : Text → Action → Trees → Admission → Type 0
 TellsCaller digest a db it =
@@ -65,22 +83,28 @@ needs_crate _ = true
 abbrev pub HasItsCrate : Action → Admission → Type 0
 HasItsCrate a it = OfCaller it (λ c. needs_crate a ≡ true → IsSome c.found)
 
+-- and where it names a version, that was found
+abbrev pub HasItsVersion : Action → Admission → Type 0
+HasItsVersion a it = OfCaller it (λ c. names_version a ≡ true → IsSome c.version)
+
 -- a crate as it is handed on
 abbrev pub shown_crate : CrateRow → FoundCrate
 shown_crate r = record { id = r.id; name = r.name }
 
--- the account and the crate of this token and of what was found
+-- the account, the crate and the version of this token and of what was found
 pub record IsCallerIn (t : TokenRow) (it : Found) (c : Caller) : Type 0 where
   pub account : c.account ≡ t.account
   pub found : c.found ≡ option_map shown_crate it.row
+  pub version : c.version ≡ it.version
 
 -- what follows from them
 pub record IsAdmitted (a : Action) (t : TokenRow) (it : Found) (m : Admission) : Type 0 where
   pub decided : decision_in m ≡ decision_of (access (facts_found a t it) a)
   pub handed : OfCaller m (IsCallerIn t it)
   pub there : HasItsCrate a m
+  pub named : HasItsVersion a m
 
--- the account and the crate are those of the rows
+-- the account, the crate and the version are those of the rows
 pub record ShowsCaller (digest : Text) (a : Action) (db : Trees) (c : Caller) : Type 0 where
   pub token : TokenRow
   pub it : Found

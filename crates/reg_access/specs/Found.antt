@@ -9,11 +9,12 @@ use Rattle.reg_names.specs.Names.{canon}
 use Rattle.reg_model.specs.Registry.{Text as Bytes, holds}
 use Rattle.reg_model.specs.Actions.{Action, crate_of}
 use Rattle.reg_model.specs.Facts.{Access, lists}
+use Rattle.reg_tables_schema.specs.Rows.{number_columns}
 use Rattle.reg_tables_schema.specs.Shown.{shown_of}
 use Rattle.reg_tables_sql.specs.declared.tokens.TokenRow.{TokenRow}
 use Rattle.reg_access.specs.declared.found.CrateRow.{CrateRow}
 use Rattle.reg_access.specs.declared.finding.Found.{Found}
-use Rattle.reg_access.specs.JoinRows.{crates_seen_by, is_there, last_rows, scopes_over}
+use Rattle.reg_access.specs.JoinRows.{against_rows, crates_seen_by, is_there, named_rows, scopes_over}
 use Rattle.reg_access.specs.Verdict.{is_always_reserved, needs_scope}
 
 abbrev pub number_or_null : Option ℕ → Value
@@ -50,7 +51,8 @@ pub record AreFound (a : Action) (token account : ℕ) (db : Trees) (it : Found)
   pub covered : is_there (scopes_asked a token db) ≡ it.covered
   pub row : lists (λ n. crates_seen_by (canon n) (Int (pos account)) db) (crate_of a)
       ≡ rows_of it.row
-  pub last : is_there (last_rows a (rows_of it.row) db) ≡ it.last
+  pub version : named_rows a (rows_of it.row) db ≡ shown_of number_columns it.version
+  pub against : is_there (against_rows a (rows_of it.row) db) ≡ it.against
 
 -- the facts that a token and what was found are
 abbrev pub facts_found : Action → TokenRow → Found → Access
@@ -63,7 +65,7 @@ facts_found a t it = record {
   first = spelling_in it.row;
   is_visible = is_visible it.row;
   is_owner = is_owned it.row;
-  is_reserved = is_always_reserved a || it.last;
-  has_version = it.last;
-  has_release = it.last;
+  is_reserved = is_always_reserved a || it.against;
+  has_version = is_some it.version;
+  has_release = it.against;
 }

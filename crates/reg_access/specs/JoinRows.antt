@@ -152,3 +152,21 @@ last_rows (Publish n v) of_crate db =
     then versions_of_release (value_at of_crate 0) v db
     else reserved_as (canon n) db
 last_rows _ of_crate db = []
+
+-- whether the action is about a version that is to be there, or publishes one
+abbrev pub names_version : Action → Bool
+names_version (Download n v) = true
+names_version (Yank n v) = true
+names_version (Unyank n v) = true
+names_version _ = false
+
+abbrev pub publishes : Action → Bool
+publishes (Publish n v) = true
+publishes _ = false
+
+-- what is asked last of the version that is named, and of what stands against a publication
+abbrev pub named_rows : Action → List Row → Trees → List Row
+named_rows a of_crate db = if names_version a then last_rows a of_crate db else []
+
+abbrev pub against_rows : Action → List Row → Trees → List Row
+against_rows a of_crate db = if publishes a then last_rows a of_crate db else []

@@ -1,15 +1,14 @@
 //! Whether a request may pass, decided from the rows of the access queries.
 
-ghost use Rattle.std.specs.Prelude.{IfOk};
+ghost use Rattle.std.specs.Prelude.{◌≡◌, IfOk, true};
 ghost use Rattle.reg_policy.specs.Views.{action_of};
 ghost use Rattle.reg_tables.specs.Works.{Heard, IsAtWork, IsCall, Unmoved, rows_seen};
-ghost use Rattle.reg_access.specs.Admitted.{HasItsCrate, IsAdmission, TellsCaller, decision_in};
+ghost use Rattle.reg_access.specs.Admitted.{HasItsCrate, HasItsVersion, IsAdmission, TellsCaller, decision_in};
 ghost use Rattle.reg_access.specs.Asks.{Asks};
-ghost use Rattle.reg_access.specs.Verdict.{IsPolicy, IsVerdict};
+ghost use Rattle.reg_access.specs.Verdict.{IsPolicy, IsVerdict, is_fit};
 
 use crate::admission::{Admission, admission_of};
 use crate::finding::find_all;
-use crate::orders::fits;
 use crate::texts::find_token;
 use reg_line::Digest;
 use reg_model::Rule;
@@ -26,6 +25,7 @@ fn judge<S: Alter>(
     ensures asks { Asks S.Store work.old work.new result
         (IsAdmission digest.now (action_of action.now)) }
     ensures there { IfOk result (HasItsCrate (action_of action.now)) }
+    ensures named { IfOk result (HasItsVersion (action_of action.now)) }
 {
     let Some(token) = find_token(work, digest)? else {
         return Ok(Admission::Denied(Rule::A2));
@@ -34,8 +34,18 @@ fn judge<S: Alter>(
     Ok(admission_of(&token, found, action))
 }
 
+/// What is published has a name: the body is there for the prover, which knows a name's form once
+/// its text is read.
+fn fits(action: &Action)
+    ensures { is_fit (action_of action.now) ≡ true }
+{
+    if let Action::Publish(name, _) = action {
+        let _ = name.as_str();
+    }
+}
+
 /// Whether the tables allow an action of the token with this digest: the first access rule that it
-/// breaks, or who is allowed and the crate that was found. The decision holds for any rows; if they
+/// breaks, or who is allowed and what was found. The decision holds for any rows; if they
 /// stand for a registry, it is the written policy's.
 pub fn admit<S: Alter>(
     work: &mut Work<'_, S>,
@@ -50,6 +60,7 @@ pub fn admit<S: Alter>(
     ensures found { Heard S.Store work.new result
         (TellsCaller digest.now (action_of action.now) (rows_seen S.Store work.old)) }
     ensures there { IfOk result (HasItsCrate (action_of action.now)) }
+    ensures named { IfOk result (HasItsVersion (action_of action.now)) }
     ensures same { Unmoved S.Store result work.old work.new }
     ensures leaves { IsCall S.Store result work.old work.new }
 {

@@ -22,7 +22,7 @@ pub struct FoundCrate {
     pub name: CrateName,
 }
 
-/// Who is allowed, and the crate of the action.
+/// Who is allowed, and the crate and the version of the action.
 #[derive(Drop)]
 pub struct Caller {
     /// The id of the token's account.
@@ -30,6 +30,9 @@ pub struct Caller {
     /// The crate that the action names, if it is there. Only an action that names none, or one that
     /// publishes, is allowed without one.
     pub found: Option<FoundCrate>,
+    /// The id in the tables of the version that a download, a yank or an unyank names. None of
+    /// these is allowed without one.
+    pub version: Option<u64>,
 }
 
 impl Caller {
@@ -39,6 +42,14 @@ impl Caller {
         ensures { self.now.found ≡ Some result.now }
     {
         self.found.as_ref().unwrap()
+    }
+
+    /// The version of an action that is not allowed without one: its id in the tables.
+    pub fn found_version(&self) -> u64
+        requires { IsSome self.now.version }
+        ensures { self.now.version ≡ Some result }
+    {
+        self.version.unwrap()
     }
 }
 
@@ -84,6 +95,7 @@ pub(crate) fn admission_of(token: &TokenRow, found: Found, action: &Action) -> A
         Decision::Allowed => Admission::Allowed(Caller {
             account: token.account,
             found: crate_of_row(found.row),
+            version: found.version,
         }),
     }
 }

@@ -12,17 +12,18 @@ ghost use Rattle.reg_access.specs.Verdict.{is_always_reserved as is_always_reser
 
 use crate::finding::Found;
 use crate::found::CrateRow;
-use crate::orders::{needed, order};
 use reg_model::Rule;
 use reg_names::{canon, index_path};
-use reg_policy::{Action, Decision, crate_of, has_endpoint, is_reserved_always, same_text};
+use reg_policy::{
+    Action, Decision, crate_of, has_endpoint, is_reserved_always, needed, order, same_text,
+};
 use reg_tables::TokenRow;
 
 fn lacks_endpoint(token: &TokenRow, row: &Option<CrateRow>, action: &Action) -> bool
     ensures { result ≡ lacks token.now.endpoints
         (needed_by (spelling_in row.now) (action_of action.now)) }
 {
-    match needed(row, action) {
+    match needed(row.is_some(), action) {
         None => false,
         Some(endpoint) => !has_endpoint(&token.endpoints, endpoint),
     }
@@ -98,7 +99,7 @@ fn is_always_reserved(action: &Action) -> bool
     }
 }
 
-/// Whether the action breaks the access rule. A token that was found is known.
+/// Whether the rule is on access and the action breaks it. A token that was found is known.
 fn breaks_rule(token: &TokenRow, found: &Found, action: &Action, rule: Rule) -> bool
     ensures { result ≡ breaks (facts_found (action_of action.now) token.now found.now)
         (action_of action.now) rule }
@@ -111,10 +112,10 @@ fn breaks_rule(token: &TokenRow, found: &Found, action: &Action, rule: Rule) -> 
         Rule::A7 => !found.covered,
         Rule::A8 => is_absent(found, action),
         Rule::A9 => !is_owned(&found.row),
-        Rule::A10 => !found.last,
-        Rule::N2 => is_always_reserved(action) || found.last,
+        Rule::A10 => found.version.is_none(),
+        Rule::N2 => is_always_reserved(action) || found.against,
         Rule::N3 => is_misspelled(found, action),
-        Rule::V2 => found.last,
+        Rule::V2 => found.against,
         Rule::L1 | Rule::L2 | Rule::O2 | Rule::O3 | Rule::O4 => false,
         Rule::H1 | Rule::H2 | Rule::H3 | Rule::H4 | Rule::H5 | Rule::H6 | Rule::H7 => false,
         Rule::B1 | Rule::B2 | Rule::B3 | Rule::B4 | Rule::B5 => false,
@@ -123,12 +124,12 @@ fn breaks_rule(token: &TokenRow, found: &Found, action: &Action, rule: Rule) -> 
 }
 
 /// The first access rule that the action breaks.
-#[tactic(auto, unfolding(reg_model::specs::Rules::access))]
+#[tactic(auto, using(crate::proofs::AccessOrder::in_whole_order))]
 pub(crate) fn first_broken(token: &TokenRow, found: &Found, action: &Action) -> Decision
     ensures { result ≡ decision_of
         (access (facts_found (action_of action.now) token.now found.now) (action_of action.now)) }
 {
-    for rule in order(&found.row, action) {
+    for rule in order(found.row.is_some(), action) {
         if breaks_rule(token, found, action, *rule) {
             return Decision::Denied(*rule);
         }

@@ -21,7 +21,6 @@ mod found;
 mod granting;
 mod grants;
 pub mod laws;
-mod orders;
 mod reading;
 mod texts;
 

@@ -2,6 +2,8 @@
 
 ghost use Rattle.std.specs.Prelude.{◌≡◌, pos};
 ghost use Rattle.sqlite.specs.declared.types.Value.TheVariants.{Int};
+ghost use Rattle.reg_tables_schema.specs.Rows.{number_columns};
+ghost use Rattle.reg_tables_schema.specs.Shown.{shown_of};
 ghost use Rattle.reg_tables_sql.specs.Tokens.{IsTokenOfDigest};
 ghost use Rattle.reg_tables.specs.Works.{IsAtWork};
 ghost use Rattle.reg_access.specs.Asks.{Asks};
@@ -66,17 +68,17 @@ pub(crate) fn find_crate<S: Alter>(
     )
 }
 
-/// Whether the crate has a version with this text.
-pub(crate) fn has_version<S: Alter>(
+/// The id of the crate's version with this text, if it has one.
+pub(crate) fn find_version<S: Alter>(
     work: &mut Work<'_, S>,
     of_crate: u32,
     text: &str,
-) -> Result<bool, StoreFault>
+) -> Result<Option<u64>, StoreFault>
     requires { IsAtWork S.Store work.old }
-    ensures { Asks S.Store work.old work.new result
-        (λ db b. is_there (versions_with_text (Int (pos of_crate)) text.now db) ≡ b) }
+    ensures { Asks S.Store work.old work.new result (λ db found.
+        versions_with_text (Int (pos of_crate)) text.now db ≡ shown_of number_columns found) }
 {
-    work.has_row(
+    work.select_one(
         "SELECT id FROM versions WHERE crate = ?1 AND release = ?2 AND vers = ?3",
         params![of_crate, release_key(text), text],
     )

@@ -7,7 +7,7 @@ ghost use Rattle.serde_json.specs.View.{view};
 ghost use Rattle.reg_api_replies.specs.Bodies.{found_body, found_data, hit_data, total_data};
 ghost use Rattle.reg_api_replies.specs.Entries.{AreHits, found_of, hit_of, hits_in};
 
-use crate::values::{put_text, put_text_or_null};
+use reg_line::values::{put_text, put_text_or_null};
 use serde_json::{Map, Value, put};
 use std::alloc::{AllocError, Global};
 use std::marker::Model;

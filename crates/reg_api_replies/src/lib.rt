@@ -24,7 +24,6 @@ mod pile;
 mod refused;
 mod reply;
 mod sending;
-mod values;
 
 pub use bytes::{SendFault, write_bytes};
 pub use fixed_text::FixedText;

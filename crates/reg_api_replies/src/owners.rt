@@ -6,7 +6,7 @@ ghost use Rattle.serde_json.specs.View.{view};
 ghost use Rattle.reg_api_replies.specs.Bodies.{owner_data, owners_body, owners_data};
 ghost use Rattle.reg_api_replies.specs.Entries.{AreOwners, owner_of, owners_in};
 
-use crate::values::{put_text, put_text_or_null};
+use reg_line::values::{put_text, put_text_or_null};
 use serde_json::{Map, Value, put};
 use std::alloc::{AllocError, Global};
 use std::marker::Model;

@@ -47,38 +47,6 @@ fn publish<'a>(alloc: Global, limits: &Limits, body: &'a [u8]) -> Result<Content
     }
 }
 
-fn add_owners<'a>(
-    alloc: Global,
-    limits: &Limits,
-    name: &'a str,
-    body: &[u8],
-) -> Result<Content<'a>, AllocError>
-    ensures asked { IfOk result (λ c. asked_in c
-        ≡ or_faulty rule.O1 (to_add name.now) (logins_named limits.now body.now)) }
-    ensures fit { IfOk result (λ c. IsFitAsked (asked_in c)) }
-{
-    match read_logins(alloc, limits, body)? {
-        Some(logins) => Ok(Content::AddOwners(name, logins)),
-        None => Ok(Content::Faulty(Rule::O1)),
-    }
-}
-
-fn remove_owners<'a>(
-    alloc: Global,
-    limits: &Limits,
-    name: &'a str,
-    body: &[u8],
-) -> Result<Content<'a>, AllocError>
-    ensures asked { IfOk result (λ c. asked_in c
-        ≡ or_faulty rule.O1 (to_remove name.now) (logins_named limits.now body.now)) }
-    ensures fit { IfOk result (λ c. IsFitAsked (asked_in c)) }
-{
-    match read_logins(alloc, limits, body)? {
-        Some(logins) => Ok(Content::RemoveOwners(name, logins)),
-        None => Ok(Content::Faulty(Rule::O1)),
-    }
-}
-
 fn search<'a>(q: &'a Option<CowStr<'a>>, per_page: &Option<CowStr<'_>>) -> Content<'a>
     ensures asked { asked_in result
         ≡ searched (option_map cow_str_bytes q.now) (option_map cow_str_bytes per_page.now) }
@@ -106,8 +74,14 @@ fn content<'a>(
         ApiCall::Publish(body) => publish(alloc, limits, body),
         ApiCall::Yank(name, version) => Ok(Content::Yank(text(name), text(version))),
         ApiCall::Unyank(name, version) => Ok(Content::Unyank(text(name), text(version))),
-        ApiCall::AddOwners(name, body) => add_owners(alloc, limits, text(name), body),
-        ApiCall::RemoveOwners(name, body) => remove_owners(alloc, limits, text(name), body),
+        ApiCall::AddOwners(name, body) => match read_logins(alloc, limits, body)? {
+            Some(logins) => Ok(Content::AddOwners(text(name), logins)),
+            None => Ok(Content::Faulty(Rule::O1)),
+        },
+        ApiCall::RemoveOwners(name, body) => match read_logins(alloc, limits, body)? {
+            Some(logins) => Ok(Content::RemoveOwners(text(name), logins)),
+            None => Ok(Content::Faulty(Rule::O1)),
+        },
         ApiCall::Search { q, per_page } => Ok(search(q, per_page)),
     }
 }

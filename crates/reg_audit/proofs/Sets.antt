@@ -1,32 +1,29 @@
 -- Sets and maps that are filled from a list, one element after another.
-use Rattle.std.proofs.Common.{◌≡◌, ◌<◌, ◌+◌, ℕ, List, [], ◌∷◌, ◌++◌, arith, take, length, get_or, Bool, true, false, refl, sym, ap, subst, eqb-true, ◌∙◌, Option, None, Some, inl, inr}
+use Rattle.std.proofs.Common.{◌≡◌, ◌<◌, ◌+◌, ℕ, List, [], ◌∷◌, ◌++◌, arith, take, length, get_or, map, Bool, true, false, refl, sym, ap, subst, eqb-true, ◌∙◌, Option, None, Some, inl, inr}
 use Rattle.std.specs.Prelude.{cond, if◌then◌else◌, is_some, ◌||◌, ◌==◌}
 use Rattle.std.specs.List.{find, list_any, position_from, position_or_len, slice_get}
-use Rattle.std.specs.Ordering.{is_eq, nat_cmp}
-use Rattle.std.specs.Cmp.{unsigned_tied}
-use Rattle.std.specs.BTreeSet.{BTreeSet, contains}
+use Rattle.std.specs.Ordering.{eq_by_cmp, is_eq, nat_cmp}
+use Rattle.std.specs.Cmp.{nat_eq_equiv, unsigned_tied}
+use Rattle.std.specs.BTreeSet.{BTreeSet, IsFromIterResult, contains}
 use Rattle.std.specs.BTreeMap.{BTreeMap, get}
 use Rattle.std.specs.Option.{option_map, option_or, unwrap_or}
 use Rattle.std.proofs.lemmas.List.{length-take-le, take_more}
 use Rattle.std.proofs.lemmas.Bool.{le-ltb, ltb-false}
 use Rattle.std.proofs.lemmas.Iterator.Adapters.{position_from-zero}
-use Rattle.std.proofs.lemmas.List.Folds.{find_at, list_any_more}
+use Rattle.std.proofs.lemmas.List.Folds.{find_at}
 use Rattle.std.proofs.lemmas.Option.{slice_get_cases, slice_get_past}
 use Rattle.std.proofs.Math.Dec.{ltb}
 
-or_cond : (b c : Bool) → cond b true c ≡ (c || b)
-or_cond true true = refl
-or_cond true false = refl
-or_cond false true = refl
-or_cond false false = refl
+module _ {X : Type 0} (f : X → ℕ) where
+  member_any : (xs : List X) (q : ℕ) → list_any (eq_by_cmp nat_cmp q) (map f xs) ≡ list_any (λ x. f x == q) xs
+  member_any [] q = refl
+  member_any (x ∷ xs) q =
+      ap (λ b. b || list_any (eq_by_cmp nat_cmp q) (map f xs)) (unsigned_tied q (f x) ∙ nat_eq_equiv.symm q (f x))
+      ∙ ap (λ b. (f x == q) || b) (member_any xs q)
 
-pub has_more : {X : Type 0} (f : X → ℕ) (xs : List X) (i : ℕ) (d : X) (old new : BTreeSet ℕ) → i < length xs
-    → ((q : ℕ) → contains nat_cmp new q ≡ cond (is_eq (nat_cmp (f (get_or xs i d)) q)) true (contains nat_cmp old q))
-    → ((id : ℕ) → contains nat_cmp old id ≡ list_any (λ o. f o == id) (take i xs)) → (id : ℕ) → contains nat_cmp new id ≡ list_any (λ o. f o == id) (take (i + 1) xs)
-has_more f xs i d old new within up before id =
-    let x = get_or xs i d in
-    up id ∙ ap (λ b. cond b true (contains nat_cmp old id)) (unsigned_tied (f x) id) ∙ or_cond (f x == id) (contains nat_cmp old id) ∙ ap (λ b. b || (f x == id)) (before id)
-    ∙ sym (list_any_more (λ o. f o == id) xs i d within)
+  -- a set that is collected from what a list shows
+  pub has_each : (xs : List X) (set : BTreeSet ℕ) → IsFromIterResult nat_cmp (map f xs) set → (id : ℕ) → contains nat_cmp set id ≡ list_any (λ x. f x == id) xs
+  has_each xs set made id = made.0 id ∙ member_any xs id
 
 pub none_of : {V : Type 0} (o : Option V) → is_some o ≡ false → o ≡ None
 none_of None h = refl
@@ -109,8 +106,3 @@ at_place now xs k (Some x) there same = elim (slice_get_cases xs k).1 [
   where
     no_rest : (b : Bool) → b ≡ false → b ≡ true → ⊥
     no_rest b e f = absurd cc
-
-pub has_one_more : {X : Type 0} (f : X → ℕ) (xs : List X) (i : ℕ) (x : X) (old new : BTreeSet ℕ) → i < length xs → x ≡ get_or xs i x
-    → ((q : ℕ) → contains nat_cmp new q ≡ cond (is_eq (nat_cmp (f x) q)) true (contains nat_cmp old q))
-    → ((id : ℕ) → contains nat_cmp old id ≡ list_any (λ o. f o == id) (take i xs)) → (id : ℕ) → contains nat_cmp new id ≡ list_any (λ o. f o == id) (take (i + 1) xs)
-has_one_more f xs i x old new within is up = has_more f xs i x old new within (subst (λ y. (q : ℕ) → contains nat_cmp new q ≡ cond (is_eq (nat_cmp (f y) q)) true (contains nat_cmp old q)) is up)

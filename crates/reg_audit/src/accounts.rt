@@ -4,19 +4,11 @@ ghost use Rattle.std.specs.Prelude.{◌≡◌, string_bytes};
 ghost use Rattle.std.specs.List.{list_all};
 ghost use Rattle.reg_audit.specs.Checks.{accounts_pass as accounts_pass_in, is_account as is_account_row};
 
-use crate::texts::{HasId, are_counted};
+use crate::texts::are_counted;
 use reg_line::is_base;
 use reg_names::parse_login;
 use reg_policy::may_name;
 use reg_tables::{Account, AllRows};
-
-impl HasId for Account {
-    ghost id_of = { λ a. a.id };
-
-    fn id(&self) -> u32 {
-        self.id
-    }
-}
 
 fn is_account(account: &Account) -> bool
     ensures { result ≡ is_account_row account.now }

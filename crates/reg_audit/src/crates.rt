@@ -6,19 +6,11 @@ ghost use Rattle.std.specs.BTreeSet.{contains};
 ghost use Rattle.std.specs.Ordering.{nat_cmp};
 ghost use Rattle.reg_audit.specs.Checks.{crates_pass as crates_pass_in, is_named as is_named_row};
 
-use crate::texts::{HasId, same_text};
+use crate::texts::same_text;
 use reg_names::{canon, parse_name};
 use reg_tables::{AllRows, Crate, Pair, Version};
 use std::alloc::{AllocError, Global};
 use std::collections::BTreeSet;
-
-impl HasId for Crate {
-    ghost id_of = { λ c. c.id };
-
-    fn id(&self) -> u32 {
-        self.id
-    }
-}
 
 fn is_named(it: &Crate) -> bool
     ensures { result ≡ is_named_row it.now }
@@ -34,11 +26,7 @@ fn owned_crates(alloc: Global, owners: &[Pair]) -> Result<BTreeSet<u32>, AllocEr
     ensures { IfOk result (λ set. (id : ℕ) → contains nat_cmp set id ≡ list_any
         (λ o. o.crate_id == id) owners.now) }
 {
-    let mut ids = BTreeSet::new(alloc);
-    for owner in owners {
-        ids.insert(owner.crate_id)?;
-    }
-    Ok(ids)
+    owners.iter().map(|owner| owner.crate_id).collect(alloc)
 }
 
 // The crates that have a version.
@@ -46,11 +34,10 @@ fn published_crates(alloc: Global, versions: &[Version]) -> Result<BTreeSet<u32>
     ensures { IfOk result (λ set. (id : ℕ) → contains nat_cmp set id ≡ list_any
         (λ v. v.crate_id == id) versions.now) }
 {
-    let mut ids = BTreeSet::new(alloc);
-    for version in versions {
-        ids.insert(version.crate_id)?;
-    }
-    Ok(ids)
+    versions
+        .iter()
+        .map(|version| version.crate_id)
+        .collect(alloc)
 }
 
 /// Whether each crate is properly named, and has an owner and a version.

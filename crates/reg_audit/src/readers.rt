@@ -1,26 +1,25 @@
 //! The check of the restricted crates and the readers.
 
-ghost use Rattle.std.specs.Prelude.{◌≡◌, ◌==◌, ◌&&◌, ℕ, IfOk};
-ghost use Rattle.std.specs.List.{list_all, list_any};
+ghost use Rattle.std.specs.Prelude.{◌≡◌, ◌&&◌, ℕ, IfOk};
+ghost use Rattle.std.specs.List.{list_all};
 ghost use Rattle.std.specs.BTreeSet.{contains};
 ghost use Rattle.std.specs.Ordering.{nat_cmp};
 ghost use Rattle.reg_audit.specs.Checks.{has_account, has_crate, readers_pass as readers_pass_in};
 
-use crate::texts::HasId;
 use reg_tables::AllRows;
 use std::alloc::{AllocError, Global};
 use std::collections::BTreeSet;
 
-// The ids of all.
-fn ids_of<T: HasId>(alloc: Global, list: &[T]) -> Result<BTreeSet<u32>, AllocError>
-    ensures { IfOk result (λ set. (id : ℕ) → contains nat_cmp set id ≡ list_any
-        (λ it. T.HasId.id_of it == id) list.now) }
+fn crate_ids(alloc: Global, rows: &AllRows) -> Result<BTreeSet<u32>, AllocError>
+    ensures { IfOk result (λ set. (id : ℕ) → contains nat_cmp set id ≡ has_crate rows.now id) }
 {
-    let mut ids = BTreeSet::new(alloc);
-    for it in list {
-        ids.insert(it.id())?;
-    }
-    Ok(ids)
+    rows.crates.iter().map(|it| it.id).collect(alloc)
+}
+
+fn account_ids(alloc: Global, rows: &AllRows) -> Result<BTreeSet<u32>, AllocError>
+    ensures { IfOk result (λ set. (id : ℕ) → contains nat_cmp set id ≡ has_account rows.now id) }
+{
+    rows.accounts.iter().map(|it| it.id).collect(alloc)
 }
 
 fn are_crates(rows: &AllRows, crates: &BTreeSet<u32>) -> bool
@@ -43,10 +42,10 @@ fn are_pairs(rows: &AllRows, crates: &BTreeSet<u32>, accounts: &BTreeSet<u32>) -
 pub(crate) fn readers_pass(alloc: Global, rows: &AllRows) -> Result<bool, AllocError>
     ensures { IfOk result (λ b. b ≡ readers_pass_in rows.now) }
 {
-    let crates = ids_of(alloc, &rows.crates)?;
+    let crates = crate_ids(alloc, rows)?;
     if !are_crates(rows, &crates) {
         return Ok(false);
     }
-    let accounts = ids_of(alloc, &rows.accounts)?;
+    let accounts = account_ids(alloc, rows)?;
     Ok(are_pairs(rows, &crates, &accounts))
 }

@@ -4,12 +4,30 @@ ghost use Rattle.std.specs.Prelude.{◌≡◌, ℕ, map};
 ghost use Rattle.std.specs.Str.{bytes_eq};
 ghost use Rattle.reg_audit.specs.Checks.{are_counted as are_counted_from};
 
+use reg_tables::{Account, Token};
+
 /// Something with an id.
 pub(crate) trait HasId {
     ghost id_of: { Self → ℕ };
 
     fn id(&self) -> u32
         ensures { result ≡ id_of self.now };
+}
+
+impl HasId for Account {
+    ghost id_of = { λ a. a.id };
+
+    fn id(&self) -> u32 {
+        self.id
+    }
+}
+
+impl HasId for Token {
+    ghost id_of = { λ t. t.id };
+
+    fn id(&self) -> u32 {
+        self.id
+    }
 }
 
 /// Whether the ids are 1 to their count, in this order.

@@ -7,19 +7,11 @@ ghost use Rattle.std.specs.List.{list_all};
 ghost use Rattle.reg_model.specs.Sound.{has_some};
 ghost use Rattle.reg_audit.specs.Checks.{are_placed as are_placed_in, follow as follow_in, is_scope as is_scope_row, is_token as is_token_row, tokens_pass as tokens_pass_in};
 
-use crate::texts::{HasId, are_counted, same_text};
+use crate::texts::{are_counted, same_text};
 use reg_model::Endpoints;
 use reg_names::{NameRange, Pattern, compile};
 use reg_tables::{AllRows, Scope, Token};
 use std::alloc::{AllocError, Global};
-
-impl HasId for Token {
-    ghost id_of = { λ t. t.id };
-
-    fn id(&self) -> u32 {
-        self.id
-    }
-}
 
 fn has_endpoint(endpoints: &Endpoints) -> bool
     ensures { result ≡ has_some endpoints.now }

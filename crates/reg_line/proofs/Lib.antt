@@ -5,6 +5,7 @@ pub mod LineBack
 pub mod Maps
 pub mod NoFloat
 pub mod Plain
+pub mod Shortest
 pub mod StemFacts
 pub mod Stems
 pub mod Weak

@@ -4,5 +4,6 @@ pub mod Features
 pub mod File
 pub mod Line
 pub mod LineRead
+pub mod Shortest
 pub mod StemCheck
 pub mod Parts

@@ -1,8 +1,10 @@
 //! Index files: a crate's lines, one after another.
 
-ghost use Rattle.std.specs.Prelude.{◌≡◌, ◌+◌, ◌^◌, ◌<◌, ◌≤◌, ◌↔◌, ◌++◌, IfOk, IfSome, IsNone, OnOk, length, map};
+ghost use Rattle.std.specs.Prelude.{◌≡◌, ◌+◌, ◌*◌, ◌^◌, ◌<◌, ◌≤◌, ◌↔◌, ◌++◌, IfOk, IfSome, IsNone, OnOk, length, map, nat_lt};
 ghost use Rattle.reg_line.specs.File.{end_of, entry_view, file_text, line_of};
+ghost use Rattle.reg_line.specs.Shortest.{shortest_line};
 
+use reg_names::CrateName;
 use std::alloc::{AllocError, Global};
 
 /// What is stored of a line: its stem and its yanked mark.
@@ -26,6 +28,21 @@ pub fn line_len(stem_len: u64, yanked: bool) -> Option<u64>
     ensures none { IsNone result ↔ (2 ^ 64 ≤ stem_len + length (end_of yanked)) }
 {
     stem_len.checked_add(end(yanked).len() as u64)
+}
+
+/// The length of the shortest line of a crate with this name.
+fn shortest_line(name: &CrateName) -> u64
+    ensures { result ≡ shortest_line name.now }
+{
+    169 + name.as_str().len() as u64
+}
+
+/// Whether an index file of this length is too short for this number of lines of a crate with this
+/// name.
+pub fn lacks_room(file_len: u64, name: &CrateName, lines: u64) -> bool
+    ensures { result ≡ nat_lt file_len (lines * shortest_line name.now) }
+{
+    file_len / shortest_line(name) < lines
 }
 
 fn push_line(text: &mut Vec<u8>, entry: &Entry) -> Result<(), AllocError>

@@ -20,11 +20,11 @@ pub mod laws;
 mod line_read;
 mod lines;
 mod stem_check;
-mod values;
+pub mod values;
 
 pub use base::is_base;
 pub use config_file::config;
 pub use digests::{Digest, digest_of};
-pub use index_file::{Entry, file, line_len};
+pub use index_file::{Entry, file, lacks_room, line_len};
 pub use lines::{line, stem};
 pub use stem_check::check_stem;

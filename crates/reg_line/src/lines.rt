@@ -24,15 +24,12 @@ fn put_manifest(
     ensures { OnOk result (members_view line.new.entries
         ≡ manifest_members (manifest_view manifest.now) (members_view line.old.entries)) }
 {
-    put(
-        line,
-        alloc,
-        "deps",
-        Value::Array(dep_values(alloc, &manifest.deps)?),
-    )?;
-    put_text_or_null(line, alloc, "links", &manifest.links)?;
+    let deps = Value::Array(dep_values(alloc, &manifest.deps)?);
+    put(line, alloc, "deps", deps)?;
+    put_text_or_null(line, alloc, "links", manifest.links.as_deref())?;
     put_text(line, alloc, "name", manifest.name.as_str())?;
-    put_text_or_null(line, alloc, "rust_version", &manifest.rust_version)?;
+    let rust_version = manifest.rust_version.as_deref();
+    put_text_or_null(line, alloc, "rust_version", rust_version)?;
     put_text(line, alloc, "vers", manifest.vers.as_str())
 }
 

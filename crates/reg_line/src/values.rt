@@ -1,6 +1,7 @@
 //! The parts of a line as JSON values.
 
-ghost use Rattle.std.specs.Prelude.{◌≡◌, IfOk, OnOk, map, option_map, string_bytes};
+ghost use Rattle.std.specs.Prelude.{◌≡◌, IfOk, OnOk, map, string_bytes};
+ghost use Rattle.std.specs.Option.{option_copied};
 ghost use Rattle.serde_json.specs.Data.{put, string};
 ghost use Rattle.serde_json.specs.View.{members_view, view};
 ghost use Rattle.reg_manifest.specs.Manifests.{dep_view};
@@ -12,17 +13,17 @@ use serde_json::{Map, Value, put};
 use std::alloc::{AllocError, Global};
 
 /// A text, or null.
-pub(crate) fn text_or_null(alloc: Global, text: &Option<String>) -> Result<Value, AllocError>
-    ensures { IfOk result (λ v. view v ≡ text_or_null (option_map string_bytes text.now)) }
+fn text_or_null(alloc: Global, text: Option<&str>) -> Result<Value, AllocError>
+    ensures { IfOk result (λ v. view v ≡ text_or_null (option_copied text.entry)) }
 {
     match text {
-        Some(text) => Value::try_from_str(alloc, text.as_str()),
+        Some(text) => Value::try_from_str(alloc, text),
         None => Ok(Value::Null),
     }
 }
 
 /// Puts a text at a key.
-pub(crate) fn put_text(
+pub fn put_text(
     object: &mut Map<String, Value>,
     alloc: Global,
     key: &str,
@@ -46,14 +47,14 @@ pub(crate) fn texts(alloc: Global, list: &[String]) -> Result<Vec<Value>, AllocE
 }
 
 /// Puts a text, or null, at a key.
-pub(crate) fn put_text_or_null(
+pub fn put_text_or_null(
     object: &mut Map<String, Value>,
     alloc: Global,
     key: &str,
-    text: &Option<String>,
+    text: Option<&str>,
 ) -> Result<(), AllocError>
     ensures { OnOk result (members_view object.new.entries
-        ≡ put key.now (text_or_null (option_map string_bytes text.now))
+        ≡ put key.now (text_or_null (option_copied text.entry))
         (members_view object.old.entries)) }
 {
     put(object, alloc, key, text_or_null(alloc, text)?)
@@ -75,12 +76,8 @@ fn put_first(
         "default_features",
         Value::Bool(dep.default_features),
     )?;
-    put(
-        object,
-        alloc,
-        "features",
-        Value::Array(texts(alloc, &dep.features)?),
-    )?;
+    let features = Value::Array(texts(alloc, &dep.features)?);
+    put(object, alloc, "features", features)?;
     put_text(object, alloc, "kind", dep.kind.as_str())?;
     put_text(object, alloc, "name", name)?;
     put(object, alloc, "optional", Value::Bool(dep.optional))
@@ -93,9 +90,9 @@ fn dep_object(alloc: Global, dep: &Dep, name: &str, own: Value) -> Result<Value,
     let mut object = Map::new(alloc);
     put(&mut object, alloc, "package", own)?;
     put_first(&mut object, alloc, dep, name)?;
-    put_text_or_null(&mut object, alloc, "registry", &dep.registry)?;
+    put_text_or_null(&mut object, alloc, "registry", dep.registry.as_deref())?;
     put_text(&mut object, alloc, "req", dep.version_req.as_str())?;
-    put_text_or_null(&mut object, alloc, "target", &dep.target)?;
+    put_text_or_null(&mut object, alloc, "target", dep.target.as_deref())?;
     Ok(Value::Object(object))
 }
 

@@ -13,6 +13,7 @@ pub mod Masked
 pub mod Members
 pub mod Places
 pub mod Plain
+pub mod Room
 pub mod Runs
 pub mod Seen
 pub mod SightAnswers
@@ -24,4 +25,13 @@ pub mod SoundParts
 pub mod SoundPublish
 pub mod SoundReaders
 pub mod Soundness
+pub mod TrailAlike
+pub mod TrailBrought
+pub mod TrailPlain
+pub mod TrailReplayed
+pub mod TrailTellings
+pub mod TrailTold
+pub mod TrailUntold
+pub mod TrailWords
+pub mod Trails
 pub mod Wider

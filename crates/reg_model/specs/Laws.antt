@@ -1,15 +1,16 @@
 -- The laws of steps and runs.
-use Rattle.std.specs.Prelude.{◌≡◌, ◌≢◌, ◌↔◌, ◌≤◌, ℕ, true, false, not, List, [], ◌∷◌, ◌++◌, Option, Some, None, unwrap_or}
+use Rattle.std.specs.Prelude.{◌≡◌, ◌≢◌, ◌↔◌, ◌≤◌, ◌*◌, ℕ, true, false, not, List, [], ◌∷◌, ◌++◌, length, Option, Some, None, unwrap_or}
 use Rattle.std.specs.List.{filter, find}
 use Rattle.reg_names.specs.Names.{canon, is_name, path_of}
 use Rattle.reg_model.specs.declared.rule.Rule.{Rule}
 use Rattle.reg_model.specs.declared.rule.AdminRefusal.{AdminRefusal}
 use Rattle.reg_body.specs.declared.limits.Limits.{Limits}
 use Rattle.reg_line.specs.Base.{is_base}
+use Rattle.reg_line.specs.Shortest.{shortest_line}
 use Rattle.reg_model.specs.declared.endpoint.Endpoint.{Endpoint}
 use Rattle.reg_model.specs.Lists.{IsIn}
 use Rattle.reg_model.specs.Registry.{Text, Token, Registry, empty_at, holds, with_id}
-use Rattle.reg_model.specs.Crates.{canons, exists, first, is_restricted, stems, visible}
+use Rattle.reg_model.specs.Crates.{canons, exists, file, first, is_restricted, stems, versions, visible}
 use Rattle.reg_model.specs.declared.rule.Rule.TheVariants as rule
 use Rattle.reg_model.specs.Actions.{Action, crate_of}
 use Rattle.reg_model.specs.Actions.Action.{Index}
@@ -74,6 +75,11 @@ abbrev pub IndexPathsAreOfCrates : Type 0
 IndexPathsAreOfCrates = (s : Registry) (digest path : Text) → Sound s
     → (breaks (access_facts s digest (Index path)) (Index path) rule.A8 ≡ false) ↔
     ((n f : Text) × (first s n ≡ Some f) × (path_of f ≡ path) × (visible s digest n ≡ true))
+
+-- a crate has no more versions than its index file has room for lines
+abbrev pub FilesHaveRoom : Type 0
+FilesHaveRoom = (s : Registry) (name : Text) → Sound s
+    → length (versions s name) * shortest_line name ≤ length (file s name)
 
 -- the first broken rule is the first broken rule on access, or else the first of the others
 abbrev pub AccessComesFirst : Type 0

@@ -1,6 +1,7 @@
 //! Laws of the definitions, each the contract of a function that does nothing.
 
-ghost use Rattle.reg_model.specs.Laws.{AccessComesFirst, DenialsKeep, DenialsName, EmptySound, GrantsArePolicy, IndexPathsAreOfCrates, PlainMatches, PlainVerdicts, RefusalsKeep, RunsJoin, RunsKeepSound, SightAnswers, StemsGrow, StepsAgree, StepsKeepSound, StepsRun, WiderAllows, WiderOrders};
+ghost use Rattle.reg_model.specs.Laws.{AccessComesFirst, DenialsKeep, DenialsName, EmptySound, FilesHaveRoom, GrantsArePolicy, IndexPathsAreOfCrates, PlainMatches, PlainVerdicts, RefusalsKeep, RunsJoin, RunsKeepSound, SightAnswers, StemsGrow, StepsAgree, StepsKeepSound, StepsRun, WiderAllows, WiderOrders};
+ghost use Rattle.reg_model.specs.TrailLaws.{LinesAreRead, OwnersAreTold, PublicationsAreTold, SameTrails, ToldChange, TrailOfOne, TrailsJoin, TrailsReplay, UntoldKeep, YanksAreTold};
 
 /// Steps in a row form a run.
 pub fn run_law()
@@ -35,6 +36,11 @@ pub fn growth_law()
     ensures sound { RunsKeepSound }
 {}
 
+/// A crate has no more versions than its index file has room for.
+pub fn room_law()
+    ensures { FilesHaveRoom }
+{}
+
 /// What begins sound stays sound.
 pub fn soundness_law()
     ensures empty { EmptySound }
@@ -67,4 +73,26 @@ pub fn plain_law()
 pub fn wider_law()
     ensures requests { WiderAllows }
     ensures commands { WiderOrders }
+{}
+
+/// An event has a line in the trail exactly when it changes something; a line can be read back.
+pub fn line_law()
+    ensures untold { UntoldKeep }
+    ensures told { ToldChange }
+    ensures read { LinesAreRead }
+{}
+
+/// The trail of a run is told event by event.
+pub fn telling_law()
+    ensures one { TrailOfOne }
+    ensures join { TrailsJoin }
+{}
+
+/// A trail tells all that its run did, but for what publications carry and the digests of tokens.
+pub fn trail_law()
+    ensures replays { TrailsReplay }
+    ensures same { SameTrails }
+    ensures publications { PublicationsAreTold }
+    ensures yanks { YanksAreTold }
+    ensures owners { OwnersAreTold }
 {}

@@ -9,16 +9,14 @@ use std::marker::Model;
 
 /// A canonical text: that of some crate name, in ASCII lower case with `_` for `-`.
 #[derive(Drop)]
-pub struct CanonText {
-    text: ArrayString<64>,
-}
+pub struct CanonText(ArrayString<64>);
 
 impl Model for CanonText {
     ghost Value = { List ℕ };
 
-    ghost view = { λ n. n.text.bytes };
+    ghost view = { λ n. n.0.bytes };
 
-    ghost invariant = { λ n. IsCanonText n.text.bytes };
+    ghost invariant = { λ n. IsCanonText n.0.bytes };
 }
 
 impl CanonText {
@@ -26,7 +24,7 @@ impl CanonText {
     pub fn as_str(&self) -> &str
         ensures { result.now ≡ self.now }
     {
-        self.text.as_str()
+        self.0.as_str()
     }
 }
 
@@ -49,12 +47,12 @@ pub fn canon(name: &CrateName) -> CanonText
     for b in name.as_str().as_bytes() {
         text.push(canon_byte(*b) as char);
     }
-    CanonText { text }
+    CanonText(text)
 }
 
 /// Whether two names have the same canonical text. A registry holds only one of them.
 pub fn collides(one: &CrateName, other: &CrateName) -> bool
     ensures { IsTrue result ↔ (canon one.now ≡ canon other.now) }
 {
-    canon(one).text == canon(other).text
+    canon(one).0 == canon(other).0
 }

@@ -9,16 +9,14 @@ use std::marker::Model;
 
 /// An account's login: 1 to 32 ASCII lower-case letters, digits, `-` and `_`, the first a letter.
 #[derive(Drop)]
-pub struct Login {
-    text: ArrayString<32>,
-}
+pub struct Login(ArrayString<32>);
 
 impl Model for Login {
     ghost Value = { List ℕ };
 
-    ghost view = { λ n. n.text.bytes };
+    ghost view = { λ n. n.0.bytes };
 
-    ghost invariant = { λ n. is_login n.text.bytes ≡ true };
+    ghost invariant = { λ n. is_login n.0.bytes ≡ true };
 }
 
 fn is_login_byte(b: u8) -> bool
@@ -51,7 +49,7 @@ pub fn parse_login(text: &str) -> Option<Login>
         return None;
     }
     match ArrayString::from(text) {
-        Ok(text) => Some(Login { text }),
+        Ok(text) => Some(Login(text)),
         Err(_) => None,
     }
 }
@@ -63,13 +61,13 @@ impl Login {
         ensures login { is_login result.now ≡ true }
         ensures fits { length result.now ≤ 32 }
     {
-        self.text.as_str()
+        self.0.as_str()
     }
 
     /// A copy of the login.
     pub fn copy(&self) -> Login
         ensures { result ≡ self.now }
     {
-        Login { text: self.text }
+        Login(self.0)
     }
 }

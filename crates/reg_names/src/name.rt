@@ -11,16 +11,14 @@ use std::marker::Model;
 
 /// A crate name: 1 to 64 ASCII letters, digits, `-` and `_`, the first a letter.
 #[derive(Drop)]
-pub struct CrateName {
-    text: ArrayString<64>,
-}
+pub struct CrateName(ArrayString<64>);
 
 impl Model for CrateName {
     ghost Value = { List ℕ };
 
-    ghost view = { λ n. n.text.bytes };
+    ghost view = { λ n. n.0.bytes };
 
-    ghost invariant = { λ n. is_name n.text.bytes ≡ true };
+    ghost invariant = { λ n. is_name n.0.bytes ≡ true };
 }
 
 fn is_name_byte(b: u8) -> bool
@@ -59,7 +57,7 @@ pub fn parse_name(text: &str) -> Option<CrateName>
         return None;
     }
     match ArrayString::from(text) {
-        Ok(text) => Some(CrateName { text }),
+        Ok(text) => Some(CrateName(text)),
         Err(_) => None,
     }
 }
@@ -72,14 +70,14 @@ impl CrateName {
         ensures fits { length result.now ≤ 64 }
         ensures ascii { IsAscii result.now }
     {
-        self.text.as_str()
+        self.0.as_str()
     }
 
     /// A copy of the name.
     pub fn copy(&self) -> CrateName
         ensures { result ≡ self.now }
     {
-        CrateName { text: self.text }
+        CrateName(self.0)
     }
 }
 
@@ -91,5 +89,5 @@ pub fn lower(name: &CrateName) -> CrateName
     for b in name.as_str().as_bytes() {
         text.push(lower_byte(*b) as char);
     }
-    CrateName { text }
+    CrateName(text)
 }

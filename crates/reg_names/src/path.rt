@@ -13,16 +13,14 @@ pub const LONGEST_PATH: usize = 70;
 
 /// The index path of some crate name, like `ca/rg/cargo`.
 #[derive(Drop)]
-pub struct PathText {
-    text: ArrayString<LONGEST_PATH>,
-}
+pub struct PathText(ArrayString<LONGEST_PATH>);
 
 impl Model for PathText {
     ghost Value = { List ℕ };
 
-    ghost view = { λ p. p.text.bytes };
+    ghost view = { λ p. p.0.bytes };
 
-    ghost invariant = { λ p. IsPathText p.text.bytes };
+    ghost invariant = { λ p. IsPathText p.0.bytes };
 }
 
 impl PathText {
@@ -30,7 +28,7 @@ impl PathText {
     pub fn as_str(&self) -> &str
         ensures { result.now ≡ self.now }
     {
-        self.text.as_str()
+        self.0.as_str()
     }
 }
 
@@ -69,7 +67,7 @@ pub fn index_path(name: &CrateName) -> PathText
     let mut text = ArrayString::new();
     text.push_str(folder(name.as_str()).as_str());
     text.push_str(name.as_str());
-    PathText { text }
+    PathText(text)
 }
 
 /// The length of a path's folder, from the length of the path.

@@ -13,16 +13,14 @@ use std::marker::Model;
 
 /// A crate name, or a prefix of names followed by `*`. It keeps its text as given.
 #[derive(Drop)]
-pub struct Pattern {
-    text: ArrayString<65>,
-}
+pub struct Pattern(ArrayString<65>);
 
 impl Model for Pattern {
     ghost Value = { List ℕ };
 
-    ghost view = { λ p. p.text.bytes };
+    ghost view = { λ p. p.0.bytes };
 
-    ghost invariant = { λ p. is_pattern p.text.bytes ≡ true };
+    ghost invariant = { λ p. is_pattern p.0.bytes ≡ true };
 }
 
 pub(crate) fn has_star(bytes: &[u8]) -> bool
@@ -78,7 +76,7 @@ impl Pattern {
             return None;
         }
         match ArrayString::from(text) {
-            Ok(text) => Some(Pattern { text }),
+            Ok(text) => Some(Pattern(text)),
             Err(_) => None,
         }
     }
@@ -89,7 +87,7 @@ impl Pattern {
         ensures pattern { is_pattern result.now ≡ true }
         ensures fits { length result.now ≤ 65 }
     {
-        self.text.as_str()
+        self.0.as_str()
     }
 }
 

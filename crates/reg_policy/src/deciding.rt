@@ -10,12 +10,12 @@ ghost use Rattle.reg_model.specs.Registry.{Registry, Text, holds};
 ghost use Rattle.reg_model.specs.Refusals.{judged};
 ghost use Rattle.reg_model.specs.Crates.{same_release as same_release_of};
 ghost use Rattle.reg_model.specs.Actions.{crate_of, logins_of, version_of};
-ghost use Rattle.reg_model.specs.Rules.{broken as broken_of, has_endpoint, is_absent, is_misspelled, lacks, needed, verdict};
+ghost use Rattle.reg_model.specs.Rules.{broken as broken_of, has_endpoint, is_absent, is_misspelled, lacks, needed as needed_by, verdict};
 ghost use Rattle.reg_policy.specs.Views.{access_of, action_of, counts_of, decision_of, endpoints_of, is_admitted, is_seen, spelling_of};
 ghost use Rattle.reg_policy.specs.Rows.{IsRowsOf};
 
 use crate::action::{Action, Decision, OwnerRow, Rows};
-use crate::orders::order;
+use crate::orders::{needed, order};
 use reg_model::{Endpoint, Endpoints, Rule};
 use reg_names::{CrateName, Pattern, covers, index_path, name_of_path, parse_name};
 use reg_versions::same_release;
@@ -54,29 +54,6 @@ pub fn logins_of<'a>(action: &Action<'a>) -> &'a [&'a str]
     }
 }
 
-/// The endpoint that an action needs.
-fn needed(rows: &Rows, action: &Action) -> Option<Endpoint>
-    ensures { result ≡ needed (spelling_of rows.now) (action_of action.now) }
-{
-    match action {
-        Action::Read => None,
-        Action::Index(_) => None,
-        Action::Download(_, _) => None,
-        Action::ListOwners(_) => None,
-        Action::Publish(_, _) => {
-            if rows.first.is_some() {
-                Some(Endpoint::PublishUpdate)
-            } else {
-                Some(Endpoint::PublishNew)
-            }
-        }
-        Action::Yank(_, _) => Some(Endpoint::Yank),
-        Action::Unyank(_, _) => Some(Endpoint::Yank),
-        Action::AddOwners(_, _) => Some(Endpoint::ChangeOwners),
-        Action::RemoveOwners(_, _) => Some(Endpoint::ChangeOwners),
-    }
-}
-
 /// Whether a token with these endpoints has this one.
 pub fn has_endpoint(endpoints: &Endpoints, endpoint: Endpoint) -> bool
     ensures { result ≡ has_endpoint endpoints.now endpoint }
@@ -92,9 +69,9 @@ pub fn has_endpoint(endpoints: &Endpoints, endpoint: Endpoint) -> bool
 /// Whether the token lacks the endpoint that the action needs. An unknown token has none.
 fn lacks_endpoint(rows: &Rows, action: &Action) -> bool
     ensures { result ≡ lacks (endpoints_of rows.now.token)
-        (needed (spelling_of rows.now) (action_of action.now)) }
+        (needed_by (spelling_of rows.now) (action_of action.now)) }
 {
-    match needed(rows, action) {
+    match needed(rows.first.is_some(), action) {
         Some(endpoint) => match &rows.token {
             Some(token) => !has_endpoint(&token.endpoints, endpoint),
             None => match endpoint {
@@ -325,7 +302,7 @@ fn first_broken(rows: &Rows, action: &Action) -> Decision
         (access_of rows.now (action_of action.now)) (counts_of rows.now (action_of action.now))
         (action_of action.now)) }
 {
-    for rule in order(rows, action) {
+    for rule in order(rows.first.is_some(), action) {
         if broken(rows, action, *rule) {
             return Decision::Denied(*rule);
         }

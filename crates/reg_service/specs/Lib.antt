@@ -1,6 +1,9 @@
 pub mod Answered
 pub mod Handled
 pub mod Looked
+pub mod Reading
 pub mod Registries
 pub mod Sequences
+pub mod Spelled
 pub mod Streamed
+pub mod Telling

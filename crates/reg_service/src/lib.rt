@@ -18,6 +18,7 @@ mod registry;
 mod searching;
 mod sequences;
 mod streaming;
+mod telling;
 mod transactions;
 
 pub use opening::OpenFault;

@@ -1,7 +1,17 @@
 mod Adding
 mod Commands
+mod CrateLines
+mod CratesAsked
 mod Dispatch
+mod Lines
+mod Logins
 mod Named
 mod Outcomes
 mod Owning
 mod Reporting
+mod Rising
+mod TokensAsked
+mod TokenScopes
+mod TokenWalk
+mod Told
+mod Tops

@@ -1,1 +1,4 @@
 pub mod Orders
+pub mod ReportedCrates
+pub mod ReportedTokens
+pub mod Reports

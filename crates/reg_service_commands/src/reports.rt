@@ -5,10 +5,19 @@ ghost use Rattle.reg_model.specs.Events.Command.{Access, Crates, Tokens, Users};
 ghost use Rattle.reg_tables.specs.Works.{IsAtWork, has_failed};
 ghost use Rattle.reg_service_commands.specs.Orders.{Obeys};
 
+mod access;
+mod crates;
+mod tokens;
+mod users;
+mod versions;
+
+use crate::reports::access::access_report;
+use crate::reports::crates::crates_report;
+use crate::reports::tokens::tokens_report;
+use crate::reports::users::users_report;
 use reg_model::AdminRefusal;
 use reg_names::parse_name;
 use reg_policy::AdminReply;
-use reg_service_reports::{access_report, crates_report, tokens_report, users_report};
 use reg_tables::{StoreFault, Work};
 use sqlite::Alter;
 use std::alloc::Global;

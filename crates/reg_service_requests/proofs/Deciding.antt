@@ -21,7 +21,7 @@ use Rattle.reg_model.specs.Refusals.{denied, judged, or_else}
 use Rattle.reg_model.specs.Registry.{Registry, Text}
 use Rattle.reg_model.specs.Rules.{access, broken, is_access_rule, order, verdict}
 use Rattle.reg_model.specs.Steps.{Outcome, outcome, unless_denied}
-use Rattle.reg_access.specs.Admitted.{IsFoundOf}
+use Rattle.reg_access.specs.Admitted.{IsFoundOf, IsIdOf, version_named}
 use Rattle.reg_access.specs.declared.admission.Caller.{Caller}
 use Rattle.reg_access.specs.declared.admission.FoundCrate.{FoundCrate}
 use Rattle.reg_access.specs.Verdict.{IsPolicy}
@@ -32,7 +32,7 @@ use Rattle.reg_policy.specs.Views.{decision_of}
 use Rattle.reg_api_replies.specs.declared.reply.Reply.TheVariants.{Denied}
 use Rattle.reg_tables.specs.declared.work.StoreFault.{StoreFault}
 use Rattle.reg_tables.specs.declared.work.Work.{Work}
-use Rattle.reg_service_requests.specs.Granted.{Grants, GrantsOf, GrantsTo, IsLet}
+use Rattle.reg_service_requests.specs.Granted.{Grants, GrantsOf, GrantsTo, GrantsVersion, IsLet}
 use Rattle.reg_service_requests.specs.Named.{IsViewer}
 use Rattle.reg_service_requests.specs.Serves.{Serves}
 use Rattle.reg_service_requests.specs.declared.served.Served.{Served}
@@ -115,6 +115,17 @@ module _ {S : Type 0} (g : Ghosts S) (limits : Limits) (caller : Caller) (asked 
     leaves = h.leaves;
   }
   of_crate (Err e) it text c found h = record { told = λ clean. tt; leaves = h.leaves }
+
+  -- of the version that was found
+  of_version : (r : Result Served StoreFault) (it : Text → Text → Asked) (n v : Text) (id : ℕ) → caller.version ≡ Some id → GrantsVersion id g it r old new → GrantsTo limits caller g (it n v) r old new
+  of_version (Ok x) it n v id found h = record {
+    told = λ clean digest lets who. h.told clean n v limits digest lets (λ ids s holds. subst (IsIdOf ids (version_named s (action_of (it n v)))) found (who ids s holds).version);
+    leaves = h.leaves;
+  }
+  of_version (Err e) it n v id found h = record { told = λ clean. tt; leaves = h.leaves }
+
+  pub version_given : (it : Text → Text → Asked) (n v : Text) (id : ℕ) → asked_of given ≡ it n v → caller.version ≡ Some id → GrantsVersion id g it r old new → GrantsTo limits caller g (asked_of asked) r old new
+  version_given it n v id is found h = as_given (subst (λ a. GrantsTo limits caller g a r old new) (sym is) (of_version r it n v id found h))
 
   pub crate_given : (it : Text → Asked) (text : Text) (c : FoundCrate) → asked_of given ≡ it text → caller.found ≡ Some c → GrantsOf c g it r old new → GrantsTo limits caller g (asked_of asked) r old new
   crate_given it text c is found h = as_given (subst (λ a. GrantsTo limits caller g a r old new) (sym is) (of_crate r it text c found h))

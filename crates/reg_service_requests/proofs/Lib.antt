@@ -13,3 +13,4 @@ pub mod Publications
 pub mod ReadingServed
 mod Rising
 pub mod Running
+mod VersionArchives

@@ -29,8 +29,7 @@ use Rattle.reg_model.proofs.Members.{any_in, in_any}
 use Rattle.reg_api_replies.specs.Bodies.{publish_body}
 use Rattle.reg_api_replies.specs.declared.head.Kind.TheVariants.{Json}
 use Rattle.reg_api_replies.specs.declared.reply.Reply.TheVariants as reply
-use Rattle.reg_tables_meaning.specs.Calls.{AddsFirst, AddsNext, ReachesVersions, Tells, published}
-use Rattle.reg_tables_meaning.specs.Changes.{told_of}
+use Rattle.reg_tables_meaning.specs.Calls.{AddsFirst, AddsNext, Tells, published}
 use Rattle.reg_tables_meaning.specs.declared.crates.NewVersion.{NewVersion}
 use Rattle.reg_tables_meaning.specs.Stands.{Stands}
 use Rattle.reg_access.specs.Admitted.{IsFoundOf}
@@ -103,20 +102,17 @@ new_crate p owner v id body old new is text adds limits d who fresh allowed = do
       subst (λ t. Stands t new) (ap (λ q. with_owner (canon p.name, owner) (with_publication q s)) is ∙ first_done s d p owner none (who ids s h)) (_, (adds ids s h none).1),
     ))
 
-pub versions_full : (limits : Limits) (id : ℕ) (full : Bool) (db : Trees) → ReachesVersions id limits.versions db full → TellsFullOf limits id db full
-versions_full limits id full db told ids s h n at = told ids s h ∙ ap (λ o. nat_le limits.versions (told_of o 0 (λ m. length (versions s m)))) at
-
 module _ (limits : Limits) (d : Text) (p : Publication) (old : Trees) where
   judged_first : (b : Bool) → TellsFull limits old b → IsNew p old → IsLet d (action_of (Publish p)) old → Tells (λ ids s. denied limits s (Some d) (Publish p) ≡ cond b (Some rule.L2) None) old
   judged_first b full fresh passes ids s h =
       left_so limits s d p None (fresh ids s h) (passes ids s h) ∙ first_left limits s d p ∙ ap (λ b. cond b (Some rule.L2) None) (sym (full ids s h))
 
-  judged_next : (b : Bool) (id : ℕ) → TellsFullOf limits id old b → IsOf id p old → IsLet d (action_of (Publish p)) old → Tells (λ ids s. denied limits s (Some d) (Publish p) ≡ cond b (Some rule.L1) None) old
-  judged_next b id full of passes ids s h =
-      let (n, at, place) = of ids s h in
-      left_so limits s d p (Some n) at (passes ids s h) ∙ next_left limits s d p n
-      ∙ ap (λ c. cond (nat_le limits.versions (length (filter (λ q. bytes_eq (canon q.name) c) s.publications))) (Some rule.L1) None) (sym (spelled s.publications p.name n h.sound.publications at).1)
-      ∙ ap (λ b. cond b (Some rule.L1) None) (sym (full ids s h n place))
+  judged_next : (b : Bool) (c : FoundCrate) → TellsFullOf limits c old b → IsOf c p old → IsLet d (action_of (Publish p)) old → Tells (λ ids s. denied limits s (Some d) (Publish p) ≡ cond b (Some rule.L1) None) old
+  judged_next b c full of passes ids s h =
+      let (at, place) = of ids s h in
+      left_so limits s d p (Some c.name) at (passes ids s h) ∙ next_left limits s d p c.name
+      ∙ ap (λ t. cond (nat_le limits.versions (length (filter (λ q. bytes_eq (canon q.name) t) s.publications))) (Some rule.L1) None) (sym (spelled s.publications p.name c.name h.sound.publications at).1)
+      ∙ ap (λ b. cond b (Some rule.L1) None) (sym (full ids s h place))
 
 -- the first version of a crate
 module _ (limits : Limits) (owner : ℕ) (p : Publication) (old : Trees) where
@@ -127,19 +123,19 @@ module _ (limits : Limits) (owner : ℕ) (p : Publication) (old : Trees) where
   first_let new it full makes d who fresh passes = makes limits d who fresh (judged_first limits d p old false full fresh passes)
 
 -- a further version
-module _ (limits : Limits) (p : Publication) (id : ℕ) (old : Trees) where
-  pub next_refused : TellsFullOf limits id old true → PublishesNext limits id p old old (Told (reply.Denied rule.L1))
-  next_refused full d of passes = told_denied limits d (Publish p) rule.L1 old old (judged_next limits d p old true id full of passes)
+module _ (limits : Limits) (p : Publication) (c : FoundCrate) (old : Trees) where
+  pub next_refused : TellsFullOf limits c old true → PublishesNext limits c p old old (Told (reply.Denied rule.L1))
+  next_refused full d of passes = told_denied limits d (Publish p) rule.L1 old old (judged_next limits d p old true c full of passes)
 
-  pub next_let : (v : NewVersion) (body : Vec _ Global) (new : Trees) → published p.name v ≡ p → body.items ≡ publish_body → TellsFullOf limits id old false → AddsNext id v old new → PublishesNext limits id p old new (Done (reply.Done Json body))
+  pub next_let : (v : NewVersion) (body : Vec _ Global) (new : Trees) → published p.name v ≡ p → body.items ≡ publish_body → TellsFullOf limits c old false → AddsNext c.id v old new → PublishesNext limits c p old new (Done (reply.Done Json body))
   next_let v body new is text full adds d of passes = done_served limits d (Publish p) (reply.Done Json body) old new (λ ids s h.
-      let (n, at, place) = of ids s h in
-      let allowed = judged_next limits d p old false id full of passes ids s h in
-      let (same, none) = next_clear limits s d p n at allowed in
+      let (at, place) = of ids s h in
+      let allowed = judged_next limits d p old false c full of passes ids s h in
+      let (same, none) = next_clear limits s d p c.name at allowed in
       let fresh : has_version s (canon p.name) v.text.now ≡ false = ap (λ q. has_version s (canon p.name) q.version) is ∙ other_version s p.name p.version none in (
         allowed,
         (refl, refl, text),
-        subst (λ t. Stands t new) (ap (λ q. with_publication q s) is ∙ next_done s d p (is_there s p.name (Some n) at)) (_, adds ids s p.name h (place ∙ ap Some same) fresh),
+        subst (λ t. Stands t new) (ap (λ q. with_publication q s) is ∙ next_done s d p (is_there s p.name (Some c.name) at)) (_, adds ids s p.name h (place ∙ ap Some same) fresh),
       ))
 
 -- the crate that was found, if one was
@@ -153,5 +149,5 @@ module _ (limits : Limits) (caller : Caller) (p : Publication) (old new : Trees)
   pub of_new : caller.found ≡ None → PublishesFirst limits caller.account p old new it → Granted
   of_new none publishes d passes who = publishes d (λ ids s h. (who ids s h).account) (found_is None none d who) passes
 
-  pub of_known : (c : FoundCrate) → caller.found ≡ Some c → PublishesNext limits c.id p old new it → Granted
-  of_known c some publishes d passes who = publishes d (λ ids s h. let is = found_is (Some c) some d who ids s h in (c.name, is.first, is.placed)) passes
+  pub of_known : (c : FoundCrate) → caller.found ≡ Some c → PublishesNext limits c p old new it → Granted
+  of_known c some publishes d passes who = publishes d (λ ids s h. let is = found_is (Some c) some d who ids s h in (is.first, is.placed)) passes

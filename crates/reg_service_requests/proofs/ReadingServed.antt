@@ -1,9 +1,9 @@
 -- What the tables tell of a read is what it is served.
-use Rattle.std.proofs.Common.{◌≡◌, List, [], ◌∷◌, ℕ, Bool, true, false, cond, map, Some, None, unwrap_or, refl, sym, ap, ◌∙◌}
+use Rattle.std.proofs.Common.{◌≡◌, List, [], ◌∷◌, ℕ, Bool, true, false, cond, map, Some, unwrap_or, refl, sym, ap, ◌∙◌}
 use Rattle.std.specs.Prelude.{Vec}
 use Rattle.std.specs.declared.alloc.Global.{Global}
 use Rattle.std.specs.FinSet as finset
-use Rattle.std.specs.List.{enumerate_from, filter, find}
+use Rattle.std.specs.List.{enumerate_from, filter}
 use Rattle.std.specs.Option.{option_map}
 use Rattle.std.specs.Str.{bytes_eq}
 use Rattle.sqlite.specs.Tree.{Trees}
@@ -22,31 +22,33 @@ use Rattle.reg_api_replies.specs.declared.head.Kind.TheVariants as kind
 use Rattle.reg_api_replies.specs.declared.reply.Reply.TheVariants.{Done}
 use Rattle.reg_tables_schema.proofs.Queries.{maps_twice}
 use Rattle.reg_tables_sql.specs.declared.accounts.Account.{Account}
+use Rattle.reg_tables_sql.specs.declared.archives.Archive.{Archive}
 use Rattle.reg_tables_sql.specs.declared.versions.Version.{Version}
-use Rattle.reg_tables_meaning.specs.Calls.{FindsArchive, ListsOwners, ListsVersions}
+use Rattle.reg_tables_sql.specs.Archives.{IsArchiveWithId}
+use Rattle.reg_tables_meaning.specs.Calls.{ListsOwners, ListsVersions}
 use Rattle.reg_tables_meaning.specs.Changes.{told_of}
 use Rattle.reg_tables_meaning.specs.Entries.{ShownVersion, entry_of_account, shown_version, version_shown}
 use Rattle.reg_tables_meaning.specs.Stands.{Ids, spelling_at}
 use Rattle.reg_tables_meaning.proofs.CrateLemmas.{same_bytes}
 use Rattle.reg_access.specs.declared.admission.FoundCrate.{FoundCrate}
-use Rattle.reg_service_requests.specs.Granted.{IsCrate, IsLet}
+use Rattle.reg_service_requests.specs.Granted.{IsCrate, IsLet, IsVersion}
 use Rattle.reg_service_requests.specs.Named.{IsSpelled}
 use Rattle.reg_service_requests.specs.Reads.{TellsBase, entry_of_version, owner_of_account}
 use Rattle.reg_service_requests.specs.Serves.{Serves}
 use Rattle.reg_service_requests.specs.declared.served.Served.TheVariants.{Told}
 use Rattle.reg_service_requests.proofs.Judging.{denied_by_others, told_served}
 use Rattle.reg_service_requests.proofs.Names.{spelled_as, spelled_at}
+use Rattle.reg_service_requests.proofs.VersionArchives.{archive_at, named_version}
 
 -- what is told of a crate by its canonical text is the same by its id
 by_canon : {X : Type 0} (tell : Text → X) (nothing : X) (ids : Ids) (n : Text) (id : ℕ) → IsSpelled ids n id → told_of (spelling_at ids id) nothing (λ name. tell (canon name)) ≡ tell (canon n)
 by_canon tell nothing ids n id (m, at, same) = ap (λ o. told_of o nothing (λ name. tell (canon name))) at ∙ ap tell same
 
-pub archive_served : (n v : Text) (c : FoundCrate) (archive : Vec ℕ Global) (db : Trees) → FindsArchive c.id v db (Some archive)
-    → (limits : Limits) (digest : Text) → IsLet digest (action_of (Download n v)) db → IsCrate (action_of (Download n v)) c db → Serves limits (Some digest) (Download n v) db db (Told (Done kind.Archive archive))
+pub archive_served : (n v : Text) (id : ℕ) (archive : Archive) (db : Trees) → IsArchiveWithId id db (Some archive)
+    → (limits : Limits) (digest : Text) → IsLet digest (action_of (Download n v)) db → IsVersion (action_of (Download n v)) id db → Serves limits (Some digest) (Download n v) db db (Told (Done kind.Archive archive.bytes))
 unfolding done
-archive_served n v c archive db found limits digest lets is = told_served limits digest (Download n v) (Done kind.Archive archive) db db (λ ids s h.
-    let archive_by = λ (text : Text). option_map (λ (p : Publication). p.archive) (find (λ p. bytes_eq p.version v) (filter (λ p. bytes_eq (canon p.name) text) s.publications)) in
-    let same = found ids s h ∙ by_canon archive_by None ids n c.id (spelled_as ids s c n (is ids s h)).1 in
+archive_served n v id archive db found limits digest lets is = told_served limits digest (Download n v) (Done kind.Archive archive.bytes) db db (λ ids s h.
+    let same = archive_at ids s.publications s.yanked db h.stands.crates id (Some archive) found ∙ ap (option_map (λ p. p.archive)) (named_version ids s n v id (is ids s h)) in
     (denied_by_others limits digest (Download n v) s (lets ids s h), (refl, refl, ap (λ o. unwrap_or o []) same), refl))
 
 pub owners_served : (n : Text) (c : FoundCrate) (list : List Account) (text : Vec ℕ Global) (db : Trees) → text.items ≡ owners_body (map owner_of_account list) → ListsOwners c.id db list

@@ -11,7 +11,7 @@ ghost use Rattle.reg_service_requests.specs.Publications.{MakesCrate, PublishesF
 ghost use Rattle.reg_service_requests.specs.Runs.{Runs};
 
 use crate::served::Served;
-use reg_access::Caller;
+use reg_access::{Caller, FoundCrate};
 use reg_api_replies::{Kind, Reply, publish_body};
 use reg_body::Limits;
 use reg_policy::{NewPublication, Rule};
@@ -44,13 +44,12 @@ fn is_full<S: Alter>(work: &mut Work<'_, S>, limits: &Limits) -> Result<bool, St
 fn is_full_of<S: Alter>(
     work: &mut Work<'_, S>,
     limits: &Limits,
-    crate_id: u32,
+    found: &FoundCrate,
 ) -> Result<bool, StoreFault>
     requires { IsAtWork S.Store work.old }
-    ensures { Asks S.Store work.old work.new result (TellsFullOf limits.now crate_id) }
+    ensures { Asks S.Store work.old work.new result (TellsFullOf limits.now found.now) }
 {
-    let full = work.reaches_versions(crate_id, limits.versions)?;
-    Ok(full)
+    work.reaches_versions(found.id, &found.name, limits.versions)
 }
 
 /// Creates a crate with its first version and its owner.
@@ -91,19 +90,19 @@ fn publish_first<S: Alter>(
     make_crate(alloc, work, owner, new)
 }
 
-/// Publishes a further version of the crate with this id.
+/// Publishes a further version of this crate.
 fn publish_next<S: Alter>(
     alloc: Global,
     work: &mut Work<'_, S>,
     limits: &Limits,
-    crate_id: u32,
+    found: &FoundCrate,
     new: &NewPublication<'_>,
 ) -> Result<Served, StoreFault>
     requires { IsAtWork S.Store work.old }
     ensures { Runs S.Store work.old work.new result
-        (PublishesNext limits.now crate_id (publication_of new.now)) }
+        (PublishesNext limits.now found.now (publication_of new.now)) }
 {
-    let full = is_full_of(work, limits, crate_id)?;
+    let full = is_full_of(work, limits, found)?;
     if full {
         return Ok(Served::Told(Reply::Denied(Rule::L1)));
     }
@@ -111,7 +110,7 @@ fn publish_next<S: Alter>(
         return work.fail();
     };
     let version = version_of(new);
-    work.add_version(crate_id, &version)?;
+    work.add_version(found.id, &version)?;
     Ok(Served::Done(Reply::Done(Kind::Json, body)))
 }
 
@@ -128,7 +127,7 @@ pub(crate) fn publish<S: Alter>(
         result work.old work.new }
 {
     match &caller.found {
-        Some(found) => publish_next(alloc, work, limits, found.id, new),
+        Some(found) => publish_next(alloc, work, limits, found, new),
         None => publish_first(alloc, work, limits, caller.account, new),
     }
 }

@@ -5,7 +5,7 @@ ghost use Rattle.reg_model.specs.Events.Asked.{Download, Index, ListOwners, Read
 ghost use Rattle.reg_model.specs.Events.Reading.{Config};
 ghost use Rattle.reg_tables.specs.Works.{IsAtWork, has_failed};
 ghost use Rattle.reg_access.specs.Asks.{Asks};
-ghost use Rattle.reg_service_requests.specs.Granted.{Grants, GrantsOf};
+ghost use Rattle.reg_service_requests.specs.Granted.{Grants, GrantsOf, GrantsVersion};
 ghost use Rattle.reg_service_requests.specs.Reads.{TellsBase};
 
 use crate::bodies::{index_file, owners_list};
@@ -60,18 +60,16 @@ pub(crate) fn read_index<S: Alter>(
     }
 }
 
-/// The archive of a version.
+/// The archive of the version with this id.
 pub(crate) fn read_archive<S: Alter>(
     work: &mut Work<'_, S>,
-    found: &FoundCrate,
-    version: &str,
+    version: u64,
 ) -> Result<Served, StoreFault>
     requires { IsAtWork S.Store work.old }
-    ensures { GrantsOf found.now S.Store (λ name. Download name version.now)
-        result work.old work.new }
+    ensures { GrantsVersion version S.Store Download result work.old work.new }
 {
-    match work.archive_of(found.id, version)? {
-        Some(archive) => Ok(Served::Told(Reply::Done(Kind::Archive, archive))),
+    match work.archive_with_id(version)? {
+        Some(archive) => Ok(Served::Told(Reply::Done(Kind::Archive, archive.bytes))),
         None => work.fail(),
     }
 }

@@ -3,6 +3,7 @@
 ghost use Rattle.std.specs.Prelude.{◌≡◌, IsSome, false, true};
 ghost use Rattle.std.specs.Option.{option_map};
 ghost use Rattle.reg_access.specs.Admitted.{needs_crate};
+ghost use Rattle.reg_access.specs.JoinRows.{names_version};
 ghost use Rattle.reg_model.specs.Events.{action_of as action_asked};
 ghost use Rattle.reg_policy.specs.Events.{asked_of};
 ghost use Rattle.reg_tables.specs.Works.{IsAtWork, has_failed};
@@ -36,6 +37,8 @@ fn grant<S: Alter>(
     requires goes_on { has_failed work.old ≡ false }
     requires there { needs_crate (action_asked (asked_of asked.now)) ≡ true
         → IsSome caller.now.found }
+    requires named { names_version (action_asked (asked_of asked.now)) ≡ true
+        → IsSome caller.now.version }
     ensures { GrantsTo limits.now caller.now S.Store (asked_of asked.now)
         result work.old work.new }
 {
@@ -44,7 +47,7 @@ fn grant<S: Alter>(
         Asked::Read(Reading::Config) => read_config(alloc, work),
         Asked::Read(Reading::Search(_, _)) => Ok(Served::Seeks(caller.account)),
         Asked::Index(_) => read_index(alloc, work, caller.found_crate()),
-        Asked::Download(_, version) => read_archive(work, caller.found_crate(), version),
+        Asked::Download(_, _) => read_archive(work, caller.found_version()),
         Asked::ListOwners(_) => list_owners(alloc, work, caller.found_crate()),
         Asked::Publish(new) => publish(alloc, work, limits, caller, new),
         Asked::Yank(_, version) => set_yanked(alloc, work, caller.found_crate(), version, true),

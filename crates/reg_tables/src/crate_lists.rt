@@ -6,7 +6,7 @@ ghost use Rattle.reg_tables_meaning.specs.Calls.{FindsArchive, FindsCrate, Finds
 ghost use Rattle.reg_tables.specs.Works.{Heard, IsAtWork, IsCall, Unmoved, rows_seen};
 
 use crate::work::{StoreFault, Work, call};
-use reg_names::CanonText;
+use reg_names::{CanonText, CrateName};
 use reg_tables_meaning::{crate_lists, summaries};
 use reg_tables_sql::crates::Crate;
 use reg_tables_sql::summaries::Summary;
@@ -44,17 +44,22 @@ impl<S: Alter> Work<'_, S> {
         )
     }
 
-    /// Whether the crate with this id has at least this many versions; none if it does not exist.
-    pub fn reaches_versions(&mut self, crate_id: u32, number: u64) -> Result<bool, StoreFault>
+    /// Whether the crate with this id and spelling has at least this many versions.
+    pub fn reaches_versions(
+        &mut self,
+        crate_id: u32,
+        name: &CrateName,
+        number: u64,
+    ) -> Result<bool, StoreFault>
         requires { IsAtWork S.Store self.old }
         ensures told { Heard S.Store self.new result
-            (ReachesVersions crate_id number (rows_seen S.Store self.old)) }
+            (ReachesVersions crate_id name.now number (rows_seen S.Store self.old)) }
         ensures same { Unmoved S.Store result self.old self.new }
         ensures leaves { IsCall S.Store result self.old self.new }
     {
         call!(
             self,
-            crate_lists::reaches_versions(&mut self.tables.conn, crate_id, number)
+            crate_lists::reaches_versions(&mut self.tables.conn, crate_id, name, number)
         )
     }
 

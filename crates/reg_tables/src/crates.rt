@@ -1,7 +1,7 @@
 //! Calls on crates and their versions.
 
-ghost use Rattle.reg_tables_meaning.specs.Calls.{AddsFirst, AddsNext, SetsYanked};
-ghost use Rattle.reg_tables.specs.Works.{Carried, Heard, IsAtWork, IsCall, rows_seen};
+ghost use Rattle.reg_tables_meaning.specs.Calls.{AddsFirst, AddsNext, SetsYanked, TellsOtherMark};
+ghost use Rattle.reg_tables.specs.Works.{Carried, Heard, IsAtWork, IsCall, Unmoved, rows_seen};
 
 use crate::work::{StoreFault, Work, call};
 use reg_names::CrateName;
@@ -39,6 +39,25 @@ impl<S: Alter> Work<'_, S> {
         call!(
             self,
             crates::add_next(&mut self.tables.conn, crate_id, version)
+        )
+    }
+
+    /// Whether a version that is there, of the crate with this id, has not this mark.
+    pub fn has_other_mark(
+        &mut self,
+        crate_id: u32,
+        text: &str,
+        yanked: bool,
+    ) -> Result<bool, StoreFault>
+        requires { IsAtWork S.Store self.old }
+        ensures told { Heard S.Store self.new result
+            (TellsOtherMark crate_id text.now yanked (rows_seen S.Store self.old)) }
+        ensures same { Unmoved S.Store result self.old self.new }
+        ensures leaves { IsCall S.Store result self.old self.new }
+    {
+        call!(
+            self,
+            crates::has_other_mark(&mut self.tables.conn, crate_id, text, yanked)
         )
     }
 

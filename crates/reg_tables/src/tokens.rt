@@ -1,6 +1,6 @@
 //! Calls on tokens.
 
-ghost use Rattle.reg_tables_meaning.specs.Calls.{AddsToken, Ends, FindsToken, ListsScopes, ListsTokens};
+ghost use Rattle.reg_tables_meaning.specs.Calls.{AddsToken, Ends, FindsToken, ListsScopes, ListsTokens, TellsLive};
 ghost use Rattle.reg_tables.specs.Works.{Carried, Heard, IsAtWork, IsCall, Unmoved, rows_seen};
 
 use crate::work::{StoreFault, Work, call};
@@ -66,6 +66,16 @@ impl<S: Alter> Work<'_, S> {
                 patterns
             )
         )
+    }
+
+    /// Whether a token is live, if there is one with this id.
+    pub fn is_live(&mut self, id: u32) -> Result<Option<bool>, StoreFault>
+        requires { IsAtWork S.Store self.old }
+        ensures told { Heard S.Store self.new result (TellsLive id (rows_seen S.Store self.old)) }
+        ensures same { Unmoved S.Store result self.old self.new }
+        ensures leaves { IsCall S.Store result self.old self.new }
+    {
+        call!(self, tokens::is_live(&mut self.tables.conn, id))
     }
 
     /// Revokes the token with this id. If there is none, nothing changes.

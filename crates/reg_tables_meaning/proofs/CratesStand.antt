@@ -3,7 +3,7 @@ use Rattle.reg_tables_sql.specs.Owners.{owner_columns}
 use Rattle.sqlite.specs.declared.types.Value.TheVariants.{Int}
 use Rattle.sqlite_trees.specs.Tree.{put_row}
 use Rattle.reg_tables_meaning.specs.Changes.{next_crate, ids_with_crate, ids_with_version, if_there, mark_at, with_mark}
-use Rattle.std.proofs.Common.{◌≢◌, refl, sym, ◌≡◌, ◌==◌, not, ℕ, List, [], ◌∷◌, ◌++◌, map, Bool, true, false, cond, Option, ap, subst, ◌∙◌, Some, sym, None}
+use Rattle.std.proofs.Common.{◌≢◌, refl, sym, ◌≡◌, ◌==◌, not, ℕ, List, [], ◌∷◌, ◌++◌, map, Bool, true, false, cond, Option, ap, subst, ◌∙◌, Some, sym, None, is_some}
 use Rattle.std.specs.Prelude.{drop}
 use Rattle.std.specs.List.{filter}
 use Rattle.std.specs.List.Sorted.{IsPermutation}
@@ -223,6 +223,19 @@ module _ (ids : Ids) (s : Registry) (id : ℕ) (text : Text) (b : Bool) (db : Tr
   one_of_it name at v is =
       one_id id text b db found told v.id v.publication.digest v.publication.stem v.publication.description (finset.contains s.yanked (canon name, text))
       (row_found ids s.publications s.yanked db h.stands.crates h.sound.releases id name text (there_at ids id name at) v is)
+
+other_mark : (was b : Bool) (n : ℕ) → was ≡ cond (is_some (id_unless was b n)) (not b) b
+other_mark true true n = refl
+other_mark true false n = refl
+other_mark false true n = refl
+other_mark false false n = refl
+
+-- whether one does
+pub marks_other : (ids : Ids) (s : Registry) (id : ℕ) (text : Text) (b : Bool) (db : Trees) (found : Option ℕ) → Holds ids s db → IsOtherwise id text b db found → (name : Text) → spelling_at ids id ≡ Some name → has_version s (canon name) text ≡ true
+    → finset.contains s.yanked (canon name, text) ≡ cond (is_some found) (not b) b
+marks_other ids s id text b db found h told name at published =
+    let v = target_at ids s id text b db h found told name at published in
+    other_mark (finset.contains s.yanked (canon name, text)) b v.0.id ∙ ap (λ o. cond (is_some o) (not b) b) (sym (one_of_it ids s id text b db h found told name at v.0 v.1))
 
 -- none does: all is as it was
 pub marks_none : (ids : Ids) (s : Registry) (id : ℕ) (text : Text) (b : Bool) (db : Trees) → Holds ids s db → IsOtherwise id text b db None → StandsBy ids (mark_at ids id text b s) db

@@ -26,6 +26,7 @@ mod ReservedChanges
 mod Relations
 pub mod Results
 mod Rising
+mod Room
 pub mod RowReading
 pub mod Rowids
 mod ScopeRows

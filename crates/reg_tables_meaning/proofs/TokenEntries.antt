@@ -1,6 +1,8 @@
 -- Tokens that selections show.
-use Rattle.std.proofs.Common.{◌≡◌, ℕ, pos, List, [], ◌∷◌, map, refl, ◌∙◌, ap}
-use Rattle.std.specs.List.{enumerate_from}
+use Rattle.std.proofs.Common.{◌≡◌, ◌==◌, ℕ, pos, List, [], ◌∷◌, map, Bool, true, false, cond, Option, Some, None, refl, sym, subst, ◌∙◌, ap}
+use Rattle.std.specs.List.{enumerate_from, filter}
+use Rattle.std.specs.List.Sorted.{IsPermutation}
+use Rattle.std.specs.Option.{option_map}
 use Rattle.sqlite.specs.declared.types.Value.{Value}
 use Rattle.sqlite.specs.declared.types.Value.TheVariants.{Int, Blob}
 use Rattle.sqlite.specs.Order.{Row}
@@ -11,12 +13,15 @@ use Rattle.reg_model.specs.Registry as model
 use Rattle.reg_tables_schema.specs.Rows.{IsInOrder, by_column}
 use Rattle.reg_tables_schema.proofs.Queries.{maps_twice}
 use Rattle.reg_tables_sql.specs.declared.tokens.Token.{Token}
-use Rattle.reg_tables_sql.specs.Tokens.{columns_of_token}
+use Rattle.reg_tables_sql.specs.Tokens.{IsTokenWithId, columns_of_token}
 use Rattle.reg_tables_meaning.specs.TokenEntries.{entry_of_token, without_patterns}
 use Rattle.reg_tables_meaning.specs.Stands.{row_of_token, StandTokens}
-use Rattle.reg_tables_schema.specs.Tests.{shows}
+use Rattle.reg_tables_schema.specs.Tests.{is_number, shows}
+use Rattle.reg_tables_meaning.specs.Entries.{one_of}
 use Rattle.reg_tables_meaning.proofs.AccountEntries.{mark_is}
-use Rattle.reg_tables_meaning.proofs.Selected.{column_total, places_rise}
+use Rattle.reg_tables_meaning.proofs.Numbered.{none_at, one_at}
+use Rattle.reg_tables_meaning.proofs.Selected.{column_total, places_rise, selected_one}
+use Rattle.reg_tables_meaning.proofs.Standing.{same_number}
 
 heads : {a b : Value} {xs ys : Row} → ◌≡◌ {A = Row} (a ∷ xs) (b ∷ ys) → a ≡ b
 heads e = cc
@@ -64,3 +69,38 @@ lists_tokens tokens db stands list h =
     let es = enumerate_from 1 tokens in
     let all = sorted_unique (by_column 0) (column_total 0) (map row_of_token es) h.ordered (places_rise row_of_token (λ e. refl) 1 tokens) (IsPermutation-trans (map row_of_token es) (db 3) h.ordered stands.rows h.same) h.sorted in
     each_token es list (h.shown ∙ ap (map show) all ∙ maps_twice row_of_token show es)
+
+same_short : (e : ℕ × model.Token) (t : Token) → show (row_of_token e) ≡ columns_of_token t → without_patterns e ≡ entry_of_token t
+same_short e t h = sym (same_token e t (sym h))
+
+-- the token with an id, patterns aside
+finds_with_id : (tokens : List model.Token) (db : Trees) → StandTokens tokens db → (id : ℕ) (found : Option Token) → IsTokenWithId id db found
+    → filter (λ e. e.0 == id) (map without_patterns (enumerate_from 1 tokens)) ≡ one_of (option_map entry_of_token found)
+finds_with_id tokens db stands id found h =
+    selected_one row_of_token show columns_of_token entry_of_token same_short (is_number 0 id) (λ e. e.0 == id) (λ e. same_number e.0 id) (map without_patterns (enumerate_from 1 tokens)) (db 3) found
+    (subst (λ rows. IsPermutation rows (db 3)) (sym (maps_twice without_patterns row_of_token (enumerate_from 1 tokens))) stands.rows) h
+
+short_filter : (id : ℕ) (es : List (ℕ × model.Token)) → filter (λ e. e.0 == id) (map without_patterns es) ≡ map without_patterns (filter (λ e. e.0 == id) es)
+short_filter id [] = refl
+short_filter id (e ∷ es) = by (short_filter id es) (e.0 == id)
+  where
+    by : filter (λ e. e.0 == id) (map without_patterns es) ≡ map without_patterns (filter (λ e. e.0 == id) es) → (b : Bool) → cond b (without_patterns e ∷ filter (λ e. e.0 == id) (map without_patterns es)) (filter (λ e. e.0 == id) (map without_patterns es)) ≡ map without_patterns (cond b (e ∷ filter (λ e. e.0 == id) es) (filter (λ e. e.0 == id) es))
+    by rest true = ap (λ l. without_patterns e ∷ l) rest
+    by rest false = rest
+
+pub live_told : (tokens : List model.Token) (db : Trees) → StandTokens tokens db → (id : ℕ) (found : Option Token) → IsTokenWithId id db found → option_map (λ t. t.live) found ≡ option_map (λ t. t.live) (model.with_id tokens id)
+live_told tokens db stands id found h = by (model.with_id tokens id) refl found (sym (short_filter id (enumerate_from 1 tokens)) ∙ finds_with_id tokens db stands id found h)
+  where
+    by : (o : Option model.Token) → model.with_id tokens id ≡ o → (found : Option Token) → map without_patterns (filter (λ e. e.0 == id) (enumerate_from 1 tokens)) ≡ one_of (option_map entry_of_token found) → option_map (λ t. t.live) found ≡ option_map (λ t. t.live) o
+    by None e found k = none found (sym (ap (map without_patterns) (none_at id tokens e)) ∙ k)
+      where
+        none : (found : Option Token) → [] ≡ one_of (option_map entry_of_token found) → option_map (λ t. t.live) found ≡ None
+        none None k = refl
+        none (Some t) k = absurd cc
+    by (Some x) e found k = some found (sym (ap (map without_patterns) (one_at id tokens x e)) ∙ k)
+      where
+        some : (found : Option Token) → without_patterns (id, x) ∷ [] ≡ one_of (option_map entry_of_token found) → option_map (λ t. t.live) found ≡ Some x.live
+        some None k = absurd cc
+        some (Some t) k = ap (λ e. Some e.1.live) (sym (first k))
+        first : {a b : ℕ × model.Token} → ◌≡◌ {A = List (ℕ × model.Token)} (a ∷ []) (b ∷ []) → a ≡ b
+        first e = cc

@@ -1,5 +1,5 @@
 -- How many versions of a crate the rows stand for.
-use Rattle.std.proofs.Common.{◌≡◌, ◌==◌, ◌<◌, ◌+◌, ◌-◌, ℕ, true, false, map, length, nat_le, not, Option, Some, None, refl, sym, ap, arith, ◌∙◌}
+use Rattle.std.proofs.Common.{◌≡◌, ◌==◌, ◌<◌, ◌+◌, ◌-◌, ℕ, false, map, length, nat_le, not, Option, Some, None, refl, sym, ap, arith, ◌∙◌}
 use Rattle.std.specs.Prelude.{unwrap_or}
 use Rattle.std.specs.List.{filter}
 use Rattle.std.proofs.lemmas.List.{length-map}
@@ -7,44 +7,37 @@ use Rattle.std.proofs.lemmas.List.Filters.{length-filter_both}
 use Rattle.sqlite.specs.Tree.{Trees}
 use Rattle.reg_model.specs.Crates.{versions}
 use Rattle.reg_model.specs.Registry.{Registry, Text}
-use Rattle.reg_model.proofs.Members.{none_pass}
 use Rattle.reg_tables_schema.specs.Tests.{is_number}
 use Rattle.reg_tables_sql.specs.Counts.{IsCountOf, IsLastId}
 use Rattle.reg_tables_meaning.proofs.CrateCounts.{count_is, no_more_than_next, not_le}
-use Rattle.reg_tables_meaning.proofs.CrateLemmas.{none_of}
 use Rattle.reg_tables_meaning.proofs.Rising.{next_as}
 use Rattle.reg_tables_meaning.proofs.SummaryLaws.{published}
 use Rattle.reg_tables_meaning.proofs.VersionEntries.{its_rows}
-use Rattle.reg_tables_meaning.specs.Changes.{next_version, told_of}
+use Rattle.reg_tables_meaning.specs.Changes.{next_version}
 use Rattle.reg_tables_meaning.specs.Ids.{IsNext}
 use Rattle.reg_tables_meaning.specs.Stands.{StandCrates, row_of_version, spelling_at}
 use Rattle.reg_tables_meaning.specs.Stored.{Ids, StoredVersion}
 use Rattle.reg_tables_meaning.specs.Summaries.{its_versions}
 
-module _ (ids : Ids) (s : Registry) (db : Trees) (h : StandCrates ids s.publications s.yanked db) (id : ℕ) where
+module _ (ids : Ids) (s : Registry) (db : Trees) (h : StandCrates ids s.publications s.yanked db) (id : ℕ) (name : Text) (at : spelling_at ids id ≡ Some name) where
   counted : (n : ℕ) → n < 9223372036854775807 → IsCountOf 11 2 id db n → n ≡ length (its_versions ids id)
   counted n low count =
       count_is (row_of_version s.yanked) (its_versions ids id) (filter (is_number 2 id) (db 11)) n n (refl, low) (its_rows ids s.publications s.yanked db h id) count
 
-  own : length (its_versions ids id) ≡ told_of (spelling_at ids id) 0 (λ name. length (versions s name))
-  own = split (spelling_at ids id) refl
-    where
-      split : (o : Option Text) → spelling_at ids id ≡ o → length (its_versions ids id) ≡ told_of o 0 (λ name. length (versions s name))
-      split None none = ap (λ vs. length vs) (none_pass (λ _ _. true) (λ v. v.of_crate == id) ids.versions (none_of ids s.publications s.yanked db h id none))
-      split (Some name) at = sym (length-map (its_versions ids id) (λ (v : StoredVersion). v.publication)) ∙ ap (λ ps. length ps) (published ids s db h id name at)
+  own : length (its_versions ids id) ≡ length (versions s name)
+  own = sym (length-map (its_versions ids id) (λ (v : StoredVersion). v.publication)) ∙ ap (λ ps. length ps) (published ids s db h id name at)
 
-  pub versions_counted : (n : ℕ) → n < 9223372036854775807 → IsCountOf 11 2 id db n → n ≡ told_of (spelling_at ids id) 0 (λ name. length (versions s name))
+  pub versions_counted : (n : ℕ) → n < 9223372036854775807 → IsCountOf 11 2 id db n → n ≡ length (versions s name)
   versions_counted n low count = counted n low count ∙ own
 
   -- a crate has no more versions than ids were taken
-  pub few_versions : (last : Option ℕ) (number : ℕ) → IsLastId 11 db last → unwrap_or last 0 < number - 1
-      → nat_le number (told_of (spelling_at ids id) 0 (λ name. length (versions s name))) ≡ false
+  pub few_versions : (last : Option ℕ) (number : ℕ) → IsLastId 11 db last → unwrap_or last 0 < number - 1 → nat_le number (length (versions s name)) ≡ false
   few_versions last number greatest low =
       let row = row_of_version s.yanked in
-      let at : 1 + unwrap_or last 0 ≡ next_version ids = next_as row (λ (v : StoredVersion). v.id) (λ v. refl) ids.versions (db 11) last (1 + unwrap_or last 0) h.version_rows greatest (taken last) in
+      let next : 1 + unwrap_or last 0 ≡ next_version ids = next_as row (λ (v : StoredVersion). v.id) (λ v. refl) ids.versions (db 11) last (1 + unwrap_or last 0) h.version_rows greatest (taken last) in
       let few = no_more_than_next (map (λ (v : StoredVersion). v.id) ids.versions) h.rising in
       let both = length-filter_both (λ (v : StoredVersion). v.of_crate == id) (λ v. not (v.of_crate == id)) (λ v. refl) ids.versions in
-      ap (nat_le number) (sym own) ∙ not_le number (length (its_versions ids id)) (omega (arith, at, few, length-map ids.versions (λ (v : StoredVersion). v.id), both, low))
+      not_le number (length (versions s name)) (omega (arith, next, few, own, length-map ids.versions (λ (v : StoredVersion). v.id), both, low))
     where
       taken : (last : Option ℕ) → IsNext last (1 + unwrap_or last 0)
       taken None = refl

@@ -1,7 +1,7 @@
 -- What each call is on the registry that the rows stand for. Of an account, a token, a version or a
 -- crate that is not there it marks nothing, and of a crate that is not there it tells nothing.
 use Rattle.std.proofs.Common.{[], None}
-use Rattle.std.specs.Prelude.{◌≡◌, ℕ, ◌+◌, Bool, false, List, map, length, nat_le, Option, Some, IfSome, Vec, string_bytes}
+use Rattle.std.specs.Prelude.{◌≡◌, ℕ, ◌+◌, if◌then◌else◌, not, Bool, true, false, List, map, length, nat_le, Option, Some, IfSome, Vec, string_bytes}
 use Rattle.std.specs.declared.alloc.Global.{Global}
 use Rattle.std.specs.FinSet as finset
 use Rattle.std.specs.List.{AllByRecursion, enumerate_from, flat_map, list_any}
@@ -13,7 +13,7 @@ use Rattle.reg_names.specs.Names.{canon}
 use Rattle.reg_model.specs.declared.endpoint.Endpoints.{Endpoints}
 use Rattle.reg_model.specs.Changes.{with_account, with_enabled, with_owner, with_publication, with_revoked, with_token}
 use Rattle.reg_model.specs.Crates as model
-use Rattle.reg_model.specs.Crates.{exists, first, has_crate, is_restricted, version, versions}
+use Rattle.reg_model.specs.Crates.{exists, first, has_crate, is_restricted, is_yanked, version, versions}
 use Rattle.reg_model.specs.Registry.{Publication, Registry, Text, text_cmp, with_id, id_of_login}
 use Rattle.reg_model.specs.Sound.{has_version}
 use Rattle.reg_tables_sql.specs.declared.accounts.Account.{Account}
@@ -84,11 +84,10 @@ FindsTokenRow digest db found = Tells (λ ids s. IsRow s digest found) db
 abbrev pub FindsToken : Text → Trees → Option TokenRows → Type 0
 FindsToken digest db found = Tells (λ ids s. IsFound s digest found) db
 
--- the scopes of a token that is there, by place
-abbrev pub ListsScopesOf : ℕ → Trees → List Scope → Type 0
-ListsScopesOf token db list = Tells
-    (λ ids s. (t : _) → with_id s.tokens token ≡ Some t
-    → map columns_of_scope list ≡ scopes_of (token, t)) db
+-- whether the token with this id is live, if there is one
+abbrev pub TellsLive : ℕ → Trees → Option Bool → Type 0
+TellsLive id db found =
+    Tells (λ ids s. found ≡ option_map (λ t. t.live) (with_id s.tokens id)) db
 
 abbrev pub ListsTokens : Trees → List Token → Type 0
 ListsTokens db list = Tells (λ ids s.
@@ -154,6 +153,12 @@ AddsNext id v old new =
     (with_publication (published name v) s) new
 
 -- a version is yanked, or no longer
+-- whether a version that is there, of the crate with this id, has not this mark
+abbrev pub TellsOtherMark : ℕ → Text → Bool → Trees → Bool → Type 0
+TellsOtherMark id text yanked db other = Tells (λ ids s. (n : Text) → spelling_at ids id ≡ Some n
+    → has_version s (canon n) text ≡ true
+    → is_yanked s n text ≡ (if other then not yanked else yanked)) db
+
 abbrev pub SetsYanked : ℕ → Text → Bool → Trees → Trees → Type 0
 SetsYanked id text yanked = Turns (λ ids. mark_at ids id text yanked)
 
@@ -217,10 +222,10 @@ Counted number db n = Tells (λ ids s. n ≡ number s) db
 abbrev pub ReachesCrates : ℕ → Trees → Bool → Type 0
 ReachesCrates number db is = Tells (λ ids s. is ≡ nat_le number (model.crates s)) db
 
--- whether the crate with this id has as many versions as this; none where there is no crate
-abbrev pub ReachesVersions : ℕ → ℕ → Trees → Bool → Type 0
-ReachesVersions id number db is = Tells (λ ids s.
-    is ≡ nat_le number (told_of (spelling_at ids id) 0 (λ name. length (versions s name)))) db
+-- whether the crate with this id and this spelling has as many versions as this
+abbrev pub ReachesVersions : ℕ → Text → ℕ → Trees → Bool → Type 0
+ReachesVersions id name number db is = Tells (λ ids s.
+    spelling_at ids id ≡ Some name → is ≡ nat_le number (length (versions s name))) db
 
 abbrev pub CountsAll : Trees → Counts → Type 0
 CountsAll db n = Tells

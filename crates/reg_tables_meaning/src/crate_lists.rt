@@ -1,6 +1,8 @@
 //! Selections of crates and of their versions.
 
-ghost use Rattle.std.specs.Prelude.{◌≡◌, ◌<◌, ◌-◌, IfOk, nat_le, nat_lt, unwrap_or};
+ghost use Rattle.std.specs.Prelude.{◌≡◌, ◌<◌, ◌-◌, ◌*◌, IfOk, false, nat_le, nat_lt, unwrap_or};
+ghost use Rattle.std.specs.Option.{option_map};
+ghost use Rattle.reg_line.specs.Shortest.{shortest_line};
 ghost use Rattle.sqlite.specs.Held.{state};
 ghost use Rattle.reg_tables_schema.specs.Rows.{greatest_number};
 ghost use Rattle.reg_tables_schema.specs.States.{IsReady};
@@ -10,9 +12,12 @@ ghost use Rattle.reg_tables_meaning.specs.Calls.{FindsArchive, FindsCrate, Lists
 ghost use Rattle.reg_tables_sql.specs.Crates.{AreCrates, IsCrateOfCanon};
 ghost use Rattle.reg_tables_sql.specs.Versions.{AreVersionsOf};
 
-use reg_names::CanonText;
+use crate::summaries;
+use reg_line::lacks_room;
+use reg_names::{CanonText, CrateName};
 use reg_tables_sql::archives;
 use reg_tables_sql::crates::{self, Crate};
+use reg_tables_sql::summaries::Summary;
 use reg_tables_sql::versions::{self, Version};
 use reg_versions::release_key;
 use sqlite::{Alter, Connection, Error};
@@ -64,11 +69,42 @@ fn has_versions<S: Alter>(
 ) -> Result<bool, Error>
     requires { IsReady (state S.Store conn.old) }
     ensures told { Told S.Store conn.new result
-        (ReachesVersions crate_id number (rows_in S.Store conn.old)) }
+        (λ is. (name : _) → ReachesVersions crate_id name number (rows_in S.Store conn.old) is) }
     ensures same { KeepsAll S.Store conn.old conn.new result }
 {
     let count = versions::count_of(conn, crate_id)?;
     reaches(number, count)
+}
+
+// Whether the index file of a crate, if there is one, is too short for this number of versions.
+fn is_short(summary: Option<Summary>, name: &CrateName, number: u64) -> bool
+    ensures { result ≡ unwrap_or
+        (option_map (λ m. nat_lt m.index_length (number * shortest_line name.now)) summary) false }
+{
+    match summary {
+        Some(summary) => lacks_room(summary.index_length, name, number),
+        None => false,
+    }
+}
+
+// The same as `reaches_versions`. They are counted only if the crate's index file may have as many
+// lines.
+fn has_lines<S: Alter>(
+    conn: &mut Connection<S>,
+    crate_id: u32,
+    name: &CrateName,
+    number: u64,
+) -> Result<bool, Error>
+    requires { IsReady (state S.Store conn.old) }
+    ensures told { Told S.Store conn.new result
+        (ReachesVersions crate_id name.now number (rows_in S.Store conn.old)) }
+    ensures same { KeepsAll S.Store conn.old conn.new result }
+{
+    let summary = summaries::of_crate(conn, crate_id)?;
+    if is_short(summary, name, number) {
+        return Ok(false);
+    }
+    has_versions(conn, crate_id, number)
 }
 
 // Whether fewer ids were taken, up to the last, than make this number.
@@ -78,23 +114,25 @@ fn are_few(last: Option<u64>, number: u64) -> bool
     last.unwrap_or(0) < number.saturating_sub(1)
 }
 
-/// Whether a crate has at least this many versions: no more than ids were taken. They are counted
-/// only if the ids of all crates' versions come near it, and are not read.
+/// Whether the crate with this id and spelling has at least this many versions: no more than ids
+/// were taken, and than its index file has room for. They are counted only if both come near the
+/// number, and are not read.
 pub fn reaches_versions<S: Alter>(
     conn: &mut Connection<S>,
     crate_id: u32,
+    name: &CrateName,
     number: u64,
 ) -> Result<bool, Error>
     requires { IsReady (state S.Store conn.old) }
     ensures told { Told S.Store conn.new result
-        (ReachesVersions crate_id number (rows_in S.Store conn.old)) }
+        (ReachesVersions crate_id name.now number (rows_in S.Store conn.old)) }
     ensures same { KeepsAll S.Store conn.old conn.new result }
 {
     let last = versions::last_id(conn)?;
     if are_few(last, number) {
         return Ok(false);
     }
-    has_versions(conn, crate_id, number)
+    has_lines(conn, crate_id, name, number)
 }
 
 /// The archive of exactly this version of a crate.

@@ -5,7 +5,7 @@ ghost use Rattle.sqlite.specs.Held.{state};
 ghost use Rattle.reg_tables_schema.specs.States.{IsReady};
 ghost use Rattle.reg_tables_schema.specs.Statements.{rows_in};
 ghost use Rattle.reg_tables_schema.specs.Steps.{Done, KeepsAll, Steps, Told};
-ghost use Rattle.reg_tables_meaning.specs.Calls.{AddsFirst, AddsNext, SetsYanked, published};
+ghost use Rattle.reg_tables_meaning.specs.Calls.{AddsFirst, AddsNext, SetsYanked, TellsOtherMark, published};
 ghost use Rattle.reg_tables_meaning.specs.Additions.{AddsCrate, AddsVersion};
 ghost use Rattle.reg_tables_meaning.specs.Ids.{IsNext};
 ghost use Rattle.reg_tables_meaning.specs.Marking.{IsOtherwise, id_unless};
@@ -154,6 +154,22 @@ fn otherwise<S: Alter>(
         Some(version) => Ok(id_unless(&version, yanked)),
         None => Ok(None),
     }
+}
+
+/// Whether a version that is there has not this mark.
+pub fn has_other_mark<S: Alter>(
+    conn: &mut Connection<S>,
+    crate_id: u32,
+    text: &str,
+    yanked: bool,
+) -> Result<bool, Error>
+    requires { IsReady (state S.Store conn.old) }
+    ensures told { Told S.Store conn.new result
+        (TellsOtherMark crate_id text.now yanked (rows_in S.Store conn.old)) }
+    ensures same { KeepsAll S.Store conn.old conn.new result }
+{
+    let found = otherwise(conn, crate_id, text, yanked)?;
+    Ok(found.is_some())
 }
 
 /// Yanks or unyanks a version of a crate that is there. If it has this mark already, nothing is

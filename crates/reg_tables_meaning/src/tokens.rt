@@ -6,7 +6,7 @@ ghost use Rattle.sqlite.specs.Held.{state};
 ghost use Rattle.reg_tables_schema.specs.States.{IsReady};
 ghost use Rattle.reg_tables_schema.specs.Statements.{rows_in};
 ghost use Rattle.reg_tables_schema.specs.Steps.{Done, KeepsAll, Steps, Told};
-ghost use Rattle.reg_tables_meaning.specs.Calls.{AddsToken, Ends, FindsToken, FindsTokenRow, ListsScopes, ListsScopesOf, ListsTokens};
+ghost use Rattle.reg_tables_meaning.specs.Calls.{AddsToken, Ends, FindsToken, FindsTokenRow, ListsScopes, ListsTokens, TellsLive};
 ghost use Rattle.reg_tables_schema.specs.Changes.{AddsColumns};
 ghost use Rattle.reg_tables_schema.specs.Places.{scopes_tree};
 ghost use Rattle.reg_tables_meaning.specs.Patterns.{GivesPatterns};
@@ -148,19 +148,6 @@ fn find_row<S: Alter>(conn: &mut Connection<S>, digest: &Digest) -> Result<Optio
     tokens::by_digest(conn, digest)
 }
 
-fn scopes_of<S: Alter>(
-    alloc: Global,
-    conn: &mut Connection<S>,
-    token: u32,
-) -> Result<Vec<Scope>, Error>
-    requires { IsReady (state S.Store conn.old) }
-    ensures found { Told S.Store conn.new result
-        (λ list. ListsScopesOf token (rows_in S.Store conn.old) list.items) }
-    ensures same { KeepsAll S.Store conn.old conn.new result }
-{
-    scopes::of_token(alloc, conn, token)
-}
-
 /// The token with this digest, with its account and its scopes.
 #[tactic(auto, using(crate::proofs::Readings::same_then, crate::proofs::Readings::refuses_after))]
 pub fn find<S: Alter>(
@@ -176,28 +163,22 @@ pub fn find<S: Alter>(
     match find_row(conn, digest)? {
         None => Ok(None),
         Some(token) => {
-            let scopes = scopes_of(alloc, conn, token.id)?;
+            let scopes = scopes::of_token(alloc, conn, token.id)?;
             Ok(Some(TokenRows { token, scopes }))
         }
     }
 }
 
-fn list<S: Alter>(alloc: Global, conn: &mut Connection<S>) -> Result<Vec<Token>, Error>
+/// Whether a token is live, if there is one with this id.
+pub fn is_live<S: Alter>(conn: &mut Connection<S>, id: u32) -> Result<Option<bool>, Error>
     requires { IsReady (state S.Store conn.old) }
-    ensures found { Told S.Store conn.new result
-        (λ list. ListsTokens (rows_in S.Store conn.old) list.items) }
+    ensures told { Told S.Store conn.new result (TellsLive id (rows_in S.Store conn.old)) }
     ensures same { KeepsAll S.Store conn.old conn.new result }
 {
-    tokens::all(alloc, conn)
-}
-
-fn list_scopes<S: Alter>(alloc: Global, conn: &mut Connection<S>) -> Result<Vec<Scope>, Error>
-    requires { IsReady (state S.Store conn.old) }
-    ensures found { Told S.Store conn.new result
-        (λ list. ListsScopes (rows_in S.Store conn.old) list.items) }
-    ensures same { KeepsAll S.Store conn.old conn.new result }
-{
-    scopes::all(alloc, conn)
+    match tokens::by_id(conn, id)? {
+        Some(token) => Ok(Some(token.live)),
+        None => Ok(None),
+    }
 }
 
 /// All tokens by id, and all scopes by token and place.
@@ -210,7 +191,7 @@ pub fn list_both<S: Alter>(alloc: Global, conn: &mut Connection<S>) -> Result<To
         (λ both. ListsScopes (rows_in S.Store conn.old) both.scopes.items) }
     ensures same { KeepsAll S.Store conn.old conn.new result }
 {
-    let tokens = list(alloc, conn)?;
-    let scopes = list_scopes(alloc, conn)?;
+    let tokens = tokens::all(alloc, conn)?;
+    let scopes = scopes::all(alloc, conn)?;
     Ok(TokenLists { tokens, scopes })
 }

@@ -95,13 +95,10 @@ fn token_tables<S: Alter>(alloc: Global, conn: &mut Connection<S>) -> Result<Tok
         (λ it. AreScopes (rows_in S.Store conn.old) it.scopes.items) }
     ensures same { KeepsAll S.Store conn.old conn.new result }
 {
-    let accounts = accounts::all(alloc, conn)?;
-    let tokens = tokens::all(alloc, conn)?;
-    let scopes = scopes::all(alloc, conn)?;
     Ok(TokenTables {
-        accounts,
-        tokens,
-        scopes,
+        accounts: accounts::all(alloc, conn)?,
+        tokens: tokens::all(alloc, conn)?,
+        scopes: scopes::all(alloc, conn)?,
     })
 }
 
@@ -151,13 +148,10 @@ fn kept_tables<S: Alter>(alloc: Global, conn: &mut Connection<S>) -> Result<Kept
         (λ it. ArePairs readers_tree (rows_in S.Store conn.old) it.readers.items) }
     ensures same { KeepsAll S.Store conn.old conn.new result }
 {
-    let summaries = summaries::all(alloc, conn)?;
-    let restricted = restricted::all(alloc, conn)?;
-    let readers = pairs::all(alloc, conn, Relation::Readers)?;
     Ok(KeptTables {
-        summaries,
-        restricted,
-        readers,
+        summaries: summaries::all(alloc, conn)?,
+        restricted: restricted::all(alloc, conn)?,
+        readers: pairs::all(alloc, conn, Relation::Readers)?,
     })
 }
 

@@ -46,37 +46,33 @@ fn rise(ids: &[i64]) -> bool
     }
 }
 
-fn check(rowids: &[i64]) -> Result<(), Error>
-    ensures { OnOk result ((tree : ℕ) (db : Trees) → AreRowids tree db rowids.now
-        → HaveOwnRowids (db tree)) }
+fn check_that(holds: bool) -> Result<(), Error>
+    ensures { OnOk result (IsTrue holds) }
 {
-    if !rise(rowids) {
+    if !holds {
         return Err(Error::InvalidQuery);
     }
     Ok(())
 }
 
+fn check(rowids: &[i64]) -> Result<(), Error>
+    ensures { OnOk result ((tree : ℕ) (db : Trees) → AreRowids tree db rowids.now
+        → HaveOwnRowids (db tree)) }
+{
+    check_that(rise(rowids))
+}
+
 fn crates_rise(crates: &[Crate]) -> bool
     ensures { IsTrue result ↔ AllAdjacentBelow (λ a b. a.id < b.id) crates.now (length crates.now) }
 {
-    for i in 1..crates.len() {
-        if crates[i].id <= crates[i - 1].id {
-            return false;
-        }
-    }
-    true
+    crates.windows(2).all(|pair| pair[0].id < pair[1].id)
 }
 
 fn versions_rise(versions: &[Version]) -> bool
     ensures { IsTrue result
         ↔ AllAdjacentBelow (λ a b. a.id < b.id) versions.now (length versions.now) }
 {
-    for i in 1..versions.len() {
-        if versions[i].id <= versions[i - 1].id {
-            return false;
-        }
-    }
-    true
+    versions.windows(2).all(|pair| pair[0].id < pair[1].id)
 }
 
 /// Succeeds only if no two of all crates share a rowid, which is their id.
@@ -84,10 +80,7 @@ pub(crate) fn check_crates(crates: &[Crate]) -> Result<(), Error>
     ensures { OnOk result ((db : Trees) → AreCratesById db crates.now
         → HaveOwnRowids (db crates_tree)) }
 {
-    if !crates_rise(crates) {
-        return Err(Error::InvalidQuery);
-    }
-    Ok(())
+    check_that(crates_rise(crates))
 }
 
 /// Succeeds only if no two of all versions share a rowid, which is their id.
@@ -95,10 +88,7 @@ pub(crate) fn check_versions(versions: &[Version]) -> Result<(), Error>
     ensures { OnOk result ((db : Trees) → AreVersions db versions.now
         → HaveOwnRowids (db versions_tree)) }
 {
-    if !versions_rise(versions) {
-        return Err(Error::InvalidQuery);
-    }
-    Ok(())
+    check_that(versions_rise(versions))
 }
 
 /// Succeeds only if no two rows of a table share a rowid, in the tables whose rowids are SQL's own.

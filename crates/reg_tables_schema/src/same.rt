@@ -23,15 +23,7 @@ fn same_column(a: &Column, b: &Column) -> bool
 fn same_columns(a: &[Column], b: &[Column]) -> bool
     ensures { IsTrue result ↔ (a.now ≡ b.now) }
 {
-    if a.len() != b.len() {
-        return false;
-    }
-    for (i, x) in a.iter().enumerate() {
-        if !same_column(x, &b[i]) {
-            return false;
-        }
-    }
-    true
+    a.len() == b.len() && a.iter().zip(b).all(|(x, y)| same_column(x, y))
 }
 
 fn same_name(a: &Bytes, b: &Bytes) -> bool
@@ -43,15 +35,7 @@ fn same_name(a: &Bytes, b: &Bytes) -> bool
 fn same_names(a: &[Bytes], b: &[Bytes]) -> bool
     ensures { IsTrue result ↔ (a.now ≡ b.now) }
 {
-    if a.len() != b.len() {
-        return false;
-    }
-    for (i, x) in a.iter().enumerate() {
-        if !same_name(x, &b[i]) {
-            return false;
-        }
-    }
-    true
+    a.len() == b.len() && a.iter().zip(b).all(|(x, y)| same_name(x, y))
 }
 
 fn same_places(a: &Items<usize>, b: &Items<usize>) -> bool
@@ -63,15 +47,7 @@ fn same_places(a: &Items<usize>, b: &Items<usize>) -> bool
 fn same_keys(a: &[Items<usize>], b: &[Items<usize>]) -> bool
     ensures { IsTrue result ↔ (a.now ≡ b.now) }
 {
-    if a.len() != b.len() {
-        return false;
-    }
-    for (i, x) in a.iter().enumerate() {
-        if !same_places(x, &b[i]) {
-            return false;
-        }
-    }
-    true
+    a.len() == b.len() && a.iter().zip(b).all(|(x, y)| same_places(x, y))
 }
 
 fn same_order(a: &Order, b: &Order) -> bool
@@ -83,15 +59,7 @@ fn same_order(a: &Order, b: &Order) -> bool
 fn same_orders(a: &[Order], b: &[Order]) -> bool
     ensures { IsTrue result ↔ (a.now ≡ b.now) }
 {
-    if a.len() != b.len() {
-        return false;
-    }
-    for (i, x) in a.iter().enumerate() {
-        if !same_order(x, &b[i]) {
-            return false;
-        }
-    }
-    true
+    a.len() == b.len() && a.iter().zip(b).all(|(x, y)| same_order(x, y))
 }
 
 fn same_reference(a: &Reference, b: &Reference) -> bool
@@ -108,15 +76,7 @@ fn same_reference(a: &Reference, b: &Reference) -> bool
 fn same_references(a: &[Reference], b: &[Reference]) -> bool
     ensures { IsTrue result ↔ (a.now ≡ b.now) }
 {
-    if a.len() != b.len() {
-        return false;
-    }
-    for (i, x) in a.iter().enumerate() {
-        if !same_reference(x, &b[i]) {
-            return false;
-        }
-    }
-    true
+    a.len() == b.len() && a.iter().zip(b).all(|(x, y)| same_reference(x, y))
 }
 
 fn same_stamps(a: &Stamps, b: &Stamps) -> bool

@@ -1,10 +1,10 @@
 //! The texts that make the tables, and one function for each.
 
-ghost use Rattle.sqlite.specs.State.{HasCleanDisk, Survives};
+ghost use Rattle.sqlite.specs.State.{HasCleanDisk};
 ghost use Rattle.sqlite.specs.Held.{state};
-ghost use Rattle.std.specs.Prelude.{OnOk, OnErr};
 ghost use Rattle.reg_tables_schema.specs.Schema.{ours, old_schema, blank, first_of_ours};
-ghost use Rattle.reg_tables_schema.specs.States.{Grows, HasMade, IsInsideWith, Makes, Refuses};
+ghost use Rattle.reg_tables_schema.specs.States.{Grows, HasMade, IsInsideWith, Makes};
+ghost use Rattle.reg_tables_schema.specs.Statements.{Writes};
 
 use sqlite::{Alter, Connection, Error};
 
@@ -62,11 +62,7 @@ pub(crate) const READERS: &str =
 
 pub fn create_about<S: Alter>(conn: &mut Connection<S>) -> Result<usize, Error>
     requires { HasCleanDisk (state S.Store conn.old) → HasMade blank (state S.Store conn.old) }
-    ensures made { HasCleanDisk (state S.Store conn.new) → OnOk result
-        (Makes (first_of_ours 1 0) (state S.Store conn.old) (state S.Store conn.new)) }
-    ensures refused { HasCleanDisk (state S.Store conn.new) → OnErr result
-        (Refuses (state S.Store conn.old) (state S.Store conn.new)) }
-    ensures survives { Survives (state S.Store conn.old) (state S.Store conn.new) (λ _. ⊥) }
+    ensures { Writes S.Store conn.old conn.new result (Makes (first_of_ours 1 0)) }
 {
     conn.execute(ABOUT, &[])
 }
@@ -74,11 +70,7 @@ pub fn create_about<S: Alter>(conn: &mut Connection<S>) -> Result<usize, Error>
 pub fn create_accounts<S: Alter>(conn: &mut Connection<S>) -> Result<usize, Error>
     requires { HasCleanDisk (state S.Store conn.old) → HasMade (first_of_ours 1 0)
         (state S.Store conn.old) }
-    ensures made { HasCleanDisk (state S.Store conn.new) → OnOk result
-        (Makes (first_of_ours 2 1) (state S.Store conn.old) (state S.Store conn.new)) }
-    ensures refused { HasCleanDisk (state S.Store conn.new) → OnErr result
-        (Refuses (state S.Store conn.old) (state S.Store conn.new)) }
-    ensures survives { Survives (state S.Store conn.old) (state S.Store conn.new) (λ _. ⊥) }
+    ensures { Writes S.Store conn.old conn.new result (Makes (first_of_ours 2 1)) }
 {
     conn.execute(ACCOUNTS, &[])
 }
@@ -86,11 +78,7 @@ pub fn create_accounts<S: Alter>(conn: &mut Connection<S>) -> Result<usize, Erro
 pub fn create_tokens<S: Alter>(conn: &mut Connection<S>) -> Result<usize, Error>
     requires { HasCleanDisk (state S.Store conn.old) → HasMade (first_of_ours 2 1)
         (state S.Store conn.old) }
-    ensures made { HasCleanDisk (state S.Store conn.new) → OnOk result
-        (Makes (first_of_ours 3 2) (state S.Store conn.old) (state S.Store conn.new)) }
-    ensures refused { HasCleanDisk (state S.Store conn.new) → OnErr result
-        (Refuses (state S.Store conn.old) (state S.Store conn.new)) }
-    ensures survives { Survives (state S.Store conn.old) (state S.Store conn.new) (λ _. ⊥) }
+    ensures { Writes S.Store conn.old conn.new result (Makes (first_of_ours 3 2)) }
 {
     conn.execute(TOKENS, &[])
 }
@@ -98,11 +86,7 @@ pub fn create_tokens<S: Alter>(conn: &mut Connection<S>) -> Result<usize, Error>
 pub fn create_scopes<S: Alter>(conn: &mut Connection<S>) -> Result<usize, Error>
     requires { HasCleanDisk (state S.Store conn.old) → HasMade (first_of_ours 3 2)
         (state S.Store conn.old) }
-    ensures made { HasCleanDisk (state S.Store conn.new) → OnOk result
-        (Makes (first_of_ours 4 3) (state S.Store conn.old) (state S.Store conn.new)) }
-    ensures refused { HasCleanDisk (state S.Store conn.new) → OnErr result
-        (Refuses (state S.Store conn.old) (state S.Store conn.new)) }
-    ensures survives { Survives (state S.Store conn.old) (state S.Store conn.new) (λ _. ⊥) }
+    ensures { Writes S.Store conn.old conn.new result (Makes (first_of_ours 4 3)) }
 {
     conn.execute(SCOPES, &[])
 }
@@ -110,11 +94,7 @@ pub fn create_scopes<S: Alter>(conn: &mut Connection<S>) -> Result<usize, Error>
 pub fn create_crates<S: Alter>(conn: &mut Connection<S>) -> Result<usize, Error>
     requires { HasCleanDisk (state S.Store conn.old) → HasMade (first_of_ours 4 3)
         (state S.Store conn.old) }
-    ensures made { HasCleanDisk (state S.Store conn.new) → OnOk result
-        (Makes (first_of_ours 5 4) (state S.Store conn.old) (state S.Store conn.new)) }
-    ensures refused { HasCleanDisk (state S.Store conn.new) → OnErr result
-        (Refuses (state S.Store conn.old) (state S.Store conn.new)) }
-    ensures survives { Survives (state S.Store conn.old) (state S.Store conn.new) (λ _. ⊥) }
+    ensures { Writes S.Store conn.old conn.new result (Makes (first_of_ours 5 4)) }
 {
     conn.execute(CRATES, &[])
 }
@@ -122,11 +102,7 @@ pub fn create_crates<S: Alter>(conn: &mut Connection<S>) -> Result<usize, Error>
 pub fn create_owners<S: Alter>(conn: &mut Connection<S>) -> Result<usize, Error>
     requires { HasCleanDisk (state S.Store conn.old) → HasMade (first_of_ours 5 4)
         (state S.Store conn.old) }
-    ensures made { HasCleanDisk (state S.Store conn.new) → OnOk result
-        (Makes (first_of_ours 6 5) (state S.Store conn.old) (state S.Store conn.new)) }
-    ensures refused { HasCleanDisk (state S.Store conn.new) → OnErr result
-        (Refuses (state S.Store conn.old) (state S.Store conn.new)) }
-    ensures survives { Survives (state S.Store conn.old) (state S.Store conn.new) (λ _. ⊥) }
+    ensures { Writes S.Store conn.old conn.new result (Makes (first_of_ours 6 5)) }
 {
     conn.execute(OWNERS, &[])
 }
@@ -134,11 +110,7 @@ pub fn create_owners<S: Alter>(conn: &mut Connection<S>) -> Result<usize, Error>
 pub fn create_versions<S: Alter>(conn: &mut Connection<S>) -> Result<usize, Error>
     requires { HasCleanDisk (state S.Store conn.old) → HasMade (first_of_ours 6 5)
         (state S.Store conn.old) }
-    ensures made { HasCleanDisk (state S.Store conn.new) → OnOk result
-        (Makes (first_of_ours 7 6) (state S.Store conn.old) (state S.Store conn.new)) }
-    ensures refused { HasCleanDisk (state S.Store conn.new) → OnErr result
-        (Refuses (state S.Store conn.old) (state S.Store conn.new)) }
-    ensures survives { Survives (state S.Store conn.old) (state S.Store conn.new) (λ _. ⊥) }
+    ensures { Writes S.Store conn.old conn.new result (Makes (first_of_ours 7 6)) }
 {
     conn.execute(VERSIONS, &[])
 }
@@ -146,11 +118,7 @@ pub fn create_versions<S: Alter>(conn: &mut Connection<S>) -> Result<usize, Erro
 pub fn create_archives<S: Alter>(conn: &mut Connection<S>) -> Result<usize, Error>
     requires { HasCleanDisk (state S.Store conn.old) → HasMade (first_of_ours 7 6)
         (state S.Store conn.old) }
-    ensures made { HasCleanDisk (state S.Store conn.new) → OnOk result
-        (Makes (first_of_ours 8 6) (state S.Store conn.old) (state S.Store conn.new)) }
-    ensures refused { HasCleanDisk (state S.Store conn.new) → OnErr result
-        (Refuses (state S.Store conn.old) (state S.Store conn.new)) }
-    ensures survives { Survives (state S.Store conn.old) (state S.Store conn.new) (λ _. ⊥) }
+    ensures { Writes S.Store conn.old conn.new result (Makes (first_of_ours 8 6)) }
 {
     conn.execute(ARCHIVES, &[])
 }
@@ -158,11 +126,7 @@ pub fn create_archives<S: Alter>(conn: &mut Connection<S>) -> Result<usize, Erro
 pub fn create_reserved<S: Alter>(conn: &mut Connection<S>) -> Result<usize, Error>
     requires { HasCleanDisk (state S.Store conn.old) → HasMade (first_of_ours 8 6)
         (state S.Store conn.old) }
-    ensures made { HasCleanDisk (state S.Store conn.new) → OnOk result
-        (Makes (first_of_ours 9 7) (state S.Store conn.old) (state S.Store conn.new)) }
-    ensures refused { HasCleanDisk (state S.Store conn.new) → OnErr result
-        (Refuses (state S.Store conn.old) (state S.Store conn.new)) }
-    ensures survives { Survives (state S.Store conn.old) (state S.Store conn.new) (λ _. ⊥) }
+    ensures { Writes S.Store conn.old conn.new result (Makes (first_of_ours 9 7)) }
 {
     conn.execute(RESERVED, &[])
 }
@@ -170,11 +134,7 @@ pub fn create_reserved<S: Alter>(conn: &mut Connection<S>) -> Result<usize, Erro
 pub fn create_summaries<S: Alter>(conn: &mut Connection<S>) -> Result<usize, Error>
     requires { HasCleanDisk (state S.Store conn.old) → HasMade (first_of_ours 9 7)
         (state S.Store conn.old) }
-    ensures made { HasCleanDisk (state S.Store conn.new) → OnOk result
-        (Makes old_schema (state S.Store conn.old) (state S.Store conn.new)) }
-    ensures refused { HasCleanDisk (state S.Store conn.new) → OnErr result
-        (Refuses (state S.Store conn.old) (state S.Store conn.new)) }
-    ensures survives { Survives (state S.Store conn.old) (state S.Store conn.new) (λ _. ⊥) }
+    ensures { Writes S.Store conn.old conn.new result (Makes old_schema) }
 {
     conn.execute(SUMMARIES, &[])
 }
@@ -182,12 +142,7 @@ pub fn create_summaries<S: Alter>(conn: &mut Connection<S>) -> Result<usize, Err
 pub fn create_restricted<S: Alter>(conn: &mut Connection<S>) -> Result<usize, Error>
     requires { HasCleanDisk (state S.Store conn.old) → IsInsideWith old_schema
         (state S.Store conn.old) }
-    ensures made { HasCleanDisk (state S.Store conn.new) → OnOk result
-        (Grows old_schema (first_of_ours 11 7) 17
-        (state S.Store conn.old) (state S.Store conn.new)) }
-    ensures refused { HasCleanDisk (state S.Store conn.new) → OnErr result
-        (Refuses (state S.Store conn.old) (state S.Store conn.new)) }
-    ensures survives { Survives (state S.Store conn.old) (state S.Store conn.new) (λ _. ⊥) }
+    ensures { Writes S.Store conn.old conn.new result (Grows old_schema (first_of_ours 11 7) 17) }
 {
     conn.execute(RESTRICTED, &[])
 }
@@ -195,11 +150,7 @@ pub fn create_restricted<S: Alter>(conn: &mut Connection<S>) -> Result<usize, Er
 pub fn create_readers<S: Alter>(conn: &mut Connection<S>) -> Result<usize, Error>
     requires { HasCleanDisk (state S.Store conn.old) → IsInsideWith (first_of_ours 11 7)
         (state S.Store conn.old) }
-    ensures made { HasCleanDisk (state S.Store conn.new) → OnOk result
-        (Grows (first_of_ours 11 7) ours 18 (state S.Store conn.old) (state S.Store conn.new)) }
-    ensures refused { HasCleanDisk (state S.Store conn.new) → OnErr result
-        (Refuses (state S.Store conn.old) (state S.Store conn.new)) }
-    ensures survives { Survives (state S.Store conn.old) (state S.Store conn.new) (λ _. ⊥) }
+    ensures { Writes S.Store conn.old conn.new result (Grows (first_of_ours 11 7) ours 18) }
 {
     conn.execute(READERS, &[])
 }

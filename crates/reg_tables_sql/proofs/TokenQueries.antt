@@ -1,5 +1,5 @@
 -- What the queries on tokens answer.
-use Rattle.std.proofs.Common.{◌≡◌, ℕ, List, [], ◌∷◌, codes, map, Option, refl, ap, subst, ◌∙◌}
+use Rattle.std.proofs.Common.{◌≡◌, ℕ, pos, List, [], ◌∷◌, codes, map, Option, refl, ap, subst, ◌∙◌}
 use Rattle.std.specs.List.{filter}
 use Rattle.sqlite.specs.Collation.TheVariants.{Binary}
 use Rattle.sqlite_value.specs.Keys.{ascending}
@@ -15,7 +15,7 @@ use Rattle.reg_tables_schema.specs.States.{IsInside}
 use Rattle.reg_tables_schema.proofs.Reading.{IsSelection, selected}
 use Rattle.std.specs.List.{flat_map}
 use Rattle.std.specs.List.Sorted.{IsPermutation}
-use Rattle.sqlite.specs.declared.types.Value.TheVariants.{Blob}
+use Rattle.sqlite.specs.declared.types.Value.TheVariants.{Blob, Int}
 use Rattle.sqlite.specs.Ops.{binary, is_true}
 use Rattle.sqlite.specs.Order.{column}
 use Rattle.sqlite.specs.Query.{matches}
@@ -25,16 +25,18 @@ use Rattle.sqlite_sql.specs.declared.ops.BinaryOp.TheVariants.{Compare}
 use Rattle.sqlite_sql.specs.declared.ops.CompareOp.TheVariants.{Eq}
 use Rattle.reg_tables_schema.specs.Rows.{number_columns}
 use Rattle.reg_tables_schema.specs.Shown.{shown_of}
-use Rattle.reg_tables_schema.specs.Tests.{is_blob}
+use Rattle.reg_tables_schema.specs.Tests.{is_blob, is_number}
 use Rattle.reg_tables_schema.proofs.Greatest.{greatest, greatest_of}
 use Rattle.reg_tables_schema.proofs.Queries.{plain, answers, joined, same_filter, equals_blob}
 use Rattle.reg_tables_schema.proofs.Sorted.{in_order}
 use Rattle.reg_tables_schema.proofs.ShownRows.{shown_exactly}
+use Rattle.reg_tables_schema.proofs.Selections.{of_table}
+use Rattle.reg_tables_schema.proofs.TableMatches.{equals_first, matches_number}
 use Rattle.reg_tables_schema.proofs.WholeTables.{all_in_order}
 use Rattle.reg_tables_sql.specs.declared.tokens.Token.{Token}
 use Rattle.reg_tables_sql.specs.declared.tokens.TokenRow.{TokenRow}
 use Rattle.reg_tables_sql.specs.Counts.{IsLastId}
-use Rattle.reg_tables_sql.specs.Tokens.{AreTokens, IsTokenOfDigest, columns_of_token, columns_with_account, is_of_token, token_and_account, tokens_with_accounts}
+use Rattle.reg_tables_sql.specs.Tokens.{AreTokens, IsTokenOfDigest, IsTokenWithId, columns_of_token, columns_with_account, is_of_token, token_and_account, tokens_with_accounts}
 
 abbrev by_digest_filter : List Term
 by_digest_filter = op2 (Compare Eq Binary) (col 2 0) (col 1 3) ∷ op2 (Compare Eq Binary) (col 1 2) (col 0 0) ∷ []
@@ -83,6 +85,19 @@ listed_is = record { command = refl; unlisted = refl; plain = (refl, refl) }
 
 pub listed : (old new : State) (list : List Token) → IsInside old → Shown listed_text [] old new (map columns_of_token list) → AreTokens old.now.trees list
 listed old new list at h = all_in_order (overlay old.now.trees []) [] 3 project _ 0 (selected listed_is [] old new _ at h)
+
+abbrev by_id_text : List ℕ
+by_id_text = codes "SELECT id, digest, account, live, publish_new, publish_update, yank, change_owners FROM tokens WHERE id = ?1"
+
+pub by_id_is : IsSelection ours by_id_text (plain (inner 3 end) (equals_first 0) project) names
+unfolding understood everything
+by_id_is = record { command = refl; unlisted = refl; plain = (refl, refl) }
+
+pub by_id : (old new : State) (id : ℕ) (found : Option Token) → IsInside old → Shown by_id_text (Int (pos id) ∷ []) old new (shown_of columns_of_token found) → IsTokenWithId id old.now.trees found
+by_id old new id found at h =
+    let params : Row = Int (pos id) ∷ [] in
+    let db = overlay old.now.trees [] in
+    shown_exactly columns_of_token _ found (of_table db params 3 (equals_first 0) project _ (is_number 0 id) (matches_number db 3 0 id) (selected by_id_is params old new _ at h))
 
 abbrev pub last_text : List ℕ
 last_text = codes "SELECT id FROM tokens ORDER BY id DESC LIMIT 1"

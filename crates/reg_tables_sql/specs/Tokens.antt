@@ -13,7 +13,7 @@ use Rattle.reg_tables_schema.specs.Changes.{Replaces, Touches}
 use Rattle.reg_tables_schema.specs.Places.{accounts_tree, digest_place, id_place, token_account_place, tokens_tree}
 use Rattle.reg_tables_schema.specs.Rows.{IsInOrder, by_column, keyed, mark}
 use Rattle.reg_tables_schema.specs.Shown.{shown_of}
-use Rattle.reg_tables_schema.specs.Tests.{is_blob, shows}
+use Rattle.reg_tables_schema.specs.Tests.{is_blob, is_number, shows}
 use Rattle.reg_tables_sql.specs.declared.tokens.Token.{Token}
 use Rattle.reg_tables_sql.specs.declared.tokens.TokenRow.{TokenRow}
 use Rattle.reg_tables_sql.specs.Updates.{KeepsWhereNone}
@@ -41,6 +41,12 @@ columns_of_token it =
 abbrev pub AreTokens : Trees → List Token → Type 0
 AreTokens db list =
     IsInOrder (by_column id_place) (db tokens_tree) (shows token_places) (map columns_of_token list)
+
+-- this is the token with the id, if there is one
+abbrev pub IsTokenWithId : ℕ → Trees → Option Token → Type 0
+IsTokenWithId id db found =
+    map (shows token_places) (filter (is_number id_place id) (db tokens_tree))
+    ≡ shown_of columns_of_token found
 
 -- a token without its digest, with the login and the mark of its account
 abbrev pub columns_with_account : TokenRow → Row

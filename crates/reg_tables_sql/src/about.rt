@@ -77,11 +77,8 @@ fn number_second<S: Alter>(conn: &mut Connection<S>, id: i64) -> Result<(), Erro
     requires { IsReady (state S.Store conn.old) }
     ensures { Writes S.Store conn.old conn.new result (NumbersSecond id) }
 {
-    write(
-        conn,
-        "UPDATE about SET schema = 2 WHERE rowid = ?1",
-        params![id],
-    )
+    let text = "UPDATE about SET schema = 2 WHERE rowid = ?1";
+    write(conn, text, params![id])
 }
 
 /// Gives the row the number of schema 2. This is refused if the row is not alone.

@@ -11,7 +11,7 @@ ghost use Rattle.reg_tables_sql.specs.Accounts.{AreAccounts, Enables, IsAccountO
 ghost use Rattle.reg_tables_sql.specs.Counts.{IsLastId};
 
 use crate::marks::mark_of;
-use crate::records::FromRow;
+use crate::records::{FromRow, read_columns};
 use crate::statements::{select_list, select_one, write};
 use sqlite::{Alter, Connection, Error, Row, params};
 use std::alloc::Global;
@@ -29,15 +29,7 @@ impl FromRow for Account {
     ghost columns = { account_columns };
 
     fn from_row(row: &Row) -> Result<Account, Error> {
-        if row.column_count() != 4 {
-            return Err(Error::InvalidQuery);
-        }
-        Ok(Account {
-            id: row.get(0)?,
-            login: row.get(1)?,
-            name: row.get(2)?,
-            enabled: mark_of(row, 3)?,
-        })
+        read_columns!(row, 4 => Account { id: 0, login: 1, name: 2, enabled: 3 by mark_of })
     }
 }
 
@@ -53,11 +45,8 @@ pub fn insert<S: Alter>(
         (Adds accounts_tree
         (account_row id login.now (option_map (λ n. n.now) name.entry) true)) }
 {
-    write(
-        conn,
-        "INSERT INTO accounts (id, login, name, enabled) VALUES (?1, ?2, ?3, 1)",
-        params![id, login, name],
-    )
+    let text = "INSERT INTO accounts (id, login, name, enabled) VALUES (?1, ?2, ?3, 1)";
+    write(conn, text, params![id, login, name])
 }
 
 /// Enables or disables an account.
@@ -65,11 +54,8 @@ pub fn enable<S: Alter>(conn: &mut Connection<S>, id: u32, enabled: bool) -> Res
     requires { IsReady (state S.Store conn.old) }
     ensures { Writes S.Store conn.old conn.new result (Enables id enabled) }
 {
-    write(
-        conn,
-        "UPDATE accounts SET enabled = ?2 WHERE id = ?1",
-        params![id, enabled],
-    )
+    let text = "UPDATE accounts SET enabled = ?2 WHERE id = ?1";
+    write(conn, text, params![id, enabled])
 }
 
 /// The account with this login, if there is one.
@@ -78,11 +64,8 @@ pub fn by_login<S: Alter>(conn: &mut Connection<S>, login: &str) -> Result<Optio
     ensures { Reads S.Store conn.old conn.new result
         (IsAccountOfLogin login.now (rows_in S.Store conn.old)) }
 {
-    select_one(
-        conn,
-        "SELECT id, login, name, enabled FROM accounts WHERE login = ?1",
-        params![login],
-    )
+    let text = "SELECT id, login, name, enabled FROM accounts WHERE login = ?1";
+    select_one(conn, text, params![login])
 }
 
 /// All accounts, by id.
@@ -91,12 +74,8 @@ pub fn all<S: Alter>(alloc: Global, conn: &mut Connection<S>) -> Result<Vec<Acco
     ensures { Reads S.Store conn.old conn.new result
         (λ list. AreAccounts (rows_in S.Store conn.old) list.items) }
 {
-    select_list(
-        alloc,
-        conn,
-        "SELECT id, login, name, enabled FROM accounts ORDER BY id",
-        &[],
-    )
+    let text = "SELECT id, login, name, enabled FROM accounts ORDER BY id";
+    select_list(alloc, conn, text, &[])
 }
 
 /// The greatest account id, if there is one.
@@ -105,9 +84,6 @@ pub fn last_id<S: Alter>(conn: &mut Connection<S>) -> Result<Option<u32>, Error>
     ensures { Reads S.Store conn.old conn.new result
         (IsLastId accounts_tree (rows_in S.Store conn.old)) }
 {
-    select_one(
-        conn,
-        "SELECT id FROM accounts ORDER BY id DESC LIMIT 1",
-        &[],
-    )
+    let text = "SELECT id FROM accounts ORDER BY id DESC LIMIT 1";
+    select_one(conn, text, &[])
 }

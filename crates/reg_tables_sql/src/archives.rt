@@ -9,7 +9,7 @@ ghost use Rattle.reg_tables_schema.specs.Statements.{Reads, Writes, rows_in};
 ghost use Rattle.reg_tables_sql.specs.Archives.{IsArchiveOf, IsArchiveWithId, archive_row, columns_of_archive, columns_of_bytes};
 ghost use Rattle.reg_tables_sql.specs.Counts.{IsFirstId};
 
-use crate::records::FromRow;
+use crate::records::{FromRow, check_width, read_columns};
 use crate::statements::{select_one, write};
 use sqlite::{Alter, Connection, Error, Row, params};
 
@@ -24,13 +24,7 @@ impl FromRow for Archive {
     ghost columns = { columns_of_archive };
 
     fn from_row(row: &Row) -> Result<Archive, Error> {
-        if row.column_count() != 2 {
-            return Err(Error::InvalidQuery);
-        }
-        Ok(Archive {
-            version: row.get(0)?,
-            bytes: row.get(1)?,
-        })
+        read_columns!(row, 2 => Archive { version: 0, bytes: 1 })
     }
 }
 
@@ -38,9 +32,7 @@ impl FromRow for Vec<u8> {
     ghost columns = { columns_of_bytes };
 
     fn from_row(row: &Row) -> Result<Vec<u8>, Error> {
-        if row.column_count() != 1 {
-            return Err(Error::InvalidQuery);
-        }
+        check_width(row, 1)?;
         row.get(0)
     }
 }
@@ -52,11 +44,8 @@ pub fn insert<S: Alter>(conn: &mut Connection<S>, version: u64, bytes: &[u8]) ->
     ensures { Writes S.Store conn.old conn.new result
         (Adds archives_tree (archive_row version bytes.now)) }
 {
-    write(
-        conn,
-        "INSERT INTO archives (version, bytes) VALUES (?1, ?2)",
-        params![version as i64, bytes],
-    )
+    let text = "INSERT INTO archives (version, bytes) VALUES (?1, ?2)";
+    write(conn, text, params![version as i64, bytes])
 }
 
 /// The archive of a version of a crate, by its release and its text.
@@ -70,12 +59,10 @@ pub fn of_version<S: Alter>(
     ensures { Reads S.Store conn.old conn.new result
         (IsArchiveOf crate_id release.now vers.now (rows_in S.Store conn.old)) }
 {
-    select_one(
-        conn,
+    let text =
         "SELECT a.bytes FROM versions v JOIN archives a ON a.version = v.id WHERE v.crate = ?1 \
-        AND v.release = ?2 AND v.vers = ?3",
-        params![crate_id, release, vers],
-    )
+        AND v.release = ?2 AND v.vers = ?3";
+    select_one(conn, text, params![crate_id, release, vers])
 }
 
 /// The archive of the version with this id.
@@ -85,11 +72,8 @@ pub fn by_id<S: Alter>(conn: &mut Connection<S>, version: u64) -> Result<Option<
     ensures { Reads S.Store conn.old conn.new result
         (IsArchiveWithId version (rows_in S.Store conn.old)) }
 {
-    select_one(
-        conn,
-        "SELECT version, bytes FROM archives WHERE version = ?1",
-        params![version as i64],
-    )
+    let text = "SELECT version, bytes FROM archives WHERE version = ?1";
+    select_one(conn, text, params![version as i64])
 }
 
 /// The first id of a version that has an archive, if there is one. An id that is NULL would be the
@@ -99,9 +83,6 @@ pub fn first_id<S: Alter>(conn: &mut Connection<S>) -> Result<Option<u64>, Error
     ensures { Reads S.Store conn.old conn.new result
         (IsFirstId archives_tree (rows_in S.Store conn.old)) }
 {
-    select_one(
-        conn,
-        "SELECT version FROM archives ORDER BY version LIMIT 1",
-        &[],
-    )
+    let text = "SELECT version FROM archives ORDER BY version LIMIT 1";
+    select_one(conn, text, &[])
 }

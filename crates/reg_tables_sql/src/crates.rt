@@ -8,7 +8,7 @@ ghost use Rattle.reg_tables_schema.specs.Statements.{Reads, Writes, rows_in};
 ghost use Rattle.reg_tables_sql.specs.Counts.{IsCount, IsLastId};
 ghost use Rattle.reg_tables_sql.specs.Crates.{AreCrates, AreCratesById, IsCrateOfCanon, IsCrateThere, crate_columns, crate_row};
 
-use crate::records::FromRow;
+use crate::records::{FromRow, read_columns};
 use crate::statements::{has_row, select_list, select_one, select_only, write};
 use sqlite::{Alter, Connection, Error, Row, params};
 use std::alloc::Global;
@@ -25,14 +25,7 @@ impl FromRow for Crate {
     ghost columns = { crate_columns };
 
     fn from_row(row: &Row) -> Result<Crate, Error> {
-        if row.column_count() != 3 {
-            return Err(Error::InvalidQuery);
-        }
-        Ok(Crate {
-            id: row.get(0)?,
-            canon: row.get(1)?,
-            name: row.get(2)?,
-        })
+        read_columns!(row, 3 => Crate { id: 0, canon: 1, name: 2 })
     }
 }
 
@@ -47,11 +40,8 @@ pub fn insert<S: Alter>(
     ensures { Writes S.Store conn.old conn.new result
         (Adds crates_tree (crate_row id canon.now name.now)) }
 {
-    write(
-        conn,
-        "INSERT INTO crates (id, canon, name) VALUES (?1, ?2, ?3)",
-        params![id, canon, name],
-    )
+    let text = "INSERT INTO crates (id, canon, name) VALUES (?1, ?2, ?3)";
+    write(conn, text, params![id, canon, name])
 }
 
 /// The crate with this canonical name, if there is one.
@@ -60,11 +50,8 @@ pub fn by_canon<S: Alter>(conn: &mut Connection<S>, canon: &str) -> Result<Optio
     ensures { Reads S.Store conn.old conn.new result
         (IsCrateOfCanon canon.now (rows_in S.Store conn.old)) }
 {
-    select_one(
-        conn,
-        "SELECT id, canon, name FROM crates WHERE canon = ?1",
-        params![canon],
-    )
+    let text = "SELECT id, canon, name FROM crates WHERE canon = ?1";
+    select_one(conn, text, params![canon])
 }
 
 /// Whether there is a crate with this id.
@@ -82,12 +69,8 @@ pub fn all<S: Alter>(alloc: Global, conn: &mut Connection<S>) -> Result<Vec<Crat
     ensures { Reads S.Store conn.old conn.new result
         (λ list. AreCrates (rows_in S.Store conn.old) list.items) }
 {
-    select_list(
-        alloc,
-        conn,
-        "SELECT id, canon, name FROM crates ORDER BY canon",
-        &[],
-    )
+    let text = "SELECT id, canon, name FROM crates ORDER BY canon";
+    select_list(alloc, conn, text, &[])
 }
 
 /// All crates, by id.
@@ -96,12 +79,8 @@ pub fn all_by_id<S: Alter>(alloc: Global, conn: &mut Connection<S>) -> Result<Ve
     ensures { Reads S.Store conn.old conn.new result
         (λ list. AreCratesById (rows_in S.Store conn.old) list.items) }
 {
-    select_list(
-        alloc,
-        conn,
-        "SELECT id, canon, name FROM crates ORDER BY id",
-        &[],
-    )
+    let text = "SELECT id, canon, name FROM crates ORDER BY id";
+    select_list(alloc, conn, text, &[])
 }
 
 /// The greatest crate id, if there is one.

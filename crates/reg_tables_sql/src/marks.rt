@@ -6,7 +6,7 @@ ghost use Rattle.reg_tables_schema.specs.Rows.{mark, number_columns};
 ghost use Rattle.reg_tables_sql.specs.Reserved.{columns_of_text};
 ghost use Rattle.reg_tables_sql.specs.Rowids.{rowid_columns};
 
-use crate::records::FromRow;
+use crate::records::{FromRow, check_width};
 use sqlite::{Error, Row};
 
 /// The mark in a column; no other number is one.
@@ -25,9 +25,7 @@ impl FromRow for u32 {
     ghost columns = { number_columns };
 
     fn from_row(row: &Row) -> Result<u32, Error> {
-        if row.column_count() != 1 {
-            return Err(Error::InvalidQuery);
-        }
+        check_width(row, 1)?;
         row.get(0)
     }
 }
@@ -37,9 +35,7 @@ impl FromRow for u64 {
     ghost columns = { number_columns };
 
     fn from_row(row: &Row) -> Result<u64, Error> {
-        if row.column_count() != 1 {
-            return Err(Error::InvalidQuery);
-        }
+        check_width(row, 1)?;
         row.get(0)
     }
 }
@@ -49,9 +45,7 @@ impl FromRow for i64 {
     ghost columns = { rowid_columns };
 
     fn from_row(row: &Row) -> Result<i64, Error> {
-        if row.column_count() != 1 {
-            return Err(Error::InvalidQuery);
-        }
+        check_width(row, 1)?;
         row.get(0)
     }
 }
@@ -60,9 +54,7 @@ impl FromRow for String {
     ghost columns = { columns_of_text };
 
     fn from_row(row: &Row) -> Result<String, Error> {
-        if row.column_count() != 1 {
-            return Err(Error::InvalidQuery);
-        }
+        check_width(row, 1)?;
         row.get(0)
     }
 }

@@ -11,7 +11,7 @@ ghost use Rattle.reg_tables_sql.specs.Relations.{accounts_text, all_text, insert
 ghost use Rattle.reg_tables_sql.specs.Rowids.{AreRowids};
 
 use crate::accounts::Account;
-use crate::records::FromRow;
+use crate::records::{FromRow, read_columns};
 use crate::statements::{has_row, select_list, write};
 use sqlite::{Alter, Connection, Error, Row, params};
 use std::alloc::Global;
@@ -27,13 +27,7 @@ impl FromRow for Pair {
     ghost columns = { columns_of_pair };
 
     fn from_row(row: &Row) -> Result<Pair, Error> {
-        if row.column_count() != 2 {
-            return Err(Error::InvalidQuery);
-        }
-        Ok(Pair {
-            crate_id: row.get(0)?,
-            account: row.get(1)?,
-        })
+        read_columns!(row, 2 => Pair { crate_id: 0, account: 1 })
     }
 }
 

@@ -1,6 +1,6 @@
 //! The rows of a result, read as records.
 
-ghost use Rattle.std.specs.Prelude.{◌≡◌, IfOk, map};
+ghost use Rattle.std.specs.Prelude.{◌≡◌, IfOk, OnOk, length, map};
 ghost use Rattle.sqlite.specs.Order.{Row as Values};
 
 use sqlite::{Error, Row};
@@ -13,6 +13,31 @@ pub trait FromRow: Sized + Drop {
     fn from_row(row: &Row) -> Result<Self, Error>
         ensures { IfOk result (λ it. row.now ≡ columns it) };
 }
+
+/// Refuses a row with another number of columns.
+pub(crate) fn check_width(row: &Row, columns: usize) -> Result<(), Error>
+    ensures { OnOk result (length row.now ≡ columns) }
+{
+    if row.column_count() != columns {
+        return Err(Error::InvalidQuery);
+    }
+    Ok(())
+}
+
+/// Reads a row of `$width` columns as a record: each field by `get` from its column, or by the
+/// function that is named after `by`.
+macro_rules! read_columns {
+    (@field $row:ident, $at:literal) => { $row.get($at)? };
+    (@field $row:ident, $at:literal by $read:ident) => { $read($row, $at)? };
+    ($row:ident, $width:literal => $record:ident {
+        $($field:ident: $at:literal $(by $read:ident)?),*
+    }) => {{
+        crate::records::check_width($row, $width)?;
+        Ok($record { $($field: crate::records::read_columns!(@field $row, $at $(by $read)?)),* })
+    }};
+}
+
+pub(crate) use read_columns;
 
 /// The records of all rows, in order. Each row is dropped as soon as its record is made.
 pub(crate) fn read_all<T: FromRow>(alloc: Global, rows: Vec<Row>) -> Result<Vec<T>, Error>

@@ -19,11 +19,8 @@ pub fn insert<S: Alter>(conn: &mut Connection<S>, canon: &str) -> Result<(), Err
     ensures { Writes S.Store conn.old conn.new result
         (AddsColumns reserved_tree (reserved_columns canon.now)) }
 {
-    write(
-        conn,
-        "INSERT INTO reserved (canon) VALUES (?1)",
-        params![canon],
-    )
+    let text = "INSERT INTO reserved (canon) VALUES (?1)";
+    write(conn, text, params![canon])
 }
 
 /// Frees a canonical name.
@@ -32,11 +29,8 @@ pub fn remove<S: Alter>(conn: &mut Connection<S>, canon: &str) -> Result<(), Err
     ensures { Writes S.Store conn.old conn.new result
         (Removes reserved_tree (is_text reserved_canon_place canon.now)) }
 {
-    write(
-        conn,
-        "DELETE FROM reserved WHERE canon = ?1",
-        params![canon],
-    )
+    let text = "DELETE FROM reserved WHERE canon = ?1";
+    write(conn, text, params![canon])
 }
 
 /// Whether the canonical name is reserved.
@@ -45,11 +39,8 @@ pub fn is_there<S: Alter>(conn: &mut Connection<S>, canon: &str) -> Result<bool,
     ensures { Reads S.Store conn.old conn.new result
         (IsReserved canon.now (rows_in S.Store conn.old)) }
 {
-    has_row(
-        conn,
-        "SELECT canon FROM reserved WHERE canon = ?1",
-        params![canon],
-    )
+    let text = "SELECT canon FROM reserved WHERE canon = ?1";
+    has_row(conn, text, params![canon])
 }
 
 /// All reserved names, in order.
@@ -58,12 +49,8 @@ pub fn all<S: Alter>(alloc: Global, conn: &mut Connection<S>) -> Result<Vec<Stri
     ensures { Reads S.Store conn.old conn.new result
         (λ list. AreReserved (rows_in S.Store conn.old) list.items) }
 {
-    select_list(
-        alloc,
-        conn,
-        "SELECT canon FROM reserved ORDER BY canon",
-        &[],
-    )
+    let text = "SELECT canon FROM reserved ORDER BY canon";
+    select_list(alloc, conn, text, &[])
 }
 
 /// The rowids of all reserved names, in order.
@@ -72,10 +59,6 @@ pub fn rowids<S: Alter>(alloc: Global, conn: &mut Connection<S>) -> Result<Vec<i
     ensures { Reads S.Store conn.old conn.new result
         (λ list. AreRowids reserved_tree (rows_in S.Store conn.old) list.items) }
 {
-    select_list(
-        alloc,
-        conn,
-        "SELECT rowid FROM reserved ORDER BY rowid",
-        &[],
-    )
+    let text = "SELECT rowid FROM reserved ORDER BY rowid";
+    select_list(alloc, conn, text, &[])
 }

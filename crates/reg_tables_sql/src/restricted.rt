@@ -17,11 +17,8 @@ pub fn insert<S: Alter>(conn: &mut Connection<S>, crate_id: u32) -> Result<(), E
     ensures { Writes S.Store conn.old conn.new result
         (Adds restricted_tree (restricted_row crate_id)) }
 {
-    write(
-        conn,
-        "INSERT INTO restricted (crate) VALUES (?1)",
-        params![crate_id],
-    )
+    let text = "INSERT INTO restricted (crate) VALUES (?1)";
+    write(conn, text, params![crate_id])
 }
 
 /// Opens a crate to everyone.
@@ -30,11 +27,8 @@ pub fn remove<S: Alter>(conn: &mut Connection<S>, crate_id: u32) -> Result<(), E
     ensures { Writes S.Store conn.old conn.new result
         (Removes restricted_tree (is_restricted crate_id)) }
 {
-    write(
-        conn,
-        "DELETE FROM restricted WHERE crate = ?1",
-        params![crate_id],
-    )
+    let text = "DELETE FROM restricted WHERE crate = ?1";
+    write(conn, text, params![crate_id])
 }
 
 /// Whether a crate is restricted.
@@ -43,11 +37,8 @@ pub fn is_there<S: Alter>(conn: &mut Connection<S>, crate_id: u32) -> Result<boo
     ensures { Reads S.Store conn.old conn.new result
         (IsRestricted crate_id (rows_in S.Store conn.old)) }
 {
-    has_row(
-        conn,
-        "SELECT crate FROM restricted WHERE crate = ?1",
-        params![crate_id],
-    )
+    let text = "SELECT crate FROM restricted WHERE crate = ?1";
+    has_row(conn, text, params![crate_id])
 }
 
 /// The ids of the restricted crates, in order.
@@ -56,10 +47,6 @@ pub fn all<S: Alter>(alloc: Global, conn: &mut Connection<S>) -> Result<Vec<u32>
     ensures { Reads S.Store conn.old conn.new result
         (λ list. AreRestricted (rows_in S.Store conn.old) list.items) }
 {
-    select_list(
-        alloc,
-        conn,
-        "SELECT crate FROM restricted ORDER BY crate",
-        &[],
-    )
+    let text = "SELECT crate FROM restricted ORDER BY crate";
+    select_list(alloc, conn, text, &[])
 }

@@ -7,7 +7,7 @@ ghost use Rattle.reg_tables_schema.specs.States.{IsReady};
 ghost use Rattle.reg_tables_schema.specs.Statements.{Reads, Writes, rows_in};
 ghost use Rattle.reg_tables_sql.specs.Scopes.{AreScopes, AreScopesOf, columns_of_scope, scope_columns};
 
-use crate::records::FromRow;
+use crate::records::{FromRow, read_columns};
 use crate::statements::{select_list, write};
 use sqlite::{Alter, Connection, Error, Row, params};
 use std::alloc::Global;
@@ -26,16 +26,7 @@ impl FromRow for Scope {
     ghost columns = { columns_of_scope };
 
     fn from_row(row: &Row) -> Result<Scope, Error> {
-        if row.column_count() != 5 {
-            return Err(Error::InvalidQuery);
-        }
-        Ok(Scope {
-            token: row.get(0)?,
-            place: row.get(1)?,
-            pattern: row.get(2)?,
-            low: row.get(3)?,
-            high: row.get(4)?,
-        })
+        read_columns!(row, 5 => Scope { token: 0, place: 1, pattern: 2, low: 3, high: 4 })
     }
 }
 
@@ -52,11 +43,8 @@ pub fn insert<S: Alter>(
     ensures { Writes S.Store conn.old conn.new result
         (AddsColumns scopes_tree (scope_columns token place pattern.now low.now high.now)) }
 {
-    write(
-        conn,
-        "INSERT INTO scopes (token, place, pattern, low, high) VALUES (?1, ?2, ?3, ?4, ?5)",
-        params![token, place, pattern, low, high],
-    )
+    let text = "INSERT INTO scopes (token, place, pattern, low, high) VALUES (?1, ?2, ?3, ?4, ?5)";
+    write(conn, text, params![token, place, pattern, low, high])
 }
 
 /// The scopes of a token, by place.
@@ -69,12 +57,9 @@ pub fn of_token<S: Alter>(
     ensures { Reads S.Store conn.old conn.new result
         (λ list. AreScopesOf token (rows_in S.Store conn.old) list.items) }
 {
-    select_list(
-        alloc,
-        conn,
-        "SELECT token, place, pattern, low, high FROM scopes WHERE token = ?1 ORDER BY place",
-        params![token],
-    )
+    let text =
+        "SELECT token, place, pattern, low, high FROM scopes WHERE token = ?1 ORDER BY place";
+    select_list(alloc, conn, text, params![token])
 }
 
 /// All scopes, by token and place.
@@ -83,10 +68,6 @@ pub fn all<S: Alter>(alloc: Global, conn: &mut Connection<S>) -> Result<Vec<Scop
     ensures { Reads S.Store conn.old conn.new result
         (λ list. AreScopes (rows_in S.Store conn.old) list.items) }
 {
-    select_list(
-        alloc,
-        conn,
-        "SELECT token, place, pattern, low, high FROM scopes ORDER BY token, place",
-        &[],
-    )
+    let text = "SELECT token, place, pattern, low, high FROM scopes ORDER BY token, place";
+    select_list(alloc, conn, text, &[])
 }

@@ -10,7 +10,7 @@ ghost use Rattle.reg_tables_schema.specs.States.{IsReady};
 ghost use Rattle.reg_tables_schema.specs.Statements.{Reads, Writes, rows_in};
 ghost use Rattle.reg_tables_sql.specs.Summaries.{AreSummaries, IsSummaryOf, Summarizes, columns_of_summary, summary_row};
 
-use crate::records::FromRow;
+use crate::records::{FromRow, read_columns};
 use crate::statements::{select_list, select_one, write};
 use sqlite::{Alter, Connection, Error, Row, params};
 use std::alloc::Global;
@@ -27,14 +27,7 @@ impl FromRow for Summary {
     ghost columns = { columns_of_summary };
 
     fn from_row(row: &Row) -> Result<Summary, Error> {
-        if row.column_count() != 3 {
-            return Err(Error::InvalidQuery);
-        }
-        Ok(Summary {
-            crate_id: row.get(0)?,
-            highest: row.get(1)?,
-            index_length: row.get(2)?,
-        })
+        read_columns!(row, 3 => Summary { crate_id: 0, highest: 1, index_length: 2 })
     }
 }
 
@@ -63,9 +56,10 @@ pub fn insert<S: Alter>(
         (Adds summaries_tree (summary_row crate_id highest index_length)) }
 {
     check_numbers(highest, index_length)?;
+    let text = "INSERT INTO summaries (crate, highest, index_length) VALUES (?1, ?2, ?3)";
     write(
         conn,
-        "INSERT INTO summaries (crate, highest, index_length) VALUES (?1, ?2, ?3)",
+        text,
         params![crate_id, highest as i64, index_length as i64],
     )
 }
@@ -82,9 +76,10 @@ pub fn update<S: Alter>(
         (Summarizes crate_id highest index_length) }
 {
     check_numbers(highest, index_length)?;
+    let text = "UPDATE summaries SET highest = ?2, index_length = ?3 WHERE crate = ?1";
     write(
         conn,
-        "UPDATE summaries SET highest = ?2, index_length = ?3 WHERE crate = ?1",
+        text,
         params![crate_id, highest as i64, index_length as i64],
     )
 }
@@ -95,11 +90,8 @@ pub fn of_crate<S: Alter>(conn: &mut Connection<S>, crate_id: u32) -> Result<Opt
     ensures { Reads S.Store conn.old conn.new result
         (IsSummaryOf crate_id (rows_in S.Store conn.old)) }
 {
-    select_one(
-        conn,
-        "SELECT crate, highest, index_length FROM summaries WHERE crate = ?1",
-        params![crate_id],
-    )
+    let text = "SELECT crate, highest, index_length FROM summaries WHERE crate = ?1";
+    select_one(conn, text, params![crate_id])
 }
 
 /// All summaries, by crate id.
@@ -108,10 +100,6 @@ pub fn all<S: Alter>(alloc: Global, conn: &mut Connection<S>) -> Result<Vec<Summ
     ensures { Reads S.Store conn.old conn.new result
         (λ list. AreSummaries (rows_in S.Store conn.old) list.items) }
 {
-    select_list(
-        alloc,
-        conn,
-        "SELECT crate, highest, index_length FROM summaries ORDER BY crate",
-        &[],
-    )
+    let text = "SELECT crate, highest, index_length FROM summaries ORDER BY crate";
+    select_list(alloc, conn, text, &[])
 }

@@ -9,10 +9,10 @@ ghost use Rattle.reg_tables_schema.specs.Rows.{mark};
 ghost use Rattle.reg_tables_schema.specs.States.{IsReady};
 ghost use Rattle.reg_tables_schema.specs.Statements.{Reads, Writes, rows_in};
 ghost use Rattle.reg_tables_sql.specs.Counts.{IsLastId};
-ghost use Rattle.reg_tables_sql.specs.Tokens.{AreTokens, IsTokenOfDigest, Revokes, columns_of_token, columns_with_account, token_row};
+ghost use Rattle.reg_tables_sql.specs.Tokens.{AreTokens, IsTokenOfDigest, IsTokenWithId, Revokes, columns_of_token, columns_with_account, token_row};
 
 use crate::marks::mark_of;
-use crate::records::FromRow;
+use crate::records::{FromRow, read_columns};
 use crate::statements::{select_list, select_one, write};
 use reg_model::Endpoints;
 use sqlite::{Alter, Connection, Error, Row, params};
@@ -59,15 +59,8 @@ impl FromRow for Token {
     ghost columns = { columns_of_token };
 
     fn from_row(row: &Row) -> Result<Token, Error> {
-        if row.column_count() != 8 {
-            return Err(Error::InvalidQuery);
-        }
-        Ok(Token {
-            id: row.get(0)?,
-            digest: row.get(1)?,
-            account: row.get(2)?,
-            live: mark_of(row, 3)?,
-            endpoints: endpoints_of(row, 4)?,
+        read_columns!(row, 8 => Token {
+            id: 0, digest: 1, account: 2, live: 3 by mark_of, endpoints: 4 by endpoints_of
         })
     }
 }
@@ -76,16 +69,9 @@ impl FromRow for TokenRow {
     ghost columns = { columns_with_account };
 
     fn from_row(row: &Row) -> Result<TokenRow, Error> {
-        if row.column_count() != 9 {
-            return Err(Error::InvalidQuery);
-        }
-        Ok(TokenRow {
-            id: row.get(0)?,
-            account: row.get(1)?,
-            live: mark_of(row, 2)?,
-            endpoints: endpoints_of(row, 3)?,
-            login: row.get(7)?,
-            enabled: mark_of(row, 8)?,
+        read_columns!(row, 9 => TokenRow {
+            id: 0, account: 1, live: 2 by mark_of, endpoints: 3 by endpoints_of,
+            login: 7, enabled: 8 by mark_of
         })
     }
 }
@@ -102,10 +88,11 @@ pub fn insert<S: Alter>(
     ensures { Writes S.Store conn.old conn.new result
         (Adds tokens_tree (token_row id digest.now account true endpoints.now)) }
 {
+    let text = "INSERT INTO tokens (id, digest, account, live, publish_new, publish_update, yank, \
+        change_owners) VALUES (?1, ?2, ?3, 1, ?4, ?5, ?6, ?7)";
     write(
         conn,
-        "INSERT INTO tokens (id, digest, account, live, publish_new, publish_update, yank, \
-        change_owners) VALUES (?1, ?2, ?3, 1, ?4, ?5, ?6, ?7)",
+        text,
         params![
             id,
             digest.as_slice(),
@@ -123,11 +110,8 @@ pub fn revoke<S: Alter>(conn: &mut Connection<S>, id: u32) -> Result<(), Error>
     requires { IsReady (state S.Store conn.old) }
     ensures { Writes S.Store conn.old conn.new result (Revokes id) }
 {
-    write(
-        conn,
-        "UPDATE tokens SET live = 0 WHERE id = ?1",
-        params![id],
-    )
+    let text = "UPDATE tokens SET live = 0 WHERE id = ?1";
+    write(conn, text, params![id])
 }
 
 /// The token with this digest, with its account, if there is one.
@@ -139,12 +123,22 @@ pub fn by_digest<S: Alter>(
     ensures { Reads S.Store conn.old conn.new result
         (IsTokenOfDigest digest.now (rows_in S.Store conn.old)) }
 {
+    let text = "SELECT t.id, t.account, t.live, t.publish_new, t.publish_update, t.yank, \
+        t.change_owners, a.login, a.enabled FROM tokens t JOIN accounts a ON a.id = t.account \
+        WHERE t.digest = ?1";
+    select_one(conn, text, params![digest.as_slice()])
+}
+
+/// The token with this id, if there is one.
+pub fn by_id<S: Alter>(conn: &mut Connection<S>, id: u32) -> Result<Option<Token>, Error>
+    requires { IsReady (state S.Store conn.old) }
+    ensures { Reads S.Store conn.old conn.new result (IsTokenWithId id (rows_in S.Store conn.old)) }
+{
     select_one(
         conn,
-        "SELECT t.id, t.account, t.live, t.publish_new, t.publish_update, t.yank, \
-        t.change_owners, a.login, a.enabled FROM tokens t JOIN accounts a ON a.id = t.account \
-        WHERE t.digest = ?1",
-        params![digest.as_slice()],
+        "SELECT id, digest, account, live, publish_new, publish_update, yank, change_owners FROM \
+        tokens WHERE id = ?1",
+        params![id],
     )
 }
 
@@ -154,13 +148,10 @@ pub fn all<S: Alter>(alloc: Global, conn: &mut Connection<S>) -> Result<Vec<Toke
     ensures { Reads S.Store conn.old conn.new result
         (λ list. AreTokens (rows_in S.Store conn.old) list.items) }
 {
-    select_list(
-        alloc,
-        conn,
+    let text =
         "SELECT id, digest, account, live, publish_new, publish_update, yank, change_owners FROM \
-        tokens ORDER BY id",
-        &[],
-    )
+        tokens ORDER BY id";
+    select_list(alloc, conn, text, &[])
 }
 
 /// The greatest token id, if there is one.

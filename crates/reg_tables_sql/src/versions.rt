@@ -16,7 +16,7 @@ ghost use Rattle.reg_tables_sql.specs.VersionMarks.{AreMarksOf, IsMarkOf, IsMark
 ghost use Rattle.reg_tables_sql.specs.Versions.{AreVersions, AreVersionsOf, MarksYanked, columns_of_version, version_row};
 
 use crate::marks::mark_of;
-use crate::records::FromRow;
+use crate::records::{FromRow, check_width, read_columns};
 use crate::statements::{select_here, select_list, select_one, select_only, write};
 use sqlite::{Alter, Connection, Error, Row, params};
 use std::alloc::Global;
@@ -38,9 +38,7 @@ impl FromRow for Version {
     ghost columns = { columns_of_version };
 
     fn from_row(row: &Row) -> Result<Version, Error> {
-        if row.column_count() != 8 {
-            return Err(Error::InvalidQuery);
-        }
+        check_width(row, 8)?;
         with_texts(row, row.get(0)?, row.get(1)?, mark_of(row, 7)?)
     }
 }
@@ -74,13 +72,7 @@ impl FromRow for StemRow {
     ghost columns = { columns_of_stem };
 
     fn from_row(row: &Row) -> Result<StemRow, Error> {
-        if row.column_count() != 2 {
-            return Err(Error::InvalidQuery);
-        }
-        Ok(StemRow {
-            stem: row.get(0)?,
-            yanked: mark_of(row, 1)?,
-        })
+        read_columns!(row, 2 => StemRow { stem: 0, yanked: 1 by mark_of })
     }
 }
 
@@ -97,14 +89,8 @@ impl FromRow for VersionMark {
     ghost columns = { columns_of_mark };
 
     fn from_row(row: &Row) -> Result<VersionMark, Error> {
-        if row.column_count() != 4 {
-            return Err(Error::InvalidQuery);
-        }
-        Ok(VersionMark {
-            id: row.get(0)?,
-            vers: row.get(1)?,
-            stem_length: row.get(2)?,
-            yanked: mark_of(row, 3)?,
+        read_columns!(row, 4 => VersionMark {
+            id: 0, vers: 1, stem_length: 2, yanked: 3 by mark_of
         })
     }
 }
@@ -130,10 +116,11 @@ pub fn insert<S: Alter>(
         (version_row id crate_id vers.now release.now digest.now stem.now
         (option_map (λ d. d.now) description.entry) false)) }
 {
+    let text = "INSERT INTO versions (id, crate, vers, release, digest, stem, description, yanked) \
+        VALUES (?1, ?2, ?3, ?4, ?5, ?6, ?7, 0)";
     write(
         conn,
-        "INSERT INTO versions (id, crate, vers, release, digest, stem, description, yanked) \
-        VALUES (?1, ?2, ?3, ?4, ?5, ?6, ?7, 0)",
+        text,
         params![
             id as i64,
             crate_id,
@@ -158,11 +145,8 @@ pub fn set_yanked<S: Alter>(
     ensures { Writes S.Store conn.old conn.new result
         (MarksYanked crate_id release.now vers.now yanked) }
 {
-    write(
-        conn,
-        "UPDATE versions SET yanked = ?4 WHERE crate = ?1 AND release = ?2 AND vers = ?3",
-        params![crate_id, release, vers, yanked],
-    )
+    let text = "UPDATE versions SET yanked = ?4 WHERE crate = ?1 AND release = ?2 AND vers = ?3";
+    write(conn, text, params![crate_id, release, vers, yanked])
 }
 
 /// The versions of a crate, by id.
@@ -175,13 +159,10 @@ pub fn of_crate<S: Alter>(
     ensures { Reads S.Store conn.old conn.new result
         (λ list. AreVersionsOf crate_id (rows_in S.Store conn.old) list.items) }
 {
-    select_list(
-        alloc,
-        conn,
+    let text =
         "SELECT id, crate, vers, release, digest, stem, description, yanked FROM versions WHERE \
-        crate = ?1 ORDER BY id",
-        params![crate_id],
-    )
+        crate = ?1 ORDER BY id";
+    select_list(alloc, conn, text, params![crate_id])
 }
 
 /// All versions, by id.
@@ -190,13 +171,10 @@ pub fn all<S: Alter>(alloc: Global, conn: &mut Connection<S>) -> Result<Vec<Vers
     ensures { Reads S.Store conn.old conn.new result
         (λ list. AreVersions (rows_in S.Store conn.old) list.items) }
 {
-    select_list(
-        alloc,
-        conn,
+    let text =
         "SELECT id, crate, vers, release, digest, stem, description, yanked FROM versions ORDER \
-        BY id",
-        &[],
-    )
+        BY id";
+    select_list(alloc, conn, text, &[])
 }
 
 /// The rows of a crate's index file.
@@ -221,11 +199,8 @@ pub fn marks_of<S: Alter>(
     ensures { Reads S.Store conn.old conn.new result
         (λ list. AreMarksOf crate_id (rows_in S.Store conn.old) list.items) }
 {
-    select_here(
-        conn,
-        "SELECT id, vers, length(stem), yanked FROM versions WHERE crate = ?1 ORDER BY id",
-        params![crate_id],
-    )
+    let text = "SELECT id, vers, length(stem), yanked FROM versions WHERE crate = ?1 ORDER BY id";
+    select_here(conn, text, params![crate_id])
 }
 
 fn check_id(id: u64) -> Result<(), Error>
@@ -244,11 +219,8 @@ pub fn mark_by_id<S: Alter>(conn: &mut Connection<S>, id: u64) -> Result<Option<
         (IsMarkWithId id (rows_in S.Store conn.old)) }
 {
     check_id(id)?;
-    select_one(
-        conn,
-        "SELECT id, vers, length(stem), yanked FROM versions WHERE id = ?1",
-        params![id as i64],
-    )
+    let text = "SELECT id, vers, length(stem), yanked FROM versions WHERE id = ?1";
+    select_one(conn, text, params![id as i64])
 }
 
 /// The mark of a version of a crate, by its release and its text.
@@ -262,12 +234,10 @@ pub fn mark_by_text<S: Alter>(
     ensures { Reads S.Store conn.old conn.new result
         (IsMarkOf crate_id release.now vers.now (rows_in S.Store conn.old)) }
 {
-    select_one(
-        conn,
+    let text =
         "SELECT id, vers, length(stem), yanked FROM versions WHERE crate = ?1 AND release = ?2 \
-        AND vers = ?3",
-        params![crate_id, release, vers],
-    )
+        AND vers = ?3";
+    select_one(conn, text, params![crate_id, release, vers])
 }
 
 /// How many versions a crate has, up to SQL's greatest count.
@@ -276,11 +246,8 @@ pub fn count_of<S: Alter>(conn: &mut Connection<S>, crate_id: u32) -> Result<u64
     ensures { Reads S.Store conn.old conn.new result
         (IsCountOf versions_tree version_crate_place crate_id (rows_in S.Store conn.old)) }
 {
-    select_only::<u64, S>(
-        conn,
-        "SELECT count(*) FROM versions WHERE crate = ?1",
-        params![crate_id],
-    )
+    let text = "SELECT count(*) FROM versions WHERE crate = ?1";
+    select_only::<u64, S>(conn, text, params![crate_id])
 }
 
 /// The greatest version id, if there is one.
@@ -289,9 +256,6 @@ pub fn last_id<S: Alter>(conn: &mut Connection<S>) -> Result<Option<u64>, Error>
     ensures { Reads S.Store conn.old conn.new result
         (IsLastId versions_tree (rows_in S.Store conn.old)) }
 {
-    select_one(
-        conn,
-        "SELECT id FROM versions ORDER BY id DESC LIMIT 1",
-        &[],
-    )
+    let text = "SELECT id FROM versions ORDER BY id DESC LIMIT 1";
+    select_one(conn, text, &[])
 }

@@ -1,16 +1,17 @@
 use Rattle.std.proofs.Common.{refl, sym, ◌∙◌}
 use Rattle.reg_policy.specs.Views.{action_of}
-use Rattle.reg_access.proofs.Admitting.{has_its_crate, none_of}
+use Rattle.reg_access.proofs.Admitting.{has_its_crate, has_its_version, none_of}
 use Rattle.reg_access.proofs.admission.admission_of.Goals as goal
 
 pub returns-in-Denied : goal.returns-in-Denied
-returns-in-Denied c = record { decided = sym c.in-Denied.is ∙ c.first_broken.ensures; handed = tt; there = tt }
+returns-in-Denied c = record { decided = sym c.in-Denied.is ∙ c.first_broken.ensures; handed = tt; there = tt; named = tt }
 
 pub returns-in-Allowed : goal.returns-in-Allowed
 returns-in-Allowed c =
     let decided = sym c.in-Allowed.is ∙ c.first_broken.ensures in
     record {
       decided = decided;
-      handed = record { account = refl; found = c.crate_of_row.ensures };
+      handed = record { account = refl; found = c.crate_of_row.ensures; version = refl };
+      named = has_its_version (action_of c.args.action.now) c.args.token.now c.args.found (none_of _ decided);
       there = has_its_crate (action_of c.args.action.now) c.args.token.now c.args.found _ (none_of _ decided) c.crate_of_row.ensures;
     }

@@ -9,10 +9,10 @@ use Rattle.reg_service_requests.proofs.publishing.publish_next.Goals as goal
 pub returns-then-full : goal.returns-then-full
 returns-then-full g c =
     runs_asked g.S.Store c.in_ok-full.full _ c.args.work.now c.is_full_of.new.work c.in_ok-full.ensures
-    (λ full. next_refused c.args.limits.now (publication_of c.args.new.now) c.args.crate_id _ (rw c.if-full.true at full))
+    (λ full. next_refused c.args.limits.now (publication_of c.args.new.now) c.args.found.now _ (rw c.if-full.true at full))
 
 pub returns : goal.returns
 returns g c =
-    runs_changed g.S.Store (λ db. AddsNext c.args.crate_id c.version_of-version.result db (rows_seen g.S.Store c.add_version.new.self)) c.in_ok-full.full c.in_ok-add_version.field-0 _ c.args.work.now c.is_full_of.new.work c.add_version.new.self
+    runs_changed g.S.Store (λ db. AddsNext c.args.found.now.id c.version_of-version.result db (rows_seen g.S.Store c.add_version.new.self)) c.in_ok-full.full c.in_ok-add_version.field-0 _ c.args.work.now c.is_full_of.new.work c.add_version.new.self
     c.in_ok-full.ensures c.in_ok-add_version.ensures.leaves c.in_ok-add_version.ensures.added
-    (λ full adds. next_let c.args.limits.now (publication_of c.args.new.now) c.args.crate_id _ c.version_of-version.result c.in-Ok.body _ c.version_of-version.ensures (c.in-Ok.ensures.items_if_clones_equal (λ x y e. e) ∙ c.publish_body.ensures) (rw c.if-full.false at full) adds)
+    (λ full adds. next_let c.args.limits.now (publication_of c.args.new.now) c.args.found.now _ c.version_of-version.result c.in-Ok.body _ c.version_of-version.ensures (c.in-Ok.ensures.items_if_clones_equal (λ x y e. e) ∙ c.publish_body.ensures) (rw c.if-full.false at full) adds)

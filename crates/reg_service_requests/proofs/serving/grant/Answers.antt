@@ -1,8 +1,8 @@
 use Rattle.std.proofs.Common.{◌≡◌, map, refl, rules}
-use Rattle.reg_model.specs.Events.Asked.{AddOwners, RemoveOwners}
+use Rattle.reg_model.specs.Events.Asked.{AddOwners, Download, RemoveOwners}
 use Rattle.reg_policy.specs.declared.event.Asked.TheVariants.{Read}
 use Rattle.reg_policy.specs.declared.event.Reading.TheVariants.{Search}
-use Rattle.reg_service_requests.proofs.Deciding.{as_given, crate_given, faulty, seeks}
+use Rattle.reg_service_requests.proofs.Deciding.{as_given, crate_given, faulty, seeks, version_given}
 use Rattle.reg_service_requests.proofs.Running.{runs_nothing}
 use Rattle.reg_service_requests.proofs.serving.grant.Goals as goal
 
@@ -17,6 +17,11 @@ returns-in-Read-Search g c =
     as_given g.S.Store c.args.limits.now c.args.caller.now c.args.asked.now _ same _ c.args.work.now c.args.work.now
     (runs_nothing g.S.Store _ c.args.work.now c.requires.goes_on c.requires.at_work
     (λ digest lets who. seeks c.args.limits.now digest c.in-Read-Search.field-0-0.now c.in-Read-Search.field-0-1 c.args.caller.now.account _ (λ ids s h. (who ids s h).account) lets))
+
+pub returns-in-Download : goal.returns-in-Download
+returns-in-Download g c =
+    version_given g.S.Store c.args.limits.now c.args.caller.now c.args.asked.now _ c.in-Download.is c.read_archive.result c.args.work.now c.read_archive.new.work
+    Download c.in-Download.field-0.now c.in-Download.field-1.now c.found_version.result refl c.found_version.ensures c.read_archive.ensures
 
 pub returns-in-AddOwners : goal.returns-in-AddOwners
 returns-in-AddOwners g c =

@@ -9,7 +9,7 @@ use Rattle.reg_tables_meaning.proofs.crate_lists.has_versions.Goals as goal
 pub returns-clause-told : goal.returns-clause-told
 returns-clause-told g c clean =
     let db = (state g.S.Store c.args.conn.now).now.trees in
-    if_ok c.reaches.result (λ is e ids s h. e.0 ∙ ap (nat_le c.args.number) (versions_counted ids s db h.stands.crates c.args.crate_id c.in_ok-count.count e.1 (c.in_ok-count.ensures.told clean))) c.reaches.ensures
+    if_ok c.reaches.result (λ is e name ids s h at. e.0 ∙ ap (nat_le c.args.number) (versions_counted ids s db h.stands.crates c.args.crate_id name at c.in_ok-count.count e.1 (c.in_ok-count.ensures.told clean))) c.reaches.ensures
 
 pub returns-clause-same : goal.returns-clause-same
 returns-clause-same g c = same_whatever (state g.S.Store c.args.conn.now) (state g.S.Store c.count_of.new.conn) c.reaches.result (λ clean. (c.in_ok-count.ensures.only clean).0) c.count_of.ensures.survives

@@ -5,7 +5,6 @@ use Rattle.reg_tables_sql.proofs.versions.VersionFromRow.from_row.Goals as goal
 
 pub returns : goal.returns
 returns c =
-    let wide = sym c.column_count.ensures ∙ c.if-column_count-ne8.false in
     IfOk-weaker c.with_texts.result _ _ (λ it reads.
-    eight c.args.row.now wide
+    eight c.args.row.now c.in_ok-check_width.ensures
     ∙ rw (c.in_ok-get.ensures.ok.1, c.in_ok-get-2.ensures.ok.1, c.in_ok-mark_of.ensures) (sym reads)) c.with_texts.ensures

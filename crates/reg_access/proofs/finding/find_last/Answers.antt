@@ -1,4 +1,0 @@
-use Rattle.reg_access.proofs.finding.find_last.Goals as goal
-
-pub returns-in-Some : goal.returns-in-Some
-returns-in-Some g c = rw (c.in-Publish.is, c.in-Some.is) c.has_release.ensures

@@ -1,0 +1,9 @@
+use Rattle.std.proofs.Common.{map, rules}
+use Rattle.std.specs.BTreeSet.{IsFromIterResult}
+use Rattle.std.specs.Ordering.{nat_cmp}
+use Rattle.std.proofs.lemmas.Result.{IfOk-weaker}
+use Rattle.reg_audit.proofs.Sets.{has_each}
+use Rattle.reg_audit.proofs.readers.account_ids.Goals as goal
+
+pub returns : goal.returns
+returns c = IfOk-weaker c.collect.result (IsFromIterResult nat_cmp (map (λ it. it.id) c.args.rows.now.accounts.items)) _ (has_each (λ it. it.id) c.args.rows.now.accounts.items) (search rules)

@@ -1,0 +1,10 @@
+use Rattle.std.proofs.Common.{Ok, take}
+use Rattle.std.specs.Prelude.{string_bytes}
+use Rattle.reg_tables.specs.declared.work.StoreFault.{StoreFault}
+use Rattle.reg_access.specs.Asks.{Asks}
+use Rattle.reg_service_commands.specs.ReportedCrates.{HasLines}
+use Rattle.reg_service_commands.proofs.reports.crates.lines_of.Given as goal
+
+-- the crates so far have their lines
+abbrev pub invariant-loop-listed : goal.invariant-loop-listed
+invariant-loop-listed g l = Asks {T = Unit {0}} {E = StoreFault} g.S.Store l.fn.work l.work (Ok tt) (λ db _. HasLines l.crates (take l.listed-index l.crates) (string_bytes l.report) db)

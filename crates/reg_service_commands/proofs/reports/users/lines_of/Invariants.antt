@@ -1,0 +1,10 @@
+use Rattle.std.proofs.Common.{◌≡◌, take}
+use Rattle.std.specs.Prelude.{string_bytes}
+use Rattle.std.specs.List.{flat_map}
+use Rattle.reg_model.specs.Reports.{user_line}
+use Rattle.reg_tables_meaning.specs.Entries.{entry_of_account}
+use Rattle.reg_service_commands.proofs.reports.users.lines_of.Given as goal
+
+-- the accounts so far have their lines
+abbrev pub invariant-loop-account : goal.invariant-loop-account
+invariant-loop-account l = string_bytes l.report ≡ flat_map (λ a. user_line (entry_of_account a)) (take l.account-index l.accounts)

@@ -1,9 +1,0 @@
-use Rattle.std.proofs.Common.{◌≡◌, ◌++◌, take}
-use Rattle.std.specs.Prelude.{string_bytes}
-use Rattle.std.specs.List.{flat_map}
-use Rattle.reg_service_reports.specs.Reports.{line_of_grant}
-use Rattle.reg_service_reports.proofs.access.push_grants.Given as goal
-
--- the grants so far have their lines
-abbrev pub invariant-loop-grant : goal.invariant-loop-grant
-invariant-loop-grant l = string_bytes l.report ≡ string_bytes l.fn.report ++ flat_map line_of_grant (take l.grant-index l.grants)

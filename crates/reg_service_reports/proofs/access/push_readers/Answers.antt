@@ -1,9 +1,0 @@
-use Rattle.std.proofs.Common.{arith}
-use Rattle.std.specs.Prelude.{string_bytes}
-use Rattle.reg_service_reports.specs.Reports.{line_of_reader}
-use Rattle.reg_service_reports.proofs.Lines.{next_line}
-use Rattle.reg_service_reports.proofs.access.push_readers.Goals as goal
-
-pub loop-reader-preserved : goal.loop-reader-preserved
-loop-reader-preserved c =
-    next_line line_of_reader (string_bytes c.args.report.now) c.args.readers.now c.loop-reader.reader-index c.reader-item.result (string_bytes c.loop-reader.report) (string_bytes c.push_reader.new.report) (omega arith) c.reader-item.is c.in_ok-push_reader.ensures c.loop-reader.invariant

@@ -1,7 +1,0 @@
-use Rattle.std.proofs.Common.{◌≡◌, map, take}
-use Rattle.reg_service_reports.specs.Tokens.{pattern_of}
-use Rattle.reg_service_reports.proofs.tokens.patterns_of.Given as goal
-
--- the scopes so far have their patterns
-abbrev pub invariant-loop-scope : goal.invariant-loop-scope
-invariant-loop-scope l = l.list.items ≡ map pattern_of (take l.scope-index l.scopes)

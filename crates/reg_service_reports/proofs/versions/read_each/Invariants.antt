@@ -1,7 +1,0 @@
-use Rattle.std.proofs.Common.{◌≡◌, map, take}
-use Rattle.reg_service_reports.specs.Crates.{read_version}
-use Rattle.reg_service_reports.proofs.versions.read_each.Given as goal
-
--- the versions so far are read
-abbrev pub invariant-loop-version : goal.invariant-loop-version
-invariant-loop-version l = l.releases.items ≡ map read_version (take l.version-index l.versions)

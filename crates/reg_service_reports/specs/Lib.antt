@@ -1,3 +1,0 @@
-pub mod Crates
-pub mod Reports
-pub mod Tokens
