@@ -1,5 +1,5 @@
 -- Tokens that selections show.
-use Rattle.std.proofs.Common.{◌≡◌, ◌==◌, ℕ, pos, List, [], ◌∷◌, map, Bool, true, false, cond, Option, Some, None, refl, sym, subst, ◌∙◌, ap}
+use Rattle.std.proofs.Common.{◌≡◌, ◌==◌, ℕ, pos, List, [], ◌∷◌, map, Option, Some, None, refl, sym, ◌∙◌, ap}
 use Rattle.std.specs.List.{enumerate_from, filter}
 use Rattle.std.specs.List.Sorted.{IsPermutation}
 use Rattle.std.specs.Option.{option_map}
@@ -11,17 +11,18 @@ use Rattle.sqlite_keyed.proofs.SortLemmas.{sorted_unique}
 use Rattle.std.proofs.lemmas.List.Sorted.{IsPermutation-trans}
 use Rattle.reg_model.specs.Registry as model
 use Rattle.reg_tables_schema.specs.Rows.{IsInOrder, by_column}
-use Rattle.reg_tables_schema.proofs.Queries.{maps_twice}
+use Rattle.reg_tables_schema.specs.Shown.{shown_of}
+use Rattle.reg_tables_schema.proofs.Permutes.{one_row}
+use Rattle.reg_tables_schema.proofs.Queries.{maps_twice, same_filter}
 use Rattle.reg_tables_sql.specs.declared.tokens.Token.{Token}
 use Rattle.reg_tables_sql.specs.Tokens.{IsTokenWithId, columns_of_token}
 use Rattle.reg_tables_meaning.specs.TokenEntries.{entry_of_token, without_patterns}
 use Rattle.reg_tables_meaning.specs.Stands.{row_of_token, StandTokens}
 use Rattle.reg_tables_schema.specs.Tests.{is_number, shows}
-use Rattle.reg_tables_meaning.specs.Entries.{one_of}
 use Rattle.reg_tables_meaning.proofs.AccountEntries.{mark_is}
 use Rattle.reg_tables_meaning.proofs.Numbered.{none_at, one_at}
-use Rattle.reg_tables_meaning.proofs.Selected.{column_total, places_rise, selected_one}
-use Rattle.reg_tables_meaning.proofs.Standing.{same_number}
+use Rattle.reg_tables_meaning.proofs.Selected.{column_total, places_rise}
+use Rattle.reg_tables_meaning.proofs.Standing.{none_row, same_number}
 
 heads : {a b : Value} {xs ys : Row} → ◌≡◌ {A = Row} (a ∷ xs) (b ∷ ys) → a ≡ b
 heads e = cc
@@ -70,37 +71,32 @@ lists_tokens tokens db stands list h =
     let all = sorted_unique (by_column 0) (column_total 0) (map row_of_token es) h.ordered (places_rise row_of_token (λ e. refl) 1 tokens) (IsPermutation-trans (map row_of_token es) (db 3) h.ordered stands.rows h.same) h.sorted in
     each_token es list (h.shown ∙ ap (map show) all ∙ maps_twice row_of_token show es)
 
-same_short : (e : ℕ × model.Token) (t : Token) → show (row_of_token e) ≡ columns_of_token t → without_patterns e ≡ entry_of_token t
-same_short e t h = sym (same_token e t (sym h))
+row_is : {a b : Row} → ◌≡◌ {A = List Row} (a ∷ []) (b ∷ []) → a ≡ b
+row_is e = cc
 
--- the token with an id, patterns aside
-finds_with_id : (tokens : List model.Token) (db : Trees) → StandTokens tokens db → (id : ℕ) (found : Option Token) → IsTokenWithId id db found
-    → filter (λ e. e.0 == id) (map without_patterns (enumerate_from 1 tokens)) ≡ one_of (option_map entry_of_token found)
-finds_with_id tokens db stands id found h =
-    selected_one row_of_token show columns_of_token entry_of_token same_short (is_number 0 id) (λ e. e.0 == id) (λ e. same_number e.0 id) (map without_patterns (enumerate_from 1 tokens)) (db 3) found
-    (subst (λ rows. IsPermutation rows (db 3)) (sym (maps_twice without_patterns row_of_token (enumerate_from 1 tokens))) stands.rows) h
+none_shown : (found : Option Token) → ◌≡◌ {A = List Row} [] (shown_of columns_of_token found) → found ≡ None
+none_shown None h = refl
+none_shown (Some t) h = absurd cc
 
-short_filter : (id : ℕ) (es : List (ℕ × model.Token)) → filter (λ e. e.0 == id) (map without_patterns es) ≡ map without_patterns (filter (λ e. e.0 == id) es)
-short_filter id [] = refl
-short_filter id (e ∷ es) = by (short_filter id es) (e.0 == id)
+one_shown : (e : ℕ × model.Token) (found : Option Token) → ◌≡◌ {A = List Row} (show (row_of_token e) ∷ []) (shown_of columns_of_token found) → option_map (λ t. t.live) found ≡ Some e.1.live
+one_shown e None h = absurd cc
+one_shown e (Some t) h = ap (λ e. Some e.1.live) (same_token e t (sym (row_is h)))
+
+-- the token with an id is live, or not
+pub live_told : (tokens : List model.Token) (db : Trees) → StandTokens tokens db → (id : ℕ) (found : Option Token) → IsTokenWithId id db found
+    → option_map (λ t. t.live) found ≡ option_map (λ t. t.live) (model.with_id tokens id)
+live_told tokens db stands id found h = by (model.with_id tokens id) refl
   where
-    by : filter (λ e. e.0 == id) (map without_patterns es) ≡ map without_patterns (filter (λ e. e.0 == id) es) → (b : Bool) → cond b (without_patterns e ∷ filter (λ e. e.0 == id) (map without_patterns es)) (filter (λ e. e.0 == id) (map without_patterns es)) ≡ map without_patterns (cond b (e ∷ filter (λ e. e.0 == id) es) (filter (λ e. e.0 == id) es))
-    by rest true = ap (λ l. without_patterns e ∷ l) rest
-    by rest false = rest
+    entries : List (ℕ × model.Token)
+    entries = enumerate_from 1 tokens
 
-pub live_told : (tokens : List model.Token) (db : Trees) → StandTokens tokens db → (id : ℕ) (found : Option Token) → IsTokenWithId id db found → option_map (λ t. t.live) found ≡ option_map (λ t. t.live) (model.with_id tokens id)
-live_told tokens db stands id found h = by (model.with_id tokens id) refl found (sym (short_filter id (enumerate_from 1 tokens)) ∙ finds_with_id tokens db stands id found h)
-  where
-    by : (o : Option model.Token) → model.with_id tokens id ≡ o → (found : Option Token) → map without_patterns (filter (λ e. e.0 == id) (enumerate_from 1 tokens)) ≡ one_of (option_map entry_of_token found) → option_map (λ t. t.live) found ≡ option_map (λ t. t.live) o
-    by None e found k = none found (sym (ap (map without_patterns) (none_at id tokens e)) ∙ k)
-      where
-        none : (found : Option Token) → [] ≡ one_of (option_map entry_of_token found) → option_map (λ t. t.live) found ≡ None
-        none None k = refl
-        none (Some t) k = absurd cc
-    by (Some x) e found k = some found (sym (ap (map without_patterns) (one_at id tokens x e)) ∙ k)
-      where
-        some : (found : Option Token) → without_patterns (id, x) ∷ [] ≡ one_of (option_map entry_of_token found) → option_map (λ t. t.live) found ≡ Some x.live
-        some None k = absurd cc
-        some (Some t) k = ap (λ e. Some e.1.live) (sym (first k))
-        first : {a b : ℕ × model.Token} → ◌≡◌ {A = List (ℕ × model.Token)} (a ∷ []) (b ∷ []) → a ≡ b
-        first e = cc
+    its_entries : filter (λ e. is_number 0 id (row_of_token e)) entries ≡ filter (λ e. e.0 == id) entries
+    its_entries = same_filter _ _ (λ e. same_number e.0 id) entries
+
+    by : (o : Option model.Token) → model.with_id tokens id ≡ o → option_map (λ t. t.live) found ≡ option_map (λ t. t.live) o
+    by None none =
+        let rows = none_row row_of_token (is_number 0 id) entries (db 3) stands.rows (its_entries ∙ none_at id tokens none) in
+        ap (option_map (λ t. t.live)) (none_shown found (sym (ap (map show) rows) ∙ h))
+    by (Some x) is =
+        let rows = one_row row_of_token (is_number 0 id) (id, x) entries (db 3) stands.rows (its_entries ∙ one_at id tokens x is) in
+        one_shown (id, x) found (sym (ap (map show) rows) ∙ h)

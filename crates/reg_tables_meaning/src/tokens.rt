@@ -175,10 +175,8 @@ pub fn is_live<S: Alter>(conn: &mut Connection<S>, id: u32) -> Result<Option<boo
     ensures told { Told S.Store conn.new result (TellsLive id (rows_in S.Store conn.old)) }
     ensures same { KeepsAll S.Store conn.old conn.new result }
 {
-    match tokens::by_id(conn, id)? {
-        Some(token) => Ok(Some(token.live)),
-        None => Ok(None),
-    }
+    let found = tokens::by_id(conn, id)?;
+    Ok(found.map(|token| token.live))
 }
 
 /// All tokens by id, and all scopes by token and place.
