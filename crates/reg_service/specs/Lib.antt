@@ -1,3 +1,4 @@
+pub mod Acted
 pub mod Answered
 pub mod Handled
 pub mod Looked

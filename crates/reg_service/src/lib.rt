@@ -28,3 +28,4 @@ pub use reg_audit::Check;
 pub use reg_service_index::IndexFault;
 pub use registry::Registry;
 pub use sequences::{Call, Told, answer_all};
+pub use telling::{Acted, OrderTold};

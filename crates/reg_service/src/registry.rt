@@ -8,6 +8,7 @@ ghost use Rattle.reg_audit_law.specs.Opening.{AreRegistry};
 ghost use Rattle.reg_policy.specs.Events.{command_of, reply_of};
 ghost use Rattle.reg_api_requests.specs.Requests.{request_of};
 ghost use Rattle.reg_api_requests.specs.Views.{event_of};
+ghost use Rattle.reg_service.specs.Acted.{IsActed, IsOrdered, IsUntold};
 ghost use Rattle.reg_service.specs.Answered.{AreUpToDate, IsAnswered};
 ghost use Rattle.reg_service.specs.Handled.{IsReplied};
 ghost use Rattle.reg_service.specs.Looked.{FailsFirst, IsIndex, IsTrueOf, Looked};
@@ -18,7 +19,8 @@ ghost use Rattle.reg_tables.specs.Works.{held, shown};
 
 use crate::exporting::export_in;
 use crate::streaming::stream_parts;
-use crate::transactions::{command_in, parts_in};
+use crate::telling::{Acted, OrderTold};
+use crate::transactions::{command_in, denied, parts_in};
 use reg_api_replies::Reply;
 use reg_api_requests::{ApiRequest, read_request};
 use reg_audit::{Check, audit};
@@ -75,7 +77,8 @@ impl<S: Alter> Registry<S> {
         ensures stays { has_stopped self.old ≡ true → has_stopped self.new ≡ true }
         ensures stops { has_stopped self.new ≡ true → result ≡ Err AdminRefusal.G10 }
     {
-        command_in(alloc, &mut self.tables, &self.limits, command)
+        let OrderTold { answer, line: _ } = self.order(alloc, command, false);
+        answer
     }
 
     /// Answers a request, in one transaction.
@@ -94,10 +97,47 @@ impl<S: Alter> Registry<S> {
         ensures stays { has_stopped self.old ≡ true → has_stopped self.new ≡ true }
         ensures stops { has_stopped self.new ≡ true → result ≡ Reply.Denied Rule.S1 }
     {
+        let Acted { reply, line: _ } = self.act(alloc, request, false);
+        reply
+    }
+
+    /// Does as `command`. If `traced`, it tells the line of what was changed, if anything was.
+    pub fn order(&mut self, alloc: Global, command: &AdminCommand<'_>, traced: bool) -> OrderTold
+        requires tables { AreUpToDate S.Store (tables_of self.old) }
+        requires fit { IsFit (Order (command_of command.now)) }
+        ensures answers { IsOrdered S.Store (limits_of self.old) traced (command_of command.now)
+            result (tables_of self.old) (tables_of self.new) }
+        ensures tables { AreUpToDate S.Store (tables_of self.new) }
+        ensures clean { HasCleanDisk (shown S.Store (tables_of self.new)) → HasCleanDisk
+            (shown S.Store (tables_of self.old)) }
+        ensures limits { limits_of self.new ≡ limits_of self.old }
+        ensures stopped { has_stopped self.old ≡ true → result.answer ≡ Err AdminRefusal.G10 }
+        ensures stays { has_stopped self.old ≡ true → has_stopped self.new ≡ true }
+        ensures stops { has_stopped self.new ≡ true → result.answer ≡ Err AdminRefusal.G10 }
+    {
+        command_in(alloc, &mut self.tables, &self.limits, command, traced)
+    }
+
+    /// Does as `handle`. If `traced`, it tells the line of what was changed, if anything was.
+    pub fn act(&mut self, alloc: Global, request: &ApiRequest<'_>, traced: bool) -> Acted
+        requires { AreUpToDate S.Store (tables_of self.old) }
+        ensures replies { let asks = request_of (limits_of self.old) request.now in
+            IsActed S.Store (limits_of self.old) traced asks.digest asks.asked result
+            (tables_of self.old) (tables_of self.new) }
+        ensures tables { AreUpToDate S.Store (tables_of self.new) }
+        ensures clean { HasCleanDisk (shown S.Store (tables_of self.new)) → HasCleanDisk
+            (shown S.Store (tables_of self.old)) }
+        ensures limits { limits_of self.new ≡ limits_of self.old }
+        ensures read { IsFit (event_of (request_of (limits_of self.old) request.now))
+            ⊎ (IsUntold result × (tables_of self.new ≡ tables_of self.old)) }
+        ensures stopped { has_stopped self.old ≡ true → result.reply ≡ Reply.Denied Rule.S1 }
+        ensures stays { has_stopped self.old ≡ true → has_stopped self.new ≡ true }
+        ensures stops { has_stopped self.new ≡ true → result.reply ≡ Reply.Denied Rule.S1 }
+    {
         let Ok(parts) = read_request(alloc, request, &self.limits) else {
-            return Reply::Denied(Rule::S1);
+            return denied(Rule::S1);
         };
-        parts_in(alloc, &mut self.tables, &self.limits, &parts)
+        parts_in(alloc, &mut self.tables, &self.limits, &parts, traced)
     }
 
     /// Sends the reply to a request for an index file, row by row, in at most `writes` write calls,

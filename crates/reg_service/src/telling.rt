@@ -8,5 +8,7 @@ mod serving;
 mod spelled;
 mod trail_lines;
 
-pub(crate) use ordering::{OrderTold, order_told};
-pub(crate) use serving::{Acted, ServedTold, serve_told, with_line};
+pub use ordering::OrderTold;
+pub(crate) use ordering::order_told;
+pub use serving::Acted;
+pub(crate) use serving::{ServedTold, serve_told, with_line};

@@ -1,0 +1,55 @@
+-- Requests and commands, with the lines that they leave in a trail.
+use Rattle.std.specs.Prelude.{◌≡◌, Bool, true, None, Option, String, string_bytes}
+use Rattle.std.specs.declared.alloc.Global.{Global}
+use Rattle.std.specs.Option.{option_map}
+use Rattle.sqlite.specs.State.{HasCleanDisk}
+use Rattle.sqlite_trees.specs.declared.store.Store.{Ghosts}
+use Rattle.reg_body.specs.declared.limits.Limits.{Limits}
+use Rattle.reg_model.specs.declared.rule.Rule.TheVariants as rule
+use Rattle.reg_model.specs.Events.{Answer, Asked, Command, Event}
+use Rattle.reg_model.specs.Events.Event.{Ask, Order}
+use Rattle.reg_model.specs.Registry.{Registry, Text}
+use Rattle.reg_model.specs.Trail.{or_nothing, told}
+use Rattle.reg_policy.specs.Events.{reply_of}
+use Rattle.reg_api_replies.specs.Replies.{Says}
+use Rattle.reg_api_replies.specs.declared.reply.Reply.TheVariants.{Denied}
+use Rattle.reg_tables.specs.declared.tables.Tables.{Tables}
+use Rattle.reg_tables.specs.Works.{shown}
+use Rattle.reg_service.specs.Answered.{Answers, Shows}
+use Rattle.reg_service.specs.declared.telling.ordering.OrderTold.{OrderTold}
+use Rattle.reg_service.specs.declared.telling.serving.Acted.{Acted}
+
+-- this is what the event that was answered so tells, if it is traced
+abbrev pub HasLine : Bool → Limits → Registry → Event → Answer → Option (String Global) → Type 0
+HasLine traced limits s e a line =
+    traced ≡ true → or_nothing (option_map string_bytes line) ≡ told limits s e a
+
+-- the event is answered so, the reply tells the answer, and the line the change
+abbrev pub ActsTo : {S : Type 0} → Ghosts S → Limits → Registry → Bool → Option Text → Asked
+    → Acted → Tables S → Tables S → Type 0
+ActsTo g limits s traced digest asked it old new = (a : Answer) × Says asked a it.reply
+    × Answers g limits s (Ask digest asked) a old new
+    × HasLine traced limits s (Ask digest asked) a it.line
+
+-- it is so whatever registry the tables held
+abbrev pub IsActed : {S : Type 0} → Ghosts S → Limits → Bool → Option Text → Asked → Acted
+    → Tables S → Tables S → Type 0
+IsActed g limits traced digest asked it old new =
+    HasCleanDisk (shown g new) → (s : Registry) → Shows s (shown g old)
+    → ActsTo g limits s traced digest asked it old new
+
+-- the same of a command
+abbrev pub Orders : {S : Type 0} → Ghosts S → Limits → Registry → Bool → Command → OrderTold
+    → Tables S → Tables S → Type 0
+Orders g limits s traced c it old new = Answers g limits s (Order c) (reply_of it.answer) old new
+    × HasLine traced limits s (Order c) (reply_of it.answer) it.line
+
+abbrev pub IsOrdered : {S : Type 0} → Ghosts S → Limits → Bool → Command → OrderTold → Tables S
+    → Tables S → Type 0
+IsOrdered g limits traced c it old new =
+    HasCleanDisk (shown g new) → (s : Registry) → Shows s (shown g old)
+    → Orders g limits s traced c it old new
+
+-- there was no room to read it: it is told so, and there is no line
+abbrev pub IsUntold : Acted → Type 0
+IsUntold it = (it.reply ≡ Denied rule.S1) × (it.line ≡ None)
