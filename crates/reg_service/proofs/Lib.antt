@@ -1,17 +1,18 @@
-pub mod Afterwards
-pub mod Askers
-pub mod Asking
+mod Afterwards
+mod Askers
+mod Asking
 mod Frames
-pub mod Given
+mod Given
 mod Histories
-pub mod Lines
-pub mod Marks
+mod Lines
+mod Marks
 mod Opened
-pub mod Ordered
-pub mod Owned
-pub mod Placed
+mod Ordered
+mod Owned
+mod Placed
 mod Replied
 mod Seeking
-pub mod Spelling
+mod Spelling
 mod Streams
-pub mod Words
+mod Traced
+mod Words

@@ -157,10 +157,14 @@ module _ (limits : Limits) (s : Registry) (c : Command) where
       by (Some q) d = ap (λ r. option_map in_order (unless_some r (command_words s c))) d
       by None d = absurd (replied_room s c g (sym (e ∙ ap (λ r. (unless_refused s r (replied s c, commanded s c)).0) d)))
 
+  -- a refusal has no line
+  pub refusal_told : (g : AdminRefusal) → (to_refused g ≡ (outcome limits s o).0) ⊎ (to_refused g ≡ no_room o) → [] ≡ told limits s o (to_refused g)
+  refusal_told g (inl is) = sym (nothing (has_no_room (to_refused g)) (or_nothing (line limits s o)) (ap or_nothing (refused_untold g is)))
+  refusal_told g (inr room) = sym (ap (told limits s o) room)
+
   -- what is told of the event that a command's answer answers
   pub answer_told : (answer : Result AdminReply AdminRefusal) (found : Option (String Global)) → (reply_of answer ≡ (outcome limits s o).0) ⊎ (reply_of answer ≡ no_room o) → (IsPassed limits s o → line limits s o ≡ option_map string_bytes found) → or_nothing (line_of_answer answer found) ≡ told limits s o (reply_of answer)
-  answer_told (Err g) found (inl is) tells = sym (nothing (has_no_room (to_refused g)) (or_nothing (line limits s o)) (ap or_nothing (refused_untold g is)))
-  answer_told (Err g) found (inr room) tells = sym (ap (told limits s o) room)
+  answer_told (Err g) found step tells = refusal_told g step
   answer_told (Ok r) found (inr room) tells = absurd (reply_not r refusal.G10 room)
   answer_told (Ok r) found (inl is) tells = by (refused limits s c) refl
     where

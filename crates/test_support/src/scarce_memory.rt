@@ -24,6 +24,22 @@ impl Model for Amounts {
 /// How many blocks the hoard has room for.
 const ROOM: usize = 100_000;
 
+/// The size of the first block that is asked for.
+const LARGEST: usize = 1 << 46;
+
+/// How deep a run may go, in bytes of stack.
+const DEPTH: usize = 1 << 20;
+
+/// Writes to the stack as deep as a run may go: once all addresses are taken, it cannot grow. The
+/// answer is a byte that was read there, so that no compiler leaves the writing out.
+fn grow_stack(at: usize) -> u8 {
+    let mut bytes = [0; DEPTH];
+    if let Some(byte) = bytes.get_mut(at) {
+        *byte = 1;
+    }
+    bytes.get(at / 2).copied().unwrap_or(0)
+}
+
 impl Amounts {
     /// So many amounts, the first of `step` bytes and each greater by `step` than the one before.
     pub fn new(alloc: Global, count: u32, step: u32) -> Result<Amounts, AllocError>
@@ -55,7 +71,7 @@ impl Amounts {
     fn take_all(&mut self, alloc: Global)
         ensures { self.new ≡ self.old }
     {
-        let mut size = 1 << 46;
+        let mut size = LARGEST - grow_stack(self.hoard.len()) as usize;
         for _ in 0..ROOM {
             if self.hoard.len() >= ROOM {
                 return;
