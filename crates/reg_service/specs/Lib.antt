@@ -5,6 +5,4 @@ pub mod Looked
 pub mod Reading
 pub mod Registries
 pub mod Sequences
-pub mod Spelled
 pub mod Streamed
-pub mod Telling

@@ -18,7 +18,6 @@ mod registry;
 mod searching;
 mod sequences;
 mod streaming;
-mod telling;
 mod transactions;
 
 pub use opening::OpenFault;
@@ -28,4 +27,4 @@ pub use reg_audit::Check;
 pub use reg_service_index::IndexFault;
 pub use registry::Registry;
 pub use sequences::{Call, Told, answer_all};
-pub use telling::{Acted, OrderTold};
+pub use reg_service_trail::{Acted, OrderTold};

@@ -19,7 +19,6 @@ ghost use Rattle.reg_tables.specs.Works.{held, shown};
 
 use crate::exporting::export_in;
 use crate::streaming::stream_parts;
-use crate::telling::{Acted, OrderTold};
 use crate::transactions::{command_in, denied, parts_in};
 use reg_api_replies::Reply;
 use reg_api_requests::{ApiRequest, read_request};
@@ -29,6 +28,7 @@ use reg_body::{Counted, Limits};
 use reg_model::AdminRefusal;
 use reg_policy::{AdminCommand, AdminReply, Rule};
 use reg_service_index::{IndexFault, refuse};
+use reg_service_trail::{Acted, OrderTold};
 use reg_tables::{StoreFault, Tables};
 use sqlite::{Alter, Connection};
 use std::alloc::Global;

@@ -11,7 +11,6 @@ ghost use Rattle.reg_service.specs.Acted.{IsActed, IsOrdered};
 ghost use Rattle.reg_service.specs.Answered.{AreUpToDate};
 
 use crate::searching::seek;
-use crate::telling::{Acted, OrderTold, ServedTold, order_told, serve_told, with_line};
 use reg_api_replies::Reply;
 use reg_api_requests::Parts;
 use reg_body::Limits;
@@ -20,6 +19,7 @@ use reg_model::AdminRefusal;
 use reg_model::laws::{denial_law, soundness_law};
 use reg_policy::{AdminCommand, Asked, Rule};
 use reg_service_requests::Served;
+use reg_service_trail::{Acted, OrderTold, ServedTold, order_told, serve_told, with_line};
 use reg_tables::Tables;
 use sqlite::Alter;
 use std::alloc::Global;
