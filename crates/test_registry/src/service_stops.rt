@@ -18,4 +18,5 @@ mod files;
 mod lines;
 mod refused;
 mod stops;
+mod trails;
 mod trials;

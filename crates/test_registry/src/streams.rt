@@ -21,5 +21,6 @@ mod script;
 mod sizes;
 mod stream;
 mod tokens;
+mod traced;
 mod trials;
 mod trickling;

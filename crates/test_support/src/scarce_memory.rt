@@ -27,17 +27,18 @@ const ROOM: usize = 100_000;
 /// The size of the first block that is asked for.
 const LARGEST: usize = 1 << 46;
 
-/// How deep a run may go, in bytes of stack.
-const DEPTH: usize = 1 << 20;
+/// How many pages of stack a run may take.
+const DEPTH: u8 = 255;
 
-/// Writes to the stack as deep as a run may go: once all addresses are taken, it cannot grow. The
-/// answer is a byte that was read there, so that no compiler leaves the writing out.
-fn grow_stack(at: usize) -> u8 {
-    let mut bytes = [0; DEPTH];
-    if let Some(byte) = bytes.get_mut(at) {
-        *byte = 1;
+/// Writes to so many pages of stack: once all addresses are taken, it cannot grow. The answer is
+/// read from there, so that no compiler leaves the writing out.
+fn grow_stack(depth: u8) -> u8 {
+    if depth == 0 {
+        return 0;
     }
-    bytes.get(at / 2).copied().unwrap_or(0)
+    let page = [depth; 4_096];
+    let deeper = grow_stack(depth - 1);
+    page.get(deeper as usize).copied().unwrap_or(deeper)
 }
 
 impl Amounts {
@@ -71,7 +72,7 @@ impl Amounts {
     fn take_all(&mut self, alloc: Global)
         ensures { self.new ≡ self.old }
     {
-        let mut size = LARGEST - grow_stack(self.hoard.len()) as usize;
+        let mut size = LARGEST - grow_stack(DEPTH) as usize;
         for _ in 0..ROOM {
             if self.hoard.len() >= ROOM {
                 return;

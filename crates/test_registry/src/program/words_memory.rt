@@ -104,6 +104,13 @@ access a --db FILE -> 0";
 const WHOLE: &str = "audit --db FILE -> 0
 export FILE.index --db FILE -> 0";
 
+/// What is refused once the file is open, and what another file stops.
+const REFUSALS: &str = "user-add ada --db FILE -> 1 G2 login taken
+user-disable carol --db FILE -> 1 G3 no such login
+owner-add a ada --db FILE -> 1 G8 no such crate
+token-add ada --endpoints yank --random FILE.none --db FILE -> 3 storage
+pipe --db FILE --setup FILE.none -> 3 storage";
+
 /// What opens no file.
 const WORDS: &str = "explain A9 -> 0
 --version -> 0
@@ -146,6 +153,11 @@ fn reports(rt: HostRuntime) -> Result<(), Fail> {
 #[test]
 fn whole(rt: HostRuntime) -> Result<(), Fail> {
     play(&rt, "memory_whole", LARGE, WHOLE)
+}
+
+#[test]
+fn refusals(rt: HostRuntime) -> Result<(), Fail> {
+    play(&rt, "memory_refusals", LARGE, REFUSALS)
 }
 
 #[test]

@@ -1,0 +1,97 @@
+//! A setup with its trail, where a file stops at each of its calls: what is found again holds each
+//! change that was told, and one more at most.
+
+use crate::service_stops::fault::Fault;
+use crate::service_stops::files::prepare;
+use crate::service_stops::trials::MOST_RUNS;
+use reg_body::{Counted, Limits};
+use reg_cli_pipe::pipe_traced;
+use reg_http::Trail;
+use reg_policy::{AdminCommand, AdminReply};
+use reg_service::Registry;
+use sqlite::Files;
+use std::alloc::Global;
+use test_files::{
+    FEW_PAGES, MANY_PAGES, Scarce, Stopping, files_of, have_stopped, left, open, revive,
+};
+
+const SETUP: &str = "user-add ada\nuser-add bob\nuser-add carol\n";
+
+const TRAIL: &str = "- admin user-add ada\n- admin user-add bob\n- admin user-add carol\n";
+
+/// The files after the setup, and its trail.
+fn told_in(alloc: Global, files: Files<Stopping>) -> (Files<Stopping>, Vec<u8>) {
+    let conn = match open(alloc, files, FEW_PAGES) {
+        Ok(conn) => conn,
+        Err(files) => return (files, Vec::new(alloc)),
+    };
+    if !conn.is_autocommit() {
+        return (left(conn), Vec::new(alloc));
+    }
+    let mut registry = match Registry::open(alloc, conn, Limits::STANDARD) {
+        Ok(registry) => registry,
+        Err((conn, _)) => return (left(conn), Vec::new(alloc)),
+    };
+    let mut trail = Trail::new(Vec::new(alloc), u64::MAX);
+    let mut reader = Counted::new([].as_slice());
+    let mut writer = Counted::new(Vec::new(alloc));
+    let of = &mut registry;
+    let _ = pipe_traced(alloc, of, SETUP, &mut reader, &mut writer, &mut trail);
+    (left(registry.into_connection()), trail.into_inner())
+}
+
+/// How many accounts are found in the files after the stop.
+fn accounts_in(alloc: Global, mut files: Files<Stopping>) -> Result<usize, Fault> {
+    revive(&mut files);
+    let Ok(conn) = open(alloc, files, MANY_PAGES) else {
+        return Err(Fault::NotOpened);
+    };
+    if !conn.is_autocommit() {
+        return Err(Fault::NotOpened);
+    }
+    let Ok(mut registry) = Registry::open(alloc, conn, Limits::STANDARD) else {
+        return Err(Fault::NotOpened);
+    };
+    match registry.command(alloc, &AdminCommand::Users) {
+        Ok(AdminReply::Text(text)) => Ok(text.lines().count()),
+        _ => Err(Fault::NotOpened),
+    }
+}
+
+/// Whether the trail is a front of the whole, in lines, and at most one change was not told.
+fn is_told(trail: &[u8], found: usize) -> bool {
+    let lines = trail.iter().filter(|byte| **byte == b'\n').count();
+    TRAIL.as_bytes().starts_with(trail)
+        && (trail.is_empty() || trail.ends_with(b"\n"))
+        && (found == lines || found == lines.saturating_add(1))
+}
+
+/// Stops a file at each of its calls, until it does not stop.
+fn over_stops(alloc: Global, scarce: Scarce) -> Result<(), Fault> {
+    let before = prepare(alloc, "create -> done\n")?;
+    for calls in 0..MOST_RUNS {
+        let files = files_of(alloc, &before.image, &scarce.with(calls))?;
+        let (mut files, trail) = told_in(alloc, files);
+        let stopped = have_stopped(&mut files);
+        let found = accounts_in(alloc, files)?;
+        if !is_told(&trail, found) {
+            return Err(Fault::Line(
+                format!(in alloc; "{calls} calls: {found} accounts")?,
+            ));
+        }
+        if !stopped {
+            return Ok(());
+        }
+    }
+    Err(Fault::Words)
+}
+
+#[test]
+fn a_stop_of_the_log(rt: HostRuntime) -> Result<(), Fault> {
+    over_stops(rt.alloc(), Scarce::Log)
+}
+
+#[test]
+fn a_stop_of_the_database(rt: HostRuntime) -> Result<(), Fault> {
+    over_stops(rt.alloc(), Scarce::Db)
+}
