@@ -2,6 +2,7 @@
 //! it.
 
 ghost use Rattle.std.specs.Prelude.{◌≡◌, [], IfOk};
+ghost use Rattle.std.specs.Option.{option_map};
 ghost use Rattle.sqlite.specs.Held.{state};
 ghost use Rattle.reg_tables_schema.specs.States.{IsReady};
 ghost use Rattle.reg_tables_schema.specs.Statements.{rows_in};
@@ -169,6 +170,16 @@ pub fn find<S: Alter>(
     }
 }
 
+// Whether the token is live, if there is one.
+fn live_of(token: Option<Token>) -> Option<bool>
+    ensures { result ≡ option_map (λ t. t.live) token }
+{
+    match token {
+        Some(token) => Some(token.live),
+        None => None,
+    }
+}
+
 /// Whether a token is live, if there is one with this id.
 pub fn is_live<S: Alter>(conn: &mut Connection<S>, id: u32) -> Result<Option<bool>, Error>
     requires { IsReady (state S.Store conn.old) }
@@ -176,7 +187,7 @@ pub fn is_live<S: Alter>(conn: &mut Connection<S>, id: u32) -> Result<Option<boo
     ensures same { KeepsAll S.Store conn.old conn.new result }
 {
     let found = tokens::by_id(conn, id)?;
-    Ok(found.map(|token| token.live))
+    Ok(live_of(found))
 }
 
 /// All tokens by id, and all scopes by token and place.
