@@ -2,7 +2,6 @@ pub mod Acted
 pub mod Answered
 pub mod Handled
 pub mod Looked
-pub mod Reading
 pub mod Registries
 pub mod Sequences
 pub mod Streamed

@@ -34,7 +34,7 @@ use Rattle.reg_access.proofs.GrantLaw.{first_canon}
 use Rattle.reg_service_requests.proofs.Names.{is_given, is_not}
 use Rattle.reg_service_commands.specs.Orders.{enabling, restricting}
 use Rattle.reg_tables_meaning.specs.Calls.{TellsLive}
-use Rattle.reg_service.specs.Reading.{reading}
+use Rattle.reg_service_trail.specs.Reading.{reading}
 use Rattle.reg_service_trail.specs.Spelled.{FindsSpelled}
 use Rattle.reg_service_trail.specs.Telling.{TellsLine, enabled_word, reader_word, restricted_word}
 use Rattle.reg_service_trail.proofs.Owned.{one_owns}

@@ -9,7 +9,7 @@ ghost use Rattle.reg_policy.specs.Events.{command_of};
 ghost use Rattle.reg_tables.specs.Works.{IsAtWork, has_failed};
 ghost use Rattle.reg_access.specs.Asks.{Asks};
 ghost use Rattle.reg_service_commands.specs.Orders.{enabling, restricting};
-ghost use Rattle.reg_service.specs.Reading.{reading};
+ghost use Rattle.reg_service_trail.specs.Reading.{reading};
 ghost use Rattle.reg_service_trail.specs.Telling.{IsToldLine, TellsLine, enabled_word, reader_word, restricted_word};
 
 use crate::spelled::find_spelled;

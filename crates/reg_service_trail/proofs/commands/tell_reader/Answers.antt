@@ -6,7 +6,7 @@ use Rattle.reg_service_trail.proofs.Afterwards.{asks_then, line_is}
 use Rattle.std.specs.List.{list_any}
 use Rattle.std.specs.Str.{bytes_eq}
 use Rattle.reg_tables_meaning.specs.Calls.{ListsReaders}
-use Rattle.reg_service.specs.Reading.{reading}
+use Rattle.reg_service_trail.specs.Reading.{reading}
 use Rattle.reg_service_trail.specs.Telling.{reader_word}
 use Rattle.reg_service_trail.proofs.Ordered.{no_crate_read, order_told, order_untold, reader_words}
 use Rattle.reg_service_trail.proofs.commands.tell_reader.Goals as goal
