@@ -3,7 +3,7 @@
 _registry_cli_options() {
     case $1 in
         init) echo --base --db --help ;;
-        serve) echo --port --connections --replies --db --help ;;
+        serve) echo --port --connections --replies --trail --db --help ;;
         pipe) echo --db --memory --base --setup --help ;;
         user-add) echo --name --db --help ;;
         token-add) echo --endpoints --patterns --random --digest --db --help ;;

@@ -2,19 +2,20 @@
 
 ghost use Rattle.std.specs.Prelude.{◌≡◌};
 ghost use Rattle.reg_cli_words.specs.Orders.{given_by};
-ghost use Rattle.reg_cli.specs.Services.{number_in, port_in, replies_in, service_from};
+ghost use Rattle.reg_cli.specs.Services.{number_in, port_in, replies_in, service_from, trail_in, writes_of};
 
 use clap::ArgMatches;
 use reg_body::Limits;
 use reg_cli_words::{decimal, port};
 
-/// The arguments of `serve`: where to listen, for how many connections, and how many replies each
-/// has at most.
+/// The arguments of `serve`: where to listen, for how many connections, how many replies each has
+/// at most, and whether a trail is kept.
 #[derive(Clone, Copy)]
 pub(crate) struct Service {
     pub(crate) port: u16,
     pub(crate) connections: u64,
     pub(crate) replies: u64,
+    pub(crate) trail: bool,
 }
 
 impl Service {
@@ -26,6 +27,13 @@ impl Service {
             replies: self.replies,
             ..Limits::STANDARD
         }
+    }
+
+    /// How many writes its trail takes: no end of them, or none if no trail is kept.
+    pub(crate) fn writes(&self) -> u64
+        ensures { result ≡ writes_of self.now }
+    {
+        if self.trail { u64::MAX } else { 0 }
     }
 }
 
@@ -50,6 +58,12 @@ fn read_replies(words: &ArgMatches<'_>) -> Option<u64>
     }
 }
 
+fn read_trail(words: &ArgMatches<'_>) -> bool
+    ensures { result ≡ trail_in (given_by words.now) }
+{
+    words.get_str("trail") == Some("true")
+}
+
 /// What the arguments of `serve` say.
 pub(crate) fn read_service(words: &ArgMatches<'_>) -> Option<Service>
     ensures { result ≡ service_from (given_by words.now) }
@@ -58,5 +72,6 @@ pub(crate) fn read_service(words: &ArgMatches<'_>) -> Option<Service>
         port: read_port(words)?,
         connections: read_number(words, "connections")?,
         replies: read_replies(words)?,
+        trail: read_trail(words),
     })
 }

@@ -15,11 +15,12 @@ use clap::ArgMatches;
 use reg_body::{Counted, Limits};
 use reg_cli_line::Exit;
 use reg_cli_pipe::run_pipe;
-use reg_http::Server;
+use reg_http::{Server, Trail};
 use reg_service::Registry;
 use sqlite::{Alter, Connection};
 use std::alloc::Global;
 use std::fs;
+use std::io::Write;
 use std::net::TcpStream;
 
 /// The base if none is given.
@@ -112,10 +113,11 @@ pub(crate) fn init(rt: &HostRuntime, words: &ArgMatches<'_>) -> Exit {
 }
 
 /// Serves one connection. A stream that fails ends its connection alone.
-fn serve_connection<S: Alter>(
+fn serve_connection<S: Alter, T: Write>(
     alloc: Global,
     server: &mut Server,
     registry: &mut Registry<S>,
+    trail: &mut Trail<T>,
     stream: &TcpStream,
 )
     requires tables { AreUpToDate S.Store (tables_of registry.old) }
@@ -125,15 +127,16 @@ fn serve_connection<S: Alter>(
 {
     let mut reader = Counted::new(stream);
     let mut writer = Counted::new(stream);
-    let _ = server.serve(alloc, registry, &mut reader, &mut writer);
+    let _ = server.serve_traced(alloc, registry, &mut reader, &mut writer, trail);
 }
 
 /// Serves connections, one after another, until `left` are served or a commit fails: then the
 /// registry answers only S1, and its store has to be opened again.
-fn serve_connections<S: Alter>(
+fn serve_connections<S: Alter, T: Write>(
     alloc: Global,
     server: &mut Server,
     registry: &mut Registry<S>,
+    trail: &mut Trail<T>,
     door: &mut Door,
     left: &mut u64,
 ) -> Result<(), Exit>
@@ -148,7 +151,7 @@ fn serve_connections<S: Alter>(
     'connections: while *left > 0 {
         let stream = door.accept()?;
         *left -= 1;
-        serve_connection(alloc, server, registry, &stream);
+        serve_connection(alloc, server, registry, trail, &stream);
         if registry.has_stopped() {
             return Ok(());
         }
@@ -157,10 +160,11 @@ fn serve_connections<S: Alter>(
 }
 
 /// Listens, unless it does already, and serves connections.
-fn serve_door<S: Alter>(
+fn serve_door<S: Alter, T: Write>(
     rt: &HostRuntime,
     server: &mut Server,
     registry: &mut Registry<S>,
+    trail: &mut Trail<T>,
     door: &mut Door,
     left: &mut u64,
 ) -> Result<(), Exit>
@@ -171,13 +175,14 @@ fn serve_door<S: Alter>(
     ensures fewer { OnOk result (0 < left.new → left.new < left.old) }
 {
     door.open(rt)?;
-    serve_connections(rt.alloc(), server, registry, door, left)
+    serve_connections(rt.alloc(), server, registry, trail, door, left)
 }
 
 /// Opens the file, serves connections, and closes the file.
-fn serve_opening(
+fn serve_opening<T: Write>(
     rt: &HostRuntime,
     server: &mut Server,
+    trail: &mut Trail<T>,
     file: &str,
     limits: Limits,
     door: &mut Door,
@@ -189,13 +194,13 @@ fn serve_opening(
     ensures fewer { OnOk result (0 < left.new → left.new < left.old) }
 {
     let mut registry = open(rt.alloc(), connect(rt, file)?, limits)?;
-    let served = serve_door(rt, server, &mut registry, door, left);
+    let served = serve_door(rt, server, &mut registry, trail, door, left);
     let _ = registry.into_connection().close();
     served
 }
 
 /// Serves as many connections as asked. After a failed commit the file is opened again before the
-/// next connection; if that fails, the run ends.
+/// next connection; if that fails, the run ends. Its trail goes on over all openings.
 fn serve_file(rt: &HostRuntime, file: &str, service: &Service, door: &mut Door) -> Result<(), Exit>
     requires { door.old.accepted ≡ 0 }
     ensures served { OnOk result (door.new.accepted ≡ service.now.connections) }
@@ -203,9 +208,18 @@ fn serve_file(rt: &HostRuntime, file: &str, service: &Service, door: &mut Door) 
     let Ok(mut server) = Server::new(rt.alloc()) else {
         return Err(Exit::MEMORY);
     };
+    let mut trail = Trail::new(rt.stdout(), service.writes());
     let mut left = service.connections;
     'openings: loop {
-        serve_opening(rt, &mut server, file, service.limits(), door, &mut left)?;
+        serve_opening(
+            rt,
+            &mut server,
+            &mut trail,
+            file,
+            service.limits(),
+            door,
+            &mut left,
+        )?;
         if left == 0 {
             return Ok(());
         }

@@ -124,7 +124,7 @@ number_rules =
 abbrev pub service_levels : List Level
 service_levels =
     named_level (codes "init") (needed_rule (codes "base") ∷ file_rule ∷ [])
-    ∷ named_level (codes "serve") (number_rules ++ file_rule ∷ [])
+    ∷ named_level (codes "serve") (number_rules ++ flag_rule (codes "trail") ∷ file_rule ∷ [])
     ∷ named_level (codes "pipe")
     (place_rules ++ option_rule (codes "base") ∷ option_rule (codes "setup") ∷ [])
     ∷ []

@@ -3,7 +3,7 @@
 ghost use Rattle.std.specs.Prelude.{IfErr, IfOk, [], ◌≡◌, ◌∷◌, ◌++◌, codes, map, string_bytes, true};
 ghost use Rattle.clap.specs.Words.{kind_of, subcommand_of, subcommand_rows_of, takes};
 ghost use Rattle.clap.specs.declared.error.kind.ErrorKind.TheVariants.{OutOfMemory};
-ghost use Rattle.reg_cli_words.specs.Grammar.{IsJudged, file_rule, named_level, needed_rule, number_rules, option_rule, other_levels, place_rules, program_app, program_top, service_levels, setup_app, setup_top, with_levels, with_rules, word_rule};
+ghost use Rattle.reg_cli_words.specs.Grammar.{IsJudged, file_rule, flag_rule, named_level, needed_rule, number_rules, option_rule, other_levels, place_rules, program_app, program_top, service_levels, setup_app, setup_top, with_levels, with_rules, word_rule};
 ghost use Rattle.reg_cli_words.specs.Making.{Adds, HasLevel, HasRules};
 
 use crate::parameters::{Shape, described, flag, option, with_file, word};
@@ -140,15 +140,17 @@ fn with_numbers<'a>(alloc: Global, command: Command<'a>) -> Result<Command<'a>, 
 /// `serve`.
 fn serve_words<'a>(alloc: Global) -> Result<Command<'a>, AllocError>
     ensures { IfOk result (HasLevel (named_level (codes "serve")
-        (number_rules ++ file_rule ∷ []))) }
+        (number_rules ++ flag_rule (codes "trail") ∷ file_rule ∷ []))) }
 {
     let command = described(
         alloc,
         "serve",
         "Serves HTTP on a port of 127.0.0.1, one connection after another",
-        "Example:\n  registry_cli serve --port 8080 --connections 1000000 --db r.db",
+        "Example:\n  registry_cli serve --port 8080 --connections 1000000 --trail --db r.db",
     );
-    with_file(alloc, with_numbers(alloc, command)?)
+    let help = "Prints a line for each change: the token, its login, and what was done";
+    let trail = flag(alloc, "trail", help);
+    with_file(alloc, with_numbers(alloc, command)?.arg(trail)?)
 }
 
 /// `explain`.

@@ -149,7 +149,11 @@ export  --db FILE -> 3 storage
 serve --port 0 --connections 0 --db FILE -> 2 bad words
 serve --port 65536 --connections 0 --db FILE -> 2 bad words
 serve --port 8080 --connections 0 --replies 0 --db FILE -> 2 bad words
-serve --port 8080 --connections 18446744073709551616 --db FILE -> 2 bad words";
+serve --port 8080 --connections 18446744073709551616 --db FILE -> 2 bad words
+serve --port 0 --connections 0 --trail --db FILE -> 2 bad words
+serve --port 8080 --connections 0 --trail=true --db FILE -> 2
+serve --port 8080 --connections 0 --trail --trail --db FILE -> 2
+audit --trail --db FILE -> 2";
     assert_eq!(rt; played(&rt, "made", b"", script)?.as_str(), "");
     Ok(())
 }
