@@ -1,6 +1,7 @@
 -- What a request came to, by what the registry told.
 use Rattle.std.proofs.Common.{◌≡◌, ◌<◌, ◌⊎◌, ℕ, Bool, true, false, cond, nat_lt, [], inl, inr, refl, sym, ap, subst, arith, Option, None, Some, Result, Ok, Err}
 use Rattle.std.specs.Prelude.{String, string_bytes}
+use Rattle.std.specs.Cow.{cow_slice_items}
 use Rattle.std.specs.declared.alloc.Global.{Global}
 use Rattle.std.specs.Option.{option_map}
 use Rattle.sqlite_trees.specs.declared.store.Store.{Ghosts}
@@ -96,7 +97,7 @@ nothing false t e = e
 file_told : (limits : Limits) (s : model.Registry) (token : Option Text) (a : Answer) (w : ApiCall) → AsksForFile w → told limits s (event_of (request_from limits token (wants_of w))) a ≡ []
 file_told limits s token a (call.Index path) h =
     let request = request_from limits token (wants_of (call.Index path)) in
-    nothing (has_no_room a) (or_nothing (line limits s (event_of request))) (ap or_nothing (file_line limits s request.digest (text_in path.now)))
+    nothing (has_no_room a) (or_nothing (line limits s (event_of request))) (ap or_nothing (file_line limits s request.digest (text_in (cow_slice_items path))))
 file_told limits s token a call.Config h = absurd h
 file_told limits s token a (call.Download n v) h = absurd h
 file_told limits s token a (call.Publish b) h = absurd h
@@ -176,5 +177,5 @@ module _ {S : Type 0} (g : Ghosts S) (limits : Limits) (s : model.Registry) (f :
 pub unrouted : {S : Type 0} (g : Ghosts S) (limits : Limits) (s : model.Registry) (f : Facts) (token : Option Text) (there : Routing) (close : Bool) (now : Tables S) (k : Tail) (w0 w1 : Option Text) (r : Result (Unit {0}) StreamFault)
     → (fault : RouteFault) → IsRouted token there (Err fault) → Sends (fault_text fault close (is_head_only f)) w0 w1 r → Replies g limits f there close s now now k k w0 w1 r
 unrouted g limits s f token there close now k w0 w1 r route.NoRoute is sends = record { outcome = NoRoute; leads = is; moves = (refl, refl); sends = streams_of NoRoute (refusal_text rule.H6 None close (is_head_only f)) w0 w1 r sends }
-unrouted g limits s f token there close now w0 w1 r (route.Method m) is sends = record { outcome = NoMethod m; leads = is; moves = (refl, refl); sends = streams_of (NoMethod m) (refusal_text rule.H7 (Some m) close (is_head_only f)) w0 w1 r sends }
+unrouted g limits s f token there close now k w0 w1 r (route.Method m) is sends = record { outcome = NoMethod m; leads = is; moves = (refl, refl); sends = streams_of (NoMethod m) (refusal_text rule.H7 (Some m) close (is_head_only f)) w0 w1 r sends }
 unrouted g limits s f token there close now k w0 w1 r route.Memory is sends = record { outcome = NoRoom; leads = tt; moves = (refl, refl); sends = streams_of NoRoom (refusal_text rule.S1 None close (is_head_only f)) w0 w1 r sends }

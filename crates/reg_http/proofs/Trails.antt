@@ -1,9 +1,15 @@
 -- What was told after what was told.
-use Rattle.std.proofs.Common.{◌≡◌, ◌⊎◌, ◌+◌, ◌≤◌, ◌<◌, ◌++◌, ◌∙◌, ℕ, List, [], ◌∷◌, inl, inr, refl, sym, ap, subst, arith, nat_tests, nat_lt, suc, true, append_assoc, append-nil, length}
+use Rattle.std.proofs.Common.{◌≡◌, ◌⊎◌, ◌+◌, ◌-◌, ◌≤◌, ◌<◌, ◌++◌, ◌∙◌, ℕ, List, [], ◌∷◌, inl, inr, refl, sym, ap, subst, arith, nat_lt, zero, suc, true, append_assoc, append-nil, length}
+use Rattle.std.proofs.lemmas.Bool.Decides.{nat_tests}
 use Rattle.std.specs.Io.KnownBytes.{Appends}
 use Rattle.std.proofs.KnownBytes.{Appends-nil, Appends-trans}
 use Rattle.reg_model.specs.Registry.{Text}
+use Rattle.reg_api_replies.specs.Sent.{SendsAll, Sink}
 use Rattle.reg_http.specs.Trails.{Tail, Trails}
+
+-- the writer of a trail
+abbrev pub sink_of : Tail → Sink
+sink_of k = record { contents = k.contents; calls = k.calls; failures = k.failures }
 
 -- nothing is told
 pub trails_nothing : (k : Tail) → Trails k k []
@@ -18,6 +24,21 @@ trails_nothing k = record {
   failures = omega arith;
   ends = inl refl;
   cause = inl refl;
+}
+
+-- a text was sent whole
+pub trails_all : (old new : Tail) (text : Text) (used : ℕ) → SendsAll text old.left used (sink_of old) (sink_of new) → new.left ≡ old.left - used → Trails old new text
+trails_all old new text used it left = record {
+  front = text;
+  rest = [];
+  whole = sym (append-nil text);
+  appends = it.all;
+  some = λ some. omega (arith, it.calls, it.some some);
+  calls = omega (arith, it.calls);
+  turns = omega (arith, it.calls, it.within, left);
+  failures = omega (arith, it.failures);
+  ends = inl refl;
+  cause = inl (omega (arith, it.calls, it.within, left));
 }
 
 -- where no call is left, nothing was written
@@ -43,12 +64,15 @@ trails_other old new text other none it = record {
   cause = it.cause;
 }
 
+pub trails_spent : (k : Tail) (text : Text) → k.left ≡ 0 → Trails k k text
+trails_spent k text none = trails_other k k [] text none (trails_nothing k)
+
 -- the text is what is to be told wherever a call is left
 pub trails_if : (old new : Tail) (text other : Text) → (nat_lt 0 old.left ≡ true → text ≡ other) → Trails old new text → Trails old new other
 trails_if old new text other is it = by old.left refl
   where
     by : (n : ℕ) → old.left ≡ n → Trails old new other
-    by 0 e = trails_other old new text other e it
+    by zero e = trails_other old new text other e it
     by (suc n) e = subst (Trails old new) (is (grind (arith, nat_tests, e))) it
 
 module _ (a b c : Tail) (one two : Text) (first : Trails a b one) (second : Trails b c two) where

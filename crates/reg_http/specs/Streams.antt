@@ -49,7 +49,8 @@ closing_text r head_only = refusal_text r None true head_only
 
 module _ {S : Type 0} (g : Ghosts S) (limits : Limits) (s : model.Registry)
     (entry now : Tables S) (Leaves : Text → Type 0) where
-  -- the events of the exchanges are a run of the registry, which holds its end, and leaves its trail
+  -- the events of the exchanges are a run of the registry, which holds its end, and it leaves such
+  -- a trail
   abbrev pub HasRun : List Exchange → Type 0
   HasRun xs = (t : model.Registry)
       × Ran g limits s entry (events_in limits xs) (answers_in limits xs) t now

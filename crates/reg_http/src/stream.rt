@@ -49,7 +49,7 @@ fn message_of<'h, 'b>(head: &'h OwnedHead, pending: &'b [u8], close: bool) -> Me
     }
 }
 
-/// Answers the requests of a stream, one after another, and tells before each reply what it changed.
+/// Answers the requests of a stream, one after another. What each changes is told before its reply.
 pub(crate) fn serve_requests<R: Read, W: Write, T: Write, S: Alter>(
     alloc: Global,
     registry: &mut Registry<S>,
