@@ -5,7 +5,7 @@ use Rattle.std.specs.Io.KnownBytes.{Appends}
 use Rattle.std.proofs.KnownBytes.{Appends-nil, Appends-trans}
 use Rattle.reg_model.specs.Registry.{Text}
 use Rattle.reg_api_replies.specs.Sent.{SendsAll, Sink}
-use Rattle.reg_http.specs.Trails.{Tail, Trails}
+use Rattle.reg_http.specs.Trails.{IsTrailed, Tail, Trails}
 
 -- the writer of a trail
 abbrev pub sink_of : Tail → Sink
@@ -112,3 +112,9 @@ module _ (a b c : Tail) (one two : Text) (first : Trails a b one) (second : Trai
         ends = ends;
         cause = both first.cause second.cause;
       }
+
+pub trailed_nothing : (k : Tail) → IsTrailed k k
+trailed_nothing k = ([], trails_nothing k)
+
+pub trailed_on : (a b c : Tail) → IsTrailed a b → IsTrailed b c → IsTrailed a c
+trailed_on a b c (one, first) (two, second) = (one ++ two, trails_both a b c one two first second)

@@ -40,3 +40,7 @@ pub record Trails (old new : Tail) (text : Text) : Type 0 where
   pub ends : (rest ≡ []) ⊎ (new.left ≡ 0)
   pub cause : (new.calls + new.left ≡ old.calls + old.left)
       ⊎ ((new.left ≡ 0) × (old.failures < new.failures))
+
+-- some text was told so, whatever the registry
+abbrev pub IsTrailed : Tail → Tail → Type 0
+IsTrailed old new = (text : Text) × Trails old new text

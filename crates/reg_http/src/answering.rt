@@ -9,7 +9,7 @@ ghost use Rattle.reg_service.specs.Answered.{AreUpToDate};
 ghost use Rattle.reg_service.specs.Registries.{limits_of, tables_of};
 ghost use Rattle.reg_service.specs.Streamed.{AsksForFile};
 ghost use Rattle.reg_http.specs.Answering.{GoesOn, IsReplied, IsRequestReplied, fault_text};
-ghost use Rattle.reg_http.specs.Trails.{Tail, tail};
+ghost use Rattle.reg_http.specs.Trails.{IsTrailed, Tail, tail};
 
 use crate::trail::Trail;
 use reg_api_replies::laws::answer_law;
@@ -132,6 +132,8 @@ fn send_answer<W: Write, T: Write, S: Alter>(
         (W.contents w.old.inner) (W.contents w.new.inner) result }
     ensures spends { SpendsTurns left.old left.new (writes_of w.old) (writes_of w.new) result }
     ensures fewer { OnOk result (left.new < left.old) }
+    ensures told { IsTrailed (tail (T.contents trail.old.end.inner) trail.old)
+        (tail (T.contents trail.new.end.inner) trail.new) }
     ensures keeps { GoesOn S.Store registry.old registry.new }
 {
     answer_law();
@@ -159,6 +161,8 @@ fn answer<W: Write, T: Write, S: Alter>(
         (W.contents w.old.inner) (W.contents w.new.inner) result }
     ensures spends { SpendsTurns left.old left.new (writes_of w.old) (writes_of w.new) result }
     ensures fewer { OnOk result (left.new < left.old) }
+    ensures told { IsTrailed (tail (T.contents trail.old.end.inner) trail.old)
+        (tail (T.contents trail.new.end.inner) trail.new) }
     ensures keeps { GoesOn S.Store registry.old registry.new }
 {
     match &request.call {
@@ -208,6 +212,8 @@ pub(crate) fn answer_message<W: Write, T: Write, S: Alter>(
         (W.contents w.old.inner) (W.contents w.new.inner) result }
     ensures spends { SpendsTurns left.old left.new (writes_of w.old) (writes_of w.new) result }
     ensures fewer { OnOk result (left.new < left.old) }
+    ensures told { IsTrailed (tail (T.contents trail.old.end.inner) trail.old)
+        (tail (T.contents trail.new.end.inner) trail.new) }
     ensures keeps { GoesOn S.Store registry.old registry.new }
 {
     match routes.route(alloc, &message.head, message.body) {

@@ -8,7 +8,7 @@ ghost use Rattle.reg_service.specs.Registries.{limits_of, tables_of};
 ghost use Rattle.reg_tables.specs.Works.{shown};
 ghost use Rattle.reg_http.specs.Answering.{GoesOn};
 ghost use Rattle.reg_http.specs.Streams.{Serves, ServesTraced};
-ghost use Rattle.reg_http.specs.Trails.{tail};
+ghost use Rattle.reg_http.specs.Trails.{IsTrailed, tail};
 
 use crate::stream::serve_requests;
 use crate::trail::Trail;
@@ -101,6 +101,10 @@ impl Server {
         ensures spends { (left : ℕ) × SpendsTurns (limits_of registry.old).turns left
             (tally r.old w.old) (tally r.new w.new) result }
 
+        // Whatever is wrong with the store, the trail got a text in no more calls than it had left.
+        ensures told { IsTrailed (tail (T.contents trail.old.end.inner) trail.old)
+            (tail (T.contents trail.new.end.inner) trail.new) }
+
         ensures keeps { GoesOn S.Store registry.old registry.new }
     {
         let mut pending = Vec::new(alloc);
@@ -171,6 +175,10 @@ pub fn serve_traced<R: Read, W: Write, T: Write, S: Alter>(
     // Each call was a turn, and a fault has its cause: `Memory` came before the first call.
     ensures spends { (left : ℕ) × Spends (limits_of registry.old).turns left
         (tally r.old w.old) (tally r.new w.new) result }
+
+    // Whatever is wrong with the store, the trail got a text in no more calls than it had left.
+    ensures told { IsTrailed (tail (T.contents trail.old.end.inner) trail.old)
+        (tail (T.contents trail.new.end.inner) trail.new) }
 
     ensures keeps { GoesOn S.Store registry.old registry.new }
 {

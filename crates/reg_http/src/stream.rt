@@ -10,7 +10,7 @@ ghost use Rattle.reg_service.specs.Registries.{limits_of, tables_of};
 ghost use Rattle.reg_tables.specs.Works.{shown};
 ghost use Rattle.reg_http.specs.Answering.{GoesOn};
 ghost use Rattle.reg_http.specs.Streams.{ServesTraced};
-ghost use Rattle.reg_http.specs.Trails.{tail};
+ghost use Rattle.reg_http.specs.Trails.{IsTrailed, tail};
 
 use crate::answering::{Message, answer_message, deny};
 use crate::trail::Trail;
@@ -75,6 +75,8 @@ pub(crate) fn serve_requests<R: Read, W: Write, T: Write, S: Alter>(
         (W.contents w.old.inner) (W.contents w.new.inner) result }
     ensures spends { (left : ℕ) × SpendsTurns (limits_of registry.old).turns left
         (tally r.old w.old) (tally r.new w.new) result }
+    ensures told { IsTrailed (tail (T.contents trail.old.end.inner) trail.old)
+        (tail (T.contents trail.new.end.inner) trail.new) }
     ensures chunk { length chunk.new ≡ length chunk.old }
     ensures keeps { GoesOn S.Store registry.old registry.new }
 {

@@ -7,6 +7,7 @@ use Rattle.reg_http_read.specs.declared.taking.Taken.TheVariants as taken
 use Rattle.reg_service.specs.Registries.{limits_of, tables_of}
 use Rattle.reg_http.specs.Trails.{tail}
 use Rattle.reg_http.proofs.Exchanged.{EventsGoOn}
+use Rattle.reg_http.proofs.Trails.{trailed_nothing, trailed_on}
 use Rattle.reg_http.proofs.Steps.{holds_start, refusal_failed, refusal_sent, taking_ended, taking_failed, whole_failed, whole_last, whole_sent, wrote_for, wrote_some}
 use Rattle.reg_http.proofs.stream.serve_requests.Goals as goal
 
@@ -19,6 +20,7 @@ requests-init g c = record {
       rw c.requires.nothing (holds_start g.S.Store (limits_of c.args.registry.now) s (tables_of c.args.registry.now) (tail (g.T.Write.contents c.args.trail.now.end.inner) c.args.trail.now) (g.R.Read.remaining c.args.r.now.inner) (g.W.Write.contents c.args.w.now.inner) (tables_of c.args.registry.now)
       (c.history_law.ensures.begins (limits_of c.args.registry.now) s (tables_of c.args.registry.now) shows));
   spends = rw (c.limits.ensures) (spends_nothing (limits_of c.args.registry.now).turns (tally c.args.r.now c.args.w.now));
+  told = trailed_nothing (tail (g.T.Write.contents c.args.trail.now.end.inner) c.args.trail.now);
   chunk = c.requires.some;
   replies = omega (arith, ap (λ l. l.turns) c.limits.ensures);
 }
@@ -159,6 +161,7 @@ requests-preserved g c =
           tt (λ t seen. told clean t seen) c.if-close.false));
       spends = spends_some turns c.take_request.new.left c.answer_message.new.left first mid last both
           (wrote_some c.take_request.new.r c.take_request.new.w c.answer_message.new.w c.take_request.new.left c.answer_message.new.left c.in_ok-answer_message.ensures.spends);
+      told = trailed_on (tail (g.T.Write.contents c.args.trail.now.end.inner) c.args.trail.now) (tail (g.T.Write.contents c.requests.trail.end.inner) c.requests.trail) (tail (g.T.Write.contents c.answer_message.new.trail.end.inner) c.answer_message.new.trail) c.requests.invariant.told c.answer_message.ensures.told;
       chunk = rw c.in_ok-take_request.ensures.chunk inv.chunk;
       replies = omega (arith, inv.replies, fewer, c.in_ok-take_request.ensures.spends.turns, c.in_ok-take_request.ensures.spends.reads, c.in_ok-take_request.ensures.spends.writes);
     }
@@ -167,3 +170,11 @@ pub message_of-message-requires : goal.message_of-message-requires
 message_of-message-requires g c =
     let takes = rw c.in-Whole.is at c.in_ok-take_request.ensures.takes in
     omega (arith, takes.2.2, ap (λ l. length l) takes.2.0, ap (λ l. length l) c.deref.ensures.value)
+
+pub returns-in_err-answer_message-clause-told : goal.returns-in_err-answer_message-clause-told
+returns-in_err-answer_message-clause-told g c =
+    trailed_on (tail (g.T.Write.contents c.args.trail.now.end.inner) c.args.trail.now) (tail (g.T.Write.contents c.requests.trail.end.inner) c.requests.trail) (tail (g.T.Write.contents c.answer_message.new.trail.end.inner) c.answer_message.new.trail) c.requests.invariant.told c.answer_message.ensures.told
+
+pub returns-then-close-clause-told : goal.returns-then-close-clause-told
+returns-then-close-clause-told g c =
+    trailed_on (tail (g.T.Write.contents c.args.trail.now.end.inner) c.args.trail.now) (tail (g.T.Write.contents c.requests.trail.end.inner) c.requests.trail) (tail (g.T.Write.contents c.answer_message.new.trail.end.inner) c.answer_message.new.trail) c.requests.invariant.told c.answer_message.ensures.told

@@ -19,4 +19,4 @@ returns-in-Ok-clause-tells g c =
     let k1 : Tail = record { contents = g.T.Write.contents now.inner; calls = now.calls; failures = now.failures; left = c.self.inside.left - c.in-Ok.used } in
     rw c.in-Some.is
     (subst (λ t. Trails (tail (g.T.Write.contents t.end.inner) t) k1 (string_bytes c.in-Some.line)) c.self.view_is
-    (subst (Trails k0 k1) c.as_bytes.ensures.value (trails_all k0 k1 c.as_bytes.result.now c.in-Ok.used (c.in-Ok.ensures tt) refl)))
+    (subst (Trails k0 k1) c.as_bytes.ensures.value (trails_all k0 k1 c.as_bytes.result.now c.in-Ok.used c.in-Ok.ensures refl)))
