@@ -16,6 +16,6 @@ returns-clause-replied g c f same clean s shows =
     let (a, says, it, lined) = c.act-reply.ensures.replies clean s shows in
     handled g.S.Store limits s f (option_map (λ t. t.now) request.token) same c.args.close (tables_of c.args.registry.now) (tables_of c.act-reply.new.self)
     (tail (g.T.Write.contents c.args.trail.now.end.inner) c.args.trail.now) (tail (g.T.Write.contents c.tell.new.self.end.inner) c.tell.new.self)
-    (g.W.Write.contents c.args.w.now.inner) (g.W.Write.contents c.send_reply.new.w.inner) c.send_reply.result c.answer_law.ensures (wants_of request.call) c.match-reply.reply c.match-reply.line
-    c.act-reply.ensures.read a says it (subst (λ b. HasLine b limits s (event_of (request_of limits request)) a c.match-reply.line) c.is_open.ensures lined)
+    (g.W.Write.contents c.args.w.now.inner) (g.W.Write.contents c.send_reply.new.w.inner) c.send_reply.result c.answer_law.ensures (wants_of request.call) c.act-reply.result.reply c.act-reply.result.line
+    c.act-reply.ensures.read a says it (subst (λ b. HasLine b limits s (event_of (request_of limits request)) a c.act-reply.result.line) c.is_open.ensures lined)
     c.tell.ensures.tells (λ none. ap (λ t. tail (g.T.Write.contents t.end.inner) t) (c.tell.ensures.stays none)) c.send_reply.ensures.sends
