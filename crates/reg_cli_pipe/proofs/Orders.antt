@@ -1,6 +1,8 @@
 -- One more order behind those that were done.
 use Rattle.std.proofs.Common.{◌≡◌, ◌≢◌, ◌<◌, ◌+◌, ◌++◌, ◌||◌, ℕ, false, List, [], ◌∷◌, inl, inr, refl, sym, ap, ap₂, ◌∙◌, subst, arith, append-nil, length, length-append, map, take, Option, Some, None, IsSomeAnd, Result, Ok, Err}
+use Rattle.std.specs.Prelude.{nat_lt, string_bytes}
 use Rattle.std.specs.List.{list_any}
+use Rattle.std.specs.Option.{option_map}
 use Rattle.std.proofs.Math.ListN.{get_or}
 use Rattle.std.proofs.lemmas.List.{map-append, take_more}
 use Rattle.std.proofs.lemmas.List.Folds.{list_any-append}
@@ -14,10 +16,16 @@ use Rattle.reg_model.specs.Events.Event.{Order}
 use Rattle.reg_model.specs.Registry as model
 use Rattle.reg_model.specs.Registry.{Text}
 use Rattle.reg_model.specs.Steps.{IsFit, no_room}
+use Rattle.reg_model.specs.Trail.{or_nothing, told as line_told, trail}
 use Rattle.reg_tables.specs.declared.tables.Tables.{Tables}
 use Rattle.reg_tables.specs.Works.{shown}
-use Rattle.reg_service.specs.Answered.{Answers, IsAnswered, LeavesAlone, Shows}
+use Rattle.reg_service.specs.Acted.{IsOrdered}
+use Rattle.reg_service.specs.Answered.{Answers, LeavesAlone, Shows}
 use Rattle.reg_service.specs.Sequences.{Ran}
+use Rattle.reg_service.specs.declared.telling.ordering.OrderTold.{OrderTold}
+use Rattle.reg_http.specs.Trails.{Tail, Trails}
+use Rattle.reg_http.proofs.Exchanged.{EventsGoOn}
+use Rattle.reg_http.proofs.Trails.{trails_both, trails_if, trails_nothing}
 use Rattle.reg_model.specs.declared.rule.AdminRefusal.{AdminRefusal}
 use Rattle.reg_policy.specs.declared.event.AdminReply.{AdminReply}
 use Rattle.reg_policy.specs.declared.event.AdminReply.TheVariants.{Done, Id, Text as Told}
@@ -25,14 +33,10 @@ use Rattle.reg_policy.specs.Events.{reply_of}
 use Rattle.reg_cli_pipe.specs.declared.setup.SetupFault.{SetupFault}
 use Rattle.reg_cli_pipe.specs.declared.setup.SetupFault.TheVariants.{Memory, Refused, Unreadable}
 use Rattle.reg_cli_pipe.specs.LineOrders.{IsUnread, line_order}
-use Rattle.reg_cli_pipe.specs.Setups.{HasDone, HasDoneAlone, IsObeyed, IsSetUp, MakesOf, Obeys, is_refused}
+use Rattle.reg_cli_pipe.specs.Setups.{HasDone, HasDoneAlone, IsDoneTold, IsObeyed, IsSetUpTraced, MakesOf, Obeys, SetsUpLeaving, is_refused}
 
 abbrev pub RunsBegin : {S : Type 0} → Ghosts S → Type 0
 RunsBegin g = (limits : Limits) (s : model.Registry) (t : Tables _) → Shows s (shown g t) → Ran g limits s t [] [] s t
-
-abbrev pub RunsGoOn : {S : Type 0} → Ghosts S → Type 0
-RunsGoOn g = (limits : Limits) (s : model.Registry) (entry : Tables _) (es : List Event) (xs : List Answer) (t : model.Registry) (e : Event) (a : Answer) (old new : Tables _)
-    → IsFit e → Ran g limits s entry es xs t old → (it : Answers g limits t e a old new) → Ran g limits s entry (es ++ e ∷ []) (xs ++ a ∷ []) it.after new
 
 -- what had no room is refused
 not_refused : (c : Command) (a : Answer) → is_refused a ≡ false → a ≢ no_room (Order c)
@@ -43,35 +47,44 @@ reply_stands Done = refl
 reply_stands (Id n) = refl
 reply_stands (Told t) = refl
 
--- a command that was answered is an order that was done or refused
-pub obeys : {S : Type 0} (g : Ghosts S) (limits : Limits) (c : Command) (old new : Tables S) (reply : Result AdminReply AdminRefusal) (made : Result (Unit {0}) SetupFault)
-    → IsFit (Order c) → IsAnswered g limits (Order c) (reply_of reply) old new → MakesOf reply made → IsObeyed g limits (Some c) old new made
-obeys g limits c old new (Ok r) made fit answers is =
-    subst (IsObeyed g limits (Some c) old new) (sym is) (reply_of (Ok r), reply_stands r, record { command = c; is = refl; fit = fit; answers = answers })
-obeys g limits c old new (Err f) made fit answers is =
-    subst (IsObeyed g limits (Some c) old new) (sym is) (record { command = c; is = refl; fit = fit; answers = answers })
+module _ {S : Type 0} (g : Ghosts S) (limits : Limits) (c : Command) (old new : Tables S) (k0 k1 : Tail) where
+  -- a command that was answered is an order that was done or refused
+  made : (reply : Result AdminReply AdminRefusal) (made : Result (Unit {0}) SetupFault) → IsFit (Order c) → IsDoneTold g limits c (reply_of reply) old new k0 k1 → MakesOf reply made
+      → IsObeyed g limits (Some c) old new k0 k1 made
+  made (Ok r) made fit answers is =
+      subst (IsObeyed g limits (Some c) old new k0 k1) (sym is) (reply_of (Ok r), reply_stands r, record { command = c; is = refl; fit = fit; answers = answers })
+  made (Err f) made fit answers is =
+      subst (IsObeyed g limits (Some c) old new k0 k1) (sym is) (record { command = c; is = refl; fit = fit; answers = answers })
+
+  -- and its line was told
+  pub obeys : (it : OrderTold) (result : Result (Unit {0}) SetupFault) → IsFit (Order c) → IsOrdered g limits (nat_lt 0 k0.left) c it old new
+      → Trails k0 k1 (or_nothing (option_map string_bytes it.line)) → MakesOf it.answer result → IsObeyed g limits (Some c) old new k0 k1 result
+  obeys it result fit answers tells is =
+      made it.answer result fit (λ clean s shows.
+        (let (does, lined) = answers clean s shows in
+        (does, trails_if k0 k1 (or_nothing (option_map string_bytes it.line)) (line_told limits s (Order c) (reply_of it.answer)) lined tells))) is
 
 -- where the words alone failed, nothing was done
-pub unread_obeyed : {S : Type 0} (g : Ghosts S) (limits : Limits) (ordered : Option Command) (t : Tables S) (f : SetupFault) → IsUnread ordered f → IsObeyed g limits ordered t t (Err f)
-unread_obeyed g limits ordered t (Refused r) not = absurd not
-unread_obeyed g limits ordered t Unreadable none = (none, refl)
-unread_obeyed g limits ordered t Memory u = refl
+pub unread_obeyed : {S : Type 0} (g : Ghosts S) (limits : Limits) (ordered : Option Command) (t : Tables S) (k : Tail) (f : SetupFault) → IsUnread ordered f → IsObeyed g limits ordered t t k k (Err f)
+unread_obeyed g limits ordered t k (Refused r) not = absurd not
+unread_obeyed g limits ordered t k Unreadable none = (none, refl, refl)
+unread_obeyed g limits ordered t k Memory u = (refl, refl)
 
 module _ {S : Type 0} (g : Ghosts S) (limits : Limits) (s : model.Registry) (entry : Tables S) (lines : List Text) where
-  pub begun : RunsBegin g → Shows s (shown g entry) → HasDoneAlone g limits s entry lines entry 0
-  begun begins shows = record {
-    done = record { after = s; commands = []; told = []; ordered = refl; none_refused = refl; count_is = refl; ran = begins limits s entry shows };
+  pub begun : (k : Tail) → RunsBegin g → Shows s (shown g entry) → HasDoneAlone g limits s entry lines entry (Trails k k) 0
+  begun k begins shows = record {
+    done = record { after = s; commands = []; told = []; ordered = refl; none_refused = refl; count_is = refl; ran = begins limits s entry shows; leaves = trails_nothing k };
     alone = λ lt. absurd (omega (arith, lt));
   }
 
-  module _ (goes_on : RunsGoOn g) (count : ℕ) (old new : Tables S) (h : HasDoneAlone g limits s entry lines old count) (clean : HasCleanDisk (shown g new))
+  module _ (law : EventsGoOn g) (count : ℕ) (old new : Tables S) (k0 k1 k2 : Tail) (h : HasDoneAlone g limits s entry lines old (Trails k0 k1) count) (clean : HasCleanDisk (shown g new))
       (line : Text) (less : count < length lines) (at : get_or lines count line ≡ line) where
     before : map line_order (take count lines) ≡ map Some h.done.commands
     before = subst (λ n. map line_order (take n lines) ≡ map Some h.done.commands) (ap length (append-nil h.done.told) ∙ h.done.count_is) h.done.ordered
 
-    module _ (a : Answer) (o : Obeys g limits (line_order line) a old new) where
+    module _ (a : Answer) (o : Obeys g limits (line_order line) a old new k1 k2) where
       answers : Answers g limits h.done.after (Order o.command) a old new
-      answers = o.answers clean h.done.after h.done.ran.shows
+      answers = (o.answers clean h.done.after h.done.ran.shows).0
 
       abbrev commands : List Command
       commands = h.done.commands ++ o.command ∷ []
@@ -79,7 +92,18 @@ module _ {S : Type 0} (g : Ghosts S) (limits : Limits) (s : model.Registry) (ent
       ran : Ran g limits s entry (map Order commands) (h.done.told ++ a ∷ []) answers.after new
       ran = subst (λ es. Ran g limits s entry es (h.done.told ++ a ∷ []) answers.after new) (sym (map-append Order h.done.commands (o.command ∷ [])))
           (subst (λ xs. Ran g limits s entry (map Order h.done.commands ++ Order o.command ∷ []) (xs ++ a ∷ []) answers.after new) (append-nil h.done.told)
-          (goes_on limits s entry (map Order h.done.commands) (h.done.told ++ []) h.done.after (Order o.command) a old new o.fit h.done.ran answers))
+          (law.run limits s entry (map Order h.done.commands) (h.done.told ++ []) h.done.after (Order o.command) a old new o.fit h.done.ran answers))
+
+      leaves : Trails k0 k2 (trail limits s (map Order commands) (h.done.told ++ a ∷ []))
+      leaves =
+          let es = map Order h.done.commands in
+          let xs = h.done.told ++ [] in
+          let joined : trail limits s (es ++ Order o.command ∷ []) (xs ++ a ∷ []) ≡ trail limits s es xs ++ line_told limits h.done.after (Order o.command) a =
+          law.join limits s h.done.after es (Order o.command ∷ []) xs (a ∷ []) h.done.ran.run ∙ ap (λ l. trail limits s es xs ++ l) (law.one limits h.done.after (Order o.command) a) in
+          subst (λ es. Trails k0 k2 (trail limits s es (h.done.told ++ a ∷ []))) (sym (map-append Order h.done.commands (o.command ∷ [])))
+          (subst (λ xs. Trails k0 k2 (trail limits s (map Order h.done.commands ++ Order o.command ∷ []) (xs ++ a ∷ []))) (append-nil h.done.told)
+          (subst (Trails k0 k2) (sym joined)
+          (trails_both k0 k1 k2 (trail limits s es xs) (line_told limits h.done.after (Order o.command) a) h.done.leaves (o.answers clean h.done.after h.done.ran.shows).1)))
 
       ordered : (n : ℕ) → n ≡ count + 1 → map line_order (take n lines) ≡ map Some commands
       ordered n is = ap (λ m. map line_order (take m lines)) is ∙ ap (map line_order) (take_more lines count line less)
@@ -94,7 +118,7 @@ module _ {S : Type 0} (g : Ghosts S) (limits : Limits) (s : model.Registry) (ent
       alone is = elim answers.kept [ inl none ↦ absurd (not_refused o.command a is none) | inr it ↦ it ]
 
       -- it was done
-      pub next : is_refused a ≡ false → HasDoneAlone g limits s entry lines new (count + 1)
+      pub next : is_refused a ≡ false → HasDoneAlone g limits s entry lines new (Trails k0 k2) (count + 1)
       next is = record {
         done = record {
           after = answers.after;
@@ -104,12 +128,13 @@ module _ {S : Type 0} (g : Ghosts S) (limits : Limits) (s : model.Registry) (ent
           none_refused = list_any-append is_refused h.done.told (a ∷ []) ∙ ap (λ b. b || list_any is_refused (a ∷ [])) h.done.none_refused ∙ ap (λ b. b || false) is;
           count_is = told_is;
           ran = subst (λ xs. Ran g limits s entry (map Order commands) xs answers.after new) (sym (append-nil (h.done.told ++ a ∷ []))) ran;
+          leaves = subst (λ xs. Trails k0 k2 (trail limits s (map Order commands) xs)) (sym (append-nil (h.done.told ++ a ∷ []))) leaves;
         };
         alone = λ some. alone is;
       }
 
       -- it was the last
-      pub last : HasDone g limits s entry lines new count (a ∷ [])
+      pub last : HasDone g limits s entry lines new (Trails k0 k2) count (a ∷ [])
       last = record {
         after = answers.after;
         commands = commands;
@@ -118,25 +143,52 @@ module _ {S : Type 0} (g : Ghosts S) (limits : Limits) (s : model.Registry) (ent
         none_refused = h.done.none_refused;
         count_is = h.done.count_is;
         ran = ran;
+        leaves = leaves;
       }
 
-    was_done : (u : Unit {0}) → IsObeyed g limits (line_order line) old new (Ok u) → HasDoneAlone g limits s entry lines new (count + 1)
+    stays : (new ≡ old) × (k2 ≡ k1) → HasDoneAlone g limits s entry lines new (Trails k0 k2) count
+    stays (same, kept) = subst (λ k. HasDoneAlone g limits s entry lines new (Trails k0 k) count) (sym kept) (subst (λ t. HasDoneAlone g limits s entry lines t (Trails k0 k1) count) (sym same) h)
+
+    was_done : (u : Unit {0}) → IsObeyed g limits (line_order line) old new k1 k2 (Ok u) → HasDoneAlone g limits s entry lines new (Trails k0 k2) (count + 1)
     was_done u (a, is, o) = next a o is
 
-    was_not_done : (f : SetupFault) → IsObeyed g limits (line_order line) old new (Err f) → IsSetUp g limits s entry lines new (Err f)
+    was_not_done : (f : SetupFault) → IsObeyed g limits (line_order line) old new k1 k2 (Err f) → IsSetUpTraced g limits s entry lines new k0 k2 (Err f)
     was_not_done (Refused r) o = (count, less, last (to_refused r) o)
     was_not_done Unreadable (none, same) = (
       count,
       subst (λ l. IsSomeAnd l (λ text. line_order text ≡ None)) (sym (slice_get-get_or lines count line less ∙ ap Some at)) none,
-      subst (λ t. HasDoneAlone g limits s entry lines t count) (sym same) h,
+      stays same,
     )
-    was_not_done Memory same = (count, omega (arith, less), subst (λ t. HasDoneAlone g limits s entry lines t count) (sym same) h)
+    was_not_done Memory same = (count, omega (arith, less), stays same)
 
     module _ (was : Limits) (same : was ≡ limits) where
       -- a line was done
-      pub obeyed : (u : Unit {0}) → IsObeyed g was (line_order line) old new (Ok u) → HasDoneAlone g limits s entry lines new (count + 1)
-      obeyed u it = was_done u (subst (λ l. IsObeyed g l (line_order line) old new (Ok u)) same it)
+      pub obeyed : (u : Unit {0}) → IsObeyed g was (line_order line) old new k1 k2 (Ok u) → HasDoneAlone g limits s entry lines new (Trails k0 k2) (count + 1)
+      obeyed u it = was_done u (subst (λ l. IsObeyed g l (line_order line) old new k1 k2 (Ok u)) same it)
 
       -- a line was not done
-      pub failed : (f : SetupFault) → IsObeyed g was (line_order line) old new (Err f) → IsSetUp g limits s entry lines new (Err f)
-      failed f it = was_not_done f (subst (λ l. IsObeyed g l (line_order line) old new (Err f)) same it)
+      pub failed : (f : SetupFault) → IsObeyed g was (line_order line) old new k1 k2 (Err f) → IsSetUpTraced g limits s entry lines new k0 k2 (Err f)
+      failed f it = was_not_done f (subst (λ l. IsObeyed g l (line_order line) old new k1 k2 (Err f)) same it)
+
+-- what is known of the trail of a setup, known more weakly
+module _ {S : Type 0} (g : Ghosts S) (limits : Limits) (s : model.Registry) (entry : Tables S) (lines : List Text) (now : Tables S) (P Q : Text → Type 0) (less : (text : Text) → P text → Q text) where
+  done_leaving : (count : ℕ) (last : List Answer) → HasDone g limits s entry lines now P count last → HasDone g limits s entry lines now Q count last
+  done_leaving count last h = record {
+    after = h.after;
+    commands = h.commands;
+    told = h.told;
+    ordered = h.ordered;
+    none_refused = h.none_refused;
+    count_is = h.count_is;
+    ran = h.ran;
+    leaves = less (trail limits s (map Order h.commands) (h.told ++ last)) h.leaves;
+  }
+
+  pub alone_leaving : (count : ℕ) → HasDoneAlone g limits s entry lines now P count → HasDoneAlone g limits s entry lines now Q count
+  alone_leaving count h = record { done = done_leaving count [] h.done; alone = h.alone }
+
+  pub setup_leaving : (result : Result (Unit {0}) SetupFault) → SetsUpLeaving g limits s entry lines now P result → SetsUpLeaving g limits s entry lines now Q result
+  setup_leaving (Ok u) h = alone_leaving (length lines) h
+  setup_leaving (Err (Refused r)) (count, few, h) = (count, few, done_leaving count (to_refused r ∷ []) h)
+  setup_leaving (Err Unreadable) (count, none, h) = (count, none, alone_leaving count h)
+  setup_leaving (Err Memory) (count, few, h) = (count, few, alone_leaving count h)

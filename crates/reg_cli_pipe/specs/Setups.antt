@@ -1,6 +1,7 @@
 -- What the lines of a setup file come to.
 use Rattle.std.specs.Prelude.{◌≡◌, ◌++◌, ◌<◌, ◌≤◌, ℕ, Bool, true, false, List, [], ◌∷◌, length, map, slice_get, take, Option, Some, None, IsSomeAnd, Result, Ok, Err}
 use Rattle.std.specs.List.{list_any}
+use Rattle.sqlite.specs.State.{HasCleanDisk}
 use Rattle.sqlite_trees.specs.declared.store.Store.{Ghosts}
 use Rattle.reg_body.specs.declared.limits.Limits.{Limits}
 use Rattle.reg_model.specs.declared.rule.AdminRefusal.{AdminRefusal}
@@ -11,10 +12,12 @@ use Rattle.reg_model.specs.Events.Event.{Order}
 use Rattle.reg_model.specs.Registry as model
 use Rattle.reg_model.specs.Registry.{Text}
 use Rattle.reg_model.specs.Steps.{IsFit}
+use Rattle.reg_model.specs.Trail.{told as line_told, trail}
 use Rattle.reg_tables.specs.declared.tables.Tables.{Tables}
 use Rattle.reg_tables.specs.Works.{shown}
-use Rattle.reg_service.specs.Answered.{IsAnswered, LeavesAlone}
+use Rattle.reg_service.specs.Answered.{Answers, LeavesAlone, Shows}
 use Rattle.reg_service.specs.Sequences.{Ran}
+use Rattle.reg_http.specs.Trails.{Tail, Trails}
 use Rattle.reg_cli_pipe.specs.LineOrders.{line_order}
 use Rattle.reg_cli_pipe.specs.declared.setup.SetupFault.{SetupFault}
 use Rattle.reg_cli_pipe.specs.declared.setup.SetupFault.TheVariants.{Memory, Refused, Unreadable}
@@ -28,30 +31,38 @@ abbrev pub MakesOf : Result AdminReply AdminRefusal → Result (Unit {0}) SetupF
 MakesOf (Ok reply) made = made ≡ Ok tt
 MakesOf (Err refusal) made = made ≡ Err (Refused refusal)
 
+-- the command is answered so, whatever registry the tables held, and its line is told
+abbrev pub IsDoneTold : {S : Type 0} → Ghosts S → Limits → Command → Answer → Tables S → Tables S
+    → Tail → Tail → Type 0
+IsDoneTold g limits c a old new k0 k1 =
+    HasCleanDisk (shown g new) → (s : model.Registry) → Shows s (shown g old)
+    → Answers g limits s (Order c) a old new × Trails k0 k1 (line_told limits s (Order c) a)
+
 -- this command was ordered, and answered so
 pub record Obeys {S : Type 0} (g : Ghosts S) (limits : Limits) (ordered : Option Command)
-    (a : Answer) (old new : Tables S) : Type 0 where
+    (a : Answer) (old new : Tables S) (k0 k1 : Tail) : Type 0 where
   pub command : Command
   pub is : ordered ≡ Some command
   pub fit : IsFit (Order command)
-  pub answers : IsAnswered g limits (Order command) a old new
+  pub answers : IsDoneTold g limits command a old new k0 k1
 
 -- one line: the command that it orders was done or refused, or it orders none, or memory was
 -- refused
 abbrev pub IsObeyed : {S : Type 0} → Ghosts S → Limits → Option Command → Tables S → Tables S
-    → Result (Unit {0}) SetupFault → Type 0
-IsObeyed g limits ordered old new (Ok _) =
-    (a : Answer) × (is_refused a ≡ false) × Obeys g limits ordered a old new
-IsObeyed g limits ordered old new (Err (Refused r)) =
-    Obeys g limits ordered (to_refused r) old new
-IsObeyed g limits ordered old new (Err Unreadable) = (ordered ≡ None) × (new ≡ old)
-IsObeyed g limits ordered old new (Err Memory) = new ≡ old
+    → Tail → Tail → Result (Unit {0}) SetupFault → Type 0
+IsObeyed g limits ordered old new k0 k1 (Ok _) =
+    (a : Answer) × (is_refused a ≡ false) × Obeys g limits ordered a old new k0 k1
+IsObeyed g limits ordered old new k0 k1 (Err (Refused r)) =
+    Obeys g limits ordered (to_refused r) old new k0 k1
+IsObeyed g limits ordered old new k0 k1 (Err Unreadable) =
+    (ordered ≡ None) × (new ≡ old) × (k1 ≡ k0)
+IsObeyed g limits ordered old new k0 k1 (Err Memory) = (new ≡ old) × (k1 ≡ k0)
 
 module _ {S : Type 0} (g : Ghosts S) (limits : Limits) (s : model.Registry) (entry : Tables S)
-    (lines : List Text) (now : Tables S) where
+    (lines : List Text) (now : Tables S) (Leaves : Text → Type 0) where
   -- The commands of the first lines were done, one after another, and none of so many was refused.
   -- Then the commands of the next lines were given these answers. All of it is a run of the
-  -- registry, which holds its end.
+  -- registry, which holds its end, and leaves its trail.
   pub record HasDone (count : ℕ) (last : List Answer) : Type 0 where
     pub after : model.Registry
     pub commands : List Command
@@ -60,6 +71,7 @@ module _ {S : Type 0} (g : Ghosts S) (limits : Limits) (s : model.Registry) (ent
     pub none_refused : list_any is_refused told ≡ false
     pub count_is : length told ≡ count
     pub ran : Ran g limits s entry (map Order commands) (told ++ last) after now
+    pub leaves : Leaves (trail limits s (map Order commands) (told ++ last))
 
   -- the commands of so many lines were done and no more, and a stop leaves what they made, if there
   -- were any, alone
@@ -73,9 +85,20 @@ module _ {S : Type 0} (g : Ghosts S) (limits : Limits) (s : model.Registry) (ent
 
   -- all lines were done; or those before one that was refused or is no command; or those before
   -- memory was refused
-  abbrev pub IsSetUp : Result (Unit {0}) SetupFault → Type 0
-  IsSetUp (Ok _) = HasDoneAlone (length lines)
-  IsSetUp (Err (Refused r)) =
+  abbrev pub SetsUpLeaving : Result (Unit {0}) SetupFault → Type 0
+  SetsUpLeaving (Ok _) = HasDoneAlone (length lines)
+  SetsUpLeaving (Err (Refused r)) =
       (count : ℕ) × (count < length lines) × HasDone count (to_refused r ∷ [])
-  IsSetUp (Err Unreadable) = (count : ℕ) × IsNoOrder count × HasDoneAlone count
-  IsSetUp (Err Memory) = (count : ℕ) × (count ≤ length lines) × HasDoneAlone count
+  SetsUpLeaving (Err Unreadable) = (count : ℕ) × IsNoOrder count × HasDoneAlone count
+  SetsUpLeaving (Err Memory) = (count : ℕ) × (count ≤ length lines) × HasDoneAlone count
+
+-- where no trail is told
+abbrev pub IsSetUp : {S : Type 0} → Ghosts S → Limits → model.Registry → Tables S → List Text
+    → Tables S → Result (Unit {0}) SetupFault → Type 0
+IsSetUp g limits s entry lines now = SetsUpLeaving g limits s entry lines now (λ _. Unit {0})
+
+-- where the trail is told
+abbrev pub IsSetUpTraced : {S : Type 0} → Ghosts S → Limits → model.Registry → Tables S → List Text
+    → Tables S → Tail → Tail → Result (Unit {0}) SetupFault → Type 0
+IsSetUpTraced g limits s entry lines now k0 k1 =
+    SetsUpLeaving g limits s entry lines now (Trails k0 k1)

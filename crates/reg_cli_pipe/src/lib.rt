@@ -11,5 +11,5 @@ mod pipe;
 mod setup;
 
 pub use exit::exit_of_refusal;
-pub use pipe::run_pipe;
-pub use setup::{SetupFault, run_setup};
+pub use pipe::{pipe_traced, run_pipe};
+pub use setup::{SetupFault, run_setup, setup_traced};

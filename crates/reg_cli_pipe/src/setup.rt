@@ -10,21 +10,25 @@ ghost use Rattle.reg_tables.specs.Works.{shown};
 ghost use Rattle.reg_service.specs.Answered.{AreUpToDate, Shows};
 ghost use Rattle.reg_service.specs.Registries.{limits_of, tables_of};
 ghost use Rattle.reg_http.specs.Answering.{GoesOn};
+ghost use Rattle.reg_http.specs.Trails.{tail};
 ghost use Rattle.reg_cli_words.specs.Dashes.{is_dashed};
 ghost use Rattle.reg_cli_words.specs.Orders.{words_of};
 ghost use Rattle.reg_cli_pipe.specs.LineOrders.{IsUnread, line_order, order_in, token_order, words_in};
 ghost use Rattle.reg_cli_pipe.specs.Lines.{lines_in};
-ghost use Rattle.reg_cli_pipe.specs.Setups.{IsObeyed, IsSetUp, MakesOf};
+ghost use Rattle.reg_cli_pipe.specs.Setups.{IsObeyed, IsSetUp, IsSetUpTraced, MakesOf};
 
 use clap::error::ErrorKind;
 use clap::{ArgMatches, Error};
 use reg_cli_words::{NewToken, Order, TokenSource, is_dashed, read_line, read_order};
+use reg_http::Trail;
 use reg_model::AdminRefusal;
+use reg_model::laws::telling_law;
 use reg_policy::{AdminCommand, AdminReply};
-use reg_service::Registry;
+use reg_service::{OrderTold, Registry};
 use reg_service::laws::history_law;
 use sqlite::Alter;
 use std::alloc::{AllocError, AllocFailed, Global};
+use std::io::{self, Write};
 
 /// Why a setup file was not run to its end. The earlier lines were run.
 #[derive(Clone, Copy, Debug, PartialEq, Eq)]
@@ -118,73 +122,87 @@ fn setup_result(reply: Result<AdminReply, AdminRefusal>) -> Result<(), SetupFaul
     }
 }
 
-/// Runs one command.
-fn obey<S: Alter>(
+/// Runs one command, and tells what it changed.
+fn obey<T: Write, S: Alter>(
     alloc: Global,
     registry: &mut Registry<S>,
+    trail: &mut Trail<T>,
     command: &AdminCommand<'_>,
 ) -> Result<(), SetupFault>
     requires tables { AreUpToDate S.Store (tables_of registry.old) }
     requires fit { IsFit (ToOrder (command_of command.now)) }
     ensures obeyed { IsObeyed S.Store (limits_of registry.old) (Some (command_of command.now))
-        (tables_of registry.old) (tables_of registry.new) result }
+        (tables_of registry.old) (tables_of registry.new)
+        (tail (T.contents trail.old.end.inner) trail.old)
+        (tail (T.contents trail.new.end.inner) trail.new) result }
     ensures keeps { GoesOn S.Store registry.old registry.new }
 {
-    setup_result(registry.command(alloc, command))
+    let OrderTold { answer, line } = registry.order(alloc, command, trail.is_open());
+    trail.tell(line);
+    setup_result(answer)
 }
 
 /// Adds a token, whose digest a setup file must give.
-fn add_token<S: Alter>(
+fn add_token<T: Write, S: Alter>(
     alloc: Global,
     registry: &mut Registry<S>,
+    trail: &mut Trail<T>,
     token: &NewToken<'_>,
 ) -> Result<(), SetupFault>
     requires tables { AreUpToDate S.Store (tables_of registry.old) }
     ensures obeyed { IsObeyed S.Store (limits_of registry.old) (token_order (words_of token.now))
-        (tables_of registry.old) (tables_of registry.new) result }
+        (tables_of registry.old) (tables_of registry.new)
+        (tail (T.contents trail.old.end.inner) trail.old)
+        (tail (T.contents trail.new.end.inner) trail.new) result }
     ensures keeps { GoesOn S.Store registry.old registry.new }
 {
     match &token.source {
-        TokenSource::Told(digest) => obey(alloc, registry, &token.command(digest)),
+        TokenSource::Told(digest) => obey(alloc, registry, trail, &token.command(digest)),
         TokenSource::Random(_) => Err(SetupFault::Unreadable),
     }
 }
 
 /// Runs the parsed command.
-fn obey_order<S: Alter>(
+fn obey_order<T: Write, S: Alter>(
     alloc: Global,
     registry: &mut Registry<S>,
+    trail: &mut Trail<T>,
     matches: &ArgMatches<'_>,
 ) -> Result<(), SetupFault>
     requires tables { AreUpToDate S.Store (tables_of registry.old) }
     ensures obeyed { IsObeyed S.Store (limits_of registry.old) (order_in matches.now)
-        (tables_of registry.old) (tables_of registry.new) result }
+        (tables_of registry.old) (tables_of registry.new)
+        (tail (T.contents trail.old.end.inner) trail.old)
+        (tail (T.contents trail.new.end.inner) trail.new) result }
     ensures keeps { GoesOn S.Store registry.old registry.new }
 {
     let Some((name, inner)) = matches.subcommand() else {
         return Err(SetupFault::Unreadable);
     };
     match read_order(alloc, name, inner)? {
-        Some(Order::AddToken(token)) => add_token(alloc, registry, &token),
-        Some(Order::Other(command)) => obey(alloc, registry, &command),
+        Some(Order::AddToken(token)) => add_token(alloc, registry, trail, &token),
+        Some(Order::Other(command)) => obey(alloc, registry, trail, &command),
         None => Err(SetupFault::Unreadable),
     }
 }
 
 /// Runs the command of one line.
-fn obey_line<S: Alter>(
+fn obey_line<T: Write, S: Alter>(
     alloc: Global,
     registry: &mut Registry<S>,
+    trail: &mut Trail<T>,
     line: &str,
 ) -> Result<(), SetupFault>
     requires tables { AreUpToDate S.Store (tables_of registry.old) }
     ensures obeyed { IsObeyed S.Store (limits_of registry.old) (line_order line.now)
-        (tables_of registry.old) (tables_of registry.new) result }
+        (tables_of registry.old) (tables_of registry.new)
+        (tail (T.contents trail.old.end.inner) trail.old)
+        (tail (T.contents trail.new.end.inner) trail.new) result }
     ensures keeps { GoesOn S.Store registry.old registry.new }
 {
     let words = split_words(alloc, line)?;
     let matches = read_line(alloc, &words)?;
-    obey_order(alloc, registry, &matches)
+    obey_order(alloc, registry, trail, &matches)
 }
 
 /// Runs the commands of a setup file, one after another, up to the first that is refused or
@@ -201,10 +219,31 @@ pub fn run_setup<S: Alter>(
         (lines_in setup.now) (tables_of registry.new) result }
     ensures keeps { GoesOn S.Store registry.old registry.new }
 {
+    let mut silent = Trail::new(io::sink(), 0);
+    setup_traced(alloc, registry, setup, &mut silent)
+}
+
+/// Does as `run_setup`, and writes a line for each change, after its commit.
+pub fn setup_traced<T: Write, S: Alter>(
+    alloc: Global,
+    registry: &mut Registry<S>,
+    setup: &str,
+    trail: &mut Trail<T>,
+) -> Result<(), SetupFault>
+    requires tables { AreUpToDate S.Store (tables_of registry.old) }
+    ensures done { HasCleanDisk (shown S.Store (tables_of registry.new)) → (s : _)
+        → Shows s (shown S.Store (tables_of registry.old))
+        → IsSetUpTraced S.Store (limits_of registry.old) s (tables_of registry.old)
+        (lines_in setup.now) (tables_of registry.new)
+        (tail (T.contents trail.old.end.inner) trail.old)
+        (tail (T.contents trail.new.end.inner) trail.new) result }
+    ensures keeps { GoesOn S.Store registry.old registry.new }
+{
     history_law::<S>();
+    telling_law();
     let lines = lines_of(alloc, setup)?;
     for line in &lines {
-        obey_line(alloc, registry, line)?;
+        obey_line(alloc, registry, trail, line)?;
     }
     Ok(())
 }

@@ -9,6 +9,8 @@ use Rattle.reg_body.specs.declared.limits.Limits.{Limits}
 use Rattle.reg_model.specs.Events.{Answer, Event}
 use Rattle.reg_model.specs.Registry as model
 use Rattle.reg_model.specs.Registry.{Text}
+use Rattle.reg_model.specs.Trail.{told as line_told, trail}
+use Rattle.reg_model.specs.TrailLaws.{TrailOfOne, TrailsJoin}
 use Rattle.reg_model.specs.Steps.{IsFit}
 use Rattle.reg_service.specs.Answered.{Answers}
 use Rattle.reg_service.specs.Sequences.{Ran}
@@ -19,6 +21,8 @@ use Rattle.reg_http.specs.Answering.{Moves}
 use Rattle.reg_http.specs.Exchanges.{Exchange, Outcome, answers_in, event_in, events_in, steps_in}
 use Rattle.reg_http.specs.Exchanges.Outcome.{Answered, NoMethod, NoRoom, NoRoute, Unread}
 use Rattle.reg_http.specs.Streams.{Goes, HasRun, IsOpen, asked, replied, told}
+use Rattle.reg_http.specs.Trails.{Tail, Trails}
+use Rattle.reg_http.proofs.Trails.{trails_both}
 
 not_last : (m n : ℕ) → (m == n) ≡ false → m ≢ n
 not_last m n differ = eqb-false m n differ
@@ -58,40 +62,52 @@ module _ (limits : Limits) (done : List Exchange) (read written rest : Text) (co
     before_last = λ le. goes.before_last (omega (arith, le, not_last (count + 1) limits.replies more));
   }
 
--- one more event behind a run
-abbrev pub EventsGoOn : {S : Type 0} → Ghosts S → Type 0
-EventsGoOn g = (limits : Limits) (s : model.Registry) (entry : Tables _) (es : List Event) (xs : List Answer) (t : model.Registry) (e : Event) (a : Answer) (old new : Tables _)
-    → IsFit e → Ran g limits s entry es xs t old → (it : Answers g limits t e a old new) → Ran g limits s entry (es ++ e ∷ []) (xs ++ a ∷ []) it.after new
+-- one more event behind a run, and its line behind the trail
+pub record EventsGoOn {S : Type 0} (g : Ghosts S) : Type 0 where
+  pub run : (limits : Limits) (s : model.Registry) (entry : Tables S) (es : List Event) (xs : List Answer) (t : model.Registry) (e : Event) (a : Answer) (old new : Tables S)
+      → IsFit e → Ran g limits s entry es xs t old → (it : Answers g limits t e a old new) → Ran g limits s entry (es ++ e ∷ []) (xs ++ a ∷ []) it.after new
+  pub one : TrailOfOne
+  pub join : TrailsJoin
 
-module _ {S : Type 0} (g : Ghosts S) (limits : Limits) (s : model.Registry) (entry : Tables S) (law : EventsGoOn g) (done : List Exchange) (x : Exchange) (old new : Tables S) where
+module _ {S : Type 0} (g : Ghosts S) (limits : Limits) (s : model.Registry) (entry : Tables S) (law : EventsGoOn g) (done : List Exchange) (x : Exchange) (old new : Tables S) (k0 k1 k2 : Tail) where
   abbrev steps : List (Event × Answer)
   steps = steps_in limits done
 
   pushed : (t : model.Registry) (more : List (Event × Answer)) → event_in limits x.facts x.outcome ≡ more
       → Ran g limits s entry (map (λ p. p.0) steps ++ map (λ p. p.0) more) (map (λ p. p.1) steps ++ map (λ p. p.1) more) t new
-      → HasRun g limits s entry new (done ++ x ∷ [])
-  pushed t more is ran =
+      → Trails k0 k2 (trail limits s (map (λ p. p.0) steps ++ map (λ p. p.0) more) (map (λ p. p.1) steps ++ map (λ p. p.1) more))
+      → HasRun g limits s entry new (Trails k0 k2) (done ++ x ∷ [])
+  pushed t more is ran tells =
       let same : steps_in limits (done ++ x ∷ []) ≡ steps ++ more = steps-push limits done x ∙ ap (λ l. steps ++ l) is in
       let first = ap (λ l. map (λ p. p.0) l) same ∙ map-append (λ p. p.0) steps more in
-      let second = ap (λ l. map (λ p. p.1) l) same ∙ map-append (λ p. p.1) steps more in
-      (t, subst (λ es. Ran g limits s entry es (answers_in limits (done ++ x ∷ [])) t new) (sym first) (subst (λ xs. Ran g limits s entry (map (λ p. p.0) steps ++ map (λ p. p.0) more) xs t new) (sym second) ran))
+      let second = ap (λ l. map (λ p. p.1) l) same ∙ map-append (λ p. p.1) steps more in (
+        t,
+        subst (λ es. Ran g limits s entry es (answers_in limits (done ++ x ∷ [])) t new) (sym first) (subst (λ xs. Ran g limits s entry (map (λ p. p.0) steps ++ map (λ p. p.0) more) xs t new) (sym second) ran),
+        subst (λ es. Trails k0 k2 (trail limits s es (answers_in limits (done ++ x ∷ [])))) (sym first) (subst (λ xs. Trails k0 k2 (trail limits s (map (λ p. p.0) steps ++ map (λ p. p.0) more) xs)) (sym second) tells),
+      )
 
-  stays : (t : model.Registry) → Ran g limits s entry (events_in limits done) (answers_in limits done) t old → new ≡ old → event_in limits x.facts x.outcome ≡ []
-      → HasRun g limits s entry new (done ++ x ∷ [])
-  stays t ran same is =
-      pushed t [] is (subst (λ xs. Ran g limits s entry (events_in limits done ++ []) xs t new) (sym (append-nil (answers_in limits done))) (subst (λ es. Ran g limits s entry es (answers_in limits done) t new) (sym (append-nil (events_in limits done))) (subst (λ it. Ran g limits s entry (events_in limits done) (answers_in limits done) t it) (sym same) ran)))
+  module _ (t : model.Registry) (ran : Ran g limits s entry (events_in limits done) (answers_in limits done) t old) (tells : Trails k0 k1 (trail limits s (events_in limits done) (answers_in limits done))) where
+    stays : (new ≡ old) × (k2 ≡ k1) → event_in limits x.facts x.outcome ≡ [] → HasRun g limits s entry new (Trails k0 k2) (done ++ x ∷ [])
+    stays (same, kept) is =
+        let es = sym (append-nil (events_in limits done)) in
+        let xs = sym (append-nil (answers_in limits done)) in
+        pushed t [] is
+        (subst (λ l. Ran g limits s entry (events_in limits done ++ []) l t new) xs (subst (λ l. Ran g limits s entry l (answers_in limits done) t new) es (subst (λ it. Ran g limits s entry (events_in limits done) (answers_in limits done) t it) (sym same) ran)))
+        (subst (λ l. Trails k0 k2 (trail limits s (events_in limits done ++ []) l)) xs (subst (λ l. Trails k0 k2 (trail limits s l (answers_in limits done))) es (subst (λ k. Trails k0 k (trail limits s (events_in limits done) (answers_in limits done))) (sym kept) tells)))
 
-  run_by : (t : model.Registry) → Ran g limits s entry (events_in limits done) (answers_in limits done) t old → (o : Outcome) → x.outcome ≡ o → Moves g limits t x.facts o old new
-      → HasRun g limits s entry new (done ++ x ∷ [])
-  run_by t ran (Answered w a) is (fit, it) =
-      let e = event_of (request_from limits x.facts.token w) in
-      pushed it.after ((e, a) ∷ []) (ap (event_in limits x.facts) is) (law limits s entry (events_in limits done) (answers_in limits done) t e a old new fit ran it)
-  run_by t ran NoRoute is same = stays t ran same (ap (event_in limits x.facts) is)
-  run_by t ran (NoMethod m) is same = stays t ran same (ap (event_in limits x.facts) is)
-  run_by t ran NoRoom is same = stays t ran same (ap (event_in limits x.facts) is)
-  run_by t ran (Unread w) is same = stays t ran same (ap (event_in limits x.facts) is)
+    run_by : (o : Outcome) → x.outcome ≡ o → Moves g limits t x.facts o old new k1 k2 → HasRun g limits s entry new (Trails k0 k2) (done ++ x ∷ [])
+    run_by (Answered w a) is (fit, it, more) =
+        let e = event_of (request_from limits x.facts.token w) in
+        let es = events_in limits done in
+        let xs = answers_in limits done in
+        pushed it.after ((e, a) ∷ []) (ap (event_in limits x.facts) is) (law.run limits s entry es xs t e a old new fit ran it)
+        (subst (Trails k0 k2) (sym (law.join limits s t es (e ∷ []) xs (a ∷ []) ran.run ∙ ap (λ l. trail limits s es xs ++ l) (law.one limits t e a)))
+        (trails_both k0 k1 k2 (trail limits s es xs) (line_told limits t e a) tells more))
+    run_by NoRoute is same = stays same (ap (event_in limits x.facts) is)
+    run_by (NoMethod m) is same = stays same (ap (event_in limits x.facts) is)
+    run_by NoRoom is same = stays same (ap (event_in limits x.facts) is)
+    run_by (Unread w) is same = stays same (ap (event_in limits x.facts) is)
 
-  -- the run goes on by the exchange
-  pub run_on : (t : model.Registry) → Ran g limits s entry (events_in limits done) (answers_in limits done) t old → Moves g limits t x.facts x.outcome old new
-      → HasRun g limits s entry new (done ++ x ∷ [])
-  run_on t ran moves = run_by t ran x.outcome refl moves
+    -- the run goes on by the exchange
+    pub run_on : Moves g limits t x.facts x.outcome old new k1 k2 → HasRun g limits s entry new (Trails k0 k2) (done ++ x ∷ [])
+    run_on moves = run_by x.outcome refl moves

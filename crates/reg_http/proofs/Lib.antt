@@ -1,3 +1,5 @@
 pub mod Exchanged
+pub mod Leaving
 pub mod Outcomes
 pub mod Steps
+pub mod Trails

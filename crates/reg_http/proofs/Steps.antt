@@ -11,6 +11,7 @@ use Rattle.reg_http_read.specs.Heads.{Facts, IsHeadAt}
 use Rattle.reg_model.specs.declared.rule.Rule.{Rule}
 use Rattle.reg_model.specs.Registry as model
 use Rattle.reg_model.specs.Registry.{Text}
+use Rattle.reg_model.specs.Trail.{trail}
 use Rattle.reg_http_read.specs.Begun.{IsBegun, interim_of}
 use Rattle.reg_http_read.specs.Owned.{facts_owned}
 use Rattle.reg_http_read.specs.Taking.{IsCutOff, Takes}
@@ -28,18 +29,20 @@ use Rattle.reg_tables.specs.declared.tables.Tables.{Tables}
 use Rattle.reg_tables.specs.Works.{shown}
 use Rattle.reg_http.specs.Answering.{AppendsSome, Replies}
 use Rattle.reg_http.specs.Exchanges.{Exchange, IsExchange, IsOfFile, answers_in, closes, events_in, outcome_text, reply_of}
-use Rattle.reg_http.specs.Streams.{Goes, HasRun, IsEnded, IsOpen, IsStopped, Serves, closing_text, told}
+use Rattle.reg_http.specs.Streams.{Goes, HasRun, IsEnded, IsOpen, IsStopped, ServesTraced, closing_text, told}
+use Rattle.reg_http.specs.Trails.{Tail, Trails}
+use Rattle.reg_http.proofs.Trails.{trails_nothing}
 use Rattle.reg_http.proofs.Exchanged.{EventsGoOn, goes_front, goes_push, goes_read, run_on}
 
 -- the exchanges so far, between two states of a reader and of a writer
-pub record Holds {S : Type 0} (g : Ghosts S) (limits : Limits) (s : model.Registry) (entry : Tables S) (r0 r1 w0 w1 : Option Text) (rest : Text) (count : ℕ) (now : Tables S) : Type 0 where
+pub record Holds {S : Type 0} (g : Ghosts S) (limits : Limits) (s : model.Registry) (entry : Tables S) (k0 k1 : Tail) (r0 r1 w0 w1 : Option Text) (rest : Text) (count : ℕ) (now : Tables S) : Type 0 where
   pub read : Text
   pub written : Text
   pub consumed : Consumes r0 r1 read
   pub appended : Appends w0 w1 written
   pub done : List Exchange
   pub goes : Goes limits done read written rest count
-  pub run : HasRun g limits s entry now done
+  pub run : HasRun g limits s entry now (Trails k0 k1) done
 
 -- a head needs its own bytes alone, and stays one whatever follows
 abbrev HeadsStandAlone : Type 0
@@ -49,22 +52,22 @@ abbrev HeadsStay : Type 0
 HeadsStay = (limits : Limits) (b more : Text) (f : Facts) → IsHeadAt limits b f → IsHeadAt limits (b ++ more) f
 
 module _ {S : Type 0} (g : Ghosts S) (limits : Limits) (s : model.Registry) (entry : Tables S) where
-  pub holds_start : (r w : Option Text) (now : Tables S) → Ran g limits s entry [] [] s now → Holds g limits s entry r r w w [] 0 now
-  holds_start r w now ran = record {
+  pub holds_start : (k : Tail) (r w : Option Text) (now : Tables S) → Ran g limits s entry [] [] s now → Holds g limits s entry k k r r w w [] 0 now
+  holds_start k r w now ran = record {
     read = [];
     written = [];
     consumed = Consumes-nil r;
     appended = Appends-nil w;
     done = [];
     goes = record { reads = refl; wrote = refl; count_is = refl; each = All-nil (IsOpen limits); before_last = λ le. omega (arith, le) };
-    run = (s, ran);
+    run = (s, ran, trails_nothing k);
   }
 
   -- memory was refused before the first read
-  pub untouched : (r w : Option Text) (now : Tables S) → Ran g limits s entry [] [] s now → Serves g limits s entry now r r w w (Err Memory)
-  untouched r w now ran = ([], [], Consumes-nil r, Appends-nil w, record { nothing_read = refl; nothing_written = refl; run = (s, ran) })
+  pub untouched : (k : Tail) (r w : Option Text) (now : Tables S) → Ran g limits s entry [] [] s now → ServesTraced g limits s entry now k k r r w w (Err Memory)
+  untouched k r w now ran = ([], [], Consumes-nil r, Appends-nil w, record { nothing_read = refl; nothing_written = refl; run = (s, ran, trails_nothing k) })
 
-  module _ (r0 r1 w0 w1 : Option Text) (rest : Text) (count : ℕ) (now : Tables S) (h : Holds g limits s entry r0 r1 w0 w1 rest count now) (r2 w2 : Option Text) where
+  module _ (k0 k1 : Tail) (r0 r1 w0 w1 : Option Text) (rest : Text) (count : ℕ) (now : Tables S) (h : Holds g limits s entry k0 k1 r0 r1 w0 w1 rest count now) (r2 w2 : Option Text) where
     -- what was read since
     module _ (bytes : Text) (consumed : Consumes r1 r2 bytes) where
       all_read : Text
@@ -79,7 +82,7 @@ module _ {S : Type 0} (g : Ghosts S) (limits : Limits) (s : model.Registry) (ent
       appends : (more : Text) → Appends w1 w2 more → Appends w0 w2 (h.written ++ more)
       appends more a = Appends-trans w0 w1 w2 h.written more h.appended a
 
-      ended : (more : Text) → IsBegun limits (rest ++ bytes) more → IsEnded g limits s entry now (h.read ++ bytes) (h.written ++ more) count
+      ended : (more : Text) → IsBegun limits (rest ++ bytes) more → IsEnded g limits s entry now (Trails k0 k1) (h.read ++ bytes) (h.written ++ more) count
       ended more begun = record {
         done = h.done;
         rest = rest ++ bytes;
@@ -91,7 +94,7 @@ module _ {S : Type 0} (g : Ghosts S) (limits : Limits) (s : model.Registry) (ent
         run = h.run;
       }
 
-      cut : (f : Facts) → IsHeadAt limits (rest ++ bytes) f → (a : AppendsFront (interim_of f) w1 w2) → IsStopped g limits s entry now (h.read ++ bytes) (h.written ++ a.front)
+      cut : (f : Facts) → IsHeadAt limits (rest ++ bytes) f → (a : AppendsFront (interim_of f) w1 w2) → IsStopped g limits s entry now (Trails k0 k1) (h.read ++ bytes) (h.written ++ a.front)
       cut f head a = record {
         done = h.done;
         rest = rest ++ bytes;
@@ -105,15 +108,15 @@ module _ {S : Type 0} (g : Ghosts S) (limits : Limits) (s : model.Registry) (ent
       }
 
     -- no request was taken
-    pub taking_ended : (waits : Text) → Takes r1 r2 rest waits w1 w2 limits (Ok taken.End) → Serves g limits s entry now r0 r2 w0 w2 (Ok count)
+    pub taking_ended : (waits : Text) → Takes r1 r2 rest waits w1 w2 limits (Ok taken.End) → ServesTraced g limits s entry now k0 k1 r0 r2 w0 w2 (Ok count)
     taking_ended waits ((bytes, c, (more, a, begun)), end) =
         (h.read ++ bytes, h.written ++ more, consumes bytes c, appends bytes c more a, inl (ended bytes c more begun, end))
 
-    taking_cut : IsCutOff r1 r2 rest [] w1 w2 limits → (written : Text) × Appends w0 w2 written × ((read : Text) × Consumes r0 r2 read × IsStopped g limits s entry now read written)
+    taking_cut : IsCutOff r1 r2 rest [] w1 w2 limits → (written : Text) × Appends w0 w2 written × ((read : Text) × Consumes r0 r2 read × IsStopped g limits s entry now (Trails k0 k1) read written)
     taking_cut (bytes, c, (f, head, a)) =
         (h.written ++ a.front, appends bytes c a.front a.appends, (h.read ++ bytes, consumes bytes c, cut bytes c f head a))
 
-    pub taking_failed : (waits : Text) (fault : StreamFault) → Takes r1 r2 rest waits w1 w2 limits (Err fault) → Serves g limits s entry now r0 r2 w0 w2 (Err fault)
+    pub taking_failed : (waits : Text) (fault : StreamFault) → Takes r1 r2 rest waits w1 w2 limits (Err fault) → ServesTraced g limits s entry now k0 k1 r0 r2 w0 w2 (Err fault)
     taking_failed waits ReadFault (bytes, c, (more, a, begun)) =
         (h.read ++ bytes, h.written ++ more, consumes bytes c, appends bytes c more a, (count, ended bytes c more begun))
     taking_failed waits TooManyTurns (inl (bytes, c, (more, a, begun))) =
@@ -127,7 +130,7 @@ module _ {S : Type 0} (g : Ghosts S) (limits : Limits) (s : model.Registry) (ent
 
     -- the rest is refused, and the refusal is sent
     module _ (waits : Text) (broken : Rule) (head_only : Bool) (takes : Takes r1 r2 rest waits w1 w2 limits (Ok (taken.Refused broken head_only))) (w3 : Option Text) where
-      pub refusal_sent : Appends w2 w3 (closing_text broken head_only) → Serves g limits s entry now r0 r2 w0 w3 (Ok (count + 1))
+      pub refusal_sent : Appends w2 w3 (closing_text broken head_only) → ServesTraced g limits s entry now k0 k1 r0 r2 w0 w3 (Ok (count + 1))
       refusal_sent sent =
           let (bytes, c, (more, a, refused)) = takes in (
             h.read ++ bytes,
@@ -151,7 +154,7 @@ module _ {S : Type 0} (g : Ghosts S) (limits : Limits) (s : model.Registry) (ent
           )
 
       refusal_cut : AppendsFront (closing_text broken head_only) w2 w3
-          → (read : Text) × (written : Text) × Consumes r0 r2 read × Appends w0 w3 written × IsStopped g limits s entry now read written
+          → (read : Text) × (written : Text) × Consumes r0 r2 read × Appends w0 w3 written × IsStopped g limits s entry now (Trails k0 k1) read written
       refusal_cut cut_off =
           let (bytes, c, (more, a, refused)) = takes in
           let front = more ++ cut_off.front in
@@ -173,7 +176,7 @@ module _ {S : Type 0} (g : Ghosts S) (limits : Limits) (s : model.Registry) (ent
             },
           )
 
-      pub refusal_failed : (fault : StreamFault) → Sends (closing_text broken head_only) w2 w3 {A = Unit {0}} (Err fault) → Serves g limits s entry now r0 r2 w0 w3 (Err fault)
+      pub refusal_failed : (fault : StreamFault) → Sends (closing_text broken head_only) w2 w3 {A = Unit {0}} (Err fault) → ServesTraced g limits s entry now k0 k1 r0 r2 w0 w3 (Err fault)
       refusal_failed WriteFault x = refusal_cut x
       refusal_failed TooManyTurns x = let (read, written, c, a, stopped) = refusal_cut x in (read, written, c, a, inr stopped)
       refusal_failed ReadFault x = absurd x
@@ -183,7 +186,7 @@ module _ {S : Type 0} (g : Ghosts S) (limits : Limits) (s : model.Registry) (ent
     -- a request is there whole, its interim line was sent, and it is answered
     module _ (alone : HeadsStandAlone) (stay : HeadsStay) (law : EventsGoOn g) (waits : Text) (b : OwnedHead) (there : IsHeadAt limits waits (facts_owned b)) (le : b.len + b.body_len ≤ length waits)
         (bytes : Text) (consumed : Consumes r1 r2 bytes) (same : waits ≡ rest ++ bytes) (asked_on : Appends w1 w2 (interim_of (facts_owned b)))
-        (close : Bool) (close_is : close ≡ closes limits (facts_owned b) (count + 1)) (new : Tables S) (w3 : Option Text) where
+        (close : Bool) (close_is : close ≡ closes limits (facts_owned b) (count + 1)) (new : Tables S) (k2 : Tail) (w3 : Option Text) where
       abbrev f : Facts
       f = facts_owned b
 
@@ -206,7 +209,8 @@ module _ {S : Type 0} (g : Ghosts S) (limits : Limits) (s : model.Registry) (ent
           (sym same ∙ sym (take-append-drop (b.len + b.body_len) waits))
 
       module _ (t : model.Registry) (result : Result (Unit {0}) StreamFault) (ran : Ran g limits s entry (events_in limits h.done) (answers_in limits h.done) t now)
-          (replies : Replies g limits f (routing_of f (drop f.len message)) close t now new w2 w3 result) where
+          (tells : Trails k0 k1 (trail limits s (events_in limits h.done) (answers_in limits h.done)))
+          (replies : Replies g limits f (routing_of f (drop f.len message)) close t now new k1 k2 w2 w3 result) where
         abbrev this : Exchange
         this = record { message = message; facts = f; outcome = replies.outcome }
 
@@ -217,8 +221,8 @@ module _ {S : Type 0} (g : Ghosts S) (limits : Limits) (s : model.Registry) (ent
           outcome = replies.leads;
         }
 
-        run : HasRun g limits s entry new (h.done ++ this ∷ [])
-        run = run_on g limits s entry law h.done this now new t ran replies.moves
+        run : HasRun g limits s entry new (Trails k0 k2) (h.done ++ this ∷ [])
+        run = run_on g limits s entry law h.done this now new k0 k1 k2 t ran tells replies.moves
 
         sends_all : Appends w2 w3 (outcome_text limits f close replies.outcome) → Appends w0 w3 (h.written ++ told limits close this)
         sends_all sent =
@@ -226,7 +230,7 @@ module _ {S : Type 0} (g : Ghosts S) (limits : Limits) (s : model.Registry) (ent
             (Appends-trans w0 w2 w3 (h.written ++ interim_of f) (outcome_text limits f close replies.outcome) (appends bytes consumed (interim_of f) asked_on) sent)
 
         -- the connection goes on
-        answered : Appends w2 w3 (outcome_text limits f close replies.outcome) → close ≡ false → Holds g limits s entry r0 r2 w0 w3 later (count + 1) new
+        answered : Appends w2 w3 (outcome_text limits f close replies.outcome) → close ≡ false → Holds g limits s entry k0 k2 r0 r2 w0 w3 later (count + 1) new
         answered sent stays =
             let parts = or_parts f.close (count + 1 == limits.replies) (sym close_is ∙ stays) in record {
               read = h.read ++ bytes;
@@ -239,7 +243,7 @@ module _ {S : Type 0} (g : Ghosts S) (limits : Limits) (s : model.Registry) (ent
             }
 
         -- the connection is closed
-        closed : Appends w2 w3 (outcome_text limits f close replies.outcome) → close ≡ true → Serves g limits s entry new r0 r2 w0 w3 (Ok (count + 1))
+        closed : Appends w2 w3 (outcome_text limits f close replies.outcome) → close ≡ true → ServesTraced g limits s entry new k0 k2 r0 r2 w0 w3 (Ok (count + 1))
         closed sent ends = (
           h.read ++ bytes,
           h.written ++ told limits true this,
@@ -262,7 +266,7 @@ module _ {S : Type 0} (g : Ghosts S) (limits : Limits) (s : model.Registry) (ent
 
         -- the reply was cut off
         reply_cut : AppendsFront (outcome_text limits f close replies.outcome) w2 w3
-            → (read : Text) × (written : Text) × Consumes r0 r2 read × Appends w0 w3 written × IsStopped g limits s entry new read written
+            → (read : Text) × (written : Text) × Consumes r0 r2 read × Appends w0 w3 written × IsStopped g limits s entry new (Trails k0 k2) read written
         reply_cut cut_off =
             let front = interim_of f ++ cut_off.front in
             let whole : told limits close this ≡ front ++ cut_off.rest = ap (λ l. interim_of f ++ l) cut_off.whole ∙ sym (append_assoc (interim_of f) cut_off.front cut_off.rest) in (
@@ -285,7 +289,7 @@ module _ {S : Type 0} (g : Ghosts S) (limits : Limits) (s : model.Registry) (ent
             )
 
         -- the reply of an index file was broken off
-        reply_broken : IsOfFile replies.outcome → AppendsSome (outcome_text limits f close replies.outcome) w2 w3 → Serves g limits s entry new r0 r2 w0 w3 (Err StoreFault)
+        reply_broken : IsOfFile replies.outcome → AppendsSome (outcome_text limits f close replies.outcome) w2 w3 → ServesTraced g limits s entry new k0 k2 r0 r2 w0 w3 (Err StoreFault)
         reply_broken file begun = (
           h.read ++ bytes,
           h.written ++ (interim_of f ++ begun.front),
@@ -312,33 +316,33 @@ module _ {S : Type 0} (g : Ghosts S) (limits : Limits) (s : model.Registry) (ent
 
       -- what the registry replied, whatever it held
       abbrev IsReplying : Result (Unit {0}) StreamFault → Type 0
-      IsReplying result = (t : model.Registry) → Shows t (shown g now) → Replies g limits f (routing_of f (drop f.len message)) close t now new w2 w3 result
+      IsReplying result = (t : model.Registry) → Shows t (shown g now) → Replies g limits f (routing_of f (drop f.len message)) close t now new k1 k2 w2 w3 result
 
-      pub reply_sent : (u : Unit {0}) → IsReplying (Ok u) → close ≡ false → Holds g limits s entry r0 r2 w0 w3 later (count + 1) new
+      pub reply_sent : (u : Unit {0}) → IsReplying (Ok u) → close ≡ false → Holds g limits s entry k0 k2 r0 r2 w0 w3 later (count + 1) new
       reply_sent u all stays =
-          let (t, ran) = h.run in let it = all t ran.shows in answered t (Ok u) ran it it.sends stays
+          let (t, ran, tells) = h.run in let it = all t ran.shows in answered t (Ok u) ran tells it it.sends stays
 
-      pub last_sent : (u : Unit {0}) → IsReplying (Ok u) → close ≡ true → Serves g limits s entry new r0 r2 w0 w3 (Ok (count + 1))
+      pub last_sent : (u : Unit {0}) → IsReplying (Ok u) → close ≡ true → ServesTraced g limits s entry new k0 k2 r0 r2 w0 w3 (Ok (count + 1))
       last_sent u all ends =
-          let (t, ran) = h.run in let it = all t ran.shows in closed t (Ok u) ran it it.sends ends
+          let (t, ran, tells) = h.run in let it = all t ran.shows in closed t (Ok u) ran tells it it.sends ends
 
-      pub reply_failed : (fault : StreamFault) → IsReplying (Err fault) → Serves g limits s entry new r0 r2 w0 w3 (Err fault)
-      reply_failed WriteFault all = let (t, ran) = h.run in let it = all t ran.shows in reply_cut t (Err WriteFault) ran it it.sends
-      reply_failed StoreFault all = let (t, ran) = h.run in let it = all t ran.shows in reply_broken t (Err StoreFault) ran it it.sends.0 it.sends.1
+      pub reply_failed : (fault : StreamFault) → IsReplying (Err fault) → ServesTraced g limits s entry new k0 k2 r0 r2 w0 w3 (Err fault)
+      reply_failed WriteFault all = let (t, ran, tells) = h.run in let it = all t ran.shows in reply_cut t (Err WriteFault) ran tells it it.sends
+      reply_failed StoreFault all = let (t, ran, tells) = h.run in let it = all t ran.shows in reply_broken t (Err StoreFault) ran tells it it.sends.0 it.sends.1
       reply_failed TooManyTurns all =
-          let (t, ran) = h.run in
+          let (t, ran, tells) = h.run in
           let it = all t ran.shows in
-          let (read, written, c, a, stopped) = reply_cut t (Err TooManyTurns) ran it it.sends in
+          let (read, written, c, a, stopped) = reply_cut t (Err TooManyTurns) ran tells it it.sends in
           (read, written, c, a, inr stopped)
-      reply_failed ReadFault all = let (t, ran) = h.run in let it = all t ran.shows in absurd it.sends
-      reply_failed Memory all = let (t, ran) = h.run in let it = all t ran.shows in absurd it.sends
+      reply_failed ReadFault all = let (t, ran, tells) = h.run in let it = all t ran.shows in absurd it.sends
+      reply_failed Memory all = let (t, ran, tells) = h.run in let it = all t ran.shows in absurd it.sends
 
     -- the same as the taking and the answering tell it
     module _ (alone : HeadsStandAlone) (stay : HeadsStay) (law : EventsGoOn g) (waits : Text) (b : OwnedHead) (takes : Takes r1 r2 rest waits w1 w2 limits (Ok (taken.Whole b))) (close : Bool)
-        (close_is : close ≡ (b.close || count + 1 == limits.replies)) (new : Tables S) (w3 : Option Text) where
+        (close_is : close ≡ (b.close || count + 1 == limits.replies)) (new : Tables S) (k2 : Tail) (w3 : Option Text) where
       abbrev Replied : Result (Unit {0}) StreamFault → Type 0
       Replied result = (t : model.Registry) → Shows t (shown g now)
-          → Replies g limits (facts_owned b) (routing_of (facts_owned b) (drop b.len (take (b.len + b.body_len) waits))) close t now new w2 w3 result
+          → Replies g limits (facts_owned b) (routing_of (facts_owned b) (drop b.len (take (b.len + b.body_len) waits))) close t now new k1 k2 w2 w3 result
 
       there_is : IsHeadAt limits waits (facts_owned b)
       there_is = subst (λ l. IsHeadAt limits l (facts_owned b)) (sym takes.2.0) takes.2.1
@@ -346,14 +350,14 @@ module _ {S : Type 0} (g : Ghosts S) (limits : Limits) (s : model.Registry) (ent
       fits : b.len + b.body_len ≤ length waits
       fits = omega (arith, takes.2.2, ap (λ l. length l) takes.2.0)
 
-      pub whole_sent : (u : Unit {0}) → Replied (Ok u) → close ≡ false → Holds g limits s entry r0 r2 w0 w3 (drop (b.len + b.body_len) waits) (count + 1) new
-      whole_sent u all = reply_sent alone stay law waits b there_is fits takes.0 takes.1 takes.2.0 takes.2.3 close close_is new w3 u all
+      pub whole_sent : (u : Unit {0}) → Replied (Ok u) → close ≡ false → Holds g limits s entry k0 k2 r0 r2 w0 w3 (drop (b.len + b.body_len) waits) (count + 1) new
+      whole_sent u all = reply_sent alone stay law waits b there_is fits takes.0 takes.1 takes.2.0 takes.2.3 close close_is new k2 w3 u all
 
-      pub whole_last : (u : Unit {0}) → Replied (Ok u) → close ≡ true → Serves g limits s entry new r0 r2 w0 w3 (Ok (count + 1))
-      whole_last u all = last_sent alone stay law waits b there_is fits takes.0 takes.1 takes.2.0 takes.2.3 close close_is new w3 u all
+      pub whole_last : (u : Unit {0}) → Replied (Ok u) → close ≡ true → ServesTraced g limits s entry new k0 k2 r0 r2 w0 w3 (Ok (count + 1))
+      whole_last u all = last_sent alone stay law waits b there_is fits takes.0 takes.1 takes.2.0 takes.2.3 close close_is new k2 w3 u all
 
-      pub whole_failed : (fault : StreamFault) → Replied (Err fault) → Serves g limits s entry new r0 r2 w0 w3 (Err fault)
-      whole_failed fault all = reply_failed alone stay law waits b there_is fits takes.0 takes.1 takes.2.0 takes.2.3 close close_is new w3 fault all
+      pub whole_failed : (fault : StreamFault) → Replied (Err fault) → ServesTraced g limits s entry new k0 k2 r0 r2 w0 w3 (Err fault)
+      whole_failed fault all = reply_failed alone stay law waits b there_is fits takes.0 takes.1 takes.2.0 takes.2.3 close close_is new k2 w3 fault all
 
 -- turns that writes took, beside a reader that stays
 module _ {R W : Type 0} (r : CountedEnd R) (w0 w1 : CountedEnd W) (had left : ℕ) where

@@ -10,6 +10,7 @@ use Rattle.reg_model.specs.declared.rule.Rule.TheVariants as rule
 use Rattle.reg_model.specs.Registry as model
 use Rattle.reg_model.specs.Steps.{IsFit}
 use Rattle.reg_model.specs.Registry.{Text}
+use Rattle.reg_model.specs.Trail.{told}
 use Rattle.reg_http_read.specs.Turns.{Sends}
 use Rattle.reg_http_read.specs.declared.fault.StreamFault.{StreamFault}
 use Rattle.reg_http_read.specs.declared.fault.StreamFault.TheVariants.{StoreFault}
@@ -24,18 +25,21 @@ use Rattle.reg_tables.specs.declared.tables.Tables.{Tables}
 use Rattle.reg_tables.specs.Works.{shown}
 use Rattle.reg_http.specs.Exchanges.{IsOfFile, IsOutcome, Outcome, outcome_text}
 use Rattle.reg_http.specs.Exchanges.Outcome.{Answered}
+use Rattle.reg_http.specs.Trails.{Tail, Trails}
 use Rattle.reg_http_routes.specs.Routing.{Routing}
 use Rattle.reg_http_routes.specs.Routing.Routing.{Wants as to_wants}
 use Rattle.reg_http_routes.specs.declared.fault.RouteFault.{RouteFault}
 use Rattle.reg_http_routes.specs.declared.fault.RouteFault.TheVariants.{Memory, Method, NoRoute}
 use Rattle.reg_api_replies.specs.Texts.{refusal_text}
 
--- the tables move with the outcome: an event that is fit is answered by them, and else they stay
+-- the tables and the trail move with the outcome: an event that is fit is answered by them, and
+-- told, and else they stay
 abbrev pub Moves : {S : Type 0} → Ghosts S → Limits → model.Registry → Facts → Outcome → Tables S
-    → Tables S → Type 0
-Moves g limits s f (Answered w a) old new =
-    let e = event_of (request_from limits f.token w) in IsFit e × Answers g limits s e a old new
-Moves g limits s f o old new = new ≡ old
+    → Tables S → Tail → Tail → Type 0
+Moves g limits s f (Answered w a) old new k0 k1 =
+    let e = event_of (request_from limits f.token w) in
+    IsFit e × Answers g limits s e a old new × Trails k0 k1 (told limits s e a)
+Moves g limits s f o old new k0 k1 = (new ≡ old) × (k1 ≡ k0)
 
 -- a front of the text was appended, and it is not empty
 pub record AppendsSome (text : Text) (old new : Option Text) : Type 0 where
@@ -54,26 +58,26 @@ Streams o text w0 w1 r = Sends text w0 w1 r
 
 -- The request is answered by one of its outcomes, whose reply was sent, or a front of it.
 pub record Replies {S : Type 0} (g : Ghosts S) (limits : Limits) (f : Facts) (there : Routing)
-    (close : Bool) (s : model.Registry) (old new : Tables S) (w0 w1 : Option Text)
-    (r : Result (Unit {0}) StreamFault) : Type 0 where
+    (close : Bool) (s : model.Registry) (old new : Tables S) (k0 k1 : Tail)
+    (w0 w1 : Option Text) (r : Result (Unit {0}) StreamFault) : Type 0 where
   pub outcome : Outcome
   pub leads : IsOutcome there outcome
-  pub moves : Moves g limits s f outcome old new
+  pub moves : Moves g limits s f outcome old new k0 k1
   pub sends : Streams outcome (outcome_text limits f close outcome) w0 w1 r
 
 -- it is so whatever registry the tables held
 abbrev pub IsReplied : {S : Type 0} → Ghosts S → Limits → Facts → Routing → Bool → Tables S
-    → Tables S → Option Text → Option Text → Result (Unit {0}) StreamFault → Type 0
-IsReplied g limits f there close old new w0 w1 r =
+    → Tables S → Tail → Tail → Option Text → Option Text → Result (Unit {0}) StreamFault → Type 0
+IsReplied g limits f there close old new k0 k1 w0 w1 r =
     HasCleanDisk (shown g new) → (s : model.Registry) → Shows s (shown g old)
-    → Replies g limits f there close s old new w0 w1 r
+    → Replies g limits f there close s old new k0 k1 w0 w1 r
 
 -- what is wanted of a request is replied so, whatever else its head tells
 abbrev pub IsRequestReplied : {S : Type 0} → Ghosts S → Limits → ApiRequest → Bool → Tables S
-    → Tables S → Option Text → Option Text → Result (Unit {0}) StreamFault → Type 0
-IsRequestReplied g limits request close old new w0 w1 r =
+    → Tables S → Tail → Tail → Option Text → Option Text → Result (Unit {0}) StreamFault → Type 0
+IsRequestReplied g limits request close old new k0 k1 w0 w1 r =
     (f : Facts) → f.token ≡ option_map (λ t. t.now) request.token
-    → IsReplied g limits f (to_wants (wants_of request.call)) close old new w0 w1 r
+    → IsReplied g limits f (to_wants (wants_of request.call)) close old new k0 k1 w0 w1 r
 
 -- the registry goes on: its tables are ours, and its limits the same
 pub record GoesOn {S : Type 0} (g : Ghosts S) (old new : Registry S) : Type 0 where

@@ -1,3 +1,4 @@
 pub mod Answering
 pub mod Exchanges
 pub mod Streams
+pub mod Trails

@@ -8,11 +8,13 @@ use Rattle.reg_http_read.specs.Heads.{Facts, IsHeadAt}
 use Rattle.reg_model.specs.declared.rule.Rule.{Rule}
 use Rattle.reg_model.specs.Registry as model
 use Rattle.reg_model.specs.Registry.{Text}
+use Rattle.reg_model.specs.Trail.{trail}
 use Rattle.reg_api_replies.specs.Texts.{refusal_text}
 use Rattle.reg_service.specs.Sequences.{Ran}
 use Rattle.reg_tables.specs.declared.tables.Tables.{Tables}
 use Rattle.reg_http_read.specs.Begun.{IsBegun, IsRefused, interim_of}
 use Rattle.reg_http.specs.Exchanges.{Exchange, IsExchange, IsOfFile, answers_in, closes, events_in, reply_of}
+use Rattle.reg_http.specs.Trails.{Tail, Trails}
 use Rattle.reg_http_read.specs.declared.fault.StreamFault.{StreamFault}
 use Rattle.reg_http_read.specs.declared.fault.StreamFault.TheVariants.{Memory, ReadFault, StoreFault, TooManyTurns, WriteFault}
 
@@ -46,11 +48,13 @@ abbrev pub closing_text : Rule → Bool → Text
 closing_text r head_only = refusal_text r None true head_only
 
 module _ {S : Type 0} (g : Ghosts S) (limits : Limits) (s : model.Registry)
-    (entry now : Tables S) where
-  -- the events of the exchanges are a run of the registry, which holds its end
+    (entry now : Tables S) (Leaves : Text → Type 0) where
+  -- the events of the exchanges are a run of the registry, which holds its end, and it leaves such
+  -- a trail
   abbrev pub HasRun : List Exchange → Type 0
   HasRun xs = (t : model.Registry)
       × Ran g limits s entry (events_in limits xs) (answers_in limits xs) t now
+      × Leaves (trail limits s (events_in limits xs) (answers_in limits xs))
 
   -- all requests that were read are replied to, but for one that has only begun
   pub record IsEnded (read written : Text) (count : ℕ) : Type 0 where
@@ -151,8 +155,19 @@ module _ {S : Type 0} (g : Ghosts S) (limits : Limits) (s : model.Registry)
   IsServed read written at_end (Err Memory) = IsUntouched read written
 
   -- the same between two states of a reader and of a writer, however the reads cut the bytes
-  abbrev pub Serves : Option Text → Option Text → Option Text → Option Text
+  abbrev pub ServesLeaving : Option Text → Option Text → Option Text → Option Text
       → Result ℕ StreamFault → Type 0
-  Serves r0 r1 w0 w1 result =
+  ServesLeaving r0 r1 w0 w1 result =
       (read : Text) × (written : Text) × Consumes r0 r1 read × Appends w0 w1 written
       × IsServed read written (IsAtEnd r1) result
+
+-- where no trail is told
+abbrev pub Serves : {S : Type 0} → Ghosts S → Limits → model.Registry → Tables S → Tables S
+    → Option Text → Option Text → Option Text → Option Text → Result ℕ StreamFault → Type 0
+Serves g limits s entry now = ServesLeaving g limits s entry now (λ _. Unit {0})
+
+-- where the trail is told
+abbrev pub ServesTraced : {S : Type 0} → Ghosts S → Limits → model.Registry → Tables S → Tables S
+    → Tail → Tail → Option Text → Option Text → Option Text → Option Text
+    → Result ℕ StreamFault → Type 0
+ServesTraced g limits s entry now k0 k1 = ServesLeaving g limits s entry now (Trails k0 k1)

@@ -9,7 +9,9 @@ ghost use Rattle.reg_service.specs.Answered.{AreUpToDate};
 ghost use Rattle.reg_service.specs.Registries.{limits_of, tables_of};
 ghost use Rattle.reg_service.specs.Streamed.{AsksForFile};
 ghost use Rattle.reg_http.specs.Answering.{GoesOn, IsReplied, IsRequestReplied, fault_text};
+ghost use Rattle.reg_http.specs.Trails.{IsTrailed, Tail, tail};
 
+use crate::trail::Trail;
 use reg_api_replies::laws::answer_law;
 use reg_api_replies::{Methods, Reply};
 use reg_api_requests::{ApiCall, ApiRequest};
@@ -17,7 +19,7 @@ use reg_body::Counted;
 use reg_http_read::{Head, StreamFault, send_reply};
 use reg_http_routes::{RouteFault, Routes};
 use reg_policy::Rule;
-use reg_service::Registry;
+use reg_service::{Acted, Registry};
 use reg_service_index::IndexFault;
 use sqlite::Alter;
 use std::alloc::Global;
@@ -93,8 +95,8 @@ fn send_index<W: Write, S: Alter>(
     requires tables { AreUpToDate S.Store (tables_of registry.old) }
     requires room { w.old.calls + left.old < 2 ^ 64 }
     requires file { AsksForFile request.now.call }
-    ensures replied { IsRequestReplied S.Store (limits_of registry.old) request.now close
-        (tables_of registry.old) (tables_of registry.new)
+    ensures replied { (k : Tail) → IsRequestReplied S.Store (limits_of registry.old) request.now
+        close (tables_of registry.old) (tables_of registry.new) k k
         (W.contents w.old.inner) (W.contents w.new.inner) result }
     ensures spends { SpendsTurns left.old left.new (writes_of w.old) (writes_of w.new) result }
     ensures fewer { OnOk result (left.new < left.old) }
@@ -111,10 +113,11 @@ fn send_index<W: Write, S: Alter>(
     }
 }
 
-/// Sends the registry's answer to a request for anything but an index file.
-fn send_answer<W: Write, S: Alter>(
+/// Tells what a request for anything but an index file changed, and sends the registry's answer.
+fn send_answer<W: Write, T: Write, S: Alter>(
     alloc: Global,
     registry: &mut Registry<S>,
+    trail: &mut Trail<T>,
     w: &mut Counted<W>,
     request: &ApiRequest<'_>,
     close: bool,
@@ -124,20 +127,26 @@ fn send_answer<W: Write, S: Alter>(
     requires room { w.old.calls + left.old < 2 ^ 64 }
     ensures replied { IsRequestReplied S.Store (limits_of registry.old) request.now close
         (tables_of registry.old) (tables_of registry.new)
+        (tail (T.contents trail.old.end.inner) trail.old)
+        (tail (T.contents trail.new.end.inner) trail.new)
         (W.contents w.old.inner) (W.contents w.new.inner) result }
     ensures spends { SpendsTurns left.old left.new (writes_of w.old) (writes_of w.new) result }
     ensures fewer { OnOk result (left.new < left.old) }
+    ensures told { IsTrailed (tail (T.contents trail.old.end.inner) trail.old)
+        (tail (T.contents trail.new.end.inner) trail.new) }
     ensures keeps { GoesOn S.Store registry.old registry.new }
 {
     answer_law();
-    let reply = registry.handle(alloc, request);
+    let Acted { reply, line } = registry.act(alloc, request, trail.is_open());
+    trail.tell(line);
     send_reply(w, &reply, close, false, left)
 }
 
 /// Answers a routed request.
-fn answer<W: Write, S: Alter>(
+fn answer<W: Write, T: Write, S: Alter>(
     alloc: Global,
     registry: &mut Registry<S>,
+    trail: &mut Trail<T>,
     w: &mut Counted<W>,
     request: &ApiRequest<'_>,
     close: bool,
@@ -147,14 +156,18 @@ fn answer<W: Write, S: Alter>(
     requires room { w.old.calls + left.old < 2 ^ 64 }
     ensures replied { IsRequestReplied S.Store (limits_of registry.old) request.now close
         (tables_of registry.old) (tables_of registry.new)
+        (tail (T.contents trail.old.end.inner) trail.old)
+        (tail (T.contents trail.new.end.inner) trail.new)
         (W.contents w.old.inner) (W.contents w.new.inner) result }
     ensures spends { SpendsTurns left.old left.new (writes_of w.old) (writes_of w.new) result }
     ensures fewer { OnOk result (left.new < left.old) }
+    ensures told { IsTrailed (tail (T.contents trail.old.end.inner) trail.old)
+        (tail (T.contents trail.new.end.inner) trail.new) }
     ensures keeps { GoesOn S.Store registry.old registry.new }
 {
     match &request.call {
         ApiCall::Index(_) => send_index(alloc, registry, w, request, close, left),
-        _ => send_answer(alloc, registry, w, request, close, left),
+        _ => send_answer(alloc, registry, trail, w, request, close, left),
     }
 }
 
@@ -180,9 +193,10 @@ fn refuse_route<W: Write>(
 }
 
 /// Routes a request and answers it.
-pub(crate) fn answer_message<W: Write, S: Alter>(
+pub(crate) fn answer_message<W: Write, T: Write, S: Alter>(
     alloc: Global,
     registry: &mut Registry<S>,
+    trail: &mut Trail<T>,
     routes: &Routes,
     w: &mut Counted<W>,
     message: &Message<'_, '_>,
@@ -193,13 +207,17 @@ pub(crate) fn answer_message<W: Write, S: Alter>(
     ensures replied { let f = facts_of message.now.head in IsReplied S.Store
         (limits_of registry.old) f (routing_of f message.now.body.now) message.now.close
         (tables_of registry.old) (tables_of registry.new)
+        (tail (T.contents trail.old.end.inner) trail.old)
+        (tail (T.contents trail.new.end.inner) trail.new)
         (W.contents w.old.inner) (W.contents w.new.inner) result }
     ensures spends { SpendsTurns left.old left.new (writes_of w.old) (writes_of w.new) result }
     ensures fewer { OnOk result (left.new < left.old) }
+    ensures told { IsTrailed (tail (T.contents trail.old.end.inner) trail.old)
+        (tail (T.contents trail.new.end.inner) trail.new) }
     ensures keeps { GoesOn S.Store registry.old registry.new }
 {
     match routes.route(alloc, &message.head, message.body) {
-        Ok(request) => answer(alloc, registry, w, &request, message.close, left),
+        Ok(request) => answer(alloc, registry, trail, w, &request, message.close, left),
         Err(fault) => {
             let head_only = message.head.is_head_only();
             refuse_route(w, fault, message.close, head_only, left)

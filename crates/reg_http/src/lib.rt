@@ -7,13 +7,22 @@
 //! let mut server = Server::new(alloc)?;
 //! let replies = server.serve(alloc, &mut registry, &mut reader, &mut writer)?;
 //! ```
+//!
+//! With a trail, each change has a line, which is written before its reply.
+//!
+//! ```
+//! let mut trail = Trail::new(log, 1_000_000);
+//! let replies = server.serve_traced(alloc, &mut registry, &mut reader, &mut writer, &mut trail)?;
+//! ```
 #![tactic(auto)]
 
 mod answering;
 mod server;
 mod stream;
+mod trail;
 
 pub use reg_api_replies::{SendFault, write_reply};
 pub use reg_http_read::{Head, HeadRead, StreamFault, read_head};
 pub use reg_http_routes::{RouteFault, Routes};
-pub use server::{Server, serve_stream};
+pub use server::{Server, serve_stream, serve_traced};
+pub use trail::Trail;

@@ -7,9 +7,11 @@ ghost use Rattle.reg_service.specs.Answered.{AreUpToDate, Shows};
 ghost use Rattle.reg_service.specs.Registries.{limits_of, tables_of};
 ghost use Rattle.reg_tables.specs.Works.{shown};
 ghost use Rattle.reg_http.specs.Answering.{GoesOn};
-ghost use Rattle.reg_http.specs.Streams.{Serves};
+ghost use Rattle.reg_http.specs.Streams.{Serves, ServesTraced};
+ghost use Rattle.reg_http.specs.Trails.{IsTrailed, tail};
 
 use crate::stream::serve_requests;
+use crate::trail::Trail;
 use reg_body::Counted;
 use reg_http_read::StreamFault;
 use reg_http_routes::Routes;
@@ -17,7 +19,7 @@ use reg_service::Registry;
 use reg_service::laws::history_law;
 use sqlite::Alter;
 use std::alloc::{AllocError, Global};
-use std::io::{Read, Write};
+use std::io::{self, Read, Write};
 
 /// How many bytes one read asks for.
 const CHUNK: usize = 65_536;
@@ -67,10 +69,49 @@ impl Server {
 
         ensures keeps { GoesOn S.Store registry.old registry.new }
     {
+        let mut silent = Trail::new(io::sink(), 0);
+        self.serve_traced(alloc, registry, r, w, &mut silent)
+    }
+
+    /// Does as `serve`, and writes a line for each change: after its commit, and before its reply.
+    /// If the trail fails or its calls are used up, no reply is changed by it.
+    pub fn serve_traced<R: Read, W: Write, T: Write, S: Alter>(
+        &mut self,
+        alloc: Global,
+        registry: &mut Registry<S>,
+        r: &mut Counted<R>,
+        w: &mut Counted<W>,
+        trail: &mut Trail<T>,
+    ) -> Result<u64, StreamFault>
+        requires tables { AreUpToDate S.Store (tables_of registry.old) }
+        requires reads { r.old.calls + (limits_of registry.old).turns < 2 ^ 64 }
+        requires writes { w.old.calls + (limits_of registry.old).turns < 2 ^ 64 }
+
+        // What was written is what a run of the registry replies to what was read, and its trail.
+        ensures serves { HasCleanDisk (shown S.Store (tables_of registry.new)) → (s : _)
+            → Shows s (shown S.Store (tables_of registry.old))
+            → ServesTraced S.Store (limits_of registry.old) s
+            (tables_of registry.old) (tables_of registry.new)
+            (tail (T.contents trail.old.end.inner) trail.old)
+            (tail (T.contents trail.new.end.inner) trail.new)
+            (R.remaining r.old.inner) (R.remaining r.new.inner)
+            (W.contents w.old.inner) (W.contents w.new.inner) result }
+
+        // Each call was a turn, and a fault has its cause, which is not `Memory`.
+        ensures spends { (left : ℕ) × SpendsTurns (limits_of registry.old).turns left
+            (tally r.old w.old) (tally r.new w.new) result }
+
+        // Whatever is wrong with the store, the trail got a text in no more calls than it had left.
+        ensures told { IsTrailed (tail (T.contents trail.old.end.inner) trail.old)
+            (tail (T.contents trail.new.end.inner) trail.new) }
+
+        ensures keeps { GoesOn S.Store registry.old registry.new }
+    {
         let mut pending = Vec::new(alloc);
         serve_requests(
             alloc,
             registry,
+            trail,
             &self.routes,
             r,
             w,
@@ -105,9 +146,45 @@ pub fn serve_stream<R: Read, W: Write, S: Alter>(
 
     ensures keeps { GoesOn S.Store registry.old registry.new }
 {
+    let mut silent = Trail::new(io::sink(), 0);
+    serve_traced(alloc, registry, r, w, &mut silent)
+}
+
+/// Serves one stream, as `Server::serve_traced` does, with a `Server` of its own.
+pub fn serve_traced<R: Read, W: Write, T: Write, S: Alter>(
+    alloc: Global,
+    registry: &mut Registry<S>,
+    r: &mut Counted<R>,
+    w: &mut Counted<W>,
+    trail: &mut Trail<T>,
+) -> Result<u64, StreamFault>
+    requires tables { AreUpToDate S.Store (tables_of registry.old) }
+    requires reads { r.old.calls + (limits_of registry.old).turns < 2 ^ 64 }
+    requires writes { w.old.calls + (limits_of registry.old).turns < 2 ^ 64 }
+
+    // What was written is what a run of the registry replies to what was read, and its trail.
+    ensures serves { HasCleanDisk (shown S.Store (tables_of registry.new)) → (s : _)
+        → Shows s (shown S.Store (tables_of registry.old))
+        → ServesTraced S.Store (limits_of registry.old) s
+        (tables_of registry.old) (tables_of registry.new)
+        (tail (T.contents trail.old.end.inner) trail.old)
+        (tail (T.contents trail.new.end.inner) trail.new)
+        (R.remaining r.old.inner) (R.remaining r.new.inner)
+        (W.contents w.old.inner) (W.contents w.new.inner) result }
+
+    // Each call was a turn, and a fault has its cause: `Memory` came before the first call.
+    ensures spends { (left : ℕ) × Spends (limits_of registry.old).turns left
+        (tally r.old w.old) (tally r.new w.new) result }
+
+    // Whatever is wrong with the store, the trail got a text in no more calls than it had left.
+    ensures told { IsTrailed (tail (T.contents trail.old.end.inner) trail.old)
+        (tail (T.contents trail.new.end.inner) trail.new) }
+
+    ensures keeps { GoesOn S.Store registry.old registry.new }
+{
     history_law::<S>();
     let Ok(mut server) = Server::new(alloc) else {
         return Err(StreamFault::Memory);
     };
-    server.serve(alloc, registry, r, w)
+    server.serve_traced(alloc, registry, r, w, trail)
 }

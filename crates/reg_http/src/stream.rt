@@ -9,13 +9,16 @@ ghost use Rattle.reg_service.specs.Answered.{AreUpToDate, Shows};
 ghost use Rattle.reg_service.specs.Registries.{limits_of, tables_of};
 ghost use Rattle.reg_tables.specs.Works.{shown};
 ghost use Rattle.reg_http.specs.Answering.{GoesOn};
-ghost use Rattle.reg_http.specs.Streams.{Serves};
+ghost use Rattle.reg_http.specs.Streams.{ServesTraced};
+ghost use Rattle.reg_http.specs.Trails.{IsTrailed, tail};
 
 use crate::answering::{Message, answer_message, deny};
+use crate::trail::Trail;
 use reg_body::{Counted, Limits};
 use reg_http_read::laws::{append_law, bounds_law};
 use reg_http_read::{OwnedHead, StreamFault, Taken, drop_front, take_request};
 use reg_http_routes::Routes;
+use reg_model::laws::telling_law;
 use reg_service::Registry;
 use reg_service::laws::history_law;
 use sqlite::Alter;
@@ -46,10 +49,11 @@ fn message_of<'h, 'b>(head: &'h OwnedHead, pending: &'b [u8], close: bool) -> Me
     }
 }
 
-/// Answers the requests of a stream, one after another.
-pub(crate) fn serve_requests<R: Read, W: Write, S: Alter>(
+/// Answers the requests of a stream, one after another. What each changes is told before its reply.
+pub(crate) fn serve_requests<R: Read, W: Write, T: Write, S: Alter>(
     alloc: Global,
     registry: &mut Registry<S>,
+    trail: &mut Trail<T>,
     routes: &Routes,
     r: &mut Counted<R>,
     w: &mut Counted<W>,
@@ -63,18 +67,23 @@ pub(crate) fn serve_requests<R: Read, W: Write, S: Alter>(
     requires nothing { pending.old.items ≡ [] }
     ensures serves { HasCleanDisk (shown S.Store (tables_of registry.new)) → (s : _)
         → Shows s (shown S.Store (tables_of registry.old))
-        → Serves S.Store (limits_of registry.old) s
+        → ServesTraced S.Store (limits_of registry.old) s
         (tables_of registry.old) (tables_of registry.new)
+        (tail (T.contents trail.old.end.inner) trail.old)
+        (tail (T.contents trail.new.end.inner) trail.new)
         (R.remaining r.old.inner) (R.remaining r.new.inner)
         (W.contents w.old.inner) (W.contents w.new.inner) result }
     ensures spends { (left : ℕ) × SpendsTurns (limits_of registry.old).turns left
         (tally r.old w.old) (tally r.new w.new) result }
+    ensures told { IsTrailed (tail (T.contents trail.old.end.inner) trail.old)
+        (tail (T.contents trail.new.end.inner) trail.new) }
     ensures chunk { length chunk.new ≡ length chunk.old }
     ensures keeps { GoesOn S.Store registry.old registry.new }
 {
     append_law();
     bounds_law();
     history_law::<S>();
+    telling_law();
     let limits = *registry.limits();
     let mut left = limits.turns;
     let mut replies = 0;
@@ -90,7 +99,7 @@ pub(crate) fn serve_requests<R: Read, W: Write, S: Alter>(
         let close = closes(&limits, head.close, replies);
         let total = head.len + head.body_len as usize;
         let message = message_of(&head, pending, close);
-        answer_message(alloc, registry, routes, w, &message, &mut left)?;
+        answer_message(alloc, registry, trail, routes, w, &message, &mut left)?;
         replies += 1;
         if close {
             return Ok(replies);

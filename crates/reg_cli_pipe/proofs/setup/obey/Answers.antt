@@ -1,8 +1,16 @@
+use Rattle.std.proofs.Common.{subst}
 use Rattle.reg_policy.specs.Events.{command_of}
+use Rattle.reg_service.specs.Acted.{IsOrdered}
 use Rattle.reg_service.specs.Registries.{limits_of, tables_of}
+use Rattle.reg_http.specs.Trails.{tail}
 use Rattle.reg_cli_pipe.proofs.Orders.{obeys}
 use Rattle.reg_cli_pipe.proofs.setup.obey.Goals as goal
 
 pub returns-clause-obeyed : goal.returns-clause-obeyed
 returns-clause-obeyed g c =
-    obeys g.S.Store (limits_of c.args.registry.now) (command_of c.args.command.now) (tables_of c.args.registry.now) (tables_of c.command.new.self) c.command.result c.setup_result.result c.requires.fit c.command.ensures.answers c.setup_result.ensures
+    let limits = limits_of c.args.registry.now in
+    let command = command_of c.args.command.now in
+    let old = tables_of c.args.registry.now in
+    let new = tables_of c.order.new.self in
+    obeys g.S.Store limits command old new (tail (g.T.Write.contents c.args.trail.now.end.inner) c.args.trail.now) (tail (g.T.Write.contents c.tell.new.self.end.inner) c.tell.new.self) c.order.result c.setup_result.result c.requires.fit
+    (subst (λ b. IsOrdered g.S.Store limits b command c.order.result old new) c.is_open.ensures c.order.ensures.answers) c.tell.ensures.tells c.setup_result.ensures

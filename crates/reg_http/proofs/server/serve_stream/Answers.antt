@@ -1,19 +1,10 @@
-use Rattle.std.proofs.Common.{refl}
-use Rattle.reg_http_read.proofs.Adding.{spends_whole}
-use Rattle.reg_http_read.specs.Turns.{tally}
 use Rattle.reg_service.specs.Registries.{limits_of, tables_of}
-use Rattle.reg_http.proofs.Steps.{untouched}
+use Rattle.reg_http.specs.Trails.{Trails}
+use Rattle.reg_http.proofs.Leaving.{leaving}
 use Rattle.reg_http.proofs.server.serve_stream.Goals as goal
 
-pub returns-in_default-clause-serves : goal.returns-in_default-clause-serves
-returns-in_default-clause-serves g c clean s shows =
-    untouched g.S.Store (limits_of c.args.registry.now) s (tables_of c.args.registry.now) (g.R.Read.remaining c.args.r.now.inner) (g.W.Write.contents c.args.w.now.inner) (tables_of c.args.registry.now)
-    (c.history_law.ensures.begins (limits_of c.args.registry.now) s (tables_of c.args.registry.now) shows)
-
-pub returns-in_default-clause-spends : goal.returns-in_default-clause-spends
-returns-in_default-clause-spends g c = ((limits_of c.args.registry.now).turns, refl)
-
-pub returns-clause-spends : goal.returns-clause-spends
-returns-clause-spends g c =
-    let (left, spends) = c.serve.ensures.spends in
-    (left, spends_whole (limits_of c.args.registry.now).turns left (tally c.args.r.now c.args.w.now) (tally c.serve.new.r c.serve.new.w) c.serve.result spends)
+pub returns-clause-serves : goal.returns-clause-serves
+returns-clause-serves g c clean s shows =
+    leaving g.S.Store (limits_of c.args.registry.now) s (tables_of c.args.registry.now) (tables_of c.serve_traced.new.registry) (Trails _ _) (λ text. Unit {0}) (λ text it. tt)
+    (g.R.Read.remaining c.args.r.now.inner) (g.R.Read.remaining c.serve_traced.new.r.inner) (g.W.Write.contents c.args.w.now.inner) (g.W.Write.contents c.serve_traced.new.w.inner) c.serve_traced.result
+    (c.serve_traced.ensures.serves clean s shows)

@@ -5,6 +5,7 @@ use Rattle.reg_http_read.specs.Turns.{SpendsSome, tally}
 use Rattle.reg_service.specs.Answered.{AreUpToDate, Shows}
 use Rattle.reg_service.specs.Registries.{limits_of, tables_of}
 use Rattle.reg_tables.specs.Works.{shown}
+use Rattle.reg_http.specs.Trails.{IsTrailed, tail}
 use Rattle.reg_http.proofs.Steps.{Holds}
 use Rattle.reg_http.proofs.stream.serve_requests.Given as goal
 
@@ -15,9 +16,10 @@ invariant-requests g l = record {
   limits : limits_of l.registry ≡ limits_of l.fn.registry;
   clean : HasCleanDisk (shown g.S.Store (tables_of l.registry)) → HasCleanDisk (shown g.S.Store (tables_of l.fn.registry));
   held : HasCleanDisk (shown g.S.Store (tables_of l.registry)) → (s : model.Registry) → Shows s (shown g.S.Store (tables_of l.fn.registry))
-      → Holds g.S.Store (limits_of l.fn.registry) s (tables_of l.fn.registry) (g.R.Read.remaining l.fn.r.inner) (g.R.Read.remaining l.r.inner) (g.W.Write.contents l.fn.w.inner) (g.W.Write.contents l.w.inner)
+      → Holds g.S.Store (limits_of l.fn.registry) s (tables_of l.fn.registry) (tail (g.T.Write.contents l.fn.trail.end.inner) l.fn.trail) (tail (g.T.Write.contents l.trail.end.inner) l.trail) (g.R.Read.remaining l.fn.r.inner) (g.R.Read.remaining l.r.inner) (g.W.Write.contents l.fn.w.inner) (g.W.Write.contents l.w.inner)
       l.pending.items l.replies (tables_of l.registry);
   spends : SpendsSome (limits_of l.fn.registry).turns l.left (tally l.fn.r l.fn.w) (tally l.r l.w);
+  told : IsTrailed (tail (g.T.Write.contents l.fn.trail.end.inner) l.fn.trail) (tail (g.T.Write.contents l.trail.end.inner) l.trail);
   chunk : 0 < length l.chunk;
   replies : l.replies + l.left ≤ (limits_of l.fn.registry).turns;
 }

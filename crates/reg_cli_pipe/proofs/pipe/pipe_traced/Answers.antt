@@ -1,0 +1,46 @@
+use Rattle.std.proofs.Common.{◌++◌, [], inl, inr, length, map, refl, subst}
+use Rattle.reg_model.specs.Events.Event.{Order}
+use Rattle.reg_model.specs.Trail.{trail}
+use Rattle.reg_service.specs.Registries.{limits_of, tables_of}
+use Rattle.reg_http.specs.Streams.{ServesTraced}
+use Rattle.reg_http.specs.Trails.{Trails, tail}
+use Rattle.reg_http.proofs.Leaving.{leaving}
+use Rattle.reg_http.proofs.Trails.{trails_both}
+use Rattle.reg_cli_pipe.specs.Lines.{lines_in}
+use Rattle.reg_cli_pipe.proofs.Orders.{alone_leaving}
+use Rattle.reg_cli_pipe.proofs.pipe.pipe_traced.Goals as goal
+
+pub returns-in-Err-clause-piped : goal.returns-in-Err-clause-piped
+returns-in-Err-clause-piped g c clean s shows =
+    inl (record {
+      fault = c.in-Err.fault;
+      set_up = c.in-Err.ensures.done clean s shows;
+      ends = c.exit_of_setup.ensures;
+      unread = refl;
+      unwritten = refl;
+    })
+
+pub returns-clause-piped : goal.returns-clause-piped
+returns-clause-piped g c clean s shows =
+    let limits = limits_of c.args.registry.now in
+    let entry = tables_of c.args.registry.now in
+    let lines = lines_in c.args.setup.now in
+    let between = tables_of c.setup_traced.new.registry in
+    let now = tables_of c.serve_traced.new.registry in
+    let k0 = tail (g.T.Write.contents c.args.trail.now.end.inner) c.args.trail.now in
+    let k1 = tail (g.T.Write.contents c.setup_traced.new.trail.end.inner) c.setup_traced.new.trail in
+    let k2 = tail (g.T.Write.contents c.serve_traced.new.trail.end.inner) c.serve_traced.new.trail in
+    let read = g.R.Read.remaining in
+    let held = g.W.Write.contents in
+    let up = c.in_default.ensures.done (c.serve_traced.ensures.keeps.clean clean) s shows in
+    let first = trail limits s (map Order up.done.commands) (up.done.told ++ []) in
+    inr (record {
+      between = between;
+      set_up = alone_leaving g.S.Store limits s entry lines between (Trails k0 k1) (λ text. Unit {0}) (λ text it. tt) (length lines) up;
+      result = c.serve_traced.result;
+      serves = leaving g.S.Store limits up.done.after between now (Trails k1 k2) (λ text. Trails k0 k2 (first ++ text)) (λ text it. trails_both k0 k1 k2 first text up.done.leaves it)
+          (read c.args.r.now.inner) (read c.serve_traced.new.r.inner) (held c.args.w.now.inner) (held c.serve_traced.new.w.inner) c.serve_traced.result
+          (subst (λ l. ServesTraced g.S.Store l up.done.after between now k1 k2 (read c.args.r.now.inner) (read c.serve_traced.new.r.inner) (held c.args.w.now.inner) (held c.serve_traced.new.w.inner) c.serve_traced.result)
+          c.setup_traced.ensures.keeps.limits (c.serve_traced.ensures.serves clean up.done.after up.done.ran.shows));
+      ends = c.exit_of_stream.ensures;
+    })
