@@ -49,11 +49,11 @@ reply_stands (Told t) = refl
 
 module _ {S : Type 0} (g : Ghosts S) (limits : Limits) (c : Command) (old new : Tables S) (k0 k1 : Tail) where
   -- a command that was answered is an order that was done or refused
-  made : (reply : Result AdminReply AdminRefusal) (made : Result (Unit {0}) SetupFault) → IsFit (Order c) → IsDoneTold g limits c (reply_of reply) old new k0 k1 → MakesOf reply made
-      → IsObeyed g limits (Some c) old new k0 k1 made
-  made (Ok r) made fit answers is =
+  made : (reply : Result AdminReply AdminRefusal) (result : Result (Unit {0}) SetupFault) → IsFit (Order c) → IsDoneTold g limits c (reply_of reply) old new k0 k1 → MakesOf reply result
+      → IsObeyed g limits (Some c) old new k0 k1 result
+  made (Ok r) result fit answers is =
       subst (IsObeyed g limits (Some c) old new k0 k1) (sym is) (reply_of (Ok r), reply_stands r, record { command = c; is = refl; fit = fit; answers = answers })
-  made (Err f) made fit answers is =
+  made (Err f) result fit answers is =
       subst (IsObeyed g limits (Some c) old new k0 k1) (sym is) (record { command = c; is = refl; fit = fit; answers = answers })
 
   -- and its line was told
@@ -154,10 +154,10 @@ module _ {S : Type 0} (g : Ghosts S) (limits : Limits) (s : model.Registry) (ent
 
     was_not_done : (f : SetupFault) → IsObeyed g limits (line_order line) old new k1 k2 (Err f) → IsSetUpTraced g limits s entry lines new k0 k2 (Err f)
     was_not_done (Refused r) o = (count, less, last (to_refused r) o)
-    was_not_done Unreadable (none, same) = (
+    was_not_done Unreadable (none, same, kept) = (
       count,
       subst (λ l. IsSomeAnd l (λ text. line_order text ≡ None)) (sym (slice_get-get_or lines count line less ∙ ap Some at)) none,
-      stays same,
+      stays (same, kept),
     )
     was_not_done Memory same = (count, omega (arith, less), stays same)
 
@@ -172,7 +172,7 @@ module _ {S : Type 0} (g : Ghosts S) (limits : Limits) (s : model.Registry) (ent
 
 -- what is known of the trail of a setup, known more weakly
 module _ {S : Type 0} (g : Ghosts S) (limits : Limits) (s : model.Registry) (entry : Tables S) (lines : List Text) (now : Tables S) (P Q : Text → Type 0) (less : (text : Text) → P text → Q text) where
-  done_leaving : (count : ℕ) (last : List Answer) → HasDone g limits s entry lines now P count last → HasDone g limits s entry lines now Q count last
+  abbrev done_leaving : (count : ℕ) (last : List Answer) → HasDone g limits s entry lines now P count last → HasDone g limits s entry lines now Q count last
   done_leaving count last h = record {
     after = h.after;
     commands = h.commands;
@@ -184,7 +184,7 @@ module _ {S : Type 0} (g : Ghosts S) (limits : Limits) (s : model.Registry) (ent
     leaves = less (trail limits s (map Order h.commands) (h.told ++ last)) h.leaves;
   }
 
-  pub alone_leaving : (count : ℕ) → HasDoneAlone g limits s entry lines now P count → HasDoneAlone g limits s entry lines now Q count
+  abbrev pub alone_leaving : (count : ℕ) → HasDoneAlone g limits s entry lines now P count → HasDoneAlone g limits s entry lines now Q count
   alone_leaving count h = record { done = done_leaving count [] h.done; alone = h.alone }
 
   pub setup_leaving : (result : Result (Unit {0}) SetupFault) → SetsUpLeaving g limits s entry lines now P result → SetsUpLeaving g limits s entry lines now Q result

@@ -1,5 +1,5 @@
 -- What is known of the trail of a setup and its stream, known more weakly.
-use Rattle.std.proofs.Common.{◌++◌, List, inl, inr, Option}
+use Rattle.std.proofs.Common.{◌++◌, List, inl, inr, Option, Err}
 use Rattle.sqlite_trees.specs.declared.store.Store.{Ghosts}
 use Rattle.reg_body.specs.declared.limits.Limits.{Limits}
 use Rattle.reg_model.specs.Registry as model
@@ -14,7 +14,7 @@ module _ {S : Type 0} (g : Ghosts S) (limits : Limits) (s : model.Registry) (ent
   pub pipe_leaving : (r0 r1 w0 w1 : Option Text) (exit : Exit) → PipesLeaving g limits s entry lines now P r0 r1 w0 w1 exit → PipesLeaving g limits s entry lines now Q r0 r1 w0 w1 exit
   pipe_leaving r0 r1 w0 w1 exit (inl h) = inl (record {
     fault = h.fault;
-    set_up = setup_leaving g limits s entry lines now P Q less _ h.set_up;
+    set_up = setup_leaving g limits s entry lines now P Q less (Err h.fault) h.set_up;
     ends = h.ends;
     unread = h.unread;
     unwritten = h.unwritten;

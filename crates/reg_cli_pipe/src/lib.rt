@@ -4,6 +4,8 @@
 //! let exit = run_pipe(alloc, &mut registry, "user-add ada\n", &mut reader, &mut writer);
 //! // exit.status is 0 if the stream ended well
 //! ```
+//!
+//! `pipe_traced` does the same, and writes a line for each change to a trail.
 #![tactic(auto)]
 
 mod exit;
