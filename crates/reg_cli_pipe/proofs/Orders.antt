@@ -61,8 +61,8 @@ module _ {S : Type 0} (g : Ghosts S) (limits : Limits) (c : Command) (old new : 
       → Trails k0 k1 (or_nothing (option_map string_bytes it.line)) → MakesOf it.answer result → IsObeyed g limits (Some c) old new k0 k1 result
   obeys it result fit answers tells is =
       made it.answer result fit (λ clean s shows.
-        (let (does, lined) = answers clean s shows in
-        (does, trails_if k0 k1 (or_nothing (option_map string_bytes it.line)) (line_told limits s (Order c) (reply_of it.answer)) lined tells))) is
+      (let (does, lined) = answers clean s shows in
+      (does, trails_if k0 k1 (or_nothing (option_map string_bytes it.line)) (line_told limits s (Order c) (reply_of it.answer)) lined tells))) is
 
 -- where the words alone failed, nothing was done
 pub unread_obeyed : {S : Type 0} (g : Ghosts S) (limits : Limits) (ordered : Option Command) (t : Tables S) (k : Tail) (f : SetupFault) → IsUnread ordered f → IsObeyed g limits ordered t t k k (Err f)

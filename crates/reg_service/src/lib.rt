@@ -25,6 +25,6 @@ pub use reg_api_replies::{FixedText, Kind, Methods, Reply, reply_head};
 pub use reg_api_requests::{ApiCall, ApiRequest};
 pub use reg_audit::Check;
 pub use reg_service_index::IndexFault;
+pub use reg_service_trail::{Acted, OrderTold};
 pub use registry::Registry;
 pub use sequences::{Call, Told, answer_all};
-pub use reg_service_trail::{Acted, OrderTold};

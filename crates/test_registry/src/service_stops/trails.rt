@@ -75,9 +75,7 @@ fn over_stops(alloc: Global, scarce: Scarce) -> Result<(), Fault> {
         let stopped = have_stopped(&mut files);
         let found = accounts_in(alloc, files)?;
         if !is_told(&trail, found) {
-            return Err(Fault::Line(
-                format!(in alloc; "{calls} calls: {found} accounts")?,
-            ));
+            return Err(Fault::Line(format!(in alloc; "{calls} calls: {found} accounts")?));
         }
         if !stopped {
             return Ok(());
