@@ -6,7 +6,7 @@ ghost use Rattle.reg_tables.specs.Works.{shown};
 ghost use Rattle.reg_service.specs.Answered.{AreUpToDate, Shows};
 ghost use Rattle.reg_service.specs.Registries.{limits_of, tables_of};
 ghost use Rattle.reg_http.specs.Answering.{GoesOn};
-ghost use Rattle.reg_http.specs.Trails.{tail};
+ghost use Rattle.reg_http.specs.Trails.{IsTrailed, tail};
 ghost use Rattle.reg_cli_pipe.specs.Lines.{lines_in};
 ghost use Rattle.reg_cli_pipe.specs.Piped.{IsPiped, IsPipedTraced, SpendsIfServed};
 
@@ -68,6 +68,8 @@ pub fn pipe_traced<R: Read, W: Write, T: Write, S: Alter>(
         (W.contents w.old.inner) (W.contents w.new.inner) result }
     ensures spends { SpendsIfServed (limits_of registry.old).turns r.old r.new w.old w.new
         result }
+    ensures told { IsTrailed (tail (T.contents trail.old.end.inner) trail.old)
+        (tail (T.contents trail.new.end.inner) trail.new) }
     ensures keeps { GoesOn S.Store registry.old registry.new }
 {
     if let Err(fault) = setup_traced(alloc, registry, setup, trail) {

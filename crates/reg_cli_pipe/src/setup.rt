@@ -10,7 +10,7 @@ ghost use Rattle.reg_tables.specs.Works.{shown};
 ghost use Rattle.reg_service.specs.Answered.{AreUpToDate, Shows};
 ghost use Rattle.reg_service.specs.Registries.{limits_of, tables_of};
 ghost use Rattle.reg_http.specs.Answering.{GoesOn};
-ghost use Rattle.reg_http.specs.Trails.{tail};
+ghost use Rattle.reg_http.specs.Trails.{IsTrailed, tail};
 ghost use Rattle.reg_cli_words.specs.Dashes.{is_dashed};
 ghost use Rattle.reg_cli_words.specs.Orders.{words_of};
 ghost use Rattle.reg_cli_pipe.specs.LineOrders.{IsUnread, line_order, order_in, token_order, words_in};
@@ -135,6 +135,8 @@ fn obey<T: Write, S: Alter>(
         (tables_of registry.old) (tables_of registry.new)
         (tail (T.contents trail.old.end.inner) trail.old)
         (tail (T.contents trail.new.end.inner) trail.new) result }
+    ensures told { IsTrailed (tail (T.contents trail.old.end.inner) trail.old)
+        (tail (T.contents trail.new.end.inner) trail.new) }
     ensures keeps { GoesOn S.Store registry.old registry.new }
 {
     let OrderTold { answer, line } = registry.order(alloc, command, trail.is_open());
@@ -143,6 +145,7 @@ fn obey<T: Write, S: Alter>(
 }
 
 /// Adds a token, whose digest a setup file must give.
+#[tactic(auto, using(reg_http::proofs::Trails::trailed_nothing))]
 fn add_token<T: Write, S: Alter>(
     alloc: Global,
     registry: &mut Registry<S>,
@@ -154,6 +157,8 @@ fn add_token<T: Write, S: Alter>(
         (tables_of registry.old) (tables_of registry.new)
         (tail (T.contents trail.old.end.inner) trail.old)
         (tail (T.contents trail.new.end.inner) trail.new) result }
+    ensures told { IsTrailed (tail (T.contents trail.old.end.inner) trail.old)
+        (tail (T.contents trail.new.end.inner) trail.new) }
     ensures keeps { GoesOn S.Store registry.old registry.new }
 {
     match &token.source {
@@ -163,6 +168,7 @@ fn add_token<T: Write, S: Alter>(
 }
 
 /// Runs the parsed command.
+#[tactic(auto, using(reg_http::proofs::Trails::trailed_nothing))]
 fn obey_order<T: Write, S: Alter>(
     alloc: Global,
     registry: &mut Registry<S>,
@@ -174,6 +180,8 @@ fn obey_order<T: Write, S: Alter>(
         (tables_of registry.old) (tables_of registry.new)
         (tail (T.contents trail.old.end.inner) trail.old)
         (tail (T.contents trail.new.end.inner) trail.new) result }
+    ensures told { IsTrailed (tail (T.contents trail.old.end.inner) trail.old)
+        (tail (T.contents trail.new.end.inner) trail.new) }
     ensures keeps { GoesOn S.Store registry.old registry.new }
 {
     let Some((name, inner)) = matches.subcommand() else {
@@ -187,6 +195,7 @@ fn obey_order<T: Write, S: Alter>(
 }
 
 /// Runs the command of one line.
+#[tactic(auto, using(reg_http::proofs::Trails::trailed_nothing))]
 fn obey_line<T: Write, S: Alter>(
     alloc: Global,
     registry: &mut Registry<S>,
@@ -198,6 +207,8 @@ fn obey_line<T: Write, S: Alter>(
         (tables_of registry.old) (tables_of registry.new)
         (tail (T.contents trail.old.end.inner) trail.old)
         (tail (T.contents trail.new.end.inner) trail.new) result }
+    ensures told { IsTrailed (tail (T.contents trail.old.end.inner) trail.old)
+        (tail (T.contents trail.new.end.inner) trail.new) }
     ensures keeps { GoesOn S.Store registry.old registry.new }
 {
     let words = split_words(alloc, line)?;
@@ -224,6 +235,7 @@ pub fn run_setup<S: Alter>(
 }
 
 /// Does as `run_setup`, and writes a line for each change, after its commit.
+#[tactic(auto, using(reg_http::proofs::Trails::trailed_nothing))]
 pub fn setup_traced<T: Write, S: Alter>(
     alloc: Global,
     registry: &mut Registry<S>,
@@ -237,6 +249,8 @@ pub fn setup_traced<T: Write, S: Alter>(
         (lines_in setup.now) (tables_of registry.new)
         (tail (T.contents trail.old.end.inner) trail.old)
         (tail (T.contents trail.new.end.inner) trail.new) result }
+    ensures told { IsTrailed (tail (T.contents trail.old.end.inner) trail.old)
+        (tail (T.contents trail.new.end.inner) trail.new) }
     ensures keeps { GoesOn S.Store registry.old registry.new }
 {
     history_law::<S>();

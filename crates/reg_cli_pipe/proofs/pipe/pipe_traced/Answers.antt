@@ -5,7 +5,7 @@ use Rattle.reg_service.specs.Registries.{limits_of, tables_of}
 use Rattle.reg_http.specs.Streams.{ServesTraced}
 use Rattle.reg_http.specs.Trails.{Trails, tail}
 use Rattle.reg_http.proofs.Leaving.{leaving}
-use Rattle.reg_http.proofs.Trails.{trails_both}
+use Rattle.reg_http.proofs.Trails.{trailed_on, trails_both}
 use Rattle.reg_cli_pipe.specs.Lines.{lines_in}
 use Rattle.reg_cli_pipe.proofs.Orders.{alone_leaving}
 use Rattle.reg_cli_pipe.proofs.pipe.pipe_traced.Goals as goal
@@ -44,3 +44,6 @@ returns-clause-piped g c clean s shows =
           c.setup_traced.ensures.keeps.limits (c.serve_traced.ensures.serves clean up.done.after up.done.ran.shows));
       ends = c.exit_of_stream.ensures;
     })
+
+pub returns-clause-told : goal.returns-clause-told
+returns-clause-told g c = trailed_on (tail (g.T.Write.contents c.args.trail.now.end.inner) c.args.trail.now) (tail (g.T.Write.contents c.setup_traced.new.trail.end.inner) c.setup_traced.new.trail) (tail (g.T.Write.contents c.serve_traced.new.trail.end.inner) c.serve_traced.new.trail) c.setup_traced.ensures.told c.serve_traced.ensures.told

@@ -14,3 +14,6 @@ returns-clause-obeyed g c =
     let new = tables_of c.order-answer.new.self in
     obeys g.S.Store limits command old new (tail (g.T.Write.contents c.args.trail.now.end.inner) c.args.trail.now) (tail (g.T.Write.contents c.tell.new.self.end.inner) c.tell.new.self) c.order-answer.result c.setup_result.result c.requires.fit
     (subst (λ b. IsOrdered g.S.Store limits b command c.order-answer.result old new) c.is_open.ensures c.order-answer.ensures.answers) c.tell.ensures.tells c.setup_result.ensures
+
+pub returns-clause-told : goal.returns-clause-told
+returns-clause-told g c = (_, c.tell.ensures.tells)

@@ -4,6 +4,7 @@ use Rattle.std.proofs.lemmas.Result.{err_from_is_err_and}
 use Rattle.reg_service.specs.Registries.{limits_of, tables_of}
 use Rattle.reg_http.specs.Trails.{Trails, tail}
 use Rattle.reg_http.proofs.Exchanged.{EventsGoOn}
+use Rattle.reg_http.proofs.Trails.{trailed_nothing, trailed_on}
 use Rattle.reg_cli_pipe.specs.Lines.{lines_in}
 use Rattle.reg_cli_pipe.specs.Setups.{HasDoneAlone}
 use Rattle.reg_cli_pipe.proofs.LineFacts.{line_at}
@@ -13,6 +14,7 @@ use Rattle.reg_cli_pipe.proofs.setup.setup_traced.Goals as goal
 pub loop-line-init : goal.loop-line-init
 loop-line-init g c = record {
   keeps = record { tables = c.requires.tables; clean = λ clean. clean; limits = refl };
+  told = trailed_nothing (tail (g.T.Write.contents c.args.trail.now.end.inner) c.args.trail.now);
   held = λ clean s shows. begun g.S.Store (limits_of c.args.registry.now) s (tables_of c.args.registry.now) (lines_in c.args.setup.now) (tail (g.T.Write.contents c.args.trail.now.end.inner) c.args.trail.now) c.history_law.ensures.begins shows;
 }
 
@@ -26,6 +28,7 @@ loop-line-preserved g c =
     let less : c.loop-line.line-index < length lines = omega (arith, count, c.deref-line-items.ensures.len, c.loop-line-test.true) in
     record {
       keeps = record { tables = now.tables; clean = λ clean. was.clean (now.clean clean); limits = now.limits ∙ was.limits };
+      told = trailed_on (tail (g.T.Write.contents c.args.trail.now.end.inner) c.args.trail.now) (tail (g.T.Write.contents c.loop-line.trail.end.inner) c.loop-line.trail) (tail (g.T.Write.contents c.obey_line.new.trail.end.inner) c.obey_line.new.trail) c.loop-line.invariant.told c.obey_line.ensures.told;
       held = λ clean s shows.
           obeyed g.S.Store (limits_of c.args.registry.now) s (tables_of c.args.registry.now) lines law c.loop-line.line-index (tables_of c.loop-line.registry) (tables_of c.obey_line.new.registry) (tail (g.T.Write.contents c.args.trail.now.end.inner) c.args.trail.now) (tail (g.T.Write.contents c.loop-line.trail.end.inner) c.loop-line.trail) (tail (g.T.Write.contents c.obey_line.new.trail.end.inner) c.obey_line.new.trail)
           (c.loop-line.invariant.held (now.clean clean) s shows) clean _ less (line_at c.in_ok-lines.lines.items _ lines c.loop-line.line-index _ c.deref-line-items.ensures.value c.in_ok-lines.ensures less)
@@ -55,3 +58,6 @@ returns-clause-done g c clean s shows =
     let count : length c.in_ok-lines.lines.items ≡ length (lines_in c.args.setup.now) = sym (length-map c.in_ok-lines.lines.items (λ l. l.now)) ∙ ap length c.in_ok-lines.ensures in
     subst (HasDoneAlone g.S.Store (limits_of c.args.registry.now) s (tables_of c.args.registry.now) (lines_in c.args.setup.now) (tables_of c.loop-line.registry) (Trails (tail (g.T.Write.contents c.args.trail.now.end.inner) c.args.trail.now) (tail (g.T.Write.contents c.loop-line.trail.end.inner) c.loop-line.trail))) (omega (arith, count, c.deref-line-items.ensures.len, c.loop-line-test.false))
     (c.loop-line.invariant.held clean s shows)
+
+pub returns-in_err-obey_line-clause-told : goal.returns-in_err-obey_line-clause-told
+returns-in_err-obey_line-clause-told g c = trailed_on (tail (g.T.Write.contents c.args.trail.now.end.inner) c.args.trail.now) (tail (g.T.Write.contents c.loop-line.trail.end.inner) c.loop-line.trail) (tail (g.T.Write.contents c.obey_line.new.trail.end.inner) c.obey_line.new.trail) c.loop-line.invariant.told c.obey_line.ensures.told
