@@ -7,6 +7,7 @@ ghost use Rattle.reg_service.specs.Registries.{limits_of, tables_of};
 
 use reg_body::{Counted, Limits};
 use reg_cli::Exit;
+use reg_http::Trail;
 use reg_service::Registry;
 use sqlite::MemStore;
 use std::alloc::Global;
@@ -38,4 +39,19 @@ fn run_pipe(
     requires writes { writer.old.calls + (limits_of registry.old).turns < 2 ^ 64 }
 {
     reg_cli::run_pipe(alloc, registry, setup, reader, writer)
+}
+
+fn pipe_traced(
+    alloc: Global,
+    registry: &mut Registry<MemStore>,
+    setup: &str,
+    reader: &mut Counted<File>,
+    writer: &mut Counted<Vec<u8>>,
+    trail: &mut Trail<File>,
+) -> Exit
+    requires tables { AreUpToDate over_memory (tables_of registry.old) }
+    requires reads { reader.old.calls + (limits_of registry.old).turns < 2 ^ 64 }
+    requires writes { writer.old.calls + (limits_of registry.old).turns < 2 ^ 64 }
+{
+    reg_cli::pipe_traced(alloc, registry, setup, reader, writer, trail)
 }

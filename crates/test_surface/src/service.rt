@@ -12,7 +12,8 @@ use reg_api_replies::FixedText;
 use reg_body::{Counted, Limits};
 use reg_policy::{AdminCommand, AdminRefusal, AdminReply, Rule};
 use reg_service::{
-    ApiCall, ApiRequest, Check, IndexFault, Kind, Methods, OpenFault, Registry, Reply,
+    Acted, ApiCall, ApiRequest, Check, IndexFault, Kind, Methods, OpenFault, OrderTold, Registry,
+    Reply,
 };
 use reg_tables::StoreFault;
 use sqlite::{Connection, MemStore};
@@ -108,6 +109,8 @@ fn call_methods(
     let _: &Limits = Registry::limits(registry);
     let _: Reply = Registry::handle(registry, alloc, request);
     let _: Result<AdminReply, AdminRefusal> = Registry::command(registry, alloc, command);
+    let _: Acted = Registry::act(registry, alloc, request, true);
+    let _: OrderTold = Registry::order(registry, alloc, command, true);
     let _: Result<Vec<(String, Vec<u8>)>, StoreFault> = Registry::export(registry, alloc);
     let _: Result<Option<Check>, StoreFault> = Registry::audit(registry, alloc);
 }

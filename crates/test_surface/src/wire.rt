@@ -7,7 +7,7 @@ ghost use Rattle.reg_service.specs.Registries.{limits_of, tables_of};
 
 use reg_api_replies::SendFault;
 use reg_body::{Counted, Limits};
-use reg_http::{Head, HeadRead, RouteFault, Routes, StreamFault};
+use reg_http::{Head, HeadRead, RouteFault, Routes, StreamFault, Trail};
 use reg_policy::Rule;
 use reg_service::{ApiRequest, Methods, Registry, Reply};
 use sqlite::MemStore;
@@ -68,6 +68,20 @@ fn serve_stream(
     requires writes { writer.old.calls + (limits_of registry.old).turns < 2 ^ 64 }
 {
     reg_http::serve_stream(alloc, registry, reader, writer)
+}
+
+fn serve_traced(
+    alloc: Global,
+    registry: &mut Registry<MemStore>,
+    reader: &mut Counted<File>,
+    writer: &mut Counted<Vec<u8>>,
+    trail: &mut Trail<File>,
+) -> Result<u64, StreamFault>
+    requires tables { AreUpToDate over_memory (tables_of registry.old) }
+    requires reads { reader.old.calls + (limits_of registry.old).turns < 2 ^ 64 }
+    requires writes { writer.old.calls + (limits_of registry.old).turns < 2 ^ 64 }
+{
+    reg_http::serve_traced(alloc, registry, reader, writer, trail)
 }
 
 fn call_methods(alloc: Global, routes: &Routes, head: Head<'_>) {
