@@ -21,7 +21,7 @@ use Rattle.reg_tables.specs.Looks.{Looks}
 use Rattle.reg_tables.specs.Works.{AreOurs, IsLeft, has_failed, rows_seen, seen, shown}
 use Rattle.reg_tables.specs.declared.tables.Tables.{Tables}
 use Rattle.reg_tables.specs.declared.work.Work.{Work}
-use Rattle.reg_service.specs.Answered.{Shows, Stays}
+use Rattle.reg_service.specs.Answered.{Are, Shows, Stays}
 use Rattle.reg_service.specs.Handled.{RepliesTo, Sought}
 use Rattle.reg_service.proofs.Frames as frame
 
@@ -34,6 +34,10 @@ module _ {S : Type 0} (g : Ghosts S) (limits : Limits) (s : Registry) (digest : 
   not_begun left = (to_denied rule.S1, refl, frame.not_begun g limits s e (to_denied rule.S1) old new ours h clean refl left)
 
   module _ (begun done : Work S) (b : Begins g SeesAll old begun) (looks : Looks g begun done) (mid : HasCleanDisk (seen g done)) where
+    -- what the transaction sees
+    pub sees : Are s (rows_seen g begun)
+    sees = frame.sees g limits s e (to_denied rule.S1) old new ours h clean begun done b looks mid
+
     pub failed : IsDropped g done new → (IsTrue (shown g old).is_open → LeavesCommit (shown g old)) → RepliesTo g limits s digest asked (Denied rule.S1) old new
     failed end alone = (to_denied rule.S1, refl, frame.dropped g limits s e (to_denied rule.S1) old new ours h clean begun done b looks mid (λ are. inr (refl, refl)) end alone)
 

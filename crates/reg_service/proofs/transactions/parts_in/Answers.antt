@@ -2,11 +2,15 @@ use Rattle.std.proofs.Common.{sym, subst}
 use Rattle.reg_model.specs.Events.Event.{Ask}
 use Rattle.reg_model.specs.Steps.{IsFit}
 use Rattle.reg_service.proofs.Replied.{no_memory}
+use Rattle.reg_service.proofs.Traced.{untold}
 use Rattle.reg_service.proofs.transactions.parts_in.Goals as goal
 
 pub returns-in_default-clause-replies : goal.returns-in_default-clause-replies
 returns-in_default-clause-replies g c clean s h =
-    no_memory g.S.Store c.args.limits.now s c.args.parts.now.digest c.args.parts.now.asked c.args.tables.now h
+    let parts = c.args.parts.now in
+    let t = c.args.tables.now in
+    untold g.S.Store c.args.limits.now s c.args.traced parts.digest parts.asked t t c.denied.result
+    (no_memory g.S.Store c.args.limits.now s parts.digest parts.asked t h) c.denied.ensures.reply c.denied.ensures.line
 
 pub request_in-requires-clause-fit : goal.request_in-requires-clause-fit
 request_in-requires-clause-fit g c d =

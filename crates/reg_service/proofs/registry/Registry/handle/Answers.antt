@@ -1,16 +1,6 @@
-use Rattle.std.proofs.Common.{subst}
-use Rattle.reg_api_requests.specs.Requests.{request_of}
-use Rattle.reg_api_requests.specs.Views.{Request}
-use Rattle.reg_service.specs.Handled.{IsReplied}
-use Rattle.reg_service.specs.Registries.{limits_of, tables_of}
-use Rattle.reg_service.proofs.Replied.{no_memory}
 use Rattle.reg_service.proofs.registry.Registry.handle.Goals as goal
 
-pub returns-in_default-clause-replies : goal.returns-in_default-clause-replies
-returns-in_default-clause-replies g c clean s h =
-    let asks = request_of (limits_of c.args.self.now) c.args.request.now in
-    no_memory g.S.Store (limits_of c.args.self.now) s asks.digest asks.asked (tables_of c.args.self.now) h
-
 pub returns-clause-replies : goal.returns-clause-replies
-returns-clause-replies g c =
-    subst (λ (it : Request). IsReplied g.S.Store (limits_of c.args.self.now) it.digest it.asked c.parts_in.result (tables_of c.args.self.now) c.parts_in.new.tables) c.in-Ok.ensures.asked c.parts_in.ensures.replies
+returns-clause-replies g c clean s h =
+    let acts = c.act-reply.ensures.replies clean s h in
+    (acts.0, acts.1, acts.2)
