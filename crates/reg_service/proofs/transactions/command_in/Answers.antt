@@ -32,7 +32,7 @@ returns-in_default-order_told-clause-answers g c clean s h =
     let looks = call_looks g.S.Store c.order_told.result c.in-Ok.work c.order_told.new.work c.order_told.ensures.leaves in
     let a = to_refused refusal.G10 in
     let answers = subst (λ t. Answers g.S.Store lim s (Order cmd) a old t) (sym back)
-        (dropped g.S.Store lim s (Order cmd) a old c.drop-work.new.self.0 c.requires.tables.ours h still c.in-Ok.work c.order_told.new.work c.in-Ok.ensures.begun looks mid (λ are. inr (refl, refl)) c.drop-work.ensures (λ up db l. g.met.S.Store.settled (held old).store db up l)) in
+    (dropped g.S.Store lim s (Order cmd) a old c.drop-work.new.self.0 c.requires.tables.ours h still c.in-Ok.work c.order_told.new.work c.in-Ok.ensures.begun looks mid (λ are. inr (refl, refl)) c.drop-work.ensures (λ up db l. g.met.S.Store.settled (held old).store db up l)) in
     unordered g.S.Store lim s c.args.traced cmd old _ refusal.G10 c.refused-in_default-order_told.result answers c.refused-in_default-order_told.ensures.answer c.refused-in_default-order_told.ensures.line
 
 pub returns-in-Ok-commit-clause-answers : goal.returns-in-Ok-commit-clause-answers
@@ -48,7 +48,7 @@ returns-in-Ok-commit-clause-answers g c clean s h =
     let it = c.in-Ok-order_told.ensures.told mid in
     let a = reply_of told.answer in
     let answers = subst (λ t. Answers g.S.Store lim s (Order cmd) a old t) (sym back)
-        (committed g.S.Store lim s (Order cmd) a old c.commit.new.self.0 c.requires.tables.ours h still c.in-Ok.work c.order_told.new.work c.in-Ok.ensures.begun looks mid c.soundness_law.ensures.step c.requires.fit (λ are. it.0 are.0 s are.1) c.in-Ok-commit.ensures.committed) in
+    (committed g.S.Store lim s (Order cmd) a old c.commit.new.self.0 c.requires.tables.ours h still c.in-Ok.work c.order_told.new.work c.in-Ok.ensures.begun looks mid c.soundness_law.ensures.step c.requires.fit (λ are. it.0 are.0 s are.1) c.in-Ok-commit.ensures.committed) in
     let are = sees g.S.Store lim s (Order cmd) a old c.commit.new.self.0 c.requires.tables.ours h still c.in-Ok.work c.order_told.new.work c.in-Ok.ensures.begun looks mid in
     orders g.S.Store lim s c.args.traced cmd old _ told answers (sym (ap (λ r. line_of_answer r told.line) c.in-Ok-answer.is)) (tells_line lim s (Order cmd) c.args.traced _ told.line it.1 are)
 
@@ -64,7 +64,7 @@ returns-in-Err-commit-clause-answers g c clean s h =
     let it = c.in-Ok-order_told.ensures.told mid in
     let a = to_refused refusal.G10 in
     let answers = subst (λ t. Answers g.S.Store lim s (Order cmd) a old t) (sym back)
-        (not_committed g.S.Store lim s (Order cmd) a old c.commit.new.self.0 c.requires.tables.ours h still c.in-Ok.work c.order_told.new.work c.in-Ok.ensures.begun looks mid (λ are. (it.0 are.0 s are.1).1) refl c.in-Err-commit.ensures.refused c.commit.ensures.survives) in
+    (not_committed g.S.Store lim s (Order cmd) a old c.commit.new.self.0 c.requires.tables.ours h still c.in-Ok.work c.order_told.new.work c.in-Ok.ensures.begun looks mid (λ are. (it.0 are.0 s are.1).1) refl c.in-Err-commit.ensures.refused c.commit.ensures.survives) in
     unordered g.S.Store lim s c.args.traced cmd old _ refusal.G10 c.refused-in-Err-commit.result answers c.refused-in-Err-commit.ensures.answer c.refused-in-Err-commit.ensures.line
 
 pub returns-in-Err-clause-answers : goal.returns-in-Err-clause-answers
@@ -79,8 +79,8 @@ returns-in-Err-clause-answers g c clean s h =
     let it = c.in-Ok-order_told.ensures.told mid in
     let a = to_refused c.in-Err.refusal in
     let answers = subst (λ t. Answers g.S.Store lim s (Order cmd) a old t) (sym back)
-        (dropped g.S.Store lim s (Order cmd) a old c.drop-work-in-Err-told.new.self.0 c.requires.tables.ours h still c.in-Ok.work c.order_told.new.work c.in-Ok.ensures.begun looks mid
-        (λ are.
-        let has = sym (ap reply_of c.in-Err.is) ∙ (it.0 are.0 s are.1).0 in
-        inl (has, sym (c.denial_law.ensures.refused lim s _ (Order cmd) c.in-Err.refusal (inl (has, refl))))) c.drop-work-in-Err-told.ensures (λ up db l. g.met.S.Store.settled (held old).store db up l)) in
+    (dropped g.S.Store lim s (Order cmd) a old c.drop-work-in-Err-told.new.self.0 c.requires.tables.ours h still c.in-Ok.work c.order_told.new.work c.in-Ok.ensures.begun looks mid
+    (λ are.
+    let has = sym (ap reply_of c.in-Err.is) ∙ (it.0 are.0 s are.1).0 in
+    inl (has, sym (c.denial_law.ensures.refused lim s _ (Order cmd) c.in-Err.refusal (inl (has, refl))))) c.drop-work-in-Err-told.ensures (λ up db l. g.met.S.Store.settled (held old).store db up l)) in
     unordered g.S.Store lim s c.args.traced cmd old _ c.in-Err.refusal c.refused-in-Err.result answers c.refused-in-Err.ensures.answer c.refused-in-Err.ensures.line

@@ -35,7 +35,7 @@ returns-in_default-serve_told-clause-replies g c clean s h =
     let mid : HasCleanDisk (seen g.S.Store c.serve_told.new.work) = omega (arith, still, c.drop-work.ensures.survives.clean) in
     let looks = call_looks g.S.Store c.serve_told.result c.in-Ok.work c.serve_told.new.work c.serve_told.ensures.leaves in
     let replies = subst (λ t. RepliesTo g.S.Store lim s digest asked (Denied rule.S1) old t) (sym back)
-        (failed g.S.Store lim s digest asked old c.drop-work.new.self.0 c.requires.tables.ours h still c.in-Ok.work c.serve_told.new.work c.in-Ok.ensures.begun looks mid c.drop-work.ensures (λ up db l. g.met.S.Store.settled (held old).store db up l)) in
+    (failed g.S.Store lim s digest asked old c.drop-work.new.self.0 c.requires.tables.ours h still c.in-Ok.work c.serve_told.new.work c.in-Ok.ensures.begun looks mid c.drop-work.ensures (λ up db l. g.met.S.Store.settled (held old).store db up l)) in
     untold g.S.Store lim s c.args.traced digest asked old _ c.denied-in_default-serve_told.result replies c.denied-in_default-serve_told.ensures.reply c.denied-in_default-serve_told.ensures.line
 
 pub returns-in-Ok-commit-clause-replies : goal.returns-in-Ok-commit-clause-replies
@@ -52,7 +52,7 @@ returns-in-Ok-commit-clause-replies g c clean s h =
     let line = c.in-Ok-serve_told.told.line in
     let serves = subst (Serves lim digest asked (rows_seen g.S.Store c.in-Ok.work) (rows_seen g.S.Store c.serve_told.new.work)) c.in-Done.is it.0 in
     let replies = subst (λ t. RepliesTo g.S.Store lim s digest asked c.in-Done.reply old t) (sym back)
-        (committed g.S.Store lim s digest asked old c.commit.new.self.0 c.requires.tables.ours h still c.in-Ok.work c.serve_told.new.work c.in-Ok.ensures.begun looks mid c.soundness_law.ensures.step (c.requires.fit digest) c.in-Done.reply serves c.in-Ok-commit.ensures.committed) in
+    (committed g.S.Store lim s digest asked old c.commit.new.self.0 c.requires.tables.ours h still c.in-Ok.work c.serve_told.new.work c.in-Ok.ensures.begun looks mid c.soundness_law.ensures.step (c.requires.fit digest) c.in-Done.reply serves c.in-Ok-commit.ensures.committed) in
     let are = sees g.S.Store lim s digest asked old c.commit.new.self.0 c.requires.tables.ours h still c.in-Ok.work c.serve_told.new.work c.in-Ok.ensures.begun looks mid in
     acts g.S.Store lim s c.args.traced digest asked old _ c.in-Done.reply c.with_line.result line replies c.with_line.ensures.reply c.with_line.ensures.line
     (tells_line lim s (Ask digest asked) c.args.traced _ line it.1 are)
@@ -70,7 +70,7 @@ returns-in-Err-clause-replies g c clean s h =
     let it = c.in-Ok-serve_told.ensures.told mid in
     let serves = subst (Serves lim digest asked (rows_seen g.S.Store c.in-Ok.work) (rows_seen g.S.Store c.serve_told.new.work)) c.in-Done.is it.0 in
     let replies = subst (λ t. RepliesTo g.S.Store lim s digest asked (Denied rule.S1) old t) (sym back)
-        (not_committed g.S.Store lim s digest asked old c.commit.new.self.0 c.requires.tables.ours h still c.in-Ok.work c.serve_told.new.work c.in-Ok.ensures.begun looks mid c.in-Done.reply serves c.in-Err.ensures.refused c.commit.ensures.survives) in
+    (not_committed g.S.Store lim s digest asked old c.commit.new.self.0 c.requires.tables.ours h still c.in-Ok.work c.serve_told.new.work c.in-Ok.ensures.begun looks mid c.in-Done.reply serves c.in-Err.ensures.refused c.commit.ensures.survives) in
     untold g.S.Store lim s c.args.traced digest asked old _ c.denied-in-Err.result replies c.denied-in-Err.ensures.reply c.denied-in-Err.ensures.line
 
 pub returns-in-Told-clause-replies : goal.returns-in-Told-clause-replies
@@ -87,7 +87,7 @@ returns-in-Told-clause-replies g c clean s h =
     let line = c.in-Ok-serve_told.told.line in
     let serves = subst (Serves lim digest asked (rows_seen g.S.Store c.in-Ok.work) (rows_seen g.S.Store c.serve_told.new.work)) c.in-Told.is it.0 in
     let replies = subst (λ t. RepliesTo g.S.Store lim s digest asked c.in-Told.reply old t) (sym back)
-        (told g.S.Store lim s digest asked old c.drop-work-in-Told-1.new.self.0 c.requires.tables.ours h still c.in-Ok.work c.serve_told.new.work c.in-Ok.ensures.begun looks mid c.in-Told.reply serves c.drop-work-in-Told-1.ensures (λ up db l. g.met.S.Store.settled (held old).store db up l)) in
+    (told g.S.Store lim s digest asked old c.drop-work-in-Told-1.new.self.0 c.requires.tables.ours h still c.in-Ok.work c.serve_told.new.work c.in-Ok.ensures.begun looks mid c.in-Told.reply serves c.drop-work-in-Told-1.ensures (λ up db l. g.met.S.Store.settled (held old).store db up l)) in
     let are = sees g.S.Store lim s digest asked old c.drop-work-in-Told-1.new.self.0 c.requires.tables.ours h still c.in-Ok.work c.serve_told.new.work c.in-Ok.ensures.begun looks mid in
     acts g.S.Store lim s c.args.traced digest asked old _ c.in-Told.reply c.with_line-in-Told.result line replies c.with_line-in-Told.ensures.reply c.with_line-in-Told.ensures.line
     (tells_line lim s (Ask digest asked) c.args.traced _ line it.1 are)
