@@ -3,7 +3,6 @@
 
 use crate::service_stops::fault::Fault;
 use crate::service_stops::files::prepare;
-use crate::service_stops::trials::MOST_RUNS;
 use reg_body::{Counted, Limits};
 use reg_cli_pipe::pipe_traced;
 use reg_http::Trail;
@@ -15,29 +14,30 @@ use test_files::{
     FEW_PAGES, MANY_PAGES, Scarce, Stopping, files_of, have_stopped, left, open, revive,
 };
 
+/// More calls of a file than the setup makes.
+const MOST_CALLS: u32 = 5_000;
+
 const SETUP: &str = "user-add ada\nuser-add bob\nuser-add carol\n";
 
 const TRAIL: &str = "- admin user-add ada\n- admin user-add bob\n- admin user-add carol\n";
 
-/// The files after the setup, and its trail.
-fn told_in(alloc: Global, files: Files<Stopping>) -> (Files<Stopping>, Vec<u8>) {
-    let conn = match open(alloc, files, FEW_PAGES) {
-        Ok(conn) => conn,
-        Err(files) => return (files, Vec::new(alloc)),
+/// The files after the setup, and its trail; none if the registry was not opened.
+fn told_in(alloc: Global, files: Files<Stopping>) -> Option<(Files<Stopping>, Vec<u8>)> {
+    let Ok(conn) = open(alloc, files, FEW_PAGES) else {
+        return None;
     };
     if !conn.is_autocommit() {
-        return (left(conn), Vec::new(alloc));
+        return None;
     }
-    let mut registry = match Registry::open(alloc, conn, Limits::STANDARD) {
-        Ok(registry) => registry,
-        Err((conn, _)) => return (left(conn), Vec::new(alloc)),
+    let Ok(mut registry) = Registry::open(alloc, conn, Limits::STANDARD) else {
+        return None;
     };
     let mut trail = Trail::new(Vec::new(alloc), u64::MAX);
     let mut reader = Counted::new([].as_slice());
     let mut writer = Counted::new(Vec::new(alloc));
     let of = &mut registry;
     let _ = pipe_traced(alloc, of, SETUP, &mut reader, &mut writer, &mut trail);
-    (left(registry.into_connection()), trail.into_inner())
+    Some((left(registry.into_connection()), trail.into_inner()))
 }
 
 /// How many accounts are found in the files after the stop.
@@ -69,9 +69,11 @@ fn is_told(trail: &[u8], found: usize) -> bool {
 /// Stops a file at each of its calls, until it does not stop.
 fn over_stops(alloc: Global, scarce: Scarce) -> Result<(), Fault> {
     let before = prepare(alloc, "create -> done\n")?;
-    for calls in 0..MOST_RUNS {
+    for calls in 0..MOST_CALLS {
         let files = files_of(alloc, &before.image, &scarce.with(calls))?;
-        let (mut files, trail) = told_in(alloc, files);
+        let Some((mut files, trail)) = told_in(alloc, files) else {
+            continue;
+        };
         let stopped = have_stopped(&mut files);
         let found = accounts_in(alloc, files)?;
         if !is_told(&trail, found) {
