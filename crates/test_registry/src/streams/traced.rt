@@ -1,12 +1,15 @@
 //! Setups and streams with their trail: each kind of line, and a trail that fails.
 
+ghost use Rattle.reg_service.specs.Answered.{AreUpToDate};
+ghost use Rattle.reg_service.specs.Registries.{tables_of};
+
 use crate::streams::ends::{Ends, Sink};
 use reg_body::{Counted, Limits};
 use reg_cli_line::Exit;
 use reg_cli_pipe::pipe_traced;
 use reg_http::Trail;
 use reg_service::Registry;
-use sqlite::Connection;
+use sqlite::{Alter, Connection};
 use std::alloc::Global;
 use std::test::Fail;
 
@@ -78,6 +81,25 @@ const TRAIL: &str = "- admin user-add ada --name Ada
 - admin crate-open A
 ";
 
+/// Runs a setup and a stream. What is replied is added to `written`.
+fn run<S: Alter>(
+    alloc: Global,
+    registry: &mut Registry<S>,
+    setup: &str,
+    stream: &[u8],
+    written: Vec<u8>,
+    trail: &mut Trail<Sink>,
+) -> (Exit, Vec<u8>)
+    requires { AreUpToDate S.Store (tables_of registry.old) }
+    ensures { AreUpToDate S.Store (tables_of registry.new) }
+{
+    let _turns = registry.limits().turns;
+    let mut reader = Counted::new(stream);
+    let mut writer = Counted::new(written);
+    let exit = pipe_traced(alloc, registry, setup, &mut reader, &mut writer, trail);
+    (exit, writer.into_inner())
+}
+
 /// The replies and the trail of all of it over a new registry; none where a run did not end well.
 fn traced(alloc: Global, ends: &Ends) -> Option<(Vec<u8>, Vec<u8>)> {
     let conn = Connection::open_in_memory(alloc).ok()?;
@@ -89,16 +111,11 @@ fn traced(alloc: Global, ends: &Ends) -> Option<(Vec<u8>, Vec<u8>)> {
         return None;
     };
     let mut trail = Trail::new(Sink::new(Vec::new(alloc), ends), u64::MAX);
-    let mut written = Vec::new(alloc);
-    for (setup, stream) in [(SETUP, STREAM), (LATER, &[])] {
-        let mut reader = Counted::new(stream);
-        let mut writer = Counted::new(written);
-        let of = &mut registry;
-        let exit = pipe_traced(alloc, of, setup, &mut reader, &mut writer, &mut trail);
-        if exit != Exit::DONE {
-            return None;
-        }
-        written = writer.into_inner();
+    let of = &mut registry;
+    let (first, written) = run(alloc, of, SETUP, STREAM, Vec::new(alloc), &mut trail);
+    let (last, written) = run(alloc, of, LATER, &[], written, &mut trail);
+    if first != Exit::DONE || last != Exit::DONE {
+        return None;
     }
     Some((written, trail.into_inner().taken))
 }
