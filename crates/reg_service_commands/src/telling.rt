@@ -15,7 +15,7 @@ ghost use Rattle.reg_service_commands.specs.Telling.{enabled_word, reader_word, 
 use crate::lines::{admin_line, admin_pair_line, new_token_line, new_user_line, revocation_line};
 use reg_names::{canon, parse_name};
 use reg_policy::{AdminCommand, is_reserved_always, parse_patterns};
-use reg_service_requests::{find_named, have_login, told_line};
+use reg_service_requests::{find_named, has_login, told_line};
 use reg_tables::{StoreFault, Work};
 use sqlite::Alter;
 use std::alloc::Global;
@@ -162,7 +162,7 @@ fn tell_owner<S: Alter>(
         return Ok(None);
     };
     let owners = work.owners_of(alloc, named.id)?;
-    let owns = have_login(&owners, login);
+    let owns = has_login(&owners, login);
     if owns {
         return Ok(None);
     }
@@ -199,7 +199,7 @@ fn tell_reader<S: Alter>(
         return Ok(None);
     };
     let readers = work.readers_of(alloc, named.id)?;
-    let reads = have_login(&readers, login);
+    let reads = has_login(&readers, login);
     let changed = differs(reads, is_reader);
     if !changed {
         return Ok(None);

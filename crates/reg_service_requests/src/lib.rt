@@ -29,5 +29,5 @@ pub use commas::WithCommas;
 pub use exporting::export_all;
 pub use naming::find_named;
 pub use served::Served;
-pub use telling::{have_login, told_line};
+pub use telling::{has_login, told_line};
 pub use told::{Acted, ServedTold, serve_told, with_line};

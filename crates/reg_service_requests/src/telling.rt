@@ -15,9 +15,8 @@ ghost use Rattle.reg_service_requests.specs.Telling.{FindsAsker, IsToldLine, Tel
 
 use crate::lines::{change_line, owners_line};
 use crate::naming::find_named;
-use crate::owning::has_login;
 use reg_line::Digest;
-use reg_policy::{Asked, NewPublication};
+use reg_policy::{Asked, NewPublication, same_text};
 use reg_tables::{Account, StoreFault, TokenRow, TokenRows, Work};
 use sqlite::Alter;
 use std::alloc::{AllocError, Global};
@@ -123,25 +122,27 @@ fn tell_mark<S: Alter>(
 }
 
 /// Whether one of the accounts has this login.
-pub fn have_login(accounts: &[Account], login: &str) -> bool
+pub fn has_login(accounts: &[Account], login: &str) -> bool
     ensures { result ≡ list_any
         (λ a. bytes_eq (string_bytes a.login) login.now) accounts.now }
 {
-    accounts.iter().any(|account| has_login(account, login))
+    accounts
+        .iter()
+        .any(|account| same_text(&account.login, login))
 }
 
 fn have_some(owners: &[Account], logins: &[&str]) -> bool
     ensures { result ≡ list_any (λ l. list_any
         (λ a. bytes_eq (string_bytes a.login) l.now) owners.now) logins.now }
 {
-    logins.iter().any(|login| have_login(owners, login))
+    logins.iter().any(|login| has_login(owners, login))
 }
 
 fn have_all(owners: &[Account], logins: &[&str]) -> bool
     ensures { result ≡ list_all (λ l. list_any
         (λ a. bytes_eq (string_bytes a.login) l.now) owners.now) logins.now }
 {
-    logins.iter().all(|login| have_login(owners, login))
+    logins.iter().all(|login| has_login(owners, login))
 }
 
 /// Whether an account with one of these logins is not yet what it is to be.

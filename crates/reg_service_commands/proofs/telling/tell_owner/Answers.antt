@@ -17,7 +17,7 @@ returns-in_default g c =
 
 pub returns-then-owns : goal.returns-then-owns
 returns-then-owns g c =
-    let has : c.have_login-owns.result ≡ list_any (λ a. bytes_eq (string_bytes a.login) c.args.login.now) c.in_ok-owners.owners.items = rw c.deref.ensures.value at c.have_login-owns.ensures in
+    let has : c.has_login-owns.result ≡ list_any (λ a. bytes_eq (string_bytes a.login) c.args.login.now) c.in_ok-owners.owners.items = rw c.deref.ensures.value at c.has_login-owns.ensures in
     asks_made g.S.Store (c.in_ok-named.field-0, c.in_ok-owners.owners) _ c.args.work.now c.owners_of.new.self
     (λ h. order_untold (OwnerAdd c.args.name.now c.args.login.now) _ (owner_words c.args.name.now c.args.login.now c.in-Some.named c.in_ok-owners.owners.items true _ (rw c.in-Some.is at h.0) h.1 (sym has ∙ c.if-owns.true)))
     (asks_both g.S.Store {Q = λ db list. ListsOwners c.in-Some.named.id db list.items} c.in_ok-named.field-0 c.in_ok-owners.owners c.args.work.now c.find_named.new.work c.owners_of.new.self c.in_ok-named.ensures
@@ -25,7 +25,7 @@ returns-then-owns g c =
 
 pub returns : goal.returns
 returns g c =
-    let has : c.have_login-owns.result ≡ list_any (λ a. bytes_eq (string_bytes a.login) c.args.login.now) c.in_ok-owners.owners.items = rw c.deref.ensures.value at c.have_login-owns.ensures in
+    let has : c.has_login-owns.result ≡ list_any (λ a. bytes_eq (string_bytes a.login) c.args.login.now) c.in_ok-owners.owners.items = rw c.deref.ensures.value at c.has_login-owns.ensures in
     let words = codes "owner-add" ∷ string_bytes c.in-Some.named.name ∷ c.args.login.now ∷ [] in
     let made : IfOk c.admin_pair_line.result (λ line. string_bytes line ≡ line_of (codes "-" ∷ codes "admin" ∷ words)) = search rules in
     asks_then g.S.Store (c.in_ok-named.field-0, c.in_ok-owners.owners) c.told_line.result c.args.work.now c.owners_of.new.self c.told_line.new.work

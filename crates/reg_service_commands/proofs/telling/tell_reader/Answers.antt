@@ -18,7 +18,7 @@ returns-in_default g c =
 
 pub returns-then-not-changed : goal.returns-then-not-changed
 returns-then-not-changed g c =
-    let has : c.have_login-reads.result ≡ list_any (λ a. bytes_eq (string_bytes a.login) c.args.login.now) c.in_ok-readers.readers.items = rw c.deref.ensures.value at c.have_login-reads.ensures in
+    let has : c.has_login-reads.result ≡ list_any (λ a. bytes_eq (string_bytes a.login) c.args.login.now) c.in_ok-readers.readers.items = rw c.deref.ensures.value at c.has_login-reads.ensures in
     asks_made g.S.Store (c.in_ok-named.field-0, c.in_ok-readers.readers) _ c.args.work.now c.readers_of.new.self
     (λ h. order_untold (reading c.args.is_reader c.args.name.now c.args.login.now) _ (reader_words c.args.is_reader false c.args.name.now c.args.login.now c.in-Some.named c.in_ok-readers.readers.items _ (rw c.in-Some.is at h.0) h.1 (sym has ∙ rw c.if-not-changed.true at c.differs-changed.ensures)))
     (asks_both g.S.Store {Q = λ db list. ListsReaders c.in-Some.named.id db list.items} c.in_ok-named.field-0 c.in_ok-readers.readers c.args.work.now c.find_named.new.work c.readers_of.new.self c.in_ok-named.ensures
@@ -26,7 +26,7 @@ returns-then-not-changed g c =
 
 pub returns : goal.returns
 returns g c =
-    let has : c.have_login-reads.result ≡ list_any (λ a. bytes_eq (string_bytes a.login) c.args.login.now) c.in_ok-readers.readers.items = rw c.deref.ensures.value at c.have_login-reads.ensures in
+    let has : c.has_login-reads.result ≡ list_any (λ a. bytes_eq (string_bytes a.login) c.args.login.now) c.in_ok-readers.readers.items = rw c.deref.ensures.value at c.has_login-reads.ensures in
     let words = reader_word c.args.is_reader ∷ string_bytes c.in-Some.named.name ∷ c.args.login.now ∷ [] in
     let made : IfOk c.admin_pair_line.result (λ line. string_bytes line ≡ line_of (codes "-" ∷ codes "admin" ∷ words)) = search rules in
     asks_then g.S.Store (c.in_ok-named.field-0, c.in_ok-readers.readers) c.told_line.result c.args.work.now c.readers_of.new.self c.told_line.new.work
