@@ -1,21 +1,17 @@
 mod Adding
-pub mod AnswerLines
-mod Behind
 mod Commands
 mod CrateLines
 mod CratesAsked
 mod Dispatch
-mod LineWords
+mod Lines
 mod Logins
 mod Named
-mod Ordered
-mod OrderGiven
 mod Outcomes
 mod Owning
 mod Reporting
-mod ReportTexts
 mod Rising
 mod TokensAsked
 mod TokenScopes
 mod TokenWalk
+mod Told
 mod Tops

@@ -2,4 +2,3 @@ pub mod Orders
 pub mod ReportedCrates
 pub mod ReportedTokens
 pub mod Reports
-pub mod Telling

@@ -1,23 +1,18 @@
-//! The administrator's commands, each within a transaction that the caller begins and commits, and
-//! the line that a change leaves in a trail.
+//! The administrator's commands, each within a transaction that the caller begins and commits.
 //!
 //! ```
 //! let add = AdminCommand::UserAdd("ada", None);
-//! let told = order_told(alloc, &mut work, &limits, &add, true)?;
-//! told.answer                                 // Ok(AdminReply::Done)
-//! told.line                                   // - admin user-add ada
+//! order(alloc, &mut work, &limits, &add)?     // Ok(AdminReply::Done)
+//! order(alloc, &mut work, &limits, &add)?     // Err(AdminRefusal::G2): login taken
 //! ```
 #![tactic(auto)]
 
 mod accounts;
 mod crates;
 mod finding;
-mod lines;
 mod names;
 mod orders;
 mod reports;
-mod telling;
 mod tokens;
-mod told;
 
-pub use told::{OrderTold, order_told};
+pub use orders::order;

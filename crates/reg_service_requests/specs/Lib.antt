@@ -6,4 +6,3 @@ pub mod Publications
 pub mod Reads
 pub mod Runs
 pub mod Serves
-pub mod Telling

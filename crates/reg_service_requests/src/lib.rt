@@ -1,20 +1,16 @@
-//! What a request does within a transaction: it is denied, served, or done; and the line that a
-//! change leaves in a trail, told before the change is done.
+//! What a request does within a transaction: it is denied, served, or done.
 //!
 //! ```
-//! let told = serve_told(alloc, &mut work, &limits, Some(&digest), &asked, true)?;
-//! match told.served {
+//! match serve(alloc, &mut work, &limits, Some(&digest), &asked)? {
 //!     Served::Told(reply) => reply,        // nothing is to be kept
-//!     Served::Done(reply) => ..            // committed first, with_line(reply, told.line)
+//!     Served::Done(reply) => ..            // committed first
 //!     Served::Seeks(account) => ..         // it may search
 //! }
 //! ```
 #![tactic(auto)]
 
 mod bodies;
-mod commas;
 mod exporting;
-mod lines;
 mod marking;
 mod naming;
 mod owning;
@@ -22,12 +18,8 @@ mod publishing;
 mod reading;
 mod served;
 mod serving;
-mod telling;
-mod told;
 
-pub use commas::WithCommas;
 pub use exporting::export_all;
 pub use naming::find_named;
 pub use served::Served;
-pub use telling::{has_login, told_line};
-pub use told::{Acted, ServedTold, serve_told, with_line};
+pub use serving::serve;

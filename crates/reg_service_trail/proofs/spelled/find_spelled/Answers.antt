@@ -1,0 +1,17 @@
+use Rattle.std.proofs.Common.{sym, ◌∙◌}
+use Rattle.reg_tables_meaning.specs.Calls.{FindsCrate}
+use Rattle.reg_access.proofs.Questions.{asks_nothing}
+use Rattle.reg_service_requests.proofs.Running.{asks_as}
+use Rattle.reg_service_trail.proofs.Spelling.{spelled_so, unspelled}
+use Rattle.reg_service_trail.proofs.spelled.find_spelled.Goals as goal
+
+pub returns-in-Some : goal.returns-in-Some
+returns-in-Some g c =
+    asks_as g.S.Store {P = FindsCrate c.canon.result} c.crate_by_canon.result c.args.work.now c.crate_by_canon.new.self
+    (λ found finds. spelled_so c.args.text.now c.in-Some.name _ found (sym c.parse_name.ensures ∙ c.in-Some.is) (rw c.canon.ensures at finds))
+    (record { told = c.crate_by_canon.ensures.found; same = c.crate_by_canon.ensures.same; leaves = c.crate_by_canon.ensures.leaves })
+
+pub returns-in-None : goal.returns-in-None
+returns-in-None g c =
+    asks_nothing g.S.Store _ c.args.work.now c.requires.goes_on c.requires.at_work
+    (unspelled c.args.text.now _ (sym c.parse_name.ensures ∙ c.in-None.is))

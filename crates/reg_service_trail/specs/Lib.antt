@@ -1,0 +1,3 @@
+pub mod Reading
+pub mod Spelled
+pub mod Telling
