@@ -13,11 +13,11 @@ use Rattle.reg_tables.specs.declared.tables.Tables.{Tables}
 use Rattle.reg_cli_line.specs.declared.exit.Exit.{Exit}
 use Rattle.reg_cli_words.specs.Orders.{Given, Ordered, TokenWords, order_from, report_command, source_of, token_command, words_of}
 use Rattle.reg_cli_words.specs.Orders.Ordered.{Token, Whole}
-use Rattle.reg_cli.specs.Printing.{IsObeyed}
-use Rattle.reg_cli.specs.Tokens.{Makes}
+use Rattle.reg_cli_pipe.specs.Printing.{IsObeyed}
+use Rattle.reg_cli_pipe.specs.Tokens.{Makes}
 use Rattle.reg_cli.specs.declared.administering.Task.{Task}
 use Rattle.reg_cli.specs.declared.administering.Task.TheVariants.{AddToken, Command, Export}
-use Rattle.reg_cli.specs.declared.tokens.TokenMade.{TokenMade}
+use Rattle.reg_cli_pipe.specs.declared.tokens.TokenMade.{TokenMade}
 use Rattle.reg_cli.specs.declared.using.Use.{Use}
 use Rattle.reg_cli.specs.declared.using.Use.TheVariants as uses
 

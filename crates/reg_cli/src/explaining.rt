@@ -1,10 +1,10 @@
 //! What a refusal means, as `docs/REFUSALS.md` says.
 
-use crate::meanings::{COMMANDS, DAMAGES, REQUESTS, WORDS};
-use crate::printing::print;
+use crate::meanings::{ACCESS, COMMANDS, CONTENTS, DAMAGES, HEADS, OTHERS, WORDS};
 use crate::store::damage_words;
 use clap::ArgMatches;
 use reg_cli_line::Exit;
+use reg_cli_pipe::print;
 use reg_model::AdminRefusal;
 use reg_policy::{Rule, admin_text, rule_text};
 use reg_service::Check;
@@ -61,12 +61,24 @@ fn find_in(meanings: &[Meaning], name: &str) -> Option<Meaning> {
         .copied()
 }
 
+fn find_of_request(name: &str) -> Option<Meaning> {
+    find_in(&HEADS, name).or(find_in(&ACCESS, name))
+}
+
+fn find_of_publish(name: &str) -> Option<Meaning> {
+    find_in(&CONTENTS, name).or(find_in(&OTHERS, name))
+}
+
+fn find_of_run(name: &str) -> Option<Meaning> {
+    find_in(&DAMAGES, name).or(find_in(&WORDS, name))
+}
+
 /// The meaning of the refusal with this code, or of the run that ends with this line.
 fn find(name: &str) -> Option<Meaning> {
-    find_in(&REQUESTS, name)
+    find_of_request(name)
+        .or(find_of_publish(name))
         .or(find_in(&COMMANDS, name))
-        .or(find_in(&DAMAGES, name))
-        .or(find_in(&WORDS, name))
+        .or(find_of_run(name))
 }
 
 /// `explain`.

@@ -2,11 +2,10 @@
 
 ghost use Rattle.reg_service.specs.Answered.{AreUpToDate};
 ghost use Rattle.reg_service.specs.Registries.{tables_of};
-ghost use Rattle.reg_cli.specs.Folders.{EndsWriting};
 
 use crate::files::is_registry;
-use crate::folder::{Folder, FolderAt, join_path};
 use reg_cli_line::Exit;
+use reg_cli_pipe::{FolderAt, join_path, write_files};
 use reg_service::Registry;
 use sqlite::Alter;
 use std::alloc::AllocError;
@@ -25,19 +24,6 @@ fn have_registry(
         }
     }
     Ok(false)
-}
-
-/// Writes the files, one after another.
-fn write_files<F: Folder>(folder: &mut F, files: &[(String, Vec<u8>)]) -> Exit
-    ensures { EndsWriting (F.files folder.old) (F.files folder.new) files.now result }
-{
-    for file in files {
-        let (path, bytes) = file;
-        if folder.write_file(path, bytes).is_err() {
-            return Exit::STORAGE;
-        }
-    }
-    Exit::DONE
 }
 
 /// Writes the config and the index files below the folder. Existing files are overwritten, unless

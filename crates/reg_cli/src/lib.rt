@@ -8,17 +8,12 @@
 #![tactic(auto)]
 
 mod administering;
-mod door;
 mod explaining;
 mod exporting;
 mod files;
-mod folder;
 mod meanings;
-mod printing;
-mod service;
 mod serving;
 mod store;
-mod tokens;
 mod using;
 mod words;
 

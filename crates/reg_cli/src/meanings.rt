@@ -3,5 +3,5 @@
 mod requests;
 mod runs;
 
-pub(crate) use requests::REQUESTS;
+pub(crate) use requests::{ACCESS, CONTENTS, HEADS, OTHERS};
 pub(crate) use runs::{COMMANDS, DAMAGES, WORDS};

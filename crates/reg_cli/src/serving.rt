@@ -1,27 +1,23 @@
 //! Streams: one on standard input and output, or connections one after another.
 
-ghost use Rattle.std.specs.Prelude.{◌≡◌, ◌⊎◌, ◌+◌, ◌^◌, ◌<◌, true, [], codes, IfErr, MatchResult, OnOk};
+ghost use Rattle.std.specs.Prelude.{◌≡◌, ◌+◌, ◌^◌, ◌<◌, [], MatchResult, OnOk};
 ghost use Rattle.reg_service.specs.Answered.{AreUpToDate};
-ghost use Rattle.reg_service.specs.Registries.{has_stopped, limits_of, tables_of};
+ghost use Rattle.reg_service.specs.Registries.{limits_of, tables_of};
 ghost use Rattle.reg_cli_pipe.specs.Exits.{EndsWith};
-ghost use Rattle.reg_cli.specs.Limited.{HasTurns};
+ghost use Rattle.reg_cli_pipe.specs.Limited.{HasTurns};
 ghost use Rattle.reg_cli.specs.Setups.{IsSetup};
 
-use crate::door::Door;
-use crate::service::{Service, read_service};
 use crate::store::{connect, create, open};
 use crate::using::{Use, make_file, on_file};
 use clap::ArgMatches;
 use reg_body::{Counted, Limits};
 use reg_cli_line::Exit;
-use reg_cli_pipe::run_pipe;
+use reg_cli_pipe::{Door, Service, read_service, run_pipe, serve_connections};
 use reg_http::{Server, Trail};
 use reg_service::Registry;
 use sqlite::{Alter, Connection};
-use std::alloc::Global;
 use std::fs;
 use std::io::Write;
-use std::net::TcpStream;
 
 /// The base if none is given.
 const BASE: &str = "http://127.0.0.1:8080";
@@ -110,53 +106,6 @@ pub(crate) fn init(rt: &HostRuntime, words: &ArgMatches<'_>) -> Exit {
         return Exit::BAD_WORDS;
     };
     exit_of(make_file(rt, file, base))
-}
-
-/// Serves one connection. A stream that fails ends its connection alone.
-fn serve_connection<S: Alter, T: Write>(
-    alloc: Global,
-    server: &mut Server,
-    registry: &mut Registry<S>,
-    trail: &mut Trail<T>,
-    stream: &TcpStream,
-)
-    requires tables { AreUpToDate S.Store (tables_of registry.old) }
-    requires turns { HasTurns (limits_of registry.old) }
-    ensures tables { AreUpToDate S.Store (tables_of registry.new) }
-    ensures limits { limits_of registry.new ≡ limits_of registry.old }
-{
-    let mut reader = Counted::new(stream);
-    let mut writer = Counted::new(stream);
-    let _ = server.serve_traced(alloc, registry, &mut reader, &mut writer, trail);
-}
-
-/// Serves connections, one after another, until `left` are served or a commit fails: then the
-/// registry answers only S1, and its store has to be opened again.
-fn serve_connections<S: Alter, T: Write>(
-    alloc: Global,
-    server: &mut Server,
-    registry: &mut Registry<S>,
-    trail: &mut Trail<T>,
-    door: &mut Door,
-    left: &mut u64,
-) -> Result<(), Exit>
-    requires tables { AreUpToDate S.Store (tables_of registry.old) }
-    requires turns { HasTurns (limits_of registry.old) }
-    requires room { door.old.accepted + left.old < 2 ^ 64 }
-    ensures counts { door.new.accepted + left.new ≡ door.old.accepted + left.old }
-    ensures ok { OnOk result ((left.new ≡ 0)
-        ⊎ ((has_stopped registry.new ≡ true) × (left.new < left.old))) }
-    ensures err { IfErr result (EndsWith 3 (codes "listen fault")) }
-{
-    'connections: while *left > 0 {
-        let stream = door.accept()?;
-        *left -= 1;
-        serve_connection(alloc, server, registry, trail, &stream);
-        if registry.has_stopped() {
-            return Ok(());
-        }
-    }
-    Ok(())
 }
 
 /// Listens, unless it does already, and serves connections.

@@ -4,15 +4,15 @@ ghost use Rattle.std.specs.Prelude.{◌≡◌, false};
 ghost use Rattle.sqlite.specs.Held.{state};
 ghost use Rattle.reg_service.specs.Answered.{AreUpToDate};
 ghost use Rattle.reg_service.specs.Registries.{limits_of, tables_of};
-ghost use Rattle.reg_cli.specs.Limited.{HasTurns};
+ghost use Rattle.reg_cli_pipe.specs.Limited.{HasTurns};
 ghost use Rattle.reg_cli.specs.Tasks.{IsFitUse};
 
 use crate::administering::{Task, do_task};
-use crate::printing::print;
 use crate::serving::pipe_on;
 use crate::store::{connect, create, open};
 use reg_body::{Counted, Limits};
 use reg_cli_line::Exit;
+use reg_cli_pipe::print;
 use reg_service::Registry;
 use sqlite::{Alter, Connection};
 use std::io;

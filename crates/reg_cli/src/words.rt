@@ -2,12 +2,12 @@
 
 use crate::administering::administer;
 use crate::explaining::explain;
-use crate::printing::NO_WRITING;
 use crate::serving::{check, init, pipe, serve};
 use clap::Error;
 use clap::error::ErrorKind;
 use reg_body::Counted;
 use reg_cli_line::{Exit, run_line};
+use reg_cli_pipe::NO_WRITING;
 use reg_cli_words::{is_dashed, read_words};
 
 /// Prints help, or what is wrong with the arguments.

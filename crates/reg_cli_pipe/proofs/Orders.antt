@@ -22,7 +22,7 @@ use Rattle.reg_tables.specs.Works.{shown}
 use Rattle.reg_service.specs.Acted.{IsOrdered}
 use Rattle.reg_service.specs.Answered.{Answers, LeavesAlone, Shows}
 use Rattle.reg_service.specs.Sequences.{Ran}
-use Rattle.reg_service_trail.specs.declared.ordering.OrderTold.{OrderTold}
+use Rattle.reg_service_commands.specs.declared.told.OrderTold.{OrderTold}
 use Rattle.reg_http.specs.Trails.{Tail, Trails}
 use Rattle.reg_http.proofs.Exchanged.{EventsGoOn}
 use Rattle.reg_http.proofs.Trails.{trails_both, trails_if, trails_nothing}

@@ -1,5 +1,10 @@
 pub mod Exits
+pub mod Folders
+pub mod Limited
 pub mod LineOrders
 pub mod Lines
 pub mod Piped
+pub mod Printing
+pub mod Services
 pub mod Setups
+pub mod Tokens

@@ -2,6 +2,7 @@
 use Rattle.std.specs.Prelude.{◌≡◌, ◌⊎◌, ◌+◌, ◌≤◌, ◌<◌, ◌++◌, ℕ, Bool, true, false, List, [], ◌∷◌, length, None, Option, Result, Ok, Err, All}
 use Rattle.std.specs.List.{flat_map}
 use Rattle.std.specs.Io.KnownBytes.{Appends, Consumes, IsAtEnd}
+use Rattle.sqlite.specs.State.{HasCleanDisk}
 use Rattle.sqlite_trees.specs.declared.store.Store.{Ghosts}
 use Rattle.reg_body.specs.declared.limits.Limits.{Limits}
 use Rattle.reg_http_read.specs.Heads.{Facts, IsHeadAt}
@@ -10,8 +11,12 @@ use Rattle.reg_model.specs.Registry as model
 use Rattle.reg_model.specs.Registry.{Text}
 use Rattle.reg_model.specs.Trail.{trail}
 use Rattle.reg_api_replies.specs.Texts.{refusal_text}
+use Rattle.reg_service.specs.Answered.{Shows}
+use Rattle.reg_service.specs.Registries.{limits_of, tables_of}
 use Rattle.reg_service.specs.Sequences.{Ran}
+use Rattle.reg_service.specs.declared.registry.Registry.{Registry}
 use Rattle.reg_tables.specs.declared.tables.Tables.{Tables}
+use Rattle.reg_tables.specs.Works.{shown}
 use Rattle.reg_http_read.specs.Begun.{IsBegun, IsRefused, interim_of}
 use Rattle.reg_http.specs.Exchanges.{Exchange, IsExchange, IsOfFile, answers_in, closes, events_in, reply_of}
 use Rattle.reg_http.specs.Trails.{Tail, Trails}
@@ -171,3 +176,19 @@ abbrev pub ServesTraced : {S : Type 0} → Ghosts S → Limits → model.Registr
     → Tail → Tail → Option Text → Option Text → Option Text → Option Text
     → Result ℕ StreamFault → Type 0
 ServesTraced g limits s entry now k0 k1 = ServesLeaving g limits s entry now (Trails k0 k1)
+
+-- whatever registry was held, what was written is what a run of it replies to what was read
+abbrev pub IsServing : {S : Type 0} → Ghosts S → Registry S → Registry S
+    → Option Text → Option Text → Option Text → Option Text → Result ℕ StreamFault → Type 0
+IsServing g old new r0 r1 w0 w1 result =
+    HasCleanDisk (shown g (tables_of new)) → (s : model.Registry)
+    → Shows s (shown g (tables_of old))
+    → Serves g (limits_of old) s (tables_of old) (tables_of new) r0 r1 w0 w1 result
+
+-- the same, and its trail is told
+abbrev pub IsServingTraced : {S : Type 0} → Ghosts S → Registry S → Registry S → Tail → Tail
+    → Option Text → Option Text → Option Text → Option Text → Result ℕ StreamFault → Type 0
+IsServingTraced g old new k0 k1 r0 r1 w0 w1 result =
+    HasCleanDisk (shown g (tables_of new)) → (s : model.Registry)
+    → Shows s (shown g (tables_of old))
+    → ServesTraced g (limits_of old) s (tables_of old) (tables_of new) k0 k1 r0 r1 w0 w1 result

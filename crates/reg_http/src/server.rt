@@ -1,13 +1,11 @@
 //! Serving streams.
 
 ghost use Rattle.std.specs.Prelude.{◌+◌, ◌^◌, ◌<◌, ℕ, vec_len};
-ghost use Rattle.sqlite.specs.State.{HasCleanDisk};
 ghost use Rattle.reg_http_read.specs.Turns.{Spends, SpendsTurns, tally};
-ghost use Rattle.reg_service.specs.Answered.{AreUpToDate, Shows};
+ghost use Rattle.reg_service.specs.Answered.{AreUpToDate};
 ghost use Rattle.reg_service.specs.Registries.{limits_of, tables_of};
-ghost use Rattle.reg_tables.specs.Works.{shown};
 ghost use Rattle.reg_http.specs.Answering.{GoesOn};
-ghost use Rattle.reg_http.specs.Streams.{Serves, ServesTraced};
+ghost use Rattle.reg_http.specs.Streams.{IsServing, IsServingTraced};
 ghost use Rattle.reg_http.specs.Trails.{IsTrailed, tail};
 
 use crate::stream::serve_requests;
@@ -56,10 +54,7 @@ impl Server {
         requires writes { w.old.calls + (limits_of registry.old).turns < 2 ^ 64 }
 
         // What was written is what a run of the registry replies to what was read.
-        ensures serves { HasCleanDisk (shown S.Store (tables_of registry.new)) → (s : _)
-            → Shows s (shown S.Store (tables_of registry.old))
-            → Serves S.Store (limits_of registry.old) s
-            (tables_of registry.old) (tables_of registry.new)
+        ensures serves { IsServing S.Store registry.old registry.new
             (R.remaining r.old.inner) (R.remaining r.new.inner)
             (W.contents w.old.inner) (W.contents w.new.inner) result }
 
@@ -88,10 +83,7 @@ impl Server {
         requires writes { w.old.calls + (limits_of registry.old).turns < 2 ^ 64 }
 
         // What was written is what a run of the registry replies to what was read, and its trail.
-        ensures serves { HasCleanDisk (shown S.Store (tables_of registry.new)) → (s : _)
-            → Shows s (shown S.Store (tables_of registry.old))
-            → ServesTraced S.Store (limits_of registry.old) s
-            (tables_of registry.old) (tables_of registry.new)
+        ensures serves { IsServingTraced S.Store registry.old registry.new
             (tail (T.contents trail.old.end.inner) trail.old)
             (tail (T.contents trail.new.end.inner) trail.new)
             (R.remaining r.old.inner) (R.remaining r.new.inner)
@@ -133,10 +125,7 @@ pub fn serve_stream<R: Read, W: Write, S: Alter>(
     requires writes { w.old.calls + (limits_of registry.old).turns < 2 ^ 64 }
 
     // What was written is what a run of the registry replies to what was read.
-    ensures serves { HasCleanDisk (shown S.Store (tables_of registry.new)) → (s : _)
-        → Shows s (shown S.Store (tables_of registry.old))
-        → Serves S.Store (limits_of registry.old) s
-        (tables_of registry.old) (tables_of registry.new)
+    ensures serves { IsServing S.Store registry.old registry.new
         (R.remaining r.old.inner) (R.remaining r.new.inner)
         (W.contents w.old.inner) (W.contents w.new.inner) result }
 
@@ -163,10 +152,7 @@ pub fn serve_traced<R: Read, W: Write, T: Write, S: Alter>(
     requires writes { w.old.calls + (limits_of registry.old).turns < 2 ^ 64 }
 
     // What was written is what a run of the registry replies to what was read, and its trail.
-    ensures serves { HasCleanDisk (shown S.Store (tables_of registry.new)) → (s : _)
-        → Shows s (shown S.Store (tables_of registry.old))
-        → ServesTraced S.Store (limits_of registry.old) s
-        (tables_of registry.old) (tables_of registry.new)
+    ensures serves { IsServingTraced S.Store registry.old registry.new
         (tail (T.contents trail.old.end.inner) trail.old)
         (tail (T.contents trail.new.end.inner) trail.new)
         (R.remaining r.old.inner) (R.remaining r.new.inner)

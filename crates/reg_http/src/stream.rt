@@ -1,15 +1,13 @@
 //! Taking and answering the requests of a stream.
 
 ghost use Rattle.std.specs.Prelude.{◌≡◌, ◌+◌, ◌^◌, ◌<◌, ◌≤◌, ◌||◌, ◌==◌, ℕ, [], drop, length, take};
-ghost use Rattle.sqlite.specs.State.{HasCleanDisk};
 ghost use Rattle.reg_http_read.specs.Owned.{facts_owned};
 ghost use Rattle.reg_http_read.specs.Reads.{facts_of};
 ghost use Rattle.reg_http_read.specs.Turns.{SpendsTurns, tally};
-ghost use Rattle.reg_service.specs.Answered.{AreUpToDate, Shows};
+ghost use Rattle.reg_service.specs.Answered.{AreUpToDate};
 ghost use Rattle.reg_service.specs.Registries.{limits_of, tables_of};
-ghost use Rattle.reg_tables.specs.Works.{shown};
 ghost use Rattle.reg_http.specs.Answering.{GoesOn};
-ghost use Rattle.reg_http.specs.Streams.{ServesTraced};
+ghost use Rattle.reg_http.specs.Streams.{IsServingTraced};
 ghost use Rattle.reg_http.specs.Trails.{IsTrailed, tail};
 
 use crate::answering::{Message, answer_message, deny};
@@ -65,10 +63,7 @@ pub(crate) fn serve_requests<R: Read, W: Write, T: Write, S: Alter>(
     requires writes { w.old.calls + (limits_of registry.old).turns < 2 ^ 64 }
     requires some { 0 < length chunk.old }
     requires nothing { pending.old.items ≡ [] }
-    ensures serves { HasCleanDisk (shown S.Store (tables_of registry.new)) → (s : _)
-        → Shows s (shown S.Store (tables_of registry.old))
-        → ServesTraced S.Store (limits_of registry.old) s
-        (tables_of registry.old) (tables_of registry.new)
+    ensures serves { IsServingTraced S.Store registry.old registry.new
         (tail (T.contents trail.old.end.inner) trail.old)
         (tail (T.contents trail.new.end.inner) trail.new)
         (R.remaining r.old.inner) (R.remaining r.new.inner)

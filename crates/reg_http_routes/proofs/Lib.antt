@@ -1,1 +1,4 @@
+pub mod Fitting
+pub mod Walking
+pub mod Parts
 pub mod Leading

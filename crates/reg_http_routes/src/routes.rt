@@ -1,16 +1,17 @@
 //! The routes of the registry.
 
-ghost use Rattle.std.specs.Prelude.{◌≡◌, OnOk, option_copied};
+ghost use Rattle.std.specs.Prelude.{◌≡◌, IfOk, IfSome, option_copied, option_map};
 ghost use Rattle.reg_http_read.specs.Reads.{facts_of};
 ghost use Rattle.reg_http_routes.specs.Routed.{IsRouted};
 ghost use Rattle.reg_http_routes.specs.Routing.{routing_of};
 ghost use Rattle.reg_http_routes.specs.Table.{place_of, table, with_route};
+ghost use Rattle.reg_http_routes.specs.Taken.{Took, taken};
 
 use crate::calls::call_at;
 use crate::fault::RouteFault;
 use crate::place::{Place, are_with};
 use crate::target::split;
-use matchit::Router;
+use matchit::{Params, Router};
 use reg_api_requests::ApiRequest;
 use reg_http_read::Head;
 use std::alloc::{AllocError, Global};
@@ -22,48 +23,46 @@ pub struct Routes {
     ghost whole: { router ≡ table },
 }
 
-/// Adds a route. All routes are well formed and none is there twice, so only memory can run out.
-fn add(router: &mut Router<Place>, route: &str, place: Place) -> Result<(), AllocError>
-    ensures { OnOk result (router.new ≡ with_route route.now place router.old) }
+/// The router with one more route. All routes are well formed and none is there twice, so only
+/// memory can run out.
+fn add(mut router: Router<Place>, route: &str, place: Place) -> Result<Router<Place>, AllocError>
+    ensures { IfOk result (λ new. new ≡ with_route route.now place router) }
 {
     let Ok(()) = router.insert(route, place) else {
         return Err(AllocError);
     };
-    Ok(())
+    Ok(router)
 }
 
 impl Routes {
     /// The table of all routes.
     pub fn new(alloc: Global) -> Result<Routes, AllocError> {
-        let mut router = Router::new(alloc);
-        add(&mut router, "/index/{*rest}", Place::Index)?;
-        add(&mut router, "/api/v1/crates", Place::Crates)?;
-        add(&mut router, "/api/v1/crates/new", Place::New)?;
-        add(&mut router, "/api/v1/crates/{crate}/owners", Place::Owners)?;
-        add(
-            &mut router,
-            "/api/v1/crates/{crate}/{version}/yank",
-            Place::Yank,
-        )?;
-        add(
-            &mut router,
+        let router = Router::new(alloc);
+        let router = add(router, "/index/{*rest}", Place::Index)?;
+        let router = add(router, "/api/v1/crates", Place::Crates)?;
+        let router = add(router, "/api/v1/crates/new", Place::New)?;
+        let router = add(router, "/api/v1/crates/{crate}/owners", Place::Owners)?;
+        let router = add(router, "/api/v1/crates/{crate}/{version}/yank", Place::Yank)?;
+        let router = add(
+            router,
             "/api/v1/crates/{crate}/{version}/unyank",
             Place::Unyank,
         )?;
-        add(
-            &mut router,
+        let router = add(
+            router,
             "/api/v1/crates/{crate}/{version}/download",
             Place::Download,
         )?;
         Ok(Routes { router })
     }
 
-    /// Where a path leads.
-    fn place(&self, path: &str) -> Option<Place>
-        ensures { result ≡ place_of path.now }
+    /// Where a path leads, and what the parameters of its route took.
+    fn place<'p>(&self, path: &'p str) -> Option<(Place, Params<'_, 'p>)>
+        ensures place { option_map (λ found. found.0) result ≡ place_of path.now }
+        ensures params { IfSome result (λ found. Took found.0 path.now (taken found.1)) }
     {
         match self.router.at(path) {
-            Ok(found) => Some(*found.value),
+            Ok(found) => Some((*found.value, found.params)),
             Err(_) => None,
         }
     }
@@ -79,7 +78,7 @@ impl Routes {
             result }
     {
         let (path, _) = split(head.target);
-        let Some(place) = self.place(path) else {
+        let Some((place, params)) = self.place(path) else {
             return Err(RouteFault::NoRoute);
         };
         let methods = place.methods();
@@ -88,7 +87,7 @@ impl Routes {
         }
         Ok(ApiRequest {
             token: head.token,
-            call: call_at(alloc, place, head.method, head.target, body)?,
+            call: call_at(alloc, place, &params, head.method, head.target, body)?,
         })
     }
 }

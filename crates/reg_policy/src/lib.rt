@@ -11,6 +11,7 @@
 #![tactic(auto)]
 
 mod action;
+mod commas;
 mod deciding;
 mod event;
 mod orders;
@@ -20,6 +21,7 @@ mod words;
 mod words_given;
 
 pub use action::{Action, Decision, OwnerRow, Rows, TokenFacts};
+pub use commas::WithCommas;
 pub use deciding::{crate_of, decide, has_endpoint, is_covered, logins_of, same_text};
 pub use event::{
     AdminCommand, AdminReply, Answer, Asked, Event, NewPublication, OwnerEntry, Reading, action_of,

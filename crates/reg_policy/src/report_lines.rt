@@ -1,7 +1,6 @@
 //! A line for each entry of the administrator's reports, in columns.
 
 ghost use Rattle.std.specs.Prelude.{◌≡◌, ◌++◌, [], IfOk, OnOk, map, string_bytes};
-ghost use Rattle.std.specs.Fmt.{WritesOnOk};
 ghost use Rattle.std.specs.List.{filter};
 ghost use Rattle.std.specs.Option.{option_map};
 ghost use Rattle.reg_model.specs.Grants.{all_endpoints};
@@ -9,6 +8,7 @@ ghost use Rattle.reg_model.specs.Registry.{Account, Token};
 ghost use Rattle.reg_model.specs.Reports.{crate_line, grant_line, reader_line, token_line, user_line, with_commas, word_of};
 ghost use Rattle.reg_model.specs.Rules.{has_endpoint};
 
+use crate::commas::{WithCommas, Word};
 use crate::deciding::has_endpoint;
 use reg_model::{Endpoint, Endpoints};
 use reg_names::Pattern;
@@ -80,57 +80,11 @@ fn members(alloc: Global, endpoints: &Endpoints) -> Result<Vec<Endpoint>, AllocE
         .collect(alloc)
 }
 
-/// What is shown as one word.
-trait Word {
-    ghost use Rattle.reg_model.specs.Registry.{Text};
-
-    ghost text: { Self → Text };
-
-    fn text(&self) -> &str
-        ensures { result.now ≡ text self.now };
-}
-
 impl Word for Endpoint {
     ghost text = { word_of };
 
     fn text(&self) -> &str {
         word_of(*self)
-    }
-}
-
-impl Word for Pattern {
-    ghost text = { λ pattern. pattern };
-
-    fn text(&self) -> &str {
-        self.as_str()
-    }
-}
-
-fn write_with_commas<T: Word, W: fmt::Write>(f: &mut fmt::Formatter<W>, words: &[T]) -> fmt::Result
-    ensures { WritesOnOk W.write_str_gives f.old result (with_commas (map T.text words.now)) f.new }
-{
-    match words {
-        [] => Ok(()),
-        [last] => f.write_str(last.text()),
-        [word, more @ ..] => {
-            write!(f, "{},", word.text())?;
-            write_with_commas(f, more)
-        }
-    }
-}
-
-/// Words with commas between them.
-#[derive(Drop)]
-struct WithCommas<'a, T>(&'a [T]);
-
-impl<T: Word> fmt::Display for WithCommas<'_, T> {
-    ghost use Rattle.std.specs.Prelude.{Some, map};
-    ghost use Rattle.reg_model.specs.Reports.{with_commas};
-
-    ghost output = { λ words. Some (with_commas (map T.text words.0.now)) };
-
-    fn fmt<W: fmt::Write>(&self, f: &mut fmt::Formatter<W>) -> fmt::Result {
-        write_with_commas(f, self.0)
     }
 }
 

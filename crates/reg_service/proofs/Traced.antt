@@ -22,10 +22,12 @@ use Rattle.reg_tables.specs.declared.tables.Tables.{Tables}
 use Rattle.reg_service.specs.Acted.{ActsTo, HasLine, Orders}
 use Rattle.reg_service.specs.Answered.{Answers, Are}
 use Rattle.reg_service.specs.Handled.{RepliesTo}
-use Rattle.reg_service_trail.specs.Telling.{TellsIf, line_of_answer, line_with}
-use Rattle.reg_service_trail.specs.declared.ordering.OrderTold.{OrderTold}
-use Rattle.reg_service_trail.specs.declared.serving.Acted.{Acted}
-use Rattle.reg_service_trail.proofs.Lines.{answer_told, refusal_told, reply_told}
+use Rattle.reg_service_requests.specs.Telling.{TellsIf, line_with}
+use Rattle.reg_service_commands.specs.Telling.{line_of_answer}
+use Rattle.reg_service_commands.specs.declared.told.OrderTold.{OrderTold}
+use Rattle.reg_service_requests.specs.declared.told.Acted.{Acted}
+use Rattle.reg_service_commands.proofs.AnswerLines.{answer_told, refusal_told}
+use Rattle.reg_service_requests.proofs.ReplyLines.{reply_told}
 
 -- the line that was told, if one was wanted
 pub tells_line : (limits : Limits) (s : Registry) (e : Event) (traced : Bool) (db : Trees) (found : Option (String Global)) → TellsIf traced e db found → Are s db → traced ≡ true → IsPassed limits s e → line limits s e ≡ option_map string_bytes found

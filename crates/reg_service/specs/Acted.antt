@@ -16,8 +16,8 @@ use Rattle.reg_api_replies.specs.declared.reply.Reply.TheVariants.{Denied}
 use Rattle.reg_tables.specs.declared.tables.Tables.{Tables}
 use Rattle.reg_tables.specs.Works.{shown}
 use Rattle.reg_service.specs.Answered.{Answers, Shows}
-use Rattle.reg_service_trail.specs.declared.ordering.OrderTold.{OrderTold}
-use Rattle.reg_service_trail.specs.declared.serving.Acted.{Acted}
+use Rattle.reg_service_commands.specs.declared.told.OrderTold.{OrderTold}
+use Rattle.reg_service_requests.specs.declared.told.Acted.{Acted}
 
 -- this is what the event that was answered so tells, if it is traced
 abbrev pub HasLine : Bool → Limits → Registry → Event → Answer → Option (String Global) → Type 0

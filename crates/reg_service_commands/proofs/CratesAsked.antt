@@ -16,7 +16,7 @@ use Rattle.reg_access.proofs.Questions.{asks_after, asks_both, asks_failed, asks
 use Rattle.reg_service_commands.specs.ReportedCrates.{AddsLine, HasLines, IsCrate, highest_among, line_of_crate}
 use Rattle.reg_service_commands.specs.Reports.{Reports}
 use Rattle.reg_service_commands.proofs.CrateLines.{crates_told, each_at, line_told}
-use Rattle.reg_service_commands.proofs.Lines.{next_line}
+use Rattle.reg_service_commands.proofs.Behind.{next_line}
 
 pub line_added : (db : Trees) (c : Crate) (vs : List Version) (old new : Text) → ListsVersions c.id db vs → new ≡ old ++ crate_line (string_bytes c.name) (length vs) (highest_among vs) → AddsLine c old new db
 line_added db c vs old new lists told ids s h is = told ∙ ap (λ l. old ++ l) (line_told ids s c vs (lists ids s h) is)

@@ -1,17 +1,21 @@
 mod Adding
+pub mod AnswerLines
+mod Behind
 mod Commands
 mod CrateLines
 mod CratesAsked
 mod Dispatch
-mod Lines
+mod LineWords
 mod Logins
 mod Named
+mod Ordered
+mod OrderGiven
 mod Outcomes
 mod Owning
 mod Reporting
+mod ReportTexts
 mod Rising
 mod TokensAsked
 mod TokenScopes
 mod TokenWalk
-mod Told
 mod Tops

@@ -23,6 +23,7 @@ use Rattle.reg_tables_meaning.specs.Stands.{Stands}
 use Rattle.std.specs.Prelude.{Ok, Err, unwrap_or}
 use Rattle.std.specs.List.{cons_option}
 use Rattle.reg_service_requests.specs.Named.{FindsNamed}
+use Rattle.reg_service_requests.proofs.Names.{named_there}
 use Rattle.reg_service_commands.specs.Orders.{FindsPair, HasOutcome, first_ground, restricting}
 use Rattle.reg_service_commands.proofs.Named.{paired}
 use Rattle.reg_service_commands.proofs.Outcomes.{done_so, refused_so}
@@ -120,6 +121,6 @@ restrict_refused limits b name db none = refused_so limits (restricting b name) 
 
 pub restrict_done : (limits : Limits) (b : Bool) (name : Text) (c : Crate) (old new : Trees) → FindsNamed name old (Some c) → Restricts b c.id old new → HasOutcome limits (Order (restricting b name)) Done old new
 restrict_done limits b name c old new is sets = done_so limits (restricting b name) Done old new (λ ids s h.
-    let it = is ids s h in
+    let it = named_there name old c is ids s h in
     let (n, at, same) = it.1 in
     (ground_of limits b s name ∙ ap (λ there. first_ground ((refusal.G8, not there) ∷ [])) it.0, told_done b s name, subst (λ t. Stands t new) (restricted_so b s name n _ at same) (ids, sets ids s h)))

@@ -15,7 +15,7 @@ use Rattle.reg_access.specs.Asks.{Asks}
 use Rattle.reg_access.proofs.Questions.{asks_both, asks_made}
 use Rattle.reg_service_commands.specs.Reports.{Reports}
 use Rattle.reg_service_commands.specs.ReportedTokens.{AreTokens, line_among}
-use Rattle.reg_service_commands.proofs.Told.{tokens_told}
+use Rattle.reg_service_commands.proofs.ReportTexts.{tokens_told}
 
 pub tokens_asked : {S : Type 0} (g : Ghosts S) (accounts : Vec Account Global) (both : TokenLists) (text : String Global) (a b c : Work S) → Asks {E = StoreFault} g a b (Ok accounts) (λ db list. ListsAccounts db list.items)
     → Asks {E = StoreFault} g b c (Ok both) (λ db it. ListsTokens db it.tokens.items × ListsScopes db it.scopes.items)

@@ -2,3 +2,4 @@ pub mod Orders
 pub mod ReportedCrates
 pub mod ReportedTokens
 pub mod Reports
+pub mod Telling

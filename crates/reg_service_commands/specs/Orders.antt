@@ -13,7 +13,7 @@ use Rattle.reg_model.specs.declared.endpoint.Endpoints.{Endpoints}
 use Rattle.reg_model.specs.Changes.{with_token}
 use Rattle.reg_model.specs.Events.{Answer, Command, Event}
 use Rattle.reg_model.specs.Events.Answer.{Id}
-use Rattle.reg_model.specs.Events.Command.{CrateOpen, CrateRestrict, UserDisable, UserEnable}
+use Rattle.reg_model.specs.Events.Command.{CrateOpen, CrateRestrict, ReaderAdd, ReaderRemove, UserDisable, UserEnable}
 use Rattle.reg_model.specs.Events.Event.{Order}
 use Rattle.reg_model.specs.Refusals.{is_endpoint, no_crate, no_login, patterns_given}
 use Rattle.reg_model.specs.Registry.{Registry, Text, id_of_login, token_of}
@@ -59,6 +59,11 @@ enabling false login = UserDisable login
 abbrev pub restricting : Bool → Text → Command
 restricting true n = CrateRestrict n
 restricting false n = CrateOpen n
+
+-- the command that makes an account a reader of a crate, or no longer
+abbrev pub reading : Bool → Text → Text → Command
+reading true n login = ReaderAdd n login
+reading false n login = ReaderRemove n login
 
 -- the first ground whose test passes
 abbrev pub first_ground : List (AdminRefusal × Bool) → Option AdminRefusal

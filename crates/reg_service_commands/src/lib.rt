@@ -1,18 +1,23 @@
-//! The administrator's commands, each within a transaction that the caller begins and commits.
+//! The administrator's commands, each within a transaction that the caller begins and commits, and
+//! the line that a change leaves in a trail.
 //!
 //! ```
 //! let add = AdminCommand::UserAdd("ada", None);
-//! order(alloc, &mut work, &limits, &add)?     // Ok(AdminReply::Done)
-//! order(alloc, &mut work, &limits, &add)?     // Err(AdminRefusal::G2): login taken
+//! let told = order_told(alloc, &mut work, &limits, &add, true)?;
+//! told.answer                                 // Ok(AdminReply::Done)
+//! told.line                                   // - admin user-add ada
 //! ```
 #![tactic(auto)]
 
 mod accounts;
 mod crates;
 mod finding;
+mod lines;
 mod names;
 mod orders;
 mod reports;
+mod telling;
 mod tokens;
+mod told;
 
-pub use orders::order;
+pub use told::{OrderTold, order_told};

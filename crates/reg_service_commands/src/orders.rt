@@ -18,7 +18,7 @@ use sqlite::Alter;
 use std::alloc::Global;
 
 /// Runs a command, or refuses it.
-pub fn order<S: Alter>(
+pub(crate) fn order<S: Alter>(
     alloc: Global,
     work: &mut Work<'_, S>,
     limits: &Limits,

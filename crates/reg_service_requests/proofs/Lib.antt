@@ -1,16 +1,25 @@
+pub mod Afterwards
+mod AskedGiven
+mod Askers
+mod Asking
 pub mod ConfigText
 mod Deciding
 mod ExportAsked
 mod IndexFiles
+mod Joined
 pub mod Judging
 pub mod Marked
+mod Marks
 pub mod Names
+pub mod Owned
 pub mod OwningDone
 pub mod OwningIds
 pub mod OwningRuns
 pub mod OwningSets
+pub mod Placed
 pub mod Publications
 pub mod ReadingServed
+pub mod ReplyLines
 mod Rising
 pub mod Running
 mod VersionArchives

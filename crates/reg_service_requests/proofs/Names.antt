@@ -8,11 +8,11 @@ use Rattle.reg_model.specs.Crates.{exists}
 use Rattle.reg_model.specs.Registry.{Registry, Text}
 use Rattle.reg_tables_sql.specs.declared.crates.Crate.{Crate}
 use Rattle.reg_tables_meaning.specs.Calls.{FindsCrate}
-use Rattle.reg_tables_meaning.specs.Stands.{Ids}
+use Rattle.reg_tables_meaning.specs.Stands.{Holds, Ids}
 use Rattle.reg_access.proofs.GrantLaw.{first_canon, there_is}
 use Rattle.reg_access.specs.Admitted.{IsCrateOf}
 use Rattle.reg_access.specs.declared.admission.FoundCrate.{FoundCrate}
-use Rattle.reg_service_requests.specs.Named.{FindsNamed, IsSpelled}
+use Rattle.reg_service_requests.specs.Named.{FindsNamed, IsNamed, IsSpelled}
 
 same_some : {X : Type 0} {a b : X} → ◌≡◌ {A = Option X} (Some a) (Some b) → a ≡ b
 same_some e = cc
@@ -38,9 +38,15 @@ named t n db None given finds = λ ids s h.
     ap (λ b. b && exists s t) it.0 ∙ there_is ids s db h t None ((finds ids s h).0 t (ap canon it.1))
 named t n db (Some c) given finds = λ ids s h.
     let it = is_given t n given in
-    let told = (finds ids s h).0 t (ap canon it.1) in (
-      ap (λ b. b && exists s t) it.0 ∙ there_is ids s db h t (Some c) told,
-      (string_bytes c.name, (finds ids s h).1, first_canon s t (string_bytes c.name) (sym told)),
+    let f = finds ids s h in
+    record { name = it.0; first = sym (f.0 t (ap canon it.1)); at = f.1 }
+
+-- its name is one, and it is there
+pub named_there : (t : Text) (db : Trees) (c : Crate) → FindsNamed t db (Some c) → (ids : Ids) (s : Registry) → Holds ids s db → IsNamed ids s t c.id
+named_there t db c finds ids s h =
+    let f = finds ids s h in (
+      ap (λ b. b && exists s t) f.name ∙ there_is ids s db h t (Some c) (sym f.first),
+      (string_bytes c.name, f.at, first_canon s t (string_bytes c.name) f.first),
     )
 
 -- the text is no name

@@ -6,3 +6,4 @@ pub mod Publications
 pub mod Reads
 pub mod Runs
 pub mod Serves
+pub mod Telling

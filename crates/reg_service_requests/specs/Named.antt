@@ -1,8 +1,8 @@
 -- What the texts of a request or of a command name.
-use Rattle.std.specs.Prelude.{◌≡◌, ◌&&◌, ℕ, true, false, Option, None, Some}
+use Rattle.std.specs.Prelude.{◌≡◌, ◌&&◌, ℕ, true, false, Option, None, Some, string_bytes}
 use Rattle.sqlite.specs.Tree.{Trees}
 use Rattle.reg_names.specs.Names.{canon, is_name}
-use Rattle.reg_model.specs.Crates.{exists, viewer}
+use Rattle.reg_model.specs.Crates.{exists, first, viewer}
 use Rattle.reg_model.specs.Registry.{Registry, Text}
 use Rattle.reg_tables_sql.specs.declared.crates.Crate.{Crate}
 use Rattle.reg_tables_meaning.specs.Calls.{Tells}
@@ -16,10 +16,16 @@ IsSpelled ids name id = (n : Text) × (spelling_at ids id ≡ Some n) × (canon 
 abbrev pub IsNamed : Ids → Registry → Text → ℕ → Type 0
 IsNamed ids s text id = ((is_name text && exists s text) ≡ true) × IsSpelled ids text id
 
+-- it is named by a text, and has this spelling
+pub record IsSpelledBy (ids : Ids) (s : Registry) (text : Text) (it : Crate) : Type 0 where
+  pub name : is_name text ≡ true
+  pub first : first s text ≡ Some (string_bytes it.name)
+  pub at : spelling_at ids it.id ≡ Some (string_bytes it.name)
+
 -- the crate that a text names; none where the text is no name or no crate has it
 abbrev pub FindsNamed : Text → Trees → Option Crate → Type 0
 FindsNamed text db None = Tells (λ ids s. (is_name text && exists s text) ≡ false) db
-FindsNamed text db (Some it) = Tells (λ ids s. IsNamed ids s text it.id) db
+FindsNamed text db (Some it) = Tells (λ ids s. IsSpelledBy ids s text it) db
 
 -- the account of the token with this digest
 abbrev pub IsViewer : Text → ℕ → Trees → Type 0

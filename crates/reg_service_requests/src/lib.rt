@@ -1,9 +1,11 @@
-//! What a request does within a transaction: it is denied, served, or done.
+//! What a request does within a transaction: it is denied, served, or done; and the line that a
+//! change leaves in a trail, told before the change is done.
 //!
 //! ```
-//! match serve(alloc, &mut work, &limits, Some(&digest), &asked)? {
+//! let told = serve_told(alloc, &mut work, &limits, Some(&digest), &asked, true)?;
+//! match told.served {
 //!     Served::Told(reply) => reply,        // nothing is to be kept
-//!     Served::Done(reply) => ..            // committed first
+//!     Served::Done(reply) => ..            // committed first, with_line(reply, told.line)
 //!     Served::Seeks(account) => ..         // it may search
 //! }
 //! ```
@@ -11,6 +13,7 @@
 
 mod bodies;
 mod exporting;
+mod lines;
 mod marking;
 mod naming;
 mod owning;
@@ -18,8 +21,12 @@ mod publishing;
 mod reading;
 mod served;
 mod serving;
+mod telling;
+mod told;
 
 pub use exporting::export_all;
+pub use lines::line_of;
 pub use naming::find_named;
 pub use served::Served;
-pub use serving::serve;
+pub use telling::{differs, have_login, told_line};
+pub use told::{Acted, ServedTold, serve_told, with_line};

@@ -61,7 +61,8 @@ fn find_all_known<S: Alter>(
     Ok(Some(ids))
 }
 
-fn has_login(owner: &Account, login: &str) -> bool
+/// Whether the account has this login.
+pub(crate) fn has_login(owner: &Account, login: &str) -> bool
     ensures { result ≡ bytes_eq (string_bytes owner.now.login) login.now }
 {
     same_text(&owner.login, login)

@@ -58,7 +58,7 @@ fn grant<S: Alter>(
 }
 
 /// The outcome of a request, with the digest of its token if exactly one was shown.
-pub fn serve<S: Alter>(
+pub(crate) fn serve<S: Alter>(
     alloc: Global,
     work: &mut Work<'_, S>,
     limits: &Limits,

@@ -3,8 +3,8 @@
 use crate::explaining::{Meaning, Subject};
 use reg_policy::Rule;
 
-/// Each rule that a request can break.
-pub(crate) const REQUESTS: [Meaning; 35] = [
+/// What is wrong with the head of a request.
+pub(crate) const HEADS: [Meaning; 7] = [
     Meaning {
         subject: Subject::Rule(Rule::H1),
         text: "The head is not well-formed HTTP, or has no `Host` field, or has two.\n\
@@ -46,6 +46,10 @@ pub(crate) const REQUESTS: [Meaning; 35] = [
         text: "The path exists, but not with this method.\n\
                The reply's `allow` field names the methods that it takes.\n",
     },
+];
+
+/// What the access rules refuse.
+pub(crate) const ACCESS: [Meaning; 9] = [
     Meaning {
         subject: Subject::Rule(Rule::A1),
         text: "The request has no token, or has two `Authorization` fields.\n\
@@ -99,6 +103,10 @@ pub(crate) const REQUESTS: [Meaning; 35] = [
         text: "The crate has no version of exactly this text.\n\
                Write it as it was published, with everything after its `+`.\n",
     },
+];
+
+/// What is wrong with the contents of a publish, and the limits that it meets.
+pub(crate) const CONTENTS: [Meaning; 13] = [
     Meaning {
         subject: Subject::Rule(Rule::B1),
         text: "The upload is not complete: it was cut or changed on its way.\n\
@@ -175,6 +183,10 @@ pub(crate) const REQUESTS: [Meaning; 35] = [
         text: "The registry has 1,000,000 crates, and takes no more.\n\
                Tell the administrator.\n",
     },
+];
+
+/// What is wrong with a list of owners or a query, and a store that cannot serve.
+pub(crate) const OTHERS: [Meaning; 6] = [
     Meaning {
         subject: Subject::Rule(Rule::O1),
         text: "A request on owners names 1 to 32 logins.\n\

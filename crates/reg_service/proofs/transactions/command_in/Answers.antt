@@ -6,7 +6,7 @@ use Rattle.reg_model.specs.Events.Event.{Order}
 use Rattle.reg_policy.specs.Events.{command_of, reply_of}
 use Rattle.reg_tables.specs.Works.{held, seen, shown}
 use Rattle.reg_tables.proofs.Looking.{call_looks}
-use Rattle.reg_service_trail.specs.Telling.{line_of_answer}
+use Rattle.reg_service_commands.specs.Telling.{line_of_answer}
 use Rattle.reg_service.specs.Answered.{Answers}
 use Rattle.reg_service.proofs.Frames.{committed, dropped, not_begun, not_committed, sees}
 use Rattle.reg_service.proofs.Traced.{orders, tells_line, unordered}

@@ -1,6 +1,6 @@
 use Rattle.std.specs.Prelude.{string_bytes}
 use Rattle.reg_access.proofs.Questions.{asks_both, asks_made}
-use Rattle.reg_service_commands.proofs.Told.{access_told}
+use Rattle.reg_service_commands.proofs.ReportTexts.{access_told}
 use Rattle.reg_service_commands.proofs.reports.access.access_report.Goals as goal
 
 pub returns-in-Ok : goal.returns-in-Ok

@@ -1,7 +1,7 @@
 use Rattle.std.proofs.Common.{◌+◌, drop, subst, arith}
 use Rattle.std.specs.Prelude.{string_bytes}
 use Rattle.std.proofs.lemmas.List.{drop_all}
-use Rattle.reg_service_commands.proofs.Lines.{front_of}
+use Rattle.reg_service_commands.proofs.Behind.{front_of}
 use Rattle.reg_service_commands.proofs.TokenWalk.{Walked, ended, one_more}
 use Rattle.reg_service_commands.proofs.reports.tokens.lines_of.Goals as goal
 

@@ -4,7 +4,7 @@ use Rattle.reg_tables_meaning.specs.Calls.{ListsAccounts}
 use Rattle.reg_tables.specs.declared.work.StoreFault.{StoreFault}
 use Rattle.reg_access.specs.Asks.{Asks}
 use Rattle.reg_access.proofs.Questions.{asks_made}
-use Rattle.reg_service_commands.proofs.Told.{users_told}
+use Rattle.reg_service_commands.proofs.ReportTexts.{users_told}
 use Rattle.reg_service_commands.proofs.reports.users.users_report.Goals as goal
 
 pub returns-in-Ok : goal.returns-in-Ok

@@ -1,0 +1,83 @@
+//! The lines of what commands change.
+
+ghost use Rattle.std.specs.Prelude.{◌≡◌, ◌∷◌, [], IfOk, codes, map, string_bytes};
+ghost use Rattle.std.specs.Fmt.{decimal};
+ghost use Rattle.std.specs.Option.{option_map};
+ghost use Rattle.reg_model.specs.Reports.{with_commas};
+ghost use Rattle.reg_model.specs.Trail.{line_of, name_words};
+
+use itoa::Buffer;
+use reg_names::Pattern;
+use reg_policy::WithCommas;
+use reg_service_requests::line_of;
+use std::alloc::{AllocError, Global};
+
+/// A change by the administrator, of one thing.
+pub fn admin_line(alloc: Global, verb: &str, of: &str) -> Result<String, AllocError>
+    ensures { IfOk result (λ line. string_bytes line ≡ line_of (codes "-" ∷ codes "admin"
+        ∷ verb.now ∷ of.now ∷ [])) }
+{
+    line_of(alloc, &["-", "admin", verb, of])
+}
+
+/// A change by the administrator, of an account and a crate.
+pub fn admin_pair_line(
+    alloc: Global,
+    verb: &str,
+    name: &str,
+    login: &str,
+) -> Result<String, AllocError>
+    ensures { IfOk result (λ line. string_bytes line ≡ line_of (codes "-" ∷ codes "admin"
+        ∷ verb.now ∷ name.now ∷ login.now ∷ [])) }
+{
+    line_of(alloc, &["-", "admin", verb, name, login])
+}
+
+/// A token that is revoked.
+pub fn revocation_line(alloc: Global, id: u32) -> Result<String, AllocError>
+    ensures { IfOk result (λ line. string_bytes line ≡ line_of (codes "-" ∷ codes "admin"
+        ∷ codes "token-revoke" ∷ decimal id ∷ [])) }
+{
+    let mut digits = Buffer::new();
+    admin_line(alloc, "token-revoke", digits.format(id))
+}
+
+fn named_line(alloc: Global, login: &str, name: &str) -> Result<String, AllocError>
+    ensures { IfOk result (λ line. string_bytes line ≡ line_of (codes "-" ∷ codes "admin"
+        ∷ codes "user-add" ∷ login.now ∷ codes "--name" ∷ name.now ∷ [])) }
+{
+    line_of(alloc, &["-", "admin", "user-add", login, "--name", name])
+}
+
+/// A new account.
+pub fn new_user_line(alloc: Global, login: &str, name: Option<&str>) -> Result<String, AllocError>
+    ensures { IfOk result (λ line. string_bytes line ≡ line_of (codes "-" ∷ codes "admin"
+        ∷ codes "user-add" ∷ login.now ∷ name_words (option_map (λ n. n.now) name.entry))) }
+{
+    match name {
+        Some(name) => named_line(alloc, login, name),
+        None => admin_line(alloc, "user-add", login),
+    }
+}
+
+/// A new token, by its account's login, the words for its endpoints, and its patterns.
+pub fn new_token_line(
+    alloc: Global,
+    login: &str,
+    words: &[&str],
+    patterns: &[Pattern],
+) -> Result<String, AllocError>
+    ensures { IfOk result (λ line. string_bytes line ≡ line_of (codes "-" ∷ codes "admin"
+        ∷ codes "token-add" ∷ login.now ∷ codes "--endpoints"
+        ∷ with_commas (map (λ w. w.now) words.now)
+        ∷ codes "--patterns" ∷ with_commas patterns.now ∷ [])) }
+{
+    let mut line = String::new(alloc);
+    writeln!(
+        line,
+        "- admin token-add {login} --endpoints {} --patterns {}",
+        WithCommas(words),
+        WithCommas(patterns)
+    )?;
+    Ok(line)
+}

@@ -1,0 +1,30 @@
+-- What is asked of a request that a match found.
+use Rattle.std.proofs.Common.{◌≡◌, ◌⊎◌, inl, inr, List, ℕ, false, Option, Result, ap, sym, subst}
+use Rattle.std.specs.Borrow.{Bor}
+use Rattle.std.specs.Prelude.{String}
+use Rattle.std.specs.declared.alloc.Global.{Global}
+use Rattle.sqlite_trees.specs.declared.store.Store.{Ghosts}
+use Rattle.reg_policy.specs.declared.event.Asked.{Asked}
+use Rattle.reg_policy.specs.declared.event.Asked.TheVariants.{Download, Faulty, Index, ListOwners, Read}
+use Rattle.reg_policy.specs.declared.event.Reading.{Reading}
+use Rattle.reg_model.specs.declared.rule.Rule.{Rule}
+use Rattle.reg_policy.specs.Events.{asked_of}
+use Rattle.reg_tables.specs.declared.work.StoreFault.{StoreFault}
+use Rattle.reg_tables.specs.declared.work.Work.{Work}
+use Rattle.reg_access.specs.Asks.{Asks}
+use Rattle.reg_service_requests.specs.declared.telling.Asker.{Asker}
+use Rattle.reg_service_requests.specs.Telling.{TellsRequest, is_change}
+
+module _ {S : Type 0} (g : Ghosts S) (r : Result (Option (String Global)) StoreFault) (old new : Work S) where
+  pub asked_given : (a : Asker) (asked given : Asked) → asked ≡ given → Asks g old new r (TellsRequest a (asked_of given)) → Asks g old new r (TellsRequest a (asked_of asked))
+  asked_given a asked given is h = subst (λ it. Asks g old new r (TellsRequest a (asked_of it))) (sym is) h
+
+-- requests that read
+pub reads_only : (a : Asked) → ((x : Rule) × (a ≡ Faulty x)) ⊎ (((x : Reading) × (a ≡ Read x)) ⊎ ((x : Bor (List ℕ)) × (a ≡ Index x))) → is_change (asked_of a) ≡ false
+reads_only a (inl (x, e)) = ap (λ it. is_change (asked_of it)) e
+reads_only a (inr (inl (x, e))) = ap (λ it. is_change (asked_of it)) e
+reads_only a (inr (inr (x, e))) = ap (λ it. is_change (asked_of it)) e
+
+pub takes_only : (a : Asked) → ((x : Bor (List ℕ)) × (y : Bor (List ℕ)) × (a ≡ Download x y)) ⊎ ((x : Bor (List ℕ)) × (a ≡ ListOwners x)) → is_change (asked_of a) ≡ false
+takes_only a (inl (x, y, e)) = ap (λ it. is_change (asked_of it)) e
+takes_only a (inr (x, e)) = ap (λ it. is_change (asked_of it)) e

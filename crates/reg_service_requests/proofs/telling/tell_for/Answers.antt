@@ -1,0 +1,35 @@
+use Rattle.reg_access.proofs.Questions.{asks_nothing}
+use Rattle.reg_policy.specs.Events.{asked_of}
+use Rattle.reg_service_requests.proofs.Asking.{nothing_told}
+use Rattle.reg_service_requests.proofs.AskedGiven.{asked_given, reads_only, takes_only}
+use Rattle.reg_service_requests.proofs.telling.tell_for.Goals as goal
+
+pub returns-in-Publish : goal.returns-in-Publish
+returns-in-Publish g c =
+    asked_given g.S.Store c.tell_publication.result c.args.work.now c.tell_publication.new.work c.args.asker.now c.args.asked.now _ c.in-Publish.is c.tell_publication.ensures
+
+pub returns-in-Yank : goal.returns-in-Yank
+returns-in-Yank g c =
+    asked_given g.S.Store c.tell_mark.result c.args.work.now c.tell_mark.new.work c.args.asker.now c.args.asked.now _ c.in-Yank.is c.tell_mark.ensures
+
+pub returns-in-Unyank : goal.returns-in-Unyank
+returns-in-Unyank g c =
+    asked_given g.S.Store c.tell_mark-in-Unyank.result c.args.work.now c.tell_mark-in-Unyank.new.work c.args.asker.now c.args.asked.now _ c.in-Unyank.is c.tell_mark-in-Unyank.ensures
+
+pub returns-in-AddOwners : goal.returns-in-AddOwners
+returns-in-AddOwners g c =
+    asked_given g.S.Store c.tell_owners.result c.args.work.now c.tell_owners.new.work c.args.asker.now c.args.asked.now _ c.in-AddOwners.is c.tell_owners.ensures
+
+pub returns-in-RemoveOwners : goal.returns-in-RemoveOwners
+returns-in-RemoveOwners g c =
+    asked_given g.S.Store c.tell_owners-in-RemoveOwners.result c.args.work.now c.tell_owners-in-RemoveOwners.new.work c.args.asker.now c.args.asked.now _ c.in-RemoveOwners.is c.tell_owners-in-RemoveOwners.ensures
+
+pub returns-in-Faulty : goal.returns-in-Faulty
+returns-in-Faulty g c =
+    asks_nothing g.S.Store _ c.args.work.now c.requires.goes_on c.requires.at_work
+    (nothing_told c.args.asker.now (asked_of c.args.asked.now) _ (reads_only c.args.asked.now c.in-Faulty.is))
+
+pub returns-in-Download : goal.returns-in-Download
+returns-in-Download g c =
+    asks_nothing g.S.Store _ c.args.work.now c.requires.goes_on c.requires.at_work
+    (nothing_told c.args.asker.now (asked_of c.args.asked.now) _ (takes_only c.args.asked.now c.in-Download.is))

@@ -1,0 +1,41 @@
+//! The lines of what requests change, from their words.
+
+ghost use Rattle.std.specs.Prelude.{◌≡◌, ◌∷◌, [], IfOk, map, string_bytes};
+ghost use Rattle.reg_model.specs.Reports.{with_commas};
+ghost use Rattle.reg_model.specs.Trail.{line_of};
+
+use crate::telling::Asker;
+use std::alloc::{AllocError, Global};
+
+/// A line of these words, with a space between each two.
+#[tactic(auto, using(crate::proofs::Joined::joined))]
+pub fn line_of(alloc: Global, words: &[&str]) -> Result<String, AllocError>
+    ensures { IfOk result (λ line. string_bytes line ≡ line_of (map (λ w. w.now) words.now)) }
+{
+    let mut line = words.join(alloc, " ")?;
+    line.push_str("\n")?;
+    Ok(line)
+}
+
+/// Texts with a comma between each two.
+#[tactic(auto, using(crate::proofs::Joined::joined))]
+pub(crate) fn with_commas(alloc: Global, texts: &[&str]) -> Result<String, AllocError>
+    ensures { IfOk result (λ text. string_bytes text ≡ with_commas (map (λ t. t.now) texts.now)) }
+{
+    texts.join(alloc, ",")
+}
+
+/// A change of a crate by who asks.
+pub(crate) fn change_line(
+    alloc: Global,
+    asker: &Asker,
+    verb: &str,
+    name: &str,
+    more: &str,
+) -> Result<String, AllocError>
+    ensures { IfOk result (λ line. string_bytes line ≡ line_of (string_bytes asker.now.token
+        ∷ string_bytes asker.now.login ∷ verb.now ∷ name.now ∷ more.now ∷ [])) }
+{
+    let words = [asker.token.as_str(), asker.login.as_str(), verb, name, more];
+    line_of(alloc, &words)
+}
