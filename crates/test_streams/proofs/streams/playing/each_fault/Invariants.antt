@@ -1,6 +1,6 @@
 use Rattle.reg_service.specs.Answered.{AreUpToDate}
 use Rattle.reg_service.specs.Registries.{tables_of}
-use Rattle.test_registry.proofs.streams.playing.each_fault.Given as goal
+use Rattle.test_streams.proofs.streams.playing.each_fault.Given as goal
 
 -- the tables are ours between two streams
 abbrev pub invariant-loop-place : goal.invariant-loop-place

@@ -1,6 +1,6 @@
 use Rattle.std.proofs.Common.{◌≡◌}
 use Rattle.reg_tables.specs.Works.{IsAtWork}
-use Rattle.test_registry.proofs.access.pairs.add_tokens.Given as goal
+use Rattle.test_stores.proofs.access.pairs.add_tokens.Given as goal
 
 -- the transaction goes on, of the same tables
 abbrev pub invariant-loop-number : goal.invariant-loop-number
