@@ -1,17 +1,19 @@
--- What is handed on of a request that is let pass: the token's account, the crate and the version that the action names.
+-- What is handed on of a request that is let pass: the token and its account, the crate and the version that the action names.
 use Rattle.std.proofs.Common.{◌≡◌, ◌⊎◌, inl, inr, ℕ, pos, List, [], ◌∷◌, Bool, true, false, cond, Option, Some, None, is_some, refl, sym, ap, subst, ◌∙◌}
 use Rattle.std.proofs.lemmas.Bool.{and_parts}
 use Rattle.std.specs.List.{filter, find}
 use Rattle.std.specs.Option.{option_map}
+use Rattle.std.specs.Fmt.{decimal}
+use Rattle.std.specs.Prelude.{string_bytes}
 use Rattle.sqlite.specs.Tree.{Trees}
 use Rattle.sqlite.specs.declared.types.Value.{Value}
 use Rattle.sqlite.specs.declared.types.Value.TheVariants.{Int}
 use Rattle.reg_names.specs.Names.{canon}
 use Rattle.reg_model.specs.Actions.{Action, crate_of}
 use Rattle.reg_model.specs.Actions.Action.{Read, Index, Download, ListOwners, Publish, Yank, Unyank, AddOwners, RemoveOwners}
-use Rattle.reg_model.specs.Crates.{first, viewer}
+use Rattle.reg_model.specs.Crates.{first}
 use Rattle.reg_model.specs.Facts.{Access, lists}
-use Rattle.reg_model.specs.Registry.{Registry, Text, Token, holds, token_of}
+use Rattle.reg_model.specs.Registry.{Registry, Text, holds}
 use Rattle.reg_model.specs.Rules.{access, breaks, is_access_rule, order}
 use Rattle.reg_model.specs.declared.rule.Rule.{Rule}
 use Rattle.reg_model.proofs.Cleared.{Clear}
@@ -32,11 +34,11 @@ use Rattle.reg_access.specs.declared.finding.Found.{Found}
 use Rattle.reg_access.specs.declared.found.CrateRow.{CrateRow}
 use Rattle.reg_access.specs.Found.{AreFound, facts_found, rows_of}
 use Rattle.reg_access.specs.JoinRows.{crates_seen_by, is_there, names_version, text_in, value_at}
-use Rattle.reg_access.specs.Laws.{TellsCrate, TellsToken}
+use Rattle.reg_access.specs.Laws.{TellsCrate}
 use Rattle.reg_access.proofs.CrateLaw.{IsFound, IsMissing, found_or_missing, id_shown, no_rows, tells_crate}
 use Rattle.reg_access.proofs.FoundFacts.{found_verdict}
 use Rattle.reg_access.proofs.GrantLaw.{first_canon}
-use Rattle.reg_access.proofs.TokenLaw.{tells_token}
+use Rattle.reg_access.proofs.Askers.{asker_is, viewer_is}
 use Rattle.reg_access.proofs.VersionIds.{id_named}
 
 -- where no rule is broken, the crate that an action needs is seen
@@ -96,18 +98,12 @@ admission_made digest a db t it m known are made = record { decided = found_verd
 same_number : {a b : ℕ} → ◌≡◌ {A = Value} (Int (pos a)) (Int (pos b)) → a ≡ b
 same_number e = cc
 
+-- who asks, by the token and the login that are handed on
+named_by : (c : Caller) (t : TokenRow) → t.id ≡ c.token → t.login ≡ c.login → ◌≡◌ {A = List Text} (decimal t.id ∷ string_bytes t.login ∷ []) (decimal c.token ∷ string_bytes c.login ∷ [])
+named_by c t id login = λ i. decimal (id i) ∷ string_bytes (login i) ∷ []
+
 -- and where these stand for a registry
 module _ (ids : Ids) (s : Registry) (db : Trees) (h : Holds ids s db) where
-  viewer_is : (digest : Text) (t : TokenRow) → tokens_with_accounts digest db ≡ columns_with_account t ∷ [] → viewer s digest ≡ Some t.account
-  viewer_is digest t known = by (token_of s digest) refl
-    where
-      told : TellsToken s digest (tokens_with_accounts digest db)
-      told = tells_token digest ids s db h.sound h.stands
-
-      by : (o : Option Token) → token_of s digest ≡ o → option_map (λ k. k.account) o ≡ Some t.account
-      by None e = absurd (true_not_false true refl (sym (ap is_there known) ∙ told.known ∙ ap is_some e))
-      by (Some k) e = ap Some (sym (same_number (sym (ap (λ rs. value_at rs 1) known) ∙ (told.ids k e).3)))
-
   module _ (n : Text) (account : ℕ) where
     told : TellsCrate s n account (crates_seen_by (canon n) (Int (pos account)) db)
     told = tells_crate ids s db h.sound h.stands n account
@@ -136,7 +132,8 @@ module _ (ids : Ids) (s : Registry) (db : Trees) (h : Holds ids s db) where
 
   caller_is : (digest : Text) (a : Action) (c : Caller) → ShowsCaller digest a db c → IsCallerOf ids s digest a c
   caller_is digest a c shows = record {
-    account = viewer_is digest shows.token shows.known ∙ ap Some (sym shows.handed.account);
+    who = asker_is ids s db h digest shows.token shows.known ∙ named_by c shows.token (sym shows.handed.token) (sym shows.handed.login);
+    account = viewer_is ids s db h digest shows.token shows.known ∙ ap Some (sym shows.handed.account);
     found = subst (IsFoundOf ids s (crate_of a)) (sym shows.handed.found) (found_is (crate_of a) shows.token.account shows.it.row shows.are.row);
     version =
         subst (IsIdOf ids (version_named s a)) (sym shows.handed.version)

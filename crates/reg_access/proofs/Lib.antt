@@ -1,6 +1,7 @@
 mod AccessOrder
 mod Admitting
 mod Answered
+mod Askers
 pub mod Calls
 mod CrateLaw
 mod CrateText

@@ -1,5 +1,6 @@
 -- What is found of a request that is let pass.
-use Rattle.std.specs.Prelude.{◌≡◌, ◌==◌, if◌then◌else◌, ℕ, Bool, true, false, IsSome, ⊤, [], ◌∷◌, Option, Some, None}
+use Rattle.std.specs.Prelude.{◌≡◌, ◌==◌, if◌then◌else◌, ℕ, Bool, true, false, IsSome, ⊤, [], ◌∷◌, Option, Some, None, string_bytes}
+use Rattle.std.specs.Fmt.{decimal}
 use Rattle.std.specs.List.{find}
 use Rattle.std.specs.Option.{option_map}
 use Rattle.sqlite.specs.Tree.{Trees}
@@ -10,6 +11,7 @@ use Rattle.reg_model.specs.Crates.{version, viewer}
 use Rattle.reg_model.specs.Facts.{spelling}
 use Rattle.reg_model.specs.Registry.{Publication, Registry, Text}
 use Rattle.reg_model.specs.Rules.{access}
+use Rattle.reg_model.specs.Trail.{asker}
 use Rattle.reg_policy.specs.declared.action.Decision.{Decision}
 use Rattle.reg_policy.specs.declared.action.Decision.TheVariants as decision
 use Rattle.reg_policy.specs.Views.{decision_of}
@@ -62,9 +64,11 @@ abbrev pub IsIdOf : Ids → Option Publication → Option ℕ → Type 0
 IsIdOf ids p None = p ≡ None
 IsIdOf ids p (Some id) = (publication_at ids id ≡ p) × IsSome p
 
--- whom the token with this digest speaks for, and the crate and the version that the action names
+-- the token with this digest and whom it speaks for, and the crate and the version that the action
+-- names
 pub record IsCallerOf (ids : Ids) (s : Registry) (digest : Text) (a : Action) (c : Caller) : Type 0
   where
+    pub who : asker s digest ≡ decimal c.token ∷ string_bytes c.login ∷ []
     pub account : viewer s digest ≡ Some c.account
     pub found : IsFoundOf ids s (crate_of a) c.found
     pub version : IsIdOf ids (version_named s a) c.version
@@ -91,8 +95,10 @@ HasItsVersion a it = OfCaller it (λ c. names_version a ≡ true → IsSome c.ve
 abbrev pub shown_crate : CrateRow → FoundCrate
 shown_crate r = record { id = r.id; name = r.name }
 
--- the account, the crate and the version of this token and of what was found
+-- this token and its account, and the crate and the version of what was found
 pub record IsCallerIn (t : TokenRow) (it : Found) (c : Caller) : Type 0 where
+  pub token : c.token ≡ t.id
+  pub login : c.login ≡ t.login
   pub account : c.account ≡ t.account
   pub found : c.found ≡ option_map shown_crate it.row
   pub version : c.version ≡ it.version
@@ -104,7 +110,7 @@ pub record IsAdmitted (a : Action) (t : TokenRow) (it : Found) (m : Admission) :
   pub there : HasItsCrate a m
   pub named : HasItsVersion a m
 
--- the account, the crate and the version are those of the rows
+-- the token, the account, the crate and the version are those of the rows
 pub record ShowsCaller (digest : Text) (a : Action) (db : Trees) (c : Caller) : Type 0 where
   pub token : TokenRow
   pub it : Found

@@ -31,7 +31,7 @@ fn judge<S: Alter>(
         return Ok(Admission::Denied(Rule::A2));
     };
     let found = find_all(work, &token, action)?;
-    Ok(admission_of(&token, found, action))
+    Ok(admission_of(token, found, action))
 }
 
 /// What is published has a name: the body is there for the prover, which knows a name's form once

@@ -25,8 +25,12 @@ pub struct FoundCrate {
 /// Who is allowed, and the crate and the version of the action.
 #[derive(Drop)]
 pub struct Caller {
+    /// The id of the token.
+    pub token: u32,
     /// The id of the token's account.
     pub account: u32,
+    /// The login of that account.
+    pub login: String,
     /// The crate that the action names, if it is there. Only an action that names none, or one that
     /// publishes, is allowed without one.
     pub found: Option<FoundCrate>,
@@ -87,13 +91,15 @@ fn crate_of_row(row: Option<CrateRow>) -> Option<FoundCrate>
 }
 
 /// The admission of an action, given what was found.
-pub(crate) fn admission_of(token: &TokenRow, found: Found, action: &Action) -> Admission
-    ensures { IsAdmitted (action_of action.now) token.now found result }
+pub(crate) fn admission_of(token: TokenRow, found: Found, action: &Action) -> Admission
+    ensures { IsAdmitted (action_of action.now) token found result }
 {
-    match first_broken(token, &found, action) {
+    match first_broken(&token, &found, action) {
         Decision::Denied(rule) => Admission::Denied(rule),
         Decision::Allowed => Admission::Allowed(Caller {
+            token: token.id,
             account: token.account,
+            login: token.login,
             found: crate_of_row(found.row),
             version: found.version,
         }),

@@ -1,5 +1,5 @@
 -- A request that is decided, and what is let pass by another name of it.
-use Rattle.std.proofs.Common.{◌≡◌, Option, None, Some, Ok, Err, Result, refl, sym, ap, subst, ◌∙◌, ℕ}
+use Rattle.std.proofs.Common.{◌≡◌, Bool, true, false, Option, None, Some, Ok, Err, Result, refl, sym, ap, subst, ◌∙◌, ℕ}
 use Rattle.std.specs.Prelude.{not, unwrap_or}
 use Rattle.std.specs.List.{find, filter}
 use Rattle.sqlite.specs.Tree.{Trees}
@@ -30,25 +30,29 @@ use Rattle.reg_policy.specs.declared.event.Asked.{Asked as Wanted}
 use Rattle.reg_policy.specs.Events.{asked_of}
 use Rattle.reg_policy.specs.Views.{decision_of}
 use Rattle.reg_api_replies.specs.declared.reply.Reply.TheVariants.{Denied}
+use Rattle.reg_tables_meaning.specs.Calls.{Tells}
 use Rattle.reg_tables.specs.declared.work.StoreFault.{StoreFault}
 use Rattle.reg_tables.specs.declared.work.Work.{Work}
 use Rattle.reg_service_requests.specs.Granted.{Grants, GrantsOf, GrantsTo, GrantsVersion, IsLet}
 use Rattle.reg_service_requests.specs.Named.{IsViewer}
 use Rattle.reg_service_requests.specs.Serves.{Serves}
+use Rattle.reg_service_requests.specs.Telling.{ServesTold, TellsIf, TellsLine}
+use Rattle.reg_service_requests.specs.declared.told.ServedTold.{ServedTold}
 use Rattle.reg_service_requests.specs.declared.served.Served.{Served}
 use Rattle.reg_service_requests.specs.declared.served.Served.TheVariants.{Seeks, Told}
+use Rattle.reg_service_requests.proofs.ReplyLines.{nobody_told}
 
 -- no token was shown
 no_token_at : (limits : Limits) (asked : Asked) (db : Trees) → Serves limits None asked db db (Told (Denied rule.A1))
 unfolding denied
 no_token_at limits asked db ids s h = (refl, refl)
 
-pub no_token : (limits : Limits) (d : Option Text) (asked : Asked) (db : Trees) → d ≡ None → Serves limits d asked db db (Told (Denied rule.A1))
+no_token : (limits : Limits) (d : Option Text) (asked : Asked) (db : Trees) → d ≡ None → Serves limits d asked db db (Told (Denied rule.A1))
 no_token limits d asked db e = subst (λ it. Serves limits it asked db db (Told (Denied rule.A1))) (sym e) (no_token_at limits asked db)
 
 -- some token was
-pub with_token : (limits : Limits) (d : Option Text) (digest : Text) (asked : Asked) (old new : Trees) (it : Served) → d ≡ Some digest → Serves limits (Some digest) asked old new it → Serves limits d asked old new it
-with_token limits d digest asked old new it e h = subst (λ x. Serves limits x asked old new it) (sym e) h
+pub with_token : (traced : Bool) (limits : Limits) (d : Option Text) (digest : Text) (asked : Asked) (old new : Trees) (it : ServedTold) → d ≡ Some digest → ServesTold traced limits (Some digest) asked old new it → ServesTold traced limits d asked old new it
+with_token traced limits d digest asked old new it e h = subst (λ x. ServesTold traced limits x asked old new it) (sym e) h
 
 -- it breaks a rule
 pub is_denied : (limits : Limits) (s : Registry) (digest : Option Text) (asked : Asked) (r : Rule) → denied limits s digest asked ≡ Some r → outcome limits s (Ask digest asked) ≡ (to_denied r, s)
@@ -63,15 +67,43 @@ none_of None e = refl
 none_of (Some x) e = absurd cc e
 
 -- the rules on access do not let it pass
-pub not_let : AccessComesFirst → (limits : Limits) (digest : Text) (asked : Asked) (db : Trees) (r : Rule) → IsPolicy digest (action_of asked) db (denies r) → Serves limits (Some digest) asked db db (Told (Denied r))
+is_first : AccessComesFirst → (limits : Limits) (digest : Text) (asked : Asked) (db : Trees) (r : Rule) → IsPolicy digest (action_of asked) db (denies r) → Tells (λ ids s. denied limits s (Some digest) asked ≡ Some r) db
 unfolding denied
-not_let law limits digest asked db r policy ids s h =
+is_first law limits digest asked db r policy ids s h =
     let a = action_of asked in
     let is = rule_of _ r (policy ids s h) in
     let first : judged limits s digest a ≡ Some r = law limits (access_facts s digest a) (counts s a) a
     ∙ ap (λ o. or_else o (find (broken limits (access_facts s digest a) (counts s a) a) (filter (λ it. not (is_access_rule it)) (order (access_facts s digest a).first a)))) is in
-    let e = is_denied limits s (Some digest) asked r (ap (λ o. or_else o (fault_of asked)) first) in
+    ap (λ o. or_else o (fault_of asked)) first
+
+not_let : AccessComesFirst → (limits : Limits) (digest : Text) (asked : Asked) (db : Trees) (r : Rule) → IsPolicy digest (action_of asked) db (denies r) → Serves limits (Some digest) asked db db (Told (Denied r))
+not_let law limits digest asked db r policy ids s h =
+    let e = is_denied limits s (Some digest) asked r (is_first law limits digest asked db r policy ids s h) in
     (ap (λ (it : Outcome). it.0) e, ap (λ (it : Outcome). it.1) e)
+
+no_rule : (r : Rule) → ◌≡◌ {A = Option Rule} (Some r) None → ⊥
+no_rule r e = cc
+
+not_told : AccessComesFirst → (digest : Text) (asked : Asked) (db : Trees) (r : Rule) → IsPolicy digest (action_of asked) db (denies r) → TellsLine (Ask (Some digest) asked) db None
+not_told law digest asked db r policy ids s h limits ok = absurd (no_rule r (sym (is_first law limits digest asked db r policy ids s h) ∙ ok))
+
+-- a denial has no line
+module _ (traced : Bool) (limits : Limits) (d : Option Text) (asked : Asked) (db : Trees) (r : Rule) (it : ServedTold) (served : it.served ≡ Told (Denied r)) (line : it.line ≡ None) where
+  denial : Serves limits d asked db db (Told (Denied r)) → TellsLine (Ask d asked) db None → ServesTold traced limits d asked db db it
+  denial serves tells = (subst (Serves limits d asked db db) (sym served) serves, subst (TellsIf traced (Ask d asked) db) (sym line) (by traced))
+    where
+      by : (b : Bool) → TellsIf b (Ask d asked) db None
+      by true = tells
+      by false = refl
+
+pub no_token_told : (traced : Bool) (limits : Limits) (d : Option Text) (asked : Asked) (db : Trees) (it : ServedTold) → it.served ≡ Told (Denied rule.A1) → it.line ≡ None → d ≡ None → ServesTold traced limits d asked db db it
+no_token_told traced limits d asked db it served line e =
+    denial traced limits d asked db rule.A1 it served line (no_token limits d asked db e) (subst (λ x. TellsLine (Ask x asked) db None) (sym e) (nobody_told asked db))
+
+pub denied_told : AccessComesFirst → (traced : Bool) (limits : Limits) (d : Option Text) (digest : Text) (asked : Asked) (db : Trees) (r : Rule) (it : ServedTold) → it.served ≡ Told (Denied r) → it.line ≡ None → d ≡ Some digest → IsPolicy digest (action_of asked) db (denies r) → ServesTold traced limits d asked db db it
+denied_told law traced limits d digest asked db r it served line e policy =
+    with_token traced limits d digest asked db db it e
+    (denial traced limits (Some digest) asked db r it served line (not_let law limits digest asked db r policy) (not_told law digest asked db r policy))
 
 -- or they do
 pub is_let : (digest : Text) (a : Action) (db : Trees) → IsPolicy digest a db Allowed → IsLet digest a db

@@ -1,6 +1,5 @@
 pub mod Afterwards
 mod AskedGiven
-mod Askers
 mod Asking
 pub mod ConfigText
 mod Deciding

@@ -46,7 +46,7 @@ let_so : (limits : Limits) (s : Registry) (d n v : Text) (b : Bool) → access (
 let_so limits s d n v true passes = denied_by_others limits d (marking true n v) s passes
 let_so limits s d n v false passes = denied_by_others limits d (marking false n v) s passes
 
-is_published : (limits : Limits) (s : Registry) (d n v : Text) (b : Bool) → denied limits s (Some d) (marking b n v) ≡ None → has_version s (canon n) v ≡ true
+pub is_published : (limits : Limits) (s : Registry) (d n v : Text) (b : Bool) → denied limits s (Some d) (marking b n v) ≡ None → has_version s (canon n) v ≡ true
 unfolding access_facts
 is_published limits s d n v true allowed = let all = not_denied limits s d (marking true n v) allowed in published s d n v all.1.1.1.1.0 all.1.1.1.1.1.1.1.0
 is_published limits s d n v false allowed = let all = not_denied limits s d (marking false n v) allowed in published s d n v all.1.1.1.1.0 all.1.1.1.1.1.1.1.0
@@ -63,7 +63,7 @@ says_ok : (b : Bool) (s : Registry) (d n v : Text) (body : Vec _ Global) → bod
 says_ok true s d n v body is = (refl, refl, is)
 says_ok false s d n v body is = (refl, refl, is)
 
-named_in : (b : Bool) (n v : Text) → crate_of (action_of (marking b n v)) ≡ name_of n
+pub named_in : (b : Bool) (n v : Text) → crate_of (action_of (marking b n v)) ≡ name_of n
 named_in true n v = refl
 named_in false n v = refl
 

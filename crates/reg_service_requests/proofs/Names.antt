@@ -1,16 +1,17 @@
 -- Crates that are named by texts.
-use Rattle.std.proofs.Common.{◌≡◌, ◌&&◌, Bool, true, false, cond, Option, Some, None, refl, sym, ap, ◌∙◌}
+use Rattle.std.proofs.Common.{◌≡◌, ◌&&◌, Bool, true, false, cond, Option, Some, None, refl, sym, ap, subst, ◌∙◌}
 use Rattle.std.specs.Prelude.{[], string_bytes, unwrap_or}
 use Rattle.std.specs.Option.{option_map}
 use Rattle.sqlite.specs.Tree.{Trees}
 use Rattle.reg_names.specs.Names.{canon, is_name, name_at, name_of}
-use Rattle.reg_model.specs.Crates.{exists}
+use Rattle.reg_model.specs.Crates.{exists, first}
+use Rattle.reg_model.specs.Facts.{spelling}
 use Rattle.reg_model.specs.Registry.{Registry, Text}
 use Rattle.reg_tables_sql.specs.declared.crates.Crate.{Crate}
 use Rattle.reg_tables_meaning.specs.Calls.{FindsCrate}
 use Rattle.reg_tables_meaning.specs.Stands.{Holds, Ids}
 use Rattle.reg_access.proofs.GrantLaw.{first_canon, there_is}
-use Rattle.reg_access.specs.Admitted.{IsCrateOf}
+use Rattle.reg_access.specs.Admitted.{IsCrateOf, IsFoundOf}
 use Rattle.reg_access.specs.declared.admission.FoundCrate.{FoundCrate}
 use Rattle.reg_service_requests.specs.Named.{FindsNamed, IsNamed, IsSpelled}
 
@@ -68,3 +69,14 @@ module _ (ids : Ids) (s : Registry) (c : FoundCrate) where
       by : (o : Option Text) → option_map canon o ≡ Some (canon c.name) → IsSpelled ids (unwrap_or o []) c.id
       by None none = absurd cc none
       by (Some n) same = (c.name, it.placed, sym (same_some same))
+
+  pub first_as : (t : Text) → IsCrateOf ids s (name_of t) c → first s t ≡ Some c.name
+  first_as t it = by (is_name t) it.first
+    where
+      by : (b : Bool) → spelling s (cond b (Some t) None) ≡ Some c.name → first s t ≡ Some c.name
+      by true is = is
+      by false none = absurd cc none
+
+-- the crate that was found for a caller is that of the text
+pub crate_found : (ids : Ids) (s : Registry) (o : Option Text) (t : Text) (found : Option FoundCrate) (c : FoundCrate) → o ≡ name_of t → found ≡ Some c → IsFoundOf ids s o found → IsCrateOf ids s (name_of t) c
+crate_found ids s o t found c named is h = subst (IsFoundOf ids s (name_of t)) is (subst (λ o. IsFoundOf ids s o found) named h)

@@ -7,9 +7,11 @@ use Rattle.std.specs.List.{enumerate_from, filter, list_all, list_any}
 use Rattle.std.specs.Str.{bytes_eq}
 use Rattle.sqlite.specs.Tree.{Trees}
 use Rattle.reg_body.specs.declared.limits.Limits.{Limits}
-use Rattle.reg_names.specs.Names.{canon, is_name}
-use Rattle.reg_model.specs.Crates.{exists, owners, owns}
-use Rattle.reg_model.specs.Events.Asked.{AddOwners, RemoveOwners}
+use Rattle.reg_names.specs.Names.{canon}
+use Rattle.reg_model.specs.Actions.{crate_of}
+use Rattle.reg_model.specs.Crates.{owners, owns}
+use Rattle.reg_model.specs.Events.{action_of}
+use Rattle.reg_model.specs.Events.Asked.{AddOwners}
 use Rattle.reg_model.specs.Facts.{access_facts, counts, has_login}
 use Rattle.reg_model.specs.Refusals.{denied}
 use Rattle.reg_model.specs.Registry.{Registry, Text, holds, id_of_login, ids_of, is_enabled, is_known}
@@ -18,18 +20,20 @@ use Rattle.reg_model.specs.Reports.{with_commas}
 use Rattle.reg_model.specs.Sound.{Sound}
 use Rattle.reg_model.proofs.Cleared.{not_denied}
 use Rattle.reg_model.proofs.IndexPaths.{not_false}
-use Rattle.reg_model.proofs.Lists.{all_so, list_any_map, true_not_false}
+use Rattle.reg_model.proofs.Lists.{all_so, list_any_map}
 use Rattle.reg_model.specs.Trail.{only_if, request_words, spelled, unless}
 use Rattle.reg_tables_sql.specs.declared.accounts.Account.{Account}
-use Rattle.reg_tables_sql.specs.declared.crates.Crate.{Crate}
+use Rattle.reg_access.specs.declared.admission.Caller.{Caller}
+use Rattle.reg_access.specs.declared.admission.FoundCrate.{FoundCrate}
 use Rattle.reg_tables_meaning.specs.Calls.{ListsOwners}
 use Rattle.reg_tables_meaning.specs.Changes.{told_of}
 use Rattle.reg_tables_meaning.specs.Entries.{entry_of_account}
 use Rattle.reg_access.proofs.GrantLaw.{first_canon}
 use Rattle.reg_service_requests.specs.Owning.{owning}
-use Rattle.reg_service_requests.specs.Named.{FindsNamed}
 use Rattle.reg_service_requests.specs.Telling.{changes, differs, owners_word}
-use Rattle.reg_service_requests.proofs.Asking.{HasWords, shown_there}
+use Rattle.reg_service_requests.proofs.Asking.{HasWords}
+use Rattle.reg_service_requests.proofs.Names.{crate_found, first_as}
+use Rattle.reg_service_requests.proofs.OwningDone.{named_in}
 use Rattle.reg_service_requests.proofs.Placed.{all_placed, any_placed, login_passes}
 
 unless_all : {X : Type 0} (p : X → Bool) (xs : List X) (words : List Text) → unless (list_all p xs) words ≡ only_if (changes true p xs) words
@@ -57,11 +61,6 @@ module _ (limits : Limits) (s : Registry) (sound : Sound s) (d n : Text) (logins
       ap (λ b. unless b (owners_word true ∷ spelled s n ∷ with_commas logins ∷ [])) (all_placed (owns s n) (id_of_login s) logins all) ∙ unless_all (λ l. holds (owns s n) (id_of_login s l)) logins _
   owning_words false ok = ap (λ b. only_if b (owners_word false ∷ spelled s n ∷ with_commas logins ∷ [])) (any_placed (owns s n) (id_of_login s) logins)
 
-  crate_there : (are : Bool) → denied limits s (Some d) (owning are n logins) ≡ None → (is_name n && exists s n) ≡ true
-  unfolding access_facts
-  crate_there true ok = shown_there s d n (not_denied limits s d (AddOwners n logins) ok).1.1.1.1.0
-  crate_there false ok = shown_there s d n (not_denied limits s d (RemoveOwners n logins) ok).1.1.1.1.0
-
 -- the same test of texts as a call is given them
 changes_map : (are : Bool) (p : Text → Bool) (texts : List (Bor Text)) → changes are p (map (λ t. t.now) texts) ≡ changes are (λ t. p t.now) texts
 changes_map are p texts = list_any_map (λ t. differs (p t) are) (λ t. t.now) texts
@@ -73,18 +72,16 @@ one_owns s sound n m l o list at same lists =
     let are : map entry_of_account list ≡ owners s n = lists ∙ ap (λ o. told_of o [] (owners s)) at ∙ ap (λ c. filter (λ o. finset.contains s.owners (c, o.0)) (enumerate_from 1 s.accounts)) same in
     sym (list_any_map (λ (e : ℕ × model.Account). bytes_eq e.1.login l) entry_of_account list) ∙ ap (λ os. has_login os l) are ∙ login_passes s sound (owns s n) l
 
-pub owning_has : (are b : Bool) (n : Text) (texts : List (Bor Text)) (db : Trees) (it : Crate) (list : List Account) → FindsNamed n db (Some it) → ListsOwners it.id db list
+pub owning_has : (c : Caller) (are b : Bool) (n : Text) (texts : List (Bor Text)) (db : Trees) (it : FoundCrate) (list : List Account) → c.found ≡ Some it → ListsOwners it.id db list
     → b ≡ changes are (λ t. list_any (λ a. bytes_eq (string_bytes a.login) t.now) list) texts
-    → HasWords (owning are n (map (λ t. t.now) texts)) db (only_if b (owners_word are ∷ string_bytes it.name ∷ with_commas (map (λ t. t.now) texts) ∷ []))
-owning_has are b n texts db it list finds lists e = λ d ids s h limits ok.
-    let f = finds ids s h in
-    let same = first_canon s n (string_bytes it.name) f.first in
+    → HasWords c (owning are n (map (λ t. t.now) texts)) db (only_if b (owners_word are ∷ it.name ∷ with_commas (map (λ t. t.now) texts) ∷ []))
+owning_has c are b n texts db it list found lists e = λ d who ids s h limits ok.
     let logins : List Text = map (λ t. t.now) texts in
-    let owned = λ (l : Text). one_owns s h.sound n (string_bytes it.name) l _ list f.at same (lists ids s h) in
+    let crate = crate_found ids s (crate_of (action_of (owning are n logins))) n c.found it (named_in are n logins) found (who ids s h).found in
+    let first = first_as ids s it n crate in
+    let same = first_canon s n it.name first in
+    let owned = λ (l : Text). one_owns s h.sound n it.name l _ list crate.placed same (lists ids s h) in
     let changed : changes are (λ l. holds (owns s n) (id_of_login s l)) logins ≡ b = changes_map are (λ l. holds (owns s n) (id_of_login s l)) texts ∙ (λ i. changes are (λ (t : Bor Text). sym (owned t.now) i) texts) ∙ sym e in
     owning_words limits s h.sound d n logins are ok
     ∙ ap (λ c. only_if c (owners_word are ∷ spelled s n ∷ with_commas logins ∷ [])) changed
-    ∙ ap (λ o. only_if b (owners_word are ∷ unwrap_or o n ∷ with_commas logins ∷ [])) f.first
-
-pub unnamed_owners : (are : Bool) (n : Text) (logins : List Text) (db : Trees) → FindsNamed n db None → HasWords (owning are n logins) db None
-unnamed_owners are n logins db none = λ d ids s h limits ok. true_not_false _ (crate_there limits s h.sound d n logins are ok) (none ids s h)
+    ∙ ap (λ o. only_if b (owners_word are ∷ unwrap_or o n ∷ with_commas logins ∷ [])) first

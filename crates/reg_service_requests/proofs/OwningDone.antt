@@ -47,7 +47,7 @@ else_none : (r : Option Rule) → or_else r None ≡ r
 else_none None = refl
 else_none (Some r) = refl
 
-named_in : (are : Bool) (n : Text) (logins : List Text) → crate_of (action_of (owning are n logins)) ≡ name_of n
+pub named_in : (are : Bool) (n : Text) (logins : List Text) → crate_of (action_of (owning are n logins)) ≡ name_of n
 named_in true n logins = refl
 named_in false n logins = refl
 

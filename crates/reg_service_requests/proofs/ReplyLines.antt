@@ -1,5 +1,5 @@
 -- The line of a request, from its reply.
-use Rattle.std.proofs.Common.{◌≡◌, ◌⊎◌, ℕ, inl, inr, true, false, Bool, cond, [], Option, Some, None, refl, sym, ap, subst, ◌∙◌}
+use Rattle.std.proofs.Common.{◌≡◌, ◌⊎◌, ℕ, inl, inr, true, false, Bool, cond, [], Option, Some, None, refl, sym, ap, ◌∙◌}
 use Rattle.std.specs.Prelude.{String, string_bytes, unwrap_or}
 use Rattle.std.specs.declared.alloc.Global.{Global}
 use Rattle.std.specs.Option.{option_map}
@@ -21,7 +21,7 @@ use Rattle.reg_api_replies.specs.declared.reply.Reply.{Reply}
 use Rattle.reg_api_replies.specs.declared.reply.Reply.TheVariants.{Denied, Done, Method}
 use Rattle.reg_model.specs.Trail.{IsPassed, has_no_room, line, line_of, or_nothing, request_words, told, unless_some, with_asker}
 use Rattle.sqlite.specs.Tree.{Trees}
-use Rattle.reg_service_requests.specs.Telling.{TellsIf, TellsLine, line_with}
+use Rattle.reg_service_requests.specs.Telling.{TellsLine, line_with}
 
 -- an answer that denies nothing had room
 has_room : (a : Answer) → refusal_of a ≡ None → (r : Rule) → a ≡ to_denied r → ⊥
@@ -101,7 +101,3 @@ nobody limits s asked ok = absurd cc
 
 pub nobody_told : (asked : Asked) (db : Trees) → TellsLine (Ask None asked) db None
 nobody_told asked db = λ ids s h limits ok. absurd (nobody limits s asked ok)
-
--- a line that is wanted
-pub if_told : (traced : Bool) (asked : Asked) (db : Trees) (digest : Option Text) (found : Option (String Global)) {shown : Option Text} → traced ≡ true → shown ≡ digest → TellsLine (Ask digest asked) db found → TellsIf traced (Ask shown asked) db found
-if_told traced asked db digest found {shown} t e tells = subst (λ b. TellsIf b (Ask shown asked) db found) (sym t) (subst (λ d. TellsLine (Ask d asked) db found) (sym e) tells)

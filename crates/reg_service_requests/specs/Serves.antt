@@ -1,7 +1,6 @@
 -- A request within a transaction is answered as the registry answers that the rows stand for.
-use Rattle.std.specs.Prelude.{◌≡◌, Some, Option, Result}
+use Rattle.std.specs.Prelude.{◌≡◌, Some, Option}
 use Rattle.sqlite.specs.Tree.{Trees}
-use Rattle.sqlite_trees.specs.declared.store.Store.{Ghosts}
 use Rattle.reg_body.specs.declared.limits.Limits.{Limits}
 use Rattle.reg_model.specs.Effects.{served}
 use Rattle.reg_model.specs.Events.{Asked}
@@ -10,9 +9,6 @@ use Rattle.reg_model.specs.Registry.{Registry, Text}
 use Rattle.reg_model.specs.Steps.{outcome}
 use Rattle.reg_api_replies.specs.Replies.{Says}
 use Rattle.reg_tables_meaning.specs.Stands.{Holds, Ids, Stands}
-use Rattle.reg_tables.specs.declared.work.StoreFault.{StoreFault}
-use Rattle.reg_tables.specs.declared.work.Work.{Work}
-use Rattle.reg_service_requests.specs.Runs.{Runs}
 use Rattle.reg_service_requests.specs.declared.served.Served.{Served}
 use Rattle.reg_service_requests.specs.declared.served.Served.TheVariants.{Done, Seeks, Told}
 
@@ -30,8 +26,3 @@ Serves limits digest asked old new (Done reply) =
 Serves limits digest asked old new (Seeks id) =
     (ids : Ids) (s : Registry) → Holds ids s old
     → outcome limits s (Ask digest asked) ≡ (served s (Some id) asked, s)
-
-abbrev pub IsServed : {S : Type 0} → Limits → Ghosts S → Option Text → Asked
-    → Result Served StoreFault → Work S → Work S → Type 0
-IsServed limits g digest asked r old new =
-    Runs g old new r (λ before after it. Serves limits digest asked before after it)

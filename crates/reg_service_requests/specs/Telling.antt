@@ -1,19 +1,22 @@
 -- What a request would change, told before it is done.
-use Rattle.std.specs.Prelude.{◌≡◌, ◌∷◌, Bool, true, false, List, [], codes, not, None, Option, Some, Result, Ok, String, string_bytes}
+use Rattle.std.specs.Prelude.{◌≡◌, Bool, true, false, List, codes, not, None, Option, Some, Result, Ok, String, string_bytes}
 use Rattle.std.specs.List.{list_any}
 use Rattle.std.specs.declared.alloc.AllocError.{AllocError}
 use Rattle.std.specs.declared.alloc.Global.{Global}
 use Rattle.std.specs.Option.{option_map}
 use Rattle.sqlite.specs.Tree.{Trees}
+use Rattle.sqlite_trees.specs.declared.store.Store.{Ghosts}
+use Rattle.reg_access.specs.declared.admission.Caller.{Caller}
 use Rattle.reg_body.specs.declared.limits.Limits.{Limits}
-use Rattle.reg_model.specs.Events.{Asked, Event}
+use Rattle.reg_model.specs.Events.{Asked, Event, action_of}
 use Rattle.reg_model.specs.Events.Event.{Ask}
-use Rattle.reg_model.specs.Events.Asked.{AddOwners, Publish, RemoveOwners, Unyank, Yank}
-use Rattle.reg_model.specs.Refusals.{denied}
-use Rattle.reg_model.specs.Registry.{Text, token_of}
-use Rattle.reg_model.specs.Trail.{IsPassed, asker, line, line_of, request_words}
+use Rattle.reg_model.specs.Registry.{Text}
+use Rattle.reg_model.specs.Trail.{IsPassed, line}
 use Rattle.reg_tables_meaning.specs.Calls.{Tells}
-use Rattle.reg_service_requests.specs.declared.telling.Asker.{Asker}
+use Rattle.reg_tables.specs.declared.work.StoreFault.{StoreFault}
+use Rattle.reg_tables.specs.declared.work.Work.{Work}
+use Rattle.reg_service_requests.specs.Granted.{IsCaller, IsLet}
+use Rattle.reg_service_requests.specs.Runs.{Runs}
 use Rattle.reg_service_requests.specs.declared.told.ServedTold.{ServedTold}
 use Rattle.reg_api_replies.specs.declared.reply.Reply.{Reply}
 use Rattle.reg_api_replies.specs.declared.reply.Reply.TheVariants.{Done}
@@ -39,34 +42,22 @@ abbrev pub line_with : Reply → Option (String Global) → Option Text
 line_with (Done kind body) found = option_map string_bytes found
 line_with _ found = None
 
--- this is who asks with the token of this digest
-abbrev pub IsAsker : Text → Asker → Trees → Type 0
-IsAsker digest a db =
-    Tells (λ ids s. asker s digest ≡ string_bytes a.token ∷ string_bytes a.login ∷ []) db
+-- this is the line of what this caller asks for, if one is wanted
+abbrev pub TellsRequest : Bool → Caller → Asked → Trees → Option (String Global) → Type 0
+TellsRequest traced caller asked db found = (digest : Text)
+    → IsCaller digest (action_of asked) caller db → TellsIf traced (Ask (Some digest) asked) db found
 
-abbrev pub FindsAsker : Text → Trees → Option Asker → Type 0
-FindsAsker digest db None = Tells (λ ids s. token_of s digest ≡ None) db
-FindsAsker digest db (Some a) = IsAsker digest a db
-
--- this is the line of a request of this asker, where nothing denies it
-abbrev pub TellsRequest : Asker → Asked → Trees → Option (String Global) → Type 0
-TellsRequest a asked db found = (digest : Text) → IsAsker digest a db
-    → Tells (λ ids s. (limits : Limits) → denied limits s (Some digest) asked ≡ None
-    → option_map (λ words. line_of (string_bytes a.token ∷ string_bytes a.login ∷ words))
-    (request_words s asked) ≡ option_map string_bytes found) db
+-- what the rules on access let pass is served to this caller, and its line is told
+abbrev pub GrantsTold : {S : Type 0} → Bool → Limits → Caller → Ghosts S → Asked
+    → Result ServedTold StoreFault → Work S → Work S → Type 0
+GrantsTold traced limits caller g asked r old new =
+    Runs g old new r (λ before after it. (digest : Text) → IsLet digest (action_of asked) before
+    → IsCaller digest (action_of asked) caller before
+    → ServesTold traced limits (Some digest) asked before after it)
 
 -- a line that was made is told
 abbrev pub IsToldLine : Result (String Global) AllocError → Option (String Global) → Type 0
 IsToldLine made found = (line : String Global) × (made ≡ Ok line) × (found ≡ Some line)
-
--- whether a request may change something
-abbrev pub is_change : Asked → Bool
-is_change (Publish p) = true
-is_change (Yank n v) = true
-is_change (Unyank n v) = true
-is_change (AddOwners n logins) = true
-is_change (RemoveOwners n logins) = true
-is_change _ = false
 
 -- whether what is so has yet to become so
 abbrev pub differs : Bool → Bool → Bool

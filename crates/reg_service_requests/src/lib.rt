@@ -28,5 +28,6 @@ pub use exporting::export_all;
 pub use lines::line_of;
 pub use naming::find_named;
 pub use served::Served;
+pub use serving::serve_told;
 pub use telling::{differs, have_login, told_line};
-pub use told::{Acted, ServedTold, serve_told, with_line};
+pub use told::{Acted, ServedTold, with_line};

@@ -1,6 +1,6 @@
-//! Deciding a request, and serving or doing what is allowed.
+//! Deciding a request, telling what it changes, and serving or doing what is allowed.
 
-ghost use Rattle.std.specs.Prelude.{◌≡◌, IsSome, false, true};
+ghost use Rattle.std.specs.Prelude.{◌≡◌, IsSome, None, false, true};
 ghost use Rattle.std.specs.Option.{option_map};
 ghost use Rattle.reg_access.specs.Admitted.{needs_crate};
 ghost use Rattle.reg_access.specs.JoinRows.{names_version};
@@ -8,13 +8,18 @@ ghost use Rattle.reg_model.specs.Events.{action_of as action_asked};
 ghost use Rattle.reg_policy.specs.Events.{asked_of};
 ghost use Rattle.reg_tables.specs.Works.{IsAtWork, has_failed};
 ghost use Rattle.reg_service_requests.specs.Granted.{GrantsTo};
-ghost use Rattle.reg_service_requests.specs.Serves.{IsServed};
+ghost use Rattle.reg_api_replies.specs.declared.reply.Reply.TheVariants.{Denied};
+ghost use Rattle.reg_service_requests.specs.Runs.{Runs};
+ghost use Rattle.reg_service_requests.specs.Telling.{GrantsTold, ServesTold};
+ghost use Rattle.reg_service_requests.specs.declared.served.Served.TheVariants.{Told};
 
 use crate::marking::set_yanked;
 use crate::owning::{add_owners, remove_owners};
 use crate::publishing::publish;
 use crate::reading::{list_owners, read_archive, read_config, read_index};
 use crate::served::Served;
+use crate::telling::tell_request;
+use crate::told::ServedTold;
 use reg_access::{Admission, Caller, admit};
 use reg_api_replies::Reply;
 use reg_body::Limits;
@@ -57,25 +62,61 @@ fn grant<S: Alter>(
     }
 }
 
-/// The outcome of a request, with the digest of its token if exactly one was shown.
-pub(crate) fn serve<S: Alter>(
+/// Tells the line of what is allowed, if one is wanted, and then serves or does it.
+fn grant_told<S: Alter>(
+    alloc: Global,
+    work: &mut Work<'_, S>,
+    limits: &Limits,
+    caller: &Caller,
+    asked: &Asked<'_>,
+    traced: bool,
+) -> Result<ServedTold, StoreFault>
+    requires at_work { IsAtWork S.Store work.old }
+    requires goes_on { has_failed work.old ≡ false }
+    requires there { needs_crate (action_asked (asked_of asked.now)) ≡ true
+        → IsSome caller.now.found }
+    requires named { names_version (action_asked (asked_of asked.now)) ≡ true
+        → IsSome caller.now.version }
+    ensures { GrantsTold traced limits.now caller.now S.Store (asked_of asked.now)
+        result work.old work.new }
+{
+    let line = tell_request(alloc, work, caller, asked, traced)?;
+    let served = grant(alloc, work, limits, caller, asked)?;
+    Ok(ServedTold { served, line })
+}
+
+/// A denial, which has no line.
+fn denied(rule: Rule) -> ServedTold
+    ensures served { result.served ≡ Told (Denied rule) }
+    ensures line { result.line ≡ None }
+{
+    ServedTold {
+        served: Served::Told(Reply::Denied(rule)),
+        line: None,
+    }
+}
+
+/// The outcome of a request, with the digest of its token if exactly one was shown; and its line if
+/// one is wanted.
+pub fn serve_told<S: Alter>(
     alloc: Global,
     work: &mut Work<'_, S>,
     limits: &Limits,
     digest: Option<&Digest>,
     asked: &Asked<'_>,
-) -> Result<Served, StoreFault>
+    traced: bool,
+) -> Result<ServedTold, StoreFault>
     requires at_work { IsAtWork S.Store work.old }
     requires goes_on { has_failed work.old ≡ false }
-    ensures { IsServed limits.now S.Store (option_map (λ d. d.now) digest.entry)
-        (asked_of asked.now) result work.old work.new }
+    ensures { Runs S.Store work.old work.new result (ServesTold traced limits.now
+        (option_map (λ d. d.now) digest.entry) (asked_of asked.now)) }
 {
     access_law();
     let Some(digest) = digest else {
-        return Ok(Served::Told(Reply::Denied(Rule::A1)));
+        return Ok(denied(Rule::A1));
     };
     match admit(work, digest, &action_of(asked))? {
-        Admission::Denied(rule) => Ok(Served::Told(Reply::Denied(rule))),
-        Admission::Allowed(caller) => grant(alloc, work, limits, &caller, asked),
+        Admission::Denied(rule) => Ok(denied(rule)),
+        Admission::Allowed(caller) => grant_told(alloc, work, limits, &caller, asked, traced),
     }
 }

@@ -1,56 +1,26 @@
-//! The line of what a request would change, told before it is done.
+//! The line of what an allowed request would change, told before it is done.
 
-ghost use Rattle.std.specs.Prelude.{◌≡◌, false, map, string_bytes};
+ghost use Rattle.std.specs.Prelude.{◌≡◌, IsSome, false, map, string_bytes, true};
 ghost use Rattle.std.specs.Borrow.{Bor};
 ghost use Rattle.std.specs.List.{list_any};
-ghost use Rattle.std.specs.Option.{option_map};
 ghost use Rattle.std.specs.Str.{bytes_eq};
-ghost use Rattle.reg_model.specs.Events.Asked.{AddOwners, Publish, RemoveOwners};
-ghost use Rattle.reg_model.specs.Events.Event.{Ask};
+ghost use Rattle.reg_model.specs.Events.{action_of as action_asked};
+ghost use Rattle.reg_model.specs.Events.Asked.{Publish};
 ghost use Rattle.reg_policy.specs.Events.{asked_of, publication_of};
 ghost use Rattle.reg_tables.specs.Works.{IsAtWork, has_failed};
+ghost use Rattle.reg_access.specs.Admitted.{needs_crate};
 ghost use Rattle.reg_access.specs.Asks.{Asks};
 ghost use Rattle.reg_service_requests.specs.Granted.{marking};
 ghost use Rattle.reg_service_requests.specs.Owning.{owning};
-ghost use Rattle.reg_service_requests.specs.Telling.{FindsAsker, IsToldLine, TellsIf, TellsRequest, changes, differs, is_change, mark_word, owners_word};
+ghost use Rattle.reg_service_requests.specs.Telling.{IsToldLine, TellsRequest, changes, differs, mark_word, owners_word};
 
 use crate::lines::{change_line, with_commas};
-use crate::naming::find_named;
 use crate::owning::has_login;
-use itoa::Buffer;
-use reg_line::Digest;
+use reg_access::Caller;
 use reg_policy::{Asked, NewPublication};
-use reg_tables::{Account, StoreFault, TokenRow, TokenRows, Work};
+use reg_tables::{Account, StoreFault, Work};
 use sqlite::Alter;
 use std::alloc::{AllocError, Global};
-
-/// Who asks: the id of a token in decimal, and its account's login.
-#[derive(Drop)]
-pub(crate) struct Asker {
-    pub token: String,
-    pub login: String,
-}
-
-/// Who asks with the token of this digest.
-fn find_asker<S: Alter>(
-    alloc: Global,
-    work: &mut Work<'_, S>,
-    digest: &Digest,
-) -> Result<Option<Asker>, StoreFault>
-    requires { IsAtWork S.Store work.old }
-    ensures { Asks S.Store work.old work.new result (FindsAsker digest.now) }
-{
-    let Some(found) = work.token_rows(alloc, digest)? else {
-        return Ok(None);
-    };
-    let TokenRows { token, scopes: _ } = found;
-    let TokenRow { id, login, .. } = token;
-    let mut digits = Buffer::new();
-    let Ok(token) = digits.format(id).to_string(alloc) else {
-        return work.fail();
-    };
-    Ok(Some(Asker { token, login }))
-}
 
 /// The line, unless there was no memory for it.
 pub fn told_line<S: Alter>(
@@ -71,18 +41,18 @@ pub fn told_line<S: Alter>(
 fn tell_publication<S: Alter>(
     alloc: Global,
     work: &mut Work<'_, S>,
-    asker: &Asker,
+    caller: &Caller,
     new: &NewPublication<'_>,
 ) -> Result<Option<String>, StoreFault>
     requires at_work { IsAtWork S.Store work.old }
     requires goes_on { has_failed work.old ≡ false }
     ensures { Asks S.Store work.old work.new result
-        (TellsRequest asker.now (Publish (publication_of new.now))) }
+        (TellsRequest true caller.now (Publish (publication_of new.now))) }
 {
     let name = new.name.as_str();
     told_line(
         work,
-        change_line(alloc, asker, "publish", name, new.version),
+        change_line(alloc, caller, "publish", name, new.version),
     )
 }
 
@@ -92,29 +62,27 @@ fn mark_verb(yanked: bool) -> &'static str
     if yanked { "yank" } else { "unyank" }
 }
 
-/// A mark that a version has not yet.
+/// A mark that a version of the crate has not yet.
 fn tell_mark<S: Alter>(
     alloc: Global,
     work: &mut Work<'_, S>,
-    asker: &Asker,
-    name: &str,
+    caller: &Caller,
     version: &str,
     yanked: bool,
 ) -> Result<Option<String>, StoreFault>
     requires at_work { IsAtWork S.Store work.old }
-    requires goes_on { has_failed work.old ≡ false }
-    ensures { Asks S.Store work.old work.new result
-        (TellsRequest asker.now (marking yanked name.now version.now)) }
+    requires there { IsSome caller.now.found }
+    ensures { Asks S.Store work.old work.new result (λ db line. (name : _)
+        → TellsRequest true caller.now (marking yanked name version.now) db line) }
 {
-    let Some(named) = find_named(work, name)? else {
-        return Ok(None);
-    };
-    let other = work.has_other_mark(named.id, version, yanked)?;
+    let found = caller.found_crate();
+    let other = work.has_other_mark(found.id, version, yanked)?;
     if !other {
         return Ok(None);
     }
     let verb = mark_verb(yanked);
-    told_line(work, change_line(alloc, asker, verb, &named.name, version))
+    let name = found.name.as_str();
+    told_line(work, change_line(alloc, caller, verb, name, version))
 }
 
 /// Whether one of the accounts has this login.
@@ -153,24 +121,22 @@ fn owners_verb(are_owners: bool) -> &'static str
     }
 }
 
-/// Owners who are added or removed.
+/// Owners of the crate who are added or removed.
 fn tell_owners<S: Alter>(
     alloc: Global,
     work: &mut Work<'_, S>,
-    asker: &Asker,
-    name: &str,
+    caller: &Caller,
     logins: &[&str],
     are_owners: bool,
 ) -> Result<Option<String>, StoreFault>
     requires at_work { IsAtWork S.Store work.old }
-    requires goes_on { has_failed work.old ≡ false }
-    ensures { Asks S.Store work.old work.new result (TellsRequest asker.now
-        (owning are_owners name.now (map (λ l. l.now) logins.now))) }
+    requires there { IsSome caller.now.found }
+    ensures { Asks S.Store work.old work.new result (λ db line. (name : _)
+        → TellsRequest true caller.now (owning are_owners name (map (λ l. l.now) logins.now))
+        db line) }
 {
-    let Some(named) = find_named(work, name)? else {
-        return Ok(None);
-    };
-    let owners = work.owners_of(alloc, named.id)?;
+    let found = caller.found_crate();
+    let owners = work.owners_of(alloc, found.id)?;
     let changed = changes_owners(&owners, logins, are_owners);
     if !changed {
         return Ok(None);
@@ -179,70 +145,35 @@ fn tell_owners<S: Alter>(
         return work.fail();
     };
     let verb = owners_verb(are_owners);
-    told_line(work, change_line(alloc, asker, verb, &named.name, &listed))
+    let name = found.name.as_str();
+    told_line(work, change_line(alloc, caller, verb, name, &listed))
 }
 
-/// The line of what this asker's request changes; none if nothing.
-fn tell_for<S: Alter>(
-    alloc: Global,
-    work: &mut Work<'_, S>,
-    asker: &Asker,
-    asked: &Asked<'_>,
-) -> Result<Option<String>, StoreFault>
-    requires at_work { IsAtWork S.Store work.old }
-    requires goes_on { has_failed work.old ≡ false }
-    ensures { Asks S.Store work.old work.new result
-        (TellsRequest asker.now (asked_of asked.now)) }
-{
-    match asked {
-        Asked::Publish(new) => tell_publication(alloc, work, asker, new),
-        Asked::Yank(name, version) => tell_mark(alloc, work, asker, name, version, true),
-        Asked::Unyank(name, version) => tell_mark(alloc, work, asker, name, version, false),
-        Asked::AddOwners(name, logins) => tell_owners(alloc, work, asker, name, logins, true),
-        Asked::RemoveOwners(name, logins) => tell_owners(alloc, work, asker, name, logins, false),
-        Asked::Faulty(_) | Asked::Read(_) | Asked::Index(_) => Ok(None),
-        Asked::Download(_, _) | Asked::ListOwners(_) => Ok(None),
-    }
-}
-
-/// Whether a request may change something.
-fn may_change(asked: &Asked<'_>) -> bool
-    ensures { result ≡ is_change (asked_of asked.now) }
-{
-    match asked {
-        Asked::Publish(_) | Asked::Yank(_, _) | Asked::Unyank(_, _) => true,
-        Asked::AddOwners(_, _) | Asked::RemoveOwners(_, _) => true,
-        Asked::Faulty(_) | Asked::Read(_) | Asked::Index(_) => false,
-        Asked::Download(_, _) | Asked::ListOwners(_) => false,
-    }
-}
-
-/// The line of what a request changes, if one is wanted and nothing denies it; none if it changes
-/// nothing.
+/// The line of what an allowed request changes, if one is wanted; none if it changes nothing.
 pub(crate) fn tell_request<S: Alter>(
     alloc: Global,
     work: &mut Work<'_, S>,
-    digest: Option<&Digest>,
+    caller: &Caller,
     asked: &Asked<'_>,
     traced: bool,
 ) -> Result<Option<String>, StoreFault>
     requires at_work { IsAtWork S.Store work.old }
     requires goes_on { has_failed work.old ≡ false }
+    requires there { needs_crate (action_asked (asked_of asked.now)) ≡ true
+        → IsSome caller.now.found }
     ensures { Asks S.Store work.old work.new result
-        (TellsIf traced (Ask (option_map (λ d. d.now) digest.entry) (asked_of asked.now))) }
+        (TellsRequest traced caller.now (asked_of asked.now)) }
 {
     if !traced {
         return Ok(None);
     }
-    let changes = may_change(asked);
-    if !changes {
-        return Ok(None);
+    match asked {
+        Asked::Publish(new) => tell_publication(alloc, work, caller, new),
+        Asked::Yank(_, version) => tell_mark(alloc, work, caller, version, true),
+        Asked::Unyank(_, version) => tell_mark(alloc, work, caller, version, false),
+        Asked::AddOwners(_, logins) => tell_owners(alloc, work, caller, logins, true),
+        Asked::RemoveOwners(_, logins) => tell_owners(alloc, work, caller, logins, false),
+        Asked::Faulty(_) | Asked::Read(_) | Asked::Index(_) => Ok(None),
+        Asked::Download(_, _) | Asked::ListOwners(_) => Ok(None),
     }
-    let Some(digest) = digest else {
-        return Ok(None);
-    };
-    let Some(asker) = find_asker(alloc, work, digest)? else {
-        return Ok(None);
-    };
-    tell_for(alloc, work, &asker, asked)
 }

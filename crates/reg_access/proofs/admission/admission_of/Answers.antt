@@ -11,7 +11,7 @@ returns-in-Allowed c =
     let decided = sym c.in-Allowed.is ∙ c.first_broken.ensures in
     record {
       decided = decided;
-      handed = record { account = refl; found = c.crate_of_row.ensures; version = refl };
-      named = has_its_version (action_of c.args.action.now) c.args.token.now c.args.found (none_of _ decided);
-      there = has_its_crate (action_of c.args.action.now) c.args.token.now c.args.found _ (none_of _ decided) c.crate_of_row.ensures;
+      handed = record { token = refl; login = refl; account = refl; found = c.crate_of_row.ensures; version = refl };
+      named = has_its_version (action_of c.args.action.now) c.args.token c.args.found (none_of _ decided);
+      there = has_its_crate (action_of c.args.action.now) c.args.token c.args.found _ (none_of _ decided) c.crate_of_row.ensures;
     }

@@ -1,38 +1,45 @@
-use Rattle.std.proofs.Common.{None, ap, refl, subst, sym, ◌∙◌}
-use Rattle.std.specs.Option.{option_map}
-use Rattle.reg_access.proofs.Questions.{asks_made, asks_nothing}
-use Rattle.reg_model.specs.Events.Event.{Ask}
+use Rattle.reg_access.proofs.Questions.{asks_nothing}
 use Rattle.reg_policy.specs.Events.{asked_of}
-use Rattle.reg_tables.specs.Works.{rows_seen}
-use Rattle.reg_service_requests.specs.Telling.{FindsAsker, TellsIf}
-use Rattle.reg_service_requests.proofs.Afterwards.{asks_then}
-use Rattle.reg_service_requests.proofs.Asking.{request_told, unchanged_told, unknown_untold}
-use Rattle.reg_service_requests.proofs.ReplyLines.{if_told, nobody_told}
+use Rattle.reg_service_requests.proofs.Asking.{if_wanted, nothing_told, unwanted}
+use Rattle.reg_service_requests.proofs.AskedGiven.{asked_given, reads_only, takes_only}
+use Rattle.reg_service_requests.proofs.Running.{asks_as}
 use Rattle.reg_service_requests.proofs.telling.tell_request.Goals as goal
 
 pub returns-then-not-traced : goal.returns-then-not-traced
 returns-then-not-traced g c =
     asks_nothing g.S.Store _ c.args.work.now c.requires.goes_on c.requires.at_work
-    (subst (λ b. TellsIf b (Ask (option_map (λ d. d.now) c.args.digest) (asked_of c.args.asked.now)) (rows_seen g.S.Store c.args.work.now) None) (sym c.if-not-traced.true) refl)
+    (unwanted c.args.traced c.args.caller.now (asked_of c.args.asked.now) _ c.if-not-traced.true)
 
-pub returns-then-not-changes : goal.returns-then-not-changes
-returns-then-not-changes g c =
+pub returns-in-Publish : goal.returns-in-Publish
+returns-in-Publish g c =
+    asked_given g.S.Store c.tell_publication.result c.args.work.now c.tell_publication.new.work c.args.traced c.args.caller.now c.args.asked.now _ c.if-not-traced.false c.in-Publish.is c.tell_publication.ensures
+
+pub returns-in-Yank : goal.returns-in-Yank
+returns-in-Yank g c =
+    asked_given g.S.Store c.tell_mark.result c.args.work.now c.tell_mark.new.work c.args.traced c.args.caller.now c.args.asked.now _ c.if-not-traced.false c.in-Yank.is
+    (asks_as g.S.Store c.tell_mark.result c.args.work.now c.tell_mark.new.work (λ line told. told c.in-Yank.field-0.now) c.tell_mark.ensures)
+
+pub returns-in-Unyank : goal.returns-in-Unyank
+returns-in-Unyank g c =
+    asked_given g.S.Store c.tell_mark-in-Unyank.result c.args.work.now c.tell_mark-in-Unyank.new.work c.args.traced c.args.caller.now c.args.asked.now _ c.if-not-traced.false c.in-Unyank.is
+    (asks_as g.S.Store c.tell_mark-in-Unyank.result c.args.work.now c.tell_mark-in-Unyank.new.work (λ line told. told c.in-Unyank.field-0.now) c.tell_mark-in-Unyank.ensures)
+
+pub returns-in-AddOwners : goal.returns-in-AddOwners
+returns-in-AddOwners g c =
+    asked_given g.S.Store c.tell_owners.result c.args.work.now c.tell_owners.new.work c.args.traced c.args.caller.now c.args.asked.now _ c.if-not-traced.false c.in-AddOwners.is
+    (asks_as g.S.Store c.tell_owners.result c.args.work.now c.tell_owners.new.work (λ line told. told c.in-AddOwners.field-0.now) c.tell_owners.ensures)
+
+pub returns-in-RemoveOwners : goal.returns-in-RemoveOwners
+returns-in-RemoveOwners g c =
+    asked_given g.S.Store c.tell_owners-in-RemoveOwners.result c.args.work.now c.tell_owners-in-RemoveOwners.new.work c.args.traced c.args.caller.now c.args.asked.now _ c.if-not-traced.false c.in-RemoveOwners.is
+    (asks_as g.S.Store c.tell_owners-in-RemoveOwners.result c.args.work.now c.tell_owners-in-RemoveOwners.new.work (λ line told. told c.in-RemoveOwners.field-0.now) c.tell_owners-in-RemoveOwners.ensures)
+
+pub returns-in-Faulty : goal.returns-in-Faulty
+returns-in-Faulty g c =
     asks_nothing g.S.Store _ c.args.work.now c.requires.goes_on c.requires.at_work
-    (if_told c.args.traced _ _ _ None c.if-not-traced.false refl (unchanged_told (option_map (λ d. d.now) c.args.digest) (asked_of c.args.asked.now) _ (sym c.may_change-changes.ensures ∙ c.if-not-changes.true)))
+    (if_wanted c.args.traced c.args.caller.now (asked_of c.args.asked.now) _ _ c.if-not-traced.false (nothing_told c.args.caller.now (asked_of c.args.asked.now) _ (reads_only c.args.asked.now c.in-Faulty.is)))
 
-pub returns-in_default : goal.returns-in_default
-returns-in_default g c =
+pub returns-in-Download : goal.returns-in-Download
+returns-in-Download g c =
     asks_nothing g.S.Store _ c.args.work.now c.requires.goes_on c.requires.at_work
-    (if_told c.args.traced _ _ _ None c.if-not-traced.false (ap (option_map (λ d. d.now)) c.in_default.is) (nobody_told (asked_of c.args.asked.now) _))
-
-pub returns-in_default-2 : goal.returns-in_default-2
-returns-in_default-2 g c =
-    asks_made g.S.Store {P = FindsAsker c.in-Some.digest.now} c.in_ok-asker.field-0 _ c.args.work.now c.find_asker.new.work
-    (λ is. if_told c.args.traced _ _ _ None c.if-not-traced.false (ap (option_map (λ d. d.now)) c.in-Some.is)
-    (unknown_untold c.in-Some.digest.now (asked_of c.args.asked.now) _ (sym c.may_change-changes.ensures ∙ c.if-not-changes.false) (rw c.in_default-2.is at is))) c.in_ok-asker.ensures
-
-pub returns : goal.returns
-returns g c =
-    asks_then g.S.Store {P = FindsAsker c.in-Some.digest.now} c.in_ok-asker.field-0 c.tell_for.result c.args.work.now c.find_asker.new.work c.tell_for.new.work c.in_ok-asker.ensures c.tell_for.ensures
-    (λ found is tells. if_told c.args.traced _ _ _ found c.if-not-traced.false (ap (option_map (λ d. d.now)) c.in-Some.is)
-    (request_told c.in-Some.digest.now c.in-Some-2.asker (asked_of c.args.asked.now) _ found (rw c.in-Some-2.is at is) tells))
+    (if_wanted c.args.traced c.args.caller.now (asked_of c.args.asked.now) _ _ c.if-not-traced.false (nothing_told c.args.caller.now (asked_of c.args.asked.now) _ (takes_only c.args.asked.now c.in-Download.is)))

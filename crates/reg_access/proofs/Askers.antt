@@ -1,7 +1,6 @@
 -- Who asks with a token that was found.
 use Rattle.std.proofs.Common.{◌≡◌, ℕ, zero, suc, ◌+◌, ◌-◌, ◌==◌, List, [], ◌∷◌, Bool, true, false, cond, Option, Some, None, arith, refl, sym, ap, subst, ◌∙◌}
-use Rattle.std.specs.Prelude.{String, slice_get, string_bytes, unwrap_or}
-use Rattle.std.specs.declared.alloc.Global.{Global}
+use Rattle.std.specs.Prelude.{slice_get, string_bytes, unwrap_or}
 use Rattle.std.specs.Fmt.{decimal}
 use Rattle.std.specs.List.{AllByRecursion, IsDistinct, position_from}
 use Rattle.std.specs.Option.{option_map}
@@ -9,14 +8,16 @@ use Rattle.std.specs.Ordering.{on}
 use Rattle.std.specs.Str.{bytes_eq}
 use Rattle.std.proofs.lemmas.Slice.Eq.{bytes_eq-Decides}
 use Rattle.sqlite.specs.Tree.{Trees}
-use Rattle.reg_model.specs.Registry.{Account, Text, Token, with_id}
+use Rattle.reg_model.specs.Registry.{Account, Registry, Text, Token, with_id}
+use Rattle.reg_model.specs.Crates.{viewer}
 use Rattle.reg_model.specs.Effects.{account_of}
 use Rattle.reg_model.specs.Reports.{login_of}
-use Rattle.reg_model.specs.Trail.{id_of_token}
-use Rattle.reg_tables_meaning.specs.declared.tokens.TokenRows.{TokenRows}
-use Rattle.reg_tables_meaning.specs.Calls.{FindsToken}
-use Rattle.reg_tables_meaning.specs.FoundTokens.{login_and_mark}
-use Rattle.reg_service_requests.specs.Telling.{IsAsker}
+use Rattle.reg_model.specs.Trail.{asker, id_of_token}
+use Rattle.reg_tables_sql.specs.declared.tokens.TokenRow.{TokenRow}
+use Rattle.reg_tables_sql.specs.Tokens.{columns_with_account, tokens_with_accounts}
+use Rattle.reg_tables_meaning.specs.FoundTokens.{IsRow, login_and_mark}
+use Rattle.reg_tables_meaning.specs.Stands.{Holds, Ids}
+use Rattle.reg_tables_meaning.proofs.FoundTokens.{finds_row}
 
 each_at : {X : Type 0} (P : X → Type 0) (xs : List X) (i : ℕ) (x : X) → AllByRecursion P xs → slice_get xs i ≡ Some x → P x
 each_at P [] i x h e = absurd cc
@@ -43,10 +44,17 @@ login_is : (o : Option Account) (l : Text) (b : Bool) → option_map login_and_m
 login_is None l b e = absurd cc
 login_is (Some a) l b e = let same : login_and_mark a ≡ (l, b) = cc e in ap (λ x. x.0) same
 
-pub asker_found : (digest : Text) (db : Trees) (it : TokenRows) (token : String Global) → string_bytes token ≡ decimal it.token.id → FindsToken digest db (Some it) → IsAsker digest (record { token = token; login = it.token.login }) db
-asker_found digest db it token written finds = λ ids s h.
-    let f = finds ids s h in
-    let id : id_of_token s digest ≡ it.token.id = ap (λ o. unwrap_or o 0) (token_at digest s.tokens it.token.id _ h.sound.digests f.2 refl) in
-    let login : login_of s (account_of s digest) ≡ string_bytes it.token.login = ap (λ (o : Option Token). login_of s (unwrap_or (option_map (λ t. t.account) o) 0)) f.1 ∙ login_is (with_id s.accounts it.token.account) (string_bytes it.token.login) it.token.enabled f.3 in
-    let shown : decimal (id_of_token s digest) ≡ string_bytes token = ap decimal id ∙ sym written in
-    λ i. shown i ∷ login i ∷ []
+-- the one row of a digest, where the rows stand for a registry
+module _ (ids : Ids) (s : Registry) (db : Trees) (h : Holds ids s db) (digest : Text) (t : TokenRow) (known : tokens_with_accounts digest db ≡ columns_with_account t ∷ []) where
+  row : IsRow s digest (Some t)
+  row = finds_row ids s db h.stands digest h.sound (Some t) known
+
+  pub viewer_is : viewer s digest ≡ Some t.account
+  viewer_is = ap (option_map (λ (k : Token). k.account)) row.1
+
+  pub asker_is : asker s digest ≡ decimal t.id ∷ string_bytes t.login ∷ []
+  asker_is =
+      let id : id_of_token s digest ≡ t.id = ap (λ o. unwrap_or o 0) (token_at digest s.tokens t.id _ h.sound.digests row.2 refl) in
+      let shown : decimal (id_of_token s digest) ≡ decimal t.id = ap decimal id in
+      let login : login_of s (account_of s digest) ≡ string_bytes t.login = ap (λ (o : Option Token). login_of s (unwrap_or (option_map (λ k. k.account) o) 0)) row.1 ∙ login_is (with_id s.accounts t.account) (string_bytes t.login) t.enabled row.3 in
+      λ i. shown i ∷ login i ∷ []
