@@ -45,7 +45,8 @@ line_with _ found = None
 -- this is the line of what this caller asks for, if one is wanted
 abbrev pub TellsRequest : Bool → Caller → Asked → Trees → Option (String Global) → Type 0
 TellsRequest traced caller asked db found = (digest : Text)
-    → IsCaller digest (action_of asked) caller db → TellsIf traced (Ask (Some digest) asked) db found
+    → IsCaller digest (action_of asked) caller db
+    → TellsIf traced (Ask (Some digest) asked) db found
 
 -- what the rules on access let pass is served to this caller, and its line is told
 abbrev pub GrantsTold : {S : Type 0} → Bool → Limits → Caller → Ghosts S → Asked
