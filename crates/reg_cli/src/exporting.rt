@@ -1,7 +1,6 @@
 //! The index as files in a folder.
 
-ghost use Rattle.reg_service.specs.Answered.{AreUpToDate};
-ghost use Rattle.reg_service.specs.Registries.{tables_of};
+ghost use Rattle.reg_service.specs.Registries.{IsUpToDate};
 
 use crate::files::is_registry;
 use reg_cli_line::Exit;
@@ -35,7 +34,7 @@ pub(crate) fn export_to<S: Alter>(
     folder: &str,
     file: &str,
 ) -> Exit
-    requires { AreUpToDate S.Store (tables_of registry.old) }
+    requires { IsUpToDate S.Store registry.old }
 {
     if folder.is_empty() {
         return Exit::STORAGE;

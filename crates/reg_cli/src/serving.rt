@@ -1,8 +1,7 @@
 //! Streams: one on standard input and output, or connections one after another.
 
 ghost use Rattle.std.specs.Prelude.{◌≡◌, ◌+◌, ◌^◌, ◌<◌, [], MatchResult, OnOk};
-ghost use Rattle.reg_service.specs.Answered.{AreUpToDate};
-ghost use Rattle.reg_service.specs.Registries.{limits_of, tables_of};
+ghost use Rattle.reg_service.specs.Registries.{IsUpToDate, limits_of};
 ghost use Rattle.reg_cli_pipe.specs.Exits.{EndsWith};
 ghost use Rattle.reg_cli_pipe.specs.Limited.{HasTurns};
 ghost use Rattle.reg_cli.specs.Setups.{IsSetup};
@@ -52,7 +51,7 @@ pub(crate) fn pipe_on<S: Alter>(
     registry: &mut Registry<S>,
     setup: Option<&str>,
 ) -> Exit
-    requires tables { AreUpToDate S.Store (tables_of registry.old) }
+    requires tables { IsUpToDate S.Store registry.old }
     requires turns { HasTurns (limits_of registry.old) }
 {
     let setup = match read_setup(rt, setup) {
@@ -117,7 +116,7 @@ fn serve_door<S: Alter, T: Write>(
     door: &mut Door,
     left: &mut u64,
 ) -> Result<(), Exit>
-    requires tables { AreUpToDate S.Store (tables_of registry.old) }
+    requires tables { IsUpToDate S.Store registry.old }
     requires turns { HasTurns (limits_of registry.old) }
     requires room { door.old.accepted + left.old < 2 ^ 64 }
     ensures counts { door.new.accepted + left.new ≡ door.old.accepted + left.old }

@@ -2,8 +2,7 @@
 
 ghost use Rattle.std.specs.Prelude.{◌≡◌, false, IfOk};
 ghost use Rattle.sqlite.specs.Held.{IsNew, state};
-ghost use Rattle.reg_service.specs.Answered.{AreUpToDate};
-ghost use Rattle.reg_service.specs.Registries.{limits_of, tables_of};
+ghost use Rattle.reg_service.specs.Registries.{IsUpToDate, limits_of};
 ghost use Rattle.reg_cli.specs.Exits.{status_of_opening, words_of_damage, words_of_opening};
 
 use crate::files::is_orphaned;
@@ -72,7 +71,7 @@ pub(crate) fn open<S: Alter + Drop>(
     limits: Limits,
 ) -> Result<Registry<S>, Exit>
     requires { (state S.Store conn).in_transaction ≡ false }
-    ensures tables { IfOk result (λ r. AreUpToDate S.Store (tables_of r)) }
+    ensures tables { IfOk result (IsUpToDate S.Store) }
     ensures limited { IfOk result (λ r. limits_of r ≡ limits) }
 {
     match Registry::open(alloc, conn, limits) {
@@ -84,7 +83,7 @@ pub(crate) fn open<S: Alter + Drop>(
 /// Makes an empty registry.
 pub(crate) fn create<S: Alter + Drop>(conn: Connection<S>, base: &str) -> Result<Registry<S>, Exit>
     requires { (state S.Store conn).in_transaction ≡ false }
-    ensures tables { IfOk result (λ r. AreUpToDate S.Store (tables_of r)) }
+    ensures tables { IfOk result (IsUpToDate S.Store) }
     ensures limited { IfOk result (λ r. limits_of r ≡ Limits.STANDARD) }
 {
     match Registry::create(conn, base, Limits::STANDARD) {

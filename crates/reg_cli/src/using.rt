@@ -2,8 +2,7 @@
 
 ghost use Rattle.std.specs.Prelude.{◌≡◌, false};
 ghost use Rattle.sqlite.specs.Held.{state};
-ghost use Rattle.reg_service.specs.Answered.{AreUpToDate};
-ghost use Rattle.reg_service.specs.Registries.{limits_of, tables_of};
+ghost use Rattle.reg_service.specs.Registries.{IsUpToDate, limits_of};
 ghost use Rattle.reg_cli_pipe.specs.Limited.{HasTurns};
 ghost use Rattle.reg_cli.specs.Tasks.{IsFitUse};
 
@@ -28,7 +27,7 @@ pub(crate) enum Use<'a> {
 }
 
 fn use_it<S: Alter>(rt: &HostRuntime, registry: &mut Registry<S>, wanted: &Use<'_>) -> Exit
-    requires tables { AreUpToDate S.Store (tables_of registry.old) }
+    requires tables { IsUpToDate S.Store registry.old }
     requires turns { HasTurns (limits_of registry.old) }
     requires fit { IsFitUse wanted.now }
 {

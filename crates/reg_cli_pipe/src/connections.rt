@@ -1,8 +1,7 @@
 //! Connections, served one after another.
 
 ghost use Rattle.std.specs.Prelude.{◌≡◌, ◌⊎◌, ◌+◌, ◌^◌, ◌<◌, true, codes, IfErr, OnOk};
-ghost use Rattle.reg_service.specs.Answered.{AreUpToDate};
-ghost use Rattle.reg_service.specs.Registries.{has_stopped, limits_of, tables_of};
+ghost use Rattle.reg_service.specs.Registries.{IsUpToDate, has_stopped, limits_of};
 ghost use Rattle.reg_cli_pipe.specs.Exits.{EndsWith};
 ghost use Rattle.reg_cli_pipe.specs.Limited.{HasTurns};
 
@@ -24,9 +23,9 @@ fn serve_connection<S: Alter, T: Write>(
     trail: &mut Trail<T>,
     stream: &TcpStream,
 )
-    requires tables { AreUpToDate S.Store (tables_of registry.old) }
+    requires tables { IsUpToDate S.Store registry.old }
     requires turns { HasTurns (limits_of registry.old) }
-    ensures tables { AreUpToDate S.Store (tables_of registry.new) }
+    ensures tables { IsUpToDate S.Store registry.new }
     ensures limits { limits_of registry.new ≡ limits_of registry.old }
 {
     let mut reader = Counted::new(stream);
@@ -44,7 +43,7 @@ pub fn serve_connections<S: Alter, T: Write>(
     door: &mut Door,
     left: &mut u64,
 ) -> Result<(), Exit>
-    requires tables { AreUpToDate S.Store (tables_of registry.old) }
+    requires tables { IsUpToDate S.Store registry.old }
     requires turns { HasTurns (limits_of registry.old) }
     requires room { door.old.accepted + left.old < 2 ^ 64 }
     ensures counts { door.new.accepted + left.new ≡ door.old.accepted + left.old }

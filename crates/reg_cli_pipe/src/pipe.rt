@@ -3,8 +3,8 @@
 ghost use Rattle.std.specs.Prelude.{◌+◌, ◌^◌, ◌<◌};
 ghost use Rattle.sqlite.specs.State.{HasCleanDisk};
 ghost use Rattle.reg_tables.specs.Works.{shown};
-ghost use Rattle.reg_service.specs.Answered.{AreUpToDate, Shows};
-ghost use Rattle.reg_service.specs.Registries.{limits_of, tables_of};
+ghost use Rattle.reg_service.specs.Answered.{Shows};
+ghost use Rattle.reg_service.specs.Registries.{IsUpToDate, limits_of, tables_of};
 ghost use Rattle.reg_http.specs.Answering.{GoesOn};
 ghost use Rattle.reg_http.specs.Trails.{IsTrailed, tail};
 ghost use Rattle.reg_cli_pipe.specs.Lines.{lines_in};
@@ -29,7 +29,7 @@ pub fn run_pipe<R: Read, W: Write, S: Alter>(
     r: &mut Counted<R>,
     w: &mut Counted<W>,
 ) -> Exit
-    requires tables { AreUpToDate S.Store (tables_of registry.old) }
+    requires tables { IsUpToDate S.Store registry.old }
     requires reads { r.old.calls + (limits_of registry.old).turns < 2 ^ 64 }
     requires writes { w.old.calls + (limits_of registry.old).turns < 2 ^ 64 }
     ensures piped { HasCleanDisk (shown S.Store (tables_of registry.new)) → (s : _)
@@ -55,7 +55,7 @@ pub fn pipe_traced<R: Read, W: Write, T: Write, S: Alter>(
     w: &mut Counted<W>,
     trail: &mut Trail<T>,
 ) -> Exit
-    requires tables { AreUpToDate S.Store (tables_of registry.old) }
+    requires tables { IsUpToDate S.Store registry.old }
     requires reads { r.old.calls + (limits_of registry.old).turns < 2 ^ 64 }
     requires writes { w.old.calls + (limits_of registry.old).turns < 2 ^ 64 }
     ensures piped { HasCleanDisk (shown S.Store (tables_of registry.new)) → (s : _)

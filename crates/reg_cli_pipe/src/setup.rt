@@ -7,8 +7,8 @@ ghost use Rattle.reg_model.specs.Events.Event.{Order as ToOrder};
 ghost use Rattle.reg_model.specs.Steps.{IsFit};
 ghost use Rattle.reg_policy.specs.Events.{command_of};
 ghost use Rattle.reg_tables.specs.Works.{shown};
-ghost use Rattle.reg_service.specs.Answered.{AreUpToDate, Shows};
-ghost use Rattle.reg_service.specs.Registries.{limits_of, tables_of};
+ghost use Rattle.reg_service.specs.Answered.{Shows};
+ghost use Rattle.reg_service.specs.Registries.{IsUpToDate, limits_of, tables_of};
 ghost use Rattle.reg_http.specs.Answering.{GoesOn};
 ghost use Rattle.reg_http.specs.Trails.{IsTrailed, tail};
 ghost use Rattle.reg_cli_words.specs.Dashes.{is_dashed};
@@ -129,7 +129,7 @@ fn obey<T: Write, S: Alter>(
     trail: &mut Trail<T>,
     command: &AdminCommand<'_>,
 ) -> Result<(), SetupFault>
-    requires tables { AreUpToDate S.Store (tables_of registry.old) }
+    requires tables { IsUpToDate S.Store registry.old }
     requires fit { IsFit (ToOrder (command_of command.now)) }
     ensures obeyed { IsObeyed S.Store (limits_of registry.old) (Some (command_of command.now))
         (tables_of registry.old) (tables_of registry.new)
@@ -152,7 +152,7 @@ fn add_token<T: Write, S: Alter>(
     trail: &mut Trail<T>,
     token: &NewToken<'_>,
 ) -> Result<(), SetupFault>
-    requires tables { AreUpToDate S.Store (tables_of registry.old) }
+    requires tables { IsUpToDate S.Store registry.old }
     ensures obeyed { IsObeyed S.Store (limits_of registry.old) (token_order (words_of token.now))
         (tables_of registry.old) (tables_of registry.new)
         (tail (T.contents trail.old.end.inner) trail.old)
@@ -175,7 +175,7 @@ fn obey_order<T: Write, S: Alter>(
     trail: &mut Trail<T>,
     matches: &ArgMatches<'_>,
 ) -> Result<(), SetupFault>
-    requires tables { AreUpToDate S.Store (tables_of registry.old) }
+    requires tables { IsUpToDate S.Store registry.old }
     ensures obeyed { IsObeyed S.Store (limits_of registry.old) (order_in matches.now)
         (tables_of registry.old) (tables_of registry.new)
         (tail (T.contents trail.old.end.inner) trail.old)
@@ -202,7 +202,7 @@ fn obey_line<T: Write, S: Alter>(
     trail: &mut Trail<T>,
     line: &str,
 ) -> Result<(), SetupFault>
-    requires tables { AreUpToDate S.Store (tables_of registry.old) }
+    requires tables { IsUpToDate S.Store registry.old }
     ensures obeyed { IsObeyed S.Store (limits_of registry.old) (line_order line.now)
         (tables_of registry.old) (tables_of registry.new)
         (tail (T.contents trail.old.end.inner) trail.old)
@@ -223,7 +223,7 @@ pub fn run_setup<S: Alter>(
     registry: &mut Registry<S>,
     setup: &str,
 ) -> Result<(), SetupFault>
-    requires tables { AreUpToDate S.Store (tables_of registry.old) }
+    requires tables { IsUpToDate S.Store registry.old }
     ensures done { HasCleanDisk (shown S.Store (tables_of registry.new)) → (s : _)
         → Shows s (shown S.Store (tables_of registry.old))
         → IsSetUp S.Store (limits_of registry.old) s (tables_of registry.old)
@@ -242,7 +242,7 @@ pub fn setup_traced<T: Write, S: Alter>(
     setup: &str,
     trail: &mut Trail<T>,
 ) -> Result<(), SetupFault>
-    requires tables { AreUpToDate S.Store (tables_of registry.old) }
+    requires tables { IsUpToDate S.Store registry.old }
     ensures done { HasCleanDisk (shown S.Store (tables_of registry.new)) → (s : _)
         → Shows s (shown S.Store (tables_of registry.old))
         → IsSetUpTraced S.Store (limits_of registry.old) s (tables_of registry.old)

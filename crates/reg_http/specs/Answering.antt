@@ -18,8 +18,8 @@ use Rattle.reg_api_requests.specs.Requests.{request_from}
 use Rattle.reg_api_requests.specs.Views.{event_of}
 use Rattle.reg_api_requests.specs.Wants.{wants_of}
 use Rattle.reg_api_requests.specs.declared.request.ApiRequest.{ApiRequest}
-use Rattle.reg_service.specs.Answered.{Answers, AreUpToDate, Shows}
-use Rattle.reg_service.specs.Registries.{limits_of, tables_of}
+use Rattle.reg_service.specs.Answered.{Answers, Shows}
+use Rattle.reg_service.specs.Registries.{IsUpToDate, limits_of, tables_of}
 use Rattle.reg_service.specs.declared.registry.Registry.{Registry}
 use Rattle.reg_tables.specs.declared.tables.Tables.{Tables}
 use Rattle.reg_tables.specs.Works.{shown}
@@ -81,7 +81,7 @@ IsRequestReplied g limits request close old new k0 k1 w0 w1 r =
 
 -- the registry goes on: its tables are ours, and its limits the same
 pub record GoesOn {S : Type 0} (g : Ghosts S) (old new : Registry S) : Type 0 where
-  pub tables : AreUpToDate g (tables_of new)
+  pub tables : IsUpToDate g new
   pub clean : HasCleanDisk (shown g (tables_of new)) → HasCleanDisk (shown g (tables_of old))
   pub limits : limits_of new ≡ limits_of old
 

@@ -5,8 +5,7 @@ ghost use Rattle.reg_http_read.specs.Reads.{facts_of};
 ghost use Rattle.reg_http_read.specs.Turns.{Sends, SpendsTurns, writes_of};
 ghost use Rattle.reg_http_routes.specs.Routing.{routing_of};
 ghost use Rattle.reg_api_replies.specs.Texts.{refusal_text};
-ghost use Rattle.reg_service.specs.Answered.{AreUpToDate};
-ghost use Rattle.reg_service.specs.Registries.{limits_of, tables_of};
+ghost use Rattle.reg_service.specs.Registries.{IsUpToDate, limits_of, tables_of};
 ghost use Rattle.reg_service.specs.Streamed.{AsksForFile};
 ghost use Rattle.reg_http.specs.Answering.{GoesOn, IsReplied, IsRequestReplied, fault_text};
 ghost use Rattle.reg_http.specs.Trails.{IsTrailed, Tail, tail};
@@ -92,7 +91,7 @@ fn send_index<W: Write, S: Alter>(
     close: bool,
     left: &mut u64,
 ) -> Result<(), StreamFault>
-    requires tables { AreUpToDate S.Store (tables_of registry.old) }
+    requires tables { IsUpToDate S.Store registry.old }
     requires room { w.old.calls + left.old < 2 ^ 64 }
     requires file { AsksForFile request.now.call }
     ensures replied { (k : Tail) → IsRequestReplied S.Store (limits_of registry.old) request.now
@@ -123,7 +122,7 @@ fn send_answer<W: Write, T: Write, S: Alter>(
     close: bool,
     left: &mut u64,
 ) -> Result<(), StreamFault>
-    requires tables { AreUpToDate S.Store (tables_of registry.old) }
+    requires tables { IsUpToDate S.Store registry.old }
     requires room { w.old.calls + left.old < 2 ^ 64 }
     ensures replied { IsRequestReplied S.Store (limits_of registry.old) request.now close
         (tables_of registry.old) (tables_of registry.new)
@@ -152,7 +151,7 @@ fn answer<W: Write, T: Write, S: Alter>(
     close: bool,
     left: &mut u64,
 ) -> Result<(), StreamFault>
-    requires tables { AreUpToDate S.Store (tables_of registry.old) }
+    requires tables { IsUpToDate S.Store registry.old }
     requires room { w.old.calls + left.old < 2 ^ 64 }
     ensures replied { IsRequestReplied S.Store (limits_of registry.old) request.now close
         (tables_of registry.old) (tables_of registry.new)
@@ -202,7 +201,7 @@ pub(crate) fn answer_message<W: Write, T: Write, S: Alter>(
     message: &Message<'_, '_>,
     left: &mut u64,
 ) -> Result<(), StreamFault>
-    requires tables { AreUpToDate S.Store (tables_of registry.old) }
+    requires tables { IsUpToDate S.Store registry.old }
     requires room { w.old.calls + left.old < 2 ^ 64 }
     ensures replied { let f = facts_of message.now.head in IsReplied S.Store
         (limits_of registry.old) f (routing_of f message.now.body.now) message.now.close

@@ -2,8 +2,7 @@
 
 ghost use Rattle.std.specs.Prelude.{◌+◌, ◌^◌, ◌<◌, ℕ, vec_len};
 ghost use Rattle.reg_http_read.specs.Turns.{Spends, SpendsTurns, tally};
-ghost use Rattle.reg_service.specs.Answered.{AreUpToDate};
-ghost use Rattle.reg_service.specs.Registries.{limits_of, tables_of};
+ghost use Rattle.reg_service.specs.Registries.{IsUpToDate, limits_of};
 ghost use Rattle.reg_http.specs.Answering.{GoesOn};
 ghost use Rattle.reg_http.specs.Streams.{IsServing, IsServingTraced};
 ghost use Rattle.reg_http.specs.Trails.{IsTrailed, tail};
@@ -49,7 +48,7 @@ impl Server {
         r: &mut Counted<R>,
         w: &mut Counted<W>,
     ) -> Result<u64, StreamFault>
-        requires tables { AreUpToDate S.Store (tables_of registry.old) }
+        requires tables { IsUpToDate S.Store registry.old }
         requires reads { r.old.calls + (limits_of registry.old).turns < 2 ^ 64 }
         requires writes { w.old.calls + (limits_of registry.old).turns < 2 ^ 64 }
 
@@ -78,7 +77,7 @@ impl Server {
         w: &mut Counted<W>,
         trail: &mut Trail<T>,
     ) -> Result<u64, StreamFault>
-        requires tables { AreUpToDate S.Store (tables_of registry.old) }
+        requires tables { IsUpToDate S.Store registry.old }
         requires reads { r.old.calls + (limits_of registry.old).turns < 2 ^ 64 }
         requires writes { w.old.calls + (limits_of registry.old).turns < 2 ^ 64 }
 
@@ -120,7 +119,7 @@ pub fn serve_stream<R: Read, W: Write, S: Alter>(
     r: &mut Counted<R>,
     w: &mut Counted<W>,
 ) -> Result<u64, StreamFault>
-    requires tables { AreUpToDate S.Store (tables_of registry.old) }
+    requires tables { IsUpToDate S.Store registry.old }
     requires reads { r.old.calls + (limits_of registry.old).turns < 2 ^ 64 }
     requires writes { w.old.calls + (limits_of registry.old).turns < 2 ^ 64 }
 
@@ -147,7 +146,7 @@ pub fn serve_traced<R: Read, W: Write, T: Write, S: Alter>(
     w: &mut Counted<W>,
     trail: &mut Trail<T>,
 ) -> Result<u64, StreamFault>
-    requires tables { AreUpToDate S.Store (tables_of registry.old) }
+    requires tables { IsUpToDate S.Store registry.old }
     requires reads { r.old.calls + (limits_of registry.old).turns < 2 ^ 64 }
     requires writes { w.old.calls + (limits_of registry.old).turns < 2 ^ 64 }
 

@@ -4,8 +4,7 @@ ghost use Rattle.std.specs.Prelude.{◌≡◌, ◌+◌, ◌^◌, ◌<◌, ◌≤
 ghost use Rattle.reg_http_read.specs.Owned.{facts_owned};
 ghost use Rattle.reg_http_read.specs.Reads.{facts_of};
 ghost use Rattle.reg_http_read.specs.Turns.{SpendsTurns, tally};
-ghost use Rattle.reg_service.specs.Answered.{AreUpToDate};
-ghost use Rattle.reg_service.specs.Registries.{limits_of, tables_of};
+ghost use Rattle.reg_service.specs.Registries.{IsUpToDate, limits_of};
 ghost use Rattle.reg_http.specs.Answering.{GoesOn};
 ghost use Rattle.reg_http.specs.Streams.{IsServingTraced};
 ghost use Rattle.reg_http.specs.Trails.{IsTrailed, tail};
@@ -58,7 +57,7 @@ pub(crate) fn serve_requests<R: Read, W: Write, T: Write, S: Alter>(
     chunk: &mut [u8],
     pending: &mut Vec<u8>,
 ) -> Result<u64, StreamFault>
-    requires tables { AreUpToDate S.Store (tables_of registry.old) }
+    requires tables { IsUpToDate S.Store registry.old }
     requires reads { r.old.calls + (limits_of registry.old).turns < 2 ^ 64 }
     requires writes { w.old.calls + (limits_of registry.old).turns < 2 ^ 64 }
     requires some { 0 < length chunk.old }

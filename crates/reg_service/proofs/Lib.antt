@@ -1,7 +1,9 @@
 mod Frames
 mod Histories
 mod Opened
+mod Publishing
 mod Replied
+mod Rooms
 mod Seeking
 mod Streams
 mod Traced

@@ -37,6 +37,7 @@ use Rattle.reg_tables.specs.Ends.{Begins, IsDropped, SeesAll}
 use Rattle.reg_tables.specs.Works.{AreOurs, IsLeft, seen, shown}
 use Rattle.reg_tables.proofs.Looking.{call_looks}
 use Rattle.reg_service.specs.Answered.{AreUpToDate, Shows, Stays}
+use Rattle.reg_service.specs.Rooms.{added}
 use Rattle.reg_service.specs.Streamed.{AsksForFile, IsDecided, LeavesStream, SendsAnswer, StreamsTo, WasDecided}
 use Rattle.reg_service.proofs.Frames as frame
 
@@ -140,3 +141,16 @@ no_logins limits (call.Unyank n v) h = absurd h
 no_logins limits (call.AddOwners n body) h = absurd h
 no_logins limits (call.RemoveOwners n body) h = absurd h
 no_logins limits (call.Search q per_page) h = absurd h
+
+-- nor a version
+pub no_versions : (limits : Limits) (w : ApiCall) → AsksForFile w → added (asked_by limits w) ≡ 0
+no_versions limits (call.Index path) h = refl
+no_versions limits call.Config h = absurd h
+no_versions limits (call.Download n v) h = absurd h
+no_versions limits (call.ListOwners n) h = absurd h
+no_versions limits (call.Publish body) h = absurd h
+no_versions limits (call.Yank n v) h = absurd h
+no_versions limits (call.Unyank n v) h = absurd h
+no_versions limits (call.AddOwners n body) h = absurd h
+no_versions limits (call.RemoveOwners n body) h = absurd h
+no_versions limits (call.Search q per_page) h = absurd h

@@ -3,5 +3,6 @@ pub mod Answered
 pub mod Handled
 pub mod Looked
 pub mod Registries
+pub mod Rooms
 pub mod Sequences
 pub mod Streamed

@@ -18,6 +18,8 @@ use Rattle.reg_tables.specs.declared.tables.Tables.{Tables}
 use Rattle.reg_tables_meaning.specs.Upgrades.{AreBegun, AreUpgraded}
 use Rattle.reg_tables.specs.Works.{is_shut, shown}
 use Rattle.reg_service.specs.Answered.{AreAs, AreUpToDate, LeavesAlone, Shows}
+use Rattle.reg_service.specs.Rooms.{IsKnown}
+use Rattle.reg_service.specs.declared.room.Room.{Room}
 use Rattle.reg_service.specs.declared.opening.OpenFault.{OpenFault}
 use Rattle.reg_service.specs.declared.opening.OpenFault.TheVariants.{Storage}
 use Rattle.reg_service.specs.declared.registry.Registry.{Registry}
@@ -27,6 +29,15 @@ tables_of r = r.tables
 
 abbrev pub limits_of : {S : Type 0} → Registry S → Limits
 limits_of r = r.limits
+
+-- what is known of the crate that was published last
+abbrev pub room_of : {S : Type 0} → Registry S → Option Room
+room_of r = r.room
+
+-- our tables, of schema 2, and they hold a registry of which what is known is so
+pub record IsUpToDate {S : Type 0} (g : Ghosts S) (r : Registry S) : Type 0 where
+  pub tables : AreUpToDate g (tables_of r)
+  pub known : IsKnown g (limits_of r) (room_of r) (tables_of r)
 
 -- a commit was refused: it answers nothing more
 abbrev pub has_stopped : {S : Type 0} → Registry S → Bool
@@ -85,7 +96,7 @@ pub record AreDamaged (now : Database) (check : Check) : Type 0 where
 -- a registry of this base with nothing in it, which a stop leaves alone
 pub record IsNew {S : Type 0} (g : Ghosts S) (base : Text) (limits : Limits) (r : Registry S)
     : Type 0 where
-  pub tables : AreUpToDate g (tables_of r)
+  pub tables : IsUpToDate g r
   pub goes_on : has_stopped r ≡ false
   pub shows : HasCleanDisk (shown g (tables_of r)) → Shows (empty_at base) (shown g (tables_of r))
   pub alone : HasCleanDisk (shown g (tables_of r))

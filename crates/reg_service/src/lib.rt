@@ -15,6 +15,7 @@ mod exporting;
 pub mod laws;
 mod opening;
 mod registry;
+mod room;
 mod searching;
 mod sequences;
 mod streaming;

@@ -8,7 +8,7 @@ ghost use Rattle.reg_tables_schema.specs.Schema.{blank, schema_of};
 ghost use Rattle.reg_tables_schema.specs.States.{IsMade, IsUndone};
 ghost use Rattle.reg_tables_sql.specs.Abouts.{LacksBase};
 ghost use Rattle.reg_service.specs.Answered.{AreAs, AreUpToDate, Shows};
-ghost use Rattle.reg_service.specs.Registries.{AreChecked, AreDamaged, AreOne, IsBrought, IsNew, LeavesOpened, MayBeUpgraded, MayBecome, has_stopped, limits_of, tables_of};
+ghost use Rattle.reg_service.specs.Registries.{AreChecked, AreDamaged, AreOne, IsBrought, IsNew, IsUpToDate, LeavesOpened, MayBeUpgraded, MayBecome, has_stopped, limits_of, room_of, tables_of};
 ghost use Rattle.reg_tables.specs.Ends.{LeavesLast};
 ghost use Rattle.reg_tables.specs.Works.{AreOurs, edition_in, is_shut, shown};
 
@@ -44,6 +44,7 @@ fn bring_up<S: Alter>(
     requires { AreOurs S.Store tables }
     ensures up_to_date { IfOk result (λ r. AreUpToDate S.Store (tables_of r)) }
     ensures limited { IfOk result (λ r. limits_of r ≡ limits) }
+    ensures unknown { IfOk result (λ r. room_of r ≡ None) }
     ensures goes_on { IfOk result (λ r. has_stopped r ≡ is_shut tables) }
     ensures brought { IfOk result (λ r. HasCleanDisk (shown S.Store (tables_of r))
         → IsBrought (edition_in tables) (shown S.Store tables) (shown S.Store (tables_of r))) }
@@ -56,9 +57,17 @@ fn bring_up<S: Alter>(
         (MayBecome (edition_in tables) (shown S.Store tables))) }
 {
     match tables.edition() {
-        Edition::Second => Ok(Registry { tables, limits }),
+        Edition::Second => Ok(Registry {
+            tables,
+            limits,
+            room: None,
+        }),
         Edition::First => match tables.migrate() {
-            Ok(_) => Ok(Registry { tables, limits }),
+            Ok(_) => Ok(Registry {
+                tables,
+                limits,
+                room: None,
+            }),
             Err(_) => Err((tables.into_connection(), OpenFault::Storage)),
         },
     }
@@ -73,6 +82,7 @@ fn examine<S: Alter>(
     requires { AreOurs S.Store tables }
     ensures up_to_date { IfOk result (λ r. AreUpToDate S.Store (tables_of r)) }
     ensures limited { IfOk result (λ r. limits_of r ≡ limits) }
+    ensures unknown { IfOk result (λ r. room_of r ≡ None) }
     ensures goes_on { IfOk result (λ r. has_stopped r ≡ is_shut tables) }
     ensures brought { IfOk result (λ r. HasCleanDisk (shown S.Store (tables_of r))
         → IsBrought (edition_in tables) (shown S.Store tables) (shown S.Store (tables_of r))) }
@@ -107,7 +117,7 @@ impl<S: Alter> Registry<S> {
         limits: Limits,
     ) -> Result<Registry<S>, (Connection<S>, OpenFault)>
         requires { (state S.Store conn).in_transaction ≡ false }
-        ensures up_to_date { IfOk result (λ r. AreUpToDate S.Store (tables_of r)) }
+        ensures up_to_date { IfOk result (IsUpToDate S.Store) }
         ensures goes_on { IfOk result (λ r. has_stopped r ≡ false) }
         ensures limited { IfOk result (λ r. limits_of r ≡ limits) }
         ensures same { IfOk result (λ r. HasCleanDisk (shown S.Store (tables_of r))
@@ -172,7 +182,11 @@ impl<S: Alter> Registry<S> {
             return Err((conn, OpenFault::BadBase));
         }
         match Tables::make(conn, base) {
-            Ok(tables) => Ok(Registry { tables, limits }),
+            Ok(tables) => Ok(Registry {
+                tables,
+                limits,
+                room: None,
+            }),
             Err((conn, MakeFault::UnknownSchema)) => Err((conn, OpenFault::UnknownSchema)),
             Err((conn, MakeFault::Storage)) => Err((conn, OpenFault::Storage)),
         }

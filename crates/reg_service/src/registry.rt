@@ -9,15 +9,16 @@ ghost use Rattle.reg_policy.specs.Events.{command_of, reply_of};
 ghost use Rattle.reg_api_requests.specs.Requests.{request_of};
 ghost use Rattle.reg_api_requests.specs.Views.{event_of};
 ghost use Rattle.reg_service.specs.Acted.{IsActed, IsOrdered, IsUntold};
-ghost use Rattle.reg_service.specs.Answered.{AreUpToDate, IsAnswered};
+ghost use Rattle.reg_service.specs.Answered.{IsAnswered};
 ghost use Rattle.reg_service.specs.Handled.{IsReplied};
 ghost use Rattle.reg_service.specs.Looked.{FailsFirst, IsIndex, IsTrueOf, Looked};
-ghost use Rattle.reg_service.specs.Registries.{has_stopped, limits_of, tables_of};
+ghost use Rattle.reg_service.specs.Registries.{IsUpToDate, has_stopped, limits_of, tables_of};
 ghost use Rattle.reg_api_replies.specs.Sent.{sink};
 ghost use Rattle.reg_service.specs.Streamed.{AsksForFile, IsStreamed, LeavesStream};
 ghost use Rattle.reg_tables.specs.Works.{held, shown};
 
 use crate::exporting::export_in;
+use crate::room::Room;
 use crate::streaming::stream_parts;
 use crate::transactions::{command_in, denied, parts_in};
 use reg_api_replies::Reply;
@@ -41,6 +42,7 @@ use std::io::Write;
 pub struct Registry<S: Alter> {
     pub(crate) tables: Tables<S>,
     pub(crate) limits: Limits,
+    pub(crate) room: Option<Room>,
 }
 
 impl<S: Alter> Registry<S> {
@@ -65,12 +67,12 @@ impl<S: Alter> Registry<S> {
         alloc: Global,
         command: &AdminCommand<'_>,
     ) -> Result<AdminReply, AdminRefusal>
-        requires tables { AreUpToDate S.Store (tables_of self.old) }
+        requires tables { IsUpToDate S.Store self.old }
         requires fit { IsFit (Order (command_of command.now)) }
         ensures answers { IsAnswered S.Store (limits_of self.old)
             (Order (command_of command.now)) (reply_of result)
             (tables_of self.old) (tables_of self.new) }
-        ensures tables { AreUpToDate S.Store (tables_of self.new) }
+        ensures tables { IsUpToDate S.Store self.new }
         ensures clean { HasCleanDisk (shown S.Store (tables_of self.new)) → HasCleanDisk
             (shown S.Store (tables_of self.old)) }
         ensures limits { limits_of self.new ≡ limits_of self.old }
@@ -84,11 +86,11 @@ impl<S: Alter> Registry<S> {
 
     /// Answers a request, in one transaction.
     pub fn handle(&mut self, alloc: Global, request: &ApiRequest<'_>) -> Reply
-        requires { AreUpToDate S.Store (tables_of self.old) }
+        requires { IsUpToDate S.Store self.old }
         ensures replies { let asks = request_of (limits_of self.old) request.now in
             IsReplied S.Store (limits_of self.old) asks.digest asks.asked result
             (tables_of self.old) (tables_of self.new) }
-        ensures tables { AreUpToDate S.Store (tables_of self.new) }
+        ensures tables { IsUpToDate S.Store self.new }
         ensures clean { HasCleanDisk (shown S.Store (tables_of self.new)) → HasCleanDisk
             (shown S.Store (tables_of self.old)) }
         ensures limits { limits_of self.new ≡ limits_of self.old }
@@ -104,11 +106,11 @@ impl<S: Alter> Registry<S> {
 
     /// Does as `command`. If `traced`, it tells the line of what was changed, if anything was.
     pub fn order(&mut self, alloc: Global, command: &AdminCommand<'_>, traced: bool) -> OrderTold
-        requires tables { AreUpToDate S.Store (tables_of self.old) }
+        requires tables { IsUpToDate S.Store self.old }
         requires fit { IsFit (Order (command_of command.now)) }
         ensures answers { IsOrdered S.Store (limits_of self.old) traced (command_of command.now)
             result (tables_of self.old) (tables_of self.new) }
-        ensures tables { AreUpToDate S.Store (tables_of self.new) }
+        ensures tables { IsUpToDate S.Store self.new }
         ensures clean { HasCleanDisk (shown S.Store (tables_of self.new)) → HasCleanDisk
             (shown S.Store (tables_of self.old)) }
         ensures limits { limits_of self.new ≡ limits_of self.old }
@@ -121,11 +123,11 @@ impl<S: Alter> Registry<S> {
 
     /// Does as `handle`. If `traced`, it tells the line of what was changed, if anything was.
     pub fn act(&mut self, alloc: Global, request: &ApiRequest<'_>, traced: bool) -> Acted
-        requires { AreUpToDate S.Store (tables_of self.old) }
+        requires { IsUpToDate S.Store self.old }
         ensures replies { let asks = request_of (limits_of self.old) request.now in
             IsActed S.Store (limits_of self.old) traced asks.digest asks.asked result
             (tables_of self.old) (tables_of self.new) }
-        ensures tables { AreUpToDate S.Store (tables_of self.new) }
+        ensures tables { IsUpToDate S.Store self.new }
         ensures clean { HasCleanDisk (shown S.Store (tables_of self.new)) → HasCleanDisk
             (shown S.Store (tables_of self.old)) }
         ensures limits { limits_of self.new ≡ limits_of self.old }
@@ -138,7 +140,14 @@ impl<S: Alter> Registry<S> {
         let Ok(parts) = read_request(alloc, request, &self.limits) else {
             return denied(Rule::S1);
         };
-        parts_in(alloc, &mut self.tables, &self.limits, &parts, traced)
+        parts_in(
+            alloc,
+            &mut self.tables,
+            &self.limits,
+            &mut self.room,
+            &parts,
+            traced,
+        )
     }
 
     /// Sends the reply to a request for an index file, row by row, in at most `writes` write calls,
@@ -151,7 +160,7 @@ impl<S: Alter> Registry<S> {
         writer: &mut Counted<W>,
         writes: u64,
     ) -> Result<u64, IndexFault>
-        requires tables { AreUpToDate S.Store (tables_of self.old) }
+        requires tables { IsUpToDate S.Store self.old }
         requires index { AsksForFile request.now.call }
         requires room { writer.old.calls + writes < 2 ^ 64 }
         ensures streams { let asks = request_of (limits_of self.old) request.now in
@@ -163,6 +172,7 @@ impl<S: Alter> Registry<S> {
             (tables_of self.old) (tables_of self.new)
             (sink (W.contents writer.old.inner) writer.old)
             (sink (W.contents writer.new.inner) writer.new) }
+        ensures tables { IsUpToDate S.Store self.new }
         ensures limits { limits_of self.new ≡ limits_of self.old }
     {
         match read_request(alloc, request, &self.limits) {
@@ -174,10 +184,11 @@ impl<S: Alter> Registry<S> {
     /// The files of the index, each after its path: the config, then each crate's in the order of
     /// the canonical texts. Nothing is changed.
     pub fn export(&mut self, alloc: Global) -> Result<Vec<(String, Vec<u8>)>, StoreFault>
-        requires { AreUpToDate S.Store (tables_of self.old) }
+        requires { IsUpToDate S.Store self.old }
         ensures exported { IsTrueOf S.Store IsIndex result (tables_of self.old)
             (tables_of self.new) }
         ensures looked { Looked S.Store (tables_of self.old) (tables_of self.new) }
+        ensures tables { IsUpToDate S.Store self.new }
         ensures limits { limits_of self.new ≡ limits_of self.old }
         ensures stopped { has_stopped self.old ≡ true → IsErr result }
     {
@@ -187,12 +198,13 @@ impl<S: Alter> Registry<S> {
     /// The first check of the rows that fails; none if all pass, and then the rows are those of a
     /// sound registry. Nothing is changed.
     pub fn audit(&mut self, alloc: Global) -> Result<Option<Check>, StoreFault>
-        requires { AreUpToDate S.Store (tables_of self.old) }
+        requires { IsUpToDate S.Store self.old }
         ensures found { HasCleanDisk (shown S.Store (tables_of self.new)) → IfOk result
             (FailsFirst S.Store (tables_of self.old)) }
         ensures sound { HasCleanDisk (shown S.Store (tables_of self.new)) → IfOk result (λ found.
             (found ≡ None) ↔ AreRegistry (shown S.Store (tables_of self.old)).now.trees) }
         ensures looked { Looked S.Store (tables_of self.old) (tables_of self.new) }
+        ensures tables { IsUpToDate S.Store self.new }
         ensures limits { limits_of self.new ≡ limits_of self.old }
         ensures stopped { has_stopped self.old ≡ true → IsErr result }
     {
@@ -207,7 +219,7 @@ impl<S: Alter> Registry<S> {
     pub fn into_connection(self) -> Connection<S>
         ensures { result ≡ held (tables_of self) }
     {
-        let Registry { tables, limits: _ } = self;
+        let Registry { tables, .. } = self;
         tables.into_connection()
     }
 }

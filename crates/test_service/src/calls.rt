@@ -4,8 +4,7 @@ ghost use Rattle.std.specs.Prelude.{IfSome};
 ghost use Rattle.reg_model.specs.Events.Event.{Order};
 ghost use Rattle.reg_model.specs.Steps.{IsFit};
 ghost use Rattle.reg_policy.specs.Events.{command_of as order_of};
-ghost use Rattle.reg_service.specs.Answered.{AreUpToDate};
-ghost use Rattle.reg_service.specs.Registries.{tables_of};
+ghost use Rattle.reg_service.specs.Registries.{IsUpToDate};
 ghost use Rattle.reg_service.specs.Sequences.{IsFitCall};
 
 use crate::requests::{publish_body, request_of, token_text};
@@ -104,8 +103,8 @@ pub fn answer<S: Alter>(
     registry: &mut Registry<S>,
     parts: &Parts<'_>,
 ) -> Option<Told>
-    requires { AreUpToDate S.Store (tables_of registry.old) }
-    ensures { AreUpToDate S.Store (tables_of registry.new) }
+    requires { IsUpToDate S.Store registry.old }
+    ensures { IsUpToDate S.Store registry.new }
 {
     if let Some(command) = parts.command() {
         return Some(Told::Command(registry.command(alloc, &command)));

@@ -1,8 +1,7 @@
 //! Lines of scripts over a connection: the first makes or opens a registry, which the others ask.
 
 ghost use Rattle.std.specs.Prelude.{IfOk};
-ghost use Rattle.reg_service.specs.Answered.{AreUpToDate};
-ghost use Rattle.reg_service.specs.Registries.{tables_of};
+ghost use Rattle.reg_service.specs.Registries.{IsUpToDate};
 
 use crate::limits::limits_of;
 use crate::setups::BASE;
@@ -62,8 +61,8 @@ fn play_line<S: Alter>(
     amount: Option<u32>,
     played: &mut Played,
 ) -> Result<(), AllocError>
-    requires { AreUpToDate S.Store (tables_of registry.old) }
-    ensures { AreUpToDate S.Store (tables_of registry.new) }
+    requires { IsUpToDate S.Store registry.old }
+    ensures { IsUpToDate S.Store registry.new }
 {
     let (call, is_marked, amount) = call_of(line, amount);
     let answer = answered(alloc, registry, call, amount)?;
@@ -77,8 +76,8 @@ fn play_lines<S: Alter>(
     amount: Option<u32>,
     played: &mut Played,
 ) -> Result<(), AllocError>
-    requires { AreUpToDate S.Store (tables_of registry.old) }
-    ensures { AreUpToDate S.Store (tables_of registry.new) }
+    requires { IsUpToDate S.Store registry.old }
+    ensures { IsUpToDate S.Store registry.new }
 {
     for line in lines.lines() {
         play_line(alloc, registry, line, amount, played)?;
@@ -94,7 +93,7 @@ fn begun<S: Alter>(
     call: &str,
     amount: Option<u32>,
 ) -> Result<Registry<S>, (Connection<S>, OpenFault)>
-    ensures { IfOk result (λ r. AreUpToDate S.Store (tables_of r)) }
+    ensures { IfOk result (IsUpToDate S.Store) }
 {
     if !conn.is_autocommit() {
         return Err((conn, OpenFault::Storage));
@@ -124,7 +123,7 @@ fn play_rest<S: Alter>(
     lines: &str,
     amount: Option<u32>,
 ) -> Result<Played, AllocError>
-    requires { AreUpToDate S.Store (tables_of registry.old) }
+    requires { IsUpToDate S.Store registry.old }
 {
     let mut played = Played::new(alloc);
     let done = String::from_str(alloc, "done")?;

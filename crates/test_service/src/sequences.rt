@@ -2,8 +2,7 @@
 
 ghost use Rattle.std.specs.Prelude.{IfOk};
 ghost use Rattle.std.specs.List.{AllByRecursion};
-ghost use Rattle.reg_service.specs.Answered.{AreUpToDate};
-ghost use Rattle.reg_service.specs.Registries.{tables_of};
+ghost use Rattle.reg_service.specs.Registries.{IsUpToDate};
 ghost use Rattle.reg_service.specs.Sequences.{IsFitCall};
 
 use crate::calls::Parts;
@@ -63,7 +62,7 @@ pub fn told_otherwise<S: Alter>(
     registry: &mut Registry<S>,
     lines: &str,
 ) -> Result<Option<String>, AllocError>
-    requires { AreUpToDate S.Store (tables_of registry.old) }
+    requires { IsUpToDate S.Store registry.old }
 {
     let parts = parts_of(alloc, lines)?;
     let told = answer_all(alloc, registry, &calls_of(alloc, &parts)?)?;

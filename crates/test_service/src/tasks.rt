@@ -1,7 +1,6 @@
 //! Lines of scripts that an open registry answers, as texts.
 
-ghost use Rattle.reg_service.specs.Answered.{AreUpToDate};
-ghost use Rattle.reg_service.specs.Registries.{tables_of};
+ghost use Rattle.reg_service.specs.Registries.{IsUpToDate};
 
 use crate::calls::{Parts, answer};
 use crate::replies::{body_text, told_text};
@@ -53,8 +52,8 @@ enum Answer {
 
 /// What is sent to a request for an index file.
 fn sent<S: Alter>(alloc: Global, registry: &mut Registry<S>, request: &ApiRequest<'_>) -> Answer
-    requires { AreUpToDate S.Store (tables_of registry.old) }
-    ensures { AreUpToDate S.Store (tables_of registry.new) }
+    requires { IsUpToDate S.Store registry.old }
+    ensures { IsUpToDate S.Store registry.new }
 {
     let ApiCall::Index(_) = &request.call else {
         return Answer::NoSuchWords;
@@ -65,8 +64,8 @@ fn sent<S: Alter>(alloc: Global, registry: &mut Registry<S>, request: &ApiReques
 }
 
 fn exported<S: Alter>(alloc: Global, registry: &mut Registry<S>) -> Answer
-    requires { AreUpToDate S.Store (tables_of registry.old) }
-    ensures { AreUpToDate S.Store (tables_of registry.new) }
+    requires { IsUpToDate S.Store registry.old }
+    ensures { IsUpToDate S.Store registry.new }
 {
     match registry.export(alloc) {
         Ok(files) => Answer::Files(files),
@@ -75,8 +74,8 @@ fn exported<S: Alter>(alloc: Global, registry: &mut Registry<S>) -> Answer
 }
 
 fn audited<S: Alter>(alloc: Global, registry: &mut Registry<S>) -> Answer
-    requires { AreUpToDate S.Store (tables_of registry.old) }
-    ensures { AreUpToDate S.Store (tables_of registry.new) }
+    requires { IsUpToDate S.Store registry.old }
+    ensures { IsUpToDate S.Store registry.new }
 {
     match registry.audit(alloc) {
         Ok(check) => Answer::Checked(check),
@@ -85,8 +84,8 @@ fn audited<S: Alter>(alloc: Global, registry: &mut Registry<S>) -> Answer
 }
 
 fn called<S: Alter>(alloc: Global, registry: &mut Registry<S>, parts: &Parts<'_>) -> Answer
-    requires { AreUpToDate S.Store (tables_of registry.old) }
-    ensures { AreUpToDate S.Store (tables_of registry.new) }
+    requires { IsUpToDate S.Store registry.old }
+    ensures { IsUpToDate S.Store registry.new }
 {
     match answer(alloc, registry, parts) {
         Some(told) => Answer::Told(told),
@@ -95,8 +94,8 @@ fn called<S: Alter>(alloc: Global, registry: &mut Registry<S>, parts: &Parts<'_>
 }
 
 fn performed<S: Alter>(alloc: Global, registry: &mut Registry<S>, task: &Task<'_>) -> Answer
-    requires { AreUpToDate S.Store (tables_of registry.old) }
-    ensures { AreUpToDate S.Store (tables_of registry.new) }
+    requires { IsUpToDate S.Store registry.old }
+    ensures { IsUpToDate S.Store registry.new }
 {
     match task {
         Task::Export => exported(alloc, registry),
@@ -150,8 +149,8 @@ pub(crate) fn answered<S: Alter>(
     line: &str,
     amount: Option<u32>,
 ) -> Result<String, AllocError>
-    requires { AreUpToDate S.Store (tables_of registry.old) }
-    ensures { AreUpToDate S.Store (tables_of registry.new) }
+    requires { IsUpToDate S.Store registry.old }
+    ensures { IsUpToDate S.Store registry.new }
 {
     let task = read_task(alloc, line)?;
     let memory = leave_only(alloc, amount)?;

@@ -2,8 +2,7 @@
 
 ghost use Rattle.std.specs.Prelude.{◌+◌, ◌^◌, ◌<◌};
 ghost use Rattle.sqlite.specs.Steps.{over_memory};
-ghost use Rattle.reg_service.specs.Answered.{AreUpToDate};
-ghost use Rattle.reg_service.specs.Registries.{limits_of, tables_of};
+ghost use Rattle.reg_service.specs.Registries.{IsUpToDate, limits_of};
 
 use reg_body::{Counted, Limits};
 use reg_cli::Exit;
@@ -34,7 +33,7 @@ fn run_pipe(
     reader: &mut Counted<File>,
     writer: &mut Counted<Vec<u8>>,
 ) -> Exit
-    requires tables { AreUpToDate over_memory (tables_of registry.old) }
+    requires tables { IsUpToDate over_memory registry.old }
     requires reads { reader.old.calls + (limits_of registry.old).turns < 2 ^ 64 }
     requires writes { writer.old.calls + (limits_of registry.old).turns < 2 ^ 64 }
 {
@@ -49,7 +48,7 @@ fn pipe_traced(
     writer: &mut Counted<Vec<u8>>,
     trail: &mut Trail<File>,
 ) -> Exit
-    requires tables { AreUpToDate over_memory (tables_of registry.old) }
+    requires tables { IsUpToDate over_memory registry.old }
     requires reads { reader.old.calls + (limits_of registry.old).turns < 2 ^ 64 }
     requires writes { writer.old.calls + (limits_of registry.old).turns < 2 ^ 64 }
 {

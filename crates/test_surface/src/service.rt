@@ -3,8 +3,7 @@
 ghost use Rattle.std.specs.Prelude.{◌≡◌, ◌+◌, ◌^◌, ◌<◌, false};
 ghost use Rattle.sqlite.specs.Held.{state};
 ghost use Rattle.sqlite.specs.Steps.{over_memory};
-ghost use Rattle.reg_service.specs.Answered.{AreUpToDate};
-ghost use Rattle.reg_service.specs.Registries.{tables_of};
+ghost use Rattle.reg_service.specs.Registries.{IsUpToDate};
 ghost use Rattle.reg_service.specs.Streamed.{AsksForFile};
 
 use http::StatusCode;
@@ -88,7 +87,7 @@ fn stream_index(
     writer: &mut Counted<Vec<u8>>,
     writes: u64,
 ) -> Result<u64, IndexFault>
-    requires tables { AreUpToDate over_memory (tables_of registry.old) }
+    requires tables { IsUpToDate over_memory registry.old }
     requires index { AsksForFile request.now.call }
     requires room { writer.old.calls + writes < 2 ^ 64 }
 {

@@ -4,8 +4,7 @@
 //! that it wrote. Behind the arrow is how a second run goes, with ample memory, which asks for
 //! what the first one did: each thing that was answered as done, and nothing else.
 
-ghost use Rattle.reg_service.specs.Answered.{AreUpToDate};
-ghost use Rattle.reg_service.specs.Registries.{tables_of};
+ghost use Rattle.reg_service.specs.Registries.{IsUpToDate};
 
 use crate::program::piping::{INDEX_FILE, REPLIED, TWO_ACCOUNTS};
 use reg_body::{Counted, Limits};
@@ -106,8 +105,8 @@ fn run<S: Alter>(
     stream: &str,
     taken: Vec<u8>,
 ) -> (Exit, Vec<u8>)
-    requires { AreUpToDate S.Store (tables_of registry.old) }
-    ensures { AreUpToDate S.Store (tables_of registry.new) }
+    requires { IsUpToDate S.Store registry.old }
+    ensures { IsUpToDate S.Store registry.new }
 {
     let _turns = registry.limits().turns;
     let mut reader = Counted::new(stream.as_bytes());
@@ -122,8 +121,8 @@ fn run_scarcely<S: Alter>(
     registry: &mut Registry<S>,
     size: u32,
 ) -> Result<String, AllocError>
-    requires { AreUpToDate S.Store (tables_of registry.old) }
-    ensures { AreUpToDate S.Store (tables_of registry.new) }
+    requires { IsUpToDate S.Store registry.old }
+    ensures { IsUpToDate S.Store registry.new }
 {
     let taken = Vec::with_capacity(alloc, 1_000)?;
     let mut amounts = Amounts::new(alloc, 1, size)?;
@@ -141,8 +140,8 @@ fn runs<S: Alter>(
     registry: &mut Registry<S>,
     size: u32,
 ) -> Result<String, AllocError>
-    requires { AreUpToDate S.Store (tables_of registry.old) }
-    ensures { AreUpToDate S.Store (tables_of registry.new) }
+    requires { IsUpToDate S.Store registry.old }
+    ensures { IsUpToDate S.Store registry.new }
 {
     let (_, _) = run(alloc, registry, TWO_ACCOUNTS, "", Vec::new(alloc));
     let first = run_scarcely(alloc, registry, size)?;

@@ -4,8 +4,7 @@
 //! The first line says what there is before: `given two-accounts crates=1`.
 //! What is indented by four spaces goes on with the line above.
 
-ghost use Rattle.reg_service.specs.Answered.{AreUpToDate};
-ghost use Rattle.reg_service.specs.Registries.{tables_of};
+ghost use Rattle.reg_service.specs.Registries.{IsUpToDate};
 
 use crate::service::fault::Fault;
 use crate::service::stage::answered;
@@ -24,8 +23,8 @@ fn fault_of<S: Alter>(
     plain: &mut PlainRegistry,
     line: &str,
 ) -> Result<Option<String>, AllocError>
-    requires { AreUpToDate S.Store (tables_of registry.old) }
-    ensures { AreUpToDate S.Store (tables_of registry.new) }
+    requires { IsUpToDate S.Store registry.old }
+    ensures { IsUpToDate S.Store registry.new }
 {
     let (call, want) = line.split_once(" -> ").unwrap_or((line, "no arrow"));
     let found = answered(alloc, registry, plain, call)?;
@@ -42,8 +41,8 @@ fn first_fault<S: Alter>(
     plain: &mut PlainRegistry,
     lines: &str,
 ) -> Result<Option<String>, AllocError>
-    requires { AreUpToDate S.Store (tables_of registry.old) }
-    ensures { AreUpToDate S.Store (tables_of registry.new) }
+    requires { IsUpToDate S.Store registry.old }
+    ensures { IsUpToDate S.Store registry.new }
 {
     for line in lines.lines() {
         let fault = fault_of(alloc, registry, plain, line)?;

@@ -3,8 +3,7 @@
 ghost use Rattle.reg_model.specs.Events.Event.{Order};
 ghost use Rattle.reg_model.specs.Steps.{IsFit};
 ghost use Rattle.reg_policy.specs.Events.{command_of};
-ghost use Rattle.reg_service.specs.Answered.{AreUpToDate};
-ghost use Rattle.reg_service.specs.Registries.{tables_of};
+ghost use Rattle.reg_service.specs.Registries.{IsUpToDate};
 
 use crate::service::agreeing::{obeys_alike, replies_alike};
 use reg_api_replies::{Reply, write_reply};
@@ -38,8 +37,8 @@ fn is_streamed_alike<S: Alter>(
     request: &ApiRequest<'_>,
     reply: &Reply,
 ) -> bool
-    requires { AreUpToDate S.Store (tables_of registry.old) }
-    ensures { AreUpToDate S.Store (tables_of registry.new) }
+    requires { IsUpToDate S.Store registry.old }
+    ensures { IsUpToDate S.Store registry.new }
 {
     let ApiCall::Index(_) = &request.call else {
         return true;
@@ -58,8 +57,8 @@ fn asked<S: Alter>(
     plain: &mut PlainRegistry,
     request: &ApiRequest<'_>,
 ) -> Result<String, AllocError>
-    requires { AreUpToDate S.Store (tables_of registry.old) }
-    ensures { AreUpToDate S.Store (tables_of registry.new) }
+    requires { IsUpToDate S.Store registry.old }
+    ensures { IsUpToDate S.Store registry.new }
 {
     let reply = registry.handle(alloc, request);
     if !is_streamed_alike(alloc, registry, request, &reply) {
@@ -78,9 +77,9 @@ fn ordered<S: Alter>(
     plain: &mut PlainRegistry,
     command: AdminCommand<'_>,
 ) -> Result<String, AllocError>
-    requires tables { AreUpToDate S.Store (tables_of registry.old) }
+    requires tables { IsUpToDate S.Store registry.old }
     requires fit { IsFit (Order (command_of command)) }
-    ensures { AreUpToDate S.Store (tables_of registry.new) }
+    ensures { IsUpToDate S.Store registry.new }
 {
     let told = registry.command(alloc, &command);
     let answer = plain.step(&Event::Order(command));
@@ -97,8 +96,8 @@ pub(crate) fn answered<S: Alter>(
     plain: &mut PlainRegistry,
     line: &str,
 ) -> Result<String, AllocError>
-    requires { AreUpToDate S.Store (tables_of registry.old) }
-    ensures { AreUpToDate S.Store (tables_of registry.new) }
+    requires { IsUpToDate S.Store registry.old }
+    ensures { IsUpToDate S.Store registry.new }
 {
     let parts = Parts::read(alloc, line)?;
     if let Some(command) = parts.command() {

@@ -1,7 +1,6 @@
 //! A stream with each amount of memory.
 
-ghost use Rattle.reg_service.specs.Answered.{AreUpToDate};
-ghost use Rattle.reg_service.specs.Registries.{tables_of};
+ghost use Rattle.reg_service.specs.Registries.{IsUpToDate};
 
 use crate::streams::playing::serve;
 use crate::streams::script::play;
@@ -73,8 +72,8 @@ fn tally_of<S: Alter>(
     registry: &mut Registry<S>,
     stream: &Stream,
 ) -> Result<Tally, AllocError>
-    requires { AreUpToDate S.Store (tables_of registry.old) }
-    ensures { AreUpToDate S.Store (tables_of registry.new) }
+    requires { IsUpToDate S.Store registry.old }
+    ensures { IsUpToDate S.Store registry.new }
 {
     let mut tally = Tally {
         read: 0,
@@ -100,8 +99,8 @@ pub(crate) fn amounts_fault<S: Alter>(
     registry: &mut Registry<S>,
     stream: &Stream,
 ) -> Result<Option<String>, AllocError>
-    requires { AreUpToDate S.Store (tables_of registry.old) }
-    ensures { AreUpToDate S.Store (tables_of registry.new) }
+    requires { IsUpToDate S.Store registry.old }
+    ensures { IsUpToDate S.Store registry.new }
 {
     let Tally { read, otherwise } = tally_of(alloc, registry, stream)?;
     if otherwise == 0 && read > 0 {

@@ -1,7 +1,6 @@
 //! A stream is served, and compared with what a script says.
 
-ghost use Rattle.reg_service.specs.Answered.{AreUpToDate};
-ghost use Rattle.reg_service.specs.Registries.{tables_of};
+ghost use Rattle.reg_service.specs.Registries.{IsUpToDate};
 
 use crate::streams::ends::{Ends, Sink, Source};
 use crate::streams::stream::Stream;
@@ -20,8 +19,8 @@ pub(crate) fn serve<S: Alter>(
     ends: &Ends,
     taken: Vec<u8>,
 ) -> (Result<u64, StreamFault>, Vec<u8>)
-    requires { AreUpToDate S.Store (tables_of registry.old) }
-    ensures { AreUpToDate S.Store (tables_of registry.new) }
+    requires { IsUpToDate S.Store registry.old }
+    ensures { IsUpToDate S.Store registry.new }
 {
     let _turns = registry.limits().turns;
     let mut reader = Counted::new(Source::new(asked, ends));
@@ -56,8 +55,8 @@ pub(crate) fn stream_fault<S: Alter>(
     stream: &Stream,
     answer: &str,
 ) -> Result<Option<String>, AllocError>
-    requires { AreUpToDate S.Store (tables_of registry.old) }
-    ensures { AreUpToDate S.Store (tables_of registry.new) }
+    requires { IsUpToDate S.Store registry.old }
+    ensures { IsUpToDate S.Store registry.new }
 {
     let room = Vec::new(alloc);
     let (found, taken) = serve(alloc, registry, &stream.asked, &stream.ends, room);
@@ -75,8 +74,8 @@ fn trial_fault<S: Alter>(
     stream: &Stream,
     trial: &Trial,
 ) -> Result<Option<String>, AllocError>
-    requires { AreUpToDate S.Store (tables_of registry.old) }
-    ensures { AreUpToDate S.Store (tables_of registry.new) }
+    requires { IsUpToDate S.Store registry.old }
+    ensures { IsUpToDate S.Store registry.new }
 {
     let (asked, _) = stream.asked.split_at(trial.asked.min(stream.asked.len()));
     let (told, _) = stream.told.split_at(trial.told.min(stream.told.len()));
@@ -94,8 +93,8 @@ pub(crate) fn each_fault<S: Alter>(
     stream: &Stream,
     each: Each,
 ) -> Result<Option<String>, AllocError>
-    requires { AreUpToDate S.Store (tables_of registry.old) }
-    ensures { AreUpToDate S.Store (tables_of registry.new) }
+    requires { IsUpToDate S.Store registry.old }
+    ensures { IsUpToDate S.Store registry.new }
 {
     let places = stream.asked.len().max(stream.told.len()).saturating_add(2);
     for place in 0..places {

@@ -16,8 +16,7 @@
 //! tries that stream at each of its places, and so is for streams that change nothing.
 //! What is indented by four spaces goes on with the line above.
 
-ghost use Rattle.reg_service.specs.Answered.{AreUpToDate};
-ghost use Rattle.reg_service.specs.Registries.{tables_of};
+ghost use Rattle.reg_service.specs.Registries.{IsUpToDate};
 
 use crate::streams::ends::Ends;
 use crate::streams::fault::Fault;
@@ -38,8 +37,8 @@ fn call_fault<S: Alter>(
     registry: &mut Registry<S>,
     line: &str,
 ) -> Result<Option<String>, AllocError>
-    requires { AreUpToDate S.Store (tables_of registry.old) }
-    ensures { AreUpToDate S.Store (tables_of registry.new) }
+    requires { IsUpToDate S.Store registry.old }
+    ensures { IsUpToDate S.Store registry.new }
 {
     let (call, want) = line.split_once(" -> ").unwrap_or((line, "no arrow"));
     let parts = Parts::read(alloc, call)?;
@@ -60,8 +59,8 @@ fn fault_of<S: Alter>(
     stream: &mut Stream,
     line: &str,
 ) -> Result<Option<String>, AllocError>
-    requires { AreUpToDate S.Store (tables_of registry.old) }
-    ensures { AreUpToDate S.Store (tables_of registry.new) }
+    requires { IsUpToDate S.Store registry.old }
+    ensures { IsUpToDate S.Store registry.new }
 {
     if stream.take(alloc, line)? {
         return Ok(None);
@@ -84,8 +83,8 @@ fn first_fault<S: Alter>(
     registry: &mut Registry<S>,
     lines: &str,
 ) -> Result<Option<String>, AllocError>
-    requires { AreUpToDate S.Store (tables_of registry.old) }
-    ensures { AreUpToDate S.Store (tables_of registry.new) }
+    requires { IsUpToDate S.Store registry.old }
+    ensures { IsUpToDate S.Store registry.new }
 {
     let mut stream = Stream::new(alloc, Ends::WHOLE);
     let mut number = 0u32;

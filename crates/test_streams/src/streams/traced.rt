@@ -1,7 +1,6 @@
 //! Setups and streams with their trail: each kind of line, and a trail that fails.
 
-ghost use Rattle.reg_service.specs.Answered.{AreUpToDate};
-ghost use Rattle.reg_service.specs.Registries.{tables_of};
+ghost use Rattle.reg_service.specs.Registries.{IsUpToDate};
 
 use crate::streams::ends::{Ends, Sink};
 use reg_body::{Counted, Limits};
@@ -90,8 +89,8 @@ fn run<S: Alter>(
     written: Vec<u8>,
     trail: &mut Trail<Sink>,
 ) -> (Exit, Vec<u8>)
-    requires { AreUpToDate S.Store (tables_of registry.old) }
-    ensures { AreUpToDate S.Store (tables_of registry.new) }
+    requires { IsUpToDate S.Store registry.old }
+    ensures { IsUpToDate S.Store registry.new }
 {
     let _turns = registry.limits().turns;
     let mut reader = Counted::new(stream);

@@ -2,8 +2,8 @@ use Rattle.std.proofs.Common.{◌≡◌, ◌≤◌, ◌<◌, ◌+◌, length}
 use Rattle.sqlite.specs.State.{HasCleanDisk}
 use Rattle.reg_model.specs.Registry as model
 use Rattle.reg_http_read.specs.Turns.{SpendsSome, tally}
-use Rattle.reg_service.specs.Answered.{AreUpToDate, Shows}
-use Rattle.reg_service.specs.Registries.{limits_of, tables_of}
+use Rattle.reg_service.specs.Answered.{Shows}
+use Rattle.reg_service.specs.Registries.{IsUpToDate, limits_of, tables_of}
 use Rattle.reg_tables.specs.Works.{shown}
 use Rattle.reg_http.specs.Trails.{IsTrailed, tail}
 use Rattle.reg_http.proofs.Steps.{Holds}
@@ -12,7 +12,7 @@ use Rattle.reg_http.proofs.stream.serve_requests.Given as goal
 -- the requests so far are answered
 abbrev pub invariant-requests : goal.invariant-requests
 invariant-requests g l = record {
-  tables : AreUpToDate g.S.Store (tables_of l.registry);
+  tables : IsUpToDate g.S.Store l.registry;
   limits : limits_of l.registry ≡ limits_of l.fn.registry;
   clean : HasCleanDisk (shown g.S.Store (tables_of l.registry)) → HasCleanDisk (shown g.S.Store (tables_of l.fn.registry));
   held : HasCleanDisk (shown g.S.Store (tables_of l.registry)) → (s : model.Registry) → Shows s (shown g.S.Store (tables_of l.fn.registry))

@@ -24,19 +24,19 @@ returns-in_default-clause-replies g c clean s h =
     untold g.S.Store lim s c.args.traced digest asked old _ c.denied.result
     (not_begun g.S.Store lim s digest asked old _ c.requires.tables.ours h clean left) c.denied.ensures.reply c.denied.ensures.line
 
-pub returns-in_default-serve_told-clause-replies : goal.returns-in_default-serve_told-clause-replies
-returns-in_default-serve_told-clause-replies g c clean s h =
+pub returns-in_default-serve_in_place-clause-replies : goal.returns-in_default-serve_in_place-clause-replies
+returns-in_default-serve_in_place-clause-replies g c clean s h =
     let lim = c.args.limits.now in
     let digest = option_map (λ d. d.now) c.args.digest in
     let asked = asked_of c.args.asked.now in
     let old = c.args.tables.now in
-    let back = c.tables-in_default-serve_told-1.given.1 (sym (c.serve_told.ensures.leaves.same_reference ∙ c.in-Ok.ensures.same_reference)) in
+    let back = c.tables-in_default-serve_in_place-1.given.1 (sym (c.serve_in_place.ensures.leaves.same_reference ∙ c.in-Ok.ensures.same_reference)) in
     let still = subst (λ t. HasCleanDisk (shown g.S.Store t)) back clean in
-    let mid : HasCleanDisk (seen g.S.Store c.serve_told.new.work) = omega (arith, still, c.drop-work.ensures.survives.clean) in
-    let looks = call_looks g.S.Store c.serve_told.result c.in-Ok.work c.serve_told.new.work c.serve_told.ensures.leaves in
+    let mid : HasCleanDisk (seen g.S.Store c.serve_in_place.new.work) = omega (arith, still, c.drop-work.ensures.survives.clean) in
+    let looks = call_looks g.S.Store c.serve_in_place.result c.in-Ok.work c.serve_in_place.new.work c.serve_in_place.ensures.leaves in
     let replies = subst (λ t. RepliesTo g.S.Store lim s digest asked (Denied rule.S1) old t) (sym back)
-    (failed g.S.Store lim s digest asked old c.drop-work.new.self.0 c.requires.tables.ours h still c.in-Ok.work c.serve_told.new.work c.in-Ok.ensures.begun looks mid c.drop-work.ensures (λ up db l. g.met.S.Store.settled (held old).store db up l)) in
-    untold g.S.Store lim s c.args.traced digest asked old _ c.denied-in_default-serve_told.result replies c.denied-in_default-serve_told.ensures.reply c.denied-in_default-serve_told.ensures.line
+    (failed g.S.Store lim s digest asked old c.drop-work.new.self.0 c.requires.tables.ours h still c.in-Ok.work c.serve_in_place.new.work c.in-Ok.ensures.begun looks mid c.drop-work.ensures (λ up db l. g.met.S.Store.settled (held old).store db up l)) in
+    untold g.S.Store lim s c.args.traced digest asked old _ c.denied-in_default-serve_in_place.result replies c.denied-in_default-serve_in_place.ensures.reply c.denied-in_default-serve_in_place.ensures.line
 
 pub returns-in-Ok-commit-clause-replies : goal.returns-in-Ok-commit-clause-replies
 returns-in-Ok-commit-clause-replies g c clean s h =
@@ -44,16 +44,16 @@ returns-in-Ok-commit-clause-replies g c clean s h =
     let digest = option_map (λ d. d.now) c.args.digest in
     let asked = asked_of c.args.asked.now in
     let old = c.args.tables.now in
-    let back = c.tables-in-Done-1.given.1 (sym (c.serve_told.ensures.leaves.same_reference ∙ c.in-Ok.ensures.same_reference)) in
+    let back = c.tables-in-Done-1.given.1 (sym (c.serve_in_place.ensures.leaves.same_reference ∙ c.in-Ok.ensures.same_reference)) in
     let still = subst (λ t. HasCleanDisk (shown g.S.Store t)) back clean in
-    let mid : HasCleanDisk (seen g.S.Store c.serve_told.new.work) = omega (arith, still, c.commit.ensures.survives.clean) in
-    let looks = call_looks g.S.Store c.serve_told.result c.in-Ok.work c.serve_told.new.work c.serve_told.ensures.leaves in
-    let it = c.in-Ok-serve_told.ensures.told mid in
-    let line = c.in-Ok-serve_told.told.line in
-    let serves = subst (Serves lim digest asked (rows_seen g.S.Store c.in-Ok.work) (rows_seen g.S.Store c.serve_told.new.work)) c.in-Done.is it.0 in
+    let mid : HasCleanDisk (seen g.S.Store c.serve_in_place.new.work) = omega (arith, still, c.commit.ensures.survives.clean) in
+    let looks = call_looks g.S.Store c.serve_in_place.result c.in-Ok.work c.serve_in_place.new.work c.serve_in_place.ensures.leaves in
+    let it = (c.in-Ok-serve_in_place.ensures.told mid).0 in
+    let line = c.in-Ok-serve_in_place.it.0.line in
+    let serves = subst (Serves lim digest asked (rows_seen g.S.Store c.in-Ok.work) (rows_seen g.S.Store c.serve_in_place.new.work)) c.in-Done.is it.0 in
     let replies = subst (λ t. RepliesTo g.S.Store lim s digest asked c.in-Done.reply old t) (sym back)
-    (committed g.S.Store lim s digest asked old c.commit.new.self.0 c.requires.tables.ours h still c.in-Ok.work c.serve_told.new.work c.in-Ok.ensures.begun looks mid c.soundness_law.ensures.step (c.requires.fit digest) c.in-Done.reply serves c.in-Ok-commit.ensures.committed) in
-    let are = sees g.S.Store lim s digest asked old c.commit.new.self.0 c.requires.tables.ours h still c.in-Ok.work c.serve_told.new.work c.in-Ok.ensures.begun looks mid in
+    (committed g.S.Store lim s digest asked old c.commit.new.self.0 c.requires.tables.ours h still c.in-Ok.work c.serve_in_place.new.work c.in-Ok.ensures.begun looks mid c.soundness_law.ensures.step (c.requires.fit digest) c.in-Done.reply serves c.in-Ok-commit.ensures.committed) in
+    let are = sees g.S.Store lim s digest asked old c.commit.new.self.0 c.requires.tables.ours h still c.in-Ok.work c.serve_in_place.new.work c.in-Ok.ensures.begun looks mid in
     acts g.S.Store lim s c.args.traced digest asked old _ c.in-Done.reply c.with_line.result line replies c.with_line.ensures.reply c.with_line.ensures.line
     (tells_line lim s (Ask digest asked) c.args.traced _ line it.1 are)
 
@@ -63,14 +63,14 @@ returns-in-Err-clause-replies g c clean s h =
     let digest = option_map (λ d. d.now) c.args.digest in
     let asked = asked_of c.args.asked.now in
     let old = c.args.tables.now in
-    let back = c.tables-in-Done-1.given.1 (sym (c.serve_told.ensures.leaves.same_reference ∙ c.in-Ok.ensures.same_reference)) in
+    let back = c.tables-in-Done-1.given.1 (sym (c.serve_in_place.ensures.leaves.same_reference ∙ c.in-Ok.ensures.same_reference)) in
     let still = subst (λ t. HasCleanDisk (shown g.S.Store t)) back clean in
-    let mid : HasCleanDisk (seen g.S.Store c.serve_told.new.work) = omega (arith, still, c.commit.ensures.survives.clean) in
-    let looks = call_looks g.S.Store c.serve_told.result c.in-Ok.work c.serve_told.new.work c.serve_told.ensures.leaves in
-    let it = c.in-Ok-serve_told.ensures.told mid in
-    let serves = subst (Serves lim digest asked (rows_seen g.S.Store c.in-Ok.work) (rows_seen g.S.Store c.serve_told.new.work)) c.in-Done.is it.0 in
+    let mid : HasCleanDisk (seen g.S.Store c.serve_in_place.new.work) = omega (arith, still, c.commit.ensures.survives.clean) in
+    let looks = call_looks g.S.Store c.serve_in_place.result c.in-Ok.work c.serve_in_place.new.work c.serve_in_place.ensures.leaves in
+    let it = (c.in-Ok-serve_in_place.ensures.told mid).0 in
+    let serves = subst (Serves lim digest asked (rows_seen g.S.Store c.in-Ok.work) (rows_seen g.S.Store c.serve_in_place.new.work)) c.in-Done.is it.0 in
     let replies = subst (λ t. RepliesTo g.S.Store lim s digest asked (Denied rule.S1) old t) (sym back)
-    (not_committed g.S.Store lim s digest asked old c.commit.new.self.0 c.requires.tables.ours h still c.in-Ok.work c.serve_told.new.work c.in-Ok.ensures.begun looks mid c.in-Done.reply serves c.in-Err.ensures.refused c.commit.ensures.survives) in
+    (not_committed g.S.Store lim s digest asked old c.commit.new.self.0 c.requires.tables.ours h still c.in-Ok.work c.serve_in_place.new.work c.in-Ok.ensures.begun looks mid c.in-Done.reply serves c.in-Err.ensures.refused c.commit.ensures.survives) in
     untold g.S.Store lim s c.args.traced digest asked old _ c.denied-in-Err.result replies c.denied-in-Err.ensures.reply c.denied-in-Err.ensures.line
 
 pub returns-in-Told-clause-replies : goal.returns-in-Told-clause-replies
@@ -79,16 +79,16 @@ returns-in-Told-clause-replies g c clean s h =
     let digest = option_map (λ d. d.now) c.args.digest in
     let asked = asked_of c.args.asked.now in
     let old = c.args.tables.now in
-    let back = c.tables-in-Told-1.given.1 (sym (c.serve_told.ensures.leaves.same_reference ∙ c.in-Ok.ensures.same_reference)) in
+    let back = c.tables-in-Told-1.given.1 (sym (c.serve_in_place.ensures.leaves.same_reference ∙ c.in-Ok.ensures.same_reference)) in
     let still = subst (λ t. HasCleanDisk (shown g.S.Store t)) back clean in
-    let mid : HasCleanDisk (seen g.S.Store c.serve_told.new.work) = omega (arith, still, c.drop-work-in-Told-1.ensures.survives.clean) in
-    let looks = call_looks g.S.Store c.serve_told.result c.in-Ok.work c.serve_told.new.work c.serve_told.ensures.leaves in
-    let it = c.in-Ok-serve_told.ensures.told mid in
-    let line = c.in-Ok-serve_told.told.line in
-    let serves = subst (Serves lim digest asked (rows_seen g.S.Store c.in-Ok.work) (rows_seen g.S.Store c.serve_told.new.work)) c.in-Told.is it.0 in
+    let mid : HasCleanDisk (seen g.S.Store c.serve_in_place.new.work) = omega (arith, still, c.drop-work-in-Told-1.ensures.survives.clean) in
+    let looks = call_looks g.S.Store c.serve_in_place.result c.in-Ok.work c.serve_in_place.new.work c.serve_in_place.ensures.leaves in
+    let it = (c.in-Ok-serve_in_place.ensures.told mid).0 in
+    let line = c.in-Ok-serve_in_place.it.0.line in
+    let serves = subst (Serves lim digest asked (rows_seen g.S.Store c.in-Ok.work) (rows_seen g.S.Store c.serve_in_place.new.work)) c.in-Told.is it.0 in
     let replies = subst (λ t. RepliesTo g.S.Store lim s digest asked c.in-Told.reply old t) (sym back)
-    (told g.S.Store lim s digest asked old c.drop-work-in-Told-1.new.self.0 c.requires.tables.ours h still c.in-Ok.work c.serve_told.new.work c.in-Ok.ensures.begun looks mid c.in-Told.reply serves c.drop-work-in-Told-1.ensures (λ up db l. g.met.S.Store.settled (held old).store db up l)) in
-    let are = sees g.S.Store lim s digest asked old c.drop-work-in-Told-1.new.self.0 c.requires.tables.ours h still c.in-Ok.work c.serve_told.new.work c.in-Ok.ensures.begun looks mid in
+    (told g.S.Store lim s digest asked old c.drop-work-in-Told-1.new.self.0 c.requires.tables.ours h still c.in-Ok.work c.serve_in_place.new.work c.in-Ok.ensures.begun looks mid c.in-Told.reply serves c.drop-work-in-Told-1.ensures (λ up db l. g.met.S.Store.settled (held old).store db up l)) in
+    let are = sees g.S.Store lim s digest asked old c.drop-work-in-Told-1.new.self.0 c.requires.tables.ours h still c.in-Ok.work c.serve_in_place.new.work c.in-Ok.ensures.begun looks mid in
     acts g.S.Store lim s c.args.traced digest asked old _ c.in-Told.reply c.with_line-in-Told.result line replies c.with_line-in-Told.ensures.reply c.with_line-in-Told.ensures.line
     (tells_line lim s (Ask digest asked) c.args.traced _ line it.1 are)
 
@@ -99,17 +99,17 @@ returns-in-Seeks-clause-replies g c clean s h =
     let asked = asked_of c.args.asked.now in
     let old = c.args.tables.now in
     let at = c.tables-in-Seeks-1.given.0 in
-    let back = c.tables-in-Seeks-1.given.1 (sym (c.serve_told.ensures.leaves.same_reference ∙ c.in-Ok.ensures.same_reference)) in
+    let back = c.tables-in-Seeks-1.given.1 (sym (c.serve_in_place.ensures.leaves.same_reference ∙ c.in-Ok.ensures.same_reference)) in
     let early : HasCleanDisk (shown g.S.Store at) = omega (arith, clean, c.seek.ensures.left.survives.clean) in
     let still = subst (λ t. HasCleanDisk (shown g.S.Store t)) back early in
-    let mid : HasCleanDisk (seen g.S.Store c.serve_told.new.work) = omega (arith, still, c.drop.ensures.survives.clean) in
-    let looks = call_looks g.S.Store c.serve_told.result c.in-Ok.work c.serve_told.new.work c.serve_told.ensures.leaves in
-    let dropped = subst (λ t. IsDropped g.S.Store c.serve_told.new.work t) (sym back) c.drop.ensures in
-    let ours = subst (λ t. AreOurs g.S.Store t) (sym back) (c.drop.ensures.ours c.serve_told.ensures.leaves.at_work.back) in
-    let it = c.in-Ok-serve_told.ensures.told mid in
-    let line = c.in-Ok-serve_told.told.line in
-    let serves = subst (Serves lim digest asked (rows_seen g.S.Store c.in-Ok.work) (rows_seen g.S.Store c.serve_told.new.work)) c.in-Seeks.is it.0 in
-    let replies = sought g.S.Store lim s digest asked old at c.seek.new.tables c.requires.tables.ours h clean early c.in-Ok.work c.serve_told.new.work c.in-Ok.ensures.begun looks mid c.in-Seeks.account c.seek.result serves dropped (λ up db l. g.met.S.Store.settled (held old).store db up l) ours c.seek.ensures.left (c.seek.ensures.sought clean s) in
-    let are = sees g.S.Store lim s digest asked old at c.requires.tables.ours h early c.in-Ok.work c.serve_told.new.work c.in-Ok.ensures.begun looks mid in
+    let mid : HasCleanDisk (seen g.S.Store c.serve_in_place.new.work) = omega (arith, still, c.drop.ensures.survives.clean) in
+    let looks = call_looks g.S.Store c.serve_in_place.result c.in-Ok.work c.serve_in_place.new.work c.serve_in_place.ensures.leaves in
+    let dropped = subst (λ t. IsDropped g.S.Store c.serve_in_place.new.work t) (sym back) c.drop.ensures in
+    let ours = subst (λ t. AreOurs g.S.Store t) (sym back) (c.drop.ensures.ours c.serve_in_place.ensures.leaves.at_work.back) in
+    let it = (c.in-Ok-serve_in_place.ensures.told mid).0 in
+    let line = c.in-Ok-serve_in_place.it.0.line in
+    let serves = subst (Serves lim digest asked (rows_seen g.S.Store c.in-Ok.work) (rows_seen g.S.Store c.serve_in_place.new.work)) c.in-Seeks.is it.0 in
+    let replies = sought g.S.Store lim s digest asked old at c.seek.new.tables c.requires.tables.ours h clean early c.in-Ok.work c.serve_in_place.new.work c.in-Ok.ensures.begun looks mid c.in-Seeks.account c.seek.result serves dropped (λ up db l. g.met.S.Store.settled (held old).store db up l) ours c.seek.ensures.left (c.seek.ensures.sought clean s) in
+    let are = sees g.S.Store lim s digest asked old at c.requires.tables.ours h early c.in-Ok.work c.serve_in_place.new.work c.in-Ok.ensures.begun looks mid in
     acts g.S.Store lim s c.args.traced digest asked old _ c.seek.result c.with_line-in-Seeks.result line replies c.with_line-in-Seeks.ensures.reply c.with_line-in-Seeks.ensures.line
     (tells_line lim s (Ask digest asked) c.args.traced _ line it.1 are)

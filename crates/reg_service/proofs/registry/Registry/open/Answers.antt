@@ -1,4 +1,5 @@
-use Rattle.reg_service.proofs.Opened.{handed_last, is_taken, opened_left, opened_same, opened_sound, refused_damaged, refused_last, refused_left, refused_undone}
+use Rattle.sqlite.specs.Held.{state}
+use Rattle.reg_service.proofs.Opened.{handed_last, is_taken, opened_left, opened_same, opened_sound, opened_up, refused_damaged, refused_last, refused_left, refused_undone}
 use Rattle.reg_service.proofs.registry.Registry.open.Goals as goal
 
 pub returns-in-Ok-clause-same : goal.returns-in-Ok-clause-same
@@ -40,3 +41,7 @@ returns-in-Err-default-UnknownSchema-clause-last g c clean =
 pub returns-in-Err-default-Storage-clause-last : goal.returns-in-Err-default-Storage-clause-last
 returns-in-Err-default-Storage-clause-last g c clean =
     handed_last g.S.Store c.args.conn c.in-Err-default-Storage.conn (λ _. ⊥) (λ h up db l. g.met.S.Store.settled h.store db up l) (c.in-Err-default-Storage.ensures.handed_back clean) c.in-Err-default-Storage.ensures.left clean
+
+pub returns-in-Ok-clause-up_to_date : goal.returns-in-Ok-clause-up_to_date
+returns-in-Ok-clause-up_to_date g c =
+    opened_up g.S.Store (state g.S.Store c.args.conn).now c.examine.result c.examine.ensures.up_to_date c.examine.ensures.unknown (returns-in-Ok-clause-sound g c)

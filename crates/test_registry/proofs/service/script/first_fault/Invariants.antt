@@ -1,7 +1,6 @@
-use Rattle.reg_service.specs.Answered.{AreUpToDate}
-use Rattle.reg_service.specs.Registries.{tables_of}
+use Rattle.reg_service.specs.Registries.{IsUpToDate}
 use Rattle.test_registry.proofs.service.script.first_fault.Given as goal
 
 -- the tables are ours between two calls
 abbrev pub invariant-loop-line : goal.invariant-loop-line
-invariant-loop-line g l = AreUpToDate g.S.Store (tables_of l.registry)
+invariant-loop-line g l = IsUpToDate g.S.Store l.registry
