@@ -290,5 +290,5 @@ pub opened_up : {S E : Type 0} (g : Ghosts S) (found : Database) (r : Result (Re
 opened_up g found (Err e) up none one = tt
 opened_up g found (Ok x) up none one = record {
   tables = up;
-  known = λ clean. record { registry = (one clean).registry; shows = (one clean).after; room = subst (HasRoom (limits_of x) (one clean).registry) (sym none) tt };
+  known = λ clean. record { registry = (one clean).registry; shows = (one clean).after; has = subst (HasRoom (limits_of x) (one clean).registry) (sym none) tt };
 }

@@ -1,5 +1,5 @@
 -- What an event adds, and a limit that it does not reach.
-use Rattle.std.proofs.Common.{◌≡◌, ◌⊎◌, ◌≤◌, ◌<◌, ◌+◌, ◌++◌, ℕ, List, [], ◌∷◌, Bool, true, false, Option, Some, None, refl, sym, ap, subst, arith, inl, inr, length, nat_le, cond}
+use Rattle.std.proofs.Common.{◌≡◌, ◌≤◌, ◌<◌, ◌+◌, ◌++◌, ℕ, List, [], ◌∷◌, Bool, true, false, Option, Some, None, refl, sym, ap, subst, arith, inl, inr, length, nat_le, cond}
 use Rattle.std.specs.Prelude.{unwrap_or}
 use Rattle.std.specs.List.{filter, find}
 use Rattle.std.proofs.lemmas.List.{length-append}
@@ -20,7 +20,7 @@ use Rattle.reg_model.specs.Refusals.{denied, or_else, refused}
 use Rattle.reg_model.specs.Registry.{Publication, Registry, Text}
 use Rattle.reg_model.specs.Rules.{broken, order, verdict}
 use Rattle.reg_model.specs.Steps.{Step, outcome, unless_denied, unless_refused}
-use Rattle.reg_service.specs.Rooms.{AddsFew, AreWider, added}
+use Rattle.reg_service.specs.Rooms.{AddsFew, AreWider}
 
 few : (f : Publication → Bool) (p : Publication) → length (filter f (p ∷ [])) ≤ 1
 few f p = by (f p)

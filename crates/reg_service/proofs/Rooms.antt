@@ -1,5 +1,5 @@
 -- What is known of the crate that was published last, from one event to the next.
-use Rattle.std.proofs.Common.{◌≡◌, ◌≤◌, ◌<◌, ◌+◌, ◌-◌, ℕ, Bool, true, false, Option, Some, None, Result, Ok, Err, refl, sym, ap, subst, ◌∙◌, arith, length, nat_le}
+use Rattle.std.proofs.Common.{◌≡◌, ◌≤◌, ◌<◌, ◌-◌, ℕ, Bool, true, false, Option, Some, None, Result, Ok, Err, refl, sym, ap, subst, ◌∙◌, arith, length, nat_le}
 use Rattle.std.specs.Prelude.{if◌then◌else◌, IfSome, string_bytes}
 use Rattle.std.specs.List.{filter}
 use Rattle.std.proofs.lemmas.List.{length-map}
@@ -36,7 +36,7 @@ use Rattle.reg_service_requests.specs.declared.served.Served.TheVariants.{Done, 
 use Rattle.reg_service_requests.specs.declared.told.ServedTold.{ServedTold}
 use Rattle.reg_service.specs.Answered.{Answers, Are}
 use Rattle.reg_service.specs.Looked.{Looked}
-use Rattle.reg_service.specs.Rooms.{AreWider, Fit, HasPlace, HasRoom, IsKnown, IsKnownIn, Knows, Leaves, LeavesRoom, TellsLeftOf, added}
+use Rattle.reg_service.specs.Rooms.{AreWider, Fit, HasPlace, HasRoom, IsKnown, IsKnownIn, Knows, Leaves, LeavesRoom, added}
 use Rattle.reg_service.specs.declared.room.Room.{Room}
 use Rattle.reg_service.proofs.Publishing.{asked_adds, ordered_same, outcome_same}
 
@@ -104,26 +104,40 @@ leaves_still limits asked r room none has t adds = has_still limits r t room (λ
 module _ {S : Type 0} (g : Ghosts S) (limits : Limits) (r : Registry) (room : Option Room) (old new : Tables S) where
   -- what is known behind a request, and behind a command
   pub asked_knows : (digest : Option Text) (asked : Asked) (a : Answer) → LeavesRoom limits asked r room → Answers g limits r (Ask digest asked) a old new → Knows g limits room new
-  asked_knows digest asked a leaves it = record { registry = it.after; shows = it.shows; room = leaves it.after (asked_adds limits r it.after digest asked a it.step) }
+  asked_knows digest asked a leaves it = record { registry = it.after; shows = it.shows; has = leaves it.after (asked_adds limits r it.after digest asked a it.step) }
 
   pub ordered_knows : (c : Command) (a : Answer) → HasRoom limits r room → Answers g limits r (Order c) a old new → Knows g limits room new
   ordered_knows c a has it = record {
     registry = it.after;
     shows = it.shows;
-    room = has_still limits r it.after room (λ n. let same = ap (λ (ps : _). length (filter (λ (p : Publication). collides p.name n) ps)) (ordered_same limits r it.after c a it.step) in omega (arith, same)) has;
+    has = has_still limits r it.after room (λ n. let same = ap (λ (ps : _). length (filter (λ (p : Publication). collides p.name n) ps)) (ordered_same limits r it.after c a it.step) in omega (arith, same)) has;
   }
 
 -- and behind a look
 pub looked_known : {S : Type 0} (g : Ghosts S) (limits : Limits) (room : Option Room) (old new : Tables S) → Looked g old new → IsKnown g limits room old → IsKnown g limits room new
 looked_known g limits room old new looked known clean = let was = known (looked.clean clean) in
-    record { registry = was.registry; shows = looked.shows clean was.registry was.shows; room = was.room }
+    record { registry = was.registry; shows = looked.shows clean was.registry was.shows; has = was.has }
 
--- what is known of the tables is known of the rows that a transaction sees
+-- a transaction sees the rows of the registry of which something is known
+pub begun_are : {S : Type 0} (g : Ghosts S) (limits : Limits) (room : Option Room) (old : Tables S) (w : Work S) (was : Knows g limits room old) → Begins g SeesAll old w → HasCleanDisk (seen g w) → Are was.registry (rows_seen g w)
+begun_are g limits room old w was begun clean =
+    let view = begun.view clean in
+    subst (λ (d : Database). Are was.registry d.trees) (sym view.now_is) (was.shows view.was_open)
+
 pub begun_knows : {S : Type 0} (g : Ghosts S) (limits : Limits) (room : Option Room) (old : Tables S) (w : Work S) → Begins g SeesAll old w → IsKnown g limits room old → HasCleanDisk (seen g w) → IsKnownIn limits room (rows_seen g w)
 begun_knows g limits room old w begun known clean =
-    let was = known (begun.survives.clean clean) in
-    let view = begun.view clean in
-    (was.registry, subst (λ (d : Database). Are was.registry d.trees) (sym view.now_is) (was.shows view.was_open), was.room)
+    let first : HasCleanDisk (shown g old) = omega (arith, clean, begun.survives.clean) in
+    let was = known first in
+    (was.registry, begun_are g limits room old w was begun clean, was.has)
+
+-- what is known behind a request that was served, and behind one that was not
+module _ {S : Type 0} (g : Ghosts S) (limits : Limits) (digest : Option Text) (asked : Asked) (room left : Option Room) (old new : Tables S) where
+  pub served_knows : (known : Option Room) (w : Work S) (was : Knows g limits room old) → Begins g SeesAll old w → HasCleanDisk (seen g w) → known ≡ room → Leaves limits known asked (rows_seen g w) left → (a : Answer) → Answers g limits was.registry (Ask digest asked) a old new → Knows g limits left new
+  served_knows known w was begun clean is leaves a it =
+      asked_knows g limits was.registry left old new digest asked a (leaves was.registry (begun_are g limits room old w was begun clean) (subst (HasRoom limits was.registry) (sym is) was.has)) it
+
+  pub unserved_knows : left ≡ None → (r : Registry) (a : Answer) → Answers g limits r (Ask digest asked) a old new → Knows g limits left new
+  unserved_knows is r a it = record { registry = it.after; shows = it.shows; has = subst (HasRoom limits it.after) (sym is) tt }
 
 -- so many fit in, unless there are about as many as allowed
 pub fits_span : (limits : Limits) (s : Registry) (name : Text) (number : ℕ) (full : Bool) → number ≡ limits.versions - 256 → full ≡ nat_le number (length (versions s name)) → Fit limits s name (if full then 0 else 256)

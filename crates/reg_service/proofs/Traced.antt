@@ -1,5 +1,5 @@
 -- The lines of requests and commands that were answered.
-use Rattle.std.proofs.Common.{◌≡◌, ◌⊎◌, inl, inr, true, false, Bool, [], Option, None, Err, refl, sym, ap, subst, ◌∙◌}
+use Rattle.std.proofs.Common.{◌≡◌, ◌⊎◌, inl, inr, true, false, Bool, Option, None, Err, sym, ap, subst, ◌∙◌}
 use Rattle.std.specs.Prelude.{String, string_bytes}
 use Rattle.std.specs.declared.alloc.Global.{Global}
 use Rattle.std.specs.Option.{option_map}
@@ -9,7 +9,7 @@ use Rattle.reg_body.specs.declared.limits.Limits.{Limits}
 use Rattle.reg_model.specs.declared.rule.AdminRefusal.{AdminRefusal}
 use Rattle.reg_model.specs.declared.rule.Rule.TheVariants as rule
 use Rattle.reg_model.specs.Events.{Answer, Asked, Command, Event}
-use Rattle.reg_model.specs.Events.Answer.{Denied as to_denied, Refused as to_refused}
+use Rattle.reg_model.specs.Events.Answer.{Refused as to_refused}
 use Rattle.reg_model.specs.Events.Event.{Ask, Order}
 use Rattle.reg_model.specs.Registry.{Registry, Text}
 use Rattle.reg_model.specs.Steps.{Step, no_room, outcome}
@@ -19,7 +19,7 @@ use Rattle.reg_api_replies.specs.declared.reply.Reply.{Reply}
 use Rattle.reg_api_replies.specs.declared.reply.Reply.TheVariants.{Denied}
 use Rattle.reg_api_replies.specs.Replies.{Says}
 use Rattle.reg_tables.specs.declared.tables.Tables.{Tables}
-use Rattle.reg_service.specs.Acted.{ActsTo, HasLine, Orders}
+use Rattle.reg_service.specs.Acted.{ActsTo, Orders}
 use Rattle.reg_service.specs.Answered.{Answers, Are}
 use Rattle.reg_service.specs.Handled.{RepliesTo}
 use Rattle.reg_service_requests.specs.Telling.{TellsIf, line_with}

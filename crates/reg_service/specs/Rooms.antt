@@ -93,7 +93,7 @@ pub record Knows {S : Type 0} (g : Ghosts S) (limits : Limits) (room : Option Ro
     : Type 0 where
   pub registry : Registry
   pub shows : Shows registry (shown g t)
-  pub room : HasRoom limits registry room
+  pub has : HasRoom limits registry room
 
 abbrev pub IsKnown : {S : Type 0} → Ghosts S → Limits → Option Room → Tables S → Type 0
 IsKnown g limits room t = HasCleanDisk (shown g t) → Knows g limits room t

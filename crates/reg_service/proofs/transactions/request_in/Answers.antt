@@ -10,6 +10,8 @@ use Rattle.reg_tables.specs.Works.{AreOurs, held, rows_seen, seen, shown}
 use Rattle.reg_tables.proofs.Looking.{call_looks}
 use Rattle.reg_service_requests.specs.Serves.{Serves}
 use Rattle.reg_service.specs.Handled.{RepliesTo}
+use Rattle.reg_service.specs.Rooms.{IsKnownIn}
+use Rattle.reg_service.proofs.Rooms.{begun_knows, served_knows, unserved_knows}
 use Rattle.reg_service.proofs.Replied.{committed, failed, not_begun, not_committed, sees, sought, told}
 use Rattle.reg_service.proofs.Traced.{acts, tells_line, untold}
 use Rattle.reg_service.proofs.transactions.request_in.Goals as goal
@@ -113,3 +115,97 @@ returns-in-Seeks-clause-replies g c clean s h =
     let are = sees g.S.Store lim s digest asked old at c.requires.tables.ours h early c.in-Ok.work c.serve_in_place.new.work c.in-Ok.ensures.begun looks mid in
     acts g.S.Store lim s c.args.traced digest asked old _ c.seek.result c.with_line-in-Seeks.result line replies c.with_line-in-Seeks.ensures.reply c.with_line-in-Seeks.ensures.line
     (tells_line lim s (Ask digest asked) c.args.traced _ line it.1 are)
+
+pub serve_in_place-requires-clause-known : goal.serve_in_place-requires-clause-known
+serve_in_place-requires-clause-known g c clean =
+    let lim = c.args.limits.now in
+    subst (λ known. IsKnownIn lim known (rows_seen g.S.Store c.in-Ok.work)) (sym c.take-known.ensures.value) (begun_knows g.S.Store lim c.args.room.now c.args.tables.now c.in-Ok.work c.in-Ok.ensures.begun c.requires.known clean)
+
+pub returns-in_default-clause-known : goal.returns-in_default-clause-known
+returns-in_default-clause-known g c clean =
+    let lim = c.args.limits.now in
+    let digest = option_map (λ d. d.now) c.args.digest in
+    let asked = asked_of c.args.asked.now in
+    let old = c.args.tables.now in
+    let left = rw c.in_default.is at c.work.follows.holds-at-none in
+    let first : HasCleanDisk (shown g.S.Store old) = omega (arith, clean, left.survives.clean) in
+    let was = c.requires.known first in
+    let acts = returns-in_default-clause-replies g c clean was.registry was.shows in
+    unserved_knows g.S.Store lim digest asked c.args.room.now _ old _ c.take-known.ensures.after was.registry acts.0 acts.2
+
+pub returns-in_default-serve_in_place-clause-known : goal.returns-in_default-serve_in_place-clause-known
+returns-in_default-serve_in_place-clause-known g c clean =
+    let lim = c.args.limits.now in
+    let digest = option_map (λ d. d.now) c.args.digest in
+    let asked = asked_of c.args.asked.now in
+    let old = c.args.tables.now in
+    let back = c.tables-in_default-serve_in_place-1.given.1 (sym (c.serve_in_place.ensures.leaves.same_reference ∙ c.in-Ok.ensures.same_reference)) in
+    let still = subst (λ t. HasCleanDisk (shown g.S.Store t)) back clean in
+    let mid : HasCleanDisk (seen g.S.Store c.serve_in_place.new.work) = omega (arith, still, c.drop-work.ensures.survives.clean) in
+    let begun : HasCleanDisk (seen g.S.Store c.in-Ok.work) = omega (arith, mid, c.serve_in_place.ensures.leaves.survives.clean) in
+    let first : HasCleanDisk (shown g.S.Store old) = omega (arith, begun, c.in-Ok.ensures.begun.survives.clean) in
+    let was = c.requires.known first in
+    let acts = returns-in_default-serve_in_place-clause-replies g c clean was.registry was.shows in
+    unserved_knows g.S.Store lim digest asked c.args.room.now _ old _ c.take-known.ensures.after was.registry acts.0 acts.2
+
+pub returns-in-Ok-commit-clause-known : goal.returns-in-Ok-commit-clause-known
+returns-in-Ok-commit-clause-known g c clean =
+    let lim = c.args.limits.now in
+    let digest = option_map (λ d. d.now) c.args.digest in
+    let asked = asked_of c.args.asked.now in
+    let old = c.args.tables.now in
+    let back = c.tables-in-Done-1.given.1 (sym (c.serve_in_place.ensures.leaves.same_reference ∙ c.in-Ok.ensures.same_reference)) in
+    let still = subst (λ t. HasCleanDisk (shown g.S.Store t)) back clean in
+    let mid : HasCleanDisk (seen g.S.Store c.serve_in_place.new.work) = omega (arith, still, c.commit.ensures.survives.clean) in
+    let begun : HasCleanDisk (seen g.S.Store c.in-Ok.work) = omega (arith, mid, c.serve_in_place.ensures.leaves.survives.clean) in
+    let first : HasCleanDisk (shown g.S.Store old) = omega (arith, begun, c.in-Ok.ensures.begun.survives.clean) in
+    let was = c.requires.known first in
+    let acts = returns-in-Ok-commit-clause-replies g c clean was.registry was.shows in
+    served_knows g.S.Store lim digest asked c.args.room.now _ old _ c.take-known.result c.in-Ok.work was c.in-Ok.ensures.begun begun c.take-known.ensures.value (c.in-Ok-serve_in_place.ensures.told mid).1 acts.0 acts.2
+
+pub returns-in-Err-clause-known : goal.returns-in-Err-clause-known
+returns-in-Err-clause-known g c clean =
+    let lim = c.args.limits.now in
+    let digest = option_map (λ d. d.now) c.args.digest in
+    let asked = asked_of c.args.asked.now in
+    let old = c.args.tables.now in
+    let back = c.tables-in-Done-1.given.1 (sym (c.serve_in_place.ensures.leaves.same_reference ∙ c.in-Ok.ensures.same_reference)) in
+    let still = subst (λ t. HasCleanDisk (shown g.S.Store t)) back clean in
+    let mid : HasCleanDisk (seen g.S.Store c.serve_in_place.new.work) = omega (arith, still, c.commit.ensures.survives.clean) in
+    let begun : HasCleanDisk (seen g.S.Store c.in-Ok.work) = omega (arith, mid, c.serve_in_place.ensures.leaves.survives.clean) in
+    let first : HasCleanDisk (shown g.S.Store old) = omega (arith, begun, c.in-Ok.ensures.begun.survives.clean) in
+    let was = c.requires.known first in
+    let acts = returns-in-Err-clause-replies g c clean was.registry was.shows in
+    served_knows g.S.Store lim digest asked c.args.room.now _ old _ c.take-known.result c.in-Ok.work was c.in-Ok.ensures.begun begun c.take-known.ensures.value (c.in-Ok-serve_in_place.ensures.told mid).1 acts.0 acts.2
+
+pub returns-in-Told-clause-known : goal.returns-in-Told-clause-known
+returns-in-Told-clause-known g c clean =
+    let lim = c.args.limits.now in
+    let digest = option_map (λ d. d.now) c.args.digest in
+    let asked = asked_of c.args.asked.now in
+    let old = c.args.tables.now in
+    let back = c.tables-in-Told-1.given.1 (sym (c.serve_in_place.ensures.leaves.same_reference ∙ c.in-Ok.ensures.same_reference)) in
+    let still = subst (λ t. HasCleanDisk (shown g.S.Store t)) back clean in
+    let mid : HasCleanDisk (seen g.S.Store c.serve_in_place.new.work) = omega (arith, still, c.drop-work-in-Told-1.ensures.survives.clean) in
+    let begun : HasCleanDisk (seen g.S.Store c.in-Ok.work) = omega (arith, mid, c.serve_in_place.ensures.leaves.survives.clean) in
+    let first : HasCleanDisk (shown g.S.Store old) = omega (arith, begun, c.in-Ok.ensures.begun.survives.clean) in
+    let was = c.requires.known first in
+    let acts = returns-in-Told-clause-replies g c clean was.registry was.shows in
+    served_knows g.S.Store lim digest asked c.args.room.now _ old _ c.take-known.result c.in-Ok.work was c.in-Ok.ensures.begun begun c.take-known.ensures.value (c.in-Ok-serve_in_place.ensures.told mid).1 acts.0 acts.2
+
+pub returns-in-Seeks-clause-known : goal.returns-in-Seeks-clause-known
+returns-in-Seeks-clause-known g c clean =
+    let lim = c.args.limits.now in
+    let digest = option_map (λ d. d.now) c.args.digest in
+    let asked = asked_of c.args.asked.now in
+    let old = c.args.tables.now in
+    let at = c.tables-in-Seeks-1.given.0 in
+    let back = c.tables-in-Seeks-1.given.1 (sym (c.serve_in_place.ensures.leaves.same_reference ∙ c.in-Ok.ensures.same_reference)) in
+    let early : HasCleanDisk (shown g.S.Store at) = omega (arith, clean, c.seek.ensures.left.survives.clean) in
+    let still = subst (λ t. HasCleanDisk (shown g.S.Store t)) back early in
+    let mid : HasCleanDisk (seen g.S.Store c.serve_in_place.new.work) = omega (arith, still, c.drop.ensures.survives.clean) in
+    let begun : HasCleanDisk (seen g.S.Store c.in-Ok.work) = omega (arith, mid, c.serve_in_place.ensures.leaves.survives.clean) in
+    let first : HasCleanDisk (shown g.S.Store old) = omega (arith, begun, c.in-Ok.ensures.begun.survives.clean) in
+    let was = c.requires.known first in
+    let acts = returns-in-Seeks-clause-replies g c clean was.registry was.shows in
+    served_knows g.S.Store lim digest asked c.args.room.now _ old _ c.take-known.result c.in-Ok.work was c.in-Ok.ensures.begun begun c.take-known.ensures.value (c.in-Ok-serve_in_place.ensures.told mid).1 acts.0 acts.2

@@ -14,7 +14,7 @@ returns-in-Ok-clause-made g c =
     record {
       tables = record {
         tables = record { ours = made.ours.0; second = made.second };
-        known = λ clean. record { registry = empty_at c.args.base.now; shows = empty_shown clean; room = tt };
+        known = λ clean. record { registry = empty_at c.args.base.now; shows = empty_shown clean; has = tt };
       };
       goes_on = made.ours.1;
       shows = empty_shown;

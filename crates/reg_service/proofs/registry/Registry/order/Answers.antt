@@ -9,5 +9,5 @@ returns-clause-tables g c = record {
   known = λ clean.
       let old = c.args.self.now in
       let was = c.requires.tables.known (c.command_in.ensures.clean clean) in
-      ordered_knows g.S.Store (limits_of old) was.registry (room_of old) (tables_of old) c.command_in.new.tables (command_of c.args.command.now) (reply_of c.command_in.result.answer) was.room (c.command_in.ensures.answers clean was.registry was.shows).0;
+      ordered_knows g.S.Store (limits_of old) was.registry (room_of old) (tables_of old) c.command_in.new.tables (command_of c.args.command.now) (reply_of c.command_in.result.answer) was.has (c.command_in.ensures.answers clean was.registry was.shows).0;
 }

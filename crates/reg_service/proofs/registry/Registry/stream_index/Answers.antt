@@ -26,7 +26,7 @@ returns-in-Err-clause-streams g c clean s h =
 
 pub returns-in-Err-clause-leaves : goal.returns-in-Err-clause-leaves
 returns-in-Err-clause-leaves g c =
-    untouched_leaves g.S.Store c.args.close c.refuse.result c.args.writes _ _ (tables_of c.args.self.now) c.refuse.ensures.denies c.requires.tables c.refuse.ensures.some
+    untouched_leaves g.S.Store c.args.close c.refuse.result c.args.writes _ _ (tables_of c.args.self.now) c.refuse.ensures.denies c.requires.tables.tables c.refuse.ensures.some
 
 pub returns-in-Ok-clause-tables : goal.returns-in-Ok-clause-tables
 returns-in-Ok-clause-tables g c = record {
@@ -37,5 +37,5 @@ returns-in-Ok-clause-tables g c = record {
       let asks = request_of limits c.args.request.now in
       let was = c.requires.tables.known (c.stream_parts.ensures.leaves.clean clean) in
       let it = returns-in-Ok-clause-streams g c clean was.registry was.shows in
-      asked_knows g.S.Store limits was.registry (room_of old) (tables_of old) c.stream_parts.new.tables asks.digest asks.asked it.0 (leaves_still limits asks.asked was.registry (room_of old) (no_versions limits c.args.request.now.call c.requires.index) was.room) it.2;
+      asked_knows g.S.Store limits was.registry (room_of old) (tables_of old) c.stream_parts.new.tables asks.digest asks.asked it.0 (leaves_still limits asks.asked was.registry (room_of old) (no_versions limits c.args.request.now.call c.requires.index) was.has) it.2;
 }
