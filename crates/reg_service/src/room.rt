@@ -1,7 +1,7 @@
 //! Room for further versions of a crate, so that a publish need not count them.
 //!
-//! The first publish of a crate is judged by the tables alone. The next one counts, and if many more
-//! fit in, those behind it go without, as long as no other crate is published in between.
+//! The first publish of a crate is judged by the tables alone. The next one counts, and if many
+//! more fit in, those behind it go without, as long as no other crate is published in between.
 
 ghost use Rattle.std.specs.Prelude.{◌≡◌, if◌then◌else◌, IfSome, None, Some, false, string_bytes};
 ghost use Rattle.std.specs.Option.{option_map};
