@@ -46,6 +46,7 @@ fn limits_in(limits: &Limits, has_room: bool) -> Limits
     ensures wider { AreWider limits.now result }
 {
     let mut wider = *limits;
+    // For the prover alone: a field's range is known once the field is read.
     let _versions = limits.versions;
     if has_room {
         wider.versions = u64::MAX;
