@@ -1,5 +1,5 @@
 -- What the rows say of one crate of a registry.
-use Rattle.std.proofs.Common.{◌≡◌, ◌==◌, ℕ, zero, suc, pos, Bool, true, ◌&&◌, ◌||◌, not, List, [], ◌∷◌, map, Option, Some, None, inl, inr, refl, sym, ap, ◌∙◌}
+use Rattle.std.proofs.Common.{◌≡◌, ◌==◌, ℕ, zero, suc, pos, Bool, true, ◌&&◌, ◌||◌, not, List, [], ◌∷◌, map, Option, Some, None, inl, inr, refl, sym, ap, subst, ◌∙◌}
 use Rattle.std.specs.Prelude.{nat_eq, slice_get}
 use Rattle.std.specs.FinSet as finset
 use Rattle.std.specs.List.{filter, list_any}
@@ -12,12 +12,13 @@ use Rattle.sqlite.specs.Order.{Row, column}
 use Rattle.sqlite.specs.Tree.{Trees}
 use Rattle.sqlite.specs.declared.types.Value.TheVariants.{Int}
 use Rattle.sqlite_schema.specs.Rules.{equal}
-use Rattle.reg_names.specs.Names.{canon}
+use Rattle.reg_names.specs.Names.{canon, is_name}
 use Rattle.reg_versions.specs.Precedence.{Marked, top_place}
 use Rattle.reg_versions.proofs.TopPlace.{top_is_top}
 use Rattle.reg_model.specs.Crates.{has_crate, sees}
 use Rattle.reg_model.specs.Registry.{Registry, mark_cmp, owner_cmp}
 use Rattle.reg_model.specs.Search.{top}
+use Rattle.reg_model.specs.Steps.{IsGenuine}
 use Rattle.reg_model.proofs.Canons.{canon-canon}
 use Rattle.reg_model.proofs.Seen.{sees_alike}
 use Rattle.reg_model.proofs.Lists.{any_same}
@@ -27,7 +28,7 @@ use Rattle.reg_tables_schema.proofs.Queries.{equals_int, same_filter}
 use Rattle.reg_tables_meaning.specs.Stands.{Holds, Ids, StandPairs, StoredCrate, StoredPair, StoredVersion, columns_of_stored, is_of, is_paired, row_of_version, spelling_at}
 use Rattle.reg_tables_meaning.specs.Summaries.{its_versions, marked_of, row_of_summary, top_among, top_of}
 use Rattle.reg_tables_meaning.proofs.CrateCounts.{crate_has}
-use Rattle.reg_tables_meaning.proofs.CrateLemmas.{apart_by, spelled_at, text_itself}
+use Rattle.reg_tables_meaning.proofs.CrateLemmas.{apart_by, is_published, spelled_at, text_itself, version_of}
 use Rattle.reg_tables_meaning.proofs.CrateNames.{kept}
 use Rattle.reg_tables_meaning.proofs.Rowids.{any_columns, first_column, second_column}
 use Rattle.reg_tables_meaning.proofs.Standing.{same_number}
@@ -64,12 +65,23 @@ module _ (ids : Ids) (s : Registry) (db : Trees) (h : Holds ids s db) (x : Store
   at : spelling_at ids x.0 ≡ Some x.1
   at = spelled_at ids s.publications s.yanked db h.stands.crates x.0 x.1 i
 
+  -- it is a name
+  pub named : is_name x.1 ≡ true
+  named =
+      let v = version_of ids s.publications s.yanked db h.stands.crates x i in
+      let genuine = each_in IsGenuine s.publications v.0.publication h.sound.publications (is_published ids s.publications s.yanked db h.stands.crates v.0 v.1) in
+      subst (λ n. is_name n ≡ true) (sym v.3) genuine.name
+
+  -- the crate with its id, and no other
+  pub alone : filter (λ (c : StoredCrate). c.0 == x.0) ids.crates ≡ x ∷ []
+  alone =
+      one_passes (on (λ (c : StoredCrate). c.0) nat_eq) (λ c. c.0 == x.0) ids.crates x (apart_by (λ c. c.0) ids.crates h.stands.crates.up)
+      (λ c d j k p q. eq-eqb c.0 d.0 (eqb-true c.0 x.0 p ∙ sym (eqb-true d.0 x.0 q))) i (eq-eqb x.0 x.0 refl)
+
   pub its_row : (test : Row → Bool) → ((c : StoredCrate) → test (row_of_summary ids s.yanked c) ≡ (c.0 == x.0)) → filter test (db 16) ≡ row_of_summary ids s.yanked x ∷ []
   its_row test same =
       one_row (row_of_summary ids s.yanked) test x ids.crates (db 16) h.stands.summaries.are
-      (same_filter (λ c. test (row_of_summary ids s.yanked c)) (λ c. c.0 == x.0) same ids.crates
-      ∙ one_passes (on (λ (c : StoredCrate). c.0) nat_eq) (λ c. c.0 == x.0) ids.crates x (apart_by (λ c. c.0) ids.crates h.stands.crates.up)
-      (λ c d j k p q. eq-eqb c.0 d.0 (eqb-true c.0 x.0 p ∙ sym (eqb-true d.0 x.0 q))) i (eq-eqb x.0 x.0 refl))
+      (same_filter (λ c. test (row_of_summary ids s.yanked c)) (λ c. c.0 == x.0) same ids.crates ∙ alone)
 
   -- its highest version
   pub highest : (v : StoredVersion) × IsIn v ids.versions × (top_of ids s.yanked x.0 ≡ Some v)

@@ -1,13 +1,11 @@
 -- The text of a hit answers what is shown of the crate.
 use Rattle.std.proofs.Common.{◌≡◌, ◌==◌, ℕ, pos, Bool, true, false, ◌&&◌, cond, List, [], ◌∷◌, ◌++◌, map, Option, Some, None, refl, sym, ap, subst, ◌∙◌}
-use Rattle.std.specs.Prelude.{nat_eq, slice_get, unwrap_or}
+use Rattle.std.specs.Prelude.{slice_get, unwrap_or}
 use Rattle.std.specs.FinSet as finset
 use Rattle.std.specs.List.{filter, flat_map}
 use Rattle.std.specs.List.Sorted.{IsPermutation}
 use Rattle.std.specs.Option.{option_and_then, option_map}
-use Rattle.std.specs.Ordering.{on}
 use Rattle.std.specs.Str.{bytes_eq}
-use Rattle.std.proofs.lemmas.Bool.{eq-eqb, eqb-true}
 use Rattle.std.proofs.lemmas.List.Sorted.{IsPermutation-trans}
 use Rattle.sqlite.proofs.Callers.{one_permutation}
 use Rattle.sqlite.specs.Collation.TheVariants.{Binary}
@@ -27,16 +25,15 @@ use Rattle.reg_model.specs.Events as model
 use Rattle.reg_model.specs.Registry.{Publication, Registry, Text as Words}
 use Rattle.reg_model.specs.Search.{hit, top}
 use Rattle.reg_model.proofs.Canons.{canon-canon}
-use Rattle.reg_model.proofs.Members.{IsIn, one_passes}
+use Rattle.reg_model.proofs.Members.{IsIn}
 use Rattle.reg_tables_schema.proofs.Queries.{and_true, answers}
 use Rattle.reg_tables_meaning.proofs.AccountEntries.{heads, tails, text_is, words_are}
-use Rattle.reg_tables_meaning.proofs.CrateLemmas.{apart_by}
 use Rattle.reg_tables_meaning.proofs.CrateNames.{first_spelled}
 use Rattle.reg_tables_meaning.specs.Stands.{Holds, Ids, StoredCrate, StoredVersion, row_of_crate, row_of_version}
 use Rattle.reg_tables_meaning.specs.Summaries.{row_of_summary, top_of}
 use Rattle.reg_search.specs.Rows.{columns_of_hit, columns_of_model, hit_of}
 use Rattle.reg_search.specs.declared.hit.Hit.{Hit}
-use Rattle.reg_search.proofs.CrateFacts.{highest, highest_row, its_row, same_id, top_is}
+use Rattle.reg_search.proofs.CrateFacts.{alone, highest, highest_row, its_row, same_id, top_is}
 use Rattle.reg_search.proofs.Joined.{joined}
 use Rattle.reg_search.proofs.Lists.{each_gate}
 use Rattle.reg_search.proofs.Texts.{after_crate, hit_query, of_id}
@@ -106,18 +103,12 @@ module _ (ids : Ids) (s : Registry) (db : Trees) (h : Holds ids s db) (id : ℕ)
                 description = unwrap_or (option_map (λ (p : Publication). p.description) (highest k)) None;
               }) ∷ []
 
-  -- the crate with this id, and no other
-  alone : (x : StoredCrate) → IsIn x ids.crates → x.0 ≡ id → filter (λ (y : StoredCrate). y.0 == id) ids.crates ≡ x ∷ []
-  alone x i e =
-      one_passes (on (λ (c : StoredCrate). c.0) nat_eq) (λ c. c.0 == id) ids.crates x (apart_by (λ c. c.0) ids.crates h.stands.crates.up)
-      (λ c d j k p q. eq-eqb c.0 d.0 (eqb-true c.0 id p ∙ sym (eqb-true d.0 id q))) i (eq-eqb x.0 id e)
-
   its_rows : (x : StoredCrate) → IsIn x ids.crates → x.0 ≡ id → (rows : List Row) → IsSureAnswer hit_query (overlay db []) params rows → rows ≡ shown x ∷ []
   its_rows x i e rows answer =
       let same = answers (overlay db []) params (inner 7 after_crate) of_id hit_query.project rows answer in
       let all : map (eval_all hit_query.project) (matches db of_id (inner 7 after_crate) (params ∷ [])) ≡ flat_map K (db 7) = map-flat_map (eval_all hit_query.project) (λ r. matches db of_id after_crate (params ∷ r ∷ [])) (db 7) in
       let each : flat_map K (map row_of_crate ids.crates) ≡ shown x ∷ [] =
-      flat_map-map K row_of_crate ids.crates ∙ each_gate (λ y. K (row_of_crate y)) (λ y. y.0 == id) shown ids.crates comes ∙ ap (map shown) (alone x i e) in
+      flat_map-map K row_of_crate ids.crates ∙ each_gate (λ y. K (row_of_crate y)) (λ y. y.0 == id) shown ids.crates comes ∙ ap (map shown) (subst (λ n. filter (λ (y : StoredCrate). y.0 == n) ids.crates ≡ x ∷ []) e (alone ids s db h x i)) in
       let crates = subst (λ ys. IsPermutation ys (flat_map K (db 7))) each (IsPermutation-flat_map K (map row_of_crate ids.crates) (db 7) h.stands.crates.crate_rows) in
       one_permutation (shown x) rows (IsPermutation-trans (shown x ∷ []) (flat_map K (db 7)) rows crates (subst (λ ys. IsPermutation ys rows) all same))
 

@@ -3,14 +3,15 @@ use Rattle.std.proofs.Common.{◌≡◌, ℕ, suc, arith, pos, Bool, true, false
 use Rattle.std.specs.Prelude.{min}
 use Rattle.std.specs.List.{filter, flat_map, list_all, list_any}
 use Rattle.sqlite.specs.Collation.TheVariants.{Binary}
-use Rattle.sqlite.specs.Ops.{unary}
+use Rattle.sqlite.specs.Ops.{binary, is_true, unary}
 use Rattle.sqlite.specs.Order.{Row, column}
 use Rattle.sqlite.specs.Query.{inner, left, counted, end, matches, or_nulls}
 use Rattle.sqlite.specs.Term.{Env, holds}
 use Rattle.sqlite.specs.Tree.{Trees}
 use Rattle.sqlite.specs.declared.types.Value.TheVariants.{Int}
 use Rattle.sqlite_schema.specs.Rules.{equal}
-use Rattle.reg_search.proofs.Texts.{after_crate, counts, no_counts, of_id, on_version, read}
+use Rattle.sqlite_sql.specs.declared.ops.BinaryOp.TheVariants.{Instr}
+use Rattle.reg_search.proofs.Texts.{after_crate, counts, of_id, of_needle, on_version, read}
 
 abbrev bit : Bool → ℕ
 bit b = if b then 1 else 0
@@ -28,28 +29,32 @@ counted_any p f (x ∷ xs) = one (p x) (counted_any p f xs)
     one false h = h
 
 -- the slots as WHERE finds them
-abbrev pub slots : Row → Row → Bool → Bool → Env
-slots params r a b = params ∷ r ∷ (Int (pos (bit a)) ∷ []) ∷ (Int (pos (bit b)) ∷ []) ∷ []
+abbrev pub slots : Row → Row → Row → Bool → Bool → Env
+slots params r c a b = params ∷ r ∷ c ∷ (Int (pos (bit a)) ∷ []) ∷ (Int (pos (bit b)) ∷ []) ∷ []
 
-passes : (params r : Row) (a b : Bool) → list_all (holds (slots params r a b)) no_counts ≡ (not a && not b)
+-- the needle in the canonical text of a crate
+abbrev pub has_needle : Row → Row → Bool
+has_needle params c = is_true (binary Instr (column c 2) (column params 1))
+
+passes : (params r c : Row) (a b : Bool) → list_all (holds (slots params r c a b)) of_needle ≡ (equal Binary (column c 0) (column r 0) && (has_needle params c && (not a && not b)))
 unfolding unary
-passes params r true true = refl
-passes params r true false = refl
-passes params r false true = refl
-passes params r false false = refl
+passes params r c true true = refl
+passes params r c true false = refl
+passes params r c false true = refl
+passes params r c false false = refl
 
 module _ (db : Trees) (params r : Row) where
   abbrev pub is_pair : Row → Bool
   is_pair o = equal Binary (column o 1) (column r 0) && (equal Binary (column o 2) (column params 0) && true)
 
-  -- the restricted crate, where the account neither owns nor reads it
-  pub gated : (a b : Bool) → list_any is_pair (db 9) ≡ a → list_any is_pair (db 18) ≡ b → matches db no_counts counts (params ∷ r ∷ []) ≡ cond (not a && not b) (slots params r a b ∷ []) []
-  gated a b owns reads =
-      let m = counted_any is_pair (λ o. params ∷ r ∷ o ∷ []) (db 9) ∙ ap bit owns in
-      let n = λ (k : Row). counted_any is_pair (λ o. params ∷ r ∷ k ∷ o ∷ []) (db 18) ∙ ap bit reads in
-      (λ i. matches db no_counts (counted 1 (inner 18 end) read end) (params ∷ r ∷ (Int (pos (m i)) ∷ []) ∷ []))
-      ∙ (λ i. matches db no_counts end (params ∷ r ∷ (Int (pos (bit a)) ∷ []) ∷ (Int (pos (n (Int (pos (bit a)) ∷ []) i)) ∷ []) ∷ []))
-      ∙ (λ i. cond (passes params r a b i) (slots params r a b ∷ []) [])
+  -- the restricted crate with the needle in its text, where the account neither owns nor reads it
+  pub gated : (c : Row) (a b : Bool) → list_any is_pair (db 9) ≡ a → list_any is_pair (db 18) ≡ b → matches db of_needle counts (params ∷ r ∷ c ∷ []) ≡ cond (equal Binary (column c 0) (column r 0) && (has_needle params c && (not a && not b))) (slots params r c a b ∷ []) []
+  gated c a b owns reads =
+      let m = counted_any is_pair (λ o. params ∷ r ∷ c ∷ o ∷ []) (db 9) ∙ ap bit owns in
+      let n = λ (k : Row). counted_any is_pair (λ o. params ∷ r ∷ c ∷ k ∷ o ∷ []) (db 18) ∙ ap bit reads in
+      (λ i. matches db of_needle (counted 1 (inner 18 end) read end) (params ∷ r ∷ c ∷ (Int (pos (m i)) ∷ []) ∷ []))
+      ∙ (λ i. matches db of_needle end (params ∷ r ∷ c ∷ (Int (pos (bit a)) ∷ []) ∷ (Int (pos (n (Int (pos (bit a)) ∷ []) i)) ∷ []) ∷ []))
+      ∙ (λ i. cond (passes params r c a b i) (slots params r c a b ∷ []) [])
 
 -- of a crate with one summary and one highest version
 pub joined : (db : Trees) (params c s v : Row) → filter (λ r. equal Binary (column r 0) (column c 0) && true) (db 16) ≡ s ∷ [] → filter (λ r. equal Binary (column r 0) (column s 2) && true) (db 11) ≡ v ∷ []

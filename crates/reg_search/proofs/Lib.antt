@@ -3,6 +3,7 @@ mod CrateFacts
 mod HiddenLaw
 mod HitLaw
 mod HitRows
+mod Instr
 mod Joined
 mod Lists
 mod Lookup

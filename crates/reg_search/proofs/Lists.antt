@@ -1,8 +1,11 @@
 -- Lists that are filtered, mapped and cut.
-use Rattle.std.proofs.Common.{◌≡◌, ℕ, zero, suc, Bool, true, false, ◌&&◌, cond, List, [], ◌∷◌, ◌++◌, map, take, inl, inr, refl, ap, ◌∙◌}
+use Rattle.std.proofs.Common.{◌≡◌, ℕ, zero, suc, Bool, true, false, ◌&&◌, ◌||◌, cond, List, [], ◌∷◌, ◌++◌, map, take, inl, inr, refl, sym, ap, ◌∙◌}
 use Rattle.std.specs.List.{AllByRecursion, filter, flat_map, list_any}
+use Rattle.std.proofs.lemmas.List.Folds.{list_any-append}
 use Rattle.reg_model.proofs.Members.{IsIn}
-use Rattle.reg_search.proofs.Among.{none_any}
+use Rattle.reg_model.proofs.Lists.{any_same}
+use Rattle.reg_tables_schema.proofs.Queries.{and_true}
+use Rattle.reg_search.proofs.Among.{and_false, none_any}
 
 pub each_gate : {A B : Type 0} (f : A → List B) (p : A → Bool) (g : A → B) (xs : List A) → ((x : A) → IsIn x xs → f x ≡ cond (p x) (g x ∷ []) []) → flat_map f xs ≡ map g (filter p xs)
 each_gate f p g [] h = refl
@@ -28,3 +31,11 @@ pub each_taken : {X : Type 0} (P : X → Type 0) (n : ℕ) (xs : List X) → All
 each_taken P zero xs h = tt
 each_taken P (suc n) [] h = tt
 each_taken P (suc n) (x ∷ xs) h = (h.0, each_taken P n xs h.1)
+
+pub any_kept : {X : Type 0} (q : X → Bool) (b : Bool) (xs : List X) → list_any (λ x. q x && b) xs ≡ (list_any q xs && b)
+any_kept q true xs = any_same _ q (λ x. and_true (q x)) xs ∙ sym (and_true (list_any q xs))
+any_kept q false xs = any_same _ (λ x. false) (λ x. and_false (q x)) xs ∙ none_any xs ∙ sym (and_false (list_any q xs))
+
+pub any_each : {A B : Type 0} (q : B → Bool) (f : A → List B) (xs : List A) → list_any q (flat_map f xs) ≡ list_any (λ x. list_any q (f x)) xs
+any_each q f [] = refl
+any_each q f (x ∷ xs) = list_any-append q (f x) (flat_map f xs) ∙ ap (λ b. list_any q (f x) || b) (any_each q f xs)

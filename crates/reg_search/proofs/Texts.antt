@@ -4,7 +4,7 @@ use Rattle.sqlite.specs.Collation.TheVariants.{Binary}
 use Rattle.sqlite.specs.Listing.{understood}
 use Rattle.sqlite.specs.Query.{Join, Query, inner, left, counted, end}
 use Rattle.sqlite.specs.Term.{Term, col, op1, op2}
-use Rattle.sqlite_sql.specs.declared.ops.BinaryOp.TheVariants.{Compare}
+use Rattle.sqlite_sql.specs.declared.ops.BinaryOp.TheVariants.{Compare, Instr}
 use Rattle.sqlite_sql.specs.declared.ops.UnaryOp.TheVariants.{Not}
 use Rattle.sqlite_sql.specs.declared.ops.CompareOp.TheVariants.{Eq}
 use Rattle.sqlite_tied.specs.Compute.{everything}
@@ -28,26 +28,30 @@ unfolding understood everything
 walk_is = record { command = refl; unlisted = refl; plain = (refl, refl) }
 
 abbrev pub hidden_text : List ℕ
-hidden_text = codes "SELECT r.crate FROM restricted r WHERE NOT EXISTS (SELECT 1 FROM owners o WHERE o.crate = r.crate AND o.account = ?1) AND NOT EXISTS (SELECT 1 FROM readers d WHERE d.crate = r.crate AND d.account = ?1)"
+hidden_text = codes "SELECT r.crate FROM restricted r JOIN crates c ON c.id = r.crate WHERE instr(c.canon, ?2) AND NOT EXISTS (SELECT 1 FROM owners o WHERE o.crate = r.crate AND o.account = ?1) AND NOT EXISTS (SELECT 1 FROM readers d WHERE d.crate = r.crate AND d.account = ?1)"
 
 abbrev eq : Term → Term → Term
 eq a b = op2 (Compare Eq Binary) a b
 
 abbrev pub owned : List Term
-owned = eq (col 2 1) (col 1 0) ∷ eq (col 2 2) (col 0 0) ∷ []
+owned = eq (col 3 1) (col 1 0) ∷ eq (col 3 2) (col 0 0) ∷ []
 
 abbrev pub read : List Term
-read = eq (col 3 1) (col 1 0) ∷ eq (col 3 2) (col 0 0) ∷ []
+read = eq (col 4 1) (col 1 0) ∷ eq (col 4 2) (col 0 0) ∷ []
 
 -- what is counted of a restricted crate
 abbrev pub counts : Join
 counts = counted 1 (inner 9 end) owned (counted 1 (inner 18 end) read end)
 
 abbrev pub no_counts : List Term
-no_counts = op1 Not (col 2 0) ∷ op1 Not (col 3 0) ∷ []
+no_counts = op1 Not (col 3 0) ∷ op1 Not (col 4 0) ∷ []
+
+-- of a crate with the needle in its canonical text
+abbrev pub of_needle : List Term
+of_needle = eq (col 2 0) (col 1 0) ∷ op2 Instr (col 2 2) (col 0 1) ∷ no_counts
 
 abbrev pub hidden_query : Query
-hidden_query = plain (inner 17 counts) no_counts (col 1 0 ∷ [])
+hidden_query = plain (inner 17 (inner 7 counts)) of_needle (col 1 0 ∷ [])
 
 abbrev pub hidden_names : List (List ℕ)
 hidden_names = codes "crate" ∷ []

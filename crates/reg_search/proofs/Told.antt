@@ -10,7 +10,7 @@ use Rattle.sqlite.specs.Order.{Row}
 use Rattle.sqlite.specs.Program.{overlay}
 use Rattle.sqlite.specs.Query.{IsSureAnswer, Query}
 use Rattle.sqlite.specs.State.{HasCleanDisk}
-use Rattle.sqlite.specs.declared.types.Value.TheVariants.{Int}
+use Rattle.sqlite.specs.declared.types.Value.TheVariants.{Blob, Int}
 use Rattle.sqlite_trees.specs.declared.store.Store.{Ghosts}
 use Rattle.reg_names.specs.Names.{canon}
 use Rattle.reg_model.specs.Lists.{IsIn}
@@ -43,8 +43,8 @@ module _ {S T E : Type 0} (g : Ghosts S) (old new : Held S) (x : T) (at : IsOurs
       let schema = ap (λ d. d.schema) (h.1 ∙ rests.settled) ∙ rests.committed_is in
       subst (λ d. IsSureAnswer q (overlay d.trees []) params rows) h.1 (selected_by is params (state g h.0) (state g new) rows schema h.2)
 
-  pub hidden_told : (viewer : ℕ) (read list : List ℕ) → IsPermutation read list → AnswersOf g old new hidden_text (Int (pos viewer) ∷ []) (map number_columns read) → HidesFrom viewer (rows_in g old) list
-  hidden_told viewer read list turned h ids s holds = hides ids s (rows_in g old) holds viewer list read turned (answered hidden_is (Int (pos viewer) ∷ []) (map number_columns read) h)
+  pub hidden_told : (viewer : ℕ) (needle : Words) (read list : List ℕ) → IsPermutation read list → AnswersOf g old new hidden_text (Int (pos viewer) ∷ Blob needle ∷ []) (map number_columns read) → HidesFrom viewer needle (rows_in g old) list
+  hidden_told viewer needle read list turned h ids s holds = hides ids s (rows_in g old) holds viewer needle list read turned (answered hidden_is (Int (pos viewer) ∷ Blob needle ∷ []) (map number_columns read) h)
 
   hit_told : (id : ℕ) (front : List Hit) (it : Hit) → AnswersOf g old new hit_text (Int (pos id) ∷ []) (map columns_of_hit (front ++ it ∷ [])) → ShowsCrate id (rows_in g old) it
   hit_told id front it h ids s holds = its_hit ids s (rows_in g old) holds id front it (answered hit_is (Int (pos id) ∷ []) (map columns_of_hit (front ++ it ∷ [])) h)
@@ -57,7 +57,8 @@ module _ {S T E : Type 0} (g : Ghosts S) (old new : Held S) (x : T) (at : IsOurs
   walk_told needle hidden most rows hits are h ids s holds viewer q is hides =
       let all = walked ids s (rows_in g old) holds rows (answered walk_is [] rows h) in
       let found = rw is at are in
-      (total ids s (rows_in g old) holds viewer q hidden hides rows all most hits found, first ids s (rows_in g old) holds viewer q hidden hides rows all most hits found)
+      let hidden_are = rw is at hides in
+      (total ids s (rows_in g old) holds viewer q hidden hidden_are rows all most hits found, first ids s (rows_in g old) holds viewer q hidden hidden_are rows all most hits found)
 
 -- one more that is shown
 one_shown : (numbers : List ℕ) (db : Trees) (hs : List Hit) (id : ℕ) (h : Hit) → ShowsCrates numbers db hs → ShowsCrate id db h → ShowsCrates (numbers ++ id ∷ []) db (hs ++ h ∷ [])
@@ -79,7 +80,7 @@ all_shown ids s db told (x ∷ xs) [] shown there = absurd shown
 all_shown ids s db told (x ∷ xs) (h ∷ hs) shown there = λ i. told x.0 h shown.0 x there.0 refl i ∷ all_shown ids s db told xs hs shown.1 there.1 i
 
 -- the three steps together
-pub all_found : (db : Trees) (viewer most : ℕ) (needle : Words) (hidden : List ℕ) (hits : Hits) (f : Found) → HidesFrom viewer db hidden → FindsIds needle hidden most db hits → ShowsCrates hits.ids.items db f.crates.items → f.total ≡ hits.total → FindsNeedle viewer needle most db f
+pub all_found : (db : Trees) (viewer most : ℕ) (needle : Words) (hidden : List ℕ) (hits : Hits) (f : Found) → HidesFrom viewer needle db hidden → FindsIds needle hidden most db hits → ShowsCrates hits.ids.items db f.crates.items → f.total ≡ hits.total → FindsNeedle viewer needle most db f
 unfolding found
 all_found db viewer most needle hidden hits f hides finds shows same q is ids s h =
     let told = finds ids s h viewer q is (hides ids s h) in

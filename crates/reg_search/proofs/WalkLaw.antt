@@ -32,7 +32,7 @@ use Rattle.reg_tables_meaning.proofs.AllCrates.{canons_rise}
 use Rattle.reg_tables_meaning.proofs.CrateCounts.{crate_has}
 use Rattle.reg_tables_meaning.proofs.Selected.{column_total}
 use Rattle.reg_tables_meaning.specs.Stands.{Holds, Ids, StoredCrate, row_of_crate}
-use Rattle.reg_search.specs.Rows.{AreHits, AreIdsOf, Hides, id_of, is_hit, row_of}
+use Rattle.reg_search.specs.Rows.{AreHits, AreIdsOf, Hides, id_of, is_hit, is_unseen, row_of}
 use Rattle.reg_search.specs.declared.numbered.Hits.{Hits}
 use Rattle.reg_search.proofs.Lists.{each_passes, each_taken}
 use Rattle.reg_search.proofs.Rising.{all_canons}
@@ -71,17 +71,17 @@ module _ (ids : Ids) (s : Registry) (db : Trees) (h : Holds ids s db) where
         there = in_each (λ x. IsIn x ids.crates) back.0 (λ x i. in_permuted back.0 ids.crates x (IsPermutation-sym ids.crates back.0 back.1) i);
       }
 
-  module _ (viewer : ℕ) (q : Words) (hidden : List ℕ) (hides : Hides viewer ids s hidden) (rows : List Row) (all : Walked rows) where
+  module _ (viewer : ℕ) (q : Words) (hidden : List ℕ) (hides : Hides viewer (canon q) ids s hidden) (rows : List Row) (all : Walked rows) where
     abbrev is_matched : Words → Bool
     is_matched c = sees s (Some viewer) c && occurs (canon q) c
 
     -- a crate in whose text the needle stands is a hit where it is seen
     judged : (x : StoredCrate) → IsIn x all.crates → is_hit (canon q) hidden (row_of x) ≡ is_matched (canon_of x)
     judged x i =
-        let seen = each_in (λ c. list_any (λ n. n == c.0) hidden ≡ not (sees s (Some viewer) (canon c.1))) ids.crates x hides (each_in (λ c. IsIn c ids.crates) all.crates x all.there i) in
+        let seen = each_in (λ c. list_any (λ n. n == c.0) hidden ≡ is_unseen viewer (canon q) s c) ids.crates x hides (each_in (λ c. IsIn c ids.crates) all.crates x all.there i) in
         ap (λ b. occurs (canon q) (canon_of x) && not b) seen ∙ swapped (occurs (canon q) (canon_of x)) (sees s (Some viewer) (canon_of x))
       where
-        swapped : (a b : Bool) → (a && not (not b)) ≡ (b && a)
+        swapped : (a b : Bool) → (a && not (a && not b)) ≡ (b && a)
         swapped true true = refl
         swapped true false = refl
         swapped false true = refl

@@ -75,13 +75,17 @@ pub record AreHits (needle : Words) (hidden : List ℕ) (most : ℕ) (rows : Lis
   pub total : h.total ≡ length (filter (is_hit needle hidden) rows)
   pub first : h.ids.items ≡ map id_of (take most (filter (is_hit needle hidden) rows))
 
--- these are the crates that an account does not see, by their ids
-abbrev pub Hides : ℕ → Ids → Registry → List ℕ → Type 0
-Hides viewer ids s hidden = AllByRecursion
-    (λ x. list_any (λ n. n == x.0) hidden ≡ not (sees s (Some viewer) (canon x.1))) ids.crates
+-- whether the needle stands in the canonical text of a crate that an account does not see
+abbrev pub is_unseen : ℕ → Words → Registry → StoredCrate → Bool
+is_unseen viewer needle s x = occurs needle (canon x.1) && not (sees s (Some viewer) (canon x.1))
 
-abbrev pub HidesFrom : ℕ → Trees → List ℕ → Type 0
-HidesFrom viewer db hidden = Tells (λ ids s. Hides viewer ids s hidden) db
+-- these are all such crates, by their ids
+abbrev pub Hides : ℕ → Words → Ids → Registry → List ℕ → Type 0
+Hides viewer needle ids s hidden = AllByRecursion
+    (λ x. list_any (λ n. n == x.0) hidden ≡ is_unseen viewer needle s x) ids.crates
+
+abbrev pub HidesFrom : ℕ → Words → Trees → List ℕ → Type 0
+HidesFrom viewer needle db hidden = Tells (λ ids s. Hides viewer needle ids s hidden) db
 
 -- these are the ids of the crates with these canonical texts, in turn
 pub record AreIdsOf (ids : Ids) (numbers : List ℕ) (texts : List Words) : Type 0 where
@@ -90,11 +94,11 @@ pub record AreIdsOf (ids : Ids) (numbers : List ℕ) (texts : List Words) : Type
   pub named : texts ≡ map (λ x. canon x.1) crates
   pub there : AllByRecursion (λ x. IsIn x ids.crates) crates
 
--- the number of hits, and the ids of the first of them, where those crates are hidden that the
--- account does not see
+-- the number of hits, and the ids of the first of them, where those are hidden that the account
+-- does not see
 abbrev pub FindsIds : Words → List ℕ → ℕ → Trees → Hits → Type 0
 FindsIds needle hidden most db h = Tells
-    (λ ids s. (viewer : ℕ) (q : Words) → needle ≡ canon q → Hides viewer ids s hidden
+    (λ ids s. (viewer : ℕ) (q : Words) → needle ≡ canon q → Hides viewer needle ids s hidden
     → (h.total ≡ length (matches s (Some viewer) q))
     × AreIdsOf ids h.ids.items (take most (matches s (Some viewer) q))) db
 

@@ -1,4 +1,4 @@
-//! The crates that an account does not see.
+//! The crates that a query would find, but the account does not see.
 
 ghost use Rattle.std.specs.Prelude.{IfOk};
 ghost use Rattle.std.specs.List.Sorted.{IsSorted};
@@ -15,25 +15,28 @@ use reg_tables::Edition;
 use sqlite::{Alter, Connection, Error, params};
 use std::alloc::Global;
 
-/// The restricted crates that the account ?1 neither owns nor reads.
-const HIDDEN_TEXT: &str = "SELECT r.crate FROM restricted r \
-    WHERE NOT EXISTS (SELECT 1 FROM owners o WHERE o.crate = r.crate AND o.account = ?1) \
+/// The restricted crates with ?2 in their canonical texts that the account ?1 neither owns nor
+/// reads. The texts are looked at first, so that no more is asked about most restricted crates.
+const HIDDEN_TEXT: &str = "SELECT r.crate FROM restricted r JOIN crates c ON c.id = r.crate \
+    WHERE instr(c.canon, ?2) \
+    AND NOT EXISTS (SELECT 1 FROM owners o WHERE o.crate = r.crate AND o.account = ?1) \
     AND NOT EXISTS (SELECT 1 FROM readers d WHERE d.crate = r.crate AND d.account = ?1)";
 
-/// The ids of the crates that the account does not see, in order. The list grows with the
-/// restricted crates alone.
+/// The ids of the crates with the needle in their canonical texts that the account does not see, in
+/// order. The list grows with the restricted crates alone.
 pub(crate) fn read_hidden<S: Alter>(
     alloc: Global,
     conn: &mut Connection<S>,
     viewer: u32,
+    needle: &[u8],
 ) -> Result<Vec<u32>, Error>
     requires { IsOurs Edition.Second (state S.Store conn.old) }
     ensures hidden { HasCleanDisk (state S.Store conn.new) → IfOk result
-        (λ list. HidesFrom viewer (rows_in S.Store conn.old) list.items) }
+        (λ list. HidesFrom viewer needle.now (rows_in S.Store conn.old) list.items) }
     ensures sorted { IfOk result (λ list. IsSorted nat_cmp list.items) }
     ensures reads { IsRead S.Store result conn.old conn.new }
 {
-    let mut hidden = read_all::<u32, S>(alloc, conn, HIDDEN_TEXT, params![viewer])?;
+    let mut hidden = read_all::<u32, S>(alloc, conn, HIDDEN_TEXT, params![viewer, needle])?;
     hidden.sort_unstable();
     Ok(hidden)
 }

@@ -63,7 +63,7 @@ fn find<S: Alter>(
         (FindsNeedle viewer needle.now most (rows_in S.Store conn.old)) }
     ensures reads { IsRead S.Store result conn.old conn.new }
 {
-    let hidden = read_hidden(alloc, conn, viewer)?;
+    let hidden = read_hidden(alloc, conn, viewer, needle.needle())?;
     let hits = walk(alloc, conn, needle, &hidden, most)?;
     let crates = read_page(alloc, conn, &hits.ids)?;
     Ok(Found {

@@ -8,5 +8,5 @@ read_all-requires g c = (Second, c.requires, hidden_is.plain)
 
 pub returns-clause-hidden : goal.returns-clause-hidden
 returns-clause-hidden g c clean =
-    hidden_told g.S.Store c.args.conn.now c.read_all.new.conn c.in_ok-hidden.hidden c.requires c.in_ok-hidden.ensures.reads clean c.args.viewer c.in_ok-hidden.hidden.items c.sort_unstable.new.self.items c.sort_unstable.ensures.permutation
-    (rw c.params-to_sql.ensures at (c.in_ok-hidden.ensures.told clean))
+    hidden_told g.S.Store c.args.conn.now c.read_all.new.conn c.in_ok-hidden.hidden c.requires c.in_ok-hidden.ensures.reads clean c.args.viewer c.args.needle.now c.in_ok-hidden.hidden.items c.sort_unstable.new.self.items c.sort_unstable.ensures.permutation
+    (rw (c.params-to_sql.ensures, c.params-to_sql-2.ensures) at (c.in_ok-hidden.ensures.told clean))

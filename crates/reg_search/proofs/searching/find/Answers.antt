@@ -21,4 +21,4 @@ returns-clause-found g c clean =
     let both = read_then g.S.Store first mid hidden reads last (Ok hits) c.in_ok-hits.ensures.reads in
     let finds = told_before g.S.Store first mid hidden reads (λ db. FindsIds c.args.needle.now hidden.items c.args.most db hits) early (rw c.deref.ensures.value at (c.in_ok-hits.ensures.found late)) in
     let shows = told_before g.S.Store first last hits both (λ db. ShowsCrates hits.ids.items db crates.items) late (rw c.deref-2.ensures.value at (c.in_ok-crates.ensures.shown clean)) in
-    all_found (rows_in g.S.Store first) c.args.viewer c.args.most c.args.needle.now hidden.items hits (record { total = hits.total; crates = crates }) (c.in_ok-hidden.ensures.hidden early) finds shows refl
+    all_found (rows_in g.S.Store first) c.args.viewer c.args.most c.args.needle.now hidden.items hits (record { total = hits.total; crates = crates }) (rw c.needle.ensures at (c.in_ok-hidden.ensures.hidden early)) finds shows refl
