@@ -11,7 +11,7 @@ use Rattle.reg_tables_sql.specs.declared.tokens.TokenRow.{TokenRow}
 use Rattle.reg_tables.specs.declared.work.StoreFault.{StoreFault}
 use Rattle.reg_tables.specs.declared.work.Work.{Work}
 use Rattle.reg_tables.specs.Works.{Heard, IsAtWork, IsCall, Unmoved, rows_seen, seen}
-use Rattle.reg_access.specs.Asks.{Asks}
+use Rattle.reg_tables.specs.Calling.{Asks}
 use Rattle.reg_access.specs.Grants.{AreCandidates}
 use Rattle.reg_access.proofs.Calls.{inside}
 use Rattle.reg_access.proofs.GrantRows.{candidates_are}

@@ -16,7 +16,7 @@ use Rattle.reg_tables_meaning.proofs.Readings.{same_then}
 use Rattle.reg_tables.specs.declared.work.StoreFault.{StoreFault}
 use Rattle.reg_tables.specs.declared.work.Work.{Work}
 use Rattle.reg_tables.specs.Works.{Heard, IsAtWork, IsCall, Unmoved, has_failed, rows_seen, seen}
-use Rattle.reg_access.specs.Asks.{Asks}
+use Rattle.reg_tables.specs.Calling.{Asks}
 use Rattle.reg_access.specs.JoinRows.{is_there}
 use Rattle.reg_access.proofs.Answered.{there_found}
 use Rattle.reg_access.proofs.Calls.{called_err, called_ok, inside, itself_called, then_called}

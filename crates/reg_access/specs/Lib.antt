@@ -1,5 +1,4 @@
 pub mod Admitted
-pub mod Asks
 pub mod Found
 pub mod JoinRows
 pub mod Laws

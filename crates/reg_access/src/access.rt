@@ -4,7 +4,7 @@ ghost use Rattle.std.specs.Prelude.{◌≡◌, IfOk, true};
 ghost use Rattle.reg_policy.specs.Views.{action_of};
 ghost use Rattle.reg_tables.specs.Works.{Heard, IsAtWork, IsCall, Unmoved, rows_seen};
 ghost use Rattle.reg_access.specs.Admitted.{HasItsCrate, HasItsVersion, IsAdmission, TellsCaller, decision_in};
-ghost use Rattle.reg_access.specs.Asks.{Asks};
+ghost use Rattle.reg_tables.specs.Calling.{Asks};
 ghost use Rattle.reg_access.specs.Verdict.{IsPolicy, IsVerdict, is_fit};
 
 use crate::admission::{Admission, admission_of};
@@ -13,14 +13,10 @@ use crate::texts::find_token;
 use reg_line::Digest;
 use reg_model::Rule;
 use reg_policy::{Action, Decision};
-use reg_tables::{StoreFault, Work};
+use reg_tables::{Result, Work};
 use sqlite::Alter;
 
-fn judge<S: Alter>(
-    work: &mut Work<'_, S>,
-    digest: &Digest,
-    action: &Action,
-) -> Result<Admission, StoreFault>
+fn judge<S: Alter>(work: &mut Work<'_, S>, digest: &Digest, action: &Action) -> Result<Admission>
     requires { IsAtWork S.Store work.old }
     ensures asks { Asks S.Store work.old work.new result
         (IsAdmission digest.now (action_of action.now)) }
@@ -51,7 +47,7 @@ pub fn admit<S: Alter>(
     work: &mut Work<'_, S>,
     digest: &Digest,
     action: &Action,
-) -> Result<Admission, StoreFault>
+) -> Result<Admission>
     requires { IsAtWork S.Store work.old }
     ensures decided { Heard S.Store work.new result (λ it. IsVerdict digest.now
         (action_of action.now) (rows_seen S.Store work.old) (decision_in it)) }
@@ -73,7 +69,7 @@ pub fn authorize<S: Alter>(
     work: &mut Work<'_, S>,
     digest: &Digest,
     action: &Action,
-) -> Result<Decision, StoreFault>
+) -> Result<Decision>
     requires { IsAtWork S.Store work.old }
     ensures decided { Heard S.Store work.new result
         (IsVerdict digest.now (action_of action.now) (rows_seen S.Store work.old)) }

@@ -7,7 +7,7 @@ ghost use Rattle.reg_policy.specs.Views.{action_of};
 ghost use Rattle.reg_tables_schema.specs.Rows.{number_columns};
 ghost use Rattle.reg_tables_schema.specs.Shown.{shown_of};
 ghost use Rattle.reg_tables.specs.Works.{IsAtWork, has_failed};
-ghost use Rattle.reg_access.specs.Asks.{Asks};
+ghost use Rattle.reg_tables.specs.Calling.{Asks};
 ghost use Rattle.reg_access.specs.Found.{AreFound, rows_of, scopes_asked};
 ghost use Rattle.reg_access.specs.JoinRows.{against_rows, is_there, named_rows, value_at, versions_with_text};
 
@@ -15,7 +15,7 @@ use crate::found::CrateRow;
 use crate::texts::{find_crate, find_version, has_release, is_covered, is_reserved};
 use reg_names::{CrateName, canon};
 use reg_policy::{Action, crate_of, needed};
-use reg_tables::{StoreFault, TokenRow, Work};
+use reg_tables::{Result, TokenRow, Work};
 use sqlite::Alter;
 
 /// What was found about an action's crate; what the action does not ask is false or missing.
@@ -36,7 +36,7 @@ fn find_scopes<S: Alter>(
     token: u32,
     name: &CrateName,
     action: &Action,
-) -> Result<bool, StoreFault>
+) -> Result<bool>
     requires at_work { IsAtWork S.Store work.old }
     requires goes_on { has_failed work.old ≡ false }
     requires named { crate_asked (action_of action.now) ≡ Some name.now }
@@ -53,7 +53,7 @@ fn find_version_of<S: Alter>(
     work: &mut Work<'_, S>,
     row: &Option<CrateRow>,
     text: &str,
-) -> Result<Option<u64>, StoreFault>
+) -> Result<Option<u64>>
     requires at_work { IsAtWork S.Store work.old }
     requires goes_on { has_failed work.old ≡ false }
     ensures { Asks S.Store work.old work.new result
@@ -71,7 +71,7 @@ fn find_version_named<S: Alter>(
     work: &mut Work<'_, S>,
     row: &Option<CrateRow>,
     action: &Action,
-) -> Result<Option<u64>, StoreFault>
+) -> Result<Option<u64>>
     requires at_work { IsAtWork S.Store work.old }
     requires goes_on { has_failed work.old ≡ false }
     ensures { Asks S.Store work.old work.new result
@@ -92,7 +92,7 @@ fn stands_against<S: Alter>(
     work: &mut Work<'_, S>,
     row: &Option<CrateRow>,
     action: &Action,
-) -> Result<bool, StoreFault>
+) -> Result<bool>
     requires at_work { IsAtWork S.Store work.old }
     requires goes_on { has_failed work.old ≡ false }
     ensures { Asks S.Store work.old work.new result
@@ -116,7 +116,7 @@ fn find_named<S: Alter>(
     token: &TokenRow,
     name: &CrateName,
     action: &Action,
-) -> Result<Found, StoreFault>
+) -> Result<Found>
     requires at_work { IsAtWork S.Store work.old }
     requires goes_on { has_failed work.old ≡ false }
     requires named { crate_asked (action_of action.now) ≡ Some name.now }
@@ -140,7 +140,7 @@ pub(crate) fn find_all<S: Alter>(
     work: &mut Work<'_, S>,
     token: &TokenRow,
     action: &Action,
-) -> Result<Found, StoreFault>
+) -> Result<Found>
     requires at_work { IsAtWork S.Store work.old }
     requires goes_on { has_failed work.old ≡ false }
     ensures { Asks S.Store work.old work.new result

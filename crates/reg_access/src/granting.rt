@@ -4,13 +4,13 @@ ghost use Rattle.std.specs.Prelude.{◌≡◌, false, true};
 ghost use Rattle.reg_names.specs.Names.{is_name};
 ghost use Rattle.reg_tables_meaning.specs.Calls.{FindsCrate};
 ghost use Rattle.reg_tables.specs.Works.{IsAtWork, has_failed};
-ghost use Rattle.reg_access.specs.Asks.{Asks};
+ghost use Rattle.reg_tables.specs.Calling.{Asks};
 ghost use Rattle.reg_access.specs.Grants.{AreCandidates, AreGrants, AreOwnersOf, IsStanding, TellsTaken};
 
 use crate::grants::{Grant, grants_of};
 use reg_names::{CanonText, CrateName, canon};
 use reg_policy::is_reserved_always;
-use reg_tables::{Account, Crate, StoreFault, TokenRow, Work};
+use reg_tables::{Account, Crate, Result, TokenRow, Work};
 use sqlite::{Alter, params};
 use std::alloc::Global;
 
@@ -19,7 +19,7 @@ pub(crate) fn find_candidates<S: Alter>(
     alloc: Global,
     work: &mut Work<'_, S>,
     canon: &CanonText,
-) -> Result<Vec<TokenRow>, StoreFault>
+) -> Result<Vec<TokenRow>>
     requires { IsAtWork S.Store work.old }
     ensures { Asks S.Store work.old work.new result
         (λ db list. AreCandidates canon.now db list.items) }
@@ -45,7 +45,7 @@ pub(crate) struct Standing {
 pub(crate) fn find_named<S: Alter>(
     work: &mut Work<'_, S>,
     canon: &CanonText,
-) -> Result<Option<Crate>, StoreFault>
+) -> Result<Option<Crate>>
     requires { IsAtWork S.Store work.old }
     ensures { Asks S.Store work.old work.new result (FindsCrate canon.now) }
 {
@@ -56,7 +56,7 @@ fn find_owners<S: Alter>(
     alloc: Global,
     work: &mut Work<'_, S>,
     found: &Option<Crate>,
-) -> Result<Vec<Account>, StoreFault>
+) -> Result<Vec<Account>>
     requires at_work { IsAtWork S.Store work.old }
     requires goes_on { has_failed work.old ≡ false }
     ensures { Asks S.Store work.old work.new result
@@ -72,7 +72,7 @@ fn is_taken<S: Alter>(
     work: &mut Work<'_, S>,
     found: &Option<Crate>,
     canon: &CanonText,
-) -> Result<bool, StoreFault>
+) -> Result<bool>
     requires at_work { IsAtWork S.Store work.old }
     requires goes_on { has_failed work.old ≡ false }
     ensures { Asks S.Store work.old work.new result (TellsTaken found.now canon.now) }
@@ -91,7 +91,7 @@ fn standing_of<S: Alter>(
     work: &mut Work<'_, S>,
     found: &Option<Crate>,
     canon: &CanonText,
-) -> Result<Standing, StoreFault>
+) -> Result<Standing>
     requires at_work { IsAtWork S.Store work.old }
     requires goes_on { has_failed work.old ≡ false }
     ensures { Asks S.Store work.old work.new result (λ db it.
@@ -107,7 +107,7 @@ fn find_standing<S: Alter>(
     alloc: Global,
     work: &mut Work<'_, S>,
     canon: &CanonText,
-) -> Result<Standing, StoreFault>
+) -> Result<Standing>
     requires { IsAtWork S.Store work.old }
     ensures { Asks S.Store work.old work.new result (IsStanding canon.now) }
 {
@@ -127,7 +127,7 @@ pub fn who_may<S: Alter>(
     alloc: Global,
     work: &mut Work<'_, S>,
     name: &CrateName,
-) -> Result<Vec<Grant>, StoreFault>
+) -> Result<Vec<Grant>>
     requires { IsAtWork S.Store work.old }
     ensures { Asks S.Store work.old work.new result
         (λ db list. AreGrants name.now db list.items) }

@@ -3,20 +3,16 @@
 ghost use Rattle.std.specs.Prelude.{◌≡◌, IfOk, false, map};
 ghost use Rattle.reg_tables_meaning.specs.Calls.{FindsCrate};
 ghost use Rattle.reg_tables.specs.Works.{IsAtWork, has_failed};
-ghost use Rattle.reg_access.specs.Asks.{Asks};
+ghost use Rattle.reg_tables.specs.Calling.{Asks};
 ghost use Rattle.reg_access.specs.Grants.{AreReaders, AreReadersAt, AreReadersOf, reader_of};
 
 use crate::granting::find_named;
 use reg_names::{CrateName, Login, canon, parse_login};
-use reg_tables::{Account, Crate, StoreFault, Work};
+use reg_tables::{Account, Crate, Result, Work};
 use sqlite::{Alter, Error};
 use std::alloc::Global;
 
-fn readers_at<S: Alter>(
-    alloc: Global,
-    work: &mut Work<'_, S>,
-    id: u32,
-) -> Result<Vec<Account>, StoreFault>
+fn readers_at<S: Alter>(alloc: Global, work: &mut Work<'_, S>, id: u32) -> Result<Vec<Account>>
     requires { IsAtWork S.Store work.old }
     ensures { Asks S.Store work.old work.new result
         (λ db list. AreReadersAt id db list.items) }
@@ -31,7 +27,7 @@ fn find_readers<S: Alter>(
     alloc: Global,
     work: &mut Work<'_, S>,
     found: &Option<Crate>,
-) -> Result<Vec<Account>, StoreFault>
+) -> Result<Vec<Account>>
     requires at_work { IsAtWork S.Store work.old }
     requires goes_on { has_failed work.old ≡ false }
     ensures { Asks S.Store work.old work.new result
@@ -68,7 +64,7 @@ pub fn who_reads<S: Alter>(
     alloc: Global,
     work: &mut Work<'_, S>,
     name: &CrateName,
-) -> Result<Vec<(u32, Login)>, StoreFault>
+) -> Result<Vec<(u32, Login)>>
     requires { IsAtWork S.Store work.old }
     ensures { Asks S.Store work.old work.new result
         (λ db list. AreReaders name.now db list.items) }

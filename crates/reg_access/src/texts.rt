@@ -6,14 +6,14 @@ ghost use Rattle.reg_tables_schema.specs.Rows.{number_columns};
 ghost use Rattle.reg_tables_schema.specs.Shown.{shown_of};
 ghost use Rattle.reg_tables_sql.specs.Tokens.{IsTokenOfDigest};
 ghost use Rattle.reg_tables.specs.Works.{IsAtWork};
-ghost use Rattle.reg_access.specs.Asks.{Asks};
+ghost use Rattle.reg_tables.specs.Calling.{Asks};
 ghost use Rattle.reg_access.specs.Found.{rows_of};
 ghost use Rattle.reg_access.specs.JoinRows.{crates_seen_by, is_there, reserved_as, scopes_over, versions_of_release, versions_with_text};
 
 use crate::found::CrateRow;
 use reg_line::Digest;
 use reg_names::CanonText;
-use reg_tables::{StoreFault, TokenRow, Work};
+use reg_tables::{Result, TokenRow, Work};
 use reg_versions::release_key;
 use sqlite::{Alter, params};
 
@@ -21,7 +21,7 @@ use sqlite::{Alter, params};
 pub(crate) fn find_token<S: Alter>(
     work: &mut Work<'_, S>,
     digest: &Digest,
-) -> Result<Option<TokenRow>, StoreFault>
+) -> Result<Option<TokenRow>>
     requires { IsAtWork S.Store work.old }
     ensures { Asks S.Store work.old work.new result (IsTokenOfDigest digest.now) }
 {
@@ -38,7 +38,7 @@ pub(crate) fn is_covered<S: Alter>(
     work: &mut Work<'_, S>,
     token: u32,
     canon: &CanonText,
-) -> Result<bool, StoreFault>
+) -> Result<bool>
     requires { IsAtWork S.Store work.old }
     ensures { Asks S.Store work.old work.new result
         (λ db b. is_there (scopes_over (Int (pos token)) canon.now db) ≡ b) }
@@ -55,7 +55,7 @@ pub(crate) fn find_crate<S: Alter>(
     work: &mut Work<'_, S>,
     canon: &CanonText,
     account: u32,
-) -> Result<Option<CrateRow>, StoreFault>
+) -> Result<Option<CrateRow>>
     requires { IsAtWork S.Store work.old }
     ensures { Asks S.Store work.old work.new result
         (λ db found. crates_seen_by canon.now (Int (pos account)) db ≡ rows_of found) }
@@ -73,7 +73,7 @@ pub(crate) fn find_version<S: Alter>(
     work: &mut Work<'_, S>,
     of_crate: u32,
     text: &str,
-) -> Result<Option<u64>, StoreFault>
+) -> Result<Option<u64>>
     requires { IsAtWork S.Store work.old }
     ensures { Asks S.Store work.old work.new result (λ db found.
         versions_with_text (Int (pos of_crate)) text.now db ≡ shown_of number_columns found) }
@@ -89,7 +89,7 @@ pub(crate) fn has_release<S: Alter>(
     work: &mut Work<'_, S>,
     of_crate: u32,
     text: &str,
-) -> Result<bool, StoreFault>
+) -> Result<bool>
     requires { IsAtWork S.Store work.old }
     ensures { Asks S.Store work.old work.new result
         (λ db b. is_there (versions_of_release (Int (pos of_crate)) text.now db) ≡ b) }
@@ -101,10 +101,7 @@ pub(crate) fn has_release<S: Alter>(
 }
 
 /// Whether the administrator reserved the canonical text.
-pub(crate) fn is_reserved<S: Alter>(
-    work: &mut Work<'_, S>,
-    canon: &CanonText,
-) -> Result<bool, StoreFault>
+pub(crate) fn is_reserved<S: Alter>(work: &mut Work<'_, S>, canon: &CanonText) -> Result<bool>
     requires { IsAtWork S.Store work.old }
     ensures { Asks S.Store work.old work.new result
         (λ db b. is_there (reserved_as canon.now db) ≡ b) }

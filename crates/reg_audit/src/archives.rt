@@ -11,7 +11,7 @@ ghost use Rattle.reg_audit.specs.Checks.{is_archive};
 ghost use Rattle.reg_tables.specs.Looks.{Looks};
 
 use reg_line::digest_of;
-use reg_tables::{StoreFault, Version, Work};
+use reg_tables::{Result, Version, Work};
 use sqlite::Alter;
 
 fn has_digest(bytes: &[u8], digest: &[u8]) -> bool
@@ -20,7 +20,7 @@ fn has_digest(bytes: &[u8], digest: &[u8]) -> bool
     digest_of(bytes).as_slice() == digest
 }
 
-fn has_archive<S: Alter>(work: &mut Work<'_, S>, version: &Version) -> Result<bool, StoreFault>
+fn has_archive<S: Alter>(work: &mut Work<'_, S>, version: &Version) -> Result<bool>
     requires { IsAtWork S.Store work.old }
     ensures found { HasCleanDisk (seen S.Store work.new) → IfOk result
         (λ b. b ≡ is_archive version.now.digest.items
@@ -37,10 +37,7 @@ fn has_archive<S: Alter>(work: &mut Work<'_, S>, version: &Version) -> Result<bo
 }
 
 /// Whether each version has its archive. That there is no other is a rule of the tables.
-pub(crate) fn archives_pass<S: Alter>(
-    work: &mut Work<'_, S>,
-    versions: &[Version],
-) -> Result<bool, StoreFault>
+pub(crate) fn archives_pass<S: Alter>(work: &mut Work<'_, S>, versions: &[Version]) -> Result<bool>
     requires at_work { IsAtWork S.Store work.old }
     requires goes_on { has_failed work.old ≡ false }
     ensures found { HasCleanDisk (seen S.Store work.new) → IfOk result

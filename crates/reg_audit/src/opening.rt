@@ -21,7 +21,7 @@ use crate::reserved::reserved_pass;
 use crate::summaries::summaries_pass;
 use crate::tokens::tokens_pass;
 use crate::versions::versions_pass;
-use reg_tables::{AllRows, StoreFault, Tables, Work};
+use reg_tables::{AllRows, Result, Tables, Work};
 use sqlite::Alter;
 use std::alloc::{AllocError, Global};
 
@@ -43,7 +43,7 @@ fn first_before(alloc: Global, rows: &AllRows) -> Result<Option<Check>, AllocErr
 }
 
 // The checks after that of the archives.
-fn first_after(alloc: Global, rows: &AllRows) -> Result<Option<Check>, StoreFault>
+fn first_after(alloc: Global, rows: &AllRows) -> Result<Option<Check>>
     ensures { IfOk result (λ found. (db : Trees) → IsFirstOf
         (C5 ∷ C6 ∷ C7 ∷ C8 ∷ []) rows.now db found) }
 {
@@ -66,7 +66,7 @@ fn first_failing<S: Alter>(
     alloc: Global,
     work: &mut Work<'_, S>,
     rows: &AllRows,
-) -> Result<Option<Check>, StoreFault>
+) -> Result<Option<Check>>
     requires at_work { IsAtWork S.Store work.old }
     requires goes_on { has_failed work.old ≡ false }
     ensures found { HasCleanDisk (seen S.Store work.new) → IfOk result
@@ -84,7 +84,7 @@ fn first_failing<S: Alter>(
     Ok(after)
 }
 
-fn examine<S: Alter>(alloc: Global, work: &mut Work<'_, S>) -> Result<Option<Check>, StoreFault>
+fn examine<S: Alter>(alloc: Global, work: &mut Work<'_, S>) -> Result<Option<Check>>
     requires { IsAtWork S.Store work.old }
     ensures found { HasCleanDisk (seen S.Store work.new) → IfOk result
         (λ found. (it : Rows) × AreAllRows it (seen S.Store work.old).now.trees × IsFirst it
@@ -97,7 +97,7 @@ fn examine<S: Alter>(alloc: Global, work: &mut Work<'_, S>) -> Result<Option<Che
 
 /// The first check that fails; none if all pass. Tables of schema 1 are seen as the schema 2 tables
 /// that they become. Nothing is changed, and no archive is kept in memory.
-pub fn audit<S: Alter>(alloc: Global, tables: &mut Tables<S>) -> Result<Option<Check>, StoreFault>
+pub fn audit<S: Alter>(alloc: Global, tables: &mut Tables<S>) -> Result<Option<Check>>
     requires { AreOurs S.Store tables.old }
     ensures found { HasCleanDisk (shown S.Store tables.new) → IfOk result
         (λ found. (db : Trees) × AreBegun (edition_in tables.old) (shown S.Store tables.old).now db

@@ -7,7 +7,7 @@ ghost use Rattle.reg_tables_meaning.specs.Summaries.{highest_in, length_in, show
 ghost use Rattle.reg_audit.specs.Checks.{is_summary, its_versions, shown_version, summaries_pass as summaries_pass_in};
 ghost use Rattle.reg_audit.specs.Marks.{marks_at};
 
-use reg_tables::{AllRows, Crate, StoreFault, Summary, Version};
+use reg_tables::{AllRows, Crate, Result, StoreFault, Summary, Version};
 use reg_tables_meaning::summaries::numbers_in;
 use reg_tables_sql::versions::VersionMark;
 use std::alloc::{AllocError, Global};
@@ -99,7 +99,7 @@ fn is_right(
     rows: &AllRows,
     groups: &BTreeMap<u32, Vec<VersionMark>>,
     summary: &Summary,
-) -> Result<bool, StoreFault>
+) -> Result<bool>
     requires { (id : ℕ) → marks_at groups.now id ≡ its_versions rows.now id }
     ensures { IfOk result (λ b. b ≡ is_summary rows.now summary.now) }
 {
@@ -111,7 +111,7 @@ fn is_right(
     }
 }
 
-fn are_right(alloc: Global, rows: &AllRows) -> Result<bool, StoreFault>
+fn are_right(alloc: Global, rows: &AllRows) -> Result<bool>
     ensures { IfOk result (λ b. b ≡ list_all (is_summary rows.now) rows.now.summaries.items) }
 {
     let groups = group_by_crate(alloc, &rows.versions)?;
@@ -124,7 +124,7 @@ fn are_right(alloc: Global, rows: &AllRows) -> Result<bool, StoreFault>
 }
 
 /// Whether each crate has its summary, and there is no other.
-pub(crate) fn summaries_pass(alloc: Global, rows: &AllRows) -> Result<bool, StoreFault>
+pub(crate) fn summaries_pass(alloc: Global, rows: &AllRows) -> Result<bool>
     ensures { IfOk result (λ b. b ≡ summaries_pass_in rows.now) }
 {
     if !are_of(&rows.summaries, &rows.crates) {

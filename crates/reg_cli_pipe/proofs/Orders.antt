@@ -10,7 +10,7 @@ use Rattle.std.proofs.lemmas.Option.{slice_get-get_or}
 use Rattle.sqlite.specs.State.{HasCleanDisk}
 use Rattle.sqlite_trees.specs.declared.store.Store.{Ghosts}
 use Rattle.reg_body.specs.declared.limits.Limits.{Limits}
-use Rattle.reg_model.specs.Events.{Answer, Command, Event}
+use Rattle.reg_model.specs.Events.{Answer, Command}
 use Rattle.reg_model.specs.Events.Answer.{Refused as to_refused}
 use Rattle.reg_model.specs.Events.Event.{Order}
 use Rattle.reg_model.specs.Registry as model
@@ -21,11 +21,14 @@ use Rattle.reg_tables.specs.declared.tables.Tables.{Tables}
 use Rattle.reg_tables.specs.Works.{shown}
 use Rattle.reg_service.specs.Acted.{IsOrdered}
 use Rattle.reg_service.specs.Answered.{Answers, LeavesAlone, Shows}
+use Rattle.reg_service.specs.Registries.{IsUpToDate, limits_of, tables_of}
 use Rattle.reg_service.specs.Sequences.{Ran}
+use Rattle.reg_service.specs.declared.registry.Registry.{Registry}
 use Rattle.reg_service_commands.specs.declared.told.OrderTold.{OrderTold}
-use Rattle.reg_http.specs.Trails.{Tail, Trails}
+use Rattle.reg_http.specs.Trails.{Tail, TrailEnd, Trails, tail}
 use Rattle.reg_http.proofs.Exchanged.{EventsGoOn}
-use Rattle.reg_http.proofs.Trails.{trails_both, trails_if, trails_nothing}
+use Rattle.reg_http.proofs.Kept.{still}
+use Rattle.reg_http.proofs.Trails.{trailed_nothing, trails_both, trails_if, trails_nothing}
 use Rattle.reg_model.specs.declared.rule.AdminRefusal.{AdminRefusal}
 use Rattle.reg_policy.specs.declared.event.AdminReply.{AdminReply}
 use Rattle.reg_policy.specs.declared.event.AdminReply.TheVariants.{Done, Id, Text as Told}
@@ -33,7 +36,7 @@ use Rattle.reg_policy.specs.Events.{reply_of}
 use Rattle.reg_cli_pipe.specs.declared.setup.SetupFault.{SetupFault}
 use Rattle.reg_cli_pipe.specs.declared.setup.SetupFault.TheVariants.{Memory, Refused, Unreadable}
 use Rattle.reg_cli_pipe.specs.LineOrders.{IsUnread, line_order}
-use Rattle.reg_cli_pipe.specs.Setups.{HasDone, HasDoneAlone, IsDoneTold, IsObeyed, IsSetUpTraced, MakesOf, Obeys, SetsUpLeaving, is_refused}
+use Rattle.reg_cli_pipe.specs.Setups.{HasDone, HasDoneAlone, IsDoneTold, IsObeyed, IsSetUpTraced, MakesOf, Obeys, ObeysOrder, SetsUp, SetsUpLeaving, SetsUpTraced, is_refused}
 
 abbrev pub RunsBegin : {S : Type 0} → Ghosts S → Type 0
 RunsBegin g = (limits : Limits) (s : model.Registry) (t : Tables _) → Shows s (shown g t) → Ran g limits s t [] [] s t
@@ -64,11 +67,23 @@ module _ {S : Type 0} (g : Ghosts S) (limits : Limits) (c : Command) (old new : 
       (let (does, lined) = answers clean s shows in
       (does, trails_if k0 k1 (or_nothing (option_map string_bytes it.line)) (line_told limits s (Order c) (reply_of it.answer)) lined tells))) is
 
--- where the words alone failed, nothing was done
-pub unread_obeyed : {S : Type 0} (g : Ghosts S) (limits : Limits) (ordered : Option Command) (t : Tables S) (k : Tail) (f : SetupFault) → IsUnread ordered f → IsObeyed g limits ordered t t k k (Err f)
+unread_obeyed : {S : Type 0} (g : Ghosts S) (limits : Limits) (ordered : Option Command) (t : Tables S) (k : Tail) (f : SetupFault) → IsUnread ordered f → IsObeyed g limits ordered t t k k (Err f)
 unread_obeyed g limits ordered t k (Refused r) not = absurd not
 unread_obeyed g limits ordered t k Unreadable none = (none, refl, refl)
 unread_obeyed g limits ordered t k Memory u = (refl, refl)
+
+module _ {S T : Type 0} {g : Ghosts S} {o : Option Command} {told_of : T → Option Text} where
+  -- where the words alone failed, nothing was done
+  pub unread : {r : Registry S} {k : TrailEnd T} (f : SetupFault) → IsUpToDate g r → IsUnread o f → ObeysOrder g o told_of r r k k (Err f)
+  unread {r} {k} f tables not = record {
+    obeyed = unread_obeyed g (limits_of r) o (tables_of r) (tail (told_of k.end.inner) k) f not;
+    told = trailed_nothing (tail (told_of k.end.inner) k);
+    keeps = still tables;
+  }
+
+  -- this was the order
+  pub ordered_as : {p : Option Command} {old new : Registry S} {k0 k1 : TrailEnd T} {result : Result (Unit {0}) SetupFault} → o ≡ p → ObeysOrder g p told_of old new k0 k1 result → ObeysOrder g o told_of old new k0 k1 result
+  ordered_as {old = old} {new = new} {k0 = k0} {k1 = k1} {result = result} same it = subst (λ o. ObeysOrder g o told_of old new k0 k1 result) (sym same) it
 
 module _ {S : Type 0} (g : Ghosts S) (limits : Limits) (s : model.Registry) (entry : Tables S) (lines : List Text) where
   pub begun : (k : Tail) → RunsBegin g → Shows s (shown g entry) → HasDoneAlone g limits s entry lines entry (Trails k k) 0
@@ -192,3 +207,12 @@ module _ {S : Type 0} (g : Ghosts S) (limits : Limits) (s : model.Registry) (ent
   setup_leaving (Err (Refused r)) (count, few, h) = (count, few, done_leaving count (to_refused r ∷ []) h)
   setup_leaving (Err Unreadable) (count, none, h) = (count, none, alone_leaving count h)
   setup_leaving (Err Memory) (count, few, h) = (count, few, alone_leaving count h)
+
+-- whatever its trail is
+pub setup_untraced : {S T : Type 0} {g : Ghosts S} {lines : List Text} {old new : Registry S} {told_of : T → Option Text} {k0 k1 : TrailEnd T} {result : Result (Unit {0}) SetupFault}
+    → SetsUpTraced g lines old new told_of k0 k1 result → SetsUp g lines old new result
+setup_untraced {g = g} {lines = lines} {old = old} {new = new} {told_of = told_of} {k0 = k0} {k1 = k1} {result = result} it = record {
+  done = λ clean s shows.
+      setup_leaving g (limits_of old) s (tables_of old) lines (tables_of new) (Trails (tail (told_of k0.end.inner) k0) (tail (told_of k1.end.inner) k1)) (λ text. Unit {0}) (λ text it. tt) result (it.done clean s shows);
+  keeps = it.keeps;
+}

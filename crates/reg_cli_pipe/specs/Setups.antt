@@ -16,8 +16,11 @@ use Rattle.reg_model.specs.Trail.{told as line_told, trail}
 use Rattle.reg_tables.specs.declared.tables.Tables.{Tables}
 use Rattle.reg_tables.specs.Works.{shown}
 use Rattle.reg_service.specs.Answered.{Answers, LeavesAlone, Shows}
+use Rattle.reg_service.specs.Registries.{limits_of, tables_of}
 use Rattle.reg_service.specs.Sequences.{Ran}
-use Rattle.reg_http.specs.Trails.{Tail, Trails}
+use Rattle.reg_service.specs.declared.registry.Registry.{Registry}
+use Rattle.reg_http.specs.Answering.{GoesOn}
+use Rattle.reg_http.specs.Trails.{IsTrailed, Tail, TrailEnd, Trails, tail}
 use Rattle.reg_cli_pipe.specs.LineOrders.{line_order}
 use Rattle.reg_cli_pipe.specs.declared.setup.SetupFault.{SetupFault}
 use Rattle.reg_cli_pipe.specs.declared.setup.SetupFault.TheVariants.{Memory, Refused, Unreadable}
@@ -57,6 +60,16 @@ IsObeyed g limits ordered old new k0 k1 (Err (Refused r)) =
 IsObeyed g limits ordered old new k0 k1 (Err Unreadable) =
     (ordered ≡ None) × (new ≡ old) × (k1 ≡ k0)
 IsObeyed g limits ordered old new k0 k1 (Err Memory) = (new ≡ old) × (k1 ≡ k0)
+
+-- What was ordered was obeyed, and is told. Whatever is wrong with the store, the trail got a text,
+-- and the registry goes on.
+pub record ObeysOrder {S T : Type 0} (g : Ghosts S) (ordered : Option Command)
+    (told_of : T → Option Text) (old new : Registry S) (k0 k1 : TrailEnd T)
+    (result : Result (Unit {0}) SetupFault) : Type 0 where
+  pub obeyed : IsObeyed g (limits_of old) ordered (tables_of old) (tables_of new)
+      (tail (told_of k0.end.inner) k0) (tail (told_of k1.end.inner) k1) result
+  pub told : IsTrailed (tail (told_of k0.end.inner) k0) (tail (told_of k1.end.inner) k1)
+  pub keeps : GoesOn g old new
 
 module _ {S : Type 0} (g : Ghosts S) (limits : Limits) (s : model.Registry) (entry : Tables S)
     (lines : List Text) (now : Tables S) (Leaves : Text → Type 0) where
@@ -102,3 +115,22 @@ abbrev pub IsSetUpTraced : {S : Type 0} → Ghosts S → Limits → model.Regist
     → Tables S → Tail → Tail → Result (Unit {0}) SetupFault → Type 0
 IsSetUpTraced g limits s entry lines now k0 k1 =
     SetsUpLeaving g limits s entry lines now (Trails k0 k1)
+
+module _ {S : Type 0} (g : Ghosts S) (lines : List Text) (old new : Registry S) where
+  -- the lines were done, as far as the result says, whatever registry was held
+  pub record SetsUp (result : Result (Unit {0}) SetupFault) : Type 0 where
+    pub done : HasCleanDisk (shown g (tables_of new)) → (s : model.Registry)
+        → Shows s (shown g (tables_of old))
+        → IsSetUp g (limits_of old) s (tables_of old) lines (tables_of new) result
+    pub keeps : GoesOn g old new
+
+  -- The same, and their trail is told. Whatever is wrong with the store, the trail got a text in no
+  -- more calls than it had left.
+  pub record SetsUpTraced {T : Type 0} (told_of : T → Option Text) (k0 k1 : TrailEnd T)
+      (result : Result (Unit {0}) SetupFault) : Type 0 where
+    pub done : HasCleanDisk (shown g (tables_of new)) → (s : model.Registry)
+        → Shows s (shown g (tables_of old))
+        → IsSetUpTraced g (limits_of old) s (tables_of old) lines (tables_of new)
+        (tail (told_of k0.end.inner) k0) (tail (told_of k1.end.inner) k1) result
+    pub told : IsTrailed (tail (told_of k0.end.inner) k0) (tail (told_of k1.end.inner) k1)
+    pub keeps : GoesOn g old new

@@ -2,20 +2,14 @@
 
 ghost use Rattle.std.specs.Prelude.{◌≡◌, IfErr, IfOk, Some, false, map};
 ghost use Rattle.std.specs.List.{list_any};
-ghost use Rattle.sqlite.specs.State.{HasCleanDisk};
 ghost use Rattle.reg_model.specs.Events.Event.{Order as ToOrder};
 ghost use Rattle.reg_model.specs.Steps.{IsFit};
 ghost use Rattle.reg_policy.specs.Events.{command_of};
-ghost use Rattle.reg_tables.specs.Works.{shown};
-ghost use Rattle.reg_service.specs.Answered.{Shows};
-ghost use Rattle.reg_service.specs.Registries.{IsUpToDate, limits_of, tables_of};
-ghost use Rattle.reg_http.specs.Answering.{GoesOn};
-ghost use Rattle.reg_http.specs.Trails.{IsTrailed, tail};
+ghost use Rattle.reg_service.specs.Registries.{IsUpToDate};
 ghost use Rattle.reg_cli_words.specs.Dashes.{is_dashed};
-ghost use Rattle.reg_cli_words.specs.Orders.{words_of};
-ghost use Rattle.reg_cli_pipe.specs.LineOrders.{IsUnread, line_order, order_in, token_order, words_in};
+ghost use Rattle.reg_cli_pipe.specs.LineOrders.{IsUnread, line_order, order_in, words_in};
 ghost use Rattle.reg_cli_pipe.specs.Lines.{lines_in};
-ghost use Rattle.reg_cli_pipe.specs.Setups.{IsObeyed, IsSetUp, IsSetUpTraced, MakesOf};
+ghost use Rattle.reg_cli_pipe.specs.Setups.{MakesOf, ObeysOrder, SetsUp, SetsUpTraced};
 
 use clap::error::ErrorKind;
 use clap::{ArgMatches, Error};
@@ -27,7 +21,7 @@ use reg_policy::{AdminCommand, AdminReply};
 use reg_service::laws::history_law;
 use reg_service::{OrderTold, Registry};
 use sqlite::Alter;
-use std::alloc::{AllocError, AllocFailed, Global};
+use std::alloc::{AllocError, Global};
 use std::io::{self, Write};
 
 /// Why a setup file was not run to its end. The earlier lines were run.
@@ -39,28 +33,6 @@ pub enum SetupFault {
     Unreadable,
     /// Out of memory.
     Memory,
-}
-
-impl From<AllocError> for SetupFault {
-    ghost use Rattle.std.specs.Prelude.{◌≡◌};
-    ghost use Rattle.reg_cli_pipe.specs.declared.setup.SetupFault.TheVariants.{Memory};
-
-    ghost from_gives = { λ _ f. f ≡ Memory };
-
-    fn from(_: AllocError) -> SetupFault {
-        SetupFault::Memory
-    }
-}
-
-impl<T: Drop> From<AllocFailed<T>> for SetupFault {
-    ghost use Rattle.std.specs.Prelude.{◌≡◌};
-    ghost use Rattle.reg_cli_pipe.specs.declared.setup.SetupFault.TheVariants.{Memory};
-
-    ghost from_gives = { λ _ f. f ≡ Memory };
-
-    fn from(_: AllocFailed<T>) -> SetupFault {
-        SetupFault::Memory
-    }
 }
 
 impl From<Error> for SetupFault {
@@ -75,6 +47,17 @@ impl From<Error> for SetupFault {
             ErrorKind::OutOfMemory => SetupFault::Memory,
             _ => SetupFault::Unreadable,
         }
+    }
+}
+
+impl From<AllocError> for SetupFault {
+    ghost use Rattle.std.specs.Prelude.{◌≡◌};
+    ghost use Rattle.reg_cli_pipe.specs.declared.setup.SetupFault.TheVariants.{Memory};
+
+    ghost from_gives = { λ _ f. f ≡ Memory };
+
+    fn from(_: AllocError) -> SetupFault {
+        SetupFault::Memory
     }
 }
 
@@ -126,90 +109,53 @@ fn setup_result(reply: Result<AdminReply, AdminRefusal>) -> Result<(), SetupFaul
 fn obey<T: Write, S: Alter>(
     alloc: Global,
     registry: &mut Registry<S>,
-    trail: &mut Trail<T>,
     command: &AdminCommand<'_>,
+    trail: &mut Trail<T>,
 ) -> Result<(), SetupFault>
     requires tables { IsUpToDate S.Store registry.old }
     requires fit { IsFit (ToOrder (command_of command.now)) }
-    ensures obeyed { IsObeyed S.Store (limits_of registry.old) (Some (command_of command.now))
-        (tables_of registry.old) (tables_of registry.new)
-        (tail (T.contents trail.old.end.inner) trail.old)
-        (tail (T.contents trail.new.end.inner) trail.new) result }
-    ensures told { IsTrailed (tail (T.contents trail.old.end.inner) trail.old)
-        (tail (T.contents trail.new.end.inner) trail.new) }
-    ensures keeps { GoesOn S.Store registry.old registry.new }
+    ensures { ObeysOrder S.Store (Some (command_of command.now)) T.contents
+        registry.old registry.new trail.old trail.new result }
 {
     let OrderTold { answer, line } = registry.order(alloc, command, trail.is_open());
     trail.tell(line);
     setup_result(answer)
 }
 
-/// Adds a token, whose digest a setup file must give.
-#[tactic(auto, using(reg_http::proofs::Trails::trailed_nothing))]
-fn add_token<T: Write, S: Alter>(
-    alloc: Global,
-    registry: &mut Registry<S>,
-    trail: &mut Trail<T>,
-    token: &NewToken<'_>,
-) -> Result<(), SetupFault>
-    requires tables { IsUpToDate S.Store registry.old }
-    ensures obeyed { IsObeyed S.Store (limits_of registry.old) (token_order (words_of token.now))
-        (tables_of registry.old) (tables_of registry.new)
-        (tail (T.contents trail.old.end.inner) trail.old)
-        (tail (T.contents trail.new.end.inner) trail.new) result }
-    ensures told { IsTrailed (tail (T.contents trail.old.end.inner) trail.old)
-        (tail (T.contents trail.new.end.inner) trail.new) }
-    ensures keeps { GoesOn S.Store registry.old registry.new }
-{
-    match &token.source {
-        TokenSource::Told(digest) => obey(alloc, registry, trail, &token.command(digest)),
-        TokenSource::Random(_) => Err(SetupFault::Unreadable),
-    }
-}
-
-/// Runs the parsed command.
-#[tactic(auto, using(reg_http::proofs::Trails::trailed_nothing))]
+/// Runs the parsed command. To add a token, a setup file must give its digest.
 fn obey_order<T: Write, S: Alter>(
     alloc: Global,
     registry: &mut Registry<S>,
     trail: &mut Trail<T>,
     matches: &ArgMatches<'_>,
 ) -> Result<(), SetupFault>
-    requires tables { IsUpToDate S.Store registry.old }
-    ensures obeyed { IsObeyed S.Store (limits_of registry.old) (order_in matches.now)
-        (tables_of registry.old) (tables_of registry.new)
-        (tail (T.contents trail.old.end.inner) trail.old)
-        (tail (T.contents trail.new.end.inner) trail.new) result }
-    ensures told { IsTrailed (tail (T.contents trail.old.end.inner) trail.old)
-        (tail (T.contents trail.new.end.inner) trail.new) }
-    ensures keeps { GoesOn S.Store registry.old registry.new }
+    requires { IsUpToDate S.Store registry.old }
+    ensures { ObeysOrder S.Store (order_in matches.now) T.contents registry.old registry.new
+        trail.old trail.new result }
 {
     let Some((name, inner)) = matches.subcommand() else {
         return Err(SetupFault::Unreadable);
     };
     match read_order(alloc, name, inner)? {
-        Some(Order::AddToken(token)) => add_token(alloc, registry, trail, &token),
-        Some(Order::Other(command)) => obey(alloc, registry, trail, &command),
+        Some(Order::AddToken(token)) => match &token.source {
+            TokenSource::Told(digest) => obey(alloc, registry, &token.command(digest), trail),
+            TokenSource::Random(_) => Err(SetupFault::Unreadable),
+        },
+        Some(Order::Other(command)) => obey(alloc, registry, &command, trail),
         None => Err(SetupFault::Unreadable),
     }
 }
 
 /// Runs the command of one line.
-#[tactic(auto, using(reg_http::proofs::Trails::trailed_nothing))]
 fn obey_line<T: Write, S: Alter>(
     alloc: Global,
     registry: &mut Registry<S>,
     trail: &mut Trail<T>,
     line: &str,
 ) -> Result<(), SetupFault>
-    requires tables { IsUpToDate S.Store registry.old }
-    ensures obeyed { IsObeyed S.Store (limits_of registry.old) (line_order line.now)
-        (tables_of registry.old) (tables_of registry.new)
-        (tail (T.contents trail.old.end.inner) trail.old)
-        (tail (T.contents trail.new.end.inner) trail.new) result }
-    ensures told { IsTrailed (tail (T.contents trail.old.end.inner) trail.old)
-        (tail (T.contents trail.new.end.inner) trail.new) }
-    ensures keeps { GoesOn S.Store registry.old registry.new }
+    requires { IsUpToDate S.Store registry.old }
+    ensures { ObeysOrder S.Store (line_order line.now) T.contents registry.old registry.new
+        trail.old trail.new result }
 {
     let words = split_words(alloc, line)?;
     let matches = read_line(alloc, &words)?;
@@ -224,18 +170,13 @@ pub fn run_setup<S: Alter>(
     setup: &str,
 ) -> Result<(), SetupFault>
     requires tables { IsUpToDate S.Store registry.old }
-    ensures done { HasCleanDisk (shown S.Store (tables_of registry.new)) → (s : _)
-        → Shows s (shown S.Store (tables_of registry.old))
-        → IsSetUp S.Store (limits_of registry.old) s (tables_of registry.old)
-        (lines_in setup.now) (tables_of registry.new) result }
-    ensures keeps { GoesOn S.Store registry.old registry.new }
+    ensures { SetsUp S.Store (lines_in setup.now) registry.old registry.new result }
 {
     let mut silent = Trail::new(io::sink(), 0);
     setup_traced(alloc, registry, setup, &mut silent)
 }
 
 /// Does as `run_setup`, and writes a line for each change, after its commit.
-#[tactic(auto, using(reg_http::proofs::Trails::trailed_nothing))]
 pub fn setup_traced<T: Write, S: Alter>(
     alloc: Global,
     registry: &mut Registry<S>,
@@ -243,15 +184,8 @@ pub fn setup_traced<T: Write, S: Alter>(
     trail: &mut Trail<T>,
 ) -> Result<(), SetupFault>
     requires tables { IsUpToDate S.Store registry.old }
-    ensures done { HasCleanDisk (shown S.Store (tables_of registry.new)) → (s : _)
-        → Shows s (shown S.Store (tables_of registry.old))
-        → IsSetUpTraced S.Store (limits_of registry.old) s (tables_of registry.old)
-        (lines_in setup.now) (tables_of registry.new)
-        (tail (T.contents trail.old.end.inner) trail.old)
-        (tail (T.contents trail.new.end.inner) trail.new) result }
-    ensures told { IsTrailed (tail (T.contents trail.old.end.inner) trail.old)
-        (tail (T.contents trail.new.end.inner) trail.new) }
-    ensures keeps { GoesOn S.Store registry.old registry.new }
+    ensures { SetsUpTraced S.Store (lines_in setup.now) registry.old registry.new
+        T.contents trail.old trail.new result }
 {
     history_law::<S>();
     telling_law();

@@ -13,13 +13,17 @@ use Rattle.reg_cli_words.specs.declared.parameters.Shape.TheVariants.{Program, S
 use Rattle.reg_cli_words.specs.declared.parameters.Words.{Words}
 use Rattle.reg_cli_words.specs.declared.parameters.Words.TheVariants.{Nothing, Login, Crate, CrateAndLogin, Name, Id}
 
+-- an argument with a value
+abbrev pub value_rule : Text → Rule
+value_rule name = record (new_rule name) { action = Some Set; value_names = 1 }
+
 -- a word that has to stand
 abbrev pub word_rule : Text → Rule
-word_rule name = record (new_rule name) { required = true; action = Some Set; value_names = 1 }
+word_rule name = record (value_rule name) { required = true }
 
 -- an option with a value, which may be left out
 abbrev pub option_rule : Text → Rule
-option_rule name = record (new_rule name) { long = Some name; action = Some Set; value_names = 1 }
+option_rule name = record (value_rule name) { long = Some name }
 
 -- an option with a value, which has to stand
 abbrev pub needed_rule : Text → Rule

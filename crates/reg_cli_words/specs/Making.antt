@@ -1,11 +1,12 @@
 -- What the functions that make a command's rules add to it.
-use Rattle.std.specs.Prelude.{◌≡◌, [], false, Result, IfOk}
+use Rattle.std.specs.Prelude.{◌≡◌, [], false, List, Result, IfOk}
 use Rattle.std.specs.declared.alloc.AllocError.{AllocError}
 use Rattle.clap.specs.Words.{App, Rule, Shape as Level, app_of, rule_of}
 use Rattle.clap.specs.declared.builder.arg.Arg.{Arg}
 use Rattle.clap.specs.declared.builder.command.Command.{Command}
 use Rattle.clap.specs.declared.builder.command.Command.TheViews.{out-Command as fields_of}
-use Rattle.reg_cli_words.specs.Grammar.{level}
+use Rattle.reg_model.specs.Registry.{Text}
+use Rattle.reg_cli_words.specs.Grammar.{level, named_level}
 use Rattle.reg_cli_words.specs.declared.parameters.Entry.{Entry}
 use Rattle.reg_cli_words.specs.declared.parameters.Shape.{Shape}
 
@@ -29,3 +30,7 @@ HasLevel s c = HasRules (record { top = s; subs = [] }) c
 
 abbrev pub entry_level : Shape → Entry → Level
 entry_level shape entry = level shape entry.name.now entry.words
+
+-- a subcommand of this name is made by these rules
+abbrev pub Makes : Text → List Rule → Result Command AllocError → Type 0
+Makes name rules result = IfOk result (HasLevel (named_level name rules))

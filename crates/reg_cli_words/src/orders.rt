@@ -48,6 +48,9 @@ pub enum Order<'a> {
     Other(AdminCommand<'a>),
 }
 
+/// What a subcommand orders, if its arguments are good; or out of memory.
+pub type OrderRead<'a> = std::result::Result<Option<Order<'a>>, AllocError>;
+
 /// The comma-separated parts of a list; none if no list is given.
 fn parts<'a>(alloc: Global, list: Option<&'a str>) -> Result<Vec<&'a str>, AllocError>
     ensures { IfOk result (λ parts. map (λ p. p.now) parts.items
@@ -138,11 +141,7 @@ fn on_pair<'a>(name: &str, words: &ArgMatches<'a>) -> Option<AdminCommand<'a>>
 }
 
 /// The command that this subcommand's arguments give; none if they are bad, or give none.
-pub fn read_order<'a>(
-    alloc: Global,
-    name: &str,
-    words: &ArgMatches<'a>,
-) -> Result<Option<Order<'a>>, AllocError>
+pub fn read_order<'a>(alloc: Global, name: &str, words: &ArgMatches<'a>) -> OrderRead<'a>
     ensures orders { IfOk result (λ o. option_map ordered_of o
         ≡ order_from name.now (given_by words.now)) }
     ensures fit { IfOk result (λ o. IfSome o IsFitOrder) }

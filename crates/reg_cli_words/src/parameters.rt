@@ -2,7 +2,7 @@
 
 ghost use Rattle.std.specs.Prelude.{IfOk, codes, map};
 ghost use Rattle.clap.specs.Words.{new_app, with_rule};
-ghost use Rattle.reg_cli_words.specs.Grammar.{file_rule, flag_rule, level, option_rule, with_levels, with_rules, word_rule, word_rules};
+ghost use Rattle.reg_cli_words.specs.Grammar.{file_rule, flag_rule, option_rule, value_rule, with_levels, with_rules, word_rule, word_rules};
 ghost use Rattle.reg_cli_words.specs.Making.{Adds, HasLevel, HasRule, HasRules, entry_level};
 
 use clap::{Arg, ArgAction, Command};
@@ -36,26 +36,31 @@ pub(crate) struct Entry {
     pub(crate) words: Words,
 }
 
+/// A command that was made or added to, or out of memory.
+pub(crate) type MadeCommand<'a> = std::result::Result<Command<'a>, AllocError>;
+
+/// An argument with a value.
+fn valued<'a>(alloc: Global, name: &'a str, value: &'a str, help: &'a str) -> Arg<'a>
+    ensures { HasRule (value_rule name.entry.now) result }
+{
+    Arg::new(alloc, name)
+        .action(ArgAction::Set)
+        .value_name(value)
+        .help(help)
+}
+
 /// A required argument.
 pub(crate) fn word<'a>(alloc: Global, name: &'a str, help: &'a str) -> Arg<'a>
     ensures { HasRule (word_rule name.entry.now) result }
 {
-    Arg::new(alloc, name)
-        .required(true)
-        .action(ArgAction::Set)
-        .value_name(name)
-        .help(help)
+    valued(alloc, name, name, help).required(true)
 }
 
 /// An option with a value; it may be omitted.
 pub(crate) fn option<'a>(alloc: Global, name: &'a str, value: &'a str, help: &'a str) -> Arg<'a>
     ensures { HasRule (option_rule name.entry.now) result }
 {
-    Arg::new(alloc, name)
-        .long(name)
-        .action(ArgAction::Set)
-        .value_name(value)
-        .help(help)
+    valued(alloc, name, value, help).long(name)
 }
 
 /// An option without a value.
@@ -69,7 +74,7 @@ pub(crate) fn flag<'a>(alloc: Global, name: &'a str, help: &'a str) -> Arg<'a>
 }
 
 /// Adds the option that names the registry's file.
-pub(crate) fn with_file<'a>(alloc: Global, command: Command<'a>) -> Result<Command<'a>, AllocError>
+pub(crate) fn with_file<'a>(alloc: Global, command: Command<'a>) -> MadeCommand<'a>
     ensures { Adds (λ a. with_rule a file_rule) command.entry result }
 {
     command.arg(option(alloc, "db", "FILE", "The registry's file").required(true))
@@ -88,11 +93,7 @@ fn named<'a>(alloc: Global) -> Arg<'a>
 }
 
 /// The subcommand with its arguments.
-fn with_words<'a>(
-    alloc: Global,
-    words: Words,
-    command: Command<'a>,
-) -> Result<Command<'a>, AllocError>
+fn with_words<'a>(alloc: Global, words: Words, command: Command<'a>) -> MadeCommand<'a>
     ensures { Adds (λ a. with_rules a (word_rules words)) command.entry result }
 {
     match words {
@@ -118,11 +119,7 @@ pub(crate) fn described<'a>(
 }
 
 /// The subcommand of an entry.
-pub(crate) fn subcommand<'a>(
-    alloc: Global,
-    shape: Shape,
-    entry: &Entry,
-) -> Result<Command<'a>, AllocError>
+pub(crate) fn subcommand<'a>(alloc: Global, shape: Shape, entry: &Entry) -> MadeCommand<'a>
     ensures { IfOk result (HasLevel (entry_level shape entry.now)) }
 {
     let command = described(alloc, entry.name, entry.about, entry.example);
@@ -139,7 +136,7 @@ pub(crate) fn with_entries<'a>(
     shape: Shape,
     entries: &[Entry],
     mut command: Command<'a>,
-) -> Result<Command<'a>, AllocError>
+) -> MadeCommand<'a>
     ensures { Adds (λ a. with_levels a (map (entry_level shape) entries.now)) command.entry result }
 {
     for entry in entries {

@@ -9,10 +9,10 @@ ghost use Rattle.reg_cli_words.specs.Grammar.{plain_levels, report_words, with_l
 ghost use Rattle.reg_cli_words.specs.Making.{Adds};
 ghost use Rattle.reg_cli_words.specs.Orders.{given_by, report_command};
 
-use crate::parameters::{Entry, Shape, Words, with_entries};
+use crate::parameters::{Entry, MadeCommand, Shape, Words, with_entries};
 use clap::{ArgMatches, Command};
 use reg_policy::AdminCommand;
-use std::alloc::{AllocError, Global};
+use std::alloc::Global;
 
 const REPORTS: [Entry; 4] = [
     Entry {
@@ -43,10 +43,7 @@ const REPORTS: [Entry; 4] = [
 ];
 
 /// Adds the subcommands that only report.
-pub(crate) fn with_reports<'a>(
-    alloc: Global,
-    command: Command<'a>,
-) -> Result<Command<'a>, AllocError>
+pub(crate) fn with_reports<'a>(alloc: Global, command: Command<'a>) -> MadeCommand<'a>
     ensures { Adds (λ a. with_levels a (plain_levels Program report_words)) command.entry result }
 {
     with_entries(alloc, Shape::Program, &REPORTS, command)

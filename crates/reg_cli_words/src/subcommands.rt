@@ -5,7 +5,7 @@ ghost use Rattle.reg_cli_words.specs.Grammar.{level, option_rule, order_levels, 
 ghost use Rattle.reg_cli_words.specs.Making.{Adds, HasLevel};
 ghost use Rattle.reg_cli_words.specs.declared.parameters.Words.TheVariants.{Login};
 
-use crate::parameters::{Entry, Shape, Words, option, subcommand, with_entries};
+use crate::parameters::{Entry, MadeCommand, Shape, Words, option, subcommand, with_entries};
 use clap::Command;
 use std::alloc::{AllocError, Global};
 
@@ -90,7 +90,7 @@ const PLAIN: [Entry; 10] = [
 ];
 
 /// `user-add`.
-fn user_add<'a>(alloc: Global, shape: Shape) -> Result<Command<'a>, AllocError>
+fn user_add<'a>(alloc: Global, shape: Shape) -> MadeCommand<'a>
     ensures { IfOk result (HasLevel (with_options (level shape (codes "user-add") Login)
         (option_rule (codes "name") ∷ []))) }
 {
@@ -99,7 +99,7 @@ fn user_add<'a>(alloc: Global, shape: Shape) -> Result<Command<'a>, AllocError>
 }
 
 /// The options of `token-add` that say what it may do.
-fn with_scopes<'a>(alloc: Global, command: Command<'a>) -> Result<Command<'a>, AllocError>
+fn with_scopes<'a>(alloc: Global, command: Command<'a>) -> MadeCommand<'a>
     ensures { Adds (λ a. with_rules a scope_rules) command.entry result }
 {
     let endpoints =
@@ -113,11 +113,7 @@ fn with_scopes<'a>(alloc: Global, command: Command<'a>) -> Result<Command<'a>, A
 }
 
 /// The options of `token-add` that say where its text or digest comes from.
-fn with_source<'a>(
-    alloc: Global,
-    shape: Shape,
-    command: Command<'a>,
-) -> Result<Command<'a>, AllocError>
+fn with_source<'a>(alloc: Global, shape: Shape, command: Command<'a>) -> MadeCommand<'a>
     ensures { Adds (λ a. with_rules a (source_rules shape)) command.entry result }
 {
     let random = "The file whose first 32 bytes make the token's text. Without it: /dev/urandom";
@@ -132,7 +128,7 @@ fn with_source<'a>(
 }
 
 /// `token-add`.
-fn token_add<'a>(alloc: Global, shape: Shape) -> Result<Command<'a>, AllocError>
+fn token_add<'a>(alloc: Global, shape: Shape) -> MadeCommand<'a>
     ensures { IfOk result (HasLevel (with_options (level shape (codes "token-add") Login)
         (scope_rules ++ source_rules shape))) }
 {
@@ -141,11 +137,7 @@ fn token_add<'a>(alloc: Global, shape: Shape) -> Result<Command<'a>, AllocError>
 }
 
 /// Adds the subcommands that a setup file may also have: all that change a registry.
-pub(crate) fn with_orders<'a>(
-    alloc: Global,
-    shape: Shape,
-    command: Command<'a>,
-) -> Result<Command<'a>, AllocError>
+pub(crate) fn with_orders<'a>(alloc: Global, shape: Shape, command: Command<'a>) -> MadeCommand<'a>
     ensures { Adds (λ a. with_levels a (order_levels shape)) command.entry result }
 {
     let command = command.subcommand(user_add(alloc, shape)?)?;

@@ -4,9 +4,9 @@ ghost use Rattle.std.specs.Prelude.{IfErr, IfOk, [], ◌≡◌, ◌∷◌, ◌++
 ghost use Rattle.clap.specs.Words.{kind_of, subcommand_of, subcommand_rows_of, takes};
 ghost use Rattle.clap.specs.declared.error.kind.ErrorKind.TheVariants.{OutOfMemory};
 ghost use Rattle.reg_cli_words.specs.Grammar.{IsJudged, file_rule, flag_rule, named_level, needed_rule, number_rules, option_rule, other_levels, place_rules, program_app, program_top, service_levels, setup_app, setup_top, with_levels, with_rules, word_rule};
-ghost use Rattle.reg_cli_words.specs.Making.{Adds, HasLevel, HasRules};
+ghost use Rattle.reg_cli_words.specs.Making.{Adds, HasLevel, HasRules, Makes};
 
-use crate::parameters::{Shape, described, flag, option, with_file, word};
+use crate::parameters::{MadeCommand, Shape, described, flag, option, with_file, word};
 use crate::reports::with_reports;
 use crate::subcommands::with_orders;
 use crate::version::VERSION;
@@ -27,9 +27,8 @@ fn line_words<'a>(alloc: Global) -> Command<'a>
 }
 
 /// `init`.
-fn init_words<'a>(alloc: Global) -> Result<Command<'a>, AllocError>
-    ensures { IfOk result (HasLevel (named_level (codes "init")
-        (needed_rule (codes "base") ∷ file_rule ∷ []))) }
+fn init_words<'a>(alloc: Global) -> MadeCommand<'a>
+    ensures { Makes (codes "init") (needed_rule (codes "base") ∷ file_rule ∷ []) result }
 {
     let base = option(
         alloc,
@@ -47,9 +46,8 @@ fn init_words<'a>(alloc: Global) -> Result<Command<'a>, AllocError>
 }
 
 /// `export`.
-fn export_words<'a>(alloc: Global) -> Result<Command<'a>, AllocError>
-    ensures { IfOk result (HasLevel (named_level (codes "export")
-        (word_rule (codes "DIR") ∷ file_rule ∷ []))) }
+fn export_words<'a>(alloc: Global) -> MadeCommand<'a>
+    ensures { Makes (codes "export") (word_rule (codes "DIR") ∷ file_rule ∷ []) result }
 {
     let command = described(
         alloc,
@@ -62,8 +60,8 @@ fn export_words<'a>(alloc: Global) -> Result<Command<'a>, AllocError>
 }
 
 /// `audit`.
-fn audit_words<'a>(alloc: Global) -> Result<Command<'a>, AllocError>
-    ensures { IfOk result (HasLevel (named_level (codes "audit") (file_rule ∷ []))) }
+fn audit_words<'a>(alloc: Global) -> MadeCommand<'a>
+    ensures { Makes (codes "audit") (file_rule ∷ []) result }
 {
     let command = described(
         alloc,
@@ -76,7 +74,7 @@ fn audit_words<'a>(alloc: Global) -> Result<Command<'a>, AllocError>
 }
 
 /// Where `pipe` finds its registry.
-fn with_place<'a>(alloc: Global, command: Command<'a>) -> Result<Command<'a>, AllocError>
+fn with_place<'a>(alloc: Global, command: Command<'a>) -> MadeCommand<'a>
     ensures { Adds (λ a. with_rules a place_rules) command.entry result }
 {
     let file = option(alloc, "db", "FILE", "The registry's file");
@@ -88,9 +86,9 @@ fn with_place<'a>(alloc: Global, command: Command<'a>) -> Result<Command<'a>, Al
 }
 
 /// `pipe`.
-fn pipe_words<'a>(alloc: Global) -> Result<Command<'a>, AllocError>
-    ensures { IfOk result (HasLevel (named_level (codes "pipe") (place_rules
-        ++ option_rule (codes "base") ∷ option_rule (codes "setup") ∷ []))) }
+fn pipe_words<'a>(alloc: Global) -> MadeCommand<'a>
+    ensures { Makes (codes "pipe")
+        (place_rules ++ option_rule (codes "base") ∷ option_rule (codes "setup") ∷ []) result }
 {
     let base = option(
         alloc,
@@ -115,7 +113,7 @@ fn pipe_words<'a>(alloc: Global) -> Result<Command<'a>, AllocError>
 }
 
 /// The numbers of `serve`.
-fn with_numbers<'a>(alloc: Global, command: Command<'a>) -> Result<Command<'a>, AllocError>
+fn with_numbers<'a>(alloc: Global, command: Command<'a>) -> MadeCommand<'a>
     ensures { Adds (λ a. with_rules a number_rules) command.entry result }
 {
     let port = option(alloc, "port", "P", "The port of 127.0.0.1 to listen on").required(true);
@@ -138,9 +136,9 @@ fn with_numbers<'a>(alloc: Global, command: Command<'a>) -> Result<Command<'a>, 
 }
 
 /// `serve`.
-fn serve_words<'a>(alloc: Global) -> Result<Command<'a>, AllocError>
-    ensures { IfOk result (HasLevel (named_level (codes "serve")
-        (number_rules ++ flag_rule (codes "trail") ∷ file_rule ∷ []))) }
+fn serve_words<'a>(alloc: Global) -> MadeCommand<'a>
+    ensures { Makes (codes "serve")
+        (number_rules ++ flag_rule (codes "trail") ∷ file_rule ∷ []) result }
 {
     let command = described(
         alloc,
@@ -154,9 +152,8 @@ fn serve_words<'a>(alloc: Global) -> Result<Command<'a>, AllocError>
 }
 
 /// `explain`.
-fn explain_words<'a>(alloc: Global) -> Result<Command<'a>, AllocError>
-    ensures { IfOk result (HasLevel (named_level (codes "explain")
-        (word_rule (codes "CODE") ∷ []))) }
+fn explain_words<'a>(alloc: Global) -> MadeCommand<'a>
+    ensures { Makes (codes "explain") (word_rule (codes "CODE") ∷ []) result }
 {
     let command = described(
         alloc,
@@ -169,7 +166,7 @@ fn explain_words<'a>(alloc: Global) -> Result<Command<'a>, AllocError>
 }
 
 /// The subcommands that make and serve a registry.
-fn with_services<'a>(alloc: Global, command: Command<'a>) -> Result<Command<'a>, AllocError>
+fn with_services<'a>(alloc: Global, command: Command<'a>) -> MadeCommand<'a>
     ensures { Adds (λ a. with_levels a service_levels) command.entry result }
 {
     command
@@ -179,7 +176,7 @@ fn with_services<'a>(alloc: Global, command: Command<'a>) -> Result<Command<'a>,
 }
 
 /// The subcommands that look at a registry's file, or need none.
-fn with_others<'a>(alloc: Global, command: Command<'a>) -> Result<Command<'a>, AllocError>
+fn with_others<'a>(alloc: Global, command: Command<'a>) -> MadeCommand<'a>
     ensures { Adds (λ a. with_levels a other_levels) command.entry result }
 {
     command
@@ -205,7 +202,7 @@ fn program<'a>(alloc: Global) -> Command<'a>
         .arg_required_else_help(true)
 }
 
-fn command<'a>(alloc: Global) -> Result<Command<'a>, AllocError>
+fn command<'a>(alloc: Global) -> MadeCommand<'a>
     ensures { IfOk result (HasRules program_app) }
 {
     let command = with_others(alloc, with_services(alloc, program(alloc))?)?;

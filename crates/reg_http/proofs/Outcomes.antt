@@ -37,7 +37,7 @@ use Rattle.reg_service.specs.Streamed.{AsksForFile, IsFileAnswer, StreamsTo}
 use Rattle.reg_service_index.specs.declared.fault.IndexFault.{IndexFault}
 use Rattle.reg_service_index.specs.declared.fault.IndexFault.TheVariants.{Spent, Store, Write}
 use Rattle.reg_tables.specs.declared.tables.Tables.{Tables}
-use Rattle.reg_http.specs.Answering.{Replies, Streams, fault_text}
+use Rattle.reg_http.specs.Answering.{Replies, Streams, fault_reply}
 use Rattle.reg_http.specs.Exchanges.{IsOfFile, Outcome}
 use Rattle.reg_http.specs.Exchanges.Outcome.{Answered, NoMethod, NoRoom, NoRoute, Unread}
 use Rattle.reg_http.specs.Trails.{Tail, Trails}
@@ -175,7 +175,7 @@ module _ {S : Type 0} (g : Ghosts S) (limits : Limits) (s : model.Registry) (f :
 
 -- the request is not routed
 pub unrouted : {S : Type 0} (g : Ghosts S) (limits : Limits) (s : model.Registry) (f : Facts) (token : Option Text) (there : Routing) (close : Bool) (now : Tables S) (k : Tail) (w0 w1 : Option Text) (r : Result (Unit {0}) StreamFault)
-    → (fault : RouteFault) → IsRouted token there (Err fault) → Sends (fault_text fault close (is_head_only f)) w0 w1 r → Replies g limits f there close s now now k k w0 w1 r
+    → (fault : RouteFault) → IsRouted token there (Err fault) → Sends (reply_text (fault_reply fault) close (is_head_only f)) w0 w1 r → Replies g limits f there close s now now k k w0 w1 r
 unrouted g limits s f token there close now k w0 w1 r route.NoRoute is sends = record { outcome = NoRoute; leads = is; moves = (refl, refl); sends = streams_of NoRoute (refusal_text rule.H6 None close (is_head_only f)) w0 w1 r sends }
 unrouted g limits s f token there close now k w0 w1 r (route.Method m) is sends = record { outcome = NoMethod m; leads = is; moves = (refl, refl); sends = streams_of (NoMethod m) (refusal_text rule.H7 (Some m) close (is_head_only f)) w0 w1 r sends }
 unrouted g limits s f token there close now k w0 w1 r route.Memory is sends = record { outcome = NoRoom; leads = tt; moves = (refl, refl); sends = streams_of NoRoom (refusal_text rule.S1 None close (is_head_only f)) w0 w1 r sends }

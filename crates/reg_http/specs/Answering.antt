@@ -1,9 +1,10 @@
 -- One request is answered.
-use Rattle.std.specs.Prelude.{◌≡◌, ◌<◌, ◌++◌, Bool, length, None, Option, Result, Err, Some}
+use Rattle.std.specs.Prelude.{◌≡◌, ◌<◌, ◌++◌, ℕ, Bool, length, OnOk, Option, Result, Err}
 use Rattle.std.specs.Io.KnownBytes.{Appends}
 use Rattle.std.specs.Option.{option_map}
 use Rattle.sqlite.specs.State.{HasCleanDisk}
 use Rattle.sqlite_trees.specs.declared.store.Store.{Ghosts}
+use Rattle.reg_body.specs.Counting.{CountedEnd}
 use Rattle.reg_body.specs.declared.limits.Limits.{Limits}
 use Rattle.reg_http_read.specs.Heads.{Facts}
 use Rattle.reg_model.specs.declared.rule.Rule.TheVariants as rule
@@ -11,7 +12,7 @@ use Rattle.reg_model.specs.Registry as model
 use Rattle.reg_model.specs.Steps.{IsFit}
 use Rattle.reg_model.specs.Registry.{Text}
 use Rattle.reg_model.specs.Trail.{told}
-use Rattle.reg_http_read.specs.Turns.{Sends}
+use Rattle.reg_http_read.specs.Turns.{Sends, SpendsTurns, writes_of}
 use Rattle.reg_http_read.specs.declared.fault.StreamFault.{StreamFault}
 use Rattle.reg_http_read.specs.declared.fault.StreamFault.TheVariants.{StoreFault}
 use Rattle.reg_api_requests.specs.Requests.{request_from}
@@ -25,12 +26,13 @@ use Rattle.reg_tables.specs.declared.tables.Tables.{Tables}
 use Rattle.reg_tables.specs.Works.{shown}
 use Rattle.reg_http.specs.Exchanges.{IsOfFile, IsOutcome, Outcome, outcome_text}
 use Rattle.reg_http.specs.Exchanges.Outcome.{Answered}
-use Rattle.reg_http.specs.Trails.{Tail, Trails}
-use Rattle.reg_http_routes.specs.Routing.{Routing}
+use Rattle.reg_http.specs.Trails.{IsTrailed, Tail, TrailEnd, Trails, tail}
+use Rattle.reg_http_routes.specs.Routing.{Routing, routing_of}
 use Rattle.reg_http_routes.specs.Routing.Routing.{Wants as to_wants}
 use Rattle.reg_http_routes.specs.declared.fault.RouteFault.{RouteFault}
 use Rattle.reg_http_routes.specs.declared.fault.RouteFault.TheVariants.{Memory, Method, NoRoute}
-use Rattle.reg_api_replies.specs.Texts.{refusal_text}
+use Rattle.reg_api_replies.specs.declared.reply.Reply.{Reply}
+use Rattle.reg_api_replies.specs.declared.reply.Reply.TheVariants.{Denied, Method as to_methods}
 
 -- the tables and the trail move with the outcome: an event that is fit is answered by them, and
 -- told, and else they stay
@@ -79,14 +81,35 @@ IsRequestReplied g limits request close old new k0 k1 w0 w1 r =
     (f : Facts) → f.token ≡ option_map (λ t. t.now) request.token
     → IsReplied g limits f (to_wants (wants_of request.call)) close old new k0 k1 w0 w1 r
 
+-- the message is routed, and replied so
+abbrev pub IsMessageReplied : {S : Type 0} → Ghosts S → Limits → Facts → Text → Bool → Tables S
+    → Tables S → Tail → Tail → Option Text → Option Text → Result (Unit {0}) StreamFault → Type 0
+IsMessageReplied g limits f body close old new k0 k1 w0 w1 r =
+    IsReplied g limits f (routing_of f body) close old new k0 k1 w0 w1 r
+
 -- the registry goes on: its tables are ours, and its limits the same
 pub record GoesOn {S : Type 0} (g : Ghosts S) (old new : Registry S) : Type 0 where
   pub tables : IsUpToDate g new
   pub clean : HasCleanDisk (shown g (tables_of new)) → HasCleanDisk (shown g (tables_of old))
   pub limits : limits_of new ≡ limits_of old
 
--- what is sent where there is no route, no such method, or no room to route the request
-abbrev pub fault_text : RouteFault → Bool → Bool → Text
-fault_text NoRoute close head_only = refusal_text rule.H6 None close head_only
-fault_text (Method m) close head_only = refusal_text rule.H7 (Some m) close head_only
-fault_text Memory close head_only = refusal_text rule.S1 None close head_only
+-- One request was answered so. Each call was a turn, and an answer takes at least one. Whatever is
+-- wrong with the store, the trail got a text, and the registry goes on.
+pub record AnswersRequest {S T W : Type 0} (g : Ghosts S)
+    (IsSo : Tables S → Tables S → Tail → Tail → Option Text → Option Text
+    → Result (Unit {0}) StreamFault → Type 0)
+    (told_of : T → Option Text) (held : W → Option Text) (old new : Registry S)
+    (k0 k1 : TrailEnd T) (w0 w1 : CountedEnd W) (had left : ℕ)
+    (r : Result (Unit {0}) StreamFault) : Type 0 where
+  pub replied : IsSo (tables_of old) (tables_of new) (tail (told_of k0.end.inner) k0)
+      (tail (told_of k1.end.inner) k1) (held w0.inner) (held w1.inner) r
+  pub spends : SpendsTurns had left (writes_of w0) (writes_of w1) r
+  pub fewer : OnOk r (left < had)
+  pub told : IsTrailed (tail (told_of k0.end.inner) k0) (tail (told_of k1.end.inner) k1)
+  pub keeps : GoesOn g old new
+
+-- the reply where there is no route, no such method, or no room to route the request
+abbrev pub fault_reply : RouteFault → Reply
+fault_reply NoRoute = Denied rule.H6
+fault_reply (Method m) = to_methods m
+fault_reply Memory = Denied rule.S1

@@ -1,4 +1,5 @@
 pub mod Answering
 pub mod Exchanges
+pub mod Serving
 pub mod Streams
 pub mod Trails

@@ -1,18 +1,17 @@
 //! Routing one request, and answering it from the registry.
 
-ghost use Rattle.std.specs.Prelude.{◌≡◌, ◌+◌, ◌^◌, ◌<◌, None, OnOk, Some};
+ghost use Rattle.std.specs.Prelude.{◌≡◌, ◌+◌, ◌^◌, ◌<◌, None, OnOk};
 ghost use Rattle.reg_http_read.specs.Reads.{facts_of};
 ghost use Rattle.reg_http_read.specs.Turns.{Sends, SpendsTurns, writes_of};
-ghost use Rattle.reg_http_routes.specs.Routing.{routing_of};
 ghost use Rattle.reg_api_replies.specs.Texts.{refusal_text};
 ghost use Rattle.reg_service.specs.Registries.{IsUpToDate, limits_of, tables_of};
 ghost use Rattle.reg_service.specs.Streamed.{AsksForFile};
-ghost use Rattle.reg_http.specs.Answering.{GoesOn, IsReplied, IsRequestReplied, fault_text};
-ghost use Rattle.reg_http.specs.Trails.{IsTrailed, Tail, tail};
+ghost use Rattle.reg_http.specs.Answering.{AnswersRequest, GoesOn, IsMessageReplied, IsRequestReplied, fault_reply};
+ghost use Rattle.reg_http.specs.Trails.{Tail};
 
 use crate::trail::Trail;
+use reg_api_replies::Reply;
 use reg_api_replies::laws::answer_law;
-use reg_api_replies::{Methods, Reply};
 use reg_api_requests::{ApiCall, ApiRequest};
 use reg_body::Counted;
 use reg_http_read::{Head, StreamFault, send_reply};
@@ -33,17 +32,15 @@ pub(crate) struct Message<'h, 'b> {
     pub close: bool,
 }
 
-/// The reply for a rule, and the one for a route with other methods.
-fn denial(rule: Rule) -> Reply
-    ensures { result ≡ Reply.Denied rule }
+/// The reply to a request that was not routed.
+fn refusal(fault: RouteFault) -> Reply
+    ensures { result ≡ fault_reply fault }
 {
-    Reply::Denied(rule)
-}
-
-fn other_methods(methods: Methods) -> Reply
-    ensures { result ≡ Reply.Method methods }
-{
-    Reply::Method(methods)
+    match fault {
+        RouteFault::NoRoute => Reply::Denied(Rule::H6),
+        RouteFault::Method(methods) => Reply::Method(methods),
+        RouteFault::Memory => Reply::Denied(Rule::S1),
+    }
 }
 
 /// Refuses a request under a rule.
@@ -60,25 +57,7 @@ pub(crate) fn deny<W: Write>(
     ensures spends { SpendsTurns left.old left.new (writes_of w.old) (writes_of w.new) result }
     ensures fewer { OnOk result (left.new < left.old) }
 {
-    let reply = denial(rule);
-    send_reply(w, &reply, close, head_only, left)
-}
-
-/// Answers with the methods of a route.
-fn tell_methods<W: Write>(
-    w: &mut Counted<W>,
-    methods: Methods,
-    close: bool,
-    head_only: bool,
-    left: &mut u64,
-) -> Result<(), StreamFault>
-    requires { w.old.calls + left.old < 2 ^ 64 }
-    ensures sends { Sends (refusal_text Rule.H7 (Some methods) close head_only)
-        (W.contents w.old.inner) (W.contents w.new.inner) result }
-    ensures spends { SpendsTurns left.old left.new (writes_of w.old) (writes_of w.new) result }
-    ensures fewer { OnOk result (left.new < left.old) }
-{
-    let reply = other_methods(methods);
+    let reply = Reply::Denied(rule);
     send_reply(w, &reply, close, head_only, left)
 }
 
@@ -86,8 +65,8 @@ fn tell_methods<W: Write>(
 fn send_index<W: Write, S: Alter>(
     alloc: Global,
     registry: &mut Registry<S>,
-    w: &mut Counted<W>,
     request: &ApiRequest<'_>,
+    w: &mut Counted<W>,
     close: bool,
     left: &mut u64,
 ) -> Result<(), StreamFault>
@@ -112,36 +91,8 @@ fn send_index<W: Write, S: Alter>(
     }
 }
 
-/// Tells what a request for anything but an index file changed, and sends the registry's answer.
-fn send_answer<W: Write, T: Write, S: Alter>(
-    alloc: Global,
-    registry: &mut Registry<S>,
-    trail: &mut Trail<T>,
-    w: &mut Counted<W>,
-    request: &ApiRequest<'_>,
-    close: bool,
-    left: &mut u64,
-) -> Result<(), StreamFault>
-    requires tables { IsUpToDate S.Store registry.old }
-    requires room { w.old.calls + left.old < 2 ^ 64 }
-    ensures replied { IsRequestReplied S.Store (limits_of registry.old) request.now close
-        (tables_of registry.old) (tables_of registry.new)
-        (tail (T.contents trail.old.end.inner) trail.old)
-        (tail (T.contents trail.new.end.inner) trail.new)
-        (W.contents w.old.inner) (W.contents w.new.inner) result }
-    ensures spends { SpendsTurns left.old left.new (writes_of w.old) (writes_of w.new) result }
-    ensures fewer { OnOk result (left.new < left.old) }
-    ensures told { IsTrailed (tail (T.contents trail.old.end.inner) trail.old)
-        (tail (T.contents trail.new.end.inner) trail.new) }
-    ensures keeps { GoesOn S.Store registry.old registry.new }
-{
-    answer_law();
-    let Acted { reply, line } = registry.act(alloc, request, trail.is_open());
-    trail.tell(line);
-    send_reply(w, &reply, close, false, left)
-}
-
-/// Answers a routed request.
+/// Answers a routed request: sends the index file, or tells what the request changed and then sends
+/// the registry's answer.
 fn answer<W: Write, T: Write, S: Alter>(
     alloc: Global,
     registry: &mut Registry<S>,
@@ -153,42 +104,18 @@ fn answer<W: Write, T: Write, S: Alter>(
 ) -> Result<(), StreamFault>
     requires tables { IsUpToDate S.Store registry.old }
     requires room { w.old.calls + left.old < 2 ^ 64 }
-    ensures replied { IsRequestReplied S.Store (limits_of registry.old) request.now close
-        (tables_of registry.old) (tables_of registry.new)
-        (tail (T.contents trail.old.end.inner) trail.old)
-        (tail (T.contents trail.new.end.inner) trail.new)
-        (W.contents w.old.inner) (W.contents w.new.inner) result }
-    ensures spends { SpendsTurns left.old left.new (writes_of w.old) (writes_of w.new) result }
-    ensures fewer { OnOk result (left.new < left.old) }
-    ensures told { IsTrailed (tail (T.contents trail.old.end.inner) trail.old)
-        (tail (T.contents trail.new.end.inner) trail.new) }
-    ensures keeps { GoesOn S.Store registry.old registry.new }
+    ensures { AnswersRequest S.Store
+        (IsRequestReplied S.Store (limits_of registry.old) request.now close)
+        T.contents W.contents registry.old registry.new trail.old trail.new w.old w.new
+        left.old left.new result }
 {
-    match &request.call {
-        ApiCall::Index(_) => send_index(alloc, registry, w, request, close, left),
-        _ => send_answer(alloc, registry, trail, w, request, close, left),
+    if let ApiCall::Index(_) = &request.call {
+        return send_index(alloc, registry, request, w, close, left);
     }
-}
-
-/// Refuses a request that has no route.
-fn refuse_route<W: Write>(
-    w: &mut Counted<W>,
-    fault: RouteFault,
-    close: bool,
-    head_only: bool,
-    left: &mut u64,
-) -> Result<(), StreamFault>
-    requires { w.old.calls + left.old < 2 ^ 64 }
-    ensures sends { Sends (fault_text fault close head_only) (W.contents w.old.inner)
-        (W.contents w.new.inner) result }
-    ensures spends { SpendsTurns left.old left.new (writes_of w.old) (writes_of w.new) result }
-    ensures fewer { OnOk result (left.new < left.old) }
-{
-    match fault {
-        RouteFault::NoRoute => deny(w, Rule::H6, close, head_only, left),
-        RouteFault::Method(methods) => tell_methods(w, methods, close, head_only, left),
-        RouteFault::Memory => deny(w, Rule::S1, close, head_only, left),
-    }
+    answer_law();
+    let Acted { reply, line } = registry.act(alloc, request, trail.is_open());
+    trail.tell(line);
+    send_reply(w, &reply, close, false, left)
 }
 
 /// Routes a request and answers it.
@@ -203,23 +130,17 @@ pub(crate) fn answer_message<W: Write, T: Write, S: Alter>(
 ) -> Result<(), StreamFault>
     requires tables { IsUpToDate S.Store registry.old }
     requires room { w.old.calls + left.old < 2 ^ 64 }
-    ensures replied { let f = facts_of message.now.head in IsReplied S.Store
-        (limits_of registry.old) f (routing_of f message.now.body.now) message.now.close
-        (tables_of registry.old) (tables_of registry.new)
-        (tail (T.contents trail.old.end.inner) trail.old)
-        (tail (T.contents trail.new.end.inner) trail.new)
-        (W.contents w.old.inner) (W.contents w.new.inner) result }
-    ensures spends { SpendsTurns left.old left.new (writes_of w.old) (writes_of w.new) result }
-    ensures fewer { OnOk result (left.new < left.old) }
-    ensures told { IsTrailed (tail (T.contents trail.old.end.inner) trail.old)
-        (tail (T.contents trail.new.end.inner) trail.new) }
-    ensures keeps { GoesOn S.Store registry.old registry.new }
+    ensures { AnswersRequest S.Store (IsMessageReplied S.Store (limits_of registry.old)
+        (facts_of message.now.head) message.now.body.now message.now.close)
+        T.contents W.contents registry.old registry.new trail.old trail.new w.old w.new
+        left.old left.new result }
 {
     match routes.route(alloc, &message.head, message.body) {
         Ok(request) => answer(alloc, registry, trail, w, &request, message.close, left),
         Err(fault) => {
+            let reply = refusal(fault);
             let head_only = message.head.is_head_only();
-            refuse_route(w, fault, message.close, head_only, left)
+            send_reply(w, &reply, message.close, head_only, left)
         }
     }
 }

@@ -1,11 +1,7 @@
 //! Serving streams.
 
-ghost use Rattle.std.specs.Prelude.{◌+◌, ◌^◌, ◌<◌, ℕ, vec_len};
-ghost use Rattle.reg_http_read.specs.Turns.{Spends, SpendsTurns, tally};
-ghost use Rattle.reg_service.specs.Registries.{IsUpToDate, limits_of};
-ghost use Rattle.reg_http.specs.Answering.{GoesOn};
-ghost use Rattle.reg_http.specs.Streams.{IsServing, IsServingTraced};
-ghost use Rattle.reg_http.specs.Trails.{IsTrailed, tail};
+ghost use Rattle.std.specs.Prelude.{◌<◌, vec_len};
+ghost use Rattle.reg_http.specs.Serving.{MayServe, ServesStream, ServesStreamTraced, SpendsLent, SpendsOwn};
 
 use crate::stream::serve_requests;
 use crate::trail::Trail;
@@ -48,20 +44,9 @@ impl Server {
         r: &mut Counted<R>,
         w: &mut Counted<W>,
     ) -> Result<u64, StreamFault>
-        requires tables { IsUpToDate S.Store registry.old }
-        requires reads { r.old.calls + (limits_of registry.old).turns < 2 ^ 64 }
-        requires writes { w.old.calls + (limits_of registry.old).turns < 2 ^ 64 }
-
-        // What was written is what a run of the registry replies to what was read.
-        ensures serves { IsServing S.Store registry.old registry.new
-            (R.remaining r.old.inner) (R.remaining r.new.inner)
-            (W.contents w.old.inner) (W.contents w.new.inner) result }
-
-        // Each call was a turn, and a fault has its cause, which is not `Memory`.
-        ensures spends { (left : ℕ) × SpendsTurns (limits_of registry.old).turns left
-            (tally r.old w.old) (tally r.new w.new) result }
-
-        ensures keeps { GoesOn S.Store registry.old registry.new }
+        requires { MayServe S.Store registry.old r.old w.old }
+        ensures { ServesStream S.Store SpendsLent R.remaining W.contents registry.old registry.new
+            r.old r.new w.old w.new result }
     {
         let mut silent = Trail::new(io::sink(), 0);
         self.serve_traced(alloc, registry, r, w, &mut silent)
@@ -77,26 +62,9 @@ impl Server {
         w: &mut Counted<W>,
         trail: &mut Trail<T>,
     ) -> Result<u64, StreamFault>
-        requires tables { IsUpToDate S.Store registry.old }
-        requires reads { r.old.calls + (limits_of registry.old).turns < 2 ^ 64 }
-        requires writes { w.old.calls + (limits_of registry.old).turns < 2 ^ 64 }
-
-        // What was written is what a run of the registry replies to what was read, and its trail.
-        ensures serves { IsServingTraced S.Store registry.old registry.new
-            (tail (T.contents trail.old.end.inner) trail.old)
-            (tail (T.contents trail.new.end.inner) trail.new)
-            (R.remaining r.old.inner) (R.remaining r.new.inner)
-            (W.contents w.old.inner) (W.contents w.new.inner) result }
-
-        // Each call was a turn, and a fault has its cause, which is not `Memory`.
-        ensures spends { (left : ℕ) × SpendsTurns (limits_of registry.old).turns left
-            (tally r.old w.old) (tally r.new w.new) result }
-
-        // Whatever is wrong with the store, the trail got a text in no more calls than it had left.
-        ensures told { IsTrailed (tail (T.contents trail.old.end.inner) trail.old)
-            (tail (T.contents trail.new.end.inner) trail.new) }
-
-        ensures keeps { GoesOn S.Store registry.old registry.new }
+        requires { MayServe S.Store registry.old r.old w.old }
+        ensures { ServesStreamTraced S.Store SpendsLent R.remaining W.contents registry.old
+            registry.new r.old r.new w.old w.new T.contents trail.old trail.new result }
     {
         let mut pending = Vec::new(alloc);
         serve_requests(
@@ -119,20 +87,9 @@ pub fn serve_stream<R: Read, W: Write, S: Alter>(
     r: &mut Counted<R>,
     w: &mut Counted<W>,
 ) -> Result<u64, StreamFault>
-    requires tables { IsUpToDate S.Store registry.old }
-    requires reads { r.old.calls + (limits_of registry.old).turns < 2 ^ 64 }
-    requires writes { w.old.calls + (limits_of registry.old).turns < 2 ^ 64 }
-
-    // What was written is what a run of the registry replies to what was read.
-    ensures serves { IsServing S.Store registry.old registry.new
-        (R.remaining r.old.inner) (R.remaining r.new.inner)
-        (W.contents w.old.inner) (W.contents w.new.inner) result }
-
-    // Each call was a turn, and a fault has its cause: `Memory` came before the first call.
-    ensures spends { (left : ℕ) × Spends (limits_of registry.old).turns left
-        (tally r.old w.old) (tally r.new w.new) result }
-
-    ensures keeps { GoesOn S.Store registry.old registry.new }
+    requires { MayServe S.Store registry.old r.old w.old }
+    ensures { ServesStream S.Store SpendsOwn R.remaining W.contents registry.old registry.new
+        r.old r.new w.old w.new result }
 {
     let mut silent = Trail::new(io::sink(), 0);
     serve_traced(alloc, registry, r, w, &mut silent)
@@ -146,26 +103,9 @@ pub fn serve_traced<R: Read, W: Write, T: Write, S: Alter>(
     w: &mut Counted<W>,
     trail: &mut Trail<T>,
 ) -> Result<u64, StreamFault>
-    requires tables { IsUpToDate S.Store registry.old }
-    requires reads { r.old.calls + (limits_of registry.old).turns < 2 ^ 64 }
-    requires writes { w.old.calls + (limits_of registry.old).turns < 2 ^ 64 }
-
-    // What was written is what a run of the registry replies to what was read, and its trail.
-    ensures serves { IsServingTraced S.Store registry.old registry.new
-        (tail (T.contents trail.old.end.inner) trail.old)
-        (tail (T.contents trail.new.end.inner) trail.new)
-        (R.remaining r.old.inner) (R.remaining r.new.inner)
-        (W.contents w.old.inner) (W.contents w.new.inner) result }
-
-    // Each call was a turn, and a fault has its cause: `Memory` came before the first call.
-    ensures spends { (left : ℕ) × Spends (limits_of registry.old).turns left
-        (tally r.old w.old) (tally r.new w.new) result }
-
-    // Whatever is wrong with the store, the trail got a text in no more calls than it had left.
-    ensures told { IsTrailed (tail (T.contents trail.old.end.inner) trail.old)
-        (tail (T.contents trail.new.end.inner) trail.new) }
-
-    ensures keeps { GoesOn S.Store registry.old registry.new }
+    requires { MayServe S.Store registry.old r.old w.old }
+    ensures { ServesStreamTraced S.Store SpendsOwn R.remaining W.contents registry.old registry.new
+        r.old r.new w.old w.new T.contents trail.old trail.new result }
 {
     history_law::<S>();
     let Ok(mut server) = Server::new(alloc) else {

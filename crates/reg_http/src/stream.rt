@@ -1,13 +1,9 @@
 //! Taking and answering the requests of a stream.
 
-ghost use Rattle.std.specs.Prelude.{◌≡◌, ◌+◌, ◌^◌, ◌<◌, ◌≤◌, ◌||◌, ◌==◌, ℕ, [], drop, length, take};
+ghost use Rattle.std.specs.Prelude.{◌≡◌, ◌+◌, ◌<◌, ◌≤◌, ◌||◌, ◌==◌, [], drop, length, take};
 ghost use Rattle.reg_http_read.specs.Owned.{facts_owned};
 ghost use Rattle.reg_http_read.specs.Reads.{facts_of};
-ghost use Rattle.reg_http_read.specs.Turns.{SpendsTurns, tally};
-ghost use Rattle.reg_service.specs.Registries.{IsUpToDate, limits_of};
-ghost use Rattle.reg_http.specs.Answering.{GoesOn};
-ghost use Rattle.reg_http.specs.Streams.{IsServingTraced};
-ghost use Rattle.reg_http.specs.Trails.{IsTrailed, tail};
+ghost use Rattle.reg_http.specs.Serving.{MayServe, ServesStreamTraced, SpendsLent};
 
 use crate::answering::{Message, answer_message, deny};
 use crate::trail::Trail;
@@ -57,22 +53,12 @@ pub(crate) fn serve_requests<R: Read, W: Write, T: Write, S: Alter>(
     chunk: &mut [u8],
     pending: &mut Vec<u8>,
 ) -> Result<u64, StreamFault>
-    requires tables { IsUpToDate S.Store registry.old }
-    requires reads { r.old.calls + (limits_of registry.old).turns < 2 ^ 64 }
-    requires writes { w.old.calls + (limits_of registry.old).turns < 2 ^ 64 }
+    requires may { MayServe S.Store registry.old r.old w.old }
     requires some { 0 < length chunk.old }
     requires nothing { pending.old.items ≡ [] }
-    ensures serves { IsServingTraced S.Store registry.old registry.new
-        (tail (T.contents trail.old.end.inner) trail.old)
-        (tail (T.contents trail.new.end.inner) trail.new)
-        (R.remaining r.old.inner) (R.remaining r.new.inner)
-        (W.contents w.old.inner) (W.contents w.new.inner) result }
-    ensures spends { (left : ℕ) × SpendsTurns (limits_of registry.old).turns left
-        (tally r.old w.old) (tally r.new w.new) result }
-    ensures told { IsTrailed (tail (T.contents trail.old.end.inner) trail.old)
-        (tail (T.contents trail.new.end.inner) trail.new) }
+    ensures served { ServesStreamTraced S.Store SpendsLent R.remaining W.contents registry.old
+        registry.new r.old r.new w.old w.new T.contents trail.old trail.new result }
     ensures chunk { length chunk.new ≡ length chunk.old }
-    ensures keeps { GoesOn S.Store registry.old registry.new }
 {
     append_law();
     bounds_law();

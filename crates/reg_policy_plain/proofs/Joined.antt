@@ -1,6 +1,6 @@
 -- A refusal or an effect makes a step.
 use Rattle.std.proofs.Common.{◌≡◌, ℕ, zero, suc, List, [], ◌∷◌, ◌++◌, Bool, true, false, cond, Option, Some, None, inl, inr, refl, sym, ◌∙◌, ap, subst}
-use Rattle.std.specs.Prelude.{◌&&◌, is_none, is_some, not, nat_le, ◌<◌, OnOk, Result, Ok, Err}
+use Rattle.std.specs.Prelude.{◌&&◌, is_none, is_some, not, nat_le, ◌<◌, ◌⊎◌, OnOk, Result, Ok, Err}
 use Rattle.std.specs.Result.{IsErrAnd}
 use Rattle.std.specs.List.{find, filter_map, cons_option}
 use Rattle.std.specs.Option.{option_map}
@@ -26,7 +26,7 @@ use Rattle.reg_policy.specs.declared.event.AdminReply.{AdminReply}
 use Rattle.reg_policy.specs.declared.event.AdminReply.TheVariants.{Done, Id, Text as Told}
 use Rattle.reg_policy.specs.Events.{decision_alone, reply_of}
 use Rattle.reg_policy.specs.Views.{decision_of}
-use Rattle.reg_policy_plain.specs.Plain.{PlainStep, crate_found, or_unknown}
+use Rattle.reg_policy_plain.specs.Plain.{PlainStep, both_found, crate_found, login_found, or_unknown}
 
 -- the ground at this place refuses, and those before it do not
 abbrev pub Refuses : ℕ → AdminRefusal → List (AdminRefusal × Bool) → Type 0
@@ -188,6 +188,24 @@ crate_there s n m e = crate_at (is_name n && exists s n) n m e
 pub no_crate_there : (s : Registry) (n : Text) (g : AdminRefusal) → Err g ≡ crate_found s n → (g ≡ G8) × (not (is_name n && exists s n) ≡ true)
 no_crate_there s n g e = no_crate_at (is_name n && exists s n) n g e
 
+abbrev crate_in : Result (Text × ℕ) AdminRefusal → Result Text AdminRefusal
+crate_in (Ok both) = Ok both.0
+crate_in (Err g) = Err g
+
+abbrev account_in : Result (Text × ℕ) AdminRefusal → Result ℕ AdminRefusal
+account_in (Ok both) = Ok both.1
+account_in (Err g) = Err g
+
+pub both_there : (c : Result Text AdminRefusal) (a : Result ℕ AdminRefusal) (n : Text) (id : ℕ) → Ok (n, id) ≡ both_found c a → (Ok n ≡ c) × (Ok id ≡ a)
+both_there (Ok m) (Ok k) n id e = (ap crate_in e, ap account_in e)
+both_there (Ok m) (Err g) n id e = cc
+both_there (Err g) a n id e = cc
+
+not_both : (c : Result Text AdminRefusal) (a : Result ℕ AdminRefusal) (g : AdminRefusal) → Err g ≡ both_found c a → (Err g ≡ c) ⊎ ((n : Text) × (Ok n ≡ c) × (Err g ≡ a))
+not_both (Ok n) (Ok id) g e = cc
+not_both (Ok n) (Err h) g e = inr (n, refl, cc)
+not_both (Err h) a g e = inl cc
+
 -- a refusal that is passed on
 pub told : (r : Result AdminReply AdminRefusal) (g h : AdminRefusal) → IsErrAnd r (λ e. e ≡ g) → g ≡ h → reply_of r ≡ Refused h
 told (Ok x) g h is e = absurd is
@@ -205,3 +223,10 @@ module _ (limits : Limits) (s : Registry) (c : Command) (n : Text) (rest : List 
       let no = no_login_there (id_of_login s login) g e in
       let these = about ∙ ap (λ l. no_crate s n ∷ l) then in
       refused_step limits s s c (reply_of r) 1 G3 (subst (Refuses 1 G3) (sym these) ((crate_there s n m there).1, (refl, no.1))) (told r g G3 is no.0) refl
+
+  pub no_pair_step : (login : Text) (more : List (AdminRefusal × Bool)) → rest ≡ no_login s login ∷ more → Err g ≡ both_found (crate_found s n) (login_found s login) → Step limits s (Order c) (reply_of r) s
+  no_pair_step login more then e = by (not_both (crate_found s n) (login_found s login) g e)
+    where
+      by : (Err g ≡ crate_found s n) ⊎ ((m : Text) × (Ok m ≡ crate_found s n) × (Err g ≡ login_found s login)) → Step limits s (Order c) (reply_of r) s
+      by (inl f) = no_crate_step f
+      by (inr p) = no_account_step login p.0 more then p.1 p.2

@@ -1,6 +1,6 @@
 //! What the registry over vectors does for an allowed request.
 
-ghost use Rattle.std.specs.Prelude.{◌≡◌, ℕ, IfOk, OnErr, OnOk, None, is_some, map, true};
+ghost use Rattle.std.specs.Prelude.{◌≡◌, IfOk, OnErr, OnOk, None, Ok as to_ok, is_some, map, true};
 ghost use Rattle.std.specs.Option.{option_map};
 ghost use Rattle.reg_names.specs.Names.{name_at, name_of};
 ghost use Rattle.reg_model.specs.Crates.{version as version_in, viewer};
@@ -11,7 +11,7 @@ ghost use Rattle.reg_model.specs.Events.Answer.{Granted as to_granted};
 ghost use Rattle.reg_model.specs.Events.Asked.{Index as to_index, Download as to_download, ListOwners as to_list, Publish as to_publish, Yank as to_yank, Unyank as to_unyank, AddOwners as to_add, RemoveOwners as to_remove};
 ghost use Rattle.reg_model.specs.Events.Event.{Ask as to_ask};
 ghost use Rattle.reg_policy.specs.Events.{answer_of, asked_of, decision_alone, publication_of as new_publication};
-ghost use Rattle.reg_policy_plain.specs.Plain.{PlainStep, limits_of, registry_of};
+ghost use Rattle.reg_policy_plain.specs.Plain.{Does, PlainStep, limits_of, registry_of};
 
 use crate::plain::PlainRegistry;
 use reg_line::file;
@@ -73,9 +73,7 @@ impl PlainRegistry {
         ensures { IfOk result (λ a. answer_of a ≡ served (registry_of self.now) None
             (to_index path.now)) }
     {
-        let Some(name) = name_of_path(path) else {
-            return Ok(Answer::Denied(Rule::A8));
-        };
+        let name = name_of_path(path).unwrap();
         let entries = self.publications.entries(self.alloc, &name, &self.yanked)?;
         Ok(Answer::File(file(self.alloc, entries.as_slice())?))
     }
@@ -86,9 +84,7 @@ impl PlainRegistry {
         ensures { IfOk result (λ a. answer_of a ≡ served (registry_of self.now) None
             (to_download name.now version.now)) }
     {
-        let Some(name) = parse_name(name) else {
-            return Ok(Answer::Denied(Rule::A8));
-        };
+        let name = parse_name(name).unwrap();
         match self.publications.archive(&name, version) {
             Some(archive) => Ok(Answer::Archive(archive.to_vec(self.alloc)?)),
             None => Ok(Answer::Denied(Rule::A10)),
@@ -100,9 +96,7 @@ impl PlainRegistry {
         ensures { IfOk result (λ a. answer_of a ≡ served (registry_of self.now) None
             (to_list name.now)) }
     {
-        let Some(name) = parse_name(name) else {
-            return Ok(Answer::Denied(Rule::A8));
-        };
+        let name = parse_name(name).unwrap();
         let owners = self
             .accounts
             .owner_entries(self.alloc, &self.owners, &canon(&name))?;
@@ -129,45 +123,27 @@ impl PlainRegistry {
 
     fn yank(&mut self, name: &str, version: &str) -> Result<Answer, AllocError>
         requires named { is_some (name_of name.now) ≡ true }
-        ensures answer { IfOk result (λ a. answer_of a ≡ to_granted) }
-        ensures state { (id : ℕ) → OnOk result
-            (registry_of self.new ≡ done (registry_of self.old) id (to_yank name.now version.now)) }
-        ensures err { OnErr result (registry_of self.new ≡ registry_of self.old) }
-        ensures limits { limits_of self.new ≡ limits_of self.old }
+        ensures { Does self.old self.new (to_yank name.now version.now) result }
     {
-        let Some(name) = parse_name(name) else {
-            return Ok(Answer::Denied(Rule::A8));
-        };
+        let name = parse_name(name).unwrap();
         self.yanked.insert(self.alloc, &name, version)?;
         Ok(Answer::Granted)
     }
 
     fn unyank(&mut self, name: &str, version: &str) -> Answer
         requires named { is_some (name_of name.now) ≡ true }
-        ensures answer { answer_of result ≡ to_granted }
-        ensures state { (id : ℕ) → registry_of self.new ≡ done (registry_of self.old) id
-            (to_unyank name.now version.now) }
-        ensures limits { limits_of self.new ≡ limits_of self.old }
+        ensures { Does self.old self.new (to_unyank name.now version.now) (to_ok result) }
     {
-        let Some(name) = parse_name(name) else {
-            return Answer::Denied(Rule::A8);
-        };
+        let name = parse_name(name).unwrap();
         self.yanked.remove(&name, version);
         Answer::Granted
     }
 
     fn add_owners(&mut self, name: &str, logins: &[&str]) -> Result<Answer, AllocError>
         requires named { is_some (name_of name.now) ≡ true }
-        ensures answer { IfOk result (λ a. answer_of a ≡ to_granted) }
-        ensures state { (id : ℕ) → OnOk result
-            (registry_of self.new ≡ done (registry_of self.old) id
-            (to_add name.now (map (λ l. l.now) logins.now))) }
-        ensures err { OnErr result (registry_of self.new ≡ registry_of self.old) }
-        ensures limits { limits_of self.new ≡ limits_of self.old }
+        ensures { Does self.old self.new (to_add name.now (map (λ l. l.now) logins.now)) result }
     {
-        let Some(name) = parse_name(name) else {
-            return Ok(Answer::Denied(Rule::A8));
-        };
+        let name = parse_name(name).unwrap();
         let ids = self.accounts.ids_of(self.alloc, logins)?;
         self.owners.insert_all(self.alloc, &name, ids.as_slice())?;
         Ok(Answer::Granted)
@@ -175,16 +151,9 @@ impl PlainRegistry {
 
     fn remove_owners(&mut self, name: &str, logins: &[&str]) -> Result<Answer, AllocError>
         requires named { is_some (name_of name.now) ≡ true }
-        ensures answer { IfOk result (λ a. answer_of a ≡ to_granted) }
-        ensures state { (id : ℕ) → OnOk result
-            (registry_of self.new ≡ done (registry_of self.old) id
-            (to_remove name.now (map (λ l. l.now) logins.now))) }
-        ensures err { OnErr result (registry_of self.new ≡ registry_of self.old) }
-        ensures limits { limits_of self.new ≡ limits_of self.old }
+        ensures { Does self.old self.new (to_remove name.now (map (λ l. l.now) logins.now)) result }
     {
-        let Some(name) = parse_name(name) else {
-            return Ok(Answer::Denied(Rule::A8));
-        };
+        let name = parse_name(name).unwrap();
         let ids = self.accounts.ids_of(self.alloc, logins)?;
         self.owners.remove_all(&name, ids.as_slice());
         Ok(Answer::Granted)

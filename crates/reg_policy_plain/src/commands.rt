@@ -6,11 +6,10 @@ ghost use Rattle.std.specs.List.{list_all};
 ghost use Rattle.reg_model.specs.Events.Command.{UserAdd as to_user_add, UserDisable as to_disable, UserEnable as to_enable, TokenAdd as to_token_add, TokenRevoke as to_revoke};
 ghost use Rattle.reg_model.specs.Events.Event.{Order as to_order};
 ghost use Rattle.reg_model.specs.Refusals.{is_endpoint};
-ghost use Rattle.reg_model.specs.Steps.{Step};
-ghost use Rattle.reg_policy.specs.Events.{answer_of, command_of, reply_of};
-ghost use Rattle.reg_policy_plain.specs.Plain.{PlainStep, limits_of, login_found, registry_of};
+ghost use Rattle.reg_policy.specs.Events.{answer_of, command_of};
+ghost use Rattle.reg_policy_plain.specs.Plain.{Obeys, PlainStep, limits_of, login_found, registry_of};
 
-use crate::plain::PlainRegistry;
+use crate::plain::{CommandReply, PlainRegistry};
 use reg_model::AdminRefusal;
 use reg_names::parse_login;
 use reg_policy::{
@@ -39,10 +38,8 @@ impl PlainRegistry {
         }
     }
 
-    fn command(&mut self, command: &AdminCommand) -> Result<AdminReply, AdminRefusal>
-        ensures step { Step (limits_of self.old) (registry_of self.old)
-            (to_order (command_of command.now)) (reply_of result) (registry_of self.new) }
-        ensures limits { limits_of self.new ≡ limits_of self.old }
+    fn command(&mut self, command: &AdminCommand) -> CommandReply
+        ensures { Obeys self.old self.new (command_of command.now) result }
     {
         match command {
             AdminCommand::UserAdd(login, name) => self.user_add(login, *name),
@@ -76,11 +73,9 @@ impl PlainRegistry {
         }
     }
 
-    fn user_add(&mut self, login: &str, name: Option<&str>) -> Result<AdminReply, AdminRefusal>
-        ensures step { Step (limits_of self.old) (registry_of self.old)
-            (to_order (to_user_add login.now (option_map (λ n. n.now) name.entry)))
-            (reply_of result) (registry_of self.new) }
-        ensures limits { limits_of self.new ≡ limits_of self.old }
+    fn user_add(&mut self, login: &str, name: Option<&str>) -> CommandReply
+        ensures { Obeys self.old self.new
+            (to_user_add login.now (option_map (λ n. n.now) name.entry)) result }
     {
         let Some(login) = parse_login(login) else {
             return Err(AdminRefusal::G1);
@@ -112,20 +107,16 @@ impl PlainRegistry {
         }
     }
 
-    fn user_disable(&mut self, login: &str) -> Result<AdminReply, AdminRefusal>
-        ensures step { Step (limits_of self.old) (registry_of self.old)
-            (to_order (to_disable login.now)) (reply_of result) (registry_of self.new) }
-        ensures limits { limits_of self.new ≡ limits_of self.old }
+    fn user_disable(&mut self, login: &str) -> CommandReply
+        ensures { Obeys self.old self.new (to_disable login.now) result }
     {
         let id = self.known_login(login)?;
         self.accounts.enable(id, false);
         Ok(AdminReply::Done)
     }
 
-    fn user_enable(&mut self, login: &str) -> Result<AdminReply, AdminRefusal>
-        ensures step { Step (limits_of self.old) (registry_of self.old)
-            (to_order (to_enable login.now)) (reply_of result) (registry_of self.new) }
-        ensures limits { limits_of self.new ≡ limits_of self.old }
+    fn user_enable(&mut self, login: &str) -> CommandReply
+        ensures { Obeys self.old self.new (to_enable login.now) result }
     {
         let id = self.known_login(login)?;
         self.accounts.enable(id, true);
@@ -146,11 +137,9 @@ impl PlainRegistry {
         words: &[&str],
         patterns: &[&str],
         digest: &[u8; 32],
-    ) -> Result<AdminReply, AdminRefusal>
-        ensures step { Step (limits_of self.old) (registry_of self.old)
-            (to_order (to_token_add login.now (map (λ w. w.now) words.now)
-            (map (λ p. p.now) patterns.now) digest.now)) (reply_of result) (registry_of self.new) }
-        ensures limits { limits_of self.new ≡ limits_of self.old }
+    ) -> CommandReply
+        ensures { Obeys self.old self.new (to_token_add login.now (map (λ w. w.now) words.now)
+            (map (λ p. p.now) patterns.now) digest.now) result }
     {
         let account = self.known_login(login)?;
         if !name_endpoints(words) {
@@ -181,10 +170,8 @@ impl PlainRegistry {
         }
     }
 
-    fn token_revoke(&mut self, id: u32) -> Result<AdminReply, AdminRefusal>
-        ensures step { Step (limits_of self.old) (registry_of self.old) (to_order (to_revoke id))
-            (reply_of result) (registry_of self.new) }
-        ensures limits { limits_of self.new ≡ limits_of self.old }
+    fn token_revoke(&mut self, id: u32) -> CommandReply
+        ensures { Obeys self.old self.new (to_revoke id) result }
     {
         if !self.tokens.has(id) {
             return Err(AdminRefusal::G6);

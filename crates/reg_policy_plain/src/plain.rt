@@ -1,7 +1,6 @@
 //! A registry over vectors.
 
 ghost use Rattle.std.specs.Prelude.{◌≡◌, codes};
-ghost use Rattle.std.specs.Option.{option_map};
 ghost use Rattle.reg_model.specs.Registry.{empty_at};
 ghost use Rattle.reg_model.specs.Crates.{is_among, is_reserved as is_reserved_in, owners as owners_in};
 ghost use Rattle.reg_model.specs.Effects.{account_of};
@@ -9,10 +8,14 @@ ghost use Rattle.reg_policy.specs.Events.{answer_of, event_of};
 ghost use Rattle.reg_policy_plain.specs.Plain.{PlainStep, limits_of, registry_of};
 
 use reg_body::Limits;
+use reg_model::AdminRefusal;
 use reg_names::{CrateName, canon};
-use reg_policy::{Answer, Event, is_reserved_always};
+use reg_policy::{AdminReply, Answer, Event, is_reserved_always};
 use reg_policy_lists::{Accounts, CrateTexts, Marks, Owners, Publications, Tokens};
 use std::alloc::Global;
+
+/// What a command is answered, or why it is refused.
+pub(crate) type CommandReply = std::result::Result<AdminReply, AdminRefusal>;
 
 /// A registry over vectors, whose base is `http://127.0.0.1:8080`. It searches all that it has for
 /// each answer.

@@ -1,31 +1,28 @@
 //! The administrator's reports on the registry over vectors.
 
-ghost use Rattle.std.specs.Prelude.{◌≡◌, ◌≤◌, ◌+◌, ◌++◌, if◌then◌else◌, [], IfOk, OnOk, length, map, string_bytes, unwrap_or};
+ghost use Rattle.std.specs.Prelude.{◌≡◌, ◌≤◌, ◌+◌, if◌then◌else◌, [], IfOk, length, map, string_bytes, unwrap_or};
 ghost use Rattle.std.specs.Option.{option_map};
 ghost use Rattle.std.specs.List.{enumerate_from, filter, flat_map};
 ghost use Rattle.std.specs.FinSet as set;
 ghost use Rattle.reg_model.specs.Events.Command.{Access as to_access, Users as to_users, Tokens as to_tokens, Crates as to_crates};
-ghost use Rattle.reg_model.specs.Events.Event.{Order as to_order};
 ghost use Rattle.reg_model.specs.Grants.{has_right as has_right_in, is_granted as is_granted_in, who_reads};
-ghost use Rattle.reg_model.specs.Reports.{access_text, crates_text, grant_line, login_of_token, reader_line, token_line, tokens_text, user_line, users_text};
-ghost use Rattle.reg_model.specs.Steps.{Step};
-ghost use Rattle.reg_policy.specs.Events.{reply_of};
+ghost use Rattle.reg_model.specs.Reports.{access_text, crates_text, grant_line, login_of, login_of_token, reader_line, token_line, tokens_text, user_line, users_text};
 ghost use Rattle.reg_policy.specs.declared.event.AdminReply.TheVariants.{Text};
-ghost use Rattle.reg_policy_lists.specs.Accounts.{account_of, login_in};
-ghost use Rattle.reg_policy_plain.specs.Plain.{grant_lines, limits_of, line_at, registry_of, told_of};
+ghost use Rattle.reg_policy_lists.specs.Accounts.{account_of};
+ghost use Rattle.reg_policy_plain.specs.Plain.{Adds, Obeys, grant_lines, line_at, registry_of, told_of};
 ghost use Rattle.reg_policy_lists.specs.Tokens.{token_of};
 
-use crate::plain::PlainRegistry;
+use crate::plain::{CommandReply, PlainRegistry};
 use reg_model::{AdminRefusal, Endpoint};
 use reg_names::{CanonText, CrateName, canon, parse_name};
 use reg_policy::{
     AdminReply, ENDPOINTS, has_endpoint, is_covered, push_crate_line, push_grant_line,
     push_reader_line, push_token_line, push_user_line,
 };
-use reg_policy_lists::{Accounts, Owners, PlainAccount, PlainToken, Publication};
+use reg_policy_lists::{Owners, PlainAccount, PlainToken, Publication};
 use std::alloc::AllocError;
 
-fn told(report: Result<String, AllocError>) -> Result<AdminReply, AdminRefusal>
+fn told(report: Result<String, AllocError>) -> CommandReply
     ensures { result ≡ told_of Text report }
 {
     match report {
@@ -35,8 +32,7 @@ fn told(report: Result<String, AllocError>) -> Result<AdminReply, AdminRefusal>
 }
 
 fn push_user(report: &mut String, id: u32, account: &PlainAccount) -> Result<(), AllocError>
-    ensures { OnOk result (string_bytes report.new ≡ string_bytes report.old ++ user_line
-        (id, account_of account.now)) }
+    ensures { Adds (user_line (id, account_of account.now)) report.old report.new result }
 {
     let name = match &account.name {
         Some(name) => Some(name.as_str()),
@@ -48,44 +44,14 @@ fn push_user(report: &mut String, id: u32, account: &PlainAccount) -> Result<(),
 /// A line for each account, after so many others.
 fn push_users(report: &mut String, before: u32, accounts: &[PlainAccount]) -> Result<(), AllocError>
     requires { before + length accounts.now ≤ 4294967295 }
-    ensures { OnOk result (string_bytes report.new ≡ string_bytes report.old ++ flat_map user_line
-        (enumerate_from (before + 1) (map account_of accounts.now))) }
+    ensures { Adds (flat_map user_line (enumerate_from (before + 1) (map account_of accounts.now)))
+        report.old report.new result }
 {
     match accounts {
         [] => Ok(()),
         [account, more @ ..] => {
             push_user(report, before + 1, account)?;
             push_users(report, before + 1, more)
-        }
-    }
-}
-
-/// A line for each token, after so many others.
-fn push_tokens(
-    report: &mut String,
-    before: u32,
-    tokens: &[PlainToken],
-    accounts: &Accounts,
-) -> Result<(), AllocError>
-    requires { before + length tokens.now ≤ 4294967295 }
-    ensures { OnOk result (string_bytes report.new ≡ string_bytes report.old ++ flat_map
-        (λ t. token_line (login_in accounts.now t.1.account) t)
-        (enumerate_from (before + 1) (map token_of tokens.now))) }
-{
-    match tokens {
-        [] => Ok(()),
-        [token, more @ ..] => {
-            let login = accounts.login(token.account);
-            let patterns = token.patterns.as_slice();
-            push_token_line(
-                report,
-                before + 1,
-                login,
-                token.live,
-                &token.endpoints,
-                patterns,
-            )?;
-            push_tokens(report, before + 1, more, accounts)
         }
     }
 }
@@ -98,9 +64,8 @@ fn push_if_reader(
     readers: &Owners,
     crate_text: &CanonText,
 ) -> Result<(), AllocError>
-    ensures { OnOk result (string_bytes report.new ≡ string_bytes report.old
-        ++ (if set.contains readers.now (crate_text.now, id) then reader_line account.now.login else
-        [])) }
+    ensures { Adds (if set.contains readers.now (crate_text.now, id)
+        then reader_line account.now.login else []) report.old report.new result }
 {
     if readers.contains(crate_text, id) {
         push_reader_line(report, account.login.as_str())
@@ -118,10 +83,10 @@ fn push_readers(
     crate_text: &CanonText,
 ) -> Result<(), AllocError>
     requires { before + length accounts.now ≤ 4294967295 }
-    ensures { OnOk result (string_bytes report.new ≡ string_bytes report.old ++ flat_map
-        (λ r. reader_line r.1.login)
+    ensures { Adds (flat_map (λ r. reader_line r.1.login)
         (filter (λ o. set.contains readers.now (crate_text.now, o.0))
-        (enumerate_from (before + 1) (map account_of accounts.now)))) }
+        (enumerate_from (before + 1) (map account_of accounts.now))))
+        report.old report.new result }
 {
     match accounts.split_first() {
         None => Ok(()),
@@ -187,6 +152,35 @@ impl PlainRegistry {
         }
     }
 
+    /// A line for each token, after so many others.
+    fn push_tokens(
+        &self,
+        report: &mut String,
+        before: u32,
+        tokens: &[PlainToken],
+    ) -> Result<(), AllocError>
+        requires { before + length tokens.now ≤ 4294967295 }
+        ensures { Adds (flat_map (λ t. token_line (login_of (registry_of self.now) t.1.account) t)
+            (enumerate_from (before + 1) (map token_of tokens.now))) report.old report.new result }
+    {
+        match tokens {
+            [] => Ok(()),
+            [token, more @ ..] => {
+                let login = self.accounts.login(token.account);
+                let patterns = token.patterns.as_slice();
+                push_token_line(
+                    report,
+                    before + 1,
+                    login,
+                    token.live,
+                    &token.endpoints,
+                    patterns,
+                )?;
+                self.push_tokens(report, before + 1, more)
+            }
+        }
+    }
+
     /// A line for each of the endpoints that the token may use on the crate.
     fn push_granted(
         &self,
@@ -196,10 +190,10 @@ impl PlainRegistry {
         name: &CrateName,
         endpoints: &[Endpoint],
     ) -> Result<(), AllocError>
-        ensures { OnOk result (string_bytes report.new ≡ string_bytes report.old ++ flat_map
+        ensures { Adds (flat_map
             (λ e. grant_line (id, e) (login_of_token (registry_of self.now) id))
             (filter (is_granted_in (registry_of self.now) name.now (token_of token.now))
-            endpoints.now)) }
+            endpoints.now)) report.old report.new result }
     {
         match endpoints {
             [] => Ok(()),
@@ -221,9 +215,8 @@ impl PlainRegistry {
         name: &CrateName,
     ) -> Result<(), AllocError>
         requires { before + length tokens.now ≤ 4294967295 }
-        ensures { OnOk result (string_bytes report.new ≡ string_bytes report.old ++ flat_map
-            (grant_lines (registry_of self.now) name.now)
-            (enumerate_from (before + 1) (map token_of tokens.now))) }
+        ensures { Adds (flat_map (grant_lines (registry_of self.now) name.now)
+            (enumerate_from (before + 1) (map token_of tokens.now))) report.old report.new result }
     {
         match tokens.split_first() {
             None => Ok(()),
@@ -236,8 +229,8 @@ impl PlainRegistry {
 
     /// A line for each reader of the crate, if it is restricted.
     fn push_who_reads(&self, report: &mut String, name: &CrateName) -> Result<(), AllocError>
-        ensures { OnOk result (string_bytes report.new ≡ string_bytes report.old ++ flat_map
-            (λ r. reader_line r.1.login) (who_reads (registry_of self.now) name.now)) }
+        ensures { Adds (flat_map (λ r. reader_line r.1.login)
+            (who_reads (registry_of self.now) name.now)) report.old report.new result }
     {
         let crate_text = canon(name);
         if self.restricted.contains(&crate_text) {
@@ -254,8 +247,7 @@ impl PlainRegistry {
     }
 
     fn push_crate(&self, report: &mut String, name: &CrateName) -> Result<(), AllocError>
-        ensures { OnOk result (string_bytes report.new ≡ string_bytes report.old ++ line_at
-            (registry_of self.now) name.now) }
+        ensures { Adds (line_at (registry_of self.now) name.now) report.old report.new result }
     {
         let versions = self.publications.versions(self.alloc, name)?;
         let top = self.publications.top(self.alloc, name, &self.yanked)?;
@@ -264,8 +256,8 @@ impl PlainRegistry {
     }
 
     fn push_crates(&self, report: &mut String, names: &[&CrateName]) -> Result<(), AllocError>
-        ensures { OnOk result (string_bytes report.new ≡ string_bytes report.old ++ flat_map
-            (λ n. line_at (registry_of self.now) n.now) names.now) }
+        ensures { Adds (flat_map (λ n. line_at (registry_of self.now) n.now) names.now)
+            report.old report.new result }
     {
         match names {
             [] => Ok(()),
@@ -288,7 +280,7 @@ impl PlainRegistry {
         ensures { IfOk result (λ t. string_bytes t ≡ tokens_text (registry_of self.now)) }
     {
         let mut report = String::new(self.alloc);
-        push_tokens(&mut report, 0, self.tokens.as_slice(), &self.accounts)?;
+        self.push_tokens(&mut report, 0, self.tokens.as_slice())?;
         Ok(report)
     }
 
@@ -311,9 +303,8 @@ impl PlainRegistry {
     }
 
     /// Who may act on a crate, and who reads it.
-    pub(crate) fn access(&self, name: &str) -> Result<AdminReply, AdminRefusal>
-        ensures { Step (limits_of self.now) (registry_of self.now) (to_order (to_access name.now))
-            (reply_of result) (registry_of self.now) }
+    pub(crate) fn access(&self, name: &str) -> CommandReply
+        ensures { Obeys self.now self.now (to_access name.now) result }
     {
         match parse_name(name) {
             Some(name) => told(self.access_report(&name)),
@@ -322,25 +313,22 @@ impl PlainRegistry {
     }
 
     /// All accounts.
-    pub(crate) fn users(&self) -> Result<AdminReply, AdminRefusal>
-        ensures { Step (limits_of self.now) (registry_of self.now) (to_order to_users)
-            (reply_of result) (registry_of self.now) }
+    pub(crate) fn users(&self) -> CommandReply
+        ensures { Obeys self.now self.now to_users result }
     {
         told(self.users_report())
     }
 
     /// All tokens.
-    pub(crate) fn tokens(&self) -> Result<AdminReply, AdminRefusal>
-        ensures { Step (limits_of self.now) (registry_of self.now) (to_order to_tokens)
-            (reply_of result) (registry_of self.now) }
+    pub(crate) fn tokens(&self) -> CommandReply
+        ensures { Obeys self.now self.now to_tokens result }
     {
         told(self.tokens_report())
     }
 
     /// All crates.
-    pub(crate) fn crates(&self) -> Result<AdminReply, AdminRefusal>
-        ensures { Step (limits_of self.now) (registry_of self.now) (to_order to_crates)
-            (reply_of result) (registry_of self.now) }
+    pub(crate) fn crates(&self) -> CommandReply
+        ensures { Obeys self.now self.now to_crates result }
     {
         told(self.crates_report())
     }

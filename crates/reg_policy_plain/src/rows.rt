@@ -4,10 +4,10 @@ ghost use Rattle.std.specs.Prelude.{◌≡◌, IfOk, map};
 ghost use Rattle.std.specs.Option.{option_map};
 ghost use Rattle.reg_model.specs.Facts.{lists, spelling};
 ghost use Rattle.reg_model.specs.Refusals.{judged};
-ghost use Rattle.reg_model.specs.Crates.{is_reserved as is_reserved_in, is_restricted as is_restricted_in, owners as owners_in, readers as readers_in, versions as versions_in};
+ghost use Rattle.reg_model.specs.Crates.{is_reserved as is_reserved_in, is_restricted as is_restricted_in, versions as versions_in};
 ghost use Rattle.reg_model.specs.Registry.{holds, is_enabled as is_enabled_in};
 ghost use Rattle.reg_policy.specs.Rows.{id_and_login, row_view};
-ghost use Rattle.reg_policy_plain.specs.Plain.{registry_of};
+ghost use Rattle.reg_policy_plain.specs.Plain.{owners_at, readers_at, registry_of};
 ghost use Rattle.reg_policy.specs.Rows.{patterns_held, row_of};
 ghost use Rattle.reg_policy_lists.specs.Tokens.{token_of};
 ghost use Rattle.reg_policy.specs.Views.{action_of, decision_of};
@@ -64,7 +64,7 @@ impl PlainRegistry {
 
     fn owner_rows_of(&self, name: &Option<CrateName>) -> Result<Vec<OwnerRow>, AllocError>
         ensures { IfOk result (λ v. map row_view v.items ≡ map id_and_login
-            (lists (owners_in (registry_of self.now)) name.now)) }
+            (owners_at self.now name.now)) }
     {
         match name {
             Some(name) => self
@@ -103,8 +103,7 @@ impl PlainRegistry {
     }
 
     fn reader_ids_of(&self, name: &Option<CrateName>) -> Result<Vec<u32>, AllocError>
-        ensures { IfOk result (λ v. v.items ≡ map (λ o. o.0)
-            (lists (readers_in (registry_of self.now)) name.now)) }
+        ensures { IfOk result (λ v. v.items ≡ map (λ o. o.0) (readers_at self.now name.now)) }
     {
         match name {
             Some(name) => self

@@ -28,7 +28,7 @@ use Rattle.reg_tables.specs.declared.tables.Tables.{Tables}
 use Rattle.reg_tables.specs.declared.work.Work.{Work}
 use Rattle.reg_tables.specs.Ends.{Begins, SeesAll}
 use Rattle.reg_tables.specs.Works.{rows_seen, seen, shown}
-use Rattle.reg_service_requests.specs.Runs.{Runs}
+use Rattle.reg_tables.specs.Calling.{Runs}
 use Rattle.reg_service_requests.specs.Serves.{Serves}
 use Rattle.reg_service_requests.specs.Telling.{ServesTold}
 use Rattle.reg_service_requests.specs.declared.served.Served.{Served}

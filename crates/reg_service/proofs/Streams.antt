@@ -5,7 +5,7 @@ use Rattle.sqlite.specs.Order.{Row}
 use Rattle.sqlite.specs.State.{HasCleanDisk}
 use Rattle.sqlite.specs.Tree.{Trees}
 use Rattle.sqlite_trees.specs.declared.store.Store.{Ghosts}
-use Rattle.reg_access.specs.Asks.{Asks}
+use Rattle.reg_tables.specs.Calling.{Asks}
 use Rattle.reg_body.specs.declared.limits.Limits.{Limits}
 use Rattle.reg_model.specs.declared.rule.Rule.{Rule}
 use Rattle.reg_model.specs.declared.rule.Rule.TheVariants as rule

@@ -1,5 +1,5 @@
 -- Tables that hold a registry between two transactions, and what an event leaves of them.
-use Rattle.std.specs.Prelude.{◌≡◌, ◌⊎◌, true, IsTrue}
+use Rattle.std.specs.Prelude.{◌≡◌, ◌⊎◌, Bool, true, IsTrue}
 use Rattle.sqlite.specs.State.{State, HasCleanDisk}
 use Rattle.sqlite.specs.Tree.{Trees}
 use Rattle.sqlite_trees.specs.declared.store.Store.{Ghosts}
@@ -25,6 +25,17 @@ AreAs e s db = (ids : Ids) × HoldsAs e ids s db
 -- the same of what a connection shows; one that is shut shows nothing
 abbrev pub Shows : Registry → State → Type 0
 Shows s at = IsTrue at.is_open → Are s at.now.trees
+
+-- a disk that is clean after was clean before
+abbrev pub WasClean : {S : Type 0} → Ghosts S → Tables S → Tables S → Type 0
+WasClean g old new = HasCleanDisk (shown g new) → HasCleanDisk (shown g old)
+
+-- whether it has stopped before and after: one that has stopped refuses and stays so, and one that
+-- stops refuses
+pub record Halts (old new : Bool) (Refuses : Type 0) : Type 0 where
+  pub stopped : old ≡ true → Refuses
+  pub stays : old ≡ true → new ≡ true
+  pub stops : new ≡ true → Refuses
 
 -- a stop at this moment leaves the rows of this registry and nothing else
 abbrev pub LeavesAlone : Registry → State → Type 0

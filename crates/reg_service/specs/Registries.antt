@@ -1,5 +1,5 @@
 -- A registry over a store, as a caller sees it.
-use Rattle.std.specs.Prelude.{◌≡◌, ◌⊎◌, Bool, Option, Some, false, IsTrue}
+use Rattle.std.specs.Prelude.{◌≡◌, ◌⊎◌, Bool, None, Option, Some, false, IsTrue}
 use Rattle.sqlite.specs.Effect.{Database}
 use Rattle.sqlite.specs.Tree.{Trees}
 use Rattle.sqlite.specs.State.{HasCleanDisk, State}
@@ -16,7 +16,7 @@ use Rattle.reg_tables_rows.specs.declared.all_rows.AllRows.{AllRows}
 use Rattle.reg_tables_rows.specs.WholeRows.{AreAllRows}
 use Rattle.reg_tables.specs.declared.tables.Tables.{Tables}
 use Rattle.reg_tables_meaning.specs.Upgrades.{AreBegun, AreUpgraded}
-use Rattle.reg_tables.specs.Works.{is_shut, shown}
+use Rattle.reg_tables.specs.Works.{edition_in, is_shut, shown}
 use Rattle.reg_service.specs.Answered.{AreAs, AreUpToDate, LeavesAlone, Shows}
 use Rattle.reg_service.specs.Rooms.{IsKnown}
 use Rattle.reg_service.specs.declared.room.Room.{Room}
@@ -83,6 +83,17 @@ pub record IsBrought (e : Edition) (old new : State) : Type 0 where
   pub begun : IsTrue new.is_open → AreBegun e old.now new.now.trees
   pub left : (db : Trees) → new.may_leave db
       → ((e ≡ Second) × old.may_leave db) ⊎ ((e ≡ First) × (db ≡ new.now.trees))
+
+-- a registry of these tables holds what they are, or become
+abbrev pub Brings : {S : Type 0} → Ghosts S → Tables S → Registry S → Type 0
+Brings g tables r = HasCleanDisk (shown g (tables_of r))
+    → IsBrought (edition_in tables) (shown g tables) (shown g (tables_of r))
+
+-- a registry that has these limits, remembers nothing yet, and has stopped if its tables had
+pub record HasBegun {S : Type 0} (limits : Limits) (stopped : Bool) (r : Registry S) : Type 0 where
+  pub limited : limits_of r ≡ limits
+  pub unknown : room_of r ≡ None
+  pub goes_on : has_stopped r ≡ stopped
 
 -- this check is the first that fails on our tables as they were found, and the rows are those of
 -- no sound registry

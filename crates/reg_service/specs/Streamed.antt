@@ -1,7 +1,8 @@
 -- Index files, answered as they are sent.
-use Rattle.std.specs.Prelude.{◌≡◌, ◌<◌, ℕ, true, false, Bool, IsTrue, Option, Result, Ok, Err}
+use Rattle.std.specs.Prelude.{◌≡◌, ◌+◌, ◌^◌, ◌<◌, ℕ, true, false, Bool, IsTrue, Option, Result, Ok, Err}
 use Rattle.sqlite.specs.State.{HasCleanDisk}
 use Rattle.sqlite_trees.specs.declared.store.Store.{Ghosts}
+use Rattle.reg_body.specs.Counting.{CountedEnd}
 use Rattle.reg_body.specs.declared.limits.Limits.{Limits}
 use Rattle.reg_model.specs.declared.rule.Rule.TheVariants.{S1}
 use Rattle.reg_model.specs.Events.{Answer, Asked}
@@ -54,6 +55,12 @@ abbrev pub IsStreamed : {S : Type 0} → Ghosts S → Limits → Option Text →
 IsStreamed g limits digest asked close r writes old new before after =
     HasCleanDisk (shown g new) → (s : Registry) → Shows s (shown g old)
     → StreamsTo g limits s digest asked close r writes old new before after
+
+-- the tables hold a registry, and as many calls of the writer can be counted
+pub record MayStream {S W : Type 0} (g : Ghosts S) (held : Tables S) (w : CountedEnd W)
+    (writes : ℕ) : Type 0 where
+  pub tables : AreUpToDate g held
+  pub room : w.calls + writes < 2 ^ 64
 
 -- What streaming leaves, whatever the disk. Where the store failed once the reply was begun, a call
 -- was made; where it had stopped before, the reply tells so.

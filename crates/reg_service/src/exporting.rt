@@ -6,7 +6,7 @@ ghost use Rattle.reg_service.specs.Answered.{AreUpToDate};
 ghost use Rattle.reg_service.specs.Looked.{IsIndex, IsTrueOf, Looked};
 
 use reg_service_requests::export_all;
-use reg_tables::{StoreFault, Tables};
+use reg_tables::{Result, Tables};
 use sqlite::Alter;
 use std::alloc::Global;
 
@@ -14,7 +14,7 @@ use std::alloc::Global;
 pub(crate) fn export_in<S: Alter>(
     alloc: Global,
     tables: &mut Tables<S>,
-) -> Result<Vec<(String, Vec<u8>)>, StoreFault>
+) -> Result<Vec<(String, Vec<u8>)>>
     requires { AreUpToDate S.Store tables.old }
     ensures exported { IsTrueOf S.Store IsIndex result tables.old tables.new }
     ensures looked { Looked S.Store tables.old tables.new }

@@ -21,7 +21,7 @@ mod sequences;
 mod streaming;
 mod transactions;
 
-pub use opening::OpenFault;
+pub use opening::{OpenFault, Opened};
 pub use reg_api_replies::{FixedText, Kind, Methods, Reply, reply_head};
 pub use reg_api_requests::{ApiCall, ApiRequest};
 pub use reg_audit::Check;

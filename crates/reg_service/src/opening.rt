@@ -7,8 +7,8 @@ ghost use Rattle.reg_line.specs.Base.{is_base as is_base_text};
 ghost use Rattle.reg_tables_schema.specs.Schema.{blank, schema_of};
 ghost use Rattle.reg_tables_schema.specs.States.{IsMade, IsUndone};
 ghost use Rattle.reg_tables_sql.specs.Abouts.{LacksBase};
-ghost use Rattle.reg_service.specs.Answered.{AreAs, AreUpToDate, Shows};
-ghost use Rattle.reg_service.specs.Registries.{AreChecked, AreDamaged, AreOne, IsBrought, IsNew, IsUpToDate, LeavesOpened, MayBeUpgraded, MayBecome, has_stopped, limits_of, room_of, tables_of};
+ghost use Rattle.reg_service.specs.Answered.{AreAs, AreUpToDate, Shows, WasClean};
+ghost use Rattle.reg_service.specs.Registries.{AreChecked, AreDamaged, AreOne, Brings, HasBegun, IsNew, IsUpToDate, LeavesOpened, MayBeUpgraded, MayBecome, has_stopped, limits_of, tables_of};
 ghost use Rattle.reg_tables.specs.Ends.{LeavesLast};
 ghost use Rattle.reg_tables.specs.Works.{AreOurs, edition_in, is_shut, shown};
 
@@ -36,20 +36,16 @@ pub enum OpenFault {
     Storage,
 }
 
+/// A registry, or why there is none, with the connection that is handed back.
+pub type Opened<S> = std::result::Result<Registry<S>, (Connection<S>, OpenFault)>;
+
 /// A registry of tables that passed the checks, upgraded to schema 2.
-fn bring_up<S: Alter>(
-    mut tables: Tables<S>,
-    limits: Limits,
-) -> Result<Registry<S>, (Connection<S>, OpenFault)>
+fn bring_up<S: Alter>(mut tables: Tables<S>, limits: Limits) -> Opened<S>
     requires { AreOurs S.Store tables }
     ensures up_to_date { IfOk result (λ r. AreUpToDate S.Store (tables_of r)) }
-    ensures limited { IfOk result (λ r. limits_of r ≡ limits) }
-    ensures unknown { IfOk result (λ r. room_of r ≡ None) }
-    ensures goes_on { IfOk result (λ r. has_stopped r ≡ is_shut tables) }
-    ensures brought { IfOk result (λ r. HasCleanDisk (shown S.Store (tables_of r))
-        → IsBrought (edition_in tables) (shown S.Store tables) (shown S.Store (tables_of r))) }
-    ensures clean { IfOk result (λ r. HasCleanDisk (shown S.Store (tables_of r))
-        → HasCleanDisk (shown S.Store tables)) }
+    ensures begun { IfOk result (HasBegun limits (is_shut tables)) }
+    ensures brought { IfOk result (Brings S.Store tables) }
+    ensures clean { IfOk result (λ r. WasClean S.Store tables (tables_of r)) }
     ensures refused { IfErr result (λ e. e.1 ≡ OpenFault.Storage) }
     ensures undone { (shown S.Store tables).in_transaction ≡ false → IfErr result (λ e.
         HasCleanDisk (state S.Store e.0) → IsUndone (shown S.Store tables) (state S.Store e.0)) }
@@ -74,20 +70,12 @@ fn bring_up<S: Alter>(
 }
 
 /// A registry of tables that pass the checks.
-fn examine<S: Alter>(
-    alloc: Global,
-    mut tables: Tables<S>,
-    limits: Limits,
-) -> Result<Registry<S>, (Connection<S>, OpenFault)>
+fn examine<S: Alter>(alloc: Global, mut tables: Tables<S>, limits: Limits) -> Opened<S>
     requires { AreOurs S.Store tables }
     ensures up_to_date { IfOk result (λ r. AreUpToDate S.Store (tables_of r)) }
-    ensures limited { IfOk result (λ r. limits_of r ≡ limits) }
-    ensures unknown { IfOk result (λ r. room_of r ≡ None) }
-    ensures goes_on { IfOk result (λ r. has_stopped r ≡ is_shut tables) }
-    ensures brought { IfOk result (λ r. HasCleanDisk (shown S.Store (tables_of r))
-        → IsBrought (edition_in tables) (shown S.Store tables) (shown S.Store (tables_of r))) }
-    ensures clean { IfOk result (λ r. HasCleanDisk (shown S.Store (tables_of r))
-        → HasCleanDisk (shown S.Store tables)) }
+    ensures begun { IfOk result (HasBegun limits (is_shut tables)) }
+    ensures brought { IfOk result (Brings S.Store tables) }
+    ensures clean { IfOk result (λ r. WasClean S.Store tables (tables_of r)) }
     ensures passed { IfOk result (λ r. HasCleanDisk (shown S.Store (tables_of r))
         → AreChecked (edition_in tables) (shown S.Store tables) None) }
     ensures known { IfErr result
@@ -111,11 +99,7 @@ fn examine<S: Alter>(
 impl<S: Alter> Registry<S> {
     /// Opens the registry that a store holds: its tables are taken over, checked, and upgraded to
     /// schema 2. On a fault the connection is handed back.
-    pub fn open(
-        alloc: Global,
-        conn: Connection<S>,
-        limits: Limits,
-    ) -> Result<Registry<S>, (Connection<S>, OpenFault)>
+    pub fn open(alloc: Global, conn: Connection<S>, limits: Limits) -> Opened<S>
         requires { (state S.Store conn).in_transaction ≡ false }
         ensures up_to_date { IfOk result (IsUpToDate S.Store) }
         ensures goes_on { IfOk result (λ r. has_stopped r ≡ false) }
@@ -152,11 +136,7 @@ impl<S: Alter> Registry<S> {
     }
 
     /// Makes an empty registry. On a fault the connection is handed back.
-    pub fn create(
-        conn: Connection<S>,
-        base: &str,
-        limits: Limits,
-    ) -> Result<Registry<S>, (Connection<S>, OpenFault)>
+    pub fn create(conn: Connection<S>, base: &str, limits: Limits) -> Opened<S>
         requires { (state S.Store conn).in_transaction ≡ false }
         ensures made { IfOk result (IsNew S.Store base.now limits) }
         ensures bad_base { IfErr result

@@ -9,7 +9,7 @@ ghost use Rattle.reg_policy.specs.Events.{command_of, reply_of};
 ghost use Rattle.reg_api_requests.specs.Requests.{request_of};
 ghost use Rattle.reg_api_requests.specs.Views.{event_of};
 ghost use Rattle.reg_service.specs.Acted.{IsActed, IsOrdered, IsUntold};
-ghost use Rattle.reg_service.specs.Answered.{IsAnswered};
+ghost use Rattle.reg_service.specs.Answered.{Halts, IsAnswered, WasClean};
 ghost use Rattle.reg_service.specs.Handled.{IsReplied};
 ghost use Rattle.reg_service.specs.Looked.{FailsFirst, IsIndex, IsTrueOf, Looked};
 ghost use Rattle.reg_service.specs.Registries.{IsUpToDate, has_stopped, limits_of, tables_of};
@@ -31,7 +31,7 @@ use reg_policy::{AdminCommand, AdminReply, Rule};
 use reg_service_commands::OrderTold;
 use reg_service_index::{IndexFault, refuse};
 use reg_service_requests::Acted;
-use reg_tables::{StoreFault, Tables};
+use reg_tables::{Result, StoreFault, Tables};
 use sqlite::{Alter, Connection};
 use std::alloc::Global;
 use std::io::Write;
@@ -73,12 +73,10 @@ impl<S: Alter> Registry<S> {
             (Order (command_of command.now)) (reply_of result)
             (tables_of self.old) (tables_of self.new) }
         ensures tables { IsUpToDate S.Store self.new }
-        ensures clean { HasCleanDisk (shown S.Store (tables_of self.new)) → HasCleanDisk
-            (shown S.Store (tables_of self.old)) }
+        ensures clean { WasClean S.Store (tables_of self.old) (tables_of self.new) }
         ensures limits { limits_of self.new ≡ limits_of self.old }
-        ensures stopped { has_stopped self.old ≡ true → result ≡ Err AdminRefusal.G10 }
-        ensures stays { has_stopped self.old ≡ true → has_stopped self.new ≡ true }
-        ensures stops { has_stopped self.new ≡ true → result ≡ Err AdminRefusal.G10 }
+        ensures halts { Halts (has_stopped self.old) (has_stopped self.new)
+            (result ≡ Err AdminRefusal.G10) }
     {
         let OrderTold { answer, line: _ } = self.order(alloc, command, false);
         answer
@@ -91,14 +89,12 @@ impl<S: Alter> Registry<S> {
             IsReplied S.Store (limits_of self.old) asks.digest asks.asked result
             (tables_of self.old) (tables_of self.new) }
         ensures tables { IsUpToDate S.Store self.new }
-        ensures clean { HasCleanDisk (shown S.Store (tables_of self.new)) → HasCleanDisk
-            (shown S.Store (tables_of self.old)) }
+        ensures clean { WasClean S.Store (tables_of self.old) (tables_of self.new) }
         ensures limits { limits_of self.new ≡ limits_of self.old }
         ensures read { IsFit (event_of (request_of (limits_of self.old) request.now))
             ⊎ ((result ≡ Reply.Denied Rule.S1) × (tables_of self.new ≡ tables_of self.old)) }
-        ensures stopped { has_stopped self.old ≡ true → result ≡ Reply.Denied Rule.S1 }
-        ensures stays { has_stopped self.old ≡ true → has_stopped self.new ≡ true }
-        ensures stops { has_stopped self.new ≡ true → result ≡ Reply.Denied Rule.S1 }
+        ensures halts { Halts (has_stopped self.old) (has_stopped self.new)
+            (result ≡ Reply.Denied Rule.S1) }
     {
         let Acted { reply, line: _ } = self.act(alloc, request, false);
         reply
@@ -111,12 +107,10 @@ impl<S: Alter> Registry<S> {
         ensures answers { IsOrdered S.Store (limits_of self.old) traced (command_of command.now)
             result (tables_of self.old) (tables_of self.new) }
         ensures tables { IsUpToDate S.Store self.new }
-        ensures clean { HasCleanDisk (shown S.Store (tables_of self.new)) → HasCleanDisk
-            (shown S.Store (tables_of self.old)) }
+        ensures clean { WasClean S.Store (tables_of self.old) (tables_of self.new) }
         ensures limits { limits_of self.new ≡ limits_of self.old }
-        ensures stopped { has_stopped self.old ≡ true → result.answer ≡ Err AdminRefusal.G10 }
-        ensures stays { has_stopped self.old ≡ true → has_stopped self.new ≡ true }
-        ensures stops { has_stopped self.new ≡ true → result.answer ≡ Err AdminRefusal.G10 }
+        ensures halts { Halts (has_stopped self.old) (has_stopped self.new)
+            (result.answer ≡ Err AdminRefusal.G10) }
     {
         command_in(alloc, &mut self.tables, &self.limits, command, traced)
     }
@@ -128,14 +122,12 @@ impl<S: Alter> Registry<S> {
             IsActed S.Store (limits_of self.old) traced asks.digest asks.asked result
             (tables_of self.old) (tables_of self.new) }
         ensures tables { IsUpToDate S.Store self.new }
-        ensures clean { HasCleanDisk (shown S.Store (tables_of self.new)) → HasCleanDisk
-            (shown S.Store (tables_of self.old)) }
+        ensures clean { WasClean S.Store (tables_of self.old) (tables_of self.new) }
         ensures limits { limits_of self.new ≡ limits_of self.old }
         ensures read { IsFit (event_of (request_of (limits_of self.old) request.now))
             ⊎ (IsUntold result × (tables_of self.new ≡ tables_of self.old)) }
-        ensures stopped { has_stopped self.old ≡ true → result.reply ≡ Reply.Denied Rule.S1 }
-        ensures stays { has_stopped self.old ≡ true → has_stopped self.new ≡ true }
-        ensures stops { has_stopped self.new ≡ true → result.reply ≡ Reply.Denied Rule.S1 }
+        ensures halts { Halts (has_stopped self.old) (has_stopped self.new)
+            (result.reply ≡ Reply.Denied Rule.S1) }
     {
         let Ok(parts) = read_request(alloc, request, &self.limits) else {
             return denied(Rule::S1);
@@ -183,7 +175,7 @@ impl<S: Alter> Registry<S> {
 
     /// The files of the index, each after its path: the config, then each crate's in the order of
     /// the canonical texts. Nothing is changed.
-    pub fn export(&mut self, alloc: Global) -> Result<Vec<(String, Vec<u8>)>, StoreFault>
+    pub fn export(&mut self, alloc: Global) -> Result<Vec<(String, Vec<u8>)>>
         requires { IsUpToDate S.Store self.old }
         ensures exported { IsTrueOf S.Store IsIndex result (tables_of self.old)
             (tables_of self.new) }
@@ -197,7 +189,7 @@ impl<S: Alter> Registry<S> {
 
     /// The first check of the rows that fails; none if all pass, and then the rows are those of a
     /// sound registry. Nothing is changed.
-    pub fn audit(&mut self, alloc: Global) -> Result<Option<Check>, StoreFault>
+    pub fn audit(&mut self, alloc: Global) -> Result<Option<Check>>
         requires { IsUpToDate S.Store self.old }
         ensures found { HasCleanDisk (shown S.Store (tables_of self.new)) → IfOk result
             (FailsFirst S.Store (tables_of self.old)) }

@@ -6,10 +6,9 @@
 ghost use Rattle.std.specs.Prelude.{◌≡◌, if◌then◌else◌, IfSome, None, Some, false, string_bytes};
 ghost use Rattle.std.specs.Option.{option_map};
 ghost use Rattle.sqlite.specs.State.{HasCleanDisk};
-ghost use Rattle.reg_access.specs.Asks.{Asks};
+ghost use Rattle.reg_tables.specs.Calling.{Asks, Runs};
 ghost use Rattle.reg_model.specs.Events.Asked.{Publish};
 ghost use Rattle.reg_policy.specs.Events.{asked_of, publication_of};
-ghost use Rattle.reg_service_requests.specs.Runs.{Runs};
 ghost use Rattle.reg_service.specs.Rooms.{AreWider, IsKnownIn, IsPlace, ServesInPlace, TellsLeft, TellsLeftAt, TellsLeftOf, added};
 ghost use Rattle.reg_tables.specs.Works.{IsAtWork, has_failed, rows_seen, seen};
 
@@ -18,7 +17,7 @@ use reg_line::Digest;
 use reg_names::{CrateName, canon};
 use reg_policy::{Asked, NewPublication};
 use reg_service_requests::{ServedTold, serve_told};
-use reg_tables::{Crate, StoreFault, Work};
+use reg_tables::{Crate, Result, Work};
 use sqlite::Alter;
 use std::alloc::Global;
 
@@ -67,7 +66,7 @@ fn count_left<S: Alter>(
     limits: &Limits,
     id: u32,
     name: &CrateName,
-) -> Result<u64, StoreFault>
+) -> Result<u64>
     requires { IsAtWork S.Store work.old }
     ensures { Asks S.Store work.old work.new result (TellsLeft limits.now id name.now) }
 {
@@ -76,12 +75,7 @@ fn count_left<S: Alter>(
 }
 
 /// How many versions a crate has room for that has this id.
-fn left_at<S: Alter>(
-    work: &mut Work<'_, S>,
-    limits: &Limits,
-    id: u32,
-    room: &Room,
-) -> Result<u64, StoreFault>
+fn left_at<S: Alter>(work: &mut Work<'_, S>, limits: &Limits, id: u32, room: &Room) -> Result<u64>
     requires at_work { IsAtWork S.Store work.old }
     requires goes_on { has_failed work.old ≡ false }
     ensures { Asks S.Store work.old work.new result (TellsLeftAt limits.now id room.now) }
@@ -104,11 +98,7 @@ fn id_spelled(found: &Option<Crate>, name: &CrateName) -> Option<u32>
 }
 
 /// How many versions the crate has room for that was published last.
-fn left_in<S: Alter>(
-    work: &mut Work<'_, S>,
-    limits: &Limits,
-    room: &Room,
-) -> Result<u64, StoreFault>
+fn left_in<S: Alter>(work: &mut Work<'_, S>, limits: &Limits, room: &Room) -> Result<u64>
     requires { IsAtWork S.Store work.old }
     ensures { Asks S.Store work.old work.new result
         (TellsLeftOf limits.now (Some room.now) room.now.name) }
@@ -136,7 +126,7 @@ fn left_of<S: Alter>(
     limits: &Limits,
     known: &Option<Room>,
     name: &CrateName,
-) -> Result<u64, StoreFault>
+) -> Result<u64>
     requires at_work { IsAtWork S.Store work.old }
     requires goes_on { has_failed work.old ≡ false }
     ensures { Asks S.Store work.old work.new result (TellsLeftOf limits.now known.now name.now) }
@@ -165,7 +155,7 @@ fn place_of<S: Alter>(
     limits: &Limits,
     known: Option<Room>,
     asked: &Asked<'_>,
-) -> Result<Place, StoreFault>
+) -> Result<Place>
     requires at_work { IsAtWork S.Store work.old }
     requires goes_on { has_failed work.old ≡ false }
     ensures { Asks S.Store work.old work.new result
@@ -196,7 +186,7 @@ pub(crate) fn serve_in_place<S: Alter>(
     digest: Option<&Digest>,
     asked: &Asked<'_>,
     traced: bool,
-) -> Result<(ServedTold, Option<Room>), StoreFault>
+) -> Result<(ServedTold, Option<Room>)>
     requires at_work { IsAtWork S.Store work.old }
     requires goes_on { has_failed work.old ≡ false }
     requires known { HasCleanDisk (seen S.Store work.old)

@@ -1,15 +1,14 @@
 //! Index files, sent as they are read. The request is decided in a transaction that keeps nothing.
 
-ghost use Rattle.std.specs.Prelude.{◌≡◌, ◌+◌, ◌^◌, ◌<◌, [], true, IsErr};
+ghost use Rattle.std.specs.Prelude.{◌≡◌, [], true, IsErr};
 ghost use Rattle.std.specs.Option.{option_map};
-ghost use Rattle.sqlite.specs.State.{HasCleanDisk};
 ghost use Rattle.reg_model.specs.Actions.{logins_of};
 ghost use Rattle.reg_model.specs.Events.{action_of};
 ghost use Rattle.reg_model.specs.Events.Asked.{Index as to_index};
 ghost use Rattle.reg_api_replies.specs.Sent.{sink};
-ghost use Rattle.reg_tables.specs.Works.{is_shut, shown};
-ghost use Rattle.reg_service.specs.Answered.{AreUpToDate};
-ghost use Rattle.reg_service.specs.Streamed.{IsDecided, IsStreamed, LeavesStream};
+ghost use Rattle.reg_tables.specs.Works.{is_shut};
+ghost use Rattle.reg_service.specs.Answered.{AreUpToDate, WasClean};
+ghost use Rattle.reg_service.specs.Streamed.{IsDecided, IsStreamed, LeavesStream, MayStream};
 
 use reg_api_requests::Parts;
 use reg_body::Counted;
@@ -17,7 +16,7 @@ use reg_line::Digest;
 use reg_policy::{Asked, Rule};
 use reg_service_index::laws::file_law;
 use reg_service_index::{Decided, IndexFault, decide_file, refuse, send_file};
-use reg_tables::{StoreFault, Tables};
+use reg_tables::{Result, StoreFault, Tables};
 use sqlite::Alter;
 use std::io::Write;
 
@@ -26,13 +25,12 @@ fn decide_in<S: Alter>(
     tables: &mut Tables<S>,
     digest: Option<&Digest>,
     path: &str,
-) -> Result<Decided, StoreFault>
+) -> Result<Decided>
     requires { AreUpToDate S.Store tables.old }
     ensures decided { (limits : _) → IsDecided S.Store limits (option_map (λ d. d.now) digest.entry)
         path.now result tables.old tables.new }
     ensures tables { AreUpToDate S.Store tables.new }
-    ensures clean { HasCleanDisk (shown S.Store tables.new) → HasCleanDisk
-        (shown S.Store tables.old) }
+    ensures clean { WasClean S.Store tables.old tables.new }
     ensures same_mode { is_shut tables.new ≡ is_shut tables.old }
     ensures stopped { is_shut tables.old ≡ true → IsErr result }
 {
@@ -51,8 +49,7 @@ fn stream_in<S: Alter, W: Write>(
     w: &mut Counted<W>,
     writes: u64,
 ) -> Result<u64, IndexFault>
-    requires tables { AreUpToDate S.Store tables.old }
-    requires room { w.old.calls + writes < 2 ^ 64 }
+    requires { MayStream S.Store tables.old w.old writes }
     ensures streams { (limits : _) → IsStreamed S.Store limits
         (option_map (λ d. d.now) digest.entry) (to_index path.now) close result writes
         tables.old tables.new (sink (W.contents w.old.inner) w.old)
@@ -76,9 +73,8 @@ pub(crate) fn stream_parts<S: Alter, W: Write>(
     w: &mut Counted<W>,
     writes: u64,
 ) -> Result<u64, IndexFault>
-    requires tables { AreUpToDate S.Store tables.old }
+    requires may { MayStream S.Store tables.old w.old writes }
     requires plain { logins_of (action_of parts.now.asked) ≡ [] }
-    requires room { w.old.calls + writes < 2 ^ 64 }
     ensures streams { (limits : _) → IsStreamed S.Store limits parts.now.digest parts.now.asked
         close result writes tables.old tables.new (sink (W.contents w.old.inner) w.old)
         (sink (W.contents w.new.inner) w.new) }

@@ -1,14 +1,13 @@
 //! A request or a command as one transaction.
 
-ghost use Rattle.std.specs.Prelude.{◌≡◌, true, Err, None};
+ghost use Rattle.std.specs.Prelude.{◌≡◌, Err, None};
 ghost use Rattle.std.specs.Option.{option_map};
-ghost use Rattle.sqlite.specs.State.{HasCleanDisk};
 ghost use Rattle.reg_model.specs.Events.Event.{Ask, Order};
 ghost use Rattle.reg_model.specs.Steps.{IsFit};
 ghost use Rattle.reg_policy.specs.Events.{asked_of, command_of};
-ghost use Rattle.reg_tables.specs.Works.{is_shut, shown};
+ghost use Rattle.reg_tables.specs.Works.{is_shut};
 ghost use Rattle.reg_service.specs.Acted.{IsActed, IsOrdered};
-ghost use Rattle.reg_service.specs.Answered.{AreUpToDate};
+ghost use Rattle.reg_service.specs.Answered.{AreUpToDate, Halts, WasClean};
 ghost use Rattle.reg_service.specs.Rooms.{IsKnown};
 
 use crate::room::{Room, serve_in_place};
@@ -51,11 +50,9 @@ pub(crate) fn command_in<S: Alter>(
     ensures answers { IsOrdered S.Store limits.now traced (command_of command.now) result
         tables.old tables.new }
     ensures tables { AreUpToDate S.Store tables.new }
-    ensures clean { HasCleanDisk (shown S.Store tables.new) → HasCleanDisk
-        (shown S.Store tables.old) }
-    ensures stopped { is_shut tables.old ≡ true → result.answer ≡ Err AdminRefusal.G10 }
-    ensures stays { is_shut tables.old ≡ true → is_shut tables.new ≡ true }
-    ensures stops { is_shut tables.new ≡ true → result.answer ≡ Err AdminRefusal.G10 }
+    ensures clean { WasClean S.Store tables.old tables.new }
+    ensures halts { Halts (is_shut tables.old) (is_shut tables.new)
+        (result.answer ≡ Err AdminRefusal.G10) }
 {
     soundness_law();
     denial_law();
@@ -103,11 +100,9 @@ pub(crate) fn request_in<S: Alter>(
         (asked_of asked.now) result tables.old tables.new }
     ensures tables { AreUpToDate S.Store tables.new }
     ensures known { IsKnown S.Store limits.now room.new tables.new }
-    ensures clean { HasCleanDisk (shown S.Store tables.new) → HasCleanDisk
-        (shown S.Store tables.old) }
-    ensures stopped { is_shut tables.old ≡ true → result.reply ≡ Reply.Denied Rule.S1 }
-    ensures stays { is_shut tables.old ≡ true → is_shut tables.new ≡ true }
-    ensures stops { is_shut tables.new ≡ true → result.reply ≡ Reply.Denied Rule.S1 }
+    ensures clean { WasClean S.Store tables.old tables.new }
+    ensures halts { Halts (is_shut tables.old) (is_shut tables.new)
+        (result.reply ≡ Reply.Denied Rule.S1) }
 {
     soundness_law();
     let known = room.take();
@@ -149,11 +144,9 @@ pub(crate) fn parts_in<S: Alter>(
         tables.old tables.new }
     ensures tables { AreUpToDate S.Store tables.new }
     ensures known { IsKnown S.Store limits.now room.new tables.new }
-    ensures clean { HasCleanDisk (shown S.Store tables.new) → HasCleanDisk
-        (shown S.Store tables.old) }
-    ensures stopped { is_shut tables.old ≡ true → result.reply ≡ Reply.Denied Rule.S1 }
-    ensures stays { is_shut tables.old ≡ true → is_shut tables.new ≡ true }
-    ensures stops { is_shut tables.new ≡ true → result.reply ≡ Reply.Denied Rule.S1 }
+    ensures clean { WasClean S.Store tables.old tables.new }
+    ensures halts { Halts (is_shut tables.old) (is_shut tables.new)
+        (result.reply ≡ Reply.Denied Rule.S1) }
 {
     let Ok(logins) = parts.logins(alloc) else {
         return denied(Rule::S1);

@@ -11,7 +11,7 @@ use Rattle.reg_tables_sql.specs.declared.versions.Version.{Version}
 use Rattle.reg_tables_meaning.specs.Calls.{ListsCrates, ListsVersions}
 use Rattle.reg_tables.specs.declared.work.StoreFault.{StoreFault}
 use Rattle.reg_tables.specs.declared.work.Work.{Work}
-use Rattle.reg_access.specs.Asks.{Asks}
+use Rattle.reg_tables.specs.Calling.{Asks}
 use Rattle.reg_access.proofs.Questions.{asks_after, asks_both, asks_failed, asks_made}
 use Rattle.reg_service_commands.specs.ReportedCrates.{AddsLine, HasLines, IsCrate, highest_among, line_of_crate}
 use Rattle.reg_service_commands.specs.Reports.{Reports}

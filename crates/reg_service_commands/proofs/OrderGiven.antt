@@ -10,7 +10,7 @@ use Rattle.reg_policy.specs.declared.event.AdminCommand.TheVariants.{Access, Cra
 use Rattle.reg_policy.specs.Events.{command_of}
 use Rattle.reg_tables.specs.declared.work.StoreFault.{StoreFault}
 use Rattle.reg_tables.specs.declared.work.Work.{Work}
-use Rattle.reg_access.specs.Asks.{Asks}
+use Rattle.reg_tables.specs.Calling.{Asks}
 use Rattle.reg_service_requests.specs.Telling.{TellsLine}
 use Rattle.reg_service_commands.proofs.Ordered.{is_report}
 

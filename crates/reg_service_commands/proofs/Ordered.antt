@@ -35,7 +35,7 @@ use Rattle.reg_service_requests.proofs.Names.{is_given, is_not}
 use Rattle.reg_service_commands.specs.Orders.{enabling, reading, restricting}
 use Rattle.reg_tables_meaning.specs.Calls.{TellsLive}
 use Rattle.reg_service_requests.specs.Named.{FindsNamed}
-use Rattle.reg_service_requests.specs.Telling.{TellsLine, differs}
+use Rattle.reg_service_requests.specs.Telling.{TellsLine, differs, line_if}
 use Rattle.reg_service_commands.specs.Telling.{enabled_word, reader_word, restricted_word}
 use Rattle.reg_service_requests.proofs.Owned.{one_owns}
 use Rattle.reg_service_requests.proofs.Placed.{login_passes}
@@ -64,8 +64,19 @@ order_line limits s c ok = ap (λ o. option_map by_admin (unless_some o (command
 pub order_told : (c : Command) (db : Trees) (words : List Text) (found : Option (String Global)) → Orders c db (Some words) → Some (line_of (codes "-" ∷ codes "admin" ∷ words)) ≡ option_map string_bytes found → TellsLine (Order c) db found
 order_told c db words found has e = λ ids s h limits ok. order_line limits s c ok ∙ ap (option_map by_admin) (has ids s h limits ok) ∙ e
 
+in_line_if : (b : Bool) (words : List Text) → option_map by_admin (only_if b words) ≡ line_if b (codes "-" ∷ codes "admin" ∷ words)
+in_line_if true words = refl
+in_line_if false words = refl
+
+pub order_words : (c : Command) (db : Trees) (b : Bool) (words : List Text) (found : Option (String Global)) → Orders c db (only_if b words) → option_map string_bytes found ≡ line_if b (codes "-" ∷ codes "admin" ∷ words) → TellsLine (Order c) db found
+order_words c db b words found has e = λ ids s h limits ok. order_line limits s c ok ∙ ap (option_map by_admin) (has ids s h limits ok) ∙ in_line_if b words ∙ sym e
+
 pub order_untold : (c : Command) (db : Trees) → Orders c db None → TellsLine (Order c) db None
 order_untold c db has = λ ids s h limits ok. order_line limits s c ok ∙ ap (option_map by_admin) (has ids s h limits ok)
+
+otherwise : (b : Bool) (words : List Text) → unless b words ≡ only_if (not b) words
+otherwise true words = refl
+otherwise false words = refl
 
 -- accounts
 pub user_words : (login : Text) (name : Option Text) (db : Trees) → Orders (UserAdd login name) db (Some (codes "user-add" ∷ login ∷ name_words name))
@@ -159,11 +170,12 @@ pub reserved_always : (n given : Text) (db : Trees) → name_of n ≡ Some given
 reserved_always n given db name e = λ ids s h limits ok.
     ap (λ b. unless (b || finset.contains s.reserved (canon n)) (codes "reserve" ∷ n ∷ [])) (ap (λ t. is_reserved_always (canon t)) (is_given n given name).1 ∙ e)
 
-pub reserve_words : (n given : Text) (there : Bool) (db : Trees) → name_of n ≡ Some given → is_reserved_always (canon given) ≡ false → TellsReserved (canon given) db there → Orders (Reserve n) db (unless there (codes "reserve" ∷ n ∷ []))
+pub reserve_words : (n given : Text) (there : Bool) (db : Trees) → name_of n ≡ Some given → is_reserved_always (canon given) ≡ false → TellsReserved (canon given) db there → Orders (Reserve n) db (only_if (not there) (codes "reserve" ∷ n ∷ []))
 reserve_words n given there db name e tells = λ ids s h limits ok.
     let same = (is_given n given name).1 in
     ap (λ b. unless (b || finset.contains s.reserved (canon n)) (codes "reserve" ∷ n ∷ [])) (ap (λ t. is_reserved_always (canon t)) same ∙ e)
     ∙ ap (λ b. unless b (codes "reserve" ∷ n ∷ [])) (ap (λ t. finset.contains s.reserved (canon t)) same ∙ sym (tells ids s h))
+    ∙ otherwise there (codes "reserve" ∷ n ∷ [])
 
 pub free_words : (n given : Text) (there : Bool) (db : Trees) → name_of n ≡ Some given → TellsReserved (canon given) db there → Orders (Unreserve n) db (only_if there (codes "unreserve" ∷ n ∷ []))
 free_words n given there db name tells = λ ids s h limits ok.
@@ -203,12 +215,13 @@ pub no_crate_owned : (n login : Text) (db : Trees) → FindsNamed n db None → 
 no_crate_owned n login db none = λ ids s h limits ok. true_not_false _ (not_false _ (not_refused limits s (OwnerAdd n login) ok).0) (none ids s h)
 
 pub owner_words : (n login : Text) (it : Crate) (list : List Account) (b : Bool) (db : Trees) → FindsNamed n db (Some it) → ListsOwners it.id db list → list_any (λ a. bytes_eq (string_bytes a.login) login) list ≡ b
-    → Orders (OwnerAdd n login) db (unless b (codes "owner-add" ∷ string_bytes it.name ∷ login ∷ []))
+    → Orders (OwnerAdd n login) db (only_if (not b) (codes "owner-add" ∷ string_bytes it.name ∷ login ∷ []))
 owner_words n login it list b db finds lists e = λ ids s h limits ok.
     let f = finds ids s h in
     let same = first_canon s n (string_bytes it.name) f.first in
     let has = one_has (owns s n) (id_of_login s login) (not_refused limits s (OwnerAdd n login) ok).1.0 ∙ sym (one_owns s h.sound n (string_bytes it.name) login _ list f.at same (lists ids s h)) ∙ e in
     ap (λ x. unless x (codes "owner-add" ∷ spelled s n ∷ login ∷ [])) has ∙ ap (λ o. unless b (codes "owner-add" ∷ unwrap_or o n ∷ login ∷ [])) f.first
+    ∙ otherwise b (codes "owner-add" ∷ string_bytes it.name ∷ login ∷ [])
 
 one_reads : (s : Registry) → Sound s → (n m l : Text) (o : Option Text) (list : List Account) → o ≡ Some m → canon m ≡ canon n → map entry_of_account list ≡ told_of o [] (readers s)
     → list_any (λ a. bytes_eq (string_bytes a.login) l) list ≡ holds (reads s n) (id_of_login s l)

@@ -11,7 +11,7 @@ use Rattle.reg_tables_meaning.specs.Calls.{ListsAccounts, ListsScopes, ListsToke
 use Rattle.reg_tables_meaning.specs.declared.tokens.TokenLists.{TokenLists}
 use Rattle.reg_tables.specs.declared.work.StoreFault.{StoreFault}
 use Rattle.reg_tables.specs.declared.work.Work.{Work}
-use Rattle.reg_access.specs.Asks.{Asks}
+use Rattle.reg_tables.specs.Calling.{Asks}
 use Rattle.reg_access.proofs.Questions.{asks_both, asks_made}
 use Rattle.reg_service_commands.specs.Reports.{Reports}
 use Rattle.reg_service_commands.specs.ReportedTokens.{AreTokens, line_among}

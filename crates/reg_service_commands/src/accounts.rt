@@ -6,16 +6,17 @@ ghost use Rattle.reg_names.specs.Logins.{is_login};
 ghost use Rattle.reg_model.specs.Events.Command.{UserAdd};
 ghost use Rattle.reg_model.specs.Refusals.{may_name as may_name_text};
 ghost use Rattle.reg_tables.specs.Works.{IsAtWork, has_failed};
-ghost use Rattle.reg_access.specs.Asks.{Asks};
+ghost use Rattle.reg_tables.specs.Calling.{Asks};
 ghost use Rattle.reg_tables_meaning.specs.Calls.{Tells};
 ghost use Rattle.reg_service_commands.specs.Orders.{Obeys, ObeysUnder, account_refusal, enabling};
 
 use crate::finding::refused_if;
+use crate::told::Answer;
 use reg_body::Limits;
 use reg_model::AdminRefusal;
 use reg_names::parse_login;
 use reg_policy::{AdminReply, may_name};
-use reg_tables::{StoreFault, Work};
+use reg_tables::{Result, Work};
 use sqlite::Alter;
 
 /// Enables or disables an account.
@@ -23,7 +24,7 @@ pub(crate) fn set_enabled<S: Alter>(
     work: &mut Work<'_, S>,
     login: &str,
     enabled: bool,
-) -> Result<Result<AdminReply, AdminRefusal>, StoreFault>
+) -> Result<Answer>
     requires { IsAtWork S.Store work.old }
     ensures { Obeys S.Store (enabling enabled login.now) result work.old work.new }
 {
@@ -43,7 +44,7 @@ fn is_account(login: &str, name: Option<&str>) -> bool
 }
 
 /// Whether there are as many accounts as allowed.
-fn is_full<S: Alter>(work: &mut Work<'_, S>, limits: &Limits) -> Result<bool, StoreFault>
+fn is_full<S: Alter>(work: &mut Work<'_, S>, limits: &Limits) -> Result<bool>
     requires { IsAtWork S.Store work.old }
     ensures { Asks S.Store work.old work.new result
         (λ db full. Tells (λ ids s. full ≡ nat_le limits.now.accounts (length s.accounts)) db) }
@@ -57,7 +58,7 @@ fn refuses_account<S: Alter>(
     work: &mut Work<'_, S>,
     limits: &Limits,
     login: &str,
-) -> Result<Option<AdminRefusal>, StoreFault>
+) -> Result<Option<AdminRefusal>>
     requires { IsAtWork S.Store work.old }
     ensures { Asks S.Store work.old work.new result (λ db found.
         Tells (λ ids s. account_refusal limits.now login.now s ≡ found) db) }
@@ -76,7 +77,7 @@ pub(crate) fn add_account<S: Alter>(
     limits: &Limits,
     login: &str,
     name: Option<&str>,
-) -> Result<Result<AdminReply, AdminRefusal>, StoreFault>
+) -> Result<Answer>
     requires at_work { IsAtWork S.Store work.old }
     requires goes_on { has_failed work.old ≡ false }
     ensures { ObeysUnder limits.now S.Store

@@ -6,10 +6,11 @@ ghost use Rattle.reg_tables.specs.Works.{IsAtWork, has_failed};
 ghost use Rattle.reg_service_commands.specs.Orders.{Obeys, restricting};
 
 use crate::finding::find_pair;
+use crate::told::Answer;
 use reg_model::AdminRefusal;
 use reg_policy::AdminReply;
 use reg_service_requests::find_named;
-use reg_tables::{StoreFault, Work};
+use reg_tables::{Result, Work};
 use sqlite::Alter;
 
 /// Lets everyone see a crate, or only its owners and readers.
@@ -17,7 +18,7 @@ pub(crate) fn set_restricted<S: Alter>(
     work: &mut Work<'_, S>,
     name: &str,
     restricted: bool,
-) -> Result<Result<AdminReply, AdminRefusal>, StoreFault>
+) -> Result<Answer>
     requires at_work { IsAtWork S.Store work.old }
     requires goes_on { has_failed work.old ≡ false }
     ensures { Obeys S.Store (restricting restricted name.now) result work.old work.new }
@@ -30,11 +31,7 @@ pub(crate) fn set_restricted<S: Alter>(
 }
 
 /// Makes an account, enabled or not, an owner of a crate.
-pub(crate) fn add_owner<S: Alter>(
-    work: &mut Work<'_, S>,
-    name: &str,
-    login: &str,
-) -> Result<Result<AdminReply, AdminRefusal>, StoreFault>
+pub(crate) fn add_owner<S: Alter>(work: &mut Work<'_, S>, name: &str, login: &str) -> Result<Answer>
     requires at_work { IsAtWork S.Store work.old }
     requires goes_on { has_failed work.old ≡ false }
     ensures { Obeys S.Store (OwnerAdd name.now login.now) result work.old work.new }
@@ -51,7 +48,7 @@ pub(crate) fn add_reader<S: Alter>(
     work: &mut Work<'_, S>,
     name: &str,
     login: &str,
-) -> Result<Result<AdminReply, AdminRefusal>, StoreFault>
+) -> Result<Answer>
     requires at_work { IsAtWork S.Store work.old }
     requires goes_on { has_failed work.old ≡ false }
     ensures { Obeys S.Store (ReaderAdd name.now login.now) result work.old work.new }
@@ -68,7 +65,7 @@ pub(crate) fn remove_reader<S: Alter>(
     work: &mut Work<'_, S>,
     name: &str,
     login: &str,
-) -> Result<Result<AdminReply, AdminRefusal>, StoreFault>
+) -> Result<Answer>
     requires at_work { IsAtWork S.Store work.old }
     requires goes_on { has_failed work.old ≡ false }
     ensures { Obeys S.Store (ReaderRemove name.now login.now) result work.old work.new }

@@ -2,12 +2,12 @@
 
 ghost use Rattle.std.specs.Prelude.{◌≡◌, ◌∷◌, [], false};
 ghost use Rattle.reg_tables.specs.Works.{IsAtWork, has_failed};
-ghost use Rattle.reg_access.specs.Asks.{Asks};
+ghost use Rattle.reg_tables.specs.Calling.{Asks};
 ghost use Rattle.reg_service_commands.specs.Orders.{FindsPair, first_ground};
 
 use reg_model::AdminRefusal;
 use reg_service_requests::find_named;
-use reg_tables::{StoreFault, Work};
+use reg_tables::{Result, Work};
 use sqlite::Alter;
 
 /// The ids of the crate with this name and the account with this login, or why not.
@@ -15,7 +15,7 @@ pub(crate) fn find_pair<S: Alter>(
     work: &mut Work<'_, S>,
     name: &str,
     login: &str,
-) -> Result<Result<(u32, u32), AdminRefusal>, StoreFault>
+) -> Result<Result<(u32, u32), AdminRefusal>>
     requires at_work { IsAtWork S.Store work.old }
     requires goes_on { has_failed work.old ≡ false }
     ensures { Asks S.Store work.old work.new result (FindsPair name.now login.now) }

@@ -20,4 +20,4 @@ mod telling;
 mod tokens;
 mod told;
 
-pub use told::{OrderTold, order_told};
+pub use told::{Answer, OrderTold, order_told};

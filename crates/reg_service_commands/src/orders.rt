@@ -10,10 +10,10 @@ use crate::crates::{add_owner, add_reader, remove_reader, set_restricted};
 use crate::names::{reserve, unreserve};
 use crate::reports::{report_access, report_crates, report_tokens, report_users};
 use crate::tokens::{add_token, revoke};
+use crate::told::Answer;
 use reg_body::Limits;
-use reg_model::AdminRefusal;
-use reg_policy::{AdminCommand, AdminReply};
-use reg_tables::{StoreFault, Work};
+use reg_policy::AdminCommand;
+use reg_tables::{Result, Work};
 use sqlite::Alter;
 use std::alloc::Global;
 
@@ -23,7 +23,7 @@ pub(crate) fn order<S: Alter>(
     work: &mut Work<'_, S>,
     limits: &Limits,
     command: &AdminCommand<'_>,
-) -> Result<Result<AdminReply, AdminRefusal>, StoreFault>
+) -> Result<Answer>
     requires at_work { IsAtWork S.Store work.old }
     requires goes_on { has_failed work.old ≡ false }
     ensures { ObeysUnder limits.now S.Store (command_of command.now) result work.old work.new }

@@ -15,10 +15,11 @@ use crate::reports::access::access_report;
 use crate::reports::crates::crates_report;
 use crate::reports::tokens::tokens_report;
 use crate::reports::users::users_report;
+use crate::told::Answer;
 use reg_model::AdminRefusal;
 use reg_names::parse_name;
 use reg_policy::AdminReply;
-use reg_tables::{StoreFault, Work};
+use reg_tables::{Result, Work};
 use sqlite::Alter;
 use std::alloc::Global;
 
@@ -27,7 +28,7 @@ pub(crate) fn report_access<S: Alter>(
     alloc: Global,
     work: &mut Work<'_, S>,
     name: &str,
-) -> Result<Result<AdminReply, AdminRefusal>, StoreFault>
+) -> Result<Answer>
     requires at_work { IsAtWork S.Store work.old }
     requires goes_on { has_failed work.old ≡ false }
     ensures { Obeys S.Store (Access name.now) result work.old work.new }
@@ -40,10 +41,7 @@ pub(crate) fn report_access<S: Alter>(
 }
 
 /// All accounts.
-pub(crate) fn report_users<S: Alter>(
-    alloc: Global,
-    work: &mut Work<'_, S>,
-) -> Result<Result<AdminReply, AdminRefusal>, StoreFault>
+pub(crate) fn report_users<S: Alter>(alloc: Global, work: &mut Work<'_, S>) -> Result<Answer>
     requires { IsAtWork S.Store work.old }
     ensures { Obeys S.Store Users result work.old work.new }
 {
@@ -52,10 +50,7 @@ pub(crate) fn report_users<S: Alter>(
 }
 
 /// All tokens.
-pub(crate) fn report_tokens<S: Alter>(
-    alloc: Global,
-    work: &mut Work<'_, S>,
-) -> Result<Result<AdminReply, AdminRefusal>, StoreFault>
+pub(crate) fn report_tokens<S: Alter>(alloc: Global, work: &mut Work<'_, S>) -> Result<Answer>
     requires { IsAtWork S.Store work.old }
     ensures { Obeys S.Store Tokens result work.old work.new }
 {
@@ -64,10 +59,7 @@ pub(crate) fn report_tokens<S: Alter>(
 }
 
 /// All crates.
-pub(crate) fn report_crates<S: Alter>(
-    alloc: Global,
-    work: &mut Work<'_, S>,
-) -> Result<Result<AdminReply, AdminRefusal>, StoreFault>
+pub(crate) fn report_crates<S: Alter>(alloc: Global, work: &mut Work<'_, S>) -> Result<Answer>
     requires { IsAtWork S.Store work.old }
     ensures { Obeys S.Store Crates result work.old work.new }
 {

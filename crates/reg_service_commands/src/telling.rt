@@ -1,22 +1,23 @@
 //! The line of what a command would change, told before it is done.
 
-ghost use Rattle.std.specs.Prelude.{◌≡◌, false, map, string_bytes, unwrap_or};
+ghost use Rattle.std.specs.Prelude.{◌≡◌, ◌∷◌, [], codes, false, map, string_bytes, unwrap_or};
 ghost use Rattle.std.specs.List.{list_any};
+ghost use Rattle.std.specs.Option.{option_map};
 ghost use Rattle.std.specs.Str.{bytes_eq};
 ghost use Rattle.reg_model.specs.Events.Command.{OwnerAdd, Reserve, TokenAdd, TokenRevoke, Unreserve, UserAdd};
 ghost use Rattle.reg_model.specs.Events.Event.{Order};
 ghost use Rattle.reg_policy.specs.Events.{command_of};
 ghost use Rattle.reg_tables.specs.Works.{IsAtWork, has_failed};
-ghost use Rattle.reg_access.specs.Asks.{Asks};
+ghost use Rattle.reg_tables.specs.Calling.{Asks};
 ghost use Rattle.reg_service_commands.specs.Orders.{enabling, reading, restricting};
-ghost use Rattle.reg_service_requests.specs.Telling.{IsToldLine, TellsLine};
+ghost use Rattle.reg_service_requests.specs.Telling.{IsToldLine, TellsLine, line_if};
 ghost use Rattle.reg_service_commands.specs.Telling.{enabled_word, reader_word, restricted_word};
 
 use crate::lines::{admin_line, admin_pair_line, new_token_line, new_user_line, revocation_line};
 use reg_names::{canon, parse_name};
 use reg_policy::{AdminCommand, is_reserved_always, parse_patterns};
 use reg_service_requests::{differs, find_named, have_login, told_line};
-use reg_tables::{StoreFault, Work};
+use reg_tables::{Result, Work};
 use sqlite::Alter;
 use std::alloc::Global;
 
@@ -36,13 +37,52 @@ fn enabled_verb(enabled: bool) -> &'static str
     }
 }
 
+/// The line of a change of one thing, if something changes; none otherwise.
+fn tell_of<S: Alter>(
+    alloc: Global,
+    work: &mut Work<'_, S>,
+    changes: bool,
+    verb: &str,
+    of: &str,
+) -> Result<Option<String>>
+    requires at_work { IsAtWork S.Store work.old }
+    requires goes_on { has_failed work.old ≡ false }
+    ensures { Asks S.Store work.old work.new result (λ db found. option_map string_bytes found
+        ≡ line_if changes (codes "-" ∷ codes "admin" ∷ verb.now ∷ of.now ∷ [])) }
+{
+    if !changes {
+        return Ok(None);
+    }
+    told_line(work, admin_line(alloc, verb, of))
+}
+
+/// The same of a change of an account and a crate.
+fn tell_of_pair<S: Alter>(
+    alloc: Global,
+    work: &mut Work<'_, S>,
+    changes: bool,
+    verb: &str,
+    name: &str,
+    login: &str,
+) -> Result<Option<String>>
+    requires at_work { IsAtWork S.Store work.old }
+    requires goes_on { has_failed work.old ≡ false }
+    ensures { Asks S.Store work.old work.new result (λ db found. option_map string_bytes found
+        ≡ line_if changes (codes "-" ∷ codes "admin" ∷ verb.now ∷ name.now ∷ login.now ∷ [])) }
+{
+    if !changes {
+        return Ok(None);
+    }
+    told_line(work, admin_pair_line(alloc, verb, name, login))
+}
+
 /// An account that is to be enabled, or disabled, and is not yet.
 fn tell_enabled<S: Alter>(
     alloc: Global,
     work: &mut Work<'_, S>,
     login: &str,
     enabled: bool,
-) -> Result<Option<String>, StoreFault>
+) -> Result<Option<String>>
     requires { IsAtWork S.Store work.old }
     ensures { Asks S.Store work.old work.new result
         (TellsLine (Order (enabling enabled login.now))) }
@@ -50,11 +90,8 @@ fn tell_enabled<S: Alter>(
     let Some(account) = work.account_by_login(login)? else {
         return Ok(None);
     };
-    let changed = differs(account.enabled, enabled);
-    if !changed {
-        return Ok(None);
-    }
-    told_line(work, admin_line(alloc, enabled_verb(enabled), login))
+    let changes = differs(account.enabled, enabled);
+    tell_of(alloc, work, changes, enabled_verb(enabled), login)
 }
 
 /// A new token.
@@ -64,7 +101,7 @@ fn tell_token<S: Alter>(
     login: &str,
     words: &[&str],
     texts: &[&str],
-) -> Result<Option<String>, StoreFault>
+) -> Result<Option<String>>
     requires at_work { IsAtWork S.Store work.old }
     requires goes_on { has_failed work.old ≡ false }
     ensures { (digest : _) → Asks S.Store work.old work.new result
@@ -83,7 +120,7 @@ fn tell_revocation<S: Alter>(
     alloc: Global,
     work: &mut Work<'_, S>,
     id: u32,
-) -> Result<Option<String>, StoreFault>
+) -> Result<Option<String>>
     requires { IsAtWork S.Store work.old }
     ensures { Asks S.Store work.old work.new result (TellsLine (Order (TokenRevoke id))) }
 {
@@ -100,7 +137,7 @@ fn tell_reserve<S: Alter>(
     alloc: Global,
     work: &mut Work<'_, S>,
     name: &str,
-) -> Result<Option<String>, StoreFault>
+) -> Result<Option<String>>
     requires at_work { IsAtWork S.Store work.old }
     requires goes_on { has_failed work.old ≡ false }
     ensures { Asks S.Store work.old work.new result (TellsLine (Order (Reserve name.now))) }
@@ -113,10 +150,7 @@ fn tell_reserve<S: Alter>(
         return Ok(None);
     }
     let reserved = work.is_reserved(&text)?;
-    if reserved {
-        return Ok(None);
-    }
-    told_line(work, admin_line(alloc, "reserve", name))
+    tell_of(alloc, work, !reserved, "reserve", name)
 }
 
 /// A name that the administrator reserved.
@@ -124,7 +158,7 @@ fn tell_unreserve<S: Alter>(
     alloc: Global,
     work: &mut Work<'_, S>,
     name: &str,
-) -> Result<Option<String>, StoreFault>
+) -> Result<Option<String>>
     requires at_work { IsAtWork S.Store work.old }
     requires goes_on { has_failed work.old ≡ false }
     ensures { Asks S.Store work.old work.new result (TellsLine (Order (Unreserve name.now))) }
@@ -133,10 +167,7 @@ fn tell_unreserve<S: Alter>(
         return Ok(None);
     };
     let reserved = work.is_reserved(&canon(&parsed))?;
-    if !reserved {
-        return Ok(None);
-    }
-    told_line(work, admin_line(alloc, "unreserve", name))
+    tell_of(alloc, work, reserved, "unreserve", name)
 }
 
 /// An owner whom the crate has not yet.
@@ -145,7 +176,7 @@ fn tell_owner<S: Alter>(
     work: &mut Work<'_, S>,
     name: &str,
     login: &str,
-) -> Result<Option<String>, StoreFault>
+) -> Result<Option<String>>
     requires at_work { IsAtWork S.Store work.old }
     requires goes_on { has_failed work.old ≡ false }
     ensures { Asks S.Store work.old work.new result
@@ -156,13 +187,7 @@ fn tell_owner<S: Alter>(
     };
     let owners = work.owners_of(alloc, named.id)?;
     let owns = have_login(&owners, login);
-    if owns {
-        return Ok(None);
-    }
-    told_line(
-        work,
-        admin_pair_line(alloc, "owner-add", &named.name, login),
-    )
+    tell_of_pair(alloc, work, !owns, "owner-add", &named.name, login)
 }
 
 fn reader_verb(is_reader: bool) -> &'static str
@@ -182,7 +207,7 @@ fn tell_reader<S: Alter>(
     name: &str,
     login: &str,
     is_reader: bool,
-) -> Result<Option<String>, StoreFault>
+) -> Result<Option<String>>
     requires at_work { IsAtWork S.Store work.old }
     requires goes_on { has_failed work.old ≡ false }
     ensures { Asks S.Store work.old work.new result
@@ -193,12 +218,9 @@ fn tell_reader<S: Alter>(
     };
     let readers = work.readers_of(alloc, named.id)?;
     let reads = have_login(&readers, login);
-    let changed = differs(reads, is_reader);
-    if !changed {
-        return Ok(None);
-    }
+    let changes = differs(reads, is_reader);
     let verb = reader_verb(is_reader);
-    told_line(work, admin_pair_line(alloc, verb, &named.name, login))
+    tell_of_pair(alloc, work, changes, verb, &named.name, login)
 }
 
 fn restricted_verb(restricted: bool) -> &'static str
@@ -217,7 +239,7 @@ fn tell_restricted<S: Alter>(
     work: &mut Work<'_, S>,
     name: &str,
     restricted: bool,
-) -> Result<Option<String>, StoreFault>
+) -> Result<Option<String>>
     requires at_work { IsAtWork S.Store work.old }
     requires goes_on { has_failed work.old ≡ false }
     ensures { Asks S.Store work.old work.new result
@@ -227,12 +249,9 @@ fn tell_restricted<S: Alter>(
         return Ok(None);
     };
     let is_now = work.is_restricted(named.id)?;
-    let changed = differs(is_now, restricted);
-    if !changed {
-        return Ok(None);
-    }
+    let changes = differs(is_now, restricted);
     let verb = restricted_verb(restricted);
-    told_line(work, admin_line(alloc, verb, &named.name))
+    tell_of(alloc, work, changes, verb, &named.name)
 }
 
 /// The line of what a command changes, if nothing refuses it; none if it changes nothing.
@@ -240,7 +259,7 @@ pub(crate) fn tell_command<S: Alter>(
     alloc: Global,
     work: &mut Work<'_, S>,
     command: &AdminCommand<'_>,
-) -> Result<Option<String>, StoreFault>
+) -> Result<Option<String>>
     requires at_work { IsAtWork S.Store work.old }
     requires goes_on { has_failed work.old ≡ false }
     ensures { Asks S.Store work.old work.new result

@@ -7,17 +7,17 @@ ghost use Rattle.reg_model.specs.Refusals.{is_endpoint};
 ghost use Rattle.reg_model.specs.Registry.{with_id};
 ghost use Rattle.reg_tables_meaning.specs.Calls.{Tells};
 ghost use Rattle.reg_tables.specs.Works.{IsAtWork};
-ghost use Rattle.reg_access.specs.Asks.{Asks};
+ghost use Rattle.reg_tables.specs.Calling.{Asks, Runs};
 ghost use Rattle.reg_service_commands.specs.Orders.{IsScope, Obeys, ObeysUnder, PutsToken, is_full_for, token_refusal};
-ghost use Rattle.reg_service_requests.specs.Runs.{Runs};
 
 use crate::finding::refused_if;
+use crate::told::Answer;
 use reg_body::Limits;
 use reg_line::Digest;
 use reg_model::{AdminRefusal, Endpoints};
 use reg_names::Pattern;
 use reg_policy::{AdminReply, are_endpoints, endpoints_named, parse_patterns};
-use reg_tables::{StoreFault, Work};
+use reg_tables::{Result, Work};
 use sqlite::Alter;
 use std::alloc::{AllocError, Global};
 
@@ -29,7 +29,7 @@ fn is_id(id: u32, tokens: u64) -> bool
 }
 
 /// Whether a token has this id.
-fn has_token<S: Alter>(work: &mut Work<'_, S>, id: u32) -> Result<bool, StoreFault>
+fn has_token<S: Alter>(work: &mut Work<'_, S>, id: u32) -> Result<bool>
     requires { IsAtWork S.Store work.old }
     ensures { Asks S.Store work.old work.new result
         (λ db has. Tells (λ ids s. has ≡ is_some (with_id s.tokens id)) db) }
@@ -39,10 +39,7 @@ fn has_token<S: Alter>(work: &mut Work<'_, S>, id: u32) -> Result<bool, StoreFau
 }
 
 /// Revokes the token with this id.
-pub(crate) fn revoke<S: Alter>(
-    work: &mut Work<'_, S>,
-    id: u32,
-) -> Result<Result<AdminReply, AdminRefusal>, StoreFault>
+pub(crate) fn revoke<S: Alter>(work: &mut Work<'_, S>, id: u32) -> Result<Answer>
     requires { IsAtWork S.Store work.old }
     ensures { Obeys S.Store (TokenRevoke id) result work.old work.new }
 {
@@ -61,11 +58,7 @@ fn are_too_many(limits: &Limits, patterns: usize, tokens: u64) -> bool
     (limits.patterns as usize) < patterns || limits.tokens <= tokens
 }
 
-fn is_full<S: Alter>(
-    work: &mut Work<'_, S>,
-    limits: &Limits,
-    patterns: &[Pattern],
-) -> Result<bool, StoreFault>
+fn is_full<S: Alter>(work: &mut Work<'_, S>, limits: &Limits, patterns: &[Pattern]) -> Result<bool>
     requires { IsAtWork S.Store work.old }
     ensures { Asks S.Store work.old work.new result (λ db full.
         Tells (λ ids s. full ≡ is_full_for limits.now patterns.now s) db) }
@@ -81,7 +74,7 @@ fn refuses_token<S: Alter>(
     limits: &Limits,
     digest: &Digest,
     patterns: &[Pattern],
-) -> Result<Option<AdminRefusal>, StoreFault>
+) -> Result<Option<AdminRefusal>>
     requires { IsAtWork S.Store work.old }
     ensures { Asks S.Store work.old work.new result (λ db found.
         Tells (λ ids s. token_refusal limits.now digest.now patterns.now s ≡ found) db) }
@@ -103,7 +96,7 @@ fn put_token<S: Alter>(
     account: u32,
     endpoints: Endpoints,
     patterns: &[Pattern],
-) -> Result<Result<AdminReply, AdminRefusal>, StoreFault>
+) -> Result<Answer>
     requires { IsAtWork S.Store work.old }
     ensures { Runs S.Store work.old work.new result
         (PutsToken limits.now digest.now account endpoints patterns.now) }
@@ -149,7 +142,7 @@ pub(crate) fn add_token<S: Alter>(
     words: &[&str],
     texts: &[&str],
     digest: &Digest,
-) -> Result<Result<AdminReply, AdminRefusal>, StoreFault>
+) -> Result<Answer>
     requires { IsAtWork S.Store work.old }
     ensures { ObeysUnder limits.now S.Store (TokenAdd login.now (map (λ w. w.now) words.now)
         (map (λ t. t.now) texts.now) digest.now) result work.old work.new }

@@ -5,8 +5,7 @@ ghost use Rattle.std.specs.Option.{option_map};
 ghost use Rattle.reg_model.specs.Events.Event.{Order};
 ghost use Rattle.reg_policy.specs.Events.{command_of};
 ghost use Rattle.reg_tables.specs.Works.{IsAtWork, has_failed};
-ghost use Rattle.reg_access.specs.Asks.{Asks};
-ghost use Rattle.reg_service_requests.specs.Runs.{Runs};
+ghost use Rattle.reg_tables.specs.Calling.{Asks, Runs};
 ghost use Rattle.reg_service_commands.specs.Telling.{OrdersTold, line_of_answer};
 ghost use Rattle.reg_service_requests.specs.Telling.{TellsIf};
 
@@ -15,14 +14,17 @@ use crate::telling::tell_command;
 use reg_body::Limits;
 use reg_model::AdminRefusal;
 use reg_policy::{AdminCommand, AdminReply};
-use reg_tables::{StoreFault, Work};
+use reg_tables::{Result, Work};
 use sqlite::Alter;
 use std::alloc::Global;
+
+/// What a command is answered.
+pub type Answer = std::result::Result<AdminReply, AdminRefusal>;
 
 /// What a command is answered, and the line of what it changes.
 #[derive(Drop)]
 pub struct OrderTold {
-    pub answer: Result<AdminReply, AdminRefusal>,
+    pub answer: Answer,
     pub line: Option<String>,
 }
 
@@ -32,7 +34,7 @@ fn tell_if<S: Alter>(
     work: &mut Work<'_, S>,
     command: &AdminCommand<'_>,
     traced: bool,
-) -> Result<Option<String>, StoreFault>
+) -> Result<Option<String>>
     requires at_work { IsAtWork S.Store work.old }
     requires goes_on { has_failed work.old ≡ false }
     ensures { Asks S.Store work.old work.new result
@@ -51,7 +53,7 @@ pub fn order_told<S: Alter>(
     limits: &Limits,
     command: &AdminCommand<'_>,
     traced: bool,
-) -> Result<OrderTold, StoreFault>
+) -> Result<OrderTold>
     requires at_work { IsAtWork S.Store work.old }
     requires goes_on { has_failed work.old ≡ false }
     ensures { Runs S.Store work.old work.new result

@@ -2,7 +2,7 @@
 
 ghost use Rattle.std.specs.Prelude.{◌≡◌, false};
 ghost use Rattle.std.specs.Option.{option_map};
-ghost use Rattle.reg_access.specs.Asks.{Asks};
+ghost use Rattle.reg_tables.specs.Calling.{Asks};
 ghost use Rattle.reg_tables.specs.Works.{IsAtWork, has_failed};
 ghost use Rattle.reg_service_index.specs.Decides.{Decides, HasLength};
 
@@ -11,7 +11,7 @@ use reg_access::{Admission, FoundCrate, admit};
 use reg_line::Digest;
 use reg_model::laws::access_law;
 use reg_policy::{Action, Rule};
-use reg_tables::{StoreFault, Work};
+use reg_tables::{Result, Work};
 use sqlite::Alter;
 
 /// The decision on a request for an index file.
@@ -24,7 +24,7 @@ pub enum Decided {
 }
 
 /// The index file of a crate.
-fn find_file<S: Alter>(work: &mut Work<'_, S>, found: &FoundCrate) -> Result<Decided, StoreFault>
+fn find_file<S: Alter>(work: &mut Work<'_, S>, found: &FoundCrate) -> Result<Decided>
     requires { IsAtWork S.Store work.old }
     ensures { Asks S.Store work.old work.new result (HasLength found.now.id) }
 {
@@ -43,7 +43,7 @@ pub fn decide_file<S: Alter>(
     work: &mut Work<'_, S>,
     digest: Option<&Digest>,
     path: &str,
-) -> Result<Decided, StoreFault>
+) -> Result<Decided>
     requires at_work { IsAtWork S.Store work.old }
     requires goes_on { has_failed work.old ≡ false }
     ensures { Asks S.Store work.old work.new result

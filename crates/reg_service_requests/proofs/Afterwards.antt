@@ -10,10 +10,10 @@ use Rattle.sqlite_trees.specs.declared.store.Store.{Ghosts}
 use Rattle.reg_model.specs.Registry.{Text}
 use Rattle.reg_tables.specs.declared.work.Work.{Work}
 use Rattle.reg_tables.specs.Works.{rows_seen, seen}
-use Rattle.reg_access.specs.Asks.{Asks}
+use Rattle.reg_tables.specs.Calling.{Asks}
 use Rattle.reg_access.proofs.Calls.{called_ok, then_called}
 use Rattle.reg_access.proofs.Questions.{asks_after, same_rows}
-use Rattle.reg_service_requests.specs.Runs.{Runs}
+use Rattle.reg_tables.specs.Calling.{Runs}
 use Rattle.reg_service_requests.specs.Telling.{IsToldLine}
 
 module _ {S : Type 0} (g : Ghosts S) where

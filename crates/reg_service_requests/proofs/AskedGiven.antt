@@ -11,7 +11,7 @@ use Rattle.reg_model.specs.declared.rule.Rule.{Rule}
 use Rattle.reg_policy.specs.Events.{asked_of}
 use Rattle.reg_tables.specs.declared.work.StoreFault.{StoreFault}
 use Rattle.reg_tables.specs.declared.work.Work.{Work}
-use Rattle.reg_access.specs.Asks.{Asks}
+use Rattle.reg_tables.specs.Calling.{Asks}
 use Rattle.reg_access.specs.declared.admission.Caller.{Caller}
 use Rattle.reg_service_requests.specs.Telling.{TellsRequest}
 use Rattle.reg_service_requests.proofs.Asking.{is_change}

@@ -11,11 +11,11 @@ use Rattle.reg_model.specs.Events.Asked.{Faulty, Read, Index, Download, ListOwne
 use Rattle.reg_model.specs.Events.Event.{Ask}
 use Rattle.reg_model.specs.Refusals.{denied}
 use Rattle.reg_model.specs.Registry.{Publication, Registry, Text}
-use Rattle.reg_model.specs.Trail.{asker, line, line_of, request_words, unless_some}
+use Rattle.reg_model.specs.Trail.{asker, line, line_of, only_if, request_words, unless_some}
 use Rattle.reg_access.specs.declared.admission.Caller.{Caller}
 use Rattle.reg_tables_meaning.specs.Calls.{Tells}
 use Rattle.reg_service_requests.specs.Granted.{IsCaller}
-use Rattle.reg_service_requests.specs.Telling.{TellsRequest}
+use Rattle.reg_service_requests.specs.Telling.{TellsRequest, line_if}
 
 -- these are the words for what a request of this caller changes that nothing denies
 abbrev pub HasWords : Caller → Asked → Trees → Option (List Text) → Type 0
@@ -34,8 +34,12 @@ spoken : (c : Caller) (asked : Asked) (db : Trees) (words : Option (List Text)) 
 spoken c asked db words d who has = λ ids s h limits ok.
     asked_line limits s d asked ok ∙ ap (λ names. option_map (λ ws. line_of (names ++ ws)) (request_words s asked)) (who ids s h).who ∙ ap (option_map (in_line c)) (has d who ids s h limits ok)
 
-pub line_told : (c : Caller) (asked : Asked) (db : Trees) (words : List Text) (found : Option (String Global)) → HasWords c asked db (Some words) → Some (line_of (decimal c.token ∷ string_bytes c.login ∷ words)) ≡ option_map string_bytes found → TellsRequest true c asked db found
-line_told c asked db words found has e = λ d who ids s h limits ok. spoken c asked db (Some words) d who has ids s h limits ok ∙ e
+in_line_if : (c : Caller) (b : Bool) (words : List Text) → option_map (in_line c) (only_if b words) ≡ line_if b (decimal c.token ∷ string_bytes c.login ∷ words)
+in_line_if c true words = refl
+in_line_if c false words = refl
+
+pub words_told : (c : Caller) (asked : Asked) (db : Trees) (b : Bool) (words : List Text) (found : Option (String Global)) → HasWords c asked db (only_if b words) → option_map string_bytes found ≡ line_if b (decimal c.token ∷ string_bytes c.login ∷ words) → TellsRequest true c asked db found
+words_told c asked db b words found has e = λ d who ids s h limits ok. spoken c asked db (only_if b words) d who has ids s h limits ok ∙ in_line_if c b words ∙ sym e
 
 pub none_told : (c : Caller) (asked : Asked) (db : Trees) → HasWords c asked db None → TellsRequest true c asked db None
 none_told c asked db has = λ d who ids s h limits ok. spoken c asked db None d who has ids s h limits ok

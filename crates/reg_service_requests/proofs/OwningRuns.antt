@@ -11,11 +11,11 @@ use Rattle.reg_tables_meaning.specs.Calls.{Tells}
 use Rattle.reg_tables.specs.declared.work.StoreFault.{StoreFault}
 use Rattle.reg_tables.specs.declared.work.Work.{Work}
 use Rattle.reg_tables.specs.Works.{IsAtWork, IsCall, has_failed, rows_seen, seen}
-use Rattle.reg_access.specs.Asks.{Asks}
+use Rattle.reg_tables.specs.Calling.{Asks}
 use Rattle.reg_access.proofs.Calls.{called_ok, then_called}
 use Rattle.reg_access.proofs.Questions.{asks_after, asks_both, asks_failed, asks_made, asks_nothing, asks_refused}
 use Rattle.reg_service_requests.specs.Owning.{FindsAllKnown, FindsKnown, SetsOwner, SetsOwners, SetsSome}
-use Rattle.reg_service_requests.specs.Runs.{Runs}
+use Rattle.reg_tables.specs.Calling.{Runs}
 use Rattle.reg_service_requests.proofs.OwningIds.{IsSoFar, so_far_all, so_far_ends, so_far_more, so_far_none, texts_of}
 use Rattle.reg_service_requests.proofs.OwningSets.{sets_more, sets_none}
 use Rattle.reg_service_requests.proofs.Running.{runs_failed, runs_nothing}

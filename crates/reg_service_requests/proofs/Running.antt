@@ -5,10 +5,10 @@ use Rattle.sqlite.specs.Tree.{Trees}
 use Rattle.sqlite_trees.specs.declared.store.Store.{Ghosts}
 use Rattle.reg_tables.specs.declared.work.Work.{Work}
 use Rattle.reg_tables.specs.Works.{IsAtWork, IsCall, has_failed, rows_seen, seen}
-use Rattle.reg_access.specs.Asks.{Asks}
+use Rattle.reg_tables.specs.Calling.{Asks}
 use Rattle.reg_access.proofs.Calls.{called_err, called_ok, itself_called, then_called}
 use Rattle.reg_access.proofs.Questions.{same_rows}
-use Rattle.reg_service_requests.specs.Runs.{Runs}
+use Rattle.reg_tables.specs.Calling.{Runs}
 
 module _ {S : Type 0} (g : Ghosts S) where
   -- a call is refused

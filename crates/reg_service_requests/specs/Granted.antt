@@ -15,7 +15,7 @@ use Rattle.reg_model.specs.Rules.{access}
 use Rattle.reg_tables_meaning.specs.Calls.{Tells}
 use Rattle.reg_tables.specs.declared.work.StoreFault.{StoreFault}
 use Rattle.reg_tables.specs.declared.work.Work.{Work}
-use Rattle.reg_service_requests.specs.Runs.{Runs}
+use Rattle.reg_tables.specs.Calling.{Runs}
 use Rattle.reg_service_requests.specs.Serves.{Serves}
 use Rattle.reg_service_requests.specs.declared.served.Served.{Served}
 

@@ -4,6 +4,5 @@ pub mod Named
 pub mod Owning
 pub mod Publications
 pub mod Reads
-pub mod Runs
 pub mod Serves
 pub mod Telling

@@ -11,12 +11,12 @@ use Rattle.reg_body.specs.declared.limits.Limits.{Limits}
 use Rattle.reg_model.specs.Events.{Asked, Event, action_of}
 use Rattle.reg_model.specs.Events.Event.{Ask}
 use Rattle.reg_model.specs.Registry.{Text}
-use Rattle.reg_model.specs.Trail.{IsPassed, line}
+use Rattle.reg_model.specs.Trail.{IsPassed, line, line_of, only_if}
 use Rattle.reg_tables_meaning.specs.Calls.{Tells}
 use Rattle.reg_tables.specs.declared.work.StoreFault.{StoreFault}
 use Rattle.reg_tables.specs.declared.work.Work.{Work}
 use Rattle.reg_service_requests.specs.Granted.{IsCaller, IsLet}
-use Rattle.reg_service_requests.specs.Runs.{Runs}
+use Rattle.reg_tables.specs.Calling.{Runs}
 use Rattle.reg_service_requests.specs.declared.told.ServedTold.{ServedTold}
 use Rattle.reg_api_replies.specs.declared.reply.Reply.{Reply}
 use Rattle.reg_api_replies.specs.declared.reply.Reply.TheVariants.{Done}
@@ -59,6 +59,10 @@ GrantsTold traced limits caller g asked r old new =
 -- a line that was made is told
 abbrev pub IsToldLine : Result (String Global) AllocError → Option (String Global) → Type 0
 IsToldLine made found = (line : String Global) × (made ≡ Ok line) × (found ≡ Some line)
+
+-- the line of these words, if something changes
+abbrev pub line_if : Bool → List Text → Option Text
+line_if changes words = option_map line_of (only_if changes words)
 
 -- whether what is so has yet to become so
 abbrev pub differs : Bool → Bool → Bool

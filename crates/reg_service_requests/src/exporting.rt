@@ -5,7 +5,7 @@ ghost use Rattle.reg_line.specs.Config.{config_text};
 ghost use Rattle.reg_line.specs.File.{file_text};
 ghost use Rattle.reg_names.specs.Names.{path_of};
 ghost use Rattle.reg_tables.specs.Works.{IsAtWork, has_failed};
-ghost use Rattle.reg_access.specs.Asks.{Asks};
+ghost use Rattle.reg_tables.specs.Calling.{Asks};
 ghost use Rattle.reg_service_requests.specs.Exported.{AddsFile, AddsFiles, Exports, HasConfig, texts_of};
 ghost use Rattle.reg_service_requests.specs.Reads.{entry_of_version};
 
@@ -13,7 +13,7 @@ use crate::bodies::index_file;
 use crate::reading::find_base;
 use reg_line::config;
 use reg_names::{CrateName, index_path, parse_name};
-use reg_tables::{Crate, StoreFault, Version, Work};
+use reg_tables::{Crate, Result, Version, Work};
 use sqlite::Alter;
 use std::alloc::{AllocError, Global};
 
@@ -29,10 +29,7 @@ fn config_alone(alloc: Global, base: &str) -> Result<Vec<(String, Vec<u8>)>, All
 }
 
 /// The file that comes before those of the crates.
-fn first_file<S: Alter>(
-    alloc: Global,
-    work: &mut Work<'_, S>,
-) -> Result<Vec<(String, Vec<u8>)>, StoreFault>
+fn first_file<S: Alter>(alloc: Global, work: &mut Work<'_, S>) -> Result<Vec<(String, Vec<u8>)>>
     requires { IsAtWork S.Store work.old }
     ensures { Asks S.Store work.old work.new result
         (λ db files. HasConfig (map texts_of files.items) db) }
@@ -65,7 +62,7 @@ fn add_file<S: Alter>(
     work: &mut Work<'_, S>,
     files: &mut Vec<(String, Vec<u8>)>,
     listed: &Crate,
-) -> Result<(), StoreFault>
+) -> Result<()>
     requires { IsAtWork S.Store work.old }
     ensures { Asks S.Store work.old work.new result (λ db _. AddsFile listed.now
         (map texts_of files.old.items) (map texts_of files.new.items) db) }
@@ -85,7 +82,7 @@ fn add_files<S: Alter>(
     work: &mut Work<'_, S>,
     first: Vec<(String, Vec<u8>)>,
     crates: &[Crate],
-) -> Result<Vec<(String, Vec<u8>)>, StoreFault>
+) -> Result<Vec<(String, Vec<u8>)>>
     requires at_work { IsAtWork S.Store work.old }
     requires goes_on { has_failed work.old ≡ false }
     ensures { Asks S.Store work.old work.new result (λ db files. AddsFiles crates.now crates.now
@@ -100,10 +97,7 @@ fn add_files<S: Alter>(
 
 /// The files of the index, each after its path: the config, then each crate's, ordered by canonical
 /// text.
-pub fn export_all<S: Alter>(
-    alloc: Global,
-    work: &mut Work<'_, S>,
-) -> Result<Vec<(String, Vec<u8>)>, StoreFault>
+pub fn export_all<S: Alter>(alloc: Global, work: &mut Work<'_, S>) -> Result<Vec<(String, Vec<u8>)>>
     requires { IsAtWork S.Store work.old }
     ensures { Asks S.Store work.old work.new result (λ db files. Exports files.items db) }
 {

@@ -6,7 +6,7 @@ ghost use Rattle.reg_service_requests.specs.Granted.{GrantsOf, marking};
 use crate::served::Served;
 use reg_access::FoundCrate;
 use reg_api_replies::{Kind, Reply, ok_body};
-use reg_tables::{StoreFault, Work};
+use reg_tables::{Result, Work};
 use sqlite::Alter;
 use std::alloc::Global;
 
@@ -17,7 +17,7 @@ pub(crate) fn set_yanked<S: Alter>(
     found: &FoundCrate,
     version: &str,
     yanked: bool,
-) -> Result<Served, StoreFault>
+) -> Result<Served>
     requires { IsAtWork S.Store work.old }
     ensures { GrantsOf found.now S.Store (λ name. marking yanked name version.now)
         result work.old work.new }

@@ -6,17 +6,16 @@ ghost use Rattle.std.specs.Option.{option_map};
 ghost use Rattle.std.specs.Str.{bytes_eq};
 ghost use Rattle.reg_model.specs.Events.Asked.{AddOwners, RemoveOwners};
 ghost use Rattle.reg_model.specs.Facts.{has_login as has_login_of};
-ghost use Rattle.reg_tables.specs.Works.{Carried, IsAtWork, IsCall, has_failed, rows_seen};
-ghost use Rattle.reg_access.specs.Asks.{Asks};
+ghost use Rattle.reg_tables.specs.Works.{IsAtWork, has_failed};
+ghost use Rattle.reg_tables.specs.Calling.{Asks, Does, Runs};
 ghost use Rattle.reg_service_requests.specs.Granted.{GrantsOf};
 ghost use Rattle.reg_service_requests.specs.Owning.{AreIdsOf, AreLeaving, DoesOwning, FindsAllKnown, FindsKnown, SaysOwning, SetsOwner, SetsOwners, enabled_id, entries_of, id_among};
-ghost use Rattle.reg_service_requests.specs.Runs.{Runs};
 
 use crate::served::Served;
 use reg_access::FoundCrate;
 use reg_api_replies::{Kind, Reply, owners_added_body, owners_removed_body};
 use reg_policy::{Rule, same_text};
-use reg_tables::{Account, StoreFault, Work};
+use reg_tables::{Account, Result, Work};
 use sqlite::Alter;
 use std::alloc::{AllocError, Global};
 
@@ -31,7 +30,7 @@ fn id_if_enabled(found: &Option<Account>) -> Option<u32>
 }
 
 /// The id of the enabled account with this login, if there is one.
-fn find_known<S: Alter>(work: &mut Work<'_, S>, login: &str) -> Result<Option<u32>, StoreFault>
+fn find_known<S: Alter>(work: &mut Work<'_, S>, login: &str) -> Result<Option<u32>>
     requires { IsAtWork S.Store work.old }
     ensures { Asks S.Store work.old work.new result (FindsKnown login.now) }
 {
@@ -44,7 +43,7 @@ fn find_all_known<S: Alter>(
     alloc: Global,
     work: &mut Work<'_, S>,
     logins: &[&str],
-) -> Result<Option<Vec<u32>>, StoreFault>
+) -> Result<Option<Vec<u32>>>
     requires at_work { IsAtWork S.Store work.old }
     requires goes_on { has_failed work.old ≡ false }
     ensures { Asks S.Store work.old work.new result (FindsAllKnown (map (λ l. l.now) logins.now)) }
@@ -133,11 +132,9 @@ fn set_owner<S: Alter>(
     crate_id: u32,
     account: u32,
     is_owner: bool,
-) -> Result<(), StoreFault>
+) -> Result<()>
     requires { IsAtWork S.Store work.old }
-    ensures set { Carried S.Store work.new result (SetsOwner is_owner crate_id account
-        (rows_seen S.Store work.old) (rows_seen S.Store work.new)) }
-    ensures leaves { IsCall S.Store result work.old work.new }
+    ensures { Does S.Store work.old work.new result (SetsOwner is_owner crate_id account) }
 {
     if is_owner {
         work.add_owner(crate_id, account)
@@ -152,7 +149,7 @@ fn set_owners<S: Alter>(
     crate_id: u32,
     accounts: &[u32],
     are_owners: bool,
-) -> Result<(), StoreFault>
+) -> Result<()>
     requires at_work { IsAtWork S.Store work.old }
     requires goes_on { has_failed work.old ≡ false }
     ensures { Runs S.Store work.old work.new result
@@ -183,7 +180,7 @@ fn change_owners<S: Alter>(
     crate_id: u32,
     accounts: &[u32],
     are_owners: bool,
-) -> Result<Served, StoreFault>
+) -> Result<Served>
     requires at_work { IsAtWork S.Store work.old }
     requires goes_on { has_failed work.old ≡ false }
     ensures { Runs S.Store work.old work.new result (DoesOwning are_owners crate_id accounts.now) }
@@ -201,7 +198,7 @@ pub(crate) fn add_owners<S: Alter>(
     work: &mut Work<'_, S>,
     found: &FoundCrate,
     logins: &[&str],
-) -> Result<Served, StoreFault>
+) -> Result<Served>
     requires at_work { IsAtWork S.Store work.old }
     requires goes_on { has_failed work.old ≡ false }
     ensures { GrantsOf found.now S.Store (λ name. AddOwners name (map (λ l. l.now) logins.now))
@@ -219,7 +216,7 @@ pub(crate) fn remove_owners<S: Alter>(
     work: &mut Work<'_, S>,
     found: &FoundCrate,
     logins: &[&str],
-) -> Result<Served, StoreFault>
+) -> Result<Served>
     requires { IsAtWork S.Store work.old }
     ensures { GrantsOf found.now S.Store (λ name. RemoveOwners name (map (λ l. l.now) logins.now))
         result work.old work.new }

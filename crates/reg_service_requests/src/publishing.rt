@@ -5,17 +5,16 @@ ghost use Rattle.reg_model.specs.Events.Asked.{Publish};
 ghost use Rattle.reg_policy.specs.Events.{publication_of};
 ghost use Rattle.reg_tables_meaning.specs.Calls.{published};
 ghost use Rattle.reg_tables.specs.Works.{IsAtWork};
-ghost use Rattle.reg_access.specs.Asks.{Asks};
+ghost use Rattle.reg_tables.specs.Calling.{Asks, Runs};
 ghost use Rattle.reg_service_requests.specs.Granted.{GrantsTo};
 ghost use Rattle.reg_service_requests.specs.Publications.{MakesCrate, PublishesFirst, PublishesNext, TellsFull, TellsFullOf};
-ghost use Rattle.reg_service_requests.specs.Runs.{Runs};
 
 use crate::served::Served;
 use reg_access::{Caller, FoundCrate};
 use reg_api_replies::{Kind, Reply, publish_body};
 use reg_body::Limits;
 use reg_policy::{NewPublication, Rule};
-use reg_tables::{NewVersion, StoreFault, Work};
+use reg_tables::{NewVersion, Result, Work};
 use sqlite::Alter;
 use std::alloc::Global;
 
@@ -33,7 +32,7 @@ fn version_of<'a>(new: &NewPublication<'a>) -> NewVersion<'a>
 }
 
 /// Whether there are as many crates as allowed.
-fn is_full<S: Alter>(work: &mut Work<'_, S>, limits: &Limits) -> Result<bool, StoreFault>
+fn is_full<S: Alter>(work: &mut Work<'_, S>, limits: &Limits) -> Result<bool>
     requires { IsAtWork S.Store work.old }
     ensures { Asks S.Store work.old work.new result (TellsFull limits.now) }
 {
@@ -41,11 +40,7 @@ fn is_full<S: Alter>(work: &mut Work<'_, S>, limits: &Limits) -> Result<bool, St
 }
 
 /// Whether a crate has as many versions as allowed.
-fn is_full_of<S: Alter>(
-    work: &mut Work<'_, S>,
-    limits: &Limits,
-    found: &FoundCrate,
-) -> Result<bool, StoreFault>
+fn is_full_of<S: Alter>(work: &mut Work<'_, S>, limits: &Limits, found: &FoundCrate) -> Result<bool>
     requires { IsAtWork S.Store work.old }
     ensures { Asks S.Store work.old work.new result (TellsFullOf limits.now found.now) }
 {
@@ -58,7 +53,7 @@ fn make_crate<S: Alter>(
     work: &mut Work<'_, S>,
     owner: u32,
     new: &NewPublication<'_>,
-) -> Result<Served, StoreFault>
+) -> Result<Served>
     requires { IsAtWork S.Store work.old }
     ensures { Runs S.Store work.old work.new result
         (MakesCrate owner (publication_of new.now)) }
@@ -78,7 +73,7 @@ fn publish_first<S: Alter>(
     limits: &Limits,
     owner: u32,
     new: &NewPublication<'_>,
-) -> Result<Served, StoreFault>
+) -> Result<Served>
     requires { IsAtWork S.Store work.old }
     ensures { Runs S.Store work.old work.new result
         (PublishesFirst limits.now owner (publication_of new.now)) }
@@ -97,7 +92,7 @@ fn publish_next<S: Alter>(
     limits: &Limits,
     found: &FoundCrate,
     new: &NewPublication<'_>,
-) -> Result<Served, StoreFault>
+) -> Result<Served>
     requires { IsAtWork S.Store work.old }
     ensures { Runs S.Store work.old work.new result
         (PublishesNext limits.now found.now (publication_of new.now)) }
@@ -121,7 +116,7 @@ pub(crate) fn publish<S: Alter>(
     limits: &Limits,
     caller: &Caller,
     new: &NewPublication<'_>,
-) -> Result<Served, StoreFault>
+) -> Result<Served>
     requires { IsAtWork S.Store work.old }
     ensures { GrantsTo limits.now caller.now S.Store (Publish (publication_of new.now))
         result work.old work.new }

@@ -4,7 +4,7 @@ ghost use Rattle.std.specs.Prelude.{◌≡◌, false, string_bytes};
 ghost use Rattle.reg_model.specs.Events.Asked.{Download, Index, ListOwners, Read};
 ghost use Rattle.reg_model.specs.Events.Reading.{Config};
 ghost use Rattle.reg_tables.specs.Works.{IsAtWork, has_failed};
-ghost use Rattle.reg_access.specs.Asks.{Asks};
+ghost use Rattle.reg_tables.specs.Calling.{Asks};
 ghost use Rattle.reg_service_requests.specs.Granted.{Grants, GrantsOf, GrantsVersion};
 ghost use Rattle.reg_service_requests.specs.Reads.{TellsBase};
 
@@ -13,12 +13,12 @@ use crate::served::Served;
 use reg_access::FoundCrate;
 use reg_api_replies::{Kind, Reply};
 use reg_line::config;
-use reg_tables::{StoreFault, Work};
+use reg_tables::{Result, Work};
 use sqlite::Alter;
 use std::alloc::Global;
 
 /// The base of the registry.
-pub(crate) fn find_base<S: Alter>(work: &mut Work<'_, S>) -> Result<String, StoreFault>
+pub(crate) fn find_base<S: Alter>(work: &mut Work<'_, S>) -> Result<String>
     requires { IsAtWork S.Store work.old }
     ensures { Asks S.Store work.old work.new result (λ db base. TellsBase db (string_bytes base)) }
 {
@@ -29,10 +29,7 @@ pub(crate) fn find_base<S: Alter>(work: &mut Work<'_, S>) -> Result<String, Stor
 }
 
 /// The config of the registry.
-pub(crate) fn read_config<S: Alter>(
-    alloc: Global,
-    work: &mut Work<'_, S>,
-) -> Result<Served, StoreFault>
+pub(crate) fn read_config<S: Alter>(alloc: Global, work: &mut Work<'_, S>) -> Result<Served>
     requires at_work { IsAtWork S.Store work.old }
     requires goes_on { has_failed work.old ≡ false }
     ensures { Grants S.Store (Read Config) result work.old work.new }
@@ -49,7 +46,7 @@ pub(crate) fn read_index<S: Alter>(
     alloc: Global,
     work: &mut Work<'_, S>,
     found: &FoundCrate,
-) -> Result<Served, StoreFault>
+) -> Result<Served>
     requires { IsAtWork S.Store work.old }
     ensures { GrantsOf found.now S.Store Index result work.old work.new }
 {
@@ -61,10 +58,7 @@ pub(crate) fn read_index<S: Alter>(
 }
 
 /// The archive of the version with this id.
-pub(crate) fn read_archive<S: Alter>(
-    work: &mut Work<'_, S>,
-    version: u64,
-) -> Result<Served, StoreFault>
+pub(crate) fn read_archive<S: Alter>(work: &mut Work<'_, S>, version: u64) -> Result<Served>
     requires { IsAtWork S.Store work.old }
     ensures { GrantsVersion version S.Store Download result work.old work.new }
 {
@@ -79,7 +73,7 @@ pub(crate) fn list_owners<S: Alter>(
     alloc: Global,
     work: &mut Work<'_, S>,
     found: &FoundCrate,
-) -> Result<Served, StoreFault>
+) -> Result<Served>
     requires { IsAtWork S.Store work.old }
     ensures { GrantsOf found.now S.Store ListOwners result work.old work.new }
 {

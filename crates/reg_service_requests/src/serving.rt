@@ -9,7 +9,7 @@ ghost use Rattle.reg_policy.specs.Events.{asked_of};
 ghost use Rattle.reg_tables.specs.Works.{IsAtWork, has_failed};
 ghost use Rattle.reg_service_requests.specs.Granted.{GrantsTo};
 ghost use Rattle.reg_api_replies.specs.declared.reply.Reply.TheVariants.{Denied};
-ghost use Rattle.reg_service_requests.specs.Runs.{Runs};
+ghost use Rattle.reg_tables.specs.Calling.{Runs};
 ghost use Rattle.reg_service_requests.specs.Telling.{GrantsTold, ServesTold};
 ghost use Rattle.reg_service_requests.specs.declared.served.Served.TheVariants.{Told};
 
@@ -26,7 +26,7 @@ use reg_body::Limits;
 use reg_line::Digest;
 use reg_model::laws::access_law;
 use reg_policy::{Asked, Reading, Rule, action_of};
-use reg_tables::{StoreFault, Work};
+use reg_tables::{Result, Work};
 use sqlite::Alter;
 use std::alloc::Global;
 
@@ -37,7 +37,7 @@ fn grant<S: Alter>(
     limits: &Limits,
     caller: &Caller,
     asked: &Asked<'_>,
-) -> Result<Served, StoreFault>
+) -> Result<Served>
     requires at_work { IsAtWork S.Store work.old }
     requires goes_on { has_failed work.old ≡ false }
     requires there { needs_crate (action_asked (asked_of asked.now)) ≡ true
@@ -70,7 +70,7 @@ fn grant_told<S: Alter>(
     caller: &Caller,
     asked: &Asked<'_>,
     traced: bool,
-) -> Result<ServedTold, StoreFault>
+) -> Result<ServedTold>
     requires at_work { IsAtWork S.Store work.old }
     requires goes_on { has_failed work.old ≡ false }
     requires there { needs_crate (action_asked (asked_of asked.now)) ≡ true
@@ -105,7 +105,7 @@ pub fn serve_told<S: Alter>(
     digest: Option<&Digest>,
     asked: &Asked<'_>,
     traced: bool,
-) -> Result<ServedTold, StoreFault>
+) -> Result<ServedTold>
     requires at_work { IsAtWork S.Store work.old }
     requires goes_on { has_failed work.old ≡ false }
     ensures { Runs S.Store work.old work.new result (ServesTold traced limits.now

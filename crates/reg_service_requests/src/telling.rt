@@ -1,24 +1,26 @@
 //! The line of what an allowed request would change, told before it is done.
 
-ghost use Rattle.std.specs.Prelude.{◌≡◌, IsSome, false, map, string_bytes, true};
+ghost use Rattle.std.specs.Prelude.{◌≡◌, ◌∷◌, [], IsSome, codes, false, map, string_bytes, true};
 ghost use Rattle.std.specs.Borrow.{Bor};
+ghost use Rattle.std.specs.Fmt.{decimal};
 ghost use Rattle.std.specs.List.{list_any};
+ghost use Rattle.std.specs.Option.{option_map};
 ghost use Rattle.std.specs.Str.{bytes_eq};
 ghost use Rattle.reg_model.specs.Events.{action_of as action_asked};
 ghost use Rattle.reg_model.specs.Events.Asked.{Publish};
 ghost use Rattle.reg_policy.specs.Events.{asked_of, publication_of};
 ghost use Rattle.reg_tables.specs.Works.{IsAtWork, has_failed};
 ghost use Rattle.reg_access.specs.Admitted.{needs_crate};
-ghost use Rattle.reg_access.specs.Asks.{Asks};
+ghost use Rattle.reg_tables.specs.Calling.{Asks};
 ghost use Rattle.reg_service_requests.specs.Granted.{marking};
 ghost use Rattle.reg_service_requests.specs.Owning.{owning};
-ghost use Rattle.reg_service_requests.specs.Telling.{IsToldLine, TellsRequest, changes, differs, mark_word, owners_word};
+ghost use Rattle.reg_service_requests.specs.Telling.{IsToldLine, TellsRequest, changes, differs, line_if, mark_word, owners_word};
 
 use crate::lines::{change_line, with_commas};
 use crate::owning::has_login;
 use reg_access::Caller;
 use reg_policy::{Asked, NewPublication};
-use reg_tables::{Account, StoreFault, Work};
+use reg_tables::{Account, Result, Work};
 use sqlite::Alter;
 use std::alloc::{AllocError, Global};
 
@@ -26,7 +28,7 @@ use std::alloc::{AllocError, Global};
 pub fn told_line<S: Alter>(
     work: &mut Work<'_, S>,
     line: Result<String, AllocError>,
-) -> Result<Option<String>, StoreFault>
+) -> Result<Option<String>>
     requires at_work { IsAtWork S.Store work.old }
     requires goes_on { has_failed work.old ≡ false }
     ensures { Asks S.Store work.old work.new result (λ db found. IsToldLine line found) }
@@ -37,23 +39,42 @@ pub fn told_line<S: Alter>(
     }
 }
 
+/// The line of a change of a crate by who asks, if something changes; none otherwise.
+fn tell_change<S: Alter>(
+    alloc: Global,
+    work: &mut Work<'_, S>,
+    caller: &Caller,
+    changes: bool,
+    verb: &str,
+    name: &str,
+    more: &str,
+) -> Result<Option<String>>
+    requires at_work { IsAtWork S.Store work.old }
+    requires goes_on { has_failed work.old ≡ false }
+    ensures { Asks S.Store work.old work.new result (λ db found. option_map string_bytes found
+        ≡ line_if changes (decimal caller.now.token ∷ string_bytes caller.now.login
+        ∷ verb.now ∷ name.now ∷ more.now ∷ [])) }
+{
+    if !changes {
+        return Ok(None);
+    }
+    told_line(work, change_line(alloc, caller, verb, name, more))
+}
+
 /// A publication.
 fn tell_publication<S: Alter>(
     alloc: Global,
     work: &mut Work<'_, S>,
     caller: &Caller,
     new: &NewPublication<'_>,
-) -> Result<Option<String>, StoreFault>
+) -> Result<Option<String>>
     requires at_work { IsAtWork S.Store work.old }
     requires goes_on { has_failed work.old ≡ false }
     ensures { Asks S.Store work.old work.new result
         (TellsRequest true caller.now (Publish (publication_of new.now))) }
 {
     let name = new.name.as_str();
-    told_line(
-        work,
-        change_line(alloc, caller, "publish", name, new.version),
-    )
+    tell_change(alloc, work, caller, true, "publish", name, new.version)
 }
 
 fn mark_verb(yanked: bool) -> &'static str
@@ -69,7 +90,7 @@ fn tell_mark<S: Alter>(
     caller: &Caller,
     version: &str,
     yanked: bool,
-) -> Result<Option<String>, StoreFault>
+) -> Result<Option<String>>
     requires at_work { IsAtWork S.Store work.old }
     requires there { IsSome caller.now.found }
     ensures { Asks S.Store work.old work.new result (λ db line. (name : _)
@@ -77,12 +98,9 @@ fn tell_mark<S: Alter>(
 {
     let found = caller.found_crate();
     let other = work.has_other_mark(found.id, version, yanked)?;
-    if !other {
-        return Ok(None);
-    }
     let verb = mark_verb(yanked);
     let name = found.name.as_str();
-    told_line(work, change_line(alloc, caller, verb, name, version))
+    tell_change(alloc, work, caller, other, verb, name, version)
 }
 
 /// Whether one of the accounts has this login.
@@ -128,7 +146,7 @@ fn tell_owners<S: Alter>(
     caller: &Caller,
     logins: &[&str],
     are_owners: bool,
-) -> Result<Option<String>, StoreFault>
+) -> Result<Option<String>>
     requires at_work { IsAtWork S.Store work.old }
     requires there { IsSome caller.now.found }
     ensures { Asks S.Store work.old work.new result (λ db line. (name : _)
@@ -138,15 +156,12 @@ fn tell_owners<S: Alter>(
     let found = caller.found_crate();
     let owners = work.owners_of(alloc, found.id)?;
     let changed = changes_owners(&owners, logins, are_owners);
-    if !changed {
-        return Ok(None);
-    }
     let Ok(listed) = with_commas(alloc, logins) else {
         return work.fail();
     };
     let verb = owners_verb(are_owners);
     let name = found.name.as_str();
-    told_line(work, change_line(alloc, caller, verb, name, &listed))
+    tell_change(alloc, work, caller, changed, verb, name, &listed)
 }
 
 /// The line of what an allowed request changes, if one is wanted; none if it changes nothing.
@@ -156,7 +171,7 @@ pub(crate) fn tell_request<S: Alter>(
     caller: &Caller,
     asked: &Asked<'_>,
     traced: bool,
-) -> Result<Option<String>, StoreFault>
+) -> Result<Option<String>>
     requires at_work { IsAtWork S.Store work.old }
     requires goes_on { has_failed work.old ≡ false }
     requires there { needs_crate (action_asked (asked_of asked.now)) ≡ true

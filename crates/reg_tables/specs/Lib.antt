@@ -1,3 +1,4 @@
+pub mod Calling
 pub mod Ends
 pub mod Lending
 pub mod Looks

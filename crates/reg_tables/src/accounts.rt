@@ -2,9 +2,10 @@
 
 ghost use Rattle.std.specs.Option.{option_map};
 ghost use Rattle.reg_tables_meaning.specs.Calls.{AddsAccount, FindsAccount, ListsAccounts, SetsEnabled};
-ghost use Rattle.reg_tables.specs.Works.{Carried, Heard, IsAtWork, IsCall, Unmoved, rows_seen};
+ghost use Rattle.reg_tables.specs.Calling.{Asks, Does, Runs};
+ghost use Rattle.reg_tables.specs.Works.{IsAtWork};
 
-use crate::work::{StoreFault, Work, call};
+use crate::work::{Result, Work, call};
 use reg_tables_meaning::accounts;
 use reg_tables_sql::accounts::Account;
 use sqlite::Alter;
@@ -12,44 +13,34 @@ use std::alloc::Global;
 
 impl<S: Alter> Work<'_, S> {
     /// Adds an enabled account and returns its id.
-    pub fn add_account(&mut self, login: &str, name: Option<&str>) -> Result<u32, StoreFault>
+    pub fn add_account(&mut self, login: &str, name: Option<&str>) -> Result<u32>
         requires { IsAtWork S.Store self.old }
-        ensures added { Heard S.Store self.new result
-            (AddsAccount login.now (option_map (λ n. n.now) name.entry)
-            (rows_seen S.Store self.old) (rows_seen S.Store self.new)) }
-        ensures leaves { IsCall S.Store result self.old self.new }
+        ensures { Runs S.Store self.old self.new result
+            (AddsAccount login.now (option_map (λ n. n.now) name.entry)) }
     {
         call!(self, accounts::add(&mut self.tables.conn, login, name))
     }
 
     /// Enables or disables an account. If no account has the id, nothing changes.
-    pub fn set_enabled(&mut self, id: u32, enabled: bool) -> Result<(), StoreFault>
+    pub fn set_enabled(&mut self, id: u32, enabled: bool) -> Result<()>
         requires { IsAtWork S.Store self.old }
-        ensures set { Carried S.Store self.new result
-            (SetsEnabled enabled id (rows_seen S.Store self.old) (rows_seen S.Store self.new)) }
-        ensures leaves { IsCall S.Store result self.old self.new }
+        ensures { Does S.Store self.old self.new result (SetsEnabled enabled id) }
     {
         call!(self, accounts::enable(&mut self.tables.conn, id, enabled))
     }
 
     /// The account with this login, if there is one.
-    pub fn account_by_login(&mut self, login: &str) -> Result<Option<Account>, StoreFault>
+    pub fn account_by_login(&mut self, login: &str) -> Result<Option<Account>>
         requires { IsAtWork S.Store self.old }
-        ensures found { Heard S.Store self.new result
-            (FindsAccount login.now (rows_seen S.Store self.old)) }
-        ensures same { Unmoved S.Store result self.old self.new }
-        ensures leaves { IsCall S.Store result self.old self.new }
+        ensures { Asks S.Store self.old self.new result (FindsAccount login.now) }
     {
         call!(self, accounts::find(&mut self.tables.conn, login))
     }
 
     /// All accounts, by id.
-    pub fn all_accounts(&mut self, alloc: Global) -> Result<Vec<Account>, StoreFault>
+    pub fn all_accounts(&mut self, alloc: Global) -> Result<Vec<Account>>
         requires { IsAtWork S.Store self.old }
-        ensures found { Heard S.Store self.new result
-            (λ list. ListsAccounts (rows_seen S.Store self.old) list.items) }
-        ensures same { Unmoved S.Store result self.old self.new }
-        ensures leaves { IsCall S.Store result self.old self.new }
+        ensures { Asks S.Store self.old self.new result (λ db list. ListsAccounts db list.items) }
     {
         call!(self, accounts::list(alloc, &mut self.tables.conn))
     }

@@ -3,9 +3,10 @@
 ghost use Rattle.reg_tables_sql.specs.Crates.{AreCrates, IsCrateOfCanon};
 ghost use Rattle.reg_tables_sql.specs.Versions.{AreVersionsOf};
 ghost use Rattle.reg_tables_meaning.specs.Calls.{FindsArchive, FindsCrate, FindsSummary, ListsCrates, ListsVersions, ReachesVersions};
-ghost use Rattle.reg_tables.specs.Works.{Heard, IsAtWork, IsCall, Unmoved, rows_seen};
+ghost use Rattle.reg_tables.specs.Calling.{Asks};
+ghost use Rattle.reg_tables.specs.Works.{IsAtWork};
 
-use crate::work::{StoreFault, Work, call};
+use crate::work::{Result, Work, call};
 use reg_names::{CanonText, CrateName};
 use reg_tables_meaning::{crate_lists, summaries};
 use reg_tables_sql::crates::Crate;
@@ -16,27 +17,19 @@ use std::alloc::Global;
 
 impl<S: Alter> Work<'_, S> {
     /// The crate with this canonical name: its id and its spelling.
-    pub fn crate_by_canon(&mut self, text: &CanonText) -> Result<Option<Crate>, StoreFault>
+    pub fn crate_by_canon(&mut self, text: &CanonText) -> Result<Option<Crate>>
         requires { IsAtWork S.Store self.old }
-        ensures rows { Heard S.Store self.new result
-            (IsCrateOfCanon text.now (rows_seen S.Store self.old)) }
-        ensures found { Heard S.Store self.new result
-            (FindsCrate text.now (rows_seen S.Store self.old)) }
-        ensures same { Unmoved S.Store result self.old self.new }
-        ensures leaves { IsCall S.Store result self.old self.new }
+        ensures { Asks S.Store self.old self.new result (λ db found.
+            IsCrateOfCanon text.now db found × FindsCrate text.now db found) }
     {
         call!(self, crate_lists::find(&mut self.tables.conn, text))
     }
 
     /// The versions of the crate with this id, oldest first; none if it does not exist.
-    pub fn versions_of(&mut self, alloc: Global, crate_id: u32) -> Result<Vec<Version>, StoreFault>
+    pub fn versions_of(&mut self, alloc: Global, crate_id: u32) -> Result<Vec<Version>>
         requires { IsAtWork S.Store self.old }
-        ensures rows { Heard S.Store self.new result
-            (λ list. AreVersionsOf crate_id (rows_seen S.Store self.old) list.items) }
-        ensures found { Heard S.Store self.new result
-            (λ list. ListsVersions crate_id (rows_seen S.Store self.old) list.items) }
-        ensures same { Unmoved S.Store result self.old self.new }
-        ensures leaves { IsCall S.Store result self.old self.new }
+        ensures { Asks S.Store self.old self.new result (λ db list.
+            AreVersionsOf crate_id db list.items × ListsVersions crate_id db list.items) }
     {
         call!(
             self,
@@ -45,17 +38,9 @@ impl<S: Alter> Work<'_, S> {
     }
 
     /// Whether the crate with this id and spelling has at least this many versions.
-    pub fn reaches_versions(
-        &mut self,
-        crate_id: u32,
-        name: &CrateName,
-        number: u64,
-    ) -> Result<bool, StoreFault>
+    pub fn reaches_versions(&mut self, crate_id: u32, name: &CrateName, number: u64) -> Result<bool>
         requires { IsAtWork S.Store self.old }
-        ensures told { Heard S.Store self.new result
-            (ReachesVersions crate_id name.now number (rows_seen S.Store self.old)) }
-        ensures same { Unmoved S.Store result self.old self.new }
-        ensures leaves { IsCall S.Store result self.old self.new }
+        ensures { Asks S.Store self.old self.new result (ReachesVersions crate_id name.now number) }
     {
         call!(
             self,
@@ -64,12 +49,9 @@ impl<S: Alter> Work<'_, S> {
     }
 
     /// The archive of exactly this version of the crate with this id.
-    pub fn archive_of(&mut self, crate_id: u32, text: &str) -> Result<Option<Vec<u8>>, StoreFault>
+    pub fn archive_of(&mut self, crate_id: u32, text: &str) -> Result<Option<Vec<u8>>>
         requires { IsAtWork S.Store self.old }
-        ensures found { Heard S.Store self.new result
-            (FindsArchive crate_id text.now (rows_seen S.Store self.old)) }
-        ensures same { Unmoved S.Store result self.old self.new }
-        ensures leaves { IsCall S.Store result self.old self.new }
+        ensures { Asks S.Store self.old self.new result (FindsArchive crate_id text.now) }
     {
         call!(
             self,
@@ -78,25 +60,18 @@ impl<S: Alter> Work<'_, S> {
     }
 
     /// What is kept about the crate with this id: its highest version, and its index file's length.
-    pub fn summary_of(&mut self, crate_id: u32) -> Result<Option<Summary>, StoreFault>
+    pub fn summary_of(&mut self, crate_id: u32) -> Result<Option<Summary>>
         requires { IsAtWork S.Store self.old }
-        ensures found { Heard S.Store self.new result
-            (FindsSummary crate_id (rows_seen S.Store self.old)) }
-        ensures same { Unmoved S.Store result self.old self.new }
-        ensures leaves { IsCall S.Store result self.old self.new }
+        ensures { Asks S.Store self.old self.new result (FindsSummary crate_id) }
     {
         call!(self, summaries::of_crate(&mut self.tables.conn, crate_id))
     }
 
     /// All crates, by canonical name.
-    pub fn all_crates(&mut self, alloc: Global) -> Result<Vec<Crate>, StoreFault>
+    pub fn all_crates(&mut self, alloc: Global) -> Result<Vec<Crate>>
         requires { IsAtWork S.Store self.old }
-        ensures rows { Heard S.Store self.new result
-            (λ list. AreCrates (rows_seen S.Store self.old) list.items) }
-        ensures found { Heard S.Store self.new result
-            (λ list. ListsCrates (rows_seen S.Store self.old) list.items) }
-        ensures same { Unmoved S.Store result self.old self.new }
-        ensures leaves { IsCall S.Store result self.old self.new }
+        ensures { Asks S.Store self.old self.new result (λ db list.
+            AreCrates db list.items × ListsCrates db list.items) }
     {
         call!(self, crate_lists::all(alloc, &mut self.tables.conn))
     }

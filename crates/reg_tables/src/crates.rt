@@ -1,9 +1,10 @@
 //! Calls on crates and their versions.
 
 ghost use Rattle.reg_tables_meaning.specs.Calls.{AddsFirst, AddsNext, SetsYanked, TellsOtherMark};
-ghost use Rattle.reg_tables.specs.Works.{Carried, Heard, IsAtWork, IsCall, Unmoved, rows_seen};
+ghost use Rattle.reg_tables.specs.Calling.{Asks, Does, Runs};
+ghost use Rattle.reg_tables.specs.Works.{IsAtWork};
 
-use crate::work::{StoreFault, Work, call};
+use crate::work::{Result, Work, call};
 use reg_names::CrateName;
 use reg_tables_meaning::crates::{self, NewVersion};
 use sqlite::Alter;
@@ -15,12 +16,9 @@ impl<S: Alter> Work<'_, S> {
         name: &CrateName,
         owner: u32,
         version: &NewVersion<'_>,
-    ) -> Result<u32, StoreFault>
+    ) -> Result<u32>
         requires { IsAtWork S.Store self.old }
-        ensures added { Heard S.Store self.new result
-            (AddsFirst name.now owner version.now
-            (rows_seen S.Store self.old) (rows_seen S.Store self.new)) }
-        ensures leaves { IsCall S.Store result self.old self.new }
+        ensures { Runs S.Store self.old self.new result (AddsFirst name.now owner version.now) }
     {
         call!(
             self,
@@ -29,12 +27,9 @@ impl<S: Alter> Work<'_, S> {
     }
 
     /// Adds a version to an existing crate.
-    pub fn add_version(&mut self, crate_id: u32, version: &NewVersion<'_>) -> Result<(), StoreFault>
+    pub fn add_version(&mut self, crate_id: u32, version: &NewVersion<'_>) -> Result<()>
         requires { IsAtWork S.Store self.old }
-        ensures added { Carried S.Store self.new result
-            (AddsNext crate_id version.now
-            (rows_seen S.Store self.old) (rows_seen S.Store self.new)) }
-        ensures leaves { IsCall S.Store result self.old self.new }
+        ensures { Does S.Store self.old self.new result (AddsNext crate_id version.now) }
     {
         call!(
             self,
@@ -43,17 +38,9 @@ impl<S: Alter> Work<'_, S> {
     }
 
     /// Whether a version that is there, of the crate with this id, has not this mark.
-    pub fn has_other_mark(
-        &mut self,
-        crate_id: u32,
-        text: &str,
-        yanked: bool,
-    ) -> Result<bool, StoreFault>
+    pub fn has_other_mark(&mut self, crate_id: u32, text: &str, yanked: bool) -> Result<bool>
         requires { IsAtWork S.Store self.old }
-        ensures told { Heard S.Store self.new result
-            (TellsOtherMark crate_id text.now yanked (rows_seen S.Store self.old)) }
-        ensures same { Unmoved S.Store result self.old self.new }
-        ensures leaves { IsCall S.Store result self.old self.new }
+        ensures { Asks S.Store self.old self.new result (TellsOtherMark crate_id text.now yanked) }
     {
         call!(
             self,
@@ -62,12 +49,9 @@ impl<S: Alter> Work<'_, S> {
     }
 
     /// Yanks or unyanks a version of a crate. If it is not there, nothing changes.
-    pub fn set_yanked(&mut self, crate_id: u32, text: &str, yanked: bool) -> Result<(), StoreFault>
+    pub fn set_yanked(&mut self, crate_id: u32, text: &str, yanked: bool) -> Result<()>
         requires { IsAtWork S.Store self.old }
-        ensures set { Carried S.Store self.new result
-            (SetsYanked crate_id text.now yanked
-            (rows_seen S.Store self.old) (rows_seen S.Store self.new)) }
-        ensures leaves { IsCall S.Store result self.old self.new }
+        ensures { Does S.Store self.old self.new result (SetsYanked crate_id text.now yanked) }
     {
         call!(
             self,

@@ -39,4 +39,4 @@ pub use reg_tables_sql::summaries::Summary;
 pub use reg_tables_sql::tokens::{Token, TokenRow};
 pub use reg_tables_sql::versions::{StemRow, Version};
 pub use tables::Tables;
-pub use work::{StoreFault, Work};
+pub use work::{Result, StoreFault, Work};

@@ -2,44 +2,37 @@
 
 ghost use Rattle.reg_model.specs.Changes.{with_reserved, without_reserved};
 ghost use Rattle.reg_tables_meaning.specs.Calls.{TellsReserved, Turns};
-ghost use Rattle.reg_tables.specs.Works.{Carried, Heard, IsAtWork, IsCall, Unmoved, rows_seen};
+ghost use Rattle.reg_tables.specs.Calling.{Asks, Does};
+ghost use Rattle.reg_tables.specs.Works.{IsAtWork};
 
-use crate::work::{StoreFault, Work, call};
+use crate::work::{Result, Work, call};
 use reg_names::CanonText;
 use reg_tables_meaning::reserved;
 use sqlite::Alter;
 
 impl<S: Alter> Work<'_, S> {
     /// Reserves a canonical name.
-    pub fn reserve(&mut self, canon: &CanonText) -> Result<(), StoreFault>
+    pub fn reserve(&mut self, canon: &CanonText) -> Result<()>
         requires { IsAtWork S.Store self.old }
-        ensures reserved { Carried S.Store self.new result
-            (Turns (λ ids. with_reserved canon.now)
-            (rows_seen S.Store self.old) (rows_seen S.Store self.new)) }
-        ensures leaves { IsCall S.Store result self.old self.new }
+        ensures { Does S.Store self.old self.new result (Turns (λ ids. with_reserved canon.now)) }
     {
         call!(self, reserved::add(&mut self.tables.conn, canon.as_str()))
     }
 
     /// Frees a reserved name. Names that are always reserved stay so.
-    pub fn unreserve(&mut self, canon: &CanonText) -> Result<(), StoreFault>
+    pub fn unreserve(&mut self, canon: &CanonText) -> Result<()>
         requires { IsAtWork S.Store self.old }
-        ensures freed { Carried S.Store self.new result
-            (Turns (λ ids. without_reserved canon.now)
-            (rows_seen S.Store self.old) (rows_seen S.Store self.new)) }
-        ensures leaves { IsCall S.Store result self.old self.new }
+        ensures { Does S.Store self.old self.new result
+            (Turns (λ ids. without_reserved canon.now)) }
     {
         call!(self, reserved::free(&mut self.tables.conn, canon.as_str()))
     }
 
     /// Whether the administrator reserved the name. Names that are always reserved are not among
     /// them.
-    pub fn is_reserved(&mut self, canon: &CanonText) -> Result<bool, StoreFault>
+    pub fn is_reserved(&mut self, canon: &CanonText) -> Result<bool>
         requires { IsAtWork S.Store self.old }
-        ensures found { Heard S.Store self.new result
-            (TellsReserved canon.now (rows_seen S.Store self.old)) }
-        ensures same { Unmoved S.Store result self.old self.new }
-        ensures leaves { IsCall S.Store result self.old self.new }
+        ensures { Asks S.Store self.old self.new result (TellsReserved canon.now) }
     {
         call!(self, reserved::has(&mut self.tables.conn, canon.as_str()))
     }

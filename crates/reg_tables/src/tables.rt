@@ -15,7 +15,7 @@ ghost use Rattle.reg_tables.specs.Ends.{Begins, LeavesLast, SeesAll};
 ghost use Rattle.reg_tables.specs.Works.{AreOurs, IsKept, IsLeft, IsSame, edition_in, held, is_shut, shown};
 ghost use Rattle.reg_tables_meaning.specs.Upgrades.{BeginsSecond, IsUpgraded, AreUpgraded};
 
-use crate::work::{StoreFault, Work};
+use crate::work::{Result, StoreFault, Work};
 use reg_tables_meaning::editions::has_base;
 use reg_tables_meaning::upgrade::begin_second;
 use reg_tables_schema::laws::{rest_law, stop_law};
@@ -148,7 +148,7 @@ impl<S: Alter> Tables<S> {
     }
 
     /// Begins a transaction on tables already of schema 2.
-    pub fn work(&mut self) -> Result<Work<'_, S>, StoreFault>
+    pub fn work(&mut self) -> Result<Work<'_, S>>
         requires ours { AreOurs S.Store self.old }
         requires second { edition_in self.old ≡ Edition.Second }
         ensures* refused { sem 𝓛 (RestsIfErr (the_row S.row S.Store) self.entry
@@ -170,7 +170,7 @@ impl<S: Alter> Tables<S> {
 
     /// Begins a transaction that sees schema 2: tables of schema 1 are migrated first. Until it is
     /// committed, the store keeps the schema that it had.
-    pub fn upgrade(&mut self) -> Result<Work<'_, S>, StoreFault>
+    pub fn upgrade(&mut self) -> Result<Work<'_, S>>
         requires { AreOurs S.Store self.old }
         ensures* refused { sem 𝓛 (RestsIfErr (the_row S.row S.Store) self.entry
             (λ w. w.tables.ghost_name) result (IsKept S.Store self.old)) }
@@ -189,7 +189,7 @@ impl<S: Alter> Tables<S> {
 
     /// Migrates the tables to schema 2 in one transaction; returns whether they had schema 1. After
     /// a failed commit it is refused.
-    pub fn migrate(&mut self) -> Result<bool, StoreFault>
+    pub fn migrate(&mut self) -> Result<bool>
         requires { AreOurs S.Store self.old }
         ensures which { IfOk result (λ done. IsTrue done ↔
             (edition_in self.old ≡ Edition.First)) }

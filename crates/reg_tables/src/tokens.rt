@@ -1,9 +1,10 @@
 //! Calls on tokens.
 
 ghost use Rattle.reg_tables_meaning.specs.Calls.{AddsToken, Ends, FindsToken, ListsScopes, ListsTokens, TellsLive};
-ghost use Rattle.reg_tables.specs.Works.{Carried, Heard, IsAtWork, IsCall, Unmoved, rows_seen};
+ghost use Rattle.reg_tables.specs.Calling.{Asks, Does, Runs};
+ghost use Rattle.reg_tables.specs.Works.{IsAtWork};
 
-use crate::work::{StoreFault, Work, call};
+use crate::work::{Result, Work, call};
 use reg_line::Digest;
 use reg_model::Endpoints;
 use reg_names::Pattern;
@@ -13,29 +14,18 @@ use std::alloc::Global;
 
 impl<S: Alter> Work<'_, S> {
     /// The token with this digest, with its account and its scopes.
-    pub fn token_rows(
-        &mut self,
-        alloc: Global,
-        digest: &Digest,
-    ) -> Result<Option<TokenRows>, StoreFault>
+    pub fn token_rows(&mut self, alloc: Global, digest: &Digest) -> Result<Option<TokenRows>>
         requires { IsAtWork S.Store self.old }
-        ensures found { Heard S.Store self.new result
-            (FindsToken digest.now (rows_seen S.Store self.old)) }
-        ensures same { Unmoved S.Store result self.old self.new }
-        ensures leaves { IsCall S.Store result self.old self.new }
+        ensures { Asks S.Store self.old self.new result (FindsToken digest.now) }
     {
         call!(self, tokens::find(alloc, &mut self.tables.conn, digest))
     }
 
     /// All tokens by id, and all scopes by token and place.
-    pub fn all_tokens(&mut self, alloc: Global) -> Result<TokenLists, StoreFault>
+    pub fn all_tokens(&mut self, alloc: Global) -> Result<TokenLists>
         requires { IsAtWork S.Store self.old }
-        ensures tokens { Heard S.Store self.new result
-            (λ both. ListsTokens (rows_seen S.Store self.old) both.tokens.items) }
-        ensures scopes { Heard S.Store self.new result
-            (λ both. ListsScopes (rows_seen S.Store self.old) both.scopes.items) }
-        ensures same { Unmoved S.Store result self.old self.new }
-        ensures leaves { IsCall S.Store result self.old self.new }
+        ensures { Asks S.Store self.old self.new result (λ db both.
+            ListsTokens db both.tokens.items × ListsScopes db both.scopes.items) }
     {
         call!(self, tokens::list_both(alloc, &mut self.tables.conn))
     }
@@ -48,12 +38,10 @@ impl<S: Alter> Work<'_, S> {
         account: u32,
         endpoints: Endpoints,
         patterns: &[Pattern],
-    ) -> Result<u32, StoreFault>
+    ) -> Result<u32>
         requires { IsAtWork S.Store self.old }
-        ensures added { Heard S.Store self.new result
-            (AddsToken digest.now account endpoints patterns.now
-            (rows_seen S.Store self.old) (rows_seen S.Store self.new)) }
-        ensures leaves { IsCall S.Store result self.old self.new }
+        ensures { Runs S.Store self.old self.new result
+            (AddsToken digest.now account endpoints patterns.now) }
     {
         call!(
             self,
@@ -69,21 +57,17 @@ impl<S: Alter> Work<'_, S> {
     }
 
     /// Whether a token is live, if there is one with this id.
-    pub fn is_live(&mut self, id: u32) -> Result<Option<bool>, StoreFault>
+    pub fn is_live(&mut self, id: u32) -> Result<Option<bool>>
         requires { IsAtWork S.Store self.old }
-        ensures told { Heard S.Store self.new result (TellsLive id (rows_seen S.Store self.old)) }
-        ensures same { Unmoved S.Store result self.old self.new }
-        ensures leaves { IsCall S.Store result self.old self.new }
+        ensures { Asks S.Store self.old self.new result (TellsLive id) }
     {
         call!(self, tokens::is_live(&mut self.tables.conn, id))
     }
 
     /// Revokes the token with this id. If there is none, nothing changes.
-    pub fn revoke(&mut self, id: u32) -> Result<(), StoreFault>
+    pub fn revoke(&mut self, id: u32) -> Result<()>
         requires { IsAtWork S.Store self.old }
-        ensures revoked { Carried S.Store self.new result
-            (Ends id (rows_seen S.Store self.old) (rows_seen S.Store self.new)) }
-        ensures leaves { IsCall S.Store result self.old self.new }
+        ensures { Does S.Store self.old self.new result (Ends id) }
     {
         call!(self, tokens::end(&mut self.tables.conn, id))
     }

@@ -31,18 +31,21 @@ impl From<AllocError> for StoreFault {
     }
 }
 
+/// What a call of a transaction answers.
+pub type Result<T, E = StoreFault> = std::result::Result<T, E>;
+
 /// What a call of the transaction `$work` returns, unless one has already failed. A fault ends the
 /// transaction.
 macro_rules! call {
     ($work:ident, $answer:expr) => {{
         if $work.failed {
-            return Err(StoreFault);
+            return Err(crate::work::StoreFault);
         }
         match $answer {
             Ok(told) => Ok(told),
             Err(_) => {
                 $work.failed = true;
-                Err(StoreFault)
+                Err(crate::work::StoreFault)
             }
         }
     }};
@@ -60,7 +63,7 @@ pub struct Work<'t, S: Alter> {
 impl<S: Alter> Work<'_, S> {
     /// Commits the changes, unless a call has failed. If the store fails, the tables no longer
     /// answer.
-    pub fn commit(self) -> Result<(), StoreFault>
+    pub fn commit(self) -> Result<()>
         requires { IsAtWork S.Store self }
         ensures { IsEnded S.Store result self.entry self.exit.0.now }
     {
@@ -83,7 +86,7 @@ impl<S: Alter> Work<'_, S> {
 impl<S: Alter> Work<'_, S> {
     /// Ends the transaction as a fault does: out of memory, an unreadable row, or something
     /// missing.
-    pub fn fail<T>(&mut self) -> Result<T, StoreFault>
+    pub fn fail<T>(&mut self) -> Result<T>
         requires { IsAtWork S.Store self.old }
         ensures fails { IsErr result }
         ensures leaves { IsCall S.Store result self.old self.new }
@@ -93,7 +96,7 @@ impl<S: Alter> Work<'_, S> {
     }
 
     /// All rows of a read-only query.
-    pub fn select(&mut self, text: &str, params: &[ValueRef<'_>]) -> Result<Vec<Row>, StoreFault>
+    pub fn select(&mut self, text: &str, params: &[ValueRef<'_>]) -> Result<Vec<Row>>
         requires at_work { IsAtWork S.Store self.old }
         requires reads { IsPlain (understood ours text.now) }
         ensures rows { Heard S.Store self.new result (λ rows. Shown text.now (bound params.now)
@@ -110,7 +113,7 @@ impl<S: Alter> Work<'_, S> {
         &mut self,
         text: &str,
         params: &[ValueRef<'_>],
-    ) -> Result<Option<T>, StoreFault>
+    ) -> Result<Option<T>>
         requires at_work { IsAtWork S.Store self.old }
         requires reads { IsPlain (understood ours text.now) }
         ensures row { Heard S.Store self.new result (λ found. Shown text.now (bound params.now)
@@ -128,7 +131,7 @@ impl<S: Alter> Work<'_, S> {
         alloc: Global,
         text: &str,
         params: &[ValueRef<'_>],
-    ) -> Result<Vec<T>, StoreFault>
+    ) -> Result<Vec<T>>
         requires at_work { IsAtWork S.Store self.old }
         requires reads { IsPlain (understood ours text.now) }
         ensures rows { Heard S.Store self.new result (λ list. Shown text.now (bound params.now)
@@ -143,7 +146,7 @@ impl<S: Alter> Work<'_, S> {
     }
 
     /// Whether a read-only query has a row.
-    pub fn has_row(&mut self, text: &str, params: &[ValueRef<'_>]) -> Result<bool, StoreFault>
+    pub fn has_row(&mut self, text: &str, params: &[ValueRef<'_>]) -> Result<bool>
         requires at_work { IsAtWork S.Store self.old }
         requires reads { IsPlain (understood ours text.now) }
         ensures rows { Heard S.Store self.new result (λ has. (rows : _)

@@ -10,11 +10,12 @@ ghost use Rattle.reg_tables_meaning.specs.Calls.{AddsAccount, FindsAccount, List
 ghost use Rattle.reg_tables_meaning.specs.Ids.{IsNext};
 
 use reg_tables_sql::accounts::{self, Account};
+use reg_tables_sql::statements::Result;
 use sqlite::{Alter, Connection, Error};
 use std::alloc::Global;
 
 // One more than the greatest id; none if 32 bits hold no more.
-pub(crate) fn next_id(last: Option<u32>) -> Result<u32, Error>
+pub(crate) fn next_id(last: Option<u32>) -> Result<u32>
     ensures { IfOk result (λ id. IsNext last id) }
 {
     match last {
@@ -27,11 +28,7 @@ pub(crate) fn next_id(last: Option<u32>) -> Result<u32, Error>
 }
 
 /// Adds an enabled account and returns its id.
-pub fn add<S: Alter>(
-    conn: &mut Connection<S>,
-    login: &str,
-    name: Option<&str>,
-) -> Result<u32, Error>
+pub fn add<S: Alter>(conn: &mut Connection<S>, login: &str, name: Option<&str>) -> Result<u32>
     requires { IsReady (state S.Store conn.old) }
     ensures stands { Told S.Store conn.new result
         (AddsAccount login.now (option_map (λ n. n.now) name.entry)
@@ -46,7 +43,7 @@ pub fn add<S: Alter>(
 
 /// Enables or disables an existing account.
 #[tactic(auto, using(crate::proofs::Withins::refused_fails, crate::proofs::Withins::touch_within))]
-pub fn enable<S: Alter>(conn: &mut Connection<S>, id: u32, enabled: bool) -> Result<(), Error>
+pub fn enable<S: Alter>(conn: &mut Connection<S>, id: u32, enabled: bool) -> Result<()>
     requires { IsReady (state S.Store conn.old) }
     ensures stands { Done S.Store conn.new result
         (SetsEnabled enabled id (rows_in S.Store conn.old) (rows_in S.Store conn.new)) }
@@ -57,7 +54,7 @@ pub fn enable<S: Alter>(conn: &mut Connection<S>, id: u32, enabled: bool) -> Res
 }
 
 /// The account with this login, if there is one.
-pub fn find<S: Alter>(conn: &mut Connection<S>, login: &str) -> Result<Option<Account>, Error>
+pub fn find<S: Alter>(conn: &mut Connection<S>, login: &str) -> Result<Option<Account>>
     requires { IsReady (state S.Store conn.old) }
     ensures found { Told S.Store conn.new result
         (FindsAccount login.now (rows_in S.Store conn.old)) }
@@ -67,7 +64,7 @@ pub fn find<S: Alter>(conn: &mut Connection<S>, login: &str) -> Result<Option<Ac
 }
 
 /// All accounts, by id.
-pub fn list<S: Alter>(alloc: Global, conn: &mut Connection<S>) -> Result<Vec<Account>, Error>
+pub fn list<S: Alter>(alloc: Global, conn: &mut Connection<S>) -> Result<Vec<Account>>
     requires { IsReady (state S.Store conn.old) }
     ensures found { Told S.Store conn.new result
         (λ list. ListsAccounts (rows_in S.Store conn.old) list.items) }

@@ -10,6 +10,7 @@ ghost use Rattle.reg_tables_meaning.specs.Calls.{Counted, CountsAll, ReachesCrat
 ghost use Rattle.reg_tables_meaning.specs.Ids.{IsNext};
 ghost use Rattle.reg_model.specs.Crates.{crates};
 
+use reg_tables_sql::statements::Result;
 use reg_tables_sql::{accounts, crates, tokens};
 use sqlite::{Alter, Connection, Error};
 
@@ -22,7 +23,7 @@ pub struct Counts {
 }
 
 // SQL counts only up to its greatest number; there, its answer may be too low.
-fn exact(n: u64) -> Result<u64, Error>
+fn exact(n: u64) -> Result<u64>
     ensures { IfOk result (λ m. (m ≡ n) × (m < greatest_number)) }
 {
     if n < i64::MAX as u64 {
@@ -44,7 +45,7 @@ fn next(last: Option<u32>) -> u64
 }
 
 /// How many accounts there are: their ids are taken in turn, so the last one tells it.
-pub fn count_accounts<S: Alter>(conn: &mut Connection<S>) -> Result<u64, Error>
+pub fn count_accounts<S: Alter>(conn: &mut Connection<S>) -> Result<u64>
     requires { IsReady (state S.Store conn.old) }
     ensures counted { Told S.Store conn.new result
         (Counted (λ s. length s.accounts) (rows_in S.Store conn.old)) }
@@ -55,7 +56,7 @@ pub fn count_accounts<S: Alter>(conn: &mut Connection<S>) -> Result<u64, Error>
 }
 
 /// How many tokens there are; the same holds of their ids.
-pub fn count_tokens<S: Alter>(conn: &mut Connection<S>) -> Result<u64, Error>
+pub fn count_tokens<S: Alter>(conn: &mut Connection<S>) -> Result<u64>
     requires { IsReady (state S.Store conn.old) }
     ensures counted { Told S.Store conn.new result
         (Counted (λ s. length s.tokens) (rows_in S.Store conn.old)) }
@@ -65,7 +66,7 @@ pub fn count_tokens<S: Alter>(conn: &mut Connection<S>) -> Result<u64, Error>
     Ok(next(last) - 1)
 }
 
-fn count_crates<S: Alter>(conn: &mut Connection<S>) -> Result<u64, Error>
+fn count_crates<S: Alter>(conn: &mut Connection<S>) -> Result<u64>
     requires { IsReady (state S.Store conn.old) }
     ensures counted { Told S.Store conn.new result (Counted crates (rows_in S.Store conn.old)) }
     ensures same { KeepsAll S.Store conn.old conn.new result }
@@ -76,7 +77,7 @@ fn count_crates<S: Alter>(conn: &mut Connection<S>) -> Result<u64, Error>
 
 /// Whether there are at least this many crates: no more than ids were taken. They are counted only
 /// if their ids come near it.
-pub fn reaches_crates<S: Alter>(conn: &mut Connection<S>, number: u64) -> Result<bool, Error>
+pub fn reaches_crates<S: Alter>(conn: &mut Connection<S>, number: u64) -> Result<bool>
     requires { IsReady (state S.Store conn.old) }
     ensures told { Told S.Store conn.new result
         (ReachesCrates number (rows_in S.Store conn.old)) }
@@ -91,7 +92,7 @@ pub fn reaches_crates<S: Alter>(conn: &mut Connection<S>, number: u64) -> Result
 }
 
 /// How many accounts, tokens and crates there are.
-pub fn count<S: Alter>(conn: &mut Connection<S>) -> Result<Counts, Error>
+pub fn count<S: Alter>(conn: &mut Connection<S>) -> Result<Counts>
     requires { IsReady (state S.Store conn.old) }
     ensures counted { Told S.Store conn.new result (CountsAll (rows_in S.Store conn.old)) }
     ensures same { KeepsAll S.Store conn.old conn.new result }

@@ -17,6 +17,7 @@ use reg_line::lacks_room;
 use reg_names::{CanonText, CrateName};
 use reg_tables_sql::archives;
 use reg_tables_sql::crates::{self, Crate};
+use reg_tables_sql::statements::Result;
 use reg_tables_sql::summaries::Summary;
 use reg_tables_sql::versions::{self, Version};
 use reg_versions::release_key;
@@ -24,7 +25,7 @@ use sqlite::{Alter, Connection, Error};
 use std::alloc::Global;
 
 /// The crate with this canonical name, if there is one.
-pub fn find<S: Alter>(conn: &mut Connection<S>, text: &CanonText) -> Result<Option<Crate>, Error>
+pub fn find<S: Alter>(conn: &mut Connection<S>, text: &CanonText) -> Result<Option<Crate>>
     requires { IsReady (state S.Store conn.old) }
     ensures rows { Told S.Store conn.new result
         (IsCrateOfCanon text.now (rows_in S.Store conn.old)) }
@@ -39,7 +40,7 @@ pub fn list<S: Alter>(
     alloc: Global,
     conn: &mut Connection<S>,
     crate_id: u32,
-) -> Result<Vec<Version>, Error>
+) -> Result<Vec<Version>>
     requires { IsReady (state S.Store conn.old) }
     ensures rows { Told S.Store conn.new result
         (λ list. AreVersionsOf crate_id (rows_in S.Store conn.old) list.items) }
@@ -51,7 +52,7 @@ pub fn list<S: Alter>(
 }
 
 // SQL counts only up to its greatest number; there, its answer may be too low.
-fn reaches(number: u64, count: u64) -> Result<bool, Error>
+fn reaches(number: u64, count: u64) -> Result<bool>
     ensures { IfOk result (λ is. (is ≡ nat_le number count) × (count < greatest_number)) }
 {
     if count < i64::MAX as u64 {
@@ -62,11 +63,7 @@ fn reaches(number: u64, count: u64) -> Result<bool, Error>
 }
 
 // The same as `reaches_versions`, by counting them.
-fn has_versions<S: Alter>(
-    conn: &mut Connection<S>,
-    crate_id: u32,
-    number: u64,
-) -> Result<bool, Error>
+fn has_versions<S: Alter>(conn: &mut Connection<S>, crate_id: u32, number: u64) -> Result<bool>
     requires { IsReady (state S.Store conn.old) }
     ensures told { Told S.Store conn.new result
         (λ is. (name : _) → ReachesVersions crate_id name number (rows_in S.Store conn.old) is) }
@@ -94,7 +91,7 @@ fn has_lines<S: Alter>(
     crate_id: u32,
     name: &CrateName,
     number: u64,
-) -> Result<bool, Error>
+) -> Result<bool>
     requires { IsReady (state S.Store conn.old) }
     ensures told { Told S.Store conn.new result
         (ReachesVersions crate_id name.now number (rows_in S.Store conn.old)) }
@@ -122,7 +119,7 @@ pub fn reaches_versions<S: Alter>(
     crate_id: u32,
     name: &CrateName,
     number: u64,
-) -> Result<bool, Error>
+) -> Result<bool>
     requires { IsReady (state S.Store conn.old) }
     ensures told { Told S.Store conn.new result
         (ReachesVersions crate_id name.now number (rows_in S.Store conn.old)) }
@@ -140,7 +137,7 @@ pub fn archive<S: Alter>(
     conn: &mut Connection<S>,
     crate_id: u32,
     text: &str,
-) -> Result<Option<Vec<u8>>, Error>
+) -> Result<Option<Vec<u8>>>
     requires { IsReady (state S.Store conn.old) }
     ensures found { Told S.Store conn.new result
         (FindsArchive crate_id text.now (rows_in S.Store conn.old)) }
@@ -150,7 +147,7 @@ pub fn archive<S: Alter>(
 }
 
 /// All crates, by canonical name.
-pub fn all<S: Alter>(alloc: Global, conn: &mut Connection<S>) -> Result<Vec<Crate>, Error>
+pub fn all<S: Alter>(alloc: Global, conn: &mut Connection<S>) -> Result<Vec<Crate>>
     requires { IsReady (state S.Store conn.old) }
     ensures rows { Told S.Store conn.new result
         (λ list. AreCrates (rows_in S.Store conn.old) list.items) }

@@ -14,7 +14,8 @@ use crate::accounts::next_id;
 use crate::summaries;
 use reg_line::Digest;
 use reg_names::{CrateName, canon};
-use reg_tables_sql::pairs::Relation;
+use reg_tables_sql::pairs::{Pair, Relation};
+use reg_tables_sql::statements::Result;
 use reg_tables_sql::versions::{self, VersionMark};
 use reg_tables_sql::{archives, crates, pairs};
 use reg_versions::release_key;
@@ -31,7 +32,7 @@ pub struct NewVersion<'a> {
 }
 
 // One more than the greatest id; none if SQL's integers hold no more.
-fn next_version(last: Option<u64>) -> Result<u64, Error>
+fn next_version(last: Option<u64>) -> Result<u64>
     ensures { IfOk result (λ id. IsNext last id × (id < 2 ^ 63)) }
 {
     match last {
@@ -46,11 +47,7 @@ fn next_version(last: Option<u64>) -> Result<u64, Error>
     }
 }
 
-fn insert_crate<S: Alter>(
-    conn: &mut Connection<S>,
-    name: &CrateName,
-    owner: u32,
-) -> Result<u32, Error>
+fn insert_crate<S: Alter>(conn: &mut Connection<S>, name: &CrateName, owner: u32) -> Result<u32>
     requires { IsReady (state S.Store conn.old) }
     ensures added { Told S.Store conn.new result (λ id.
         AddsCrate id name.now owner (rows_in S.Store conn.old) (rows_in S.Store conn.new)) }
@@ -59,7 +56,11 @@ fn insert_crate<S: Alter>(
     let last = crates::last_id(conn)?;
     let id = next_id(last)?;
     crates::insert(conn, id, canon(name).as_str(), name.as_str())?;
-    pairs::insert(conn, Relation::Owners, id, owner)?;
+    let pair = Pair {
+        crate_id: id,
+        account: owner,
+    };
+    pairs::insert(conn, Relation::Owners, pair)?;
     Ok(id)
 }
 
@@ -67,7 +68,7 @@ fn insert_version<S: Alter>(
     conn: &mut Connection<S>,
     crate_id: u32,
     version: &NewVersion<'_>,
-) -> Result<u64, Error>
+) -> Result<u64>
     requires { IsReady (state S.Store conn.old) }
     ensures added { Told S.Store conn.new result (λ id. (name : _)
         → AddsVersion id crate_id (published name version.now)
@@ -98,7 +99,7 @@ pub fn add_new<S: Alter>(
     name: &CrateName,
     owner: u32,
     version: &NewVersion<'_>,
-) -> Result<u32, Error>
+) -> Result<u32>
     requires { IsReady (state S.Store conn.old) }
     ensures stands { Told S.Store conn.new result
         (AddsFirst name.now owner version.now
@@ -116,7 +117,7 @@ pub fn add_next<S: Alter>(
     conn: &mut Connection<S>,
     crate_id: u32,
     version: &NewVersion<'_>,
-) -> Result<(), Error>
+) -> Result<()>
     requires { IsReady (state S.Store conn.old) }
     ensures stands { Done S.Store conn.new result
         (AddsNext crate_id version.now (rows_in S.Store conn.old) (rows_in S.Store conn.new)) }
@@ -143,7 +144,7 @@ fn otherwise<S: Alter>(
     crate_id: u32,
     text: &str,
     yanked: bool,
-) -> Result<Option<u64>, Error>
+) -> Result<Option<u64>>
     requires { IsReady (state S.Store conn.old) }
     ensures told { Told S.Store conn.new result
         (IsOtherwise crate_id text.now yanked (rows_in S.Store conn.old)) }
@@ -162,7 +163,7 @@ pub fn has_other_mark<S: Alter>(
     crate_id: u32,
     text: &str,
     yanked: bool,
-) -> Result<bool, Error>
+) -> Result<bool>
     requires { IsReady (state S.Store conn.old) }
     ensures told { Told S.Store conn.new result
         (TellsOtherMark crate_id text.now yanked (rows_in S.Store conn.old)) }
@@ -180,7 +181,7 @@ pub fn mark<S: Alter>(
     crate_id: u32,
     text: &str,
     yanked: bool,
-) -> Result<(), Error>
+) -> Result<()>
     requires { IsReady (state S.Store conn.old) }
     ensures stands { Done S.Store conn.new result
         (SetsYanked crate_id text.now yanked

@@ -8,7 +8,8 @@ ghost use Rattle.reg_tables_sql.specs.Abouts.{HasBase, IsAbout, LacksBase};
 
 use reg_tables_schema::{Edition, begin, undo};
 use reg_tables_sql::about::{self, About};
-use sqlite::{Alter, Connection, Error};
+use reg_tables_sql::statements::Result;
+use sqlite::{Alter, Connection};
 
 fn is_of(about: &Option<About>, edition: Edition) -> bool
     ensures is { (rows : _) → IsAbout rows about.now → IsTrue result → (base : _)
@@ -22,7 +23,7 @@ fn is_of(about: &Option<About>, edition: Edition) -> bool
     }
 }
 
-fn read_base<S: Alter>(conn: &mut Connection<S>, edition: Edition) -> Result<bool, Error>
+fn read_base<S: Alter>(conn: &mut Connection<S>, edition: Edition) -> Result<bool>
     requires ours { IsOurs edition (state S.Store conn.old) }
     ensures found { HasCleanDisk (state S.Store conn.new) → IfOk result
         (λ has. IsTrue has → HasBase edition (state S.Store conn.old).now.trees) }
@@ -38,7 +39,7 @@ fn read_base<S: Alter>(conn: &mut Connection<S>, edition: Edition) -> Result<boo
 }
 
 /// Whether `about` has one row, of this schema. No transaction is left open.
-pub fn has_base<S: Alter>(conn: &mut Connection<S>, edition: Edition) -> Result<bool, Error>
+pub fn has_base<S: Alter>(conn: &mut Connection<S>, edition: Edition) -> Result<bool>
     requires ours { IsOurs edition (state S.Store conn.old) }
     ensures found { HasCleanDisk (state S.Store conn.new) → IfOk result
         (λ has. IsTrue has → HasBase edition (state S.Store conn.old).now.trees) }

@@ -13,15 +13,13 @@ ghost use Rattle.reg_tables_meaning.specs.Walks.{IsSpared};
 
 use crate::walks::rows_of;
 use reg_tables_schema::Edition;
+use reg_tables_sql::statements::Result;
 use reg_tables_sql::versions::ENTRIES_TEXT;
-use sqlite::{Alter, Connection, Error, Rows, params};
+use sqlite::{Alter, Connection, Rows, params};
 
 /// The entries of the crate with this id, in order of publication, one row at a time: each is a
 /// `StemRow`. They may be dropped at any row.
-pub fn index_rows<'c, S: Alter>(
-    conn: &'c mut Connection<S>,
-    crate_id: u32,
-) -> Result<Rows<'c, S>, Error>
+pub fn index_rows<'c, S: Alter>(conn: &'c mut Connection<S>, crate_id: u32) -> Result<Rows<'c, S>>
     requires { IsOurs Edition.Second (state S.Store conn.old) }
     ensures* refused { sem 𝓛 (RestsIfErr (connection.the_row S.row S.Store) conn.entry
         (λ rows. rows.conn.ghost_name) result (IsSpared S.Store conn.old)) }

@@ -8,51 +8,42 @@ ghost use Rattle.reg_tables_schema.specs.Steps.{Done, KeepsAll, Steps, Told};
 ghost use Rattle.reg_tables_meaning.specs.Calls.{AddsPair, ListsPairs, RemovesPair};
 
 use reg_tables_sql::accounts::Account;
-use reg_tables_sql::pairs::Relation;
+use reg_tables_sql::pairs::{Pair, Relation};
+use reg_tables_sql::statements::Result;
 use reg_tables_sql::{crates, pairs};
-use sqlite::{Alter, Connection, Error};
+use sqlite::{Alter, Connection};
 use std::alloc::Global;
 
 /// Puts an account into the relation with a crate. A crate that does not exist gets none.
-pub fn add<S: Alter>(
-    conn: &mut Connection<S>,
-    relation: Relation,
-    crate_id: u32,
-    account: u32,
-) -> Result<(), Error>
+pub fn add<S: Alter>(conn: &mut Connection<S>, relation: Relation, pair: Pair) -> Result<()>
     requires { IsReady (state S.Store conn.old) }
     ensures stands { Done S.Store conn.new result
-        (AddsPair relation crate_id account
+        (AddsPair relation pair.crate_id pair.account
         (rows_in S.Store conn.old) (rows_in S.Store conn.new)) }
     ensures leaves { Steps S.Store conn.old conn.new result }
 {
-    let is_crate = crates::has_id(conn, crate_id)?;
+    let is_crate = crates::has_id(conn, pair.crate_id)?;
     if !is_crate {
         return Ok(());
     }
-    let is_pair = pairs::is_there(conn, relation, crate_id, account)?;
+    let is_pair = pairs::is_there(conn, relation, pair)?;
     if is_pair {
         return Ok(());
     }
-    pairs::insert(conn, relation, crate_id, account)?;
+    pairs::insert(conn, relation, pair)?;
     Ok(())
 }
 
 /// Removes an account from the relation with a crate.
 #[tactic(auto, using(crate::proofs::Withins::refused_fails, crate::proofs::Withins::become_within))]
-pub fn remove<S: Alter>(
-    conn: &mut Connection<S>,
-    relation: Relation,
-    crate_id: u32,
-    account: u32,
-) -> Result<(), Error>
+pub fn remove<S: Alter>(conn: &mut Connection<S>, relation: Relation, pair: Pair) -> Result<()>
     requires { IsReady (state S.Store conn.old) }
     ensures stands { Done S.Store conn.new result
-        (RemovesPair relation crate_id account
+        (RemovesPair relation pair.crate_id pair.account
         (rows_in S.Store conn.old) (rows_in S.Store conn.new)) }
     ensures leaves { Steps S.Store conn.old conn.new result }
 {
-    pairs::remove(conn, relation, crate_id, account)?;
+    pairs::remove(conn, relation, pair)?;
     Ok(())
 }
 
@@ -62,7 +53,7 @@ pub fn list<S: Alter>(
     conn: &mut Connection<S>,
     relation: Relation,
     crate_id: u32,
-) -> Result<Vec<Account>, Error>
+) -> Result<Vec<Account>>
     requires { IsReady (state S.Store conn.old) }
     ensures found { Told S.Store conn.new result
         (λ list. ListsPairs relation crate_id (rows_in S.Store conn.old) list.items) }

@@ -8,10 +8,11 @@ ghost use Rattle.reg_tables_meaning.specs.Calls.{TellsReserved, Turns};
 ghost use Rattle.reg_model.specs.Changes.{with_reserved, without_reserved};
 
 use reg_tables_sql::reserved;
-use sqlite::{Alter, Connection, Error};
+use reg_tables_sql::statements::Result;
+use sqlite::{Alter, Connection};
 
 /// Reserves a canonical name.
-pub fn add<S: Alter>(conn: &mut Connection<S>, canon: &str) -> Result<(), Error>
+pub fn add<S: Alter>(conn: &mut Connection<S>, canon: &str) -> Result<()>
     requires { IsReady (state S.Store conn.old) }
     ensures stands { Done S.Store conn.new result
         (Turns (λ ids. with_reserved canon.now)
@@ -27,7 +28,7 @@ pub fn add<S: Alter>(conn: &mut Connection<S>, canon: &str) -> Result<(), Error>
 
 /// Frees a reserved name.
 #[tactic(auto, using(crate::proofs::Withins::refused_fails, crate::proofs::Withins::become_within))]
-pub fn free<S: Alter>(conn: &mut Connection<S>, canon: &str) -> Result<(), Error>
+pub fn free<S: Alter>(conn: &mut Connection<S>, canon: &str) -> Result<()>
     requires { IsReady (state S.Store conn.old) }
     ensures stands { Done S.Store conn.new result
         (Turns (λ ids. without_reserved canon.now)
@@ -39,7 +40,7 @@ pub fn free<S: Alter>(conn: &mut Connection<S>, canon: &str) -> Result<(), Error
 }
 
 /// Whether the administrator reserved the name.
-pub fn has<S: Alter>(conn: &mut Connection<S>, canon: &str) -> Result<bool, Error>
+pub fn has<S: Alter>(conn: &mut Connection<S>, canon: &str) -> Result<bool>
     requires { IsReady (state S.Store conn.old) }
     ensures found { Told S.Store conn.new result
         (TellsReserved canon.now (rows_in S.Store conn.old)) }

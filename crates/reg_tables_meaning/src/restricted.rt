@@ -7,10 +7,11 @@ ghost use Rattle.reg_tables_schema.specs.Statements.{rows_in};
 ghost use Rattle.reg_tables_schema.specs.Steps.{Done, KeepsAll, Steps, Told};
 ghost use Rattle.reg_tables_meaning.specs.Calls.{Restricts, TellsRestricted};
 
+use reg_tables_sql::statements::Result;
 use reg_tables_sql::{crates, restricted};
-use sqlite::{Alter, Connection, Error};
+use sqlite::{Alter, Connection};
 
-fn restrict<S: Alter>(conn: &mut Connection<S>, crate_id: u32) -> Result<(), Error>
+fn restrict<S: Alter>(conn: &mut Connection<S>, crate_id: u32) -> Result<()>
     requires { IsReady (state S.Store conn.old) }
     ensures stands { Done S.Store conn.new result
         (Restricts true crate_id (rows_in S.Store conn.old) (rows_in S.Store conn.new)) }
@@ -29,7 +30,7 @@ fn restrict<S: Alter>(conn: &mut Connection<S>, crate_id: u32) -> Result<(), Err
 }
 
 #[tactic(auto, using(crate::proofs::Withins::refused_fails, crate::proofs::Withins::become_within))]
-fn lift<S: Alter>(conn: &mut Connection<S>, crate_id: u32) -> Result<(), Error>
+fn lift<S: Alter>(conn: &mut Connection<S>, crate_id: u32) -> Result<()>
     requires { IsReady (state S.Store conn.old) }
     ensures stands { Done S.Store conn.new result
         (Restricts false crate_id (rows_in S.Store conn.old) (rows_in S.Store conn.new)) }
@@ -40,7 +41,7 @@ fn lift<S: Alter>(conn: &mut Connection<S>, crate_id: u32) -> Result<(), Error>
 }
 
 /// Restricts a crate, or opens it to all. A crate that does not exist becomes neither.
-pub fn set<S: Alter>(conn: &mut Connection<S>, crate_id: u32, restricted: bool) -> Result<(), Error>
+pub fn set<S: Alter>(conn: &mut Connection<S>, crate_id: u32, restricted: bool) -> Result<()>
     requires { IsReady (state S.Store conn.old) }
     ensures stands { Done S.Store conn.new result
         (Restricts restricted crate_id (rows_in S.Store conn.old) (rows_in S.Store conn.new)) }
@@ -54,7 +55,7 @@ pub fn set<S: Alter>(conn: &mut Connection<S>, crate_id: u32, restricted: bool) 
 }
 
 /// Whether a crate is restricted.
-pub fn is<S: Alter>(conn: &mut Connection<S>, crate_id: u32) -> Result<bool, Error>
+pub fn is<S: Alter>(conn: &mut Connection<S>, crate_id: u32) -> Result<bool>
     requires { IsReady (state S.Store conn.old) }
     ensures found { Told S.Store conn.new result
         (TellsRestricted crate_id (rows_in S.Store conn.old)) }

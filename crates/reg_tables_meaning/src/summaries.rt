@@ -15,6 +15,7 @@ ghost use Rattle.reg_tables_meaning.specs.Summaries.{higher_by_id, higher_of, hi
 ghost use Rattle.reg_tables_meaning.specs.SummaryChanges.{AddsSummary, AreNumbers, ArePushed, AreRemarked, IsHigherMarked, IsKept, IsVersionAt, PushesSummary, RemarksSummary};
 
 use reg_line::line_len;
+use reg_tables_sql::statements::Result;
 use reg_tables_sql::summaries::{self, Summary};
 use reg_tables_sql::versions::{self, VersionMark};
 use reg_versions::{Release, VersionFault, highest, takes_over};
@@ -28,7 +29,7 @@ pub struct Numbers {
     pub index_length: u64,
 }
 
-fn read(alloc: Global, mark: &VersionMark) -> Result<(Release, bool), Error>
+fn read(alloc: Global, mark: &VersionMark) -> Result<(Release, bool)>
     ensures { IfOk result (λ r. r ≡ read_mark (shown_mark mark.now)) }
 {
     match Release::parse(alloc, mark.vers.as_str()) {
@@ -38,7 +39,7 @@ fn read(alloc: Global, mark: &VersionMark) -> Result<(Release, bool), Error>
     }
 }
 
-fn read_each(alloc: Global, marks: &[VersionMark]) -> Result<Vec<(Release, bool)>, Error>
+fn read_each(alloc: Global, marks: &[VersionMark]) -> Result<Vec<(Release, bool)>>
     ensures { IfOk result (λ v. v.items ≡ map (λ m. read_mark (shown_mark m)) marks.now) }
 {
     let mut releases = Vec::new(alloc);
@@ -58,7 +59,7 @@ fn id_at(marks: &[VersionMark], place: usize) -> u64
 }
 
 /// The id of the highest of these versions.
-fn highest_id(alloc: Global, marks: &[VersionMark]) -> Result<u64, Error>
+fn highest_id(alloc: Global, marks: &[VersionMark]) -> Result<u64>
     ensures { IfOk result (λ id. id ≡ highest_in (map shown_mark marks.now)) }
 {
     let releases = read_each(alloc, marks)?;
@@ -68,7 +69,7 @@ fn highest_id(alloc: Global, marks: &[VersionMark]) -> Result<u64, Error>
     }
 }
 
-fn with_line(before: u64, mark: &VersionMark) -> Result<u64, Error>
+fn with_line(before: u64, mark: &VersionMark) -> Result<u64>
     ensures { IfOk result (λ n. n ≡ before + line_length (shown_mark mark.now)) }
 {
     match line_len(mark.stem_length, mark.yanked) {
@@ -81,7 +82,7 @@ fn with_line(before: u64, mark: &VersionMark) -> Result<u64, Error>
 }
 
 /// The length of the index file that these versions make.
-fn index_length(marks: &[VersionMark]) -> Result<u64, Error>
+fn index_length(marks: &[VersionMark]) -> Result<u64>
     ensures { IfOk result (λ n. n ≡ length_in (map shown_mark marks.now)) }
 {
     let mut length = 0;
@@ -93,7 +94,7 @@ fn index_length(marks: &[VersionMark]) -> Result<u64, Error>
 
 /// What the versions of a crate yield, in order of publication. A text that is no version is an
 /// error.
-pub fn numbers_in(alloc: Global, marks: &[VersionMark]) -> Result<Numbers, Error>
+pub fn numbers_in(alloc: Global, marks: &[VersionMark]) -> Result<Numbers>
     ensures highest { IfOk result (λ n. n.highest ≡ highest_in (map shown_mark marks.now)) }
     ensures length { IfOk result (λ n. n.index_length ≡ length_in (map shown_mark marks.now)) }
 {
@@ -106,7 +107,7 @@ pub fn numbers_in(alloc: Global, marks: &[VersionMark]) -> Result<Numbers, Error
 }
 
 /// What the summary of a crate says, from its versions' rows.
-fn numbers_of<S: Alter>(conn: &mut Connection<S>, crate_id: u32) -> Result<Numbers, Error>
+fn numbers_of<S: Alter>(conn: &mut Connection<S>, crate_id: u32) -> Result<Numbers>
     requires { IsReady (state S.Store conn.old) }
     ensures told { Told S.Store conn.new result
         (λ n. AreNumbers crate_id (rows_in S.Store conn.old) n.highest n.index_length) }
@@ -119,7 +120,7 @@ fn numbers_of<S: Alter>(conn: &mut Connection<S>, crate_id: u32) -> Result<Numbe
 }
 
 /// The summary of a crate that has one.
-fn kept<S: Alter>(conn: &mut Connection<S>, crate_id: u32) -> Result<Summary, Error>
+fn kept<S: Alter>(conn: &mut Connection<S>, crate_id: u32) -> Result<Summary>
     requires { IsReady (state S.Store conn.old) }
     ensures told { Told S.Store conn.new result (IsKept crate_id (rows_in S.Store conn.old)) }
     ensures same { KeepsAll S.Store conn.old conn.new result }
@@ -129,7 +130,7 @@ fn kept<S: Alter>(conn: &mut Connection<S>, crate_id: u32) -> Result<Summary, Er
 }
 
 /// The version with this id.
-fn version_at<S: Alter>(conn: &mut Connection<S>, id: u64) -> Result<VersionMark, Error>
+fn version_at<S: Alter>(conn: &mut Connection<S>, id: u64) -> Result<VersionMark>
     requires { IsReady (state S.Store conn.old) }
     ensures told { Told S.Store conn.new result (IsVersionAt id (rows_in S.Store conn.old)) }
     ensures same { KeepsAll S.Store conn.old conn.new result }
@@ -139,7 +140,7 @@ fn version_at<S: Alter>(conn: &mut Connection<S>, id: u64) -> Result<VersionMark
 }
 
 /// The id of the higher of two versions, the second of them published later.
-fn higher(one: &VersionMark, next: &VersionMark) -> Result<u64, Error>
+fn higher(one: &VersionMark, next: &VersionMark) -> Result<u64>
     ensures { IfOk result (λ id. id ≡ (higher_of (shown_mark one.now) (shown_mark next.now)).id) }
 {
     let alloc = *one.vers.allocator();
@@ -153,7 +154,7 @@ fn higher(one: &VersionMark, next: &VersionMark) -> Result<u64, Error>
 }
 
 /// What the summary of a crate says with one more version, the last.
-fn pushed<S: Alter>(conn: &mut Connection<S>, crate_id: u32, version: u64) -> Result<Numbers, Error>
+fn pushed<S: Alter>(conn: &mut Connection<S>, crate_id: u32, version: u64) -> Result<Numbers>
     requires { IsReady (state S.Store conn.old) }
     ensures told { Told S.Store conn.new result
         (λ n. ArePushed crate_id version (rows_in S.Store conn.old) n.highest n.index_length) }
@@ -171,11 +172,7 @@ fn pushed<S: Alter>(conn: &mut Connection<S>, crate_id: u32, version: u64) -> Re
 }
 
 /// Adds the summary of a crate that has only this version.
-pub(crate) fn insert<S: Alter>(
-    conn: &mut Connection<S>,
-    crate_id: u32,
-    version: u64,
-) -> Result<(), Error>
+pub(crate) fn insert<S: Alter>(conn: &mut Connection<S>, crate_id: u32, version: u64) -> Result<()>
     requires { IsReady (state S.Store conn.old) }
     ensures added { Done S.Store conn.new result
         (AddsSummary crate_id version (rows_in S.Store conn.old) (rows_in S.Store conn.new)) }
@@ -183,28 +180,34 @@ pub(crate) fn insert<S: Alter>(
 {
     let only = version_at(conn, version)?;
     let index_length = with_line(0, &only)?;
-    summaries::insert(conn, crate_id, version, index_length)?;
+    let summary = Summary {
+        crate_id,
+        highest: version,
+        index_length,
+    };
+    summaries::insert(conn, summary)?;
     Ok(())
 }
 
 /// Updates the summary of a crate for one more version, the last.
-pub(crate) fn push<S: Alter>(
-    conn: &mut Connection<S>,
-    crate_id: u32,
-    version: u64,
-) -> Result<(), Error>
+pub(crate) fn push<S: Alter>(conn: &mut Connection<S>, crate_id: u32, version: u64) -> Result<()>
     requires { IsReady (state S.Store conn.old) }
     ensures pushed { Done S.Store conn.new result
         (PushesSummary crate_id version (rows_in S.Store conn.old) (rows_in S.Store conn.new)) }
     ensures leaves { Steps S.Store conn.old conn.new result }
 {
     let numbers = pushed(conn, crate_id, version)?;
-    summaries::update(conn, crate_id, numbers.highest, numbers.index_length)?;
+    let summary = Summary {
+        crate_id,
+        highest: numbers.highest,
+        index_length: numbers.index_length,
+    };
+    summaries::update(conn, summary)?;
     Ok(())
 }
 
 /// The id of the higher of two versions, given in either order.
-fn higher_of_two(one: &VersionMark, other: &VersionMark) -> Result<u64, Error>
+fn higher_of_two(one: &VersionMark, other: &VersionMark) -> Result<u64>
     ensures { IfOk result
         (λ id. id ≡ (higher_by_id (shown_mark one.now) (shown_mark other.now)).id) }
 {
@@ -221,7 +224,7 @@ fn highest_marked<S: Alter>(
     conn: &mut Connection<S>,
     highest: u64,
     now: &VersionMark,
-) -> Result<u64, Error>
+) -> Result<u64>
     requires { IsReady (state S.Store conn.old) }
     ensures told { Told S.Store conn.new result
         (IsHigherMarked highest (shown_mark now.now) (rows_in S.Store conn.old)) }
@@ -235,7 +238,7 @@ fn highest_marked<S: Alter>(
 }
 
 /// The length of an index file once one of its marks is this one: `true` is shorter by a byte.
-fn length_marked(before: u64, yanked: bool) -> Result<u64, Error>
+fn length_marked(before: u64, yanked: bool) -> Result<u64>
     ensures { IfOk result
         (λ n. n + length (end_of (not yanked)) ≡ before + length (end_of yanked)) }
 {
@@ -248,11 +251,7 @@ fn length_marked(before: u64, yanked: bool) -> Result<u64, Error>
 }
 
 /// What the summary of a crate says once the mark of a version has changed.
-fn remarked<S: Alter>(
-    conn: &mut Connection<S>,
-    crate_id: u32,
-    version: u64,
-) -> Result<Numbers, Error>
+fn remarked<S: Alter>(conn: &mut Connection<S>, crate_id: u32, version: u64) -> Result<Numbers>
     requires { IsReady (state S.Store conn.old) }
     ensures told { Told S.Store conn.new result
         (λ n. AreRemarked crate_id version (rows_in S.Store conn.old) n.highest n.index_length) }
@@ -272,23 +271,24 @@ fn remarked<S: Alter>(
 }
 
 /// Updates the summary of a crate once the mark of a version has changed.
-pub(crate) fn remark<S: Alter>(
-    conn: &mut Connection<S>,
-    crate_id: u32,
-    version: u64,
-) -> Result<(), Error>
+pub(crate) fn remark<S: Alter>(conn: &mut Connection<S>, crate_id: u32, version: u64) -> Result<()>
     requires { IsReady (state S.Store conn.old) }
     ensures remarked { Done S.Store conn.new result
         (RemarksSummary crate_id version (rows_in S.Store conn.old) (rows_in S.Store conn.new)) }
     ensures leaves { Steps S.Store conn.old conn.new result }
 {
     let numbers = remarked(conn, crate_id, version)?;
-    summaries::update(conn, crate_id, numbers.highest, numbers.index_length)?;
+    let summary = Summary {
+        crate_id,
+        highest: numbers.highest,
+        index_length: numbers.index_length,
+    };
+    summaries::update(conn, summary)?;
     Ok(())
 }
 
 /// The summary of a crate.
-pub fn of_crate<S: Alter>(conn: &mut Connection<S>, crate_id: u32) -> Result<Option<Summary>, Error>
+pub fn of_crate<S: Alter>(conn: &mut Connection<S>, crate_id: u32) -> Result<Option<Summary>>
     requires { IsReady (state S.Store conn.old) }
     ensures found { Told S.Store conn.new result
         (FindsSummary crate_id (rows_in S.Store conn.old)) }

@@ -18,6 +18,7 @@ use reg_line::Digest;
 use reg_model::Endpoints;
 use reg_names::{Pattern, compile};
 use reg_tables_sql::scopes::{self, Scope};
+use reg_tables_sql::statements::Result;
 use reg_tables_sql::tokens::{self, Token, TokenRow};
 use sqlite::{Alter, Connection, Error};
 use std::alloc::Global;
@@ -38,7 +39,7 @@ pub struct TokenLists {
 
 /// Revokes a token.
 #[tactic(auto, using(crate::proofs::Withins::refused_fails, crate::proofs::Withins::touch_within))]
-pub fn end<S: Alter>(conn: &mut Connection<S>, id: u32) -> Result<(), Error>
+pub fn end<S: Alter>(conn: &mut Connection<S>, id: u32) -> Result<()>
     requires { IsReady (state S.Store conn.old) }
     ensures stands { Done S.Store conn.new result
         (Ends id (rows_in S.Store conn.old) (rows_in S.Store conn.new)) }
@@ -53,7 +54,7 @@ fn add_row<S: Alter>(
     digest: &Digest,
     account: u32,
     endpoints: &Endpoints,
-) -> Result<u32, Error>
+) -> Result<u32>
     requires { IsReady (state S.Store conn.old) }
     ensures stands { Told S.Store conn.new result
         (AddsToken digest.now account endpoints.now []
@@ -67,7 +68,7 @@ fn add_row<S: Alter>(
 }
 
 // The place of a pattern; 32 bits hold every possible one.
-fn place_of(index: usize) -> Result<u32, Error>
+fn place_of(index: usize) -> Result<u32>
     ensures { IfOk result (λ place. place ≡ index) }
 {
     match u32::try_from(index) {
@@ -82,7 +83,7 @@ fn add_scope<S: Alter>(
     token: u32,
     place: u32,
     pattern: &Pattern,
-) -> Result<(), Error>
+) -> Result<()>
     requires { IsReady (state S.Store conn.old) }
     ensures added { Done S.Store conn.new result
         (AddsColumns scopes_tree (scope_of token (place, pattern.now))
@@ -107,7 +108,7 @@ fn add_scopes<S: Alter>(
     conn: &mut Connection<S>,
     token: u32,
     patterns: &[Pattern],
-) -> Result<(), Error>
+) -> Result<()>
     requires { IsReady (state S.Store conn.old) }
     ensures given { Done S.Store conn.new result
         (GivesPatterns token patterns.now (rows_in S.Store conn.old) (rows_in S.Store conn.new)) }
@@ -128,7 +129,7 @@ pub fn add<S: Alter>(
     account: u32,
     endpoints: &Endpoints,
     patterns: &[Pattern],
-) -> Result<u32, Error>
+) -> Result<u32>
     requires { IsReady (state S.Store conn.old) }
     ensures stands { Told S.Store conn.new result
         (AddsToken digest.now account endpoints.now patterns.now
@@ -140,7 +141,7 @@ pub fn add<S: Alter>(
     Ok(id)
 }
 
-fn find_row<S: Alter>(conn: &mut Connection<S>, digest: &Digest) -> Result<Option<TokenRow>, Error>
+fn find_row<S: Alter>(conn: &mut Connection<S>, digest: &Digest) -> Result<Option<TokenRow>>
     requires { IsReady (state S.Store conn.old) }
     ensures found { Told S.Store conn.new result
         (FindsTokenRow digest.now (rows_in S.Store conn.old)) }
@@ -155,7 +156,7 @@ pub fn find<S: Alter>(
     alloc: Global,
     conn: &mut Connection<S>,
     digest: &Digest,
-) -> Result<Option<TokenRows>, Error>
+) -> Result<Option<TokenRows>>
     requires { IsReady (state S.Store conn.old) }
     ensures found { Told S.Store conn.new result
         (FindsToken digest.now (rows_in S.Store conn.old)) }
@@ -181,7 +182,7 @@ fn live_of(token: Option<Token>) -> Option<bool>
 }
 
 /// Whether a token is live, if there is one with this id.
-pub fn is_live<S: Alter>(conn: &mut Connection<S>, id: u32) -> Result<Option<bool>, Error>
+pub fn is_live<S: Alter>(conn: &mut Connection<S>, id: u32) -> Result<Option<bool>>
     requires { IsReady (state S.Store conn.old) }
     ensures told { Told S.Store conn.new result (TellsLive id (rows_in S.Store conn.old)) }
     ensures same { KeepsAll S.Store conn.old conn.new result }
@@ -192,7 +193,7 @@ pub fn is_live<S: Alter>(conn: &mut Connection<S>, id: u32) -> Result<Option<boo
 
 /// All tokens by id, and all scopes by token and place.
 #[tactic(auto, using(crate::proofs::Readings::same_then, crate::proofs::Readings::refuses_after))]
-pub fn list_both<S: Alter>(alloc: Global, conn: &mut Connection<S>) -> Result<TokenLists, Error>
+pub fn list_both<S: Alter>(alloc: Global, conn: &mut Connection<S>) -> Result<TokenLists>
     requires { IsReady (state S.Store conn.old) }
     ensures tokens { Told S.Store conn.new result
         (λ both. ListsTokens (rows_in S.Store conn.old) both.tokens.items) }

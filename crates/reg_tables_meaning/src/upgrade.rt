@@ -8,10 +8,11 @@ ghost use Rattle.reg_tables_meaning.specs.Upgrades.{BeginsSecond, Upgrades};
 
 use reg_tables_schema::{Edition, add_tables, begin, undo};
 use reg_tables_sql::about;
-use sqlite::{Alter, Connection, Error};
+use reg_tables_sql::statements::Result;
+use sqlite::{Alter, Connection};
 
 #[tactic(auto, using(crate::proofs::Raising::upgrades))]
-fn extend<S: Alter>(conn: &mut Connection<S>) -> Result<(), Error>
+fn extend<S: Alter>(conn: &mut Connection<S>) -> Result<()>
     requires { IsOurs Edition.First (state S.Store conn.old) }
     ensures upgrades { HasCleanDisk (state S.Store conn.new) → OnOk result
         (Upgrades (state S.Store conn.old) (state S.Store conn.new)) }
@@ -25,7 +26,7 @@ fn extend<S: Alter>(conn: &mut Connection<S>) -> Result<(), Error>
     Ok(())
 }
 
-fn begin_on<S: Alter>(conn: &mut Connection<S>, edition: Edition) -> Result<(), Error>
+fn begin_on<S: Alter>(conn: &mut Connection<S>, edition: Edition) -> Result<()>
     requires { IsOurs edition (state S.Store conn.old) }
     ensures begun { HasCleanDisk (state S.Store conn.new) → OnOk result
         (BeginsSecond edition (state S.Store conn.old) (state S.Store conn.new)) }
@@ -43,7 +44,7 @@ fn begin_on<S: Alter>(conn: &mut Connection<S>, edition: Edition) -> Result<(), 
 }
 
 /// Begins a transaction that sees schema 2. If that fails, none is open.
-pub fn begin_second<S: Alter>(conn: &mut Connection<S>, edition: Edition) -> Result<(), Error>
+pub fn begin_second<S: Alter>(conn: &mut Connection<S>, edition: Edition) -> Result<()>
     requires { IsOurs edition (state S.Store conn.old) }
     ensures begun { HasCleanDisk (state S.Store conn.new) → OnOk result
         (BeginsSecond edition (state S.Store conn.old) (state S.Store conn.new)) }

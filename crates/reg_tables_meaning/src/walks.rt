@@ -11,8 +11,9 @@ ghost use Rattle.reg_tables_schema.specs.States.{IsOurs};
 ghost use Rattle.reg_tables_meaning.specs.Walks.{IsSpared, MayStream};
 
 use reg_tables_schema::Edition;
+use reg_tables_sql::statements::Result;
 use sqlite::types::ValueRef;
-use sqlite::{Alter, Connection, Error, Rows};
+use sqlite::{Alter, Connection, Rows};
 
 /// The rows of a read-only query, one at a time, from a connection to our tables. They may be
 /// dropped at any row. The query is prepared first, since that alone shows that the connection is
@@ -21,7 +22,7 @@ pub fn rows_of<'c, S: Alter>(
     conn: &'c mut Connection<S>,
     text: &str,
     params: &[ValueRef<'_>],
-) -> Result<Rows<'c, S>, Error>
+) -> Result<Rows<'c, S>>
     requires { MayStream text.now (state S.Store conn.old) }
     ensures* refused { sem 𝓛 (RestsIfErr (connection.the_row S.row S.Store) conn.entry
         (λ rows. rows.conn.ghost_name) result (IsSpared S.Store conn.old)) }

@@ -28,6 +28,7 @@ use reg_tables_sql::accounts::Account;
 use reg_tables_sql::crates::Crate;
 use reg_tables_sql::pairs::{Pair, Relation};
 use reg_tables_sql::scopes::Scope;
+use reg_tables_sql::statements::Result;
 use reg_tables_sql::summaries::Summary;
 use reg_tables_sql::tokens::Token;
 use reg_tables_sql::versions::Version;
@@ -85,7 +86,7 @@ struct OtherTables {
     reserved: Vec<String>,
 }
 
-fn token_tables<S: Alter>(alloc: Global, conn: &mut Connection<S>) -> Result<TokenTables, Error>
+fn token_tables<S: Alter>(alloc: Global, conn: &mut Connection<S>) -> Result<TokenTables>
     requires { IsReady (state S.Store conn.old) }
     ensures accounts { Told S.Store conn.new result
         (λ it. AreAccounts (rows_in S.Store conn.old) it.accounts.items) }
@@ -103,7 +104,7 @@ fn token_tables<S: Alter>(alloc: Global, conn: &mut Connection<S>) -> Result<Tok
 }
 
 // Rows that a connection shows keep the rules of its schema.
-fn see_rules<S: Alter>(conn: &mut Connection<S>) -> Result<(), Error>
+fn see_rules<S: Alter>(conn: &mut Connection<S>) -> Result<()>
     requires { IsReady (state S.Store conn.old) }
     ensures obeys { Done S.Store conn.new result (Obeys ours (rows_in S.Store conn.old)) }
     ensures same { KeepsAll S.Store conn.old conn.new result }
@@ -112,7 +113,7 @@ fn see_rules<S: Alter>(conn: &mut Connection<S>) -> Result<(), Error>
     Ok(())
 }
 
-fn crate_tables<S: Alter>(alloc: Global, conn: &mut Connection<S>) -> Result<CrateTables, Error>
+fn crate_tables<S: Alter>(alloc: Global, conn: &mut Connection<S>) -> Result<CrateTables>
     requires { IsReady (state S.Store conn.old) }
     ensures crates { Told S.Store conn.new result
         (λ it. AreCratesById (rows_in S.Store conn.old) it.crates.items) }
@@ -138,7 +139,7 @@ fn crate_tables<S: Alter>(alloc: Global, conn: &mut Connection<S>) -> Result<Cra
     })
 }
 
-fn kept_tables<S: Alter>(alloc: Global, conn: &mut Connection<S>) -> Result<KeptTables, Error>
+fn kept_tables<S: Alter>(alloc: Global, conn: &mut Connection<S>) -> Result<KeptTables>
     requires { IsReady (state S.Store conn.old) }
     ensures summaries { Told S.Store conn.new result
         (λ it. AreSummaries (rows_in S.Store conn.old) it.summaries.items) }
@@ -155,7 +156,7 @@ fn kept_tables<S: Alter>(alloc: Global, conn: &mut Connection<S>) -> Result<Kept
     })
 }
 
-fn the_base<S: Alter>(conn: &mut Connection<S>) -> Result<String, Error>
+fn the_base<S: Alter>(conn: &mut Connection<S>) -> Result<String>
     requires { IsReady (state S.Store conn.old) }
     ensures base { Told S.Store conn.new result
         (λ base. IsBaseOf (rows_in S.Store conn.old) (Some (string_bytes base))) }
@@ -173,7 +174,7 @@ fn see_ids(first: Option<u64>)
 {}
 
 // That archives have ids is seen from the first alone: each row that is read is read whole.
-fn see_archives<S: Alter>(conn: &mut Connection<S>) -> Result<(), Error>
+fn see_archives<S: Alter>(conn: &mut Connection<S>) -> Result<()>
     requires { IsReady (state S.Store conn.old) }
     ensures ids { Done S.Store conn.new result (HaveIds (rows_in S.Store conn.old archives_tree)) }
     ensures same { KeepsAll S.Store conn.old conn.new result }
@@ -183,7 +184,7 @@ fn see_archives<S: Alter>(conn: &mut Connection<S>) -> Result<(), Error>
     Ok(())
 }
 
-fn other_tables<S: Alter>(alloc: Global, conn: &mut Connection<S>) -> Result<OtherTables, Error>
+fn other_tables<S: Alter>(alloc: Global, conn: &mut Connection<S>) -> Result<OtherTables>
     requires { IsReady (state S.Store conn.old) }
     ensures base { Told S.Store conn.new result
         (λ it. IsBaseOf (rows_in S.Store conn.old) (Some (string_bytes it.base))) }
@@ -201,7 +202,7 @@ fn other_tables<S: Alter>(alloc: Global, conn: &mut Connection<S>) -> Result<Oth
 
 /// The rows of all tables. For crates, versions, owners, readers and reserved names, two rows
 /// sharing a rowid are a fault.
-pub fn read<S: Alter>(alloc: Global, conn: &mut Connection<S>) -> Result<AllRows, Error>
+pub fn read<S: Alter>(alloc: Global, conn: &mut Connection<S>) -> Result<AllRows>
     requires { IsReady (state S.Store conn.old) }
     ensures read { Told S.Store conn.new result (λ it. AreAllRows it (rows_in S.Store conn.old)) }
     ensures same { KeepsAll S.Store conn.old conn.new result }

@@ -18,6 +18,7 @@ ghost use Rattle.reg_tables_meaning.specs.Stands.{HaveOwnRowids};
 
 use reg_tables_sql::crates::Crate;
 use reg_tables_sql::pairs::Relation;
+use reg_tables_sql::statements::Result;
 use reg_tables_sql::versions::Version;
 use reg_tables_sql::{pairs, reserved};
 use sqlite::{Alter, Connection, Error};
@@ -46,7 +47,7 @@ fn rise(ids: &[i64]) -> bool
     }
 }
 
-fn check_that(holds: bool) -> Result<(), Error>
+fn check_that(holds: bool) -> Result<()>
     ensures { OnOk result (IsTrue holds) }
 {
     if !holds {
@@ -55,7 +56,7 @@ fn check_that(holds: bool) -> Result<(), Error>
     Ok(())
 }
 
-fn check(rowids: &[i64]) -> Result<(), Error>
+fn check(rowids: &[i64]) -> Result<()>
     ensures { OnOk result ((tree : ℕ) (db : Trees) → AreRowids tree db rowids.now
         → HaveOwnRowids (db tree)) }
 {
@@ -76,7 +77,7 @@ fn versions_rise(versions: &[Version]) -> bool
 }
 
 /// Succeeds only if no two of all crates share a rowid, which is their id.
-pub(crate) fn check_crates(crates: &[Crate]) -> Result<(), Error>
+pub(crate) fn check_crates(crates: &[Crate]) -> Result<()>
     ensures { OnOk result ((db : Trees) → AreCratesById db crates.now
         → HaveOwnRowids (db crates_tree)) }
 {
@@ -84,7 +85,7 @@ pub(crate) fn check_crates(crates: &[Crate]) -> Result<(), Error>
 }
 
 /// Succeeds only if no two of all versions share a rowid, which is their id.
-pub(crate) fn check_versions(versions: &[Version]) -> Result<(), Error>
+pub(crate) fn check_versions(versions: &[Version]) -> Result<()>
     ensures { OnOk result ((db : Trees) → AreVersions db versions.now
         → HaveOwnRowids (db versions_tree)) }
 {
@@ -92,7 +93,7 @@ pub(crate) fn check_versions(versions: &[Version]) -> Result<(), Error>
 }
 
 /// Succeeds only if no two rows of a table share a rowid, in the tables whose rowids are SQL's own.
-pub(crate) fn check_rowids<S: Alter>(alloc: Global, conn: &mut Connection<S>) -> Result<(), Error>
+pub(crate) fn check_rowids<S: Alter>(alloc: Global, conn: &mut Connection<S>) -> Result<()>
     requires { IsReady (state S.Store conn.old) }
     ensures owners { Done S.Store conn.new result
         (HaveOwnRowids (rows_in S.Store conn.old owners_tree)) }

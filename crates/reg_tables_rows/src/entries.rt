@@ -11,6 +11,7 @@ ghost use Rattle.reg_tables_meaning.specs.Walks.{IsRead};
 use reg_tables_meaning::entries::index_rows;
 use reg_tables_schema::Edition;
 use reg_tables_sql::records::FromRow;
+use reg_tables_sql::statements::Result;
 use reg_tables_sql::versions::StemRow;
 use sqlite::{Alter, Connection, Error};
 use std::alloc::Global;
@@ -20,7 +21,7 @@ pub fn index_entries<S: Alter>(
     alloc: Global,
     conn: &mut Connection<S>,
     crate_id: u32,
-) -> Result<Vec<StemRow>, Error>
+) -> Result<Vec<StemRow>>
     requires { IsOurs Edition.Second (state S.Store conn.old) }
     ensures entries { HasCleanDisk (state S.Store conn.new) → IfOk result
         (λ list. AreEntriesOf crate_id (rows_in S.Store conn.old) list.items) }

@@ -1,5 +1,6 @@
 pub mod Abouts
 pub mod Accounts
+pub mod Answers
 pub mod Archives
 pub mod Counts
 pub mod Crates

@@ -9,10 +9,11 @@ ghost use Rattle.reg_tables_schema.specs.States.{IsReady, IsReadyOf};
 ghost use Rattle.reg_tables_schema.specs.Statements.{Reads, Writes, rows_in};
 ghost use Rattle.reg_tables_schema.specs.Tests.{shows};
 ghost use Rattle.reg_tables_sql.specs.Abouts.{BecomesSecond, IsAbout, IsAboutOf, IsBase, IsBaseOf, NumbersSecond};
+ghost use Rattle.reg_tables_sql.specs.Answers.{Finds};
 
-use crate::statements::{rows_of, select_only, write};
+use crate::statements::{Result, rows_of, select_only, write};
 use reg_tables_schema::Edition;
-use sqlite::{Alter, Connection, Error, Row, params};
+use sqlite::{Alter, Connection, Row, params};
 
 /// What the one row says: the schema of the tables, and the base of the registry.
 #[derive(Debug, Drop)]
@@ -21,7 +22,7 @@ pub struct About {
     pub base: String,
 }
 
-fn about_of(rows: &[Row]) -> Result<Option<About>, Error>
+fn about_of(rows: &[Row]) -> Result<Option<About>>
     ensures { IfOk result (IsAbout rows.now) }
 {
     if rows.len() != 1 || rows[0].column_count() != 2 {
@@ -37,9 +38,9 @@ fn about_of(rows: &[Row]) -> Result<Option<About>, Error>
 }
 
 /// What the row says; none if it is not alone, or its number belongs to no schema of ours.
-pub fn read<S: Alter>(conn: &mut Connection<S>) -> Result<Option<About>, Error>
+pub fn read<S: Alter>(conn: &mut Connection<S>) -> Result<Option<About>>
     requires { (e : Edition) × IsReadyOf e (state S.Store conn.old) }
-    ensures { Reads S.Store conn.old conn.new result (IsAboutOf (rows_in S.Store conn.old)) }
+    ensures { Finds S.Store conn.old conn.new result IsAboutOf }
 {
     let rows = rows_of(conn, "SELECT schema, base FROM about", &[])?;
     about_of(&rows)
@@ -56,7 +57,7 @@ fn second_base(about: Option<About>) -> Option<String>
 }
 
 /// The base of a registry of schema 2; none if the row is not alone, or is not of that schema.
-pub fn base<S: Alter>(conn: &mut Connection<S>) -> Result<Option<String>, Error>
+pub fn base<S: Alter>(conn: &mut Connection<S>) -> Result<Option<String>>
     requires { IsReady (state S.Store conn.old) }
     ensures { Reads S.Store conn.old conn.new result
         (λ base. IsBaseOf (rows_in S.Store conn.old) (option_map string_bytes base)) }
@@ -65,7 +66,7 @@ pub fn base<S: Alter>(conn: &mut Connection<S>) -> Result<Option<String>, Error>
     Ok(second_base(about))
 }
 
-fn the_rowid<S: Alter>(conn: &mut Connection<S>) -> Result<i64, Error>
+fn the_rowid<S: Alter>(conn: &mut Connection<S>) -> Result<i64>
     requires { IsReady (state S.Store conn.old) }
     ensures { Reads S.Store conn.old conn.new result (λ id. map (shows (id_place ∷ []))
         (rows_in S.Store conn.old about_tree) ≡ (Int id ∷ []) ∷ []) }
@@ -73,7 +74,7 @@ fn the_rowid<S: Alter>(conn: &mut Connection<S>) -> Result<i64, Error>
     select_only::<i64, S>(conn, "SELECT rowid FROM about", &[])
 }
 
-fn number_second<S: Alter>(conn: &mut Connection<S>, id: i64) -> Result<(), Error>
+fn number_second<S: Alter>(conn: &mut Connection<S>, id: i64) -> Result<()>
     requires { IsReady (state S.Store conn.old) }
     ensures { Writes S.Store conn.old conn.new result (NumbersSecond id) }
 {
@@ -82,7 +83,7 @@ fn number_second<S: Alter>(conn: &mut Connection<S>, id: i64) -> Result<(), Erro
 }
 
 /// Gives the row the number of schema 2. This is refused if the row is not alone.
-pub fn set_second<S: Alter>(conn: &mut Connection<S>) -> Result<(), Error>
+pub fn set_second<S: Alter>(conn: &mut Connection<S>) -> Result<()>
     requires { IsReady (state S.Store conn.old) }
     ensures { Writes S.Store conn.old conn.new result BecomesSecond }
 {

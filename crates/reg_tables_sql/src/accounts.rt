@@ -6,14 +6,13 @@ ghost use Rattle.sqlite.specs.Held.{state};
 ghost use Rattle.reg_tables_schema.specs.Changes.{Adds};
 ghost use Rattle.reg_tables_schema.specs.Places.{accounts_tree};
 ghost use Rattle.reg_tables_schema.specs.States.{IsReady};
-ghost use Rattle.reg_tables_schema.specs.Statements.{Reads, Writes, rows_in};
-ghost use Rattle.reg_tables_sql.specs.Accounts.{AreAccounts, Enables, IsAccountOfLogin, account_columns, account_row};
+ghost use Rattle.reg_tables_schema.specs.Statements.{Writes};
+ghost use Rattle.reg_tables_sql.specs.Accounts.{AreAccounts, Enables, IsAccountOfLogin, account_row};
+ghost use Rattle.reg_tables_sql.specs.Answers.{Finds, Lists};
 ghost use Rattle.reg_tables_sql.specs.Counts.{IsLastId};
 
-use crate::marks::mark_of;
-use crate::records::{FromRow, read_columns};
-use crate::statements::{select_list, select_one, write};
-use sqlite::{Alter, Connection, Error, Row, params};
+use crate::statements::{Result, select_list, select_one, write};
+use sqlite::{Alter, Connection, params};
 use std::alloc::Global;
 
 /// An account as stored.
@@ -25,21 +24,13 @@ pub struct Account {
     pub enabled: bool,
 }
 
-impl FromRow for Account {
-    ghost columns = { account_columns };
-
-    fn from_row(row: &Row) -> Result<Account, Error> {
-        read_columns!(row, 4 => Account { id: 0, login: 1, name: 2, enabled: 3 by mark_of })
-    }
-}
-
 /// Adds an enabled account.
 pub fn insert<S: Alter>(
     conn: &mut Connection<S>,
     id: u32,
     login: &str,
     name: Option<&str>,
-) -> Result<(), Error>
+) -> Result<()>
     requires { IsReady (state S.Store conn.old) }
     ensures { Writes S.Store conn.old conn.new result
         (Adds accounts_tree
@@ -50,7 +41,7 @@ pub fn insert<S: Alter>(
 }
 
 /// Enables or disables an account.
-pub fn enable<S: Alter>(conn: &mut Connection<S>, id: u32, enabled: bool) -> Result<(), Error>
+pub fn enable<S: Alter>(conn: &mut Connection<S>, id: u32, enabled: bool) -> Result<()>
     requires { IsReady (state S.Store conn.old) }
     ensures { Writes S.Store conn.old conn.new result (Enables id enabled) }
 {
@@ -59,30 +50,27 @@ pub fn enable<S: Alter>(conn: &mut Connection<S>, id: u32, enabled: bool) -> Res
 }
 
 /// The account with this login, if there is one.
-pub fn by_login<S: Alter>(conn: &mut Connection<S>, login: &str) -> Result<Option<Account>, Error>
+pub fn by_login<S: Alter>(conn: &mut Connection<S>, login: &str) -> Result<Option<Account>>
     requires { IsReady (state S.Store conn.old) }
-    ensures { Reads S.Store conn.old conn.new result
-        (IsAccountOfLogin login.now (rows_in S.Store conn.old)) }
+    ensures { Finds S.Store conn.old conn.new result (IsAccountOfLogin login.now) }
 {
     let text = "SELECT id, login, name, enabled FROM accounts WHERE login = ?1";
     select_one(conn, text, params![login])
 }
 
 /// All accounts, by id.
-pub fn all<S: Alter>(alloc: Global, conn: &mut Connection<S>) -> Result<Vec<Account>, Error>
+pub fn all<S: Alter>(alloc: Global, conn: &mut Connection<S>) -> Result<Vec<Account>>
     requires { IsReady (state S.Store conn.old) }
-    ensures { Reads S.Store conn.old conn.new result
-        (λ list. AreAccounts (rows_in S.Store conn.old) list.items) }
+    ensures { Lists S.Store conn.old conn.new result AreAccounts }
 {
     let text = "SELECT id, login, name, enabled FROM accounts ORDER BY id";
     select_list(alloc, conn, text, &[])
 }
 
 /// The greatest account id, if there is one.
-pub fn last_id<S: Alter>(conn: &mut Connection<S>) -> Result<Option<u32>, Error>
+pub fn last_id<S: Alter>(conn: &mut Connection<S>) -> Result<Option<u32>>
     requires { IsReady (state S.Store conn.old) }
-    ensures { Reads S.Store conn.old conn.new result
-        (IsLastId accounts_tree (rows_in S.Store conn.old)) }
+    ensures { Finds S.Store conn.old conn.new result (IsLastId accounts_tree) }
 {
     let text = "SELECT id FROM accounts ORDER BY id DESC LIMIT 1";
     select_one(conn, text, &[])

@@ -5,13 +5,13 @@ ghost use Rattle.sqlite.specs.Held.{state};
 ghost use Rattle.reg_tables_schema.specs.Changes.{Adds};
 ghost use Rattle.reg_tables_schema.specs.Places.{archives_tree};
 ghost use Rattle.reg_tables_schema.specs.States.{IsReady};
-ghost use Rattle.reg_tables_schema.specs.Statements.{Reads, Writes, rows_in};
-ghost use Rattle.reg_tables_sql.specs.Archives.{IsArchiveOf, IsArchiveWithId, archive_row, columns_of_archive, columns_of_bytes};
+ghost use Rattle.reg_tables_schema.specs.Statements.{Writes};
+ghost use Rattle.reg_tables_sql.specs.Answers.{Finds};
+ghost use Rattle.reg_tables_sql.specs.Archives.{IsArchiveOf, IsArchiveWithId, archive_row};
 ghost use Rattle.reg_tables_sql.specs.Counts.{IsFirstId};
 
-use crate::records::{FromRow, check_width, read_columns};
-use crate::statements::{select_one, write};
-use sqlite::{Alter, Connection, Error, Row, params};
+use crate::statements::{Result, select_one, write};
+use sqlite::{Alter, Connection, params};
 
 /// The archive of a version.
 #[derive(Debug, Drop)]
@@ -20,25 +20,8 @@ pub struct Archive {
     pub bytes: Vec<u8>,
 }
 
-impl FromRow for Archive {
-    ghost columns = { columns_of_archive };
-
-    fn from_row(row: &Row) -> Result<Archive, Error> {
-        read_columns!(row, 2 => Archive { version: 0, bytes: 1 })
-    }
-}
-
-impl FromRow for Vec<u8> {
-    ghost columns = { columns_of_bytes };
-
-    fn from_row(row: &Row) -> Result<Vec<u8>, Error> {
-        check_width(row, 1)?;
-        row.get(0)
-    }
-}
-
 /// Adds the archive of a version. SQL keeps ids below 2^63.
-pub fn insert<S: Alter>(conn: &mut Connection<S>, version: u64, bytes: &[u8]) -> Result<(), Error>
+pub fn insert<S: Alter>(conn: &mut Connection<S>, version: u64, bytes: &[u8]) -> Result<()>
     requires ready { IsReady (state S.Store conn.old) }
     requires small { version < 2 ^ 63 }
     ensures { Writes S.Store conn.old conn.new result
@@ -54,10 +37,9 @@ pub fn of_version<S: Alter>(
     crate_id: u32,
     release: &str,
     vers: &str,
-) -> Result<Option<Vec<u8>>, Error>
+) -> Result<Option<Vec<u8>>>
     requires { IsReady (state S.Store conn.old) }
-    ensures { Reads S.Store conn.old conn.new result
-        (IsArchiveOf crate_id release.now vers.now (rows_in S.Store conn.old)) }
+    ensures { Finds S.Store conn.old conn.new result (IsArchiveOf crate_id release.now vers.now) }
 {
     let text =
         "SELECT a.bytes FROM versions v JOIN archives a ON a.version = v.id WHERE v.crate = ?1 \
@@ -66,11 +48,10 @@ pub fn of_version<S: Alter>(
 }
 
 /// The archive of the version with this id.
-pub fn by_id<S: Alter>(conn: &mut Connection<S>, version: u64) -> Result<Option<Archive>, Error>
+pub fn by_id<S: Alter>(conn: &mut Connection<S>, version: u64) -> Result<Option<Archive>>
     requires ready { IsReady (state S.Store conn.old) }
     requires small { version < 2 ^ 63 }
-    ensures { Reads S.Store conn.old conn.new result
-        (IsArchiveWithId version (rows_in S.Store conn.old)) }
+    ensures { Finds S.Store conn.old conn.new result (IsArchiveWithId version) }
 {
     let text = "SELECT version, bytes FROM archives WHERE version = ?1";
     select_one(conn, text, params![version as i64])
@@ -78,10 +59,9 @@ pub fn by_id<S: Alter>(conn: &mut Connection<S>, version: u64) -> Result<Option<
 
 /// The first id of a version that has an archive, if there is one. An id that is NULL would be the
 /// first, and is an error.
-pub fn first_id<S: Alter>(conn: &mut Connection<S>) -> Result<Option<u64>, Error>
+pub fn first_id<S: Alter>(conn: &mut Connection<S>) -> Result<Option<u64>>
     requires { IsReady (state S.Store conn.old) }
-    ensures { Reads S.Store conn.old conn.new result
-        (IsFirstId archives_tree (rows_in S.Store conn.old)) }
+    ensures { Finds S.Store conn.old conn.new result (IsFirstId archives_tree) }
 {
     let text = "SELECT version FROM archives ORDER BY version LIMIT 1";
     select_one(conn, text, &[])

@@ -4,13 +4,13 @@ ghost use Rattle.sqlite.specs.Held.{state};
 ghost use Rattle.reg_tables_schema.specs.Changes.{Adds};
 ghost use Rattle.reg_tables_schema.specs.Places.{crates_tree};
 ghost use Rattle.reg_tables_schema.specs.States.{IsReady};
-ghost use Rattle.reg_tables_schema.specs.Statements.{Reads, Writes, rows_in};
+ghost use Rattle.reg_tables_schema.specs.Statements.{Writes};
+ghost use Rattle.reg_tables_sql.specs.Answers.{Finds, Lists};
 ghost use Rattle.reg_tables_sql.specs.Counts.{IsCount, IsLastId};
-ghost use Rattle.reg_tables_sql.specs.Crates.{AreCrates, AreCratesById, IsCrateOfCanon, IsCrateThere, crate_columns, crate_row};
+ghost use Rattle.reg_tables_sql.specs.Crates.{AreCrates, AreCratesById, IsCrateOfCanon, IsCrateThere, crate_row};
 
-use crate::records::{FromRow, read_columns};
-use crate::statements::{has_row, select_list, select_one, select_only, write};
-use sqlite::{Alter, Connection, Error, Row, params};
+use crate::statements::{Result, has_row, select_list, select_one, select_only, write};
+use sqlite::{Alter, Connection, params};
 use std::alloc::Global;
 
 /// A crate as stored.
@@ -21,21 +21,8 @@ pub struct Crate {
     pub name: String,
 }
 
-impl FromRow for Crate {
-    ghost columns = { crate_columns };
-
-    fn from_row(row: &Row) -> Result<Crate, Error> {
-        read_columns!(row, 3 => Crate { id: 0, canon: 1, name: 2 })
-    }
-}
-
 /// Adds a crate.
-pub fn insert<S: Alter>(
-    conn: &mut Connection<S>,
-    id: u32,
-    canon: &str,
-    name: &str,
-) -> Result<(), Error>
+pub fn insert<S: Alter>(conn: &mut Connection<S>, id: u32, canon: &str, name: &str) -> Result<()>
     requires { IsReady (state S.Store conn.old) }
     ensures { Writes S.Store conn.old conn.new result
         (Adds crates_tree (crate_row id canon.now name.now)) }
@@ -45,58 +32,52 @@ pub fn insert<S: Alter>(
 }
 
 /// The crate with this canonical name, if there is one.
-pub fn by_canon<S: Alter>(conn: &mut Connection<S>, canon: &str) -> Result<Option<Crate>, Error>
+pub fn by_canon<S: Alter>(conn: &mut Connection<S>, canon: &str) -> Result<Option<Crate>>
     requires { IsReady (state S.Store conn.old) }
-    ensures { Reads S.Store conn.old conn.new result
-        (IsCrateOfCanon canon.now (rows_in S.Store conn.old)) }
+    ensures { Finds S.Store conn.old conn.new result (IsCrateOfCanon canon.now) }
 {
     let text = "SELECT id, canon, name FROM crates WHERE canon = ?1";
     select_one(conn, text, params![canon])
 }
 
 /// Whether there is a crate with this id.
-pub fn has_id<S: Alter>(conn: &mut Connection<S>, id: u32) -> Result<bool, Error>
+pub fn has_id<S: Alter>(conn: &mut Connection<S>, id: u32) -> Result<bool>
     requires { IsReady (state S.Store conn.old) }
-    ensures { Reads S.Store conn.old conn.new result
-        (IsCrateThere id (rows_in S.Store conn.old)) }
+    ensures { Finds S.Store conn.old conn.new result (IsCrateThere id) }
 {
     has_row(conn, "SELECT id FROM crates WHERE id = ?1", params![id])
 }
 
 /// All crates, by canonical name.
-pub fn all<S: Alter>(alloc: Global, conn: &mut Connection<S>) -> Result<Vec<Crate>, Error>
+pub fn all<S: Alter>(alloc: Global, conn: &mut Connection<S>) -> Result<Vec<Crate>>
     requires { IsReady (state S.Store conn.old) }
-    ensures { Reads S.Store conn.old conn.new result
-        (λ list. AreCrates (rows_in S.Store conn.old) list.items) }
+    ensures { Lists S.Store conn.old conn.new result AreCrates }
 {
     let text = "SELECT id, canon, name FROM crates ORDER BY canon";
     select_list(alloc, conn, text, &[])
 }
 
 /// All crates, by id.
-pub fn all_by_id<S: Alter>(alloc: Global, conn: &mut Connection<S>) -> Result<Vec<Crate>, Error>
+pub fn all_by_id<S: Alter>(alloc: Global, conn: &mut Connection<S>) -> Result<Vec<Crate>>
     requires { IsReady (state S.Store conn.old) }
-    ensures { Reads S.Store conn.old conn.new result
-        (λ list. AreCratesById (rows_in S.Store conn.old) list.items) }
+    ensures { Lists S.Store conn.old conn.new result AreCratesById }
 {
     let text = "SELECT id, canon, name FROM crates ORDER BY id";
     select_list(alloc, conn, text, &[])
 }
 
 /// The greatest crate id, if there is one.
-pub fn last_id<S: Alter>(conn: &mut Connection<S>) -> Result<Option<u32>, Error>
+pub fn last_id<S: Alter>(conn: &mut Connection<S>) -> Result<Option<u32>>
     requires { IsReady (state S.Store conn.old) }
-    ensures { Reads S.Store conn.old conn.new result
-        (IsLastId crates_tree (rows_in S.Store conn.old)) }
+    ensures { Finds S.Store conn.old conn.new result (IsLastId crates_tree) }
 {
     select_one(conn, "SELECT id FROM crates ORDER BY id DESC LIMIT 1", &[])
 }
 
 /// How many crates there are, up to SQL's greatest count.
-pub fn count<S: Alter>(conn: &mut Connection<S>) -> Result<u64, Error>
+pub fn count<S: Alter>(conn: &mut Connection<S>) -> Result<u64>
     requires { IsReady (state S.Store conn.old) }
-    ensures { Reads S.Store conn.old conn.new result
-        (IsCount crates_tree (rows_in S.Store conn.old)) }
+    ensures { Finds S.Store conn.old conn.new result (IsCount crates_tree) }
 {
     select_only::<u64, S>(conn, "SELECT count(*) FROM crates", &[])
 }

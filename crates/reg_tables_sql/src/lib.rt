@@ -17,6 +17,7 @@ pub mod pairs;
 pub mod records;
 pub mod reserved;
 pub mod restricted;
+mod rows;
 pub mod scopes;
 pub mod statements;
 pub mod summaries;

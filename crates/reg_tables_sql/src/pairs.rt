@@ -5,15 +5,15 @@ ghost use Rattle.std.specs.Prelude.{◌≡◌};
 ghost use Rattle.sqlite.specs.Held.{state};
 ghost use Rattle.reg_tables_schema.specs.Changes.{AddsColumns, Removes};
 ghost use Rattle.reg_tables_schema.specs.States.{IsReady};
-ghost use Rattle.reg_tables_schema.specs.Statements.{Reads, Writes, rows_in};
-ghost use Rattle.reg_tables_sql.specs.Pairs.{AreAccountsOf, ArePairs, IsPaired, columns_of_pair, is_pair, pair_columns};
+ghost use Rattle.reg_tables_schema.specs.Statements.{Writes};
+ghost use Rattle.reg_tables_sql.specs.Answers.{Finds, Lists};
+ghost use Rattle.reg_tables_sql.specs.Pairs.{AreAccountsOf, ArePairs, IsPaired, is_pair, pair_columns};
 ghost use Rattle.reg_tables_sql.specs.Relations.{accounts_text, all_text, insert_text, pair_text, remove_text, rowids_text, tree_of};
 ghost use Rattle.reg_tables_sql.specs.Rowids.{AreRowids};
 
 use crate::accounts::Account;
-use crate::records::{FromRow, read_columns};
-use crate::statements::{has_row, select_list, write};
-use sqlite::{Alter, Connection, Error, Row, params};
+use crate::statements::{Result, has_row, select_list, write};
+use sqlite::{Alter, Connection, params};
 use std::alloc::Global;
 
 /// A crate and an account that owns or reads it.
@@ -21,14 +21,6 @@ use std::alloc::Global;
 pub struct Pair {
     pub crate_id: u32,
     pub account: u32,
-}
-
-impl FromRow for Pair {
-    ghost columns = { columns_of_pair };
-
-    fn from_row(row: &Row) -> Result<Pair, Error> {
-        read_columns!(row, 2 => Pair { crate_id: 0, account: 1 })
-    }
 }
 
 /// Which accounts of a crate are meant: each relation has its own table.
@@ -84,45 +76,42 @@ fn texts(relation: Relation) -> PairTexts
 }
 
 /// Puts an account into the relation with a crate.
-pub fn insert<S: Alter>(
-    conn: &mut Connection<S>,
-    relation: Relation,
-    crate_id: u32,
-    account: u32,
-) -> Result<(), Error>
+pub fn insert<S: Alter>(conn: &mut Connection<S>, relation: Relation, pair: Pair) -> Result<()>
     requires { IsReady (state S.Store conn.old) }
     ensures { Writes S.Store conn.old conn.new result
-        (AddsColumns (tree_of relation) (pair_columns crate_id account)) }
+        (AddsColumns (tree_of relation) (pair_columns pair.crate_id pair.account)) }
 {
-    write(conn, texts(relation).insert, params![crate_id, account])
+    write(
+        conn,
+        texts(relation).insert,
+        params![pair.crate_id, pair.account],
+    )
 }
 
 /// Removes an account from the relation with a crate.
-pub fn remove<S: Alter>(
-    conn: &mut Connection<S>,
-    relation: Relation,
-    crate_id: u32,
-    account: u32,
-) -> Result<(), Error>
+pub fn remove<S: Alter>(conn: &mut Connection<S>, relation: Relation, pair: Pair) -> Result<()>
     requires { IsReady (state S.Store conn.old) }
     ensures { Writes S.Store conn.old conn.new result
-        (Removes (tree_of relation) (is_pair crate_id account)) }
+        (Removes (tree_of relation) (is_pair pair.crate_id pair.account)) }
 {
-    write(conn, texts(relation).remove, params![crate_id, account])
+    write(
+        conn,
+        texts(relation).remove,
+        params![pair.crate_id, pair.account],
+    )
 }
 
 /// Whether an account is in the relation with a crate.
-pub fn is_there<S: Alter>(
-    conn: &mut Connection<S>,
-    relation: Relation,
-    crate_id: u32,
-    account: u32,
-) -> Result<bool, Error>
+pub fn is_there<S: Alter>(conn: &mut Connection<S>, relation: Relation, pair: Pair) -> Result<bool>
     requires { IsReady (state S.Store conn.old) }
-    ensures { Reads S.Store conn.old conn.new result
-        (IsPaired (tree_of relation) crate_id account (rows_in S.Store conn.old)) }
+    ensures { Finds S.Store conn.old conn.new result
+        (IsPaired (tree_of relation) pair.crate_id pair.account) }
 {
-    has_row(conn, texts(relation).pair, params![crate_id, account])
+    has_row(
+        conn,
+        texts(relation).pair,
+        params![pair.crate_id, pair.account],
+    )
 }
 
 /// The accounts in the relation with a crate, by id.
@@ -131,11 +120,9 @@ pub fn of_crate<S: Alter>(
     conn: &mut Connection<S>,
     relation: Relation,
     crate_id: u32,
-) -> Result<Vec<Account>, Error>
+) -> Result<Vec<Account>>
     requires { IsReady (state S.Store conn.old) }
-    ensures { Reads S.Store conn.old conn.new result
-        (λ list. AreAccountsOf (tree_of relation) crate_id (rows_in S.Store conn.old)
-        list.items) }
+    ensures { Lists S.Store conn.old conn.new result (AreAccountsOf (tree_of relation) crate_id) }
 {
     select_list(alloc, conn, texts(relation).accounts, params![crate_id])
 }
@@ -145,10 +132,9 @@ pub fn all<S: Alter>(
     alloc: Global,
     conn: &mut Connection<S>,
     relation: Relation,
-) -> Result<Vec<Pair>, Error>
+) -> Result<Vec<Pair>>
     requires { IsReady (state S.Store conn.old) }
-    ensures { Reads S.Store conn.old conn.new result
-        (λ list. ArePairs (tree_of relation) (rows_in S.Store conn.old) list.items) }
+    ensures { Lists S.Store conn.old conn.new result (ArePairs (tree_of relation)) }
 {
     select_list(alloc, conn, texts(relation).all, &[])
 }
@@ -158,10 +144,9 @@ pub fn rowids<S: Alter>(
     alloc: Global,
     conn: &mut Connection<S>,
     relation: Relation,
-) -> Result<Vec<i64>, Error>
+) -> Result<Vec<i64>>
     requires { IsReady (state S.Store conn.old) }
-    ensures { Reads S.Store conn.old conn.new result
-        (λ list. AreRowids (tree_of relation) (rows_in S.Store conn.old) list.items) }
+    ensures { Lists S.Store conn.old conn.new result (AreRowids (tree_of relation)) }
 {
     select_list(alloc, conn, texts(relation).rowids, &[])
 }

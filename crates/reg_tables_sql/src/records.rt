@@ -3,6 +3,7 @@
 ghost use Rattle.std.specs.Prelude.{◌≡◌, IfOk, OnOk, length, map};
 ghost use Rattle.sqlite.specs.Order.{Row as Values};
 
+use crate::statements::Result;
 use sqlite::{Error, Row};
 use std::alloc::Global;
 
@@ -10,12 +11,12 @@ use std::alloc::Global;
 pub trait FromRow: Sized + Drop {
     ghost columns: { Self → Values };
 
-    fn from_row(row: &Row) -> Result<Self, Error>
+    fn from_row(row: &Row) -> Result<Self>
         ensures { IfOk result (λ it. row.now ≡ columns it) };
 }
 
 /// Refuses a row with another number of columns.
-pub(crate) fn check_width(row: &Row, columns: usize) -> Result<(), Error>
+pub(crate) fn check_width(row: &Row, columns: usize) -> Result<()>
     ensures { OnOk result (length row.now ≡ columns) }
 {
     if row.column_count() != columns {
@@ -40,7 +41,7 @@ macro_rules! read_columns {
 pub(crate) use read_columns;
 
 /// The records of all rows, in order. Each row is dropped as soon as its record is made.
-pub(crate) fn read_all<T: FromRow>(alloc: Global, rows: Vec<Row>) -> Result<Vec<T>, Error>
+pub(crate) fn read_all<T: FromRow>(alloc: Global, rows: Vec<Row>) -> Result<Vec<T>>
     ensures { IfOk result (λ list. map T.FromRow.columns list.items ≡ rows.items) }
 {
     let mut list = Vec::new(alloc);

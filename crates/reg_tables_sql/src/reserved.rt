@@ -4,17 +4,18 @@ ghost use Rattle.sqlite.specs.Held.{state};
 ghost use Rattle.reg_tables_schema.specs.Changes.{AddsColumns, Removes};
 ghost use Rattle.reg_tables_schema.specs.Places.{reserved_canon_place, reserved_tree};
 ghost use Rattle.reg_tables_schema.specs.States.{IsReady};
-ghost use Rattle.reg_tables_schema.specs.Statements.{Reads, Writes, rows_in};
+ghost use Rattle.reg_tables_schema.specs.Statements.{Writes};
 ghost use Rattle.reg_tables_schema.specs.Tests.{is_text};
+ghost use Rattle.reg_tables_sql.specs.Answers.{Finds, Lists};
 ghost use Rattle.reg_tables_sql.specs.Reserved.{AreReserved, IsReserved, reserved_columns};
 ghost use Rattle.reg_tables_sql.specs.Rowids.{AreRowids};
 
-use crate::statements::{has_row, select_list, write};
-use sqlite::{Alter, Connection, Error, params};
+use crate::statements::{Result, has_row, select_list, write};
+use sqlite::{Alter, Connection, params};
 use std::alloc::Global;
 
 /// Reserves a canonical name.
-pub fn insert<S: Alter>(conn: &mut Connection<S>, canon: &str) -> Result<(), Error>
+pub fn insert<S: Alter>(conn: &mut Connection<S>, canon: &str) -> Result<()>
     requires { IsReady (state S.Store conn.old) }
     ensures { Writes S.Store conn.old conn.new result
         (AddsColumns reserved_tree (reserved_columns canon.now)) }
@@ -24,7 +25,7 @@ pub fn insert<S: Alter>(conn: &mut Connection<S>, canon: &str) -> Result<(), Err
 }
 
 /// Frees a canonical name.
-pub fn remove<S: Alter>(conn: &mut Connection<S>, canon: &str) -> Result<(), Error>
+pub fn remove<S: Alter>(conn: &mut Connection<S>, canon: &str) -> Result<()>
     requires { IsReady (state S.Store conn.old) }
     ensures { Writes S.Store conn.old conn.new result
         (Removes reserved_tree (is_text reserved_canon_place canon.now)) }
@@ -34,30 +35,27 @@ pub fn remove<S: Alter>(conn: &mut Connection<S>, canon: &str) -> Result<(), Err
 }
 
 /// Whether the canonical name is reserved.
-pub fn is_there<S: Alter>(conn: &mut Connection<S>, canon: &str) -> Result<bool, Error>
+pub fn is_there<S: Alter>(conn: &mut Connection<S>, canon: &str) -> Result<bool>
     requires { IsReady (state S.Store conn.old) }
-    ensures { Reads S.Store conn.old conn.new result
-        (IsReserved canon.now (rows_in S.Store conn.old)) }
+    ensures { Finds S.Store conn.old conn.new result (IsReserved canon.now) }
 {
     let text = "SELECT canon FROM reserved WHERE canon = ?1";
     has_row(conn, text, params![canon])
 }
 
 /// All reserved names, in order.
-pub fn all<S: Alter>(alloc: Global, conn: &mut Connection<S>) -> Result<Vec<String>, Error>
+pub fn all<S: Alter>(alloc: Global, conn: &mut Connection<S>) -> Result<Vec<String>>
     requires { IsReady (state S.Store conn.old) }
-    ensures { Reads S.Store conn.old conn.new result
-        (λ list. AreReserved (rows_in S.Store conn.old) list.items) }
+    ensures { Lists S.Store conn.old conn.new result AreReserved }
 {
     let text = "SELECT canon FROM reserved ORDER BY canon";
     select_list(alloc, conn, text, &[])
 }
 
 /// The rowids of all reserved names, in order.
-pub fn rowids<S: Alter>(alloc: Global, conn: &mut Connection<S>) -> Result<Vec<i64>, Error>
+pub fn rowids<S: Alter>(alloc: Global, conn: &mut Connection<S>) -> Result<Vec<i64>>
     requires { IsReady (state S.Store conn.old) }
-    ensures { Reads S.Store conn.old conn.new result
-        (λ list. AreRowids reserved_tree (rows_in S.Store conn.old) list.items) }
+    ensures { Lists S.Store conn.old conn.new result (AreRowids reserved_tree) }
 {
     let text = "SELECT rowid FROM reserved ORDER BY rowid";
     select_list(alloc, conn, text, &[])

@@ -4,15 +4,16 @@ ghost use Rattle.sqlite.specs.Held.{state};
 ghost use Rattle.reg_tables_schema.specs.Changes.{Adds, Removes};
 ghost use Rattle.reg_tables_schema.specs.Places.{restricted_tree};
 ghost use Rattle.reg_tables_schema.specs.States.{IsReady};
-ghost use Rattle.reg_tables_schema.specs.Statements.{Reads, Writes, rows_in};
+ghost use Rattle.reg_tables_schema.specs.Statements.{Writes};
+ghost use Rattle.reg_tables_sql.specs.Answers.{Finds, Lists};
 ghost use Rattle.reg_tables_sql.specs.Restricted.{AreRestricted, IsRestricted, is_restricted, restricted_row};
 
-use crate::statements::{has_row, select_list, write};
-use sqlite::{Alter, Connection, Error, params};
+use crate::statements::{Result, has_row, select_list, write};
+use sqlite::{Alter, Connection, params};
 use std::alloc::Global;
 
 /// Restricts a crate to its readers.
-pub fn insert<S: Alter>(conn: &mut Connection<S>, crate_id: u32) -> Result<(), Error>
+pub fn insert<S: Alter>(conn: &mut Connection<S>, crate_id: u32) -> Result<()>
     requires { IsReady (state S.Store conn.old) }
     ensures { Writes S.Store conn.old conn.new result
         (Adds restricted_tree (restricted_row crate_id)) }
@@ -22,7 +23,7 @@ pub fn insert<S: Alter>(conn: &mut Connection<S>, crate_id: u32) -> Result<(), E
 }
 
 /// Opens a crate to everyone.
-pub fn remove<S: Alter>(conn: &mut Connection<S>, crate_id: u32) -> Result<(), Error>
+pub fn remove<S: Alter>(conn: &mut Connection<S>, crate_id: u32) -> Result<()>
     requires { IsReady (state S.Store conn.old) }
     ensures { Writes S.Store conn.old conn.new result
         (Removes restricted_tree (is_restricted crate_id)) }
@@ -32,20 +33,18 @@ pub fn remove<S: Alter>(conn: &mut Connection<S>, crate_id: u32) -> Result<(), E
 }
 
 /// Whether a crate is restricted.
-pub fn is_there<S: Alter>(conn: &mut Connection<S>, crate_id: u32) -> Result<bool, Error>
+pub fn is_there<S: Alter>(conn: &mut Connection<S>, crate_id: u32) -> Result<bool>
     requires { IsReady (state S.Store conn.old) }
-    ensures { Reads S.Store conn.old conn.new result
-        (IsRestricted crate_id (rows_in S.Store conn.old)) }
+    ensures { Finds S.Store conn.old conn.new result (IsRestricted crate_id) }
 {
     let text = "SELECT crate FROM restricted WHERE crate = ?1";
     has_row(conn, text, params![crate_id])
 }
 
 /// The ids of the restricted crates, in order.
-pub fn all<S: Alter>(alloc: Global, conn: &mut Connection<S>) -> Result<Vec<u32>, Error>
+pub fn all<S: Alter>(alloc: Global, conn: &mut Connection<S>) -> Result<Vec<u32>>
     requires { IsReady (state S.Store conn.old) }
-    ensures { Reads S.Store conn.old conn.new result
-        (λ list. AreRestricted (rows_in S.Store conn.old) list.items) }
+    ensures { Lists S.Store conn.old conn.new result AreRestricted }
 {
     let text = "SELECT crate FROM restricted ORDER BY crate";
     select_list(alloc, conn, text, &[])

@@ -4,12 +4,12 @@ ghost use Rattle.sqlite.specs.Held.{state};
 ghost use Rattle.reg_tables_schema.specs.Changes.{AddsColumns};
 ghost use Rattle.reg_tables_schema.specs.Places.{scopes_tree};
 ghost use Rattle.reg_tables_schema.specs.States.{IsReady};
-ghost use Rattle.reg_tables_schema.specs.Statements.{Reads, Writes, rows_in};
-ghost use Rattle.reg_tables_sql.specs.Scopes.{AreScopes, AreScopesOf, columns_of_scope, scope_columns};
+ghost use Rattle.reg_tables_schema.specs.Statements.{Writes};
+ghost use Rattle.reg_tables_sql.specs.Answers.{Lists};
+ghost use Rattle.reg_tables_sql.specs.Scopes.{AreScopes, AreScopesOf, scope_columns};
 
-use crate::records::{FromRow, read_columns};
-use crate::statements::{select_list, write};
-use sqlite::{Alter, Connection, Error, Row, params};
+use crate::statements::{Result, select_list, write};
+use sqlite::{Alter, Connection, params};
 use std::alloc::Global;
 
 /// A pattern of a token, and the range of canonical names that it covers.
@@ -22,14 +22,6 @@ pub struct Scope {
     pub high: String,
 }
 
-impl FromRow for Scope {
-    ghost columns = { columns_of_scope };
-
-    fn from_row(row: &Row) -> Result<Scope, Error> {
-        read_columns!(row, 5 => Scope { token: 0, place: 1, pattern: 2, low: 3, high: 4 })
-    }
-}
-
 /// Adds the pattern of a token at a place, with the range of canonical names that it covers.
 pub fn insert<S: Alter>(
     conn: &mut Connection<S>,
@@ -38,7 +30,7 @@ pub fn insert<S: Alter>(
     pattern: &str,
     low: &str,
     high: &str,
-) -> Result<(), Error>
+) -> Result<()>
     requires { IsReady (state S.Store conn.old) }
     ensures { Writes S.Store conn.old conn.new result
         (AddsColumns scopes_tree (scope_columns token place pattern.now low.now high.now)) }
@@ -48,14 +40,9 @@ pub fn insert<S: Alter>(
 }
 
 /// The scopes of a token, by place.
-pub fn of_token<S: Alter>(
-    alloc: Global,
-    conn: &mut Connection<S>,
-    token: u32,
-) -> Result<Vec<Scope>, Error>
+pub fn of_token<S: Alter>(alloc: Global, conn: &mut Connection<S>, token: u32) -> Result<Vec<Scope>>
     requires { IsReady (state S.Store conn.old) }
-    ensures { Reads S.Store conn.old conn.new result
-        (λ list. AreScopesOf token (rows_in S.Store conn.old) list.items) }
+    ensures { Lists S.Store conn.old conn.new result (AreScopesOf token) }
 {
     let text =
         "SELECT token, place, pattern, low, high FROM scopes WHERE token = ?1 ORDER BY place";
@@ -63,10 +50,9 @@ pub fn of_token<S: Alter>(
 }
 
 /// All scopes, by token and place.
-pub fn all<S: Alter>(alloc: Global, conn: &mut Connection<S>) -> Result<Vec<Scope>, Error>
+pub fn all<S: Alter>(alloc: Global, conn: &mut Connection<S>) -> Result<Vec<Scope>>
     requires { IsReady (state S.Store conn.old) }
-    ensures { Reads S.Store conn.old conn.new result
-        (λ list. AreScopes (rows_in S.Store conn.old) list.items) }
+    ensures { Lists S.Store conn.old conn.new result AreScopes }
 {
     let text = "SELECT token, place, pattern, low, high FROM scopes ORDER BY token, place";
     select_list(alloc, conn, text, &[])

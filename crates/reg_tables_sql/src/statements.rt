@@ -17,12 +17,15 @@ use sqlite::types::ValueRef;
 use sqlite::{Alter, Connection, Error, Row};
 use std::alloc::Global;
 
+/// What a statement answers.
+pub type Result<T, E = Error> = std::result::Result<T, E>;
+
 /// The rows of a read-only query.
 pub fn rows_of<S: Alter>(
     conn: &mut Connection<S>,
     text: &str,
     params: &[ValueRef<'_>],
-) -> Result<Vec<Row>, Error>
+) -> Result<Vec<Row>>
     requires { MayRead text.now (state S.Store conn.old) }
     ensures { Reads S.Store conn.old conn.new result
         (λ rows. Answers S.Store conn.old conn.new text.now (bound params.now) rows.items) }
@@ -36,7 +39,7 @@ pub fn select_one<T: FromRow, S: Alter>(
     conn: &mut Connection<S>,
     text: &str,
     params: &[ValueRef<'_>],
-) -> Result<Option<T>, Error>
+) -> Result<Option<T>>
     requires { MayRead text.now (state S.Store conn.old) }
     ensures { Reads S.Store conn.old conn.new result (λ found.
         Answers S.Store conn.old conn.new text.now (bound params.now)
@@ -58,7 +61,7 @@ fn walk<T: FromRow, S: Alter>(
     conn: &mut Connection<S>,
     text: &str,
     params: &[ValueRef<'_>],
-) -> Result<Vec<T>, Error>
+) -> Result<Vec<T>>
     requires { MayRead text.now (state S.Store conn.old) }
     ensures told { Told S.Store conn.new result (λ list. Answers S.Store conn.old conn.new text.now
         (bound params.now) (map T.FromRow.columns list.items)) }
@@ -82,7 +85,7 @@ pub fn select_list<T: FromRow, S: Alter>(
     conn: &mut Connection<S>,
     text: &str,
     params: &[ValueRef<'_>],
-) -> Result<Vec<T>, Error>
+) -> Result<Vec<T>>
     requires { MayRead text.now (state S.Store conn.old) }
     ensures { Reads S.Store conn.old conn.new result (λ list.
         Answers S.Store conn.old conn.new text.now (bound params.now)
@@ -96,7 +99,7 @@ pub(crate) fn select_here<T: FromRow, S: Alter>(
     conn: &mut Connection<S>,
     text: &str,
     params: &[ValueRef<'_>],
-) -> Result<Vec<T>, Error>
+) -> Result<Vec<T>>
     requires { MayRead text.now (state S.Store conn.old) }
     ensures { Reads S.Store conn.old conn.new result (λ list.
         Answers S.Store conn.old conn.new text.now (bound params.now)
@@ -112,7 +115,7 @@ pub(crate) fn select_only<T: FromRow, S: Alter>(
     conn: &mut Connection<S>,
     text: &str,
     params: &[ValueRef<'_>],
-) -> Result<T, Error>
+) -> Result<T>
     requires { MayRead text.now (state S.Store conn.old) }
     ensures { Reads S.Store conn.old conn.new result (λ it.
         Answers S.Store conn.old conn.new text.now (bound params.now)
@@ -127,7 +130,7 @@ pub fn has_row<S: Alter>(
     conn: &mut Connection<S>,
     text: &str,
     params: &[ValueRef<'_>],
-) -> Result<bool, Error>
+) -> Result<bool>
     requires { MayRead text.now (state S.Store conn.old) }
     ensures { Reads S.Store conn.old conn.new result (λ has. (rows : _)
         × Answers S.Store conn.old conn.new text.now (bound params.now) rows
@@ -147,7 +150,7 @@ pub(crate) fn write<S: Alter>(
     conn: &mut Connection<S>,
     text: &str,
     params: &[ValueRef<'_>],
-) -> Result<(), Error>
+) -> Result<()>
     requires ready { IsReady (state S.Store conn.old) }
     requires writes { IsRowWrite (understood ours text.now) }
     ensures { Writes S.Store conn.old conn.new result

@@ -7,15 +7,15 @@ ghost use Rattle.reg_tables_schema.specs.Changes.{Adds};
 ghost use Rattle.reg_tables_schema.specs.Places.{tokens_tree};
 ghost use Rattle.reg_tables_schema.specs.Rows.{mark};
 ghost use Rattle.reg_tables_schema.specs.States.{IsReady};
-ghost use Rattle.reg_tables_schema.specs.Statements.{Reads, Writes, rows_in};
+ghost use Rattle.reg_tables_schema.specs.Statements.{Writes};
+ghost use Rattle.reg_tables_sql.specs.Answers.{Finds, Lists};
 ghost use Rattle.reg_tables_sql.specs.Counts.{IsLastId};
-ghost use Rattle.reg_tables_sql.specs.Tokens.{AreTokens, IsTokenOfDigest, IsTokenWithId, Revokes, columns_of_token, columns_with_account, token_row};
+ghost use Rattle.reg_tables_sql.specs.Tokens.{AreTokens, IsTokenOfDigest, IsTokenWithId, Revokes, token_row};
 
 use crate::marks::mark_of;
-use crate::records::{FromRow, read_columns};
-use crate::statements::{select_list, select_one, write};
+use crate::statements::{Result, select_list, select_one, write};
 use reg_model::Endpoints;
-use sqlite::{Alter, Connection, Error, Row, params};
+use sqlite::{Alter, Connection, Row, params};
 use std::alloc::Global;
 
 /// A token as stored.
@@ -40,7 +40,7 @@ pub struct TokenRow {
 }
 
 /// The endpoints: four marks from this place on.
-fn endpoints_of(row: &Row, at: usize) -> Result<Endpoints, Error>
+pub(crate) fn endpoints_of(row: &Row, at: usize) -> Result<Endpoints>
     requires { at < 9 }
     ensures publish_new { IfOk result (λ e. column row.now at ≡ mark e.publish_new) }
     ensures publish_update { IfOk result (λ e. column row.now (at + 1) ≡ mark e.publish_update) }
@@ -55,27 +55,6 @@ fn endpoints_of(row: &Row, at: usize) -> Result<Endpoints, Error>
     })
 }
 
-impl FromRow for Token {
-    ghost columns = { columns_of_token };
-
-    fn from_row(row: &Row) -> Result<Token, Error> {
-        read_columns!(row, 8 => Token {
-            id: 0, digest: 1, account: 2, live: 3 by mark_of, endpoints: 4 by endpoints_of
-        })
-    }
-}
-
-impl FromRow for TokenRow {
-    ghost columns = { columns_with_account };
-
-    fn from_row(row: &Row) -> Result<TokenRow, Error> {
-        read_columns!(row, 9 => TokenRow {
-            id: 0, account: 1, live: 2 by mark_of, endpoints: 3 by endpoints_of,
-            login: 7, enabled: 8 by mark_of
-        })
-    }
-}
-
 /// Adds a live token.
 pub fn insert<S: Alter>(
     conn: &mut Connection<S>,
@@ -83,7 +62,7 @@ pub fn insert<S: Alter>(
     digest: &[u8; 32],
     account: u32,
     endpoints: &Endpoints,
-) -> Result<(), Error>
+) -> Result<()>
     requires { IsReady (state S.Store conn.old) }
     ensures { Writes S.Store conn.old conn.new result
         (Adds tokens_tree (token_row id digest.now account true endpoints.now)) }
@@ -106,7 +85,7 @@ pub fn insert<S: Alter>(
 }
 
 /// Revokes a token.
-pub fn revoke<S: Alter>(conn: &mut Connection<S>, id: u32) -> Result<(), Error>
+pub fn revoke<S: Alter>(conn: &mut Connection<S>, id: u32) -> Result<()>
     requires { IsReady (state S.Store conn.old) }
     ensures { Writes S.Store conn.old conn.new result (Revokes id) }
 {
@@ -115,13 +94,9 @@ pub fn revoke<S: Alter>(conn: &mut Connection<S>, id: u32) -> Result<(), Error>
 }
 
 /// The token with this digest, with its account, if there is one.
-pub fn by_digest<S: Alter>(
-    conn: &mut Connection<S>,
-    digest: &[u8; 32],
-) -> Result<Option<TokenRow>, Error>
+pub fn by_digest<S: Alter>(conn: &mut Connection<S>, digest: &[u8; 32]) -> Result<Option<TokenRow>>
     requires { IsReady (state S.Store conn.old) }
-    ensures { Reads S.Store conn.old conn.new result
-        (IsTokenOfDigest digest.now (rows_in S.Store conn.old)) }
+    ensures { Finds S.Store conn.old conn.new result (IsTokenOfDigest digest.now) }
 {
     let text = "SELECT t.id, t.account, t.live, t.publish_new, t.publish_update, t.yank, \
         t.change_owners, a.login, a.enabled FROM tokens t JOIN accounts a ON a.id = t.account \
@@ -130,9 +105,9 @@ pub fn by_digest<S: Alter>(
 }
 
 /// The token with this id, if there is one.
-pub fn by_id<S: Alter>(conn: &mut Connection<S>, id: u32) -> Result<Option<Token>, Error>
+pub fn by_id<S: Alter>(conn: &mut Connection<S>, id: u32) -> Result<Option<Token>>
     requires { IsReady (state S.Store conn.old) }
-    ensures { Reads S.Store conn.old conn.new result (IsTokenWithId id (rows_in S.Store conn.old)) }
+    ensures { Finds S.Store conn.old conn.new result (IsTokenWithId id) }
 {
     select_one(
         conn,
@@ -143,10 +118,9 @@ pub fn by_id<S: Alter>(conn: &mut Connection<S>, id: u32) -> Result<Option<Token
 }
 
 /// All tokens, by id.
-pub fn all<S: Alter>(alloc: Global, conn: &mut Connection<S>) -> Result<Vec<Token>, Error>
+pub fn all<S: Alter>(alloc: Global, conn: &mut Connection<S>) -> Result<Vec<Token>>
     requires { IsReady (state S.Store conn.old) }
-    ensures { Reads S.Store conn.old conn.new result
-        (λ list. AreTokens (rows_in S.Store conn.old) list.items) }
+    ensures { Lists S.Store conn.old conn.new result AreTokens }
 {
     let text =
         "SELECT id, digest, account, live, publish_new, publish_update, yank, change_owners FROM \
@@ -155,10 +129,9 @@ pub fn all<S: Alter>(alloc: Global, conn: &mut Connection<S>) -> Result<Vec<Toke
 }
 
 /// The greatest token id, if there is one.
-pub fn last_id<S: Alter>(conn: &mut Connection<S>) -> Result<Option<u32>, Error>
+pub fn last_id<S: Alter>(conn: &mut Connection<S>) -> Result<Option<u32>>
     requires { IsReady (state S.Store conn.old) }
-    ensures { Reads S.Store conn.old conn.new result
-        (IsLastId tokens_tree (rows_in S.Store conn.old)) }
+    ensures { Finds S.Store conn.old conn.new result (IsLastId tokens_tree) }
 {
     select_one(conn, "SELECT id FROM tokens ORDER BY id DESC LIMIT 1", &[])
 }

@@ -9,15 +9,16 @@ ghost use Rattle.reg_tables_schema.specs.Changes.{Adds};
 ghost use Rattle.reg_tables_schema.specs.Places.{version_crate_place, versions_tree};
 ghost use Rattle.reg_tables_schema.specs.Rows.{mark};
 ghost use Rattle.reg_tables_schema.specs.States.{IsReady};
-ghost use Rattle.reg_tables_schema.specs.Statements.{Reads, Writes, rows_in};
+ghost use Rattle.reg_tables_schema.specs.Statements.{Writes};
+ghost use Rattle.reg_tables_sql.specs.Answers.{Finds, Lists};
 ghost use Rattle.reg_tables_sql.specs.Counts.{IsCountOf, IsLastId};
-ghost use Rattle.reg_tables_sql.specs.Stems.{AreEntriesOf, columns_of_stem};
-ghost use Rattle.reg_tables_sql.specs.VersionMarks.{AreMarksOf, IsMarkOf, IsMarkWithId, columns_of_mark};
+ghost use Rattle.reg_tables_sql.specs.Stems.{AreEntriesOf};
+ghost use Rattle.reg_tables_sql.specs.VersionMarks.{AreMarksOf, IsMarkOf, IsMarkWithId};
 ghost use Rattle.reg_tables_sql.specs.Versions.{AreVersions, AreVersionsOf, MarksYanked, columns_of_version, version_row};
 
 use crate::marks::mark_of;
-use crate::records::{FromRow, check_width, read_columns};
-use crate::statements::{select_here, select_list, select_one, select_only, write};
+use crate::records::{FromRow, check_width};
+use crate::statements::{Result, select_here, select_list, select_one, select_only, write};
 use sqlite::{Alter, Connection, Error, Row, params};
 use std::alloc::Global;
 
@@ -37,14 +38,14 @@ pub struct Version {
 impl FromRow for Version {
     ghost columns = { columns_of_version };
 
-    fn from_row(row: &Row) -> Result<Version, Error> {
+    fn from_row(row: &Row) -> Result<Version> {
         check_width(row, 8)?;
         with_texts(row, row.get(0)?, row.get(1)?, mark_of(row, 7)?)
     }
 }
 
 // The numbers come first: what owns no memory costs the check little if it lives long.
-fn with_texts(row: &Row, id: u64, crate_id: u32, yanked: bool) -> Result<Version, Error>
+fn with_texts(row: &Row, id: u64, crate_id: u32, yanked: bool) -> Result<Version>
     ensures { IfOk result (λ it. columns_of_version it ≡ Int (pos id) ∷ Int (pos crate_id)
         ∷ column row.now 2 ∷ column row.now 3 ∷ column row.now 4 ∷ column row.now 5
         ∷ column row.now 6 ∷ mark yanked ∷ []) }
@@ -68,14 +69,6 @@ pub struct StemRow {
     pub yanked: bool,
 }
 
-impl FromRow for StemRow {
-    ghost columns = { columns_of_stem };
-
-    fn from_row(row: &Row) -> Result<StemRow, Error> {
-        read_columns!(row, 2 => StemRow { stem: 0, yanked: 1 by mark_of })
-    }
-}
-
 /// What a crate's summary is made of: one of its versions, and its stem's length.
 #[derive(Debug, Drop)]
 pub struct VersionMark {
@@ -83,16 +76,6 @@ pub struct VersionMark {
     pub vers: String,
     pub stem_length: u64,
     pub yanked: bool,
-}
-
-impl FromRow for VersionMark {
-    ghost columns = { columns_of_mark };
-
-    fn from_row(row: &Row) -> Result<VersionMark, Error> {
-        read_columns!(row, 4 => VersionMark {
-            id: 0, vers: 1, stem_length: 2, yanked: 3 by mark_of
-        })
-    }
 }
 
 /// The rows of the index file of a crate, by version id; each is a `StemRow`.
@@ -108,7 +91,7 @@ pub fn insert<S: Alter>(
     digest: &[u8; 32],
     stem: &[u8],
     description: Option<&str>,
-) -> Result<(), Error>
+) -> Result<()>
     requires ready { IsReady (state S.Store conn.old) }
     requires small { id < 2 ^ 63 }
     ensures { Writes S.Store conn.old conn.new result
@@ -140,7 +123,7 @@ pub fn set_yanked<S: Alter>(
     release: &str,
     vers: &str,
     yanked: bool,
-) -> Result<(), Error>
+) -> Result<()>
     requires { IsReady (state S.Store conn.old) }
     ensures { Writes S.Store conn.old conn.new result
         (MarksYanked crate_id release.now vers.now yanked) }
@@ -154,10 +137,9 @@ pub fn of_crate<S: Alter>(
     alloc: Global,
     conn: &mut Connection<S>,
     crate_id: u32,
-) -> Result<Vec<Version>, Error>
+) -> Result<Vec<Version>>
     requires { IsReady (state S.Store conn.old) }
-    ensures { Reads S.Store conn.old conn.new result
-        (λ list. AreVersionsOf crate_id (rows_in S.Store conn.old) list.items) }
+    ensures { Lists S.Store conn.old conn.new result (AreVersionsOf crate_id) }
 {
     let text =
         "SELECT id, crate, vers, release, digest, stem, description, yanked FROM versions WHERE \
@@ -166,10 +148,9 @@ pub fn of_crate<S: Alter>(
 }
 
 /// All versions, by id.
-pub fn all<S: Alter>(alloc: Global, conn: &mut Connection<S>) -> Result<Vec<Version>, Error>
+pub fn all<S: Alter>(alloc: Global, conn: &mut Connection<S>) -> Result<Vec<Version>>
     requires { IsReady (state S.Store conn.old) }
-    ensures { Reads S.Store conn.old conn.new result
-        (λ list. AreVersions (rows_in S.Store conn.old) list.items) }
+    ensures { Lists S.Store conn.old conn.new result AreVersions }
 {
     let text =
         "SELECT id, crate, vers, release, digest, stem, description, yanked FROM versions ORDER \
@@ -182,28 +163,23 @@ pub fn entries<S: Alter>(
     alloc: Global,
     conn: &mut Connection<S>,
     crate_id: u32,
-) -> Result<Vec<StemRow>, Error>
+) -> Result<Vec<StemRow>>
     requires { IsReady (state S.Store conn.old) }
-    ensures { Reads S.Store conn.old conn.new result
-        (λ list. AreEntriesOf crate_id (rows_in S.Store conn.old) list.items) }
+    ensures { Lists S.Store conn.old conn.new result (AreEntriesOf crate_id) }
 {
     select_list(alloc, conn, ENTRIES_TEXT, params![crate_id])
 }
 
 /// The marks of the versions of a crate, by id.
-pub fn marks_of<S: Alter>(
-    conn: &mut Connection<S>,
-    crate_id: u32,
-) -> Result<Vec<VersionMark>, Error>
+pub fn marks_of<S: Alter>(conn: &mut Connection<S>, crate_id: u32) -> Result<Vec<VersionMark>>
     requires { IsReady (state S.Store conn.old) }
-    ensures { Reads S.Store conn.old conn.new result
-        (λ list. AreMarksOf crate_id (rows_in S.Store conn.old) list.items) }
+    ensures { Lists S.Store conn.old conn.new result (AreMarksOf crate_id) }
 {
     let text = "SELECT id, vers, length(stem), yanked FROM versions WHERE crate = ?1 ORDER BY id";
     select_here(conn, text, params![crate_id])
 }
 
-fn check_id(id: u64) -> Result<(), Error>
+fn check_id(id: u64) -> Result<()>
     ensures { OnOk result (id < 2 ^ 63) }
 {
     if id > i64::MAX as u64 {
@@ -213,10 +189,9 @@ fn check_id(id: u64) -> Result<(), Error>
 }
 
 /// The mark of the version with this id, if there is one. SQL keeps ids below 2^63.
-pub fn mark_by_id<S: Alter>(conn: &mut Connection<S>, id: u64) -> Result<Option<VersionMark>, Error>
+pub fn mark_by_id<S: Alter>(conn: &mut Connection<S>, id: u64) -> Result<Option<VersionMark>>
     requires { IsReady (state S.Store conn.old) }
-    ensures { Reads S.Store conn.old conn.new result
-        (IsMarkWithId id (rows_in S.Store conn.old)) }
+    ensures { Finds S.Store conn.old conn.new result (IsMarkWithId id) }
 {
     check_id(id)?;
     let text = "SELECT id, vers, length(stem), yanked FROM versions WHERE id = ?1";
@@ -229,10 +204,9 @@ pub fn mark_by_text<S: Alter>(
     crate_id: u32,
     release: &str,
     vers: &str,
-) -> Result<Option<VersionMark>, Error>
+) -> Result<Option<VersionMark>>
     requires { IsReady (state S.Store conn.old) }
-    ensures { Reads S.Store conn.old conn.new result
-        (IsMarkOf crate_id release.now vers.now (rows_in S.Store conn.old)) }
+    ensures { Finds S.Store conn.old conn.new result (IsMarkOf crate_id release.now vers.now) }
 {
     let text =
         "SELECT id, vers, length(stem), yanked FROM versions WHERE crate = ?1 AND release = ?2 \
@@ -241,20 +215,19 @@ pub fn mark_by_text<S: Alter>(
 }
 
 /// How many versions a crate has, up to SQL's greatest count.
-pub fn count_of<S: Alter>(conn: &mut Connection<S>, crate_id: u32) -> Result<u64, Error>
+pub fn count_of<S: Alter>(conn: &mut Connection<S>, crate_id: u32) -> Result<u64>
     requires { IsReady (state S.Store conn.old) }
-    ensures { Reads S.Store conn.old conn.new result
-        (IsCountOf versions_tree version_crate_place crate_id (rows_in S.Store conn.old)) }
+    ensures { Finds S.Store conn.old conn.new result
+        (IsCountOf versions_tree version_crate_place crate_id) }
 {
     let text = "SELECT count(*) FROM versions WHERE crate = ?1";
     select_only::<u64, S>(conn, text, params![crate_id])
 }
 
 /// The greatest version id, if there is one.
-pub fn last_id<S: Alter>(conn: &mut Connection<S>) -> Result<Option<u64>, Error>
+pub fn last_id<S: Alter>(conn: &mut Connection<S>) -> Result<Option<u64>>
     requires { IsReady (state S.Store conn.old) }
-    ensures { Reads S.Store conn.old conn.new result
-        (IsLastId versions_tree (rows_in S.Store conn.old)) }
+    ensures { Finds S.Store conn.old conn.new result (IsLastId versions_tree) }
 {
     let text = "SELECT id FROM versions ORDER BY id DESC LIMIT 1";
     select_one(conn, text, &[])

@@ -4,13 +4,13 @@ ghost use Rattle.std.specs.Prelude.{◌≡◌, ◌++◌, IfOk, OnOk, string_byte
 ghost use Rattle.std.specs.List.{flat_map};
 ghost use Rattle.reg_model.specs.Reports.{access_text};
 ghost use Rattle.reg_tables.specs.Works.{IsAtWork};
-ghost use Rattle.reg_access.specs.Asks.{Asks};
+ghost use Rattle.reg_tables.specs.Calling.{Asks};
 ghost use Rattle.reg_service_commands.specs.Reports.{Reports, line_of_grant, line_of_reader};
 
 use reg_access::{Grant, who_may, who_reads};
 use reg_names::{CrateName, Login};
 use reg_policy::{push_grant_line, push_reader_line};
-use reg_tables::{StoreFault, Work};
+use reg_tables::{Result, Work};
 use sqlite::Alter;
 use std::alloc::{AllocError, Global};
 
@@ -58,7 +58,7 @@ pub(crate) fn access_report<S: Alter>(
     alloc: Global,
     work: &mut Work<'_, S>,
     name: &CrateName,
-) -> Result<String, StoreFault>
+) -> Result<String>
     requires { IsAtWork S.Store work.old }
     ensures { Asks S.Store work.old work.new result (Reports (λ s. access_text s name.now)) }
 {

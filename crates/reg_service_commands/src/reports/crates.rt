@@ -3,13 +3,13 @@
 ghost use Rattle.std.specs.Prelude.{◌≡◌, ◌++◌, false, OnOk, length, string_bytes};
 ghost use Rattle.reg_model.specs.Reports.{crate_line, crates_text};
 ghost use Rattle.reg_tables.specs.Works.{IsAtWork, has_failed};
-ghost use Rattle.reg_access.specs.Asks.{Asks};
+ghost use Rattle.reg_tables.specs.Calling.{Asks};
 ghost use Rattle.reg_service_commands.specs.ReportedCrates.{AddsLine, HasLines, highest_among};
 ghost use Rattle.reg_service_commands.specs.Reports.{Reports};
 
 use crate::reports::versions::highest_of;
 use reg_policy::push_crate_line;
-use reg_tables::{Crate, StoreFault, Version, Work};
+use reg_tables::{Crate, Result, Version, Work};
 use sqlite::{Alter, Error};
 use std::alloc::Global;
 
@@ -28,7 +28,7 @@ fn add_line<S: Alter>(
     work: &mut Work<'_, S>,
     report: &mut String,
     listed: &Crate,
-) -> Result<(), StoreFault>
+) -> Result<()>
     requires { IsAtWork S.Store work.old }
     ensures { Asks S.Store work.old work.new result
         (λ db _. AddsLine listed.now (string_bytes report.old) (string_bytes report.new) db) }
@@ -40,11 +40,7 @@ fn add_line<S: Alter>(
     }
 }
 
-fn lines_of<S: Alter>(
-    alloc: Global,
-    work: &mut Work<'_, S>,
-    crates: &[Crate],
-) -> Result<String, StoreFault>
+fn lines_of<S: Alter>(alloc: Global, work: &mut Work<'_, S>, crates: &[Crate]) -> Result<String>
     requires at_work { IsAtWork S.Store work.old }
     requires goes_on { has_failed work.old ≡ false }
     ensures { Asks S.Store work.old work.new result
@@ -58,10 +54,7 @@ fn lines_of<S: Alter>(
 }
 
 /// A line for each crate, by canonical text.
-pub(crate) fn crates_report<S: Alter>(
-    alloc: Global,
-    work: &mut Work<'_, S>,
-) -> Result<String, StoreFault>
+pub(crate) fn crates_report<S: Alter>(alloc: Global, work: &mut Work<'_, S>) -> Result<String>
     requires { IsAtWork S.Store work.old }
     ensures { Asks S.Store work.old work.new result (Reports crates_text) }
 {

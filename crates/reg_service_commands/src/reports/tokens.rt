@@ -5,13 +5,13 @@ ghost use Rattle.std.specs.List.{enumerate_from, flat_map, prefix_len};
 ghost use Rattle.reg_model.specs.Registry as model;
 ghost use Rattle.reg_model.specs.Reports.{token_line, tokens_text};
 ghost use Rattle.reg_tables.specs.Works.{IsAtWork};
-ghost use Rattle.reg_access.specs.Asks.{Asks};
+ghost use Rattle.reg_tables.specs.Calling.{Asks};
 ghost use Rattle.reg_service_commands.specs.Reports.{Reports};
 ghost use Rattle.reg_service_commands.specs.ReportedTokens.{AreTokens, IsNext, line_among, login_among, pattern_of, with_patterns};
 
 use reg_names::Pattern;
 use reg_policy::push_token_line;
-use reg_tables::{Account, Scope, StoreFault, Token, Work};
+use reg_tables::{Account, Result, Scope, Token, Work};
 use sqlite::{Alter, Error};
 use std::alloc::Global;
 
@@ -113,10 +113,7 @@ fn lines_of(
 }
 
 /// A line for each token, by id.
-pub(crate) fn tokens_report<S: Alter>(
-    alloc: Global,
-    work: &mut Work<'_, S>,
-) -> Result<String, StoreFault>
+pub(crate) fn tokens_report<S: Alter>(alloc: Global, work: &mut Work<'_, S>) -> Result<String>
     requires { IsAtWork S.Store work.old }
     ensures { Asks S.Store work.old work.new result (Reports tokens_text) }
 {

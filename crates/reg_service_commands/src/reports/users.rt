@@ -5,11 +5,11 @@ ghost use Rattle.std.specs.List.{flat_map};
 ghost use Rattle.reg_model.specs.Reports.{user_line, users_text};
 ghost use Rattle.reg_tables_meaning.specs.Entries.{entry_of_account};
 ghost use Rattle.reg_tables.specs.Works.{IsAtWork};
-ghost use Rattle.reg_access.specs.Asks.{Asks};
+ghost use Rattle.reg_tables.specs.Calling.{Asks};
 ghost use Rattle.reg_service_commands.specs.Reports.{Reports};
 
 use reg_policy::push_user_line;
-use reg_tables::{Account, StoreFault, Work};
+use reg_tables::{Account, Result, Work};
 use sqlite::Alter;
 use std::alloc::{AllocError, Global};
 
@@ -42,10 +42,7 @@ fn lines_of(alloc: Global, accounts: &[Account]) -> Result<String, AllocError>
 }
 
 /// A line for each account, by id.
-pub(crate) fn users_report<S: Alter>(
-    alloc: Global,
-    work: &mut Work<'_, S>,
-) -> Result<String, StoreFault>
+pub(crate) fn users_report<S: Alter>(alloc: Global, work: &mut Work<'_, S>) -> Result<String>
     requires { IsAtWork S.Store work.old }
     ensures { Asks S.Store work.old work.new result (Reports users_text) }
 {

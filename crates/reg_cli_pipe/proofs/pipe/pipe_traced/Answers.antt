@@ -1,27 +1,33 @@
-use Rattle.std.proofs.Common.{◌++◌, [], inl, inr, length, map, refl, subst}
+use Rattle.std.proofs.Common.{◌++◌, [], inl, inr, length, map, refl, rules, subst}
 use Rattle.reg_model.specs.Events.Event.{Order}
 use Rattle.reg_model.specs.Trail.{trail}
 use Rattle.reg_service.specs.Registries.{limits_of, tables_of}
 use Rattle.reg_http.specs.Streams.{ServesTraced}
 use Rattle.reg_http.specs.Trails.{Trails, tail}
+use Rattle.reg_http.proofs.Kept.{goes_on}
 use Rattle.reg_http.proofs.Leaving.{leaving}
 use Rattle.reg_http.proofs.Trails.{trailed_on, trails_both}
 use Rattle.reg_cli_pipe.specs.Lines.{lines_in}
 use Rattle.reg_cli_pipe.proofs.Orders.{alone_leaving}
 use Rattle.reg_cli_pipe.proofs.pipe.pipe_traced.Goals as goal
 
-pub returns-in-Err-clause-piped : goal.returns-in-Err-clause-piped
-returns-in-Err-clause-piped g c clean s shows =
-    inl (record {
-      fault = c.in-Err.fault;
-      set_up = c.in-Err.ensures.done clean s shows;
-      ends = c.exit_of_setup.ensures;
-      unread = refl;
-      unwritten = refl;
-    })
+pub serve_traced-requires : goal.serve_traced-requires
+serve_traced-requires g c =
+    let keeps = c.in_default.ensures.keeps in
+    record { tables = keeps.tables; reads = rw keeps.limits c.requires.reads; writes = rw keeps.limits c.requires.writes }
 
-pub returns-clause-piped : goal.returns-clause-piped
-returns-clause-piped g c clean s shows =
+pub returns-in-Err : goal.returns-in-Err
+returns-in-Err g c =
+    let up = c.in-Err.ensures in
+    record {
+      piped = λ clean s shows. inl (record { fault = c.in-Err.fault; set_up = up.done clean s shows; ends = c.exit_of_setup.ensures; unread = refl; unwritten = refl });
+      spends = inl (refl, refl);
+      told = up.told;
+      keeps = up.keeps;
+    }
+
+pub returns : goal.returns
+returns g c =
     let limits = limits_of c.args.registry.now in
     let entry = tables_of c.args.registry.now in
     let lines = lines_in c.args.setup.now in
@@ -32,18 +38,21 @@ returns-clause-piped g c clean s shows =
     let k2 = tail (g.T.Write.contents c.serve_traced.new.trail.end.inner) c.serve_traced.new.trail in
     let read = g.R.Read.remaining in
     let held = g.W.Write.contents in
-    let up = c.in_default.ensures.done (c.serve_traced.ensures.keeps.clean clean) s shows in
-    let first = trail limits s (map Order up.done.commands) (up.done.told ++ []) in
-    inr (record {
-      between = between;
-      set_up = alone_leaving g.S.Store limits s entry lines between (Trails k0 k1) (λ text. Unit {0}) (λ text it. tt) (length lines) up;
-      result = c.serve_traced.result;
-      serves = leaving g.S.Store limits up.done.after between now (Trails k1 k2) (λ text. Trails k0 k2 (first ++ text)) (λ text it. trails_both k0 k1 k2 first text up.done.leaves it)
-          (read c.args.r.now.inner) (read c.serve_traced.new.r.inner) (held c.args.w.now.inner) (held c.serve_traced.new.w.inner) c.serve_traced.result
-          (subst (λ l. ServesTraced g.S.Store l up.done.after between now k1 k2 (read c.args.r.now.inner) (read c.serve_traced.new.r.inner) (held c.args.w.now.inner) (held c.serve_traced.new.w.inner) c.serve_traced.result)
-          c.setup_traced.ensures.keeps.limits (c.serve_traced.ensures.serves clean up.done.after up.done.ran.shows));
-      ends = c.exit_of_stream.ensures;
-    })
-
-pub returns-clause-told : goal.returns-clause-told
-returns-clause-told g c = trailed_on (tail (g.T.Write.contents c.args.trail.now.end.inner) c.args.trail.now) (tail (g.T.Write.contents c.setup_traced.new.trail.end.inner) c.setup_traced.new.trail) (tail (g.T.Write.contents c.serve_traced.new.trail.end.inner) c.serve_traced.new.trail) c.setup_traced.ensures.told c.serve_traced.ensures.told
+    record {
+      piped = λ clean s shows.
+          (let up = c.in_default.ensures.done (c.serve_traced.ensures.keeps.clean clean) s shows in
+          let first = trail limits s (map Order up.done.commands) (up.done.told ++ []) in
+          inr (record {
+            between = between;
+            set_up = alone_leaving g.S.Store limits s entry lines between (Trails k0 k1) (λ text. Unit {0}) (λ text it. tt) (length lines) up;
+            result = c.serve_traced.result;
+            serves = leaving g.S.Store limits up.done.after between now (Trails k1 k2) (λ text. Trails k0 k2 (first ++ text)) (λ text it. trails_both k0 k1 k2 first text up.done.leaves it)
+                (read c.args.r.now.inner) (read c.serve_traced.new.r.inner) (held c.args.w.now.inner) (held c.serve_traced.new.w.inner) c.serve_traced.result
+                (subst (λ l. ServesTraced g.S.Store l up.done.after between now k1 k2 (read c.args.r.now.inner) (read c.serve_traced.new.r.inner) (held c.args.w.now.inner) (held c.serve_traced.new.w.inner) c.serve_traced.result)
+                c.setup_traced.ensures.keeps.limits (c.serve_traced.ensures.serves clean up.done.after up.done.ran.shows));
+            ends = c.exit_of_stream.ensures;
+          }));
+      spends = search rules;
+      told = trailed_on k0 k1 k2 c.setup_traced.ensures.told c.serve_traced.ensures.told;
+      keeps = goes_on c.setup_traced.ensures.keeps c.serve_traced.ensures.keeps;
+    }

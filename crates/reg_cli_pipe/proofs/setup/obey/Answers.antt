@@ -6,14 +6,17 @@ use Rattle.reg_http.specs.Trails.{tail}
 use Rattle.reg_cli_pipe.proofs.Orders.{obeys}
 use Rattle.reg_cli_pipe.proofs.setup.obey.Goals as goal
 
-pub returns-clause-obeyed : goal.returns-clause-obeyed
-returns-clause-obeyed g c =
+pub returns : goal.returns
+returns g c =
     let limits = limits_of c.args.registry.now in
     let command = command_of c.args.command.now in
     let old = tables_of c.args.registry.now in
     let new = tables_of c.order-answer.new.self in
-    obeys g.S.Store limits command old new (tail (g.T.Write.contents c.args.trail.now.end.inner) c.args.trail.now) (tail (g.T.Write.contents c.tell.new.self.end.inner) c.tell.new.self) c.order-answer.result c.setup_result.result c.requires.fit
-    (subst (λ b. IsOrdered g.S.Store limits b command c.order-answer.result old new) c.is_open.ensures c.order-answer.ensures.answers) c.tell.ensures.tells c.setup_result.ensures
-
-pub returns-clause-told : goal.returns-clause-told
-returns-clause-told g c = (_, c.tell.ensures.tells)
+    let ordered = c.order-answer.ensures in
+    record {
+      obeyed =
+          obeys g.S.Store limits command old new (tail (g.T.Write.contents c.args.trail.now.end.inner) c.args.trail.now) (tail (g.T.Write.contents c.tell.new.self.end.inner) c.tell.new.self) c.order-answer.result c.setup_result.result c.requires.fit
+          (subst (λ b. IsOrdered g.S.Store limits b command c.order-answer.result old new) c.is_open.ensures ordered.answers) c.tell.ensures.tells c.setup_result.ensures;
+      told = (_, c.tell.ensures.tells);
+      keeps = record { tables = ordered.tables; clean = ordered.clean; limits = ordered.limits };
+    }

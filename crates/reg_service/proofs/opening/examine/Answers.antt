@@ -1,4 +1,4 @@
-use Rattle.std.proofs.Common.{Some, subst}
+use Rattle.std.proofs.Common.{Some, subst, ◌∙◌}
 use Rattle.sqlite.specs.Held.{state}
 use Rattle.sqlite.specs.State.{HasCleanDisk}
 use Rattle.reg_tables_meaning.proofs.Results.{if_ok}
@@ -35,3 +35,7 @@ returns-in-Ok-None-clause-undone g c =
 pub returns-in-Ok-None-clause-handed_back : goal.returns-in-Ok-None-clause-handed_back
 returns-in-Ok-None-clause-handed_back g c =
     examined_left g.S.Store c.args.tables c.audit.new.tables c.bring_up.result c.requires c.audit.ensures.ours c.audit.ensures.edition c.audit.ensures.kept c.audit.ensures.survives c.bring_up.ensures.refused c.bring_up.ensures.handed_back
+
+pub returns-in-Ok-None-clause-begun : goal.returns-in-Ok-None-clause-begun
+returns-in-Ok-None-clause-begun g c =
+    if_ok c.bring_up.result (λ r b. record { limited = b.limited; unknown = b.unknown; goes_on = b.goes_on ∙ c.audit.ensures.open }) c.bring_up.ensures.begun

@@ -10,5 +10,5 @@ returns-in_default g c =
     let sends = c.refuse.ensures.denies in
     record {
       streams = λ limits clean s h. untouched_sent g.S.Store c.args.close c.refuse.result c.args.writes _ _ c.args.tables.now sends limits c.args.parts.now.digest c.args.parts.now.asked s h;
-      leaves = untouched_leaves g.S.Store c.args.close c.refuse.result c.args.writes _ _ c.args.tables.now sends c.requires.tables c.refuse.ensures.some;
+      leaves = untouched_leaves g.S.Store c.args.close c.refuse.result c.args.writes _ _ c.args.tables.now sends c.requires.may.tables c.refuse.ensures.some;
     }

@@ -19,5 +19,5 @@ returns-in-Some g c =
 pub returns : goal.returns
 returns g c =
     runs_changed g.S.Store (λ db. AddsAccount c.args.login.now (option_map (λ n. n.now) c.args.name) db (rows_seen g.S.Store c.add_account.new.self) c.in_ok-add_account.field-0) c.in_ok-refusal.field-0 c.in_ok-add_account.field-0 _ c.args.work.now c.refuses_account.new.work c.add_account.new.self
-    c.in_ok-refusal.ensures c.in_ok-add_account.ensures.leaves c.in_ok-add_account.ensures.added
+    c.in_ok-refusal.ensures c.in_ok-add_account.ensures.leaves c.in_ok-add_account.ensures.told
     (λ why adds. account_added c.args.limits.now c.args.login.now (option_map (λ n. n.now) c.args.name) c.in_ok-add_account.field-0 _ _ (ap not (sym c.is_account.ensures ∙ c.if-not-is_account.false)) (rw c.in_default.is at why) adds)

@@ -8,4 +8,4 @@ pub returns : goal.returns
 returns g c =
     asks_made g.S.Store {P = Counted (λ s. length s.accounts)} c.in_ok-accounts.accounts _ c.args.work.now c.count_accounts.new.self
     (λ h ids s holds. ap (nat_le c.args.limits.now.accounts) (h ids s holds))
-    (record { told = c.in_ok-accounts.ensures.counted; same = c.in_ok-accounts.ensures.same; leaves = c.in_ok-accounts.ensures.leaves })
+    c.in_ok-accounts.ensures

@@ -12,5 +12,5 @@ returns-in-Err g c =
 pub returns : goal.returns
 returns g c =
     runs_changed g.S.Store (λ db. AddsReader c.in-Ok.id c.in-Ok.account db (rows_seen g.S.Store c.add_reader.new.self)) c.in_ok-id.field-0 c.in_ok-add_reader-in-Ok.field-0 _ c.args.work.now c.find_pair.new.work c.add_reader.new.self
-    c.in_ok-id.ensures c.in_ok-add_reader-in-Ok.ensures.leaves c.in_ok-add_reader-in-Ok.ensures.added
+    c.in_ok-id.ensures c.in_ok-add_reader-in-Ok.ensures.leaves c.in_ok-add_reader-in-Ok.ensures.told
     (λ found adds limits. reader_done limits c.args.name.now c.args.login.now c.in-Ok.id c.in-Ok.account _ _ (rw c.in-Ok.is at found) adds)

@@ -12,5 +12,5 @@ returns-in_default g c =
 pub returns : goal.returns
 returns g c =
     runs_changed g.S.Store (λ db. Restricts c.args.restricted c.in-Some.named.id db (rows_seen g.S.Store c.set_restricted.new.self)) c.in_ok-named.field-0 c.in_ok-set_restricted.field-0 _ c.args.work.now c.find_named.new.work c.set_restricted.new.self
-    c.in_ok-named.ensures c.in_ok-set_restricted.ensures.leaves c.in_ok-set_restricted.ensures.set
+    c.in_ok-named.ensures c.in_ok-set_restricted.ensures.leaves c.in_ok-set_restricted.ensures.told
     (λ found sets limits. restrict_done limits c.args.restricted c.args.name.now c.in-Some.named _ _ (rw c.in-Some.is at found) sets)

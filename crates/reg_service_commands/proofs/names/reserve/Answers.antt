@@ -15,5 +15,5 @@ returns-then-is_reserved_always g c =
 
 pub returns : goal.returns
 returns g c =
-    runs_alone g.S.Store c.in_ok-reserve.field-0 _ c.args.work.now c.reserve.new.self c.in_ok-reserve.ensures.leaves c.in_ok-reserve.ensures.reserved
+    runs_alone g.S.Store c.in_ok-reserve.field-0 _ c.args.work.now c.reserve.new.self c.in_ok-reserve.ensures.leaves c.in_ok-reserve.ensures.told
     (λ reserves limits. reserved_now limits c.args.name.now c.in-Some.parsed _ _ (sym c.parse_name.ensures ∙ c.in-Some.is) (rw c.canon-text.ensures at (sym c.is_reserved_always.ensures ∙ c.if-is_reserved_always.false)) (rw c.canon-text.ensures at reserves))

@@ -10,5 +10,5 @@ returns-in_default g c =
 
 pub returns : goal.returns
 returns g c =
-    runs_alone g.S.Store c.in_ok-unreserve.field-0 _ c.args.work.now c.unreserve.new.self c.in_ok-unreserve.ensures.leaves c.in_ok-unreserve.ensures.freed
+    runs_alone g.S.Store c.in_ok-unreserve.field-0 _ c.args.work.now c.unreserve.new.self c.in_ok-unreserve.ensures.leaves c.in_ok-unreserve.ensures.told
     (λ frees limits. freed_now limits c.args.name.now c.in-Some.parsed _ _ (sym c.parse_name.ensures ∙ c.in-Some.is) (rw c.canon.ensures at frees))

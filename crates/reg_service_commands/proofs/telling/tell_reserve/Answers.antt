@@ -1,11 +1,10 @@
-use Rattle.std.proofs.Common.{[], ◌∷◌, ◌≡◌, true, false, rules, sym, ◌∙◌}
-use Rattle.std.specs.Prelude.{IfOk, codes, string_bytes}
-use Rattle.reg_model.specs.Trail.{line_of}
-use Rattle.reg_access.proofs.Questions.{asks_made, asks_nothing}
-use Rattle.reg_service_requests.proofs.Afterwards.{asks_then, line_is}
+use Rattle.std.proofs.Common.{[], ◌∷◌, ◌≡◌, not, rules, sym, ◌∙◌}
+use Rattle.std.specs.Prelude.{codes}
+use Rattle.reg_access.proofs.Questions.{asks_nothing}
+use Rattle.reg_service_requests.proofs.Afterwards.{asks_then}
 use Rattle.reg_model.specs.Events.Command.{Reserve}
 use Rattle.reg_tables_meaning.specs.Calls.{TellsReserved}
-use Rattle.reg_service_commands.proofs.Ordered.{bad_name, order_told, order_untold, reserve_words, reserved_always}
+use Rattle.reg_service_commands.proofs.Ordered.{bad_name, order_untold, order_words, reserve_words, reserved_always}
 use Rattle.reg_service_commands.proofs.telling.tell_reserve.Goals as goal
 
 pub returns-in_default : goal.returns-in_default
@@ -18,17 +17,11 @@ returns-then-is_reserved_always g c =
     asks_nothing g.S.Store _ c.args.work.now c.requires.goes_on c.requires.at_work
     (order_untold (Reserve c.args.name.now) _ (reserved_always c.args.name.now c.in-Some.parsed _ (sym c.parse_name.ensures ∙ c.in-Some.is) (rw c.canon-text.ensures at (sym c.is_reserved_always.ensures ∙ c.if-is_reserved_always.true))))
 
-pub returns-then-reserved : goal.returns-then-reserved
-returns-then-reserved g c =
-    asks_made g.S.Store {P = TellsReserved c.canon-text.result} c.in_ok-reserved.reserved _ c.args.work.now c.is_reserved.new.self
-    (λ tells. order_untold (Reserve c.args.name.now) _ (reserve_words c.args.name.now c.in-Some.parsed true _ (sym c.parse_name.ensures ∙ c.in-Some.is) (rw c.canon-text.ensures at (sym c.is_reserved_always.ensures ∙ c.if-is_reserved_always.false)) (rw (c.if-reserved.true, c.canon-text.ensures) at tells)))
-    (record { told = c.in_ok-reserved.ensures.found; same = c.in_ok-reserved.ensures.same; leaves = c.in_ok-reserved.ensures.leaves })
-
 pub returns : goal.returns
 returns g c =
     let words = codes "reserve" ∷ c.args.name.now ∷ [] in
-    let made : IfOk c.admin_line.result (λ line. string_bytes line ≡ line_of (codes "-" ∷ codes "admin" ∷ words)) = search rules in
-    asks_then g.S.Store {P = TellsReserved c.canon-text.result} c.in_ok-reserved.reserved c.told_line.result c.args.work.now c.is_reserved.new.self c.told_line.new.work
-    (record { told = c.in_ok-reserved.ensures.found; same = c.in_ok-reserved.ensures.same; leaves = c.in_ok-reserved.ensures.leaves }) c.told_line.ensures
-    (λ found tells told. order_told (Reserve c.args.name.now) _ words found
-    (reserve_words c.args.name.now c.in-Some.parsed false _ (sym c.parse_name.ensures ∙ c.in-Some.is) (rw c.canon-text.ensures at (sym c.is_reserved_always.ensures ∙ c.if-is_reserved_always.false)) (rw (c.if-reserved.false, c.canon-text.ensures) at tells)) (line_is (line_of (codes "-" ∷ codes "admin" ∷ words)) c.admin_line.result found made told))
+    let reserved = c.in_ok-reserved.reserved in
+    asks_then g.S.Store {P = TellsReserved c.canon-text.result} reserved c.tell_of.result c.args.work.now c.is_reserved.new.self c.tell_of.new.work
+    c.in_ok-reserved.ensures c.tell_of.ensures
+    (λ found tells told. order_words (Reserve c.args.name.now) _ (not reserved) words found
+    (reserve_words c.args.name.now c.in-Some.parsed reserved _ (sym c.parse_name.ensures ∙ c.in-Some.is) (rw c.canon-text.ensures at (sym c.is_reserved_always.ensures ∙ c.if-is_reserved_always.false)) (rw c.canon-text.ensures at tells)) (search (rules, told)))

@@ -13,12 +13,12 @@ pub returns-then-not-live : goal.returns-then-not-live
 returns-then-not-live g c =
     asks_made g.S.Store {P = TellsLive c.args.id} c.in_ok-found.found _ c.args.work.now c.is_live.new.self
     (λ tells. order_untold (TokenRevoke c.args.id) _ (revoke_words c.args.id c.in_ok-found.found false _ tells (sym c.is_set-live.ensures ∙ c.if-not-live.true)))
-    (record { told = c.in_ok-found.ensures.told; same = c.in_ok-found.ensures.same; leaves = c.in_ok-found.ensures.leaves })
+    c.in_ok-found.ensures
 
 pub returns : goal.returns
 returns g c =
     let words = codes "token-revoke" ∷ decimal c.args.id ∷ [] in
     let made : IfOk c.revocation_line.result (λ line. string_bytes line ≡ line_of (codes "-" ∷ codes "admin" ∷ words)) = search rules in
     asks_then g.S.Store {P = TellsLive c.args.id} c.in_ok-found.found c.told_line.result c.args.work.now c.is_live.new.self c.told_line.new.work
-    (record { told = c.in_ok-found.ensures.told; same = c.in_ok-found.ensures.same; leaves = c.in_ok-found.ensures.leaves }) c.told_line.ensures
+    c.in_ok-found.ensures c.told_line.ensures
     (λ found tells told. order_told (TokenRevoke c.args.id) _ words found (revoke_words c.args.id c.in_ok-found.found true _ tells (sym c.is_set-live.ensures ∙ c.if-not-live.false)) (line_is (line_of (codes "-" ∷ codes "admin" ∷ words)) c.revocation_line.result found made told))

@@ -7,17 +7,17 @@ use Rattle.reg_service_commands.proofs.tokens.add_token.Goals as goal
 pub returns-in_default : goal.returns-in_default
 returns-in_default g c =
     runs_asked g.S.Store {P = FindsAccount c.args.login.now} c.in_ok-account.field-0 _ c.args.work.now c.account_by_login.new.self
-    (record { told = c.in_ok-account.ensures.found; same = c.in_ok-account.ensures.same; leaves = c.in_ok-account.ensures.leaves })
+    c.in_ok-account.ensures
     (λ found. no_account c.args.limits.now c.args.login.now (map (λ w. w.now) c.args.words.now) (map (λ t. t.now) c.args.texts.now) c.args.digest.now _ (rw c.in_default.is at found))
 
 pub returns-in-Ok-Err : goal.returns-in-Ok-Err
 returns-in-Ok-Err g c =
     runs_asked g.S.Store {P = FindsAccount c.args.login.now} c.in_ok-account.field-0 _ c.args.work.now c.account_by_login.new.self
-    (record { told = c.in_ok-account.ensures.found; same = c.in_ok-account.ensures.same; leaves = c.in_ok-account.ensures.leaves })
+    c.in_ok-account.ensures
     (λ found. bad_scope c.args.limits.now c.args.login.now (map (λ w. w.now) c.args.words.now) (map (λ t. t.now) c.args.texts.now) c.args.digest.now c.in-Some.account c.in-Ok-Err.refusal _ (rw c.in-Some.is at found) (rw c.in-Ok-Err.field-0-is at c.in-Ok-Err.ensures))
 
 pub returns : goal.returns
 returns g c =
     runs_after g.S.Store {P = FindsAccount c.args.login.now} c.in_ok-account.field-0 _ c.args.work.now c.account_by_login.new.self c.put_token.new.work
-    (record { told = c.in_ok-account.ensures.found; same = c.in_ok-account.ensures.same; leaves = c.in_ok-account.ensures.leaves }) c.put_token.ensures
+    c.in_ok-account.ensures c.put_token.ensures
     (λ r found puts. token_added c.args.limits.now c.args.login.now (map (λ w. w.now) c.args.words.now) (map (λ t. t.now) c.args.texts.now) c.args.digest.now c.in-Some.account c.in-Ok-Ok.patterns _ _ r (rw c.in-Some.is at found) (rw c.in-Ok-Ok.field-0-is at c.in-Ok-Ok.ensures) (rw (c.endpoints_named-endpoints.ensures, c.deref.ensures.value) at puts))

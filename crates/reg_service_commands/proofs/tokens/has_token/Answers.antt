@@ -8,4 +8,4 @@ pub returns : goal.returns
 returns g c =
     asks_made g.S.Store {P = Counted (λ s. length s.tokens)} c.in_ok-tokens.tokens _ c.args.work.now c.count_tokens.new.self
     (λ h ids s holds. has_id s.tokens c.args.id c.in_ok-tokens.tokens _ (h ids s holds) c.is_id.ensures)
-    (record { told = c.in_ok-tokens.ensures.counted; same = c.in_ok-tokens.ensures.same; leaves = c.in_ok-tokens.ensures.leaves })
+    c.in_ok-tokens.ensures

@@ -12,5 +12,5 @@ returns-in-Some g c =
 pub returns : goal.returns
 returns g c =
     runs_changed g.S.Store (λ db. AddsToken c.args.digest.now c.args.account c.args.endpoints c.args.patterns.now db (rows_seen g.S.Store c.add_token.new.self) c.in_ok-id.id) c.in_ok-refusal.field-0 c.in_ok-id.id _ c.args.work.now c.refuses_token.new.work c.add_token.new.self
-    c.in_ok-refusal.ensures c.in_ok-id.ensures.leaves c.in_ok-id.ensures.added
+    c.in_ok-refusal.ensures c.in_ok-id.ensures.leaves c.in_ok-id.ensures.told
     (λ why adds. token_put c.args.limits.now c.args.digest.now c.args.account c.args.endpoints c.args.patterns.now c.in_ok-id.id _ _ (rw c.in_default.is at why) adds)

@@ -17,4 +17,4 @@ returns g c =
     (λ h ids s holds. is_known_so c.args.limits.now c.args.digest.now c.args.patterns.now _ c.in_ok-found.found (rw c.if-full.false at h.0) h.1 ids s holds
     ∙ ap (λ b. first_ground ((refusal.G5, b) ∷ [])) (sym c.is_some.ensures) ∙ sym c.refused_if.ensures)
     (asks_both g.S.Store {Q = FindsToken c.args.digest.now} c.in_ok-full.full c.in_ok-found.found c.args.work.now c.is_full.new.work c.token_rows.new.self c.in_ok-full.ensures
-    (record { told = c.in_ok-found.ensures.found; same = c.in_ok-found.ensures.same; leaves = c.in_ok-found.ensures.leaves }))
+    c.in_ok-found.ensures)

@@ -12,5 +12,5 @@ returns-then-not-has g c =
 pub returns : goal.returns
 returns g c =
     runs_changed g.S.Store (λ db. Ends c.args.id db (rows_seen g.S.Store c.revoke.new.self)) c.in_ok-has.has c.in_ok-revoke.field-0 _ c.args.work.now c.has_token.new.work c.revoke.new.self
-    c.in_ok-has.ensures c.in_ok-revoke.ensures.leaves c.in_ok-revoke.ensures.revoked
+    c.in_ok-has.ensures c.in_ok-revoke.ensures.leaves c.in_ok-revoke.ensures.told
     (λ has ends limits. revoked_now limits c.args.id _ _ (rw c.if-not-has.false at has) ends)

@@ -5,7 +5,7 @@ use Rattle.reg_names.specs.Names.{path_of}
 use Rattle.reg_tables_meaning.specs.Calls.{ListsVersions}
 use Rattle.reg_tables.specs.Works.{rows_seen}
 use Rattle.reg_tables.specs.declared.work.StoreFault.{StoreFault}
-use Rattle.reg_access.specs.Asks.{Asks}
+use Rattle.reg_tables.specs.Calling.{Asks}
 use Rattle.reg_access.proofs.Questions.{asks_made}
 use Rattle.reg_service_requests.specs.Exported.{texts_of}
 use Rattle.reg_service_requests.specs.Reads.{entry_of_version}
@@ -17,7 +17,7 @@ pub returns-in-Ok : goal.returns-in-Ok
 returns-in-Ok g c =
     let list = c.in_ok-versions.versions in
     let told = c.in_ok-versions.ensures in
-    let asked : Asks {E = StoreFault} g.S.Store c.args.work.now c.versions_of.new.self (Ok list) (λ db list. ListsVersions c.args.listed.now.id db list.items) = record { told = told.found; same = told.same; leaves = told.leaves } in
+    let asked : Asks {E = StoreFault} g.S.Store c.args.work.now c.versions_of.new.self (Ok list) (λ db list. ListsVersions c.args.listed.now.id db list.items) = record { told = λ clean. (told.told clean).1; same = told.same; leaves = told.leaves } in
     let name = sym (is_given (string_bytes c.args.listed.now.name) c.in-Some.name (rw c.as_str.ensures.value at (sym c.parse_name.ensures ∙ c.in-Some.is))).1 in
     asks_made g.S.Store list tt c.args.work.now c.versions_of.new.self
     (λ lists. file_added (rows_seen g.S.Store c.args.work.now) c.args.listed.now list.items (map texts_of c.args.files.now.items) (map texts_of c.push_file.new.files.items) lists

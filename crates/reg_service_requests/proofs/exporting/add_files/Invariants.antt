@@ -1,6 +1,6 @@
 use Rattle.std.proofs.Common.{Ok, map, take}
 use Rattle.reg_tables.specs.declared.work.StoreFault.{StoreFault}
-use Rattle.reg_access.specs.Asks.{Asks}
+use Rattle.reg_tables.specs.Calling.{Asks}
 use Rattle.reg_service_requests.specs.Exported.{AddsFiles, texts_of}
 use Rattle.reg_service_requests.proofs.exporting.add_files.Given as goal
 

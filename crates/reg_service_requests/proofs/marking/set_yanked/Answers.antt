@@ -8,5 +8,5 @@ use Rattle.reg_service_requests.proofs.marking.set_yanked.Goals as goal
 pub returns : goal.returns
 returns g c =
     runs_alone g.S.Store {X = SetsYanked c.args.found.now.id c.args.version.now c.args.yanked (rows_seen g.S.Store c.args.work.now) (rows_seen g.S.Store c.set_yanked.new.self)} c.in_ok-set_yanked.field-0 _ c.args.work.now c.set_yanked.new.self
-    c.in_ok-set_yanked.ensures.leaves c.in_ok-set_yanked.ensures.set
+    c.in_ok-set_yanked.ensures.leaves c.in_ok-set_yanked.ensures.told
     (λ sets name limits digest. marked limits digest name c.args.version.now c.args.yanked c.args.found.now c.in-Ok.body _ _ (c.in-Ok.ensures.items_if_clones_equal (λ x y e. e) ∙ c.ok_body.ensures) sets)

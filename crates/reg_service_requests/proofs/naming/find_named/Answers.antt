@@ -1,4 +1,3 @@
-use Rattle.reg_tables_meaning.specs.Calls.{FindsCrate}
 use Rattle.std.proofs.Common.{sym, ◌∙◌}
 use Rattle.reg_access.proofs.Questions.{asks_nothing}
 use Rattle.reg_service_requests.proofs.Names.{named, unnamed}
@@ -7,9 +6,9 @@ use Rattle.reg_service_requests.proofs.naming.find_named.Goals as goal
 
 pub returns-in-Some : goal.returns-in-Some
 returns-in-Some g c =
-    asks_as g.S.Store {P = FindsCrate c.canon.result} c.crate_by_canon.result c.args.work.now c.crate_by_canon.new.self
-    (λ found finds. named c.args.text.now c.in-Some.name _ found (sym c.parse_name.ensures ∙ c.in-Some.is) (rw c.canon.ensures at finds))
-    (record { told = c.crate_by_canon.ensures.found; same = c.crate_by_canon.ensures.same; leaves = c.crate_by_canon.ensures.leaves })
+    asks_as g.S.Store c.crate_by_canon.result c.args.work.now c.crate_by_canon.new.self
+    (λ found finds. named c.args.text.now c.in-Some.name _ found (sym c.parse_name.ensures ∙ c.in-Some.is) (rw c.canon.ensures at finds.1))
+    c.crate_by_canon.ensures
 
 pub returns-in-None : goal.returns-in-None
 returns-in-None g c =

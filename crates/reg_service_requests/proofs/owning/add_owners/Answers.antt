@@ -1,6 +1,6 @@
 use Rattle.std.proofs.Common.{rules, true}
 use Rattle.reg_service_requests.specs.Owning.{DoesOwning, FindsAllKnown}
-use Rattle.reg_service_requests.specs.Runs.{Runs}
+use Rattle.reg_tables.specs.Calling.{Runs}
 use Rattle.reg_service_requests.proofs.OwningDone.{owning_denied, owning_done}
 use Rattle.reg_service_requests.proofs.OwningIds.{joins, may_not_join, texts_of}
 use Rattle.reg_service_requests.proofs.Running.{runs_after, runs_asked}

@@ -18,7 +18,7 @@ pub loop-account-preserved : goal.loop-account-preserved
 loop-account-preserved g c =
     let below : c.loop-account.account-index < length c.args.accounts.now = omega arith in
     more_set g.S.Store c.args.are_owners c.args.crate_id c.args.accounts.now c.args.work.now c.loop-account.account-index c.loop-account.work c.set_owner.new.work c.loop-account.invariant
-    c.in_ok-set_owner.field-0 below c.in_ok-set_owner.ensures.leaves c.in_ok-set_owner.ensures.set
+    c.in_ok-set_owner.field-0 below c.in_ok-set_owner.ensures.leaves c.in_ok-set_owner.ensures.told
 
 pub returns : goal.returns
 returns g c =

@@ -14,5 +14,5 @@ returns-then-full g c =
 pub returns : goal.returns
 returns g c =
     runs_changed g.S.Store (λ db. AddsNext c.args.found.now.id c.version_of-version.result db (rows_seen g.S.Store c.add_version.new.self)) c.in_ok-full.full c.in_ok-add_version.field-0 _ c.args.work.now c.is_full_of.new.work c.add_version.new.self
-    c.in_ok-full.ensures c.in_ok-add_version.ensures.leaves c.in_ok-add_version.ensures.added
+    c.in_ok-full.ensures c.in_ok-add_version.ensures.leaves c.in_ok-add_version.ensures.told
     (λ full adds. next_let c.args.limits.now (publication_of c.args.new.now) c.args.found.now _ c.version_of-version.result c.in-Ok.body _ c.version_of-version.ensures (c.in-Ok.ensures.items_if_clones_equal (λ x y e. e) ∙ c.publish_body.ensures) (rw c.if-full.false at full) adds)

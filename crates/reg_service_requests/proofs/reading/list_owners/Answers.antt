@@ -6,5 +6,5 @@ use Rattle.reg_service_requests.proofs.reading.list_owners.Goals as goal
 pub returns-in-Ok : goal.returns-in-Ok
 returns-in-Ok g c =
     runs_asked g.S.Store {P = λ db list. ListsOwners c.args.found.now.id db list.items} c.in_ok-owners.owners _ c.args.work.now c.owners_of.new.self
-    (record { told = c.in_ok-owners.ensures.found; same = c.in_ok-owners.ensures.same; leaves = c.in_ok-owners.ensures.leaves })
+    c.in_ok-owners.ensures
     (λ lists name. owners_served name c.args.found.now c.in_ok-owners.owners.items c.in-Ok.text _ (rw c.deref.ensures.value at c.in-Ok.ensures) lists)

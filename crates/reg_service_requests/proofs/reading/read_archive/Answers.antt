@@ -6,5 +6,5 @@ use Rattle.reg_service_requests.proofs.reading.read_archive.Goals as goal
 pub returns-in-Some : goal.returns-in-Some
 returns-in-Some g c =
     runs_asked g.S.Store {P = IsArchiveWithId c.args.version} c.in_ok-archive.field-0 _ c.args.work.now c.archive_with_id.new.self
-    (record { told = c.in_ok-archive.ensures.found; same = c.in_ok-archive.ensures.same; leaves = c.in_ok-archive.ensures.leaves })
+    c.in_ok-archive.ensures
     (λ finds name text. archive_served name text c.args.version c.in-Some.archive _ (rw c.in-Some.is at finds))

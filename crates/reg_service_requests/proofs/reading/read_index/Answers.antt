@@ -1,10 +1,9 @@
-use Rattle.reg_tables_meaning.specs.Calls.{ListsVersions}
 use Rattle.reg_service_requests.proofs.ReadingServed.{index_served}
 use Rattle.reg_service_requests.proofs.Running.{runs_asked}
 use Rattle.reg_service_requests.proofs.reading.read_index.Goals as goal
 
 pub returns-in-Ok : goal.returns-in-Ok
 returns-in-Ok g c =
-    runs_asked g.S.Store {P = λ db list. ListsVersions c.args.found.now.id db list.items} c.in_ok-versions.versions _ c.args.work.now c.versions_of.new.self
-    (record { told = c.in_ok-versions.ensures.found; same = c.in_ok-versions.ensures.same; leaves = c.in_ok-versions.ensures.leaves })
-    (λ lists path. index_served path c.args.found.now c.in_ok-versions.versions.items c.in-Ok.text _ c.in-Ok.ensures lists)
+    runs_asked g.S.Store c.in_ok-versions.versions _ c.args.work.now c.versions_of.new.self
+    c.in_ok-versions.ensures
+    (λ lists path. index_served path c.args.found.now c.in_ok-versions.versions.items c.in-Ok.text _ c.in-Ok.ensures lists.1)

@@ -21,7 +21,7 @@ returns-then-not-is_crate-clause-stands g c clean ids s h =
     let new = state g.S.Store c.has_id.new.conn in
     let same : new.now ≡ old.now = (c.in_ok-is_crate.ensures.only clean).0.0.now_is in
     let none = sym (c.in_ok-is_crate.ensures.told clean) ∙ c.if-not-is_crate.true in
-    let kept = no_crate ids s.publications s.yanked old.now.trees h.stands.crates (related c.args.relation s) (old.now.trees (tree_of c.args.relation)) (pairs_of c.args.relation ids s old.now.trees h.stands) c.args.crate_id c.args.account none in
+    let kept = no_crate ids s.publications s.yanked old.now.trees h.stands.crates (related c.args.relation s) (old.now.trees (tree_of c.args.relation)) (pairs_of c.args.relation ids s old.now.trees h.stands) c.args.pair.crate_id c.args.pair.account none in
     subst (λ os. StandsBy ids (with_related c.args.relation os s) new.now.trees) kept (with_itself c.args.relation ids s new.now.trees (subst (λ (d : Database). StandsBy ids s d.trees) (sym same) h.stands))
 
 pub returns-then-is_pair-clause-stands : goal.returns-then-is_pair-clause-stands
@@ -32,8 +32,8 @@ returns-then-is_pair-clause-stands g c clean ids s h =
     let early : HasCleanDisk mid = omega (arith, clean, c.is_there.ensures.survives.clean) in
     let before : mid.now ≡ old.now = (c.in_ok-is_crate.ensures.only early).0.0.now_is in
     let same : new.now ≡ old.now = (c.in_ok-is_pair.ensures.only clean).0.0.now_is ∙ before in
-    let there = ap (λ (d : Database). list_any (is_owner c.args.crate_id c.args.account) (d.trees (tree_of c.args.relation))) (sym before) ∙ sym (c.in_ok-is_pair.ensures.told clean) ∙ c.if-is_pair.true in
-    let kept = again ids s.publications s.yanked old.now.trees h.stands.crates (related c.args.relation s) (old.now.trees (tree_of c.args.relation)) (pairs_of c.args.relation ids s old.now.trees h.stands) c.args.crate_id c.args.account there in
+    let there = ap (λ (d : Database). list_any (is_owner c.args.pair.crate_id c.args.pair.account) (d.trees (tree_of c.args.relation))) (sym before) ∙ sym (c.in_ok-is_pair.ensures.told clean) ∙ c.if-is_pair.true in
+    let kept = again ids s.publications s.yanked old.now.trees h.stands.crates (related c.args.relation s) (old.now.trees (tree_of c.args.relation)) (pairs_of c.args.relation ids s old.now.trees h.stands) c.args.pair.crate_id c.args.pair.account there in
     subst (λ os. StandsBy ids (with_related c.args.relation os s) new.now.trees) kept (with_itself c.args.relation ids s new.now.trees (subst (λ (d : Database). StandsBy ids s d.trees) (sym same) h.stands))
 
 pub returns-clause-stands : goal.returns-clause-stands
@@ -47,12 +47,12 @@ returns-clause-stands g c clean ids s h =
     let before : one.now ≡ old.now = (c.in_ok-is_crate.ensures.only clean_one).0.0.now_is in
     let same : two.now ≡ old.now = (c.in_ok-is_pair.ensures.only clean_two).0.0.now_is ∙ before in
     let crate = sym (c.in_ok-is_crate.ensures.told clean_one) ∙ c.if-not-is_crate.false in
-    let absent = ap (λ (d : Database). list_any (is_owner c.args.crate_id c.args.account) (d.trees (tree_of c.args.relation))) (sym before) ∙ sym (c.in_ok-is_pair.ensures.told clean_two) ∙ c.if-is_pair.false in
+    let absent = ap (λ (d : Database). list_any (is_owner c.args.pair.crate_id c.args.pair.account) (d.trees (tree_of c.args.relation))) (sym before) ∙ sym (c.in_ok-is_pair.ensures.told clean_two) ∙ c.if-is_pair.false in
     let then = subst (λ (d : Database). Holds ids s d.trees) (sym same) h in
-    let crate_then = ap (λ (d : Database). list_any (has_rowid (pos c.args.crate_id)) (d.trees 7)) same ∙ crate in
-    let absent_then = ap (λ (d : Database). list_any (is_owner c.args.crate_id c.args.account) (d.trees (tree_of c.args.relation))) same ∙ absent in
+    let crate_then = ap (λ (d : Database). list_any (has_rowid (pos c.args.pair.crate_id)) (d.trees 7)) same ∙ crate in
+    let absent_then = ap (λ (d : Database). list_any (is_owner c.args.pair.crate_id c.args.pair.account) (d.trees (tree_of c.args.relation))) same ∙ absent in
     let put = c.in_ok-insert.ensures.changes clean in
-    let pairs = added ids s.publications s.yanked two.now.trees then.stands.crates (related c.args.relation s) (two.now.trees (tree_of c.args.relation)) (pairs_of c.args.relation ids s two.now.trees then.stands) c.args.crate_id c.args.account crate_then absent_then put.0 put.1.fresh in
+    let pairs = added ids s.publications s.yanked two.now.trees then.stands.crates (related c.args.relation s) (two.now.trees (tree_of c.args.relation)) (pairs_of c.args.relation ids s two.now.trees then.stands) c.args.pair.crate_id c.args.pair.account crate_then absent_then put.0 put.1.fresh in
     with_pairs c.args.relation ids s two.now.trees new.now.trees then.stands _ put.1.becomes.others (pairs_stay ids.crates _ _ (new.now.trees (tree_of c.args.relation)) put.1.becomes.rows_are pairs)
 
 pub returns-in_err-is_crate-clause-leaves : goal.returns-in_err-is_crate-clause-leaves

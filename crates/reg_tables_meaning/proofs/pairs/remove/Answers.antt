@@ -10,4 +10,4 @@ returns-clause-stands g c clean ids s h =
     let old = (state g.S.Store c.args.conn.now).now.trees in
     let new = (state g.S.Store c.remove.new.conn).now.trees in
     let removed = c.in_ok-remove.ensures.changes clean in
-    with_pairs c.args.relation ids s old new h.stands _ removed.others (left ids s.publications s.yanked old h.stands.crates (related c.args.relation s) (old (tree_of c.args.relation)) (pairs_of c.args.relation ids s old h.stands) c.args.crate_id c.args.account (new (tree_of c.args.relation)) removed.rows_are)
+    with_pairs c.args.relation ids s old new h.stands _ removed.others (left ids s.publications s.yanked old h.stands.crates (related c.args.relation s) (old (tree_of c.args.relation)) (pairs_of c.args.relation ids s old h.stands) c.args.pair.crate_id c.args.pair.account (new (tree_of c.args.relation)) removed.rows_are)

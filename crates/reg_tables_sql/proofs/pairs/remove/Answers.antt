@@ -9,4 +9,4 @@ write-requires-clause-writes g c = rw c.texts.ensures.remove (remove_writes c.ar
 
 pub returns : goal.returns
 returns g c =
-    writes_as (state g.S.Store c.args.conn.now) (state g.S.Store c.write.new.conn) c.write.result c.requires (λ at h. removes (state g.S.Store c.args.conn.now) (state g.S.Store c.write.new.conn) c.args.crate_id c.args.account (Ok h.0) at c.args.relation h.1) (rw (c.texts.ensures.remove, c.params-to_sql.ensures, c.params-to_sql-2.ensures) at c.write.ensures)
+    writes_as (state g.S.Store c.args.conn.now) (state g.S.Store c.write.new.conn) c.write.result c.requires (λ at h. removes (state g.S.Store c.args.conn.now) (state g.S.Store c.write.new.conn) c.args.pair.crate_id c.args.pair.account (Ok h.0) at c.args.relation h.1) (rw (c.texts.ensures.remove, c.params-to_sql.ensures, c.params-to_sql-2.ensures) at c.write.ensures)

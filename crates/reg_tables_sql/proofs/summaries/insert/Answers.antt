@@ -11,4 +11,4 @@ write-requires-clause-writes g c = insert_writes
 
 pub returns : goal.returns
 returns g c =
-    writes_as (state g.S.Store c.args.conn.now) (state g.S.Store c.write.new.conn) c.write.result c.requires (λ at h. inserts (state g.S.Store c.args.conn.now) (state g.S.Store c.write.new.conn) c.args.crate_id c.args.highest c.args.index_length (Ok h.0) at h.1) (rw (c.params-to_sql.ensures, c.params-to_sql-2.ensures, c.params-to_sql-3.ensures, to_z_pos w64 c.in_ok-check_numbers.ensures.version, to_z_pos w64 c.in_ok-check_numbers.ensures.length) at c.write.ensures)
+    writes_as (state g.S.Store c.args.conn.now) (state g.S.Store c.write.new.conn) c.write.result c.requires (λ at h. inserts (state g.S.Store c.args.conn.now) (state g.S.Store c.write.new.conn) c.args.summary.crate_id c.args.summary.highest c.args.summary.index_length (Ok h.0) at h.1) (rw (c.params-to_sql.ensures, c.params-to_sql-2.ensures, c.params-to_sql-3.ensures, to_z_pos w64 c.in_ok-check_numbers.ensures.version, to_z_pos w64 c.in_ok-check_numbers.ensures.length) at c.write.ensures)

@@ -17,9 +17,9 @@ unfolding commanded
 returns-in-Some c =
     let s : Registry = registry_of c.args.self.now in
     let read = read_some (is_name c.args.name.now) c.args.name.now c.in-Some.name (sym c.in-Some.is ∙ c.parse_name.ensures) in
-    told_step (limits_of c.args.self.now) s (Access c.args.name.now) (access_text s c.in-Some.name) c.access_report.result c.told.result (ap not read.0, tt) (ap (λ n. Report (access_text s n)) (sym read.1)) refl c.access_report.ensures c.told.ensures
+    record { step = told_step (limits_of c.args.self.now) s (Access c.args.name.now) (access_text s c.in-Some.name) c.access_report.result c.told.result (ap not read.0, tt) (ap (λ n. Report (access_text s n)) (sym read.1)) refl c.access_report.ensures c.told.ensures; limits = refl }
 
 pub returns-in-None : goal.returns-in-None
 returns-in-None c =
     let unread = read_none (is_name c.args.name.now) c.args.name.now (sym c.in-None.is ∙ c.parse_name.ensures) in
-    refused_step (limits_of c.args.self.now) (registry_of c.args.self.now) _ (Access c.args.name.now) _ 0 G4 (refl, ap not unread) refl refl
+    record { step = refused_step (limits_of c.args.self.now) (registry_of c.args.self.now) _ (Access c.args.name.now) _ 0 G4 (refl, ap not unread) refl refl; limits = refl }

@@ -8,13 +8,13 @@ use Rattle.reg_policy_plain.specs.Plain.{limits_of, registry_of}
 use Rattle.reg_policy_plain.proofs.Joined.{done_step, crate_there, no_crate_step}
 use Rattle.reg_policy_plain.proofs.plain.PlainRegistry.crate_restrict.Goals as goal
 
-pub returns-in_err-name-clause-step : goal.returns-in_err-name-clause-step
-returns-in_err-name-clause-step c = no_crate_step (limits_of c.args.self.now) (registry_of c.args.self.now) (CrateRestrict c.args.name.now) c.args.name.now _ refl c.from_residual.result _ c.from_residual.ensures.1 c.in_err-name.ensures
+pub returns-in_err-name : goal.returns-in_err-name
+returns-in_err-name c = record { step = no_crate_step (limits_of c.args.self.now) (registry_of c.args.self.now) (CrateRestrict c.args.name.now) c.args.name.now _ refl c.from_residual.result _ c.from_residual.ensures.1 c.in_err-name.ensures; limits = refl }
 
-pub returns-in-Ok-clause-step : goal.returns-in-Ok-clause-step
+pub returns-in-Ok : goal.returns-in-Ok
 unfolding commanded
-returns-in-Ok-clause-step c =
+returns-in-Ok c =
     let s : Registry = registry_of c.args.self.now in
     let there = crate_there s c.args.name.now c.in_ok-name.name c.in_ok-name.ensures in
     let after = c.in-Ok.ensures.ok ∙ ap (λ n. finset.insert s.restricted (canon n)) there.0 in
-    done_step (limits_of c.args.self.now) s _ (CrateRestrict c.args.name.now) _ (there.1, tt) refl (λ i. record s { restricted = after i })
+    record { step = done_step (limits_of c.args.self.now) s _ (CrateRestrict c.args.name.now) _ (there.1, tt) refl (λ i. record s { restricted = after i }); limits = refl }

@@ -10,5 +10,5 @@ use Rattle.reg_policy_plain.proofs.plain.PlainRegistry.index_file.Goals as goal
 pub returns : goal.returns
 returns c =
     let s : Registry = registry_of c.args.self.now in
-    let read = ap (λ o. unwrap_or o []) (sym c.in-Some.is ∙ c.name_of_path.ensures.value) in
+    let read = ap (λ o. unwrap_or o []) (sym c.unwrap-name.ensures ∙ c.name_of_path.ensures.value) in
     ap File (c.in_ok-file.ensures ∙ ap (λ es. file_text (map entry_view es)) c.as_slice.ensures.value ∙ ap file_text c.in_ok-entries.ensures ∙ ap (file s) read)

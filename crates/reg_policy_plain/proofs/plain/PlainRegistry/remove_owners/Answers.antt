@@ -1,4 +1,4 @@
-use Rattle.std.proofs.Common.{sym, ◌∙◌}
+use Rattle.std.proofs.Common.{refl, sym, ◌∙◌}
 use Rattle.std.specs.FinSet as finset
 use Rattle.reg_names.specs.Names.{is_name}
 use Rattle.reg_model.specs.Registry.{Registry}
@@ -7,10 +7,10 @@ use Rattle.reg_policy_plain.specs.Plain.{registry_of}
 use Rattle.reg_policy_plain.proofs.Joined.{read_some}
 use Rattle.reg_policy_plain.proofs.plain.PlainRegistry.remove_owners.Goals as goal
 
-pub returns-clause-state : goal.returns-clause-state
+pub returns : goal.returns
 unfolding done
-returns-clause-state c =
+returns c =
     let s : Registry = registry_of c.args.self.now in
-    let read = read_some (is_name c.args.name.now) c.args.name.now c.in-Some.name (sym c.in-Some.is ∙ c.parse_name.ensures) in
+    let read = read_some (is_name c.args.name.now) c.args.name.now c.unwrap-name.result (sym c.unwrap-name.ensures ∙ c.parse_name.ensures) in
     let after = c.remove_all.ensures ∙ (λ i. finset.difference s.owners (owners_of (read.1 i) ((c.as_slice.ensures.value ∙ c.in_ok-ids.ensures) i))) in
-    λ id. λ i. record s { owners = after i }
+    record { answer = refl; state = (λ id. λ i. record s { owners = after i }); err = tt; limits = refl }

@@ -14,42 +14,42 @@ use Rattle.reg_policy_plain.specs.Plain.{limits_of, registry_of}
 use Rattle.reg_policy_plain.proofs.Joined.{refused_step, done_step, login_there, no_login_there, read_none, read_some, is_some_mapped, told}
 use Rattle.reg_policy_plain.proofs.plain.PlainRegistry.token_add.Goals as goal
 
-pub returns-in_err-account-clause-step : goal.returns-in_err-account-clause-step
-returns-in_err-account-clause-step c =
+pub returns-in_err-account : goal.returns-in_err-account
+returns-in_err-account c =
     let s : Registry = registry_of c.args.self.now in
     let words : List Text = map (λ w. w.now) c.args.words.now in
     let patterns : List Text = map (λ p. p.now) c.args.patterns.now in
     let no = no_login_there (id_of_login s c.args.login.now) c.in_err-account.field-0.0 c.in_err-account.ensures in
-    refused_step (limits_of c.args.self.now) s _ (TokenAdd c.args.login.now words patterns c.args.digest.now) _ 0 G3 (refl, no.1) (told c.from_residual.result c.in_err-account.field-0.0 G3 c.from_residual.ensures.1 no.0) refl
+    record { step = refused_step (limits_of c.args.self.now) s _ (TokenAdd c.args.login.now words patterns c.args.digest.now) _ 0 G3 (refl, no.1) (told c.from_residual.result c.in_err-account.field-0.0 G3 c.from_residual.ensures.1 no.0) refl; limits = refl }
 
-pub returns-then-not-name_endpoints-clause-step : goal.returns-then-not-name_endpoints-clause-step
-returns-then-not-name_endpoints-clause-step c =
+pub returns-then-not-name_endpoints : goal.returns-then-not-name_endpoints
+returns-then-not-name_endpoints c =
     let words : List Text = map (λ w. w.now) c.args.words.now in
     let patterns : List Text = map (λ p. p.now) c.args.patterns.now in
     let found = login_there (id_of_login (registry_of c.args.self.now) c.args.login.now) c.in_ok-account.account c.in_ok-account.ensures in
-    refused_step (limits_of c.args.self.now) (registry_of c.args.self.now) _ (TokenAdd c.args.login.now words patterns c.args.digest.now) _ 1 G9 (ap is_none found, (refl, sym c.name_endpoints.ensures ∙ ap not c.if-not-name_endpoints.true)) refl refl
+    record { step = refused_step (limits_of c.args.self.now) (registry_of c.args.self.now) _ (TokenAdd c.args.login.now words patterns c.args.digest.now) _ 1 G9 (ap is_none found, (refl, sym c.name_endpoints.ensures ∙ ap not c.if-not-name_endpoints.true)) refl refl; limits = refl }
 
-pub returns-in_default-patterns-clause-step : goal.returns-in_default-patterns-clause-step
-returns-in_default-patterns-clause-step c =
+pub returns-in_default-patterns : goal.returns-in_default-patterns
+returns-in_default-patterns c =
     let words : List Text = map (λ w. w.now) c.args.words.now in
     let patterns : List Text = map (λ p. p.now) c.args.patterns.now in
     let found = login_there (id_of_login (registry_of c.args.self.now) c.args.login.now) c.in_ok-account.account c.in_ok-account.ensures in
     let named = sym c.name_endpoints.ensures ∙ ap not c.if-not-name_endpoints.false in
     let bad = read_none (list_all is_pattern patterns) (patterns_given patterns) (sym (ap (option_map (λ v. v.items)) c.in_default-patterns.is) ∙ c.in-Ok.ensures) in
-    refused_step (limits_of c.args.self.now) (registry_of c.args.self.now) _ (TokenAdd c.args.login.now words patterns c.args.digest.now) _ 2 G4 (ap is_none found, (named, (refl, ap not bad))) refl refl
+    record { step = refused_step (limits_of c.args.self.now) (registry_of c.args.self.now) _ (TokenAdd c.args.login.now words patterns c.args.digest.now) _ 2 G4 (ap is_none found, (named, (refl, ap not bad))) refl refl; limits = refl }
 
-pub returns-then-is_full_for-clause-step : goal.returns-then-is_full_for-clause-step
-returns-then-is_full_for-clause-step c =
+pub returns-then-is_full_for : goal.returns-then-is_full_for
+returns-then-is_full_for c =
     let words : List Text = map (λ w. w.now) c.args.words.now in
     let patterns : List Text = map (λ p. p.now) c.args.patterns.now in
     let found = login_there (id_of_login (registry_of c.args.self.now) c.args.login.now) c.in_ok-account.account c.in_ok-account.ensures in
     let named = sym c.name_endpoints.ensures ∙ ap not c.if-not-name_endpoints.false in
     let read = read_some (list_all is_pattern patterns) (patterns_given patterns) c.in-Some.patterns.items (sym (ap (option_map (λ v. v.items)) c.in-Some.is) ∙ c.in-Ok.ensures) in
     let room = ap (λ n. nat_lt (limits_of c.args.self.now).patterns n || nat_le (limits_of c.args.self.now).tokens (length c.args.self.now.tokens)) (sym (ap length read.1) ∙ sym c.in-Some.patterns.ok.0 ∙ sym c.len.ensures) ∙ sym c.is_full_for.ensures ∙ c.if-is_full_for.true in
-    refused_step (limits_of c.args.self.now) (registry_of c.args.self.now) _ (TokenAdd c.args.login.now words patterns c.args.digest.now) _ 3 G7 (ap is_none found, (named, (ap not read.0, (refl, room)))) refl refl
+    record { step = refused_step (limits_of c.args.self.now) (registry_of c.args.self.now) _ (TokenAdd c.args.login.now words patterns c.args.digest.now) _ 3 G7 (ap is_none found, (named, (ap not read.0, (refl, room)))) refl refl; limits = refl }
 
-pub returns-then-is_some-clause-step : goal.returns-then-is_some-clause-step
-returns-then-is_some-clause-step c =
+pub returns-then-is_some : goal.returns-then-is_some
+returns-then-is_some c =
     let words : List Text = map (λ w. w.now) c.args.words.now in
     let patterns : List Text = map (λ p. p.now) c.args.patterns.now in
     let found = login_there (id_of_login (registry_of c.args.self.now) c.args.login.now) c.in_ok-account.account c.in_ok-account.ensures in
@@ -57,11 +57,11 @@ returns-then-is_some-clause-step c =
     let read = read_some (list_all is_pattern patterns) (patterns_given patterns) c.in-Some.patterns.items (sym (ap (option_map (λ v. v.items)) c.in-Some.is) ∙ c.in-Ok.ensures) in
     let room = ap (λ n. nat_lt (limits_of c.args.self.now).patterns n || nat_le (limits_of c.args.self.now).tokens (length c.args.self.now.tokens)) (sym (ap length read.1) ∙ sym c.in-Some.patterns.ok.0 ∙ sym c.len.ensures) ∙ sym c.is_full_for.ensures ∙ c.if-is_full_for.false in
     let taken = ap is_some (sym c.find.ensures) ∙ is_some_mapped (λ t. token_of t.now) c.find.result ∙ sym c.is_some.ensures ∙ c.if-is_some.true in
-    refused_step (limits_of c.args.self.now) (registry_of c.args.self.now) _ (TokenAdd c.args.login.now words patterns c.args.digest.now) _ 4 G5 (ap is_none found, (named, (ap not read.0, (room, (refl, taken))))) refl refl
+    record { step = refused_step (limits_of c.args.self.now) (registry_of c.args.self.now) _ (TokenAdd c.args.login.now words patterns c.args.digest.now) _ 4 G5 (ap is_none found, (named, (ap not read.0, (room, (refl, taken))))) refl refl; limits = refl }
 
-pub returns-in-Ok-add-clause-step : goal.returns-in-Ok-add-clause-step
+pub returns-in-Ok-add : goal.returns-in-Ok-add
 unfolding commanded
-returns-in-Ok-add-clause-step c =
+returns-in-Ok-add c =
     let s : Registry = registry_of c.args.self.now in
     let words : List Text = map (λ w. w.now) c.args.words.now in
     let patterns : List Text = map (λ p. p.now) c.args.patterns.now in
@@ -72,4 +72,4 @@ returns-in-Ok-add-clause-step c =
     let taken = ap is_some (sym c.find.ensures) ∙ is_some_mapped (λ t. token_of t.now) c.find.result ∙ sym c.is_some.ensures ∙ c.if-is_some.false in
     let account = sym (ap (λ o. unwrap_or o 0) found) in
     let after = c.in-Ok-add.ensures.ok ∙ (λ i. s.tokens ++ record { digest = c.args.digest.now; account = account i; live = true; endpoints = c.endpoints_named.ensures i; patterns = read.1 i } ∷ []) in
-    done_step (limits_of c.args.self.now) s _ (TokenAdd c.args.login.now words patterns c.args.digest.now) _ (ap is_none found, (named, (ap not read.0, (room, (taken, tt))))) (ap Id c.in-Ok-add.ensures.id) (λ i. record s { tokens = after i })
+    record { step = done_step (limits_of c.args.self.now) s _ (TokenAdd c.args.login.now words patterns c.args.digest.now) _ (ap is_none found, (named, (ap not read.0, (room, (taken, tt))))) (ap Id c.in-Ok-add.ensures.id) (λ i. record s { tokens = after i }); limits = refl }

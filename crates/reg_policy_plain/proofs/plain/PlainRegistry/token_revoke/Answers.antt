@@ -7,12 +7,12 @@ use Rattle.reg_policy_plain.specs.Plain.{limits_of, registry_of}
 use Rattle.reg_policy_plain.proofs.Joined.{refused_step, done_step, none_of_not_some}
 use Rattle.reg_policy_plain.proofs.plain.PlainRegistry.token_revoke.Goals as goal
 
-pub returns-then-not-has-clause-step : goal.returns-then-not-has-clause-step
-returns-then-not-has-clause-step c =
-    refused_step (limits_of c.args.self.now) (registry_of c.args.self.now) _ (TokenRevoke c.args.id) _ 0 G6 (refl, none_of_not_some (with_id c.args.self.now.tokens c.args.id) _ (sym c.has.ensures ∙ c.if-not-has.true)) refl refl
+pub returns-then-not-has : goal.returns-then-not-has
+returns-then-not-has c =
+    record { step = refused_step (limits_of c.args.self.now) (registry_of c.args.self.now) _ (TokenRevoke c.args.id) _ 0 G6 (refl, none_of_not_some (with_id c.args.self.now.tokens c.args.id) _ (sym c.has.ensures ∙ c.if-not-has.true)) refl refl; limits = refl }
 
-pub returns-clause-step : goal.returns-clause-step
+pub returns : goal.returns
 unfolding commanded
-returns-clause-step c =
+returns c =
     let s : Registry = registry_of c.args.self.now in
-    done_step (limits_of c.args.self.now) s _ (TokenRevoke c.args.id) _ (none_of_not_some (with_id c.args.self.now.tokens c.args.id) _ (sym c.has.ensures ∙ c.if-not-has.false), tt) refl (λ i. record s { tokens = c.revoke.ensures i })
+    record { step = done_step (limits_of c.args.self.now) s _ (TokenRevoke c.args.id) _ (none_of_not_some (with_id c.args.self.now.tokens c.args.id) _ (sym c.has.ensures ∙ c.if-not-has.false), tt) refl (λ i. record s { tokens = c.revoke.ensures i }); limits = refl }

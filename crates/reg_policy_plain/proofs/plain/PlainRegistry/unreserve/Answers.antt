@@ -10,15 +10,18 @@ use Rattle.reg_policy_plain.specs.Plain.{limits_of, registry_of}
 use Rattle.reg_policy_plain.proofs.Joined.{refused_step, done_step, read_none, read_some}
 use Rattle.reg_policy_plain.proofs.plain.PlainRegistry.unreserve.Goals as goal
 
-pub returns-in_default-clause-step : goal.returns-in_default-clause-step
-returns-in_default-clause-step c =
-    refused_step (limits_of c.args.self.now) (registry_of c.args.self.now) _ (Unreserve c.args.name.now) _ 0 G4
-    (refl, ap not (read_none (is_name c.args.name.now) c.args.name.now (sym c.in_default.is ∙ c.parse_name.ensures))) refl refl
+pub returns-in_default : goal.returns-in_default
+returns-in_default c =
+    record {
+      step = refused_step (limits_of c.args.self.now) (registry_of c.args.self.now) _ (Unreserve c.args.name.now) _ 0 G4
+          (refl, ap not (read_none (is_name c.args.name.now) c.args.name.now (sym c.in_default.is ∙ c.parse_name.ensures))) refl refl;
+      limits = refl;
+    }
 
-pub returns-clause-step : goal.returns-clause-step
+pub returns : goal.returns
 unfolding commanded
-returns-clause-step c =
+returns c =
     let s : Registry = registry_of c.args.self.now in
     let read = read_some (is_name c.args.name.now) c.args.name.now c.in-Some.name (sym c.in-Some.is ∙ c.parse_name.ensures) in
     let after = c.remove.ensures ∙ ap (λ n. finset.remove s.reserved (canon n)) read.1 in
-    done_step (limits_of c.args.self.now) s _ (Unreserve c.args.name.now) _ (ap not read.0, tt) refl (λ i. record s { reserved = after i })
+    record { step = done_step (limits_of c.args.self.now) s _ (Unreserve c.args.name.now) _ (ap not read.0, tt) refl (λ i. record s { reserved = after i }); limits = refl }

@@ -1,4 +1,4 @@
-use Rattle.std.proofs.Common.{sym, ◌∙◌, ap}
+use Rattle.std.proofs.Common.{refl, sym, ◌∙◌, ap}
 use Rattle.std.specs.FinSet as finset
 use Rattle.reg_names.specs.Names.{is_name, canon}
 use Rattle.reg_model.specs.Registry.{Registry}
@@ -7,10 +7,10 @@ use Rattle.reg_policy_plain.specs.Plain.{registry_of}
 use Rattle.reg_policy_plain.proofs.Joined.{read_some}
 use Rattle.reg_policy_plain.proofs.plain.PlainRegistry.unyank.Goals as goal
 
-pub returns-clause-state : goal.returns-clause-state
+pub returns : goal.returns
 unfolding done
-returns-clause-state c =
+returns c =
     let s : Registry = registry_of c.args.self.now in
-    let read = read_some (is_name c.args.name.now) c.args.name.now c.in-Some.name (sym c.in-Some.is ∙ c.parse_name.ensures) in
+    let read = read_some (is_name c.args.name.now) c.args.name.now c.unwrap-name.result (sym c.unwrap-name.ensures ∙ c.parse_name.ensures) in
     let after = c.remove.ensures ∙ ap (λ n. finset.remove s.yanked (canon n, c.args.version.now)) read.1 in
-    λ id. λ i. record s { yanked = after i }
+    record { answer = refl; state = (λ id. λ i. record s { yanked = after i }); err = tt; limits = refl }

@@ -13,42 +13,42 @@ use Rattle.reg_policy_plain.proofs.Joined.{refused_step, done_step, read_none, r
 use Rattle.reg_policy_plain.proofs.plain.PlainRegistry.user_add.Goals as goal
 use Rattle.reg_policy_plain.proofs.plain.PlainRegistry.user_add.Goals.{in-Some-name+in-Ok, in-None}
 
-pub returns-in_default-clause-step : goal.returns-in_default-clause-step
-returns-in_default-clause-step c =
+pub returns-in_default : goal.returns-in_default
+returns-in_default c =
     let name : Option Text = option_map (λ n. n.now) c.args.name in
     let unread = read_none (is_login c.args.login.now) c.args.login.now (sym c.in_default.is ∙ c.parse_login.ensures) in
-    refused_step (limits_of c.args.self.now) (registry_of c.args.self.now) _ (UserAdd c.args.login.now name) _ 0 G1 (refl, ap (λ b. not (b && may_name name)) unread) refl refl
+    record { step = refused_step (limits_of c.args.self.now) (registry_of c.args.self.now) _ (UserAdd c.args.login.now name) _ 0 G1 (refl, ap (λ b. not (b && may_name name)) unread) refl refl; limits = refl }
 
-pub returns-then-not-may_name-clause-step : goal.returns-then-not-may_name-clause-step
-returns-then-not-may_name-clause-step c =
+pub returns-then-not-may_name : goal.returns-then-not-may_name
+returns-then-not-may_name c =
     let name : Option Text = option_map (λ n. n.now) c.args.name in
     let read = read_some (is_login c.args.login.now) c.args.login.now c.in-Some.login (sym c.in-Some.is ∙ c.parse_login.ensures) in
     let bad = sym c.may_name.ensures ∙ c.if-not-may_name.true in
-    refused_step (limits_of c.args.self.now) (registry_of c.args.self.now) _ (UserAdd c.args.login.now name) _ 0 G1 (refl, λ i. not (read.0 i && bad i)) refl refl
+    record { step = refused_step (limits_of c.args.self.now) (registry_of c.args.self.now) _ (UserAdd c.args.login.now name) _ 0 G1 (refl, λ i. not (read.0 i && bad i)) refl refl; limits = refl }
 
-pub returns-then-is_some-clause-step : goal.returns-then-is_some-clause-step
-returns-then-is_some-clause-step c =
+pub returns-then-is_some : goal.returns-then-is_some
+returns-then-is_some c =
     let s : Registry = registry_of c.args.self.now in
     let name : Option Text = option_map (λ n. n.now) c.args.name in
     let read = read_some (is_login c.args.login.now) c.args.login.now c.in-Some.login (sym c.in-Some.is ∙ c.parse_login.ensures) in
     let good = sym c.may_name.ensures ∙ c.if-not-may_name.false in
     let login = c.as_str.ensures.value ∙ read.1 in
     let taken = ap (λ t. is_some (id_of_login s t)) (sym login) ∙ ap is_some (sym c.id_of.ensures) ∙ sym c.is_some.ensures ∙ c.if-is_some.true in
-    refused_step (limits_of c.args.self.now) s _ (UserAdd c.args.login.now name) _ 1 G2 ((λ i. not (read.0 i && good i)), (refl, taken)) refl refl
+    record { step = refused_step (limits_of c.args.self.now) s _ (UserAdd c.args.login.now name) _ 1 G2 ((λ i. not (read.0 i && good i)), (refl, taken)) refl refl; limits = refl }
 
-pub returns-then-self-len-clause-step : goal.returns-then-self-len-clause-step
-returns-then-self-len-clause-step c =
+pub returns-then-self-len : goal.returns-then-self-len
+returns-then-self-len c =
     let s : Registry = registry_of c.args.self.now in
     let name : Option Text = option_map (λ n. n.now) c.args.name in
     let read = read_some (is_login c.args.login.now) c.args.login.now c.in-Some.login (sym c.in-Some.is ∙ c.parse_login.ensures) in
     let good = sym c.may_name.ensures ∙ c.if-not-may_name.false in
     let login = c.as_str.ensures.value ∙ read.1 in
     let free = ap (λ t. is_some (id_of_login s t)) (sym login) ∙ ap is_some (sym c.id_of.ensures) ∙ sym c.is_some.ensures ∙ c.if-is_some.false in
-    refused_step (limits_of c.args.self.now) s _ (UserAdd c.args.login.now name) _ 2 G7 ((λ i. not (read.0 i && good i)), (free, (refl, le-leb _ _ (omega (arith, c.len.ensures.value))))) refl refl
+    record { step = refused_step (limits_of c.args.self.now) s _ (UserAdd c.args.login.now name) _ 2 G7 ((λ i. not (read.0 i && good i)), (free, (refl, le-leb _ _ (omega (arith, c.len.ensures.value))))) refl refl; limits = refl }
 
-pub returns-in-Ok-add-clause-step : goal.returns-in-Ok-add-clause-step
+pub returns-in-Ok-add : goal.returns-in-Ok-add
 unfolding commanded
-returns-in-Ok-add-clause-step c =
+returns-in-Ok-add c =
     let s : Registry = registry_of c.args.self.now in
     let name : Option Text = option_map (λ n. n.now) c.args.name in
     let read = read_some (is_login c.args.login.now) c.args.login.now c.in-Some.login (sym c.in-Some.is ∙ c.parse_login.ensures) in
@@ -60,4 +60,4 @@ returns-in-Ok-add-clause-step c =
       | in-None w ↦ ap (option_map string_bytes) w.name-is ∙ ap (option_map (λ n. n.now)) (sym w.in-None.is)
     ] in
     let after = c.in-Ok-add.ensures.ok ∙ (λ i. s.accounts ++ record { login = read.1 i; name = named i; enabled = true } ∷ []) in
-    done_step (limits_of c.args.self.now) s _ (UserAdd c.args.login.now name) _ ((λ i. not (read.0 i && good i)), (free, (is_more _ _ (omega (arith, c.len.ensures.value)), tt))) refl (λ i. record s { accounts = after i })
+    record { step = done_step (limits_of c.args.self.now) s _ (UserAdd c.args.login.now name) _ ((λ i. not (read.0 i && good i)), (free, (is_more _ _ (omega (arith, c.len.ensures.value)), tt))) refl (λ i. record s { accounts = after i }); limits = refl }

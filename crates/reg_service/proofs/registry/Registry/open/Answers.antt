@@ -1,4 +1,6 @@
+use Rattle.std.proofs.Common.{◌∙◌}
 use Rattle.sqlite.specs.Held.{state}
+use Rattle.reg_tables_meaning.proofs.Results.{if_ok}
 use Rattle.reg_service.proofs.Opened.{handed_last, is_taken, opened_left, opened_same, opened_sound, opened_up, refused_damaged, refused_last, refused_left, refused_undone}
 use Rattle.reg_service.proofs.registry.Registry.open.Goals as goal
 
@@ -44,4 +46,10 @@ returns-in-Err-default-Storage-clause-last g c clean =
 
 pub returns-in-Ok-clause-up_to_date : goal.returns-in-Ok-clause-up_to_date
 returns-in-Ok-clause-up_to_date g c =
-    opened_up g.S.Store (state g.S.Store c.args.conn).now c.examine.result c.examine.ensures.up_to_date c.examine.ensures.unknown (returns-in-Ok-clause-sound g c)
+    opened_up g.S.Store (state g.S.Store c.args.conn).now c.examine.result c.examine.ensures.up_to_date (if_ok c.examine.result (λ r b. b.unknown) c.examine.ensures.begun) (returns-in-Ok-clause-sound g c)
+
+pub returns-in-Ok-clause-limited : goal.returns-in-Ok-clause-limited
+returns-in-Ok-clause-limited g c = if_ok c.examine.result (λ r b. b.limited) c.examine.ensures.begun
+
+pub returns-in-Ok-clause-goes_on : goal.returns-in-Ok-clause-goes_on
+returns-in-Ok-clause-goes_on g c = if_ok c.examine.result (λ r b. b.goes_on ∙ c.in-Ok.ensures.ours.1) c.examine.ensures.begun

@@ -3,7 +3,7 @@ use Rattle.std.specs.Prelude.{string_bytes}
 use Rattle.reg_tables_meaning.specs.Calls.{ListsVersions}
 use Rattle.reg_tables.specs.Works.{rows_seen}
 use Rattle.reg_tables.specs.declared.work.StoreFault.{StoreFault}
-use Rattle.reg_access.specs.Asks.{Asks}
+use Rattle.reg_tables.specs.Calling.{Asks}
 use Rattle.reg_access.proofs.Questions.{asks_made}
 use Rattle.reg_service_commands.proofs.CratesAsked.{line_added}
 use Rattle.reg_service_commands.proofs.reports.crates.add_line.Goals as goal
@@ -12,6 +12,6 @@ pub returns-in-Ok : goal.returns-in-Ok
 returns-in-Ok g c =
     let list = c.in_ok-versions.versions in
     let told = c.in_ok-versions.ensures in
-    let asked : Asks {E = StoreFault} g.S.Store c.args.work.now c.versions_of.new.self (Ok list) (λ db list. ListsVersions c.args.listed.now.id db list.items) = record { told = told.found; same = told.same; leaves = told.leaves } in
+    let asked : Asks {E = StoreFault} g.S.Store c.args.work.now c.versions_of.new.self (Ok list) (λ db list. ListsVersions c.args.listed.now.id db list.items) = record { told = λ clean. (told.told clean).1; same = told.same; leaves = told.leaves } in
     asks_made g.S.Store list tt c.args.work.now c.versions_of.new.self
     (λ lists. line_added (rows_seen g.S.Store c.args.work.now) c.args.listed.now list.items (string_bytes c.args.report.now) (string_bytes c.push_versions.new.report) lists (rw (c.as_str.ensures.value, c.deref.ensures.value) at c.in-Ok.ensures)) asked

@@ -3,9 +3,6 @@ use Rattle.reg_service_commands.proofs.reports.tokens.tokens_report.Goals as goa
 
 pub returns-in-Ok : goal.returns-in-Ok
 returns-in-Ok g c =
-    let one = c.in_ok-accounts.ensures in
-    let two = c.in_ok-both.ensures in
     tokens_asked g.S.Store c.in_ok-accounts.accounts c.in_ok-both.both c.in-Ok.text c.args.work.now c.all_accounts.new.self c.all_tokens.new.self
-    (record { told = one.found; same = one.same; leaves = one.leaves })
-    (record { told = λ clean. (two.tokens clean, two.scopes clean); same = two.same; leaves = two.leaves })
+    c.in_ok-accounts.ensures c.in_ok-both.ensures
     (rw (c.deref.ensures.value, c.deref-2.ensures.value, c.deref-3.ensures.value) at c.in-Ok.ensures)

@@ -1,0 +1,41 @@
+-- What goes on over one step, and what of a traced stream holds of one that is not traced.
+use Rattle.std.proofs.Common.{◌∙◌, ℕ, refl, Option, Result}
+use Rattle.sqlite_trees.specs.declared.store.Store.{Ghosts}
+use Rattle.reg_body.specs.Counting.{CountedEnd}
+use Rattle.reg_model.specs.Registry.{Text}
+use Rattle.reg_http_read.proofs.Adding.{spends_whole}
+use Rattle.reg_http_read.specs.Turns.{Tally, tally}
+use Rattle.reg_http_read.specs.declared.fault.StreamFault.{StreamFault}
+use Rattle.reg_service.specs.Registries.{IsUpToDate, limits_of, tables_of}
+use Rattle.reg_service.specs.declared.registry.Registry.{Registry}
+use Rattle.reg_http.specs.Answering.{GoesOn}
+use Rattle.reg_http.specs.Serving.{ServesStream, ServesStreamTraced, SpendsLent, SpendsOwn}
+use Rattle.reg_http.specs.Trails.{TrailEnd, Trails, tail}
+use Rattle.reg_http.proofs.Leaving.{leaving}
+
+-- nothing was done
+pub still : {S : Type 0} {g : Ghosts S} {r : Registry S} → IsUpToDate g r → GoesOn g r r
+still tables = record { tables = tables; clean = λ clean. clean; limits = refl }
+
+-- one thing was done after another
+pub goes_on : {S : Type 0} {g : Ghosts S} {a b c : Registry S} → GoesOn g a b → GoesOn g b c → GoesOn g a c
+goes_on first second = record { tables = second.tables; clean = λ clean. first.clean (second.clean clean); limits = second.limits ∙ first.limits }
+
+module _ {S R W T : Type 0} {g : Ghosts S} {read : R → Option Text} {held : W → Option Text} {old new : Registry S} {r0 r1 : CountedEnd R} {w0 w1 : CountedEnd W} {told_of : T → Option Text}
+    {k0 k1 : TrailEnd T} {result : Result ℕ StreamFault} where
+  -- a server of its own does as one that is lent
+  pub owned : ServesStreamTraced g SpendsLent read held old new r0 r1 w0 w1 told_of k0 k1 result → ServesStreamTraced g SpendsOwn read held old new r0 r1 w0 w1 told_of k0 k1 result
+  owned it =
+      let (left, spends) = it.spends in
+      record { serves = it.serves; spends = (left, spends_whole (limits_of old).turns left (tally r0 w0) (tally r1 w1) result spends); told = it.told; keeps = it.keeps }
+
+  -- whatever its trail is
+  pub untraced : {Counts : ℕ → ℕ → Tally → Tally → Result ℕ StreamFault → Type 0}
+      → ServesStreamTraced g Counts read held old new r0 r1 w0 w1 told_of k0 k1 result → ServesStream g Counts read held old new r0 r1 w0 w1 result
+  untraced it = record {
+    serves = λ clean s shows.
+        leaving g (limits_of old) s (tables_of old) (tables_of new) (Trails (tail (told_of k0.end.inner) k0) (tail (told_of k1.end.inner) k1)) (λ text. Unit {0}) (λ text it. tt)
+        (read r0.inner) (read r1.inner) (held w0.inner) (held w1.inner) result (it.serves clean s shows);
+    spends = it.spends;
+    keeps = it.keeps;
+  }
