@@ -2,7 +2,8 @@
 //! room, and then the registry is as before.
 
 use crate::service_stops::calls::{
-    CHANGED, CHANGES, CHANGES_BACK, PUBLISHES, READS, REFUSALS, REQUESTS,
+    CHANGED, CHANGES, CHANGES_BACK, DENIALS, INDEX_REQUESTS, LISTS, PUBLISHES, READS, REQUESTS,
+    TAKEN, UNKNOWN,
 };
 use crate::service_stops::fault::Fault;
 use crate::service_stops::lines::{over_files, over_nothing, over_old_files};
@@ -43,8 +44,18 @@ fn anything_changed_back(rt: HostRuntime) -> Result<(), Fault> {
 }
 
 #[test]
+fn anything_listed(rt: HostRuntime) -> Result<(), Fault> {
+    over_files(rt.alloc(), "", LISTS, Some(STEP_OF_READS))
+}
+
+#[test]
 fn anything_read(rt: HostRuntime) -> Result<(), Fault> {
     over_files(rt.alloc(), "", READS, Some(STEP_OF_READS))
+}
+
+#[test]
+fn any_request_of_the_index(rt: HostRuntime) -> Result<(), Fault> {
+    over_files(rt.alloc(), "", INDEX_REQUESTS, Some(STEP_OF_READS))
 }
 
 #[test]
@@ -53,6 +64,16 @@ fn any_request(rt: HostRuntime) -> Result<(), Fault> {
 }
 
 #[test]
-fn anything_denied_or_refused(rt: HostRuntime) -> Result<(), Fault> {
-    over_files(rt.alloc(), "", REFUSALS, Some(STEP_OF_READS))
+fn anything_denied(rt: HostRuntime) -> Result<(), Fault> {
+    over_files(rt.alloc(), "", DENIALS, Some(STEP_OF_READS))
+}
+
+#[test]
+fn anything_taken(rt: HostRuntime) -> Result<(), Fault> {
+    over_files(rt.alloc(), "", TAKEN, Some(STEP_OF_READS))
+}
+
+#[test]
+fn anything_unknown(rt: HostRuntime) -> Result<(), Fault> {
+    over_files(rt.alloc(), "", UNKNOWN, Some(STEP_OF_READS))
 }

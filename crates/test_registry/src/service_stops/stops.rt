@@ -2,7 +2,8 @@
 //! after, and that after once the task was answered.
 
 use crate::service_stops::calls::{
-    CHANGED, CHANGES, CHANGES_BACK, PUBLISHES, READS, REFUSALS, REQUESTS,
+    CHANGED, CHANGES, CHANGES_BACK, DENIALS, INDEX_REQUESTS, LISTS, PUBLISHES, READS, REQUESTS,
+    TAKEN, UNKNOWN,
 };
 use crate::service_stops::fault::Fault;
 use crate::service_stops::lines::{over_files, over_nothing, over_old_files};
@@ -38,8 +39,18 @@ fn a_stop_while_it_is_changed_back(rt: HostRuntime) -> Result<(), Fault> {
 }
 
 #[test]
+fn a_stop_while_it_is_listed(rt: HostRuntime) -> Result<(), Fault> {
+    over_files(rt.alloc(), "", LISTS, None)
+}
+
+#[test]
 fn a_stop_while_it_is_read(rt: HostRuntime) -> Result<(), Fault> {
     over_files(rt.alloc(), "", READS, None)
+}
+
+#[test]
+fn a_stop_while_it_answers_of_the_index(rt: HostRuntime) -> Result<(), Fault> {
+    over_files(rt.alloc(), "", INDEX_REQUESTS, None)
 }
 
 #[test]
@@ -48,6 +59,16 @@ fn a_stop_while_it_answers_requests(rt: HostRuntime) -> Result<(), Fault> {
 }
 
 #[test]
-fn a_stop_while_it_denies_and_refuses(rt: HostRuntime) -> Result<(), Fault> {
-    over_files(rt.alloc(), "", REFUSALS, None)
+fn a_stop_while_it_denies(rt: HostRuntime) -> Result<(), Fault> {
+    over_files(rt.alloc(), "", DENIALS, None)
+}
+
+#[test]
+fn a_stop_while_it_refuses_what_is_taken(rt: HostRuntime) -> Result<(), Fault> {
+    over_files(rt.alloc(), "", TAKEN, None)
+}
+
+#[test]
+fn a_stop_while_it_refuses_what_is_unknown(rt: HostRuntime) -> Result<(), Fault> {
+    over_files(rt.alloc(), "", UNKNOWN, None)
 }
