@@ -13,24 +13,11 @@ use reg_service_requests::line_of;
 use std::alloc::{AllocError, Global};
 
 /// A change by the administrator, of one thing.
-pub fn admin_line(alloc: Global, verb: &str, of: &str) -> Result<String, AllocError>
+fn admin_line(alloc: Global, verb: &str, of: &str) -> Result<String, AllocError>
     ensures { IfOk result (λ line. string_bytes line ≡ line_of (codes "-" ∷ codes "admin"
         ∷ verb.now ∷ of.now ∷ [])) }
 {
     line_of(alloc, &["-", "admin", verb, of])
-}
-
-/// A change by the administrator, of an account and a crate.
-pub fn admin_pair_line(
-    alloc: Global,
-    verb: &str,
-    name: &str,
-    login: &str,
-) -> Result<String, AllocError>
-    ensures { IfOk result (λ line. string_bytes line ≡ line_of (codes "-" ∷ codes "admin"
-        ∷ verb.now ∷ name.now ∷ login.now ∷ [])) }
-{
-    line_of(alloc, &["-", "admin", verb, name, login])
 }
 
 /// A token that is revoked.

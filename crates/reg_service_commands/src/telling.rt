@@ -13,10 +13,10 @@ ghost use Rattle.reg_service_commands.specs.Orders.{enabling, reading, restricti
 ghost use Rattle.reg_service_requests.specs.Telling.{IsToldLine, TellsLine, line_if};
 ghost use Rattle.reg_service_commands.specs.Telling.{enabled_word, reader_word, restricted_word};
 
-use crate::lines::{admin_line, admin_pair_line, new_token_line, new_user_line, revocation_line};
+use crate::lines::{new_token_line, new_user_line, revocation_line};
 use reg_names::{canon, parse_name};
 use reg_policy::{AdminCommand, is_reserved_always, parse_patterns};
-use reg_service_requests::{differs, find_named, have_login, told_line};
+use reg_service_requests::{differs, find_named, have_login, tell_words, told_line};
 use reg_tables::{Result, Work};
 use sqlite::Alter;
 use std::alloc::Global;
@@ -50,10 +50,7 @@ fn tell_of<S: Alter>(
     ensures { Asks S.Store work.old work.new result (λ db found. option_map string_bytes found
         ≡ line_if changes (codes "-" ∷ codes "admin" ∷ verb.now ∷ of.now ∷ [])) }
 {
-    if !changes {
-        return Ok(None);
-    }
-    told_line(work, admin_line(alloc, verb, of))
+    tell_words(alloc, work, changes, &["-", "admin", verb, of])
 }
 
 /// The same of a change of an account and a crate.
@@ -70,10 +67,7 @@ fn tell_of_pair<S: Alter>(
     ensures { Asks S.Store work.old work.new result (λ db found. option_map string_bytes found
         ≡ line_if changes (codes "-" ∷ codes "admin" ∷ verb.now ∷ name.now ∷ login.now ∷ [])) }
 {
-    if !changes {
-        return Ok(None);
-    }
-    told_line(work, admin_pair_line(alloc, verb, name, login))
+    tell_words(alloc, work, changes, &["-", "admin", verb, name, login])
 }
 
 /// An account that is to be enabled, or disabled, and is not yet.

@@ -29,5 +29,5 @@ pub use lines::line_of;
 pub use naming::find_named;
 pub use served::Served;
 pub use serving::serve_told;
-pub use telling::{differs, have_login, told_line};
+pub use telling::{differs, have_login, tell_words, told_line};
 pub use told::{Acted, ServedTold, with_line};

@@ -16,8 +16,9 @@ ghost use Rattle.reg_service_requests.specs.Granted.{marking};
 ghost use Rattle.reg_service_requests.specs.Owning.{owning};
 ghost use Rattle.reg_service_requests.specs.Telling.{IsToldLine, TellsRequest, changes, differs, line_if, mark_word, owners_word};
 
-use crate::lines::{change_line, with_commas};
+use crate::lines::{line_of, with_commas};
 use crate::owning::has_login;
+use itoa::Buffer;
 use reg_access::Caller;
 use reg_policy::{Asked, NewPublication};
 use reg_tables::{Account, Result, Work};
@@ -39,7 +40,44 @@ pub fn told_line<S: Alter>(
     }
 }
 
-/// The line of a change of a crate by who asks, if something changes; none otherwise.
+/// The line of these words, if something changes; none otherwise.
+pub fn tell_words<S: Alter>(
+    alloc: Global,
+    work: &mut Work<'_, S>,
+    changes: bool,
+    words: &[&str],
+) -> Result<Option<String>>
+    requires at_work { IsAtWork S.Store work.old }
+    requires goes_on { has_failed work.old ≡ false }
+    ensures { Asks S.Store work.old work.new result (λ db found. option_map string_bytes found
+        ≡ line_if changes (map (λ w. w.now) words.now)) }
+{
+    if !changes {
+        return Ok(None);
+    }
+    told_line(work, line_of(alloc, words))
+}
+
+/// The line of a change of a crate by a token of an account, if something changes.
+fn tell_by<S: Alter>(
+    alloc: Global,
+    work: &mut Work<'_, S>,
+    changes: bool,
+    token: &str,
+    login: &str,
+    verb: &str,
+    name: &str,
+    more: &str,
+) -> Result<Option<String>>
+    requires at_work { IsAtWork S.Store work.old }
+    requires goes_on { has_failed work.old ≡ false }
+    ensures { Asks S.Store work.old work.new result (λ db found. option_map string_bytes found
+        ≡ line_if changes (token.now ∷ login.now ∷ verb.now ∷ name.now ∷ more.now ∷ [])) }
+{
+    tell_words(alloc, work, changes, &[token, login, verb, name, more])
+}
+
+/// The same by who asks: the id of the token, and its account's login.
 fn tell_change<S: Alter>(
     alloc: Global,
     work: &mut Work<'_, S>,
@@ -55,10 +93,9 @@ fn tell_change<S: Alter>(
         ≡ line_if changes (decimal caller.now.token ∷ string_bytes caller.now.login
         ∷ verb.now ∷ name.now ∷ more.now ∷ [])) }
 {
-    if !changes {
-        return Ok(None);
-    }
-    told_line(work, change_line(alloc, caller, verb, name, more))
+    let mut digits = Buffer::new();
+    let token = digits.format(caller.token);
+    tell_by(alloc, work, changes, token, &caller.login, verb, name, more)
 }
 
 /// A publication.
