@@ -1,5 +1,5 @@
 -- Newer features put into a line without them make the line of the manifest.
-use Rattle.std.proofs.Common.{◌≡◌, ℕ, Bool, List, [], ◌∷◌, String, Global, codes, refl, ap, ◌∙◌}
+use Rattle.std.proofs.Common.{◌≡◌, ℕ, Bool, List, [], ◌∷◌, length, String, Global, codes, refl, sym, ap, ◌∙◌, arith}
 use Rattle.hex.specs.Hex.{encode_lower}
 use Rattle.serde_json.specs.Data.{Members, no_members, number, object, put, unsigned}
 use Rattle.serde_json.specs.View.{members_view}
@@ -33,3 +33,20 @@ is_long m digest c y olds news line whole k e f some g h =
 pub no_entries : (es : List (String Global × Value)) → members_view es ≡ no_members → es ≡ []
 no_entries [] h = refl
 no_entries (e ∷ es) h = absurd (cc)
+
+line-short : (olds news : Features) (m : Metadata) (c : List ℕ) (y : Bool) → feature_members news ≡ no_members → short_members (feature_members olds) m c y ≡ line_members olds news m c y
+line-short olds [] m c y h = refl
+line-short olds (f ∷ fs) m c y h = absurd (cc)
+
+no_view : (es : List (String Global × Value)) → length es ≡ 0 → members_view es ≡ no_members
+no_view [] h = refl
+no_view (e ∷ es) h = absurd (omega arith)
+
+pub is_short : (m : Metadata) (digest c : List ℕ) (y : Bool) (olds line : Members) (es : List (String Global × Value)) → c ≡ encode_lower digest
+    → olds ≡ feature_members (older m.features) → members_view es ≡ feature_members (newer m.features) → length es ≡ 0
+    → line ≡ short_members olds m c y → object line ≡ line_data m digest y
+unfolding line_data
+is_short m digest c y olds line es k e f none g =
+    ap object (g ∙ ap (λ os. short_members os m c y) e
+    ∙ ap (λ t. short_members (feature_members (older m.features)) m t y) k
+    ∙ line-short (older m.features) (newer m.features) m (encode_lower digest) y (sym f ∙ no_view es none))

@@ -4,7 +4,8 @@ ghost use Rattle.std.specs.Prelude.{◌≡◌, ◌++◌, IfOk, codes, string_byt
 ghost use Rattle.serde_json.specs.View.{view};
 ghost use Rattle.reg_line.specs.Config.{config_data, config_text, download_of};
 
-use serde_json::{Value, json};
+use crate::values::put_text;
+use serde_json::{Map, Value, put};
 use std::alloc::{AllocError, Global};
 
 fn download(alloc: Global, base: &str) -> Result<String, AllocError>
@@ -18,9 +19,12 @@ fn download(alloc: Global, base: &str) -> Result<String, AllocError>
 fn config_value(alloc: Global, base: &str) -> Result<Value, AllocError>
     ensures { IfOk result (λ v. view v ≡ config_data base.now) }
 {
-    let download = download(alloc, base)?;
-    let dl = download.as_str();
-    json!(in alloc; { "api": base, "auth-required": true, "dl": dl })
+    let dl = download(alloc, base)?;
+    let mut object = Map::new(alloc);
+    put_text(&mut object, alloc, "api", base)?;
+    put(&mut object, alloc, "auth-required", Value::Bool(true))?;
+    put_text(&mut object, alloc, "dl", dl.as_str())?;
+    Ok(Value::Object(object))
 }
 
 /// The config of a registry served under this base.

@@ -3,8 +3,13 @@ use Rattle.std.proofs.lemmas.Bool.{both_ways}
 use Rattle.serde_json.proofs.Views.{view-Object}
 use Rattle.reg_manifest.specs.Manifests.{manifest_view}
 use Rattle.reg_line.specs.Features.{feature_members, newer}
-use Rattle.reg_line.proofs.WhichLine.{is_long, no_entries}
+use Rattle.reg_line.proofs.WhichLine.{is_long, is_short, no_entries}
 use Rattle.reg_line.proofs.lines.line_value.Goals as goal
+
+pub returns-then-is_empty-clause-value : goal.returns-then-is_empty-clause-value
+returns-then-is_empty-clause-value c =
+    view-Object c.in_ok-line.line
+    ∙ is_short (manifest_view c.args.manifest.now) c.args.digest.now c.as_str.result.now c.args.yanked _ _ c.in_ok-older.newer.entries (c.as_str.ensures.value ∙ c.in_ok-cksum.ensures) c.in_ok-older.ensures.older c.in_ok-older.ensures.newer (c.is_empty.ensures.0 c.if-is_empty.true) c.in_ok-line.ensures
 
 pub returns-clause-value : goal.returns-clause-value
 returns-clause-value c =
