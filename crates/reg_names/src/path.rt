@@ -33,27 +33,26 @@ impl PathText {
 }
 
 /// The folder of a lower-case name, with its trailing slash.
+#[tactic(auto, using(crate::proofs::Folders::three, crate::proofs::Folders::longer))]
 fn folder(name: &str) -> ArrayString<6>
     requires { IsAscii name.now }
     ensures { result.bytes ≡ folder_of name.now }
 {
     let mut text = ArrayString::new();
-    match name.as_bytes() {
-        [] => {}
-        [_] => text.push_str("1/"),
-        [_, _] => text.push_str("2/"),
-        [a, _, _] => {
+    match name.len() {
+        0 => {}
+        1 => text.push_str("1/"),
+        2 => text.push_str("2/"),
+        3 => {
             text.push_str("3/");
-            text.push(*a as char);
-            text.push('/');
+            text.push_str(&name[..1]);
+            text.push_str("/");
         }
-        [a, b, c, d, ..] => {
-            text.push(*a as char);
-            text.push(*b as char);
-            text.push('/');
-            text.push(*c as char);
-            text.push(*d as char);
-            text.push('/');
+        _ => {
+            text.push_str(&name[..2]);
+            text.push_str("/");
+            text.push_str(&name[2..4]);
+            text.push_str("/");
         }
     }
     text

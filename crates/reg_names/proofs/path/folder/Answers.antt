@@ -1,5 +1,7 @@
-use Rattle.std.proofs.Common.{rules}
+use Rattle.std.proofs.Common.{arith}
+use Rattle.std.proofs.lemmas.Grind.{common_steps}
+use Rattle.reg_names.proofs.Folders.{three}
 use Rattle.reg_names.proofs.path.folder.Goals as goal
 
-pub returns-in-len3 : goal.returns-in-len3
-returns-in-len3 c = search rules
+pub returns-in-3 : goal.returns-in-3
+returns-in-3 c = grind (arith, common_steps, three)
