@@ -10,6 +10,7 @@ ghost use Rattle.reg_policy.specs.Events.{answer_of, command_of};
 ghost use Rattle.reg_policy_plain.specs.Plain.{Obeys, PlainStep, limits_of, login_found, registry_of};
 
 use crate::plain::{CommandReply, PlainRegistry};
+use crate::search::text_of;
 use reg_model::AdminRefusal;
 use reg_names::parse_login;
 use reg_policy::{
@@ -89,12 +90,8 @@ impl PlainRegistry {
         if self.limits.accounts <= self.accounts.len() as u64 {
             return Err(AdminRefusal::G7);
         }
-        let name = match name {
-            Some(name) => match String::from_str(self.alloc, name) {
-                Ok(name) => Some(name),
-                Err(_) => return Err(AdminRefusal::G10),
-            },
-            None => None,
+        let Ok(name) = text_of(self.alloc, name) else {
+            return Err(AdminRefusal::G10);
         };
         let account = PlainAccount {
             login,

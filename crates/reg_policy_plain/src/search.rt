@@ -81,7 +81,8 @@ fn description_of(top: Option<&Publication>) -> Option<&str>
     }
 }
 
-fn text_of(alloc: Global, text: Option<&str>) -> Result<Option<String>, AllocError>
+/// A text that owns its memory, or none.
+pub(crate) fn text_of(alloc: Global, text: Option<&str>) -> Result<Option<String>, AllocError>
     ensures { IfOk result (λ o. option_map string_bytes o ≡ option_map (λ t. t.now) text.entry) }
 {
     match text {
@@ -157,11 +158,10 @@ impl PlainRegistry {
     {
         let spelling = spelling_of(self.publications.first(name));
         let top = self.publications.top(self.alloc, name, &self.yanked)?;
-        let description = text_of(self.alloc, description_of(top))?;
         Ok(Hit {
             name: String::from_str(self.alloc, spelling)?,
             version: String::from_str(self.alloc, version_of(top))?,
-            description,
+            description: text_of(self.alloc, description_of(top))?,
         })
     }
 

@@ -1,4 +1,4 @@
-use Rattle.std.proofs.Common.{[], ◌∷◌, ◌++◌, sym, ◌∙◌, ap}
+use Rattle.std.proofs.Common.{[], ◌∷◌, ◌++◌, rules, sym, ◌∙◌, ap}
 use Rattle.std.specs.FinSet as finset
 use Rattle.reg_names.specs.Names.{canon}
 use Rattle.reg_model.specs.Registry.{Registry, Publication}
@@ -19,3 +19,6 @@ returns-clause-state c =
       | else-exists+in_ok-add_first w ↦ ap registry_of w.self-is ∙ published_new s id p _ (w.in_ok-add_first.ensures.ok ∙ ap (λ q. s.publications ++ q ∷ []) c.in_ok-publication.ensures) _ (sym c.exists.ensures ∙ w.if-exists.false)
           (w.in_ok-add_first.ensures.owner ∙ (λ i. finset.insert s.owners (canon (c.in_ok-publication.ensures i).name, c.account_of-account.ensures i)))
     ]
+
+pub returns-in_err-publication-clause-err : goal.returns-in_err-publication-clause-err
+returns-in_err-publication-clause-err c = search rules

@@ -1,5 +1,5 @@
-use Rattle.std.proofs.Common.{◌≡◌, [], ◌∷◌, ◌++◌, true, Option, Some, refl, sym, ◌∙◌, ap, arith}
-use Rattle.std.specs.Prelude.{◌&&◌, not, is_some, string_bytes}
+use Rattle.std.proofs.Common.{◌≡◌, [], ◌∷◌, ◌++◌, true, Option, refl, sym, ◌∙◌, ap, arith}
+use Rattle.std.specs.Prelude.{◌&&◌, not, is_some}
 use Rattle.std.specs.Option.{option_map}
 use Rattle.std.proofs.lemmas.Bool.{le-leb}
 use Rattle.reg_names.specs.Logins.{is_login}
@@ -11,7 +11,6 @@ use Rattle.reg_model.specs.Effects.{commanded}
 use Rattle.reg_policy_plain.specs.Plain.{limits_of, registry_of}
 use Rattle.reg_policy_plain.proofs.Joined.{refused_step, done_step, read_none, read_some, is_more}
 use Rattle.reg_policy_plain.proofs.plain.PlainRegistry.user_add.Goals as goal
-use Rattle.reg_policy_plain.proofs.plain.PlainRegistry.user_add.Goals.{in-Some-name+in-Ok, in-None}
 
 pub returns-in_default : goal.returns-in_default
 returns-in_default c =
@@ -55,9 +54,5 @@ returns-in-Ok-add c =
     let good = sym c.may_name.ensures ∙ c.if-not-may_name.false in
     let login = c.as_str.ensures.value ∙ read.1 in
     let free = ap (λ t. is_some (id_of_login s t)) (sym login) ∙ ap is_some (sym c.id_of.ensures) ∙ sym c.is_some.ensures ∙ c.if-is_some.false in
-    let named : option_map string_bytes c.match-name.name ≡ name = elim c.match-name.branch [
-      | in-Some-name+in-Ok w ↦ ap (option_map string_bytes) w.name-is ∙ ap (λ t. Some t) w.in-Ok.ensures.ok ∙ ap (option_map (λ n. n.now)) (sym w.in-Some-name.is)
-      | in-None w ↦ ap (option_map string_bytes) w.name-is ∙ ap (option_map (λ n. n.now)) (sym w.in-None.is)
-    ] in
-    let after = c.in-Ok-add.ensures.ok ∙ (λ i. s.accounts ++ record { login = read.1 i; name = named i; enabled = true } ∷ []) in
+    let after = c.in-Ok-add.ensures.ok ∙ (λ i. s.accounts ++ record { login = read.1 i; name = c.in-Ok.ensures i; enabled = true } ∷ []) in
     record { step = done_step (limits_of c.args.self.now) s _ (UserAdd c.args.login.now name) _ ((λ i. not (read.0 i && good i)), (free, (is_more _ _ (omega (arith, c.len.ensures.value)), tt))) refl (λ i. record s { accounts = after i }); limits = refl }
