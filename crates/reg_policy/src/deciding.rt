@@ -152,16 +152,17 @@ fn is_absent(rows: &Rows, action: &Action) -> bool
     ensures { result ≡ is_absent (access_of rows.now (action_of action.now))
         (action_of action.now) }
 {
+    let seen = is_seen(rows);
     match action {
-        Action::Index(path) => !(is_seen(rows) && has_path(rows, path)),
-        Action::Read => !is_seen(rows),
-        Action::Download(_, _) => !is_seen(rows),
-        Action::ListOwners(_) => !is_seen(rows),
-        Action::Publish(_, _) => !is_seen(rows),
-        Action::Yank(_, _) => !is_seen(rows),
-        Action::Unyank(_, _) => !is_seen(rows),
-        Action::AddOwners(_, _) => !is_seen(rows),
-        Action::RemoveOwners(_, _) => !is_seen(rows),
+        Action::Index(path) => !(seen && has_path(rows, path)),
+        Action::Read => !seen,
+        Action::Download(_, _) => !seen,
+        Action::ListOwners(_) => !seen,
+        Action::Publish(_, _) => !seen,
+        Action::Yank(_, _) => !seen,
+        Action::Unyank(_, _) => !seen,
+        Action::AddOwners(_, _) => !seen,
+        Action::RemoveOwners(_, _) => !seen,
     }
 }
 
@@ -190,6 +191,13 @@ pub fn same_text(one: &str, other: &str) -> bool
     ensures { result ≡ bytes_eq one.now other.now }
 {
     one == other
+}
+
+/// Whether a text is among these.
+pub(crate) fn is_among(texts: &[&str], text: &str) -> bool
+    ensures { result ≡ list_any (λ t. bytes_eq t.now text.now) texts.now }
+{
+    texts.iter().any(|known| same_text(known, text))
 }
 
 fn has_id(owner: &OwnerRow, id: u32) -> bool

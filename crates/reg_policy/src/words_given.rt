@@ -2,12 +2,11 @@
 
 ghost use Rattle.std.specs.Prelude.{◌≡◌, ◌&&◌, if◌then◌else◌, IfOk, None, Some, map, nat_le};
 ghost use Rattle.std.specs.Option.{option_map};
-ghost use Rattle.std.specs.List.{list_all, list_any};
-ghost use Rattle.std.specs.Str.{bytes_eq};
+ghost use Rattle.std.specs.List.{list_all};
 ghost use Rattle.reg_names.specs.Patterns.{is_pattern};
 ghost use Rattle.reg_model.specs.Refusals.{endpoints_named as endpoints_named_by, is_account_name as is_account_name_text, is_endpoint, may_name as may_name_text, patterns_given};
 
-use crate::deciding::same_text;
+use crate::deciding::{is_among, same_text};
 use reg_model::Endpoints;
 use reg_names::Pattern;
 use std::alloc::{AllocError, Global};
@@ -64,12 +63,6 @@ pub fn are_endpoints(words: &[&str]) -> bool
     ensures { result ≡ list_all is_endpoint (map (λ w. w.now) words.now) }
 {
     all_endpoints(words)
-}
-
-fn is_among(words: &[&str], endpoint: &str) -> bool
-    ensures { result ≡ list_any (λ w. bytes_eq w.now endpoint.now) words.now }
-{
-    words.iter().any(|word| same_text(word, endpoint))
 }
 
 /// The endpoints that the words name.
