@@ -8,3 +8,5 @@ pub mod Readings
 pub mod Adding
 pub mod Lines
 pub mod Requests
+pub mod Pieces
+pub mod Waiting

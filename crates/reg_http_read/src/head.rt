@@ -11,7 +11,7 @@ use reg_model::Rule;
 use std::alloc::{AllocError, Global};
 
 /// A head and what it says.
-#[derive(Clone, Copy, Debug)]
+#[derive(Clone, Copy)]
 pub struct Head<'b> {
     pub method: &'b str,
     pub target: &'b str,
@@ -37,7 +37,7 @@ impl Head<'_> {
 }
 
 /// What the front of a stream was read as.
-#[derive(Clone, Copy, Debug)]
+#[derive(Clone, Copy)]
 pub enum HeadRead<'b> {
     /// More bytes are needed.
     More,

@@ -12,7 +12,7 @@ use std::alloc::AllocError;
 use std::io::Read;
 
 /// What a read brought.
-#[derive(Clone, Copy, Debug)]
+#[derive(Clone, Copy)]
 pub(crate) enum Piece {
     /// The input has ended.
     End,

@@ -31,7 +31,7 @@ pub(crate) enum Awaited {
 }
 
 /// What came when the rest of a body was awaited.
-#[derive(Clone, Copy, Debug)]
+#[derive(Clone, Copy)]
 pub(crate) enum Rest {
     Whole,
     End,
