@@ -10,3 +10,4 @@ pub mod Lines
 pub mod Requests
 pub mod Pieces
 pub mod Waiting
+pub mod Tallies
