@@ -1,5 +1,5 @@
 use Rattle.reg_service.specs.Registries.{IsUpToDate}
-use Rattle.test_streams.proofs.streams.playing.each_fault.Given as goal
+use Rattle.test_registry.proofs.streams.playing.each_fault.Given as goal
 
 -- the tables are ours between two streams
 abbrev pub invariant-loop-place : goal.invariant-loop-place

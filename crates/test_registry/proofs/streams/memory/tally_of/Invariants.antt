@@ -1,5 +1,5 @@
 use Rattle.reg_service.specs.Registries.{IsUpToDate}
-use Rattle.test_streams.proofs.streams.memory.tally_of.Given as goal
+use Rattle.test_registry.proofs.streams.memory.tally_of.Given as goal
 
 -- the tables are ours between two streams
 abbrev pub invariant-amounts : goal.invariant-amounts
