@@ -43,11 +43,11 @@ fn create_token_tables<S: Alter>(conn: &mut Connection<S>) -> Result<(), Error>
     Ok(())
 }
 
-fn create_crate_tables<S: Alter>(conn: &mut Connection<S>) -> Result<(), Error>
+fn create_version_tables<S: Alter>(conn: &mut Connection<S>) -> Result<(), Error>
     requires { HasCleanDisk (state S.Store conn.old) → HasMade (first_of_ours 4 3)
         (state S.Store conn.old) }
     ensures made { HasCleanDisk (state S.Store conn.new) → OnOk result
-        (Makes old_schema (state S.Store conn.old) (state S.Store conn.new)) }
+        (Makes (first_of_ours 7 6) (state S.Store conn.old) (state S.Store conn.new)) }
     ensures refused { HasCleanDisk (state S.Store conn.new) → OnErr result
         (KeepsCommit (state S.Store conn.old) (state S.Store conn.new)) }
     ensures survives { Survives (state S.Store conn.old) (state S.Store conn.new) (λ _. ⊥) }
@@ -55,6 +55,18 @@ fn create_crate_tables<S: Alter>(conn: &mut Connection<S>) -> Result<(), Error>
     texts::create_crates(conn)?;
     texts::create_owners(conn)?;
     texts::create_versions(conn)?;
+    Ok(())
+}
+
+fn create_other_tables<S: Alter>(conn: &mut Connection<S>) -> Result<(), Error>
+    requires { HasCleanDisk (state S.Store conn.old) → HasMade (first_of_ours 7 6)
+        (state S.Store conn.old) }
+    ensures made { HasCleanDisk (state S.Store conn.new) → OnOk result
+        (Makes old_schema (state S.Store conn.old) (state S.Store conn.new)) }
+    ensures refused { HasCleanDisk (state S.Store conn.new) → OnErr result
+        (KeepsCommit (state S.Store conn.old) (state S.Store conn.new)) }
+    ensures survives { Survives (state S.Store conn.old) (state S.Store conn.new) (λ _. ⊥) }
+{
     texts::create_archives(conn)?;
     texts::create_reserved(conn)?;
     texts::create_summaries(conn)?;
@@ -87,7 +99,8 @@ pub fn create_tables<S: Alter>(conn: &mut Connection<S>) -> Result<(), Error>
     ensures survives { Survives (state S.Store conn.old) (state S.Store conn.new) (λ _. ⊥) }
 {
     create_token_tables(conn)?;
-    create_crate_tables(conn)?;
+    create_version_tables(conn)?;
+    create_other_tables(conn)?;
     add_tables(conn)
 }
 
