@@ -1,12 +1,13 @@
 //! How much the registry has.
 
 ghost use Rattle.std.specs.Prelude.{length};
-ghost use Rattle.reg_tables_meaning.specs.Calls.{Counted, CountsAll, ReachesCrates};
+ghost use Rattle.reg_tables_meaning.specs.Calls.{Counted, ReachesCrates};
+ghost use Rattle.reg_tables_rows.specs.Counting.{CountsAll};
 ghost use Rattle.reg_tables.specs.Calling.{Asks};
 ghost use Rattle.reg_tables.specs.Works.{IsAtWork};
 
 use crate::work::{Result, Work, call};
-use reg_tables_meaning::counts::{self, Counts};
+use reg_tables_rows::counts::{self, Counts};
 use sqlite::Alter;
 
 impl<S: Alter> Work<'_, S> {

@@ -8,7 +8,8 @@ ghost use Rattle.reg_tables.specs.Works.{IsAtWork};
 
 use crate::work::{Result, Work, call};
 use reg_names::{CanonText, CrateName};
-use reg_tables_meaning::{crate_lists, summaries};
+use reg_tables_meaning::summaries;
+use reg_tables_rows::crate_lists;
 use reg_tables_sql::crates::Crate;
 use reg_tables_sql::summaries::Summary;
 use reg_tables_sql::versions::Version;

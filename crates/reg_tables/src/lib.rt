@@ -21,12 +21,12 @@ mod tokens;
 mod whole_rows;
 mod work;
 
-pub use reg_tables_meaning::counts::Counts;
 pub use reg_tables_meaning::crates::NewVersion;
 pub use reg_tables_meaning::entries::index_rows;
 pub use reg_tables_meaning::tokens::{TokenLists, TokenRows};
 pub use reg_tables_meaning::walks::rows_of;
 pub use reg_tables_rows::all_rows::AllRows;
+pub use reg_tables_rows::counts::Counts;
 pub use reg_tables_rows::entries::index_entries;
 pub use reg_tables_schema::{Edition, MakeFault};
 pub use reg_tables_sql::accounts::Account;

@@ -16,8 +16,8 @@ ghost use Rattle.reg_tables.specs.Works.{AreOurs, IsKept, IsLeft, IsSame, editio
 ghost use Rattle.reg_tables_meaning.specs.Upgrades.{BeginsSecond, IsUpgraded, AreUpgraded};
 
 use crate::work::{Result, StoreFault, Work};
-use reg_tables_meaning::editions::has_base;
 use reg_tables_meaning::upgrade::begin_second;
+use reg_tables_rows::editions::has_base;
 use reg_tables_schema::laws::{rest_law, stop_law};
 use reg_tables_schema::{Edition, MakeFault, begin, edition_of, make_tables};
 use sqlite::{Alter, Connection};

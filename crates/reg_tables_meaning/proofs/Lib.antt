@@ -1,7 +1,7 @@
 pub mod AccountEntries
 mod Additions
 pub mod AllCrates
-mod ArchiveEntries
+pub mod ArchiveEntries
 mod CrateChanges
 pub mod CrateCounts
 pub mod CrateLemmas
@@ -12,7 +12,7 @@ pub mod FoundTokens
 pub mod IndexWalk
 pub mod Made
 mod Migrated
-mod NextId
+pub mod NextId
 mod Marking
 pub mod MarkedStand
 pub mod Numbered
@@ -26,7 +26,7 @@ mod ReservedChanges
 mod Relations
 pub mod Results
 mod Rising
-mod Room
+pub mod Room
 pub mod RowReading
 pub mod Rowids
 mod ScopeRows
@@ -43,7 +43,7 @@ mod SummaryTops
 pub mod Stays
 mod TokenChanges
 pub mod TokenEntries
-mod VersionCounts
+pub mod VersionCounts
 pub mod VersionEntries
 pub mod Walking
 pub mod Withins

@@ -26,7 +26,6 @@ use Rattle.reg_tables_sql.specs.declared.tokens.Token.{Token}
 use Rattle.reg_tables_sql.specs.declared.tokens.TokenRow.{TokenRow}
 use Rattle.reg_tables_sql.specs.declared.versions.Version.{Version}
 use Rattle.reg_tables_sql.specs.Scopes.{columns_of_scope}
-use Rattle.reg_tables_meaning.specs.declared.counts.Counts.{Counts}
 use Rattle.reg_tables_meaning.specs.declared.crates.NewVersion.{NewVersion}
 use Rattle.reg_tables_meaning.specs.declared.tokens.TokenRows.{TokenRows}
 use Rattle.reg_tables_meaning.specs.Entries.{entry_of_account, shown_version, version_shown}
@@ -226,8 +225,3 @@ ReachesCrates number db is = Tells (λ ids s. is ≡ nat_le number (model.crates
 abbrev pub ReachesVersions : ℕ → Text → ℕ → Trees → Bool → Type 0
 ReachesVersions id name number db is = Tells (λ ids s.
     spelling_at ids id ≡ Some name → is ≡ nat_le number (length (versions s name))) db
-
-abbrev pub CountsAll : Trees → Counts → Type 0
-CountsAll db n = Tells
-    (λ ids s. (n.accounts ≡ length s.accounts) × (n.tokens ≡ length s.tokens)
-    × (n.crates ≡ model.crates s)) db

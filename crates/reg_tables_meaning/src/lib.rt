@@ -3,7 +3,7 @@
 //!
 //! `Stands` in `specs/` says which registry the rows are. A function here is one or more statements
 //! in a transaction, with what it means on that registry. `walks` and `entries` read outside one,
-//! and `editions` and `upgrade` know schema 1.
+//! and `upgrade` knows schema 1.
 //!
 //! `accounts::add(&mut conn, "ada", Some("Ada"))?` is the id of the new account: one more than
 //! there were.
@@ -11,10 +11,7 @@
 
 pub mod accounts;
 pub mod archives;
-pub mod counts;
-pub mod crate_lists;
 pub mod crates;
-pub mod editions;
 pub mod entries;
 pub mod laws;
 pub mod pairs;

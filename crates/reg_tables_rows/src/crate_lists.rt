@@ -12,9 +12,9 @@ ghost use Rattle.reg_tables_meaning.specs.Calls.{FindsArchive, FindsCrate, Lists
 ghost use Rattle.reg_tables_sql.specs.Crates.{AreCrates, IsCrateOfCanon};
 ghost use Rattle.reg_tables_sql.specs.Versions.{AreVersionsOf};
 
-use crate::summaries;
 use reg_line::lacks_room;
 use reg_names::{CanonText, CrateName};
+use reg_tables_meaning::summaries;
 use reg_tables_sql::archives;
 use reg_tables_sql::crates::{self, Crate};
 use reg_tables_sql::statements::Result;

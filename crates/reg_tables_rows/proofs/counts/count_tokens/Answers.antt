@@ -2,7 +2,7 @@ use Rattle.std.proofs.Common.{◌≡◌, ◌+◌, ℕ, length, arith, refl}
 use Rattle.sqlite.specs.Held.{state}
 use Rattle.reg_tables_meaning.specs.Stands.{row_of_token}
 use Rattle.reg_tables_meaning.proofs.NextId.{next_id}
-use Rattle.reg_tables_meaning.proofs.counts.count_tokens.Goals as goal
+use Rattle.reg_tables_rows.proofs.counts.count_tokens.Goals as goal
 
 pub returns-clause-counted : goal.returns-clause-counted
 returns-clause-counted g c clean ids s h =

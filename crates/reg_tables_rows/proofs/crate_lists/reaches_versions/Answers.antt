@@ -2,7 +2,7 @@ use Rattle.std.proofs.Common.{◌∙◌, sym}
 use Rattle.std.proofs.lemmas.Bool.{ltb-true}
 use Rattle.sqlite.specs.Held.{state}
 use Rattle.reg_tables_meaning.proofs.VersionCounts.{few_versions}
-use Rattle.reg_tables_meaning.proofs.crate_lists.reaches_versions.Goals as goal
+use Rattle.reg_tables_rows.proofs.crate_lists.reaches_versions.Goals as goal
 
 pub returns-then-are_few-clause-told : goal.returns-then-are_few-clause-told
 returns-then-are_few-clause-told g c clean ids s h at =

@@ -4,7 +4,7 @@ use Rattle.sqlite.specs.Held.{state}
 use Rattle.reg_tables_meaning.proofs.Readings.{same_whatever}
 use Rattle.reg_tables_meaning.proofs.Results.{if_ok}
 use Rattle.reg_tables_meaning.proofs.VersionCounts.{versions_counted}
-use Rattle.reg_tables_meaning.proofs.crate_lists.has_versions.Goals as goal
+use Rattle.reg_tables_rows.proofs.crate_lists.has_versions.Goals as goal
 
 pub returns-clause-told : goal.returns-clause-told
 returns-clause-told g c clean =

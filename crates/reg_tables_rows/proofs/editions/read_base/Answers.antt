@@ -4,7 +4,7 @@ use Rattle.sqlite.specs.Held.{state}
 use Rattle.sqlite.specs.State.{HasCleanDisk}
 use Rattle.reg_tables_schema.specs.Tests.{shows}
 use Rattle.reg_tables_sql.specs.Abouts.{about_places}
-use Rattle.reg_tables_meaning.proofs.editions.read_base.Goals as goal
+use Rattle.reg_tables_rows.proofs.editions.read_base.Goals as goal
 
 pub returns-clause-lacks : goal.returns-clause-lacks
 returns-clause-lacks g c clean lacks base is =

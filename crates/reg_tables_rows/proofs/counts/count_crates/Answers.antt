@@ -4,7 +4,7 @@ use Rattle.reg_tables_meaning.specs.Stands.{row_of_crate}
 use Rattle.reg_tables_meaning.proofs.CrateCounts.{count_is, crates_are}
 use Rattle.reg_tables_meaning.proofs.Readings.{same_whatever}
 use Rattle.reg_tables_meaning.proofs.Results.{if_ok}
-use Rattle.reg_tables_meaning.proofs.counts.count_crates.Goals as goal
+use Rattle.reg_tables_rows.proofs.counts.count_crates.Goals as goal
 
 pub returns-clause-counted : goal.returns-clause-counted
 returns-clause-counted g c clean =

@@ -6,7 +6,7 @@ use Rattle.reg_tables_meaning.specs.Calls.{ReachesVersions}
 use Rattle.reg_tables_meaning.specs.Stands.{spelling_at}
 use Rattle.reg_tables_meaning.proofs.Results.{if_ok}
 use Rattle.reg_tables_meaning.proofs.Room.{few_lines}
-use Rattle.reg_tables_meaning.proofs.crate_lists.has_lines.Goals as goal
+use Rattle.reg_tables_rows.proofs.crate_lists.has_lines.Goals as goal
 
 pub returns-then-is_short-clause-told : goal.returns-then-is_short-clause-told
 returns-then-is_short-clause-told g c clean ids s h at =

@@ -1,7 +1,7 @@
 use Rattle.sqlite.specs.Held.{state}
 use Rattle.reg_tables_meaning.proofs.Results.{if_ok}
 use Rattle.reg_tables_meaning.proofs.VersionEntries.{lists_versions}
-use Rattle.reg_tables_meaning.proofs.crate_lists.list.Goals as goal
+use Rattle.reg_tables_rows.proofs.crate_lists.list.Goals as goal
 
 pub returns-clause-found : goal.returns-clause-found
 returns-clause-found g c clean =
