@@ -8,7 +8,8 @@ use Rattle.reg_model.specs.Registry.{Text}
 use Rattle.reg_tables_sql.specs.Stems.{entries_text}
 use Rattle.reg_tables_meaning.specs.Entries.{entry_row}
 use Rattle.reg_tables_meaning.proofs.IndexWalk.{entries_read}
-use Rattle.reg_tables_meaning.proofs.Walking.{walked_all, walked_as}
+use Rattle.reg_tables_meaning.proofs.Walking.{walk_ends, walk_fails, walk_left, walked_all, walked_as}
+use Rattle.reg_service_index.proofs.Left.{left_after}
 use Rattle.reg_service_index.proofs.Rows.{end_stopped, head_stopped, rows_all, rows_broken, rows_more, rows_none, rows_stopped}
 use Rattle.reg_service_index.proofs.Unsent.{writer_fault}
 use Rattle.reg_service_index.proofs.files.send_rows.Goals as goal
@@ -144,3 +145,61 @@ returns-clause-ends g c =
     let back : c.conn-2-1.given.0 ≡ c.rows.rows.conn.now = search rules in
     let i = c.rows.invariant.walked in
     rw back (λ e. inr (inr (i.0, i.2.given, inr (omega (arith, i.1)))))
+
+-- what is left of the connection
+
+pub returns-in_err-used-clause-reads : goal.returns-in_err-used-clause-reads
+returns-in_err-used-clause-reads g c =
+    let p = err_from_is_err_and c.from_residual-in_err-used.result c.from_residual-in_err-used.ensures.1 in
+    let back : c.conn-in_err-used-1.given.0 ≡ c.in_ok-rows.rows.conn.now = search rules in
+    let made = c.in_ok-rows.ensures in
+    rw (p.1, p.2, back)
+    (walk_left g.S.Store entries_text (Int (pos c.args.file.now.crate_id) ∷ []) c.args.conn.now c.in_ok-rows.rows c.in_ok-rows.rows []
+    (record { given = made.begun; same = made.same; ours = made.ours; survives = made.survives }) _)
+
+pub returns-in_err-row-clause-reads : goal.returns-in_err-row-clause-reads
+returns-in_err-row-clause-reads g c =
+    let p = err_from_is_err_and c.from_residual-in_err-row.result c.from_residual-in_err-row.ensures.1 in
+    let now = c.next.follows.lender-at-none in
+    let back : c.conn-in_err-row-1.given.0 ≡ now.conn.now = search rules in
+    let i = c.rows.invariant.walked in
+    rw (p.1, p.2, back)
+    (walk_fails g.S.Store entries_text (Int (pos c.args.file.now.crate_id) ∷ []) c.args.conn.now c.rows.rows now i.0 i.2 _ _ (rw c.in_err-row.was at c.next.follows.holds-at-none))
+
+pub returns-in_err-last-clause-reads : goal.returns-in_err-last-clause-reads
+returns-in_err-last-clause-reads g c =
+    let p = err_from_is_err_and c.from_residual-in_err-last.result c.from_residual-in_err-last.ensures.1 in
+    let now = c.next.follows.lender-at-none in
+    let back : c.conn-in_err-last-1.given.0 ≡ now.conn.now = search rules in
+    let i = c.rows.invariant.walked in
+    rw (p.1, p.2, back)
+    (left_after g.S.Store entries_text (Int (pos c.args.file.now.crate_id) ∷ []) c.args.conn.now c.rows.rows now i.0 i.2 _ (rw c.in_ok-row.was at c.next.follows.holds-at-none) _)
+
+pub returns-in_default-clause-reads : goal.returns-in_default-clause-reads
+returns-in_default-clause-reads g c =
+    let now = c.next.follows.lender-at-none in
+    let back : c.conn-in_default-1.given.0 ≡ now.conn.now = search rules in
+    let i = c.rows.invariant.walked in
+    rw back (walk_ends g.S.Store entries_text (Int (pos c.args.file.now.crate_id) ∷ []) c.args.conn.now c.rows.rows now i.0 i.2 _ _ (rw c.in_ok-row.was at c.next.follows.holds-at-none))
+
+pub returns-in_default-entry_of-clause-reads : goal.returns-in_default-entry_of-clause-reads
+returns-in_default-entry_of-clause-reads g c =
+    let now = c.next.follows.lender-at-none in
+    let back : c.conn-in_default-entry_of-1.given.0 ≡ now.conn.now = search rules in
+    let i = c.rows.invariant.walked in
+    rw back (left_after g.S.Store entries_text (Int (pos c.args.file.now.crate_id) ∷ []) c.args.conn.now c.rows.rows now i.0 i.2 _ (rw c.in_ok-row.was at c.next.follows.holds-at-none) _)
+
+pub returns-in_err-more-clause-reads : goal.returns-in_err-more-clause-reads
+returns-in_err-more-clause-reads g c =
+    let p = err_from_is_err_and c.from_residual-in_err-more.result c.from_residual-in_err-more.ensures.1 in
+    let now = c.next.follows.lender-at-none in
+    let back : c.conn-in_err-more-1.given.0 ≡ now.conn.now = search rules in
+    let i = c.rows.invariant.walked in
+    rw (p.1, p.2, back)
+    (left_after g.S.Store entries_text (Int (pos c.args.file.now.crate_id) ∷ []) c.args.conn.now c.rows.rows now i.0 i.2 _ (rw c.in_ok-row.was at c.next.follows.holds-at-none) _)
+
+pub returns-clause-reads : goal.returns-clause-reads
+returns-clause-reads g c =
+    let back : c.conn-2-1.given.0 ≡ c.rows.rows.conn.now = search rules in
+    let i = c.rows.invariant.walked in
+    rw back (walk_left g.S.Store entries_text (Int (pos c.args.file.now.crate_id) ∷ []) c.args.conn.now c.rows.rows c.rows.rows i.0 i.2 _)
