@@ -1,6 +1,7 @@
 -- What statements that only read leave, one after another.
-use Rattle.std.proofs.Common.{inl, inr, ◌∙◌, Err, Ok, Result}
+use Rattle.std.proofs.Common.{arith, inl, inr, ◌∙◌, Err, Ok, Result}
 use Rattle.sqlite.specs.State.{State, IsUnchanged, HasCleanDisk, Survives}
+use Rattle.sqlite.proofs.StateLemmas.{survives_then}
 use Rattle.reg_tables_schema.specs.Steps.{LeavesSame}
 use Rattle.reg_tables_schema.specs.States.{Refuses}
 
@@ -25,3 +26,20 @@ refuses_after a b c one (inr back) = inr (record {
 pub same_whatever : {U F : Type 0} (a b : State) (q : Result U F) → (HasCleanDisk b → IsUnchanged a b) → Survives a b (λ _. ⊥) → LeavesSame a b q
 same_whatever a b (Ok y) same survives = record { only = λ clean. (same clean, tt); survives = survives }
 same_whatever a b (Err e) same survives = record { only = λ clean. (tt, inl (same clean)); survives = survives }
+
+-- one after another; then a failure, which leaves what the last one left
+pub keeps_then : {T U E F : Type 0} (a b c : State) (x : T) (r : Result U F) → LeavesSame {E = E} a b (Ok x) → LeavesSame b c r → LeavesSame a c r
+keeps_then a b c x (Ok y) one two = record {
+  only = λ clean. (same_then a b c (one.only (omega (arith, two.survives.clean, clean))).0 (two.only clean).0, tt);
+  survives = survives_then a b c (λ _. ⊥) (λ _. ⊥) (λ _. ⊥) (λ _ db none. none) (λ _ db none. none) one.survives two.survives;
+}
+keeps_then a b c x (Err e) one two = record {
+  only = λ clean. (tt, refuses_after a b c (one.only (omega (arith, two.survives.clean, clean))).0 (two.only clean).1);
+  survives = survives_then a b c (λ _. ⊥) (λ _. ⊥) (λ _. ⊥) (λ _ db none. none) (λ _ db none. none) one.survives two.survives;
+}
+
+pub keeps_failed : {T U E F : Type 0} (a b : State) (e : E) (f : F) → LeavesSame {T = T} a b (Err e) → LeavesSame {T = U} a b (Err f)
+keeps_failed a b e f h = record { only = λ clean. (tt, (h.only clean).1); survives = h.survives }
+
+pub keeps_so_far : {T U E F : Type 0} (a b : State) (x : T) (r : Result U F) → LeavesSame {E = E} a b (Ok x) → LeavesSame a b r
+keeps_so_far a b x r h = same_whatever a b r (λ clean. (h.only clean).0) h.survives

@@ -1,4 +1,5 @@
 use Rattle.std.proofs.Common.{◌≡◌, ◌+◌, true, length, not, sym, ap, subst, ◌∙◌, arith}
+use Rattle.std.proofs.lemmas.Result.{err_from_is_err_and}
 use Rattle.sqlite.specs.Effect.{Database}
 use Rattle.sqlite.specs.Held.{state}
 use Rattle.sqlite.specs.State.{HasCleanDisk}
@@ -6,6 +7,7 @@ use Rattle.reg_line.specs.File.{end_of}
 use Rattle.reg_tables_meaning.specs.Stands.{StandCrates}
 use Rattle.reg_tables_meaning.specs.Summaries.{ShownMark, highest_of, length_of, mark_shown, shown_mark}
 use Rattle.reg_tables_meaning.specs.SummaryChanges.{HasVersion, IsHigherMarked}
+use Rattle.reg_tables_meaning.proofs.Readings.{keeps_failed, keeps_so_far, keeps_then}
 use Rattle.reg_tables_meaning.proofs.Results.{if_ok}
 use Rattle.reg_tables_meaning.proofs.SummaryMarked.{highest_is_marked, its_row, length_is_marked}
 use Rattle.reg_tables_meaning.proofs.SummaryRows.{version_at}
@@ -49,3 +51,47 @@ returns-clause-told g c clean ids ps before after v stands has e change =
           ]),
       length_is_marked ids ps before after old.now.trees stands id v change c.in_ok-kept.kept.index_length c.in_ok-index_length.index_length kept.1 lines,
     )
+
+pub returns-in_err-now-clause-same : goal.returns-in_err-now-clause-same
+returns-in_err-now-clause-same g c =
+    let p = err_from_is_err_and c.from_residual-in_err-now.result c.from_residual-in_err-now.ensures.1 in
+    let old = state g.S.Store c.args.conn.now in
+    let one = state g.S.Store c.kept.new.conn in
+    let two = state g.S.Store c.version_at.new.conn in
+    rw (p.1, p.2) (keeps_failed old two _ _ (keeps_then old one two _ _ c.in_ok-kept.ensures.same c.in_err-now.ensures.same))
+
+pub returns-then-now-kept-clause-same : goal.returns-then-now-kept-clause-same
+returns-then-now-kept-clause-same g c =
+    let old = state g.S.Store c.args.conn.now in
+    let one = state g.S.Store c.kept.new.conn in
+    let two = state g.S.Store c.version_at.new.conn in
+    let both = keeps_then old one two _ _ c.in_ok-kept.ensures.same c.in_ok-now.ensures.same in
+    keeps_then old two (state g.S.Store c.numbers_of.new.conn) _ _ both c.numbers_of.ensures.same
+
+pub returns-in_err-highest-clause-same : goal.returns-in_err-highest-clause-same
+returns-in_err-highest-clause-same g c =
+    let p = err_from_is_err_and c.from_residual-in_err-highest.result c.from_residual-in_err-highest.ensures.1 in
+    let old = state g.S.Store c.args.conn.now in
+    let one = state g.S.Store c.kept.new.conn in
+    let two = state g.S.Store c.version_at.new.conn in
+    let three = state g.S.Store c.highest_marked.new.conn in
+    let both = keeps_then old one two _ _ c.in_ok-kept.ensures.same c.in_ok-now.ensures.same in
+    rw (p.1, p.2) (keeps_failed old three _ _ (keeps_then old two three _ _ both c.in_err-highest.ensures.same))
+
+pub returns-in_err-index_length-clause-same : goal.returns-in_err-index_length-clause-same
+returns-in_err-index_length-clause-same g c =
+    let old = state g.S.Store c.args.conn.now in
+    let one = state g.S.Store c.kept.new.conn in
+    let two = state g.S.Store c.version_at.new.conn in
+    let three = state g.S.Store c.highest_marked.new.conn in
+    let both = keeps_then old one two _ _ c.in_ok-kept.ensures.same c.in_ok-now.ensures.same in
+    keeps_so_far old three _ _ (keeps_then old two three _ _ both c.in_ok-highest.ensures.same)
+
+pub returns-clause-same : goal.returns-clause-same
+returns-clause-same g c =
+    let old = state g.S.Store c.args.conn.now in
+    let one = state g.S.Store c.kept.new.conn in
+    let two = state g.S.Store c.version_at.new.conn in
+    let three = state g.S.Store c.highest_marked.new.conn in
+    let both = keeps_then old one two _ _ c.in_ok-kept.ensures.same c.in_ok-now.ensures.same in
+    keeps_so_far old three _ _ (keeps_then old two three _ _ both c.in_ok-highest.ensures.same)
