@@ -5,3 +5,15 @@ use Rattle.reg_tables.proofs.tables.Tables.migrate.Goals as goal
 pub returns-in_err-commit-clause-survives : goal.returns-in_err-commit-clause-survives
 returns-in_err-commit-clause-survives g c =
     let h = stops_between _ _ _ _ _ c.in-First.is c.in_ok-work.ensures.begun.view c.in_ok-work.ensures.begun.survives c.in_err-commit.ensures.survives in search (rules, h)
+
+pub returns-clause-upgraded : goal.returns-clause-upgraded
+returns-clause-upgraded g c = search rules fits 300
+
+pub returns-clause-survives : goal.returns-clause-survives
+returns-clause-survives g c = search rules fits 100
+
+pub returns-in_err-commit-clause-refused : goal.returns-in_err-commit-clause-refused
+returns-in_err-commit-clause-refused g c = search rules fits 100
+
+pub returns-in_err-commit-clause-last : goal.returns-in_err-commit-clause-last
+returns-in_err-commit-clause-last g c = search rules fits 100
