@@ -1,16 +1,17 @@
-use Rattle.std.proofs.Common.{rules, arith, ◌≡◌, [], ◌∷◌, ◌++◌, Ok, refl, subst, ◌∙◌}
+use Rattle.std.proofs.Common.{rules, arith, ◌≡◌, [], ◌∷◌, ◌++◌, Ok, refl, subst, sym, ◌∙◌}
+use Rattle.std.proofs.lemmas.Result.{err_from_is_err_and}
 use Rattle.sqlite.specs.Held.{state}
 use Rattle.sqlite.specs.State.{HasCleanDisk}
 use Rattle.sqlite.specs.declared.error.Error.{Error}
 use Rattle.reg_tables_schema.specs.declared.edition.Edition.TheVariants.{Second}
 use Rattle.reg_tables_meaning.specs.Walks.{IsRead}
-use Rattle.reg_tables_meaning.proofs.Walking.{walk_ends, walked, walked_all}
-use Rattle.reg_search.proofs.Texts.{walk_is, walk_text}
+use Rattle.reg_tables_meaning.proofs.Walking.{walk_ends, walk_fails, walk_left, walked, walked_all}
+use Rattle.reg_search.proofs.Texts.{plain_text, walk_is, walk_text}
 use Rattle.reg_search.proofs.Told.{walk_told}
 use Rattle.reg_search.proofs.searching.walk.Goals as goal
 
 pub rows_of-requires : goal.rows_of-requires
-rows_of-requires g c = (Second, c.requires.ours, walk_is.plain)
+rows_of-requires g c = (Second, c.requires.ours, plain_text walk_is _ cc)
 
 pub rows-init : goal.rows-init
 rows-init g c =
@@ -20,7 +21,7 @@ rows-init g c =
 pub returns-in_default-clause-found : goal.returns-in_default-clause-found
 returns-in_default-clause-found g c clean =
     let now = c.next.follows.lender-at-none in
-    let back : c.conn-in_default-1.given.0 ≡ now.conn.now = search rules in
+    let back = c.conn-in_default-1.given.1 (sym (c.next.follows.holds-at-none.same_reference ∙ c.rows.invariant.0 ∙ c.in_ok-rows.ensures.same_reference)) ∙ c.drop-rows-in_default.ensures in
     let late : HasCleanDisk (state g.S.Store now.conn.now) = subst (λ w. HasCleanDisk (state g.S.Store w)) back clean in
     let moved = c.next.follows.holds-at-none in
     let early : HasCleanDisk (state g.S.Store c.rows.rows.conn.now) = omega (arith, moved.survives.clean, late) in
@@ -45,3 +46,49 @@ rows-preserved g c =
         ),
       ),
     )
+
+pub returns-in_err-rows-clause-found : goal.returns-in_err-rows-clause-found
+returns-in_err-rows-clause-found g c clean =
+    let p = err_from_is_err_and c.from_residual.result c.from_residual.ensures.1 in
+    rw p.1 tt
+
+pub returns-in_err-row-clause-found : goal.returns-in_err-row-clause-found
+returns-in_err-row-clause-found g c clean =
+    let p = err_from_is_err_and c.from_residual-in_err-row.result c.from_residual-in_err-row.ensures.1 in
+    rw p.1 tt
+
+pub returns-in_err-row-clause-reads : goal.returns-in_err-row-clause-reads
+returns-in_err-row-clause-reads g c =
+    let p = err_from_is_err_and c.from_residual-in_err-row.result c.from_residual-in_err-row.ensures.1 in
+    let now = c.next.follows.lender-at-none in
+    let back = c.conn-in_err-row-1.given.1 (sym (c.next.follows.holds-at-none.same_reference ∙ c.rows.invariant.0 ∙ c.in_ok-rows.ensures.same_reference)) ∙ c.drop-rows.ensures in
+    rw (p.1, back)
+    (walk_fails g.S.Store walk_text [] c.args.conn.now c.rows.rows now c.rows.invariant.1.0 c.rows.invariant.1.1.0 c.in_err-row.field-0.0 p.0 (rw c.in_err-row.was at c.next.follows.holds-at-none))
+
+pub returns-in_err-look_at-clause-found : goal.returns-in_err-look_at-clause-found
+returns-in_err-look_at-clause-found g c clean =
+    let p = err_from_is_err_and c.from_residual-in_err-look_at.result c.from_residual-in_err-look_at.ensures.1 in
+    rw p.1 tt
+
+pub returns-in_err-look_at-clause-reads : goal.returns-in_err-look_at-clause-reads
+returns-in_err-look_at-clause-reads g c =
+    let p = err_from_is_err_and c.from_residual-in_err-look_at.result c.from_residual-in_err-look_at.ensures.1 in
+    let now = c.next.follows.lender-at-none in
+    let back = c.conn-in_err-look_at-1.given.1 (sym (c.next.follows.holds-at-none.same_reference ∙ c.rows.invariant.0 ∙ c.in_ok-rows.ensures.same_reference)) ∙ c.drop-rows-in_err-look_at.ensures in
+    let given = c.rows.invariant.1.0 in
+    let on = walked g.S.Store walk_text [] c.args.conn.now c.rows.rows now given c.rows.invariant.1.1.0 c.in-Some.row (rw (c.in_ok-row.was, c.in-Some.is) at c.next.follows.holds-at-none) in
+    rw (p.1, back) (walk_left g.S.Store walk_text [] c.args.conn.now now now (given ++ c.in-Some.row.now ∷ []) on p.0)
+
+pub returns-in_default-clause-reads : goal.returns-in_default-clause-reads
+returns-in_default-clause-reads g c =
+    let now = c.next.follows.lender-at-none in
+    let back = c.conn-in_default-1.given.1 (sym (c.next.follows.holds-at-none.same_reference ∙ c.rows.invariant.0 ∙ c.in_ok-rows.ensures.same_reference)) ∙ c.drop-rows-in_default.ensures in
+    rw back (walk_ends g.S.Store walk_text [] c.args.conn.now c.rows.rows now c.rows.invariant.1.0 c.rows.invariant.1.1.0 c.rows.hits c.in_ok-row.field-0 (rw c.in_ok-row.was at c.next.follows.holds-at-none))
+
+pub returns-clause-found : goal.returns-clause-found
+returns-clause-found g c clean = tt
+
+pub returns-clause-reads : goal.returns-clause-reads
+returns-clause-reads g c =
+    let back = c.conn-2-1.given.1 (sym (c.rows.invariant.0 ∙ c.in_ok-rows.ensures.same_reference)) ∙ c.drop-rows-2.ensures in
+    rw back (walk_left g.S.Store walk_text [] c.args.conn.now c.rows.rows c.rows.rows c.rows.invariant.1.0 c.rows.invariant.1.1.0 _)
