@@ -6,7 +6,7 @@
 
 mod body;
 mod bytes;
-mod calls;
+mod convert_calls;
 mod converting;
 mod counted;
 mod line_calls;

@@ -38,13 +38,19 @@ split-within 27 0 <00><00><00><00><01><00><00><00>xy -> Trailing"#;
 fn standard_limits(rt: HostRuntime) {
     let limits = Limits::STANDARD;
     assert_eq!(rt; limits.greatest_body(), 37_748_744);
-    assert!(rt;
-        (limits.json, limits.archive, limits.head, limits.fields)
-            == (4_194_304, 33_554_432, 16_384, 64)
-    );
-    assert!(rt; (limits.patterns, limits.logins, limits.versions) == (64, 32, 10_000));
-    assert!(rt;
-        (limits.accounts, limits.tokens, limits.crates) == (1_000_000, 1_000_000, 1_000_000)
-    );
-    assert!(rt; (limits.replies, limits.turns) == (1_000_000, 100_000_000));
+    let want = Limits {
+        json: 4_194_304,
+        archive: 33_554_432,
+        head: 16_384,
+        fields: 64,
+        patterns: 64,
+        logins: 32,
+        versions: 10_000,
+        accounts: 1_000_000,
+        tokens: 1_000_000,
+        crates: 1_000_000,
+        replies: 1_000_000,
+        turns: 100_000_000,
+    };
+    assert!(rt; limits == want);
 }

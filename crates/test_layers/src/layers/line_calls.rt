@@ -1,8 +1,8 @@
 //! Calls on index lines, index files, stems, digests and the config.
 
 use crate::layers::bytes::counted;
-use crate::layers::calls::Answered;
-use crate::layers::name_calls::yes;
+use crate::layers::convert_calls::of_conversions;
+use crate::layers::name_calls::{shown, yes};
 use reg_line::{Digest, Entry, check_stem, config, digest_of, file, is_base, line, line_len, stem};
 use reg_manifest::{Manifest, ManifestFault, read_manifest};
 use std::alloc::{AllocError, Global};
@@ -28,26 +28,29 @@ fn digest(alloc: Global, text: &str) -> Result<String, AllocError> {
 fn line_of(alloc: Global, text: &str, yanked: bool) -> Result<String, AllocError> {
     match published(alloc, text) {
         Ok(new) => counted(alloc, &line(alloc, &new.manifest, &new.digest, yanked)?),
-        Err(fault) => format!(in alloc; "{fault:?}"),
+        Err(fault) => shown(alloc, &fault),
     }
 }
 
 fn stem_of(alloc: Global, text: &str) -> Result<String, AllocError> {
     match published(alloc, text) {
         Ok(new) => counted(alloc, &stem(alloc, &new.manifest, &new.digest)?),
-        Err(fault) => format!(in alloc; "{fault:?}"),
+        Err(fault) => shown(alloc, &fault),
     }
+}
+
+fn entry_of(alloc: Global, json: &str, yanked: bool) -> Result<Entry, ManifestFault> {
+    let new = published(alloc, json)?;
+    let stem = stem(alloc, &new.manifest, &new.digest)?;
+    Ok(Entry { stem, yanked })
 }
 
 /// An entry of metadata with an empty archive, yanked where the text begins with `yanked:`.
 fn entry(alloc: Global, text: &str) -> Result<Entry, ManifestFault> {
-    let (json, yanked) = match text.strip_prefix("yanked:") {
-        Some(json) => (json, true),
-        None => (text, false),
-    };
-    let new = published(alloc, json)?;
-    let stem = stem(alloc, &new.manifest, &new.digest)?;
-    Ok(Entry { stem, yanked })
+    match text.strip_prefix("yanked:") {
+        Some(json) => entry_of(alloc, json, true),
+        None => entry_of(alloc, text, false),
+    }
 }
 
 fn entries(alloc: Global, texts: &str) -> Result<Vec<Entry>, ManifestFault> {
@@ -61,7 +64,7 @@ fn entries(alloc: Global, texts: &str) -> Result<Vec<Entry>, ManifestFault> {
 fn file_of(alloc: Global, texts: &str) -> Result<String, AllocError> {
     match entries(alloc, texts) {
         Ok(entries) => counted(alloc, &file(alloc, &entries)?),
-        Err(fault) => format!(in alloc; "{fault:?}"),
+        Err(fault) => shown(alloc, &fault),
     }
 }
 
@@ -69,22 +72,23 @@ fn config_of(alloc: Global, base: &str) -> Result<String, AllocError> {
     counted(alloc, &config(alloc, base)?)
 }
 
-pub(crate) fn of_lines(alloc: Global, word: &str, text: &str) -> Answered {
-    Some(match word {
+/// What a call is answered that is none on names and on a publish's parts.
+pub(crate) fn of_lines(alloc: Global, word: &str, text: &str) -> Result<String, AllocError> {
+    match word {
         "digest" => digest(alloc, text),
         "line" => line_of(alloc, text, false),
         "yanked-line" => line_of(alloc, text, true),
         "stem" => stem_of(alloc, text),
         "file" => file_of(alloc, text),
         "config" => config_of(alloc, text),
-        _ => return None,
-    })
+        _ => of_stems(alloc, word, text),
+    }
 }
 
 /// The length of a line by that of its stem.
 fn length(alloc: Global, text: &str, yanked: bool) -> Result<String, AllocError> {
     match text.parse() {
-        Ok(stem) => format!(in alloc; "{:?}", line_len(stem, yanked)),
+        Ok(stem) => shown(alloc, &line_len(stem, yanked)),
         Err(_) => String::from_str(alloc, "no number"),
     }
 }
@@ -101,12 +105,13 @@ fn checked(alloc: Global, text: &str) -> Result<String, AllocError> {
     )
 }
 
-pub(crate) fn of_stems(alloc: Global, word: &str, text: &str) -> Answered {
-    Some(match word {
+/// What a call is answered that is none on lines either.
+fn of_stems(alloc: Global, word: &str, text: &str) -> Result<String, AllocError> {
+    match word {
         "line-length" => length(alloc, text, false),
         "yanked-line-length" => length(alloc, text, true),
         "is-base" => yes(alloc, is_base(text)),
         "check-stem" => checked(alloc, text),
-        _ => return None,
-    })
+        _ => of_conversions(alloc, word, text),
+    }
 }

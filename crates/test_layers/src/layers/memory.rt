@@ -4,15 +4,22 @@
 
 use reg_body::{JoinFault, join};
 use reg_line::{Entry, check_stem, config, digest_of, file, line, stem};
-use reg_manifest::{ManifestFault, read_manifest};
+use reg_manifest::{Manifest, ManifestFault, read_manifest};
 use reg_names::{Pattern, compile};
 use reg_versions::{Release, VersionFault};
 use std::alloc::{AllocError, Global};
+use std::process::Abort;
 use std::test::Fail;
 use test_support::examples::RENAMED_JSON;
 use test_support::scarce_memory::Amounts;
 
 const COUNT: u32 = 1500;
+
+/// A call that can answer want of memory.
+pub(crate) trait Call {
+    /// Whether it answers as it does with ample memory.
+    fn answers(&self, alloc: Global) -> Result<bool, AllocError>;
+}
 
 /// How often the answer with ample memory came, the want of memory, and another answer.
 #[derive(Clone, Copy)]
@@ -32,7 +39,7 @@ impl Tally {
     }
 
     /// Both the answer and the want came, and nothing else.
-    pub(crate) fn is_right(&self) -> bool {
+    fn is_right(&self) -> bool {
         self.answers > 5 && self.wants > 5 && self.others == 0
     }
 
@@ -42,140 +49,206 @@ impl Tally {
     }
 }
 
+/// Runs a call with so many amounts of memory.
+fn run<C: Call>(
+    alloc: Global,
+    count: u32,
+    step: u32,
+    call: &C,
+    tally: &mut Tally,
+) -> Result<(), AllocError> {
+    let mut amounts = Amounts::new(alloc, count, step)?;
+    for _ in 0..count {
+        if amounts.advance(alloc) {
+            tally.add(call.answers(alloc));
+        }
+    }
+    Ok(())
+}
+
 /// Runs a call with each amount of memory, beginning with none.
-///
-/// It tells whether its answer is the one with ample memory.
-pub(crate) fn each_amount<F: Fn(Global) -> Result<bool, AllocError>>(
+pub(crate) fn each_amount<C: Call>(
     alloc: Global,
     step: u32,
-    call: F,
-) -> Result<Tally, AllocError>
-    requires { F.IsAlwaysCallable call }
-{
+    call: &C,
+) -> Result<Tally, AllocError> {
     let mut tally = Tally {
         answers: 0,
         wants: 0,
         others: 0,
     };
-    let mut none = Amounts::new(alloc, 1, 0)?;
-    if none.advance(alloc) {
-        tally.add(call(alloc));
-    }
-    drop(none);
-    let mut amounts = Amounts::new(alloc, COUNT, step)?;
-    for _ in 0..COUNT {
-        if !amounts.advance(alloc) {
-            break;
-        }
-        tally.add(call(alloc));
-    }
-    drop(amounts);
+    run(alloc, 1, 0, call, &mut tally)?;
+    run(alloc, COUNT, step, call, &mut tally)?;
     Ok(tally)
+}
+
+/// Runs a call with each amount of memory: fails where anything but its answer and the want came,
+/// or one of these did not.
+pub(crate) fn try_each<R: Abort + AllocGlobal, C: Call>(rt: &R, step: u32, call: &C) {
+    match each_amount(rt.alloc(), step, call) {
+        Ok(tally) => assert!(rt; tally.is_right()),
+        Err(_) => panic!(rt; "no memory"),
+    }
 }
 
 const LONG_VERSION: &str =
     "1.0.0-alpha.beta.gamma.delta.epsilon.zeta.eta+a.build.of.some.length.that.takes.memory";
 
-fn reads_a_version(alloc: Global) -> Result<bool, AllocError> {
-    match Release::parse(alloc, LONG_VERSION) {
-        Ok(_) => Ok(true),
-        Err(VersionFault::Memory) => Err(AllocError),
-        Err(VersionFault::Bad) => Ok(false),
+struct ReadingAVersion;
+
+impl Call for ReadingAVersion {
+    fn answers(&self, alloc: Global) -> Result<bool, AllocError> {
+        match Release::parse(alloc, LONG_VERSION) {
+            Ok(_) => Ok(true),
+            Err(VersionFault::Memory) => Err(AllocError),
+            Err(VersionFault::Bad) => Ok(false),
+        }
     }
 }
 
 #[test]
-fn reading_a_version(rt: HostRuntime) -> Result<(), Fail> {
-    let tally = each_amount(rt.alloc(), 16, |alloc| reads_a_version(alloc))?;
-    assert!(rt; tally.is_right());
-    Ok(())
+fn reading_a_version(rt: HostRuntime) {
+    try_each(&rt, 16, &ReadingAVersion);
 }
 
-#[test]
-fn compiling_a_pattern(rt: HostRuntime) -> Result<(), Fail> {
-    let text = "a-pattern-of-some-length-whose-range-takes-memory-for-two-texts*";
-    let pattern = Pattern::parse(text).ok_or("a pattern")?;
-    let tally = each_amount(rt.alloc(), 16, |alloc| {
-        Ok(compile(alloc, &pattern)?.high.as_str().len() == 64)
-    })?;
-    assert!(rt; tally.is_right());
-    Ok(())
-}
+struct CompilingAPattern;
 
-fn joins_a_body(alloc: Global) -> Result<bool, AllocError> {
-    match join(alloc, RENAMED_JSON.as_bytes(), b"abc") {
-        Ok(body) => Ok(body.len() == RENAMED_JSON.len() + 11),
-        Err(JoinFault::Memory) => Err(AllocError),
-        Err(JoinFault::TooLong) => Ok(false),
+impl Call for CompilingAPattern {
+    fn answers(&self, alloc: Global) -> Result<bool, AllocError> {
+        let text = "a-pattern-of-some-length-whose-range-takes-memory-for-two-texts*";
+        match Pattern::parse(text) {
+            Some(pattern) => Ok(compile(alloc, &pattern)?.high.as_str().len() == 64),
+            None => Ok(false),
+        }
     }
 }
 
 #[test]
-fn joining_a_body(rt: HostRuntime) -> Result<(), Fail> {
-    let tally = each_amount(rt.alloc(), 16, |alloc| joins_a_body(alloc))?;
-    assert!(rt; tally.is_right());
-    Ok(())
+fn compiling_a_pattern(rt: HostRuntime) {
+    try_each(&rt, 16, &CompilingAPattern);
 }
 
-fn reads_metadata(alloc: Global) -> Result<bool, AllocError> {
-    match read_manifest(alloc, RENAMED_JSON.as_bytes()) {
-        Ok(manifest) => Ok(manifest.features.len() == 2 && manifest.deps.len() == 1),
-        Err(ManifestFault::Memory) => Err(AllocError),
-        Err(_) => Ok(false),
+struct JoiningABody;
+
+impl Call for JoiningABody {
+    fn answers(&self, alloc: Global) -> Result<bool, AllocError> {
+        match join(alloc, RENAMED_JSON.as_bytes(), b"abc") {
+            Ok(body) => Ok(body.len() == RENAMED_JSON.len() + 11),
+            Err(JoinFault::Memory) => Err(AllocError),
+            Err(JoinFault::TooLong) => Ok(false),
+        }
     }
 }
 
 #[test]
-fn reading_metadata(rt: HostRuntime) -> Result<(), Fail> {
-    let tally = each_amount(rt.alloc(), 16, |alloc| reads_metadata(alloc))?;
-    assert!(rt; tally.is_right());
-    Ok(())
+fn joining_a_body(rt: HostRuntime) {
+    try_each(&rt, 16, &JoiningABody);
+}
+
+struct ReadingMetadata;
+
+impl Call for ReadingMetadata {
+    fn answers(&self, alloc: Global) -> Result<bool, AllocError> {
+        match read_manifest(alloc, RENAMED_JSON.as_bytes()) {
+            Ok(manifest) => Ok(manifest.features.len() == 2 && manifest.deps.len() == 1),
+            Err(ManifestFault::Memory) => Err(AllocError),
+            Err(_) => Ok(false),
+        }
+    }
+}
+
+#[test]
+fn reading_metadata(rt: HostRuntime) {
+    try_each(&rt, 16, &ReadingMetadata);
+}
+
+/// A manifest, and its line with the archive `abc`.
+#[derive(Drop)]
+struct Written {
+    manifest: Manifest,
+    line: Vec<u8>,
+}
+
+fn write_line(alloc: Global) -> Result<Written, Fail> {
+    let manifest = read_manifest(alloc, RENAMED_JSON.as_bytes())?;
+    let line = line(alloc, &manifest, &digest_of(b"abc"), false)?;
+    Ok(Written { manifest, line })
+}
+
+#[derive(Clone, Copy)]
+struct WritingAStem<'a>(&'a Written);
+
+impl Call for WritingAStem<'_> {
+    fn answers(&self, alloc: Global) -> Result<bool, AllocError> {
+        let found = stem(alloc, &self.0.manifest, &digest_of(b"abc"))?;
+        Ok(self.0.line.as_slice().starts_with(found.as_slice()))
+    }
+}
+
+#[derive(Clone, Copy)]
+struct WritingALine<'a>(&'a Written);
+
+impl Call for WritingALine<'_> {
+    fn answers(&self, alloc: Global) -> Result<bool, AllocError> {
+        let found = line(alloc, &self.0.manifest, &digest_of(b"abc"), false)?;
+        Ok(found.as_slice() == self.0.line.as_slice())
+    }
 }
 
 #[test]
 fn writing_a_stem_and_a_line(rt: HostRuntime) -> Result<(), Fail> {
-    let manifest = read_manifest(rt.alloc(), RENAMED_JSON.as_bytes())?;
-    let digest = digest_of(b"abc");
-    let whole = line(rt.alloc(), &manifest, &digest, false)?;
-    let stems = each_amount(rt.alloc(), 16, |alloc| {
-        let found = stem(alloc, &manifest, &digest)?;
-        Ok(whole.as_slice().starts_with(found.as_slice()))
-    })?;
-    assert!(rt; stems.is_right());
-    let lines = each_amount(rt.alloc(), 16, |alloc| {
-        Ok(line(alloc, &manifest, &digest, false)?.as_slice() == whole.as_slice())
-    })?;
-    assert!(rt; lines.is_right());
+    let written = write_line(rt.alloc())?;
+    try_each(&rt, 16, &WritingAStem(&written));
+    try_each(&rt, 16, &WritingALine(&written));
     Ok(())
+}
+
+fn kept_stem(alloc: Global) -> Result<Vec<u8>, Fail> {
+    let manifest = read_manifest(alloc, RENAMED_JSON.as_bytes())?;
+    Ok(stem(alloc, &manifest, &digest_of(b"abc"))?)
+}
+
+#[derive(Clone, Copy)]
+struct CheckingAStem<'a>(&'a [u8]);
+
+impl Call for CheckingAStem<'_> {
+    fn answers(&self, alloc: Global) -> Result<bool, AllocError> {
+        check_stem(alloc, self.0, "acme-net", "1.0.0-rc.1", &digest_of(b"abc"))
+    }
 }
 
 #[test]
 fn checking_a_stem(rt: HostRuntime) -> Result<(), Fail> {
-    let manifest = read_manifest(rt.alloc(), RENAMED_JSON.as_bytes())?;
-    let digest = digest_of(b"abc");
-    let kept = stem(rt.alloc(), &manifest, &digest)?;
-    let tally = each_amount(rt.alloc(), 32, |alloc| {
-        check_stem(alloc, kept.as_slice(), "acme-net", "1.0.0-rc.1", &digest)
-    })?;
-    assert!(rt; tally.is_right());
+    let kept = kept_stem(rt.alloc())?;
+    try_each(&rt, 32, &CheckingAStem(&kept));
     Ok(())
+}
+
+/// The writing of a file of these entries, which has so many bytes.
+#[derive(Clone, Copy)]
+struct WritingAFile<'a>(&'a [Entry], usize);
+
+impl Call for WritingAFile<'_> {
+    fn answers(&self, alloc: Global) -> Result<bool, AllocError> {
+        Ok(file(alloc, self.0)?.len() == self.1)
+    }
+}
+
+struct WritingTheConfig;
+
+impl Call for WritingTheConfig {
+    fn answers(&self, alloc: Global) -> Result<bool, AllocError> {
+        Ok(config(alloc, "http://127.0.0.1:8080")?.len() == 95)
+    }
 }
 
 #[test]
 fn writing_a_file_and_the_config(rt: HostRuntime) -> Result<(), Fail> {
-    let manifest = read_manifest(rt.alloc(), RENAMED_JSON.as_bytes())?;
-    let stem = stem(rt.alloc(), &manifest, &digest_of(b"abc"))?;
+    let stem = kept_stem(rt.alloc())?;
     let len = stem.len().saturating_add(6);
-    let entries = [Entry { stem, yanked: true }];
-    let files = each_amount(
-        rt.alloc(),
-        16,
-        |alloc| Ok(file(alloc, &entries)?.len() == len),
-    )?;
-    assert!(rt; files.is_right());
-    let configs = each_amount(rt.alloc(), 16, |alloc| {
-        Ok(config(alloc, "http://127.0.0.1:8080")?.len() == 95)
-    })?;
-    assert!(rt; configs.is_right());
+    let mut entries = Vec::new(rt.alloc());
+    entries.push(Entry { stem, yanked: true })?;
+    try_each(&rt, 16, &WritingAFile(&entries, len));
+    try_each(&rt, 16, &WritingTheConfig);
     Ok(())
 }

@@ -1,15 +1,21 @@
 //! Calls on names, patterns and logins.
 
-use crate::layers::calls::Answered;
+use crate::layers::part_calls::of_versions;
 use reg_names::{
     Pattern, canon, collides, compile, covers, in_range, index_path, lower, name_of_path,
     parse_login, parse_name,
 };
 use std::alloc::{AllocError, Global};
+use std::fmt::Debug;
 
 /// A yes or a no as a text.
 pub(crate) fn yes(alloc: Global, holds: bool) -> Result<String, AllocError> {
     String::from_str(alloc, if holds { "yes" } else { "no" })
+}
+
+/// A value as it is written for a programmer.
+pub(crate) fn shown<T: Debug>(alloc: Global, value: &T) -> Result<String, AllocError> {
+    format!(in alloc; "{value:?}")
 }
 
 fn none(alloc: Global) -> Result<String, AllocError> {
@@ -59,8 +65,9 @@ fn collide(alloc: Global, text: &str) -> Result<String, AllocError> {
     }
 }
 
-pub(crate) fn of_names(alloc: Global, word: &str, text: &str) -> Answered {
-    Some(match word {
+/// What a call is answered: one on names, or another.
+pub(crate) fn of_names(alloc: Global, word: &str, text: &str) -> Result<String, AllocError> {
+    match word {
         "length" => format!(in alloc; "{}", text.len()),
         "parse-name" => name(alloc, text),
         "index-path" => path(alloc, text),
@@ -68,8 +75,8 @@ pub(crate) fn of_names(alloc: Global, word: &str, text: &str) -> Answered {
         "canon" => canon_name(alloc, text),
         "name-of-path" => path_name(alloc, text),
         "collides" => collide(alloc, text),
-        _ => return None,
-    })
+        _ => of_patterns(alloc, word, text),
+    }
 }
 
 fn pattern(alloc: Global, text: &str) -> Result<String, AllocError> {
@@ -114,13 +121,14 @@ fn login(alloc: Global, text: &str) -> Result<String, AllocError> {
     }
 }
 
-pub(crate) fn of_patterns(alloc: Global, word: &str, text: &str) -> Answered {
-    Some(match word {
+/// What a call is answered that is none on names.
+fn of_patterns(alloc: Global, word: &str, text: &str) -> Result<String, AllocError> {
+    match word {
         "parse-pattern" => pattern(alloc, text),
         "covers" => covered(alloc, text),
         "compile" => compiled(alloc, text),
         "in-range" => ranged(alloc, text),
         "parse-login" => login(alloc, text),
-        _ => return None,
-    })
+        _ => of_versions(alloc, word, text),
+    }
 }

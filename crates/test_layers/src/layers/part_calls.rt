@@ -1,9 +1,9 @@
 //! Calls on versions, bodies and metadata.
 
 use crate::layers::bytes::{bytes_of, counted};
-use crate::layers::calls::Answered;
+use crate::layers::line_calls::of_lines;
 use crate::layers::manifest_text::manifest_text;
-use crate::layers::name_calls::yes;
+use crate::layers::name_calls::{shown, yes};
 use reg_body::{JoinFault, Limits, join, split};
 use reg_manifest::read_manifest;
 use reg_versions::{Release, VersionFault, highest, release_key, same_release};
@@ -12,7 +12,7 @@ use std::alloc::{AllocError, Global};
 fn release(alloc: Global, text: &str) -> Result<String, AllocError> {
     match Release::parse(alloc, text) {
         Ok(_) => String::from_str(alloc, "a release"),
-        Err(fault) => format!(in alloc; "{fault:?}"),
+        Err(fault) => shown(alloc, &fault),
     }
 }
 
@@ -21,16 +21,18 @@ fn same(alloc: Global, text: &str) -> Result<String, AllocError> {
     yes(alloc, same_release(one, other))
 }
 
-/// Releases, each yanked where its text begins with `yanked:`.
+/// A release, yanked where its text begins with `yanked:`.
+fn marked(alloc: Global, text: &str) -> Result<(Release, bool), VersionFault> {
+    match text.strip_prefix("yanked:") {
+        Some(version) => Ok((Release::parse(alloc, version)?, true)),
+        None => Ok((Release::parse(alloc, text)?, false)),
+    }
+}
+
 fn releases(alloc: Global, texts: &str) -> Result<Vec<(Release, bool)>, VersionFault> {
     let mut releases = Vec::new(alloc);
     for text in texts.split_whitespace() {
-        let (version, yanked) = match text.strip_prefix("yanked:") {
-            Some(version) => (version, true),
-            None => (text, false),
-        };
-        let release = Release::parse(alloc, version)?;
-        if releases.push((release, yanked)).is_err() {
+        if releases.push(marked(alloc, text)?).is_err() {
             return Err(VersionFault::Memory);
         }
     }
@@ -40,19 +42,20 @@ fn releases(alloc: Global, texts: &str) -> Result<Vec<(Release, bool)>, VersionF
 /// The place of the highest, from 0 on.
 fn place(alloc: Global, texts: &str) -> Result<String, AllocError> {
     match releases(alloc, texts) {
-        Ok(releases) => format!(in alloc; "{:?}", highest(&releases)),
-        Err(fault) => format!(in alloc; "{fault:?}"),
+        Ok(releases) => shown(alloc, &highest(&releases)),
+        Err(fault) => shown(alloc, &fault),
     }
 }
 
-pub(crate) fn of_versions(alloc: Global, word: &str, text: &str) -> Answered {
-    Some(match word {
+/// What a call is answered that is none on names and patterns.
+pub(crate) fn of_versions(alloc: Global, word: &str, text: &str) -> Result<String, AllocError> {
+    match word {
         "parse-version" => release(alloc, text),
         "release-key" => String::from_str(alloc, release_key(text)),
         "same-release" => same(alloc, text),
         "highest" => place(alloc, text),
-        _ => return None,
-    })
+        _ => of_bodies(alloc, word, text),
+    }
 }
 
 /// A body of the metadata and the archive that a `|` separates.
@@ -73,7 +76,7 @@ fn parts(alloc: Global, bytes: &[u8], limits: &Limits) -> Result<String, AllocEr
             let archive = counted(alloc, archive)?;
             format!(in alloc; "{json}|{archive}")
         }
-        Err(fault) => format!(in alloc; "{fault:?}"),
+        Err(fault) => shown(alloc, &fault),
     }
 }
 
@@ -93,26 +96,27 @@ fn limited(alloc: Global, text: &str) -> Result<String, AllocError> {
     parts_of(alloc, body, &limits)
 }
 
-pub(crate) fn of_bodies(alloc: Global, word: &str, text: &str) -> Answered {
-    Some(match word {
+/// What a call is answered that is none on versions either.
+fn of_bodies(alloc: Global, word: &str, text: &str) -> Result<String, AllocError> {
+    match word {
         "join" => joined(alloc, text),
         "split" => parts_of(alloc, text, &Limits::STANDARD),
         "split-within" => limited(alloc, text),
-        _ => return None,
-    })
+        _ => of_manifests(alloc, word, text),
+    }
 }
 
 fn manifest(alloc: Global, json: &[u8]) -> Result<String, AllocError> {
     match read_manifest(alloc, json) {
         Ok(manifest) => manifest_text(alloc, &manifest),
-        Err(fault) => format!(in alloc; "{fault:?}"),
+        Err(fault) => shown(alloc, &fault),
     }
 }
 
 fn fault(alloc: Global, json: &[u8]) -> Result<String, AllocError> {
     match read_manifest(alloc, json) {
         Ok(_) => String::from_str(alloc, "none"),
-        Err(fault) => format!(in alloc; "{fault:?}"),
+        Err(fault) => shown(alloc, &fault),
     }
 }
 
@@ -124,21 +128,24 @@ fn fault_of(alloc: Global, text: &str) -> Result<String, AllocError> {
     fault(alloc, &bytes_of(alloc, text)?)
 }
 
-/// The fault of metadata with an unknown field of so many nested lists.
-fn nested(alloc: Global, levels: &str) -> Result<String, AllocError> {
-    let levels: usize = levels.parse().unwrap_or(0);
-    let mut json = String::from_str(alloc, "{\"name\":\"a\",\"vers\":\"1.0.0\",\"x\":")?;
-    json.push_str(&"[".repeat(alloc, levels)?)?;
-    json.push_str(&"]".repeat(alloc, levels)?)?;
-    json.push('}')?;
-    fault(alloc, json.as_bytes())
+/// Metadata with an unknown field of so many nested lists.
+pub(crate) fn nested_json(alloc: Global, levels: &str) -> Result<String, AllocError> {
+    let levels = levels.parse().unwrap_or(0);
+    let opened = "[".repeat(alloc, levels)?;
+    let closed = "]".repeat(alloc, levels)?;
+    format!(in alloc; "{{\"name\":\"a\",\"vers\":\"1.0.0\",\"x\":{opened}{closed}}}")
 }
 
-pub(crate) fn of_manifests(alloc: Global, word: &str, text: &str) -> Answered {
-    Some(match word {
+fn nested(alloc: Global, levels: &str) -> Result<String, AllocError> {
+    fault(alloc, nested_json(alloc, levels)?.as_bytes())
+}
+
+/// What a call is answered that is none on bodies either.
+fn of_manifests(alloc: Global, word: &str, text: &str) -> Result<String, AllocError> {
+    match word {
         "read-manifest" => manifest_of(alloc, text),
         "fault" => fault_of(alloc, text),
         "fault-of-nested" => nested(alloc, text),
-        _ => return None,
-    })
+        _ => of_lines(alloc, word, text),
+    }
 }

@@ -3,7 +3,7 @@
 use crate::policy::texts::rule_named;
 use reg_body::Limits;
 use reg_names::{CrateName, Pattern, parse_name};
-use reg_policy::{Action, Decision, Endpoints, OwnerRow, Rows, TokenFacts, decide};
+use reg_policy::{Action, Decision, Endpoints, OwnerRow, Rows, Rule, TokenFacts, decide};
 
 /// Stands for no rule.
 const NONE: &str = "-";
@@ -36,7 +36,12 @@ impl Case<'_> {
 
     /// Whether the rule is one of the action's, or none.
     fn is_own(&self, rule: &str) -> bool {
-        rule == NONE || self.rules.split(' ').any(|own| own == rule)
+        for own in self.rules.split(' ') {
+            if own == rule {
+                return true;
+            }
+        }
+        rule == NONE
     }
 
     /// Whether breaking the first rule means more than that.
@@ -79,16 +84,21 @@ impl Case<'_> {
     }
 
     /// The first of the action's rules that is broken.
-    fn wanted(&self) -> Decision {
-        let first = self.rules.split(' ').find(|rule| self.is_broken(rule));
-        match first.and_then(rule_named) {
-            Some(rule) => Decision::Denied(rule),
-            None => Decision::Allowed,
+    fn wanted(&self) -> Option<Rule> {
+        for rule in self.rules.split(' ') {
+            if self.is_broken(rule) {
+                return rule_named(rule);
+            }
         }
+        None
     }
 
     pub(crate) fn is_right(&self) -> bool {
-        self.decided() == Some(self.wanted())
+        match (self.decided(), self.wanted()) {
+            (Some(Decision::Denied(found)), Some(want)) => found == want,
+            (Some(Decision::Allowed), None) => true,
+            _ => false,
+        }
     }
 
     /// Just the endpoint that the action needs, or all others.

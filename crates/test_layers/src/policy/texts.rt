@@ -66,17 +66,21 @@ fn begins(text: &str, word: &str) -> bool {
 
 /// The rule whose text begins with this name.
 pub(crate) fn rule_named(name: &str) -> Option<Rule> {
-    RULES
-        .iter()
-        .copied()
-        .find(|rule| begins(rule_text(*rule), name))
+    for rule in &RULES {
+        if begins(rule_text(*rule), name) {
+            return Some(*rule);
+        }
+    }
+    None
 }
 
 fn refusal_named(name: &str) -> Option<AdminRefusal> {
-    REFUSALS
-        .iter()
-        .copied()
-        .find(|refusal| begins(admin_text(*refusal), name))
+    for refusal in &REFUSALS {
+        if begins(admin_text(*refusal), name) {
+            return Some(*refusal);
+        }
+    }
+    None
 }
 
 /// What a refusal is told: its name, of a rule its status, and its text.
