@@ -39,18 +39,15 @@ fn stem_of(alloc: Global, text: &str) -> Result<String, AllocError> {
     }
 }
 
-fn entry_of(alloc: Global, json: &str, yanked: bool) -> Result<Entry, ManifestFault> {
+/// An entry of metadata with an empty archive, yanked where the text begins with `yanked:`.
+fn entry(alloc: Global, text: &str) -> Result<Entry, ManifestFault> {
+    let (json, yanked) = match text.strip_prefix("yanked:") {
+        Some(json) => (json, true),
+        None => (text, false),
+    };
     let new = published(alloc, json)?;
     let stem = stem(alloc, &new.manifest, &new.digest)?;
     Ok(Entry { stem, yanked })
-}
-
-/// An entry of metadata with an empty archive, yanked where the text begins with `yanked:`.
-fn entry(alloc: Global, text: &str) -> Result<Entry, ManifestFault> {
-    match text.strip_prefix("yanked:") {
-        Some(json) => entry_of(alloc, json, true),
-        None => entry_of(alloc, text, false),
-    }
 }
 
 fn entries(alloc: Global, texts: &str) -> Result<Vec<Entry>, ManifestFault> {

@@ -21,18 +21,16 @@ fn same(alloc: Global, text: &str) -> Result<String, AllocError> {
     yes(alloc, same_release(one, other))
 }
 
-/// A release, yanked where its text begins with `yanked:`.
-fn marked(alloc: Global, text: &str) -> Result<(Release, bool), VersionFault> {
-    match text.strip_prefix("yanked:") {
-        Some(version) => Ok((Release::parse(alloc, version)?, true)),
-        None => Ok((Release::parse(alloc, text)?, false)),
-    }
-}
-
+/// Releases, each yanked where its text begins with `yanked:`.
 fn releases(alloc: Global, texts: &str) -> Result<Vec<(Release, bool)>, VersionFault> {
     let mut releases = Vec::new(alloc);
     for text in texts.split_whitespace() {
-        if releases.push(marked(alloc, text)?).is_err() {
+        let (version, yanked) = match text.strip_prefix("yanked:") {
+            Some(version) => (version, true),
+            None => (text, false),
+        };
+        let release = Release::parse(alloc, version)?;
+        if releases.push((release, yanked)).is_err() {
             return Err(VersionFault::Memory);
         }
     }

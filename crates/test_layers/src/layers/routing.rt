@@ -3,7 +3,7 @@
 //! A line of the script is a method and a target, an arrow, and what is asked for or refused, its
 //! parts between bars.
 
-use crate::layers::memory::{Call, Tally, each_amount, try_each};
+use crate::layers::memory::{Call, each_amount, try_each};
 use reg_api_replies::Methods;
 use reg_api_requests::{ApiCall, ApiRequest};
 use reg_body::Limits;
@@ -64,26 +64,22 @@ fn given<'a>(text: &'a Option<CowStr<'_>>) -> &'a [u8] {
     }
 }
 
-/// The word of what is asked for, and its parts.
-fn asked_for<'a>(call: &'a ApiCall<'_>) -> (&'static str, &'a [u8], &'a [u8]) {
-    match call {
-        ApiCall::Config => ("config", b"", b""),
-        ApiCall::Index(path) => ("index", path.as_slice(), b""),
-        ApiCall::Download(name, vers) => ("download", name.as_slice(), vers.as_slice()),
-        ApiCall::Yank(name, vers) => ("yank", name.as_slice(), vers.as_slice()),
-        ApiCall::Unyank(name, vers) => ("unyank", name.as_slice(), vers.as_slice()),
-        ApiCall::ListOwners(name) => ("owners", name.as_slice(), b""),
-        ApiCall::Publish(body) => ("publish", body, b""),
-        ApiCall::AddOwners(name, body) => ("add", name.as_slice(), body),
-        ApiCall::RemoveOwners(name, body) => ("remove", name.as_slice(), body),
-        ApiCall::Search { q, per_page } => ("search", given(q), given(per_page)),
-    }
-}
-
 /// Whether this is what is asked for.
 fn is_asked(call: &ApiCall<'_>, told: &str) -> bool {
-    let (word, one, other) = asked_for(call);
-    is_told(told, word, one, other)
+    match call {
+        ApiCall::Config => is_told(told, "config", b"", b""),
+        ApiCall::Index(path) => is_told(told, "index", path.as_slice(), b""),
+        ApiCall::Download(name, vers) => {
+            is_told(told, "download", name.as_slice(), vers.as_slice())
+        }
+        ApiCall::Yank(name, vers) => is_told(told, "yank", name.as_slice(), vers.as_slice()),
+        ApiCall::Unyank(name, vers) => is_told(told, "unyank", name.as_slice(), vers.as_slice()),
+        ApiCall::ListOwners(name) => is_told(told, "owners", name.as_slice(), b""),
+        ApiCall::Publish(body) => is_told(told, "publish", body, b""),
+        ApiCall::AddOwners(name, body) => is_told(told, "add", name.as_slice(), body),
+        ApiCall::RemoveOwners(name, body) => is_told(told, "remove", name.as_slice(), body),
+        ApiCall::Search { q, per_page } => is_told(told, "search", given(q), given(per_page)),
+    }
 }
 
 fn allowed(methods: Methods) -> &'static [u8] {
@@ -95,15 +91,12 @@ fn allowed(methods: Methods) -> &'static [u8] {
     }
 }
 
-/// Whether this is a request of token `abc` for what is told.
-fn is_request(request: &ApiRequest<'_>, told: &str) -> bool {
-    request.token == Some(b"abc".as_slice()) && is_asked(&request.call, told)
-}
-
 /// Whether a request of token `abc` is routed as told.
 fn is_routed(answer: Result<ApiRequest<'_>, RouteFault>, told: &str) -> Result<bool, AllocError> {
     match answer {
-        Ok(request) => Ok(is_request(&request, told)),
+        Ok(request) => {
+            Ok(request.token == Some(b"abc".as_slice()) && is_asked(&request.call, told))
+        }
         Err(RouteFault::NoRoute) => Ok(told == "H6"),
         Err(RouteFault::Method(methods)) => Ok(is_told(told, "H7", allowed(methods), b"")),
         Err(RouteFault::Memory) => Err(AllocError),
@@ -131,36 +124,25 @@ impl Call for RoutingTold<'_> {
     }
 }
 
-/// How often the request in these bytes is routed as told.
-fn tally_of(alloc: Global, routes: &Routes, bytes: &[u8], told: &str) -> Result<Tally, Fail> {
-    let head = &head_of(alloc, bytes)?;
-    Ok(each_amount(alloc, 16, &RoutingTold { routes, head, told })?)
-}
-
 /// Whether a line of the script holds with each amount of memory; for some it is too little
 /// exactly if something is decoded.
 fn holds(alloc: Global, routes: &Routes, line: &str) -> Result<bool, Fail> {
     let (asked, told) = line.split_once(" -> ").unwrap_or((line, "no arrow"));
     let bytes = format!(in alloc; "{asked} HTTP/1.1\r\nhost: r\r\nauthorization: abc\r\n\r\n")?;
-    let tally = tally_of(alloc, routes, bytes.as_bytes(), told)?;
+    let head = &head_of(alloc, bytes.as_bytes())?;
+    let tally = each_amount(alloc, 16, &RoutingTold { routes, head, told })?;
     let decodes = !told.starts_with('H') && asked.contains(['%', '+']);
     Ok(tally.is_right_if(decodes))
-}
-
-/// Fails with the first line of the script that does not hold.
-fn all_hold(alloc: Global, routes: &Routes) -> Result<(), Fail> {
-    for line in ROUTES.lines() {
-        if !holds(alloc, routes, line)? {
-            return Err(Fail::new(String::from_str(alloc, line)?));
-        }
-    }
-    Ok(())
 }
 
 #[test]
 fn routing(rt: HostRuntime) -> Result<(), Fail> {
     let routes = Routes::new(rt.alloc())?;
-    all_hold(rt.alloc(), &routes)
+    for line in ROUTES.lines() {
+        let is_right = holds(rt.alloc(), &routes, line)?;
+        assert!(rt; is_right, "{line}");
+    }
+    Ok(())
 }
 
 /// The making of routes for a request.

@@ -42,38 +42,20 @@ fn look(
     texts.push('\n')
 }
 
-fn look_at_report(
-    alloc: Global,
-    texts: &mut String,
-    registry: &mut PlainRegistry,
-    command: AdminCommand,
-) -> Result<(), AllocError> {
-    look(alloc, texts, registry, &Event::Order(command))
-}
-
 /// Adds what the administrator sees: accounts, tokens, crates, and who may act on two of them.
 fn look_at_reports(
     alloc: Global,
     texts: &mut String,
     registry: &mut PlainRegistry,
 ) -> Result<(), AllocError> {
-    look_at_report(alloc, texts, registry, AdminCommand::Users)?;
-    look_at_report(alloc, texts, registry, AdminCommand::Tokens)?;
-    look_at_report(alloc, texts, registry, AdminCommand::Crates)?;
-    look_at_report(alloc, texts, registry, AdminCommand::Access("a"))?;
-    look_at_report(alloc, texts, registry, AdminCommand::Access("b"))
-}
-
-/// Adds an index file as the account of a token sees it.
-fn look_at_file(
-    alloc: Global,
-    texts: &mut String,
-    registry: &mut PlainRegistry,
-    [token, path]: [&str; 2],
-) -> Result<(), AllocError> {
-    let digest = digest_of(token.as_bytes());
-    let event = Event::Ask(Some(&digest), Asked::Index(path));
-    look(alloc, texts, registry, &event)
+    look(alloc, texts, registry, &Event::Order(AdminCommand::Users))?;
+    look(alloc, texts, registry, &Event::Order(AdminCommand::Tokens))?;
+    look(alloc, texts, registry, &Event::Order(AdminCommand::Crates))?;
+    for name in ["a", "b"] {
+        let event = Event::Order(AdminCommand::Access(name));
+        look(alloc, texts, registry, &event)?;
+    }
+    Ok(())
 }
 
 /// Adds what shows all that the steps below change: reports, and index files as ada and bob see
@@ -84,20 +66,12 @@ fn look_at_all(
     registry: &mut PlainRegistry,
 ) -> Result<(), AllocError> {
     look_at_reports(alloc, texts, registry)?;
-    look_at_file(alloc, texts, registry, ["abc", "1/a"])?;
-    look_at_file(alloc, texts, registry, ["abc", "1/b"])?;
-    look_at_file(alloc, texts, registry, [SECOND_TOKEN, "1/a"])
-}
-
-/// Adds what a registry answers to an event, and what shows all that is changed.
-fn look_after(
-    alloc: Global,
-    texts: &mut String,
-    registry: &mut PlainRegistry,
-    event: &Event,
-) -> Result<(), AllocError> {
-    look(alloc, texts, registry, event)?;
-    look_at_all(alloc, texts, registry)
+    for (token, path) in [("abc", "1/a"), ("abc", "1/b"), (SECOND_TOKEN, "1/a")] {
+        let digest = digest_of(token.as_bytes());
+        let event = Event::Ask(Some(&digest), Asked::Index(path));
+        look(alloc, texts, registry, &event)?;
+    }
+    Ok(())
 }
 
 /// What an event is answered where memory is wanting.
@@ -106,22 +80,6 @@ fn want(event: &Event) -> &'static str {
         Event::Ask(_, _) => "Denied(S1)\n",
         Event::Order(_) => "Refused(G10)\n",
     }
-}
-
-/// Adds what the registries answer, each with a greater amount of memory.
-fn add_scarce_answers(
-    alloc: Global,
-    registries: &mut [PlainRegistry],
-    event: &Event,
-    answers: &mut Vec<Answer>,
-) -> Result<(), AllocError> {
-    let mut amounts = Amounts::new(alloc, COUNT, STEP)?;
-    for registry in registries {
-        if amounts.advance(alloc) {
-            answers.push(registry.step(event))?;
-        }
-    }
-    Ok(())
 }
 
 /// What the registries answer, each with a greater amount of memory.
@@ -133,7 +91,12 @@ fn scarce_answers(
     event: &Event,
 ) -> Result<Vec<Answer>, AllocError> {
     let mut answers = Vec::with_capacity(alloc, COUNT as usize)?;
-    add_scarce_answers(alloc, registries, event, &mut answers)?;
+    let mut amounts = Amounts::new(alloc, COUNT, STEP)?;
+    for registry in registries {
+        if amounts.advance(alloc) {
+            answers.push(registry.step(event))?;
+        }
+    }
     Ok(answers)
 }
 
@@ -149,7 +112,8 @@ fn transcript(
     text.push('\n')?;
     look_at_all(alloc, &mut text, registry)?;
     if text.starts_with(want(event)) {
-        look_after(alloc, &mut text, registry, event)?;
+        look(alloc, &mut text, registry, event)?;
+        look_at_all(alloc, &mut text, registry)?;
     }
     Ok(text)
 }
@@ -167,7 +131,8 @@ impl Right {
         let mut of_want = String::from_str(alloc, want(event))?;
         look_at_all(alloc, &mut of_want, registry)?;
         let mut of_answer = String::new(alloc);
-        look_after(alloc, &mut of_answer, registry, event)?;
+        look(alloc, &mut of_answer, registry, event)?;
+        look_at_all(alloc, &mut of_answer, registry)?;
         Ok(Right { of_want, of_answer })
     }
 
@@ -181,18 +146,6 @@ impl Right {
         }
     }
 
-    /// Whether a registry has answered a want rightly, or the right answer; none where neither.
-    fn is_wanting(
-        &self,
-        alloc: Global,
-        registry: &mut PlainRegistry,
-        event: &Event,
-        answer: &Answer,
-    ) -> Result<Option<bool>, AllocError> {
-        let text = transcript(alloc, registry, event, answer)?;
-        Ok(self.is_want(&text))
-    }
-
     /// How many wants there are; none where something else came than they and the right answer.
     fn wants(
         &self,
@@ -203,7 +156,7 @@ impl Right {
     ) -> Result<Option<u32>, AllocError> {
         let mut wants: u32 = 0;
         for (registry, answer) in registries.iter_mut().zip(answers) {
-            match self.is_wanting(alloc, registry, event, answer)? {
+            match self.is_want(&transcript(alloc, registry, event, answer)?) {
                 Some(true) => wants = wants.saturating_add(1),
                 Some(false) => {}
                 None => return Ok(None),

@@ -64,8 +64,8 @@ impl<'a> Tally<'a> {
     }
 }
 
-/// How many cases of a kind there are, and whether all are decided rightly.
-fn tally_of<'a>(kind: &str, setting: &'a str) -> Tally<'a> {
+/// Tries all cases of a kind: fails unless there are so many, and all are decided rightly.
+fn try_all<R: Abort>(rt: &R, kind: &str, setting: &str, cases: u32) {
     let mut tally = Tally {
         cases: 0,
         wrong: None,
@@ -73,12 +73,6 @@ fn tally_of<'a>(kind: &str, setting: &'a str) -> Tally<'a> {
     for row in TABLE.lines() {
         tally.try_row(kind, setting, row);
     }
-    tally
-}
-
-/// Tries all cases of a kind: fails unless there are so many, and all are decided rightly.
-fn try_all<R: Abort>(rt: &R, kind: &str, setting: &str, cases: u32) {
-    let tally = tally_of(kind, setting);
     if let Some(wrong) = tally.wrong {
         panic!(rt; "{} with {} and {}", wrong.action, wrong.one, wrong.other);
     }

@@ -26,21 +26,15 @@ token-add bob publish-update,yank - bob -> Id(2)
 ada publish a 0.1.0 -> Granted
 ";
 
-/// Adds the words of a part: it is one where it stood in quotation marks.
-fn add_words<'a>(words: &mut Vec<&'a str>, part: &'a str, quoted: bool) -> Result<(), AllocError> {
-    if quoted {
-        words.push(part)?;
-    } else {
-        words.extend(part.split_whitespace())?;
-    }
-    Ok(())
-}
-
 /// The words of a line: those between spaces, and the texts in quotation marks.
 fn words_of<'a>(alloc: Global, text: &'a str) -> Result<Vec<&'a str>, AllocError> {
     let mut words = Vec::new(alloc);
     for (place, part) in text.split('"').enumerate() {
-        add_words(&mut words, part, place % 2 == 1)?;
+        if place % 2 == 1 {
+            words.push(part)?;
+        } else {
+            words.extend(part.split_whitespace())?;
+        }
     }
     Ok(words)
 }
