@@ -11,9 +11,3 @@ returns-clause-upgraded g c = search rules fits 300
 
 pub returns-clause-survives : goal.returns-clause-survives
 returns-clause-survives g c = search rules fits 100
-
-pub returns-in_err-commit-clause-refused : goal.returns-in_err-commit-clause-refused
-returns-in_err-commit-clause-refused g c = search rules fits 100
-
-pub returns-in_err-commit-clause-last : goal.returns-in_err-commit-clause-last
-returns-in_err-commit-clause-last g c = search rules fits 100
