@@ -1,6 +1,8 @@
 -- Questions to the tables, one after another, and from a text to what it tells.
 use Rattle.std.proofs.Common.{◌≡◌, ◌==◌, ◌∙◌, [], Bool, false, not, ℕ, List, length, Ok, Err, Result, IsErr, Option, arith, refl, sym, ap, subst}
 use Rattle.std.specs.List.Sorted.{IsPermutation}
+use Rattle.sqlite.specs.Given.{IsPlain}
+use Rattle.sqlite.specs.Listing.{understood}
 use Rattle.sqlite.specs.Order.{Row}
 use Rattle.sqlite.specs.Program.{overlay}
 use Rattle.sqlite.specs.Query.{Query, IsSureAnswer}
@@ -20,6 +22,10 @@ use Rattle.reg_tables.specs.Calling.{Asks}
 use Rattle.reg_access.specs.JoinRows.{is_there}
 use Rattle.reg_access.proofs.Answered.{there_found}
 use Rattle.reg_access.proofs.Calls.{called_err, called_ok, inside, itself_called, then_called}
+
+-- a text of the code is the text of a query
+pub plain_text : {text : List ℕ} {q : Query} {names : List (List ℕ)} → IsSelection ours text q names → (said : List ℕ) → said ≡ text → IsPlain (understood ours said)
+plain_text is said same = subst (λ t. IsPlain (understood ours t)) (sym same) is.plain
 
 module _ {S : Type 0} (g : Ghosts S) where
   -- an answer made into another, and a fault passed on
@@ -70,25 +76,25 @@ module _ {S : Type 0} (g : Ghosts S) where
       itself_unchanged : IsInside (seen g a) → IsUnchanged (seen g a) (seen g a)
       itself_unchanged here = (record { was_open = here.is_open; is_open = here.is_open; now_is = refl; committed_is = refl; mode = refl }, record { changes = refl; last_rowid = refl }, refl)
 
-  -- from the rows of a text to the rows that its query means
-  module _ {text : List ℕ} {q : Query} {names : List (List ℕ)} (is : IsSelection ours text q names) (params : Row) (means : Trees → List Row) (gives : (db : Trees) (rows : List Row) → IsSureAnswer q (overlay db []) params rows → IsPermutation (means db) rows) (a b : Work S) where
-    permuted : IsInside (seen g a) → (rows : List Row) → Shown text params (seen g a) (seen g b) rows → IsPermutation (means (rows_seen g a)) rows
-    permuted at rows h = gives (rows_seen g a) rows (selected is params (seen g a) (seen g b) rows at h)
+  -- from the rows of a text of the code to the rows that its query means
+  module _ {text : List ℕ} {q : Query} {names : List (List ℕ)} (is : IsSelection ours text q names) (said : List ℕ) (params : Row) (means : Trees → List Row) (gives : (db : Trees) (rows : List Row) → IsSureAnswer q (overlay db []) params rows → IsPermutation (means db) rows) (a b : Work S) where
+    permuted : said ≡ text → IsInside (seen g a) → (rows : List Row) → Shown said params (seen g a) (seen g b) rows → IsPermutation (means (rows_seen g a)) rows
+    permuted same at rows h = gives (rows_seen g a) rows (selected is params (seen g a) (seen g b) rows at (subst (λ t. Shown t params (seen g a) (seen g b) rows) same h))
 
-    pub has_asked : (r : Result Bool StoreFault) → IsAtWork g a → Heard g b r (λ has. (rows : List Row) × Shown text params (seen g a) (seen g b) rows × (has ≡ not (length rows == 0))) → Unmoved g r a b → IsCall g r a b
+    pub has_asked : (r : Result Bool StoreFault) → IsAtWork g a → Heard g b r (λ has. (rows : List Row) × Shown said params (seen g a) (seen g b) rows × (has ≡ not (length rows == 0))) → Unmoved g r a b → IsCall g r a b → said ≡ text
         → Asks g a b r (λ db has. is_there (means db) ≡ has)
-    has_asked (Ok has) at told same leaves = record {
-      told = λ clean. let h = told clean in there_found _ h.0 (permuted (inside g has a b at leaves clean) h.0 h.1) ∙ sym h.2;
+    has_asked (Ok has) at told same leaves text_is = record {
+      told = λ clean. let h = told clean in there_found _ h.0 (permuted text_is (inside g has a b at leaves clean) h.0 h.1) ∙ sym h.2;
       same = same;
       leaves = leaves;
     }
-    has_asked (Err e) at told same leaves = record { told = λ clean. tt; same = same; leaves = leaves }
+    has_asked (Err e) at told same leaves text_is = record { told = λ clean. tt; same = same; leaves = leaves }
 
-    pub only_asked : {X : Type 0} (columns : X → Row) (r : Result (Option X) StoreFault) → IsAtWork g a → Heard g b r (λ found. Shown text params (seen g a) (seen g b) (shown_of columns found)) → Unmoved g r a b → IsCall g r a b
+    pub only_asked : {X : Type 0} (columns : X → Row) (r : Result (Option X) StoreFault) → IsAtWork g a → Heard g b r (λ found. Shown said params (seen g a) (seen g b) (shown_of columns found)) → Unmoved g r a b → IsCall g r a b → said ≡ text
         → Asks g a b r (λ db found. means db ≡ shown_of columns found)
-    only_asked columns (Ok found) at told same leaves = record {
-      told = λ clean. shown_exactly columns _ found (permuted (inside g found a b at leaves clean) (shown_of columns found) (told clean));
+    only_asked columns (Ok found) at told same leaves text_is = record {
+      told = λ clean. shown_exactly columns _ found (permuted text_is (inside g found a b at leaves clean) (shown_of columns found) (told clean));
       same = same;
       leaves = leaves;
     }
-    only_asked columns (Err e) at told same leaves = record { told = λ clean. tt; same = same; leaves = leaves }
+    only_asked columns (Err e) at told same leaves text_is = record { told = λ clean. tt; same = same; leaves = leaves }

@@ -1,14 +1,14 @@
-use Rattle.std.proofs.Common.{[], ◌∷◌}
+use Rattle.std.proofs.Common.{[], ◌∷◌, refl}
 use Rattle.sqlite.specs.declared.types.Value.TheVariants.{Blob}
 use Rattle.reg_tables_sql.specs.Tokens.{columns_with_account, tokens_with_accounts}
-use Rattle.reg_access.proofs.Questions.{only_asked}
+use Rattle.reg_access.proofs.Questions.{only_asked, plain_text}
 use Rattle.reg_access.proofs.TokenText.{token_gives, token_is}
 use Rattle.reg_access.proofs.texts.find_token.Goals as goal
 
 pub select_one-requires-clause-reads : goal.select_one-requires-clause-reads
-select_one-requires-clause-reads g c = token_is.plain
+select_one-requires-clause-reads g c = plain_text token_is _ cc
 
 pub returns : goal.returns
 returns g c =
-    only_asked g.S.Store token_is (Blob c.args.digest.now ∷ []) (tokens_with_accounts c.args.digest.now) (token_gives c.args.digest.now) c.args.work.now c.select_one.new.self columns_with_account c.select_one.result c.requires
-    (rw (c.params-to_sql.ensures, c.as_slice.ensures) at c.select_one.ensures.row) c.select_one.ensures.same c.select_one.ensures.leaves
+    only_asked g.S.Store token_is _ (Blob c.args.digest.now ∷ []) (tokens_with_accounts c.args.digest.now) (token_gives c.args.digest.now) c.args.work.now c.select_one.new.self columns_with_account c.select_one.result c.requires
+    (rw (c.params-to_sql.ensures, c.as_slice.ensures) at c.select_one.ensures.row) c.select_one.ensures.same c.select_one.ensures.leaves refl

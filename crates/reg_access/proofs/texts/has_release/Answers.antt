@@ -1,14 +1,14 @@
-use Rattle.std.proofs.Common.{pos}
+use Rattle.std.proofs.Common.{pos, refl}
 use Rattle.sqlite.specs.declared.types.Value.TheVariants.{Int}
 use Rattle.reg_access.specs.JoinRows.{versions_of_release}
-use Rattle.reg_access.proofs.Questions.{has_asked}
+use Rattle.reg_access.proofs.Questions.{has_asked, plain_text}
 use Rattle.reg_access.proofs.VersionTexts.{release_gives, release_is, release_params}
 use Rattle.reg_access.proofs.texts.has_release.Goals as goal
 
 pub has_row-requires-clause-reads : goal.has_row-requires-clause-reads
-has_row-requires-clause-reads g c = release_is.plain
+has_row-requires-clause-reads g c = plain_text release_is _ cc
 
 pub returns : goal.returns
 returns g c =
-    has_asked g.S.Store release_is (release_params (Int (pos c.args.of_crate)) c.args.text.now) (versions_of_release (Int (pos c.args.of_crate)) c.args.text.now) (release_gives (Int (pos c.args.of_crate)) c.args.text.now) c.args.work.now c.has_row.new.self c.has_row.result c.requires
-    (rw (c.params-to_sql.ensures, c.params-to_sql-2.ensures, c.release_key.ensures) at c.has_row.ensures.rows) c.has_row.ensures.same c.has_row.ensures.leaves
+    has_asked g.S.Store release_is _ (release_params (Int (pos c.args.of_crate)) c.args.text.now) (versions_of_release (Int (pos c.args.of_crate)) c.args.text.now) (release_gives (Int (pos c.args.of_crate)) c.args.text.now) c.args.work.now c.has_row.new.self c.has_row.result c.requires
+    (rw (c.params-to_sql.ensures, c.params-to_sql-2.ensures, c.release_key.ensures) at c.has_row.ensures.rows) c.has_row.ensures.same c.has_row.ensures.leaves refl

@@ -1,14 +1,14 @@
-use Rattle.std.proofs.Common.{[], ◌∷◌, pos}
+use Rattle.std.proofs.Common.{[], ◌∷◌, pos, refl}
 use Rattle.sqlite.specs.declared.types.Value.TheVariants.{Int, Text}
 use Rattle.reg_access.specs.JoinRows.{scopes_over}
-use Rattle.reg_access.proofs.Questions.{has_asked}
+use Rattle.reg_access.proofs.Questions.{has_asked, plain_text}
 use Rattle.reg_access.proofs.ScopeText.{scopes_give, scopes_is}
 use Rattle.reg_access.proofs.texts.is_covered.Goals as goal
 
 pub has_row-requires-clause-reads : goal.has_row-requires-clause-reads
-has_row-requires-clause-reads g c = scopes_is.plain
+has_row-requires-clause-reads g c = plain_text scopes_is _ cc
 
 pub returns : goal.returns
 returns g c =
-    has_asked g.S.Store scopes_is (Int (pos c.args.token) ∷ Text c.args.canon.now ∷ []) (scopes_over (Int (pos c.args.token)) c.args.canon.now) (scopes_give (Int (pos c.args.token)) c.args.canon.now) c.args.work.now c.has_row.new.self c.has_row.result c.requires
-    (rw (c.params-to_sql.ensures, c.params-to_sql-2.ensures, c.as_str.ensures) at c.has_row.ensures.rows) c.has_row.ensures.same c.has_row.ensures.leaves
+    has_asked g.S.Store scopes_is _ (Int (pos c.args.token) ∷ Text c.args.canon.now ∷ []) (scopes_over (Int (pos c.args.token)) c.args.canon.now) (scopes_give (Int (pos c.args.token)) c.args.canon.now) c.args.work.now c.has_row.new.self c.has_row.result c.requires
+    (rw (c.params-to_sql.ensures, c.params-to_sql-2.ensures, c.as_str.ensures) at c.has_row.ensures.rows) c.has_row.ensures.same c.has_row.ensures.leaves refl
