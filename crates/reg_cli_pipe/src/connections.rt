@@ -55,7 +55,8 @@ pub fn serve_connections<S: Alter, T: Write>(
         let stream = door.accept()?;
         *left -= 1;
         serve_connection(alloc, server, registry, trail, &stream);
-        if registry.has_stopped() {
+        let stopped = registry.has_stopped();
+        if stopped {
             return Ok(());
         }
     }

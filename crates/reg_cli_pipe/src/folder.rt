@@ -55,7 +55,8 @@ pub fn write_files<F: Folder>(folder: &mut F, files: &[(String, Vec<u8>)]) -> Ex
 {
     for file in files {
         let (path, bytes) = file;
-        if folder.write_file(path, bytes).is_err() {
+        let fails = folder.write_file(path, bytes).is_err();
+        if fails {
             return Exit::STORAGE;
         }
     }
