@@ -2,7 +2,7 @@
 use Rattle.std.specs.Prelude.{◌≡◌, ◌⊎◌, ◌++◌, ⊤, ℕ, List, [], ◌∷◌, codes, map, Option, Some, None, String, Vec}
 use Rattle.std.specs.declared.alloc.Global.{Global}
 use Rattle.reg_model.specs.Registry.{Text}
-use Rattle.reg_service_requests.specs.Exported.{texts_of}
+use Rattle.reg_service_commands.specs.Exported.{texts_of}
 use Rattle.reg_cli_line.specs.declared.exit.Exit.{Exit}
 use Rattle.reg_cli_pipe.specs.Exits.{EndsWith}
 

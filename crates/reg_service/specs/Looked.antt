@@ -8,7 +8,7 @@ use Rattle.reg_audit.specs.Checks.{IsFirst}
 use Rattle.reg_audit.specs.declared.check.Check.{Check}
 use Rattle.reg_model.specs.Crates.{exported}
 use Rattle.reg_model.specs.Registry.{Registry}
-use Rattle.reg_service_requests.specs.Exported.{texts_of}
+use Rattle.reg_service_commands.specs.Exported.{texts_of}
 use Rattle.reg_tables_rows.specs.declared.all_rows.AllRows.{AllRows}
 use Rattle.reg_tables_rows.specs.WholeRows.{AreAllRows}
 use Rattle.reg_tables.specs.declared.tables.Tables.{Tables}

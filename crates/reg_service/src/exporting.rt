@@ -5,7 +5,7 @@ ghost use Rattle.reg_tables.specs.Works.{is_shut};
 ghost use Rattle.reg_service.specs.Answered.{AreUpToDate};
 ghost use Rattle.reg_service.specs.Looked.{IsIndex, IsTrueOf, Looked};
 
-use reg_service_requests::export_all;
+use reg_service_commands::export_all;
 use reg_tables::{Result, Tables};
 use sqlite::Alter;
 use std::alloc::Global;

@@ -5,6 +5,8 @@ mod Commands
 mod CrateLines
 mod CratesAsked
 mod Dispatch
+mod ExportAsked
+mod IndexFiles
 mod LineWords
 mod Logins
 mod Named

@@ -1,3 +1,4 @@
+pub mod Exported
 pub mod Orders
 pub mod ReportedCrates
 pub mod ReportedTokens

@@ -1,5 +1,5 @@
-//! The administrator's commands, each within a transaction that the caller begins and commits, and
-//! the line that a change leaves in a trail.
+//! The administrator's commands, each within a transaction that the caller begins and commits, the
+//! line that a change leaves in a trail, and the index as files.
 //!
 //! ```
 //! let add = AdminCommand::UserAdd("ada", None);
@@ -11,6 +11,7 @@
 
 mod accounts;
 mod crates;
+mod exporting;
 mod finding;
 mod lines;
 mod names;
@@ -20,4 +21,5 @@ mod telling;
 mod tokens;
 mod told;
 
+pub use exporting::export_all;
 pub use told::{Answer, OrderTold, order_told};

@@ -3,8 +3,6 @@ mod AskedGiven
 mod Asking
 pub mod ConfigText
 mod Deciding
-mod ExportAsked
-mod IndexFiles
 mod Joined
 pub mod Judging
 pub mod Marked
@@ -19,6 +17,5 @@ pub mod Placed
 pub mod Publications
 pub mod ReadingServed
 pub mod ReplyLines
-mod Rising
 pub mod Running
 mod VersionArchives

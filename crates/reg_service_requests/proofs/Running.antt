@@ -16,6 +16,11 @@ module _ {S : Type 0} (g : Ghosts S) where
   runs_failed e (Ok y) a b h call = absurd cc
   runs_failed e (Err f) a b h call = record { told = λ clean. tt; leaves = called_err g e f a b call }
 
+  -- the same of a refusal that is passed on
+  pub runs_stopped : {U F : Type 0} {Q : Trees → Trees → U → Type 0} (r : Result U F) (a b : Work S) → IsErr r → IsCall g r a b → Runs g a b r Q
+  runs_stopped (Ok y) a b h call = absurd cc
+  runs_stopped (Err e) a b h call = record { told = λ clean. tt; leaves = call }
+
   -- nothing is called
   pub runs_nothing : {T E : Type 0} {Q : Trees → Trees → T → Type 0} (x : T) (a : Work S) → has_failed a ≡ false → IsAtWork g a → Q (rows_seen g a) (rows_seen g a) x → Runs {E = E} g a a (Ok x) Q
   runs_nothing x a on at h = record { told = λ clean. h; leaves = itself_called g x a on at }
@@ -56,6 +61,11 @@ module _ {S : Type 0} (g : Ghosts S) where
   -- it is asked, and then a change is refused
   pub runs_unchanged : {T U V E F G : Type 0} {P : Trees → T → Type 0} {Q : Trees → Trees → V → Type 0} (x : T) (e : F) (r : Result V G) (a b c : Work S) → IsErr r → Asks {E = E} g a b (Ok x) P → IsCall {T = U} g (Err e) b c → Runs g a c r Q
   runs_unchanged x e r a b c h one call = runs_failed e r a c h (then_called g x (Err e) a b c one.leaves call)
+
+  -- and one that is passed on
+  pub runs_refused : {T U E F : Type 0} {P : Trees → T → Type 0} {Q : Trees → Trees → U → Type 0} (x : T) (r : Result U F) (a b c : Work S) → IsErr r → Asks {E = E} g a b (Ok x) P → IsCall g r b c → Runs g a c r Q
+  runs_refused x (Ok y) a b c h one call = absurd cc
+  runs_refused x (Err e) a b c h one call = record { told = λ clean. tt; leaves = then_called g x (Err e) a b c one.leaves call }
 
   -- it is asked, and then all that follows runs
   pub runs_after : {T U E F : Type 0} {P : Trees → T → Type 0} {R Q : Trees → Trees → U → Type 0} (x : T) (r : Result U F) (a b c : Work S) → Asks {E = E} g a b (Ok x) P → Runs g b c r R → ((y : U) → P (rows_seen g a) x → R (rows_seen g a) (rows_seen g c) y → Q (rows_seen g a) (rows_seen g c) y) → Runs g a c r Q

@@ -1,4 +1,3 @@
-pub mod Exported
 pub mod Granted
 pub mod Named
 pub mod Owning

@@ -31,7 +31,7 @@ fn entries_of(alloc: Global, versions: Vec<Version>) -> Result<Vec<Entry>, Alloc
 }
 
 /// The index file of these versions.
-pub(crate) fn index_file(alloc: Global, versions: Vec<Version>) -> Result<Vec<u8>, AllocError>
+pub fn index_file(alloc: Global, versions: Vec<Version>) -> Result<Vec<u8>, AllocError>
     ensures { IfOk result
         (λ text. text.items ≡ file_text (map entry_of_version versions.items)) }
 {

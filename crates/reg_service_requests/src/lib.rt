@@ -12,7 +12,6 @@
 #![tactic(auto)]
 
 mod bodies;
-mod exporting;
 mod lines;
 mod marking;
 mod naming;
@@ -24,9 +23,10 @@ mod serving;
 mod telling;
 mod told;
 
-pub use exporting::export_all;
+pub use bodies::index_file;
 pub use lines::line_of;
 pub use naming::find_named;
+pub use reading::find_base;
 pub use served::Served;
 pub use serving::serve_told;
 pub use telling::{differs, have_login, tell_words, told_line};

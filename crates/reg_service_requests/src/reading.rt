@@ -18,7 +18,7 @@ use sqlite::Alter;
 use std::alloc::Global;
 
 /// The base of the registry.
-pub(crate) fn find_base<S: Alter>(work: &mut Work<'_, S>) -> Result<String>
+pub fn find_base<S: Alter>(work: &mut Work<'_, S>) -> Result<String>
     requires { IsAtWork S.Store work.old }
     ensures { Asks S.Store work.old work.new result (λ db base. TellsBase db (string_bytes base)) }
 {

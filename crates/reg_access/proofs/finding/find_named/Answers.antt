@@ -25,3 +25,8 @@ returns g c =
     (asks_both g.S.Store ((c.in_ok-covered.covered, c.in_ok-row.row), c.in_ok-version.version) c.in_ok-against.against c.args.work.now c.find_version_named.new.work c.stands_against.new.work
     (asks_both g.S.Store (c.in_ok-covered.covered, c.in_ok-row.row) c.in_ok-version.version c.args.work.now c.find_crate.new.work c.find_version_named.new.work
     (asks_both g.S.Store c.in_ok-covered.covered c.in_ok-row.row c.args.work.now c.find_scopes.new.work c.find_crate.new.work c.in_ok-covered.ensures (rw c.canon.ensures at c.in_ok-row.ensures)) c.in_ok-version.ensures) c.in_ok-against.ensures)
+
+pub returns-in_err-row : goal.returns-in_err-row
+returns-in_err-row g c =
+    asks_after g.S.Store c.in_ok-covered.covered _ c.args.work.now c.find_scopes.new.work c.find_crate.new.work c.in_ok-covered.ensures
+    (asks_failed g.S.Store _ _ c.find_scopes.new.work c.find_crate.new.work c.from_residual-in_err-row.ensures.0 c.in_err-row.ensures)

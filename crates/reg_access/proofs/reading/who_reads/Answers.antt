@@ -1,4 +1,4 @@
-use Rattle.reg_access.proofs.Questions.{asks_both, asks_made, asks_refused}
+use Rattle.reg_access.proofs.Questions.{asks_after, asks_both, asks_failed, asks_made, asks_refused}
 use Rattle.reg_access.proofs.ReadLaw.{readers_found}
 use Rattle.reg_access.proofs.reading.who_reads.Goals as goal
 
@@ -12,3 +12,8 @@ pub returns : goal.returns
 returns g c =
     asks_refused g.S.Store (c.in_ok-found.found, c.in_ok-accounts.accounts) c.fail.result c.args.work.now c.find_readers.new.work c.fail.new.self c.fail.ensures.fails
     (asks_both g.S.Store c.in_ok-found.found c.in_ok-accounts.accounts c.args.work.now c.find_named.new.work c.find_readers.new.work c.in_ok-found.ensures c.in_ok-accounts.ensures) c.fail.ensures.leaves
+
+pub returns-in_err-accounts : goal.returns-in_err-accounts
+returns-in_err-accounts g c =
+    asks_after g.S.Store c.in_ok-found.found _ c.args.work.now c.find_named.new.work c.find_readers.new.work c.in_ok-found.ensures
+    (asks_failed g.S.Store _ _ c.find_named.new.work c.find_readers.new.work c.from_residual-in_err-accounts.ensures.0 c.in_err-accounts.ensures)

@@ -1,5 +1,5 @@
 use Rattle.std.proofs.Common.{map, take}
-use Rattle.reg_service_requests.specs.Exported.{texts_of}
+use Rattle.reg_service_commands.specs.Exported.{texts_of}
 use Rattle.reg_cli_pipe.specs.Folders.{GainsAll}
 use Rattle.reg_cli_pipe.proofs.folder.write_files.Given as goal
 

@@ -8,9 +8,9 @@ use Rattle.reg_model.specs.Registry.{Text}
 use Rattle.reg_tables_sql.specs.Stems.{entries_text}
 use Rattle.reg_tables_meaning.specs.Entries.{entry_row}
 use Rattle.reg_tables_meaning.proofs.IndexWalk.{entries_read}
-use Rattle.reg_tables_meaning.proofs.Walking.{walk_ends, walk_fails, walk_left, walked_all, walked_as}
+use Rattle.reg_tables_meaning.proofs.Walking.{walk_ends, walk_fails, walk_left, walked_all, walked_as, was_spared}
 use Rattle.reg_service_index.proofs.Left.{left_after}
-use Rattle.reg_service_index.proofs.Rows.{end_stopped, head_stopped, rows_all, rows_broken, rows_more, rows_none, rows_stopped}
+use Rattle.reg_service_index.proofs.Rows.{end_stopped, head_put, head_stopped, rows_all, rows_broken, rows_more, rows_none, rows_stopped}
 use Rattle.reg_service_index.proofs.Unsent.{writer_fault}
 use Rattle.reg_service_index.proofs.files.send_rows.Goals as goal
 
@@ -80,6 +80,20 @@ returns-in_err-more-clause-rows g c =
     rw (p.1, p.2, back)
     (rows_stopped g.S.Store c.args.conn.now c.args.file.now c.requires.ours c.args.close c.args.writes _ _ c.rows.used c.rows.rows.conn.now c.rows.pile i.0 i.2 i.3 c.in_err-more.field-0.0 it _ now.conn.now c.in_err-more.ensures on)
 
+pub rows-init : goal.rows-init
+rows-init g c =
+    let headed = c.as_bytes.ensures ∙ c.reply_head-head.ensures in
+    let made = c.in_ok-rows.ensures in
+    record {
+      same_reference = refl;
+      walked = (
+        [],
+        refl,
+        record { given = made.begun; same = made.same; ours = made.ours; survives = made.survives },
+        head_put g.S.Store c.args.conn.now c.args.file.now c.requires.ours c.args.close c.args.writes _ _ c.in_ok-used.used c.put.new.self (rw (c.new-pile.ensures, headed) at c.in_ok-used.ensures),
+      );
+    }
+
 pub rows-preserved : goal.rows-preserved
 rows-preserved g c =
     let now = c.next.follows.lender-at-none in
@@ -146,7 +160,18 @@ returns-clause-ends g c =
     let i = c.rows.invariant.walked in
     rw back (λ e. inr (inr (i.0, i.2.given, inr (omega (arith, i.1)))))
 
+pub returns-in_err-rows-clause-ends : goal.returns-in_err-rows-clause-ends
+returns-in_err-rows-clause-ends g c e = inl refl
+
+pub returns-in_default-clause-ends : goal.returns-in_default-clause-ends
+returns-in_default-clause-ends g c e = absurd cc
+
 -- what is left of the connection
+
+pub returns-in_err-rows-clause-reads : goal.returns-in_err-rows-clause-reads
+returns-in_err-rows-clause-reads g c =
+    let p = err_from_is_err_and c.from_residual.result c.from_residual.ensures.1 in
+    rw (p.1, p.2) (was_spared g.S.Store _ c.args.conn.now c.index_rows.follows.lender-at-none (rw c.in_err-rows.was at c.index_rows.follows.holds-at-none))
 
 pub returns-in_err-used-clause-reads : goal.returns-in_err-used-clause-reads
 returns-in_err-used-clause-reads g c =

@@ -1,7 +1,18 @@
+use Rattle.std.proofs.Common.{ℕ, List, ◌++◌, append_assoc, subst}
 use Rattle.std.proofs.lemmas.Result.{err_from_is_err_and}
 use Rattle.reg_line.specs.File.{end_of}
-use Rattle.reg_api_replies.proofs.Joined.{pile_stopped, piles_behind}
+use Rattle.reg_api_replies.proofs.Joined.{pile_stopped, piles_behind, stopped_first}
+use Rattle.reg_api_replies.specs.Sent.{IsStopped, Sink}
+use Rattle.reg_api_replies.specs.declared.bytes.SendFault.{SendFault}
 use Rattle.reg_service_index.proofs.lines.put_line.Goals as goal
+
+first_stopped : (f : SendFault) (waiting a b : List ℕ) (writes : ℕ) (s t : Sink) → IsStopped f (waiting ++ a) writes s t → IsStopped f (waiting ++ (a ++ b)) writes s t
+first_stopped f waiting a b writes s t h = subst (λ l. IsStopped f l writes s t) (append_assoc waiting a b) (stopped_first f (waiting ++ a) b writes s t h)
+
+pub returns-in_err-used : goal.returns-in_err-used
+returns-in_err-used g c =
+    let p = err_from_is_err_and c.from_residual.result c.from_residual.ensures.1 in
+    rw (p.1, p.2) (first_stopped c.in_err-used.field-0.0 c.args.pile.now c.args.stem.now (end_of c.args.yanked) c.args.writes _ _ c.in_err-used.ensures)
 
 pub returns-in_err-more : goal.returns-in_err-more
 returns-in_err-more g c =

@@ -1,7 +1,7 @@
 use Rattle.std.proofs.Common.{◌∙◌, inl, inr, sym}
 use Rattle.reg_model.specs.declared.rule.Rule.TheVariants.{S1}
 use Rattle.reg_service_index.specs.Files.{rows_text}
-use Rattle.reg_service_index.proofs.Unsent.{broken_at, denial_then, file_sent, rows_some, some_then, unsent}
+use Rattle.reg_service_index.proofs.Unsent.{broken_at, denial_then, file_sent, rows_some, some_then, unsent, was_begun}
 use Rattle.reg_service_index.proofs.sending.send_file.Goals as goal
 
 pub returns-then-is_unsent-clause-sends : goal.returns-then-is_unsent-clause-sends
@@ -44,3 +44,16 @@ returns-then-is_shut-clause-begun g c e = absurd (c.refuse.ensures.denies.never 
 
 pub returns-then-is_shut-clause-ends : goal.returns-then-is_shut-clause-ends
 returns-then-is_shut-clause-ends g c e = absurd (c.refuse.ensures.denies.never e)
+
+pub returns-then-is_shut-clause-stopped : goal.returns-then-is_shut-clause-stopped
+returns-then-is_shut-clause-stopped g c e = c.refuse.ensures.denies
+
+pub returns-then-is_unsent-clause-ends : goal.returns-then-is_unsent-clause-ends
+returns-then-is_unsent-clause-ends g c e = absurd (c.refuse-then-is_unsent.ensures.denies.never e)
+
+pub returns-clause-begun : goal.returns-clause-begun
+returns-clause-begun g c e =
+    let rows = c.send_over-sent.ensures.rows in
+    let text = rows_text c.args.file.now c.args.close rows.rows in
+    was_begun text c.args.writes _ _ (broken_at c.send_over-sent.result text c.args.writes _ _ e rows.sends)
+    (λ u. c.if-is_unsent.ensures (e, c.calls.ensures ∙ u ∙ sym c.calls-before.ensures))

@@ -4,7 +4,7 @@ use Rattle.reg_service_requests.specs.Owning.{AreLeaving, DoesOwning}
 use Rattle.reg_tables.specs.Calling.{Runs}
 use Rattle.reg_service_requests.proofs.OwningDone.{owning_denied, owning_done}
 use Rattle.reg_service_requests.proofs.OwningIds.{leaves, may_not_leave, texts_of}
-use Rattle.reg_service_requests.proofs.Running.{runs_after, runs_asked}
+use Rattle.reg_service_requests.proofs.Running.{runs_after, runs_asked, runs_refused}
 use Rattle.reg_service_requests.proofs.owning.remove_owners.Goals as goal
 
 pub returns-in-Ok-Ok : goal.returns-in-Ok-Ok
@@ -25,3 +25,7 @@ returns-in-Ok-Err g c =
     runs_asked g.S.Store {P = λ db list. ListsOwners id db list.items} c.in_ok-owners.owners _ c.args.work.now c.owners_of.new.self
     c.in_ok-owners.ensures
     (λ lists name limits digest lets is. owning_denied limits digest false name logins _ lets c.args.found.now is c.in-Ok-Err.rule (may_not_leave logins _ id c.in_ok-owners.owners.items lists c.in-Ok-Err.rule why))
+
+pub returns : goal.returns
+returns g c =
+    runs_refused g.S.Store c.in_ok-owners.owners c.fail.result c.args.work.now c.owners_of.new.self c.fail.new.self c.fail.ensures.fails c.in_ok-owners.ensures c.fail.ensures.leaves

@@ -1,6 +1,6 @@
 use Rattle.std.proofs.Common.{[], Ok}
 use Rattle.reg_tables_sql.specs.Reserved.{columns_of_text}
-use Rattle.reg_access.proofs.Questions.{asks_made, only_asked}
+use Rattle.reg_access.proofs.Questions.{asks_made, asks_refused, only_asked}
 use Rattle.reg_service_requests.proofs.ConfigText.{base_gives, base_is, base_told, bases}
 use Rattle.reg_service_requests.proofs.reading.find_base.Goals as goal
 
@@ -13,3 +13,9 @@ returns-in-Some g c =
     (λ shown. base_told _ c.in-Some.base (rw c.in-Some.is at shown))
     (only_asked g.S.Store base_is [] bases base_gives c.args.work.now c.select_one.new.self columns_of_text (Ok c.in_ok-base.field-0) c.requires
     c.in_ok-base.ensures.row c.in_ok-base.ensures.same c.in_ok-base.ensures.leaves)
+
+pub returns-in-None : goal.returns-in-None
+returns-in-None g c =
+    asks_refused g.S.Store c.in_ok-base.field-0 c.fail.result c.args.work.now c.select_one.new.self c.fail.new.self c.fail.ensures.fails
+    (only_asked g.S.Store base_is [] bases base_gives c.args.work.now c.select_one.new.self columns_of_text (Ok c.in_ok-base.field-0) c.requires
+    c.in_ok-base.ensures.row c.in_ok-base.ensures.same c.in_ok-base.ensures.leaves) c.fail.ensures.leaves

@@ -6,7 +6,7 @@ use Rattle.reg_access.specs.Admitted.{TellsCaller, decision_in}
 use Rattle.reg_access.specs.Verdict.{IsPolicy}
 use Rattle.reg_tables.specs.Works.{rows_seen}
 use Rattle.reg_service_requests.proofs.Deciding.{denied_told, is_let, no_token_told, with_token}
-use Rattle.reg_service_requests.proofs.Running.{runs_after, runs_asked, runs_nothing}
+use Rattle.reg_service_requests.proofs.Running.{runs_after, runs_asked, runs_failed, runs_nothing}
 use Rattle.reg_service_requests.proofs.serving.serve_told.Goals as goal
 
 pub returns-in_default : goal.returns-in_default
@@ -29,3 +29,6 @@ returns-in-Allowed g c =
     (record { told = λ clean. ((rw c.action_of.ensures at c.in_ok-rule.ensures.policy) clean, (rw c.action_of.ensures at c.in_ok-rule.ensures.found) clean); same = c.in_ok-rule.ensures.same; leaves = c.in_ok-rule.ensures.leaves }) c.grant_told.ensures
     (λ it told granted. with_token c.args.traced c.args.limits.now _ digest asked (rows_seen g.S.Store c.args.work.now) (rows_seen g.S.Store c.grant_told.new.work) it (ap (option_map (λ d. d.now)) c.in-Some.is)
     (granted digest (is_let digest (action_of asked) _ (rw c.in-Allowed.is at told.0)) (rw c.in-Allowed.is at told.1)))
+
+pub returns-in_err-rule : goal.returns-in_err-rule
+returns-in_err-rule g c = runs_failed g.S.Store _ c.from_residual.result c.args.work.now c.admit.new.work c.from_residual.ensures.0 c.in_err-rule.ensures.leaves

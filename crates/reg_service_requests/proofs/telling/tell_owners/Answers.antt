@@ -9,6 +9,7 @@ use Rattle.reg_model.specs.Reports.{with_commas}
 use Rattle.reg_tables_meaning.specs.Calls.{ListsOwners}
 use Rattle.reg_service_requests.specs.Owning.{owning}
 use Rattle.reg_service_requests.specs.Telling.{changes, owners_word}
+use Rattle.reg_access.proofs.Questions.{asks_refused}
 use Rattle.reg_service_requests.proofs.Asking.{words_told}
 use Rattle.reg_service_requests.proofs.Owned.{owning_has}
 use Rattle.reg_service_requests.proofs.telling.tell_owners.Goals as goal
@@ -25,3 +26,7 @@ returns g c =
     c.in_ok-owners.ensures c.tell_change.ensures
     (λ found h told name. words_told who (owning c.args.are_owners name (map (λ t. t.now) texts)) _ c.changes_owners-changed.result words found
     (owning_has who c.args.are_owners c.changes_owners-changed.result name texts _ it list c.found_crate-found.ensures h changed) (search (rules, told)))
+
+pub returns-in_default : goal.returns-in_default
+returns-in_default g c =
+    asks_refused g.S.Store c.in_ok-owners.owners c.fail.result c.args.work.now c.owners_of.new.self c.fail.new.self c.fail.ensures.fails c.in_ok-owners.ensures c.fail.ensures.leaves

@@ -1,5 +1,5 @@
-use Rattle.reg_service_requests.proofs.ExportAsked.{export_asked}
-use Rattle.reg_service_requests.proofs.exporting.export_all.Goals as goal
+use Rattle.reg_service_commands.proofs.ExportAsked.{export_asked}
+use Rattle.reg_service_commands.proofs.exporting.export_all.Goals as goal
 
 pub returns : goal.returns
 returns g c =

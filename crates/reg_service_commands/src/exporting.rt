@@ -6,13 +6,12 @@ ghost use Rattle.reg_line.specs.File.{file_text};
 ghost use Rattle.reg_names.specs.Names.{path_of};
 ghost use Rattle.reg_tables.specs.Works.{IsAtWork, has_failed};
 ghost use Rattle.reg_tables.specs.Calling.{Asks};
-ghost use Rattle.reg_service_requests.specs.Exported.{AddsFile, AddsFiles, Exports, HasConfig, texts_of};
+ghost use Rattle.reg_service_commands.specs.Exported.{AddsFile, AddsFiles, Exports, HasConfig, texts_of};
 ghost use Rattle.reg_service_requests.specs.Reads.{entry_of_version};
 
-use crate::bodies::index_file;
-use crate::reading::find_base;
 use reg_line::config;
 use reg_names::{CrateName, index_path, parse_name};
+use reg_service_requests::{find_base, index_file};
 use reg_tables::{Crate, Result, Version, Work};
 use sqlite::Alter;
 use std::alloc::{AllocError, Global};

@@ -6,12 +6,12 @@ use Rattle.reg_tables_meaning.specs.Calls.{ListsVersions}
 use Rattle.reg_tables.specs.Works.{rows_seen}
 use Rattle.reg_tables.specs.declared.work.StoreFault.{StoreFault}
 use Rattle.reg_tables.specs.Calling.{Asks}
-use Rattle.reg_access.proofs.Questions.{asks_made}
-use Rattle.reg_service_requests.specs.Exported.{texts_of}
+use Rattle.reg_access.proofs.Questions.{asks_made, asks_refused}
+use Rattle.reg_service_commands.specs.Exported.{texts_of}
 use Rattle.reg_service_requests.specs.Reads.{entry_of_version}
-use Rattle.reg_service_requests.proofs.ExportAsked.{file_added}
+use Rattle.reg_service_commands.proofs.ExportAsked.{file_added}
 use Rattle.reg_service_requests.proofs.Names.{is_given}
-use Rattle.reg_service_requests.proofs.exporting.add_file.Goals as goal
+use Rattle.reg_service_commands.proofs.exporting.add_file.Goals as goal
 
 pub returns-in-Ok : goal.returns-in-Ok
 returns-in-Ok g c =
@@ -22,3 +22,11 @@ returns-in-Ok g c =
     asks_made g.S.Store list tt c.args.work.now c.versions_of.new.self
     (λ lists. file_added (rows_seen g.S.Store c.args.work.now) c.args.listed.now list.items (map texts_of c.args.files.now.items) (map texts_of c.push_file.new.files.items) lists
     (c.in-Ok.ensures ∙ ap (λ n. map texts_of c.args.files.now.items ++ (path_of n, file_text (map entry_of_version list.items)) ∷ []) name)) asked
+
+pub returns-in_default : goal.returns-in_default
+returns-in_default g c =
+    asks_refused g.S.Store c.in_ok-versions.versions c.fail.result c.args.work.now c.versions_of.new.self c.fail.new.self c.fail.ensures.fails c.in_ok-versions.ensures c.fail.ensures.leaves
+
+pub returns-in-Err : goal.returns-in-Err
+returns-in-Err g c =
+    asks_refused g.S.Store c.in_ok-versions.versions c.fail-in-Err.result c.args.work.now c.versions_of.new.self c.fail-in-Err.new.self c.fail-in-Err.ensures.fails c.in_ok-versions.ensures c.fail-in-Err.ensures.leaves

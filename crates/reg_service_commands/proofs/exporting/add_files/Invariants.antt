@@ -1,8 +1,8 @@
 use Rattle.std.proofs.Common.{Ok, map, take}
 use Rattle.reg_tables.specs.declared.work.StoreFault.{StoreFault}
 use Rattle.reg_tables.specs.Calling.{Asks}
-use Rattle.reg_service_requests.specs.Exported.{AddsFiles, texts_of}
-use Rattle.reg_service_requests.proofs.exporting.add_files.Given as goal
+use Rattle.reg_service_commands.specs.Exported.{AddsFiles, texts_of}
+use Rattle.reg_service_commands.proofs.exporting.add_files.Given as goal
 
 -- the crates so far have their files
 abbrev pub invariant-loop-listed : goal.invariant-loop-listed
