@@ -1,4 +1,4 @@
-use Rattle.std.proofs.Common.{Some, subst, ◌∙◌}
+use Rattle.std.proofs.Common.{Some, rules, subst, ◌∙◌}
 use Rattle.sqlite.specs.Held.{state}
 use Rattle.sqlite.specs.State.{HasCleanDisk}
 use Rattle.reg_tables_meaning.proofs.Results.{if_ok}
@@ -39,3 +39,18 @@ returns-in-Ok-None-clause-handed_back g c =
 pub returns-in-Ok-None-clause-begun : goal.returns-in-Ok-None-clause-begun
 returns-in-Ok-None-clause-begun g c =
     if_ok c.bring_up.result (λ r b. record { limited = b.limited; unknown = b.unknown; goes_on = b.goes_on ∙ c.audit.ensures.open }) c.bring_up.ensures.begun
+
+pub returns-in-Ok-Some-clause-passed : goal.returns-in-Ok-Some-clause-passed
+returns-in-Ok-Some-clause-passed g c = tt
+
+pub returns-in-Ok-Some-clause-brought : goal.returns-in-Ok-Some-clause-brought
+returns-in-Ok-Some-clause-brought g c = tt
+
+pub returns-in-Ok-Some-clause-begun : goal.returns-in-Ok-Some-clause-begun
+returns-in-Ok-Some-clause-begun g c = tt
+
+pub returns-in-Ok-Some-clause-undone : goal.returns-in-Ok-Some-clause-undone
+returns-in-Ok-Some-clause-undone g c = search rules
+
+pub returns-in-Ok-None-clause-found : goal.returns-in-Ok-None-clause-found
+returns-in-Ok-None-clause-found g c = search rules

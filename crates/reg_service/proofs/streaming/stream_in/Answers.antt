@@ -1,4 +1,4 @@
-use Rattle.std.proofs.Common.{arith}
+use Rattle.std.proofs.Common.{arith, rules}
 use Rattle.std.specs.Option.{option_map}
 use Rattle.sqlite.specs.State.{HasCleanDisk}
 use Rattle.reg_tables.specs.Works.{shown}
@@ -20,3 +20,6 @@ returns-in-Ok-Found-clause-streams g c limits clean s h =
 pub returns-in-Err-clause-streams : goal.returns-in-Err-clause-streams
 returns-in-Err-clause-streams g c limits clean s h =
     no_room_sent g.S.Store limits (option_map (λ d. d.now) c.args.digest) c.args.path.now c.args.tables.now c.requires.tables.ours c.args.close c.refuse-in-Err.result c.args.writes _ _ c.decide_in.new.tables c.in-Err.field-0 (c.in-Err.ensures.decided limits) c.refuse-in-Err.ensures.denies clean s h
+
+pub returns-in-Ok-Denied-clause-leaves : goal.returns-in-Ok-Denied-clause-leaves
+returns-in-Ok-Denied-clause-leaves g c = search rules

@@ -1,14 +1,16 @@
-use Rattle.std.proofs.Common.{arith, ap, sym, subst, refl, inl, inr, ◌∙◌}
+use Rattle.std.proofs.Common.{◌≡◌, Err, arith, rules, ap, sym, subst, refl, inl, inr, ◌∙◌}
+use Rattle.std.proofs.lemmas.Bool.{false≢true}
 use Rattle.sqlite.specs.State.{HasCleanDisk}
 use Rattle.reg_model.specs.declared.rule.AdminRefusal.TheVariants as refusal
 use Rattle.reg_model.specs.Events.Answer.{Refused as to_refused}
 use Rattle.reg_model.specs.Events.Event.{Order}
 use Rattle.reg_policy.specs.Events.{command_of, reply_of}
-use Rattle.reg_tables.specs.Works.{held, seen, shown}
+use Rattle.reg_tables.specs.Works.{held, is_shut, seen, shown}
 use Rattle.reg_tables.proofs.Looking.{call_looks}
 use Rattle.reg_service_commands.specs.Telling.{line_of_answer}
-use Rattle.reg_service.specs.Answered.{Answers}
+use Rattle.reg_service.specs.Answered.{Answers, AreUpToDate, Halts, WasClean}
 use Rattle.reg_service.proofs.Frames.{committed, dropped, not_begun, not_committed, sees}
+use Rattle.reg_service.proofs.Rests.{committed_halts, dropped_halts, dropped_looked, ended_clean, refused_tables}
 use Rattle.reg_service.proofs.Traced.{orders, tells_line, unordered}
 use Rattle.reg_service.proofs.transactions.command_in.Goals as goal
 
@@ -84,3 +86,60 @@ returns-in-Err-clause-answers g c clean s h =
     let has = sym (ap reply_of c.in-Err.is) ∙ (it.0 are.0 s are.1).0 in
     inl (has, sym (c.denial_law.ensures.refused lim s _ (Order cmd) c.in-Err.refusal (inl (has, refl))))) c.drop-work-in-Err-told.ensures (λ up db l. g.met.S.Store.settled (held old).store db up l)) in
     unordered g.S.Store lim s c.args.traced cmd old _ c.in-Err.refusal c.refused-in-Err.result answers c.refused-in-Err.ensures.answer c.refused-in-Err.ensures.line
+
+pub returns-in_default-order_told-clause-tables : goal.returns-in_default-order_told-clause-tables
+returns-in_default-order_told-clause-tables g c =
+    let back = c.tables-in_default-order_told-1.given.1 (sym (c.order_told.ensures.leaves.same_reference ∙ c.in-Ok.ensures.same_reference)) in
+    subst (λ t. AreUpToDate g.S.Store t) (sym back) ((dropped_looked g.S.Store c.args.tables.now c.in-Ok.work c.order_told.new.work c.in-Ok.ensures.begun (call_looks g.S.Store c.order_told.result c.in-Ok.work c.order_told.new.work c.order_told.ensures.leaves) c.drop-work.new.self.0 c.requires.tables c.drop-work.ensures).tables)
+
+pub returns-in_default-order_told-clause-clean : goal.returns-in_default-order_told-clause-clean
+returns-in_default-order_told-clause-clean g c =
+    let back = c.tables-in_default-order_told-1.given.1 (sym (c.order_told.ensures.leaves.same_reference ∙ c.in-Ok.ensures.same_reference)) in
+    subst (λ t. WasClean g.S.Store c.args.tables.now t) (sym back) ((dropped_looked g.S.Store c.args.tables.now c.in-Ok.work c.order_told.new.work c.in-Ok.ensures.begun (call_looks g.S.Store c.order_told.result c.in-Ok.work c.order_told.new.work c.order_told.ensures.leaves) c.drop-work.new.self.0 c.requires.tables c.drop-work.ensures).clean)
+
+pub returns-in_default-order_told-clause-halts : goal.returns-in_default-order_told-clause-halts
+returns-in_default-order_told-clause-halts g c =
+    let back = c.tables-in_default-order_told-1.given.1 (sym (c.order_told.ensures.leaves.same_reference ∙ c.in-Ok.ensures.same_reference)) in
+    subst (λ t. Halts (is_shut c.args.tables.now) (is_shut t) (c.refused-in_default-order_told.result.answer ≡ Err refusal.G10)) (sym back) (dropped_halts g.S.Store c.args.tables.now c.in-Ok.work c.order_told.new.work c.in-Ok.ensures.begun (call_looks g.S.Store c.order_told.result c.in-Ok.work c.order_told.new.work c.order_told.ensures.leaves) c.drop-work.new.self.0 c.drop-work.ensures)
+
+pub returns-in-Err-clause-tables : goal.returns-in-Err-clause-tables
+returns-in-Err-clause-tables g c =
+    let back = c.tables-in-Err-told-1.given.1 (sym (c.order_told.ensures.leaves.same_reference ∙ c.in-Ok.ensures.same_reference)) in
+    subst (λ t. AreUpToDate g.S.Store t) (sym back) ((dropped_looked g.S.Store c.args.tables.now c.in-Ok.work c.order_told.new.work c.in-Ok.ensures.begun (call_looks g.S.Store c.order_told.result c.in-Ok.work c.order_told.new.work c.order_told.ensures.leaves) c.drop-work-in-Err-told.new.self.0 c.requires.tables c.drop-work-in-Err-told.ensures).tables)
+
+pub returns-in-Err-clause-clean : goal.returns-in-Err-clause-clean
+returns-in-Err-clause-clean g c =
+    let back = c.tables-in-Err-told-1.given.1 (sym (c.order_told.ensures.leaves.same_reference ∙ c.in-Ok.ensures.same_reference)) in
+    subst (λ t. WasClean g.S.Store c.args.tables.now t) (sym back) ((dropped_looked g.S.Store c.args.tables.now c.in-Ok.work c.order_told.new.work c.in-Ok.ensures.begun (call_looks g.S.Store c.order_told.result c.in-Ok.work c.order_told.new.work c.order_told.ensures.leaves) c.drop-work-in-Err-told.new.self.0 c.requires.tables c.drop-work-in-Err-told.ensures).clean)
+
+pub returns-in-Err-clause-halts : goal.returns-in-Err-clause-halts
+returns-in-Err-clause-halts g c =
+    let back = c.tables-in-Err-told-1.given.1 (sym (c.order_told.ensures.leaves.same_reference ∙ c.in-Ok.ensures.same_reference)) in
+    subst (λ t. Halts (is_shut c.args.tables.now) (is_shut t) (c.refused-in-Err.result.answer ≡ Err refusal.G10)) (sym back) (dropped_halts g.S.Store c.args.tables.now c.in-Ok.work c.order_told.new.work c.in-Ok.ensures.begun (call_looks g.S.Store c.order_told.result c.in-Ok.work c.order_told.new.work c.order_told.ensures.leaves) c.drop-work-in-Err-told.new.self.0 c.drop-work-in-Err-told.ensures)
+
+pub returns-in-Ok-commit-clause-clean : goal.returns-in-Ok-commit-clause-clean
+returns-in-Ok-commit-clause-clean g c =
+    let back = c.tables-in-Ok-answer-1.given.1 (sym (c.order_told.ensures.leaves.same_reference ∙ c.in-Ok.ensures.same_reference)) in
+    subst (λ t. WasClean g.S.Store c.args.tables.now t) (sym back) (ended_clean g.S.Store c.args.tables.now c.in-Ok.work c.order_told.new.work c.in-Ok.ensures.begun (call_looks g.S.Store c.order_told.result c.in-Ok.work c.order_told.new.work c.order_told.ensures.leaves) c.commit.new.self.0 c.commit.result c.commit.ensures)
+
+pub returns-in-Ok-commit-clause-halts : goal.returns-in-Ok-commit-clause-halts
+returns-in-Ok-commit-clause-halts g c =
+    let back = c.tables-in-Ok-answer-1.given.1 (sym (c.order_told.ensures.leaves.same_reference ∙ c.in-Ok.ensures.same_reference)) in
+    subst (λ t. Halts (is_shut c.args.tables.now) (is_shut t) (c.in-Ok-order_told.told.answer ≡ Err refusal.G10)) (sym back) (committed_halts g.S.Store c.args.tables.now c.in-Ok.work c.order_told.new.work c.in-Ok.ensures.begun (call_looks g.S.Store c.order_told.result c.in-Ok.work c.order_told.new.work c.order_told.ensures.leaves) c.commit.new.self.0 c.in-Ok-commit.ensures.committed)
+
+pub returns-in-Err-commit-clause-tables : goal.returns-in-Err-commit-clause-tables
+returns-in-Err-commit-clause-tables g c =
+    let back = c.tables-in-Ok-answer-1.given.1 (sym (c.order_told.ensures.leaves.same_reference ∙ c.in-Ok.ensures.same_reference)) in
+    subst (λ t. AreUpToDate g.S.Store t) (sym back) (refused_tables g.S.Store c.args.tables.now c.in-Ok.work c.order_told.new.work c.in-Ok.ensures.begun (call_looks g.S.Store c.order_told.result c.in-Ok.work c.order_told.new.work c.order_told.ensures.leaves) c.commit.new.self.0 c.requires.tables c.commit.ensures.ours c.in-Err-commit.ensures.refused)
+
+pub returns-in-Err-commit-clause-clean : goal.returns-in-Err-commit-clause-clean
+returns-in-Err-commit-clause-clean g c =
+    let back = c.tables-in-Ok-answer-1.given.1 (sym (c.order_told.ensures.leaves.same_reference ∙ c.in-Ok.ensures.same_reference)) in
+    subst (λ t. WasClean g.S.Store c.args.tables.now t) (sym back) (ended_clean g.S.Store c.args.tables.now c.in-Ok.work c.order_told.new.work c.in-Ok.ensures.begun (call_looks g.S.Store c.order_told.result c.in-Ok.work c.order_told.new.work c.order_told.ensures.leaves) c.commit.new.self.0 c.commit.result c.commit.ensures)
+
+pub returns-in-Err-commit-clause-halts : goal.returns-in-Err-commit-clause-halts
+returns-in-Err-commit-clause-halts g c = record {
+  stopped = λ was. absurd (false≢true (sym c.in-Ok.ensures.begun.was_open ∙ was));
+  stays = λ was. absurd (false≢true (sym c.in-Ok.ensures.begun.was_open ∙ was));
+  stops = λ is. search rules;
+}

@@ -11,3 +11,6 @@ returns-clause-tables g c = record {
       let was = c.requires.tables.known (c.command_in.ensures.clean clean) in
       ordered_knows g.S.Store (limits_of old) was.registry (room_of old) (tables_of old) c.command_in.new.tables (command_of c.args.command.now) (reply_of c.command_in.result.answer) was.has (c.command_in.ensures.answers clean was.registry was.shows).0;
 }
+
+pub returns-clause-answers : goal.returns-clause-answers
+returns-clause-answers g c = c.command_in.ensures.answers

@@ -1,0 +1,70 @@
+-- What the ends of a transaction leave of the tables, whatever was asked of them.
+use Rattle.std.proofs.Common.{◌≡◌, ◌⊎◌, Result, inl, inr, true, sym, subst, ◌∙◌, arith}
+use Rattle.std.proofs.lemmas.Bool.{false≢true}
+use Rattle.sqlite.specs.Effect.{Database}
+use Rattle.sqlite.specs.Held.{Held, state}
+use Rattle.sqlite.specs.State.{HasCleanDisk}
+use Rattle.sqlite_trees.specs.declared.store.Store.{Ghosts}
+use Rattle.reg_model.specs.Registry.{Registry}
+use Rattle.reg_tables_schema.specs.States.{Refuses}
+use Rattle.reg_tables.specs.declared.tables.Tables.{Tables}
+use Rattle.reg_tables.specs.declared.work.Work.{Work}
+use Rattle.reg_tables.specs.Ends.{Begins, IsCommitted, IsDropped, IsEnded, IsRefused, SeesAll}
+use Rattle.reg_tables.specs.Looks.{Looks}
+use Rattle.reg_tables.specs.Works.{AreOurs, IsLeft, held, is_shut, seen, shown}
+use Rattle.reg_service.specs.Answered.{Are, AreUpToDate, Halts, Shows, WasClean}
+use Rattle.reg_service.specs.Looked.{Looked}
+
+module _ {S : Type 0} (g : Ghosts S) (old : Tables S) where
+  still : (new : Tables S) (s : Registry) → AreOurs g old → HasCleanDisk (shown g old) → Shows s (shown g old) → (held new ≡ held old) ⊎ Refuses (shown g old) (shown g new) → Shows s (shown g new)
+  still new s ours first h (inl same) = subst (λ (it : Held S). Shows s (state g it)) (sym same) h
+  still new s ours first h (inr (inl same)) = λ up. subst (λ (d : Database). Are s d.trees) (sym same.0.now_is) (h same.0.was_open)
+  still new s ours first h (inr (inr back)) = λ up. subst (λ (d : Database). Are s d.trees) (sym ((back.undone up).0 ∙ sym (ours first (back.was_open up)).settled)) (h (back.was_open up))
+
+  -- none was begun
+  pub left_looked : (new : Tables S) → AreUpToDate g old → IsLeft g old new → Looked g old new
+  left_looked new at left = record {
+    shows = λ clean s h. still new s at.ours (omega (arith, clean, left.survives.clean)) h (left.refused clean);
+    left = λ clean db l. elim (left.survives.crash clean db l) [ inl was ↦ was | inr none ↦ absurd none ];
+    tables = record { ours = left.ours; second = left.edition ∙ at.second };
+    clean = λ clean. omega (arith, clean, left.survives.clean);
+    same_mode = left.shut;
+  }
+
+  -- one was, and has ended
+  module _ (begun done : Work S) (b : Begins g SeesAll old begun) (looks : Looks g begun done) (new : Tables S) where
+    goes_on : {R : Type 0} → (is_shut new ≡ true → R) → Halts (is_shut old) (is_shut new) R
+    goes_on stops = record { stopped = λ was. absurd (false≢true (sym b.was_open ∙ was)); stays = λ was. absurd (false≢true (sym b.was_open ∙ was)); stops = stops }
+
+    pub dropped_halts : {R : Type 0} → IsDropped g done new → Halts (is_shut old) (is_shut new) R
+    dropped_halts end = goes_on (λ is. absurd (false≢true (sym (end.same_mode ∙ looks.same_mode ∙ b.still_open) ∙ is)))
+
+    pub dropped_looked : AreUpToDate g old → IsDropped g done new → Looked g old new
+    dropped_looked at end = record {
+      shows = λ clean s h.
+          let mid : HasCleanDisk (seen g done) = omega (arith, clean, end.survives.clean) in
+          let early : HasCleanDisk (seen g begun) = omega (arith, mid, looks.survives.clean) in
+          let first : HasCleanDisk (shown g old) = omega (arith, early, b.survives.clean) in
+          let view = b.view early in
+          let back = end.undone clean in
+          λ up. subst (λ (d : Database). Are s d.trees) (sym ((back.undone up).0 ∙ (looks.kept mid).committed (back.was_open up) ∙ view.committed_is ∙ sym (at.ours first view.was_open).settled)) (h view.was_open);
+      left = λ clean db l.
+          let mid : HasCleanDisk (seen g done) = omega (arith, clean, end.survives.clean) in
+          let early : HasCleanDisk (seen g begun) = omega (arith, mid, looks.survives.clean) in
+          elim (end.survives.crash clean db l) [
+            inl at ↦ elim (looks.survives.crash mid db at) [ inl was ↦ elim (b.survives.crash early db was) [ inl it ↦ it | inr none ↦ absurd none ] | inr none ↦ absurd none ]
+          | inr none ↦ absurd none
+          ];
+      tables = record { ours = end.ours looks.at_work.back; second = end.edition ∙ looks.same_edition ∙ b.edition ∙ at.second };
+      clean = λ clean. omega (arith, clean, end.survives.clean, looks.survives.clean, b.survives.clean);
+      same_mode = end.same_mode ∙ looks.same_mode ∙ b.still_open ∙ sym b.was_open;
+    }
+
+    pub committed_halts : {R : Type 0} → IsCommitted g done new → Halts (is_shut old) (is_shut new) R
+    committed_halts end = goes_on (λ is. absurd (false≢true (sym (end.same_mode ∙ looks.same_mode ∙ b.still_open) ∙ is)))
+
+    pub refused_tables : AreUpToDate g old → AreOurs g new → IsRefused g done new → AreUpToDate g new
+    refused_tables at ours end = record { ours = ours; second = end.edition ∙ looks.same_edition ∙ b.edition ∙ at.second }
+
+    pub ended_clean : {T E : Type 0} (r : Result T E) → IsEnded g r done new → WasClean g old new
+    ended_clean r end clean = omega (arith, clean, end.survives.clean, looks.survives.clean, b.survives.clean)
