@@ -1,11 +1,8 @@
-use Rattle.std.proofs.Common.{[], ◌∷◌, ◌≡◌, rules}
-use Rattle.std.specs.Prelude.{string_bytes}
-use Rattle.std.specs.Fmt.{decimal}
-use Rattle.std.specs.Option.{option_map}
+use Rattle.std.proofs.Common.{[], ◌∷◌, rules}
 use Rattle.reg_tables_meaning.specs.Calls.{TellsOtherMark}
 use Rattle.reg_service_requests.proofs.Afterwards.{asks_then}
 use Rattle.reg_service_requests.specs.Granted.{marking}
-use Rattle.reg_service_requests.specs.Telling.{line_if, mark_word}
+use Rattle.reg_service_requests.specs.Telling.{mark_word}
 use Rattle.reg_service_requests.proofs.Asking.{words_told}
 use Rattle.reg_service_requests.proofs.Marks.{mark_has}
 use Rattle.reg_service_requests.proofs.telling.tell_mark.Goals as goal

@@ -1,4 +1,4 @@
-use Rattle.std.proofs.Common.{[], ◌∷◌, ◌≡◌, true, rules}
+use Rattle.std.proofs.Common.{[], ◌∷◌, true, rules}
 use Rattle.std.specs.Prelude.{codes}
 use Rattle.reg_service_requests.proofs.Running.{asks_as}
 use Rattle.reg_model.specs.Events.Asked.{Publish}
