@@ -52,8 +52,8 @@ module _ {S : Type 0} (g : Ghosts S) (old : Tables S) where
           let mid : HasCleanDisk (seen g done) = omega (arith, clean, end.survives.clean) in
           let early : HasCleanDisk (seen g begun) = omega (arith, mid, looks.survives.clean) in
           elim (end.survives.crash clean db l) [
-            inl at ↦ elim (looks.survives.crash mid db at) [ inl was ↦ elim (b.survives.crash early db was) [ inl it ↦ it | inr none ↦ absurd none ] | inr none ↦ absurd none ]
-          | inr none ↦ absurd none
+            | inl at ↦ elim (looks.survives.crash mid db at) [ inl was ↦ elim (b.survives.crash early db was) [ inl it ↦ it | inr none ↦ absurd none ] | inr none ↦ absurd none ]
+            | inr none ↦ absurd none
           ];
       tables = record { ours = end.ours looks.at_work.back; second = end.edition ∙ looks.same_edition ∙ b.edition ∙ at.second };
       clean = λ clean. omega (arith, clean, end.survives.clean, looks.survives.clean, b.survives.clean);
