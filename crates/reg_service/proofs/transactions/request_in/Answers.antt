@@ -1,5 +1,4 @@
-use Rattle.std.proofs.Common.{◌≡◌, arith, rules, sym, subst, ◌∙◌}
-use Rattle.std.proofs.lemmas.Bool.{false≢true}
+use Rattle.std.proofs.Common.{arith, sym, subst, ◌∙◌}
 use Rattle.std.specs.Option.{option_map}
 use Rattle.sqlite.specs.State.{HasCleanDisk}
 use Rattle.reg_model.specs.Events.Event.{Ask}
@@ -7,15 +6,13 @@ use Rattle.reg_model.specs.declared.rule.Rule.TheVariants as rule
 use Rattle.reg_policy.specs.Events.{asked_of}
 use Rattle.reg_api_replies.specs.declared.reply.Reply.TheVariants.{Denied}
 use Rattle.reg_tables.specs.Ends.{IsDropped}
-use Rattle.reg_tables.specs.Works.{AreOurs, held, is_shut, rows_seen, seen, shown}
+use Rattle.reg_tables.specs.Works.{AreOurs, held, rows_seen, seen, shown}
 use Rattle.reg_tables.proofs.Looking.{call_looks}
 use Rattle.reg_service_requests.specs.Serves.{Serves}
-use Rattle.reg_service.specs.Answered.{AreUpToDate, Halts, WasClean}
 use Rattle.reg_service.specs.Handled.{RepliesTo}
 use Rattle.reg_service.specs.Rooms.{IsKnownIn}
 use Rattle.reg_service.proofs.Rooms.{begun_knows, served_knows, unserved_knows}
 use Rattle.reg_service.proofs.Replied.{committed, failed, not_begun, not_committed, sees, sought, told}
-use Rattle.reg_service.proofs.Rests.{committed_halts, dropped_halts, dropped_looked, ended_clean, left_looked, refused_tables}
 use Rattle.reg_service.proofs.Traced.{acts, tells_line, untold}
 use Rattle.reg_service.proofs.transactions.request_in.Goals as goal
 
@@ -212,76 +209,3 @@ returns-in-Seeks-clause-known g c clean =
     let was = c.requires.known first in
     let acts = returns-in-Seeks-clause-replies g c clean was.registry was.shows in
     served_knows g.S.Store lim digest asked c.args.room.now _ old _ c.take-known.result c.in-Ok.work was c.in-Ok.ensures.begun begun c.take-known.ensures.value (c.in-Ok-serve_in_place.ensures.told mid).1 acts.0 acts.2
-
-pub returns-in_default-serve_in_place-clause-tables : goal.returns-in_default-serve_in_place-clause-tables
-returns-in_default-serve_in_place-clause-tables g c =
-    let back = c.tables-in_default-serve_in_place-1.given.1 (sym (c.serve_in_place.ensures.leaves.same_reference ∙ c.in-Ok.ensures.same_reference)) in
-    subst (λ t. AreUpToDate g.S.Store t) (sym back) ((dropped_looked g.S.Store c.args.tables.now c.in-Ok.work c.serve_in_place.new.work c.in-Ok.ensures.begun (call_looks g.S.Store c.serve_in_place.result c.in-Ok.work c.serve_in_place.new.work c.serve_in_place.ensures.leaves) c.drop-work.new.self.0 c.requires.tables c.drop-work.ensures).tables)
-
-pub returns-in_default-serve_in_place-clause-clean : goal.returns-in_default-serve_in_place-clause-clean
-returns-in_default-serve_in_place-clause-clean g c =
-    let back = c.tables-in_default-serve_in_place-1.given.1 (sym (c.serve_in_place.ensures.leaves.same_reference ∙ c.in-Ok.ensures.same_reference)) in
-    subst (λ t. WasClean g.S.Store c.args.tables.now t) (sym back) ((dropped_looked g.S.Store c.args.tables.now c.in-Ok.work c.serve_in_place.new.work c.in-Ok.ensures.begun (call_looks g.S.Store c.serve_in_place.result c.in-Ok.work c.serve_in_place.new.work c.serve_in_place.ensures.leaves) c.drop-work.new.self.0 c.requires.tables c.drop-work.ensures).clean)
-
-pub returns-in_default-serve_in_place-clause-halts : goal.returns-in_default-serve_in_place-clause-halts
-returns-in_default-serve_in_place-clause-halts g c =
-    let back = c.tables-in_default-serve_in_place-1.given.1 (sym (c.serve_in_place.ensures.leaves.same_reference ∙ c.in-Ok.ensures.same_reference)) in
-    subst (λ t. Halts (is_shut c.args.tables.now) (is_shut t) (c.denied-in_default-serve_in_place.result.reply ≡ Denied rule.S1)) (sym back) (dropped_halts g.S.Store c.args.tables.now c.in-Ok.work c.serve_in_place.new.work c.in-Ok.ensures.begun (call_looks g.S.Store c.serve_in_place.result c.in-Ok.work c.serve_in_place.new.work c.serve_in_place.ensures.leaves) c.drop-work.new.self.0 c.drop-work.ensures)
-
-pub returns-in-Told-clause-tables : goal.returns-in-Told-clause-tables
-returns-in-Told-clause-tables g c =
-    let back = c.tables-in-Told-1.given.1 (sym (c.serve_in_place.ensures.leaves.same_reference ∙ c.in-Ok.ensures.same_reference)) in
-    subst (λ t. AreUpToDate g.S.Store t) (sym back) ((dropped_looked g.S.Store c.args.tables.now c.in-Ok.work c.serve_in_place.new.work c.in-Ok.ensures.begun (call_looks g.S.Store c.serve_in_place.result c.in-Ok.work c.serve_in_place.new.work c.serve_in_place.ensures.leaves) c.drop-work-in-Told-1.new.self.0 c.requires.tables c.drop-work-in-Told-1.ensures).tables)
-
-pub returns-in-Told-clause-clean : goal.returns-in-Told-clause-clean
-returns-in-Told-clause-clean g c =
-    let back = c.tables-in-Told-1.given.1 (sym (c.serve_in_place.ensures.leaves.same_reference ∙ c.in-Ok.ensures.same_reference)) in
-    subst (λ t. WasClean g.S.Store c.args.tables.now t) (sym back) ((dropped_looked g.S.Store c.args.tables.now c.in-Ok.work c.serve_in_place.new.work c.in-Ok.ensures.begun (call_looks g.S.Store c.serve_in_place.result c.in-Ok.work c.serve_in_place.new.work c.serve_in_place.ensures.leaves) c.drop-work-in-Told-1.new.self.0 c.requires.tables c.drop-work-in-Told-1.ensures).clean)
-
-pub returns-in-Told-clause-halts : goal.returns-in-Told-clause-halts
-returns-in-Told-clause-halts g c =
-    let back = c.tables-in-Told-1.given.1 (sym (c.serve_in_place.ensures.leaves.same_reference ∙ c.in-Ok.ensures.same_reference)) in
-    subst (λ t. Halts (is_shut c.args.tables.now) (is_shut t) (c.with_line-in-Told.result.reply ≡ Denied rule.S1)) (sym back) (dropped_halts g.S.Store c.args.tables.now c.in-Ok.work c.serve_in_place.new.work c.in-Ok.ensures.begun (call_looks g.S.Store c.serve_in_place.result c.in-Ok.work c.serve_in_place.new.work c.serve_in_place.ensures.leaves) c.drop-work-in-Told-1.new.self.0 c.drop-work-in-Told-1.ensures)
-
-pub returns-in-Ok-commit-clause-clean : goal.returns-in-Ok-commit-clause-clean
-returns-in-Ok-commit-clause-clean g c =
-    let back = c.tables-in-Done-1.given.1 (sym (c.serve_in_place.ensures.leaves.same_reference ∙ c.in-Ok.ensures.same_reference)) in
-    subst (λ t. WasClean g.S.Store c.args.tables.now t) (sym back) (ended_clean g.S.Store c.args.tables.now c.in-Ok.work c.serve_in_place.new.work c.in-Ok.ensures.begun (call_looks g.S.Store c.serve_in_place.result c.in-Ok.work c.serve_in_place.new.work c.serve_in_place.ensures.leaves) c.commit.new.self.0 c.commit.result c.commit.ensures)
-
-pub returns-in-Ok-commit-clause-halts : goal.returns-in-Ok-commit-clause-halts
-returns-in-Ok-commit-clause-halts g c =
-    let back = c.tables-in-Done-1.given.1 (sym (c.serve_in_place.ensures.leaves.same_reference ∙ c.in-Ok.ensures.same_reference)) in
-    subst (λ t. Halts (is_shut c.args.tables.now) (is_shut t) (c.with_line.result.reply ≡ Denied rule.S1)) (sym back) (committed_halts g.S.Store c.args.tables.now c.in-Ok.work c.serve_in_place.new.work c.in-Ok.ensures.begun (call_looks g.S.Store c.serve_in_place.result c.in-Ok.work c.serve_in_place.new.work c.serve_in_place.ensures.leaves) c.commit.new.self.0 c.in-Ok-commit.ensures.committed)
-
-pub returns-in-Err-clause-tables : goal.returns-in-Err-clause-tables
-returns-in-Err-clause-tables g c =
-    let back = c.tables-in-Done-1.given.1 (sym (c.serve_in_place.ensures.leaves.same_reference ∙ c.in-Ok.ensures.same_reference)) in
-    subst (λ t. AreUpToDate g.S.Store t) (sym back) (refused_tables g.S.Store c.args.tables.now c.in-Ok.work c.serve_in_place.new.work c.in-Ok.ensures.begun (call_looks g.S.Store c.serve_in_place.result c.in-Ok.work c.serve_in_place.new.work c.serve_in_place.ensures.leaves) c.commit.new.self.0 c.requires.tables c.commit.ensures.ours c.in-Err.ensures.refused)
-
-pub returns-in-Err-clause-clean : goal.returns-in-Err-clause-clean
-returns-in-Err-clause-clean g c =
-    let back = c.tables-in-Done-1.given.1 (sym (c.serve_in_place.ensures.leaves.same_reference ∙ c.in-Ok.ensures.same_reference)) in
-    subst (λ t. WasClean g.S.Store c.args.tables.now t) (sym back) (ended_clean g.S.Store c.args.tables.now c.in-Ok.work c.serve_in_place.new.work c.in-Ok.ensures.begun (call_looks g.S.Store c.serve_in_place.result c.in-Ok.work c.serve_in_place.new.work c.serve_in_place.ensures.leaves) c.commit.new.self.0 c.commit.result c.commit.ensures)
-
-pub returns-in-Err-clause-halts : goal.returns-in-Err-clause-halts
-returns-in-Err-clause-halts g c = record {
-  stopped = λ was. absurd (false≢true (sym c.in-Ok.ensures.begun.was_open ∙ was));
-  stays = λ was. absurd (false≢true (sym c.in-Ok.ensures.begun.was_open ∙ was));
-  stops = λ is. search rules;
-}
-
-pub returns-in-Seeks-clause-tables : goal.returns-in-Seeks-clause-tables
-returns-in-Seeks-clause-tables g c =
-    let back = c.tables-in-Seeks-1.given.1 (sym (c.serve_in_place.ensures.leaves.same_reference ∙ c.in-Ok.ensures.same_reference)) in
-    (left_looked g.S.Store c.tables-in-Seeks-1.given.0 c.seek.new.tables (subst (λ t. AreUpToDate g.S.Store t) (sym back) (dropped_looked g.S.Store c.args.tables.now c.in-Ok.work c.serve_in_place.new.work c.in-Ok.ensures.begun (call_looks g.S.Store c.serve_in_place.result c.in-Ok.work c.serve_in_place.new.work c.serve_in_place.ensures.leaves) c.drop.new.self.0 c.requires.tables c.drop.ensures).tables) c.seek.ensures.left).tables
-
-pub returns-in-Seeks-clause-clean : goal.returns-in-Seeks-clause-clean
-returns-in-Seeks-clause-clean g c =
-    let back = c.tables-in-Seeks-1.given.1 (sym (c.serve_in_place.ensures.leaves.same_reference ∙ c.in-Ok.ensures.same_reference)) in
-    λ clean. subst (λ t. WasClean g.S.Store c.args.tables.now t) (sym back) (dropped_looked g.S.Store c.args.tables.now c.in-Ok.work c.serve_in_place.new.work c.in-Ok.ensures.begun (call_looks g.S.Store c.serve_in_place.result c.in-Ok.work c.serve_in_place.new.work c.serve_in_place.ensures.leaves) c.drop.new.self.0 c.requires.tables c.drop.ensures).clean (omega (arith, clean, c.seek.ensures.left.survives.clean))
-
-pub returns-in-Seeks-clause-halts : goal.returns-in-Seeks-clause-halts
-returns-in-Seeks-clause-halts g c =
-    let back = c.tables-in-Seeks-1.given.1 (sym (c.serve_in_place.ensures.leaves.same_reference ∙ c.in-Ok.ensures.same_reference)) in
-    subst (λ b. Halts (is_shut c.args.tables.now) b (c.with_line-in-Seeks.result.reply ≡ Denied rule.S1)) (sym c.seek.ensures.left.shut)
-    (subst (λ t. Halts (is_shut c.args.tables.now) (is_shut t) (c.with_line-in-Seeks.result.reply ≡ Denied rule.S1)) (sym back) (dropped_halts g.S.Store c.args.tables.now c.in-Ok.work c.serve_in_place.new.work c.in-Ok.ensures.begun (call_looks g.S.Store c.serve_in_place.result c.in-Ok.work c.serve_in_place.new.work c.serve_in_place.ensures.leaves) c.drop.new.self.0 c.drop.ensures))
