@@ -1,6 +1,7 @@
 //! Streams: one on standard input and output, or connections one after another.
 
-ghost use Rattle.std.specs.Prelude.{◌≡◌, ◌+◌, ◌^◌, ◌<◌, [], MatchResult, OnOk};
+ghost use Rattle.std.specs.Prelude.{◌≡◌, ◌+◌, ◌^◌, ◌<◌, [], IfOk, MatchResult, OnOk, false};
+ghost use Rattle.sqlite.specs.Held.{state};
 ghost use Rattle.reg_service.specs.Registries.{IsUpToDate, limits_of};
 ghost use Rattle.reg_cli_pipe.specs.Exits.{EndsWith};
 ghost use Rattle.reg_cli_pipe.specs.Limited.{HasTurns};
@@ -126,6 +127,28 @@ fn serve_door<S: Alter, T: Write>(
     serve_connections(rt.alloc(), server, registry, trail, door, left)
 }
 
+/// Opens the registry of a store, serves connections, and returns how that ended, and the
+/// connection.
+fn serve_store<S: Alter + Drop, T: Write>(
+    rt: &HostRuntime,
+    server: &mut Server,
+    trail: &mut Trail<T>,
+    conn: Connection<S>,
+    limits: Limits,
+    door: &mut Door,
+    left: &mut u64,
+) -> Result<(Result<(), Exit>, Connection<S>), Exit>
+    requires begun { (state S.Store conn).in_transaction ≡ false }
+    requires turns { HasTurns limits }
+    requires room { door.old.accepted + left.old < 2 ^ 64 }
+    ensures counts { door.new.accepted + left.new ≡ door.old.accepted + left.old }
+    ensures fewer { IfOk result (λ it. OnOk it.0 (0 < left.new → left.new < left.old)) }
+{
+    let mut registry = open(rt.alloc(), conn, limits)?;
+    let served = serve_door(rt, server, &mut registry, trail, door, left);
+    Ok((served, registry.into_connection()))
+}
+
 /// Opens the file, serves connections, and closes the file.
 fn serve_opening<T: Write>(
     rt: &HostRuntime,
@@ -141,9 +164,9 @@ fn serve_opening<T: Write>(
     ensures counts { door.new.accepted + left.new ≡ door.old.accepted + left.old }
     ensures fewer { OnOk result (0 < left.new → left.new < left.old) }
 {
-    let mut registry = open(rt.alloc(), connect(rt, file)?, limits)?;
-    let served = serve_door(rt, server, &mut registry, trail, door, left);
-    let _ = registry.into_connection().close();
+    let conn = connect(rt, file)?;
+    let (served, conn) = serve_store(rt, server, trail, conn, limits, door, left)?;
+    let _ = conn.close();
     served
 }
 

@@ -68,8 +68,10 @@ fn use_file(rt: &HostRuntime, file: &str, limits: Limits, wanted: &Use<'_>) -> R
     requires turns { HasTurns limits }
     requires fit { IsFitUse wanted.now }
 {
-    let (exit, conn) = use_store(rt, connect(rt, file)?, limits, wanted)?;
-    Ok(exit_of_use(rt, wanted, exit, conn.close().is_ok()))
+    let conn = connect(rt, file)?;
+    let (exit, conn) = use_store(rt, conn, limits, wanted)?;
+    let is_closed = conn.close().is_ok();
+    Ok(exit_of_use(rt, wanted, exit, is_closed))
 }
 
 /// Uses the registry of a file.
@@ -91,6 +93,8 @@ fn make_in<S: Alter + Drop>(conn: Connection<S>, base: &str) -> Result<Connectio
 
 /// Makes an empty registry in a file.
 pub(crate) fn make_file(rt: &HostRuntime, file: &str, base: &str) -> Result<(), Exit> {
-    let _ = make_in(connect(rt, file)?, base)?.close();
+    let conn = connect(rt, file)?;
+    let conn = make_in(conn, base)?;
+    let _ = conn.close();
     Ok(())
 }

@@ -3,8 +3,8 @@
 use crate::administering::administer;
 use crate::explaining::explain;
 use crate::serving::{check, init, pipe, serve};
-use clap::Error;
 use clap::error::ErrorKind;
+use clap::{ArgMatches, Error};
 use reg_body::Counted;
 use reg_cli_line::{Exit, run_line};
 use reg_cli_pipe::NO_WRITING;
@@ -40,16 +40,8 @@ fn have_dashed(words: &[String]) -> bool {
     words.iter().skip(1).any(|word| is_dashed(word))
 }
 
-/// Runs the program on its arguments, its name first. Help is printed here, on standard output with
-/// status 0. So is what `clap` says of bad arguments, on standard error with status 2.
-pub fn run_words(rt: &HostRuntime, words: &[String]) -> Exit {
-    if have_dashed(words) {
-        return Exit::BAD_WORDS;
-    }
-    let matches = match read_words(rt.alloc(), words) {
-        Ok(matches) => matches,
-        Err(error) => return print_error(rt, &error),
-    };
+/// Runs the subcommand that the arguments name.
+fn run_subcommand(rt: &HostRuntime, matches: &ArgMatches<'_>) -> Exit {
     match matches.subcommand() {
         Some(("line", _)) => line(rt),
         Some(("explain", inner)) => explain(rt, inner),
@@ -59,5 +51,17 @@ pub fn run_words(rt: &HostRuntime, words: &[String]) -> Exit {
         Some(("audit", inner)) => check(rt, inner),
         Some((name, inner)) => administer(rt, name, inner),
         None => Exit::BAD_WORDS,
+    }
+}
+
+/// Runs the program on its arguments, its name first. Help is printed here, on standard output with
+/// status 0. So is what `clap` says of bad arguments, on standard error with status 2.
+pub fn run_words(rt: &HostRuntime, words: &[String]) -> Exit {
+    if have_dashed(words) {
+        return Exit::BAD_WORDS;
+    }
+    match read_words(rt.alloc(), words) {
+        Ok(matches) => run_subcommand(rt, &matches),
+        Err(error) => print_error(rt, &error),
     }
 }

@@ -1,7 +1,7 @@
 -- What the functions that make a command's rules add to it.
 use Rattle.std.specs.Prelude.{◌≡◌, [], false, List, Result, IfOk}
 use Rattle.std.specs.declared.alloc.AllocError.{AllocError}
-use Rattle.clap.specs.Words.{App, Rule, Shape as Level, app_of, rule_of}
+use Rattle.clap.specs.Words.{App, Rule, Shape as Level, app_of, rule_of, with_subcommand}
 use Rattle.clap.specs.declared.builder.arg.Arg.{Arg}
 use Rattle.clap.specs.declared.builder.command.Command.{Command}
 use Rattle.clap.specs.declared.builder.command.Command.TheViews.{out-Command as fields_of}
@@ -27,6 +27,11 @@ Adds added old result = IfOk result (λ new. (a : App) → HasRules a old → Ha
 -- the command is a subcommand by these rules
 abbrev pub HasLevel : Level → Command → Type 0
 HasLevel s c = HasRules (record { top = s; subs = [] }) c
+
+-- the subcommand, once it is made, is added to what a command has
+abbrev pub AddsLevel : Result Command AllocError → Command → Result Command AllocError → Type 0
+AddsLevel made old result = IfOk result (λ new. (a : App) (s : Level) → IfOk made (HasLevel s)
+    → HasRules a old → HasRules (with_subcommand a s) new)
 
 abbrev pub entry_level : Shape → Entry → Level
 entry_level shape entry = level shape entry.name.now entry.words

@@ -3,7 +3,7 @@
 ghost use Rattle.std.specs.Prelude.{IfOk, codes, map};
 ghost use Rattle.clap.specs.Words.{new_app, with_rule};
 ghost use Rattle.reg_cli_words.specs.Grammar.{file_rule, flag_rule, option_rule, value_rule, with_levels, with_rules, word_rule, word_rules};
-ghost use Rattle.reg_cli_words.specs.Making.{Adds, HasLevel, HasRule, HasRules, entry_level};
+ghost use Rattle.reg_cli_words.specs.Making.{Adds, AddsLevel, HasLevel, HasRule, HasRules, entry_level};
 
 use clap::{Arg, ArgAction, Command};
 use std::alloc::{AllocError, Global};
@@ -130,6 +130,13 @@ pub(crate) fn subcommand<'a>(alloc: Global, shape: Shape, entry: &Entry) -> Made
     }
 }
 
+/// Adds a subcommand, once it is made.
+pub(crate) fn with_level<'a>(command: Command<'a>, made: MadeCommand<'a>) -> MadeCommand<'a>
+    ensures { AddsLevel made.entry command.entry result }
+{
+    command.subcommand(made?)
+}
+
 /// Adds the subcommands of the entries.
 pub(crate) fn with_entries<'a>(
     alloc: Global,
@@ -140,7 +147,7 @@ pub(crate) fn with_entries<'a>(
     ensures { Adds (λ a. with_levels a (map (entry_level shape) entries.now)) command.entry result }
 {
     for entry in entries {
-        command = command.subcommand(subcommand(alloc, shape, entry)?)?;
+        command = with_level(command, subcommand(alloc, shape, entry))?;
     }
     Ok(command)
 }

@@ -5,7 +5,9 @@ ghost use Rattle.reg_cli_words.specs.Grammar.{level, option_rule, order_levels, 
 ghost use Rattle.reg_cli_words.specs.Making.{Adds, HasLevel};
 ghost use Rattle.reg_cli_words.specs.declared.parameters.Words.TheVariants.{Login};
 
-use crate::parameters::{Entry, MadeCommand, Shape, Words, option, subcommand, with_entries};
+use crate::parameters::{
+    Entry, MadeCommand, Shape, Words, option, subcommand, with_entries, with_level,
+};
 use clap::Command;
 use std::alloc::{AllocError, Global};
 
@@ -140,7 +142,7 @@ fn token_add<'a>(alloc: Global, shape: Shape) -> MadeCommand<'a>
 pub(crate) fn with_orders<'a>(alloc: Global, shape: Shape, command: Command<'a>) -> MadeCommand<'a>
     ensures { Adds (λ a. with_levels a (order_levels shape)) command.entry result }
 {
-    let command = command.subcommand(user_add(alloc, shape)?)?;
-    let command = command.subcommand(token_add(alloc, shape)?)?;
+    let command = with_level(command, user_add(alloc, shape))?;
+    let command = with_level(command, token_add(alloc, shape))?;
     with_entries(alloc, shape, &PLAIN, command)
 }

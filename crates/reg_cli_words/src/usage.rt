@@ -6,7 +6,7 @@ ghost use Rattle.clap.specs.declared.error.kind.ErrorKind.TheVariants.{OutOfMemo
 ghost use Rattle.reg_cli_words.specs.Grammar.{IsJudged, file_rule, flag_rule, named_level, needed_rule, number_rules, option_rule, other_levels, place_rules, program_app, program_top, service_levels, setup_app, setup_top, with_levels, with_rules, word_rule};
 ghost use Rattle.reg_cli_words.specs.Making.{Adds, HasLevel, HasRules, Makes};
 
-use crate::parameters::{MadeCommand, Shape, described, flag, option, with_file, word};
+use crate::parameters::{MadeCommand, Shape, described, flag, option, with_file, with_level, word};
 use crate::reports::with_reports;
 use crate::subcommands::with_orders;
 use crate::version::VERSION;
@@ -169,21 +169,19 @@ fn explain_words<'a>(alloc: Global) -> MadeCommand<'a>
 fn with_services<'a>(alloc: Global, command: Command<'a>) -> MadeCommand<'a>
     ensures { Adds (λ a. with_levels a service_levels) command.entry result }
 {
-    command
-        .subcommand(init_words(alloc)?)?
-        .subcommand(serve_words(alloc)?)?
-        .subcommand(pipe_words(alloc)?)
+    let command = with_level(command, init_words(alloc))?;
+    let command = with_level(command, serve_words(alloc))?;
+    with_level(command, pipe_words(alloc))
 }
 
 /// The subcommands that look at a registry's file, or need none.
 fn with_others<'a>(alloc: Global, command: Command<'a>) -> MadeCommand<'a>
     ensures { Adds (λ a. with_levels a other_levels) command.entry result }
 {
-    command
-        .subcommand(export_words(alloc)?)?
-        .subcommand(audit_words(alloc)?)?
-        .subcommand(line_words(alloc))?
-        .subcommand(explain_words(alloc)?)
+    let command = with_level(command, export_words(alloc))?;
+    let command = with_level(command, audit_words(alloc))?;
+    let command = command.subcommand(line_words(alloc))?;
+    with_level(command, explain_words(alloc))
 }
 
 fn program<'a>(alloc: Global) -> Command<'a>

@@ -3,7 +3,7 @@ use Rattle.std.proofs.lemmas.List.{map-append, take_all, take_more}
 use Rattle.clap.specs.Words.{App}
 use Rattle.reg_cli_words.specs.Grammar.{with_levels}
 use Rattle.reg_cli_words.specs.Making.{HasRules, entry_level}
-use Rattle.reg_cli_words.proofs.Making.{levels_append, sub_added}
+use Rattle.reg_cli_words.proofs.Making.{levels_append}
 use Rattle.reg_cli_words.proofs.parameters.with_entries.Goals as goal
 
 pub loop-entry-init : goal.loop-entry-init
@@ -13,7 +13,7 @@ pub loop-entry-preserved : goal.loop-entry-preserved
 loop-entry-preserved c a had =
     let level = entry_level c.args.shape in
     let before = take c.loop-entry.entry-index c.args.entries.now in
-    let added = sub_added _ _ _ _ _ c.in_ok-subcommand.ensures c.in_ok-command.ensures (c.loop-entry.invariant a had) in
+    let added = c.in_ok-command.ensures _ _ c.subcommand.ensures (c.loop-entry.invariant a had) in
     subst (λ levels. HasRules (with_levels a levels) c.in_ok-command.command) (sym (ap (map level) (take_more c.args.entries.now c.loop-entry.entry-index _ c.loop-entry-test.true) ∙ map-append level before _))
     (subst (λ it. HasRules it c.in_ok-command.command) (sym (levels_append a _ (map level before))) added)
 

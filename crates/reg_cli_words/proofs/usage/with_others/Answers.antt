@@ -3,9 +3,9 @@ use Rattle.reg_cli_words.proofs.Making.{sub_added}
 use Rattle.reg_cli_words.proofs.usage.with_others.Goals as goal
 
 pub returns : goal.returns
-returns c = IfOk-weaker c.subcommand-4.result _ _ (λ new added app had.
-    sub_added _ _ _ _ _ c.in_ok-explain_words.ensures added
-    (sub_added _ _ _ _ _ c.line_words.ensures c.in_ok-subcommand-3.ensures
-    (sub_added _ _ _ _ _ c.in_ok-audit_words.ensures c.in_ok-subcommand-2.ensures
-    (sub_added _ _ _ app _ c.in_ok-export_words.ensures c.in_ok-subcommand.ensures had))))
-    c.subcommand-4.ensures
+returns c = IfOk-weaker c.with_level-3.result _ _ (λ new added app had.
+    added _ _ c.explain_words.ensures
+    (sub_added _ _ _ _ _ c.line_words.ensures c.in_ok-command-3.ensures
+    (c.in_ok-command-2.ensures _ _ c.audit_words.ensures
+    (c.in_ok-command.ensures app _ c.export_words.ensures had))))
+    c.with_level-3.ensures
