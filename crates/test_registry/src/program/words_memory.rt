@@ -5,7 +5,7 @@
 
 use crate::program::runs::{ending, new_file, words_of};
 use reg_cli::run_words;
-use std::alloc::AllocError;
+use std::alloc::{AllocError, Global};
 use std::test::Fail;
 use std::{fs, io};
 use test_support::scarce_memory::Amounts;
@@ -52,22 +52,35 @@ enum Went {
     Wrong(String),
 }
 
+/// What came of a line that ended as found with the amount of this number, and as next with ample
+/// memory.
+fn came_of(
+    alloc: Global,
+    k: u32,
+    line: &str,
+    ends: &str,
+    found: &str,
+    next: &str,
+) -> io::Result<Went> {
+    let (first, again) = ends.split_once(" | ").unwrap_or((ends, ends));
+    if found == first && next == again {
+        return Ok(Went::Done);
+    }
+    if REFUSED.iter().any(|end| *end == found) && next == first {
+        return Ok(Went::Refused);
+    }
+    Ok(Went::Wrong(format!(in alloc; "{k}: {line} -> {found}, then {next}")?))
+}
+
 /// Runs a line with the amount of this number, and once more with ample memory. `NEW` stands for
 /// a number of four digits, another one for each amount.
 fn with_amount(rt: &HostRuntime, line: &str, file: &str, unit: u32, k: u32) -> io::Result<Went> {
     let number = format!(in rt.alloc(); "{}", k.saturating_add(1_000))?;
     let line = line.replace(rt.alloc(), "NEW", &number)?;
     let (words, ends) = line.split_once(" -> ").unwrap_or((&line, "no arrow"));
-    let (first, again) = ends.split_once(" | ").unwrap_or((ends, ends));
     let found = scarce_ending(rt, words, file, k.saturating_mul(k).saturating_mul(unit))?;
     let next = ending(rt, words, file)?;
-    if found.as_str() == first && next.as_str() == again {
-        return Ok(Went::Done);
-    }
-    if REFUSED.iter().any(|end| *end == found.as_str()) && next.as_str() == first {
-        return Ok(Went::Refused);
-    }
-    Ok(Went::Wrong(format!(in rt.alloc(); "{k}: {words} -> {found}, then {next}")?))
+    came_of(rt.alloc(), k, words, ends, &found, &next)
 }
 
 /// What is wrong with a line up to the first amount that is enough.

@@ -64,6 +64,19 @@ pub(crate) fn setup_of(first: &str) -> &'static str {
     }
 }
 
+/// Plays lines on a registry with nothing in it, and on the plain one.
+fn play_beside<S: Alter>(
+    alloc: Global,
+    registry: &mut Registry<S>,
+    limits: Limits,
+    lines: &str,
+) -> Result<Option<String>, AllocError>
+    requires { IsUpToDate S.Store registry.old }
+{
+    let mut plain = PlainRegistry::new(alloc, limits);
+    first_fault(alloc, registry, &mut plain, lines)
+}
+
 /// Plays lines on a new registry, and on the plain one.
 fn play_new<S: Alter + Drop>(
     alloc: Global,
@@ -74,9 +87,8 @@ fn play_new<S: Alter + Drop>(
     if !conn.is_autocommit() {
         return Err(Fault::NotMade);
     }
-    let mut plain = PlainRegistry::new(alloc, limits);
     match Registry::create(conn, BASE, limits) {
-        Ok(mut registry) => Ok(first_fault(alloc, &mut registry, &mut plain, lines)?),
+        Ok(mut registry) => Ok(play_beside(alloc, &mut registry, limits, lines)?),
         Err((_conn, _fault)) => Err(Fault::NotMade),
     }
 }

@@ -45,7 +45,7 @@ fn seen_over<S: Alter + Drop>(alloc: Global, conn: Connection<S>) -> Result<Stri
     Ok(format!(in alloc; "{seen}{}", played?.lines)?)
 }
 
-fn seen_in(alloc: Global, files: Files<Stopping>) -> Result<String, Fault> {
+fn seen_in<D: Disk + Drop>(alloc: Global, files: Files<D>) -> Result<String, Fault> {
     match open(alloc, files, MANY_PAGES) {
         Ok(conn) => seen_over(alloc, conn),
         Err(_files) => Err(Fault::NotOpened),
@@ -76,17 +76,34 @@ fn prepared_of(alloc: Global, mut files: Files<Stopping>) -> Result<Prepared, Fa
     Ok(Prepared { image, seen })
 }
 
-/// The files once lines were played in them, each of which is answered as it says.
-fn filled(alloc: Global, files: Files<Stopping>, lines: &str) -> Result<Files<Stopping>, Fault> {
-    let Ok(conn) = open(alloc, files, MANY_PAGES) else {
-        return Err(Fault::NotOpened);
+/// The store once lines were played over it, each of which is answered as it says; without lines,
+/// once it is one of schema 1.
+fn filled_over<S: Alter + Drop>(
+    alloc: Global,
+    conn: Connection<S>,
+    lines: Option<&str>,
+) -> Result<Connection<S>, Fault> {
+    let Some(lines) = lines else {
+        return with_old(conn).ok_or(Fault::Memory);
     };
     let (conn, played) = play(alloc, conn, lines, None);
     let found = played?.lines;
     if found.as_str() != lines {
         return Err(Fault::Line(found));
     }
-    closed(conn).ok_or(Fault::NotClosed)
+    Ok(conn)
+}
+
+/// New files whose store is filled.
+fn filled<D: Disk + Drop>(
+    alloc: Global,
+    files: Files<D>,
+    lines: Option<&str>,
+) -> Result<Files<D>, Fault> {
+    match open(alloc, files, MANY_PAGES) {
+        Ok(conn) => closed(filled_over(alloc, conn, lines)?).ok_or(Fault::NotClosed),
+        Err(_files) => Err(Fault::NotOpened),
+    }
 }
 
 /// Files with nothing in them.
@@ -94,20 +111,19 @@ pub(crate) fn prepare_nothing(alloc: Global) -> Result<Prepared, Fault> {
     prepared_of(alloc, files_of(alloc, &nothing(alloc), &NO_LIMITS)?)
 }
 
-/// Files in which lines were played.
-pub(crate) fn prepare(alloc: Global, lines: &str) -> Result<Prepared, Fault> {
+fn prepare_filled(alloc: Global, lines: Option<&str>) -> Result<Prepared, Fault> {
     let files = files_of(alloc, &nothing(alloc), &NO_LIMITS)?;
     prepared_of(alloc, filled(alloc, files, lines)?)
 }
 
+/// Files in which lines were played.
+pub(crate) fn prepare(alloc: Global, lines: &str) -> Result<Prepared, Fault> {
+    prepare_filled(alloc, Some(lines))
+}
+
 /// Files that hold a store of schema 1.
 pub(crate) fn prepare_old(alloc: Global) -> Result<Prepared, Fault> {
-    let files = files_of(alloc, &nothing(alloc), &NO_LIMITS)?;
-    let Ok(conn) = open(alloc, files, MANY_PAGES) else {
-        return Err(Fault::NotOpened);
-    };
-    let conn = with_old(conn).ok_or(Fault::Memory)?;
-    prepared_of(alloc, closed(conn).ok_or(Fault::NotClosed)?)
+    prepare_filled(alloc, None)
 }
 
 /// The files as lines leave them, and what was played.

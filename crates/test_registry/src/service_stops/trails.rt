@@ -8,11 +8,10 @@ use reg_cli_pipe::pipe_traced;
 use reg_http::Trail;
 use reg_policy::{AdminCommand, AdminReply};
 use reg_service::Registry;
-use sqlite::Files;
+use sqlite::{Alter, Connection, Files};
+use sqlite_disk::{Crash, Disk};
 use std::alloc::Global;
-use test_files::{
-    FEW_PAGES, MANY_PAGES, Scarce, Stopping, files_of, have_stopped, left, open, revive,
-};
+use test_files::{FEW_PAGES, MANY_PAGES, Scarce, files_of, have_stopped, left, open, revive};
 
 /// More calls of a file than the setup makes.
 const MOST_CALLS: u32 = 5_000;
@@ -21,11 +20,11 @@ const SETUP: &str = "user-add ada\nuser-add bob\nuser-add carol\n";
 
 const TRAIL: &str = "- admin user-add ada\n- admin user-add bob\n- admin user-add carol\n";
 
-/// The files after the setup, and its trail; none if the registry was not opened.
-fn told_in(alloc: Global, files: Files<Stopping>) -> Option<(Files<Stopping>, Vec<u8>)> {
-    let Ok(conn) = open(alloc, files, FEW_PAGES) else {
-        return None;
-    };
+/// The store after the setup, and its trail; none if the registry was not opened.
+fn told_over<S: Alter + Drop>(
+    alloc: Global,
+    conn: Connection<S>,
+) -> Option<(Connection<S>, Vec<u8>)> {
     if !conn.is_autocommit() {
         return None;
     }
@@ -37,15 +36,20 @@ fn told_in(alloc: Global, files: Files<Stopping>) -> Option<(Files<Stopping>, Ve
     let mut writer = Counted::new(Vec::new(alloc));
     let of = &mut registry;
     let _ = pipe_traced(alloc, of, SETUP, &mut reader, &mut writer, &mut trail);
-    Some((left(registry.into_connection()), trail.into_inner()))
+    Some((registry.into_connection(), trail.into_inner()))
 }
 
-/// How many accounts are found in the files after the stop.
-fn accounts_in(alloc: Global, mut files: Files<Stopping>) -> Result<usize, Fault> {
-    revive(&mut files);
-    let Ok(conn) = open(alloc, files, MANY_PAGES) else {
-        return Err(Fault::NotOpened);
+/// The files after the setup, and its trail; none if the registry was not opened.
+fn told_in<D: Disk + Drop>(alloc: Global, files: Files<D>) -> Option<(Files<D>, Vec<u8>)> {
+    let Ok(conn) = open(alloc, files, FEW_PAGES) else {
+        return None;
     };
+    let (conn, trail) = told_over(alloc, conn)?;
+    Some((left(conn), trail))
+}
+
+/// How many accounts are found in the store.
+fn accounts_over<S: Alter + Drop>(alloc: Global, conn: Connection<S>) -> Result<usize, Fault> {
     if !conn.is_autocommit() {
         return Err(Fault::NotOpened);
     }
@@ -55,6 +59,15 @@ fn accounts_in(alloc: Global, mut files: Files<Stopping>) -> Result<usize, Fault
     match registry.command(alloc, &AdminCommand::Users) {
         Ok(AdminReply::Text(text)) => Ok(text.lines().count()),
         _ => Err(Fault::NotOpened),
+    }
+}
+
+/// How many accounts are found in the files after the stop.
+fn accounts_in<D: Crash + Drop>(alloc: Global, mut files: Files<D>) -> Result<usize, Fault> {
+    revive(&mut files);
+    match open(alloc, files, MANY_PAGES) {
+        Ok(conn) => accounts_over(alloc, conn),
+        Err(_files) => Err(Fault::NotOpened),
     }
 }
 

@@ -49,6 +49,20 @@ pub(crate) fn digest_archive(alloc: Global, length: &str) -> Result<usize, Fault
     Ok(digest_of(&archive).as_slice().len())
 }
 
+/// Makes a call, and commits it.
+fn commit_call<S: Alter>(
+    alloc: Global,
+    tables: &mut Tables<S>,
+    call: &Call<'_>,
+) -> Result<(), Fault>
+    requires { AreOurs S.Store tables.old }
+    ensures { AreOurs S.Store tables.new }
+{
+    let mut work = tables.upgrade()?;
+    perform(alloc, &mut work, call)?;
+    Ok(work.commit()?)
+}
+
 /// Adds a version of the first crate whose archive has this length, and commits it.
 pub(crate) fn add_archive<S: Alter>(
     alloc: Global,
@@ -60,12 +74,7 @@ pub(crate) fn add_archive<S: Alter>(
 {
     let archive = archive_of(alloc, length)?;
     let release = release_of(alloc, "Crate-000001", "0.4.0", &archive, None)?;
-    let mut work = tables.upgrade()?;
-    perform(
-        alloc,
-        &mut work,
-        &Call::Crate(CrateCall::AddVersion(1, release)),
-    )?;
-    work.commit()?;
+    let call = Call::Crate(CrateCall::AddVersion(1, release));
+    commit_call(alloc, tables, &call)?;
     Ok(archive.len())
 }

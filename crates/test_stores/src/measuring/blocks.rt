@@ -11,7 +11,7 @@ use reg_tables::Tables;
 use sqlite::{Alter, Connection};
 use std::alloc::Global;
 use std::time::Instant;
-use test_tables::{BASE, perform, play_over, read_call};
+use test_tables::{BASE, Call, perform, play_over, read_call};
 
 /// What is told of a block.
 #[derive(Clone, Copy)]
@@ -21,15 +21,27 @@ pub(crate) enum Telling {
 }
 
 /// How much a call finds, in a transaction that is then dropped.
+fn count_of<S: Alter>(
+    alloc: Global,
+    tables: &mut Tables<S>,
+    call: &Call<'_>,
+) -> Result<usize, Fault>
+    requires { AreOurs S.Store tables.old }
+    ensures { AreOurs S.Store tables.new }
+{
+    let mut work = tables.upgrade()?;
+    Ok(perform(alloc, &mut work, call)?.count())
+}
+
+/// How much the call of a line finds.
 fn called<S: Alter>(alloc: Global, tables: &mut Tables<S>, line: &str) -> Result<usize, Fault>
     requires { AreOurs S.Store tables.old }
     ensures { AreOurs S.Store tables.new }
 {
-    let Some(call) = read_call(alloc, line)? else {
-        return Err(Fault::Words);
-    };
-    let mut work = tables.upgrade()?;
-    Ok(perform(alloc, &mut work, &call)?.count())
+    match read_call(alloc, line)? {
+        Some(call) => count_of(alloc, tables, &call),
+        None => Err(Fault::Words),
+    }
 }
 
 /// How much a line finds.

@@ -2,7 +2,7 @@
 
 use crate::table_stops::fault::Fault;
 use crate::table_stops::playing::{filled, rows_over};
-use sqlite::Files;
+use sqlite::{Alter, Connection, Files};
 use sqlite_disk::{Crash, Disk};
 use std::alloc::Global;
 use test_files::{Image, MANY_PAGES, NO_LIMITS, closed, files_of, image_of, nothing, open, revive};
@@ -35,31 +35,33 @@ pub(crate) fn prepare_nothing(alloc: Global) -> Prepared {
     }
 }
 
-/// The files once they were opened and filled.
+/// The store once it is the prepared registry over which this script was played; without a script,
+/// once it is one of schema 1.
+fn filled_over<S: Alter + Drop>(
+    alloc: Global,
+    conn: Connection<S>,
+    script: Option<&str>,
+) -> Result<Connection<S>, Fault> {
+    match script {
+        Some(script) => filled(alloc, conn, script),
+        None => with_old(conn).ok_or(Fault::NotMade),
+    }
+}
+
+/// The files once their store is filled.
 fn filled_files<D: Disk + Drop>(
     alloc: Global,
     files: Files<D>,
-    script: &str,
+    script: Option<&str>,
 ) -> Result<Files<D>, Fault> {
     match open(alloc, files, MANY_PAGES) {
-        Ok(conn) => closed(filled(alloc, conn, script)?).ok_or(Fault::NotClosed),
+        Ok(conn) => closed(filled_over(alloc, conn, script)?).ok_or(Fault::NotClosed),
         Err(_files) => Err(Fault::NotOpened),
     }
 }
 
-/// The files once they were opened and a store of schema 1 was made in them.
-fn old_files<D: Disk + Drop>(alloc: Global, files: Files<D>) -> Result<Files<D>, Fault> {
-    match open(alloc, files, MANY_PAGES) {
-        Ok(conn) => {
-            let conn = with_old(conn).ok_or(Fault::NotMade)?;
-            closed(conn).ok_or(Fault::NotClosed)
-        }
-        Err(_files) => Err(Fault::NotOpened),
-    }
-}
-
-/// The bytes of new files that hold the prepared registry once this script was played over it.
-fn image_after(alloc: Global, script: &str) -> Result<Image, Fault> {
+/// The bytes of new files whose store is filled.
+fn image_after(alloc: Global, script: Option<&str>) -> Result<Image, Fault> {
     let files = files_of(alloc, &nothing(alloc), &NO_LIMITS)?;
     let files = filled_files(alloc, files, script)?;
     Ok(image_of(alloc, &files)?)
@@ -72,14 +74,12 @@ fn with_its_rows(alloc: Global, image: Image) -> Result<Prepared, Fault> {
 
 /// The prepared registry once this script was played over it.
 pub(crate) fn prepare_files(alloc: Global, script: &str) -> Result<Prepared, Fault> {
-    let image = image_after(alloc, script)?;
+    let image = image_after(alloc, Some(script))?;
     with_its_rows(alloc, image)
 }
 
 /// A store of schema 1.
 pub(crate) fn prepare_old_files(alloc: Global) -> Result<Prepared, Fault> {
-    let files = files_of(alloc, &nothing(alloc), &NO_LIMITS)?;
-    let files = old_files(alloc, files)?;
-    let image = image_of(alloc, &files)?;
+    let image = image_after(alloc, None)?;
     with_its_rows(alloc, image)
 }
