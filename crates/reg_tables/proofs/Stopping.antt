@@ -1,15 +1,23 @@
 -- What a stop may leave where a change of the tables was refused.
-use Rattle.std.proofs.Common.{◌≡◌, ◌∙◌, inl, inr, IsTrue, Err, Result, ap, refl, subst, sym}
+use Rattle.std.proofs.Common.{◌≡◌, ◌∙◌, inl, inr, IsTrue, Ok, Err, Result, ap, arith, refl, subst, sym}
 use Rattle.sqlite_trees.specs.declared.store.Store.{Ghosts}
 use Rattle.sqlite.specs.Effect.{Database}
 use Rattle.sqlite.specs.Held.{Held, state}
 use Rattle.sqlite.specs.State.{State, HasCleanDisk, KeepsCommit, Survives}
 use Rattle.sqlite.specs.Tree.{Trees}
+use Rattle.sqlite.proofs.StateLemmas.{survives_then}
 use Rattle.reg_tables_schema.proofs.MakeLemmas.{undone_keeps}
+use Rattle.reg_tables_schema.specs.declared.edition.Edition.{Edition}
+use Rattle.reg_tables_schema.specs.declared.edition.Edition.TheVariants.{First, Second}
 use Rattle.reg_tables_schema.specs.declared.make.MakeFault.{MakeFault}
 use Rattle.reg_tables_schema.specs.declared.make.MakeFault.TheVariants.{UnknownSchema, Storage}
 use Rattle.reg_tables_schema.specs.States.{IsUndone, LeavesCommit}
-use Rattle.reg_tables.specs.Ends.{LeavesLast}
+use Rattle.reg_tables_meaning.proofs.Raising.{commit_undone, upgraded}
+use Rattle.reg_tables_meaning.specs.Upgrades.{AreUpgraded, BeginsSecond, IsUpgraded, Upgrades}
+use Rattle.reg_tables.specs.Ends.{Begins, IsEnded, LeavesLast}
+use Rattle.reg_tables.specs.Works.{IsSame, edition_in, seen, shown}
+use Rattle.reg_tables.specs.declared.tables.Tables.{Tables}
+use Rattle.reg_tables.specs.declared.work.Work.{Work}
 
 keeps_itself : (s : State) → KeepsCommit s s
 keeps_itself s = record { was_open = λ up. up; committed = λ up. refl }
@@ -29,3 +37,32 @@ module _ {S : Type 0} (g : Ghosts S) where
       leaves_last (state g old) (state g new) P law (subst (λ h. KeepsCommit (state g old) (state g h)) (sym (untouched is)) (keeps_itself (state g old))) survives clean
   make_leaves old new r Storage P is law untouched undone survives clean =
       leaves_last (state g old) (state g new) P law (undone_keeps (state g old) (state g new) (undone clean is)) survives clean
+
+-- what a migration leaves, or a stop in it, after its transaction began
+begins_first : (e : Edition) (old mid : State) → e ≡ First → BeginsSecond e old mid → Upgrades old mid
+begins_first First old mid is h = h
+begins_first Second old mid is h = absurd cc
+
+module _ {S : Type 0} (g : Ghosts S) (old : Tables S) (w : Work S) (new : Tables S) (is : edition_in old ≡ First) (begun : Begins g (BeginsSecond (edition_in old)) old w) where
+  upgrades_first : {P : Trees → Type 0} → Survives (seen g w) (shown g new) P → HasCleanDisk (shown g new) → Upgrades (shown g old) (seen g w)
+  upgrades_first two clean = begins_first (edition_in old) (shown g old) (seen g w) is (begun.view (omega (arith, clean, two.clean)))
+
+  pub migrated : {T E : Type 0} (x : T) → IsEnded {E = E} g (Ok x) w new → HasCleanDisk (shown g new) → IsUpgraded (shown g old) (shown g new)
+  migrated x ended clean = upgraded (edition_in old) (shown g old) (seen g w) (shown g new) is (begun.view (omega (arith, clean, ended.survives.clean))) (ended.committed.kept clean)
+
+  pub migration_stops : {T E : Type 0} (r : Result T E) → IsEnded g r w new → Survives (shown g old) (shown g new) (λ db. IsTrue (shown g old).is_open × AreUpgraded (shown g old).now db)
+  migration_stops r ended = survives_then (shown g old) (seen g w) (shown g new) _ _ _ (λ _ db none. absurd none) (λ clean db it.
+      let up = upgrades_first ended.survives clean in
+      (up.shows.was_open, ((seen g w).now, up.made, it.1))) begun.survives ended.survives
+
+  module _ {T E : Type 0} (e : E) (ended : IsEnded {T = T} g (Err e) w new) where
+    pub not_migrated : HasCleanDisk (shown g new) → IsSame g old new
+    not_migrated clean = inr (commit_undone (edition_in old) (shown g old) (seen g w) (shown g new) (begun.view (omega (arith, clean, ended.survives.clean))) (ended.refused.undone clean))
+
+    pub migration_last : HasCleanDisk (shown g new) → LeavesLast (shown g old) (shown g new)
+    migration_last clean was =
+        let s = (upgrades_first ended.survives clean).shows in
+        elim (ended.refused.alone clean s.is_open) [
+          | inl only ↦ inl (λ db l. only db l ∙ ap (λ (d : Database). d.trees) s.committed_is)
+          | inr faults ↦ inr (omega (arith, faults, begun.survives.counts))
+        ]
