@@ -1,5 +1,5 @@
 -- Rows whose ids, as they are listed with their records, rise: each row has its own.
-use Rattle.std.proofs.Common.{◌≡◌, ◌<◌, ◌+◌, arith, ℕ, ℤ, pos, List, [], ◌∷◌, map, length, take, sym, ap, ◌∙◌}
+use Rattle.std.proofs.Common.{◌<◌, ◌+◌, arith, ℕ, ℤ, pos, List, [], ◌∷◌, map, length, take, sym, ap, ◌∙◌}
 use native.Mathlib.Numerals.{unary_clauses}
 use Rattle.std.specs.List.{AllAdjacentBelow}
 use Rattle.std.specs.List.Sorted.{IsStrictlySortedBy}
