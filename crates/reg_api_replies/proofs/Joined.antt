@@ -1,21 +1,11 @@
--- Texts that are sent one after another, and bytes in several calls.
+-- Texts that are sent one after another.
 use Rattle.std.proofs.Common.{subst, [], refl, append-nil, ◌≡◌, ℕ, zero, suc, ◌+◌, ◌-◌, ◌<◌, List, ◌++◌, length, take, drop, Option, Result, Ok, Err, sym, ap, ◌∙◌, append_assoc, take-append-drop, length-append, arith}
 use Rattle.std.specs.Io.KnownBytes.{Appends}
 use Rattle.std.proofs.KnownBytes.{Appends-nil, Appends-trans}
-use Rattle.reg_api_replies.specs.declared.bytes.SendFault.{SendFault}
-use Rattle.reg_api_replies.specs.declared.bytes.SendFault.TheVariants.{Spent, Write}
-use Rattle.reg_api_replies.specs.Sent.{AppendsFront, Piles, IsStopped, Sends, SendsAll, Sink, after}
-
--- one more write: the front grows by what the writer took of the rest
-pub took_more : (a b c : Option (List ℕ)) (bytes front rest : List ℕ) (n : ℕ)
-    → bytes ≡ front ++ rest → Appends a b front → Appends b c (take n rest)
-    → (f : List ℕ) × (bytes ≡ f ++ drop n rest) × Appends a c f
-took_more a b c bytes front rest n whole before now = (
-  front ++ take n rest,
-  whole ∙ ap (λ r. front ++ r) (sym (take-append-drop n rest))
-      ∙ sym (append_assoc front (take n rest) (drop n rest)),
-  Appends-trans a b c front (take n rest) before now,
-)
+use Rattle.reg_body.specs.declared.bytes.SendFault.{SendFault}
+use Rattle.reg_body.specs.declared.bytes.SendFault.TheVariants.{Spent, Write}
+use Rattle.reg_api_replies.specs.Piled.{Piles}
+use Rattle.reg_body.specs.Sent.{AppendsFront, IsStopped, Sends, SendsAll, Sink, after}
 
 -- a front of the first text, and all of it and a front of the second, are fronts of both together
 front_first : (a b : List ℕ) (s t : Option (List ℕ)) → AppendsFront a s t → AppendsFront (a ++ b) s t

@@ -1,6 +1,6 @@
 pub mod Bodies
 pub mod Entries
 pub mod Heads
+pub mod Piled
 pub mod Replies
-pub mod Sent
 pub mod Texts

@@ -5,9 +5,10 @@ ghost use Rattle.std.specs.Prelude.{◌≡◌, ◌+◌, ◌-◌, ◌++◌, List,
 ghost use Rattle.reg_model.specs.Events.{Answer, Asked};
 ghost use Rattle.reg_api_replies.specs.Replies.{Says};
 ghost use Rattle.reg_api_replies.specs.declared.reply.Reply.{Reply};
-ghost use Rattle.reg_api_replies.specs.Sent.{IsStopped, Piles, Sends, SendsAll, Sink, after};
+ghost use Rattle.reg_api_replies.specs.Piled.{Piles};
+ghost use Rattle.reg_body.specs.Sent.{IsStopped, Sends, SendsAll, Sink, after};
 ghost use Rattle.reg_api_replies.specs.Texts.{answer_text, reply_text};
-ghost use Rattle.reg_api_replies.specs.declared.bytes.SendFault.{SendFault};
+ghost use Rattle.reg_body.specs.declared.bytes.SendFault.{SendFault};
 
 /// Sending two texts one after another is sending their concatenation.
 pub fn joined_law()

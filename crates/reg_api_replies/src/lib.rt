@@ -13,7 +13,6 @@
 //! ```
 #![tactic(auto)]
 
-mod bytes;
 mod fixed_text;
 mod found;
 mod granted;
@@ -25,7 +24,6 @@ mod refused;
 mod reply;
 mod sending;
 
-pub use bytes::{SendFault, write_bytes};
 pub use fixed_text::FixedText;
 pub use found::FoundBody;
 pub use granted::{ok_body, owners_added_body, owners_removed_body, publish_body};
@@ -33,5 +31,6 @@ pub use head::{Kind, Methods, reply_head};
 pub use owners::OwnersBody;
 pub use pile::Pile;
 pub use refused::error_body;
+pub use reg_body::SendFault;
 pub use reply::Reply;
 pub use sending::write_reply;

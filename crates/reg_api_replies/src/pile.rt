@@ -1,11 +1,11 @@
 //! Small texts that wait until they leave in one write.
 
 ghost use Rattle.std.specs.Prelude.{◌≡◌, ◌+◌, ◌^◌, ◌<◌, [], OnOk};
-ghost use Rattle.reg_api_replies.specs.Sent.{Puts, Sends, sink};
+ghost use Rattle.reg_api_replies.specs.Piled.{Puts};
+ghost use Rattle.reg_body.specs.Sent.{Sends, sink};
 
-use crate::bytes::{SendFault, write_bytes};
 use arrayvec::ArrayVec;
-use reg_body::Counted;
+use reg_body::{Counted, SendFault, write_bytes};
 use std::io::Write;
 use std::marker::Model;
 

@@ -1,17 +1,16 @@
 //! Sending replies.
 
 ghost use Rattle.std.specs.Prelude.{◌≡◌, ◌+◌, ◌^◌, ◌<◌, ◌++◌};
-ghost use Rattle.reg_api_replies.specs.Sent.{Sends, sink};
+ghost use Rattle.reg_body.specs.Sent.{Sends, sink};
 ghost use Rattle.reg_api_replies.specs.Texts.{body_if, refusal_text, reply_text};
 
-use crate::bytes::SendFault;
 use crate::fixed_text::FixedText;
 use crate::head::{Kind, Methods, refusal_status, reply_head};
 use crate::pile::Pile;
 use crate::refused::error_body;
 use crate::reply::Reply;
 use http::StatusCode;
-use reg_body::Counted;
+use reg_body::{Counted, SendFault};
 use reg_policy::Rule;
 use std::io::Write;
 

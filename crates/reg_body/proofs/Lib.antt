@@ -1,2 +1,3 @@
 pub mod FrameFacts
+mod Taken
 pub mod Verdicts

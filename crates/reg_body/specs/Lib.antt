@@ -1,3 +1,4 @@
 pub mod Counting
 pub mod Frames
+pub mod Sent
 pub mod Words

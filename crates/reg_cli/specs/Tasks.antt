@@ -3,7 +3,7 @@ use Rattle.std.specs.Prelude.{◌≡◌, codes, if◌then◌else◌, Option, Som
 use Rattle.std.specs.Str.{bytes_eq}
 use Rattle.sqlite_trees.specs.declared.store.Store.{Ghosts}
 use Rattle.reg_body.specs.declared.limits.Limits.{Limits}
-use Rattle.reg_api_replies.specs.Sent.{Sink}
+use Rattle.reg_body.specs.Sent.{Sink}
 use Rattle.reg_model.specs.Events as model
 use Rattle.reg_model.specs.Events.Event.{Order as to_order}
 use Rattle.reg_model.specs.Registry.{Text}

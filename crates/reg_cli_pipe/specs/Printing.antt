@@ -2,9 +2,9 @@
 use Rattle.std.specs.Prelude.{◌≡◌, ◌++◌, ℕ, [], codes, decimal, Option, Some, None, Result, Ok, Err, string_bytes}
 use Rattle.sqlite_trees.specs.declared.store.Store.{Ghosts}
 use Rattle.reg_body.specs.declared.limits.Limits.{Limits}
-use Rattle.reg_api_replies.specs.Sent.{Sends, Sink}
-use Rattle.reg_api_replies.specs.declared.bytes.SendFault.{SendFault}
-use Rattle.reg_api_replies.specs.declared.bytes.SendFault.TheVariants.{Spent, Write}
+use Rattle.reg_body.specs.Sent.{Sends, Sink}
+use Rattle.reg_body.specs.declared.bytes.SendFault.{SendFault}
+use Rattle.reg_body.specs.declared.bytes.SendFault.TheVariants.{Spent, Write}
 use Rattle.reg_model.specs.declared.rule.AdminRefusal.{AdminRefusal}
 use Rattle.reg_model.specs.Events.{Command}
 use Rattle.reg_model.specs.Events.Event.{Order}

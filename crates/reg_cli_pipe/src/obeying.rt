@@ -2,7 +2,7 @@
 
 ghost use Rattle.std.specs.Prelude.{◌≡◌, ◌+◌, ◌^◌, ◌<◌};
 ghost use Rattle.std.specs.Option.{option_map};
-ghost use Rattle.reg_api_replies.specs.Sent.{sink};
+ghost use Rattle.reg_body.specs.Sent.{sink};
 ghost use Rattle.reg_cli_words.specs.Orders.{token_command, words_of};
 ghost use Rattle.reg_model.specs.Events.Event.{Order as ToOrder};
 ghost use Rattle.reg_model.specs.Steps.{IsFit};

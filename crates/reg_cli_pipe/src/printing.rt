@@ -2,14 +2,13 @@
 
 ghost use Rattle.std.specs.Prelude.{◌≡◌, ◌+◌, ◌^◌, ◌<◌};
 ghost use Rattle.std.specs.Option.{option_map};
-ghost use Rattle.reg_api_replies.specs.Sent.{sink};
+ghost use Rattle.reg_body.specs.Sent.{sink};
 ghost use Rattle.reg_cli_pipe.specs.Printing.{Prints, token_line, told};
 
 use crate::tokens::TokenText;
 use arrayvec::ArrayVec;
 use itoa::Buffer;
-use reg_api_replies::{SendFault, write_bytes};
-use reg_body::Counted;
+use reg_body::{Counted, SendFault, write_bytes};
 use reg_cli_line::Exit;
 use reg_policy::AdminReply;
 use std::io::{self, Write};

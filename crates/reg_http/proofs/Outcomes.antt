@@ -29,7 +29,7 @@ use Rattle.reg_api_requests.specs.Wants.{Wants, wants_of}
 use Rattle.reg_api_requests.specs.declared.request.ApiCall.{ApiCall}
 use Rattle.reg_api_requests.specs.declared.request.ApiCall.TheVariants as call
 use Rattle.reg_http_routes.specs.Routing.Routing.{Wants as to_wants}
-use Rattle.reg_api_replies.specs.Sent.{Sink}
+use Rattle.reg_body.specs.Sent.{Sink}
 use Rattle.reg_api_replies.specs.Texts.{answer_text, refusal_text, reply_text}
 use Rattle.reg_service.specs.Acted.{HasLine}
 use Rattle.reg_service.specs.Answered.{Answers}

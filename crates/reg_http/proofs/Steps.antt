@@ -22,7 +22,7 @@ use Rattle.reg_http_read.specs.declared.fault.StreamFault.TheVariants.{Memory, R
 use Rattle.reg_http_read.specs.declared.owned.OwnedHead.{OwnedHead}
 use Rattle.reg_http_read.specs.declared.taking.Taken.TheVariants as taken
 use Rattle.reg_http_routes.specs.Routing.{routing_of}
-use Rattle.reg_api_replies.specs.Sent.{AppendsFront}
+use Rattle.reg_body.specs.Sent.{AppendsFront}
 use Rattle.reg_service.specs.Answered.{Shows}
 use Rattle.reg_service.specs.Sequences.{Ran}
 use Rattle.reg_tables.specs.declared.tables.Tables.{Tables}

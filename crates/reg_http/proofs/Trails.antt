@@ -4,7 +4,7 @@ use Rattle.std.proofs.lemmas.Bool.Decides.{nat_tests}
 use Rattle.std.specs.Io.KnownBytes.{Appends}
 use Rattle.std.proofs.KnownBytes.{Appends-nil, Appends-trans}
 use Rattle.reg_model.specs.Registry.{Text}
-use Rattle.reg_api_replies.specs.Sent.{SendsAll, Sink}
+use Rattle.reg_body.specs.Sent.{SendsAll, Sink}
 use Rattle.reg_http.specs.Trails.{IsTrailed, Tail, Trails}
 
 -- the writer of a trail

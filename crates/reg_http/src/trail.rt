@@ -5,8 +5,7 @@ ghost use Rattle.std.specs.Option.{option_map};
 ghost use Rattle.reg_model.specs.Trail.{or_nothing};
 ghost use Rattle.reg_http.specs.Trails.{TrailEnd, Trails, tail};
 
-use reg_api_replies::write_bytes;
-use reg_body::Counted;
+use reg_body::{Counted, write_bytes};
 use std::io::Write;
 use std::marker::Model;
 

@@ -6,7 +6,7 @@ use Rattle.reg_body.specs.declared.limits.Limits.{Limits}
 use Rattle.reg_http_read.specs.Heads.{Facts, IsHeadAt}
 use Rattle.reg_model.specs.Registry.{Text}
 use Rattle.reg_model.specs.declared.rule.Rule.TheVariants as rule
-use Rattle.reg_api_replies.specs.Sent.{AppendsFront}
+use Rattle.reg_body.specs.Sent.{AppendsFront}
 use Rattle.reg_http_read.specs.Begun.{IsRefused, interim_if, interim_of, is_head_only}
 use Rattle.reg_http_read.specs.Owned.{facts_owned}
 use Rattle.reg_http_read.specs.Taking.{Awaits, Fills, HasBegun, IsCutOff, IsFound, Reads, Takes}

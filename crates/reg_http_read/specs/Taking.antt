@@ -4,7 +4,7 @@ use Rattle.std.specs.Io.KnownBytes.{Appends, Consumes, IsAtEnd}
 use Rattle.reg_body.specs.declared.limits.Limits.{Limits}
 use Rattle.reg_http_read.specs.Heads.{Facts, IsHeadAt, IsUnfinished}
 use Rattle.reg_model.specs.Registry.{Text}
-use Rattle.reg_api_replies.specs.Sent.{AppendsFront}
+use Rattle.reg_body.specs.Sent.{AppendsFront}
 use Rattle.reg_http_read.specs.Begun.{IsBegun, IsRefused, interim_if, interim_of}
 use Rattle.reg_http_read.specs.Owned.{facts_owned}
 use Rattle.reg_http_read.specs.declared.fault.StreamFault.{StreamFault}

@@ -4,7 +4,7 @@ use Rattle.std.specs.Prelude.{◌≡◌, ◌+◌, ◌≤◌, ◌<◌, ℕ, Optio
 use Rattle.std.specs.Io.KnownBytes.{Appends}
 use Rattle.reg_body.specs.Counting.{CountedEnd}
 use Rattle.reg_model.specs.Registry.{Text}
-use Rattle.reg_api_replies.specs.Sent.{AppendsFront}
+use Rattle.reg_body.specs.Sent.{AppendsFront}
 use Rattle.reg_http_read.specs.declared.fault.StreamFault.{StreamFault}
 use Rattle.reg_http_read.specs.declared.fault.StreamFault.TheVariants.{Memory, ReadFault, StoreFault, TooManyTurns, WriteFault}
 

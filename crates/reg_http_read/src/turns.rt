@@ -5,8 +5,8 @@ ghost use Rattle.reg_api_replies.specs.Texts.{reply_text};
 ghost use Rattle.reg_http_read.specs.Turns.{Sends, SpendsTurns, writes_of};
 
 use crate::fault::StreamFault;
-use reg_api_replies::{Reply, SendFault, write_bytes, write_reply};
-use reg_body::Counted;
+use reg_api_replies::{Reply, write_reply};
+use reg_body::{Counted, SendFault, write_bytes};
 use std::io::Write;
 
 /// Writes the bytes.

@@ -16,7 +16,7 @@ use Rattle.reg_model.specs.Events.Asked.{Index}
 use Rattle.reg_model.specs.Events.Event.{Ask}
 use Rattle.reg_model.specs.Registry.{Registry, Text}
 use Rattle.reg_tables_schema.specs.States.{LeavesCommit}
-use Rattle.reg_api_replies.specs.Sent.{Sink}
+use Rattle.reg_body.specs.Sent.{Sink}
 use Rattle.reg_api_requests.specs.declared.request.ApiCall.{ApiCall}
 use Rattle.reg_api_requests.specs.declared.request.ApiCall.TheVariants as call
 use Rattle.reg_api_requests.specs.Requests.{asked_by}

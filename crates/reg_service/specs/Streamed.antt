@@ -12,7 +12,7 @@ use Rattle.reg_model.specs.Events.Event.{Ask}
 use Rattle.reg_model.specs.Registry.{Registry, Text}
 use Rattle.reg_api_requests.specs.declared.request.ApiCall.{ApiCall}
 use Rattle.reg_api_requests.specs.declared.request.ApiCall.TheVariants.{Index}
-use Rattle.reg_api_replies.specs.Sent.{Sink}
+use Rattle.reg_body.specs.Sent.{Sink}
 use Rattle.reg_api_replies.specs.Texts.{answer_text}
 use Rattle.reg_service_index.specs.Decides.{Decides}
 use Rattle.reg_service_index.specs.Files.{SendsNoRoom, SendsSome}

@@ -13,7 +13,7 @@ ghost use Rattle.reg_service.specs.Answered.{Halts, IsAnswered, WasClean};
 ghost use Rattle.reg_service.specs.Handled.{IsReplied};
 ghost use Rattle.reg_service.specs.Looked.{FailsFirst, IsIndex, IsTrueOf, Looked};
 ghost use Rattle.reg_service.specs.Registries.{IsUpToDate, has_stopped, limits_of, tables_of};
-ghost use Rattle.reg_api_replies.specs.Sent.{sink};
+ghost use Rattle.reg_body.specs.Sent.{sink};
 ghost use Rattle.reg_service.specs.Streamed.{AsksForFile, IsStreamed, LeavesStream};
 ghost use Rattle.reg_tables.specs.Works.{held, shown};
 

@@ -5,7 +5,7 @@ ghost use Rattle.std.specs.Option.{option_map};
 ghost use Rattle.reg_model.specs.Actions.{logins_of};
 ghost use Rattle.reg_model.specs.Events.{action_of};
 ghost use Rattle.reg_model.specs.Events.Asked.{Index as to_index};
-ghost use Rattle.reg_api_replies.specs.Sent.{sink};
+ghost use Rattle.reg_body.specs.Sent.{sink};
 ghost use Rattle.reg_tables.specs.Works.{is_shut};
 ghost use Rattle.reg_service.specs.Answered.{AreUpToDate, WasClean};
 ghost use Rattle.reg_service.specs.Streamed.{IsDecided, IsStreamed, LeavesStream, MayStream};

@@ -15,9 +15,10 @@ use Rattle.reg_tables_schema.specs.declared.edition.Edition.TheVariants.{Second}
 use Rattle.reg_tables_schema.specs.Schema.{ours}
 use Rattle.reg_tables_schema.specs.States.{IsOurs}
 use Rattle.reg_tables_schema.specs.Statements.{rows_in}
-use Rattle.reg_api_replies.specs.declared.bytes.SendFault.{SendFault}
-use Rattle.reg_api_replies.specs.declared.bytes.SendFault.TheVariants.{Spent, Write}
-use Rattle.reg_api_replies.specs.Sent.{IsStopped, Piles, SendsAll, Sink}
+use Rattle.reg_body.specs.declared.bytes.SendFault.{SendFault}
+use Rattle.reg_body.specs.declared.bytes.SendFault.TheVariants.{Spent, Write}
+use Rattle.reg_api_replies.specs.Piled.{Piles}
+use Rattle.reg_body.specs.Sent.{IsStopped, SendsAll, Sink}
 use Rattle.reg_api_replies.specs.Texts.{file_head}
 use Rattle.reg_api_replies.proofs.Joined.{pile_sent, pile_stopped, piles_behind, sends_nothing}
 use Rattle.reg_tables_sql.specs.Stems.{AreStemsOf, entries_text}

@@ -8,7 +8,7 @@ use Rattle.sqlite.specs.State.{HasCleanDisk}
 use Rattle.sqlite_trees.specs.declared.store.Store.{Ghosts}
 use Rattle.reg_model.specs.Registry.{Text}
 use Rattle.reg_model.specs.declared.rule.Rule.{Rule}
-use Rattle.reg_api_replies.specs.Sent.{AppendsFront, IsStopped, SendsAll, Sink}
+use Rattle.reg_body.specs.Sent.{AppendsFront, IsStopped, SendsAll, Sink}
 use Rattle.reg_api_replies.specs.Texts.{file_head, refusal_text}
 use Rattle.reg_api_replies.specs.declared.head.Kind.TheVariants as kind
 use Rattle.reg_api_replies.specs.declared.reply.Reply.TheVariants.{Denied}
@@ -16,8 +16,8 @@ use Rattle.reg_api_replies.proofs.Some.{head_some, reply_some}
 use Rattle.reg_tables.specs.declared.tables.Tables.{Tables}
 use Rattle.reg_tables.specs.Works.{held}
 use Rattle.reg_api_replies.proofs.Joined.{stopped_first}
-use Rattle.reg_api_replies.specs.declared.bytes.SendFault.{SendFault}
-use Rattle.reg_api_replies.specs.declared.bytes.SendFault.TheVariants as send
+use Rattle.reg_body.specs.declared.bytes.SendFault.{SendFault}
+use Rattle.reg_body.specs.declared.bytes.SendFault.TheVariants as send
 use Rattle.reg_service_index.specs.Files.{BeginsFile, IsUnsent, SendsDenial, SendsFile, SendsRows, SendsSome, rows_text}
 use Rattle.reg_service_index.specs.Lines.{lines_in}
 use Rattle.reg_service_index.specs.Streams.{BreaksOff, IsBroken, Streams, fault_of}

@@ -10,7 +10,7 @@ use Rattle.reg_model.specs.declared.rule.Rule.{Rule}
 use Rattle.reg_model.specs.declared.rule.Rule.TheVariants as rule
 use Rattle.reg_model.specs.Registry.{Text}
 use Rattle.reg_tables_schema.specs.Statements.{rows_in}
-use Rattle.reg_api_replies.specs.Sent.{Sink}
+use Rattle.reg_body.specs.Sent.{Sink}
 use Rattle.reg_api_replies.specs.Texts.{file_head, refusal_text}
 use Rattle.reg_tables_sql.specs.Stems.{AreStemsOf, entries_text}
 use Rattle.reg_tables_meaning.specs.Entries.{entry_row}

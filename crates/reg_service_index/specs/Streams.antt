@@ -1,8 +1,8 @@
 -- What sending an index file did.
 use Rattle.std.specs.Prelude.{◌≡◌, ◌++◌, ℕ, List, Result, Ok, Err}
-use Rattle.reg_api_replies.specs.Sent.{SendsAll, SendsUntilFailure, SendsUntilSpent, Sink}
-use Rattle.reg_api_replies.specs.declared.bytes.SendFault.{SendFault}
-use Rattle.reg_api_replies.specs.declared.bytes.SendFault.TheVariants as send
+use Rattle.reg_body.specs.Sent.{SendsAll, SendsUntilFailure, SendsUntilSpent, Sink}
+use Rattle.reg_body.specs.declared.bytes.SendFault.{SendFault}
+use Rattle.reg_body.specs.declared.bytes.SendFault.TheVariants as send
 use Rattle.reg_service_index.specs.declared.fault.IndexFault.{IndexFault}
 use Rattle.reg_service_index.specs.declared.fault.IndexFault.TheVariants.{Spent, Store, Write}
 

@@ -5,7 +5,7 @@ ghost use Rattle.sqlite.specs.declared.types.Value.TheVariants.{Blob};
 ghost use Rattle.sqlite_value.specs.Value.{owned};
 ghost use Rattle.sqlite.specs.Held.{state};
 ghost use Rattle.reg_tables_schema.specs.States.{IsOurs};
-ghost use Rattle.reg_api_replies.specs.Sent.{sink};
+ghost use Rattle.reg_body.specs.Sent.{sink};
 ghost use Rattle.reg_tables_meaning.specs.Entries.{entry_row};
 ghost use Rattle.reg_tables_meaning.specs.Walks.{IsRead};
 ghost use Rattle.reg_tables_schema.specs.Rows.{mark};

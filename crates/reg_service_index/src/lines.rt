@@ -2,7 +2,8 @@
 
 ghost use Rattle.std.specs.Prelude.{◌≡◌, ◌+◌, ◌^◌, ◌<◌};
 ghost use Rattle.reg_line.specs.File.{end_of, line_of};
-ghost use Rattle.reg_api_replies.specs.Sent.{Puts, sink};
+ghost use Rattle.reg_api_replies.specs.Piled.{Puts};
+ghost use Rattle.reg_body.specs.Sent.{sink};
 
 use reg_api_replies::{Pile, SendFault};
 use reg_body::Counted;

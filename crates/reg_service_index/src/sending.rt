@@ -2,7 +2,7 @@
 
 ghost use Rattle.std.specs.Prelude.{◌≡◌, ◌+◌, ◌^◌, ◌<◌, ◌⊎◌, Err, MatchBool, false, true};
 ghost use Rattle.sqlite.specs.State.{HasCleanDisk};
-ghost use Rattle.reg_api_replies.specs.Sent.{sink};
+ghost use Rattle.reg_body.specs.Sent.{sink};
 ghost use Rattle.reg_tables_meaning.specs.Walks.{IsRead};
 ghost use Rattle.reg_tables.specs.Works.{AreOurs, IsLeft, edition_in, held, is_shut, shown};
 ghost use Rattle.reg_service_index.specs.Files.{EndsItself, IsUnsent, SendsDenial, SendsFile, SendsNoRoom, SendsRows, SendsSome};

@@ -1,6 +1,6 @@
 use Rattle.std.proofs.Common.{arith, refl}
 use Rattle.std.specs.Option.{option_map}
-use Rattle.reg_api_replies.specs.Sent.{sink}
+use Rattle.reg_body.specs.Sent.{sink}
 use Rattle.reg_service.specs.Registries.{limits_of, tables_of}
 use Rattle.reg_http.proofs.Outcomes.{file_broken, file_failed, file_sent, file_spent}
 use Rattle.reg_http.proofs.answering.send_index.Goals as goal

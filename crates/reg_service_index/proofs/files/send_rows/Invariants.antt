@@ -1,7 +1,8 @@
 use Rattle.std.proofs.Common.{◌≡◌, List, pos, ◌++◌, ◌∷◌, [], length}
 use Rattle.sqlite.specs.Order.{Row}
 use Rattle.sqlite.specs.declared.types.Value.TheVariants.{Int}
-use Rattle.reg_api_replies.specs.Sent.{Piles, sink}
+use Rattle.reg_api_replies.specs.Piled.{Piles}
+use Rattle.reg_body.specs.Sent.{sink}
 use Rattle.reg_api_replies.specs.Texts.{file_head}
 use Rattle.reg_tables_sql.specs.Stems.{entries_text}
 use Rattle.reg_tables_meaning.specs.Walks.{HasWalked}

@@ -3,7 +3,7 @@ use Rattle.reg_model.specs.Actions.{logins_of}
 use Rattle.reg_model.specs.Events.{action_of}
 use Rattle.reg_api_requests.specs.Requests.{request_of}
 use Rattle.reg_api_requests.specs.Views.{Request}
-use Rattle.reg_api_replies.specs.Sent.{sink}
+use Rattle.reg_body.specs.Sent.{sink}
 use Rattle.reg_service.specs.Registries.{limits_of, room_of, tables_of}
 use Rattle.reg_service.specs.Streamed.{IsStreamed}
 use Rattle.reg_service.proofs.Streams.{no_logins, no_versions, untouched_leaves, untouched_sent}

@@ -1,7 +1,7 @@
 use Rattle.std.proofs.Common.{arith, ap, length, length-append, sym, ◌≢◌, ◌∙◌}
 use Rattle.std.proofs.lemmas.Bool.{eqb-false}
-use Rattle.reg_api_replies.proofs.Joined.{took_more}
-use Rattle.reg_api_replies.proofs.bytes.write_bytes.Goals as goal
+use Rattle.reg_body.proofs.Taken.{took_more}
+use Rattle.reg_body.proofs.bytes.write_bytes.Goals as goal
 
 pub rest-preserved : goal.rest-preserved
 rest-preserved g c =

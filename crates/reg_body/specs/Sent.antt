@@ -2,8 +2,8 @@
 use Rattle.std.specs.Prelude.{◌≡◌, ◌+◌, ◌≤◌, ◌<◌, ◌++◌, ℕ, List, length, Option, Result, Ok, Err}
 use Rattle.std.specs.Io.KnownBytes.{Appends}
 use Rattle.reg_body.specs.Counting.{CountedEnd}
-use Rattle.reg_api_replies.specs.declared.bytes.SendFault.{SendFault}
-use Rattle.reg_api_replies.specs.declared.bytes.SendFault.TheVariants.{Spent, Write}
+use Rattle.reg_body.specs.declared.bytes.SendFault.{SendFault}
+use Rattle.reg_body.specs.declared.bytes.SendFault.TheVariants.{Spent, Write}
 
 -- a writer: what was written to it, if that is known, how often it was called, how often it failed
 pub record Sink : Type 0 where
@@ -58,16 +58,3 @@ Sends (Err fault) text writes old new = IsStopped fault text writes old new
 abbrev pub after : ℕ → Result ℕ SendFault → Result ℕ SendFault
 after used (Ok more) = Ok (used + more)
 after used (Err fault) = Err fault
-
--- a text was put behind one that waits: some of both was sent in this number of calls, the rest
--- waits
-pub record Piles (waiting text rest : List ℕ) (writes used : ℕ) (old new : Sink) : Type 0 where
-  pub sent : List ℕ
-  pub whole : waiting ++ text ≡ sent ++ rest
-  pub sends : SendsAll sent writes used old new
-
--- what putting a text behind one that waits did
-abbrev pub Puts : Result ℕ SendFault → List ℕ → List ℕ → List ℕ → ℕ → Sink → Sink → Type 0
-Puts (Ok used) waiting text rest writes old new = Piles waiting text rest writes used old new
-Puts (Err fault) waiting text rest writes old new =
-    IsStopped fault (waiting ++ text) writes old new

@@ -1,9 +1,9 @@
 //! Writing all of some bytes in a bounded number of calls.
 
 ghost use Rattle.std.specs.Prelude.{◌+◌, ◌^◌, ◌<◌};
-ghost use Rattle.reg_api_replies.specs.Sent.{Sends, sink};
+ghost use Rattle.reg_body.specs.Sent.{Sends, sink};
 
-use reg_body::Counted;
+use crate::counted::Counted;
 use std::io::Write;
 
 /// Why not everything was sent. A prefix of it was.
