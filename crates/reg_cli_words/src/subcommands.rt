@@ -2,13 +2,13 @@
 
 ghost use Rattle.std.specs.Prelude.{IfOk, [], ◌∷◌, ◌++◌, codes};
 ghost use Rattle.reg_cli_words.specs.Grammar.{level, option_rule, order_levels, scope_rules, source_rules, with_levels, with_options, with_rules};
-ghost use Rattle.reg_cli_words.specs.Making.{Adds, HasLevel};
+ghost use Rattle.reg_cli_words.specs.Making.{Adds, HasLevel, HasRule};
 ghost use Rattle.reg_cli_words.specs.declared.parameters.Words.TheVariants.{Login};
 
 use crate::parameters::{
     Entry, MadeCommand, Shape, Words, option, subcommand, with_entries, with_level,
 };
-use clap::Command;
+use clap::{Arg, Command};
 use std::alloc::{AllocError, Global};
 
 const USER_ADD: Entry = Entry {
@@ -114,18 +114,23 @@ fn with_scopes<'a>(alloc: Global, command: Command<'a>) -> MadeCommand<'a>
         .arg(option(alloc, "patterns", "LIST", patterns))
 }
 
+fn digest<'a>(alloc: Global) -> Arg<'a>
+    ensures { HasRule (option_rule (codes "digest")) result }
+{
+    let help = "The SHA-256 of the token's text, as 64 hex digits, in place of random bytes";
+    option(alloc, "digest", "HEX", help)
+}
+
 /// The options of `token-add` that say where its text or digest comes from.
 fn with_source<'a>(alloc: Global, shape: Shape, command: Command<'a>) -> MadeCommand<'a>
     ensures { Adds (λ a. with_rules a (source_rules shape)) command.entry result }
 {
     let random = "The file whose first 32 bytes make the token's text. Without it: /dev/urandom";
-    let digest = "The SHA-256 of the token's text, as 64 hex digits, in place of random bytes";
-    let digest = option(alloc, "digest", "HEX", digest);
     match shape {
-        Shape::Setup => command.arg(digest),
+        Shape::Setup => command.arg(digest(alloc)),
         Shape::Program => command
             .arg(option(alloc, "random", "FILE", random))?
-            .arg(digest.conflicts_with("random")?),
+            .arg(digest(alloc).conflicts_with("random")?),
     }
 }
 

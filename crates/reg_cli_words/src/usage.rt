@@ -77,12 +77,11 @@ fn audit_words<'a>(alloc: Global) -> MadeCommand<'a>
 fn with_place<'a>(alloc: Global, command: Command<'a>) -> MadeCommand<'a>
     ensures { Adds (λ a. with_rules a place_rules) command.entry result }
 {
-    let file = option(alloc, "db", "FILE", "The registry's file");
-    let help = "Serves a registry in memory, with nothing in it, which is gone afterwards";
-    let memory = flag(alloc, "memory", help);
+    let file = "The registry's file";
+    let memory = "Serves a registry in memory, with nothing in it, which is gone afterwards";
     command
-        .arg(file.required_unless_present("memory")?)?
-        .arg(memory.conflicts_with("db")?)
+        .arg(option(alloc, "db", "FILE", file).required_unless_present("memory")?)?
+        .arg(flag(alloc, "memory", memory).conflicts_with("db")?)
 }
 
 /// `pipe`.
@@ -90,18 +89,8 @@ fn pipe_words<'a>(alloc: Global) -> MadeCommand<'a>
     ensures { Makes (codes "pipe")
         (place_rules ++ option_rule (codes "base") ∷ option_rule (codes "setup") ∷ []) result }
 {
-    let base = option(
-        alloc,
-        "base",
-        "URL",
-        "The base of a registry in memory. Without it: http://127.0.0.1:8080",
-    );
-    let setup = option(
-        alloc,
-        "setup",
-        "FILE",
-        "Commands that are done first, one a line, without --db",
-    );
+    let base = "The base of a registry in memory. Without it: http://127.0.0.1:8080";
+    let setup = "Commands that are done first, one a line, without --db";
     let command = described(
         alloc,
         "pipe",
@@ -109,30 +98,22 @@ fn pipe_words<'a>(alloc: Global) -> MadeCommand<'a>
          memory",
         "Example:\n  registry_cli pipe --memory --setup commands < requests",
     );
-    with_place(alloc, command)?.arg(base)?.arg(setup)
+    with_place(alloc, command)?
+        .arg(option(alloc, "base", "URL", base))?
+        .arg(option(alloc, "setup", "FILE", setup))
 }
 
 /// The numbers of `serve`.
 fn with_numbers<'a>(alloc: Global, command: Command<'a>) -> MadeCommand<'a>
     ensures { Adds (λ a. with_rules a number_rules) command.entry result }
 {
-    let port = option(alloc, "port", "P", "The port of 127.0.0.1 to listen on").required(true);
-    let connections = option(
-        alloc,
-        "connections",
-        "N",
-        "How many connections are served before it ends",
-    );
-    let replies = option(
-        alloc,
-        "replies",
-        "K",
-        "How many replies a connection has at most. Without it: 1, which suits cargo",
-    );
+    let port = "The port of 127.0.0.1 to listen on";
+    let connections = "How many connections are served before it ends";
+    let replies = "How many replies a connection has at most. Without it: 1, which suits cargo";
     command
-        .arg(port)?
-        .arg(connections.required(true))?
-        .arg(replies)
+        .arg(option(alloc, "port", "P", port).required(true))?
+        .arg(option(alloc, "connections", "N", connections).required(true))?
+        .arg(option(alloc, "replies", "K", replies))
 }
 
 /// `serve`.
@@ -146,9 +127,9 @@ fn serve_words<'a>(alloc: Global) -> MadeCommand<'a>
         "Serves HTTP on a port of 127.0.0.1, one connection after another",
         "Example:\n  registry_cli serve --port 8080 --connections 1000000 --trail --db r.db",
     );
-    let help = "Prints a line for each change: the token, its login, and what was done";
-    let trail = flag(alloc, "trail", help);
-    with_file(alloc, with_numbers(alloc, command)?.arg(trail)?)
+    let trail = "Prints a line for each change: the token, its login, and what was done";
+    let command = with_numbers(alloc, command)?.arg(flag(alloc, "trail", trail))?;
+    with_file(alloc, command)
 }
 
 /// `explain`.

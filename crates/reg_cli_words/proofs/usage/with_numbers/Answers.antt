@@ -8,6 +8,6 @@ use Rattle.reg_cli_words.proofs.usage.with_numbers.Goals as goal
 pub returns : goal.returns
 returns c = IfOk-weaker c.arg-3.result _ _
     (λ new added app had. subst (λ it. HasRules it new) (rules_append app (needed_rule (codes "port") ∷ needed_rule (codes "connections") ∷ []) (option_rule (codes "replies") ∷ []))
-    (arg_added _ _ _ _ _ c.option-replies.ensures added
-    (two_added _ _ _ _ _ app _ _ (needed _ _ _ c.option.ensures c.required-port.ensures) (needed _ _ _ c.option-connections.ensures c.required.ensures) c.in_ok-arg.ensures c.in_ok-arg-2.ensures had)))
+    (arg_added _ _ _ _ _ c.option-3.ensures added
+    (two_added _ _ _ _ _ app _ _ (needed _ _ _ c.option.ensures c.required.ensures) (needed _ _ _ c.option-2.ensures c.required-2.ensures) c.in_ok-arg.ensures c.in_ok-arg-2.ensures had)))
     c.arg-3.ensures
