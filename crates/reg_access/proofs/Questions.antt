@@ -1,8 +1,6 @@
 -- Questions to the tables, one after another, and from a text to what it tells.
 use Rattle.std.proofs.Common.{◌≡◌, ◌==◌, ◌∙◌, [], Bool, false, not, ℕ, List, length, Ok, Err, Result, IsErr, Option, arith, refl, sym, ap, subst}
 use Rattle.std.specs.List.Sorted.{IsPermutation}
-use Rattle.sqlite.specs.Given.{IsPlain}
-use Rattle.sqlite.specs.Listing.{understood}
 use Rattle.sqlite.specs.Order.{Row}
 use Rattle.sqlite.specs.Program.{overlay}
 use Rattle.sqlite.specs.Query.{Query, IsSureAnswer}
@@ -22,10 +20,6 @@ use Rattle.reg_tables.specs.Calling.{Asks}
 use Rattle.reg_access.specs.JoinRows.{is_there}
 use Rattle.reg_access.proofs.Answered.{there_found}
 use Rattle.reg_access.proofs.Calls.{called_err, called_ok, inside, itself_called, then_called}
-
--- a text of the code is the text of a query
-pub plain_text : {text : List ℕ} {q : Query} {names : List (List ℕ)} → IsSelection ours text q names → (said : List ℕ) → said ≡ text → IsPlain (understood ours said)
-plain_text is said same = subst (λ t. IsPlain (understood ours t)) (sym same) is.plain
 
 module _ {S : Type 0} (g : Ghosts S) where
   -- an answer made into another, and a fault passed on

@@ -1,7 +1,6 @@
 -- What the texts of a search are queries of.
-use Rattle.std.proofs.Common.{◌≡◌, ℕ, List, [], ◌∷◌, codes, refl, sym, subst}
+use Rattle.std.proofs.Common.{◌≡◌, ℕ, List, [], ◌∷◌, codes, refl}
 use Rattle.sqlite.specs.Collation.TheVariants.{Binary}
-use Rattle.sqlite.specs.Given.{IsPlain}
 use Rattle.sqlite.specs.Listing.{understood}
 use Rattle.sqlite.specs.Query.{Join, Query, inner, left, counted, end}
 use Rattle.sqlite.specs.Term.{Term, col, op1, op2}
@@ -85,7 +84,3 @@ hit_names = codes "name" ∷ codes "vers" ∷ codes "description" ∷ []
 pub hit_is : IsSelection ours hit_text hit_query hit_names
 unfolding understood everything
 hit_is = record { command = refl; unlisted = refl; plain = (refl, refl) }
-
--- a text of the code is one of these
-pub plain_text : {of : List ℕ} {q : Query} {names : List (List ℕ)} → IsSelection ours of q names → (text : List ℕ) → text ≡ of → IsPlain (understood ours text)
-plain_text is text same = subst (λ t. IsPlain (understood ours t)) (sym same) is.plain

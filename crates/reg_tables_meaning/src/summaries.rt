@@ -146,11 +146,8 @@ fn higher(one: &VersionMark, next: &VersionMark) -> Result<u64>
     let alloc = *one.vers.allocator();
     let first = read(alloc, one)?;
     let second = read(alloc, next)?;
-    if takes_over(&first, &second) {
-        Ok(next.id)
-    } else {
-        Ok(one.id)
-    }
+    let is_next = takes_over(&first, &second);
+    if is_next { Ok(next.id) } else { Ok(one.id) }
 }
 
 /// What the summary of a crate says with one more version, the last.

@@ -1,5 +1,5 @@
 -- Statements that read, once for all texts.
-use Rattle.std.proofs.Common.{◌≡◌, inl, List, [], ℕ, false, Result, Ok, Err, IfOk, arith}
+use Rattle.std.proofs.Common.{◌≡◌, inl, List, [], ℕ, false, Result, Ok, Err, IfOk, arith, subst, sym}
 use Rattle.sqlite.specs.Order.{Row}
 use Rattle.sqlite.specs.Query.{Query, IsSureAnswer}
 use Rattle.sqlite.specs.Program.{overlay}
@@ -16,6 +16,10 @@ pub record IsSelection (schema : Schema) (text : List ℕ) (q : Query) (names : 
   pub command : command_of (understood schema text) ≡ Select (record { lets = []; body = q }) names
   pub unlisted : reads_listing schema text ≡ false
   pub plain : IsPlain (understood schema text)
+
+-- a text of the code is the text of a query: its equation comes last, so that another text is refused at once
+pub plain_text : {schema : Schema} {text : List ℕ} {q : Query} {names : List (List ℕ)} → IsSelection schema text q names → (said : List ℕ) → said ≡ text → IsPlain (understood schema said)
+plain_text {schema = schema} is said same = subst (λ t. IsPlain (understood schema t)) (sym same) is.plain
 
 -- the same, of the schema that is there
 pub selected_by : {schema : Schema} {text : List ℕ} {q : Query} {names : List (List ℕ)} → IsSelection schema text q names

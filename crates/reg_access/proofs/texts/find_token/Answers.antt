@@ -1,7 +1,8 @@
 use Rattle.std.proofs.Common.{[], ◌∷◌, refl}
 use Rattle.sqlite.specs.declared.types.Value.TheVariants.{Blob}
 use Rattle.reg_tables_sql.specs.Tokens.{columns_with_account, tokens_with_accounts}
-use Rattle.reg_access.proofs.Questions.{only_asked, plain_text}
+use Rattle.reg_tables_schema.proofs.Reading.{plain_text}
+use Rattle.reg_access.proofs.Questions.{only_asked}
 use Rattle.reg_access.proofs.TokenText.{token_gives, token_is}
 use Rattle.reg_access.proofs.texts.find_token.Goals as goal
 

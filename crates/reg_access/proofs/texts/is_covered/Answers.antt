@@ -1,7 +1,8 @@
 use Rattle.std.proofs.Common.{[], ◌∷◌, pos, refl}
 use Rattle.sqlite.specs.declared.types.Value.TheVariants.{Int, Text}
+use Rattle.reg_tables_schema.proofs.Reading.{plain_text}
 use Rattle.reg_access.specs.JoinRows.{scopes_over}
-use Rattle.reg_access.proofs.Questions.{has_asked, plain_text}
+use Rattle.reg_access.proofs.Questions.{has_asked}
 use Rattle.reg_access.proofs.ScopeText.{scopes_give, scopes_is}
 use Rattle.reg_access.proofs.texts.is_covered.Goals as goal
 

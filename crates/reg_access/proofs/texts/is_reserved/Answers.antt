@@ -1,7 +1,8 @@
 use Rattle.std.proofs.Common.{[], ◌∷◌, refl}
 use Rattle.sqlite.specs.declared.types.Value.TheVariants.{Text}
+use Rattle.reg_tables_schema.proofs.Reading.{plain_text}
 use Rattle.reg_access.specs.JoinRows.{reserved_as}
-use Rattle.reg_access.proofs.Questions.{has_asked, plain_text}
+use Rattle.reg_access.proofs.Questions.{has_asked}
 use Rattle.reg_access.proofs.ReservedText.{reserved_gives, reserved_is}
 use Rattle.reg_access.proofs.texts.is_reserved.Goals as goal
 

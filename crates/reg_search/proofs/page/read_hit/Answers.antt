@@ -1,6 +1,7 @@
 use Rattle.std.proofs.Common.{refl}
 use Rattle.reg_tables_schema.specs.declared.edition.Edition.TheVariants.{Second}
-use Rattle.reg_search.proofs.Texts.{hit_is, plain_text}
+use Rattle.reg_tables_schema.proofs.Reading.{plain_text}
+use Rattle.reg_search.proofs.Texts.{hit_is}
 use Rattle.reg_search.proofs.Told.{hit_popped}
 use Rattle.reg_search.proofs.page.read_hit.Goals as goal
 

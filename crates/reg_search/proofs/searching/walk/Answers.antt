@@ -4,9 +4,10 @@ use Rattle.sqlite.specs.Held.{state}
 use Rattle.sqlite.specs.State.{HasCleanDisk}
 use Rattle.sqlite.specs.declared.error.Error.{Error}
 use Rattle.reg_tables_schema.specs.declared.edition.Edition.TheVariants.{Second}
+use Rattle.reg_tables_schema.proofs.Reading.{plain_text}
 use Rattle.reg_tables_meaning.specs.Walks.{IsRead}
 use Rattle.reg_tables_meaning.proofs.Walking.{walk_ends, walk_fails, walk_left, walked, walked_all}
-use Rattle.reg_search.proofs.Texts.{plain_text, walk_is, walk_text}
+use Rattle.reg_search.proofs.Texts.{walk_is, walk_text}
 use Rattle.reg_search.proofs.Told.{walk_told}
 use Rattle.reg_search.proofs.searching.walk.Goals as goal
 
