@@ -87,7 +87,7 @@ pub fn revive<D: Crash>(files: &mut Files<D>) {
 }
 
 /// A connection to the store in files, or the files.
-pub fn open<D: Disk + Drop>(
+pub(crate) fn open<D: Disk + Drop>(
     alloc: Global,
     files: Files<D>,
     options: Options,
@@ -102,7 +102,7 @@ pub fn open<D: Disk + Drop>(
 }
 
 /// The connection's files, once they are closed; none where that fails.
-pub fn closed<D: Disk + Drop>(conn: Connection<FileStore<D>>) -> Option<Files<D>> {
+pub(crate) fn closed<D: Disk + Drop>(conn: Connection<FileStore<D>>) -> Option<Files<D>> {
     match conn.close_files() {
         Ok(files) => Some(files),
         Err((_error, _store)) => None,
@@ -110,6 +110,6 @@ pub fn closed<D: Disk + Drop>(conn: Connection<FileStore<D>>) -> Option<Files<D>
 }
 
 /// The connection's files, however closing them ends.
-pub fn left<D: Disk + Drop>(conn: Connection<FileStore<D>>) -> Files<D> {
+pub(crate) fn left<D: Disk + Drop>(conn: Connection<FileStore<D>>) -> Files<D> {
     conn.into_store().close()
 }

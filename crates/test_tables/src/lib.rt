@@ -29,7 +29,7 @@ pub use call::{AccountCall, Call, CrateCall, NameCall, NewToken, Release, TextCa
 pub use calling::perform;
 pub use fault::Fault;
 pub use index_file::entries_text;
-pub use old_store::with_old;
+pub use old_store::make_old;
 pub use script::{
     BASE, FILLED, answer_of, check_text, first_broken, play, play_over, read_logins, reply_text,
     rows_text,

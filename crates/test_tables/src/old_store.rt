@@ -55,18 +55,10 @@ const STEM: &str = "{\"cksum\":\
 \"yanked\":";
 
 /// Makes a store of schema 1 over a connection to an empty one.
-pub(crate) fn make_old<S: Alter>(conn: &mut Connection<S>) -> Result<(), Error> {
+pub fn make_old<S: Alter>(conn: &mut Connection<S>) -> Result<(), Error> {
     for statement in STATEMENTS.split('\n') {
         conn.execute(statement, &[])?;
     }
     conn.execute("UPDATE versions SET stem = ?1", params![STEM.as_bytes()])?;
     Ok(())
-}
-
-/// The connection to an empty store once a store of schema 1 was made, if it could be.
-pub fn with_old<S: Alter + Drop>(mut conn: Connection<S>) -> Option<Connection<S>> {
-    match make_old(&mut conn) {
-        Ok(()) => Some(conn),
-        Err(_error) => None,
-    }
 }

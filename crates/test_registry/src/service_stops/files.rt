@@ -1,15 +1,14 @@
 //! Scripts over files that stop, and what is found of a registry in files.
 
 use crate::service_stops::fault::Fault;
-use sqlite::{Alter, Connection, Files, Options};
-use sqlite_disk::Disk;
+use sqlite::{Alter, Connection, Files};
 use std::alloc::{AllocError, Global};
 use test_files::{
-    FEW_PAGES, Image, Limits, MANY_PAGES, NO_LIMITS, Stopping, closed, files_of, have_stopped,
-    image_of, left, nothing, open, revive,
+    FEW_PAGES, Image, Job, Limits, MANY_PAGES, NO_LIMITS, Stopping, files_of, have_stopped,
+    image_of, nothing, revive, work_and_close, work_in,
 };
 use test_service::{Played, play};
-use test_tables::with_old;
+use test_tables::make_old;
 
 /// What shows all that a task may change.
 const LOOKS: &str = "open
@@ -32,23 +31,46 @@ pub(crate) struct Prepared {
     pub(crate) seen: String,
 }
 
-/// What is seen of the registry that a store holds. Where there are no tables it is told of one
+/// It is looked at: what is seen of the registry in it. Where there are no tables it is told of one
 /// that is made then.
-fn seen_over<S: Alter + Drop>(alloc: Global, conn: Connection<S>) -> Result<String, Fault> {
-    let is_empty = conn.schema().tables.is_empty();
-    let (conn, played) = play(alloc, conn, LOOKS, None);
-    let seen = played?.lines;
-    if !is_empty {
-        return Ok(seen);
+struct Look;
+
+impl Job for Look {
+    type Came = Result<String, AllocError>;
+
+    fn over<S: Alter + Drop>(
+        &self,
+        alloc: Global,
+        conn: Connection<S>,
+    ) -> (Connection<S>, Result<String, AllocError>) {
+        let is_empty = conn.schema().tables.is_empty();
+        let (conn, seen) = play(alloc, conn, LOOKS, None);
+        if !is_empty {
+            return (conn, lines_of(seen));
+        }
+        let (conn, made) = play(alloc, conn, "create\nusers", None);
+        (conn, both_lines(alloc, seen, made))
     }
-    let (_conn, played) = play(alloc, conn, "create\nusers", None);
-    Ok(format!(in alloc; "{seen}{}", played?.lines)?)
 }
 
-fn seen_in<D: Disk + Drop>(alloc: Global, files: Files<D>) -> Result<String, Fault> {
-    match open(alloc, files, MANY_PAGES) {
-        Ok(conn) => seen_over(alloc, conn),
-        Err(_files) => Err(Fault::NotOpened),
+fn lines_of(played: Result<Played, AllocError>) -> Result<String, AllocError> {
+    Ok(played?.lines)
+}
+
+/// What was played first, and then.
+fn both_lines(
+    alloc: Global,
+    first: Result<Played, AllocError>,
+    then: Result<Played, AllocError>,
+) -> Result<String, AllocError> {
+    format!(in alloc; "{}{}", first?.lines, then?.lines)
+}
+
+fn seen_in(alloc: Global, files: Files<Stopping>) -> Result<String, Fault> {
+    let (_files, seen) = work_in(alloc, files, MANY_PAGES, &Look);
+    match seen {
+        Some(seen) => Ok(seen?),
+        None => Err(Fault::NotOpened),
     }
 }
 
@@ -76,34 +98,40 @@ fn prepared_of(alloc: Global, mut files: Files<Stopping>) -> Result<Prepared, Fa
     Ok(Prepared { image, seen })
 }
 
-/// The store once lines were played over it, each of which is answered as it says; without lines,
-/// once it is one of schema 1.
-fn filled_over<S: Alter + Drop>(
-    alloc: Global,
-    conn: Connection<S>,
-    lines: Option<&str>,
-) -> Result<Connection<S>, Fault> {
-    let Some(lines) = lines else {
-        return with_old(conn).ok_or(Fault::Memory);
-    };
-    let (conn, played) = play(alloc, conn, lines, None);
+/// Lines are played over it, each of which is answered as it says; without lines it becomes one of
+/// schema 1.
+struct Fill<'a> {
+    lines: Option<&'a str>,
+}
+
+impl Job for Fill<'_> {
+    type Came = Result<(), Fault>;
+
+    fn over<S: Alter + Drop>(
+        &self,
+        alloc: Global,
+        mut conn: Connection<S>,
+    ) -> (Connection<S>, Result<(), Fault>) {
+        match self.lines {
+            Some(lines) => {
+                let (conn, played) = play(alloc, conn, lines, None);
+                (conn, check_lines(played, lines))
+            }
+            None => {
+                let made = make_old(&mut conn).map_err(|_error| Fault::Memory);
+                (conn, made)
+            }
+        }
+    }
+}
+
+/// Whether each line is answered as it says.
+fn check_lines(played: Result<Played, AllocError>, lines: &str) -> Result<(), Fault> {
     let found = played?.lines;
     if found.as_str() != lines {
         return Err(Fault::Line(found));
     }
-    Ok(conn)
-}
-
-/// New files whose store is filled.
-fn filled<D: Disk + Drop>(
-    alloc: Global,
-    files: Files<D>,
-    lines: Option<&str>,
-) -> Result<Files<D>, Fault> {
-    match open(alloc, files, MANY_PAGES) {
-        Ok(conn) => closed(filled_over(alloc, conn, lines)?).ok_or(Fault::NotClosed),
-        Err(_files) => Err(Fault::NotOpened),
-    }
+    Ok(())
 }
 
 /// Files with nothing in them.
@@ -113,7 +141,11 @@ pub(crate) fn prepare_nothing(alloc: Global) -> Result<Prepared, Fault> {
 
 fn prepare_filled(alloc: Global, lines: Option<&str>) -> Result<Prepared, Fault> {
     let files = files_of(alloc, &nothing(alloc), &NO_LIMITS)?;
-    prepared_of(alloc, filled(alloc, files, lines)?)
+    let Some((files, filled)) = work_and_close(alloc, files, &Fill { lines }) else {
+        return Err(Fault::NotClosed);
+    };
+    filled?;
+    prepared_of(alloc, files)
 }
 
 /// Files in which lines were played.
@@ -126,21 +158,33 @@ pub(crate) fn prepare_old(alloc: Global) -> Result<Prepared, Fault> {
     prepare_filled(alloc, None)
 }
 
-/// The files as lines leave them, and what was played.
-fn played_in<D: Disk + Drop>(
+/// Lines are played over it, that with a mark with this amount of memory, if there is one.
+struct Play<'a> {
+    lines: &'a str,
+    amount: Option<u32>,
+}
+
+impl Job for Play<'_> {
+    type Came = Result<Played, AllocError>;
+
+    fn over<S: Alter + Drop>(
+        &self,
+        alloc: Global,
+        conn: Connection<S>,
+    ) -> (Connection<S>, Result<Played, AllocError>) {
+        play(alloc, conn, self.lines, self.amount)
+    }
+}
+
+/// The files as lines leave them, and what was played: nothing where they are not opened.
+fn played_in(
     alloc: Global,
-    files: Files<D>,
+    files: Files<Stopping>,
     lines: &str,
     amount: Option<u32>,
-    options: Options,
-) -> (Files<D>, Result<Played, AllocError>) {
-    match open(alloc, files, options) {
-        Ok(conn) => {
-            let (conn, played) = play(alloc, conn, lines, amount);
-            (left(conn), played)
-        }
-        Err(files) => (files, Ok(Played::new(alloc))),
-    }
+) -> (Files<Stopping>, Result<Played, AllocError>) {
+    let (files, played) = work_in(alloc, files, FEW_PAGES, &Play { lines, amount });
+    (files, played.unwrap_or(Ok(Played::new(alloc))))
 }
 
 /// What comes of lines: their answers, whether a file stopped, and what is seen when the files are
@@ -161,7 +205,7 @@ pub(crate) fn outcome_of(
     limits: &Limits,
 ) -> Result<Outcome, Fault> {
     let files = files_of(alloc, &prepared.image, limits)?;
-    let (mut files, played) = played_in(alloc, files, lines, limits.call, FEW_PAGES);
+    let (mut files, played) = played_in(alloc, files, lines, limits.call);
     let stopped = have_stopped(&mut files);
     let seen = seen_after(alloc, files, known)?;
     Ok(Outcome {
@@ -178,6 +222,6 @@ pub(crate) fn done_over(
     lines: &str,
 ) -> Result<(Played, Prepared), Fault> {
     let files = files_of(alloc, &prepared.image, &NO_LIMITS)?;
-    let (files, played) = played_in(alloc, files, lines, None, FEW_PAGES);
+    let (files, played) = played_in(alloc, files, lines, None);
     Ok((played?, prepared_of(alloc, files)?))
 }

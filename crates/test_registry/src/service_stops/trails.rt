@@ -1,6 +1,8 @@
 //! A setup with its trail, where a file stops at each of its calls: what is found again holds each
 //! change that was told, and one more at most.
 
+ghost use Rattle.reg_service.specs.Registries.{IsUpToDate};
+
 use crate::service_stops::fault::Fault;
 use crate::service_stops::files::prepare;
 use reg_body::{Counted, Limits};
@@ -9,9 +11,10 @@ use reg_http::Trail;
 use reg_policy::{AdminCommand, AdminReply};
 use reg_service::Registry;
 use sqlite::{Alter, Connection, Files};
-use sqlite_disk::{Crash, Disk};
 use std::alloc::Global;
-use test_files::{FEW_PAGES, MANY_PAGES, Scarce, files_of, have_stopped, left, open, revive};
+use test_files::{
+    FEW_PAGES, Job, MANY_PAGES, Scarce, Stopping, files_of, have_stopped, revive, work_in,
+};
 
 /// More calls of a file than the setup makes.
 const MOST_CALLS: u32 = 5_000;
@@ -20,54 +23,81 @@ const SETUP: &str = "user-add ada\nuser-add bob\nuser-add carol\n";
 
 const TRAIL: &str = "- admin user-add ada\n- admin user-add bob\n- admin user-add carol\n";
 
-/// The store after the setup, and its trail; none if the registry was not opened.
-fn told_over<S: Alter + Drop>(
-    alloc: Global,
-    conn: Connection<S>,
-) -> Option<(Connection<S>, Vec<u8>)> {
-    if !conn.is_autocommit() {
-        return None;
-    }
-    let Ok(mut registry) = Registry::open(alloc, conn, Limits::STANDARD) else {
-        return None;
-    };
+/// The trail of the setup.
+fn trail_of<S: Alter>(alloc: Global, registry: &mut Registry<S>) -> Vec<u8>
+    requires { IsUpToDate S.Store registry.old }
+{
     let mut trail = Trail::new(Vec::new(alloc), u64::MAX);
     let mut reader = Counted::new([].as_slice());
     let mut writer = Counted::new(Vec::new(alloc));
-    let of = &mut registry;
-    let _ = pipe_traced(alloc, of, SETUP, &mut reader, &mut writer, &mut trail);
-    Some((registry.into_connection(), trail.into_inner()))
+    let _ = pipe_traced(alloc, registry, SETUP, &mut reader, &mut writer, &mut trail);
+    trail.into_inner()
 }
 
-/// The files after the setup, and its trail; none if the registry was not opened.
-fn told_in<D: Disk + Drop>(alloc: Global, files: Files<D>) -> Option<(Files<D>, Vec<u8>)> {
-    let Ok(conn) = open(alloc, files, FEW_PAGES) else {
-        return None;
-    };
-    let (conn, trail) = told_over(alloc, conn)?;
-    Some((left(conn), trail))
-}
+/// It is set up: the trail, if the registry was opened.
+struct SetUp;
 
-/// How many accounts are found in the store.
-fn accounts_over<S: Alter + Drop>(alloc: Global, conn: Connection<S>) -> Result<usize, Fault> {
-    if !conn.is_autocommit() {
-        return Err(Fault::NotOpened);
+impl Job for SetUp {
+    type Came = Option<Vec<u8>>;
+
+    fn over<S: Alter + Drop>(
+        &self,
+        alloc: Global,
+        conn: Connection<S>,
+    ) -> (Connection<S>, Option<Vec<u8>>) {
+        if !conn.is_autocommit() {
+            return (conn, None);
+        }
+        match Registry::open(alloc, conn, Limits::STANDARD) {
+            Ok(mut registry) => {
+                let trail = trail_of(alloc, &mut registry);
+                (registry.into_connection(), Some(trail))
+            }
+            Err((conn, _fault)) => (conn, None),
+        }
     }
-    let Ok(mut registry) = Registry::open(alloc, conn, Limits::STANDARD) else {
-        return Err(Fault::NotOpened);
-    };
+}
+
+/// Its accounts are counted, if the registry is opened.
+struct CountAccounts;
+
+impl Job for CountAccounts {
+    type Came = Option<usize>;
+
+    fn over<S: Alter + Drop>(
+        &self,
+        alloc: Global,
+        conn: Connection<S>,
+    ) -> (Connection<S>, Option<usize>) {
+        if !conn.is_autocommit() {
+            return (conn, None);
+        }
+        match Registry::open(alloc, conn, Limits::STANDARD) {
+            Ok(mut registry) => {
+                let found = accounts_of(alloc, &mut registry);
+                (registry.into_connection(), found)
+            }
+            Err((conn, _fault)) => (conn, None),
+        }
+    }
+}
+
+fn accounts_of<S: Alter>(alloc: Global, registry: &mut Registry<S>) -> Option<usize>
+    requires { IsUpToDate S.Store registry.old }
+{
     match registry.command(alloc, &AdminCommand::Users) {
-        Ok(AdminReply::Text(text)) => Ok(text.lines().count()),
-        _ => Err(Fault::NotOpened),
+        Ok(AdminReply::Text(text)) => Some(text.lines().count()),
+        _ => None,
     }
 }
 
 /// How many accounts are found in the files after the stop.
-fn accounts_in<D: Crash + Drop>(alloc: Global, mut files: Files<D>) -> Result<usize, Fault> {
+fn accounts_in(alloc: Global, mut files: Files<Stopping>) -> Result<usize, Fault> {
     revive(&mut files);
-    match open(alloc, files, MANY_PAGES) {
-        Ok(conn) => accounts_over(alloc, conn),
-        Err(_files) => Err(Fault::NotOpened),
+    let (_files, found) = work_in(alloc, files, MANY_PAGES, &CountAccounts);
+    match found {
+        Some(Some(count)) => Ok(count),
+        _ => Err(Fault::NotOpened),
     }
 }
 
@@ -84,7 +114,8 @@ fn over_stops(alloc: Global, scarce: Scarce) -> Result<(), Fault> {
     let before = prepare(alloc, "create -> done\n")?;
     for calls in 0..MOST_CALLS {
         let files = files_of(alloc, &before.image, &scarce.with(calls))?;
-        let Some((mut files, trail)) = told_in(alloc, files) else {
+        let (mut files, found) = work_in(alloc, files, FEW_PAGES, &SetUp);
+        let Some(Some(trail)) = found else {
             continue;
         };
         let stopped = have_stopped(&mut files);

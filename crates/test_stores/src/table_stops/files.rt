@@ -1,12 +1,29 @@
 //! A registry in two files that stop after a number of calls, and are opened again.
 
 use crate::table_stops::fault::Fault;
-use crate::table_stops::playing::{filled, rows_over};
+use crate::table_stops::playing::{fill, rows_over};
 use sqlite::{Alter, Connection, Files};
-use sqlite_disk::{Crash, Disk};
+use sqlite_disk::Crash;
 use std::alloc::Global;
-use test_files::{Image, MANY_PAGES, NO_LIMITS, closed, files_of, image_of, nothing, open, revive};
-use test_tables::with_old;
+use test_files::{
+    Image, Job, MANY_PAGES, NO_LIMITS, files_of, image_of, nothing, revive, work_and_close, work_in,
+};
+use test_tables::make_old;
+
+/// Its rows are read.
+struct Read;
+
+impl Job for Read {
+    type Came = Result<Option<String>, Fault>;
+
+    fn over<S: Alter + Drop>(
+        &self,
+        alloc: Global,
+        conn: Connection<S>,
+    ) -> (Connection<S>, Result<Option<String>, Fault>) {
+        rows_over(alloc, conn)
+    }
+}
 
 /// The rows of files that a machine finds again after it stopped.
 pub(crate) fn rows_after<D: Crash + Drop>(
@@ -14,10 +31,8 @@ pub(crate) fn rows_after<D: Crash + Drop>(
     mut files: Files<D>,
 ) -> Result<Option<String>, Fault> {
     revive(&mut files);
-    match open(alloc, files, MANY_PAGES) {
-        Ok(conn) => rows_over(alloc, conn),
-        Err(_files) => Err(Fault::NotOpened),
-    }
+    let (_files, rows) = work_in(alloc, files, MANY_PAGES, &Read);
+    rows.unwrap_or(Err(Fault::NotOpened))
 }
 
 /// Files, and the rows in them.
@@ -35,35 +50,37 @@ pub(crate) fn prepare_nothing(alloc: Global) -> Prepared {
     }
 }
 
-/// The store once it is the prepared registry over which this script was played; without a script,
-/// once it is one of schema 1.
-fn filled_over<S: Alter + Drop>(
-    alloc: Global,
-    conn: Connection<S>,
-    script: Option<&str>,
-) -> Result<Connection<S>, Fault> {
-    match script {
-        Some(script) => filled(alloc, conn, script),
-        None => with_old(conn).ok_or(Fault::NotMade),
-    }
+/// It becomes the prepared registry over which this script was played; without a script, a store of
+/// schema 1.
+struct Fill<'a> {
+    script: Option<&'a str>,
 }
 
-/// The files once their store is filled.
-fn filled_files<D: Disk + Drop>(
-    alloc: Global,
-    files: Files<D>,
-    script: Option<&str>,
-) -> Result<Files<D>, Fault> {
-    match open(alloc, files, MANY_PAGES) {
-        Ok(conn) => closed(filled_over(alloc, conn, script)?).ok_or(Fault::NotClosed),
-        Err(_files) => Err(Fault::NotOpened),
+impl Job for Fill<'_> {
+    type Came = Result<(), Fault>;
+
+    fn over<S: Alter + Drop>(
+        &self,
+        alloc: Global,
+        mut conn: Connection<S>,
+    ) -> (Connection<S>, Result<(), Fault>) {
+        match self.script {
+            Some(script) => fill(alloc, conn, script),
+            None => {
+                let made = make_old(&mut conn).map_err(|_error| Fault::NotMade);
+                (conn, made)
+            }
+        }
     }
 }
 
 /// The bytes of new files whose store is filled.
 fn image_after(alloc: Global, script: Option<&str>) -> Result<Image, Fault> {
     let files = files_of(alloc, &nothing(alloc), &NO_LIMITS)?;
-    let files = filled_files(alloc, files, script)?;
+    let Some((files, filled)) = work_and_close(alloc, files, &Fill { script }) else {
+        return Err(Fault::NotClosed);
+    };
+    filled?;
     Ok(image_of(alloc, &files)?)
 }
 

@@ -23,22 +23,28 @@ fn plays<S: Alter>(alloc: Global, tables: &mut Tables<S>, script: &str) -> Resul
     }
 }
 
+fn prepare<S: Alter>(alloc: Global, tables: &mut Tables<S>, script: &str) -> Result<(), Fault>
+    requires { AreOurs S.Store tables.old }
+{
+    plays(alloc, tables, PREPARED)?;
+    plays(alloc, tables, script)
+}
+
 /// Makes the prepared registry over a connection, and plays a script over it if there is one.
-pub(crate) fn filled<S: Alter + Drop>(
+pub(crate) fn fill<S: Alter + Drop>(
     alloc: Global,
     conn: Connection<S>,
     script: &str,
-) -> Result<Connection<S>, Fault> {
+) -> (Connection<S>, Result<(), Fault>) {
     if !conn.is_autocommit() {
-        return Err(Fault::NotMade);
+        return (conn, Err(Fault::NotMade));
     }
     match Tables::make(conn, BASE) {
         Ok(mut tables) => {
-            plays(alloc, &mut tables, PREPARED)?;
-            plays(alloc, &mut tables, script)?;
-            Ok(tables.into_connection())
+            let prepared = prepare(alloc, &mut tables, script);
+            (tables.into_connection(), prepared)
         }
-        Err((_conn, _fault)) => Err(Fault::NotMade),
+        Err((conn, _fault)) => (conn, Err(Fault::NotMade)),
     }
 }
 
@@ -50,27 +56,34 @@ pub(crate) fn schema_words(edition: Edition) -> &'static str {
     }
 }
 
-fn schema_and_rows<S: Alter>(alloc: Global, tables: &mut Tables<S>) -> Result<String, Fault>
+/// The schema and the rows of tables.
+fn schema_and_rows<S: Alter>(
+    alloc: Global,
+    tables: &mut Tables<S>,
+) -> Result<Option<String>, Fault>
     requires { AreOurs S.Store tables.old }
 {
     let words = schema_words(tables.edition());
     let rows = rows_text(alloc, tables)?;
-    Ok(format!(in alloc; "{words}{rows}")?)
+    Ok(Some(format!(in alloc; "{words}{rows}")?))
 }
 
 /// The schema and the rows of tables that were made before; none where nothing was made.
 pub(crate) fn rows_over<S: Alter + Drop>(
     alloc: Global,
     conn: Connection<S>,
-) -> Result<Option<String>, Fault> {
+) -> (Connection<S>, Result<Option<String>, Fault>) {
     if conn.schema().tables.is_empty() {
-        return Ok(None);
+        return (conn, Ok(None));
     }
     if !conn.is_autocommit() {
-        return Err(Fault::NotAdopted);
+        return (conn, Err(Fault::NotAdopted));
     }
     match Tables::adopt(alloc, conn) {
-        Ok(mut tables) => Ok(Some(schema_and_rows(alloc, &mut tables)?)),
-        Err((_conn, _fault)) => Err(Fault::NotAdopted),
+        Ok(mut tables) => {
+            let found = schema_and_rows(alloc, &mut tables);
+            (tables.into_connection(), found)
+        }
+        Err((conn, _fault)) => (conn, Err(Fault::NotAdopted)),
     }
 }

@@ -7,10 +7,9 @@ use crate::table_stops::fault::Fault;
 use crate::table_stops::files::rows_after;
 use reg_audit::audit;
 use reg_tables::{StoreFault, Tables, Work};
-use sqlite::{Alter, Connection, Files};
-use sqlite_disk::Disk;
+use sqlite::{Alter, Connection};
 use std::alloc::{AllocError, Global};
-use test_files::{Image, Limits, MANY_PAGES, files_of, have_stopped, leave_only, left, open};
+use test_files::{Image, Job, Limits, MANY_PAGES, files_of, have_stopped, leave_only, work_in};
 use test_support::scarce_memory::Amounts;
 use test_tables::{
     BASE, Call, check_text, entries_text, perform, read_call, read_logins, reply_text,
@@ -287,19 +286,17 @@ fn over_connection<S: Alter + Drop>(
     }
 }
 
-/// The files as a task leaves them, and what that was answered.
-fn over_files<D: Disk + Drop>(
-    alloc: Global,
-    files: Files<D>,
-    task: &Task<'_>,
-    limits: &Limits,
-) -> (Files<D>, Result<Reply, AllocError>) {
-    match open(alloc, files, MANY_PAGES) {
-        Ok(conn) => {
-            let (conn, reply) = over_connection(alloc, conn, task, limits);
-            (left(conn), reply)
-        }
-        Err(files) => (files, fault(alloc)),
+/// A task is done within limits.
+struct Attempt<'a> {
+    task: &'a Task<'a>,
+    limits: &'a Limits,
+}
+
+impl Job for Attempt<'_> {
+    type Came = Result<Reply, AllocError>;
+
+    fn over<S: Alter + Drop>(&self, alloc: Global, conn: Connection<S>) -> Ending<S> {
+        over_connection(alloc, conn, self.task, self.limits)
     }
 }
 
@@ -318,11 +315,13 @@ pub(crate) fn outcome_of(
     task: &Task<'_>,
     limits: &Limits,
 ) -> Result<Outcome, Fault> {
-    let (mut files, reply) = over_files(alloc, files_of(alloc, image, limits)?, task, limits);
+    let files = files_of(alloc, image, limits)?;
+    let (mut files, reply) = work_in(alloc, files, MANY_PAGES, &Attempt { task, limits });
     let stopped = have_stopped(&mut files);
     let rows = rows_after(alloc, files)?;
+    let reply = reply.unwrap_or(fault(alloc))?;
     Ok(Outcome {
-        reply: reply?,
+        reply,
         stopped,
         rows,
     })
