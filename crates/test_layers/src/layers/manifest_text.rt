@@ -36,19 +36,24 @@ fn add_dep(text: &mut String, dep: &Dep) -> Result<(), AllocError> {
     add(text, " renamed ", dep.explicit_name_in_toml.as_deref())
 }
 
+fn add_manifest(text: &mut String, manifest: &Manifest) -> Result<(), AllocError> {
+    add(text, " ", Some(&manifest.vers))?;
+    add(text, " description ", manifest.description.as_deref())?;
+    add(text, " links ", manifest.links.as_deref())?;
+    add(text, " rust ", manifest.rust_version.as_deref())?;
+    for (name, values) in &manifest.features {
+        text.push_str("; feature ")?;
+        add_list(text, name, values)?;
+    }
+    for dep in &manifest.deps {
+        add_dep(text, dep)?;
+    }
+    Ok(())
+}
+
 /// All that a manifest says.
 pub(crate) fn manifest_text(alloc: Global, manifest: &Manifest) -> Result<String, AllocError> {
     let mut text = String::from_str(alloc, manifest.name.as_str())?;
-    add(&mut text, " ", Some(&manifest.vers))?;
-    add(&mut text, " description ", manifest.description.as_deref())?;
-    add(&mut text, " links ", manifest.links.as_deref())?;
-    add(&mut text, " rust ", manifest.rust_version.as_deref())?;
-    for (name, values) in &manifest.features {
-        text.push_str("; feature ")?;
-        add_list(&mut text, name, values)?;
-    }
-    for dep in &manifest.deps {
-        add_dep(&mut text, dep)?;
-    }
+    add_manifest(&mut text, manifest)?;
     Ok(text)
 }

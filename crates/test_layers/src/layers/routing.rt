@@ -92,15 +92,25 @@ fn allowed(methods: Methods) -> &'static [u8] {
 }
 
 /// Whether a request of token `abc` is routed as told.
-fn is_routed(answer: Result<ApiRequest<'_>, RouteFault>, told: &str) -> Result<bool, AllocError> {
+fn is_right(answer: &Result<ApiRequest<'_>, RouteFault>, told: &str) -> Result<bool, AllocError> {
     match answer {
         Ok(request) => {
             Ok(request.token == Some(b"abc".as_slice()) && is_asked(&request.call, told))
         }
         Err(RouteFault::NoRoute) => Ok(told == "H6"),
-        Err(RouteFault::Method(methods)) => Ok(is_told(told, "H7", allowed(methods), b"")),
+        Err(RouteFault::Method(methods)) => Ok(is_told(told, "H7", allowed(*methods), b"")),
         Err(RouteFault::Memory) => Err(AllocError),
     }
+}
+
+fn is_routed(
+    alloc: Global,
+    routes: &Routes,
+    head: &Head<'_>,
+    told: &str,
+) -> Result<bool, AllocError> {
+    let answer = routes.route(alloc, head, b"body");
+    is_right(&answer, told)
 }
 
 fn head_of(alloc: Global, bytes: &[u8]) -> Result<Head<'_>, Fail> {
@@ -120,7 +130,7 @@ struct RoutingTold<'a> {
 
 impl Call for RoutingTold<'_> {
     fn answers(&self, alloc: Global) -> Result<bool, AllocError> {
-        is_routed(self.routes.route(alloc, self.head, b"body"), self.told)
+        is_routed(alloc, self.routes, self.head, self.told)
     }
 }
 
@@ -152,7 +162,7 @@ struct MakingRoutes<'a>(&'a Head<'a>);
 impl Call for MakingRoutes<'_> {
     fn answers(&self, alloc: Global) -> Result<bool, AllocError> {
         let routes = Routes::new(alloc)?;
-        is_routed(routes.route(alloc, self.0, b""), "index|1/a")
+        is_routed(alloc, &routes, self.0, "index|1/a")
     }
 }
 

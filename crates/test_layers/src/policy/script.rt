@@ -55,7 +55,7 @@ fn fault_of(stage: &mut Stage, line: &str) -> Result<Option<String>, AllocError>
     Ok(Some(format!(in stage.alloc; "{event}: found {found}")?))
 }
 
-/// What is wrong with the first line that is answered otherwise than it says.
+/// What is wrong with the first of these lines that is answered otherwise than it says.
 fn first_fault(stage: &mut Stage, lines: &str) -> Result<Option<String>, AllocError> {
     for line in lines.lines() {
         let fault = fault_of(stage, line)?;
@@ -106,15 +106,25 @@ fn all_lines(alloc: Global, first: &str, lines: &str) -> Result<String, AllocErr
     format!(in alloc; "{}{whole}", setup_of(first))
 }
 
-fn fault_in(alloc: Global, script: &str) -> Result<Option<String>, AllocError> {
-    let (first, lines) = script.split_once('\n').unwrap_or((script, "no lines"));
-    let all = all_lines(alloc, first, lines)?;
-    let others = if first.ends_with(" with others") {
+/// How many other registries a first line asks for.
+fn others_of(first: &str) -> u32 {
+    if first.ends_with(" with others") {
         COUNT
     } else {
         0
-    };
-    first_fault(&mut Stage::new(alloc, limits_of(first), others)?, &all)
+    }
+}
+
+/// What is wrong with the first line of a script that is answered otherwise than it says.
+fn fault_on(stage: &mut Stage, first: &str, lines: &str) -> Result<Option<String>, AllocError> {
+    let all = all_lines(stage.alloc, first, lines)?;
+    first_fault(stage, &all)
+}
+
+fn fault_in(alloc: Global, script: &str) -> Result<Option<String>, AllocError> {
+    let (first, lines) = script.split_once('\n').unwrap_or((script, "no lines"));
+    let mut stage = Stage::new(alloc, limits_of(first), others_of(first))?;
+    fault_on(&mut stage, first, lines)
 }
 
 /// Plays a script: fails where a line of it is answered otherwise than it says.
