@@ -47,6 +47,17 @@ fn text_of_call<S: Alter>(
     reply_text(alloc, perform(alloc, work, &call))
 }
 
+fn called<S: Alter>(alloc: Global, work: &mut Work<'_, S>, line: &str) -> Result<String, Fault>
+    requires { IsAtWork S.Store work.old }
+    ensures at_work { IsAtWork S.Store work.new }
+    ensures same_reference { work.new.tables.ghost_name ≡ work.old.tables.ghost_name }
+{
+    match read_call(alloc, line)? {
+        Some(call) => Ok(text_of_call(alloc, work, call)?),
+        None => Ok(String::from_str(alloc, "no such call")?),
+    }
+}
+
 /// What a call is answered, as a text.
 pub fn answer_of<S: Alter>(
     alloc: Global,
@@ -57,12 +68,9 @@ pub fn answer_of<S: Alter>(
     ensures at_work { IsAtWork S.Store work.new }
     ensures same_reference { work.new.tables.ghost_name ≡ work.old.tables.ghost_name }
 {
-    if let Some(id) = line.strip_prefix("index ") {
-        return Ok(index_of(alloc, work, id.parse().unwrap_or(0))?);
-    }
-    match read_call(alloc, line)? {
-        Some(call) => Ok(text_of_call(alloc, work, call)?),
-        None => Ok(String::from_str(alloc, "no such call")?),
+    match line.strip_prefix("index ") {
+        Some(id) => Ok(index_of(alloc, work, id.parse().unwrap_or(0))?),
+        None => called(alloc, work, line),
     }
 }
 

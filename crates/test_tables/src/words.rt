@@ -183,12 +183,20 @@ fn old_version<'a>(word: &str, id: u32, text: &'a str) -> Option<CrateCall<'a>> 
     }
 }
 
+/// A call that reads what is there by an id.
+fn by_id<'a>(word: &str, id: u32) -> Option<CrateCall<'a>> {
+    match word {
+        "versions" => Some(CrateCall::Versions(id)),
+        "summary" => Some(CrateCall::Summary(id)),
+        "archive-id" => Some(CrateCall::ArchiveWithId(u64::from(id))),
+        _ => None,
+    }
+}
+
 fn old_crate<'a>(words: &[&'a str]) -> Option<CrateCall<'a>> {
     match words {
         ["crates"] => Some(CrateCall::All),
-        ["versions", id] => Some(CrateCall::Versions(id.parse().ok()?)),
-        ["summary", id] => Some(CrateCall::Summary(id.parse().ok()?)),
-        ["archive-id", id] => Some(CrateCall::ArchiveWithId(id.parse().ok()?)),
+        [word, id] => by_id(word, id.parse().ok()?),
         [word, id, text] => old_version(word, id.parse().ok()?, text),
         _ => None,
     }
@@ -232,18 +240,32 @@ fn name_call(words: &[&str]) -> Option<NameCall> {
     }
 }
 
+/// A call on a crate that may be restricted.
+fn restricting(word: &str, id: u32) -> Option<ReaderCall> {
+    match word {
+        "restrict" => Some(ReaderCall::Restrict(id, true)),
+        "open" => Some(ReaderCall::Restrict(id, false)),
+        "restricted" => Some(ReaderCall::IsRestricted(id)),
+        "readers" => Some(ReaderCall::All(id)),
+        _ => None,
+    }
+}
+
+/// A call on a reader.
+fn one_reader(word: &str, id: u32, account: u32) -> Option<ReaderCall> {
+    match word {
+        "add-reader" => Some(ReaderCall::Add(id, account)),
+        "remove-reader" => Some(ReaderCall::Remove(id, account)),
+        _ => None,
+    }
+}
+
 fn reader_call(words: &[&str]) -> Option<ReaderCall> {
-    Some(match words {
-        ["restrict", id] => ReaderCall::Restrict(id.parse().ok()?, true),
-        ["open", id] => ReaderCall::Restrict(id.parse().ok()?, false),
-        ["restricted", id] => ReaderCall::IsRestricted(id.parse().ok()?),
-        ["readers", id] => ReaderCall::All(id.parse().ok()?),
-        ["add-reader", id, account] => ReaderCall::Add(id.parse().ok()?, account.parse().ok()?),
-        ["remove-reader", id, account] => {
-            ReaderCall::Remove(id.parse().ok()?, account.parse().ok()?)
-        }
-        _ => return None,
-    })
+    match words {
+        [word, id] => restricting(word, id.parse().ok()?),
+        [word, id, account] => one_reader(word, id.parse().ok()?, account.parse().ok()?),
+        _ => None,
+    }
 }
 
 fn text_call<'a>(words: &[&'a str]) -> Option<TextCall<'a>> {
