@@ -77,7 +77,8 @@ pub fn split<'a>(bytes: &'a [u8], limits: &Limits) -> Result<(&'a [u8], &'a [u8]
     let Some((archive, rest)) = take_part(rest) else {
         return Err(BodyFault::Short);
     };
-    if !rest.is_empty() {
+    let is_trailed = !rest.is_empty();
+    if is_trailed {
         return Err(BodyFault::Trailing);
     }
     if json.len() > limits.json as usize || archive.len() > limits.archive as usize {

@@ -97,7 +97,9 @@ fn named_by(path: &str) -> Option<CrateName>
     ensures { (n : List ℕ) → (result ≡ Some n) ↔ IsPathOf n path.now }
 {
     let name = parse_name(file_name(path))?;
-    if lower(&name).as_str() == name.as_str() && index_path(&name).as_str() == path {
+    let is_lower = lower(&name).as_str() == name.as_str();
+    let is_its_path = index_path(&name).as_str() == path;
+    if is_lower && is_its_path {
         Some(name)
     } else {
         None

@@ -17,8 +17,8 @@ returns-in_default-take_part c =
     let v = verdict c.args.limits.now c.args.bytes.now (Err Short) (cut_second _ _ _ first.0 first.1 c.in_default-take_part.ensures) in
     record { parts = v.0; short = v.1; trailing = v.2; too_long = v.3 }
 
-pub returns-then-not-is_empty : goal.returns-then-not-is_empty
-returns-then-not-is_empty c =
+pub returns-then-is_trailed : goal.returns-then-is_trailed
+returns-then-is_trailed c =
     let first = c.in-Some.ensures in
     let second = c.in-Some-take_part.ensures in
     let more : 0 < length c.in-Some-take_part.rest.now = grind arith in

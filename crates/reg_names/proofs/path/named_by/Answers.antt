@@ -3,8 +3,8 @@ use Rattle.reg_names.specs.Names.{is_name, lower, name_of, path_of}
 use Rattle.reg_names.proofs.NameFacts.{name_of-name}
 use Rattle.reg_names.proofs.path.named_by.Goals as goal
 
-pub returns-then-eq-2 : goal.returns-then-eq-2
-returns-then-eq-2 c = λ n. (
+pub returns-then-is_its_path : goal.returns-then-is_its_path
+returns-then-is_its_path c = λ n. (
   (λ e.
       let same : c.in_ok-name.name ≡ n = cc in
       let IsOf : List ℕ → Type 0 = λ t. (is_name t ≡ true) × (lower t ≡ t) × (path_of t ≡ c.args.path.now) in
