@@ -8,7 +8,7 @@ ghost use Rattle.reg_cli_pipe.specs.Limited.{HasTurns};
 ghost use Rattle.reg_cli.specs.Setups.{IsSetup};
 
 use crate::store::{connect, create, open};
-use crate::using::{Use, make_file, on_file};
+use crate::using::{Use, on_file};
 use clap::ArgMatches;
 use reg_body::{Counted, Limits};
 use reg_cli_line::Exit;
@@ -105,7 +105,7 @@ pub(crate) fn init(rt: &HostRuntime, words: &ArgMatches<'_>) -> Exit {
     let (Some(file), Some(base)) = (words.get_str("db"), words.get_str("base")) else {
         return Exit::BAD_WORDS;
     };
-    exit_of(make_file(rt, file, base))
+    on_file(rt, file, Limits::STANDARD, &Use::Make(base))
 }
 
 /// Listens, unless it does already, and serves connections.

@@ -1,6 +1,6 @@
 //! What is done with the registry of a file.
 
-ghost use Rattle.std.specs.Prelude.{◌≡◌, false};
+ghost use Rattle.std.specs.Prelude.{◌≡◌, IfOk, false};
 ghost use Rattle.sqlite.specs.Held.{state};
 ghost use Rattle.reg_service.specs.Registries.{IsUpToDate, limits_of};
 ghost use Rattle.reg_cli_pipe.specs.Limited.{HasTurns};
@@ -14,12 +14,15 @@ use reg_cli_line::Exit;
 use reg_cli_pipe::print;
 use reg_service::Registry;
 use sqlite::{Alter, Connection};
+use std::alloc::Global;
 use std::io;
 
-/// What is done with an open registry.
+/// What is done with the registry of a file.
 #[derive(Clone, Copy)]
 pub(crate) enum Use<'a> {
-    /// Nothing more: opening checks it.
+    /// It is made, empty, with this base.
+    Make(&'a str),
+    /// Nothing more than opening, which checks it.
     Check,
     Task(&'a Task<'a>),
     /// A stream on standard input and output, after the setup in a file.
@@ -32,9 +35,27 @@ fn use_it<S: Alter>(rt: &HostRuntime, registry: &mut Registry<S>, wanted: &Use<'
     requires fit { IsFitUse wanted.now }
 {
     match wanted {
-        Use::Check => Exit::DONE,
+        Use::Make(_) | Use::Check => Exit::DONE,
         Use::Task(task) => do_task(rt, registry, &mut Counted::new(io::writer(rt)), task),
         Use::Pipe(setup) => pipe_on(rt, registry, *setup),
+    }
+}
+
+/// Opens the registry of a store, or makes it there.
+fn begin<S: Alter + Drop>(
+    alloc: Global,
+    conn: Connection<S>,
+    limits: Limits,
+    wanted: &Use<'_>,
+) -> Result<Registry<S>, Exit>
+    requires begun { (state S.Store conn).in_transaction ≡ false }
+    requires turns { HasTurns limits }
+    ensures tables { IfOk result (IsUpToDate S.Store) }
+    ensures turns { IfOk result (λ r. HasTurns (limits_of r)) }
+{
+    match wanted {
+        Use::Make(base) => create(conn, base),
+        _ => open(alloc, conn, limits),
     }
 }
 
@@ -49,7 +70,7 @@ fn use_store<S: Alter + Drop>(
     requires turns { HasTurns limits }
     requires fit { IsFitUse wanted.now }
 {
-    let mut registry = open(rt.alloc(), conn, limits)?;
+    let mut registry = begin(rt.alloc(), conn, limits, wanted)?;
     let exit = use_it(rt, &mut registry, wanted);
     Ok((exit, registry.into_connection()))
 }
@@ -82,19 +103,4 @@ pub(crate) fn on_file(rt: &HostRuntime, file: &str, limits: Limits, wanted: &Use
     match use_file(rt, file, limits, wanted) {
         Ok(exit) | Err(exit) => exit,
     }
-}
-
-/// Makes an empty registry, and returns the connection.
-fn make_in<S: Alter + Drop>(conn: Connection<S>, base: &str) -> Result<Connection<S>, Exit>
-    requires { (state S.Store conn).in_transaction ≡ false }
-{
-    Ok(create(conn, base)?.into_connection())
-}
-
-/// Makes an empty registry in a file.
-pub(crate) fn make_file(rt: &HostRuntime, file: &str, base: &str) -> Result<(), Exit> {
-    let conn = connect(rt, file)?;
-    let conn = make_in(conn, base)?;
-    let _ = conn.close();
-    Ok(())
 }

@@ -6,6 +6,8 @@
 #[cfg(test)]
 mod program;
 #[cfg(test)]
+mod scripts;
+#[cfg(test)]
 mod service;
 #[cfg(test)]
 mod service_stops;

@@ -1,4 +1,4 @@
-//! Tests of the service over a store in memory, by scripts of the words of [`test_service`].
+//! Tests of the service over a store in memory, by scripts of the words of [`scripts`](crate::scripts).
 //!
 //! The plain registry is asked the same, and has to answer alike.
 

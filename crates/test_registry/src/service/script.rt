@@ -6,6 +6,7 @@
 
 ghost use Rattle.reg_service.specs.Registries.{IsUpToDate};
 
+use crate::scripts::{BASE, TWO_ACCOUNTS, TWO_ACCOUNTS_AND_A, limits_of, told_otherwise};
 use crate::service::fault::Fault;
 use crate::service::stage::answered;
 use reg_body::Limits;
@@ -14,7 +15,6 @@ use reg_service::Registry;
 use sqlite::{Alter, Connection};
 use std::alloc::{AllocError, Global};
 use std::process::Abort;
-use test_service::{BASE, TWO_ACCOUNTS, TWO_ACCOUNTS_AND_A, limits_of, told_otherwise};
 
 /// What is wrong with a line; none where it is answered as it says.
 fn fault_of<S: Alter>(

@@ -18,6 +18,7 @@
 
 ghost use Rattle.reg_service.specs.Registries.{IsUpToDate};
 
+use crate::scripts::{BASE, Parts, TWO_ACCOUNTS, TWO_ACCOUNTS_AND_A, answer, told_text};
 use crate::streams::ends::Ends;
 use crate::streams::fault::Fault;
 use crate::streams::memory::amounts_fault;
@@ -29,7 +30,6 @@ use reg_service::Registry;
 use sqlite::{Alter, Connection};
 use std::alloc::{AllocError, Global};
 use std::process::Abort;
-use test_service::{BASE, Parts, TWO_ACCOUNTS, TWO_ACCOUNTS_AND_A, answer, told_text};
 
 /// What is wrong with a setup line.
 fn call_fault<S: Alter>(

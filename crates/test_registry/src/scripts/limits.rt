@@ -15,7 +15,7 @@ fn limit(limits: &mut Limits, name: &str, number: u32) {
 }
 
 /// The standard limits with those set that the words name, as `crates=1`.
-pub fn limits_of(words: &str) -> Limits {
+pub(crate) fn limits_of(words: &str) -> Limits {
     let mut limits = Limits::STANDARD;
     for word in words.split(' ') {
         if let Some((name, number)) = word.split_once('=') {

@@ -3,9 +3,9 @@
 ghost use Rattle.std.specs.Prelude.{IfOk};
 ghost use Rattle.reg_service.specs.Registries.{IsUpToDate};
 
-use crate::limits::limits_of;
-use crate::setups::BASE;
-use crate::tasks::answered;
+use crate::scripts::limits::limits_of;
+use crate::scripts::setups::BASE;
+use crate::scripts::tasks::answered;
 use reg_service::{OpenFault, Registry};
 use sqlite::{Alter, Connection};
 use std::alloc::{AllocError, Global};
@@ -14,13 +14,13 @@ use test_files::leave_only;
 /// The lines that were played, each with its answer; and the answer of that with a mark, if it was
 /// played.
 #[derive(Drop)]
-pub struct Played {
-    pub lines: String,
-    pub marked: Option<String>,
+pub(crate) struct Played {
+    pub(crate) lines: String,
+    pub(crate) marked: Option<String>,
 }
 
 impl Played {
-    pub fn new(alloc: Global) -> Played {
+    pub(crate) fn new(alloc: Global) -> Played {
         Played {
             lines: String::new(alloc),
             marked: None,
@@ -146,7 +146,7 @@ fn play_refused(
 
 /// Plays lines over a connection, that with a mark, `! `, with this amount of memory, if there is
 /// one. A line may have an answer, which is left out.
-pub fn play<S: Alter + Drop>(
+pub(crate) fn play<S: Alter + Drop>(
     alloc: Global,
     conn: Connection<S>,
     lines: &str,

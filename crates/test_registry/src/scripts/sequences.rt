@@ -5,8 +5,8 @@ ghost use Rattle.std.specs.List.{AllByRecursion};
 ghost use Rattle.reg_service.specs.Registries.{IsUpToDate};
 ghost use Rattle.reg_service.specs.Sequences.{IsFitCall};
 
-use crate::calls::Parts;
-use crate::replies::told_text;
+use crate::scripts::calls::Parts;
+use crate::scripts::replies::told_text;
 use reg_service::{Call, Registry, Told, answer_all};
 use sqlite::Alter;
 use std::alloc::{AllocError, Global};
@@ -57,7 +57,7 @@ fn wanted_lines(alloc: Global, lines: &str) -> Result<String, AllocError> {
 }
 
 /// What lines are answered by one call, where it is not what they say.
-pub fn told_otherwise<S: Alter>(
+pub(crate) fn told_otherwise<S: Alter>(
     alloc: Global,
     registry: &mut Registry<S>,
     lines: &str,

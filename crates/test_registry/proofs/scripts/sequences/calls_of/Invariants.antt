@@ -1,6 +1,6 @@
 use Rattle.std.specs.List.{AllByRecursion}
 use Rattle.reg_service.specs.Sequences.{IsFitCall}
-use Rattle.test_service.proofs.sequences.calls_of.Given as goal
+use Rattle.test_registry.proofs.scripts.sequences.calls_of.Given as goal
 
 -- what was read so far is fit
 abbrev pub invariant-loop-part : goal.invariant-loop-part

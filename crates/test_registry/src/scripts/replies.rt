@@ -21,7 +21,7 @@ fn done_text(alloc: Global, kind: Kind, body: &[u8]) -> Result<String, AllocErro
 }
 
 /// A reply as scripts write it.
-pub fn reply_text(alloc: Global, reply: &Reply) -> Result<String, AllocError> {
+pub(crate) fn reply_text(alloc: Global, reply: &Reply) -> Result<String, AllocError> {
     match reply {
         Reply::Done(kind, body) => done_text(alloc, *kind, body),
         Reply::Denied(rule) => format!(in alloc; "{rule:?}"),
@@ -30,7 +30,7 @@ pub fn reply_text(alloc: Global, reply: &Reply) -> Result<String, AllocError> {
 }
 
 /// What a command is answered, as scripts write it.
-pub fn order_text(
+pub(crate) fn order_text(
     alloc: Global,
     told: &Result<AdminReply, AdminRefusal>,
 ) -> Result<String, AllocError> {
@@ -43,7 +43,7 @@ pub fn order_text(
 }
 
 /// What a call is told, as scripts write it.
-pub fn told_text(alloc: Global, told: &Told) -> Result<String, AllocError> {
+pub(crate) fn told_text(alloc: Global, told: &Told) -> Result<String, AllocError> {
     match told {
         Told::Reply(reply) => reply_text(alloc, reply),
         Told::Command(told) => order_text(alloc, told),

@@ -2,8 +2,8 @@
 
 ghost use Rattle.reg_service.specs.Registries.{IsUpToDate};
 
-use crate::calls::{Parts, answer};
-use crate::replies::{body_text, told_text};
+use crate::scripts::calls::{Parts, answer};
+use crate::scripts::replies::{body_text, told_text};
 use reg_body::Counted;
 use reg_service::{ApiCall, ApiRequest, Check, Registry, Told};
 use sqlite::Alter;

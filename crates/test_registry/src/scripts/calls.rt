@@ -7,7 +7,7 @@ ghost use Rattle.reg_policy.specs.Events.{command_of as order_of};
 ghost use Rattle.reg_service.specs.Registries.{IsUpToDate};
 ghost use Rattle.reg_service.specs.Sequences.{IsFitCall};
 
-use crate::requests::{publish_body, request_of, token_text};
+use crate::scripts::requests::{publish_body, request_of, token_text};
 use reg_line::{Digest, digest_of};
 use reg_policy::AdminCommand;
 use reg_service::{ApiRequest, Call, Registry, Told};
@@ -18,7 +18,7 @@ use test_support::orders::{command_of, parts};
 /// What the call of a line borrows: its words, the body of a publish, and of a token that is added
 /// the endpoints, the patterns and the digest.
 #[derive(Drop)]
-pub struct Parts<'a> {
+pub(crate) struct Parts<'a> {
     words: Vec<&'a str>,
     body: Vec<u8>,
     endpoints: Vec<&'a str>,
@@ -43,7 +43,7 @@ fn words_behind<'w, 'a>(words: &'w [&'a str]) -> &'w [&'a str] {
 }
 
 impl<'a> Parts<'a> {
-    pub fn read(alloc: Global, line: &'a str) -> Result<Parts<'a>, AllocError> {
+    pub(crate) fn read(alloc: Global, line: &'a str) -> Result<Parts<'a>, AllocError> {
         let words: Vec<&str> = line.split(' ').collect(alloc)?;
         let body = publish_body(alloc, words_behind(&words))?;
         let [endpoints, patterns, token] = token_words(&words);
@@ -67,7 +67,7 @@ impl<'a> Parts<'a> {
     }
 
     /// The command, if it is one.
-    pub fn command(&self) -> Option<AdminCommand<'_>>
+    pub(crate) fn command(&self) -> Option<AdminCommand<'_>>
         ensures { IfSome result (λ c. IsFit (Order (order_of c))) }
     {
         match self.words.as_slice() {
@@ -77,7 +77,7 @@ impl<'a> Parts<'a> {
     }
 
     /// The request, if it is one.
-    pub fn request(&self) -> Option<ApiRequest<'_>> {
+    pub(crate) fn request(&self) -> Option<ApiRequest<'_>> {
         match self.words.as_slice() {
             [who, wanted @ ..] => request_of(who, wanted, &self.body),
             [] => None,
@@ -98,7 +98,7 @@ impl Parts<'_> {
 }
 
 /// What a registry answers; none where the line is no call.
-pub fn answer<S: Alter>(
+pub(crate) fn answer<S: Alter>(
     alloc: Global,
     registry: &mut Registry<S>,
     parts: &Parts<'_>,

@@ -1,5 +1,5 @@
 use Rattle.reg_service.specs.Registries.{IsUpToDate}
-use Rattle.test_service.proofs.playing.play_lines.Given as goal
+use Rattle.test_registry.proofs.scripts.playing.play_lines.Given as goal
 
 -- the tables are ours between two calls
 abbrev pub invariant-loop-line : goal.invariant-loop-line

@@ -1,17 +1,17 @@
 //! The registries of the worked examples.
 
 /// The base of each registry.
-pub const BASE: &str = "http://127.0.0.1:8080";
+pub(crate) const BASE: &str = "http://127.0.0.1:8080";
 
 /// The registry of *two accounts*: ada's token has all endpoints, and bob's has two.
-pub const TWO_ACCOUNTS: &str = "user-add ada Ada -> done
+pub(crate) const TWO_ACCOUNTS: &str = "user-add ada Ada -> done
 user-add bob -> done
 token-add ada publish-new,publish-update,yank,change-owners - ada -> 1
 token-add bob publish-update,yank - bob -> 2
 ";
 
 /// The registry of *two accounts and a*: that of *two accounts* after ada published `a`.
-pub const TWO_ACCOUNTS_AND_A: &str = r#"user-add ada Ada -> done
+pub(crate) const TWO_ACCOUNTS_AND_A: &str = r#"user-add ada Ada -> done
 user-add bob -> done
 token-add ada publish-new,publish-update,yank,change-owners - ada -> 1
 token-add bob publish-update,yank - bob -> 2

@@ -1,0 +1,27 @@
+//! What the tests of a registry share: words of scripts that are calls, what calls are told as texts,
+//! and the registries of the worked examples as the lines that make them.
+//!
+//! A line is a command or a request, `export`, `audit`, or `stream` before a request for an index
+//! file, an arrow, and its whole answer.
+//! Who asks is ada, bob, no-token, or the text of a token:
+//!
+//! ```text
+//! reserve acme -> done
+//! bob yank a 0.1.0 -> A9
+//! ```
+
+mod calls;
+mod limits;
+mod playing;
+mod replies;
+mod requests;
+mod sequences;
+mod setups;
+mod tasks;
+
+pub(crate) use calls::{Parts, answer};
+pub(crate) use limits::limits_of;
+pub(crate) use playing::{Played, play};
+pub(crate) use replies::{order_text, reply_text, told_text};
+pub(crate) use sequences::told_otherwise;
+pub(crate) use setups::{BASE, TWO_ACCOUNTS, TWO_ACCOUNTS_AND_A};
