@@ -1,5 +1,5 @@
-//! What the tests of a registry share: words of scripts that are calls, what calls are told as texts,
-//! and the registries of the worked examples as the lines that make them.
+//! What the tests of a registry share: words of scripts that are calls, what calls are told as
+//! texts, and the registries of the worked examples as the lines that make them.
 //!
 //! A line is a command or a request, `export`, `audit`, or `stream` before a request for an index
 //! file, an arrow, and its whole answer.

@@ -1,4 +1,5 @@
-//! Tests of the service over a store in memory, by scripts of the words of [`scripts`](crate::scripts).
+//! Tests of the service over a store in memory, by scripts in the words of
+//! [`scripts`](crate::scripts).
 //!
 //! The plain registry is asked the same, and has to answer alike.
 
