@@ -1,5 +1,5 @@
 -- What a stop may leave where a change of the tables was refused.
-use Rattle.std.proofs.Common.{◌≡◌, ◌∙◌, inl, inr, IsTrue, Ok, Err, Result, ap, arith, refl, subst, sym}
+use Rattle.std.proofs.Common.{◌≡◌, ◌∙◌, inl, inr, Bool, IsTrue, true, false, Ok, Err, Result, ap, arith, refl, subst, sym}
 use Rattle.sqlite_trees.specs.declared.store.Store.{Ghosts}
 use Rattle.sqlite.specs.Effect.{Database}
 use Rattle.sqlite.specs.Held.{Held, state}
@@ -21,6 +21,26 @@ use Rattle.reg_tables.specs.declared.work.Work.{Work}
 
 keeps_itself : (s : State) → KeepsCommit s s
 keeps_itself s = record { was_open = λ up. up; committed = λ up. refl }
+
+-- no two answers are one
+pub not_ok : {T E : Type 0} {e : E} {x : T} → Err e ≡ Ok x → ⊥
+not_ok is = cc
+
+pub not_false : {E : Type 0} → ◌≡◌ {A = Result Bool E} (Ok true) (Ok false) → ⊥
+not_false is = cc
+
+pub storage_known : Storage ≡ UnknownSchema → ⊥
+storage_known is = cc
+
+pub same_fault : {T E : Type 0} {d e : E} → ◌≡◌ {A = Result T E} (Err d) (Err e) → d ≡ e
+same_fault is = cc
+
+-- where no transaction was begun
+pub undone_itself : (s : State) → (s.in_transaction ≡ false → IsTrue s.is_open → s.now ≡ s.committed) → s.in_transaction ≡ false → IsUndone s s
+undone_itself s law out = record { was_open = λ up. up; undone = λ up. (law out up, refl); autocommit = out }
+
+pub survives_itself : (s : State) → Survives s s (λ _. ⊥)
+survives_itself s = record { clean = omega arith; shield = λ h. h; counts = omega arith; limit = refl; closes = λ clean h. inl h; crash = λ clean db h. inl h }
 
 -- an open connection leaves a stop its last commit, and only the disk shuts it
 pub leaves_last : (old new : State) (P : Trees → Type 0) → (IsTrue new.is_open → LeavesCommit new) → KeepsCommit old new → Survives old new P → HasCleanDisk new → LeavesLast old new
@@ -46,6 +66,10 @@ begins_first Second old mid is h = absurd cc
 module _ {S : Type 0} (g : Ghosts S) (old : Tables S) (w : Work S) (new : Tables S) (is : edition_in old ≡ First) (begun : Begins g (BeginsSecond (edition_in old)) old w) where
   upgrades_first : {P : Trees → Type 0} → Survives (seen g w) (shown g new) P → HasCleanDisk (shown g new) → Upgrades (shown g old) (seen g w)
   upgrades_first two clean = begins_first (edition_in old) (shown g old) (seen g w) is (begun.view (omega (arith, clean, two.clean)))
+
+  -- the tables that are handed back are those that the transaction left
+  pub ends_as : {T E : Type 0} (r : Result T E) (left : Tables S) → left ≡ new → IsEnded g r w new → IsEnded g r w left
+  ends_as r left same ended = subst (λ t. IsEnded g r w t) (sym same) ended
 
   pub migrated : {T E : Type 0} (x : T) → IsEnded {E = E} g (Ok x) w new → HasCleanDisk (shown g new) → IsUpgraded (shown g old) (shown g new)
   migrated x ended clean = upgraded (edition_in old) (shown g old) (seen g w) (shown g new) is (begun.view (omega (arith, clean, ended.survives.clean))) (ended.committed.kept clean)

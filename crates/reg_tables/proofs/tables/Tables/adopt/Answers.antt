@@ -1,5 +1,21 @@
 use Rattle.std.proofs.Common.{rules}
+use Rattle.sqlite.specs.Held.{state}
+use Rattle.reg_tables.proofs.Stopping.{storage_known, survives_itself, undone_itself}
 use Rattle.reg_tables.proofs.tables.Tables.adopt.Goals as goal
+
+pub returns-in-Err : goal.returns-in-Err
+returns-in-Err g c =
+    let s = state g.S.Store c.args.conn in record {
+      found = tt;
+      rests = tt;
+      about = tt;
+      edition = tt;
+      ours = tt;
+      unknown = λ clean e. absurd (storage_known e);
+      handed_back = λ clean. undone_itself s c.rest_law.ensures c.requires;
+      kept = tt;
+      left = survives_itself s;
+    }
 
 pub has_base-requires : goal.has_base-requires
 has_base-requires g c = search rules fits 100
@@ -9,6 +25,18 @@ returns-in-Ok-true-clause-edition g c = search rules fits 100
 
 pub returns-in-Ok-false-clause-unknown : goal.returns-in-Ok-false-clause-unknown
 returns-in-Ok-false-clause-unknown g c = search rules fits 300
+
+pub returns-in-Ok-false-clause-handed_back : goal.returns-in-Ok-false-clause-handed_back
+returns-in-Ok-false-clause-handed_back g c = c.has_base.ensures.undone
+
+pub returns-in-Ok-false-clause-left : goal.returns-in-Ok-false-clause-left
+returns-in-Ok-false-clause-left g c = c.has_base.ensures.survives
+
+pub returns-in-Ok-true-clause-rests : goal.returns-in-Ok-true-clause-rests
+returns-in-Ok-true-clause-rests g c = c.has_base.ensures.undone
+
+pub returns-in-Ok-true-clause-kept : goal.returns-in-Ok-true-clause-kept
+returns-in-Ok-true-clause-kept g c = c.has_base.ensures.survives
 
 pub returns-in-Ok-true-clause-about : goal.returns-in-Ok-true-clause-about
 returns-in-Ok-true-clause-about g c = search rules fits 300

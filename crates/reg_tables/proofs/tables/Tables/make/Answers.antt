@@ -1,28 +1,39 @@
-use Rattle.std.proofs.Common.{◌∙◌, Err, ap}
+use Rattle.std.proofs.Common.{◌∙◌, Err, ap, refl, sym}
 use Rattle.sqlite.specs.Held.{state}
 use Rattle.reg_tables_meaning.proofs.Made.{made_stands}
-use Rattle.reg_tables.proofs.Stopping.{make_leaves}
+use Rattle.reg_tables.proofs.Stopping.{make_leaves, not_ok, same_fault}
 use Rattle.reg_tables.proofs.tables.Tables.make.Goals as goal
 
-pub returns-in-Ok-clause-stands : goal.returns-in-Ok-clause-stands
-returns-in-Ok-clause-stands g c clean = made_stands c.args.base.now (state g.S.Store c.make_tables-made.new.conn) (c.in-Ok.ensures.made clean)
+pub returns-in-Ok : goal.returns-in-Ok
+returns-in-Ok g c =
+    let made = c.in-Ok.ensures in record {
+      made = made.made;
+      stands = λ clean. made_stands c.args.base.now (state g.S.Store c.make_tables-made.new.conn) (made.made clean);
+      ours = (made.ours, refl);
+      second = refl;
+      alone = λ clean. c.stop_law.ensures (made.made clean).1.is_open;
+      unknown = tt;
+      blank = made.blank (λ e. not_ok (sym e));
+      untouched = tt;
+      undone = tt;
+      kept = made.survives;
+      handed_back = tt;
+      last = tt;
+    }
 
-pub returns-in-Ok-clause-alone : goal.returns-in-Ok-clause-alone
-returns-in-Ok-clause-alone g c clean = c.stop_law.ensures (c.in-Ok.ensures.made clean).1.is_open
-
-pub returns-in-Ok-clause-blank : goal.returns-in-Ok-clause-blank
-returns-in-Ok-clause-blank g c = c.in-Ok.ensures.blank (λ e. cc)
-
-pub returns-in-Ok-clause-kept : goal.returns-in-Ok-clause-kept
-returns-in-Ok-clause-kept g c = c.make_tables-made.ensures.survives
-
-pub returns-in-Err-clause-undone : goal.returns-in-Err-clause-undone
-returns-in-Err-clause-undone g c clean is = c.make_tables-made.ensures.undone clean (c.in-Err.is ∙ ap Err is)
-
-pub returns-in-Err-clause-handed_back : goal.returns-in-Err-clause-handed_back
-returns-in-Err-clause-handed_back g c = c.make_tables-made.ensures.survives
-
-pub returns-in-Err-clause-last : goal.returns-in-Err-clause-last
-returns-in-Err-clause-last g c =
-    let made = c.make_tables-made in
-    make_leaves g.S.Store c.args.conn made.new.conn made.result c.in-Err.fault _ c.in-Err.is c.stop_law.ensures made.ensures.untouched made.ensures.undone made.ensures.survives
+pub returns-in-Err : goal.returns-in-Err
+returns-in-Err g c =
+    let made = c.make_tables-made in record {
+      made = tt;
+      stands = tt;
+      ours = tt;
+      second = tt;
+      alone = tt;
+      unknown = (λ e. c.in-Err.ensures.unknown.0 (ap Err e), λ other. same_fault (c.in-Err.ensures.unknown.1 other));
+      blank = tt;
+      untouched = λ e. made.ensures.untouched (c.in-Err.is ∙ ap Err e);
+      undone = λ clean e. made.ensures.undone clean (c.in-Err.is ∙ ap Err e);
+      kept = tt;
+      handed_back = made.ensures.survives;
+      last = make_leaves g.S.Store c.args.conn made.new.conn made.result c.in-Err.fault _ c.in-Err.is c.stop_law.ensures made.ensures.untouched made.ensures.undone made.ensures.survives;
+    }
