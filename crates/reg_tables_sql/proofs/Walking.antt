@@ -64,6 +64,10 @@ module _ {S : Type 0} (g : Ghosts S) (text : List ℕ) (params : Row) (first : H
     survives = reading_survives text params (state g first) (state g new) may h.survives;
   }
 
+  -- the same of the connection that was lent, which is as the walk left it
+  pub leaves_as : {T E : Type 0} (left last : Held S) (r s : Result T E) → left ≡ last → r ≡ s → LeavesSame (state g first) (state g last) s → LeavesSame (state g first) (state g left) r
+  leaves_as left last r s back is h = subst (λ q. LeavesSame (state g first) (state g left) q) (sym is) (subst (λ conn. LeavesSame (state g first) (state g conn) s) (sym back) h)
+
   module _ (old new : Rows S g) (given : List Row) (w : Walks g text params first old.conn.now given) where
     before : {r : Result (Option (Bor Row)) Error} → HasMoved g old r new → HasCleanDisk (state g new.conn.now) → HasCleanDisk (state g old.conn.now)
     before m clean = omega (arith, m.survives.clean)
