@@ -1,4 +1,4 @@
-use Rattle.std.proofs.Common.{rules, arith, Bool, ◌≡◌, ◌∙◌, ◌+◌, [], ◌∷◌, ◌++◌, ap, refl, inl, inr, pos}
+use Rattle.std.proofs.Common.{arith, Bool, ◌∙◌, ◌+◌, [], ◌∷◌, ◌++◌, ap, refl, sym, inl, inr, pos}
 use Rattle.std.proofs.lemmas.List.{length_push}
 use Rattle.std.proofs.lemmas.Result.{err_from_is_err_and}
 use Rattle.sqlite.specs.Held.{state}
@@ -22,7 +22,7 @@ returns-in_err-rows-clause-rows g c =
 pub returns-in_err-used-clause-rows : goal.returns-in_err-used-clause-rows
 returns-in_err-used-clause-rows g c =
     let p = err_from_is_err_and c.from_residual-in_err-used.result c.from_residual-in_err-used.ensures.1 in
-    let back : c.conn-in_err-used-1.given.0 ≡ c.in_ok-rows.rows.conn.now = search rules in
+    let back = c.conn-in_err-used-1.given.1 (sym c.in_ok-rows.ensures.same_reference) ∙ c.drop-rows.ensures in
     let headed = c.as_bytes.ensures ∙ c.reply_head-head.ensures in
     let made = c.in_ok-rows.ensures in
     rw (p.1, p.2, back)
@@ -33,7 +33,7 @@ pub returns-in_err-row-clause-rows : goal.returns-in_err-row-clause-rows
 returns-in_err-row-clause-rows g c =
     let p = err_from_is_err_and c.from_residual-in_err-row.result c.from_residual-in_err-row.ensures.1 in
     let now = c.next.follows.lender-at-none in
-    let back : c.conn-in_err-row-1.given.0 ≡ now.conn.now = search rules in
+    let back = c.conn-in_err-row-1.given.1 (sym (c.next.follows.holds-at-none.same_reference ∙ c.rows.invariant.same_reference ∙ c.in_ok-rows.ensures.same_reference)) ∙ c.drop-rows-in_err-row.ensures in
     let i = c.rows.invariant.walked in
     rw (p.1, p.2, back)
     (rows_broken g.S.Store c.args.conn.now c.args.file.now c.requires.ours c.args.close c.args.writes _ _ c.rows.used c.rows.rows.conn.now c.rows.pile i.0 i.2 i.3 now.conn.now (λ late. omega (arith, c.next.follows.holds-at-none.survives.clean, late)))
@@ -42,7 +42,7 @@ pub returns-in_err-last-clause-rows : goal.returns-in_err-last-clause-rows
 returns-in_err-last-clause-rows g c =
     let p = err_from_is_err_and c.from_residual-in_err-last.result c.from_residual-in_err-last.ensures.1 in
     let now = c.next.follows.lender-at-none in
-    let back : c.conn-in_err-last-1.given.0 ≡ now.conn.now = search rules in
+    let back = c.conn-in_err-last-1.given.1 (sym (c.next.follows.holds-at-none.same_reference ∙ c.rows.invariant.same_reference ∙ c.in_ok-rows.ensures.same_reference)) ∙ c.drop-rows-in_err-last.ensures in
     let i = c.rows.invariant.walked in
     rw (p.1, p.2, back)
     (end_stopped g.S.Store c.args.conn.now c.args.file.now c.requires.ours c.args.close c.args.writes _ _ c.rows.used c.rows.rows.conn.now c.rows.pile i.0 i.2 i.3 c.in_err-last.field-0.0 _ now.conn.now (λ late. omega (arith, c.next.follows.holds-at-none.survives.clean, late)) c.in_err-last.ensures.sends)
@@ -50,7 +50,7 @@ returns-in_err-last-clause-rows g c =
 pub returns-in_default-clause-rows : goal.returns-in_default-clause-rows
 returns-in_default-clause-rows g c =
     let now = c.next.follows.lender-at-none in
-    let back : c.conn-in_default-1.given.0 ≡ now.conn.now = search rules in
+    let back = c.conn-in_default-1.given.1 (sym (c.next.follows.holds-at-none.same_reference ∙ c.rows.invariant.same_reference ∙ c.in_ok-rows.ensures.same_reference)) ∙ c.drop-rows-in_default.ensures in
     let i = c.rows.invariant.walked in
     let moved = c.next.follows.holds-at-none in
     let file = c.args.file.now in
@@ -63,7 +63,7 @@ returns-in_default-clause-rows g c =
 pub returns-in_default-entry_of-clause-rows : goal.returns-in_default-entry_of-clause-rows
 returns-in_default-entry_of-clause-rows g c =
     let now = c.next.follows.lender-at-none in
-    let back : c.conn-in_default-entry_of-1.given.0 ≡ now.conn.now = search rules in
+    let back = c.conn-in_default-entry_of-1.given.1 (sym (c.next.follows.holds-at-none.same_reference ∙ c.rows.invariant.same_reference ∙ c.in_ok-rows.ensures.same_reference)) ∙ c.drop-rows-in_default-entry_of.ensures in
     let i = c.rows.invariant.walked in
     rw back
     (rows_broken g.S.Store c.args.conn.now c.args.file.now c.requires.ours c.args.close c.args.writes _ _ c.rows.used c.rows.rows.conn.now c.rows.pile i.0 i.2 i.3 now.conn.now (λ late. omega (arith, c.next.follows.holds-at-none.survives.clean, late)))
@@ -72,7 +72,7 @@ pub returns-in_err-more-clause-rows : goal.returns-in_err-more-clause-rows
 returns-in_err-more-clause-rows g c =
     let p = err_from_is_err_and c.from_residual-in_err-more.result c.from_residual-in_err-more.ensures.1 in
     let now = c.next.follows.lender-at-none in
-    let back : c.conn-in_err-more-1.given.0 ≡ now.conn.now = search rules in
+    let back = c.conn-in_err-more-1.given.1 (sym (c.next.follows.holds-at-none.same_reference ∙ c.rows.invariant.same_reference ∙ c.in_ok-rows.ensures.same_reference)) ∙ c.drop-rows-in_err-more.ensures in
     let i = c.rows.invariant.walked in
     let entry = c.in-Some-entry_of.entry in
     let it : Text × Bool = (entry.stem.now, entry.yanked) in
@@ -114,7 +114,7 @@ rows-preserved g c =
 
 pub returns-clause-rows : goal.returns-clause-rows
 returns-clause-rows g c =
-    let back : c.conn-2-1.given.0 ≡ c.rows.rows.conn.now = search rules in
+    let back = c.conn-2-1.given.1 (sym (c.rows.invariant.same_reference ∙ c.in_ok-rows.ensures.same_reference)) ∙ c.drop-rows-2.ensures in
     let i = c.rows.invariant.walked in
     rw back
     (rows_broken g.S.Store c.args.conn.now c.args.file.now c.requires.ours c.args.close c.args.writes _ _ c.rows.used c.rows.rows.conn.now c.rows.pile i.0 i.2 i.3 c.rows.rows.conn.now (λ late. late))
@@ -139,14 +139,14 @@ returns-in_err-more-clause-ends g c =
 pub returns-in_err-row-clause-ends : goal.returns-in_err-row-clause-ends
 returns-in_err-row-clause-ends g c =
     let now = c.next.follows.lender-at-none in
-    let back : c.conn-in_err-row-1.given.0 ≡ now.conn.now = search rules in
+    let back = c.conn-in_err-row-1.given.1 (sym (c.next.follows.holds-at-none.same_reference ∙ c.rows.invariant.same_reference ∙ c.in_ok-rows.ensures.same_reference)) ∙ c.drop-rows-in_err-row.ensures in
     let moved = rw c.in_err-row.was at c.next.follows.holds-at-none in
     rw back (λ e. inr (inl moved.ends))
 
 pub returns-in_default-entry_of-clause-ends : goal.returns-in_default-entry_of-clause-ends
 returns-in_default-entry_of-clause-ends g c =
     let now = c.next.follows.lender-at-none in
-    let back : c.conn-in_default-entry_of-1.given.0 ≡ now.conn.now = search rules in
+    let back = c.conn-in_default-entry_of-1.given.1 (sym (c.next.follows.holds-at-none.same_reference ∙ c.rows.invariant.same_reference ∙ c.in_ok-rows.ensures.same_reference)) ∙ c.drop-rows-in_default-entry_of.ensures in
     let moved = rw (c.in_ok-row.was, c.in-Some.is) at c.next.follows.holds-at-none in
     let i = c.rows.invariant.walked in
     let row = c.in-Some.row.now in
@@ -156,7 +156,7 @@ returns-in_default-entry_of-clause-ends g c =
 
 pub returns-clause-ends : goal.returns-clause-ends
 returns-clause-ends g c =
-    let back : c.conn-2-1.given.0 ≡ c.rows.rows.conn.now = search rules in
+    let back = c.conn-2-1.given.1 (sym (c.rows.invariant.same_reference ∙ c.in_ok-rows.ensures.same_reference)) ∙ c.drop-rows-2.ensures in
     let i = c.rows.invariant.walked in
     rw back (λ e. inr (inr (i.0, i.2.given, inr (omega (arith, i.1)))))
 
@@ -176,7 +176,7 @@ returns-in_err-rows-clause-reads g c =
 pub returns-in_err-used-clause-reads : goal.returns-in_err-used-clause-reads
 returns-in_err-used-clause-reads g c =
     let p = err_from_is_err_and c.from_residual-in_err-used.result c.from_residual-in_err-used.ensures.1 in
-    let back : c.conn-in_err-used-1.given.0 ≡ c.in_ok-rows.rows.conn.now = search rules in
+    let back = c.conn-in_err-used-1.given.1 (sym c.in_ok-rows.ensures.same_reference) ∙ c.drop-rows.ensures in
     let made = c.in_ok-rows.ensures in
     rw (p.1, p.2, back)
     (walk_left g.S.Store entries_text (Int (pos c.args.file.now.crate_id) ∷ []) c.args.conn.now c.in_ok-rows.rows c.in_ok-rows.rows []
@@ -186,7 +186,7 @@ pub returns-in_err-row-clause-reads : goal.returns-in_err-row-clause-reads
 returns-in_err-row-clause-reads g c =
     let p = err_from_is_err_and c.from_residual-in_err-row.result c.from_residual-in_err-row.ensures.1 in
     let now = c.next.follows.lender-at-none in
-    let back : c.conn-in_err-row-1.given.0 ≡ now.conn.now = search rules in
+    let back = c.conn-in_err-row-1.given.1 (sym (c.next.follows.holds-at-none.same_reference ∙ c.rows.invariant.same_reference ∙ c.in_ok-rows.ensures.same_reference)) ∙ c.drop-rows-in_err-row.ensures in
     let i = c.rows.invariant.walked in
     rw (p.1, p.2, back)
     (walk_fails g.S.Store entries_text (Int (pos c.args.file.now.crate_id) ∷ []) c.args.conn.now c.rows.rows now i.0 i.2 _ _ (rw c.in_err-row.was at c.next.follows.holds-at-none))
@@ -195,7 +195,7 @@ pub returns-in_err-last-clause-reads : goal.returns-in_err-last-clause-reads
 returns-in_err-last-clause-reads g c =
     let p = err_from_is_err_and c.from_residual-in_err-last.result c.from_residual-in_err-last.ensures.1 in
     let now = c.next.follows.lender-at-none in
-    let back : c.conn-in_err-last-1.given.0 ≡ now.conn.now = search rules in
+    let back = c.conn-in_err-last-1.given.1 (sym (c.next.follows.holds-at-none.same_reference ∙ c.rows.invariant.same_reference ∙ c.in_ok-rows.ensures.same_reference)) ∙ c.drop-rows-in_err-last.ensures in
     let i = c.rows.invariant.walked in
     rw (p.1, p.2, back)
     (left_after g.S.Store entries_text (Int (pos c.args.file.now.crate_id) ∷ []) c.args.conn.now c.rows.rows now i.0 i.2 _ (rw c.in_ok-row.was at c.next.follows.holds-at-none) _)
@@ -203,14 +203,14 @@ returns-in_err-last-clause-reads g c =
 pub returns-in_default-clause-reads : goal.returns-in_default-clause-reads
 returns-in_default-clause-reads g c =
     let now = c.next.follows.lender-at-none in
-    let back : c.conn-in_default-1.given.0 ≡ now.conn.now = search rules in
+    let back = c.conn-in_default-1.given.1 (sym (c.next.follows.holds-at-none.same_reference ∙ c.rows.invariant.same_reference ∙ c.in_ok-rows.ensures.same_reference)) ∙ c.drop-rows-in_default.ensures in
     let i = c.rows.invariant.walked in
     rw back (walk_ends g.S.Store entries_text (Int (pos c.args.file.now.crate_id) ∷ []) c.args.conn.now c.rows.rows now i.0 i.2 _ _ (rw c.in_ok-row.was at c.next.follows.holds-at-none))
 
 pub returns-in_default-entry_of-clause-reads : goal.returns-in_default-entry_of-clause-reads
 returns-in_default-entry_of-clause-reads g c =
     let now = c.next.follows.lender-at-none in
-    let back : c.conn-in_default-entry_of-1.given.0 ≡ now.conn.now = search rules in
+    let back = c.conn-in_default-entry_of-1.given.1 (sym (c.next.follows.holds-at-none.same_reference ∙ c.rows.invariant.same_reference ∙ c.in_ok-rows.ensures.same_reference)) ∙ c.drop-rows-in_default-entry_of.ensures in
     let i = c.rows.invariant.walked in
     rw back (left_after g.S.Store entries_text (Int (pos c.args.file.now.crate_id) ∷ []) c.args.conn.now c.rows.rows now i.0 i.2 _ (rw c.in_ok-row.was at c.next.follows.holds-at-none) _)
 
@@ -218,13 +218,13 @@ pub returns-in_err-more-clause-reads : goal.returns-in_err-more-clause-reads
 returns-in_err-more-clause-reads g c =
     let p = err_from_is_err_and c.from_residual-in_err-more.result c.from_residual-in_err-more.ensures.1 in
     let now = c.next.follows.lender-at-none in
-    let back : c.conn-in_err-more-1.given.0 ≡ now.conn.now = search rules in
+    let back = c.conn-in_err-more-1.given.1 (sym (c.next.follows.holds-at-none.same_reference ∙ c.rows.invariant.same_reference ∙ c.in_ok-rows.ensures.same_reference)) ∙ c.drop-rows-in_err-more.ensures in
     let i = c.rows.invariant.walked in
     rw (p.1, p.2, back)
     (left_after g.S.Store entries_text (Int (pos c.args.file.now.crate_id) ∷ []) c.args.conn.now c.rows.rows now i.0 i.2 _ (rw c.in_ok-row.was at c.next.follows.holds-at-none) _)
 
 pub returns-clause-reads : goal.returns-clause-reads
 returns-clause-reads g c =
-    let back : c.conn-2-1.given.0 ≡ c.rows.rows.conn.now = search rules in
+    let back = c.conn-2-1.given.1 (sym (c.rows.invariant.same_reference ∙ c.in_ok-rows.ensures.same_reference)) ∙ c.drop-rows-2.ensures in
     let i = c.rows.invariant.walked in
     rw back (walk_left g.S.Store entries_text (Int (pos c.args.file.now.crate_id) ∷ []) c.args.conn.now c.rows.rows c.rows.rows i.0 i.2 _)
