@@ -13,7 +13,7 @@ use Rattle.reg_tables_schema.specs.declared.edition.Edition.{Edition}
 use Rattle.reg_tables_schema.specs.declared.edition.Edition.TheVariants.{First, Second}
 use Rattle.reg_tables_schema.specs.Schema.{old_tables, our_tables, schema_of}
 use Rattle.reg_tables_schema.specs.States.{Extends, GoesBack, IsOurs, IsReady}
-use Rattle.reg_tables_schema.proofs.MakeLemmas.{all_taken}
+use Rattle.reg_tables_schema.proofs.MakeLemmas.{all_taken, begun_keeps, kept_keeps}
 use Rattle.reg_tables_sql.specs.Abouts.{BecomesSecond}
 use Rattle.reg_tables_meaning.specs.Upgrades.{BeginsSecond, IsUpgrade, IsUpgraded, AreUpgraded, Upgrades}
 
@@ -39,6 +39,14 @@ upgrades old mid last new begun grown made = record {
   made = upgrade_from old.now mid last new (record { was_open = begun.is_open; is_open = begun.is_open; now_is = begun.now_is; committed_is = refl; mode = begun.mode }) grown made;
   shows = record { was_open = begun.was_open; is_open = made.touches.inside.is_open; now_is = refl; committed_is = made.touches.committed ∙ grown.committed ∙ begun.committed_is; mode = made.touches.inside.inside };
 }
+
+-- no stop in either commits
+pub silent_then : (a b c : State) → Survives a b (λ _. ⊥) → Survives b c (λ _. ⊥) → Survives a c (λ _. ⊥)
+silent_then a b c one two = survives_then a b c _ _ _ (λ _ _ h. h) (λ _ _ h. h) one two
+
+-- the tables that were added are committed no more than the transaction
+pub extends_keeps : (old mid last new : State) → Shows old mid old.now old.committed true → Extends mid last → KeepsCommit last new → KeepsCommit old new
+extends_keeps old mid last new begun grown kept = begun_keeps old mid new begun (kept_keeps mid last new (record { was_open = λ up. begun.is_open; committed = λ up. grown.committed }) kept)
 
 begun_shows : (e : Edition) (old new : State) → BeginsSecond e old new → Shows old new new.now old.committed true
 begun_shows First old new h = h.shows

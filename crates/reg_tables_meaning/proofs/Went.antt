@@ -4,7 +4,7 @@ use Rattle.sqlite.specs.State.{State, HasCleanDisk, Survives}
 use Rattle.sqlite.proofs.StateLemmas.{survives_then}
 use Rattle.reg_tables_schema.specs.States.{IsInside, IsReady}
 use Rattle.reg_tables_schema.specs.Statements.{IsReading, IsWriting}
-use Rattle.reg_tables_schema.specs.Steps.{LeavesWithin, Within}
+use Rattle.reg_tables_schema.specs.Steps.{LeavesSame, LeavesWithin, Within}
 use Rattle.reg_tables_meaning.proofs.Withins.{itself_within, refused_fails, then_fails, unchanged_within, within_then}
 
 -- they all went well
@@ -12,12 +12,16 @@ pub record Went (a b : State) : Type 0 where
   pub within : HasCleanDisk b → Within a b
   pub survives : Survives a b (λ _. ⊥)
 
--- a statement was read, and all is as it was
-pub went_read : {T E : Type 0} {P : T → Type 0} (a b : State) (r : Result T E) (x : T) → IsReady a → r ≡ Ok x → IsReading a b r P → Went a b
-went_read a b r x ready is h = record {
+-- a part of a call only read, and all is as it was
+pub went_same : {T E : Type 0} (a b : State) (r : Result T E) (x : T) → IsReady a → r ≡ Ok x → LeavesSame a b r → Went a b
+went_same a b r x ready is h = record {
   within = λ clean. let early : HasCleanDisk a = omega (arith, clean, h.survives.clean) in unchanged_within a b early (ready early) (rw is at (h.only clean)).0;
   survives = h.survives;
 }
+
+-- a statement was read
+pub went_read : {T E : Type 0} {P : T → Type 0} (a b : State) (r : Result T E) (x : T) → IsReady a → r ≡ Ok x → IsReading a b r P → Went a b
+went_read a b r x ready is h = went_same a b r x ready is (record { only = h.only; survives = h.survives })
 
 -- a statement wrote, after those that went well
 pub went_write : {T E : Type 0} {C : State → State → Type 0} (a b c : State) (r : Result T E) (x : T) → Went a b → r ≡ Ok x → (HasCleanDisk b → IsInside b → C b c → Within b c) → IsWriting b c r C → Went a c
@@ -43,14 +47,18 @@ stops_write a b c r e q stops went is h =
     then_fails a b c q stops went.within went.survives
     (λ clean. let early : HasCleanDisk b = omega (arith, clean, h.survives.clean) in refused_fails b c early (went.within early).inside (rw is at (h.refused clean))) h.survives
 
--- the first statement, which reads, fails
-pub stops_read : {T E U F : Type 0} {P : T → Type 0} (a b : State) (r : Result T E) (e : E) (q : Result U F) → IsErr q → IsReady a → r ≡ Err e → IsReading a b r P → LeavesWithin a b q
-stops_read a b r e (Ok y) stops ready is h = absurd cc
-stops_read a b r e (Err f) stops ready is h = record {
+-- the first part, which only reads, fails
+pub stops_same : {T E U F : Type 0} (a b : State) (r : Result T E) (e : E) (q : Result U F) → IsErr q → IsReady a → r ≡ Err e → LeavesSame a b r → LeavesWithin a b q
+stops_same a b r e (Ok y) stops ready is h = absurd cc
+stops_same a b r e (Err f) stops ready is h = record {
   within = λ _. tt;
   fails = λ clean. let early : HasCleanDisk a = omega (arith, clean, h.survives.clean) in refused_fails a b early (ready early) (rw is at (h.only clean)).1;
   survives = h.survives;
 }
+
+-- the first statement, which reads, fails
+pub stops_read : {T E U F : Type 0} {P : T → Type 0} (a b : State) (r : Result T E) (e : E) (q : Result U F) → IsErr q → IsReady a → r ≡ Err e → IsReading a b r P → LeavesWithin a b q
+stops_read a b r e q stops ready is h = stops_same a b r e q stops ready is (record { only = h.only; survives = h.survives })
 
 -- all went well
 pub ends : {U F : Type 0} (a b : State) (y : U) → Went a b → LeavesWithin {E = F} a b (Ok y)

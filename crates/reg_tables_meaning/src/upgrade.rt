@@ -11,7 +11,6 @@ use reg_tables_sql::about;
 use reg_tables_sql::statements::Result;
 use sqlite::{Alter, Connection};
 
-#[tactic(auto, using(crate::proofs::Raising::upgrades))]
 fn extend<S: Alter>(conn: &mut Connection<S>) -> Result<()>
     requires { IsOurs Edition.First (state S.Store conn.old) }
     ensures upgrades { HasCleanDisk (state S.Store conn.new) → OnOk result
