@@ -1,7 +1,8 @@
 -- What statements that only read leave, one after another.
-use Rattle.std.proofs.Common.{arith, inl, inr, ◌∙◌, Err, Ok, Result}
+use Rattle.std.proofs.Common.{◌≡◌, arith, inl, inr, ◌∙◌, subst, Err, IsErr, Ok, Result}
 use Rattle.sqlite.specs.State.{State, IsUnchanged, HasCleanDisk, Survives}
 use Rattle.sqlite.proofs.StateLemmas.{survives_then}
+use Rattle.reg_tables_schema.specs.Statements.{IsReading}
 use Rattle.reg_tables_schema.specs.Steps.{LeavesSame}
 use Rattle.reg_tables_schema.specs.States.{Refuses}
 
@@ -43,3 +44,18 @@ keeps_failed a b e f h = record { only = λ clean. (tt, (h.only clean).1); survi
 
 pub keeps_so_far : {T U E F : Type 0} (a b : State) (x : T) (r : Result U F) → LeavesSame {E = E} a b (Ok x) → LeavesSame a b r
 keeps_so_far a b x r h = same_whatever a b r (λ clean. (h.only clean).0) h.survives
+
+-- the same where the answer is told by an equation
+pub ends_same : {T U E F : Type 0} (a b : State) (r : Result T E) (x : T) (y : U) → r ≡ Ok x → LeavesSame a b r → LeavesSame {E = F} a b (Ok y)
+ends_same a b r x y is h = same_whatever a b (Ok y) (λ clean. (rw is at (h.only clean)).0) h.survives
+
+pub fails_same : {T U E F : Type 0} (a b : State) (r : Result T E) (e : E) (q : Result U F) → IsErr q → r ≡ Err e → LeavesSame a b r → LeavesSame a b q
+fails_same a b r e (Ok y) stops is h = absurd cc
+fails_same a b r e (Err f) stops is h = record { only = λ clean. (tt, (rw is at (h.only clean)).1); survives = h.survives }
+
+pub then_same : {T U E F : Type 0} (a b c : State) (r : Result T E) (x : T) (q : Result U F) → r ≡ Ok x → LeavesSame a b r → LeavesSame b c q → LeavesSame a c q
+then_same a b c r x q is one two = keeps_then a b c x q (subst (LeavesSame a b) is one) two
+
+-- a statement that reads leaves all the same
+pub reads_same : {T E : Type 0} {P : T → Type 0} (a b : State) (r : Result T E) → IsReading a b r P → LeavesSame a b r
+reads_same a b r h = record { only = h.only; survives = h.survives }

@@ -1,6 +1,7 @@
 use Rattle.std.specs.List.{list_any}
 use Rattle.sqlite_trees.specs.Tree.{has_rowid}
 use Rattle.reg_tables_schema.specs.Tests.{is_number}
+use Rattle.std.proofs.lemmas.Result.{IfOk-from_err}
 use Rattle.std.proofs.Common.{pos, ◌≡◌, arith, sym, subst, ap, ◌∙◌}
 use Rattle.sqlite.specs.Effect.{Database}
 use Rattle.sqlite.specs.State.{HasCleanDisk}
@@ -61,3 +62,25 @@ returns-in_err-insert-clause-leaves g c = stops_write (state g.S.Store c.args.co
 
 pub returns-clause-leaves : goal.returns-clause-leaves
 returns-clause-leaves g c = ends (state g.S.Store c.args.conn.now) (state g.S.Store c.insert.new.conn) tt (went_write (state g.S.Store c.args.conn.now) (state g.S.Store c.is_there.new.conn) (state g.S.Store c.insert.new.conn) c.insert.result _ (went_read_after (state g.S.Store c.args.conn.now) (state g.S.Store c.has_id.new.conn) (state g.S.Store c.is_there.new.conn) c.is_there.result _ (went_read (state g.S.Store c.args.conn.now) (state g.S.Store c.has_id.new.conn) c.has_id.result _ c.requires c.in_ok-is_crate.was c.has_id.ensures) c.in_ok-is_restricted.was c.is_there.ensures) c.in_ok-insert.was (λ clean at adds. become_within (state g.S.Store c.is_there.new.conn) (state g.S.Store c.insert.new.conn) 17 _ clean at adds.becomes) c.insert.ensures)
+
+pub returns-then-not-is_crate-clause-leaves : goal.returns-then-not-is_crate-clause-leaves
+returns-then-not-is_crate-clause-leaves g c =
+    let old = state g.S.Store c.args.conn.now in
+    let new = state g.S.Store c.has_id.new.conn in
+    ends old new tt (went_read old new c.has_id.result _ c.requires c.in_ok-is_crate.was c.has_id.ensures)
+
+pub returns-then-is_restricted-clause-leaves : goal.returns-then-is_restricted-clause-leaves
+returns-then-is_restricted-clause-leaves g c =
+    let old = state g.S.Store c.args.conn.now in
+    let mid = state g.S.Store c.has_id.new.conn in
+    let new = state g.S.Store c.is_there.new.conn in
+    ends old new tt (went_read_after old mid new c.is_there.result _ (went_read old mid c.has_id.result _ c.requires c.in_ok-is_crate.was c.has_id.ensures) c.in_ok-is_restricted.was c.is_there.ensures)
+
+pub returns-in_err-is_crate-clause-stands : goal.returns-in_err-is_crate-clause-stands
+returns-in_err-is_crate-clause-stands g c clean = IfOk-from_err _ _ c.from_residual.ensures.0
+
+pub returns-in_err-is_restricted-clause-stands : goal.returns-in_err-is_restricted-clause-stands
+returns-in_err-is_restricted-clause-stands g c clean = IfOk-from_err _ _ c.from_residual-in_err-is_restricted.ensures.0
+
+pub returns-in_err-insert-clause-stands : goal.returns-in_err-insert-clause-stands
+returns-in_err-insert-clause-stands g c clean = IfOk-from_err _ _ c.from_residual-in_err-insert.ensures.0
