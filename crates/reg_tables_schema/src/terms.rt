@@ -7,6 +7,7 @@ ghost use Rattle.sqlite_schema.specs.Code.{IsLoanOf, term_to, terms_in};
 
 use sqlite_schema::code::{Op, Terms, lend_value};
 use sqlite_sql::expr::Node;
+use sqlite_sql::ops::BinaryOp;
 use sqlite_value::value::ValueRef;
 
 // A zero keeps its sign, and a NaN is itself.
@@ -33,6 +34,12 @@ pub(crate) fn same_value(a: ValueRef<'_>, b: ValueRef<'_>) -> bool
         (ValueRef::Blob(x), ValueRef::Blob(y)) => x == y,
         _ => false,
     }
+}
+
+fn same_binary_op(a: BinaryOp, b: BinaryOp) -> bool
+    ensures { IsTrue result ↔ (a ≡ b) }
+{
+    a == b
 }
 
 fn lend(op: &Op) -> Node<'_>
@@ -71,7 +78,7 @@ fn same_term(a: &[Op], depth_a: usize, at_a: usize, b: &[Op], depth_b: usize, at
         (Node::Column(v, p), Node::Column(w, q)) => v == w && p == q,
         (Node::Unary(v, p), Node::Unary(w, q)) => v == w && same_term(a, depth_a, p, b, depth_b, q),
         (Node::Binary(v, p, r), Node::Binary(w, q, s)) => {
-            v == w
+            same_binary_op(v, w)
                 && same_term(a, depth_a, p, b, depth_b, q)
                 && same_term(a, depth_a, r, b, depth_b, s)
         }
