@@ -100,6 +100,7 @@ fn prepared_of(alloc: Global, mut files: Files<Stopping>) -> Result<Prepared, Fa
 
 /// Lines are played over it, each of which is answered as it says; without lines it becomes one of
 /// schema 1.
+#[derive(Clone, Copy)]
 struct Fill<'a> {
     lines: Option<&'a str>,
 }
@@ -159,6 +160,7 @@ pub(crate) fn prepare_old(alloc: Global) -> Result<Prepared, Fault> {
 }
 
 /// Lines are played over it, that with a mark with this amount of memory, if there is one.
+#[derive(Clone, Copy)]
 struct Play<'a> {
     lines: &'a str,
     amount: Option<u32>,

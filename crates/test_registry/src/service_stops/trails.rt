@@ -1,7 +1,8 @@
 //! A setup with its trail, where a file stops at each of its calls: what is found again holds each
 //! change that was told, and one more at most.
 
-ghost use Rattle.reg_service.specs.Registries.{IsUpToDate};
+ghost use Rattle.reg_service.specs.Registries.{IsUpToDate, limits_of};
+ghost use Rattle.reg_cli_pipe.specs.Limited.{HasTurns};
 
 use crate::service_stops::fault::Fault;
 use crate::service_stops::files::prepare;
@@ -25,7 +26,8 @@ const TRAIL: &str = "- admin user-add ada\n- admin user-add bob\n- admin user-ad
 
 /// The trail of the setup.
 fn trail_of<S: Alter>(alloc: Global, registry: &mut Registry<S>) -> Vec<u8>
-    requires { IsUpToDate S.Store registry.old }
+    requires tables { IsUpToDate S.Store registry.old }
+    requires turns { HasTurns (limits_of registry.old) }
 {
     let mut trail = Trail::new(Vec::new(alloc), u64::MAX);
     let mut reader = Counted::new([].as_slice());

@@ -52,6 +52,7 @@ pub(crate) fn prepare_nothing(alloc: Global) -> Prepared {
 
 /// It becomes the prepared registry over which this script was played; without a script, a store of
 /// schema 1.
+#[derive(Clone, Copy)]
 struct Fill<'a> {
     script: Option<&'a str>,
 }

@@ -287,6 +287,7 @@ fn over_connection<S: Alter + Drop>(
 }
 
 /// A task is done within limits.
+#[derive(Clone, Copy)]
 struct Attempt<'a> {
     task: &'a Task<'a>,
     limits: &'a Limits,
