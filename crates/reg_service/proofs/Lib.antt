@@ -3,6 +3,7 @@ mod Histories
 mod Opened
 mod Publishing
 mod Replied
+mod Requested
 mod Rests
 mod Rooms
 mod Seeking

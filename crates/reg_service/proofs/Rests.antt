@@ -33,7 +33,7 @@ module _ {S : Type 0} (g : Ghosts S) (old : Tables S) where
 
   -- one was, and has ended
   module _ (begun done : Work S) (b : Begins g SeesAll old begun) (looks : Looks g begun done) (new : Tables S) where
-    goes_on : {R : Type 0} → (is_shut new ≡ true → R) → Halts (is_shut old) (is_shut new) R
+    pub goes_on : {R : Type 0} → (is_shut new ≡ true → R) → Halts (is_shut old) (is_shut new) R
     goes_on stops = record { stopped = λ was. absurd (false≢true (sym b.was_open ∙ was)); stays = λ was. absurd (false≢true (sym b.was_open ∙ was)); stops = stops }
 
     pub dropped_halts : {R : Type 0} → IsDropped g done new → Halts (is_shut old) (is_shut new) R
