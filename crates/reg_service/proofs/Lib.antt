@@ -1,3 +1,4 @@
+mod Faults
 mod Frames
 mod Histories
 mod Opened

@@ -131,6 +131,9 @@ pub returned_left : {S : Type 0} (g : Ghosts S) (old : State) (new back : Held S
 returned_left g old new back P is survives =
     subst (λ h. Survives old (state g h) P) (sym is) (survives_weaker old (state g new) _ P (λ _ db none. absurd none) survives)
 
+pub returned_undone : {S : Type 0} (g : Ghosts S) (old : State) (new back : Held S) → back ≡ new → (HasCleanDisk (state g new) → old.in_transaction ≡ false → IsUndone old (state g new)) → old.in_transaction ≡ false → HasCleanDisk (state g back) → IsUndone old (state g back)
+returned_undone g old new back is undone auto clean = subst (λ h. IsUndone old (state g h)) (sym is) (undone (subst (λ h. HasCleanDisk (state g h)) is clean) auto)
+
 -- while a connection is open, a stop leaves its last commit alone
 abbrev pub Settles : {S : Type 0} → Ghosts S → Type 0
 Settles {S} g = (h : Held S) → IsTrue (state g h).is_open → LeavesCommit (state g h)
@@ -283,6 +286,11 @@ module _ {S : Type 0} (g : Ghosts S) (conn : Held S) (t : Tables S) (k : IsTaken
         first = failing;
         no_registry = λ s are. not_none ((audited (edition_in t) now failing.0 (are_found mid was) failing.1 failing.2 failing.3 (Some check) failing.4).1 (are.0, s, are.1));
       }
+
+-- what is said of why it is refused, in other words
+pub if_refused : {T E : Type 0} (r : Result T E) {A B : E → Type 0} → ((e : E) → A e → B e) → IfErr r A → IfErr r B
+if_refused (Ok x) f a = tt
+if_refused (Err e) f a = f e a
 
 -- nothing is known yet of a registry that was opened but that it is one
 pub opened_up : {S E : Type 0} (g : Ghosts S) (found : Database) (r : Result (Registry S) E) → IfOk r (λ x. AreUpToDate g (tables_of x)) → IfOk r (λ x. room_of x ≡ None)

@@ -1,55 +1,66 @@
-use Rattle.std.proofs.Common.{◌∙◌}
+use Rattle.std.proofs.Common.{refl, ◌∙◌}
 use Rattle.sqlite.specs.Held.{state}
+use Rattle.sqlite.proofs.StateLemmas.{survives_weaker}
 use Rattle.reg_tables_meaning.proofs.Results.{if_ok}
-use Rattle.reg_service.proofs.Opened.{handed_last, is_taken, opened_left, opened_same, opened_sound, opened_up, refused_damaged, refused_last, refused_left, refused_undone}
+use Rattle.reg_service.specs.Registries.{MayBeUpgraded}
+use Rattle.reg_service.specs.declared.opening.OpenFault.TheVariants.{BadBase, Damaged, Storage, UnknownSchema}
+use Rattle.reg_service.proofs.Faults.{apart}
+use Rattle.reg_service.proofs.Opened.{handed_last, if_refused, is_taken, opened_left, opened_same, opened_sound, opened_up, refused_damaged, refused_last, refused_left, refused_undone}
 use Rattle.reg_service.proofs.registry.Registry.open.Goals as goal
 
-pub returns-in-Ok-clause-same : goal.returns-in-Ok-clause-same
-returns-in-Ok-clause-same g c =
-    opened_same g.S.Store c.args.conn c.in-Ok.tables (is_taken g.S.Store c.args.conn c.in-Ok.tables c.in-Ok.ensures.edition c.in-Ok.ensures.found c.in-Ok.ensures.about c.in-Ok.ensures.rests c.rows_law.ensures) c.examine.result c.edition_law.ensures.same c.examine.ensures.clean c.examine.ensures.brought
+pub returns-in-Ok : goal.returns-in-Ok
+returns-in-Ok g c =
+    let k = is_taken g.S.Store c.args.conn c.in-Ok.tables c.in-Ok.ensures.edition c.in-Ok.ensures.found c.in-Ok.ensures.about c.in-Ok.ensures.rests c.rows_law.ensures in
+    let r = c.examine.result in
+    let it = c.examine.ensures in
+    let same = c.edition_law.ensures.same in
+    let audited = c.edition_law.ensures.audit in
+    let conn = c.args.conn in
+    let tables = c.in-Ok.tables in
+    let sound = opened_sound g.S.Store conn tables k r same audited it.clean it.brought it.passed in
+    record {
+      up_to_date = opened_up g.S.Store (state g.S.Store conn).now r it.up_to_date (if_ok r (λ r b. b.unknown) it.begun) sound;
+      goes_on = if_ok r (λ r b. b.goes_on ∙ c.in-Ok.ensures.ours.1) it.begun;
+      limited = if_ok r (λ r b. b.limited) it.begun;
+      same = opened_same g.S.Store conn tables k r same it.clean it.brought;
+      sound = sound;
+      left = opened_left g.S.Store conn tables k r same it.clean it.brought c.in-Ok.ensures.kept;
+      unknown = if_refused r (λ e is clean unknown. absurd (is.0 unknown)) it.known;
+      damaged = refused_damaged g.S.Store conn tables k r audited it.handed_back it.found;
+      known = if_refused r (λ e is. is.1) it.known;
+      undone = refused_undone g.S.Store conn tables k r it.handed_back it.undone;
+      handed_back = refused_left g.S.Store conn tables k r c.in-Ok.ensures.kept it.handed_back;
+      last = refused_last g.S.Store conn tables k r (λ h up db l. g.met.S.Store.settled h.store db up l) c.in-Ok.ensures.kept it.handed_back it.undone;
+    }
 
-pub returns-in-Ok-clause-sound : goal.returns-in-Ok-clause-sound
-returns-in-Ok-clause-sound g c =
-    opened_sound g.S.Store c.args.conn c.in-Ok.tables (is_taken g.S.Store c.args.conn c.in-Ok.tables c.in-Ok.ensures.edition c.in-Ok.ensures.found c.in-Ok.ensures.about c.in-Ok.ensures.rests c.rows_law.ensures) c.examine.result c.edition_law.ensures.same c.edition_law.ensures.audit c.examine.ensures.clean c.examine.ensures.brought c.examine.ensures.passed
+pub returns-in-Err-default-UnknownSchema : goal.returns-in-Err-default-UnknownSchema
+returns-in-Err-default-UnknownSchema g c = record {
+  up_to_date = tt;
+  goes_on = tt;
+  limited = tt;
+  same = tt;
+  sound = tt;
+  left = tt;
+  unknown = λ clean is edition schema. c.in-Err-default-UnknownSchema.ensures.unknown clean c.in-Err-default-UnknownSchema.field-0-1-is edition schema;
+  damaged = λ clean check is. absurd (apart UnknownSchema (Damaged check) refl is);
+  known = apart UnknownSchema BadBase refl;
+  undone = c.in-Err-default-UnknownSchema.ensures.handed_back;
+  handed_back = survives_weaker (state g.S.Store c.args.conn) (state g.S.Store c.in-Err-default-UnknownSchema.conn) _ (MayBeUpgraded UnknownSchema (state g.S.Store c.args.conn).now) (λ _ db none. absurd none) c.in-Err-default-UnknownSchema.ensures.left;
+  last = λ clean. handed_last g.S.Store c.args.conn c.in-Err-default-UnknownSchema.conn (λ _. ⊥) (λ h up db l. g.met.S.Store.settled h.store db up l) (c.in-Err-default-UnknownSchema.ensures.handed_back clean) c.in-Err-default-UnknownSchema.ensures.left clean;
+}
 
-pub returns-in-Ok-clause-left : goal.returns-in-Ok-clause-left
-returns-in-Ok-clause-left g c =
-    opened_left g.S.Store c.args.conn c.in-Ok.tables (is_taken g.S.Store c.args.conn c.in-Ok.tables c.in-Ok.ensures.edition c.in-Ok.ensures.found c.in-Ok.ensures.about c.in-Ok.ensures.rests c.rows_law.ensures) c.examine.result c.edition_law.ensures.same c.examine.ensures.clean c.examine.ensures.brought c.in-Ok.ensures.kept
-
-pub returns-in-Err-default-UnknownSchema-clause-unknown : goal.returns-in-Err-default-UnknownSchema-clause-unknown
-returns-in-Err-default-UnknownSchema-clause-unknown g c clean is edition schema =
-    c.in-Err-default-UnknownSchema.ensures.unknown clean c.in-Err-default-UnknownSchema.field-0-1-is edition schema
-
-pub returns-in-Ok-clause-undone : goal.returns-in-Ok-clause-undone
-returns-in-Ok-clause-undone g c =
-    refused_undone g.S.Store c.args.conn c.in-Ok.tables (is_taken g.S.Store c.args.conn c.in-Ok.tables c.in-Ok.ensures.edition c.in-Ok.ensures.found c.in-Ok.ensures.about c.in-Ok.ensures.rests c.rows_law.ensures) c.examine.result c.examine.ensures.handed_back c.examine.ensures.undone
-
-pub returns-in-Ok-clause-damaged : goal.returns-in-Ok-clause-damaged
-returns-in-Ok-clause-damaged g c =
-    refused_damaged g.S.Store c.args.conn c.in-Ok.tables (is_taken g.S.Store c.args.conn c.in-Ok.tables c.in-Ok.ensures.edition c.in-Ok.ensures.found c.in-Ok.ensures.about c.in-Ok.ensures.rests c.rows_law.ensures) c.examine.result c.edition_law.ensures.audit c.examine.ensures.handed_back c.examine.ensures.found
-
-pub returns-in-Ok-clause-handed_back : goal.returns-in-Ok-clause-handed_back
-returns-in-Ok-clause-handed_back g c =
-    refused_left g.S.Store c.args.conn c.in-Ok.tables (is_taken g.S.Store c.args.conn c.in-Ok.tables c.in-Ok.ensures.edition c.in-Ok.ensures.found c.in-Ok.ensures.about c.in-Ok.ensures.rests c.rows_law.ensures) c.examine.result c.in-Ok.ensures.kept c.examine.ensures.handed_back
-
-pub returns-in-Ok-clause-last : goal.returns-in-Ok-clause-last
-returns-in-Ok-clause-last g c =
-    refused_last g.S.Store c.args.conn c.in-Ok.tables (is_taken g.S.Store c.args.conn c.in-Ok.tables c.in-Ok.ensures.edition c.in-Ok.ensures.found c.in-Ok.ensures.about c.in-Ok.ensures.rests c.rows_law.ensures) c.examine.result (λ h up db l. g.met.S.Store.settled h.store db up l) c.in-Ok.ensures.kept c.examine.ensures.handed_back c.examine.ensures.undone
-
-pub returns-in-Err-default-UnknownSchema-clause-last : goal.returns-in-Err-default-UnknownSchema-clause-last
-returns-in-Err-default-UnknownSchema-clause-last g c clean =
-    handed_last g.S.Store c.args.conn c.in-Err-default-UnknownSchema.conn (λ _. ⊥) (λ h up db l. g.met.S.Store.settled h.store db up l) (c.in-Err-default-UnknownSchema.ensures.handed_back clean) c.in-Err-default-UnknownSchema.ensures.left clean
-
-pub returns-in-Err-default-Storage-clause-last : goal.returns-in-Err-default-Storage-clause-last
-returns-in-Err-default-Storage-clause-last g c clean =
-    handed_last g.S.Store c.args.conn c.in-Err-default-Storage.conn (λ _. ⊥) (λ h up db l. g.met.S.Store.settled h.store db up l) (c.in-Err-default-Storage.ensures.handed_back clean) c.in-Err-default-Storage.ensures.left clean
-
-pub returns-in-Ok-clause-up_to_date : goal.returns-in-Ok-clause-up_to_date
-returns-in-Ok-clause-up_to_date g c =
-    opened_up g.S.Store (state g.S.Store c.args.conn).now c.examine.result c.examine.ensures.up_to_date (if_ok c.examine.result (λ r b. b.unknown) c.examine.ensures.begun) (returns-in-Ok-clause-sound g c)
-
-pub returns-in-Ok-clause-limited : goal.returns-in-Ok-clause-limited
-returns-in-Ok-clause-limited g c = if_ok c.examine.result (λ r b. b.limited) c.examine.ensures.begun
-
-pub returns-in-Ok-clause-goes_on : goal.returns-in-Ok-clause-goes_on
-returns-in-Ok-clause-goes_on g c = if_ok c.examine.result (λ r b. b.goes_on ∙ c.in-Ok.ensures.ours.1) c.examine.ensures.begun
+pub returns-in-Err-default-Storage : goal.returns-in-Err-default-Storage
+returns-in-Err-default-Storage g c = record {
+  up_to_date = tt;
+  goes_on = tt;
+  limited = tt;
+  same = tt;
+  sound = tt;
+  left = tt;
+  unknown = λ clean is edition schema. absurd (apart Storage UnknownSchema refl is);
+  damaged = λ clean check is. absurd (apart Storage (Damaged check) refl is);
+  known = apart Storage BadBase refl;
+  undone = c.in-Err-default-Storage.ensures.handed_back;
+  handed_back = survives_weaker (state g.S.Store c.args.conn) (state g.S.Store c.in-Err-default-Storage.conn) _ (MayBeUpgraded Storage (state g.S.Store c.args.conn).now) (λ _ db none. absurd none) c.in-Err-default-Storage.ensures.left;
+  last = λ clean. handed_last g.S.Store c.args.conn c.in-Err-default-Storage.conn (λ _. ⊥) (λ h up db l. g.met.S.Store.settled h.store db up l) (c.in-Err-default-Storage.ensures.handed_back clean) c.in-Err-default-Storage.ensures.left clean;
+}
