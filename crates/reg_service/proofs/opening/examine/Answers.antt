@@ -1,24 +1,47 @@
-use Rattle.std.proofs.Common.{Some, rules, subst, ◌∙◌}
+use Rattle.std.proofs.Common.{Some, arith, refl, rules, subst, sym, ◌∙◌}
 use Rattle.sqlite.specs.Held.{state}
 use Rattle.sqlite.specs.State.{HasCleanDisk}
 use Rattle.reg_tables_meaning.proofs.Results.{if_ok}
 use Rattle.reg_tables.specs.Works.{edition_in, held, shown}
 use Rattle.reg_service.specs.Registries.{AreChecked, IsFirstFailing}
-use Rattle.reg_service.proofs.Opened.{examined_brought, examined_left, examined_undone, returned_left}
+use Rattle.reg_service.specs.declared.opening.OpenFault.TheVariants.{BadBase, Damaged, Storage, UnknownSchema}
+use Rattle.reg_service.proofs.Faults.{apart}
+use Rattle.reg_service.proofs.Opened.{examined_brought, examined_left, examined_undone, if_refused, returned_left, returned_undone}
 use Rattle.reg_service.proofs.opening.examine.Goals as goal
 
-pub returns-in-Ok-Some-clause-found : goal.returns-in-Ok-Some-clause-found
-returns-in-Ok-Some-clause-found g c clean check is =
-    let still = subst (λ it. HasCleanDisk (state g.S.Store it)) c.into_connection-in-Ok-Some.ensures clean in
-    (c.in-Ok-Some.ensures.was_open still, subst (λ it. IsFirstFailing (edition_in c.args.tables) (shown g.S.Store c.args.tables).now (Some it)) (cc is) (rw c.in-Ok-Some.field-0-is at c.in-Ok-Some.ensures.found still))
+pub returns-in-Err : goal.returns-in-Err
+returns-in-Err g c =
+    let before = shown g.S.Store c.args.tables in
+    let looked = held c.audit.new.tables in
+    record {
+      up_to_date = tt;
+      begun = tt;
+      brought = tt;
+      clean = tt;
+      passed = tt;
+      known = (apart Storage UnknownSchema refl, apart Storage BadBase refl);
+      found = λ clean check is. absurd (apart Storage (Damaged check) refl is);
+      undone = returned_undone g.S.Store before looked c.into_connection.result c.into_connection.ensures c.audit.ensures.rests;
+      handed_back = returned_left g.S.Store before looked c.into_connection.result _ c.into_connection.ensures c.audit.ensures.survives;
+    }
 
-pub returns-in-Err-clause-handed_back : goal.returns-in-Err-clause-handed_back
-returns-in-Err-clause-handed_back g c =
-    returned_left g.S.Store (shown g.S.Store c.args.tables) (held c.audit.new.tables) c.into_connection.result _ c.into_connection.ensures c.audit.ensures.survives
-
-pub returns-in-Ok-Some-clause-handed_back : goal.returns-in-Ok-Some-clause-handed_back
-returns-in-Ok-Some-clause-handed_back g c =
-    returned_left g.S.Store (shown g.S.Store c.args.tables) (held c.audit.new.tables) c.into_connection-in-Ok-Some.result _ c.into_connection-in-Ok-Some.ensures c.audit.ensures.survives
+pub returns-in-Ok-Some : goal.returns-in-Ok-Some
+returns-in-Ok-Some g c =
+    let before = shown g.S.Store c.args.tables in
+    let looked = held c.audit.new.tables in
+    record {
+      up_to_date = tt;
+      begun = tt;
+      brought = tt;
+      clean = tt;
+      passed = tt;
+      known = (apart (Damaged c.in-Ok-Some.check) UnknownSchema refl, apart (Damaged c.in-Ok-Some.check) BadBase refl);
+      found = λ clean check is.
+          let still = subst (λ it. HasCleanDisk (state g.S.Store it)) c.into_connection-in-Ok-Some.ensures clean in
+          (c.in-Ok-Some.ensures.was_open still, subst (λ it. IsFirstFailing (edition_in c.args.tables) before.now (Some it)) (cc is) (rw c.in-Ok-Some.field-0-is at c.in-Ok-Some.ensures.found still));
+      undone = returned_undone g.S.Store before looked c.into_connection-in-Ok-Some.result c.into_connection-in-Ok-Some.ensures c.audit.ensures.rests;
+      handed_back = returned_left g.S.Store before looked c.into_connection-in-Ok-Some.result _ c.into_connection-in-Ok-Some.ensures c.audit.ensures.survives;
+    }
 
 pub returns-in-Ok-None-clause-passed : goal.returns-in-Ok-None-clause-passed
 returns-in-Ok-None-clause-passed g c =
@@ -40,17 +63,13 @@ pub returns-in-Ok-None-clause-begun : goal.returns-in-Ok-None-clause-begun
 returns-in-Ok-None-clause-begun g c =
     if_ok c.bring_up.result (λ r b. record { limited = b.limited; unknown = b.unknown; goes_on = b.goes_on ∙ c.audit.ensures.open }) c.bring_up.ensures.begun
 
-pub returns-in-Ok-Some-clause-passed : goal.returns-in-Ok-Some-clause-passed
-returns-in-Ok-Some-clause-passed g c = tt
-
-pub returns-in-Ok-Some-clause-brought : goal.returns-in-Ok-Some-clause-brought
-returns-in-Ok-Some-clause-brought g c = tt
-
-pub returns-in-Ok-Some-clause-begun : goal.returns-in-Ok-Some-clause-begun
-returns-in-Ok-Some-clause-begun g c = tt
-
-pub returns-in-Ok-Some-clause-undone : goal.returns-in-Ok-Some-clause-undone
-returns-in-Ok-Some-clause-undone g c = search rules
-
 pub returns-in-Ok-None-clause-found : goal.returns-in-Ok-None-clause-found
 returns-in-Ok-None-clause-found g c = search rules
+
+pub returns-in-Ok-None-clause-known : goal.returns-in-Ok-None-clause-known
+returns-in-Ok-None-clause-known g c =
+    if_refused c.bring_up.result (λ e is. (λ unknown. apart Storage UnknownSchema refl (sym is ∙ unknown), λ bad. apart Storage BadBase refl (sym is ∙ bad))) c.bring_up.ensures.refused
+
+pub returns-in-Ok-None-clause-clean : goal.returns-in-Ok-None-clause-clean
+returns-in-Ok-None-clause-clean g c =
+    if_ok c.bring_up.result (λ r early clean. let still = early clean in omega (arith, still, c.audit.ensures.survives.clean)) c.bring_up.ensures.clean
