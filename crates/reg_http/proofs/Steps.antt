@@ -45,10 +45,10 @@ pub record Holds {S : Type 0} (g : Ghosts S) (limits : Limits) (s : model.Regist
   pub run : HasRun g limits s entry now (Trails k0 k1) done
 
 -- a head needs its own bytes alone, and stays one whatever follows
-abbrev HeadsStandAlone : Type 0
+abbrev pub HeadsStandAlone : Type 0
 HeadsStandAlone = (limits : Limits) (b : Text) (f : Facts) → IsHeadAt limits b f → IsHeadAt limits (take f.len b) f
 
-abbrev HeadsStay : Type 0
+abbrev pub HeadsStay : Type 0
 HeadsStay = (limits : Limits) (b more : Text) (f : Facts) → IsHeadAt limits b f → IsHeadAt limits (b ++ more) f
 
 module _ {S : Type 0} (g : Ghosts S) (limits : Limits) (s : model.Registry) (entry : Tables S) where
