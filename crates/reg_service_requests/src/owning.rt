@@ -120,7 +120,8 @@ fn leaving(
     let Some(ids) = ids_of_owners(alloc, owners, logins)? else {
         return Ok(Err(Rule::O3));
     };
-    if are_all_named(owners, logins) {
+    let are_named = are_all_named(owners, logins);
+    if are_named {
         return Ok(Err(Rule::O4));
     }
     Ok(Ok(ids))
