@@ -5,6 +5,7 @@ use Rattle.std.specs.Cow.{cow_slice_items}
 use Rattle.std.specs.declared.alloc.Global.{Global}
 use Rattle.std.specs.Option.{option_map}
 use Rattle.sqlite_trees.specs.declared.store.Store.{Ghosts}
+use Rattle.reg_body.specs.Counting.{CountedEnd}
 use Rattle.reg_body.specs.declared.limits.Limits.{Limits}
 use Rattle.reg_http_read.specs.Heads.{Facts}
 use Rattle.reg_model.specs.declared.rule.Rule.TheVariants as rule
@@ -27,20 +28,22 @@ use Rattle.reg_api_requests.specs.Requests.{asked_from, request_from, text_in}
 use Rattle.reg_api_requests.specs.Views.{event_of}
 use Rattle.reg_api_requests.specs.Wants.{Wants, wants_of}
 use Rattle.reg_api_requests.specs.declared.request.ApiCall.{ApiCall}
+use Rattle.reg_api_requests.specs.declared.request.ApiRequest.{ApiRequest}
 use Rattle.reg_api_requests.specs.declared.request.ApiCall.TheVariants as call
 use Rattle.reg_http_routes.specs.Routing.Routing.{Wants as to_wants}
 use Rattle.reg_body.specs.Sent.{Sink}
 use Rattle.reg_api_replies.specs.Texts.{answer_text, refusal_text, reply_text}
 use Rattle.reg_service.specs.Acted.{HasLine}
 use Rattle.reg_service.specs.Answered.{Answers}
+use Rattle.reg_service.specs.declared.registry.Registry.{Registry}
 use Rattle.reg_service.specs.Streamed.{AsksForFile, IsFileAnswer, StreamsTo}
 use Rattle.reg_service_index.specs.declared.fault.IndexFault.{IndexFault}
 use Rattle.reg_service_index.specs.declared.fault.IndexFault.TheVariants.{Spent, Store, Write}
 use Rattle.reg_tables.specs.declared.tables.Tables.{Tables}
-use Rattle.reg_http.specs.Answering.{Replies, Streams, fault_reply}
+use Rattle.reg_http.specs.Answering.{AnswersRequest, IsReplied, IsRequestReplied, Replies, Streams, fault_reply}
 use Rattle.reg_http.specs.Exchanges.{IsOfFile, Outcome}
 use Rattle.reg_http.specs.Exchanges.Outcome.{Answered, NoMethod, NoRoom, NoRoute, Unread}
-use Rattle.reg_http.specs.Trails.{Tail, Trails}
+use Rattle.reg_http.specs.Trails.{Tail, TrailEnd, Trails}
 use Rattle.reg_http.proofs.Trails.{trails_if, trails_nothing}
 use Rattle.reg_http_read.specs.Begun.{is_head_only}
 use Rattle.reg_http_routes.specs.Routed.{IsRouted}
@@ -172,6 +175,14 @@ module _ {S : Type 0} (g : Ghosts S) (limits : Limits) (s : model.Registry) (f :
           appends = sends.sends.sends.all;
         },
       )
+
+-- the request is routed, and replied as what is wanted of it
+pub routed : {S T W : Type 0} {g : Ghosts S} {told_of : T → Option Text} {held : W → Option Text} {old new : Registry S} {k0 k1 : TrailEnd T} {w0 w1 : CountedEnd W} {had left : ℕ} {r : Result (Unit {0}) StreamFault}
+    (limits : Limits) (f : Facts) (there : Routing) (close : Bool) (request : ApiRequest) (routing : Result ApiRequest RouteFault) → routing ≡ Ok request → IsRouted f.token there routing
+    → AnswersRequest g (IsRequestReplied g limits request close) told_of held old new k0 k1 w0 w1 had left r → AnswersRequest g (IsReplied g limits f there close) told_of held old new k0 k1 w0 w1 had left r
+routed limits f there close request routing is leads it =
+    let (token, same) = rw is at leads in
+    record { replied = λ clean s shows. rw same (it.replied f (sym token) clean s shows); spends = it.spends; fewer = it.fewer; told = it.told; keeps = it.keeps }
 
 -- the request is not routed
 pub unrouted : {S : Type 0} (g : Ghosts S) (limits : Limits) (s : model.Registry) (f : Facts) (token : Option Text) (there : Routing) (close : Bool) (now : Tables S) (k : Tail) (w0 w1 : Option Text) (r : Result (Unit {0}) StreamFault)

@@ -30,17 +30,21 @@ use Rattle.reg_http.proofs.Kept.{goes_on}
 use Rattle.reg_http.proofs.Steps.{HeadsStandAlone, HeadsStay, Holds, refusal_failed, refusal_sent, taking_ended, taking_failed, whole_failed, whole_last, whole_sent, wrote_for, wrote_some}
 use Rattle.reg_http.proofs.Trails.{trailed_on}
 
-module _ {S R W T : Type 0} (g : Ghosts S) (read : R → Option Text) (held : W → Option Text) (told_of : T → Option Text) (old : Registry S) (r0 : CountedEnd R) (w0 : CountedEnd W) (e0 : TrailEnd T) where
+module _ {S R W T : Type 0} (g : Ghosts S) (read : R → Option Text) (held : W → Option Text)
+    (told_of : T → Option Text) (old : Registry S) (r0 : CountedEnd R) (w0 : CountedEnd W) (e0 : TrailEnd T) where
   -- they were answered, and the rest was read beyond them
-  pub record Answered (now : Registry S) (e : TrailEnd T) (r : CountedEnd R) (w : CountedEnd W) (rest : Text) (count left : ℕ) : Type 0 where
+  pub record Answered (now : Registry S) (e : TrailEnd T) (r : CountedEnd R) (w : CountedEnd W) (rest : Text)
+      (count left : ℕ) : Type 0 where
     pub keeps : GoesOn g old now
     pub holds : HasCleanDisk (shown g (tables_of now)) → (s : model.Registry) → Shows s (shown g (tables_of old))
-        → Holds g (limits_of old) s (tables_of old) (tail (told_of e0.end.inner) e0) (tail (told_of e.end.inner) e) (read r0.inner) (read r.inner) (held w0.inner) (held w.inner) rest count (tables_of now)
+        → Holds g (limits_of old) s (tables_of old) (tail (told_of e0.end.inner) e0) (tail (told_of e.end.inner) e)
+        (read r0.inner) (read r.inner) (held w0.inner) (held w.inner) rest count (tables_of now)
     pub spends : SpendsSome (limits_of old).turns left (tally r0 w0) (tally r w)
     pub told : IsTrailed (tail (told_of e0.end.inner) e0) (tail (told_of e.end.inner) e)
 
   -- one more is there whole, and this is its message
-  pub record Asked (now : Registry S) (e : TrailEnd T) (r2 : CountedEnd R) (w2 : CountedEnd W) (count left2 : ℕ) (waits : Text) (b : OwnedHead) (close : Bool) (facts : Facts) (body : Text) (shut : Bool) : Type 0 where
+  pub record Asked (now : Registry S) (e : TrailEnd T) (r2 : CountedEnd R) (w2 : CountedEnd W)
+      (count left2 : ℕ) (waits : Text) (b : OwnedHead) (close : Bool) (facts : Facts) (body : Text) (shut : Bool) : Type 0 where
     pub alone : HeadsStandAlone
     pub stay : HeadsStay
     pub law : EventsGoOn g
@@ -62,9 +66,11 @@ module _ {S R W T : Type 0} (g : Ghosts S) (read : R → Option Text) (held : W 
     pub body_is : body ≡ drop b.len (take (b.len + b.body_len) there)
     pub shut_is : shut ≡ close
 
-module _ {S R W T : Type 0} {g : Ghosts S} {read : R → Option Text} {held : W → Option Text} {told_of : T → Option Text} {old : Registry S} {r0 : CountedEnd R} {w0 : CountedEnd W} {e0 : TrailEnd T} where
+module _ {S R W T : Type 0} {g : Ghosts S} {read : R → Option Text} {held : W → Option Text}
+    {told_of : T → Option Text} {old : Registry S} {r0 : CountedEnd R} {w0 : CountedEnd W} {e0 : TrailEnd T} where
   -- what the exit of a `?` returns
-  pub exits : {now : Registry S} {r : CountedEnd R} {w : CountedEnd W} {e : TrailEnd T} {fault : StreamFault} (result : Result ℕ StreamFault) → IsErrAnd result (λ y. y ≡ fault)
+  pub exits : {now : Registry S} {r : CountedEnd R} {w : CountedEnd W} {e : TrailEnd T} {fault : StreamFault} (result : Result ℕ StreamFault)
+      → IsErrAnd result (λ y. y ≡ fault)
       → ServesStreamTraced g SpendsLent read held old now r0 r w0 w told_of e0 e (Err fault) → ServesStreamTraced g SpendsLent read held old now r0 r w0 w told_of e0 e result
   exits (Ok count) is it = absurd is
   exits {now} {r} {w} {e} (Err fault) is it = rw is it
@@ -79,10 +85,13 @@ module _ {S R W T : Type 0} {g : Ghosts S} {read : R → Option Text} {held : W 
     by_limits result takes = subst (λ l. Takes (read r.inner) (read r2.inner) rest waits (held w.inner) (held w2.inner) l result) limits_are takes
 
     -- no request was taken
-    pub taking_lost : (fault : StreamFault) → IsTaken (Err fault) → SpendsFor left left2 (tally r w) (tally r2 w2) fault → ServesStreamTraced g SpendsLent read held old now r0 r2 w0 w2 told_of e0 e (Err fault)
+    pub taking_lost : (fault : StreamFault) → IsTaken (Err fault)
+        → SpendsFor left left2 (tally r w) (tally r2 w2) fault
+        → ServesStreamTraced g SpendsLent read held old now r0 r2 w0 w2 told_of e0 e (Err fault)
     taking_lost fault takes spent = record {
       serves = λ clean s shows.
-          taking_failed g (limits_of old) s (tables_of old) (tail (told_of e0.end.inner) e0) (tail (told_of e.end.inner) e) (read r0.inner) (read r.inner) (held w0.inner) (held w.inner) rest count (tables_of now) (it.holds clean s shows) (read r2.inner) (held w2.inner) waits fault
+          taking_failed g (limits_of old) s (tables_of old) (tail (told_of e0.end.inner) e0) (tail (told_of e.end.inner) e) (read r0.inner) (read r.inner) (held w0.inner) (held w.inner)
+          rest count (tables_of now) (it.holds clean s shows) (read r2.inner) (held w2.inner) waits fault
           (by_limits (Err fault) takes);
       spends = (left2, spends_for (limits_of old).turns left left2 (tally r0 w0) (tally r w) (tally r2 w2) it.spends fault spent);
       told = it.told;
@@ -102,7 +111,8 @@ module _ {S R W T : Type 0} {g : Ghosts S} {read : R → Option Text} {held : W 
       pub stream_ended : got ≡ taken.End → ServesStreamTraced g SpendsLent read held old now r0 r2 w0 w2 told_of e0 e (Ok count)
       stream_ended got_is = record {
         serves = λ clean s shows.
-            taking_ended g (limits_of old) s (tables_of old) (tail (told_of e0.end.inner) e0) (tail (told_of e.end.inner) e) (read r0.inner) (read r.inner) (held w0.inner) (held w.inner) rest count (tables_of now) (it.holds clean s shows) (read r2.inner) (held w2.inner) waits
+            taking_ended g (limits_of old) s (tables_of old) (tail (told_of e0.end.inner) e0) (tail (told_of e.end.inner) e) (read r0.inner) (read r.inner) (held w0.inner) (held w.inner)
+            rest count (tables_of now) (it.holds clean s shows) (read r2.inner) (held w2.inner) waits
             (is_taken taken.End got_is);
         spends = (left2, spends);
         told = it.told;
@@ -115,18 +125,21 @@ module _ {S R W T : Type 0} {g : Ghosts S} {read : R → Option Text} {held : W 
             → ServesStreamTraced g SpendsLent read held old now r0 r2 w0 w3 told_of e0 e (Ok (count + 1))
         refusal_told sent wrote = record {
           serves = λ clean s shows.
-              refusal_sent g (limits_of old) s (tables_of old) (tail (told_of e0.end.inner) e0) (tail (told_of e.end.inner) e) (read r0.inner) (read r.inner) (held w0.inner) (held w.inner) rest count (tables_of now) (it.holds clean s shows) (read r2.inner) (held w2.inner) waits broken head_only
+              refusal_sent g (limits_of old) s (tables_of old) (tail (told_of e0.end.inner) e0) (tail (told_of e.end.inner) e) (read r0.inner) (read r.inner) (held w0.inner) (held w.inner)
+              rest count (tables_of now) (it.holds clean s shows) (read r2.inner) (held w2.inner) waits broken head_only
               (is_taken (taken.Refused broken head_only) got_is) (held w3.inner) sent;
           spends = (left3, spends_some (limits_of old).turns left2 left3 (tally r0 w0) (tally r2 w2) (tally r2 w3) spends (wrote_some r2 w2 w3 left2 left3 wrote));
           told = it.told;
           keeps = it.keeps;
         }
 
-        pub refusal_lost : (fault : StreamFault) → Sends (closing_text broken head_only) (held w2.inner) (held w3.inner) {A = Unit {0}} (Err fault) → SpendsFor left2 left3 (writes_of w2) (writes_of w3) fault
+        pub refusal_lost : (fault : StreamFault) → Sends (closing_text broken head_only) (held w2.inner) (held w3.inner) {A = Unit {0}} (Err fault)
+            → SpendsFor left2 left3 (writes_of w2) (writes_of w3) fault
             → ServesStreamTraced g SpendsLent read held old now r0 r2 w0 w3 told_of e0 e (Err fault)
         refusal_lost fault sent wrote = record {
           serves = λ clean s shows.
-              refusal_failed g (limits_of old) s (tables_of old) (tail (told_of e0.end.inner) e0) (tail (told_of e.end.inner) e) (read r0.inner) (read r.inner) (held w0.inner) (held w.inner) rest count (tables_of now) (it.holds clean s shows) (read r2.inner) (held w2.inner) waits broken head_only
+              refusal_failed g (limits_of old) s (tables_of old) (tail (told_of e0.end.inner) e0) (tail (told_of e.end.inner) e) (read r0.inner) (read r.inner) (held w0.inner) (held w.inner)
+              rest count (tables_of now) (it.holds clean s shows) (read r2.inner) (held w2.inner) waits broken head_only
               (is_taken (taken.Refused broken head_only) got_is) (held w3.inner) fault sent;
           spends = (left3, spends_for (limits_of old).turns left2 left3 (tally r0 w0) (tally r2 w2) (tally r2 w3) spends fault (wrote_for r2 w2 w3 left2 left3 fault wrote));
           told = it.told;
@@ -155,7 +168,8 @@ module _ {S R W T : Type 0} {g : Ghosts S} {read : R → Option Text} {held : W 
           let says = rw (asked.facts_are, asked.body_is, asked.there_is, asked.shut_is, it.keeps.limits) at answer.replied in
           record {
             serves = λ clean s shows.
-                whole_failed g (limits_of old) s (tables_of old) (tail (told_of e0.end.inner) e0) (tail (told_of e.end.inner) e) (read r0.inner) (read asked.r.inner) (held w0.inner) (held asked.w.inner) asked.rest count (tables_of now) (it.holds (answer.keeps.clean clean) s shows) (read r2.inner) (held w2.inner)
+                whole_failed g (limits_of old) s (tables_of old) (tail (told_of e0.end.inner) e0) (tail (told_of e.end.inner) e) (read r0.inner) (read asked.r.inner) (held w0.inner) (held asked.w.inner)
+                asked.rest count (tables_of now) (it.holds (answer.keeps.clean clean) s shows) (read r2.inner) (held w2.inner)
                 asked.alone asked.stay asked.law waits b takes_it close closes_so (tables_of new) (tail (told_of e2.end.inner) e2) (held w3.inner) fault (λ t seen. says clean t seen);
             spends = (left3, spends_for (limits_of old).turns left2 left3 (tally r0 w0) (tally r2 w2) (tally r2 w3) spends_so_far fault (wrote_for r2 w2 w3 left2 left3 fault answer.spends));
             told = trailed_on (tail (told_of e0.end.inner) e0) (tail (told_of e.end.inner) e) (tail (told_of e2.end.inner) e2) it.told answer.told;
@@ -169,7 +183,8 @@ module _ {S R W T : Type 0} {g : Ghosts S} {read : R → Option Text} {held : W 
           let says = rw (asked.facts_are, asked.body_is, asked.there_is, asked.shut_is, it.keeps.limits) at answer.replied in
           record {
             serves = λ clean s shows.
-                whole_last g (limits_of old) s (tables_of old) (tail (told_of e0.end.inner) e0) (tail (told_of e.end.inner) e) (read r0.inner) (read asked.r.inner) (held w0.inner) (held asked.w.inner) asked.rest count (tables_of now) (it.holds (answer.keeps.clean clean) s shows) (read r2.inner) (held w2.inner)
+                whole_last g (limits_of old) s (tables_of old) (tail (told_of e0.end.inner) e0) (tail (told_of e.end.inner) e) (read r0.inner) (read asked.r.inner) (held w0.inner) (held asked.w.inner)
+                asked.rest count (tables_of now) (it.holds (answer.keeps.clean clean) s shows) (read r2.inner) (held w2.inner)
                 asked.alone asked.stay asked.law waits b takes_it close closes_so (tables_of new) (tail (told_of e2.end.inner) e2) (held w3.inner) u (λ t seen. says clean t seen) ends;
             spends = (left3, spends_some (limits_of old).turns left2 left3 (tally r0 w0) (tally r2 w2) (tally r2 w3) spends_so_far (wrote_some r2 w2 w3 left2 left3 answer.spends));
             told = trailed_on (tail (told_of e0.end.inner) e0) (tail (told_of e.end.inner) e) (tail (told_of e2.end.inner) e2) it.told answer.told;
@@ -185,7 +200,8 @@ module _ {S R W T : Type 0} {g : Ghosts S} {read : R → Option Text} {held : W 
             keeps = goes_on it.keeps answer.keeps;
             holds = λ clean s shows.
                 rw is
-                (whole_sent g (limits_of old) s (tables_of old) (tail (told_of e0.end.inner) e0) (tail (told_of e.end.inner) e) (read r0.inner) (read asked.r.inner) (held w0.inner) (held asked.w.inner) asked.rest count (tables_of now) (it.holds (answer.keeps.clean clean) s shows) (read r2.inner) (held w2.inner)
+                (whole_sent g (limits_of old) s (tables_of old) (tail (told_of e0.end.inner) e0) (tail (told_of e.end.inner) e) (read r0.inner) (read asked.r.inner) (held w0.inner) (held asked.w.inner)
+                asked.rest count (tables_of now) (it.holds (answer.keeps.clean clean) s shows) (read r2.inner) (held w2.inner)
                 asked.alone asked.stay asked.law waits b takes_it close closes_so (tables_of new) (tail (told_of e2.end.inner) e2) (held w3.inner) u (λ t seen. says clean t seen) stays);
             spends = spends_some (limits_of old).turns left2 left3 (tally r0 w0) (tally r2 w2) (tally r2 w3) spends_so_far (wrote_some r2 w2 w3 left2 left3 answer.spends);
             told = trailed_on (tail (told_of e0.end.inner) e0) (tail (told_of e.end.inner) e) (tail (told_of e2.end.inner) e2) it.told answer.told;

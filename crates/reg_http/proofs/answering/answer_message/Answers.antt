@@ -3,9 +3,15 @@ use Rattle.reg_http_routes.specs.Routing.{routing_of}
 use Rattle.reg_service.specs.Registries.{limits_of, tables_of}
 use Rattle.reg_http.specs.Trails.{tail}
 use Rattle.reg_http.proofs.Kept.{still}
-use Rattle.reg_http.proofs.Outcomes.{unrouted}
+use Rattle.reg_http.proofs.Outcomes.{routed, unrouted}
 use Rattle.reg_http.proofs.Trails.{trailed_nothing}
 use Rattle.reg_http.proofs.answering.answer_message.Goals as goal
+
+pub returns-in-Ok : goal.returns-in-Ok
+returns-in-Ok g c =
+    let message = c.args.message.now in
+    let f = facts_of message.head in
+    routed (limits_of c.args.registry.now) f (routing_of f message.body.now) message.close c.in-Ok.request c.route.result c.in-Ok.is c.route.ensures c.answer.ensures
 
 pub returns-in-Err : goal.returns-in-Err
 returns-in-Err g c =

@@ -19,7 +19,8 @@ requests-init g c =
       so_far = record {
         keeps = still c.requires.may.tables;
         holds = λ clean s shows.
-            rw c.requires.nothing (holds_start g.S.Store (limits_of c.args.registry.now) s (tables_of c.args.registry.now) k0 (g.R.Read.remaining c.args.r.now.inner) (g.W.Write.contents c.args.w.now.inner) (tables_of c.args.registry.now)
+            rw c.requires.nothing (holds_start g.S.Store (limits_of c.args.registry.now) s
+            (tables_of c.args.registry.now) k0 (g.R.Read.remaining c.args.r.now.inner) (g.W.Write.contents c.args.w.now.inner) (tables_of c.args.registry.now)
             (c.history_law.ensures.begins (limits_of c.args.registry.now) s (tables_of c.args.registry.now) shows));
         spends = rw (c.limits.ensures) (spends_nothing (limits_of c.args.registry.now).turns (tally c.args.r.now c.args.w.now));
         told = trailed_nothing k0;
@@ -41,14 +42,16 @@ pub returns-in_err-take_request : goal.returns-in_err-take_request
 returns-in_err-take_request g c = record {
   served =
       exits c.from_residual.result c.from_residual.ensures.1
-      (taking_lost c.requests.invariant.so_far c.take_request.new.r c.take_request.new.w c.take_request.new.left c.take_request.new.pending.items _ c.limits.ensures _ c.in_err-take_request.ensures.takes c.in_err-take_request.ensures.spends);
+      (taking_lost c.requests.invariant.so_far c.take_request.new.r c.take_request.new.w c.take_request.new.left c.take_request.new.pending.items
+      _ c.limits.ensures _ c.in_err-take_request.ensures.takes c.in_err-take_request.ensures.spends);
   chunk = c.in_err-take_request.ensures.chunk ∙ c.requests.auto.chunk;
 }
 
 pub returns-in-End : goal.returns-in-End
 returns-in-End g c = record {
   served =
-      stream_ended c.requests.invariant.so_far c.take_request.new.r c.take_request.new.w c.take_request.new.left c.take_request.new.pending.items _ c.limits.ensures _ c.in_ok-take_request.ensures.takes c.in_ok-take_request.ensures.spends c.in-End.is;
+      stream_ended c.requests.invariant.so_far c.take_request.new.r c.take_request.new.w c.take_request.new.left c.take_request.new.pending.items
+      _ c.limits.ensures _ c.in_ok-take_request.ensures.takes c.in_ok-take_request.ensures.spends c.in-End.is;
   chunk = c.in_ok-take_request.ensures.chunk ∙ c.requests.auto.chunk;
 }
 
@@ -62,7 +65,8 @@ pub returns-in_err-deny-in-Refused : goal.returns-in_err-deny-in-Refused
 returns-in_err-deny-in-Refused g c = record {
   served =
       exits c.from_residual-in_err-deny-in-Refused.result c.from_residual-in_err-deny-in-Refused.ensures.1
-      (refusal_lost c.requests.invariant.so_far c.take_request.new.r c.take_request.new.w c.take_request.new.left c.take_request.new.pending.items _ c.limits.ensures _ c.in_ok-take_request.ensures.takes c.in_ok-take_request.ensures.spends c.in-Refused.rule c.in-Refused.head_only c.in-Refused.is
+      (refusal_lost c.requests.invariant.so_far c.take_request.new.r c.take_request.new.w c.take_request.new.left c.take_request.new.pending.items
+      _ c.limits.ensures _ c.in_ok-take_request.ensures.takes c.in_ok-take_request.ensures.spends c.in-Refused.rule c.in-Refused.head_only c.in-Refused.is
       c.deny.new.w c.deny.new.left _ c.in_err-deny-in-Refused.ensures.sends c.in_err-deny-in-Refused.ensures.spends);
   chunk = c.in_ok-take_request.ensures.chunk ∙ c.requests.auto.chunk;
 }
@@ -70,14 +74,16 @@ returns-in_err-deny-in-Refused g c = record {
 pub returns-in-Refused : goal.returns-in-Refused
 returns-in-Refused g c = record {
   served =
-      refusal_told c.requests.invariant.so_far c.take_request.new.r c.take_request.new.w c.take_request.new.left c.take_request.new.pending.items _ c.limits.ensures _ c.in_ok-take_request.ensures.takes c.in_ok-take_request.ensures.spends c.in-Refused.rule c.in-Refused.head_only c.in-Refused.is
+      refusal_told c.requests.invariant.so_far c.take_request.new.r c.take_request.new.w c.take_request.new.left c.take_request.new.pending.items
+      _ c.limits.ensures _ c.in_ok-take_request.ensures.takes c.in_ok-take_request.ensures.spends c.in-Refused.rule c.in-Refused.head_only c.in-Refused.is
       c.deny.new.w c.deny.new.left c.in_ok-deny-in-Refused.ensures.sends c.in_ok-deny-in-Refused.ensures.spends;
   chunk = c.in_ok-take_request.ensures.chunk ∙ c.requests.auto.chunk;
 }
 
 fits : (g : Over) (c : After-closes-close g) → c.in-Whole.head.len + c.in-Whole.head.body_len ≤ length c.take_request.new.pending.items
 fits g c =
-    whole_fits c.requests.invariant.so_far c.take_request.new.r c.take_request.new.w c.take_request.new.left c.take_request.new.pending.items _ c.limits.ensures _ c.in_ok-take_request.ensures.takes c.in_ok-take_request.ensures.spends
+    whole_fits c.requests.invariant.so_far c.take_request.new.r c.take_request.new.w c.take_request.new.left c.take_request.new.pending.items
+    _ c.limits.ensures _ c.in_ok-take_request.ensures.takes c.in_ok-take_request.ensures.spends
     c.in-Whole.head c.in-Whole.is
 
 pub overflow_add-total : goal.overflow_add-total
@@ -112,7 +118,8 @@ pub requests-smaller : goal.requests-smaller
 requests-smaller g c = smaller g (goal.at.requests-smaller g c).In_ok-answer_message
 
 asked : (g : Over) (c : After-answer_message g)
-    → Asked g.S.Store g.R.Read.remaining g.W.Write.contents g.T.Write.contents c.args.registry.now c.args.r.now c.args.w.now c.args.trail.now c.requests.registry c.requests.trail c.take_request.new.r c.take_request.new.w c.requests.replies c.take_request.new.left c.take_request.new.pending.items c.in-Whole.head
+    → Asked g.S.Store g.R.Read.remaining g.W.Write.contents g.T.Write.contents c.args.registry.now c.args.r.now c.args.w.now c.args.trail.now
+    c.requests.registry c.requests.trail c.take_request.new.r c.take_request.new.w c.requests.replies c.take_request.new.left c.take_request.new.pending.items c.in-Whole.head
     c.closes-close.result (facts_of c.message_of-message.result.head) c.message_of-message.result.body.now c.message_of-message.result.close
 asked g c = record {
   alone = c.append_law.ensures.alone;
