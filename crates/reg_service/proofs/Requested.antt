@@ -57,12 +57,12 @@ module _ {S : Type 0} (g : Ghosts S) (limits : Limits) (traced : Bool) (digest :
   -- no transaction was begun
   pub unbegun : (left : Option Room) (new : Tables S) → left ≡ None → it.reply ≡ Denied rule.S1 → it.line ≡ None → IsLeft g old new → Does g limits traced digest asked it left old new
   unbegun left new none reply line is = record {
-      replies = replies;
-      tables = record { ours = is.ours; second = is.edition ∙ at.second };
-      known = unknown left new none first replies;
-      clean = first;
-      halts = record { stopped = λ _. reply; stays = λ was. is.shut ∙ was; stops = λ _. reply };
-    }
+    replies = replies;
+    tables = record { ours = is.ours; second = is.edition ∙ at.second };
+    known = unknown left new none first replies;
+    clean = first;
+    halts = record { stopped = λ _. reply; stays = λ was. is.shut ∙ was; stops = λ _. reply };
+  }
     where
       first : WasClean g old new
       first clean = omega (arith, clean, is.survives.clean)
@@ -74,12 +74,12 @@ module _ {S : Type 0} (g : Ghosts S) (limits : Limits) (traced : Bool) (digest :
     -- a call within it failed
     pub failed : (left : Option Room) (new there : Tables S) → new ≡ there → left ≡ None → it.reply ≡ Denied rule.S1 → it.line ≡ None → IsDropped g done there → (IsTrue (shown g old).is_open → LeavesCommit (shown g old)) → Does g limits traced digest asked it left old new
     failed left new there same_end none reply line end alone = subst (λ t. Does g limits traced digest asked it left old t) (sym same_end) (record {
-        replies = replies;
-        tables = rest.tables;
-        known = unknown left there none rest.clean replies;
-        clean = rest.clean;
-        halts = dropped_halts g old begun done b looks there end;
-      })
+      replies = replies;
+      tables = rest.tables;
+      known = unknown left there none rest.clean replies;
+      clean = rest.clean;
+      halts = dropped_halts g old begun done b looks there end;
+    })
       where
         rest : Looked g old there
         rest = dropped_looked g old begun done b looks there at end
@@ -112,12 +112,12 @@ module _ {S : Type 0} (g : Ghosts S) (limits : Limits) (traced : Bool) (digest :
       pub committed : {T E : Type 0} (r : Result T E) (reply : Reply) (new there : Tables S) → new ≡ there → told.0.served ≡ Done reply → it.reply ≡ reply → option_map string_bytes it.line ≡ line_with reply told.0.line → IsEnded g r done there → IsCommitted g done there
           → StepsKeepSound → IsFit (Ask digest asked) → Does g limits traced digest asked it told.1 old new
       committed r reply new there same_end as_done is line ended end law fit = subst (λ t. Does g limits traced digest asked it told.1 old t) (sym same_end) (record {
-          replies = replies;
-          tables = record { ours = ended.ours; second = end.second };
-          known = knows there mids replies;
-          clean = ended_clean g old begun done b looks there r ended;
-          halts = committed_halts g old begun done b looks there end;
-        })
+        replies = replies;
+        tables = record { ours = ended.ours; second = end.second };
+        known = knows there mids replies;
+        clean = ended_clean g old begun done b looks there r ended;
+        halts = committed_halts g old begun done b looks there end;
+      })
         where
           mids : HasCleanDisk (shown g there) → HasCleanDisk (seen g done)
           mids clean = omega (arith, clean, ended.survives.clean)
@@ -130,12 +130,12 @@ module _ {S : Type 0} (g : Ghosts S) (limits : Limits) (traced : Bool) (digest :
       -- its commit was refused
       pub not_committed : {T E : Type 0} (r : Result T E) (reply : Reply) (new there : Tables S) → new ≡ there → told.0.served ≡ Done reply → it.reply ≡ Denied rule.S1 → it.line ≡ None → IsEnded g r done there → IsRefused g done there → Does g limits traced digest asked it told.1 old new
       not_committed r reply new there same_end as_done is line ended end = subst (λ t. Does g limits traced digest asked it told.1 old t) (sym same_end) (record {
-          replies = replies;
-          tables = refused_tables g old begun done b looks there at ended.ours end;
-          known = knows there mids replies;
-          clean = ended_clean g old begun done b looks there r ended;
-          halts = goes_on g old begun done b looks there (λ _. is);
-        })
+        replies = replies;
+        tables = refused_tables g old begun done b looks there at ended.ours end;
+        known = knows there mids replies;
+        clean = ended_clean g old begun done b looks there r ended;
+        halts = goes_on g old begun done b looks there (λ _. is);
+      })
         where
           mids : HasCleanDisk (shown g there) → HasCleanDisk (seen g done)
           mids clean = omega (arith, clean, ended.survives.clean)
@@ -148,12 +148,12 @@ module _ {S : Type 0} (g : Ghosts S) (limits : Limits) (traced : Bool) (digest :
       -- nothing was changed
       pub only_told : (reply : Reply) (new there : Tables S) → new ≡ there → told.0.served ≡ Told reply → it.reply ≡ reply → option_map string_bytes it.line ≡ line_with reply told.0.line → IsDropped g done there → (IsTrue (shown g old).is_open → LeavesCommit (shown g old)) → Does g limits traced digest asked it told.1 old new
       only_told reply new there same_end as_told is line end alone = subst (λ t. Does g limits traced digest asked it told.1 old t) (sym same_end) (record {
-          replies = replies;
-          tables = rest.tables;
-          known = knows there mids replies;
-          clean = rest.clean;
-          halts = dropped_halts g old begun done b looks there end;
-        })
+        replies = replies;
+        tables = rest.tables;
+        known = knows there mids replies;
+        clean = rest.clean;
+        halts = dropped_halts g old begun done b looks there end;
+      })
         where
           rest : Looked g old there
           rest = dropped_looked g old begun done b looks there at end
@@ -170,12 +170,12 @@ module _ {S : Type 0} (g : Ghosts S) (limits : Limits) (traced : Bool) (digest :
       pub sought : (account : ℕ) (reply : Reply) (there new : Tables S) → told.0.served ≡ Seeks account → it.reply ≡ reply → option_map string_bytes it.line ≡ line_with reply told.0.line → IsDropped g done there → (IsTrue (shown g old).is_open → LeavesCommit (shown g old))
           → IsLeft g there new → (HasCleanDisk (shown g new) → (s : Registry) → Shows s (shown g there) → Sought account asked s reply) → Does g limits traced digest asked it told.1 old new
       sought account reply there new as_search is line end alone left seeks = record {
-          replies = replies;
-          tables = record { ours = left.ours; second = left.edition ∙ end.edition ∙ looks.same_edition ∙ b.edition ∙ at.second };
-          known = knows new (λ clean. mids (still clean)) replies;
-          clean = λ clean. omega (arith, clean, left.survives.clean, end.survives.clean, looks.survives.clean, b.survives.clean);
-          halts = goes_on g old begun done b looks new (λ stopped. absurd (false≢true (sym (left.shut ∙ end.same_mode ∙ looks.same_mode ∙ b.still_open) ∙ stopped)));
-        }
+        replies = replies;
+        tables = record { ours = left.ours; second = left.edition ∙ end.edition ∙ looks.same_edition ∙ b.edition ∙ at.second };
+        known = knows new (λ clean. mids (still clean)) replies;
+        clean = λ clean. omega (arith, clean, left.survives.clean, end.survives.clean, looks.survives.clean, b.survives.clean);
+        halts = goes_on g old begun done b looks new (λ stopped. absurd (false≢true (sym (left.shut ∙ end.same_mode ∙ looks.same_mode ∙ b.still_open) ∙ stopped)));
+      }
         where
           still : HasCleanDisk (shown g new) → HasCleanDisk (shown g there)
           still clean = omega (arith, clean, left.survives.clean)
