@@ -12,7 +12,8 @@ use Rattle.reg_model.specs.Steps.{IsFit, Run, no_room, outcome}
 use Rattle.reg_tables_meaning.specs.Stands.{Stands}
 use Rattle.reg_tables.specs.declared.tables.Tables.{Tables}
 use Rattle.reg_tables.specs.Works.{is_shut, shown}
-use Rattle.std.specs.Prelude.{Result}
+use Rattle.std.proofs.lemmas.Bool.{false≢true}
+use Rattle.std.specs.Prelude.{Result, Ok, Err, IfOk, IsErr}
 use Rattle.sqlite.specs.State.{HasCleanDisk}
 use Rattle.reg_model.specs.Events.Event.{Order}
 use Rattle.reg_model.specs.declared.rule.AdminRefusal.{AdminRefusal}
@@ -196,3 +197,8 @@ module _ {S : Type 0} (g : Ghosts S) (limits : Limits) (s : Registry) (entry : T
       let next : suc i ≡ i + 1 = omega arith in
       subst (λ l. HasAnswered g limits s entry l (ts ++ it ∷ []) new) (ap (λ x. take i cs ++ x ∷ []) is ∙ sym (take-suc cs i c lt) ∙ ap (λ n. take n cs) next)
       (answered_on steps joins (take i cs) ts c it old new read clean so_far told)
+
+-- where there is no answer, nothing is said of it
+pub no_told : {T E : Type 0} (P : T → Type 0) (r : Result T E) → IsErr r → IfOk r P
+no_told P (Ok x) is = absurd (false≢true is)
+no_told P (Err e) is = tt
