@@ -2,6 +2,8 @@
 use Rattle.std.proofs.Common.{◌≡◌, ◌++◌, ◌+◌, ◌<◌, ◌⊎◌, ℕ, Bool, true, suc, arith, get_or, inl, inr, length, List, [], ◌∷◌, take, refl, sym, ap, subst, ◌∙◌}
 use Rattle.std.proofs.Math.Seq.{take-suc}
 use Rattle.std.proofs.lemmas.List.{append-nil, append_assoc}
+use Rattle.std.proofs.lemmas.List.Elements.{All-from_recursion}
+use Rattle.std.specs.List.{AllByRecursion}
 use Rattle.sqlite.specs.Tree.{Trees}
 use Rattle.sqlite_trees.specs.declared.store.Store.{Ghosts}
 use Rattle.reg_body.specs.declared.limits.Limits.{Limits}
@@ -202,3 +204,7 @@ module _ {S : Type 0} (g : Ghosts S) (limits : Limits) (s : Registry) (entry : T
 pub no_told : {T E : Type 0} (P : T → Type 0) (r : Result T E) → IsErr r → IfOk r P
 no_told P (Ok x) is = absurd (false≢true is)
 no_told P (Err e) is = tt
+
+-- each call brings what an event may bring
+pub fit_at : (cs : List Call) (i : ℕ) (c : Call) → AllByRecursion IsFitCall cs → i < length cs → c ≡ get_or cs i c → IsFitCall c
+fit_at cs i c fit lt is = subst IsFitCall (sym is) (All-from_recursion IsFitCall cs fit i c lt)
