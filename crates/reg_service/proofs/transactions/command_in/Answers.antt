@@ -10,18 +10,23 @@ use Rattle.reg_tables.proofs.Looking.{call_looks}
 use Rattle.reg_service_commands.specs.Telling.{line_of_answer}
 use Rattle.reg_service.specs.Answered.{Answers, AreUpToDate, Halts, WasClean}
 use Rattle.reg_service.proofs.Frames.{committed, dropped, not_begun, not_committed, sees}
-use Rattle.reg_service.proofs.Rests.{committed_halts, dropped_halts, dropped_looked, ended_clean, refused_tables}
+use Rattle.reg_service.proofs.Rests.{committed_halts, dropped_halts, dropped_looked, ended_clean, left_looked, refused_tables}
 use Rattle.reg_service.proofs.Traced.{orders, tells_line, unordered}
 use Rattle.reg_service.proofs.transactions.command_in.Goals as goal
 
-pub returns-in_default-clause-answers : goal.returns-in_default-clause-answers
-returns-in_default-clause-answers g c clean s h =
+pub returns-in_default : goal.returns-in_default
+returns-in_default g c =
     let lim = c.args.limits.now in
     let cmd = command_of c.args.command.now in
     let old = c.args.tables.now in
     let left = rw c.in_default.is at c.work.follows.holds-at-none in
-    unordered g.S.Store lim s c.args.traced cmd old _ refusal.G10 c.refused.result
-    (not_begun g.S.Store lim s (Order cmd) _ old _ c.requires.tables.ours h clean refl left) c.refused.ensures.answer c.refused.ensures.line
+    let looked = left_looked g.S.Store old _ c.requires.tables left in
+    record {
+      answers = λ clean s h. unordered g.S.Store lim s c.args.traced cmd old _ refusal.G10 c.refused.result (not_begun g.S.Store lim s (Order cmd) _ old _ c.requires.tables.ours h clean refl left) c.refused.ensures.answer c.refused.ensures.line;
+      tables = looked.tables;
+      clean = looked.clean;
+      halts = record { stopped = λ _. c.refused.ensures.answer; stays = λ was. left.shut ∙ was; stops = λ _. c.refused.ensures.answer };
+    }
 
 pub returns-in_default-order_told-clause-answers : goal.returns-in_default-order_told-clause-answers
 returns-in_default-order_told-clause-answers g c clean s h =
@@ -143,3 +148,8 @@ returns-in-Err-commit-clause-halts g c = record {
   stays = λ was. absurd (false≢true (sym c.in-Ok.ensures.begun.was_open ∙ was));
   stops = λ is. search rules;
 }
+
+pub returns-in-Ok-commit-clause-tables : goal.returns-in-Ok-commit-clause-tables
+returns-in-Ok-commit-clause-tables g c =
+    let back = c.tables-in-Ok-answer-1.given.1 (sym (c.order_told.ensures.leaves.same_reference ∙ c.in-Ok.ensures.same_reference)) in
+    subst (λ t. AreUpToDate g.S.Store t) (sym back) (record { ours = c.commit.ensures.ours; second = c.in-Ok-commit.ensures.committed.second })
