@@ -1,5 +1,5 @@
 -- What each end of a transaction makes of a request, and what it leaves.
-use Rattle.std.proofs.Common.{◌≡◌, ◌∙◌, arith, true, Bool, Option, None, Result, sym, subst, IsTrue, ℕ}
+use Rattle.std.proofs.Common.{◌≡◌, ◌∙◌, arith, Bool, Option, None, Result, sym, subst, IsTrue, ℕ}
 use Rattle.std.proofs.lemmas.Bool.{false≢true}
 use Rattle.std.specs.Option.{option_map}
 use Rattle.std.specs.Prelude.{string_bytes}
@@ -46,7 +46,8 @@ Does g limits traced digest asked it left old new = record {
   halts : Halts (is_shut old) (is_shut new) (it.reply ≡ Denied rule.S1);
 }
 
-module _ {S : Type 0} (g : Ghosts S) (limits : Limits) (traced : Bool) (digest : Option Text) (asked : Asked) (room : Option Room) (old : Tables S) (at : AreUpToDate g old) (has : IsKnown g limits room old) (it : Acted) where
+module _ {S : Type 0} (g : Ghosts S) (limits : Limits) (traced : Bool) (digest : Option Text) (asked : Asked) (room : Option Room) (old : Tables S) (at : AreUpToDate g old)
+    (has : IsKnown g limits room old) (it : Acted) where
   -- it was not served, so nothing is known of a crate
   unknown : (left : Option Room) (new : Tables S) → left ≡ None → WasClean g old new → IsActed g limits traced digest asked it old new → IsKnown g limits left new
   unknown left new none first replies clean =
@@ -72,7 +73,8 @@ module _ {S : Type 0} (g : Ghosts S) (limits : Limits) (traced : Bool) (digest :
 
   module _ (begun done : Work S) (b : Begins g SeesAll old begun) (looks : Looks g begun done) where
     -- a call within it failed
-    pub failed : (left : Option Room) (new there : Tables S) → new ≡ there → left ≡ None → it.reply ≡ Denied rule.S1 → it.line ≡ None → IsDropped g done there → (IsTrue (shown g old).is_open → LeavesCommit (shown g old)) → Does g limits traced digest asked it left old new
+    pub failed : (left : Option Room) (new there : Tables S) → new ≡ there → left ≡ None → it.reply ≡ Denied rule.S1 → it.line ≡ None → IsDropped g done there
+        → (IsTrue (shown g old).is_open → LeavesCommit (shown g old)) → Does g limits traced digest asked it left old new
     failed left new there same_end none reply line end alone = subst (λ t. Does g limits traced digest asked it left old t) (sym same_end) (record {
       replies = replies;
       tables = rest.tables;
@@ -90,7 +92,8 @@ module _ {S : Type 0} (g : Ghosts S) (limits : Limits) (traced : Bool) (digest :
             untold g limits s traced digest asked old there it (replied.failed g limits s digest asked old there at.ours h clean begun done b looks mid end alone) reply line
 
     -- it was served
-    module _ (known : Option Room) (same : known ≡ room) (told : ServedTold × Option Room) (serves : HasCleanDisk (seen g done) → ServesInPlace traced limits known digest asked (rows_seen g begun) (rows_seen g done) told) where
+    module _ (known : Option Room) (same : known ≡ room) (told : ServedTold × Option Room)
+        (serves : HasCleanDisk (seen g done) → ServesInPlace traced limits known digest asked (rows_seen g begun) (rows_seen g done) told) where
       served_as : (x : Served) → told.0.served ≡ x → HasCleanDisk (seen g done) → Serves limits digest asked (rows_seen g begun) (rows_seen g done) x
       served_as x is mid = subst (Serves limits digest asked (rows_seen g begun) (rows_seen g done)) is (serves mid).0.0
 
@@ -103,13 +106,15 @@ module _ {S : Type 0} (g : Ghosts S) (limits : Limits) (traced : Bool) (digest :
           served_knows g limits digest asked room told.1 old new known begun was b early same (serves mid).1 acted.0 acted.2
 
       -- the line that goes with the reply
-      lined : (there new : Tables S) (s : Registry) (h : Shows s (shown g old)) (clean : HasCleanDisk (shown g there)) (mid : HasCleanDisk (seen g done)) (reply : Reply) → it.reply ≡ reply → option_map string_bytes it.line ≡ line_with reply told.0.line → RepliesTo g limits s digest asked reply old new
+      lined : (there new : Tables S) (s : Registry) (h : Shows s (shown g old)) (clean : HasCleanDisk (shown g there)) (mid : HasCleanDisk (seen g done)) (reply : Reply) → it.reply ≡ reply
+          → option_map string_bytes it.line ≡ line_with reply told.0.line → RepliesTo g limits s digest asked reply old new
           → ActsTo g limits s traced digest asked it old new
       lined there new s h clean mid reply is line replies =
           acts g limits s traced digest asked old new reply it told.0.line replies is line
           (tells_line limits s (Ask digest asked) traced (rows_seen g begun) told.0.line (serves mid).0.1 (replied.sees g limits s digest asked old there at.ours h clean begun done b looks mid))
 
-      pub committed : {T E : Type 0} (r : Result T E) (reply : Reply) (new there : Tables S) → new ≡ there → told.0.served ≡ Done reply → it.reply ≡ reply → option_map string_bytes it.line ≡ line_with reply told.0.line → IsEnded g r done there → IsCommitted g done there
+      pub committed : {T E : Type 0} (r : Result T E) (reply : Reply) (new there : Tables S) → new ≡ there → told.0.served ≡ Done reply → it.reply ≡ reply
+          → option_map string_bytes it.line ≡ line_with reply told.0.line → IsEnded g r done there → IsCommitted g done there
           → StepsKeepSound → IsFit (Ask digest asked) → Does g limits traced digest asked it told.1 old new
       committed r reply new there same_end as_done is line ended end law fit = subst (λ t. Does g limits traced digest asked it told.1 old t) (sym same_end) (record {
         replies = replies;
@@ -128,7 +133,8 @@ module _ {S : Type 0} (g : Ghosts S) (limits : Limits) (traced : Bool) (digest :
               lined there there s h clean mid reply is line (replied.committed g limits s digest asked old there at.ours h clean begun done b looks mid law fit reply (served_as (Done reply) as_done mid) end)
 
       -- its commit was refused
-      pub not_committed : {T E : Type 0} (r : Result T E) (reply : Reply) (new there : Tables S) → new ≡ there → told.0.served ≡ Done reply → it.reply ≡ Denied rule.S1 → it.line ≡ None → IsEnded g r done there → IsRefused g done there → Does g limits traced digest asked it told.1 old new
+      pub not_committed : {T E : Type 0} (r : Result T E) (reply : Reply) (new there : Tables S) → new ≡ there → told.0.served ≡ Done reply → it.reply ≡ Denied rule.S1 → it.line ≡ None
+          → IsEnded g r done there → IsRefused g done there → Does g limits traced digest asked it told.1 old new
       not_committed r reply new there same_end as_done is line ended end = subst (λ t. Does g limits traced digest asked it told.1 old t) (sym same_end) (record {
         replies = replies;
         tables = refused_tables g old begun done b looks there at ended.ours end;
@@ -143,10 +149,12 @@ module _ {S : Type 0} (g : Ghosts S) (limits : Limits) (traced : Bool) (digest :
           replies : IsActed g limits traced digest asked it old there
           replies clean s h =
               let mid = mids clean in
-              untold g limits s traced digest asked old there it (replied.not_committed g limits s digest asked old there at.ours h clean begun done b looks mid reply (served_as (Done reply) as_done mid) end ended.survives) is line
+              untold g limits s traced digest asked old there it
+              (replied.not_committed g limits s digest asked old there at.ours h clean begun done b looks mid reply (served_as (Done reply) as_done mid) end ended.survives) is line
 
       -- nothing was changed
-      pub only_told : (reply : Reply) (new there : Tables S) → new ≡ there → told.0.served ≡ Told reply → it.reply ≡ reply → option_map string_bytes it.line ≡ line_with reply told.0.line → IsDropped g done there → (IsTrue (shown g old).is_open → LeavesCommit (shown g old)) → Does g limits traced digest asked it told.1 old new
+      pub only_told : (reply : Reply) (new there : Tables S) → new ≡ there → told.0.served ≡ Told reply → it.reply ≡ reply → option_map string_bytes it.line ≡ line_with reply told.0.line
+          → IsDropped g done there → (IsTrue (shown g old).is_open → LeavesCommit (shown g old)) → Does g limits traced digest asked it told.1 old new
       only_told reply new there same_end as_told is line end alone = subst (λ t. Does g limits traced digest asked it told.1 old t) (sym same_end) (record {
         replies = replies;
         tables = rest.tables;
@@ -167,7 +175,8 @@ module _ {S : Type 0} (g : Ghosts S) (limits : Limits) (traced : Bool) (digest :
               lined there there s h clean mid reply is line (replied.told g limits s digest asked old there at.ours h clean begun done b looks mid reply (served_as (Told reply) as_told mid) end alone)
 
       -- a search, behind the transaction
-      pub sought : (account : ℕ) (reply : Reply) (there new : Tables S) → told.0.served ≡ Seeks account → it.reply ≡ reply → option_map string_bytes it.line ≡ line_with reply told.0.line → IsDropped g done there → (IsTrue (shown g old).is_open → LeavesCommit (shown g old))
+      pub sought : (account : ℕ) (reply : Reply) (there new : Tables S) → told.0.served ≡ Seeks account → it.reply ≡ reply → option_map string_bytes it.line ≡ line_with reply told.0.line
+          → IsDropped g done there → (IsTrue (shown g old).is_open → LeavesCommit (shown g old))
           → IsLeft g there new → (HasCleanDisk (shown g new) → (s : Registry) → Shows s (shown g there) → Sought account asked s reply) → Does g limits traced digest asked it told.1 old new
       sought account reply there new as_search is line end alone left seeks = record {
         replies = replies;
@@ -188,4 +197,5 @@ module _ {S : Type 0} (g : Ghosts S) (limits : Limits) (traced : Bool) (digest :
               let early = still clean in
               let mid = mids early in
               lined there new s h early mid reply is line
-              (replied.sought g limits s digest asked old there new at.ours h clean early begun done b looks mid account reply (served_as (Seeks account) as_search mid) end alone (end.ours looks.at_work.back) left (seeks clean s))
+              (replied.sought g limits s digest asked old there new at.ours h clean early begun done b looks mid account reply (served_as (Seeks account) as_search mid) end alone
+              (end.ours looks.at_work.back) left (seeks clean s))

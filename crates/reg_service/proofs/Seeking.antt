@@ -21,7 +21,8 @@ shows_found account q most s f (Denied r) is same = inl (ap (λ it. Denied it) i
 shows_found account q most s f (Method m) is same = absurd is
 
 -- one more crate in the body
-pub push_one : (hits items : List Hit) (i : ℕ) (hit : Hit) (old new : List model.Hit) → items ≡ hits → i < length items → hit ≡ get_or items i hit → old ≡ map hit_of (take i hits) → new ≡ old ++ hit_of hit ∷ [] → new ≡ map hit_of (take (i + 1) hits)
+pub push_one : (hits items : List Hit) (i : ℕ) (hit : Hit) (old new : List model.Hit) → items ≡ hits → i < length items
+    → hit ≡ get_or items i hit → old ≡ map hit_of (take i hits) → new ≡ old ++ hit_of hit ∷ [] → new ≡ map hit_of (take (i + 1) hits)
 push_one hits items i hit old new same lt is so more =
     let some = ap (λ l. l ++ hit_of hit ∷ []) so in
     let at = ap (λ x. take i hits ++ x ∷ []) (is ∙ ap (λ l. get_or l i hit) same) in

@@ -11,7 +11,8 @@ loop-hit-init c = c.new-body.ensures
 
 pub loop-hit-preserved : goal.loop-hit-preserved
 loop-hit-preserved c =
-    push_one c.args.found.now.crates.items c.deref-hit-items.result.now c.loop-hit.hit-index c.hit-item.result c.loop-hit.body c.push_hit.new.body c.deref-hit-items.ensures.value c.loop-hit-test.true c.hit-item.is c.loop-hit.invariant c.in_ok-push_hit.ensures
+    push_one c.args.found.now.crates.items c.deref-hit-items.result.now c.loop-hit.hit-index c.hit-item.result c.loop-hit.body c.push_hit.new.body c.deref-hit-items.ensures.value
+    c.loop-hit-test.true c.hit-item.is c.loop-hit.invariant c.in_ok-push_hit.ensures
 
 pub loop-hit-smaller : goal.loop-hit-smaller
 loop-hit-smaller c = omega (arith, c.loop-hit-test.true)

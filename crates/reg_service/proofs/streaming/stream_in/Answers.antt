@@ -35,7 +35,7 @@ returns-in-Ok-Found g c =
         tables = record { ours = left.ours; second = left.edition ∙ c.decide_in.ensures.tables.second };
         clean = λ clean. c.decide_in.ensures.clean (omega (arith, clean, left.survives.clean));
         same_mode = left.shut ∙ c.decide_in.ensures.same_mode;
-        stopped = λ was. absurd (false≢true (c.in-Ok-Found.ensures.stopped was));
+        stopped = λ was. c.send_file.ensures.stopped (c.decide_in.ensures.same_mode ∙ was);
       };
     }
 

@@ -80,7 +80,11 @@ returns-in-Err-default-Storage g c =
     record {
       made = tt;
       bad_base = (λ is. absurd (apart Storage BadBase refl is), λ no. absurd (false≢true (sym no ∙ valid)));
-      unknown = λ _. (λ is. absurd (apart Storage UnknownSchema refl is), λ differs. absurd (not_unknown (sym c.in-Err-default-Storage.field-0-1-is ∙ c.in-Err-default-Storage.ensures.unknown.1 differs)));
+      unknown = λ _. (
+        λ is. absurd (apart Storage UnknownSchema refl is),
+        λ differs. absurd
+            (not_unknown (sym c.in-Err-default-Storage.field-0-1-is ∙ c.in-Err-default-Storage.ensures.unknown.1 differs)),
+      );
       blank = tt;
       known = λ check. apart Storage (Damaged check) refl;
       untouched = λ no. absurd (no refl);

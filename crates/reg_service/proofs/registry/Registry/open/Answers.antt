@@ -45,8 +45,10 @@ returns-in-Err-default-UnknownSchema g c = record {
   damaged = λ clean check is. absurd (apart UnknownSchema (Damaged check) refl is);
   known = apart UnknownSchema BadBase refl;
   undone = c.in-Err-default-UnknownSchema.ensures.handed_back;
-  handed_back = survives_weaker (state g.S.Store c.args.conn) (state g.S.Store c.in-Err-default-UnknownSchema.conn) _ (MayBeUpgraded UnknownSchema (state g.S.Store c.args.conn).now) (λ _ db none. absurd none) c.in-Err-default-UnknownSchema.ensures.left;
-  last = λ clean. handed_last g.S.Store c.args.conn c.in-Err-default-UnknownSchema.conn (λ _. ⊥) (λ h up db l. g.met.S.Store.settled h.store db up l) (c.in-Err-default-UnknownSchema.ensures.handed_back clean) c.in-Err-default-UnknownSchema.ensures.left clean;
+  handed_back = survives_weaker (state g.S.Store c.args.conn) (state g.S.Store c.in-Err-default-UnknownSchema.conn) _ (MayBeUpgraded UnknownSchema (state g.S.Store c.args.conn).now)
+      (λ _ db none. absurd none) c.in-Err-default-UnknownSchema.ensures.left;
+  last = λ clean. handed_last g.S.Store c.args.conn c.in-Err-default-UnknownSchema.conn (λ _. ⊥) (λ h up db l. g.met.S.Store.settled h.store db up l)
+      (c.in-Err-default-UnknownSchema.ensures.handed_back clean) c.in-Err-default-UnknownSchema.ensures.left clean;
 }
 
 pub returns-in-Err-default-Storage : goal.returns-in-Err-default-Storage
@@ -61,6 +63,8 @@ returns-in-Err-default-Storage g c = record {
   damaged = λ clean check is. absurd (apart Storage (Damaged check) refl is);
   known = apart Storage BadBase refl;
   undone = c.in-Err-default-Storage.ensures.handed_back;
-  handed_back = survives_weaker (state g.S.Store c.args.conn) (state g.S.Store c.in-Err-default-Storage.conn) _ (MayBeUpgraded Storage (state g.S.Store c.args.conn).now) (λ _ db none. absurd none) c.in-Err-default-Storage.ensures.left;
-  last = λ clean. handed_last g.S.Store c.args.conn c.in-Err-default-Storage.conn (λ _. ⊥) (λ h up db l. g.met.S.Store.settled h.store db up l) (c.in-Err-default-Storage.ensures.handed_back clean) c.in-Err-default-Storage.ensures.left clean;
+  handed_back = survives_weaker (state g.S.Store c.args.conn) (state g.S.Store c.in-Err-default-Storage.conn) _ (MayBeUpgraded Storage (state g.S.Store c.args.conn).now)
+      (λ _ db none. absurd none) c.in-Err-default-Storage.ensures.left;
+  last = λ clean. handed_last g.S.Store c.args.conn c.in-Err-default-Storage.conn (λ _. ⊥) (λ h up db l. g.met.S.Store.settled h.store db up l)
+      (c.in-Err-default-Storage.ensures.handed_back clean) c.in-Err-default-Storage.ensures.left clean;
 }
