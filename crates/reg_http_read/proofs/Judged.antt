@@ -7,7 +7,7 @@ use Rattle.httparse.specs.Spans.{name_and_value}
 use Rattle.httparse.specs.declared.borrowed.Request.{Request}
 use Rattle.reg_body.specs.declared.limits.Limits.{Limits}
 use Rattle.reg_model.specs.declared.rule.Rule.{Rule}
-use Rattle.reg_model.specs.declared.rule.Rule.TheVariants.{H1, H2, H3, H5}
+use Rattle.reg_model.specs.declared.rule.Rule.TheVariants.{H1, H2, H3, H4, H5}
 use Rattle.reg_http_read.specs.Fields as spec
 use Rattle.reg_http_read.specs.Heads.{Facts, answers_head, facts_from, greatest_body, judge_head, judge_parts, with_asked}
 use Rattle.reg_http_read.specs.Reads.{HasAsked, IsAnswer, IsAsked, IsJudgement, facts_of}
@@ -18,6 +18,9 @@ use Rattle.reg_http_read.specs.declared.head.HeadRead.{HeadRead}
 
 not_less : (a b : ℕ) → b ≤ a → ltb a b ≡ false
 not_less a b le = grind (arith, nat_tests)
+
+less : (a b : ℕ) → a < b → ltb a b ≡ true
+less a b lt = grind (arith, nat_tests)
 
 -- a number that is at most the greatest was not cut off
 pub length_judged : (most greatest minor : ℕ) (fields : List spec.Field) (it : Asked) (n : ℕ) (o : Option ℕ)
@@ -37,6 +40,29 @@ pub past_counts : (most greatest minor : ℕ) (fields : List spec.Field) → len
     → spec.count_named (codes "transfer-encoding") fields ≤ 0
     → spec.judge_fields most greatest minor fields ≡ spec.with_length most greatest minor fields (spec.body_length fields)
 past_counts most greatest minor fields few hosts none = rw (not_less most (length fields) few, hosts, not_less 0 _ none) refl
+
+-- a rule that is broken
+module _ (most greatest minor : ℕ) (fields : List spec.Field) where
+  pub many_judged : most < length fields → IsAsked (Err H2) (spec.judge_fields most greatest minor fields)
+  many_judged many = rw (less most (length fields) many) refl
+
+  pub hosts_judged : length fields ≤ most → spec.hosts_fit minor (spec.count_named (codes "host") fields) ≡ false
+      → IsAsked (Err H1) (spec.judge_fields most greatest minor fields)
+  hosts_judged few hosts = rw (not_less most (length fields) few, hosts) refl
+
+  pub coding_judged : length fields ≤ most → spec.hosts_fit minor (spec.count_named (codes "host") fields) ≡ true
+      → 0 < spec.count_named (codes "transfer-encoding") fields → IsAsked (Err H3) (spec.judge_fields most greatest minor fields)
+  coding_judged few hosts some = rw (not_less most (length fields) few, hosts, less 0 _ some) refl
+
+  pub no_length_judged : (o : Option ℕ) → None ≡ option_map (λ k. min k (2 ^ 64 - 1)) o → IsAsked (Err H4) (spec.with_length most greatest minor fields o)
+  no_length_judged None is = refl
+  no_length_judged (Some m) is = absurd cc
+
+  pub large_judged : (n : ℕ) (o : Option ℕ) → Some n ≡ option_map (λ k. min k (2 ^ 64 - 1)) o → greatest < n
+      → IsAsked (Err H5) (spec.with_length most greatest minor fields o)
+  large_judged n None is large = absurd cc
+  large_judged n (Some m) is large =
+      let cut : n ≡ min m (2 ^ 64 - 1) = cc in rw (less greatest m (omega arith)) refl
 
 module _ (asked : spec.Asked) where
   past_rule : (b : Bool) (r : Rule) (x : Result spec.Asked Rule) → cond b (Err r) x ≡ Ok asked → x ≡ Ok asked

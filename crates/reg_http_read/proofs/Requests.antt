@@ -1,10 +1,11 @@
 -- What is known of a request while its body is read.
 use Rattle.std.proofs.Common.{arith, ◌≡◌, ◌≤◌, ◌<◌, ◌+◌, ◌++◌, inl, inr, refl, ap, ◌∙◌, subst, append_assoc, length, sym, [], ◌&&◌, not, Bool, true, false, Option, Some, Ok, Err}
 use Rattle.std.specs.Io.KnownBytes.{Appends}
-use Rattle.std.proofs.KnownBytes.{Consumes-trans}
+use Rattle.std.proofs.KnownBytes.{Appends-nil, Consumes-trans}
 use Rattle.reg_body.specs.declared.limits.Limits.{Limits}
-use Rattle.reg_http_read.specs.Heads.{Facts, IsHeadAt}
+use Rattle.reg_http_read.specs.Heads.{Facts, IsHeadAt, IsUnfinished}
 use Rattle.reg_model.specs.Registry.{Text}
+use Rattle.reg_model.specs.declared.rule.Rule.{Rule}
 use Rattle.reg_model.specs.declared.rule.Rule.TheVariants as rule
 use Rattle.reg_body.specs.Sent.{AppendsFront}
 use Rattle.reg_http_read.specs.Begun.{IsRefused, interim_if, interim_of, is_head_only}
@@ -42,6 +43,24 @@ found_awaits r0 r1 was now limits (awaited.Refused broken head_only) (a, c, same
 found_awaits r0 r1 was now limits (awaited.Head it) (a, c, same) is =
     (a, c, (same, subst (λ l. IsHeadAt limits l (facts_owned it)) same is))
 
+-- no head was there, and nothing was written
+module _ (r0 r1 : Option Text) (was now : Text) (limits : Limits) (w : Option Text) where
+  unwritten : Reads r0 r1 was now (λ rest. IsUnfinished limits rest) → HasBegun r0 r1 was now w w limits
+  unwritten (a, c, short) = (a, c, ([], Appends-nil w, inl (short, refl)))
+
+  pub head_failed : (fault : StreamFault) → Awaits r0 r1 was now limits (Err fault) → Takes r0 r1 was now w w limits (Err fault)
+  head_failed ReadFault x = unwritten x
+  head_failed TooManyTurns x = inl (unwritten x)
+  head_failed WriteFault x = absurd x
+  head_failed StoreFault x = absurd x
+  head_failed Memory x = absurd x
+
+  pub head_ended : Awaits r0 r1 was now limits (Ok awaited.End) → Takes r0 r1 was now w w limits (Ok taken.End)
+  head_ended (short, end) = (unwritten short, end)
+
+  pub head_refused : (broken : Rule) (head_only : Bool) → Awaits r0 r1 was now limits (Ok (awaited.Refused broken head_only)) → Takes r0 r1 was now w w limits (Ok (taken.Refused broken head_only))
+  head_refused broken head_only (a, c, refused) = (a, c, ([], Appends-nil w, refused))
+
 module _ (limits : Limits) (stay : HeadsStay) (it : OwnedHead) (r0 r1 : Option Text) (was mid : Text)
     (first : Reads r0 r1 was mid (λ rest. (mid ≡ rest) × IsHeadAt limits rest (facts_owned it))) where
   abbrev f : Facts
@@ -70,29 +89,38 @@ module _ (limits : Limits) (stay : HeadsStay) (it : OwnedHead) (r0 r1 : Option T
     ask_failed WriteFault x = cut_off x
     ask_failed TooManyTurns x = inr (cut_off x)
 
-    -- the interim line was sent, and more was read
-    module _ (sent : Appends w0 w1 (interim_if it.interim)) (r2 : Option Text) (now : Text) where
-      waits : Reads r1 r2 mid now (λ rest. length rest < it.len + it.body_len) → HasBegun r0 r2 was now w0 w1 limits
-      waits short =
-          let (a, c, (head, lt)) = head_on r2 now (λ rest. length rest < it.len + it.body_len) short in
-          (a, c, (interim_of f, sent, inr (f, head, lt, refl)))
+-- a head stands in all that was read, and its interim line was sent
+pub record Begins (limits : Limits) (it : OwnedHead) (r0 r1 : Option Text) (was mid : Text) (w0 w1 : Option Text) : Type 0 where
+  pub stay : HeadsStay
+  pub first : Reads r0 r1 was mid (λ rest. (mid ≡ rest) × IsHeadAt limits rest (facts_owned it))
+  pub sent : Appends w0 w1 (interim_if it.interim)
 
-      pub rest_failed : (fault : StreamFault) → Fills r1 r2 mid now (it.len + it.body_len) (Err fault) → Takes r0 r2 was now w0 w1 limits (Err fault)
-      rest_failed ReadFault x = waits x
-      rest_failed TooManyTurns x = inl (waits x)
-      rest_failed WriteFault x = absurd x
-      rest_failed StoreFault x = absurd x
-      rest_failed Memory x = absurd x
+-- and more was read
+module _ {limits : Limits} {it : OwnedHead} {r0 r1 : Option Text} {was mid : Text} {w0 w1 : Option Text} (begins : Begins limits it r0 r1 was mid w0 w1) (r2 : Option Text) (now : Text) where
+  stands : (holds : Text → Type 0) → Reads r1 r2 mid now holds → Reads r0 r2 was now (λ rest. IsHeadAt limits rest (facts_owned it) × holds rest)
+  stands holds = head_on limits begins.stay it r0 r1 was mid begins.first r2 now holds
 
-      pub rest_ended : Fills r1 r2 mid now (it.len + it.body_len) (Ok remaining.End) → Takes r0 r2 was now w0 w1 limits (Ok taken.End)
-      rest_ended (short, end) = (waits short, end)
+  waits : Reads r1 r2 mid now (λ rest. length rest < it.len + it.body_len) → HasBegun r0 r2 was now w0 w1 limits
+  waits short =
+      let (a, c, (head, lt)) = stands (λ rest. length rest < it.len + it.body_len) short in
+      (a, c, (interim_of (facts_owned it), begins.sent, inr (facts_owned it, head, lt, refl)))
 
-      pub rest_refused : (head_only : Bool) → head_only ≡ is_head_only f → Fills r1 r2 mid now (it.len + it.body_len) (Ok remaining.NoMemory)
-          → Takes r0 r2 was now w0 w1 limits (Ok (taken.Refused rule.S1 head_only))
-      rest_refused head_only told x =
-          let (a, c, (head, any)) = head_on r2 now (λ rest. Unit {0}) x in (a, c, (interim_of f, sent, inr (refl, inr (f, head, refl, told))))
+  pub rest_failed : (fault : StreamFault) → Fills r1 r2 mid now (it.len + it.body_len) (Err fault) → Takes r0 r2 was now w0 w1 limits (Err fault)
+  rest_failed ReadFault x = waits x
+  rest_failed TooManyTurns x = inl (waits x)
+  rest_failed WriteFault x = absurd x
+  rest_failed StoreFault x = absurd x
+  rest_failed Memory x = absurd x
 
-      pub rest_whole : Fills r1 r2 mid now (it.len + it.body_len) (Ok remaining.Whole) → Takes r0 r2 was now w0 w1 limits (Ok (taken.Whole it))
-      rest_whole x =
-          let (a, c, (head, (same, le))) = head_on r2 now (λ rest. (now ≡ rest) × (it.len + it.body_len ≤ length rest)) x in
-          (a, c, (same, head, le, sent))
+  pub rest_ended : Fills r1 r2 mid now (it.len + it.body_len) (Ok remaining.End) → Takes r0 r2 was now w0 w1 limits (Ok taken.End)
+  rest_ended (short, end) = (waits short, end)
+
+  pub rest_refused : (head_only : Bool) → head_only ≡ is_head_only (facts_owned it) → Fills r1 r2 mid now (it.len + it.body_len) (Ok remaining.NoMemory)
+      → Takes r0 r2 was now w0 w1 limits (Ok (taken.Refused rule.S1 head_only))
+  rest_refused head_only told x =
+      let (a, c, (head, any)) = stands (λ rest. Unit {0}) x in (a, c, (interim_of (facts_owned it), begins.sent, inr (refl, inr (facts_owned it, head, refl, told))))
+
+  pub rest_whole : Fills r1 r2 mid now (it.len + it.body_len) (Ok remaining.Whole) → Takes r0 r2 was now w0 w1 limits (Ok (taken.Whole it))
+  rest_whole x =
+      let (a, c, (head, (same, le))) = stands (λ rest. (now ≡ rest) × (it.len + it.body_len ≤ length rest)) x in
+      (a, c, (same, head, le, begins.sent))
