@@ -57,10 +57,7 @@ pub(crate) fn schema_words(edition: Edition) -> &'static str {
 }
 
 /// The schema and the rows of tables.
-fn schema_and_rows<S: Alter>(
-    alloc: Global,
-    tables: &mut Tables<S>,
-) -> Result<Option<String>, Fault>
+fn schema_and_rows<S: Alter>(alloc: Global, tables: &mut Tables<S>) -> Result<Option<String>, Fault>
     requires { AreOurs S.Store tables.old }
 {
     let words = schema_words(tables.edition());
