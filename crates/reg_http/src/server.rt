@@ -66,17 +66,7 @@ impl Server {
         ensures { ServesStreamTraced S.Store SpendsLent R.remaining W.contents registry.old
             registry.new r.old r.new w.old w.new T.contents trail.old trail.new result }
     {
-        let mut pending = Vec::new(alloc);
-        serve_requests(
-            alloc,
-            registry,
-            trail,
-            &self.routes,
-            r,
-            w,
-            &mut self.chunk,
-            &mut pending,
-        )
+        serve_requests(alloc, registry, trail, &self.routes, r, w, &mut self.chunk)
     }
 }
 

@@ -1,6 +1,6 @@
 //! Taking and answering the requests of a stream.
 
-ghost use Rattle.std.specs.Prelude.{◌≡◌, ◌+◌, ◌<◌, ◌≤◌, ◌||◌, ◌==◌, [], drop, length, take};
+ghost use Rattle.std.specs.Prelude.{◌≡◌, ◌+◌, ◌<◌, ◌≤◌, ◌||◌, ◌==◌, drop, length, take};
 ghost use Rattle.reg_http_read.specs.Owned.{facts_owned};
 ghost use Rattle.reg_http_read.specs.Reads.{facts_of};
 ghost use Rattle.reg_http.specs.Serving.{MayServe, ServesStreamTraced, SpendsLent};
@@ -51,11 +51,9 @@ pub(crate) fn serve_requests<R: Read, W: Write, T: Write, S: Alter>(
     r: &mut Counted<R>,
     w: &mut Counted<W>,
     chunk: &mut [u8],
-    pending: &mut Vec<u8>,
 ) -> Result<u64, StreamFault>
     requires may { MayServe S.Store registry.old r.old w.old }
     requires some { 0 < length chunk.old }
-    requires nothing { pending.old.items ≡ [] }
     ensures served { ServesStreamTraced S.Store SpendsLent R.remaining W.contents registry.old
         registry.new r.old r.new w.old w.new T.contents trail.old trail.new result }
     ensures chunk { length chunk.new ≡ length chunk.old }
@@ -66,9 +64,10 @@ pub(crate) fn serve_requests<R: Read, W: Write, T: Write, S: Alter>(
     telling_law();
     let limits = *registry.limits();
     let mut left = limits.turns;
+    let mut pending = Vec::new(alloc);
     let mut replies = 0;
     'requests: loop {
-        let head = match take_request(alloc, r, w, chunk, pending, &limits, &mut left)? {
+        let head = match take_request(alloc, r, w, chunk, &mut pending, &limits, &mut left)? {
             Taken::End => return Ok(replies),
             Taken::Refused(rule, head_only) => {
                 deny(w, rule, true, head_only, &mut left)?;
@@ -78,13 +77,13 @@ pub(crate) fn serve_requests<R: Read, W: Write, T: Write, S: Alter>(
         };
         let close = closes(&limits, head.close, replies);
         let total = head.len + head.body_len as usize;
-        let message = message_of(&head, pending, close);
+        let message = message_of(&head, &pending, close);
         answer_message(alloc, registry, trail, routes, w, &message, &mut left)?;
         replies += 1;
         if close {
             return Ok(replies);
         }
-        drop_front(pending, total);
+        drop_front(&mut pending, total);
         drop(head);
     }
 }

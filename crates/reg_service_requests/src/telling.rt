@@ -1,6 +1,6 @@
 //! The line of what an allowed request would change, told before it is done.
 
-ghost use Rattle.std.specs.Prelude.{◌≡◌, ◌∷◌, [], IsSome, codes, false, map, string_bytes, true};
+ghost use Rattle.std.specs.Prelude.{◌≡◌, ◌∷◌, [], IfOk, IsSome, codes, false, map, string_bytes, true};
 ghost use Rattle.std.specs.Borrow.{Bor};
 ghost use Rattle.std.specs.Fmt.{decimal};
 ghost use Rattle.std.specs.List.{list_any};
@@ -8,6 +8,7 @@ ghost use Rattle.std.specs.Option.{option_map};
 ghost use Rattle.std.specs.Str.{bytes_eq};
 ghost use Rattle.reg_model.specs.Events.{action_of as action_asked};
 ghost use Rattle.reg_model.specs.Events.Asked.{Publish};
+ghost use Rattle.reg_model.specs.Trail.{line_of};
 ghost use Rattle.reg_policy.specs.Events.{asked_of, publication_of};
 ghost use Rattle.reg_tables.specs.Works.{IsAtWork, has_failed};
 ghost use Rattle.reg_access.specs.Admitted.{needs_crate};
@@ -58,26 +59,23 @@ pub fn tell_words<S: Alter>(
     told_line(work, line_of(alloc, words))
 }
 
-/// The line of a change of a crate by a token of an account, if something changes.
-fn tell_by<S: Alter>(
+// An array has one lifetime for all its texts, and only parameters can be given one.
+fn line_by(
     alloc: Global,
-    work: &mut Work<'_, S>,
-    changes: bool,
     token: &str,
     login: &str,
     verb: &str,
     name: &str,
     more: &str,
-) -> Result<Option<String>>
-    requires at_work { IsAtWork S.Store work.old }
-    requires goes_on { has_failed work.old ≡ false }
-    ensures { Asks S.Store work.old work.new result (λ db found. option_map string_bytes found
-        ≡ line_if changes (token.now ∷ login.now ∷ verb.now ∷ name.now ∷ more.now ∷ [])) }
+) -> Result<String, AllocError>
+    ensures { IfOk result (λ line. string_bytes line
+        ≡ line_of (token.now ∷ login.now ∷ verb.now ∷ name.now ∷ more.now ∷ [])) }
 {
-    tell_words(alloc, work, changes, &[token, login, verb, name, more])
+    line_of(alloc, &[token, login, verb, name, more])
 }
 
-/// The same by who asks: the id of the token, and its account's login.
+/// The line of a change of a crate by who asks, if something changes: the id of the token, its
+/// account's login, and what is done.
 fn tell_change<S: Alter>(
     alloc: Global,
     work: &mut Work<'_, S>,
@@ -93,9 +91,12 @@ fn tell_change<S: Alter>(
         ≡ line_if changes (decimal caller.now.token ∷ string_bytes caller.now.login
         ∷ verb.now ∷ name.now ∷ more.now ∷ [])) }
 {
+    if !changes {
+        return Ok(None);
+    }
     let mut digits = Buffer::new();
     let token = digits.format(caller.token);
-    tell_by(alloc, work, changes, token, &caller.login, verb, name, more)
+    told_line(work, line_by(alloc, token, &caller.login, verb, name, more))
 }
 
 /// A publication.

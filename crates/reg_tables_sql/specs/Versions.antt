@@ -1,5 +1,5 @@
 -- The table of versions.
-use Rattle.std.specs.Prelude.{◌≡◌, ℕ, pos, Bool, List, [], ◌∷◌, Option, map, filter, string_bytes}
+use Rattle.std.specs.Prelude.{◌≡◌, ℕ, pos, Bool, false, List, [], ◌∷◌, Option, map, filter, string_bytes}
 use Rattle.std.specs.Option.{option_map}
 use Rattle.sqlite.specs.State.{State}
 use Rattle.sqlite.specs.Tree.{Trees}
@@ -10,6 +10,7 @@ use Rattle.reg_tables_schema.specs.Places.{id_place, version_crate_place, versio
 use Rattle.reg_tables_schema.specs.Rows.{IsInOrder, by_column, keyed, mark, text_or_null}
 use Rattle.reg_tables_schema.specs.Tests.{is_number, is_version, shows}
 use Rattle.reg_tables_sql.specs.declared.versions.Version.{Version}
+use Rattle.reg_tables_sql.specs.declared.versions.VersionRow.{VersionRow}
 use Rattle.reg_tables_sql.specs.Updates.{KeepsWhereNone}
 
 -- a row as it stands in its tree
@@ -18,6 +19,12 @@ version_row id of_crate vers release digest stem description yanked =
     keyed id
     (Int (pos of_crate) ∷ Text vers ∷ Text release ∷ Blob digest ∷ Blob stem
     ∷ text_or_null description ∷ mark yanked ∷ [])
+
+-- the row that is added
+abbrev pub row_added : VersionRow → Row
+row_added it =
+    version_row it.id it.crate_id it.vers.now it.release.now it.digest.now it.stem.now
+    (option_map (λ d. d.now) it.description) false
 
 -- all columns, as they are selected
 abbrev pub version_places : List ℕ

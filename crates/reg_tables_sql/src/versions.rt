@@ -1,7 +1,6 @@
 //! The table of versions, one statement per function.
 
-ghost use Rattle.std.specs.Prelude.{◌≡◌, ◌<◌, ◌^◌, ◌∷◌, [], false, pos, IfOk, OnOk};
-ghost use Rattle.std.specs.Option.{option_map};
+ghost use Rattle.std.specs.Prelude.{◌≡◌, ◌<◌, ◌^◌, ◌∷◌, [], pos, IfOk, OnOk};
 ghost use Rattle.sqlite.specs.Held.{state};
 ghost use Rattle.sqlite.specs.Order.{column};
 ghost use Rattle.sqlite.specs.declared.types.Value.TheVariants.{Int};
@@ -14,7 +13,7 @@ ghost use Rattle.reg_tables_sql.specs.Answers.{Finds, Lists};
 ghost use Rattle.reg_tables_sql.specs.Counts.{IsCountOf, IsLastId};
 ghost use Rattle.reg_tables_sql.specs.Stems.{AreEntriesOf};
 ghost use Rattle.reg_tables_sql.specs.VersionMarks.{AreMarksOf, IsMarkOf, IsMarkWithId};
-ghost use Rattle.reg_tables_sql.specs.Versions.{AreVersions, AreVersionsOf, MarksYanked, columns_of_version, version_row};
+ghost use Rattle.reg_tables_sql.specs.Versions.{AreVersions, AreVersionsOf, MarksYanked, columns_of_version, row_added};
 
 use crate::marks::mark_of;
 use crate::records::{FromRow, check_width};
@@ -78,26 +77,27 @@ pub struct VersionMark {
     pub yanked: bool,
 }
 
+/// A version to add.
+#[derive(Clone, Copy, Debug)]
+pub struct VersionRow<'a> {
+    pub id: u64,
+    pub crate_id: u32,
+    pub vers: &'a str,
+    pub release: &'a str,
+    pub digest: &'a [u8; 32],
+    pub stem: &'a [u8],
+    pub description: Option<&'a str>,
+}
+
 /// The rows of the index file of a crate, by version id; each is a `StemRow`.
 pub const ENTRIES_TEXT: &str = "SELECT stem, yanked FROM versions WHERE crate = ?1 ORDER BY id";
 
 /// Adds a version that is not yanked. SQL keeps ids below 2^63.
-pub fn insert<S: Alter>(
-    conn: &mut Connection<S>,
-    id: u64,
-    crate_id: u32,
-    vers: &str,
-    release: &str,
-    digest: &[u8; 32],
-    stem: &[u8],
-    description: Option<&str>,
-) -> Result<()>
+pub fn insert<S: Alter>(conn: &mut Connection<S>, version: &VersionRow<'_>) -> Result<()>
     requires ready { IsReady (state S.Store conn.old) }
-    requires small { id < 2 ^ 63 }
+    requires small { version.now.id < 2 ^ 63 }
     ensures { Writes S.Store conn.old conn.new result
-        (Adds versions_tree
-        (version_row id crate_id vers.now release.now digest.now stem.now
-        (option_map (λ d. d.now) description.entry) false)) }
+        (Adds versions_tree (row_added version.now)) }
 {
     let text = "INSERT INTO versions (id, crate, vers, release, digest, stem, description, yanked) \
         VALUES (?1, ?2, ?3, ?4, ?5, ?6, ?7, 0)";
@@ -105,13 +105,13 @@ pub fn insert<S: Alter>(
         conn,
         text,
         params![
-            id as i64,
-            crate_id,
-            vers,
-            release,
-            digest.as_slice(),
-            stem,
-            description
+            version.id as i64,
+            version.crate_id,
+            version.vers,
+            version.release,
+            version.digest.as_slice(),
+            version.stem,
+            version.description
         ],
     )
 }
