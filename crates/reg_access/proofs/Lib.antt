@@ -22,7 +22,6 @@ mod ScopeLaw
 mod ScopeText
 mod Somes
 mod TokenLaw
-mod TokenText
 pub mod VersionIds
 mod VersionLaw
 mod VersionTexts

@@ -14,6 +14,8 @@ use crate::found::CrateRow;
 use reg_line::Digest;
 use reg_names::CanonText;
 use reg_tables::{Result, TokenRow, Work};
+use reg_tables_sql::reserved::BY_CANON_TEXT;
+use reg_tables_sql::tokens::BY_DIGEST_TEXT;
 use reg_versions::release_key;
 use sqlite::{Alter, params};
 
@@ -25,12 +27,7 @@ pub(crate) fn find_token<S: Alter>(
     requires { IsAtWork S.Store work.old }
     ensures { Asks S.Store work.old work.new result (IsTokenOfDigest digest.now) }
 {
-    work.select_one(
-        "SELECT t.id, t.account, t.live, t.publish_new, t.publish_update, t.yank, \
-        t.change_owners, a.login, a.enabled FROM tokens t JOIN accounts a ON a.id = t.account \
-        WHERE t.digest = ?1",
-        params![digest.as_slice()],
-    )
+    work.select_one(BY_DIGEST_TEXT, params![digest.as_slice()])
 }
 
 /// Whether a scope of the token covers the canonical text.
@@ -106,8 +103,5 @@ pub(crate) fn is_reserved<S: Alter>(work: &mut Work<'_, S>, canon: &CanonText) -
     ensures { Asks S.Store work.old work.new result
         (λ db b. is_there (reserved_as canon.now db) ≡ b) }
 {
-    work.has_row(
-        "SELECT canon FROM reserved WHERE canon = ?1",
-        params![canon.as_str()],
-    )
+    work.has_row(BY_CANON_TEXT, params![canon.as_str()])
 }

@@ -22,7 +22,6 @@ pub mod RowColumns
 pub mod RowKeys
 pub mod RowParents
 pub mod Rows
-pub mod ScopeOrder
 pub mod ScopeWalk
 pub mod ScopesPass
 pub mod ScopesThere

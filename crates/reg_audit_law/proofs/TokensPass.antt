@@ -17,7 +17,7 @@ use Rattle.reg_tables_meaning.proofs.TokenEntries.{lists_tokens}
 use Rattle.reg_audit.specs.Checks.{are_counted, is_token, tokens_pass}
 use Rattle.reg_audit_law.proofs.AccountsPass.{are_places, each_value}
 use Rattle.reg_audit_law.proofs.ScopesPass.{has_patterns, placed}
-use Rattle.reg_audit_law.proofs.ScopeOrder.{lists_scopes}
+use Rattle.reg_tables_meaning.proofs.ScopeRows.{lists_scopes}
 use Rattle.reg_tables_sql.specs.Scopes.{columns_of_scope}
 use Rattle.std.proofs.lemmas.List.{length-map}
 use Rattle.std.proofs.lemmas.List.FromFn.{length-enumerate_from}

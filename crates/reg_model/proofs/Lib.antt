@@ -1,4 +1,5 @@
 pub mod Alike
+pub mod CanonLists
 pub mod Canons
 pub mod Cleared
 pub mod Denials

@@ -1,10 +1,11 @@
 //! Canonical texts: what two spellings of one crate have in common.
 
-ghost use Rattle.std.specs.Prelude.{◌≡◌, ◌<◌, ◌↔◌, ℕ, IsTrue, List};
+ghost use Rattle.std.specs.Prelude.{◌≡◌, ◌<◌, ◌↔◌, ℕ, IfOk, IsTrue, List};
 ghost use Rattle.reg_names.specs.Names.{IsCanonText, canon, canon_byte};
 
 use crate::name::CrateName;
 use arrayvec::ArrayString;
+use std::alloc::{AllocError, Global};
 use std::marker::Model;
 
 /// A canonical text: that of some crate name, in ASCII lower case with `_` for `-`.
@@ -28,7 +29,8 @@ impl CanonText {
     }
 }
 
-pub(crate) fn canon_byte(b: u8) -> u8
+/// A byte of a canonical text: in ASCII lower case, `_` for `-`, and any other as it is.
+pub fn canon_byte(b: u8) -> u8
     ensures value { result ≡ canon_byte b }
     ensures ascii { b < 128 → result < 128 }
 {
@@ -48,6 +50,16 @@ pub fn canon(name: &CrateName) -> CanonText
         text.push(canon_byte(*b) as char);
     }
     CanonText(text)
+}
+
+/// The canonical text of any text, even one that is no name.
+pub fn canon_text(alloc: Global, text: &str) -> Result<Vec<u8>, AllocError>
+    ensures { IfOk result (λ v. v.items ≡ canon text.now) }
+{
+    text.as_bytes()
+        .iter()
+        .map(|byte| canon_byte(*byte))
+        .collect(alloc)
 }
 
 /// Whether two names have the same canonical text. A registry holds only one of them.

@@ -19,7 +19,7 @@ mod path;
 mod pattern;
 mod range;
 
-pub use canonical::{CanonText, canon, collides};
+pub use canonical::{CanonText, canon, canon_byte, canon_text, collides};
 pub use login::{Login, parse_login};
 pub use name::{CrateName, lower, parse_name};
 pub use path::{LONGEST_PATH, PathText, index_path, name_of_path};

@@ -3,7 +3,7 @@
 ghost use Rattle.std.specs.Prelude.{◌≡◌, ◌&&◌, ◌||◌, [], IfOk, None, length, map, string_bytes, take, unwrap_or};
 ghost use Rattle.std.specs.List.{filter};
 ghost use Rattle.std.specs.Option.{option_map};
-ghost use Rattle.reg_names.specs.Names.{canon as canon_of, canon_byte};
+ghost use Rattle.reg_names.specs.Names.{canon as canon_of};
 ghost use Rattle.reg_model.specs.Registry.{holds};
 ghost use Rattle.reg_model.specs.Crates.{is_among, owners as owners_in, readers as readers_in, sees};
 ghost use Rattle.reg_model.specs.Search.{found, hit, occurs};
@@ -13,7 +13,7 @@ ghost use Rattle.reg_policy_plain.specs.Search.{found_of, hit_of};
 
 use crate::plain::PlainRegistry;
 use crate::reports::{spelling_of, version_of};
-use reg_names::{CrateName, canon};
+use reg_names::{CrateName, canon, canon_text};
 use reg_policy_lists::Publication;
 use std::alloc::{AllocError, Global};
 
@@ -33,26 +33,6 @@ pub struct Hit {
 pub struct Found {
     pub total: u64,
     pub crates: Vec<Hit>,
-}
-
-fn canon_byte(byte: u8) -> u8
-    ensures { result ≡ canon_byte byte }
-{
-    if byte == b'-' {
-        b'_'
-    } else {
-        byte.to_ascii_lowercase()
-    }
-}
-
-/// The canonical text of any text.
-fn canon_text(alloc: Global, text: &str) -> Result<Vec<u8>, AllocError>
-    ensures { IfOk result (λ v. v.items ≡ canon_of text.now) }
-{
-    text.as_bytes()
-        .iter()
-        .map(|byte| canon_byte(*byte))
-        .collect(alloc)
 }
 
 /// Whether the query occurs in the text.

@@ -9,7 +9,6 @@ mod Lists
 mod Lookup
 mod Matching
 mod ReadSteps
-mod Rising
 mod Texts
 mod Told
 mod Tops

@@ -35,7 +35,7 @@ use Rattle.reg_tables_meaning.specs.Stands.{Holds, Ids, StoredCrate, row_of_crat
 use Rattle.reg_search.specs.Rows.{AreHits, AreIdsOf, Hides, id_of, is_hit, is_unseen, row_of}
 use Rattle.reg_search.specs.declared.numbered.Hits.{Hits}
 use Rattle.reg_search.proofs.Lists.{each_passes, each_taken}
-use Rattle.reg_search.proofs.Rising.{all_canons}
+use Rattle.reg_model.proofs.CanonLists.{all_canons}
 use Rattle.reg_search.proofs.Texts.{walk_query}
 
 abbrev canon_of : StoredCrate → Words

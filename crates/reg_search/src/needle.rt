@@ -3,34 +3,12 @@
 ghost use Rattle.std.specs.Prelude.{◌≡◌, IfOk};
 ghost use Rattle.sqlite.specs.Order.{column};
 ghost use Rattle.sqlite.specs.declared.types.Value.TheVariants.{Text};
-ghost use Rattle.reg_names.specs.Names.{canon as canon_of, canon_byte};
 ghost use Rattle.reg_model.specs.Search.{occurs};
 ghost use Rattle.reg_search.specs.Rows.{is_match};
 
 use memchr::memmem::Finder;
 use sqlite::types::ValueRef;
 use sqlite::{Error, Row};
-use std::alloc::{AllocError, Global};
-
-fn canon_byte(byte: u8) -> u8
-    ensures { result ≡ canon_byte byte }
-{
-    if byte == b'-' {
-        b'_'
-    } else {
-        byte.to_ascii_lowercase()
-    }
-}
-
-/// The canonical text of any text, even one that is no name.
-pub(crate) fn canon_text(alloc: Global, text: &str) -> Result<Vec<u8>, AllocError>
-    ensures { IfOk result (λ v. v.items ≡ canon_of text.now) }
-{
-    text.as_bytes()
-        .iter()
-        .map(|byte| canon_byte(*byte))
-        .collect(alloc)
-}
 
 fn occurs_in(needle: &Finder<'_>, text: &[u8]) -> bool
     ensures { result ≡ occurs needle.now text.now }

@@ -13,10 +13,10 @@ ghost use Rattle.reg_search.specs.Rows.{FindsCrates, FindsIds, FindsNeedle};
 
 use crate::hidden::read_hidden;
 use crate::hit::Found;
-use crate::needle::canon_text;
 use crate::numbered::Hits;
 use crate::page::read_page;
 use memchr::memmem::Finder;
+use reg_names::canon_text;
 use reg_tables::{Edition, StoreFault, Tables, rows_of};
 use sqlite::{Alter, Connection, Error};
 use std::alloc::Global;

@@ -27,7 +27,7 @@ use Rattle.reg_tables_meaning.proofs.SummaryRows.{got_at}
 use Rattle.reg_versions.specs.Precedence.{Marked, top_place}
 use Rattle.reg_versions.specs.Versions.{parts_of}
 use Rattle.reg_service_commands.specs.ReportedCrates.{IsCrate, highest_among, line_at, line_of_crate, read_version}
-use Rattle.reg_service_commands.proofs.Rising.{canons_listed}
+use Rattle.reg_model.proofs.CanonLists.{canons_listed}
 
 abbrev read_shown : ShownVersion → Marked
 read_shown v = (parts_of v.version, v.yanked)

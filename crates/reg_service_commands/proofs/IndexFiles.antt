@@ -22,7 +22,7 @@ use Rattle.reg_tables_meaning.specs.Stands.{Ids, spelling_at}
 use Rattle.reg_service_commands.specs.Exported.{IsCrate, file_of}
 use Rattle.reg_service_requests.specs.Reads.{entry_of_version}
 use Rattle.reg_service_requests.proofs.ReadingServed.{entries_told}
-use Rattle.reg_service_commands.proofs.Rising.{canons_listed}
+use Rattle.reg_model.proofs.CanonLists.{canons_listed}
 
 pub file_told : (ids : Ids) (s : Registry) (c : Crate) (vs : List Version) → map shown_version vs ≡ told_of (spelling_at ids c.id) [] (λ name. map (version_shown s.yanked) (versions s name)) → IsCrate ids s c
     → (path_of (string_bytes c.name), file_text (map entry_of_version vs)) ≡ file_of s c

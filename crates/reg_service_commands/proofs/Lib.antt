@@ -16,7 +16,6 @@ mod Outcomes
 mod Owning
 mod Reporting
 mod ReportTexts
-mod Rising
 mod TokensAsked
 mod TokenScopes
 mod TokenWalk

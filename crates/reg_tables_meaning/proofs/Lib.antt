@@ -29,7 +29,7 @@ mod Rising
 pub mod Room
 pub mod RowReading
 pub mod Rowids
-mod ScopeRows
+pub mod ScopeRows
 pub mod Selected
 pub mod Standing
 pub mod SummaryRows

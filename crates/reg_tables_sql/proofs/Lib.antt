@@ -10,7 +10,6 @@ mod FirstIds
 mod PairQueries
 mod PairTexts
 mod Relations
-mod ReservedQueries
 mod ReservedTexts
 mod RestrictedQueries
 mod RestrictedTexts
@@ -19,12 +18,13 @@ mod ScopeQueries
 mod ScopeTexts
 mod SummaryQueries
 mod SummaryTexts
-mod TokenQueries
 mod TokenTexts
 mod Updates
 mod VersionMarkQueries
 mod VersionQueries
 mod VersionRows
 mod VersionTexts
+pub mod ReservedQueries
 pub mod StemQueries
+pub mod TokenQueries
 pub mod Walking

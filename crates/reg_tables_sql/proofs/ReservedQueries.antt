@@ -5,7 +5,7 @@ use Rattle.sqlite.specs.Collation.TheVariants.{Binary}
 use Rattle.sqlite_value.specs.Keys.{ascending}
 use Rattle.sqlite.specs.Order.{Row}
 use Rattle.sqlite.specs.Term.{col}
-use Rattle.sqlite.specs.Query.{inner, end}
+use Rattle.sqlite.specs.Query.{Query, inner, end}
 use Rattle.sqlite.specs.Program.{overlay}
 use Rattle.sqlite.specs.Listing.{understood}
 use Rattle.sqlite.specs.State.{State, Shown}
@@ -28,7 +28,10 @@ use Rattle.reg_tables_sql.specs.Reserved.{AreReserved, IsReserved, columns_of_te
 abbrev pub by_canon_text : List ℕ
 by_canon_text = codes "SELECT canon FROM reserved WHERE canon = ?1"
 
-pub by_canon_is : IsSelection ours by_canon_text (plain (inner 14 end) (equals_first 1) (col 1 1 ∷ [])) (codes "canon" ∷ [])
+abbrev pub by_canon_query : Query
+by_canon_query = plain (inner 14 end) (equals_first 1) (col 1 1 ∷ [])
+
+pub by_canon_is : IsSelection ours by_canon_text by_canon_query (codes "canon" ∷ [])
 unfolding understood everything
 by_canon_is = record { command = refl; unlisted = refl; plain = (refl, refl) }
 

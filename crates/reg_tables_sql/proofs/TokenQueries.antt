@@ -5,7 +5,7 @@ use Rattle.sqlite.specs.Collation.TheVariants.{Binary}
 use Rattle.sqlite_value.specs.Keys.{ascending}
 use Rattle.sqlite.specs.Order.{Row}
 use Rattle.sqlite.specs.Term.{Term, col}
-use Rattle.sqlite.specs.Query.{inner, end}
+use Rattle.sqlite.specs.Query.{IsSureAnswer, Query, inner, end}
 use Rattle.sqlite.specs.Program.{overlay}
 use Rattle.sqlite.specs.Listing.{understood}
 use Rattle.sqlite.specs.State.{State, Shown}
@@ -50,7 +50,10 @@ by_digest_names = codes "id" ∷ codes "account" ∷ codes "live" ∷ codes "pub
 abbrev pub by_digest_text : List ℕ
 by_digest_text = codes "SELECT t.id, t.account, t.live, t.publish_new, t.publish_update, t.yank, t.change_owners, a.login, a.enabled FROM tokens t JOIN accounts a ON a.id = t.account WHERE t.digest = ?1"
 
-pub by_digest_is : IsSelection ours by_digest_text (plain (inner 3 (inner 1 end)) by_digest_filter by_digest_project) (by_digest_names)
+abbrev pub by_digest_query : Query
+by_digest_query = plain (inner 3 (inner 1 end)) by_digest_filter by_digest_project
+
+pub by_digest_is : IsSelection ours by_digest_text by_digest_query by_digest_names
 unfolding understood everything
 by_digest_is = record { command = refl; unlisted = refl; plain = (refl, refl) }
 
@@ -62,13 +65,14 @@ by_digest_rows db digest =
     let test = same_filter of_it (is_blob 2 digest) (λ t. equals_blob (column t 2) digest) (db 3) in
     all ∙ ap (flat_map (λ t. map (token_and_account t) (filter (is_of_token t) (db 1)))) test
 
+pub by_digest_gives : (digest : List ℕ) (db : Trees) (rows : List Row) → IsSureAnswer by_digest_query (overlay db []) (Blob digest ∷ []) rows → IsPermutation (tokens_with_accounts digest db) rows
+by_digest_gives digest db rows h =
+    subst (λ xs. IsPermutation xs rows) (by_digest_rows db digest) (answers (overlay db []) (Blob digest ∷ []) (inner 3 (inner 1 end)) by_digest_filter by_digest_project rows h)
+
 pub by_digest : (old new : State) (digest : List ℕ) (found : Option TokenRow) → IsInside old → Shown by_digest_text (Blob digest ∷ []) old new (shown_of columns_with_account found)
     → IsTokenOfDigest digest old.now.trees found
 by_digest old new digest found at h =
-    let params : Row = Blob digest ∷ [] in
-    shown_exactly columns_with_account _ found
-    (subst (λ xs. IsPermutation xs (shown_of columns_with_account found)) (by_digest_rows old.now.trees digest)
-    (answers (overlay old.now.trees []) params (inner 3 (inner 1 end)) by_digest_filter by_digest_project _ (selected by_digest_is params old new _ at h)))
+    shown_exactly columns_with_account _ found (by_digest_gives digest old.now.trees _ (selected by_digest_is (Blob digest ∷ []) old new _ at h))
 
 abbrev project : List Term
 project = col 1 0 ∷ col 1 2 ∷ col 1 3 ∷ col 1 4 ∷ col 1 5 ∷ col 1 6 ∷ col 1 7 ∷ col 1 8 ∷ []

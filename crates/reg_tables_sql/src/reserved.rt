@@ -34,13 +34,15 @@ pub fn remove<S: Alter>(conn: &mut Connection<S>, canon: &str) -> Result<()>
     write(conn, text, params![canon])
 }
 
+/// A reserved name, by its canonical text.
+pub const BY_CANON_TEXT: &str = "SELECT canon FROM reserved WHERE canon = ?1";
+
 /// Whether the canonical name is reserved.
 pub fn is_there<S: Alter>(conn: &mut Connection<S>, canon: &str) -> Result<bool>
     requires { IsReady (state S.Store conn.old) }
     ensures { Finds S.Store conn.old conn.new result (IsReserved canon.now) }
 {
-    let text = "SELECT canon FROM reserved WHERE canon = ?1";
-    has_row(conn, text, params![canon])
+    has_row(conn, BY_CANON_TEXT, params![canon])
 }
 
 /// All reserved names, in order.

@@ -93,15 +93,17 @@ pub fn revoke<S: Alter>(conn: &mut Connection<S>, id: u32) -> Result<()>
     write(conn, text, params![id])
 }
 
+/// A token and its account, by the token's digest; the row is a `TokenRow`.
+pub const BY_DIGEST_TEXT: &str = "SELECT t.id, t.account, t.live, t.publish_new, \
+    t.publish_update, t.yank, t.change_owners, a.login, a.enabled FROM tokens t JOIN accounts a \
+    ON a.id = t.account WHERE t.digest = ?1";
+
 /// The token with this digest, with its account, if there is one.
 pub fn by_digest<S: Alter>(conn: &mut Connection<S>, digest: &[u8; 32]) -> Result<Option<TokenRow>>
     requires { IsReady (state S.Store conn.old) }
     ensures { Finds S.Store conn.old conn.new result (IsTokenOfDigest digest.now) }
 {
-    let text = "SELECT t.id, t.account, t.live, t.publish_new, t.publish_update, t.yank, \
-        t.change_owners, a.login, a.enabled FROM tokens t JOIN accounts a ON a.id = t.account \
-        WHERE t.digest = ?1";
-    select_one(conn, text, params![digest.as_slice()])
+    select_one(conn, BY_DIGEST_TEXT, params![digest.as_slice()])
 }
 
 /// The token with this id, if there is one.

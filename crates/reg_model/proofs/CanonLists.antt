@@ -1,4 +1,4 @@
--- Texts that rise and are the same texts are the same list.
+-- Texts that rise and are the canonical texts of the crates are their list.
 use Rattle.std.proofs.Common.{◌≡◌, true, List, [], ◌∷◌, map, Option, Some, None, Less, refl, sym, ap, ◌∙◌}
 use Rattle.std.specs.Prelude.{is_some}
 use Rattle.std.specs.FinMap as finmap
@@ -7,10 +7,12 @@ use Rattle.std.specs.List.{AllByRecursion, list_any}
 use Rattle.std.specs.List.Sorted.{IsStrictlySortedBy}
 use Rattle.std.specs.Ordering.{eq_by_cmp}
 use Rattle.std.specs.Cmp.Lexicographic.{nat_list_cmp_total}
+use Rattle.std.specs.Str.{bytes_eq}
 use Rattle.reg_model.specs.Registry.{Registry, Text, text_cmp}
-use Rattle.reg_model.specs.Crates.{canons}
-use Rattle.reg_model.proofs.Canons.{Keyed, by_canon}
+use Rattle.reg_model.specs.Crates.{canons, has_crate}
+use Rattle.reg_model.proofs.Canons.{Keyed, by_canon, key_there, text_agrees}
 use Rattle.reg_model.proofs.Keys.{text_apart}
+use Rattle.reg_model.proofs.Lists.{any_same}
 
 abbrev as_key : Text → Keyed
 as_key t = (t, tt {0})
@@ -43,3 +45,8 @@ all_canons s ts up same =
     (λ q. one_unit (entries.find text_cmp q (map as_key ts)) (entries.find text_cmp q all)
     (entries.is_some-find text_cmp q (map as_key ts) ∙ ap (list_any (eq_by_cmp text_cmp q)) (keys_back ts) ∙ same q ∙ sym (entries.is_some-find text_cmp q all))) in
     sym (keys_back ts) ∙ ap (map (λ e. e.0)) is
+
+-- the same by the crates that are there
+pub canons_listed : (s : Registry) (ts : List Text) → IsStrictlySortedBy text_cmp ts → ((t : Text) → list_any (λ u. bytes_eq u t) ts ≡ has_crate s t) → ts ≡ canons s
+canons_listed s ts up there =
+    all_canons s ts up (λ q. any_same (eq_by_cmp text_cmp q) (λ u. bytes_eq u q) (λ u. sym (text_agrees q u)) ts ∙ there q ∙ sym (key_there s q))
