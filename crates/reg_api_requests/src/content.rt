@@ -5,10 +5,10 @@ ghost use Rattle.std.specs.Option.{option_map};
 ghost use Rattle.reg_model.specs.Actions.{logins_of};
 ghost use Rattle.reg_model.specs.Events.{action_of};
 ghost use Rattle.reg_policy.specs.Events.{asked_of, publication_of};
-ghost use Rattle.reg_api_requests.specs.Contents.{asked_in};
+ghost use Rattle.reg_api_requests.specs.Contents.{asked_in, path_in};
 ghost use Rattle.reg_api_requests.specs.Publish.{release_view};
 
-use crate::publish::Release;
+use crate::publish::ReadPublication;
 use reg_model::Rule;
 use reg_policy::{Asked, NewPublication, Reading};
 use std::alloc::{AllocError, Global};
@@ -22,7 +22,7 @@ pub(crate) enum Content<'a> {
     Index(&'a str),
     Download(&'a str, &'a str),
     ListOwners(&'a str),
-    Publish(Release<'a>),
+    Publish(ReadPublication<'a>),
     Yank(&'a str, &'a str),
     Unyank(&'a str, &'a str),
     AddOwners(&'a str, Vec<String>),
@@ -63,7 +63,7 @@ fn description<'b>(text: &'b Option<String>) -> Option<&'b str>
     }
 }
 
-fn publication<'b>(release: &'b Release<'b>) -> NewPublication<'b>
+fn publication<'b>(release: &'b ReadPublication<'b>) -> NewPublication<'b>
     ensures { publication_of result ≡ release_view release.now }
 {
     NewPublication {
@@ -76,8 +76,18 @@ fn publication<'b>(release: &'b Release<'b>) -> NewPublication<'b>
     }
 }
 
+/// The path of the index file that it asks for, empty for other requests.
+pub(crate) fn index_path<'b>(content: &'b Content<'b>) -> &'b str
+    ensures { result.now ≡ path_in (asked_in content.now) }
+{
+    match content {
+        Content::Index(path) => path,
+        _ => "",
+    }
+}
+
 /// What it asks for, with the logins that it names.
-pub(crate) fn lent<'b>(content: &'b Content<'b>, logins: &'b [&'b str]) -> Asked<'b>
+pub(crate) fn lend<'b>(content: &'b Content<'b>, logins: &'b [&'b str]) -> Asked<'b>
     requires { map (λ l. l.now) logins.now ≡ logins_of (action_of (asked_in content.now)) }
     ensures { asked_of result ≡ asked_in content.now }
 {

@@ -1,5 +1,5 @@
 -- From what is decided of an index file, and what is sent of it, to the answer.
-use Rattle.std.proofs.Common.{[], ◌≡◌, ◌⊎◌, ℕ, Bool, inl, inr, refl, sym, subst, ◌∙◌, arith, length, IsTrue, List, Option, Ok, Err, Result}
+use Rattle.std.proofs.Common.{◌≡◌, ◌⊎◌, ℕ, Bool, inl, inr, refl, sym, subst, ◌∙◌, arith, length, IsTrue, List, Option, Ok, Err, Result}
 use Rattle.sqlite.specs.Effect.{Database}
 use Rattle.sqlite.specs.Order.{Row}
 use Rattle.sqlite.specs.State.{HasCleanDisk}
@@ -9,8 +9,7 @@ use Rattle.reg_tables.specs.Calling.{Asks}
 use Rattle.reg_body.specs.declared.limits.Limits.{Limits}
 use Rattle.reg_model.specs.declared.rule.Rule.{Rule}
 use Rattle.reg_model.specs.declared.rule.Rule.TheVariants as rule
-use Rattle.reg_model.specs.Actions.{logins_of}
-use Rattle.reg_model.specs.Events.{Answer, Asked, Event, action_of}
+use Rattle.reg_model.specs.Events.{Answer, Asked, Event}
 use Rattle.reg_model.specs.Events.Answer.{Denied as to_denied, File}
 use Rattle.reg_model.specs.Events.Asked.{Index}
 use Rattle.reg_model.specs.Events.Event.{Ask}
@@ -19,6 +18,7 @@ use Rattle.reg_tables_schema.specs.States.{LeavesCommit}
 use Rattle.reg_body.specs.Sent.{Sink}
 use Rattle.reg_api_requests.specs.declared.request.ApiCall.{ApiCall}
 use Rattle.reg_api_requests.specs.declared.request.ApiCall.TheVariants as call
+use Rattle.reg_api_requests.specs.Contents.{path_in}
 use Rattle.reg_api_requests.specs.Requests.{asked_by}
 use Rattle.reg_api_replies.specs.Texts.{answer_text}
 use Rattle.reg_tables_sql.specs.Stems.{AreStemsOf}
@@ -129,20 +129,20 @@ module _ {S : Type 0} (g : Ghosts S) (close : Bool) (r : Result ℕ IndexFault) 
     stopped = λ shut. sends;
   }
 
--- a request for an index file names no logins
-pub no_logins : (limits : Limits) (w : ApiCall) → AsksForFile w → logins_of (action_of (asked_by limits w)) ≡ []
-no_logins limits (call.Index path) h = refl
-no_logins limits call.Config h = absurd h
-no_logins limits (call.Download n v) h = absurd h
-no_logins limits (call.ListOwners n) h = absurd h
-no_logins limits (call.Publish body) h = absurd h
-no_logins limits (call.Yank n v) h = absurd h
-no_logins limits (call.Unyank n v) h = absurd h
-no_logins limits (call.AddOwners n body) h = absurd h
-no_logins limits (call.RemoveOwners n body) h = absurd h
-no_logins limits (call.Search q per_page) h = absurd h
+-- a request for an index file asks for its path
+pub asks_path : (limits : Limits) (w : ApiCall) → AsksForFile w → Index (path_in (asked_by limits w)) ≡ asked_by limits w
+asks_path limits (call.Index path) h = refl
+asks_path limits call.Config h = absurd h
+asks_path limits (call.Download n v) h = absurd h
+asks_path limits (call.ListOwners n) h = absurd h
+asks_path limits (call.Publish body) h = absurd h
+asks_path limits (call.Yank n v) h = absurd h
+asks_path limits (call.Unyank n v) h = absurd h
+asks_path limits (call.AddOwners n body) h = absurd h
+asks_path limits (call.RemoveOwners n body) h = absurd h
+asks_path limits (call.Search q per_page) h = absurd h
 
--- nor a version
+-- and adds no version
 pub no_versions : (limits : Limits) (w : ApiCall) → AsksForFile w → added (asked_by limits w) ≡ 0
 no_versions limits (call.Index path) h = refl
 no_versions limits call.Config h = absurd h

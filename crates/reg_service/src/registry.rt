@@ -19,7 +19,7 @@ ghost use Rattle.reg_tables.specs.Works.{held, shown};
 
 use crate::exporting::export_in;
 use crate::room::Room;
-use crate::streaming::stream_parts;
+use crate::streaming::stream_in;
 use crate::transactions::{command_in, denied, parts_in};
 use reg_api_replies::Reply;
 use reg_api_requests::{ApiRequest, read_request};
@@ -168,7 +168,17 @@ impl<S: Alter> Registry<S> {
         ensures limits { limits_of self.new ≡ limits_of self.old }
     {
         match read_request(alloc, request, &self.limits) {
-            Ok(parts) => stream_parts(&mut self.tables, &parts, close, writer, writes),
+            Ok(parts) => {
+                let path = parts.index_path();
+                stream_in(
+                    &mut self.tables,
+                    parts.digest(),
+                    path,
+                    close,
+                    writer,
+                    writes,
+                )
+            }
             Err(_) => refuse(writer, Rule::S1, close, writes),
         }
     }

@@ -1,19 +1,16 @@
 //! Index files, sent as they are read. The request is decided in a transaction that keeps nothing.
 
-ghost use Rattle.std.specs.Prelude.{◌≡◌, [], true, IsErr};
+ghost use Rattle.std.specs.Prelude.{◌≡◌, true, IsErr};
 ghost use Rattle.std.specs.Option.{option_map};
-ghost use Rattle.reg_model.specs.Actions.{logins_of};
-ghost use Rattle.reg_model.specs.Events.{action_of};
 ghost use Rattle.reg_model.specs.Events.Asked.{Index as to_index};
 ghost use Rattle.reg_body.specs.Sent.{sink};
 ghost use Rattle.reg_tables.specs.Works.{is_shut};
 ghost use Rattle.reg_service.specs.Answered.{AreUpToDate, WasClean};
 ghost use Rattle.reg_service.specs.Streamed.{IsDecided, IsStreamed, LeavesStream, MayStream};
 
-use reg_api_requests::Parts;
 use reg_body::Counted;
 use reg_line::Digest;
-use reg_policy::{Asked, Rule};
+use reg_policy::Rule;
 use reg_service_index::laws::file_law;
 use reg_service_index::{Decided, IndexFault, decide_file, refuse, send_file};
 use reg_tables::{Result, StoreFault, Tables};
@@ -41,7 +38,7 @@ fn decide_in<S: Alter>(
 }
 
 /// Answers a request for the index file at a path.
-fn stream_in<S: Alter, W: Write>(
+pub(crate) fn stream_in<S: Alter, W: Write>(
     tables: &mut Tables<S>,
     digest: Option<&Digest>,
     path: &str,
@@ -62,27 +59,5 @@ fn stream_in<S: Alter, W: Write>(
         Ok(Decided::Denied(rule)) => refuse(w, rule, close, writes),
         Ok(Decided::Found(file)) => send_file(tables, &file, close, w, writes),
         Err(_) => refuse(w, Rule::S1, close, writes),
-    }
-}
-
-/// Answers a request that was read.
-pub(crate) fn stream_parts<S: Alter, W: Write>(
-    tables: &mut Tables<S>,
-    parts: &Parts<'_>,
-    close: bool,
-    w: &mut Counted<W>,
-    writes: u64,
-) -> Result<u64, IndexFault>
-    requires may { MayStream S.Store tables.old w.old writes }
-    requires plain { logins_of (action_of parts.now.asked) ≡ [] }
-    ensures streams { (limits : _) → IsStreamed S.Store limits parts.now.digest parts.now.asked
-        close result writes tables.old tables.new (sink (W.contents w.old.inner) w.old)
-        (sink (W.contents w.new.inner) w.new) }
-    ensures leaves { LeavesStream S.Store close result writes tables.old tables.new
-        (sink (W.contents w.old.inner) w.old) (sink (W.contents w.new.inner) w.new) }
-{
-    match parts.asked(&[]) {
-        Asked::Index(path) => stream_in(tables, parts.digest(), path, close, w, writes),
-        _ => refuse(w, Rule::S1, close, writes),
     }
 }
