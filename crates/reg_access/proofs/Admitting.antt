@@ -30,7 +30,7 @@ use Rattle.reg_access.specs.declared.admission.Admission.{Admission}
 use Rattle.reg_access.specs.declared.admission.Admission.TheVariants.{Allowed, Denied}
 use Rattle.reg_access.specs.declared.admission.Caller.{Caller}
 use Rattle.reg_access.specs.declared.admission.FoundCrate.{FoundCrate}
-use Rattle.reg_access.specs.declared.finding.Found.{Found}
+use Rattle.reg_access.specs.declared.finding.CrateFacts.{CrateFacts}
 use Rattle.reg_access.specs.declared.found.CrateRow.{CrateRow}
 use Rattle.reg_access.specs.Found.{AreFound, facts_found, rows_of}
 use Rattle.reg_access.specs.JoinRows.{crates_seen_by, is_there, names_version, text_in, value_at}
@@ -81,14 +81,14 @@ held : (p : CrateRow → Bool) (row : Option CrateRow) → holds p row ≡ true 
 held p None e = absurd cc
 held p (Some r) e = refl
 
-pub has_its_crate : (a : Action) (t : TokenRow) (it : Found) (found : Option FoundCrate) → access (facts_found a t it) a ≡ None → found ≡ option_map shown_crate it.row → needs_crate a ≡ true → is_some found ≡ true
+pub has_its_crate : (a : Action) (t : TokenRow) (it : CrateFacts) (found : Option FoundCrate) → access (facts_found a t it) a ≡ None → found ≡ option_map shown_crate it.row → needs_crate a ≡ true → is_some found ≡ true
 has_its_crate a t it found passes is needs = ap is_some is ∙ held _ it.row (is_seen (facts_found a t it) a needs passes)
 
-pub has_its_version : (a : Action) (t : TokenRow) (it : Found) → access (facts_found a t it) a ≡ None → names_version a ≡ true → is_some it.version ≡ true
+pub has_its_version : (a : Action) (t : TokenRow) (it : CrateFacts) → access (facts_found a t it) a ≡ None → names_version a ≡ true → is_some it.version ≡ true
 has_its_version a t it passes names = has_version (facts_found a t it) a names passes
 
 -- what is made of what was found is what the rows show
-pub admission_made : (digest : Text) (a : Action) (db : Trees) (t : TokenRow) (it : Found) (m : Admission) → tokens_with_accounts digest db ≡ columns_with_account t ∷ [] → AreFound a t.id t.account db it → IsAdmitted a t it m → IsAdmission digest a db m
+pub admission_made : (digest : Text) (a : Action) (db : Trees) (t : TokenRow) (it : CrateFacts) (m : Admission) → tokens_with_accounts digest db ≡ columns_with_account t ∷ [] → AreFound a t.id t.account db it → IsAdmitted a t it m → IsAdmission digest a db m
 admission_made digest a db t it m known are made = record { decided = found_verdict db digest a t it known are (decision_in m) made.decided; shown = by m made.handed }
   where
     by : (m : Admission) → OfCaller m (IsCallerIn t it) → OfCaller m (ShowsCaller digest a db)

@@ -17,7 +17,7 @@ use Rattle.reg_tables_schema.specs.Shown.{shown_of}
 use Rattle.reg_tables_sql.specs.declared.tokens.TokenRow.{TokenRow}
 use Rattle.reg_tables_sql.specs.Tokens.{columns_with_account, tokens_with_accounts}
 use Rattle.reg_access.specs.declared.found.CrateRow.{CrateRow}
-use Rattle.reg_access.specs.declared.finding.Found.{Found}
+use Rattle.reg_access.specs.declared.finding.CrateFacts.{CrateFacts}
 use Rattle.reg_access.specs.Found.{AreFound, facts_found, is_owned, is_visible, number_or_null, rows_of, scopes_asked, spelling_in}
 use Rattle.reg_access.specs.JoinRows.{against_rows, crates_seen_by, is_mark_set, is_shown, is_there, last_rows, named_rows, names_version, publishes, scopes_over, text_in, value_at, versions_with_text}
 use Rattle.reg_access.specs.Verdict.{IsVerdict, endpoints_in, facts_in, is_always_reserved, is_seen, join_rows, needs_scope}
@@ -93,7 +93,7 @@ none_found a token account db h = record {
 }
 
 -- a crate that is named, and what each text tells of it
-pub named_found : (a : Action) (n : Text) (token account : ℕ) (db : Trees) (it : Found) → crate_of a ≡ Some n → is_there (scopes_asked a token db) ≡ it.covered → crates_seen_by (canon n) (Int (pos account)) db ≡ rows_of it.row → named_rows a (rows_of it.row) db ≡ shown_of number_columns it.version
+pub named_found : (a : Action) (n : Text) (token account : ℕ) (db : Trees) (it : CrateFacts) → crate_of a ≡ Some n → is_there (scopes_asked a token db) ≡ it.covered → crates_seen_by (canon n) (Int (pos account)) db ≡ rows_of it.row → named_rows a (rows_of it.row) db ≡ shown_of number_columns it.version
     → is_there (against_rows a (rows_of it.row) db) ≡ it.against → AreFound a token account db it
 named_found a n token account db it named covered row version against = record { covered = covered; row = ap (lists (λ n. crates_seen_by (canon n) (Int (pos account)) db)) named ∙ row; version = version; against = against }
 
@@ -108,7 +108,7 @@ module _ (db : Trees) (digest : Text) (a : Action) where
   pub unknown_verdict : tokens_with_accounts digest db ≡ [] → IsVerdict digest a db (decision_of (Some rule.A2))
   unknown_verdict h = ap decision_of (sym (unknown_first (facts_in (join_rows db digest a) a) a (ap is_there h)))
 
-  module _ (t : TokenRow) (it : Found) (known : tokens_with_accounts digest db ≡ columns_with_account t ∷ []) (found : AreFound a t.id t.account db it) where
+  module _ (t : TokenRow) (it : CrateFacts) (known : tokens_with_accounts digest db ≡ columns_with_account t ∷ []) (found : AreFound a t.id t.account db it) where
     crate_rows : (join_rows db digest a).of_crate ≡ rows_of it.row
     crate_rows = ap (λ rs. lists (λ n. crates_seen_by (canon n) (value_at rs 1) db) (crate_of a)) known ∙ found.row
 

@@ -24,7 +24,7 @@ use Rattle.reg_access.specs.declared.admission.Admission.{Admission}
 use Rattle.reg_access.specs.declared.admission.Admission.TheVariants.{Allowed, Denied}
 use Rattle.reg_access.specs.declared.admission.Caller.{Caller}
 use Rattle.reg_access.specs.declared.admission.FoundCrate.{FoundCrate}
-use Rattle.reg_access.specs.declared.finding.Found.{Found}
+use Rattle.reg_access.specs.declared.finding.CrateFacts.{CrateFacts}
 use Rattle.reg_access.specs.declared.found.CrateRow.{CrateRow}
 use Rattle.reg_access.specs.Found.{AreFound, facts_found}
 use Rattle.reg_access.specs.JoinRows.{names_version}
@@ -96,7 +96,7 @@ abbrev pub shown_crate : CrateRow → FoundCrate
 shown_crate r = record { id = r.id; name = r.name }
 
 -- this token and its account, and the crate and the version of what was found
-pub record IsCallerIn (t : TokenRow) (it : Found) (c : Caller) : Type 0 where
+pub record IsCallerIn (t : TokenRow) (it : CrateFacts) (c : Caller) : Type 0 where
   pub token : c.token ≡ t.id
   pub login : c.login ≡ t.login
   pub account : c.account ≡ t.account
@@ -104,7 +104,7 @@ pub record IsCallerIn (t : TokenRow) (it : Found) (c : Caller) : Type 0 where
   pub version : c.version ≡ it.version
 
 -- what follows from them
-pub record IsAdmitted (a : Action) (t : TokenRow) (it : Found) (m : Admission) : Type 0 where
+pub record IsAdmitted (a : Action) (t : TokenRow) (it : CrateFacts) (m : Admission) : Type 0 where
   pub decided : decision_in m ≡ decision_of (access (facts_found a t it) a)
   pub handed : OfCaller m (IsCallerIn t it)
   pub there : HasItsCrate a m
@@ -113,7 +113,7 @@ pub record IsAdmitted (a : Action) (t : TokenRow) (it : Found) (m : Admission) :
 -- the token, the account, the crate and the version are those of the rows
 pub record ShowsCaller (digest : Text) (a : Action) (db : Trees) (c : Caller) : Type 0 where
   pub token : TokenRow
-  pub it : Found
+  pub it : CrateFacts
   pub known : tokens_with_accounts digest db ≡ columns_with_account token ∷ []
   pub are : AreFound a token.id token.account db it
   pub handed : IsCallerIn token it c

@@ -13,7 +13,7 @@ use Rattle.reg_tables_schema.specs.Rows.{number_columns}
 use Rattle.reg_tables_schema.specs.Shown.{shown_of}
 use Rattle.reg_tables_sql.specs.declared.tokens.TokenRow.{TokenRow}
 use Rattle.reg_access.specs.declared.found.CrateRow.{CrateRow}
-use Rattle.reg_access.specs.declared.finding.Found.{Found}
+use Rattle.reg_access.specs.declared.finding.CrateFacts.{CrateFacts}
 use Rattle.reg_access.specs.JoinRows.{against_rows, crates_seen_by, is_there, named_rows, scopes_over}
 use Rattle.reg_access.specs.Verdict.{is_always_reserved, needs_scope}
 
@@ -47,7 +47,7 @@ scopes_asked a token db =
     else []
 
 -- this is what the texts tell of the crate of an action, to a token with this id and this account
-pub record AreFound (a : Action) (token account : ℕ) (db : Trees) (it : Found) : Type 0 where
+pub record AreFound (a : Action) (token account : ℕ) (db : Trees) (it : CrateFacts) : Type 0 where
   pub covered : is_there (scopes_asked a token db) ≡ it.covered
   pub row : lists (λ n. crates_seen_by (canon n) (Int (pos account)) db) (crate_of a)
       ≡ rows_of it.row
@@ -55,7 +55,7 @@ pub record AreFound (a : Action) (token account : ℕ) (db : Trees) (it : Found)
   pub against : is_there (against_rows a (rows_of it.row) db) ≡ it.against
 
 -- the facts that a token and what was found are
-abbrev pub facts_found : Action → TokenRow → Found → Access
+abbrev pub facts_found : Action → TokenRow → CrateFacts → Access
 facts_found a t it = record {
   is_known = true;
   is_live = t.live;

@@ -6,7 +6,7 @@ ghost use Rattle.reg_policy.specs.Views.{action_of};
 ghost use Rattle.reg_access.specs.Admitted.{IsAdmitted, decision_in, shown_crate};
 
 use crate::deciding::first_broken;
-use crate::finding::Found;
+use crate::finding::CrateFacts;
 use crate::found::CrateRow;
 use reg_model::Rule;
 use reg_names::CrateName;
@@ -91,7 +91,7 @@ fn crate_of_row(row: Option<CrateRow>) -> Option<FoundCrate>
 }
 
 /// The admission of an action, given what was found.
-pub(crate) fn admission_of(token: TokenRow, found: Found, action: &Action) -> Admission
+pub(crate) fn admission_of(token: TokenRow, found: CrateFacts, action: &Action) -> Admission
     ensures { IsAdmitted (action_of action.now) token found result }
 {
     match first_broken(&token, &found, action) {

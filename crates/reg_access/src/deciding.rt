@@ -10,12 +10,12 @@ ghost use Rattle.reg_tables_sql.specs.declared.tokens.TokenRow.{TokenRow as AnyT
 ghost use Rattle.reg_access.specs.Found.{facts_found, is_owned as is_owned_of, is_visible as is_visible_of, spelling_in};
 ghost use Rattle.reg_access.specs.Verdict.{is_always_reserved as is_always_reserved_of};
 
-use crate::finding::Found;
+use crate::finding::CrateFacts;
 use crate::found::CrateRow;
 use reg_model::Rule;
 use reg_names::{canon, index_path};
 use reg_policy::{
-    Action, Decision, crate_of, has_endpoint, is_reserved_always, needed, order, same_text,
+    Action, Decision, crate_of, has_endpoint, is_reserved_always, needed, rules_in_order, same_text,
 };
 use reg_tables::TokenRow;
 
@@ -59,7 +59,7 @@ fn has_path(row: &Option<CrateRow>, path: &str) -> bool
 }
 
 /// Whether the account sees no crate, or none at this path.
-fn is_absent(found: &Found, action: &Action) -> bool
+fn is_absent(found: &CrateFacts, action: &Action) -> bool
     ensures { (t : AnyToken) → result ≡ is_absent_of
         (facts_found (action_of action.now) t found.now) (action_of action.now) }
 {
@@ -74,7 +74,7 @@ fn is_absent(found: &Found, action: &Action) -> bool
 }
 
 /// Whether the crate is there, but spelled differently than published.
-fn is_misspelled(found: &Found, action: &Action) -> bool
+fn is_misspelled(found: &CrateFacts, action: &Action) -> bool
     ensures { (t : AnyToken) → result ≡ is_misspelled_of
         (facts_found (action_of action.now) t found.now) (action_of action.now) }
 {
@@ -100,7 +100,7 @@ fn is_always_reserved(action: &Action) -> bool
 }
 
 /// Whether the rule is on access and the action breaks it. A token that was found is known.
-fn breaks_rule(token: &TokenRow, found: &Found, action: &Action, rule: Rule) -> bool
+fn breaks_rule(token: &TokenRow, found: &CrateFacts, action: &Action, rule: Rule) -> bool
     ensures { result ≡ breaks (facts_found (action_of action.now) token.now found.now)
         (action_of action.now) rule }
 {
@@ -125,11 +125,11 @@ fn breaks_rule(token: &TokenRow, found: &Found, action: &Action, rule: Rule) -> 
 
 /// The first access rule that the action breaks.
 #[tactic(auto, using(crate::proofs::AccessOrder::in_whole_order))]
-pub(crate) fn first_broken(token: &TokenRow, found: &Found, action: &Action) -> Decision
+pub(crate) fn first_broken(token: &TokenRow, found: &CrateFacts, action: &Action) -> Decision
     ensures { result ≡ decision_of
         (access (facts_found (action_of action.now) token.now found.now) (action_of action.now)) }
 {
-    for rule in order(found.row.is_some(), action) {
+    for rule in rules_in_order(found.row.is_some(), action) {
         if breaks_rule(token, found, action, *rule) {
             return Decision::Denied(*rule);
         }

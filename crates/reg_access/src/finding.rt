@@ -20,7 +20,7 @@ use sqlite::Alter;
 
 /// What was found about an action's crate; what the action does not ask is false or missing.
 #[derive(Drop)]
-pub(crate) struct Found {
+pub(crate) struct CrateFacts {
     /// Whether a scope of the token covers its name.
     pub covered: bool,
     pub row: Option<CrateRow>,
@@ -116,7 +116,7 @@ fn find_named<S: Alter>(
     token: &TokenRow,
     name: &CrateName,
     action: &Action,
-) -> Result<Found>
+) -> Result<CrateFacts>
     requires at_work { IsAtWork S.Store work.old }
     requires goes_on { has_failed work.old ≡ false }
     requires named { crate_asked (action_of action.now) ≡ Some name.now }
@@ -127,7 +127,7 @@ fn find_named<S: Alter>(
     let row = find_crate(work, &canon(name), token.account)?;
     let version = find_version_named(work, &row, action)?;
     let against = stands_against(work, &row, action)?;
-    Ok(Found {
+    Ok(CrateFacts {
         covered,
         row,
         version,
@@ -140,14 +140,14 @@ pub(crate) fn find_all<S: Alter>(
     work: &mut Work<'_, S>,
     token: &TokenRow,
     action: &Action,
-) -> Result<Found>
+) -> Result<CrateFacts>
     requires at_work { IsAtWork S.Store work.old }
     requires goes_on { has_failed work.old ≡ false }
     ensures { Asks S.Store work.old work.new result
         (AreFound (action_of action.now) token.now.id token.now.account) }
 {
     match crate_of(action) {
-        None => Ok(Found {
+        None => Ok(CrateFacts {
             covered: false,
             row: None,
             version: None,

@@ -12,7 +12,7 @@ use Rattle.reg_model.specs.declared.rule.Rule.{Rule}
 use Rattle.reg_model.specs.Faults.{rule_of_body, rule_of_manifest}
 use Rattle.reg_model.specs.Registry.{Publication, Text}
 use Rattle.reg_api_requests.specs.Bodies.{body_parts}
-use Rattle.reg_api_requests.specs.declared.publish.Release.{Release}
+use Rattle.reg_api_requests.specs.declared.publish.ReadPublication.{ReadPublication}
 use Rattle.reg_api_requests.specs.declared.fault.RequestFault.{RequestFault}
 use Rattle.reg_api_requests.specs.declared.fault.RequestFault.TheVariants.{Broken, Memory}
 
@@ -45,7 +45,7 @@ unfoldable pub publish_of : Limits → Text → Result Publication Rule
 publish_of limits body = with_parts (body_parts limits body)
 
 -- what is read of a publish body, as a version that is published
-abbrev pub release_view : Release → Publication
+abbrev pub release_view : ReadPublication → Publication
 release_view r = record {
   name = r.manifest.name;
   version = string_bytes r.manifest.vers;

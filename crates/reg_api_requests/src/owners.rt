@@ -12,7 +12,7 @@ use reg_manifest::fields::{field, members, read_json, texts};
 use serde_json::Value;
 use std::alloc::{AllocError, Global};
 
-fn counted(limits: &Limits, users: Vec<String>) -> Result<Vec<String>, ManifestFault>
+fn check_count(limits: &Limits, users: Vec<String>) -> Result<Vec<String>, ManifestFault>
     ensures { Gives (λ v. map string_bytes v.items) result
         (counted limits.now (map string_bytes users.items)) }
 {
@@ -31,7 +31,7 @@ fn users(alloc: Global, limits: &Limits, value: &Value) -> Result<Vec<String>, M
         return Err(ManifestFault::Field);
     };
     let users = texts(alloc, users)?;
-    counted(limits, users)
+    check_count(limits, users)
 }
 
 #[tactic(auto, unfolding(crate::specs::Owners::users_in))]

@@ -18,7 +18,7 @@ use std::alloc::{AllocError, Global};
 
 /// A published version, read from a body; the archive stays a part of it.
 #[derive(Drop)]
-pub(crate) struct Release<'a> {
+pub(crate) struct ReadPublication<'a> {
     pub(crate) manifest: Manifest,
     pub(crate) stem: Vec<u8>,
     pub(crate) digest: Digest,
@@ -39,7 +39,7 @@ fn with_stem<'a>(
     alloc: Global,
     manifest: Manifest,
     archive: &'a [u8],
-) -> Result<Release<'a>, AllocError>
+) -> Result<ReadPublication<'a>, AllocError>
     requires { keeps_rules (manifest_view manifest) ≡ true }
     ensures made { IfOk result (λ r. release_view r
         ≡ publication_of archive.now (manifest_view manifest)) }
@@ -47,7 +47,7 @@ fn with_stem<'a>(
 {
     let digest = digest_of(archive);
     let stem = stem(alloc, &manifest, &digest)?;
-    Ok(Release {
+    Ok(ReadPublication {
         manifest,
         stem,
         digest,
@@ -60,7 +60,7 @@ fn read_metadata<'a>(
     alloc: Global,
     json: &[u8],
     archive: &'a [u8],
-) -> Result<Release<'a>, RequestFault>
+) -> Result<ReadPublication<'a>, RequestFault>
     ensures read { Reads release_view result (with_metadata archive.now (metadata_of json.now)) }
     ensures genuine { IfOk result (λ r. IsGenuine (release_view r)) }
     ensures own { IfErr result IsOwn }
@@ -75,7 +75,7 @@ pub(crate) fn read_publish<'a>(
     alloc: Global,
     limits: &Limits,
     body: &'a [u8],
-) -> Result<Release<'a>, RequestFault>
+) -> Result<ReadPublication<'a>, RequestFault>
     ensures read { Reads release_view result (publish_of limits.now body.now) }
     ensures genuine { IfOk result (λ r. IsGenuine (release_view r)) }
     ensures own { IfErr result IsOwn }

@@ -7,7 +7,7 @@ use Rattle.clap.specs.declared.builder.command.Command.{Command}
 use Rattle.clap.specs.declared.builder.command.Command.TheViews.{out-Command as fields_of}
 use Rattle.reg_model.specs.Registry.{Text}
 use Rattle.reg_cli_words.specs.Grammar.{level, named_level}
-use Rattle.reg_cli_words.specs.declared.parameters.Entry.{Entry}
+use Rattle.reg_cli_words.specs.declared.parameters.HelpEntry.{HelpEntry}
 use Rattle.reg_cli_words.specs.declared.parameters.Shape.{Shape}
 
 -- the argument has this rule, and is one of its own command alone
@@ -33,7 +33,7 @@ abbrev pub AddsLevel : Result Command AllocError → Command → Result Command 
 AddsLevel made old result = IfOk result (λ new. (a : App) (s : Level) → IfOk made (HasLevel s)
     → HasRules a old → HasRules (with_subcommand a s) new)
 
-abbrev pub entry_level : Shape → Entry → Level
+abbrev pub entry_level : Shape → HelpEntry → Level
 entry_level shape entry = level shape entry.name.now entry.words
 
 -- a subcommand of this name is made by these rules

@@ -29,7 +29,7 @@ pub(crate) enum Words {
 
 /// A subcommand, as help shows it.
 #[derive(Clone, Copy)]
-pub(crate) struct Entry {
+pub(crate) struct HelpEntry {
     pub(crate) name: &'static str,
     pub(crate) about: &'static str,
     pub(crate) example: &'static str,
@@ -40,7 +40,7 @@ pub(crate) struct Entry {
 pub(crate) type MadeCommand<'a> = std::result::Result<Command<'a>, AllocError>;
 
 /// An argument with a value.
-fn valued<'a>(alloc: Global, name: &'a str, value: &'a str, help: &'a str) -> Arg<'a>
+fn with_value<'a>(alloc: Global, name: &'a str, value: &'a str, help: &'a str) -> Arg<'a>
     ensures { HasRule (value_rule name.entry.now) result }
 {
     Arg::new(alloc, name)
@@ -53,14 +53,14 @@ fn valued<'a>(alloc: Global, name: &'a str, value: &'a str, help: &'a str) -> Ar
 pub(crate) fn word<'a>(alloc: Global, name: &'a str, help: &'a str) -> Arg<'a>
     ensures { HasRule (word_rule name.entry.now) result }
 {
-    valued(alloc, name, name, help).required(true)
+    with_value(alloc, name, name, help).required(true)
 }
 
 /// An option with a value; it may be omitted.
 pub(crate) fn option<'a>(alloc: Global, name: &'a str, value: &'a str, help: &'a str) -> Arg<'a>
     ensures { HasRule (option_rule name.entry.now) result }
 {
-    valued(alloc, name, value, help).long(name)
+    with_value(alloc, name, value, help).long(name)
 }
 
 /// An option without a value.
@@ -119,7 +119,7 @@ pub(crate) fn described<'a>(
 }
 
 /// The subcommand of an entry.
-pub(crate) fn subcommand<'a>(alloc: Global, shape: Shape, entry: &Entry) -> MadeCommand<'a>
+pub(crate) fn subcommand<'a>(alloc: Global, shape: Shape, entry: &HelpEntry) -> MadeCommand<'a>
     ensures { IfOk result (HasLevel (entry_level shape entry.now)) }
 {
     let command = described(alloc, entry.name, entry.about, entry.example);
@@ -141,7 +141,7 @@ pub(crate) fn with_level<'a>(command: Command<'a>, made: MadeCommand<'a>) -> Mad
 pub(crate) fn with_entries<'a>(
     alloc: Global,
     shape: Shape,
-    entries: &[Entry],
+    entries: &[HelpEntry],
     mut command: Command<'a>,
 ) -> MadeCommand<'a>
     ensures { Adds (λ a. with_levels a (map (entry_level shape) entries.now)) command.entry result }

@@ -9,31 +9,31 @@ ghost use Rattle.reg_cli_words.specs.Grammar.{plain_levels, report_words, with_l
 ghost use Rattle.reg_cli_words.specs.Making.{Adds};
 ghost use Rattle.reg_cli_words.specs.Orders.{given_by, report_command};
 
-use crate::parameters::{Entry, MadeCommand, Shape, Words, with_entries};
+use crate::parameters::{HelpEntry, MadeCommand, Shape, Words, with_entries};
 use clap::{ArgMatches, Command};
 use reg_policy::AdminCommand;
 use std::alloc::Global;
 
-const REPORTS: [Entry; 4] = [
-    Entry {
+const REPORTS: [HelpEntry; 4] = [
+    HelpEntry {
         name: "users",
         about: "Lists the accounts: number, login, whether it is enabled, name",
         example: "Example:\n  registry_cli users --db r.db",
         words: Words::Nothing,
     },
-    Entry {
+    HelpEntry {
         name: "tokens",
         about: "Lists the tokens: number, login, whether it is live, endpoints, patterns",
         example: "Example:\n  registry_cli tokens --db r.db",
         words: Words::Nothing,
     },
-    Entry {
+    HelpEntry {
         name: "crates",
         about: "Lists the crates: name, number of versions, highest version",
         example: "Example:\n  registry_cli crates --db r.db",
         words: Words::Nothing,
     },
-    Entry {
+    HelpEntry {
         name: "access",
         about: "Lists who may act on a crate, by which token and endpoint, and who reads it where \
                 it is restricted; of a free name, who may publish it first",

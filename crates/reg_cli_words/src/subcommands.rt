@@ -6,19 +6,19 @@ ghost use Rattle.reg_cli_words.specs.Making.{Adds, HasLevel, HasRule};
 ghost use Rattle.reg_cli_words.specs.declared.parameters.Words.TheVariants.{Login};
 
 use crate::parameters::{
-    Entry, MadeCommand, Shape, Words, option, subcommand, with_entries, with_level,
+    HelpEntry, MadeCommand, Shape, Words, option, subcommand, with_entries, with_level,
 };
 use clap::{Arg, Command};
 use std::alloc::{AllocError, Global};
 
-const USER_ADD: Entry = Entry {
+const USER_ADD: HelpEntry = HelpEntry {
     name: "user-add",
     about: "Adds an account. A login has 1 to 32 of a to z, 0 to 9, - and _, a letter first",
     example: "Example:\n  registry_cli user-add ada --name 'Ada Lovelace' --db r.db",
     words: Words::Login,
 };
 
-const TOKEN_ADD: Entry = Entry {
+const TOKEN_ADD: HelpEntry = HelpEntry {
     name: "token-add",
     about: "Adds a token of an account. Prints its number, and its text, which is kept nowhere; \
             with --digest its number alone",
@@ -28,62 +28,62 @@ const TOKEN_ADD: Entry = Entry {
 };
 
 /// The subcommands that need no options.
-const PLAIN: [Entry; 10] = [
-    Entry {
+const PLAIN: [HelpEntry; 10] = [
+    HelpEntry {
         name: "user-disable",
         about: "Disables an account: its tokens are refused until it is enabled again",
         example: "Example:\n  registry_cli user-disable bob --db r.db",
         words: Words::Login,
     },
-    Entry {
+    HelpEntry {
         name: "user-enable",
         about: "Enables an account again",
         example: "Example:\n  registry_cli user-enable bob --db r.db",
         words: Words::Login,
     },
-    Entry {
+    HelpEntry {
         name: "token-revoke",
         about: "Revokes a token, for good",
         example: "Example:\n  registry_cli token-revoke 3 --db r.db",
         words: Words::Id,
     },
-    Entry {
+    HelpEntry {
         name: "reserve",
         about: "Reserves a name: no new crate takes it",
         example: "Example:\n  registry_cli reserve acme --db r.db",
         words: Words::Name,
     },
-    Entry {
+    HelpEntry {
         name: "unreserve",
         about: "Sets a reserved name free; con, nul and their like stay reserved",
         example: "Example:\n  registry_cli unreserve acme --db r.db",
         words: Words::Name,
     },
-    Entry {
+    HelpEntry {
         name: "owner-add",
         about: "Makes an account an owner of a crate, without asking a token",
         example: "Example:\n  registry_cli owner-add acme-net bob --db r.db",
         words: Words::CrateAndLogin,
     },
-    Entry {
+    HelpEntry {
         name: "crate-restrict",
         about: "Lets only its owners and readers see a crate",
         example: "Example:\n  registry_cli crate-restrict acme-net --db r.db",
         words: Words::Crate,
     },
-    Entry {
+    HelpEntry {
         name: "crate-open",
         about: "Lets every token see a crate again",
         example: "Example:\n  registry_cli crate-open acme-net --db r.db",
         words: Words::Crate,
     },
-    Entry {
+    HelpEntry {
         name: "reader-add",
         about: "Makes an account a reader of a crate, which counts where the crate is restricted",
         example: "Example:\n  registry_cli reader-add acme-net bob --db r.db",
         words: Words::CrateAndLogin,
     },
-    Entry {
+    HelpEntry {
         name: "reader-remove",
         about: "Makes an account no reader of a crate",
         example: "Example:\n  registry_cli reader-remove acme-net bob --db r.db",

@@ -11,7 +11,7 @@ use Rattle.reg_model.specs.declared.rule.Rule.TheVariants.{H1, H2, H3, H4, H5}
 use Rattle.reg_http_read.specs.Fields as spec
 use Rattle.reg_http_read.specs.Heads.{Facts, answers_head, facts_from, greatest_body, judge_head, judge_parts, with_asked}
 use Rattle.reg_http_read.specs.Reads.{HasAsked, IsAnswer, IsAsked, IsJudgement, facts_of}
-use Rattle.reg_http_read.specs.declared.asked.Asked.{Asked}
+use Rattle.reg_http_read.specs.declared.asked.FieldsAsked.{FieldsAsked}
 use Rattle.reg_http_read.specs.declared.head.Head.{Head}
 use Rattle.reg_http_read.specs.declared.head.HeadRead.TheVariants as read
 use Rattle.reg_http_read.specs.declared.head.HeadRead.{HeadRead}
@@ -23,7 +23,7 @@ less : (a b : ℕ) → a < b → ltb a b ≡ true
 less a b lt = grind (arith, nat_tests)
 
 -- a number that is at most the greatest was not cut off
-pub length_judged : (most greatest minor : ℕ) (fields : List spec.Field) (it : Asked) (n : ℕ) (o : Option ℕ)
+pub length_judged : (most greatest minor : ℕ) (fields : List spec.Field) (it : FieldsAsked) (n : ℕ) (o : Option ℕ)
     → greatest < 2 ^ 64 - 1 → Some n ≡ option_map (λ k. min k (2 ^ 64 - 1)) o → n ≤ greatest
     → HasAsked it (spec.asked_for minor fields n)
     → IsAsked (Ok it) (spec.with_length most greatest minor fields o)
@@ -64,8 +64,8 @@ module _ (most greatest minor : ℕ) (fields : List spec.Field) where
   large_judged n (Some m) is large =
       let cut : n ≡ min m (2 ^ 64 - 1) = cc in rw (less greatest m (omega arith)) refl
 
-module _ (asked : spec.Asked) where
-  past_rule : (b : Bool) (r : Rule) (x : Result spec.Asked Rule) → cond b (Err r) x ≡ Ok asked → x ≡ Ok asked
+module _ (asked : spec.FieldsAsked) where
+  past_rule : (b : Bool) (r : Rule) (x : Result spec.FieldsAsked Rule) → cond b (Err r) x ≡ Ok asked → x ≡ Ok asked
   past_rule true r x is = absurd cc
   past_rule false r x is = is
 
@@ -87,8 +87,8 @@ module _ (asked : spec.Asked) where
         (past_rule _ H3 _ (past_rule _ H1 _ (past_rule _ H2 _ is)))
 
 module _ (method target : List ℕ) (n : ℕ) (f : Facts) where
-  with_asked_is : (x : Result spec.Asked Rule) → with_asked method target n x ≡ Ok f
-      → (f.len ≡ n) × ((a : spec.Asked) × (x ≡ Ok a) × (f.body_len ≡ a.body_len))
+  with_asked_is : (x : Result spec.FieldsAsked Rule) → with_asked method target n x ≡ Ok f
+      → (f.len ≡ n) × ((a : spec.FieldsAsked) × (x ≡ Ok a) × (f.body_len ≡ a.body_len))
   with_asked_is (Ok a) is =
       let same : facts_from method target n a ≡ f = cc in
       (sym (ap (λ g. g.len) same), (a, refl, sym (ap (λ g. g.body_len) same)))
@@ -125,7 +125,7 @@ pub answer_of_parts : (limits : Limits) (h : RequestHead) (it : HeadRead) (m t :
 unfolding judge_head
 answer_of_parts limits h it m t minor n fields em et ei en ef a = rw (em, et, ei, en, ef) at a
 
-pub refused_parts : (method target : List ℕ) (n : ℕ) (x : Result spec.Asked Rule) (rule : Rule) (head_only : Bool)
+pub refused_parts : (method target : List ℕ) (n : ℕ) (x : Result spec.FieldsAsked Rule) (rule : Rule) (head_only : Bool)
     → IsAsked (Err rule) x → head_only ≡ answers_head rule method
     → IsAnswer (read.Refused rule head_only) method (with_asked method target n x)
 refused_parts method target n (Ok a) rule head_only asked told = absurd asked

@@ -81,14 +81,14 @@ closes fields = nat_lt 0 (count_by
     (λ p. is_named (codes "connection") p && lists_word (codes "close") p.1) fields)
 
 -- what fields ask for
-pub record Asked : Type 0 where
+pub record FieldsAsked : Type 0 where
   pub token : Option Text
   pub body_len : ℕ
   pub interim : Bool
   pub close : Bool
 
 -- what the fields ask for, where the body has n bytes
-abbrev pub asked_for : ℕ → List Field → ℕ → Asked
+abbrev pub asked_for : ℕ → List Field → ℕ → FieldsAsked
 asked_for minor fields n = record {
   token = only_of (codes "authorization") fields;
   body_len = n;
@@ -97,13 +97,13 @@ asked_for minor fields n = record {
 }
 
 module _ (most greatest minor : ℕ) (fields : List Field) where
-  abbrev pub with_length : Option ℕ → Result Asked Rule
+  abbrev pub with_length : Option ℕ → Result FieldsAsked Rule
   with_length None = Err H4
   with_length (Some n) = if nat_lt greatest n then Err H5 else Ok (asked_for minor fields n)
 
   -- what the fields ask for, or the first rule that they break; they are at most `most`, and their
   -- body has at most `greatest` bytes
-  abbrev pub judge_fields : Result Asked Rule
+  abbrev pub judge_fields : Result FieldsAsked Rule
   judge_fields =
       if nat_lt most (length fields) then Err H2
       else if not (hosts_fit minor (count_named (codes "host") fields)) then Err H1

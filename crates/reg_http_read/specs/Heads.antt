@@ -7,7 +7,7 @@ use Rattle.reg_body.specs.declared.limits.Limits.{Limits}
 use Rattle.reg_model.specs.Registry.{Text}
 use Rattle.reg_model.specs.declared.rule.Rule.{Rule}
 use Rattle.reg_model.specs.declared.rule.Rule.TheVariants.{H1, H2}
-use Rattle.reg_http_read.specs.Fields.{Asked, Field, judge_fields}
+use Rattle.reg_http_read.specs.Fields.{FieldsAsked, Field, judge_fields}
 use Rattle.reg_http_read.specs.Fronts.{IsBadCut, IsHeadCut, IsUnjudged}
 
 -- what a head tells: how many bytes it and its body have, whether the interim line is waited for,
@@ -26,7 +26,7 @@ abbrev pub greatest_body : Limits → ℕ
 greatest_body limits = 8 + (limits.json + limits.archive)
 
 module _ (method target : Text) (len : ℕ) where
-  abbrev pub facts_from : Asked → Facts
+  abbrev pub facts_from : FieldsAsked → Facts
   facts_from asked = record {
     method = method;
     target = target;
@@ -37,7 +37,7 @@ module _ (method target : Text) (len : ℕ) where
     close = asked.close;
   }
 
-  abbrev pub with_asked : Result Asked Rule → Result Facts Rule
+  abbrev pub with_asked : Result FieldsAsked Rule → Result Facts Rule
   with_asked (Ok asked) = Ok (facts_from asked)
   with_asked (Err r) = Err r
 

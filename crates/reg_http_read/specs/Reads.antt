@@ -7,7 +7,7 @@ use Rattle.reg_model.specs.declared.rule.Rule.{Rule}
 use Rattle.reg_model.specs.declared.rule.Rule.TheVariants.{H1}
 use Rattle.reg_http_read.specs.Fields as spec
 use Rattle.reg_http_read.specs.Heads.{Facts, IsHeadAt, IsRefusedAt, IsUnfinished, answers_head, judge_head}
-use Rattle.reg_http_read.specs.declared.asked.Asked.{Asked}
+use Rattle.reg_http_read.specs.declared.asked.FieldsAsked.{FieldsAsked}
 use Rattle.reg_http_read.specs.declared.head.Head.{Head}
 use Rattle.reg_http_read.specs.declared.head.HeadRead.{HeadRead}
 use Rattle.reg_http_read.specs.declared.head.HeadRead.TheVariants as read
@@ -58,13 +58,13 @@ IsJudgement limits front (read.Refused rule head_only) =
     IsBadFront front rule head_only ⊎ IsWhole limits front (read.Refused rule head_only)
 
 -- the same values
-pub record HasAsked (it : Asked) (asked : spec.Asked) : Type 0 where
+pub record HasAsked (it : FieldsAsked) (asked : spec.FieldsAsked) : Type 0 where
   pub token : option_copied it.token ≡ asked.token
   pub body_len : it.body_len ≡ asked.body_len
   pub interim : it.interim ≡ asked.interim
   pub close : it.close ≡ asked.close
 
-abbrev pub IsAsked : Result Asked Rule → Result spec.Asked Rule → Type 0
+abbrev pub IsAsked : Result FieldsAsked Rule → Result spec.FieldsAsked Rule → Type 0
 IsAsked (Ok it) (Ok asked) = HasAsked it asked
 IsAsked (Ok it) (Err e) = ⊥
 IsAsked (Err e) (Ok asked) = ⊥

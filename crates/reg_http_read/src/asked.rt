@@ -13,7 +13,7 @@ use reg_model::Rule;
 
 /// What the fields of a head ask for.
 #[derive(Clone, Copy)]
-pub(crate) struct Asked<'b> {
+pub(crate) struct FieldsAsked<'b> {
     pub token: Option<&'b [u8]>,
     pub body_len: u64,
     pub interim: bool,
@@ -43,10 +43,10 @@ fn are_hosts_fit(fields: &[Header<'_>], minor: u8) -> bool
 }
 
 /// What the fields ask for, given the length of the body.
-fn ask<'b>(fields: &[Header<'b>], minor: u8, body_len: u64) -> Asked<'b>
+fn ask<'b>(fields: &[Header<'b>], minor: u8, body_len: u64) -> FieldsAsked<'b>
     ensures { HasAsked result (spec.asked_for minor (map header_parts fields.now) body_len) }
 {
-    Asked {
+    FieldsAsked {
         token: only_value(fields, b"authorization"),
         body_len,
         interim: minor == 1 && body_len > 0 && expects(fields),
@@ -67,7 +67,7 @@ pub(crate) fn judge_fields<'b>(
     fields: &[Header<'b>],
     minor: u8,
     limits: &Limits,
-) -> Result<Asked<'b>, Rule>
+) -> Result<FieldsAsked<'b>, Rule>
     ensures { IsAsked result (spec.judge_fields limits.now.fields (greatest_body limits.now) minor
         (map header_parts fields.now)) }
 {

@@ -47,7 +47,7 @@ pub enum HeadRead<'b> {
 }
 
 /// The outcome if no front is judged.
-fn unjudged<'b>(bytes: &'b [u8], limits: &Limits) -> HeadRead<'b>
+fn read_unjudged<'b>(bytes: &'b [u8], limits: &Limits) -> HeadRead<'b>
     requires { IsUnjudged limits.now.head bytes.now }
     ensures { IsRead limits.now bytes.now result }
 {
@@ -72,11 +72,11 @@ pub fn read_head<'b>(
     let (within, _) = bytes.split_at(bytes.len().min(limits.head as usize));
     let end = last_line(within);
     if end == 0 {
-        return Ok(unjudged(bytes, limits));
+        return Ok(read_unjudged(bytes, limits));
     }
     let (front, _) = bytes.split_at(end);
     match judge_front(alloc, front, limits)? {
-        HeadRead::More => Ok(unjudged(bytes, limits)),
+        HeadRead::More => Ok(read_unjudged(bytes, limits)),
         read => Ok(read),
     }
 }

@@ -57,7 +57,7 @@ fn is_unkept_head_only(head: &Head<'_>) -> bool
 }
 
 /// The head, kept, or a refusal if out of memory.
-fn kept(alloc: Global, head: &Head<'_>) -> Awaited
+fn keep_or_refuse(alloc: Global, head: &Head<'_>) -> Awaited
     ensures { (limits : _) (bytes : _) → IsHeadAt limits bytes (facts_of head.now)
         → IsFound limits bytes (Some result) }
 {
@@ -74,7 +74,7 @@ fn find_head(alloc: Global, pending: &[u8], limits: &Limits) -> Result<Option<Aw
 {
     match read_head(alloc, pending, limits)? {
         HeadRead::More => Ok(None),
-        HeadRead::Head(head) => Ok(Some(kept(alloc, &head))),
+        HeadRead::Head(head) => Ok(Some(keep_or_refuse(alloc, &head))),
         HeadRead::Refused(rule, head_only) => Ok(Some(Awaited::Refused(rule, head_only))),
     }
 }

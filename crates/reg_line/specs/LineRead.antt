@@ -6,8 +6,8 @@ use Rattle.reg_manifest.specs.Parsing.{Parsed, ◌>>=◌}
 use Rattle.reg_manifest.specs.Fields.{Features, json_of, field, text_of, texts_of, flag_of, list_of, members_of, required, or_else, optional, each, features_of, lists_onto}
 use Rattle.reg_manifest.specs.Manifests.{DepData, Metadata}
 use Rattle.reg_manifest.specs.declared.fault.ManifestFault.TheVariants as fault
-use Rattle.reg_line.specs.declared.line_read.About.{About}
-use Rattle.reg_line.specs.declared.line_read.Origin.{Origin}
+use Rattle.reg_line.specs.declared.line_read.VersionFields.{VersionFields}
+use Rattle.reg_line.specs.declared.line_read.DepFields.{DepFields}
 
 -- the package's own name, from `name` and `package`
 abbrev pub own_name : List ℕ → Option (List ℕ) → List ℕ
@@ -106,7 +106,7 @@ bytes_from bytes = json_of bytes >>= λ d. line_from d
 
 -- ---- what the parts that are read hold
 
-abbrev pub origin_view : Origin → OriginData
+abbrev pub origin_view : DepFields → OriginData
 origin_view o = record {
   own = option_map string_bytes o.own;
   registry = option_map string_bytes o.registry;
@@ -114,7 +114,7 @@ origin_view o = record {
   target = option_map string_bytes o.target;
 }
 
-abbrev pub about_view : About → AboutData
+abbrev pub about_view : VersionFields → AboutData
 about_view a = record {
   links = option_map string_bytes a.links;
   name = a.name;

@@ -32,7 +32,7 @@ fn names(name: String, own: Option<String>) -> (String, Option<String>)
 
 /// Where a dependency comes from, what of it is wanted, and what it is for.
 #[derive(Drop)]
-struct Origin {
+struct DepFields {
     own: Option<String>,
     registry: Option<String>,
     req: String,
@@ -41,7 +41,7 @@ struct Origin {
 
 /// What else is said about a version.
 #[derive(Drop)]
-struct About {
+struct VersionFields {
     links: Option<String>,
     name: CrateName,
     rust_version: Option<String>,
@@ -49,14 +49,14 @@ struct About {
 }
 
 #[tactic(auto, unfolding(crate::specs::LineRead::origin_from))]
-fn read_origin(alloc: Global, value: &Value) -> Result<Origin, ManifestFault>
+fn read_origin(alloc: Global, value: &Value) -> Result<DepFields, ManifestFault>
     ensures { Gives origin_view result (origin_from (view value.now)) }
 {
     let own = optional_text(alloc, value, "package")?;
     let registry = optional_text(alloc, value, "registry")?;
     let req = required_text(alloc, value, "req")?;
     let target = optional_text(alloc, value, "target")?;
-    Ok(Origin {
+    Ok(DepFields {
         own,
         registry,
         req,
@@ -124,14 +124,14 @@ fn read_name(alloc: Global, value: &Value) -> Result<CrateName, ManifestFault>
 }
 
 #[tactic(auto, unfolding(crate::specs::LineRead::about_from))]
-fn read_about(alloc: Global, value: &Value) -> Result<About, ManifestFault>
+fn read_version(alloc: Global, value: &Value) -> Result<VersionFields, ManifestFault>
     ensures { Gives about_view result (about_from (view value.now)) }
 {
     let links = optional_text(alloc, value, "links")?;
     let name = read_name(alloc, value)?;
     let rust_version = optional_text(alloc, value, "rust_version")?;
     let vers = required_text(alloc, value, "vers")?;
-    Ok(About {
+    Ok(VersionFields {
         links,
         name,
         rust_version,
@@ -146,7 +146,7 @@ fn read_value(alloc: Global, value: &Value) -> Result<Manifest, ManifestFault>
     members(value)?;
     let deps = read_deps(alloc, list_or_empty(value, "deps")?)?;
     let features = read_features(alloc, value)?;
-    let about = read_about(alloc, value)?;
+    let about = read_version(alloc, value)?;
     Ok(Manifest {
         name: about.name,
         vers: about.vers,

@@ -88,7 +88,7 @@ fn line_value(
 }
 
 /// The text of a value without floats.
-fn written(alloc: Global, value: &Value) -> Result<Vec<u8>, AllocError>
+fn write_value(alloc: Global, value: &Value) -> Result<Vec<u8>, AllocError>
     requires { has_float (view value.now) ≡ false }
     ensures { IfOk result (λ text. text.items ≡ compact_text (view value.now)) }
 {
@@ -107,7 +107,7 @@ pub(crate) fn line_json(
     ensures ordered { IsOrdered string_cmp manifest.now.features }
 {
     let value = line_value(alloc, manifest, digest, yanked)?;
-    written(alloc, &value)
+    write_value(alloc, &value)
 }
 
 /// The index line, with its line feed, of a manifest whose archive has this digest.

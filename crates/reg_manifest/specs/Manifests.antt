@@ -5,9 +5,9 @@ use Rattle.std.specs.declared.vec.Vec.{Vec}
 use Rattle.reg_manifest.specs.Fields.{Features}
 use Rattle.reg_manifest.specs.declared.manifest.Dep.{Dep}
 use Rattle.reg_manifest.specs.declared.manifest.Manifest.{Manifest}
-use Rattle.reg_manifest.specs.declared.metadata.About.{About}
+use Rattle.reg_manifest.specs.declared.metadata.Details.{Details}
 use Rattle.reg_manifest.specs.declared.metadata.Draft.{Draft}
-use Rattle.reg_manifest.specs.declared.metadata.Place.{Place}
+use Rattle.reg_manifest.specs.declared.metadata.DepOrigin.{DepOrigin}
 
 -- a dependency as it was sent, nulls replaced; rename is the field explicit_name_in_toml
 pub record DepData : Type 0 where
@@ -58,7 +58,7 @@ dep_view d = record {
   rename = option_map string_bytes d.explicit_name_in_toml;
 }
 
-abbrev pub place_view : Place → PlaceData
+abbrev pub place_view : DepOrigin → PlaceData
 place_view p = record {
   target = option_map string_bytes p.target;
   kind = string_bytes p.kind;
@@ -66,7 +66,7 @@ place_view p = record {
   rename = option_map string_bytes p.explicit_name_in_toml;
 }
 
-abbrev pub about_view : About → AboutData
+abbrev pub about_view : Details → AboutData
 about_view a = record {
   description = option_map string_bytes a.description;
   links = option_map string_bytes a.links;

@@ -33,7 +33,7 @@ struct Draft {
 
 /// What a dependency is for, and where it comes from.
 #[derive(Drop)]
-struct Place {
+struct DepOrigin {
     target: Option<String>,
     kind: String,
     registry: Option<String>,
@@ -42,21 +42,21 @@ struct Place {
 
 /// What else is said about a version.
 #[derive(Drop)]
-struct About {
+struct Details {
     description: Option<String>,
     links: Option<String>,
     rust_version: Option<String>,
 }
 
 #[tactic(auto, unfolding(crate::specs::Metadata::place_of))]
-fn read_place(alloc: Global, value: &Value) -> Result<Place, ManifestFault>
+fn read_origin(alloc: Global, value: &Value) -> Result<DepOrigin, ManifestFault>
     ensures { Gives place_view result (place_of (view value.now)) }
 {
     let target = optional_text(alloc, value, "target")?;
     let kind = text_or(alloc, value, "kind", "normal")?;
     let registry = optional_text(alloc, value, "registry")?;
     let explicit_name_in_toml = optional_text(alloc, value, "explicit_name_in_toml")?;
-    Ok(Place {
+    Ok(DepOrigin {
         target,
         kind,
         registry,
@@ -74,7 +74,7 @@ fn read_dep(alloc: Global, value: &Value) -> Result<Dep, ManifestFault>
     let features = texts_or_empty(alloc, value, "features")?;
     let optional = flag_or(value, "optional", false)?;
     let default_features = flag_or(value, "default_features", true)?;
-    let place = read_place(alloc, value)?;
+    let place = read_origin(alloc, value)?;
     Ok(Dep {
         name,
         version_req,
@@ -99,13 +99,13 @@ fn read_deps(alloc: Global, list: &[Value]) -> Result<Vec<Dep>, ManifestFault>
 }
 
 #[tactic(auto, unfolding(crate::specs::Metadata::about_of))]
-fn read_about(alloc: Global, value: &Value) -> Result<About, ManifestFault>
+fn read_details(alloc: Global, value: &Value) -> Result<Details, ManifestFault>
     ensures { Gives about_view result (about_of (view value.now)) }
 {
     let description = optional_text(alloc, value, "description")?;
     let links = optional_text(alloc, value, "links")?;
     let rust_version = optional_text(alloc, value, "rust_version")?;
-    Ok(About {
+    Ok(Details {
         description,
         links,
         rust_version,
@@ -121,7 +121,7 @@ fn read_fields(alloc: Global, value: &Value) -> Result<Draft, ManifestFault>
     let vers = required_text(alloc, value, "vers")?;
     let deps = read_deps(alloc, list_or_empty(value, "deps")?)?;
     let features = features_or_empty(alloc, value, "features")?;
-    let about = read_about(alloc, value)?;
+    let about = read_details(alloc, value)?;
     Ok(Draft {
         name,
         vers,

@@ -15,7 +15,7 @@ ghost use Rattle.reg_policy.specs.Views.{access_of, action_of, counts_of, decisi
 ghost use Rattle.reg_policy.specs.Rows.{IsRowsOf};
 
 use crate::action::{Action, Decision, OwnerRow, Rows};
-use crate::orders::{needed, order};
+use crate::orders::{needed, rules_in_order};
 use reg_model::{Endpoint, Endpoints, Rule};
 use reg_names::{CrateName, Pattern, covers, index_path, name_of_path, parse_name};
 use reg_versions::same_release;
@@ -310,7 +310,7 @@ fn first_broken(rows: &Rows, action: &Action) -> Decision
         (access_of rows.now (action_of action.now)) (counts_of rows.now (action_of action.now))
         (action_of action.now)) }
 {
-    for rule in order(rows.first.is_some(), action) {
+    for rule in rules_in_order(rows.first.is_some(), action) {
         if broken(rows, action, *rule) {
             return Decision::Denied(*rule);
         }

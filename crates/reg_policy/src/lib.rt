@@ -26,7 +26,7 @@ pub use deciding::{crate_of, decide, has_endpoint, is_covered, logins_of, same_t
 pub use event::{
     AdminCommand, AdminReply, Answer, Asked, Event, NewPublication, OwnerEntry, Reading, action_of,
 };
-pub use orders::{needed, order};
+pub use orders::{needed, rules_in_order};
 pub use reg_model::{AdminRefusal, Endpoint, Endpoints, Rule};
 pub use report_lines::{
     ENDPOINTS, push_crate_line, push_grant_line, push_reader_line, push_token_line, push_user_line,

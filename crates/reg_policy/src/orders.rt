@@ -10,7 +10,7 @@ use reg_model::Endpoint;
 use reg_model::Rule::{self, A2, A3, A4, A6, A7, A8, A9, A10, L1, L2, N2, N3, O2, O3, O4, V2};
 
 /// The rules that are checked for an action, in order, given whether its crate is there.
-pub fn order(is_there: bool, action: &Action) -> &'static [Rule]
+pub fn rules_in_order(is_there: bool, action: &Action) -> &'static [Rule]
     ensures { (s : Option Text) → is_some s ≡ is_there
         → result.now ≡ order_of s (action_of action.now) }
 {

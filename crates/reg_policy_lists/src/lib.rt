@@ -23,6 +23,6 @@ mod yanked;
 pub use accounts::{Accounts, PlainAccount};
 pub use crate_texts::CrateTexts;
 pub use owners::{Owners, PlainOwner};
-pub use publications::{Publication, Publications, published};
+pub use publications::{Publication, Publications, publication_from};
 pub use tokens::{PlainToken, Tokens};
 pub use yanked::{Mark, Marks};

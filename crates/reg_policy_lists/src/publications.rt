@@ -305,7 +305,7 @@ fn count_crates(list: &[Publication]) -> u64
 }
 
 /// The publication of a new version.
-pub fn published(alloc: Global, new: &NewPublication) -> Result<Publication, AllocError>
+pub fn publication_from(alloc: Global, new: &NewPublication) -> Result<Publication, AllocError>
     ensures { IfOk result (λ p. publication_of p ≡ new_publication new.now) }
 {
     let description = match new.description {

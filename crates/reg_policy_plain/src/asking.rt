@@ -18,7 +18,7 @@ use reg_line::file;
 use reg_model::Rule;
 use reg_names::{CrateName, canon, name_of_path, parse_name};
 use reg_policy::{Answer, Asked, Decision, NewPublication, action_of};
-use reg_policy_lists::published;
+use reg_policy_lists::publication_from;
 use std::alloc::AllocError;
 
 impl PlainRegistry {
@@ -111,7 +111,7 @@ impl PlainRegistry {
         ensures limits { limits_of self.new ≡ limits_of self.old }
     {
         let account = self.account_of(digest);
-        let publication = published(self.alloc, new)?;
+        let publication = publication_from(self.alloc, new)?;
         if self.publications.exists(new.name) {
             self.publications.add(publication)?;
         } else {

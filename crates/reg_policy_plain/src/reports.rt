@@ -22,7 +22,7 @@ use reg_policy::{
 use reg_policy_lists::{Owners, PlainAccount, PlainToken, Publication};
 use std::alloc::AllocError;
 
-fn told(report: Result<String, AllocError>) -> CommandReply
+fn reply_with(report: Result<String, AllocError>) -> CommandReply
     ensures { result ≡ told_of Text report }
 {
     match report {
@@ -307,7 +307,7 @@ impl PlainRegistry {
         ensures { Obeys self.now self.now (to_access name.now) result }
     {
         match parse_name(name) {
-            Some(name) => told(self.access_report(&name)),
+            Some(name) => reply_with(self.access_report(&name)),
             None => Err(AdminRefusal::G4),
         }
     }
@@ -316,20 +316,20 @@ impl PlainRegistry {
     pub(crate) fn users(&self) -> CommandReply
         ensures { Obeys self.now self.now to_users result }
     {
-        told(self.users_report())
+        reply_with(self.users_report())
     }
 
     /// All tokens.
     pub(crate) fn tokens(&self) -> CommandReply
         ensures { Obeys self.now self.now to_tokens result }
     {
-        told(self.tokens_report())
+        reply_with(self.tokens_report())
     }
 
     /// All crates.
     pub(crate) fn crates(&self) -> CommandReply
         ensures { Obeys self.now self.now to_crates result }
     {
-        told(self.crates_report())
+        reply_with(self.crates_report())
     }
 }

@@ -15,7 +15,7 @@ use Rattle.reg_tables.specs.Works.{shown}
 use Rattle.reg_service_requests.specs.Telling.{ServesTold}
 use Rattle.reg_service_requests.specs.declared.told.ServedTold.{ServedTold}
 use Rattle.reg_service.specs.Answered.{Are, Shows}
-use Rattle.reg_service.specs.declared.room.Place.{Place}
+use Rattle.reg_service.specs.declared.room.RoomAhead.{RoomAhead}
 use Rattle.reg_service.specs.declared.room.Room.{Room}
 
 -- so many more versions of a crate are within the limit
@@ -69,7 +69,7 @@ TellsLeftOf limits known name db left = IsKnownIn limits known db
     → (s : Registry) → Are s db → Fit limits s name left
 
 -- whether the crate of a request has room for it
-abbrev pub TellsRoom : Limits → Asked → Trees → Place → Type 0
+abbrev pub TellsRoom : Limits → Asked → Trees → RoomAhead → Type 0
 TellsRoom limits asked db place =
     place.has_room ≡ true → (s : Registry) → Are s db → HasPlace limits s asked
 
@@ -78,7 +78,7 @@ abbrev pub Leaves : Limits → Option Room → Asked → Trees → Option Room �
 Leaves limits known asked db room =
     (r : Registry) → Are r db → HasRoom limits r known → LeavesRoom limits asked r room
 
-abbrev pub IsPlace : Limits → Option Room → Asked → Trees → Place → Type 0
+abbrev pub IsPlace : Limits → Option Room → Asked → Trees → RoomAhead → Type 0
 IsPlace limits known asked db place = IsKnownIn limits known db
     → TellsRoom limits asked db place × Leaves limits known asked db place.room
 

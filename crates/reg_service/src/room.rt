@@ -31,7 +31,7 @@ pub struct Room {
 /// What is known of a request before it is served: whether its crate has room for it, and the room
 /// that it leaves.
 #[derive(Drop)]
-pub(crate) struct Place {
+pub(crate) struct RoomAhead {
     pub(crate) has_room: bool,
     pub(crate) room: Option<Room>,
 }
@@ -138,7 +138,7 @@ fn left_of<S: Alter>(
 }
 
 /// The version that a request publishes, if it is a publish.
-fn published<'b>(asked: &'b Asked<'b>) -> Option<&'b NewPublication<'b>>
+fn publication_in<'b>(asked: &'b Asked<'b>) -> Option<&'b NewPublication<'b>>
     ensures some { IfSome result
         (λ new. asked_of asked.now ≡ Publish (publication_of new.now)) }
     ensures none { result ≡ None → added (asked_of asked.now) ≡ 0 }
@@ -155,20 +155,20 @@ fn place_of<S: Alter>(
     limits: &Limits,
     known: Option<Room>,
     asked: &Asked<'_>,
-) -> Result<Place>
+) -> Result<RoomAhead>
     requires at_work { IsAtWork S.Store work.old }
     requires goes_on { has_failed work.old ≡ false }
     ensures { Asks S.Store work.old work.new result
         (IsPlace limits.now known (asked_of asked.now)) }
 {
-    let Some(new) = published(asked) else {
-        return Ok(Place {
+    let Some(new) = publication_in(asked) else {
+        return Ok(RoomAhead {
             has_room: false,
             room: known,
         });
     };
     let left = left_of(work, limits, &known, new.name)?;
-    Ok(Place {
+    Ok(RoomAhead {
         has_room: left > 0,
         room: Some(Room {
             name: new.name.copy(),
@@ -194,7 +194,7 @@ pub(crate) fn serve_in_place<S: Alter>(
     ensures { Runs S.Store work.old work.new result (ServesInPlace traced limits.now known
         (option_map (λ d. d.now) digest.entry) (asked_of asked.now)) }
 {
-    let Place { has_room, room } = place_of(work, limits, known, asked)?;
+    let RoomAhead { has_room, room } = place_of(work, limits, known, asked)?;
     let limits = limits_in(limits, has_room);
     let told = serve_told(alloc, work, &limits, digest, asked, traced)?;
     Ok((told, room))

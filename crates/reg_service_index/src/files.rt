@@ -24,7 +24,7 @@ use std::io::Write;
 
 /// What a line of an index file is made of, as its row has it.
 #[derive(Clone, Copy)]
-struct Entry<'r> {
+struct LineRow<'r> {
     stem: &'r [u8],
     yanked: bool,
 }
@@ -51,14 +51,14 @@ fn mark_of(value: ValueRef<'_>) -> Option<bool>
 }
 
 /// The entry that a row tells, with nothing copied; none if it tells none.
-fn entry_of(row: &Row) -> Option<Entry<'_>>
+fn entry_of(row: &Row) -> Option<LineRow<'_>>
     ensures { MatchOption result ((it : _) → row.now ≢ entry_row it)
         (λ it. row.now ≡ entry_row (it.stem.now, it.yanked)) }
 {
     if row.column_count() != 2 {
         return None;
     }
-    Some(Entry {
+    Some(LineRow {
         stem: stem_of(row.get_ref(0).ok()?)?,
         yanked: mark_of(row.get_ref(1).ok()?)?,
     })

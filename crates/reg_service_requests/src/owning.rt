@@ -110,7 +110,7 @@ fn are_all_named(owners: &[Account], logins: &[&str]) -> bool
 }
 
 /// The ids of the owners who leave; each must be an owner, and someone must remain.
-fn leaving(
+fn ids_leaving(
     alloc: Global,
     owners: &[Account],
     logins: &[&str],
@@ -223,7 +223,7 @@ pub(crate) fn remove_owners<S: Alter>(
         result work.old work.new }
 {
     let owners = work.owners_of(alloc, found.id)?;
-    match leaving(alloc, &owners, logins) {
+    match ids_leaving(alloc, &owners, logins) {
         Ok(Ok(accounts)) => change_owners(alloc, work, found.id, &accounts, false),
         Ok(Err(rule)) => Ok(Served::Told(Reply::Denied(rule))),
         Err(_) => work.fail(),

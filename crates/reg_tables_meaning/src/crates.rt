@@ -16,7 +16,7 @@ use reg_line::Digest;
 use reg_names::{CrateName, canon};
 use reg_tables_sql::pairs::{Pair, Relation};
 use reg_tables_sql::statements::Result;
-use reg_tables_sql::versions::{self, VersionMark};
+use reg_tables_sql::versions::{self, VersionMark, VersionRow};
 use reg_tables_sql::{archives, crates, pairs};
 use reg_versions::release_key;
 use sqlite::{Alter, Connection, Error};
@@ -78,16 +78,16 @@ fn insert_version<S: Alter>(
     let last = versions::last_id(conn)?;
     let id = next_version(last)?;
     let release = release_key(version.text);
-    versions::insert(
-        conn,
+    let row = VersionRow {
         id,
         crate_id,
-        version.text,
+        vers: version.text,
         release,
-        version.digest,
-        version.stem,
-        version.description,
-    )?;
+        digest: version.digest,
+        stem: version.stem,
+        description: version.description,
+    };
+    versions::insert(conn, &row)?;
     archives::insert(conn, id, version.archive)?;
     Ok(id)
 }
@@ -139,7 +139,7 @@ fn id_unless(found: &VersionMark, yanked: bool) -> Option<u64>
 }
 
 /// The id of a version, if it is there and has the other mark.
-fn otherwise<S: Alter>(
+fn find_other_mark<S: Alter>(
     conn: &mut Connection<S>,
     crate_id: u32,
     text: &str,
@@ -169,7 +169,7 @@ pub fn has_other_mark<S: Alter>(
         (TellsOtherMark crate_id text.now yanked (rows_in S.Store conn.old)) }
     ensures same { KeepsAll S.Store conn.old conn.new result }
 {
-    let found = otherwise(conn, crate_id, text, yanked)?;
+    let found = find_other_mark(conn, crate_id, text, yanked)?;
     Ok(found.is_some())
 }
 
@@ -188,7 +188,7 @@ pub fn mark<S: Alter>(
         (rows_in S.Store conn.old) (rows_in S.Store conn.new)) }
     ensures leaves { Steps S.Store conn.old conn.new result }
 {
-    let found = otherwise(conn, crate_id, text, yanked)?;
+    let found = find_other_mark(conn, crate_id, text, yanked)?;
     let Some(version) = found else {
         return Ok(());
     };

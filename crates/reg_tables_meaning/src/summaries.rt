@@ -120,7 +120,7 @@ fn numbers_of<S: Alter>(conn: &mut Connection<S>, crate_id: u32) -> Result<Numbe
 }
 
 /// The summary of a crate that has one.
-fn kept<S: Alter>(conn: &mut Connection<S>, crate_id: u32) -> Result<Summary>
+fn find_kept<S: Alter>(conn: &mut Connection<S>, crate_id: u32) -> Result<Summary>
     requires { IsReady (state S.Store conn.old) }
     ensures told { Told S.Store conn.new result (IsKept crate_id (rows_in S.Store conn.old)) }
     ensures same { KeepsAll S.Store conn.old conn.new result }
@@ -151,13 +151,13 @@ fn higher(one: &VersionMark, next: &VersionMark) -> Result<u64>
 }
 
 /// What the summary of a crate says with one more version, the last.
-fn pushed<S: Alter>(conn: &mut Connection<S>, crate_id: u32, version: u64) -> Result<Numbers>
+fn numbers_with<S: Alter>(conn: &mut Connection<S>, crate_id: u32, version: u64) -> Result<Numbers>
     requires { IsReady (state S.Store conn.old) }
     ensures told { Told S.Store conn.new result
         (λ n. ArePushed crate_id version (rows_in S.Store conn.old) n.highest n.index_length) }
     ensures same { KeepsAll S.Store conn.old conn.new result }
 {
-    let kept = kept(conn, crate_id)?;
+    let kept = find_kept(conn, crate_id)?;
     let top = version_at(conn, kept.highest)?;
     let next = version_at(conn, version)?;
     let highest = higher(&top, &next)?;
@@ -193,7 +193,7 @@ pub(crate) fn push<S: Alter>(conn: &mut Connection<S>, crate_id: u32, version: u
         (PushesSummary crate_id version (rows_in S.Store conn.old) (rows_in S.Store conn.new)) }
     ensures leaves { Steps S.Store conn.old conn.new result }
 {
-    let numbers = pushed(conn, crate_id, version)?;
+    let numbers = numbers_with(conn, crate_id, version)?;
     let summary = Summary {
         crate_id,
         highest: numbers.highest,
@@ -248,13 +248,17 @@ fn length_marked(before: u64, yanked: bool) -> Result<u64>
 }
 
 /// What the summary of a crate says once the mark of a version has changed.
-fn remarked<S: Alter>(conn: &mut Connection<S>, crate_id: u32, version: u64) -> Result<Numbers>
+fn numbers_marked<S: Alter>(
+    conn: &mut Connection<S>,
+    crate_id: u32,
+    version: u64,
+) -> Result<Numbers>
     requires { IsReady (state S.Store conn.old) }
     ensures told { Told S.Store conn.new result
         (λ n. AreRemarked crate_id version (rows_in S.Store conn.old) n.highest n.index_length) }
     ensures same { KeepsAll S.Store conn.old conn.new result }
 {
-    let kept = kept(conn, crate_id)?;
+    let kept = find_kept(conn, crate_id)?;
     let now = version_at(conn, version)?;
     if now.yanked && now.id == kept.highest {
         return numbers_of(conn, crate_id);
@@ -274,7 +278,7 @@ pub(crate) fn remark<S: Alter>(conn: &mut Connection<S>, crate_id: u32, version:
         (RemarksSummary crate_id version (rows_in S.Store conn.old) (rows_in S.Store conn.new)) }
     ensures leaves { Steps S.Store conn.old conn.new result }
 {
-    let numbers = remarked(conn, crate_id, version)?;
+    let numbers = numbers_marked(conn, crate_id, version)?;
     let summary = Summary {
         crate_id,
         highest: numbers.highest,

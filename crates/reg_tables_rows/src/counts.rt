@@ -24,7 +24,7 @@ pub struct Counts {
 }
 
 // SQL counts only up to its greatest number; there, its answer may be too low.
-fn exact(n: u64) -> Result<u64>
+fn check_exact(n: u64) -> Result<u64>
     ensures { IfOk result (λ m. (m ≡ n) × (m < greatest_number)) }
 {
     if n < i64::MAX as u64 {
@@ -73,7 +73,7 @@ fn count_crates<S: Alter>(conn: &mut Connection<S>) -> Result<u64>
     ensures same { KeepsAll S.Store conn.old conn.new result }
 {
     let n = crates::count(conn)?;
-    exact(n)
+    check_exact(n)
 }
 
 /// Whether there are at least this many crates: no more than ids were taken. They are counted only

@@ -3,13 +3,13 @@ use Rattle.reg_http_read.proofs.Cuts.{lines_within, longest_front, none_without_
 use Rattle.reg_http_read.proofs.Read.{read_from}
 use Rattle.reg_http_read.proofs.head.read_head.Goals as goal
 
-pub unjudged-requires : goal.unjudged-requires
-unjudged-requires c = λ n line judged.
+pub read_unjudged-requires : goal.read_unjudged-requires
+read_unjudged-requires c = λ n line judged.
     none_without_lines c.args.limits.now.head c.min.result c.last_line-end.result c.args.bytes.now c.min.ensures c.if-end-eq0.true
     (rw c.split_at.ensures.front at c.last_line-end.ensures.last) n line
 
-pub unjudged-requires-in-More : goal.unjudged-requires-in-More
-unjudged-requires-in-More c =
+pub read_unjudged-requires-in-More : goal.read_unjudged-requires-in-More
+read_unjudged-requires-in-More c =
     let some : 0 < c.last_line-end.result = omega arith in
     let lines = rw c.split_at.ensures.front at c.last_line-end.ensures in
     let judged = rw (c.split_at-2.ensures.front, c.in-More.is) at c.in_ok-read.ensures in

@@ -10,7 +10,7 @@ passed_over test xs i d h e = sym (at_drop_more (find test) xs i d h ∙ ap (λ 
 
 pub loop-rule-init : goal.loop-rule-init
 unfolding verdict
-loop-rule-init c = ap (find _) (c.order-rule-items.ensures _ (search rules))
+loop-rule-init c = ap (find _) (c.rules_in_order-rule-items.ensures _ (search rules))
 
 pub loop-rule-preserved : goal.loop-rule-preserved
 loop-rule-preserved c =

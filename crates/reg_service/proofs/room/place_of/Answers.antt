@@ -11,7 +11,7 @@ returns g c =
     let limits = c.args.limits.now in
     let p = publication_of c.in-Some.new.now in
     let left = c.in_ok-left.left in
-    let is : asked_of c.args.asked.now ≡ Publish p = rw c.in-Some.is at c.published.ensures.some in
+    let is : asked_of c.args.asked.now ≡ Publish p = rw c.in-Some.is at c.publication_in.ensures.some in
     asks_made g.S.Store {P = TellsLeftOf limits c.args.known p.name} left _ c.args.work.now c.left_of.new.work
     (λ tells known. let fits = tells known in (
       λ has s are. subst (HasPlace limits s) (sym is) (has_place limits s p left (fits s are) (search (rules, has))),

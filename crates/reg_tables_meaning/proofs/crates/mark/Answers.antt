@@ -21,22 +21,22 @@ went_marked a b c r x q y ready found same done writes = went_write a b c q y (w
 
 pub returns-in_err-found-clause-leaves : goal.returns-in_err-found-clause-leaves
 returns-in_err-found-clause-leaves g c =
-    stops_same (state g.S.Store c.args.conn.now) (state g.S.Store c.otherwise.new.conn) c.otherwise.result _ c.from_residual.result c.from_residual.ensures.0 c.requires c.in_err-found.was
-    c.otherwise.ensures.same
+    stops_same (state g.S.Store c.args.conn.now) (state g.S.Store c.find_other_mark.new.conn) c.find_other_mark.result _ c.from_residual.result c.from_residual.ensures.0 c.requires c.in_err-found.was
+    c.find_other_mark.ensures.same
 
 pub returns-in_default-clause-leaves : goal.returns-in_default-clause-leaves
 returns-in_default-clause-leaves g c =
     let old = state g.S.Store c.args.conn.now in
-    let read = state g.S.Store c.otherwise.new.conn in
-    ends old read tt (went_same old read c.otherwise.result _ c.requires c.in_ok-found.was c.otherwise.ensures.same)
+    let read = state g.S.Store c.find_other_mark.new.conn in
+    ends old read tt (went_same old read c.find_other_mark.result _ c.requires c.in_ok-found.was c.find_other_mark.ensures.same)
 
 pub returns-in_err-set_yanked-clause-leaves : goal.returns-in_err-set_yanked-clause-leaves
 returns-in_err-set_yanked-clause-leaves g c =
     let old = state g.S.Store c.args.conn.now in
-    let read = state g.S.Store c.otherwise.new.conn in
+    let read = state g.S.Store c.find_other_mark.new.conn in
     let stop = c.from_residual-in_err-set_yanked in
     stops_write old read (state g.S.Store c.set_yanked.new.conn) c.set_yanked.result _ stop.result stop.ensures.0
-    (went_same old read c.otherwise.result _ c.requires c.in_ok-found.was c.otherwise.ensures.same) c.in_err-set_yanked.was c.set_yanked.ensures
+    (went_same old read c.find_other_mark.result _ c.requires c.in_ok-found.was c.find_other_mark.ensures.same) c.in_err-set_yanked.was c.set_yanked.ensures
 
 pub returns-in_err-remark-clause-leaves : goal.returns-in_err-remark-clause-leaves
 returns-in_err-remark-clause-leaves g c =
@@ -44,7 +44,7 @@ returns-in_err-remark-clause-leaves g c =
     let mid = state g.S.Store c.set_yanked.new.conn in
     let stop = c.from_residual-in_err-remark in
     stops_more old mid (state g.S.Store c.remark.new.conn) c.remark.result _ stop.result stop.ensures.0
-    (went_marked old (state g.S.Store c.otherwise.new.conn) mid c.otherwise.result _ c.set_yanked.result _ c.requires c.in_ok-found.was c.otherwise.ensures.same c.in_ok-set_yanked.was c.set_yanked.ensures)
+    (went_marked old (state g.S.Store c.find_other_mark.new.conn) mid c.find_other_mark.result _ c.set_yanked.result _ c.requires c.in_ok-found.was c.find_other_mark.ensures.same c.in_ok-set_yanked.was c.set_yanked.ensures)
     c.in_err-remark.was c.remark.ensures.leaves
 
 pub returns-clause-leaves : goal.returns-clause-leaves
@@ -53,13 +53,13 @@ returns-clause-leaves g c =
     let mid = state g.S.Store c.set_yanked.new.conn in
     let new = state g.S.Store c.remark.new.conn in
     ends old new tt (went_more old mid new c.remark.result _
-    (went_marked old (state g.S.Store c.otherwise.new.conn) mid c.otherwise.result _ c.set_yanked.result _ c.requires c.in_ok-found.was c.otherwise.ensures.same c.in_ok-set_yanked.was c.set_yanked.ensures)
+    (went_marked old (state g.S.Store c.find_other_mark.new.conn) mid c.find_other_mark.result _ c.set_yanked.result _ c.requires c.in_ok-found.was c.find_other_mark.ensures.same c.in_ok-set_yanked.was c.set_yanked.ensures)
     c.in_ok-remark.was c.remark.ensures.leaves)
 
 pub returns-in_default-clause-stands : goal.returns-in_default-clause-stands
 returns-in_default-clause-stands g c clean ids s h =
     let old = state g.S.Store c.args.conn.now in
-    let read = state g.S.Store c.otherwise.new.conn in
+    let read = state g.S.Store c.find_other_mark.new.conn in
     let id = c.args.crate_id in
     let text = c.args.text.now in
     let b = c.args.yanked in
@@ -70,7 +70,7 @@ returns-in_default-clause-stands g c clean ids s h =
 pub returns-clause-stands : goal.returns-clause-stands
 returns-clause-stands g c clean ids s h =
     let old = state g.S.Store c.args.conn.now in
-    let read = state g.S.Store c.otherwise.new.conn in
+    let read = state g.S.Store c.find_other_mark.new.conn in
     let mid = state g.S.Store c.set_yanked.new.conn in
     let new = state g.S.Store c.remark.new.conn in
     let clean_mid : HasCleanDisk mid = omega (arith, c.remark.ensures.leaves.survives.clean) in

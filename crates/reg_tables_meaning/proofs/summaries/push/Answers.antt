@@ -7,7 +7,7 @@ use Rattle.reg_tables_meaning.proofs.summaries.push.Goals as goal
 pub returns-clause-pushed : goal.returns-clause-pushed
 returns-clause-pushed g c clean =
     let old = state g.S.Store c.args.conn.now in
-    let read = state g.S.Store c.pushed.new.conn in
+    let read = state g.S.Store c.numbers_with.new.conn in
     let new = state g.S.Store c.update.new.conn in
     let clean_read : HasCleanDisk read = omega (arith, c.update.ensures.survives.clean) in
     let n = c.in_ok-numbers.numbers in

@@ -7,7 +7,7 @@ use Rattle.reg_tables_meaning.proofs.summaries.remark.Goals as goal
 pub returns-clause-remarked : goal.returns-clause-remarked
 returns-clause-remarked g c clean =
     let old = state g.S.Store c.args.conn.now in
-    let read = state g.S.Store c.remarked.new.conn in
+    let read = state g.S.Store c.numbers_marked.new.conn in
     let new = state g.S.Store c.update.new.conn in
     let clean_read : HasCleanDisk read = omega (arith, c.update.ensures.survives.clean) in
     let n = c.in_ok-numbers.numbers in

@@ -17,7 +17,7 @@ unfolding commanded
 returns-in-Some c =
     let s : Registry = registry_of c.args.self.now in
     let read = read_some (is_name c.args.name.now) c.args.name.now c.in-Some.name (sym c.in-Some.is ∙ c.parse_name.ensures) in
-    record { step = told_step (limits_of c.args.self.now) s (Access c.args.name.now) (access_text s c.in-Some.name) c.access_report.result c.told.result (ap not read.0, tt) (ap (λ n. Report (access_text s n)) (sym read.1)) refl c.access_report.ensures c.told.ensures; limits = refl }
+    record { step = told_step (limits_of c.args.self.now) s (Access c.args.name.now) (access_text s c.in-Some.name) c.access_report.result c.reply_with.result (ap not read.0, tt) (ap (λ n. Report (access_text s n)) (sym read.1)) refl c.access_report.ensures c.reply_with.ensures; limits = refl }
 
 pub returns-in-None : goal.returns-in-None
 returns-in-None c =

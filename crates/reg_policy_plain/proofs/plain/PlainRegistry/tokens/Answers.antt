@@ -11,4 +11,4 @@ pub returns : goal.returns
 unfolding commanded
 returns c =
     let s : Registry = registry_of c.args.self.now in
-    record { step = told_step (limits_of c.args.self.now) s Tokens (tokens_text s) c.tokens_report.result c.told.result tt refl refl c.tokens_report.ensures c.told.ensures; limits = refl }
+    record { step = told_step (limits_of c.args.self.now) s Tokens (tokens_text s) c.tokens_report.result c.reply_with.result tt refl refl c.tokens_report.ensures c.reply_with.ensures; limits = refl }

@@ -12,13 +12,13 @@ use Rattle.reg_tables_meaning.proofs.Results.{if_ok}
 use Rattle.reg_tables_meaning.proofs.SummaryMarked.{highest_is_marked, its_row, length_is_marked}
 use Rattle.reg_tables_meaning.proofs.SummaryRows.{version_at}
 use Rattle.reg_model.proofs.Lists.{true_not_false}
-use Rattle.reg_tables_meaning.proofs.summaries.remarked.Goals.{else-now-via-then-now+else-now-kept, else-now-via-else-now}
-use Rattle.reg_tables_meaning.proofs.summaries.remarked.Goals as goal
+use Rattle.reg_tables_meaning.proofs.summaries.numbers_marked.Goals.{else-now-via-then-now+else-now-kept, else-now-via-else-now}
+use Rattle.reg_tables_meaning.proofs.summaries.numbers_marked.Goals as goal
 
 pub returns-then-now-kept-clause-told : goal.returns-then-now-kept-clause-told
 returns-then-now-kept-clause-told g c clean =
     let old = state g.S.Store c.args.conn.now in
-    let one = state g.S.Store c.kept.new.conn in
+    let one = state g.S.Store c.find_kept.new.conn in
     let two = state g.S.Store c.version_at.new.conn in
     let clean_two : HasCleanDisk two = omega (arith, clean, c.numbers_of.ensures.same.survives.clean) in
     let clean_one : HasCleanDisk one = omega (arith, c.version_at.ensures.same.survives.clean) in
@@ -28,7 +28,7 @@ returns-then-now-kept-clause-told g c clean =
 pub returns-clause-told : goal.returns-clause-told
 returns-clause-told g c clean ids ps before after v stands has e change =
     let old = state g.S.Store c.args.conn.now in
-    let one = state g.S.Store c.kept.new.conn in
+    let one = state g.S.Store c.find_kept.new.conn in
     let two = state g.S.Store c.version_at.new.conn in
     let id = c.args.crate_id in
     let n = c.in_ok-highest.highest in
@@ -56,14 +56,14 @@ pub returns-in_err-now-clause-same : goal.returns-in_err-now-clause-same
 returns-in_err-now-clause-same g c =
     let p = err_from_is_err_and c.from_residual-in_err-now.result c.from_residual-in_err-now.ensures.1 in
     let old = state g.S.Store c.args.conn.now in
-    let one = state g.S.Store c.kept.new.conn in
+    let one = state g.S.Store c.find_kept.new.conn in
     let two = state g.S.Store c.version_at.new.conn in
     rw (p.1, p.2) (keeps_failed old two _ _ (keeps_then old one two _ _ c.in_ok-kept.ensures.same c.in_err-now.ensures.same))
 
 pub returns-then-now-kept-clause-same : goal.returns-then-now-kept-clause-same
 returns-then-now-kept-clause-same g c =
     let old = state g.S.Store c.args.conn.now in
-    let one = state g.S.Store c.kept.new.conn in
+    let one = state g.S.Store c.find_kept.new.conn in
     let two = state g.S.Store c.version_at.new.conn in
     let both = keeps_then old one two _ _ c.in_ok-kept.ensures.same c.in_ok-now.ensures.same in
     keeps_then old two (state g.S.Store c.numbers_of.new.conn) _ _ both c.numbers_of.ensures.same
@@ -72,7 +72,7 @@ pub returns-in_err-highest-clause-same : goal.returns-in_err-highest-clause-same
 returns-in_err-highest-clause-same g c =
     let p = err_from_is_err_and c.from_residual-in_err-highest.result c.from_residual-in_err-highest.ensures.1 in
     let old = state g.S.Store c.args.conn.now in
-    let one = state g.S.Store c.kept.new.conn in
+    let one = state g.S.Store c.find_kept.new.conn in
     let two = state g.S.Store c.version_at.new.conn in
     let three = state g.S.Store c.highest_marked.new.conn in
     let both = keeps_then old one two _ _ c.in_ok-kept.ensures.same c.in_ok-now.ensures.same in
@@ -81,7 +81,7 @@ returns-in_err-highest-clause-same g c =
 pub returns-in_err-index_length-clause-same : goal.returns-in_err-index_length-clause-same
 returns-in_err-index_length-clause-same g c =
     let old = state g.S.Store c.args.conn.now in
-    let one = state g.S.Store c.kept.new.conn in
+    let one = state g.S.Store c.find_kept.new.conn in
     let two = state g.S.Store c.version_at.new.conn in
     let three = state g.S.Store c.highest_marked.new.conn in
     let both = keeps_then old one two _ _ c.in_ok-kept.ensures.same c.in_ok-now.ensures.same in
@@ -90,7 +90,7 @@ returns-in_err-index_length-clause-same g c =
 pub returns-clause-same : goal.returns-clause-same
 returns-clause-same g c =
     let old = state g.S.Store c.args.conn.now in
-    let one = state g.S.Store c.kept.new.conn in
+    let one = state g.S.Store c.find_kept.new.conn in
     let two = state g.S.Store c.version_at.new.conn in
     let three = state g.S.Store c.highest_marked.new.conn in
     let both = keeps_then old one two _ _ c.in_ok-kept.ensures.same c.in_ok-now.ensures.same in

@@ -2,7 +2,7 @@ use Rattle.std.proofs.Common.{subst, sym}
 use Rattle.reg_http_read.specs.Heads.{IsHeadAt}
 use Rattle.reg_http_read.specs.Reads.{facts_of}
 use Rattle.reg_http_read.proofs.Requests.{no_room_kept}
-use Rattle.reg_http_read.proofs.taking.kept.Goals as goal
+use Rattle.reg_http_read.proofs.taking.keep_or_refuse.Goals as goal
 
 pub returns-in-Ok : goal.returns-in-Ok
 returns-in-Ok c limits bytes at = subst (IsHeadAt limits bytes) (sym c.in-Ok.ensures) at

@@ -1,6 +1,6 @@
 use Rattle.std.proofs.Common.{sym, ◌∙◌}
 use Rattle.reg_service_requests.proofs.OwningIds.{all_leave, some_leave}
-use Rattle.reg_service_requests.proofs.owning.leaving.Goals as goal
+use Rattle.reg_service_requests.proofs.owning.ids_leaving.Goals as goal
 
 pub returns-then-are_named : goal.returns-then-are_named
 returns-then-are_named c =

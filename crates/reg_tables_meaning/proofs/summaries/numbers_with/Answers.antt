@@ -6,12 +6,12 @@ use Rattle.sqlite.specs.State.{HasCleanDisk}
 use Rattle.reg_tables_meaning.specs.Summaries.{higher_of, line_length}
 use Rattle.reg_tables_meaning.specs.SummaryChanges.{HasVersion}
 use Rattle.reg_tables_meaning.proofs.Readings.{keeps_failed, keeps_so_far, keeps_then}
-use Rattle.reg_tables_meaning.proofs.summaries.pushed.Goals as goal
+use Rattle.reg_tables_meaning.proofs.summaries.numbers_with.Goals as goal
 
 pub returns-clause-told : goal.returns-clause-told
 returns-clause-told g c clean top next was e has a b =
     let old = state g.S.Store c.args.conn.now in
-    let one = state g.S.Store c.kept.new.conn in
+    let one = state g.S.Store c.find_kept.new.conn in
     let two = state g.S.Store c.version_at.new.conn in
     let clean_two : HasCleanDisk two = omega (arith, clean, c.version_at-2.ensures.same.survives.clean) in
     let clean_one : HasCleanDisk one = omega (arith, c.version_at.ensures.same.survives.clean) in
@@ -28,7 +28,7 @@ pub returns-in_err-top-clause-same : goal.returns-in_err-top-clause-same
 returns-in_err-top-clause-same g c =
     let p = err_from_is_err_and c.from_residual-in_err-top.result c.from_residual-in_err-top.ensures.1 in
     let old = state g.S.Store c.args.conn.now in
-    let one = state g.S.Store c.kept.new.conn in
+    let one = state g.S.Store c.find_kept.new.conn in
     let two = state g.S.Store c.version_at.new.conn in
     rw (p.1, p.2) (keeps_failed old two _ _ (keeps_then old one two _ _ c.in_ok-kept.ensures.same c.in_err-top.ensures.same))
 
@@ -36,7 +36,7 @@ pub returns-in_err-next-clause-same : goal.returns-in_err-next-clause-same
 returns-in_err-next-clause-same g c =
     let p = err_from_is_err_and c.from_residual-in_err-next.result c.from_residual-in_err-next.ensures.1 in
     let old = state g.S.Store c.args.conn.now in
-    let one = state g.S.Store c.kept.new.conn in
+    let one = state g.S.Store c.find_kept.new.conn in
     let two = state g.S.Store c.version_at.new.conn in
     let three = state g.S.Store c.version_at-2.new.conn in
     let both = keeps_then old one two _ _ c.in_ok-kept.ensures.same c.in_ok-top.ensures.same in
@@ -45,7 +45,7 @@ returns-in_err-next-clause-same g c =
 pub returns-in_err-highest-clause-same : goal.returns-in_err-highest-clause-same
 returns-in_err-highest-clause-same g c =
     let old = state g.S.Store c.args.conn.now in
-    let one = state g.S.Store c.kept.new.conn in
+    let one = state g.S.Store c.find_kept.new.conn in
     let two = state g.S.Store c.version_at.new.conn in
     let three = state g.S.Store c.version_at-2.new.conn in
     let both = keeps_then old one two _ _ c.in_ok-kept.ensures.same c.in_ok-top.ensures.same in
@@ -54,7 +54,7 @@ returns-in_err-highest-clause-same g c =
 pub returns-in_err-index_length-clause-same : goal.returns-in_err-index_length-clause-same
 returns-in_err-index_length-clause-same g c =
     let old = state g.S.Store c.args.conn.now in
-    let one = state g.S.Store c.kept.new.conn in
+    let one = state g.S.Store c.find_kept.new.conn in
     let two = state g.S.Store c.version_at.new.conn in
     let three = state g.S.Store c.version_at-2.new.conn in
     let both = keeps_then old one two _ _ c.in_ok-kept.ensures.same c.in_ok-top.ensures.same in
@@ -63,7 +63,7 @@ returns-in_err-index_length-clause-same g c =
 pub returns-clause-same : goal.returns-clause-same
 returns-clause-same g c =
     let old = state g.S.Store c.args.conn.now in
-    let one = state g.S.Store c.kept.new.conn in
+    let one = state g.S.Store c.find_kept.new.conn in
     let two = state g.S.Store c.version_at.new.conn in
     let three = state g.S.Store c.version_at-2.new.conn in
     let both = keeps_then old one two _ _ c.in_ok-kept.ensures.same c.in_ok-top.ensures.same in
