@@ -19,7 +19,7 @@ requests-init g c =
       so_far = record {
         keeps = still c.requires.may.tables;
         holds = λ clean s shows.
-            rw c.requires.nothing (holds_start g.S.Store (limits_of c.args.registry.now) s
+            rw c.new-pending.ensures.items (holds_start g.S.Store (limits_of c.args.registry.now) s
             (tables_of c.args.registry.now) k0 (g.R.Read.remaining c.args.r.now.inner) (g.W.Write.contents c.args.w.now.inner) (tables_of c.args.registry.now)
             (c.history_law.ensures.begins (limits_of c.args.registry.now) s (tables_of c.args.registry.now) shows));
         spends = rw (c.limits.ensures) (spends_nothing (limits_of c.args.registry.now).turns (tally c.args.r.now c.args.w.now));
