@@ -115,7 +115,8 @@ fn find_standing<S: Alter>(
     standing_of(alloc, work, &found, canon)
 }
 
-/// A crate name is a name.
+/// A crate name is a name: the body is there for the prover, which knows a name's form once its
+/// text is read.
 fn is_named(name: &CrateName)
     ensures { is_name name.now ≡ true }
 {

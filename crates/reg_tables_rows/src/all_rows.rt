@@ -103,7 +103,8 @@ fn token_tables<S: Alter>(alloc: Global, conn: &mut Connection<S>) -> Result<Tok
     })
 }
 
-// Rows that a connection shows keep the rules of its schema.
+// Rows that a connection shows keep the rules of its schema: the body is there for the prover,
+// which knows it once the schema is read.
 fn see_rules<S: Alter>(conn: &mut Connection<S>) -> Result<()>
     requires { IsReady (state S.Store conn.old) }
     ensures obeys { Done S.Store conn.new result (Obeys ours (rows_in S.Store conn.old)) }
