@@ -7,7 +7,7 @@ use Rattle.reg_manifest.specs.Fields.{Features, json_of, field, text_of, texts_o
 use Rattle.reg_manifest.specs.Manifests.{DepData, Metadata}
 use Rattle.reg_manifest.specs.declared.fault.ManifestFault.TheVariants as fault
 use Rattle.reg_line.specs.declared.line_read.VersionFields.{VersionFields}
-use Rattle.reg_line.specs.declared.line_read.DepFields.{DepFields}
+use Rattle.reg_line.specs.declared.line_read.Origin.{Origin}
 
 -- the package's own name, from `name` and `package`
 abbrev pub own_name : List ℕ → Option (List ℕ) → List ℕ
@@ -106,7 +106,7 @@ bytes_from bytes = json_of bytes >>= λ d. line_from d
 
 -- ---- what the parts that are read hold
 
-abbrev pub origin_view : DepFields → OriginData
+abbrev pub origin_view : Origin → OriginData
 origin_view o = record {
   own = option_map string_bytes o.own;
   registry = option_map string_bytes o.registry;

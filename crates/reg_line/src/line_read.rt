@@ -32,7 +32,7 @@ fn names(name: String, own: Option<String>) -> (String, Option<String>)
 
 /// Where a dependency comes from, what of it is wanted, and what it is for.
 #[derive(Drop)]
-struct DepFields {
+struct Origin {
     own: Option<String>,
     registry: Option<String>,
     req: String,
@@ -49,14 +49,14 @@ struct VersionFields {
 }
 
 #[tactic(auto, unfolding(crate::specs::LineRead::origin_from))]
-fn read_origin(alloc: Global, value: &Value) -> Result<DepFields, ManifestFault>
+fn read_origin(alloc: Global, value: &Value) -> Result<Origin, ManifestFault>
     ensures { Gives origin_view result (origin_from (view value.now)) }
 {
     let own = optional_text(alloc, value, "package")?;
     let registry = optional_text(alloc, value, "registry")?;
     let req = required_text(alloc, value, "req")?;
     let target = optional_text(alloc, value, "target")?;
-    Ok(DepFields {
+    Ok(Origin {
         own,
         registry,
         req,

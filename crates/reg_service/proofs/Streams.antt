@@ -144,13 +144,4 @@ asks_path limits (call.Search q per_page) h = absurd h
 
 -- and adds no version
 pub no_versions : (limits : Limits) (w : ApiCall) → AsksForFile w → added (asked_by limits w) ≡ 0
-no_versions limits (call.Index path) h = refl
-no_versions limits call.Config h = absurd h
-no_versions limits (call.Download n v) h = absurd h
-no_versions limits (call.ListOwners n) h = absurd h
-no_versions limits (call.Publish body) h = absurd h
-no_versions limits (call.Yank n v) h = absurd h
-no_versions limits (call.Unyank n v) h = absurd h
-no_versions limits (call.AddOwners n body) h = absurd h
-no_versions limits (call.RemoveOwners n body) h = absurd h
-no_versions limits (call.Search q per_page) h = absurd h
+no_versions limits w h = subst (λ a. added a ≡ 0) (asks_path limits w h) refl

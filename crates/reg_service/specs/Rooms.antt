@@ -70,17 +70,17 @@ TellsLeftOf limits known name db left = IsKnownIn limits known db
 
 -- whether the crate of a request has room for it
 abbrev pub TellsRoom : Limits → Asked → Trees → RoomAhead → Type 0
-TellsRoom limits asked db place =
-    place.has_room ≡ true → (s : Registry) → Are s db → HasPlace limits s asked
+TellsRoom limits asked db ahead =
+    ahead.has_room ≡ true → (s : Registry) → Are s db → HasPlace limits s asked
 
 -- what is known behind a request is so of what is made of any registry of which this was known
 abbrev pub Leaves : Limits → Option Room → Asked → Trees → Option Room → Type 0
 Leaves limits known asked db room =
     (r : Registry) → Are r db → HasRoom limits r known → LeavesRoom limits asked r room
 
-abbrev pub IsPlace : Limits → Option Room → Asked → Trees → RoomAhead → Type 0
-IsPlace limits known asked db place = IsKnownIn limits known db
-    → TellsRoom limits asked db place × Leaves limits known asked db place.room
+abbrev pub IsRoomAhead : Limits → Option Room → Asked → Trees → RoomAhead → Type 0
+IsRoomAhead limits known asked db ahead = IsKnownIn limits known db
+    → TellsRoom limits asked db ahead × Leaves limits known asked db ahead.room
 
 -- it is served, and this is known behind it
 abbrev pub ServesInPlace : Bool → Limits → Option Room → Option Text → Asked → Trees → Trees

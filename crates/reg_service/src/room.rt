@@ -9,7 +9,7 @@ ghost use Rattle.sqlite.specs.State.{HasCleanDisk};
 ghost use Rattle.reg_tables.specs.Calling.{Asks, Runs};
 ghost use Rattle.reg_model.specs.Events.Asked.{Publish};
 ghost use Rattle.reg_policy.specs.Events.{asked_of, publication_of};
-ghost use Rattle.reg_service.specs.Rooms.{AreWider, IsKnownIn, IsPlace, ServesInPlace, TellsLeft, TellsLeftAt, TellsLeftOf, added};
+ghost use Rattle.reg_service.specs.Rooms.{AreWider, IsKnownIn, IsRoomAhead, ServesInPlace, TellsLeft, TellsLeftAt, TellsLeftOf, added};
 ghost use Rattle.reg_tables.specs.Works.{IsAtWork, has_failed, rows_seen, seen};
 
 use reg_body::Limits;
@@ -150,7 +150,7 @@ fn publication_in<'b>(asked: &'b Asked<'b>) -> Option<&'b NewPublication<'b>>
 }
 
 /// What is known of a request, where this is known of the crate that was published last.
-fn place_of<S: Alter>(
+fn room_ahead<S: Alter>(
     work: &mut Work<'_, S>,
     limits: &Limits,
     known: Option<Room>,
@@ -159,7 +159,7 @@ fn place_of<S: Alter>(
     requires at_work { IsAtWork S.Store work.old }
     requires goes_on { has_failed work.old ≡ false }
     ensures { Asks S.Store work.old work.new result
-        (IsPlace limits.now known (asked_of asked.now)) }
+        (IsRoomAhead limits.now known (asked_of asked.now)) }
 {
     let Some(new) = publication_in(asked) else {
         return Ok(RoomAhead {
@@ -194,7 +194,7 @@ pub(crate) fn serve_in_place<S: Alter>(
     ensures { Runs S.Store work.old work.new result (ServesInPlace traced limits.now known
         (option_map (λ d. d.now) digest.entry) (asked_of asked.now)) }
 {
-    let RoomAhead { has_room, room } = place_of(work, limits, known, asked)?;
+    let RoomAhead { has_room, room } = room_ahead(work, limits, known, asked)?;
     let limits = limits_in(limits, has_room);
     let told = serve_told(alloc, work, &limits, digest, asked, traced)?;
     Ok((told, room))

@@ -4,7 +4,7 @@ use Rattle.reg_model.specs.Events.Asked.{Publish}
 use Rattle.reg_policy.specs.Events.{asked_of, publication_of}
 use Rattle.reg_service.specs.Rooms.{AddsFew, Fit, HasPlace, TellsLeftOf}
 use Rattle.reg_service.proofs.Rooms.{has_place, leaves_less}
-use Rattle.reg_service.proofs.room.place_of.Goals as goal
+use Rattle.reg_service.proofs.room.room_ahead.Goals as goal
 
 pub returns : goal.returns
 returns g c =
