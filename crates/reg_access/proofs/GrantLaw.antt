@@ -6,7 +6,7 @@ use Rattle.std.specs.List.{enumerate_from, filter, find, flat_map, list_any}
 use Rattle.std.specs.Option.{option_map}
 use Rattle.sqlite.specs.Tree.{Trees}
 use Rattle.reg_names.specs.Names.{canon, is_name}
-use Rattle.reg_model.specs.declared.endpoint.Endpoint.{Endpoint}
+use Rattle.reg_names.specs.declared.endpoint.Endpoint.{Endpoint}
 use Rattle.reg_model.specs.Crates.{collides, exists, first, is_among, is_reserved_always, owners as owners_in}
 use Rattle.reg_model.specs.Grants.{grants}
 use Rattle.reg_model.specs.Registry.{Account as Of, Publication, Registry, Text as Words}

@@ -4,8 +4,8 @@ use Rattle.std.specs.List.{enumerate_from, filter, flat_map, list_any}
 use Rattle.std.proofs.lemmas.List.{append_assoc}
 use Rattle.sqlite_trees.proofs.ListLemmas.{flat_map-map, map-flat_map}
 use Rattle.reg_names.specs.Patterns.{covers}
-use Rattle.reg_model.specs.declared.endpoint.Endpoint.{Endpoint}
-use Rattle.reg_model.specs.declared.endpoint.Endpoint.TheVariants as endpoint
+use Rattle.reg_names.specs.declared.endpoint.Endpoint.{Endpoint}
+use Rattle.reg_names.specs.declared.endpoint.Endpoint.TheVariants as endpoint
 use Rattle.reg_model.specs.Crates.{is_among, owners as owners_in}
 use Rattle.reg_model.specs.Grants.{all_endpoints, grants, has_right, is_granted}
 use Rattle.reg_model.specs.Registry.{Registry, Text as Words, Token, is_enabled}

@@ -24,7 +24,7 @@ use Rattle.sqlite_trees.specs.Tree.{IsAscending}
 use Rattle.sqlite_trees.proofs.ListLemmas.{IsPermutation-flat_map, flat_map-map, map-flat_map}
 use Rattle.reg_names.specs.Names.{canon, is_name}
 use Rattle.reg_names.specs.Patterns.{covers}
-use Rattle.reg_model.specs.declared.endpoint.Endpoints.{Endpoints}
+use Rattle.reg_names.specs.declared.endpoint.Endpoints.{Endpoints}
 use Rattle.reg_model.specs.Registry.{holds as any_such}
 use Rattle.reg_model.specs.Registry.{Account, Registry, Text as Words, Token, with_id}
 use Rattle.reg_model.specs.Sound.{is_token}

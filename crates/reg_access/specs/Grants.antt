@@ -8,8 +8,8 @@ use Rattle.sqlite.specs.Tree.{Trees}
 use Rattle.sqlite.specs.declared.types.Value.TheVariants.{Int, Text}
 use Rattle.reg_names.specs.Names.{canon, is_name}
 use Rattle.reg_names.specs.Patterns.{covers}
-use Rattle.reg_model.specs.declared.endpoint.Endpoint.{Endpoint}
-use Rattle.reg_model.specs.declared.endpoint.Endpoint.TheVariants as endpoint
+use Rattle.reg_names.specs.declared.endpoint.Endpoint.{Endpoint}
+use Rattle.reg_names.specs.declared.endpoint.Endpoint.TheVariants as endpoint
 use Rattle.reg_model.specs.Crates.{exists, is_reserved, is_reserved_always}
 use Rattle.reg_model.specs.Grants.{all_endpoints, grants, is_granted, who_reads}
 use Rattle.reg_model.specs.Registry.{Registry, Text as Words, Token, is_enabled, with_id}

@@ -10,8 +10,8 @@ use Rattle.std.proofs.lemmas.Bool.{and_parts, and_from}
 use Rattle.std.proofs.lemmas.Slice.Eq.{bytes_eq-Decides}
 use Rattle.reg_names.specs.Names.{canon, is_name, name_of}
 use Rattle.reg_names.specs.Patterns.{covers, has_star, prefix_of}
-use Rattle.reg_model.specs.declared.endpoint.Endpoint.{Endpoint}
-use Rattle.reg_model.specs.declared.endpoint.Endpoint.TheVariants as endpoint
+use Rattle.reg_names.specs.declared.endpoint.Endpoint.{Endpoint}
+use Rattle.reg_names.specs.declared.endpoint.Endpoint.TheVariants as endpoint
 use Rattle.reg_model.specs.declared.rule.Rule.{Rule}
 use Rattle.reg_model.specs.declared.rule.Rule.TheVariants as rule
 use Rattle.reg_model.specs.Lists.{IsIn}

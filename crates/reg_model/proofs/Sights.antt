@@ -7,7 +7,7 @@ use Rattle.std.specs.Str.{bytes_eq}
 use Rattle.reg_names.specs.Patterns.{covers}
 use Rattle.reg_versions.specs.Precedence.{top_place}
 use Rattle.reg_line.specs.File.{file_text}
-use Rattle.reg_model.specs.declared.endpoint.Endpoints.{Endpoints}
+use Rattle.reg_names.specs.declared.endpoint.Endpoints.{Endpoints}
 use Rattle.reg_model.specs.Registry.{Text, Token, Publication, Registry, holds, is_enabled, token_of}
 use Rattle.reg_model.specs.Crates.{collides, file, first, is_among, is_yanked, owners, versions, viewer, visible}
 use Rattle.reg_model.specs.Effects.{owner_entry}

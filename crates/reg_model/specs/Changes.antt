@@ -1,7 +1,7 @@
 -- The changes of a registry, each by its name. Effects, tables and the calls on them cite these.
 use Rattle.std.specs.Prelude.{ℕ, Bool, true, false, if◌then◌else◌, List, [], ◌∷◌, ◌++◌, Option}
 use Rattle.std.specs.FinSet as finset
-use Rattle.reg_model.specs.declared.endpoint.Endpoints.{Endpoints}
+use Rattle.reg_names.specs.declared.endpoint.Endpoints.{Endpoints}
 use Rattle.reg_model.specs.Registry.{Text, Publication, Mark, Owner, Registry, change_at}
 
 -- one more account, which is enabled

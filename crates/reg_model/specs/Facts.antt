@@ -4,7 +4,7 @@ use Rattle.std.specs.Prelude.{ℕ, Bool, is_some, length, Option, Some, None, fa
 use Rattle.std.specs.List.{list_any, list_all}
 use Rattle.std.specs.Str.{bytes_eq}
 use Rattle.reg_names.specs.Patterns.{covers}
-use Rattle.reg_model.specs.declared.endpoint.Endpoints.{Endpoints}
+use Rattle.reg_names.specs.declared.endpoint.Endpoints.{Endpoints}
 use Rattle.reg_model.specs.Registry.{Text, Registry, token_of, is_enabled, is_known, holds, Account, Token}
 use Rattle.reg_model.specs.Crates.{first, versions, owners, is_among, is_reserved, crates, same_release, visible}
 use Rattle.reg_model.specs.Actions.{Action, crate_of, version_of, logins_of}

@@ -2,8 +2,8 @@
 use Rattle.std.specs.Prelude.{ℕ, ◌&&◌, if◌then◌else◌, Bool, not, List, [], ◌∷◌, map}
 use Rattle.std.specs.List.{enumerate_from, filter, flat_map, list_any}
 use Rattle.reg_names.specs.Patterns.{covers}
-use Rattle.reg_model.specs.declared.endpoint.Endpoint.{Endpoint}
-use Rattle.reg_model.specs.declared.endpoint.Endpoint.TheVariants as endpoint
+use Rattle.reg_names.specs.declared.endpoint.Endpoint.{Endpoint}
+use Rattle.reg_names.specs.declared.endpoint.Endpoint.TheVariants as endpoint
 use Rattle.reg_model.specs.Registry.{Text, Account, Token, Registry, is_enabled}
 use Rattle.reg_model.specs.Crates.{exists, is_among, is_reserved, is_restricted, owners, readers}
 use Rattle.reg_model.specs.Rules.{has_endpoint}

@@ -7,7 +7,7 @@ use Rattle.reg_model.specs.declared.rule.AdminRefusal.{AdminRefusal}
 use Rattle.reg_body.specs.declared.limits.Limits.{Limits}
 use Rattle.reg_line.specs.Base.{is_base}
 use Rattle.reg_line.specs.Shortest.{shortest_line}
-use Rattle.reg_model.specs.declared.endpoint.Endpoint.{Endpoint}
+use Rattle.reg_names.specs.declared.endpoint.Endpoint.{Endpoint}
 use Rattle.reg_model.specs.Lists.{IsIn}
 use Rattle.reg_model.specs.Registry.{Text, Token, Registry, empty_at, holds, with_id}
 use Rattle.reg_model.specs.Crates.{canons, exists, file, first, is_restricted, stems, versions, visible}

@@ -18,7 +18,7 @@ use Rattle.reg_model.specs.Facts.{access_facts, counts, is_named}
 use Rattle.reg_model.specs.Actions.{Action}
 use Rattle.reg_model.specs.Rules.{verdict}
 use Rattle.std.specs.Str.{bytes_eq}
-use Rattle.reg_model.specs.declared.endpoint.Endpoints.{Endpoints}
+use Rattle.reg_names.specs.declared.endpoint.Endpoints.{Endpoints}
 
 abbrev pub or_else : Option Rule → Option Rule → Option Rule
 or_else None then = then

@@ -3,9 +3,9 @@ use Rattle.std.specs.Prelude.{ℕ, ◌-◌, ◌∷◌, ◌++◌, if◌then◌els
 use Rattle.std.specs.Fmt.{decimal}
 use Rattle.std.specs.List.{enumerate_from, filter, flat_map, join_with_byte}
 use Rattle.std.specs.Option.{option_map}
-use Rattle.reg_model.specs.declared.endpoint.Endpoint.{Endpoint}
-use Rattle.reg_model.specs.declared.endpoint.Endpoint.TheVariants as endpoint
-use Rattle.reg_model.specs.declared.endpoint.Endpoints.{Endpoints}
+use Rattle.reg_names.specs.declared.endpoint.Endpoint.{Endpoint}
+use Rattle.reg_names.specs.declared.endpoint.Endpoint.TheVariants as endpoint
+use Rattle.reg_names.specs.declared.endpoint.Endpoints.{Endpoints}
 use Rattle.reg_model.specs.Registry.{Text, Account, Token, Registry, with_id}
 use Rattle.reg_model.specs.Crates.{canons, first, versions}
 use Rattle.reg_model.specs.Rules.{has_endpoint}

@@ -5,15 +5,15 @@ use Rattle.std.specs.List.{find, filter}
 use Rattle.std.specs.Str.{bytes_eq}
 use Rattle.reg_names.specs.Names.{path_of}
 use Rattle.reg_body.specs.declared.limits.Limits.{Limits}
-use Rattle.reg_model.specs.declared.endpoint.Endpoint.{Endpoint}
-use Rattle.reg_model.specs.declared.endpoint.Endpoint.TheVariants as endpoint
+use Rattle.reg_names.specs.declared.endpoint.Endpoint.{Endpoint}
+use Rattle.reg_names.specs.declared.endpoint.Endpoint.TheVariants as endpoint
 use Rattle.reg_model.specs.declared.rule.Rule.{Rule}
 use Rattle.reg_model.specs.declared.rule.Rule.TheVariants as rule
 use Rattle.reg_model.specs.Registry.{Text, holds}
 use Rattle.reg_model.specs.Actions.{Action}
 use Rattle.reg_model.specs.Actions.Action.{Read, Index, Download, ListOwners, Publish, Yank, Unyank, AddOwners, RemoveOwners}
 use Rattle.reg_model.specs.Facts.{Access, Counts}
-use Rattle.reg_model.specs.declared.endpoint.Endpoints.{Endpoints}
+use Rattle.reg_names.specs.declared.endpoint.Endpoints.{Endpoints}
 
 abbrev pub has_endpoint : Endpoints → Endpoint → Bool
 has_endpoint s endpoint.PublishNew = s.publish_new

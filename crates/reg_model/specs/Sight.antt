@@ -1,7 +1,7 @@
 -- What a token may see of a registry.
 use Rattle.std.specs.Prelude.{◌≡◌, ℕ, if◌then◌else◌, Bool, List, map, Option, Some, None}
 use Rattle.std.specs.Option.{option_map}
-use Rattle.reg_model.specs.declared.endpoint.Endpoints.{Endpoints}
+use Rattle.reg_names.specs.declared.endpoint.Endpoints.{Endpoints}
 use Rattle.reg_model.specs.Registry.{Text, Publication, Registry, is_enabled, token_of}
 use Rattle.reg_model.specs.Crates.{is_yanked, owners, versions, visible}
 use Rattle.reg_model.specs.Effects.{owner_entry}

@@ -11,7 +11,7 @@ use Rattle.reg_model.specs.Crates.{has_crate, first, is_reserved_always}
 use Rattle.reg_model.specs.Steps.{IsGenuine}
 use Rattle.reg_names.specs.Logins.{is_login}
 use Rattle.reg_names.specs.Patterns.{is_pattern}
-use Rattle.reg_model.specs.declared.endpoint.Endpoints.{Endpoints}
+use Rattle.reg_names.specs.declared.endpoint.Endpoints.{Endpoints}
 use Rattle.reg_versions.specs.Versions.{release_key_of}
 use Rattle.reg_model.specs.Refusals.{may_name}
 

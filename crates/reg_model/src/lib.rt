@@ -4,9 +4,8 @@
 //! `Rule::from(BodyFault::Short)` is `Rule::B1`.
 #![tactic(auto)]
 
-mod endpoint;
 pub mod laws;
 mod rule;
 
-pub use endpoint::{Endpoint, Endpoints};
+pub use reg_names::{Endpoint, Endpoints};
 pub use rule::{AdminRefusal, Rule};

@@ -1,4 +1,4 @@
-//! The names of a registry: crate names, logins, and the patterns of token scopes.
+//! The names of a registry: crate names, logins, and the scopes of tokens.
 //!
 //! Each is a small value that takes no heap memory, made from a text only by its parser. A crate
 //! name gives its index path and its canonical text, which two spellings of one crate share.
@@ -12,6 +12,7 @@
 #![tactic(auto)]
 
 mod canonical;
+mod endpoint;
 pub mod laws;
 mod login;
 mod name;
@@ -20,6 +21,7 @@ mod pattern;
 mod range;
 
 pub use canonical::{CanonText, canon, canon_byte, canon_text, collides};
+pub use endpoint::{Endpoint, Endpoints};
 pub use login::{Login, parse_login};
 pub use name::{CrateName, lower, parse_name};
 pub use path::{LONGEST_PATH, PathText, index_path, name_of_path};

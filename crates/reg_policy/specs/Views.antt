@@ -4,7 +4,7 @@ use Rattle.std.specs.Option.{option_map}
 use Rattle.std.specs.List.{list_any, list_all}
 use Rattle.std.specs.Str.{bytes_eq}
 use Rattle.reg_names.specs.Patterns.{covers}
-use Rattle.reg_model.specs.declared.endpoint.Endpoints.{Endpoints}
+use Rattle.reg_names.specs.declared.endpoint.Endpoints.{Endpoints}
 use Rattle.reg_model.specs.declared.rule.Rule.{Rule}
 use Rattle.reg_model.specs.Registry.{Text, holds}
 use Rattle.reg_model.specs.Crates.{same_release}

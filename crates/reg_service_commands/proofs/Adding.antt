@@ -9,7 +9,7 @@ use Rattle.sqlite.specs.Tree.{Trees}
 use Rattle.reg_body.specs.declared.limits.Limits.{Limits}
 use Rattle.reg_names.specs.Logins.{is_login, login_of}
 use Rattle.reg_names.specs.Patterns.{is_pattern}
-use Rattle.reg_model.specs.declared.endpoint.Endpoints.{Endpoints}
+use Rattle.reg_names.specs.declared.endpoint.Endpoints.{Endpoints}
 use Rattle.reg_model.specs.declared.rule.AdminRefusal.{AdminRefusal}
 use Rattle.reg_model.specs.declared.rule.AdminRefusal.TheVariants as refusal
 use Rattle.reg_model.specs.Changes.{with_token}

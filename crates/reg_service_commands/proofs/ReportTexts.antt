@@ -5,7 +5,7 @@ use Rattle.std.specs.List.{enumerate_from, filter, flat_map}
 use Rattle.std.specs.Option.{option_map}
 use Rattle.std.proofs.lemmas.Bool.{ne_eqb}
 use Rattle.std.proofs.lemmas.List.Folds.{flat_map-map}
-use Rattle.reg_model.specs.declared.endpoint.Endpoint.{Endpoint}
+use Rattle.reg_names.specs.declared.endpoint.Endpoint.{Endpoint}
 use Rattle.reg_model.specs.Grants.{all_endpoints, grants, is_granted, who_reads}
 use Rattle.reg_model.specs.Registry as model
 use Rattle.reg_model.specs.Registry.{Registry, Text, with_id}

@@ -1,7 +1,7 @@
 -- What a change of the rows is on the tokens that they stand for.
 use Rattle.reg_tables_sql.specs.Tokens.{token_row}
 use Rattle.reg_tables_sql.specs.Updates.{KeepsWhereNone}
-use Rattle.reg_model.specs.declared.endpoint.Endpoints.{Endpoints}
+use Rattle.reg_names.specs.declared.endpoint.Endpoints.{Endpoints}
 use Rattle.std.proofs.Common.{◌≡◌, ◌==◌, ℕ, zero, suc, ◌+◌, ◌-◌, ◌<◌, ◌≤◌, pos, Bool, true, false, cond, List, [], ◌∷◌, ◌++◌, map, length, take, get_or, not, Some, arith, refl, sym, ap, subst, ◌∙◌, None, Option}
 use Rattle.std.specs.Prelude.{drop}
 use Rattle.std.specs.List.{filter, enumerate_from, flat_map}

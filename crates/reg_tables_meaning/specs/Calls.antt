@@ -10,7 +10,7 @@ use Rattle.std.specs.Option.{option_map}
 use Rattle.std.specs.Str.{bytes_eq}
 use Rattle.sqlite.specs.Tree.{Trees}
 use Rattle.reg_names.specs.Names.{canon}
-use Rattle.reg_model.specs.declared.endpoint.Endpoints.{Endpoints}
+use Rattle.reg_names.specs.declared.endpoint.Endpoints.{Endpoints}
 use Rattle.reg_model.specs.Changes.{with_account, with_enabled, with_owner, with_publication, with_revoked, with_token}
 use Rattle.reg_model.specs.Crates as model
 use Rattle.reg_model.specs.Crates.{exists, first, has_crate, is_restricted, is_yanked, version, versions}

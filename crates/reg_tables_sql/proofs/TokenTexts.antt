@@ -15,7 +15,7 @@ use Rattle.sqlite.proofs.Callers.{IsPlain, command_of}
 use Rattle.sqlite_rules.specs.Edit.{edited}
 use Rattle.sqlite_trees.specs.Tree.{has_rowid, put_row, without_rowid}
 use Rattle.sqlite_tied.specs.Compute.{everything}
-use Rattle.reg_model.specs.declared.endpoint.Endpoints.{Endpoints}
+use Rattle.reg_names.specs.declared.endpoint.Endpoints.{Endpoints}
 use Rattle.reg_tables_schema.specs.Schema.{ours, tokens}
 use Rattle.reg_tables_schema.specs.Rows.{mark}
 use Rattle.reg_tables_schema.specs.States.{IsInside}

@@ -8,7 +8,7 @@ use Rattle.sqlite.specs.declared.types.Value.TheVariants.{Int, Text, Blob}
 use Rattle.sqlite.specs.Collation.TheVariants.{Binary}
 use Rattle.sqlite_schema.specs.Rules.{equal}
 use Rattle.sqlite_trees.specs.Tree.{has_rowid}
-use Rattle.reg_model.specs.declared.endpoint.Endpoints.{Endpoints}
+use Rattle.reg_names.specs.declared.endpoint.Endpoints.{Endpoints}
 use Rattle.reg_tables_schema.specs.Changes.{Replaces, Touches}
 use Rattle.reg_tables_schema.specs.Places.{accounts_tree, digest_place, id_place, token_account_place, tokens_tree}
 use Rattle.reg_tables_schema.specs.Rows.{IsInOrder, by_column, keyed, mark}

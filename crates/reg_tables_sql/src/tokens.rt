@@ -14,7 +14,7 @@ ghost use Rattle.reg_tables_sql.specs.Tokens.{AreTokens, IsTokenOfDigest, IsToke
 
 use crate::marks::mark_of;
 use crate::statements::{Result, select_list, select_one, write};
-use reg_model::Endpoints;
+use reg_names::Endpoints;
 use sqlite::{Alter, Connection, Row, params};
 use std::alloc::Global;
 
