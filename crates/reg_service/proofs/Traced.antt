@@ -22,7 +22,8 @@ use Rattle.reg_tables.specs.declared.tables.Tables.{Tables}
 use Rattle.reg_service.specs.Acted.{ActsTo, Orders}
 use Rattle.reg_service.specs.Answered.{Answers, Are}
 use Rattle.reg_service.specs.Handled.{RepliesTo}
-use Rattle.reg_service_requests.specs.Telling.{TellsIf, line_with}
+use Rattle.reg_service_steps.specs.Telling.{TellsIf}
+use Rattle.reg_service_requests.specs.Telling.{line_with}
 use Rattle.reg_service_commands.specs.Telling.{line_of_answer}
 use Rattle.reg_service_commands.specs.declared.told.OrderTold.{OrderTold}
 use Rattle.reg_service_requests.specs.declared.told.Acted.{Acted}

@@ -18,7 +18,7 @@ use Rattle.reg_model.specs.Registry.{Registry, Text}
 use Rattle.reg_model.specs.Steps.{no_room, outcome, unless_refused}
 use Rattle.reg_model.specs.Trail.{IsPassed, command_words, has_no_room, line, line_of, or_nothing, told, unless_some, with_asker}
 use Rattle.reg_service_commands.specs.Telling.{line_of_answer}
-use Rattle.reg_service_requests.proofs.ReplyLines.{nothing}
+use Rattle.reg_service_steps.proofs.Afterwards.{nothing}
 
 replied_room : (s : Registry) (c : Command) (g : AdminRefusal) → replied s c ≡ to_refused g → ⊥
 replied_room s (UserAdd login name) g e = cc

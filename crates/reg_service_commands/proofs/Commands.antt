@@ -18,7 +18,7 @@ use Rattle.reg_tables_sql.specs.declared.accounts.Account.{Account}
 use Rattle.reg_tables_meaning.specs.Calls.{FindsAccount, SetsEnabled, Turns}
 use Rattle.reg_tables_meaning.specs.Stands.{Stands}
 use Rattle.reg_service_commands.specs.Orders.{HasOutcome, enabling, first_ground}
-use Rattle.reg_service_requests.proofs.Names.{is_given, is_not}
+use Rattle.reg_service_steps.proofs.Names.{is_given, is_not}
 use Rattle.reg_service_commands.proofs.Outcomes.{done_so, refused_so}
 
 -- accounts are enabled and disabled

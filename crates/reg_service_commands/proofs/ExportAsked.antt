@@ -16,7 +16,7 @@ use Rattle.reg_tables.specs.declared.work.Work.{Work}
 use Rattle.reg_tables.specs.Calling.{Asks}
 use Rattle.reg_access.proofs.Questions.{asks_after, asks_both, asks_failed, asks_made}
 use Rattle.reg_service_commands.specs.Exported.{AddsFile, AddsFiles, Exports, HasConfig, IsCrate, file_of, texts_of}
-use Rattle.reg_service_requests.specs.Reads.{entry_of_version}
+use Rattle.reg_service_steps.specs.Reads.{entry_of_version}
 use Rattle.reg_service_commands.proofs.IndexFiles.{file_told, index_told, next_file}
 
 abbrev Files : Type 0

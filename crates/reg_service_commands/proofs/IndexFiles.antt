@@ -20,8 +20,8 @@ use Rattle.reg_tables_meaning.specs.Changes.{told_of}
 use Rattle.reg_tables_meaning.specs.Entries.{shown_version, version_shown}
 use Rattle.reg_tables_meaning.specs.Stands.{Ids, spelling_at}
 use Rattle.reg_service_commands.specs.Exported.{IsCrate, file_of}
-use Rattle.reg_service_requests.specs.Reads.{entry_of_version}
-use Rattle.reg_service_requests.proofs.ReadingServed.{entries_told}
+use Rattle.reg_service_steps.specs.Reads.{entry_of_version}
+use Rattle.reg_service_steps.proofs.Entries.{entries_told}
 use Rattle.reg_model.proofs.CanonLists.{canons_listed}
 
 pub file_told : (ids : Ids) (s : Registry) (c : Crate) (vs : List Version) → map shown_version vs ≡ told_of (spelling_at ids c.id) [] (λ name. map (version_shown s.yanked) (versions s name)) → IsCrate ids s c

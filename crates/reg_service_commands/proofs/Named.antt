@@ -9,8 +9,8 @@ use Rattle.reg_model.specs.Registry.{Registry, Text, id_of_login}
 use Rattle.reg_tables_sql.specs.declared.accounts.Account.{Account}
 use Rattle.reg_tables_sql.specs.declared.crates.Crate.{Crate}
 use Rattle.reg_tables_meaning.specs.Calls.{FindsAccount}
-use Rattle.reg_service_requests.specs.Named.{FindsNamed}
-use Rattle.reg_service_requests.proofs.Names.{named_there}
+use Rattle.reg_service_steps.specs.Named.{FindsNamed}
+use Rattle.reg_service_steps.proofs.Names.{named_there}
 use Rattle.reg_service_commands.specs.Orders.{FindsPair, first_ground}
 
 -- a crate and an account

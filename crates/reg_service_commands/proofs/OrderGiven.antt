@@ -11,7 +11,7 @@ use Rattle.reg_policy.specs.Events.{command_of}
 use Rattle.reg_tables.specs.declared.work.StoreFault.{StoreFault}
 use Rattle.reg_tables.specs.declared.work.Work.{Work}
 use Rattle.reg_tables.specs.Calling.{Asks}
-use Rattle.reg_service_requests.specs.Telling.{TellsLine}
+use Rattle.reg_service_steps.specs.Telling.{TellsLine}
 use Rattle.reg_service_commands.proofs.Ordered.{is_report}
 
 module _ {S : Type 0} (g : Ghosts S) (r : Result (Option (String Global)) StoreFault) (old new : Work S) where

@@ -31,14 +31,14 @@ use Rattle.reg_tables_meaning.specs.Calls.{FindsAccount, ListsOwners, ListsReade
 use Rattle.reg_tables_meaning.specs.Changes.{told_of}
 use Rattle.reg_tables_meaning.specs.Entries.{entry_of_account}
 use Rattle.reg_access.proofs.GrantLaw.{first_canon}
-use Rattle.reg_service_requests.proofs.Names.{is_given, is_not}
+use Rattle.reg_service_steps.proofs.Names.{is_given, is_not}
 use Rattle.reg_service_commands.specs.Orders.{enabling, reading, restricting}
 use Rattle.reg_tables_meaning.specs.Calls.{TellsLive}
-use Rattle.reg_service_requests.specs.Named.{FindsNamed}
-use Rattle.reg_service_requests.specs.Telling.{TellsLine, differs, line_if}
+use Rattle.reg_service_steps.specs.Named.{FindsNamed}
+use Rattle.reg_service_steps.specs.Telling.{TellsLine, differs, line_if}
 use Rattle.reg_service_commands.specs.Telling.{enabled_word, reader_word, restricted_word}
-use Rattle.reg_service_requests.proofs.Owned.{one_owns}
-use Rattle.reg_service_requests.proofs.Placed.{login_passes}
+use Rattle.reg_service_steps.proofs.Owners.{one_owns}
+use Rattle.reg_service_steps.proofs.Placed.{login_passes}
 
 -- what is so, by whether it has yet to become so
 was : (is wanted : Bool) → cond (differs is wanted) (not wanted) wanted ≡ is

@@ -22,8 +22,8 @@ use Rattle.reg_tables_meaning.specs.Changes.{insert_at, mark_in, remove_at}
 use Rattle.reg_tables_meaning.specs.Stands.{Stands}
 use Rattle.std.specs.Prelude.{Ok, Err, unwrap_or}
 use Rattle.std.specs.List.{cons_option}
-use Rattle.reg_service_requests.specs.Named.{FindsNamed}
-use Rattle.reg_service_requests.proofs.Names.{named_there}
+use Rattle.reg_service_steps.specs.Named.{FindsNamed}
+use Rattle.reg_service_steps.proofs.Names.{named_there}
 use Rattle.reg_service_commands.specs.Orders.{FindsPair, HasOutcome, first_ground, restricting}
 use Rattle.reg_service_commands.proofs.Named.{paired}
 use Rattle.reg_service_commands.proofs.Outcomes.{done_so, refused_so}

@@ -13,7 +13,7 @@ use Rattle.reg_model.specs.Registry.{Text}
 use Rattle.reg_model.specs.Reports.{access_text, crates_text, tokens_text, users_text}
 use Rattle.reg_tables_meaning.specs.Calls.{Tells}
 use Rattle.reg_service_commands.specs.Orders.{HasOutcome, first_ground}
-use Rattle.reg_service_requests.proofs.Names.{is_given, is_not}
+use Rattle.reg_service_steps.proofs.Names.{is_given, is_not}
 use Rattle.reg_service_commands.proofs.Outcomes.{done_so, refused_so}
 
 pub no_report : (limits : Limits) (name : Text) (db : Trees) → name_of name ≡ None → HasOutcome limits (Order (Access name)) (Refused refusal.G4) db db

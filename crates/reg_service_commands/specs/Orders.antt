@@ -24,7 +24,7 @@ use Rattle.reg_tables_meaning.specs.Calls.{Tells}
 use Rattle.reg_tables_meaning.specs.Stands.{Holds, Ids, Stands}
 use Rattle.reg_tables.specs.declared.work.StoreFault.{StoreFault}
 use Rattle.reg_tables.specs.declared.work.Work.{Work}
-use Rattle.reg_service_requests.specs.Named.{IsNamed}
+use Rattle.reg_service_steps.specs.Named.{IsNamed}
 use Rattle.reg_tables.specs.Calling.{Runs}
 
 -- the answer is the event's, and the rows are those of the state after it

@@ -10,7 +10,7 @@ use Rattle.reg_model.specs.Events.Event.{Order}
 use Rattle.reg_model.specs.Registry.{Text}
 use Rattle.reg_policy.specs.Events.{reply_of}
 use Rattle.reg_policy.specs.declared.event.AdminReply.{AdminReply}
-use Rattle.reg_service_requests.specs.Telling.{TellsIf}
+use Rattle.reg_service_steps.specs.Telling.{TellsIf}
 use Rattle.reg_service_commands.specs.Orders.{HasOutcome}
 use Rattle.reg_service_commands.specs.declared.told.OrderTold.{OrderTold}
 

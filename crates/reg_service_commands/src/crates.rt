@@ -9,7 +9,7 @@ use crate::finding::find_pair;
 use crate::told::Answer;
 use reg_model::AdminRefusal;
 use reg_policy::AdminReply;
-use reg_service_requests::find_named;
+use reg_service_steps::find_named;
 use reg_tables::{Result, Work};
 use sqlite::Alter;
 

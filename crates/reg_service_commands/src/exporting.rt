@@ -7,11 +7,11 @@ ghost use Rattle.reg_names.specs.Names.{path_of};
 ghost use Rattle.reg_tables.specs.Works.{IsAtWork, has_failed};
 ghost use Rattle.reg_tables.specs.Calling.{Asks};
 ghost use Rattle.reg_service_commands.specs.Exported.{AddsFile, AddsFiles, Exports, HasConfig, texts_of};
-ghost use Rattle.reg_service_requests.specs.Reads.{entry_of_version};
+ghost use Rattle.reg_service_steps.specs.Reads.{entry_of_version};
 
 use reg_line::config;
 use reg_names::{CrateName, index_path, parse_name};
-use reg_service_requests::{find_base, index_file};
+use reg_service_steps::{find_base, index_file};
 use reg_tables::{Crate, Result, Version, Work};
 use sqlite::Alter;
 use std::alloc::{AllocError, Global};

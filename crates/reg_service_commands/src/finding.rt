@@ -6,7 +6,7 @@ ghost use Rattle.reg_tables.specs.Calling.{Asks};
 ghost use Rattle.reg_service_commands.specs.Orders.{FindsPair, first_ground};
 
 use reg_model::AdminRefusal;
-use reg_service_requests::find_named;
+use reg_service_steps::find_named;
 use reg_tables::{Result, Work};
 use sqlite::Alter;
 

@@ -9,7 +9,7 @@ ghost use Rattle.reg_model.specs.Trail.{line_of, name_words};
 use itoa::Buffer;
 use reg_names::Pattern;
 use reg_policy::WithCommas;
-use reg_service_requests::line_of;
+use reg_service_steps::line_of;
 use std::alloc::{AllocError, Global};
 
 /// A change by the administrator, of one thing.

@@ -10,13 +10,13 @@ ghost use Rattle.reg_policy.specs.Events.{command_of};
 ghost use Rattle.reg_tables.specs.Works.{IsAtWork, has_failed};
 ghost use Rattle.reg_tables.specs.Calling.{Asks};
 ghost use Rattle.reg_service_commands.specs.Orders.{enabling, reading, restricting};
-ghost use Rattle.reg_service_requests.specs.Telling.{IsToldLine, TellsLine, line_if};
+ghost use Rattle.reg_service_steps.specs.Telling.{IsToldLine, TellsLine, line_if};
 ghost use Rattle.reg_service_commands.specs.Telling.{enabled_word, reader_word, restricted_word};
 
 use crate::lines::{new_token_line, new_user_line, revocation_line};
 use reg_names::{canon, parse_name};
 use reg_policy::{AdminCommand, is_reserved_always, parse_patterns};
-use reg_service_requests::{differs, find_named, have_login, tell_words, told_line};
+use reg_service_steps::{differs, find_named, have_login, tell_words, told_line};
 use reg_tables::{Result, Work};
 use sqlite::Alter;
 use std::alloc::Global;

@@ -7,7 +7,7 @@ ghost use Rattle.reg_policy.specs.Events.{command_of};
 ghost use Rattle.reg_tables.specs.Works.{IsAtWork, has_failed};
 ghost use Rattle.reg_tables.specs.Calling.{Asks, Runs};
 ghost use Rattle.reg_service_commands.specs.Telling.{OrdersTold, line_of_answer};
-ghost use Rattle.reg_service_requests.specs.Telling.{TellsIf};
+ghost use Rattle.reg_service_steps.specs.Telling.{TellsIf};
 
 use crate::orders::order;
 use crate::telling::tell_command;

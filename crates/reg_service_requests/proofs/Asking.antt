@@ -15,7 +15,8 @@ use Rattle.reg_model.specs.Trail.{asker, line, line_of, only_if, request_words, 
 use Rattle.reg_access.specs.declared.admission.Caller.{Caller}
 use Rattle.reg_tables_meaning.specs.Calls.{Tells}
 use Rattle.reg_service_requests.specs.Granted.{IsCaller}
-use Rattle.reg_service_requests.specs.Telling.{TellsRequest, line_if}
+use Rattle.reg_service_steps.specs.Telling.{line_if}
+use Rattle.reg_service_requests.specs.Telling.{TellsRequest}
 
 -- these are the words for what a request of this caller changes that nothing denies
 abbrev pub HasWords : Caller → Asked → Trees → Option (List Text) → Type 0

@@ -34,9 +34,10 @@ use Rattle.reg_tables_meaning.specs.Calls.{Tells}
 use Rattle.reg_tables.specs.declared.work.StoreFault.{StoreFault}
 use Rattle.reg_tables.specs.declared.work.Work.{Work}
 use Rattle.reg_service_requests.specs.Granted.{Grants, GrantsOf, GrantsTo, GrantsVersion, IsLet}
-use Rattle.reg_service_requests.specs.Named.{IsViewer}
+use Rattle.reg_service_steps.specs.Named.{IsViewer}
 use Rattle.reg_service_requests.specs.Serves.{Serves}
-use Rattle.reg_service_requests.specs.Telling.{ServesTold, TellsIf, TellsLine}
+use Rattle.reg_service_steps.specs.Telling.{TellsIf, TellsLine}
+use Rattle.reg_service_requests.specs.Telling.{ServesTold}
 use Rattle.reg_service_requests.specs.declared.told.ServedTold.{ServedTold}
 use Rattle.reg_service_requests.specs.declared.served.Served.{Served}
 use Rattle.reg_service_requests.specs.declared.served.Served.TheVariants.{Seeks, Told}

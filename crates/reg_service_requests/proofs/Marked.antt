@@ -34,7 +34,7 @@ use Rattle.reg_service_requests.specs.Granted.{IsCrate, IsLet, marking}
 use Rattle.reg_service_requests.specs.Serves.{Serves}
 use Rattle.reg_service_requests.specs.declared.served.Served.TheVariants.{Done}
 use Rattle.reg_service_requests.proofs.Judging.{denied_by_others, done_served}
-use Rattle.reg_service_requests.proofs.Names.{spelled_as}
+use Rattle.reg_service_steps.proofs.Names.{spelled_as}
 
 -- a version that is not missing is there
 published : (s : Registry) (d n v : Text) → not (holds (visible s d) (name_of n)) ≡ false → not (list_any (λ p. bytes_eq p.version v) (lists (versions s) (name_of n))) ≡ false → has_version s (canon n) v ≡ true

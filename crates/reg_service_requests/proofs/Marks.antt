@@ -17,7 +17,7 @@ use Rattle.reg_service_requests.specs.Granted.{marking}
 use Rattle.reg_service_requests.specs.Telling.{mark_word}
 use Rattle.reg_service_requests.proofs.Asking.{HasWords}
 use Rattle.reg_service_requests.proofs.Marked.{is_published, named_in}
-use Rattle.reg_service_requests.proofs.Names.{crate_found, first_as}
+use Rattle.reg_service_steps.proofs.Names.{crate_found, first_as}
 
 mark_words : (b other : Bool) (s : Registry) (n v : Text) → is_yanked s n v ≡ cond other (not b) b → request_words s (marking b n v) ≡ only_if other (mark_word b ∷ spelled s n ∷ v ∷ [])
 mark_words true true s n v e = ap (λ y. unless y (mark_word true ∷ spelled s n ∷ v ∷ [])) e

@@ -30,11 +30,13 @@ use Rattle.reg_tables_meaning.specs.Changes.{told_of}
 use Rattle.reg_tables_meaning.specs.Entries.{entry_of_account}
 use Rattle.reg_access.proofs.GrantLaw.{first_canon}
 use Rattle.reg_service_requests.specs.Owning.{owning}
-use Rattle.reg_service_requests.specs.Telling.{changes, differs, owners_word}
+use Rattle.reg_service_steps.specs.Telling.{differs}
+use Rattle.reg_service_requests.specs.Telling.{changes, owners_word}
 use Rattle.reg_service_requests.proofs.Asking.{HasWords}
-use Rattle.reg_service_requests.proofs.Names.{crate_found, first_as}
+use Rattle.reg_service_steps.proofs.Names.{crate_found, first_as}
 use Rattle.reg_service_requests.proofs.OwningDone.{named_in}
-use Rattle.reg_service_requests.proofs.Placed.{all_placed, any_placed, login_passes}
+use Rattle.reg_service_steps.proofs.Owners.{one_owns}
+use Rattle.reg_service_steps.proofs.Placed.{all_placed, any_placed}
 
 unless_all : {X : Type 0} (p : X → Bool) (xs : List X) (words : List Text) → unless (list_all p xs) words ≡ only_if (changes true p xs) words
 unless_all p [] words = refl
@@ -64,13 +66,6 @@ module _ (limits : Limits) (s : Registry) (sound : Sound s) (d n : Text) (logins
 -- the same test of texts as a call is given them
 changes_map : (are : Bool) (p : Text → Bool) (texts : List (Bor Text)) → changes are p (map (λ t. t.now) texts) ≡ changes are (λ t. p t.now) texts
 changes_map are p texts = list_any_map (λ t. differs (p t) are) (λ t. t.now) texts
-
--- those who are listed are the owners, so that one has the login where the account owns the crate
-pub one_owns : (s : Registry) → Sound s → (n m l : Text) (o : Option Text) (list : List Account) → o ≡ Some m → canon m ≡ canon n → map entry_of_account list ≡ told_of o [] (owners s)
-    → list_any (λ a. bytes_eq (string_bytes a.login) l) list ≡ holds (owns s n) (id_of_login s l)
-one_owns s sound n m l o list at same lists =
-    let are : map entry_of_account list ≡ owners s n = lists ∙ ap (λ o. told_of o [] (owners s)) at ∙ ap (λ c. filter (λ o. finset.contains s.owners (c, o.0)) (enumerate_from 1 s.accounts)) same in
-    sym (list_any_map (λ (e : ℕ × model.Account). bytes_eq e.1.login l) entry_of_account list) ∙ ap (λ os. has_login os l) are ∙ login_passes s sound (owns s n) l
 
 pub owning_has : (c : Caller) (are b : Bool) (n : Text) (texts : List (Bor Text)) (db : Trees) (it : FoundCrate) (list : List Account) → c.found ≡ Some it → ListsOwners it.id db list
     → b ≡ changes are (λ t. list_any (λ a. bytes_eq (string_bytes a.login) t.now) list) texts

@@ -27,12 +27,12 @@ use Rattle.reg_tables_meaning.specs.Stands.{Holds, Ids, Stands, StandsBy}
 use Rattle.reg_access.specs.Admitted.{IsCrateOf}
 use Rattle.reg_access.specs.declared.admission.FoundCrate.{FoundCrate}
 use Rattle.reg_service_requests.specs.Granted.{IsCrate, IsLet}
-use Rattle.reg_service_requests.specs.Named.{IsSpelled}
+use Rattle.reg_service_steps.specs.Named.{IsSpelled}
 use Rattle.reg_service_requests.specs.Owning.{DoesOwning, FindsOwners, SaysOwning, leaving_rule, logins_rule, owning, with_owners}
 use Rattle.reg_service_requests.specs.Serves.{Serves}
 use Rattle.reg_service_requests.specs.declared.served.Served.{Served}
 use Rattle.reg_service_requests.specs.declared.served.Served.TheVariants.{Done, Seeks, Told}
-use Rattle.reg_service_requests.proofs.Names.{spelled_as}
+use Rattle.reg_service_steps.proofs.Names.{spelled_as}
 
 -- a rule behind those that are kept
 find_past : {X : Type 0} (p : X → Bool) (xs ys : List X) → find p xs ≡ None → find p (xs ++ ys) ≡ find p ys

@@ -25,7 +25,7 @@ use Rattle.reg_tables_meaning.specs.Calls.{FindsAccount, ListsOwners}
 use Rattle.reg_tables_meaning.specs.Changes.{told_of}
 use Rattle.reg_tables_meaning.specs.Entries.{entry_of_account}
 use Rattle.reg_tables_meaning.specs.Stands.{Holds, Ids}
-use Rattle.reg_service_requests.specs.Named.{IsSpelled}
+use Rattle.reg_service_steps.specs.Named.{IsSpelled}
 use Rattle.reg_service_requests.specs.Owning.{AreLeaving, FindsAllKnown, FindsKnown, FindsOwners, IsIdOf, enabled_id, entries_of, id_among, leaving_rule}
 
 -- an enabled account is known, and its id is that of its login

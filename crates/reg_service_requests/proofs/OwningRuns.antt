@@ -18,7 +18,7 @@ use Rattle.reg_service_requests.specs.Owning.{FindsAllKnown, FindsKnown, SetsOwn
 use Rattle.reg_tables.specs.Calling.{Runs}
 use Rattle.reg_service_requests.proofs.OwningIds.{IsSoFar, so_far_all, so_far_ends, so_far_more, so_far_none, texts_of}
 use Rattle.reg_service_requests.proofs.OwningSets.{sets_more, sets_none}
-use Rattle.reg_service_requests.proofs.Running.{runs_failed, runs_nothing}
+use Rattle.reg_service_steps.proofs.Running.{runs_failed, runs_nothing}
 
 module _ {S : Type 0} (g : Ghosts S) where
   -- the first so many are owners, or no longer

@@ -32,12 +32,13 @@ use Rattle.reg_tables_meaning.specs.Stands.{Ids, spelling_at}
 use Rattle.reg_tables_meaning.proofs.CrateLemmas.{same_bytes}
 use Rattle.reg_access.specs.declared.admission.FoundCrate.{FoundCrate}
 use Rattle.reg_service_requests.specs.Granted.{IsCrate, IsLet, IsVersion}
-use Rattle.reg_service_requests.specs.Named.{IsSpelled}
-use Rattle.reg_service_requests.specs.Reads.{TellsBase, entry_of_version, owner_of_account}
+use Rattle.reg_service_steps.specs.Named.{IsSpelled}
+use Rattle.reg_service_steps.specs.Reads.{TellsBase, entry_of_version, owner_of_account}
 use Rattle.reg_service_requests.specs.Serves.{Serves}
 use Rattle.reg_service_requests.specs.declared.served.Served.TheVariants.{Told}
 use Rattle.reg_service_requests.proofs.Judging.{denied_by_others, told_served}
-use Rattle.reg_service_requests.proofs.Names.{spelled_as, spelled_at}
+use Rattle.reg_service_steps.proofs.Entries.{entries_told}
+use Rattle.reg_service_steps.proofs.Names.{spelled_as, spelled_at}
 use Rattle.reg_service_requests.proofs.VersionArchives.{archive_at, named_version}
 
 -- what is told of a crate by its canonical text is the same by its id
@@ -58,24 +59,6 @@ owners_served n c list text db made lists limits digest lets is = told_served li
     let owners_by = λ (text : Text). filter (λ o. finset.contains s.owners (text, o.0)) (enumerate_from 1 s.accounts) in
     let same = lists ids s h ∙ by_canon owners_by [] ids n c.id (spelled_as ids s c n (is ids s h)).1 in
     (denied_by_others limits digest (ListOwners n) s (lets ids s h), (refl, refl, made ∙ ap owners_body (sym (maps_twice entry_of_account owner_entry list) ∙ ap (map owner_entry) same)), refl))
-
-abbrev shown_entry : ShownVersion → Text × Bool
-shown_entry v = (v.stem, v.yanked)
-
--- versions of one crate are marked under one canonical text
-entries_are : (s : Registry) (n : Text) (ps : List Publication) → let of_it = filter (λ p. collides p.name n) ps in map shown_entry (map (version_shown s.yanked) of_it) ≡ map (λ p. (p.stem, is_yanked s n p.version)) of_it
-entries_are s n [] = refl
-entries_are s n (p ∷ ps) = one (collides p.name n) refl (filter (λ p. collides p.name n) ps) (entries_are s n ps)
-  where
-    entry : Publication → Text × Bool
-    entry q = (q.stem, is_yanked s n q.version)
-
-    one : (b : Bool) → collides p.name n ≡ b → (qs : List Publication) → map shown_entry (map (version_shown s.yanked) qs) ≡ map entry qs → map shown_entry (map (version_shown s.yanked) (cond b (p ∷ qs) qs)) ≡ map entry (cond b (p ∷ qs) qs)
-    one true is qs h = let same = same_bytes (canon p.name) (canon n) is in λ i. (p.stem, finset.contains s.yanked (same i, p.version)) ∷ h i
-    one false is qs h = h
-
-pub entries_told : (s : Registry) (n : Text) (list : List Version) → map shown_version list ≡ map (version_shown s.yanked) (versions s n) → map entry_of_version list ≡ map (λ p. (p.stem, is_yanked s n p.version)) (versions s n)
-entries_told s n list lists = sym (maps_twice shown_version shown_entry list) ∙ ap (map shown_entry) lists ∙ entries_are s n s.publications
 
 pub index_served : (path : Text) (c : FoundCrate) (list : List Version) (text : Vec ℕ Global) (db : Trees) → text.items ≡ file_text (map entry_of_version list) → ListsVersions c.id db list
     → (limits : Limits) (digest : Text) → IsLet digest (action_of (Index path)) db → IsCrate (action_of (Index path)) c db → Serves limits (Some digest) (Index path) db db (Told (Done kind.Text text))

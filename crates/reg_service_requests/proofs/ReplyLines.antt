@@ -21,7 +21,9 @@ use Rattle.reg_api_replies.specs.declared.reply.Reply.{Reply}
 use Rattle.reg_api_replies.specs.declared.reply.Reply.TheVariants.{Denied, Done, Method}
 use Rattle.reg_model.specs.Trail.{IsPassed, has_no_room, line, line_of, or_nothing, request_words, told, unless_some, with_asker}
 use Rattle.sqlite.specs.Tree.{Trees}
-use Rattle.reg_service_requests.specs.Telling.{TellsLine, line_with}
+use Rattle.reg_service_steps.specs.Telling.{TellsLine}
+use Rattle.reg_service_steps.proofs.Afterwards.{nothing}
+use Rattle.reg_service_requests.specs.Telling.{line_with}
 
 -- an answer that denies nothing had room
 has_room : (a : Answer) → refusal_of a ≡ None → (r : Rule) → a ≡ to_denied r → ⊥
@@ -50,10 +52,6 @@ denied_untold limits s digest asked r e = by (denied limits s digest asked) refl
     by None d =
         let is : served s (caller s digest) asked ≡ to_denied r = sym (e ∙ ap (λ o. (unless_denied s o (served s (caller s digest) asked, done s (unwrap_or (caller s digest) 0) asked)).0) d) in
         ap (λ o. option_map (λ words. line_of (with_asker s (Ask digest asked) words)) (unless_some o (request_words s asked))) d ∙ ap (option_map (λ words. line_of (with_asker s (Ask digest asked) words))) (served_untold s (caller s digest) asked r is)
-
-pub nothing : (b : Bool) (t : Text) → t ≡ [] → cond b [] t ≡ []
-nothing true t e = refl
-nothing false t e = e
 
 served_room : (s : Registry) (who : Option ℕ) (asked : Asked) → refusal_of (served s who asked) ≡ None → has_no_room (served s who asked) ≡ false
 served_room s who (Faulty q) e = absurd cc

@@ -25,7 +25,7 @@ use Rattle.reg_tables_meaning.specs.Calls.{Tells, Turns}
 use Rattle.reg_tables_meaning.specs.Changes.{no_owner_at, owner_at}
 use Rattle.reg_tables_meaning.specs.Entries.{entry_of_account}
 use Rattle.reg_tables_meaning.specs.Stands.{Holds, Ids, StandsBy, spelling_at}
-use Rattle.reg_service_requests.specs.Named.{IsSpelled}
+use Rattle.reg_service_steps.specs.Named.{IsSpelled}
 use Rattle.reg_service_requests.specs.declared.served.Served.{Served}
 use Rattle.reg_service_requests.specs.declared.served.Served.TheVariants.{Done}
 

@@ -11,7 +11,7 @@ use Rattle.reg_tables_meaning.specs.Calls.{ReachesCrates, ReachesVersions, Tells
 use Rattle.reg_tables_meaning.specs.Stands.{spelling_at}
 use Rattle.reg_access.specs.declared.admission.FoundCrate.{FoundCrate}
 use Rattle.reg_service_requests.specs.Granted.{IsLet}
-use Rattle.reg_service_requests.specs.Named.{IsViewer}
+use Rattle.reg_service_steps.specs.Named.{IsViewer}
 use Rattle.reg_service_requests.specs.Serves.{Serves}
 use Rattle.reg_service_requests.specs.declared.served.Served.{Served}
 

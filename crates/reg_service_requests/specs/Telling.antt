@@ -1,36 +1,24 @@
 -- What a request would change, told before it is done.
-use Rattle.std.specs.Prelude.{◌≡◌, Bool, true, false, List, codes, not, None, Option, Some, Result, Ok, String, string_bytes}
+use Rattle.std.specs.Prelude.{Bool, true, false, List, codes, None, Option, Some, Result, String, string_bytes}
 use Rattle.std.specs.List.{list_any}
-use Rattle.std.specs.declared.alloc.AllocError.{AllocError}
 use Rattle.std.specs.declared.alloc.Global.{Global}
 use Rattle.std.specs.Option.{option_map}
 use Rattle.sqlite.specs.Tree.{Trees}
 use Rattle.sqlite_trees.specs.declared.store.Store.{Ghosts}
 use Rattle.reg_access.specs.declared.admission.Caller.{Caller}
 use Rattle.reg_body.specs.declared.limits.Limits.{Limits}
-use Rattle.reg_model.specs.Events.{Asked, Event, action_of}
+use Rattle.reg_model.specs.Events.{Asked, action_of}
 use Rattle.reg_model.specs.Events.Event.{Ask}
 use Rattle.reg_model.specs.Registry.{Text}
-use Rattle.reg_model.specs.Trail.{IsPassed, line, line_of, only_if}
-use Rattle.reg_tables_meaning.specs.Calls.{Tells}
 use Rattle.reg_tables.specs.declared.work.StoreFault.{StoreFault}
 use Rattle.reg_tables.specs.declared.work.Work.{Work}
+use Rattle.reg_service_steps.specs.Telling.{TellsIf, differs}
 use Rattle.reg_service_requests.specs.Granted.{IsCaller, IsLet}
 use Rattle.reg_tables.specs.Calling.{Runs}
 use Rattle.reg_service_requests.specs.declared.told.ServedTold.{ServedTold}
 use Rattle.reg_api_replies.specs.declared.reply.Reply.{Reply}
 use Rattle.reg_api_replies.specs.declared.reply.Reply.TheVariants.{Done}
 use Rattle.reg_service_requests.specs.Serves.{Serves}
-
--- this is the line of the event, where nothing refuses it
-abbrev pub TellsLine : Event → Trees → Option (String Global) → Type 0
-TellsLine e db found = Tells (λ ids s. (limits : Limits) → IsPassed limits s e
-    → line limits s e ≡ option_map string_bytes found) db
-
--- the same, if a line is wanted
-abbrev pub TellsIf : Bool → Event → Trees → Option (String Global) → Type 0
-TellsIf true e db found = TellsLine e db found
-TellsIf false e db found = found ≡ None
 
 -- the outcome of a request, and its line if one is wanted
 abbrev pub ServesTold : Bool → Limits → Option Text → Asked → Trees → Trees → ServedTold → Type 0
@@ -55,19 +43,6 @@ GrantsTold traced limits caller g asked r old new =
     Runs g old new r (λ before after it. (digest : Text) → IsLet digest (action_of asked) before
     → IsCaller digest (action_of asked) caller before
     → ServesTold traced limits (Some digest) asked before after it)
-
--- a line that was made is told
-abbrev pub IsToldLine : Result (String Global) AllocError → Option (String Global) → Type 0
-IsToldLine made found = (line : String Global) × (made ≡ Ok line) × (found ≡ Some line)
-
--- the line of these words, if something changes
-abbrev pub line_if : Bool → List Text → Option Text
-line_if changes words = option_map line_of (only_if changes words)
-
--- whether what is so has yet to become so
-abbrev pub differs : Bool → Bool → Bool
-differs is true = not is
-differs is false = is
 
 -- whether some of these are not yet what they are to be
 abbrev pub changes : {X : Type 0} → Bool → (X → Bool) → List X → Bool

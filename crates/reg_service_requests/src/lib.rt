@@ -12,9 +12,7 @@
 #![tactic(auto)]
 
 mod bodies;
-mod lines;
 mod marking;
-mod naming;
 mod owning;
 mod publishing;
 mod reading;
@@ -23,11 +21,6 @@ mod serving;
 mod telling;
 mod told;
 
-pub use bodies::index_file;
-pub use lines::line_of;
-pub use naming::find_named;
-pub use reading::find_base;
 pub use served::Served;
 pub use serving::serve_told;
-pub use telling::{differs, have_login, tell_words, told_line};
 pub use told::{Acted, ServedTold, with_line};

@@ -14,7 +14,8 @@ ghost use Rattle.reg_service_requests.specs.Owning.{AreIdsOf, AreLeaving, DoesOw
 use crate::served::Served;
 use reg_access::FoundCrate;
 use reg_api_replies::{Kind, Reply, owners_added_body, owners_removed_body};
-use reg_policy::{Rule, same_text};
+use reg_policy::Rule;
+use reg_service_steps::has_login;
 use reg_tables::{Account, Result, Work};
 use sqlite::Alter;
 use std::alloc::{AllocError, Global};
@@ -58,13 +59,6 @@ fn find_all_known<S: Alter>(
         }
     }
     Ok(Some(ids))
-}
-
-/// Whether the account has this login.
-pub(crate) fn has_login(owner: &Account, login: &str) -> bool
-    ensures { result ≡ bytes_eq (string_bytes owner.now.login) login.now }
-{
-    same_text(&owner.login, login)
 }
 
 /// The id of the owner with this login, if there is one.

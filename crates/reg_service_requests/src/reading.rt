@@ -1,32 +1,20 @@
 //! What requests read.
 
-ghost use Rattle.std.specs.Prelude.{◌≡◌, false, string_bytes};
+ghost use Rattle.std.specs.Prelude.{◌≡◌, false};
 ghost use Rattle.reg_model.specs.Events.Asked.{Download, Index, ListOwners, Read};
 ghost use Rattle.reg_model.specs.Events.Reading.{Config};
 ghost use Rattle.reg_tables.specs.Works.{IsAtWork, has_failed};
-ghost use Rattle.reg_tables.specs.Calling.{Asks};
 ghost use Rattle.reg_service_requests.specs.Granted.{Grants, GrantsOf, GrantsVersion};
-ghost use Rattle.reg_service_requests.specs.Reads.{TellsBase};
 
-use crate::bodies::{index_file, owners_list};
+use crate::bodies::owners_list;
 use crate::served::Served;
 use reg_access::FoundCrate;
 use reg_api_replies::{Kind, Reply};
 use reg_line::config;
+use reg_service_steps::{find_base, index_file};
 use reg_tables::{Result, Work};
 use sqlite::Alter;
 use std::alloc::Global;
-
-/// The base of the registry.
-pub fn find_base<S: Alter>(work: &mut Work<'_, S>) -> Result<String>
-    requires { IsAtWork S.Store work.old }
-    ensures { Asks S.Store work.old work.new result (λ db base. TellsBase db (string_bytes base)) }
-{
-    match work.select_one::<String>("SELECT base FROM about", &[])? {
-        Some(base) => Ok(base),
-        None => work.fail(),
-    }
-}
 
 /// The config of the registry.
 pub(crate) fn read_config<S: Alter>(alloc: Global, work: &mut Work<'_, S>) -> Result<Served>

@@ -15,49 +15,16 @@ ghost use Rattle.reg_access.specs.Admitted.{needs_crate};
 ghost use Rattle.reg_tables.specs.Calling.{Asks};
 ghost use Rattle.reg_service_requests.specs.Granted.{marking};
 ghost use Rattle.reg_service_requests.specs.Owning.{owning};
-ghost use Rattle.reg_service_requests.specs.Telling.{IsToldLine, TellsRequest, changes, differs, line_if, mark_word, owners_word};
+ghost use Rattle.reg_service_steps.specs.Telling.{line_if};
+ghost use Rattle.reg_service_requests.specs.Telling.{TellsRequest, changes, mark_word, owners_word};
 
-use crate::lines::{line_of, with_commas};
-use crate::owning::has_login;
 use itoa::Buffer;
 use reg_access::Caller;
 use reg_policy::{Asked, NewPublication};
+use reg_service_steps::{differs, have_login, line_of, told_line, with_commas};
 use reg_tables::{Account, Result, Work};
 use sqlite::Alter;
 use std::alloc::{AllocError, Global};
-
-/// The line, unless there was no memory for it.
-pub fn told_line<S: Alter>(
-    work: &mut Work<'_, S>,
-    line: Result<String, AllocError>,
-) -> Result<Option<String>>
-    requires at_work { IsAtWork S.Store work.old }
-    requires goes_on { has_failed work.old ≡ false }
-    ensures { Asks S.Store work.old work.new result (λ db found. IsToldLine line found) }
-{
-    match line {
-        Ok(line) => Ok(Some(line)),
-        Err(_) => work.fail(),
-    }
-}
-
-/// The line of these words, if something changes; none otherwise.
-pub fn tell_words<S: Alter>(
-    alloc: Global,
-    work: &mut Work<'_, S>,
-    changes: bool,
-    words: &[&str],
-) -> Result<Option<String>>
-    requires at_work { IsAtWork S.Store work.old }
-    requires goes_on { has_failed work.old ≡ false }
-    ensures { Asks S.Store work.old work.new result (λ db found. option_map string_bytes found
-        ≡ line_if changes (map (λ w. w.now) words.now)) }
-{
-    if !changes {
-        return Ok(None);
-    }
-    told_line(work, line_of(alloc, words))
-}
 
 // An array has one lifetime for all its texts, and only parameters can be given one.
 fn line_by(
@@ -139,21 +106,6 @@ fn tell_mark<S: Alter>(
     let verb = mark_verb(yanked);
     let name = found.name.as_str();
     tell_change(alloc, work, caller, other, verb, name, version)
-}
-
-/// Whether one of the accounts has this login.
-pub fn have_login(accounts: &[Account], login: &str) -> bool
-    ensures { result ≡ list_any
-        (λ a. bytes_eq (string_bytes a.login) login.now) accounts.now }
-{
-    accounts.iter().any(|account| has_login(account, login))
-}
-
-/// Whether what is so has yet to become so.
-pub fn differs(is: bool, wanted: bool) -> bool
-    ensures { result ≡ differs is wanted }
-{
-    if wanted { !is } else { is }
 }
 
 /// Whether an account with one of these logins is not yet what it is to be.

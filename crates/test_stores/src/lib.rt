@@ -5,8 +5,6 @@
 #[cfg(test)]
 mod access;
 #[cfg(test)]
-mod measuring;
-#[cfg(test)]
 mod table_stops;
 #[cfg(test)]
 mod tables;

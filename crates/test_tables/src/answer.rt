@@ -59,19 +59,4 @@ impl Answer {
             _ => short(alloc, self),
         }
     }
-
-    /// How many rows were found; of an archive how many bytes.
-    pub fn count(&self) -> usize {
-        match self {
-            Answer::Account(found) => usize::from(found.is_some()),
-            Answer::Token(found) => usize::from(found.is_some()),
-            Answer::Crate(found) => usize::from(found.is_some()),
-            Answer::Versions(found) => found.len(),
-            Answer::Owners(found) => found.len(),
-            Answer::Archive(Some(bytes)) => bytes.len(),
-            Answer::ArchiveWithId(Some(archive)) => archive.bytes.len(),
-            Answer::Archive(None) | Answer::ArchiveWithId(None) | Answer::Is(false) => 0,
-            _ => 1,
-        }
-    }
 }

@@ -1,4 +1,4 @@
-//! Scripts over the tables, which their tests and the measuring program share.
+//! Scripts over the tables, which the tests of the tables and of the registry share.
 //!
 //! A line is a call, an arrow and its answer; a block of lines is a transaction, which is dropped
 //! where its last line is no commit. [`play`] answers the first line that is answered otherwise:
@@ -35,4 +35,4 @@ pub use script::{
     rows_text,
 };
 pub use searching::search_text;
-pub use words::{read_call, release_of};
+pub use words::read_call;

@@ -115,7 +115,7 @@ fn stem_of(alloc: Global, name: &str, text: &str, digest: &Digest) -> Result<Vec
 }
 
 /// A version of a crate, with the stem of its line.
-pub fn release_of<'a>(
+fn release_of<'a>(
     alloc: Global,
     name: &str,
     text: &'a str,

@@ -1,4 +1,4 @@
-use Rattle.reg_service_requests.proofs.Afterwards.{asks_then}
+use Rattle.reg_service_steps.proofs.Afterwards.{asks_then}
 use Rattle.reg_service.proofs.Rooms.{spelled_so}
 use Rattle.reg_service.proofs.room.left_in.Goals as goal
 

@@ -1,8 +1,8 @@
 use Rattle.std.proofs.Common.{Err}
 use Rattle.std.specs.Option.{option_map}
 use Rattle.reg_policy.specs.Events.{asked_of}
-use Rattle.reg_service_requests.proofs.Afterwards.{runs_beside}
-use Rattle.reg_service_requests.proofs.Running.{runs_failed}
+use Rattle.reg_service_steps.proofs.Afterwards.{runs_beside}
+use Rattle.reg_service_steps.proofs.Running.{runs_failed}
 use Rattle.reg_access.proofs.Calls.{then_called}
 use Rattle.reg_service_requests.specs.Telling.{ServesTold}
 use Rattle.reg_tables.specs.Works.{rows_seen}

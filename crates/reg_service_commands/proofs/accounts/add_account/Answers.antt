@@ -3,7 +3,7 @@ use Rattle.std.specs.Option.{option_map}
 use Rattle.reg_tables.specs.Works.{rows_seen}
 use Rattle.reg_tables_meaning.specs.Calls.{AddsAccount}
 use Rattle.reg_service_commands.proofs.Adding.{account_added, account_refused, bad_account}
-use Rattle.reg_service_requests.proofs.Running.{runs_asked, runs_changed, runs_nothing}
+use Rattle.reg_service_steps.proofs.Running.{runs_asked, runs_changed, runs_nothing}
 use Rattle.reg_service_commands.proofs.accounts.add_account.Goals as goal
 
 pub returns-then-not-is_account : goal.returns-then-not-is_account

@@ -1,7 +1,7 @@
 use Rattle.reg_tables.specs.Works.{rows_seen}
 use Rattle.reg_tables_meaning.specs.Calls.{FindsAccount, SetsEnabled}
 use Rattle.reg_service_commands.proofs.Commands.{is_enabled_so, none_enabled}
-use Rattle.reg_service_requests.proofs.Running.{runs_asked, runs_changed}
+use Rattle.reg_service_steps.proofs.Running.{runs_asked, runs_changed}
 use Rattle.reg_service_commands.proofs.accounts.set_enabled.Goals as goal
 
 pub returns-in_default : goal.returns-in_default

@@ -1,7 +1,7 @@
 use Rattle.reg_tables.specs.Works.{rows_seen}
 use Rattle.reg_tables_meaning.specs.Calls.{AddsOwner}
 use Rattle.reg_service_commands.proofs.Owning.{owner_done, owner_refused}
-use Rattle.reg_service_requests.proofs.Running.{runs_asked, runs_changed}
+use Rattle.reg_service_steps.proofs.Running.{runs_asked, runs_changed}
 use Rattle.reg_service_commands.proofs.crates.add_owner.Goals as goal
 
 pub returns-in-Err : goal.returns-in-Err

@@ -1,7 +1,7 @@
 use Rattle.reg_tables.specs.Works.{rows_seen}
 use Rattle.reg_tables_meaning.specs.Calls.{Restricts}
 use Rattle.reg_service_commands.proofs.Owning.{restrict_done, restrict_refused}
-use Rattle.reg_service_requests.proofs.Running.{runs_asked, runs_changed}
+use Rattle.reg_service_steps.proofs.Running.{runs_asked, runs_changed}
 use Rattle.reg_service_commands.proofs.crates.set_restricted.Goals as goal
 
 pub returns-in_default : goal.returns-in_default

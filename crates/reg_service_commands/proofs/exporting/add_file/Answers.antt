@@ -8,9 +8,9 @@ use Rattle.reg_tables.specs.declared.work.StoreFault.{StoreFault}
 use Rattle.reg_tables.specs.Calling.{Asks}
 use Rattle.reg_access.proofs.Questions.{asks_made, asks_refused}
 use Rattle.reg_service_commands.specs.Exported.{texts_of}
-use Rattle.reg_service_requests.specs.Reads.{entry_of_version}
+use Rattle.reg_service_steps.specs.Reads.{entry_of_version}
 use Rattle.reg_service_commands.proofs.ExportAsked.{file_added}
-use Rattle.reg_service_requests.proofs.Names.{is_given}
+use Rattle.reg_service_steps.proofs.Names.{is_given}
 use Rattle.reg_service_commands.proofs.exporting.add_file.Goals as goal
 
 pub returns-in-Ok : goal.returns-in-Ok

@@ -1,6 +1,6 @@
 use Rattle.std.proofs.Common.{sym, ◌∙◌}
 use Rattle.reg_service_commands.proofs.Commands.{bad_free_name, freed_now}
-use Rattle.reg_service_requests.proofs.Running.{runs_alone, runs_nothing}
+use Rattle.reg_service_steps.proofs.Running.{runs_alone, runs_nothing}
 use Rattle.reg_service_commands.proofs.names.unreserve.Goals as goal
 
 pub returns-in_default : goal.returns-in_default

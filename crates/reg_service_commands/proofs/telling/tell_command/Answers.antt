@@ -2,8 +2,8 @@ use Rattle.std.proofs.Common.{◌∷◌, ◌≡◌, rules}
 use Rattle.std.specs.Prelude.{IfOk, codes, string_bytes}
 use Rattle.reg_model.specs.Trail.{line_of, name_words}
 use Rattle.reg_access.proofs.Questions.{asks_nothing}
-use Rattle.reg_service_requests.proofs.Running.{asks_as}
-use Rattle.reg_service_requests.proofs.Afterwards.{line_is}
+use Rattle.reg_service_steps.proofs.Running.{asks_as}
+use Rattle.reg_service_steps.proofs.Afterwards.{line_is}
 use Rattle.std.specs.Option.{option_map}
 use Rattle.reg_model.specs.Events.Command.{UserAdd}
 use Rattle.reg_policy.specs.Events.{command_of}

@@ -1,6 +1,6 @@
 use Rattle.std.proofs.Common.{[], ◌∷◌, ◌≡◌, rules}
 use Rattle.reg_access.proofs.Questions.{asks_made}
-use Rattle.reg_service_requests.proofs.Afterwards.{asks_then}
+use Rattle.reg_service_steps.proofs.Afterwards.{asks_then}
 use Rattle.reg_tables_meaning.specs.Calls.{FindsAccount}
 use Rattle.reg_service_commands.specs.Orders.{enabling}
 use Rattle.reg_service_commands.specs.Telling.{enabled_word}

@@ -1,7 +1,7 @@
 use Rattle.std.proofs.Common.{[], ◌∷◌, ◌≡◌, not, rules, sym}
 use Rattle.std.specs.Prelude.{codes, string_bytes}
 use Rattle.reg_access.proofs.Questions.{asks_both, asks_made}
-use Rattle.reg_service_requests.proofs.Afterwards.{asks_then}
+use Rattle.reg_service_steps.proofs.Afterwards.{asks_then}
 use Rattle.std.specs.List.{list_any}
 use Rattle.std.specs.Str.{bytes_eq}
 use Rattle.reg_model.specs.Events.Command.{OwnerAdd}

@@ -1,7 +1,7 @@
 use Rattle.std.proofs.Common.{[], ◌∷◌, ◌≡◌, not, rules, sym, ◌∙◌}
 use Rattle.std.specs.Prelude.{codes}
 use Rattle.reg_access.proofs.Questions.{asks_nothing}
-use Rattle.reg_service_requests.proofs.Afterwards.{asks_then}
+use Rattle.reg_service_steps.proofs.Afterwards.{asks_then}
 use Rattle.reg_model.specs.Events.Command.{Reserve}
 use Rattle.reg_tables_meaning.specs.Calls.{TellsReserved}
 use Rattle.reg_service_commands.proofs.Ordered.{bad_name, order_untold, order_words, reserve_words, reserved_always}

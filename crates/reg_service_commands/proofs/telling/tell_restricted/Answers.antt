@@ -1,7 +1,7 @@
 use Rattle.std.proofs.Common.{[], ◌∷◌, ◌≡◌, rules}
 use Rattle.std.specs.Prelude.{string_bytes}
 use Rattle.reg_access.proofs.Questions.{asks_both, asks_made}
-use Rattle.reg_service_requests.proofs.Afterwards.{asks_then}
+use Rattle.reg_service_steps.proofs.Afterwards.{asks_then}
 use Rattle.reg_tables_meaning.specs.Calls.{TellsRestricted}
 use Rattle.reg_service_commands.specs.Orders.{restricting}
 use Rattle.reg_service_commands.specs.Telling.{restricted_word}

@@ -4,7 +4,7 @@ use Rattle.std.specs.Fmt.{decimal}
 use Rattle.reg_model.specs.Trail.{line_of}
 use Rattle.reg_tables_meaning.specs.Calls.{TellsLive}
 use Rattle.reg_access.proofs.Questions.{asks_made}
-use Rattle.reg_service_requests.proofs.Afterwards.{asks_then, line_is}
+use Rattle.reg_service_steps.proofs.Afterwards.{asks_then, line_is}
 use Rattle.reg_model.specs.Events.Command.{TokenRevoke}
 use Rattle.reg_service_commands.proofs.Ordered.{order_told, order_untold, revoke_words}
 use Rattle.reg_service_commands.proofs.telling.tell_revocation.Goals as goal

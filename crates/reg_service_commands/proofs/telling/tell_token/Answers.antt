@@ -2,8 +2,8 @@ use Rattle.std.proofs.Common.{[], ◌∷◌, ◌≡◌, rules, map}
 use Rattle.std.specs.Prelude.{IfOk, codes, string_bytes}
 use Rattle.reg_model.specs.Trail.{line_of}
 use Rattle.reg_access.proofs.Questions.{asks_nothing}
-use Rattle.reg_service_requests.proofs.Running.{asks_as}
-use Rattle.reg_service_requests.proofs.Afterwards.{line_is}
+use Rattle.reg_service_steps.proofs.Running.{asks_as}
+use Rattle.reg_service_steps.proofs.Afterwards.{line_is}
 use Rattle.reg_model.specs.Events.Command.{TokenAdd}
 use Rattle.reg_model.specs.Refusals.{patterns_given}
 use Rattle.reg_model.specs.Reports.{with_commas}

@@ -1,7 +1,7 @@
 use Rattle.std.proofs.Common.{[], ◌∷◌, ◌≡◌, rules, sym, ◌∙◌}
 use Rattle.std.specs.Prelude.{codes}
 use Rattle.reg_access.proofs.Questions.{asks_nothing}
-use Rattle.reg_service_requests.proofs.Afterwards.{asks_then}
+use Rattle.reg_service_steps.proofs.Afterwards.{asks_then}
 use Rattle.reg_model.specs.Events.Command.{Unreserve}
 use Rattle.reg_tables_meaning.specs.Calls.{TellsReserved}
 use Rattle.reg_service_commands.proofs.Ordered.{bad_free_name, free_words, order_untold, order_words}

@@ -1,7 +1,7 @@
 use Rattle.reg_tables_meaning.specs.Calls.{FindsAccount}
 use Rattle.std.specs.Prelude.{map}
 use Rattle.reg_service_commands.proofs.Adding.{bad_scope, no_account, token_added}
-use Rattle.reg_service_requests.proofs.Running.{runs_after, runs_asked}
+use Rattle.reg_service_steps.proofs.Running.{runs_after, runs_asked}
 use Rattle.reg_service_commands.proofs.tokens.add_token.Goals as goal
 
 pub returns-in_default : goal.returns-in_default

@@ -1,7 +1,7 @@
 use Rattle.reg_tables.specs.Works.{rows_seen}
 use Rattle.reg_tables_meaning.specs.Calls.{Ends}
 use Rattle.reg_service_commands.proofs.Adding.{no_token, revoked_now}
-use Rattle.reg_service_requests.proofs.Running.{runs_asked, runs_changed}
+use Rattle.reg_service_steps.proofs.Running.{runs_asked, runs_changed}
 use Rattle.reg_service_commands.proofs.tokens.revoke.Goals as goal
 
 pub returns-then-not-has : goal.returns-then-not-has

@@ -1,8 +1,8 @@
 use Rattle.reg_model.specs.Events.Event.{Order}
 use Rattle.reg_policy.specs.Events.{command_of, reply_of}
 use Rattle.reg_service_commands.specs.Orders.{HasOutcome}
-use Rattle.reg_service_requests.specs.Telling.{TellsIf}
-use Rattle.reg_service_requests.proofs.Afterwards.{runs_beside}
+use Rattle.reg_service_steps.specs.Telling.{TellsIf}
+use Rattle.reg_service_steps.proofs.Afterwards.{runs_beside}
 use Rattle.reg_service_commands.proofs.told.order_told.Goals as goal
 
 pub returns : goal.returns

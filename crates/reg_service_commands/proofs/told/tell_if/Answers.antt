@@ -2,9 +2,9 @@ use Rattle.std.proofs.Common.{None, refl, subst, sym}
 use Rattle.reg_access.proofs.Questions.{asks_nothing}
 use Rattle.reg_model.specs.Events.Event.{Order}
 use Rattle.reg_policy.specs.Events.{command_of}
-use Rattle.reg_service_requests.proofs.Running.{asks_as}
+use Rattle.reg_service_steps.proofs.Running.{asks_as}
 use Rattle.reg_tables.specs.Works.{rows_seen}
-use Rattle.reg_service_requests.specs.Telling.{TellsIf, TellsLine}
+use Rattle.reg_service_steps.specs.Telling.{TellsIf, TellsLine}
 use Rattle.reg_service_commands.proofs.told.tell_if.Goals as goal
 
 pub returns-then-not-traced : goal.returns-then-not-traced

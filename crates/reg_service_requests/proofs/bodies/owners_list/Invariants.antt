@@ -1,5 +1,5 @@
 use Rattle.std.proofs.Common.{◌≡◌, map, take}
-use Rattle.reg_service_requests.specs.Reads.{owner_of_account}
+use Rattle.reg_service_steps.specs.Reads.{owner_of_account}
 use Rattle.reg_service_requests.proofs.bodies.owners_list.Given as goal
 
 -- the owners so far are in the list

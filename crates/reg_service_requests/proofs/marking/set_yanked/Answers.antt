@@ -2,7 +2,7 @@ use Rattle.std.proofs.Common.{◌∙◌}
 use Rattle.reg_tables.specs.Works.{rows_seen}
 use Rattle.reg_tables_meaning.specs.Calls.{SetsYanked}
 use Rattle.reg_service_requests.proofs.Marked.{marked}
-use Rattle.reg_service_requests.proofs.Running.{runs_alone, runs_failed, runs_stopped}
+use Rattle.reg_service_steps.proofs.Running.{runs_alone, runs_failed, runs_stopped}
 use Rattle.reg_service_requests.proofs.marking.set_yanked.Goals as goal
 
 pub returns : goal.returns

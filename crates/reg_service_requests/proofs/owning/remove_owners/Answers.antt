@@ -4,7 +4,7 @@ use Rattle.reg_service_requests.specs.Owning.{AreLeaving, DoesOwning}
 use Rattle.reg_tables.specs.Calling.{Runs}
 use Rattle.reg_service_requests.proofs.OwningDone.{owning_denied, owning_done}
 use Rattle.reg_service_requests.proofs.OwningIds.{leaves, may_not_leave, texts_of}
-use Rattle.reg_service_requests.proofs.Running.{runs_after, runs_asked, runs_refused}
+use Rattle.reg_service_steps.proofs.Running.{runs_after, runs_asked, runs_refused}
 use Rattle.reg_service_requests.proofs.owning.remove_owners.Goals as goal
 
 pub returns-in-Ok-Ok : goal.returns-in-Ok-Ok

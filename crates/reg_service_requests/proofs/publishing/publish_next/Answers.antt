@@ -3,7 +3,7 @@ use Rattle.reg_policy.specs.Events.{publication_of}
 use Rattle.reg_tables.specs.Works.{rows_seen}
 use Rattle.reg_tables_meaning.specs.Calls.{AddsNext}
 use Rattle.reg_service_requests.proofs.Publications.{next_let, next_refused}
-use Rattle.reg_service_requests.proofs.Running.{runs_asked, runs_changed, runs_refused, runs_unchanged}
+use Rattle.reg_service_steps.proofs.Running.{runs_asked, runs_changed, runs_refused, runs_unchanged}
 use Rattle.reg_service_requests.proofs.publishing.publish_next.Goals as goal
 
 pub returns-then-full : goal.returns-then-full

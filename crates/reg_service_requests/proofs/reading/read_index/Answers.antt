@@ -1,5 +1,5 @@
 use Rattle.reg_service_requests.proofs.ReadingServed.{index_served}
-use Rattle.reg_service_requests.proofs.Running.{runs_asked, runs_refused}
+use Rattle.reg_service_steps.proofs.Running.{runs_asked, runs_refused}
 use Rattle.reg_service_requests.proofs.reading.read_index.Goals as goal
 
 pub returns-in-Ok : goal.returns-in-Ok

@@ -3,7 +3,7 @@ use Rattle.reg_model.specs.Events.Asked.{AddOwners, Download, Index, ListOwners,
 use Rattle.reg_policy.specs.declared.event.Asked.TheVariants.{Read}
 use Rattle.reg_policy.specs.declared.event.Reading.TheVariants.{Config, Search}
 use Rattle.reg_service_requests.proofs.Deciding.{always_given, as_given, crate_given, faulty, seeks, version_given}
-use Rattle.reg_service_requests.proofs.Running.{runs_nothing}
+use Rattle.reg_service_steps.proofs.Running.{runs_nothing}
 use Rattle.reg_service_requests.proofs.serving.grant.Goals as goal
 
 pub returns-in-Faulty : goal.returns-in-Faulty

@@ -5,8 +5,8 @@ use Rattle.reg_policy.specs.Events.{asked_of}
 use Rattle.reg_service_requests.specs.Granted.{IsCaller, IsLet}
 use Rattle.reg_service_requests.specs.Serves.{Serves}
 use Rattle.reg_service_requests.specs.Telling.{TellsRequest}
-use Rattle.reg_service_requests.proofs.Afterwards.{runs_beside}
-use Rattle.reg_service_requests.proofs.Running.{runs_unchanged}
+use Rattle.reg_service_steps.proofs.Afterwards.{runs_beside}
+use Rattle.reg_service_steps.proofs.Running.{runs_unchanged}
 use Rattle.reg_service_requests.proofs.serving.grant_told.Goals as goal
 
 pub returns : goal.returns

@@ -2,9 +2,9 @@ use Rattle.std.proofs.Common.{[], ◌∷◌, ap, rules, string_bytes, sym, ◌�
 use Rattle.std.specs.Fmt.{decimal}
 use Rattle.reg_model.specs.Trail.{line_of}
 use Rattle.reg_access.proofs.Questions.{asks_nothing}
-use Rattle.reg_service_requests.specs.Telling.{line_if}
-use Rattle.reg_service_requests.proofs.Afterwards.{line_is}
-use Rattle.reg_service_requests.proofs.Running.{asks_as}
+use Rattle.reg_service_steps.specs.Telling.{line_if}
+use Rattle.reg_service_steps.proofs.Afterwards.{line_is}
+use Rattle.reg_service_steps.proofs.Running.{asks_as}
 use Rattle.reg_service_requests.proofs.telling.tell_change.Goals as goal
 
 pub returns-then-not-changes : goal.returns-then-not-changes

@@ -1,6 +1,6 @@
 use Rattle.std.proofs.Common.{[], ◌∷◌, rules}
 use Rattle.reg_tables_meaning.specs.Calls.{TellsOtherMark}
-use Rattle.reg_service_requests.proofs.Afterwards.{asks_then}
+use Rattle.reg_service_steps.proofs.Afterwards.{asks_then}
 use Rattle.reg_service_requests.specs.Granted.{marking}
 use Rattle.reg_service_requests.specs.Telling.{mark_word}
 use Rattle.reg_service_requests.proofs.Asking.{words_told}

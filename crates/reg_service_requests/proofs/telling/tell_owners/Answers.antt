@@ -1,6 +1,6 @@
 use Rattle.std.proofs.Common.{[], ◌∷◌, ◌≡◌, rules, map}
 use Rattle.std.specs.Prelude.{string_bytes}
-use Rattle.reg_service_requests.proofs.Afterwards.{asks_then}
+use Rattle.reg_service_steps.proofs.Afterwards.{asks_then}
 use Rattle.std.specs.Borrow.{Bor}
 use Rattle.std.specs.List.{list_any}
 use Rattle.std.specs.Str.{bytes_eq}

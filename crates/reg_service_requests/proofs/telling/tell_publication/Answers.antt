@@ -1,6 +1,6 @@
 use Rattle.std.proofs.Common.{[], ◌∷◌, true, rules}
 use Rattle.std.specs.Prelude.{codes}
-use Rattle.reg_service_requests.proofs.Running.{asks_as}
+use Rattle.reg_service_steps.proofs.Running.{asks_as}
 use Rattle.reg_model.specs.Events.Asked.{Publish}
 use Rattle.reg_policy.specs.Events.{publication_of}
 use Rattle.reg_service_requests.proofs.Asking.{publish_has, words_told}

@@ -2,7 +2,7 @@ use Rattle.reg_access.proofs.Questions.{asks_nothing}
 use Rattle.reg_policy.specs.Events.{asked_of}
 use Rattle.reg_service_requests.proofs.Asking.{if_wanted, nothing_told, unwanted}
 use Rattle.reg_service_requests.proofs.AskedGiven.{asked_given, reads_only, takes_only}
-use Rattle.reg_service_requests.proofs.Running.{asks_as}
+use Rattle.reg_service_steps.proofs.Running.{asks_as}
 use Rattle.reg_service_requests.proofs.telling.tell_request.Goals as goal
 
 pub returns-then-not-traced : goal.returns-then-not-traced

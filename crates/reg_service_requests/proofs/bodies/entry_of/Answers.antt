@@ -1,5 +1,0 @@
-use Rattle.std.proofs.Common.{refl}
-use Rattle.reg_service_requests.proofs.bodies.entry_of.Goals as goal
-
-pub returns : goal.returns
-returns c = refl
