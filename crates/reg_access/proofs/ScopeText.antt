@@ -39,13 +39,11 @@ in_turn true b c d = ap (λ e. b && (c && e)) (and_true d)
 in_turn false true c d = refl
 in_turn false false c d = refl
 
-scopes_rows : (db : Trees) (id : Value) (canon : List ℕ) → map (eval_all (col 2 2 ∷ [])) (matches db scopes_filter (inner 3 (inner 5 end)) ((id ∷ Text canon ∷ []) ∷ [])) ≡ scopes_over id canon db
-scopes_rows db id canon =
-    let params : Row = id ∷ Text canon ∷ [] in
-    joined_where (λ (t s : Row). params ∷ t ∷ s ∷ []) (eval_all (col 2 2 ∷ [])) (λ (t : Row). db 5)
-    (λ t. equal Binary (column t 0) id) (is_scope_over canon) _
-    (λ t s. in_turn (equal Binary (column s 1) (column t 0)) (equal Binary (column t 0) id) (is_at_most (column s 4) (Text canon)) (is_below (Text canon) (column s 5))) (db 3)
-
 pub scopes_give : (id : Value) (canon : List ℕ) (db : Trees) (rows : List Row) → IsSureAnswer scopes_query (overlay db []) (id ∷ Text canon ∷ []) rows → IsPermutation (scopes_over id canon db) rows
 scopes_give id canon db rows h =
-    subst (λ xs. IsPermutation xs rows) (scopes_rows db id canon) (answers (overlay db []) (id ∷ Text canon ∷ []) (inner 3 (inner 5 end)) scopes_filter (col 2 2 ∷ []) rows h)
+    let params : Row = id ∷ Text canon ∷ [] in
+    let same : map (eval_all (col 2 2 ∷ [])) (matches db scopes_filter (inner 3 (inner 5 end)) (params ∷ [])) ≡ scopes_over id canon db =
+    joined_where (λ (t s : Row). params ∷ t ∷ s ∷ []) (eval_all (col 2 2 ∷ [])) (λ (t : Row). db 5)
+    (λ t. equal Binary (column t 0) id) (is_scope_over canon) _
+    (λ t s. in_turn (equal Binary (column s 1) (column t 0)) (equal Binary (column t 0) id) (is_at_most (column s 4) (Text canon)) (is_below (Text canon) (column s 5))) (db 3) in
+    subst (λ xs. IsPermutation xs rows) same (answers (overlay db []) params (inner 3 (inner 5 end)) scopes_filter (col 2 2 ∷ []) rows h)
