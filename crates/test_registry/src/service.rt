@@ -1,11 +1,9 @@
-//! Tests of the service over a store in memory, by scripts in the words of
-//! [`scripts`](crate::scripts).
+//! Tests of the service over a store in memory, by scripts in the words of `test_scripts`.
 //!
 //! The plain registry is asked the same, and has to answer alike.
 
 mod agreeing;
 mod commands;
-mod fault;
 mod opening;
 mod owners;
 mod publishing;

@@ -1,10 +1,10 @@
 //! Whether the plain registry answers alike.
 
-use crate::scripts::order_text;
 use reg_api_replies::{OwnersBody, Reply};
 use reg_model::AdminRefusal;
 use reg_policy::{AdminReply, Answer, OwnerEntry};
 use std::alloc::{AllocError, Global};
+use test_scripts::order_text;
 
 fn owners_body(alloc: Global, owners: &[OwnerEntry]) -> Result<Vec<u8>, AllocError> {
     let mut body = OwnersBody::new(alloc);

@@ -3,12 +3,10 @@
 //! Blocks of lines have an empty line between them. One that begins with `create` or `open` is
 //! played over the registry that this makes or opens, any other over the connection alone.
 
-use crate::scripts::play as play_over;
-use crate::service::fault::Fault;
-use crate::service::script::setup_of;
 use sqlite::{Alter, Connection};
 use std::alloc::{AllocError, Global};
 use std::process::Abort;
+use test_scripts::{Fault, play as play_over, setup_of};
 use test_tables::by_line;
 
 /// Statements and words on the tables, each with its answer. A line may have one, which is left

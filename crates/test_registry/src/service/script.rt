@@ -6,8 +6,6 @@
 
 ghost use Rattle.reg_service.specs.Registries.{IsUpToDate};
 
-use crate::scripts::{BASE, TWO_ACCOUNTS, TWO_ACCOUNTS_AND_A, limits_of, told_otherwise};
-use crate::service::fault::Fault;
 use crate::service::stage::answered;
 use reg_body::Limits;
 use reg_policy_plain::PlainRegistry;
@@ -15,6 +13,7 @@ use reg_service::Registry;
 use sqlite::{Alter, Connection};
 use std::alloc::{AllocError, Global};
 use std::process::Abort;
+use test_scripts::{BASE, Fault, limits_of, setup_of, told_otherwise};
 
 /// What is wrong with a line; none where it is answered as it says.
 fn fault_of<S: Alter>(
@@ -51,17 +50,6 @@ fn first_fault<S: Alter>(
         }
     }
     Ok(None)
-}
-
-/// What a first line says that there is: the lines that make it.
-pub(crate) fn setup_of(first: &str) -> &'static str {
-    if first.starts_with("given two-accounts-and-a") {
-        TWO_ACCOUNTS_AND_A
-    } else if first.starts_with("given two-accounts") {
-        TWO_ACCOUNTS
-    } else {
-        ""
-    }
 }
 
 /// Plays lines on a registry with nothing in it, and on the plain one.

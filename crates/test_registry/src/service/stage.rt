@@ -5,7 +5,6 @@ ghost use Rattle.reg_model.specs.Steps.{IsFit};
 ghost use Rattle.reg_policy.specs.Events.{command_of};
 ghost use Rattle.reg_service.specs.Registries.{IsUpToDate};
 
-use crate::scripts::{Parts, order_text, reply_text};
 use crate::service::agreeing::{obeys_alike, replies_alike};
 use reg_api_replies::{Reply, write_reply};
 use reg_api_requests::{ApiCall, ApiRequest, read_request};
@@ -15,6 +14,7 @@ use reg_policy_plain::PlainRegistry;
 use reg_service::Registry;
 use sqlite::Alter;
 use std::alloc::{AllocError, Global};
+use test_scripts::{Parts, order_text, reply_text};
 
 /// Whether the plain registry answers a request as it was answered.
 fn is_alike(

@@ -1,6 +1,5 @@
 //! Scripts over files that stop, and what is found of a registry in files.
 
-use crate::scripts::{Played, play};
 use crate::service_stops::fault::Fault;
 use sqlite::{Alter, Connection, Files};
 use std::alloc::{AllocError, Global};
@@ -8,6 +7,7 @@ use test_files::{
     FEW_PAGES, Image, Job, Limits, MANY_PAGES, NO_LIMITS, Stopping, files_of, have_stopped,
     image_of, nothing, revive, work_and_close, work_in,
 };
+use test_scripts::{Played, play};
 use test_tables::make_old;
 
 /// What shows all that a task may change.

@@ -1,6 +1,5 @@
 //! Lines that are tried in turn, each a task and its answer.
 
-use crate::scripts::TWO_ACCOUNTS_AND_A;
 use crate::service_stops::fault::Fault;
 use crate::service_stops::files::{
     Prepared, done_over, outcome_of, prepare, prepare_nothing, prepare_old,
@@ -8,6 +7,7 @@ use crate::service_stops::files::{
 use crate::service_stops::trials::{Amounts, Later, Trial, each_amount};
 use std::alloc::{AllocError, Global};
 use test_files::{Scarce, Seen};
+use test_scripts::TWO_ACCOUNTS_AND_A;
 
 /// What is asked after a task with scarce memory.
 const REPORTS: &str = "users

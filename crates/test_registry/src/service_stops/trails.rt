@@ -1,45 +1,55 @@
-//! A setup with its trail, where a file stops at each of its calls: what is found again holds each
-//! change that was told, and one more at most.
+//! Changes and their trail, where a file stops at each of its calls: what is found again holds
+//! each change that was told, and one more at most.
 
-ghost use Rattle.reg_service.specs.Registries.{IsUpToDate, limits_of};
-ghost use Rattle.reg_cli_pipe.specs.Limited.{HasTurns};
+ghost use Rattle.reg_service.specs.Registries.{IsUpToDate};
 
 use crate::service_stops::fault::Fault;
 use crate::service_stops::files::prepare;
-use reg_body::{Counted, Limits};
-use reg_cli_pipe::pipe_traced;
+use reg_body::Limits;
 use reg_http::Trail;
 use reg_policy::{AdminCommand, AdminReply};
-use reg_service::Registry;
+use reg_service::{OrderTold, Registry};
 use sqlite::{Alter, Connection, Files};
 use std::alloc::Global;
 use test_files::{
     FEW_PAGES, Job, MANY_PAGES, Scarce, Stopping, files_of, have_stopped, revive, work_in,
 };
 
-/// More calls of a file than the setup makes.
+/// More calls of a file than the changes make.
 const MOST_CALLS: u32 = 5_000;
-
-const SETUP: &str = "user-add ada\nuser-add bob\nuser-add carol\n";
 
 const TRAIL: &str = "- admin user-add ada\n- admin user-add bob\n- admin user-add carol\n";
 
-/// The trail of the setup.
+/// Adds an account, and tells of it.
+fn add_account<S: Alter>(
+    alloc: Global,
+    registry: &mut Registry<S>,
+    login: &str,
+    trail: &mut Trail<Vec<u8>>,
+)
+    requires { IsUpToDate S.Store registry.old }
+    ensures { IsUpToDate S.Store registry.new }
+{
+    let command = AdminCommand::UserAdd(login, None);
+    let OrderTold { answer: _, line } = registry.order(alloc, &command, true);
+    trail.tell(line);
+}
+
+/// The trail of three accounts that are added.
 fn trail_of<S: Alter>(alloc: Global, registry: &mut Registry<S>) -> Vec<u8>
-    requires tables { IsUpToDate S.Store registry.old }
-    requires turns { HasTurns (limits_of registry.old) }
+    requires { IsUpToDate S.Store registry.old }
 {
     let mut trail = Trail::new(Vec::new(alloc), u64::MAX);
-    let mut reader = Counted::new([].as_slice());
-    let mut writer = Counted::new(Vec::new(alloc));
-    let _ = pipe_traced(alloc, registry, SETUP, &mut reader, &mut writer, &mut trail);
+    add_account(alloc, registry, "ada", &mut trail);
+    add_account(alloc, registry, "bob", &mut trail);
+    add_account(alloc, registry, "carol", &mut trail);
     trail.into_inner()
 }
 
-/// It is set up: the trail, if the registry was opened.
-struct SetUp;
+/// Accounts are added: the trail, if the registry was opened.
+struct AddAccounts;
 
-impl Job for SetUp {
+impl Job for AddAccounts {
     type Came = Option<Vec<u8>>;
 
     fn over<S: Alter + Drop>(
@@ -116,7 +126,7 @@ fn over_stops(alloc: Global, scarce: Scarce) -> Result<(), Fault> {
     let before = prepare(alloc, "create -> done\n")?;
     for calls in 0..MOST_CALLS {
         let files = files_of(alloc, &before.image, &scarce.with(calls))?;
-        let (mut files, found) = work_in(alloc, files, FEW_PAGES, &SetUp);
+        let (mut files, found) = work_in(alloc, files, FEW_PAGES, &AddAccounts);
         let Some(Some(trail)) = found else {
             continue;
         };

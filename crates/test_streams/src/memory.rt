@@ -1,0 +1,133 @@
+//! A stream with each amount of memory.
+
+ghost use Rattle.reg_service.specs.Registries.{IsUpToDate};
+
+use crate::playing::serve;
+use crate::script::play;
+use crate::stream::Stream;
+use reg_http::StreamFault;
+use reg_service::Registry;
+use sqlite::Alter;
+use std::alloc::{AllocError, Global};
+use test_support::scarce_memory::Amounts;
+
+/// Memory ran out where the connection goes on.
+const WITHIN: &[u8] = b"HTTP/1.1 503 Service Unavailable\r\n\
+    content-type: application/json\r\ncontent-length: 46\r\n\r\n\
+    {\"errors\":[{\"detail\":\"S1 storage or memory\"}]}";
+
+/// Memory ran out while a request was read, and the connection closes.
+const WHILE_READ: &[u8] = b"HTTP/1.1 503 Service Unavailable\r\n\
+    content-type: application/json\r\ncontent-length: 46\r\nconnection: close\r\n\r\n\
+    {\"errors\":[{\"detail\":\"S1 storage or memory\"}]}";
+
+/// How a stream of one request went.
+#[derive(Clone, Copy, PartialEq, Eq)]
+enum Went {
+    /// Before its first read.
+    Before,
+    /// While its request was read.
+    Read,
+    /// After that.
+    Within,
+    /// As with ample memory.
+    Well,
+    /// As it must not.
+    Otherwise,
+}
+
+fn outcome(answer: Result<u64, StreamFault>, taken: &[u8], told: &[u8]) -> Went {
+    match answer {
+        Err(StreamFault::Memory) if taken.is_empty() => Went::Before,
+        Ok(1) if taken == WHILE_READ => Went::Read,
+        Ok(1) if taken == WITHIN => Went::Within,
+        Ok(1) if taken == told => Went::Well,
+        _ => Went::Otherwise,
+    }
+}
+
+/// How often it stopped while its request was read, and how often as it must not.
+#[derive(Clone, Copy)]
+struct Tally {
+    read: u32,
+    otherwise: u32,
+}
+
+impl Tally {
+    fn count(&mut self, went: Went) {
+        match went {
+            Went::Read => self.read = self.read.saturating_add(1),
+            Went::Otherwise => self.otherwise = self.otherwise.saturating_add(1),
+            _ => {}
+        }
+    }
+}
+
+/// How many amounts there are, and by how many bytes they differ.
+const AMOUNTS: (u32, u32) = (400, 1_024);
+
+/// How a stream goes with each amount.
+fn tally_of<S: Alter>(
+    alloc: Global,
+    registry: &mut Registry<S>,
+    stream: &Stream,
+) -> Result<Tally, AllocError>
+    requires { IsUpToDate S.Store registry.old }
+    ensures { IsUpToDate S.Store registry.new }
+{
+    let mut tally = Tally {
+        read: 0,
+        otherwise: 0,
+    };
+    let mut taken = Vec::with_capacity(alloc, 1_000)?;
+    let mut amounts = Amounts::new(alloc, AMOUNTS.0, AMOUNTS.1)?;
+    'amounts: for _ in 0..AMOUNTS.0 {
+        if !amounts.advance(alloc) {
+            return Ok(tally);
+        }
+        taken.clear();
+        let (answer, written) = serve(alloc, registry, &stream.asked, &stream.ends, taken);
+        tally.count(outcome(answer, &written, &stream.told));
+        taken = written;
+    }
+    Ok(tally)
+}
+
+/// What is wrong with a stream of one request that is given each amount of memory.
+pub(crate) fn amounts_fault<S: Alter>(
+    alloc: Global,
+    registry: &mut Registry<S>,
+    stream: &Stream,
+) -> Result<Option<String>, AllocError>
+    requires { IsUpToDate S.Store registry.old }
+    ensures { IsUpToDate S.Store registry.new }
+{
+    let Tally { read, otherwise } = tally_of(alloc, registry, stream)?;
+    if otherwise == 0 && read > 0 {
+        return Ok(None);
+    }
+    Ok(Some(format!(in alloc; "{read} while read, {otherwise} otherwise")?))
+}
+
+const MEMORY_REFUSED_WHILE_A_REQUEST_IS_READ: &str = r#"given two-accounts
+stream
+> GET /index/config.json HTTP/1.1
+> host: r
+> authorization: abc
+> content-length: 100000
+>
+repeat 100000 >: x
+< HTTP/1.1 200 OK
+< content-type: application/json
+< content-length: 95
+<
+<: {"api":"http://127.0.0.1:8080","auth-required":true,
+    "dl":"http://127.0.0.1:8080/api/v1/crates"}
+= 1
+each amount of memory
+= 1"#;
+
+#[test]
+fn memory_refused_while_a_request_is_read(rt: HostRuntime) {
+    play(&rt, MEMORY_REFUSED_WHILE_A_REQUEST_IS_READ);
+}
