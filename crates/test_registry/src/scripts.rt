@@ -3,10 +3,12 @@
 //!
 //! A line is a command or a request, `export`, `audit`, or `stream` before a request for an index
 //! file, an arrow, and its whole answer.
-//! Who asks is ada, bob, no-token, or the text of a token:
+//! Who asks is ada, bob, no-token, or the text of a token, and `|` is between words where one has
+//! a space:
 //!
 //! ```text
 //! reserve acme -> done
+//! user-add|carol|Carol C. -> done
 //! bob yank a 0.1.0 -> A9
 //! ```
 
@@ -22,6 +24,6 @@ mod tasks;
 pub(crate) use calls::{Parts, answer};
 pub(crate) use limits::limits_of;
 pub(crate) use playing::{Played, play};
-pub(crate) use replies::{order_text, reply_text, told_text};
+pub(crate) use replies::{body_text, order_text, reply_text, told_text};
 pub(crate) use sequences::told_otherwise;
 pub(crate) use setups::{BASE, TWO_ACCOUNTS, TWO_ACCOUNTS_AND_A};
