@@ -18,6 +18,8 @@ mod name_calls;
 mod names;
 mod part_calls;
 mod patterns;
+mod refusal_calls;
+mod refusals;
 mod routing;
 mod script;
 mod versions;

@@ -1,7 +1,5 @@
-//! Tests of what stands below the tables: the pure layers, and the rules with the plain registry.
+//! Tests of the pure layers: what needs no registry.
 #![tactic(auto)]
 
 #[cfg(test)]
 mod layers;
-#[cfg(test)]
-mod policy;

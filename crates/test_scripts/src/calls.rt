@@ -26,6 +26,11 @@ pub struct Parts<'a> {
     digest: Digest,
 }
 
+/// What stands between the words of a line: `|` where a word has a space.
+fn separator(line: &str) -> char {
+    if line.contains('|') { '|' } else { ' ' }
+}
+
 /// The endpoints, the patterns and the text of a token that is added; of other words none.
 fn token_words<'a>(words: &[&'a str]) -> [&'a str; 3] {
     match words {
@@ -44,7 +49,7 @@ fn words_behind<'w, 'a>(words: &'w [&'a str]) -> &'w [&'a str] {
 
 impl<'a> Parts<'a> {
     pub fn read(alloc: Global, line: &'a str) -> Result<Parts<'a>, AllocError> {
-        let words: Vec<&str> = line.split(' ').collect(alloc)?;
+        let words: Vec<&str> = line.split(separator(line)).collect(alloc)?;
         let body = publish_body(alloc, words_behind(&words))?;
         let [endpoints, patterns, token] = token_words(&words);
         Ok(Parts {

@@ -3,10 +3,12 @@
 //!
 //! A line is a command or a request, `export`, `audit`, or `stream` before a request for an index
 //! file, an arrow, and its whole answer.
-//! Who asks is ada, bob, no-token, or the text of a token:
+//! Who asks is ada, bob, no-token, or the text of a token, and `|` is between words where one has
+//! a space:
 //!
 //! ```text
 //! reserve acme -> done
+//! user-add|carol|Carol C. -> done
 //! bob yank a 0.1.0 -> A9
 //! ```
 #![tactic(auto)]
@@ -25,6 +27,6 @@ pub use calls::{Parts, answer};
 pub use fault::Fault;
 pub use limits::limits_of;
 pub use playing::{Played, play};
-pub use replies::{order_text, reply_text, told_text};
+pub use replies::{body_text, order_text, reply_text, told_text};
 pub use sequences::told_otherwise;
 pub use setups::{BASE, TWO_ACCOUNTS_AND_A, setup_of};

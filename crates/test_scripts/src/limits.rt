@@ -5,10 +5,12 @@ use reg_body::Limits;
 /// Sets the limit with this name. Another name leaves no room for an account.
 fn limit(limits: &mut Limits, name: &str, number: u32) {
     match name {
+        "archive" => limits.archive = number,
         "logins" => limits.logins = number,
         "patterns" => limits.patterns = number,
         "versions" => limits.versions = u64::from(number),
         "accounts" => limits.accounts = u64::from(number),
+        "tokens" => limits.tokens = u64::from(number),
         "crates" => limits.crates = u64::from(number),
         _ => limits.accounts = 0,
     }

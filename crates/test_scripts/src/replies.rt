@@ -6,7 +6,7 @@ use reg_service::{Kind, Reply, Told};
 use std::alloc::{AllocError, Global};
 
 /// A body of UTF-8; a line feed stands as `<0a>`.
-pub(crate) fn body_text(alloc: Global, body: &[u8]) -> Result<String, AllocError> {
+pub fn body_text(alloc: Global, body: &[u8]) -> Result<String, AllocError> {
     let text = std::str::from_utf8(body).unwrap_or("<no text>");
     text.replace(alloc, "\n", "<0a>")
 }

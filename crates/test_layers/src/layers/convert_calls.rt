@@ -2,6 +2,7 @@
 
 use crate::layers::bytes::{bytes_of, counted};
 use crate::layers::part_calls::nested_json;
+use crate::layers::refusal_calls::of_refusals;
 use reg_body::{Counted, Limits, join};
 use reg_cli_line::{Exit, run_line, run_line_within};
 use std::alloc::{AllocError, Global};
@@ -103,6 +104,6 @@ pub(crate) fn of_conversions(alloc: Global, word: &str, text: &str) -> Result<St
         "line-of-nested" => of_nested(alloc, text),
         "line-of-long" => of_long(alloc, text),
         "line-of-long-within" => of_long_within(alloc, text),
-        _ => String::from_str(alloc, "no such call"),
+        _ => of_refusals(alloc, word, text),
     }
 }

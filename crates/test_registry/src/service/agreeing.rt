@@ -1,17 +1,27 @@
 //! Whether the plain registry answers alike.
 
-use reg_api_replies::{OwnersBody, Reply};
+use reg_api_replies::{FoundBody, OwnersBody, Reply};
 use reg_model::AdminRefusal;
-use reg_policy::{AdminReply, Answer, OwnerEntry};
+use reg_policy::{AdminReply, Answer, Asked, Event, OwnerEntry, Reading};
+use reg_policy_plain::{Found, PlainRegistry};
 use std::alloc::{AllocError, Global};
 use test_scripts::order_text;
 
-fn owners_body(alloc: Global, owners: &[OwnerEntry]) -> Result<Vec<u8>, AllocError> {
+/// The body of a reply with these owners.
+pub(crate) fn owners_body(alloc: Global, owners: &[OwnerEntry]) -> Result<Vec<u8>, AllocError> {
     let mut body = OwnersBody::new(alloc);
     for owner in owners {
         body.push(owner.id, owner.login.as_str(), owner.name.as_deref())?;
     }
     body.finish()
+}
+
+fn found_body(alloc: Global, found: &Found) -> Result<Vec<u8>, AllocError> {
+    let mut body = FoundBody::new(alloc);
+    for hit in &found.crates {
+        body.push(&hit.name, &hit.version, hit.description.as_deref())?;
+    }
+    body.finish(found.total)
 }
 
 fn has_body(reply: &Reply, wanted: &[u8]) -> bool {
@@ -39,6 +49,23 @@ pub(crate) fn replies_alike(
         Answer::Owners(owners) => has_body(reply, &owners_body(alloc, owners)?),
         _ => false,
     })
+}
+
+/// Whether what is served of a search is what the plain registry finds for this account.
+pub(crate) fn finds_alike(
+    alloc: Global,
+    plain: &PlainRegistry,
+    account: Option<u32>,
+    event: &Event,
+    reply: &Reply,
+) -> Result<bool, AllocError> {
+    match (event, reply) {
+        (Event::Ask(_, Asked::Read(Reading::Search(query, most))), Reply::Done(_, _)) => {
+            let found = plain.search(account, query, *most)?;
+            Ok(has_body(reply, &found_body(alloc, &found)?))
+        }
+        _ => Ok(true),
+    }
 }
 
 /// Whether a command is answered as the plain registry answers it.

@@ -72,7 +72,7 @@ fn fault_in(alloc: Global, script: &str) -> Result<Option<String>, Fault> {
 }
 
 /// Plays a script: fails where a line of it is answered otherwise than it says.
-fn play<R: Abort + AllocGlobal>(rt: &R, script: &str) {
+pub(crate) fn play<R: Abort + AllocGlobal>(rt: &R, script: &str) {
     match fault_in(rt.alloc(), script) {
         Ok(None) => {}
         Ok(Some(found)) => panic!(rt; "{found}"),

@@ -5,7 +5,7 @@ ghost use Rattle.reg_model.specs.Steps.{IsFit};
 ghost use Rattle.reg_policy.specs.Events.{command_of};
 ghost use Rattle.reg_service.specs.Registries.{IsUpToDate};
 
-use crate::service::agreeing::{obeys_alike, replies_alike};
+use crate::service::agreeing::{finds_alike, obeys_alike, replies_alike};
 use reg_api_replies::{Reply, write_reply};
 use reg_api_requests::{ApiCall, ApiRequest, read_request};
 use reg_body::Counted;
@@ -15,6 +15,17 @@ use reg_service::Registry;
 use sqlite::Alter;
 use std::alloc::{AllocError, Global};
 use test_scripts::{Parts, order_text, reply_text};
+use test_support::examples::SECOND_TOKEN;
+
+/// The account of ada's or bob's token. Who asks with another sees in each script that searches
+/// what nobody in particular sees.
+fn account_of(request: &ApiRequest<'_>) -> Option<u32> {
+    match request.token {
+        Some(b"abc") => Some(1),
+        Some(token) if token == SECOND_TOKEN.as_bytes() => Some(2),
+        _ => None,
+    }
+}
 
 /// Whether the plain registry answers a request as it was answered.
 fn is_alike(
@@ -26,8 +37,12 @@ fn is_alike(
 ) -> Result<bool, AllocError> {
     let read = read_request(alloc, &*request, limits)?;
     let logins = read.logins(alloc)?;
-    let answer = plain.step(&Event::Ask(read.digest(), read.asked(&logins)));
-    replies_alike(alloc, reply, &answer)
+    let event = Event::Ask(read.digest(), read.asked(&logins));
+    let answer = plain.step(&event);
+    Ok(
+        replies_alike(alloc, reply, &answer)?
+            && finds_alike(alloc, plain, account_of(request), &event, reply)?,
+    )
 }
 
 /// Whether an index file is sent row by row as it was answered.

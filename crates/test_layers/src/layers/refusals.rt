@@ -1,11 +1,11 @@
 //! What refusals are told.
 
-use crate::policy::script::play;
+use crate::layers::script::play;
+use std::test::Fail;
 
 #[test]
-fn statuses_and_texts_of_rules(rt: HostRuntime) {
-    let script = "given two-accounts
-told H1 -> H1: 400 H1 bad request head
+fn statuses_and_texts_of_rules(rt: HostRuntime) -> Result<(), Fail> {
+    let script = "told H1 -> H1: 400 H1 bad request head
 told H2 -> H2: 431 H2 request head too large
 told H3 -> H3: 411 H3 transfer encoding not accepted
 told H4 -> H4: 400 H4 bad content length
@@ -40,13 +40,12 @@ told O3 -> O3: 400 O3 user is not an owner
 told O4 -> O4: 409 O4 no owner would be left
 told Q1 -> Q1: 400 Q1 bad per_page
 told S1 -> S1: 503 S1 storage or memory";
-    play(&rt, script);
+    play(rt.alloc(), script)
 }
 
 #[test]
-fn texts_of_the_administrators_refusals(rt: HostRuntime) {
-    let script = "given two-accounts
-told G1 -> G1: G1 bad login or name
+fn texts_of_the_administrators_refusals(rt: HostRuntime) -> Result<(), Fail> {
+    let script = "told G1 -> G1: G1 bad login or name
 told G2 -> G2: G2 login taken
 told G3 -> G3: G3 no such login
 told G4 -> G4: G4 bad pattern or crate name
@@ -56,5 +55,5 @@ told G7 -> G7: G7 too many
 told G8 -> G8: G8 no such crate
 told G9 -> G9: G9 no endpoint
 told G10 -> G10: G10 storage or memory";
-    play(&rt, script);
+    play(rt.alloc(), script)
 }

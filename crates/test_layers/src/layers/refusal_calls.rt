@@ -1,4 +1,4 @@
-//! Words of scripts about refusals' texts and texts' lengths.
+//! Calls on the texts of refusals.
 
 use reg_policy::{AdminRefusal, Rule, admin_text, rule_status, rule_text};
 use std::alloc::{AllocError, Global};
@@ -65,7 +65,7 @@ fn begins(text: &str, word: &str) -> bool {
 }
 
 /// The rule whose text begins with this name.
-pub(crate) fn rule_named(name: &str) -> Option<Rule> {
+fn rule_named(name: &str) -> Option<Rule> {
     for rule in &RULES {
         if begins(rule_text(*rule), name) {
             return Some(*rule);
@@ -84,7 +84,7 @@ fn refusal_named(name: &str) -> Option<AdminRefusal> {
 }
 
 /// What a refusal is told: its name, of a rule its status, and its text.
-pub(crate) fn told(alloc: Global, name: &str) -> Result<String, AllocError> {
+fn told(alloc: Global, name: &str) -> Result<String, AllocError> {
     if let Some(rule) = rule_named(name) {
         let (status, text) = (rule_status(rule), rule_text(rule));
         return format!(in alloc; "{rule:?}: {status} {text}");
@@ -95,6 +95,10 @@ pub(crate) fn told(alloc: Global, name: &str) -> Result<String, AllocError> {
     String::from_str(alloc, "no such refusal")
 }
 
-pub(crate) fn length(alloc: Global, text: &str) -> Result<String, AllocError> {
-    format!(in alloc; "{}", text.len())
+/// What a call is answered that is none on publish bodies and lines.
+pub(crate) fn of_refusals(alloc: Global, word: &str, name: &str) -> Result<String, AllocError> {
+    match word {
+        "told" => told(alloc, name),
+        _ => String::from_str(alloc, "no such call"),
+    }
 }
