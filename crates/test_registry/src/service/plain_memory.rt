@@ -13,10 +13,13 @@ use test_files::leave_only;
 use test_scripts::{Parts, TWO_ACCOUNTS_AND_A, body_text, order_text};
 
 /// Bytes between two amounts.
-const STEP: u32 = 24;
+const STEP: u32 = 64;
 
 /// More amounts than any line needs.
 const MOST_AMOUNTS: u32 = 250;
+
+/// Eight blocks of each of 65 sizes.
+const SPARE_BLOCKS: u32 = 520;
 
 /// With the lines of *two accounts and a* four of each, so that the lists of the registry are full.
 const FULL: &str = "ada release c 0.1.0
@@ -53,6 +56,15 @@ fn answer_text(alloc: Global, answer: Answer) -> Result<String, AllocError> {
     }
 }
 
+/// Blocks of each small size: more than the allocator keeps of those that were freed.
+fn spare_blocks(alloc: Global) -> Result<Vec<Vec<u8>>, AllocError> {
+    let mut blocks = Vec::with_capacity(alloc, SPARE_BLOCKS as usize)?;
+    for k in 0..SPARE_BLOCKS {
+        blocks.push(Vec::with_capacity(alloc, (k / 8) as usize * 16 + 8)?)?;
+    }
+    Ok(blocks)
+}
+
 /// What an event is answered with this amount of memory, or with all.
 fn told(
     alloc: Global,
@@ -60,9 +72,11 @@ fn told(
     event: &Event,
     amount: Option<u32>,
 ) -> Result<String, AllocError> {
+    let spare = spare_blocks(alloc)?;
     let memory = leave_only(alloc, amount)?;
     let answer = plain.step(event);
     drop(memory);
+    drop(spare);
     answer_text(alloc, answer)
 }
 
@@ -153,7 +167,7 @@ fn fault_of(
     let found = answered(alloc, ample, line, None)?;
     let Tried { answer, wanting } = try_amounts(alloc, scarce, line)?;
     let is_same = all_answered(alloc, ample, LOOKS)? == all_answered(alloc, scarce, LOOKS)?;
-    if is_same && found.as_str() == want && answer.as_str() == want && wanting > 5 {
+    if is_same && found.as_str() == want && answer.as_str() == want && wanting > 1 {
         return Ok(None);
     }
     Ok(Some(format!(in alloc; "{call}: found {found}, then {answer} after {wanting}")?))
