@@ -4,8 +4,9 @@
 //! Who asks is a token that is named for the rules that it breaks, as `A3+A7`; `good` breaks none,
 //! and `A2` is not there.
 //! Ada and Dan own the crates, Carol and Eve do not; Dan and Eve are disabled.
-//! There is no acme-no, acme-kit is reserved, and acme-net has two versions, acme-io one: as long
-//! as the crates are open, or restricted and seen by all, and where Carol and Eve do not see them.
+//! There is no acme-no, acme-kit is reserved, and acme-net has two versions, acme-io one.
+//! The lines are played where the crates are open, and where Carol and Eve see them as readers;
+//! others where they do not see them, and at limits and above.
 
 use crate::service::opening::play as play_blocks;
 use crate::service::script::play;
@@ -29,7 +30,7 @@ user-disable dan -> done
 user-disable eve -> done
 "#;
 
-/// Everybody sees the crates.
+/// The crates are open.
 pub(crate) const OPEN: &str = "";
 
 /// Owners alone see the crates: to others they break A8 and A9.
