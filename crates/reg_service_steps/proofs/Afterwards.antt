@@ -1,5 +1,5 @@
 -- A question, and then what follows; and what a line tells that was made.
-use Rattle.std.proofs.Common.{◌≡◌, arith, Ok, Err, Result, Option, Some, subst, sym, ap, ◌∙◌}
+use Rattle.std.proofs.Common.{◌≡◌, arith, Bool, true, false, cond, [], refl, Ok, Err, Result, Option, Some, subst, sym, ap, ◌∙◌}
 use Rattle.std.specs.Prelude.{IfOk, String, string_bytes}
 use Rattle.std.specs.declared.alloc.AllocError.{AllocError}
 use Rattle.std.specs.declared.alloc.Global.{Global}

@@ -1,5 +1,5 @@
 -- The lines of an index file, from the rows of versions.
-use Rattle.std.proofs.Common.{◌≡◌, List, [], ◌∷◌, ◌×◌, Bool, true, false, cond, map, refl, sym, ap, ◌∙◌}
+use Rattle.std.proofs.Common.{◌≡◌, List, [], ◌∷◌, Bool, true, false, cond, map, refl, sym, ap, ◌∙◌}
 use Rattle.std.specs.FinSet as finset
 use Rattle.std.specs.List.{filter}
 use Rattle.reg_names.specs.Names.{canon}
