@@ -1,8 +1,5 @@
-//! Tests of a registry at work, as scripts, with ample memory and with scarce memory: the service
-//! over memory, over files, and over files that stop at some call.
+//! Tests of a registry at work, as scripts: the service over memory, beside the plain registry.
 #![tactic(auto)]
 
 #[cfg(test)]
 mod service;
-#[cfg(test)]
-mod service_stops;

@@ -1,10 +1,8 @@
 //! Lines that are tried in turn, each a task and its answer.
 
-use crate::service_stops::fault::Fault;
-use crate::service_stops::files::{
-    Prepared, done_over, outcome_of, prepare, prepare_nothing, prepare_old,
-};
-use crate::service_stops::trials::{Amounts, Later, Trial, each_amount};
+use crate::fault::Fault;
+use crate::files::{Prepared, done_over, outcome_of, prepare, prepare_nothing, prepare_old};
+use crate::trials::{Amounts, Later, Trial, each_amount};
 use std::alloc::{AllocError, Global};
 use test_files::{Scarce, Seen};
 use test_scripts::TWO_ACCOUNTS_AND_A;

@@ -1,12 +1,12 @@
 //! Each file stops at each of its calls: the registry that is found again is that before or that
 //! after, and that after once the task was answered.
 
-use crate::service_stops::calls::{
+use crate::calls::{
     CHANGED, CHANGES, CHANGES_BACK, DENIALS, INDEX_REQUESTS, LISTS, PUBLISHES, READS, REQUESTS,
     TAKEN, UNKNOWN,
 };
-use crate::service_stops::fault::Fault;
-use crate::service_stops::lines::{over_files, over_nothing, over_old_files};
+use crate::fault::Fault;
+use crate::lines::{over_files, over_nothing, over_old_files};
 
 #[test]
 fn a_stop_while_a_registry_is_made(rt: HostRuntime) -> Result<(), Fault> {

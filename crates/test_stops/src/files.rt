@@ -1,6 +1,6 @@
 //! Scripts over files that stop, and what is found of a registry in files.
 
-use crate::service_stops::fault::Fault;
+use crate::fault::Fault;
 use sqlite::{Alter, Connection, Files};
 use std::alloc::{AllocError, Global};
 use test_files::{

@@ -1,12 +1,12 @@
 //! A task with each amount of memory: it is answered as with ample memory, or that there is no
 //! room, and then the registry is as before.
 
-use crate::service_stops::calls::{
+use crate::calls::{
     CHANGED, CHANGES, CHANGES_BACK, DENIALS, INDEX_REQUESTS, LISTS, PUBLISHES, READS, REQUESTS,
     TAKEN, UNKNOWN,
 };
-use crate::service_stops::fault::Fault;
-use crate::service_stops::lines::{over_files, over_nothing, over_old_files};
+use crate::fault::Fault;
+use crate::lines::{over_files, over_nothing, over_old_files};
 
 /// Bytes between two amounts, while a registry is made or changed, and while it is read.
 const STEP: u32 = 32_000;

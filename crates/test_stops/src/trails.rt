@@ -3,8 +3,8 @@
 
 ghost use Rattle.reg_service.specs.Registries.{IsUpToDate};
 
-use crate::service_stops::fault::Fault;
-use crate::service_stops::files::prepare;
+use crate::fault::Fault;
+use crate::files::prepare;
 use reg_body::Limits;
 use reg_http::Trail;
 use reg_policy::{AdminCommand, AdminReply};

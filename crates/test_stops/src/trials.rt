@@ -1,7 +1,7 @@
 //! A task with more and more of what is scarce, until it is answered and nothing stopped.
 
-use crate::service_stops::fault::Fault;
-use crate::service_stops::files::{Outcome, Prepared, outcome_of};
+use crate::fault::Fault;
+use crate::files::{Outcome, Prepared, outcome_of};
 use std::alloc::Global;
 use test_files::{Came, Limits, Scarce, Seen};
 

@@ -2,10 +2,10 @@
 //! G10, until the files are opened again. So nothing is acknowledged on top of what a stop may
 //! undo.
 
-use crate::service_stops::fault::Fault;
-use crate::service_stops::files::{Outcome, outcome_of};
-use crate::service_stops::lines::files_with;
-use crate::service_stops::trials::{MOST_RUNS, is_no_room};
+use crate::fault::Fault;
+use crate::files::{Outcome, outcome_of};
+use crate::lines::files_with;
+use crate::trials::{MOST_RUNS, is_no_room};
 use std::alloc::Global;
 use test_files::Scarce;
 use test_scripts::Played;
