@@ -8,7 +8,8 @@ ghost use Rattle.reg_service.specs.Registries.{IsUpToDate, limits_of, tables_of}
 ghost use Rattle.reg_cli.specs.Tasks.{IsFitTask, IsTaskDone, task_from, task_of};
 
 use crate::exporting::export_to;
-use crate::using::{Use, on_file};
+use crate::files::whole_path;
+use crate::using::{Use, on_whole_file};
 use clap::ArgMatches;
 use reg_body::{Counted, Limits};
 use reg_cli_line::Exit;
@@ -79,6 +80,17 @@ pub(crate) fn do_task<S: Alter, W: Write>(
     }
 }
 
+/// The task, on the file by its whole path.
+fn with_file<'a>(task: Task<'a>, file: &'a str) -> Task<'a>
+    requires { IsFitTask task }
+    ensures { IsFitTask result }
+{
+    match task {
+        Task::Export(folder, _) => Task::Export(folder, file),
+        task => task,
+    }
+}
+
 /// Does what the arguments of a subcommand ask for, on the file that they name.
 pub(crate) fn administer(rt: &HostRuntime, name: &str, words: &ArgMatches<'_>) -> Exit {
     let task = match read_task(rt.alloc(), name, words) {
@@ -86,8 +98,14 @@ pub(crate) fn administer(rt: &HostRuntime, name: &str, words: &ArgMatches<'_>) -
         Ok(None) => return Exit::BAD_WORDS,
         Err(_) => return Exit::MEMORY,
     };
-    match words.get_str("db") {
-        Some(file) => on_file(rt, file, Limits::STANDARD, &Use::Task(&task)),
-        None => Exit::BAD_WORDS,
+    let Some(file) = words.get_str("db") else {
+        return Exit::BAD_WORDS;
+    };
+    match whole_path(rt, file) {
+        Ok(file) => {
+            let task = with_file(task, &file);
+            on_whole_file(rt, &file, Limits::STANDARD, &Use::Task(&task))
+        }
+        Err(exit) => exit,
     }
 }

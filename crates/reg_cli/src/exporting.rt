@@ -8,8 +8,9 @@ use reg_cli_pipe::{FolderAt, join_path, write_files};
 use reg_service::Registry;
 use sqlite::Alter;
 use std::alloc::AllocError;
+use std::fs;
 
-/// Whether one of the files is the registry's own, or its log.
+/// Whether one of the files is the registry's own, or has a name beside it that the library may use.
 fn have_registry(
     rt: &HostRuntime,
     folder: &str,
@@ -26,8 +27,8 @@ fn have_registry(
 }
 
 /// Writes the config and the index files below the folder. Existing files are overwritten, unless
-/// one is the registry's own `file` or its log: then nothing is written. The empty text names no
-/// folder.
+/// one is the registry's own `file` or a name beside it: then none is written. The folder is made
+/// first, so that it is known where it leads. The empty text names no folder.
 pub(crate) fn export_to<S: Alter>(
     rt: &HostRuntime,
     registry: &mut Registry<S>,
@@ -42,6 +43,9 @@ pub(crate) fn export_to<S: Alter>(
     let Ok(files) = registry.export(rt.alloc()) else {
         return Exit::STORAGE;
     };
+    if fs::create_dir_all(rt, folder).is_err() {
+        return Exit::STORAGE;
+    }
     match have_registry(rt, folder, &files, file) {
         Ok(false) => write_files(&mut FolderAt::new(rt, folder), &files),
         Ok(true) => Exit::STORAGE,

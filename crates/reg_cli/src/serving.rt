@@ -7,12 +7,13 @@ ghost use Rattle.reg_cli_pipe.specs.Exits.{EndsWith};
 ghost use Rattle.reg_cli_pipe.specs.Limited.{HasTurns};
 ghost use Rattle.reg_cli.specs.Setups.{IsSetup};
 
+use crate::files::whole_path;
 use crate::store::{connect, create, open};
 use crate::using::{Use, on_file};
 use clap::ArgMatches;
 use reg_body::{Counted, Limits};
 use reg_cli_line::Exit;
-use reg_cli_pipe::{Door, Service, read_service, run_pipe, serve_connections};
+use reg_cli_pipe::{Door, Service, mark_opening, read_service, run_pipe, serve_connections};
 use reg_http::{Server, Trail};
 use reg_service::Registry;
 use sqlite::{Alter, Connection};
@@ -108,7 +109,7 @@ pub(crate) fn init(rt: &HostRuntime, words: &ArgMatches<'_>) -> Exit {
     on_file(rt, file, Limits::STANDARD, &Use::Make(base))
 }
 
-/// Listens, unless it does already, and serves connections.
+/// Listens, unless it does already, marks the opening in the trail, and serves connections.
 fn serve_door<S: Alter, T: Write>(
     rt: &HostRuntime,
     server: &mut Server,
@@ -124,7 +125,8 @@ fn serve_door<S: Alter, T: Write>(
     ensures fewer { OnOk result (0 < left.new → left.new < left.old) }
 {
     door.open(rt)?;
-    serve_connections(rt.alloc(), server, registry, trail, door, left)
+    mark_opening(rt.alloc(), registry, trail)?;
+    serve_connections(rt, server, registry, trail, door, left)
 }
 
 /// Opens the registry of a store, serves connections, and returns how that ended, and the
@@ -170,22 +172,27 @@ fn serve_opening<T: Write>(
     served
 }
 
-/// Serves as many connections as asked. After a failed commit the file is opened again before the
-/// next connection; if that fails, the run ends. Its trail goes on over all openings.
-fn serve_file(rt: &HostRuntime, file: &str, service: &Service, door: &mut Door) -> Result<(), Exit>
+/// Serves as many connections as asked. Once the registry has stopped, the file is opened again
+/// before the next connection; if that fails, the run ends. The trail goes on over all openings.
+fn serve_openings<T: Write>(
+    rt: &HostRuntime,
+    trail: &mut Trail<T>,
+    file: &str,
+    service: &Service,
+    door: &mut Door,
+) -> Result<(), Exit>
     requires { door.old.accepted ≡ 0 }
     ensures served { OnOk result (door.new.accepted ≡ service.now.connections) }
 {
     let Ok(mut server) = Server::new(rt.alloc()) else {
         return Err(Exit::MEMORY);
     };
-    let mut trail = Trail::new(rt.stdout(), service.writes());
     let mut left = service.connections;
     'openings: loop {
         serve_opening(
             rt,
             &mut server,
-            &mut trail,
+            trail,
             file,
             service.limits(),
             door,
@@ -195,6 +202,16 @@ fn serve_file(rt: &HostRuntime, file: &str, service: &Service, door: &mut Door) 
             return Ok(());
         }
     }
+}
+
+/// Serves the registry of a file, with one trail.
+fn serve_file(rt: &HostRuntime, file: &str, service: &Service, door: &mut Door) -> Result<(), Exit>
+    requires { door.old.accepted ≡ 0 }
+    ensures served { OnOk result (door.new.accepted ≡ service.now.connections) }
+{
+    let file = whole_path(rt, file)?;
+    let mut trail = Trail::new(rt.stdout(), service.writes());
+    serve_openings(rt, &mut trail, &file, service, door)
 }
 
 /// `serve`.

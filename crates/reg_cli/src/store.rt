@@ -49,14 +49,12 @@ pub(crate) fn exit_of_opening(fault: OpenFault) -> Exit
     }
 }
 
-/// A connection to the file. If its log has lost it, neither is touched.
+/// A connection to the file, by its whole path. If its log has lost it, neither is touched.
 pub(crate) fn connect(rt: &HostRuntime, file: &str) -> Result<Connection<FileStore<File>>, Exit>
     ensures { IfOk result IsNew }
 {
-    match is_orphaned(rt, file) {
-        Ok(false) => {}
-        Ok(true) => return Err(Exit::STORAGE),
-        Err(_) => return Err(Exit::MEMORY),
+    if is_orphaned(rt, file)? {
+        return Err(Exit::STORAGE);
     }
     match Connection::open(rt, file) {
         Ok(conn) => Ok(conn),

@@ -7,6 +7,7 @@ ghost use Rattle.reg_cli_pipe.specs.Limited.{HasTurns};
 ghost use Rattle.reg_cli.specs.Tasks.{IsFitUse};
 
 use crate::administering::{Task, do_task};
+use crate::files::whole_path;
 use crate::serving::pipe_on;
 use crate::store::{connect, create, open};
 use reg_body::{Counted, Limits};
@@ -85,6 +86,7 @@ fn exit_of_use(rt: &HostRuntime, wanted: &Use<'_>, exit: Exit, is_closed: bool) 
     }
 }
 
+/// Uses the registry of a file, by its whole path.
 fn use_file(rt: &HostRuntime, file: &str, limits: Limits, wanted: &Use<'_>) -> Result<Exit, Exit>
     requires turns { HasTurns limits }
     requires fit { IsFitUse wanted.now }
@@ -95,12 +97,23 @@ fn use_file(rt: &HostRuntime, file: &str, limits: Limits, wanted: &Use<'_>) -> R
     Ok(exit_of_use(rt, wanted, exit, is_closed))
 }
 
-/// Uses the registry of a file.
-pub(crate) fn on_file(rt: &HostRuntime, file: &str, limits: Limits, wanted: &Use<'_>) -> Exit
+/// Uses the registry of a file, by its whole path.
+pub(crate) fn on_whole_file(rt: &HostRuntime, file: &str, limits: Limits, wanted: &Use<'_>) -> Exit
     requires turns { HasTurns limits }
     requires fit { IsFitUse wanted.now }
 {
     match use_file(rt, file, limits, wanted) {
         Ok(exit) | Err(exit) => exit,
+    }
+}
+
+/// Uses the registry of a file.
+pub(crate) fn on_file(rt: &HostRuntime, file: &str, limits: Limits, wanted: &Use<'_>) -> Exit
+    requires turns { HasTurns limits }
+    requires fit { IsFitUse wanted.now }
+{
+    match whole_path(rt, file) {
+        Ok(file) => on_whole_file(rt, &file, limits, wanted),
+        Err(exit) => exit,
     }
 }

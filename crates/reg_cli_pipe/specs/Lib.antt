@@ -3,6 +3,7 @@ pub mod Folders
 pub mod Limited
 pub mod LineOrders
 pub mod Lines
+pub mod Marking
 pub mod Piped
 pub mod Printing
 pub mod Services

@@ -1,17 +1,25 @@
 //! Where connections come from.
 
-ghost use Rattle.std.specs.Prelude.{◌≡◌, ◌+◌, ◌^◌, ◌<◌, codes, MatchResult};
+ghost use Rattle.std.specs.Prelude.{◌≡◌, ◌+◌, ◌^◌, ◌<◌, codes, IfErr, MatchResult};
 ghost use Rattle.reg_cli_pipe.specs.Exits.{EndsWith};
 
 use crate::printing::print;
 use reg_cli_line::Exit;
+use std::io::ErrorKind;
 use std::net::{TcpListener, TcpStream};
+use std::thread;
+use std::time::Duration;
 
 /// The port cannot be listened on, or a connection cannot be accepted.
 const NO_LISTENING: Exit = Exit {
     status: 3,
     words: "listen fault",
 };
+
+/// How often an accept that failed is tried again, and how many milliseconds after: too many files
+/// may be open for a moment.
+const MORE_TRIES: u32 = 10;
+const PAUSE: u64 = 100;
 
 /// A port of the loopback address, listened on once it is open. It counts the accepted connections.
 #[derive(Drop)]
@@ -37,6 +45,25 @@ fn listen(rt: &HostRuntime, port: u16) -> Result<TcpListener, Exit> {
     }
 }
 
+/// Waits for a connection: none if its client hung up before it was accepted, or a signal came.
+fn accept_from(rt: &HostRuntime, listener: &TcpListener) -> Result<Option<TcpStream>, Exit>
+    ensures { IfErr result (EndsWith 3 (codes "listen fault")) }
+{
+    for _try in 0..MORE_TRIES {
+        match listener.accept() {
+            Ok((stream, _)) => return Ok(Some(stream)),
+            Err(error) => match error.kind() {
+                ErrorKind::ConnectionAborted | ErrorKind::Interrupted => return Ok(None),
+                _ => thread::sleep(rt, Duration::from_millis(PAUSE)),
+            },
+        }
+    }
+    match listener.accept() {
+        Ok((stream, _)) => Ok(Some(stream)),
+        Err(_) => Err(NO_LISTENING),
+    }
+}
+
 impl Door {
     pub fn at(port: u16) -> Door
         ensures { result.accepted ≡ 0 }
@@ -58,9 +85,10 @@ impl Door {
         Ok(())
     }
 
-    /// Waits for a connection. What is written to it leaves at once, without waiting for earlier
-    /// data to be acknowledged.
-    pub fn accept(&mut self) -> Result<TcpStream, Exit>
+    /// Waits for a connection, and counts it: also one that is none, since its client hung up
+    /// before. What is written to it leaves at once, without waiting for earlier data to be
+    /// acknowledged.
+    pub fn accept(&mut self, rt: &HostRuntime) -> Result<Option<TcpStream>, Exit>
         requires { self.old.accepted + 1 < 2 ^ 64 }
         ensures { MatchResult result (λ _. self.new.accepted ≡ self.old.accepted + 1)
             (λ exit. EndsWith 3 (codes "listen fault") exit × (self.new ≡ self.old)) }
@@ -68,10 +96,10 @@ impl Door {
         let Some(listener) = &self.listener else {
             return Err(NO_LISTENING);
         };
-        let Ok((stream, _)) = listener.accept() else {
-            return Err(NO_LISTENING);
-        };
-        let _ = stream.set_nodelay(true);
+        let stream = accept_from(rt, listener)?;
+        if let Some(stream) = &stream {
+            let _ = stream.set_nodelay(true);
+        }
         self.accepted += 1;
         Ok(stream)
     }

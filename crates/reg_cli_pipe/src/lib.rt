@@ -21,7 +21,7 @@ mod service;
 mod setup;
 mod tokens;
 
-pub use connections::serve_connections;
+pub use connections::{mark_opening, serve_connections};
 pub use door::Door;
 pub use exit::exit_of_refusal;
 pub use folder::{Folder, FolderAt, join_path, write_files};

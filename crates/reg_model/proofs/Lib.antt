@@ -27,7 +27,9 @@ pub mod SoundPublish
 pub mod SoundReaders
 pub mod Soundness
 pub mod TrailAlike
+pub mod TrailAskers
 pub mod TrailBrought
+pub mod TrailMarks
 pub mod TrailPlain
 pub mod TrailReplayed
 pub mod TrailTellings

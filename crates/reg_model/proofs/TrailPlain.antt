@@ -279,7 +279,7 @@ pub unrefused : {X : Type 0} (o : Option X) (w : Option (List Text)) (ws : List 
 unrefused None w ws e = (refl, e)
 unrefused (Some x) w ws e = cc
 
-read_line : (w : Text) (ws : List Text) → are_words (w ∷ ws) ≡ true → IsLine (line_of (w ∷ ws)) × (words_of (line_of (w ∷ ws)) ≡ w ∷ ws)
+pub read_line : (w : Text) (ws : List Text) → are_words (w ∷ ws) ≡ true → IsLine (line_of (w ∷ ws)) × (words_of (line_of (w ∷ ws)) ≡ w ∷ ws)
 read_line w ws h = ((_, refl, line_printed (w ∷ ws) h), line_read w ws h)
 
 pub nobody : (limits : Limits) (s : Registry) (asked : Asked) (ws : List Text) → unless_some (denied limits s None asked) (request_words s asked) ≡ Some ws → ⊥

@@ -47,16 +47,19 @@ use Rattle.reg_model.proofs.TrailTold.{some_only_if, some_unless}
 use Rattle.reg_model.proofs.TrailUntold.{neither}
 use Rattle.reg_model.proofs.TrailWords.{pattern_pass}
 
--- the number of a token is no dash
-number_is_no_dash : (n : ℕ) → n < 2 ^ 64 → bytes_eq (decimal n) (codes "-") ≡ false
-number_is_no_dash n small = by (bytes_eq (decimal n) (codes "-")) refl
+-- a number is no other word
+pub no_verb : (verb : Text) → all_ascii_digits verb ≡ false → (n : ℕ) → n < 2 ^ 64 → bytes_eq (decimal n) verb ≡ false
+no_verb verb other n small = by (bytes_eq (decimal n) verb) refl
   where
-    digits : (t : Text) → t ≡ codes "-" → all_ascii_digits t ≡ true → ⊥
-    digits t e h = cc (ap all_ascii_digits (sym e) ∙ h)
+    digits : (t : Text) → t ≡ verb → all_ascii_digits t ≡ true → ⊥
+    digits t e h = let it : all_ascii_digits verb ≡ true = ap all_ascii_digits (sym e) ∙ h in cc
 
-    by : (b : Bool) → bytes_eq (decimal n) (codes "-") ≡ b → b ≡ false
-    by true e = absurd (digits (decimal n) ((bytes_eq-Decides (decimal n) (codes "-")).0 e) (digits_decimal (numerals_by_value _ tells_all_ascii_digits) n small))
+    by : (b : Bool) → bytes_eq (decimal n) verb ≡ b → b ≡ false
+    by true e = absurd (digits (decimal n) ((bytes_eq-Decides (decimal n) verb).0 e) (digits_decimal (numerals_by_value _ tells_all_ascii_digits) n small))
     by false e = refl
+
+number_is_no_dash : (n : ℕ) → n < 2 ^ 64 → bytes_eq (decimal n) (codes "-") ≡ false
+number_is_no_dash n small = no_verb (codes "-") refl n small
 
 -- ---- texts between commas
 

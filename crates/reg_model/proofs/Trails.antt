@@ -194,20 +194,30 @@ line_again limits s r e rest sound ids fit alike = by (event_words limits s e) r
           subst (λ all. replay r (lines_in (line_of all ++ rest)) ≡ replay (replayed r all) (lines_in rest)) (sym k.2) (ap (replay r) (first_line k.0 k.1 rest k.3)),
         )
 
-trails_replay : (limits : Limits) (s t r : Registry) (es : List Event) (xs : List Answer) → Sound s → HasIds t → AreAlike r s → Run limits s es xs t → AreAlike (replay r (lines_in (trail limits s es xs))) t
-trails_replay limits s t r [] [] sound ids alike run = subst (AreAlike r) (sym run) alike
-trails_replay limits s t r [] (x ∷ xs) sound ids alike run = absurd run
-trails_replay limits s t r (e ∷ es) [] sound ids alike run = absurd run
-trails_replay limits s t r (e ∷ es) (a ∷ xs) sound ids alike (fit, (m, step, rest)) =
-    by (has_no_room a) refl (λ q p sd al run. trails_replay limits q t p es xs sd ids al run)
+-- the lines of a run, and then more
+pub trails_then : (limits : Limits) (s t r : Registry) (es : List Event) (xs : List Answer) (more : Text) → Sound s → HasIds t → AreAlike r s → Run limits s es xs t
+    → (p : Registry) × AreAlike p t × (replay r (lines_in (trail limits s es xs ++ more)) ≡ replay p (lines_in more))
+trails_then limits s t r [] [] more sound ids alike run = (r, subst (AreAlike r) (sym run) alike, refl)
+trails_then limits s t r [] (x ∷ xs) more sound ids alike run = absurd run
+trails_then limits s t r (e ∷ es) [] more sound ids alike run = absurd run
+trails_then limits s t r (e ∷ es) (a ∷ xs) more sound ids alike (fit, (m, step, rest)) =
+    by (has_no_room a) refl (λ q p sd al run. trails_then limits q t p es xs more sd ids al run)
   where
-    by : (b : Bool) → has_no_room a ≡ b → ((q p : Registry) → Sound q → AreAlike p q → Run limits q es xs t → AreAlike (replay p (lines_in (trail limits q es xs))) t)
-        → AreAlike (replay r (lines_in (cond b (trail limits s es xs) (or_nothing (line limits s e) ++ trail limits (outcome limits s e).1 es xs)))) t
+    by : (b : Bool) → has_no_room a ≡ b
+        → ((q p : Registry) → Sound q → AreAlike p q → Run limits q es xs t → (k : Registry) × AreAlike k t × (replay p (lines_in (trail limits q es xs ++ more)) ≡ replay k (lines_in more)))
+        → (k : Registry) × AreAlike k t × (replay r (lines_in (cond b (trail limits s es xs) (or_nothing (line limits s e) ++ trail limits (outcome limits s e).1 es xs) ++ more)) ≡ replay k (lines_in more))
     by true h again = again s r sound alike (subst (λ q. Run limits q es xs t) (no_room_kept limits s m e a step h) rest)
     by false h again =
         let same = room_done limits s m e a step h in
-        let l = line_again limits s r e (trail limits (outcome limits s e).1 es xs) sound (run_ids limits s t (e ∷ es) (a ∷ xs) ids (fit, (m, step, rest))) fit alike in
-        subst (λ q. AreAlike q t) (sym l.2) (again (outcome limits s e).1 l.0 (subst Sound same (steps_keep_sound limits s m e a fit sound step)) l.1 (subst (λ q. Run limits q es xs t) same rest))
+        let next = (outcome limits s e).1 in
+        let l = line_again limits s r e (trail limits next es xs ++ more) sound (run_ids limits s t (e ∷ es) (a ∷ xs) ids (fit, (m, step, rest))) fit alike in
+        let k = again next l.0 (subst Sound same (steps_keep_sound limits s m e a fit sound step)) l.1 (subst (λ q. Run limits q es xs t) same rest) in
+        (k.0, k.1, ap (λ text. replay r (lines_in text)) (append_assoc (or_nothing (line limits s e)) (trail limits next es xs) more) ∙ l.2 ∙ k.2)
+
+pub trails_replay : (limits : Limits) (s t r : Registry) (es : List Event) (xs : List Answer) → Sound s → HasIds t → AreAlike r s → Run limits s es xs t → AreAlike (replay r (lines_in (trail limits s es xs))) t
+trails_replay limits s t r es xs sound ids alike run =
+    let k = trails_then limits s t r es xs [] sound ids alike run in
+    subst (λ q. AreAlike q t) (sym (ap (λ text. replay r (lines_in text)) (sym (append-nil (trail limits s es xs))) ∙ k.2)) k.1
 
 pub trail_replays : (limits : Limits) (s t : Registry) (es : List Event) (xs : List Answer) → Sound s → HasIds t → Run limits s es xs t → AreAlike (replay s (lines_in (trail limits s es xs))) t
 trail_replays limits s t es xs sound ids run = trails_replay limits s t s es xs sound ids (alike_self s) run

@@ -33,6 +33,15 @@ line_of words = join_with_byte 32 words ++ 10 ∷ []
 abbrev pub words_of : Text → List Text
 words_of line = words_in (take (length line - 1) line)
 
+-- the words of the mark of an opening: how many accounts, tokens and publications are there
+abbrev pub opened_words : Registry → List Text
+opened_words s = codes "-" ∷ codes "opened" ∷ decimal (length s.accounts)
+    ∷ decimal (length s.tokens) ∷ decimal (length s.publications) ∷ []
+
+-- the mark: the line with which a trail goes on once a registry was opened
+abbrev pub opened : Registry → Text
+opened s = line_of (opened_words s)
+
 -- the id of the token with a digest
 abbrev pub id_of_token : Registry → Text → ℕ
 id_of_token s digest = unwrap_or (position_from (λ t. bytes_eq t.digest digest) 1 s.tokens) 0

@@ -1,15 +1,17 @@
 -- The laws of trails.
 use Rattle.std.specs.Prelude.{◌≡◌, ◌≢◌, ◌⊎◌, ◌<◌, ◌^◌, ℕ, ◌&&◌, codes, nat_le, Bool, true, List, [], ◌∷◌, ◌++◌, length, Option, Some, None}
+use Rattle.std.specs.Fmt.{decimal}
 use Rattle.std.specs.List.{list_all}
 use Rattle.std.specs.FinSet as finset
 use Rattle.reg_body.specs.declared.limits.Limits.{Limits}
 use Rattle.reg_names.specs.Names.{canon}
 use Rattle.reg_model.specs.Lists.{IsIn}
-use Rattle.reg_model.specs.Registry.{Text, Publication, Registry, id_of_login, ids_of}
+use Rattle.reg_model.specs.Registry.{Text, Account, Publication, Registry, Token, id_of_login, ids_of, with_id}
 use Rattle.reg_model.specs.Events.{Answer, Event}
+use Rattle.reg_model.specs.Events.Event.{Ask, Order}
 use Rattle.reg_model.specs.Sound.{Sound}
 use Rattle.reg_model.specs.Steps.{IsFit, Run, outcome}
-use Rattle.reg_model.specs.Trail.{event_words, line, line_of, told, trail, with_asker, words_of}
+use Rattle.reg_model.specs.Trail.{event_words, line, line_of, opened, opened_words, told, trail, with_asker, words_of}
 use Rattle.reg_model.specs.Replay.{AreAlike, at_commas, lines_in, replay}
 
 -- what has no line changes nothing, and what has one changes something
@@ -48,6 +50,27 @@ LinesAreRead = (limits : Limits) (s : Registry) (e : Event) (words : List Text) 
     → HasIds s → IsFit e → event_words limits s e ≡ Some words
     → let all = with_asker s e words in IsLine (line_of all) × (words_of (line_of all) ≡ all)
 
+-- who is named: the token with this digest, by its number, and its account, by login
+pub record NamesToken (s : Registry) (digest who login : Text) : Type 0 where
+  pub id : ℕ
+  pub token : Token
+  pub account : Account
+  pub number : who ≡ decimal id
+  pub held : with_id s.tokens id ≡ Some token
+  pub digest_is : token.digest ≡ digest
+  pub of_account : with_id s.accounts token.account ≡ Some account
+  pub login_is : login ≡ account.login
+
+-- the words of a line name who it was: the token of a request, or the administrator
+abbrev pub NamesAsker : Registry → Event → List Text → Type 0
+NamesAsker s (Ask (Some digest) asked) (who ∷ login ∷ words) = NamesToken s digest who login
+NamesAsker s (Order c) (who ∷ login ∷ words) = (who ≡ codes "-") × (login ≡ codes "admin")
+NamesAsker s e words = ⊥
+
+abbrev pub LinesNameAskers : Type 0
+LinesNameAskers = (limits : Limits) (s : Registry) (e : Event) (l : Text) → Sound s → HasIds s
+    → IsFit e → line limits s e ≡ Some l → NamesAsker s e (words_of l)
+
 -- the trail of a run and of one from where it ends is that of both
 abbrev pub TrailsJoin : Type 0
 TrailsJoin = (limits : Limits) (s m : Registry) (es fs : List Event) (xs ys : List Answer)
@@ -63,6 +86,30 @@ TrailOfOne = (limits : Limits) (s : Registry) (e : Event) (a : Answer)
 abbrev pub TrailsReplay : Type 0
 TrailsReplay = (limits : Limits) (s t : Registry) (es : List Event) (xs : List Answer) → Sound s
     → HasIds t → Run limits s es xs t → AreAlike (replay s (lines_in (trail limits s es xs))) t
+
+-- where counts have 64 bits
+pub record HasCounts (s : Registry) : Type 0 where
+  pub accounts : length s.accounts < 2 ^ 64
+  pub tokens : HasIds s
+  pub publications : length s.publications < 2 ^ 64
+
+-- a mark is one line, and its words can be read back
+abbrev pub MarksAreRead : Type 0
+MarksAreRead = (s : Registry) → HasCounts s
+    → IsLine (opened s) × (words_of (opened s) ≡ opened_words s)
+
+-- the trails of a run and of one from where it ends, with a mark between them, tell both runs
+abbrev pub MarksAreReplayed : Type 0
+MarksAreReplayed = (limits : Limits) (s t u : Registry) (es fs : List Event) (xs ys : List Answer)
+    → Sound s → HasCounts t → HasIds u → Run limits s es xs t → Run limits t fs ys u
+    → AreAlike (replay s
+    (lines_in (trail limits s es xs ++ opened t ++ trail limits t fs ys))) u
+
+-- the mark is that of what the lines before it lead to: where it is another, lines are missing
+abbrev pub MarksShowGaps : Type 0
+MarksShowGaps = (limits : Limits) (s t : Registry) (es : List Event) (xs : List Answer) → Sound s
+    → HasIds t → Run limits s es xs t
+    → opened (replay s (lines_in (trail limits s es xs))) ≡ opened t
 
 -- two runs with one trail from one registry differ in nothing but what publications carry, and in
 -- the digests of tokens

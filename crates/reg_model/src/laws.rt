@@ -1,7 +1,7 @@
 //! Laws of the definitions, each the contract of a function that does nothing.
 
 ghost use Rattle.reg_model.specs.Laws.{AccessComesFirst, DenialsKeep, DenialsName, EmptySound, FilesHaveRoom, GrantsArePolicy, IndexPathsAreOfCrates, PlainMatches, PlainVerdicts, RefusalsKeep, RunsJoin, RunsKeepSound, SightAnswers, StemsGrow, StepsAgree, StepsKeepSound, StepsRun, WiderAllows, WiderOrders};
-ghost use Rattle.reg_model.specs.TrailLaws.{LinesAreRead, OwnersAreTold, PublicationsAreTold, SameTrails, ToldChange, TrailOfOne, TrailsJoin, TrailsReplay, UntoldKeep, YanksAreTold};
+ghost use Rattle.reg_model.specs.TrailLaws.{LinesAreRead, LinesNameAskers, MarksAreRead, MarksAreReplayed, MarksShowGaps, OwnersAreTold, PublicationsAreTold, SameTrails, ToldChange, TrailOfOne, TrailsJoin, TrailsReplay, UntoldKeep, YanksAreTold};
 
 /// Steps in a row form a run.
 pub fn run_law()
@@ -82,10 +82,18 @@ pub fn line_law()
     ensures read { LinesAreRead }
 {}
 
-/// The trail of a run is told event by event.
+/// The trail of a run is told event by event, and each line names who it was.
 pub fn telling_law()
     ensures one { TrailOfOne }
     ensures join { TrailsJoin }
+    ensures who { LinesNameAskers }
+{}
+
+/// A trail goes on over an opening: behind its mark, which changes nothing and shows a gap.
+pub fn mark_law()
+    ensures read { MarksAreRead }
+    ensures replays { MarksAreReplayed }
+    ensures gaps { MarksShowGaps }
 {}
 
 /// A trail tells all that its run did, but for what publications carry and the digests of tokens.

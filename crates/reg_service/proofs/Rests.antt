@@ -11,9 +11,9 @@ use Rattle.reg_tables.specs.declared.tables.Tables.{Tables}
 use Rattle.reg_tables.specs.declared.work.Work.{Work}
 use Rattle.reg_tables.specs.Ends.{Begins, IsCommitted, IsDropped, IsEnded, IsRefused, SeesAll}
 use Rattle.reg_tables.specs.Looks.{Looks}
-use Rattle.reg_tables.specs.Works.{AreOurs, IsLeft, held, is_shut, seen, shown}
+use Rattle.reg_tables.specs.Works.{AreOurs, IsLeft, IsTried, held, is_shut, seen, shown}
 use Rattle.reg_service.specs.Answered.{Are, AreUpToDate, Halts, Shows, WasClean}
-use Rattle.reg_service.specs.Looked.{Looked}
+use Rattle.reg_service.specs.Looked.{Looked, WasTried}
 
 module _ {S : Type 0} (g : Ghosts S) (old : Tables S) where
   still : (new : Tables S) (s : Registry) → AreOurs g old → HasCleanDisk (shown g old) → Shows s (shown g old) → (held new ≡ held old) ⊎ Refuses (shown g old) (shown g new) → Shows s (shown g new)
@@ -30,6 +30,23 @@ module _ {S : Type 0} (g : Ghosts S) (old : Tables S) where
     clean = λ clean. omega (arith, clean, left.survives.clean);
     same_mode = left.shut;
   }
+
+  -- it was tried whether the store answers
+  pub was_tried : (new : Tables S) → AreUpToDate g old → IsTried g old new → WasTried g old new
+  was_tried new at it = record {
+    known = it.known;
+    stays = it.stays;
+    shows = λ clean s h. elim (it.same clean) [
+      | inl same ↦ subst (λ (c : Held S). Shows s (state g c)) (sym same) h
+      | inr back ↦ λ up. subst (λ (d : Database). Are s d.trees) (sym ((back.undone up).0 ∙ sym (at.ours (first clean) (back.was_open up)).settled)) (h (back.was_open up))
+    ];
+    left = λ clean db l. elim (it.survives.crash clean db l) [ inl was ↦ was | inr none ↦ absurd none ];
+    tables = record { ours = it.ours; second = it.edition ∙ at.second };
+    clean = first;
+  }
+    where
+      first : HasCleanDisk (shown g new) → HasCleanDisk (shown g old)
+      first clean = omega (arith, clean, it.survives.clean)
 
   -- one was, and has ended
   module _ (begun done : Work S) (b : Begins g SeesAll old begun) (looks : Looks g begun done) (new : Tables S) where

@@ -34,8 +34,8 @@ use Rattle.reg_service_requests.specs.Telling.{ServesTold}
 use Rattle.reg_service_requests.specs.declared.served.Served.{Served}
 use Rattle.reg_service_requests.specs.declared.served.Served.TheVariants.{Done, Seeks, Told}
 use Rattle.reg_service_requests.specs.declared.told.ServedTold.{ServedTold}
-use Rattle.reg_service.specs.Answered.{Answers, Are}
-use Rattle.reg_service.specs.Looked.{Looked}
+use Rattle.reg_service.specs.Answered.{Answers, Are, Shows}
+use Rattle.reg_service.specs.Looked.{Looked, WasTried}
 use Rattle.reg_service.specs.Rooms.{AreWider, Fit, HasPlace, HasRoom, IsKnown, IsKnownIn, Knows, Leaves, LeavesRoom, added}
 use Rattle.reg_service.specs.declared.room.Room.{Room}
 use Rattle.reg_service.proofs.Publishing.{asked_adds, ordered_same, outcome_same}
@@ -113,10 +113,18 @@ module _ {S : Type 0} (g : Ghosts S) (limits : Limits) (r : Registry) (room : Op
     has = has_still limits r it.after room (λ n. let same = ap (λ (ps : _). length (filter (λ (p : Publication). collides p.name n) ps)) (ordered_same limits r it.after c a it.step) in omega (arith, same)) has;
   }
 
--- and behind a look
+-- and where the same registry is held
+still_known : {S : Type 0} (g : Ghosts S) (limits : Limits) (room : Option Room) (old new : Tables S) → (HasCleanDisk (shown g new) → HasCleanDisk (shown g old))
+    → (HasCleanDisk (shown g new) → (s : Registry) → Shows s (shown g old) → Shows s (shown g new)) → IsKnown g limits room old → IsKnown g limits room new
+still_known g limits room old new first shows known clean = let was = known (first clean) in record { registry = was.registry; shows = shows clean was.registry was.shows; has = was.has }
+
+-- behind a look
 pub looked_known : {S : Type 0} (g : Ghosts S) (limits : Limits) (room : Option Room) (old new : Tables S) → Looked g old new → IsKnown g limits room old → IsKnown g limits room new
-looked_known g limits room old new looked known clean = let was = known (looked.clean clean) in
-    record { registry = was.registry; shows = looked.shows clean was.registry was.shows; has = was.has }
+looked_known g limits room old new looked = still_known g limits room old new looked.clean looked.shows
+
+-- and behind a try
+pub tried_known : {S : Type 0} (g : Ghosts S) (limits : Limits) (room : Option Room) (old new : Tables S) → WasTried g old new → IsKnown g limits room old → IsKnown g limits room new
+tried_known g limits room old new tried = still_known g limits room old new tried.clean tried.shows
 
 -- a transaction sees the rows of the registry of which something is known
 pub begun_are : {S : Type 0} (g : Ghosts S) (limits : Limits) (room : Option Room) (old : Tables S) (w : Work S) (was : Knows g limits room old) → Begins g SeesAll old w → HasCleanDisk (seen g w) → Are was.registry (rows_seen g w)

@@ -1,5 +1,5 @@
 -- Calls that only look at the tables of a registry, and what they tell.
-use Rattle.std.specs.Prelude.{◌≡◌, ℕ, map, IfOk, Option, Result, String, Vec}
+use Rattle.std.specs.Prelude.{◌≡◌, ◌⊎◌, ℕ, map, true, IfOk, IsTrue, Option, Result, String, Vec, string_bytes}
 use Rattle.std.specs.declared.alloc.Global.{Global}
 use Rattle.sqlite.specs.State.{HasCleanDisk}
 use Rattle.sqlite.specs.Tree.{Trees}
@@ -8,6 +8,7 @@ use Rattle.reg_audit.specs.Checks.{IsFirst}
 use Rattle.reg_audit.specs.declared.check.Check.{Check}
 use Rattle.reg_model.specs.Crates.{exported}
 use Rattle.reg_model.specs.Registry.{Registry}
+use Rattle.reg_model.specs.Trail.{opened}
 use Rattle.reg_service_commands.specs.Exported.{texts_of}
 use Rattle.reg_tables_rows.specs.declared.all_rows.AllRows.{AllRows}
 use Rattle.reg_tables_rows.specs.WholeRows.{AreAllRows}
@@ -35,6 +36,24 @@ IsTrueOf g tells r old new =
 -- these are the files of the index, each behind its path
 abbrev pub IsIndex : Registry → Vec (String Global × Vec ℕ Global) Global → Type 0
 IsIndex s files = map texts_of files.items ≡ exported s
+
+-- this is the mark of its opening
+abbrev pub IsMark : Registry → String Global → Type 0
+IsMark s line = string_bytes line ≡ opened s
+
+-- It was tried whether the store answers: the connection is open, or the tables have stopped, and
+-- stay so. They hold the registry that they held, and a stop leaves nothing that it could not leave
+-- before.
+pub record WasTried {S : Type 0} (g : Ghosts S) (old new : Tables S) : Type 0 where
+  pub known : HasCleanDisk (shown g new)
+      → IsTrue (shown g new).is_open ⊎ (is_shut new ≡ true)
+  pub stays : is_shut old ≡ true → is_shut new ≡ true
+  pub shows : HasCleanDisk (shown g new) → (s : Registry) → Shows s (shown g old)
+      → Shows s (shown g new)
+  pub left : HasCleanDisk (shown g new) → (db : Trees) → (shown g new).may_leave db
+      → (shown g old).may_leave db
+  pub tables : AreUpToDate g new
+  pub clean : HasCleanDisk (shown g new) → HasCleanDisk (shown g old)
 
 -- this check of the rows fails first; where there is none, all pass
 abbrev pub FailsFirst : {S : Type 0} → Ghosts S → Tables S → Option Check → Type 0

@@ -13,6 +13,7 @@
 
 mod exporting;
 pub mod laws;
+mod marking;
 mod opening;
 mod registry;
 mod room;

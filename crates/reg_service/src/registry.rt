@@ -11,13 +11,14 @@ ghost use Rattle.reg_api_requests.specs.Views.{event_of};
 ghost use Rattle.reg_service.specs.Acted.{IsActed, IsOrdered, IsUntold};
 ghost use Rattle.reg_service.specs.Answered.{Halts, IsAnswered, WasClean};
 ghost use Rattle.reg_service.specs.Handled.{IsReplied};
-ghost use Rattle.reg_service.specs.Looked.{FailsFirst, IsIndex, IsTrueOf, Looked};
+ghost use Rattle.reg_service.specs.Looked.{FailsFirst, IsIndex, IsMark, IsTrueOf, Looked, WasTried};
 ghost use Rattle.reg_service.specs.Registries.{IsUpToDate, has_stopped, limits_of, tables_of};
 ghost use Rattle.reg_body.specs.Sent.{sink};
 ghost use Rattle.reg_service.specs.Streamed.{AsksForFile, IsStreamed, LeavesStream};
 ghost use Rattle.reg_tables.specs.Works.{held, shown};
 
 use crate::exporting::export_in;
+use crate::marking::mark_in;
 use crate::room::Room;
 use crate::streaming::stream_in;
 use crate::transactions::{command_in, denied, parts_in};
@@ -36,8 +37,8 @@ use sqlite::{Alter, Connection};
 use std::alloc::Global;
 use std::io::Write;
 
-/// A registry over a store. After a commit has failed, it refuses everything until the store is
-/// opened again.
+/// A registry over a store. After a commit has failed, or its store has closed, it refuses everything
+/// until the store is opened again.
 #[derive(Drop)]
 pub struct Registry<S: Alter> {
     pub(crate) tables: Tables<S>,
@@ -53,12 +54,16 @@ impl<S: Alter> Registry<S> {
         &self.limits
     }
 
-    /// Whether a commit failed: until the store is opened again, each request is S1 and each
-    /// command G10.
-    pub fn has_stopped(&self) -> bool
-        ensures { result ≡ has_stopped self.now }
+    /// Whether it has stopped: a commit failed, or its store no longer answers. Until the store is
+    /// opened again, each request is S1 and each command G10.
+    pub fn has_stopped(&mut self) -> bool
+        requires { IsUpToDate S.Store self.old }
+        ensures told { result ≡ has_stopped self.new }
+        ensures tried { WasTried S.Store (tables_of self.old) (tables_of self.new) }
+        ensures tables { IsUpToDate S.Store self.new }
+        ensures limits { limits_of self.new ≡ limits_of self.old }
     {
-        self.tables.is_shut()
+        !self.tables.are_answering()
     }
 
     /// Runs an administrator's command, in one transaction.
@@ -215,6 +220,20 @@ impl<S: Alter> Registry<S> {
         }
         opening_law();
         audit(alloc, &mut self.tables)
+    }
+
+    /// The mark of an opening, for a trail that goes on: how many accounts, tokens and publications
+    /// it has. Nothing is changed.
+    pub fn mark(&mut self, alloc: Global) -> Result<String>
+        requires { IsUpToDate S.Store self.old }
+        ensures marked { IsTrueOf S.Store IsMark result (tables_of self.old)
+            (tables_of self.new) }
+        ensures looked { Looked S.Store (tables_of self.old) (tables_of self.new) }
+        ensures tables { IsUpToDate S.Store self.new }
+        ensures limits { limits_of self.new ≡ limits_of self.old }
+        ensures stopped { has_stopped self.old ≡ true → IsErr result }
+    {
+        mark_in(alloc, &mut self.tables)
     }
 
     /// The store, with what it holds.

@@ -1,5 +1,5 @@
 -- The tables and a transaction of them, as a caller sees them.
-use Rattle.std.specs.Prelude.{◌≡◌, ◌⊎◌, Bool, true, false, Result, IfOk, OnOk, OnErr}
+use Rattle.std.specs.Prelude.{◌≡◌, ◌⊎◌, Bool, true, false, IsTrue, Result, IfOk, OnOk, OnErr}
 use Rattle.sqlite_trees.specs.declared.store.Store.{Ghosts}
 use Rattle.sqlite.specs.Held.{Held, state}
 use Rattle.sqlite.specs.State.{State, HasCleanDisk, IsUnchanged, Survives}
@@ -18,7 +18,7 @@ held t = t.conn
 abbrev pub shown : {S : Type 0} → Ghosts S → Tables S → State
 shown g t = state g (held t)
 
--- a commit was refused: the tables answer nothing more
+-- a commit was refused, or the store was found closed: the tables answer nothing more
 abbrev pub is_shut : {S : Type 0} → Tables S → Bool
 is_shut t = t.shut
 
@@ -62,6 +62,16 @@ pub record IsKept {S : Type 0} (g : Ghosts S) (old new : Tables S) : Type 0 wher
   pub ours : AreOurs g new
   pub edition : edition_in new ≡ edition_in old
   pub shut : is_shut new ≡ is_shut old
+  pub survives : Survives (shown g old) (shown g new) (λ _. ⊥)
+
+-- the tables once it was tried whether their store answers: where it does not, they are shut
+pub record IsTried {S : Type 0} (g : Ghosts S) (old new : Tables S) : Type 0 where
+  pub known : HasCleanDisk (shown g new)
+      → IsTrue (shown g new).is_open ⊎ (is_shut new ≡ true)
+  pub stays : is_shut old ≡ true → is_shut new ≡ true
+  pub same : HasCleanDisk (shown g new) → IsSame g old new
+  pub ours : AreOurs g new
+  pub edition : edition_in new ≡ edition_in old
   pub survives : Survives (shown g old) (shown g new) (λ _. ⊥)
 
 -- what a call in a transaction leaves: its changes are within it, and nothing is committed;

@@ -11,7 +11,7 @@ use reg_tables_rows::counts::{self, Counts};
 use sqlite::Alter;
 
 impl<S: Alter> Work<'_, S> {
-    /// How many accounts, tokens and crates there are.
+    /// How many accounts, tokens, crates and publications there are.
     pub fn counts(&mut self) -> Result<Counts>
         requires { IsAtWork S.Store self.old }
         ensures { Asks S.Store self.old self.new result CountsAll }

@@ -10,6 +10,7 @@
 #![tactic(auto)]
 
 mod accounts;
+mod answering;
 mod counting;
 mod crate_lists;
 mod crates;

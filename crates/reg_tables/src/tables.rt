@@ -1,6 +1,6 @@
 //! The tables on a connection.
 
-ghost use Rattle.std.specs.Prelude.{◌≡◌, ◌≢◌, ◌↔◌, true, false, Ok, Err, IfErr, IfOk, IsErr, OnErr, OnOk, IsTrue};
+ghost use Rattle.std.specs.Prelude.{◌≡◌, ◌≢◌, ◌↔◌, true, false, not, Ok, Err, IfErr, IfOk, IsErr, OnErr, OnOk, IsTrue};
 ghost use Rattle.std.specs.Borrow.{sem, RestsIfErr};
 ghost use Rattle.sqlite.specs.State.{HasCleanDisk, Survives};
 ghost use Rattle.sqlite.specs.Held.{state};
@@ -12,9 +12,10 @@ ghost use Rattle.reg_tables.specs.contracts.tables.Tables.{the_row};
 ghost use Rattle.reg_tables.specs.Lending.{LendsConnection};
 ghost use Rattle.reg_tables_meaning.specs.Stands.{Stands};
 ghost use Rattle.reg_tables.specs.Ends.{Begins, LeavesLast, SeesAll};
-ghost use Rattle.reg_tables.specs.Works.{AreOurs, IsKept, IsLeft, IsSame, edition_in, held, is_shut, shown};
+ghost use Rattle.reg_tables.specs.Works.{AreOurs, IsKept, IsLeft, IsSame, IsTried, edition_in, held, is_shut, shown};
 ghost use Rattle.reg_tables_meaning.specs.Upgrades.{BeginsSecond, IsUpgraded, AreUpgraded};
 
+use crate::answering;
 use crate::work::{Result, StoreFault, Work};
 use reg_tables_meaning::upgrade::begin_second;
 use reg_tables_rows::editions::has_base;
@@ -23,8 +24,8 @@ use reg_tables_schema::{Edition, MakeFault, begin, edition_of, make_tables};
 use sqlite::{Alter, Connection};
 use std::alloc::Global;
 
-/// The tables of a registry. After the store fails to commit, they no longer answer; opening it
-/// again shows what it then holds.
+/// The tables of a registry. After the store fails to commit, or is found closed, they no longer
+/// answer; opening it again shows what it then holds.
 #[derive(Drop)]
 pub struct Tables<S: Alter> {
     pub(crate) conn: Connection<S>,
@@ -133,11 +134,28 @@ impl<S: Alter> Tables<S> {
         &mut self.conn
     }
 
-    /// Whether a commit failed.
+    /// Whether a commit failed, or the store was found closed.
     pub fn is_shut(&self) -> bool
         ensures { result ≡ is_shut self.now }
     {
         self.shut
+    }
+
+    /// Whether the store still answers. A log that could not be moved into the file closes it, within
+    /// any statement. If it does not answer, the tables are shut.
+    pub fn are_answering(&mut self) -> bool
+        requires { AreOurs S.Store self.old }
+        ensures told { result ≡ not (is_shut self.new) }
+        ensures tried { IsTried S.Store self.old self.new }
+    {
+        if self.shut {
+            return false;
+        }
+        if answering::is_answering(&mut self.conn) {
+            return true;
+        }
+        self.shut = true;
+        false
     }
 
     /// Which schema the tables have.

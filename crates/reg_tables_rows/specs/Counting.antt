@@ -5,8 +5,8 @@ use Rattle.reg_model.specs.Crates as model
 use Rattle.reg_tables_meaning.specs.Calls.{Tells}
 use Rattle.reg_tables_rows.specs.declared.counts.Counts.{Counts}
 
--- the numbers of accounts, tokens and crates
+-- the numbers of accounts, tokens, crates and publications
 abbrev pub CountsAll : Trees → Counts → Type 0
 CountsAll db n = Tells
     (λ ids s. (n.accounts ≡ length s.accounts) × (n.tokens ≡ length s.tokens)
-    × (n.crates ≡ model.crates s)) db
+    × (n.crates ≡ model.crates s) × (n.publications ≡ length s.publications)) db

@@ -12,15 +12,16 @@ ghost use Rattle.reg_tables_rows.specs.Counting.{CountsAll};
 ghost use Rattle.reg_model.specs.Crates.{crates};
 
 use reg_tables_sql::statements::Result;
-use reg_tables_sql::{accounts, crates, tokens};
+use reg_tables_sql::{accounts, crates, tokens, versions};
 use sqlite::{Alter, Connection, Error};
 
-/// Numbers of accounts, tokens and crates.
+/// Numbers of accounts, tokens, crates and publications.
 #[derive(Debug, Drop)]
 pub struct Counts {
     pub accounts: u64,
     pub tokens: u64,
     pub crates: u64,
+    pub publications: u64,
 }
 
 // SQL counts only up to its greatest number; there, its answer may be too low.
@@ -76,6 +77,16 @@ fn count_crates<S: Alter>(conn: &mut Connection<S>) -> Result<u64>
     check_exact(n)
 }
 
+fn count_publications<S: Alter>(conn: &mut Connection<S>) -> Result<u64>
+    requires { IsReady (state S.Store conn.old) }
+    ensures counted { Told S.Store conn.new result
+        (Counted (λ s. length s.publications) (rows_in S.Store conn.old)) }
+    ensures same { KeepsAll S.Store conn.old conn.new result }
+{
+    let n = versions::count(conn)?;
+    check_exact(n)
+}
+
 /// Whether there are at least this many crates: no more than ids were taken. They are counted only
 /// if their ids come near it.
 pub fn reaches_crates<S: Alter>(conn: &mut Connection<S>, number: u64) -> Result<bool>
@@ -92,7 +103,7 @@ pub fn reaches_crates<S: Alter>(conn: &mut Connection<S>, number: u64) -> Result
     Ok(number <= n)
 }
 
-/// How many accounts, tokens and crates there are.
+/// How many accounts, tokens, crates and publications there are.
 pub fn count<S: Alter>(conn: &mut Connection<S>) -> Result<Counts>
     requires { IsReady (state S.Store conn.old) }
     ensures counted { Told S.Store conn.new result (CountsAll (rows_in S.Store conn.old)) }
@@ -101,9 +112,11 @@ pub fn count<S: Alter>(conn: &mut Connection<S>) -> Result<Counts>
     let accounts = count_accounts(conn)?;
     let tokens = count_tokens(conn)?;
     let crates = count_crates(conn)?;
+    let publications = count_publications(conn)?;
     Ok(Counts {
         accounts,
         tokens,
         crates,
+        publications,
     })
 }

@@ -24,9 +24,9 @@ use Rattle.reg_tables_schema.proofs.Counts.{counted, counts}
 use Rattle.reg_tables_schema.proofs.Greatest.{greatest, greatest_of}
 use Rattle.reg_tables_schema.proofs.Sorted.{in_order, in_order_of, then_equal}
 use Rattle.reg_tables_schema.proofs.TableMatches.{equals_first, matches_number}
-use Rattle.reg_tables_schema.proofs.WholeTables.{all_in_order}
+use Rattle.reg_tables_schema.proofs.WholeTables.{all_in_order, one_count}
 use Rattle.reg_tables_sql.specs.declared.versions.Version.{Version}
-use Rattle.reg_tables_sql.specs.Counts.{IsCountOf, IsLastId}
+use Rattle.reg_tables_sql.specs.Counts.{IsCount, IsCountOf, IsLastId}
 use Rattle.reg_tables_sql.specs.Versions.{AreVersions, AreVersionsOf, columns_of_version}
 
 abbrev by_id : List (Term × Key)
@@ -78,6 +78,16 @@ count_text = codes "SELECT count(*) FROM versions WHERE crate = ?1"
 pub count_is : IsSelection ours count_text (counted (inner 11 end) (equals_first 2)) (codes "count(*)" ∷ [])
 unfolding understood everything
 count_is = record { command = refl; unlisted = refl; plain = (refl, refl) }
+
+abbrev pub all_text : List ℕ
+all_text = codes "SELECT count(*) FROM versions"
+
+pub all_is : IsSelection ours all_text (counted (inner 11 end) []) (codes "count(*)" ∷ [])
+unfolding understood everything
+all_is = record { command = refl; unlisted = refl; plain = (refl, refl) }
+
+pub count_all : (old new : State) (n : ℕ) → IsInside old → Shown all_text [] old new (number_columns n ∷ []) → IsCount 11 old.now.trees n
+count_all old new n at h = one_count (overlay old.now.trees []) 11 n (selected all_is [] old new _ at h)
 
 one_number : {a b : Row} → ◌≡◌ {A = List Row} (a ∷ []) (b ∷ []) → a ≡ b
 one_number e = cc

@@ -10,7 +10,7 @@ ghost use Rattle.reg_tables_schema.specs.Rows.{mark};
 ghost use Rattle.reg_tables_schema.specs.States.{IsReady};
 ghost use Rattle.reg_tables_schema.specs.Statements.{Writes};
 ghost use Rattle.reg_tables_sql.specs.Answers.{Finds, Lists};
-ghost use Rattle.reg_tables_sql.specs.Counts.{IsCountOf, IsLastId};
+ghost use Rattle.reg_tables_sql.specs.Counts.{IsCount, IsCountOf, IsLastId};
 ghost use Rattle.reg_tables_sql.specs.Stems.{AreEntriesOf};
 ghost use Rattle.reg_tables_sql.specs.VersionMarks.{AreMarksOf, IsMarkOf, IsMarkWithId};
 ghost use Rattle.reg_tables_sql.specs.Versions.{AreVersions, AreVersionsOf, MarksYanked, columns_of_version, row_added};
@@ -222,6 +222,14 @@ pub fn count_of<S: Alter>(conn: &mut Connection<S>, crate_id: u32) -> Result<u64
 {
     let text = "SELECT count(*) FROM versions WHERE crate = ?1";
     select_only::<u64, S>(conn, text, params![crate_id])
+}
+
+/// How many versions there are, up to SQL's greatest count.
+pub fn count<S: Alter>(conn: &mut Connection<S>) -> Result<u64>
+    requires { IsReady (state S.Store conn.old) }
+    ensures { Finds S.Store conn.old conn.new result (IsCount versions_tree) }
+{
+    select_only::<u64, S>(conn, "SELECT count(*) FROM versions", &[])
 }
 
 /// The greatest version id, if there is one.

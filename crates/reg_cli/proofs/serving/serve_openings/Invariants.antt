@@ -1,5 +1,5 @@
 use Rattle.std.proofs.Common.{◌≡◌, ◌+◌}
-use Rattle.reg_cli.proofs.serving.serve_file.Given as goal
+use Rattle.reg_cli.proofs.serving.serve_openings.Given as goal
 
 -- the connections that came in, and those that are left
 abbrev pub invariant-openings : goal.invariant-openings

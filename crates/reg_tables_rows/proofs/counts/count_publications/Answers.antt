@@ -1,0 +1,18 @@
+use Rattle.std.proofs.Common.{◌∙◌, ap, length, map, sym}
+use Rattle.std.proofs.lemmas.List.{length-map}
+use Rattle.sqlite.specs.Held.{state}
+use Rattle.reg_tables_meaning.specs.Stands.{row_of_version}
+use Rattle.reg_tables_meaning.proofs.CrateCounts.{count_is}
+use Rattle.reg_tables_meaning.proofs.Readings.{same_whatever}
+use Rattle.reg_tables_meaning.proofs.Results.{if_ok}
+use Rattle.reg_tables_rows.proofs.counts.count_publications.Goals as goal
+
+pub returns-clause-counted : goal.returns-clause-counted
+returns-clause-counted g c clean =
+    let db = (state g.S.Store c.args.conn.now).now.trees in
+    if_ok c.check_exact.result (λ n is ids s h.
+    count_is (row_of_version s.yanked) ids.versions (db 11) n c.in_ok-n.n is h.stands.crates.version_rows (c.in_ok-n.ensures.told clean)
+    ∙ sym (length-map ids.versions (λ v. v.publication)) ∙ ap length h.stands.crates.published) c.check_exact.ensures
+
+pub returns-clause-same : goal.returns-clause-same
+returns-clause-same g c = same_whatever (state g.S.Store c.args.conn.now) (state g.S.Store c.count.new.conn) c.check_exact.result (λ clean. (c.in_ok-n.ensures.only clean).0) c.count.ensures.survives

@@ -1,0 +1,149 @@
+// Faults of the disk and of the network, for scripts/faults-day: it is loaded in front of the C library of a program, and
+// fails the calls that the day asks for by files in the folder $FAULTS. Each of these files holds how many calls fail, or at
+// which one the program is killed.
+//
+//   sync-ENDING    the next syncs of a file whose path has this ending fail with EIO
+//   accept-NUMBER  the next accepts fail with the error of this number
+//   kill           the program is killed as it begins this write, counted from 1
+#define _GNU_SOURCE
+#include <dirent.h>
+#include <dlfcn.h>
+#include <errno.h>
+#include <signal.h>
+#include <stdio.h>
+#include <stdlib.h>
+#include <string.h>
+#include <sys/socket.h>
+#include <sys/syscall.h>
+#include <sys/uio.h>
+#include <unistd.h>
+
+// The number in a file of $FAULTS; 0 if it is not there.
+static long number_in(const char *name) {
+    char path[4096];
+    long number = 0;
+    const char *folder = getenv("FAULTS");
+    if (!folder) return 0;
+    snprintf(path, sizeof path, "%s/%s", folder, name);
+    FILE *file = fopen(path, "r");
+    if (!file) return 0;
+    if (fscanf(file, "%ld", &number) != 1) number = 0;
+    fclose(file);
+    return number;
+}
+
+// Whether a call fails by this file, which is then worth one less.
+static int fails_by(const char *name) {
+    char path[4096];
+    long number = number_in(name);
+    if (number <= 0) return 0;
+    snprintf(path, sizeof path, "%s/%s", getenv("FAULTS"), name);
+    if (number == 1) {
+        unlink(path);
+        return 1;
+    }
+    FILE *file = fopen(path, "w");
+    if (file) {
+        fprintf(file, "%ld\n", number - 1);
+        fclose(file);
+    }
+    return 1;
+}
+
+// The file of $FAULTS with this front whose rest `is` accepts.
+static int find_fault(const char *front, int (*is)(const char *, const void *), const void *what, char *name, size_t size) {
+    const char *folder = getenv("FAULTS");
+    DIR *all = folder ? opendir(folder) : NULL;
+    struct dirent *one;
+    int found = 0;
+    if (!all) return 0;
+    while (!found && (one = readdir(all))) {
+        if (!strncmp(one->d_name, front, strlen(front)) && is(one->d_name + strlen(front), what)) {
+            snprintf(name, size, "%s", one->d_name);
+            found = 1;
+        }
+    }
+    closedir(all);
+    return found;
+}
+
+static int is_ending(const char *ending, const void *path) {
+    size_t all = strlen(path), last = strlen(ending);
+    return last <= all && !strcmp((const char *)path + all - last, ending);
+}
+
+static int sync_fails(int fd) {
+    char link[64], path[4096], name[300];
+    snprintf(link, sizeof link, "/proc/self/fd/%d", fd);
+    ssize_t length = readlink(link, path, sizeof path - 1);
+    if (length < 0) return 0;
+    path[length] = 0;
+    return find_fault("sync-", is_ending, path, name, sizeof name) && fails_by(name);
+}
+
+int fsync(int fd) {
+    int (*real)(int) = (int (*)(int))dlsym(RTLD_NEXT, "fsync");
+    if (sync_fails(fd)) {
+        errno = EIO;
+        return -1;
+    }
+    return real(fd);
+}
+
+int fdatasync(int fd) {
+    int (*real)(int) = (int (*)(int))dlsym(RTLD_NEXT, "fdatasync");
+    if (sync_fails(fd)) {
+        errno = EIO;
+        return -1;
+    }
+    return real(fd);
+}
+
+static int is_any(const char *rest, const void *what) {
+    (void)what;
+    return *rest != 0;
+}
+
+static int accept_fails(void) {
+    char name[300];
+    if (!find_fault("accept-", is_any, NULL, name, sizeof name) || !fails_by(name)) return 0;
+    errno = atoi(name + strlen("accept-"));
+    return 1;
+}
+
+int accept(int fd, struct sockaddr *address, socklen_t *length) {
+    int (*real)(int, struct sockaddr *, socklen_t *) = (int (*)(int, struct sockaddr *, socklen_t *))dlsym(RTLD_NEXT, "accept");
+    return accept_fails() ? -1 : real(fd, address, length);
+}
+
+int accept4(int fd, struct sockaddr *address, socklen_t *length, int flags) {
+    int (*real)(int, struct sockaddr *, socklen_t *, int) =
+        (int (*)(int, struct sockaddr *, socklen_t *, int))dlsym(RTLD_NEXT, "accept4");
+    return accept_fails() ? -1 : real(fd, address, length, flags);
+}
+
+// A write to a file, which is counted.
+static void count_write(int fd) {
+    static long writes;
+    if (fd > 2 && ++writes == number_in("kill")) kill(getpid(), SIGKILL);
+}
+
+ssize_t write(int fd, const void *bytes, size_t size) {
+    ssize_t (*real)(int, const void *, size_t) = (ssize_t(*)(int, const void *, size_t))dlsym(RTLD_NEXT, "write");
+    count_write(fd);
+    return real(fd, bytes, size);
+}
+
+ssize_t pwrite(int fd, const void *bytes, size_t size, off_t at) {
+    ssize_t (*real)(int, const void *, size_t, off_t) =
+        (ssize_t(*)(int, const void *, size_t, off_t))dlsym(RTLD_NEXT, "pwrite");
+    count_write(fd);
+    return real(fd, bytes, size, at);
+}
+
+ssize_t pwrite64(int fd, const void *bytes, size_t size, off64_t at) {
+    ssize_t (*real)(int, const void *, size_t, off64_t) =
+        (ssize_t(*)(int, const void *, size_t, off64_t))dlsym(RTLD_NEXT, "pwrite64");
+    count_write(fd);
+    return real(fd, bytes, size, at);
+}
