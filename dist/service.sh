@@ -72,14 +72,12 @@ patience() {
 }
 
 # make_lock: root makes the lock's file where tmpfiles.d has not, for the service's user too. It is
-# made anew or not at all, and then reached by its descriptor, so that no link leads elsewhere.
+# made with that group at once, and anew, so that no link is followed.
 make_lock() {
     [ "$(id -u)" = 0 ] && [ ! -e "$lock" ] && [ ! -L "$lock" ] || return 0
-    set -C
-    if { exec 9> "$lock"; } 2> /dev/null; then
-        chgrp "$(id -g "$user")" /dev/fd/9 2> /dev/null && chmod 660 /dev/fd/9
-    fi
-    set +C
+    # shellcheck disable=SC2016 # the inner shell expands it
+    (umask 117 && setpriv --regid "$(id -g "$user")" --clear-groups -- \
+        bash -Cc ': > "$1"' bash "$lock") 2> /dev/null
 }
 # take_lock: no other command is at work, whether root's or the service's user's. The lock's file is
 # never written to, and a link is refused, since that user may have put it there.
