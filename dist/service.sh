@@ -54,11 +54,14 @@ END
 # can_work: root or the service's user runs this, the program is there, and no other command is at
 # work.
 can_work() {
+    local real
     [ -x "$cli" ] || give_up 3 "no program at $cli"
     id "$user" > /dev/null 2>&1 || give_up 3 "no user $user on this machine"
     [ "$(id -u)" = 0 ] || [ "$(id -un)" = "$user" ] || give_up 3 "run it as root"
     [[ ${REGISTRY_WAIT:-0} =~ ^[0-9]{1,6}$ ]] || bad_use "REGISTRY_WAIT is a number of seconds"
     umask 077
+    # The log and the copies are beside the file, where a link leads.
+    real=$(readlink -f -- "$db") && db=$real
     take_lock
     forget_restores
 }
