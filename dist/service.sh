@@ -9,14 +9,16 @@ db=${REGISTRY_DB:-/var/lib/registry/team.db}
 user=${REGISTRY_USER:-registry}
 unit=${REGISTRY_UNIT:-registry.service}
 port=${REGISTRY_PORT:-8080}
-patience=${REGISTRY_WAIT:-120}
-lock=${REGISTRY_LOCK:-/run/registry-admin.lock}
+lock=${REGISTRY_LOCK:-/run/kondziga.lock}
 # Where systemd does not run, these two are commands that stop and start the server.
 stop_command=${REGISTRY_STOP:-}
 start_command=${REGISTRY_START:-}
 
 me=$(basename "$0")
+name=$(basename "$db" .db)
 stopped=
+starting=
+ended=
 started_again=yes
 
 say() { echo "$me: $*" >&2; }
@@ -39,7 +41,8 @@ Settings, from the environment:
   REGISTRY_USER   the service's user           ($user)
   REGISTRY_UNIT   the unit of systemd          ($unit)
   REGISTRY_PORT   the port that it listens on  ($port)
-  REGISTRY_WAIT   seconds to wait until it listens again  ($patience)
+  REGISTRY_WAIT   seconds to wait until it listens again
+                  (${REGISTRY_WAIT:-120, and 64 more for each GiB of the file})
   REGISTRY_LOCK   the file that keeps two commands apart  ($lock)
   REGISTRY_STOP, REGISTRY_START
                   commands that stop and start the server where systemd does not run
@@ -51,12 +54,55 @@ END
 # can_work: root or the service's user runs this, the program is there, and no other command is at
 # work.
 can_work() {
+    local real
     [ -x "$cli" ] || give_up 3 "no program at $cli"
     id "$user" > /dev/null 2>&1 || give_up 3 "no user $user on this machine"
     [ "$(id -u)" = 0 ] || [ "$(id -un)" = "$user" ] || give_up 3 "run it as root"
+    [[ ${REGISTRY_WAIT:-0} =~ ^[0-9]{1,6}$ ]] || bad_use "REGISTRY_WAIT is a number of seconds"
     umask 077
-    exec 9> "$lock" || give_up 3 "can't write $lock"
-    flock -w "$patience" 9 || give_up 3 "another command has held $lock for $patience seconds"
+    # The log and the copies are beside the file, where a link leads.
+    real=$(readlink -f -- "$db") && db=$real
+    take_lock
+    forget_restores
+}
+
+# patience: how many seconds an opening may take. It reads the whole file, some 16 s a GiB; a slow
+# machine may take four times as long.
+patience() {
+    local bytes
+    bytes=$(as_service stat -Lc %s -- "$db" 2> /dev/null) || bytes=0
+    echo $((10#${REGISTRY_WAIT:-$((120 + bytes / 16777216))}))
+}
+
+# make_lock: root makes the lock's file where tmpfiles.d has not, for the service's user too. It is
+# made with that group at once, and anew, so that no link is followed.
+make_lock() {
+    [ "$(id -u)" = 0 ] && [ ! -e "$lock" ] && [ ! -L "$lock" ] || return 0
+    # shellcheck disable=SC2016 # the inner shell expands it
+    (umask 117 && setpriv --regid "$(id -g "$user")" --clear-groups -- \
+        bash -Cc ': > "$1"' bash "$lock") 2> /dev/null
+}
+# take_lock: no other command is at work, whether root's or the service's user's. The lock's file is
+# never written to, and a link is refused, since that user may have put it there.
+take_lock() {
+    local seconds
+    seconds=$(patience)
+    make_lock
+    [ ! -L "$lock" ] || give_up 3 "$lock is a link: remove it"
+    exec 9<> "$lock" || give_up 3 "can't open $lock: root makes it, by any command"
+    if [ -L "$lock" ] || [ ! -f /dev/fd/9 ] || [ ! "$lock" -ef /dev/fd/9 ]; then
+        give_up 3 "$lock is no file of its own"
+    fi
+    flock -w "$seconds" 9 || give_up 3 "another command has held $lock for $seconds seconds"
+}
+
+# forget_restores: the copies go that a registry-restore has left which was killed. None is at work,
+# since the lock is held here.
+forget_restores() {
+    local folder c='[A-Za-z0-9]'
+    for folder in "$(dirname "$db")/restore.$name".$c$c$c$c$c$c; do
+        [ ! -d "$folder" ] || as_service rm -rf -- "$folder"
+    done
 }
 
 # as_service COMMAND ARGUMENT..: runs it as the service's user, so that each file that it makes is
@@ -74,6 +120,18 @@ as_service() {
     fi
 }
 
+# check_copy WHAT OTHERWISE COMMAND..: the command, which is an audit of a copy, says ok. Then the
+# copy's log is moved into it: the copy alone is the whole.
+check_copy() {
+    local what=$1 otherwise=$2 said status
+    shift 2
+    said=$("$@" 2>&1 < /dev/null 9>&-)
+    status=$?
+    [ "$status" = 0 ] && [ "$said" = ok ] && return 0
+    [ "$status" != 0 ] || status=3
+    give_up "$status" "audit of $what says: $said; $otherwise"
+}
+
 has_systemd() { [ -d /run/systemd/system ]; }
 
 # stop_service: stops the server, if it runs or has failed. A server that was not running stays
@@ -89,6 +147,15 @@ stop_service() {
     fi
 }
 
+# start: starts the server, apart from the terminal, whose signals may be what ended the script.
+start() {
+    if [ -n "$start_command" ]; then
+        setsid --wait bash -c "$start_command" >&2 9>&-
+    else
+        systemctl reset-failed "$unit" 2> /dev/null
+        setsid --wait systemctl start "$unit"
+    fi
+}
 # is_listening: the server accepts connections.
 is_listening() {
     timeout 5 bash -c "exec 3<> /dev/tcp/127.0.0.1/$port" 2> /dev/null
@@ -98,20 +165,19 @@ has_failed() {
 }
 
 # start_service: starts the server again, if it was stopped here, waits until it listens, and tells
-# how long it was away. Meanwhile the server checks its whole file. It is started apart from the
-# terminal, whose signals may be what ended the script.
+# how long it was away. Meanwhile the server checks its whole file.
 start_service() {
     local since=$stopped deadline
     [ -n "$since" ] || return 0
-    stopped=
     started_again=
-    if [ -n "$start_command" ]; then
-        setsid --wait bash -c "$start_command" >&2 9>&- || return 0
-    else
-        systemctl reset-failed "$unit" 2> /dev/null
-        setsid --wait systemctl start "$unit" || return 0
-    fi
-    deadline=$((SECONDS + patience))
+    # A signal that comes now ends the script after the start. It may have ended the first start.
+    starting=yes
+    start || start || since=
+    stopped=
+    starting=
+    [ -z "$ended" ] || exit 3
+    [ -n "$since" ] || return 0
+    deadline=$((SECONDS + $(patience)))
     until is_listening; do
         if has_failed || [ $SECONDS -ge $deadline ]; then
             return 0
@@ -122,10 +188,12 @@ start_service() {
     say "the registry was away for $((SECONDS - since)) s"
 }
 
-# finish: the end, however it comes.
+# finish STATUS: the end, however it comes.
 finish() {
-    local status=$?
-    trap : INT TERM HUP
+    local status=$1
+    trap : INT TERM HUP PIPE
+    trap - EXIT
+    ended=
     start_service
     if [ -z "$started_again" ]; then
         say "the registry does not listen on port $port yet: see journalctl -u $unit"
@@ -134,8 +202,18 @@ finish() {
     clean_up
     exit "$status"
 }
+# end: a signal. It may come as the script has begun to finish.
+end() {
+    if [ -n "$starting" ]; then
+        ended=yes
+    else
+        finish 3
+    fi
+}
 # clean_up: a script that makes files for a while has one of its own.
 clean_up() { :; }
 
-trap finish EXIT
-trap 'exit 3' INT TERM HUP
+trap 'finish $?' EXIT
+trap end INT TERM HUP
+# Where nobody reads what is said, the rest is still done.
+trap : PIPE
