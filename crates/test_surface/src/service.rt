@@ -106,6 +106,8 @@ fn call_methods(
 ) {
     return;
     let _: &Limits = Registry::limits(registry);
+    let _: bool = Registry::has_stopped(registry);
+    let _: Result<String, StoreFault> = Registry::mark(registry, alloc);
     let _: Reply = Registry::handle(registry, alloc, request);
     let _: Result<AdminReply, AdminRefusal> = Registry::command(registry, alloc, command);
     let _: Acted = Registry::act(registry, alloc, request, true);

@@ -35,6 +35,7 @@ const _: Counts = Counts {
     accounts: 0u64,
     tokens: 0u64,
     crates: 0u64,
+    publications: 0u64,
 };
 
 const _: Summary = Summary {

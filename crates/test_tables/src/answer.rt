@@ -33,7 +33,10 @@ fn short(alloc: Global, answer: &Answer) -> Result<String, AllocError> {
     match answer {
         Answer::Id(id) => format!(in alloc; "{id}"),
         Answer::Is(is) => String::from_str(alloc, if *is { "yes" } else { "no" }),
-        Answer::Counts(n) => format!(in alloc; "{}:{}:{};", n.accounts, n.tokens, n.crates),
+        Answer::Counts(n) => format!(in alloc;
+            "{}:{}:{}:{};",
+            n.accounts, n.tokens, n.crates, n.publications
+        ),
         Answer::Summary(Some(it)) => it.show(alloc),
         Answer::Archive(Some(bytes)) => bytes_text(alloc, bytes),
         Answer::Archive(None) | Answer::Summary(None) => String::from_str(alloc, "none"),

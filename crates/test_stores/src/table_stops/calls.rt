@@ -55,7 +55,7 @@ entries 1 -> kept:{\"cksum\":\
 entries 2 -> none
 account ada -> 1:ada:Ada:on;
 accounts -> 1:ada:Ada:on;2:bob:-:on;3:cy:-:off;
-counts -> 3:1:1;
+counts -> 3:1:1:2;
 token abc -> 1:1:live:nuyo:ada:on; 1:0:*::{;
 tokens -> 1:#abc:1:live:nuyo; 1:0:*::{;
 crate FIRST -> 1:first:first;

@@ -16,7 +16,7 @@ account carol -> none
 token abc -> 1:1:live:nuyo:ada:on; 1:0:*::{;
 tokens -> 1:#abc:1:live:nuyo; 1:0:*::{;
 crate a -> none
-counts -> 2:1:0;
+counts -> 2:1:0:0;
 commit -> done
 
 reserve acme -> done

@@ -78,7 +78,7 @@ add-crate Zed 1 1.0.0+a abc it-nets -> 1
 add-crate acme-net 1 1.0.0+a abc it-nets -> 2
 archive 1 1.0.0+a -> abc
 archive 1 1.0.0 -> none
-counts -> 1:0:2;
+counts -> 1:0:2:2;
 crates -> 2:acme_net:acme-net;1:zed:Zed;";
 
 #[test]
