@@ -10,7 +10,7 @@ use sqlite::Alter;
 use std::alloc::AllocError;
 use std::fs;
 
-/// Whether one of the files is the registry's own, or has a name beside it that the library may use.
+/// Whether one of the files is the registry's own, or has a name beside it that the library uses.
 fn have_registry(
     rt: &HostRuntime,
     folder: &str,

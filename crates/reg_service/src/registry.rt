@@ -37,8 +37,8 @@ use sqlite::{Alter, Connection};
 use std::alloc::Global;
 use std::io::Write;
 
-/// A registry over a store. After a commit has failed, or its store has closed, it refuses everything
-/// until the store is opened again.
+/// A registry over a store. After a commit has failed, or its store has closed, it refuses
+/// everything until the store is opened again.
 #[derive(Drop)]
 pub struct Registry<S: Alter> {
     pub(crate) tables: Tables<S>,

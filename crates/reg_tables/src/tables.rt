@@ -141,8 +141,8 @@ impl<S: Alter> Tables<S> {
         self.shut
     }
 
-    /// Whether the store still answers. A log that could not be moved into the file closes it, within
-    /// any statement. If it does not answer, the tables are shut.
+    /// Whether the store still answers. A log that could not be moved into the file closes it,
+    /// within any statement. If it does not answer, the tables are shut.
     pub fn are_answering(&mut self) -> bool
         requires { AreOurs S.Store self.old }
         ensures told { result ≡ not (is_shut self.new) }
