@@ -125,7 +125,9 @@ fn serve_door<S: Alter, T: Write>(
     ensures fewer { OnOk result (0 < left.new → left.new < left.old) }
 {
     door.open(rt)?;
-    mark_opening(rt.alloc(), registry, trail)?;
+    if trail.is_open() {
+        mark_opening(rt.alloc(), registry, trail)?;
+    }
     serve_connections(rt, server, registry, trail, door, left)
 }
 

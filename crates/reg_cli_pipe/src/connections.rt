@@ -1,9 +1,8 @@
 //! Connections, served one after another.
 
-ghost use Rattle.std.specs.Prelude.{◌≡◌, ◌⊎◌, ◌+◌, ◌^◌, ◌<◌, true, codes, IfErr, IsTrue, OnOk};
+ghost use Rattle.std.specs.Prelude.{◌≡◌, ◌⊎◌, ◌+◌, ◌^◌, ◌<◌, true, codes, IfErr, IfOk, IsTrue, MatchResult, OnOk};
 ghost use Rattle.sqlite.specs.State.{HasCleanDisk};
 ghost use Rattle.reg_http.specs.Trails.{tail};
-ghost use Rattle.reg_service.specs.Looked.{Looked};
 ghost use Rattle.reg_service.specs.Registries.{IsUpToDate, has_stopped, limits_of, tables_of};
 ghost use Rattle.reg_tables.specs.Works.{shown};
 ghost use Rattle.reg_cli_pipe.specs.Exits.{EndsWith};
@@ -49,13 +48,9 @@ pub fn mark_opening<S: Alter, T: Write>(
     ensures marked { IsMarked S.Store result registry.old registry.new
         (tail (T.contents trail.old.end.inner) trail.old)
         (tail (T.contents trail.new.end.inner) trail.new) }
-    ensures looked { Looked S.Store (tables_of registry.old) (tables_of registry.new) }
     ensures tables { IsUpToDate S.Store registry.new }
     ensures limits { limits_of registry.new ≡ limits_of registry.old }
 {
-    if !trail.is_open() {
-        return Ok(());
-    }
     let Ok(mark) = registry.mark(alloc) else {
         return Err(Exit::STORAGE);
     };
@@ -63,9 +58,36 @@ pub fn mark_opening<S: Alter, T: Write>(
     Ok(())
 }
 
+/// Serves the next connection, and returns whether the registry has stopped. A client that hung up
+/// before it was accepted counts as served.
+fn serve_next<S: Alter, T: Write>(
+    rt: &HostRuntime,
+    server: &mut Server,
+    registry: &mut Registry<S>,
+    trail: &mut Trail<T>,
+    door: &mut Door,
+) -> Result<bool, Exit>
+    requires tables { IsUpToDate S.Store registry.old }
+    requires turns { HasTurns (limits_of registry.old) }
+    requires room { door.old.accepted + 1 < 2 ^ 64 }
+    ensures counts { MatchResult result (λ _. door.new.accepted ≡ door.old.accepted + 1)
+        (λ exit. EndsWith 3 (codes "listen fault") exit × (door.new ≡ door.old)) }
+    ensures told { IfOk result (λ stopped. stopped ≡ has_stopped registry.new) }
+    ensures known { HasCleanDisk (shown S.Store (tables_of registry.new)) → OnOk result
+        (IsTrue (shown S.Store (tables_of registry.new)).is_open
+        ⊎ (has_stopped registry.new ≡ true)) }
+    ensures tables { IsUpToDate S.Store registry.new }
+    ensures limits { limits_of registry.new ≡ limits_of registry.old }
+{
+    let stream = door.accept(rt)?;
+    if let Some(stream) = &stream {
+        serve_connection(rt.alloc(), server, registry, trail, stream);
+    }
+    Ok(registry.has_stopped())
+}
+
 /// Serves connections, one after another, until `left` are served or the registry has stopped: then
-/// it answers only S1, and its store has to be opened again. A client that hung up before it was
-/// accepted counts as served.
+/// it answers only S1, and its store has to be opened again.
 pub fn serve_connections<S: Alter, T: Write>(
     rt: &HostRuntime,
     server: &mut Server,
@@ -80,19 +102,11 @@ pub fn serve_connections<S: Alter, T: Write>(
     ensures counts { door.new.accepted + left.new ≡ door.old.accepted + left.old }
     ensures ok { OnOk result ((left.new ≡ 0)
         ⊎ ((has_stopped registry.new ≡ true) × (left.new < left.old))) }
-    ensures known { left.new < left.old
-        → HasCleanDisk (shown S.Store (tables_of registry.new))
-        → IsTrue (shown S.Store (tables_of registry.new)).is_open
-        ⊎ (has_stopped registry.new ≡ true) }
     ensures err { IfErr result (EndsWith 3 (codes "listen fault")) }
 {
     'connections: while *left > 0 {
-        let stream = door.accept(rt)?;
+        let stopped = serve_next(rt, server, registry, trail, door)?;
         *left -= 1;
-        if let Some(stream) = &stream {
-            serve_connection(rt.alloc(), server, registry, trail, stream);
-        }
-        let stopped = registry.has_stopped();
         if stopped {
             return Ok(());
         }

@@ -19,6 +19,7 @@ const NO_LISTENING: Exit = Exit {
 /// How often an accept that failed is tried again, and how many milliseconds after: too many files
 /// may be open for a moment.
 const MORE_TRIES: u32 = 10;
+
 const PAUSE: u64 = 100;
 
 /// A port of the loopback address, listened on once it is open. It counts the accepted connections.

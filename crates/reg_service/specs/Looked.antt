@@ -1,16 +1,17 @@
 -- Calls that only look at the tables of a registry, and what they tell.
-use Rattle.std.specs.Prelude.{◌≡◌, ◌⊎◌, ℕ, map, true, IfOk, IsTrue, Option, Result, String, Vec, string_bytes}
+use Rattle.std.specs.Prelude.{◌≡◌, ◌⊎◌, ℕ, length, map, true, IfOk, IsTrue, Option, Result, String, Vec, string_bytes}
 use Rattle.std.specs.declared.alloc.Global.{Global}
 use Rattle.sqlite.specs.State.{HasCleanDisk}
 use Rattle.sqlite.specs.Tree.{Trees}
 use Rattle.sqlite_trees.specs.declared.store.Store.{Ghosts}
 use Rattle.reg_audit.specs.Checks.{IsFirst}
 use Rattle.reg_audit.specs.declared.check.Check.{Check}
-use Rattle.reg_model.specs.Crates.{exported}
+use Rattle.reg_model.specs.Crates.{crates, exported}
 use Rattle.reg_model.specs.Registry.{Registry}
 use Rattle.reg_model.specs.Trail.{opened}
 use Rattle.reg_service_commands.specs.Exported.{texts_of}
 use Rattle.reg_tables_rows.specs.declared.all_rows.AllRows.{AllRows}
+use Rattle.reg_tables_rows.specs.declared.counts.Counts.{Counts}
 use Rattle.reg_tables_rows.specs.WholeRows.{AreAllRows}
 use Rattle.reg_tables.specs.declared.tables.Tables.{Tables}
 use Rattle.reg_tables.specs.Works.{is_shut, shown}
@@ -36,6 +37,11 @@ IsTrueOf g tells r old new =
 -- these are the files of the index, each behind its path
 abbrev pub IsIndex : Registry → Vec (String Global × Vec ℕ Global) Global → Type 0
 IsIndex s files = map texts_of files.items ≡ exported s
+
+-- these are the numbers of its accounts, tokens, crates and publications
+abbrev pub AreCounted : Registry → Counts → Type 0
+AreCounted s n = (n.accounts ≡ length s.accounts) × (n.tokens ≡ length s.tokens)
+    × (n.crates ≡ crates s) × (n.publications ≡ length s.publications)
 
 -- this is the mark of its opening
 abbrev pub IsMark : Registry → String Global → Type 0

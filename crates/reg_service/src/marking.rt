@@ -5,7 +5,7 @@ ghost use Rattle.std.specs.Fmt.{decimal};
 ghost use Rattle.reg_model.specs.Trail.{line_of};
 ghost use Rattle.reg_tables.specs.Works.{is_shut};
 ghost use Rattle.reg_service.specs.Answered.{AreUpToDate};
-ghost use Rattle.reg_service.specs.Looked.{IsMark, IsTrueOf, Looked};
+ghost use Rattle.reg_service.specs.Looked.{AreCounted, IsMark, IsTrueOf, Looked};
 
 use itoa::Buffer;
 use reg_service_steps::line_of;
@@ -32,6 +32,17 @@ fn mark_of(alloc: Global, counts: &Counts) -> Result<String, AllocError>
     line_of(alloc, &words)
 }
 
+/// How much the registry has that the tables hold.
+fn count_in<S: Alter>(tables: &mut Tables<S>) -> Result<Counts>
+    requires { AreUpToDate S.Store tables.old }
+    ensures counted { IsTrueOf S.Store AreCounted result tables.old tables.new }
+    ensures looked { Looked S.Store tables.old tables.new }
+    ensures stopped { is_shut tables.old ≡ true → IsErr result }
+{
+    let mut work = tables.work()?;
+    work.counts()
+}
+
 /// The mark of the registry that the tables hold.
 pub(crate) fn mark_in<S: Alter>(alloc: Global, tables: &mut Tables<S>) -> Result<String>
     requires { AreUpToDate S.Store tables.old }
@@ -39,7 +50,6 @@ pub(crate) fn mark_in<S: Alter>(alloc: Global, tables: &mut Tables<S>) -> Result
     ensures looked { Looked S.Store tables.old tables.new }
     ensures stopped { is_shut tables.old ≡ true → IsErr result }
 {
-    let mut work = tables.work()?;
-    let counts = work.counts()?;
+    let counts = count_in(tables)?;
     Ok(mark_of(alloc, &counts)?)
 }
