@@ -1,4 +1,3 @@
 mod LineFacts
 mod Orders
-mod Piping
 mod Words

@@ -36,7 +36,7 @@ use Rattle.reg_policy.specs.Events.{reply_of}
 use Rattle.reg_cli_pipe.specs.declared.setup.SetupFault.{SetupFault}
 use Rattle.reg_cli_pipe.specs.declared.setup.SetupFault.TheVariants.{Memory, Refused, Unreadable}
 use Rattle.reg_cli_pipe.specs.LineOrders.{IsUnread, line_order}
-use Rattle.reg_cli_pipe.specs.Setups.{HasDone, HasDoneAlone, IsDoneTold, IsObeyed, IsSetUpTraced, MakesOf, Obeys, ObeysOrder, SetsUp, SetsUpLeaving, SetsUpTraced, is_refused}
+use Rattle.reg_cli_pipe.specs.Setups.{HasDone, HasDoneAlone, HasDoneTold, IsDoneTold, IsObeyed, IsSetUpTraced, MakesOf, Obeys, ObeysOrder, is_refused}
 
 abbrev pub RunsBegin : {S : Type 0} → Ghosts S → Type 0
 RunsBegin g = (limits : Limits) (s : model.Registry) (t : Tables _) → Shows s (shown g t) → Ran g limits s t [] [] s t
@@ -86,14 +86,20 @@ module _ {S T : Type 0} {g : Ghosts S} {o : Option Command} {told_of : T → Opt
   ordered_as {old = old} {new = new} {k0 = k0} {k1 = k1} {result = result} same it = subst (λ o. ObeysOrder g o told_of old new k0 k1 result) (sym same) it
 
 module _ {S : Type 0} (g : Ghosts S) (limits : Limits) (s : model.Registry) (entry : Tables S) (lines : List Text) where
-  pub begun : (k : Tail) → RunsBegin g → Shows s (shown g entry) → HasDoneAlone g limits s entry lines entry (Trails k k) 0
-  begun k begins shows = record {
-    done = record { after = s; commands = []; told = []; ordered = refl; none_refused = refl; count_is = refl; ran = begins limits s entry shows; leaves = trails_nothing k };
-    alone = λ lt. absurd (omega (arith, lt));
-  }
+  pub begun : (k : Tail) → RunsBegin g → Shows s (shown g entry) → HasDoneTold g limits s entry lines entry k k 0
+  begun k begins shows = (
+    record {
+      done = record { after = s; commands = []; told = []; ordered = refl; none_refused = refl; count_is = refl; ran = begins limits s entry shows };
+      alone = λ lt. absurd (omega (arith, lt));
+    },
+    trails_nothing k,
+  )
 
-  module _ (law : EventsGoOn g) (count : ℕ) (old new : Tables S) (k0 k1 k2 : Tail) (h : HasDoneAlone g limits s entry lines old (Trails k0 k1) count) (clean : HasCleanDisk (shown g new))
+  module _ (law : EventsGoOn g) (count : ℕ) (old new : Tables S) (k0 k1 k2 : Tail) (so_far : HasDoneTold g limits s entry lines old k0 k1 count) (clean : HasCleanDisk (shown g new))
       (line : Text) (less : count < length lines) (at : get_or lines count line ≡ line) where
+    abbrev h : HasDoneAlone g limits s entry lines old count
+    h = so_far.0
+
     before : map line_order (take count lines) ≡ map Some h.done.commands
     before = subst (λ n. map line_order (take n lines) ≡ map Some h.done.commands) (ap length (append-nil h.done.told) ∙ h.done.count_is) h.done.ordered
 
@@ -118,7 +124,7 @@ module _ {S : Type 0} (g : Ghosts S) (limits : Limits) (s : model.Registry) (ent
           subst (λ es. Trails k0 k2 (trail limits s es (h.done.told ++ a ∷ []))) (sym (map-append Order h.done.commands (o.command ∷ [])))
           (subst (λ xs. Trails k0 k2 (trail limits s (map Order h.done.commands ++ Order o.command ∷ []) (xs ++ a ∷ []))) (append-nil h.done.told)
           (subst (Trails k0 k2) (sym joined)
-          (trails_both k0 k1 k2 (trail limits s es xs) (line_told limits h.done.after (Order o.command) a) h.done.leaves (o.answers clean h.done.after h.done.ran.shows).1)))
+          (trails_both k0 k1 k2 (trail limits s es xs) (line_told limits h.done.after (Order o.command) a) so_far.1 (o.answers clean h.done.after h.done.ran.shows).1)))
 
       ordered : (n : ℕ) → n ≡ count + 1 → map line_order (take n lines) ≡ map Some commands
       ordered n is = ap (λ m. map line_order (take m lines)) is ∙ ap (map line_order) (take_more lines count line less)
@@ -133,8 +139,8 @@ module _ {S : Type 0} (g : Ghosts S) (limits : Limits) (s : model.Registry) (ent
       alone is = elim answers.kept [ inl none ↦ absurd (not_refused o.command a is none) | inr it ↦ it ]
 
       -- it was done
-      pub next : is_refused a ≡ false → HasDoneAlone g limits s entry lines new (Trails k0 k2) (count + 1)
-      next is = record {
+      pub next : is_refused a ≡ false → HasDoneTold g limits s entry lines new k0 k2 (count + 1)
+      next is = (record {
         done = record {
           after = answers.after;
           commands = commands;
@@ -143,13 +149,12 @@ module _ {S : Type 0} (g : Ghosts S) (limits : Limits) (s : model.Registry) (ent
           none_refused = list_any-append is_refused h.done.told (a ∷ []) ∙ ap (λ b. b || list_any is_refused (a ∷ [])) h.done.none_refused ∙ ap (λ b. b || false) is;
           count_is = told_is;
           ran = subst (λ xs. Ran g limits s entry (map Order commands) xs answers.after new) (sym (append-nil (h.done.told ++ a ∷ []))) ran;
-          leaves = subst (λ xs. Trails k0 k2 (trail limits s (map Order commands) xs)) (sym (append-nil (h.done.told ++ a ∷ []))) leaves;
         };
         alone = λ some. alone is;
-      }
+      }, subst (λ xs. Trails k0 k2 (trail limits s (map Order commands) xs)) (sym (append-nil (h.done.told ++ a ∷ []))) leaves)
 
       -- it was the last
-      pub last : HasDone g limits s entry lines new (Trails k0 k2) count (a ∷ [])
+      pub last : HasDone g limits s entry lines new count (a ∷ [])
       last = record {
         after = answers.after;
         commands = commands;
@@ -158,61 +163,26 @@ module _ {S : Type 0} (g : Ghosts S) (limits : Limits) (s : model.Registry) (ent
         none_refused = h.done.none_refused;
         count_is = h.done.count_is;
         ran = ran;
-        leaves = leaves;
       }
 
-    stays : (new ≡ old) × (k2 ≡ k1) → HasDoneAlone g limits s entry lines new (Trails k0 k2) count
-    stays (same, kept) = subst (λ k. HasDoneAlone g limits s entry lines new (Trails k0 k) count) (sym kept) (subst (λ t. HasDoneAlone g limits s entry lines t (Trails k0 k1) count) (sym same) h)
+    stays : (new ≡ old) × (k2 ≡ k1) → HasDoneTold g limits s entry lines new k0 k2 count
+    stays (same, kept) = subst (λ k. HasDoneTold g limits s entry lines new k0 k count) (sym kept) (subst (λ t. HasDoneTold g limits s entry lines t k0 k1 count) (sym same) so_far)
 
-    was_done : (u : Unit {0}) → IsObeyed g limits (line_order line) old new k1 k2 (Ok u) → HasDoneAlone g limits s entry lines new (Trails k0 k2) (count + 1)
+    was_done : (u : Unit {0}) → IsObeyed g limits (line_order line) old new k1 k2 (Ok u) → HasDoneTold g limits s entry lines new k0 k2 (count + 1)
     was_done u (a, is, o) = next a o is
 
     was_not_done : (f : SetupFault) → IsObeyed g limits (line_order line) old new k1 k2 (Err f) → IsSetUpTraced g limits s entry lines new k0 k2 (Err f)
-    was_not_done (Refused r) o = (count, less, last (to_refused r) o)
-    was_not_done Unreadable (none, same, kept) = (
-      count,
-      subst (λ l. IsSomeAnd l (λ text. line_order text ≡ None)) (sym (slice_get-get_or lines count line less ∙ ap Some at)) none,
-      stays (same, kept),
-    )
-    was_not_done Memory same = (count, omega (arith, less), stays same)
+    was_not_done (Refused r) o = ((count, less, last (to_refused r) o), leaves (to_refused r) o)
+    was_not_done Unreadable (none, same, kept) =
+        let it = stays (same, kept) in
+        ((count, subst (λ l. IsSomeAnd l (λ text. line_order text ≡ None)) (sym (slice_get-get_or lines count line less ∙ ap Some at)) none, it.0), it.1)
+    was_not_done Memory same = let it = stays same in ((count, omega (arith, less), it.0), it.1)
 
     module _ (was : Limits) (same : was ≡ limits) where
       -- a line was done
-      pub obeyed : (u : Unit {0}) → IsObeyed g was (line_order line) old new k1 k2 (Ok u) → HasDoneAlone g limits s entry lines new (Trails k0 k2) (count + 1)
+      pub obeyed : (u : Unit {0}) → IsObeyed g was (line_order line) old new k1 k2 (Ok u) → HasDoneTold g limits s entry lines new k0 k2 (count + 1)
       obeyed u it = was_done u (subst (λ l. IsObeyed g l (line_order line) old new k1 k2 (Ok u)) same it)
 
       -- a line was not done
       pub failed : (f : SetupFault) → IsObeyed g was (line_order line) old new k1 k2 (Err f) → IsSetUpTraced g limits s entry lines new k0 k2 (Err f)
       failed f it = was_not_done f (subst (λ l. IsObeyed g l (line_order line) old new k1 k2 (Err f)) same it)
-
--- what is known of the trail of a setup, known more weakly
-module _ {S : Type 0} (g : Ghosts S) (limits : Limits) (s : model.Registry) (entry : Tables S) (lines : List Text) (now : Tables S) (P Q : Text → Type 0) (less : (text : Text) → P text → Q text) where
-  abbrev done_leaving : (count : ℕ) (last : List Answer) → HasDone g limits s entry lines now P count last → HasDone g limits s entry lines now Q count last
-  done_leaving count last h = record {
-    after = h.after;
-    commands = h.commands;
-    told = h.told;
-    ordered = h.ordered;
-    none_refused = h.none_refused;
-    count_is = h.count_is;
-    ran = h.ran;
-    leaves = less (trail limits s (map Order h.commands) (h.told ++ last)) h.leaves;
-  }
-
-  abbrev pub alone_leaving : (count : ℕ) → HasDoneAlone g limits s entry lines now P count → HasDoneAlone g limits s entry lines now Q count
-  alone_leaving count h = record { done = done_leaving count [] h.done; alone = h.alone }
-
-  pub setup_leaving : (result : Result (Unit {0}) SetupFault) → SetsUpLeaving g limits s entry lines now P result → SetsUpLeaving g limits s entry lines now Q result
-  setup_leaving (Ok u) h = alone_leaving (length lines) h
-  setup_leaving (Err (Refused r)) (count, few, h) = (count, few, done_leaving count (to_refused r ∷ []) h)
-  setup_leaving (Err Unreadable) (count, none, h) = (count, none, alone_leaving count h)
-  setup_leaving (Err Memory) (count, few, h) = (count, few, alone_leaving count h)
-
--- whatever its trail is
-pub setup_untraced : {S T : Type 0} {g : Ghosts S} {lines : List Text} {old new : Registry S} {told_of : T → Option Text} {k0 k1 : TrailEnd T} {result : Result (Unit {0}) SetupFault}
-    → SetsUpTraced g lines old new told_of k0 k1 result → SetsUp g lines old new result
-setup_untraced {g = g} {lines = lines} {old = old} {new = new} {told_of = told_of} {k0 = k0} {k1 = k1} {result = result} it = record {
-  done = λ clean s shows.
-      setup_leaving g (limits_of old) s (tables_of old) lines (tables_of new) (Trails (tail (told_of k0.end.inner) k0) (tail (told_of k1.end.inner) k1)) (λ text. Unit {0}) (λ text it. tt) result (it.done clean s shows);
-  keeps = it.keeps;
-}

@@ -1,13 +1,12 @@
 -- A setup, and a stream that is served after it.
-use Rattle.std.specs.Prelude.{◌≡◌, ◌⊎◌, ◌++◌, ℕ, List, [], length, map, Option, Result, Err}
+use Rattle.std.proofs.Common.{inl, inr}
+use Rattle.std.specs.Prelude.{◌≡◌, ◌⊎◌, ◌++◌, ℕ, List, [], length, Option, Result, Err}
 use Rattle.sqlite.specs.State.{HasCleanDisk}
 use Rattle.sqlite_trees.specs.declared.store.Store.{Ghosts}
 use Rattle.reg_body.specs.Counting.{CountedEnd}
 use Rattle.reg_body.specs.declared.limits.Limits.{Limits}
-use Rattle.reg_model.specs.Events.Event.{Order}
 use Rattle.reg_model.specs.Registry as model
 use Rattle.reg_model.specs.Registry.{Text}
-use Rattle.reg_model.specs.Trail.{trail}
 use Rattle.reg_http_read.specs.Turns.{Spends, tally}
 use Rattle.reg_http_read.specs.declared.fault.StreamFault.{StreamFault}
 use Rattle.reg_tables.specs.declared.tables.Tables.{Tables}
@@ -16,54 +15,48 @@ use Rattle.reg_service.specs.Answered.{Shows}
 use Rattle.reg_service.specs.Registries.{limits_of, tables_of}
 use Rattle.reg_service.specs.declared.registry.Registry.{Registry}
 use Rattle.reg_http.specs.Answering.{GoesOn}
-use Rattle.reg_http.specs.Streams.{ServesLeaving}
+use Rattle.reg_http.specs.Streams.{Serves, trail_in}
 use Rattle.reg_http.specs.Trails.{IsTrailed, Tail, TrailEnd, Trails, tail}
 use Rattle.reg_cli_line.specs.declared.exit.Exit.{Exit}
 use Rattle.reg_cli_pipe.specs.declared.setup.SetupFault.{SetupFault}
 use Rattle.reg_cli_pipe.specs.Exits.{EndsSetup, EndsStream}
-use Rattle.reg_cli_pipe.specs.Setups.{HasDoneAlone, SetsUpLeaving}
-
--- the trail of the lines that were done
-abbrev pub trail_of : {S : Type 0} (g : Ghosts S) (limits : Limits) (s : model.Registry)
-    (entry : Tables S) (lines : List Text) (now : Tables S)
-    → HasDoneAlone g limits s entry lines now (λ _. Unit {0}) (length lines) → Text
-trail_of g limits s entry lines now it =
-    trail limits s (map Order it.done.commands) (it.done.told ++ [])
+use Rattle.reg_cli_pipe.specs.Setups.{HasDoneAlone, IsSetUp, trail_done, trail_set_up}
 
 module _ {S : Type 0} (g : Ghosts S) (limits : Limits) (s : model.Registry) (entry : Tables S)
-    (lines : List Text) (now : Tables S) (Leaves : Text → Type 0) where
+    (lines : List Text) (now : Tables S) where
   -- the setup was not done to its end, and nothing was read or written
   pub record IsUnserved (r0 r1 w0 w1 : Option Text) (exit : Exit) : Type 0 where
     pub fault : SetupFault
-    pub set_up : SetsUpLeaving g limits s entry lines now Leaves (Err fault)
+    pub set_up : IsSetUp g limits s entry lines now (Err fault)
     pub ends : EndsSetup fault exit
     pub unread : r1 ≡ r0
     pub unwritten : w1 ≡ w0
 
-  -- all lines were done, and from the registry that they made the stream was served, which leaves
-  -- its trail behind theirs
+  -- all lines were done, and from the registry that they made the stream was served
   pub record IsServed (r0 r1 w0 w1 : Option Text) (exit : Exit) : Type 0 where
     pub between : Tables S
-    pub set_up : HasDoneAlone g limits s entry lines between (λ _. Unit {0}) (length lines)
+    pub set_up : HasDoneAlone g limits s entry lines between (length lines)
     pub result : Result ℕ StreamFault
-    pub serves : ServesLeaving g limits set_up.done.after between now
-        (λ text. Leaves (trail_of g limits s entry lines between set_up ++ text)) r0 r1 w0 w1 result
+    pub serves : Serves g limits set_up.done.after between now r0 r1 w0 w1 result
     pub ends : EndsStream result exit
 
-  abbrev pub PipesLeaving : Option Text → Option Text → Option Text → Option Text → Exit → Type 0
-  PipesLeaving r0 r1 w0 w1 exit = IsUnserved r0 r1 w0 w1 exit ⊎ IsServed r0 r1 w0 w1 exit
+  abbrev pub IsPiped : Option Text → Option Text → Option Text → Option Text → Exit → Type 0
+  IsPiped r0 r1 w0 w1 exit = IsUnserved r0 r1 w0 w1 exit ⊎ IsServed r0 r1 w0 w1 exit
 
--- where no trail is told
-abbrev pub IsPiped : {S : Type 0} → Ghosts S → Limits → model.Registry → Tables S → List Text
-    → Tables S → Option Text → Option Text → Option Text → Option Text → Exit → Type 0
-IsPiped g limits s entry lines now = PipesLeaving g limits s entry lines now (λ _. Unit {0})
+  -- the trail: that of the lines, and that of the stream behind it
+  abbrev pub trail_piped : (r0 r1 w0 w1 : Option Text) (exit : Exit) → IsPiped r0 r1 w0 w1 exit
+      → Text
+  trail_piped r0 r1 w0 w1 exit (inl it) =
+      trail_set_up g limits s entry lines now (Err it.fault) it.set_up
+  trail_piped r0 r1 w0 w1 exit (inr it) =
+      trail_done g limits s entry lines it.between (length lines) [] it.set_up.done
+      ++ trail_in limits it.set_up.done.after it.serves.0
 
--- where the trail is told
-abbrev pub IsPipedTraced : {S : Type 0} → Ghosts S → Limits → model.Registry → Tables S
-    → List Text → Tables S → Tail → Tail → Option Text → Option Text → Option Text → Option Text
-    → Exit → Type 0
-IsPipedTraced g limits s entry lines now k0 k1 =
-    PipesLeaving g limits s entry lines now (Trails k0 k1)
+  -- the same, and its trail is told
+  abbrev pub IsPipedTraced : Tail → Tail → Option Text → Option Text → Option Text → Option Text
+      → Exit → Type 0
+  IsPipedTraced k0 k1 r0 r1 w0 w1 exit = (it : IsPiped r0 r1 w0 w1 exit)
+      × Trails k0 k1 (trail_piped r0 r1 w0 w1 exit it)
 
 -- the calls of the reader and the writer: none, or those of a stream, by its turns
 abbrev pub SpendsIfServed : {R W : Type 0} → ℕ → CountedEnd R → CountedEnd R → CountedEnd W

@@ -72,10 +72,10 @@ pub record ObeysOrder {S T : Type 0} (g : Ghosts S) (ordered : Option Command)
   pub keeps : GoesOn g old new
 
 module _ {S : Type 0} (g : Ghosts S) (limits : Limits) (s : model.Registry) (entry : Tables S)
-    (lines : List Text) (now : Tables S) (Leaves : Text → Type 0) where
+    (lines : List Text) (now : Tables S) where
   -- The commands of the first lines were done, one after another, and none of so many was refused.
   -- Then the commands of the next lines were given these answers. All of it is a run of the
-  -- registry, which holds its end, and leaves its trail.
+  -- registry, which holds its end.
   pub record HasDone (count : ℕ) (last : List Answer) : Type 0 where
     pub after : model.Registry
     pub commands : List Command
@@ -84,7 +84,6 @@ module _ {S : Type 0} (g : Ghosts S) (limits : Limits) (s : model.Registry) (ent
     pub none_refused : list_any is_refused told ≡ false
     pub count_is : length told ≡ count
     pub ran : Ran g limits s entry (map Order commands) (told ++ last) after now
-    pub leaves : Leaves (trail limits s (map Order commands) (told ++ last))
 
   -- the commands of so many lines were done and no more, and a stop leaves what they made, if there
   -- were any, alone
@@ -98,39 +97,41 @@ module _ {S : Type 0} (g : Ghosts S) (limits : Limits) (s : model.Registry) (ent
 
   -- all lines were done; or those before one that was refused or is no command; or those before
   -- memory was refused
-  abbrev pub SetsUpLeaving : Result (Unit {0}) SetupFault → Type 0
-  SetsUpLeaving (Ok _) = HasDoneAlone (length lines)
-  SetsUpLeaving (Err (Refused r)) =
+  abbrev pub IsSetUp : Result (Unit {0}) SetupFault → Type 0
+  IsSetUp (Ok _) = HasDoneAlone (length lines)
+  IsSetUp (Err (Refused r)) =
       (count : ℕ) × (count < length lines) × HasDone count (to_refused r ∷ [])
-  SetsUpLeaving (Err Unreadable) = (count : ℕ) × IsNoOrder count × HasDoneAlone count
-  SetsUpLeaving (Err Memory) = (count : ℕ) × (count ≤ length lines) × HasDoneAlone count
+  IsSetUp (Err Unreadable) = (count : ℕ) × IsNoOrder count × HasDoneAlone count
+  IsSetUp (Err Memory) = (count : ℕ) × (count ≤ length lines) × HasDoneAlone count
 
--- where no trail is told
-abbrev pub IsSetUp : {S : Type 0} → Ghosts S → Limits → model.Registry → Tables S → List Text
-    → Tables S → Result (Unit {0}) SetupFault → Type 0
-IsSetUp g limits s entry lines now = SetsUpLeaving g limits s entry lines now (λ _. Unit {0})
+  -- the trail of what was done
+  abbrev pub trail_done : (count : ℕ) (last : List Answer) → HasDone count last → Text
+  trail_done count last it = trail limits s (map Order it.commands) (it.told ++ last)
 
--- where the trail is told
-abbrev pub IsSetUpTraced : {S : Type 0} → Ghosts S → Limits → model.Registry → Tables S → List Text
-    → Tables S → Tail → Tail → Result (Unit {0}) SetupFault → Type 0
-IsSetUpTraced g limits s entry lines now k0 k1 =
-    SetsUpLeaving g limits s entry lines now (Trails k0 k1)
+  abbrev pub trail_set_up : (result : Result (Unit {0}) SetupFault) → IsSetUp result → Text
+  trail_set_up (Ok _) it = trail_done (length lines) [] it.done
+  trail_set_up (Err (Refused r)) (count, few, it) = trail_done count (to_refused r ∷ []) it
+  trail_set_up (Err Unreadable) (count, none, it) = trail_done count [] it.done
+  trail_set_up (Err Memory) (count, few, it) = trail_done count [] it.done
 
-module _ {S : Type 0} (g : Ghosts S) (lines : List Text) (old new : Registry S) where
-  -- the lines were done, as far as the result says, whatever registry was held
-  pub record SetsUp (result : Result (Unit {0}) SetupFault) : Type 0 where
-    pub done : HasCleanDisk (shown g (tables_of new)) → (s : model.Registry)
-        → Shows s (shown g (tables_of old))
-        → IsSetUp g (limits_of old) s (tables_of old) lines (tables_of new) result
-    pub keeps : GoesOn g old new
+  -- so many lines were done, and their trail is told
+  abbrev pub HasDoneTold : Tail → Tail → ℕ → Type 0
+  HasDoneTold k0 k1 count =
+      (it : HasDoneAlone count) × Trails k0 k1 (trail_done count [] it.done)
 
-  -- The same, and their trail is told. Whatever is wrong with the store, the trail got a text in no
-  -- more calls than it had left.
-  pub record SetsUpTraced {T : Type 0} (told_of : T → Option Text) (k0 k1 : TrailEnd T)
-      (result : Result (Unit {0}) SetupFault) : Type 0 where
-    pub done : HasCleanDisk (shown g (tables_of new)) → (s : model.Registry)
-        → Shows s (shown g (tables_of old))
-        → IsSetUpTraced g (limits_of old) s (tables_of old) lines (tables_of new)
-        (tail (told_of k0.end.inner) k0) (tail (told_of k1.end.inner) k1) result
-    pub told : IsTrailed (tail (told_of k0.end.inner) k0) (tail (told_of k1.end.inner) k1)
-    pub keeps : GoesOn g old new
+  -- the lines were done as far as the result says, and their trail is told
+  abbrev pub IsSetUpTraced : Tail → Tail → Result (Unit {0}) SetupFault → Type 0
+  IsSetUpTraced k0 k1 result =
+      (it : IsSetUp result) × Trails k0 k1 (trail_set_up result it)
+
+-- The lines were done, as far as the result says, whatever registry was held, and their trail is
+-- told. Whatever is wrong with the store, the trail got a text in no more calls than it had left.
+pub record SetsUpTraced {S T : Type 0} (g : Ghosts S) (lines : List Text) (old new : Registry S)
+    (told_of : T → Option Text) (k0 k1 : TrailEnd T) (result : Result (Unit {0}) SetupFault)
+    : Type 0 where
+  pub done : HasCleanDisk (shown g (tables_of new)) → (s : model.Registry)
+      → Shows s (shown g (tables_of old))
+      → IsSetUpTraced g (limits_of old) s (tables_of old) lines (tables_of new)
+      (tail (told_of k0.end.inner) k0) (tail (told_of k1.end.inner) k1) result
+  pub told : IsTrailed (tail (told_of k0.end.inner) k0) (tail (told_of k1.end.inner) k1)
+  pub keeps : GoesOn g old new

@@ -29,5 +29,5 @@ pub use obeying::{add_token, obey};
 pub use pipe::{pipe_traced, run_pipe};
 pub use printing::{CALLS, NO_WRITING, print};
 pub use service::{Service, read_service};
-pub use setup::{SetupFault, run_setup, setup_traced};
+pub use setup::{SetupFault, setup_traced};
 pub use tokens::{TokenMade, TokenText, make_token};

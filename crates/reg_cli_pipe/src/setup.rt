@@ -9,7 +9,7 @@ ghost use Rattle.reg_service.specs.Registries.{IsUpToDate};
 ghost use Rattle.reg_cli_words.specs.Dashes.{is_dashed};
 ghost use Rattle.reg_cli_pipe.specs.LineOrders.{IsUnread, line_order, order_in, words_in};
 ghost use Rattle.reg_cli_pipe.specs.Lines.{lines_in};
-ghost use Rattle.reg_cli_pipe.specs.Setups.{MakesOf, ObeysOrder, SetsUp, SetsUpTraced};
+ghost use Rattle.reg_cli_pipe.specs.Setups.{MakesOf, ObeysOrder, SetsUpTraced};
 
 use clap::error::ErrorKind;
 use clap::{ArgMatches, Error};
@@ -22,7 +22,7 @@ use reg_service::laws::history_law;
 use reg_service::{OrderTold, Registry};
 use sqlite::Alter;
 use std::alloc::{AllocError, Global};
-use std::io::{self, Write};
+use std::io::Write;
 
 /// Why a setup file was not run to its end. The earlier lines were run.
 #[derive(Clone, Copy, Debug, PartialEq, Eq)]
@@ -163,20 +163,7 @@ fn obey_line<T: Write, S: Alter>(
 }
 
 /// Runs the commands of a setup file, one after another, up to the first that is refused or
-/// invalid.
-pub fn run_setup<S: Alter>(
-    alloc: Global,
-    registry: &mut Registry<S>,
-    setup: &str,
-) -> Result<(), SetupFault>
-    requires tables { IsUpToDate S.Store registry.old }
-    ensures { SetsUp S.Store (lines_in setup.now) registry.old registry.new result }
-{
-    let mut silent = Trail::new(io::sink(), 0);
-    setup_traced(alloc, registry, setup, &mut silent)
-}
-
-/// Does as `run_setup`, and writes a line for each change, after its commit.
+/// invalid, and writes a line for each change, after its commit.
 pub fn setup_traced<T: Write, S: Alter>(
     alloc: Global,
     registry: &mut Registry<S>,

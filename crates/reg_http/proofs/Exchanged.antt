@@ -20,7 +20,7 @@ use Rattle.reg_api_requests.specs.Views.{event_of}
 use Rattle.reg_http.specs.Answering.{Moves}
 use Rattle.reg_http.specs.Exchanges.{Exchange, Outcome, answers_in, event_in, events_in, steps_in}
 use Rattle.reg_http.specs.Exchanges.Outcome.{Answered, NoMethod, NoRoom, NoRoute, Unread}
-use Rattle.reg_http.specs.Streams.{Goes, HasRun, IsOpen, asked, replied, told}
+use Rattle.reg_http.specs.Streams.{asked, Goes, HasRun, IsOpen, replied, told, trail_in}
 use Rattle.reg_http.specs.Trails.{Tail, Trails}
 use Rattle.reg_http.proofs.Trails.{trails_both}
 
@@ -73,21 +73,24 @@ module _ {S : Type 0} (g : Ghosts S) (limits : Limits) (s : model.Registry) (ent
   abbrev steps : List (Event × Answer)
   steps = steps_in limits done
 
+  -- the run and the trail go on by the exchange
+  abbrev HaveGoneOn : Type 0
+  HaveGoneOn = HasRun g limits s entry new (done ++ x ∷ []) × Trails k0 k2 (trail_in limits s (done ++ x ∷ []))
+
   pushed : (t : model.Registry) (more : List (Event × Answer)) → event_in limits x.facts x.outcome ≡ more
       → Ran g limits s entry (map (λ p. p.0) steps ++ map (λ p. p.0) more) (map (λ p. p.1) steps ++ map (λ p. p.1) more) t new
       → Trails k0 k2 (trail limits s (map (λ p. p.0) steps ++ map (λ p. p.0) more) (map (λ p. p.1) steps ++ map (λ p. p.1) more))
-      → HasRun g limits s entry new (Trails k0 k2) (done ++ x ∷ [])
+      → HaveGoneOn
   pushed t more is ran tells =
       let same : steps_in limits (done ++ x ∷ []) ≡ steps ++ more = steps-push limits done x ∙ ap (λ l. steps ++ l) is in
       let first = ap (λ l. map (λ p. p.0) l) same ∙ map-append (λ p. p.0) steps more in
       let second = ap (λ l. map (λ p. p.1) l) same ∙ map-append (λ p. p.1) steps more in (
-        t,
-        subst (λ es. Ran g limits s entry es (answers_in limits (done ++ x ∷ [])) t new) (sym first) (subst (λ xs. Ran g limits s entry (map (λ p. p.0) steps ++ map (λ p. p.0) more) xs t new) (sym second) ran),
+        (t, subst (λ es. Ran g limits s entry es (answers_in limits (done ++ x ∷ [])) t new) (sym first) (subst (λ xs. Ran g limits s entry (map (λ p. p.0) steps ++ map (λ p. p.0) more) xs t new) (sym second) ran)),
         subst (λ es. Trails k0 k2 (trail limits s es (answers_in limits (done ++ x ∷ [])))) (sym first) (subst (λ xs. Trails k0 k2 (trail limits s (map (λ p. p.0) steps ++ map (λ p. p.0) more) xs)) (sym second) tells),
       )
 
-  module _ (t : model.Registry) (ran : Ran g limits s entry (events_in limits done) (answers_in limits done) t old) (tells : Trails k0 k1 (trail limits s (events_in limits done) (answers_in limits done))) where
-    stays : (new ≡ old) × (k2 ≡ k1) → event_in limits x.facts x.outcome ≡ [] → HasRun g limits s entry new (Trails k0 k2) (done ++ x ∷ [])
+  module _ (t : model.Registry) (ran : Ran g limits s entry (events_in limits done) (answers_in limits done) t old) (tells : Trails k0 k1 (trail_in limits s done)) where
+    stays : (new ≡ old) × (k2 ≡ k1) → event_in limits x.facts x.outcome ≡ [] → HaveGoneOn
     stays (same, kept) is =
         let es = sym (append-nil (events_in limits done)) in
         let xs = sym (append-nil (answers_in limits done)) in
@@ -95,7 +98,7 @@ module _ {S : Type 0} (g : Ghosts S) (limits : Limits) (s : model.Registry) (ent
         (subst (λ l. Ran g limits s entry (events_in limits done ++ []) l t new) xs (subst (λ l. Ran g limits s entry l (answers_in limits done) t new) es (subst (λ it. Ran g limits s entry (events_in limits done) (answers_in limits done) t it) (sym same) ran)))
         (subst (λ l. Trails k0 k2 (trail limits s (events_in limits done ++ []) l)) xs (subst (λ l. Trails k0 k2 (trail limits s l (answers_in limits done))) es (subst (λ k. Trails k0 k (trail limits s (events_in limits done) (answers_in limits done))) (sym kept) tells)))
 
-    run_by : (o : Outcome) → x.outcome ≡ o → Moves g limits t x.facts o old new k1 k2 → HasRun g limits s entry new (Trails k0 k2) (done ++ x ∷ [])
+    run_by : (o : Outcome) → x.outcome ≡ o → Moves g limits t x.facts o old new k1 k2 → HaveGoneOn
     run_by (Answered w a) is (fit, it, more) =
         let e = event_of (request_from limits x.facts.token w) in
         let es = events_in limits done in
@@ -108,6 +111,5 @@ module _ {S : Type 0} (g : Ghosts S) (limits : Limits) (s : model.Registry) (ent
     run_by NoRoom is same = stays same (ap (event_in limits x.facts) is)
     run_by (Unread w) is same = stays same (ap (event_in limits x.facts) is)
 
-    -- the run goes on by the exchange
-    pub run_on : Moves g limits t x.facts x.outcome old new k1 k2 → HasRun g limits s entry new (Trails k0 k2) (done ++ x ∷ [])
+    pub run_on : Moves g limits t x.facts x.outcome old new k1 k2 → HaveGoneOn
     run_on moves = run_by x.outcome refl moves

@@ -10,8 +10,7 @@ use Rattle.reg_service.specs.Registries.{IsUpToDate, limits_of, tables_of}
 use Rattle.reg_service.specs.declared.registry.Registry.{Registry}
 use Rattle.reg_http.specs.Answering.{GoesOn}
 use Rattle.reg_http.specs.Serving.{ServesStream, ServesStreamTraced, SpendsLent, SpendsOwn}
-use Rattle.reg_http.specs.Trails.{TrailEnd, Trails, tail}
-use Rattle.reg_http.proofs.Leaving.{leaving}
+use Rattle.reg_http.specs.Trails.{TrailEnd}
 
 -- nothing was done
 pub still : {S : Type 0} {g : Ghosts S} {r : Registry S} → IsUpToDate g r → GoesOn g r r
@@ -33,9 +32,7 @@ module _ {S R W T : Type 0} {g : Ghosts S} {read : R → Option Text} {held : W 
   pub untraced : {Counts : ℕ → ℕ → Tally → Tally → Result ℕ StreamFault → Type 0}
       → ServesStreamTraced g Counts read held old new r0 r1 w0 w1 told_of k0 k1 result → ServesStream g Counts read held old new r0 r1 w0 w1 result
   untraced it = record {
-    serves = λ clean s shows.
-        leaving g (limits_of old) s (tables_of old) (tables_of new) (Trails (tail (told_of k0.end.inner) k0) (tail (told_of k1.end.inner) k1)) (λ text. Unit {0}) (λ text it. tt)
-        (read r0.inner) (read r1.inner) (held w0.inner) (held w1.inner) result (it.serves clean s shows);
+    serves = λ clean s shows. let (xs, run, served, _) = it.serves clean s shows in (xs, run, served);
     spends = it.spends;
     keeps = it.keeps;
   }

@@ -1,6 +1,5 @@
 pub mod Exchanged
 pub mod Kept
-pub mod Leaving
 pub mod Outcomes
 pub mod Requests
 pub mod Steps

@@ -11,7 +11,6 @@ use Rattle.reg_http_read.specs.Heads.{Facts, IsHeadAt}
 use Rattle.reg_model.specs.declared.rule.Rule.{Rule}
 use Rattle.reg_model.specs.Registry as model
 use Rattle.reg_model.specs.Registry.{Text}
-use Rattle.reg_model.specs.Trail.{trail}
 use Rattle.reg_http_read.specs.Begun.{IsBegun, interim_of}
 use Rattle.reg_http_read.specs.Owned.{facts_owned}
 use Rattle.reg_http_read.specs.Taking.{IsCutOff, Takes}
@@ -29,7 +28,7 @@ use Rattle.reg_tables.specs.declared.tables.Tables.{Tables}
 use Rattle.reg_tables.specs.Works.{shown}
 use Rattle.reg_http.specs.Answering.{AppendsSome, Replies}
 use Rattle.reg_http.specs.Exchanges.{Exchange, IsExchange, IsOfFile, answers_in, closes, events_in, outcome_text, reply_of}
-use Rattle.reg_http.specs.Streams.{Goes, HasRun, IsEnded, IsOpen, IsStopped, ServesTraced, closing_text, told}
+use Rattle.reg_http.specs.Streams.{AreServed, Goes, HasRun, IsEnded, IsOpen, IsStopped, ServesTraced, closing_text, told, trail_in}
 use Rattle.reg_http.specs.Trails.{Tail, Trails}
 use Rattle.reg_http.proofs.Trails.{trails_nothing}
 use Rattle.reg_http.proofs.Exchanged.{EventsGoOn, goes_front, goes_push, goes_read, run_on}
@@ -42,7 +41,8 @@ pub record Holds {S : Type 0} (g : Ghosts S) (limits : Limits) (s : model.Regist
   pub appended : Appends w0 w1 written
   pub done : List Exchange
   pub goes : Goes limits done read written rest count
-  pub run : HasRun g limits s entry now (Trails k0 k1) done
+  pub run : HasRun g limits s entry now done
+  pub tells : Trails k0 k1 (trail_in limits s done)
 
 -- a head needs its own bytes alone, and stays one whatever follows
 abbrev pub HeadsStandAlone : Type 0
@@ -60,12 +60,13 @@ module _ {S : Type 0} (g : Ghosts S) (limits : Limits) (s : model.Registry) (ent
     appended = Appends-nil w;
     done = [];
     goes = record { reads = refl; wrote = refl; count_is = refl; each = All-nil (IsOpen limits); before_last = λ le. omega (arith, le) };
-    run = (s, ran, trails_nothing k);
+    run = (s, ran);
+    tells = trails_nothing k;
   }
 
   -- memory was refused before the first read
   pub untouched : (k : Tail) (r w : Option Text) (now : Tables S) → Ran g limits s entry [] [] s now → ServesTraced g limits s entry now k k r r w w (Err Memory)
-  untouched k r w now ran = ([], [], Consumes-nil r, Appends-nil w, record { nothing_read = refl; nothing_written = refl; run = (s, ran, trails_nothing k) })
+  untouched k r w now ran = ([], (s, ran), ([], [], Consumes-nil r, Appends-nil w, record { nothing_read = refl; nothing_written = refl; nothing_done = refl }), trails_nothing k)
 
   module _ (k0 k1 : Tail) (r0 r1 w0 w1 : Option Text) (rest : Text) (count : ℕ) (now : Tables S) (h : Holds g limits s entry k0 k1 r0 r1 w0 w1 rest count now) (r2 w2 : Option Text) where
     -- what was read since
@@ -82,19 +83,17 @@ module _ {S : Type 0} (g : Ghosts S) (limits : Limits) (s : model.Registry) (ent
       appends : (more : Text) → Appends w1 w2 more → Appends w0 w2 (h.written ++ more)
       appends more a = Appends-trans w0 w1 w2 h.written more h.appended a
 
-      ended : (more : Text) → IsBegun limits (rest ++ bytes) more → IsEnded g limits s entry now (Trails k0 k1) (h.read ++ bytes) (h.written ++ more) count
+      ended : (more : Text) → IsBegun limits (rest ++ bytes) more → IsEnded limits h.done (h.read ++ bytes) (h.written ++ more) count
       ended more begun = record {
-        done = h.done;
         rest = rest ++ bytes;
         before = h.written;
         more = more;
         goes = goes;
         begun = begun;
         wrote = refl;
-        run = h.run;
       }
 
-      cut : (f : Facts) → IsHeadAt limits (rest ++ bytes) f → (a : AppendsFront (interim_of f) w1 w2) → IsStopped g limits s entry now (Trails k0 k1) (h.read ++ bytes) (h.written ++ a.front)
+      cut : (f : Facts) → IsHeadAt limits (rest ++ bytes) f → (a : AppendsFront (interim_of f) w1 w2) → IsStopped limits h.done (h.read ++ bytes) (h.written ++ a.front)
       cut f head a = record {
         done = h.done;
         rest = rest ++ bytes;
@@ -103,28 +102,32 @@ module _ {S : Type 0} (g : Ghosts S) (limits : Limits) (s : model.Registry) (ent
         back = a.rest;
         number = count;
         goes = goes;
-        next = inr (inl (f, head, sym a.whole, h.run));
+        next = inr (inl (f, head, sym a.whole, refl));
         wrote = refl;
       }
+
+    -- nothing was answered since
+    so_far : {w : Option Text} {result : Result ℕ StreamFault} → AreServed limits h.done r0 r2 w0 w result → ServesTraced g limits s entry now k0 k1 r0 r2 w0 w result
+    so_far served = (h.done, h.run, served, h.tells)
 
     -- no request was taken
     pub taking_ended : (waits : Text) → Takes r1 r2 rest waits w1 w2 limits (Ok taken.End) → ServesTraced g limits s entry now k0 k1 r0 r2 w0 w2 (Ok count)
     taking_ended waits ((bytes, c, (more, a, begun)), end) =
-        (h.read ++ bytes, h.written ++ more, consumes bytes c, appends bytes c more a, inl (ended bytes c more begun, end))
+        so_far (h.read ++ bytes, h.written ++ more, consumes bytes c, appends bytes c more a, inl (ended bytes c more begun, end))
 
-    taking_cut : IsCutOff r1 r2 rest [] w1 w2 limits → (written : Text) × Appends w0 w2 written × ((read : Text) × Consumes r0 r2 read × IsStopped g limits s entry now (Trails k0 k1) read written)
+    taking_cut : IsCutOff r1 r2 rest [] w1 w2 limits → (written : Text) × Appends w0 w2 written × ((read : Text) × Consumes r0 r2 read × IsStopped limits h.done read written)
     taking_cut (bytes, c, (f, head, a)) =
         (h.written ++ a.front, appends bytes c a.front a.appends, (h.read ++ bytes, consumes bytes c, cut bytes c f head a))
 
     pub taking_failed : (waits : Text) (fault : StreamFault) → Takes r1 r2 rest waits w1 w2 limits (Err fault) → ServesTraced g limits s entry now k0 k1 r0 r2 w0 w2 (Err fault)
     taking_failed waits ReadFault (bytes, c, (more, a, begun)) =
-        (h.read ++ bytes, h.written ++ more, consumes bytes c, appends bytes c more a, (count, ended bytes c more begun))
+        so_far (h.read ++ bytes, h.written ++ more, consumes bytes c, appends bytes c more a, (count, ended bytes c more begun))
     taking_failed waits TooManyTurns (inl (bytes, c, (more, a, begun))) =
-        (h.read ++ bytes, h.written ++ more, consumes bytes c, appends bytes c more a, inl (count, ended bytes c more begun))
+        so_far (h.read ++ bytes, h.written ++ more, consumes bytes c, appends bytes c more a, inl (count, ended bytes c more begun))
     taking_failed waits TooManyTurns (inr x) =
-        let (written, a, (read, c, stopped)) = taking_cut x in (read, written, c, a, inr stopped)
+        let (written, a, (read, c, stopped)) = taking_cut x in so_far (read, written, c, a, inr stopped)
     taking_failed waits WriteFault x =
-        let (written, a, (read, c, stopped)) = taking_cut x in (read, written, c, a, stopped)
+        let (written, a, (read, c, stopped)) = taking_cut x in so_far (read, written, c, a, stopped)
     taking_failed waits StoreFault x = absurd x
     taking_failed waits Memory x = absurd x
 
@@ -132,13 +135,13 @@ module _ {S : Type 0} (g : Ghosts S) (limits : Limits) (s : model.Registry) (ent
     module _ (waits : Text) (broken : Rule) (head_only : Bool) (takes : Takes r1 r2 rest waits w1 w2 limits (Ok (taken.Refused broken head_only))) (w3 : Option Text) where
       pub refusal_sent : Appends w2 w3 (closing_text broken head_only) → ServesTraced g limits s entry now k0 k1 r0 r2 w0 w3 (Ok (count + 1))
       refusal_sent sent =
-          let (bytes, c, (more, a, refused)) = takes in (
+          let (bytes, c, (more, a, refused)) = takes in
+          so_far (
             h.read ++ bytes,
             h.written ++ (more ++ closing_text broken head_only),
             consumes bytes c,
             subst (Appends w0 w3) (append_assoc h.written more (closing_text broken head_only)) (Appends-trans w0 w2 w3 (h.written ++ more) (closing_text broken head_only) (appends bytes c more a) sent),
             inr (inr (record {
-              done = h.done;
               rest = rest ++ bytes;
               before = h.written;
               more = more;
@@ -149,12 +152,11 @@ module _ {S : Type 0} (g : Ghosts S) (limits : Limits) (s : model.Registry) (ent
               refused = refused;
               wrote = refl;
               count_is = refl;
-              run = h.run;
             })),
           )
 
       refusal_cut : AppendsFront (closing_text broken head_only) w2 w3
-          → (read : Text) × (written : Text) × Consumes r0 r2 read × Appends w0 w3 written × IsStopped g limits s entry now (Trails k0 k1) read written
+          → (read : Text) × (written : Text) × Consumes r0 r2 read × Appends w0 w3 written × IsStopped limits h.done read written
       refusal_cut cut_off =
           let (bytes, c, (more, a, refused)) = takes in
           let front = more ++ cut_off.front in
@@ -171,14 +173,14 @@ module _ {S : Type 0} (g : Ghosts S) (limits : Limits) (s : model.Registry) (ent
               back = cut_off.rest;
               number = count;
               goes = goes bytes c;
-              next = inr (inr (more, broken, head_only, refused, sym whole, h.run));
+              next = inr (inr (more, broken, head_only, refused, sym whole, refl));
               wrote = refl;
             },
           )
 
       pub refusal_failed : (fault : StreamFault) → Sends (closing_text broken head_only) w2 w3 {A = Unit {0}} (Err fault) → ServesTraced g limits s entry now k0 k1 r0 r2 w0 w3 (Err fault)
-      refusal_failed WriteFault x = refusal_cut x
-      refusal_failed TooManyTurns x = let (read, written, c, a, stopped) = refusal_cut x in (read, written, c, a, inr stopped)
+      refusal_failed WriteFault x = so_far (refusal_cut x)
+      refusal_failed TooManyTurns x = let (read, written, c, a, stopped) = refusal_cut x in so_far (read, written, c, a, inr stopped)
       refusal_failed ReadFault x = absurd x
       refusal_failed StoreFault x = absurd x
       refusal_failed Memory x = absurd x
@@ -209,7 +211,6 @@ module _ {S : Type 0} (g : Ghosts S) (limits : Limits) (s : model.Registry) (ent
           (sym same ∙ sym (take-append-drop (b.len + b.body_len) waits))
 
       module _ (t : model.Registry) (result : Result (Unit {0}) StreamFault) (ran : Ran g limits s entry (events_in limits h.done) (answers_in limits h.done) t now)
-          (tells : Trails k0 k1 (trail limits s (events_in limits h.done) (answers_in limits h.done)))
           (replies : Replies g limits f (routing_of f (drop f.len message)) close t now new k1 k2 w2 w3 result) where
         abbrev this : Exchange
         this = record { message = message; facts = f; outcome = replies.outcome }
@@ -221,8 +222,15 @@ module _ {S : Type 0} (g : Ghosts S) (limits : Limits) (s : model.Registry) (ent
           outcome = replies.leads;
         }
 
-        run : HasRun g limits s entry new (Trails k0 k2) (h.done ++ this ∷ [])
-        run = run_on g limits s entry law h.done this now new k0 k1 k2 t ran tells replies.moves
+        abbrev done : List Exchange
+        done = h.done ++ this ∷ []
+
+        run : HasRun g limits s entry new done × Trails k0 k2 (trail_in limits s done)
+        run = run_on g limits s entry law h.done this now new k0 k1 k2 t ran h.tells replies.moves
+
+        -- it is the last one
+        at_last : {result : Result ℕ StreamFault} → AreServed limits done r0 r2 w0 w3 result → ServesTraced g limits s entry new k0 k2 r0 r2 w0 w3 result
+        at_last served = (done, run.0, served, run.1)
 
         sends_all : Appends w2 w3 (outcome_text limits f close replies.outcome) → Appends w0 w3 (h.written ++ told limits close this)
         sends_all sent =
@@ -237,14 +245,15 @@ module _ {S : Type 0} (g : Ghosts S) (limits : Limits) (s : model.Registry) (ent
               written = h.written ++ told limits false this;
               consumed = consumes bytes consumed;
               appended = subst (λ c. Appends w0 w3 (h.written ++ told limits c this)) stays (sends_all sent);
-              done = h.done ++ this ∷ [];
+              done = done;
               goes = goes_push limits h.done (h.read ++ bytes) h.written (message ++ later) count goes_whole this later (record { exchange = exchange; goes_on = parts.0 }) refl parts.1;
-              run = run;
+              run = run.0;
+              tells = run.1;
             }
 
         -- the connection is closed
         closed : Appends w2 w3 (outcome_text limits f close replies.outcome) → close ≡ true → ServesTraced g limits s entry new k0 k2 r0 r2 w0 w3 (Ok (count + 1))
-        closed sent ends = (
+        closed sent ends = at_last (
           h.read ++ bytes,
           h.written ++ told limits true this,
           consumes bytes consumed,
@@ -260,13 +269,13 @@ module _ {S : Type 0} (g : Ghosts S) (limits : Limits) (s : model.Registry) (ent
             closing = sym close_is ∙ ends;
             wrote = refl;
             count_is = refl;
-            run = run;
+            whole = refl;
           })),
         )
 
         -- the reply was cut off
         reply_cut : AppendsFront (outcome_text limits f close replies.outcome) w2 w3
-            → (read : Text) × (written : Text) × Consumes r0 r2 read × Appends w0 w3 written × IsStopped g limits s entry new (Trails k0 k2) read written
+            → (read : Text) × (written : Text) × Consumes r0 r2 read × Appends w0 w3 written × IsStopped limits done read written
         reply_cut cut_off =
             let front = interim_of f ++ cut_off.front in
             let whole : told limits close this ≡ front ++ cut_off.rest = ap (λ l. interim_of f ++ l) cut_off.whole ∙ sym (append_assoc (interim_of f) cut_off.front cut_off.rest) in (
@@ -283,14 +292,14 @@ module _ {S : Type 0} (g : Ghosts S) (limits : Limits) (s : model.Registry) (ent
                 back = cut_off.rest;
                 number = count;
                 goes = goes_whole;
-                next = inl (this, later, refl, exchange, sym whole ∙ ap (λ c. told limits c this) close_is, run);
+                next = inl (this, later, refl, exchange, sym whole ∙ ap (λ c. told limits c this) close_is, refl);
                 wrote = refl;
               },
             )
 
         -- the reply of an index file was broken off
         reply_broken : IsOfFile replies.outcome → AppendsSome (outcome_text limits f close replies.outcome) w2 w3 → ServesTraced g limits s entry new k0 k2 r0 r2 w0 w3 (Err StoreFault)
-        reply_broken file begun = (
+        reply_broken file begun = at_last (
           h.read ++ bytes,
           h.written ++ (interim_of f ++ begun.front),
           consumes bytes consumed,
@@ -310,7 +319,7 @@ module _ {S : Type 0} (g : Ghosts S) (limits : Limits) (s : model.Registry) (ent
             reply = ap (λ c. reply_of limits c this) (sym close_is) ∙ begun.whole;
             some = begun.some;
             wrote = refl;
-            run = run;
+            whole = refl;
           },
         )
 
@@ -318,24 +327,25 @@ module _ {S : Type 0} (g : Ghosts S) (limits : Limits) (s : model.Registry) (ent
       abbrev IsReplying : Result (Unit {0}) StreamFault → Type 0
       IsReplying result = (t : model.Registry) → Shows t (shown g now) → Replies g limits f (routing_of f (drop f.len message)) close t now new k1 k2 w2 w3 result
 
+      -- the run so far, which is h's
+      t0 : model.Registry
+      t0 = h.run.0
+
       pub reply_sent : (u : Unit {0}) → IsReplying (Ok u) → close ≡ false → Holds g limits s entry k0 k2 r0 r2 w0 w3 later (count + 1) new
-      reply_sent u all stays =
-          let (t, ran, tells) = h.run in let it = all t ran.shows in answered t (Ok u) ran tells it it.sends stays
+      reply_sent u all stays = let it = all t0 h.run.1.shows in answered t0 (Ok u) h.run.1 it it.sends stays
 
       pub last_sent : (u : Unit {0}) → IsReplying (Ok u) → close ≡ true → ServesTraced g limits s entry new k0 k2 r0 r2 w0 w3 (Ok (count + 1))
-      last_sent u all ends =
-          let (t, ran, tells) = h.run in let it = all t ran.shows in closed t (Ok u) ran tells it it.sends ends
+      last_sent u all ends = let it = all t0 h.run.1.shows in closed t0 (Ok u) h.run.1 it it.sends ends
 
       pub reply_failed : (fault : StreamFault) → IsReplying (Err fault) → ServesTraced g limits s entry new k0 k2 r0 r2 w0 w3 (Err fault)
-      reply_failed WriteFault all = let (t, ran, tells) = h.run in let it = all t ran.shows in reply_cut t (Err WriteFault) ran tells it it.sends
-      reply_failed StoreFault all = let (t, ran, tells) = h.run in let it = all t ran.shows in reply_broken t (Err StoreFault) ran tells it it.sends.0 it.sends.1
+      reply_failed WriteFault all = let it = all t0 h.run.1.shows in at_last t0 (Err WriteFault) h.run.1 it (reply_cut t0 (Err WriteFault) h.run.1 it it.sends)
+      reply_failed StoreFault all = let it = all t0 h.run.1.shows in reply_broken t0 (Err StoreFault) h.run.1 it it.sends.0 it.sends.1
       reply_failed TooManyTurns all =
-          let (t, ran, tells) = h.run in
-          let it = all t ran.shows in
-          let (read, written, c, a, stopped) = reply_cut t (Err TooManyTurns) ran tells it it.sends in
-          (read, written, c, a, inr stopped)
-      reply_failed ReadFault all = let (t, ran, tells) = h.run in let it = all t ran.shows in absurd it.sends
-      reply_failed Memory all = let (t, ran, tells) = h.run in let it = all t ran.shows in absurd it.sends
+          let it = all t0 h.run.1.shows in
+          let (read, written, c, a, stopped) = reply_cut t0 (Err TooManyTurns) h.run.1 it it.sends in
+          at_last t0 (Err TooManyTurns) h.run.1 it (read, written, c, a, inr stopped)
+      reply_failed ReadFault all = absurd (all t0 h.run.1.shows).sends
+      reply_failed Memory all = absurd (all t0 h.run.1.shows).sends
 
     -- the same as the taking and the answering tell it
     module _ (alone : HeadsStandAlone) (stay : HeadsStay) (law : EventsGoOn g) (waits : Text) (b : OwnedHead) (takes : Takes r1 r2 rest waits w1 w2 limits (Ok (taken.Whole b))) (close : Bool)

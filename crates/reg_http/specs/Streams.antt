@@ -52,25 +52,15 @@ pub record Goes (limits : Limits) (done : List Exchange) (read written rest : Te
 abbrev pub closing_text : Rule → Bool → Text
 closing_text r head_only = refusal_text r None true head_only
 
-module _ {S : Type 0} (g : Ghosts S) (limits : Limits) (s : model.Registry)
-    (entry now : Tables S) (Leaves : Text → Type 0) where
-  -- the events of the exchanges are a run of the registry, which holds its end, and it leaves such
-  -- a trail
-  abbrev pub HasRun : List Exchange → Type 0
-  HasRun xs = (t : model.Registry)
-      × Ran g limits s entry (events_in limits xs) (answers_in limits xs) t now
-      × Leaves (trail limits s (events_in limits xs) (answers_in limits xs))
-
+module _ (limits : Limits) (all : List Exchange) where
   -- all requests that were read are replied to, but for one that has only begun
   pub record IsEnded (read written : Text) (count : ℕ) : Type 0 where
-    pub done : List Exchange
     pub rest : Text
     pub before : Text
     pub more : Text
-    pub goes : Goes limits done read before rest count
+    pub goes : Goes limits all read before rest count
     pub begun : IsBegun limits rest more
     pub wrote : written ≡ before ++ more
-    pub run : HasRun done
 
   -- the last reply closes the connection, and what follows its request is not looked at
   pub record IsClosed (read written : Text) (count : ℕ) : Type 0 where
@@ -84,32 +74,30 @@ module _ {S : Type 0} (g : Ghosts S) (limits : Limits) (s : model.Registry)
     pub closing : closes limits last.facts (number + 1) ≡ true
     pub wrote : written ≡ before ++ told limits true last
     pub count_is : count ≡ number + 1
-    pub run : HasRun (done ++ last ∷ [])
+    pub whole : all ≡ done ++ last ∷ []
 
   -- the rest is refused, and what follows is not looked at
   pub record IsCutShort (read written : Text) (count : ℕ) : Type 0 where
-    pub done : List Exchange
     pub rest : Text
     pub before : Text
     pub more : Text
     pub broken : Rule
     pub head_only : Bool
     pub number : ℕ
-    pub goes : Goes limits done read before rest number
+    pub goes : Goes limits all read before rest number
     pub refused : IsRefused limits rest more broken head_only
     pub wrote : written ≡ before ++ (more ++ closing_text broken head_only)
     pub count_is : count ≡ number + 1
-    pub run : HasRun done
 
   -- the next thing that was to be written after the exchanges: the interim line and the reply of a
   -- request that is done, the interim line of one that is not, or a refusal that closes
   abbrev pub IsNext : List Exchange → Text → ℕ → Text → Type 0
   IsNext done rest number text =
       ((x : Exchange) × (later : Text) × (rest ≡ x.message ++ later) × IsExchange limits x
-      × (text ≡ told limits (closes limits x.facts (number + 1)) x) × HasRun (done ++ x ∷ []))
-      ⊎ (((f : Facts) × IsHeadAt limits rest f × (text ≡ interim_of f) × HasRun done)
+      × (text ≡ told limits (closes limits x.facts (number + 1)) x) × (all ≡ done ++ x ∷ []))
+      ⊎ (((f : Facts) × IsHeadAt limits rest f × (text ≡ interim_of f) × (all ≡ done))
       ⊎ ((more : Text) × (r : Rule) × (head_only : Bool) × IsRefused limits rest more r head_only
-      × (text ≡ more ++ closing_text r head_only) × HasRun done))
+      × (text ≡ more ++ closing_text r head_only) × (all ≡ done)))
 
   -- the writing stopped: after the exchanges a front of the next thing was written
   pub record IsStopped (read written : Text) : Type 0 where
@@ -139,13 +127,13 @@ module _ {S : Type 0} (g : Ghosts S) (limits : Limits) (s : model.Registry)
     pub reply : reply_of limits (closes limits last.facts (number + 1)) last ≡ front ++ back
     pub some : 0 < length front
     pub wrote : written ≡ before ++ (interim_of last.facts ++ front)
-    pub run : HasRun (done ++ last ∷ [])
+    pub whole : all ≡ done ++ last ∷ []
 
   -- nothing was read or written
   pub record IsUntouched (read written : Text) : Type 0 where
     pub nothing_read : read ≡ []
     pub nothing_written : written ≡ []
-    pub run : HasRun []
+    pub nothing_done : all ≡ []
 
   -- what the bytes that were read came to, by what is answered
   abbrev pub IsServed : Text → Text → Type 0 → Result ℕ StreamFault → Type 0
@@ -160,22 +148,35 @@ module _ {S : Type 0} (g : Ghosts S) (limits : Limits) (s : model.Registry)
   IsServed read written at_end (Err Memory) = IsUntouched read written
 
   -- the same between two states of a reader and of a writer, however the reads cut the bytes
-  abbrev pub ServesLeaving : Option Text → Option Text → Option Text → Option Text
+  abbrev pub AreServed : Option Text → Option Text → Option Text → Option Text
       → Result ℕ StreamFault → Type 0
-  ServesLeaving r0 r1 w0 w1 result =
+  AreServed r0 r1 w0 w1 result =
       (read : Text) × (written : Text) × Consumes r0 r1 read × Appends w0 w1 written
       × IsServed read written (IsAtEnd r1) result
 
--- where no trail is told
+-- the events of the exchanges are a run of the registry, which holds its end
+abbrev pub HasRun : {S : Type 0} → Ghosts S → Limits → model.Registry → Tables S → Tables S
+    → List Exchange → Type 0
+HasRun g limits s entry now xs = (t : model.Registry)
+    × Ran g limits s entry (events_in limits xs) (answers_in limits xs) t now
+
+-- the trail of their run
+abbrev pub trail_in : Limits → model.Registry → List Exchange → Text
+trail_in limits s xs = trail limits s (events_in limits xs) (answers_in limits xs)
+
+-- some exchanges are a run, and are what was read and written
 abbrev pub Serves : {S : Type 0} → Ghosts S → Limits → model.Registry → Tables S → Tables S
     → Option Text → Option Text → Option Text → Option Text → Result ℕ StreamFault → Type 0
-Serves g limits s entry now = ServesLeaving g limits s entry now (λ _. Unit {0})
+Serves g limits s entry now r0 r1 w0 w1 result = (xs : List Exchange)
+    × HasRun g limits s entry now xs × AreServed limits xs r0 r1 w0 w1 result
 
--- where the trail is told
+-- the same, and the trail of the run is told
 abbrev pub ServesTraced : {S : Type 0} → Ghosts S → Limits → model.Registry → Tables S → Tables S
     → Tail → Tail → Option Text → Option Text → Option Text → Option Text
     → Result ℕ StreamFault → Type 0
-ServesTraced g limits s entry now k0 k1 = ServesLeaving g limits s entry now (Trails k0 k1)
+ServesTraced g limits s entry now k0 k1 r0 r1 w0 w1 result = (xs : List Exchange)
+    × HasRun g limits s entry now xs × AreServed limits xs r0 r1 w0 w1 result
+    × Trails k0 k1 (trail_in limits s xs)
 
 -- whatever registry was held, what was written is what a run of it replies to what was read
 abbrev pub IsServing : {S : Type 0} → Ghosts S → Registry S → Registry S

@@ -4,13 +4,14 @@
 //! ```
 //! let mut reader = Counted::new(input);
 //! let mut writer = Counted::new(Vec::new(alloc));
+//! let replies = serve_stream(alloc, &mut registry, &mut reader, &mut writer)?;
+//! ```
+//!
+//! With a trail, each change has a line, which is written before its reply. A `Server` is made once
+//! and lent to each connection.
+//!
+//! ```
 //! let mut server = Server::new(alloc)?;
-//! let replies = server.serve(alloc, &mut registry, &mut reader, &mut writer)?;
-//! ```
-//!
-//! With a trail, each change has a line, which is written before its reply.
-//!
-//! ```
 //! let mut trail = Trail::new(log, 1_000_000);
 //! let replies = server.serve_traced(alloc, &mut registry, &mut reader, &mut writer, &mut trail)?;
 //! ```

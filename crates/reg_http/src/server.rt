@@ -35,25 +35,10 @@ impl Server {
     }
 
     /// Answers the requests of a stream, one after another, until its input ends or a reply closes
-    /// the connection. Returns how many replies it wrote, without interim lines, and makes at most
-    /// `turns` read and write calls together. It never returns `Memory`.
-    pub fn serve<R: Read, W: Write, S: Alter>(
-        &mut self,
-        alloc: Global,
-        registry: &mut Registry<S>,
-        r: &mut Counted<R>,
-        w: &mut Counted<W>,
-    ) -> Result<u64, StreamFault>
-        requires { MayServe S.Store registry.old r.old w.old }
-        ensures { ServesStream S.Store SpendsLent R.remaining W.contents registry.old registry.new
-            r.old r.new w.old w.new result }
-    {
-        let mut silent = Trail::new(io::sink(), 0);
-        self.serve_traced(alloc, registry, r, w, &mut silent)
-    }
-
-    /// Does as `serve`, and writes a line for each change: after its commit, and before its reply.
-    /// If the trail fails or its calls are used up, no reply is changed by it.
+    /// the connection. A line is written for each change: after its commit, and before its reply.
+    /// If the trail fails or its calls are used up, no reply is changed by it. Returns how many
+    /// replies it wrote, without interim lines, and makes at most `turns` read and write calls
+    /// together. It never returns `Memory`.
     pub fn serve_traced<R: Read, W: Write, T: Write, S: Alter>(
         &mut self,
         alloc: Global,
@@ -70,7 +55,7 @@ impl Server {
     }
 }
 
-/// Serves one stream, as `Server::serve` does, with a `Server` of its own.
+/// Serves one stream with a `Server` of its own, and no trail.
 pub fn serve_stream<R: Read, W: Write, S: Alter>(
     alloc: Global,
     registry: &mut Registry<S>,

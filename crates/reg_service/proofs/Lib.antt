@@ -2,11 +2,9 @@ mod Faults
 mod Frames
 mod Histories
 mod Opened
-mod Publishing
 mod Replied
 mod Requested
 mod Rests
-mod Rooms
 mod Seeking
 mod Streams
 mod Traced

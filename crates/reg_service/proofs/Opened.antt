@@ -24,8 +24,7 @@ use Rattle.reg_tables.specs.Works as works
 use Rattle.reg_tables.specs.Works.{AreOurs, IsSame, edition_in, shown}
 use Rattle.reg_service.specs.declared.registry.Registry.{Registry}
 use Rattle.reg_service.specs.Answered.{AreAs, AreUpToDate, Shows}
-use Rattle.reg_service.specs.Registries.{AreChecked, AreDamaged, AreOne, IsBrought, IsFirstFailing, IsUpToDate, LeavesOpened, MayBeUpgraded, MayBecome, limits_of, room_of, tables_of}
-use Rattle.reg_service.specs.Rooms.{HasRoom}
+use Rattle.reg_service.specs.Registries.{AreChecked, AreDamaged, AreOne, IsBrought, IsFirstFailing, LeavesOpened, MayBeUpgraded, MayBecome, tables_of}
 use Rattle.reg_service.specs.declared.opening.OpenFault.{OpenFault}
 use Rattle.reg_service.specs.declared.opening.OpenFault.TheVariants.{Damaged, Storage}
 
@@ -291,12 +290,3 @@ module _ {S : Type 0} (g : Ghosts S) (conn : Held S) (t : Tables S) (k : IsTaken
 pub if_refused : {T E : Type 0} (r : Result T E) {A B : E → Type 0} → ((e : E) → A e → B e) → IfErr r A → IfErr r B
 if_refused (Ok x) f a = tt
 if_refused (Err e) f a = f e a
-
--- nothing is known yet of a registry that was opened but that it is one
-pub opened_up : {S E : Type 0} (g : Ghosts S) (found : Database) (r : Result (Registry S) E) → IfOk r (λ x. AreUpToDate g (tables_of x)) → IfOk r (λ x. room_of x ≡ None)
-    → IfOk r (λ x. HasCleanDisk (shown g (tables_of x)) → AreOne found (shown g (tables_of x))) → IfOk r (IsUpToDate g)
-opened_up g found (Err e) up none one = tt
-opened_up g found (Ok x) up none one = record {
-  tables = up;
-  known = λ clean. record { registry = (one clean).registry; shows = (one clean).after; has = subst (HasRoom (limits_of x) (one clean).registry) (sym none) tt };
-}

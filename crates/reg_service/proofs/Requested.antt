@@ -15,7 +15,7 @@ use Rattle.reg_model.specs.Steps.{IsFit}
 use Rattle.reg_api_replies.specs.declared.reply.Reply.{Reply}
 use Rattle.reg_api_replies.specs.declared.reply.Reply.TheVariants.{Denied}
 use Rattle.reg_service_requests.specs.Serves.{Serves}
-use Rattle.reg_service_requests.specs.Telling.{line_with}
+use Rattle.reg_service_requests.specs.Telling.{ServesTold, line_with}
 use Rattle.reg_service_requests.specs.declared.served.Served.{Served}
 use Rattle.reg_service_requests.specs.declared.served.Served.TheVariants.{Done, Seeks, Told}
 use Rattle.reg_service_requests.specs.declared.told.Acted.{Acted}
@@ -30,37 +30,24 @@ use Rattle.reg_service.specs.Acted.{ActsTo, IsActed}
 use Rattle.reg_service.specs.Answered.{AreUpToDate, Halts, Shows, WasClean}
 use Rattle.reg_service.specs.Handled.{RepliesTo, Sought}
 use Rattle.reg_service.specs.Looked.{Looked}
-use Rattle.reg_service.specs.Rooms.{IsKnown, ServesInPlace}
-use Rattle.reg_service.specs.declared.room.Room.{Room}
 use Rattle.reg_service.proofs.Replied as replied
 use Rattle.reg_service.proofs.Rests.{dropped_halts, dropped_looked, committed_halts, ended_clean, goes_on, refused_tables}
-use Rattle.reg_service.proofs.Rooms.{served_knows, unserved_knows}
 use Rattle.reg_service.proofs.Traced.{acts, tells_line, untold}
 
-abbrev pub Does : {S : Type 0} → Ghosts S → Limits → Bool → Option Text → Asked → Acted → Option Room → Tables S → Tables S → Type 0
-Does g limits traced digest asked it left old new = record {
+abbrev pub Does : {S : Type 0} → Ghosts S → Limits → Bool → Option Text → Asked → Acted → Tables S → Tables S → Type 0
+Does g limits traced digest asked it old new = record {
   replies : IsActed g limits traced digest asked it old new;
   tables : AreUpToDate g new;
-  known : IsKnown g limits left new;
   clean : WasClean g old new;
   halts : Halts (is_shut old) (is_shut new) (it.reply ≡ Denied rule.S1);
 }
 
-module _ {S : Type 0} (g : Ghosts S) (limits : Limits) (traced : Bool) (digest : Option Text) (asked : Asked) (room : Option Room) (old : Tables S) (at : AreUpToDate g old)
-    (has : IsKnown g limits room old) (it : Acted) where
-  -- it was not served, so nothing is known of a crate
-  unknown : (left : Option Room) (new : Tables S) → left ≡ None → WasClean g old new → IsActed g limits traced digest asked it old new → IsKnown g limits left new
-  unknown left new none first replies clean =
-      let was = has (first clean) in
-      let acted = replies clean was.registry was.shows in
-      unserved_knows g limits digest asked room left old new none was.registry acted.0 acted.2
-
+module _ {S : Type 0} (g : Ghosts S) (limits : Limits) (traced : Bool) (digest : Option Text) (asked : Asked) (old : Tables S) (at : AreUpToDate g old) (it : Acted) where
   -- no transaction was begun
-  pub unbegun : (left : Option Room) (new : Tables S) → left ≡ None → it.reply ≡ Denied rule.S1 → it.line ≡ None → IsLeft g old new → Does g limits traced digest asked it left old new
-  unbegun left new none reply line is = record {
+  pub unbegun : (new : Tables S) → it.reply ≡ Denied rule.S1 → it.line ≡ None → IsLeft g old new → Does g limits traced digest asked it old new
+  unbegun new reply line is = record {
     replies = replies;
     tables = record { ours = is.ours; second = is.edition ∙ at.second };
-    known = unknown left new none first replies;
     clean = first;
     halts = record { stopped = λ _. reply; stays = λ was. is.shut ∙ was; stops = λ _. reply };
   }
@@ -73,12 +60,11 @@ module _ {S : Type 0} (g : Ghosts S) (limits : Limits) (traced : Bool) (digest :
 
   module _ (begun done : Work S) (b : Begins g SeesAll old begun) (looks : Looks g begun done) where
     -- a call within it failed
-    pub failed : (left : Option Room) (new there : Tables S) → new ≡ there → left ≡ None → it.reply ≡ Denied rule.S1 → it.line ≡ None → IsDropped g done there
-        → (IsTrue (shown g old).is_open → LeavesCommit (shown g old)) → Does g limits traced digest asked it left old new
-    failed left new there same_end none reply line end alone = subst (λ t. Does g limits traced digest asked it left old t) (sym same_end) (record {
+    pub failed : (new there : Tables S) → new ≡ there → it.reply ≡ Denied rule.S1 → it.line ≡ None → IsDropped g done there
+        → (IsTrue (shown g old).is_open → LeavesCommit (shown g old)) → Does g limits traced digest asked it old new
+    failed new there same_end reply line end alone = subst (λ t. Does g limits traced digest asked it old t) (sym same_end) (record {
       replies = replies;
       tables = rest.tables;
-      known = unknown left there none rest.clean replies;
       clean = rest.clean;
       halts = dropped_halts g old begun done b looks there end;
     })
@@ -92,34 +78,24 @@ module _ {S : Type 0} (g : Ghosts S) (limits : Limits) (traced : Bool) (digest :
             untold g limits s traced digest asked old there it (replied.failed g limits s digest asked old there at.ours h clean begun done b looks mid end alone) reply line
 
     -- it was served
-    module _ (known : Option Room) (same : known ≡ room) (told : ServedTold × Option Room)
-        (serves : HasCleanDisk (seen g done) → ServesInPlace traced limits known digest asked (rows_seen g begun) (rows_seen g done) told) where
-      served_as : (x : Served) → told.0.served ≡ x → HasCleanDisk (seen g done) → Serves limits digest asked (rows_seen g begun) (rows_seen g done) x
-      served_as x is mid = subst (Serves limits digest asked (rows_seen g begun) (rows_seen g done)) is (serves mid).0.0
-
-      knows : (new : Tables S) → (HasCleanDisk (shown g new) → HasCleanDisk (seen g done)) → IsActed g limits traced digest asked it old new → IsKnown g limits told.1 new
-      knows new mids replies clean =
-          let mid = mids clean in
-          let early : HasCleanDisk (seen g begun) = omega (arith, mid, looks.survives.clean) in
-          let was = has (omega (arith, early, b.survives.clean)) in
-          let acted = replies clean was.registry was.shows in
-          served_knows g limits digest asked room told.1 old new known begun was b early same (serves mid).1 acted.0 acted.2
+    module _ (told : ServedTold) (serves : HasCleanDisk (seen g done) → ServesTold traced limits digest asked (rows_seen g begun) (rows_seen g done) told) where
+      served_as : (x : Served) → told.served ≡ x → HasCleanDisk (seen g done) → Serves limits digest asked (rows_seen g begun) (rows_seen g done) x
+      served_as x is mid = subst (Serves limits digest asked (rows_seen g begun) (rows_seen g done)) is (serves mid).0
 
       -- the line that goes with the reply
       lined : (there new : Tables S) (s : Registry) (h : Shows s (shown g old)) (clean : HasCleanDisk (shown g there)) (mid : HasCleanDisk (seen g done)) (reply : Reply) → it.reply ≡ reply
-          → option_map string_bytes it.line ≡ line_with reply told.0.line → RepliesTo g limits s digest asked reply old new
+          → option_map string_bytes it.line ≡ line_with reply told.line → RepliesTo g limits s digest asked reply old new
           → ActsTo g limits s traced digest asked it old new
       lined there new s h clean mid reply is line replies =
-          acts g limits s traced digest asked old new reply it told.0.line replies is line
-          (tells_line limits s (Ask digest asked) traced (rows_seen g begun) told.0.line (serves mid).0.1 (replied.sees g limits s digest asked old there at.ours h clean begun done b looks mid))
+          acts g limits s traced digest asked old new reply it told.line replies is line
+          (tells_line limits s (Ask digest asked) traced (rows_seen g begun) told.line (serves mid).1 (replied.sees g limits s digest asked old there at.ours h clean begun done b looks mid))
 
-      pub committed : {T E : Type 0} (r : Result T E) (reply : Reply) (new there : Tables S) → new ≡ there → told.0.served ≡ Done reply → it.reply ≡ reply
-          → option_map string_bytes it.line ≡ line_with reply told.0.line → IsEnded g r done there → IsCommitted g done there
-          → StepsKeepSound → IsFit (Ask digest asked) → Does g limits traced digest asked it told.1 old new
-      committed r reply new there same_end as_done is line ended end law fit = subst (λ t. Does g limits traced digest asked it told.1 old t) (sym same_end) (record {
+      pub committed : {T E : Type 0} (r : Result T E) (reply : Reply) (new there : Tables S) → new ≡ there → told.served ≡ Done reply → it.reply ≡ reply
+          → option_map string_bytes it.line ≡ line_with reply told.line → IsEnded g r done there → IsCommitted g done there
+          → StepsKeepSound → IsFit (Ask digest asked) → Does g limits traced digest asked it old new
+      committed r reply new there same_end as_done is line ended end law fit = subst (λ t. Does g limits traced digest asked it old t) (sym same_end) (record {
         replies = replies;
         tables = record { ours = ended.ours; second = end.second };
-        known = knows there mids replies;
         clean = ended_clean g old begun done b looks there r ended;
         halts = committed_halts g old begun done b looks there end;
       })
@@ -133,12 +109,11 @@ module _ {S : Type 0} (g : Ghosts S) (limits : Limits) (traced : Bool) (digest :
               lined there there s h clean mid reply is line (replied.committed g limits s digest asked old there at.ours h clean begun done b looks mid law fit reply (served_as (Done reply) as_done mid) end)
 
       -- its commit was refused
-      pub not_committed : {T E : Type 0} (r : Result T E) (reply : Reply) (new there : Tables S) → new ≡ there → told.0.served ≡ Done reply → it.reply ≡ Denied rule.S1 → it.line ≡ None
-          → IsEnded g r done there → IsRefused g done there → Does g limits traced digest asked it told.1 old new
-      not_committed r reply new there same_end as_done is line ended end = subst (λ t. Does g limits traced digest asked it told.1 old t) (sym same_end) (record {
+      pub not_committed : {T E : Type 0} (r : Result T E) (reply : Reply) (new there : Tables S) → new ≡ there → told.served ≡ Done reply → it.reply ≡ Denied rule.S1 → it.line ≡ None
+          → IsEnded g r done there → IsRefused g done there → Does g limits traced digest asked it old new
+      not_committed r reply new there same_end as_done is line ended end = subst (λ t. Does g limits traced digest asked it old t) (sym same_end) (record {
         replies = replies;
         tables = refused_tables g old begun done b looks there at ended.ours end;
-        known = knows there mids replies;
         clean = ended_clean g old begun done b looks there r ended;
         halts = goes_on g old begun done b looks there (λ _. is);
       })
@@ -153,12 +128,11 @@ module _ {S : Type 0} (g : Ghosts S) (limits : Limits) (traced : Bool) (digest :
               (replied.not_committed g limits s digest asked old there at.ours h clean begun done b looks mid reply (served_as (Done reply) as_done mid) end ended.survives) is line
 
       -- nothing was changed
-      pub only_told : (reply : Reply) (new there : Tables S) → new ≡ there → told.0.served ≡ Told reply → it.reply ≡ reply → option_map string_bytes it.line ≡ line_with reply told.0.line
-          → IsDropped g done there → (IsTrue (shown g old).is_open → LeavesCommit (shown g old)) → Does g limits traced digest asked it told.1 old new
-      only_told reply new there same_end as_told is line end alone = subst (λ t. Does g limits traced digest asked it told.1 old t) (sym same_end) (record {
+      pub only_told : (reply : Reply) (new there : Tables S) → new ≡ there → told.served ≡ Told reply → it.reply ≡ reply → option_map string_bytes it.line ≡ line_with reply told.line
+          → IsDropped g done there → (IsTrue (shown g old).is_open → LeavesCommit (shown g old)) → Does g limits traced digest asked it old new
+      only_told reply new there same_end as_told is line end alone = subst (λ t. Does g limits traced digest asked it old t) (sym same_end) (record {
         replies = replies;
         tables = rest.tables;
-        known = knows there mids replies;
         clean = rest.clean;
         halts = dropped_halts g old begun done b looks there end;
       })
@@ -175,13 +149,12 @@ module _ {S : Type 0} (g : Ghosts S) (limits : Limits) (traced : Bool) (digest :
               lined there there s h clean mid reply is line (replied.told g limits s digest asked old there at.ours h clean begun done b looks mid reply (served_as (Told reply) as_told mid) end alone)
 
       -- a search, behind the transaction
-      pub sought : (account : ℕ) (reply : Reply) (there new : Tables S) → told.0.served ≡ Seeks account → it.reply ≡ reply → option_map string_bytes it.line ≡ line_with reply told.0.line
+      pub sought : (account : ℕ) (reply : Reply) (there new : Tables S) → told.served ≡ Seeks account → it.reply ≡ reply → option_map string_bytes it.line ≡ line_with reply told.line
           → IsDropped g done there → (IsTrue (shown g old).is_open → LeavesCommit (shown g old))
-          → IsLeft g there new → (HasCleanDisk (shown g new) → (s : Registry) → Shows s (shown g there) → Sought account asked s reply) → Does g limits traced digest asked it told.1 old new
+          → IsLeft g there new → (HasCleanDisk (shown g new) → (s : Registry) → Shows s (shown g there) → Sought account asked s reply) → Does g limits traced digest asked it old new
       sought account reply there new as_search is line end alone left seeks = record {
         replies = replies;
         tables = record { ours = left.ours; second = left.edition ∙ end.edition ∙ looks.same_edition ∙ b.edition ∙ at.second };
-        known = knows new (λ clean. mids (still clean)) replies;
         clean = λ clean. omega (arith, clean, left.survives.clean, end.survives.clean, looks.survives.clean, b.survives.clean);
         halts = goes_on g old begun done b looks new (λ stopped. absurd (false≢true (sym (left.shut ∙ end.same_mode ∙ looks.same_mode ∙ b.still_open) ∙ stopped)));
       }

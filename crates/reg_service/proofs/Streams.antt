@@ -37,7 +37,6 @@ use Rattle.reg_tables.specs.Ends.{Begins, IsDropped, SeesAll}
 use Rattle.reg_tables.specs.Works.{AreOurs, IsLeft, seen, shown}
 use Rattle.reg_tables.proofs.Looking.{call_looks}
 use Rattle.reg_service.specs.Answered.{AreUpToDate, Shows, Stays}
-use Rattle.reg_service.specs.Rooms.{added}
 use Rattle.reg_service.specs.Streamed.{AsksForFile, IsDecided, LeavesStream, SendsAnswer, StreamsTo, WasDecided}
 use Rattle.reg_service.proofs.Frames as frame
 
@@ -141,7 +140,3 @@ asks_path limits (call.Unyank n v) h = absurd h
 asks_path limits (call.AddOwners n body) h = absurd h
 asks_path limits (call.RemoveOwners n body) h = absurd h
 asks_path limits (call.Search q per_page) h = absurd h
-
--- and adds no version
-pub no_versions : (limits : Limits) (w : ApiCall) → AsksForFile w → added (asked_by limits w) ≡ 0
-no_versions limits w h = subst (λ a. added a ≡ 0) (asks_path limits w h) refl

@@ -3,6 +3,5 @@ pub mod Answered
 pub mod Handled
 pub mod Looked
 pub mod Registries
-pub mod Rooms
 pub mod Sequences
 pub mod Streamed

@@ -1,5 +1,5 @@
 -- A registry over a store, as a caller sees it.
-use Rattle.std.specs.Prelude.{◌≡◌, ◌⊎◌, Bool, None, Option, Some, false, IsTrue}
+use Rattle.std.specs.Prelude.{◌≡◌, ◌⊎◌, Bool, Option, Some, IsTrue}
 use Rattle.sqlite.specs.Effect.{Database}
 use Rattle.sqlite.specs.Tree.{Trees}
 use Rattle.sqlite.specs.State.{HasCleanDisk, State}
@@ -18,8 +18,6 @@ use Rattle.reg_tables.specs.declared.tables.Tables.{Tables}
 use Rattle.reg_tables_meaning.specs.Upgrades.{AreBegun, AreUpgraded}
 use Rattle.reg_tables.specs.Works.{edition_in, is_shut, shown}
 use Rattle.reg_service.specs.Answered.{AreAs, AreUpToDate, LeavesAlone, Shows}
-use Rattle.reg_service.specs.Rooms.{IsKnown}
-use Rattle.reg_service.specs.declared.room.Room.{Room}
 use Rattle.reg_service.specs.declared.opening.OpenFault.{OpenFault}
 use Rattle.reg_service.specs.declared.opening.OpenFault.TheVariants.{Storage}
 use Rattle.reg_service.specs.declared.registry.Registry.{Registry}
@@ -30,14 +28,9 @@ tables_of r = r.tables
 abbrev pub limits_of : {S : Type 0} → Registry S → Limits
 limits_of r = r.limits
 
--- what is known of the crate that was published last
-abbrev pub room_of : {S : Type 0} → Registry S → Option Room
-room_of r = r.room
-
--- our tables, of schema 2, and they hold a registry of which what is known is so
-pub record IsUpToDate {S : Type 0} (g : Ghosts S) (r : Registry S) : Type 0 where
-  pub tables : AreUpToDate g (tables_of r)
-  pub known : IsKnown g (limits_of r) (room_of r) (tables_of r)
+-- our tables, of schema 2
+abbrev pub IsUpToDate : {S : Type 0} → Ghosts S → Registry S → Type 0
+IsUpToDate g r = AreUpToDate g (tables_of r)
 
 -- a commit was refused: it answers nothing more
 abbrev pub has_stopped : {S : Type 0} → Registry S → Bool
@@ -89,10 +82,9 @@ abbrev pub Brings : {S : Type 0} → Ghosts S → Tables S → Registry S → Ty
 Brings g tables r = HasCleanDisk (shown g (tables_of r))
     → IsBrought (edition_in tables) (shown g tables) (shown g (tables_of r))
 
--- a registry that has these limits, remembers nothing yet, and has stopped if its tables had
+-- a registry that has these limits, and has stopped if its tables had
 pub record HasBegun {S : Type 0} (limits : Limits) (stopped : Bool) (r : Registry S) : Type 0 where
   pub limited : limits_of r ≡ limits
-  pub unknown : room_of r ≡ None
   pub goes_on : has_stopped r ≡ stopped
 
 -- this check is the first that fails on our tables as they were found, and the rows are those of

@@ -16,7 +16,6 @@ pub mod laws;
 mod marking;
 mod opening;
 mod registry;
-mod room;
 mod searching;
 mod sequences;
 mod streaming;

@@ -53,17 +53,9 @@ fn bring_up<S: Alter>(mut tables: Tables<S>, limits: Limits) -> Opened<S>
         (MayBecome (edition_in tables) (shown S.Store tables))) }
 {
     match tables.edition() {
-        Edition::Second => Ok(Registry {
-            tables,
-            limits,
-            room: None,
-        }),
+        Edition::Second => Ok(Registry { tables, limits }),
         Edition::First => match tables.migrate() {
-            Ok(_) => Ok(Registry {
-                tables,
-                limits,
-                room: None,
-            }),
+            Ok(_) => Ok(Registry { tables, limits }),
             Err(_) => Err((tables.into_connection(), OpenFault::Storage)),
         },
     }
@@ -162,11 +154,7 @@ impl<S: Alter> Registry<S> {
             return Err((conn, OpenFault::BadBase));
         }
         match Tables::make(conn, base) {
-            Ok(tables) => Ok(Registry {
-                tables,
-                limits,
-                room: None,
-            }),
+            Ok(tables) => Ok(Registry { tables, limits }),
             Err((conn, MakeFault::UnknownSchema)) => Err((conn, OpenFault::UnknownSchema)),
             Err((conn, MakeFault::Storage)) => Err((conn, OpenFault::Storage)),
         }

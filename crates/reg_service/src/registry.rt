@@ -19,7 +19,6 @@ ghost use Rattle.reg_tables.specs.Works.{held, shown};
 
 use crate::exporting::export_in;
 use crate::marking::mark_in;
-use crate::room::Room;
 use crate::streaming::stream_in;
 use crate::transactions::{command_in, denied, parts_in};
 use reg_api_replies::Reply;
@@ -43,7 +42,6 @@ use std::io::Write;
 pub struct Registry<S: Alter> {
     pub(crate) tables: Tables<S>,
     pub(crate) limits: Limits,
-    pub(crate) room: Option<Room>,
 }
 
 impl<S: Alter> Registry<S> {
@@ -137,14 +135,7 @@ impl<S: Alter> Registry<S> {
         let Ok(parts) = read_request(alloc, request, &self.limits) else {
             return denied(Rule::S1);
         };
-        parts_in(
-            alloc,
-            &mut self.tables,
-            &self.limits,
-            &mut self.room,
-            &parts,
-            traced,
-        )
+        parts_in(alloc, &mut self.tables, &self.limits, &parts, traced)
     }
 
     /// Sends the reply to a request for an index file, row by row, in at most `writes` write calls,

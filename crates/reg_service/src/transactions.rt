@@ -8,9 +8,7 @@ ghost use Rattle.reg_policy.specs.Events.{asked_of, command_of};
 ghost use Rattle.reg_tables.specs.Works.{is_shut};
 ghost use Rattle.reg_service.specs.Acted.{IsActed, IsOrdered};
 ghost use Rattle.reg_service.specs.Answered.{AreUpToDate, Halts, WasClean};
-ghost use Rattle.reg_service.specs.Rooms.{IsKnown};
 
-use crate::room::{Room, serve_in_place};
 use crate::searching::seek;
 use reg_api_replies::Reply;
 use reg_api_requests::Parts;
@@ -20,7 +18,7 @@ use reg_model::AdminRefusal;
 use reg_model::laws::{denial_law, soundness_law};
 use reg_policy::{AdminCommand, Asked, Rule};
 use reg_service_commands::{OrderTold, order_told};
-use reg_service_requests::{Acted, Served, ServedTold, with_line};
+use reg_service_requests::{Acted, Served, ServedTold, serve_told, with_line};
 use reg_tables::Tables;
 use sqlite::Alter;
 use std::alloc::Global;
@@ -88,32 +86,26 @@ pub(crate) fn request_in<S: Alter>(
     alloc: Global,
     tables: &mut Tables<S>,
     limits: &Limits,
-    room: &mut Option<Room>,
     digest: Option<&Digest>,
     asked: &Asked<'_>,
     traced: bool,
 ) -> Acted
     requires tables { AreUpToDate S.Store tables.old }
-    requires known { IsKnown S.Store limits.now room.old tables.old }
     requires fit { (d : _) → IsFit (Ask d (asked_of asked.now)) }
     ensures replies { IsActed S.Store limits.now traced (option_map (λ d. d.now) digest.entry)
         (asked_of asked.now) result tables.old tables.new }
     ensures tables { AreUpToDate S.Store tables.new }
-    ensures known { IsKnown S.Store limits.now room.new tables.new }
     ensures clean { WasClean S.Store tables.old tables.new }
     ensures halts { Halts (is_shut tables.old) (is_shut tables.new)
         (result.reply ≡ Reply.Denied Rule.S1) }
 {
     soundness_law();
-    let known = room.take();
     let Ok(mut work) = tables.work() else {
         return denied(Rule::S1);
     };
-    let Ok(it) = serve_in_place(alloc, &mut work, limits, known, digest, asked, traced) else {
+    let Ok(told) = serve_told(alloc, &mut work, limits, digest, asked, traced) else {
         return denied(Rule::S1);
     };
-    let (told, left) = it;
-    *room = left;
     let ServedTold { served, line } = told;
     match served {
         Served::Done(reply) => match work.commit() {
@@ -133,17 +125,14 @@ pub(crate) fn parts_in<S: Alter>(
     alloc: Global,
     tables: &mut Tables<S>,
     limits: &Limits,
-    room: &mut Option<Room>,
     parts: &Parts<'_>,
     traced: bool,
 ) -> Acted
     requires tables { AreUpToDate S.Store tables.old }
-    requires known { IsKnown S.Store limits.now room.old tables.old }
     requires fit { (d : _) → IsFit (Ask d parts.now.asked) }
     ensures replies { IsActed S.Store limits.now traced parts.now.digest parts.now.asked result
         tables.old tables.new }
     ensures tables { AreUpToDate S.Store tables.new }
-    ensures known { IsKnown S.Store limits.now room.new tables.new }
     ensures clean { WasClean S.Store tables.old tables.new }
     ensures halts { Halts (is_shut tables.old) (is_shut tables.new)
         (result.reply ≡ Reply.Denied Rule.S1) }
@@ -152,5 +141,5 @@ pub(crate) fn parts_in<S: Alter>(
         return denied(Rule::S1);
     };
     let asked = parts.asked(&logins);
-    request_in(alloc, tables, limits, room, parts.digest(), &asked, traced)
+    request_in(alloc, tables, limits, parts.digest(), &asked, traced)
 }

@@ -1,14 +1,11 @@
-use Rattle.std.proofs.Common.{◌++◌, [], inl, inr, length, map, refl, rules, subst}
-use Rattle.reg_model.specs.Events.Event.{Order}
-use Rattle.reg_model.specs.Trail.{trail}
+use Rattle.std.proofs.Common.{[], inl, inr, length, refl, rules, subst}
 use Rattle.reg_service.specs.Registries.{limits_of, tables_of}
-use Rattle.reg_http.specs.Streams.{ServesTraced}
-use Rattle.reg_http.specs.Trails.{Trails, tail}
+use Rattle.reg_http.specs.Streams.{ServesTraced, trail_in}
+use Rattle.reg_http.specs.Trails.{tail}
 use Rattle.reg_http.proofs.Kept.{goes_on}
-use Rattle.reg_http.proofs.Leaving.{leaving}
 use Rattle.reg_http.proofs.Trails.{trailed_on, trails_both}
 use Rattle.reg_cli_pipe.specs.Lines.{lines_in}
-use Rattle.reg_cli_pipe.proofs.Orders.{alone_leaving}
+use Rattle.reg_cli_pipe.specs.Setups.{trail_done}
 use Rattle.reg_cli_pipe.proofs.pipe.pipe_traced.Goals as goal
 
 pub serve_traced-requires : goal.serve_traced-requires
@@ -20,7 +17,9 @@ pub returns-in-Err : goal.returns-in-Err
 returns-in-Err g c =
     let up = c.in-Err.ensures in
     record {
-      piped = λ clean s shows. inl (record { fault = c.in-Err.fault; set_up = up.done clean s shows; ends = c.exit_of_setup.ensures; unread = refl; unwritten = refl });
+      piped = λ clean s shows.
+          (let done = up.done clean s shows in
+          (inl (record { fault = c.in-Err.fault; set_up = done.0; ends = c.exit_of_setup.ensures; unread = refl; unwritten = refl }), done.1));
       spends = inl (refl, refl);
       told = up.told;
       keeps = up.keeps;
@@ -41,17 +40,13 @@ returns g c =
     record {
       piped = λ clean s shows.
           (let up = c.in_default.ensures.done (c.serve_traced.ensures.keeps.clean clean) s shows in
-          let first = trail limits s (map Order up.done.commands) (up.done.told ++ []) in
-          inr (record {
-            between = between;
-            set_up = alone_leaving g.S.Store limits s entry lines between (Trails k0 k1) (λ text. Unit {0}) (λ text it. tt) (length lines) up;
-            result = c.serve_traced.result;
-            serves = leaving g.S.Store limits up.done.after between now (Trails k1 k2) (λ text. Trails k0 k2 (first ++ text)) (λ text it. trails_both k0 k1 k2 first text up.done.leaves it)
-                (read c.args.r.now.inner) (read c.serve_traced.new.r.inner) (held c.args.w.now.inner) (held c.serve_traced.new.w.inner) c.serve_traced.result
-                (subst (λ l. ServesTraced g.S.Store l up.done.after between now k1 k2 (read c.args.r.now.inner) (read c.serve_traced.new.r.inner) (held c.args.w.now.inner) (held c.serve_traced.new.w.inner) c.serve_traced.result)
-                c.setup_traced.ensures.keeps.limits (c.serve_traced.ensures.serves clean up.done.after up.done.ran.shows));
-            ends = c.exit_of_stream.ensures;
-          }));
+          let after = up.0.done.after in
+          let (xs, run, served, tells) = subst
+              (λ l. ServesTraced g.S.Store l after between now k1 k2 (read c.args.r.now.inner) (read c.serve_traced.new.r.inner) (held c.args.w.now.inner) (held c.serve_traced.new.w.inner) c.serve_traced.result)
+              c.setup_traced.ensures.keeps.limits (c.serve_traced.ensures.serves clean after up.0.done.ran.shows) in (
+            inr (record { between = between; set_up = up.0; result = c.serve_traced.result; serves = (xs, run, served); ends = c.exit_of_stream.ensures }),
+            trails_both k0 k1 k2 (trail_done g.S.Store limits s entry lines between (length lines) [] up.0.done) (trail_in limits after xs) up.1 tells,
+          ));
       spends = search rules;
       told = trailed_on k0 k1 k2 c.setup_traced.ensures.told c.serve_traced.ensures.told;
       keeps = goes_on c.setup_traced.ensures.keeps c.serve_traced.ensures.keeps;

@@ -2,12 +2,12 @@ use Rattle.std.proofs.Common.{◌≡◌, ◌<◌, ◌∙◌, ap, arith, length, 
 use Rattle.std.proofs.lemmas.List.{length-map}
 use Rattle.std.proofs.lemmas.Result.{err_from_is_err_and}
 use Rattle.reg_service.specs.Registries.{limits_of, tables_of}
-use Rattle.reg_http.specs.Trails.{Trails, tail}
+use Rattle.reg_http.specs.Trails.{tail}
 use Rattle.reg_http.proofs.Exchanged.{EventsGoOn}
 use Rattle.reg_http.proofs.Kept.{goes_on, still}
 use Rattle.reg_http.proofs.Trails.{trailed_nothing, trailed_on}
 use Rattle.reg_cli_pipe.specs.Lines.{lines_in}
-use Rattle.reg_cli_pipe.specs.Setups.{HasDoneAlone}
+use Rattle.reg_cli_pipe.specs.Setups.{HasDoneTold}
 use Rattle.reg_cli_pipe.proofs.LineFacts.{line_at}
 use Rattle.reg_cli_pipe.proofs.Orders.{begun, failed, obeyed}
 use Rattle.reg_cli_pipe.proofs.setup.setup_traced.Goals as goal
@@ -46,7 +46,9 @@ returns-in_err-lines g c =
     let p = err_from_is_err_and c.from_residual.result c.from_residual.ensures.1 in
     let k0 = tail (g.T.Write.contents c.args.trail.now.end.inner) c.args.trail.now in
     rw (p.1, p.2) (record {
-      done = λ clean s shows. (0, omega arith, begun g.S.Store (limits_of c.args.registry.now) s (tables_of c.args.registry.now) (lines_in c.args.setup.now) k0 c.history_law.ensures.begins shows);
+      done = λ clean s shows.
+          let none = begun g.S.Store (limits_of c.args.registry.now) s (tables_of c.args.registry.now) (lines_in c.args.setup.now) k0 c.history_law.ensures.begins shows in
+          ((0, omega arith, none.0), none.1);
       told = trailed_nothing k0;
       keeps = still c.requires.tables;
     })
@@ -81,7 +83,7 @@ returns g c =
     let count : length c.in_ok-lines.lines.items ≡ length lines = sym (length-map c.in_ok-lines.lines.items (λ l. l.now)) ∙ ap length c.in_ok-lines.ensures in
     record {
       done = λ clean s shows.
-          subst (HasDoneAlone g.S.Store (limits_of c.args.registry.now) s (tables_of c.args.registry.now) lines (tables_of c.loop-line.registry) (Trails k0 k1)) (omega (arith, count, c.deref-line-items.ensures.len, c.loop-line-test.false))
+          subst (HasDoneTold g.S.Store (limits_of c.args.registry.now) s (tables_of c.args.registry.now) lines (tables_of c.loop-line.registry) k0 k1) (omega (arith, count, c.deref-line-items.ensures.len, c.loop-line-test.false))
           (inv.held clean s shows);
       told = inv.told;
       keeps = inv.keeps;

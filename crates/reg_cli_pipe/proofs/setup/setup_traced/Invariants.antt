@@ -4,9 +4,9 @@ use Rattle.reg_tables.specs.Works.{shown}
 use Rattle.reg_service.specs.Answered.{Shows}
 use Rattle.reg_service.specs.Registries.{limits_of, tables_of}
 use Rattle.reg_http.specs.Answering.{GoesOn}
-use Rattle.reg_http.specs.Trails.{IsTrailed, Trails, tail}
+use Rattle.reg_http.specs.Trails.{IsTrailed, tail}
 use Rattle.reg_cli_pipe.specs.Lines.{lines_in}
-use Rattle.reg_cli_pipe.specs.Setups.{HasDoneAlone}
+use Rattle.reg_cli_pipe.specs.Setups.{HasDoneTold}
 use Rattle.reg_cli_pipe.proofs.setup.setup_traced.Given as goal
 
 -- the lines so far were done
@@ -15,5 +15,5 @@ invariant-loop-line g l = record {
   keeps : GoesOn g.S.Store l.fn.registry l.registry;
   told : IsTrailed (tail (g.T.Write.contents l.fn.trail.end.inner) l.fn.trail) (tail (g.T.Write.contents l.trail.end.inner) l.trail);
   held : HasCleanDisk (shown g.S.Store (tables_of l.registry)) → (s : model.Registry) → Shows s (shown g.S.Store (tables_of l.fn.registry))
-      → HasDoneAlone g.S.Store (limits_of l.fn.registry) s (tables_of l.fn.registry) (lines_in l.fn.setup) (tables_of l.registry) (Trails (tail (g.T.Write.contents l.fn.trail.end.inner) l.fn.trail) (tail (g.T.Write.contents l.trail.end.inner) l.trail)) l.line-index;
+      → HasDoneTold g.S.Store (limits_of l.fn.registry) s (tables_of l.fn.registry) (lines_in l.fn.setup) (tables_of l.registry) (tail (g.T.Write.contents l.fn.trail.end.inner) l.fn.trail) (tail (g.T.Write.contents l.trail.end.inner) l.trail) l.line-index;
 }

@@ -61,7 +61,7 @@ returns-in-Ok-None-clause-handed_back g c =
 
 pub returns-in-Ok-None-clause-begun : goal.returns-in-Ok-None-clause-begun
 returns-in-Ok-None-clause-begun g c =
-    if_ok c.bring_up.result (λ r b. record { limited = b.limited; unknown = b.unknown; goes_on = b.goes_on ∙ c.audit.ensures.open }) c.bring_up.ensures.begun
+    if_ok c.bring_up.result (λ r b. record { limited = b.limited; goes_on = b.goes_on ∙ c.audit.ensures.open }) c.bring_up.ensures.begun
 
 pub returns-in-Ok-None-clause-found : goal.returns-in-Ok-None-clause-found
 returns-in-Ok-None-clause-found g c = search rules

@@ -1,4 +1,4 @@
-use Rattle.std.proofs.Common.{◌≡◌, Option, rules, subst}
+use Rattle.std.proofs.Common.{◌≡◌, Option, subst}
 use Rattle.sqlite.specs.Effect.{Database}
 use Rattle.sqlite.specs.Tree.{Trees}
 use Rattle.reg_audit.specs.Checks.{IsFirst}
@@ -10,8 +10,7 @@ use Rattle.reg_tables_rows.specs.WholeRows.{AreAllRows}
 use Rattle.reg_tables_meaning.proofs.Results.{if_ok}
 use Rattle.reg_tables_meaning.specs.Upgrades.{AreBegun}
 use Rattle.reg_tables.specs.Works.{edition_in, shown}
-use Rattle.reg_service.specs.Registries.{limits_of, room_of, tables_of}
-use Rattle.reg_service.proofs.Rooms.{looked_known}
+use Rattle.reg_service.specs.Registries.{tables_of}
 use Rattle.reg_service.proofs.registry.Registry.audit.Goals as goal
 
 -- tables of schema 2 are checked as they are
@@ -30,11 +29,5 @@ returns-clause-sound g c clean =
     let db = (shown g.S.Store (tables_of c.args.self.now)).now.trees in
     if_ok c.audit.result (λ found first. c.opening_law.ensures.audit first.0 db first.1 found first.2) (returns-clause-found g c clean)
 
-pub returns-clause-looked : goal.returns-clause-looked
-returns-clause-looked g c = search rules
-
 pub returns-clause-tables : goal.returns-clause-tables
-returns-clause-tables g c =
-    let old = c.args.self.now in
-    let looked = returns-clause-looked g c in
-    record { tables = looked.tables; known = looked_known g.S.Store (limits_of old) (room_of old) (tables_of old) c.audit.new.tables looked c.requires.known }
+returns-clause-tables g c = c.audit.ensures.looked.tables

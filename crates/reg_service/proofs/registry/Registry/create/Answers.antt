@@ -33,10 +33,7 @@ returns-in-Ok g c =
     let made = c.in-Ok.ensures in
     record {
       made = record {
-        tables = record {
-          tables = record { ours = made.ours.0; second = made.second };
-          known = λ clean. record { registry = empty_at c.args.base.now; shows = empty_shown clean; has = tt };
-        };
+        tables = record { ours = made.ours.0; second = made.second };
         goes_on = made.ours.1;
         shows = empty_shown;
         alone = λ clean db l. let rest = (made.made clean).1 in

@@ -1,13 +1,9 @@
-use Rattle.reg_service.specs.Registries.{limits_of, room_of, tables_of}
+use Rattle.reg_service.specs.Registries.{tables_of}
 use Rattle.reg_service.proofs.Rests.{was_tried}
-use Rattle.reg_service.proofs.Rooms.{tried_known}
 use Rattle.reg_service.proofs.registry.Registry.has_stopped.Goals as goal
 
 pub returns-clause-tried : goal.returns-clause-tried
 returns-clause-tried g c = was_tried g.S.Store (tables_of c.args.self.now) c.are_answering.new.self c.requires.tables c.are_answering.ensures.tried
 
 pub returns-clause-tables : goal.returns-clause-tables
-returns-clause-tables g c =
-    let old = c.args.self.now in
-    let tried = returns-clause-tried g c in
-    record { tables = tried.tables; known = tried_known g.S.Store (limits_of old) (room_of old) (tables_of old) c.are_answering.new.self tried c.requires.known }
+returns-clause-tables g c = (returns-clause-tried g c).tables

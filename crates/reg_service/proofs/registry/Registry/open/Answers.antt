@@ -5,7 +5,7 @@ use Rattle.reg_tables_meaning.proofs.Results.{if_ok}
 use Rattle.reg_service.specs.Registries.{MayBeUpgraded}
 use Rattle.reg_service.specs.declared.opening.OpenFault.TheVariants.{BadBase, Damaged, Storage, UnknownSchema}
 use Rattle.reg_service.proofs.Faults.{apart}
-use Rattle.reg_service.proofs.Opened.{handed_last, if_refused, is_taken, opened_left, opened_same, opened_sound, opened_up, refused_damaged, refused_last, refused_left, refused_undone}
+use Rattle.reg_service.proofs.Opened.{handed_last, if_refused, is_taken, opened_left, opened_same, opened_sound, refused_damaged, refused_last, refused_left, refused_undone}
 use Rattle.reg_service.proofs.registry.Registry.open.Goals as goal
 
 pub returns-in-Ok : goal.returns-in-Ok
@@ -17,13 +17,12 @@ returns-in-Ok g c =
     let audited = c.edition_law.ensures.audit in
     let conn = c.args.conn in
     let tables = c.in-Ok.tables in
-    let sound = opened_sound g.S.Store conn tables k r same audited it.clean it.brought it.passed in
     record {
-      up_to_date = opened_up g.S.Store (state g.S.Store conn).now r it.up_to_date (if_ok r (λ r b. b.unknown) it.begun) sound;
+      up_to_date = it.up_to_date;
       goes_on = if_ok r (λ r b. b.goes_on ∙ c.in-Ok.ensures.ours.1) it.begun;
       limited = if_ok r (λ r b. b.limited) it.begun;
       same = opened_same g.S.Store conn tables k r same it.clean it.brought;
-      sound = sound;
+      sound = opened_sound g.S.Store conn tables k r same audited it.clean it.brought it.passed;
       left = opened_left g.S.Store conn tables k r same it.clean it.brought c.in-Ok.ensures.kept;
       unknown = if_refused r (λ e is clean unknown. absurd (is.0 unknown)) it.known;
       damaged = refused_damaged g.S.Store conn tables k r audited it.handed_back it.found;

@@ -8,14 +8,13 @@ use Rattle.reg_api_requests.specs.Contents.{path_in}
 use Rattle.reg_api_requests.specs.Requests.{request_of}
 use Rattle.reg_api_requests.specs.Views.{Request}
 use Rattle.reg_body.specs.Sent.{sink}
-use Rattle.reg_service.specs.Registries.{limits_of, room_of, tables_of}
+use Rattle.reg_service.specs.Registries.{limits_of, tables_of}
 use Rattle.reg_service.specs.Streamed.{IsStreamed}
-use Rattle.reg_service.proofs.Streams.{asks_path, no_versions, untouched_leaves, untouched_sent}
-use Rattle.reg_service.proofs.Rooms.{asked_knows, leaves_still}
+use Rattle.reg_service.proofs.Streams.{asks_path, untouched_leaves, untouched_sent}
 use Rattle.reg_service.proofs.registry.Registry.stream_index.Goals as goal
 
 pub stream_in-requires : goal.stream_in-requires
-stream_in-requires g c = record { tables = c.requires.tables.tables; room = c.requires.room }
+stream_in-requires g c = record { tables = c.requires.tables; room = c.requires.room }
 
 pub returns-in-Ok-clause-streams : goal.returns-in-Ok-clause-streams
 returns-in-Ok-clause-streams g c =
@@ -37,16 +36,7 @@ returns-in-Err-clause-streams g c clean s h =
 
 pub returns-in-Err-clause-leaves : goal.returns-in-Err-clause-leaves
 returns-in-Err-clause-leaves g c =
-    untouched_leaves g.S.Store c.args.close c.refuse.result c.args.writes _ _ (tables_of c.args.self.now) c.refuse.ensures.denies c.requires.tables.tables c.refuse.ensures.some
+    untouched_leaves g.S.Store c.args.close c.refuse.result c.args.writes _ _ (tables_of c.args.self.now) c.refuse.ensures.denies c.requires.tables c.refuse.ensures.some
 
 pub returns-in-Ok-clause-tables : goal.returns-in-Ok-clause-tables
-returns-in-Ok-clause-tables g c = record {
-  tables = c.stream_in.ensures.leaves.tables;
-  known = λ clean.
-      let old = c.args.self.now in
-      let limits = limits_of old in
-      let asks = request_of limits c.args.request.now in
-      let was = c.requires.tables.known (c.stream_in.ensures.leaves.clean clean) in
-      let it = returns-in-Ok-clause-streams g c clean was.registry was.shows in
-      asked_knows g.S.Store limits was.registry (room_of old) (tables_of old) c.stream_in.new.tables asks.digest asks.asked it.0 (leaves_still limits asks.asked was.registry (room_of old) (no_versions limits c.args.request.now.call c.requires.index) was.has) it.2;
-}
+returns-in-Ok-clause-tables g c = c.stream_in.ensures.leaves.tables

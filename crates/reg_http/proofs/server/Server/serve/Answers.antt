@@ -1,5 +1,0 @@
-use Rattle.reg_http.proofs.Kept.{untraced}
-use Rattle.reg_http.proofs.server.Server.serve.Goals as goal
-
-pub returns : goal.returns
-returns g c = untraced c.serve_traced.ensures
