@@ -47,5 +47,5 @@ pub mod VersionCounts
 pub mod VersionEntries
 pub mod Walking
 pub mod Withins
-mod Went
+mod Writings
 mod Yanks

@@ -1,61 +1,70 @@
--- What statements that only read leave, one after another.
-use Rattle.std.proofs.Common.{◌≡◌, arith, inl, inr, ◌∙◌, subst, Err, IsErr, Ok, Result}
-use Rattle.sqlite.specs.State.{State, IsUnchanged, HasCleanDisk, Survives}
+-- What statements that only read leave, one after another, and what they told of the rows before them.
+use Rattle.std.proofs.Common.{◌≡◌, ◌∙◌, inl, Err, IsErr, Ok, Result, ap, arith, subst}
+use Rattle.sqlite.specs.Effect.{Database}
+use Rattle.sqlite.specs.State.{State, HasCleanDisk, IsUnchanged, Survives}
+use Rattle.sqlite.specs.Tree.{Trees}
+use Rattle.sqlite.proofs.Callers.{unchanged_then}
 use Rattle.sqlite.proofs.StateLemmas.{survives_then}
+use Rattle.reg_tables_schema.specs.States.{IsReady}
 use Rattle.reg_tables_schema.specs.Statements.{IsReading}
 use Rattle.reg_tables_schema.specs.Steps.{LeavesSame}
-use Rattle.reg_tables_schema.specs.States.{Refuses}
+use Rattle.reg_tables_schema.proofs.Writing.{refuses_after}
+use Rattle.reg_tables_meaning.proofs.Results.{on_err, on_ok}
 
 pub same_then : (a b c : State) → IsUnchanged a b → IsUnchanged b c → IsUnchanged a c
-same_then a b c one two = (
-  record { was_open = one.0.was_open; is_open = two.0.is_open; now_is = two.0.now_is ∙ one.0.now_is; committed_is = two.0.committed_is ∙ one.0.committed_is; mode = two.0.mode ∙ one.0.mode },
-  record { changes = two.1.changes ∙ one.1.changes; last_rowid = two.1.last_rowid ∙ one.1.last_rowid },
-  two.2 ∙ one.2,
-)
+same_then = unchanged_then
 
-pub refuses_after : (a b c : State) → IsUnchanged a b → Refuses b c → Refuses a c
-refuses_after a b c one (inl same) = inl (same_then a b c one same)
-refuses_after a b c one (inr back) = inr (record {
-  was_open = λ _. one.0.was_open;
-  undone = λ still. ((back.undone still).0 ∙ one.0.committed_is, (back.undone still).1 ∙ one.0.committed_is);
-  autocommit = back.autocommit;
-  unmarked = back.unmarked;
-  counts = record { changes = back.counts.changes ∙ one.1.changes; last_rowid = back.counts.last_rowid ∙ one.1.last_rowid };
-})
-
--- where all is as it was, it is so whatever is answered
-pub same_whatever : {U F : Type 0} (a b : State) (q : Result U F) → (HasCleanDisk b → IsUnchanged a b) → Survives a b (λ _. ⊥) → LeavesSame a b q
+-- where nothing has changed, any answer may be given
+same_whatever : {U F : Type 0} (a b : State) (q : Result U F) → (HasCleanDisk b → IsUnchanged a b) → Survives a b (λ _. ⊥) → LeavesSame a b q
 same_whatever a b (Ok y) same survives = record { only = λ clean. (same clean, tt); survives = survives }
 same_whatever a b (Err e) same survives = record { only = λ clean. (tt, inl (same clean)); survives = survives }
 
--- one after another; then a failure, which leaves what the last one left
-pub keeps_then : {T U E F : Type 0} (a b c : State) (x : T) (r : Result U F) → LeavesSame {E = E} a b (Ok x) → LeavesSame b c r → LeavesSame a c r
-keeps_then a b c x (Ok y) one two = record {
-  only = λ clean. (same_then a b c (one.only (omega (arith, two.survives.clean, clean))).0 (two.only clean).0, tt);
-  survives = survives_then a b c (λ _. ⊥) (λ _. ⊥) (λ _. ⊥) (λ _ db none. none) (λ _ db none. none) one.survives two.survives;
-}
-keeps_then a b c x (Err e) one two = record {
-  only = λ clean. (tt, refuses_after a b c (one.only (omega (arith, two.survives.clean, clean))).0 (two.only clean).1);
+keeps_then : {T U E F : Type 0} (a b c : State) (x : T) (r : Result U F) → LeavesSame {E = E} a b (Ok x) → LeavesSame b c r → LeavesSame a c r
+keeps_then a b c x r one two = record {
+  only = λ clean.
+      let same : IsUnchanged a b = (one.only (omega (arith, two.survives.clean, clean))).0 in
+      (on_ok r (unchanged_then a b c same) (two.only clean).0, on_err r (refuses_after a b c same) (two.only clean).1);
   survives = survives_then a b c (λ _. ⊥) (λ _. ⊥) (λ _. ⊥) (λ _ db none. none) (λ _ db none. none) one.survives two.survives;
 }
 
-pub keeps_failed : {T U E F : Type 0} (a b : State) (e : E) (f : F) → LeavesSame {T = T} a b (Err e) → LeavesSame {T = U} a b (Err f)
-keeps_failed a b e f h = record { only = λ clean. (tt, (h.only clean).1); survives = h.survives }
+-- what a reading leaves
+pub left : {T E : Type 0} {a b : State} {r : Result T E} {tells : T → Type 0} → IsReading a b r tells → LeavesSame a b r
+left h = record { only = h.only; survives = h.survives }
 
-pub keeps_so_far : {T U E F : Type 0} (a b : State) (x : T) (r : Result U F) → LeavesSame {E = E} a b (Ok x) → LeavesSame a b r
-keeps_so_far a b x r h = same_whatever a b r (λ clean. (h.only clean).0) h.survives
+-- one after another
+infixl 20 ◌⨾◌
+pub ◌⨾◌ : {T U E F : Type 0} {a b c : State} {x : T} {r : Result U F} → LeavesSame {E = E} a b (Ok x) → LeavesSame b c r → LeavesSame a c r
+one ⨾ two = keeps_then _ _ _ _ _ one two
 
--- the same where the answer is told by an equation
-pub ends_same : {T U E F : Type 0} (a b : State) (r : Result T E) (x : T) (y : U) → r ≡ Ok x → LeavesSame a b r → LeavesSame {E = F} a b (Ok y)
-ends_same a b r x y is h = same_whatever a b (Ok y) (λ clean. (rw is at (h.only clean)).0) h.survives
+-- whatever is answered once they are done
+pub so_far : {T U E F : Type 0} {a b : State} {x : T} {r : Result U F} → LeavesSame {E = E} a b (Ok x) → LeavesSame a b r
+so_far h = same_whatever _ _ _ (λ clean. (h.only clean).0) h.survives
 
-pub fails_same : {T U E F : Type 0} (a b : State) (r : Result T E) (e : E) (q : Result U F) → IsErr q → r ≡ Err e → LeavesSame a b r → LeavesSame a b q
-fails_same a b r e (Ok y) stops is h = absurd cc
-fails_same a b r e (Err f) stops is h = record { only = λ clean. (tt, (rw is at (h.only clean)).1); survives = h.survives }
+-- a fault of the last one is passed on
+pub fails : {T U E F : Type 0} {a b : State} {e : E} (r : Result U F) → IsErr r → LeavesSame {T = T} a b (Err e) → LeavesSame a b r
+fails (Ok y) is h = absurd cc
+fails (Err f) is h = record { only = λ clean. (tt, (h.only clean).1); survives = h.survives }
 
-pub then_same : {T U E F : Type 0} (a b c : State) (r : Result T E) (x : T) (q : Result U F) → r ≡ Ok x → LeavesSame a b r → LeavesSame b c q → LeavesSame a c q
-then_same a b c r x q is one two = keeps_then a b c x q (subst (LeavesSame a b) is one) two
+-- a disk that is clean after them was so before
+pub was_clean : {T E : Type 0} {a b : State} {r : Result T E} → LeavesSame a b r → HasCleanDisk b → HasCleanDisk a
+was_clean h clean = omega (arith, clean, h.survives.clean)
 
--- a statement that reads leaves all the same
-pub reads_same : {T E : Type 0} {P : T → Type 0} (a b : State) (r : Result T E) → IsReading a b r P → LeavesSame a b r
-reads_same a b r h = record { only = h.only; survives = h.survives }
+-- what they left is what was there
+pub same_now : {T E : Type 0} {a b : State} {x : T} → LeavesSame {E = E} a b (Ok x) → HasCleanDisk b → b.now ≡ a.now
+same_now h clean = (h.only clean).0.0.now_is
+
+-- what is true of the rows after them was so before
+pub true_before : {T E : Type 0} {a b : State} {x : T} (P : Trees → Type 0) → LeavesSame {E = E} a b (Ok x) → HasCleanDisk b → P b.now.trees → P a.now.trees
+true_before P h clean is = subst (λ (db : Database). P db.trees) (same_now h clean) is
+
+-- what one of them told of its rows
+pub told_before : {T U E F : Type 0} {a b c : State} {x : T} {r : Result U F} (P : Trees → Type 0) → LeavesSame {E = E} a b (Ok x) → LeavesSame b c r → HasCleanDisk c
+    → (HasCleanDisk c → P b.now.trees) → P a.now.trees
+told_before P before now clean told = true_before P before (was_clean now clean) (told clean)
+
+-- what the next one asks
+pub still_ready : {T E : Type 0} {a b : State} {x : T} → LeavesSame {E = E} a b (Ok x) → IsReady a → IsReady b
+still_ready h ready clean =
+    let same = (h.only clean).0.0 in
+    let was = ready (was_clean h clean) in
+    record { schema_is = ap (λ (d : Database). d.schema) same.now_is ∙ was.schema_is; is_open = same.is_open; inside = same.mode ∙ was.inside }

@@ -1,11 +1,10 @@
--- What statements of a transaction leave, one after another.
-use Rattle.std.proofs.Common.{◌≡◌, inl, inr, ℕ, List, Ok, Err, Result, OnOk, OnErr, IsErr, arith, refl, ap, ◌∙◌}
+-- What a statement of a transaction leaves within it, and what more of them do.
+use Rattle.std.proofs.Common.{inl, inr, ℕ, List, refl, ap, ◌∙◌}
 use Rattle.sqlite.specs.Order.{Row}
-use Rattle.sqlite.specs.State.{State, HasCleanDisk, IsUnchanged, Survives}
-use Rattle.sqlite.proofs.StateLemmas.{survives_then}
+use Rattle.sqlite.specs.State.{State, HasCleanDisk, IsUnchanged}
 use Rattle.reg_tables_schema.specs.States.{IsInside, Refuses}
 use Rattle.reg_tables_schema.specs.Changes.{Becomes, Touches}
-use Rattle.reg_tables_schema.specs.Steps.{Fails, LeavesWithin, Within}
+use Rattle.reg_tables_schema.specs.Steps.{Fails, Within}
 
 pub become_within : (old new : State) (tree : ℕ) (rows : List Row) → HasCleanDisk old → IsInside old → Becomes tree rows old new → Within old new
 become_within old new tree rows clean at b = record {
@@ -34,20 +33,17 @@ unchanged_within old new clean at same = record {
 pub within_then : (a b c : State) → Within a b → Within b c → Within a c
 within_then a b c first next = record { was_open = first.was_open; committed = next.committed ∙ first.committed; inside = next.inside; back = λ e o. next.back e (first.back e o) }
 
+pub within_fails : (old new : State) → Within old new → Fails old new
+within_fails old new w = record { kept = record { was_open = λ _. w.was_open; committed = λ _. w.committed }; back = w.back }
+
 pub fails_after : (a b c : State) → Within a b → Fails b c → Fails a c
 fails_after a b c first next = record {
   kept = record { was_open = λ _. first.was_open; committed = λ still. next.kept.committed still ∙ first.committed };
   back = λ e o. next.back e (first.back e o);
 }
 
-pub unchanged_fails : (old new : State) → HasCleanDisk old → IsInside old → IsUnchanged old new → Fails old new
-unchanged_fails old new clean at same = record {
-  kept = record { was_open = λ _. at.is_open; committed = λ _. same.0.committed_is };
-  back = (unchanged_within old new clean at same).back;
-}
-
 pub refused_fails : (old new : State) → HasCleanDisk old → IsInside old → Refuses old new → Fails old new
-refused_fails old new clean at (inl same) = unchanged_fails old new clean at same
+refused_fails old new clean at (inl same) = within_fails old new (unchanged_within old new clean at same)
 refused_fails old new clean at (inr rolled) = record {
   kept = record { was_open = rolled.was_open; committed = λ still. (rolled.undone still).1 };
   back = λ e o _ still. ap (λ d. d.schema) (rolled.undone still).1 ∙ o clean at.is_open;
@@ -55,35 +51,3 @@ refused_fails old new clean at (inr rolled) = record {
 
 pub itself_within : (old : State) → HasCleanDisk old → IsInside old → Within old old
 itself_within old clean at = record { was_open = at.is_open; committed = refl; inside = at; back = λ e o. o }
-
-pub within_fails : (old new : State) → Within old new → Fails old new
-within_fails old new w = record { kept = record { was_open = λ _. w.was_open; committed = λ _. w.committed }; back = w.back }
-
-pub itself_fails : (old : State) → HasCleanDisk old → IsInside old → Fails old old
-itself_fails old clean at = within_fails old old (itself_within old clean at)
-
-no_ok : {T E : Type 0} (q : Result T E) (A : Type 0) → IsErr q → OnOk q A
-no_ok (Ok x) A h = absurd cc
-no_ok (Err e) A h = tt
-
-on_err : {T E : Type 0} (q : Result T E) {A : Type 0} → A → OnErr q A
-on_err (Ok x) h = tt
-on_err (Err e) h = h
-
--- some statements went well, and the next one failed
-pub then_fails : {T E : Type 0} (a b c : State) (q : Result T E) → IsErr q → (HasCleanDisk b → Within a b) → Survives a b (λ _. ⊥) → (HasCleanDisk c → Fails b c) → Survives b c (λ _. ⊥)
-    → LeavesWithin a c q
-then_fails a b c q is first s fails t = record {
-  within = λ _. no_ok q _ is;
-  fails = λ clean. on_err q (fails_after a b c (first (omega (arith, clean, t.clean))) (fails clean));
-  survives = survives_then a b c _ _ _ (λ _ _ h. h) (λ _ _ h. h) s t;
-}
-
--- some statements went well, and so did the next ones
-pub then_leaves : {U F : Type 0} (a b c : State) (q : Result U F) (y : U) → q ≡ Ok y → (HasCleanDisk b → Within a b) → Survives a b (λ _. ⊥)
-    → (HasCleanDisk c → Within b c) → Survives b c (λ _. ⊥) → LeavesWithin a c q
-then_leaves a b c q y is first s next t = record {
-  within = λ clean. rw is (within_then a b c (first (omega (arith, clean, t.clean))) (next clean));
-  fails = λ clean. rw is tt;
-  survives = survives_then a b c _ _ _ (λ _ _ h. h) (λ _ _ h. h) s t;
-}

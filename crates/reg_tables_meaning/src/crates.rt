@@ -93,7 +93,6 @@ fn insert_version<S: Alter>(
 }
 
 /// Adds a crate with its first version and its owner, and returns its id.
-#[tactic(auto, using(crate::proofs::Withins::fails_after, crate::proofs::Withins::within_then))]
 pub fn add_new<S: Alter>(
     conn: &mut Connection<S>,
     name: &CrateName,
@@ -175,7 +174,6 @@ pub fn has_other_mark<S: Alter>(
 
 /// Yanks or unyanks a version of a crate that is there. If it has this mark already, nothing is
 /// written.
-#[tactic(auto, using(crate::proofs::Withins::refused_fails, crate::proofs::Withins::touch_within))]
 pub fn mark<S: Alter>(
     conn: &mut Connection<S>,
     crate_id: u32,

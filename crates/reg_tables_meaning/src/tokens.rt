@@ -151,7 +151,6 @@ fn find_row<S: Alter>(conn: &mut Connection<S>, digest: &Digest) -> Result<Optio
 }
 
 /// The token with this digest, with its account and its scopes.
-#[tactic(auto, using(crate::proofs::Readings::same_then, crate::proofs::Readings::refuses_after))]
 pub fn find<S: Alter>(
     alloc: Global,
     conn: &mut Connection<S>,
@@ -192,7 +191,6 @@ pub fn is_live<S: Alter>(conn: &mut Connection<S>, id: u32) -> Result<Option<boo
 }
 
 /// All tokens by id, and all scopes by token and place.
-#[tactic(auto, using(crate::proofs::Readings::same_then, crate::proofs::Readings::refuses_after))]
 pub fn list_both<S: Alter>(alloc: Global, conn: &mut Connection<S>) -> Result<TokenLists>
     requires { IsReady (state S.Store conn.old) }
     ensures tokens { Told S.Store conn.new result

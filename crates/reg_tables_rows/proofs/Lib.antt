@@ -1,4 +1,3 @@
 mod ArchiveIds
 mod OwnIds
 mod OwnRowids
-mod Tables

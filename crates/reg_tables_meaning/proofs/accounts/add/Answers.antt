@@ -1,5 +1,3 @@
-use Rattle.reg_tables_meaning.proofs.Additions.{adds_within}
-use Rattle.reg_tables_meaning.proofs.Went.{ends, stops_here, stops_read, stops_write, went_read, went_write}
 use Rattle.std.proofs.Common.{◌≡◌, true, arith, refl, sym, subst}
 use Rattle.std.specs.Option.{option_map}
 use Rattle.sqlite.specs.Effect.{Database}
@@ -11,6 +9,7 @@ use Rattle.reg_tables_meaning.specs.Stands.{row_of_account}
 use Rattle.reg_tables_meaning.proofs.NextId.{next_id}
 use Rattle.reg_tables_meaning.proofs.Standing.{adds_account}
 use Rattle.reg_tables_meaning.proofs.Stays.{with_accounts}
+use Rattle.reg_tables_meaning.proofs.Writings.{◌⨾◌, adds, ends, fails, reads}
 use Rattle.reg_tables_meaning.proofs.accounts.add.Goals as goal
 
 pub returns-clause-stands : goal.returns-clause-stands
@@ -29,17 +28,13 @@ returns-clause-stands g c clean ids s h =
     (id, with_accounts ids s mid.now.trees new.now.trees (subst (λ (d : Database). StandsBy ids s d.trees) (sym same) stands) _ adds.becomes.others after)
 
 pub returns-in_err-last-clause-leaves : goal.returns-in_err-last-clause-leaves
-returns-in_err-last-clause-leaves g c = stops_read (state g.S.Store c.args.conn.now) (state g.S.Store c.last_id.new.conn) c.last_id.result _ c.from_residual.result c.from_residual.ensures.0 c.requires c.in_err-last.was c.last_id.ensures
+returns-in_err-last-clause-leaves g c = fails _ c.from_residual.ensures.0 (reads c.in_err-last.ensures) c.requires
 
 pub returns-in_err-id-clause-leaves : goal.returns-in_err-id-clause-leaves
-returns-in_err-id-clause-leaves g c = stops_here (state g.S.Store c.args.conn.now) (state g.S.Store c.last_id.new.conn) c.from_residual-in_err-id.result c.from_residual-in_err-id.ensures.0 (went_read (state g.S.Store c.args.conn.now) (state g.S.Store c.last_id.new.conn) c.last_id.result _ c.requires c.in_ok-last.was c.last_id.ensures)
+returns-in_err-id-clause-leaves g c = ends (reads c.in_ok-last.ensures) c.requires
 
 pub returns-in_err-insert-clause-leaves : goal.returns-in_err-insert-clause-leaves
-returns-in_err-insert-clause-leaves g c =
-    stops_write (state g.S.Store c.args.conn.now) (state g.S.Store c.last_id.new.conn) (state g.S.Store c.insert.new.conn) c.insert.result _ c.from_residual-in_err-insert.result c.from_residual-in_err-insert.ensures.0
-    (went_read (state g.S.Store c.args.conn.now) (state g.S.Store c.last_id.new.conn) c.last_id.result _ c.requires c.in_ok-last.was c.last_id.ensures) c.in_err-insert.was c.insert.ensures
+returns-in_err-insert-clause-leaves g c = fails _ c.from_residual-in_err-insert.ensures.0 (reads c.in_ok-last.ensures ⨾ adds c.in_err-insert.ensures) c.requires
 
 pub returns-clause-leaves : goal.returns-clause-leaves
-returns-clause-leaves g c =
-    ends (state g.S.Store c.args.conn.now) (state g.S.Store c.insert.new.conn) c.in_ok-id.id
-    (went_write (state g.S.Store c.args.conn.now) (state g.S.Store c.last_id.new.conn) (state g.S.Store c.insert.new.conn) c.insert.result _ (went_read (state g.S.Store c.args.conn.now) (state g.S.Store c.last_id.new.conn) c.last_id.result _ c.requires c.in_ok-last.was c.last_id.ensures) c.in_ok-insert.was (λ clean at adds. adds_within (state g.S.Store c.last_id.new.conn) (state g.S.Store c.insert.new.conn) 1 _ clean at adds) c.insert.ensures)
+returns-clause-leaves g c = ends (reads c.in_ok-last.ensures ⨾ adds c.in_ok-insert.ensures) c.requires

@@ -4,23 +4,15 @@ use Rattle.sqlite.specs.State.{HasCleanDisk}
 use Rattle.sqlite.specs.Held.{state}
 use Rattle.reg_model.specs.Registry.{Publication}
 use Rattle.reg_tables_meaning.proofs.CratesStand.{adds_first}
-use Rattle.reg_tables_meaning.proofs.Went.{ends, stops_more, went_more, went_none}
+use Rattle.reg_tables_meaning.proofs.Writings.{◌⨾◌, ends, fails, steps}
 use Rattle.reg_tables_meaning.proofs.crates.add_new.Goals as goal
 
 pub returns-in_err-first-clause-leaves : goal.returns-in_err-first-clause-leaves
-returns-in_err-first-clause-leaves g c =
-    let old = state g.S.Store c.args.conn.now in
-    let mid = state g.S.Store c.insert_crate.new.conn in
-    stops_more old mid (state g.S.Store c.insert_version.new.conn) c.insert_version.result _ c.from_residual-in_err-first.result c.from_residual-in_err-first.ensures.0
-    (went_more old old mid c.insert_crate.result _ (went_none old c.requires) c.in_ok-id.was c.insert_crate.ensures.leaves) c.in_err-first.was c.insert_version.ensures.leaves
+returns-in_err-first-clause-leaves g c = fails _ c.from_residual-in_err-first.ensures.0 (steps c.in_ok-id.ensures.leaves ⨾ steps c.in_err-first.ensures.leaves) c.requires
 
 pub returns-in_err-insert-clause-leaves : goal.returns-in_err-insert-clause-leaves
 returns-in_err-insert-clause-leaves g c =
-    let old = state g.S.Store c.args.conn.now in
-    let mid = state g.S.Store c.insert_crate.new.conn in
-    let added = state g.S.Store c.insert_version.new.conn in
-    stops_more old added (state g.S.Store c.insert.new.conn) c.insert.result _ c.from_residual-in_err-insert.result c.from_residual-in_err-insert.ensures.0
-    (went_more old mid added c.insert_version.result _ (went_more old old mid c.insert_crate.result _ (went_none old c.requires) c.in_ok-id.was c.insert_crate.ensures.leaves) c.in_ok-first.was c.insert_version.ensures.leaves) c.in_err-insert.was c.insert.ensures.leaves
+    fails _ c.from_residual-in_err-insert.ensures.0 (steps c.in_ok-id.ensures.leaves ⨾ steps c.in_ok-first.ensures.leaves ⨾ steps c.in_err-insert.ensures.leaves) c.requires
 
 pub returns-clause-stands : goal.returns-clause-stands
 returns-clause-stands g c clean ids s h fresh =
@@ -35,11 +27,4 @@ returns-clause-stands g c clean ids s h fresh =
     adds_first ids s c.in_ok-id.id c.args.owner c.in_ok-first.first p old.now.trees mid.now.trees added.now.trees new.now.trees h fresh (c.in_ok-id.ensures.added clean_mid) (c.in_ok-first.ensures.added clean_added c.args.name.now) (c.in_ok-insert.ensures.added clean)
 
 pub returns-clause-leaves : goal.returns-clause-leaves
-returns-clause-leaves g c =
-    let old = state g.S.Store c.args.conn.now in
-    let mid = state g.S.Store c.insert_crate.new.conn in
-    let added = state g.S.Store c.insert_version.new.conn in
-    let new = state g.S.Store c.insert.new.conn in
-    let first = went_more old old mid c.insert_crate.result _ (went_none old c.requires) c.in_ok-id.was c.insert_crate.ensures.leaves in
-    let next = went_more old mid added c.insert_version.result _ first c.in_ok-first.was c.insert_version.ensures.leaves in
-    ends old new c.in_ok-id.id (went_more old added new c.insert.result _ next c.in_ok-insert.was c.insert.ensures.leaves)
+returns-clause-leaves g c = ends (steps c.in_ok-id.ensures.leaves ⨾ steps c.in_ok-first.ensures.leaves ⨾ steps c.in_ok-insert.ensures.leaves) c.requires

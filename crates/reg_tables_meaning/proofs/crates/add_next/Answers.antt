@@ -4,15 +4,11 @@ use Rattle.sqlite.specs.State.{HasCleanDisk}
 use Rattle.sqlite.specs.Held.{state}
 use Rattle.reg_model.specs.Registry.{Publication}
 use Rattle.reg_tables_meaning.proofs.CratesStand.{adds_next}
-use Rattle.reg_tables_meaning.proofs.Went.{ends, stops_more, went_more, went_none}
+use Rattle.reg_tables_meaning.proofs.Writings.{◌⨾◌, ends, fails, steps}
 use Rattle.reg_tables_meaning.proofs.crates.add_next.Goals as goal
 
 pub returns-in_err-push-clause-leaves : goal.returns-in_err-push-clause-leaves
-returns-in_err-push-clause-leaves g c =
-    let old = state g.S.Store c.args.conn.now in
-    let added = state g.S.Store c.insert_version.new.conn in
-    stops_more old added (state g.S.Store c.push.new.conn) c.push.result _ c.from_residual-in_err-push.result c.from_residual-in_err-push.ensures.0
-    (went_more old old added c.insert_version.result _ (went_none old c.requires) c.in_ok-id.was c.insert_version.ensures.leaves) c.in_err-push.was c.push.ensures.leaves
+returns-in_err-push-clause-leaves g c = fails _ c.from_residual-in_err-push.ensures.0 (steps c.in_ok-id.ensures.leaves ⨾ steps c.in_err-push.ensures.leaves) c.requires
 
 pub returns-clause-stands : goal.returns-clause-stands
 returns-clause-stands g c clean ids s name h at fresh =
@@ -25,9 +21,4 @@ returns-clause-stands g c clean ids s name h at fresh =
     adds_next ids s c.args.crate_id c.in_ok-id.id p old.now.trees added.now.trees new.now.trees h at fresh (c.in_ok-id.ensures.added clean_added name) (c.in_ok-push.ensures.pushed clean)
 
 pub returns-clause-leaves : goal.returns-clause-leaves
-returns-clause-leaves g c =
-    let old = state g.S.Store c.args.conn.now in
-    let added = state g.S.Store c.insert_version.new.conn in
-    let new = state g.S.Store c.push.new.conn in
-    ends old new tt
-    (went_more old added new c.push.result _ (went_more old old added c.insert_version.result _ (went_none old c.requires) c.in_ok-id.was c.insert_version.ensures.leaves) c.in_ok-push.was c.push.ensures.leaves)
+returns-clause-leaves g c = ends (steps c.in_ok-id.ensures.leaves ⨾ steps c.in_ok-push.ensures.leaves) c.requires

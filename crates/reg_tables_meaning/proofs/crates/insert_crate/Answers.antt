@@ -1,9 +1,8 @@
-use Rattle.reg_tables_meaning.proofs.Went.{ends, stops_here, stops_read, stops_write, went_read, went_write}
 use Rattle.std.proofs.Common.{◌≡◌, arith, ◌∙◌}
 use Rattle.sqlite.specs.State.{HasCleanDisk}
 use Rattle.sqlite.specs.Held.{state}
-use Rattle.reg_tables_meaning.proofs.Additions.{adds_within, crate_added}
-use Rattle.reg_tables_meaning.proofs.Withins.{become_within}
+use Rattle.reg_tables_meaning.proofs.Additions.{crate_added}
+use Rattle.reg_tables_meaning.proofs.Writings.{◌⨾◌, adds, adds_columns, ends, fails, reads}
 use Rattle.reg_tables_meaning.proofs.crates.insert_crate.Goals as goal
 
 pub returns-clause-added : goal.returns-clause-added
@@ -18,23 +17,17 @@ returns-clause-added g c clean =
     crate_added old read mid new same c.in_ok-last.last c.in_ok-id.id c.args.name.now c.args.owner (c.in_ok-last.ensures.told clean_read) c.in_ok-id.ensures _ _ (c.as_str.ensures ∙ c.canon.ensures) c.as_str-2.ensures.value (c.in_ok-insert.ensures.changes clean_mid) (c.in_ok-insert-2.ensures.changes clean)
 
 pub returns-in_err-last-clause-leaves : goal.returns-in_err-last-clause-leaves
-returns-in_err-last-clause-leaves g c = stops_read (state g.S.Store c.args.conn.now) (state g.S.Store c.last_id.new.conn) c.last_id.result _ c.from_residual.result c.from_residual.ensures.0 c.requires c.in_err-last.was c.last_id.ensures
+returns-in_err-last-clause-leaves g c = fails _ c.from_residual.ensures.0 (reads c.in_err-last.ensures) c.requires
 
 pub returns-in_err-id-clause-leaves : goal.returns-in_err-id-clause-leaves
-returns-in_err-id-clause-leaves g c = stops_here (state g.S.Store c.args.conn.now) (state g.S.Store c.last_id.new.conn) c.from_residual-in_err-id.result c.from_residual-in_err-id.ensures.0 (went_read (state g.S.Store c.args.conn.now) (state g.S.Store c.last_id.new.conn) c.last_id.result _ c.requires c.in_ok-last.was c.last_id.ensures)
+returns-in_err-id-clause-leaves g c = ends (reads c.in_ok-last.ensures) c.requires
 
 pub returns-in_err-insert-clause-leaves : goal.returns-in_err-insert-clause-leaves
-returns-in_err-insert-clause-leaves g c =
-    stops_write (state g.S.Store c.args.conn.now) (state g.S.Store c.last_id.new.conn) (state g.S.Store c.insert.new.conn) c.insert.result _ c.from_residual-in_err-insert.result c.from_residual-in_err-insert.ensures.0
-    (went_read (state g.S.Store c.args.conn.now) (state g.S.Store c.last_id.new.conn) c.last_id.result _ c.requires c.in_ok-last.was c.last_id.ensures) c.in_err-insert.was c.insert.ensures
+returns-in_err-insert-clause-leaves g c = fails _ c.from_residual-in_err-insert.ensures.0 (reads c.in_ok-last.ensures ⨾ adds c.in_err-insert.ensures) c.requires
 
 pub returns-in_err-insert-2-clause-leaves : goal.returns-in_err-insert-2-clause-leaves
 returns-in_err-insert-2-clause-leaves g c =
-    stops_write (state g.S.Store c.args.conn.now) (state g.S.Store c.insert.new.conn) (state g.S.Store c.insert-2.new.conn) c.insert-2.result _ c.from_residual-in_err-insert-2.result c.from_residual-in_err-insert-2.ensures.0
-    (went_write (state g.S.Store c.args.conn.now) (state g.S.Store c.last_id.new.conn) (state g.S.Store c.insert.new.conn) c.insert.result _ (went_read (state g.S.Store c.args.conn.now) (state g.S.Store c.last_id.new.conn) c.last_id.result _ c.requires c.in_ok-last.was c.last_id.ensures) c.in_ok-insert.was (λ clean at adds. adds_within (state g.S.Store c.last_id.new.conn) (state g.S.Store c.insert.new.conn) 7 _ clean at adds) c.insert.ensures) c.in_err-insert-2.was c.insert-2.ensures
+    fails _ c.from_residual-in_err-insert-2.ensures.0 (reads c.in_ok-last.ensures ⨾ adds c.in_ok-insert.ensures ⨾ adds_columns c.in_err-insert-2.ensures) c.requires
 
 pub returns-clause-leaves : goal.returns-clause-leaves
-returns-clause-leaves g c =
-    ends (state g.S.Store c.args.conn.now) (state g.S.Store c.insert-2.new.conn) c.in_ok-id.id
-    (went_write (state g.S.Store c.args.conn.now) (state g.S.Store c.insert.new.conn) (state g.S.Store c.insert-2.new.conn) c.insert-2.result _
-    (went_write (state g.S.Store c.args.conn.now) (state g.S.Store c.last_id.new.conn) (state g.S.Store c.insert.new.conn) c.insert.result _ (went_read (state g.S.Store c.args.conn.now) (state g.S.Store c.last_id.new.conn) c.last_id.result _ c.requires c.in_ok-last.was c.last_id.ensures) c.in_ok-insert.was (λ clean at adds. adds_within (state g.S.Store c.last_id.new.conn) (state g.S.Store c.insert.new.conn) 7 _ clean at adds) c.insert.ensures) c.in_ok-insert-2.was (λ clean at adds. become_within (state g.S.Store c.insert.new.conn) (state g.S.Store c.insert-2.new.conn) 9 _ clean at adds.1.becomes) c.insert-2.ensures)
+returns-clause-leaves g c = ends (reads c.in_ok-last.ensures ⨾ adds c.in_ok-insert.ensures ⨾ adds_columns c.in_ok-insert-2.ensures) c.requires

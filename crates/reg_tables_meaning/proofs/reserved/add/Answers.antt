@@ -1,5 +1,3 @@
-use Rattle.reg_tables_meaning.proofs.Withins.{become_within}
-use Rattle.reg_tables_meaning.proofs.Went.{ends, stops_read, stops_write, went_read, went_write}
 use Rattle.std.proofs.Common.{◌≡◌, arith, sym, subst, ◌∙◌}
 use Rattle.sqlite.specs.Effect.{Database}
 use Rattle.sqlite.specs.State.{HasCleanDisk}
@@ -7,6 +5,7 @@ use Rattle.sqlite.specs.Held.{state}
 use Rattle.reg_tables_meaning.specs.Stands.{StandsBy}
 use Rattle.reg_tables_meaning.proofs.ReservedChanges.{is_there, adds_reserved, stays_reserved}
 use Rattle.reg_tables_meaning.proofs.Stays.{with_reserved}
+use Rattle.reg_tables_meaning.proofs.Writings.{◌⨾◌, adds_columns, ends, fails, reads}
 use Rattle.reg_tables_meaning.proofs.reserved.add.Goals as goal
 
 pub returns-then-branch-clause-stands : goal.returns-then-branch-clause-stands
@@ -31,17 +30,13 @@ returns-clause-stands g c clean ids s h =
     with_reserved ids s mid.now.trees new.now.trees then _ added.1.becomes.others (adds_reserved s.reserved c.args.canon.now mid new then.reserved added)
 
 pub returns-in_err-is_there-clause-leaves : goal.returns-in_err-is_there-clause-leaves
-returns-in_err-is_there-clause-leaves g c = stops_read (state g.S.Store c.args.conn.now) (state g.S.Store c.is_there.new.conn) c.is_there.result _ c.from_residual.result c.from_residual.ensures.0 c.requires c.in_err-is_there.was c.is_there.ensures
+returns-in_err-is_there-clause-leaves g c = fails _ c.from_residual.ensures.0 (reads c.in_err-is_there.ensures) c.requires
 
 pub returns-then-branch-clause-leaves : goal.returns-then-branch-clause-leaves
-returns-then-branch-clause-leaves g c = ends (state g.S.Store c.args.conn.now) (state g.S.Store c.is_there.new.conn) tt (went_read (state g.S.Store c.args.conn.now) (state g.S.Store c.is_there.new.conn) c.is_there.result _ c.requires c.in_ok-is_there.was c.is_there.ensures)
+returns-then-branch-clause-leaves g c = ends (reads c.in_ok-is_there.ensures) c.requires
 
 pub returns-in_err-insert-clause-leaves : goal.returns-in_err-insert-clause-leaves
-returns-in_err-insert-clause-leaves g c =
-    stops_write (state g.S.Store c.args.conn.now) (state g.S.Store c.is_there.new.conn) (state g.S.Store c.insert.new.conn) c.insert.result _ c.from_residual-in_err-insert.result c.from_residual-in_err-insert.ensures.0
-    (went_read (state g.S.Store c.args.conn.now) (state g.S.Store c.is_there.new.conn) c.is_there.result _ c.requires c.in_ok-is_there.was c.is_there.ensures) c.in_err-insert.was c.insert.ensures
+returns-in_err-insert-clause-leaves g c = fails _ c.from_residual-in_err-insert.ensures.0 (reads c.in_ok-is_there.ensures ⨾ adds_columns c.in_err-insert.ensures) c.requires
 
 pub returns-clause-leaves : goal.returns-clause-leaves
-returns-clause-leaves g c =
-    ends (state g.S.Store c.args.conn.now) (state g.S.Store c.insert.new.conn) tt
-    (went_write (state g.S.Store c.args.conn.now) (state g.S.Store c.is_there.new.conn) (state g.S.Store c.insert.new.conn) c.insert.result _ (went_read (state g.S.Store c.args.conn.now) (state g.S.Store c.is_there.new.conn) c.is_there.result _ c.requires c.in_ok-is_there.was c.is_there.ensures) c.in_ok-insert.was (λ clean at adds. become_within (state g.S.Store c.is_there.new.conn) (state g.S.Store c.insert.new.conn) 14 _ clean at adds.1.becomes) c.insert.ensures)
+returns-clause-leaves g c = ends (reads c.in_ok-is_there.ensures ⨾ adds_columns c.in_ok-insert.ensures) c.requires

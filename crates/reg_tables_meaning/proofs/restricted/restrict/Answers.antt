@@ -9,8 +9,7 @@ use Rattle.sqlite.specs.Held.{state}
 use Rattle.reg_tables_meaning.specs.Stands.{Holds, StandsBy}
 use Rattle.reg_tables_meaning.proofs.MarkedStand.{added, again, no_crate}
 use Rattle.reg_tables_meaning.proofs.Stays.{marked_stay, with_restricted}
-use Rattle.reg_tables_meaning.proofs.Went.{ends, stops_read, stops_read_after, stops_write, went_read, went_read_after, went_write}
-use Rattle.reg_tables_meaning.proofs.Withins.{become_within}
+use Rattle.reg_tables_meaning.proofs.Writings.{◌⨾◌, adds, ends, fails, reads}
 use Rattle.reg_tables_meaning.proofs.restricted.restrict.Goals as goal
 
 pub returns-then-not-is_crate-clause-stands : goal.returns-then-not-is_crate-clause-stands
@@ -52,29 +51,24 @@ returns-clause-stands g c clean ids s h =
     with_restricted ids s two.now.trees new.now.trees then.stands _ put.becomes.others (marked_stay ids.crates _ _ (new.now.trees 17) put.becomes.rows_are pairs)
 
 pub returns-in_err-is_crate-clause-leaves : goal.returns-in_err-is_crate-clause-leaves
-returns-in_err-is_crate-clause-leaves g c = stops_read (state g.S.Store c.args.conn.now) (state g.S.Store c.has_id.new.conn) c.has_id.result _ c.from_residual.result c.from_residual.ensures.0 c.requires c.in_err-is_crate.was c.has_id.ensures
+returns-in_err-is_crate-clause-leaves g c = fails _ c.from_residual.ensures.0 (reads c.in_err-is_crate.ensures) c.requires
 
 pub returns-in_err-is_restricted-clause-leaves : goal.returns-in_err-is_restricted-clause-leaves
-returns-in_err-is_restricted-clause-leaves g c = stops_read_after (state g.S.Store c.args.conn.now) (state g.S.Store c.has_id.new.conn) (state g.S.Store c.is_there.new.conn) c.is_there.result _ c.from_residual-in_err-is_restricted.result c.from_residual-in_err-is_restricted.ensures.0 (went_read (state g.S.Store c.args.conn.now) (state g.S.Store c.has_id.new.conn) c.has_id.result _ c.requires c.in_ok-is_crate.was c.has_id.ensures) c.in_err-is_restricted.was c.is_there.ensures
+returns-in_err-is_restricted-clause-leaves g c =
+    fails _ c.from_residual-in_err-is_restricted.ensures.0 (reads c.in_ok-is_crate.ensures ⨾ reads c.in_err-is_restricted.ensures) c.requires
 
 pub returns-in_err-insert-clause-leaves : goal.returns-in_err-insert-clause-leaves
-returns-in_err-insert-clause-leaves g c = stops_write (state g.S.Store c.args.conn.now) (state g.S.Store c.is_there.new.conn) (state g.S.Store c.insert.new.conn) c.insert.result _ c.from_residual-in_err-insert.result c.from_residual-in_err-insert.ensures.0 (went_read_after (state g.S.Store c.args.conn.now) (state g.S.Store c.has_id.new.conn) (state g.S.Store c.is_there.new.conn) c.is_there.result _ (went_read (state g.S.Store c.args.conn.now) (state g.S.Store c.has_id.new.conn) c.has_id.result _ c.requires c.in_ok-is_crate.was c.has_id.ensures) c.in_ok-is_restricted.was c.is_there.ensures) c.in_err-insert.was c.insert.ensures
+returns-in_err-insert-clause-leaves g c =
+    fails _ c.from_residual-in_err-insert.ensures.0 (reads c.in_ok-is_crate.ensures ⨾ reads c.in_ok-is_restricted.ensures ⨾ adds c.in_err-insert.ensures) c.requires
 
 pub returns-clause-leaves : goal.returns-clause-leaves
-returns-clause-leaves g c = ends (state g.S.Store c.args.conn.now) (state g.S.Store c.insert.new.conn) tt (went_write (state g.S.Store c.args.conn.now) (state g.S.Store c.is_there.new.conn) (state g.S.Store c.insert.new.conn) c.insert.result _ (went_read_after (state g.S.Store c.args.conn.now) (state g.S.Store c.has_id.new.conn) (state g.S.Store c.is_there.new.conn) c.is_there.result _ (went_read (state g.S.Store c.args.conn.now) (state g.S.Store c.has_id.new.conn) c.has_id.result _ c.requires c.in_ok-is_crate.was c.has_id.ensures) c.in_ok-is_restricted.was c.is_there.ensures) c.in_ok-insert.was (λ clean at adds. become_within (state g.S.Store c.is_there.new.conn) (state g.S.Store c.insert.new.conn) 17 _ clean at adds.becomes) c.insert.ensures)
+returns-clause-leaves g c = ends (reads c.in_ok-is_crate.ensures ⨾ reads c.in_ok-is_restricted.ensures ⨾ adds c.in_ok-insert.ensures) c.requires
 
 pub returns-then-not-is_crate-clause-leaves : goal.returns-then-not-is_crate-clause-leaves
-returns-then-not-is_crate-clause-leaves g c =
-    let old = state g.S.Store c.args.conn.now in
-    let new = state g.S.Store c.has_id.new.conn in
-    ends old new tt (went_read old new c.has_id.result _ c.requires c.in_ok-is_crate.was c.has_id.ensures)
+returns-then-not-is_crate-clause-leaves g c = ends (reads c.in_ok-is_crate.ensures) c.requires
 
 pub returns-then-is_restricted-clause-leaves : goal.returns-then-is_restricted-clause-leaves
-returns-then-is_restricted-clause-leaves g c =
-    let old = state g.S.Store c.args.conn.now in
-    let mid = state g.S.Store c.has_id.new.conn in
-    let new = state g.S.Store c.is_there.new.conn in
-    ends old new tt (went_read_after old mid new c.is_there.result _ (went_read old mid c.has_id.result _ c.requires c.in_ok-is_crate.was c.has_id.ensures) c.in_ok-is_restricted.was c.is_there.ensures)
+returns-then-is_restricted-clause-leaves g c = ends (reads c.in_ok-is_crate.ensures ⨾ reads c.in_ok-is_restricted.ensures) c.requires
 
 pub returns-in_err-is_crate-clause-stands : goal.returns-in_err-is_crate-clause-stands
 returns-in_err-is_crate-clause-stands g c clean = IfOk-from_err _ _ c.from_residual.ensures.0

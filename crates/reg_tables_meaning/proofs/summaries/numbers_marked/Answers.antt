@@ -1,13 +1,11 @@
-use Rattle.std.proofs.Common.{◌≡◌, ◌+◌, true, length, not, sym, ap, subst, ◌∙◌, arith}
-use Rattle.std.proofs.lemmas.Result.{err_from_is_err_and}
+use Rattle.std.proofs.Common.{◌≡◌, ◌+◌, true, length, not, sym, ap, subst, ◌∙◌}
 use Rattle.sqlite.specs.Effect.{Database}
 use Rattle.sqlite.specs.Held.{state}
-use Rattle.sqlite.specs.State.{HasCleanDisk}
 use Rattle.reg_line.specs.File.{end_of}
 use Rattle.reg_tables_meaning.specs.Stands.{StandCrates}
 use Rattle.reg_tables_meaning.specs.Summaries.{ShownMark, highest_of, length_of, mark_shown, shown_mark}
 use Rattle.reg_tables_meaning.specs.SummaryChanges.{HasVersion, IsHigherMarked}
-use Rattle.reg_tables_meaning.proofs.Readings.{keeps_failed, keeps_so_far, keeps_then}
+use Rattle.reg_tables_meaning.proofs.Readings.{◌⨾◌, fails, same_now, so_far, was_clean}
 use Rattle.reg_tables_meaning.proofs.Results.{if_ok}
 use Rattle.reg_tables_meaning.proofs.SummaryMarked.{highest_is_marked, its_row, length_is_marked}
 use Rattle.reg_tables_meaning.proofs.SummaryRows.{version_at}
@@ -17,25 +15,21 @@ use Rattle.reg_tables_meaning.proofs.summaries.numbers_marked.Goals as goal
 
 pub returns-then-now-kept-clause-told : goal.returns-then-now-kept-clause-told
 returns-then-now-kept-clause-told g c clean =
-    let old = state g.S.Store c.args.conn.now in
-    let one = state g.S.Store c.find_kept.new.conn in
-    let two = state g.S.Store c.version_at.new.conn in
-    let clean_two : HasCleanDisk two = omega (arith, clean, c.numbers_of.ensures.same.survives.clean) in
-    let clean_one : HasCleanDisk one = omega (arith, c.version_at.ensures.same.survives.clean) in
-    let same : two.now ≡ old.now = (c.in_ok-now.ensures.same.only clean_two).0.0.now_is ∙ (c.in_ok-kept.ensures.same.only clean_one).0.0.now_is in
-    if_ok c.numbers_of.result (λ n are ids ps before after v stands has e change. are ids ps after (subst (λ (db : Database). StandCrates ids ps after db.trees) (sym same) stands)) (c.numbers_of.ensures.told clean)
+    let same = same_now (c.in_ok-kept.ensures.same ⨾ c.in_ok-now.ensures.same) (was_clean c.numbers_of.ensures.same clean) in
+    if_ok c.numbers_of.result
+    (λ n are ids ps before after v stands has e change. are ids ps after (subst (λ (db : Database). StandCrates ids ps after db.trees) (sym same) stands))
+    (c.numbers_of.ensures.told clean)
 
 pub returns-clause-told : goal.returns-clause-told
 returns-clause-told g c clean ids ps before after v stands has e change =
     let old = state g.S.Store c.args.conn.now in
-    let one = state g.S.Store c.find_kept.new.conn in
     let two = state g.S.Store c.version_at.new.conn in
     let id = c.args.crate_id in
     let n = c.in_ok-highest.highest in
-    let clean_two : HasCleanDisk two = omega (arith, clean, c.highest_marked.ensures.same.survives.clean) in
-    let clean_one : HasCleanDisk one = omega (arith, c.version_at.ensures.same.survives.clean) in
-    let same_one : one.now ≡ old.now = (c.in_ok-kept.ensures.same.only clean_one).0.0.now_is in
-    let same : two.now ≡ old.now = (c.in_ok-now.ensures.same.only clean_two).0.0.now_is ∙ same_one in
+    let clean_two = was_clean c.in_ok-highest.ensures.same clean in
+    let clean_one = was_clean c.in_ok-now.ensures.same clean_two in
+    let same_one = same_now c.in_ok-kept.ensures.same clean_one in
+    let same = same_now (c.in_ok-kept.ensures.same ⨾ c.in_ok-now.ensures.same) clean_two in
     let kept = c.in_ok-kept.ensures.told clean_one (highest_of ids before id) (length_of ids before id) has in
     let mine : HasVersion (mark_shown after v) old.now.trees = version_at ids ps after old.now.trees stands v (its_row ids ps before after old.now.trees stands id v change) in
     let now : shown_mark c.in_ok-now.now ≡ mark_shown after v = c.in_ok-now.ensures.told clean_two (mark_shown after v) e (subst (λ (db : Database). HasVersion (mark_shown after v) db.trees) (sym same_one) mine) in
@@ -53,45 +47,16 @@ returns-clause-told g c clean ids ps before after v stands has e change =
     )
 
 pub returns-in_err-now-clause-same : goal.returns-in_err-now-clause-same
-returns-in_err-now-clause-same g c =
-    let p = err_from_is_err_and c.from_residual-in_err-now.result c.from_residual-in_err-now.ensures.1 in
-    let old = state g.S.Store c.args.conn.now in
-    let one = state g.S.Store c.find_kept.new.conn in
-    let two = state g.S.Store c.version_at.new.conn in
-    rw (p.1, p.2) (keeps_failed old two _ _ (keeps_then old one two _ _ c.in_ok-kept.ensures.same c.in_err-now.ensures.same))
+returns-in_err-now-clause-same g c = fails _ c.from_residual-in_err-now.ensures.0 (c.in_ok-kept.ensures.same ⨾ c.in_err-now.ensures.same)
 
 pub returns-then-now-kept-clause-same : goal.returns-then-now-kept-clause-same
-returns-then-now-kept-clause-same g c =
-    let old = state g.S.Store c.args.conn.now in
-    let one = state g.S.Store c.find_kept.new.conn in
-    let two = state g.S.Store c.version_at.new.conn in
-    let both = keeps_then old one two _ _ c.in_ok-kept.ensures.same c.in_ok-now.ensures.same in
-    keeps_then old two (state g.S.Store c.numbers_of.new.conn) _ _ both c.numbers_of.ensures.same
+returns-then-now-kept-clause-same g c = c.in_ok-kept.ensures.same ⨾ c.in_ok-now.ensures.same ⨾ c.numbers_of.ensures.same
 
 pub returns-in_err-highest-clause-same : goal.returns-in_err-highest-clause-same
-returns-in_err-highest-clause-same g c =
-    let p = err_from_is_err_and c.from_residual-in_err-highest.result c.from_residual-in_err-highest.ensures.1 in
-    let old = state g.S.Store c.args.conn.now in
-    let one = state g.S.Store c.find_kept.new.conn in
-    let two = state g.S.Store c.version_at.new.conn in
-    let three = state g.S.Store c.highest_marked.new.conn in
-    let both = keeps_then old one two _ _ c.in_ok-kept.ensures.same c.in_ok-now.ensures.same in
-    rw (p.1, p.2) (keeps_failed old three _ _ (keeps_then old two three _ _ both c.in_err-highest.ensures.same))
+returns-in_err-highest-clause-same g c = fails _ c.from_residual-in_err-highest.ensures.0 (c.in_ok-kept.ensures.same ⨾ c.in_ok-now.ensures.same ⨾ c.in_err-highest.ensures.same)
 
 pub returns-in_err-index_length-clause-same : goal.returns-in_err-index_length-clause-same
-returns-in_err-index_length-clause-same g c =
-    let old = state g.S.Store c.args.conn.now in
-    let one = state g.S.Store c.find_kept.new.conn in
-    let two = state g.S.Store c.version_at.new.conn in
-    let three = state g.S.Store c.highest_marked.new.conn in
-    let both = keeps_then old one two _ _ c.in_ok-kept.ensures.same c.in_ok-now.ensures.same in
-    keeps_so_far old three _ _ (keeps_then old two three _ _ both c.in_ok-highest.ensures.same)
+returns-in_err-index_length-clause-same g c = so_far (c.in_ok-kept.ensures.same ⨾ c.in_ok-now.ensures.same ⨾ c.in_ok-highest.ensures.same)
 
 pub returns-clause-same : goal.returns-clause-same
-returns-clause-same g c =
-    let old = state g.S.Store c.args.conn.now in
-    let one = state g.S.Store c.find_kept.new.conn in
-    let two = state g.S.Store c.version_at.new.conn in
-    let three = state g.S.Store c.highest_marked.new.conn in
-    let both = keeps_then old one two _ _ c.in_ok-kept.ensures.same c.in_ok-now.ensures.same in
-    keeps_so_far old three _ _ (keeps_then old two three _ _ both c.in_ok-highest.ensures.same)
+returns-clause-same g c = so_far (c.in_ok-kept.ensures.same ⨾ c.in_ok-now.ensures.same ⨾ c.in_ok-highest.ensures.same)

@@ -2,13 +2,11 @@ use Rattle.std.proofs.Common.{true, [], arith, refl}
 use Rattle.sqlite.specs.State.{HasCleanDisk}
 use Rattle.sqlite.specs.Held.{state}
 use Rattle.reg_model.specs.Registry.{Token}
-use Rattle.reg_tables_meaning.proofs.Withins.{then_fails, then_leaves}
+use Rattle.reg_tables_meaning.proofs.Writings.{◌⨾◌, ends, fails, steps}
 use Rattle.reg_tables_meaning.proofs.tokens.add.Goals as goal
 
 pub returns-in_err-add_scopes-clause-leaves : goal.returns-in_err-add_scopes-clause-leaves
-returns-in_err-add_scopes-clause-leaves g c =
-    then_fails (state g.S.Store c.args.conn.now) (state g.S.Store c.add_row.new.conn) (state g.S.Store c.add_scopes.new.conn) c.from_residual-in_err-add_scopes.result c.from_residual-in_err-add_scopes.ensures.0
-    c.in_ok-id.ensures.leaves.within c.in_ok-id.ensures.leaves.survives c.in_err-add_scopes.ensures.leaves.fails c.in_err-add_scopes.ensures.leaves.survives
+returns-in_err-add_scopes-clause-leaves g c = fails _ c.from_residual-in_err-add_scopes.ensures.0 (steps c.in_ok-id.ensures.leaves ⨾ steps c.in_err-add_scopes.ensures.leaves) c.requires
 
 pub returns-clause-stands : goal.returns-clause-stands
 returns-clause-stands g c clean ids s h =
@@ -19,6 +17,4 @@ returns-clause-stands g c clean ids s h =
     (added.0, c.in_ok-add_scopes.ensures.given clean ids s s.tokens t added.0 refl added.1)
 
 pub returns-clause-leaves : goal.returns-clause-leaves
-returns-clause-leaves g c =
-    then_leaves (state g.S.Store c.args.conn.now) (state g.S.Store c.add_row.new.conn) (state g.S.Store c.add_scopes.new.conn) _ c.in_ok-id.id refl
-    c.in_ok-id.ensures.leaves.within c.in_ok-id.ensures.leaves.survives c.in_ok-add_scopes.ensures.leaves.within c.in_ok-add_scopes.ensures.leaves.survives
+returns-clause-leaves g c = ends (steps c.in_ok-id.ensures.leaves ⨾ steps c.in_ok-add_scopes.ensures.leaves) c.requires

@@ -7,8 +7,8 @@ use Rattle.sqlite.proofs.StateLemmas.{survives_then}
 use Rattle.reg_tables_meaning.specs.Patterns.{GivesPatterns}
 use Rattle.reg_tables_schema.specs.Steps.{Within}
 use Rattle.reg_tables_meaning.proofs.TokenChanges.{gives_next, gives_all}
-use Rattle.reg_tables_meaning.proofs.Went.{ends, stops_here}
-use Rattle.reg_tables_meaning.proofs.Withins.{then_fails, within_then}
+use Rattle.reg_tables_meaning.proofs.Withins.{within_then}
+use Rattle.reg_tables_meaning.proofs.Writings.{◌⨾◌, ends, fails, steps, went}
 use Rattle.reg_tables_meaning.proofs.tokens.add_scopes.Goals as goal
 
 pub loop-index-preserved : goal.loop-index-preserved
@@ -26,15 +26,17 @@ loop-index-preserved g c =
 
 pub returns-in_err-add_scope-clause-leaves : goal.returns-in_err-add_scope-clause-leaves
 returns-in_err-add_scope-clause-leaves g c =
-    then_fails (state g.S.Store c.args.conn.now) (state g.S.Store c.loop-index.conn) (state g.S.Store c.add_scope.new.conn) c.from_residual-in_err-add_scope.result c.from_residual-in_err-add_scope.ensures.0
-    c.loop-index.invariant.1 c.loop-index.invariant.2 c.in_err-add_scope.ensures.leaves.fails c.in_err-add_scope.ensures.leaves.survives
+    let before = went (state g.S.Store c.args.conn.now) (state g.S.Store c.loop-index.conn) c.loop-index.invariant.1 c.loop-index.invariant.2 in
+    fails _ c.from_residual-in_err-add_scope.ensures.0 (before ⨾ steps c.in_err-add_scope.ensures.leaves) c.requires
 
 pub returns-clause-given : goal.returns-clause-given
 returns-clause-given g c clean =
     gives_all c.args.token c.args.patterns.now c.loop-index.index (state g.S.Store c.args.conn.now).now.trees (state g.S.Store c.loop-index.conn).now.trees c.loop-index-test.false (c.loop-index.invariant.0 clean)
 
 pub returns-in_err-place-clause-leaves : goal.returns-in_err-place-clause-leaves
-returns-in_err-place-clause-leaves g c = stops_here (state g.S.Store c.args.conn.now) (state g.S.Store c.loop-index.conn) c.from_residual.result c.from_residual.ensures.0 (record { within = c.loop-index.invariant.1; survives = c.loop-index.invariant.2 })
+returns-in_err-place-clause-leaves g c =
+    ends (went (state g.S.Store c.args.conn.now) (state g.S.Store c.loop-index.conn) c.loop-index.invariant.1 c.loop-index.invariant.2) c.requires
 
 pub returns-clause-leaves : goal.returns-clause-leaves
-returns-clause-leaves g c = ends (state g.S.Store c.args.conn.now) (state g.S.Store c.loop-index.conn) tt (record { within = c.loop-index.invariant.1; survives = c.loop-index.invariant.2 })
+returns-clause-leaves g c =
+    ends (went (state g.S.Store c.args.conn.now) (state g.S.Store c.loop-index.conn) c.loop-index.invariant.1 c.loop-index.invariant.2) c.requires

@@ -5,7 +5,7 @@ use Rattle.reg_tables_sql.specs.Crates.{AreCratesById}
 use Rattle.reg_tables_sql.specs.Owners.{AreOwnerships}
 use Rattle.reg_tables_sql.specs.Versions.{AreVersions}
 use Rattle.reg_tables_meaning.specs.Stands.{HaveOwnRowids}
-use Rattle.reg_tables_rows.proofs.Tables.{◌⨾◌, fails, left, so_far, still_ready, told_before, was_clean}
+use Rattle.reg_tables_meaning.proofs.Readings.{◌⨾◌, fails, left, so_far, still_ready, told_before, was_clean}
 use Rattle.reg_tables_rows.proofs.all_rows.crate_tables.Goals as goal
 
 pub returns-clause-obeys : goal.returns-clause-obeys

@@ -12,7 +12,7 @@ use Rattle.reg_tables_sql.specs.Restricted.{AreRestricted}
 use Rattle.reg_tables_sql.specs.Summaries.{AreSummaries}
 use Rattle.reg_tables_sql.specs.Versions.{AreVersions}
 use Rattle.reg_tables_rows.specs.WholeRows.{AreApart, HaveIds}
-use Rattle.reg_tables_rows.proofs.Tables.{◌⨾◌, fails, so_far, told_before, was_clean}
+use Rattle.reg_tables_meaning.proofs.Readings.{◌⨾◌, fails, so_far, told_before, was_clean}
 use Rattle.reg_tables_rows.proofs.all_rows.read.Goals as goal
 
 pub returns-clause-read : goal.returns-clause-read

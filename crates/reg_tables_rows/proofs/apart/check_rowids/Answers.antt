@@ -3,7 +3,7 @@ use Rattle.reg_tables_schema.specs.Places.{owners_tree, readers_tree, reserved_t
 use Rattle.reg_tables_schema.specs.Statements.{rows_in}
 use Rattle.reg_tables_sql.specs.Rowids.{AreRowids}
 use Rattle.reg_tables_meaning.specs.Stands.{HaveOwnRowids}
-use Rattle.reg_tables_rows.proofs.Tables.{◌⨾◌, fails, left, so_far, told_before, was_clean}
+use Rattle.reg_tables_meaning.proofs.Readings.{◌⨾◌, fails, left, so_far, told_before, was_clean}
 use Rattle.reg_tables_rows.proofs.apart.check_rowids.Goals as goal
 
 pub returns-clause-owners : goal.returns-clause-owners

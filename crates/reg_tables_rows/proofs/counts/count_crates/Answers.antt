@@ -2,7 +2,7 @@ use Rattle.std.proofs.Common.{◌∙◌}
 use Rattle.sqlite.specs.Held.{state}
 use Rattle.reg_tables_meaning.specs.Stands.{row_of_crate}
 use Rattle.reg_tables_meaning.proofs.CrateCounts.{count_is, crates_are}
-use Rattle.reg_tables_meaning.proofs.Readings.{same_whatever}
+use Rattle.reg_tables_meaning.proofs.Readings.{left, so_far}
 use Rattle.reg_tables_meaning.proofs.Results.{if_ok}
 use Rattle.reg_tables_rows.proofs.counts.count_crates.Goals as goal
 
@@ -12,4 +12,4 @@ returns-clause-counted g c clean =
     if_ok c.check_exact.result (λ n is ids s h. count_is row_of_crate ids.crates (db 7) n c.in_ok-n.n is h.stands.crates.crate_rows (c.in_ok-n.ensures.told clean) ∙ crates_are ids s.publications s.yanked db h.stands.crates) c.check_exact.ensures
 
 pub returns-clause-same : goal.returns-clause-same
-returns-clause-same g c = same_whatever (state g.S.Store c.args.conn.now) (state g.S.Store c.count.new.conn) c.check_exact.result (λ clean. (c.in_ok-n.ensures.only clean).0) c.count.ensures.survives
+returns-clause-same g c = so_far (left c.in_ok-n.ensures)

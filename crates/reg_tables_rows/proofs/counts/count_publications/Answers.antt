@@ -3,7 +3,7 @@ use Rattle.std.proofs.lemmas.List.{length-map}
 use Rattle.sqlite.specs.Held.{state}
 use Rattle.reg_tables_meaning.specs.Stands.{row_of_version}
 use Rattle.reg_tables_meaning.proofs.CrateCounts.{count_is}
-use Rattle.reg_tables_meaning.proofs.Readings.{same_whatever}
+use Rattle.reg_tables_meaning.proofs.Readings.{left, so_far}
 use Rattle.reg_tables_meaning.proofs.Results.{if_ok}
 use Rattle.reg_tables_rows.proofs.counts.count_publications.Goals as goal
 
@@ -15,4 +15,4 @@ returns-clause-counted g c clean =
     ∙ sym (length-map ids.versions (λ v. v.publication)) ∙ ap length h.stands.crates.published) c.check_exact.ensures
 
 pub returns-clause-same : goal.returns-clause-same
-returns-clause-same g c = same_whatever (state g.S.Store c.args.conn.now) (state g.S.Store c.count.new.conn) c.check_exact.result (λ clean. (c.in_ok-n.ensures.only clean).0) c.count.ensures.survives
+returns-clause-same g c = so_far (left c.in_ok-n.ensures)

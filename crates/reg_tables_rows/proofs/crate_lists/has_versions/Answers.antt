@@ -1,7 +1,7 @@
 use Rattle.std.proofs.Common.{ap, ◌∙◌}
 use Rattle.std.specs.Prelude.{nat_le}
 use Rattle.sqlite.specs.Held.{state}
-use Rattle.reg_tables_meaning.proofs.Readings.{same_whatever}
+use Rattle.reg_tables_meaning.proofs.Readings.{left, so_far}
 use Rattle.reg_tables_meaning.proofs.Results.{if_ok}
 use Rattle.reg_tables_meaning.proofs.VersionCounts.{versions_counted}
 use Rattle.reg_tables_rows.proofs.crate_lists.has_versions.Goals as goal
@@ -12,4 +12,4 @@ returns-clause-told g c clean =
     if_ok c.reaches.result (λ is e name ids s h at. e.0 ∙ ap (nat_le c.args.number) (versions_counted ids s db h.stands.crates c.args.crate_id name at c.in_ok-count.count e.1 (c.in_ok-count.ensures.told clean))) c.reaches.ensures
 
 pub returns-clause-same : goal.returns-clause-same
-returns-clause-same g c = same_whatever (state g.S.Store c.args.conn.now) (state g.S.Store c.count_of.new.conn) c.reaches.result (λ clean. (c.in_ok-count.ensures.only clean).0) c.count_of.ensures.survives
+returns-clause-same g c = so_far (left c.in_ok-count.ensures)

@@ -1,18 +1,23 @@
-use Rattle.std.proofs.Common.{rules, arith, ◌≡◌, [], ◌∷◌, refl, subst, ◌∙◌, ◌++◌, pos, map, Vec, Global}
+use Rattle.std.proofs.Common.{rules, arith, ◌≡◌, [], ◌∷◌, refl, subst, sym, ◌∙◌, ◌++◌, pos, map, Result, Vec, Global}
 use Rattle.std.proofs.lemmas.List.{map-append}
 use Rattle.std.proofs.lemmas.Result.{err_from_is_err_and}
 use Rattle.sqlite.specs.declared.error.Error.{Error}
 use Rattle.sqlite.specs.declared.error.Error.TheVariants.{InvalidQuery, SqliteFailure}
 use Rattle.sqlite.specs.declared.error.ErrorCode.TheVariants.{OutOfMemory}
 use Rattle.reg_tables_sql.specs.declared.versions.StemRow.{StemRow}
-use Rattle.sqlite.specs.Held.{state}
+use Rattle.sqlite.specs.Held.{Held, state}
 use Rattle.sqlite.specs.declared.types.Value.TheVariants.{Int}
 use Rattle.sqlite.specs.State.{HasCleanDisk}
 use Rattle.reg_tables_sql.specs.Stems.{columns_of_stem, entries_text}
+use Rattle.sqlite_trees.specs.declared.store.Store.{Ghosts}
+use Rattle.reg_tables_meaning.specs.Walks.{IsRead}
 use Rattle.reg_tables_meaning.proofs.IndexWalk.{entries_read}
 use Rattle.reg_tables_meaning.proofs.Walking.{walk_ends, walk_fails, walk_left, walked, walked_all, walked_as}
-use Rattle.reg_tables_rows.proofs.Tables.{read_there}
 use Rattle.reg_tables_rows.proofs.entries.index_entries.Goals as goal
+
+-- what reading left of a connection, of that connection by another name
+read_there : {S T E : Type 0} {r : Result T E} {new : Held S} (g : Ghosts S) (old now : Held S) → new ≡ now → IsRead g r old now → IsRead g r old new
+read_there {r = r} g old now is h = subst (IsRead g r old) (sym is) h
 
 pub returns-in_default-clause-entries : goal.returns-in_default-clause-entries
 returns-in_default-clause-entries g c clean =
