@@ -31,8 +31,8 @@ use Rattle.reg_service_commands.proofs.AnswerLines.{answer_told, refusal_told}
 use Rattle.reg_service_requests.proofs.ReplyLines.{reply_told}
 
 -- the line that was told, if one was wanted
-pub tells_line : (limits : Limits) (s : Registry) (e : Event) (traced : Bool) (db : Trees) (found : Option (String Global)) → TellsIf traced e db found → Are s db → traced ≡ true → IsPassed limits s e → line limits s e ≡ option_map string_bytes found
-tells_line limits s e true db found tells are t = tells are.0 s are.1 limits
+pub tells_line : (limits : Limits) (s : Registry) (e : Event) (traced : Bool) (db : Trees) (found : Option (String Global)) → TellsIf traced limits e db found → Are s db → traced ≡ true → IsPassed limits s e → line limits s e ≡ option_map string_bytes found
+tells_line limits s e true db found tells are t = tells are.0 s are.1
 tells_line limits s e false db found tells are t = absurd cc
 
 step_of : (limits : Limits) (s : Registry) (e : Event) (a : Answer) (t : Registry) → Step limits s e a t → (a ≡ (outcome limits s e).0) ⊎ (a ≡ no_room e)

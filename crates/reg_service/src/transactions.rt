@@ -17,22 +17,11 @@ use reg_line::Digest;
 use reg_model::AdminRefusal;
 use reg_model::laws::{denial_law, soundness_law};
 use reg_policy::{AdminCommand, Asked, Rule};
-use reg_service_commands::{OrderTold, order_told};
+use reg_service_commands::{OrderTold, order_told, refused};
 use reg_service_requests::{Acted, Served, ServedTold, serve_told, with_line};
 use reg_tables::Tables;
 use sqlite::Alter;
 use std::alloc::Global;
-
-/// A refusal, which has no line.
-fn refused(refusal: AdminRefusal) -> OrderTold
-    ensures answer { result.answer ≡ Err refusal }
-    ensures line { result.line ≡ None }
-{
-    OrderTold {
-        answer: Err(refusal),
-        line: None,
-    }
-}
 
 /// Runs an administrator's command in one transaction. If it is refused, nothing is kept. If
 /// `traced`, the line of what it changed is told.

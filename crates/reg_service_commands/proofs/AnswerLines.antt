@@ -55,7 +55,7 @@ module _ (limits : Limits) (s : Registry) (c : Command) where
   abbrev in_order : List Text → Text
   in_order words = line_of (with_asker s o words)
 
-  refused_untold : (g : AdminRefusal) → to_refused g ≡ (outcome limits s o).0 → line limits s o ≡ None
+  pub refused_untold : (g : AdminRefusal) → to_refused g ≡ (outcome limits s o).0 → line limits s o ≡ None
   unfolding line
   refused_untold g e = by (refused limits s c) refl
     where

@@ -11,7 +11,6 @@ mod LineWords
 mod Logins
 mod Named
 mod Ordered
-mod OrderGiven
 mod Outcomes
 mod Owning
 mod Reporting

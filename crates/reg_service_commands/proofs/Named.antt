@@ -25,8 +25,8 @@ no_pair_known name login db c is none ids s h =
     ap (λ b. first_ground ((refusal.G8, not b) ∷ (refusal.G3, is_none (id_of_login s login)) ∷ [])) (named_there name db c is ids s h).0
     ∙ ap (λ o. first_ground ((refusal.G3, is_none o) ∷ [])) (sym (none ids s h).0)
 
-pub pair_named : (name login : Text) (db : Trees) (c : Crate) (a : Account) → FindsNamed name db (Some c) → FindsAccount login db (Some a) → FindsPair name login db (Ok (c.id, a.id))
-pair_named name login db c a is found ids s h = (named_there name db c is ids s h, sym (found ids s h).0)
+pub pair_named : (name login : Text) (db : Trees) (c : Crate) (a : Account) → FindsNamed name db (Some c) → FindsAccount login db (Some a) → FindsPair name login db (Ok (c, a.id))
+pair_named name login db c a is found ids s h = (named_there name db c is ids s h, sym (found ids s h).0, is ids s h)
 
 pub paired : (s : Registry) (name login : Text) (account : ℕ) → (is_name name && exists s name) ≡ true → id_of_login s login ≡ Some account → first_ground ((refusal.G8, not (is_name name && exists s name)) ∷ (refusal.G3, is_none (id_of_login s login)) ∷ []) ≡ None
 paired s name login account is has = no_ground (is_name name && exists s name) (id_of_login s login) account is has

@@ -77,22 +77,22 @@ module _ (limits : Limits) (name login : Text) where
   unfolding refused
   remove_refused g db why = refused_so limits (ReaderRemove name login) g db (λ ids s h. why ids s h)
 
-  module _ (id account : ℕ) (old new : Trees) (finds : FindsPair name login old (Ok (id, account))) where
-    pub owner_done : AddsOwner id account old new → HasOutcome limits (Order (OwnerAdd name login)) Done old new
+  module _ (c : Crate) (account : ℕ) (old new : Trees) (finds : FindsPair name login old (Ok (c, account))) where
+    pub owner_done : AddsOwner c.id account old new → HasOutcome limits (Order (OwnerAdd name login)) Done old new
     unfolding refused
     owner_done adds = done_so limits (OwnerAdd name login) Done old new (λ ids s h.
         let it = finds ids s h in
         let (n, at, same) = it.0.1 in
         (paired s name login account it.0.0 it.1, refl, subst (λ t. Stands t new) (owner_added s name login n account _ at same it.1) (ids, adds ids s h)))
 
-    pub reader_done : AddsReader id account old new → HasOutcome limits (Order (ReaderAdd name login)) Done old new
+    pub reader_done : AddsReader c.id account old new → HasOutcome limits (Order (ReaderAdd name login)) Done old new
     unfolding refused
     reader_done adds = done_so limits (ReaderAdd name login) Done old new (λ ids s h.
         let it = finds ids s h in
         let (n, at, same) = it.0.1 in
         (paired s name login account it.0.0 it.1, refl, subst (λ t. Stands t new) (reader_added s name login n account _ at same it.1) (ids, adds ids s h)))
 
-    pub unreader_done : RemovesReader id account old new → HasOutcome limits (Order (ReaderRemove name login)) Done old new
+    pub unreader_done : RemovesReader c.id account old new → HasOutcome limits (Order (ReaderRemove name login)) Done old new
     unfolding refused
     unreader_done removes = done_so limits (ReaderRemove name login) Done old new (λ ids s h.
         let it = finds ids s h in

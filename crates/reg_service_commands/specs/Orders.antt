@@ -20,11 +20,12 @@ use Rattle.reg_model.specs.Registry.{Registry, Text, id_of_login, token_of}
 use Rattle.reg_model.specs.Steps.{Outcome, outcome, unless_refused}
 use Rattle.reg_policy.specs.declared.event.AdminReply.{AdminReply}
 use Rattle.reg_policy.specs.Events.{reply_of}
+use Rattle.reg_tables_sql.specs.declared.crates.Crate.{Crate}
 use Rattle.reg_tables_meaning.specs.Calls.{Tells}
 use Rattle.reg_tables_meaning.specs.Stands.{Holds, Ids, Stands}
 use Rattle.reg_tables.specs.declared.work.StoreFault.{StoreFault}
 use Rattle.reg_tables.specs.declared.work.Work.{Work}
-use Rattle.reg_service_steps.specs.Named.{IsNamed}
+use Rattle.reg_service_steps.specs.Named.{IsNamed, IsSpelledBy}
 use Rattle.reg_tables.specs.Calling.{Runs}
 
 -- the answer is the event's, and the rows are those of the state after it
@@ -38,14 +39,7 @@ HasOutcome limits e a old new =
 abbrev pub Reply : Type 0
 Reply = Result AdminReply AdminRefusal
 
--- the command is done or refused, under these limits
-abbrev pub ObeysUnder : {S : Type 0} → Limits → Ghosts S → Command → Result Reply StoreFault
-    → Work S → Work S → Type 0
-ObeysUnder limits g c r old new =
-    Runs g old new r (λ before after reply.
-    HasOutcome limits (Order c) (reply_of reply) before after)
-
--- it is so under any
+-- the command is done or refused, under any limits
 abbrev pub Obeys : {S : Type 0} → Ghosts S → Command → Result Reply StoreFault → Work S → Work S
     → Type 0
 Obeys g c r old new = Runs g old new r (λ before after reply.
@@ -69,12 +63,13 @@ reading false n login = ReaderRemove n login
 abbrev pub first_ground : List (AdminRefusal × Bool) → Option AdminRefusal
 first_ground grounds = option_map (λ g. g.0) (find (λ g. g.1) grounds)
 
--- the ids of the crate that a text names and of the account with a login, or why there are none
-abbrev pub FindsPair : Text → Text → Trees → Result (ℕ × ℕ) AdminRefusal → Type 0
+-- the crate that a text names and the id of the account with a login, or why there are none
+abbrev pub FindsPair : Text → Text → Trees → Result (Crate × ℕ) AdminRefusal → Type 0
 FindsPair name login db (Err g) =
     Tells (λ ids s. first_ground (no_crate s name ∷ no_login s login ∷ []) ≡ Some g) db
 FindsPair name login db (Ok it) =
-    Tells (λ ids s. IsNamed ids s name it.0 × (id_of_login s login ≡ Some it.1)) db
+    Tells (λ ids s. IsNamed ids s name it.0.id × (id_of_login s login ≡ Some it.1)
+    × IsSpelledBy ids s name it.0) db
 
 -- why an account with this login can't be added, if there is a reason
 abbrev pub account_refusal : Limits → Text → Registry → Option AdminRefusal

@@ -1,6 +1,6 @@
 //! Commands on accounts.
 
-ghost use Rattle.std.specs.Prelude.{◌≡◌, ◌&&◌, false, length, nat_le};
+ghost use Rattle.std.specs.Prelude.{◌≡◌, ◌∷◌, ◌&&◌, codes, false, length, nat_le, string_bytes};
 ghost use Rattle.std.specs.Option.{option_map};
 ghost use Rattle.reg_names.specs.Logins.{is_login};
 ghost use Rattle.reg_model.specs.Events.Command.{UserAdd};
@@ -8,31 +8,50 @@ ghost use Rattle.reg_model.specs.Refusals.{may_name as may_name_text};
 ghost use Rattle.reg_tables.specs.Works.{IsAtWork, has_failed};
 ghost use Rattle.reg_tables.specs.Calling.{Asks};
 ghost use Rattle.reg_tables_meaning.specs.Calls.{Tells};
-ghost use Rattle.reg_service_commands.specs.Orders.{Obeys, ObeysUnder, account_refusal, enabling};
+ghost use Rattle.reg_model.specs.Trail.{name_words};
+ghost use Rattle.reg_service_steps.specs.Telling.{line_if};
+ghost use Rattle.reg_service_commands.specs.Orders.{account_refusal, enabling};
+ghost use Rattle.reg_service_commands.specs.Telling.{ObeysTold, ObeysToldUnder, enabled_word};
 
 use crate::finding::refused_if;
-use crate::told::Answer;
+use crate::lines::new_user_line;
+use crate::told::{OrderTold, done_of, refused};
 use reg_body::Limits;
 use reg_model::AdminRefusal;
 use reg_names::parse_login;
 use reg_policy::{AdminReply, may_name};
+use reg_service_steps::{differs, is_told, told_line};
 use reg_tables::{Result, Work};
 use sqlite::Alter;
+use std::alloc::Global;
+
+fn enabled_verb(enabled: bool) -> &'static str
+    ensures { result.now ≡ enabled_word enabled }
+{
+    if enabled {
+        "user-enable"
+    } else {
+        "user-disable"
+    }
+}
 
 /// Enables or disables an account.
 pub(crate) fn set_enabled<S: Alter>(
+    alloc: Global,
     work: &mut Work<'_, S>,
     login: &str,
     enabled: bool,
-) -> Result<Answer>
+    traced: bool,
+) -> Result<OrderTold>
     requires { IsAtWork S.Store work.old }
-    ensures { Obeys S.Store (enabling enabled login.now) result work.old work.new }
+    ensures { ObeysTold traced S.Store (enabling enabled login.now) result work.old work.new }
 {
     let Some(account) = work.account_by_login(login)? else {
-        return Ok(Err(AdminRefusal::G3));
+        return Ok(refused(AdminRefusal::G3));
     };
     work.set_enabled(account.id, enabled)?;
-    Ok(Ok(AdminReply::Done))
+    let told = is_told(traced, differs(account.enabled, enabled));
+    done_of(alloc, work, told, enabled_verb(enabled), login)
 }
 
 /// Whether an account may have this login and this name.
@@ -71,24 +90,50 @@ fn refuses_account<S: Alter>(
     Ok(refused_if(AdminRefusal::G7, full))
 }
 
+/// The line of a new account, if it is to be told.
+fn tell_account<S: Alter>(
+    alloc: Global,
+    work: &mut Work<'_, S>,
+    told: bool,
+    login: &str,
+    name: Option<&str>,
+) -> Result<Option<String>>
+    requires at_work { IsAtWork S.Store work.old }
+    requires goes_on { has_failed work.old ≡ false }
+    ensures { Asks S.Store work.old work.new result (λ db line. option_map string_bytes line
+        ≡ line_if told (codes "-" ∷ codes "admin" ∷ codes "user-add" ∷ login.now
+        ∷ name_words (option_map (λ n. n.now) name.entry))) }
+{
+    if !told {
+        return Ok(None);
+    }
+    told_line(work, new_user_line(alloc, login, name))
+}
+
 /// Adds an enabled account.
 pub(crate) fn add_account<S: Alter>(
+    alloc: Global,
     work: &mut Work<'_, S>,
     limits: &Limits,
     login: &str,
     name: Option<&str>,
-) -> Result<Answer>
+    traced: bool,
+) -> Result<OrderTold>
     requires at_work { IsAtWork S.Store work.old }
     requires goes_on { has_failed work.old ≡ false }
-    ensures { ObeysUnder limits.now S.Store
+    ensures { ObeysToldUnder traced limits.now S.Store
         (UserAdd login.now (option_map (λ n. n.now) name.entry)) result work.old work.new }
 {
     if !is_account(login, name) {
-        return Ok(Err(AdminRefusal::G1));
+        return Ok(refused(AdminRefusal::G1));
     }
     if let Some(refusal) = refuses_account(work, limits, login)? {
-        return Ok(Err(refusal));
+        return Ok(refused(refusal));
     }
     work.add_account(login, name)?;
-    Ok(Ok(AdminReply::Done))
+    let line = tell_account(alloc, work, traced, login, name)?;
+    Ok(OrderTold {
+        answer: Ok(AdminReply::Done),
+        line,
+    })
 }

@@ -3,76 +3,108 @@
 ghost use Rattle.std.specs.Prelude.{◌≡◌, false};
 ghost use Rattle.reg_model.specs.Events.Command.{OwnerAdd, ReaderAdd, ReaderRemove};
 ghost use Rattle.reg_tables.specs.Works.{IsAtWork, has_failed};
-ghost use Rattle.reg_service_commands.specs.Orders.{Obeys, restricting};
+ghost use Rattle.reg_service_commands.specs.Orders.{restricting};
+ghost use Rattle.reg_service_commands.specs.Telling.{ObeysTold, restricted_word};
 
 use crate::finding::find_pair;
-use crate::told::Answer;
+use crate::told::{OrderTold, done_of, done_of_pair, refused};
 use reg_model::AdminRefusal;
-use reg_policy::AdminReply;
-use reg_service_steps::find_named;
+use reg_service_steps::{find_named, is_told};
 use reg_tables::{Result, Work};
 use sqlite::Alter;
+use std::alloc::Global;
+
+fn restricted_verb(restricted: bool) -> &'static str
+    ensures { result.now ≡ restricted_word restricted }
+{
+    if restricted {
+        "crate-restrict"
+    } else {
+        "crate-open"
+    }
+}
 
 /// Lets everyone see a crate, or only its owners and readers.
 pub(crate) fn set_restricted<S: Alter>(
+    alloc: Global,
     work: &mut Work<'_, S>,
     name: &str,
     restricted: bool,
-) -> Result<Answer>
+    traced: bool,
+) -> Result<OrderTold>
     requires at_work { IsAtWork S.Store work.old }
     requires goes_on { has_failed work.old ≡ false }
-    ensures { Obeys S.Store (restricting restricted name.now) result work.old work.new }
+    ensures { ObeysTold traced S.Store (restricting restricted name.now)
+        result work.old work.new }
 {
     let Some(named) = find_named(work, name)? else {
-        return Ok(Err(AdminRefusal::G8));
+        return Ok(refused(AdminRefusal::G8));
     };
-    work.set_restricted(named.id, restricted)?;
-    Ok(Ok(AdminReply::Done))
+    let changed = work.set_restricted(named.id, restricted)?;
+    let told = is_told(traced, changed);
+    let verb = restricted_verb(restricted);
+    done_of(alloc, work, told, verb, &named.name)
 }
 
 /// Makes an account, enabled or not, an owner of a crate.
-pub(crate) fn add_owner<S: Alter>(work: &mut Work<'_, S>, name: &str, login: &str) -> Result<Answer>
+pub(crate) fn add_owner<S: Alter>(
+    alloc: Global,
+    work: &mut Work<'_, S>,
+    name: &str,
+    login: &str,
+    traced: bool,
+) -> Result<OrderTold>
     requires at_work { IsAtWork S.Store work.old }
     requires goes_on { has_failed work.old ≡ false }
-    ensures { Obeys S.Store (OwnerAdd name.now login.now) result work.old work.new }
+    ensures { ObeysTold traced S.Store (OwnerAdd name.now login.now) result work.old work.new }
 {
-    match find_pair(work, name, login)? {
-        Ok((id, account)) => work.add_owner(id, account)?,
-        Err(refusal) => return Ok(Err(refusal)),
-    }
-    Ok(Ok(AdminReply::Done))
+    let (named, account) = match find_pair(work, name, login)? {
+        Ok(pair) => pair,
+        Err(refusal) => return Ok(refused(refusal)),
+    };
+    let added = work.add_owner(named.id, account)?;
+    let told = is_told(traced, added);
+    done_of_pair(alloc, work, told, "owner-add", &named.name, login)
 }
 
 /// Makes an account a reader of a crate.
 pub(crate) fn add_reader<S: Alter>(
+    alloc: Global,
     work: &mut Work<'_, S>,
     name: &str,
     login: &str,
-) -> Result<Answer>
+    traced: bool,
+) -> Result<OrderTold>
     requires at_work { IsAtWork S.Store work.old }
     requires goes_on { has_failed work.old ≡ false }
-    ensures { Obeys S.Store (ReaderAdd name.now login.now) result work.old work.new }
+    ensures { ObeysTold traced S.Store (ReaderAdd name.now login.now) result work.old work.new }
 {
-    match find_pair(work, name, login)? {
-        Ok((id, account)) => work.add_reader(id, account)?,
-        Err(refusal) => return Ok(Err(refusal)),
-    }
-    Ok(Ok(AdminReply::Done))
+    let (named, account) = match find_pair(work, name, login)? {
+        Ok(pair) => pair,
+        Err(refusal) => return Ok(refused(refusal)),
+    };
+    let added = work.add_reader(named.id, account)?;
+    let told = is_told(traced, added);
+    done_of_pair(alloc, work, told, "reader-add", &named.name, login)
 }
 
 /// Removes an account from a crate's readers.
 pub(crate) fn remove_reader<S: Alter>(
+    alloc: Global,
     work: &mut Work<'_, S>,
     name: &str,
     login: &str,
-) -> Result<Answer>
+    traced: bool,
+) -> Result<OrderTold>
     requires at_work { IsAtWork S.Store work.old }
     requires goes_on { has_failed work.old ≡ false }
-    ensures { Obeys S.Store (ReaderRemove name.now login.now) result work.old work.new }
+    ensures { ObeysTold traced S.Store (ReaderRemove name.now login.now) result work.old work.new }
 {
-    match find_pair(work, name, login)? {
-        Ok((id, account)) => work.remove_reader(id, account)?,
-        Err(refusal) => return Ok(Err(refusal)),
-    }
-    Ok(Ok(AdminReply::Done))
+    let (named, account) = match find_pair(work, name, login)? {
+        Ok(pair) => pair,
+        Err(refusal) => return Ok(refused(refusal)),
+    };
+    let removed = work.remove_reader(named.id, account)?;
+    let told = is_told(traced, removed);
+    done_of_pair(alloc, work, told, "reader-remove", &named.name, login)
 }

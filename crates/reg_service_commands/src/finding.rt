@@ -7,15 +7,15 @@ ghost use Rattle.reg_service_commands.specs.Orders.{FindsPair, first_ground};
 
 use reg_model::AdminRefusal;
 use reg_service_steps::find_named;
-use reg_tables::{Result, Work};
+use reg_tables::{Crate, Result, Work};
 use sqlite::Alter;
 
-/// The ids of the crate with this name and the account with this login, or why not.
+/// The crate with this name and the id of the account with this login, or why not.
 pub(crate) fn find_pair<S: Alter>(
     work: &mut Work<'_, S>,
     name: &str,
     login: &str,
-) -> Result<Result<(u32, u32), AdminRefusal>>
+) -> Result<Result<(Crate, u32), AdminRefusal>>
     requires at_work { IsAtWork S.Store work.old }
     requires goes_on { has_failed work.old ≡ false }
     ensures { Asks S.Store work.old work.new result (FindsPair name.now login.now) }
@@ -24,7 +24,7 @@ pub(crate) fn find_pair<S: Alter>(
         return Ok(Err(AdminRefusal::G8));
     };
     match work.account_by_login(login)? {
-        Some(account) => Ok(Ok((named.id, account.id))),
+        Some(account) => Ok(Ok((named, account.id))),
         None => Ok(Err(AdminRefusal::G3)),
     }
 }

@@ -17,9 +17,9 @@ mod lines;
 mod names;
 mod orders;
 mod reports;
-mod telling;
 mod tokens;
 mod told;
 
 pub use exporting::export_all;
-pub use told::{Answer, OrderTold, order_told};
+pub use orders::order_told;
+pub use told::{Answer, OrderTold, refused};

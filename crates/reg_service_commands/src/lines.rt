@@ -1,32 +1,20 @@
 //! The lines of what commands change.
 
 ghost use Rattle.std.specs.Prelude.{◌≡◌, ◌∷◌, [], IfOk, codes, map, string_bytes};
-ghost use Rattle.std.specs.Fmt.{decimal};
 ghost use Rattle.std.specs.Option.{option_map};
 ghost use Rattle.reg_model.specs.Reports.{with_commas};
 ghost use Rattle.reg_model.specs.Trail.{line_of, name_words};
 
-use itoa::Buffer;
 use reg_names::Pattern;
 use reg_policy::WithCommas;
 use reg_service_steps::line_of;
 use std::alloc::{AllocError, Global};
 
-/// A change by the administrator, of one thing.
-fn admin_line(alloc: Global, verb: &str, of: &str) -> Result<String, AllocError>
+fn unnamed_line(alloc: Global, login: &str) -> Result<String, AllocError>
     ensures { IfOk result (λ line. string_bytes line ≡ line_of (codes "-" ∷ codes "admin"
-        ∷ verb.now ∷ of.now ∷ [])) }
+        ∷ codes "user-add" ∷ login.now ∷ [])) }
 {
-    line_of(alloc, &["-", "admin", verb, of])
-}
-
-/// A token that is revoked.
-pub fn revocation_line(alloc: Global, id: u32) -> Result<String, AllocError>
-    ensures { IfOk result (λ line. string_bytes line ≡ line_of (codes "-" ∷ codes "admin"
-        ∷ codes "token-revoke" ∷ decimal id ∷ [])) }
-{
-    let mut digits = Buffer::new();
-    admin_line(alloc, "token-revoke", digits.format(id))
+    line_of(alloc, &["-", "admin", "user-add", login])
 }
 
 fn named_line(alloc: Global, login: &str, name: &str) -> Result<String, AllocError>
@@ -37,18 +25,18 @@ fn named_line(alloc: Global, login: &str, name: &str) -> Result<String, AllocErr
 }
 
 /// A new account.
-pub fn new_user_line(alloc: Global, login: &str, name: Option<&str>) -> Result<String, AllocError>
+pub(crate) fn new_user_line(alloc: Global, login: &str, name: Option<&str>) -> Result<String, AllocError>
     ensures { IfOk result (λ line. string_bytes line ≡ line_of (codes "-" ∷ codes "admin"
         ∷ codes "user-add" ∷ login.now ∷ name_words (option_map (λ n. n.now) name.entry))) }
 {
     match name {
         Some(name) => named_line(alloc, login, name),
-        None => admin_line(alloc, "user-add", login),
+        None => unnamed_line(alloc, login),
     }
 }
 
 /// A new token, by its account's login, the words for its endpoints, and its patterns.
-pub fn new_token_line(
+pub(crate) fn new_token_line(
     alloc: Global,
     login: &str,
     words: &[&str],

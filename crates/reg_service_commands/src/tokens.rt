@@ -1,54 +1,49 @@
 //! Commands on tokens.
 
-ghost use Rattle.std.specs.Prelude.{◌≡◌, ◌&&◌, ◌||◌, ◌==◌, IfOk, is_some, length, map, nat_le, nat_lt, not};
+ghost use Rattle.std.specs.Prelude.{◌≡◌, ◌∷◌, [], ◌||◌, ◌==◌, IfOk, codes, false, length, map, nat_le, nat_lt, not, string_bytes};
+ghost use Rattle.std.specs.Option.{option_map};
 ghost use Rattle.std.specs.List.{list_all};
 ghost use Rattle.reg_model.specs.Events.Command.{TokenAdd, TokenRevoke};
 ghost use Rattle.reg_model.specs.Refusals.{is_endpoint};
-ghost use Rattle.reg_model.specs.Registry.{with_id};
+ghost use Rattle.reg_model.specs.Reports.{with_commas};
 ghost use Rattle.reg_tables_meaning.specs.Calls.{Tells};
-ghost use Rattle.reg_tables.specs.Works.{IsAtWork};
+ghost use Rattle.reg_tables.specs.Works.{IsAtWork, has_failed};
 ghost use Rattle.reg_tables.specs.Calling.{Asks, Runs};
-ghost use Rattle.reg_service_commands.specs.Orders.{IsScope, Obeys, ObeysUnder, PutsToken, is_full_for, token_refusal};
+ghost use Rattle.reg_service_commands.specs.Orders.{IsScope, PutsToken, is_full_for, token_refusal};
+ghost use Rattle.reg_service_commands.specs.Telling.{ObeysTold, ObeysToldUnder};
+ghost use Rattle.reg_service_steps.specs.Telling.{line_if};
 
 use crate::finding::refused_if;
-use crate::told::Answer;
+use crate::lines::new_token_line;
+use crate::told::{Answer, OrderTold, done_of, refused};
+use itoa::Buffer;
 use reg_body::Limits;
 use reg_line::Digest;
 use reg_model::{AdminRefusal, Endpoints};
 use reg_names::Pattern;
 use reg_policy::{AdminReply, are_endpoints, endpoints_named, parse_patterns};
+use reg_service_steps::{is_told, told_line};
 use reg_tables::{Result, Work};
 use sqlite::Alter;
 use std::alloc::{AllocError, Global};
 
-/// Whether one of so many tokens has this id: they are numbered from 1.
-fn is_id(id: u32, tokens: u64) -> bool
-    ensures { result ≡ (nat_lt 0 id && nat_le id tokens) }
-{
-    0 < id && id as u64 <= tokens
-}
-
-/// Whether a token has this id.
-fn has_token<S: Alter>(work: &mut Work<'_, S>, id: u32) -> Result<bool>
-    requires { IsAtWork S.Store work.old }
-    ensures { Asks S.Store work.old work.new result
-        (λ db has. Tells (λ ids s. has ≡ is_some (with_id s.tokens id)) db) }
-{
-    let tokens = work.count_tokens()?;
-    Ok(is_id(id, tokens))
-}
-
 /// Revokes the token with this id.
-pub(crate) fn revoke<S: Alter>(work: &mut Work<'_, S>, id: u32) -> Result<Answer>
+pub(crate) fn revoke<S: Alter>(
+    alloc: Global,
+    work: &mut Work<'_, S>,
+    id: u32,
+    traced: bool,
+) -> Result<OrderTold>
     requires { IsAtWork S.Store work.old }
-    ensures { Obeys S.Store (TokenRevoke id) result work.old work.new }
+    ensures { ObeysTold traced S.Store (TokenRevoke id) result work.old work.new }
 {
-    let has = has_token(work, id)?;
-    if !has {
-        return Ok(Err(AdminRefusal::G6));
-    }
+    let Some(live) = work.is_live(id)? else {
+        return Ok(refused(AdminRefusal::G6));
+    };
     work.revoke(id)?;
-    Ok(Ok(AdminReply::Done))
+    let mut digits = Buffer::new();
+    let number = digits.format(id);
+    done_of(alloc, work, is_told(traced, live), "token-revoke", number)
 }
 
 /// Whether there are as many tokens as allowed, or more patterns than a token may have.
@@ -133,6 +128,28 @@ fn read_scopes(
     }
 }
 
+/// The line of a new token, if it is to be told.
+fn tell_token<S: Alter>(
+    alloc: Global,
+    work: &mut Work<'_, S>,
+    told: bool,
+    login: &str,
+    words: &[&str],
+    patterns: &[Pattern],
+) -> Result<Option<String>>
+    requires at_work { IsAtWork S.Store work.old }
+    requires goes_on { has_failed work.old ≡ false }
+    ensures { Asks S.Store work.old work.new result (λ db line. option_map string_bytes line
+        ≡ line_if told (codes "-" ∷ codes "admin" ∷ codes "token-add" ∷ login.now
+        ∷ codes "--endpoints" ∷ with_commas (map (λ w. w.now) words.now)
+        ∷ codes "--patterns" ∷ with_commas patterns.now ∷ [])) }
+{
+    if !told {
+        return Ok(None);
+    }
+    told_line(work, new_token_line(alloc, login, words, patterns))
+}
+
 /// Adds a token, and returns its id.
 pub(crate) fn add_token<S: Alter>(
     alloc: Global,
@@ -142,21 +159,25 @@ pub(crate) fn add_token<S: Alter>(
     words: &[&str],
     texts: &[&str],
     digest: &Digest,
-) -> Result<Answer>
+    traced: bool,
+) -> Result<OrderTold>
     requires { IsAtWork S.Store work.old }
-    ensures { ObeysUnder limits.now S.Store (TokenAdd login.now (map (λ w. w.now) words.now)
-        (map (λ t. t.now) texts.now) digest.now) result work.old work.new }
+    ensures { ObeysToldUnder traced limits.now S.Store (TokenAdd login.now
+        (map (λ w. w.now) words.now) (map (λ t. t.now) texts.now) digest.now)
+        result work.old work.new }
 {
     let Some(account) = work.account_by_login(login)? else {
-        return Ok(Err(AdminRefusal::G3));
+        return Ok(refused(AdminRefusal::G3));
     };
     let patterns = match read_scopes(alloc, words, texts) {
         Ok(Ok(patterns)) => patterns,
-        Ok(Err(refusal)) => return Ok(Err(refusal)),
+        Ok(Err(refusal)) => return Ok(refused(refusal)),
         Err(_) => return work.fail(),
     };
     let endpoints = endpoints_named(words);
-    put_token(
+    let answer = put_token(
         alloc, work, limits, digest, account.id, endpoints, &patterns,
-    )
+    )?;
+    let line = tell_token(alloc, work, traced, login, words, &patterns)?;
+    Ok(OrderTold { answer, line })
 }

@@ -1,19 +1,14 @@
-//! A command within a transaction, with its line.
+//! What a command within a transaction comes to, with its line.
 
-ghost use Rattle.std.specs.Prelude.{◌≡◌, false, string_bytes};
-ghost use Rattle.std.specs.Option.{option_map};
-ghost use Rattle.reg_model.specs.Events.Event.{Order};
-ghost use Rattle.reg_policy.specs.Events.{command_of};
+ghost use Rattle.std.specs.Prelude.{◌≡◌, ◌∷◌, [], Err, None, Ok, codes, false, map};
+ghost use Rattle.reg_policy.specs.declared.event.AdminReply.TheVariants.{Done};
 ghost use Rattle.reg_tables.specs.Works.{IsAtWork, has_failed};
-ghost use Rattle.reg_tables.specs.Calling.{Asks, Runs};
-ghost use Rattle.reg_service_commands.specs.Telling.{OrdersTold, line_of_answer};
-ghost use Rattle.reg_service_steps.specs.Telling.{TellsIf};
+ghost use Rattle.reg_tables.specs.Calling.{Asks};
+ghost use Rattle.reg_service_commands.specs.Telling.{IsDoneTold, IsUntold};
 
-use crate::orders::order;
-use crate::telling::tell_command;
-use reg_body::Limits;
 use reg_model::AdminRefusal;
-use reg_policy::{AdminCommand, AdminReply};
+use reg_policy::AdminReply;
+use reg_service_steps::tell_words;
 use reg_tables::{Result, Work};
 use sqlite::Alter;
 use std::alloc::Global;
@@ -28,38 +23,86 @@ pub struct OrderTold {
     pub line: Option<String>,
 }
 
-/// The line of what a command changes, if one is wanted.
-fn tell_if<S: Alter>(
-    alloc: Global,
-    work: &mut Work<'_, S>,
-    command: &AdminCommand<'_>,
-    traced: bool,
-) -> Result<Option<String>>
-    requires at_work { IsAtWork S.Store work.old }
-    requires goes_on { has_failed work.old ≡ false }
-    ensures { Asks S.Store work.old work.new result
-        (TellsIf traced (Order (command_of command.now))) }
+/// A refusal, which has no line.
+pub fn refused(refusal: AdminRefusal) -> OrderTold
+    ensures answer { result.answer ≡ Err refusal }
+    ensures line { result.line ≡ None }
 {
-    if !traced {
-        return Ok(None);
+    OrderTold {
+        answer: Err(refusal),
+        line: None,
     }
-    tell_command(alloc, work, command)
 }
 
-/// The outcome of a command, and its line if one is wanted.
-pub fn order_told<S: Alter>(
+/// The answer of a command that had nothing to change.
+pub(crate) fn unchanged() -> OrderTold
+    ensures answer { result.answer ≡ Ok Done }
+    ensures line { result.line ≡ None }
+{
+    OrderTold {
+        answer: Ok(AdminReply::Done),
+        line: None,
+    }
+}
+
+/// An answer that changes nothing, and so has no line.
+pub(crate) fn untold(answer: Result<Answer>) -> Result<OrderTold>
+    ensures { IsUntold answer result }
+{
+    match answer {
+        Ok(answer) => Ok(OrderTold { answer, line: None }),
+        Err(fault) => Err(fault),
+    }
+}
+
+/// The answer of a command that was done, with the line of these words if it is to be told.
+fn done<S: Alter>(
     alloc: Global,
     work: &mut Work<'_, S>,
-    limits: &Limits,
-    command: &AdminCommand<'_>,
-    traced: bool,
+    told: bool,
+    words: &[&str],
 ) -> Result<OrderTold>
     requires at_work { IsAtWork S.Store work.old }
     requires goes_on { has_failed work.old ≡ false }
-    ensures { Runs S.Store work.old work.new result
-        (OrdersTold traced limits.now (command_of command.now)) }
+    ensures { Asks S.Store work.old work.new result
+        (λ db it. IsDoneTold told (map (λ w. w.now) words.now) it) }
 {
-    let line = tell_if(alloc, work, command, traced)?;
-    let answer = order(alloc, work, limits, command)?;
-    Ok(OrderTold { answer, line })
+    let line = tell_words(alloc, work, told, words)?;
+    Ok(OrderTold {
+        answer: Ok(AdminReply::Done),
+        line,
+    })
+}
+
+/// The same of a change of one thing.
+pub(crate) fn done_of<S: Alter>(
+    alloc: Global,
+    work: &mut Work<'_, S>,
+    told: bool,
+    verb: &str,
+    of: &str,
+) -> Result<OrderTold>
+    requires at_work { IsAtWork S.Store work.old }
+    requires goes_on { has_failed work.old ≡ false }
+    ensures { Asks S.Store work.old work.new result (λ db it. IsDoneTold told
+        (codes "-" ∷ codes "admin" ∷ verb.now ∷ of.now ∷ []) it) }
+{
+    done(alloc, work, told, &["-", "admin", verb, of])
+}
+
+/// The same of a change of an account and a crate.
+pub(crate) fn done_of_pair<S: Alter>(
+    alloc: Global,
+    work: &mut Work<'_, S>,
+    told: bool,
+    verb: &str,
+    name: &str,
+    login: &str,
+) -> Result<OrderTold>
+    requires at_work { IsAtWork S.Store work.old }
+    requires goes_on { has_failed work.old ≡ false }
+    ensures { Asks S.Store work.old work.new result (λ db it. IsDoneTold told
+        (codes "-" ∷ codes "admin" ∷ verb.now ∷ name.now ∷ login.now ∷ []) it) }
+{
+    done(alloc, work, told, &["-", "admin", verb, name, login])
 }

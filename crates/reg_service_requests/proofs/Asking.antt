@@ -1,6 +1,6 @@
 -- From the words for what a request changes to what is told of it.
-use Rattle.std.proofs.Common.{◌≡◌, List, [], ◌∷◌, ◌++◌, Bool, true, false, Option, Some, None, refl, sym, ap, subst, ◌∙◌}
-use Rattle.std.specs.Prelude.{String, codes, string_bytes}
+use Rattle.std.proofs.Common.{◌≡◌, List, [], ◌∷◌, ◌++◌, Bool, true, false, Option, Some, None, refl, ap, ◌∙◌}
+use Rattle.std.specs.Prelude.{◌&&◌, String, codes, string_bytes}
 use Rattle.std.specs.declared.alloc.Global.{Global}
 use Rattle.std.specs.Fmt.{decimal}
 use Rattle.std.specs.Option.{option_map}
@@ -15,13 +15,13 @@ use Rattle.reg_model.specs.Trail.{asker, line, line_of, only_if, request_words, 
 use Rattle.reg_access.specs.declared.admission.Caller.{Caller}
 use Rattle.reg_tables_meaning.specs.Calls.{Tells}
 use Rattle.reg_service_requests.specs.Granted.{IsCaller}
-use Rattle.reg_service_steps.specs.Telling.{line_if}
-use Rattle.reg_service_requests.specs.Telling.{TellsRequest}
+use Rattle.reg_service_steps.specs.Telling.{TellsIf, line_if}
+use Rattle.reg_service_steps.proofs.Afterwards.{none_told, told_if}
 
 -- these are the words for what a request of this caller changes that nothing denies
-abbrev pub HasWords : Caller → Asked → Trees → Option (List Text) → Type 0
-HasWords c asked db words = (digest : Text) → IsCaller digest (action_of asked) c db
-    → Tells (λ ids s. (limits : Limits) → denied limits s (Some digest) asked ≡ None → request_words s asked ≡ words) db
+abbrev pub HasWords : Limits → Caller → Asked → Trees → Option (List Text) → Type 0
+HasWords limits c asked db words = (digest : Text) → IsCaller digest (action_of asked) c db
+    → Tells (λ ids s. denied limits s (Some digest) asked ≡ None → request_words s asked ≡ words) db
 
 abbrev in_line : Caller → List Text → Text
 in_line c words = line_of (decimal c.token ∷ string_bytes c.login ∷ words)
@@ -30,20 +30,17 @@ asked_line : (limits : Limits) (s : Registry) (d : Text) (asked : Asked) → den
 unfolding line
 asked_line limits s d asked ok = ap (λ o. option_map (λ words. line_of (asker s d ++ words)) (unless_some o (request_words s asked))) ok
 
-spoken : (c : Caller) (asked : Asked) (db : Trees) (words : Option (List Text)) (d : Text) → IsCaller d (action_of asked) c db → HasWords c asked db words
-    → Tells (λ ids s. (limits : Limits) → denied limits s (Some d) asked ≡ None → line limits s (Ask (Some d) asked) ≡ option_map (in_line c) words) db
-spoken c asked db words d who has = λ ids s h limits ok.
-    asked_line limits s d asked ok ∙ ap (λ names. option_map (λ ws. line_of (names ++ ws)) (request_words s asked)) (who ids s h).who ∙ ap (option_map (in_line c)) (has d who ids s h limits ok)
-
 in_line_if : (c : Caller) (b : Bool) (words : List Text) → option_map (in_line c) (only_if b words) ≡ line_if b (decimal c.token ∷ string_bytes c.login ∷ words)
 in_line_if c true words = refl
 in_line_if c false words = refl
 
-pub words_told : (c : Caller) (asked : Asked) (db : Trees) (b : Bool) (words : List Text) (found : Option (String Global)) → HasWords c asked db (only_if b words) → option_map string_bytes found ≡ line_if b (decimal c.token ∷ string_bytes c.login ∷ words) → TellsRequest true c asked db found
-words_told c asked db b words found has e = λ d who ids s h limits ok. spoken c asked db (only_if b words) d who has ids s h limits ok ∙ in_line_if c b words ∙ sym e
-
-pub none_told : (c : Caller) (asked : Asked) (db : Trees) → HasWords c asked db None → TellsRequest true c asked db None
-none_told c asked db has = λ d who ids s h limits ok. spoken c asked db None d who has ids s h limits ok
+-- what a change of this caller tells, if it is wanted
+pub change_told : (traced changed wanted : Bool) (limits : Limits) (c : Caller) (asked : Asked) (db : Trees) (words : List Text) (found : Option (String Global)) → wanted ≡ (traced && changed)
+    → option_map string_bytes found ≡ line_if wanted (decimal c.token ∷ string_bytes c.login ∷ words) → HasWords limits c asked db (only_if changed words) → (digest : Text) → IsCaller digest (action_of asked) c db
+    → TellsIf traced limits (Ask (Some digest) asked) db found
+change_told traced changed wanted limits c asked db words found is told has digest who =
+    told_if traced changed wanted limits (Ask (Some digest) asked) db (decimal c.token ∷ string_bytes c.login ∷ words) found is told
+    (λ ids s h ok. asked_line limits s digest asked ok ∙ ap (λ names. option_map (λ ws. line_of (names ++ ws)) (request_words s asked)) (who ids s h).who ∙ ap (option_map (in_line c)) (has digest who ids s h ok) ∙ in_line_if c changed words)
 
 -- whether a request may change something
 abbrev pub is_change : Asked → Bool
@@ -66,15 +63,10 @@ untold s (Unyank n v) e = absurd cc
 untold s (AddOwners n logins) e = absurd cc
 untold s (RemoveOwners n logins) e = absurd cc
 
-pub nothing_told : (c : Caller) (asked : Asked) (db : Trees) → is_change asked ≡ false → TellsRequest true c asked db None
-nothing_told c asked db e = none_told c asked db (λ d who ids s h limits ok. untold s asked e)
+-- one that may not has no line
+pub nothing_told : (traced : Bool) (limits : Limits) (digest : Text) (asked : Asked) (db : Trees) (found : Option (String Global)) → found ≡ None → is_change asked ≡ false → TellsIf traced limits (Ask (Some digest) asked) db found
+nothing_told traced limits digest asked db found none e = none_told traced limits (Ask (Some digest) asked) db found none
+    (λ ids s h ok. asked_line limits s digest asked ok ∙ ap (option_map (λ words. line_of (asker s digest ++ words))) (untold s asked e))
 
-pub publish_has : (c : Caller) (p : Publication) (db : Trees) → HasWords c (Publish p) db (Some (codes "publish" ∷ p.name ∷ p.version ∷ []))
-publish_has c p db = λ d who ids s h limits ok. refl
-
--- a line that is wanted, and one that is not
-pub if_wanted : (traced : Bool) (c : Caller) (asked : Asked) (db : Trees) (found : Option (String Global)) → traced ≡ true → TellsRequest true c asked db found → TellsRequest traced c asked db found
-if_wanted traced c asked db found is tells = subst (λ b. TellsRequest b c asked db found) (sym is) tells
-
-pub unwanted : (traced : Bool) (c : Caller) (asked : Asked) (db : Trees) → traced ≡ false → TellsRequest traced c asked db None
-unwanted traced c asked db is = subst (λ b. TellsRequest b c asked db None) (sym is) (λ d who. refl)
+pub publish_has : (limits : Limits) (c : Caller) (p : Publication) (db : Trees) → HasWords limits c (Publish p) db (Some (codes "publish" ∷ p.name ∷ p.version ∷ []))
+publish_has limits c p db = λ d who ids s h ok. refl

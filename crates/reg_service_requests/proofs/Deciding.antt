@@ -37,7 +37,10 @@ use Rattle.reg_service_requests.specs.Granted.{Grants, GrantsOf, GrantsTo, Grant
 use Rattle.reg_service_steps.specs.Named.{IsViewer}
 use Rattle.reg_service_requests.specs.Serves.{Serves}
 use Rattle.reg_service_steps.specs.Telling.{TellsIf, TellsLine}
-use Rattle.reg_service_requests.specs.Telling.{ServesTold}
+use Rattle.reg_service_requests.specs.Telling.{GrantsTold, IsUntold, ServesTold}
+use Rattle.reg_access.proofs.Calls.{called_err, called_ok}
+use Rattle.reg_tables.specs.Works.{rows_seen}
+use Rattle.reg_service_requests.proofs.Asking.{is_change, nothing_told}
 use Rattle.reg_service_requests.specs.declared.told.ServedTold.{ServedTold}
 use Rattle.reg_service_requests.specs.declared.served.Served.{Served}
 use Rattle.reg_service_requests.specs.declared.served.Served.TheVariants.{Seeks, Told}
@@ -85,26 +88,26 @@ not_let law limits digest asked db r policy ids s h =
 no_rule : (r : Rule) → ◌≡◌ {A = Option Rule} (Some r) None → ⊥
 no_rule r e = cc
 
-not_told : AccessComesFirst → (digest : Text) (asked : Asked) (db : Trees) (r : Rule) → IsPolicy digest (action_of asked) db (denies r) → TellsLine (Ask (Some digest) asked) db None
-not_told law digest asked db r policy ids s h limits ok = absurd (no_rule r (sym (is_first law limits digest asked db r policy ids s h) ∙ ok))
+not_told : AccessComesFirst → (limits : Limits) (digest : Text) (asked : Asked) (db : Trees) (r : Rule) → IsPolicy digest (action_of asked) db (denies r) → TellsLine limits (Ask (Some digest) asked) db None
+not_told law limits digest asked db r policy ids s h ok = absurd (no_rule r (sym (is_first law limits digest asked db r policy ids s h) ∙ ok))
 
 -- a denial has no line
 module _ (traced : Bool) (limits : Limits) (d : Option Text) (asked : Asked) (db : Trees) (r : Rule) (it : ServedTold) (served : it.served ≡ Told (Denied r)) (line : it.line ≡ None) where
-  denial : Serves limits d asked db db (Told (Denied r)) → TellsLine (Ask d asked) db None → ServesTold traced limits d asked db db it
-  denial serves tells = (subst (Serves limits d asked db db) (sym served) serves, subst (TellsIf traced (Ask d asked) db) (sym line) (by traced))
+  denial : Serves limits d asked db db (Told (Denied r)) → TellsLine limits (Ask d asked) db None → ServesTold traced limits d asked db db it
+  denial serves tells = (subst (Serves limits d asked db db) (sym served) serves, subst (TellsIf traced limits (Ask d asked) db) (sym line) (by traced))
     where
-      by : (b : Bool) → TellsIf b (Ask d asked) db None
+      by : (b : Bool) → TellsIf b limits (Ask d asked) db None
       by true = tells
       by false = refl
 
 pub no_token_told : (traced : Bool) (limits : Limits) (d : Option Text) (asked : Asked) (db : Trees) (it : ServedTold) → it.served ≡ Told (Denied rule.A1) → it.line ≡ None → d ≡ None → ServesTold traced limits d asked db db it
 no_token_told traced limits d asked db it served line e =
-    denial traced limits d asked db rule.A1 it served line (no_token limits d asked db e) (subst (λ x. TellsLine (Ask x asked) db None) (sym e) (nobody_told asked db))
+    denial traced limits d asked db rule.A1 it served line (no_token limits d asked db e) (subst (λ x. TellsLine limits (Ask x asked) db None) (sym e) (nobody_told limits asked db))
 
 pub denied_told : AccessComesFirst → (traced : Bool) (limits : Limits) (d : Option Text) (digest : Text) (asked : Asked) (db : Trees) (r : Rule) (it : ServedTold) → it.served ≡ Told (Denied r) → it.line ≡ None → d ≡ Some digest → IsPolicy digest (action_of asked) db (denies r) → ServesTold traced limits d asked db db it
 denied_told law traced limits d digest asked db r it served line e policy =
     with_token traced limits d digest asked db db it e
-    (denial traced limits (Some digest) asked db r it served line (not_let law limits digest asked db r policy) (not_told law digest asked db r policy))
+    (denial traced limits (Some digest) asked db r it served line (not_let law limits digest asked db r policy) (not_told law limits digest asked db r policy))
 
 -- or they do
 pub is_let : (digest : Text) (a : Action) (db : Trees) → IsPolicy digest a db Allowed → IsLet digest a db
@@ -121,6 +124,11 @@ unfolding denied
 faulty limits digest r db lets ids s h =
     let e = is_denied limits s (Some digest) (Faulty r) r (ap (λ o. or_else o (Some r)) (read_judged limits s digest (lets ids s h))) in
     (ap (λ (it : Outcome). it.0) e, ap (λ (it : Outcome). it.1) e)
+
+-- and has no line
+pub faulty_told : (traced : Bool) (limits : Limits) (digest : Text) (r : Rule) (db : Trees) (it : ServedTold) → it.served ≡ Told (Denied r) → it.line ≡ None → IsLet digest to_read db → ServesTold traced limits (Some digest) (Faulty r) db db it
+faulty_told traced limits digest r db it served line lets =
+    (subst (Serves limits (Some digest) (Faulty r) db db) (sym served) (faulty limits digest r db lets), nothing_told traced limits digest (Faulty r) db it.line line refl)
 
 -- a search is let pass
 pub seeks : (limits : Limits) (digest q : Text) (most id : ℕ) (db : Trees) → IsViewer digest id db → IsLet digest to_read db → Serves limits (Some digest) (Read (Search q most)) db db (Seeks id)
@@ -162,3 +170,19 @@ module _ {S : Type 0} (g : Ghosts S) (limits : Limits) (caller : Caller) (asked 
 
   pub crate_given : (it : Text → Asked) (text : Text) (c : FoundCrate) → asked_of given ≡ it text → caller.found ≡ Some c → GrantsOf c g it r old new → GrantsTo limits caller g (asked_of asked) r old new
   crate_given it text c is found h = as_given (subst (λ a. GrantsTo limits caller g a r old new) (sym is) (of_crate r it text c found h))
+
+-- the same of an outcome with its line
+module _ {S : Type 0} (g : Ghosts S) (traced : Bool) (limits : Limits) (caller : Caller) (asked given : Wanted) (same : asked ≡ given) (q : Result ServedTold StoreFault) (old new : Work S) where
+  pub told_given : GrantsTold traced limits caller g (asked_of given) q old new → GrantsTold traced limits caller g (asked_of asked) q old new
+  told_given h = subst (λ it. GrantsTold traced limits caller g (asked_of it) q old new) (sym same) h
+
+  without_line : (r : Result Served StoreFault) (q : Result ServedTold StoreFault) (it : Asked) → IsUntold r q → is_change it ≡ false → GrantsTo limits caller g it r old new → GrantsTold traced limits caller g it q old new
+  without_line (Ok x) q it is reads h = subst (λ q. GrantsTold traced limits caller g it q old new) (sym is) (record {
+    told = λ clean digest lets who. (h.told clean digest lets who, nothing_told traced limits digest it (rows_seen g old) None refl reads);
+    leaves = called_ok g x (record { served = x; line = None }) old new h.leaves;
+  })
+  without_line (Err e) q it is reads h = subst (λ q. GrantsTold traced limits caller g it q old new) (sym is) (record { told = λ clean. tt; leaves = called_err g e e old new h.leaves })
+
+  -- one that only reads has none
+  pub untold_given : (r : Result Served StoreFault) → IsUntold r q → is_change (asked_of given) ≡ false → GrantsTo limits caller g (asked_of asked) r old new → GrantsTold traced limits caller g (asked_of asked) q old new
+  untold_given r is reads h = without_line r q (asked_of asked) is (ap (λ it. is_change (asked_of it)) same ∙ reads) h

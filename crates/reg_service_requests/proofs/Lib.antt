@@ -1,4 +1,3 @@
-mod AskedGiven
 mod Asking
 mod Deciding
 pub mod Judging

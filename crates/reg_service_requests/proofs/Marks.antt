@@ -3,6 +3,7 @@ use Rattle.std.proofs.Common.{◌≡◌, [], ◌∷◌, Bool, true, false, cond,
 use Rattle.std.specs.Prelude.{unwrap_or}
 use Rattle.std.specs.FinSet as finset
 use Rattle.sqlite.specs.Tree.{Trees}
+use Rattle.reg_body.specs.declared.limits.Limits.{Limits}
 use Rattle.reg_model.specs.Actions.{crate_of}
 use Rattle.reg_model.specs.Crates.{is_yanked}
 use Rattle.reg_model.specs.Events.{action_of}
@@ -25,8 +26,8 @@ mark_words true false s n v e = ap (λ y. unless y (mark_word true ∷ spelled s
 mark_words false true s n v e = ap (λ y. only_if y (mark_word false ∷ spelled s n ∷ v ∷ [])) e
 mark_words false false s n v e = ap (λ y. only_if y (mark_word false ∷ spelled s n ∷ v ∷ [])) e
 
-pub mark_has : (c : Caller) (b other : Bool) (n v : Text) (db : Trees) (it : FoundCrate) → c.found ≡ Some it → TellsOtherMark it.id v b db other → HasWords c (marking b n v) db (only_if other (mark_word b ∷ it.name ∷ v ∷ []))
-mark_has c b other n v db it found tells = λ d who ids s h limits ok.
+pub mark_has : (limits : Limits) (c : Caller) (b other : Bool) (n v : Text) (db : Trees) (it : FoundCrate) → c.found ≡ Some it → TellsOtherMark it.id v b db other → HasWords limits c (marking b n v) db (only_if other (mark_word b ∷ it.name ∷ v ∷ []))
+mark_has limits c b other n v db it found tells = λ d who ids s h ok.
     let crate = crate_found ids s (crate_of (action_of (marking b n v))) n c.found it (named_in b n v) found (who ids s h).found in
     let first = first_as ids s it n crate in
     let same = first_canon s n it.name first in

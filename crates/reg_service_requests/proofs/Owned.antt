@@ -67,10 +67,10 @@ module _ (limits : Limits) (s : Registry) (sound : Sound s) (d n : Text) (logins
 changes_map : (are : Bool) (p : Text → Bool) (texts : List (Bor Text)) → changes are p (map (λ t. t.now) texts) ≡ changes are (λ t. p t.now) texts
 changes_map are p texts = list_any_map (λ t. differs (p t) are) (λ t. t.now) texts
 
-pub owning_has : (c : Caller) (are b : Bool) (n : Text) (texts : List (Bor Text)) (db : Trees) (it : FoundCrate) (list : List Account) → c.found ≡ Some it → ListsOwners it.id db list
+pub owning_has : (limits : Limits) (c : Caller) (are b : Bool) (n : Text) (texts : List (Bor Text)) (db : Trees) (it : FoundCrate) (list : List Account) → c.found ≡ Some it → ListsOwners it.id db list
     → b ≡ changes are (λ t. list_any (λ a. bytes_eq (string_bytes a.login) t.now) list) texts
-    → HasWords c (owning are n (map (λ t. t.now) texts)) db (only_if b (owners_word are ∷ it.name ∷ with_commas (map (λ t. t.now) texts) ∷ []))
-owning_has c are b n texts db it list found lists e = λ d who ids s h limits ok.
+    → HasWords limits c (owning are n (map (λ t. t.now) texts)) db (only_if b (owners_word are ∷ it.name ∷ with_commas (map (λ t. t.now) texts) ∷ []))
+owning_has limits c are b n texts db it list found lists e = λ d who ids s h ok.
     let logins : List Text = map (λ t. t.now) texts in
     let crate = crate_found ids s (crate_of (action_of (owning are n logins))) n c.found it (named_in are n logins) found (who ids s h).found in
     let first = first_as ids s it n crate in

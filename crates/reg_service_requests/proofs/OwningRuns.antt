@@ -42,10 +42,6 @@ module _ {S : Type 0} (g : Ghosts S) where
     pub all_set : (i : ℕ) (b : Work S) → take i all ≡ all → AreSet are id all i a b → Runs {T = Unit {0}} {E = StoreFault} g a b (Ok tt) (λ before after it. SetsOwners are id all before after)
     all_set i b is so = subst (λ some. Runs {T = Unit {0}} {E = StoreFault} g a b (Ok tt) (λ before after it. SetsSome are id all some before after)) is so
 
-  -- what is run means something else too
-  pub runs_made : {T U E F : Type 0} {P : Trees → Trees → T → Type 0} {Q : Trees → Trees → U → Type 0} (x : T) (y : U) (a b : Work S) → (P (rows_seen g a) (rows_seen g b) x → Q (rows_seen g a) (rows_seen g b) y) → Runs {E = E} g a b (Ok x) P → Runs {E = F} g a b (Ok y) Q
-  runs_made x y a b made one = record { told = λ clean. made (one.told clean); leaves = called_ok g x y a b one.leaves }
-
   -- ids were found for the logins before these
   abbrev pub AreFound : List Text → List Text → List ℕ → Work S → Work S → Type 0
   AreFound all rest ids old new = Asks {T = List ℕ} {E = StoreFault} g old new (Ok ids) (λ db found. Tells (λ _ s. IsSoFar (is_known s) (id_of_login s) all rest found) db)

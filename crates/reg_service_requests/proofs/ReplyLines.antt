@@ -97,5 +97,5 @@ nobody : (limits : Limits) (s : Registry) (asked : Asked) → denied limits s No
 unfolding denied
 nobody limits s asked ok = absurd cc
 
-pub nobody_told : (asked : Asked) (db : Trees) → TellsLine (Ask None asked) db None
-nobody_told asked db = λ ids s h limits ok. absurd (nobody limits s asked ok)
+pub nobody_told : (limits : Limits) (asked : Asked) (db : Trees) → TellsLine limits (Ask None asked) db None
+nobody_told limits asked db = λ ids s h ok. absurd (nobody limits s asked ok)

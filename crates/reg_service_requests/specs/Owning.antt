@@ -21,11 +21,20 @@ use Rattle.reg_model.specs.Sound.{Sound}
 use Rattle.reg_api_replies.specs.Replies.{Says}
 use Rattle.reg_api_replies.specs.declared.reply.Reply.{Reply}
 use Rattle.reg_tables_sql.specs.declared.accounts.Account.{Account}
-use Rattle.reg_tables_meaning.specs.Calls.{Tells, Turns}
+use Rattle.reg_tables_meaning.specs.Calls.{ListsOwners, Tells, Turns}
 use Rattle.reg_tables_meaning.specs.Changes.{no_owner_at, owner_at}
 use Rattle.reg_tables_meaning.specs.Entries.{entry_of_account}
 use Rattle.reg_tables_meaning.specs.Stands.{Holds, Ids, StandsBy, spelling_at}
 use Rattle.reg_service_steps.specs.Named.{IsSpelled}
+use Rattle.reg_access.specs.declared.admission.FoundCrate.{FoundCrate}
+use Rattle.reg_body.specs.declared.limits.Limits.{Limits}
+use Rattle.reg_model.specs.Events.{action_of}
+use Rattle.reg_tables.specs.Calling.{Runs}
+use Rattle.reg_tables.specs.declared.work.StoreFault.{StoreFault}
+use Rattle.reg_tables.specs.declared.work.Work.{Work}
+use Rattle.sqlite_trees.specs.declared.store.Store.{Ghosts}
+use Rattle.reg_service_requests.specs.Granted.{IsCrate, IsLet}
+use Rattle.reg_service_requests.specs.Serves.{Serves}
 use Rattle.reg_service_requests.specs.declared.served.Served.{Served}
 use Rattle.reg_service_requests.specs.declared.served.Served.TheVariants.{Done}
 
@@ -127,3 +136,14 @@ abbrev pub DoesOwning : Bool → ℕ → List ℕ → Trees → Trees → Served
 DoesOwning are id accounts old new (Done reply) = SaysOwning are reply
     × SetsOwners are id accounts old new
 DoesOwning are id accounts old new _ = ⊥
+
+-- what the rules on access let pass is served of this crate, whose owners are these, by whichever
+-- text the request names it
+abbrev pub GrantsAmong : {S : Type 0} → List Account → FoundCrate → Ghosts S → Bool → List Text
+    → Result Served StoreFault → Work S → Work S → Type 0
+GrantsAmong list found g are logins r old new =
+    Runs g old new r (λ before after it. ListsOwners found.id before list
+    → (n : Text) (limits : Limits) (digest : Text)
+    → IsLet digest (action_of (owning are n logins)) before
+    → IsCrate (action_of (owning are n logins)) found before
+    → Serves limits (Some digest) (owning are n logins) before after it)

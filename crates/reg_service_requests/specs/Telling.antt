@@ -1,5 +1,5 @@
--- What a request would change, told before it is done.
-use Rattle.std.specs.Prelude.{Bool, true, false, List, codes, None, Option, Some, Result, String, string_bytes}
+-- What a request comes to, with the line of what it changes.
+use Rattle.std.specs.Prelude.{◌≡◌, Bool, true, false, List, codes, None, Option, Some, Result, Ok, Err, String, string_bytes}
 use Rattle.std.specs.List.{list_any}
 use Rattle.std.specs.declared.alloc.Global.{Global}
 use Rattle.std.specs.Option.{option_map}
@@ -15,6 +15,7 @@ use Rattle.reg_tables.specs.declared.work.Work.{Work}
 use Rattle.reg_service_steps.specs.Telling.{TellsIf, differs}
 use Rattle.reg_service_requests.specs.Granted.{IsCaller, IsLet}
 use Rattle.reg_tables.specs.Calling.{Runs}
+use Rattle.reg_service_requests.specs.declared.served.Served.{Served}
 use Rattle.reg_service_requests.specs.declared.told.ServedTold.{ServedTold}
 use Rattle.reg_api_replies.specs.declared.reply.Reply.{Reply}
 use Rattle.reg_api_replies.specs.declared.reply.Reply.TheVariants.{Done}
@@ -23,18 +24,18 @@ use Rattle.reg_service_requests.specs.Serves.{Serves}
 -- the outcome of a request, and its line if one is wanted
 abbrev pub ServesTold : Bool → Limits → Option Text → Asked → Trees → Trees → ServedTold → Type 0
 ServesTold traced limits digest asked old new it =
-    Serves limits digest asked old new it.served × TellsIf traced (Ask digest asked) old it.line
+    Serves limits digest asked old new it.served
+    × TellsIf traced limits (Ask digest asked) old it.line
 
 -- the line that goes with a reply: a denial has none
 abbrev pub line_with : Reply → Option (String Global) → Option Text
 line_with (Done kind body) found = option_map string_bytes found
 line_with _ found = None
 
--- this is the line of what this caller asks for, if one is wanted
-abbrev pub TellsRequest : Bool → Caller → Asked → Trees → Option (String Global) → Type 0
-TellsRequest traced caller asked db found = (digest : Text)
-    → IsCaller digest (action_of asked) caller db
-    → TellsIf traced (Ask (Some digest) asked) db found
+-- an outcome that has no line
+abbrev pub IsUntold : Result Served StoreFault → Result ServedTold StoreFault → Type 0
+IsUntold (Ok served) r = r ≡ Ok (record { served = served; line = None })
+IsUntold (Err e) r = r ≡ Err e
 
 -- what the rules on access let pass is served to this caller, and its line is told
 abbrev pub GrantsTold : {S : Type 0} → Bool → Limits → Caller → Ghosts S → Asked

@@ -1,5 +1,5 @@
 //! What a request does within a transaction: it is denied, served, or done; and the line that a
-//! change leaves in a trail, told before the change is done.
+//! change leaves in a trail.
 //!
 //! ```
 //! let told = serve_told(alloc, &mut work, &limits, Some(&digest), &asked, true)?;

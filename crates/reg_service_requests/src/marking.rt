@@ -1,30 +1,51 @@
 //! Yanking and unyanking versions.
 
+ghost use Rattle.std.specs.Prelude.{◌≡◌, IsSome};
 ghost use Rattle.reg_tables.specs.Works.{IsAtWork};
-ghost use Rattle.reg_service_requests.specs.Granted.{GrantsOf, marking};
+ghost use Rattle.reg_service_requests.specs.Granted.{marking};
+ghost use Rattle.reg_service_requests.specs.Telling.{GrantsTold, mark_word};
 
 use crate::served::Served;
-use reg_access::FoundCrate;
+use crate::telling::tell_change;
+use crate::told::ServedTold;
+use reg_access::Caller;
 use reg_api_replies::{Kind, Reply, ok_body};
+use reg_service_steps::is_told;
 use reg_tables::{Result, Work};
 use sqlite::Alter;
 use std::alloc::Global;
 
-/// Yanks or unyanks a version.
+fn mark_verb(yanked: bool) -> &'static str
+    ensures { result.now ≡ mark_word yanked }
+{
+    if yanked { "yank" } else { "unyank" }
+}
+
+/// Yanks or unyanks a version of the crate that was found, and tells it if it had the other mark.
 pub(crate) fn set_yanked<S: Alter>(
     alloc: Global,
     work: &mut Work<'_, S>,
-    found: &FoundCrate,
+    caller: &Caller,
     version: &str,
     yanked: bool,
-) -> Result<Served>
-    requires { IsAtWork S.Store work.old }
-    ensures { GrantsOf found.now S.Store (λ name. marking yanked name version.now)
-        result work.old work.new }
+    traced: bool,
+) -> Result<ServedTold>
+    requires at_work { IsAtWork S.Store work.old }
+    requires there { IsSome caller.now.found }
+    ensures { (limits : _) (name : _) → GrantsTold traced limits caller.now S.Store
+        (marking yanked name version.now) result work.old work.new }
 {
     let Ok(body) = ok_body().to_vec(alloc) else {
         return work.fail();
     };
-    work.set_yanked(found.id, version, yanked)?;
-    Ok(Served::Done(Reply::Done(Kind::Json, body)))
+    let found = caller.found_crate();
+    let changed = work.set_yanked(found.id, version, yanked)?;
+    let told = is_told(traced, changed);
+    let verb = mark_verb(yanked);
+    let name = found.name.as_str();
+    let line = tell_change(alloc, work, caller, told, verb, name, version)?;
+    Ok(ServedTold {
+        served: Served::Done(Reply::Done(Kind::Json, body)),
+        line,
+    })
 }

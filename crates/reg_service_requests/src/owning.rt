@@ -1,21 +1,25 @@
 //! Changing the owners of crates.
 
-ghost use Rattle.std.specs.Prelude.{◌≡◌, IfOk, false, map, string_bytes};
+ghost use Rattle.std.specs.Prelude.{◌≡◌, IfOk, IsSome, false, map, string_bytes};
+ghost use Rattle.std.specs.Borrow.{Bor};
 ghost use Rattle.std.specs.List.{find, list_all, list_any};
 ghost use Rattle.std.specs.Option.{option_map};
 ghost use Rattle.std.specs.Str.{bytes_eq};
-ghost use Rattle.reg_model.specs.Events.Asked.{AddOwners, RemoveOwners};
+ghost use Rattle.reg_model.specs.Events.Asked.{AddOwners};
 ghost use Rattle.reg_model.specs.Facts.{has_login as has_login_of};
 ghost use Rattle.reg_tables.specs.Works.{IsAtWork, has_failed};
 ghost use Rattle.reg_tables.specs.Calling.{Asks, Does, Runs};
 ghost use Rattle.reg_service_requests.specs.Granted.{GrantsOf};
-ghost use Rattle.reg_service_requests.specs.Owning.{AreIdsOf, AreLeaving, DoesOwning, FindsAllKnown, FindsKnown, SaysOwning, SetsOwner, SetsOwners, enabled_id, entries_of, id_among};
+ghost use Rattle.reg_service_requests.specs.Owning.{AreIdsOf, AreLeaving, DoesOwning, FindsAllKnown, FindsKnown, GrantsAmong, SaysOwning, SetsOwner, SetsOwners, enabled_id, entries_of, id_among, owning};
+ghost use Rattle.reg_service_requests.specs.Telling.{GrantsTold, changes};
 
 use crate::served::Served;
-use reg_access::FoundCrate;
+use crate::telling::tell_owners;
+use crate::told::ServedTold;
+use reg_access::{Caller, FoundCrate};
 use reg_api_replies::{Kind, Reply, owners_added_body, owners_removed_body};
 use reg_policy::Rule;
-use reg_service_steps::has_login;
+use reg_service_steps::{differs, has_login, have_login, is_told};
 use reg_tables::{Account, Result, Work};
 use sqlite::Alter;
 use std::alloc::{AllocError, Global};
@@ -127,7 +131,7 @@ fn set_owner<S: Alter>(
     crate_id: u32,
     account: u32,
     is_owner: bool,
-) -> Result<()>
+) -> Result<bool>
     requires { IsAtWork S.Store work.old }
     ensures { Does S.Store work.old work.new result (SetsOwner is_owner crate_id account) }
 {
@@ -188,7 +192,7 @@ fn change_owners<S: Alter>(
 }
 
 /// Makes the accounts with these logins owners of a crate, or none of them.
-pub(crate) fn add_owners<S: Alter>(
+fn add_owners<S: Alter>(
     alloc: Global,
     work: &mut Work<'_, S>,
     found: &FoundCrate,
@@ -205,21 +209,79 @@ pub(crate) fn add_owners<S: Alter>(
     }
 }
 
-/// Removes the accounts with these logins from a crate's owners, or none of them.
-pub(crate) fn remove_owners<S: Alter>(
+/// Removes the accounts with these logins from these owners of a crate, or none of them.
+fn remove_owners<S: Alter>(
     alloc: Global,
     work: &mut Work<'_, S>,
     found: &FoundCrate,
+    owners: &[Account],
     logins: &[&str],
 ) -> Result<Served>
-    requires { IsAtWork S.Store work.old }
-    ensures { GrantsOf found.now S.Store (λ name. RemoveOwners name (map (λ l. l.now) logins.now))
+    requires at_work { IsAtWork S.Store work.old }
+    requires goes_on { has_failed work.old ≡ false }
+    ensures { GrantsAmong owners.now found.now S.Store false (map (λ l. l.now) logins.now)
         result work.old work.new }
 {
-    let owners = work.owners_of(alloc, found.id)?;
-    match ids_leaving(alloc, &owners, logins) {
+    match ids_leaving(alloc, owners, logins) {
         Ok(Ok(accounts)) => change_owners(alloc, work, found.id, &accounts, false),
         Ok(Err(rule)) => Ok(Served::Told(Reply::Denied(rule))),
         Err(_) => work.fail(),
     }
+}
+
+/// Adds the accounts with these logins to these owners of a crate, or removes them.
+fn set_all<S: Alter>(
+    alloc: Global,
+    work: &mut Work<'_, S>,
+    found: &FoundCrate,
+    owners: &[Account],
+    logins: &[&str],
+    are_owners: bool,
+) -> Result<Served>
+    requires at_work { IsAtWork S.Store work.old }
+    requires goes_on { has_failed work.old ≡ false }
+    ensures { GrantsAmong owners.now found.now S.Store are_owners (map (λ l. l.now) logins.now)
+        result work.old work.new }
+{
+    if are_owners {
+        add_owners(alloc, work, found, logins)
+    } else {
+        remove_owners(alloc, work, found, owners, logins)
+    }
+}
+
+/// Whether an account with one of these logins is not yet what it is to be.
+fn changes_owners(owners: &[Account], logins: &[&str], are_owners: bool) -> bool
+    ensures { result ≡ changes are_owners
+        (λ (l : Bor _). list_any (λ a. bytes_eq (string_bytes a.login) l.now) owners.now)
+        logins.now }
+{
+    logins
+        .iter()
+        .any(|login| differs(have_login(owners, login), are_owners))
+}
+
+/// Makes the accounts with these logins owners of the crate that was found, or no longer, and tells
+/// it if this changes anything.
+pub(crate) fn own<S: Alter>(
+    alloc: Global,
+    work: &mut Work<'_, S>,
+    caller: &Caller,
+    logins: &[&str],
+    are_owners: bool,
+    traced: bool,
+) -> Result<ServedTold>
+    requires at_work { IsAtWork S.Store work.old }
+    requires there { IsSome caller.now.found }
+    ensures { (limits : _) (name : _) → GrantsTold traced limits caller.now S.Store
+        (owning are_owners name (map (λ l. l.now) logins.now)) result work.old work.new }
+{
+    let found = caller.found_crate();
+    let owners = work.owners_of(alloc, found.id)?;
+    let changed = changes_owners(&owners, logins, are_owners);
+    let served = set_all(alloc, work, found, &owners, logins, are_owners)?;
+    let told = is_told(traced, changed);
+    let name = found.name.as_str();
+    let line = tell_owners(alloc, work, caller, told, name, logins, are_owners)?;
+    Ok(ServedTold { served, line })
 }

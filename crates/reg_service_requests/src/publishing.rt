@@ -7,9 +7,12 @@ ghost use Rattle.reg_tables_meaning.specs.Calls.{published};
 ghost use Rattle.reg_tables.specs.Works.{IsAtWork};
 ghost use Rattle.reg_tables.specs.Calling.{Asks, Runs};
 ghost use Rattle.reg_service_requests.specs.Granted.{GrantsTo};
+ghost use Rattle.reg_service_requests.specs.Telling.{GrantsTold};
 ghost use Rattle.reg_service_requests.specs.Publications.{MakesCrate, PublishesFirst, PublishesNext, TellsFull, TellsFullOf};
 
 use crate::served::Served;
+use crate::telling::tell_change;
+use crate::told::ServedTold;
 use reg_access::{Caller, FoundCrate};
 use reg_api_replies::{Kind, Reply, publish_body};
 use reg_body::Limits;
@@ -110,7 +113,7 @@ fn publish_next<S: Alter>(
 }
 
 /// Publishes a version: of a new crate, whose owner the caller becomes, or of the one found.
-pub(crate) fn publish<S: Alter>(
+fn publish_version<S: Alter>(
     alloc: Global,
     work: &mut Work<'_, S>,
     limits: &Limits,
@@ -125,4 +128,23 @@ pub(crate) fn publish<S: Alter>(
         Some(found) => publish_next(alloc, work, limits, found, new),
         None => publish_first(alloc, work, limits, caller.account, new),
     }
+}
+
+/// Publishes a version, and tells it.
+pub(crate) fn publish<S: Alter>(
+    alloc: Global,
+    work: &mut Work<'_, S>,
+    limits: &Limits,
+    caller: &Caller,
+    new: &NewPublication<'_>,
+    traced: bool,
+) -> Result<ServedTold>
+    requires { IsAtWork S.Store work.old }
+    ensures { GrantsTold traced limits.now caller.now S.Store (Publish (publication_of new.now))
+        result work.old work.new }
+{
+    let served = publish_version(alloc, work, limits, caller, new)?;
+    let name = new.name.as_str();
+    let line = tell_change(alloc, work, caller, traced, "publish", name, new.version)?;
+    Ok(ServedTold { served, line })
 }

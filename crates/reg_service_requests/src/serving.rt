@@ -1,27 +1,22 @@
-//! Deciding a request, telling what it changes, and serving or doing what is allowed.
+//! Deciding a request, and serving or doing what is allowed, with the line of what it changes.
 
-ghost use Rattle.std.specs.Prelude.{◌≡◌, IsSome, None, false, true};
+ghost use Rattle.std.specs.Prelude.{◌≡◌, IsSome, false, true};
 ghost use Rattle.std.specs.Option.{option_map};
 ghost use Rattle.reg_access.specs.Admitted.{needs_crate};
 ghost use Rattle.reg_access.specs.JoinRows.{names_version};
 ghost use Rattle.reg_model.specs.Events.{action_of as action_asked};
 ghost use Rattle.reg_policy.specs.Events.{asked_of};
 ghost use Rattle.reg_tables.specs.Works.{IsAtWork, has_failed};
-ghost use Rattle.reg_service_requests.specs.Granted.{GrantsTo};
-ghost use Rattle.reg_api_replies.specs.declared.reply.Reply.TheVariants.{Denied};
 ghost use Rattle.reg_tables.specs.Calling.{Runs};
 ghost use Rattle.reg_service_requests.specs.Telling.{GrantsTold, ServesTold};
-ghost use Rattle.reg_service_requests.specs.declared.served.Served.TheVariants.{Told};
 
 use crate::marking::set_yanked;
-use crate::owning::{add_owners, remove_owners};
+use crate::owning::own;
 use crate::publishing::publish;
 use crate::reading::{list_owners, read_archive, read_config, read_index};
 use crate::served::Served;
-use crate::telling::tell_request;
-use crate::told::ServedTold;
+use crate::told::{ServedTold, denied, untold};
 use reg_access::{Admission, Caller, admit};
-use reg_api_replies::Reply;
 use reg_body::Limits;
 use reg_line::Digest;
 use reg_model::laws::access_law;
@@ -30,40 +25,8 @@ use reg_tables::{Result, Work};
 use sqlite::Alter;
 use std::alloc::Global;
 
-/// Serves or does what the access rules allow.
+/// Serves or does what the access rules allow, and tells what it changes if that is wanted.
 fn grant<S: Alter>(
-    alloc: Global,
-    work: &mut Work<'_, S>,
-    limits: &Limits,
-    caller: &Caller,
-    asked: &Asked<'_>,
-) -> Result<Served>
-    requires at_work { IsAtWork S.Store work.old }
-    requires goes_on { has_failed work.old ≡ false }
-    requires there { needs_crate (action_asked (asked_of asked.now)) ≡ true
-        → IsSome caller.now.found }
-    requires named { names_version (action_asked (asked_of asked.now)) ≡ true
-        → IsSome caller.now.version }
-    ensures { GrantsTo limits.now caller.now S.Store (asked_of asked.now)
-        result work.old work.new }
-{
-    match asked {
-        Asked::Faulty(rule) => Ok(Served::Told(Reply::Denied(*rule))),
-        Asked::Read(Reading::Config) => read_config(alloc, work),
-        Asked::Read(Reading::Search(_, _)) => Ok(Served::Seeks(caller.account)),
-        Asked::Index(_) => read_index(alloc, work, caller.found_crate()),
-        Asked::Download(_, _) => read_archive(work, caller.found_version()),
-        Asked::ListOwners(_) => list_owners(alloc, work, caller.found_crate()),
-        Asked::Publish(new) => publish(alloc, work, limits, caller, new),
-        Asked::Yank(_, version) => set_yanked(alloc, work, caller.found_crate(), version, true),
-        Asked::Unyank(_, version) => set_yanked(alloc, work, caller.found_crate(), version, false),
-        Asked::AddOwners(_, logins) => add_owners(alloc, work, caller.found_crate(), logins),
-        Asked::RemoveOwners(_, logins) => remove_owners(alloc, work, caller.found_crate(), logins),
-    }
-}
-
-/// Tells the line of what is allowed, if one is wanted, and then serves or does it.
-fn grant_told<S: Alter>(
     alloc: Global,
     work: &mut Work<'_, S>,
     limits: &Limits,
@@ -80,19 +43,18 @@ fn grant_told<S: Alter>(
     ensures { GrantsTold traced limits.now caller.now S.Store (asked_of asked.now)
         result work.old work.new }
 {
-    let line = tell_request(alloc, work, caller, asked, traced)?;
-    let served = grant(alloc, work, limits, caller, asked)?;
-    Ok(ServedTold { served, line })
-}
-
-/// A denial, which has no line.
-fn denied(rule: Rule) -> ServedTold
-    ensures served { result.served ≡ Told (Denied rule) }
-    ensures line { result.line ≡ None }
-{
-    ServedTold {
-        served: Served::Told(Reply::Denied(rule)),
-        line: None,
+    match asked {
+        Asked::Faulty(rule) => Ok(denied(*rule)),
+        Asked::Read(Reading::Config) => untold(read_config(alloc, work)),
+        Asked::Read(Reading::Search(_, _)) => untold(Ok(Served::Seeks(caller.account))),
+        Asked::Index(_) => untold(read_index(alloc, work, caller.found_crate())),
+        Asked::Download(_, _) => untold(read_archive(work, caller.found_version())),
+        Asked::ListOwners(_) => untold(list_owners(alloc, work, caller.found_crate())),
+        Asked::Publish(new) => publish(alloc, work, limits, caller, new, traced),
+        Asked::Yank(_, version) => set_yanked(alloc, work, caller, version, true, traced),
+        Asked::Unyank(_, version) => set_yanked(alloc, work, caller, version, false, traced),
+        Asked::AddOwners(_, logins) => own(alloc, work, caller, logins, true, traced),
+        Asked::RemoveOwners(_, logins) => own(alloc, work, caller, logins, false, traced),
     }
 }
 
@@ -117,6 +79,6 @@ pub fn serve_told<S: Alter>(
     };
     match admit(work, digest, &action_of(asked))? {
         Admission::Denied(rule) => Ok(denied(rule)),
-        Admission::Allowed(caller) => grant_told(alloc, work, limits, &caller, asked, traced),
+        Admission::Allowed(caller) => grant(alloc, work, limits, &caller, asked, traced),
     }
 }

@@ -1,17 +1,42 @@
 //! What a request comes to, with its line.
 
-ghost use Rattle.std.specs.Prelude.{◌≡◌, string_bytes};
+ghost use Rattle.std.specs.Prelude.{◌≡◌, None, string_bytes};
 ghost use Rattle.std.specs.Option.{option_map};
-ghost use Rattle.reg_service_requests.specs.Telling.{line_with};
+ghost use Rattle.reg_api_replies.specs.declared.reply.Reply.TheVariants.{Denied};
+ghost use Rattle.reg_service_requests.specs.Telling.{IsUntold, line_with};
+ghost use Rattle.reg_service_requests.specs.declared.served.Served.TheVariants.{Told};
 
 use crate::served::Served;
 use reg_api_replies::Reply;
+use reg_policy::Rule;
+use reg_tables::Result;
 
 /// The outcome of a request, and the line of what it changes.
 #[derive(Drop)]
 pub struct ServedTold {
     pub served: Served,
     pub line: Option<String>,
+}
+
+/// A denial, which has no line.
+pub(crate) fn denied(rule: Rule) -> ServedTold
+    ensures served { result.served ≡ Told (Denied rule) }
+    ensures line { result.line ≡ None }
+{
+    ServedTold {
+        served: Served::Told(Reply::Denied(rule)),
+        line: None,
+    }
+}
+
+/// An outcome that changes nothing, and so has no line.
+pub(crate) fn untold(served: Result<Served>) -> Result<ServedTold>
+    ensures { IsUntold served result }
+{
+    match served {
+        Ok(served) => Ok(ServedTold { served, line: None }),
+        Err(fault) => Err(fault),
+    }
 }
 
 /// The reply to a request, and the line of what it changed.

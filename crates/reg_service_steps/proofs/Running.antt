@@ -75,3 +75,36 @@ module _ {S : Type 0} (g : Ghosts S) where
     leaves = then_called g x (Ok y) a b c one.leaves two.leaves;
   }
   runs_after x (Err e) a b c one two made = record { told = λ clean. tt; leaves = then_called g x (Err e) a b c one.leaves two.leaves }
+
+  -- it runs, and then all that follows is asked
+  pub runs_then : {T U E F : Type 0} {P : Trees → Trees → T → Type 0} {R : Trees → U → Type 0} {Q : Trees → Trees → U → Type 0} (x : T) (r : Result U F) (a b c : Work S) → Runs {E = E} g a b (Ok x) P → Asks g b c r R
+      → ((y : U) → P (rows_seen g a) (rows_seen g c) x → R (rows_seen g c) y → Q (rows_seen g a) (rows_seen g c) y) → Runs g a c r Q
+  runs_then {P} {R} x (Ok y) a b c one two made = record {
+    told = λ clean.
+        let early : HasCleanDisk (seen g b) = omega (arith, clean, two.leaves.survives.clean) in
+        let same = sym (same_rows g y b c two clean) in
+        made y (subst (λ db. P (rows_seen g a) db x) same (one.told early)) (subst (λ db. R db y) same (two.told clean));
+    leaves = then_called g x (Ok y) a b c one.leaves two.leaves;
+  }
+  runs_then x (Err e) a b c one two made = record { told = λ clean. tt; leaves = then_called g x (Err e) a b c one.leaves two.leaves }
+
+  -- it is asked, then changed, and then all that follows is asked
+  pub runs_told : {T U V E F H : Type 0} {P : Trees → T → Type 0} {C : Trees → Trees → U → Type 0} {R : Trees → V → Type 0} {Q : Trees → Trees → V → Type 0} (x : T) (z : U) (r : Result V H) (a b c d : Work S) → Asks {E = E} g a b (Ok x) P → Runs {E = F} g b c (Ok z) C → Asks g c d r R
+      → ((y : V) → P (rows_seen g a) x → C (rows_seen g a) (rows_seen g d) z → R (rows_seen g d) y → Q (rows_seen g a) (rows_seen g d) y) → Runs g a d r Q
+  runs_told {C} {R} x z r a b c d one two three made =
+      runs_after {R = λ before after y. C before after z × R after y} x r a b d one (runs_then z r b c d two three (λ y changes tells. (changes, tells))) (λ y is both. made y is both.0 both.1)
+
+  -- what is answered is made of what ran
+  pub runs_made : {T U E F : Type 0} {P : Trees → Trees → T → Type 0} {Q : Trees → Trees → U → Type 0} (x : T) (y : U) (a b : Work S) → (P (rows_seen g a) (rows_seen g b) x → Q (rows_seen g a) (rows_seen g b) y) → Runs {E = E} g a b (Ok x) P → Runs {E = F} g a b (Ok y) Q
+  runs_made x y a b made one = record { told = λ clean. made (one.told clean); leaves = called_ok g x y a b one.leaves }
+
+  -- what is answered is made of what ran and what was asked after it
+  pub runs_ended : {T U V E F H : Type 0} {P : Trees → Trees → T → Type 0} {R : Trees → U → Type 0} {Q : Trees → Trees → V → Type 0} (x : T) (z : U) (y : V) (a b c : Work S) → Runs {E = E} g a b (Ok x) P → Asks {E = F} g b c (Ok z) R
+      → (P (rows_seen g a) (rows_seen g c) x → R (rows_seen g c) z → Q (rows_seen g a) (rows_seen g c) y) → Runs {E = H} g a c (Ok y) Q
+  runs_ended {P} {R} x z y a b c one two made = runs_made z y a c (λ both. made both.0 both.1) (runs_then {Q = λ before after w. P before after x × R after w} x (Ok z) a b c one two (λ w ran told. (ran, told)))
+
+  -- and of what was asked before it
+  pub runs_whole : {T U V W E F H I : Type 0} {P : Trees → T → Type 0} {C : Trees → Trees → U → Type 0} {R : Trees → V → Type 0} {Q : Trees → Trees → W → Type 0} (x : T) (z : U) (v : V) (y : W) (a b c d : Work S) → Asks {E = E} g a b (Ok x) P → Runs {E = F} g b c (Ok z) C → Asks {E = H} g c d (Ok v) R
+      → (P (rows_seen g a) x → C (rows_seen g a) (rows_seen g d) z → R (rows_seen g d) v → Q (rows_seen g a) (rows_seen g d) y) → Runs {E = I} g a d (Ok y) Q
+  runs_whole {P} {C} {R} x z v y a b c d one two three made =
+      runs_made v y a d (λ all. made all.0.0 all.0.1 all.1) (runs_told {Q = λ before after w. (P before x × C before after z) × R after w} x z (Ok v) a b c d one two three (λ w is changes told. ((is, changes), told)))

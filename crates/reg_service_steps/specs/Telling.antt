@@ -1,4 +1,4 @@
--- The line of what changes, told before it is done.
+-- The line of what changes.
 use Rattle.std.specs.Prelude.{◌≡◌, Bool, true, false, List, not, None, Option, Some, Result, Ok, String, string_bytes}
 use Rattle.std.specs.declared.alloc.AllocError.{AllocError}
 use Rattle.std.specs.declared.alloc.Global.{Global}
@@ -11,14 +11,14 @@ use Rattle.reg_model.specs.Trail.{IsPassed, line, line_of, only_if}
 use Rattle.reg_tables_meaning.specs.Calls.{Tells}
 
 -- this is the line of the event, where nothing refuses it
-abbrev pub TellsLine : Event → Trees → Option (String Global) → Type 0
-TellsLine e db found = Tells (λ ids s. (limits : Limits) → IsPassed limits s e
+abbrev pub TellsLine : Limits → Event → Trees → Option (String Global) → Type 0
+TellsLine limits e db found = Tells (λ ids s. IsPassed limits s e
     → line limits s e ≡ option_map string_bytes found) db
 
 -- the same, if a line is wanted
-abbrev pub TellsIf : Bool → Event → Trees → Option (String Global) → Type 0
-TellsIf true e db found = TellsLine e db found
-TellsIf false e db found = found ≡ None
+abbrev pub TellsIf : Bool → Limits → Event → Trees → Option (String Global) → Type 0
+TellsIf true limits e db found = TellsLine limits e db found
+TellsIf false limits e db found = found ≡ None
 
 -- a line that was made is told
 abbrev pub IsToldLine : Result (String Global) AllocError → Option (String Global) → Type 0

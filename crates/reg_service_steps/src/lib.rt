@@ -18,4 +18,4 @@ pub use base::find_base;
 pub use files::index_file;
 pub use lines::{line_of, with_commas};
 pub use naming::find_named;
-pub use telling::{differs, has_login, have_login, tell_words, told_line};
+pub use telling::{differs, has_login, have_login, is_told, tell_words, told_line};

@@ -1,6 +1,6 @@
 //! The line of what changes, from its words and from what differs.
 
-ghost use Rattle.std.specs.Prelude.{◌≡◌, false, map, string_bytes};
+ghost use Rattle.std.specs.Prelude.{◌≡◌, ◌&&◌, false, map, string_bytes};
 ghost use Rattle.std.specs.List.{list_any};
 ghost use Rattle.std.specs.Option.{option_map};
 ghost use Rattle.std.specs.Str.{bytes_eq};
@@ -13,6 +13,13 @@ use reg_policy::same_text;
 use reg_tables::{Account, Result, Work};
 use sqlite::Alter;
 use std::alloc::{AllocError, Global};
+
+/// Whether a line is to be told: one is wanted, and something changed.
+pub fn is_told(traced: bool, changed: bool) -> bool
+    ensures { result ≡ (traced && changed) }
+{
+    traced && changed
+}
 
 /// The line, unless there was no memory for it.
 pub fn told_line<S: Alter>(
@@ -29,19 +36,19 @@ pub fn told_line<S: Alter>(
     }
 }
 
-/// The line of these words, if something changes; none otherwise.
+/// The line of these words, if it is to be told.
 pub fn tell_words<S: Alter>(
     alloc: Global,
     work: &mut Work<'_, S>,
-    changes: bool,
+    told: bool,
     words: &[&str],
 ) -> Result<Option<String>>
     requires at_work { IsAtWork S.Store work.old }
     requires goes_on { has_failed work.old ≡ false }
     ensures { Asks S.Store work.old work.new result (λ db found. option_map string_bytes found
-        ≡ line_if changes (map (λ w. w.now) words.now)) }
+        ≡ line_if told (map (λ w. w.now) words.now)) }
 {
-    if !changes {
+    if !told {
         return Ok(None);
     }
     told_line(work, line_of(alloc, words))

@@ -24,3 +24,8 @@ pub record Runs {S T E : Type 0} (g : Ghosts S) (old new : Work S) (r : Result T
 abbrev pub Does : {S T E : Type 0} → Ghosts S → Work S → Work S → Result T E
     → (Trees → Trees → Type 0) → Type 0
 Does g old new r change = Runs g old new r (λ a b done. change a b)
+
+-- the same of a change whose answer tells this of the rows before
+abbrev pub Sets : {S T E : Type 0} → Ghosts S → Work S → Work S → Result T E
+    → (Trees → Trees → Type 0) → (Trees → T → Type 0) → Type 0
+Sets g old new r change tells = Runs g old new r (λ a b it. change a b × tells a it)

@@ -1,7 +1,7 @@
 //! Calls on crates and their versions.
 
 ghost use Rattle.reg_tables_meaning.specs.Calls.{AddsFirst, AddsNext, SetsYanked, TellsOtherMark};
-ghost use Rattle.reg_tables.specs.Calling.{Asks, Does, Runs};
+ghost use Rattle.reg_tables.specs.Calling.{Does, Runs, Sets};
 ghost use Rattle.reg_tables.specs.Works.{IsAtWork};
 
 use crate::work::{Result, Work, call};
@@ -37,21 +37,12 @@ impl<S: Alter> Work<'_, S> {
         )
     }
 
-    /// Whether a version that is there, of the crate with this id, has not this mark.
-    pub fn has_other_mark(&mut self, crate_id: u32, text: &str, yanked: bool) -> Result<bool>
+    /// Yanks or unyanks a version of a crate, and returns whether it had the other mark. If it is
+    /// not there, nothing changes.
+    pub fn set_yanked(&mut self, crate_id: u32, text: &str, yanked: bool) -> Result<bool>
         requires { IsAtWork S.Store self.old }
-        ensures { Asks S.Store self.old self.new result (TellsOtherMark crate_id text.now yanked) }
-    {
-        call!(
-            self,
-            crates::has_other_mark(&mut self.tables.conn, crate_id, text, yanked)
-        )
-    }
-
-    /// Yanks or unyanks a version of a crate. If it is not there, nothing changes.
-    pub fn set_yanked(&mut self, crate_id: u32, text: &str, yanked: bool) -> Result<()>
-        requires { IsAtWork S.Store self.old }
-        ensures { Does S.Store self.old self.new result (SetsYanked crate_id text.now yanked) }
+        ensures { Sets S.Store self.old self.new result (SetsYanked crate_id text.now yanked)
+            (TellsOtherMark crate_id text.now yanked) }
     {
         call!(
             self,

@@ -1,7 +1,8 @@
 //! Calls on the owners and the readers of crates.
 
-ghost use Rattle.reg_tables_meaning.specs.Calls.{AddsOwner, AddsReader, ListsOwners, ListsReaders, RemovesOwner, RemovesReader};
-ghost use Rattle.reg_tables.specs.Calling.{Asks, Does};
+ghost use Rattle.std.specs.Prelude.{not};
+ghost use Rattle.reg_tables_meaning.specs.Calls.{AddsOwner, AddsReader, ListsOwners, ListsReaders, RemovesOwner, RemovesReader, TellsPair};
+ghost use Rattle.reg_tables.specs.Calling.{Asks, Sets};
 ghost use Rattle.reg_tables.specs.Works.{IsAtWork};
 
 use crate::work::{Result, Work, call};
@@ -12,10 +13,12 @@ use sqlite::Alter;
 use std::alloc::Global;
 
 impl<S: Alter> Work<'_, S> {
-    /// Makes an account an owner of a crate. A crate that does not exist gets none.
-    pub fn add_owner(&mut self, crate_id: u32, account: u32) -> Result<()>
+    /// Makes an account an owner of a crate, and returns whether it was none. A crate that does not
+    /// exist gets none.
+    pub fn add_owner(&mut self, crate_id: u32, account: u32) -> Result<bool>
         requires { IsAtWork S.Store self.old }
-        ensures { Does S.Store self.old self.new result (AddsOwner crate_id account) }
+        ensures { Sets S.Store self.old self.new result (AddsOwner crate_id account)
+            (λ db added. TellsPair Relation.Owners crate_id account db (not added)) }
     {
         call!(
             self,
@@ -27,10 +30,11 @@ impl<S: Alter> Work<'_, S> {
         )
     }
 
-    /// Removes an account from a crate's owners.
-    pub fn remove_owner(&mut self, crate_id: u32, account: u32) -> Result<()>
+    /// Removes an account from a crate's owners, and returns whether it was one.
+    pub fn remove_owner(&mut self, crate_id: u32, account: u32) -> Result<bool>
         requires { IsAtWork S.Store self.old }
-        ensures { Does S.Store self.old self.new result (RemovesOwner crate_id account) }
+        ensures { Sets S.Store self.old self.new result (RemovesOwner crate_id account)
+            (TellsPair Relation.Owners crate_id account) }
     {
         call!(
             self,
@@ -54,10 +58,12 @@ impl<S: Alter> Work<'_, S> {
         )
     }
 
-    /// Makes an account a reader of a crate. A crate that does not exist gets none.
-    pub fn add_reader(&mut self, crate_id: u32, account: u32) -> Result<()>
+    /// Makes an account a reader of a crate, and returns whether it was none. A crate that does not
+    /// exist gets none.
+    pub fn add_reader(&mut self, crate_id: u32, account: u32) -> Result<bool>
         requires { IsAtWork S.Store self.old }
-        ensures { Does S.Store self.old self.new result (AddsReader crate_id account) }
+        ensures { Sets S.Store self.old self.new result (AddsReader crate_id account)
+            (λ db added. TellsPair Relation.Readers crate_id account db (not added)) }
     {
         call!(
             self,
@@ -69,10 +75,11 @@ impl<S: Alter> Work<'_, S> {
         )
     }
 
-    /// Removes an account from a crate's readers.
-    pub fn remove_reader(&mut self, crate_id: u32, account: u32) -> Result<()>
+    /// Removes an account from a crate's readers, and returns whether it was one.
+    pub fn remove_reader(&mut self, crate_id: u32, account: u32) -> Result<bool>
         requires { IsAtWork S.Store self.old }
-        ensures { Does S.Store self.old self.new result (RemovesReader crate_id account) }
+        ensures { Sets S.Store self.old self.new result (RemovesReader crate_id account)
+            (TellsPair Relation.Readers crate_id account) }
     {
         call!(
             self,

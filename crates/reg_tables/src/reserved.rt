@@ -1,8 +1,9 @@
 //! Calls on reserved names.
 
+ghost use Rattle.std.specs.Prelude.{not};
 ghost use Rattle.reg_model.specs.Changes.{with_reserved, without_reserved};
 ghost use Rattle.reg_tables_meaning.specs.Calls.{TellsReserved, Turns};
-ghost use Rattle.reg_tables.specs.Calling.{Asks, Does};
+ghost use Rattle.reg_tables.specs.Calling.{Asks, Sets};
 ghost use Rattle.reg_tables.specs.Works.{IsAtWork};
 
 use crate::work::{Result, Work, call};
@@ -11,19 +12,21 @@ use reg_tables_meaning::reserved;
 use sqlite::Alter;
 
 impl<S: Alter> Work<'_, S> {
-    /// Reserves a canonical name.
-    pub fn reserve(&mut self, canon: &CanonText) -> Result<()>
+    /// Reserves a canonical name, and returns whether the administrator had not reserved it.
+    pub fn reserve(&mut self, canon: &CanonText) -> Result<bool>
         requires { IsAtWork S.Store self.old }
-        ensures { Does S.Store self.old self.new result (Turns (λ ids. with_reserved canon.now)) }
+        ensures { Sets S.Store self.old self.new result (Turns (λ ids. with_reserved canon.now))
+            (λ db added. TellsReserved canon.now db (not added)) }
     {
         call!(self, reserved::add(&mut self.tables.conn, canon.as_str()))
     }
 
-    /// Frees a reserved name. Names that are always reserved stay so.
-    pub fn unreserve(&mut self, canon: &CanonText) -> Result<()>
+    /// Frees a reserved name, and returns whether the administrator had reserved it. Names that are
+    /// always reserved stay so.
+    pub fn unreserve(&mut self, canon: &CanonText) -> Result<bool>
         requires { IsAtWork S.Store self.old }
-        ensures { Does S.Store self.old self.new result
-            (Turns (λ ids. without_reserved canon.now)) }
+        ensures { Sets S.Store self.old self.new result (Turns (λ ids. without_reserved canon.now))
+            (TellsReserved canon.now) }
     {
         call!(self, reserved::free(&mut self.tables.conn, canon.as_str()))
     }

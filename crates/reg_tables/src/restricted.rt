@@ -1,7 +1,7 @@
 //! Calls on restricted crates.
 
-ghost use Rattle.reg_tables_meaning.specs.Calls.{Restricts, TellsRestricted};
-ghost use Rattle.reg_tables.specs.Calling.{Asks, Does};
+ghost use Rattle.reg_tables_meaning.specs.Calls.{Restricts, TellsOtherSight, TellsRestricted};
+ghost use Rattle.reg_tables.specs.Calling.{Asks, Sets};
 ghost use Rattle.reg_tables.specs.Works.{IsAtWork};
 
 use crate::work::{Result, Work, call};
@@ -9,11 +9,12 @@ use reg_tables_meaning::restricted;
 use sqlite::Alter;
 
 impl<S: Alter> Work<'_, S> {
-    /// Restricts a crate to its owners and readers, or opens it to all. A crate that does not exist
-    /// becomes neither.
-    pub fn set_restricted(&mut self, crate_id: u32, restricted: bool) -> Result<()>
+    /// Restricts a crate to its owners and readers, or opens it to all, and returns whether it was
+    /// not so. A crate that does not exist becomes neither.
+    pub fn set_restricted(&mut self, crate_id: u32, restricted: bool) -> Result<bool>
         requires { IsAtWork S.Store self.old }
-        ensures { Does S.Store self.old self.new result (Restricts restricted crate_id) }
+        ensures { Sets S.Store self.old self.new result (Restricts restricted crate_id)
+            (TellsOtherSight crate_id restricted) }
     {
         call!(
             self,

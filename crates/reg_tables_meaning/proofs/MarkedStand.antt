@@ -177,3 +177,10 @@ module _ (ids : Ids) (publications : List Publication) (yanked : finset.FinSet m
   left now is =
       let same = same_passes (λ row. not (is_at_one_of (filter (is_number 0 id) rows) row)) (λ row. not (is_number 0 id row)) rows (λ r k. ap not (told r k)) in
       subst (StandMarked ids.crates (mark_in (spelling_at ids id) false marked)) (sym (is ∙ same)) removed
+
+  -- what is told of a crate that is there
+  pub mark_told : (n : Text) → spelling_at ids id ≡ Some n → (b : Bool) → list_any (is_number 0 id) rows ≡ b → finset.contains marked (canon n) ≡ b
+  mark_told n at b is = sym (is_marked ∙ ap (λ o. told_of o false (λ name. finset.contains marked (canon name))) at) ∙ is
+
+  pub no_crate_told : list_any (has_rowid (pos id)) (db 7) ≡ false → (n : Text) → spelling_at ids id ≡ Some n → {A : Type 0} → A
+  no_crate_told none n at = true_not_false _ (crate_there ids publications yanked db stands id n (there_at ids id n at)) none

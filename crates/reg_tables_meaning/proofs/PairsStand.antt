@@ -18,7 +18,7 @@ use Rattle.sqlite.specs.Order.{Row}
 use Rattle.reg_model.specs.Registry.{Publication, Text, mark_cmp, owner_cmp}
 use Rattle.sqlite.specs.declared.types.Value.TheVariants.{Int}
 use Rattle.reg_tables_meaning.specs.Stands.{Ids, StandCrates, StandPairs, spelling_at}
-use Rattle.std.proofs.Common.{◌≡◌, ℕ, ℤ, pos, List, ◌∷◌, true, false, not, Option, Some, None, refl, sym, ◌∙◌}
+use Rattle.std.proofs.Common.{◌≡◌, ℕ, ℤ, pos, Bool, List, ◌∷◌, true, false, not, Option, Some, None, refl, sym, ◌∙◌}
 use Rattle.std.specs.FinSet as finset
 
 module _ (ids : Ids) (publications : List Publication) (yanked : finset.FinSet mark_cmp) (db : Trees) (stands : StandCrates ids publications yanked db) (held : finset.FinSet owner_cmp) (rows : List Row) (pairs : StandPairs ids.crates held rows) (id account : ℕ) where
@@ -58,3 +58,11 @@ module _ (ids : Ids) (publications : List Publication) (yanked : finset.FinSet m
   -- what DELETE leaves
   pub left : (now : List Row) → now ≡ filter (λ row. not (is_at_one_of (filter (is_owner id account) rows) row)) rows → StandPairs ids.crates (remove_at (spelling_at ids id) account held) now
   left now is = pairs_stay ids.crates (remove_at (spelling_at ids id) account held) (filter (λ r. not (is_owner id account r)) rows) now (is ∙ removes_passing (is_owner id account) rows pairs.apart) removed
+
+  -- whether it is there
+  pub pair_told : (n : Text) → spelling_at ids id ≡ Some n → (b : Bool) → list_any (is_owner id account) rows ≡ b → finset.contains held (canon n, account) ≡ b
+  pair_told n at b is = sym (is_there ids publications yanked db stands held id n (there_at ids id n at) account rows pairs) ∙ is
+
+  -- where no crate is there, none has its id
+  pub no_crate_told : list_any (has_rowid (pos id)) (db 7) ≡ false → (n : Text) → spelling_at ids id ≡ Some n → {A : Type 0} → A
+  no_crate_told none n at = true_not_false _ (crate_there ids publications yanked db stands id n (there_at ids id n at)) none

@@ -1,9 +1,9 @@
 -- What statements of a transaction leave, one after another, where some of them may write.
-use Rattle.std.proofs.Common.{ℕ, inl, Err, IsErr, Ok, Result, OnErr, OnOk, arith, refl}
+use Rattle.std.proofs.Common.{ℕ, Bool, inl, Err, IsErr, Ok, Result, OnErr, OnOk, arith, refl}
 use Rattle.sqlite.specs.Order.{Row}
 use Rattle.sqlite.specs.State.{State, HasCleanDisk, Survives}
 use Rattle.sqlite.proofs.StateLemmas.{survives_then}
-use Rattle.reg_tables_schema.specs.Changes.{Adds, AddsColumns, Touches}
+use Rattle.reg_tables_schema.specs.Changes.{Adds, AddsColumns, Removes, Touches}
 use Rattle.reg_tables_schema.specs.States.{IsInside, IsReady}
 use Rattle.reg_tables_schema.specs.Statements.{IsReading, IsWriting}
 use Rattle.reg_tables_schema.specs.Steps.{LeavesSame, LeavesWithin, Within}
@@ -77,6 +77,9 @@ adds {tree = tree} {a = a} {b = b} h = writes h (λ clean at added. become_withi
 
 pub adds_columns : {T E : Type 0} {tree : ℕ} {columns : Row} {a b : State} {r : Result T E} → IsWriting a b r (AddsColumns tree columns) → Leads a b r
 adds_columns {tree = tree} {a = a} {b = b} h = writes h (λ clean at added. become_within a b tree _ clean at added.1.becomes)
+
+pub removes : {T E : Type 0} {tree : ℕ} {test : Row → Bool} {a b : State} {r : Result T E} → IsWriting a b r (Removes tree test) → Leads a b r
+removes {tree = tree} {a = a} {b = b} h = writes h (λ clean at gone. become_within a b tree _ clean at gone)
 
 pub touches : {T E : Type 0} {C : State → State → Type 0} (tree : ℕ) {a b : State} {r : Result T E} → IsWriting a b r C → (C a b → Touches tree a b) → Leads a b r
 touches tree {a = a} {b = b} h is = writes h (λ clean at changed. touch_within a b tree clean at (is changed))

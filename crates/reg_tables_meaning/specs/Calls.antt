@@ -30,7 +30,7 @@ use Rattle.reg_tables_meaning.specs.declared.crates.NewVersion.{NewVersion}
 use Rattle.reg_tables_meaning.specs.declared.tokens.TokenRows.{TokenRows}
 use Rattle.reg_tables_meaning.specs.Entries.{entry_of_account, shown_version, version_shown}
 use Rattle.reg_tables_meaning.specs.FoundTokens.{IsFound, IsRow}
-use Rattle.reg_tables_meaning.specs.Relations.{accounts_related}
+use Rattle.reg_tables_meaning.specs.Relations.{accounts_related, related}
 use Rattle.reg_tables_meaning.specs.Stands.{Holds, Ids, StandsBy, scopes_of, spelling_at}
 use Rattle.reg_tables_meaning.specs.Summaries.{highest_of}
 use Rattle.reg_tables_meaning.specs.Changes.{ids_with_crate, ids_with_version, mark_at, next_crate, no_pair_at, pair_at, restricted_at, told_of}
@@ -151,13 +151,13 @@ AddsNext id v old new =
     → StandsBy (ids_with_version id (published name v) ids)
     (with_publication (published name v) s) new
 
--- a version is yanked, or no longer
 -- whether a version that is there, of the crate with this id, has not this mark
 abbrev pub TellsOtherMark : ℕ → Text → Bool → Trees → Bool → Type 0
 TellsOtherMark id text yanked db other = Tells (λ ids s. (n : Text) → spelling_at ids id ≡ Some n
     → has_version s (canon n) text ≡ true
     → is_yanked s n text ≡ (if other then not yanked else yanked)) db
 
+-- a version is yanked, or no longer
 abbrev pub SetsYanked : ℕ → Text → Bool → Trees → Trees → Type 0
 SetsYanked id text yanked = Turns (λ ids. mark_at ids id text yanked)
 
@@ -167,6 +167,11 @@ AddsPair relation id account = Turns (λ ids. pair_at relation ids id account)
 
 abbrev pub RemovesPair : Relation → ℕ → ℕ → Trees → Trees → Type 0
 RemovesPair relation id account = Turns (λ ids. no_pair_at relation ids id account)
+
+-- whether an account is in a relation with the crate of this id
+abbrev pub TellsPair : Relation → ℕ → ℕ → Trees → Bool → Type 0
+TellsPair relation id account db is = Tells (λ ids s. (n : Text) → spelling_at ids id ≡ Some n
+    → finset.contains (related relation s) (canon n, account) ≡ is) db
 
 -- the accounts in a relation with the crate of this id, by their ids
 abbrev pub ListsPairs : Relation → ℕ → Trees → List Account → Type 0
@@ -195,6 +200,11 @@ ListsReaders = ListsPairs Readers
 -- a crate is restricted, or open to all
 abbrev pub Restricts : Bool → ℕ → Trees → Trees → Type 0
 Restricts restricted id = Turns (λ ids. restricted_at ids id restricted)
+
+-- whether the crate with this id has yet to become so
+abbrev pub TellsOtherSight : ℕ → Bool → Trees → Bool → Type 0
+TellsOtherSight id restricted db other = Tells (λ ids s. (n : Text) → spelling_at ids id ≡ Some n
+    → is_restricted s n ≡ (if other then not restricted else restricted)) db
 
 abbrev pub TellsRestricted : ℕ → Trees → Bool → Type 0
 TellsRestricted id db there = Tells

@@ -156,41 +156,27 @@ fn find_other_mark<S: Alter>(
     }
 }
 
-/// Whether a version that is there has not this mark.
-pub fn has_other_mark<S: Alter>(
+/// Yanks or unyanks a version of a crate that is there, and returns whether it had the other mark.
+/// If it had not, nothing is written.
+pub fn mark<S: Alter>(
     conn: &mut Connection<S>,
     crate_id: u32,
     text: &str,
     yanked: bool,
 ) -> Result<bool>
     requires { IsReady (state S.Store conn.old) }
-    ensures told { Told S.Store conn.new result
-        (TellsOtherMark crate_id text.now yanked (rows_in S.Store conn.old)) }
-    ensures same { KeepsAll S.Store conn.old conn.new result }
-{
-    let found = find_other_mark(conn, crate_id, text, yanked)?;
-    Ok(found.is_some())
-}
-
-/// Yanks or unyanks a version of a crate that is there. If it has this mark already, nothing is
-/// written.
-pub fn mark<S: Alter>(
-    conn: &mut Connection<S>,
-    crate_id: u32,
-    text: &str,
-    yanked: bool,
-) -> Result<()>
-    requires { IsReady (state S.Store conn.old) }
     ensures stands { Done S.Store conn.new result
         (SetsYanked crate_id text.now yanked
         (rows_in S.Store conn.old) (rows_in S.Store conn.new)) }
+    ensures tells { Told S.Store conn.new result
+        (TellsOtherMark crate_id text.now yanked (rows_in S.Store conn.old)) }
     ensures leaves { Steps S.Store conn.old conn.new result }
 {
     let found = find_other_mark(conn, crate_id, text, yanked)?;
     let Some(version) = found else {
-        return Ok(());
+        return Ok(false);
     };
     versions::set_yanked(conn, crate_id, release_key(text), text, yanked)?;
     summaries::remark(conn, crate_id, version)?;
-    Ok(())
+    Ok(true)
 }

@@ -1,11 +1,12 @@
 //! Owners and readers of crates: changes to the registry that the rows stand for, and what they
 //! show of it.
 
+ghost use Rattle.std.specs.Prelude.{not};
 ghost use Rattle.sqlite.specs.Held.{state};
 ghost use Rattle.reg_tables_schema.specs.States.{IsReady};
 ghost use Rattle.reg_tables_schema.specs.Statements.{rows_in};
 ghost use Rattle.reg_tables_schema.specs.Steps.{Done, KeepsAll, Steps, Told};
-ghost use Rattle.reg_tables_meaning.specs.Calls.{AddsPair, ListsPairs, RemovesPair};
+ghost use Rattle.reg_tables_meaning.specs.Calls.{AddsPair, ListsPairs, RemovesPair, TellsPair};
 
 use reg_tables_sql::accounts::Account;
 use reg_tables_sql::pairs::{Pair, Relation};
@@ -14,37 +15,42 @@ use reg_tables_sql::{crates, pairs};
 use sqlite::{Alter, Connection};
 use std::alloc::Global;
 
-/// Puts an account into the relation with a crate. A crate that does not exist gets none.
-pub fn add<S: Alter>(conn: &mut Connection<S>, relation: Relation, pair: Pair) -> Result<()>
+/// Puts an account into the relation with a crate, and returns whether it was not in it. A crate
+/// that does not exist gets none.
+pub fn add<S: Alter>(conn: &mut Connection<S>, relation: Relation, pair: Pair) -> Result<bool>
     requires { IsReady (state S.Store conn.old) }
     ensures stands { Done S.Store conn.new result
         (AddsPair relation pair.crate_id pair.account
         (rows_in S.Store conn.old) (rows_in S.Store conn.new)) }
+    ensures tells { Told S.Store conn.new result (λ added.
+        TellsPair relation pair.crate_id pair.account (rows_in S.Store conn.old) (not added)) }
     ensures leaves { Steps S.Store conn.old conn.new result }
 {
     let is_crate = crates::has_id(conn, pair.crate_id)?;
     if !is_crate {
-        return Ok(());
+        return Ok(false);
     }
     let is_pair = pairs::is_there(conn, relation, pair)?;
     if is_pair {
-        return Ok(());
+        return Ok(false);
     }
     pairs::insert(conn, relation, pair)?;
-    Ok(())
+    Ok(true)
 }
 
-/// Removes an account from the relation with a crate.
-#[tactic(auto, using(crate::proofs::Withins::refused_fails, crate::proofs::Withins::become_within))]
-pub fn remove<S: Alter>(conn: &mut Connection<S>, relation: Relation, pair: Pair) -> Result<()>
+/// Removes an account from the relation with a crate, and returns whether it was in it.
+pub fn remove<S: Alter>(conn: &mut Connection<S>, relation: Relation, pair: Pair) -> Result<bool>
     requires { IsReady (state S.Store conn.old) }
     ensures stands { Done S.Store conn.new result
         (RemovesPair relation pair.crate_id pair.account
         (rows_in S.Store conn.old) (rows_in S.Store conn.new)) }
+    ensures tells { Told S.Store conn.new result
+        (TellsPair relation pair.crate_id pair.account (rows_in S.Store conn.old)) }
     ensures leaves { Steps S.Store conn.old conn.new result }
 {
+    let is_pair = pairs::is_there(conn, relation, pair)?;
     pairs::remove(conn, relation, pair)?;
-    Ok(())
+    Ok(is_pair)
 }
 
 /// The accounts in the relation with a crate, by id.

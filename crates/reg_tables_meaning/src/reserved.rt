@@ -1,5 +1,6 @@
 //! Reserved names: changes to the registry that the rows stand for, and what they show of it.
 
+ghost use Rattle.std.specs.Prelude.{not};
 ghost use Rattle.sqlite.specs.Held.{state};
 ghost use Rattle.reg_tables_schema.specs.States.{IsReady};
 ghost use Rattle.reg_tables_schema.specs.Statements.{rows_in};
@@ -11,32 +12,36 @@ use reg_tables_sql::reserved;
 use reg_tables_sql::statements::Result;
 use sqlite::{Alter, Connection};
 
-/// Reserves a canonical name.
-pub fn add<S: Alter>(conn: &mut Connection<S>, canon: &str) -> Result<()>
+/// Reserves a canonical name, and returns whether it was not reserved.
+pub fn add<S: Alter>(conn: &mut Connection<S>, canon: &str) -> Result<bool>
     requires { IsReady (state S.Store conn.old) }
     ensures stands { Done S.Store conn.new result
         (Turns (λ ids. with_reserved canon.now)
         (rows_in S.Store conn.old) (rows_in S.Store conn.new)) }
+    ensures tells { Told S.Store conn.new result
+        (λ added. TellsReserved canon.now (rows_in S.Store conn.old) (not added)) }
     ensures leaves { Steps S.Store conn.old conn.new result }
 {
     if reserved::is_there(conn, canon)? {
-        return Ok(());
+        return Ok(false);
     }
     reserved::insert(conn, canon)?;
-    Ok(())
+    Ok(true)
 }
 
-/// Frees a reserved name.
-#[tactic(auto, using(crate::proofs::Withins::refused_fails, crate::proofs::Withins::become_within))]
-pub fn free<S: Alter>(conn: &mut Connection<S>, canon: &str) -> Result<()>
+/// Frees a reserved name, and returns whether it was reserved.
+pub fn free<S: Alter>(conn: &mut Connection<S>, canon: &str) -> Result<bool>
     requires { IsReady (state S.Store conn.old) }
     ensures stands { Done S.Store conn.new result
         (Turns (λ ids. without_reserved canon.now)
         (rows_in S.Store conn.old) (rows_in S.Store conn.new)) }
+    ensures tells { Told S.Store conn.new result
+        (TellsReserved canon.now (rows_in S.Store conn.old)) }
     ensures leaves { Steps S.Store conn.old conn.new result }
 {
+    let there = reserved::is_there(conn, canon)?;
     reserved::remove(conn, canon)?;
-    Ok(())
+    Ok(there)
 }
 
 /// Whether the administrator reserved the name.

@@ -5,46 +5,53 @@ ghost use Rattle.sqlite.specs.Held.{state};
 ghost use Rattle.reg_tables_schema.specs.States.{IsReady};
 ghost use Rattle.reg_tables_schema.specs.Statements.{rows_in};
 ghost use Rattle.reg_tables_schema.specs.Steps.{Done, KeepsAll, Steps, Told};
-ghost use Rattle.reg_tables_meaning.specs.Calls.{Restricts, TellsRestricted};
+ghost use Rattle.reg_tables_meaning.specs.Calls.{Restricts, TellsOtherSight, TellsRestricted};
 
 use reg_tables_sql::statements::Result;
 use reg_tables_sql::{crates, restricted};
 use sqlite::{Alter, Connection};
 
-fn restrict<S: Alter>(conn: &mut Connection<S>, crate_id: u32) -> Result<()>
+fn restrict<S: Alter>(conn: &mut Connection<S>, crate_id: u32) -> Result<bool>
     requires { IsReady (state S.Store conn.old) }
     ensures stands { Done S.Store conn.new result
         (Restricts true crate_id (rows_in S.Store conn.old) (rows_in S.Store conn.new)) }
+    ensures tells { Told S.Store conn.new result
+        (TellsOtherSight crate_id true (rows_in S.Store conn.old)) }
     ensures leaves { Steps S.Store conn.old conn.new result }
 {
     let is_crate = crates::has_id(conn, crate_id)?;
     if !is_crate {
-        return Ok(());
+        return Ok(false);
     }
     let is_restricted = restricted::is_there(conn, crate_id)?;
     if is_restricted {
-        return Ok(());
+        return Ok(false);
     }
     restricted::insert(conn, crate_id)?;
-    Ok(())
+    Ok(true)
 }
 
-#[tactic(auto, using(crate::proofs::Withins::refused_fails, crate::proofs::Withins::become_within))]
-fn lift<S: Alter>(conn: &mut Connection<S>, crate_id: u32) -> Result<()>
+fn lift<S: Alter>(conn: &mut Connection<S>, crate_id: u32) -> Result<bool>
     requires { IsReady (state S.Store conn.old) }
     ensures stands { Done S.Store conn.new result
         (Restricts false crate_id (rows_in S.Store conn.old) (rows_in S.Store conn.new)) }
+    ensures tells { Told S.Store conn.new result
+        (TellsOtherSight crate_id false (rows_in S.Store conn.old)) }
     ensures leaves { Steps S.Store conn.old conn.new result }
 {
+    let is_restricted = restricted::is_there(conn, crate_id)?;
     restricted::remove(conn, crate_id)?;
-    Ok(())
+    Ok(is_restricted)
 }
 
-/// Restricts a crate, or opens it to all. A crate that does not exist becomes neither.
-pub fn set<S: Alter>(conn: &mut Connection<S>, crate_id: u32, restricted: bool) -> Result<()>
+/// Restricts a crate, or opens it to all, and returns whether it was not so. A crate that does not
+/// exist becomes neither.
+pub fn set<S: Alter>(conn: &mut Connection<S>, crate_id: u32, restricted: bool) -> Result<bool>
     requires { IsReady (state S.Store conn.old) }
     ensures stands { Done S.Store conn.new result
         (Restricts restricted crate_id (rows_in S.Store conn.old) (rows_in S.Store conn.new)) }
+    ensures tells { Told S.Store conn.new result
+        (TellsOtherSight crate_id restricted (rows_in S.Store conn.old)) }
     ensures leaves { Steps S.Store conn.old conn.new result }
 {
     if restricted {

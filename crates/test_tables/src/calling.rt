@@ -15,6 +15,12 @@ fn done(answer: Result<(), StoreFault>) -> Result<Answer, StoreFault> {
     Ok(Answer::Done)
 }
 
+/// The same of a call that answers whether it changed something, which the rows behind it show.
+fn set(answer: Result<bool, StoreFault>) -> Result<Answer, StoreFault> {
+    answer?;
+    Ok(Answer::Done)
+}
+
 fn on_accounts<S: Alter>(
     alloc: Global,
     work: &mut Work<'_, S>,
@@ -73,7 +79,7 @@ fn on_crates<S: Alter>(
             .add_crate(name, *account, &release.new_version())
             .map(Answer::Id),
         CrateCall::AddVersion(id, release) => done(work.add_version(*id, &release.new_version())),
-        CrateCall::Yank(id, text, yanked) => done(work.set_yanked(*id, text, *yanked)),
+        CrateCall::Yank(id, text, yanked) => set(work.set_yanked(*id, text, *yanked)),
         CrateCall::All => work.all_crates(alloc).map(Answer::Crates),
         CrateCall::Versions(id) => work.versions_of(alloc, *id).map(Answer::Versions),
         CrateCall::Summary(id) => work.summary_of(*id).map(Answer::Summary),
@@ -93,11 +99,11 @@ fn on_names<S: Alter>(
 {
     match call {
         NameCall::Crate(name) => work.crate_by_canon(name).map(Answer::Crate),
-        NameCall::Reserve(name) => done(work.reserve(name)),
-        NameCall::Unreserve(name) => done(work.unreserve(name)),
+        NameCall::Reserve(name) => set(work.reserve(name)),
+        NameCall::Unreserve(name) => set(work.unreserve(name)),
         NameCall::IsReserved(name) => work.is_reserved(name).map(Answer::Is),
-        NameCall::AddOwner(id, account) => done(work.add_owner(*id, *account)),
-        NameCall::RemoveOwner(id, account) => done(work.remove_owner(*id, *account)),
+        NameCall::AddOwner(id, account) => set(work.add_owner(*id, *account)),
+        NameCall::RemoveOwner(id, account) => set(work.remove_owner(*id, *account)),
         NameCall::Owners(id) => work.owners_of(alloc, *id).map(Answer::Owners),
     }
 }
@@ -112,10 +118,10 @@ fn on_readers<S: Alter>(
     ensures same_reference { work.new.tables.ghost_name ≡ work.old.tables.ghost_name }
 {
     match call {
-        ReaderCall::Restrict(id, restricted) => done(work.set_restricted(id, restricted)),
+        ReaderCall::Restrict(id, restricted) => set(work.set_restricted(id, restricted)),
         ReaderCall::IsRestricted(id) => work.is_restricted(id).map(Answer::Is),
-        ReaderCall::Add(id, account) => done(work.add_reader(id, account)),
-        ReaderCall::Remove(id, account) => done(work.remove_reader(id, account)),
+        ReaderCall::Add(id, account) => set(work.add_reader(id, account)),
+        ReaderCall::Remove(id, account) => set(work.remove_reader(id, account)),
         ReaderCall::All(id) => work.readers_of(alloc, id).map(Answer::Owners),
     }
 }

@@ -1,16 +1,26 @@
-use Rattle.reg_tables.specs.Works.{rows_seen}
-use Rattle.reg_tables_meaning.specs.Calls.{AddsReader}
-use Rattle.reg_service_commands.proofs.Owning.{reader_done, add_refused}
-use Rattle.reg_service_steps.proofs.Running.{runs_asked, runs_changed}
+use Rattle.std.proofs.Common.{[], ◌∷◌}
+use Rattle.std.specs.Prelude.{codes, string_bytes}
+use Rattle.reg_model.specs.Events.Command.{ReaderAdd}
+use Rattle.reg_service_commands.proofs.Ordered.{done_told, reader_words, refusal_told}
+use Rattle.reg_service_commands.proofs.Owning.{add_refused, reader_done}
+use Rattle.reg_service_steps.proofs.Running.{runs_asked, runs_told}
 use Rattle.reg_service_commands.proofs.crates.add_reader.Goals as goal
 
 pub returns-in-Err : goal.returns-in-Err
 returns-in-Err g c =
-    runs_asked g.S.Store c.in_ok-id.field-0 _ c.args.work.now c.find_pair.new.work c.in_ok-id.ensures
-    (λ found limits. add_refused limits c.args.name.now c.args.login.now c.in-Err.refusal _ (rw c.in-Err.is at found))
+    let name = c.args.name.now in
+    let login = c.args.login.now in
+    runs_asked g.S.Store c.in_ok-find_pair.field-0 _ c.args.work.now c.find_pair.new.work c.in_ok-find_pair.ensures
+    (λ found limits. refusal_told c.args.traced limits (ReaderAdd name login) _ _ c.refused.result c.in-Err.refusal c.refused.ensures.answer c.refused.ensures.line
+    (add_refused limits name login c.in-Err.refusal _ (rw c.in-Err.is at found)))
 
 pub returns : goal.returns
 returns g c =
-    runs_changed g.S.Store (λ db. AddsReader c.in-Ok.id c.in-Ok.account db (rows_seen g.S.Store c.add_reader.new.self)) c.in_ok-id.field-0 c.in_ok-add_reader-in-Ok.field-0 _ c.args.work.now c.find_pair.new.work c.add_reader.new.self
-    c.in_ok-id.ensures c.in_ok-add_reader-in-Ok.ensures.leaves c.in_ok-add_reader-in-Ok.ensures.told
-    (λ found adds limits. reader_done limits c.args.name.now c.args.login.now c.in-Ok.id c.in-Ok.account _ _ (rw c.in-Ok.is at found) adds)
+    let name = c.args.name.now in
+    let login = c.args.login.now in
+    let (named, account) = c.in-Ok.pair in
+    let changed = c.in_ok-added.added in
+    runs_told g.S.Store c.in_ok-find_pair.field-0 changed c.done_of_pair.result c.args.work.now c.find_pair.new.work c.add_reader.new.self c.done_of_pair.new.work
+    c.in_ok-find_pair.ensures c.in_ok-added.ensures c.done_of_pair.ensures
+    (λ it found sets done limits. done_told c.args.traced limits (ReaderAdd name login) _ _ it changed c.is_told-told.result (codes "reader-add" ∷ string_bytes named.name ∷ login ∷ []) done
+    (reader_done limits name login named account _ _ (rw c.in-Ok.is at found) sets.0) (reader_words limits name login named account _ (rw c.in-Ok.is at found) changed sets.1) c.is_told-told.ensures)

@@ -1,18 +1,28 @@
-use Rattle.std.proofs.Common.{◌∙◌}
-use Rattle.reg_tables.specs.Works.{rows_seen}
-use Rattle.reg_tables_meaning.specs.Calls.{SetsYanked}
+use Rattle.std.proofs.Common.{[], ◌∷◌, rules, subst, ◌∙◌}
+use Rattle.reg_model.specs.Actions.{crate_of}
+use Rattle.reg_model.specs.Events.{action_of}
+use Rattle.reg_access.specs.Admitted.{IsFoundOf}
+use Rattle.reg_service_requests.specs.Granted.{marking}
+use Rattle.reg_service_requests.specs.Telling.{mark_word}
+use Rattle.reg_service_requests.proofs.Asking.{change_told}
 use Rattle.reg_service_requests.proofs.Marked.{marked}
-use Rattle.reg_service_steps.proofs.Running.{runs_alone, runs_failed, runs_stopped}
+use Rattle.reg_service_requests.proofs.Marks.{mark_has}
+use Rattle.reg_service_steps.proofs.Running.{runs_ended, runs_stopped}
 use Rattle.reg_service_requests.proofs.marking.set_yanked.Goals as goal
 
 pub returns : goal.returns
-returns g c =
-    runs_alone g.S.Store {X = SetsYanked c.args.found.now.id c.args.version.now c.args.yanked (rows_seen g.S.Store c.args.work.now) (rows_seen g.S.Store c.set_yanked.new.self)} c.in_ok-set_yanked.field-0 _ c.args.work.now c.set_yanked.new.self
-    c.in_ok-set_yanked.ensures.leaves c.in_ok-set_yanked.ensures.told
-    (λ sets name limits digest. marked limits digest name c.args.version.now c.args.yanked c.args.found.now c.in-Ok.body _ _ (c.in-Ok.ensures.items_if_clones_equal (λ x y e. e) ∙ c.ok_body.ensures) sets)
+returns g c limits name =
+    let who = c.args.caller.now in
+    let it = c.found_crate-found.result.now in
+    let asked = marking c.args.yanked name c.args.version.now in
+    let changed = c.in_ok-changed.changed in
+    let words = mark_word c.args.yanked ∷ it.name ∷ c.args.version.now ∷ [] in
+    runs_ended g.S.Store changed c.in_ok-line.line _ c.args.work.now c.set_yanked.new.self c.tell_change.new.work c.in_ok-changed.ensures c.in_ok-line.ensures
+    (λ sets told digest lets asks.
+    let its = λ ids s holds. subst (λ f. IsFoundOf ids s (crate_of (action_of asked)) f) c.found_crate-found.ensures (asks ids s holds).found in (
+      marked limits digest name c.args.version.now c.args.yanked it c.in-Ok.body _ _ (c.in-Ok.ensures.items_if_clones_equal (λ x y e. e) ∙ c.ok_body.ensures) sets.0 lets its,
+      change_told c.args.traced changed c.is_told-told.result limits who asked _ words c.in_ok-line.line c.is_told-told.ensures (search (rules, told)) (mark_has limits who c.args.yanked changed name c.args.version.now _ it c.found_crate-found.ensures sets.1) digest asks,
+    ))
 
 pub returns-in_default : goal.returns-in_default
-returns-in_default g c = runs_stopped g.S.Store c.fail.result c.args.work.now c.fail.new.self c.fail.ensures.fails c.fail.ensures.leaves
-
-pub returns-in_err-set_yanked : goal.returns-in_err-set_yanked
-returns-in_err-set_yanked g c = runs_failed g.S.Store _ c.from_residual.result c.args.work.now c.set_yanked.new.self c.from_residual.ensures.0 c.in_err-set_yanked.ensures.leaves
+returns-in_default g c limits name = runs_stopped g.S.Store c.fail.result c.args.work.now c.fail.new.self c.fail.ensures.fails c.fail.ensures.leaves

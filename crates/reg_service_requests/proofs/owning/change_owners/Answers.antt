@@ -1,4 +1,4 @@
-use Rattle.reg_service_requests.proofs.OwningRuns.{runs_made}
+use Rattle.reg_service_steps.proofs.Running.{runs_made}
 use Rattle.reg_service_requests.proofs.owning.change_owners.Goals as goal
 
 pub returns : goal.returns

@@ -1,14 +1,23 @@
+use Rattle.std.proofs.Common.{◌≡◌, [], ◌∷◌, Bool, true, false, refl, rules}
+use Rattle.std.specs.Prelude.{◌&&◌, codes}
+use Rattle.reg_model.specs.Events.Asked.{Publish}
 use Rattle.reg_policy.specs.Events.{publication_of}
-use Rattle.reg_service_requests.proofs.Publications.{of_known, of_new}
-use Rattle.reg_service_steps.proofs.Running.{runs_as}
+use Rattle.reg_service_requests.proofs.Asking.{change_told, publish_has}
+use Rattle.reg_service_steps.proofs.Running.{runs_ended}
 use Rattle.reg_service_requests.proofs.publishing.publish.Goals as goal
 
-pub returns-in-Some : goal.returns-in-Some
-returns-in-Some g c =
-    runs_as g.S.Store c.publish_next.result c.args.work.now c.publish_next.new.work
-    (λ it publishes. of_known c.args.limits.now c.args.caller.now (publication_of c.args.new.now) _ _ it c.in-Some.found c.in-Some.is publishes) c.publish_next.ensures
+always : (b : Bool) → b ≡ (b && true)
+always true = refl
+always false = refl
 
-pub returns-in-None : goal.returns-in-None
-returns-in-None g c =
-    runs_as g.S.Store c.publish_first.result c.args.work.now c.publish_first.new.work
-    (λ it publishes. of_new c.args.limits.now c.args.caller.now (publication_of c.args.new.now) _ _ it c.in-None.is publishes) c.publish_first.ensures
+pub returns : goal.returns
+returns g c =
+    let who = c.args.caller.now in
+    let limits = c.args.limits.now in
+    let p = publication_of c.args.new.now in
+    let words = codes "publish" ∷ p.name ∷ p.version ∷ [] in
+    runs_ended g.S.Store c.in_ok-served.served c.in_ok-line.line _ c.args.work.now c.publish_version.new.work c.tell_change.new.work c.in_ok-served.ensures c.in_ok-line.ensures
+    (λ serves told digest lets asks. (
+      serves digest lets asks,
+      change_told c.args.traced true c.args.traced limits who (Publish p) _ words c.in_ok-line.line (always c.args.traced) (search (rules, told)) (publish_has limits who p _) digest asks,
+    ))

@@ -6,7 +6,7 @@ use Rattle.reg_tables_sql.specs.Versions.{MarksYanked}
 use Rattle.reg_tables_meaning.specs.Changes.{mark_at}
 use Rattle.reg_tables_meaning.specs.Marking.{IsOtherwise}
 use Rattle.reg_tables_meaning.specs.Stands.{Holds, StandsBy}
-use Rattle.reg_tables_meaning.proofs.CratesStand.{marks_none, marks_some}
+use Rattle.reg_tables_meaning.proofs.CratesStand.{marks_none, marks_other, marks_some}
 use Rattle.reg_tables_meaning.proofs.Writings.{◌⨾◌, ends, fails, looks, steps, touches}
 use Rattle.reg_tables_meaning.proofs.crates.mark.Goals as goal
 
@@ -55,3 +55,17 @@ returns-clause-stands g c clean ids s h =
     let told : IsOtherwise id text b old.now.trees (Some c.in-Some.version) = subst (IsOtherwise id text b old.now.trees) c.in-Some.is (c.in_ok-found.ensures.told clean_read) in
     marks_some ids s id c.in-Some.version text b read mid new.now.trees (subst (λ (db : Database). Holds ids s db.trees) (sym same) h) (subst (λ (db : Database). IsOtherwise id text b db.trees (Some c.in-Some.version)) (sym same) told)
     (subst (λ release. MarksYanked id release text b read mid) c.release_key.ensures (c.in_ok-set_yanked.ensures.changes clean_mid)) (c.in_ok-remark.ensures.remarked clean)
+
+pub returns-in_default-clause-tells : goal.returns-in_default-clause-tells
+returns-in_default-clause-tells g c clean ids s h n at there =
+    let db = (state g.S.Store c.args.conn.now).now.trees in
+    let told = subst (IsOtherwise c.args.crate_id c.args.text.now c.args.yanked db) c.in_default.is (c.in_ok-found.ensures.told clean) in
+    marks_other ids s c.args.crate_id c.args.text.now c.args.yanked db None h told n at there
+
+pub returns-clause-tells : goal.returns-clause-tells
+returns-clause-tells g c clean ids s h n at there =
+    let db = (state g.S.Store c.args.conn.now).now.trees in
+    let clean_mid : HasCleanDisk (state g.S.Store c.set_yanked.new.conn) = omega (arith, c.remark.ensures.leaves.survives.clean) in
+    let clean_read : HasCleanDisk (state g.S.Store c.find_other_mark.new.conn) = omega (arith, c.set_yanked.ensures.survives.clean) in
+    let told = subst (IsOtherwise c.args.crate_id c.args.text.now c.args.yanked db) c.in-Some.is (c.in_ok-found.ensures.told clean_read) in
+    marks_other ids s c.args.crate_id c.args.text.now c.args.yanked db (Some c.in-Some.version) h told n at there

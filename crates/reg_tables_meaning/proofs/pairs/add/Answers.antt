@@ -8,7 +8,7 @@ use Rattle.sqlite.specs.Held.{state}
 use Rattle.reg_tables_sql.specs.Relations.{tree_of}
 use Rattle.reg_tables_meaning.specs.Relations.{related, with_related}
 use Rattle.reg_tables_meaning.specs.Stands.{Holds, StandsBy}
-use Rattle.reg_tables_meaning.proofs.PairsStand.{added, again, no_crate}
+use Rattle.reg_tables_meaning.proofs.PairsStand.{added, again, no_crate, no_crate_told, pair_told}
 use Rattle.reg_tables_meaning.proofs.Relations.{pairs_of, with_itself, with_pairs}
 use Rattle.reg_tables_meaning.proofs.Stays.{pairs_stay}
 use Rattle.reg_tables_meaning.proofs.Writings.{◌⨾◌, adds_columns, ends, fails, reads}
@@ -66,3 +66,26 @@ returns-in_err-insert-clause-leaves g c =
 
 pub returns-clause-leaves : goal.returns-clause-leaves
 returns-clause-leaves g c = ends (reads c.in_ok-is_crate.ensures ⨾ reads c.in_ok-is_pair.ensures ⨾ adds_columns c.in_ok-insert.ensures) c.requires
+
+pub returns-then-not-is_crate-clause-tells : goal.returns-then-not-is_crate-clause-tells
+returns-then-not-is_crate-clause-tells g c clean ids s h n at =
+    let db = (state g.S.Store c.args.conn.now).now.trees in
+    let none = sym (c.in_ok-is_crate.ensures.told clean) ∙ c.if-not-is_crate.true in
+    no_crate_told ids s.publications s.yanked db h.stands.crates (related c.args.relation s) (db (tree_of c.args.relation)) (pairs_of c.args.relation ids s db h.stands) c.args.pair.crate_id c.args.pair.account none n at
+
+pub returns-then-is_pair-clause-tells : goal.returns-then-is_pair-clause-tells
+returns-then-is_pair-clause-tells g c clean ids s h n at =
+    let old = state g.S.Store c.args.conn.now in
+    let early : HasCleanDisk (state g.S.Store c.has_id.new.conn) = omega (arith, clean, c.is_there.ensures.survives.clean) in
+    let before = (c.in_ok-is_crate.ensures.only early).0.0.now_is in
+    let there = ap (λ (d : Database). list_any (is_owner c.args.pair.crate_id c.args.pair.account) (d.trees (tree_of c.args.relation))) (sym before) ∙ sym (c.in_ok-is_pair.ensures.told clean) ∙ c.if-is_pair.true in
+    pair_told ids s.publications s.yanked old.now.trees h.stands.crates (related c.args.relation s) (old.now.trees (tree_of c.args.relation)) (pairs_of c.args.relation ids s old.now.trees h.stands) c.args.pair.crate_id c.args.pair.account n at _ there
+
+pub returns-clause-tells : goal.returns-clause-tells
+returns-clause-tells g c clean ids s h n at =
+    let old = state g.S.Store c.args.conn.now in
+    let clean_two : HasCleanDisk (state g.S.Store c.is_there.new.conn) = omega (arith, clean, c.insert.ensures.survives.clean) in
+    let clean_one : HasCleanDisk (state g.S.Store c.has_id.new.conn) = omega (arith, clean_two, c.is_there.ensures.survives.clean) in
+    let before = (c.in_ok-is_crate.ensures.only clean_one).0.0.now_is in
+    let absent = ap (λ (d : Database). list_any (is_owner c.args.pair.crate_id c.args.pair.account) (d.trees (tree_of c.args.relation))) (sym before) ∙ sym (c.in_ok-is_pair.ensures.told clean_two) ∙ c.if-is_pair.false in
+    pair_told ids s.publications s.yanked old.now.trees h.stands.crates (related c.args.relation s) (old.now.trees (tree_of c.args.relation)) (pairs_of c.args.relation ids s old.now.trees h.stands) c.args.pair.crate_id c.args.pair.account n at _ absent

@@ -40,3 +40,12 @@ returns-in_err-insert-clause-leaves g c = fails _ c.from_residual-in_err-insert.
 
 pub returns-clause-leaves : goal.returns-clause-leaves
 returns-clause-leaves g c = ends (reads c.in_ok-is_there.ensures ⨾ adds_columns c.in_ok-insert.ensures) c.requires
+
+pub returns-then-branch-clause-tells : goal.returns-then-branch-clause-tells
+returns-then-branch-clause-tells g c clean ids s h =
+    sym c.if-branch.true ∙ c.in_ok-is_there.ensures.told clean ∙ is_there s.reserved c.args.canon.now (state g.S.Store c.args.conn.now).now.trees h.stands.reserved
+
+pub returns-clause-tells : goal.returns-clause-tells
+returns-clause-tells g c clean ids s h =
+    let early : HasCleanDisk (state g.S.Store c.is_there.new.conn) = omega (arith, c.insert.ensures.survives.clean) in
+    sym c.if-branch.false ∙ c.in_ok-is_there.ensures.told early ∙ is_there s.reserved c.args.canon.now (state g.S.Store c.args.conn.now).now.trees h.stands.reserved

@@ -7,7 +7,7 @@ use Rattle.sqlite.specs.Effect.{Database}
 use Rattle.sqlite.specs.State.{HasCleanDisk}
 use Rattle.sqlite.specs.Held.{state}
 use Rattle.reg_tables_meaning.specs.Stands.{Holds, StandsBy}
-use Rattle.reg_tables_meaning.proofs.MarkedStand.{added, again, no_crate}
+use Rattle.reg_tables_meaning.proofs.MarkedStand.{added, again, mark_told, no_crate, no_crate_told}
 use Rattle.reg_tables_meaning.proofs.Stays.{marked_stay, with_restricted}
 use Rattle.reg_tables_meaning.proofs.Writings.{◌⨾◌, adds, ends, fails, reads}
 use Rattle.reg_tables_meaning.proofs.restricted.restrict.Goals as goal
@@ -78,3 +78,35 @@ returns-in_err-is_restricted-clause-stands g c clean = IfOk-from_err _ _ c.from_
 
 pub returns-in_err-insert-clause-stands : goal.returns-in_err-insert-clause-stands
 returns-in_err-insert-clause-stands g c clean = IfOk-from_err _ _ c.from_residual-in_err-insert.ensures.0
+
+pub returns-then-not-is_crate-clause-tells : goal.returns-then-not-is_crate-clause-tells
+returns-then-not-is_crate-clause-tells g c clean ids s h n at =
+    let db = (state g.S.Store c.args.conn.now).now.trees in
+    let none = sym (c.in_ok-is_crate.ensures.told clean) ∙ c.if-not-is_crate.true in
+    no_crate_told ids s.publications s.yanked db h.stands.crates s.restricted (db 17) h.stands.restricted c.args.crate_id none n at
+
+pub returns-then-is_restricted-clause-tells : goal.returns-then-is_restricted-clause-tells
+returns-then-is_restricted-clause-tells g c clean ids s h n at =
+    let db = (state g.S.Store c.args.conn.now).now.trees in
+    let early : HasCleanDisk (state g.S.Store c.has_id.new.conn) = omega (arith, clean, c.is_there.ensures.survives.clean) in
+    let before = (c.in_ok-is_crate.ensures.only early).0.0.now_is in
+    let there = ap (λ (d : Database). list_any (is_number 0 c.args.crate_id) (d.trees 17)) (sym before) ∙ sym (c.in_ok-is_restricted.ensures.told clean) ∙ c.if-is_restricted.true in
+    mark_told ids s.publications s.yanked db h.stands.crates s.restricted (db 17) h.stands.restricted c.args.crate_id n at _ there
+
+pub returns-clause-tells : goal.returns-clause-tells
+returns-clause-tells g c clean ids s h n at =
+    let db = (state g.S.Store c.args.conn.now).now.trees in
+    let clean_two : HasCleanDisk (state g.S.Store c.is_there.new.conn) = omega (arith, clean, c.insert.ensures.survives.clean) in
+    let clean_one : HasCleanDisk (state g.S.Store c.has_id.new.conn) = omega (arith, clean_two, c.is_there.ensures.survives.clean) in
+    let before = (c.in_ok-is_crate.ensures.only clean_one).0.0.now_is in
+    let absent = ap (λ (d : Database). list_any (is_number 0 c.args.crate_id) (d.trees 17)) (sym before) ∙ sym (c.in_ok-is_restricted.ensures.told clean_two) ∙ c.if-is_restricted.false in
+    mark_told ids s.publications s.yanked db h.stands.crates s.restricted (db 17) h.stands.restricted c.args.crate_id n at _ absent
+
+pub returns-in_err-is_crate-clause-tells : goal.returns-in_err-is_crate-clause-tells
+returns-in_err-is_crate-clause-tells g c clean = IfOk-from_err _ _ c.from_residual.ensures.0
+
+pub returns-in_err-is_restricted-clause-tells : goal.returns-in_err-is_restricted-clause-tells
+returns-in_err-is_restricted-clause-tells g c clean = IfOk-from_err _ _ c.from_residual-in_err-is_restricted.ensures.0
+
+pub returns-in_err-insert-clause-tells : goal.returns-in_err-insert-clause-tells
+returns-in_err-insert-clause-tells g c clean = IfOk-from_err _ _ c.from_residual-in_err-insert.ensures.0

@@ -1,7 +1,7 @@
 use Rattle.std.proofs.Common.{sym, subst}
-use Rattle.std.specs.Prelude.{OnOk}
+use Rattle.std.specs.Prelude.{IfOk, OnOk}
 use Rattle.sqlite.specs.Held.{state}
-use Rattle.reg_tables_meaning.specs.Calls.{Restricts}
+use Rattle.reg_tables_meaning.specs.Calls.{Restricts, TellsOtherSight}
 use Rattle.reg_tables_meaning.proofs.restricted.set.Goals as goal
 
 pub returns-then-restricted-clause-stands : goal.returns-then-restricted-clause-stands
@@ -11,3 +11,11 @@ returns-then-restricted-clause-stands g c clean =
 pub returns-else-restricted-clause-stands : goal.returns-else-restricted-clause-stands
 returns-else-restricted-clause-stands g c clean =
     subst (λ b. OnOk c.lift.result (Restricts b c.args.crate_id (state g.S.Store c.args.conn.now).now.trees (state g.S.Store c.lift.new.conn).now.trees)) (sym c.if-restricted.false) (c.lift.ensures.stands clean)
+
+pub returns-then-restricted-clause-tells : goal.returns-then-restricted-clause-tells
+returns-then-restricted-clause-tells g c clean =
+    subst (λ b. IfOk c.restrict.result (TellsOtherSight c.args.crate_id b (state g.S.Store c.args.conn.now).now.trees)) (sym c.if-restricted.true) (c.restrict.ensures.tells clean)
+
+pub returns-else-restricted-clause-tells : goal.returns-else-restricted-clause-tells
+returns-else-restricted-clause-tells g c clean =
+    subst (λ b. IfOk c.lift.result (TellsOtherSight c.args.crate_id b (state g.S.Store c.args.conn.now).now.trees)) (sym c.if-restricted.false) (c.lift.ensures.tells clean)

@@ -1,0 +1,35 @@
+use Rattle.std.proofs.Common.{◌≡◌, [], ◌∷◌, map, subst}
+use Rattle.std.specs.Borrow.{Bor}
+use Rattle.std.specs.List.{list_any}
+use Rattle.std.specs.Prelude.{string_bytes}
+use Rattle.std.specs.Str.{bytes_eq}
+use Rattle.reg_model.specs.Actions.{crate_of}
+use Rattle.reg_model.specs.Events.{action_of}
+use Rattle.reg_model.specs.Reports.{with_commas}
+use Rattle.reg_tables_meaning.specs.Calls.{ListsOwners}
+use Rattle.reg_access.specs.Admitted.{IsFoundOf}
+use Rattle.reg_service_requests.specs.Owning.{owning}
+use Rattle.reg_service_requests.specs.Telling.{changes, owners_word}
+use Rattle.reg_service_requests.proofs.Asking.{change_told}
+use Rattle.reg_service_requests.proofs.Owned.{owning_has}
+use Rattle.reg_service_steps.proofs.Running.{runs_whole}
+use Rattle.reg_service_requests.proofs.owning.own.Goals as goal
+
+pub returns : goal.returns
+returns g c limits name =
+    let who = c.args.caller.now in
+    let it = c.found_crate-found.result.now in
+    let texts = c.args.logins.now in
+    let list = c.in_ok-owners.owners.items in
+    let are = c.args.are_owners in
+    let asked = owning are name (map (λ l. l.now) texts) in
+    let changed = c.changes_owners-changed.result in
+    let words = owners_word are ∷ it.name ∷ with_commas (map (λ l. l.now) texts) ∷ [] in
+    let is : changed ≡ changes are (λ (t : Bor _). list_any (λ a. bytes_eq (string_bytes a.login) t.now) list) texts = rw c.deref.ensures.value at c.changes_owners-changed.ensures in
+    runs_whole g.S.Store {P = λ db owners. ListsOwners it.id db owners.items} c.in_ok-owners.owners c.in_ok-served.served c.in_ok-line.line _ c.args.work.now c.owners_of.new.self c.set_all.new.work c.tell_owners.new.work
+    c.in_ok-owners.ensures c.in_ok-served.ensures c.in_ok-line.ensures
+    (λ lists grants told digest lets asks.
+    let its = λ ids s holds. subst (λ f. IsFoundOf ids s (crate_of (action_of asked)) f) c.found_crate-found.ensures (asks ids s holds).found in (
+      grants (rw c.deref.ensures.value lists) name limits digest lets its,
+      change_told c.args.traced changed c.is_told-told.result limits who asked _ words c.in_ok-line.line c.is_told-told.ensures told (owning_has limits who are changed name texts _ it list c.found_crate-found.ensures lists is) digest asks,
+    ))
