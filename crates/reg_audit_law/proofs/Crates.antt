@@ -32,7 +32,7 @@ use Rattle.reg_audit_law.proofs.Rising.{listed_rise}
 use Rattle.reg_audit_law.proofs.Shapes.{with_null, whole_rows}
 use Rattle.reg_audit_law.proofs.Uniques.{own_so, unique_so, distinct_map, distinct_on, found_of_filter}
 
-told_crate : (r : Row) → IsKeyed (0 ∷ 1 ∷ 2 ∷ 3 ∷ []) r → with_null (shows (0 ∷ 2 ∷ 3 ∷ []) r) ≡ r
+pub told_crate : (r : Row) → IsKeyed (0 ∷ 1 ∷ 2 ∷ 3 ∷ []) r → with_null (shows (0 ∷ 2 ∷ 3 ∷ []) r) ≡ r
 told_crate r h = (λ i. column r 0 ∷ sym h.1 i ∷ column r 2 ∷ column r 3 ∷ []) ∙ h.0
 
 pub found_in : (p : Crate → Bool) (xs : List Crate) (x : Crate) → find p xs ≡ Some x → IsIn x xs × (p x ≡ true)

@@ -12,7 +12,7 @@ use Rattle.sqlite_trees.proofs.ListLemmas.{all_from_map, ascending-map, ascendin
 use Rattle.reg_model.proofs.Members.{IsIn}
 use Rattle.reg_tables_schema.specs.Rows.{IsInOrder, by_column}
 use Rattle.reg_tables_schema.specs.Tests.{shows}
-use Rattle.reg_tables_meaning.proofs.Selected.{number_below}
+use Rattle.reg_tables_meaning.proofs.Selected.{number_below, same_head, same_tail}
 use Rattle.reg_tables_meaning.proofs.VersionEntries.{less_is}
 
 module _ {X : Type 0} (id : X → ℕ) (behind : X → Row) where
@@ -49,14 +49,8 @@ pub one_of_each : (rows : List Row) → map (shows (1 ∷ [])) rows ≡ map (sho
 one_of_each [] = refl
 one_of_each (r ∷ rows) = ap₂ ◌∷◌ (one_column r) (one_of_each rows)
 
-first : {A : Type 0} {a b : A} {xs ys : List A} → ◌≡◌ {A = List A} (a ∷ xs) (b ∷ ys) → a ≡ b
-first e = cc
-
-rest : {A : Type 0} {a b : A} {xs ys : List A} → ◌≡◌ {A = List A} (a ∷ xs) (b ∷ ys) → xs ≡ ys
-rest e = cc
-
 -- lists of two images that are one have one image of each element
 pub pointwise : {X Y : Type 0} (f g : X → Y) (xs : List X) → map f xs ≡ map g xs → (x : X) → IsIn x xs → f x ≡ g x
 pointwise f g [] h x i = absurd i
-pointwise f g (y ∷ ys) h x (inl e) = subst (λ z. f z ≡ g z) e (first h)
-pointwise f g (y ∷ ys) h x (inr i) = pointwise f g ys (rest h) x i
+pointwise f g (y ∷ ys) h x (inl e) = subst (λ z. f z ≡ g z) e (same_head h)
+pointwise f g (y ∷ ys) h x (inr i) = pointwise f g ys (same_tail h) x i

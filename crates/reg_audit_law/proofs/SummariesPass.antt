@@ -21,12 +21,12 @@ use Rattle.reg_tables_rows.specs.declared.all_rows.AllRows.{AllRows}
 use Rattle.reg_tables_meaning.proofs.AccountEntries.{heads, number_is, tails}
 use Rattle.reg_tables_meaning.proofs.CrateLemmas.{bytes_same}
 use Rattle.reg_tables_meaning.proofs.Selected.{column_total, each_part, shown_in_turn}
+use Rattle.reg_tables_meaning.proofs.SummaryRows.{highest_same, length_same}
 use Rattle.reg_audit.specs.Checks.{is_summary, its_versions, summaries_pass}
 use Rattle.reg_audit_law.proofs.ListedCrates.{crates_listed}
 use Rattle.reg_audit_law.proofs.ListedVersions.{its_listed}
 use Rattle.reg_audit_law.proofs.Shown.{rows_rise}
 use Rattle.reg_audit_law.proofs.Standing.{Standing}
-use Rattle.reg_audit_law.proofs.Summaries.{highest_same, length_same}
 
 abbrev show : Row → Row
 show = shows (0 ∷ 2 ∷ 3 ∷ [])

@@ -10,6 +10,7 @@ use Rattle.sqlite.specs.Order.{Row, column}
 use Rattle.sqlite.specs.declared.types.Value.{Value}
 use Rattle.sqlite.specs.declared.types.Value.TheVariants.{Int}
 use Rattle.reg_tables_meaning.proofs.Standing.{same_number}
+use Rattle.reg_tables_meaning.proofs.Selected.{same_head}
 use Rattle.sqlite_value.proofs.OrderLemmas.{value_cmp_total}
 use Rattle.sqlite_trees.specs.Tree.{rowid}
 use Rattle.reg_tables_meaning.specs.Stands.{HaveOwnRowids}
@@ -61,9 +62,6 @@ module _ {X : Type 0} (row : X → Row) (xs : List X) (rows : List Row) (same : 
   -- rows with rowids of their own
   pub own_so : (g : X → X → Bool) → ((x y : X) → same_value (rowid (row x)) (rowid (row y)) ≡ g x y) → HaveOwnRowids rows → IsDistinct g xs
   own_so g alike own = pairs_so (λ a b. same_value (rowid a) (rowid b)) g (λ a b. value_flips (rowid a) (rowid b)) alike own.0
-
-same_head : {A : Type 0} {a b : A} {xs ys : List A} → ◌≡◌ {A = List A} (a ∷ xs) (b ∷ ys) → a ≡ b
-same_head e = cc
 
 pub found_of_filter : {X : Type 0} (p : X → Bool) (xs : List X) (x : X) → filter p xs ≡ x ∷ [] → find p xs ≡ Some x
 found_of_filter p [] x h = absurd cc

@@ -40,10 +40,10 @@ use Rattle.reg_audit_law.proofs.Rising.{listed_rise}
 use Rattle.reg_audit_law.proofs.Shapes.{with_null, whole_rows}
 use Rattle.reg_audit_law.proofs.Uniques.{own_so, pairs_so, number_flips, same_at_flips}
 
-abbrev show : Row → Row
+abbrev pub show : Row → Row
 show = shows (0 ∷ 2 ∷ 3 ∷ 4 ∷ 5 ∷ 6 ∷ 7 ∷ 8 ∷ [])
 
-told : (r : Row) → IsKeyed (0 ∷ 1 ∷ 2 ∷ 3 ∷ 4 ∷ 5 ∷ 6 ∷ 7 ∷ 8 ∷ []) r → with_null (show r) ≡ r
+pub told : (r : Row) → IsKeyed (0 ∷ 1 ∷ 2 ∷ 3 ∷ 4 ∷ 5 ∷ 6 ∷ 7 ∷ 8 ∷ []) r → with_null (show r) ≡ r
 told r h = (λ i. column r 0 ∷ sym h.1 i ∷ column r 2 ∷ column r 3 ∷ column r 4 ∷ column r 5 ∷ column r 6 ∷ column r 7 ∷ column r 8 ∷ []) ∙ h.0
 
 module _ (it : AllRows) (db : Trees) (h : Passing it db) where

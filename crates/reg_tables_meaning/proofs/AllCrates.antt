@@ -35,7 +35,7 @@ use Rattle.reg_tables_meaning.proofs.CrateNames.{same_shown, crate_first, crate_
 use Rattle.reg_model.proofs.Members.{IsIn, in_each, in_map, in_permuted, one_passes}
 use Rattle.reg_tables_meaning.proofs.Selected.{column_total, each}
 
-rises : (o : Ordering) → is_gt o ≡ false → is_eq o ≡ false → o ≡ Less
+pub rises : (o : Ordering) → is_gt o ≡ false → is_eq o ≡ false → o ≡ Less
 rises Less g e = refl
 rises Equal g e = absurd cc
 rises Greater g e = absurd cc

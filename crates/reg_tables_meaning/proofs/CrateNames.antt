@@ -34,14 +34,14 @@ kept p (y ∷ ys) x i e = split (p y) refl i (λ j. kept p ys x j e)
 pub same_shown : (c : StoredCrate) (o : Crate) → shows (0 ∷ 2 ∷ 3 ∷ []) (row_of_crate c) ≡ crate_columns o → c ≡ entry_of_crate o
 same_shown c o h = let id = number_is (heads h) in let name = words_are (heads (tails (tails h))) in λ i. (id i, name i)
 
-abbrev first_of : List Publication → Words → Option Words
+abbrev pub first_of : List Publication → Words → Option Words
 first_of ps n = option_map (λ p. p.name) (find (λ p. collides p.name n) ps)
 
-none_first : (n : Words) (vs : List StoredVersion) → ((v : StoredVersion) → IsIn v vs → collides v.publication.name n ≡ false) → first_of (map (λ v. v.publication) vs) n ≡ None
+pub none_first : (n : Words) (vs : List StoredVersion) → ((v : StoredVersion) → IsIn v vs → collides v.publication.name n ≡ false) → first_of (map (λ v. v.publication) vs) n ≡ None
 none_first n [] h = refl
 none_first n (v ∷ vs) h = rw (h v (inl refl)) (none_first n vs (λ w i. h w (inr i)))
 
-some_first : (n name : Words) (vs : List StoredVersion) → ((v : StoredVersion) → IsIn v vs → collides v.publication.name n ≡ true → v.publication.name ≡ name) → (v : StoredVersion) → IsIn v vs → collides v.publication.name n ≡ true
+pub some_first : (n name : Words) (vs : List StoredVersion) → ((v : StoredVersion) → IsIn v vs → collides v.publication.name n ≡ true → v.publication.name ≡ name) → (v : StoredVersion) → IsIn v vs → collides v.publication.name n ≡ true
     → first_of (map (λ v. v.publication) vs) n ≡ Some name
 some_first n name [] h v i met = absurd i
 some_first n name (w ∷ vs) h v i met = split (collides w.publication.name n) refl (λ j. some_first n name vs (λ u k. h u (inr k)) v j met)
@@ -54,10 +54,10 @@ some_first n name (w ∷ vs) h v i met = split (collides w.publication.name n) r
     split true e rest = rw e (ap Some (h w (inl refl) e))
     split false e rest = rw e (rest (later e i))
 
-module _ (ids : Ids) (ps : List Publication) (yanked : finset.FinSet mark_cmp) (db : Trees) (h : StandCrates ids ps yanked db) where
-  abbrev named : Words → StoredCrate → Bool
-  named c x = bytes_eq (canon x.1) c
+abbrev pub named : Words → StoredCrate → Bool
+named c x = bytes_eq (canon x.1) c
 
+module _ (ids : Ids) (ps : List Publication) (yanked : finset.FinSet mark_cmp) (db : Trees) (h : StandCrates ids ps yanked db) where
   -- the crate that is shown under a canonical text
   pub shown_crate : (c : Words) (found : Option Crate) → map (shows (0 ∷ 2 ∷ 3 ∷ [])) (filter (is_text 2 c) (db 7)) ≡ shown_of crate_columns found → filter (named c) ids.crates ≡ one_of (option_map entry_of_crate found)
   shown_crate c found e =

@@ -16,6 +16,7 @@ pub mod NextId
 mod Marking
 pub mod MarkedStand
 pub mod Numbered
+pub mod Gates
 mod PairsStand
 pub mod PairChanges
 pub mod PairEntries
@@ -36,7 +37,7 @@ pub mod SummaryRows
 pub mod SummaryLaws
 mod SummaryFound
 mod SummaryMarked
-mod SummaryPushed
+pub mod SummaryPushed
 mod SummarySteps
 mod SummaryChanges
 mod SummaryTops

@@ -23,8 +23,9 @@ use Rattle.reg_model.specs.Registry.{Text, Token, with_id}
 use Rattle.reg_tables_schema.specs.Rows.{IsInOrder, by_column, by_columns}
 use Rattle.reg_tables_meaning.specs.Stands.{scope_of, scopes_of, StandTokens}
 use Rattle.reg_tables_schema.specs.Tests.{is_number, shows}
-use Rattle.reg_tables_meaning.proofs.Dropped.{dropped_in_order, by_first_and_second, by_second, first_column}
+use Rattle.reg_tables_meaning.proofs.Dropped.{dropped_in_order, by_first_and_second, by_second}
 use Rattle.reg_tables_meaning.proofs.Selected.{column_total, number_below}
+use Rattle.reg_tables_meaning.proofs.Rowids.{first_column}
 
 abbrev Below : Row → Row → Type 0
 Below a b = by_columns 0 1 a b ≡ Less

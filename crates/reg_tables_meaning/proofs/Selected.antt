@@ -33,7 +33,7 @@ pub shown_short : {X : Type 0} (columns : X → Row) (o : Option X) → length (
 shown_short columns None = omega arith
 shown_short columns (Some x) = omega arith
 
-same_one : {X : Type 0} {a b : X} → ◌≡◌ {A = List X} (a ∷ []) (b ∷ []) → a ≡ b
+pub same_one : {X : Type 0} {a b : X} → ◌≡◌ {A = List X} (a ∷ []) (b ∷ []) → a ≡ b
 same_one e = cc
 
 read_one : {X Y : Type 0} (shown : X → Row) (columns : Y → Row) (entry : Y → X) → ((x : X) (y : Y) → shown x ≡ columns y → x ≡ entry y) → (xs : List X) (o : Option Y) → map shown xs ≡ shown_of columns o → xs ≡ one_of (option_map entry o)
@@ -43,24 +43,24 @@ read_one shown columns entry same [] (Some y) h = absurd cc
 read_one shown columns entry same (x ∷ []) (Some y) h = ap (λ z. z ∷ []) (same x y (same_one h))
 read_one shown columns entry same (x ∷ z ∷ xs) (Some y) h = absurd cc
 
-row_heads : {A : Type 0} {a b : A} {xs ys : List A} → ◌≡◌ {A = List A} (a ∷ xs) (b ∷ ys) → a ≡ b
-row_heads e = cc
+pub same_head : {A : Type 0} {a b : A} {xs ys : List A} → ◌≡◌ {A = List A} (a ∷ xs) (b ∷ ys) → a ≡ b
+same_head e = cc
 
-row_tails : {A : Type 0} {a b : A} {xs ys : List A} → ◌≡◌ {A = List A} (a ∷ xs) (b ∷ ys) → xs ≡ ys
-row_tails e = cc
+pub same_tail : {A : Type 0} {a b : A} {xs ys : List A} → ◌≡◌ {A = List A} (a ∷ xs) (b ∷ ys) → xs ≡ ys
+same_tail e = cc
 
 pub each : {X Y : Type 0} (shown : X → Row) (columns : Y → Row) (entry : Y → X) → ((x : X) (y : Y) → shown x ≡ columns y → x ≡ entry y) → (xs : List X) (list : List Y) → map columns list ≡ map shown xs → map entry list ≡ xs
 each shown columns entry same [] [] h = refl
 each shown columns entry same (x ∷ xs) [] h = absurd cc
 each shown columns entry same [] (y ∷ list) h = absurd cc
-each shown columns entry same (x ∷ xs) (y ∷ list) h = rw (sym (same x y (sym (row_heads h)))) (ap (λ l. x ∷ l) (each shown columns entry same xs list (row_tails h)))
+each shown columns entry same (x ∷ xs) (y ∷ list) h = rw (sym (same x y (sym (same_head h)))) (ap (λ l. x ∷ l) (each shown columns entry same xs list (same_tail h)))
 
 -- the same, where what is shown tells a part of the entry
 pub each_part : {X Y Z : Type 0} (shown : X → Row) (columns : Y → Row) (part : X → Z) (told : Y → Z) → ((x : X) (y : Y) → shown x ≡ columns y → part x ≡ told y) → (xs : List X) (list : List Y) → map columns list ≡ map shown xs → map told list ≡ map part xs
 each_part shown columns part told same [] [] h = refl
 each_part shown columns part told same (x ∷ xs) [] h = absurd cc
 each_part shown columns part told same [] (y ∷ list) h = absurd cc
-each_part shown columns part told same (x ∷ xs) (y ∷ list) h = rw (sym (same x y (sym (row_heads h)))) (ap (λ l. part x ∷ l) (each_part shown columns part told same xs list (row_tails h)))
+each_part shown columns part told same (x ∷ xs) (y ∷ list) h = rw (sym (same x y (sym (same_head h)))) (ap (λ l. part x ∷ l) (each_part shown columns part told same xs list (same_tail h)))
 
 module _ {X : Type 0} (row : X → Row) (show : Row → Row) where
   -- what is shown of the entries, in an order in which no two are alike
