@@ -1,31 +1,21 @@
 -- Archives that pass: their rows are those of the versions.
 use Rattle.std.proofs.Common.{◌≡◌, ◌==◌, inl, inr, ℕ, ℤ, pos, List, [], ◌∷◌, map, true, false, sym, ap, subst, ◌∙◌, refl}
-use Rattle.std.specs.Prelude.{filter}
+use Rattle.reg_audit_law.proofs.Common.{AllRows, bytes_eq, filter, IsPermutation, IsPermutation-sym, maps_twice, rowid, same_bytes, same_number, Trees, Version}
 use Rattle.std.specs.List.{flat_map, list_any}
-use Rattle.std.specs.List.Sorted.{IsPermutation}
 use Rattle.std.specs.FinMap.{int_cmp-IsAntisymmetric}
 use Rattle.std.specs.Ordering.{int_cmp, is_eq}
-use Rattle.std.specs.Str.{bytes_eq}
-use Rattle.std.proofs.lemmas.List.Sorted.{IsPermutation-sym}
 use Rattle.sha2.specs.Sha256.{sha256}
 use Rattle.sqlite.specs.Order.{Row, column, value_cmp}
-use Rattle.sqlite.specs.Tree.{Trees}
 use Rattle.sqlite.specs.declared.types.Value.TheVariants.{Null, Int, Real, Text, Blob}
-use Rattle.sqlite_trees.specs.Tree.{rowid}
 use Rattle.sqlite_trees.proofs.ListLemmas.{filter_all}
 use Rattle.sqlite_value.proofs.OrderLemmas.{value_cmp-Int}
 use Rattle.reg_model.proofs.Members.{IsIn, any_in, each_in, filtered_passes, in_any, in_each, in_filter, in_permuted, map_in}
 use Rattle.reg_tables_schema.specs.Tests.{is_number, shows}
 use Rattle.reg_tables_schema.proofs.Joined.{joined_once}
-use Rattle.reg_tables_schema.proofs.Queries.{maps_twice}
 use Rattle.reg_tables_sql.specs.Archives.{archive_places, archives_with_id}
 use Rattle.reg_tables_sql.specs.Versions.{columns_of_version}
-use Rattle.reg_tables_sql.specs.declared.versions.Version.{Version}
 use Rattle.reg_tables_meaning.specs.Stands.{row_of_archive}
-use Rattle.reg_tables_rows.specs.declared.all_rows.AllRows.{AllRows}
-use Rattle.reg_tables_meaning.proofs.CrateLemmas.{same_bytes}
 use Rattle.reg_tables_meaning.proofs.Rowids.{values_tie}
-use Rattle.reg_tables_meaning.proofs.Standing.{same_number}
 use Rattle.reg_tables_meaning.proofs.NextId.{tied}
 use Rattle.reg_audit.specs.Checks.{is_archive}
 use Rattle.reg_audit_law.specs.RegistryFrom.{archive_from, version_from}

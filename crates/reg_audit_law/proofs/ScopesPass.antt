@@ -3,15 +3,13 @@ use Rattle.std.proofs.Common.{◌≡◌, ◌==◌, ◌+◌, arith, ℕ, suc, Lis
 use Rattle.std.specs.Prelude.{◌&&◌, ◌||◌, nat_lt, string_bytes}
 use Rattle.std.specs.List.{enumerate_from, flat_map, list_all}
 use Rattle.std.proofs.lemmas.Bool.{and_parts, and_from, eq-eqb, eqb-true, or_left, or_right}
-use Rattle.sqlite.specs.Order.{Row}
+use Rattle.reg_audit_law.proofs.Common.{bytes_same, heads, number_is, Row, tails, words_are}
 use Rattle.reg_names.specs.Patterns.{is_pattern}
 use Rattle.reg_names.specs.Ranges.{range_of}
 use Rattle.reg_model.specs.Registry as model
 use Rattle.reg_tables_sql.specs.Scopes.{columns_of_scope}
 use Rattle.reg_tables_meaning.specs.Stands.{scope_of, scopes_of}
 use Rattle.reg_tables_sql.specs.declared.scopes.Scope.{Scope}
-use Rattle.reg_tables_meaning.proofs.AccountEntries.{heads, tails, number_is, words_are}
-use Rattle.reg_tables_meaning.proofs.CrateLemmas.{bytes_same}
 use Rattle.reg_tables_meaning.proofs.Selected.{same_head, same_tail}
 use Rattle.reg_audit.specs.Checks.{follow, are_placed, is_scope}
 

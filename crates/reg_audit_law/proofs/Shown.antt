@@ -1,17 +1,11 @@
 -- What is shown of rows in an order, told of what the rows stand for.
 use Rattle.std.proofs.Common.{◌≡◌, inl, inr, ℕ, pos, Less, List, [], ◌∷◌, map, refl, sym, ap₂, subst}
-use Rattle.std.specs.Prelude.{drop}
+use Rattle.reg_audit_law.proofs.Common.{by_column, drop, Int, IsIn, IsInOrder, nat_cmp, Row, shows}
 use Rattle.std.specs.List.Sorted.{IsPermutation, IsStrictlySortedBy}
-use Rattle.std.specs.Ordering.{nat_cmp}
 use Rattle.std.specs.declared.cmp.Ordering.{Ordering}
 use Rattle.std.proofs.lemmas.List.Sorted.{IsPermutation-map}
-use Rattle.sqlite.specs.Order.{Row}
-use Rattle.sqlite.specs.declared.types.Value.TheVariants.{Int}
 use Rattle.sqlite_trees.specs.Tree.{IsAscending}
 use Rattle.sqlite_trees.proofs.ListLemmas.{all_from_map, ascending-map, ascending_weaker}
-use Rattle.reg_model.proofs.Members.{IsIn}
-use Rattle.reg_tables_schema.specs.Rows.{IsInOrder, by_column}
-use Rattle.reg_tables_schema.specs.Tests.{shows}
 use Rattle.reg_tables_meaning.proofs.Selected.{number_below, same_head, same_tail}
 use Rattle.reg_tables_meaning.proofs.VersionEntries.{less_is}
 

@@ -1,27 +1,12 @@
 -- Summaries that pass are those of what is built from the records.
-use Rattle.std.proofs.Common.{◌≡◌, ◌==◌, ℕ, pos, [], ◌∷◌, map, length, sym, ap, subst, eqb-true, ◌∙◌}
-use Rattle.std.specs.Prelude.{filter, string_bytes}
+use Rattle.reg_audit_law.proofs.Common.{◌≡◌, ◌==◌, [], ◌∷◌, ◌∙◌, all_weaker, AllRows, and_parts, ap, by_column, entry_of_crate, eqb-true, filter, Ids, Int, IsPermutation, length, map, maps_twice, mark_cmp, Null, pos, Row, shows, string_bytes, subst, sym, Trees, Version, ℕ}
 use Rattle.std.specs.FinSet as finset
-use Rattle.std.specs.List.Sorted.{IsPermutation}
-use Rattle.std.proofs.lemmas.Bool.{and_parts}
-use Rattle.sqlite.specs.Order.{Row}
-use Rattle.sqlite.specs.Tree.{Trees}
-use Rattle.sqlite.specs.declared.types.Value.TheVariants.{Null, Int}
-use Rattle.sqlite_trees.proofs.ListLemmas.{all_weaker}
-use Rattle.reg_model.specs.Registry.{mark_cmp}
 use Rattle.reg_model.proofs.Members.{IsIn, all_in, in_filter, map_same}
-use Rattle.reg_tables_schema.specs.Rows.{by_column}
-use Rattle.reg_tables_schema.specs.Tests.{shows}
 use Rattle.reg_tables_schema.proofs.Permutes.{filter_map}
-use Rattle.reg_tables_schema.proofs.Queries.{maps_twice}
 use Rattle.reg_tables_sql.specs.Summaries.{columns_of_summary}
 use Rattle.reg_tables_sql.specs.declared.summaries.Summary.{Summary}
-use Rattle.reg_tables_sql.specs.declared.versions.Version.{Version}
-use Rattle.reg_tables_meaning.specs.Entries.{entry_of_crate}
-use Rattle.reg_tables_meaning.specs.Stored.{Ids}
 use Rattle.reg_tables_meaning.specs.Summaries.{StandSummaries, highest_in, length_in, mark_shown, row_among, row_of_summary}
 use Rattle.reg_tables_meaning.specs.Summaries as stored
-use Rattle.reg_tables_rows.specs.declared.all_rows.AllRows.{AllRows}
 use Rattle.reg_tables_meaning.proofs.SummaryRows.{highest_same, length_same}
 use Rattle.reg_audit.specs.Checks.{is_summary, its_versions, shown_version}
 use Rattle.reg_audit_law.specs.RegistryFrom.{ids_from, registry_from, version_from}

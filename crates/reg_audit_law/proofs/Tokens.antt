@@ -1,17 +1,9 @@
 -- Tokens that pass, with their scopes, stand for tokens with patterns.
-use Rattle.std.proofs.Common.{◌≡◌, [], ◌∷◌, map, sym, ap, subst, ◌∙◌}
-use Rattle.std.specs.Prelude.{drop}
-use Rattle.std.specs.List.Sorted.{IsPermutation}
-use Rattle.sqlite.specs.Order.{Row}
-use Rattle.sqlite_trees.proofs.ListLemmas.{all_weaker}
+use Rattle.reg_audit_law.proofs.Common.{◌≡◌, [], ◌∷◌, ◌∙◌, all_weaker, AllRows, ap, drop, IsPermutation, map, maps_twice, Row, shows, subst, sym, Trees}
 use Rattle.reg_tables_schema.specs.Rows.{by_column, by_columns}
-use Rattle.reg_tables_schema.proofs.Queries.{maps_twice}
 use Rattle.reg_tables_sql.specs.Scopes.{columns_of_scope}
 use Rattle.reg_tables_sql.specs.Tokens.{columns_of_token}
 use Rattle.reg_tables_meaning.specs.Stands.{StandTokens, row_of_token}
-use Rattle.reg_tables_rows.specs.declared.all_rows.AllRows.{AllRows}
-use Rattle.sqlite.specs.Tree.{Trees}
-use Rattle.reg_tables_schema.specs.Tests.{shows}
 use Rattle.reg_audit_law.specs.RegistryFrom.{registry_from, token_from}
 use Rattle.reg_audit_law.specs.Rules.{IsKeyed, IsWhole}
 use Rattle.reg_audit_law.proofs.Passing.{Passing, tokens_are}

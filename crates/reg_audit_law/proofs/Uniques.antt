@@ -1,18 +1,12 @@
 -- Rows without equals are of elements without equals.
-use Rattle.std.proofs.Common.{◌≡◌, ◌+◌, inl, inr, ℕ, pos, List, [], ◌∷◌, map, Bool, true, false, Some, refl, sym, ap, ◌∙◌}
+use Rattle.reg_audit_law.proofs.Common.{◌≡◌, ◌+◌, [], ◌∷◌, ◌∙◌, ap, Bool, column, false, inl, inr, Int, IsPermutation, IsPermutation-sym, List, map, pos, refl, Row, rowid, same_number, Some, sym, true, ℕ}
 use Rattle.std.specs.Prelude.{◌&&◌, ◌==◌, cond, filter}
 use Rattle.std.specs.List.{AllByRecursion, IsDistinct, enumerate_from, find}
-use Rattle.std.specs.List.Sorted.{IsPermutation}
 use Rattle.std.specs.Cmp.{eq_by_cmp_equiv}
-use Rattle.std.proofs.lemmas.List.Sorted.{IsPermutation-sym}
 use Rattle.std.proofs.lemmas.Map.Keys.{IsDistinct-IsPermutation}
-use Rattle.sqlite.specs.Order.{Row, column}
 use Rattle.sqlite.specs.declared.types.Value.{Value}
-use Rattle.sqlite.specs.declared.types.Value.TheVariants.{Int}
-use Rattle.reg_tables_meaning.proofs.Standing.{same_number}
 use Rattle.reg_tables_meaning.proofs.Selected.{same_head}
 use Rattle.sqlite_value.proofs.OrderLemmas.{value_cmp_total}
-use Rattle.sqlite_trees.specs.Tree.{rowid}
 use Rattle.reg_tables_meaning.specs.Stands.{HaveOwnRowids}
 use Rattle.reg_model.proofs.Members.{IsIn, distinct_from_map}
 use Rattle.reg_audit_law.specs.Rules.{same_at, same_value, AreUnique}

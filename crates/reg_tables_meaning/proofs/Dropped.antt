@@ -1,18 +1,13 @@
 -- Rows of a table without a key, whose rowids SQL chose: what a selection in order shows of their columns.
 use Rattle.std.proofs.Common.{◌≡◌, List, [], ◌∷◌, map, Less, refl, ap, ap₂, subst, ◌∙◌}
-use Rattle.std.specs.Prelude.{drop}
-use Rattle.std.specs.List.{AllByRecursion}
+use Rattle.reg_tables_meaning.proofs.Common.{AllByRecursion, drop, IsAscending, IsPermutation-map, IsPermutation-trans, Row, shows, value_cmp}
 use Rattle.std.specs.List.Sorted.{IsPermutation, IsSorted}
 use Rattle.std.specs.Ordering.{ordering_then}
 use Rattle.std.specs.Cmp.{IsTotalOrder}
 use Rattle.std.specs.declared.cmp.Ordering.{Ordering}
-use Rattle.std.proofs.lemmas.List.Sorted.{IsPermutation-map, IsPermutation-trans}
-use Rattle.sqlite.specs.Order.{Row, value_cmp}
 use Rattle.sqlite_exec.proofs.RowsLemmas.{IsSorted-map}
 use Rattle.sqlite_keyed.proofs.SortLemmas.{sorted_unique}
-use Rattle.sqlite_trees.specs.Tree.{IsAscending}
 use Rattle.reg_tables_schema.specs.Rows.{IsInOrder, by_column, by_columns}
-use Rattle.reg_tables_schema.specs.Tests.{shows}
 use Rattle.reg_tables_meaning.proofs.Rowids.{first_column, second_column}
 
 abbrev without_id : Row → Row

@@ -1,8 +1,7 @@
 -- Lists of which each element gives one row or none.
 use Rattle.std.proofs.Common.{◌≡◌, ℕ, suc, arith, Bool, true, false, ◌||◌, cond, if◌then◌else◌, List, [], ◌∷◌, ◌++◌, map, length, inl, inr, refl, ap, ◌∙◌}
 use Rattle.std.specs.Prelude.{min}
-use Rattle.std.specs.List.{filter, flat_map, list_any}
-use Rattle.reg_model.proofs.Members.{IsIn}
+use Rattle.reg_tables_meaning.proofs.Common.{filter, flat_map, IsIn, list_any}
 
 abbrev pub bit : Bool → ℕ
 bit b = if b then 1 else 0

@@ -2,6 +2,7 @@ pub mod AccountEntries
 mod Additions
 pub mod AllCrates
 pub mod ArchiveEntries
+mod Common
 mod CrateChanges
 pub mod CrateCounts
 pub mod CrateLemmas

@@ -1,21 +1,14 @@
 -- Which version gets another mark, told of the row that was found.
-use Rattle.std.proofs.Common.{◌≡◌, ℕ, pos, List, [], ◌∷◌, map, Bool, true, false, not, Option, Some, None, refl, sym, ap, ◌∙◌}
-use Rattle.std.specs.List.{filter}
-use Rattle.std.specs.Option.{option_and_then}
+use Rattle.reg_tables_meaning.proofs.Common.{◌≡◌, [], ◌∷◌, ◌∙◌, ap, Bool, false, filter, Int, List, map, None, not, Option, option_and_then, pos, refl, release_key_of, shown_of, Some, sym, Trees, true, version_row, ℕ}
 use Rattle.sqlite.specs.declared.types.Value.{Value}
-use Rattle.sqlite.specs.declared.types.Value.TheVariants.{Int}
-use Rattle.sqlite.specs.Tree.{Trees}
 use Rattle.reg_tables_schema.specs.Rows.{mark}
-use Rattle.reg_tables_schema.specs.Shown.{shown_of}
 use Rattle.reg_tables_schema.specs.Tests.{is_version}
 use Rattle.reg_tables_sql.specs.VersionMarks.{columns_of_mark, shows_mark}
-use Rattle.reg_tables_sql.specs.Versions.{version_row}
 use Rattle.reg_tables_sql.specs.declared.versions.VersionMark.{VersionMark}
 use Rattle.reg_tables_meaning.proofs.AccountEntries.{heads, mark_is, number_is, tails}
 use Rattle.reg_tables_meaning.proofs.Selected.{same_one}
 use Rattle.reg_tables_meaning.proofs.Numbered.{same_some}
 use Rattle.reg_tables_meaning.specs.Marking.{IsOtherwise, id_unless}
-use Rattle.reg_versions.specs.Versions.{release_key_of}
 
 abbrev id_of : Bool → Option VersionMark → Option ℕ
 id_of b found = option_and_then (λ (m : VersionMark). id_unless m.yanked b m.id) found

@@ -1,6 +1,6 @@
 -- The id after the greatest, where ids are the places of a list.
 use Rattle.std.proofs.Common.{◌≡◌, ◌==◌, ℕ, ◌+◌, ◌≤◌, ◌<◌, pos, List, [], ◌∷◌, map, take, length, Bool, true, false, ◌||◌, nat_lt, Option, Some, None, Ordering, Less, Equal, Greater, is_gt, true≢false, refl, sym, ap, subst, ◌∙◌, arith}
-use Rattle.std.specs.List.{enumerate_from, list_any, AllByRecursion}
+use Rattle.reg_tables_meaning.proofs.Common.{AllByRecursion, column, enumerate_from, has_rowid, Int, list_any, Row, rowid, shows, value_cmp}
 use Rattle.std.specs.List.Sorted.{IsPermutation, IsSorted}
 use Rattle.std.specs.Ordering.{is_eq, ordering_reverse}
 use Rattle.std.specs.Cmp.{IsTotalOrder, int_cmp_is}
@@ -10,14 +10,10 @@ use Rattle.std.proofs.lemmas.List.Sorted.{IsPermutation-trans, list_any-IsPermut
 use Rattle.std.proofs.lemmas.List.Elements.{All-from_recursion, recursion_from_All}
 use Rattle.std.proofs.lemmas.List.{length-map}
 use Rattle.std.proofs.lemmas.List.FromFn.{length-enumerate_from}
-use Rattle.sqlite.specs.declared.types.Value.TheVariants.{Int}
-use Rattle.sqlite.specs.Order.{Row, column, value_cmp}
-use Rattle.sqlite_trees.specs.Tree.{rowid, has_rowid}
 use Rattle.sqlite_value.proofs.OrderLemmas.{value_cmp_total, value_cmp-Int}
 use Rattle.sqlite_exec.proofs.PartitionLemmas.{ascending_from_sorted}
 use Rattle.reg_tables_schema.specs.Greatest.{IsGreatest, row_of_id}
 use Rattle.reg_tables_meaning.specs.Ids.{IsNext}
-use Rattle.reg_tables_schema.specs.Tests.{shows}
 use Rattle.reg_tables_meaning.proofs.Standing.{same_number}
 use Rattle.reg_tables_meaning.proofs.Numbered.{more}
 use Rattle.reg_model.proofs.Lists.{or_left, or_right}

@@ -2,9 +2,8 @@
 use Rattle.std.specs.Prelude.{◌⊎◌}
 use Rattle.std.proofs.Common.{◌≡◌, ◌≢◌, ◌==◌, ℕ, zero, suc, ◌+◌, ◌-◌, ◌≤◌, ◌<◌, List, [], ◌∷◌, ◌++◌, length, Bool, true, false, not, cond, Option, Some, None, slice_get, refl, ap, ◌∙◌, arith, inl, inr, sym}
 use Rattle.std.specs.List.{filter, enumerate_from, position_from, find}
-use Rattle.std.specs.List.Sorted.{IsPermutation}
+use Rattle.reg_tables_meaning.proofs.Common.{IsPermutation, IsPermutation-cons, IsPermutation-trans}
 use Rattle.std.proofs.lemmas.Bool.{ne_eqb, eq-eqb, eqb-false, eqb-true}
-use Rattle.std.proofs.lemmas.List.Sorted.{IsPermutation-cons, IsPermutation-trans}
 use Rattle.sqlite_trees.proofs.ListLemmas.{IsPermutation-same}
 use Rattle.reg_model.specs.Registry.{change_place, change_at, with_id}
 use Rattle.reg_tables_schema.proofs.Permutes.{two}

@@ -1,10 +1,7 @@
 -- What statements that only read leave, one after another, and what they told of the rows before them.
 use Rattle.std.proofs.Common.{◌≡◌, ◌∙◌, inl, Err, IsErr, Ok, Result, ap, arith, subst}
-use Rattle.sqlite.specs.Effect.{Database}
-use Rattle.sqlite.specs.State.{State, HasCleanDisk, IsUnchanged, Survives}
-use Rattle.sqlite.specs.Tree.{Trees}
+use Rattle.reg_tables_meaning.proofs.Common.{Database, HasCleanDisk, IsUnchanged, State, Survives, survives_then, Trees}
 use Rattle.sqlite.proofs.Callers.{unchanged_then}
-use Rattle.sqlite.proofs.StateLemmas.{survives_then}
 use Rattle.reg_tables_schema.specs.States.{IsReady}
 use Rattle.reg_tables_schema.specs.Statements.{IsReading}
 use Rattle.reg_tables_schema.specs.Steps.{LeavesSame}

@@ -1,17 +1,11 @@
 -- The highest of a crate's versions, and the length of its index file, once a mark is changed.
 use Rattle.std.proofs.Common.{◌≡◌, ◌==◌, ◌<◌, ◌≤◌, ◌+◌, ℕ, zero, suc, List, [], ◌∷◌, ◌++◌, length, Bool, true, false, not, cond, ◌||◌, nat_lt, Option, Some, None, inl, inr, refl, sym, ap, subst, ◌∙◌, arith}
-use Rattle.std.specs.Prelude.{slice_get}
+use Rattle.reg_tables_meaning.proofs.Common.{each_in, in_filter, IsAscending, IsIn, mark_cmp, option_map, Publication, slice_get, Trees, true_not_false}
 use Rattle.std.specs.FinSet as finset
-use Rattle.std.specs.Option.{option_map}
 use Rattle.std.proofs.lemmas.Bool.{eq-eqb, eqb-false, eqb-true, ltb-false, ltb-true}
 use Rattle.std.proofs.lemmas.List.{length-append}
-use Rattle.sqlite.specs.Tree.{Trees}
-use Rattle.sqlite_trees.specs.Tree.{IsAscending}
 use Rattle.sqlite_trees.proofs.ListLemmas.{ascending-filter}
 use Rattle.reg_line.specs.File.{end_of}
-use Rattle.reg_model.specs.Registry.{Publication, mark_cmp}
-use Rattle.reg_model.proofs.Lists.{true_not_false}
-use Rattle.reg_model.proofs.Members.{IsIn, each_in, in_filter}
 use Rattle.reg_tables_meaning.proofs.SummaryPushed.{IsTopOf, all, id_found, in_at, shown_at, some_top}
 use Rattle.reg_tables_meaning.proofs.SummaryRows.{got_map, version_at}
 use Rattle.reg_tables_meaning.proofs.VersionEntries.{ids_rise}

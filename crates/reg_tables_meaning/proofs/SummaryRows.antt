@@ -1,24 +1,10 @@
 -- What the rows of versions say of the highest of a crate and of its index file.
-use Rattle.std.proofs.Common.{◌≡◌, ◌==◌, ◌+◌, ◌<◌, ℕ, zero, suc, List, [], ◌∷◌, ◌++◌, map, length, Bool, true, Option, Some, None, refl, sym, ap, subst, ◌∙◌}
-use Rattle.std.specs.Prelude.{nat_eq, slice_get, unwrap_or}
-use Rattle.std.specs.Ordering.{on}
-use Rattle.std.proofs.lemmas.Bool.{eq-eqb, eqb-true}
+use Rattle.reg_tables_meaning.proofs.Common.{◌≡◌, ◌==◌, ◌+◌, ◌<◌, [], ◌∷◌, ◌++◌, ◌∙◌, ap, Bool, by_column, eq-eqb, eqb-true, filter, filter_map, is_number, IsIn, IsPermutation, length, List, map, map_same, maps_twice, mark_cmp, nat_eq, None, on, one_passes, one_row, Option, option_and_then, option_map, Publication, refl, same_filter, shown_of, shows, slice_get, Some, subst, suc, sym, Trees, true, unwrap_or, zero, ℕ}
 use Rattle.std.specs.FinSet as finset
-use Rattle.std.specs.List.{filter}
-use Rattle.std.specs.List.Sorted.{IsPermutation}
-use Rattle.std.specs.Option.{option_and_then, option_map}
 use Rattle.std.proofs.lemmas.List.{length-append}
 use Rattle.std.proofs.lemmas.List.Sums.{sum_by-cons}
-use Rattle.sqlite.specs.Tree.{Trees}
 use Rattle.sqlite_trees.proofs.ListLemmas.{ascending-filter, IsPermutation-filter}
 use Rattle.reg_line.specs.File.{end_of, file_text}
-use Rattle.reg_model.specs.Registry.{Publication, mark_cmp}
-use Rattle.reg_model.proofs.Members.{IsIn, map_same, one_passes}
-use Rattle.reg_tables_schema.proofs.Permutes.{filter_map, one_row}
-use Rattle.reg_tables_schema.proofs.Queries.{same_filter, maps_twice}
-use Rattle.reg_tables_schema.specs.Shown.{shown_of}
-use Rattle.reg_tables_schema.specs.Tests.{is_number, shows}
-use Rattle.reg_tables_schema.specs.Rows.{by_column}
 use Rattle.reg_tables_sql.specs.VersionMarks.{AreMarksOf, IsMarkWithId, columns_of_mark, shows_mark}
 use Rattle.reg_tables_sql.specs.Summaries.{IsSummaryOf, columns_of_summary, summary_places, summary_row}
 use Rattle.reg_tables_sql.specs.declared.summaries.Summary.{Summary}

@@ -1,21 +1,11 @@
 -- Tokens that selections show.
-use Rattle.std.proofs.Common.{◌≡◌, ◌==◌, ℕ, List, [], ◌∷◌, map, Option, Some, None, refl, sym, ◌∙◌, ap}
-use Rattle.std.specs.List.{enumerate_from, filter}
-use Rattle.std.specs.Option.{option_map}
-use Rattle.sqlite.specs.Order.{Row}
-use Rattle.sqlite.specs.Tree.{Trees}
+use Rattle.reg_tables_meaning.proofs.Common.{◌≡◌, ◌==◌, [], ◌∷◌, ◌∙◌, ap, by_column, enumerate_from, filter, is_number, IsInOrder, IsPermutation-trans, List, map, maps_twice, None, one_row, Option, option_map, refl, Row, same_filter, shown_of, shows, Some, sym, Trees, ℕ}
 use Rattle.sqlite_keyed.proofs.SortLemmas.{sorted_unique}
-use Rattle.std.proofs.lemmas.List.Sorted.{IsPermutation-trans}
 use Rattle.reg_model.specs.Registry as model
-use Rattle.reg_tables_schema.specs.Rows.{IsInOrder, by_column}
-use Rattle.reg_tables_schema.specs.Shown.{shown_of}
-use Rattle.reg_tables_schema.proofs.Permutes.{one_row}
-use Rattle.reg_tables_schema.proofs.Queries.{maps_twice, same_filter}
 use Rattle.reg_tables_sql.specs.declared.tokens.Token.{Token}
 use Rattle.reg_tables_sql.specs.Tokens.{IsTokenWithId, columns_of_token}
 use Rattle.reg_tables_meaning.specs.TokenEntries.{entry_of_token, without_patterns}
 use Rattle.reg_tables_meaning.specs.Stands.{row_of_token, StandTokens}
-use Rattle.reg_tables_schema.specs.Tests.{is_number, shows}
 use Rattle.reg_tables_meaning.proofs.AccountEntries.{mark_is, heads, tails, number_is}
 use Rattle.reg_tables_meaning.proofs.Numbered.{none_at, one_at}
 use Rattle.reg_tables_meaning.proofs.Selected.{column_total, places_rise, same_head, same_one, same_tail}

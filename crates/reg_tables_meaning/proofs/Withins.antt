@@ -1,7 +1,5 @@
 -- What a statement of a transaction leaves within it, and what more of them do.
-use Rattle.std.proofs.Common.{inl, inr, ℕ, List, refl, ap, ◌∙◌}
-use Rattle.sqlite.specs.Order.{Row}
-use Rattle.sqlite.specs.State.{State, HasCleanDisk, IsUnchanged}
+use Rattle.reg_tables_meaning.proofs.Common.{◌∙◌, ap, HasCleanDisk, inl, inr, IsUnchanged, List, refl, Row, State, ℕ}
 use Rattle.reg_tables_schema.specs.States.{IsInside, Refuses}
 use Rattle.reg_tables_schema.specs.Changes.{Becomes, Touches}
 use Rattle.reg_tables_schema.specs.Steps.{Fails, Within}

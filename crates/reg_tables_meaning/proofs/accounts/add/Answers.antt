@@ -1,8 +1,4 @@
-use Rattle.std.proofs.Common.{◌≡◌, true, arith, refl, sym, subst}
-use Rattle.std.specs.Option.{option_map}
-use Rattle.sqlite.specs.Effect.{Database}
-use Rattle.sqlite.specs.State.{HasCleanDisk}
-use Rattle.sqlite.specs.Held.{state}
+use Rattle.reg_tables_meaning.proofs.Common.{◌≡◌, arith, Database, HasCleanDisk, option_map, refl, state, subst, sym, true}
 use Rattle.reg_model.specs.Registry.{Account}
 use Rattle.reg_tables_meaning.specs.Stands.{StandAccounts, StandsBy}
 use Rattle.reg_tables_meaning.specs.Stands.{row_of_account}

@@ -1,8 +1,4 @@
-use Rattle.std.proofs.Common.{arith}
-use Rattle.std.specs.Option.{option_map}
-use Rattle.sqlite.specs.State.{HasCleanDisk}
-use Rattle.sqlite.specs.Held.{state}
-use Rattle.reg_model.specs.Registry.{Publication}
+use Rattle.reg_tables_meaning.proofs.Common.{arith, HasCleanDisk, option_map, Publication, state}
 use Rattle.reg_tables_meaning.proofs.CratesStand.{adds_first}
 use Rattle.reg_tables_meaning.proofs.Writings.{◌⨾◌, ends, fails, steps}
 use Rattle.reg_tables_meaning.proofs.crates.add_new.Goals as goal

@@ -1,5 +1,4 @@
-use Rattle.std.proofs.Common.{ap, cond, not, sym, ◌∙◌}
-use Rattle.sqlite.specs.Held.{state}
+use Rattle.reg_tables_meaning.proofs.Common.{◌∙◌, ap, cond, not, state, sym}
 use Rattle.reg_tables_meaning.proofs.CratesStand.{marks_other}
 use Rattle.reg_tables_meaning.proofs.crates.has_other_mark.Goals as goal
 

@@ -1,6 +1,4 @@
-use Rattle.std.proofs.Common.{◌≡◌, arith, ◌∙◌}
-use Rattle.sqlite.specs.State.{HasCleanDisk}
-use Rattle.sqlite.specs.Held.{state}
+use Rattle.reg_tables_meaning.proofs.Common.{◌≡◌, ◌∙◌, arith, HasCleanDisk, state}
 use Rattle.reg_tables_meaning.proofs.Additions.{crate_added}
 use Rattle.reg_tables_meaning.proofs.Writings.{◌⨾◌, adds, adds_columns, ends, fails, reads}
 use Rattle.reg_tables_meaning.proofs.crates.insert_crate.Goals as goal

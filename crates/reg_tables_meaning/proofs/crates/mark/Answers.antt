@@ -1,7 +1,4 @@
-use Rattle.std.proofs.Common.{◌≡◌, None, Some, arith, subst, sym}
-use Rattle.sqlite.specs.Effect.{Database}
-use Rattle.sqlite.specs.Held.{state}
-use Rattle.sqlite.specs.State.{HasCleanDisk}
+use Rattle.reg_tables_meaning.proofs.Common.{◌≡◌, arith, Database, HasCleanDisk, None, Some, state, subst, sym}
 use Rattle.reg_tables_sql.specs.Versions.{MarksYanked}
 use Rattle.reg_tables_meaning.specs.Changes.{mark_at}
 use Rattle.reg_tables_meaning.specs.Marking.{IsOtherwise}

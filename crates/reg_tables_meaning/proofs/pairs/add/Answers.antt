@@ -1,10 +1,5 @@
-use Rattle.std.specs.List.{list_any}
-use Rattle.sqlite_trees.specs.Tree.{has_rowid}
+use Rattle.reg_tables_meaning.proofs.Common.{◌≡◌, ◌∙◌, ap, arith, Database, has_rowid, HasCleanDisk, list_any, pos, state, subst, sym}
 use Rattle.reg_tables_schema.specs.Tests.{is_owner}
-use Rattle.std.proofs.Common.{pos, ◌≡◌, arith, sym, subst, ap, ◌∙◌}
-use Rattle.sqlite.specs.Effect.{Database}
-use Rattle.sqlite.specs.State.{HasCleanDisk}
-use Rattle.sqlite.specs.Held.{state}
 use Rattle.reg_tables_sql.specs.Relations.{tree_of}
 use Rattle.reg_tables_meaning.specs.Relations.{related, with_related}
 use Rattle.reg_tables_meaning.specs.Stands.{Holds, StandsBy}

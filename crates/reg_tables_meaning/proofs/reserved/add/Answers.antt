@@ -1,7 +1,4 @@
-use Rattle.std.proofs.Common.{◌≡◌, arith, sym, subst, ◌∙◌}
-use Rattle.sqlite.specs.Effect.{Database}
-use Rattle.sqlite.specs.State.{HasCleanDisk}
-use Rattle.sqlite.specs.Held.{state}
+use Rattle.reg_tables_meaning.proofs.Common.{◌≡◌, ◌∙◌, arith, Database, HasCleanDisk, state, subst, sym}
 use Rattle.reg_tables_meaning.specs.Stands.{StandsBy}
 use Rattle.reg_tables_meaning.proofs.ReservedChanges.{is_there, adds_reserved, stays_reserved}
 use Rattle.reg_tables_meaning.proofs.Stays.{with_reserved}

@@ -1,11 +1,5 @@
-use Rattle.std.specs.List.{list_any}
-use Rattle.sqlite_trees.specs.Tree.{has_rowid}
-use Rattle.reg_tables_schema.specs.Tests.{is_number}
+use Rattle.reg_tables_meaning.proofs.Common.{◌≡◌, ◌∙◌, ap, arith, Database, has_rowid, HasCleanDisk, is_number, list_any, pos, state, subst, sym}
 use Rattle.std.proofs.lemmas.Result.{IfOk-from_err}
-use Rattle.std.proofs.Common.{pos, ◌≡◌, arith, sym, subst, ap, ◌∙◌}
-use Rattle.sqlite.specs.Effect.{Database}
-use Rattle.sqlite.specs.State.{HasCleanDisk}
-use Rattle.sqlite.specs.Held.{state}
 use Rattle.reg_tables_meaning.specs.Stands.{Holds, StandsBy}
 use Rattle.reg_tables_meaning.proofs.MarkedStand.{added, again, no_crate}
 use Rattle.reg_tables_meaning.proofs.Stays.{marked_stay, with_restricted}

@@ -1,6 +1,4 @@
-use Rattle.std.proofs.Common.{◌≡◌, ◌+◌, true, length, not, sym, ap, subst, ◌∙◌}
-use Rattle.sqlite.specs.Effect.{Database}
-use Rattle.sqlite.specs.Held.{state}
+use Rattle.reg_tables_meaning.proofs.Common.{◌≡◌, ◌+◌, ◌∙◌, ap, Database, length, not, state, subst, sym, true, true_not_false}
 use Rattle.reg_line.specs.File.{end_of}
 use Rattle.reg_tables_meaning.specs.Stands.{StandCrates}
 use Rattle.reg_tables_meaning.specs.Summaries.{ShownMark, highest_of, length_of, mark_shown, shown_mark}
@@ -9,7 +7,6 @@ use Rattle.reg_tables_meaning.proofs.Readings.{◌⨾◌, fails, same_now, so_fa
 use Rattle.reg_tables_meaning.proofs.Results.{if_ok}
 use Rattle.reg_tables_meaning.proofs.SummaryMarked.{highest_is_marked, its_row, length_is_marked}
 use Rattle.reg_tables_meaning.proofs.SummaryRows.{version_at}
-use Rattle.reg_model.proofs.Lists.{true_not_false}
 use Rattle.reg_tables_meaning.proofs.summaries.numbers_marked.Goals.{else-now-via-then-now+else-now-kept, else-now-via-else-now}
 use Rattle.reg_tables_meaning.proofs.summaries.numbers_marked.Goals as goal
 

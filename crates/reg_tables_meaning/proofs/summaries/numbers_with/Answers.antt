@@ -1,5 +1,4 @@
-use Rattle.std.proofs.Common.{◌+◌, sym, subst, ◌∙◌}
-use Rattle.sqlite.specs.Effect.{Database}
+use Rattle.reg_tables_meaning.proofs.Common.{◌+◌, ◌∙◌, Database, subst, sym}
 use Rattle.reg_tables_meaning.specs.Summaries.{higher_of, line_length}
 use Rattle.reg_tables_meaning.specs.SummaryChanges.{HasVersion}
 use Rattle.reg_tables_meaning.proofs.Readings.{◌⨾◌, fails, same_now, so_far, was_clean}

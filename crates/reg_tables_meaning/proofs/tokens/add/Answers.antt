@@ -1,7 +1,4 @@
-use Rattle.std.proofs.Common.{true, [], arith, refl}
-use Rattle.sqlite.specs.State.{HasCleanDisk}
-use Rattle.sqlite.specs.Held.{state}
-use Rattle.reg_model.specs.Registry.{Token}
+use Rattle.reg_tables_meaning.proofs.Common.{[], arith, HasCleanDisk, refl, state, Token, true}
 use Rattle.reg_tables_meaning.proofs.Writings.{◌⨾◌, ends, fails, steps}
 use Rattle.reg_tables_meaning.proofs.tokens.add.Goals as goal
 

@@ -1,9 +1,5 @@
 use Rattle.reg_tables_meaning.proofs.Stays.{with_tokens}
-use Rattle.std.proofs.Common.{◌≡◌, true, [], arith, refl, sym, subst}
-use Rattle.sqlite.specs.Effect.{Database}
-use Rattle.sqlite.specs.State.{HasCleanDisk}
-use Rattle.sqlite.specs.Held.{state}
-use Rattle.reg_model.specs.Registry.{Token}
+use Rattle.reg_tables_meaning.proofs.Common.{◌≡◌, [], arith, Database, HasCleanDisk, refl, state, subst, sym, Token, true}
 use Rattle.reg_tables_meaning.specs.Stands.{StandTokens, row_of_token, StandsBy}
 use Rattle.reg_tables_meaning.proofs.NextId.{next_id}
 use Rattle.reg_tables_meaning.proofs.TokenChanges.{adds_token}
