@@ -83,7 +83,8 @@ module _ (s : Registry) (sound : Sound s) where
     readers = read;
   }
 
-  pub with_owners : (os : finset.FinSet owner_cmp) → ((c : Text) → has_crate s c ≡ true → (id : ℕ) × (finset.contains os (c, id) ≡ true)) → ArePairs os
+  pub with_owners : (os : finset.FinSet owner_cmp) → ((c : Text) → has_crate s c ≡ true → (id : ℕ) × (finset.contains os (c, id) ≡ true))
+      → ArePairs os
       → Sound (record s { owners = os })
   with_owners os owned owners =
       with_sets os s.readers s.yanked s.reserved s.restricted owned owners sound.readers sound.yanked sound.reserved sound.restricted

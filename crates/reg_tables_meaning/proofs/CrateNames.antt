@@ -28,11 +28,14 @@ same_shown c o h = let id = number_is (heads h) in let name = words_are (heads (
 abbrev pub first_of : List Publication → Words → Option Words
 first_of ps n = option_map (λ p. p.name) (find (λ p. collides p.name n) ps)
 
-pub none_first : (n : Words) (vs : List StoredVersion) → ((v : StoredVersion) → IsIn v vs → collides v.publication.name n ≡ false) → first_of (map (λ v. v.publication) vs) n ≡ None
+pub none_first : (n : Words) (vs : List StoredVersion) → ((v : StoredVersion) → IsIn v vs → collides v.publication.name n ≡ false)
+    → first_of (map (λ v. v.publication) vs) n ≡ None
 none_first n [] h = refl
 none_first n (v ∷ vs) h = rw (h v (inl refl)) (none_first n vs (λ w i. h w (inr i)))
 
-pub some_first : (n name : Words) (vs : List StoredVersion) → ((v : StoredVersion) → IsIn v vs → collides v.publication.name n ≡ true → v.publication.name ≡ name) → (v : StoredVersion) → IsIn v vs → collides v.publication.name n ≡ true
+pub some_first : (n name : Words) (vs : List StoredVersion)
+    → ((v : StoredVersion) → IsIn v vs → collides v.publication.name n ≡ true → v.publication.name ≡ name) → (v : StoredVersion) → IsIn v vs
+    → collides v.publication.name n ≡ true
     → first_of (map (λ v. v.publication) vs) n ≡ Some name
 some_first n name [] h v i met = absurd i
 some_first n name (w ∷ vs) h v i met = split (collides w.publication.name n) refl (λ j. some_first n name vs (λ u k. h u (inr k)) v j met)

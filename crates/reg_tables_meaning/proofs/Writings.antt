@@ -62,7 +62,8 @@ pub reads : {T E : Type 0} {a b : State} {r : Result T E} {tells : T → Type 0}
 reads h = looks (left h)
 
 -- a statement that writes
-pub writes : {T E : Type 0} {C : State → State → Type 0} {a b : State} {r : Result T E} → IsWriting a b r C → (HasCleanDisk a → IsInside a → C a b → Within a b) → Leads a b r
+pub writes : {T E : Type 0} {C : State → State → Type 0} {a b : State} {r : Result T E} → IsWriting a b r C
+    → (HasCleanDisk a → IsInside a → C a b → Within a b) → Leads a b r
 writes {a = a} {b = b} {r = r} h within = record {
   leaves = λ ready.
       let early : HasCleanDisk b → HasCleanDisk a = λ clean. omega (arith, clean, h.survives.clean) in
@@ -76,10 +77,12 @@ writes {a = a} {b = b} {r = r} h within = record {
 pub adds : {T E : Type 0} {tree : ℕ} {row : Row} {a b : State} {r : Result T E} → IsWriting a b r (Adds tree row) → Leads a b r
 adds {tree = tree} {a = a} {b = b} h = writes h (λ clean at added. become_within a b tree _ clean at added.becomes)
 
-pub adds_columns : {T E : Type 0} {tree : ℕ} {columns : Row} {a b : State} {r : Result T E} → IsWriting a b r (AddsColumns tree columns) → Leads a b r
+pub adds_columns : {T E : Type 0} {tree : ℕ} {columns : Row} {a b : State} {r : Result T E} → IsWriting a b r (AddsColumns tree columns)
+    → Leads a b r
 adds_columns {tree = tree} {a = a} {b = b} h = writes h (λ clean at added. become_within a b tree _ clean at added.1.becomes)
 
-pub touches : {T E : Type 0} {C : State → State → Type 0} (tree : ℕ) {a b : State} {r : Result T E} → IsWriting a b r C → (C a b → Touches tree a b) → Leads a b r
+pub touches : {T E : Type 0} {C : State → State → Type 0} (tree : ℕ) {a b : State} {r : Result T E} → IsWriting a b r C
+    → (C a b → Touches tree a b) → Leads a b r
 touches tree {a = a} {b = b} h is = writes h (λ clean at changed. touch_within a b tree clean at (is changed))
 
 -- what they leave, whatever is answered once they are done

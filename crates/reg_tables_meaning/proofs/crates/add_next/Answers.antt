@@ -4,7 +4,8 @@ use Rattle.reg_tables_meaning.proofs.Writings.{◌⨾◌, ends, fails, steps}
 use Rattle.reg_tables_meaning.proofs.crates.add_next.Goals as goal
 
 pub returns-in_err-push-clause-leaves : goal.returns-in_err-push-clause-leaves
-returns-in_err-push-clause-leaves g c = fails _ c.from_residual-in_err-push.ensures.0 (steps c.in_ok-id.ensures.leaves ⨾ steps c.in_err-push.ensures.leaves) c.requires
+returns-in_err-push-clause-leaves g c =
+    fails _ c.from_residual-in_err-push.ensures.0 (steps c.in_ok-id.ensures.leaves ⨾ steps c.in_err-push.ensures.leaves) c.requires
 
 pub returns-clause-stands : goal.returns-clause-stands
 returns-clause-stands g c clean ids s name h at fresh =

@@ -53,11 +53,14 @@ pub returns-in_err-is_crate-clause-leaves : goal.returns-in_err-is_crate-clause-
 returns-in_err-is_crate-clause-leaves g c = fails _ c.from_residual.ensures.0 (reads c.in_err-is_crate.ensures) c.requires
 
 pub returns-in_err-is_pair-clause-leaves : goal.returns-in_err-is_pair-clause-leaves
-returns-in_err-is_pair-clause-leaves g c = fails _ c.from_residual-in_err-is_pair.ensures.0 (reads c.in_ok-is_crate.ensures ⨾ reads c.in_err-is_pair.ensures) c.requires
+returns-in_err-is_pair-clause-leaves g c =
+    fails _ c.from_residual-in_err-is_pair.ensures.0 (reads c.in_ok-is_crate.ensures ⨾ reads c.in_err-is_pair.ensures) c.requires
 
 pub returns-in_err-insert-clause-leaves : goal.returns-in_err-insert-clause-leaves
 returns-in_err-insert-clause-leaves g c =
-    fails _ c.from_residual-in_err-insert.ensures.0 (reads c.in_ok-is_crate.ensures ⨾ reads c.in_ok-is_pair.ensures ⨾ adds_columns c.in_err-insert.ensures) c.requires
+    fails _ c.from_residual-in_err-insert.ensures.0
+    (reads c.in_ok-is_crate.ensures ⨾ reads c.in_ok-is_pair.ensures ⨾ adds_columns c.in_err-insert.ensures) c.requires
 
 pub returns-clause-leaves : goal.returns-clause-leaves
-returns-clause-leaves g c = ends (reads c.in_ok-is_crate.ensures ⨾ reads c.in_ok-is_pair.ensures ⨾ adds_columns c.in_ok-insert.ensures) c.requires
+returns-clause-leaves g c =
+    ends (reads c.in_ok-is_crate.ensures ⨾ reads c.in_ok-is_pair.ensures ⨾ adds_columns c.in_ok-insert.ensures) c.requires

@@ -33,7 +33,8 @@ pub returns-then-branch-clause-leaves : goal.returns-then-branch-clause-leaves
 returns-then-branch-clause-leaves g c = ends (reads c.in_ok-is_there.ensures) c.requires
 
 pub returns-in_err-insert-clause-leaves : goal.returns-in_err-insert-clause-leaves
-returns-in_err-insert-clause-leaves g c = fails _ c.from_residual-in_err-insert.ensures.0 (reads c.in_ok-is_there.ensures ⨾ adds_columns c.in_err-insert.ensures) c.requires
+returns-in_err-insert-clause-leaves g c =
+    fails _ c.from_residual-in_err-insert.ensures.0 (reads c.in_ok-is_there.ensures ⨾ adds_columns c.in_err-insert.ensures) c.requires
 
 pub returns-clause-leaves : goal.returns-clause-leaves
 returns-clause-leaves g c = ends (reads c.in_ok-is_there.ensures ⨾ adds_columns c.in_ok-insert.ensures) c.requires

@@ -49,14 +49,17 @@ returns-in_err-is_crate-clause-leaves g c = fails _ c.from_residual.ensures.0 (r
 
 pub returns-in_err-is_restricted-clause-leaves : goal.returns-in_err-is_restricted-clause-leaves
 returns-in_err-is_restricted-clause-leaves g c =
-    fails _ c.from_residual-in_err-is_restricted.ensures.0 (reads c.in_ok-is_crate.ensures ⨾ reads c.in_err-is_restricted.ensures) c.requires
+    fails _ c.from_residual-in_err-is_restricted.ensures.0
+    (reads c.in_ok-is_crate.ensures ⨾ reads c.in_err-is_restricted.ensures) c.requires
 
 pub returns-in_err-insert-clause-leaves : goal.returns-in_err-insert-clause-leaves
 returns-in_err-insert-clause-leaves g c =
-    fails _ c.from_residual-in_err-insert.ensures.0 (reads c.in_ok-is_crate.ensures ⨾ reads c.in_ok-is_restricted.ensures ⨾ adds c.in_err-insert.ensures) c.requires
+    fails _ c.from_residual-in_err-insert.ensures.0
+    (reads c.in_ok-is_crate.ensures ⨾ reads c.in_ok-is_restricted.ensures ⨾ adds c.in_err-insert.ensures) c.requires
 
 pub returns-clause-leaves : goal.returns-clause-leaves
-returns-clause-leaves g c = ends (reads c.in_ok-is_crate.ensures ⨾ reads c.in_ok-is_restricted.ensures ⨾ adds c.in_ok-insert.ensures) c.requires
+returns-clause-leaves g c =
+    ends (reads c.in_ok-is_crate.ensures ⨾ reads c.in_ok-is_restricted.ensures ⨾ adds c.in_ok-insert.ensures) c.requires
 
 pub returns-then-not-is_crate-clause-leaves : goal.returns-then-not-is_crate-clause-leaves
 returns-then-not-is_crate-clause-leaves g c = ends (reads c.in_ok-is_crate.ensures) c.requires

@@ -50,7 +50,8 @@ pub returns-then-now-kept-clause-same : goal.returns-then-now-kept-clause-same
 returns-then-now-kept-clause-same g c = c.in_ok-kept.ensures.same ⨾ c.in_ok-now.ensures.same ⨾ c.numbers_of.ensures.same
 
 pub returns-in_err-highest-clause-same : goal.returns-in_err-highest-clause-same
-returns-in_err-highest-clause-same g c = fails _ c.from_residual-in_err-highest.ensures.0 (c.in_ok-kept.ensures.same ⨾ c.in_ok-now.ensures.same ⨾ c.in_err-highest.ensures.same)
+returns-in_err-highest-clause-same g c =
+    fails _ c.from_residual-in_err-highest.ensures.0 (c.in_ok-kept.ensures.same ⨾ c.in_ok-now.ensures.same ⨾ c.in_err-highest.ensures.same)
 
 pub returns-in_err-index_length-clause-same : goal.returns-in_err-index_length-clause-same
 returns-in_err-index_length-clause-same g c = so_far (c.in_ok-kept.ensures.same ⨾ c.in_ok-now.ensures.same ⨾ c.in_ok-highest.ensures.same)

@@ -21,7 +21,8 @@ pub returns-in_err-top-clause-same : goal.returns-in_err-top-clause-same
 returns-in_err-top-clause-same g c = fails _ c.from_residual-in_err-top.ensures.0 (c.in_ok-kept.ensures.same ⨾ c.in_err-top.ensures.same)
 
 pub returns-in_err-next-clause-same : goal.returns-in_err-next-clause-same
-returns-in_err-next-clause-same g c = fails _ c.from_residual-in_err-next.ensures.0 (c.in_ok-kept.ensures.same ⨾ c.in_ok-top.ensures.same ⨾ c.in_err-next.ensures.same)
+returns-in_err-next-clause-same g c =
+    fails _ c.from_residual-in_err-next.ensures.0 (c.in_ok-kept.ensures.same ⨾ c.in_ok-top.ensures.same ⨾ c.in_err-next.ensures.same)
 
 pub returns-in_err-highest-clause-same : goal.returns-in_err-highest-clause-same
 returns-in_err-highest-clause-same g c = so_far (c.in_ok-kept.ensures.same ⨾ c.in_ok-top.ensures.same ⨾ c.in_ok-next.ensures.same)
