@@ -53,7 +53,7 @@ looks {a = a} {b = b} {r = r} h = record {
       let early : HasCleanDisk b → HasCleanDisk a = λ clean. omega (arith, clean, h.survives.clean) in
       record {
         within = λ clean. on_ok r (unchanged_within a b (early clean) (ready (early clean))) (h.only clean).0;
-        fails = λ clean. on_err r (refused_fails a b (early clean) (ready (early clean))) (h.only clean).1;
+        fails = λ clean. on_err r (refused_fails a b (early clean)) (h.only clean).1;
         survives = h.survives;
       };
 }
@@ -69,7 +69,7 @@ writes {a = a} {b = b} {r = r} h within = record {
       let early : HasCleanDisk b → HasCleanDisk a = λ clean. omega (arith, clean, h.survives.clean) in
       record {
         within = λ clean. on_ok r (within (early clean) (ready (early clean))) (h.changes clean);
-        fails = λ clean. on_err r (refused_fails a b (early clean) (ready (early clean))) (h.refused clean);
+        fails = λ clean. on_err r (refused_fails a b (early clean)) (h.refused clean);
         survives = h.survives;
       };
 }
