@@ -1,5 +1,4 @@
 -- The crates of a table of marks after a change that names a crate by its id.
-
 use Rattle.reg_tables_meaning.proofs.CrateNames.{kept}
 use Rattle.reg_tables_meaning.proofs.Common.{◌≡◌, ◌==◌, [], ◌∷◌, ◌&&◌, ◌||◌, ◌∙◌, AllByRecursion, any_same, ap, Bool, bytes_eq, canon, false, filter, filter_map, has_rowid, Int, is_eq, is_eq-slice_cmp, is_number, IsPermutation, IsPermutation-cons, IsPermutation-filter, IsPermutation-map, IsPermutation-sym, IsPermutation-trans, List, list_any, list_any-IsPermutation, list_any_map, map, mark_cmp, None, not, not_true, Option, pos, Publication, put_permutes, put_row, refl, Row, rowid, same_filter, shows, Some, subst, sym, Text, text_cmp, Trees, true, true_not_false, value_cmp, ℕ}
 use Rattle.reg_tables_meaning.proofs.VersionEntries.{same_passes}
@@ -14,9 +13,9 @@ use Rattle.reg_model.proofs.Keys.{insert_again, text_apart}
 use Rattle.sqlite_rules.specs.Edit.{id_in, is_taken}
 use Rattle.reg_tables_meaning.proofs.PairChanges.{crates_alike}
 use Rattle.reg_tables_meaning.proofs.CrateLemmas.{crate_there, no_row, not_at, there_at}
+use Rattle.reg_tables_meaning.proofs.Selected.{same_one}
 use Rattle.std.proofs.lemmas.Map.Views.{any-filter_same}
 use Rattle.std.proofs.lemmas.Bool.{and_from, eq-eqb, eqb-true}
-use Rattle.sqlite.specs.declared.types.Value.{Value}
 use Rattle.reg_tables_schema.specs.Rows.{number_columns}
 use Rattle.reg_model.proofs.Members.{IsIn, all_in, any_in, each_in, filtered_passes, in_all, in_any, in_filter, in_map, in_permuted, map_in, none_in}
 use Rattle.reg_tables_meaning.specs.Stands.{Ids, StandCrates, StandMarked, StoredCrate, spelling_at}
@@ -28,9 +27,6 @@ key_of r = shows (0 ∷ []) r
 
 row_has : (id i : ℕ) → is_number 0 id (number_columns i) ≡ (i == id)
 row_has id i = same_number i id
-
-heads : {a b : Value} → ◌≡◌ {A = Row} (a ∷ []) (b ∷ []) → a ≡ b
-heads e = cc
 
 -- rows with these keys have one rowid exactly where these are one
 at_key : (r x : Row) (i j : ℕ) → Int (pos i) ≡ rowid r → Int (pos j) ≡ rowid x → has_rowid (id_in (rowid x)) r ≡ (i == j)
@@ -136,7 +132,7 @@ module _ (ids : Ids) (publications : List Publication) (yanked : finset.FinSet m
   is_row r k =
       let there = in_permuted (map key_of rows) (map number_columns all.marks) (key_of r) (IsPermutation-sym (map number_columns all.marks) (map key_of rows) all.are) (in_map key_of rows r k) in
       let i = map_in number_columns all.marks (key_of r) there in
-      (i.0, heads i.2)
+      (i.0, same_one i.2)
 
   its_test : (i : ℕ) (r : Row) → Int (pos i) ≡ rowid r → (i == id) ≡ is_number 0 id r
   its_test i r e = sym (row_has id i) ∙ ap (λ v. is_eq (value_cmp v (Int (pos id)))) e

@@ -1,4 +1,4 @@
-use Rattle.reg_tables_meaning.proofs.Common.{◌∙◌, state, sym}
+use Rattle.reg_tables_meaning.proofs.Common.{◌∙◌, state}
 use Rattle.reg_tables_meaning.proofs.TokenEntries.{live_told}
 use Rattle.reg_tables_meaning.proofs.tokens.is_live.Goals as goal
 
