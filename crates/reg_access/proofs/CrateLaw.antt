@@ -1,8 +1,7 @@
 -- Where the rows stand for a registry, the row of a crate shows its spelling, and what an account is to it.
-use Rattle.std.proofs.Common.{◌≡◌, ◌==◌, ◌⊎◌, inl, inr, ℕ, pos, List, [], ◌∷◌, map, Bool, true, false, not, ◌&&◌, ◌||◌, cond, Option, Some, None, is_some, refl, sym, ap, ap₂, subst, ◌∙◌}
-use Rattle.std.specs.Option.{option_map}
+use Rattle.std.proofs.Common.{◌≡◌, ◌==◌, ◌⊎◌, inl, inr, ℕ, pos, List, [], ◌∷◌, Bool, true, false, not, ◌&&◌, ◌||◌, cond, Some, None, is_some, refl, sym, ap, ap₂, subst, ◌∙◌}
 use Rattle.std.specs.FinSet as finset
-use Rattle.std.specs.List.{enumerate_from, filter, find, flat_map, list_any}
+use Rattle.std.specs.List.{enumerate_from, filter, flat_map, list_any}
 use Rattle.std.specs.Ordering.{on}
 use Rattle.std.specs.Str.{bytes_eq}
 use Rattle.std.proofs.lemmas.Bool.{eq-eqb, eqb-true}
@@ -17,7 +16,7 @@ use Rattle.sqlite.specs.Tree.{Trees}
 use Rattle.sqlite_schema.specs.Rules.{equal}
 use Rattle.reg_names.specs.Names.{canon}
 use Rattle.reg_model.specs.Registry as model
-use Rattle.reg_model.specs.Registry.{Publication, owner_cmp, with_id}
+use Rattle.reg_model.specs.Registry.{owner_cmp, with_id}
 use Rattle.reg_model.specs.Crates.{collides, first, has_crate, is_among, owners, readers}
 use Rattle.reg_model.specs.Sound.{Sound}
 use Rattle.reg_model.proofs.Lists.{any_filter, any_same, is_some_find, not_true, true_not_false}
@@ -33,6 +32,7 @@ use Rattle.reg_tables_meaning.proofs.MarkedStand.{is_marked}
 use Rattle.reg_tables_meaning.proofs.Numbered.{one_at}
 use Rattle.reg_tables_meaning.proofs.PairChanges as pairs
 use Rattle.reg_tables_meaning.proofs.Standing.{none_row}
+use Rattle.reg_tables_meaning.proofs.CrateNames.{first_of, named, none_first, some_first}
 use Rattle.reg_access.specs.JoinRows.{beside_all, crates_seen_by, is_mark_of, is_pair_of, value_at}
 use Rattle.reg_access.specs.Laws.{TellsCrate}
 use Rattle.reg_access.proofs.Nulls.{none_any, not_null}
@@ -40,29 +40,6 @@ use Rattle.reg_access.proofs.Somes.{the_some}
 
 abbrev Words : Type 0
 Words = List ℕ
-
-abbrev first_of : List Publication → Words → Option Words
-first_of ps n = option_map (λ p. p.name) (find (λ p. collides p.name n) ps)
-
-none_first : (n : Words) (vs : List StoredVersion) → ((v : StoredVersion) → IsIn v vs → collides v.publication.name n ≡ false) → first_of (map (λ v. v.publication) vs) n ≡ None
-none_first n [] h = refl
-none_first n (v ∷ vs) h = rw (h v (inl refl)) (none_first n vs (λ w i. h w (inr i)))
-
-some_first : (n name : Words) (vs : List StoredVersion) → ((v : StoredVersion) → IsIn v vs → collides v.publication.name n ≡ true → v.publication.name ≡ name) → (v : StoredVersion) → IsIn v vs → collides v.publication.name n ≡ true
-    → first_of (map (λ v. v.publication) vs) n ≡ Some name
-some_first n name [] h v i met = absurd i
-some_first n name (w ∷ vs) h v i met = split (collides w.publication.name n) refl (λ j. some_first n name vs (λ u k. h u (inr k)) v j met)
-  where
-    later : collides w.publication.name n ≡ false → IsIn v (w ∷ vs) → IsIn v vs
-    later e (inl same) = true_not_false _ (subst (λ (u : StoredVersion). collides u.publication.name n ≡ true) (sym same) met) e
-    later e (inr j) = j
-
-    split : (b : Bool) → collides w.publication.name n ≡ b → (IsIn v vs → first_of (map (λ v. v.publication) vs) n ≡ Some name) → first_of (map (λ v. v.publication) (w ∷ vs)) n ≡ Some name
-    split true e rest = rw e (ap Some (h w (inl refl) e))
-    split false e rest = rw e (rest (later e i))
-
-abbrev named : Words → StoredCrate → Bool
-named c x = bytes_eq (canon x.1) c
 
 abbrev has_canon : Words → Row → Bool
 has_canon c r = equal Binary (column r 2) (Text c)

@@ -1,6 +1,6 @@
 -- The text on the tokens that may act answers, where the rows stand for a registry, just these tokens.
-use Rattle.std.proofs.Common.{◌≡◌, ◌==◌, ℕ, ◌+◌, ◌-◌, suc, pos, arith, Bool, true, false, ◌&&◌, ◌||◌, cond, if◌then◌else◌, List, [], ◌∷◌, ◌++◌, map, length, Option, Some, None, Less, get_or, inl, inr, refl, sym, ap, subst, ◌∙◌, append-nil}
-use Rattle.std.specs.Prelude.{is_some, min, unwrap_or}
+use Rattle.std.proofs.Common.{◌≡◌, ◌==◌, ℕ, ◌+◌, ◌-◌, pos, Bool, true, false, ◌&&◌, cond, List, [], ◌∷◌, map, length, Option, Some, None, Less, get_or, inl, inr, refl, sym, ap, subst, ◌∙◌, append-nil}
+use Rattle.std.specs.Prelude.{is_some, unwrap_or}
 use Rattle.std.specs.List.{enumerate_from, filter, flat_map, list_all, list_any}
 use Rattle.std.specs.List.Sorted.{IsPermutation, IsSorted}
 use Rattle.std.specs.Option.{option_map}
@@ -41,35 +41,13 @@ use Rattle.reg_tables_meaning.proofs.CrateNames.{kept}
 use Rattle.reg_tables_meaning.proofs.Numbered.{at_place, none_at, one_at}
 use Rattle.reg_tables_meaning.proofs.Selected.{column_total, places_rise}
 use Rattle.reg_tables_meaning.proofs.Standing.{same_number}
+use Rattle.reg_tables_meaning.proofs.Gates.{bit, counted_any, each_gate}
 use Rattle.reg_tables_meaning.specs.Stands.{Holds, Ids, row_of_account, row_of_token}
 use Rattle.reg_access.specs.Grants.{is_candidate, row_of_candidate}
 use Rattle.reg_access.specs.JoinRows.{is_at_most, is_below, is_scope_over, is_there, scopes_over}
 use Rattle.reg_access.proofs.Answered.{there_filtered}
 use Rattle.reg_access.proofs.GrantText.{after_token, from, query, scopes_counted, where_terms}
 use Rattle.reg_access.proofs.ScopeLaw.{all_at, covers_alike, the_token}
-
-abbrev bit : Bool → ℕ
-bit b = if b then 1 else 0
-
--- rows are counted up to the first
-counted_any : {X Y : Type 0} (p : X → Bool) (f : X → Y) (xs : List X) → min 1 (length (flat_map (λ x. cond (p x) (f x ∷ []) []) xs)) ≡ bit (list_any p xs)
-counted_any p f [] = refl
-counted_any p f (x ∷ xs) = one (p x) (counted_any p f xs)
-  where
-    one : (b : Bool) → min 1 (length (flat_map (λ x. cond (p x) (f x ∷ []) []) xs)) ≡ bit (list_any p xs) → min 1 (length (cond b (f x ∷ []) [] ++ flat_map (λ x. cond (p x) (f x ∷ []) []) xs)) ≡ bit (b || list_any p xs)
-    one true h = at_least (length (flat_map (λ x. cond (p x) (f x ∷ []) []) xs))
-      where
-        at_least : (n : ℕ) → min 1 (suc n) ≡ 1
-        at_least n = omega arith
-    one false h = h
-
-each_gate : {A B : Type 0} (f : A → List B) (p : A → Bool) (g : A → B) (xs : List A) → ((x : A) → IsIn x xs → f x ≡ cond (p x) (g x ∷ []) []) → flat_map f xs ≡ map g (filter p xs)
-each_gate f p g [] h = refl
-each_gate f p g (x ∷ xs) h = ap (λ ys. ys ++ flat_map f xs) (h x (inl refl)) ∙ one (p x) (each_gate f p g xs (λ y i. h y (inr i)))
-  where
-    one : (b : Bool) → flat_map f xs ≡ map g (filter p xs) → cond b (g x ∷ []) [] ++ flat_map f xs ≡ map g (cond b (x ∷ filter p xs) (filter p xs))
-    one true e = ap (λ ys. g x ∷ ys) e
-    one false e = e
 
 -- what stands behind an id is what has it
 member_at : {X : Type 0} (id : ℕ) (x : X) (xs : List X) → IsIn {X = ℕ × X} (id, x) (enumerate_from 1 xs) → with_id xs id ≡ Some x

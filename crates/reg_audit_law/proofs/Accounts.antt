@@ -1,19 +1,10 @@
 -- Accounts that pass stand for accounts.
-use Rattle.std.proofs.Common.{◌≡◌, [], ◌∷◌, map, true, sym, ap, subst, ◌∙◌}
-use Rattle.std.specs.List.{list_all}
-use Rattle.std.specs.List.Sorted.{IsPermutation}
+use Rattle.reg_audit_law.proofs.Common.{◌≡◌, [], ◌∷◌, ◌∙◌, all_weaker, AllRows, ap, by_column, column, IsPermutation, list_all, map, maps_twice, Row, shows, subst, sym, Trees, true}
 use Rattle.std.proofs.lemmas.List.Folds.{list_all-map}
-use Rattle.sqlite.specs.Order.{Row, column}
-use Rattle.sqlite.specs.Tree.{Trees}
-use Rattle.sqlite_trees.proofs.ListLemmas.{all_weaker}
 use Rattle.reg_model.specs.Sound as sound
-use Rattle.reg_tables_schema.specs.Rows.{by_column}
-use Rattle.reg_tables_schema.specs.Tests.{shows}
-use Rattle.reg_tables_schema.proofs.Queries.{maps_twice}
 use Rattle.reg_tables_sql.specs.Accounts.{account_columns}
 use Rattle.reg_tables_meaning.specs.Entries.{entry_of_account}
 use Rattle.reg_tables_meaning.specs.Stands.{StandAccounts, row_of_account}
-use Rattle.reg_tables_rows.specs.declared.all_rows.AllRows.{AllRows}
 use Rattle.reg_audit_law.specs.RegistryFrom.{account_from, registry_from}
 use Rattle.reg_audit_law.specs.Rules.{IsKeyed}
 use Rattle.reg_audit_law.proofs.Passing.{Passing, accounts_are}

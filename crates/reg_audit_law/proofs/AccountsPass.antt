@@ -1,27 +1,15 @@
 -- Rows that stand for the accounts of a sound registry pass.
-use Rattle.std.proofs.Common.{◌≡◌, ◌==◌, ◌+◌, ℕ, List, [], ◌∷◌, map, Bool, true, refl, sym, ap, ◌∙◌}
-use Rattle.std.specs.Prelude.{string_bytes, ◌&&◌}
-use Rattle.std.specs.List.{enumerate_from, list_all}
-use Rattle.std.proofs.lemmas.Bool.{and_from, eq-eqb}
+use Rattle.reg_audit_law.proofs.Common.{◌≡◌, ◌==◌, ◌+◌, [], ◌∷◌, ◌∙◌, ◌&&◌, AllRows, and_from, ap, Bool, enumerate_from, eq-eqb, Ids, List, list_all, list_any, list_any_map, map, maps_twice, refl, Registry, shows, string_bytes, sym, Text, Trees, true, ℕ}
 use Rattle.std.proofs.lemmas.List.Folds.{list_all-map}
-use Rattle.sqlite.specs.Order.{Row}
 use Rattle.reg_line.specs.Base.{is_base}
-use Rattle.reg_model.specs.Registry.{Text}
 use Rattle.reg_model.specs.Sound as sound
 use Rattle.reg_tables_sql.specs.declared.accounts.Account.{Account}
 use Rattle.reg_tables_schema.specs.States.{about_columns}
-use Rattle.reg_tables_schema.proofs.Queries.{maps_twice}
 use Rattle.reg_tables_meaning.specs.Entries.{entry_of_account}
-use Rattle.reg_tables_schema.specs.Tests.{shows}
 use Rattle.reg_tables_meaning.proofs.AccountEntries.{lists_accounts, heads, tails, words_are}
-use Rattle.sqlite.specs.Tree.{Trees}
-use Rattle.reg_model.specs.Registry.{Registry}
-use Rattle.reg_tables_meaning.specs.Stored.{Ids}
-use Rattle.reg_tables_rows.specs.declared.all_rows.AllRows.{AllRows}
+use Rattle.reg_tables_meaning.proofs.Selected.{same_one}
 use Rattle.reg_tables_schema.specs.declared.edition.Edition.TheVariants.{Second}
 use Rattle.reg_model.specs.Registry as model
-use Rattle.reg_model.proofs.Lists.{list_any_map}
-use Rattle.std.specs.List.{list_any}
 use Rattle.std.specs.Prelude.{is_some}
 use Rattle.reg_audit_law.proofs.Ids.{at_there}
 use Rattle.reg_audit.specs.Checks.{accounts_pass, are_counted, has_account, is_account}
@@ -35,9 +23,6 @@ are_places n (x ∷ xs) = and_from (n == n) _ (eq-eqb n n refl) (are_places (n +
 pub each_value : {X : Type 0} (p : X → Bool) (n : ℕ) (xs : List X) → list_all (λ e. p e.1) (enumerate_from n xs) ≡ list_all p xs
 each_value p n [] = refl
 each_value p n (x ∷ xs) = ap (λ b. p x && b) (each_value p (n + 1) xs)
-
-one_row : {a b : Row} → ◌≡◌ {A = List Row} (a ∷ []) (b ∷ []) → a ≡ b
-one_row e = cc
 
 same_base : (a b : Text) → about_columns Second a ≡ about_columns Second b → a ≡ b
 same_base a b e = words_are (heads (tails e))
@@ -55,7 +40,7 @@ module _ (it : AllRows) (db : Trees) (ids : Ids) (s : Registry) (h : Standing it
 
   pub accounts_pass_so : accounts_pass it ≡ true
   accounts_pass_so =
-      let base : string_bytes it.base ≡ s.base = same_base (string_bytes it.base) s.base (one_row (sym h.are.base ∙ two_of_each (db 0) ∙ ap (map (shows (0 ∷ 1 ∷ []))) h.holds.stands.about)) in
+      let base : string_bytes it.base ≡ s.base = same_base (string_bytes it.base) s.base (same_one (sym h.are.base ∙ two_of_each (db 0) ∙ ap (map (shows (0 ∷ 1 ∷ []))) h.holds.stands.about)) in
       let ids : map (λ a. a.id) list ≡ map (λ e. e.0) (enumerate_from 1 s.accounts) = sym (maps_twice entry_of_account (λ e. e.0) list) ∙ ap (map (λ e. e.0)) accounts_listed in
       let counted = ap (are_counted 1) ids ∙ are_places 1 s.accounts in
       let whole = sym (list_all-map (λ e. sound.is_account e.1) entry_of_account list) ∙ ap (list_all (λ e. sound.is_account e.1)) accounts_listed ∙ each_value sound.is_account 1 s.accounts ∙ h.holds.sound.accounts in

@@ -1,31 +1,22 @@
 -- Archives that pass: their rows are those of the versions.
-use Rattle.std.proofs.Common.{◌≡◌, ◌==◌, inl, inr, ℕ, ℤ, pos, List, [], ◌∷◌, map, true, false, sym, ap, subst, ◌∙◌, refl, Ordering, Less, Equal, Greater}
-use Rattle.std.specs.Prelude.{filter}
+use Rattle.std.proofs.Common.{◌≡◌, ◌==◌, inl, inr, ℕ, ℤ, pos, List, [], ◌∷◌, map, true, false, sym, ap, subst, ◌∙◌, refl}
+use Rattle.reg_audit_law.proofs.Common.{AllRows, bytes_eq, filter, IsPermutation, IsPermutation-sym, maps_twice, rowid, same_bytes, same_number, Trees, Version}
 use Rattle.std.specs.List.{flat_map, list_any}
-use Rattle.std.specs.List.Sorted.{IsPermutation}
 use Rattle.std.specs.FinMap.{int_cmp-IsAntisymmetric}
 use Rattle.std.specs.Ordering.{int_cmp, is_eq}
-use Rattle.std.specs.Str.{bytes_eq}
-use Rattle.std.proofs.lemmas.List.Sorted.{IsPermutation-sym}
 use Rattle.sha2.specs.Sha256.{sha256}
 use Rattle.sqlite.specs.Order.{Row, column, value_cmp}
-use Rattle.sqlite.specs.Tree.{Trees}
 use Rattle.sqlite.specs.declared.types.Value.TheVariants.{Null, Int, Real, Text, Blob}
-use Rattle.sqlite_trees.specs.Tree.{rowid}
 use Rattle.sqlite_trees.proofs.ListLemmas.{filter_all}
 use Rattle.sqlite_value.proofs.OrderLemmas.{value_cmp-Int}
 use Rattle.reg_model.proofs.Members.{IsIn, any_in, each_in, filtered_passes, in_any, in_each, in_filter, in_permuted, map_in}
 use Rattle.reg_tables_schema.specs.Tests.{is_number, shows}
 use Rattle.reg_tables_schema.proofs.Joined.{joined_once}
-use Rattle.reg_tables_schema.proofs.Queries.{maps_twice}
 use Rattle.reg_tables_sql.specs.Archives.{archive_places, archives_with_id}
 use Rattle.reg_tables_sql.specs.Versions.{columns_of_version}
-use Rattle.reg_tables_sql.specs.declared.versions.Version.{Version}
 use Rattle.reg_tables_meaning.specs.Stands.{row_of_archive}
-use Rattle.reg_tables_rows.specs.declared.all_rows.AllRows.{AllRows}
-use Rattle.reg_tables_meaning.proofs.CrateLemmas.{same_bytes}
 use Rattle.reg_tables_meaning.proofs.Rowids.{values_tie}
-use Rattle.reg_tables_meaning.proofs.Standing.{same_number}
+use Rattle.reg_tables_meaning.proofs.NextId.{tied}
 use Rattle.reg_audit.specs.Checks.{is_archive}
 use Rattle.reg_audit_law.specs.RegistryFrom.{archive_from, version_from}
 use Rattle.reg_audit_law.specs.Rules.{IsKeyed, RefersTo, same_value}
@@ -65,13 +56,8 @@ each_once : {A B : Type 0} (f : A → List B) (g : A → B) (xs : List A) → ((
 each_once f g [] h = refl
 each_once f g (x ∷ xs) h = rw (h x (inl refl), each_once f g xs (λ y i. h y (inr i)))
 
-equal_is : (o : Ordering) → is_eq o ≡ true → o ≡ Equal
-equal_is Less h = absurd cc
-equal_is Equal h = refl
-equal_is Greater h = absurd cc
-
 same_int : (n m : ℤ) → is_eq (value_cmp (Int n) (Int m)) ≡ true → n ≡ m
-same_int n m h = int_cmp-IsAntisymmetric n m (equal_is (int_cmp n m) (ap is_eq (sym (value_cmp-Int n m)) ∙ h))
+same_int n m h = int_cmp-IsAntisymmetric n m (tied (int_cmp n m) (ap is_eq (sym (value_cmp-Int n m)) ∙ h))
 
 -- a row has the id of one version
 apart : (v w : Version) (r : Row) → (v.id == w.id) ≡ false → is_number 0 v.id r ≡ true → is_number 0 w.id r ≡ false

@@ -3,26 +3,13 @@ use Rattle.std.proofs.Common.{◌≡◌, ◌==◌, inl, inr, ℕ, pos, List, [],
 use Rattle.std.specs.Prelude.{cond, drop, string_bytes}
 use Rattle.std.specs.List.{IsDistinct, find}
 use Rattle.std.specs.List.Sorted.{IsPermutation, IsStrictlySortedBy}
-use Rattle.std.specs.Str.{bytes_eq}
+use Rattle.reg_audit_law.proofs.Common.{all_weaker, AllRows, by_column, bytes_eq, bytes_same, canon, column, Crate, entry_of_crate, eq-eqb, maps_twice, Row, same_number, shows, Trees}
 use Rattle.std.specs.Ordering.{nat_cmp, on}
-use Rattle.std.proofs.lemmas.Bool.{eq-eqb}
-use Rattle.sqlite.specs.Order.{Row, column}
-use Rattle.sqlite.specs.Tree.{Trees}
 use Rattle.sqlite.specs.declared.types.Value.TheVariants.{Null, Int, Text}
-use Rattle.sqlite_trees.proofs.ListLemmas.{all_weaker}
-use Rattle.reg_names.specs.Names.{canon}
 use Rattle.reg_model.proofs.Members.{IsIn, map_same, one_of, one_passes}
-use Rattle.reg_tables_schema.specs.Rows.{by_column}
-use Rattle.reg_tables_schema.specs.Tests.{shows}
-use Rattle.reg_tables_schema.proofs.Queries.{maps_twice}
 use Rattle.reg_tables_sql.specs.Crates.{crate_columns}
-use Rattle.reg_tables_sql.specs.declared.crates.Crate.{Crate}
-use Rattle.reg_tables_meaning.specs.Entries.{entry_of_crate}
 use Rattle.reg_tables_meaning.specs.Stands.{row_of_crate}
-use Rattle.reg_tables_rows.specs.declared.all_rows.AllRows.{AllRows}
 use Rattle.reg_tables_meaning.proofs.AccountEntries.{same_text}
-use Rattle.reg_tables_meaning.proofs.CrateLemmas.{bytes_same}
-use Rattle.reg_tables_meaning.proofs.Standing.{same_number}
 use Rattle.reg_audit.specs.Checks.{crate_of}
 use Rattle.reg_audit_law.specs.RegistryFrom.{name_from, spelling}
 use Rattle.reg_audit_law.specs.Rules.{IsKeyed}
@@ -32,7 +19,7 @@ use Rattle.reg_audit_law.proofs.Rising.{listed_rise}
 use Rattle.reg_audit_law.proofs.Shapes.{with_null, whole_rows}
 use Rattle.reg_audit_law.proofs.Uniques.{own_so, unique_so, distinct_map, distinct_on, found_of_filter}
 
-told_crate : (r : Row) → IsKeyed (0 ∷ 1 ∷ 2 ∷ 3 ∷ []) r → with_null (shows (0 ∷ 2 ∷ 3 ∷ []) r) ≡ r
+pub told_crate : (r : Row) → IsKeyed (0 ∷ 1 ∷ 2 ∷ 3 ∷ []) r → with_null (shows (0 ∷ 2 ∷ 3 ∷ []) r) ≡ r
 told_crate r h = (λ i. column r 0 ∷ sym h.1 i ∷ column r 2 ∷ column r 3 ∷ []) ∙ h.0
 
 pub found_in : (p : Crate → Bool) (xs : List Crate) (x : Crate) → find p xs ≡ Some x → IsIn x xs × (p x ≡ true)

@@ -1,20 +1,10 @@
 -- The crates of a sound registry pass.
-use Rattle.std.proofs.Common.{◌≡◌, ◌==◌, ℕ, List, true, sym, ap, ◌∙◌}
-use Rattle.std.specs.Prelude.{◌&&◌, string_bytes}
-use Rattle.std.specs.Str.{bytes_eq}
+use Rattle.reg_audit_law.proofs.Common.{◌≡◌, ◌==◌, ◌∙◌, ◌&&◌, AllRows, and_from, and_parts, any_in, ap, bytes_eq, canon, Crate, each_in, entry_of_crate, eq-eqb, in_all, in_any, is_name, IsIn, List, Registry, string_bytes, sym, Trees, true, ℕ}
 use Rattle.std.specs.FinSet as finset
-use Rattle.std.proofs.lemmas.Bool.{and_parts, and_from, eq-eqb}
-use Rattle.sqlite.specs.Tree.{Trees}
-use Rattle.reg_names.specs.Names.{canon, is_name}
 use Rattle.reg_model.specs.Crates as crates_of
-use Rattle.reg_model.specs.Registry.{Registry}
 use Rattle.reg_model.specs.Steps as steps
-use Rattle.reg_model.proofs.Members.{IsIn, any_in, each_in, in_all, in_any}
-use Rattle.reg_tables_sql.specs.declared.crates.Crate.{Crate}
-use Rattle.reg_tables_meaning.specs.Entries.{entry_of_crate}
 use Rattle.reg_tables_meaning.specs.Stands.{is_paired}
 use Rattle.reg_tables_meaning.specs.Stored.{Ids, StoredVersion}
-use Rattle.reg_tables_rows.specs.declared.all_rows.AllRows.{AllRows}
 use Rattle.reg_tables_meaning.proofs.CrateLemmas.{bytes_same, is_published, version_of}
 use Rattle.reg_audit.specs.Checks as checks
 use Rattle.reg_audit_law.proofs.ListedCrates.{canon_is, crate_in}

@@ -1,30 +1,18 @@
 -- Rows of schema 1 are those of a sound registry exactly where those are that they become.
-use Rattle.std.proofs.Common.{◌≡◌, ◌==◌, ℕ, List, [], ◌∷◌, map, true, refl, sym, ap, subst, inl, ◌∙◌}
-use Rattle.std.specs.Prelude.{drop}
-use Rattle.std.specs.List.{list_any}
-use Rattle.std.specs.List.Sorted.{IsPermutation}
-use Rattle.std.specs.Str.{bytes_eq}
+use Rattle.reg_audit_law.proofs.Common.{◌≡◌, ◌==◌, [], ◌∷◌, ◌∙◌, all_weaker, any_in, ap, bytes_eq, canon, drop, each_in, Ids, in_permuted, inl, IsIn, IsPermutation, List, list_any, map, nat_list_cmp_total, refl, Row, shows, StoredCrate, subst, sym, Trees, true, ℕ}
 use Rattle.std.specs.FinSet as finset
-use Rattle.std.specs.Cmp.Lexicographic.{nat_list_cmp_total}
 use Rattle.sqlite.specs.Effect.{Database}
-use Rattle.sqlite.specs.Order.{Row}
 use Rattle.sqlite.specs.Schema.{Schema}
-use Rattle.sqlite.specs.Tree.{Trees}
 use Rattle.sqlite_schema.specs.Rules.{Obeys}
 use Rattle.sqlite_schema.specs.declared.schema.Constraint.TheVariants.{Datatype, NotNull}
-use Rattle.sqlite_trees.proofs.ListLemmas.{all_weaker}
-use Rattle.reg_names.specs.Names.{canon}
 use Rattle.reg_model.specs.Crates.{has_crate}
 use Rattle.reg_model.specs.Registry.{Publication, Registry, Text, owner_cmp, text_cmp}
 use Rattle.reg_model.proofs.Keys.{owner_apart, owner_total, text_apart}
 use Rattle.reg_model.proofs.Lists.{not_true, true_not_false}
-use Rattle.reg_model.proofs.Members.{IsIn, any_in, each_in, in_permuted}
 use Rattle.reg_tables_schema.specs.Schema as schema
 use Rattle.reg_tables_schema.specs.States.{about_columns}
-use Rattle.reg_tables_schema.specs.Tests.{shows}
 use Rattle.reg_tables_schema.specs.declared.edition.Edition.TheVariants.{First, Second}
 use Rattle.reg_tables_meaning.specs.Stands.{Holds, StandsBy, StandsOld, is_paired}
-use Rattle.reg_tables_meaning.specs.Stored.{Ids, StoredCrate}
 use Rattle.reg_tables_meaning.specs.Summaries.{StandSummaries}
 use Rattle.reg_tables_meaning.proofs.CrateLemmas.{crate_of, is_stored, same_bytes}
 use Rattle.reg_tables_meaning.proofs.Stays.{accounts_stay, crates_stay, pairs_stay, reserved_stay, tokens_stay}

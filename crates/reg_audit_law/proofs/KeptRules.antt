@@ -1,14 +1,9 @@
 -- Rows of our schema keep the rules of their tables.
-use Rattle.std.proofs.Common.{◌≡◌, ℕ, List, [], ◌∷◌, map, true, false, not, refl}
+use Rattle.reg_audit_law.proofs.Common.{◌≡◌, [], ◌∷◌, all_weaker, AllByRecursion, AllRows, are_counted, column, false, is_null, List, map, not, refl, Row, Trees, true, ℕ}
 use Rattle.std.specs.Prelude.{◌&&◌, codes, drop}
-use Rattle.std.specs.List.{AllByRecursion}
 use Rattle.std.proofs.lemmas.Bool.{and_parts, not-true}
-use Rattle.sqlite.specs.Order.{Row, column}
-use Rattle.sqlite.specs.Tree.{Trees}
 use Rattle.sqlite_schema.specs.Rules.{Keeps, Obeys, clashes, has_parent}
 use Rattle.sqlite_schema.specs.declared.schema.Constraint.TheVariants.{Datatype, ForeignKey, NotNull, Unique}
-use Rattle.sqlite_sql.specs.Ops.{is_null}
-use Rattle.sqlite_trees.proofs.ListLemmas.{all_weaker}
 use Rattle.sqlite_value.specs.Keys.{plain}
 use Rattle.reg_model.proofs.Alike.{both_all}
 use Rattle.reg_tables_schema.specs.Schema.{our_tables, ours, refers}
@@ -18,8 +13,6 @@ use Rattle.reg_tables_sql.specs.Tokens.{columns_of_token}
 use Rattle.reg_tables_sql.specs.declared.accounts.Account.{Account}
 use Rattle.reg_tables_sql.specs.declared.tokens.Token.{Token}
 use Rattle.reg_tables_rows.specs.WholeRows.{AreAllRows, HaveIds}
-use Rattle.reg_tables_rows.specs.declared.all_rows.AllRows.{AllRows}
-use Rattle.reg_audit.specs.Checks.{are_counted}
 use Rattle.reg_audit_law.specs.Rules.{HaveColumns, HaveParents, HaveUniques, KeepsRules, RefersTo}
 use Rattle.reg_audit_law.proofs.OwnRowids.{numbered_there, own_rowids, rowids_there}
 use Rattle.reg_audit_law.proofs.RowColumns.{filled, keyed_rows, whole_rows}

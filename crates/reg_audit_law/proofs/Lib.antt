@@ -1,6 +1,7 @@
 pub mod Accounts
 pub mod AccountsPass
 pub mod Archives
+mod Common
 pub mod Crates
 pub mod CratesPass
 pub mod Editions

@@ -1,26 +1,12 @@
 -- The crates that are read are those of the registry.
-use Rattle.std.proofs.Common.{◌≡◌, ◌==◌, ℕ, List, [], ◌∷◌, map, Bool, true, Some, sym, ap, subst, eqb-true, ◌∙◌}
+use Rattle.reg_audit_law.proofs.Common.{◌≡◌, ◌==◌, [], ◌∷◌, ◌∙◌, AllRows, ap, Bool, by_column, canon, Crate, entry_of_crate, eq-eqb, eqb-true, heads, Ids, List, list_any_map, map, maps_twice, Registry, Row, shows, Some, StoredCrate, subst, sym, tails, Trees, true, words_are, ℕ}
 use Rattle.std.specs.Prelude.{drop, nat_eq, string_bytes}
 use Rattle.std.specs.List.{IsDistinct, list_any}
 use Rattle.std.specs.List.Sorted.{IsStrictlySortedBy}
 use Rattle.std.specs.Ordering.{nat_cmp, on}
-use Rattle.std.proofs.lemmas.Bool.{eq-eqb}
-use Rattle.sqlite.specs.Order.{Row}
-use Rattle.sqlite.specs.Tree.{Trees}
-use Rattle.reg_names.specs.Names.{canon}
-use Rattle.reg_model.specs.Registry.{Registry}
-use Rattle.reg_model.proofs.Lists.{list_any_map}
 use Rattle.reg_model.proofs.Members.{IsIn, in_map, map_in, one_passes}
-use Rattle.reg_tables_schema.specs.Rows.{by_column}
-use Rattle.reg_tables_schema.specs.Tests.{shows}
-use Rattle.reg_tables_schema.proofs.Queries.{maps_twice}
 use Rattle.reg_tables_sql.specs.Crates.{crate_columns}
-use Rattle.reg_tables_sql.specs.declared.crates.Crate.{Crate}
-use Rattle.reg_tables_meaning.specs.Entries.{entry_of_crate}
 use Rattle.reg_tables_meaning.specs.Stands.{row_of_crate}
-use Rattle.reg_tables_meaning.specs.Stored.{Ids, StoredCrate}
-use Rattle.reg_tables_rows.specs.declared.all_rows.AllRows.{AllRows}
-use Rattle.reg_tables_meaning.proofs.AccountEntries.{heads, tails, words_are}
 use Rattle.reg_tables_meaning.proofs.CrateLemmas.{apart_by}
 use Rattle.reg_tables_meaning.proofs.CrateNames.{same_shown}
 use Rattle.reg_tables_meaning.proofs.Selected.{column_total, each_part, selected_in_order, shown_in_turn}

@@ -1,20 +1,13 @@
 -- The pairs that are read are those of the registry.
-use Rattle.std.proofs.Common.{◌≡◌, List, [], ◌∷◌, map, subst}
-use Rattle.std.specs.Prelude.{drop}
+use Rattle.reg_audit_law.proofs.Common.{◌≡◌, [], ◌∷◌, drop, heads, in_map, in_permuted, IsIn, IsPermutation, List, map, map_in, maps_twice, number_is, Row, shows, subst, tails}
 use Rattle.std.specs.FinSet as finset
-use Rattle.std.specs.List.Sorted.{IsPermutation}
 use Rattle.std.proofs.lemmas.List.Sorted.{IsPermutation-map, IsPermutation-sym, IsPermutation-trans}
-use Rattle.sqlite.specs.Order.{Row}
 use Rattle.reg_model.specs.Registry.{owner_cmp}
-use Rattle.reg_model.proofs.Members.{IsIn, in_map, in_permuted, map_in}
 use Rattle.reg_tables_schema.specs.Rows.{IsInOrder, by_columns}
-use Rattle.reg_tables_schema.specs.Tests.{shows}
-use Rattle.reg_tables_schema.proofs.Queries.{maps_twice}
 use Rattle.reg_tables_sql.specs.Pairs.{columns_of_pair}
 use Rattle.reg_tables_sql.specs.declared.pairs.Pair.{Pair}
 use Rattle.reg_tables_meaning.specs.Stands.{StandPairs, columns_of_stored}
 use Rattle.reg_tables_meaning.specs.Stored.{StoredCrate, StoredPair}
-use Rattle.reg_tables_meaning.proofs.AccountEntries.{heads, number_is, tails}
 use Rattle.reg_audit_law.proofs.Shown.{shown_permutes, two_of_each}
 
 module _ (crates : List StoredCrate) (held : finset.FinSet owner_cmp) (rows : List Row) (stands : StandPairs crates held rows) (list : List Pair) (found : IsInOrder (by_columns 1 2) rows (shows (1 ∷ 2 ∷ [])) (map columns_of_pair list)) where

@@ -1,23 +1,13 @@
 -- The versions that are read are those of the registry.
-use Rattle.std.proofs.Common.{◌≡◌, ◌==◌, ℕ, List, [], ◌∷◌, map, length, sym, ap, subst, ◌∙◌}
-use Rattle.std.specs.Prelude.{drop, filter}
+use Rattle.reg_audit_law.proofs.Common.{◌≡◌, ◌==◌, [], ◌∷◌, ◌∙◌, AllRows, ap, by_column, drop, filter, in_map, IsIn, length, List, map, map_in, maps_twice, mark_cmp, Registry, Row, shows, subst, sym, Trees, Version, ℕ}
 use Rattle.std.specs.FinSet as finset
-use Rattle.sqlite.specs.Order.{Row}
-use Rattle.sqlite.specs.Tree.{Trees}
-use Rattle.reg_model.specs.Registry.{Registry, mark_cmp}
-use Rattle.reg_model.proofs.Members.{IsIn, in_map, map_in}
-use Rattle.reg_tables_schema.specs.Rows.{by_column}
-use Rattle.reg_tables_schema.specs.Tests.{shows}
 use Rattle.reg_tables_schema.proofs.Permutes.{filter_map}
-use Rattle.reg_tables_schema.proofs.Queries.{maps_twice}
 use Rattle.reg_tables_sql.specs.Versions.{columns_of_version}
-use Rattle.reg_tables_sql.specs.declared.versions.Version.{Version}
 use Rattle.reg_tables_meaning.specs.Entries.{ShownVersion, shown_version, version_shown}
 use Rattle.reg_tables_meaning.specs.Stands.{row_of_version}
 use Rattle.reg_tables_meaning.specs.Stored.{Ids, StoredVersion}
 use Rattle.reg_tables_meaning.specs.Summaries.{ShownMark, mark_shown}
 use Rattle.reg_tables_meaning.specs.Summaries as stored
-use Rattle.reg_tables_rows.specs.declared.all_rows.AllRows.{AllRows}
 use Rattle.reg_tables_meaning.proofs.AccountEntries.{heads, mark_is, number_is, tails, text_is, words_are}
 use Rattle.reg_tables_meaning.proofs.Selected.{column_total, each_part, shown_in_turn}
 use Rattle.reg_tables_meaning.proofs.VersionEntries.{bytes_are}

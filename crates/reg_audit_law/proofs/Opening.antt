@@ -1,10 +1,6 @@
 -- The law of opening, by its two halves.
 use Rattle.std.proofs.Common.{◌≡◌, List, [], ◌∷◌, Option, None, Some, inl, inr, subst}
-use Rattle.std.specs.List.{AllByRecursion}
-use Rattle.sqlite.specs.Tree.{Trees}
-use Rattle.reg_model.specs.Registry.{Registry}
-use Rattle.reg_tables_meaning.specs.Stored.{Ids}
-use Rattle.reg_tables_rows.specs.declared.all_rows.AllRows.{AllRows}
+use Rattle.reg_audit_law.proofs.Common.{AllByRecursion, AllRows, Ids, Registry, Trees}
 use Rattle.reg_audit.specs.Checks.{IsFirst, IsFirstOf, Passes}
 use Rattle.reg_audit.specs.declared.check.Check.{Check}
 use Rattle.reg_audit.specs.declared.check.Check.TheVariants.{C1, C2, C3, C4, C5, C6, C7, C8}

@@ -2,19 +2,11 @@
 use Rattle.std.proofs.Common.{◌≡◌, ◌==◌, ◌+◌, ◌<◌, arith, ℕ, pos, List, [], ◌∷◌, map, true, false, refl, sym, ap}
 use Rattle.std.specs.List.{AllByRecursion, IsDistinct}
 use Rattle.std.proofs.lemmas.Bool.{and_parts, eqb-true, ne_eqb}
-use Rattle.std.proofs.lemmas.List.Sorted.{IsPermutation-sym}
+use Rattle.reg_audit_law.proofs.Common.{are_counted, by_column, column, Int, is_null, IsInOrder, IsPermutation-sym, Row, rowid, same_number, shows}
 use Rattle.std.proofs.lemmas.Map.Keys.{IsDistinct-IsPermutation}
-use Rattle.sqlite.specs.Order.{Row, column}
-use Rattle.sqlite.specs.declared.types.Value.TheVariants.{Int}
-use Rattle.sqlite_sql.specs.Ops.{is_null}
-use Rattle.sqlite_trees.specs.Tree.{rowid}
 use Rattle.sqlite_trees.proofs.ListLemmas.{all_from_map, all-map, all-permutation, all_weaker}
 use Rattle.reg_model.proofs.Members.{distinct_from_map, in_each}
-use Rattle.reg_tables_schema.specs.Rows.{IsInOrder, by_column}
-use Rattle.reg_tables_schema.specs.Tests.{shows}
 use Rattle.reg_tables_meaning.specs.Numbers.{AreNumbered, IsNumbered}
-use Rattle.reg_tables_meaning.proofs.Standing.{same_number}
-use Rattle.reg_audit.specs.Checks.{are_counted}
 use Rattle.reg_audit_law.specs.Rules.{same_at}
 use Rattle.reg_audit_law.proofs.RowKeys.{HaveRowids}
 use Rattle.reg_audit_law.proofs.Shown.{shown_permutes}

@@ -1,40 +1,21 @@
 -- Owners and readers that pass stand for what is built from them, and so do the restricted crates.
-use Rattle.std.proofs.Common.{◌≡◌, ◌==◌, ℕ, pos, List, [], ◌∷◌, map, Bool, true, false, refl, sym, ap, subst, eqb-true, ◌∙◌}
-use Rattle.std.specs.Prelude.{◌&&◌, drop, string_bytes}
+use Rattle.reg_audit_law.proofs.Common.{◌≡◌, ◌==◌, [], ◌∷◌, ◌∙◌, ◌&&◌, all_in, AllRows, any_in, ap, Bool, bytes_eq, canon, column, Crate, drop, each_in, entry_of_crate, eq_by_cmp, eqb-true, false, has_account, has_crate, in_all, in_each, Int, IsIn, IsPermutation, List, list_any_map, map, map_in, maps_twice, nat_list_cmp_total, not_true, pos, refl, Row, rowid, same_number, shows, string_bytes, subst, sym, Trees, true, ℕ}
 use Rattle.std.specs.List.{AllByRecursion, IsDistinct, list_any}
-use Rattle.std.specs.List.Sorted.{IsPermutation}
-use Rattle.std.specs.Str.{bytes_eq}
-use Rattle.std.specs.Ordering.{eq_by_cmp}
 use Rattle.std.specs.FinSet as finset
-use Rattle.std.specs.Cmp.Lexicographic.{nat_list_cmp_total}
 use Rattle.std.proofs.lemmas.Bool.{and_parts, eqb-false}
 use Rattle.std.proofs.lemmas.List.Sorted.{IsPermutation-sym, list_any-IsPermutation}
 use Rattle.std.proofs.lemmas.Map.Text.{is_eq-slice_cmp}
-use Rattle.sqlite.specs.Order.{Row, column}
-use Rattle.sqlite.specs.Tree.{Trees}
 use Rattle.sqlite.specs.declared.types.Value.{Value}
-use Rattle.sqlite.specs.declared.types.Value.TheVariants.{Int}
-use Rattle.sqlite_trees.specs.Tree.{rowid}
 use Rattle.sqlite_trees.proofs.ListLemmas.{all_weaker, all-permutation, all-map, all_from_map}
-use Rattle.reg_names.specs.Names.{canon}
 use Rattle.reg_model.specs.Registry.{Owner, Text, owner_cmp, text_cmp}
 use Rattle.reg_model.proofs.Keys.{owner_total}
-use Rattle.reg_model.proofs.Lists.{list_any_map, not_true}
-use Rattle.reg_model.proofs.Members.{IsIn, all_in, any_in, each_in, in_all, in_each, map_in}
 use Rattle.reg_tables_schema.specs.Rows.{IsInOrder, by_column, by_columns, number_columns}
-use Rattle.reg_tables_schema.specs.Tests.{shows}
-use Rattle.reg_tables_schema.proofs.Queries.{maps_twice}
 use Rattle.reg_tables_sql.specs.Pairs.{columns_of_pair}
-use Rattle.reg_tables_sql.specs.declared.crates.Crate.{Crate}
 use Rattle.reg_tables_sql.specs.declared.pairs.Pair.{Pair}
-use Rattle.reg_tables_meaning.specs.Entries.{entry_of_crate}
 use Rattle.reg_tables_meaning.specs.Stands.{HaveOwnRowids, StandMarked, StandPairs, columns_of_stored, is_paired, row_of_crate}
 use Rattle.reg_tables_meaning.specs.Stored.{StoredCrate, StoredPair}
-use Rattle.reg_tables_rows.specs.declared.all_rows.AllRows.{AllRows}
 use Rattle.reg_tables_meaning.proofs.CrateLemmas.{same_bytes, bytes_same, same_owner, other_owner}
 use Rattle.reg_tables_meaning.proofs.Rowids.{first_column, second_column}
-use Rattle.reg_tables_meaning.proofs.Standing.{same_number}
-use Rattle.reg_audit.specs.Checks.{has_account, has_crate}
 use Rattle.reg_audit_law.specs.RegistryFrom.{canon_from, pair_from, registry_from}
 use Rattle.reg_audit_law.specs.Rules.{AreUniqueBy, IsWhole, RefersTo, same_at, same_value}
 use Rattle.reg_audit_law.proofs.Crates.{crate_rows, name_of, one_crate}

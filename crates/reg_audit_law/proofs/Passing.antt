@@ -1,19 +1,8 @@
 -- Rows that pass all checks: what each check says, in parts.
-use Rattle.std.proofs.Common.{◌≡◌, map, length, true}
-use Rattle.std.specs.Prelude.{◌&&◌, string_bytes}
-use Rattle.std.specs.List.{list_all}
-use Rattle.std.specs.Str.{bytes_eq}
-use Rattle.std.proofs.lemmas.Bool.{and_parts}
-use Rattle.sqlite.specs.Tree.{Trees}
+use Rattle.reg_audit_law.proofs.Common.{◌≡◌, ◌&&◌, all_in, AllRows, and_parts, bytes_eq, canon, Crate, each_in, is_name, IsIn, length, list_all, map, same_bytes, string_bytes, Trees, true, Version}
 use Rattle.reg_line.specs.Base.{is_base}
-use Rattle.reg_names.specs.Names.{canon, is_name}
-use Rattle.reg_model.proofs.Members.{IsIn, all_in, each_in}
 use Rattle.reg_tables_sql.specs.Archives.{archives_with_id}
-use Rattle.reg_tables_sql.specs.declared.crates.Crate.{Crate}
-use Rattle.reg_tables_sql.specs.declared.versions.Version.{Version}
-use Rattle.reg_tables_meaning.proofs.CrateLemmas.{same_bytes}
 use Rattle.reg_tables_rows.specs.WholeRows.{AreAllRows}
-use Rattle.reg_tables_rows.specs.declared.all_rows.AllRows.{AllRows}
 use Rattle.reg_audit.specs.Checks.{IsGenuine, accounts_pass, are_counted, are_placed, has_account, has_crate, is_account, is_archive, is_named, is_owned, is_published, is_scope, is_summary, is_token, tokens_pass}
 use Rattle.reg_audit.specs.declared.check.Check.TheVariants.{C1, C2, C3, C4, C5, C7, C8}
 use Rattle.reg_audit_law.specs.Opening.{PassAll}

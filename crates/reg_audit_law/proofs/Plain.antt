@@ -1,25 +1,12 @@
 -- The base, and the reserved names.
-use Rattle.std.proofs.Common.{◌≡◌, List, [], ◌∷◌, map, Bool, true, false, refl, sym, ap, subst, ◌∙◌}
-use Rattle.std.specs.Prelude.{string_bytes, drop}
-use Rattle.std.specs.List.Sorted.{IsPermutation}
-use Rattle.std.specs.Str.{bytes_eq}
+use Rattle.reg_audit_law.proofs.Common.{◌≡◌, [], ◌∷◌, ◌∙◌, all_weaker, AllRows, ap, Bool, by_column, bytes_eq, bytes_same, drop, false, IsPermutation, List, map, maps_twice, nat_list_cmp_total, refl, Row, same_bytes, shows, string_bytes, subst, sym, Text, Trees, true}
 use Rattle.std.specs.FinSet as finset
-use Rattle.std.specs.Cmp.Lexicographic.{nat_list_cmp_total}
 use Rattle.std.proofs.lemmas.Map.Text.{is_eq-slice_cmp}
-use Rattle.sqlite.specs.Order.{Row}
-use Rattle.sqlite.specs.Tree.{Trees}
-use Rattle.sqlite_trees.proofs.ListLemmas.{all_weaker}
-use Rattle.reg_model.specs.Registry.{Text}
 use Rattle.reg_model.proofs.Lists.{any_same}
 use Rattle.reg_tables_schema.specs.declared.edition.Edition.TheVariants.{Second}
-use Rattle.reg_tables_schema.specs.Rows.{by_column}
 use Rattle.reg_tables_schema.specs.States.{about_columns}
-use Rattle.reg_tables_schema.specs.Tests.{shows}
-use Rattle.reg_tables_schema.proofs.Queries.{maps_twice}
 use Rattle.reg_tables_sql.specs.Reserved.{reserved_columns}
 use Rattle.reg_tables_meaning.specs.Stands.{StandReserved}
-use Rattle.reg_tables_rows.specs.declared.all_rows.AllRows.{AllRows}
-use Rattle.reg_tables_meaning.proofs.CrateLemmas.{same_bytes, bytes_same}
 use Rattle.reg_audit_law.specs.RegistryFrom.{registry_from}
 use Rattle.reg_audit_law.specs.Rules.{IsWhole}
 use Rattle.reg_audit_law.proofs.Passing.{Passing}

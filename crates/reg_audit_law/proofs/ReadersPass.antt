@@ -1,22 +1,10 @@
 -- The restricted crates and the readers of a sound registry pass.
-use Rattle.std.proofs.Common.{◌≡◌, ◌==◌, ℕ, [], ◌∷◌, map, true, refl, sym, ap, eqb-true, ◌∙◌}
-use Rattle.std.specs.Prelude.{◌&&◌}
-use Rattle.std.specs.List.{list_all, list_any}
-use Rattle.std.specs.List.Sorted.{IsPermutation}
+use Rattle.reg_audit_law.proofs.Common.{◌≡◌, ◌==◌, [], ◌∷◌, ◌∙◌, ◌&&◌, all_in, AllRows, and_from, any_in, ap, canon, each_in, eq-eqb, eqb-true, heads, Ids, in_all, in_any, in_map, in_permuted, IsIn, IsPermutation, list_all, list_any, map, map_in, number_is, refl, Registry, shows, sym, Trees, true, ℕ}
 use Rattle.std.specs.FinSet as finset
-use Rattle.std.proofs.lemmas.Bool.{and_from, eq-eqb}
 use Rattle.std.proofs.lemmas.List.Sorted.{IsPermutation-sym, IsPermutation-trans}
-use Rattle.sqlite.specs.Tree.{Trees}
-use Rattle.reg_names.specs.Names.{canon}
-use Rattle.reg_model.specs.Registry.{Registry}
-use Rattle.reg_model.proofs.Members.{IsIn, all_in, any_in, each_in, in_all, in_any, in_map, in_permuted, map_in}
 use Rattle.reg_tables_schema.specs.Rows.{by_column, number_columns}
-use Rattle.reg_tables_schema.specs.Tests.{shows}
 use Rattle.reg_tables_sql.specs.declared.pairs.Pair.{Pair}
 use Rattle.reg_tables_meaning.specs.Stands.{is_paired}
-use Rattle.reg_tables_meaning.specs.Stored.{Ids}
-use Rattle.reg_tables_rows.specs.declared.all_rows.AllRows.{AllRows}
-use Rattle.reg_tables_meaning.proofs.AccountEntries.{heads, number_is}
 use Rattle.reg_audit.specs.Checks.{has_account, has_crate, readers_pass}
 use Rattle.reg_audit_law.proofs.AccountsPass.{account_has}
 use Rattle.reg_audit_law.proofs.ListedCrates.{has_same}

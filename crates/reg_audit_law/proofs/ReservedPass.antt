@@ -1,28 +1,14 @@
 -- The reserved texts of a sound registry pass.
-use Rattle.std.proofs.Common.{◌≡◌, ℕ, List, [], ◌∷◌, map, length, true, not, refl, sym, ap, subst, arith, ◌∙◌}
+use Rattle.reg_audit_law.proofs.Common.{◌≡◌, [], ◌∷◌, ◌∙◌, AllRows, and_from, and_parts, ap, arith, by_column, bytes_eq, bytes_same, heads, Ids, in_all, in_any, in_map, in_permuted, IsIn, IsPermutation, length, List, list_all, map, map_in, maps_twice, not, refl, Registry, shows, subst, sym, Text, Trees, true, words_are, ℕ}
 use Rattle.std.specs.Prelude.{◌&&◌, drop, nat_le, nat_lt, string_bytes}
-use Rattle.std.specs.List.{list_all}
-use Rattle.std.specs.List.Sorted.{IsPermutation}
 use Rattle.std.specs.Char.{is_ascii_alphabetic}
-use Rattle.std.specs.Str.{bytes_eq}
 use Rattle.std.specs.declared.alloc.Global.{Global}
 use Rattle.std.specs.declared.string.String.{String}
-use Rattle.std.proofs.lemmas.Bool.{and_parts, and_from}
 use Rattle.std.proofs.lemmas.List.{length-map}
 use Rattle.std.proofs.lemmas.List.Sorted.{IsPermutation-map, IsPermutation-sym, IsPermutation-trans}
-use Rattle.sqlite.specs.Tree.{Trees}
 use Rattle.reg_names.specs.Names.{canon, canon_byte, is_name, is_name_byte}
-use Rattle.reg_model.specs.Registry.{Registry, Text}
 use Rattle.reg_model.proofs.Canons.{canon-canon}
-use Rattle.reg_model.proofs.Members.{IsIn, in_all, in_any, in_map, in_permuted, map_in}
-use Rattle.reg_tables_schema.specs.Rows.{by_column}
-use Rattle.reg_tables_schema.specs.Tests.{shows}
-use Rattle.reg_tables_schema.proofs.Queries.{maps_twice}
 use Rattle.reg_tables_sql.specs.Reserved.{columns_of_text, reserved_columns}
-use Rattle.reg_tables_meaning.specs.Stored.{Ids}
-use Rattle.reg_tables_rows.specs.declared.all_rows.AllRows.{AllRows}
-use Rattle.reg_tables_meaning.proofs.AccountEntries.{heads, words_are}
-use Rattle.reg_tables_meaning.proofs.CrateLemmas.{bytes_same}
 use Rattle.reg_audit.specs.Checks.{is_reserved, reserved_pass}
 use Rattle.reg_audit_law.proofs.Shown.{one_of_each, shown_permutes}
 use Rattle.reg_audit_law.proofs.Standing.{Standing}

@@ -1,25 +1,19 @@
 -- Ids that are listed in order, and of which no two are one, rise.
-use Rattle.std.proofs.Common.{◌≡◌, ◌==◌, inl, inr, ℕ, pos, List, [], ◌∷◌, map, false, refl, sym, ap, subst, ◌∙◌, Ordering, Less, Equal, Greater}
+use Rattle.std.proofs.Common.{◌≡◌, ◌==◌, inl, inr, ℕ, pos, List, [], ◌∷◌, map, false, refl, sym, ap, subst, ◌∙◌, Less, Equal, Greater}
 use Rattle.std.specs.List.{AllByRecursion, IsDistinct}
 use Rattle.std.specs.List.Sorted.{IsStrictlySortedBy}
-use Rattle.std.specs.Ordering.{is_eq, is_gt, nat_cmp, ordering_reverse}
+use Rattle.std.specs.Ordering.{is_gt, nat_cmp, ordering_reverse}
 use Rattle.std.specs.Cmp.{unsigned_tied, nat_cmp_is}
 use Rattle.std.proofs.lemmas.Cmp.{tied_itself}
 use Rattle.std.proofs.lemmas.Bool.{cases_order}
 use Rattle.sqlite.specs.Order.{Row, value_cmp}
-use Rattle.sqlite.specs.declared.types.Value.TheVariants.{Int}
+use Rattle.reg_audit_law.proofs.Common.{by_column, Int, IsInOrder, shows}
 use Rattle.sqlite_exec.proofs.PartitionLemmas.{ascending_from_sorted}
 use Rattle.sqlite_trees.specs.Tree.{IsAscending}
 use Rattle.sqlite_trees.proofs.ListLemmas.{ascending-map, ascending_from_map}
 use Rattle.sqlite_value.proofs.OrderLemmas.{value_cmp_total}
-use Rattle.reg_tables_schema.specs.Rows.{IsInOrder, by_column}
-use Rattle.reg_tables_schema.specs.Tests.{shows}
 use Rattle.reg_tables_meaning.proofs.Selected.{column_total, number_below}
-
-rises : (o : Ordering) → is_gt o ≡ false → is_eq o ≡ false → o ≡ Less
-rises Less g e = refl
-rises Equal g e = absurd cc
-rises Greater g e = absurd cc
+use Rattle.reg_tables_meaning.proofs.AllCrates.{rises}
 
 -- SQL's order of numbers is that of the numbers
 numbers : (n m : ℕ) → value_cmp (Int (pos n)) (Int (pos m)) ≡ nat_cmp n m

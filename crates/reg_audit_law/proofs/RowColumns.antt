@@ -1,23 +1,17 @@
 -- Rows that have a value of its type for each column, the last of them NOT NULL, are whole.
 use Rattle.std.proofs.Common.{◌≡◌, ◌≤◌, ◌<◌, ◌+◌, ℕ, zero, suc, arith, List, [], ◌∷◌, map, length, Bool, true, false, not, Option, Some, None, refl, sym, ap, ◌∙◌}
 use Rattle.std.specs.Prelude.{◌&&◌, ◌||◌, drop, if◌then◌else◌, option_map, slice_get, unwrap_or}
-use Rattle.std.specs.List.{AllByRecursion}
+use Rattle.reg_audit_law.proofs.Common.{all_weaker, AllByRecursion, column, is_null, maps_twice, Row, shows, Trees}
 use Rattle.std.proofs.lemmas.Bool.{and_parts, not-true}
 use Rattle.sqlite.specs.declared.types.Value.{Value}
 use Rattle.sqlite.specs.declared.types.Value.TheVariants.{Null, Int, Real, Text, Blob}
-use Rattle.sqlite.specs.Order.{Row, column}
 use Rattle.sqlite.specs.Table.{Table}
-use Rattle.sqlite.specs.Tree.{Trees}
 use Rattle.sqlite_schema.specs.Names.{is_key}
 use Rattle.sqlite_schema.specs.Rules.{are_present, are_typed, has_computed, passes, suits}
 use Rattle.sqlite_schema.specs.declared.schema.Column.{Column}
 use Rattle.sqlite_schema.specs.declared.schema.Constraint.TheVariants.{Datatype, NotNull}
-use Rattle.sqlite_trees.proofs.ListLemmas.{all_weaker}
-use Rattle.sqlite_sql.specs.Ops.{is_null}
 use Rattle.reg_model.proofs.Alike.{both_all}
 use Rattle.reg_tables_schema.specs.Schema.{ours}
-use Rattle.reg_tables_schema.specs.Tests.{shows}
-use Rattle.reg_tables_schema.proofs.Queries.{maps_twice}
 use Rattle.reg_audit_law.specs.Rules.{IsKeyed, IsWhole}
 
 -- the first places

@@ -1,15 +1,9 @@
 -- Rows of which none clashes with another, and whose rowids are their own, have unique keys.
-use Rattle.std.proofs.Common.{◌≡◌, inl, inr, ℕ, List, [], ◌∷◌, Bool, true, false, not, refl, ap, ◌∙◌}
-use Rattle.std.specs.Prelude.{◌&&◌}
+use Rattle.reg_audit_law.proofs.Common.{◌≡◌, [], ◌∷◌, ◌∙◌, ◌&&◌, and_from, and_parts, ap, Bool, column, each_in, false, in_any, inl, inr, is_null, IsIn, List, not, refl, Row, rowid, true, ℕ}
 use Rattle.std.specs.List.{AllByRecursion, IsDistinct}
-use Rattle.std.proofs.lemmas.Bool.{and_parts, and_from}
-use Rattle.sqlite.specs.Order.{Row, column}
 use Rattle.sqlite_schema.specs.Rules.{agree, clashes, differ}
-use Rattle.sqlite_sql.specs.Ops.{is_null}
-use Rattle.sqlite_trees.specs.Tree.{rowid}
 use Rattle.sqlite_value.specs.Keys.{plain}
 use Rattle.reg_model.proofs.Lists.{not_true, true_not_false}
-use Rattle.reg_model.proofs.Members.{IsIn, each_in, in_any}
 use Rattle.reg_audit_law.specs.Rules.{AreUnique, AreUniqueBy, same_at, same_value}
 use Rattle.reg_audit_law.proofs.SqlEqual.{agree_one, agree_two, differ_is, equal_is}
 

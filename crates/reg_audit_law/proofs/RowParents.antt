@@ -1,17 +1,11 @@
 -- Rows that have a parent for each foreign key refer to it.
-use Rattle.std.proofs.Common.{◌≡◌, ℕ, List, [], ◌∷◌, Bool, true, false, Some, refl, ap, sym, ◌∙◌}
+use Rattle.reg_audit_law.proofs.Common.{◌≡◌, [], ◌∷◌, ◌∙◌, and_parts, any_in, ap, Bool, column, false, in_any, is_null, List, refl, Row, rowid, Some, sym, Trees, true, ℕ}
 use Rattle.std.specs.Prelude.{◌||◌, codes}
-use Rattle.std.proofs.lemmas.Bool.{and_parts}
-use Rattle.sqlite.specs.Order.{Row, column}
-use Rattle.sqlite.specs.Tree.{Trees}
 use Rattle.sqlite_schema.specs.Names.{same_name}
 use Rattle.sqlite_schema.specs.Rules.{ParentKey, agree, has_parent, is_held, parent_key}
-use Rattle.sqlite_sql.specs.Ops.{is_null}
 use Rattle.sqlite_value.specs.Keys.{joined, plain}
 use Rattle.reg_model.proofs.Lists.{or_split}
-use Rattle.reg_model.proofs.Members.{any_in, in_any}
 use Rattle.reg_tables_schema.specs.Schema.{our_tables, refers}
-use Rattle.sqlite_trees.specs.Tree.{rowid}
 use Rattle.reg_audit_law.specs.Rules.{RefersTo, same_value}
 use Rattle.reg_audit_law.proofs.SqlEqual.{agree_one, equal_same}
 

@@ -1,9 +1,7 @@
 -- Rows that pass all checks stand for the registry that is built from them, and it is sound.
-use Rattle.reg_tables_schema.proofs.Queries.{maps_twice}
-use Rattle.sqlite.specs.Tree.{Trees}
+use Rattle.reg_audit_law.proofs.Common.{AllRows, maps_twice, Trees}
 use Rattle.reg_model.specs.Sound.{Sound}
 use Rattle.reg_tables_meaning.specs.Stands.{Holds, StandCrates, StandsBy}
-use Rattle.reg_tables_rows.specs.declared.all_rows.AllRows.{AllRows}
 use Rattle.reg_tables_rows.specs.WholeRows.{AreAllRows}
 use Rattle.reg_audit_law.specs.Rules.{KeepsRules}
 use Rattle.reg_audit_law.specs.Opening.{PassAll}

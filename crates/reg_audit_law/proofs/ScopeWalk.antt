@@ -1,12 +1,10 @@
 -- Scopes that are placed one behind another are those of the tokens, in turn.
 use Rattle.std.proofs.Common.{◌≡◌, ◌≤◌, ◌<◌, ◌==◌, ◌+◌, ◌⊎◌, inl, inr, arith, ℕ, zero, suc, List, [], ◌∷◌, ◌++◌, map, length, Bool, true, refl, sym, ap, subst, eqb-true, ◌∙◌}
-use Rattle.std.specs.Prelude.{string_bytes, ◌&&◌, ◌||◌}
+use Rattle.reg_audit_law.proofs.Common.{◌&&◌, ◌||◌, bytes_eq, Row, string_bytes}
 use Rattle.std.specs.List.{enumerate_from, flat_map, list_all}
-use Rattle.std.specs.Str.{bytes_eq}
 use Rattle.std.proofs.lemmas.Bool.{and_parts, or_cases, eq-eqb, ne_eqb}
 use Rattle.std.proofs.lemmas.List.{length-map}
 use Rattle.std.proofs.lemmas.Slice.Eq.{bytes_eq-Decides}
-use Rattle.sqlite.specs.Order.{Row}
 use Rattle.sqlite_trees.proofs.ListLemmas.{flat_map-map, flat_map_none}
 use Rattle.reg_names.specs.Patterns.{is_pattern}
 use Rattle.reg_names.specs.Ranges.{range_of}

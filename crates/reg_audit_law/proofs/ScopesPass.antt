@@ -3,15 +3,14 @@ use Rattle.std.proofs.Common.{◌≡◌, ◌==◌, ◌+◌, arith, ℕ, suc, Lis
 use Rattle.std.specs.Prelude.{◌&&◌, ◌||◌, nat_lt, string_bytes}
 use Rattle.std.specs.List.{enumerate_from, flat_map, list_all}
 use Rattle.std.proofs.lemmas.Bool.{and_parts, and_from, eq-eqb, eqb-true, or_left, or_right}
-use Rattle.sqlite.specs.Order.{Row}
+use Rattle.reg_audit_law.proofs.Common.{bytes_same, heads, number_is, Row, tails, words_are}
 use Rattle.reg_names.specs.Patterns.{is_pattern}
 use Rattle.reg_names.specs.Ranges.{range_of}
 use Rattle.reg_model.specs.Registry as model
 use Rattle.reg_tables_sql.specs.Scopes.{columns_of_scope}
 use Rattle.reg_tables_meaning.specs.Stands.{scope_of, scopes_of}
 use Rattle.reg_tables_sql.specs.declared.scopes.Scope.{Scope}
-use Rattle.reg_tables_meaning.proofs.AccountEntries.{heads, tails, number_is, words_are}
-use Rattle.reg_tables_meaning.proofs.CrateLemmas.{bytes_same}
+use Rattle.reg_tables_meaning.proofs.Selected.{same_head, same_tail}
 use Rattle.reg_audit.specs.Checks.{follow, are_placed, is_scope}
 
 pub record IsAt (s : Scope) (n k : ℕ) (p : model.Text) : Type 0 where
@@ -36,12 +35,6 @@ passes s n k p at h =
     (bytes_same (string_bytes s.low) _ (at.low ∙ ap (λ t. (range_of t).low) (sym at.pattern)))
     (bytes_same (string_bytes s.high) _ (at.high ∙ ap (λ t. (range_of t).high) (sym at.pattern))))
 
-first : {A : Type 0} {a b : A} {xs ys : List A} → ◌≡◌ {A = List A} (a ∷ xs) (b ∷ ys) → a ≡ b
-first e = cc
-
-rest_is : {A : Type 0} {a b : A} {xs ys : List A} → ◌≡◌ {A = List A} (a ∷ xs) (b ∷ ys) → xs ≡ ys
-rest_is e = cc
-
 -- whether a token has patterns, and each is one
 abbrev pub has_patterns : model.Token → Bool
 has_patterns t = nat_lt 0 (length t.patterns) && list_all is_pattern t.patterns
@@ -57,9 +50,9 @@ next : (last token place : ℕ) (s : Scope) (rest : List Scope) (qs : List model
     → map columns_of_scope (s ∷ rest) ≡ Rest (token + 1) 0 qs ts → ((ps : List model.Text) → (token + 1) + length ts ≡ last → list_all is_pattern ps ≡ true → map columns_of_scope rest ≡ Rest (token + 1) 1 ps ts → Good last (token + 1) 0 rest) → Good last token place (s ∷ rest)
 next last token place s rest [] ts total some pats more h later = absurd cc
 next last token place s rest (q ∷ qs) ts total some pats more h later =
-    let at = scope_is s (token + 1) 0 q (first h) in
+    let at = scope_is s (token + 1) 0 q (same_head h) in
     let p = and_parts (is_pattern q) (list_all is_pattern qs) pats in
-    let r = later qs (omega (arith, total)) p.1 (rest_is h) in (
+    let r = later qs (omega (arith, total)) p.1 (same_tail h) in (
       and_from _ _ (or_right (s.token == token && s.place == place + 1) (s.token == token + 1 && s.place == 0) (and_from _ _ (eq-eqb s.token (token + 1) at.token) (eq-eqb s.place 0 at.place)))
           (subst (λ t. follow last t s.place rest ≡ true) (sym at.token) (subst (λ k. follow last (token + 1) k rest ≡ true) (sym at.place) r.0)),
       and_from _ _ (passes s (token + 1) 0 q at p.0) r.1,
@@ -76,9 +69,9 @@ walk last token place [] [] (t ∷ ts) total pats more h = none t.patterns (and_
     none (q ∷ qs) e f = absurd cc
 walk last token place (s ∷ rest) [] [] total pats more h = absurd cc
 walk last token place (s ∷ rest) (p ∷ ps) ts total pats more h =
-    let at = scope_is s token (place + 1) p (first h) in
+    let at = scope_is s token (place + 1) p (same_head h) in
     let c = and_parts (is_pattern p) (list_all is_pattern ps) pats in
-    let r = walk last token (place + 1) rest ps ts total c.1 more (rest_is h) in (
+    let r = walk last token (place + 1) rest ps ts total c.1 more (same_tail h) in (
       and_from _ _ (or_left (s.token == token && s.place == place + 1) (s.token == token + 1 && s.place == 0) (and_from _ _ (eq-eqb s.token token at.token) (eq-eqb s.place (place + 1) at.place)))
           (subst (λ t. follow last t s.place rest ≡ true) (sym at.token) (subst (λ k. follow last token k rest ≡ true) (sym at.place) r.0)),
       and_from _ _ (passes s token (place + 1) p at c.0) r.1,
@@ -99,4 +92,4 @@ placed last (s ∷ rest) (t ∷ ts) total more h =
   where
     at_first : (qs : List model.Text) → nat_lt 0 (length qs) ≡ true → map columns_of_scope (s ∷ rest) ≡ map (scope_of 1) (enumerate_from 0 qs) ++ flat_map scopes_of (enumerate_from (1 + 1) ts) → (s.token == 1 && s.place == 0) ≡ true
     at_first [] e f = absurd cc
-    at_first (q ∷ qs) e f = let at = scope_is s 1 0 q (first f) in and_from _ _ (eq-eqb s.token 1 at.token) (eq-eqb s.place 0 at.place)
+    at_first (q ∷ qs) e f = let at = scope_is s 1 0 q (same_head f) in and_from _ _ (eq-eqb s.token 1 at.token) (eq-eqb s.place 0 at.place)

@@ -1,10 +1,7 @@
 -- Scopes that are placed: each token has one, and each pattern is one.
-use Rattle.std.proofs.Common.{◌≡◌, ◌==◌, ◌+◌, inl, inr, arith, ℕ, zero, suc, List, [], ◌∷◌, map, length, Bool, true, false, ap, subst, refl, eqb-true, ◌∙◌}
+use Rattle.reg_audit_law.proofs.Common.{◌≡◌, ◌==◌, ◌+◌, [], ◌∷◌, ◌∙◌, all_weaker, AllByRecursion, ap, arith, Bool, bytes_eq, eqb-true, false, inl, inr, length, List, list_all, list_any, map, refl, subst, suc, true, zero, ℕ}
 use Rattle.std.specs.Prelude.{string_bytes, ◌&&◌, ◌||◌, filter, cond, nat_lt}
-use Rattle.std.specs.List.{AllByRecursion, list_all, list_any}
-use Rattle.std.specs.Str.{bytes_eq}
 use Rattle.std.proofs.lemmas.Bool.{and_parts, and_from, eq-eqb, lt-ltb}
-use Rattle.sqlite_trees.proofs.ListLemmas.{all_weaker}
 use Rattle.reg_names.specs.Patterns.{is_pattern}
 use Rattle.reg_names.specs.Ranges.{range_of}
 use Rattle.reg_model.proofs.Lists.{or_left, or_right}

@@ -1,17 +1,9 @@
 -- Rows that are told by what is shown of them, and lists with their places as ids.
-use Rattle.std.proofs.Common.{◌≡◌, ◌==◌, ℕ, zero, suc, ◌+◌, List, [], ◌∷◌, map, length, true, refl, sym, ap, subst, eqb-true, ◌∙◌}
-use Rattle.std.specs.List.{AllByRecursion, enumerate_from}
-use Rattle.std.specs.List.Sorted.{IsPermutation}
+use Rattle.reg_audit_law.proofs.Common.{◌≡◌, ◌==◌, ◌+◌, [], ◌∷◌, ◌∙◌, AllByRecursion, and_parts, ap, are_counted, enumerate_from, eqb-true, IsInOrder, IsPermutation, length, List, map, maps_twice, Null, refl, Row, subst, suc, sym, true, zero, ℕ}
 use Rattle.std.specs.declared.cmp.Ordering.{Ordering}
-use Rattle.std.proofs.lemmas.Bool.{and_parts}
 use Rattle.std.proofs.lemmas.List.{map-id}
 use Rattle.std.proofs.lemmas.List.Sorted.{IsPermutation-map, IsPermutation-sym}
-use Rattle.sqlite.specs.declared.types.Value.TheVariants.{Null}
-use Rattle.sqlite.specs.Order.{Row}
 use Rattle.sqlite_trees.proofs.ListLemmas.{all-permutation}
-use Rattle.reg_tables_schema.specs.Rows.{IsInOrder}
-use Rattle.reg_tables_schema.proofs.Queries.{maps_twice}
-use Rattle.reg_audit.specs.Checks.{are_counted}
 
 -- the columns of a row with a key, behind the key and NULL in its own column
 abbrev pub with_null : Row → Row

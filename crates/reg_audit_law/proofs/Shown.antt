@@ -1,18 +1,12 @@
 -- What is shown of rows in an order, told of what the rows stand for.
 use Rattle.std.proofs.Common.{◌≡◌, inl, inr, ℕ, pos, Less, List, [], ◌∷◌, map, refl, sym, ap₂, subst}
-use Rattle.std.specs.Prelude.{drop}
+use Rattle.reg_audit_law.proofs.Common.{by_column, drop, Int, IsIn, IsInOrder, nat_cmp, Row, shows}
 use Rattle.std.specs.List.Sorted.{IsPermutation, IsStrictlySortedBy}
-use Rattle.std.specs.Ordering.{nat_cmp}
 use Rattle.std.specs.declared.cmp.Ordering.{Ordering}
 use Rattle.std.proofs.lemmas.List.Sorted.{IsPermutation-map}
-use Rattle.sqlite.specs.Order.{Row}
-use Rattle.sqlite.specs.declared.types.Value.TheVariants.{Int}
 use Rattle.sqlite_trees.specs.Tree.{IsAscending}
 use Rattle.sqlite_trees.proofs.ListLemmas.{all_from_map, ascending-map, ascending_weaker}
-use Rattle.reg_model.proofs.Members.{IsIn}
-use Rattle.reg_tables_schema.specs.Rows.{IsInOrder, by_column}
-use Rattle.reg_tables_schema.specs.Tests.{shows}
-use Rattle.reg_tables_meaning.proofs.Selected.{number_below}
+use Rattle.reg_tables_meaning.proofs.Selected.{number_below, same_head, same_tail}
 use Rattle.reg_tables_meaning.proofs.VersionEntries.{less_is}
 
 module _ {X : Type 0} (id : X → ℕ) (behind : X → Row) where
@@ -49,14 +43,8 @@ pub one_of_each : (rows : List Row) → map (shows (1 ∷ [])) rows ≡ map (sho
 one_of_each [] = refl
 one_of_each (r ∷ rows) = ap₂ ◌∷◌ (one_column r) (one_of_each rows)
 
-first : {A : Type 0} {a b : A} {xs ys : List A} → ◌≡◌ {A = List A} (a ∷ xs) (b ∷ ys) → a ≡ b
-first e = cc
-
-rest : {A : Type 0} {a b : A} {xs ys : List A} → ◌≡◌ {A = List A} (a ∷ xs) (b ∷ ys) → xs ≡ ys
-rest e = cc
-
 -- lists of two images that are one have one image of each element
 pub pointwise : {X Y : Type 0} (f g : X → Y) (xs : List X) → map f xs ≡ map g xs → (x : X) → IsIn x xs → f x ≡ g x
 pointwise f g [] h x i = absurd i
-pointwise f g (y ∷ ys) h x (inl e) = subst (λ z. f z ≡ g z) e (first h)
-pointwise f g (y ∷ ys) h x (inr i) = pointwise f g ys (rest h) x i
+pointwise f g (y ∷ ys) h x (inl e) = subst (λ z. f z ≡ g z) e (same_head h)
+pointwise f g (y ∷ ys) h x (inr i) = pointwise f g ys (same_tail h) x i

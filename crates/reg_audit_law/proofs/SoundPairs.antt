@@ -1,26 +1,12 @@
 -- What passes makes sound owners, readers and restricted crates.
-use Rattle.std.proofs.Common.{◌≡◌, ◌==◌, ℕ, pos, List, map, true, sym, ap, subst, eqb-true, ◌∙◌}
+use Rattle.reg_audit_law.proofs.Common.{◌≡◌, ◌==◌, ◌∙◌, all_in, all_weaker, AllByRecursion, AllRows, and_parts, any_in, ap, bytes_eq, bytes_same, canon, Crate, each_in, eq_by_cmp, eqb-true, has_account, has_crate, in_any, in_each, in_map, Int, List, map, map_in, nat_list_cmp_total, pos, same_bytes, subst, sym, Trees, true, ℕ}
 use Rattle.std.specs.Prelude.{◌&&◌, is_some}
-use Rattle.std.specs.List.{AllByRecursion}
-use Rattle.std.specs.Str.{bytes_eq}
-use Rattle.std.specs.Ordering.{eq_by_cmp}
 use Rattle.std.specs.FinSet as finset
-use Rattle.std.specs.Cmp.Lexicographic.{nat_list_cmp_total}
-use Rattle.std.proofs.lemmas.Bool.{and_parts}
-use Rattle.sqlite.specs.Tree.{Trees}
-use Rattle.sqlite.specs.declared.types.Value.TheVariants.{Int}
-use Rattle.sqlite_trees.proofs.ListLemmas.{all_weaker}
-use Rattle.reg_names.specs.Names.{canon}
 use Rattle.reg_model.specs.Crates as crates_of
 use Rattle.reg_model.specs.Registry as model
 use Rattle.reg_model.specs.Registry.{Publication, owner_cmp, text_cmp, with_id}
 use Rattle.reg_model.proofs.Keys.{owner_total, owner_apart, same_key, text_apart, ties_itself}
-use Rattle.reg_model.proofs.Members.{all_in, any_in, each_in, in_any, in_each, in_map, map_in}
-use Rattle.reg_tables_sql.specs.declared.crates.Crate.{Crate}
 use Rattle.reg_tables_sql.specs.declared.pairs.Pair.{Pair}
-use Rattle.reg_tables_rows.specs.declared.all_rows.AllRows.{AllRows}
-use Rattle.reg_tables_meaning.proofs.CrateLemmas.{same_bytes, bytes_same}
-use Rattle.reg_audit.specs.Checks.{has_account, has_crate}
 use Rattle.reg_audit_law.specs.RegistryFrom.{canon_from, pair_from, publication_from, registry_from}
 use Rattle.reg_audit_law.proofs.Pairs.{Refers, owners_of_crates, readers_of_crates, second_refers}
 use Rattle.reg_audit_law.proofs.Passing.{Passing, crate_is, readers_there, restricted_there}

@@ -1,60 +1,20 @@
 -- Summaries that pass are those of what is built from the records.
-use Rattle.std.proofs.Common.{◌≡◌, ◌==◌, ◌+◌, ℕ, pos, List, [], ◌∷◌, ◌++◌, map, length, refl, sym, ap, subst, eqb-true, ◌∙◌}
-use Rattle.std.specs.Prelude.{filter, string_bytes, unwrap_or, slice_get}
+use Rattle.reg_audit_law.proofs.Common.{◌≡◌, ◌==◌, [], ◌∷◌, ◌∙◌, all_weaker, AllRows, and_parts, ap, by_column, entry_of_crate, eqb-true, filter, Ids, Int, IsPermutation, length, map, maps_twice, mark_cmp, Null, pos, Row, shows, string_bytes, subst, sym, Trees, Version, ℕ}
 use Rattle.std.specs.FinSet as finset
-use Rattle.std.specs.List.Sorted.{IsPermutation}
-use Rattle.std.specs.Option.{option_and_then, option_map}
-use Rattle.std.proofs.lemmas.Bool.{and_parts}
-use Rattle.std.proofs.lemmas.List.{length-append}
-use Rattle.std.proofs.lemmas.List.Sums.{sum_by-cons}
-use Rattle.sqlite.specs.Order.{Row, column}
-use Rattle.sqlite.specs.Tree.{Trees}
-use Rattle.sqlite.specs.declared.types.Value.TheVariants.{Null, Int}
-use Rattle.sqlite_trees.proofs.ListLemmas.{all_weaker}
-use Rattle.reg_line.specs.File.{end_of, file_text}
-use Rattle.reg_model.specs.Registry.{mark_cmp}
 use Rattle.reg_model.proofs.Members.{IsIn, all_in, in_filter, map_same}
-use Rattle.reg_tables_schema.specs.Rows.{by_column}
-use Rattle.reg_tables_schema.specs.Tests.{shows}
 use Rattle.reg_tables_schema.proofs.Permutes.{filter_map}
-use Rattle.reg_tables_schema.proofs.Queries.{maps_twice}
 use Rattle.reg_tables_sql.specs.Summaries.{columns_of_summary}
 use Rattle.reg_tables_sql.specs.declared.summaries.Summary.{Summary}
-use Rattle.reg_tables_sql.specs.declared.versions.Version.{Version}
-use Rattle.reg_tables_meaning.specs.Entries.{entry_of_crate}
-use Rattle.reg_tables_meaning.specs.Stored.{Ids, StoredVersion}
-use Rattle.reg_tables_meaning.specs.Summaries.{StandSummaries, highest_in, id_among, is_marked, length_among, length_in, line_length, mark_shown, read_mark, row_among, row_of_summary}
+use Rattle.reg_tables_meaning.specs.Summaries.{StandSummaries, highest_in, length_in, mark_shown, row_among, row_of_summary}
 use Rattle.reg_tables_meaning.specs.Summaries as stored
-use Rattle.reg_tables_rows.specs.declared.all_rows.AllRows.{AllRows}
-use Rattle.reg_tables_meaning.proofs.SummaryRows.{got_at}
-use Rattle.reg_versions.specs.Precedence.{top_place}
+use Rattle.reg_tables_meaning.proofs.SummaryRows.{highest_same, length_same}
 use Rattle.reg_audit.specs.Checks.{is_summary, its_versions, shown_version}
 use Rattle.reg_audit_law.specs.RegistryFrom.{ids_from, registry_from, version_from}
 use Rattle.reg_audit_law.specs.Rules.{IsKeyed}
 use Rattle.reg_audit_law.proofs.Passing.{Passing, summaries_whole, summary_ids}
 use Rattle.reg_audit_law.proofs.Shapes.{whole_rows, with_null}
 use Rattle.reg_audit_law.proofs.Versions.{marked}
-
--- what versions give as they are shown, they give as they are stored
-module _ (yanked : finset.FinSet mark_cmp) where
-  pub highest_same : (vs : List StoredVersion) → highest_in (map (mark_shown yanked) vs) ≡ id_among yanked vs
-  highest_same vs =
-      ap (λ o. unwrap_or o 0)
-      (got_at (λ m. m.id) (mark_shown yanked) vs (top_place (map read_mark (map (mark_shown yanked) vs)))
-      ∙ ap (λ ms. option_map (λ (v : StoredVersion). v.id) (option_and_then (slice_get vs) (top_place ms))) (maps_twice (mark_shown yanked) read_mark vs))
-
-  pub length_same : (vs : List StoredVersion) → length_in (map (mark_shown yanked) vs) ≡ length_among yanked vs
-  length_same [] = refl
-  length_same (v ∷ vs) =
-      let rest = file_text (map (λ (v : StoredVersion). (v.publication.stem, is_marked yanked v)) vs) in
-      let stem = v.publication.stem in
-      let end = end_of (is_marked yanked v) in
-      sum_by-cons line_length (mark_shown yanked v) (map (mark_shown yanked) vs)
-      ∙ ap (λ n. (length stem + length end) + n) (length_same vs)
-      ∙ ap (λ n. n + length rest) (sym (length-append stem end)) ∙ sym (length-append (stem ++ end) rest)
-
-told : (r : Row) → IsKeyed (0 ∷ 1 ∷ 2 ∷ 3 ∷ []) r → with_null (shows (0 ∷ 2 ∷ 3 ∷ []) r) ≡ r
-told r h = (λ i. column r 0 ∷ sym h.1 i ∷ column r 2 ∷ column r 3 ∷ []) ∙ h.0
+use Rattle.reg_audit_law.proofs.Crates.{told_crate}
 
 module _ (it : AllRows) (db : Trees) (h : Passing it db) where
   abbrev ids : Ids
@@ -87,7 +47,7 @@ module _ (it : AllRows) (db : Trees) (h : Passing it db) where
       let show = shows (0 ∷ 2 ∷ 3 ∷ []) in
       let list = it.summaries.items in
       let crates = it.crates.items in
-      let whole = all_weaker (IsKeyed (0 ∷ 1 ∷ 2 ∷ 3 ∷ [])) (λ r. with_null (show r) ≡ r) told (db 16) h.rules.columns.summaries in
+      let whole = all_weaker (IsKeyed (0 ∷ 1 ∷ 2 ∷ 3 ∷ [])) (λ r. with_null (show r) ≡ r) told_crate (db 16) h.rules.columns.summaries in
       let rows = whole_rows show with_null columns_of_summary (by_column 0) (db 16) list whole h.are.summaries in
       let by_id = map_same (λ s. with_null (columns_of_summary s)) (λ s. row_at s.crate_id) list row_is ∙ sym (maps_twice (λ (s : Summary). s.crate_id) row_at list) in
       let same = by_id ∙ ap (map row_at) (summary_ids it db h) ∙ maps_twice (λ c. c.id) row_at crates ∙ sym (maps_twice entry_of_crate (row_of_summary ids yanked) crates) in

@@ -1,32 +1,17 @@
 -- The summaries of a sound registry pass.
-use Rattle.std.proofs.Common.{◌≡◌, ◌==◌, ℕ, List, [], ◌∷◌, map, true, sym, ap, subst, ◌∙◌}
-use Rattle.std.specs.Prelude.{drop}
-use Rattle.std.specs.Str.{bytes_eq}
+use Rattle.reg_audit_law.proofs.Common.{◌≡◌, ◌==◌, [], ◌∷◌, ◌∙◌, AllRows, and_from, ap, by_column, bytes_eq, bytes_same, drop, entry_of_crate, eq-eqb, heads, Ids, in_all, in_map, IsIn, List, map, map_in, maps_twice, mark_cmp, number_is, Registry, Row, shows, StoredCrate, subst, sym, tails, Trees, true, ℕ}
 use Rattle.std.specs.FinSet as finset
-use Rattle.std.proofs.lemmas.Bool.{and_from, eq-eqb}
-use Rattle.sqlite.specs.Order.{Row}
-use Rattle.sqlite.specs.Tree.{Trees}
-use Rattle.reg_model.specs.Registry.{Registry, mark_cmp}
-use Rattle.reg_model.proofs.Members.{IsIn, in_all, in_map, map_in}
-use Rattle.reg_tables_schema.specs.Rows.{by_column}
-use Rattle.reg_tables_schema.specs.Tests.{shows}
-use Rattle.reg_tables_schema.proofs.Queries.{maps_twice}
 use Rattle.reg_tables_sql.specs.Summaries.{columns_of_summary}
 use Rattle.reg_tables_sql.specs.declared.summaries.Summary.{Summary}
-use Rattle.reg_tables_meaning.specs.Entries.{entry_of_crate}
-use Rattle.reg_tables_meaning.specs.Stored.{Ids, StoredCrate}
 use Rattle.reg_tables_meaning.specs.Summaries.{highest_in, highest_of, length_in, length_of, row_of_summary}
 use Rattle.reg_tables_meaning.specs.Summaries as stored
-use Rattle.reg_tables_rows.specs.declared.all_rows.AllRows.{AllRows}
-use Rattle.reg_tables_meaning.proofs.AccountEntries.{heads, number_is, tails}
-use Rattle.reg_tables_meaning.proofs.CrateLemmas.{bytes_same}
 use Rattle.reg_tables_meaning.proofs.Selected.{column_total, each_part, shown_in_turn}
+use Rattle.reg_tables_meaning.proofs.SummaryRows.{highest_same, length_same}
 use Rattle.reg_audit.specs.Checks.{is_summary, its_versions, summaries_pass}
 use Rattle.reg_audit_law.proofs.ListedCrates.{crates_listed}
 use Rattle.reg_audit_law.proofs.ListedVersions.{its_listed}
 use Rattle.reg_audit_law.proofs.Shown.{rows_rise}
 use Rattle.reg_audit_law.proofs.Standing.{Standing}
-use Rattle.reg_audit_law.proofs.Summaries.{highest_same, length_same}
 
 abbrev show : Row → Row
 show = shows (0 ∷ 2 ∷ 3 ∷ [])

@@ -1,28 +1,15 @@
 -- Tokens that pass, with their scopes, stand for tokens with patterns.
-use Rattle.std.proofs.Common.{◌≡◌, [], ◌∷◌, map, sym, ap, subst, ◌∙◌}
-use Rattle.std.specs.Prelude.{drop}
-use Rattle.std.specs.List.Sorted.{IsPermutation}
-use Rattle.sqlite.specs.Order.{Row, column}
-use Rattle.sqlite_trees.proofs.ListLemmas.{all_weaker}
+use Rattle.reg_audit_law.proofs.Common.{◌≡◌, [], ◌∷◌, ◌∙◌, all_weaker, AllRows, ap, drop, IsPermutation, map, maps_twice, Row, shows, subst, sym, Trees}
 use Rattle.reg_tables_schema.specs.Rows.{by_column, by_columns}
-use Rattle.reg_tables_schema.proofs.Queries.{maps_twice}
 use Rattle.reg_tables_sql.specs.Scopes.{columns_of_scope}
 use Rattle.reg_tables_sql.specs.Tokens.{columns_of_token}
 use Rattle.reg_tables_meaning.specs.Stands.{StandTokens, row_of_token}
-use Rattle.reg_tables_rows.specs.declared.all_rows.AllRows.{AllRows}
-use Rattle.sqlite.specs.Tree.{Trees}
-use Rattle.reg_tables_schema.specs.Tests.{shows}
 use Rattle.reg_audit_law.specs.RegistryFrom.{registry_from, token_from}
 use Rattle.reg_audit_law.specs.Rules.{IsKeyed, IsWhole}
 use Rattle.reg_audit_law.proofs.Passing.{Passing, tokens_are}
 use Rattle.reg_audit_law.proofs.ScopeWalk.{scopes_are}
 use Rattle.reg_audit_law.proofs.Shapes.{with_null, rows_from, whole_rows, counted_are}
-
-abbrev show : Row → Row
-show = shows (0 ∷ 2 ∷ 3 ∷ 4 ∷ 5 ∷ 6 ∷ 7 ∷ 8 ∷ [])
-
-told : (r : Row) → IsKeyed (0 ∷ 1 ∷ 2 ∷ 3 ∷ 4 ∷ 5 ∷ 6 ∷ 7 ∷ 8 ∷ []) r → with_null (show r) ≡ r
-told r h = (λ i. column r 0 ∷ sym h.1 i ∷ column r 2 ∷ column r 3 ∷ column r 4 ∷ column r 5 ∷ column r 6 ∷ column r 7 ∷ column r 8 ∷ []) ∙ h.0
+use Rattle.reg_audit_law.proofs.Versions.{show, told}
 
 told_scope : (r : Row) → IsWhole (0 ∷ 1 ∷ 2 ∷ 3 ∷ 4 ∷ 5 ∷ []) r → shows (1 ∷ 2 ∷ 3 ∷ 4 ∷ 5 ∷ []) r ≡ drop 1 r
 told_scope r h = ap (drop 1) h

@@ -1,18 +1,11 @@
 -- The ids and the endpoints of tokens that stand for those of a sound registry.
-use Rattle.std.proofs.Common.{◌≡◌, ◌==◌, map, length, Bool, true, sym, ap, ◌∙◌}
-use Rattle.std.specs.Prelude.{◌&&◌}
-use Rattle.std.specs.List.{enumerate_from, list_all}
-use Rattle.std.proofs.lemmas.Bool.{and_parts, and_from}
+use Rattle.reg_audit_law.proofs.Common.{◌≡◌, ◌==◌, ◌∙◌, ◌&&◌, AllRows, and_from, and_parts, ap, Bool, enumerate_from, Ids, length, list_all, map, maps_twice, sym, Trees, true}
 use Rattle.std.proofs.lemmas.List.Folds.{list_all-map}
-use Rattle.sqlite.specs.Tree.{Trees}
 use Rattle.reg_model.specs.Registry as model
 use Rattle.reg_model.specs.Sound as sound
 use Rattle.reg_model.proofs.Lists.{all_so}
-use Rattle.reg_tables_schema.proofs.Queries.{maps_twice}
-use Rattle.reg_tables_meaning.specs.Stored.{Ids}
 use Rattle.reg_audit_law.proofs.Standing.{Standing}
 use Rattle.reg_tables_meaning.specs.TokenEntries.{entry_of_token, without_patterns}
-use Rattle.reg_tables_rows.specs.declared.all_rows.AllRows.{AllRows}
 use Rattle.reg_tables_meaning.proofs.TokenEntries.{lists_tokens}
 use Rattle.reg_audit.specs.Checks.{are_counted, is_token, tokens_pass}
 use Rattle.reg_audit_law.proofs.AccountsPass.{are_places, each_value}

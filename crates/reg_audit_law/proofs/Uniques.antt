@@ -1,17 +1,12 @@
 -- Rows without equals are of elements without equals.
-use Rattle.std.proofs.Common.{◌≡◌, ◌+◌, inl, inr, ℕ, pos, List, [], ◌∷◌, map, Bool, true, false, Some, refl, sym, ap, ◌∙◌}
+use Rattle.reg_audit_law.proofs.Common.{◌≡◌, ◌+◌, [], ◌∷◌, ◌∙◌, ap, Bool, column, false, inl, inr, Int, IsPermutation, IsPermutation-sym, List, map, pos, refl, Row, rowid, same_number, Some, sym, true, ℕ}
 use Rattle.std.specs.Prelude.{◌&&◌, ◌==◌, cond, filter}
 use Rattle.std.specs.List.{AllByRecursion, IsDistinct, enumerate_from, find}
-use Rattle.std.specs.List.Sorted.{IsPermutation}
 use Rattle.std.specs.Cmp.{eq_by_cmp_equiv}
-use Rattle.std.proofs.lemmas.List.Sorted.{IsPermutation-sym}
 use Rattle.std.proofs.lemmas.Map.Keys.{IsDistinct-IsPermutation}
-use Rattle.sqlite.specs.Order.{Row, column}
 use Rattle.sqlite.specs.declared.types.Value.{Value}
-use Rattle.sqlite.specs.declared.types.Value.TheVariants.{Int}
-use Rattle.reg_tables_meaning.proofs.Standing.{same_number}
+use Rattle.reg_tables_meaning.proofs.Selected.{same_head}
 use Rattle.sqlite_value.proofs.OrderLemmas.{value_cmp_total}
-use Rattle.sqlite_trees.specs.Tree.{rowid}
 use Rattle.reg_tables_meaning.specs.Stands.{HaveOwnRowids}
 use Rattle.reg_model.proofs.Members.{IsIn, distinct_from_map}
 use Rattle.reg_audit_law.specs.Rules.{same_at, same_value, AreUnique}
@@ -61,9 +56,6 @@ module _ {X : Type 0} (row : X → Row) (xs : List X) (rows : List Row) (same : 
   -- rows with rowids of their own
   pub own_so : (g : X → X → Bool) → ((x y : X) → same_value (rowid (row x)) (rowid (row y)) ≡ g x y) → HaveOwnRowids rows → IsDistinct g xs
   own_so g alike own = pairs_so (λ a b. same_value (rowid a) (rowid b)) g (λ a b. value_flips (rowid a) (rowid b)) alike own.0
-
-same_head : {A : Type 0} {a b : A} {xs ys : List A} → ◌≡◌ {A = List A} (a ∷ xs) (b ∷ ys) → a ≡ b
-same_head e = cc
 
 pub found_of_filter : {X : Type 0} (p : X → Bool) (xs : List X) (x : X) → filter p xs ≡ x ∷ [] → find p xs ≡ Some x
 found_of_filter p [] x h = absurd cc

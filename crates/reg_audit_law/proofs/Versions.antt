@@ -1,36 +1,20 @@
 -- Versions that pass: their rows, their ids and their crates, and the marks of those that are yanked.
-use Rattle.std.proofs.Common.{◌≡◌, ◌==◌, pos, List, [], ◌∷◌, map, Bool, true, false, refl, sym, ap, ap₂, subst, eqb-true, ◌∙◌}
-use Rattle.std.specs.Prelude.{◌&&◌, drop, filter, string_bytes}
+use Rattle.reg_audit_law.proofs.Common.{◌≡◌, ◌==◌, [], ◌∷◌, ◌∙◌, ◌&&◌, all_weaker, AllRows, and_from, and_parts, ap, ap₂, Bool, bytes_eq, bytes_same, canon, column, Crate, drop, entry_of_crate, eq-eqb, eq_by_cmp, eqb-true, false, filter, List, map, maps_twice, nat_cmp, pos, refl, Row, same_number, shows, string_bytes, subst, sym, Trees, true, Version}
 use Rattle.std.specs.List.{IsDistinct, list_all, list_any}
 use Rattle.std.specs.List.Sorted.{IsPermutation, IsStrictlySortedBy}
-use Rattle.std.specs.Str.{bytes_eq}
 use Rattle.std.specs.Option.{option_map}
-use Rattle.std.specs.Ordering.{eq_by_cmp, nat_cmp}
 use Rattle.std.specs.FinSet as finset
-use Rattle.std.proofs.lemmas.Bool.{and_parts, and_from, eq-eqb}
-use Rattle.sqlite.specs.Order.{Row, column}
-use Rattle.sqlite.specs.Tree.{Trees}
 use Rattle.sqlite.specs.declared.types.Value.TheVariants.{Null, Int, Text, Blob}
-use Rattle.sqlite_trees.proofs.ListLemmas.{all_weaker}
-use Rattle.reg_names.specs.Names.{canon}
 use Rattle.reg_versions.specs.Versions.{release_key_of}
 use Rattle.reg_model.specs.Registry.{mark_cmp, Mark}
 use Rattle.reg_model.proofs.Keys.{mark_total, mark_apart, same_key, ties_itself}
 use Rattle.reg_model.proofs.Lists.{list_any_map, any_filter, true_not_false, not_true}
 use Rattle.reg_model.proofs.Members.{IsIn, any_in, in_all, in_any, in_map, map_in, none_in, map_same, one_of}
 use Rattle.reg_tables_schema.specs.Rows.{mark, text_or_null, by_column}
-use Rattle.reg_tables_schema.specs.Tests.{shows}
-use Rattle.reg_tables_schema.proofs.Queries.{maps_twice}
 use Rattle.reg_tables_sql.specs.Versions.{columns_of_version}
-use Rattle.reg_tables_sql.specs.declared.crates.Crate.{Crate}
-use Rattle.reg_tables_sql.specs.declared.versions.Version.{Version}
-use Rattle.reg_tables_meaning.specs.Entries.{entry_of_crate}
 use Rattle.reg_tables_meaning.specs.Stands.{row_of_version, is_of}
 use Rattle.reg_tables_meaning.specs.Stored.{StoredCrate, StoredVersion}
-use Rattle.reg_tables_rows.specs.declared.all_rows.AllRows.{AllRows}
 use Rattle.reg_tables_meaning.proofs.AccountEntries.{same_text}
-use Rattle.reg_tables_meaning.proofs.CrateLemmas.{bytes_same}
-use Rattle.reg_tables_meaning.proofs.Standing.{same_number}
 use Rattle.reg_audit_law.specs.RegistryFrom.{mark_from, name_from, registry_from, spelling, version_from}
 use Rattle.reg_audit_law.specs.Rules.{IsKeyed, same_at}
 use Rattle.reg_audit_law.proofs.Crates.{found_in, name_of, one_crate}
@@ -40,10 +24,10 @@ use Rattle.reg_audit_law.proofs.Rising.{listed_rise}
 use Rattle.reg_audit_law.proofs.Shapes.{with_null, whole_rows}
 use Rattle.reg_audit_law.proofs.Uniques.{own_so, pairs_so, number_flips, same_at_flips}
 
-abbrev show : Row → Row
+abbrev pub show : Row → Row
 show = shows (0 ∷ 2 ∷ 3 ∷ 4 ∷ 5 ∷ 6 ∷ 7 ∷ 8 ∷ [])
 
-told : (r : Row) → IsKeyed (0 ∷ 1 ∷ 2 ∷ 3 ∷ 4 ∷ 5 ∷ 6 ∷ 7 ∷ 8 ∷ []) r → with_null (show r) ≡ r
+pub told : (r : Row) → IsKeyed (0 ∷ 1 ∷ 2 ∷ 3 ∷ 4 ∷ 5 ∷ 6 ∷ 7 ∷ 8 ∷ []) r → with_null (show r) ≡ r
 told r h = (λ i. column r 0 ∷ sym h.1 i ∷ column r 2 ∷ column r 3 ∷ column r 4 ∷ column r 5 ∷ column r 6 ∷ column r 7 ∷ column r 8 ∷ []) ∙ h.0
 
 module _ (it : AllRows) (db : Trees) (h : Passing it db) where

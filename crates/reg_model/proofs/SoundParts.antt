@@ -56,11 +56,17 @@ module _ (s : Registry) (sound : Sound s) where
     readers = sound.readers;
   }
 
-  pub with_owners : (os : finset.FinSet owner_cmp)
-      → ((c : Text) → has_crate s c ≡ true → (id : ℕ) × (finset.contains os (c, id) ≡ true))
-      → ((c : Text) (id : ℕ) → finset.contains os (c, id) ≡ true → (has_crate s c ≡ true) × (is_some (with_id s.accounts id) ≡ true))
-      → Sound (record s { owners = os })
-  with_owners os owned owners = record {
+  abbrev ArePairs : finset.FinSet owner_cmp → Type 0
+  ArePairs os = (c : Text) (id : ℕ) → finset.contains os (c, id) ≡ true → (has_crate s c ≡ true) × (is_some (with_id s.accounts id) ≡ true)
+
+  -- other sets beside the same accounts, tokens and versions
+  with_sets : (os readers : finset.FinSet owner_cmp) (ms : finset.FinSet mark_cmp) (rs cs : finset.FinSet text_cmp)
+      → ((c : Text) → has_crate s c ≡ true → (id : ℕ) × (finset.contains os (c, id) ≡ true)) → ArePairs os → ArePairs readers
+      → ((c v : Text) → finset.contains ms (c, v) ≡ true → has_version s c v ≡ true)
+      → ((c : Text) → finset.contains rs c ≡ true → ((n : Text) × (is_name n ≡ true) × (canon n ≡ c)) × (is_reserved_always c ≡ false))
+      → ((c : Text) → finset.contains cs c ≡ true → has_crate s c ≡ true)
+      → Sound (record s { owners = os; readers = readers; yanked = ms; reserved = rs; restricted = cs })
+  with_sets os readers ms rs cs owned owners read yanked reserved restricted = record {
     base = sound.base;
     accounts = sound.accounts;
     logins = sound.logins;
@@ -71,81 +77,33 @@ module _ (s : Registry) (sound : Sound s) where
     releases = sound.releases;
     owned = owned;
     owners = owners;
-    yanked = sound.yanked;
-    reserved = sound.reserved;
-    restricted = sound.restricted;
-    readers = sound.readers;
+    yanked = yanked;
+    reserved = reserved;
+    restricted = restricted;
+    readers = read;
   }
+
+  pub with_owners : (os : finset.FinSet owner_cmp) → ((c : Text) → has_crate s c ≡ true → (id : ℕ) × (finset.contains os (c, id) ≡ true))
+      → ArePairs os
+      → Sound (record s { owners = os })
+  with_owners os owned owners =
+      with_sets os s.readers s.yanked s.reserved s.restricted owned owners sound.readers sound.yanked sound.reserved sound.restricted
 
   pub with_yanked : (ms : finset.FinSet mark_cmp) → ((c v : Text) → finset.contains ms (c, v) ≡ true → has_version s c v ≡ true) → Sound (record s { yanked = ms })
-  with_yanked ms yanked = record {
-    base = sound.base;
-    accounts = sound.accounts;
-    logins = sound.logins;
-    tokens = sound.tokens;
-    digests = sound.digests;
-    publications = sound.publications;
-    spelled = sound.spelled;
-    releases = sound.releases;
-    owned = sound.owned;
-    owners = sound.owners;
-    yanked = yanked;
-    reserved = sound.reserved;
-    restricted = sound.restricted;
-    readers = sound.readers;
-  }
+  with_yanked ms yanked =
+      with_sets s.owners s.readers ms s.reserved s.restricted sound.owned sound.owners sound.readers yanked sound.reserved sound.restricted
 
-  pub with_reserved : (rs : finset.FinSet text_cmp) → ((c : Text) → finset.contains rs c ≡ true → ((n : Text) × (is_name n ≡ true) × (canon n ≡ c)) × (is_reserved_always c ≡ false)) → Sound (record s { reserved = rs })
-  with_reserved rs reserved = record {
-    base = sound.base;
-    accounts = sound.accounts;
-    logins = sound.logins;
-    tokens = sound.tokens;
-    digests = sound.digests;
-    publications = sound.publications;
-    spelled = sound.spelled;
-    releases = sound.releases;
-    owned = sound.owned;
-    owners = sound.owners;
-    yanked = sound.yanked;
-    reserved = reserved;
-    restricted = sound.restricted;
-    readers = sound.readers;
-  }
+  pub with_reserved : (rs : finset.FinSet text_cmp)
+      → ((c : Text) → finset.contains rs c ≡ true → ((n : Text) × (is_name n ≡ true) × (canon n ≡ c)) × (is_reserved_always c ≡ false))
+      → Sound (record s { reserved = rs })
+  with_reserved rs reserved =
+      with_sets s.owners s.readers s.yanked rs s.restricted sound.owned sound.owners sound.readers sound.yanked reserved sound.restricted
 
   -- other crates restricted, each of them there
   pub with_restricted : (cs : finset.FinSet text_cmp) → ((c : Text) → finset.contains cs c ≡ true → has_crate s c ≡ true) → Sound (record s { restricted = cs })
-  with_restricted cs restricted = record {
-    base = sound.base;
-    accounts = sound.accounts;
-    logins = sound.logins;
-    tokens = sound.tokens;
-    digests = sound.digests;
-    publications = sound.publications;
-    spelled = sound.spelled;
-    releases = sound.releases;
-    owned = sound.owned;
-    owners = sound.owners;
-    yanked = sound.yanked;
-    reserved = sound.reserved;
-    restricted = restricted;
-    readers = sound.readers;
-  }
+  with_restricted cs restricted =
+      with_sets s.owners s.readers s.yanked s.reserved cs sound.owned sound.owners sound.readers sound.yanked sound.reserved restricted
 
-  pub with_readers : (rs : finset.FinSet owner_cmp) → ((c : Text) (id : ℕ) → finset.contains rs (c, id) ≡ true → (has_crate s c ≡ true) × (is_some (with_id s.accounts id) ≡ true)) → Sound (record s { readers = rs })
-  with_readers rs readers = record {
-    base = sound.base;
-    accounts = sound.accounts;
-    logins = sound.logins;
-    tokens = sound.tokens;
-    digests = sound.digests;
-    publications = sound.publications;
-    spelled = sound.spelled;
-    releases = sound.releases;
-    owned = sound.owned;
-    owners = sound.owners;
-    yanked = sound.yanked;
-    reserved = sound.reserved;
-    restricted = sound.restricted;
-    readers = readers;
-  }
+  pub with_readers : (rs : finset.FinSet owner_cmp) → ArePairs rs → Sound (record s { readers = rs })
+  with_readers rs read =
+      with_sets s.owners rs s.yanked s.reserved s.restricted sound.owned sound.owners read sound.yanked sound.reserved sound.restricted

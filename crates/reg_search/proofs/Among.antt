@@ -1,5 +1,5 @@
 -- An account is among those that a set of pairs names.
-use Rattle.std.proofs.Common.{◌≡◌, ◌==◌, ℕ, Bool, true, false, ◌&&◌, List, [], ◌∷◌, Option, Some, None, inl, refl, sym, ap, subst, ◌∙◌}
+use Rattle.std.proofs.Common.{◌≡◌, ◌==◌, ℕ, Bool, true, false, ◌&&◌, List, [], ◌∷◌, inl, refl, sym, ap, subst, ◌∙◌}
 use Rattle.std.specs.Prelude.{is_some}
 use Rattle.std.specs.FinSet as finset
 use Rattle.std.specs.List.{enumerate_from, filter, list_any}
@@ -9,14 +9,11 @@ use Rattle.reg_model.specs.Crates.{is_among}
 use Rattle.reg_model.proofs.Lists.{any_filter, any_same}
 use Rattle.reg_model.proofs.Members.{IsIn, in_any, in_filter}
 use Rattle.reg_tables_meaning.proofs.Numbered.{one_at}
+use Rattle.reg_tables_meaning.proofs.FoundTokens.{the_some}
 
 pub none_any : {X : Type 0} (xs : List X) → list_any (λ x. false) xs ≡ false
 none_any [] = refl
 none_any (x ∷ xs) = none_any xs
-
-the_some : {X : Type 0} (o : Option X) → is_some o ≡ true → (x : X) × (o ≡ Some x)
-the_some None h = absurd cc
-the_some (Some x) h = (x, refl)
 
 pub and_false : (b : Bool) → (b && false) ≡ false
 and_false true = refl

@@ -1,5 +1,5 @@
 -- What the rows say of one crate of a registry.
-use Rattle.std.proofs.Common.{◌≡◌, ◌==◌, ℕ, zero, suc, pos, Bool, true, ◌&&◌, ◌||◌, not, List, [], ◌∷◌, map, Option, Some, None, inl, inr, refl, sym, ap, subst, ◌∙◌}
+use Rattle.std.proofs.Common.{◌≡◌, ◌==◌, ℕ, pos, Bool, true, ◌&&◌, ◌||◌, not, List, [], ◌∷◌, map, Option, Some, None, refl, sym, ap, subst, ◌∙◌}
 use Rattle.std.specs.Prelude.{nat_eq, slice_get}
 use Rattle.std.specs.FinSet as finset
 use Rattle.std.specs.List.{filter, list_any}
@@ -34,17 +34,13 @@ use Rattle.reg_tables_meaning.proofs.Rowids.{any_columns, first_column, second_c
 use Rattle.reg_tables_meaning.proofs.Standing.{same_number}
 use Rattle.reg_tables_meaning.proofs.SummaryLaws.{top_named}
 use Rattle.reg_tables_meaning.proofs.SummaryRows.{got_map}
+use Rattle.reg_tables_meaning.proofs.SummaryPushed.{in_at}
 use Rattle.reg_search.proofs.Among.{among_held}
 use Rattle.reg_search.proofs.Tops.{there_is_top}
 
 -- SQL's = on two ids
 pub same_id : (n m : ℕ) → equal Binary (Int (pos n)) (Int (pos m)) ≡ (n == m)
 same_id n m = equals_int (Int (pos n)) (pos m) ∙ same_number n m
-
-got_in : {X : Type 0} (xs : List X) (k : ℕ) (x : X) → slice_get xs k ≡ Some x → IsIn x xs
-got_in [] k x h = cc
-got_in (y ∷ xs) zero x h = let same : y ≡ x = cc h in inl same
-got_in (y ∷ xs) (suc k) x h = inr (got_in xs k x h)
 
 -- versions of which there is one have a highest
 top_found : (yanked : finset.FinSet mark_cmp) (vs : List StoredVersion) (w : StoredVersion) → IsIn w vs → (v : StoredVersion) × IsIn v vs × (top_among yanked vs ≡ Some v)
@@ -55,7 +51,7 @@ top_found yanked (z ∷ vs) w i = let t = there_is_top (marked_of yanked z) (map
     marks = map (marked_of yanked) (z ∷ vs)
 
     at : (k : ℕ) → top_place (map (marked_of yanked) (z ∷ vs)) ≡ Some k → (o : Option StoredVersion) → slice_get (z ∷ vs) k ≡ o → (v : StoredVersion) × IsIn v (z ∷ vs) × (top_among yanked (z ∷ vs) ≡ Some v)
-    at k e (Some v) got = (v, got_in (z ∷ vs) k v got, ap (option_and_then (slice_get (z ∷ vs))) e ∙ got)
+    at k e (Some v) got = (v, in_at (z ∷ vs) k v got, ap (option_and_then (slice_get (z ∷ vs))) e ∙ got)
     at k e None got =
         let is = (top_is_top (map (marked_of yanked) (z ∷ vs)) k).0 e in
         let none : Some is.0 ≡ None = sym is.1 ∙ got_map (marked_of yanked) k (z ∷ vs) ∙ ap (option_map (marked_of yanked)) got in

@@ -31,8 +31,9 @@ use Rattle.reg_search.proofs.Among.{and_false}
 use Rattle.reg_search.proofs.CrateFacts.{alone, named, paired_is, same_id, seen_is}
 use Rattle.reg_search.proofs.Instr.{canon_begins, instr_is}
 use Rattle.reg_search.proofs.Joined.{gated, has_needle, is_pair, slots}
-use Rattle.reg_search.proofs.Lists.{any_each, any_gated, any_kept, each_gate}
+use Rattle.reg_search.proofs.Lists.{any_each, any_gated, any_kept}
 use Rattle.reg_search.proofs.Texts.{counts, hidden_query, of_needle}
+use Rattle.reg_tables_meaning.proofs.Gates.{each_gate}
 
 -- a test that reads one number is asked of that number
 at_number : (p : ℕ → Bool) (m : ℕ) (ns : List ℕ) → list_any (λ n. p n && (n == m)) ns ≡ (p m && list_any (λ n. n == m) ns)

@@ -29,13 +29,14 @@ use Rattle.reg_model.proofs.Members.{IsIn}
 use Rattle.reg_tables_schema.proofs.Queries.{and_true, answers}
 use Rattle.reg_tables_meaning.proofs.AccountEntries.{heads, tails, text_is, words_are}
 use Rattle.reg_tables_meaning.proofs.CrateNames.{first_spelled}
+use Rattle.reg_tables_meaning.proofs.Gates.{each_gate}
+use Rattle.reg_tables_meaning.proofs.Selected.{same_one}
 use Rattle.reg_tables_meaning.specs.Stands.{Holds, Ids, StoredCrate, StoredVersion, row_of_crate, row_of_version}
 use Rattle.reg_tables_meaning.specs.Summaries.{row_of_summary, top_of}
 use Rattle.reg_search.specs.Rows.{columns_of_hit, columns_of_model, hit_of}
 use Rattle.reg_search.specs.declared.hit.Hit.{Hit}
 use Rattle.reg_search.proofs.CrateFacts.{alone, highest, highest_row, its_row, same_id, top_is}
 use Rattle.reg_search.proofs.Joined.{joined}
-use Rattle.reg_search.proofs.Lists.{each_gate}
 use Rattle.reg_search.proofs.Texts.{after_crate, hit_query, of_id}
 
 -- the highest version by the canonical text of its crate
@@ -55,15 +56,12 @@ same_hit m h e =
     let description = text_is _ _ (heads (tails (tails e))) in
     λ i. record { name = name i; version = version i; description = description i }
 
-only : {X : Type 0} {a b : X} → ◌≡◌ {A = List X} (a ∷ []) (b ∷ []) → a ≡ b
-only e = cc
-
 one_more : {X Y : Type 0} {a b c : X} {xs : List X} → ◌≡◌ {A = List X} (a ∷ b ∷ xs) (c ∷ []) → Y
 one_more e = absurd cc
 
 -- the last of a list with one element
 pub last_is : (front : List Hit) (h : Hit) (row : Row) → map columns_of_hit (front ++ h ∷ []) ≡ row ∷ [] → columns_of_hit h ≡ row
-last_is [] h row e = only e
+last_is [] h row e = same_one e
 last_is (k ∷ []) h row e = one_more e
 last_is (k ∷ l ∷ front) h row e = one_more e
 

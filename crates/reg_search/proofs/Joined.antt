@@ -1,6 +1,5 @@
 -- What the joins of the texts match, on any rows.
-use Rattle.std.proofs.Common.{◌≡◌, ℕ, suc, arith, pos, Bool, true, false, ◌&&◌, ◌||◌, not, cond, if◌then◌else◌, List, [], ◌∷◌, ◌++◌, length, refl, ap, ◌∙◌, append-nil}
-use Rattle.std.specs.Prelude.{min}
+use Rattle.std.proofs.Common.{◌≡◌, pos, Bool, true, false, ◌&&◌, not, cond, [], ◌∷◌, refl, ap, ◌∙◌, append-nil}
 use Rattle.std.specs.List.{filter, flat_map, list_all, list_any}
 use Rattle.sqlite.specs.Collation.TheVariants.{Binary}
 use Rattle.sqlite.specs.Ops.{binary, is_true, unary}
@@ -11,22 +10,8 @@ use Rattle.sqlite.specs.Tree.{Trees}
 use Rattle.sqlite.specs.declared.types.Value.TheVariants.{Int}
 use Rattle.sqlite_schema.specs.Rules.{equal}
 use Rattle.sqlite_sql.specs.declared.ops.BinaryOp.TheVariants.{Instr}
+use Rattle.reg_tables_meaning.proofs.Gates.{bit, counted_any}
 use Rattle.reg_search.proofs.Texts.{after_crate, counts, of_id, of_needle, on_version, read}
-
-abbrev bit : Bool → ℕ
-bit b = if b then 1 else 0
-
--- rows are counted up to the first
-counted_any : {X Y : Type 0} (p : X → Bool) (f : X → Y) (xs : List X) → min 1 (length (flat_map (λ x. cond (p x) (f x ∷ []) []) xs)) ≡ bit (list_any p xs)
-counted_any p f [] = refl
-counted_any p f (x ∷ xs) = one (p x) (counted_any p f xs)
-  where
-    one : (b : Bool) → min 1 (length (flat_map (λ x. cond (p x) (f x ∷ []) []) xs)) ≡ bit (list_any p xs) → min 1 (length (cond b (f x ∷ []) [] ++ flat_map (λ x. cond (p x) (f x ∷ []) []) xs)) ≡ bit (b || list_any p xs)
-    one true h = at_least (length (flat_map (λ x. cond (p x) (f x ∷ []) []) xs))
-      where
-        at_least : (n : ℕ) → min 1 (suc n) ≡ 1
-        at_least n = omega arith
-    one false h = h
 
 -- the slots as WHERE finds them
 abbrev pub slots : Row → Row → Row → Bool → Bool → Env

@@ -1,19 +1,10 @@
 -- Lists that are filtered, mapped and cut.
-use Rattle.std.proofs.Common.{◌≡◌, ℕ, zero, suc, Bool, true, false, ◌&&◌, ◌||◌, cond, List, [], ◌∷◌, ◌++◌, map, take, inl, inr, refl, sym, ap, ◌∙◌}
+use Rattle.std.proofs.Common.{◌≡◌, ℕ, zero, suc, Bool, true, false, ◌&&◌, ◌||◌, cond, List, [], ◌∷◌, take, refl, sym, ap, ◌∙◌}
 use Rattle.std.specs.List.{AllByRecursion, filter, flat_map, list_any}
 use Rattle.std.proofs.lemmas.List.Folds.{list_any-append}
-use Rattle.reg_model.proofs.Members.{IsIn}
 use Rattle.reg_model.proofs.Lists.{any_same}
 use Rattle.reg_tables_schema.proofs.Queries.{and_true}
 use Rattle.reg_search.proofs.Among.{and_false, none_any}
-
-pub each_gate : {A B : Type 0} (f : A → List B) (p : A → Bool) (g : A → B) (xs : List A) → ((x : A) → IsIn x xs → f x ≡ cond (p x) (g x ∷ []) []) → flat_map f xs ≡ map g (filter p xs)
-each_gate f p g [] h = refl
-each_gate f p g (x ∷ xs) h = ap (λ ys. ys ++ flat_map f xs) (h x (inl refl)) ∙ one (p x) (each_gate f p g xs (λ y i. h y (inr i)))
-  where
-    one : (b : Bool) → flat_map f xs ≡ map g (filter p xs) → cond b (g x ∷ []) [] ++ flat_map f xs ≡ map g (cond b (x ∷ filter p xs) (filter p xs))
-    one true e = ap (λ ys. g x ∷ ys) e
-    one false e = e
 
 pub any_gated : {X : Type 0} (b : Bool) (q : X → Bool) (xs : List X) → list_any (λ x. b && q x) xs ≡ (b && list_any q xs)
 any_gated true q xs = refl

@@ -1,5 +1,5 @@
--- Reads one after another.
-use Rattle.std.proofs.Common.{◌≡◌, ◌⊎◌, inl, inr, arith, IsTrue, Ok, Err, Result, OnErr, OnOk, refl, sym, subst}
+-- What reads leave of a connection, one after another.
+use Rattle.std.proofs.Common.{◌≡◌, ◌⊎◌, inl, inr, arith, IsErr, IsTrue, Ok, Err, Result, OnErr, OnOk, refl, sym, subst}
 use Rattle.sqlite_trees.specs.declared.store.Store.{Ghosts}
 use Rattle.sqlite.specs.Held.{Held, state}
 use Rattle.sqlite.specs.State.{HasCleanDisk, IsUnchanged}
@@ -21,38 +21,49 @@ module _ {S : Type 0} (g : Ghosts S) where
     survives = record { clean = omega arith; shield = λ h. h; counts = omega arith; limit = refl; closes = λ _ h. inl h; crash = λ _ db h. inl h };
   }
 
-  -- a failure is passed on
-  pub read_failed : {T U E F : Type 0} (a b : Held S) (e : E) (f : F) → IsRead {T = T} g (Err e) a b → IsRead {T = U} g (Err f) a b
-  read_failed a b e f h = record { same = λ _. tt; refused = h.refused; ours = h.ours; survives = h.survives }
+  read_then : {T U E F : Type 0} (a b c : Held S) (x : T) (r : Result U F) → IsRead {E = E} g (Ok x) a b → IsRead g r b c → IsRead g r a c
+  read_then {U} {F} a b c x r one two =
+      let early : HasCleanDisk (state g c) → HasCleanDisk (state g b) = λ clean. omega (arith, two.survives.clean, clean) in
+      record {
+        same = λ clean. on_ok r (one.same (early clean)) (two.same clean);
+        refused = λ clean. on_err r (one.same (early clean)) (two.refused clean);
+        ours = λ e at. two.ours e (one.ours e at);
+        survives = survives_then (state g a) (state g b) (state g c) (λ _. ⊥) (λ _. ⊥) (λ _. ⊥) (λ _ db none. none) (λ _ db none. none) one.survives two.survives;
+      }
+    where
+      on_ok : (r : Result U F) → IsUnchanged (state g a) (state g b) → OnOk r (IsUnchanged (state g b) (state g c)) → OnOk r (IsUnchanged (state g a) (state g c))
+      on_ok (Ok y) p q = unchanged_then (state g a) (state g b) (state g c) p q
+      on_ok (Err e) p q = tt
 
-  module _ {T E : Type 0} (a b : Held S) (x : T) (h : IsRead {E = E} g (Ok x) a b) where
-    -- what is done with what was read
-    pub read_made : {U F : Type 0} (y : U) → IsRead {E = F} g (Ok y) a b
-    read_made y = record { same = h.same; refused = λ _. tt; ours = h.ours; survives = h.survives }
+      on_err : (r : Result U F) → IsUnchanged (state g a) (state g b) → OnErr r ((c ≡ b) ⊎ Refuses (state g b) (state g c)) → OnErr r ((c ≡ a) ⊎ Refuses (state g a) (state g c))
+      on_err (Ok y) p q = tt
+      on_err (Err e) p (inl is) = inr (inl (subst (λ w. IsUnchanged (state g a) (state g w)) (sym is) p))
+      on_err (Err e) p (inr refused) = inr (refuses_after (state g a) (state g b) (state g c) p refused)
 
-    pub read_left : {U F : Type 0} (f : F) → IsRead {T = U} g (Err f) a b
-    read_left f = record { same = λ _. tt; refused = λ clean. inr (inl (h.same clean)); ours = h.ours; survives = h.survives }
+  done_then : {T U E F : Type 0} (a b : Held S) (x : T) (r : Result U F) → IsRead {E = E} g (Ok x) a b → IsRead g r a b
+  done_then a b x (Ok y) h = record { same = h.same; refused = λ _. tt; ours = h.ours; survives = h.survives }
+  done_then a b x (Err f) h = record { same = λ _. tt; refused = λ clean. inr (inl (h.same clean)); ours = h.ours; survives = h.survives }
 
-    -- what it said is true of the rows that were there before
-    pub told_before : (P : Trees → Type 0) → HasCleanDisk (state g b) → P (rows_in g b) → P (rows_in g a)
-    told_before P clean p = subst (λ d. P d.trees) (h.same clean).0.now_is p
+-- one after another
+infixl 20 ◌⨾◌
+pub ◌⨾◌ : {S T U E F : Type 0} {g : Ghosts S} {a b c : Held S} {x : T} {r : Result U F} → IsRead {E = E} g (Ok x) a b → IsRead g r b c
+    → IsRead g r a c
+one ⨾ two = read_then _ _ _ _ _ _ one two
 
-    -- one more
-    pub read_then : {U F : Type 0} (c : Held S) (r : Result U F) → IsRead g r b c → IsRead g r a c
-    read_then {U} {F} c r k =
-        let early : HasCleanDisk (state g c) → HasCleanDisk (state g b) = λ clean. omega (arith, k.survives.clean, clean) in
-        record {
-          same = λ clean. on_ok r (h.same (early clean)) (k.same clean);
-          refused = λ clean. on_err r (h.same (early clean)) (k.refused clean);
-          ours = λ e at. k.ours e (h.ours e at);
-          survives = survives_then (state g a) (state g b) (state g c) (λ _. ⊥) (λ _. ⊥) (λ _. ⊥) (λ _ db none. none) (λ _ db none. none) h.survives k.survives;
-        }
-      where
-        on_ok : (r : Result U F) → IsUnchanged (state g a) (state g b) → OnOk r (IsUnchanged (state g b) (state g c)) → OnOk r (IsUnchanged (state g a) (state g c))
-        on_ok (Ok y) p q = unchanged_then (state g a) (state g b) (state g c) p q
-        on_ok (Err e) p q = tt
+-- whatever is answered once they are done
+pub so_far : {S T U E F : Type 0} {g : Ghosts S} {a b : Held S} {x : T} {r : Result U F} → IsRead {E = E} g (Ok x) a b → IsRead g r a b
+so_far h = done_then _ _ _ _ _ h
 
-        on_err : (r : Result U F) → IsUnchanged (state g a) (state g b) → OnErr r ((c ≡ b) ⊎ Refuses (state g b) (state g c)) → OnErr r ((c ≡ a) ⊎ Refuses (state g a) (state g c))
-        on_err (Ok y) p q = tt
-        on_err (Err e) p (inl is) = inr (inl (subst (λ w. IsUnchanged (state g a) (state g w)) (sym is) p))
-        on_err (Err e) p (inr refused) = inr (refuses_after (state g a) (state g b) (state g c) p refused)
+-- a fault of the last one is passed on
+pub fails : {S T U E F : Type 0} {g : Ghosts S} {a b : Held S} {e : E} (r : Result U F) → IsErr r → IsRead {T = T} g (Err e) a b → IsRead g r a b
+fails (Ok y) is h = absurd cc
+fails (Err f) is h = record { same = λ _. tt; refused = h.refused; ours = h.ours; survives = h.survives }
+
+-- a disk that is clean after them was so before
+pub was_clean : {S T E : Type 0} {g : Ghosts S} {a b : Held S} {r : Result T E} → IsRead g r a b → HasCleanDisk (state g b) → HasCleanDisk (state g a)
+was_clean h clean = omega (arith, h.survives.clean, clean)
+
+-- what is true of the rows after them was so before
+pub told_before : {S T E : Type 0} {g : Ghosts S} {a b : Held S} {x : T} (P : Trees → Type 0) → IsRead {E = E} g (Ok x) a b
+    → HasCleanDisk (state g b) → P (rows_in g b) → P (rows_in g a)
+told_before P h clean is = subst (λ d. P d.trees) (h.same clean).0.now_is is

@@ -1,13 +1,11 @@
 -- What one call of a transaction leaves of it.
-use Rattle.std.proofs.Common.{◌≡◌, ◌∙◌, inl, true, false, Ok, Err, ap, arith, refl}
-use Rattle.sqlite.specs.Effect.{Database}
+use Rattle.std.proofs.Common.{◌≡◌, inl, true, false, Ok, Err, arith, refl}
 use Rattle.sqlite.specs.Held.{Held, state}
-use Rattle.sqlite.specs.State.{HasCleanDisk, IsUnchanged}
+use Rattle.sqlite.specs.State.{HasCleanDisk}
 use Rattle.sqlite_trees.specs.declared.store.Store.{Ghosts}
-use Rattle.reg_tables_schema.proofs.MakeLemmas.{refused_keeps}
-use Rattle.reg_tables_schema.specs.States.{Refuses}
+use Rattle.reg_tables_meaning.proofs.Withins.{refused_fails, unchanged_within}
 use Rattle.reg_tables_schema.specs.Statements.{IsReading}
-use Rattle.reg_tables_schema.specs.Steps.{Fails, LeavesSame, LeavesWithin, Within}
+use Rattle.reg_tables_schema.specs.Steps.{LeavesSame, LeavesWithin}
 use Rattle.reg_tables.specs.Works.{IsAtWork, IsCall, has_failed, seen}
 use Rattle.reg_tables.specs.declared.work.Work.{Work}
 
@@ -49,24 +47,11 @@ module _ {S : Type 0} (g : Ghosts S) (old : Work S) (at : IsAtWork g old) where
     }
 
     -- a call that only reads
-    unchanged_within : HasCleanDisk (seen g old) → has_failed old ≡ false → IsUnchanged (seen g old) (state g conn) → Within (seen g old) (state g conn)
-    unchanged_within early on same =
-        let it = at.ready on early in
-        record {
-          was_open = same.0.was_open;
-          committed = same.0.committed_is;
-          inside = record { schema_is = ap (λ (d : Database). d.schema) same.0.now_is ∙ it.schema_is; is_open = same.0.is_open; inside = same.0.mode ∙ it.inside };
-          back = λ e gone clean up. ap (λ (d : Database). d.schema) same.0.committed_is ∙ gone early same.0.was_open;
-        }
-
-    refused_fails : HasCleanDisk (seen g old) → Refuses (seen g old) (state g conn) → Fails (seen g old) (state g conn)
-    refused_fails early h =
-        let k = refused_keeps (seen g old) (state g conn) h in
-        record { kept = k; back = λ e gone clean up. ap (λ (d : Database). d.schema) (k.committed up) ∙ gone early (k.was_open up) }
-
     pub read_on : {T U E F : Type 0} (x : T) (y : U) → has_failed old ≡ false → LeavesSame {E = E} (seen g old) (state g conn) (Ok x) → IsCall {E = F} g (Ok y) old (after old conn)
     read_on {E} x y on h = went_on {E = E} x y on (record {
-      within = λ clean. unchanged_within (omega (arith, clean, h.survives.clean)) on (h.only clean).0;
+      within = λ clean.
+          let early : HasCleanDisk (seen g old) = omega (arith, clean, h.survives.clean) in
+          unchanged_within (seen g old) (state g conn) early (at.ready on early) (h.only clean).0;
       fails = λ clean. tt;
       survives = h.survives;
     })
@@ -74,7 +59,7 @@ module _ {S : Type 0} (g : Ghosts S) (old : Work S) (at : IsAtWork g old) where
     pub read_wrong : {T U E F : Type 0} (e : E) (f : F) → LeavesSame {T = T} (seen g old) (state g conn) (Err e) → IsCall {T = U} g (Err f) old (ended old conn)
     read_wrong {T} e f h = went_wrong {T = T} e f (record {
       within = λ clean. tt;
-      fails = λ clean. refused_fails (omega (arith, clean, h.survives.clean)) (h.only clean).1;
+      fails = λ clean. refused_fails (seen g old) (state g conn) (omega (arith, clean, h.survives.clean)) (h.only clean).1;
       survives = h.survives;
     })
 

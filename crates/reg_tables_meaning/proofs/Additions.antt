@@ -1,39 +1,14 @@
 -- Rows that are added to two tables, one after another.
-use Rattle.std.proofs.Common.{◌≡◌, ◌≢◌, ℕ, List, ◌∷◌, false, Option, Result, Ok, Err, OnErr, sym, ap, subst, ◌∙◌}
-use Rattle.std.specs.List.Sorted.{IsPermutation}
-use Rattle.sqlite.specs.Effect.{Database}
-use Rattle.sqlite.specs.Order.{Row}
-use Rattle.sqlite.specs.State.{State, HasCleanDisk}
+use Rattle.reg_tables_meaning.proofs.Common.{◌≡◌, ◌≢◌, ◌∷◌, ◌∙◌, Adds, AddsColumns, ap, canon, Database, false, Int, is_taken, IsPermutation, KeepsOthers, List, Option, owner_columns, Publication, put_permutes, put_row, release_key_of, Row, State, subst, sym, Text, Trees, version_row, ℕ}
 use Rattle.sqlite.specs.Table.{Table}
-use Rattle.sqlite.specs.Tree.{Trees}
-use Rattle.sqlite.specs.declared.types.Value.TheVariants.{Int}
-use Rattle.sqlite_rules.specs.Edit.{is_taken}
-use Rattle.sqlite_trees.specs.Tree.{put_row}
 use Rattle.sqlite_trees.proofs.ListLemmas.{all_both}
-use Rattle.reg_names.specs.Names.{canon}
-use Rattle.reg_versions.specs.Versions.{release_key_of}
-use Rattle.reg_model.specs.Registry.{Text, Publication}
 use Rattle.reg_tables_schema.specs.Schema.{our_tables}
-use Rattle.reg_tables_schema.specs.States.{IsInside}
-use Rattle.reg_tables_schema.specs.Changes.{KeepsOthers, Adds, AddsColumns}
 use Rattle.reg_tables_meaning.specs.Additions.{KeepsAllBut, AddsCrate, AddsVersion}
 use Rattle.reg_tables_sql.specs.Crates.{crate_row}
-use Rattle.reg_tables_sql.specs.Owners.{owner_columns}
-use Rattle.reg_tables_sql.specs.Versions.{version_row}
 use Rattle.reg_tables_sql.specs.Archives.{archive_row}
 use Rattle.reg_tables_schema.specs.Greatest.{IsGreatest, row_of_id}
 use Rattle.reg_tables_meaning.specs.Ids.{IsNext}
-use Rattle.reg_tables_schema.specs.Steps.{Within}
-use Rattle.reg_tables_schema.proofs.Permutes.{put_permutes}
-use Rattle.reg_tables_meaning.proofs.Withins.{become_within}
 use Rattle.reg_tables_meaning.proofs.Stays.{same_crates, same_owners, same_versions, same_archives}
-
-pub on_err : {T E : Type 0} (r : Result T E) (P : Type 0) → P → OnErr r P
-on_err (Ok x) P h = tt
-on_err (Err e) P h = h
-
-pub adds_within : (old new : State) (tree : ℕ) (row : Row) → HasCleanDisk old → IsInside old → Adds tree row old new → Within old new
-adds_within old new tree row clean at adds = become_within old new tree (put_row row (old.now.trees tree)) clean at adds.becomes
 
 keeps_both : (one other : ℕ) (old mid new : Trees) → KeepsOthers one old mid → KeepsOthers other mid new → KeepsAllBut one other old new
 keeps_both one other old mid new first next =

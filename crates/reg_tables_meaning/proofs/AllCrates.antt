@@ -5,37 +5,24 @@ use Rattle.std.specs.FinSet as finset
 use Rattle.std.specs.List.{filter, find, list_any, AllByRecursion, IsDistinct}
 use Rattle.std.specs.List.Sorted.{IsStrictlySortedBy}
 use Rattle.std.specs.Ordering.{is_gt, is_eq, on}
-use Rattle.std.specs.Option.{option_map}
-use Rattle.std.specs.Str.{bytes_eq}
-use Rattle.std.proofs.lemmas.List.Sorted.{IsPermutation-trans, IsPermutation-sym, list_any-IsPermutation}
+use Rattle.reg_tables_meaning.proofs.Common.{by_column, bytes_eq, canon, collides, is_eq-slice_cmp, IsAscending, IsInOrder, IsPermutation-sym, IsPermutation-trans, list_any-IsPermutation, list_any_map, maps_twice, nat_list_eq_equiv, option_map, shows, Trees, value_cmp}
 use Rattle.std.proofs.lemmas.Map.Keys.{IsDistinct-IsPermutation}
-use Rattle.std.proofs.lemmas.Map.Text.{is_eq-slice_cmp}
 use Rattle.sqlite.specs.declared.types.Value.TheVariants.{Text}
-use Rattle.sqlite.specs.Order.{value_cmp}
-use Rattle.sqlite.specs.Tree.{Trees}
 use Rattle.sqlite_exec.proofs.PartitionLemmas.{ascending_from_sorted}
-use Rattle.sqlite_trees.specs.Tree.{IsAscending}
 use Rattle.sqlite_trees.proofs.ListLemmas.{ascending_from_map, pull_back}
 use Rattle.sqlite_value.proofs.OrderLemmas.{value_cmp-Text}
-use Rattle.reg_names.specs.Names.{canon}
 use Rattle.reg_model.specs.Registry.{Text as Words, Publication, text_cmp, mark_cmp}
-use Rattle.reg_model.specs.Crates.{collides}
-use Rattle.reg_model.proofs.Lists.{list_any_map}
-use Rattle.reg_tables_schema.specs.Rows.{IsInOrder, by_column}
-use Rattle.reg_tables_schema.proofs.Queries.{maps_twice}
 use Rattle.reg_tables_sql.specs.declared.crates.Crate.{Crate}
 use Rattle.reg_tables_sql.specs.Crates.{crate_columns}
 use Rattle.reg_tables_meaning.specs.Entries.{entry_of_crate}
 use Rattle.reg_tables_meaning.specs.Stands.{StoredCrate, row_of_crate, StandCrates, Ids, spelling_at}
-use Rattle.reg_tables_schema.specs.Tests.{shows}
 use Rattle.reg_tables_meaning.proofs.CrateCounts.{crate_has}
-use Rattle.std.specs.Cmp.Lexicographic.{nat_list_eq_equiv}
 use Rattle.reg_tables_meaning.proofs.CrateLemmas.{same_bytes, bytes_same}
 use Rattle.reg_tables_meaning.proofs.CrateNames.{same_shown, crate_first, crate_spelled}
 use Rattle.reg_model.proofs.Members.{IsIn, in_each, in_map, in_permuted, one_passes}
 use Rattle.reg_tables_meaning.proofs.Selected.{column_total, each}
 
-rises : (o : Ordering) → is_gt o ≡ false → is_eq o ≡ false → o ≡ Less
+pub rises : (o : Ordering) → is_gt o ≡ false → is_eq o ≡ false → o ≡ Less
 rises Less g e = refl
 rises Equal g e = absurd cc
 rises Greater g e = absurd cc

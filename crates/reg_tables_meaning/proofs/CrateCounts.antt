@@ -3,31 +3,22 @@ use Rattle.std.proofs.Common.{◌≡◌, ◌+◌, ◌==◌, ℕ, suc, pos, min, 
 use Rattle.std.specs.FinSet as finset
 use Rattle.std.specs.List.{list_any, enumerate_from, IsDistinct}
 use Rattle.std.specs.List.Sorted.{IsPermutation, IsStrictlySortedBy}
-use Rattle.std.specs.Ordering.{on, eq_by_cmp, nat_cmp}
-use Rattle.std.specs.Str.{bytes_eq}
+use Rattle.reg_tables_meaning.proofs.Common.{all_in, any_in, any_same, bytes_eq, canon, each_in, eq_by_cmp, in_any, Int, is_eq-slice_cmp, list_any_map, nat_cmp, nat_list_eq_equiv, none_in, on, Row, Trees}
 use Rattle.std.specs.Cmp.Lexicographic.{nat_list_cmp_total}
 use Rattle.std.proofs.lemmas.Bool.{and_parts, leb-true}
 use Rattle.std.proofs.lemmas.List.{length-map}
 use Rattle.std.proofs.lemmas.List.Sorted.{length_permutation}
-use Rattle.std.proofs.lemmas.Map.Text.{is_eq-slice_cmp}
-use Rattle.sqlite.specs.declared.types.Value.TheVariants.{Int}
-use Rattle.sqlite.specs.Order.{Row}
-use Rattle.sqlite.specs.Tree.{Trees}
-use Rattle.reg_names.specs.Names.{canon}
 use Rattle.reg_model.specs.Registry.{Text as Words, Publication, text_cmp, mark_cmp}
 use Rattle.reg_model.proofs.Keys.{text_apart}
-use Rattle.reg_model.proofs.Lists.{any_same, list_any_map}
 use Rattle.reg_tables_schema.specs.Rows.{capped}
 use Rattle.reg_tables_sql.specs.Counts.{IsLastId}
 use Rattle.reg_tables_meaning.specs.Changes.{next_crate}
 use Rattle.reg_tables_meaning.specs.Ids.{IsNext}
 use Rattle.reg_tables_meaning.specs.Stands.{StoredCrate, StoredVersion, is_of, next_of, row_of_crate, StandCrates, Ids}
 use Rattle.reg_tables_meaning.proofs.AccountEntries.{number_is}
-use Rattle.std.specs.Cmp.Lexicographic.{nat_list_eq_equiv}
 use Rattle.reg_tables_meaning.proofs.CrateLemmas.{same_bytes, bytes_same, crate_of}
 use Rattle.reg_tables_meaning.proofs.Rising.{next_as}
 use Rattle.reg_tables_meaning.proofs.VersionEntries.{less_is}
-use Rattle.reg_model.proofs.Members.{any_in, in_any, none_in, all_in, each_in}
 
 pub count_is : {X : Type 0} (row : X → Row) (xs : List X) (rows : List Row) (n m : ℕ) → (n ≡ m) × (n < 9223372036854775807) → IsPermutation (map row xs) rows → Int (pos m) ≡ capped (length rows) → n ≡ length xs
 count_is row xs rows n m is h e =

@@ -1,31 +1,19 @@
 -- What the stored crates and versions say of one another.
 use Rattle.std.proofs.lemmas.Map.Keys.{IsDistinct-from_sorted}
-use Rattle.std.specs.Option.{option_map}
+use Rattle.reg_tables_meaning.proofs.Common.{[], ◌++◌, ◌<◌, ◌==◌, ◌||◌, ◌∙◌, ◌∷◌, ◌≡◌, any_same, ap, arith, Bool, bytes_eq, canon, collides, cond, eq_by_cmp, false, has_rowid, inl, inr, is_eq, List, list_any_map, map, nat_cmp, nat_eq, nat_list_eq_equiv, None, not_true, on, one_row, option_map, pos, refl, Row, slice_get, Some, subst, sym, Trees, true, true_not_false, ℕ}
 use Rattle.sqlite_keyed.proofs.ListLemmas.{slice_get-filter}
 use Rattle.std.proofs.lemmas.Bool.Decides.{nat_tests}
-use Rattle.std.proofs.Common.{◌≡◌, ◌==◌, ℕ, ◌<◌, pos, List, [], ◌∷◌, ◌++◌, map, Bool, true, false, inl, refl, sym, ap, subst, ◌∙◌, arith, Some, None, cond, inr}
-use Rattle.std.specs.Prelude.{nat_eq, ◌||◌, slice_get}
 use Rattle.std.specs.List.{list_any, IsDistinct, find}
 use Rattle.std.specs.List.Sorted.{IsPermutation, IsStrictlySortedBy}
-use Rattle.std.specs.Ordering.{on, eq_by_cmp, nat_cmp, is_eq}
 use Rattle.std.specs.Cmp.{nat_eq_equiv}
-use Rattle.std.specs.Cmp.Lexicographic.{nat_list_eq_equiv}
-use Rattle.std.specs.Str.{bytes_eq}
 use Rattle.std.specs.FinSet as finset
 use Rattle.std.proofs.lemmas.Bool.{and_parts, eq-eqb, eqb-true, ne_eqb}
 use Rattle.std.proofs.lemmas.List.Sorted.{IsPermutation-cons, IsPermutation-map, IsPermutation-sym, IsPermutation-to_front, IsPermutation-trans, list_any-IsPermutation}
 use Rattle.std.proofs.lemmas.Slice.Eq.{bytes_eq-Decides}
-use Rattle.sqlite.specs.Order.{Row}
-use Rattle.sqlite.specs.Tree.{Trees}
-use Rattle.sqlite_trees.specs.Tree.{has_rowid}
-use Rattle.reg_names.specs.Names.{canon}
 use Rattle.reg_model.specs.Registry.{Text, Publication, Owner, owner_cmp, mark_cmp}
-use Rattle.reg_model.specs.Crates.{collides}
 use Rattle.reg_model.proofs.Keys.{owner_total, owner_apart, same_key, ties_itself}
-use Rattle.reg_model.proofs.Lists.{not_true, true_not_false, any_same, list_any_map}
 use Rattle.reg_tables_meaning.specs.Stands.{StoredCrate, StoredVersion, row_of_crate, StandCrates, IsCrate, is_of, Ids, spelling_at}
 use Rattle.reg_model.proofs.Members.{IsIn, any_in, all_in, in_filter, in_map, in_permuted, map_in, one_of, one_passes, in_any, distinct_from_map}
-use Rattle.reg_tables_schema.proofs.Permutes.{one_row}
 use Rattle.reg_tables_meaning.proofs.Standing.{same_number}
 
 -- SQL's numbers in an order, as their equality

@@ -1,24 +1,15 @@
 -- The crate of a canonical name, as a selection shows it.
-use Rattle.std.proofs.Common.{◌≡◌, inl, inr, List, [], ◌∷◌, map, Bool, true, false, cond, Option, Some, None, refl, sym, ap, subst, ◌∙◌}
+use Rattle.reg_tables_meaning.proofs.Common.{◌≡◌, [], ◌∷◌, ◌∙◌, ap, Bool, bytes_eq, canon, collides, cond, false, filter, filtered_passes, find, in_filter, inl, inr, IsIn, List, map, None, not_true, Option, option_map, refl, shown_of, Some, subst, sym, Trees, true, true_not_false}
 use Rattle.std.specs.Prelude.{IfSome, string_bytes}
-use Rattle.std.specs.Option.{option_map}
 use Rattle.std.specs.FinSet as finset
-use Rattle.std.specs.List.{filter, find}
-use Rattle.std.specs.Str.{bytes_eq}
-use Rattle.sqlite.specs.Tree.{Trees}
-use Rattle.reg_names.specs.Names.{canon}
 use Rattle.reg_model.specs.Registry.{Text as Words, Publication, mark_cmp}
-use Rattle.reg_model.specs.Crates.{collides}
-use Rattle.reg_model.proofs.Lists.{true_not_false, not_true}
 use Rattle.reg_tables_sql.specs.declared.crates.Crate.{Crate}
 use Rattle.reg_tables_sql.specs.Crates.{crate_columns}
 use Rattle.reg_tables_meaning.specs.Entries.{one_of, entry_of_crate}
-use Rattle.reg_tables_schema.specs.Shown.{shown_of}
 use Rattle.reg_tables_meaning.specs.Stands.{StoredCrate, StoredVersion, row_of_crate, StandCrates, Ids, spelling_at}
 use Rattle.reg_tables_schema.specs.Tests.{is_text, shows}
 use Rattle.reg_tables_meaning.proofs.AccountEntries.{same_text, number_is, words_are, heads, tails}
 use Rattle.reg_tables_meaning.proofs.CrateLemmas.{same_bytes, bytes_same, crate_of, one_by_canon, spelled_at, version_of}
-use Rattle.reg_model.proofs.Members.{IsIn, filtered_passes, in_filter}
 use Rattle.reg_tables_meaning.proofs.Selected.{selected_one}
 
 pub kept : {X : Type 0} (p : X → Bool) (xs : List X) (x : X) → IsIn x xs → p x ≡ true → IsIn x (filter p xs)
@@ -34,14 +25,17 @@ kept p (y ∷ ys) x i e = split (p y) refl i (λ j. kept p ys x j e)
 pub same_shown : (c : StoredCrate) (o : Crate) → shows (0 ∷ 2 ∷ 3 ∷ []) (row_of_crate c) ≡ crate_columns o → c ≡ entry_of_crate o
 same_shown c o h = let id = number_is (heads h) in let name = words_are (heads (tails (tails h))) in λ i. (id i, name i)
 
-abbrev first_of : List Publication → Words → Option Words
+abbrev pub first_of : List Publication → Words → Option Words
 first_of ps n = option_map (λ p. p.name) (find (λ p. collides p.name n) ps)
 
-none_first : (n : Words) (vs : List StoredVersion) → ((v : StoredVersion) → IsIn v vs → collides v.publication.name n ≡ false) → first_of (map (λ v. v.publication) vs) n ≡ None
+pub none_first : (n : Words) (vs : List StoredVersion) → ((v : StoredVersion) → IsIn v vs → collides v.publication.name n ≡ false)
+    → first_of (map (λ v. v.publication) vs) n ≡ None
 none_first n [] h = refl
 none_first n (v ∷ vs) h = rw (h v (inl refl)) (none_first n vs (λ w i. h w (inr i)))
 
-some_first : (n name : Words) (vs : List StoredVersion) → ((v : StoredVersion) → IsIn v vs → collides v.publication.name n ≡ true → v.publication.name ≡ name) → (v : StoredVersion) → IsIn v vs → collides v.publication.name n ≡ true
+pub some_first : (n name : Words) (vs : List StoredVersion)
+    → ((v : StoredVersion) → IsIn v vs → collides v.publication.name n ≡ true → v.publication.name ≡ name) → (v : StoredVersion) → IsIn v vs
+    → collides v.publication.name n ≡ true
     → first_of (map (λ v. v.publication) vs) n ≡ Some name
 some_first n name [] h v i met = absurd i
 some_first n name (w ∷ vs) h v i met = split (collides w.publication.name n) refl (λ j. some_first n name vs (λ u k. h u (inr k)) v j met)
@@ -54,10 +48,10 @@ some_first n name (w ∷ vs) h v i met = split (collides w.publication.name n) r
     split true e rest = rw e (ap Some (h w (inl refl) e))
     split false e rest = rw e (rest (later e i))
 
-module _ (ids : Ids) (ps : List Publication) (yanked : finset.FinSet mark_cmp) (db : Trees) (h : StandCrates ids ps yanked db) where
-  abbrev named : Words → StoredCrate → Bool
-  named c x = bytes_eq (canon x.1) c
+abbrev pub named : Words → StoredCrate → Bool
+named c x = bytes_eq (canon x.1) c
 
+module _ (ids : Ids) (ps : List Publication) (yanked : finset.FinSet mark_cmp) (db : Trees) (h : StandCrates ids ps yanked db) where
   -- the crate that is shown under a canonical text
   pub shown_crate : (c : Words) (found : Option Crate) → map (shows (0 ∷ 2 ∷ 3 ∷ [])) (filter (is_text 2 c) (db 7)) ≡ shown_of crate_columns found → filter (named c) ids.crates ≡ one_of (option_map entry_of_crate found)
   shown_crate c found e =

@@ -1,20 +1,9 @@
 -- The whole registry after a change of its crates.
-use Rattle.reg_tables_sql.specs.Owners.{owner_columns}
-use Rattle.sqlite.specs.declared.types.Value.TheVariants.{Int}
-use Rattle.sqlite_trees.specs.Tree.{put_row}
+use Rattle.reg_tables_meaning.proofs.Common.{bytes_eq, canon, drop, eq-eqb, filter, in_filter, Int, IsIn, IsPermutation, mark_cmp, owner_cmp, owner_columns, Publication, put_row, Registry, release_key_of, State, Text, Trees}
 use Rattle.reg_tables_meaning.specs.Changes.{next_crate, ids_with_crate, ids_with_version, if_there, mark_at, with_mark}
 use Rattle.std.proofs.Common.{◌≢◌, refl, sym, ◌≡◌, ◌==◌, not, ℕ, List, [], ◌∷◌, ◌++◌, map, Bool, true, false, cond, Option, ap, subst, ◌∙◌, Some, sym, None, is_some}
-use Rattle.std.specs.Prelude.{drop}
-use Rattle.std.specs.List.{filter}
-use Rattle.std.specs.List.Sorted.{IsPermutation}
 use Rattle.std.specs.FinSet as finset
-use Rattle.std.specs.Str.{bytes_eq}
-use Rattle.sqlite.specs.State.{State}
-use Rattle.sqlite.specs.Tree.{Trees}
-use Rattle.reg_names.specs.Names.{canon}
-use Rattle.reg_versions.specs.Versions.{release_key_of}
 use Rattle.reg_tables_schema.specs.Changes.{KeepsOthers, Replaces}
-use Rattle.reg_model.specs.Registry.{Text, Publication, Registry, owner_cmp, mark_cmp}
 use Rattle.reg_model.specs.Crates.{exists}
 use Rattle.reg_model.specs.Sound.{Sound, has_version}
 use Rattle.reg_model.proofs.Lists.{none_both, not_true, true_not_false}
@@ -31,8 +20,6 @@ use Rattle.reg_tables_meaning.specs.SummaryChanges.{AddsSummary, IsMarkChange, P
 use Rattle.reg_tables_meaning.specs.Marking.{IsOtherwise, id_unless}
 use Rattle.reg_tables_meaning.proofs.Marking.{no_id, one_id, unless_none, unless_some}
 use Rattle.reg_tables_meaning.proofs.CrateNames.{kept}
-use Rattle.reg_model.proofs.Members.{IsIn, in_filter}
-use Rattle.std.proofs.lemmas.Bool.{eq-eqb}
 use Rattle.reg_tables_meaning.proofs.Yanks.{IsTarget, mark_is, mark_kept, marks, marks_again, target, row_found, yanks, no_such_version, no_version}
 
 -- the tables that are not of crates have the rows that they had

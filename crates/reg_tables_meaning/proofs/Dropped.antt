@@ -1,29 +1,17 @@
 -- Rows of a table without a key, whose rowids SQL chose: what a selection in order shows of their columns.
 use Rattle.std.proofs.Common.{◌≡◌, List, [], ◌∷◌, map, Less, refl, ap, ap₂, subst, ◌∙◌}
-use Rattle.std.specs.Prelude.{drop}
-use Rattle.std.specs.List.{AllByRecursion}
+use Rattle.reg_tables_meaning.proofs.Common.{AllByRecursion, drop, IsAscending, IsPermutation-map, IsPermutation-trans, Row, shows, value_cmp}
 use Rattle.std.specs.List.Sorted.{IsPermutation, IsSorted}
 use Rattle.std.specs.Ordering.{ordering_then}
 use Rattle.std.specs.Cmp.{IsTotalOrder}
 use Rattle.std.specs.declared.cmp.Ordering.{Ordering}
-use Rattle.std.proofs.lemmas.List.Sorted.{IsPermutation-map, IsPermutation-trans}
-use Rattle.sqlite.specs.Order.{Row, column, value_cmp}
 use Rattle.sqlite_exec.proofs.RowsLemmas.{IsSorted-map}
 use Rattle.sqlite_keyed.proofs.SortLemmas.{sorted_unique}
-use Rattle.sqlite_trees.specs.Tree.{IsAscending}
 use Rattle.reg_tables_schema.specs.Rows.{IsInOrder, by_column, by_columns}
-use Rattle.reg_tables_schema.specs.Tests.{shows}
+use Rattle.reg_tables_meaning.proofs.Rowids.{first_column, second_column}
 
 abbrev without_id : Row → Row
 without_id r = drop 1 r
-
-pub first_column : (r : Row) → column r 1 ≡ column (drop 1 r) 0
-first_column [] = refl
-first_column (v ∷ r) = refl
-
-second_column : (r : Row) → column r 2 ≡ column (drop 1 r) 1
-second_column [] = refl
-second_column (v ∷ r) = refl
 
 five_columns : (r : Row) → shows (1 ∷ 2 ∷ 3 ∷ 4 ∷ 5 ∷ []) r ≡ shows (0 ∷ 1 ∷ 2 ∷ 3 ∷ 4 ∷ []) (drop 1 r)
 five_columns [] = refl

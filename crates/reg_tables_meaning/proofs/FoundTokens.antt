@@ -1,60 +1,34 @@
 -- A token that is found by its digest.
 use Rattle.std.proofs.Common.{◌≡◌, ℕ, suc, ◌+◌, ◌≤◌, pos, List, [], ◌∷◌, ◌++◌, map, length, Bool, true, false, cond, is_some, Option, Some, None, arith, refl, sym, ap, subst, ◌∙◌}
-use Rattle.std.specs.Option.{option_map}
+use Rattle.reg_tables_meaning.proofs.Common.{and_parts, bytes_eq, filter_map, is_eq, is_eq-slice_cmp, IsPermutation, IsPermutation-filter, one_row, option_map, Row, shown_of, Trees, value_cmp}
 use Rattle.std.specs.List.{AllByRecursion, enumerate_from, filter, flat_map, list_all}
-use Rattle.std.specs.List.Sorted.{IsPermutation}
-use Rattle.std.specs.Ordering.{is_eq}
-use Rattle.std.specs.Str.{bytes_eq}
-use Rattle.std.proofs.lemmas.Bool.{and_parts}
 use Rattle.std.proofs.lemmas.Slice.Eq.{bytes_eq-Decides}
 use Rattle.std.proofs.lemmas.List.{length-append}
 use Rattle.std.proofs.lemmas.List.Sorted.{All-permutation}
 use Rattle.std.proofs.lemmas.List.Elements.{All-from_recursion, recursion_from_All}
-use Rattle.std.proofs.lemmas.Map.Text.{is_eq-slice_cmp}
-use Rattle.sqlite.specs.declared.types.Value.{Value}
-use Rattle.sqlite.specs.declared.types.Value.TheVariants.{Int, Text, Blob}
-use Rattle.sqlite.specs.Order.{Row, value_cmp}
-use Rattle.sqlite.specs.Tree.{Trees}
+use Rattle.sqlite.specs.declared.types.Value.TheVariants.{Int, Blob}
 use Rattle.sqlite_value.proofs.OrderLemmas.{value_cmp-Blob}
-use Rattle.sqlite_trees.proofs.ListLemmas.{IsPermutation-filter}
 use Rattle.reg_model.specs.Registry as model
 use Rattle.reg_model.specs.Sound.{Sound, is_token}
 use Rattle.reg_tables_schema.proofs.Queries.{equals_int, same_filter}
 use Rattle.reg_tables_sql.specs.declared.tokens.TokenRow.{TokenRow}
 use Rattle.reg_tables_meaning.specs.FoundTokens.{IsAccountOf, IsRow, login_and_mark, with_digest}
-use Rattle.reg_tables_schema.specs.Shown.{shown_of}
 use Rattle.reg_tables_meaning.specs.Stands.{row_of_account, row_of_token, Ids, StandsBy}
 use Rattle.reg_tables_schema.specs.Tests.{is_blob}
 use Rattle.reg_tables_sql.specs.Tokens.{columns_with_account}
 use Rattle.reg_tables_sql.specs.Tokens.{is_of_token, token_and_account, tokens_with_accounts}
-use Rattle.reg_tables_meaning.proofs.AccountEntries.{mark_is}
+use Rattle.reg_tables_meaning.proofs.AccountEntries.{mark_is, heads, tails, number_is, words_are}
 use Rattle.reg_tables_meaning.proofs.Numbered.{one_at, found_at, none_numbered, one_found}
-use Rattle.reg_tables_schema.proofs.Permutes.{filter_map, one_row}
-use Rattle.reg_tables_meaning.proofs.Selected.{short_same, shown_short}
+use Rattle.reg_tables_meaning.proofs.Selected.{short_same, shown_short, same_one}
 use Rattle.reg_tables_meaning.proofs.Standing.{same_number}
 
-heads : {a b : Value} {xs ys : Row} → ◌≡◌ {A = Row} (a ∷ xs) (b ∷ ys) → a ≡ b
-heads e = cc
-
-tails : {a b : Value} {xs ys : Row} → ◌≡◌ {A = Row} (a ∷ xs) (b ∷ ys) → xs ≡ ys
-tails e = cc
-
-number_is : {n m : ℕ} → Int (pos n) ≡ Int (pos m) → n ≡ m
-number_is e = cc
-
-words_are : {t u : List ℕ} → Text t ≡ Text u → t ≡ u
-words_are e = cc
-
-only : {a b : Row} → ◌≡◌ {A = List Row} (a ∷ []) (b ∷ []) → a ≡ b
-only e = cc
-
-same_bytes : (t u : List ℕ) → is_eq (value_cmp (Blob t) (Blob u)) ≡ bytes_eq t u
+pub same_bytes : (t u : List ℕ) → is_eq (value_cmp (Blob t) (Blob u)) ≡ bytes_eq t u
 same_bytes t u = ap is_eq (value_cmp-Blob t u) ∙ is_eq-slice_cmp t u
 
 bytes_are : (t u : List ℕ) → bytes_eq t u ≡ true → t ≡ u
 bytes_are t u h = (bytes_eq-Decides t u).0 h
 
-the_some : {X : Type 0} (o : Option X) → is_some o ≡ true → (x : X) × (o ≡ Some x)
+pub the_some : {X : Type 0} (o : Option X) → is_some o ≡ true → (x : X) × (o ≡ Some x)
 the_some None h = absurd cc
 the_some (Some x) h = (x, refl)
 
@@ -136,7 +110,7 @@ module _ (ids : Ids) (s : model.Registry) (db : Trees) (stands : StandsBy ids s 
       none_left n h = absurd (omega (arith, h))
   read (e ∷ []) is h (Some r) shown =
       let a = the_some _ h.0.1 in
-      same_row e a.0 r h.0.0 a.1 (only (sym (ap (λ rs. rs ++ []) (with_account e a.0 a.1)) ∙ shown)) is
+      same_row e a.0 r h.0.0 a.1 (same_one (sym (ap (λ rs. rs ++ []) (with_account e a.0 a.1)) ∙ shown)) is
   read (e ∷ d ∷ es) is h (Some r) shown =
       let many = as_many accounts_of (map row_of_token (e ∷ d ∷ es)) (one_each (e ∷ d ∷ es) h) in
       absurd (too_many (length (map row_of_token es)) (sym many ∙ ap length shown))

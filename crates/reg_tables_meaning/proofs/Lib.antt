@@ -2,6 +2,7 @@ pub mod AccountEntries
 mod Additions
 pub mod AllCrates
 pub mod ArchiveEntries
+mod Common
 mod CrateChanges
 pub mod CrateCounts
 pub mod CrateLemmas
@@ -16,6 +17,7 @@ pub mod NextId
 mod Marking
 pub mod MarkedStand
 pub mod Numbered
+pub mod Gates
 mod PairsStand
 pub mod PairChanges
 pub mod PairEntries
@@ -36,7 +38,7 @@ pub mod SummaryRows
 pub mod SummaryLaws
 mod SummaryFound
 mod SummaryMarked
-mod SummaryPushed
+pub mod SummaryPushed
 mod SummarySteps
 mod SummaryChanges
 mod SummaryTops

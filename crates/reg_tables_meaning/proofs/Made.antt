@@ -1,17 +1,11 @@
 -- Tables that were just made stand for a registry with nothing in it.
-use Rattle.std.proofs.Common.{◌≡◌, List, [], ◌∷◌, map, refl, sym, ap, subst}
-use Rattle.std.specs.Prelude.{drop}
+use Rattle.reg_tables_meaning.proofs.Common.{◌≡◌, [], ◌∷◌, ap, Database, drop, List, map, refl, Row, shows, State, subst, sym, Trees}
 use Rattle.std.specs.FinSet as finset
 use Rattle.std.specs.List.{IsDistinct}
 use Rattle.std.specs.List.Sorted.{IsPermutation, IsStrictlySortedBy}
 use Rattle.std.proofs.lemmas.List.Sorted.{IsPermutation-refl}
-use Rattle.sqlite.specs.Effect.{Database}
-use Rattle.sqlite.specs.Order.{Row}
-use Rattle.sqlite.specs.State.{State}
-use Rattle.sqlite.specs.Tree.{Trees}
 use Rattle.reg_model.specs.Registry.{Text, text_cmp, empty_at}
 use Rattle.reg_tables_schema.specs.States.{IsAtRest, IsMade}
-use Rattle.reg_tables_schema.specs.Tests.{shows}
 use Rattle.reg_tables_meaning.specs.Stands.{HaveOwnRowids, StandCrates, Stands, StandMarked, StandPairs}
 
 pub none_are : (rows : List Row) → rows ≡ [] → IsPermutation [] rows

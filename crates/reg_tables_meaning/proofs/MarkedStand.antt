@@ -1,42 +1,24 @@
 -- The crates of a table of marks after a change that names a crate by its id.
-
 use Rattle.reg_tables_meaning.proofs.CrateNames.{kept}
-use Rattle.reg_names.specs.Names.{canon}
+use Rattle.reg_tables_meaning.proofs.Common.{◌≡◌, ◌==◌, [], ◌∷◌, ◌&&◌, ◌||◌, ◌∙◌, AllByRecursion, any_same, ap, Bool, bytes_eq, canon, false, filter, filter_map, has_rowid, Int, is_eq, is_eq-slice_cmp, is_number, IsPermutation, IsPermutation-cons, IsPermutation-filter, IsPermutation-map, IsPermutation-sym, IsPermutation-trans, List, list_any, list_any-IsPermutation, list_any_map, map, mark_cmp, None, not, not_true, Option, pos, Publication, put_permutes, put_row, refl, Row, rowid, same_filter, shows, Some, subst, sym, Text, text_cmp, Trees, true, true_not_false, value_cmp, ℕ}
 use Rattle.reg_tables_meaning.proofs.VersionEntries.{same_passes}
 use Rattle.reg_tables_meaning.proofs.Standing.{same_number}
-use Rattle.reg_tables_schema.proofs.Queries.{same_filter}
 use Rattle.reg_tables_sql.specs.Restricted.{restricted_row}
 use Rattle.std.specs.Cmp.Lexicographic.{nat_list_cmp_total}
 use Rattle.std.specs.Cmp.{nat_eq_equiv}
 use Rattle.reg_tables_meaning.specs.Changes.{mark_in, told_of}
 use Rattle.reg_tables_meaning.proofs.Removed.{keeps_all}
-use Rattle.reg_tables_schema.specs.Tests.{is_number, shows}
-use Rattle.std.proofs.lemmas.Map.Text.{is_eq-slice_cmp}
 use Rattle.reg_tables_schema.specs.Changes.{is_at_one_of}
 use Rattle.reg_model.proofs.Keys.{insert_again, text_apart}
 use Rattle.sqlite_rules.specs.Edit.{id_in, is_taken}
-use Rattle.sqlite_trees.specs.Tree.{rowid, has_rowid, put_row}
-use Rattle.reg_tables_schema.proofs.Permutes.{filter_map, put_permutes}
 use Rattle.reg_tables_meaning.proofs.PairChanges.{crates_alike}
 use Rattle.reg_tables_meaning.proofs.CrateLemmas.{crate_there, no_row, not_at, there_at}
-use Rattle.std.specs.Str.{bytes_eq}
-use Rattle.reg_model.proofs.Lists.{any_same, list_any_map, not_true, true_not_false}
+use Rattle.reg_tables_meaning.proofs.Selected.{same_one}
 use Rattle.std.proofs.lemmas.Map.Views.{any-filter_same}
 use Rattle.std.proofs.lemmas.Bool.{and_from, eq-eqb, eqb-true}
-use Rattle.sqlite.specs.Tree.{Trees}
-use Rattle.sqlite.specs.declared.types.Value.{Value}
-use Rattle.sqlite.specs.declared.types.Value.TheVariants.{Int}
-use Rattle.std.specs.Ordering.{is_eq}
 use Rattle.reg_tables_schema.specs.Rows.{number_columns}
-use Rattle.sqlite.specs.Order.{Row, value_cmp}
-use Rattle.reg_model.specs.Registry.{Publication, Text, mark_cmp, text_cmp}
-use Rattle.sqlite_trees.proofs.ListLemmas.{IsPermutation-filter}
-use Rattle.std.proofs.lemmas.List.Sorted.{IsPermutation-cons, IsPermutation-map, IsPermutation-sym, IsPermutation-trans, list_any-IsPermutation}
-use Rattle.std.specs.List.Sorted.{IsPermutation}
 use Rattle.reg_model.proofs.Members.{IsIn, all_in, any_in, each_in, filtered_passes, in_all, in_any, in_filter, in_map, in_permuted, map_in, none_in}
 use Rattle.reg_tables_meaning.specs.Stands.{Ids, StandCrates, StandMarked, StoredCrate, spelling_at}
-use Rattle.std.specs.List.{AllByRecursion, list_any, filter}
-use Rattle.std.proofs.Common.{◌≡◌, ◌==◌, ℕ, pos, List, [], ◌∷◌, map, Bool, true, false, not, ◌&&◌, ◌||◌, Option, Some, None, refl, sym, ap, subst, ◌∙◌}
 use Rattle.std.specs.FinSet as finset
 
 -- a row is told by its key
@@ -45,9 +27,6 @@ key_of r = shows (0 ∷ []) r
 
 row_has : (id i : ℕ) → is_number 0 id (number_columns i) ≡ (i == id)
 row_has id i = same_number i id
-
-heads : {a b : Value} → ◌≡◌ {A = Row} (a ∷ []) (b ∷ []) → a ≡ b
-heads e = cc
 
 -- rows with these keys have one rowid exactly where these are one
 at_key : (r x : Row) (i j : ℕ) → Int (pos i) ≡ rowid r → Int (pos j) ≡ rowid x → has_rowid (id_in (rowid x)) r ≡ (i == j)
@@ -153,7 +132,7 @@ module _ (ids : Ids) (publications : List Publication) (yanked : finset.FinSet m
   is_row r k =
       let there = in_permuted (map key_of rows) (map number_columns all.marks) (key_of r) (IsPermutation-sym (map number_columns all.marks) (map key_of rows) all.are) (in_map key_of rows r k) in
       let i = map_in number_columns all.marks (key_of r) there in
-      (i.0, heads i.2)
+      (i.0, same_one i.2)
 
   its_test : (i : ℕ) (r : Row) → Int (pos i) ≡ rowid r → (i == id) ≡ is_number 0 id r
   its_test i r e = sym (row_has id i) ∙ ap (λ v. is_eq (value_cmp v (Int (pos id)))) e

@@ -1,20 +1,14 @@
 -- Which version gets another mark, told of the row that was found.
-use Rattle.std.proofs.Common.{◌≡◌, ℕ, pos, List, [], ◌∷◌, map, Bool, true, false, not, Option, Some, None, refl, sym, ap, ◌∙◌}
-use Rattle.std.specs.List.{filter}
-use Rattle.std.specs.Option.{option_and_then}
+use Rattle.reg_tables_meaning.proofs.Common.{◌≡◌, [], ◌∷◌, ◌∙◌, ap, Bool, false, filter, Int, List, map, None, not, Option, option_and_then, pos, refl, release_key_of, shown_of, Some, sym, Trees, true, version_row, ℕ}
 use Rattle.sqlite.specs.declared.types.Value.{Value}
-use Rattle.sqlite.specs.declared.types.Value.TheVariants.{Int}
-use Rattle.sqlite.specs.Order.{Row}
-use Rattle.sqlite.specs.Tree.{Trees}
 use Rattle.reg_tables_schema.specs.Rows.{mark}
-use Rattle.reg_tables_schema.specs.Shown.{shown_of}
 use Rattle.reg_tables_schema.specs.Tests.{is_version}
 use Rattle.reg_tables_sql.specs.VersionMarks.{columns_of_mark, shows_mark}
-use Rattle.reg_tables_sql.specs.Versions.{version_row}
 use Rattle.reg_tables_sql.specs.declared.versions.VersionMark.{VersionMark}
 use Rattle.reg_tables_meaning.proofs.AccountEntries.{heads, mark_is, number_is, tails}
+use Rattle.reg_tables_meaning.proofs.Selected.{same_one}
+use Rattle.reg_tables_meaning.proofs.Numbered.{same_some}
 use Rattle.reg_tables_meaning.specs.Marking.{IsOtherwise, id_unless}
-use Rattle.reg_versions.specs.Versions.{release_key_of}
 
 abbrev id_of : Bool → Option VersionMark → Option ℕ
 id_of b found = option_and_then (λ (m : VersionMark). id_unless m.yanked b m.id) found
@@ -23,13 +17,10 @@ nothing_shown : (b : Bool) (found : Option VersionMark) → [] ≡ shown_of colu
 nothing_shown b None e = refl
 nothing_shown b (Some m) e = absurd cc
 
-first_row : {a b : Row} → ◌≡◌ {A = List Row} (a ∷ []) (b ∷ []) → a ≡ b
-first_row e = cc
-
 one_shown : (b : Bool) (found : Option VersionMark) (n : ℕ) (text length : Value) (was : Bool) → (Int (pos n) ∷ text ∷ length ∷ mark was ∷ []) ∷ [] ≡ shown_of columns_of_mark found → id_of b found ≡ id_unless was b n
 one_shown b None n text length was e = absurd cc
 one_shown b (Some m) n text length was e =
-    let row = first_row e in
+    let row = same_one e in
     let id = number_is (heads row) in
     let yanked = mark_is _ _ (heads (tails (tails (tails row)))) in
     λ i. id_unless (sym yanked i) b (sym id i)
@@ -47,11 +38,8 @@ unless_none false false n e = refl
 unless_none true false n e = absurd cc
 unless_none false true n e = absurd cc
 
-some_is : {a b : ℕ} → ◌≡◌ {A = Option ℕ} (Some a) (Some b) → a ≡ b
-some_is e = cc
-
 pub unless_some : (was b : Bool) (n id : ℕ) → Some id ≡ id_unless was b n → (was ≡ not b) × (n ≡ id)
 unless_some true true n id e = absurd cc
 unless_some false false n id e = absurd cc
-unless_some true false n id e = (refl, sym (some_is e))
-unless_some false true n id e = (refl, sym (some_is e))
+unless_some true false n id e = (refl, sym (same_some e))
+unless_some false true n id e = (refl, sym (same_some e))

@@ -1,6 +1,6 @@
 -- The id after the greatest, where ids are the places of a list.
-use Rattle.std.proofs.Common.{◌≡◌, ◌==◌, ℕ, suc, ◌+◌, ◌≤◌, ◌<◌, pos, List, [], ◌∷◌, map, take, length, Bool, true, false, ◌||◌, nat_lt, Option, Some, None, Ordering, Less, Equal, Greater, is_gt, true≢false, refl, sym, ap, subst, ◌∙◌, arith}
-use Rattle.std.specs.List.{enumerate_from, list_any, AllByRecursion}
+use Rattle.std.proofs.Common.{◌≡◌, ◌==◌, ℕ, ◌+◌, ◌≤◌, ◌<◌, pos, List, [], ◌∷◌, map, take, length, Bool, true, false, ◌||◌, nat_lt, Option, Some, None, Ordering, Less, Equal, Greater, is_gt, true≢false, refl, sym, ap, subst, ◌∙◌, arith}
+use Rattle.reg_tables_meaning.proofs.Common.{AllByRecursion, column, enumerate_from, has_rowid, Int, list_any, Row, rowid, shows, value_cmp}
 use Rattle.std.specs.List.Sorted.{IsPermutation, IsSorted}
 use Rattle.std.specs.Ordering.{is_eq, ordering_reverse}
 use Rattle.std.specs.Cmp.{IsTotalOrder, int_cmp_is}
@@ -10,15 +10,13 @@ use Rattle.std.proofs.lemmas.List.Sorted.{IsPermutation-trans, list_any-IsPermut
 use Rattle.std.proofs.lemmas.List.Elements.{All-from_recursion, recursion_from_All}
 use Rattle.std.proofs.lemmas.List.{length-map}
 use Rattle.std.proofs.lemmas.List.FromFn.{length-enumerate_from}
-use Rattle.sqlite.specs.declared.types.Value.TheVariants.{Int}
-use Rattle.sqlite.specs.Order.{Row, column, value_cmp}
-use Rattle.sqlite_trees.specs.Tree.{rowid, has_rowid}
 use Rattle.sqlite_value.proofs.OrderLemmas.{value_cmp_total, value_cmp-Int}
 use Rattle.sqlite_exec.proofs.PartitionLemmas.{ascending_from_sorted}
 use Rattle.reg_tables_schema.specs.Greatest.{IsGreatest, row_of_id}
 use Rattle.reg_tables_meaning.specs.Ids.{IsNext}
-use Rattle.reg_tables_schema.specs.Tests.{shows}
 use Rattle.reg_tables_meaning.proofs.Standing.{same_number}
+use Rattle.reg_tables_meaning.proofs.Numbered.{more}
+use Rattle.reg_model.proofs.Lists.{or_left, or_right}
 
 -- as their ids fall
 abbrev pub falls : Row → Row → Ordering
@@ -42,21 +40,13 @@ one_shown l (r ∷ rest) h = (r, rest, refl, cc)
 nothing : (r : Row) (rest : List Row) → length (r ∷ rest) ≡ 0 → ⊥
 nothing r rest h = absurd (omega (arith, h))
 
-or_first : (a b : Bool) → a ≡ true → (a || b) ≡ true
-or_first true b h = refl
-or_first false b h = absurd cc
-
-or_second : (a b : Bool) → b ≡ true → (a || b) ≡ true
-or_second true b h = refl
-or_second false b h = h
-
 same_id : (top : ℕ) (row : Row) → IsBelow top row → (l : ℕ) → rowid row ≡ Int (pos l) → l < top
 same_id top row below l is = subst (λ k. k < top) (same below.0 (sym below.1 ∙ is)) below.2
   where
     same : (n : ℕ) → Int (pos n) ≡ Int (pos l) → n ≡ l
     same n e = cc
 
-tied : (o : Ordering) → is_eq o ≡ true → o ≡ Equal
+pub tied : (o : Ordering) → is_eq o ≡ true → o ≡ Equal
 tied Less h = absurd cc
 tied Equal h = refl
 tied Greater h = absurd cc
@@ -95,16 +85,13 @@ module _ {X : Type 0} (row : ℕ × X → Row) (keyed : (e : ℕ × X) → rowid
   all_below : (n : ℕ) (xs : List X) → AllByRecursion (IsBelow (n + length xs)) (map row (enumerate_from n xs))
   all_below n [] = tt
   all_below n (x ∷ xs) = ((n, keyed (n, x), omega arith), subst (λ k. AllByRecursion (IsBelow k) (map row (enumerate_from (n + 1) xs))) (more n (length xs)) (all_below (n + 1) xs))
-    where
-      more : (n m : ℕ) → (n + 1) + m ≡ n + suc m
-      more n m = omega arith
 
   has_id : (m : ℕ) (e : ℕ × X) → has_rowid (pos m) (row e) ≡ (e.0 == m)
   has_id m e = ap (λ v. is_eq (value_cmp v (Int (pos m)))) (keyed e) ∙ same_number e.0 m
 
   last_is_there : (n m : ℕ) (x : X) (xs : List X) → n + length xs ≡ m → list_any (has_rowid (pos m)) (map row (enumerate_from n (x ∷ xs))) ≡ true
-  last_is_there n m x [] at = or_first _ _ (has_id m (n, x) ∙ eq-eqb n m (omega (arith, at)))
-  last_is_there n m x (y ∷ ys) at = or_second (has_rowid (pos m) (row (n, x))) _ (last_is_there (n + 1) m y ys (omega (arith, at)))
+  last_is_there n m x [] at = or_left _ _ (has_id m (n, x) ∙ eq-eqb n m (omega (arith, at)))
+  last_is_there n m x (y ∷ ys) at = or_right (has_rowid (pos m) (row (n, x))) _ (last_is_there (n + 1) m y ys (omega (arith, at)))
 
   pub next_id : (xs : List X) (rows : List Row) (last : Option ℕ) (id : ℕ) → IsPermutation (map row (enumerate_from 1 xs)) rows → IsGreatest rows (row_of_id last) → IsNext last id → id ≡ 1 + length xs
   next_id xs rows None id same greatest next =

@@ -2,14 +2,14 @@
 use Rattle.std.specs.Prelude.{◌⊎◌}
 use Rattle.std.proofs.Common.{◌≡◌, ◌≢◌, ◌==◌, ℕ, zero, suc, ◌+◌, ◌-◌, ◌≤◌, ◌<◌, List, [], ◌∷◌, ◌++◌, length, Bool, true, false, not, cond, Option, Some, None, slice_get, refl, ap, ◌∙◌, arith, inl, inr, sym}
 use Rattle.std.specs.List.{filter, enumerate_from, position_from, find}
-use Rattle.std.specs.List.Sorted.{IsPermutation}
+use Rattle.reg_tables_meaning.proofs.Common.{IsPermutation, IsPermutation-cons, IsPermutation-trans}
 use Rattle.std.proofs.lemmas.Bool.{ne_eqb, eq-eqb, eqb-false, eqb-true}
-use Rattle.std.proofs.lemmas.List.Sorted.{IsPermutation-cons, IsPermutation-trans}
 use Rattle.sqlite_trees.proofs.ListLemmas.{IsPermutation-same}
 use Rattle.reg_model.specs.Registry.{change_place, change_at, with_id}
 use Rattle.reg_tables_schema.proofs.Permutes.{two}
+use Rattle.reg_tables_meaning.proofs.Selected.{same_head}
 
-more : (n m : ℕ) → (n + 1) + m ≡ n + suc m
+pub more : (n m : ℕ) → (n + 1) + m ≡ n + suc m
 more n m = omega arith
 
 pub enumerate_snoc : {X : Type 0} (n : ℕ) (xs : List X) (x : X) → enumerate_from n (xs ++ x ∷ []) ≡ enumerate_from n xs ++ (n + length xs, x) ∷ []
@@ -47,7 +47,7 @@ none_later : {X : Type 0} (id n : ℕ) (xs : List X) → id < n → filter (λ e
 none_later id n [] h = refl
 none_later id n (x ∷ xs) h = pass_by (n == id) (n, x) _ (is_other n id (omega (arith, h))) ∙ none_later id (n + 1) xs (omega (arith, h))
 
-same_some : {X : Type 0} {a b : X} → ◌≡◌ {A = Option X} (Some a) (Some b) → a ≡ b
+pub same_some : {X : Type 0} {a b : X} → ◌≡◌ {A = Option X} (Some a) (Some b) → a ≡ b
 same_some e = cc
 
 -- the one with an id is that at its place
@@ -124,9 +124,6 @@ none_at id xs = split (id == 0) refl
     split : (b : Bool) → (id == 0) ≡ b → cond b None (slice_get xs (id - 1)) ≡ None → filter (λ e. e.0 == id) (enumerate_from 1 xs) ≡ []
     split true e h = none_from 1 id xs (inl (omega (arith, eqb-true id 0 e)))
     split false e h = none_from 1 id xs (inr (let low = place_out xs (id - 1) h in omega (arith, low, eqb-false id 0 e)))
-
-same_head : {A : Type 0} {a b : A} {xs ys : List A} → ◌≡◌ {A = List A} (a ∷ xs) (b ∷ ys) → a ≡ b
-same_head e = cc
 
 at_once : (n id : ℕ) → n ≡ id → n + 0 ≡ id
 at_once n id h = omega (arith, h)

@@ -1,31 +1,15 @@
 -- What a change of the rows of a relation is on the relation that they stand for.
-use Rattle.sqlite_trees.specs.Tree.{put_row}
-use Rattle.sqlite_rules.specs.Edit.{is_taken}
+use Rattle.reg_tables_meaning.proofs.Common.{AllByRecursion, any_same, bytes_eq, canon, column, drop, filter, Int, is_eq-slice_cmp, is_taken, IsDistinct-cons, IsPermutation, list_any, mark_cmp, nat_eq, nat_list_eq_equiv, not_true, owner_cmp, owner_columns, Publication, put_row, Row, same_filter, Trees, true_not_false, value_cmp}
 use Rattle.std.proofs.Common.{◌≡◌, ◌==◌, ℕ, pos, List, [], ◌∷◌, map, Bool, true, false, ◌||◌, ◌&&◌, not, refl, sym, ap, subst, ◌∙◌, ℤ, None}
-use Rattle.std.specs.Prelude.{drop, nat_eq}
-use Rattle.std.specs.List.{filter, list_any, AllByRecursion}
-use Rattle.std.specs.List.Sorted.{IsPermutation}
 use Rattle.std.specs.Ordering.{is_eq, nat_cmp, eq_by_cmp, ordering_then, on}
 use Rattle.std.specs.declared.cmp.Ordering.{Ordering}
 use Rattle.std.specs.declared.cmp.Ordering.TheVariants.{Less, Equal, Greater}
-use Rattle.std.specs.Str.{bytes_eq}
 use Rattle.std.specs.Cmp.{IsEquivalence}
-use Rattle.std.specs.Cmp.Lexicographic.{nat_list_eq_equiv}
 use Rattle.std.specs.FinSet as finset
 use Rattle.std.proofs.lemmas.Cmp.{nat_eq_equiv}
 use Rattle.std.proofs.lemmas.Bool.{and_from, and_parts, eqb-true, or_parts, and_left, eq-eqb}
-use Rattle.std.proofs.lemmas.Map.Keys.{IsDistinct-cons}
-use Rattle.std.proofs.lemmas.Map.Text.{is_eq-slice_cmp}
 use Rattle.std.proofs.lemmas.Map.Views.{any-filter_same}
-use Rattle.sqlite.specs.declared.types.Value.TheVariants.{Int}
-use Rattle.sqlite.specs.Order.{Row, column, value_cmp}
-use Rattle.sqlite.specs.Tree.{Trees}
-use Rattle.reg_names.specs.Names.{canon}
-use Rattle.reg_tables_schema.proofs.Queries.{same_filter}
-use Rattle.reg_model.specs.Registry.{Publication, owner_cmp, mark_cmp}
 use Rattle.reg_model.proofs.Keys.{insert_again, owner_total, owner_apart}
-use Rattle.reg_model.proofs.Lists.{any_same, not_true, true_not_false}
-use Rattle.reg_tables_sql.specs.Owners.{owner_columns}
 use Rattle.reg_tables_meaning.specs.Stands.{StoredCrate, StoredPair, columns_of_stored, StandCrates, Ids, is_paired, StandPairs, spelling_at}
 use Rattle.reg_tables_schema.specs.Tests.{is_owner}
 use Rattle.reg_model.proofs.Alike.{alike}

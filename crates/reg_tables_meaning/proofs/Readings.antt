@@ -1,10 +1,7 @@
 -- What statements that only read leave, one after another, and what they told of the rows before them.
 use Rattle.std.proofs.Common.{◌≡◌, ◌∙◌, inl, Err, IsErr, Ok, Result, ap, arith, subst}
-use Rattle.sqlite.specs.Effect.{Database}
-use Rattle.sqlite.specs.State.{State, HasCleanDisk, IsUnchanged, Survives}
-use Rattle.sqlite.specs.Tree.{Trees}
+use Rattle.reg_tables_meaning.proofs.Common.{Database, HasCleanDisk, IsUnchanged, State, Survives, survives_then, Trees}
 use Rattle.sqlite.proofs.Callers.{unchanged_then}
-use Rattle.sqlite.proofs.StateLemmas.{survives_then}
 use Rattle.reg_tables_schema.specs.States.{IsReady}
 use Rattle.reg_tables_schema.specs.Statements.{IsReading}
 use Rattle.reg_tables_schema.specs.Steps.{LeavesSame}
@@ -15,11 +12,13 @@ pub same_then : (a b c : State) → IsUnchanged a b → IsUnchanged b c → IsUn
 same_then = unchanged_then
 
 -- where nothing has changed, any answer may be given
-same_whatever : {U F : Type 0} (a b : State) (q : Result U F) → (HasCleanDisk b → IsUnchanged a b) → Survives a b (λ _. ⊥) → LeavesSame a b q
+same_whatever : {U F : Type 0} (a b : State) (q : Result U F) → (HasCleanDisk b → IsUnchanged a b) → Survives a b (λ _. ⊥)
+    → LeavesSame a b q
 same_whatever a b (Ok y) same survives = record { only = λ clean. (same clean, tt); survives = survives }
 same_whatever a b (Err e) same survives = record { only = λ clean. (tt, inl (same clean)); survives = survives }
 
-keeps_then : {T U E F : Type 0} (a b c : State) (x : T) (r : Result U F) → LeavesSame {E = E} a b (Ok x) → LeavesSame b c r → LeavesSame a c r
+keeps_then : {T U E F : Type 0} (a b c : State) (x : T) (r : Result U F) → LeavesSame {E = E} a b (Ok x) → LeavesSame b c r
+    → LeavesSame a c r
 keeps_then a b c x r one two = record {
   only = λ clean.
       let same : IsUnchanged a b = (one.only (omega (arith, two.survives.clean, clean))).0 in
@@ -54,11 +53,13 @@ pub same_now : {T E : Type 0} {a b : State} {x : T} → LeavesSame {E = E} a b (
 same_now h clean = (h.only clean).0.0.now_is
 
 -- what is true of the rows after them was so before
-pub true_before : {T E : Type 0} {a b : State} {x : T} (P : Trees → Type 0) → LeavesSame {E = E} a b (Ok x) → HasCleanDisk b → P b.now.trees → P a.now.trees
+pub true_before : {T E : Type 0} {a b : State} {x : T} (P : Trees → Type 0) → LeavesSame {E = E} a b (Ok x) → HasCleanDisk b → P b.now.trees
+    → P a.now.trees
 true_before P h clean is = subst (λ (db : Database). P db.trees) (same_now h clean) is
 
 -- what one of them told of its rows
-pub told_before : {T U E F : Type 0} {a b c : State} {x : T} {r : Result U F} (P : Trees → Type 0) → LeavesSame {E = E} a b (Ok x) → LeavesSame b c r → HasCleanDisk c
+pub told_before : {T U E F : Type 0} {a b c : State} {x : T} {r : Result U F} (P : Trees → Type 0) → LeavesSame {E = E} a b (Ok x)
+    → LeavesSame b c r → HasCleanDisk c
     → (HasCleanDisk c → P b.now.trees) → P a.now.trees
 told_before P before now clean told = true_before P before (was_clean now clean) (told clean)
 

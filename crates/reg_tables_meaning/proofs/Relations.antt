@@ -1,9 +1,6 @@
 -- Owners and readers, as the rows stand for them.
-use Rattle.std.proofs.Common.{◌≡◌, ℕ, List, [], map}
+use Rattle.reg_tables_meaning.proofs.Common.{◌≡◌, [], KeepsOthers, List, map, owner_cmp, Registry, Trees, ℕ}
 use Rattle.std.specs.FinSet as finset
-use Rattle.sqlite.specs.Tree.{Trees}
-use Rattle.reg_model.specs.Registry.{Registry, owner_cmp}
-use Rattle.reg_tables_schema.specs.Changes.{KeepsOthers}
 use Rattle.reg_tables_sql.specs.declared.accounts.Account.{Account}
 use Rattle.reg_tables_sql.specs.declared.pairs.Relation.{Relation}
 use Rattle.reg_tables_sql.specs.declared.pairs.Relation.TheVariants.{Owners, Readers}

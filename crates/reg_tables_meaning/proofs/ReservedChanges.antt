@@ -1,23 +1,11 @@
 -- What a change of the rows is on the reserved names that they stand for.
-use Rattle.std.proofs.Common.{◌≡◌, ℕ, List, ◌∷◌, map, Bool, true, ◌||◌, ◌&&◌, not, sym, ap, subst, ◌∙◌}
-use Rattle.std.specs.Prelude.{drop}
-use Rattle.std.specs.List.{filter, list_any}
-use Rattle.std.specs.List.Sorted.{IsPermutation}
-use Rattle.std.specs.Ordering.{is_eq}
-use Rattle.std.specs.Str.{bytes_eq}
+use Rattle.reg_tables_meaning.proofs.Common.{◌≡◌, ◌∷◌, ◌||◌, ◌&&◌, ◌∙◌, any_same, ap, Bool, bytes_eq, column, drop, filter, is_eq, is_eq-slice_cmp, IsPermutation, List, list_any, map, not, Registry, Row, same_filter, State, subst, sym, text_cmp, Trees, true, value_cmp, ℕ}
 use Rattle.std.specs.Cmp.Lexicographic.{nat_list_cmp_total, nat_list_eq_equiv}
 use Rattle.std.specs.FinSet as finset
-use Rattle.std.proofs.lemmas.Map.Text.{is_eq-slice_cmp}
 use Rattle.std.proofs.lemmas.Map.Views.{any-filter_same}
 use Rattle.sqlite.specs.declared.types.Value.TheVariants.{Text}
-use Rattle.sqlite.specs.Order.{Row, column, value_cmp}
-use Rattle.sqlite.specs.State.{State}
-use Rattle.sqlite.specs.Tree.{Trees}
 use Rattle.reg_tables_schema.specs.Changes.{AddsColumns, Removes}
-use Rattle.reg_tables_schema.proofs.Queries.{same_filter}
-use Rattle.reg_model.specs.Registry.{Registry, text_cmp}
 use Rattle.reg_model.proofs.Keys.{insert_again, text_apart}
-use Rattle.reg_model.proofs.Lists.{any_same}
 use Rattle.reg_tables_sql.specs.Reserved.{reserved_columns}
 use Rattle.reg_tables_meaning.specs.Stands.{HaveOwnRowids, StandReserved, Ids, StandsBy}
 use Rattle.reg_tables_schema.specs.Tests.{is_text}

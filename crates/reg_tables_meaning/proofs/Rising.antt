@@ -1,16 +1,11 @@
 -- Ids that rise: a next id is above each that is there.
 use Rattle.reg_tables_meaning.specs.Stands.{next_of}
 use Rattle.std.proofs.Common.{◌≡◌, ℕ, ◌<◌, ◌≤◌, pos, List, [], ◌∷◌, ◌++◌, map, Option, Some, None, Less, inl, inr, true, false, refl, sym, ap, subst, ◌∙◌, arith, max, ◌+◌}
-use Rattle.std.specs.List.{AllByRecursion}
+use Rattle.reg_tables_meaning.proofs.Common.{AllByRecursion, column, eq-eqb, has_rowid, Int, IsPermutation-sym, IsPermutation-trans, Row, rowid, value_cmp}
 use Rattle.std.specs.List.Sorted.{IsPermutation, IsSorted, IsStrictlySortedBy}
 use Rattle.std.specs.Cmp.{nat_cmp_is}
 use Rattle.std.specs.Ordering.{nat_cmp, is_gt, is_eq}
-use Rattle.std.proofs.lemmas.Bool.{eq-eqb}
-use Rattle.std.proofs.lemmas.List.Sorted.{IsPermutation-trans, IsPermutation-sym}
-use Rattle.sqlite.specs.declared.types.Value.TheVariants.{Int}
-use Rattle.sqlite.specs.Order.{Row, column, value_cmp}
 use Rattle.sqlite_exec.proofs.PartitionLemmas.{ascending_from_sorted}
-use Rattle.sqlite_trees.specs.Tree.{rowid, has_rowid}
 use Rattle.reg_model.proofs.Lists.{each_push}
 use Rattle.reg_tables_meaning.specs.Additions.{IsNextOf}
 use Rattle.reg_tables_schema.specs.Greatest.{IsGreatest, row_of_id}

@@ -1,12 +1,10 @@
 -- A crate has few versions where its summary tells of a short index file.
 use Rattle.std.proofs.Common.{◌≡◌, ◌<◌, ◌≤◌, ◌*◌, ℕ, true, false, length, nat_le, nat_lt, Option, Some, None, ap, subst, ◌∙◌, arith}
-use Rattle.std.specs.Prelude.{unwrap_or}
-use Rattle.std.specs.Option.{option_map}
+use Rattle.reg_tables_meaning.proofs.Common.{option_map, Registry, Text, unwrap_or}
 use Rattle.std.proofs.Math.Nat.{lt_of_mul-lt-mul_right}
 use Rattle.std.proofs.lemmas.Bool.{false≢true, ltb-true}
 use Rattle.reg_line.specs.Shortest.{shortest_line}
 use Rattle.reg_model.specs.Crates.{file, versions}
-use Rattle.reg_model.specs.Registry.{Registry, Text}
 use Rattle.reg_model.specs.Sound.{Sound}
 use Rattle.reg_model.proofs.Room.{files_have_room}
 use Rattle.reg_tables_sql.specs.declared.summaries.Summary.{Summary}

@@ -1,5 +1,5 @@
 -- What a text that only reads leaves of our tables, in a transaction or in none.
-use Rattle.std.proofs.Common.{◌≡◌, ◌⊎◌, inl, inr, arith, ℕ, List, [], Ok, Err, Result, IfOk, OnOk, OnErr, IfErr, IsErr, Option, refl, sym, ap, subst, ◌∙◌}
+use Rattle.std.proofs.Common.{◌≡◌, ◌⊎◌, inl, inr, arith, ℕ, List, [], Ok, Err, Result, IfOk, OnOk, OnErr, IfErr, Option, sym, ap, subst, ◌∙◌}
 use Rattle.sqlite.specs.Order.{Row}
 use Rattle.sqlite.specs.Listing.{understood}
 use Rattle.sqlite.specs.State.{State, HasCleanDisk, Survives, CommitsShowing, FailsToQuery, Fails, IsNotRun, IsUnchanged}
@@ -90,10 +90,6 @@ pub spared_early : {S : Type 0} (g : Ghosts S) (text : List ℕ) (old new : Held
 spared_early g text old new e s err =
     let left = λ (clean : HasCleanDisk (state g new)). not_run text [] (state g old) (state g new) e (err clean []) in
     record { refused = λ clean. inr (left clean); ours = λ k. still_ours k (state g old) (state g new) s left; survives = s }
-
-pub err_of : {X E : Type 0} (r : Result X E) → IsErr r → (e : E) × (r ≡ Err e)
-err_of (Ok x) h = absurd cc
-err_of (Err e) h = (e, refl)
 
 -- the next row leaves our tables
 pub next_ours : {S : Type 0} (g : Ghosts S) (old : Rows S g) (r : Result (Option (Bor Row)) Error) (new : Rows S g) → HasMoved g old r new → (e : Edition) → IsOurs e (state g old.conn.now) → IsOurs e (state g new.conn.now)

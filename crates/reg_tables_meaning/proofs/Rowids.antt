@@ -1,25 +1,14 @@
 -- Rows whose rowid is SQL's own: what is said of them is said of their columns, behind the rowid.
 use Rattle.std.proofs.Common.{◌≡◌, ℤ, List, [], ◌∷◌, map, Bool, false, refl, sym, ap, subst, ◌∙◌}
-use Rattle.std.specs.Prelude.{drop}
-use Rattle.std.specs.List.{filter, list_any, AllByRecursion}
-use Rattle.std.specs.List.Sorted.{IsPermutation}
-use Rattle.std.specs.Ordering.{is_eq}
+use Rattle.reg_tables_meaning.proofs.Common.{AllByRecursion, any_same, column, drop, filter, filter_map, Int, is_eq, is_taken, IsPermutation, IsPermutation-cons, IsPermutation-map, IsPermutation-trans, list_any, list_any-IsPermutation, list_any_map, put_permutes, put_row, Row, rowid, same_filter, value_cmp}
 use Rattle.std.specs.Cmp.{IsEquivalence}
 use Rattle.std.proofs.lemmas.Bool.{or_parts}
 use Rattle.std.proofs.lemmas.Cmp.{eq_by_cmp_equiv}
-use Rattle.std.proofs.lemmas.List.Sorted.{IsPermutation-cons, IsPermutation-trans, IsPermutation-map, list_any-IsPermutation}
 use Rattle.std.proofs.lemmas.Map.Keys.{IsDistinct-IsPermutation, IsDistinct-cons}
-use Rattle.sqlite.specs.declared.types.Value.TheVariants.{Int}
-use Rattle.sqlite.specs.Order.{Row, column, value_cmp}
-use Rattle.sqlite_rules.specs.Edit.{is_taken}
-use Rattle.sqlite_trees.specs.Tree.{rowid, put_row}
 use Rattle.sqlite_trees.proofs.ListLemmas.{IsPermutation-filter, all-permutation}
 use Rattle.sqlite_value.proofs.OrderLemmas.{value_cmp_total}
-use Rattle.reg_model.proofs.Lists.{list_any_map, any_same}
-use Rattle.reg_tables_schema.proofs.Queries.{same_filter}
 use Rattle.reg_tables_meaning.specs.Numbers.{IsNumbered}
 use Rattle.reg_tables_meaning.specs.Stands.{HaveOwnRowids}
-use Rattle.reg_tables_schema.proofs.Permutes.{put_permutes, filter_map}
 
 pub first_column : (r : Row) → column r 1 ≡ column (drop 1 r) 0
 first_column [] = refl

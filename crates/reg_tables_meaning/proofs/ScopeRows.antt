@@ -1,30 +1,20 @@
 -- The scopes of tokens, by token and place.
 use Rattle.std.proofs.Common.{◌≡◌, ◌==◌, ℕ, ◌+◌, ◌<◌, pos, Bool, true, false, cond, Some, List, [], ◌∷◌, ◌++◌, map, Less, refl, sym, subst, ap, ap₂, ◌∙◌, arith}
-use Rattle.std.specs.Prelude.{drop}
-use Rattle.std.specs.List.{AllByRecursion, enumerate_from, filter, flat_map}
-use Rattle.std.specs.List.Sorted.{IsPermutation}
-use Rattle.std.proofs.lemmas.List.{append-nil}
+use Rattle.reg_tables_meaning.proofs.Common.{AllByRecursion, append-nil, drop, enumerate_from, filter, filter_map, flat_map, Int, is_number, IsAscending, IsPermutation, IsPermutation-filter, Row, same_filter, shows, Trees, value_cmp}
 use Rattle.std.proofs.lemmas.List.Elements.{filter-append}
-use Rattle.sqlite_trees.proofs.ListLemmas.{IsPermutation-filter}
-use Rattle.reg_tables_schema.proofs.Queries.{same_filter}
 use Rattle.reg_tables_meaning.proofs.Numbered.{one_at}
-use Rattle.reg_tables_schema.proofs.Permutes.{filter_map}
 use Rattle.reg_tables_meaning.proofs.Standing.{same_number}
 use Rattle.std.specs.Ordering.{is_eq, ordering_then}
 use Rattle.std.specs.Cmp.{IsTotalOrder}
 use Rattle.std.proofs.lemmas.Cmp.{then_total, tied_itself}
-use Rattle.sqlite.specs.Order.{Row, value_cmp}
-use Rattle.sqlite.specs.Tree.{Trees}
-use Rattle.sqlite.specs.declared.types.Value.TheVariants.{Int}
 use Rattle.sqlite_keyed.proofs.ListLemmas.{all-append}
-use Rattle.sqlite_trees.specs.Tree.{IsAscending}
 use Rattle.sqlite_value.proofs.OrderLemmas.{value_cmp_total}
 use Rattle.reg_model.specs.Registry.{Text, Token, with_id}
 use Rattle.reg_tables_schema.specs.Rows.{IsInOrder, by_column, by_columns}
 use Rattle.reg_tables_meaning.specs.Stands.{scope_of, scopes_of, StandTokens}
-use Rattle.reg_tables_schema.specs.Tests.{is_number, shows}
-use Rattle.reg_tables_meaning.proofs.Dropped.{dropped_in_order, by_first_and_second, by_second, first_column}
+use Rattle.reg_tables_meaning.proofs.Dropped.{dropped_in_order, by_first_and_second, by_second}
 use Rattle.reg_tables_meaning.proofs.Selected.{column_total, number_below}
+use Rattle.reg_tables_meaning.proofs.Rowids.{first_column}
 
 abbrev Below : Row → Row → Type 0
 Below a b = by_columns 0 1 a b ≡ Less

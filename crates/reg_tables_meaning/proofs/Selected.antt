@@ -1,26 +1,14 @@
 -- What a selection shows of the rows, told of the entries that the rows stand for.
-use Rattle.std.proofs.Common.{◌≡◌, ℕ, ◌+◌, ◌<◌, ◌≤◌, pos, Less, List, [], ◌∷◌, map, length, Bool, Option, Some, None, refl, sym, ap, subst, ◌∙◌, arith}
-use Rattle.std.specs.Option.{option_map}
-use Rattle.std.specs.List.{filter}
-use Rattle.std.specs.List.Sorted.{IsPermutation}
+use Rattle.reg_tables_meaning.proofs.Common.{◌≡◌, ◌+◌, ◌<◌, ◌≤◌, [], ◌∷◌, ◌∙◌, AllByRecursion, ap, arith, Bool, by_column, column, enumerate_from, filter, filter_map, Int, IsAscending, IsInOrder, IsPermutation, IsPermutation-filter, length, Less, List, map, maps_twice, None, Option, option_map, pos, refl, Row, rowid, same_filter, shown_of, Some, subst, sym, value_cmp, ℕ}
 use Rattle.std.proofs.lemmas.List.Sorted.{IsPermutation-map, IsPermutation-sym, IsPermutation-trans, length_permutation}
 use Rattle.std.specs.declared.cmp.Ordering.{Ordering}
 use Rattle.std.specs.Cmp.{IsTotalOrder, int_cmp_is}
 use Rattle.std.proofs.lemmas.Bool.{lt-ltb}
-use Rattle.std.specs.List.{enumerate_from, AllByRecursion}
 use Rattle.std.proofs.lemmas.Cmp.{on_total}
-use Rattle.sqlite.specs.Order.{Row, column, value_cmp}
-use Rattle.sqlite.specs.declared.types.Value.TheVariants.{Int}
 use Rattle.sqlite_value.proofs.OrderLemmas.{value_cmp_total, value_cmp-Int}
-use Rattle.sqlite_trees.specs.Tree.{rowid, IsAscending}
 use Rattle.sqlite_keyed.proofs.SortLemmas.{sorted_unique}
-use Rattle.reg_tables_schema.specs.Rows.{IsInOrder, by_column}
 use Rattle.sqlite.proofs.Callers.{one_permutation}
-use Rattle.sqlite_trees.proofs.ListLemmas.{IsPermutation-filter}
-use Rattle.reg_tables_schema.proofs.Queries.{maps_twice, same_filter}
-use Rattle.reg_tables_schema.specs.Shown.{shown_of}
 use Rattle.reg_tables_meaning.specs.Entries.{one_of}
-use Rattle.reg_tables_schema.proofs.Permutes.{filter_map}
 
 -- a list in another order is the same list where it has one element or none
 pub short_same : {X : Type 0} (xs ys : List X) → IsPermutation xs ys → length ys ≤ 1 → xs ≡ ys
@@ -33,7 +21,7 @@ pub shown_short : {X : Type 0} (columns : X → Row) (o : Option X) → length (
 shown_short columns None = omega arith
 shown_short columns (Some x) = omega arith
 
-same_one : {X : Type 0} {a b : X} → ◌≡◌ {A = List X} (a ∷ []) (b ∷ []) → a ≡ b
+pub same_one : {X : Type 0} {a b : X} → ◌≡◌ {A = List X} (a ∷ []) (b ∷ []) → a ≡ b
 same_one e = cc
 
 read_one : {X Y : Type 0} (shown : X → Row) (columns : Y → Row) (entry : Y → X) → ((x : X) (y : Y) → shown x ≡ columns y → x ≡ entry y) → (xs : List X) (o : Option Y) → map shown xs ≡ shown_of columns o → xs ≡ one_of (option_map entry o)
@@ -43,24 +31,24 @@ read_one shown columns entry same [] (Some y) h = absurd cc
 read_one shown columns entry same (x ∷ []) (Some y) h = ap (λ z. z ∷ []) (same x y (same_one h))
 read_one shown columns entry same (x ∷ z ∷ xs) (Some y) h = absurd cc
 
-row_heads : {A : Type 0} {a b : A} {xs ys : List A} → ◌≡◌ {A = List A} (a ∷ xs) (b ∷ ys) → a ≡ b
-row_heads e = cc
+pub same_head : {A : Type 0} {a b : A} {xs ys : List A} → ◌≡◌ {A = List A} (a ∷ xs) (b ∷ ys) → a ≡ b
+same_head e = cc
 
-row_tails : {A : Type 0} {a b : A} {xs ys : List A} → ◌≡◌ {A = List A} (a ∷ xs) (b ∷ ys) → xs ≡ ys
-row_tails e = cc
+pub same_tail : {A : Type 0} {a b : A} {xs ys : List A} → ◌≡◌ {A = List A} (a ∷ xs) (b ∷ ys) → xs ≡ ys
+same_tail e = cc
 
 pub each : {X Y : Type 0} (shown : X → Row) (columns : Y → Row) (entry : Y → X) → ((x : X) (y : Y) → shown x ≡ columns y → x ≡ entry y) → (xs : List X) (list : List Y) → map columns list ≡ map shown xs → map entry list ≡ xs
 each shown columns entry same [] [] h = refl
 each shown columns entry same (x ∷ xs) [] h = absurd cc
 each shown columns entry same [] (y ∷ list) h = absurd cc
-each shown columns entry same (x ∷ xs) (y ∷ list) h = rw (sym (same x y (sym (row_heads h)))) (ap (λ l. x ∷ l) (each shown columns entry same xs list (row_tails h)))
+each shown columns entry same (x ∷ xs) (y ∷ list) h = rw (sym (same x y (sym (same_head h)))) (ap (λ l. x ∷ l) (each shown columns entry same xs list (same_tail h)))
 
 -- the same, where what is shown tells a part of the entry
 pub each_part : {X Y Z : Type 0} (shown : X → Row) (columns : Y → Row) (part : X → Z) (told : Y → Z) → ((x : X) (y : Y) → shown x ≡ columns y → part x ≡ told y) → (xs : List X) (list : List Y) → map columns list ≡ map shown xs → map told list ≡ map part xs
 each_part shown columns part told same [] [] h = refl
 each_part shown columns part told same (x ∷ xs) [] h = absurd cc
 each_part shown columns part told same [] (y ∷ list) h = absurd cc
-each_part shown columns part told same (x ∷ xs) (y ∷ list) h = rw (sym (same x y (sym (row_heads h)))) (ap (λ l. part x ∷ l) (each_part shown columns part told same xs list (row_tails h)))
+each_part shown columns part told same (x ∷ xs) (y ∷ list) h = rw (sym (same x y (sym (same_head h)))) (ap (λ l. part x ∷ l) (each_part shown columns part told same xs list (same_tail h)))
 
 module _ {X : Type 0} (row : X → Row) (show : Row → Row) where
   -- what is shown of the entries, in an order in which no two are alike

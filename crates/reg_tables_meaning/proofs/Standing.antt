@@ -1,23 +1,15 @@
 -- What a change of the rows is on the registry that they stand for: accounts and tokens.
 use Rattle.reg_tables_sql.specs.Accounts.{account_row}
 use Rattle.reg_tables_sql.specs.Updates.{KeepsWhereNone}
-use Rattle.sqlite_trees.proofs.ListLemmas.{IsPermutation-filter}
+use Rattle.reg_tables_meaning.proofs.Common.{append-nil, enumerate_from, filter, has_rowid, Int, IsPermutation, IsPermutation-filter, Row, same_filter, State, value_cmp}
 use Rattle.std.proofs.Common.{◌≡◌, ◌==◌, ℕ, ◌+◌, pos, List, [], ◌∷◌, ◌++◌, map, length, Bool, true, false, not, Some, Ordering, Less, Equal, Greater, refl, sym, ap, subst, ◌∙◌, None, Option, suc, arith}
-use Rattle.std.specs.List.{filter, enumerate_from}
-use Rattle.std.specs.List.Sorted.{IsPermutation}
 use Rattle.std.specs.Ordering.{is_eq, int_cmp}
 use Rattle.std.specs.FinMap.{int_cmp-IsAntisymmetric}
 use Rattle.std.proofs.lemmas.Cmp.{int_cmp_total, tied_itself}
 use Rattle.std.proofs.lemmas.Bool.{eqb-true, eqb-false}
 use Rattle.std.proofs.lemmas.List.Sorted.{IsPermutation-cons, IsPermutation-trans, IsPermutation-middle, IsPermutation-map, IsPermutation-sym, length_permutation}
-use Rattle.sqlite.specs.declared.types.Value.TheVariants.{Int}
-use Rattle.sqlite.specs.Order.{value_cmp, Row}
-use Rattle.sqlite.specs.State.{State}
 use Rattle.sqlite_value.proofs.OrderLemmas.{value_cmp-Int}
-use Rattle.std.proofs.lemmas.List.{append-nil}
-use Rattle.sqlite_trees.specs.Tree.{has_rowid}
 use Rattle.reg_tables_schema.specs.Changes.{Adds, Replaces}
-use Rattle.reg_tables_schema.proofs.Queries.{same_filter}
 use Rattle.reg_model.specs.Registry.{Account, with_id, change_at}
 use Rattle.reg_tables_meaning.specs.Stands.{row_of_account, StandAccounts}
 use Rattle.reg_tables_meaning.proofs.Numbered.{enumerate_snoc, one_at, changed_at, change_none, none_at}

@@ -1,12 +1,6 @@
 -- What a change of some tables leaves of the others.
-use Rattle.std.proofs.Common.{◌≡◌, ◌≢◌, ℕ, List, map, sym, ap, subst, ◌∙◌}
-use Rattle.std.specs.Prelude.{drop}
-use Rattle.std.specs.List.{enumerate_from, flat_map}
-use Rattle.std.specs.List.Sorted.{IsPermutation}
+use Rattle.reg_tables_meaning.proofs.Common.{◌≡◌, ◌≢◌, ◌∙◌, ap, drop, enumerate_from, flat_map, IsPermutation, KeepsOthers, List, map, Row, subst, sym, Trees, ℕ}
 use Rattle.std.specs.FinSet as finset
-use Rattle.sqlite.specs.Tree.{Trees}
-use Rattle.sqlite.specs.Order.{Row}
-use Rattle.reg_tables_schema.specs.Changes.{KeepsOthers}
 use Rattle.reg_model.specs.Registry.{Account, Token, Publication, Registry, text_cmp, owner_cmp, mark_cmp}
 use Rattle.reg_tables_sql.specs.Reserved.{reserved_columns}
 use Rattle.reg_tables_meaning.specs.Summaries.{StandSummaries}

@@ -1,27 +1,14 @@
 -- What a change of the versions of one crate is on the summaries of all.
 use Rattle.std.proofs.Common.{◌≡◌, ◌==◌, ◌+◌, ◌≤◌, ℕ, pos, List, [], ◌∷◌, ◌++◌, map, Bool, true, false, not, refl, sym, ap, subst, ◌∙◌, arith, zero-add}
-use Rattle.std.specs.Prelude.{nat_eq, drop}
+use Rattle.reg_tables_meaning.proofs.Common.{append-nil, canon, collides, drop, eq-eqb, eqb-true, filter, Int, IsPermutation-filter, mark_cmp, nat_cmp, nat_eq, not_true, on, Publication, Row, same_filter, Text, Trees, true_not_false}
 use Rattle.std.specs.FinSet as finset
 use Rattle.std.specs.Cmp.{nat_eq_equiv}
-use Rattle.std.specs.List.{filter}
 use Rattle.std.specs.List.Sorted.{IsPermutation, IsStrictlySortedBy}
-use Rattle.std.specs.Ordering.{nat_cmp, on}
-use Rattle.std.proofs.lemmas.Bool.{eq-eqb, eqb-true}
-use Rattle.std.proofs.lemmas.List.{append-nil}
 use Rattle.std.proofs.lemmas.List.Elements.{filter-append}
 use Rattle.std.proofs.lemmas.List.Sorted.{IsPermutation-cons, IsPermutation-filter_both, IsPermutation-map, IsPermutation-trans}
-use Rattle.sqlite.specs.declared.types.Value.TheVariants.{Int}
-use Rattle.sqlite.specs.Order.{Row}
-use Rattle.sqlite.specs.Tree.{Trees}
 use Rattle.sqlite_trees.specs.Tree.{has_rowid, put_row, without_rowid}
-use Rattle.sqlite_trees.proofs.ListLemmas.{IsPermutation-filter}
-use Rattle.reg_model.specs.Crates.{collides}
-use Rattle.reg_model.specs.Registry.{Publication, Text, mark_cmp}
-use Rattle.reg_model.proofs.Lists.{not_true, true_not_false}
 use Rattle.reg_model.proofs.Members.{IsIn, filtered_passes, in_filter, in_last, in_map, in_more, map_same, none_pass, one_passes}
-use Rattle.reg_names.specs.Names.{canon}
 use Rattle.reg_tables_schema.proofs.Permutes.{filter_map, free_without, one_row, put_permutes}
-use Rattle.reg_tables_schema.proofs.Queries.{same_filter}
 use Rattle.reg_tables_meaning.proofs.CrateLemmas.{above_other, apart_by, bytes_same, crate_of, pushed, same_crate, version_of}
 use Rattle.reg_tables_meaning.proofs.CrateNames.{kept}
 use Rattle.reg_tables_meaning.proofs.Rising.{reaches}

@@ -1,20 +1,6 @@
 -- The summary of a crate, as a selection shows it.
-use Rattle.std.proofs.Common.{◌≡◌, ◌==◌, ℕ, List, [], ◌∷◌, map, length, true, Option, Some, None, refl, sym, ap, subst, ◌∙◌}
-use Rattle.std.specs.Prelude.{nat_eq}
-use Rattle.std.specs.List.{filter}
-use Rattle.std.specs.List.Sorted.{IsPermutation}
-use Rattle.std.specs.Option.{option_map}
-use Rattle.std.specs.Ordering.{on}
-use Rattle.std.proofs.lemmas.Bool.{eq-eqb, eqb-true}
-use Rattle.sqlite.specs.Order.{Row}
-use Rattle.sqlite.specs.Tree.{Trees}
+use Rattle.reg_tables_meaning.proofs.Common.{◌≡◌, ◌==◌, [], ◌∷◌, ◌∙◌, ap, eq-eqb, eqb-true, filter, filter_map, in_any, is_number, IsPermutation, length, List, map, maps_twice, nat_eq, None, none_pass, not_true, on, one_passes, Option, option_map, refl, Registry, Row, shows, Some, subst, sym, Text, Trees, true, true_not_false, ℕ}
 use Rattle.reg_model.specs.Crates.{file}
-use Rattle.reg_model.specs.Registry.{Registry, Text}
-use Rattle.reg_model.proofs.Lists.{not_true, true_not_false}
-use Rattle.reg_model.proofs.Members.{in_any, none_pass, one_passes}
-use Rattle.reg_tables_schema.proofs.Permutes.{filter_map}
-use Rattle.reg_tables_schema.proofs.Queries.{maps_twice}
-use Rattle.reg_tables_schema.specs.Tests.{is_number, shows}
 use Rattle.reg_tables_sql.specs.Summaries.{IsSummaryOf, columns_of_summary, summary_places, summary_row}
 use Rattle.reg_tables_sql.specs.declared.summaries.Summary.{Summary}
 use Rattle.reg_tables_meaning.proofs.AccountEntries.{heads, number_is, tails}

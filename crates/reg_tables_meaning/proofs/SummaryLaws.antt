@@ -1,18 +1,9 @@
 -- The highest version of a crate and the length of its index file, by its id and by its name.
-use Rattle.std.proofs.Common.{◌≡◌, ◌==◌, ℕ, List, map, length, Bool, Option, Some, None, refl, sym, ap, ◌∙◌}
-use Rattle.std.specs.Prelude.{slice_get}
+use Rattle.reg_tables_meaning.proofs.Common.{◌≡◌, ◌==◌, ◌∙◌, ap, Bool, canon, filter, filter_map, filtered_passes, in_filter, IsIn, length, List, map, map_same, maps_twice, None, Option, option_and_then, option_map, Publication, refl, Registry, slice_get, Some, sym, Text, Trees, ℕ}
 use Rattle.std.specs.FinSet as finset
-use Rattle.std.specs.List.{filter}
-use Rattle.std.specs.Option.{option_and_then, option_map}
-use Rattle.sqlite.specs.Tree.{Trees}
 use Rattle.reg_line.specs.File.{file_text}
 use Rattle.reg_model.specs.Crates.{collides, file, is_yanked, versions}
-use Rattle.reg_model.specs.Registry.{Publication, Registry, Text}
 use Rattle.reg_model.specs.Search.{marked, top}
-use Rattle.reg_model.proofs.Members.{IsIn, filtered_passes, in_filter, map_same}
-use Rattle.reg_names.specs.Names.{canon}
-use Rattle.reg_tables_schema.proofs.Permutes.{filter_map}
-use Rattle.reg_tables_schema.proofs.Queries.{maps_twice}
 use Rattle.reg_tables_meaning.proofs.CrateLemmas.{same_bytes, same_crate, there_at}
 use Rattle.reg_tables_meaning.proofs.SummaryRows.{got_map}
 use Rattle.reg_tables_meaning.proofs.VersionEntries.{same_passes}

@@ -1,20 +1,15 @@
 -- The highest of a crate's versions, and the length of its index file, once a mark is changed.
 use Rattle.std.proofs.Common.{◌≡◌, ◌==◌, ◌<◌, ◌≤◌, ◌+◌, ℕ, zero, suc, List, [], ◌∷◌, ◌++◌, length, Bool, true, false, not, cond, ◌||◌, nat_lt, Option, Some, None, inl, inr, refl, sym, ap, subst, ◌∙◌, arith}
-use Rattle.std.specs.Prelude.{slice_get}
+use Rattle.reg_tables_meaning.proofs.Common.{each_in, in_filter, IsAscending, IsIn, mark_cmp, option_map, Publication, slice_get, Trees, true_not_false}
 use Rattle.std.specs.FinSet as finset
-use Rattle.std.specs.Option.{option_map}
 use Rattle.std.proofs.lemmas.Bool.{eq-eqb, eqb-false, eqb-true, ltb-false, ltb-true}
 use Rattle.std.proofs.lemmas.List.{length-append}
-use Rattle.sqlite.specs.Tree.{Trees}
-use Rattle.sqlite_trees.specs.Tree.{IsAscending}
 use Rattle.sqlite_trees.proofs.ListLemmas.{ascending-filter}
 use Rattle.reg_line.specs.File.{end_of}
-use Rattle.reg_model.specs.Registry.{Publication, mark_cmp}
-use Rattle.reg_model.proofs.Lists.{true_not_false}
-use Rattle.reg_model.proofs.Members.{IsIn, each_in, in_filter}
 use Rattle.reg_tables_meaning.proofs.SummaryPushed.{IsTopOf, all, id_found, in_at, shown_at, some_top}
 use Rattle.reg_tables_meaning.proofs.SummaryRows.{got_map, version_at}
 use Rattle.reg_tables_meaning.proofs.VersionEntries.{ids_rise}
+use Rattle.reg_tables_meaning.proofs.Numbered.{same_some}
 use Rattle.reg_tables_meaning.specs.Stands.{StandCrates}
 use Rattle.reg_tables_meaning.specs.Stored.{Ids, StoredVersion}
 use Rattle.reg_tables_meaning.specs.Summaries.{ShownMark, higher_by_id, higher_marked, higher_of, highest_of, id_among, is_marked, its_versions, length_among, length_of, line_length, mark_shown, marked_of}
@@ -24,9 +19,6 @@ use Rattle.reg_versions.specs.Pushed.{place_after, takes_over}
 use Rattle.reg_versions.specs.Remarked.{IsRemarked}
 use Rattle.reg_versions.specs.Versions.{parts_of}
 use Rattle.reg_versions.proofs.Remarked.{top_again, top_earlier, top_later, top_yanked}
-
-some_same : {X : Type 0} {a b : X} → ◌≡◌ {A = Option X} (Some a) (Some b) → a ≡ b
-some_same e = cc
 
 -- what is in a list stands at a place of it
 place_of : {X : Type 0} (xs : List X) (x : X) → IsIn x xs → (k : ℕ) × (slice_get xs k ≡ Some x)
@@ -110,7 +102,7 @@ module _ (before after : finset.FinSet mark_cmp) where
         split false a true c = let lt : x.id < w.id = rises_at IsBelow vs up l j x w f e (ltb-true l j c) in absurd (omega (arith, lt, less))
         split false a false c =
             let one : j ≡ l = omega (arith, ltb-false j l a, ltb-false l j c) in
-            let is : w ≡ x = some_same (sym e ∙ ap (slice_get vs) one ∙ f) in
+            let is : w ≡ x = same_some (sym e ∙ ap (slice_get vs) one ∙ f) in
             absurd (omega (arith, less, ap (λ (y : StoredVersion). y.id) is))
 
     others_at : (j : ℕ) (w : StoredVersion) → (j ≡ k → ⊥) → slice_get vs j ≡ Some w → is_marked before w ≡ is_marked after w
@@ -148,7 +140,7 @@ module _ (before after : finset.FinSet mark_cmp) where
 
       apart_places : (v.id == b.id) ≡ false → k ≡ i → ⊥
       apart_places s e =
-          let same : v ≡ b = some_same (sym at ∙ ap (slice_get vs) e ∙ is.at) in
+          let same : v ≡ b = same_some (sym at ∙ ap (slice_get vs) e ∙ is.at) in
           true_not_false (v.id == b.id) (eq-eqb v.id b.id (ap (λ (y : StoredVersion). y.id) same)) s
 
       top_same : (v.id == b.id) ≡ false → marked_of before b ≡ marked_of after b

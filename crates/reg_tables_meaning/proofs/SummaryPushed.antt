@@ -1,14 +1,10 @@
 -- The highest of a crate's versions, and the length of its index file, once there is one more.
-use Rattle.std.proofs.Common.{◌≡◌, ◌<◌, ◌+◌, ℕ, zero, suc, List, [], ◌∷◌, ◌++◌, map, length, Bool, true, false, cond, Some, inl, inr, refl, sym, ap, subst, ◌∙◌, arith}
-use Rattle.std.specs.Prelude.{slice_get, unwrap_or}
+use Rattle.reg_tables_meaning.proofs.Common.{◌≡◌, ◌<◌, ◌+◌, [], ◌∷◌, ◌++◌, ◌∙◌, ap, arith, Bool, cond, false, inl, inr, IsIn, length, List, map, mark_cmp, option_and_then, option_map, refl, slice_get, Some, subst, suc, sym, true, unwrap_or, zero, ℕ}
 use Rattle.std.specs.FinSet as finset
-use Rattle.std.specs.Option.{option_and_then, option_map}
 use Rattle.std.proofs.lemmas.List.{append-nil, length-append, length-map, map-append}
 use Rattle.std.proofs.lemmas.List.Concat.{flat_map-append}
 use Rattle.std.proofs.lemmas.Option.{slice_get_within}
 use Rattle.reg_line.specs.File.{end_of, file_text, line_of}
-use Rattle.reg_model.specs.Registry.{mark_cmp}
-use Rattle.reg_model.proofs.Members.{IsIn}
 use Rattle.reg_tables_meaning.proofs.SummaryRows.{got_map}
 use Rattle.reg_tables_meaning.specs.Stored.{StoredVersion}
 use Rattle.reg_tables_meaning.specs.Summaries.{higher_of, id_among, is_marked, length_among, line_length, mark_shown, marked_of, top_among}

@@ -1,32 +1,17 @@
 -- What the rows of versions say of the highest of a crate and of its index file.
-use Rattle.std.proofs.Common.{◌≡◌, ◌==◌, ◌+◌, ◌<◌, ℕ, zero, suc, List, [], ◌∷◌, ◌++◌, map, length, Bool, true, Option, Some, None, refl, sym, ap, subst, ◌∙◌}
-use Rattle.std.specs.Prelude.{nat_eq, slice_get, unwrap_or}
-use Rattle.std.specs.Ordering.{on}
-use Rattle.std.proofs.lemmas.Bool.{eq-eqb, eqb-true}
+use Rattle.reg_tables_meaning.proofs.Common.{◌≡◌, ◌==◌, ◌+◌, ◌<◌, [], ◌∷◌, ◌++◌, ◌∙◌, ap, Bool, by_column, eq-eqb, eqb-true, filter, filter_map, is_number, IsIn, IsPermutation, length, List, map, map_same, maps_twice, mark_cmp, nat_eq, None, on, one_passes, one_row, Option, option_and_then, option_map, Publication, refl, same_filter, shown_of, shows, slice_get, Some, subst, suc, sym, Trees, true, unwrap_or, zero, ℕ}
 use Rattle.std.specs.FinSet as finset
-use Rattle.std.specs.List.{filter}
-use Rattle.std.specs.List.Sorted.{IsPermutation}
-use Rattle.std.specs.Option.{option_and_then, option_map}
 use Rattle.std.proofs.lemmas.List.{length-append}
 use Rattle.std.proofs.lemmas.List.Sums.{sum_by-cons}
-use Rattle.sqlite.specs.Order.{Row}
-use Rattle.sqlite.specs.Tree.{Trees}
 use Rattle.sqlite_trees.proofs.ListLemmas.{ascending-filter, IsPermutation-filter}
 use Rattle.reg_line.specs.File.{end_of, file_text}
-use Rattle.reg_model.specs.Registry.{Publication, mark_cmp}
-use Rattle.reg_model.proofs.Members.{IsIn, map_same, one_passes}
-use Rattle.reg_tables_schema.proofs.Permutes.{filter_map, one_row}
-use Rattle.reg_tables_schema.proofs.Queries.{same_filter, maps_twice}
-use Rattle.reg_tables_schema.specs.Shown.{shown_of}
-use Rattle.reg_tables_schema.specs.Tests.{is_number, shows}
-use Rattle.reg_tables_schema.specs.Rows.{by_column}
 use Rattle.reg_tables_sql.specs.VersionMarks.{AreMarksOf, IsMarkWithId, columns_of_mark, shows_mark}
 use Rattle.reg_tables_sql.specs.Summaries.{IsSummaryOf, columns_of_summary, summary_places, summary_row}
 use Rattle.reg_tables_sql.specs.declared.summaries.Summary.{Summary}
 use Rattle.reg_tables_sql.specs.declared.versions.VersionMark.{VersionMark}
 use Rattle.reg_tables_meaning.proofs.AccountEntries.{heads, mark_is, number_is, tails, words_are}
 use Rattle.reg_tables_meaning.proofs.CrateLemmas.{apart_by}
-use Rattle.reg_tables_meaning.proofs.Selected.{column_total, each_part, shown_in_turn}
+use Rattle.reg_tables_meaning.proofs.Selected.{column_total, each_part, shown_in_turn, same_one}
 use Rattle.reg_tables_meaning.proofs.Standing.{same_number}
 use Rattle.reg_tables_meaning.proofs.VersionEntries.{ids_rise, rows_rise}
 use Rattle.reg_tables_meaning.specs.Stands.{StandCrates, row_of_version}
@@ -51,13 +36,13 @@ got_at g f xs None = refl
 got_at g f xs (Some k) = ap (option_map g) (got_map f k xs) ∙ mapped g f (slice_get xs k)
 
 module _ (yanked : finset.FinSet mark_cmp) where
-  highest_same : (vs : List StoredVersion) → highest_in (map (mark_shown yanked) vs) ≡ id_among yanked vs
+  pub highest_same : (vs : List StoredVersion) → highest_in (map (mark_shown yanked) vs) ≡ id_among yanked vs
   highest_same vs =
       ap (λ o. unwrap_or o 0)
       (got_at (λ m. m.id) (mark_shown yanked) vs (top_place (map read_mark (map (mark_shown yanked) vs)))
       ∙ ap (λ ms. option_map (λ (v : StoredVersion). v.id) (option_and_then (slice_get vs) (top_place ms))) (maps_twice (mark_shown yanked) read_mark vs))
 
-  length_same : (vs : List StoredVersion) → length_in (map (mark_shown yanked) vs) ≡ length_among yanked vs
+  pub length_same : (vs : List StoredVersion) → length_in (map (mark_shown yanked) vs) ≡ length_among yanked vs
   length_same [] = refl
   length_same (v ∷ vs) =
       let rest = file_text (map (λ (v : StoredVersion). (v.publication.stem, is_marked yanked v)) vs) in
@@ -101,9 +86,6 @@ module _ (ids : Ids) (ps : List Publication) (yanked : finset.FinSet mark_cmp) (
       let one = one_passes (on (λ w. w.id) nat_eq) test ids.versions v (apart_by (λ w. w.id) ids.versions h.rising) (λ w x j k p q. eq-eqb w.id x.id (passes w p ∙ sym (passes x q))) i (same_number v.id v.id ∙ eq-eqb v.id v.id refl) in
       ap (map shows_mark) (one_row (row_of_version yanked) (is_number 0 v.id) v ids.versions (db 11) h.version_rows one)
 
-same_columns : {a b : Row} → ◌≡◌ {A = List Row} (a ∷ []) (b ∷ []) → a ≡ b
-same_columns e = cc
-
 same_mark : (v : ShownMark) (m : VersionMark) → columns_of_shown v ≡ columns_of_mark m → shown_mark m ≡ v
 same_mark v m e =
     let id = number_is (heads e) in
@@ -115,12 +97,12 @@ same_mark v m e =
 -- what was found of the version with this id
 pub mark_found : (id : ℕ) (db : Trees) (found : Option VersionMark) (m : VersionMark) → found ≡ Some m → IsMarkWithId id db found → IsVersionAt id db m
 mark_found id db found m is told v e has =
-    same_mark v m (same_columns (sym has ∙ (λ i. map shows_mark (filter (is_number 0 (e i)) (db 11))) ∙ told ∙ ap (shown_of columns_of_mark) is))
+    same_mark v m (same_one (sym has ∙ (λ i. map shows_mark (filter (is_number 0 (e i)) (db 11))) ∙ told ∙ ap (shown_of columns_of_mark) is))
 
 -- what was found of the summary of the crate
 pub kept_found : (id : ℕ) (db : Trees) (found : Option Summary) (m : Summary) → found ≡ Some m → IsSummaryOf id db found → IsKept id db m
 kept_found id db found m is told highest length has =
-    let e : shows summary_places (summary_row id highest length) ≡ columns_of_summary m = same_columns (sym (ap (map (shows summary_places)) has) ∙ told ∙ ap (shown_of columns_of_summary) is) in
+    let e : shows summary_places (summary_row id highest length) ≡ columns_of_summary m = same_one (sym (ap (map (shows summary_places)) has) ∙ told ∙ ap (shown_of columns_of_summary) is) in
     (sym (number_is (heads (tails e))), sym (number_is (heads (tails (tails e)))))
 
 -- where the versions have the same marks, the row is the same

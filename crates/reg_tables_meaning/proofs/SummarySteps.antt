@@ -1,12 +1,7 @@
 -- What a statement on summaries is, told by the versions that the rows are of.
 use Rattle.std.proofs.Common.{◌≡◌, ◌+◌, ℕ, pos, ◌∷◌, sym, ap, subst, ◌∙◌, zero-add}
-use Rattle.std.specs.List.Sorted.{IsPermutation}
-use Rattle.sqlite.specs.Effect.{Database}
-use Rattle.sqlite.specs.Order.{Row}
-use Rattle.sqlite.specs.State.{State}
-use Rattle.sqlite.specs.Tree.{Trees}
+use Rattle.reg_tables_meaning.proofs.Common.{Adds, Database, IsPermutation, KeepsOthers, Row, State, Trees}
 use Rattle.sqlite_trees.specs.Tree.{put_row, without_rowid}
-use Rattle.reg_tables_schema.specs.Changes.{Adds, KeepsOthers}
 use Rattle.reg_tables_sql.specs.Summaries.{Summarizes, summary_row}
 use Rattle.reg_tables_sql.specs.declared.versions.VersionMark.{VersionMark}
 use Rattle.reg_tables_meaning.proofs.Additions.{more_rows}

@@ -1,8 +1,5 @@
 -- The highest of the marks that were read.
-use Rattle.std.proofs.Common.{◌≡◌, ℕ, List, [], map, sym, ap, subst, ◌∙◌}
-use Rattle.std.specs.Prelude.{slice_get, unwrap_or}
-use Rattle.std.specs.Option.{option_and_then, option_map}
-use Rattle.reg_tables_schema.proofs.Queries.{maps_twice}
+use Rattle.reg_tables_meaning.proofs.Common.{◌≡◌, [], ◌∙◌, ap, List, map, maps_twice, option_and_then, option_map, slice_get, subst, sym, unwrap_or, ℕ}
 use Rattle.reg_tables_sql.specs.declared.versions.VersionMark.{VersionMark}
 use Rattle.reg_tables_meaning.specs.Summaries.{highest_in, read_mark, shown_mark}
 use Rattle.reg_tables_meaning.proofs.SummaryRows.{got_map, mapped}

@@ -3,22 +3,13 @@ use Rattle.reg_tables_sql.specs.Tokens.{token_row}
 use Rattle.reg_tables_sql.specs.Updates.{KeepsWhereNone}
 use Rattle.reg_names.specs.declared.endpoint.Endpoints.{Endpoints}
 use Rattle.std.proofs.Common.{◌≡◌, ◌==◌, ℕ, zero, suc, ◌+◌, ◌-◌, ◌<◌, ◌≤◌, pos, Bool, true, false, cond, List, [], ◌∷◌, ◌++◌, map, length, take, get_or, not, Some, arith, refl, sym, ap, subst, ◌∙◌, None, Option}
-use Rattle.std.specs.Prelude.{drop}
-use Rattle.std.specs.List.{filter, enumerate_from, flat_map}
-use Rattle.std.specs.List.Sorted.{IsPermutation}
-use Rattle.std.proofs.lemmas.List.Sorted.{IsPermutation-cons, IsPermutation-map, IsPermutation-sym, IsPermutation-trans}
+use Rattle.reg_tables_meaning.proofs.Common.{drop, enumerate_from, filter, flat_map, has_rowid, Int, IsPermutation, IsPermutation-cons, IsPermutation-map, IsPermutation-sym, IsPermutation-trans, Row, same_filter, State, Trees}
 use Rattle.std.proofs.lemmas.List.{append-nil, append_assoc, map-append, length-take-le, take_all, take_more}
-use Rattle.sqlite.specs.declared.types.Value.TheVariants.{Int}
-use Rattle.sqlite.specs.Order.{Row}
-use Rattle.sqlite.specs.State.{State}
-use Rattle.sqlite.specs.Tree.{Trees}
-use Rattle.sqlite_trees.specs.Tree.{has_rowid}
 use Rattle.reg_tables_schema.specs.Changes.{Adds, AddsColumns, Replaces, Touches}
-use Rattle.reg_tables_schema.proofs.Queries.{same_filter}
 use Rattle.reg_model.specs.Registry.{Text, Token, with_id, change_at, change_place}
 use Rattle.reg_tables_meaning.specs.Patterns.{GivesPatterns, with_last}
 use Rattle.reg_tables_meaning.specs.Stands.{row_of_token, scope_of, scopes_of, StandTokens, StandsBy}
-use Rattle.reg_tables_meaning.proofs.Numbered.{enumerate_snoc, one_at, changed_at, change_none, none_at}
+use Rattle.reg_tables_meaning.proofs.Numbered.{enumerate_snoc, one_at, changed_at, change_none, none_at, more}
 use Rattle.reg_tables_schema.proofs.Permutes.{put_permutes, put_replaces, one_row}
 use Rattle.reg_tables_meaning.proofs.Standing.{same_number, snoc_permutes, none_row}
 use Rattle.reg_tables_meaning.proofs.Stays.{same_tokens, same_scopes, tokens_stay, with_tokens}
@@ -104,9 +95,6 @@ module _ (t : Token) (ps : List Text) (p : Text) where
       let others = flat_map scopes_of (enumerate_from (n + 1) (ts ++ fewer ∷ [])) in
       ap (λ rs. scopes_of (n, u) ++ rs) (one_scope (n + 1) ts) ∙ sym (append_assoc (scopes_of (n, u)) others _)
       ∙ ap (λ k. (scopes_of (n, u) ++ others) ++ scope_of k (length ps, p) ∷ []) (more n (length ts))
-    where
-      more : (n m : ℕ) → (n + 1) + m ≡ n + suc m
-      more n m = omega arith
 
   pub adds_scope : (ts : List Token) (old new : State) → StandTokens (ts ++ fewer ∷ []) old.now.trees → (id place : ℕ) → id ≡ 1 + length ts → place ≡ length ps → AddsColumns 5 (scope_of id (place, p)) old new → StandTokens (ts ++ wider ∷ []) new.now.trees
   adds_scope ts old new stands id place is at adds =

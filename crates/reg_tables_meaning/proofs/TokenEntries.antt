@@ -1,40 +1,16 @@
 -- Tokens that selections show.
-use Rattle.std.proofs.Common.{◌≡◌, ◌==◌, ℕ, pos, List, [], ◌∷◌, map, Option, Some, None, refl, sym, ◌∙◌, ap}
-use Rattle.std.specs.List.{enumerate_from, filter}
-use Rattle.std.specs.List.Sorted.{IsPermutation}
-use Rattle.std.specs.Option.{option_map}
-use Rattle.sqlite.specs.declared.types.Value.{Value}
-use Rattle.sqlite.specs.declared.types.Value.TheVariants.{Int, Blob}
-use Rattle.sqlite.specs.Order.{Row}
-use Rattle.sqlite.specs.Tree.{Trees}
+use Rattle.reg_tables_meaning.proofs.Common.{◌≡◌, ◌==◌, [], ◌∷◌, ◌∙◌, ap, by_column, enumerate_from, filter, is_number, IsInOrder, IsPermutation-trans, List, map, maps_twice, None, one_row, Option, option_map, refl, Row, same_filter, shown_of, shows, Some, sym, Trees, ℕ}
 use Rattle.sqlite_keyed.proofs.SortLemmas.{sorted_unique}
-use Rattle.std.proofs.lemmas.List.Sorted.{IsPermutation-trans}
 use Rattle.reg_model.specs.Registry as model
-use Rattle.reg_tables_schema.specs.Rows.{IsInOrder, by_column}
-use Rattle.reg_tables_schema.specs.Shown.{shown_of}
-use Rattle.reg_tables_schema.proofs.Permutes.{one_row}
-use Rattle.reg_tables_schema.proofs.Queries.{maps_twice, same_filter}
 use Rattle.reg_tables_sql.specs.declared.tokens.Token.{Token}
 use Rattle.reg_tables_sql.specs.Tokens.{IsTokenWithId, columns_of_token}
 use Rattle.reg_tables_meaning.specs.TokenEntries.{entry_of_token, without_patterns}
 use Rattle.reg_tables_meaning.specs.Stands.{row_of_token, StandTokens}
-use Rattle.reg_tables_schema.specs.Tests.{is_number, shows}
-use Rattle.reg_tables_meaning.proofs.AccountEntries.{mark_is}
+use Rattle.reg_tables_meaning.proofs.AccountEntries.{mark_is, heads, tails, number_is}
 use Rattle.reg_tables_meaning.proofs.Numbered.{none_at, one_at}
-use Rattle.reg_tables_meaning.proofs.Selected.{column_total, places_rise}
+use Rattle.reg_tables_meaning.proofs.Selected.{column_total, places_rise, same_head, same_one, same_tail}
 use Rattle.reg_tables_meaning.proofs.Standing.{none_row, same_number}
-
-heads : {a b : Value} {xs ys : Row} → ◌≡◌ {A = Row} (a ∷ xs) (b ∷ ys) → a ≡ b
-heads e = cc
-
-tails : {a b : Value} {xs ys : Row} → ◌≡◌ {A = Row} (a ∷ xs) (b ∷ ys) → xs ≡ ys
-tails e = cc
-
-number_is : {n m : ℕ} → Int (pos n) ≡ Int (pos m) → n ≡ m
-number_is e = cc
-
-bytes_are : {t u : List ℕ} → Blob t ≡ Blob u → t ≡ u
-bytes_are e = cc
+use Rattle.reg_tables_meaning.proofs.VersionEntries.{bytes_are}
 
 abbrev show : Row → Row
 show = shows (0 ∷ 2 ∷ 3 ∷ 4 ∷ 5 ∷ 6 ∷ 7 ∷ 8 ∷ [])
@@ -57,13 +33,7 @@ each_token : (es : List (ℕ × model.Token)) (list : List Token) → map column
 each_token [] [] h = refl
 each_token (e ∷ es) [] h = absurd cc
 each_token [] (t ∷ list) h = absurd cc
-each_token (e ∷ es) (t ∷ list) h = rw (same_token e t (first h)) (ap (λ l. without_patterns e ∷ l) (each_token es list (rest h)))
-  where
-    first : {A : Type 0} {a b : A} {xs ys : List A} → ◌≡◌ {A = List A} (a ∷ xs) (b ∷ ys) → a ≡ b
-    first e = cc
-
-    rest : {A : Type 0} {a b : A} {xs ys : List A} → ◌≡◌ {A = List A} (a ∷ xs) (b ∷ ys) → xs ≡ ys
-    rest e = cc
+each_token (e ∷ es) (t ∷ list) h = rw (same_token e t (same_head h)) (ap (λ l. without_patterns e ∷ l) (each_token es list (same_tail h)))
 
 pub lists_tokens : (tokens : List model.Token) (db : Trees) → StandTokens tokens db → (list : List Token) → IsInOrder (by_column 0) (db 3) show (map columns_of_token list) → map entry_of_token list ≡ map without_patterns (enumerate_from 1 tokens)
 lists_tokens tokens db stands list h =
@@ -71,16 +41,13 @@ lists_tokens tokens db stands list h =
     let all = sorted_unique (by_column 0) (column_total 0) (map row_of_token es) h.ordered (places_rise row_of_token (λ e. refl) 1 tokens) (IsPermutation-trans (map row_of_token es) (db 3) h.ordered stands.rows h.same) h.sorted in
     each_token es list (h.shown ∙ ap (map show) all ∙ maps_twice row_of_token show es)
 
-row_is : {a b : Row} → ◌≡◌ {A = List Row} (a ∷ []) (b ∷ []) → a ≡ b
-row_is e = cc
-
 none_shown : (found : Option Token) → ◌≡◌ {A = List Row} [] (shown_of columns_of_token found) → found ≡ None
 none_shown None h = refl
 none_shown (Some t) h = absurd cc
 
 one_shown : (e : ℕ × model.Token) (found : Option Token) → ◌≡◌ {A = List Row} (show (row_of_token e) ∷ []) (shown_of columns_of_token found) → option_map (λ t. t.live) found ≡ Some e.1.live
 one_shown e None h = absurd cc
-one_shown e (Some t) h = ap (λ e. Some e.1.live) (same_token e t (sym (row_is h)))
+one_shown e (Some t) h = ap (λ e. Some e.1.live) (same_token e t (sym (same_one h)))
 
 -- the token with an id is live, or not
 pub live_told : (tokens : List model.Token) (db : Trees) → StandTokens tokens db → (id : ℕ) (found : Option Token) → IsTokenWithId id db found

@@ -1,13 +1,9 @@
 -- How many versions of a crate the rows stand for.
 use Rattle.std.proofs.Common.{◌≡◌, ◌==◌, ◌<◌, ◌+◌, ◌-◌, ℕ, false, map, length, nat_le, not, Option, Some, None, refl, sym, ap, arith, ◌∙◌}
-use Rattle.std.specs.Prelude.{unwrap_or}
-use Rattle.std.specs.List.{filter}
+use Rattle.reg_tables_meaning.proofs.Common.{filter, is_number, Registry, Text, Trees, unwrap_or}
 use Rattle.std.proofs.lemmas.List.{length-map}
 use Rattle.std.proofs.lemmas.List.Filters.{length-filter_both}
-use Rattle.sqlite.specs.Tree.{Trees}
 use Rattle.reg_model.specs.Crates.{versions}
-use Rattle.reg_model.specs.Registry.{Registry, Text}
-use Rattle.reg_tables_schema.specs.Tests.{is_number}
 use Rattle.reg_tables_sql.specs.Counts.{IsCountOf, IsLastId}
 use Rattle.reg_tables_meaning.proofs.CrateCounts.{count_is, no_more_than_next, not_le}
 use Rattle.reg_tables_meaning.proofs.Rising.{next_as}

@@ -2,7 +2,7 @@
 use Rattle.reg_tables_schema.specs.declared.edition.Edition.{Edition}
 use Rattle.std.proofs.Common.{◌≡◌, ◌⊎◌, inl, inr, arith, ℕ, List, [], ◌∷◌, ◌++◌, false, is_some, Ok, Err, Some, None, Option, Result, subst}
 use Rattle.std.specs.Borrow.{Bor}
-use Rattle.sqlite.specs.Order.{Row}
+use Rattle.reg_tables_meaning.proofs.Common.{Row, survives_then}
 use Rattle.sqlite_trees.specs.declared.store.Store.{Ghosts}
 use Rattle.sqlite.specs.declared.error.Error.{Error}
 use Rattle.sqlite.specs.declared.rows.stream.Rows.{Rows}
@@ -10,7 +10,6 @@ use Rattle.sqlite.specs.Held.{Held, state}
 use Rattle.sqlite.specs.Next.{HasMoved}
 use Rattle.sqlite.specs.State.{Fails, HasCleanDisk, IsUnchanged, Survives, Shown}
 use Rattle.sqlite.proofs.Callers.{unchanged_then}
-use Rattle.sqlite.proofs.StateLemmas.{survives_then}
 use Rattle.reg_tables_schema.specs.States.{IsOurs, Refuses}
 use Rattle.reg_tables_meaning.specs.Walks.{IsSpared}
 use Rattle.reg_tables_meaning.proofs.RowReading.{next_ours}

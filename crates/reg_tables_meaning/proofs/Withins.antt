@@ -1,10 +1,9 @@
 -- What a statement of a transaction leaves within it, and what more of them do.
-use Rattle.std.proofs.Common.{inl, inr, ℕ, List, refl, ap, ◌∙◌}
-use Rattle.sqlite.specs.Order.{Row}
-use Rattle.sqlite.specs.State.{State, HasCleanDisk, IsUnchanged}
+use Rattle.reg_tables_meaning.proofs.Common.{◌∙◌, ap, HasCleanDisk, IsUnchanged, List, refl, Row, State, ℕ}
 use Rattle.reg_tables_schema.specs.States.{IsInside, Refuses}
 use Rattle.reg_tables_schema.specs.Changes.{Becomes, Touches}
 use Rattle.reg_tables_schema.specs.Steps.{Fails, Within}
+use Rattle.reg_tables_schema.proofs.MakeLemmas.{refused_keeps}
 
 pub become_within : (old new : State) (tree : ℕ) (rows : List Row) → HasCleanDisk old → IsInside old → Becomes tree rows old new → Within old new
 become_within old new tree rows clean at b = record {
@@ -42,12 +41,10 @@ fails_after a b c first next = record {
   back = λ e o. next.back e (first.back e o);
 }
 
-pub refused_fails : (old new : State) → HasCleanDisk old → IsInside old → Refuses old new → Fails old new
-refused_fails old new clean at (inl same) = within_fails old new (unchanged_within old new clean at same)
-refused_fails old new clean at (inr rolled) = record {
-  kept = record { was_open = rolled.was_open; committed = λ still. (rolled.undone still).1 };
-  back = λ e o _ still. ap (λ d. d.schema) (rolled.undone still).1 ∙ o clean at.is_open;
-}
+pub refused_fails : (old new : State) → HasCleanDisk old → Refuses old new → Fails old new
+refused_fails old new clean h =
+    let k = refused_keeps old new h in
+    record { kept = k; back = λ e gone _ up. ap (λ d. d.schema) (k.committed up) ∙ gone clean (k.was_open up) }
 
 pub itself_within : (old : State) → HasCleanDisk old → IsInside old → Within old old
 itself_within old clean at = record { was_open = at.is_open; committed = refl; inside = at; back = λ e o. o }

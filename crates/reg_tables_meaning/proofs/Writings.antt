@@ -1,8 +1,6 @@
 -- What statements of a transaction leave, one after another, where some of them may write.
 use Rattle.std.proofs.Common.{ℕ, Bool, inl, Err, IsErr, Ok, Result, OnErr, OnOk, arith, refl}
-use Rattle.sqlite.specs.Order.{Row}
-use Rattle.sqlite.specs.State.{State, HasCleanDisk, Survives}
-use Rattle.sqlite.proofs.StateLemmas.{survives_then}
+use Rattle.reg_tables_meaning.proofs.Common.{HasCleanDisk, Row, State, Survives, survives_then}
 use Rattle.reg_tables_schema.specs.Changes.{Adds, AddsColumns, Removes, Touches}
 use Rattle.reg_tables_schema.specs.States.{IsInside, IsReady}
 use Rattle.reg_tables_schema.specs.Statements.{IsReading, IsWriting}
@@ -24,15 +22,16 @@ err_of (Ok x) a = tt
 err_of (Err e) a = a
 
 leads_then : {T U E F : Type 0} (a b c : State) (x : T) (r : Result U F) → Leads {E = E} a b (Ok x) → Leads b c r → Leads a c r
-leads_then a b c x r one two = record { leaves = λ ready.
-    let first = one.leaves ready in
-    let next = two.leaves (λ clean. (first.within clean).inside) in
-    let early : HasCleanDisk c → HasCleanDisk b = λ clean. omega (arith, clean, next.survives.clean) in
-    record {
-      within = λ clean. on_ok r (within_then a b c (first.within (early clean))) (next.within clean);
-      fails = λ clean. on_err r (fails_after a b c (first.within (early clean))) (next.fails clean);
-      survives = survives_then a b c _ _ _ (λ _ _ h. h) (λ _ _ h. h) first.survives next.survives;
-    };
+leads_then a b c x r one two = record {
+  leaves = λ ready.
+      let first = one.leaves ready in
+      let next = two.leaves (λ clean. (first.within clean).inside) in
+      let early : HasCleanDisk c → HasCleanDisk b = λ clean. omega (arith, clean, next.survives.clean) in
+      record {
+        within = λ clean. on_ok r (within_then a b c (first.within (early clean))) (next.within clean);
+        fails = λ clean. on_err r (fails_after a b c (first.within (early clean))) (next.fails clean);
+        survives = survives_then a b c _ _ _ (λ _ _ h. h) (λ _ _ h. h) first.survives next.survives;
+      };
 }
 
 ends_in : {T U E F : Type 0} (a b : State) (x : T) (r : Result U F) → LeavesWithin {E = E} a b (Ok x) → LeavesWithin a b r
@@ -49,39 +48,44 @@ steps h = record { leaves = λ _. h }
 
 -- a part that only reads, and one statement that does
 pub looks : {T E : Type 0} {a b : State} {r : Result T E} → LeavesSame a b r → Leads a b r
-looks {a = a} {b = b} {r = r} h = record { leaves = λ ready.
-    let early : HasCleanDisk b → HasCleanDisk a = λ clean. omega (arith, clean, h.survives.clean) in
-    record {
-      within = λ clean. on_ok r (unchanged_within a b (early clean) (ready (early clean))) (h.only clean).0;
-      fails = λ clean. on_err r (refused_fails a b (early clean) (ready (early clean))) (h.only clean).1;
-      survives = h.survives;
-    };
+looks {a = a} {b = b} {r = r} h = record {
+  leaves = λ ready.
+      let early : HasCleanDisk b → HasCleanDisk a = λ clean. omega (arith, clean, h.survives.clean) in
+      record {
+        within = λ clean. on_ok r (unchanged_within a b (early clean) (ready (early clean))) (h.only clean).0;
+        fails = λ clean. on_err r (refused_fails a b (early clean)) (h.only clean).1;
+        survives = h.survives;
+      };
 }
 
 pub reads : {T E : Type 0} {a b : State} {r : Result T E} {tells : T → Type 0} → IsReading a b r tells → Leads a b r
 reads h = looks (left h)
 
 -- a statement that writes
-pub writes : {T E : Type 0} {C : State → State → Type 0} {a b : State} {r : Result T E} → IsWriting a b r C → (HasCleanDisk a → IsInside a → C a b → Within a b) → Leads a b r
-writes {a = a} {b = b} {r = r} h within = record { leaves = λ ready.
-    let early : HasCleanDisk b → HasCleanDisk a = λ clean. omega (arith, clean, h.survives.clean) in
-    record {
-      within = λ clean. on_ok r (within (early clean) (ready (early clean))) (h.changes clean);
-      fails = λ clean. on_err r (refused_fails a b (early clean) (ready (early clean))) (h.refused clean);
-      survives = h.survives;
-    };
+pub writes : {T E : Type 0} {C : State → State → Type 0} {a b : State} {r : Result T E} → IsWriting a b r C
+    → (HasCleanDisk a → IsInside a → C a b → Within a b) → Leads a b r
+writes {a = a} {b = b} {r = r} h within = record {
+  leaves = λ ready.
+      let early : HasCleanDisk b → HasCleanDisk a = λ clean. omega (arith, clean, h.survives.clean) in
+      record {
+        within = λ clean. on_ok r (within (early clean) (ready (early clean))) (h.changes clean);
+        fails = λ clean. on_err r (refused_fails a b (early clean)) (h.refused clean);
+        survives = h.survives;
+      };
 }
 
 pub adds : {T E : Type 0} {tree : ℕ} {row : Row} {a b : State} {r : Result T E} → IsWriting a b r (Adds tree row) → Leads a b r
 adds {tree = tree} {a = a} {b = b} h = writes h (λ clean at added. become_within a b tree _ clean at added.becomes)
 
-pub adds_columns : {T E : Type 0} {tree : ℕ} {columns : Row} {a b : State} {r : Result T E} → IsWriting a b r (AddsColumns tree columns) → Leads a b r
+pub adds_columns : {T E : Type 0} {tree : ℕ} {columns : Row} {a b : State} {r : Result T E} → IsWriting a b r (AddsColumns tree columns)
+    → Leads a b r
 adds_columns {tree = tree} {a = a} {b = b} h = writes h (λ clean at added. become_within a b tree _ clean at added.1.becomes)
 
 pub removes : {T E : Type 0} {tree : ℕ} {test : Row → Bool} {a b : State} {r : Result T E} → IsWriting a b r (Removes tree test) → Leads a b r
 removes {tree = tree} {a = a} {b = b} h = writes h (λ clean at gone. become_within a b tree _ clean at gone)
 
-pub touches : {T E : Type 0} {C : State → State → Type 0} (tree : ℕ) {a b : State} {r : Result T E} → IsWriting a b r C → (C a b → Touches tree a b) → Leads a b r
+pub touches : {T E : Type 0} {C : State → State → Type 0} (tree : ℕ) {a b : State} {r : Result T E} → IsWriting a b r C
+    → (C a b → Touches tree a b) → Leads a b r
 touches tree {a = a} {b = b} h is = writes h (λ clean at changed. touch_within a b tree clean at (is changed))
 
 -- what they leave, whatever is answered once they are done
@@ -97,7 +101,8 @@ fails (Err f) is h ready =
 
 -- before the first of them, and after some that are told otherwise
 pub none : (a : State) → Leads {T = Unit} {E = Unit} a a (Ok tt)
-none a = record { leaves = λ ready. record {
+none a = record {
+  leaves = λ ready. record {
     within = λ clean. itself_within a clean (ready clean);
     fails = λ _. tt;
     survives = record { clean = omega arith; shield = λ h. h; counts = omega arith; limit = refl; closes = λ _ up. inl up; crash = λ _ db may. inl may };

@@ -1,31 +1,17 @@
 -- What the row of a version that is yanked, or no more, is on the registry.
-use Rattle.std.proofs.Common.{◌≡◌, ◌==◌, ℕ, pos, List, [], ◌∷◌, ◌++◌, map, Bool, true, false, not, cond, ◌||◌, ◌&&◌, refl, sym, ap, subst, ◌∙◌, None}
-use Rattle.std.specs.Prelude.{drop}
+use Rattle.reg_tables_meaning.proofs.Common.{◌≡◌, ◌==◌, [], ◌∷◌, ◌++◌, ◌||◌, ◌&&◌, ◌∙◌, ap, Bool, bytes_eq, canon, cond, drop, eq_by_cmp, false, is_eq, is_eq-slice_cmp, IsPermutation, IsPermutation-filter, List, map, nat_cmp, nat_list_eq_equiv, None, not, not_true, on, pos, refl, release_key_of, Row, same_filter, subst, sym, Trees, true, true_not_false, value_cmp, version_row, ℕ}
 use Rattle.std.specs.List.{filter, list_any, IsDistinct}
-use Rattle.std.specs.List.Sorted.{IsPermutation}
-use Rattle.std.specs.Ordering.{is_eq, on, eq_by_cmp, nat_cmp}
-use Rattle.std.specs.Str.{bytes_eq}
 use Rattle.std.specs.FinSet as finset
 use Rattle.std.specs.Cmp.{IsEquivalence, on_equiv, and_equiv, eq_by_cmp_equiv, nat_cmp_total}
-use Rattle.std.specs.Cmp.Lexicographic.{nat_list_eq_equiv}
 use Rattle.std.proofs.lemmas.Bool.{and_parts, and_from, eq-eqb, eqb-true, and_left}
 use Rattle.std.proofs.lemmas.List.Sorted.{IsPermutation-cons, IsPermutation-filter_both, IsPermutation-map, IsPermutation-trans}
 use Rattle.std.proofs.lemmas.Map.Keys.{IsDistinct-from_sorted}
-use Rattle.std.proofs.lemmas.Map.Text.{is_eq-slice_cmp}
 use Rattle.sqlite.specs.declared.types.Value.TheVariants.{Text as Characters}
-use Rattle.sqlite.specs.Order.{Row, value_cmp}
-use Rattle.sqlite.specs.Tree.{Trees}
 use Rattle.sqlite_trees.specs.Tree.{has_rowid, put_row, without_rowid}
-use Rattle.sqlite_trees.proofs.ListLemmas.{IsPermutation-filter}
 use Rattle.sqlite_value.proofs.OrderLemmas.{value_cmp-Text}
-use Rattle.reg_names.specs.Names.{canon}
-use Rattle.reg_versions.specs.Versions.{release_key_of}
-use Rattle.reg_tables_schema.proofs.Queries.{same_filter}
 use Rattle.reg_model.specs.Registry.{Text, Publication, Mark, mark_cmp}
 use Rattle.reg_model.specs.Sound.{one_release}
 use Rattle.reg_model.proofs.Keys.{mark_total, mark_apart, same_key, ties_itself}
-use Rattle.reg_model.proofs.Lists.{not_true, true_not_false}
-use Rattle.reg_tables_sql.specs.Versions.{version_row}
 use Rattle.reg_tables_meaning.specs.Stands.{StoredCrate, StoredVersion, row_of_crate, row_of_version, row_of_archive, StandCrates, Ids, spelling_at}
 use Rattle.reg_tables_schema.specs.Tests.{is_version}
 use Rattle.reg_tables_meaning.proofs.CrateLemmas.{same_bytes, bytes_same, crate_of, is_stored, one_by_canon, one_by_id, is_published, none_of}

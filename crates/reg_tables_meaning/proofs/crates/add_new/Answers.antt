@@ -1,18 +1,16 @@
-use Rattle.std.proofs.Common.{arith}
-use Rattle.std.specs.Option.{option_map}
-use Rattle.sqlite.specs.State.{HasCleanDisk}
-use Rattle.sqlite.specs.Held.{state}
-use Rattle.reg_model.specs.Registry.{Publication}
+use Rattle.reg_tables_meaning.proofs.Common.{arith, HasCleanDisk, option_map, Publication, state}
 use Rattle.reg_tables_meaning.proofs.CratesStand.{adds_first}
 use Rattle.reg_tables_meaning.proofs.Writings.{◌⨾◌, ends, fails, steps}
 use Rattle.reg_tables_meaning.proofs.crates.add_new.Goals as goal
 
 pub returns-in_err-first-clause-leaves : goal.returns-in_err-first-clause-leaves
-returns-in_err-first-clause-leaves g c = fails _ c.from_residual-in_err-first.ensures.0 (steps c.in_ok-id.ensures.leaves ⨾ steps c.in_err-first.ensures.leaves) c.requires
+returns-in_err-first-clause-leaves g c =
+    fails _ c.from_residual-in_err-first.ensures.0 (steps c.in_ok-id.ensures.leaves ⨾ steps c.in_err-first.ensures.leaves) c.requires
 
 pub returns-in_err-insert-clause-leaves : goal.returns-in_err-insert-clause-leaves
 returns-in_err-insert-clause-leaves g c =
-    fails _ c.from_residual-in_err-insert.ensures.0 (steps c.in_ok-id.ensures.leaves ⨾ steps c.in_ok-first.ensures.leaves ⨾ steps c.in_err-insert.ensures.leaves) c.requires
+    fails _ c.from_residual-in_err-insert.ensures.0
+    (steps c.in_ok-id.ensures.leaves ⨾ steps c.in_ok-first.ensures.leaves ⨾ steps c.in_err-insert.ensures.leaves) c.requires
 
 pub returns-clause-stands : goal.returns-clause-stands
 returns-clause-stands g c clean ids s h fresh =
@@ -27,4 +25,5 @@ returns-clause-stands g c clean ids s h fresh =
     adds_first ids s c.in_ok-id.id c.args.owner c.in_ok-first.first p old.now.trees mid.now.trees added.now.trees new.now.trees h fresh (c.in_ok-id.ensures.added clean_mid) (c.in_ok-first.ensures.added clean_added c.args.name.now) (c.in_ok-insert.ensures.added clean)
 
 pub returns-clause-leaves : goal.returns-clause-leaves
-returns-clause-leaves g c = ends (steps c.in_ok-id.ensures.leaves ⨾ steps c.in_ok-first.ensures.leaves ⨾ steps c.in_ok-insert.ensures.leaves) c.requires
+returns-clause-leaves g c =
+    ends (steps c.in_ok-id.ensures.leaves ⨾ steps c.in_ok-first.ensures.leaves ⨾ steps c.in_ok-insert.ensures.leaves) c.requires

@@ -1,14 +1,11 @@
-use Rattle.std.proofs.Common.{arith}
-use Rattle.std.specs.Option.{option_map}
-use Rattle.sqlite.specs.State.{HasCleanDisk}
-use Rattle.sqlite.specs.Held.{state}
-use Rattle.reg_model.specs.Registry.{Publication}
+use Rattle.reg_tables_meaning.proofs.Common.{arith, HasCleanDisk, option_map, Publication, state}
 use Rattle.reg_tables_meaning.proofs.CratesStand.{adds_next}
 use Rattle.reg_tables_meaning.proofs.Writings.{◌⨾◌, ends, fails, steps}
 use Rattle.reg_tables_meaning.proofs.crates.add_next.Goals as goal
 
 pub returns-in_err-push-clause-leaves : goal.returns-in_err-push-clause-leaves
-returns-in_err-push-clause-leaves g c = fails _ c.from_residual-in_err-push.ensures.0 (steps c.in_ok-id.ensures.leaves ⨾ steps c.in_err-push.ensures.leaves) c.requires
+returns-in_err-push-clause-leaves g c =
+    fails _ c.from_residual-in_err-push.ensures.0 (steps c.in_ok-id.ensures.leaves ⨾ steps c.in_err-push.ensures.leaves) c.requires
 
 pub returns-clause-stands : goal.returns-clause-stands
 returns-clause-stands g c clean ids s name h at fresh =

@@ -1,6 +1,4 @@
-use Rattle.std.proofs.Common.{◌≡◌, arith, ◌∙◌}
-use Rattle.sqlite.specs.State.{HasCleanDisk}
-use Rattle.sqlite.specs.Held.{state}
+use Rattle.reg_tables_meaning.proofs.Common.{◌≡◌, ◌∙◌, arith, HasCleanDisk, state}
 use Rattle.reg_tables_meaning.proofs.Additions.{crate_added}
 use Rattle.reg_tables_meaning.proofs.Writings.{◌⨾◌, adds, adds_columns, ends, fails, reads}
 use Rattle.reg_tables_meaning.proofs.crates.insert_crate.Goals as goal
@@ -23,11 +21,14 @@ pub returns-in_err-id-clause-leaves : goal.returns-in_err-id-clause-leaves
 returns-in_err-id-clause-leaves g c = ends (reads c.in_ok-last.ensures) c.requires
 
 pub returns-in_err-insert-clause-leaves : goal.returns-in_err-insert-clause-leaves
-returns-in_err-insert-clause-leaves g c = fails _ c.from_residual-in_err-insert.ensures.0 (reads c.in_ok-last.ensures ⨾ adds c.in_err-insert.ensures) c.requires
+returns-in_err-insert-clause-leaves g c =
+    fails _ c.from_residual-in_err-insert.ensures.0 (reads c.in_ok-last.ensures ⨾ adds c.in_err-insert.ensures) c.requires
 
 pub returns-in_err-insert-2-clause-leaves : goal.returns-in_err-insert-2-clause-leaves
 returns-in_err-insert-2-clause-leaves g c =
-    fails _ c.from_residual-in_err-insert-2.ensures.0 (reads c.in_ok-last.ensures ⨾ adds c.in_ok-insert.ensures ⨾ adds_columns c.in_err-insert-2.ensures) c.requires
+    fails _ c.from_residual-in_err-insert-2.ensures.0
+    (reads c.in_ok-last.ensures ⨾ adds c.in_ok-insert.ensures ⨾ adds_columns c.in_err-insert-2.ensures) c.requires
 
 pub returns-clause-leaves : goal.returns-clause-leaves
-returns-clause-leaves g c = ends (reads c.in_ok-last.ensures ⨾ adds c.in_ok-insert.ensures ⨾ adds_columns c.in_ok-insert-2.ensures) c.requires
+returns-clause-leaves g c =
+    ends (reads c.in_ok-last.ensures ⨾ adds c.in_ok-insert.ensures ⨾ adds_columns c.in_ok-insert-2.ensures) c.requires

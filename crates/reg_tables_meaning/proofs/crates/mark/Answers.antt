@@ -1,7 +1,4 @@
-use Rattle.std.proofs.Common.{◌≡◌, None, Some, arith, subst, sym}
-use Rattle.sqlite.specs.Effect.{Database}
-use Rattle.sqlite.specs.Held.{state}
-use Rattle.sqlite.specs.State.{HasCleanDisk}
+use Rattle.reg_tables_meaning.proofs.Common.{◌≡◌, arith, Database, HasCleanDisk, None, Some, state, subst, sym}
 use Rattle.reg_tables_sql.specs.Versions.{MarksYanked}
 use Rattle.reg_tables_meaning.specs.Changes.{mark_at}
 use Rattle.reg_tables_meaning.specs.Marking.{IsOtherwise}
@@ -18,7 +15,8 @@ returns-in_default-clause-leaves g c = ends (looks c.in_ok-found.ensures.same) c
 
 pub returns-in_err-set_yanked-clause-leaves : goal.returns-in_err-set_yanked-clause-leaves
 returns-in_err-set_yanked-clause-leaves g c =
-    fails _ c.from_residual-in_err-set_yanked.ensures.0 (looks c.in_ok-found.ensures.same ⨾ touches 11 c.in_err-set_yanked.ensures (λ m. m.touches)) c.requires
+    fails _ c.from_residual-in_err-set_yanked.ensures.0
+    (looks c.in_ok-found.ensures.same ⨾ touches 11 c.in_err-set_yanked.ensures (λ m. m.touches)) c.requires
 
 pub returns-in_err-remark-clause-leaves : goal.returns-in_err-remark-clause-leaves
 returns-in_err-remark-clause-leaves g c =

@@ -1,7 +1,5 @@
-use Rattle.std.proofs.Common.{[], ◌∷◌, pos}
+use Rattle.reg_tables_meaning.proofs.Common.{[], ◌∷◌, Int, pos, state}
 use Rattle.sqlite.proofs.Callers.{given_begin}
-use Rattle.sqlite.specs.Held.{state}
-use Rattle.sqlite.specs.declared.types.Value.TheVariants.{Int}
 use Rattle.reg_tables_sql.proofs.StemQueries.{stems_begun}
 use Rattle.reg_tables_sql.specs.Stems.{entries_text}
 use Rattle.reg_tables_meaning.proofs.laws.walk_law.Goals as goal

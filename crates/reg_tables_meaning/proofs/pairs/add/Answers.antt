@@ -1,10 +1,5 @@
-use Rattle.std.specs.List.{list_any}
-use Rattle.sqlite_trees.specs.Tree.{has_rowid}
+use Rattle.reg_tables_meaning.proofs.Common.{◌≡◌, ◌∙◌, ap, arith, Database, has_rowid, HasCleanDisk, list_any, pos, state, subst, sym}
 use Rattle.reg_tables_schema.specs.Tests.{is_owner}
-use Rattle.std.proofs.Common.{pos, ◌≡◌, arith, sym, subst, ap, ◌∙◌}
-use Rattle.sqlite.specs.Effect.{Database}
-use Rattle.sqlite.specs.State.{HasCleanDisk}
-use Rattle.sqlite.specs.Held.{state}
 use Rattle.reg_tables_sql.specs.Relations.{tree_of}
 use Rattle.reg_tables_meaning.specs.Relations.{related, with_related}
 use Rattle.reg_tables_meaning.specs.Stands.{Holds, StandsBy}
@@ -58,14 +53,17 @@ pub returns-in_err-is_crate-clause-leaves : goal.returns-in_err-is_crate-clause-
 returns-in_err-is_crate-clause-leaves g c = fails _ c.from_residual.ensures.0 (reads c.in_err-is_crate.ensures) c.requires
 
 pub returns-in_err-is_pair-clause-leaves : goal.returns-in_err-is_pair-clause-leaves
-returns-in_err-is_pair-clause-leaves g c = fails _ c.from_residual-in_err-is_pair.ensures.0 (reads c.in_ok-is_crate.ensures ⨾ reads c.in_err-is_pair.ensures) c.requires
+returns-in_err-is_pair-clause-leaves g c =
+    fails _ c.from_residual-in_err-is_pair.ensures.0 (reads c.in_ok-is_crate.ensures ⨾ reads c.in_err-is_pair.ensures) c.requires
 
 pub returns-in_err-insert-clause-leaves : goal.returns-in_err-insert-clause-leaves
 returns-in_err-insert-clause-leaves g c =
-    fails _ c.from_residual-in_err-insert.ensures.0 (reads c.in_ok-is_crate.ensures ⨾ reads c.in_ok-is_pair.ensures ⨾ adds_columns c.in_err-insert.ensures) c.requires
+    fails _ c.from_residual-in_err-insert.ensures.0
+    (reads c.in_ok-is_crate.ensures ⨾ reads c.in_ok-is_pair.ensures ⨾ adds_columns c.in_err-insert.ensures) c.requires
 
 pub returns-clause-leaves : goal.returns-clause-leaves
-returns-clause-leaves g c = ends (reads c.in_ok-is_crate.ensures ⨾ reads c.in_ok-is_pair.ensures ⨾ adds_columns c.in_ok-insert.ensures) c.requires
+returns-clause-leaves g c =
+    ends (reads c.in_ok-is_crate.ensures ⨾ reads c.in_ok-is_pair.ensures ⨾ adds_columns c.in_ok-insert.ensures) c.requires
 
 pub returns-then-not-is_crate-clause-tells : goal.returns-then-not-is_crate-clause-tells
 returns-then-not-is_crate-clause-tells g c clean ids s h n at =

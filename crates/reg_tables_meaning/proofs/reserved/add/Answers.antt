@@ -1,7 +1,4 @@
-use Rattle.std.proofs.Common.{◌≡◌, arith, sym, subst, ◌∙◌}
-use Rattle.sqlite.specs.Effect.{Database}
-use Rattle.sqlite.specs.State.{HasCleanDisk}
-use Rattle.sqlite.specs.Held.{state}
+use Rattle.reg_tables_meaning.proofs.Common.{◌≡◌, ◌∙◌, arith, Database, HasCleanDisk, state, subst, sym}
 use Rattle.reg_tables_meaning.specs.Stands.{StandsBy}
 use Rattle.reg_tables_meaning.proofs.ReservedChanges.{is_there, adds_reserved, stays_reserved}
 use Rattle.reg_tables_meaning.proofs.Stays.{with_reserved}
@@ -36,7 +33,8 @@ pub returns-then-branch-clause-leaves : goal.returns-then-branch-clause-leaves
 returns-then-branch-clause-leaves g c = ends (reads c.in_ok-is_there.ensures) c.requires
 
 pub returns-in_err-insert-clause-leaves : goal.returns-in_err-insert-clause-leaves
-returns-in_err-insert-clause-leaves g c = fails _ c.from_residual-in_err-insert.ensures.0 (reads c.in_ok-is_there.ensures ⨾ adds_columns c.in_err-insert.ensures) c.requires
+returns-in_err-insert-clause-leaves g c =
+    fails _ c.from_residual-in_err-insert.ensures.0 (reads c.in_ok-is_there.ensures ⨾ adds_columns c.in_err-insert.ensures) c.requires
 
 pub returns-clause-leaves : goal.returns-clause-leaves
 returns-clause-leaves g c = ends (reads c.in_ok-is_there.ensures ⨾ adds_columns c.in_ok-insert.ensures) c.requires

@@ -1,5 +1,4 @@
-use Rattle.std.proofs.Common.{◌∙◌}
-use Rattle.sqlite.specs.Held.{state}
+use Rattle.reg_tables_meaning.proofs.Common.{◌∙◌, state}
 use Rattle.reg_tables_meaning.proofs.MarkedStand.{is_marked}
 use Rattle.reg_tables_meaning.proofs.restricted.is.Goals as goal
 

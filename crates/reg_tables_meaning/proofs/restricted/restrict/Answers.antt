@@ -1,11 +1,5 @@
-use Rattle.std.specs.List.{list_any}
-use Rattle.sqlite_trees.specs.Tree.{has_rowid}
-use Rattle.reg_tables_schema.specs.Tests.{is_number}
+use Rattle.reg_tables_meaning.proofs.Common.{◌≡◌, ◌∙◌, ap, arith, Database, has_rowid, HasCleanDisk, is_number, list_any, pos, state, subst, sym}
 use Rattle.std.proofs.lemmas.Result.{IfOk-from_err}
-use Rattle.std.proofs.Common.{pos, ◌≡◌, arith, sym, subst, ap, ◌∙◌}
-use Rattle.sqlite.specs.Effect.{Database}
-use Rattle.sqlite.specs.State.{HasCleanDisk}
-use Rattle.sqlite.specs.Held.{state}
 use Rattle.reg_tables_meaning.specs.Stands.{Holds, StandsBy}
 use Rattle.reg_tables_meaning.proofs.MarkedStand.{added, again, mark_told, no_crate, no_crate_told}
 use Rattle.reg_tables_meaning.proofs.Stays.{marked_stay, with_restricted}
@@ -55,14 +49,17 @@ returns-in_err-is_crate-clause-leaves g c = fails _ c.from_residual.ensures.0 (r
 
 pub returns-in_err-is_restricted-clause-leaves : goal.returns-in_err-is_restricted-clause-leaves
 returns-in_err-is_restricted-clause-leaves g c =
-    fails _ c.from_residual-in_err-is_restricted.ensures.0 (reads c.in_ok-is_crate.ensures ⨾ reads c.in_err-is_restricted.ensures) c.requires
+    fails _ c.from_residual-in_err-is_restricted.ensures.0
+    (reads c.in_ok-is_crate.ensures ⨾ reads c.in_err-is_restricted.ensures) c.requires
 
 pub returns-in_err-insert-clause-leaves : goal.returns-in_err-insert-clause-leaves
 returns-in_err-insert-clause-leaves g c =
-    fails _ c.from_residual-in_err-insert.ensures.0 (reads c.in_ok-is_crate.ensures ⨾ reads c.in_ok-is_restricted.ensures ⨾ adds c.in_err-insert.ensures) c.requires
+    fails _ c.from_residual-in_err-insert.ensures.0
+    (reads c.in_ok-is_crate.ensures ⨾ reads c.in_ok-is_restricted.ensures ⨾ adds c.in_err-insert.ensures) c.requires
 
 pub returns-clause-leaves : goal.returns-clause-leaves
-returns-clause-leaves g c = ends (reads c.in_ok-is_crate.ensures ⨾ reads c.in_ok-is_restricted.ensures ⨾ adds c.in_ok-insert.ensures) c.requires
+returns-clause-leaves g c =
+    ends (reads c.in_ok-is_crate.ensures ⨾ reads c.in_ok-is_restricted.ensures ⨾ adds c.in_ok-insert.ensures) c.requires
 
 pub returns-then-not-is_crate-clause-leaves : goal.returns-then-not-is_crate-clause-leaves
 returns-then-not-is_crate-clause-leaves g c = ends (reads c.in_ok-is_crate.ensures) c.requires

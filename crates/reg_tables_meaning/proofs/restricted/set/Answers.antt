@@ -1,6 +1,5 @@
-use Rattle.std.proofs.Common.{sym, subst}
+use Rattle.reg_tables_meaning.proofs.Common.{state, subst, sym}
 use Rattle.std.specs.Prelude.{IfOk, OnOk}
-use Rattle.sqlite.specs.Held.{state}
 use Rattle.reg_tables_meaning.specs.Calls.{Restricts, TellsOtherSight}
 use Rattle.reg_tables_meaning.proofs.restricted.set.Goals as goal
 

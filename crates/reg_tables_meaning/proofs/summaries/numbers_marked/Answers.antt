@@ -1,6 +1,4 @@
-use Rattle.std.proofs.Common.{◌≡◌, ◌+◌, true, length, not, sym, ap, subst, ◌∙◌}
-use Rattle.sqlite.specs.Effect.{Database}
-use Rattle.sqlite.specs.Held.{state}
+use Rattle.reg_tables_meaning.proofs.Common.{◌≡◌, ◌+◌, ◌∙◌, ap, Database, length, not, state, subst, sym, true, true_not_false}
 use Rattle.reg_line.specs.File.{end_of}
 use Rattle.reg_tables_meaning.specs.Stands.{StandCrates}
 use Rattle.reg_tables_meaning.specs.Summaries.{ShownMark, highest_of, length_of, mark_shown, shown_mark}
@@ -9,7 +7,6 @@ use Rattle.reg_tables_meaning.proofs.Readings.{◌⨾◌, fails, same_now, so_fa
 use Rattle.reg_tables_meaning.proofs.Results.{if_ok}
 use Rattle.reg_tables_meaning.proofs.SummaryMarked.{highest_is_marked, its_row, length_is_marked}
 use Rattle.reg_tables_meaning.proofs.SummaryRows.{version_at}
-use Rattle.reg_model.proofs.Lists.{true_not_false}
 use Rattle.reg_tables_meaning.proofs.summaries.numbers_marked.Goals.{else-now-via-then-now+else-now-kept, else-now-via-else-now}
 use Rattle.reg_tables_meaning.proofs.summaries.numbers_marked.Goals as goal
 
@@ -53,7 +50,8 @@ pub returns-then-now-kept-clause-same : goal.returns-then-now-kept-clause-same
 returns-then-now-kept-clause-same g c = c.in_ok-kept.ensures.same ⨾ c.in_ok-now.ensures.same ⨾ c.numbers_of.ensures.same
 
 pub returns-in_err-highest-clause-same : goal.returns-in_err-highest-clause-same
-returns-in_err-highest-clause-same g c = fails _ c.from_residual-in_err-highest.ensures.0 (c.in_ok-kept.ensures.same ⨾ c.in_ok-now.ensures.same ⨾ c.in_err-highest.ensures.same)
+returns-in_err-highest-clause-same g c =
+    fails _ c.from_residual-in_err-highest.ensures.0 (c.in_ok-kept.ensures.same ⨾ c.in_ok-now.ensures.same ⨾ c.in_err-highest.ensures.same)
 
 pub returns-in_err-index_length-clause-same : goal.returns-in_err-index_length-clause-same
 returns-in_err-index_length-clause-same g c = so_far (c.in_ok-kept.ensures.same ⨾ c.in_ok-now.ensures.same ⨾ c.in_ok-highest.ensures.same)

@@ -1,5 +1,4 @@
-use Rattle.std.proofs.Common.{◌∙◌, ap, map}
-use Rattle.reg_tables_schema.specs.Statements.{rows_in}
+use Rattle.reg_tables_meaning.proofs.Common.{◌∙◌, ap, map, rows_in}
 use Rattle.reg_tables_meaning.proofs.SummaryRows.{highest_is, length_is}
 use Rattle.reg_tables_meaning.specs.Summaries.{highest_in, length_in, shown_mark}
 use Rattle.reg_tables_meaning.proofs.summaries.numbers_of.Goals as goal

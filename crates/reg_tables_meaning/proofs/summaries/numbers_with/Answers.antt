@@ -1,5 +1,4 @@
-use Rattle.std.proofs.Common.{◌+◌, sym, subst, ◌∙◌}
-use Rattle.sqlite.specs.Effect.{Database}
+use Rattle.reg_tables_meaning.proofs.Common.{◌+◌, ◌∙◌, Database, subst, sym}
 use Rattle.reg_tables_meaning.specs.Summaries.{higher_of, line_length}
 use Rattle.reg_tables_meaning.specs.SummaryChanges.{HasVersion}
 use Rattle.reg_tables_meaning.proofs.Readings.{◌⨾◌, fails, same_now, so_far, was_clean}
@@ -22,7 +21,8 @@ pub returns-in_err-top-clause-same : goal.returns-in_err-top-clause-same
 returns-in_err-top-clause-same g c = fails _ c.from_residual-in_err-top.ensures.0 (c.in_ok-kept.ensures.same ⨾ c.in_err-top.ensures.same)
 
 pub returns-in_err-next-clause-same : goal.returns-in_err-next-clause-same
-returns-in_err-next-clause-same g c = fails _ c.from_residual-in_err-next.ensures.0 (c.in_ok-kept.ensures.same ⨾ c.in_ok-top.ensures.same ⨾ c.in_err-next.ensures.same)
+returns-in_err-next-clause-same g c =
+    fails _ c.from_residual-in_err-next.ensures.0 (c.in_ok-kept.ensures.same ⨾ c.in_ok-top.ensures.same ⨾ c.in_err-next.ensures.same)
 
 pub returns-in_err-highest-clause-same : goal.returns-in_err-highest-clause-same
 returns-in_err-highest-clause-same g c = so_far (c.in_ok-kept.ensures.same ⨾ c.in_ok-top.ensures.same ⨾ c.in_ok-next.ensures.same)

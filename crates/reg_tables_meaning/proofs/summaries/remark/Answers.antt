@@ -1,6 +1,4 @@
-use Rattle.std.proofs.Common.{arith}
-use Rattle.sqlite.specs.Held.{state}
-use Rattle.sqlite.specs.State.{HasCleanDisk}
+use Rattle.reg_tables_meaning.proofs.Common.{arith, HasCleanDisk, state}
 use Rattle.reg_tables_meaning.proofs.SummarySteps.{summary_remarked}
 use Rattle.reg_tables_meaning.proofs.summaries.remark.Goals as goal
 

@@ -1,12 +1,11 @@
-use Rattle.std.proofs.Common.{true, [], arith, refl}
-use Rattle.sqlite.specs.State.{HasCleanDisk}
-use Rattle.sqlite.specs.Held.{state}
-use Rattle.reg_model.specs.Registry.{Token}
+use Rattle.reg_tables_meaning.proofs.Common.{[], arith, HasCleanDisk, refl, state, Token, true}
 use Rattle.reg_tables_meaning.proofs.Writings.{◌⨾◌, ends, fails, steps}
 use Rattle.reg_tables_meaning.proofs.tokens.add.Goals as goal
 
 pub returns-in_err-add_scopes-clause-leaves : goal.returns-in_err-add_scopes-clause-leaves
-returns-in_err-add_scopes-clause-leaves g c = fails _ c.from_residual-in_err-add_scopes.ensures.0 (steps c.in_ok-id.ensures.leaves ⨾ steps c.in_err-add_scopes.ensures.leaves) c.requires
+returns-in_err-add_scopes-clause-leaves g c =
+    fails _ c.from_residual-in_err-add_scopes.ensures.0
+    (steps c.in_ok-id.ensures.leaves ⨾ steps c.in_err-add_scopes.ensures.leaves) c.requires
 
 pub returns-clause-stands : goal.returns-clause-stands
 returns-clause-stands g c clean ids s h =

@@ -1,5 +1,4 @@
-use Rattle.std.proofs.Common.{rules}
-use Rattle.sqlite.specs.Held.{state}
+use Rattle.reg_tables_meaning.proofs.Common.{rules, state}
 use Rattle.reg_tables_meaning.proofs.Writings.{adds_columns, ends, fails, none}
 use Rattle.reg_tables_meaning.proofs.tokens.add_scope.Goals as goal
 

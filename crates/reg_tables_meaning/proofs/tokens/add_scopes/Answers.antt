@@ -1,9 +1,5 @@
-use Rattle.std.proofs.Common.{◌+◌, take, arith, subst}
-use Rattle.sqlite.specs.State.{HasCleanDisk}
-use Rattle.sqlite.specs.Held.{state}
-use Rattle.reg_tables_schema.specs.Changes.{AddsColumns}
+use Rattle.reg_tables_meaning.proofs.Common.{◌+◌, AddsColumns, arith, HasCleanDisk, state, subst, survives_then, take}
 use Rattle.reg_tables_meaning.specs.Stands.{scope_of}
-use Rattle.sqlite.proofs.StateLemmas.{survives_then}
 use Rattle.reg_tables_meaning.specs.Patterns.{GivesPatterns}
 use Rattle.reg_tables_schema.specs.Steps.{Within}
 use Rattle.reg_tables_meaning.proofs.TokenChanges.{gives_next, gives_all}

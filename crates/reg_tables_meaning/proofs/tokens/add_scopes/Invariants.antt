@@ -1,6 +1,4 @@
-use Rattle.std.proofs.Common.{take}
-use Rattle.sqlite.specs.Held.{state}
-use Rattle.sqlite.specs.State.{HasCleanDisk, Survives}
+use Rattle.reg_tables_meaning.proofs.Common.{HasCleanDisk, state, Survives, take}
 use Rattle.reg_tables_meaning.specs.Patterns.{GivesPatterns}
 use Rattle.reg_tables_schema.specs.Steps.{Within}
 use Rattle.reg_tables_meaning.proofs.tokens.add_scopes.Given as goal

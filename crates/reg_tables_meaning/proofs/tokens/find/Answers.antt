@@ -1,6 +1,4 @@
-use Rattle.std.proofs.Common.{Some, map, sym, subst}
-use Rattle.sqlite.specs.Effect.{Database}
-use Rattle.reg_tables_schema.specs.Statements.{rows_in}
+use Rattle.reg_tables_meaning.proofs.Common.{Database, map, rows_in, Some, subst, sym}
 use Rattle.reg_tables_sql.specs.Scopes.{columns_of_scope}
 use Rattle.std.proofs.lemmas.Result.{IfOk-from_err}
 use Rattle.reg_tables_meaning.specs.FoundTokens.{IsRow, entry_of_row}

@@ -1,5 +1,4 @@
-use Rattle.std.proofs.Common.{sym, ◌∙◌}
-use Rattle.sqlite.specs.Held.{state}
+use Rattle.reg_tables_meaning.proofs.Common.{◌∙◌, state}
 use Rattle.reg_tables_meaning.proofs.TokenEntries.{live_told}
 use Rattle.reg_tables_meaning.proofs.tokens.is_live.Goals as goal
 

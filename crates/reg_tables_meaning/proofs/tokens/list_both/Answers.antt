@@ -1,7 +1,5 @@
-use Rattle.std.proofs.Common.{map, sym, subst}
+use Rattle.reg_tables_meaning.proofs.Common.{Database, map, rows_in, subst, sym}
 use Rattle.std.proofs.lemmas.Result.{IfOk-from_err}
-use Rattle.sqlite.specs.Effect.{Database}
-use Rattle.reg_tables_schema.specs.Statements.{rows_in}
 use Rattle.reg_tables_sql.specs.Scopes.{columns_of_scope}
 use Rattle.reg_tables_meaning.specs.Stands.{Holds}
 use Rattle.reg_tables_meaning.proofs.Readings.{◌⨾◌, fails, left, same_now, so_far, was_clean}

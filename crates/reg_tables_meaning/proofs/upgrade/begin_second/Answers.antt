@@ -1,6 +1,4 @@
-use Rattle.std.proofs.Common.{arith}
-use Rattle.sqlite.specs.Held.{state}
-use Rattle.sqlite.specs.State.{HasCleanDisk}
+use Rattle.reg_tables_meaning.proofs.Common.{arith, HasCleanDisk, state}
 use Rattle.reg_tables_schema.proofs.MakeLemmas.{kept_undone}
 use Rattle.reg_tables_meaning.proofs.Raising.{back_second, kept_back, ready_second, silent_then}
 use Rattle.reg_tables_meaning.proofs.upgrade.begin_second.Goals as goal

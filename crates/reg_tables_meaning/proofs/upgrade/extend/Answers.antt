@@ -1,7 +1,5 @@
-use Rattle.std.proofs.Common.{arith}
+use Rattle.reg_tables_meaning.proofs.Common.{arith, HasCleanDisk, state}
 use Rattle.std.proofs.lemmas.Result.{IfOk-from_err}
-use Rattle.sqlite.specs.Held.{state}
-use Rattle.sqlite.specs.State.{HasCleanDisk}
 use Rattle.reg_tables_schema.proofs.MakeLemmas.{begun_keeps, on_err, refused_keeps}
 use Rattle.reg_tables_meaning.proofs.Raising.{extends_keeps, silent_then, upgrades}
 use Rattle.reg_tables_meaning.proofs.upgrade.extend.Goals as goal

@@ -1,6 +1,7 @@
 use Rattle.std.proofs.Common.{refl}
 use Rattle.sqlite.specs.Values.{bound}
-use Rattle.reg_tables_meaning.proofs.RowReading.{err_of, spared_early, if_refused, if_begun}
+use Rattle.reg_tables_meaning.proofs.RowReading.{spared_early, if_refused, if_begun}
+use Rattle.reg_tables_schema.proofs.Writing.{err_of}
 use Rattle.reg_tables_meaning.proofs.walks.rows_of.Goals as goal
 
 pub returns-in_err-statement : goal.returns-in_err-statement

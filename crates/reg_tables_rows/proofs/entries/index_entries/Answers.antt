@@ -16,7 +16,8 @@ use Rattle.reg_tables_meaning.proofs.Walking.{walk_ends, walk_fails, walk_left, 
 use Rattle.reg_tables_rows.proofs.entries.index_entries.Goals as goal
 
 -- what reading left of a connection, of that connection by another name
-read_there : {S T E : Type 0} {r : Result T E} {new : Held S} (g : Ghosts S) (old now : Held S) → new ≡ now → IsRead g r old now → IsRead g r old new
+read_there : {S T E : Type 0} {r : Result T E} {new : Held S} (g : Ghosts S) (old now : Held S) → new ≡ now → IsRead g r old now
+    → IsRead g r old new
 read_there {r = r} g old now is h = subst (IsRead g r old) (sym is) h
 
 pub returns-in_default-clause-entries : goal.returns-in_default-clause-entries
