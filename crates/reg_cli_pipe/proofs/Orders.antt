@@ -140,18 +140,21 @@ module _ {S : Type 0} (g : Ghosts S) (limits : Limits) (s : model.Registry) (ent
 
       -- it was done
       pub next : is_refused a ≡ false → HasDoneTold g limits s entry lines new k0 k2 (count + 1)
-      next is = (record {
-        done = record {
-          after = answers.after;
-          commands = commands;
-          told = h.done.told ++ a ∷ [];
-          ordered = ordered (length ((h.done.told ++ a ∷ []) ++ [])) (ap length (append-nil (h.done.told ++ a ∷ [])) ∙ told_is);
-          none_refused = list_any-append is_refused h.done.told (a ∷ []) ∙ ap (λ b. b || list_any is_refused (a ∷ [])) h.done.none_refused ∙ ap (λ b. b || false) is;
-          count_is = told_is;
-          ran = subst (λ xs. Ran g limits s entry (map Order commands) xs answers.after new) (sym (append-nil (h.done.told ++ a ∷ []))) ran;
-        };
-        alone = λ some. alone is;
-      }, subst (λ xs. Trails k0 k2 (trail limits s (map Order commands) xs)) (sym (append-nil (h.done.told ++ a ∷ []))) leaves)
+      next is = (
+        record {
+          done = record {
+            after = answers.after;
+            commands = commands;
+            told = h.done.told ++ a ∷ [];
+            ordered = ordered (length ((h.done.told ++ a ∷ []) ++ [])) (ap length (append-nil (h.done.told ++ a ∷ [])) ∙ told_is);
+            none_refused = list_any-append is_refused h.done.told (a ∷ []) ∙ ap (λ b. b || list_any is_refused (a ∷ [])) h.done.none_refused ∙ ap (λ b. b || false) is;
+            count_is = told_is;
+            ran = subst (λ xs. Ran g limits s entry (map Order commands) xs answers.after new) (sym (append-nil (h.done.told ++ a ∷ []))) ran;
+          };
+          alone = λ some. alone is;
+        },
+        subst (λ xs. Trails k0 k2 (trail limits s (map Order commands) xs)) (sym (append-nil (h.done.told ++ a ∷ []))) leaves,
+      )
 
       -- it was the last
       pub last : HasDone g limits s entry lines new count (a ∷ [])

@@ -1,6 +1,7 @@
 -- From the words for what a command changes to what is told of it.
 use Rattle.std.proofs.Common.{◌≡◌, ℕ, List, [], ◌∷◌, Bool, true, false, cond, not, Option, Some, None, Result, Ok, Err, is_none, refl, sym, ap, subst, ◌∙◌}
-use Rattle.std.specs.Prelude.{◌&&◌, ◌||◌, codes, is_some, string_bytes, unwrap_or}
+use Rattle.std.specs.Prelude.{◌&&◌, ◌||◌, Vec, codes, is_some, string_bytes, unwrap_or}
+use Rattle.std.specs.declared.alloc.Global.{Global}
 use Rattle.std.specs.FinSet as finset
 use Rattle.std.specs.Fmt.{decimal}
 use Rattle.std.specs.List.{cons_option, list_all}
@@ -8,6 +9,7 @@ use Rattle.std.specs.Option.{option_map}
 use Rattle.sqlite.specs.Tree.{Trees}
 use Rattle.reg_body.specs.declared.limits.Limits.{Limits}
 use Rattle.reg_names.specs.Names.{canon, name_of}
+use Rattle.reg_names.specs.Patterns.{is_pattern}
 use Rattle.reg_model.specs.declared.rule.AdminRefusal.{AdminRefusal}
 use Rattle.reg_model.specs.Crates.{is_reserved_always, is_restricted}
 use Rattle.reg_model.specs.Events.{Command}
@@ -113,6 +115,20 @@ pub token_words : (limits : Limits) (login : Text) (words texts given : List Tex
     (Some (codes "token-add" ∷ login ∷ codes "--endpoints" ∷ with_commas words ∷ codes "--patterns" ∷ with_commas given ∷ []))
 token_words limits login words texts given digest db e = λ ids s h ok.
     ap (λ ps. Some (codes "token-add" ∷ login ∷ codes "--endpoints" ∷ with_commas words ∷ codes "--patterns" ∷ with_commas ps ∷ [])) (sym e)
+
+given_so : (b : Bool) (ps : List Text) (given : Vec Text Global) → Some given.items ≡ cond b (Some ps) None → given.items ≡ ps
+given_so true ps given e = cc
+given_so false ps given e = absurd cc
+
+pub given_are : (texts : List Text) (given : Vec Text Global) → Some given.items ≡ cond (list_all is_pattern texts) (Some (patterns_given texts)) None → given.items ≡ patterns_given texts
+given_are texts given e = given_so (list_all is_pattern texts) (patterns_given texts) given e
+
+none_so : (b : Bool) (ps : List Text) → None ≡ cond b (Some ps) None → b ≡ false
+none_so true ps e = absurd cc
+none_so false ps e = refl
+
+pub none_given : (texts : List Text) → None ≡ cond (list_all is_pattern texts) (Some (patterns_given texts)) None → list_all is_pattern texts ≡ false
+none_given texts e = none_so (list_all is_pattern texts) (patterns_given texts) e
 
 live_is : (o : Option Token) (found : Option Bool) → found ≡ option_map (λ t. t.live) o → holds (λ t. t.live) o ≡ unwrap_or found false
 live_is None found e = ap (λ f. unwrap_or f false) (sym e)

@@ -25,7 +25,11 @@ fn named_line(alloc: Global, login: &str, name: &str) -> Result<String, AllocErr
 }
 
 /// A new account.
-pub(crate) fn new_user_line(alloc: Global, login: &str, name: Option<&str>) -> Result<String, AllocError>
+pub(crate) fn new_user_line(
+    alloc: Global,
+    login: &str,
+    name: Option<&str>,
+) -> Result<String, AllocError>
     ensures { IfOk result (λ line. string_bytes line ≡ line_of (codes "-" ∷ codes "admin"
         ∷ codes "user-add" ∷ login.now ∷ name_words (option_map (λ n. n.now) name.entry))) }
 {

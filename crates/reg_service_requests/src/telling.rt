@@ -89,5 +89,13 @@ pub(crate) fn tell_owners<S: Alter>(
     let Ok(listed) = with_commas(alloc, logins) else {
         return work.fail();
     };
-    tell_change(alloc, work, caller, told, owners_verb(are_owners), name, &listed)
+    tell_change(
+        alloc,
+        work,
+        caller,
+        told,
+        owners_verb(are_owners),
+        name,
+        &listed,
+    )
 }

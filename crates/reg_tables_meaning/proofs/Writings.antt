@@ -81,8 +81,8 @@ pub adds_columns : {T E : Type 0} {tree : ℕ} {columns : Row} {a b : State} {r 
     → Leads a b r
 adds_columns {tree = tree} {a = a} {b = b} h = writes h (λ clean at added. become_within a b tree _ clean at added.1.becomes)
 
-pub removes : {T E : Type 0} {tree : ℕ} {test : Row → Bool} {a b : State} {r : Result T E} → IsWriting a b r (Removes tree test) → Leads a b r
-removes {tree = tree} {a = a} {b = b} h = writes h (λ clean at gone. become_within a b tree _ clean at gone)
+pub removes : {T E : Type 0} (tree : ℕ) (test : Row → Bool) {a b : State} {r : Result T E} → IsWriting a b r (Removes tree test) → Leads a b r
+removes tree test {a = a} {b = b} h = writes h (λ clean at gone. become_within a b tree _ clean at gone)
 
 pub touches : {T E : Type 0} {C : State → State → Type 0} (tree : ℕ) {a b : State} {r : Result T E} → IsWriting a b r C
     → (C a b → Touches tree a b) → Leads a b r

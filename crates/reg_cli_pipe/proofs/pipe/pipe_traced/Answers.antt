@@ -42,8 +42,8 @@ returns g c =
           (let up = c.in_default.ensures.done (c.serve_traced.ensures.keeps.clean clean) s shows in
           let after = up.0.done.after in
           let (xs, run, served, tells) = subst
-              (λ l. ServesTraced g.S.Store l after between now k1 k2 (read c.args.r.now.inner) (read c.serve_traced.new.r.inner) (held c.args.w.now.inner) (held c.serve_traced.new.w.inner) c.serve_traced.result)
-              c.setup_traced.ensures.keeps.limits (c.serve_traced.ensures.serves clean after up.0.done.ran.shows) in (
+          (λ l. ServesTraced g.S.Store l after between now k1 k2 (read c.args.r.now.inner) (read c.serve_traced.new.r.inner) (held c.args.w.now.inner) (held c.serve_traced.new.w.inner) c.serve_traced.result)
+          c.setup_traced.ensures.keeps.limits (c.serve_traced.ensures.serves clean after up.0.done.ran.shows) in (
             inr (record { between = between; set_up = up.0; result = c.serve_traced.result; serves = (xs, run, served); ends = c.exit_of_stream.ensures }),
             trails_both k0 k1 k2 (trail_done g.S.Store limits s entry lines between (length lines) [] up.0.done) (trail_in limits after xs) up.1 tells,
           ));

@@ -4,6 +4,7 @@ use Rattle.std.specs.Prelude.{◌&&◌, codes}
 use Rattle.reg_model.specs.Events.Command.{UserAdd}
 use Rattle.reg_model.specs.Trail.{name_words}
 use Rattle.reg_model.specs.declared.rule.AdminRefusal.TheVariants as refusal
+use Rattle.reg_policy.specs.declared.event.AdminReply.TheVariants.{Done}
 use Rattle.reg_service_commands.proofs.Adding.{account_added, account_refused, bad_account}
 use Rattle.reg_service_commands.proofs.Ordered.{refusal_told, told_so, user_words}
 use Rattle.reg_service_steps.proofs.Running.{runs_asked, runs_nothing, runs_whole}
@@ -36,6 +37,6 @@ returns g c =
     let traced = c.args.traced in
     runs_whole g.S.Store c.in_ok-refusal.field-0 c.in_ok-add_account.field-0 c.in_ok-line.line _ c.args.work.now c.refuses_account.new.work c.add_account.new.self c.tell_account.new.work
     c.in_ok-refusal.ensures c.in_ok-add_account.ensures c.in_ok-line.ensures
-    (λ why adds told. told_so traced limits (UserAdd login name) _ _ _ true traced (codes "user-add" ∷ login ∷ name_words name)
+    (λ why adds told. told_so traced limits (UserAdd login name) _ _ (record { answer = Ok Done; line = c.in_ok-line.line }) true traced (codes "user-add" ∷ login ∷ name_words name)
     (account_added limits login name c.in_ok-add_account.field-0 _ _ (ap not (sym c.is_account.ensures ∙ c.if-not-is_account.false)) (rw c.in_default.is at why) adds)
     (user_words limits login name _) (always traced) told)

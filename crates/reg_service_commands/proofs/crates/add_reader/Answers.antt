@@ -10,7 +10,7 @@ pub returns-in-Err : goal.returns-in-Err
 returns-in-Err g c =
     let name = c.args.name.now in
     let login = c.args.login.now in
-    runs_asked g.S.Store c.in_ok-find_pair.field-0 _ c.args.work.now c.find_pair.new.work c.in_ok-find_pair.ensures
+    runs_asked g.S.Store c.in_ok-pair.field-0 _ c.args.work.now c.find_pair.new.work c.in_ok-pair.ensures
     (λ found limits. refusal_told c.args.traced limits (ReaderAdd name login) _ _ c.refused.result c.in-Err.refusal c.refused.ensures.answer c.refused.ensures.line
     (add_refused limits name login c.in-Err.refusal _ (rw c.in-Err.is at found)))
 
@@ -20,7 +20,7 @@ returns g c =
     let login = c.args.login.now in
     let (named, account) = c.in-Ok.pair in
     let changed = c.in_ok-added.added in
-    runs_told g.S.Store c.in_ok-find_pair.field-0 changed c.done_of_pair.result c.args.work.now c.find_pair.new.work c.add_reader.new.self c.done_of_pair.new.work
-    c.in_ok-find_pair.ensures c.in_ok-added.ensures c.done_of_pair.ensures
-    (λ it found sets done limits. done_told c.args.traced limits (ReaderAdd name login) _ _ it changed c.is_told-told.result (codes "reader-add" ∷ string_bytes named.name ∷ login ∷ []) done
+    runs_told g.S.Store c.in_ok-pair.field-0 changed c.done_of_pair.result c.args.work.now c.find_pair.new.work c.add_reader.new.self c.done_of_pair.new.work
+    c.in_ok-pair.ensures c.in_ok-added.ensures c.done_of_pair.ensures
+    (λ it found sets done limits. done_told c.args.traced limits (ReaderAdd name login) _ _ it changed c.is_told-told.result (codes "reader-add" ∷ string_bytes named.name ∷ login ∷ []) (rw c.deref.ensures.value at done)
     (reader_done limits name login named account _ _ (rw c.in-Ok.is at found) sets.0) (reader_words limits name login named account _ (rw c.in-Ok.is at found) changed sets.1) c.is_told-told.ensures)

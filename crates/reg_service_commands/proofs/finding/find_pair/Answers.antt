@@ -15,8 +15,8 @@ returns-in-Some-2 g c =
     (asks_both g.S.Store {Q = FindsAccount c.args.login.now} c.in_ok-named.field-0 c.in_ok-account.field-0 c.args.work.now c.find_named.new.work c.account_by_login.new.self c.in_ok-named.ensures
     c.in_ok-account.ensures)
 
-pub returns : goal.returns
-returns g c =
+pub returns-in-None : goal.returns-in-None
+returns-in-None g c =
     asks_made g.S.Store (c.in_ok-named.field-0, c.in_ok-account.field-0) _ c.args.work.now c.account_by_login.new.self
     (λ h. no_pair_known c.args.name.now c.args.login.now _ c.in-Some.named (rw c.in-Some.is at h.0) (rw c.in-None.is at h.1))
     (asks_both g.S.Store {Q = FindsAccount c.args.login.now} c.in_ok-named.field-0 c.in_ok-account.field-0 c.args.work.now c.find_named.new.work c.account_by_login.new.self c.in_ok-named.ensures

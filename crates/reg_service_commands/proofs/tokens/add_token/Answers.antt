@@ -41,7 +41,7 @@ returns g c =
     let scope = rw c.in-Ok-Ok.field-0-is at c.in-Ok-Ok.ensures in
     runs_whole g.S.Store {P = FindsAccount login} c.in_ok-account.field-0 c.in_ok-answer.answer c.in_ok-line.line _ c.args.work.now c.account_by_login.new.self c.put_token.new.work c.tell_token.new.work
     c.in_ok-account.ensures c.in_ok-answer.ensures c.in_ok-line.ensures
-    (λ found puts told. told_so traced limits (TokenAdd login words texts c.args.digest.now) _ _ _ true traced
+    (λ found puts told. told_so traced limits (TokenAdd login words texts c.args.digest.now) _ _ (record { answer = c.in_ok-answer.answer; line = c.in_ok-line.line }) true traced
     (codes "token-add" ∷ login ∷ codes "--endpoints" ∷ with_commas words ∷ codes "--patterns" ∷ with_commas patterns.items ∷ [])
     (token_added limits login words texts c.args.digest.now c.in-Some.account patterns _ _ c.in_ok-answer.answer (rw c.in-Some.is at found) scope (rw (c.endpoints_named-endpoints.ensures, c.deref.ensures.value) at puts))
-    (token_words limits login words texts patterns.items c.args.digest.now _ scope.2) (always traced) (rw c.deref-1.ensures.value at told))
+    (token_words limits login words texts patterns.items c.args.digest.now _ scope.2) (always traced) (rw c.deref-2.ensures.value at told))

@@ -2,7 +2,8 @@ use Rattle.std.proofs.Common.{[], ◌∷◌, rules, subst, ◌∙◌}
 use Rattle.reg_model.specs.Actions.{crate_of}
 use Rattle.reg_model.specs.Events.{action_of}
 use Rattle.reg_access.specs.Admitted.{IsFoundOf}
-use Rattle.reg_service_requests.specs.Granted.{marking}
+use Rattle.reg_tables.specs.Works.{rows_seen}
+use Rattle.reg_service_requests.specs.Granted.{IsCrate, marking}
 use Rattle.reg_service_requests.specs.Telling.{mark_word}
 use Rattle.reg_service_requests.proofs.Asking.{change_told}
 use Rattle.reg_service_requests.proofs.Marked.{marked}
@@ -19,7 +20,7 @@ returns g c limits name =
     let words = mark_word c.args.yanked ∷ it.name ∷ c.args.version.now ∷ [] in
     runs_ended g.S.Store changed c.in_ok-line.line _ c.args.work.now c.set_yanked.new.self c.tell_change.new.work c.in_ok-changed.ensures c.in_ok-line.ensures
     (λ sets told digest lets asks.
-    let its = λ ids s holds. subst (λ f. IsFoundOf ids s (crate_of (action_of asked)) f) c.found_crate-found.ensures (asks ids s holds).found in (
+    let its : IsCrate (action_of asked) it (rows_seen g.S.Store c.args.work.now) = λ ids s holds. subst (λ f. IsFoundOf ids s (crate_of (action_of asked)) f) c.found_crate-found.ensures (asks ids s holds).found in (
       marked limits digest name c.args.version.now c.args.yanked it c.in-Ok.body _ _ (c.in-Ok.ensures.items_if_clones_equal (λ x y e. e) ∙ c.ok_body.ensures) sets.0 lets its,
       change_told c.args.traced changed c.is_told-told.result limits who asked _ words c.in_ok-line.line c.is_told-told.ensures (search (rules, told)) (mark_has limits who c.args.yanked changed name c.args.version.now _ it c.found_crate-found.ensures sets.1) digest asks,
     ))

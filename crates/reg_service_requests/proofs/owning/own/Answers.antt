@@ -1,4 +1,4 @@
-use Rattle.std.proofs.Common.{◌≡◌, [], ◌∷◌, map, subst}
+use Rattle.std.proofs.Common.{◌≡◌, [], ◌∷◌, map, rules, subst}
 use Rattle.std.specs.Borrow.{Bor}
 use Rattle.std.specs.List.{list_any}
 use Rattle.std.specs.Prelude.{string_bytes}
@@ -8,6 +8,8 @@ use Rattle.reg_model.specs.Events.{action_of}
 use Rattle.reg_model.specs.Reports.{with_commas}
 use Rattle.reg_tables_meaning.specs.Calls.{ListsOwners}
 use Rattle.reg_access.specs.Admitted.{IsFoundOf}
+use Rattle.reg_tables.specs.Works.{rows_seen}
+use Rattle.reg_service_requests.specs.Granted.{IsCrate}
 use Rattle.reg_service_requests.specs.Owning.{owning}
 use Rattle.reg_service_requests.specs.Telling.{changes, owners_word}
 use Rattle.reg_service_requests.proofs.Asking.{change_told}
@@ -29,7 +31,7 @@ returns g c limits name =
     runs_whole g.S.Store {P = λ db owners. ListsOwners it.id db owners.items} c.in_ok-owners.owners c.in_ok-served.served c.in_ok-line.line _ c.args.work.now c.owners_of.new.self c.set_all.new.work c.tell_owners.new.work
     c.in_ok-owners.ensures c.in_ok-served.ensures c.in_ok-line.ensures
     (λ lists grants told digest lets asks.
-    let its = λ ids s holds. subst (λ f. IsFoundOf ids s (crate_of (action_of asked)) f) c.found_crate-found.ensures (asks ids s holds).found in (
-      grants (rw c.deref.ensures.value lists) name limits digest lets its,
-      change_told c.args.traced changed c.is_told-told.result limits who asked _ words c.in_ok-line.line c.is_told-told.ensures told (owning_has limits who are changed name texts _ it list c.found_crate-found.ensures lists is) digest asks,
+    let its : IsCrate (action_of asked) it (rows_seen g.S.Store c.args.work.now) = λ ids s holds. subst (λ f. IsFoundOf ids s (crate_of (action_of asked)) f) c.found_crate-found.ensures (asks ids s holds).found in (
+      grants (rw c.deref-2.ensures.value lists) name limits digest lets its,
+      change_told c.args.traced changed c.is_told-told.result limits who asked _ words c.in_ok-line.line c.is_told-told.ensures (search (rules, told)) (owning_has limits who are changed name texts _ it list c.found_crate-found.ensures lists is) digest asks,
     ))

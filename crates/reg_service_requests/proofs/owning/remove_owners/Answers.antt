@@ -23,5 +23,5 @@ returns-in-Ok-Err g c =
     runs_nothing g.S.Store _ c.args.work.now c.requires.goes_on c.requires.at_work
     (λ lists name limits digest lets is. owning_denied limits digest false name logins _ lets c.args.found.now is c.in-Ok-Err.rule (may_not_leave logins _ id c.args.owners.now lists c.in-Ok-Err.rule why))
 
-pub returns : goal.returns
-returns g c = runs_stopped g.S.Store c.fail.result c.args.work.now c.fail.new.self c.fail.ensures.fails c.fail.ensures.leaves
+pub returns-in-Err : goal.returns-in-Err
+returns-in-Err g c = runs_stopped g.S.Store c.fail.result c.args.work.now c.fail.new.self c.fail.ensures.fails c.fail.ensures.leaves

@@ -34,7 +34,7 @@ pub returns-in_err-is_restricted-clause-leaves : goal.returns-in_err-is_restrict
 returns-in_err-is_restricted-clause-leaves g c = fails _ c.from_residual.ensures.0 (reads c.in_err-is_restricted.ensures) c.requires
 
 pub returns-in_err-remove-clause-leaves : goal.returns-in_err-remove-clause-leaves
-returns-in_err-remove-clause-leaves g c = fails _ c.from_residual-in_err-remove.ensures.0 (reads c.in_ok-is_restricted.ensures ⨾ removes c.in_err-remove.ensures) c.requires
+returns-in_err-remove-clause-leaves g c = fails _ c.from_residual-in_err-remove.ensures.0 (reads c.in_ok-is_restricted.ensures ⨾ removes _ _ c.in_err-remove.ensures) c.requires
 
 pub returns-clause-leaves : goal.returns-clause-leaves
-returns-clause-leaves g c = ends (reads c.in_ok-is_restricted.ensures ⨾ removes c.in_ok-remove.ensures) c.requires
+returns-clause-leaves g c = ends (reads c.in_ok-is_restricted.ensures ⨾ removes _ _ c.in_ok-remove.ensures) c.requires
