@@ -22,5 +22,5 @@ returns g c =
     let changed = c.in_ok-added.added in
     runs_told g.S.Store c.in_ok-pair.field-0 changed c.done_of_pair.result c.args.work.now c.find_pair.new.work c.add_reader.new.self c.done_of_pair.new.work
     c.in_ok-pair.ensures c.in_ok-added.ensures c.done_of_pair.ensures
-    (λ it found sets done limits. done_told c.args.traced limits (ReaderAdd name login) _ _ it changed c.is_told-told.result (codes "reader-add" ∷ string_bytes named.name ∷ login ∷ []) (rw c.deref.ensures.value at done)
+    (λ it found sets done limits. done_told c.args.traced limits (ReaderAdd name login) _ _ it changed c.is_told-told.result (codes "reader-add" ∷ string_bytes named.name ∷ login ∷ []) (rw c.deref.ensures at done)
     (reader_done limits name login named account _ _ (rw c.in-Ok.is at found) sets.0) (reader_words limits name login named account _ (rw c.in-Ok.is at found) changed sets.1) c.is_told-told.ensures)

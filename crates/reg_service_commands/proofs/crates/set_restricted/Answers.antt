@@ -21,5 +21,5 @@ returns g c =
     let changed = c.in_ok-changed.changed in
     runs_told g.S.Store c.in_ok-named.field-0 changed c.done_of.result c.args.work.now c.find_named.new.work c.set_restricted.new.self c.done_of.new.work
     c.in_ok-named.ensures c.in_ok-changed.ensures c.done_of.ensures
-    (λ it found sets done limits. done_told c.args.traced limits (restricting restricted name) _ _ it changed c.is_told-told.result (restricted_word restricted ∷ string_bytes c.in-Some.named.name ∷ []) (rw (c.restricted_verb-verb.ensures, c.deref.ensures.value) at done)
+    (λ it found sets done limits. done_told c.args.traced limits (restricting restricted name) _ _ it changed c.is_told-told.result (restricted_word restricted ∷ string_bytes c.in-Some.named.name ∷ []) (rw (c.restricted_verb-verb.ensures, c.deref.ensures) at done)
     (restrict_done limits restricted name c.in-Some.named _ _ (rw c.in-Some.is at found) sets.0) (restrict_words limits restricted changed name c.in-Some.named _ (rw c.in-Some.is at found) sets.1) c.is_told-told.ensures)
