@@ -49,7 +49,8 @@ ObeysToldUnder traced limits g c r old new = Runs g old new r (OrdersTold traced
 abbrev pub ObeysTold : {S : Type 0} → Bool → Ghosts S → Command → Result OrderTold StoreFault
     → Work S → Work S → Type 0
 ObeysTold traced g c r old new =
-    Runs g old new r (λ before after it. (limits : Limits) → OrdersTold traced limits c before after it)
+    Runs g old new r (λ before after it. (limits : Limits)
+    → OrdersTold traced limits c before after it)
 
 -- the words for what is done, or taken back
 abbrev pub enabled_word : Bool → Text
