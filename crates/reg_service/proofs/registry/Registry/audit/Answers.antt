@@ -1,4 +1,4 @@
-use Rattle.std.proofs.Common.{◌≡◌, Option, subst}
+use Rattle.std.proofs.Common.{◌≡◌, Option, rules, subst}
 use Rattle.sqlite.specs.Effect.{Database}
 use Rattle.sqlite.specs.Tree.{Trees}
 use Rattle.reg_audit.specs.Checks.{IsFirst}
@@ -21,7 +21,7 @@ as_they_are Second d found is (db, same, it, rows, first) = (it, subst (AreAllRo
 pub returns-clause-found : goal.returns-clause-found
 returns-clause-found g c clean =
     let old = tables_of c.args.self.now in
-    if_ok c.audit.result (λ found. as_they_are (edition_in old) (shown g.S.Store old).now found c.requires.tables.second) (c.audit.ensures.found clean)
+    if_ok c.audit.result (λ found. as_they_are (edition_in old) (shown g.S.Store old).now found c.requires.second) (c.audit.ensures.found clean)
 
 -- and so a sound registry is there exactly where none fails
 pub returns-clause-sound : goal.returns-clause-sound
@@ -29,5 +29,8 @@ returns-clause-sound g c clean =
     let db = (shown g.S.Store (tables_of c.args.self.now)).now.trees in
     if_ok c.audit.result (λ found first. c.opening_law.ensures.audit first.0 db first.1 found first.2) (returns-clause-found g c clean)
 
+pub returns-clause-looked : goal.returns-clause-looked
+returns-clause-looked g c = search rules
+
 pub returns-clause-tables : goal.returns-clause-tables
-returns-clause-tables g c = c.audit.ensures.looked.tables
+returns-clause-tables g c = (returns-clause-looked g c).tables
