@@ -113,7 +113,7 @@ module _ {S : Type 0} (g : Ghosts S) (limits : Limits) (s : model.Registry) (ent
     -- no request was taken
     pub taking_ended : (waits : Text) → Takes r1 r2 rest waits w1 w2 limits (Ok taken.End) → ServesTraced g limits s entry now k0 k1 r0 r2 w0 w2 (Ok count)
     taking_ended waits ((bytes, c, (more, a, begun)), end) =
-        so_far _ _ (h.read ++ bytes, h.written ++ more, consumes bytes c, appends bytes c more a, inl (ended bytes c more begun, end))
+        so_far w2 (Ok count) (h.read ++ bytes, h.written ++ more, consumes bytes c, appends bytes c more a, inl (ended bytes c more begun, end))
 
     taking_cut : IsCutOff r1 r2 rest [] w1 w2 limits → (written : Text) × Appends w0 w2 written × ((read : Text) × Consumes r0 r2 read × IsStopped limits h.done read written)
     taking_cut (bytes, c, (f, head, a)) =
@@ -121,13 +121,13 @@ module _ {S : Type 0} (g : Ghosts S) (limits : Limits) (s : model.Registry) (ent
 
     pub taking_failed : (waits : Text) (fault : StreamFault) → Takes r1 r2 rest waits w1 w2 limits (Err fault) → ServesTraced g limits s entry now k0 k1 r0 r2 w0 w2 (Err fault)
     taking_failed waits ReadFault (bytes, c, (more, a, begun)) =
-        so_far _ _ (h.read ++ bytes, h.written ++ more, consumes bytes c, appends bytes c more a, (count, ended bytes c more begun))
+        so_far w2 (Err ReadFault) (h.read ++ bytes, h.written ++ more, consumes bytes c, appends bytes c more a, (count, ended bytes c more begun))
     taking_failed waits TooManyTurns (inl (bytes, c, (more, a, begun))) =
-        so_far _ _ (h.read ++ bytes, h.written ++ more, consumes bytes c, appends bytes c more a, inl (count, ended bytes c more begun))
+        so_far w2 (Err TooManyTurns) (h.read ++ bytes, h.written ++ more, consumes bytes c, appends bytes c more a, inl (count, ended bytes c more begun))
     taking_failed waits TooManyTurns (inr x) =
-        let (written, a, (read, c, stopped)) = taking_cut x in so_far _ _ (read, written, c, a, inr stopped)
+        let (written, a, (read, c, stopped)) = taking_cut x in so_far w2 (Err TooManyTurns) (read, written, c, a, inr stopped)
     taking_failed waits WriteFault x =
-        let (written, a, (read, c, stopped)) = taking_cut x in so_far _ _ (read, written, c, a, stopped)
+        let (written, a, (read, c, stopped)) = taking_cut x in so_far w2 (Err WriteFault) (read, written, c, a, stopped)
     taking_failed waits StoreFault x = absurd x
     taking_failed waits Memory x = absurd x
 
@@ -136,7 +136,7 @@ module _ {S : Type 0} (g : Ghosts S) (limits : Limits) (s : model.Registry) (ent
       pub refusal_sent : Appends w2 w3 (closing_text broken head_only) → ServesTraced g limits s entry now k0 k1 r0 r2 w0 w3 (Ok (count + 1))
       refusal_sent sent =
           let (bytes, c, (more, a, refused)) = takes in
-          so_far _ _ (
+          so_far w3 (Ok (count + 1)) (
             h.read ++ bytes,
             h.written ++ (more ++ closing_text broken head_only),
             consumes bytes c,
@@ -179,8 +179,8 @@ module _ {S : Type 0} (g : Ghosts S) (limits : Limits) (s : model.Registry) (ent
           )
 
       pub refusal_failed : (fault : StreamFault) → Sends (closing_text broken head_only) w2 w3 {A = Unit {0}} (Err fault) → ServesTraced g limits s entry now k0 k1 r0 r2 w0 w3 (Err fault)
-      refusal_failed WriteFault x = so_far _ _ (refusal_cut x)
-      refusal_failed TooManyTurns x = let (read, written, c, a, stopped) = refusal_cut x in so_far _ _ (read, written, c, a, inr stopped)
+      refusal_failed WriteFault x = so_far w3 (Err WriteFault) (refusal_cut x)
+      refusal_failed TooManyTurns x = let (read, written, c, a, stopped) = refusal_cut x in so_far w3 (Err TooManyTurns) (read, written, c, a, inr stopped)
       refusal_failed ReadFault x = absurd x
       refusal_failed StoreFault x = absurd x
       refusal_failed Memory x = absurd x
@@ -253,7 +253,7 @@ module _ {S : Type 0} (g : Ghosts S) (limits : Limits) (s : model.Registry) (ent
 
         -- the connection is closed
         closed : Appends w2 w3 (outcome_text limits f close replies.outcome) → close ≡ true → ServesTraced g limits s entry new k0 k2 r0 r2 w0 w3 (Ok (count + 1))
-        closed sent ends = at_last _ (
+        closed sent ends = at_last (Ok (count + 1)) (
           h.read ++ bytes,
           h.written ++ told limits true this,
           consumes bytes consumed,
@@ -299,7 +299,7 @@ module _ {S : Type 0} (g : Ghosts S) (limits : Limits) (s : model.Registry) (ent
 
         -- the reply of an index file was broken off
         reply_broken : IsOfFile replies.outcome → AppendsSome (outcome_text limits f close replies.outcome) w2 w3 → ServesTraced g limits s entry new k0 k2 r0 r2 w0 w3 (Err StoreFault)
-        reply_broken file begun = at_last _ (
+        reply_broken file begun = at_last (Err StoreFault) (
           h.read ++ bytes,
           h.written ++ (interim_of f ++ begun.front),
           consumes bytes consumed,
@@ -338,12 +338,12 @@ module _ {S : Type 0} (g : Ghosts S) (limits : Limits) (s : model.Registry) (ent
       last_sent u all ends = let it = all t0 h.run.1.shows in closed t0 (Ok u) h.run.1 it it.sends ends
 
       pub reply_failed : (fault : StreamFault) → IsReplying (Err fault) → ServesTraced g limits s entry new k0 k2 r0 r2 w0 w3 (Err fault)
-      reply_failed WriteFault all = let it = all t0 h.run.1.shows in at_last t0 (Err WriteFault) h.run.1 it _ (reply_cut t0 (Err WriteFault) h.run.1 it it.sends)
+      reply_failed WriteFault all = let it = all t0 h.run.1.shows in at_last t0 (Err WriteFault) h.run.1 it (Err WriteFault) (reply_cut t0 (Err WriteFault) h.run.1 it it.sends)
       reply_failed StoreFault all = let it = all t0 h.run.1.shows in reply_broken t0 (Err StoreFault) h.run.1 it it.sends.0 it.sends.1
       reply_failed TooManyTurns all =
           let it = all t0 h.run.1.shows in
           let (read, written, c, a, stopped) = reply_cut t0 (Err TooManyTurns) h.run.1 it it.sends in
-          at_last t0 (Err TooManyTurns) h.run.1 it _ (read, written, c, a, inr stopped)
+          at_last t0 (Err TooManyTurns) h.run.1 it (Err TooManyTurns) (read, written, c, a, inr stopped)
       reply_failed ReadFault all = absurd (all t0 h.run.1.shows).sends
       reply_failed Memory all = absurd (all t0 h.run.1.shows).sends
 
