@@ -157,7 +157,7 @@ module _ {S : Type 0} (g : Ghosts S) (limits : Limits) (s : model.Registry) (ent
       )
 
       -- it was the last
-      abbrev pub last : HasDone g limits s entry lines new count (a ∷ [])
+      abbrev last : HasDone g limits s entry lines new count (a ∷ [])
       last = record {
         after = answers.after;
         commands = commands;
