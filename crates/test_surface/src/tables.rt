@@ -121,16 +121,16 @@ fn change_rows(
         work, alloc, digest, 1u32, endpoints, patterns,
     );
     let _: Result<(), StoreFault> = Work::revoke(work, 1u32);
-    let _: Result<(), StoreFault> = Work::reserve(work, canon);
-    let _: Result<(), StoreFault> = Work::unreserve(work, canon);
+    let _: Result<bool, StoreFault> = Work::reserve(work, canon);
+    let _: Result<bool, StoreFault> = Work::unreserve(work, canon);
     let _: Result<u32, StoreFault> = Work::add_crate(work, name, 1u32, &version);
-    let _: Result<(), StoreFault> = Work::add_owner(work, 1u32, 1u32);
-    let _: Result<(), StoreFault> = Work::remove_owner(work, 1u32, 1u32);
+    let _: Result<bool, StoreFault> = Work::add_owner(work, 1u32, 1u32);
+    let _: Result<bool, StoreFault> = Work::remove_owner(work, 1u32, 1u32);
     let _: Result<(), StoreFault> = Work::add_version(work, 1u32, &version);
-    let _: Result<(), StoreFault> = Work::set_yanked(work, 1u32, "", true);
-    let _: Result<(), StoreFault> = Work::set_restricted(work, 1u32, true);
-    let _: Result<(), StoreFault> = Work::add_reader(work, 1u32, 1u32);
-    let _: Result<(), StoreFault> = Work::remove_reader(work, 1u32, 1u32);
+    let _: Result<bool, StoreFault> = Work::set_yanked(work, 1u32, "", true);
+    let _: Result<bool, StoreFault> = Work::set_restricted(work, 1u32, true);
+    let _: Result<bool, StoreFault> = Work::add_reader(work, 1u32, 1u32);
+    let _: Result<bool, StoreFault> = Work::remove_reader(work, 1u32, 1u32);
 }
 
 fn select_rows(alloc: Global, work: &mut Work<'_, MemStore>, digest: &Digest, canon: &CanonText) {
