@@ -13,7 +13,6 @@ use Rattle.sqlite_keyed.proofs.SliceLemmas.{list_any_same}
 use Rattle.reg_names.specs.Names.{canon}
 use Rattle.reg_versions.specs.Versions.{release_key_of}
 use Rattle.reg_model.specs.Registry as model
-use Rattle.reg_model.specs.Registry.{Publication}
 use Rattle.reg_model.specs.Crates.{collides, same_release, versions}
 use Rattle.reg_model.proofs.Lists.{any_filter, any_same, is_some_find, list_any_map, none_both}
 use Rattle.reg_model.proofs.Members.{in_each}

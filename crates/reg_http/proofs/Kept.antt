@@ -6,7 +6,7 @@ use Rattle.reg_model.specs.Registry.{Text}
 use Rattle.reg_http_read.proofs.Adding.{spends_whole}
 use Rattle.reg_http_read.specs.Turns.{Tally, tally}
 use Rattle.reg_http_read.specs.declared.fault.StreamFault.{StreamFault}
-use Rattle.reg_service.specs.Registries.{IsUpToDate, limits_of, tables_of}
+use Rattle.reg_service.specs.Registries.{IsUpToDate, limits_of}
 use Rattle.reg_service.specs.declared.registry.Registry.{Registry}
 use Rattle.reg_http.specs.Answering.{GoesOn}
 use Rattle.reg_http.specs.Serving.{ServesStream, ServesStreamTraced, SpendsLent, SpendsOwn}

@@ -1,5 +1,5 @@
 -- What is done to registries that are alike leaves them alike.
-use Rattle.std.proofs.Common.{◌≡◌, ℕ, zero, suc, ◌-◌, ◌==◌, List, [], ◌∷◌, ◌++◌, Bool, true, false, cond, Option, Some, None, refl, sym, ◌∙◌, ap, map, subst}
+use Rattle.std.proofs.Common.{◌≡◌, ℕ, zero, suc, ◌-◌, ◌==◌, List, [], ◌∷◌, ◌++◌, Bool, true, false, cond, refl, sym, ◌∙◌, ap, map, subst}
 use Rattle.std.specs.Prelude.{codes, unwrap_or}
 use Rattle.std.specs.FinSet as set
 use Rattle.std.specs.List.{list_any}
@@ -7,7 +7,7 @@ use Rattle.std.specs.Str.{bytes_eq}
 use Rattle.std.proofs.lemmas.List.{map-append}
 use Rattle.reg_names.specs.Names.{canon}
 use Rattle.reg_model.specs.Registry.{Text, mark_cmp, owner_cmp, text_cmp, Account, Publication, Registry, Token, change_at, change_place, id_of_login, ids_of}
-use Rattle.reg_model.specs.Crates.{exists, has_crate, is_reserved_always}
+use Rattle.reg_model.specs.Crates.{has_crate, is_reserved_always}
 use Rattle.reg_model.specs.Effects.{commanded, done, enable, owners_of}
 use Rattle.reg_model.specs.Events.{Asked, Command}
 use Rattle.reg_model.specs.Events.Asked.{Faulty, Read, Index, Download, ListOwners, Publish, Yank, Unyank, AddOwners, RemoveOwners}

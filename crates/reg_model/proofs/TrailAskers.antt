@@ -1,6 +1,6 @@
 -- Each line of a trail names who it was.
 use Rattle.std.proofs.Common.{◌≡◌, ◌+◌, ◌-◌, ◌==◌, ℕ, zero, suc, List, [], ◌∷◌, Bool, true, false, cond, Option, Some, None, refl, sym, ◌∙◌, ap, subst, arith}
-use Rattle.std.specs.Prelude.{◌&&◌, not, is_some, slice_get, unwrap_or}
+use Rattle.std.specs.Prelude.{not, is_some, slice_get, unwrap_or}
 use Rattle.std.specs.Fmt.{decimal}
 use Rattle.std.specs.List.{find, position_from}
 use Rattle.std.specs.Option.{option_map}
@@ -19,9 +19,8 @@ use Rattle.reg_model.specs.Facts.{access_facts}
 use Rattle.reg_model.specs.Refusals.{denied}
 use Rattle.reg_model.specs.Reports.{login_of}
 use Rattle.reg_model.specs.Sound.{Sound, is_token}
-use Rattle.reg_model.specs.Steps.{IsFit}
 use Rattle.reg_model.specs.Trail.{event_words, id_of_token, line, line_of, request_words, with_asker, words_of}
-use Rattle.reg_model.specs.TrailLaws.{HasIds, LinesNameAskers, NamesAsker, NamesToken}
+use Rattle.reg_model.specs.TrailLaws.{LinesNameAskers, NamesAsker, NamesToken}
 use Rattle.reg_model.proofs.Cleared.{not_denied}
 use Rattle.reg_model.proofs.IndexPaths.{not_false}
 use Rattle.reg_model.proofs.TrailPlain.{lines_are_read, nobody, passes_id, unrefused}

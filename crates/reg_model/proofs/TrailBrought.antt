@@ -1,8 +1,7 @@
 -- What one event brings is told by its line.
 use Rattle.std.proofs.Common.{◌≡◌, ◌⊎◌, ◌+◌, ◌-◌, ◌==◌, ℕ, zero, suc, List, [], ◌∷◌, ◌++◌, Bool, true, false, cond, Option, Some, None, inl, inr, refl, sym, ◌∙◌, ap, map, subst}
-use Rattle.std.specs.Prelude.{◌&&◌, ◌||◌, not, codes, is_some, unwrap_or}
+use Rattle.std.specs.Prelude.{◌||◌, codes, is_some, unwrap_or}
 use Rattle.std.specs.List.{cons_option, filter_map, list_all, list_any, position_from}
-use Rattle.std.specs.Option.{option_map}
 use Rattle.std.specs.Ordering.{eq_by_cmp}
 use Rattle.std.specs.FinSet as set
 use Rattle.std.specs.Str.{bytes_eq}
@@ -12,7 +11,7 @@ use Rattle.reg_names.specs.Names.{canon}
 use Rattle.reg_model.specs.declared.rule.Rule.{Rule}
 use Rattle.reg_model.specs.declared.rule.AdminRefusal.{AdminRefusal}
 use Rattle.reg_model.specs.Changes.{with_reserved}
-use Rattle.reg_model.specs.Registry.{Text, Mark, Owner, mark_cmp, owner_cmp, Account, Publication, Registry, change_at, change_place, id_of_login, ids_of, token_of}
+use Rattle.reg_model.specs.Registry.{Text, Mark, Owner, mark_cmp, owner_cmp, Account, Publication, Registry, change_at, change_place, id_of_login, ids_of}
 use Rattle.reg_model.specs.Crates.{exists, first, is_reserved_always, is_yanked, owns}
 use Rattle.reg_model.specs.Effects.{account_of, caller, commanded, done, enable, replied, served}
 use Rattle.reg_model.specs.Events.{Answer, Asked, Command, Event}
@@ -27,7 +26,7 @@ use Rattle.reg_model.specs.Steps.{Step, outcome, unless_denied, unless_refused}
 use Rattle.reg_model.proofs.Keys.{mark_apart, mark_total, owner_apart, owner_total, same_key}
 use Rattle.reg_model.proofs.Lists.{or_split}
 use Rattle.reg_model.proofs.Members.{all_in, any_in}
-use Rattle.reg_model.specs.Trail.{asker, command_words, event_words, request_words, spelled, unless, unless_some, with_asker}
+use Rattle.reg_model.specs.Trail.{command_words, event_words, request_words, spelled, unless, unless_some, with_asker}
 use Rattle.reg_model.specs.TrailLaws.{GivesOwner, Publishes, Yanks}
 use Rattle.reg_model.specs.Replay.{at_commas}
 use Rattle.reg_model.specs.Facts.{access_facts}

@@ -1,8 +1,8 @@
 -- What a line tells, done again, is what was done.
-use Rattle.std.proofs.Common.{◌≡◌, ◌≢◌, ◌<◌, ◌^◌, ◌+◌, ◌-◌, ◌==◌, ℕ, zero, suc, List, [], ◌∷◌, ◌++◌, Bool, true, false, cond, Option, Some, None, inl, inr, refl, sym, ◌∙◌, ap, map, subst, arith}
-use Rattle.std.specs.Prelude.{◌&&◌, ◌||◌, not, codes, if◌then◌else◌, is_none, is_some, length, slice_get, unwrap_or}
+use Rattle.std.proofs.Common.{◌≡◌, ◌<◌, ◌^◌, ◌+◌, ◌-◌, ◌==◌, ℕ, zero, suc, List, [], ◌∷◌, Bool, true, false, cond, Option, Some, None, inl, inr, refl, sym, ◌∙◌, ap, map, subst, arith}
+use Rattle.std.specs.Prelude.{◌||◌, not, codes, if◌then◌else◌, is_some, length, slice_get, unwrap_or}
 use Rattle.std.specs.Fmt.{decimal}
-use Rattle.std.specs.List.{All, AllByRecursion, IsDistinct, count_by, find, join_with_byte, list_all, list_any, position_from, slice_split}
+use Rattle.std.specs.List.{All, AllByRecursion, IsDistinct, count_by, find, join_with_byte, list_all, list_any, position_from}
 use Rattle.std.specs.Option.{option_map}
 use Rattle.std.specs.FinSet as set
 use Rattle.std.specs.Ordering.{on}
@@ -17,10 +17,9 @@ use Rattle.std.proofs.lemmas.Slice.Eq.{bytes_eq-Decides}
 use Rattle.std.proofs.lemmas.Str.Parse.{numerals_by_value, tells_all_ascii_digits}
 use Rattle.reg_body.specs.declared.limits.Limits.{Limits}
 use Rattle.reg_names.specs.Logins.{is_login, is_login_byte}
-use Rattle.reg_names.specs.Names.{canon, is_name, is_name_byte, name_of}
+use Rattle.reg_names.specs.Names.{canon, is_name, is_name_byte}
 use Rattle.reg_names.specs.Patterns.{is_pattern}
 use Rattle.reg_model.specs.declared.rule.Rule.{Rule}
-use Rattle.reg_model.specs.declared.rule.AdminRefusal.{AdminRefusal}
 use Rattle.reg_model.specs.declared.rule.Rule.TheVariants as rule
 use Rattle.reg_model.specs.Changes.{with_token}
 use Rattle.reg_model.specs.Registry.{Text, Account, Publication, Registry, Token, holds, id_of_login, ids_of, token_of, with_id}
@@ -33,14 +32,14 @@ use Rattle.reg_model.specs.Events.Event.{Ask, Order}
 use Rattle.reg_model.specs.Refusals.{denied, endpoints_named, is_endpoint, patterns_given, refused}
 use Rattle.reg_model.specs.Reports.{login_of, with_commas}
 use Rattle.reg_model.specs.Sound.{Sound, is_token}
-use Rattle.reg_model.specs.Steps.{IsFit, outcome, unless_denied, unless_refused}
+use Rattle.reg_model.specs.Steps.{outcome, unless_denied, unless_refused}
 use Rattle.reg_model.specs.Facts.{access_facts}
 use Rattle.reg_model.proofs.Cleared.{Clear, not_denied, not_refused}
 use Rattle.reg_model.proofs.IndexPaths.{not_false}
 use Rattle.reg_model.proofs.Lists.{all_so, found_passes}
-use Rattle.reg_model.specs.Trail.{asker, command_words, event_words, id_of_token, only_if, request_words, spelled, unless, unless_some, with_asker, words_in}
-use Rattle.reg_model.specs.TrailLaws.{HasIds, are_words, is_word}
-use Rattle.reg_model.specs.Replay.{AreAlike, asked_in, at_commas, bare, command_in, replayed, told_publication}
+use Rattle.reg_model.specs.Trail.{command_words, event_words, id_of_token, request_words, spelled, with_asker, words_in}
+use Rattle.reg_model.specs.TrailLaws.{HasIds}
+use Rattle.reg_model.specs.Replay.{AreAlike, asked_in, at_commas, bare, command_in, replayed}
 use Rattle.reg_model.proofs.TrailAlike.{alike_self, publish_alike, token_alike}
 use Rattle.reg_model.proofs.TrailPlain.{added_logins, endpoint_pass, holds_within, nobody, only_words, removed_logins, token_number, told_words, unrefused}
 use Rattle.reg_model.proofs.TrailTold.{some_only_if, some_unless}

@@ -1,13 +1,9 @@
 -- Each publication, mark and owner that a run brings has its line.
-use Rattle.std.proofs.Common.{◌≡◌, ◌⊎◌, ℕ, List, [], ◌∷◌, ◌++◌, Bool, true, false, cond, Option, Some, None, inl, inr, refl, sym, ◌∙◌, ap, map, subst}
-use Rattle.std.specs.Prelude.{◌&&◌, ◌||◌, codes, unwrap_or}
-use Rattle.std.specs.List.{list_any}
+use Rattle.std.proofs.Common.{◌≡◌, ◌⊎◌, ℕ, List, [], ◌∷◌, ◌++◌, Bool, true, false, cond, Option, Some, None, inl, inr, refl, sym, ◌∙◌, subst}
 use Rattle.std.specs.Option.{option_map}
-use Rattle.std.specs.Ordering.{eq_by_cmp}
 use Rattle.std.specs.FinSet as set
 use Rattle.reg_body.specs.declared.limits.Limits.{Limits}
-use Rattle.reg_names.specs.Names.{canon}
-use Rattle.reg_model.specs.Registry.{Text, Publication, Registry, id_of_login, ids_of}
+use Rattle.reg_model.specs.Registry.{Text, Publication, Registry}
 use Rattle.reg_model.specs.Events.{Answer, Event}
 use Rattle.reg_model.specs.Lists.{IsIn}
 use Rattle.reg_model.specs.Sound.{Sound}

@@ -1,6 +1,6 @@
 -- What has a line changes something.
 use Rattle.std.proofs.Common.{◌≡◌, ◌≢◌, ℕ, zero, suc, ◌+◌, ◌-◌, ◌==◌, List, [], ◌∷◌, ◌++◌, Bool, true, false, cond, Option, Some, None, refl, sym, ◌∙◌, ap, arith}
-use Rattle.std.specs.Prelude.{◌&&◌, ◌||◌, if◌then◌else◌, not, is_none, is_some, length, map, slice_get, unwrap_or}
+use Rattle.std.specs.Prelude.{◌&&◌, ◌||◌, not, is_none, is_some, length, map, slice_get, unwrap_or}
 use Rattle.std.specs.Option.{option_map}
 use Rattle.std.specs.List.{list_all, list_any}
 use Rattle.std.specs.Ordering.{eq_by_cmp}
@@ -17,8 +17,8 @@ use Rattle.reg_body.specs.declared.limits.Limits.{Limits}
 use Rattle.reg_names.specs.Names.{canon}
 use Rattle.reg_model.specs.declared.rule.Rule.{Rule}
 use Rattle.reg_model.specs.declared.rule.AdminRefusal.{AdminRefusal}
-use Rattle.reg_model.specs.Registry.{Text, Account, Token, Registry, change_at, change_place, holds, id_of_login, ids_of, is_enabled, is_known, with_id}
-use Rattle.reg_model.specs.Crates.{is_reserved, is_reserved_always, is_restricted, is_yanked, owns, reads}
+use Rattle.reg_model.specs.Registry.{Text, Account, Token, Registry, change_at, change_place, holds, id_of_login, ids_of, is_enabled, with_id}
+use Rattle.reg_model.specs.Crates.{is_reserved_always, owns}
 use Rattle.reg_model.specs.Effects.{caller, commanded, done, enable, owners_of, replied, served}
 use Rattle.reg_model.specs.Events.{Asked, Command, Event}
 use Rattle.reg_model.specs.Events.Asked.{Faulty, Read, Index, Download, ListOwners, Publish, Yank, Unyank, AddOwners, RemoveOwners}
@@ -28,7 +28,7 @@ use Rattle.reg_model.specs.Refusals.{denied, refused}
 use Rattle.reg_model.specs.Steps.{outcome, unless_denied, unless_refused}
 use Rattle.reg_model.proofs.Cleared.{not_refused}
 use Rattle.reg_model.proofs.Keys.{mark_total, owner_total, ties_itself}
-use Rattle.reg_model.specs.Trail.{command_words, event_words, has_account, line, line_of, only_if, request_words, unless, unless_some, with_asker}
+use Rattle.reg_model.specs.Trail.{command_words, line, only_if, request_words, unless, unless_some}
 use Rattle.reg_model.proofs.Places.{found_there}
 use Rattle.reg_model.proofs.TrailUntold.{list_any-map, reader_is}
 

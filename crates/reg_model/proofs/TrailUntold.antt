@@ -16,7 +16,7 @@ use Rattle.reg_names.specs.Names.{canon}
 use Rattle.reg_model.specs.declared.rule.Rule.{Rule}
 use Rattle.reg_model.specs.declared.rule.AdminRefusal.{AdminRefusal}
 use Rattle.reg_model.specs.Registry.{Text, Account, Token, Registry, change_at, change_place, holds, id_of_login, ids_of, is_enabled, is_known, with_id}
-use Rattle.reg_model.specs.Crates.{is_reserved, is_reserved_always, is_restricted, is_yanked, owns, reads}
+use Rattle.reg_model.specs.Crates.{is_reserved_always, owns, reads}
 use Rattle.reg_model.specs.Effects.{caller, commanded, done, enable, owners_of, replied, served}
 use Rattle.reg_model.specs.Events.{Asked, Command, Event}
 use Rattle.reg_model.specs.Events.Asked.{Faulty, Read, Index, Download, ListOwners, Publish, Yank, Unyank, AddOwners, RemoveOwners}
@@ -26,7 +26,7 @@ use Rattle.reg_model.specs.Refusals.{denied, refused}
 use Rattle.reg_model.specs.Steps.{outcome, unless_denied, unless_refused}
 use Rattle.reg_model.proofs.Cleared.{not_refused}
 use Rattle.reg_model.proofs.Keys.{insert_again, mark_apart, mark_total, owner_apart, owner_total, same_key, text_apart}
-use Rattle.reg_model.specs.Trail.{command_words, event_words, has_account, line, line_of, only_if, request_words, unless, unless_some, with_asker}
+use Rattle.reg_model.specs.Trail.{command_words, has_account, line, only_if, request_words, unless, unless_some}
 
 -- ---- what is told under a condition
 

@@ -1,9 +1,9 @@
 -- Lines are read back, and their characters are plain.
 use Rattle.std.proofs.Common.{◌≡◌, ◌<◌, ◌^◌, ◌+◌, ◌-◌, ◌==◌, ℕ, List, [], ◌∷◌, ◌++◌, Bool, true, false, cond, refl, sym, ◌∙◌, ap, subst, arith}
-use Rattle.std.specs.Prelude.{◌&&◌, ◌||◌, codes, drop, length, take, nat_le}
+use Rattle.std.specs.Prelude.{◌||◌, codes, drop, length, take}
 use Rattle.std.specs.Char.{is_ascii_digit}
 use Rattle.std.specs.Fmt.{decimal}
-use Rattle.std.specs.List.{All, AllByRecursion, join_with_byte, list_all, onto_first, slice_split}
+use Rattle.std.specs.List.{All, AllByRecursion, join_with_byte, list_all, onto_first}
 use Rattle.std.specs.Str.{all_ascii_digits}
 use Rattle.std.proofs.lemmas.Bool.{and_from, and_parts}
 use Rattle.std.proofs.lemmas.Bool.Decides.{nat_tests}
@@ -15,8 +15,8 @@ use Rattle.std.proofs.lemmas.List.Folds.{list_all-append}
 use Rattle.std.proofs.lemmas.List.Splits.{join_with_byte-slice_split, slice_split_at, slice_split_none}
 use Rattle.std.proofs.lemmas.Str.Parse.{numerals_by_value, tells_all_ascii_digits}
 use Rattle.std.proofs.Math.Seq.{take-append_seam}
-use Rattle.semver.specs.Grammar.{IsValid, is_build, is_build_identifier, is_identifier_byte, is_pre_identifier, is_pre_release}
-use Rattle.semver.specs.Identifiers.{marked, parts_text}
+use Rattle.semver.specs.Grammar.{is_build, is_build_identifier, is_identifier_byte, is_pre_identifier, is_pre_release}
+use Rattle.semver.specs.Identifiers.{marked}
 use Rattle.semver.specs.Order.{parts}
 use Rattle.reg_names.specs.Logins.{is_login, is_login_byte}
 use Rattle.reg_names.specs.Names.{is_name, is_name_byte}

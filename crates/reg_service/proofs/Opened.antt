@@ -23,7 +23,7 @@ use Rattle.reg_tables.specs.Ends.{LeavesLast}
 use Rattle.reg_tables.specs.Works as works
 use Rattle.reg_tables.specs.Works.{AreOurs, IsSame, edition_in, shown}
 use Rattle.reg_service.specs.declared.registry.Registry.{Registry}
-use Rattle.reg_service.specs.Answered.{AreAs, AreUpToDate, Shows}
+use Rattle.reg_service.specs.Answered.{AreAs, Shows}
 use Rattle.reg_service.specs.Registries.{AreChecked, AreDamaged, AreOne, IsBrought, IsFirstFailing, LeavesOpened, MayBeUpgraded, MayBecome, tables_of}
 use Rattle.reg_service.specs.declared.opening.OpenFault.{OpenFault}
 use Rattle.reg_service.specs.declared.opening.OpenFault.TheVariants.{Damaged, Storage}

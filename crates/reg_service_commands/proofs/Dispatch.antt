@@ -1,5 +1,5 @@
 -- What a function obeys under any limits, and by another name of the command, it obeys under these.
-use Rattle.std.proofs.Common.{◌≡◌, Bool, true, None, Result, Ok, Err, ap, refl, subst, sym, ◌∙◌}
+use Rattle.std.proofs.Common.{◌≡◌, Bool, true, None, Result, Ok, Err, refl, subst, sym, ◌∙◌}
 use Rattle.sqlite_trees.specs.declared.store.Store.{Ghosts}
 use Rattle.reg_body.specs.declared.limits.Limits.{Limits}
 use Rattle.reg_model.specs.Events.{Command}

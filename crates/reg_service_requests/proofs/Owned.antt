@@ -3,18 +3,17 @@ use Rattle.std.proofs.Common.{◌≡◌, ℕ, List, [], ◌∷◌, Bool, true, f
 use Rattle.std.specs.Prelude.{◌&&◌, ◌||◌, is_some, map, string_bytes, unwrap_or}
 use Rattle.std.specs.Borrow.{Bor}
 use Rattle.std.specs.FinSet as finset
-use Rattle.std.specs.List.{enumerate_from, filter, list_all, list_any}
+use Rattle.std.specs.List.{list_all, list_any}
 use Rattle.std.specs.Str.{bytes_eq}
 use Rattle.sqlite.specs.Tree.{Trees}
 use Rattle.reg_body.specs.declared.limits.Limits.{Limits}
-use Rattle.reg_names.specs.Names.{canon}
 use Rattle.reg_model.specs.Actions.{crate_of}
-use Rattle.reg_model.specs.Crates.{owners, owns}
+use Rattle.reg_model.specs.Crates.{owns}
 use Rattle.reg_model.specs.Events.{action_of}
 use Rattle.reg_model.specs.Events.Asked.{AddOwners}
-use Rattle.reg_model.specs.Facts.{access_facts, counts, has_login}
+use Rattle.reg_model.specs.Facts.{access_facts, counts}
 use Rattle.reg_model.specs.Refusals.{denied}
-use Rattle.reg_model.specs.Registry.{Registry, Text, holds, id_of_login, ids_of, is_enabled, is_known}
+use Rattle.reg_model.specs.Registry.{Registry, Text, holds, id_of_login, is_enabled, is_known}
 use Rattle.reg_model.specs.Registry as model
 use Rattle.reg_model.specs.Reports.{with_commas}
 use Rattle.reg_model.specs.Sound.{Sound}
@@ -26,8 +25,6 @@ use Rattle.reg_tables_sql.specs.declared.accounts.Account.{Account}
 use Rattle.reg_access.specs.declared.admission.Caller.{Caller}
 use Rattle.reg_access.specs.declared.admission.FoundCrate.{FoundCrate}
 use Rattle.reg_tables_meaning.specs.Calls.{ListsOwners}
-use Rattle.reg_tables_meaning.specs.Changes.{told_of}
-use Rattle.reg_tables_meaning.specs.Entries.{entry_of_account}
 use Rattle.reg_access.proofs.GrantLaw.{first_canon}
 use Rattle.reg_service_requests.specs.Owning.{owning}
 use Rattle.reg_service_steps.specs.Telling.{differs}

@@ -1,5 +1,5 @@
 -- What the tables tell of a read is what it is served.
-use Rattle.std.proofs.Common.{◌≡◌, List, [], ◌∷◌, ℕ, Bool, true, false, cond, map, Some, unwrap_or, refl, sym, ap, ◌∙◌}
+use Rattle.std.proofs.Common.{◌≡◌, List, [], ◌∷◌, ℕ, true, false, map, Some, unwrap_or, refl, sym, ap, ◌∙◌}
 use Rattle.std.specs.Prelude.{Vec}
 use Rattle.std.specs.declared.alloc.Global.{Global}
 use Rattle.std.specs.FinSet as finset
@@ -11,12 +11,11 @@ use Rattle.reg_body.specs.declared.limits.Limits.{Limits}
 use Rattle.reg_line.specs.Config.{config_text}
 use Rattle.reg_line.specs.File.{file_text}
 use Rattle.reg_names.specs.Names.{canon, name_at}
-use Rattle.reg_model.specs.Crates.{collides, is_yanked, versions}
 use Rattle.reg_model.specs.Effects.{done, owner_entry}
 use Rattle.reg_model.specs.Events.{action_of}
 use Rattle.reg_model.specs.Events.Asked.{Download, Index, ListOwners, Read}
 use Rattle.reg_model.specs.Events.Reading.{Config}
-use Rattle.reg_model.specs.Registry.{Publication, Registry, Text}
+use Rattle.reg_model.specs.Registry.{Text}
 use Rattle.reg_api_replies.specs.Bodies.{owners_body}
 use Rattle.reg_api_replies.specs.declared.head.Kind.TheVariants as kind
 use Rattle.reg_api_replies.specs.declared.reply.Reply.TheVariants.{Done}
@@ -27,9 +26,8 @@ use Rattle.reg_tables_sql.specs.declared.versions.Version.{Version}
 use Rattle.reg_tables_sql.specs.Archives.{IsArchiveWithId}
 use Rattle.reg_tables_meaning.specs.Calls.{ListsOwners, ListsVersions}
 use Rattle.reg_tables_meaning.specs.Changes.{told_of}
-use Rattle.reg_tables_meaning.specs.Entries.{ShownVersion, entry_of_account, shown_version, version_shown}
+use Rattle.reg_tables_meaning.specs.Entries.{entry_of_account, version_shown}
 use Rattle.reg_tables_meaning.specs.Stands.{Ids, spelling_at}
-use Rattle.reg_tables_meaning.proofs.CrateLemmas.{same_bytes}
 use Rattle.reg_access.specs.declared.admission.FoundCrate.{FoundCrate}
 use Rattle.reg_service_requests.specs.Granted.{IsCrate, IsLet, IsVersion}
 use Rattle.reg_service_steps.specs.Named.{IsSpelled}

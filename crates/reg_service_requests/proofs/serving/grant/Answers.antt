@@ -1,10 +1,8 @@
-use Rattle.std.proofs.Common.{◌≡◌, Ok, map, refl, rules}
+use Rattle.std.proofs.Common.{◌≡◌, Ok, refl, rules}
 use Rattle.reg_model.specs.Events.Asked.{Download, Index, ListOwners}
 use Rattle.reg_policy.specs.declared.event.Asked.TheVariants.{Read}
 use Rattle.reg_policy.specs.declared.event.Reading.TheVariants.{Config, Search}
-use Rattle.reg_policy.specs.Events.{asked_of}
-use Rattle.reg_service_requests.proofs.Asking.{nothing_told}
-use Rattle.reg_service_requests.proofs.Deciding.{always_given, as_given, crate_given, faulty, faulty_told, seeks, told_given, untold_given, version_given}
+use Rattle.reg_service_requests.proofs.Deciding.{always_given, as_given, crate_given, faulty_told, seeks, told_given, untold_given, version_given}
 use Rattle.reg_service_steps.proofs.Running.{runs_nothing}
 use Rattle.reg_service_requests.proofs.serving.grant.Goals as goal
 
