@@ -12,13 +12,14 @@ use Rattle.reg_tables.specs.declared.work.StoreFault.{StoreFault}
 use Rattle.reg_tables.specs.declared.work.Work.{Work}
 use Rattle.reg_tables.specs.Works.{Heard, IsAtWork, IsCall, Unmoved, rows_seen, seen}
 use Rattle.reg_tables.specs.Calling.{Asks}
+use Rattle.reg_access.specs.declared.granting.TheConstants.{FIND_CANDIDATES_TEXT}
 use Rattle.reg_access.specs.Grants.{AreCandidates}
 use Rattle.reg_access.proofs.Calls.{inside}
 use Rattle.reg_access.proofs.GrantRows.{candidates_are}
-use Rattle.reg_access.proofs.GrantText.{grant_is, grant_text}
+use Rattle.reg_access.proofs.GrantText.{grant_is}
 
 pub candidates_asked : {S : Type 0} (g : Ghosts S) (said text : List ℕ) (old new : Work S) (r : Result (Vec TokenRow Global) StoreFault) → IsAtWork g old
-    → Heard g new r (λ list. Shown said (Text text ∷ []) (seen g old) (seen g new) (map columns_with_account list.items)) → Unmoved g r old new → IsCall g r old new → said ≡ grant_text
+    → Heard g new r (λ list. Shown said (Text text ∷ []) (seen g old) (seen g new) (map columns_with_account list.items)) → Unmoved g r old new → IsCall g r old new → said ≡ FIND_CANDIDATES_TEXT.now
     → Asks g old new r (λ db list. AreCandidates text db list.items)
 candidates_asked g said text old new (Ok list) at told same leaves text_is = record {
   told = λ clean ids s h n name is.

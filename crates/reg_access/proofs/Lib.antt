@@ -1,4 +1,3 @@
-mod AccessOrder
 mod Admitting
 mod Answered
 mod Askers

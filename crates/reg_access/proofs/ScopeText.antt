@@ -17,11 +17,9 @@ use Rattle.sqlite_tied.specs.Compute.{everything}
 use Rattle.reg_tables_schema.specs.Schema.{ours}
 use Rattle.reg_tables_schema.proofs.Queries.{plain, answers, and_true}
 use Rattle.reg_tables_schema.proofs.Reading.{IsSelection}
+use Rattle.reg_access.specs.declared.texts.TheConstants.{IS_COVERED_TEXT}
 use Rattle.reg_access.specs.JoinRows.{is_at_most, is_below, is_scope_over, scopes_over}
 use Rattle.reg_access.proofs.Joins.{joined_where}
-
-abbrev pub scopes_text : List ℕ
-scopes_text = codes "SELECT s.place FROM tokens t JOIN scopes s ON s.token = t.id WHERE t.id = ?1 AND s.low <= ?2 AND ?2 < s.high"
 
 abbrev scopes_filter : List Term
 scopes_filter = op2 (Compare Eq Binary) (col 2 1) (col 1 0) ∷ op2 (Compare Eq Binary) (col 1 0) (col 0 0) ∷ op2 (Compare Le Binary) (col 2 4) (col 0 1) ∷ op2 (Compare Lt Binary) (col 0 1) (col 2 5) ∷ []
@@ -29,7 +27,7 @@ scopes_filter = op2 (Compare Eq Binary) (col 2 1) (col 1 0) ∷ op2 (Compare Eq 
 abbrev pub scopes_query : Query
 scopes_query = plain (inner 3 (inner 5 end)) scopes_filter (col 2 2 ∷ [])
 
-pub scopes_is : IsSelection ours scopes_text scopes_query (codes "place" ∷ [])
+pub scopes_is : IsSelection ours IS_COVERED_TEXT.now scopes_query (codes "place" ∷ [])
 unfolding understood everything
 scopes_is = record { command = refl; unlisted = refl; plain = (refl, refl) }
 

@@ -19,6 +19,7 @@ use Rattle.reg_tables_schema.specs.Schema.{ours}
 use Rattle.reg_tables_schema.proofs.Queries.{plain, and_true, same_filter}
 use Rattle.reg_tables_schema.proofs.Reading.{IsSelection}
 use Rattle.reg_tables_schema.proofs.Selections.{matched, of_table}
+use Rattle.reg_access.specs.declared.texts.TheConstants.{FIND_VERSION_TEXT, HAS_RELEASE_TEXT}
 use Rattle.reg_access.specs.JoinRows.{is_release, is_version, versions_of_release, versions_with_text}
 
 abbrev release_filter : List Term
@@ -27,10 +28,7 @@ release_filter = op2 (Compare Eq Binary) (col 1 2) (col 0 0) ∷ op2 (Compare Eq
 abbrev pub release_query : Query
 release_query = plain (inner 11 end) release_filter (col 1 0 ∷ [])
 
-abbrev pub release_text : List ℕ
-release_text = codes "SELECT id FROM versions WHERE crate = ?1 AND release = ?2"
-
-pub release_is : IsSelection ours release_text release_query (codes "id" ∷ [])
+pub release_is : IsSelection ours HAS_RELEASE_TEXT.now release_query (codes "id" ∷ [])
 unfolding understood everything
 release_is = record { command = refl; unlisted = refl; plain = (refl, refl) }
 
@@ -52,10 +50,7 @@ version_filter = op2 (Compare Eq Binary) (col 1 2) (col 0 0) ∷ op2 (Compare Eq
 abbrev pub version_query : Query
 version_query = plain (inner 11 end) version_filter (col 1 0 ∷ [])
 
-abbrev pub version_text : List ℕ
-version_text = codes "SELECT id FROM versions WHERE crate = ?1 AND release = ?2 AND vers = ?3"
-
-pub version_is : IsSelection ours version_text version_query (codes "id" ∷ [])
+pub version_is : IsSelection ours FIND_VERSION_TEXT.now version_query (codes "id" ∷ [])
 unfolding understood everything
 version_is = record { command = refl; unlisted = refl; plain = (refl, refl) }
 

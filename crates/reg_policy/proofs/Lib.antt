@@ -1,3 +1,4 @@
+pub mod Facts
 pub mod Lists
 pub mod PatternTexts
 pub mod ReportLines

@@ -1,5 +1,5 @@
 -- The row of `about`, and a registry with nothing in it.
-use Rattle.std.proofs.Common.{◌≡◌, ◌≢◌, inl, inr, ℕ, zero, suc, pos, List, [], ◌∷◌, codes, map, true, false, Ok, Err, Result, OnOk, OnErr, refl, sym, ap, subst, ◌∙◌}
+use Rattle.std.proofs.Common.{◌≡◌, ◌≢◌, inl, inr, ℕ, zero, suc, pos, List, [], ◌∷◌, map, true, false, Ok, Err, Result, OnOk, OnErr, refl, sym, ap, subst, ◌∙◌}
 use Rattle.std.specs.Prelude.{drop, take}
 use Rattle.std.specs.List.{AllByRecursion}
 use Rattle.sqlite.specs.declared.types.Value.TheVariants.{Null, Int, Text}
@@ -18,6 +18,7 @@ use Rattle.sqlite.proofs.StateLemmas.{survives_then}
 use Rattle.sqlite_rules.specs.Edit.{next_rowid}
 use Rattle.sqlite_trees.specs.Tree.{put_row}
 use Rattle.sqlite_tied.specs.Compute.{everything}
+use Rattle.reg_tables_schema.specs.declared.make.TheConstants.{INSERT_ABOUT_TEXT}
 use Rattle.reg_tables_schema.specs.Schema.{ours, our_tables, old_schema, first_of_ours, blank, about, restricted, readers}
 use Rattle.reg_tables_schema.specs.States.{IsInside, IsReady, Rests, Grows, Extends, Makes, Refuses, IsUndone, IsAtRest, HasMade, IsMade, about_columns}
 use Rattle.reg_tables_schema.specs.Changes.{AddsColumns}
@@ -27,28 +28,25 @@ use Rattle.reg_tables_schema.proofs.Edits.{step_of}
 use Rattle.reg_tables_schema.proofs.Statements.{adds_columns, cast_int, cast_null}
 use Rattle.reg_tables_schema.proofs.WriteLemmas.{survives_inside}
 
-abbrev about_text : List ℕ
-about_text = codes "INSERT INTO about (schema, base) VALUES (2, ?1)"
-
 abbrev about_terms : List Term
 about_terms = lit Null ∷ lit (Int (pos 2)) ∷ col 0 0 ∷ []
 
-about_is : command_of (understood ours about_text) ≡ Insert 0 (Values about_terms 3)
+about_is : command_of (understood ours INSERT_ABOUT_TEXT.now) ≡ Insert 0 (Values about_terms 3)
 unfolding understood everything
 about_is = refl
 
-about_plain : IsPlain (understood ours about_text)
+about_plain : IsPlain (understood ours INSERT_ABOUT_TEXT.now)
 unfolding understood everything
 about_plain = (refl, refl)
 
 about_news : (db : Trees) (base : List ℕ) → (step_of db about (Text base ∷ []) about_terms 3).news ≡ (Int (next_rowid (db 0)) ∷ about_columns Second base) ∷ []
 about_news db base = rw (cast_int (pos 2), cast_null)
 
-pub inserts_about : (old new : State) (base : List ℕ) (r : Result ℕ Error) → IsInside old → Executes about_text (Text base ∷ []) old new r → OnOk r (AddsColumns 0 (about_columns Second base) old new)
-inserts_about old new base r at h = adds_columns about_text 0 about refl about_plain refl about_terms 3 about_is (Text base ∷ []) (about_columns Second base) old new r at (about_news old.now.trees base) h
+pub inserts_about : (old new : State) (base : List ℕ) (r : Result ℕ Error) → IsInside old → Executes INSERT_ABOUT_TEXT.now (Text base ∷ []) old new r → OnOk r (AddsColumns 0 (about_columns Second base) old new)
+inserts_about old new base r at h = adds_columns INSERT_ABOUT_TEXT.now 0 about refl about_plain refl about_terms 3 about_is (Text base ∷ []) (about_columns Second base) old new r at (about_news old.now.trees base) h
 
-pub about_survives : (old new : State) (params : Row) → IsReady old → Survives old new (CommitsBy about_text params old) → Survives old new (λ _. ⊥)
-about_survives old new params at = survives_inside about_text params old ours _ about_is new refl (λ clean. ((at clean).schema_is, (at clean).inside))
+pub about_survives : (old new : State) (params : Row) → IsReady old → Survives old new (CommitsBy INSERT_ABOUT_TEXT.now params old) → Survives old new (λ _. ⊥)
+about_survives old new params at = survives_inside INSERT_ABOUT_TEXT.now params old ours _ about_is new refl (λ clean. ((at clean).schema_is, (at clean).inside))
 
 others_empty : (tables : List Table) (old new : Trees) → AllByRecursion (λ t. old t.tree ≡ []) tables → AllByRecursion (λ t. t.tree ≢ 0 → new t.tree ≡ old t.tree) tables
     → AllByRecursion (λ t. t.tree ≢ 0 → new t.tree ≡ []) tables

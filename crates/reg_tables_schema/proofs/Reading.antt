@@ -17,10 +17,6 @@ pub record IsSelection (schema : Schema) (text : List ℕ) (q : Query) (names : 
   pub unlisted : reads_listing schema text ≡ false
   pub plain : IsPlain (understood schema text)
 
--- a text of the code is the text of a query: its equation comes last, so that another text is refused at once
-pub plain_text : {schema : Schema} {text : List ℕ} {q : Query} {names : List (List ℕ)} → IsSelection schema text q names → (said : List ℕ) → said ≡ text → IsPlain (understood schema said)
-plain_text {schema = schema} is said same = subst (λ t. IsPlain (understood schema t)) (sym same) is.plain
-
 -- the same, of the schema that is there
 pub selected_by : {schema : Schema} {text : List ℕ} {q : Query} {names : List (List ℕ)} → IsSelection schema text q names
     → (params : Row) (old new : State) (rows : List Row) → old.now.schema ≡ schema → Shown text params old new rows

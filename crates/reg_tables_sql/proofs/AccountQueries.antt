@@ -22,6 +22,7 @@ use Rattle.reg_tables_schema.proofs.ShownRows.{shown_exactly}
 use Rattle.reg_tables_schema.proofs.Sorted.{in_order}
 use Rattle.reg_tables_schema.proofs.TableMatches.{equals_first, matches_text}
 use Rattle.reg_tables_schema.proofs.WholeTables.{all_in_order}
+use Rattle.reg_tables_sql.specs.declared.accounts.TheConstants.{ALL_TEXT, BY_LOGIN_TEXT, LAST_ID_TEXT}
 use Rattle.reg_tables_sql.specs.declared.accounts.Account.{Account}
 use Rattle.reg_tables_sql.specs.Accounts.{AreAccounts, IsAccountOfLogin, account_columns}
 use Rattle.reg_tables_sql.specs.Counts.{IsLastId}
@@ -32,36 +33,27 @@ project = col 1 0 ∷ col 1 2 ∷ col 1 3 ∷ col 1 4 ∷ []
 abbrev names : List (List ℕ)
 names = codes "id" ∷ codes "login" ∷ codes "name" ∷ codes "enabled" ∷ []
 
-abbrev pub by_login_text : List ℕ
-by_login_text = codes "SELECT id, login, name, enabled FROM accounts WHERE login = ?1"
-
-pub by_login_is : IsSelection ours by_login_text (plain (inner 1 end) (equals_first 2) project) (names)
+pub by_login_is : IsSelection ours BY_LOGIN_TEXT.now (plain (inner 1 end) (equals_first 2) project) (names)
 unfolding understood everything
 by_login_is = record { command = refl; unlisted = refl; plain = (refl, refl) }
 
 pub by_login : (old new : State) (login : List ℕ) (found : Option Account) → IsInside old
-    → Shown by_login_text (Text login ∷ []) old new (shown_of account_columns found) → IsAccountOfLogin login old.now.trees found
+    → Shown BY_LOGIN_TEXT.now (Text login ∷ []) old new (shown_of account_columns found) → IsAccountOfLogin login old.now.trees found
 by_login old new login found at h =
     let db = overlay old.now.trees [] in
     shown_exactly account_columns _ found
     (of_table db (Text login ∷ []) 1 (equals_first 2) project _ (is_text 2 login) (matches_text db 1 2 login) (selected by_login_is (Text login ∷ []) old new _ at h))
 
-abbrev pub listed_text : List ℕ
-listed_text = codes "SELECT id, login, name, enabled FROM accounts ORDER BY id"
-
-pub listed_is : IsSelection ours listed_text (in_order (inner 1 end) [] project ((col 1 0, ascending Binary) ∷ [])) (names)
+pub listed_is : IsSelection ours ALL_TEXT.now (in_order (inner 1 end) [] project ((col 1 0, ascending Binary) ∷ [])) (names)
 unfolding understood everything
 listed_is = record { command = refl; unlisted = refl; plain = (refl, refl) }
 
-pub listed : (old new : State) (list : List Account) → IsInside old → Shown listed_text [] old new (map account_columns list) → AreAccounts old.now.trees list
+pub listed : (old new : State) (list : List Account) → IsInside old → Shown ALL_TEXT.now [] old new (map account_columns list) → AreAccounts old.now.trees list
 listed old new list at h = all_in_order (overlay old.now.trees []) [] 1 project _ 0 (selected listed_is [] old new _ at h)
 
-abbrev pub last_text : List ℕ
-last_text = codes "SELECT id FROM accounts ORDER BY id DESC LIMIT 1"
-
-pub last_is : IsSelection ours last_text (greatest 1) (codes "id" ∷ [])
+pub last_is : IsSelection ours LAST_ID_TEXT.now (greatest 1) (codes "id" ∷ [])
 unfolding understood everything
 last_is = record { command = refl; unlisted = refl; plain = (refl, refl) }
 
-pub last : (old new : State) (id : Option ℕ) → IsInside old → Shown last_text [] old new (shown_of number_columns id) → IsLastId 1 old.now.trees id
+pub last : (old new : State) (id : Option ℕ) → IsInside old → Shown LAST_ID_TEXT.now [] old new (shown_of number_columns id) → IsLastId 1 old.now.trees id
 last old new id at h = greatest_of (overlay old.now.trees []) 1 _ (selected last_is [] old new _ at h)

@@ -16,6 +16,8 @@ use Rattle.reg_tables_schema.specs.Tests.{shows}
 use Rattle.reg_tables_schema.proofs.Reading.{IsSelection, selected}
 use Rattle.reg_tables_schema.proofs.Sorted.{in_order}
 use Rattle.reg_tables_schema.proofs.WholeTables.{all_in_order}
+use Rattle.reg_tables_sql.specs.declared.pairs.TheConstants.{OWNER_ROWIDS_TEXT, READER_ROWIDS_TEXT}
+use Rattle.reg_tables_sql.specs.declared.reserved.TheConstants.{ROWIDS_TEXT}
 use Rattle.reg_tables_sql.specs.Rowids.{AreRowids, rowid_columns}
 
 abbrev rowids_query : ℕ → Query
@@ -31,14 +33,14 @@ rowids {tree} {name} {text} it old new list at h =
     subst (λ rows. IsInOrder (by_column 0) rows (shows (0 ∷ [])) (map rowid_columns list)) (it.seen old.now.trees)
     (all_in_order (overlay old.now.trees []) [] tree (col 1 0 ∷ []) (map rowid_columns list) 0 (selected it.is [] old new (map rowid_columns list) at h))
 
-pub of_owners : AsksRowids 9 (codes "rowid") (codes "SELECT rowid FROM owners ORDER BY rowid")
+pub of_owners : AsksRowids 9 (codes "rowid") OWNER_ROWIDS_TEXT.now
 unfolding understood everything
 of_owners = record { is = record { command = refl; unlisted = refl; plain = (refl, refl) }; seen = λ db. refl }
 
-pub of_readers : AsksRowids 18 (codes "rowid") (codes "SELECT rowid FROM readers ORDER BY rowid")
+pub of_readers : AsksRowids 18 (codes "rowid") READER_ROWIDS_TEXT.now
 unfolding understood everything
 of_readers = record { is = record { command = refl; unlisted = refl; plain = (refl, refl) }; seen = λ db. refl }
 
-pub of_reserved : AsksRowids 14 (codes "rowid") (codes "SELECT rowid FROM reserved ORDER BY rowid")
+pub of_reserved : AsksRowids 14 (codes "rowid") ROWIDS_TEXT.now
 unfolding understood everything
 of_reserved = record { is = record { command = refl; unlisted = refl; plain = (refl, refl) }; seen = λ db. refl }

@@ -8,10 +8,6 @@ use Rattle.reg_tables_schema.specs.Rows.{IsInOrder, by_column, mark}
 use Rattle.reg_tables_schema.specs.Tests.{is_number, shows}
 use Rattle.reg_tables_sql.specs.declared.versions.StemRow.{StemRow}
 
--- the text that answers them
-abbrev pub entries_text : List ℕ
-entries_text = codes "SELECT stem, yanked FROM versions WHERE crate = ?1 ORDER BY id"
-
 -- the stem of a version's line, and its mark
 abbrev pub stem_places : List ℕ
 stem_places = 6 ∷ 8 ∷ []
