@@ -52,7 +52,8 @@ pub fn finish<S: Alter>(conn: &mut Connection<S>) -> Result<usize, Error>
     done
 }
 
-const ROLLBACK: &str = "ROLLBACK";
+/// Refused by name where no transaction is open.
+pub const ROLLBACK: &str = "ROLLBACK";
 
 /// Undoes the transaction, if there is one.
 pub fn undo<S: Alter>(conn: &mut Connection<S>)
