@@ -21,11 +21,10 @@ use Rattle.reg_api_replies.specs.Piled.{Piles}
 use Rattle.reg_body.specs.Sent.{IsStopped, SendsAll, Sink}
 use Rattle.reg_api_replies.specs.Texts.{file_head}
 use Rattle.reg_api_replies.proofs.Joined.{pile_sent, pile_stopped, piles_behind, sends_nothing}
-use Rattle.reg_tables_sql.specs.Stems.{AreStemsOf}
+use Rattle.reg_tables_sql.specs.Stems.{AreStemsOf, entries_text}
 use Rattle.reg_tables_sql.proofs.StemQueries.{stems_begun}
 use Rattle.reg_tables_meaning.specs.Entries.{entry_row}
 use Rattle.reg_tables_meaning.specs.Walks.{HasWalked}
-use Rattle.reg_tables_sql.specs.declared.versions.TheConstants.{ENTRIES_TEXT}
 use Rattle.reg_service_index.specs.Files.{BeginsFile, SendsRows}
 use Rattle.reg_service_index.specs.Lines.{entry_in, lines_in}
 use Rattle.reg_service_index.specs.Streams.{IsBroken, fault_of}
@@ -65,12 +64,12 @@ module _ {S : Type 0} (g : Ghosts S) (first : Held S) (f : FoundFile) (at : IsOu
   params = Int (pos id) ∷ []
 
   -- the rows so far begin the file
-  begins_so : {T E : Type 0} (e : E) (now : Held S) (rows : List Row) → HasWalked g ENTRIES_TEXT.now params first now rows → HasCleanDisk (state g now) → BeginsFile {T = T} g id (Err e) first rows
+  begins_so : {T E : Type 0} (e : E) (now : Held S) (rows : List Row) → HasWalked g entries_text params first now rows → HasCleanDisk (state g now) → BeginsFile {T = T} g id (Err e) first rows
   begins_so e now rows w clean =
       let same = w.same clean in
       let rests = at (omega (arith, w.survives.clean, clean)) same.0.was_open in
       let schema : (state g now).now.schema ≡ ours = ap (λ (d : Database). d.schema) (same.0.now_is ∙ rests.settled) ∙ rests.committed_is in
-      let all = stems_begun (state g now) id schema rows same.0.is_open (given_begin g ENTRIES_TEXT.now params now rows (w.given clean)) in
+      let all = stems_begun (state g now) id schema rows same.0.is_open (given_begin g entries_text params now rows (w.given clean)) in
       record { tail = all.0; is_open = same.0.was_open; are = subst (λ (d : Database). AreStemsOf id d.trees (rows ++ all.0)) same.0.now_is all.1; all = tt }
 
   module _ (close : Bool) (writes : ℕ) (s : Sink) where
@@ -92,14 +91,14 @@ module _ {S : Type 0} (g : Ghosts S) (first : Held S) (f : FoundFile) (at : IsOu
     pub head_put : (t : Sink) (used : ℕ) (rest : Text) → Piles [] head rest writes used s t → Piles [] (head ++ lines_in []) rest writes used s t
     head_put t used rest h = subst (λ l. Piles [] l rest writes used s t) no_rows h
 
-    pub head_stopped : (fault : SendFault) (t : Sink) (now : Held S) → HasWalked g ENTRIES_TEXT.now params first now [] → IsStopped fault head writes s t → SendsRows g f close (Err (fault_of fault)) writes first now s t
+    pub head_stopped : (fault : SendFault) (t : Sink) (now : Held S) → HasWalked g entries_text params first now [] → IsStopped fault head writes s t → SendsRows g f close (Err (fault_of fault)) writes first now s t
     head_stopped fault t now w h = record {
       rows = [];
       sends = subst (λ l. IsBroken (fault_of fault) l writes s t) no_rows (stop_is_break fault head writes s t h);
       begins = λ clean. inr (begins_so (fault_of fault) now [] w clean);
     }
 
-    module _ (t : Sink) (used : ℕ) (now : Held S) (rest : Text) (rows : List Row) (w : HasWalked g ENTRIES_TEXT.now params first now rows) (puts : Piles [] (head ++ lines_in rows) rest writes used s t) where
+    module _ (t : Sink) (used : ℕ) (now : Held S) (rest : Text) (rows : List Row) (w : HasWalked g entries_text params first now rows) (puts : Piles [] (head ++ lines_in rows) rest writes used s t) where
       -- the store fails
       pub rows_broken : (left : Held S) → (HasCleanDisk (state g left) → HasCleanDisk (state g now)) → SendsRows g f close (Err Store) writes first left s t
       rows_broken left back = record {
@@ -135,7 +134,7 @@ module _ {S : Type 0} (g : Ghosts S) (first : Held S) (f : FoundFile) (at : IsOu
       pub rows_more : (it : Text × Bool) (u : Sink) (more : ℕ) (next : Text) → Piles rest (line_in it) next (writes - used) more t u → Piles [] (head ++ lines_in (rows ++ entry_row it ∷ [])) next writes (used + more) s u
       rows_more it u more next h = subst (λ l. Piles [] l next writes (used + more) s u) (one_more it) (piles_behind [] (head ++ lines_in rows) (line_in it) rest next writes used more s t u puts h)
 
-      pub rows_stopped : (fault : SendFault) (it : Text × Bool) (u : Sink) (on : Held S) → IsStopped fault (rest ++ line_in it) (writes - used) t u → HasWalked g ENTRIES_TEXT.now params first on (rows ++ entry_row it ∷ []) → SendsRows g f close (Err (fault_of fault)) writes first on s u
+      pub rows_stopped : (fault : SendFault) (it : Text × Bool) (u : Sink) (on : Held S) → IsStopped fault (rest ++ line_in it) (writes - used) t u → HasWalked g entries_text params first on (rows ++ entry_row it ∷ []) → SendsRows g f close (Err (fault_of fault)) writes first on s u
       rows_stopped fault it u on h walked = record {
         rows = rows ++ entry_row it ∷ [];
         sends = subst (λ l. IsBroken (fault_of fault) l writes s u) (one_more it) (stop_is_break fault ((head ++ lines_in rows) ++ line_in it) writes s u (pile_stopped fault [] (head ++ lines_in rows) (line_in it) rest writes used s t u puts h));

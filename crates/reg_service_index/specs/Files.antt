@@ -12,11 +12,10 @@ use Rattle.reg_model.specs.Registry.{Text}
 use Rattle.reg_tables_schema.specs.Statements.{rows_in}
 use Rattle.reg_body.specs.Sent.{Sink}
 use Rattle.reg_api_replies.specs.Texts.{file_head, refusal_text}
-use Rattle.reg_tables_sql.specs.Stems.{AreStemsOf}
+use Rattle.reg_tables_sql.specs.Stems.{AreStemsOf, entries_text}
 use Rattle.reg_tables_meaning.specs.Entries.{entry_row}
 use Rattle.reg_tables.specs.declared.tables.Tables.{Tables}
 use Rattle.reg_tables.specs.Works.{shown}
-use Rattle.reg_tables_sql.specs.declared.versions.TheConstants.{ENTRIES_TEXT}
 use Rattle.reg_service_index.specs.declared.found.FoundFile.{FoundFile}
 use Rattle.reg_service_index.specs.declared.fault.IndexFault.{IndexFault}
 use Rattle.reg_service_index.specs.declared.fault.IndexFault.TheVariants.{Store}
@@ -68,7 +67,7 @@ EndUnread rows = (front : List Row) × (row : Row) × (rows ≡ front ++ row ∷
 abbrev pub EndsItself : {S : Type 0} → Ghosts S → ℕ → Held S → Type 0
 EndsItself g id h = IsEnded h
     ⊎ ((rows : List Row)
-    × (HasCleanDisk (state g h) → HasGiven g ENTRIES_TEXT.now (Int (pos id) ∷ []) h rows)
+    × (HasCleanDisk (state g h) → HasGiven g entries_text (Int (pos id) ∷ []) h rows)
     × (EndUnread rows ⊎ (2 ^ 64 ≤ 1 + length rows)))
 
 -- the rows of the file were sent behind the head

@@ -1,19 +1,18 @@
 -- A walk over the entries of a crate's index file.
 
 use Rattle.reg_tables_schema.specs.declared.edition.Edition.TheVariants.{Second}
-use Rattle.reg_tables_sql.specs.declared.versions.TheConstants.{ENTRIES_TEXT}
 use Rattle.reg_tables_meaning.proofs.Common.{◌≡◌, [], ◌∷◌, ◌∙◌, ap, arith, Database, Int, List, pos, Row, subst, ℕ}
 use Rattle.reg_tables_schema.specs.States.{IsOurs}
 use Rattle.sqlite.specs.Held.{Held, state}
 use Rattle.reg_tables_meaning.specs.Walks.{HasWalked}
 use Rattle.sqlite.specs.State.{HasCleanDisk, IsUnchanged, Shown, State}
 use Rattle.sqlite_trees.specs.declared.store.Store.{Ghosts}
-use Rattle.reg_tables_sql.specs.Stems.{AreStemsOf}
+use Rattle.reg_tables_sql.specs.Stems.{AreStemsOf, entries_text}
 use Rattle.reg_tables_sql.proofs.StemQueries.{stems}
 use Rattle.reg_tables_schema.specs.Schema.{ours}
 
 module _ {S : Type 0} (g : Ghosts S) (first now : Held S) (of_crate : ℕ) (rows : List Row) (at : IsOurs Second (state g first)) (clean : HasCleanDisk (state g now))
-    (w : HasWalked g ENTRIES_TEXT.now (Int (pos of_crate) ∷ []) first now rows) where
+    (w : HasWalked g entries_text (Int (pos of_crate) ∷ []) first now rows) where
   same_now : IsUnchanged (state g first) (state g now)
   same_now = w.same clean
 
@@ -26,5 +25,5 @@ module _ {S : Type 0} (g : Ghosts S) (first now : Held S) (of_crate : ℕ) (rows
   back rs h = subst (λ (d : Database). AreStemsOf of_crate d.trees rs) same_now.0.now_is h
 
   -- the walk has come to its end
-  pub entries_read : (last : State) → Shown ENTRIES_TEXT.now (Int (pos of_crate) ∷ []) (state g now) last rows → AreStemsOf of_crate (state g first).now.trees rows
+  pub entries_read : (last : State) → Shown entries_text (Int (pos of_crate) ∷ []) (state g now) last rows → AreStemsOf of_crate (state g first).now.trees rows
   entries_read last h = back rows (stems (state g now) of_crate schema_still last rows h)

@@ -21,8 +21,7 @@ use Rattle.reg_tables_schema.specs.Tests.{is_number}
 use Rattle.reg_tables_schema.proofs.Reading.{IsSelection, selected_by}
 use Rattle.reg_tables_schema.proofs.Sorted.{in_order, in_order_of, then_equal}
 use Rattle.reg_tables_schema.proofs.TableMatches.{equals_first, matches_number}
-use Rattle.reg_tables_sql.specs.declared.versions.TheConstants.{ENTRIES_TEXT}
-use Rattle.reg_tables_sql.specs.Stems.{AreStemsOf}
+use Rattle.reg_tables_sql.specs.Stems.{AreStemsOf, entries_text}
 
 abbrev project : List Term
 project = col 1 6 ∷ col 1 8 ∷ []
@@ -33,7 +32,7 @@ query = in_order (inner 11 end) (equals_first 2) project ((col 1 0, ascending Bi
 abbrev names : List (List ℕ)
 names = codes "stem" ∷ codes "yanked" ∷ []
 
-pub stems_are : IsSelection ours ENTRIES_TEXT.now query names
+pub stems_are : IsSelection ours entries_text query names
 unfolding understood everything
 stems_are = record { command = refl; unlisted = refl; plain = (refl, refl) }
 
@@ -41,19 +40,19 @@ module _ (old : State) (of_crate : ℕ) (at : old.now.schema ≡ ours) where
   abbrev params : Row
   params = Int (pos of_crate) ∷ []
 
-  pub stems : (new : State) (rows : List Row) → Shown ENTRIES_TEXT.now params old new rows → AreStemsOf of_crate old.now.trees rows
+  pub stems : (new : State) (rows : List Row) → Shown entries_text params old new rows → AreStemsOf of_crate old.now.trees rows
   stems new rows h =
       in_order_of (overlay old.now.trees []) params 11 (equals_first 2) project ((col 1 0, ascending Binary) ∷ []) rows (is_number 2 of_crate) (by_column 0) (matches_number old.now.trees 11 2 of_crate)
       (λ a b. then_equal (by_column 0 a b)) (selected_by stems_are params old new rows at h)
 
-  ends : (c : Compiled) (db : Database) (it : IsStatement old ENTRIES_TEXT.now params c) → IsSourceOf (reads_listing old.now.schema ENTRIES_TEXT.now) old.now db → EndsIn c.command db (timed params c.formats it.now)
+  ends : (c : Compiled) (db : Database) (it : IsStatement old entries_text params c) → IsSourceOf (reads_listing old.now.schema entries_text) old.now db → EndsIn c.command db (timed params c.formats it.now)
   ends c db it source =
-      let known : c.command ≡ Select (record { lets = []; body = query }) names = ap command_of (sym it.is ∙ ap (λ s. understood s ENTRIES_TEXT.now) at) ∙ stems_are.command in
+      let known : c.command ≡ Select (record { lets = []; body = query }) names = ap command_of (sym it.is ∙ ap (λ s. understood s entries_text) at) ∙ stems_are.command in
       subst (λ k. EndsIn k db (timed params c.formats it.now)) (sym known) tt
 
   -- rows that begin an answer begin all those that are there
-  pub stems_begun : (rows : List Row) → IsTrue old.is_open → Begins ENTRIES_TEXT.now params old rows → (tail : List Row) × AreStemsOf of_crate old.now.trees (rows ++ tail)
+  pub stems_begun : (rows : List Row) → IsTrue old.is_open → Begins entries_text params old rows → (tail : List Row) × AreStemsOf of_crate old.now.trees (rows ++ tail)
   stems_begun rows up h =
       let still : IsUnchanged old old = (record { was_open = up; is_open = up; now_is = refl; committed_is = refl; mode = refl }, record { changes = refl; last_rowid = refl }, refl) in
-      let all = begins_shown ENTRIES_TEXT.now params old old rows h still ends in
+      let all = begins_shown entries_text params old old rows h still ends in
       (all.0, stems old (rows ++ all.0) all.1)

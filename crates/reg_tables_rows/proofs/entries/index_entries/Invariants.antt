@@ -1,12 +1,11 @@
 use Rattle.std.proofs.Common.{◌≡◌, map, pos, ◌∷◌, []}
 use Rattle.sqlite.specs.declared.types.Value.TheVariants.{Int}
-use Rattle.reg_tables_sql.specs.Stems.{columns_of_stem}
+use Rattle.reg_tables_sql.specs.Stems.{columns_of_stem, entries_text}
 use Rattle.reg_tables_meaning.specs.Walks.{HasWalked}
-use Rattle.reg_tables_sql.specs.declared.versions.TheConstants.{ENTRIES_TEXT}
 use Rattle.reg_tables_rows.proofs.entries.index_entries.Given as goal
 
 -- the rows so far are in the list
 abbrev pub invariant-rows : goal.invariant-rows
 invariant-rows g l =
     (l.rows.conn.ghost_name ≡ l.initial.rows.conn.ghost_name)
-    × HasWalked g.S.Store ENTRIES_TEXT.now (Int (pos l.crate_id) ∷ []) l.fn.conn l.rows.conn.now (map columns_of_stem l.list.items)
+    × HasWalked g.S.Store entries_text (Int (pos l.crate_id) ∷ []) l.fn.conn l.rows.conn.now (map columns_of_stem l.list.items)
