@@ -1,12 +1,12 @@
 -- What SQL's = and <> say of values, and a key of a plain order.
-use Rattle.std.proofs.Common.{◌≡◌, Bool, true, false, ℕ, [], ◌∷◌, refl, sym, ap, ap₂, ◌∙◌}
+use Rattle.std.proofs.Common.{◌≡◌, Bool, true, false, not, ℕ, [], ◌∷◌, Ordering, Less, Equal, Greater, refl, sym, ap, ap₂, ◌∙◌}
 use Rattle.std.specs.Prelude.{◌||◌, ◌&&◌, if◌then◌else◌, Some}
-use Rattle.std.specs.Ordering.{is_eq}
+use Rattle.std.specs.Ordering.{is_eq, is_ne}
 use Rattle.sqlite.specs.declared.types.Value.{Value}
 use Rattle.sqlite.specs.declared.types.Value.TheVariants.{Null}
 use Rattle.sqlite.specs.Collation.TheVariants.{Binary}
 use Rattle.sqlite.specs.Order.{Row, column, value_cmp}
-use Rattle.sqlite_schema.specs.Rules.{agree, equal}
+use Rattle.sqlite_schema.specs.Rules.{agree, differ, equal}
 use Rattle.sqlite_sql.specs.Ops.{binary, from_truth, is_null, is_true}
 use Rattle.sqlite_value.specs.Keys.{first_key, plain}
 use Rattle.reg_audit_law.specs.Rules.{same_value}
@@ -15,6 +15,11 @@ truth_is : (b : Bool) → is_true (from_truth (Some b)) ≡ b
 truth_is true = refl
 truth_is false = refl
 
+ne_is : (o : Ordering) → is_ne o ≡ not (is_eq o)
+ne_is Less = refl
+ne_is Equal = refl
+ne_is Greater = refl
+
 null_or : (a b : Value) → is_null a ≡ false → is_null b ≡ false → (is_null a || is_null b) ≡ false
 null_or a b na nb = ap₂ ◌||◌ na nb
 
@@ -22,6 +27,10 @@ null_or a b na nb = ap₂ ◌||◌ na nb
 pub equal_is : (a b : Value) → is_null a ≡ false → is_null b ≡ false → equal Binary a b ≡ same_value a b
 unfolding binary
 equal_is a b na nb = ap (λ n. is_true (if n then Null else from_truth (Some (is_eq (value_cmp a b))))) (null_or a b na nb) ∙ truth_is (is_eq (value_cmp a b))
+
+pub differ_is : (a b : Value) → is_null a ≡ false → is_null b ≡ false → differ a b ≡ not (same_value a b)
+unfolding binary
+differ_is a b na nb = ap (λ n. is_true (if n then Null else from_truth (Some (is_ne (value_cmp a b))))) (null_or a b na nb) ∙ truth_is (is_ne (value_cmp a b)) ∙ ne_is (value_cmp a b)
 
 -- what is equal is the same value
 pub equal_same : (a b : Value) → equal Binary a b ≡ true → same_value a b ≡ true

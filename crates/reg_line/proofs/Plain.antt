@@ -1,20 +1,23 @@
 -- The line of a manifest is a plain value, and a shallow one: it can be read back.
 use Rattle.std.proofs.Common.{◌≡◌, ◌≤◌, ℕ, Bool, true, false, not, List, [], ◌∷◌, map, filter, Option, Some, None, String, Global, string_bytes, option_map, IsUtf8, refl, sym, subst, arith, cond, string_cmp}
+use Rattle.std.proofs.lemmas.Fmt.{decimal_digit}
 use Rattle.std.proofs.lemmas.Str.{IsUtf8-string_bytes}
 use Rattle.std.specs.BTreeMap.{IsOrdered}
 use Rattle.std.specs.declared.vec.Vec.{Vec}
 use Rattle.hex.specs.Hex.{encode_lower}
+use Rattle.json.proofs.Printed.Decimals.{IsNumber-decimal}
 use Rattle.json.proofs.Printed.Utf8.{IsUtf8-are_ascii}
-use Rattle.serde_json.specs.Data.{Data, null, string, depth, items_depth, members_depth}
+use Rattle.serde_json.specs.Data.{Data, unsigned, null, string, depth, items_depth, members_depth}
 use Rattle.serde_json.specs.Read.{max_depth}
 use Rattle.serde_json.specs.View.{items_of}
+use Rattle.serde_json.proofs.Numbers.{number_of-decimal}
 use Rattle.reg_manifest.specs.Fields.{Features}
 use Rattle.reg_manifest.specs.Manifests.{DepData, Metadata, dep_view, feature_view, manifest_view}
 use Rattle.reg_manifest.specs.declared.manifest.Dep.{Dep}
 use Rattle.reg_manifest.specs.declared.manifest.Manifest.{Manifest}
 use Rattle.reg_line.specs.Features.{feature_members, is_newer, newer, older}
 use Rattle.reg_line.specs.Line.{dep_data, dep_named, dep_object, line_data, line_members, text_or_null}
-use Rattle.reg_line.proofs.Back.{IsPlain, ItemsArePlain, MembersArePlain}
+use Rattle.reg_line.proofs.Back.{IsPlain, IsPlainNumber, ItemsArePlain, MembersArePlain}
 use Rattle.reg_line.proofs.Maps.{Feature, ascending_view, ascending_filter}
 
 -- ---- plain
@@ -88,6 +91,47 @@ cond-plain false f fs gs h r = r
 filter-plain : (p : Feature → Bool) (fs : Features) → AreTexts fs → AreTexts (filter p fs)
 filter-plain p [] h = tt
 filter-plain p (f ∷ fs) h = cond-plain (p f) f fs (filter p fs) h (filter-plain p fs h.2)
+
+two-plain : IsPlainNumber (unsigned 2)
+two-plain = (number_of-decimal 2 (omega arith), IsNumber-decimal 2 (omega arith), subst IsUtf8 (sym (decimal_digit 2 (omega arith))) (IsUtf8-are_ascii _ refl))
+
+)
+members-plain olds (f ∷ fs) m c y a b t u n v = (
+  refl,
+  (
+    IsUtf8-are_ascii _ refl,
+    v,
+    (
+      IsUtf8-are_ascii _ refl,
+      deps-plain m.deps.items,
+      (
+        IsUtf8-are_ascii _ refl,
+        (a, t),
+        (
+          IsUtf8-are_ascii _ refl,
+          (b, u),
+          (
+            IsUtf8-are_ascii _ refl,
+            option-plain m.links,
+            (
+              IsUtf8-are_ascii _ refl,
+              n,
+              (
+                IsUtf8-are_ascii _ refl,
+                option-plain m.rust_version,
+                (
+                  IsUtf8-are_ascii _ refl,
+                  two-plain,
+                  (IsUtf8-are_ascii _ refl, IsUtf8-string_bytes m.vers, (IsUtf8-are_ascii _ refl, tt, tt)),
+                ),
+              ),
+            ),
+          ),
+        ),
+      ),
+    ),
+  ),
+)
 
 pub line-plain : (m : Manifest) (digest : List ℕ) (y : Bool) → IsOrdered string_cmp m.features → IsUtf8 m.name → IsUtf8 (encode_lower digest) → IsPlain (line_data (manifest_view m) digest y)
 unfolding line_data

@@ -1,6 +1,6 @@
 -- What a change of the versions of one crate is on the summaries of all.
 use Rattle.std.proofs.Common.{◌≡◌, ◌==◌, ◌+◌, ◌≤◌, ℕ, pos, List, [], ◌∷◌, ◌++◌, map, Bool, true, false, not, refl, sym, ap, subst, ◌∙◌, arith, zero-add}
-use Rattle.reg_tables_meaning.proofs.Common.{append-nil, drop, eq-eqb, eqb-true, filter, Int, IsPermutation-filter, mark_cmp, nat_cmp, nat_eq, not_true, on, Publication, Row, same_filter, Trees, true_not_false}
+use Rattle.reg_tables_meaning.proofs.Common.{append-nil, canon, collides, drop, eq-eqb, eqb-true, filter, Int, IsPermutation-filter, mark_cmp, nat_cmp, nat_eq, not_true, on, Publication, Row, same_filter, Text, Trees, true_not_false}
 use Rattle.std.specs.FinSet as finset
 use Rattle.std.specs.Cmp.{nat_eq_equiv}
 use Rattle.std.specs.List.Sorted.{IsPermutation, IsStrictlySortedBy}
@@ -9,12 +9,13 @@ use Rattle.std.proofs.lemmas.List.Sorted.{IsPermutation-cons, IsPermutation-filt
 use Rattle.sqlite_trees.specs.Tree.{has_rowid, put_row, without_rowid}
 use Rattle.reg_model.proofs.Members.{IsIn, filtered_passes, in_filter, in_last, in_map, in_more, map_same, none_pass, one_passes}
 use Rattle.reg_tables_schema.proofs.Permutes.{filter_map, free_without, one_row, put_permutes}
-use Rattle.reg_tables_meaning.proofs.CrateLemmas.{above_other, apart_by, crate_of, pushed, version_of}
+use Rattle.reg_tables_meaning.proofs.CrateLemmas.{above_other, apart_by, bytes_same, crate_of, pushed, same_crate, version_of}
 use Rattle.reg_tables_meaning.proofs.CrateNames.{kept}
 use Rattle.reg_tables_meaning.proofs.Rising.{reaches}
 use Rattle.reg_tables_meaning.proofs.Standing.{same_number}
 use Rattle.reg_tables_meaning.proofs.SummaryPushed.{IsTopOf, id_found, in_at, length_pushed, only_top, some_top, top_pushed_by}
-use Rattle.reg_tables_meaning.proofs.SummaryRows.{version_at}
+use Rattle.reg_tables_meaning.proofs.SummaryRows.{same_row, version_at}
+use Rattle.reg_tables_meaning.proofs.Yanks.{mark_of_other, marks}
 use Rattle.reg_tables_meaning.specs.Changes.{ids_with_crate, ids_with_version, next_crate, next_version}
 use Rattle.reg_tables_meaning.specs.Stands.{StandCrates}
 use Rattle.reg_tables_meaning.specs.Stored.{Ids, StoredCrate, StoredVersion}
@@ -128,6 +129,20 @@ module _ (ids : Ids) (ps more : List Publication) (yanked : finset.FinSet mark_c
       record { are = put_at ids all yanked yanked (mid 16) (last 16) h.up stand (id, p.name) there (put ∙ ap (λ r. put_row r (without_rowid (pos id) (mid 16))) (sym same)) (λ d i apart. ap (row_among yanked d.0) (its_other ids id p d.0 (flipped d.0 id apart))) }
 
 module _ (ids : Ids) (ps : List Publication) (yanked : finset.FinSet mark_cmp) (db : Trees) (h : StandCrates ids ps yanked db) (rows new : List Row) (stand : StandSummaries ids yanked rows) where
+  -- a mark of a version of a crate that is there is changed
+  pub summaries_marked : (id : ℕ) (name text : Text) (b : Bool) → IsIn (id, name) ids.crates → new ≡ put_row (row_among (marks yanked (canon name) text b) id (its_versions ids id)) (without_rowid (pos id) rows) → StandSummaries ids (marks yanked (canon name) text b) new
+  summaries_marked id name text b there put = record { are = put_at ids ids yanked marked rows new h.up stand (id, name) there put same }
+    where
+      marked : finset.FinSet mark_cmp
+      marked = marks yanked (canon name) text b
+
+      same : (d : StoredCrate) → IsIn d ids.crates → (d.0 == id) ≡ false → row_of_summary ids marked d ≡ row_of_summary ids yanked d
+      same d i apart = same_row marked yanked d.0 (its_versions ids d.0) (λ v j.
+          let p = v.publication in
+          let stored = in_filter (λ v. v.of_crate == d.0) ids.versions v j in
+          let of_d = eqb-true v.of_crate d.0 (filtered_passes (λ v. v.of_crate == d.0) ids.versions v j) in
+          let differs : collides p.name name ≡ false = sym (same_crate ids ps yanked db h id name there v stored) ∙ ap (λ n. n == id) of_d ∙ apart in
+          mark_of_other yanked (canon name) text b (canon p.name) p.version (λ e f. true_not_false _ (bytes_same _ _ e) differs))
 
 -- a crate is added with its first version
 module _ (ids : Ids) (ps more : List Publication) (yanked : finset.FinSet mark_cmp) (old mid last : Trees) (h : StandCrates ids ps yanked old) (p : Publication) (after : StandCrates (ids_with_crate p ids) more yanked mid) (stand : StandSummaries ids yanked (mid 16)) where
