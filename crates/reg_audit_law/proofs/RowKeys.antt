@@ -21,6 +21,7 @@ distinct_weaker {X} e g (x ∷ xs) so h = (each xs (λ y i. so x y (inl refl) (i
     each (y ∷ ys) f k = (f y (inl refl) k.0, each ys (λ z i. f z (inr i)) k.1)
 
 module _ (rows : List Row) (apart : HaveRowids rows) (there : AllByRecursion (λ r. is_null (rowid r) ≡ false) rows) where
+
   pub unique_at : (p : ℕ) → AllByRecursion (λ r. is_null (column r p) ≡ false) rows → AllByRecursion (λ row. clashes plain (p ∷ []) rows row ≡ false) rows → AreUnique p rows
   unique_at p filled free = distinct_weaker (λ a b. same_value (rowid a) (rowid b)) (same_at p) rows (λ a b i j other. not_true (same_at p a b) (λ same.
       let na = each_in (λ r. is_null (column r p) ≡ false) rows a filled i in

@@ -70,6 +70,7 @@ module _ (asked : spec.FieldsAsked) where
   past_rule false r x is = is
 
   module _ (most greatest minor : ℕ) (fields : List spec.Field) where
+
     body_within : spec.judge_fields most greatest minor fields ≡ Ok asked → asked.body_len ≤ greatest
     body_within is =
         length_within (spec.body_length fields)

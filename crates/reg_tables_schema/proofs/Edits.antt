@@ -87,6 +87,7 @@ uncounted_rowids : (table : Table) (top : ℤ) → table.is_counted ≡ false �
 uncounted_rowids table top h = ap (λ b. cond b (Above top) Chosen) h
 
 module _ (task : Task) (uncounted : task.table.is_counted ≡ false) where
+
   counts_nothing : (mid next : Trees) (counter : Option Row) (top : ℤ) → Counts task mid counter top (Ok next) → next ≡ mid
   counts_nothing mid next counter top h = same_value (subst (λ b. MatchBool (cond b (is_lt (int_cmp (count_of counter) top)) false) (CountsIn task mid counter top (sequence task.schema) (Ok next)) (Gives mid (Ok next))) uncounted h)
 
