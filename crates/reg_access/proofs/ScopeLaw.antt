@@ -22,7 +22,7 @@ use Rattle.reg_names.proofs.RangeFacts.{within-Covers}
 use Rattle.reg_model.specs.Registry as model
 use Rattle.reg_model.specs.Registry.{with_id}
 use Rattle.reg_model.specs.Sound.{Sound, has_some, is_token}
-use Rattle.reg_model.proofs.Lists.{any_filter, any_same, list_any_map}
+use Rattle.reg_model.proofs.Lists.{any_filter, any_same, list_any_map, not_true, true_not_false}
 use Rattle.reg_tables_schema.proofs.Queries.{equals_int, same_filter}
 use Rattle.reg_tables_meaning.specs.Stands.{Ids, StandsBy, row_of_token, scope_of, scopes_of}
 use Rattle.reg_tables_schema.specs.Tests.{shows}
@@ -45,6 +45,10 @@ text_at_most t u = truth_is _ ∙ ap is_le (value_cmp-Text t u)
 pub text_below : (t u : List ℕ) → is_below (Text t) (Text u) ≡ is_lt (byte_order t u)
 unfolding binary
 text_below t u = truth_is _ ∙ ap is_lt (value_cmp-Text t u)
+
+same_tests : (a b : Bool) → (a ≡ true → b ≡ true) → (b ≡ true → a ≡ true) → a ≡ b
+same_tests true b h k = sym (h refl)
+same_tests false b h k = sym (not_true b (λ e. true_not_false false (k e) refl))
 
 -- the range is the pattern
 pub within_covers : (p n : List ℕ) → is_pattern p ≡ true → is_name n ≡ true → is_within (range_of p) (canon n) ≡ covers p n

@@ -1,5 +1,5 @@
 -- Where the rows stand for a registry, a version comes back where the crate has it.
-use Rattle.std.proofs.Common.{◌≡◌, ◌==◌, inl, inr, ℕ, pos, List, [], ◌∷◌, map, Bool, true, false, ◌&&◌, refl, sym, ap, ap₂, ◌∙◌}
+use Rattle.std.proofs.Common.{◌≡◌, ◌==◌, ◌⊎◌, inl, inr, ℕ, pos, List, [], ◌∷◌, map, Bool, true, false, ◌&&◌, is_some, refl, sym, ap, ap₂, ◌∙◌}
 use Rattle.std.specs.List.{list_any}
 use Rattle.std.specs.Str.{bytes_eq}
 use Rattle.std.proofs.lemmas.List.Sorted.{list_any-IsPermutation}
@@ -14,7 +14,7 @@ use Rattle.reg_names.specs.Names.{canon}
 use Rattle.reg_versions.specs.Versions.{release_key_of}
 use Rattle.reg_model.specs.Registry as model
 use Rattle.reg_model.specs.Crates.{collides, same_release, versions}
-use Rattle.reg_model.proofs.Lists.{any_filter, any_same, list_any_map}
+use Rattle.reg_model.proofs.Lists.{any_filter, any_same, is_some_find, list_any_map, none_both}
 use Rattle.reg_model.proofs.Members.{in_each}
 use Rattle.reg_tables_schema.specs.Tests.{shows}
 use Rattle.reg_tables_schema.proofs.Queries.{equals_int, equals_text}
@@ -24,7 +24,7 @@ use Rattle.reg_tables_meaning.proofs.CrateLemmas.{bytes_same, same_bytes, same_c
 use Rattle.reg_tables_meaning.proofs.Standing.{same_number}
 use Rattle.reg_access.specs.JoinRows.{crates_seen_by, is_release, is_there, is_version, value_at, versions_of_release, versions_with_text}
 use Rattle.reg_access.proofs.Answered.{there_filtered}
-use Rattle.reg_access.proofs.CrateLaw.{IsFound}
+use Rattle.reg_access.proofs.CrateLaw.{IsFound, IsMissing, found_or_missing, id_shown, no_rows}
 use Rattle.reg_access.proofs.Nulls.{equals_null, none_any}
 
 -- no version is of NULL
@@ -64,6 +64,11 @@ module _ (ids : Ids) (s : model.Registry) (db : Trees) (stands : StandsBy ids s 
   abbrev of_it : ℕ → Row → Bool
   of_it id r = equal Binary (column r 2) (Int (pos id)) && rest r
 
+  versions_missing : IsMissing ids s db stands n → list_any (λ p. has p.version) (versions s n) ≡ false
+  versions_missing it =
+      let gone : list_any (λ p. collides p.name n) s.publications ≡ false = sym (is_some_find (λ p. p.name) (λ p. collides p.name n) s.publications) ∙ ap is_some it.unspelled in
+      any_filter (λ p. collides p.name n) (λ p. has p.version) s.publications ∙ none_both (λ p. collides p.name n) (λ p. has p.version) s.publications gone
+
   versions_found : (x : StoredCrate) → IsFound ids s db stands n x → list_any (of_it x.0) (db 11) ≡ list_any (λ p. has p.version) (versions s n)
   versions_found x it =
       let row = row_of_version s.yanked in
@@ -75,6 +80,15 @@ module _ (ids : Ids) (s : model.Registry) (db : Trees) (stands : StandsBy ids s 
       ∙ any_same _ mine (λ v. ap₂ ◌&&◌ (equals_int (Int (pos v.of_crate)) (pos x.0) ∙ same_number v.of_crate x.0) (reads v)) ids.versions ∙ by_name
       ∙ sym (list_any_map (λ p. collides p.name n && has p.version) (λ v. v.publication) ids.versions) ∙ ap (list_any (λ p. collides p.name n && has p.version)) h.published
       ∙ sym (any_filter (λ p. collides p.name n) (λ p. has p.version) s.publications)
+
+  -- and so of the rows that an id selects, which the rows of the crate showed
+  pub versions_told : (rows : Value → List Row) → (is_there (rows Null) ≡ false) → ((id : ℕ) → is_there (rows (Int (pos id))) ≡ list_any (of_it id) (db 11)) → (account : Value)
+      → is_there (rows (value_at (crates_seen_by (canon n) account db) 0)) ≡ list_any (λ p. has p.version) (versions s n)
+  versions_told rows none some account = either (found_or_missing ids s db stands n)
+    where
+      either : IsMissing ids s db stands n ⊎ ((x : StoredCrate) × IsFound ids s db stands n x) → is_there (rows (value_at (crates_seen_by (canon n) account db) 0)) ≡ list_any (λ p. has p.version) (versions s n)
+      either (inl it) = ap (λ rs. is_there (rows (value_at rs 0))) (no_rows ids s db stands n account it) ∙ none ∙ sym (versions_missing it)
+      either (inr it) = ap (λ v. is_there (rows v)) (id_shown ids s db stands n account it.0 it.1) ∙ some it.0.0 ∙ versions_found it.0 it.1
 
 module _ (ids : Ids) (s : model.Registry) (db : Trees) (stands : StandsBy ids s db) (n : List ℕ) (account : Value) (text : List ℕ) where
   abbrev key : List ℕ

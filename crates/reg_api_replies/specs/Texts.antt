@@ -5,6 +5,7 @@ use Rattle.reg_model.specs.declared.rule.Rule.TheVariants.{H7}
 use Rattle.reg_model.specs.Registry.{Text}
 use Rattle.reg_model.specs.Events.{Answer, Asked}
 use Rattle.reg_api_replies.specs.Bodies.{body_of, error_body}
+use Rattle.reg_policy.specs.Words.{status_of}
 use Rattle.reg_api_replies.specs.Heads.{code_of, head_text, kind_of, refusal_of}
 use Rattle.reg_api_replies.specs.declared.head.Kind.{Kind}
 use Rattle.reg_api_replies.specs.declared.head.Kind.TheVariants as kind
@@ -22,6 +23,9 @@ done_head kind len close = head_text 200 kind None len close
 
 abbrev pub file_head : ℕ → Bool → Text
 file_head len close = done_head kind.Text len close
+
+abbrev pub refusal_head : Rule → Option Methods → ℕ → Bool → Text
+refusal_head r allow len close = head_text (status_of r) kind.Json allow len close
 
 -- a refusal as it is sent
 abbrev pub refusal_text : Rule → Option Methods → Bool → Bool → Text

@@ -7,14 +7,14 @@ use Rattle.std.proofs.lemmas.List.Sorted.{IsPermutation-sym, list_any-IsPermutat
 use Rattle.std.proofs.lemmas.Map.Text.{is_eq-slice_cmp}
 use Rattle.sqlite.specs.declared.types.Value.{Value}
 use Rattle.sqlite_trees.proofs.ListLemmas.{all_weaker, all-permutation, all-map, all_from_map}
-use Rattle.reg_model.specs.Registry.{Owner, owner_cmp, text_cmp}
+use Rattle.reg_model.specs.Registry.{Owner, Text, owner_cmp, text_cmp}
 use Rattle.reg_model.proofs.Keys.{owner_total}
 use Rattle.reg_tables_schema.specs.Rows.{IsInOrder, by_column, by_columns, number_columns}
 use Rattle.reg_tables_sql.specs.Pairs.{columns_of_pair}
 use Rattle.reg_tables_sql.specs.declared.pairs.Pair.{Pair}
 use Rattle.reg_tables_meaning.specs.Stands.{HaveOwnRowids, StandMarked, StandPairs, columns_of_stored, is_paired, row_of_crate}
 use Rattle.reg_tables_meaning.specs.Stored.{StoredCrate, StoredPair}
-use Rattle.reg_tables_meaning.proofs.CrateLemmas.{same_bytes, bytes_same}
+use Rattle.reg_tables_meaning.proofs.CrateLemmas.{same_bytes, bytes_same, same_owner, other_owner}
 use Rattle.reg_tables_meaning.proofs.Rowids.{first_column, second_column}
 use Rattle.reg_audit_law.specs.RegistryFrom.{canon_from, pair_from, registry_from}
 use Rattle.reg_audit_law.specs.Rules.{AreUniqueBy, IsWhole, RefersTo, same_at, same_value}
@@ -27,6 +27,11 @@ use Rattle.reg_audit_law.proofs.Uniques.{distinct_map, distinct_so, pairs_so, sa
 
 told_pair : (r : Row) → IsWhole (0 ∷ 1 ∷ 2 ∷ []) r → shows (1 ∷ 2 ∷ []) r ≡ drop 1 r
 told_pair r h = ap (drop 1) h
+
+-- two pairs tie exactly where their texts and their accounts are one
+tied_pairs : (c d : Text) (a b : ℕ) (same : Bool) → bytes_eq c d ≡ same → eq_by_cmp owner_cmp (c, a) (d, b) ≡ (same && b == a)
+tied_pairs c d a b true e = ap (λ t. eq_by_cmp owner_cmp (c, a) (t, b)) (sym (same_bytes c d e)) ∙ same_owner c a b
+tied_pairs c d a b false e = other_owner c d a b e
 
 abbrev pub Refers : List Row → Value → Type 0
 Refers parents v = list_any (λ p. same_value (rowid p) v) parents ≡ true

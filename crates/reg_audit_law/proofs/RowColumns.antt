@@ -3,6 +3,8 @@ use Rattle.std.proofs.Common.{◌≡◌, ◌≤◌, ◌<◌, ◌+◌, ℕ, zero,
 use Rattle.std.specs.Prelude.{◌&&◌, ◌||◌, drop, if◌then◌else◌, option_map, slice_get, unwrap_or}
 use Rattle.reg_audit_law.proofs.Common.{all_weaker, AllByRecursion, column, is_null, maps_twice, Row, shows, Trees}
 use Rattle.std.proofs.lemmas.Bool.{and_parts, not-true}
+use Rattle.sqlite.specs.declared.types.Value.{Value}
+use Rattle.sqlite.specs.declared.types.Value.TheVariants.{Null, Int, Real, Text, Blob}
 use Rattle.sqlite.specs.Table.{Table}
 use Rattle.sqlite_schema.specs.Names.{is_key}
 use Rattle.sqlite_schema.specs.Rules.{are_present, are_typed, has_computed, passes, suits}
@@ -21,12 +23,26 @@ all_places : (r : Row) → shows (places (length r)) r ≡ r
 all_places [] = refl
 all_places (v ∷ r) = ap (λ rest. v ∷ rest) (maps_twice (λ i. suc i) (column (v ∷ r)) (places (length r)) ∙ all_places r)
 
+null_is : (v : Value) → is_null v ≡ true → v ≡ Null
+null_is Null h = refl
+null_is (Int n) h = absurd cc
+null_is (Real x) h = absurd cc
+null_is (Text t) h = absurd cc
+null_is (Blob b) h = absurd cc
+
 -- no row has more values than its table has columns
 typed_short : (key : Option ℕ) (at : ℕ) (cs : List Column) (r : Row) → are_typed key at cs r ≡ true → length r ≤ length cs
 typed_short key at [] [] h = omega arith
 typed_short key at [] (v ∷ vs) h = absurd cc
 typed_short key at (c ∷ cs) [] h = omega arith
 typed_short key at (c ∷ cs) (v ∷ vs) h = omega (arith, typed_short key (at + 1) cs vs (and_parts (if is_key key at then is_null v else suits c v) (are_typed key (at + 1) cs vs) h).1)
+
+-- its key reads NULL
+key_null : (cs : List Column) (r : Row) → are_typed (Some 0) 0 cs (drop 1 r) ≡ true → column r 1 ≡ Null
+key_null cs [] h = refl
+key_null cs (id ∷ []) h = refl
+key_null [] (id ∷ v ∷ vs) h = absurd cc
+key_null (c ∷ cs) (id ∷ v ∷ vs) h = null_is v (and_parts (is_null v) (are_typed (Some 0) (0 + 1) cs vs) h).0
 
 third : (a b c : Bool) → (a || b || c) ≡ true → a ≡ false → b ≡ false → c ≡ true
 third true b c h e f = absurd cc
@@ -35,6 +51,18 @@ third false false c h e f = h
 
 same_column : {c d : Column} → Some c ≡ Some d → c ≡ d
 same_column e = cc
+
+-- a column that is NOT NULL has a value
+pub present_at : (key : Option ℕ) (at : ℕ) (cs : List Column) (row : Row) (k p : ℕ) (c : Column) → are_present key at cs row ≡ true → slice_get cs k ≡ Some c → c.not_null ≡ true → p ≡ at + k → is_key key p ≡ false → is_null (column row (p + 1)) ≡ false
+present_at key at [] row k p c h found required is other = absurd cc
+present_at key at (d ∷ cs) row zero p c h found required is other =
+    let here = and_parts (is_key key at || not d.not_null || not (is_null (column row (at + 1)))) (are_present key (at + 1) cs row) h in
+    let same : at ≡ p = omega (arith, is) in
+    let needed : not d.not_null ≡ false = ap (λ (x : Column). not x.not_null) (same_column found) ∙ ap not required in
+    ap (λ n. is_null (column row (n + 1))) (sym same) ∙ not-true (is_null (column row (at + 1))) (third (is_key key at) (not d.not_null) (not (is_null (column row (at + 1)))) here.0 (ap (is_key key) same ∙ other) needed)
+present_at key at (d ∷ cs) row (suc k) p c h found required is other =
+    let rest = and_parts (is_key key at || not d.not_null || not (is_null (column row (at + 1)))) (are_present key (at + 1) cs row) h in
+    present_at key (at + 1) cs row k p c rest.1 found required (omega (arith, is)) other
 
 not_past : (row : Row) (n : ℕ) → is_null (column row n) ≡ false → n < length row
 not_past [] n h = absurd cc
@@ -91,3 +119,7 @@ module _ (db : Trees) (t : Table) where
       whole_row row typed present,
       key_null t.columns row (ap (λ o. are_typed o 0 t.columns (drop 1 row)) (sym key) ∙ typed_row row typed),
     ))
+
+  -- the key of any row reads NULL
+  pub keys_null : t.key ≡ Some 0 → (rows : List Row) → AllByRecursion Typed rows → AllByRecursion (λ row. column row 1 ≡ Null) rows
+  keys_null key = all_weaker Typed (λ row. column row 1 ≡ Null) (λ row typed. key_null t.columns row (ap (λ o. are_typed o 0 t.columns (drop 1 row)) (sym key) ∙ typed_row row typed))

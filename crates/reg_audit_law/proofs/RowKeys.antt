@@ -1,11 +1,11 @@
 -- Rows of which none clashes with another, and whose rowids are their own, have unique keys.
-use Rattle.reg_audit_law.proofs.Common.{◌≡◌, [], ◌∷◌, ◌∙◌, ◌&&◌, and_from, and_parts, Bool, column, each_in, false, inl, inr, is_null, IsIn, List, refl, Row, rowid, true, ℕ}
+use Rattle.reg_audit_law.proofs.Common.{◌≡◌, [], ◌∷◌, ◌∙◌, ◌&&◌, and_from, and_parts, ap, Bool, column, each_in, false, in_any, inl, inr, is_null, IsIn, List, not, refl, Row, rowid, true, ℕ}
 use Rattle.std.specs.List.{AllByRecursion, IsDistinct}
-use Rattle.sqlite_schema.specs.Rules.{clashes}
+use Rattle.sqlite_schema.specs.Rules.{agree, clashes, differ}
 use Rattle.sqlite_value.specs.Keys.{plain}
-use Rattle.reg_model.proofs.Lists.{not_true}
+use Rattle.reg_model.proofs.Lists.{not_true, true_not_false}
 use Rattle.reg_audit_law.specs.Rules.{AreUnique, AreUniqueBy, same_at, same_value}
-use Rattle.reg_audit_law.proofs.SqlEqual.{agree_one, agree_two, equal_is}
+use Rattle.reg_audit_law.proofs.SqlEqual.{agree_one, agree_two, differ_is, equal_is}
 
 -- no two rows have one rowid
 abbrev pub HaveRowids : List Row → Type 0
@@ -21,6 +21,14 @@ distinct_weaker {X} e g (x ∷ xs) so h = (each xs (λ y i. so x y (inl refl) (i
     each (y ∷ ys) f k = (f y (inl refl) k.0, each ys (λ z i. f z (inr i)) k.1)
 
 module _ (rows : List Row) (apart : HaveRowids rows) (there : AllByRecursion (λ r. is_null (rowid r) ≡ false) rows) where
+  -- two rows of one key would clash
+  agree_not : (places : List ℕ) → AllByRecursion (λ row. clashes plain places rows row ≡ false) rows → (a b : Row) → IsIn a rows → IsIn b rows → same_value (rowid a) (rowid b) ≡ false → agree plain places a places b ≡ true → ⊥
+  agree_not places free a b i j other same =
+      let na = each_in (λ r. is_null (rowid r) ≡ false) rows a there i in
+      let nb = each_in (λ r. is_null (rowid r) ≡ false) rows b there j in
+      let differs = differ_is (rowid a) (rowid b) na nb ∙ ap not other in
+      let clash = in_any (λ o. agree plain places o places b && differ (rowid o) (rowid b)) rows a i (and_from (agree plain places a places b) _ same differs) in
+      true_not_false (clashes plain places rows b) clash (each_in (λ row. clashes plain places rows row ≡ false) rows b free j)
 
   pub unique_at : (p : ℕ) → AllByRecursion (λ r. is_null (column r p) ≡ false) rows → AllByRecursion (λ row. clashes plain (p ∷ []) rows row ≡ false) rows → AreUnique p rows
   unique_at p filled free = distinct_weaker (λ a b. same_value (rowid a) (rowid b)) (same_at p) rows (λ a b i j other. not_true (same_at p a b) (λ same.

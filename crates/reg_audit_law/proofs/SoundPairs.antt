@@ -1,11 +1,11 @@
 -- What passes makes sound owners, readers and restricted crates.
-use Rattle.reg_audit_law.proofs.Common.{◌≡◌, ◌==◌, ◌∙◌, all_in, all_weaker, AllByRecursion, AllRows, and_parts, any_in, ap, bytes_eq, bytes_same, canon, Crate, eq_by_cmp, eqb-true, has_account, has_crate, in_any, in_each, in_map, Int, List, map, map_in, nat_list_cmp_total, pos, same_bytes, subst, sym, Trees, true, ℕ}
+use Rattle.reg_audit_law.proofs.Common.{◌≡◌, ◌==◌, ◌∙◌, all_in, all_weaker, AllByRecursion, AllRows, and_parts, any_in, ap, bytes_eq, bytes_same, canon, Crate, each_in, eq_by_cmp, eqb-true, has_account, has_crate, in_any, in_each, in_map, Int, List, map, map_in, nat_list_cmp_total, pos, same_bytes, subst, sym, Trees, true, ℕ}
 use Rattle.std.specs.Prelude.{◌&&◌, is_some}
 use Rattle.std.specs.FinSet as finset
 use Rattle.reg_model.specs.Crates as crates_of
 use Rattle.reg_model.specs.Registry as model
 use Rattle.reg_model.specs.Registry.{Publication, owner_cmp, text_cmp, with_id}
-use Rattle.reg_model.proofs.Keys.{owner_total, same_key, text_apart, ties_itself}
+use Rattle.reg_model.proofs.Keys.{owner_total, owner_apart, same_key, text_apart, ties_itself}
 use Rattle.reg_tables_sql.specs.declared.pairs.Pair.{Pair}
 use Rattle.reg_audit_law.specs.RegistryFrom.{canon_from, pair_from, publication_from, registry_from}
 use Rattle.reg_audit_law.proofs.Pairs.{Refers, owners_of_crates, readers_of_crates, second_refers}
@@ -41,6 +41,15 @@ module _ (it : AllRows) (db : Trees) (h : Passing it db) where
 
   -- of pairs whose crates and accounts are there
   module _ (list : List Pair) (crates : AllByRecursion (λ o. has_crate it o.crate_id ≡ true) list) (accounts : AllByRecursion (λ o. is_some (with_id s.accounts o.account) ≡ true) list) where
+    pairs_sound : (c : model.Text) (id : ℕ) → finset.contains {R = owner_cmp} (finset.from_list (map (pair_from it) list)) (c, id) ≡ true → (crates_of.has_crate s c ≡ true) × (is_some (with_id s.accounts id) ≡ true)
+    pairs_sound c id there =
+        let q : model.Owner = (c, id) in
+        let k = any_in (eq_by_cmp owner_cmp q) (map (pair_from it) list) (sym (finset.contains-from_list owner_total (map (pair_from it) list) q) ∙ there) in
+        let o = map_in (pair_from it) list k.0 k.1 in
+        let same : pair_from it o.0 ≡ q = o.2 ∙ sym (same_key owner_apart q k.0 k.2) in (
+          subst (λ t. crates_of.has_crate s t ≡ true) (ap (λ (x : model.Owner). x.0) same) (crate_there o.0.crate_id (each_in (λ o. has_crate it o.crate_id ≡ true) list o.0 crates o.1)),
+          subst (λ n. is_some (with_id s.accounts n) ≡ true) (ap (λ (x : model.Owner). x.1) same) (each_in (λ o. is_some (with_id s.accounts o.account) ≡ true) list o.0 accounts o.1),
+        )
 
   pub owners_sound : (c : model.Text) (id : ℕ) → finset.contains s.owners (c, id) ≡ true → (crates_of.has_crate s c ≡ true) × (is_some (with_id s.accounts id) ≡ true)
   owners_sound =

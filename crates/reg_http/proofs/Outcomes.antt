@@ -36,12 +36,12 @@ use Rattle.reg_api_replies.specs.Texts.{answer_text, refusal_text, reply_text}
 use Rattle.reg_service.specs.Acted.{HasLine}
 use Rattle.reg_service.specs.Answered.{Answers}
 use Rattle.reg_service.specs.declared.registry.Registry.{Registry}
-use Rattle.reg_service.specs.Streamed.{AsksForFile, StreamsTo}
+use Rattle.reg_service.specs.Streamed.{AsksForFile, IsFileAnswer, StreamsTo}
 use Rattle.reg_service_index.specs.declared.fault.IndexFault.{IndexFault}
 use Rattle.reg_service_index.specs.declared.fault.IndexFault.TheVariants.{Spent, Store, Write}
 use Rattle.reg_tables.specs.declared.tables.Tables.{Tables}
 use Rattle.reg_http.specs.Answering.{AnswersRequest, IsReplied, IsRequestReplied, Replies, Streams, fault_reply}
-use Rattle.reg_http.specs.Exchanges.{Outcome}
+use Rattle.reg_http.specs.Exchanges.{IsOfFile, Outcome}
 use Rattle.reg_http.specs.Exchanges.Outcome.{Answered, NoMethod, NoRoom, NoRoute, Unread}
 use Rattle.reg_http.specs.Trails.{Tail, TrailEnd, Trails}
 use Rattle.reg_http.proofs.Trails.{trails_if, trails_nothing}
@@ -71,6 +71,18 @@ file_fit limits token (call.Unyank n v) h = absurd h
 file_fit limits token (call.AddOwners n b) h = absurd h
 file_fit limits token (call.RemoveOwners n b) h = absurd h
 file_fit limits token (call.Search q per_page) h = absurd h
+
+file_is : (a : Answer) (w : ApiCall) → AsksForFile w → IsFileAnswer a → IsOfFile (Answered (wants_of w) a)
+file_is a (call.Index path) h file = file
+file_is a call.Config h file = absurd h
+file_is a (call.Download n v) h file = absurd h
+file_is a (call.Publish b) h file = absurd h
+file_is a (call.ListOwners n) h file = absurd h
+file_is a (call.Yank n v) h file = absurd h
+file_is a (call.Unyank n v) h file = absurd h
+file_is a (call.AddOwners n b) h file = absurd h
+file_is a (call.RemoveOwners n b) h file = absurd h
+file_is a (call.Search q per_page) h file = absurd h
 
 -- a request for an index file changes nothing
 file_line : (limits : Limits) (s : model.Registry) (digest : Option Text) (path : Text) → line limits s (Ask digest (to_index path)) ≡ None

@@ -1,12 +1,13 @@
 -- What a parse of the front up to the last line feed says of every shorter front.
-use Rattle.std.proofs.Common.{◌≡◌, ℕ, min, ◌+◌, ◌<◌, ◌≤◌, ◌==◌, inl, inr, List, [], ◌∷◌, ◌++◌, length, take, drop, refl, sym, ap, ◌∙◌, subst, arith, append_assoc, append-nil, length-append, length-drop, take-append-drop}
-use Rattle.std.proofs.lemmas.List.{take-append-le, length-take-le}
+use Rattle.std.proofs.Common.{◌≡◌, ℕ, min, ◌+◌, ◌<◌, ◌≤◌, ◌==◌, inl, inr, List, [], ◌∷◌, ◌++◌, length, get_or, take, drop, refl, sym, ap, ◌∙◌, subst, arith, append_assoc, append-nil, length-append, length-drop, take-append-drop}
+use Rattle.std.proofs.lemmas.List.{take-append-le, length-take-le, get_or-append-add}
 use Rattle.std.proofs.lemmas.List.Sums.{sum_by-append}
-use Rattle.std.proofs.Math.Seq.{take-append_seam}
+use Rattle.std.proofs.Math.Seq.{take-append_seam, get_or-append_seam}
 use Rattle.std.specs.List.{count_by, flat_map}
-use Rattle.httparse.specs.Grammar.{LineEnd, crlf, lf, print_end, print_blank, print_version, print_field, RequestHead, print_request, ReadsRequest, HasNoRequest, NeverHasRequest, MayBecomeRequest}
+use Rattle.httparse.specs.Grammar.{AllPass, is_uri_byte, LineEnd, crlf, lf, print_end, print_blank, print_version, Field, print_field, RequestHead, print_request, ReadsRequest, HasNoRequest, NeverHasRequest, MayBecomeRequest, EndsInTarget}
 use Rattle.httparse.specs.Spans.{RequestExceeds}
-use Rattle.reg_http_read.specs.Fronts.{EndsLine, IsBadCut, IsFront, IsHeadCut, IsUnjudged}
+use Rattle.httparse.proofs.GrammarLemmas.{ReadsRequest-append, request_prefix_free}
+use Rattle.reg_http_read.specs.Fronts.{EndsLine, IsBadCut, IsFront, IsHead, IsHeadCut, IsJudged, IsUnjudged}
 
 -- ---- line feeds
 
@@ -15,6 +16,21 @@ feeds bytes = count_by (λ b. b == 10) bytes
 
 pub feeds-append : (a b : List ℕ) → feeds (a ++ b) ≡ feeds a + feeds b
 feeds-append a b = sum_by-append _ a b
+
+feeds-end : (e : LineEnd) → feeds (print_end e) ≡ 1
+feeds-end crlf = refl
+feeds-end lf = refl
+
+feeds-fields : (fs : List Field) → length fs ≤ feeds (flat_map print_field fs)
+feeds-fields [] = omega arith
+feeds-fields (f ∷ fs) =
+    omega (
+      arith,
+      feeds-append (print_field f) (flat_map print_field fs),
+      feeds-append (f.name ++ 58 ∷ f.raw) (print_end f.end),
+      feeds-end f.end,
+      feeds-fields fs,
+    )
 
 -- a head has a line feed for each field, and two more
 pub feeds-head : (h : RequestHead) → length h.fields + 2 ≤ feeds (print_request h)
@@ -45,6 +61,20 @@ ends_head h = EndsLine-append _ _ (EndsLine-append _ _ (ends_end h.last))
 
 -- ---- a target has no line feed
 
+last_byte : (target : List ℕ) → AllPass is_uri_byte target → get_or (32 ∷ target) (length target) 0 ≡ 10 → ⊥
+last_byte [] all e = omega arith
+last_byte (t ∷ ts) all e = let b = all (length ts) 0 (omega arith) in let c = rw e at b in cc
+
+pub not_in_target : (p : List ℕ) → EndsInTarget p → EndsLine p → ⊥
+not_in_target p (blank, method, target, token, all, is) (line, ends) =
+    let front : List ℕ = print_blank blank ++ method in
+    let long : length line ≡ length front + length target =
+    omega (arith, ap length is, ap length ends, length-append front (32 ∷ target), length-append line (10 ∷ [])) in
+    let seam = get_or-append_seam line 10 [] 0 in
+    let there = get_or-append-add front (32 ∷ target) (length target) 0 in
+    last_byte target all (sym there ∙ ap (λ n. get_or (front ++ 32 ∷ target) n 0) (sym long)
+    ∙ ap (λ l. get_or l (length line) 0) (sym is ∙ ends) ∙ seam)
+
 -- ---- fronts
 
 pub take_shorter : (n e : ℕ) (bytes : List ℕ) → n ≤ e → e ≤ length bytes → take n (take e bytes) ≡ take n bytes
@@ -59,6 +89,22 @@ take_longer n e bytes le fits =
     sym (take-append-drop n (take e bytes)) ∙ ap (λ x. x ++ drop n (take e bytes)) (take_shorter n e bytes le fits)
 
 -- ---- judgements of shorter fronts
+
+pub none_before_head : (x rest : List ℕ) (h : RequestHead) → ReadsRequest (x ++ rest) h [] → 0 < length rest → IsJudged x → ⊥
+none_before_head x rest h reads some (inl (k, there)) =
+    let same = request_prefix_free x rest k h [] [] there reads in
+    omega (arith, ap length same.1)
+none_before_head x rest h reads some (inr never) = never rest h [] reads
+
+pub none_if_partial : (x rest : List ℕ) → HasNoRequest (x ++ rest) → MayBecomeRequest (x ++ rest) → EndsLine (x ++ rest) → IsJudged x → ⊥
+none_if_partial x rest none may ends (inl (k, there)) = none k rest (ReadsRequest-append x k [] rest there)
+none_if_partial x rest none (inl (more, h, reads)) ends (inr never) =
+    never (rest ++ more) h [] (rw (← append_assoc x rest more) reads)
+none_if_partial x rest none (inr target) ends (inr never) = not_in_target (x ++ rest) target ends
+
+pub none_if_never : (x rest : List ℕ) → NeverHasRequest (x ++ rest) → IsHead x → ⊥
+none_if_never x rest never (h, there) =
+    never [] h rest (rw append-nil (ReadsRequest-append x h [] rest there))
 
 -- ---- room
 

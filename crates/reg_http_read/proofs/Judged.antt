@@ -1,7 +1,7 @@
 -- What a head is judged by its parts.
-use Rattle.std.proofs.Common.{◌≡◌, ℕ, min, ◌-◌, ◌<◌, ◌≤◌, ◌^◌, Bool, true, false, cond, ltb, List, codes, length, map, Option, option_copied, Bor, inr, Some, None, option_map, Result, Ok, Err, refl, sym, ap, ◌∙◌, subst, arith}
+use Rattle.std.proofs.Common.{◌≡◌, ℕ, min, ◌-◌, ◌<◌, ◌≤◌, ◌^◌, Bool, true, false, cond, ltb, List, codes, length, drop, map, Option, option_copied, Bor, inr, Some, None, option_map, Result, Ok, Err, refl, sym, ap, ◌∙◌, subst, arith}
 use Rattle.std.proofs.lemmas.Bool.Decides.{nat_tests}
-use Rattle.httparse.specs.Grammar.{RequestHead, print_request}
+use Rattle.httparse.specs.Grammar.{ReadsRequest, RequestHead, print_request}
 use Rattle.httparse.specs.Borrowed.{HoldsRequest, header_parts}
 use Rattle.httparse.specs.Spans.{name_and_value}
 use Rattle.httparse.specs.declared.borrowed.Request.{Request}
@@ -70,6 +70,16 @@ module _ (asked : spec.FieldsAsked) where
   past_rule false r x is = is
 
   module _ (most greatest minor : ℕ) (fields : List spec.Field) where
+    length_within : (o : Option ℕ) → spec.with_length most greatest minor fields o ≡ Ok asked → asked.body_len ≤ greatest
+    length_within None is = absurd cc
+    length_within (Some n) is = by_test (ltb greatest n) refl is
+      where
+        by_test : (b : Bool) → ltb greatest n ≡ b → cond b (Err H5) (Ok (spec.asked_for minor fields n)) ≡ Ok asked → asked.body_len ≤ greatest
+        by_test true is e = absurd cc
+        by_test false is e =
+            let same : spec.asked_for minor fields n ≡ asked = cc in
+            let len : n ≡ asked.body_len = ap (λ a. a.body_len) same in
+            grind (arith, nat_tests)
 
     body_within : spec.judge_fields most greatest minor fields ≡ Ok asked → asked.body_len ≤ greatest
     body_within is =
@@ -120,6 +130,15 @@ pub refused_parts : (method target : List ℕ) (n : ℕ) (x : Result spec.Fields
     → IsAnswer (read.Refused rule head_only) method (with_asked method target n x)
 refused_parts method target n (Ok a) rule head_only asked told = absurd asked
 refused_parts method target n (Err r) rule head_only asked told = (asked, told ∙ ap (λ q. answers_head q method) asked)
+
+-- a head at the front, and the answer to it
+pub judgement_from : (limits : Limits) (front : List ℕ) (h : RequestHead) (n : ℕ) (it : HeadRead)
+    → ReadsRequest front h (drop n front) → n ≡ length (print_request h) → IsAnswer it h.method (judge_head limits h)
+    → IsJudgement limits front it
+judgement_from limits front h n read.More reads len a = absurd a
+judgement_from limits front h n (read.Head it) reads len a = record { head = h; reads = rw len at reads; answer = a }
+judgement_from limits front h n (read.Refused rule head_only) reads len a =
+    inr (record { head = h; reads = rw len at reads; answer = a })
 
 copied_is : (o : Option (Bor (List ℕ))) (r : Bor (List ℕ)) (t : List ℕ) → o ≡ Some r → option_copied o ≡ Some t → r.now ≡ t
 copied_is o r t is copied = let same = rw is at copied in cc

@@ -11,7 +11,7 @@ use Rattle.serde_json.specs.Data.{Data, Members, no_members, member, put}
 use Rattle.reg_manifest.specs.Fields.{Features}
 use Rattle.reg_manifest.specs.Manifests.{feature_view}
 use Rattle.reg_line.specs.Features.{texts, is_newer, newer, older, feature_members}
-use Rattle.reg_line.proofs.Back.{all_above, ascending, put_above, reversed}
+use Rattle.reg_line.proofs.Back.{all_above, ascending, put_above, reversed, is_less}
 
 abbrev pub Feature : Type 0
 Feature = List ℕ × List (List ℕ)
@@ -44,6 +44,10 @@ above_cond k false f fs gs h r = r
 pub above_filter : (p : Feature → Bool) (k : List ℕ) (fs : Features) → all_above k (feature_members fs) ≡ true → all_above k (feature_members (filter p fs)) ≡ true
 above_filter p k [] h = refl
 above_filter p k (f ∷ fs) h = above_cond k (p f) f fs (filter p fs) h (above_filter p k fs (and_parts _ _ h).1)
+
+ascending_cond : (b : Bool) (f : Feature) (gs : Features) → all_above f.0 (feature_members gs) ≡ true → ascending (feature_members gs) ≡ true → ascending (feature_members (cond b (f ∷ gs) gs)) ≡ true
+ascending_cond true f gs h r = and_from _ _ h r
+ascending_cond false f gs h r = r
 
 pub ascending_filter : (p : Feature → Bool) (fs : Features) → ascending (feature_members fs) ≡ true → ascending (feature_members (filter p fs)) ≡ true
 ascending_filter p [] h = refl
@@ -83,6 +87,16 @@ insert_all_above g [] found h = refl
 insert_all_above g (f ∷ fs) found h =
     let a = and_parts (is_lt (slice_cmp nat_cmp g.0 f.0)) _ h in
     ap (insert_all fs) (insert_above g f found a.0) ∙ insert_all_above g fs (insert_entry (slice_cmp nat_cmp) found f.0 f.1) a.1
+
+-- a key that is below all goes first
+insert_below : (f : Feature) (found : Features) → all_above f.0 (feature_members found) ≡ true → insert_entry (slice_cmp nat_cmp) found f.0 f.1 ≡ f ∷ found
+insert_below f [] h = refl
+insert_below f (g ∷ found) h = rw (is_less (slice_cmp nat_cmp f.0 g.0) (and_parts (is_lt (slice_cmp nat_cmp f.0 g.0)) _ h).0) refl
+
+merge_step : (b : Bool) (f : Feature) (fs news olds : Features) → all_above f.0 (feature_members news) ≡ true → all_above f.0 (feature_members olds) ≡ true
+    → insert_all news olds ≡ fs → insert_all (cond b (f ∷ news) news) (cond (not b) (f ∷ olds) olds) ≡ f ∷ fs
+merge_step true f fs news olds above low e = ap (insert_all news) (insert_below f olds low) ∙ insert_all_above f news olds above ∙ ap (λ (gs : Features). f ∷ gs) e
+merge_step false f fs news olds above low e = insert_all_above f news olds above ∙ ap (λ (gs : Features). f ∷ gs) e
 
 -- the newer ones put among the older give all of them
 pub merge : (fs : Features) → ascending (feature_members fs) ≡ true → insert_all (newer fs) (older fs) ≡ fs

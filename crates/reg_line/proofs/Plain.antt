@@ -7,7 +7,7 @@ use Rattle.std.specs.declared.vec.Vec.{Vec}
 use Rattle.hex.specs.Hex.{encode_lower}
 use Rattle.json.proofs.Printed.Decimals.{IsNumber-decimal}
 use Rattle.json.proofs.Printed.Utf8.{IsUtf8-are_ascii}
-use Rattle.serde_json.specs.Data.{Data, unsigned, null, string, depth, items_depth, members_depth}
+use Rattle.serde_json.specs.Data.{Data, unsigned, null, string, object, depth, items_depth, members_depth}
 use Rattle.serde_json.specs.Read.{max_depth}
 use Rattle.serde_json.specs.View.{items_of}
 use Rattle.serde_json.proofs.Numbers.{number_of-decimal}
@@ -17,7 +17,7 @@ use Rattle.reg_manifest.specs.declared.manifest.Dep.{Dep}
 use Rattle.reg_manifest.specs.declared.manifest.Manifest.{Manifest}
 use Rattle.reg_line.specs.Features.{feature_members, is_newer, newer, older}
 use Rattle.reg_line.specs.Line.{dep_data, dep_named, dep_object, line_data, line_members, text_or_null}
-use Rattle.reg_line.proofs.Back.{IsPlain, IsPlainNumber, ItemsArePlain, MembersArePlain}
+use Rattle.reg_line.proofs.Back.{IsPlain, IsPlainNumber, ItemsArePlain, MembersArePlain, ascending}
 use Rattle.reg_line.proofs.Maps.{Feature, ascending_view, ascending_filter}
 
 -- ---- plain
@@ -95,6 +95,35 @@ filter-plain p (f ∷ fs) h = cond-plain (p f) f fs (filter p fs) h (filter-plai
 two-plain : IsPlainNumber (unsigned 2)
 two-plain = (number_of-decimal 2 (omega arith), IsNumber-decimal 2 (omega arith), subst IsUtf8 (sym (decimal_digit 2 (omega arith))) (IsUtf8-are_ascii _ refl))
 
+members-plain : (olds news : Features) (m : Manifest) (c : List ℕ) (y : Bool) → ascending (feature_members olds) ≡ true → ascending (feature_members news) ≡ true → AreTexts olds → AreTexts news
+    → IsUtf8 m.name → IsUtf8 c → IsPlain (object (line_members olds news (manifest_view m) c y))
+members-plain olds [] m c y a b t u n v = (
+  refl,
+  (
+    IsUtf8-are_ascii _ refl,
+    v,
+    (
+      IsUtf8-are_ascii _ refl,
+      deps-plain m.deps.items,
+      (
+        IsUtf8-are_ascii _ refl,
+        (a, t),
+        (
+          IsUtf8-are_ascii _ refl,
+          option-plain m.links,
+          (
+            IsUtf8-are_ascii _ refl,
+            n,
+            (
+              IsUtf8-are_ascii _ refl,
+              option-plain m.rust_version,
+              (IsUtf8-are_ascii _ refl, IsUtf8-string_bytes m.vers, (IsUtf8-are_ascii _ refl, tt, tt)),
+            ),
+          ),
+        ),
+      ),
+    ),
+  ),
 )
 members-plain olds (f ∷ fs) m c y a b t u n v = (
   refl,

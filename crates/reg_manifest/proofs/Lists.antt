@@ -9,6 +9,11 @@ use Rattle.reg_manifest.specs.Parsing.{Parsed, ◌>>=◌}
 use Rattle.reg_manifest.specs.Fields.{Features, texts_of, lists_of, lists_onto}
 use Rattle.reg_manifest.proofs.Ascending.{all_above, ascending, insert_above}
 
+-- the steps after the first are all that matters
+then_same : {A B : Type 0} (r : Parsed A) (f g : A → Parsed B) → ((a : A) → f a ≡ g a) → (r >>= f) ≡ (r >>= g)
+then_same (Ok a) f g h = h a
+then_same (Err e) f g h = refl
+
 then_then : {A B C : Type 0} (r : Parsed A) (f : A → Parsed B) (g : B → Parsed C) → ((r >>= f) >>= g) ≡ (r >>= λ a. f a >>= g)
 then_then (Ok a) f g = refl
 then_then (Err e) f g = refl

@@ -5,12 +5,12 @@ use Rattle.std.specs.List.{list_any, list_all, filter, cons_option, enumerate_fr
 use Rattle.std.specs.Ordering.{eq_by_cmp}
 use Rattle.std.specs.Str.{bytes_eq}
 use Rattle.std.specs.FinSet as finset
-use Rattle.std.proofs.lemmas.Bool.{and_parts}
+use Rattle.std.proofs.lemmas.Bool.{and_parts, and_from}
 use Rattle.std.proofs.lemmas.Slice.Eq.{bytes_eq-Decides}
 use Rattle.reg_names.specs.Names.{canon, is_name, name_of}
 use Rattle.reg_body.specs.declared.limits.Limits.{Limits}
 use Rattle.reg_model.specs.Registry.{Text, Account, Owner, Registry, holds, owner_cmp, id_of_login, ids_of}
-use Rattle.reg_model.specs.Crates.{exists, has_crate, owners, visible}
+use Rattle.reg_model.specs.Crates.{exists, has_crate, owners, owns, visible}
 use Rattle.reg_model.specs.Events.Asked.{AddOwners, RemoveOwners}
 use Rattle.reg_model.specs.Facts.{access_facts, counts, is_named, lists}
 use Rattle.reg_model.specs.Refusals.{denied}
@@ -18,8 +18,8 @@ use Rattle.reg_model.specs.Effects.{done, account_of, owners_of}
 use Rattle.reg_model.specs.Sound.{Sound}
 use Rattle.reg_model.proofs.Cleared.{not_denied}
 use Rattle.reg_model.proofs.Keys.{owner_total, owner_apart, same_key}
-use Rattle.reg_model.proofs.Lists.{or_left, or_right, or_split, true_not_false}
-use Rattle.reg_model.proofs.Places.{found_there}
+use Rattle.reg_model.proofs.Lists.{or_left, or_right, or_split, not_true, true_not_false}
+use Rattle.reg_model.proofs.Places.{at_id, found_id, found_there}
 use Rattle.reg_model.proofs.SoundParts.{with_owners}
 
 -- what is among the owners that are named: the crate, and a login with this id
@@ -84,6 +84,30 @@ someone_left owning named (x ∷ xs) k e =
 
     later : Left owning named xs (k + 1) → Left owning named (x ∷ xs) k
     later l = record { id = l.id; from = let m = l.from in omega arith; account = l.account; there = ap (slice_get (x ∷ xs)) (next k l.id l.from) ∙ l.there; is_owner = l.is_owner; not_named = l.not_named }
+
+fewer_owners : (s : Registry) (n : Text) (logins : List Text) → Sound s → list_all (λ o. is_named logins o.1.login) (owners s n) ≡ false → Sound (record s { owners = finset.difference s.owners (owners_of n (ids_of s logins)) })
+fewer_owners s n logins sound some = with_owners s sound (finset.difference s.owners (owners_of n (ids_of s logins))) owned (λ c id h. sound.owners c id (and_parts _ _ (sym (finset.contains-difference owner_total s.owners (owners_of n (ids_of s logins)) (c, id)) ∙ h)).0)
+  where
+    stays : (c : Text) (id : ℕ) → finset.contains s.owners (c, id) ≡ true → (finset.contains (owners_of n (ids_of s logins)) (c, id) ≡ true → ⊥) → finset.contains (finset.difference s.owners (owners_of n (ids_of s logins))) (c, id) ≡ true
+    stays c id h never = finset.contains-difference owner_total s.owners (owners_of n (ids_of s logins)) (c, id) ∙ and_from _ _ h (ap not (not_true _ never))
+
+    left : Left (owns s n) (λ a. is_named logins a.login) s.accounts 1
+    left = someone_left (owns s n) (λ a. is_named logins a.login) s.accounts 1 some
+
+    -- the one who is left is not among those who go
+    not_gone : Named s n (canon n) logins left.id → ⊥
+    not_gone h =
+        let f = found_id (λ a. bytes_eq a.login h.login) s.accounts left.id h.found in
+        let same : Some f.0 ≡ Some left.account = sym f.1 ∙ at_id s.accounts left.id left.account left.from left.there in
+        let one : f.0 ≡ left.account = cc same in
+        let login : left.account.login ≡ h.login = ap (λ a. a.login) (sym one) ∙ (bytes_eq-Decides f.0.login h.login).0 f.2 in
+        true_not_false (is_named logins left.account.login) (ap (is_named logins) login ∙ h.among) left.not_named
+
+    owned : (c : Text) → has_crate s c ≡ true → (id : ℕ) × (finset.contains (finset.difference s.owners (owners_of n (ids_of s logins))) (c, id) ≡ true)
+    owned c h = elim (bytes_eq c (canon n)) as (λ b. bytes_eq c (canon n) ≡ b → (id : ℕ) × (finset.contains (finset.difference s.owners (owners_of n (ids_of s logins))) (c, id) ≡ true)) [
+      | true ↦ λ e. (left.id, let P : Text → Type 0 = λ t. finset.contains (finset.difference s.owners (owners_of n (ids_of s logins))) (t, left.id) ≡ true in subst P (sym ((bytes_eq-Decides c (canon n)).0 e)) (stays (canon n) left.id left.is_owner (λ k. not_gone (named s n (canon n) logins left.id k))))
+      | false ↦ λ e. let o = sound.owned c h in (o.0, stays c o.0 o.1 (λ k. let m = named s n c logins o.0 k in true_not_false (bytes_eq c (canon n)) ((bytes_eq-Decides c (canon n)).1 m.of_crate) e))
+    ] refl
 
 -- a crate that is seen is there, and its text a name
 pub crate_there : (s : Registry) (d n : Text) → not (holds (visible s d) (name_of n)) ≡ false → (name_of n ≡ Some n) × (exists s n ≡ true)

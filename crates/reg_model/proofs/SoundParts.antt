@@ -59,6 +59,30 @@ module _ (s : Registry) (sound : Sound s) where
   abbrev ArePairs : finset.FinSet owner_cmp → Type 0
   ArePairs os = (c : Text) (id : ℕ) → finset.contains os (c, id) ≡ true → (has_crate s c ≡ true) × (is_some (with_id s.accounts id) ≡ true)
 
+  -- other sets beside the same accounts, tokens and versions
+  with_sets : (os readers : finset.FinSet owner_cmp) (ms : finset.FinSet mark_cmp) (rs cs : finset.FinSet text_cmp)
+      → ((c : Text) → has_crate s c ≡ true → (id : ℕ) × (finset.contains os (c, id) ≡ true)) → ArePairs os → ArePairs readers
+      → ((c v : Text) → finset.contains ms (c, v) ≡ true → has_version s c v ≡ true)
+      → ((c : Text) → finset.contains rs c ≡ true → ((n : Text) × (is_name n ≡ true) × (canon n ≡ c)) × (is_reserved_always c ≡ false))
+      → ((c : Text) → finset.contains cs c ≡ true → has_crate s c ≡ true)
+      → Sound (record s { owners = os; readers = readers; yanked = ms; reserved = rs; restricted = cs })
+  with_sets os readers ms rs cs owned owners read yanked reserved restricted = record {
+    base = sound.base;
+    accounts = sound.accounts;
+    logins = sound.logins;
+    tokens = sound.tokens;
+    digests = sound.digests;
+    publications = sound.publications;
+    spelled = sound.spelled;
+    releases = sound.releases;
+    owned = owned;
+    owners = owners;
+    yanked = yanked;
+    reserved = reserved;
+    restricted = restricted;
+    readers = read;
+  }
+
   pub with_owners : (os : finset.FinSet owner_cmp) → ((c : Text) → has_crate s c ≡ true → (id : ℕ) × (finset.contains os (c, id) ≡ true))
       → ArePairs os
       → Sound (record s { owners = os })

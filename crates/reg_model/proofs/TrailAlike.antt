@@ -67,6 +67,9 @@ module _ (s t : Registry) (h : AreAlike s t) where
   with_readers : (a b : set.FinSet owner_cmp) → a ≡ b → AreAlike (record s { readers = a }) (record t { readers = b })
   with_readers a b e = record { base = h.base; accounts = h.accounts; tokens = h.tokens; publications = h.publications; owners = h.owners; yanked = h.yanked; reserved = h.reserved; restricted = h.restricted; readers = e }
 
+  with_published : (a b : List Publication) (x y : set.FinSet owner_cmp) → map told_publication a ≡ map told_publication b → x ≡ y → AreAlike (record s { publications = a; owners = x }) (record t { publications = b; owners = y })
+  with_published a b x y e o = record { base = h.base; accounts = h.accounts; tokens = h.tokens; publications = e; owners = o; yanked = h.yanked; reserved = h.reserved; restricted = h.restricted; readers = h.readers }
+
 module _ (s t : Registry) (h : AreAlike s t) where
   pub same_crate : (c : Text) → has_crate s c ≡ has_crate t c
   same_crate c =

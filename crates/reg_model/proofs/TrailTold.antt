@@ -9,6 +9,7 @@ use Rattle.std.specs.Cmp.{IsTotalOrder}
 use Rattle.std.specs.Cmp.Lexicographic.{nat_list_cmp_total}
 use Rattle.std.specs.FinSet as set
 use Rattle.std.specs.FinSet.{FinSet, contains}
+use Rattle.std.specs.Str.{bytes_eq}
 use Rattle.std.proofs.lemmas.Bool.{and_from}
 use Rattle.std.proofs.lemmas.List.Folds.{list_all-map}
 use Rattle.std.proofs.lemmas.List.{length-append}
@@ -28,6 +29,7 @@ use Rattle.reg_model.specs.Steps.{outcome, unless_denied, unless_refused}
 use Rattle.reg_model.proofs.Cleared.{not_refused}
 use Rattle.reg_model.proofs.Keys.{mark_total, owner_total, ties_itself}
 use Rattle.reg_model.specs.Trail.{command_words, line, only_if, request_words, unless, unless_some}
+use Rattle.reg_model.proofs.Places.{found_there}
 use Rattle.reg_model.proofs.TrailUntold.{list_any-map, reader_is}
 
 -- ---- what is told under a condition
@@ -129,6 +131,14 @@ enabled_so accounts b id there e = ap (λ l. holds (λ a. a.enabled) (with_id l 
     by : (o : Option Account) → is_some o ≡ true → holds (λ a. a.enabled) (option_map (λ (a : Account). record a { enabled = b }) o) ≡ b
     by None h = cc
     by (Some a) h = refl
+
+account_changes : (s : Registry) (b : Bool) (login : Text) (o : Option ℕ) → id_of_login s login ≡ o → is_none o ≡ false → holds (is_enabled s) o ≡ not b → enable b o s.accounts ≢ s.accounts
+account_changes s b login None f g h e = cc
+account_changes s b login (Some id) f g h e = apart b (sym h ∙ enabled_so s.accounts b id (found_there (λ a. bytes_eq a.login login) s.accounts id f) e)
+  where
+    apart : (b : Bool) → not b ≢ b
+    apart true k = cc
+    apart false k = cc
 
 -- an account that is known is there
 known_there : (s : Registry) (o : Option ℕ) → holds (is_enabled s) o ≡ true → is_none o ≡ false

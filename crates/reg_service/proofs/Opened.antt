@@ -49,6 +49,19 @@ upgrade_brought First old new is up alone = record {
 still_now : (e : Edition) (old mid : State) → HasCleanDisk old → HasCleanDisk mid → IsOurs e old → IsOurs e mid → KeepsCommit old mid → IsTrue mid.is_open → mid.now ≡ old.now
 still_now e old mid early clean rests_old rests_mid kept was = (rests_mid clean was).settled ∙ kept.committed was ∙ sym (rests_old early (kept.was_open was)).settled
 
+-- and so are those of before the checks
+pub brought_before : (e : Edition) (old mid new : State) → HasCleanDisk mid → HasCleanDisk old → IsOurs e old → IsOurs e mid → KeepsCommit old mid → Survives old mid (λ _. ⊥) → IsBrought e mid new → IsBrought e old new
+brought_before e old mid new clean early rests_old rests_mid kept survives b = record {
+  was_open = λ up. kept.was_open (b.was_open up);
+  begun = λ up.
+      let was = b.was_open up in
+      subst (λ (d : Database). AreBegun e d new.now.trees) (still_now e old mid early clean rests_old rests_mid kept was) (b.begun up);
+  left = λ db l. elim (b.left db l) [
+    | inl m ↦ elim (survives.crash clean db m.1) [ inl o ↦ inl (m.0, o) | inr none ↦ absurd none ]
+    | inr last ↦ inr last
+  ];
+}
+
 pub examined_brought : {S E : Type 0} (g : Ghosts S) (old mid : Tables S) (r : Result (Registry S) E) → AreOurs g old → AreOurs g mid → edition_in mid ≡ edition_in old
     → (HasCleanDisk (shown g mid) → KeepsCommit (shown g old) (shown g mid)) → Survives (shown g old) (shown g mid) (λ _. ⊥)
     → IfOk r (λ x. HasCleanDisk (shown g (tables_of x)) → HasCleanDisk (shown g mid)) → IfOk r (λ x. HasCleanDisk (shown g (tables_of x)) → IsBrought (edition_in mid) (shown g mid) (shown g (tables_of x)))
@@ -58,6 +71,13 @@ examined_brought g old mid (Ok x) rests_old rests_mid same kept survives early b
     let still = early clean in
     let start : HasCleanDisk (shown g old) = omega (arith, still, survives.clean) in
     brought_before (edition_in old) (shown g old) (shown g mid) (shown g (tables_of x)) still start rests_old (subst (λ e. IsOurs e (shown g mid)) same rests_mid) (kept still) survives (subst (λ e. IsBrought e (shown g mid) (shown g (tables_of x))) same (brought clean))
+
+then_undone : (a b c : State) → IsUndone a b → IsUndone b c → IsUndone a c
+then_undone a b c one two = record {
+  was_open = λ up. one.was_open (two.was_open up);
+  undone = λ up. let was = (one.undone (two.was_open up)).1 in ((two.undone up).0 ∙ was, (two.undone up).1 ∙ was);
+  autocommit = two.autocommit;
+}
 
 -- where nothing is in a transaction, a connection shows what was committed
 still_undone : (e : Edition) (s : State) → IsOurs e s → s.in_transaction ≡ false → HasCleanDisk s → IsUndone s s

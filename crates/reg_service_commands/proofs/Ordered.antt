@@ -4,20 +4,20 @@ use Rattle.std.specs.Prelude.{◌&&◌, ◌||◌, Vec, codes, is_some, string_by
 use Rattle.std.specs.declared.alloc.Global.{Global}
 use Rattle.std.specs.FinSet as finset
 use Rattle.std.specs.Fmt.{decimal}
-use Rattle.std.specs.List.{list_all}
+use Rattle.std.specs.List.{cons_option, list_all}
 use Rattle.std.specs.Option.{option_map}
 use Rattle.sqlite.specs.Tree.{Trees}
 use Rattle.reg_body.specs.declared.limits.Limits.{Limits}
 use Rattle.reg_names.specs.Names.{canon, name_of}
 use Rattle.reg_names.specs.Patterns.{is_pattern}
 use Rattle.reg_model.specs.declared.rule.AdminRefusal.{AdminRefusal}
-use Rattle.reg_model.specs.Crates.{is_reserved_always}
+use Rattle.reg_model.specs.Crates.{is_reserved_always, is_restricted}
 use Rattle.reg_model.specs.Events.{Command}
 use Rattle.reg_model.specs.Events.Answer.{Done, Refused}
 use Rattle.reg_model.specs.Events.Command.{Access, CrateOpen, CrateRestrict, Crates, OwnerAdd, ReaderAdd, ReaderRemove, Reserve, TokenAdd, TokenRevoke, Tokens, Unreserve, UserAdd, UserDisable, UserEnable, Users}
 use Rattle.reg_model.specs.Events.Event.{Order}
 use Rattle.reg_model.specs.Refusals.{patterns_given, refused}
-use Rattle.reg_model.specs.Registry.{Registry, Text, Token, holds, id_of_login, ids_of, is_enabled, with_id}
+use Rattle.reg_model.specs.Registry.{Registry, Text, Token, holds, id_of_login, ids_of, is_enabled, is_known, with_id}
 use Rattle.reg_model.specs.Reports.{with_commas}
 use Rattle.reg_model.specs.Trail.{command_words, line, line_of, name_words, only_if, spelled, unless, unless_some}
 use Rattle.reg_policy.specs.declared.event.AdminReply.{AdminReply}
@@ -98,6 +98,12 @@ unless_not false words = refl
 -- accounts
 pub user_words : (limits : Limits) (login : Text) (name : Option Text) (db : Trees) → Orders limits (UserAdd login name) db (Some (codes "user-add" ∷ login ∷ name_words name))
 user_words limits login name db = λ ids s h ok. refl
+
+known_words : (b other k : Bool) (s : Registry) (login : Text) → is_known s login ≡ k → k ≡ cond other (not b) b → command_words s (enabling b login) ≡ only_if other (enabled_word b ∷ login ∷ [])
+known_words true true k s login e f = ap (λ x. unless x (enabled_word true ∷ login ∷ [])) (e ∙ f)
+known_words true false k s login e f = ap (λ x. unless x (enabled_word true ∷ login ∷ [])) (e ∙ f)
+known_words false true k s login e f = ap (λ x. only_if x (enabled_word false ∷ login ∷ [])) (e ∙ f)
+known_words false false k s login e f = ap (λ x. only_if x (enabled_word false ∷ login ∷ [])) (e ∙ f)
 
 pub enabled_words : (limits : Limits) (b other : Bool) (login : Text) (a : Account) (db : Trees) → FindsAccount login db (Some a) → a.enabled ≡ cond other (not b) b → Orders limits (enabling b login) db (only_if other (enabled_word b ∷ login ∷ []))
 enabled_words limits b other login a db finds e = λ ids s h ok.
@@ -182,12 +188,28 @@ pub free_words : (limits : Limits) (n given : Text) (there : Bool) (db : Trees) 
 free_words limits n given there db name tells = λ ids s h ok.
     ap (λ b. only_if b (codes "unreserve" ∷ n ∷ [])) (ap (λ t. finset.contains s.reserved (canon t)) (is_given n given name).1 ∙ sym (tells ids s h))
 
+-- restricted crates
+restrict_of : (b other : Bool) (s : Registry) (n : Text) → is_restricted s n ≡ cond other (not b) b → command_words s (restricting b n) ≡ only_if other (restricted_word b ∷ spelled s n ∷ [])
+restrict_of true true s n e = ap (λ x. unless x (restricted_word true ∷ spelled s n ∷ [])) e
+restrict_of true false s n e = ap (λ x. unless x (restricted_word true ∷ spelled s n ∷ [])) e
+restrict_of false true s n e = ap (λ x. only_if x (restricted_word false ∷ spelled s n ∷ [])) e
+restrict_of false false s n e = ap (λ x. only_if x (restricted_word false ∷ spelled s n ∷ [])) e
+
 pub restrict_words : (limits : Limits) (b other : Bool) (n : Text) (it : Crate) (db : Trees) → FindsNamed n db (Some it) → TellsOtherSight it.id b db other → Orders limits (restricting b n) db (only_if other (restricted_word b ∷ string_bytes it.name ∷ []))
 restrict_words limits b other n it db finds tells = λ ids s h ok.
     let f = finds ids s h in
     let same = first_canon s n (string_bytes it.name) f.first in
     restrict_of b other s n (ap (finset.contains s.restricted) (sym same) ∙ tells ids s h (string_bytes it.name) f.at)
     ∙ ap (λ o. only_if other (restricted_word b ∷ unwrap_or o n ∷ [])) f.first
+
+-- owners and readers
+one_has : (q : ℕ → Bool) (o : Option ℕ) → is_none o ≡ false → list_all q (cons_option o []) ≡ holds q o
+one_has q None e = absurd cc
+one_has q (Some id) e = alone (q id)
+  where
+    alone : (b : Bool) → (b && true) ≡ b
+    alone true = refl
+    alone false = refl
 
 module _ (limits : Limits) (n login : Text) (it : Crate) (account : ℕ) (db : Trees) (finds : FindsPair n login db (Ok (it, account))) where
   -- whether the account that was found is in a relation with the crate that was

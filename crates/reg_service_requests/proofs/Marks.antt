@@ -7,9 +7,9 @@ use Rattle.reg_body.specs.declared.limits.Limits.{Limits}
 use Rattle.reg_model.specs.Actions.{crate_of}
 use Rattle.reg_model.specs.Crates.{is_yanked}
 use Rattle.reg_model.specs.Events.{action_of}
-use Rattle.reg_model.specs.Registry.{Text}
+use Rattle.reg_model.specs.Registry.{Registry, Text}
 use Rattle.reg_model.specs.Sound.{has_version}
-use Rattle.reg_model.specs.Trail.{only_if}
+use Rattle.reg_model.specs.Trail.{only_if, request_words, spelled, unless}
 use Rattle.reg_access.specs.declared.admission.Caller.{Caller}
 use Rattle.reg_access.specs.declared.admission.FoundCrate.{FoundCrate}
 use Rattle.reg_access.proofs.GrantLaw.{first_canon}
@@ -19,6 +19,12 @@ use Rattle.reg_service_requests.specs.Telling.{mark_word}
 use Rattle.reg_service_requests.proofs.Asking.{HasWords}
 use Rattle.reg_service_requests.proofs.Marked.{is_published, named_in}
 use Rattle.reg_service_steps.proofs.Names.{crate_found, first_as}
+
+mark_words : (b other : Bool) (s : Registry) (n v : Text) → is_yanked s n v ≡ cond other (not b) b → request_words s (marking b n v) ≡ only_if other (mark_word b ∷ spelled s n ∷ v ∷ [])
+mark_words true true s n v e = ap (λ y. unless y (mark_word true ∷ spelled s n ∷ v ∷ [])) e
+mark_words true false s n v e = ap (λ y. unless y (mark_word true ∷ spelled s n ∷ v ∷ [])) e
+mark_words false true s n v e = ap (λ y. only_if y (mark_word false ∷ spelled s n ∷ v ∷ [])) e
+mark_words false false s n v e = ap (λ y. only_if y (mark_word false ∷ spelled s n ∷ v ∷ [])) e
 
 pub mark_has : (limits : Limits) (c : Caller) (b other : Bool) (n v : Text) (db : Trees) (it : FoundCrate) → c.found ≡ Some it → TellsOtherMark it.id v b db other → HasWords limits c (marking b n v) db (only_if other (mark_word b ∷ it.name ∷ v ∷ []))
 mark_has limits c b other n v db it found tells = λ d who ids s h ok.

@@ -10,12 +10,17 @@ use Rattle.reg_body.specs.declared.limits.Limits.{Limits}
 use Rattle.reg_model.specs.Actions.{crate_of}
 use Rattle.reg_model.specs.Crates.{owns}
 use Rattle.reg_model.specs.Events.{action_of}
+use Rattle.reg_model.specs.Events.Asked.{AddOwners}
+use Rattle.reg_model.specs.Facts.{access_facts, counts}
+use Rattle.reg_model.specs.Refusals.{denied}
 use Rattle.reg_model.specs.Registry.{Registry, Text, holds, id_of_login, is_enabled, is_known}
 use Rattle.reg_model.specs.Registry as model
 use Rattle.reg_model.specs.Reports.{with_commas}
 use Rattle.reg_model.specs.Sound.{Sound}
-use Rattle.reg_model.proofs.Lists.{list_any_map}
-use Rattle.reg_model.specs.Trail.{only_if, spelled, unless}
+use Rattle.reg_model.proofs.Cleared.{not_denied}
+use Rattle.reg_model.proofs.IndexPaths.{not_false}
+use Rattle.reg_model.proofs.Lists.{all_so, list_any_map}
+use Rattle.reg_model.specs.Trail.{only_if, request_words, spelled, unless}
 use Rattle.reg_tables_sql.specs.declared.accounts.Account.{Account}
 use Rattle.reg_access.specs.declared.admission.Caller.{Caller}
 use Rattle.reg_access.specs.declared.admission.FoundCrate.{FoundCrate}
@@ -28,6 +33,7 @@ use Rattle.reg_service_requests.proofs.Asking.{HasWords}
 use Rattle.reg_service_steps.proofs.Names.{crate_found, first_as}
 use Rattle.reg_service_requests.proofs.OwningDone.{named_in}
 use Rattle.reg_service_steps.proofs.Owners.{one_owns}
+use Rattle.reg_service_steps.proofs.Placed.{all_placed, any_placed}
 
 unless_all : {X : Type 0} (p : X → Bool) (xs : List X) (words : List Text) → unless (list_all p xs) words ≡ only_if (changes true p xs) words
 unless_all p [] words = refl
@@ -44,6 +50,15 @@ module _ (limits : Limits) (s : Registry) (sound : Sound s) (d n : Text) (logins
       by : (o : Option ℕ) → holds (is_enabled s) o ≡ true → is_some o ≡ true
       by None k = absurd cc
       by (Some id) k = refl
+
+  owning_words : (are : Bool) → denied limits s (Some d) (owning are n logins) ≡ None → request_words s (owning are n logins)
+      ≡ only_if (changes are (λ l. holds (owns s n) (id_of_login s l)) logins) (owners_word are ∷ spelled s n ∷ with_commas logins ∷ [])
+  unfolding access_facts counts
+  owning_words true ok =
+      let c = not_denied limits s d (AddOwners n logins) ok in
+      let all = all_so (is_known s) (λ l. is_some (id_of_login s l)) known_there logins (not_false _ c.1.1.1.1.1.1.1.0) in
+      ap (λ b. unless b (owners_word true ∷ spelled s n ∷ with_commas logins ∷ [])) (all_placed (owns s n) (id_of_login s) logins all) ∙ unless_all (λ l. holds (owns s n) (id_of_login s l)) logins _
+  owning_words false ok = ap (λ b. only_if b (owners_word false ∷ spelled s n ∷ with_commas logins ∷ [])) (any_placed (owns s n) (id_of_login s) logins)
 
 -- the same test of texts as a call is given them
 changes_map : (are : Bool) (p : Text → Bool) (texts : List (Bor Text)) → changes are p (map (λ t. t.now) texts) ≡ changes are (λ t. p t.now) texts

@@ -14,7 +14,7 @@ use Rattle.reg_model.specs.Crates.{owners}
 use Rattle.reg_model.specs.Effects.{caller, done, served}
 use Rattle.reg_model.specs.Events.{action_of}
 use Rattle.reg_model.specs.Facts.{access_facts, counts, lists}
-use Rattle.reg_model.specs.Refusals.{denied}
+use Rattle.reg_model.specs.Refusals.{denied, or_else}
 use Rattle.reg_model.specs.Registry.{Registry, Text, ids_of}
 use Rattle.reg_model.specs.Rules.{access, broken, verdict}
 use Rattle.reg_model.specs.Sound.{Sound}
@@ -42,6 +42,10 @@ find_past p (x ∷ xs) ys e = by (p x) (find_past p xs ys) e
     by : (b : Bool) → (find p xs ≡ None → find p (xs ++ ys) ≡ find p ys) → cond b (Some x) (find p xs) ≡ None → cond b (Some x) (find p (xs ++ ys)) ≡ find p ys
     by true rest f = cc
     by false rest f = rest f
+
+else_none : (r : Option Rule) → or_else r None ≡ r
+else_none None = refl
+else_none (Some r) = refl
 
 pub named_in : (are : Bool) (n : Text) (logins : List Text) → crate_of (action_of (owning are n logins)) ≡ name_of n
 named_in true n logins = refl

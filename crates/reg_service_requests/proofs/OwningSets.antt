@@ -55,6 +55,10 @@ abbrev one_in : Bool → Bool → Bool → Bool
 one_in true tied held = tied || held
 one_in false tied held = not tied && held
 
+contains_one : (are : Bool) (o : Owner) (held : FinSet owner_cmp) (q : Owner) → finset.contains (one_set are o held) q ≡ one_in are (eq_by_cmp owner_cmp q o) (finset.contains held q)
+contains_one true o held q = finset.contains-insert owner_total held o q
+contains_one false o held q = finset.contains-remove owner_total held o q
+
 one_after : (are e h a : Bool) → one_in are e (in_set are h a) ≡ in_set are h (a || (e || false))
 one_after true true true a = refl
 one_after true true false true = refl

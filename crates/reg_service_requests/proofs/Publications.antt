@@ -40,12 +40,16 @@ use Rattle.reg_service_requests.specs.Publications.{IsNew, IsOf, MakesCrate, Pub
 use Rattle.reg_service_requests.specs.Serves.{Serves}
 use Rattle.reg_service_requests.specs.declared.served.Served.{Served}
 use Rattle.reg_service_requests.specs.declared.served.Served.TheVariants.{Done, Told}
-use Rattle.reg_service_requests.proofs.Judging.{done_served, told_denied}
+use Rattle.reg_service_requests.proofs.Judging.{denied_by_others, done_served, told_denied}
 
 module _ (limits : Limits) (s : Registry) (d : Text) (p : Publication) where
   -- what is left to deny what the rules on access let pass
   abbrev left : Option Text → Option Rule
   left o = or_else (find (broken limits (access_facts s d (action_of (Publish p))) (counts s (action_of (Publish p))) (action_of (Publish p))) (filter (λ r. not (is_access_rule r)) (order o (action_of (Publish p))))) None
+
+  left_so : (o : Option Text) → first s p.name ≡ o → access (access_facts s d (action_of (Publish p))) (action_of (Publish p)) ≡ None → denied limits s (Some d) (Publish p) ≡ left o
+  unfolding access_facts
+  left_so o at passes = denied_by_others limits d (Publish p) s passes ∙ ap left at
 
   first_left : left None ≡ cond (nat_le limits.crates (crates s)) (Some rule.L2) None
   unfolding counts

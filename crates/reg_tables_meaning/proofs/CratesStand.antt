@@ -1,25 +1,26 @@
 -- The whole registry after a change of its crates.
-use Rattle.reg_tables_meaning.proofs.Common.{bytes_eq, canon, drop, Int, IsIn, IsPermutation, mark_cmp, owner_cmp, owner_columns, Publication, put_row, Registry, release_key_of, State, Text, Trees}
+use Rattle.reg_tables_meaning.proofs.Common.{bytes_eq, canon, drop, eq-eqb, filter, in_filter, Int, IsIn, IsPermutation, mark_cmp, owner_cmp, owner_columns, Publication, put_row, Registry, release_key_of, State, Text, Trees}
 use Rattle.reg_tables_meaning.specs.Changes.{next_crate, ids_with_crate, ids_with_version, if_there, mark_at, with_mark}
-use Rattle.std.proofs.Common.{◌≢◌, refl, sym, ◌≡◌, not, ℕ, List, [], ◌∷◌, ◌++◌, map, Bool, true, false, cond, Option, ap, subst, ◌∙◌, Some, sym, None, is_some}
+use Rattle.std.proofs.Common.{◌≢◌, refl, sym, ◌≡◌, ◌==◌, not, ℕ, List, [], ◌∷◌, ◌++◌, map, Bool, true, false, cond, Option, ap, subst, ◌∙◌, Some, sym, None, is_some}
 use Rattle.std.specs.FinSet as finset
-use Rattle.reg_tables_schema.specs.Changes.{KeepsOthers}
+use Rattle.reg_tables_schema.specs.Changes.{KeepsOthers, Replaces}
 use Rattle.reg_model.specs.Crates.{exists}
 use Rattle.reg_model.specs.Sound.{Sound, has_version}
 use Rattle.reg_model.proofs.Lists.{none_both, not_true, true_not_false}
 use Rattle.reg_tables_meaning.specs.Additions.{KeepsAllBut, AddsCrate, AddsVersion}
-use Rattle.reg_tables_sql.specs.Versions.{MarksYanked}
+use Rattle.reg_tables_sql.specs.Versions.{version_row, MarksYanked}
+use Rattle.reg_tables_schema.specs.Tests.{is_version}
 use Rattle.reg_tables_meaning.specs.Stands.{StandCrates, StoredVersion, Ids, StandsBy, Holds, StandPairs, spelling_at, StandMarked, row_of_version}
 use Rattle.reg_tables_meaning.proofs.CrateChanges.{adds_version, adds_crate, id_is, next_id_of, first_pair, unpaired, unmarked_crate}
 use Rattle.reg_tables_meaning.proofs.CrateLemmas.{there_at}
-use Rattle.reg_tables_meaning.proofs.Stays.{accounts_stay, tokens_stay, reserved_stay, same_crates, same_archives, pairs_stay, crates_stay, marked_stay, summaries_stay, same_about, same_accounts, same_tokens, same_scopes, same_owners, same_versions, same_reserved, same_restricted, same_readers}
-use Rattle.reg_tables_meaning.proofs.SummaryChanges.{summaries_first, summaries_next}
-use Rattle.reg_tables_meaning.specs.Summaries.{StandSummaries}
-use Rattle.reg_tables_meaning.specs.SummaryChanges.{AddsSummary, PushesSummary, RemarksSummary}
+use Rattle.reg_tables_meaning.proofs.Stays.{accounts_stay, tokens_stay, reserved_stay, same_crates, same_archives, pairs_stay, crates_stay, marked_stay, summaries_stay, same_about, same_accounts, same_tokens, same_scopes, same_owners, same_versions, same_reserved, same_summaries, same_restricted, same_readers}
+use Rattle.reg_tables_meaning.proofs.SummaryChanges.{summaries_first, summaries_marked, summaries_next, summary_at}
+use Rattle.reg_tables_meaning.specs.Summaries.{StandSummaries, is_marked, its_versions}
+use Rattle.reg_tables_meaning.specs.SummaryChanges.{AddsSummary, IsMarkChange, PushesSummary, RemarksSummary}
 use Rattle.reg_tables_meaning.specs.Marking.{IsOtherwise, id_unless}
 use Rattle.reg_tables_meaning.proofs.Marking.{no_id, one_id, unless_none, unless_some}
 use Rattle.reg_tables_meaning.proofs.CrateNames.{kept}
-use Rattle.reg_tables_meaning.proofs.Yanks.{IsTarget, marks, marks_again, target, row_found, no_such_version, no_version}
+use Rattle.reg_tables_meaning.proofs.Yanks.{IsTarget, mark_is, mark_kept, marks, marks_again, target, row_found, yanks, no_such_version, no_version}
 
 -- the tables that are not of crates have the rows that they had
 record Rest (old new : Trees) : Type 0 where
@@ -150,6 +151,11 @@ adds_next ids s id key p old new last h at fresh version summary =
     let summaries = summaries_next ids s.publications _ s.yanked old new last stands.crates id p crates there before key next summary in
     with_crates ids after s _ s.yanked s.owners old last rest stands (still_crates new last summary.others _ _ _ crates) pairs readers restricted summaries
 
+-- what an update of the mark says, of the version that alone has the release and the text
+abbrev ReplacesMark : ℕ → Text → Text → Bool → State → State → Type 0
+ReplacesMark id release text b old new =
+    (n : ℕ) (digest stem : Text) (description : Option Text) (was : Bool) → filter (is_version id release text) (old.now.trees 11) ≡ version_row n id text release digest stem description was ∷ [] → Replaces 11 n (version_row n id text release digest stem description b) old new
+
 -- a mark of a version is changed, and the summary of its crate follows
 module _ (ids : Ids) (s : Registry) (id version : ℕ) (old new : State) (last : Trees) (h : Holds ids s old.now.trees) (others : KeepsOthers 11 old.now.trees new.now.trees) (summary : RemarksSummary id version new.now.trees last) where
   with_yanked : (yanked : finset.FinSet mark_cmp) → StandCrates ids s.publications yanked new.now.trees → StandSummaries ids yanked (last 16) → StandsBy ids (record s { yanked = yanked }) last
@@ -162,7 +168,32 @@ module _ (ids : Ids) (s : Registry) (id version : ℕ) (old new : State) (last :
       let restricted = marked_stay ids.crates s.restricted (before 17) (last 17) rest.restricted h.stands.restricted in
       with_crates ids ids s s.publications yanked s.owners before last rest h.stands (still_crates mid last summary.others _ _ _ crates) pairs readers restricted summaries
 
+  before_them : StandSummaries ids s.yanked (new.now.trees 16)
+  before_them = summaries_stay ids s.yanked (old.now.trees 16) (new.now.trees 16) (same_summaries 11 old.now.trees new.now.trees others (λ e. cc)) h.stands.summaries
+
   module _ (name text : Text) (b : Bool) (there : IsIn (id, name) ids.crates) (v : StoredVersion) (is : IsTarget ids s.publications s.yanked old.now.trees h.stands.crates h.sound.releases id name text there v) where
+    mark_at_it : (yanked : finset.FinSet mark_cmp) → is_marked yanked v ≡ finset.contains yanked (canon name, text)
+    mark_at_it yanked i = finset.contains yanked (is.canonical i, is.version i)
+
+    mark_changed : finset.contains s.yanked (canon name, text) ≡ not b → IsMarkChange (its_versions ids id) v s.yanked (marks s.yanked (canon name) text b)
+    mark_changed was = record {
+      there = kept (λ v. v.of_crate == id) ids.versions v is.stored (eq-eqb v.of_crate id is.crate);
+      changed = mark_at_it s.yanked ∙ was ∙ ap not (sym (mark_at_it (marks s.yanked (canon name) text b) ∙ mark_is s.yanked (canon name) text b));
+      others = λ w i apart. sym (mark_kept ids s.publications s.yanked old.now.trees h.stands.crates h.sound.releases id name text there b v w is (in_filter (λ v. v.of_crate == id) ids.versions w i) apart);
+    }
+
+    marks_one : finset.contains s.yanked (canon name, text) ≡ not b → v.id ≡ version → ReplacesMark id (release_key_of text) text b old new → StandsBy ids (record s { yanked = marks s.yanked (canon name) text b }) last
+    marks_one was same replaces =
+        let before = old.now.trees in
+        let after = new.now.trees in
+        let stands = h.stands in
+        let p = v.publication in
+        let row = row_found ids s.publications s.yanked before stands.crates h.sound.releases id name text there v is in
+        let replaced = replaces v.id p.digest p.stem p.description (finset.contains s.yanked (canon name, text)) row in
+        let changed = yanks ids s.publications s.yanked before stands.crates h.sound.releases id name text there b v is after (same_crates 11 before after others (λ e. cc)) (same_archives 11 before after others (λ e. cc)) replaced.rows_are in
+        let marked = marks s.yanked (canon name) text b in
+        let has = summary_at ids ids s.yanked marked (after 16) (last 16) stands.crates.up before_them (id, name) there in
+        with_yanked marked changed (summaries_marked ids s.publications s.yanked before stands.crates (after 16) (last 16) before_them id name text b there (summary.row ids _ s.yanked marked v changed has same (mark_changed was)))
 
 -- what is told of the version that gets another mark
 module _ (ids : Ids) (s : Registry) (id : ℕ) (text : Text) (b : Bool) (db : Trees) (h : Holds ids s db) (found : Option ℕ) (told : IsOtherwise id text b db found) where
@@ -179,6 +210,12 @@ module _ (ids : Ids) (s : Registry) (id : ℕ) (text : Text) (b : Bool) (db : Tr
   one_of_it name at v is =
       one_id id text b db found told v.id v.publication.digest v.publication.stem v.publication.description (finset.contains s.yanked (canon name, text))
       (row_found ids s.publications s.yanked db h.stands.crates h.sound.releases id name text (there_at ids id name at) v is)
+
+other_mark : (was b : Bool) (n : ℕ) → was ≡ cond (is_some (id_unless was b n)) (not b) b
+other_mark true true n = refl
+other_mark true false n = refl
+other_mark false true n = refl
+other_mark false false n = refl
 
 -- whether one does
 pub marks_other : (ids : Ids) (s : Registry) (id : ℕ) (text : Text) (b : Bool) (db : Trees) (found : Option ℕ) → Holds ids s db → IsOtherwise id text b db found → (name : Text) → spelling_at ids id ≡ Some name → has_version s (canon name) text ≡ true

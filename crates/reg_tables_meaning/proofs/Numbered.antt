@@ -30,6 +30,10 @@ leave : {X : Type 0} (b : Bool) (x : X) (xs : List X) → b ≡ true → cond (n
 leave true x xs h = refl
 leave false x xs h = absurd cc
 
+take_it : {X : Type 0} (b : Bool) (x : X) (xs : List X) → b ≡ true → cond b (x ∷ xs) xs ≡ x ∷ xs
+take_it true x xs h = refl
+take_it false x xs h = absurd cc
+
 pass_by : {X : Type 0} (b : Bool) (x : X) (xs : List X) → b ≡ false → cond b (x ∷ xs) xs ≡ xs
 pass_by true x xs h = absurd cc
 pass_by false x xs h = refl

@@ -25,6 +25,10 @@ module _ {X : Type 0} (e : X → X → Bool) (test : X → Bool) where
   none_tied y [] all = refl
   none_tied y (z ∷ ys) all = or_from _ _ all.0 (none_tied y ys all.1)
 
+  first_told : IsEquivalence e → (y : X) (kept : List X) → AllByRecursion (λ z. e y z ≡ false) kept → (b : Bool) → list_any (e y) (cond b (y ∷ kept) kept) ≡ b
+  first_told same y kept all true = ap (λ b. b || list_any (e y) kept) (same.refl y)
+  first_told same y kept all false = none_tied y kept all
+
   later_told : IsEquivalence e → (y z : X) (kept : List X) (b : Bool) → e y z ≡ false → list_any (e z) kept ≡ test z → list_any (e z) (cond b (y ∷ kept) kept) ≡ test z
   later_told same y z kept true apart h = ap (λ b. b || list_any (e z) kept) (same.symm z y ∙ apart) ∙ h
   later_told same y z kept false apart h = h

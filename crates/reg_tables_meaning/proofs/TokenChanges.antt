@@ -2,15 +2,15 @@
 use Rattle.reg_tables_sql.specs.Tokens.{token_row}
 use Rattle.reg_tables_sql.specs.Updates.{KeepsWhereNone}
 use Rattle.reg_names.specs.declared.endpoint.Endpoints.{Endpoints}
-use Rattle.std.proofs.Common.{◌≡◌, ℕ, zero, suc, ◌+◌, ◌-◌, ◌<◌, ◌≤◌, pos, Bool, true, false, List, [], ◌∷◌, ◌++◌, map, length, take, get_or, Some, arith, refl, sym, ap, subst, ◌∙◌, None, Option}
+use Rattle.std.proofs.Common.{◌≡◌, ◌==◌, ℕ, zero, suc, ◌+◌, ◌-◌, ◌<◌, ◌≤◌, pos, Bool, true, false, cond, List, [], ◌∷◌, ◌++◌, map, length, take, get_or, not, Some, arith, refl, sym, ap, subst, ◌∙◌, None, Option}
 use Rattle.reg_tables_meaning.proofs.Common.{drop, enumerate_from, filter, flat_map, has_rowid, Int, IsPermutation, IsPermutation-cons, IsPermutation-map, IsPermutation-sym, IsPermutation-trans, Row, same_filter, State, Trees}
 use Rattle.std.proofs.lemmas.List.{append-nil, append_assoc, map-append, length-take-le, take_all, take_more}
 use Rattle.reg_tables_schema.specs.Changes.{Adds, AddsColumns, Replaces, Touches}
 use Rattle.reg_model.specs.Registry.{Text, Token, with_id, change_at, change_place}
 use Rattle.reg_tables_meaning.specs.Patterns.{GivesPatterns, with_last}
-use Rattle.reg_tables_meaning.specs.Stands.{row_of_token, scope_of, scopes_of, StandTokens}
-use Rattle.reg_tables_meaning.proofs.Numbered.{enumerate_snoc, one_at, change_none, none_at, more}
-use Rattle.reg_tables_schema.proofs.Permutes.{put_permutes, one_row}
+use Rattle.reg_tables_meaning.specs.Stands.{row_of_token, scope_of, scopes_of, StandTokens, StandsBy}
+use Rattle.reg_tables_meaning.proofs.Numbered.{enumerate_snoc, one_at, changed_at, change_none, none_at, more}
+use Rattle.reg_tables_schema.proofs.Permutes.{put_permutes, put_replaces, one_row}
 use Rattle.reg_tables_meaning.proofs.Standing.{same_number, snoc_permutes, none_row}
 use Rattle.reg_tables_meaning.proofs.Stays.{same_tokens, same_scopes, tokens_stay, with_tokens}
 
@@ -21,11 +21,35 @@ module _ (f : Token → Token) (same : (t : Token) → (f t).patterns ≡ t.patt
   scopes_from zero n (t ∷ ts) = ap (λ ps. map (scope_of n) (enumerate_from 0 ps) ++ flat_map scopes_of (enumerate_from (n + 1) ts)) (same t)
   scopes_from (suc i) n (t ∷ ts) = ap (λ rs. scopes_of (n, t) ++ rs) (scopes_from i (n + 1) ts)
 
+  pub scopes_stay : (id : ℕ) (ts : List Token) → flat_map scopes_of (enumerate_from 1 (change_at f id ts)) ≡ flat_map scopes_of (enumerate_from 1 ts)
+  scopes_stay id ts = split (id == 0)
+    where
+      split : (b : Bool) → flat_map scopes_of (enumerate_from 1 (cond b ts (change_place f (id - 1) ts))) ≡ flat_map scopes_of (enumerate_from 1 ts)
+      split true = refl
+      split false = scopes_from (id - 1) 1 ts
+
 module _ (tokens : List Token) (t : Token) (old new : State) (stands : StandTokens tokens old.now.trees) where
   -- the row of a token that is there, and what it makes of the tokens to put another in its place
   pub token_row_at : (id : ℕ) → with_id tokens id ≡ Some t → filter (has_rowid (pos id)) (old.now.trees 3) ≡ row_of_token (id, t) ∷ []
   token_row_at id found =
       one_row row_of_token (has_rowid (pos id)) (id, t) (enumerate_from 1 tokens) (old.now.trees 3) stands.rows (same_filter _ _ (λ e. same_number e.0 id) (enumerate_from 1 tokens) ∙ one_at id tokens t found)
+
+  pub replaces_token : (id : ℕ) (f : Token → Token) → ((t : Token) → (f t).patterns ≡ t.patterns) → with_id tokens id ≡ Some t → Replaces 3 id (row_of_token (id, f t)) old new → StandTokens (change_at f id tokens) new.now.trees
+  replaces_token id f same found replaced =
+      let entries = enumerate_from 1 tokens in
+      let put = put_replaces row_of_token (pos id) _ (id, f t) refl entries (old.now.trees 3) stands.rows in
+      let others = same_filter (λ e. not (has_rowid (pos id) (row_of_token e))) (λ e. not (e.0 == id)) (λ e. ap not (same_number e.0 id)) entries in
+      let moved = IsPermutation-map row_of_token _ _ (IsPermutation-sym _ _ (changed_at f id tokens t found)) in
+      let here = same_scopes 3 old.now.trees new.now.trees replaced.others (λ e. cc) in
+      record {
+        rows = IsPermutation-trans _ (map row_of_token ((id, f t) ∷ filter (λ e. not (e.0 == id)) entries)) _ moved
+            (subst (λ xs. IsPermutation (map row_of_token ((id, f t) ∷ xs)) (new.now.trees 3)) others (subst (IsPermutation (map row_of_token ((id, f t) ∷ filter (λ e. not (has_rowid (pos id) (row_of_token e))) entries))) (sym replaced.rows_are) put));
+        scopes = subst (λ rs. IsPermutation rs (map (drop 1) (new.now.trees 5))) (sym (scopes_stay f same id tokens))
+            (subst (λ (rs : List Row). IsPermutation (flat_map scopes_of entries) (map (drop 1) rs)) (sym here) stands.scopes);
+      }
+
+append_none : {X : Type 0} (xs ys : List X) → ys ≡ [] → xs ++ ys ≡ xs
+append_none xs ys none = ap (λ zs. xs ++ zs) none ∙ append-nil xs
 
 -- a token without patterns has no scopes
 no_scopes : (n : ℕ) (ts : List Token) (t : Token) → t.patterns ≡ [] → flat_map scopes_of (enumerate_from n (ts ++ t ∷ [])) ≡ flat_map scopes_of (enumerate_from n ts)
@@ -87,6 +111,9 @@ module _ (t : Token) (ps : List Text) (p : Text) where
             (IsPermutation-trans _ (scope ∷ before) _ (IsPermutation-sym _ _ (snoc_permutes before scope))
             (IsPermutation-trans _ (scope ∷ map (drop 1) (old.now.trees 5)) _ more (subst (λ (rs : List Row). IsPermutation (scope ∷ map (drop 1) (old.now.trees 5)) (map (drop 1) rs)) (sym adds.1.becomes.rows_are) put)));
       }
+
+pub gives_none : (id : ℕ) (db : Trees) → GivesPatterns id [] db db
+gives_none id db ids s others t is none stands = subst (λ ps. StandsBy ids (with_last s others (record t { patterns = ps })) db) none stands
 
 pub gives_another : (id : ℕ) (ps : List Text) (p : Text) (place : ℕ) (first : Trees) (old new : State) → GivesPatterns id ps first old.now.trees → place ≡ length ps → AddsColumns 5 (scope_of id (place, p)) old new → GivesPatterns id (ps ++ p ∷ []) first new.now.trees
 gives_another id ps p place first old new given at adds ids s others t is none stands =

@@ -9,7 +9,7 @@ use Rattle.sqlite.specs.Schema.{Schema}
 use Rattle.sqlite.specs.Command.TheVariants.{Insert, Update, Delete}
 use Rattle.sqlite.specs.Source.TheVariants.{Values}
 use Rattle.sqlite.specs.Effect.{Database, value_rows, Answers}
-use Rattle.sqlite.specs.Rows.{Written, Task, Gives, Then, Sourced, Queried, Counter, Counts, CountsIn, Inserts, Updates, Deletes, Edited, sequence, count_of, higher, last_id, rowids_for, stamped}
+use Rattle.sqlite.specs.Rows.{Written, Task, Gives, Then, Sourced, Queried, Counter, CounterIn, Counts, CountsIn, Inserts, Updates, Deletes, Edited, sequence, count_of, higher, last_id, rowids_for, stamped}
 use Rattle.sqlite.specs.Does.{Tally, Tested, Returns, Concludes, AtPlace, OnRows, OnTable, WritesRows}
 use Rattle.sqlite.specs.declared.run.Mode.{Mode}
 use Rattle.std.specs.Ordering.{is_lt, int_cmp}
@@ -19,13 +19,13 @@ use Rattle.sqlite.specs.State.{State, Writes, mode_of}
 use Rattle.sqlite_schema.specs.declared.program.Program.{Program}
 use Rattle.sqlite_schema.specs.declared.schema.Reference.{Reference}
 use Rattle.sqlite_schema.specs.declared.schema.Action.{Action}
-use Rattle.sqlite_schema.specs.declared.schema.Action.TheVariants.{NoAction}
+use Rattle.sqlite_schema.specs.declared.schema.Action.TheVariants.{NoAction, Restrict, Cascade, SetNull, SetDefault}
 use Rattle.sqlite_schema.specs.declared.schema.Keys.TheVariants.{Enforced}
 use Rattle.sqlite_schema.specs.Rules.{Refers, parent_key}
 use Rattle.sqlite_rules.specs.declared.error.Rowids.TheVariants.{Chosen, Above, Given}
 use Rattle.sqlite_rules.specs.Calls.{ids_of}
 use Rattle.sqlite_rules.specs.Edit.{Edit, edit_of, taken_by, Applies}
-use Rattle.sqlite_rules.specs.Action.{work_by, work_for, pairs, deed_for, Writes as Edits}
+use Rattle.sqlite_rules.specs.Action.{work_by, work_for, pairs, deed_of, deed_for, Writes as Edits}
 use Rattle.sqlite.proofs.Callers.{one_step, through}
 
 abbrev pub is_idle : Action → Bool
@@ -50,6 +50,13 @@ same_value e = cc
 pub both_true : (a b : Bool) → (a && b) ≡ true → (a ≡ true) × (b ≡ true)
 both_true true b h = (refl, h)
 both_true false b h = absurd cc
+
+idle_deed : (keys_delete : Bool) (a : Action) → is_idle a ≡ true → deed_of Enforced keys_delete a ≡ None
+idle_deed d NoAction h = refl
+idle_deed d Restrict h = cc
+idle_deed d Cascade h = cc
+idle_deed d SetNull h = cc
+idle_deed d SetDefault h = cc
 
 idle_choice : (b : Bool) (x y : Action) → is_idle x ≡ true → is_idle y ≡ true → is_idle (cond b x y) ≡ true
 idle_choice true x y p q = p
@@ -87,6 +94,8 @@ uncounted_rowids : (table : Table) (top : ℤ) → table.is_counted ≡ false �
 uncounted_rowids table top h = ap (λ b. cond b (Above top) Chosen) h
 
 module _ (task : Task) (uncounted : task.table.is_counted ≡ false) where
+  no_counter : (db : Trees) (counter : Option Row) → Counter task db (Ok counter) → counter ≡ None
+  no_counter db counter h = same_value (subst (λ b. MatchBool b (CounterIn task db (sequence task.schema) (Ok counter)) (Gives None (Ok counter))) uncounted h)
 
   counts_nothing : (mid next : Trees) (counter : Option Row) (top : ℤ) → Counts task mid counter top (Ok next) → next ≡ mid
   counts_nothing mid next counter top h = same_value (subst (λ b. MatchBool (cond b (is_lt (int_cmp (count_of counter) top)) false) (CountsIn task mid counter top (sequence task.schema) (Ok next)) (Gives mid (Ok next))) uncounted h)
@@ -173,6 +182,16 @@ module _ (old new : State) (schema : Schema) (has : old.now.schema ≡ schema) (
       pub rows : List Row
       pub answer : Answers old.now q params rows
       pub put : Put (edit rows)
+
+    finished : (q : Program) (command : Command) (edit : List Row → Edit) (tally : Tally) (wrote : (w : Written) × Changed task old.now.trees q params edit w.trees × Concludes task (mode_of old) None w (Ok (tally, new.now))) → Done q edit
+    finished q command edit tally wrote =
+        let now = concluded task (mode_of old) wrote.0 tally new.now wrote.2 in
+        let step = applies schema old.now.trees wrote.0.trees (edit wrote.1.rows) none (let it : Edits schema Enforced old.now.trees (edit wrote.1.rows) (Ok wrote.0.trees) = wrote.1.step in it) in
+        record {
+          rows = wrote.1.rows;
+          answer = subst (λ s. Answers (record old.now { schema = s }) q params wrote.1.rows) (sym has) wrote.1.answer;
+          put = record { schema_is = ap (λ (d : Database). d.schema) now; step = subst (Applies schema Enforced old.now.trees (edit wrote.1.rows)) (sym (ap (λ (d : Database). d.trees) now)) step };
+        }
 
     pub updated : (q : Program) → Writes old new None (Update at q) text params count → Done q (replacing old.now.trees table)
     updated q w =

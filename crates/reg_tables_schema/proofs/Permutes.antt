@@ -1,5 +1,5 @@
 -- Rows that are added and replaced, as lists in any order.
-use Rattle.std.proofs.Common.{◌≡◌, ℤ, List, [], ◌∷◌, map, Bool, true, false, not, cond, Ordering, refl, sym, ap, subst, ◌∙◌}
+use Rattle.std.proofs.Common.{◌≡◌, ℤ, List, [], ◌∷◌, map, Bool, true, false, not, cond, Ordering, Less, Equal, Greater, refl, sym, ap, subst, ◌∙◌}
 use Rattle.std.specs.List.{filter}
 use Rattle.std.specs.List.Sorted.{IsPermutation}
 use Rattle.std.specs.Ordering.{is_eq, match_ordering}
@@ -17,6 +17,11 @@ placed o new r rows = match_ordering o (r ∷ put_row new rows) (new ∷ rows) (
 
 pub two : {X : Type 0} (x y : X) (rest : List X) → IsPermutation (x ∷ y ∷ rest) (y ∷ x ∷ rest)
 two x y rest = IsPermutation-middle (x ∷ []) y rest
+
+put_one : (o : Ordering) (new r : Row) (rows : List Row) → is_eq o ≡ false → IsPermutation (new ∷ rows) (put_row new rows) → IsPermutation (new ∷ r ∷ rows) (placed o new r rows)
+put_one Less new r rows free h = IsPermutation-trans (new ∷ r ∷ rows) (r ∷ new ∷ rows) (r ∷ put_row new rows) (two new r rows) (IsPermutation-cons r (new ∷ rows) (put_row new rows) h)
+put_one Equal new r rows free h = absurd cc
+put_one Greater new r rows free h = IsPermutation-refl (new ∷ r ∷ rows)
 
 -- a row that is put at a free rowid is one more
 pub put_permutes : (new : Row) (rows : List Row) → is_taken rows new ≡ false → IsPermutation (new ∷ rows) (put_row new rows)

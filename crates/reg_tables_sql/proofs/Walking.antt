@@ -2,14 +2,17 @@
 use Rattle.std.proofs.Common.{◌≡◌, ◌==◌, ◌⊎◌, inl, inr, arith, ℕ, ◌+◌, List, [], ◌∷◌, ◌++◌, length, length-append, true, false, not, nat_lt, is_some, Ok, Err, Some, None, Option, Result, OnErr, refl, sym, ap, subst, ◌∙◌}
 use Rattle.std.proofs.lemmas.Bool.Decides.{nat_tests}
 use Rattle.std.specs.Borrow.{Bor}
+use Rattle.sqlite.specs.Effect.{Database}
+use Rattle.sqlite.specs.Clock.{timed}
 use Rattle.sqlite.specs.Order.{Row}
 use Rattle.sqlite_trees.specs.declared.store.Store.{Ghosts}
 use Rattle.sqlite.specs.declared.error.Error.{Error}
 use Rattle.sqlite.specs.declared.rows.stream.Rows.{Rows}
 use Rattle.sqlite.specs.Held.{Held, state}
-use Rattle.sqlite.specs.Given.{HasBegun, HasGiven, IsRefused}
+use Rattle.sqlite.specs.Given.{HasBegun, HasGiven, IsPlain, IsRefused}
+use Rattle.sqlite.specs.Listing.{understood, reads_listing, IsSourceOf}
 use Rattle.sqlite.specs.Next.{HasMoved}
-use Rattle.sqlite.specs.State.{State, Fails, HasCleanDisk, IsUnchanged, Survives, Shown, CommitsShowing}
+use Rattle.sqlite.specs.State.{State, Fails, HasCleanDisk, IsUnchanged, Survives, Shown, ShowsRows, CommitsShowing}
 use Rattle.sqlite.proofs.Callers.{begun_plain, unchanged_then}
 use Rattle.sqlite.proofs.StateLemmas.{survives_then}
 use Rattle.reg_tables_schema.specs.States.{Refuses}
@@ -24,6 +27,21 @@ pub record Walks {S : Type 0} (g : Ghosts S) (text : List ℕ) (params : Row) (o
   pub given : HasCleanDisk (state g new) → HasGiven g text params new rows
   pub same : HasCleanDisk (state g new) → IsUnchanged (state g old) (state g new)
   pub survives : Survives (state g old) (state g new) (λ _. ⊥)
+
+-- what is shown where nothing has changed was shown before
+shown_since : (sql : List ℕ) (params : Row) (a b c : State) (rows : List Row) → IsPlain (understood a.now.schema sql) → IsUnchanged a b → Shown sql params b c rows → Shown sql params a c rows
+unfolding Shown
+shown_since sql params a b c rows plain p h =
+    let same = p.0.now_is in
+    let is = subst (λ (d : Database). understood d.schema sql ≡ Ok h.0) same h.1.is in
+    let none = (subst IsPlain is plain).0 in
+    let full = timed params h.0.formats h.1.now in
+    let it = subst (ShowsRows b c sql h.0 full rows) none h.2 in (
+      h.0,
+      record { is = is; whole = h.1.whole; given = h.1.given; now = h.1.now },
+      subst (ShowsRows a c sql h.0 full rows) (sym none)
+          (it.0, subst (λ (d : Database). IsSourceOf (reads_listing d.schema sql) d it.0) same it.1, it.2, unchanged_then a b c p it.3),
+    )
 
 -- whether a list of this length has a row
 pub counted_some : (n : ℕ) (rows : List Row) → length rows ≡ n → nat_lt 0 n ≡ not (length rows == 0)
