@@ -97,13 +97,6 @@ pub named_found : (a : Action) (n : Text) (token account : ℕ) (db : Trees) (it
     → is_there (against_rows a (rows_of it.row) db) ≡ it.against → AreFound a token account db it
 named_found a n token account db it named covered row version against = record { covered = covered; row = ap (lists (λ n. crates_seen_by (canon n) (Int (pos account)) db)) named ∙ row; version = version; against = against }
 
--- a scope is asked of the crate that is named, where the action needs one
-pub scope_of_named : (a : Action) (n : Text) (token : ℕ) (db : Trees) → crate_of a ≡ Some n → needs_scope a ≡ true → (b : Bool) → is_there (scopes_over (Int (pos token)) (canon n) db) ≡ b → is_there (scopes_asked a token db) ≡ b
-scope_of_named a n token db named needs b h = rw needs (ap (λ o. is_there (lists (λ n. scopes_over (Int (pos token)) (canon n) db) o)) named ∙ h)
-
-pub scope_unasked : (a : Action) (token : ℕ) (db : Trees) → needs_scope a ≡ false → is_there (scopes_asked a token db) ≡ false
-scope_unasked a token db needs = rw needs refl
-
 module _ (db : Trees) (digest : Text) (a : Action) where
   pub unknown_verdict : tokens_with_accounts digest db ≡ [] → IsVerdict digest a db (decision_of (Some rule.A2))
   unknown_verdict h = ap decision_of (sym (unknown_first (facts_in (join_rows db digest a) a) a (ap is_there h)))

@@ -95,16 +95,6 @@ sends_nothing writes s = record {
   failures = refl;
 }
 
-pub piles_both : (waiting text : List ℕ) (writes : ℕ) (s : Sink)
-    → Piles waiting text (waiting ++ text) writes 0 s s
-piles_both waiting text writes s =
-    record { sent = []; whole = refl; sends = sends_nothing writes s }
-
-pub piles_second : (waiting text : List ℕ) (writes used : ℕ) (s t : Sink)
-    → SendsAll waiting writes used s t → Piles waiting text text writes used s t
-piles_second waiting text writes used s t h =
-    record { sent = waiting; whole = refl; sends = h }
-
 pub piles_none : (waiting text : List ℕ) (writes used more : ℕ) (s t u : Sink)
     → SendsAll waiting writes used s t → SendsAll text (writes - used) more t u
     → Piles waiting text [] writes (used + more) s u

@@ -119,7 +119,3 @@ module _ (db : Trees) (t : Table) where
       whole_row row typed present,
       key_null t.columns row (ap (λ o. are_typed o 0 t.columns (drop 1 row)) (sym key) ∙ typed_row row typed),
     ))
-
-  -- the key of any row reads NULL
-  pub keys_null : t.key ≡ Some 0 → (rows : List Row) → AllByRecursion Typed rows → AllByRecursion (λ row. column row 1 ≡ Null) rows
-  keys_null key = all_weaker Typed (λ row. column row 1 ≡ Null) (λ row typed. key_null t.columns row (ap (λ o. are_typed o 0 t.columns (drop 1 row)) (sym key) ∙ typed_row row typed))

@@ -71,9 +71,6 @@ module _ {S : Type 0} (g : Ghosts S) (limits : Limits) (s : model.Registry) (ent
   module _ (k0 k1 : Tail) (r0 r1 w0 w1 : Option Text) (rest : Text) (count : ℕ) (now : Tables S) (h : Holds g limits s entry k0 k1 r0 r1 w0 w1 rest count now) (r2 w2 : Option Text) where
     -- what was read since
     module _ (bytes : Text) (consumed : Consumes r1 r2 bytes) where
-      all_read : Text
-      all_read = h.read ++ bytes
-
       consumes : Consumes r0 r2 (h.read ++ bytes)
       consumes = Consumes-trans r0 r1 r2 h.read bytes h.consumed consumed
 

@@ -62,10 +62,6 @@ module _ (had mid left : ℕ) (s t u : Tally) (first : SpendsSome had mid s t) w
   }
   spends_for Memory more = absurd more
 
-  pub spends_on : {A : Type 0} (r : Result A StreamFault) → SpendsTurns mid left t u r → SpendsTurns had left s u r
-  spends_on (Ok a) more = spends_some more
-  spends_on (Err f) more = spends_for f more
-
 -- a stream whose memory was there from the first call on
 pub spends_whole : {A : Type 0} (had left : ℕ) (s t : Tally) (r : Result A StreamFault) → SpendsTurns had left s t r → Spends had left s t r
 spends_whole had left s t (Ok a) it = it

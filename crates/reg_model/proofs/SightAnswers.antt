@@ -44,10 +44,6 @@ guarded true false x y none e same = cc e
 guarded false true x y none e same = cc e
 guarded false false x y none e same = refl
 
-holds_not : {X : Type 0} (p : X → Bool) (o : Option X) → ((x : X) → p x ≡ false) → holds p o ≡ false
-holds_not p None h = refl
-holds_not p (Some x) h = h x
-
 module _ (s t : Registry) (digest : Text) (one : HaveOneSight s t digest) where
   -- the facts of the crate of an action
   seen_alike : (o : Option Text) → holds (visible s digest) o ≡ holds (visible t digest) o

@@ -9,7 +9,7 @@ use Rattle.reg_versions.specs.Precedence.{top_place}
 use Rattle.reg_line.specs.File.{file_text}
 use Rattle.reg_names.specs.declared.endpoint.Endpoints.{Endpoints}
 use Rattle.reg_model.specs.Registry.{Text, Token, Publication, Registry, holds, is_enabled, token_of}
-use Rattle.reg_model.specs.Crates.{collides, file, first, is_among, is_yanked, owners, versions, viewer, visible}
+use Rattle.reg_model.specs.Crates.{collides, file, first, is_among, is_yanked, owners, versions, visible}
 use Rattle.reg_model.specs.Effects.{owner_entry}
 use Rattle.reg_model.specs.Facts.{endpoints_of, has_login, is_named, no_endpoints}
 use Rattle.reg_versions.specs.Versions.{parts_of}
@@ -73,9 +73,6 @@ module _ (s t : Registry) (digest : Text) (one : HaveOneSight s t digest) where
 
   pub account_alike : (p : ℕ → Bool) → holds (λ u. p u.account) (token_of s digest) ≡ holds (λ u. p u.account) (token_of t digest)
   account_alike p = holds_alike (λ v. p v.account)
-
-  pub viewer_alike : viewer s digest ≡ viewer t digest
-  viewer_alike = sym (map_twice (λ v. v.account) (token_view s) (token_of s digest)) ∙ ap (option_map (λ v. v.account)) one.token ∙ map_twice (λ v. v.account) (token_view t) (token_of t digest)
 
   -- of a crate
   shown : (b : Bool) (v : CrateSight) → is_some (cond b (Some v) None) ≡ b

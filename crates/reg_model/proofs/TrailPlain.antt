@@ -99,9 +99,6 @@ module _ (s : Registry) (sound : Sound s) where
 
   -- ---- crates and versions
 
-  genuine_name : (p : Publication) → IsGenuine p → is_name p.name ≡ true
-  genuine_name p g = g.name
-
   each_named : (ps : List Publication) → AllByRecursion IsGenuine ps → list_all (λ p. is_name p.name) ps ≡ true
   each_named [] h = refl
   each_named (p ∷ ps) h = and_from _ _ h.0.name (each_named ps h.1)

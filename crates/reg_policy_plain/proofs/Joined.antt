@@ -23,7 +23,6 @@ use Rattle.reg_model.specs.Effects.{account_of, served, done, replied, commanded
 use Rattle.reg_model.specs.Steps.{Step, unless_denied, unless_refused}
 use Rattle.reg_policy.specs.declared.action.Decision.TheVariants.{Allowed, Denied as DeniedBy}
 use Rattle.reg_policy.specs.declared.event.AdminReply.{AdminReply}
-use Rattle.reg_policy.specs.declared.event.AdminReply.TheVariants.{Done, Id, Text as Told}
 use Rattle.reg_policy.specs.Events.{decision_alone, reply_of}
 use Rattle.reg_policy.specs.Views.{decision_of}
 use Rattle.reg_policy_plain.specs.Plain.{PlainStep, both_found, crate_found, login_found, or_unknown}
@@ -144,13 +143,6 @@ module _ (limits : Limits) (s t : Registry) (d : Text) (asked : Asked) (a : Answ
 -- a request that no room is left for
 pub no_room_step : (limits : Limits) (s t : Registry) (o : Option Text) (asked : Asked) → t ≡ s → PlainStep limits s (Ask o asked) (Denied rule.S1) t
 no_room_step limits s t o asked same = (Denied rule.S1, inr (refl, same), refl)
-
--- what a command is answered is no decision
-pub order_step : (limits : Limits) (s t : Registry) (c : Command) (r : Result AdminReply AdminRefusal) (a : Answer) → a ≡ reply_of r → Step limits s (Order c) (reply_of r) t → PlainStep limits s (Order c) a t
-order_step limits s t c (Ok Done) a e step = (reply_of (Ok Done), step, e)
-order_step limits s t c (Ok (Id n)) a e step = (reply_of (Ok (Id n)), step, e)
-order_step limits s t c (Ok (Told n)) a e step = (reply_of (Ok (Told n)), step, e)
-order_step limits s t c (Err g) a e step = (reply_of (Err g), step, e)
 
 -- what holds anyway holds where there is room
 pub if_ok : {X E P : Type 0} (r : Result X E) → P → OnOk r P

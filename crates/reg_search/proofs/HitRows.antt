@@ -32,10 +32,6 @@ taken_full (suc n) [] x h = absurd (omega (arith, h))
 taken_full (suc n) (y ∷ xs) x h = ap (λ zs. y ∷ zs) (taken_full n xs x (omega (arith, h)))
 
 module _ (needle : Words) (hidden : List ℕ) (row : Row) where
-  -- the needle is not in its text
-  pub no_match : is_match needle row ≡ false → is_hit needle hidden row ≡ false
-  no_match none = ap (λ b. b && not (list_any (λ n. n == id_of row) hidden)) none
-
   -- it is, and the crate is hidden or not
   pub match_seen : (id : ℕ) (b : Bool) → is_match needle row ≡ true → id ≡ id_of row → b ≡ list_any (λ n. n == id) hidden → is_hit needle hidden row ≡ not b
   match_seen id b there same is = (λ i. there i && not (list_any (λ n. n == sym same i) hidden)) ∙ ap not (sym is)

@@ -9,7 +9,7 @@ use Rattle.sqlite.specs.Schema.{Schema}
 use Rattle.sqlite.specs.Command.TheVariants.{Insert, Update, Delete}
 use Rattle.sqlite.specs.Source.TheVariants.{Values}
 use Rattle.sqlite.specs.Effect.{Database, value_rows, Answers}
-use Rattle.sqlite.specs.Rows.{Written, Task, Gives, Then, Sourced, Queried, Counter, CounterIn, Counts, CountsIn, Inserts, Updates, Deletes, Edited, sequence, count_of, higher, last_id, rowids_for, stamped}
+use Rattle.sqlite.specs.Rows.{Written, Task, Gives, Then, Sourced, Queried, Counter, Counts, CountsIn, Inserts, Updates, Deletes, Edited, sequence, count_of, higher, last_id, rowids_for, stamped}
 use Rattle.sqlite.specs.Does.{Tally, Tested, Returns, Concludes, AtPlace, OnRows, OnTable, WritesRows}
 use Rattle.sqlite.specs.declared.run.Mode.{Mode}
 use Rattle.std.specs.Ordering.{is_lt, int_cmp}
@@ -94,9 +94,6 @@ uncounted_rowids : (table : Table) (top : ℤ) → table.is_counted ≡ false �
 uncounted_rowids table top h = ap (λ b. cond b (Above top) Chosen) h
 
 module _ (task : Task) (uncounted : task.table.is_counted ≡ false) where
-  no_counter : (db : Trees) (counter : Option Row) → Counter task db (Ok counter) → counter ≡ None
-  no_counter db counter h = same_value (subst (λ b. MatchBool b (CounterIn task db (sequence task.schema) (Ok counter)) (Gives None (Ok counter))) uncounted h)
-
   counts_nothing : (mid next : Trees) (counter : Option Row) (top : ℤ) → Counts task mid counter top (Ok next) → next ≡ mid
   counts_nothing mid next counter top h = same_value (subst (λ b. MatchBool (cond b (is_lt (int_cmp (count_of counter) top)) false) (CountsIn task mid counter top (sequence task.schema) (Ok next)) (Gives mid (Ok next))) uncounted h)
 

@@ -20,7 +20,7 @@ use Rattle.sqlite_trees.specs.Tree.{put_row}
 use Rattle.sqlite_tied.specs.Compute.{everything}
 use Rattle.reg_tables_schema.specs.declared.make.TheConstants.{INSERT_ABOUT_TEXT}
 use Rattle.reg_tables_schema.specs.Schema.{ours, our_tables, old_schema, first_of_ours, blank, about, restricted, readers}
-use Rattle.reg_tables_schema.specs.States.{IsInside, IsReady, Rests, Grows, Extends, Makes, Refuses, IsUndone, IsAtRest, HasMade, IsMade, about_columns}
+use Rattle.reg_tables_schema.specs.States.{IsInside, IsReady, Grows, Extends, Makes, Refuses, IsUndone, IsAtRest, HasMade, IsMade, about_columns}
 use Rattle.reg_tables_schema.specs.Changes.{AddsColumns}
 use Rattle.reg_tables_schema.proofs.Creates.{and_last, still_empty}
 use Rattle.reg_tables_schema.specs.declared.edition.Edition.TheVariants.{Second}
@@ -101,9 +101,6 @@ survives_failing base old mid new one two = survives_then old mid new _ _ (Whole
 
 pub rests : (base : List ℕ) (last new : State) → IsMade base last.now → Shows last new last.now last.now false → IsMade base new.committed × IsAtRest new
 rests base last new made k = (subst (IsMade base) (sym k.committed_is) made, record { is_open = k.is_open; autocommit = k.mode; settled = k.now_is ∙ sym k.committed_is })
-
-pub rests_ours : (base : List ℕ) (s : State) → IsMade base s.committed × IsAtRest s → Rests Second s
-rests_ours base s h = record { committed_is = h.0.schema_is; autocommit = h.1.autocommit; settled = h.1.settled }
 
 pub all_taken : {X : Type 0} (P : X → Type 0) (k : ℕ) (xs : List X) → AllByRecursion P xs → AllByRecursion P (take k xs)
 all_taken P zero xs h = tt

@@ -1,5 +1,5 @@
 -- The rows of the index file of a crate.
-use Rattle.std.specs.Prelude.{ℕ, List, [], ◌∷◌, codes, filter, map}
+use Rattle.std.specs.Prelude.{ℕ, List, [], ◌∷◌, filter, map}
 use Rattle.sqlite.specs.declared.types.Value.TheVariants.{Blob}
 use Rattle.sqlite.specs.Order.{Row}
 use Rattle.sqlite.specs.Tree.{Trees}

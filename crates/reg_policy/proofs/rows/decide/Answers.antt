@@ -1,6 +1,6 @@
 use Rattle.std.proofs.Common.{◌≡◌, ◌∙◌, ap, sym, subst}
 use Rattle.reg_model.specs.Rules.{verdict}
-use Rattle.reg_policy.specs.Views.{access_of, action_of, counts_of, decision_of}
+use Rattle.reg_policy.specs.Views.{action_of, counts_of, decision_of}
 use Rattle.reg_policy.proofs.RowFacts.{judged_by_rows}
 use Rattle.reg_policy.proofs.rows.decide.Goals as goal
 
