@@ -101,10 +101,7 @@ impl<S: Alter> Registry<S> {
     {
         match self.act(alloc, request, false) {
             Answered::Replied(acted) => {
-                let Acted {
-                    reply,
-                    line: _line,
-                } = acted;
+                let Acted { reply, line: _line } = acted;
                 reply
             }
             Answered::Found(file) => match read_file(alloc, &mut self.tables, &file) {
