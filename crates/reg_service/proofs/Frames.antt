@@ -23,6 +23,10 @@ use Rattle.reg_service.specs.Answered.{Answers, Are, LeavesAlone, Shows, Stays}
 held_unchanged : (s : Registry) (old new : State) → Shows s old → IsUnchanged old new → Shows s new
 held_unchanged s old new held same up = subst (λ (d : Database). Are s d.trees) (sym same.0.now_is) (held same.0.was_open)
 
+-- all is as it was
+pub stayed : {S : Type 0} (g : Ghosts S) (limits : Limits) (s : Registry) (e : Event) (a : Answer) (old new : Tables S) → is_shut old ≡ false → Step limits s e a s → Stays g s old new → Answers g limits s e a old new
+stayed g limits s e a old new goes_on step stays = record { after = s; step = step; shows = stays.shows; kept = inr stays.alone; left = λ db l. inl (stays.left db l); shut = λ was. absurd (false≢true (sym goes_on ∙ was)) }
+
 module _ {S : Type 0} (g : Ghosts S) (limits : Limits) (s : Registry) (e : Event) (a : Answer) (old new : Tables S) (ours : AreOurs g old) (h : Shows s (shown g old)) (clean : HasCleanDisk (shown g new)) where
   -- what was held is held where the state is the one that was committed
   held_again : HasCleanDisk (shown g old) → (IsTrue (shown g new).is_open → IsTrue (shown g old).is_open) → (IsTrue (shown g new).is_open → (shown g new).now ≡ (shown g old).committed) → Shows s (shown g new)
@@ -45,10 +49,6 @@ module _ {S : Type 0} (g : Ghosts S) (limits : Limits) (s : Registry) (e : Event
     left = λ db l. elim (left.survives.crash clean db l) [ inl was ↦ inl was | inr none ↦ absurd none ];
     shut = λ was. (room, left.shut ∙ was);
   }
-
-  -- all is as it was
-  pub stayed : is_shut old ≡ false → Step limits s e a s → Stays g s old new → Answers g limits s e a old new
-  stayed goes_on step stays = record { after = s; step = step; shows = stays.shows; kept = inr stays.alone; left = λ db l. inl (stays.left db l); shut = λ was. absurd (false≢true (sym goes_on ∙ was)) }
 
   -- the tables were only looked at, after all stayed as it was
   pub left_on : (was : Tables S) → Stays g s was old → IsLeft g old new → Stays g s was new
@@ -77,6 +77,12 @@ module _ {S : Type 0} (g : Ghosts S) (limits : Limits) (s : Registry) (e : Event
 
     shows_undone : IsUndone (seen g done) (shown g new) → Shows s (shown g new)
     shows_undone back = held_again first (λ _. (b.view early).was_open) (λ up. (back.undone up).0 ∙ (looks.kept mid).committed (back.was_open up) ∙ (b.view early).committed_is)
+
+    -- what is shown is what it saw
+    pub shows_begun : IsUndone (seen g done) (shown g new) → IsTrue (shown g new).is_open → (shown g new).now ≡ (seen g begun).now
+    shows_begun back up =
+        let view = b.view early in
+        (back.undone up).0 ∙ (looks.kept mid).committed (back.was_open up) ∙ view.committed_is ∙ sym (view.now_is ∙ (ours first view.was_open).settled)
 
     pub committed : StepsKeepSound → IsFit e → (Are s (rows_seen g begun) → (a ≡ (outcome limits s e).0) × Stands (outcome limits s e).1 (rows_seen g done)) → IsCommitted g done new → Answers g limits s e a old new
     committed law fit has end =
@@ -119,7 +125,7 @@ module _ {S : Type 0} (g : Ghosts S) (limits : Limits) (s : Registry) (e : Event
         }
 
     pub dropped : (Are s (rows_seen g begun) → Step limits s e a s) → IsDropped g done new → (IsTrue (shown g old).is_open → LeavesCommit (shown g old)) → Answers g limits s e a old new
-    dropped refuses end alone = stayed b.was_open (refuses sees) (dropped_so end alone)
+    dropped refuses end alone = stayed g limits s e a old new b.was_open (refuses sees) (dropped_so end alone)
 
 -- nothing was called
 pub untouched : {S : Type 0} (g : Ghosts S) (limits : Limits) (s : Registry) (e : Event) (a : Answer) (t : Tables S) → Shows s (shown g t) → a ≡ no_room e → Answers g limits s e a t t

@@ -32,7 +32,7 @@ module _ (limits : Limits) (digest : Text) (asked : Asked) where
   unfolding denied
   denied_by_others s passes = ap (λ r. or_else r (fault_of asked)) (access_first limits (access_facts s digest (action_of asked)) (counts s (action_of asked)) (action_of asked) ∙ ap (λ r. or_else r (others s)) passes)
 
-  answered : (s : Registry) (r : Option Rule) → denied limits s (Some digest) asked ≡ r → outcome limits s (Ask (Some digest) asked) ≡ unless_denied s r (served s (viewer s digest) asked, done s (account_of s digest) asked)
+  pub answered : (s : Registry) (r : Option Rule) → denied limits s (Some digest) asked ≡ r → outcome limits s (Ask (Some digest) asked) ≡ unless_denied s r (served s (viewer s digest) asked, done s (account_of s digest) asked)
   answered s r e = ap (λ r. unless_denied s r (served s (viewer s digest) asked, done s (account_of s digest) asked)) e
 
   -- it is denied

@@ -37,15 +37,15 @@ returns-in_default c =
     (no_length_judged c.args.limits.now.fields (greatest_body c.args.limits.now) c.args.minor (map header_parts c.args.fields.now) _
     c.in_default.ensures)
 
-pub returns-then-body_len-greatest_length : goal.returns-then-body_len-greatest_length
-returns-then-body_len-greatest_length c =
-    subst (IsAsked (Err H5)) (sym (past (goal.at.returns-then-body_len-greatest_length c).After-body_length))
+pub returns-then-body_len-greatest_body : goal.returns-then-body_len-greatest_body
+returns-then-body_len-greatest_body c =
+    subst (IsAsked (Err H5)) (sym (past (goal.at.returns-then-body_len-greatest_body c).After-body_length))
     (large_judged c.args.limits.now.fields (greatest_body c.args.limits.now) c.args.minor (map header_parts c.args.fields.now)
-    c.in-Some.body_len _ c.in-Some.ensures (omega (arith, c.greatest_length.ensures.value)))
+    c.in-Some.body_len _ c.in-Some.ensures (omega (arith, c.greatest_body.ensures.value)))
 
 pub returns : goal.returns
 returns c =
     subst (IsAsked (Ok c.ask.result)) (sym (past (goal.at.returns c).After-body_length))
     (length_judged c.args.limits.now.fields (greatest_body c.args.limits.now) c.args.minor (map header_parts c.args.fields.now)
-    c.ask.result c.in-Some.body_len _ (omega (arith, c.greatest_length.ensures.value, c.greatest_length.ensures.small)) c.in-Some.ensures
-    (omega (arith, c.greatest_length.ensures.value)) c.ask.ensures)
+    c.ask.result c.in-Some.body_len _ (omega (arith, c.greatest_body.ensures.value, c.greatest_body.ensures.small)) c.in-Some.ensures
+    (omega (arith, c.greatest_body.ensures.value)) c.ask.ensures)

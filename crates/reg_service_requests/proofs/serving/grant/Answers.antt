@@ -28,9 +28,9 @@ returns-in-Read-Config g c =
 
 pub returns-in-Index : goal.returns-in-Index
 returns-in-Index g c =
-    untold_given g.S.Store c.args.traced c.args.limits.now c.args.caller.now c.args.asked.now _ c.in-Index.is c.untold-in-Index.result c.args.work.now c.read_index.new.work c.read_index.result c.untold-in-Index.ensures refl
-    (crate_given g.S.Store c.args.limits.now c.args.caller.now c.args.asked.now _ c.in-Index.is c.read_index.result c.args.work.now c.read_index.new.work
-    Index c.in-Index.field-0.now c.found_crate.result.now refl c.found_crate.ensures c.read_index.ensures)
+    untold_given g.S.Store c.args.traced c.args.limits.now c.args.caller.now c.args.asked.now _ c.in-Index.is c.untold-in-Index.result c.args.work.now c.find_file.new.work c.find_file.result c.untold-in-Index.ensures refl
+    (crate_given g.S.Store c.args.limits.now c.args.caller.now c.args.asked.now _ c.in-Index.is c.find_file.result c.args.work.now c.find_file.new.work
+    Index c.in-Index.field-0.now c.found_crate.result.now refl c.found_crate.ensures c.find_file.ensures)
 
 pub returns-in-Download : goal.returns-in-Download
 returns-in-Download g c =
