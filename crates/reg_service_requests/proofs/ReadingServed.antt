@@ -1,5 +1,5 @@
 -- What the tables tell of a read is what it is served.
-use Rattle.std.proofs.Common.{◌≡◌, List, [], ◌∷◌, ℕ, Bool, true, false, cond, length, map, None, Some, unwrap_or, refl, sym, ap, ◌∙◌}
+use Rattle.std.proofs.Common.{◌≡◌, List, [], ◌∷◌, ℕ, true, false, length, map, None, Some, unwrap_or, refl, sym, ap, ◌∙◌}
 use Rattle.std.specs.Prelude.{Vec}
 use Rattle.std.specs.declared.alloc.Global.{Global}
 use Rattle.std.specs.FinSet as finset
@@ -17,7 +17,7 @@ use Rattle.reg_model.specs.Events.{action_of}
 use Rattle.reg_model.specs.Events.Answer.{File}
 use Rattle.reg_model.specs.Events.Asked.{Download, Index, ListOwners, Read}
 use Rattle.reg_model.specs.Events.Reading.{Config}
-use Rattle.reg_model.specs.Registry.{Publication, Registry, Text}
+use Rattle.reg_model.specs.Registry.{Text}
 use Rattle.reg_api_replies.specs.Bodies.{owners_body}
 use Rattle.reg_api_replies.specs.declared.head.Kind.TheVariants as kind
 use Rattle.reg_api_replies.specs.declared.reply.Reply.TheVariants.{Done}
