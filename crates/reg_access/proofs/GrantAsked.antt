@@ -1,19 +1,9 @@
 -- What the text on the tokens that may act tells, once it was asked.
-use Rattle.std.proofs.Common.{◌≡◌, ℕ, List, [], ◌∷◌, map, Ok, Err, Result}
+use Rattle.reg_access.proofs.Words.{◌≡◌, ℕ, List, [], ◌∷◌, map, Ok, Err, Result, Shown, Text, Ghosts, selected, columns_with_account}
+use Rattle.reg_access.proofs.Words.{TokenRow, StoreFault, Work, Heard, IsAtWork, IsCall, Unmoved, rows_seen, seen, Asks}
+use Rattle.reg_access.proofs.Words.{FIND_CANDIDATES_TEXT, AreCandidates}
 use Rattle.std.specs.Prelude.{Vec}
 use Rattle.std.specs.declared.alloc.Global.{Global}
-use Rattle.sqlite.specs.State.{Shown}
-use Rattle.sqlite.specs.declared.types.Value.TheVariants.{Text}
-use Rattle.sqlite_trees.specs.declared.store.Store.{Ghosts}
-use Rattle.reg_tables_schema.proofs.Reading.{selected}
-use Rattle.reg_tables_sql.specs.Tokens.{columns_with_account}
-use Rattle.reg_tables_sql.specs.declared.tokens.TokenRow.{TokenRow}
-use Rattle.reg_tables.specs.declared.work.StoreFault.{StoreFault}
-use Rattle.reg_tables.specs.declared.work.Work.{Work}
-use Rattle.reg_tables.specs.Works.{Heard, IsAtWork, IsCall, Unmoved, rows_seen, seen}
-use Rattle.reg_tables.specs.Calling.{Asks}
-use Rattle.reg_access.specs.declared.granting.TheConstants.{FIND_CANDIDATES_TEXT}
-use Rattle.reg_access.specs.Grants.{AreCandidates}
 use Rattle.reg_access.proofs.Calls.{inside}
 use Rattle.reg_access.proofs.GrantRows.{candidates_are}
 use Rattle.reg_access.proofs.GrantText.{grant_is}

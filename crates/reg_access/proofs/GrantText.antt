@@ -1,18 +1,12 @@
 -- What the text on the tokens that may act on a name means.
-use Rattle.std.proofs.Common.{ℕ, pos, List, [], ◌∷◌, codes, refl}
-use Rattle.sqlite.specs.Collation.TheVariants.{Binary}
+use Rattle.reg_access.proofs.Words.{ℕ, pos, List, [], ◌∷◌, codes, refl, Binary, Join, Query, inner, left, end, Term, col, op2, Int, Compare}
+use Rattle.reg_access.proofs.Words.{Eq, Le, Lt, ours, IsSelection, FIND_CANDIDATES_TEXT}
 use Rattle.sqlite.specs.Listing.{understood}
-use Rattle.sqlite.specs.Query.{Join, Query, inner, left, counted, end}
-use Rattle.sqlite.specs.Term.{Term, col, lit, op2}
-use Rattle.sqlite.specs.declared.types.Value.TheVariants.{Int}
-use Rattle.sqlite_sql.specs.declared.ops.BinaryOp.TheVariants.{Compare}
-use Rattle.sqlite_sql.specs.declared.ops.CompareOp.TheVariants.{Eq, Le, Lt}
+use Rattle.sqlite.specs.Query.{counted}
+use Rattle.sqlite.specs.Term.{lit}
 use Rattle.sqlite_tied.specs.Compute.{everything}
 use Rattle.sqlite_value.specs.Keys.{ascending}
-use Rattle.reg_tables_schema.specs.Schema.{ours}
-use Rattle.reg_tables_schema.proofs.Reading.{IsSelection}
 use Rattle.reg_tables_schema.proofs.Sorted.{in_order}
-use Rattle.reg_access.specs.declared.granting.TheConstants.{FIND_CANDIDATES_TEXT}
 
 abbrev pub eq : Term → Term → Term
 eq a b = op2 (Compare Eq Binary) a b

@@ -24,3 +24,4 @@ mod TokenLaw
 pub mod VersionIds
 mod VersionLaw
 mod VersionTexts
+mod Words

@@ -1,21 +1,15 @@
 -- What was asked of a name makes up the readers of a restricted crate.
-use Rattle.std.proofs.Common.{◌≡◌, ℕ, true, false, cond, List, [], map, Option, Some, None, refl, sym, ap, ◌∙◌}
-use Rattle.std.specs.Prelude.{string_bytes}
+use Rattle.reg_access.proofs.Words.{◌≡◌, ℕ, true, false, cond, List, [], map, Option, Some, None, refl, sym, ap, ◌∙◌, string_bytes}
+use Rattle.reg_access.proofs.Words.{enumerate_from, filter, Trees, canon, exists, Account, not_true, true_not_false, maps_twice, Crate}
+use Rattle.reg_access.proofs.Words.{FindsCrate, entry_of_account, reader_of}
 use Rattle.std.specs.FinSet as finset
-use Rattle.std.specs.List.{enumerate_from, filter}
-use Rattle.sqlite.specs.Tree.{Trees}
-use Rattle.reg_names.specs.Names.{canon}
-use Rattle.reg_model.specs.Crates.{exists, is_restricted, readers as readers_in}
+use Rattle.reg_model.specs.Crates.{is_restricted, readers as readers_in}
 use Rattle.reg_model.specs.Grants.{who_reads}
-use Rattle.reg_model.specs.Registry.{Account, Text as Words}
-use Rattle.reg_model.proofs.Lists.{not_true, true_not_false}
-use Rattle.reg_tables_schema.proofs.Queries.{maps_twice}
+use Rattle.reg_model.specs.Registry.{Text as Words}
 use Rattle.reg_tables_sql.specs.declared.accounts.Account.{Account as Stored}
-use Rattle.reg_tables_sql.specs.declared.crates.Crate.{Crate}
-use Rattle.reg_tables_meaning.specs.Calls.{FindsCrate, Tells}
+use Rattle.reg_tables_meaning.specs.Calls.{Tells}
 use Rattle.reg_tables_meaning.specs.Changes.{told_of as told_where}
-use Rattle.reg_tables_meaning.specs.Entries.{entry_of_account}
-use Rattle.reg_access.specs.Grants.{AreReaders, AreReadersOf, reader_of}
+use Rattle.reg_access.specs.Grants.{AreReaders, AreReadersOf}
 use Rattle.reg_access.proofs.GrantLaw.{first_canon, there_is}
 
 accounts_found : (db : Trees) (n : Words) (found : Option Crate) (list : List Stored) → FindsCrate (canon n) db found → AreReadersOf found db list → Tells (λ ids s. map entry_of_account list ≡ who_reads s n) db

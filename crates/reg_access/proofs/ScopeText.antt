@@ -1,24 +1,11 @@
 -- What the text on the scopes of a token means.
-use Rattle.std.proofs.Common.{◌≡◌, ℕ, List, [], ◌∷◌, codes, map, Bool, true, false, ◌&&◌, refl, ap, subst}
-use Rattle.std.specs.List.Sorted.{IsPermutation}
-use Rattle.sqlite.specs.Collation.TheVariants.{Binary}
+use Rattle.reg_access.proofs.Words.{◌≡◌, ℕ, List, [], ◌∷◌, codes, map, Bool, true, false, ◌&&◌, refl, ap, subst, IsPermutation, Binary, Row}
+use Rattle.reg_access.proofs.Words.{column, overlay, Query, IsSureAnswer, inner, end, matches, Term, col, eval_all, op2, Trees, Value, Text}
+use Rattle.reg_access.proofs.Words.{equal, Compare, Eq, Le, Lt, ours, plain, answers, and_true, IsSelection, is_at_most, is_below}
+use Rattle.reg_access.proofs.Words.{is_scope_over, scopes_over}
 use Rattle.sqlite.specs.Listing.{understood}
-use Rattle.sqlite.specs.Order.{Row, column}
-use Rattle.sqlite.specs.Program.{overlay}
-use Rattle.sqlite.specs.Query.{Query, IsSureAnswer, inner, end, matches}
-use Rattle.sqlite.specs.Term.{Term, col, eval_all, op2}
-use Rattle.sqlite.specs.Tree.{Trees}
-use Rattle.sqlite.specs.declared.types.Value.{Value}
-use Rattle.sqlite.specs.declared.types.Value.TheVariants.{Text}
-use Rattle.sqlite_schema.specs.Rules.{equal}
-use Rattle.sqlite_sql.specs.declared.ops.BinaryOp.TheVariants.{Compare}
-use Rattle.sqlite_sql.specs.declared.ops.CompareOp.TheVariants.{Eq, Le, Lt}
 use Rattle.sqlite_tied.specs.Compute.{everything}
-use Rattle.reg_tables_schema.specs.Schema.{ours}
-use Rattle.reg_tables_schema.proofs.Queries.{plain, answers, and_true}
-use Rattle.reg_tables_schema.proofs.Reading.{IsSelection}
 use Rattle.reg_access.specs.declared.texts.TheConstants.{IS_COVERED_TEXT}
-use Rattle.reg_access.specs.JoinRows.{is_at_most, is_below, is_scope_over, scopes_over}
 use Rattle.reg_access.proofs.Joins.{joined_where}
 
 abbrev scopes_filter : List Term

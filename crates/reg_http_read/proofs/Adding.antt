@@ -1,11 +1,8 @@
 -- Several reads are one, and turns add up.
-use Rattle.std.proofs.Common.{◌≡◌, ◌++◌, ℕ, [], refl, sym, ap, ◌∙◌, subst, arith, append_assoc, append-nil, Option, Result, Ok, Err}
-use Rattle.std.proofs.KnownBytes.{Consumes-nil, Consumes-trans}
-use Rattle.reg_model.specs.Registry.{Text}
-use Rattle.reg_http_read.specs.Taking.{Reads}
-use Rattle.reg_http_read.specs.Turns.{Spends, SpendsFor, SpendsSome, SpendsTurns, Tally}
-use Rattle.reg_http_read.specs.declared.fault.StreamFault.{StreamFault}
-use Rattle.reg_http_read.specs.declared.fault.StreamFault.TheVariants.{Memory, ReadFault, StoreFault, TooManyTurns, WriteFault}
+use Rattle.reg_http_read.proofs.Words.{◌≡◌, ◌++◌, ℕ, [], refl, sym, ap, ◌∙◌, subst, arith, append_assoc, append-nil, Option, Result, Ok}
+use Rattle.reg_http_read.proofs.Words.{Err, Consumes-nil, Consumes-trans, Text, Reads, SpendsFor, SpendsSome, StreamFault, Memory}
+use Rattle.reg_http_read.proofs.Words.{ReadFault, StoreFault, TooManyTurns, WriteFault}
+use Rattle.reg_http_read.specs.Turns.{Spends, SpendsTurns, Tally}
 
 pub reads_nothing : (r : Option Text) (was now : Text) (holds : Text → Type 0) → holds was → Reads r r was now holds
 reads_nothing r was now holds h = ([], Consumes-nil r, subst holds (sym (append-nil was)) h)

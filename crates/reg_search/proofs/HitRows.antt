@@ -1,11 +1,10 @@
 -- What is found among rows, from one row to the next.
-use Rattle.std.proofs.Common.{◌≡◌, ◌==◌, ℕ, zero, suc, ◌+◌, ◌<◌, ◌≤◌, Bool, true, false, ◌&&◌, not, cond, List, [], ◌∷◌, ◌++◌, map, length, take, refl, sym, ap, ◌∙◌, arith}
-use Rattle.std.specs.List.{filter, list_any}
-use Rattle.std.proofs.lemmas.List.{length-map, map-append, length-append, append-nil}
-use Rattle.sqlite.specs.Order.{Row}
+use Rattle.reg_search.proofs.Words.{◌≡◌, ◌==◌, ℕ, zero, suc, ◌+◌, ◌<◌, ◌≤◌, Bool, true, false, ◌&&◌, not, cond, List, [], ◌∷◌, ◌++◌, map}
+use Rattle.reg_search.proofs.Words.{length, take, refl, sym, ap, ◌∙◌, arith, filter, list_any, length-map, map-append, Row, AreHits, id_of}
+use Rattle.reg_search.proofs.Words.{is_hit, Hits}
+use Rattle.std.proofs.lemmas.List.{length-append, append-nil}
 use Rattle.reg_model.specs.Registry.{Text as Words}
-use Rattle.reg_search.specs.Rows.{AreHits, id_of, is_hit, is_match}
-use Rattle.reg_search.specs.declared.numbered.Hits.{Hits}
+use Rattle.reg_search.specs.Rows.{is_match}
 
 -- a row behind others passes a test or not
 last_passes : {X : Type 0} (p : X → Bool) (xs : List X) (x : X) → filter p (xs ++ x ∷ []) ≡ filter p xs ++ cond (p x) (x ∷ []) []

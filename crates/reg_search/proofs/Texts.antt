@@ -1,21 +1,17 @@
 -- What the texts of a search are queries of.
-use Rattle.std.proofs.Common.{ℕ, List, [], ◌∷◌, codes, refl}
-use Rattle.sqlite.specs.Collation.TheVariants.{Binary}
+use Rattle.reg_search.proofs.Words.{ℕ, List, [], ◌∷◌, refl, Binary, Query, inner, left, counted, end, Instr, ours, IsSelection, HIDDEN_TEXT}
+use Rattle.reg_search.proofs.Words.{HIT_TEXT, WALK_TEXT}
+use Rattle.std.proofs.Common.{codes}
 use Rattle.sqlite.specs.Listing.{understood}
-use Rattle.sqlite.specs.Query.{Join, Query, inner, left, counted, end}
+use Rattle.sqlite.specs.Query.{Join}
 use Rattle.sqlite.specs.Term.{Term, col, op1, op2}
-use Rattle.sqlite_sql.specs.declared.ops.BinaryOp.TheVariants.{Compare, Instr}
+use Rattle.sqlite_sql.specs.declared.ops.BinaryOp.TheVariants.{Compare}
 use Rattle.sqlite_sql.specs.declared.ops.UnaryOp.TheVariants.{Not}
 use Rattle.sqlite_sql.specs.declared.ops.CompareOp.TheVariants.{Eq}
 use Rattle.sqlite_tied.specs.Compute.{everything}
 use Rattle.sqlite_value.specs.Keys.{ascending}
-use Rattle.reg_tables_schema.specs.Schema.{ours}
 use Rattle.reg_tables_schema.proofs.Queries.{plain}
-use Rattle.reg_tables_schema.proofs.Reading.{IsSelection}
 use Rattle.reg_tables_schema.proofs.Sorted.{in_order}
-use Rattle.reg_search.specs.declared.hidden.TheConstants.{HIDDEN_TEXT}
-use Rattle.reg_search.specs.declared.page.TheConstants.{HIT_TEXT}
-use Rattle.reg_search.specs.declared.searching.TheConstants.{WALK_TEXT}
 
 abbrev pub walk_query : Query
 walk_query = in_order (inner 7 end) [] (col 1 2 ∷ col 1 0 ∷ []) ((col 1 2, ascending Binary) ∷ [])

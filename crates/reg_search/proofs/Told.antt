@@ -1,39 +1,21 @@
 -- What is read of our tables, of the registry that the rows stand for.
-use Rattle.std.proofs.Common.{◌≡◌, ℕ, pos, List, [], ◌∷◌, ◌++◌, map, length, take, get_or, ◌+◌, ◌<◌, Err, IfOk, Ok, Result, arith, refl, sym, ap, subst, ◌∙◌}
+use Rattle.reg_search.proofs.Words.{◌≡◌, ℕ, pos, List, [], ◌∷◌, ◌++◌, map, length, take, get_or, ◌+◌, ◌<◌, Err, Ok, Result, arith, refl}
+use Rattle.reg_search.proofs.Words.{sym, ap, subst, ◌∙◌, AllByRecursion, IsPermutation, Held, state, Row, overlay, IsSureAnswer, Query}
+use Rattle.reg_search.proofs.Words.{HasCleanDisk, Blob, Int, Ghosts, canon, Registry, hit, Trees, number_columns, ours, rows_in, Second}
+use Rattle.reg_search.proofs.Words.{maps_twice, IsSelection, Ids, StoredCrate, IsRead, HIDDEN_TEXT, HIT_TEXT, WALK_TEXT, AreHits, AreIdsOf}
+use Rattle.reg_search.proofs.Words.{FindsIds, ShowsCrate, ShowsCrates, columns_of_hit, hit_of, Hit, Hits}
+use Rattle.std.proofs.Common.{IfOk}
 use Rattle.std.specs.Prelude.{option_to_list}
 use Rattle.std.specs.Result.{result_ok}
-use Rattle.std.specs.List.{AllByRecursion}
-use Rattle.std.specs.List.Sorted.{IsPermutation}
 use Rattle.std.proofs.lemmas.List.{take_more}
-use Rattle.sqlite.specs.Held.{Held, state}
-use Rattle.sqlite.specs.Order.{Row}
-use Rattle.sqlite.specs.Program.{overlay}
-use Rattle.sqlite.specs.Query.{IsSureAnswer, Query}
-use Rattle.sqlite.specs.State.{HasCleanDisk}
-use Rattle.sqlite.specs.declared.types.Value.TheVariants.{Blob, Int}
-use Rattle.sqlite_trees.specs.declared.store.Store.{Ghosts}
-use Rattle.reg_names.specs.Names.{canon}
 use Rattle.reg_model.specs.Lists.{IsIn}
-use Rattle.reg_model.specs.Registry.{Registry, Text as Words}
-use Rattle.reg_model.specs.Search.{found, hit}
-use Rattle.sqlite.specs.Tree.{Trees}
-use Rattle.reg_tables_schema.specs.Rows.{number_columns}
-use Rattle.reg_tables_schema.specs.Schema.{ours}
+use Rattle.reg_model.specs.Registry.{Text as Words}
+use Rattle.reg_model.specs.Search.{found}
 use Rattle.reg_tables_schema.specs.States.{IsOurs}
-use Rattle.reg_tables_schema.specs.Statements.{rows_in}
-use Rattle.reg_tables_schema.specs.declared.edition.Edition.TheVariants.{Second}
-use Rattle.reg_tables_schema.proofs.Queries.{maps_twice}
-use Rattle.reg_tables_schema.proofs.Reading.{IsSelection, selected_by}
-use Rattle.reg_tables_meaning.specs.Stands.{Ids, StoredCrate}
-use Rattle.reg_tables_meaning.specs.Walks.{IsRead}
-use Rattle.reg_search.specs.declared.hidden.TheConstants.{HIDDEN_TEXT}
-use Rattle.reg_search.specs.declared.page.TheConstants.{HIT_TEXT}
-use Rattle.reg_search.specs.declared.searching.TheConstants.{WALK_TEXT}
+use Rattle.reg_tables_schema.proofs.Reading.{selected_by}
 use Rattle.reg_search.specs.Reads.{AnswersOf}
-use Rattle.reg_search.specs.Rows.{AreHits, AreIdsOf, FindsIds, FindsNeedle, HidesFrom, ShowsCrate, ShowsCrates, columns_of_hit, hit_of}
+use Rattle.reg_search.specs.Rows.{FindsNeedle, HidesFrom}
 use Rattle.reg_search.specs.declared.hit.Found.{Found}
-use Rattle.reg_search.specs.declared.hit.Hit.{Hit}
-use Rattle.reg_search.specs.declared.numbered.Hits.{Hits}
 use Rattle.reg_search.proofs.HiddenLaw.{hides}
 use Rattle.reg_search.proofs.HitLaw.{its_hit}
 use Rattle.reg_search.proofs.Texts.{hidden_is, hit_is, walk_is}

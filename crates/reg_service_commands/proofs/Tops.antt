@@ -1,11 +1,7 @@
 -- The highest of the versions that were read.
-use Rattle.std.proofs.Common.{◌≡◌, ℕ, List, [], map, sym, ap, subst, ◌∙◌}
-use Rattle.std.specs.Prelude.{slice_get, unwrap_or, string_bytes}
-use Rattle.std.specs.Option.{option_and_then, option_map}
-use Rattle.reg_tables_sql.specs.declared.versions.Version.{Version}
-use Rattle.reg_versions.specs.Precedence.{IsTop, Marked}
+use Rattle.reg_service_commands.proofs.Words.{◌≡◌, ℕ, List, [], map, sym, ap, subst, ◌∙◌, slice_get, unwrap_or, string_bytes}
+use Rattle.reg_service_commands.proofs.Words.{option_and_then, option_map, Version, IsTop, Marked, highest_among, read_version}
 use Rattle.reg_versions.proofs.TopPlace.{top_is_top}
-use Rattle.reg_service_commands.specs.ReportedCrates.{highest_among, read_version}
 
 abbrev text_of : Version → List ℕ
 text_of v = string_bytes v.vers

@@ -1,17 +1,16 @@
 -- A transaction in which tables of schema 1 become tables of schema 2.
-use Rattle.std.proofs.Common.{◌≡◌, ◌≢◌, ℕ, List, [], ◌∷◌, map, true, false, Ok, Err, Result, OnOk, refl, sym, ap, subst, ◌∙◌, arith}
+use Rattle.reg_tables_meaning.proofs.Words.{◌≡◌, ◌≢◌, ℕ, List, [], ◌∷◌, map, true, false, Ok, Err, Result, OnOk, refl, sym, ap, subst, ◌∙◌}
+use Rattle.reg_tables_meaning.proofs.Words.{arith, State, HasCleanDisk, Survives, survives_then, Table, Edition, Second, our_tables}
+use Rattle.reg_tables_meaning.proofs.Words.{schema_of, IsOurs, IsReady, begun_keeps, IsUpgrade}
 use Rattle.reg_tables_meaning.proofs.Common.{AllByRecursion, Database, drop, Trees}
-use Rattle.sqlite.specs.State.{State, HasCleanDisk, KeepsCommit, Shows, Survives}
-use Rattle.sqlite.proofs.StateLemmas.{survives_then}
+use Rattle.sqlite.specs.State.{KeepsCommit, Shows}
 use Rattle.reg_tables_schema.specs.States.{IsUndone}
-use Rattle.sqlite.specs.Table.{Table}
-use Rattle.reg_tables_schema.specs.declared.edition.Edition.{Edition}
-use Rattle.reg_tables_schema.specs.declared.edition.Edition.TheVariants.{First, Second}
-use Rattle.reg_tables_schema.specs.Schema.{old_tables, our_tables, schema_of}
-use Rattle.reg_tables_schema.specs.States.{Extends, GoesBack, IsOurs, IsReady}
-use Rattle.reg_tables_schema.proofs.MakeLemmas.{all_taken, begun_keeps, kept_keeps}
+use Rattle.reg_tables_schema.specs.declared.edition.Edition.TheVariants.{First}
+use Rattle.reg_tables_schema.specs.Schema.{old_tables}
+use Rattle.reg_tables_schema.specs.States.{Extends, GoesBack}
+use Rattle.reg_tables_schema.proofs.MakeLemmas.{all_taken, kept_keeps}
 use Rattle.reg_tables_sql.specs.Abouts.{BecomesSecond}
-use Rattle.reg_tables_meaning.specs.Upgrades.{BeginsSecond, IsUpgrade, IsUpgraded, Upgrades}
+use Rattle.reg_tables_meaning.specs.Upgrades.{BeginsSecond, IsUpgraded, Upgrades}
 
 kept_through : (tables : List Table) (a b c : Trees) → AllByRecursion (λ t. b t.tree ≡ a t.tree) tables → AllByRecursion (λ t. t.tree ≢ 0 → c t.tree ≡ b t.tree) tables
     → AllByRecursion (λ t. t.tree ≢ 0 → c t.tree ≡ a t.tree) tables

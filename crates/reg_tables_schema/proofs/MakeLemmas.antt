@@ -1,27 +1,17 @@
 -- The row of `about`, and a registry with nothing in it.
-use Rattle.std.proofs.Common.{◌≡◌, ◌≢◌, inl, inr, ℕ, zero, suc, pos, List, [], ◌∷◌, map, true, false, Ok, Err, Result, OnOk, OnErr, refl, sym, ap, subst, ◌∙◌}
-use Rattle.std.specs.Prelude.{drop, take}
-use Rattle.std.specs.List.{AllByRecursion}
-use Rattle.sqlite.specs.declared.types.Value.TheVariants.{Null, Int, Text}
-use Rattle.sqlite.specs.Order.{Row}
-use Rattle.sqlite.specs.Term.{Term, lit, col}
-use Rattle.sqlite.specs.Table.{Table}
-use Rattle.sqlite.specs.Tree.{Trees}
-use Rattle.sqlite.specs.Effect.{Database}
-use Rattle.sqlite.specs.Source.TheVariants.{Values}
-use Rattle.sqlite.specs.Command.TheVariants.{Insert}
+use Rattle.reg_tables_schema.proofs.Words.{◌≡◌, inl, inr, ℕ, zero, suc, pos, List, [], ◌∷◌, map, true, false, Ok, Err, Result, OnOk, OnErr}
+use Rattle.reg_tables_schema.proofs.Words.{refl, sym, ap, subst, ◌∙◌, drop, AllByRecursion, Null, Int, Text, Row, Term, lit, col, Table}
+use Rattle.reg_tables_schema.proofs.Words.{Trees, Database, Values, Insert, State, HasCleanDisk, Shows, Survives, Executes, Error, IsPlain}
+use Rattle.reg_tables_schema.proofs.Words.{command_of, survives_then, next_rowid, put_row, ours, our_tables, old_schema, first_of_ours}
+use Rattle.reg_tables_schema.proofs.Words.{blank, about, restricted, readers, IsInside, IsReady, Grows, Makes, Refuses, IsUndone, HasMade}
+use Rattle.reg_tables_schema.proofs.Words.{AddsColumns}
+use Rattle.std.proofs.Common.{◌≢◌}
+use Rattle.std.specs.Prelude.{take}
 use Rattle.sqlite.specs.Listing.{understood}
-use Rattle.sqlite.specs.State.{State, HasCleanDisk, Shows, KeepsCommit, Survives, CommitsBy, Executes}
-use Rattle.sqlite.specs.declared.error.Error.{Error}
-use Rattle.sqlite.proofs.Callers.{IsPlain, command_of}
-use Rattle.sqlite.proofs.StateLemmas.{survives_then}
-use Rattle.sqlite_rules.specs.Edit.{next_rowid}
-use Rattle.sqlite_trees.specs.Tree.{put_row}
+use Rattle.sqlite.specs.State.{KeepsCommit, CommitsBy}
 use Rattle.sqlite_tied.specs.Compute.{everything}
 use Rattle.reg_tables_schema.specs.declared.make.TheConstants.{INSERT_ABOUT_TEXT}
-use Rattle.reg_tables_schema.specs.Schema.{ours, our_tables, old_schema, first_of_ours, blank, about, restricted, readers}
-use Rattle.reg_tables_schema.specs.States.{IsInside, IsReady, Grows, Extends, Makes, Refuses, IsUndone, IsAtRest, HasMade, IsMade, about_columns}
-use Rattle.reg_tables_schema.specs.Changes.{AddsColumns}
+use Rattle.reg_tables_schema.specs.States.{Extends, IsAtRest, IsMade, about_columns}
 use Rattle.reg_tables_schema.proofs.Creates.{and_last, still_empty}
 use Rattle.reg_tables_schema.specs.declared.edition.Edition.TheVariants.{Second}
 use Rattle.reg_tables_schema.proofs.Edits.{step_of}

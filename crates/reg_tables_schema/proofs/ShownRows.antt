@@ -1,12 +1,10 @@
 -- From the rows that a statement answered to the rows of the table.
-use Rattle.std.proofs.Common.{◌≡◌, List, [], ◌∷◌, map, length, Bool, true, false, cond, not, ◌||◌, ◌==◌, Option, Some, None, refl, sym, ap, subst, ◌∙◌, arith}
-use Rattle.std.specs.List.{filter, list_any}
-use Rattle.std.specs.List.Sorted.{IsPermutation}
+use Rattle.reg_tables_schema.proofs.Words.{◌≡◌, List, [], ◌∷◌, map, length, Bool, true, false, cond, not, ◌||◌, Option, Some, None, refl}
+use Rattle.reg_tables_schema.proofs.Words.{sym, ap, subst, ◌∙◌, arith, filter, list_any, IsPermutation, length-map, length_permutation, Row}
+use Rattle.reg_tables_schema.proofs.Words.{one_permutation}
+use Rattle.std.proofs.Common.{◌==◌}
 use Rattle.std.proofs.lemmas.Bool.Decides.{nat_tests}
-use Rattle.std.proofs.lemmas.List.{length-map}
-use Rattle.std.proofs.lemmas.List.Sorted.{length_permutation, IsPermutation-sym}
-use Rattle.sqlite.specs.Order.{Row}
-use Rattle.sqlite.proofs.Callers.{one_permutation}
+use Rattle.std.proofs.lemmas.List.Sorted.{IsPermutation-sym}
 use Rattle.reg_tables_schema.specs.Shown.{shown_of}
 
 empty : {X : Type 0} (xs : List X) → length xs ≡ 0 → xs ≡ []

@@ -1,16 +1,8 @@
 -- Which rows of one table match: all, or those that have the value of a parameter.
-use Rattle.std.proofs.Common.{◌≡◌, ℕ, pos, List, [], ◌∷◌, map, Bool, true, ◌&&◌, refl, ap, ◌∙◌}
-use Rattle.std.specs.List.{filter}
-use Rattle.sqlite.specs.declared.types.Value.{Value}
-use Rattle.sqlite.specs.declared.types.Value.TheVariants.{Int, Text}
-use Rattle.sqlite.specs.Order.{Row, column}
-use Rattle.sqlite.specs.Term.{Term, Env, col, op2}
-use Rattle.sqlite.specs.Ops.{binary, is_true}
-use Rattle.sqlite.specs.Tree.{Trees}
-use Rattle.sqlite.specs.Query.{inner, end, matches}
-use Rattle.sqlite_sql.specs.declared.ops.BinaryOp.TheVariants.{Compare}
-use Rattle.sqlite_sql.specs.declared.ops.CompareOp.TheVariants.{Eq}
-use Rattle.sqlite.specs.Collation.TheVariants.{Binary}
+use Rattle.reg_tables_schema.proofs.Words.{◌≡◌, ℕ, pos, List, [], ◌∷◌, map, Bool, true, ◌&&◌, refl, ap, ◌∙◌, filter, Value, Int, Text, Row}
+use Rattle.reg_tables_schema.proofs.Words.{column, Term, Env, col, is_true, Trees, inner, end, matches, Compare, Eq, Binary}
+use Rattle.sqlite.specs.Term.{op2}
+use Rattle.sqlite.specs.Ops.{binary}
 use Rattle.reg_tables_schema.proofs.Queries.{same_filter, and_true, equals_int, equals_text}
 use Rattle.reg_tables_schema.proofs.Selections.{matched}
 use Rattle.reg_tables_schema.proofs.Sorted.{singles}

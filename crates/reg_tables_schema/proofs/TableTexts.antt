@@ -1,17 +1,13 @@
 -- What each text makes is computed.
-use Rattle.std.proofs.Common.{◌≡◌, ℕ, List, false, Ok, refl}
-use Rattle.sqlite.specs.Table.{Table}
-use Rattle.sqlite.specs.Schema.{Schema}
-use Rattle.sqlite.specs.Command.TheVariants.{CreateTable}
+use Rattle.reg_tables_schema.proofs.Words.{◌≡◌, ℕ, List, false, Ok, refl, Table, Schema, CreateTable, created, next_tree, lacks_sequence}
+use Rattle.reg_tables_schema.proofs.Words.{IsPlain, command_of, statement_of, ABOUT, RESERVED, blank, first_of_ours, ours, old_schema}
+use Rattle.reg_tables_schema.proofs.Words.{about, accounts, tokens, scopes, crates, owners, versions, reserved, restricted, readers, ABOUT}
+use Rattle.reg_tables_schema.proofs.Words.{RESERVED}
 use Rattle.sqlite.specs.Compile.{table_defined_by}
-use Rattle.sqlite.specs.Change.{created, next_tree}
-use Rattle.sqlite.specs.Does.{lacks_sequence}
 use Rattle.sqlite.specs.Listing.{understood}
-use Rattle.sqlite.proofs.Callers.{IsPlain, command_of, statement_of}
 use Rattle.sqlite_tied.specs.Compute.{everything}
-use Rattle.reg_tables_schema.specs.declared.texts.TheConstants.{ABOUT, RESERVED}
-use Rattle.reg_tables_schema.specs.Schema.{blank, first_of_ours, ours, old_schema, about, accounts, tokens, scopes, crates, owners, versions, archives, reserved, summaries, restricted, readers}
-use Rattle.reg_tables_schema.specs.declared.texts.TheConstants.{ABOUT, ACCOUNTS, TOKENS, SCOPES, CRATES, OWNERS, VERSIONS, ARCHIVES, RESERVED, SUMMARIES, RESTRICTED, READERS}
+use Rattle.reg_tables_schema.specs.Schema.{archives, summaries}
+use Rattle.reg_tables_schema.specs.declared.texts.TheConstants.{ACCOUNTS, TOKENS, SCOPES, CRATES, OWNERS, VERSIONS, ARCHIVES, SUMMARIES, RESTRICTED, READERS}
 
 -- the text makes the table, and leads from one schema to the next
 pub record IsStep (text : List ℕ) (table : Table) (before after : Schema) : Type 0 where

@@ -1,28 +1,19 @@
 -- What a write in a transaction leaves, where it is refused and over a stop; and what BEGIN, COMMIT and ROLLBACK do.
-use Rattle.std.proofs.Common.{◌≡◌, ◌⊎◌, inl, inr, ℕ, List, [], Bool, true, false, Ok, Err, Result, OnOk, OnErr, refl, sym, ap, subst, ◌∙◌}
+use Rattle.reg_tables_schema.proofs.Words.{◌≡◌, ◌⊎◌, inl, inr, ℕ, List, [], Bool, true, false, Ok, Err, Result, OnOk, OnErr, refl, sym, ap}
+use Rattle.reg_tables_schema.proofs.Words.{subst, ◌∙◌, Row, Trees, Schema, Error, timed, State, HasCleanDisk, Survives, Shows, Executes}
+use Rattle.reg_tables_schema.proofs.Words.{IsUnchanged, IsTrue, None, length, ◌≤◌, arith, subst₂, Compiled, CompileError, survives_weaker}
+use Rattle.reg_tables_schema.proofs.Words.{IsPlain, command_of, runs_as, Refuses, IsUndone, writes_rows}
 use Rattle.std.proofs.lemmas.Bool.{cases_Bool}
-use Rattle.sqlite.specs.Order.{Row}
-use Rattle.sqlite.specs.Tree.{Trees}
-use Rattle.sqlite.specs.Schema.{Schema}
 use Rattle.sqlite.specs.Command.{Command}
 use Rattle.sqlite.specs.Command.TheVariants.{Begin, Commit, Rollback, Release, RollbackTo}
-use Rattle.sqlite.specs.declared.error.Error.{Error}
-use Rattle.sqlite.specs.Clock.{timed}
 use Rattle.sqlite.specs.Listing.{understood}
-use Rattle.sqlite.specs.State.{State, is_pragma, HasCleanDisk, Survives, Shows, Executes, ExecutesIn, CommitsBy, MayCommit, RunsCommand, shows_rows, text_of, IsNoStatement, IsNotRun, IsUnchanged, IsRolledBack}
+use Rattle.sqlite.specs.State.{is_pragma, ExecutesIn, CommitsBy, MayCommit, RunsCommand, shows_rows, text_of, IsNoStatement, IsNotRun, IsRolledBack}
 use Rattle.sqlite.specs.Calls.{IsWrite}
-use Rattle.std.specs.Prelude.{IsTrue, IsSome, ◌||◌, is_some, Option}
+use Rattle.std.specs.Prelude.{IsSome, ◌||◌, is_some, Option}
 use Rattle.sqlite_schema.specs.declared.command.Returning.{Returning}
 use Rattle.sqlite.specs.Effect.{is_query}
-use Rattle.std.proofs.Common.{None, length, ◌≤◌, arith, subst₂}
-use Rattle.sqlite_resolve.specs.declared.compiled.Compiled.{Compiled}
-use Rattle.sqlite_resolve.specs.declared.error.CompileError.{CompileError}
-use Rattle.sqlite.proofs.StateLemmas.{survives_weaker}
-use Rattle.sqlite.proofs.Callers.{IsPlain, command_of, runs_as}
 use Rattle.sqlite_tied.specs.Compute.{everything}
 use Rattle.reg_tables_schema.specs.declared.transaction.TheConstants.{BEGIN, COMMIT, ROLLBACK}
-use Rattle.reg_tables_schema.specs.States.{Refuses, IsUndone}
-use Rattle.reg_tables_schema.specs.Statements.{writes_rows}
 
 not_run : (sql : List ℕ) (params : Row) (old new : State) (e : Error) → IsNotRun old new sql params e → Refuses old new
 unfolding IsNotRun

@@ -1,27 +1,17 @@
 -- What the queries on the one row of `about` answer.
-use Rattle.std.proofs.Common.{◌≡◌, ℕ, ℤ, List, [], ◌∷◌, codes, map, Option, Some, None, refl, subst}
-use Rattle.std.specs.List.Sorted.{IsPermutation}
-use Rattle.std.proofs.lemmas.List.Sorted.{IsPermutation-sym}
-use Rattle.sqlite.specs.declared.types.Value.TheVariants.{Int}
-use Rattle.sqlite.specs.Order.{Row}
-use Rattle.sqlite.specs.Term.{col}
-use Rattle.sqlite.specs.Query.{inner, end}
-use Rattle.sqlite.specs.Program.{overlay}
+use Rattle.reg_tables_sql.proofs.Words.{◌≡◌, ℕ, ℤ, List, [], ◌∷◌, codes, map, Option, Some, None, refl, subst, IsPermutation}
+use Rattle.reg_tables_sql.proofs.Words.{IsPermutation-sym, Int, Row, col, inner, end, overlay, State, one_permutation, First, Second, ours}
+use Rattle.reg_tables_sql.proofs.Words.{IsInside, about_columns, shows, IsSelection, selected, plain, IsAboutOf}
 use Rattle.sqlite.specs.Listing.{understood}
-use Rattle.sqlite.specs.State.{State, Shown}
-use Rattle.sqlite.proofs.Callers.{one_permutation}
+use Rattle.sqlite.specs.State.{Shown}
 use Rattle.sqlite_tied.specs.Compute.{everything}
 use Rattle.reg_tables_schema.specs.declared.edition.Edition.{Edition}
-use Rattle.reg_tables_schema.specs.declared.edition.Edition.TheVariants.{First, Second}
-use Rattle.reg_tables_schema.specs.Schema.{ours, old_schema, schema_of}
-use Rattle.reg_tables_schema.specs.States.{IsInside, IsInsideOf, about_columns}
-use Rattle.reg_tables_schema.specs.Tests.{shows}
-use Rattle.reg_tables_schema.proofs.Reading.{IsSelection, selected}
-use Rattle.reg_tables_schema.proofs.Queries.{plain}
+use Rattle.reg_tables_schema.specs.Schema.{old_schema, schema_of}
+use Rattle.reg_tables_schema.specs.States.{IsInsideOf}
 use Rattle.reg_tables_schema.proofs.WholeTables.{all_rows}
 use Rattle.reg_tables_sql.specs.declared.about.TheConstants.{READ_TEXT, THE_ROWID_TEXT}
 use Rattle.reg_tables_sql.specs.declared.about.About.{About}
-use Rattle.reg_tables_sql.specs.Abouts.{IsAbout, IsAboutOf}
+use Rattle.reg_tables_sql.specs.Abouts.{IsAbout}
 
 first_is : IsSelection old_schema READ_TEXT.now (plain (inner 0 end) [] (col 1 1 ∷ col 1 2 ∷ [])) (codes "schema" ∷ codes "base" ∷ [])
 unfolding understood everything

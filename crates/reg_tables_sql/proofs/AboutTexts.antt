@@ -1,31 +1,16 @@
 -- The statement that gives the one row of `about` another number.
-use Rattle.std.proofs.Common.{◌≡◌, ℕ, ℤ, pos, List, [], ◌∷◌, map, true, false, not, cond, Ok, refl, ap, subst, ◌∙◌}
+use Rattle.reg_tables_sql.proofs.Words.{◌≡◌, ℕ, ℤ, pos, List, [], ◌∷◌, map, true, false, not, cond, Ok, refl, ap, subst, ◌∙◌, filter, Int}
+use Rattle.reg_tables_sql.proofs.Words.{Row, Term, col, lit, State, Executes, Trees, edited, has_rowid, put_row, without_rowid, First}
+use Rattle.reg_tables_sql.proofs.Words.{Second, IsInside, about_columns, replacing, cast_int, equals_first, shows, Database, IsUnchanged}
+use Rattle.reg_tables_sql.proofs.Words.{Value, Bool, arith, rules}
 use Rattle.std.specs.Prelude.{drop}
-use Rattle.std.specs.List.{filter}
-use Rattle.sqlite.specs.declared.types.Value.TheVariants.{Int}
-use Rattle.sqlite.specs.Order.{Row}
-use Rattle.sqlite.specs.Term.{Term, col, lit}
 use Rattle.sqlite.specs.Listing.{understood}
-use Rattle.sqlite.specs.State.{State, Executes}
-use Rattle.sqlite.specs.Tree.{Trees}
-use Rattle.sqlite_rules.specs.Edit.{edited}
-use Rattle.sqlite_trees.specs.Tree.{has_rowid, put_row, without_rowid}
 use Rattle.sqlite_tied.specs.Compute.{everything}
-use Rattle.reg_tables_schema.specs.declared.edition.Edition.TheVariants.{First, Second}
 use Rattle.reg_tables_schema.specs.Schema.{about}
-use Rattle.reg_tables_schema.specs.States.{IsInside, about_columns}
-use Rattle.reg_tables_schema.proofs.Edits.{replacing}
-use Rattle.reg_tables_schema.proofs.Statements.{cast_int}
-use Rattle.reg_tables_schema.proofs.TableMatches.{equals_first}
 use Rattle.reg_tables_sql.specs.declared.about.TheConstants.{NUMBER_SECOND_TEXT}
 use Rattle.reg_tables_sql.specs.Abouts.{BecomesSecond, NumbersSecond}
-use Rattle.reg_tables_schema.specs.Tests.{shows}
 use Rattle.reg_tables_schema.specs.Changes.{KeepsOthers}
-use Rattle.sqlite.specs.Effect.{Database}
-use Rattle.sqlite.specs.State.{IsUnchanged}
-use Rattle.sqlite.specs.declared.types.Value.{Value}
 use Rattle.sqlite_value.proofs.OrderLemmas.{value_cmp-Int}
-use Rattle.std.proofs.Common.{Bool, arith, rules}
 use Rattle.reg_tables_sql.proofs.Updates.{IsUpdate, matches_rowid, rewrites_one, updates_only}
 
 -- the old rowid, and then the new row

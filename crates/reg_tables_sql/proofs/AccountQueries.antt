@@ -1,31 +1,13 @@
 -- What the queries on accounts answer.
-use Rattle.std.proofs.Common.{ℕ, List, [], ◌∷◌, codes, map, Option, refl}
-use Rattle.sqlite.specs.declared.types.Value.TheVariants.{Text}
-use Rattle.sqlite.specs.Collation.TheVariants.{Binary}
-use Rattle.sqlite_value.specs.Keys.{ascending}
-use Rattle.sqlite.specs.Term.{Term, col}
-use Rattle.sqlite.specs.Query.{inner, end}
-use Rattle.sqlite.specs.Program.{overlay}
+use Rattle.reg_tables_sql.proofs.Words.{ℕ, List, [], ◌∷◌, codes, map, Option, refl, Text, Binary, ascending, Term, col, inner, end, overlay}
+use Rattle.reg_tables_sql.proofs.Words.{State, ours, IsInside, IsSelection, selected, number_columns, shown_of, is_text, greatest}
+use Rattle.reg_tables_sql.proofs.Words.{greatest_of, plain, of_table, shown_exactly, in_order, equals_first, matches_text, all_in_order}
+use Rattle.reg_tables_sql.proofs.Words.{Account, account_columns, IsLastId}
 use Rattle.sqlite.specs.Listing.{understood}
-use Rattle.sqlite.specs.State.{State, Shown}
+use Rattle.sqlite.specs.State.{Shown}
 use Rattle.sqlite_tied.specs.Compute.{everything}
-use Rattle.reg_tables_schema.specs.Schema.{ours}
-use Rattle.reg_tables_schema.specs.States.{IsInside}
-use Rattle.reg_tables_schema.proofs.Reading.{IsSelection, selected}
-use Rattle.reg_tables_schema.specs.Rows.{number_columns}
-use Rattle.reg_tables_schema.specs.Shown.{shown_of}
-use Rattle.reg_tables_schema.specs.Tests.{is_text}
-use Rattle.reg_tables_schema.proofs.Greatest.{greatest, greatest_of}
-use Rattle.reg_tables_schema.proofs.Queries.{plain}
-use Rattle.reg_tables_schema.proofs.Selections.{of_table}
-use Rattle.reg_tables_schema.proofs.ShownRows.{shown_exactly}
-use Rattle.reg_tables_schema.proofs.Sorted.{in_order}
-use Rattle.reg_tables_schema.proofs.TableMatches.{equals_first, matches_text}
-use Rattle.reg_tables_schema.proofs.WholeTables.{all_in_order}
 use Rattle.reg_tables_sql.specs.declared.accounts.TheConstants.{ALL_TEXT, BY_LOGIN_TEXT, LAST_ID_TEXT}
-use Rattle.reg_tables_sql.specs.declared.accounts.Account.{Account}
-use Rattle.reg_tables_sql.specs.Accounts.{AreAccounts, IsAccountOfLogin, account_columns}
-use Rattle.reg_tables_sql.specs.Counts.{IsLastId}
+use Rattle.reg_tables_sql.specs.Accounts.{AreAccounts, IsAccountOfLogin}
 
 abbrev project : List Term
 project = col 1 0 ∷ col 1 2 ∷ col 1 3 ∷ col 1 4 ∷ []

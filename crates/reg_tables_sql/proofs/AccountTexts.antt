@@ -1,32 +1,15 @@
 -- What the statements on accounts do.
-use Rattle.std.proofs.Common.{◌≡◌, ℕ, pos, List, [], ◌∷◌, Bool, true, cond, Option, Some, None, Ok, Result, OnOk, refl, subst}
-use Rattle.std.specs.Option.{option_map}
-use Rattle.sqlite.specs.declared.types.Value.TheVariants.{Null, Int, Text}
-use Rattle.sqlite.specs.Order.{Row}
+use Rattle.reg_tables_sql.proofs.Words.{◌≡◌, ℕ, pos, List, [], ◌∷◌, Bool, true, cond, Option, Some, None, Ok, Result, OnOk, refl, subst}
+use Rattle.reg_tables_sql.proofs.Words.{option_map, Null, Int, Text, Row, Term, lit, col, cast, Trees, Values, Insert, State, Executes}
+use Rattle.reg_tables_sql.proofs.Words.{Error, IsPlain, command_of, edited, has_rowid, put_row, without_rowid, ours, mark, text_or_null}
+use Rattle.reg_tables_sql.proofs.Words.{IsInside, IsRowWrite, Adds, step_of, replacing, adds, cast_int, cast_null, equals_first}
 use Rattle.sqlite.specs.Values.{bound_value, or_null}
-use Rattle.sqlite.specs.Term.{Term, lit, col}
-use Rattle.sqlite.specs.Cast.{cast}
 use Rattle.sqlite.specs.Kind.TheVariants.{Text as TextKind}
-use Rattle.sqlite.specs.Tree.{Trees}
-use Rattle.sqlite.specs.Source.TheVariants.{Values}
-use Rattle.sqlite.specs.Command.TheVariants.{Insert}
 use Rattle.sqlite.specs.Listing.{understood}
-use Rattle.sqlite.specs.State.{State, Executes}
-use Rattle.sqlite.specs.declared.error.Error.{Error}
-use Rattle.sqlite.proofs.Callers.{IsPlain, command_of}
-use Rattle.sqlite_rules.specs.Edit.{edited}
-use Rattle.sqlite_trees.specs.Tree.{has_rowid, put_row, without_rowid}
 use Rattle.sqlite_tied.specs.Compute.{everything}
-use Rattle.reg_tables_schema.specs.Schema.{ours, accounts}
-use Rattle.reg_tables_schema.specs.Rows.{mark, text_or_null}
-use Rattle.reg_tables_schema.specs.States.{IsInside}
-use Rattle.reg_tables_schema.specs.Statements.{IsRowWrite}
-use Rattle.reg_tables_schema.specs.Changes.{Adds}
-use Rattle.reg_tables_schema.proofs.Edits.{step_of, replacing}
-use Rattle.reg_tables_schema.proofs.Statements.{adds, cast_int, cast_null}
+use Rattle.reg_tables_schema.specs.Schema.{accounts}
 use Rattle.reg_tables_sql.specs.declared.accounts.TheConstants.{ENABLE_TEXT, INSERT_TEXT}
 use Rattle.reg_tables_sql.specs.Accounts.{Enables, account_row}
-use Rattle.reg_tables_schema.proofs.TableMatches.{equals_first}
 use Rattle.reg_tables_sql.proofs.Updates.{IsUpdate, matches_key, updates_none, updates_one, updates_only}
 
 abbrev insert_terms : List Term

@@ -1,35 +1,13 @@
 -- What the queries on archives answer.
-use Rattle.std.proofs.Common.{◌≡◌, ℕ, pos, List, [], ◌∷◌, codes, map, Option, refl, sym, ap, subst, ◌∙◌}
-use Rattle.std.specs.List.{filter}
-use Rattle.sqlite.specs.declared.types.Value.TheVariants.{Int, Text}
-use Rattle.sqlite.specs.Collation.TheVariants.{Binary}
-use Rattle.sqlite.specs.Order.{Row}
-use Rattle.sqlite.specs.Term.{Term, col}
-use Rattle.sqlite.specs.Query.{inner, end}
-use Rattle.sqlite.specs.Program.{overlay}
+use Rattle.reg_tables_sql.proofs.Words.{◌≡◌, ℕ, pos, List, [], ◌∷◌, codes, map, Option, refl, sym, ap, subst, ◌∙◌, filter, Int, Text}
+use Rattle.reg_tables_sql.proofs.Words.{Binary, Row, Term, col, inner, end, overlay, State, ours, IsInside, IsSelection, selected, Bool}
+use Rattle.reg_tables_sql.proofs.Words.{true, cond, ◌&&◌, Global, flat_map, IsPermutation, eval_all, op2, Trees, Query, IsSureAnswer}
+use Rattle.reg_tables_sql.proofs.Words.{Compare, Eq, number_columns, shown_of, is_number, is_version, shows, plain, answers, joined}
+use Rattle.reg_tables_sql.proofs.Words.{same_filter, and_true, of_table, shown_exactly, equals_first, matches_number}
 use Rattle.sqlite.specs.Listing.{understood}
-use Rattle.sqlite.specs.State.{State, Shown}
+use Rattle.sqlite.specs.State.{Shown}
 use Rattle.sqlite_tied.specs.Compute.{everything}
-use Rattle.reg_tables_schema.specs.Schema.{ours}
-use Rattle.reg_tables_schema.specs.States.{IsInside}
-use Rattle.reg_tables_schema.proofs.Reading.{IsSelection, selected}
-use Rattle.std.proofs.Common.{Bool, true, cond, ◌&&◌}
 use Rattle.std.specs.Prelude.{Vec}
-use Rattle.std.specs.declared.alloc.Global.{Global}
-use Rattle.std.specs.List.{flat_map}
-use Rattle.std.specs.List.Sorted.{IsPermutation}
-use Rattle.sqlite.specs.Term.{eval_all, op2}
-use Rattle.sqlite.specs.Tree.{Trees}
-use Rattle.sqlite.specs.Query.{Query, IsSureAnswer}
-use Rattle.sqlite_sql.specs.declared.ops.BinaryOp.TheVariants.{Compare}
-use Rattle.sqlite_sql.specs.declared.ops.CompareOp.TheVariants.{Eq}
-use Rattle.reg_tables_schema.specs.Rows.{number_columns}
-use Rattle.reg_tables_schema.specs.Shown.{shown_of}
-use Rattle.reg_tables_schema.specs.Tests.{is_number, is_version, shows}
-use Rattle.reg_tables_schema.proofs.Queries.{plain, answers, joined, same_filter, and_true}
-use Rattle.reg_tables_schema.proofs.Selections.{of_table}
-use Rattle.reg_tables_schema.proofs.ShownRows.{shown_exactly}
-use Rattle.reg_tables_schema.proofs.TableMatches.{equals_first, matches_number}
 use Rattle.reg_tables_sql.specs.declared.archives.TheConstants.{BY_ID_TEXT, FIRST_ID_TEXT, OF_VERSION_TEXT}
 use Rattle.reg_tables_sql.specs.Archives.{IsArchiveOf, IsArchiveWithId, archives_of, columns_of_archive, columns_of_bytes, is_archive_of}
 use Rattle.reg_tables_sql.specs.Counts.{IsFirstId}

@@ -1,34 +1,15 @@
 -- What the queries on crates answer.
-use Rattle.sqlite_trees.specs.Tree.{has_rowid}
+use Rattle.reg_tables_sql.proofs.Words.{has_rowid, Row, not, ◌==◌, ◌≡◌, ℕ, List, [], ◌∷◌, codes, map, Option, refl, Bool, pos, ◌≡◌, length}
+use Rattle.reg_tables_sql.proofs.Words.{◌∙◌, Text, Int, Binary, ascending, Term, col, inner, end, overlay, State, ours, IsInside}
+use Rattle.reg_tables_sql.proofs.Words.{IsSelection, selected, number_columns, shown_of, is_text, shows, counted, greatest, greatest_of}
+use Rattle.reg_tables_sql.proofs.Words.{plain, of_table, shown_exactly, any_shown, in_order, equals_first, matches_text, matches_number}
+use Rattle.reg_tables_sql.proofs.Words.{all_in_order, one_count, IsCount, IsLastId}
 use Rattle.std.specs.Prelude.{not}
-use Rattle.sqlite.specs.Order.{Row}
-use Rattle.std.proofs.Common.{not, ◌==◌, ◌≡◌, ℕ, List, [], ◌∷◌, codes, map, Option, refl, Bool, pos, ◌≡◌, length, ◌∙◌}
-use Rattle.sqlite.specs.declared.types.Value.TheVariants.{Text, Int}
-use Rattle.sqlite.specs.Collation.TheVariants.{Binary}
-use Rattle.sqlite_value.specs.Keys.{ascending}
-use Rattle.sqlite.specs.Term.{Term, col}
-use Rattle.sqlite.specs.Query.{inner, end}
-use Rattle.sqlite.specs.Program.{overlay}
 use Rattle.sqlite.specs.Listing.{understood}
-use Rattle.sqlite.specs.State.{State, Shown}
+use Rattle.sqlite.specs.State.{Shown}
 use Rattle.sqlite_tied.specs.Compute.{everything}
-use Rattle.reg_tables_schema.specs.Schema.{ours}
-use Rattle.reg_tables_schema.specs.States.{IsInside}
-use Rattle.reg_tables_schema.proofs.Reading.{IsSelection, selected}
-use Rattle.reg_tables_schema.specs.Rows.{number_columns}
-use Rattle.reg_tables_schema.specs.Shown.{shown_of}
-use Rattle.reg_tables_schema.specs.Tests.{is_text, shows}
-use Rattle.reg_tables_schema.proofs.Counts.{counted}
-use Rattle.reg_tables_schema.proofs.Greatest.{greatest, greatest_of}
-use Rattle.reg_tables_schema.proofs.Queries.{plain}
-use Rattle.reg_tables_schema.proofs.Selections.{of_table}
-use Rattle.reg_tables_schema.proofs.ShownRows.{shown_exactly, any_shown}
-use Rattle.reg_tables_schema.proofs.Sorted.{in_order}
-use Rattle.reg_tables_schema.proofs.TableMatches.{equals_first, matches_text, matches_number}
-use Rattle.reg_tables_schema.proofs.WholeTables.{all_in_order, one_count}
 use Rattle.reg_tables_sql.specs.declared.crates.TheConstants.{ALL_BY_ID_TEXT, ALL_TEXT, BY_CANON_TEXT, COUNT_TEXT, HAS_ID_TEXT, LAST_ID_TEXT}
 use Rattle.reg_tables_sql.specs.declared.crates.Crate.{Crate}
-use Rattle.reg_tables_sql.specs.Counts.{IsCount, IsLastId}
 use Rattle.reg_tables_sql.specs.Crates.{AreCrates, AreCratesById, IsCrateOfCanon, crate_columns, IsCrateThere}
 
 abbrev project : List Term

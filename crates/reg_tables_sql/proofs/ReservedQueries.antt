@@ -1,28 +1,11 @@
 -- What the queries on reserved names answer.
-use Rattle.std.proofs.Common.{◌≡◌, ℕ, List, [], ◌∷◌, codes, map, refl, ◌∙◌}
-use Rattle.sqlite.specs.declared.types.Value.TheVariants.{Text}
-use Rattle.sqlite.specs.Collation.TheVariants.{Binary}
-use Rattle.sqlite_value.specs.Keys.{ascending}
-use Rattle.sqlite.specs.Order.{Row}
-use Rattle.sqlite.specs.Term.{col}
-use Rattle.sqlite.specs.Query.{Query, inner, end}
-use Rattle.sqlite.specs.Program.{overlay}
+use Rattle.reg_tables_sql.proofs.Words.{◌≡◌, ℕ, List, [], ◌∷◌, codes, map, refl, ◌∙◌, Text, Binary, ascending, Row, col, Query, inner, end}
+use Rattle.reg_tables_sql.proofs.Words.{overlay, State, ours, IsInside, IsSelection, selected, Bool, length, not, ◌==◌, Global, is_text}
+use Rattle.reg_tables_sql.proofs.Words.{shows, plain, of_table, any_shown, in_order, equals_first, matches_text, all_in_order}
 use Rattle.sqlite.specs.Listing.{understood}
-use Rattle.sqlite.specs.State.{State, Shown}
+use Rattle.sqlite.specs.State.{Shown}
 use Rattle.sqlite_tied.specs.Compute.{everything}
-use Rattle.reg_tables_schema.specs.Schema.{ours}
-use Rattle.reg_tables_schema.specs.States.{IsInside}
-use Rattle.reg_tables_schema.proofs.Reading.{IsSelection, selected}
-use Rattle.std.proofs.Common.{Bool, length, not, ◌==◌}
 use Rattle.std.specs.Prelude.{String}
-use Rattle.std.specs.declared.alloc.Global.{Global}
-use Rattle.reg_tables_schema.specs.Tests.{is_text, shows}
-use Rattle.reg_tables_schema.proofs.Queries.{plain}
-use Rattle.reg_tables_schema.proofs.Selections.{of_table}
-use Rattle.reg_tables_schema.proofs.ShownRows.{any_shown}
-use Rattle.reg_tables_schema.proofs.Sorted.{in_order}
-use Rattle.reg_tables_schema.proofs.TableMatches.{equals_first, matches_text}
-use Rattle.reg_tables_schema.proofs.WholeTables.{all_in_order}
 use Rattle.reg_tables_sql.specs.declared.reserved.TheConstants.{ALL_TEXT, BY_CANON_TEXT}
 use Rattle.reg_tables_sql.specs.Reserved.{AreReserved, IsReserved, columns_of_text}
 

@@ -1,33 +1,13 @@
 -- What the statements on reserved names do.
-use Rattle.std.proofs.Common.{◌≡◌, ℕ, List, [], ◌∷◌, Result, OnOk, refl}
-use Rattle.sqlite.specs.declared.types.Value.TheVariants.{Null, Int, Text}
-use Rattle.sqlite.specs.Order.{Row}
-use Rattle.sqlite.specs.Term.{Term, lit, col}
-use Rattle.sqlite.specs.Tree.{Trees}
-use Rattle.sqlite.specs.Query.{inner, end}
-use Rattle.sqlite.specs.Program.{overlay}
-use Rattle.sqlite_schema.specs.declared.program.Program.{Program}
-use Rattle.sqlite.specs.Source.TheVariants.{Values}
-use Rattle.sqlite.specs.Effect.{Answers}
-use Rattle.sqlite.specs.Command.TheVariants.{Insert, Delete}
+use Rattle.reg_tables_sql.proofs.Words.{◌≡◌, ℕ, List, [], ◌∷◌, Result, OnOk, refl, Null, Int, Text, Row, Term, lit, col, Trees, inner, end}
+use Rattle.reg_tables_sql.proofs.Words.{overlay, Program, Values, Answers, Insert, Delete, State, Executes, Error, IsPlain, command_of}
+use Rattle.reg_tables_sql.proofs.Words.{next_rowid, ours, IsInside, IsRowWrite, AddsColumns, Removes, step_of, plain, of_table}
+use Rattle.reg_tables_sql.proofs.Words.{adds_columns, removes, cast_null, is_text, equals_first, matches_text}
 use Rattle.sqlite.specs.Listing.{understood}
-use Rattle.sqlite.specs.State.{State, Executes}
-use Rattle.sqlite.specs.declared.error.Error.{Error}
-use Rattle.sqlite.proofs.Callers.{IsPlain, command_of}
-use Rattle.sqlite_rules.specs.Edit.{next_rowid}
 use Rattle.sqlite_tied.specs.Compute.{everything}
-use Rattle.reg_tables_schema.specs.Schema.{ours, reserved}
-use Rattle.reg_tables_schema.specs.States.{IsInside}
-use Rattle.reg_tables_schema.specs.Statements.{IsRowWrite}
-use Rattle.reg_tables_schema.specs.Changes.{AddsColumns, Removes}
-use Rattle.reg_tables_schema.proofs.Edits.{step_of}
-use Rattle.reg_tables_schema.proofs.Queries.{plain}
-use Rattle.reg_tables_schema.proofs.Selections.{of_table}
-use Rattle.reg_tables_schema.proofs.Statements.{adds_columns, removes, cast_null}
+use Rattle.reg_tables_schema.specs.Schema.{reserved}
 use Rattle.reg_tables_sql.specs.declared.reserved.TheConstants.{INSERT_TEXT, REMOVE_TEXT}
 use Rattle.reg_tables_sql.specs.Reserved.{reserved_columns}
-use Rattle.reg_tables_schema.specs.Tests.{is_text}
-use Rattle.reg_tables_schema.proofs.TableMatches.{equals_first, matches_text}
 
 abbrev insert_terms : List Term
 insert_terms = lit Null ∷ col 0 0 ∷ []

@@ -1,28 +1,12 @@
 -- What the queries on restricted crates answer.
-use Rattle.std.proofs.Common.{◌≡◌, ℕ, pos, Bool, List, [], ◌∷◌, codes, map, length, not, ◌==◌, refl, ◌∙◌}
-use Rattle.sqlite.specs.declared.types.Value.TheVariants.{Int}
-use Rattle.sqlite.specs.Collation.TheVariants.{Binary}
-use Rattle.sqlite_value.specs.Keys.{ascending}
-use Rattle.sqlite.specs.Order.{Row}
-use Rattle.sqlite.specs.Term.{col}
-use Rattle.sqlite.specs.Query.{inner, end}
-use Rattle.sqlite.specs.Program.{overlay}
+use Rattle.reg_tables_sql.proofs.Words.{◌≡◌, ℕ, pos, Bool, List, [], ◌∷◌, codes, map, length, not, ◌==◌, refl, ◌∙◌, Int, Binary, ascending}
+use Rattle.reg_tables_sql.proofs.Words.{Row, col, inner, end, overlay, State, number_columns, ours, IsInside, shows, plain, IsSelection}
+use Rattle.reg_tables_sql.proofs.Words.{selected, of_table, any_shown, in_order, equals_first, matches_number, all_in_order, is_restricted}
 use Rattle.sqlite.specs.Listing.{understood}
-use Rattle.sqlite.specs.State.{State, Shown}
+use Rattle.sqlite.specs.State.{Shown}
 use Rattle.sqlite_tied.specs.Compute.{everything}
-use Rattle.reg_tables_schema.specs.Rows.{number_columns}
-use Rattle.reg_tables_schema.specs.Schema.{ours}
-use Rattle.reg_tables_schema.specs.States.{IsInside}
-use Rattle.reg_tables_schema.specs.Tests.{shows}
-use Rattle.reg_tables_schema.proofs.Queries.{plain}
-use Rattle.reg_tables_schema.proofs.Reading.{IsSelection, selected}
-use Rattle.reg_tables_schema.proofs.Selections.{of_table}
-use Rattle.reg_tables_schema.proofs.ShownRows.{any_shown}
-use Rattle.reg_tables_schema.proofs.Sorted.{in_order}
-use Rattle.reg_tables_schema.proofs.TableMatches.{equals_first, matches_number}
-use Rattle.reg_tables_schema.proofs.WholeTables.{all_in_order}
 use Rattle.reg_tables_sql.specs.declared.restricted.TheConstants.{ALL_TEXT, IS_THERE_TEXT}
-use Rattle.reg_tables_sql.specs.Restricted.{AreRestricted, IsRestricted, is_restricted}
+use Rattle.reg_tables_sql.specs.Restricted.{AreRestricted, IsRestricted}
 
 pub there_is : IsSelection ours IS_THERE_TEXT.now (plain (inner 17 end) (equals_first 0) (col 1 0 ∷ [])) (codes "crate" ∷ [])
 unfolding understood everything

@@ -1,31 +1,13 @@
 -- What the writing statements on restricted crates do.
-use Rattle.std.proofs.Common.{◌≡◌, ℕ, pos, List, [], ◌∷◌, Result, OnOk, refl}
-use Rattle.sqlite.specs.declared.types.Value.TheVariants.{Null, Int}
-use Rattle.sqlite.specs.Order.{Row}
-use Rattle.sqlite.specs.Term.{Term, lit, col}
-use Rattle.sqlite.specs.Tree.{Trees}
-use Rattle.sqlite.specs.Query.{inner, end}
-use Rattle.sqlite.specs.Program.{overlay}
-use Rattle.sqlite.specs.Effect.{Answers}
-use Rattle.sqlite.specs.Source.TheVariants.{Values}
-use Rattle.sqlite.specs.Command.TheVariants.{Insert, Delete}
+use Rattle.reg_tables_sql.proofs.Words.{◌≡◌, ℕ, pos, List, [], ◌∷◌, Result, OnOk, refl, Null, Int, Row, Term, lit, col, Trees, inner, end}
+use Rattle.reg_tables_sql.proofs.Words.{overlay, Answers, Values, Insert, Delete, State, Executes, Error, IsPlain, command_of, Program}
+use Rattle.reg_tables_sql.proofs.Words.{ours, IsInside, IsRowWrite, Adds, Removes, step_of, plain, of_table, adds, removes, cast_int}
+use Rattle.reg_tables_sql.proofs.Words.{cast_null, equals_first, matches_number, is_restricted}
 use Rattle.sqlite.specs.Listing.{understood}
-use Rattle.sqlite.specs.State.{State, Executes}
-use Rattle.sqlite.specs.declared.error.Error.{Error}
-use Rattle.sqlite.proofs.Callers.{IsPlain, command_of}
-use Rattle.sqlite_schema.specs.declared.program.Program.{Program}
 use Rattle.sqlite_tied.specs.Compute.{everything}
-use Rattle.reg_tables_schema.specs.Schema.{ours, restricted}
-use Rattle.reg_tables_schema.specs.States.{IsInside}
-use Rattle.reg_tables_schema.specs.Statements.{IsRowWrite}
-use Rattle.reg_tables_schema.specs.Changes.{Adds, Removes}
-use Rattle.reg_tables_schema.proofs.Edits.{step_of}
-use Rattle.reg_tables_schema.proofs.Queries.{plain}
-use Rattle.reg_tables_schema.proofs.Selections.{of_table}
-use Rattle.reg_tables_schema.proofs.Statements.{adds, removes, cast_int, cast_null}
-use Rattle.reg_tables_schema.proofs.TableMatches.{equals_first, matches_number}
+use Rattle.reg_tables_schema.specs.Schema.{restricted}
 use Rattle.reg_tables_sql.specs.declared.restricted.TheConstants.{INSERT_TEXT, REMOVE_TEXT}
-use Rattle.reg_tables_sql.specs.Restricted.{is_restricted, restricted_row}
+use Rattle.reg_tables_sql.specs.Restricted.{restricted_row}
 
 abbrev insert_terms : List Term
 insert_terms = col 0 0 ∷ lit Null ∷ []

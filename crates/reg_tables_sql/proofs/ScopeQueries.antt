@@ -1,25 +1,10 @@
 -- What the queries on scopes answer.
-use Rattle.std.proofs.Common.{ℕ, pos, List, [], ◌∷◌, codes, map, refl, ap}
-use Rattle.sqlite.specs.declared.types.Value.TheVariants.{Int}
-use Rattle.sqlite.specs.Collation.TheVariants.{Binary}
-use Rattle.sqlite_value.specs.Keys.{ascending}
-use Rattle.sqlite.specs.Order.{Row}
-use Rattle.sqlite.specs.Term.{Term, col}
-use Rattle.sqlite.specs.Query.{inner, end}
-use Rattle.sqlite.specs.Program.{overlay}
+use Rattle.reg_tables_sql.proofs.Words.{ℕ, pos, List, [], ◌∷◌, codes, map, refl, ap, Int, Binary, ascending, Row, Term, col, inner, end}
+use Rattle.reg_tables_sql.proofs.Words.{overlay, State, ours, IsInside, IsSelection, selected, ordering_then, Key, by_column, by_columns}
+use Rattle.reg_tables_sql.proofs.Words.{is_number, all_ordered, in_order, in_order_of, then_equal, equals_first, matches_number}
 use Rattle.sqlite.specs.Listing.{understood}
-use Rattle.sqlite.specs.State.{State, Shown}
+use Rattle.sqlite.specs.State.{Shown}
 use Rattle.sqlite_tied.specs.Compute.{everything}
-use Rattle.reg_tables_schema.specs.Schema.{ours}
-use Rattle.reg_tables_schema.specs.States.{IsInside}
-use Rattle.reg_tables_schema.proofs.Reading.{IsSelection, selected}
-use Rattle.std.specs.Ordering.{ordering_then}
-use Rattle.sqlite_value.specs.declared.keys.Key.{Key}
-use Rattle.reg_tables_schema.specs.Rows.{by_column, by_columns}
-use Rattle.reg_tables_schema.specs.Tests.{is_number}
-use Rattle.reg_tables_schema.proofs.Ordered.{all_ordered}
-use Rattle.reg_tables_schema.proofs.Sorted.{in_order, in_order_of, then_equal}
-use Rattle.reg_tables_schema.proofs.TableMatches.{equals_first, matches_number}
 use Rattle.reg_tables_sql.specs.declared.scopes.TheConstants.{ALL_TEXT, OF_TOKEN_TEXT}
 use Rattle.reg_tables_sql.specs.declared.scopes.Scope.{Scope}
 use Rattle.reg_tables_sql.specs.Scopes.{AreScopes, AreScopesOf, columns_of_scope}

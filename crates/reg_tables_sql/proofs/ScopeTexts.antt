@@ -1,22 +1,10 @@
 -- What the writing statement on scopes does.
-use Rattle.std.proofs.Common.{◌≡◌, ℕ, pos, List, [], ◌∷◌, Result, OnOk, refl}
-use Rattle.sqlite.specs.declared.types.Value.TheVariants.{Null, Int}
-use Rattle.sqlite.specs.Term.{Term, lit, col}
-use Rattle.sqlite.specs.Tree.{Trees}
-use Rattle.sqlite.specs.Source.TheVariants.{Values}
-use Rattle.sqlite.specs.Command.TheVariants.{Insert}
+use Rattle.reg_tables_sql.proofs.Words.{◌≡◌, ℕ, pos, List, [], ◌∷◌, Result, OnOk, refl, Null, Int, Term, lit, col, Trees, Values, Insert}
+use Rattle.reg_tables_sql.proofs.Words.{State, Executes, Error, IsPlain, command_of, next_rowid, ours, IsInside, IsRowWrite, AddsColumns}
+use Rattle.reg_tables_sql.proofs.Words.{step_of, adds_columns, cast_int, cast_null}
 use Rattle.sqlite.specs.Listing.{understood}
-use Rattle.sqlite.specs.State.{State, Executes}
-use Rattle.sqlite.specs.declared.error.Error.{Error}
-use Rattle.sqlite.proofs.Callers.{IsPlain, command_of}
-use Rattle.sqlite_rules.specs.Edit.{next_rowid}
 use Rattle.sqlite_tied.specs.Compute.{everything}
-use Rattle.reg_tables_schema.specs.Schema.{ours, scopes}
-use Rattle.reg_tables_schema.specs.States.{IsInside}
-use Rattle.reg_tables_schema.specs.Statements.{IsRowWrite}
-use Rattle.reg_tables_schema.specs.Changes.{AddsColumns}
-use Rattle.reg_tables_schema.proofs.Edits.{step_of}
-use Rattle.reg_tables_schema.proofs.Statements.{adds_columns, cast_int, cast_null}
+use Rattle.reg_tables_schema.specs.Schema.{scopes}
 use Rattle.reg_tables_sql.specs.declared.scopes.TheConstants.{INSERT_TEXT}
 use Rattle.reg_tables_sql.specs.Scopes.{scope_columns}
 

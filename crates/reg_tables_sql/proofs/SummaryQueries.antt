@@ -1,26 +1,10 @@
 -- What the queries on summaries answer.
-use Rattle.std.proofs.Common.{ℕ, pos, List, [], ◌∷◌, codes, map, Option, refl}
-use Rattle.sqlite.specs.declared.types.Value.TheVariants.{Int}
-use Rattle.sqlite.specs.Collation.TheVariants.{Binary}
-use Rattle.sqlite_value.specs.Keys.{ascending}
-use Rattle.sqlite.specs.Order.{Row}
-use Rattle.sqlite.specs.Term.{Term, col}
-use Rattle.sqlite.specs.Query.{inner, end}
-use Rattle.sqlite.specs.Program.{overlay}
+use Rattle.reg_tables_sql.proofs.Words.{ℕ, pos, List, [], ◌∷◌, codes, map, Option, refl, Int, Binary, ascending, Row, Term, col, inner, end}
+use Rattle.reg_tables_sql.proofs.Words.{overlay, State, ours, shown_of, IsInside, is_number, plain, IsSelection, selected, of_table}
+use Rattle.reg_tables_sql.proofs.Words.{shown_exactly, in_order, equals_first, matches_number, all_in_order}
 use Rattle.sqlite.specs.Listing.{understood}
-use Rattle.sqlite.specs.State.{State, Shown}
+use Rattle.sqlite.specs.State.{Shown}
 use Rattle.sqlite_tied.specs.Compute.{everything}
-use Rattle.reg_tables_schema.specs.Schema.{ours}
-use Rattle.reg_tables_schema.specs.Shown.{shown_of}
-use Rattle.reg_tables_schema.specs.States.{IsInside}
-use Rattle.reg_tables_schema.specs.Tests.{is_number}
-use Rattle.reg_tables_schema.proofs.Queries.{plain}
-use Rattle.reg_tables_schema.proofs.Reading.{IsSelection, selected}
-use Rattle.reg_tables_schema.proofs.Selections.{of_table}
-use Rattle.reg_tables_schema.proofs.ShownRows.{shown_exactly}
-use Rattle.reg_tables_schema.proofs.Sorted.{in_order}
-use Rattle.reg_tables_schema.proofs.TableMatches.{equals_first, matches_number}
-use Rattle.reg_tables_schema.proofs.WholeTables.{all_in_order}
 use Rattle.reg_tables_sql.specs.declared.summaries.TheConstants.{ALL_TEXT, OF_CRATE_TEXT}
 use Rattle.reg_tables_sql.specs.declared.summaries.Summary.{Summary}
 use Rattle.reg_tables_sql.specs.Summaries.{AreSummaries, IsSummaryOf, columns_of_summary}

@@ -1,25 +1,10 @@
 -- What the writing statements on summaries do.
-use Rattle.std.proofs.Common.{◌≡◌, ℕ, pos, List, [], ◌∷◌, Ok, Result, OnOk, refl}
-use Rattle.sqlite.specs.declared.types.Value.TheVariants.{Null, Int}
-use Rattle.sqlite.specs.Order.{Row}
-use Rattle.sqlite.specs.Term.{Term, lit, col}
-use Rattle.sqlite.specs.Tree.{Trees}
-use Rattle.sqlite.specs.Source.TheVariants.{Values}
-use Rattle.sqlite.specs.Command.TheVariants.{Insert}
+use Rattle.reg_tables_sql.proofs.Words.{◌≡◌, ℕ, pos, List, [], ◌∷◌, Ok, Result, OnOk, refl, Null, Int, Row, Term, lit, col, Trees, Values}
+use Rattle.reg_tables_sql.proofs.Words.{Insert, State, Executes, Error, IsPlain, command_of, edited, has_rowid, put_row, without_rowid}
+use Rattle.reg_tables_sql.proofs.Words.{ours, IsInside, IsRowWrite, Adds, step_of, replacing, adds, cast_int, cast_null, equals_first}
 use Rattle.sqlite.specs.Listing.{understood}
-use Rattle.sqlite.specs.State.{State, Executes}
-use Rattle.sqlite.specs.declared.error.Error.{Error}
-use Rattle.sqlite.proofs.Callers.{IsPlain, command_of}
-use Rattle.sqlite_rules.specs.Edit.{edited}
-use Rattle.sqlite_trees.specs.Tree.{has_rowid, put_row, without_rowid}
 use Rattle.sqlite_tied.specs.Compute.{everything}
-use Rattle.reg_tables_schema.specs.Schema.{ours, summaries}
-use Rattle.reg_tables_schema.specs.States.{IsInside}
-use Rattle.reg_tables_schema.specs.Statements.{IsRowWrite}
-use Rattle.reg_tables_schema.specs.Changes.{Adds}
-use Rattle.reg_tables_schema.proofs.Edits.{step_of, replacing}
-use Rattle.reg_tables_schema.proofs.Statements.{adds, cast_int, cast_null}
-use Rattle.reg_tables_schema.proofs.TableMatches.{equals_first}
+use Rattle.reg_tables_schema.specs.Schema.{summaries}
 use Rattle.reg_tables_sql.specs.declared.summaries.TheConstants.{INSERT_TEXT, UPDATE_TEXT}
 use Rattle.reg_tables_sql.specs.Summaries.{Summarizes, summary_row}
 use Rattle.reg_tables_sql.proofs.Updates.{IsUpdate, matches_key, updates_none, updates_one, updates_only}

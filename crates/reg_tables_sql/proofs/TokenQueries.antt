@@ -1,42 +1,18 @@
 -- What the queries on tokens answer.
-use Rattle.std.proofs.Common.{◌≡◌, ℕ, pos, List, [], ◌∷◌, codes, map, Option, refl, ap, subst, ◌∙◌}
-use Rattle.std.specs.List.{filter}
-use Rattle.sqlite.specs.Collation.TheVariants.{Binary}
-use Rattle.sqlite_value.specs.Keys.{ascending}
-use Rattle.sqlite.specs.Order.{Row}
-use Rattle.sqlite.specs.Term.{Term, col}
-use Rattle.sqlite.specs.Query.{IsSureAnswer, Query, inner, end}
-use Rattle.sqlite.specs.Program.{overlay}
+use Rattle.reg_tables_sql.proofs.Words.{◌≡◌, ℕ, pos, List, [], ◌∷◌, codes, map, Option, refl, ap, subst, ◌∙◌, filter, Binary, ascending}
+use Rattle.reg_tables_sql.proofs.Words.{Row, Term, col, IsSureAnswer, Query, inner, end, overlay, State, ours, IsInside, IsSelection}
+use Rattle.reg_tables_sql.proofs.Words.{selected, flat_map, IsPermutation, Blob, Int, binary, is_true, column, matches, eval_all, op2}
+use Rattle.reg_tables_sql.proofs.Words.{Trees, Compare, Eq, number_columns, shown_of, is_number, greatest, greatest_of, plain, answers}
+use Rattle.reg_tables_sql.proofs.Words.{joined, same_filter, in_order, shown_exactly, of_table, equals_first, matches_number, all_in_order}
+use Rattle.reg_tables_sql.proofs.Words.{IsLastId}
 use Rattle.sqlite.specs.Listing.{understood}
-use Rattle.sqlite.specs.State.{State, Shown}
+use Rattle.sqlite.specs.State.{Shown}
 use Rattle.sqlite_tied.specs.Compute.{everything}
-use Rattle.reg_tables_schema.specs.Schema.{ours}
-use Rattle.reg_tables_schema.specs.States.{IsInside}
-use Rattle.reg_tables_schema.proofs.Reading.{IsSelection, selected}
-use Rattle.std.specs.List.{flat_map}
-use Rattle.std.specs.List.Sorted.{IsPermutation}
-use Rattle.sqlite.specs.declared.types.Value.TheVariants.{Blob, Int}
-use Rattle.sqlite.specs.Ops.{binary, is_true}
-use Rattle.sqlite.specs.Order.{column}
-use Rattle.sqlite.specs.Query.{matches}
-use Rattle.sqlite.specs.Term.{eval_all, op2}
-use Rattle.sqlite.specs.Tree.{Trees}
-use Rattle.sqlite_sql.specs.declared.ops.BinaryOp.TheVariants.{Compare}
-use Rattle.sqlite_sql.specs.declared.ops.CompareOp.TheVariants.{Eq}
-use Rattle.reg_tables_schema.specs.Rows.{number_columns}
-use Rattle.reg_tables_schema.specs.Shown.{shown_of}
-use Rattle.reg_tables_schema.specs.Tests.{is_blob, is_number}
-use Rattle.reg_tables_schema.proofs.Greatest.{greatest, greatest_of}
-use Rattle.reg_tables_schema.proofs.Queries.{plain, answers, joined, same_filter, equals_blob}
-use Rattle.reg_tables_schema.proofs.Sorted.{in_order}
-use Rattle.reg_tables_schema.proofs.ShownRows.{shown_exactly}
-use Rattle.reg_tables_schema.proofs.Selections.{of_table}
-use Rattle.reg_tables_schema.proofs.TableMatches.{equals_first, matches_number}
-use Rattle.reg_tables_schema.proofs.WholeTables.{all_in_order}
+use Rattle.reg_tables_schema.specs.Tests.{is_blob}
+use Rattle.reg_tables_schema.proofs.Queries.{equals_blob}
 use Rattle.reg_tables_sql.specs.declared.tokens.TheConstants.{ALL_TEXT, BY_DIGEST_TEXT, BY_ID_TEXT, LAST_ID_TEXT}
 use Rattle.reg_tables_sql.specs.declared.tokens.Token.{Token}
 use Rattle.reg_tables_sql.specs.declared.tokens.TokenRow.{TokenRow}
-use Rattle.reg_tables_sql.specs.Counts.{IsLastId}
 use Rattle.reg_tables_sql.specs.Tokens.{AreTokens, IsTokenOfDigest, IsTokenWithId, columns_of_token, columns_with_account, is_of_token, token_and_account, tokens_with_accounts}
 
 abbrev by_digest_filter : List Term

@@ -1,31 +1,15 @@
 -- What the writing statements on tokens do.
-use Rattle.std.proofs.Common.{◌≡◌, ℕ, pos, List, [], ◌∷◌, Bool, true, false, cond, Ok, Result, OnOk, refl}
-use Rattle.sqlite.specs.declared.types.Value.TheVariants.{Null, Int, Blob}
-use Rattle.sqlite.specs.Order.{Row}
-use Rattle.sqlite.specs.Term.{Term, lit, col}
-use Rattle.sqlite.specs.Tree.{Trees}
+use Rattle.reg_tables_sql.proofs.Words.{◌≡◌, ℕ, pos, List, [], ◌∷◌, Bool, true, false, cond, Ok, Result, OnOk, refl, Null, Int, Blob, Row}
+use Rattle.reg_tables_sql.proofs.Words.{Term, lit, col, Trees, cast, Values, Insert, State, Executes, Error, IsPlain, command_of, edited}
+use Rattle.reg_tables_sql.proofs.Words.{has_rowid, put_row, without_rowid, ours, mark, IsInside, IsRowWrite, Adds, step_of, replacing, adds}
+use Rattle.reg_tables_sql.proofs.Words.{cast_int, cast_null, equals_first}
 use Rattle.sqlite.specs.Kind.TheVariants.{Integer}
-use Rattle.sqlite.specs.Cast.{cast}
-use Rattle.sqlite.specs.Source.TheVariants.{Values}
-use Rattle.sqlite.specs.Command.TheVariants.{Insert}
 use Rattle.sqlite.specs.Listing.{understood}
-use Rattle.sqlite.specs.State.{State, Executes}
-use Rattle.sqlite.specs.declared.error.Error.{Error}
-use Rattle.sqlite.proofs.Callers.{IsPlain, command_of}
-use Rattle.sqlite_rules.specs.Edit.{edited}
-use Rattle.sqlite_trees.specs.Tree.{has_rowid, put_row, without_rowid}
 use Rattle.sqlite_tied.specs.Compute.{everything}
 use Rattle.reg_names.specs.declared.endpoint.Endpoints.{Endpoints}
-use Rattle.reg_tables_schema.specs.Schema.{ours, tokens}
-use Rattle.reg_tables_schema.specs.Rows.{mark}
-use Rattle.reg_tables_schema.specs.States.{IsInside}
-use Rattle.reg_tables_schema.specs.Statements.{IsRowWrite}
-use Rattle.reg_tables_schema.specs.Changes.{Adds}
-use Rattle.reg_tables_schema.proofs.Edits.{step_of, replacing}
-use Rattle.reg_tables_schema.proofs.Statements.{adds, cast_int, cast_null}
+use Rattle.reg_tables_schema.specs.Schema.{tokens}
 use Rattle.reg_tables_sql.specs.declared.tokens.TheConstants.{INSERT_TEXT, REVOKE_TEXT}
 use Rattle.reg_tables_sql.specs.Tokens.{Revokes, token_row}
-use Rattle.reg_tables_schema.proofs.TableMatches.{equals_first}
 use Rattle.reg_tables_sql.proofs.Updates.{IsUpdate, matches_key, updates_none, updates_one, updates_only}
 
 abbrev insert_terms : List Term

@@ -1,30 +1,14 @@
 -- What the queries on the marks of versions answer.
-use Rattle.std.proofs.Common.{◌≡◌, ℕ, pos, List, [], ◌∷◌, codes, map, Option, refl, ap, ◌∙◌}
-use Rattle.std.specs.List.{filter}
-use Rattle.sqlite.specs.declared.types.Value.TheVariants.{Int, Text}
-use Rattle.sqlite.specs.Collation.TheVariants.{Binary}
+use Rattle.reg_tables_sql.proofs.Words.{◌≡◌, ℕ, pos, List, [], ◌∷◌, codes, map, Option, refl, ap, ◌∙◌, filter, Int, Text, Binary, ascending}
+use Rattle.reg_tables_sql.proofs.Words.{Row, Term, col, inner, end, matches, Trees, overlay, State, ours, IsInside, by_column, shown_of}
+use Rattle.reg_tables_sql.proofs.Words.{is_number, is_version, plain, same_filter, IsSelection, selected, matched, of_table, shown_exactly}
+use Rattle.reg_tables_sql.proofs.Words.{in_order, in_order_of, then_equal, equals_first, matches_number}
 use Rattle.sqlite_sql.specs.declared.ops.UnaryOp.TheVariants.{Length}
-use Rattle.sqlite_value.specs.Keys.{ascending}
-use Rattle.sqlite.specs.Order.{Row}
 use Rattle.sqlite.specs.Ops.{unary}
-use Rattle.sqlite.specs.Term.{Term, col, op1}
-use Rattle.sqlite.specs.Query.{inner, end, matches}
-use Rattle.sqlite.specs.Tree.{Trees}
-use Rattle.sqlite.specs.Program.{overlay}
+use Rattle.sqlite.specs.Term.{op1}
 use Rattle.sqlite.specs.Listing.{understood}
-use Rattle.sqlite.specs.State.{State, Shown}
+use Rattle.sqlite.specs.State.{Shown}
 use Rattle.sqlite_tied.specs.Compute.{everything}
-use Rattle.reg_tables_schema.specs.Schema.{ours}
-use Rattle.reg_tables_schema.specs.States.{IsInside}
-use Rattle.reg_tables_schema.specs.Rows.{by_column}
-use Rattle.reg_tables_schema.specs.Shown.{shown_of}
-use Rattle.reg_tables_schema.specs.Tests.{is_number, is_version}
-use Rattle.reg_tables_schema.proofs.Queries.{plain, same_filter}
-use Rattle.reg_tables_schema.proofs.Reading.{IsSelection, selected}
-use Rattle.reg_tables_schema.proofs.Selections.{matched, of_table}
-use Rattle.reg_tables_schema.proofs.ShownRows.{shown_exactly}
-use Rattle.reg_tables_schema.proofs.Sorted.{in_order, in_order_of, then_equal}
-use Rattle.reg_tables_schema.proofs.TableMatches.{equals_first, matches_number}
 use Rattle.reg_tables_sql.specs.declared.versions.TheConstants.{MARKS_OF_TEXT, MARK_BY_ID_TEXT, MARK_BY_TEXT_TEXT}
 use Rattle.reg_tables_sql.specs.declared.versions.VersionMark.{VersionMark}
 use Rattle.reg_tables_sql.specs.VersionMarks.{AreMarksOf, IsMarkOf, IsMarkWithId, columns_of_mark}

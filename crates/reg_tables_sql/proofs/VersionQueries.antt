@@ -1,33 +1,17 @@
 -- What the queries on versions answer.
-use Rattle.std.proofs.Common.{◌≡◌, ℕ, pos, List, [], ◌∷◌, codes, length, map, Option, refl, ap, ◌∙◌}
-use Rattle.std.specs.List.{filter}
+use Rattle.reg_tables_sql.proofs.Words.{◌≡◌, ℕ, pos, List, [], ◌∷◌, codes, length, map, Option, refl, ap, ◌∙◌, filter, Value, Int, Binary}
+use Rattle.reg_tables_sql.proofs.Words.{ascending, Row, Term, col, inner, end, overlay, State, ours, IsInside, IsSelection, selected, Key}
+use Rattle.reg_tables_sql.proofs.Words.{by_column, number_columns, shown_of, is_number, counted, greatest, greatest_of, in_order}
+use Rattle.reg_tables_sql.proofs.Words.{in_order_of, then_equal, equals_first, matches_number, all_in_order, one_count, IsCount, IsLastId}
 use Rattle.std.proofs.lemmas.List.{length-map}
-use Rattle.sqlite.specs.declared.types.Value.{Value}
-use Rattle.sqlite.specs.declared.types.Value.TheVariants.{Int}
-use Rattle.sqlite.specs.Collation.TheVariants.{Binary}
-use Rattle.sqlite_value.specs.Keys.{ascending}
-use Rattle.sqlite.specs.Order.{Row}
-use Rattle.sqlite.specs.Term.{Term, col}
-use Rattle.sqlite.specs.Query.{inner, end}
-use Rattle.sqlite.specs.Program.{overlay}
 use Rattle.sqlite.specs.Listing.{understood}
-use Rattle.sqlite.specs.State.{State, Shown}
+use Rattle.sqlite.specs.State.{Shown}
 use Rattle.sqlite_tied.specs.Compute.{everything}
-use Rattle.reg_tables_schema.specs.Schema.{ours}
-use Rattle.reg_tables_schema.specs.States.{IsInside}
-use Rattle.reg_tables_schema.proofs.Reading.{IsSelection, selected}
-use Rattle.sqlite_value.specs.declared.keys.Key.{Key}
-use Rattle.reg_tables_schema.specs.Rows.{by_column, capped, number_columns}
-use Rattle.reg_tables_schema.specs.Shown.{shown_of}
-use Rattle.reg_tables_schema.specs.Tests.{is_number}
-use Rattle.reg_tables_schema.proofs.Counts.{counted, counts}
-use Rattle.reg_tables_schema.proofs.Greatest.{greatest, greatest_of}
-use Rattle.reg_tables_schema.proofs.Sorted.{in_order, in_order_of, then_equal}
-use Rattle.reg_tables_schema.proofs.TableMatches.{equals_first, matches_number}
-use Rattle.reg_tables_schema.proofs.WholeTables.{all_in_order, one_count}
+use Rattle.reg_tables_schema.specs.Rows.{capped}
+use Rattle.reg_tables_schema.proofs.Counts.{counts}
 use Rattle.reg_tables_sql.specs.declared.versions.TheConstants.{ALL_TEXT, COUNT_OF_TEXT, COUNT_TEXT, LAST_ID_TEXT, OF_CRATE_TEXT}
 use Rattle.reg_tables_sql.specs.declared.versions.Version.{Version}
-use Rattle.reg_tables_sql.specs.Counts.{IsCount, IsCountOf, IsLastId}
+use Rattle.reg_tables_sql.specs.Counts.{IsCountOf}
 use Rattle.reg_tables_sql.specs.Versions.{AreVersions, AreVersionsOf, columns_of_version}
 
 abbrev by_id : List (Term × Key)

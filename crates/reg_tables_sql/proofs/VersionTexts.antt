@@ -1,37 +1,19 @@
 -- What the statements on versions do.
-use Rattle.std.proofs.Common.{◌≡◌, ℕ, pos, List, [], ◌∷◌, ◌&&◌, Bool, true, false, cond, Option, Ok, Result, OnOk, refl, ap, ◌∙◌}
+use Rattle.reg_tables_sql.proofs.Words.{◌≡◌, ℕ, pos, List, [], ◌∷◌, ◌&&◌, Bool, true, false, cond, Option, Ok, Result, OnOk, refl, ap, ◌∙◌}
+use Rattle.reg_tables_sql.proofs.Words.{Null, Int, Text, Blob, Row, column, value_cmp, Term, lit, col, op2, binary, is_true, Trees, Values}
+use Rattle.reg_tables_sql.proofs.Words.{Insert, State, Executes, Error, IsPlain, command_of, Compare, Eq, Binary, put_row, without_rowid}
+use Rattle.reg_tables_sql.proofs.Words.{ours, IsInside, IsRowWrite, Adds, mark, text_or_null, step_of, replacing, and_true, same_filter}
+use Rattle.reg_tables_sql.proofs.Words.{equals_int, adds, cast_int, cast_null, is_version, matched}
 use Rattle.std.specs.Prelude.{map}
 use Rattle.std.specs.Ordering.{is_eq}
-use Rattle.sqlite.specs.declared.types.Value.TheVariants.{Null, Int, Text, Blob}
-use Rattle.sqlite.specs.Order.{Row, column, value_cmp}
-use Rattle.sqlite.specs.Term.{Term, lit, col, op2}
-use Rattle.sqlite.specs.Ops.{binary, is_true}
-use Rattle.sqlite.specs.Tree.{Trees}
 use Rattle.sqlite.specs.Edit.{edited}
-use Rattle.sqlite.specs.Source.TheVariants.{Values}
-use Rattle.sqlite.specs.Command.TheVariants.{Insert}
 use Rattle.sqlite.specs.Listing.{understood}
-use Rattle.sqlite.specs.State.{State, Executes}
-use Rattle.sqlite.specs.declared.error.Error.{Error}
-use Rattle.sqlite.proofs.Callers.{IsPlain, command_of}
-use Rattle.sqlite_sql.specs.declared.ops.BinaryOp.TheVariants.{Compare}
-use Rattle.sqlite_sql.specs.declared.ops.CompareOp.TheVariants.{Eq}
-use Rattle.sqlite.specs.Collation.TheVariants.{Binary}
-use Rattle.sqlite_trees.specs.Tree.{put_row, without_rowid}
 use Rattle.sqlite_tied.specs.Compute.{everything}
-use Rattle.reg_tables_schema.specs.Schema.{ours, versions}
-use Rattle.reg_tables_schema.specs.States.{IsInside}
-use Rattle.reg_tables_schema.specs.Statements.{IsRowWrite}
-use Rattle.reg_tables_schema.specs.Changes.{Adds}
-use Rattle.reg_tables_schema.specs.Rows.{mark, text_or_null}
-use Rattle.reg_tables_schema.proofs.Edits.{step_of, replacing}
-use Rattle.reg_tables_schema.proofs.Queries.{and_true, same_filter, equals_int, equals_text}
-use Rattle.reg_tables_schema.proofs.Statements.{adds, cast_int, cast_null}
+use Rattle.reg_tables_schema.specs.Schema.{versions}
+use Rattle.reg_tables_schema.proofs.Queries.{equals_text}
 use Rattle.reg_tables_schema.proofs.Binding.{cast_text}
 use Rattle.reg_tables_sql.specs.declared.versions.TheConstants.{INSERT_TEXT, SET_YANKED_TEXT}
 use Rattle.reg_tables_sql.specs.Versions.{MarksYanked, version_row}
-use Rattle.reg_tables_schema.specs.Tests.{is_version}
-use Rattle.reg_tables_schema.proofs.Selections.{matched}
 use Rattle.reg_tables_sql.proofs.Updates.{IsUpdate, Matches, updates_none, updates_one, updates_only}
 
 abbrev insert_terms : List Term

@@ -1,6 +1,5 @@
-use Rattle.std.proofs.Common.{◌≡◌, refl, sym, ap, ◌∙◌}
+use Rattle.reg_access.proofs.Words.{◌≡◌, refl, sym, ap, ◌∙◌, action_of, decision_of}
 use Rattle.reg_model.specs.Rules.{access}
-use Rattle.reg_policy.specs.Views.{action_of, decision_of}
 use Rattle.reg_access.proofs.Admitting.{has_its_crate, has_its_version, none_of}
 use Rattle.reg_access.proofs.admission.admission_of.Goals as goal
 

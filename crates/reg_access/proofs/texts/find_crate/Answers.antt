@@ -1,7 +1,5 @@
-use Rattle.std.proofs.Common.{[], ◌∷◌, pos, refl}
-use Rattle.sqlite.specs.declared.types.Value.TheVariants.{Int, Text}
+use Rattle.reg_access.proofs.Words.{[], ◌∷◌, pos, refl, Int, Text, crates_seen_by}
 use Rattle.reg_access.specs.Found.{columns_of_crate}
-use Rattle.reg_access.specs.JoinRows.{crates_seen_by}
 use Rattle.reg_access.proofs.Questions.{only_asked}
 use Rattle.reg_access.proofs.CrateText.{crate_gives, crate_is}
 use Rattle.reg_access.proofs.texts.find_crate.Goals as goal

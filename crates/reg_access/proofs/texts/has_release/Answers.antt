@@ -1,6 +1,4 @@
-use Rattle.std.proofs.Common.{pos, refl}
-use Rattle.sqlite.specs.declared.types.Value.TheVariants.{Int}
-use Rattle.reg_access.specs.JoinRows.{versions_of_release}
+use Rattle.reg_access.proofs.Words.{pos, refl, Int, versions_of_release}
 use Rattle.reg_access.proofs.Questions.{has_asked}
 use Rattle.reg_access.proofs.VersionTexts.{release_gives, release_is, release_params}
 use Rattle.reg_access.proofs.texts.has_release.Goals as goal

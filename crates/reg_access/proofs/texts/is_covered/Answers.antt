@@ -1,6 +1,4 @@
-use Rattle.std.proofs.Common.{[], ◌∷◌, pos, refl}
-use Rattle.sqlite.specs.declared.types.Value.TheVariants.{Int, Text}
-use Rattle.reg_access.specs.JoinRows.{scopes_over}
+use Rattle.reg_access.proofs.Words.{[], ◌∷◌, pos, refl, Int, Text, scopes_over}
 use Rattle.reg_access.proofs.Questions.{has_asked}
 use Rattle.reg_access.proofs.ScopeText.{scopes_give, scopes_is}
 use Rattle.reg_access.proofs.texts.is_covered.Goals as goal

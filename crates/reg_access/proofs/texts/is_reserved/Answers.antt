@@ -1,6 +1,4 @@
-use Rattle.std.proofs.Common.{[], ◌∷◌, refl}
-use Rattle.sqlite.specs.declared.types.Value.TheVariants.{Text}
-use Rattle.reg_access.specs.JoinRows.{reserved_as}
+use Rattle.reg_access.proofs.Words.{[], ◌∷◌, refl, Text, reserved_as}
 use Rattle.reg_access.proofs.Questions.{has_asked}
 use Rattle.reg_tables_sql.proofs.ReservedQueries.{by_canon_is}
 use Rattle.reg_access.proofs.ReservedText.{reserved_gives}

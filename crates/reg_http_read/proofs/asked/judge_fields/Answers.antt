@@ -1,10 +1,6 @@
-use Rattle.std.proofs.Common.{◌≡◌, Err, Ok, arith, map, sym, subst}
+use Rattle.reg_http_read.proofs.Words.{◌≡◌, Err, Ok, arith, map, sym, subst, header_parts, H4, H5, greatest_body, IsAsked}
 use Rattle.std.proofs.lemmas.List.{length-map}
-use Rattle.httparse.specs.Borrowed.{header_parts}
-use Rattle.reg_model.specs.declared.rule.Rule.TheVariants.{H4, H5}
 use Rattle.reg_http_read.specs.Fields as spec
-use Rattle.reg_http_read.specs.Heads.{greatest_body}
-use Rattle.reg_http_read.specs.Reads.{IsAsked}
 use Rattle.reg_http_read.proofs.Judged.{coding_judged, hosts_judged, large_judged, length_judged, many_judged, no_length_judged, past_counts}
 use Rattle.reg_http_read.proofs.asked.judge_fields.Goals.{After-body_length}
 use Rattle.reg_http_read.proofs.asked.judge_fields.Goals as goal

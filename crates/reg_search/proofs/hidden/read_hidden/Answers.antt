@@ -1,5 +1,4 @@
-use Rattle.std.proofs.Common.{refl}
-use Rattle.reg_tables_schema.specs.declared.edition.Edition.TheVariants.{Second}
+use Rattle.reg_search.proofs.Words.{refl, Second}
 use Rattle.reg_search.proofs.Texts.{hidden_is}
 use Rattle.reg_search.proofs.Told.{hidden_told}
 use Rattle.reg_search.proofs.hidden.read_hidden.Goals as goal

@@ -1,5 +1,4 @@
-use Rattle.std.proofs.Common.{refl}
-use Rattle.reg_tables_schema.specs.declared.edition.Edition.TheVariants.{Second}
+use Rattle.reg_search.proofs.Words.{refl, Second}
 use Rattle.reg_search.proofs.Texts.{hit_is}
 use Rattle.reg_search.proofs.Told.{hit_popped}
 use Rattle.reg_search.proofs.page.read_hit.Goals as goal

@@ -1,12 +1,5 @@
-use Rattle.std.proofs.Common.{rules, arith, [], ◌∷◌, ◌++◌, Ok, refl, subst, sym, ◌∙◌}
-use Rattle.std.proofs.lemmas.Result.{err_from_is_err_and}
-use Rattle.sqlite.specs.Held.{state}
-use Rattle.sqlite.specs.State.{HasCleanDisk}
-use Rattle.sqlite.specs.declared.error.Error.{Error}
-use Rattle.reg_tables_schema.specs.declared.edition.Edition.TheVariants.{Second}
-use Rattle.reg_tables_meaning.specs.Walks.{IsRead}
-use Rattle.reg_tables_meaning.proofs.Walking.{walk_ends, walk_fails, walk_left, walked, walked_all}
-use Rattle.reg_search.specs.declared.searching.TheConstants.{WALK_TEXT}
+use Rattle.reg_search.proofs.Words.{rules, arith, [], ◌∷◌, ◌++◌, Ok, refl, subst, sym, ◌∙◌, err_from_is_err_and, state, HasCleanDisk, Error}
+use Rattle.reg_search.proofs.Words.{Second, IsRead, walk_ends, walk_fails, walk_left, walked, walked_all, WALK_TEXT}
 use Rattle.reg_search.proofs.Texts.{walk_is}
 use Rattle.reg_search.proofs.Told.{walk_told}
 use Rattle.reg_search.proofs.searching.walk.Goals as goal

@@ -1,8 +1,4 @@
-use Rattle.std.proofs.Common.{◌≡◌, List, []}
-use Rattle.sqlite.specs.Order.{Row}
-use Rattle.reg_tables_meaning.specs.Walks.{HasWalked}
-use Rattle.reg_search.specs.declared.searching.TheConstants.{WALK_TEXT}
-use Rattle.reg_search.specs.Rows.{AreHits}
+use Rattle.reg_search.proofs.Words.{◌≡◌, List, [], Row, HasWalked, WALK_TEXT, AreHits}
 use Rattle.reg_search.proofs.searching.walk.Given as goal
 
 -- what is found is found among the rows so far

@@ -1,5 +1,4 @@
-use Rattle.std.proofs.Common.{refl}
-use Rattle.reg_tables_schema.specs.declared.edition.Edition.TheVariants.{Second}
+use Rattle.reg_tables_meaning.proofs.Words.{refl, Second}
 use Rattle.reg_tables_sql.proofs.StemQueries.{stems_are}
 use Rattle.reg_tables_meaning.proofs.entries.index_rows.Goals as goal
 
