@@ -1,7 +1,7 @@
 //! The first rule on the state that an action breaks.
 
 ghost use Rattle.std.specs.Prelude.{◌≡◌};
-ghost use Rattle.std.specs.List.{find};
+ghost use Rattle.std.specs.List.{find, list_any};
 ghost use Rattle.std.specs.Str.{bytes_eq};
 ghost use Rattle.reg_names.specs.Names.{path_of};
 ghost use Rattle.reg_body.specs.declared.limits.Limits.{Limits};
@@ -21,6 +21,13 @@ pub fn same_text(one: &str, other: &str) -> bool
     ensures { result ≡ bytes_eq one.now other.now }
 {
     one == other
+}
+
+/// Whether a text is among these.
+pub(crate) fn is_among(texts: &[&str], text: &str) -> bool
+    ensures { result ≡ list_any (λ t. bytes_eq t.now text.now) texts.now }
+{
+    texts.iter().any(|known| same_text(known, text))
 }
 
 /// Whether a token with these endpoints has this one.

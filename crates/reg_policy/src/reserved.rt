@@ -1,24 +1,15 @@
 //! The names that are always reserved.
 
 ghost use Rattle.std.specs.Prelude.{◌≡◌};
-ghost use Rattle.std.specs.List.{list_any};
-ghost use Rattle.std.specs.Str.{bytes_eq};
 ghost use Rattle.reg_model.specs.Crates.{is_reserved_always as is_reserved_always_of};
 
-use crate::deciding::same_text;
+use crate::deciding::is_among;
 use reg_names::CanonText;
 
 const ALWAYS: [&str; 22] = [
     "con", "prn", "aux", "nul", "com1", "com2", "com3", "com4", "com5", "com6", "com7", "com8",
     "com9", "lpt1", "lpt2", "lpt3", "lpt4", "lpt5", "lpt6", "lpt7", "lpt8", "lpt9",
 ];
-
-/// Whether a text is among these.
-fn is_among(texts: &[&str], text: &str) -> bool
-    ensures { result ≡ list_any (λ t. bytes_eq t.now text.now) texts.now }
-{
-    texts.iter().any(|known| same_text(known, text))
-}
 
 /// Whether a canonical text is a Windows device name, and so always reserved.
 #[tactic(auto, unfolding(reg_model::specs::Crates::is_reserved_always))]
