@@ -1,4 +1,4 @@
-pub mod Facts
+pub mod FactLemmas
 pub mod Lists
 pub mod PatternTexts
 pub mod ReportLines

@@ -2,7 +2,7 @@ use Rattle.std.proofs.Common.{◌∙◌, ap, rules}
 use Rattle.std.specs.List.{find}
 use Rattle.reg_policy.specs.Facts.{is_broken, spelling_in}
 use Rattle.reg_policy.specs.Views.{action_of, decision_of}
-use Rattle.reg_policy.proofs.Facts.{first_counted, first_uncounted}
+use Rattle.reg_policy.proofs.FactLemmas.{first_counted, first_uncounted}
 use Rattle.reg_policy.proofs.deciding.first_broken.Goals as goal
 
 pub returns-clause-counted : goal.returns-clause-counted
