@@ -179,12 +179,13 @@ class Place:
         self.run("openssl", "req", "-x509", "-newkey", "rsa:2048", "-nodes", "-days", 2, "-subj", "/CN=localhost", "-addext",
                  "subjectAltName=DNS:localhost", "-keyout", key, "-out", self.certificate)
         self.way = Way(self.port)
+        self.upstream = self.way.port
 
     def in_place(self, file, port):
         changes = {
             "listen 443": f"listen 127.0.0.1:{port}",
             "    listen [::]:443 ssl http2;\n": "",
-            "127.0.0.1:8080": f"127.0.0.1:{self.way.port}",
+            "127.0.0.1:8080": f"127.0.0.1:{self.upstream}",
             "/etc/ssl/crates.example.com.pem": str(self.certificate),
             "/etc/ssl/crates.example.com.key": str(self.certificate.with_suffix(".key")),
             "crates.example.com {": f"localhost:{port} {{\n\ttls {self.certificate} {self.certificate.with_suffix('.key')}",

@@ -55,7 +55,8 @@ function dependenciesOfKind([kind, title], all) {
     const byTarget = Map.groupBy(ofKind, ({ target }) => target ?? '');
     const lists = [...byTarget.keys()].sort().flatMap((target) => [
         ...(target === '' ? [] : [make('h4', {}, 'On ', make('code', {}, told(target)))]),
-        make('ul', { className: 'dependencies', role: 'list' }, ...byTarget.get(target).map(dependencyItem)),
+        make('ul', { className: 'dependencies', role: 'list' },
+            ...byTarget.get(target).map(dependencyItem)),
     ]);
     return lists.length === 0 ? [] : [make('h3', {}, title), ...lists];
 }
