@@ -5,6 +5,7 @@ import { addressOf, badge, button, copyable, definitions, make, number, section,
     visible } from './texts.js';
 
 const SHORT = 200; // characters of a text in the list of versions
+const TOGETHER = 100; // versions in one of its parts
 const OURS = [null, `sparse+${location.origin}/index/`];
 const CRATES_IO = [
     'https://github.com/rust-lang/crates.io-index', 'sparse+https://index.crates.io/',
@@ -62,7 +63,7 @@ function dependenciesOfKind([kind, title], all) {
 }
 
 function dependencies({ dependencies: all }) {
-    const kinds = [['normal', 'To use it'], ['build', 'To build it'], ['dev', 'To test it']];
+    const kinds = [['normal', 'Normal'], ['build', 'Build'], ['dev', 'Development']];
     const lists = kinds.flatMap((kind) => dependenciesOfKind(kind, all));
     const none = [make('p', { className: 'quiet' }, 'None')];
     return section(`Dependencies (${number(all.length)})`, ...(all.length > 0 ? lists : none));
@@ -70,7 +71,7 @@ function dependencies({ dependencies: all }) {
 
 function features({ features: all }) {
     const rows = all.map(([name, values]) => [
-        told(name), values.length > 0 ? told(values.join(', ')) : spanOf('quiet', 'nothing more'),
+        told(name), values.length > 0 ? told(values.join(', ')) : spanOf('quiet', 'enables nothing else'),
     ]);
     const none = make('p', { className: 'quiet' }, 'None');
     return section(`Features (${number(all.length)})`,
@@ -115,11 +116,20 @@ function versionRow({ name, vers, isYanked, rust, sum, features: all }) {
     return row;
 }
 
+/** Rows that the browser lays out together, once they come into sight. */
+function versionRows(versions) {
+    const rows = make('ol', { className: 'versions', role: 'list' }, ...versions.map(versionRow));
+    rows.style.setProperty('--rows', versions.length);
+    return rows;
+}
+
 /** All versions of a crate, each a row with a link. */
 export function versionList({ versions }) {
-    const properties = { className: 'versions', role: 'list' };
-    const list = make('ol', properties, ...versions.map(versionRow));
-    return section(`Versions (${number(versions.length)})`, list);
+    const lists = [];
+    for (let first = 0; first < versions.length; first += TOGETHER) {
+        lists.push(versionRows(versions.slice(first, first + TOGETHER)));
+    }
+    return section(`Versions (${number(versions.length)})`, ...lists);
 }
 
 function title({ name, highest }, version) {

@@ -34,6 +34,9 @@ export function button(className, words, action) {
 
 /** A publisher's text with each hidden or directional character spelled out. */
 export function visible(text) {
+    if (/^[ -~]*$/.test(text)) {
+        return text; // as most are, of which a long list has thousands
+    }
     const hidden = /(?![\t\n\r\u200c\u200d])[\p{Cc}\p{Cf}\p{Zl}\p{Zp}]/gu;
     const digits = (mark) => mark.codePointAt(0).toString(16).toUpperCase().padStart(4, '0');
     return text.replace(hidden, (mark) => `[U+${digits(mark)}]`);
