@@ -162,7 +162,7 @@ function versionOf(line) {
         isYanked: fields.yanked,
         rust: fields.rust_version,
         links: fields.links,
-        dependencies: fields.deps,
+        dependencies: [...fields.deps],
         features: [...Object.entries(fields.features), ...Object.entries(fields.features2 ?? {})],
         precedence: precedenceOf(fields.vers),
     };
