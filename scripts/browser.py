@@ -14,7 +14,7 @@ import sys
 import tempfile
 import threading
 import time
-from contextlib import contextmanager
+from contextlib import contextmanager, suppress
 from http.server import BaseHTTPRequestHandler, ThreadingHTTPServer
 from pathlib import Path
 from typing import NamedTuple
@@ -23,7 +23,6 @@ TOP = Path(__file__).resolve().parent.parent
 PROGRAM = Path(os.environ.get("REGISTRY_CLI", TOP / "crates/registry_cli/out/registry_cli")).resolve()
 DRIVER = "/usr/bin/chromedriver"
 PATIENCE = 60
-ALL_ENDPOINTS = "publish-new,publish-update,yank,change-owners"
 NGINX = """
 pid {folder}/pid; error_log {folder}/error.log; worker_processes auto; events {{ worker_connections 768; }}
 http {{
@@ -101,7 +100,8 @@ class Way:
                 self.send_header("content-type", answer.kind)
                 self.send_header("content-length", str(len(answer.body)))
                 self.end_headers()
-                self.wfile.write(answer.body)
+                with suppress(ConnectionError):
+                    self.wfile.write(answer.body)
 
             do_GET = do_PUT = do_DELETE = pass_on
 
@@ -152,8 +152,11 @@ class Place:
     def admin(self, *words):
         return self.run(PROGRAM, *words, "--db", self.db)
 
-    def token(self, login, endpoints=ALL_ENDPOINTS):
-        return self.admin("token-add", login, "--endpoints", endpoints).split()[1]
+    def admin_all(self, *lines):
+        """Commands in one run."""
+        commands = self.folder / "commands"
+        commands.write_text("".join(f"{line}\n" for line in lines))
+        self.run(PROGRAM, "pipe", "--db", self.db, "--setup", commands)
 
     def serve(self):
         words = [PROGRAM, "serve", "--port", self.port, "--connections", 1_000_000_000, "--db", self.db]

@@ -143,7 +143,7 @@ async function sha256(bytes) {
 // ---- A crate and its versions
 
 export const isName = (text) => /^[A-Za-z][A-Za-z0-9_-]{0,63}$/.test(text);
-export const canonical = (name) => name.toLowerCase().replaceAll('-', '_');
+const canonical = (name) => name.toLowerCase().replaceAll('-', '_');
 const exchanged = (name) => name.replace(/[-_]/g, (mark) => (mark === '-' ? '_' : '-'));
 
 /** The path of an index file (the Cargo Book, "Registry Index", "Index files"). */
@@ -183,14 +183,16 @@ async function versionsAt(name, signal) {
     return versions.sort((a, b) => byPrecedence(b.precedence, a.precedence));
 }
 
-/** The versions of a crate by any spelling; `alike` are the names that a search finds by it. */
-async function versionsOf(name, alike, signal) {
+/** The versions of a crate by any spelling; `search` is what a search of that finds. */
+async function versionsOf(name, search, signal) {
     const versions = await versionsAt(name, signal);
     if (versions !== null) {
         return versions;
     }
-    const isSpelling = (other) => canonical(other) === canonical(name);
-    for (const other of [...(await alike).filter(isSpelling), exchanged(name)]) {
+    const found = await search;
+    const names = found instanceof Failure ? [] : found.crates.map((crate) => crate.name);
+    const spellings = names.filter((other) => canonical(other) === canonical(name));
+    for (const other of [...spellings, exchanged(name)]) {
         const published = await versionsAt(other, signal);
         if (published !== null) {
             return published;
@@ -217,9 +219,8 @@ async function orFailure(promise) {
  */
 export async function crateOf(name, signal) {
     const search = orFailure(cratesWith(name, signal));
-    const alike = search.then((found) => found.crates?.map((crate) => crate.name) ?? []);
     const [versions, found, owners] = await Promise.all([
-        versionsOf(name, alike, signal), search, orFailure(ownersOf(name, signal)),
+        versionsOf(name, search, signal), search, orFailure(ownersOf(name, signal)),
     ]);
     const published = versions[0].name;
     return {
