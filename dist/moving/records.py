@@ -40,8 +40,8 @@ class Records:
     def __post_init__(self):
         self.by_crate = {canonical(name): record for name, record in self.crates.items()}
 
-    def of(self, crate):
-        return self.by_crate.get(crate) or CrateRecord()
+    def of(self, name):
+        return self.by_crate.get(canonical(name)) or CrateRecord()
 
     def to_json(self):
         return json.dumps({"format": FORMAT, **asdict(self)}, indent=1, ensure_ascii=False) + "\n"

@@ -52,8 +52,11 @@ class Report:
         """Something that is counted only."""
         self.notes[word][what] += 1
 
+    def is_empty(self):
+        return not (self.crates or self.left or self.notes)
+
     def count(self, word):
-        return sum(map(len, self.crates[word].values()))
+        return sum(map(len, self.crates.get(word, {}).values()))
 
     def lines(self):
         for word, crates in self.crates.items():

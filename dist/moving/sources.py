@@ -113,7 +113,10 @@ def open_folder(folder, options, token):
     if index is not None:
         return open_index(index, options, token)
     url = options.index_url or CRATES_IO
-    return Source(url, CrateFiles(folder, url))
+    archives = CrateFiles(folder, url)
+    if not any(archives.files()):
+        raise BadUse(f"{folder} has no config.json of an index, and no .crate files")
+    return Source(url, archives)
 
 
 def open_git(url, options, token):
