@@ -1,6 +1,6 @@
 """Brings the versions of a source into a registry: publishes, then yanks, owners, and the rest."""
+from .addresses import is_same_index
 from .faults import BadUse, Fault, Left
-from .indexes import usual_url
 from .names import canonical
 from .order import in_order
 from .program import Refused
@@ -34,6 +34,7 @@ class Import:
 
     def run(self):
         self.find_owners()
+        self.tell_lacking()
         publications = in_order(self.source.by_crate)
         if self.is_dry:
             self.each(publications, self.bring)
@@ -47,7 +48,10 @@ class Import:
             self.each_ours(self.ours, self.add_owners)
         except (Fault, Refused) as found:
             fault = found
-        self.target.end(self.commands())
+        try:
+            self.target.end(self.commands())
+        except Refused as found:
+            fault = fault or found
         if fault is not None:
             raise fault
 
@@ -76,6 +80,14 @@ class Import:
     def check_stop(self):
         if self.was_stopped:
             raise Fault("a signal ended it: run it again for the rest")
+
+    def tell_lacking(self):
+        """What of an export takes commands, which a registry that serves does not take."""
+        records = self.source.records
+        has_readers = any(record.readers for record in records.crates.values())
+        is_lacking = has_readers or records.reserved or not all(account.enabled for account in records.accounts)
+        if is_lacking and not self.target.keeps_all:
+            self.report.leave("readers, reserved names and disabled accounts", "an import with --db brings them")
 
     # Who owns what.
 
@@ -129,10 +141,10 @@ class Import:
     # Versions.
 
     def versions_there(self, name):
-        crate = canonical(name)
-        if crate not in self.there:
-            self.there[crate] = self.target.versions(name)
-        return self.there[crate]
+        """What the registry has at the name's path, which is that of no other spelling with - and _."""
+        if name.lower() not in self.there:
+            self.there[name.lower()] = self.target.versions(name)
+        return self.there[name.lower()]
 
     def bring(self, publication):
         """Publishes a version, unless it is there already."""
@@ -151,7 +163,7 @@ class Import:
     def publish(self, publication):
         record = self.source.records.of(publication.crate)
         if record.restricted and not self.target.keeps_all:
-            raise Left("its crate is restricted, which only an import into a stopped registry keeps")
+            raise Left("its crate is restricted: an import with --db brings it")
         if self.is_dry:
             self.metadata(publication, record)
             if self.source.archives.is_local:
@@ -176,12 +188,12 @@ class Import:
     def registry_of(self, dependency):
         """The registry that a dependency names there: none where its crate is brought too."""
         url = self.source.url
-        if dependency.registry is not None and usual_url(dependency.registry) != url:
+        if dependency.registry is not None and not is_same_index(dependency.registry, url):
             return dependency.registry
         if self.is_brought(dependency.name):
             return None
         if url is None:
-            raise Left(f"its dependency {dependency.name} is not brought, nor its index known: name that by --index-url")
+            raise Left(f"its dependency {dependency.name} is not brought: name its index by --index-url")
         self.report.note(f"dependencies now of {url}", dependency.name)
         return url
 
@@ -226,7 +238,7 @@ class Import:
                 continue
             self.change_owner("PUT", "owner added", name, owner, login)
         for owner in there:
-            if self.hands_over and owner not in wanted and not self.there[crate]:
+            if self.hands_over and owner not in wanted and not self.versions_there(name):
                 self.change_owner("DELETE", "owner removed", name, owner, login)
 
     def change_owner(self, method, word, name, owner, login):

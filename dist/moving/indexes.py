@@ -5,12 +5,11 @@ import subprocess
 from pathlib import Path
 
 from . import web
+from .addresses import CRATES_IO, usual_url
 from .faults import BadUse, Fault, Left
-from .manifests import CRATES_IO
 from .names import SAFE_NAME, canonical, index_path
 from .publications import publication_of
 
-CRATES_IO_SPARSE = "sparse+https://index.crates.io"
 CRATES_IO_API = "https://crates.io"
 
 
@@ -22,11 +21,6 @@ def read_config(text, where):
     if not isinstance(config, dict):
         raise Fault(f"{where} is no config.json of an index")
     return config
-
-
-def usual_url(url):
-    """The URL by which cargo names an index: crates.io has two."""
-    return CRATES_IO if url is not None and url.rstrip("/") == CRATES_IO_SPARSE else url
 
 
 class FolderIndex:

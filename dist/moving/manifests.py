@@ -10,11 +10,11 @@ try:
 except ImportError:  # Python before 3.11
     tomllib = None
 
+from .addresses import CRATES_IO, is_same_index
 from .faults import BadUse, Left
 from .publications import Dependency, Publication, check_names
 from .semver import requirement_of
 
-CRATES_IO = "https://github.com/rust-lang/crates.io-index"
 # In the order in which cargo lists dependencies; at a target its build dependencies come first.
 TABLES = (("dependencies", "normal"), ("dev-dependencies", "dev"), ("build-dependencies", "build"))
 TARGET_TABLES = (TABLES[0], TABLES[2], TABLES[1])
@@ -94,7 +94,7 @@ class Manifest:
         if "registry" in table:
             raise Left(f"its dependency {name} is of a registry that only a configuration knows")
         registry = member(table, "registry-index", str, CRATES_IO)
-        return None if registry == self.index_url else registry
+        return None if is_same_index(registry, self.index_url) else registry
 
     def dependency(self, name, value, kind, target):
         table = {"version": value} if isinstance(value, str) else value

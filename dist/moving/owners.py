@@ -2,26 +2,14 @@
 login for all."""
 import json
 from dataclasses import dataclass, field
-from pathlib import Path
 from typing import Callable, Dict, List, Optional, Tuple
 
 from . import web
 from .faults import BadUse, Fault, Left
 from .names import LOGIN, covers
+from .texts import lines_of
 
 NOBODY = "-"
-
-
-def lines_of(path):
-    """The words of each line of a file that is no comment, with the line's number."""
-    try:
-        text = Path(path).read_text()
-    except (OSError, UnicodeDecodeError) as fault:
-        raise BadUse(f"can't read {path}: {getattr(fault, 'strerror', None) or 'it is not UTF-8'}") from None
-    for number, line in enumerate(text.splitlines(), 1):
-        words = line.partition("#")[0].split()
-        if words:
-            yield number, words
 
 
 def check_login(login, where):

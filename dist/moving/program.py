@@ -1,7 +1,6 @@
 """The program `registry_cli` on a registry's file: its commands and reports, and a stream of requests."""
 import hashlib
 import os
-import shutil
 import subprocess
 import tempfile
 from pathlib import Path
@@ -52,11 +51,9 @@ class Program:
         self.path = path
         self.db = Path(db).absolute()
         self.user = User(db)
-        self.folder = Path(tempfile.mkdtemp(prefix="registry-"))
+        self.temporary = tempfile.TemporaryDirectory(prefix="registry-")
+        self.folder = Path(self.temporary.name)
         self.user.give(self.folder)
-
-    def close(self):
-        shutil.rmtree(self.folder, ignore_errors=True)
 
     def start(self, arguments, **options):
         """Starts it apart from the terminal, whose Ctrl-C is for the script."""

@@ -4,10 +4,10 @@ import tempfile
 from collections import defaultdict
 from pathlib import Path
 
+from .addresses import CRATES_IO
 from .archives import CrateFiles, FolderArchives, WebArchives
 from .faults import BadUse
 from .indexes import FolderIndex, SparseIndex, cloned, is_bare_repository, publications_in
-from .manifests import CRATES_IO
 from .names import canonical
 from .records import Records, read_records
 from .semver import precedence

@@ -101,9 +101,6 @@ class StoppedRegistry(Target):
             session.close()
             self.program.do([*(f"token-revoke {number}" for number in self.token_ids), *commands])
 
-    def close(self):
-        self.program.close()
-
 
 class ServingRegistry(Target):
     """A registry that serves, at its base. One token asks for all, and its account publishes."""
@@ -144,7 +141,4 @@ class ServingRegistry(Target):
         return True
 
     def end(self, _commands):
-        pass
-
-    def close(self):
         pass
