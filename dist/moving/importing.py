@@ -164,26 +164,29 @@ class Import:
         record = self.source.records.of(publication.crate)
         if record.restricted and not self.target.keeps_all:
             raise Left("its crate is restricted: an import with --db brings it")
-        if self.is_dry:
-            self.metadata(publication, record)
-            if self.source.archives.is_local:
-                self.source.archives.get(publication)
-            return "would be brought"
-        login = self.publisher(publication)
-        archive = self.source.archives.get(publication)
-        body = publish_body(self.metadata(publication, record), archive)
-        reply = self.target.publish(publication, body, login)
-        if reply.status != 200:
-            raise Left(reply.words())
-        for key in publication.lost:
-            self.report.note("not carried over", key)
-        return "brought"
-
-    def metadata(self, publication, record):
         metadata = publication.to_metadata(self.registry_of)
         if publication.version in record.descriptions:
             metadata["description"] = record.descriptions[publication.version]
-        return metadata
+        if self.is_dry:
+            if self.source.archives.is_local:
+                self.source.archives.get(publication)
+        else:
+            login = self.publisher(publication)
+            body = publish_body(metadata, self.source.archives.get(publication))
+            reply = self.target.publish(publication, body, login)
+            if reply.status != 200:
+                raise Left(reply.words())
+        self.tell_changes(publication, metadata)
+        return "would be brought" if self.is_dry else "brought"
+
+    def tell_changes(self, publication, metadata):
+        """What its line will have that is not that of the source."""
+        for key in publication.lost:
+            self.report.note("not carried over", key)
+        for dependency, written in zip(publication.dependencies, metadata["deps"]):
+            if written["registry"] != dependency.registry:
+                registry = written["registry"] or "the registry itself"
+                self.report.note(f"dependencies now of {registry}", dependency.name)
 
     def registry_of(self, dependency):
         """The registry that a dependency names there: none where its crate is brought too."""
@@ -194,7 +197,6 @@ class Import:
             return None
         if url is None:
             raise Left(f"its dependency {dependency.name} is not brought: name its index by --index-url")
-        self.report.note(f"dependencies now of {url}", dependency.name)
         return url
 
     def is_brought(self, name):

@@ -87,7 +87,10 @@ class StoppedRegistry(Target):
         able = [login for login in owners if login in self.tokens]
         if not able:
             raise Left(f"none of its owners is enabled: {', '.join(owners)}")
-        there = [] if is_new else self.owners(name, able[0])
+        if is_new:
+            return able[0]
+        # Of a restricted crate the owners are told to its owners and readers alone.
+        there = next(filter(None, (self.owners(name, login) for login in able)), ())
         return next((login for login in able if login in there), able[0])
 
     def can_own(self, login):
