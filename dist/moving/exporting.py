@@ -144,7 +144,7 @@ class Export:
 
     def write_config(self):
         config = {"dl": f"{self.base}/{TEMPLATE}"}
-        self.write("index/config.json", json.dumps(config).encode())
+        self.write("index/config.json", f"{json.dumps(config)}\n".encode())
 
     def write_records(self):
         path = self.folder / "registry.json"

@@ -29,7 +29,8 @@ class FolderIndex:
     def __init__(self, folder, url=None):
         self.folder = Path(folder)
         self.config = self.read_config()
-        self.url = usual_url(url or self.known_url())
+        # A copy of crates.io's tells by its config what it is, wherever it is.
+        self.url = CRATES_IO if self.config.get("api") == CRATES_IO_API else usual_url(url)
 
     def read_config(self):
         path = self.folder / "config.json"
@@ -39,14 +40,6 @@ class FolderIndex:
             return read_config(path.read_bytes(), path)
         except OSError as fault:
             raise Fault(f"can't read {path}: {fault.strerror}") from None
-
-    def known_url(self):
-        """That of crates.io, which its config tells, or what a clone was made from."""
-        if self.config.get("api") == CRATES_IO_API:
-            return CRATES_IO
-        if (self.folder / ".git").exists():
-            return origin_of(self.folder)
-        return None
 
     def names(self):
         """The names in lower case of all files that stand at a name's path."""
@@ -102,20 +95,19 @@ def run_git(*arguments):
 
 
 def origin_of(folder):
-    """What a clone was made from; None where nothing tells it."""
+    """What a clone was made from; None where nothing tells it, or where that is a folder."""
     try:
         status, url, _ = run_git("-C", str(folder), "config", "remote.origin.url")
     except Fault:
         return None
-    return url.strip() if status == 0 else None
+    return url.strip() if status == 0 and not Path(url.strip()).exists() else None
 
 
-def cloned(url, folder):
-    """The index of a git repository, as a clone in the folder."""
-    status, _, said = run_git("clone", "--quiet", "--depth", "1", "--", url, str(folder))
+def clone(repository, folder):
+    """Clones a git repository, which may be a folder, into a folder."""
+    status, _, said = run_git("clone", "--quiet", "--depth", "1", "--", repository, str(folder))
     if status:
-        raise Fault(f"git can't clone {url}: {' '.join(said.split())}")
-    return FolderIndex(folder, url)
+        raise Fault(f"git can't clone {repository}: {' '.join(said.split())}")
 
 
 def is_bare_repository(folder):

@@ -4,10 +4,10 @@ import tempfile
 from collections import defaultdict
 from pathlib import Path
 
-from .addresses import CRATES_IO
+from .addresses import CRATES_IO, usual_url
 from .archives import CrateFiles, FolderArchives, WebArchives
 from .faults import BadUse
-from .indexes import FolderIndex, SparseIndex, cloned, is_bare_repository, publications_in
+from .indexes import FolderIndex, SparseIndex, clone, is_bare_repository, origin_of, publications_in
 from .names import canonical
 from .records import Records, read_records
 from .semver import precedence
@@ -70,12 +70,9 @@ class Source:
         return publications_in(self.index, name, lambda _where, _reason: None)
 
 
-def index_in(folder, url):
-    """The index in a folder, or in its folder `index`; None where there is none."""
-    for place in (folder, folder / "index"):
-        if (place / "config.json").is_file():
-            return FolderIndex(place, url)
-    return None
+def index_in(folder):
+    """The folder of an index: this one, or its folder `index`; None where there is none."""
+    return next((place for place in (folder, folder / "index") if (place / "config.json").is_file()), None)
 
 
 def web_archives(index, token):
@@ -98,6 +95,8 @@ def open_export(folder, options):
 
 
 def open_index(index, options, token):
+    if options.index_url:
+        index.url = usual_url(options.index_url)
     archives = FolderArchives(options.archives) if options.archives else web_archives(index, token)
     return Source(index.url, archives, index)
 
@@ -106,12 +105,15 @@ def open_folder(folder, options, token):
     if (folder / RECORDS).is_file():
         return open_export(folder, options)
     if is_bare_repository(folder):
-        return open_git(str(folder.absolute()), options, token)
-    index = index_in(folder, options.index_url)
-    if index is None and options.archives:
-        index = FolderIndex(folder, options.index_url)
-    if index is not None:
-        return open_index(index, options, token)
+        return open_git(str(folder.absolute()), origin_of(folder), options, token)
+    place = index_in(folder) or (folder if options.archives else None)
+    if place is None:
+        return open_archives(folder, options)
+    url = origin_of(place) if (place / ".git").exists() else None
+    return open_index(FolderIndex(place, url), options, token)
+
+
+def open_archives(folder, options):
     url = options.index_url or CRATES_IO
     archives = CrateFiles(folder, url)
     if not any(archives.files()):
@@ -119,14 +121,12 @@ def open_folder(folder, options, token):
     return Source(url, archives)
 
 
-def open_git(url, options, token):
+def open_git(repository, url, options, token):
     """The clone stays until the script ends."""
-    clone = tempfile.TemporaryDirectory(prefix="registry-import-")
-    index = cloned(url, clone.name)
-    if options.index_url or Path(url).exists():
-        index.url = options.index_url
-    source = open_index(index, options, token)
-    source.clone = clone
+    folder = tempfile.TemporaryDirectory(prefix="registry-import-")
+    clone(repository, folder.name)
+    source = open_index(FolderIndex(folder.name, url), options, token)
+    source.clone = folder
     return source
 
 
@@ -134,12 +134,9 @@ def open_source(options, token):
     """The source that the arguments name."""
     name = options.source
     if name.startswith("sparse+"):
-        index = SparseIndex(name, token)
-        if options.index_url:
-            index.url = options.index_url
-        return open_index(index, options, token)
+        return open_index(SparseIndex(name, token), options, token)
     if Path(name).is_dir():
         return open_folder(Path(name), options, token)
     if Path(name).exists() or not URL.match(name):
         raise BadUse(f"{name} is no folder, and no address such as sparse+https://.. or one of git")
-    return open_git(name, options, token)
+    return open_git(name, name, options, token)
