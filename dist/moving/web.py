@@ -1,12 +1,13 @@
 """Requests by HTTP: to the registry that crates come from, and to one that serves."""
 import http.client
 import json
+import ssl
 import time
 import urllib.error
 import urllib.parse
 import urllib.request
 
-from .faults import BadUse
+from .faults import BadUse, Fault
 
 # Answers after which the same may work a moment later: of a proxy, mostly.
 PASSING = {429, 500, 502, 503, 504}
@@ -66,7 +67,10 @@ def ask(method, url, token=None, body=None):
     except (ValueError, http.client.InvalidURL) as fault:
         raise BadUse(f"{url} is no address: {fault}") from None
     except (OSError, http.client.HTTPException) as fault:
-        raise NoAnswer(f"{url}: {getattr(fault, 'reason', None) or fault}") from None
+        reason = getattr(fault, "reason", None) or fault
+        if isinstance(reason, ssl.SSLCertVerificationError):
+            raise Fault(f"{url}: {reason.verify_message}: name its certificate by SSL_CERT_FILE") from None
+        raise NoAnswer(f"{url}: {reason}") from None
 
 
 def persist(method, url, token=None, body=None, is_done=lambda: False):
