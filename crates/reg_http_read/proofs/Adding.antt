@@ -1,7 +1,7 @@
 -- Several reads are one, and turns add up.
-use Rattle.reg_http_read.proofs.Words.{◌≡◌, ◌++◌, ℕ, [], refl, sym, ap, ◌∙◌, subst, arith, append_assoc, append-nil, Option, Result, Ok}
-use Rattle.reg_http_read.proofs.Words.{Err, Consumes-nil, Consumes-trans, Text, Reads, SpendsFor, SpendsSome, StreamFault, Memory}
-use Rattle.reg_http_read.proofs.Words.{ReadFault, StoreFault, TooManyTurns, WriteFault}
+use Rattle.reg_http_read.proofs.Common.{◌≡◌, ◌++◌, ℕ, [], refl, sym, ap, ◌∙◌, subst, arith, append_assoc, append-nil, Option, Result, Ok}
+use Rattle.reg_http_read.proofs.Common.{Err, Consumes-nil, Consumes-trans, Text, Reads, SpendsFor, SpendsSome, StreamFault, Memory}
+use Rattle.reg_http_read.proofs.Common.{ReadFault, StoreFault, TooManyTurns, WriteFault}
 use Rattle.reg_http_read.specs.Turns.{Spends, SpendsTurns, Tally}
 
 pub reads_nothing : (r : Option Text) (was now : Text) (holds : Text → Type 0) → holds was → Reads r r was now holds

@@ -1,8 +1,8 @@
 -- What was read stays so when more bytes follow.
-use Rattle.reg_http_read.proofs.Words.{◌≡◌, ℕ, ◌<◌, ◌≤◌, inl, inr, Bool, [], ◌∷◌, ◌++◌, length, take, drop, Ok, sym, ap, ◌∙◌, subst, arith}
-use Rattle.reg_http_read.proofs.Words.{length-append, take-append-drop, cases_lt, take-append-le, length-take-le, RequestHead, ReadsRequest}
-use Rattle.reg_http_read.proofs.Words.{NeverHasRequest, ReadsRequest-append, request_prefix_free, Limits, Text, Rule, EndsLine, IsBadCut}
-use Rattle.reg_http_read.proofs.Words.{IsFront, IsHead, IsHeadCut, IsJudged, IsUnjudged, Facts, IsHeadAt, IsRefusedAt, greatest_body}
+use Rattle.reg_http_read.proofs.Common.{◌≡◌, ℕ, ◌<◌, ◌≤◌, inl, inr, Bool, [], ◌∷◌, ◌++◌, length, take, drop, Ok, sym, ap, ◌∙◌, subst, arith}
+use Rattle.reg_http_read.proofs.Common.{length-append, take-append-drop, cases_lt, take-append-le, length-take-le, RequestHead, ReadsRequest}
+use Rattle.reg_http_read.proofs.Common.{NeverHasRequest, ReadsRequest-append, request_prefix_free, Limits, Text, Rule, EndsLine, IsBadCut}
+use Rattle.reg_http_read.proofs.Common.{IsFront, IsHead, IsHeadCut, IsJudged, IsUnjudged, Facts, IsHeadAt, IsRefusedAt, greatest_body}
 use Rattle.reg_http_read.specs.Fronts.{IsCut}
 use Rattle.reg_http_read.specs.Heads.{judge_head}
 use Rattle.reg_http_read.proofs.Cuts.{take_longer, take_shorter}

@@ -1,8 +1,8 @@
 -- What a head is judged by its parts.
-use Rattle.reg_http_read.proofs.Words.{◌≡◌, ℕ, min, ◌-◌, ◌<◌, ◌≤◌, ◌^◌, Bool, true, false, List, length, drop, map, Option, inr, Some}
-use Rattle.reg_http_read.proofs.Words.{Result, Ok, Err, refl, sym, ap, ◌∙◌, subst, arith, nat_tests, ReadsRequest, RequestHead}
-use Rattle.reg_http_read.proofs.Words.{header_parts, Limits, Rule, H4, H5, Facts, greatest_body, IsAsked, IsJudgement, facts_of, Head}
-use Rattle.reg_http_read.proofs.Words.{HeadRead}
+use Rattle.reg_http_read.proofs.Common.{◌≡◌, ℕ, min, ◌-◌, ◌<◌, ◌≤◌, ◌^◌, Bool, true, false, List, length, drop, map, Option, inr, Some}
+use Rattle.reg_http_read.proofs.Common.{Result, Ok, Err, refl, sym, ap, ◌∙◌, subst, arith, nat_tests, ReadsRequest, RequestHead}
+use Rattle.reg_http_read.proofs.Common.{header_parts, Limits, Rule, H4, H5, Facts, greatest_body, IsAsked, IsJudgement, facts_of, Head}
+use Rattle.reg_http_read.proofs.Common.{HeadRead}
 use Rattle.std.proofs.Common.{cond, ltb, codes, option_copied, Bor, None, option_map}
 use Rattle.httparse.specs.Grammar.{print_request}
 use Rattle.httparse.specs.Borrowed.{HoldsRequest}

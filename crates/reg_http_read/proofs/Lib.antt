@@ -11,4 +11,4 @@ pub mod Requests
 pub mod Pieces
 pub mod Waiting
 pub mod Tallies
-mod Words
+mod Common

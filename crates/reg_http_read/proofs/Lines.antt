@@ -1,7 +1,7 @@
 -- What could not be judged still can't while no line ends.
-use Rattle.reg_http_read.proofs.Words.{◌≡◌, ℕ, ◌+◌, ◌-◌, ◌<◌, ◌≤◌, inl, inr, [], ◌∷◌, ◌++◌, length, get_or, take, drop, sym, ap, ◌∙◌, subst}
-use Rattle.reg_http_read.proofs.Words.{arith, length-append, cases_lt, take-append-le, length-take-le, get_or-append_seam, Limits, EndsLine}
-use Rattle.reg_http_read.proofs.Words.{IsUnfinished, Text}
+use Rattle.reg_http_read.proofs.Common.{◌≡◌, ℕ, ◌+◌, ◌-◌, ◌<◌, ◌≤◌, inl, inr, [], ◌∷◌, ◌++◌, length, get_or, take, drop, sym, ap, ◌∙◌, subst}
+use Rattle.reg_http_read.proofs.Common.{arith, length-append, cases_lt, take-append-le, length-take-le, get_or-append_seam, Limits, EndsLine}
+use Rattle.reg_http_read.proofs.Common.{IsUnfinished, Text}
 use Rattle.std.proofs.lemmas.List.{get_or-take}
 use Rattle.std.proofs.Math.Seq.{drop-append_seam, get_or-append_right}
 use Rattle.reg_http_read.specs.Taking.{HasNoLine}

@@ -1,6 +1,6 @@
 -- What one read brought that kept nothing.
-use Rattle.reg_http_read.proofs.Words.{◌≡◌, ◌<◌, ◌++◌, ℕ, [], length, take, refl, sym, subst, append-nil, Option, Ok, Consumes-nil, Text}
-use Rattle.reg_http_read.proofs.Words.{IsPiece, Reads}
+use Rattle.reg_http_read.proofs.Common.{◌≡◌, ◌<◌, ◌++◌, ℕ, [], length, take, refl, sym, subst, append-nil, Option, Ok, Consumes-nil, Text}
+use Rattle.reg_http_read.proofs.Common.{IsPiece, Reads}
 use Rattle.std.specs.Io.KnownBytes.{Consumes, IsAtEnd, Keeps}
 use Rattle.std.proofs.KnownBytes.{Consumes-kept}
 use Rattle.reg_http_read.specs.declared.reading.Piece.TheVariants as piece

@@ -1,6 +1,6 @@
 -- From a parse of the longest front to what is read of all bytes.
-use Rattle.reg_http_read.proofs.Words.{◌≡◌, ℕ, ◌≤◌, inl, inr, Bool, List, length, take, refl, sym, subst, Limits, Rule, IsFront, IsHeadCut}
-use Rattle.reg_http_read.proofs.Words.{IsBroken, IsHeadAt, IsJudgement, facts_of, Head, HeadRead}
+use Rattle.reg_http_read.proofs.Common.{◌≡◌, ℕ, ◌≤◌, inl, inr, Bool, List, length, take, refl, sym, subst, Limits, Rule, IsFront, IsHeadCut}
+use Rattle.reg_http_read.proofs.Common.{IsBroken, IsHeadAt, IsJudgement, facts_of, Head, HeadRead}
 use Rattle.httparse.specs.Grammar.{print_request}
 use Rattle.reg_http_read.specs.Reads.{IsRead, IsWhole}
 use Rattle.reg_http_read.specs.declared.head.HeadRead.TheVariants as read

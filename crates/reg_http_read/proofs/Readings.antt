@@ -1,6 +1,6 @@
 -- What is read of bytes is one thing.
-use Rattle.reg_http_read.proofs.Words.{◌≡◌, ℕ, inl, inr, Bool, ◌++◌, drop, Ok, Err, sym, ap, ◌∙◌, arith, RequestHead, Limits, Text, Rule}
-use Rattle.reg_http_read.proofs.Words.{IsHeadCut, Facts, IsBroken, IsHeadAt, IsRefusedAt, IsUnfinished}
+use Rattle.reg_http_read.proofs.Common.{◌≡◌, ℕ, inl, inr, Bool, ◌++◌, drop, Ok, Err, sym, ap, ◌∙◌, arith, RequestHead, Limits, Text, Rule}
+use Rattle.reg_http_read.proofs.Common.{IsHeadCut, Facts, IsBroken, IsHeadAt, IsRefusedAt, IsUnfinished}
 use Rattle.httparse.proofs.GrammarLemmas.{request_unique}
 use Rattle.reg_http_read.specs.Heads.{judge_head}
 use Rattle.reg_http_read.proofs.Following.{IsHeadAt-append, IsRefusedAt-append, front_reads}

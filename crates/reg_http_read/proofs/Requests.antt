@@ -1,8 +1,8 @@
 -- What is known of a request while its body is read.
-use Rattle.reg_http_read.proofs.Words.{arith, ◌≡◌, ◌≤◌, ◌<◌, ◌+◌, ◌++◌, inl, inr, refl, ap, ◌∙◌, subst, append_assoc, length, sym, [], Bool}
-use Rattle.reg_http_read.proofs.Words.{true, false, Option, Some, Ok, Err, Consumes-trans, Limits, Facts, IsHeadAt, IsUnfinished, Text}
-use Rattle.reg_http_read.proofs.Words.{Rule, IsRefused, is_head_only, facts_owned, Awaits, Fills, Reads, StreamFault, Memory, ReadFault}
-use Rattle.reg_http_read.proofs.Words.{StoreFault, TooManyTurns, WriteFault}
+use Rattle.reg_http_read.proofs.Common.{arith, ◌≡◌, ◌≤◌, ◌<◌, ◌+◌, ◌++◌, inl, inr, refl, ap, ◌∙◌, subst, append_assoc, length, sym, [], Bool}
+use Rattle.reg_http_read.proofs.Common.{true, false, Option, Some, Ok, Err, Consumes-trans, Limits, Facts, IsHeadAt, IsUnfinished, Text}
+use Rattle.reg_http_read.proofs.Common.{Rule, IsRefused, is_head_only, facts_owned, Awaits, Fills, Reads, StreamFault, Memory, ReadFault}
+use Rattle.reg_http_read.proofs.Common.{StoreFault, TooManyTurns, WriteFault}
 use Rattle.std.proofs.Common.{◌&&◌, not}
 use Rattle.std.specs.Io.KnownBytes.{Appends}
 use Rattle.std.proofs.KnownBytes.{Appends-nil}

@@ -1,6 +1,6 @@
 -- Turns of the reader or of the writer alone, told of both.
-use Rattle.reg_http_read.proofs.Words.{ℕ, arith, refl, SpendsFor, SpendsSome, reads_of, tally, StreamFault, Memory, ReadFault, StoreFault}
-use Rattle.reg_http_read.proofs.Words.{TooManyTurns, WriteFault}
+use Rattle.reg_http_read.proofs.Common.{ℕ, arith, refl, SpendsFor, SpendsSome, reads_of, tally, StreamFault, Memory, ReadFault, StoreFault}
+use Rattle.reg_http_read.proofs.Common.{TooManyTurns, WriteFault}
 use Rattle.reg_body.specs.Counting.{CountedEnd}
 use Rattle.reg_http_read.specs.Turns.{writes_of}
 use Rattle.reg_http_read.proofs.Adding.{spends_some}

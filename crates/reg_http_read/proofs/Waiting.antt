@@ -1,7 +1,7 @@
 -- What one more read brought, behind what waits already.
-use Rattle.reg_http_read.proofs.Words.{◌≡◌, ◌<◌, ◌≤◌, ℕ, inl, inr, refl, false, length, sym, ◌∙◌, subst, Option, Ok, Err, Limits, Text}
-use Rattle.reg_http_read.proofs.Words.{IsUnfinished, Awaits, Fills, IsPiece, Reads, StreamFault, Memory, ReadFault, StoreFault}
-use Rattle.reg_http_read.proofs.Words.{TooManyTurns, WriteFault}
+use Rattle.reg_http_read.proofs.Common.{◌≡◌, ◌<◌, ◌≤◌, ℕ, inl, inr, refl, false, length, sym, ◌∙◌, subst, Option, Ok, Err, Limits, Text}
+use Rattle.reg_http_read.proofs.Common.{IsUnfinished, Awaits, Fills, IsPiece, Reads, StreamFault, Memory, ReadFault, StoreFault}
+use Rattle.reg_http_read.proofs.Common.{TooManyTurns, WriteFault}
 use Rattle.reg_model.specs.declared.rule.Rule.TheVariants as rule
 use Rattle.reg_http_read.specs.Taking.{IsLine}
 use Rattle.reg_http_read.specs.declared.reading.Piece.TheVariants as piece

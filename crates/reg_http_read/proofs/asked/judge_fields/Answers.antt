@@ -1,4 +1,4 @@
-use Rattle.reg_http_read.proofs.Words.{◌≡◌, Err, Ok, arith, map, sym, subst, header_parts, H4, H5, greatest_body, IsAsked}
+use Rattle.reg_http_read.proofs.Common.{◌≡◌, Err, Ok, arith, map, sym, subst, header_parts, H4, H5, greatest_body, IsAsked}
 use Rattle.std.proofs.lemmas.List.{length-map}
 use Rattle.reg_http_read.specs.Fields as spec
 use Rattle.reg_http_read.proofs.Judged.{coding_judged, hosts_judged, large_judged, length_judged, many_judged, no_length_judged, past_counts}

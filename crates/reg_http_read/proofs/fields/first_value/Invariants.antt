@@ -1,4 +1,4 @@
-use Rattle.reg_http_read.proofs.Words.{◌≡◌, map, drop, header_parts}
+use Rattle.reg_http_read.proofs.Common.{◌≡◌, map, drop, header_parts}
 use Rattle.std.specs.List.{find}
 use Rattle.reg_http_read.specs.Fields.{is_named}
 use Rattle.reg_http_read.proofs.fields.first_value.Given as goal

@@ -1,4 +1,4 @@
-use Rattle.reg_http_read.proofs.Words.{ℕ, inl, inr, [], ◌∷◌, arith, ap, length, length-append, length-take-le, IsFront}
+use Rattle.reg_http_read.proofs.Common.{ℕ, inl, inr, [], ◌∷◌, arith, ap, length, length-append, length-take-le, IsFront}
 use Rattle.reg_http_read.proofs.Following.{head_some, head_within}
 use Rattle.reg_http_read.proofs.laws.quiet_law.Goals as goal
 

@@ -1,4 +1,4 @@
-use Rattle.reg_http_read.proofs.Words.{◌≡◌, take, true, is_ascii_digit}
+use Rattle.reg_http_read.proofs.Common.{◌≡◌, take, true, is_ascii_digit}
 use Rattle.std.specs.List.{list_all}
 use Rattle.reg_http_read.proofs.numbers.is_number.Given as goal
 

@@ -1,4 +1,4 @@
-use Rattle.reg_http_read.proofs.Words.{◌≡◌, ◌-◌, ◌^◌, min, take, digits_value}
+use Rattle.reg_http_read.proofs.Common.{◌≡◌, ◌-◌, ◌^◌, min, take, digits_value}
 use Rattle.reg_http_read.proofs.numbers.number.Given as goal
 
 abbrev pub invariant-loop-digit : goal.invariant-loop-digit

@@ -1,4 +1,4 @@
-use Rattle.reg_http_read.proofs.Words.{◌≡◌, ◌<◌, arith, length, ◌∙◌, refl, err_from_is_err_and, reads_of}
+use Rattle.reg_http_read.proofs.Common.{◌≡◌, ◌<◌, arith, length, ◌∙◌, refl, err_from_is_err_and, reads_of}
 use Rattle.reg_http_read.proofs.Adding.{reads_nothing, reads_on, spends_for, spends_nothing, spends_some}
 use Rattle.reg_http_read.proofs.Lines.{still_begun}
 use Rattle.reg_http_read.proofs.Waiting.{line_ended, line_failed}

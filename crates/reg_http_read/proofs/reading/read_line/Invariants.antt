@@ -1,4 +1,4 @@
-use Rattle.reg_http_read.proofs.Words.{◌≡◌, ◌≤◌, length, IsUnfinished, Reads, SpendsSome, reads_of}
+use Rattle.reg_http_read.proofs.Common.{◌≡◌, ◌≤◌, length, IsUnfinished, Reads, SpendsSome, reads_of}
 use Rattle.reg_http_read.proofs.reading.read_line.Given as goal
 
 -- all that was read waits, and nothing can be judged yet

@@ -1,4 +1,4 @@
-use Rattle.reg_http_read.proofs.Words.{[], ◌≡◌, ◌∙◌, false, inl, inr, refl, err_from_is_err_and, IsRefused, reads_of}
+use Rattle.reg_http_read.proofs.Common.{[], ◌≡◌, ◌∙◌, false, inl, inr, refl, err_from_is_err_and, IsRefused, reads_of}
 use Rattle.reg_model.specs.declared.rule.Rule.TheVariants as rule
 use Rattle.reg_http_read.proofs.Adding.{reads_nothing, reads_on, spends_for, spends_nothing, spends_some}
 use Rattle.reg_http_read.proofs.Requests.{found_awaits}

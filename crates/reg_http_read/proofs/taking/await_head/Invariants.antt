@@ -1,4 +1,4 @@
-use Rattle.reg_http_read.proofs.Words.{◌≡◌, length, Reads, SpendsSome, reads_of}
+use Rattle.reg_http_read.proofs.Common.{◌≡◌, length, Reads, SpendsSome, reads_of}
 use Rattle.reg_http_read.proofs.taking.await_head.Given as goal
 
 -- all that was read waits

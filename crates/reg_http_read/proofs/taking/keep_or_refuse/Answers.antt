@@ -1,4 +1,4 @@
-use Rattle.reg_http_read.proofs.Words.{subst, sym, IsHeadAt, facts_of}
+use Rattle.reg_http_read.proofs.Common.{subst, sym, IsHeadAt, facts_of}
 use Rattle.reg_http_read.proofs.Requests.{no_room_kept}
 use Rattle.reg_http_read.proofs.taking.keep_or_refuse.Goals as goal
 

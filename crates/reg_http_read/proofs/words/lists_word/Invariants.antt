@@ -1,4 +1,4 @@
-use Rattle.reg_http_read.proofs.Words.{◌≡◌, length, position_or_len, lists_word}
+use Rattle.reg_http_read.proofs.Common.{◌≡◌, length, position_or_len, lists_word}
 use Rattle.reg_http_read.proofs.Lists.{is_comma}
 use Rattle.reg_http_read.proofs.words.lists_word.Given as goal
 

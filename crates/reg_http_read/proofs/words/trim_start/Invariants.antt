@@ -1,4 +1,4 @@
-use Rattle.reg_http_read.proofs.Words.{◌≡◌, length, skip_ows}
+use Rattle.reg_http_read.proofs.Common.{◌≡◌, length, skip_ows}
 use Rattle.reg_http_read.proofs.words.trim_start.Given as goal
 
 abbrev pub invariant-loop-rest : goal.invariant-loop-rest
