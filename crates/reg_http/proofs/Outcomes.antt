@@ -1,52 +1,38 @@
 -- What a request came to, by what the registry told.
-use Rattle.std.proofs.Common.{◌≡◌, ◌<◌, ◌⊎◌, ℕ, Bool, true, false, cond, nat_lt, [], inl, inr, refl, sym, ap, subst, arith, Option, None, Some, Result, Ok, Err}
-use Rattle.std.specs.Prelude.{String, string_bytes, unwrap_or}
+use Rattle.reg_http.proofs.Words.{◌≡◌, ◌<◌, ◌⊎◌, ℕ, Bool, true, false, nat_lt, [], inl, inr, refl, sym, ap, subst, arith, Option, Result}
+use Rattle.reg_http.proofs.Words.{Ok, Err, string_bytes, option_map, Ghosts, CountedEnd, Limits, Facts, Answer, Event, Rule, Text, IsFit}
+use Rattle.reg_http.proofs.Words.{Sends, StreamFault, Memory, ReadFault, StoreFault, TooManyTurns, WriteFault, request_from, event_of, Sink}
+use Rattle.reg_http.proofs.Words.{HasLine, Answers, Registry, Finds, Tables, AnswersRequest, Replies, IsOfFile, Outcome, Answered, NoMethod}
+use Rattle.reg_http.proofs.Words.{NoRoom, NoRoute, Unread, Tail, TrailEnd, Trails}
+use Rattle.std.proofs.Common.{cond, None, Some}
+use Rattle.std.specs.Prelude.{String, unwrap_or}
 use Rattle.std.specs.declared.alloc.Global.{Global}
-use Rattle.std.specs.Option.{option_map}
-use Rattle.sqlite_trees.specs.declared.store.Store.{Ghosts}
-use Rattle.reg_body.specs.Counting.{CountedEnd}
-use Rattle.reg_body.specs.declared.limits.Limits.{Limits}
-use Rattle.reg_http_read.specs.Heads.{Facts}
 use Rattle.reg_model.specs.declared.rule.Rule.TheVariants as rule
-use Rattle.reg_model.specs.Events.{Answer, Asked, Event}
+use Rattle.reg_model.specs.Events.{Asked}
 use Rattle.reg_model.specs.Events.Asked.{AddOwners as to_add, Index as to_index, Read as to_read, RemoveOwners as to_remove}
 use Rattle.reg_model.specs.Events.Event.{Ask}
 use Rattle.reg_model.specs.Events.Reading.{Search as to_search}
-use Rattle.reg_model.specs.declared.rule.Rule.{Rule}
 use Rattle.reg_model.specs.Refusals.{denied}
 use Rattle.reg_model.specs.Registry as model
-use Rattle.reg_model.specs.Registry.{Publication, Text}
-use Rattle.reg_model.specs.Steps.{IsFit}
+use Rattle.reg_model.specs.Registry.{Publication}
 use Rattle.reg_model.specs.Trail.{has_no_room, line, line_of, or_nothing, told, unless_some, with_asker}
-use Rattle.reg_http_read.specs.Turns.{Sends}
-use Rattle.reg_http_read.specs.declared.fault.StreamFault.{StreamFault}
-use Rattle.reg_http_read.specs.declared.fault.StreamFault.TheVariants.{Memory, ReadFault, StoreFault, TooManyTurns, WriteFault}
 use Rattle.reg_api_replies.specs.Replies.{Says}
 use Rattle.reg_api_replies.specs.declared.reply.Reply.{Reply}
 use Rattle.reg_api_replies.specs.declared.reply.Reply.TheVariants.{Denied}
 use Rattle.reg_api_requests.specs.Owners.{logins_named}
 use Rattle.reg_api_requests.specs.Publish.{publish_of}
-use Rattle.reg_api_requests.specs.Requests.{asked_from, or_faulty, published, request_from, text_in}
+use Rattle.reg_api_requests.specs.Requests.{asked_from, or_faulty, published, text_in}
 use Rattle.reg_api_requests.specs.Search.{page_of}
-use Rattle.reg_api_requests.specs.Views.{event_of}
 use Rattle.reg_api_requests.specs.Wants.{Wants}
 use Rattle.reg_api_requests.specs.Wants.Wants.{Config, Index, Download, ListOwners, Publish, Yank, Unyank, AddOwners, RemoveOwners, Search}
 use Rattle.reg_api_requests.specs.declared.request.ApiRequest.{ApiRequest}
 use Rattle.reg_http_routes.specs.Routing.Routing.{Wants as to_wants}
-use Rattle.reg_body.specs.Sent.{Sink}
 use Rattle.reg_api_replies.specs.Texts.{answer_text, refusal_text, reply_text}
-use Rattle.reg_service.specs.Acted.{HasLine}
-use Rattle.reg_service.specs.Answered.{Answers}
-use Rattle.reg_service.specs.declared.registry.Registry.{Registry}
-use Rattle.reg_service.specs.Streamed.{Finds, IsFileAnswer, StreamsTo}
+use Rattle.reg_service.specs.Streamed.{IsFileAnswer, StreamsTo}
 use Rattle.reg_service_index.specs.declared.fault.IndexFault.{IndexFault}
 use Rattle.reg_service_index.specs.declared.fault.IndexFault.TheVariants.{Spent, Store, Write}
 use Rattle.reg_service_index.specs.declared.found.FoundFile.{FoundFile}
-use Rattle.reg_tables.specs.declared.tables.Tables.{Tables}
-use Rattle.reg_http.specs.Answering.{AnswersRequest, IsReplied, IsRequestReplied, Replies, Streams, fault_reply}
-use Rattle.reg_http.specs.Exchanges.{IsOfFile, Outcome}
-use Rattle.reg_http.specs.Exchanges.Outcome.{Answered, NoMethod, NoRoom, NoRoute, Unread}
-use Rattle.reg_http.specs.Trails.{Tail, TrailEnd, Trails}
+use Rattle.reg_http.specs.Answering.{IsReplied, IsRequestReplied, Streams, fault_reply}
 use Rattle.reg_http.proofs.Trails.{trails_if, trails_nothing}
 use Rattle.reg_http_read.specs.Begun.{is_head_only}
 use Rattle.reg_http_routes.specs.Routed.{IsRouted}

@@ -1,24 +1,10 @@
 -- What the ends of a transaction make of an event.
-use Rattle.std.proofs.Common.{◌≡◌, ◌⊎◌, inl, inr, false, refl, sym, ap, subst, ◌∙◌, arith, IsTrue}
-use Rattle.std.proofs.lemmas.Bool.{false≢true}
-use Rattle.sqlite.specs.Tree.{Trees}
-use Rattle.sqlite.specs.Effect.{Database}
-use Rattle.sqlite_trees.specs.declared.store.Store.{Ghosts}
-use Rattle.sqlite.specs.Held.{Held, state}
-use Rattle.sqlite.specs.State.{State, HasCleanDisk, IsUnchanged, Survives}
-use Rattle.reg_body.specs.declared.limits.Limits.{Limits}
-use Rattle.reg_model.specs.Registry.{Registry}
-use Rattle.reg_model.specs.Events.{Event, Answer}
-use Rattle.reg_model.specs.Steps.{IsFit, Step, no_room, outcome}
-use Rattle.reg_model.specs.Laws.{StepsKeepSound}
-use Rattle.reg_tables_schema.specs.States.{IsUndone, LeavesCommit, Refuses}
-use Rattle.reg_tables_meaning.specs.Stands.{Stands}
-use Rattle.reg_tables.specs.Ends.{Begins, IsCommitted, IsDropped, IsRefused, SeesAll}
-use Rattle.reg_tables.specs.Looks.{Looks}
-use Rattle.reg_tables.specs.Works.{AreOurs, IsLeft, has_failed, is_shut, held, rows_seen, seen, shown}
-use Rattle.reg_tables.specs.declared.tables.Tables.{Tables}
-use Rattle.reg_tables.specs.declared.work.Work.{Work}
-use Rattle.reg_service.specs.Answered.{Answers, Are, LeavesAlone, Shows, Stays}
+use Rattle.reg_service.proofs.Words.{◌≡◌, ◌⊎◌, inl, inr, false, refl, sym, ap, subst, ◌∙◌, arith, IsTrue, false≢true, Trees, Database}
+use Rattle.reg_service.proofs.Words.{Ghosts, Held, state, State, HasCleanDisk, Survives, Limits, Registry, Event, Answer, IsFit, Step}
+use Rattle.reg_service.proofs.Words.{no_room, outcome, StepsKeepSound, IsUndone, LeavesCommit, Refuses, Stands, Begins, IsCommitted}
+use Rattle.reg_service.proofs.Words.{IsDropped, IsRefused, SeesAll, Looks, AreOurs, IsLeft, has_failed, is_shut, held, rows_seen, seen}
+use Rattle.reg_service.proofs.Words.{shown, Tables, Work, Answers, Are, LeavesAlone, Shows, Stays}
+use Rattle.sqlite.specs.State.{IsUnchanged}
 
 held_unchanged : (s : Registry) (old new : State) → Shows s old → IsUnchanged old new → Shows s new
 held_unchanged s old new held same up = subst (λ (d : Database). Are s d.trees) (sym same.0.now_is) (held same.0.was_open)

@@ -1,33 +1,14 @@
 -- What the ends of a transaction make of a request.
-use Rattle.std.proofs.Common.{◌≡◌, inl, inr, false, refl, sym, ap, subst, IsTrue, Option, Some, ℕ}
-use Rattle.sqlite.specs.Effect.{Database}
-use Rattle.sqlite.specs.State.{HasCleanDisk, Survives}
-use Rattle.sqlite_trees.specs.declared.store.Store.{Ghosts}
-use Rattle.reg_body.specs.declared.limits.Limits.{Limits}
+use Rattle.reg_service.proofs.Words.{◌≡◌, inl, inr, false, refl, sym, ap, subst, IsTrue, Option, Some, ℕ, Database, HasCleanDisk, Survives}
+use Rattle.reg_service.proofs.Words.{Ghosts, Limits, Answer, Asked, Event, Ask, StepsKeepSound, Registry, Text, IsFit, Outcome, outcome}
+use Rattle.reg_service.proofs.Words.{Reply, Denied, LeavesCommit, FilesAreRows, FoundFile, Serves, Done, Seeks, Sends, Told, Begins}
+use Rattle.reg_service.proofs.Words.{IsCommitted, IsDropped, IsRefused, SeesAll, Looks, AreOurs, IsLeft, has_failed, rows_seen, seen, shown}
+use Rattle.reg_service.proofs.Words.{Tables, Work, Are, Shows, Stays, RepliesTo, Sought, Finds}
 use Rattle.reg_model.specs.declared.rule.Rule.TheVariants as rule
 use Rattle.reg_model.specs.Effects.{served}
-use Rattle.reg_model.specs.Events.{Answer, Asked, Event}
 use Rattle.reg_model.specs.Events.Answer.{Denied as to_denied}
-use Rattle.reg_model.specs.Events.Event.{Ask}
-use Rattle.reg_model.specs.Laws.{StepsKeepSound}
-use Rattle.reg_model.specs.Registry.{Registry, Text}
-use Rattle.reg_model.specs.Steps.{IsFit, Outcome, outcome}
-use Rattle.reg_api_replies.specs.declared.reply.Reply.{Reply}
-use Rattle.reg_api_replies.specs.declared.reply.Reply.TheVariants.{Denied}
-use Rattle.reg_tables_schema.specs.States.{LeavesCommit}
 use Rattle.reg_tables_meaning.specs.Stands.{Holds}
-use Rattle.reg_service_index.specs.Found.{FilesAreRows, file_at}
-use Rattle.reg_service_index.specs.declared.found.FoundFile.{FoundFile}
-use Rattle.reg_service_requests.specs.Serves.{Serves}
-use Rattle.reg_service_requests.specs.declared.served.Served.TheVariants.{Done, Seeks, Sends, Told}
-use Rattle.reg_tables.specs.Ends.{Begins, IsCommitted, IsDropped, IsRefused, SeesAll}
-use Rattle.reg_tables.specs.Looks.{Looks}
-use Rattle.reg_tables.specs.Works.{AreOurs, IsLeft, has_failed, rows_seen, seen, shown}
-use Rattle.reg_tables.specs.declared.tables.Tables.{Tables}
-use Rattle.reg_tables.specs.declared.work.Work.{Work}
-use Rattle.reg_service.specs.Answered.{Are, Shows, Stays}
-use Rattle.reg_service.specs.Handled.{RepliesTo, Sought}
-use Rattle.reg_service.specs.Streamed.{Finds}
+use Rattle.reg_service_index.specs.Found.{file_at}
 use Rattle.reg_service.proofs.Frames as frame
 
 module _ {S : Type 0} (g : Ghosts S) (limits : Limits) (s : Registry) (digest : Option Text) (asked : Asked) (old new : Tables S) (ours : AreOurs g old) (h : Shows s (shown g old)) (clean : HasCleanDisk (shown g new)) where

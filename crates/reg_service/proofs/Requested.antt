@@ -1,37 +1,14 @@
 -- What each end of a transaction makes of a request, and what it leaves.
-use Rattle.std.proofs.Common.{◌≡◌, ◌∙◌, arith, Bool, Option, None, Result, sym, subst, IsTrue, ℕ}
-use Rattle.std.proofs.lemmas.Bool.{false≢true}
-use Rattle.std.specs.Option.{option_map}
-use Rattle.std.specs.Prelude.{string_bytes}
-use Rattle.sqlite.specs.State.{HasCleanDisk}
-use Rattle.sqlite_trees.specs.declared.store.Store.{Ghosts}
-use Rattle.reg_body.specs.declared.limits.Limits.{Limits}
+use Rattle.reg_service.proofs.Words.{◌≡◌, ◌∙◌, arith, Bool, Option, None, Result, sym, subst, IsTrue, ℕ, false≢true, option_map}
+use Rattle.reg_service.proofs.Words.{string_bytes, HasCleanDisk, Ghosts, Limits, Asked, Ask, StepsKeepSound, Registry, Text, IsFit, Reply}
+use Rattle.reg_service.proofs.Words.{Denied, FilesAreRows, FoundFile, Serves, line_with, Done, Seeks, Sends, Told, Acted, Tables, Work}
+use Rattle.reg_service.proofs.Words.{Begins, IsCommitted, IsDropped, IsEnded, IsRefused, SeesAll, Looks, IsLeft, is_shut, rows_seen, seen}
+use Rattle.reg_service.proofs.Words.{shown, LeavesCommit, ActsTo, IsActed, AreUpToDate, Halts, Shows, WasClean, RepliesTo, Sought, Looked}
 use Rattle.reg_model.specs.declared.rule.Rule.TheVariants as rule
-use Rattle.reg_model.specs.Events.{Asked}
-use Rattle.reg_model.specs.Events.Event.{Ask}
-use Rattle.reg_model.specs.Laws.{StepsKeepSound}
-use Rattle.reg_model.specs.Registry.{Registry, Text}
-use Rattle.reg_model.specs.Steps.{IsFit}
-use Rattle.reg_api_replies.specs.declared.reply.Reply.{Reply}
-use Rattle.reg_api_replies.specs.declared.reply.Reply.TheVariants.{Denied}
-use Rattle.reg_service_index.specs.Found.{FilesAreRows}
-use Rattle.reg_service_index.specs.declared.found.FoundFile.{FoundFile}
-use Rattle.reg_service_requests.specs.Serves.{Serves}
-use Rattle.reg_service_requests.specs.Telling.{ServesTold, line_with}
+use Rattle.reg_service_requests.specs.Telling.{ServesTold}
 use Rattle.reg_service_requests.specs.declared.served.Served.{Served}
-use Rattle.reg_service_requests.specs.declared.served.Served.TheVariants.{Done, Seeks, Sends, Told}
-use Rattle.reg_service_requests.specs.declared.told.Acted.{Acted}
 use Rattle.reg_service_requests.specs.declared.told.ServedTold.{ServedTold}
-use Rattle.reg_tables.specs.declared.tables.Tables.{Tables}
-use Rattle.reg_tables.specs.declared.work.Work.{Work}
-use Rattle.reg_tables.specs.Ends.{Begins, IsCommitted, IsDropped, IsEnded, IsRefused, SeesAll}
-use Rattle.reg_tables.specs.Looks.{Looks}
-use Rattle.reg_tables.specs.Works.{IsLeft, is_shut, rows_seen, seen, shown}
-use Rattle.reg_tables_schema.specs.States.{LeavesCommit}
-use Rattle.reg_service.specs.Acted.{ActsTo, IsActed, SaysNoRoom}
-use Rattle.reg_service.specs.Answered.{AreUpToDate, Halts, Shows, WasClean}
-use Rattle.reg_service.specs.Handled.{RepliesTo, Sought}
-use Rattle.reg_service.specs.Looked.{Looked}
+use Rattle.reg_service.specs.Acted.{SaysNoRoom}
 use Rattle.reg_service.specs.declared.answered.Answered.{Answered}
 use Rattle.reg_service.specs.declared.answered.Answered.TheVariants.{Found, Replied}
 use Rattle.reg_service.proofs.Replied as replied

@@ -1,31 +1,20 @@
 -- From an index file that was found to the answer.
-use Rattle.std.proofs.Common.{◌≡◌, ◌⊎◌, ◌++◌, ◌∙◌, ℕ, Bool, inl, inr, refl, sym, ap, subst, List, Option, Result}
+use Rattle.reg_service.proofs.Words.{◌≡◌, ◌⊎◌, ◌++◌, ◌∙◌, ℕ, Bool, inl, inr, refl, sym, ap, subst, List, Option, Result, Global}
+use Rattle.reg_service.proofs.Words.{HasCleanDisk, Ghosts, Limits, Answer, Asked, Event, Ask, Registry, Text, Outcome, Step, Denied}
+use Rattle.reg_service.proofs.Words.{FoundFile, Tables, AreOurs, IsLeft, shown, Answers, Halts, RepliesTo, Finds}
 use Rattle.std.specs.Prelude.{Vec}
-use Rattle.std.specs.declared.alloc.Global.{Global}
 use Rattle.sqlite.specs.Order.{Row}
-use Rattle.sqlite.specs.State.{HasCleanDisk}
-use Rattle.sqlite_trees.specs.declared.store.Store.{Ghosts}
-use Rattle.reg_body.specs.declared.limits.Limits.{Limits}
 use Rattle.reg_body.specs.Sent.{Sink}
 use Rattle.reg_model.specs.declared.rule.Rule.TheVariants as rule
-use Rattle.reg_model.specs.Events.{Answer, Asked, Event}
 use Rattle.reg_model.specs.Events.Answer.{Denied as to_denied, File}
-use Rattle.reg_model.specs.Events.Event.{Ask}
-use Rattle.reg_model.specs.Registry.{Registry, Text}
-use Rattle.reg_model.specs.Steps.{Outcome, Step}
 use Rattle.reg_api_replies.specs.Texts.{answer_text, file_head}
 use Rattle.reg_api_replies.specs.declared.head.Kind.TheVariants as kind
-use Rattle.reg_api_replies.specs.declared.reply.Reply.TheVariants.{Denied, Done}
+use Rattle.reg_api_replies.specs.declared.reply.Reply.TheVariants.{Done}
 use Rattle.reg_service_index.specs.Files.{AreRows, IsFileText, SendsFile, SendsNoRoom, rows_text}
 use Rattle.reg_service_index.specs.Lines.{lines_in}
 use Rattle.reg_service_index.specs.Streams.{Streams}
 use Rattle.reg_service_index.specs.declared.fault.IndexFault.{IndexFault}
-use Rattle.reg_service_index.specs.declared.found.FoundFile.{FoundFile}
-use Rattle.reg_tables.specs.declared.tables.Tables.{Tables}
-use Rattle.reg_tables.specs.Works.{AreOurs, IsLeft, shown}
-use Rattle.reg_service.specs.Answered.{Answers, Halts}
-use Rattle.reg_service.specs.Handled.{RepliesTo}
-use Rattle.reg_service.specs.Streamed.{Finds, StreamsTo}
+use Rattle.reg_service.specs.Streamed.{StreamsTo}
 use Rattle.reg_service.proofs.Frames as frame
 
 module _ {S : Type 0} (g : Ghosts S) (limits : Limits) (s : Registry) (digest : Option Text) (asked : Asked) (f : FoundFile) (old at new : Tables S) (finds : Finds g limits s digest asked f old at) (again : AreOurs g at) (left : IsLeft g at new) (clean : HasCleanDisk (shown g new)) where

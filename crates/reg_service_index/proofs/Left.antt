@@ -1,19 +1,15 @@
 -- What reading a file leaves of the connection, and of the tables.
-use Rattle.std.proofs.Common.{◌≡◌, ◌⊎◌, ℕ, zero, List, Ok, Err, Result, Option, inl, inr, sym, subst}
+use Rattle.reg_service_index.proofs.Words.{◌≡◌, ◌⊎◌, ℕ, zero, List, Ok, Err, Result, inl, inr, sym, subst, Row, Ghosts, Held, state, IsOurs}
+use Rattle.reg_service_index.proofs.Words.{HasWalked, walk_ends, Tables, held, IndexFault}
+use Rattle.std.proofs.Common.{Option}
 use Rattle.std.specs.Prelude.{OnOk, OnErr}
 use Rattle.std.specs.Borrow.{Bor}
-use Rattle.sqlite.specs.Order.{Row}
-use Rattle.sqlite_trees.specs.declared.store.Store.{Ghosts}
 use Rattle.sqlite.specs.declared.rows.stream.Rows.{Rows}
-use Rattle.sqlite.specs.Held.{Held, state}
 use Rattle.sqlite.specs.Next.{HasMoved}
 use Rattle.sqlite.specs.State.{IsUnchanged}
-use Rattle.reg_tables_schema.specs.States.{IsOurs, Refuses}
-use Rattle.reg_tables_meaning.specs.Walks.{IsRead, HasWalked}
-use Rattle.reg_tables_meaning.proofs.Walking.{walk_ends}
-use Rattle.reg_tables.specs.declared.tables.Tables.{Tables}
-use Rattle.reg_tables.specs.Works.{AreOurs, IsLeft, edition_in, held, is_shut, shown}
-use Rattle.reg_service_index.specs.declared.fault.IndexFault.{IndexFault}
+use Rattle.reg_tables_schema.specs.States.{Refuses}
+use Rattle.reg_tables_meaning.specs.Walks.{IsRead}
+use Rattle.reg_tables.specs.Works.{AreOurs, IsLeft, edition_in, is_shut, shown}
 
 module _ {S : Type 0} (g : Ghosts S) (text : List ℕ) (params : Row) (first : Held S) (old new : Rows S g) (given : List Row) (w : HasWalked g text params first old.conn.now given) where
   -- where a row or the end was read, and then something failed

@@ -1,3 +1,4 @@
 mod Left
 pub mod Rows
 pub mod Unsent
+mod Words

@@ -1,33 +1,20 @@
 -- Lines that are put behind a text as their rows are read.
-use Rattle.std.proofs.Common.{◌≡◌, ℕ, pos, ◌+◌, ◌-◌, List, [], ◌∷◌, ◌++◌, Bool, true, false, Ok, Err, inl, inr, refl, sym, ap, subst, ◌∙◌, arith, append-nil, append_assoc, map}
+use Rattle.reg_service_index.proofs.Words.{◌≡◌, ℕ, pos, ◌+◌, List, [], ◌∷◌, ◌++◌, Bool, false, Ok, Err, inl, inr, refl, sym, ap, subst, ◌∙◌}
+use Rattle.reg_service_index.proofs.Words.{arith, append-nil, append_assoc, Row, Held, state, HasCleanDisk, Int, Ghosts, Text, IsOurs}
+use Rattle.reg_service_index.proofs.Words.{rows_in, SendFault, Piles, IsStopped, SendsAll, Sink, pile_stopped, piles_behind, AreStemsOf}
+use Rattle.reg_service_index.proofs.Words.{entries_text, entry_row, HasWalked, BeginsFile, SendsRows, lines_in, IsBroken, fault_of, Store}
+use Rattle.std.proofs.Common.{◌-◌, true, map}
 use Rattle.std.proofs.lemmas.List.{map-append}
 use Rattle.std.proofs.lemmas.Grind.{flat_map-append}
-use Rattle.sqlite.specs.Order.{Row}
 use Rattle.sqlite.specs.Effect.{Database}
-use Rattle.sqlite.specs.Held.{Held, state}
-use Rattle.sqlite.specs.State.{HasCleanDisk}
-use Rattle.sqlite.specs.declared.types.Value.TheVariants.{Int}
 use Rattle.sqlite.proofs.Callers.{given_begin}
-use Rattle.sqlite_trees.specs.declared.store.Store.{Ghosts}
 use Rattle.reg_line.specs.File.{file_text, line_of}
-use Rattle.reg_model.specs.Registry.{Text}
 use Rattle.reg_tables_schema.specs.declared.edition.Edition.TheVariants.{Second}
 use Rattle.reg_tables_schema.specs.Schema.{ours}
-use Rattle.reg_tables_schema.specs.States.{IsOurs}
-use Rattle.reg_tables_schema.specs.Statements.{rows_in}
-use Rattle.reg_body.specs.declared.bytes.SendFault.{SendFault}
 use Rattle.reg_body.specs.declared.bytes.SendFault.TheVariants.{Spent, Write}
-use Rattle.reg_api_replies.specs.Piled.{Piles}
-use Rattle.reg_body.specs.Sent.{IsStopped, SendsAll, Sink}
-use Rattle.reg_api_replies.proofs.Joined.{pile_sent, pile_stopped, piles_behind, sends_nothing}
-use Rattle.reg_tables_sql.specs.Stems.{AreStemsOf, entries_text}
+use Rattle.reg_api_replies.proofs.Joined.{pile_sent, sends_nothing}
 use Rattle.reg_tables_sql.proofs.StemQueries.{stems_begun}
-use Rattle.reg_tables_meaning.specs.Entries.{entry_row}
-use Rattle.reg_tables_meaning.specs.Walks.{HasWalked}
-use Rattle.reg_service_index.specs.Files.{BeginsFile, SendsRows}
-use Rattle.reg_service_index.specs.Lines.{entry_in, lines_in}
-use Rattle.reg_service_index.specs.Streams.{IsBroken, fault_of}
-use Rattle.reg_service_index.specs.declared.fault.IndexFault.TheVariants.{Store}
+use Rattle.reg_service_index.specs.Lines.{entry_in}
 
 -- an entry's row tells it
 

@@ -1,30 +1,21 @@
 -- Replies where nothing was sent before, and files that were.
-use Rattle.std.proofs.Common.{◌≡◌, ◌⊎◌, ◌<◌, ℕ, zero, suc, ◌+◌, List, [], ◌∷◌, ◌++◌, Bool, false, None, Some, Ok, Err, Result, inl, inr, refl, sym, ap, subst, ◌∙◌, arith, append-nil, append_assoc}
+use Rattle.reg_service_index.proofs.Words.{◌≡◌, ◌⊎◌, ℕ, zero, ◌+◌, List, [], ◌∷◌, ◌++◌, Bool, false, Some, Ok, Err, Result, inl, inr, refl}
+use Rattle.reg_service_index.proofs.Words.{sym, ap, subst, ◌∙◌, arith, append-nil, append_assoc, Held, state, Row, HasCleanDisk, Ghosts}
+use Rattle.reg_service_index.proofs.Words.{Text, IsStopped, SendsAll, Sink, rows_in, AreStemsOf, Tables, held, stopped_first, SendFault}
+use Rattle.reg_service_index.proofs.Words.{BeginsFile, SendsRows, rows_text, lines_in, IsBroken, fault_of, IndexFault, Store}
+use Rattle.std.proofs.Common.{◌<◌, suc, None}
 use Rattle.std.specs.Io.KnownBytes.{Appends}
 use Rattle.std.proofs.KnownBytes.{Appends-trans}
-use Rattle.sqlite.specs.Held.{Held, state}
-use Rattle.sqlite.specs.Order.{Row}
-use Rattle.sqlite.specs.State.{HasCleanDisk}
-use Rattle.sqlite_trees.specs.declared.store.Store.{Ghosts}
-use Rattle.reg_model.specs.Registry.{Text}
 use Rattle.reg_model.specs.declared.rule.Rule.TheVariants.{S1}
-use Rattle.reg_body.specs.Sent.{AppendsFront, IsStopped, SendsAll, Sink}
+use Rattle.reg_body.specs.Sent.{AppendsFront}
 use Rattle.reg_api_replies.specs.Texts.{file_head, refusal_text}
 use Rattle.reg_api_replies.specs.declared.head.Kind.TheVariants as kind
 use Rattle.reg_api_replies.specs.declared.reply.Reply.TheVariants.{Denied}
 use Rattle.reg_api_replies.proofs.Some.{head_some, reply_some}
-use Rattle.reg_tables_schema.specs.Statements.{rows_in}
-use Rattle.reg_tables_sql.specs.Stems.{AreStemsOf}
-use Rattle.reg_tables.specs.declared.tables.Tables.{Tables}
-use Rattle.reg_tables.specs.Works.{held}
-use Rattle.reg_api_replies.proofs.Joined.{stopped_first}
-use Rattle.reg_body.specs.declared.bytes.SendFault.{SendFault}
 use Rattle.reg_body.specs.declared.bytes.SendFault.TheVariants as send
-use Rattle.reg_service_index.specs.Files.{BeginsFile, IsFileText, IsUnsent, SendsFile, SendsNoRoom, SendsRows, SendsSome, rows_text}
-use Rattle.reg_service_index.specs.Lines.{lines_in}
-use Rattle.reg_service_index.specs.Streams.{BreaksOff, IsBroken, Streams, fault_of}
-use Rattle.reg_service_index.specs.declared.fault.IndexFault.{IndexFault}
-use Rattle.reg_service_index.specs.declared.fault.IndexFault.TheVariants.{Spent, Store, Write}
+use Rattle.reg_service_index.specs.Files.{IsFileText, IsUnsent, SendsFile, SendsNoRoom, SendsSome}
+use Rattle.reg_service_index.specs.Streams.{BreaksOff, Streams}
+use Rattle.reg_service_index.specs.declared.fault.IndexFault.TheVariants.{Spent, Write}
 use Rattle.reg_service_index.specs.declared.found.FoundFile.{FoundFile}
 use Rattle.reg_service_index.proofs.Rows.{lines_both, stop_is_break}
 

@@ -1,43 +1,27 @@
 -- What the tables tell of a read is what it is served.
-use Rattle.std.proofs.Common.{◌≡◌, List, [], ◌∷◌, ℕ, true, false, length, map, None, Some, unwrap_or, refl, sym, ap, ◌∙◌}
-use Rattle.std.specs.Prelude.{Vec}
-use Rattle.std.specs.declared.alloc.Global.{Global}
+use Rattle.reg_service_requests.proofs.Words.{◌≡◌, List, [], ◌∷◌, ℕ, true, false, length, map, None, Some, refl, sym, ap, ◌∙◌, Vec, Global}
+use Rattle.reg_service_requests.proofs.Words.{enumerate_from, filter, option_map, bytes_eq, Trees, Limits, canon, action_of, Download}
+use Rattle.reg_service_requests.proofs.Words.{Index, ListOwners, Read, Config, Text, maps_twice, Account, Archive, IsArchiveWithId}
+use Rattle.reg_service_requests.proofs.Words.{FindsSummary, ListsOwners, told_of, entry_of_account, Ids, spelling_at, FoundCrate, IsCrate}
+use Rattle.reg_service_requests.proofs.Words.{IsLet, IsSpelled, owner_of_account, Serves, Told, spelled_as}
+use Rattle.std.proofs.Common.{unwrap_or}
 use Rattle.std.specs.FinSet as finset
-use Rattle.std.specs.List.{enumerate_from, filter}
-use Rattle.std.specs.Option.{option_map}
-use Rattle.std.specs.Str.{bytes_eq}
-use Rattle.sqlite.specs.Tree.{Trees}
-use Rattle.reg_body.specs.declared.limits.Limits.{Limits}
 use Rattle.reg_line.specs.Config.{config_text}
 use Rattle.reg_line.specs.File.{file_text}
-use Rattle.reg_names.specs.Names.{canon, name_at}
+use Rattle.reg_names.specs.Names.{name_at}
 use Rattle.reg_model.specs.Crates.{file}
 use Rattle.reg_model.specs.Effects.{done, owner_entry}
-use Rattle.reg_model.specs.Events.{action_of}
 use Rattle.reg_model.specs.Events.Answer.{File}
-use Rattle.reg_model.specs.Events.Asked.{Download, Index, ListOwners, Read}
-use Rattle.reg_model.specs.Events.Reading.{Config}
-use Rattle.reg_model.specs.Registry.{Text}
 use Rattle.reg_api_replies.specs.Bodies.{owners_body}
 use Rattle.reg_api_replies.specs.declared.head.Kind.TheVariants as kind
 use Rattle.reg_api_replies.specs.declared.reply.Reply.TheVariants.{Done}
-use Rattle.reg_tables_schema.proofs.Queries.{maps_twice}
-use Rattle.reg_tables_sql.specs.declared.accounts.Account.{Account}
-use Rattle.reg_tables_sql.specs.declared.archives.Archive.{Archive}
 use Rattle.reg_tables_sql.specs.declared.summaries.Summary.{Summary}
-use Rattle.reg_tables_sql.specs.Archives.{IsArchiveWithId}
-use Rattle.reg_tables_meaning.specs.Calls.{FindsSummary, ListsOwners}
-use Rattle.reg_tables_meaning.specs.Changes.{told_of}
-use Rattle.reg_tables_meaning.specs.Entries.{entries, entry_of_account}
-use Rattle.reg_tables_meaning.specs.Stands.{Ids, spelling_at}
-use Rattle.reg_access.specs.declared.admission.FoundCrate.{FoundCrate}
-use Rattle.reg_service_requests.specs.Granted.{IsCrate, IsLet, IsVersion}
-use Rattle.reg_service_steps.specs.Named.{IsSpelled}
-use Rattle.reg_service_steps.specs.Reads.{TellsBase, owner_of_account}
-use Rattle.reg_service_requests.specs.Serves.{Serves}
-use Rattle.reg_service_requests.specs.declared.served.Served.TheVariants.{Sends, Told}
+use Rattle.reg_tables_meaning.specs.Entries.{entries}
+use Rattle.reg_service_requests.specs.Granted.{IsVersion}
+use Rattle.reg_service_steps.specs.Reads.{TellsBase}
+use Rattle.reg_service_requests.specs.declared.served.Served.TheVariants.{Sends}
 use Rattle.reg_service_requests.proofs.Judging.{answered, denied_by_others, told_served}
-use Rattle.reg_service_steps.proofs.Names.{spelled_as, spelled_at}
+use Rattle.reg_service_steps.proofs.Names.{spelled_at}
 use Rattle.reg_service_requests.proofs.VersionArchives.{archive_at, named_version}
 
 some_same : (a b : ℕ) → Some a ≡ Some b → a ≡ b

@@ -1,13 +1,6 @@
-use Rattle.std.proofs.Common.{ap, subst, sym}
-use Rattle.std.specs.Option.{option_map}
-use Rattle.reg_api_requests.specs.Requests.{request_from, request_of}
-use Rattle.reg_api_requests.specs.Views.{event_of}
+use Rattle.reg_http.proofs.Words.{ap, subst, sym, option_map, request_from, event_of, HasLine, limits_of, tables_of, Finds, GoesOn, tail}
+use Rattle.reg_api_requests.specs.Requests.{request_of}
 use Rattle.reg_api_requests.specs.Wants.{wants_of}
-use Rattle.reg_service.specs.Acted.{HasLine}
-use Rattle.reg_service.specs.Registries.{limits_of, tables_of}
-use Rattle.reg_service.specs.Streamed.{Finds}
-use Rattle.reg_http.specs.Answering.{GoesOn}
-use Rattle.reg_http.specs.Trails.{tail}
 use Rattle.reg_http.proofs.Kept.{goes_on}
 use Rattle.reg_http.proofs.Outcomes.{handled}
 use Rattle.reg_http.proofs.Trails.{trailed_nothing}

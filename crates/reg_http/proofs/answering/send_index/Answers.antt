@@ -1,7 +1,5 @@
-use Rattle.std.proofs.Common.{arith, refl}
-use Rattle.reg_api_requests.specs.Requests.{request_from}
+use Rattle.reg_http.proofs.Words.{arith, refl, request_from, tables_of}
 use Rattle.reg_body.specs.Sent.{sink}
-use Rattle.reg_service.specs.Registries.{tables_of}
 use Rattle.reg_http.proofs.Outcomes.{file_broken, file_failed, file_sent, file_spent}
 use Rattle.reg_http.proofs.answering.send_index.Goals as goal
 

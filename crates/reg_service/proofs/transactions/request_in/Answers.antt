@@ -1,12 +1,6 @@
-use Rattle.std.proofs.Common.{None, refl, rules, sym, subst, ◌∙◌}
-use Rattle.std.specs.Option.{option_map}
+use Rattle.reg_service.proofs.Words.{None, refl, rules, sym, subst, ◌∙◌, option_map, Denied, IsDropped, held, call_looks, AreUpToDate}
 use Rattle.reg_model.specs.declared.rule.Rule.TheVariants as rule
 use Rattle.reg_policy.specs.Events.{asked_of}
-use Rattle.reg_api_replies.specs.declared.reply.Reply.TheVariants.{Denied}
-use Rattle.reg_tables.specs.Ends.{IsDropped}
-use Rattle.reg_tables.specs.Works.{held}
-use Rattle.reg_tables.proofs.Looking.{call_looks}
-use Rattle.reg_service.specs.Answered.{AreUpToDate}
 use Rattle.reg_service.proofs.Requested.{committed, failed, found, not_committed, only_told, sought, unbegun}
 use Rattle.reg_service.proofs.Rests.{dropped_looked}
 use Rattle.reg_service.proofs.transactions.request_in.Goals as goal

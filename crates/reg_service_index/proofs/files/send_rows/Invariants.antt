@@ -1,11 +1,6 @@
-use Rattle.std.proofs.Common.{◌≡◌, List, pos, ◌++◌, ◌∷◌, [], length}
-use Rattle.sqlite.specs.Order.{Row}
-use Rattle.sqlite.specs.declared.types.Value.TheVariants.{Int}
-use Rattle.reg_api_replies.specs.Piled.{Piles}
+use Rattle.reg_service_index.proofs.Words.{◌≡◌, List, pos, ◌++◌, ◌∷◌, [], Row, Int, Piles, entries_text, HasWalked, lines_in}
+use Rattle.std.proofs.Common.{length}
 use Rattle.reg_body.specs.Sent.{sink}
-use Rattle.reg_tables_sql.specs.Stems.{entries_text}
-use Rattle.reg_tables_meaning.specs.Walks.{HasWalked}
-use Rattle.reg_service_index.specs.Lines.{lines_in}
 use Rattle.reg_service_index.proofs.files.send_rows.Given as goal
 
 abbrev pub invariant-rows : goal.invariant-rows

@@ -1,9 +1,6 @@
-use Rattle.std.proofs.Common.{ℕ, List, ◌++◌, append_assoc, subst}
-use Rattle.std.proofs.lemmas.Result.{err_from_is_err_and}
+use Rattle.reg_service_index.proofs.Words.{ℕ, List, ◌++◌, append_assoc, subst, err_from_is_err_and, pile_stopped, piles_behind}
+use Rattle.reg_service_index.proofs.Words.{stopped_first, IsStopped, Sink, SendFault}
 use Rattle.reg_line.specs.File.{end_of}
-use Rattle.reg_api_replies.proofs.Joined.{pile_stopped, piles_behind, stopped_first}
-use Rattle.reg_body.specs.Sent.{IsStopped, Sink}
-use Rattle.reg_body.specs.declared.bytes.SendFault.{SendFault}
 use Rattle.reg_service_index.proofs.lines.put_line.Goals as goal
 
 first_stopped : (f : SendFault) (waiting a b : List ℕ) (writes : ℕ) (s t : Sink) → IsStopped f (waiting ++ a) writes s t → IsStopped f (waiting ++ (a ++ b)) writes s t

@@ -1,5 +1,4 @@
-use Rattle.std.proofs.Common.{arith, ap, sym, ◌∙◌, Some}
-use Rattle.reg_tables.specs.Works.{held}
+use Rattle.reg_service_index.proofs.Words.{arith, ap, sym, ◌∙◌, Some, held}
 use Rattle.reg_service_index.proofs.Left.{read_left}
 use Rattle.reg_service_index.proofs.Unsent.{file_read}
 use Rattle.reg_service_index.proofs.sending.read_file.Goals as goal

@@ -1,5 +1,4 @@
-use Rattle.std.proofs.Common.{◌∙◌, inl, inr, sym}
-use Rattle.reg_service_index.specs.Files.{rows_text}
+use Rattle.reg_service_index.proofs.Words.{◌∙◌, inl, inr, sym, rows_text}
 use Rattle.reg_service_index.proofs.Unsent.{broken_at, file_sent, no_room_then, rows_some, some_then, unsent, was_begun}
 use Rattle.reg_service_index.proofs.sending.send_file.Goals as goal
 

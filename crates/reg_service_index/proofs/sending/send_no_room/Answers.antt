@@ -1,6 +1,4 @@
-use Rattle.std.proofs.Common.{Err, Ok}
-use Rattle.std.proofs.lemmas.Result.{err_from_is_err_and}
-use Rattle.reg_service_index.specs.Streams.{fault_of}
+use Rattle.reg_service_index.proofs.Words.{Err, Ok, err_from_is_err_and, fault_of}
 use Rattle.reg_service_index.proofs.Unsent.{no_room_some, no_room_stopped, no_room_whole}
 use Rattle.reg_service_index.proofs.sending.send_no_room.Goals as goal
 

@@ -1,17 +1,5 @@
-use Rattle.std.proofs.Common.{◌≡◌, [], ◌∷◌, map, rules, subst}
-use Rattle.std.specs.Borrow.{Bor}
-use Rattle.std.specs.List.{list_any}
-use Rattle.std.specs.Prelude.{string_bytes}
-use Rattle.std.specs.Str.{bytes_eq}
-use Rattle.reg_model.specs.Actions.{crate_of}
-use Rattle.reg_model.specs.Events.{action_of}
-use Rattle.reg_model.specs.Reports.{with_commas}
-use Rattle.reg_tables_meaning.specs.Calls.{ListsOwners}
-use Rattle.reg_access.specs.Admitted.{IsFoundOf}
-use Rattle.reg_tables.specs.Works.{rows_seen}
-use Rattle.reg_service_requests.specs.Granted.{IsCrate}
-use Rattle.reg_service_requests.specs.Owning.{owning}
-use Rattle.reg_service_requests.specs.Telling.{changes, owners_word}
+use Rattle.reg_service_requests.proofs.Words.{◌≡◌, [], ◌∷◌, map, rules, subst, Bor, list_any, string_bytes, bytes_eq, crate_of, action_of}
+use Rattle.reg_service_requests.proofs.Words.{with_commas, ListsOwners, IsFoundOf, rows_seen, IsCrate, owning, changes, owners_word}
 use Rattle.reg_service_requests.proofs.Asking.{change_told}
 use Rattle.reg_service_requests.proofs.Owned.{owning_has}
 use Rattle.reg_service_steps.proofs.Running.{runs_whole}

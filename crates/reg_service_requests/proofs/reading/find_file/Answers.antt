@@ -1,6 +1,5 @@
-use Rattle.reg_tables_meaning.specs.Calls.{FindsSummary}
+use Rattle.reg_service_requests.proofs.Words.{FindsSummary, runs_asked, runs_refused}
 use Rattle.reg_service_requests.proofs.ReadingServed.{file_found}
-use Rattle.reg_service_steps.proofs.Running.{runs_asked, runs_refused}
 use Rattle.reg_service_requests.proofs.reading.find_file.Goals as goal
 
 pub returns-in-Some : goal.returns-in-Some

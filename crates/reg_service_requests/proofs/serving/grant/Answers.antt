@@ -1,9 +1,7 @@
-use Rattle.std.proofs.Common.{◌≡◌, Ok, refl, rules}
-use Rattle.reg_model.specs.Events.Asked.{Download, Index, ListOwners}
+use Rattle.reg_service_requests.proofs.Words.{◌≡◌, Ok, refl, rules, Download, Index, ListOwners, runs_nothing}
 use Rattle.reg_policy.specs.declared.event.Asked.TheVariants.{Read}
 use Rattle.reg_policy.specs.declared.event.Reading.TheVariants.{Config, Search}
 use Rattle.reg_service_requests.proofs.Deciding.{always_given, as_given, crate_given, faulty_told, seeks, told_given, untold_given, version_given}
-use Rattle.reg_service_steps.proofs.Running.{runs_nothing}
 use Rattle.reg_service_requests.proofs.serving.grant.Goals as goal
 
 pub returns-in-Faulty : goal.returns-in-Faulty

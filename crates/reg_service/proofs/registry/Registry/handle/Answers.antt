@@ -1,8 +1,4 @@
-use Rattle.std.proofs.Common.{arith, inl, inr, ◌∙◌}
-use Rattle.sqlite.specs.State.{HasCleanDisk}
-use Rattle.reg_api_requests.specs.Requests.{request_of}
-use Rattle.reg_tables.specs.Works.{is_shut, shown}
-use Rattle.reg_service.specs.Registries.{limits_of, tables_of}
+use Rattle.reg_service.proofs.Words.{arith, inl, inr, ◌∙◌, HasCleanDisk, request_of, is_shut, shown, limits_of, tables_of}
 use Rattle.reg_service.proofs.Streams.{file_told, halts_on, no_room_told}
 use Rattle.reg_service.proofs.registry.Registry.handle.Goals as goal
 

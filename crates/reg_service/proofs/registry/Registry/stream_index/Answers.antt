@@ -1,5 +1,4 @@
-use Rattle.std.proofs.Common.{refl, ◌∙◌}
-use Rattle.reg_service.specs.Registries.{tables_of}
+use Rattle.reg_service.proofs.Words.{refl, ◌∙◌, tables_of}
 use Rattle.reg_service.proofs.Rests.{left_looked}
 use Rattle.reg_service.proofs.Streams.{file_streamed}
 use Rattle.reg_service.proofs.registry.Registry.stream_index.Goals as goal
