@@ -4,7 +4,7 @@ use Rattle.reg_service_requests.proofs.Words.{ap, subst, ◌∙◌, Vec, unwrap_
 use Rattle.reg_service_requests.proofs.Words.{crate_of, owners, caller, served, action_of, lists, or_else, Registry, Text, broken, Sound}
 use Rattle.reg_service_requests.proofs.Words.{Outcome, unless_denied, Says, Reply, Denied, Holds, Ids, Stands, StandsBy, IsCrateOf}
 use Rattle.reg_service_requests.proofs.Words.{FoundCrate, IsCrate, IsLet, IsSpelled, DoesOwning, FindsOwners, leaving_rule, owning}
-use Rattle.reg_service_requests.proofs.Words.{with_owners, Serves, Served, Done, Seeks, Told, spelled_as}
+use Rattle.reg_service_requests.proofs.Words.{with_owners, Serves, Served, Done, Seeks, Sends, Told, spelled_as}
 use Rattle.std.specs.Prelude.{map}
 use Rattle.std.specs.FinSet as finset
 use Rattle.reg_model.specs.declared.rule.Rule.TheVariants as rule
@@ -76,6 +76,7 @@ module _ (limits : Limits) (digest : Text) (are : Bool) (name : Text) (logins : 
   pub owning_done : (accounts : Vec ℕ Global) (new : Trees) (it : Served) → FindsOwners are c.id logins old (Ok accounts) → DoesOwning are c.id accounts.items old new it → Serves limits (Some digest) (owning are name logins) old new it
   owning_done accounts new (Told reply) finds does = absurd does
   owning_done accounts new (Seeks account) finds does = absurd does
+  owning_done accounts new (Sends file) finds does = absurd does
   owning_done accounts new (Done reply) finds does = λ ids s h.
       let is = (spelled ids s h).1 in
       let (n, at, same) = is in

@@ -70,4 +70,4 @@ pub use Rattle.reg_service_requests.specs.Owning.{entries_of, id_among, leaving_
 pub use Rattle.reg_service_requests.specs.Serves.{Serves}
 pub use Rattle.reg_service_requests.specs.Telling.{changes, mark_word, owners_word}
 pub use Rattle.reg_service_requests.specs.declared.served.Served.{Served}
-pub use Rattle.reg_service_requests.specs.declared.served.Served.TheVariants.{Done, Seeks, Told}
+pub use Rattle.reg_service_requests.specs.declared.served.Served.TheVariants.{Done, Seeks, Sends, Told}
