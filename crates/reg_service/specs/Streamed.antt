@@ -56,7 +56,7 @@ StreamsTo g limits s digest asked close r writes old new before after =
 -- it is so for whatever request the file was found
 abbrev pub IsStreamed : {S : Type 0} → Ghosts S → FoundFile → Bool → Result ℕ IndexFault → ℕ
     → Tables S → Tables S → Sink → Sink → Type 0
-IsStreamed g f close r writes found new before after =
+IsStreamed {S = S} g f close r writes found new before after =
     HasCleanDisk (shown g new) → (limits : Limits) (s : Registry) (digest : Option Text)
     (asked : Asked) (old : Tables S) → Finds g limits s digest asked f old found
     → StreamsTo g limits s digest asked close r writes old new before after
