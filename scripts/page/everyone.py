@@ -9,7 +9,11 @@ NAMED = ("button", "link", "textbox", "searchbox", "checkbox", "heading")
 # A phone, and texts of twice the size.
 WINDOWS = (("a phone", 320, "100%"), ("200 % text", 1280, "200%"), ("a phone with 200 % text", 360, "200%"))
 VIEWS = ("sign-in", "#/", "#/acme-net", "#/odd-long", "#/ordered", "#start")
-PICTURES = (("light", 1280, 1090, "light", "#/"), ("dark", 1280, 1290, "dark", "#/acme-net"), ("phone", 390, 844, "light", "#/acme-net"))
+PICTURES = (
+    ("light", 1280, 1090, "light", "#/"),
+    ("dark", 1280, 1290, "dark", "#/acme-net"),
+    ("phone", 390, 844, "light", "#/acme-net"),
+)
 # Texts whose contrast is below 4.5 (WCAG 2.2, 1.4.3, and its definition of relative luminance).
 CONTRAST = """
     const numbers = (color) => color.match(/[0-9.]+/g).map(Number);

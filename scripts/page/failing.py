@@ -59,7 +59,8 @@ def broken_crates(day):
     with place.way.altered("/owners|q=acme-cli", lambda _: answer):
         browser.click("#failure button")
         day.equal("without owners and description the crate is there", browser.text("#crate-title"), "acme-cli 1.3.0")
-        day.has("what failed is told in their place", browser.text("#version"), f"No description: {FOREIGN}", f"Owners\n{FOREIGN}")
+        shown = browser.text("#version")
+        day.has("what failed is told in their place", shown, f"No description: {FOREIGN}", f"Owners\n{FOREIGN}")
     browser.open()
     with place.way.altered("/index/", lambda _: answer):
         browser.sign_in(day.ada)
