@@ -153,8 +153,7 @@ function indexPath(name) {
     return `${folders[text.length] ?? `${text.slice(0, 2)}/${text.slice(2, 4)}`}/${text}`;
 }
 
-function versionOf(line) {
-    const fields = JSON.parse(line);
+function versionOf(fields) {
     return {
         name: fields.name,
         vers: fields.vers,
@@ -179,7 +178,9 @@ async function versionsAt(name, signal) {
         }
         throw failure;
     }
-    const versions = read(bytes, (text) => text.trimEnd().split('\n').map(versionOf));
+    // One list of the lines: ten thousand that are read one by one take more than twice as long.
+    const versions = read(bytes, (text) =>
+        JSON.parse(`[${text.trimEnd().replaceAll('\n', ',')}]`).map(versionOf));
     return versions.sort((a, b) => byPrecedence(b.precedence, a.precedence));
 }
 
