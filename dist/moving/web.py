@@ -91,3 +91,8 @@ def persist(method, url, token=None, body=None, is_done=lambda: False):
 
 def get(url, token=None):
     return persist("GET", url, token)
+
+
+def ask_once(url, token=None):
+    """The first request of a run: an address that is wrong is told at once."""
+    return ask("GET", url, token)
