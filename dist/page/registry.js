@@ -167,6 +167,16 @@ function versionOf(fields) {
     };
 }
 
+/** The versions of an index file, which has one at least, the highest first. */
+function versionsIn(text) {
+    // One list of the lines: ten thousand that are read one by one take more than twice as long.
+    const versions = JSON.parse(`[${text.trimEnd().replaceAll('\n', ',')}]`).map(versionOf);
+    if (versions.length === 0) {
+        throw new RangeError('an index file without a version');
+    }
+    return versions.sort((a, b) => byPrecedence(b.precedence, a.precedence));
+}
+
 /** All versions of a crate, the highest first, or null if no index file has this spelling. */
 async function versionsAt(name, signal) {
     let bytes;
@@ -178,10 +188,7 @@ async function versionsAt(name, signal) {
         }
         throw failure;
     }
-    // One list of the lines: ten thousand that are read one by one take more than twice as long.
-    const versions = read(bytes, (text) =>
-        JSON.parse(`[${text.trimEnd().replaceAll('\n', ',')}]`).map(versionOf));
-    return versions.sort((a, b) => byPrecedence(b.precedence, a.precedence));
+    return read(bytes, versionsIn);
 }
 
 /** The versions of a crate by any spelling; `search` is what a search of that finds. */

@@ -56,7 +56,7 @@ def keyboard(day):
     day.equal("by keys: a crate", browser.text("#crate-title"), "acme-tls 1.0.3")
     tab_to(browser, "Download")
     browser.press(ENTER)
-    wait_for("by keys: an archive", (browser.downloads / "acme-tls-1.0.3.crate").exists, 10)
+    wait_for("by keys: an archive", (browser.downloads / "acme-tls-1.0.3.crate").exists)
     day.holds("by keys: an archive", True)
     tab_to(browser, "1.0.3")
     outline = browser.script("return getComputedStyle(document.activeElement).outlineStyle")

@@ -53,9 +53,11 @@ def no_network(day):
 def broken_crates(day):
     browser, place = day.browser, day.place
     answer = ANSWERS["no JSON"][0]
-    with place.way.altered("^/index/", lambda _: answer):
-        browser.go("#/acme-cli")
-        day.has("an index file that is none", browser.text("#failure"), FOREIGN)
+    for name, body in (("HTML", HTML), ("nothing", b""), ("another kind of JSON", b'{"vers":1}')):
+        browser.go("#/")
+        with place.way.altered("^/index/", lambda _: Answer(200, "text/plain", body)):
+            browser.go("#/acme-cli")
+            day.has(f"an index file of {name}", browser.text("#failure"), FOREIGN)
     with place.way.altered("/owners|q=acme-cli", lambda _: answer):
         browser.click("#failure button")
         day.equal("without owners and description the crate is there", browser.text("#crate-title"), "acme-cli 1.3.0")
