@@ -104,6 +104,8 @@ class Export:
                     self.report.add("left out, as it is restricted", name)
                 else:
                     self.read_crate(name, is_restricted, reader)
+                    if is_restricted:
+                        self.report.add("restricted, but exported for everyone to read", name)
                 progress.show(name, number)
         finally:
             progress.end()

@@ -15,7 +15,7 @@ CRATES_IO_API = "https://crates.io"
 
 def read_config(text, where):
     try:
-        config = json.loads(text)
+        config = json.loads(text or b"")
     except ValueError:
         config = None
     if not isinstance(config, dict):
@@ -66,18 +66,18 @@ class SparseIndex:
         self.base = url[len("sparse+"):].rstrip("/")
         self.token = token
         self.url = usual_url(f"sparse+{self.base}/")
-        self.config = read_config(self.get("config.json"), f"{self.base}/config.json")
+        self.config = read_config(self.get("config.json", web.ask_once), f"{self.base}/config.json")
 
-    def get(self, path):
+    def get(self, path, get=web.get):
+        """A file of the index; None where there is none."""
+        url = f"{self.base}/{path}"
         try:
-            reply = web.get(f"{self.base}/{path}", self.token)
+            reply = get(url, self.token)
         except web.NoAnswer as fault:
             raise Fault(str(fault)) from None
-        if reply.status == 200:
-            return reply.body
-        if reply.status in (404, 410, 451) and path != "config.json":
-            return None
-        raise Fault(f"{self.base}/{path} is answered with status {reply.status}")
+        if reply.status not in (200, 404, 410, 451):
+            raise Fault(f"{url} is answered with status {reply.status}")
+        return reply.body if reply.status == 200 else None
 
     def names(self):
         raise BadUse("a sparse index does not tell its crates: name them in a file, by --names")

@@ -1,4 +1,5 @@
 """What a run tells: how far it is, meanwhile, and what it did, at the end."""
+import os
 import sys
 import time
 from collections import Counter, defaultdict
@@ -67,3 +68,13 @@ class Report:
                 yield f"{word}: {what} ({number:,})"
         for what, reason in self.left:
             yield f"not brought: {what}: {reason}"
+
+    def print(self, last):
+        """All lines and the last one, for whoever reads them."""
+        try:
+            for line in [*self.lines(), last]:
+                print(line)
+            sys.stdout.flush()
+        except BrokenPipeError:
+            # What is still buffered goes nowhere, and not into a second fault at the exit.
+            os.dup2(os.open(os.devnull, os.O_WRONLY), sys.stdout.fileno())

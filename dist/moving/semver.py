@@ -1,6 +1,7 @@
 """Versions and requirements as cargo reads and writes them (SemVer 2.0.0 and the crate `semver`)."""
 import re
 from dataclasses import dataclass
+from functools import lru_cache
 from typing import Optional, Tuple
 
 NUMBER = r"(0|[1-9][0-9]*)"
@@ -121,6 +122,7 @@ class Requirement:
         )
 
 
+@lru_cache(maxsize=None)
 def requirement_of(text):
     """The requirement that a text is, or None where cargo reads none."""
     if text.strip(" ") in ("*", "x", "X"):

@@ -28,6 +28,8 @@ class Source:
         self.index = index
         self.records = records or Records()
         self.by_crate = {}
+        # Where the index is a clone, which stays until the script ends.
+        self.clone = None
 
     def owners_api(self):
         """The base of the API that tells owners; None where there is none."""
@@ -122,7 +124,7 @@ def open_archives(folder, options):
 
 
 def open_git(repository, url, options, token):
-    """The clone stays until the script ends."""
+    """A clone of a git repository; `url` is where cargo finds it."""
     folder = tempfile.TemporaryDirectory(prefix="registry-import-")
     clone(repository, folder.name)
     source = open_index(FolderIndex(folder.name, url), options, token)

@@ -113,7 +113,10 @@ class ServingRegistry(Target):
     def __init__(self, base, token):
         self.base = base.rstrip("/")
         self.token = token
-        reply = self.ask("GET", "/index/config.json", None)
+        try:
+            reply = web.ask_once(f"{self.base}/index/config.json", token)
+        except web.NoAnswer as fault:
+            raise Fault(str(fault)) from None
         if reply.status != 200:
             raise Fault(f"{self.base} says: {reply.words()}")
 

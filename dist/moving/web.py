@@ -52,19 +52,33 @@ class NoAnswer(Exception):
     """A request that may have been done, or not: nothing came back."""
 
 
-def ask(method, url, token=None, body=None):
-    """One request; the token is the whole value of its field."""
-    request = urllib.request.Request(url, data=body, method=method)
+def answer_to(request):
+    """What is answered, whatever its status is."""
+    try:
+        return OPENER.open(request, timeout=SECONDS)
+    except urllib.error.HTTPError as refusal:
+        return refusal
+
+
+def request_to(method, url, token, body):
+    """The token is the whole value of its field."""
+    try:
+        request = urllib.request.Request(url, data=body, method=method)
+    except ValueError as fault:
+        raise BadUse(f"{url} is no address: {fault}") from None
     if token is not None:
         request.add_header("Authorization", token)
     if body is not None:
         request.add_header("Content-Type", "application/octet-stream")
+    return request
+
+
+def ask(method, url, token=None, body=None):
+    request = request_to(method, url, token, body)
     try:
-        with OPENER.open(request, timeout=SECONDS) as answer:
+        with answer_to(request) as answer:
             return Reply(answer.status, answer.read())
-    except urllib.error.HTTPError as refusal:
-        return Reply(refusal.code, refusal.read())
-    except (ValueError, http.client.InvalidURL) as fault:
+    except http.client.InvalidURL as fault:
         raise BadUse(f"{url} is no address: {fault}") from None
     except (OSError, http.client.HTTPException) as fault:
         reason = getattr(fault, "reason", None) or fault
@@ -91,3 +105,8 @@ def persist(method, url, token=None, body=None, is_done=lambda: False):
 
 def get(url, token=None):
     return persist("GET", url, token)
+
+
+def ask_once(url, token=None):
+    """The first request of a run: an address that is wrong is told at once."""
+    return ask("GET", url, token)
