@@ -86,7 +86,7 @@ IsRequestReplied g limits request close old new k0 k1 w0 w1 r =
 -- whatever was wanted where this index file was found, it is replied so, and nothing is told
 abbrev pub IsFileReplied : {S : Type 0} → Ghosts S → FoundFile → Bool → Tables S → Tables S → Tail
     → Option Text → Option Text → Result (Unit {0}) StreamFault → Type 0
-IsFileReplied g file close found new k w0 w1 r =
+IsFileReplied {S = S} g file close found new k w0 w1 r =
     HasCleanDisk (shown g new) → (limits : Limits) (f : Facts) (w : Wants) (s : model.Registry)
     (old : Tables S) → let asks = request_from limits f.token w in
     Finds g limits s asks.digest asks.asked file old found
