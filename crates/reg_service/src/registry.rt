@@ -126,8 +126,8 @@ impl<S: Alter> Registry<S> {
         command_in(alloc, &mut self.tables, &self.limits, command, traced)
     }
 
-    /// Answers a request, in one transaction. If `traced`, it tells the line of what was changed, if
-    /// anything was. An index file is found, for `stream_index`.
+    /// Answers a request, in one transaction. If `traced`, it tells the line of what was changed,
+    /// if anything was. An index file is found, for `stream_index`.
     pub fn act(&mut self, alloc: Global, request: &ApiRequest<'_>, traced: bool) -> Answered
         requires { IsUpToDate S.Store self.old }
         ensures replies { let asks = request_of (limits_of self.old) request.now in
