@@ -30,12 +30,11 @@ reading_of (Search text most) = to_search text.now most
 
 abbrev pub publication_of : NewPublication → model.Publication
 publication_of v = record {
-  name = v.name.now;
-  version = v.version.now;
-  description = option_map
-      (λ d. d.now) v.description;
-  stem = v.stem.now;
-  digest = v.digest.now;
+  name = v.name;
+  version = string_bytes v.version;
+  description = option_map string_bytes v.description;
+  stem = v.stem.items;
+  digest = v.digest;
   archive = v.archive.now;
 }
 
@@ -48,8 +47,8 @@ asked_of (ListOwners n) = to_list n.now
 asked_of (Publish p) = to_publish (publication_of p)
 asked_of (Yank n v) = to_yank n.now v.now
 asked_of (Unyank n v) = to_unyank n.now v.now
-asked_of (AddOwners n logins) = to_add n.now (map (λ l. l.now) logins.now)
-asked_of (RemoveOwners n logins) = to_remove n.now (map (λ l. l.now) logins.now)
+asked_of (AddOwners n logins) = to_add n.now (map string_bytes logins.items)
+asked_of (RemoveOwners n logins) = to_remove n.now (map string_bytes logins.items)
 
 abbrev pub command_of : AdminCommand → events.Command
 command_of (UserAdd login name) = to_user_add login.now (option_map (λ n. n.now) name)

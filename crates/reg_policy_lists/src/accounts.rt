@@ -1,6 +1,6 @@
 //! Accounts, whose ids are their places counted from 1.
 
-ghost use Rattle.std.specs.Prelude.{◌≡◌, ◌≤◌, ◌++◌, [], ◌∷◌, IfOk, OnErr, OnOk, filter_map, is_some, length, map};
+ghost use Rattle.std.specs.Prelude.{◌≡◌, ◌≤◌, ◌++◌, [], ◌∷◌, IfOk, OnErr, OnOk, filter_map, is_some, length, map, string_bytes};
 ghost use Rattle.std.specs.List.{position};
 ghost use Rattle.std.specs.Str.{bytes_eq};
 ghost use Rattle.reg_model.specs.Registry.{change_at, holds, with_id};
@@ -143,8 +143,9 @@ impl Accounts {
         }
     }
 
-    fn each_known(&self, alloc: Global, logins: &[&str]) -> Result<Vec<bool>, AllocError>
-        ensures { IfOk result (λ v. v.items ≡ map (λ l. is_known_in self.now l.now) logins.now) }
+    fn each_known(&self, alloc: Global, logins: &[String]) -> Result<Vec<bool>, AllocError>
+        ensures { IfOk result (λ v. v.items
+            ≡ map (λ l. is_known_in self.now (string_bytes l)) logins.now) }
     {
         logins
             .iter()
@@ -153,15 +154,16 @@ impl Accounts {
     }
 
     /// For each login, whether an enabled account has it.
-    pub fn known(&self, alloc: Global, logins: &[&str]) -> Result<Vec<bool>, AllocError>
+    pub fn known(&self, alloc: Global, logins: &[String]) -> Result<Vec<bool>, AllocError>
         ensures { IfOk result (λ v. v.items ≡ map (is_known_in self.now)
-            (map (λ l. l.now) logins.now)) }
+            (map string_bytes logins.now)) }
     {
         self.each_known(alloc, logins)
     }
 
-    fn ids_found(&self, alloc: Global, logins: &[&str]) -> Result<Vec<u32>, AllocError>
-        ensures { IfOk result (λ v. v.items ≡ filter_map (λ l. id_in self.now l.now) logins.now) }
+    fn ids_found(&self, alloc: Global, logins: &[String]) -> Result<Vec<u32>, AllocError>
+        ensures { IfOk result (λ v. v.items
+            ≡ filter_map (λ l. id_in self.now (string_bytes l)) logins.now) }
     {
         logins
             .iter()
@@ -170,9 +172,9 @@ impl Accounts {
     }
 
     /// The ids of the accounts with these logins.
-    pub fn ids_of(&self, alloc: Global, logins: &[&str]) -> Result<Vec<u32>, AllocError>
+    pub fn ids_of(&self, alloc: Global, logins: &[String]) -> Result<Vec<u32>, AllocError>
         ensures { IfOk result (λ v. v.items ≡ filter_map (id_in self.now)
-            (map (λ l. l.now) logins.now)) }
+            (map string_bytes logins.now)) }
     {
         self.ids_found(alloc, logins)
     }

@@ -308,16 +308,16 @@ fn count_crates(list: &[Publication]) -> u64
 pub fn publication_from(alloc: Global, new: &NewPublication) -> Result<Publication, AllocError>
     ensures { IfOk result (λ p. publication_of p ≡ new_publication new.now) }
 {
-    let description = match new.description {
+    let description = match &new.description {
         Some(description) => Some(String::from_str(alloc, description)?),
         None => None,
     };
     Ok(Publication {
         name: new.name.copy(),
-        version: String::from_str(alloc, new.version)?,
+        version: String::from_str(alloc, &new.version)?,
         description,
-        stem: new.stem.to_vec(alloc)?,
-        digest: *new.digest,
+        stem: new.stem.as_slice().to_vec(alloc)?,
+        digest: new.digest,
         archive: new.archive.to_vec(alloc)?,
     })
 }

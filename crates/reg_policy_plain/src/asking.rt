@@ -1,6 +1,6 @@
 //! What the registry over vectors does for an allowed request.
 
-ghost use Rattle.std.specs.Prelude.{◌≡◌, IfOk, OnErr, OnOk, None, Ok as to_ok, is_some, map, true};
+ghost use Rattle.std.specs.Prelude.{◌≡◌, IfOk, OnErr, OnOk, None, Ok as to_ok, is_some, map, string_bytes, true};
 ghost use Rattle.std.specs.Option.{option_map};
 ghost use Rattle.reg_names.specs.Names.{name_at, name_of};
 ghost use Rattle.reg_model.specs.Crates.{version as version_in, viewer};
@@ -112,7 +112,7 @@ impl PlainRegistry {
     {
         let account = self.account_of(digest);
         let publication = publication_from(self.alloc, new)?;
-        if self.publications.exists(new.name) {
+        if self.publications.exists(&new.name) {
             self.publications.add(publication)?;
         } else {
             self.publications
@@ -139,9 +139,9 @@ impl PlainRegistry {
         Answer::Granted
     }
 
-    fn add_owners(&mut self, name: &str, logins: &[&str]) -> Result<Answer, AllocError>
+    fn add_owners(&mut self, name: &str, logins: &[String]) -> Result<Answer, AllocError>
         requires named { is_some (name_of name.now) ≡ true }
-        ensures { Does self.old self.new (to_add name.now (map (λ l. l.now) logins.now)) result }
+        ensures { Does self.old self.new (to_add name.now (map string_bytes logins.now)) result }
     {
         let name = parse_name(name).unwrap();
         let ids = self.accounts.ids_of(self.alloc, logins)?;
@@ -149,9 +149,9 @@ impl PlainRegistry {
         Ok(Answer::Granted)
     }
 
-    fn remove_owners(&mut self, name: &str, logins: &[&str]) -> Result<Answer, AllocError>
+    fn remove_owners(&mut self, name: &str, logins: &[String]) -> Result<Answer, AllocError>
         requires named { is_some (name_of name.now) ≡ true }
-        ensures { Does self.old self.new (to_remove name.now (map (λ l. l.now) logins.now)) result }
+        ensures { Does self.old self.new (to_remove name.now (map string_bytes logins.now)) result }
     {
         let name = parse_name(name).unwrap();
         let ids = self.accounts.ids_of(self.alloc, logins)?;

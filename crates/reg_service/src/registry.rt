@@ -20,9 +20,9 @@ ghost use Rattle.reg_tables.specs.Works.{held, shown};
 use crate::answered::Answered;
 use crate::exporting::export_in;
 use crate::marking::mark_in;
-use crate::transactions::{command_in, denied, parts_in};
+use crate::transactions::{command_in, denied, request_in};
 use reg_api_replies::{Kind, Reply};
-use reg_api_requests::{ApiRequest, read_request};
+use reg_api_requests::{ApiRequest, digest_shown, read_call};
 use reg_audit::{Check, audit};
 use reg_audit_law::laws::opening_law;
 use reg_body::{Counted, Limits};
@@ -140,10 +140,18 @@ impl<S: Alter> Registry<S> {
             ⊎ (IsUntold result × (tables_of self.new ≡ tables_of self.old)) }
         ensures halts { Halts (has_stopped self.old) (has_stopped self.new) (SaysNoRoom result) }
     {
-        let Ok(parts) = read_request(alloc, request, &self.limits) else {
+        let Ok(asked) = read_call(alloc, &request.call, &self.limits) else {
             return Answered::Replied(denied(Rule::S1));
         };
-        parts_in(alloc, &mut self.tables, &self.limits, &parts, traced)
+        let digest = digest_shown(request);
+        request_in(
+            alloc,
+            &mut self.tables,
+            &self.limits,
+            digest.as_ref(),
+            &asked,
+            traced,
+        )
     }
 
     /// Sends the reply with an index file that was found, row by row, in at most `writes` write

@@ -12,7 +12,6 @@ ghost use Rattle.reg_service.specs.Answered.{AreUpToDate, Halts, WasClean};
 use crate::answered::Answered;
 use crate::searching::seek;
 use reg_api_replies::Reply;
-use reg_api_requests::Parts;
 use reg_body::Limits;
 use reg_line::Digest;
 use reg_model::AdminRefusal;
@@ -111,27 +110,4 @@ pub(crate) fn request_in<S: Alter>(
         }
         Served::Sends(file) => Answered::Found(file),
     }
-}
-
-/// Answers a request that was read.
-pub(crate) fn parts_in<S: Alter>(
-    alloc: Global,
-    tables: &mut Tables<S>,
-    limits: &Limits,
-    parts: &Parts<'_>,
-    traced: bool,
-) -> Answered
-    requires tables { AreUpToDate S.Store tables.old }
-    requires fit { (d : _) → IsFit (Ask d parts.now.asked) }
-    ensures replies { IsActed S.Store limits.now traced parts.now.digest parts.now.asked result
-        tables.old tables.new }
-    ensures tables { AreUpToDate S.Store tables.new }
-    ensures clean { WasClean S.Store tables.old tables.new }
-    ensures halts { Halts (is_shut tables.old) (is_shut tables.new) (SaysNoRoom result) }
-{
-    let Ok(logins) = parts.logins(alloc) else {
-        return Answered::Replied(denied(Rule::S1));
-    };
-    let asked = parts.asked(&logins);
-    request_in(alloc, tables, limits, parts.digest(), &asked, traced)
 }

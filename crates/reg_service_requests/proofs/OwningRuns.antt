@@ -1,9 +1,9 @@
 -- Owners that are changed one after another, and logins that are asked for so, within a transaction.
 use Rattle.reg_service_requests.proofs.Words.{◌≡◌, ℕ, ◌+◌, ◌<◌, ◌++◌, ◌∷◌, [], List, Bool, false, arith, Some, None, Ok, Err, Result}
-use Rattle.reg_service_requests.proofs.Words.{length, take, drop, get_or, subst, Vec, Global, Bor, Trees, Ghosts, Text, id_of_login}
+use Rattle.reg_service_requests.proofs.Words.{length, take, drop, get_or, subst, Vec, Global, Trees, Ghosts, Text, id_of_login}
 use Rattle.reg_service_requests.proofs.Words.{is_known, Tells, StoreFault, Work, rows_seen, called_ok, asks_made, asks_nothing}
 use Rattle.reg_service_requests.proofs.Words.{FindsAllKnown, FindsKnown, SetsOwner, SetsSome, Runs, runs_failed, runs_nothing}
-use Rattle.std.proofs.Common.{IsErr}
+use Rattle.std.proofs.Common.{IsErr, String, string_bytes}
 use Rattle.sqlite.specs.State.{HasCleanDisk}
 use Rattle.reg_tables.specs.Works.{IsAtWork, IsCall, has_failed, seen}
 use Rattle.reg_tables.specs.Calling.{Asks}
@@ -39,20 +39,20 @@ module _ {S : Type 0} (g : Ghosts S) where
   abbrev pub AreFound : List Text → List Text → List ℕ → Work S → Work S → Type 0
   AreFound all rest ids old new = Asks {T = List ℕ} {E = StoreFault} g old new (Ok ids) (λ db found. Tells (λ _ s. IsSoFar (is_known s) (id_of_login s) all rest found) db)
 
-  module _ (texts : List (Bor Text)) (a : Work S) where
+  module _ (texts : List (String Global)) (a : Work S) where
     pub none_found : has_failed a ≡ false → IsAtWork g a → AreFound (texts_of texts) (texts_of texts) [] a a
     none_found on at = asks_nothing g [] a on at (λ ids s h. so_far_none (is_known s) (id_of_login s) (texts_of texts))
 
-    module _ (i : ℕ) (d : Bor Text) (found : List ℕ) (b c : Work S) (below : i < length texts) (so : AreFound (texts_of texts) (texts_of (drop i texts)) found a b) where
-      pub more_found : {E : Type 0} (id : ℕ) → Asks {E = E} g b c (Ok (Some id)) (FindsKnown (get_or texts i d).now) → AreFound (texts_of texts) (texts_of (drop (i + 1) texts)) (found ++ id ∷ []) a c
+    module _ (i : ℕ) (d : String Global) (found : List ℕ) (b c : Work S) (below : i < length texts) (so : AreFound (texts_of texts) (texts_of (drop i texts)) found a b) where
+      pub more_found : {E : Type 0} (id : ℕ) → Asks {E = E} g b c (Ok (Some id)) (FindsKnown (string_bytes (get_or texts i d))) → AreFound (texts_of texts) (texts_of (drop (i + 1) texts)) (found ++ id ∷ []) a c
       more_found id one = asks_made g (found, Some id) (found ++ id ∷ []) a c
           (λ both ids s h. so_far_more (is_known s) (id_of_login s) texts i d below found (both.0 ids s h) id (both.1 ids s h))
-          (asks_both g {Q = FindsKnown (get_or texts i d).now} found (Some id) a b c so one)
+          (asks_both g {Q = FindsKnown (string_bytes (get_or texts i d))} found (Some id) a b c so one)
 
-      pub one_unknown : {E F : Type 0} → Asks {E = E} g b c (Ok None) (FindsKnown (get_or texts i d).now) → Asks {E = F} g a c (Ok None) (FindsAllKnown (texts_of texts))
+      pub one_unknown : {E F : Type 0} → Asks {E = E} g b c (Ok None) (FindsKnown (string_bytes (get_or texts i d))) → Asks {E = F} g a c (Ok None) (FindsAllKnown (texts_of texts))
       one_unknown one = asks_made g (found, None) None a c
           (λ both ids s h. so_far_ends (is_known s) (id_of_login s) texts i d below found (both.0 ids s h) (both.1 ids s h))
-          (asks_both g {Q = FindsKnown (get_or texts i d).now} found None a b c so one)
+          (asks_both g {Q = FindsKnown (string_bytes (get_or texts i d))} found None a b c so one)
 
     module _ (i : ℕ) (found : List ℕ) (b c : Work S) (so : AreFound (texts_of texts) (texts_of (drop i texts)) found a b) where
       pub finding_fails : {T U E F : Type 0} {P : Trees → T → Type 0} {Q : Trees → U → Type 0} (e : E) (r : Result U F) → IsErr r → Asks g b c (Err e) P → Asks g a c r Q
@@ -61,5 +61,5 @@ module _ {S : Type 0} (g : Ghosts S) where
       pub room_fails : {T U E F : Type 0} {P : Trees → T → Type 0} {Q : Trees → U → Type 0} (x : T) (d : Work S) (r : Result U F) → IsErr r → Asks {E = E} g b c (Ok x) P → IsCall g r c d → Asks g a d r Q
       room_fails {Q} x d r is one call = asks_after g {Q = Q} found r a b d so (asks_refused g {Q = Q} x r b c d is one call)
 
-    pub all_found : {F : Type 0} (ids : Vec ℕ Global) (b : Work S) (rest : List (Bor Text)) → rest ≡ [] → AreFound (texts_of texts) (texts_of rest) ids.items a b → Asks {E = F} g a b (Ok (Some ids)) (FindsAllKnown (texts_of texts))
+    pub all_found : {F : Type 0} (ids : Vec ℕ Global) (b : Work S) (rest : List (String Global)) → rest ≡ [] → AreFound (texts_of texts) (texts_of rest) ids.items a b → Asks {E = F} g a b (Ok (Some ids)) (FindsAllKnown (texts_of texts))
     all_found ids b rest is so = asks_made g ids.items (Some ids) a b (λ found it s h. so_far_all (is_known s) (id_of_login s) (texts_of texts) ids.items (subst (λ r. IsSoFar (is_known s) (id_of_login s) (texts_of texts) (texts_of r) ids.items) is (found it s h))) so

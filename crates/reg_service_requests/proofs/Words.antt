@@ -4,7 +4,6 @@ pub use Rattle.std.proofs.Common.{not, refl, rules, subst, sym, take, true, ℕ,
 pub use Rattle.std.proofs.lemmas.Bool.{and_parts}
 pub use Rattle.std.proofs.lemmas.List.{drop_all, take_more}
 pub use Rattle.std.proofs.lemmas.Slice.Eq.{bytes_eq-Decides}
-pub use Rattle.std.specs.Borrow.{Bor}
 pub use Rattle.std.specs.Fmt.{decimal}
 pub use Rattle.std.specs.List.{enumerate_from, filter, find, list_all, list_any}
 pub use Rattle.std.specs.Option.{option_map}

@@ -1,7 +1,6 @@
 //! Changing the owners of crates.
 
 ghost use Rattle.std.specs.Prelude.{◌≡◌, IfOk, IsSome, false, map, string_bytes};
-ghost use Rattle.std.specs.Borrow.{Bor};
 ghost use Rattle.std.specs.List.{find, list_all, list_any};
 ghost use Rattle.std.specs.Option.{option_map};
 ghost use Rattle.std.specs.Str.{bytes_eq};
@@ -47,11 +46,11 @@ fn find_known<S: Alter>(work: &mut Work<'_, S>, login: &str) -> Result<Option<u3
 fn find_all_known<S: Alter>(
     alloc: Global,
     work: &mut Work<'_, S>,
-    logins: &[&str],
+    logins: &[String],
 ) -> Result<Option<Vec<u32>>>
     requires at_work { IsAtWork S.Store work.old }
     requires goes_on { has_failed work.old ≡ false }
-    ensures { Asks S.Store work.old work.new result (FindsAllKnown (map (λ l. l.now) logins.now)) }
+    ensures { Asks S.Store work.old work.new result (FindsAllKnown (map string_bytes logins.now)) }
 {
     let mut ids = Vec::new(alloc);
     for login in logins {
@@ -78,10 +77,10 @@ fn id_of_owner(owners: &[Account], login: &str) -> Option<u32>
 fn ids_of_owners(
     alloc: Global,
     owners: &[Account],
-    logins: &[&str],
+    logins: &[String],
 ) -> Result<Option<Vec<u32>>, AllocError>
     ensures { IfOk result (AreIdsOf (has_login_of (entries_of owners.now))
-        (id_among (entries_of owners.now)) (map (λ l. l.now) logins.now)) }
+        (id_among (entries_of owners.now)) (map string_bytes logins.now)) }
 {
     let mut ids = Vec::new(alloc);
     for login in logins {
@@ -93,16 +92,16 @@ fn ids_of_owners(
     Ok(Some(ids))
 }
 
-fn is_named(logins: &[&str], owner: &Account) -> bool
+fn is_named(logins: &[String], owner: &Account) -> bool
     ensures { result ≡ list_any
-        (λ l. bytes_eq (string_bytes owner.now.login) l.now) logins.now }
+        (λ l. bytes_eq (string_bytes owner.now.login) (string_bytes l)) logins.now }
 {
     logins.iter().any(|login| has_login(owner, login))
 }
 
-fn are_all_named(owners: &[Account], logins: &[&str]) -> bool
+fn are_all_named(owners: &[Account], logins: &[String]) -> bool
     ensures { result ≡ list_all (λ o. list_any
-        (λ l. bytes_eq (string_bytes o.login) l.now) logins.now) owners.now }
+        (λ l. bytes_eq (string_bytes o.login) (string_bytes l)) logins.now) owners.now }
 {
     owners.iter().all(|owner| is_named(logins, owner))
 }
@@ -111,9 +110,9 @@ fn are_all_named(owners: &[Account], logins: &[&str]) -> bool
 fn ids_leaving(
     alloc: Global,
     owners: &[Account],
-    logins: &[&str],
+    logins: &[String],
 ) -> Result<Result<Vec<u32>, Rule>, AllocError>
-    ensures { IfOk result (AreLeaving owners.now (map (λ l. l.now) logins.now)) }
+    ensures { IfOk result (AreLeaving owners.now (map string_bytes logins.now)) }
 {
     let Some(ids) = ids_of_owners(alloc, owners, logins)? else {
         return Ok(Err(Rule::O3));
@@ -196,11 +195,11 @@ fn add_owners<S: Alter>(
     alloc: Global,
     work: &mut Work<'_, S>,
     found: &FoundCrate,
-    logins: &[&str],
+    logins: &[String],
 ) -> Result<Served>
     requires at_work { IsAtWork S.Store work.old }
     requires goes_on { has_failed work.old ≡ false }
-    ensures { GrantsOf found.now S.Store (λ name. AddOwners name (map (λ l. l.now) logins.now))
+    ensures { GrantsOf found.now S.Store (λ name. AddOwners name (map string_bytes logins.now))
         result work.old work.new }
 {
     match find_all_known(alloc, work, logins)? {
@@ -215,11 +214,11 @@ fn remove_owners<S: Alter>(
     work: &mut Work<'_, S>,
     found: &FoundCrate,
     owners: &[Account],
-    logins: &[&str],
+    logins: &[String],
 ) -> Result<Served>
     requires at_work { IsAtWork S.Store work.old }
     requires goes_on { has_failed work.old ≡ false }
-    ensures { GrantsAmong owners.now found.now S.Store false (map (λ l. l.now) logins.now)
+    ensures { GrantsAmong owners.now found.now S.Store false (map string_bytes logins.now)
         result work.old work.new }
 {
     match ids_leaving(alloc, owners, logins) {
@@ -235,12 +234,12 @@ fn set_all<S: Alter>(
     work: &mut Work<'_, S>,
     found: &FoundCrate,
     owners: &[Account],
-    logins: &[&str],
+    logins: &[String],
     are_owners: bool,
 ) -> Result<Served>
     requires at_work { IsAtWork S.Store work.old }
     requires goes_on { has_failed work.old ≡ false }
-    ensures { GrantsAmong owners.now found.now S.Store are_owners (map (λ l. l.now) logins.now)
+    ensures { GrantsAmong owners.now found.now S.Store are_owners (map string_bytes logins.now)
         result work.old work.new }
 {
     if are_owners {
@@ -251,9 +250,9 @@ fn set_all<S: Alter>(
 }
 
 /// Whether an account with one of these logins is not yet what it is to be.
-fn changes_owners(owners: &[Account], logins: &[&str], are_owners: bool) -> bool
+fn changes_owners(owners: &[Account], logins: &[String], are_owners: bool) -> bool
     ensures { result ≡ changes are_owners
-        (λ (l : Bor _). list_any (λ a. bytes_eq (string_bytes a.login) l.now) owners.now)
+        (λ l. list_any (λ a. bytes_eq (string_bytes a.login) (string_bytes l)) owners.now)
         logins.now }
 {
     logins
@@ -267,14 +266,14 @@ pub(crate) fn own<S: Alter>(
     alloc: Global,
     work: &mut Work<'_, S>,
     caller: &Caller,
-    logins: &[&str],
+    logins: &[String],
     are_owners: bool,
     traced: bool,
 ) -> Result<ServedTold>
     requires at_work { IsAtWork S.Store work.old }
     requires there { IsSome caller.now.found }
     ensures { (limits : _) (name : _) → GrantsTold traced limits caller.now S.Store
-        (owning are_owners name (map (λ l. l.now) logins.now)) result work.old work.new }
+        (owning are_owners name (map string_bytes logins.now)) result work.old work.new }
 {
     let found = caller.found_crate();
     let owners = work.owners_of(alloc, found.id)?;

@@ -22,14 +22,14 @@ use sqlite::Alter;
 use std::alloc::Global;
 
 /// The version to give the tables.
-fn version_of<'a>(new: &NewPublication<'a>) -> NewVersion<'a>
-    ensures { published new.now.name.now result ≡ publication_of new.now }
+fn version_of<'a>(new: &'a NewPublication<'_>) -> NewVersion<'a>
+    ensures { published new.now.name result ≡ publication_of new.now }
 {
     NewVersion {
-        text: new.version,
-        description: new.description,
-        stem: new.stem,
-        digest: new.digest,
+        text: &new.version,
+        description: new.description.as_deref(),
+        stem: &new.stem,
+        digest: &new.digest,
         archive: new.archive,
     }
 }
@@ -65,7 +65,7 @@ fn make_crate<S: Alter>(
         return work.fail();
     };
     let version = version_of(new);
-    work.add_crate(new.name, owner, &version)?;
+    work.add_crate(&new.name, owner, &version)?;
     Ok(Served::Done(Reply::Done(Kind::Json, body)))
 }
 
@@ -145,6 +145,6 @@ pub(crate) fn publish<S: Alter>(
 {
     let served = publish_version(alloc, work, limits, caller, new)?;
     let name = new.name.as_str();
-    let line = tell_change(alloc, work, caller, traced, "publish", name, new.version)?;
+    let line = tell_change(alloc, work, caller, traced, "publish", name, &new.version)?;
     Ok(ServedTold { served, line })
 }

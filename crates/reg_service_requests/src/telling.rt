@@ -74,14 +74,14 @@ pub(crate) fn tell_owners<S: Alter>(
     caller: &Caller,
     told: bool,
     name: &str,
-    logins: &[&str],
+    logins: &[String],
     are_owners: bool,
 ) -> Result<Option<String>>
     requires at_work { IsAtWork S.Store work.old }
     requires goes_on { has_failed work.old ≡ false }
     ensures { Asks S.Store work.old work.new result (λ db found. option_map string_bytes found
         ≡ line_if told (decimal caller.now.token ∷ string_bytes caller.now.login
-        ∷ owners_word are_owners ∷ name.now ∷ with_commas (map (λ l. l.now) logins.now) ∷ [])) }
+        ∷ owners_word are_owners ∷ name.now ∷ with_commas (map string_bytes logins.now) ∷ [])) }
 {
     if !told {
         return Ok(None);

@@ -23,8 +23,8 @@ const _: [Action<'static>; 8] = [
     Action::ListOwners(""),
     Action::Yank("", ""),
     Action::Unyank("", ""),
-    Action::AddOwners("", &[""]),
-    Action::RemoveOwners("", &[""]),
+    Action::AddOwners("", &[]),
+    Action::RemoveOwners("", &[]),
 ];
 
 const _: [Decision; 2] = [Decision::Allowed, Decision::Denied(Rule::A1)];
@@ -183,11 +183,11 @@ fn call_methods(
         limits: &Limits::STANDARD,
     };
     let _ = Asked::Publish(NewPublication {
-        name,
-        version: "",
-        description: Some(""),
-        stem: b"",
-        digest: &[0u8; 32],
+        name: name.copy(),
+        version: String::new(alloc),
+        description: Some(String::new(alloc)),
+        stem: Vec::<u8>::new(alloc),
+        digest: [0u8; 32],
         archive: b"",
     });
     let _: PlainRegistry = PlainRegistry::new(alloc, Limits::STANDARD);

@@ -7,7 +7,7 @@ ghost use Rattle.reg_service.specs.Registries.{IsUpToDate};
 
 use crate::service::agreeing::{finds_alike, obeys_alike, replies_alike};
 use reg_api_replies::{Reply, write_reply};
-use reg_api_requests::{ApiCall, ApiRequest, read_request};
+use reg_api_requests::{ApiCall, ApiRequest, digest_shown, read_call};
 use reg_body::Counted;
 use reg_policy::{AdminCommand, Event};
 use reg_policy_plain::PlainRegistry;
@@ -35,9 +35,8 @@ fn is_alike(
     request: &ApiRequest<'_>,
     reply: &Reply,
 ) -> Result<bool, AllocError> {
-    let read = read_request(alloc, &*request, limits)?;
-    let logins = read.logins(alloc)?;
-    let event = Event::Ask(read.digest(), read.asked(&logins));
+    let digest = digest_shown(request);
+    let event = Event::Ask(digest.as_ref(), read_call(alloc, &request.call, limits)?);
     let answer = plain.step(&event);
     Ok(
         replies_alike(alloc, reply, &answer)?

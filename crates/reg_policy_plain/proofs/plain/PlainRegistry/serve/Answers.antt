@@ -1,6 +1,6 @@
 use Rattle.reg_policy_plain.proofs.Words.{Option, sym, ◌∙◌, ap, Limits, Rule, Text, Registry, judged, account_of, asked_of, limits_of}
 use Rattle.reg_policy_plain.proofs.Words.{registry_of}
-use Rattle.std.specs.Prelude.{map}
+use Rattle.std.specs.Prelude.{map, string_bytes}
 use Rattle.reg_model.specs.Effects.{done}
 use Rattle.reg_model.specs.Events.{action_of as action_asked}
 use Rattle.reg_policy.specs.declared.event.Asked.{Asked}
@@ -30,10 +30,10 @@ pub unyank-requires : goal.unyank-requires
 unyank-requires c = record { named = unyank_named (limits_of c.args.self.now) (registry_of c.args.self.now) c.args.digest.now c.in-Unyank.name.now c.in-Unyank.version.now (sym (ap (judged_of (limits_of c.args.self.now) (registry_of c.args.self.now) c.args.digest.now) c.in-Unyank.is) ∙ c.requires.allowed) }
 
 pub add_owners-requires : goal.add_owners-requires
-add_owners-requires c = record { named = add_named (limits_of c.args.self.now) (registry_of c.args.self.now) c.args.digest.now c.in-AddOwners.name.now (map (λ l. l.now) c.in-AddOwners.logins.now) (sym (ap (judged_of (limits_of c.args.self.now) (registry_of c.args.self.now) c.args.digest.now) c.in-AddOwners.is) ∙ c.requires.allowed) }
+add_owners-requires c = record { named = add_named (limits_of c.args.self.now) (registry_of c.args.self.now) c.args.digest.now c.in-AddOwners.name.now (map string_bytes c.in-AddOwners.logins.now.items) (sym (ap (judged_of (limits_of c.args.self.now) (registry_of c.args.self.now) c.args.digest.now) c.in-AddOwners.is) ∙ c.requires.allowed) }
 
 pub remove_owners-requires : goal.remove_owners-requires
-remove_owners-requires c = record { named = remove_named (limits_of c.args.self.now) (registry_of c.args.self.now) c.args.digest.now c.in-RemoveOwners.name.now (map (λ l. l.now) c.in-RemoveOwners.logins.now) (sym (ap (judged_of (limits_of c.args.self.now) (registry_of c.args.self.now) c.args.digest.now) c.in-RemoveOwners.is) ∙ c.requires.allowed) }
+remove_owners-requires c = record { named = remove_named (limits_of c.args.self.now) (registry_of c.args.self.now) c.args.digest.now c.in-RemoveOwners.name.now (map string_bytes c.in-RemoveOwners.logins.now.items) (sym (ap (judged_of (limits_of c.args.self.now) (registry_of c.args.self.now) c.args.digest.now) c.in-RemoveOwners.is) ∙ c.requires.allowed) }
 
 pub returns-in-Faulty-clause-state : goal.returns-in-Faulty-clause-state
 unfolding done

@@ -1,5 +1,4 @@
-use Rattle.reg_service.proofs.Words.{subst, request_of, IsActed, limits_of, tables_of}
-use Rattle.reg_api_requests.specs.Views.{Request}
+use Rattle.reg_service.proofs.Words.{◌≡◌, ◌∙◌, inl, option_map, request_of, limits_of, tables_of}
 use Rattle.reg_service.proofs.Replied.{no_memory}
 use Rattle.reg_service.proofs.Traced.{untold}
 use Rattle.reg_service.proofs.registry.Registry.act.Goals as goal
@@ -13,4 +12,11 @@ returns-in_default-clause-replies g c clean s h =
 
 pub returns-clause-replies : goal.returns-clause-replies
 returns-clause-replies g c =
-    subst (λ (it : Request). IsActed g.S.Store (limits_of c.args.self.now) c.args.traced it.digest it.asked c.parts_in.result (tables_of c.args.self.now) c.parts_in.new.tables) c.in-Ok.ensures.asked c.parts_in.ensures.replies
+    let asks = request_of (limits_of c.args.self.now) c.args.request.now in
+    let digest : option_map (λ d. d.now) c.as_ref.result ≡ asks.digest = c.as_ref.ensures ∙ c.digest_shown-digest.ensures in
+    rw (c.in-Ok.ensures.asked, digest) at c.request_in.ensures.replies
+
+pub returns-clause-read : goal.returns-clause-read
+returns-clause-read g c =
+    let asks = request_of (limits_of c.args.self.now) c.args.request.now in
+    inl (rw c.in-Ok.ensures.asked at c.in-Ok.ensures.fit asks.digest)
