@@ -30,8 +30,8 @@ pub struct NewPublication<'a> {
     pub archive: &'a [u8],
 }
 
-/// What a request asks for, with what was decoded of its body. Crates and versions are as written in
-/// a path.
+/// What a request asks for, with what was decoded of its body. Crates and versions are as written
+/// in a path.
 #[derive(Drop)]
 pub enum Asked<'a> {
     /// The body or the query breaks this rule, and none before it.
