@@ -4,7 +4,7 @@ ghost use Rattle.std.specs.Prelude.{◌≡◌, ◌+◌, ◌^◌, ◌<◌, None, 
 ghost use Rattle.std.specs.Option.{option_map};
 ghost use Rattle.reg_body.specs.Sent.{sink};
 ghost use Rattle.reg_cli_words.specs.Orders.{given_by};
-ghost use Rattle.reg_service.specs.Registries.{IsUpToDate, limits_of, tables_of};
+ghost use Rattle.reg_service.specs.Registries.{limits_of, tables_of};
 ghost use Rattle.reg_cli.specs.Tasks.{IsFitTask, IsTaskDone, task_from, task_of};
 
 use crate::exporting::export_to;
@@ -63,7 +63,6 @@ pub(crate) fn do_task<S: Alter, W: Write>(
     w: &mut Counted<W>,
     task: &Task<'_>,
 ) -> Exit
-    requires tables { IsUpToDate S.Store registry.old }
     requires fit { IsFitTask task.now }
     requires room { w.old.calls + CALLS < 2 ^ 64 }
     ensures { IsTaskDone S.Store (limits_of registry.old) task.now

@@ -2,7 +2,7 @@
 
 ghost use Rattle.std.specs.Prelude.{◌≡◌, ◌+◌, ◌^◌, ◌<◌, [], IfOk, MatchResult, OnOk, false};
 ghost use Rattle.sqlite.specs.Held.{state};
-ghost use Rattle.reg_service.specs.Registries.{IsUpToDate, limits_of};
+ghost use Rattle.reg_service.specs.Registries.{limits_of};
 ghost use Rattle.reg_cli_pipe.specs.Exits.{EndsWith};
 ghost use Rattle.reg_cli_pipe.specs.Limited.{HasTurns};
 ghost use Rattle.reg_cli.specs.Setups.{IsSetup};
@@ -53,7 +53,6 @@ pub(crate) fn pipe_on<S: Alter>(
     registry: &mut Registry<S>,
     setup: Option<&str>,
 ) -> Exit
-    requires tables { IsUpToDate S.Store registry.old }
     requires turns { HasTurns (limits_of registry.old) }
 {
     let setup = match read_setup(rt, setup) {
@@ -118,7 +117,6 @@ fn serve_door<S: Alter, T: Write>(
     door: &mut Door,
     left: &mut u64,
 ) -> Result<(), Exit>
-    requires tables { IsUpToDate S.Store registry.old }
     requires turns { HasTurns (limits_of registry.old) }
     requires room { door.old.accepted + left.old < 2 ^ 64 }
     ensures counts { door.new.accepted + left.new ≡ door.old.accepted + left.old }

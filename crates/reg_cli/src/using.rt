@@ -2,7 +2,7 @@
 
 ghost use Rattle.std.specs.Prelude.{◌≡◌, IfOk, false};
 ghost use Rattle.sqlite.specs.Held.{state};
-ghost use Rattle.reg_service.specs.Registries.{IsUpToDate, limits_of};
+ghost use Rattle.reg_service.specs.Registries.{limits_of};
 ghost use Rattle.reg_cli_pipe.specs.Limited.{HasTurns};
 ghost use Rattle.reg_cli.specs.Tasks.{IsFitUse};
 
@@ -31,7 +31,6 @@ pub(crate) enum Use<'a> {
 }
 
 fn use_it<S: Alter>(rt: &HostRuntime, registry: &mut Registry<S>, wanted: &Use<'_>) -> Exit
-    requires tables { IsUpToDate S.Store registry.old }
     requires turns { HasTurns (limits_of registry.old) }
     requires fit { IsFitUse wanted.now }
 {
@@ -51,7 +50,6 @@ fn begin<S: Alter + Drop>(
 ) -> Result<Registry<S>, Exit>
     requires begun { (state S.Store conn).in_transaction ≡ false }
     requires turns { HasTurns limits }
-    ensures tables { IfOk result (IsUpToDate S.Store) }
     ensures turns { IfOk result (λ r. HasTurns (limits_of r)) }
 {
     match wanted {

@@ -21,9 +21,8 @@ use Rattle.reg_tables.specs.declared.tables.Tables.{Tables}
 use Rattle.reg_tables.specs.Works.{shown}
 use Rattle.reg_service.specs.Acted.{IsOrdered}
 use Rattle.reg_service.specs.Answered.{Answers, LeavesAlone, Shows}
-use Rattle.reg_service.specs.Registries.{IsUpToDate, limits_of, tables_of}
+use Rattle.reg_service.specs.Registries.{Running, limits_of, tables_of}
 use Rattle.reg_service.specs.Sequences.{Ran}
-use Rattle.reg_service.specs.declared.registry.Registry.{Registry}
 use Rattle.reg_service_commands.specs.declared.told.OrderTold.{OrderTold}
 use Rattle.reg_http.specs.Trails.{Tail, TrailEnd, Trails, tail}
 use Rattle.reg_http.proofs.Exchanged.{EventsGoOn}
@@ -74,15 +73,15 @@ unread_obeyed g limits ordered t k Memory u = (refl, refl)
 
 module _ {S T : Type 0} {g : Ghosts S} {o : Option Command} {told_of : T → Option Text} where
   -- where the words alone failed, nothing was done
-  pub unread : {r : Registry S} {k : TrailEnd T} (f : SetupFault) → IsUpToDate g r → IsUnread o f → ObeysOrder g o told_of r r k k (Err f)
-  unread {r} {k} f tables not = record {
+  pub unread : {r : Running S} {k : TrailEnd T} (f : SetupFault) → IsUnread o f → ObeysOrder g o told_of r r k k (Err f)
+  unread {r} {k} f not = record {
     obeyed = unread_obeyed g (limits_of r) o (tables_of r) (tail (told_of k.end.inner) k) f not;
     told = trailed_nothing (tail (told_of k.end.inner) k);
-    keeps = still tables;
+    keeps = still;
   }
 
   -- this was the order
-  pub ordered_as : {p : Option Command} {old new : Registry S} {k0 k1 : TrailEnd T} {result : Result (Unit {0}) SetupFault} → o ≡ p → ObeysOrder g p told_of old new k0 k1 result → ObeysOrder g o told_of old new k0 k1 result
+  pub ordered_as : {p : Option Command} {old new : Running S} {k0 k1 : TrailEnd T} {result : Result (Unit {0}) SetupFault} → o ≡ p → ObeysOrder g p told_of old new k0 k1 result → ObeysOrder g o told_of old new k0 k1 result
   ordered_as {old = old} {new = new} {k0 = k0} {k1 = k1} {result = result} same it = subst (λ o. ObeysOrder g o told_of old new k0 k1 result) (sym same) it
 
 module _ {S : Type 0} (g : Ghosts S) (limits : Limits) (s : model.Registry) (entry : Tables S) (lines : List Text) where

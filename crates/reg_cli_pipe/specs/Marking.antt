@@ -6,12 +6,11 @@ use Rattle.reg_model.specs.Registry.{Registry as Modelled}
 use Rattle.reg_model.specs.Trail.{opened}
 use Rattle.reg_http.specs.Trails.{Tail, Trails}
 use Rattle.reg_service.specs.Answered.{Shows}
-use Rattle.reg_service.specs.Registries.{tables_of}
-use Rattle.reg_service.specs.declared.registry.Registry.{Registry}
+use Rattle.reg_service.specs.Registries.{Running, tables_of}
 use Rattle.reg_tables.specs.Works.{shown}
 
 -- whatever registry is held, its mark was told, as far as the trail is written
-abbrev pub IsMarked : {S T E : Type 0} → Ghosts S → Result T E → Registry S → Registry S → Tail
+abbrev pub IsMarked : {S T E : Type 0} → Ghosts S → Result T E → Running S → Running S → Tail
     → Tail → Type 0
 IsMarked g r old new before after =
     HasCleanDisk (shown g (tables_of new)) → (s : Modelled) → Shows s (shown g (tables_of old))

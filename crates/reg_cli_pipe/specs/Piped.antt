@@ -12,8 +12,7 @@ use Rattle.reg_http_read.specs.declared.fault.StreamFault.{StreamFault}
 use Rattle.reg_tables.specs.declared.tables.Tables.{Tables}
 use Rattle.reg_tables.specs.Works.{shown}
 use Rattle.reg_service.specs.Answered.{Shows}
-use Rattle.reg_service.specs.Registries.{limits_of, tables_of}
-use Rattle.reg_service.specs.declared.registry.Registry.{Registry}
+use Rattle.reg_service.specs.Registries.{Running, limits_of, tables_of}
 use Rattle.reg_http.specs.Answering.{GoesOn}
 use Rattle.reg_http.specs.Streams.{Serves, trail_in}
 use Rattle.reg_http.specs.Trails.{IsTrailed, Tail, TrailEnd, Trails, tail}
@@ -67,7 +66,7 @@ SpendsIfServed turns r0 r1 w0 w1 exit =
     × Spends turns left (tally r0 w0) (tally r1 w1) result)
 
 module _ {S R W : Type 0} (g : Ghosts S) (lines : List Text) (read : R → Option Text)
-    (held : W → Option Text) (old new : Registry S) (r0 r1 : CountedEnd R)
+    (held : W → Option Text) (old new : Running S) (r0 r1 : CountedEnd R)
     (w0 w1 : CountedEnd W) where
   -- the lines were done and then the stream was served, whatever registry was held
   pub record Pipes (exit : Exit) : Type 0 where

@@ -16,9 +16,8 @@ use Rattle.reg_model.specs.Trail.{told as line_told, trail}
 use Rattle.reg_tables.specs.declared.tables.Tables.{Tables}
 use Rattle.reg_tables.specs.Works.{shown}
 use Rattle.reg_service.specs.Answered.{Answers, LeavesAlone, Shows}
-use Rattle.reg_service.specs.Registries.{limits_of, tables_of}
+use Rattle.reg_service.specs.Registries.{Running, limits_of, tables_of}
 use Rattle.reg_service.specs.Sequences.{Ran}
-use Rattle.reg_service.specs.declared.registry.Registry.{Registry}
 use Rattle.reg_http.specs.Answering.{GoesOn}
 use Rattle.reg_http.specs.Trails.{IsTrailed, Tail, TrailEnd, Trails, tail}
 use Rattle.reg_cli_pipe.specs.LineOrders.{line_order}
@@ -64,7 +63,7 @@ IsObeyed g limits ordered old new k0 k1 (Err Memory) = (new ≡ old) × (k1 ≡ 
 -- What was ordered was obeyed, and is told. Whatever is wrong with the store, the trail got a text,
 -- and the registry goes on.
 pub record ObeysOrder {S T : Type 0} (g : Ghosts S) (ordered : Option Command)
-    (told_of : T → Option Text) (old new : Registry S) (k0 k1 : TrailEnd T)
+    (told_of : T → Option Text) (old new : Running S) (k0 k1 : TrailEnd T)
     (result : Result (Unit {0}) SetupFault) : Type 0 where
   pub obeyed : IsObeyed g (limits_of old) ordered (tables_of old) (tables_of new)
       (tail (told_of k0.end.inner) k0) (tail (told_of k1.end.inner) k1) result
@@ -126,7 +125,7 @@ module _ {S : Type 0} (g : Ghosts S) (limits : Limits) (s : model.Registry) (ent
 
 -- The lines were done, as far as the result says, whatever registry was held, and their trail is
 -- told. Whatever is wrong with the store, the trail got a text in no more calls than it had left.
-pub record SetsUpTraced {S T : Type 0} (g : Ghosts S) (lines : List Text) (old new : Registry S)
+pub record SetsUpTraced {S T : Type 0} (g : Ghosts S) (lines : List Text) (old new : Running S)
     (told_of : T → Option Text) (k0 k1 : TrailEnd T) (result : Result (Unit {0}) SetupFault)
     : Type 0 where
   pub done : HasCleanDisk (shown g (tables_of new)) → (s : model.Registry)

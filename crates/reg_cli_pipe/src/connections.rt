@@ -3,7 +3,7 @@
 ghost use Rattle.std.specs.Prelude.{◌≡◌, ◌⊎◌, ◌+◌, ◌^◌, ◌<◌, true, codes, IfErr, IfOk, IsTrue, MatchResult, OnOk};
 ghost use Rattle.sqlite.specs.State.{HasCleanDisk};
 ghost use Rattle.reg_http.specs.Trails.{tail};
-ghost use Rattle.reg_service.specs.Registries.{IsUpToDate, has_stopped, limits_of, tables_of};
+ghost use Rattle.reg_service.specs.Registries.{has_stopped, limits_of, tables_of};
 ghost use Rattle.reg_tables.specs.Works.{shown};
 ghost use Rattle.reg_cli_pipe.specs.Exits.{EndsWith};
 ghost use Rattle.reg_cli_pipe.specs.Limited.{HasTurns};
@@ -27,9 +27,7 @@ fn serve_connection<S: Alter, T: Write>(
     trail: &mut Trail<T>,
     stream: &TcpStream,
 )
-    requires tables { IsUpToDate S.Store registry.old }
     requires turns { HasTurns (limits_of registry.old) }
-    ensures tables { IsUpToDate S.Store registry.new }
     ensures limits { limits_of registry.new ≡ limits_of registry.old }
 {
     let mut reader = Counted::new(stream);
@@ -44,11 +42,9 @@ pub fn mark_opening<S: Alter, T: Write>(
     registry: &mut Registry<S>,
     trail: &mut Trail<T>,
 ) -> Result<(), Exit>
-    requires { IsUpToDate S.Store registry.old }
     ensures marked { IsMarked S.Store result registry.old registry.new
         (tail (T.contents trail.old.end.inner) trail.old)
         (tail (T.contents trail.new.end.inner) trail.new) }
-    ensures tables { IsUpToDate S.Store registry.new }
     ensures limits { limits_of registry.new ≡ limits_of registry.old }
 {
     let Ok(mark) = registry.mark(alloc) else {
@@ -67,7 +63,6 @@ fn serve_next<S: Alter, T: Write>(
     trail: &mut Trail<T>,
     door: &mut Door,
 ) -> Result<bool, Exit>
-    requires tables { IsUpToDate S.Store registry.old }
     requires turns { HasTurns (limits_of registry.old) }
     requires room { door.old.accepted + 1 < 2 ^ 64 }
     ensures counts { MatchResult result (λ _. door.new.accepted ≡ door.old.accepted + 1)
@@ -76,7 +71,6 @@ fn serve_next<S: Alter, T: Write>(
     ensures known { HasCleanDisk (shown S.Store (tables_of registry.new)) → OnOk result
         (IsTrue (shown S.Store (tables_of registry.new)).is_open
         ⊎ (has_stopped registry.new ≡ true)) }
-    ensures tables { IsUpToDate S.Store registry.new }
     ensures limits { limits_of registry.new ≡ limits_of registry.old }
 {
     let stream = door.accept(rt)?;
@@ -96,7 +90,6 @@ pub fn serve_connections<S: Alter, T: Write>(
     door: &mut Door,
     left: &mut u64,
 ) -> Result<(), Exit>
-    requires tables { IsUpToDate S.Store registry.old }
     requires turns { HasTurns (limits_of registry.old) }
     requires room { door.old.accepted + left.old < 2 ^ 64 }
     ensures counts { door.new.accepted + left.new ≡ door.old.accepted + left.old }

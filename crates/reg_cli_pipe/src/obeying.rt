@@ -7,7 +7,7 @@ ghost use Rattle.reg_cli_words.specs.Orders.{token_command, words_of};
 ghost use Rattle.reg_model.specs.Events.Event.{Order as ToOrder};
 ghost use Rattle.reg_model.specs.Steps.{IsFit};
 ghost use Rattle.reg_policy.specs.Events.{command_of};
-ghost use Rattle.reg_service.specs.Registries.{IsUpToDate, limits_of, tables_of};
+ghost use Rattle.reg_service.specs.Registries.{limits_of, tables_of};
 ghost use Rattle.reg_cli_pipe.specs.Printing.{IsObeyed};
 
 use crate::exit::exit_of_refusal;
@@ -30,7 +30,6 @@ pub fn obey<S: Alter, W: Write>(
     command: &AdminCommand<'_>,
     text: Option<&TokenText>,
 ) -> Exit
-    requires tables { IsUpToDate S.Store registry.old }
     requires fit { IsFit (ToOrder (command_of command.now)) }
     requires room { w.old.calls + CALLS < 2 ^ 64 }
     ensures { IsObeyed S.Store (limits_of registry.old) (command_of command.now)
@@ -51,7 +50,6 @@ pub fn add_token<S: Alter, W: Write>(
     token: &NewToken<'_>,
     made: &TokenMade,
 ) -> Exit
-    requires tables { IsUpToDate S.Store registry.old }
     requires room { w.old.calls + CALLS < 2 ^ 64 }
     ensures { IsObeyed S.Store (limits_of registry.old)
         (token_command (words_of token.now) made.now.digest) made.now.text

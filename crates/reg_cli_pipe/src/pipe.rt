@@ -23,7 +23,7 @@ pub fn run_pipe<R: Read, W: Write, S: Alter>(
     r: &mut Counted<R>,
     w: &mut Counted<W>,
 ) -> Exit
-    requires { MayServe S.Store registry.old r.old w.old }
+    requires { MayServe registry.old r.old w.old }
     ensures { Pipes S.Store (lines_in setup.now) R.remaining W.contents registry.old registry.new
         r.old r.new w.old w.new result }
 {
@@ -40,7 +40,7 @@ pub fn pipe_traced<R: Read, W: Write, T: Write, S: Alter>(
     w: &mut Counted<W>,
     trail: &mut Trail<T>,
 ) -> Exit
-    requires { MayServe S.Store registry.old r.old w.old }
+    requires { MayServe registry.old r.old w.old }
     ensures { PipesTraced S.Store (lines_in setup.now) R.remaining W.contents registry.old
         registry.new r.old r.new w.old w.new T.contents trail.old trail.new result }
 {

@@ -5,7 +5,6 @@ ghost use Rattle.std.specs.List.{list_any};
 ghost use Rattle.reg_model.specs.Events.Event.{Order as ToOrder};
 ghost use Rattle.reg_model.specs.Steps.{IsFit};
 ghost use Rattle.reg_policy.specs.Events.{command_of};
-ghost use Rattle.reg_service.specs.Registries.{IsUpToDate};
 ghost use Rattle.reg_cli_words.specs.Dashes.{is_dashed};
 ghost use Rattle.reg_cli_pipe.specs.LineOrders.{IsUnread, line_order, order_in, words_in};
 ghost use Rattle.reg_cli_pipe.specs.Lines.{lines_in};
@@ -112,7 +111,6 @@ fn obey<T: Write, S: Alter>(
     command: &AdminCommand<'_>,
     trail: &mut Trail<T>,
 ) -> Result<(), SetupFault>
-    requires tables { IsUpToDate S.Store registry.old }
     requires fit { IsFit (ToOrder (command_of command.now)) }
     ensures { ObeysOrder S.Store (Some (command_of command.now)) T.contents
         registry.old registry.new trail.old trail.new result }
@@ -129,7 +127,6 @@ fn obey_order<T: Write, S: Alter>(
     trail: &mut Trail<T>,
     matches: &ArgMatches<'_>,
 ) -> Result<(), SetupFault>
-    requires { IsUpToDate S.Store registry.old }
     ensures { ObeysOrder S.Store (order_in matches.now) T.contents registry.old registry.new
         trail.old trail.new result }
 {
@@ -153,7 +150,6 @@ fn obey_line<T: Write, S: Alter>(
     trail: &mut Trail<T>,
     line: &str,
 ) -> Result<(), SetupFault>
-    requires { IsUpToDate S.Store registry.old }
     ensures { ObeysOrder S.Store (line_order line.now) T.contents registry.old registry.new
         trail.old trail.new result }
 {
@@ -170,7 +166,6 @@ pub fn setup_traced<T: Write, S: Alter>(
     setup: &str,
     trail: &mut Trail<T>,
 ) -> Result<(), SetupFault>
-    requires tables { IsUpToDate S.Store registry.old }
     ensures { SetsUpTraced S.Store (lines_in setup.now) registry.old registry.new
         T.contents trail.old trail.new result }
 {

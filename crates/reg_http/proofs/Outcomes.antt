@@ -2,7 +2,7 @@
 use Rattle.reg_http.proofs.Words.{◌≡◌, ◌<◌, ◌⊎◌, ℕ, Bool, true, false, nat_lt, [], inl, inr, refl, sym, ap, subst, arith, Option, Result}
 use Rattle.reg_http.proofs.Words.{Ok, Err, string_bytes, option_map, Ghosts, CountedEnd, Limits, Facts, Answer, Event, Rule, Text, IsFit}
 use Rattle.reg_http.proofs.Words.{Sends, StreamFault, Memory, ReadFault, StoreFault, TooManyTurns, WriteFault, request_from, event_of, Sink}
-use Rattle.reg_http.proofs.Words.{HasLine, Answers, Registry, Finds, Tables, AnswersRequest, Replies, IsOfFile, Outcome, Answered, NoMethod}
+use Rattle.reg_http.proofs.Words.{HasLine, Answers, Running, Finds, Tables, AnswersRequest, Replies, IsOfFile, Outcome, Answered, NoMethod}
 use Rattle.reg_http.proofs.Words.{NoRoom, NoRoute, Unread, Tail, TrailEnd, Trails}
 use Rattle.std.proofs.Common.{cond, None, Some}
 use Rattle.std.specs.Prelude.{String, unwrap_or}
@@ -161,7 +161,7 @@ module _ {S : Type 0} (g : Ghosts S) (limits : Limits) (s : model.Registry) (f :
       )
 
 -- the request is routed, and replied as what is wanted of it
-pub routed : {S T W : Type 0} {g : Ghosts S} {told_of : T → Option Text} {held : W → Option Text} {old new : Registry S} {k0 k1 : TrailEnd T} {w0 w1 : CountedEnd W} {had left : ℕ} {r : Result (Unit {0}) StreamFault}
+pub routed : {S T W : Type 0} {g : Ghosts S} {told_of : T → Option Text} {held : W → Option Text} {old new : Running S} {k0 k1 : TrailEnd T} {w0 w1 : CountedEnd W} {had left : ℕ} {r : Result (Unit {0}) StreamFault}
     (limits : Limits) (f : Facts) (there : Routing) (close : Bool) (request : ApiRequest) (routing : Result ApiRequest RouteFault) → routing ≡ Ok request → IsRouted f.token there routing
     → AnswersRequest g (IsRequestReplied g limits request close) told_of held old new k0 k1 w0 w1 had left r → AnswersRequest g (IsReplied g limits f there close) told_of held old new k0 k1 w0 w1 had left r
 routed limits f there close request routing is leads it =

@@ -25,10 +25,9 @@ pub use Rattle.reg_model.specs.Steps.{IsFit}
 pub use Rattle.reg_model.specs.declared.rule.Rule.{Rule}
 pub use Rattle.reg_service.specs.Acted.{HasLine}
 pub use Rattle.reg_service.specs.Answered.{Answers, Shows}
-pub use Rattle.reg_service.specs.Registries.{limits_of, tables_of}
+pub use Rattle.reg_service.specs.Registries.{Running, limits_of, tables_of}
 pub use Rattle.reg_service.specs.Sequences.{Ran}
 pub use Rattle.reg_service.specs.Streamed.{Finds}
-pub use Rattle.reg_service.specs.declared.registry.Registry.{Registry}
 pub use Rattle.reg_tables.specs.Works.{shown}
 pub use Rattle.reg_tables.specs.declared.tables.Tables.{Tables}
 pub use Rattle.sqlite_trees.specs.declared.store.Store.{Ghosts}

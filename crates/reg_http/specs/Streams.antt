@@ -12,9 +12,8 @@ use Rattle.reg_model.specs.Registry.{Text}
 use Rattle.reg_model.specs.Trail.{trail}
 use Rattle.reg_api_replies.specs.Texts.{refusal_text}
 use Rattle.reg_service.specs.Answered.{Shows}
-use Rattle.reg_service.specs.Registries.{limits_of, tables_of}
+use Rattle.reg_service.specs.Registries.{Running, limits_of, tables_of}
 use Rattle.reg_service.specs.Sequences.{Ran}
-use Rattle.reg_service.specs.declared.registry.Registry.{Registry}
 use Rattle.reg_tables.specs.declared.tables.Tables.{Tables}
 use Rattle.reg_tables.specs.Works.{shown}
 use Rattle.reg_http_read.specs.Begun.{IsBegun, IsRefused, interim_of}
@@ -179,7 +178,7 @@ ServesTraced g limits s entry now k0 k1 r0 r1 w0 w1 result = (xs : List Exchange
     × Trails k0 k1 (trail_in limits s xs)
 
 -- whatever registry was held, what was written is what a run of it replies to what was read
-abbrev pub IsServing : {S : Type 0} → Ghosts S → Registry S → Registry S
+abbrev pub IsServing : {S : Type 0} → Ghosts S → Running S → Running S
     → Option Text → Option Text → Option Text → Option Text → Result ℕ StreamFault → Type 0
 IsServing g old new r0 r1 w0 w1 result =
     HasCleanDisk (shown g (tables_of new)) → (s : model.Registry)
@@ -187,7 +186,7 @@ IsServing g old new r0 r1 w0 w1 result =
     → Serves g (limits_of old) s (tables_of old) (tables_of new) r0 r1 w0 w1 result
 
 -- the same, and its trail is told
-abbrev pub IsServingTraced : {S : Type 0} → Ghosts S → Registry S → Registry S → Tail → Tail
+abbrev pub IsServingTraced : {S : Type 0} → Ghosts S → Running S → Running S → Tail → Tail
     → Option Text → Option Text → Option Text → Option Text → Result ℕ StreamFault → Type 0
 IsServingTraced g old new k0 k1 r0 r1 w0 w1 result =
     HasCleanDisk (shown g (tables_of new)) → (s : model.Registry)

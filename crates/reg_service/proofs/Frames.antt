@@ -4,7 +4,9 @@ use Rattle.reg_service.proofs.Words.{Ghosts, Held, state, State, HasCleanDisk, S
 use Rattle.reg_service.proofs.Words.{no_room, outcome, StepsKeepSound, IsUndone, LeavesCommit, Refuses, Stands, Begins, IsCommitted}
 use Rattle.reg_service.proofs.Words.{IsDropped, IsRefused, SeesAll, Looks, AreOurs, IsLeft, has_failed, is_shut, held, rows_seen, seen}
 use Rattle.reg_service.proofs.Words.{shown, Tables, Work, Answers, Are, LeavesAlone, Shows, Stays}
+use Rattle.sqlite_disk.specs.Disk.{MoreFaults}
 use Rattle.sqlite.specs.State.{IsUnchanged}
+use Rattle.reg_service.specs.Answered.{LeavesRefused}
 
 held_unchanged : (s : Registry) (old new : State) → Shows s old → IsUnchanged old new → Shows s new
 held_unchanged s old new held same up = subst (λ (d : Database). Are s d.trees) (sym same.0.now_is) (held same.0.was_open)
@@ -33,7 +35,7 @@ module _ {S : Type 0} (g : Ghosts S) (limits : Limits) (s : Registry) (e : Event
     shows = still left (left.refused clean);
     kept = inl room;
     left = λ db l. elim (left.survives.crash clean db l) [ inl was ↦ inl was | inr none ↦ absurd none ];
-    shut = λ was. (room, left.shut ∙ was);
+    shut = λ was. (room, left.shut ∙ was, λ db l. elim (left.survives.crash clean db l) [ inl was ↦ was | inr none ↦ absurd none ]);
   }
 
   -- the tables were only looked at, after all stayed as it was
@@ -83,9 +85,25 @@ module _ {S : Type 0} (g : Ghosts S) (limits : Limits) (s : Registry) (e : Event
           step = step;
           shows = λ up. subst (λ (d : Database). Are t d.trees) (sym shows.now_is) known;
           kept = inr leaves;
-          left = λ db l. inr (inl (has sees).0, leaves db l);
+          left = λ db l. inr (inl ((has sees).0, leaves db l));
           shut = λ was. absurd (false≢true (sym b.was_open ∙ was));
         }
+
+    -- a commit that was refused leaves the registry as it was, or the disk failed
+    refused_leaves : (t : Registry) → IsRefused g done new → has_failed done ≡ false → (db : Trees) → (shown g new).may_leave db → Stands t db → LeavesRefused g s t old new db
+    refused_leaves t end whole db l stands = record { went_on = b.was_open; stops = end.shut whole; leaves = leaves }
+      where
+        up : IsTrue (seen g done).is_open
+        up = (looks.at_work.ready whole mid).is_open
+
+        last : (seen g done).committed ≡ (shown g old).now
+        last = (looks.kept mid).committed up ∙ (b.view early).committed_is ∙ sym (ours first (b.view early).was_open).settled
+
+        leaves : Stands s db ⊎ (MoreFaults (shown g old).faults (shown g new).faults × Stands t db)
+        leaves = elim (end.alone clean up) [
+          | inl only ↦ inl (subst (λ (trees : Trees). Stands s trees) (sym (only db l ∙ ap (λ (d : Database). d.trees) last)) (was_held.0, was_held.1.stands))
+          | inr faults ↦ inr (omega (arith, faults, looks.survives.counts, b.survives.counts), stands)
+        ]
 
     pub not_committed : (Are s (rows_seen g begun) → Stands (outcome limits s e).1 (rows_seen g done)) → a ≡ no_room e → IsRefused g done new
         → Survives (seen g done) (shown g new) (λ db. (has_failed done ≡ false) × (db ≡ (seen g done).now.trees)) → Answers g limits s e a old new
@@ -96,7 +114,10 @@ module _ {S : Type 0} (g : Ghosts S) (limits : Limits) (s : Registry) (e : Event
           step = inr (room, refl);
           shows = shows_undone (end.undone clean);
           kept = inl room;
-          left = λ db l. elim (survives.crash clean db l) [ inl at ↦ inl (before db at) | inr (whole, same) ↦ inr (inr (end.shut whole), subst (λ (trees : Trees). Stands t trees) (sym same) (has sees)) ];
+          left = λ db l. elim (survives.crash clean db l) [
+            | inl at ↦ inl (before db at)
+            | inr (whole, same) ↦ inr (inr (refused_leaves t end whole db l (subst (λ (trees : Trees). Stands t trees) (sym same) (has sees))))
+          ];
           shut = λ was. absurd (false≢true (sym b.was_open ∙ was));
         }
 
@@ -115,4 +136,4 @@ module _ {S : Type 0} (g : Ghosts S) (limits : Limits) (s : Registry) (e : Event
 
 -- nothing was called
 pub untouched : {S : Type 0} (g : Ghosts S) (limits : Limits) (s : Registry) (e : Event) (a : Answer) (t : Tables S) → Shows s (shown g t) → a ≡ no_room e → Answers g limits s e a t t
-untouched g limits s e a t h room = record { after = s; step = inr (room, refl); shows = h; kept = inl room; left = λ db l. inl l; shut = λ was. (room, was) }
+untouched g limits s e a t h room = record { after = s; step = inr (room, refl); shows = h; kept = inl room; left = λ db l. inl l; shut = λ was. (room, was, λ db l. l) }

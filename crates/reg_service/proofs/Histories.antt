@@ -16,7 +16,7 @@ use Rattle.reg_policy.specs.declared.event.AdminCommand.{AdminCommand}
 use Rattle.reg_policy.specs.declared.event.AdminReply.{AdminReply}
 use Rattle.reg_api_requests.specs.Views.{event_of}
 use Rattle.reg_api_requests.specs.declared.request.ApiRequest.{ApiRequest}
-use Rattle.reg_service.specs.Answered.{IsAnswered}
+use Rattle.reg_service.specs.Answered.{IsAnswered, LeavesNoMore}
 use Rattle.reg_service.specs.Handled.{IsReplied}
 use Rattle.reg_service.specs.Sequences.{AreNoRoom, AreTold, IsFitCall, IsTold, IsUnread, MayBeLeft, Ran, TellsOf, event_at}
 use Rattle.reg_service.specs.declared.sequences.Call.TheVariants.{Request, Command as Commanded}
@@ -68,7 +68,7 @@ module _ {S : Type 0} (g : Ghosts S) (limits : Limits) (c : Call) (old new : Tab
   told_command command it same is = subst (λ x. IsTold g limits x (Obeyed it) old new) (sym same) (λ clean s h. (reply_of it, refl, is clean s h))
 
 module _ {S : Type 0} (g : Ghosts S) (limits : Limits) (s : Registry) (entry : Tables S) (sounds : RunsKeepSound) (grows : StemsGrow) where
-  ran : (es : List Event) (xs : List Answer) (t : Registry) (new : Tables S) → Run limits s es xs t → Shows t (shown g new) → ((db : Trees) → (shown g new).may_leave db → ((shown g entry).may_leave db × AreNoRoom es xs) ⊎ ((m : Registry) × Stands m db × MayBeLeft limits s es xs (is_shut new) m)) → (is_shut entry ≡ true → AreNoRoom es xs × (is_shut new ≡ true)) → Ran g limits s entry es xs t new
+  ran : (es : List Event) (xs : List Answer) (t : Registry) (new : Tables S) → Run limits s es xs t → Shows t (shown g new) → ((db : Trees) → (shown g new).may_leave db → ((shown g entry).may_leave db × AreNoRoom es xs) ⊎ ((m : Registry) × Stands m db × MayBeLeft limits s es xs (is_shut new) m)) → (is_shut entry ≡ true → AreNoRoom es xs × (is_shut new ≡ true) × LeavesNoMore g entry new) → Ran g limits s entry es xs t new
   ran es xs t new run shows left shut = record {
     run = run;
     sound = λ h. sounds limits s t es xs h run;
@@ -95,7 +95,7 @@ module _ {S : Type 0} (g : Ghosts S) (limits : Limits) (s : Registry) (entry : T
 
   -- no event yet
   pub ran_nothing : Shows s (shown g entry) → Ran g limits s entry [] [] s entry
-  ran_nothing shows = ran [] [] s entry refl shows (λ db l. inl (l, tt)) (λ was. (tt, was))
+  ran_nothing shows = ran [] [] s entry refl shows (λ db l. inl (l, tt)) (λ was. (tt, was, λ db l. l))
 
   -- there was no room for any event
   none_left : (es : List Event) (xs : List Answer) (stopped : Bool) → AreNoRoom es xs → MayBeLeft limits s es xs stopped s
@@ -124,7 +124,7 @@ module _ {S : Type 0} (g : Ghosts S) (limits : Limits) (s : Registry) (entry : T
       answers = ap (λ l. l ++ a ∷ []) was.answers ∙ append_assoc was.told was.untold (a ∷ []);
       run = was.run;
       no_room = no_room_on was.rest was.untold e a was.no_room room;
-      state = elim was.state [ inl same ↦ inl same | inr (stopped, f, more, is, same) ↦ inr ((it.shut stopped).1, f, more ++ e ∷ [], ap (λ l. l ++ e ∷ []) is, same) ];
+      state = elim was.state [ inl same ↦ inl same | inr (stopped, f, more, is, same) ↦ inr ((it.shut stopped).1.0, f, more ++ e ∷ [], ap (λ l. l ++ e ∷ []) is, same) ];
     }
 
     -- or the change of this event, whose commit was refused
@@ -142,6 +142,21 @@ module _ {S : Type 0} (g : Ghosts S) (limits : Limits) (s : Registry) (entry : T
       state = inr (stopped, e, [], refl, refl);
     }
 
+    -- or nothing of it
+    left_nothing : a ≡ no_room e → MayBeLeft limits s (es ++ e ∷ []) (xs ++ a ∷ []) (is_shut new) t
+    left_nothing room = record {
+      first = es;
+      rest = e ∷ [];
+      told = xs;
+      untold = a ∷ [];
+      at = t;
+      events = refl;
+      answers = refl;
+      run = so_far.run;
+      no_room = (room, tt);
+      state = inl refl;
+    }
+
     -- or it was answered as it was done
     left_done : a ≡ (outcome limits t e).0 → MayBeLeft limits s (es ++ e ∷ []) (xs ++ a ∷ []) (is_shut new) (outcome limits t e).1
     left_done done =
@@ -154,7 +169,11 @@ module _ {S : Type 0} (g : Ghosts S) (limits : Limits) (s : Registry) (entry : T
           | inl (first, none) ↦ inl (first, no_room_on es xs e a none room)
           | inr (m, stands, may) ↦ inr (m, stands, left_before m room may)
         ]
-        | inr (why, stands) ↦ inr ((outcome limits t e).1, stands, elim why [ inl done ↦ left_done done | inr stopped ↦ left_change room stopped ])
+        | inr (inl (done, stands)) ↦ inr ((outcome limits t e).1, stands, left_done done)
+        | inr (inr it) ↦ elim it.leaves [
+          | inl stands ↦ inr (t, stands, left_nothing room)
+          | inr (faults, stands) ↦ inr ((outcome limits t e).1, stands, left_change room it.stops)
+        ]
       ]
       | inr alone ↦ inr (it.after, alone db l, all_left (es ++ e ∷ []) (xs ++ a ∷ []) (is_shut new) it.after run_on)
     ]
@@ -162,7 +181,7 @@ module _ {S : Type 0} (g : Ghosts S) (limits : Limits) (s : Registry) (entry : T
     pub ran_on : Ran g limits s entry (es ++ e ∷ []) (xs ++ a ∷ []) it.after new
     ran_on =
         ran (es ++ e ∷ []) (xs ++ a ∷ []) it.after new run_on it.shows left_on
-        (λ was. let (none, still) = so_far.shut was in let (room, stays) = it.shut still in (no_room_on es xs e a none room, stays))
+        (λ was. let (none, still, no_more) = so_far.shut was in let (room, stays, least) = it.shut still in (no_room_on es xs e a none room, stays, λ db l. no_more db (least db l)))
 
   -- no call yet
   pub answered_nothing : Shows s (shown g entry) → HasAnswered g limits s entry [] [] entry

@@ -17,7 +17,7 @@ use Rattle.reg_tables.proofs.Stopping.{leaves_last}
 use Rattle.reg_tables.specs.Ends.{LeavesLast}
 use Rattle.reg_tables.specs.Works as works
 use Rattle.reg_tables.specs.Works.{IsSame}
-use Rattle.reg_service.specs.declared.registry.Registry.{Registry}
+use Rattle.reg_service.specs.Registries.{Running}
 use Rattle.reg_service.specs.Answered.{AreAs}
 use Rattle.reg_service.specs.Registries.{AreDamaged, AreOne, IsBrought, LeavesOpened, MayBecome}
 
@@ -55,7 +55,7 @@ brought_before e old mid new clean early rests_old rests_mid kept survives b = r
   ];
 }
 
-pub examined_brought : {S E : Type 0} (g : Ghosts S) (old mid : Tables S) (r : Result (Registry S) E) → AreOurs g old → AreOurs g mid → edition_in mid ≡ edition_in old
+pub examined_brought : {S E : Type 0} (g : Ghosts S) (old mid : Tables S) (r : Result (Running S) E) → AreOurs g old → AreOurs g mid → edition_in mid ≡ edition_in old
     → (HasCleanDisk (shown g mid) → KeepsCommit (shown g old) (shown g mid)) → Survives (shown g old) (shown g mid) (λ _. ⊥)
     → IfOk r (λ x. HasCleanDisk (shown g (tables_of x)) → HasCleanDisk (shown g mid)) → IfOk r (λ x. HasCleanDisk (shown g (tables_of x)) → IsBrought (edition_in mid) (shown g mid) (shown g (tables_of x)))
     → IfOk r (λ x. HasCleanDisk (shown g (tables_of x)) → IsBrought (edition_in old) (shown g old) (shown g (tables_of x)))
@@ -178,7 +178,7 @@ module _ {S : Type 0} (g : Ghosts S) (conn : Held S) (t : Tables S) (k : IsTaken
   }
 
   -- what is held are the rows that a transaction on what was found begins with
-  module _ (law : EditionLaw) (x : Registry S) (early : HasCleanDisk (shown g (tables_of x)) → HasCleanDisk (shown g t)) (brought : HasCleanDisk (shown g (tables_of x)) → IsBrought (edition_in t) (shown g t) (shown g (tables_of x))) where
+  module _ (law : EditionLaw) (x : Running S) (early : HasCleanDisk (shown g (tables_of x)) → HasCleanDisk (shown g t)) (brought : HasCleanDisk (shown g (tables_of x)) → IsBrought (edition_in t) (shown g t) (shown g (tables_of x))) where
     abbrev held : State
     held = shown g (tables_of x)
 
@@ -207,25 +207,25 @@ module _ {S : Type 0} (g : Ghosts S) (conn : Held S) (t : Tables S) (k : IsTaken
       | inr last ↦ inr (k.schema ∙ ap schema_of last.0, last.1)
     ]
 
-  module _ {E : Type 0} (r : Result (Registry S) E) where
+  module _ {E : Type 0} (r : Result (Running S) E) where
     abbrev Early : Type 0
     Early = IfOk r (λ x. HasCleanDisk (shown g (tables_of x)) → HasCleanDisk (shown g t))
 
     abbrev Brought : Type 0
     Brought = IfOk r (λ x. HasCleanDisk (shown g (tables_of x)) → IsBrought (edition_in t) (shown g t) (shown g (tables_of x)))
 
-  pub opened_same : {E : Type 0} (r : Result (Registry S) E) → EditionLaw → Early r → Brought r
+  pub opened_same : {E : Type 0} (r : Result (Running S) E) → EditionLaw → Early r → Brought r
       → IfOk r (λ x. HasCleanDisk (shown g (tables_of x)) → (e : Edition) (s : model.Registry) → now.schema ≡ schema_of e → AreAs e s now.trees → Shows s (shown g (tables_of x)))
   opened_same (Err f) law early brought = tt
   opened_same (Ok x) law early brought = held_same law x early brought
 
-  pub opened_sound : {E : Type 0} (r : Result (Registry S) E) → EditionLaw → FoundLaw → Early r → Brought r
+  pub opened_sound : {E : Type 0} (r : Result (Running S) E) → EditionLaw → FoundLaw → Early r → Brought r
       → IfOk r (λ x. HasCleanDisk (shown g (tables_of x)) → AreChecked (edition_in t) (shown g t) None)
       → IfOk r (λ x. HasCleanDisk (shown g (tables_of x)) → AreOne now (shown g (tables_of x)))
   opened_sound (Err f) law audited early brought passed = tt
   opened_sound (Ok x) law audited early brought passed = held_sound law x early brought audited passed
 
-  pub opened_left : {E : Type 0} (r : Result (Registry S) E) → EditionLaw → Early r → Brought r → Survives (state g conn) (shown g t) (λ _. ⊥)
+  pub opened_left : {E : Type 0} (r : Result (Running S) E) → EditionLaw → Early r → Brought r → Survives (state g conn) (shown g t) (λ _. ⊥)
       → IfOk r (λ x. HasCleanDisk (shown g (tables_of x)) → LeavesOpened (state g conn) (shown g (tables_of x)))
   opened_left (Err f) law early brought survives = tt
   opened_left (Ok x) law early brought survives = held_left law x early brought survives

@@ -1,7 +1,8 @@
 -- Tables that hold a registry between two transactions, and what an event leaves of them.
-use Rattle.std.specs.Prelude.{◌≡◌, ◌⊎◌, Bool, true, IsTrue}
+use Rattle.std.specs.Prelude.{◌≡◌, ◌⊎◌, Bool, true, false, IsTrue}
 use Rattle.sqlite.specs.State.{State, HasCleanDisk}
 use Rattle.sqlite.specs.Tree.{Trees}
+use Rattle.sqlite_disk.specs.Disk.{MoreFaults}
 use Rattle.sqlite_trees.specs.declared.store.Store.{Ghosts}
 use Rattle.reg_body.specs.declared.limits.Limits.{Limits}
 use Rattle.reg_model.specs.Events.{Answer, Event}
@@ -48,10 +49,23 @@ pub record Stays {S : Type 0} (g : Ghosts S) (s : Registry) (old new : Tables S)
   pub alone : LeavesAlone s (shown g new)
   pub left : (db : Trees) → (shown g new).may_leave db → (shown g old).may_leave db
 
+-- what a crash may leave now, it could leave before
+abbrev pub LeavesNoMore : {S : Type 0} → Ghosts S → Tables S → Tables S → Type 0
+LeavesNoMore g old new = (db : Trees) → (shown g new).may_leave db → (shown g old).may_leave db
+
+-- The commit of this very call was refused, so that the tables have stopped: a crash leaves the
+-- registry s as it was or, where the disk failed meanwhile, t with the whole change.
+pub record LeavesRefused {S : Type 0} (g : Ghosts S) (s t : Registry) (old new : Tables S)
+    (db : Trees) : Type 0 where
+  pub went_on : is_shut old ≡ false
+  pub stops : is_shut new ≡ true
+  pub leaves : Stands s db
+      ⊎ (MoreFaults (shown g old).faults (shown g new).faults × Stands t db)
+
 -- The event was answered so, by a step from the registry that was held to one that is held now.
--- What was answered is kept through a stop. What had no room leaves a stop what it could leave
--- before, or, where the commit was refused, the whole change. Where a commit was refused before,
--- there is no room, and it stays so.
+-- What was answered is kept through a crash. What had no room leaves a crash what it could leave
+-- before or, where its own commit was refused, the registry as it was or with the whole change.
+-- Where a commit was refused before, there is no room, it stays so, and a crash leaves nothing new.
 pub record Answers {S : Type 0} (g : Ghosts S) (limits : Limits) (s : Registry) (e : Event)
     (a : Answer) (old new : Tables S) : Type 0 where
   pub after : Registry
@@ -59,9 +73,10 @@ pub record Answers {S : Type 0} (g : Ghosts S) (limits : Limits) (s : Registry) 
   pub shows : Shows after (shown g new)
   pub kept : (a ≡ no_room e) ⊎ LeavesAlone after (shown g new)
   pub left : (db : Trees) → (shown g new).may_leave db → (shown g old).may_leave db
-      ⊎ (((a ≡ (outcome limits s e).0) ⊎ (is_shut new ≡ true))
-      × Stands (outcome limits s e).1 db)
-  pub shut : is_shut old ≡ true → (a ≡ no_room e) × (is_shut new ≡ true)
+      ⊎ ((a ≡ (outcome limits s e).0) × Stands (outcome limits s e).1 db)
+      ⊎ LeavesRefused g s (outcome limits s e).1 old new db
+  pub shut : is_shut old ≡ true
+      → (a ≡ no_room e) × (is_shut new ≡ true) × LeavesNoMore g old new
 
 -- whatever registry the tables held, the event is answered so
 abbrev pub IsAnswered : {S : Type 0} → Ghosts S → Limits → Event → Answer → Tables S → Tables S

@@ -1,10 +1,12 @@
 -- A registry over a store, as a caller sees it.
-use Rattle.std.specs.Prelude.{◌≡◌, ◌⊎◌, Bool, Option, Some, false, IsTrue}
+use Rattle.std.specs.Prelude.{◌≡◌, ◌⊎◌, Bool, Option, Some, false, IsTrue, refl}
+use Rattle.std.specs.Coded.{Coded, code_by, coded×}
 use Rattle.sqlite.specs.Effect.{Database}
 use Rattle.sqlite.specs.Tree.{Trees}
 use Rattle.sqlite.specs.State.{HasCleanDisk, State}
 use Rattle.sqlite_trees.specs.declared.store.Store.{Ghosts}
 use Rattle.reg_body.specs.declared.limits.Limits.{Limits}
+use Rattle.reg_body.specs.contracts.limits.Limits as limits
 use Rattle.reg_model.specs.Registry.{Text, empty_at, Registry as Modelled}
 use Rattle.reg_audit.specs.declared.check.Check.{Check}
 use Rattle.reg_audit.specs.Checks.{IsFirst}
@@ -17,23 +19,28 @@ use Rattle.reg_tables_rows.specs.WholeRows.{AreAllRows}
 use Rattle.reg_tables.specs.declared.tables.Tables.{Tables}
 use Rattle.reg_tables_meaning.specs.Upgrades.{AreBegun, AreUpgraded}
 use Rattle.reg_tables.specs.Works.{edition_in, is_shut, shown}
-use Rattle.reg_service.specs.Answered.{AreAs, AreUpToDate, LeavesAlone, Shows}
+use Rattle.reg_service.specs.Answered.{AreAs, LeavesAlone, Shows}
 use Rattle.reg_service.specs.declared.opening.OpenFault.{OpenFault}
 use Rattle.reg_service.specs.declared.opening.OpenFault.TheVariants.{Storage}
-use Rattle.reg_service.specs.declared.registry.Registry.{Registry}
 
-abbrev pub tables_of : {S : Type 0} → Registry S → Tables S
+-- a registry as its callers see it: the tables that hold it, and its limits
+pub record Running (S : Type 0) : Type 0 where
+  pub tables : Tables S
+  pub limits : Limits
+
+abbrev pub running_code : {S : Type 0} → Coded (Tables S) → Coded (Running S)
+running_code {S} tables =
+    code_by (Tables S × Limits) (coded× tables limits.the_row.coded) (λ r. (r.tables, r.limits))
+    (λ p. record { tables = p.0; limits = p.1 }) (λ _. refl)
+
+abbrev pub tables_of : {S : Type 0} → Running S → Tables S
 tables_of r = r.tables
 
-abbrev pub limits_of : {S : Type 0} → Registry S → Limits
+abbrev pub limits_of : {S : Type 0} → Running S → Limits
 limits_of r = r.limits
 
--- our tables, of schema 2
-abbrev pub IsUpToDate : {S : Type 0} → Ghosts S → Registry S → Type 0
-IsUpToDate g r = AreUpToDate g (tables_of r)
-
 -- a commit was refused: it answers nothing more
-abbrev pub has_stopped : {S : Type 0} → Registry S → Bool
+abbrev pub has_stopped : {S : Type 0} → Running S → Bool
 has_stopped r = is_shut (tables_of r)
 
 -- the first check that fails on these rows, once they are of schema 2; or none
@@ -78,12 +85,12 @@ pub record IsBrought (e : Edition) (old new : State) : Type 0 where
       → ((e ≡ Second) × old.may_leave db) ⊎ ((e ≡ First) × (db ≡ new.now.trees))
 
 -- a registry of these tables holds what they are, or become
-abbrev pub Brings : {S : Type 0} → Ghosts S → Tables S → Registry S → Type 0
+abbrev pub Brings : {S : Type 0} → Ghosts S → Tables S → Running S → Type 0
 Brings g tables r = HasCleanDisk (shown g (tables_of r))
     → IsBrought (edition_in tables) (shown g tables) (shown g (tables_of r))
 
 -- a registry that has these limits, and has stopped if its tables had
-pub record HasBegun {S : Type 0} (limits : Limits) (stopped : Bool) (r : Registry S) : Type 0 where
+pub record HasBegun {S : Type 0} (limits : Limits) (stopped : Bool) (r : Running S) : Type 0 where
   pub limited : limits_of r ≡ limits
   pub goes_on : has_stopped r ≡ stopped
 
@@ -97,9 +104,8 @@ pub record AreDamaged (now : Database) (check : Check) : Type 0 where
   pub no_registry : (s : Modelled) → AreAs edition s now.trees → ⊥
 
 -- a registry of this base with nothing in it, which a stop leaves alone
-pub record IsNew {S : Type 0} (g : Ghosts S) (base : Text) (limits : Limits) (r : Registry S)
+pub record IsNew {S : Type 0} (g : Ghosts S) (base : Text) (limits : Limits) (r : Running S)
     : Type 0 where
-  pub tables : IsUpToDate g r
   pub goes_on : has_stopped r ≡ false
   pub shows : HasCleanDisk (shown g (tables_of r)) → Shows (empty_at base) (shown g (tables_of r))
   pub alone : HasCleanDisk (shown g (tables_of r))

@@ -21,7 +21,7 @@ use Rattle.reg_api_requests.specs.Views.{event_of}
 use Rattle.reg_tables_meaning.specs.Stands.{Stands}
 use Rattle.reg_tables.specs.declared.tables.Tables.{Tables}
 use Rattle.reg_tables.specs.Works.{is_shut, shown}
-use Rattle.reg_service.specs.Answered.{Answers, Shows}
+use Rattle.reg_service.specs.Answered.{Answers, LeavesNoMore, Shows}
 use Rattle.reg_service.specs.declared.sequences.Call.{Call}
 use Rattle.reg_service.specs.declared.sequences.Call.TheVariants.{Request, Command as Commanded}
 use Rattle.reg_service.specs.declared.sequences.Told.{Told}
@@ -89,9 +89,9 @@ pub record MayBeLeft (limits : Limits) (s : model.Registry) (es : List Event) (x
       × (m ≡ (outcome limits at e).1))
 
 -- The events are a run of the registry that was held on entry, and its end is held now: that is
--- sound, and no index file of it lost a line. A stop leaves what the run allows; or, where there
+-- sound, and no index file of it lost a line. A crash leaves what the run allows; or, where there
 -- was no room for any event, what it could leave on entry. Where a commit was refused before, there
--- is no room for any event, and it stays so.
+-- is no room for any event, it stays so, and a crash leaves nothing new.
 pub record Ran {S : Type 0} (g : Ghosts S) (limits : Limits) (s : model.Registry)
     (entry : Tables S) (es : List Event) (xs : List Answer) (t : model.Registry) (new : Tables S)
     : Type 0 where
@@ -102,7 +102,8 @@ pub record Ran {S : Type 0} (g : Ghosts S) (limits : Limits) (s : model.Registry
   pub left : (db : Trees) → (shown g new).may_leave db
       → ((shown g entry).may_leave db × AreNoRoom es xs)
       ⊎ ((m : model.Registry) × Stands m db × MayBeLeft limits s es xs (is_shut new) m)
-  pub shut : is_shut entry ≡ true → AreNoRoom es xs × (is_shut new ≡ true)
+  pub shut : is_shut entry ≡ true
+      → AreNoRoom es xs × (is_shut new ≡ true) × LeavesNoMore g entry new
 
 -- the calls are told the answers of a run
 abbrev pub HasAnswered : {S : Type 0} → Ghosts S → Limits → model.Registry → Tables S → List Call

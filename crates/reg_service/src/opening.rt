@@ -7,8 +7,8 @@ ghost use Rattle.reg_line.specs.Base.{is_base as is_base_text};
 ghost use Rattle.reg_tables_schema.specs.Schema.{blank, schema_of};
 ghost use Rattle.reg_tables_schema.specs.States.{IsMade, IsUndone};
 ghost use Rattle.reg_tables_sql.specs.Abouts.{LacksBase};
-ghost use Rattle.reg_service.specs.Answered.{AreAs, AreUpToDate, Shows, WasClean};
-ghost use Rattle.reg_service.specs.Registries.{AreChecked, AreDamaged, AreOne, Brings, HasBegun, IsNew, IsUpToDate, LeavesOpened, MayBeUpgraded, MayBecome, has_stopped, limits_of, tables_of};
+ghost use Rattle.reg_service.specs.Answered.{AreAs, Shows, WasClean};
+ghost use Rattle.reg_service.specs.Registries.{AreChecked, AreDamaged, AreOne, Brings, HasBegun, IsNew, LeavesOpened, MayBeUpgraded, MayBecome, has_stopped, limits_of, tables_of};
 ghost use Rattle.reg_tables.specs.Ends.{LeavesLast};
 ghost use Rattle.reg_tables.specs.Works.{AreOurs, edition_in, is_shut, shown};
 
@@ -42,7 +42,6 @@ pub type Opened<S> = std::result::Result<Registry<S>, (Connection<S>, OpenFault)
 /// A registry of tables that passed the checks, upgraded to schema 2.
 fn bring_up<S: Alter>(mut tables: Tables<S>, limits: Limits) -> Opened<S>
     requires { AreOurs S.Store tables }
-    ensures up_to_date { IfOk result (λ r. AreUpToDate S.Store (tables_of r)) }
     ensures begun { IfOk result (HasBegun limits (is_shut tables)) }
     ensures brought { IfOk result (Brings S.Store tables) }
     ensures clean { IfOk result (λ r. WasClean S.Store tables (tables_of r)) }
@@ -64,7 +63,6 @@ fn bring_up<S: Alter>(mut tables: Tables<S>, limits: Limits) -> Opened<S>
 /// A registry of tables that pass the checks.
 fn examine<S: Alter>(alloc: Global, mut tables: Tables<S>, limits: Limits) -> Opened<S>
     requires { AreOurs S.Store tables }
-    ensures up_to_date { IfOk result (λ r. AreUpToDate S.Store (tables_of r)) }
     ensures begun { IfOk result (HasBegun limits (is_shut tables)) }
     ensures brought { IfOk result (Brings S.Store tables) }
     ensures clean { IfOk result (λ r. WasClean S.Store tables (tables_of r)) }
@@ -93,7 +91,6 @@ impl<S: Alter> Registry<S> {
     /// schema 2. On a fault the connection is handed back.
     pub fn open(alloc: Global, conn: Connection<S>, limits: Limits) -> Opened<S>
         requires { (state S.Store conn).in_transaction ≡ false }
-        ensures up_to_date { IfOk result (IsUpToDate S.Store) }
         ensures goes_on { IfOk result (λ r. has_stopped r ≡ false) }
         ensures limited { IfOk result (λ r. limits_of r ≡ limits) }
         ensures same { IfOk result (λ r. HasCleanDisk (shown S.Store (tables_of r))

@@ -12,7 +12,7 @@ ghost use Rattle.reg_service.specs.Acted.{IsActed, IsOrdered, IsUntold, SaysNoRo
 ghost use Rattle.reg_service.specs.Answered.{Halts, IsAnswered, WasClean};
 ghost use Rattle.reg_service.specs.Handled.{IsReplied};
 ghost use Rattle.reg_service.specs.Looked.{FailsFirst, IsIndex, IsMark, IsTrueOf, Looked, WasTried};
-ghost use Rattle.reg_service.specs.Registries.{IsUpToDate, has_stopped, limits_of, tables_of};
+ghost use Rattle.reg_service.specs.Registries.{has_stopped, limits_of, tables_of};
 ghost use Rattle.reg_body.specs.Sent.{sink};
 ghost use Rattle.reg_service.specs.Streamed.{IsStreamed, LeavesStream};
 ghost use Rattle.reg_tables.specs.Works.{held, shown};
@@ -35,6 +35,7 @@ use reg_tables::{Result, StoreFault, Tables};
 use sqlite::{Alter, Connection};
 use std::alloc::Global;
 use std::io::Write;
+use std::marker::Model;
 
 /// A registry over a store. After a commit has failed, or its store has closed, it refuses
 /// everything until the store is opened again.
@@ -42,6 +43,20 @@ use std::io::Write;
 pub struct Registry<S: Alter> {
     pub(crate) tables: Tables<S>,
     pub(crate) limits: Limits,
+}
+
+impl<S: Alter> Model for Registry<S> {
+    ghost use Rattle.reg_tables.specs.contracts.tables.Tables as tables;
+    ghost use Rattle.reg_service.specs.Answered.{AreUpToDate};
+    ghost use Rattle.reg_service.specs.Registries.{Running, running_code};
+
+    ghost Value = { Running S };
+
+    ghost coded = { running_code (tables.the_row S.row S.Store).coded };
+
+    ghost view = { λ r. record { tables = r.tables; limits = r.limits } };
+
+    ghost invariant = { λ r. AreUpToDate S.Store r.tables };
 }
 
 impl<S: Alter> Registry<S> {
@@ -55,10 +70,8 @@ impl<S: Alter> Registry<S> {
     /// Whether it has stopped: a commit failed, or its store no longer answers. Until the store is
     /// opened again, each request is S1 and each command G10.
     pub fn has_stopped(&mut self) -> bool
-        requires { IsUpToDate S.Store self.old }
         ensures told { result ≡ has_stopped self.new }
         ensures tried { WasTried S.Store (tables_of self.old) (tables_of self.new) }
-        ensures tables { IsUpToDate S.Store self.new }
         ensures limits { limits_of self.new ≡ limits_of self.old }
     {
         !self.tables.are_answering()
@@ -70,12 +83,10 @@ impl<S: Alter> Registry<S> {
         alloc: Global,
         command: &AdminCommand<'_>,
     ) -> Result<AdminReply, AdminRefusal>
-        requires tables { IsUpToDate S.Store self.old }
         requires fit { IsFit (Order (command_of command.now)) }
         ensures answers { IsAnswered S.Store (limits_of self.old)
             (Order (command_of command.now)) (reply_of result)
             (tables_of self.old) (tables_of self.new) }
-        ensures tables { IsUpToDate S.Store self.new }
         ensures clean { WasClean S.Store (tables_of self.old) (tables_of self.new) }
         ensures limits { limits_of self.new ≡ limits_of self.old }
         ensures halts { Halts (has_stopped self.old) (has_stopped self.new)
@@ -87,11 +98,9 @@ impl<S: Alter> Registry<S> {
 
     /// Answers a request, in one transaction.
     pub fn handle(&mut self, alloc: Global, request: &ApiRequest<'_>) -> Reply
-        requires { IsUpToDate S.Store self.old }
         ensures replies { let asks = request_of (limits_of self.old) request.now in
             IsReplied S.Store (limits_of self.old) asks.digest asks.asked result
             (tables_of self.old) (tables_of self.new) }
-        ensures tables { IsUpToDate S.Store self.new }
         ensures clean { WasClean S.Store (tables_of self.old) (tables_of self.new) }
         ensures limits { limits_of self.new ≡ limits_of self.old }
         ensures read { IsFit (event_of (request_of (limits_of self.old) request.now))
@@ -113,11 +122,9 @@ impl<S: Alter> Registry<S> {
 
     /// Does as `command`. If `traced`, it tells the line of what was changed, if anything was.
     pub fn order(&mut self, alloc: Global, command: &AdminCommand<'_>, traced: bool) -> OrderTold
-        requires tables { IsUpToDate S.Store self.old }
         requires fit { IsFit (Order (command_of command.now)) }
         ensures answers { IsOrdered S.Store (limits_of self.old) traced (command_of command.now)
             result (tables_of self.old) (tables_of self.new) }
-        ensures tables { IsUpToDate S.Store self.new }
         ensures clean { WasClean S.Store (tables_of self.old) (tables_of self.new) }
         ensures limits { limits_of self.new ≡ limits_of self.old }
         ensures halts { Halts (has_stopped self.old) (has_stopped self.new)
@@ -129,11 +136,9 @@ impl<S: Alter> Registry<S> {
     /// Answers a request, in one transaction. If `traced`, it tells the line of what was changed,
     /// if anything was. An index file is found, for `stream_index`.
     pub fn act(&mut self, alloc: Global, request: &ApiRequest<'_>, traced: bool) -> Answered
-        requires { IsUpToDate S.Store self.old }
         ensures replies { let asks = request_of (limits_of self.old) request.now in
             IsActed S.Store (limits_of self.old) traced asks.digest asks.asked result
             (tables_of self.old) (tables_of self.new) }
-        ensures tables { IsUpToDate S.Store self.new }
         ensures clean { WasClean S.Store (tables_of self.old) (tables_of self.new) }
         ensures limits { limits_of self.new ≡ limits_of self.old }
         ensures read { IsFit (event_of (request_of (limits_of self.old) request.now))
@@ -163,7 +168,6 @@ impl<S: Alter> Registry<S> {
         writer: &mut Counted<W>,
         writes: u64,
     ) -> Result<u64, IndexFault>
-        requires tables { IsUpToDate S.Store self.old }
         requires room { writer.old.calls + writes < 2 ^ 64 }
         ensures streams { IsStreamed S.Store file.now close result writes
             (tables_of self.old) (tables_of self.new)
@@ -173,7 +177,6 @@ impl<S: Alter> Registry<S> {
             (sink (W.contents writer.old.inner) writer.old)
             (sink (W.contents writer.new.inner) writer.new) }
         ensures looked { Looked S.Store (tables_of self.old) (tables_of self.new) }
-        ensures tables { IsUpToDate S.Store self.new }
         ensures limits { limits_of self.new ≡ limits_of self.old }
     {
         send_file(&mut self.tables, file, close, writer, writes)
@@ -182,11 +185,9 @@ impl<S: Alter> Registry<S> {
     /// The files of the index, each after its path: the config, then each crate's in the order of
     /// the canonical texts. Nothing is changed.
     pub fn export(&mut self, alloc: Global) -> Result<Vec<(String, Vec<u8>)>>
-        requires { IsUpToDate S.Store self.old }
         ensures exported { IsTrueOf S.Store IsIndex result (tables_of self.old)
             (tables_of self.new) }
         ensures looked { Looked S.Store (tables_of self.old) (tables_of self.new) }
-        ensures tables { IsUpToDate S.Store self.new }
         ensures limits { limits_of self.new ≡ limits_of self.old }
         ensures stopped { has_stopped self.old ≡ true → IsErr result }
     {
@@ -196,13 +197,11 @@ impl<S: Alter> Registry<S> {
     /// The first check of the rows that fails; none if all pass, and then the rows are those of a
     /// sound registry. Nothing is changed.
     pub fn audit(&mut self, alloc: Global) -> Result<Option<Check>>
-        requires { IsUpToDate S.Store self.old }
         ensures found { HasCleanDisk (shown S.Store (tables_of self.new)) → IfOk result
             (FailsFirst S.Store (tables_of self.old)) }
         ensures sound { HasCleanDisk (shown S.Store (tables_of self.new)) → IfOk result (λ found.
             (found ≡ None) ↔ AreRegistry (shown S.Store (tables_of self.old)).now.trees) }
         ensures looked { Looked S.Store (tables_of self.old) (tables_of self.new) }
-        ensures tables { IsUpToDate S.Store self.new }
         ensures limits { limits_of self.new ≡ limits_of self.old }
         ensures stopped { has_stopped self.old ≡ true → IsErr result }
     {
@@ -216,11 +215,9 @@ impl<S: Alter> Registry<S> {
     /// The mark of an opening, for a trail that goes on: how many accounts, tokens and publications
     /// it has. Nothing is changed.
     pub fn mark(&mut self, alloc: Global) -> Result<String>
-        requires { IsUpToDate S.Store self.old }
         ensures marked { IsTrueOf S.Store IsMark result (tables_of self.old)
             (tables_of self.new) }
         ensures looked { Looked S.Store (tables_of self.old) (tables_of self.new) }
-        ensures tables { IsUpToDate S.Store self.new }
         ensures limits { limits_of self.new ≡ limits_of self.old }
         ensures stopped { has_stopped self.old ≡ true → IsErr result }
     {

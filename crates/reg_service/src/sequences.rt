@@ -6,7 +6,7 @@ ghost use Rattle.sqlite.specs.State.{HasCleanDisk};
 ghost use Rattle.reg_model.specs.Steps.{IsFit};
 ghost use Rattle.reg_tables.specs.Works.{shown};
 ghost use Rattle.reg_service.specs.Answered.{Shows};
-ghost use Rattle.reg_service.specs.Registries.{IsUpToDate, limits_of, tables_of};
+ghost use Rattle.reg_service.specs.Registries.{limits_of, tables_of};
 ghost use Rattle.reg_service.specs.Sequences.{HasAnswered, HasBegun, IsFitCall, IsTold, IsUnread, event_at};
 
 use crate::registry::Registry;
@@ -34,13 +34,11 @@ pub enum Told {
 
 /// Answers one call.
 fn answer<S: Alter>(alloc: Global, registry: &mut Registry<S>, call: &Call<'_>) -> Told
-    requires tables { IsUpToDate S.Store registry.old }
     requires fit { IsFitCall call.now }
     ensures read { IsFit (event_at (limits_of registry.old) call.now)
         ⊎ (IsUnread call.now result × (tables_of registry.new ≡ tables_of registry.old)) }
     ensures told { IsTold S.Store (limits_of registry.old) call.now result
         (tables_of registry.old) (tables_of registry.new) }
-    ensures tables { IsUpToDate S.Store registry.new }
     ensures clean { HasCleanDisk (shown S.Store (tables_of registry.new)) → HasCleanDisk
         (shown S.Store (tables_of registry.old)) }
     ensures limits { limits_of registry.new ≡ limits_of registry.old }
@@ -58,7 +56,6 @@ pub fn answer_all<S: Alter>(
     registry: &mut Registry<S>,
     calls: &[Call<'_>],
 ) -> Result<Vec<Told>, AllocError>
-    requires tables { IsUpToDate S.Store registry.old }
     requires fit { AllByRecursion IsFitCall calls.now }
     ensures answered { HasCleanDisk (shown S.Store (tables_of registry.new)) → (s : _)
         → Shows s (shown S.Store (tables_of registry.old))
@@ -68,7 +65,6 @@ pub fn answer_all<S: Alter>(
         → Shows s (shown S.Store (tables_of registry.old))
         → HasBegun S.Store (limits_of registry.old) s (tables_of registry.old) calls.now
         (tables_of registry.new) }
-    ensures tables { IsUpToDate S.Store registry.new }
     ensures limits { limits_of registry.new ≡ limits_of registry.old }
 {
     run_law();

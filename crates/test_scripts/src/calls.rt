@@ -4,7 +4,6 @@ ghost use Rattle.std.specs.Prelude.{IfSome};
 ghost use Rattle.reg_model.specs.Events.Event.{Order};
 ghost use Rattle.reg_model.specs.Steps.{IsFit};
 ghost use Rattle.reg_policy.specs.Events.{command_of as order_of};
-ghost use Rattle.reg_service.specs.Registries.{IsUpToDate};
 ghost use Rattle.reg_service.specs.Sequences.{IsFitCall};
 
 use crate::requests::{publish_body, request_of, token_text};
@@ -107,10 +106,7 @@ pub fn answer<S: Alter>(
     alloc: Global,
     registry: &mut Registry<S>,
     parts: &Parts<'_>,
-) -> Option<Told>
-    requires { IsUpToDate S.Store registry.old }
-    ensures { IsUpToDate S.Store registry.new }
-{
+) -> Option<Told> {
     if let Some(command) = parts.command() {
         return Some(Told::Command(registry.command(alloc, &command)));
     }

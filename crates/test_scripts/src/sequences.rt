@@ -2,7 +2,6 @@
 
 ghost use Rattle.std.specs.Prelude.{IfOk};
 ghost use Rattle.std.specs.List.{AllByRecursion};
-ghost use Rattle.reg_service.specs.Registries.{IsUpToDate};
 ghost use Rattle.reg_service.specs.Sequences.{IsFitCall};
 
 use crate::calls::Parts;
@@ -61,9 +60,7 @@ pub fn told_otherwise<S: Alter>(
     alloc: Global,
     registry: &mut Registry<S>,
     lines: &str,
-) -> Result<Option<String>, AllocError>
-    requires { IsUpToDate S.Store registry.old }
-{
+) -> Result<Option<String>, AllocError> {
     let parts = parts_of(alloc, lines)?;
     let told = answer_all(alloc, registry, &calls_of(alloc, &parts)?)?;
     let found = told_lines(alloc, &told)?;

@@ -3,7 +3,6 @@
 ghost use Rattle.std.specs.Prelude.{◌≡◌, ◌+◌, ◌^◌, ◌<◌, false};
 ghost use Rattle.sqlite.specs.Held.{state};
 ghost use Rattle.sqlite.specs.Steps.{over_memory};
-ghost use Rattle.reg_service.specs.Registries.{IsUpToDate};
 
 use http::StatusCode;
 use reg_api_replies::FixedText;
@@ -94,7 +93,6 @@ fn stream_index(
     writer: &mut Counted<Vec<u8>>,
     writes: u64,
 ) -> Result<u64, IndexFault>
-    requires tables { IsUpToDate over_memory registry.old }
     requires room { writer.old.calls + writes < 2 ^ 64 }
 {
     Registry::stream_index(registry, file, close, writer, writes)

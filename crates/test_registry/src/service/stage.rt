@@ -3,7 +3,6 @@
 ghost use Rattle.reg_model.specs.Events.Event.{Order};
 ghost use Rattle.reg_model.specs.Steps.{IsFit};
 ghost use Rattle.reg_policy.specs.Events.{command_of};
-ghost use Rattle.reg_service.specs.Registries.{IsUpToDate};
 
 use crate::service::agreeing::{finds_alike, obeys_alike, replies_alike};
 use reg_api_replies::{Reply, write_reply};
@@ -50,10 +49,7 @@ fn is_streamed_alike<S: Alter>(
     registry: &mut Registry<S>,
     request: &ApiRequest<'_>,
     reply: &Reply,
-) -> bool
-    requires { IsUpToDate S.Store registry.old }
-    ensures { IsUpToDate S.Store registry.new }
-{
+) -> bool {
     let ApiCall::Index(_) = &request.call else {
         return true;
     };
@@ -70,10 +66,7 @@ fn asked<S: Alter>(
     registry: &mut Registry<S>,
     plain: &mut PlainRegistry,
     request: &ApiRequest<'_>,
-) -> Result<String, AllocError>
-    requires { IsUpToDate S.Store registry.old }
-    ensures { IsUpToDate S.Store registry.new }
-{
+) -> Result<String, AllocError> {
     let reply = registry.handle(alloc, request);
     if !is_streamed_alike(alloc, registry, request, &reply) {
         return String::from_str(alloc, "the file is sent otherwise");
@@ -91,9 +84,7 @@ fn ordered<S: Alter>(
     plain: &mut PlainRegistry,
     command: AdminCommand<'_>,
 ) -> Result<String, AllocError>
-    requires tables { IsUpToDate S.Store registry.old }
     requires fit { IsFit (Order (command_of command)) }
-    ensures { IsUpToDate S.Store registry.new }
 {
     let told = registry.command(alloc, &command);
     let answer = plain.step(&Event::Order(command));
@@ -109,10 +100,7 @@ pub(crate) fn answered<S: Alter>(
     registry: &mut Registry<S>,
     plain: &mut PlainRegistry,
     line: &str,
-) -> Result<String, AllocError>
-    requires { IsUpToDate S.Store registry.old }
-    ensures { IsUpToDate S.Store registry.new }
-{
+) -> Result<String, AllocError> {
     let parts = Parts::read(alloc, line)?;
     if let Some(command) = parts.command() {
         return ordered(alloc, registry, plain, command);

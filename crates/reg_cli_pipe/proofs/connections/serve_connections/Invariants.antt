@@ -1,12 +1,11 @@
 use Rattle.std.proofs.Common.{◌≡◌, ◌+◌, ◌≤◌}
-use Rattle.reg_service.specs.Registries.{IsUpToDate, limits_of}
+use Rattle.reg_service.specs.Registries.{limits_of}
 use Rattle.reg_cli_pipe.specs.Limited.{HasTurns}
 use Rattle.reg_cli_pipe.proofs.connections.serve_connections.Given as goal
 
 -- the registry goes on, and each connection was counted once
 abbrev pub invariant-connections : goal.invariant-connections
 invariant-connections g l = record {
-  tables : IsUpToDate g.S.Store l.registry;
   turns : HasTurns (limits_of l.registry);
   counts : l.door.accepted + l.left ≡ l.fn.door.accepted + l.fn.left;
   fewer : l.left ≤ l.fn.left;

@@ -11,7 +11,7 @@ use Rattle.reg_cli_pipe.proofs.pipe.pipe_traced.Goals as goal
 pub serve_traced-requires : goal.serve_traced-requires
 serve_traced-requires g c =
     let keeps = c.in_default.ensures.keeps in
-    record { tables = keeps.tables; reads = rw keeps.limits c.requires.reads; writes = rw keeps.limits c.requires.writes }
+    record { reads = rw keeps.limits c.requires.reads; writes = rw keeps.limits c.requires.writes }
 
 pub returns-in-Err : goal.returns-in-Err
 returns-in-Err g c =

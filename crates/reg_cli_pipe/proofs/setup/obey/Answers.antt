@@ -18,5 +18,5 @@ returns g c =
           obeys g.S.Store limits command old new (tail (g.T.Write.contents c.args.trail.now.end.inner) c.args.trail.now) (tail (g.T.Write.contents c.tell.new.self.end.inner) c.tell.new.self) c.order-answer.result c.setup_result.result c.requires.fit
           (subst (λ b. IsOrdered g.S.Store limits b command c.order-answer.result old new) c.is_open.ensures ordered.answers) c.tell.ensures.tells c.setup_result.ensures;
       told = (_, c.tell.ensures.tells);
-      keeps = record { tables = ordered.tables; clean = ordered.clean; limits = ordered.limits };
+      keeps = record { clean = ordered.clean; limits = ordered.limits };
     }

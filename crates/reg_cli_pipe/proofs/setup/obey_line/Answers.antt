@@ -8,13 +8,13 @@ use Rattle.reg_cli_pipe.proofs.setup.obey_line.Goals as goal
 pub returns-in_err-words : goal.returns-in_err-words
 returns-in_err-words g c =
     let p = err_from_is_err_and c.from_residual.result c.from_residual.ensures.1 in
-    rw (p.1, p.2) (unread c.in_err-words.field-0.0 c.requires c.in_err-words.ensures.fails)
+    rw (p.1, p.2) (unread c.in_err-words.field-0.0 c.in_err-words.ensures.fails)
 
 pub returns-in_err-matches : goal.returns-in_err-matches
 returns-in_err-matches g c =
     let p = err_from_is_err_and c.from_residual-in_err-matches.result c.from_residual-in_err-matches.ensures.1 in
     let words : map (λ (w : Bor (List ℕ)). w.now) c.deref.result.now ≡ words_in c.args.line.now = ap (map (λ w. w.now)) c.deref.ensures.value ∙ c.in_ok-words.ensures.words in
-    rw (p.1, p.2) (unread _ c.requires (line_unread c.args.line.now _ c.in_err-matches.field-0.0 words c.in_err-matches.ensures.fails))
+    rw (p.1, p.2) (unread _ (line_unread c.args.line.now _ c.in_err-matches.field-0.0 words c.in_err-matches.ensures.fails))
 
 pub returns : goal.returns
 returns g c =

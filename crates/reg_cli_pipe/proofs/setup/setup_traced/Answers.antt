@@ -16,7 +16,7 @@ pub loop-line-init : goal.loop-line-init
 loop-line-init g c =
     let k0 = tail (g.T.Write.contents c.args.trail.now.end.inner) c.args.trail.now in
     record {
-      keeps = still c.requires.tables;
+      keeps = still;
       told = trailed_nothing k0;
       held = λ clean s shows. begun g.S.Store (limits_of c.args.registry.now) s (tables_of c.args.registry.now) (lines_in c.args.setup.now) k0 c.history_law.ensures.begins shows;
     }
@@ -50,7 +50,7 @@ returns-in_err-lines g c =
           let none = begun g.S.Store (limits_of c.args.registry.now) s (tables_of c.args.registry.now) (lines_in c.args.setup.now) k0 c.history_law.ensures.begins shows in
           ((0, omega arith, none.0), none.1);
       told = trailed_nothing k0;
-      keeps = still c.requires.tables;
+      keeps = still;
     })
 
 pub returns-in_err-obey_line : goal.returns-in_err-obey_line

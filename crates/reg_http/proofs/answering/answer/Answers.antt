@@ -23,7 +23,7 @@ returns-in-Replied g c =
       spends = c.send_reply.ensures.spends;
       fewer = c.send_reply.ensures.some;
       told = (_, c.tell.ensures.tells);
-      keeps = record { tables = c.act.ensures.tables; clean = c.act.ensures.clean; limits = c.act.ensures.limits };
+      keeps = record { clean = c.act.ensures.clean; limits = c.act.ensures.limits };
     }
 
 pub returns-in-Found : goal.returns-in-Found
@@ -34,7 +34,7 @@ returns-in-Found g c =
     let found = tables_of c.act.new.self in
     let k = tail (g.T.Write.contents c.args.trail.now.end.inner) c.args.trail.now in
     let sent = c.send_index.ensures in
-    let kept : GoesOn g.S.Store c.args.registry.now c.act.new.self = record { tables = c.act.ensures.tables; clean = c.act.ensures.clean; limits = c.act.ensures.limits } in
+    let kept : GoesOn g.S.Store c.args.registry.now c.act.new.self = record { clean = c.act.ensures.clean; limits = c.act.ensures.limits } in
     record {
       replied = λ f same clean s shows.
           sent.replied k clean limits f (wants_of request.call) s old

@@ -6,7 +6,6 @@ pub returns-in-Second : goal.returns-in-Second
 returns-in-Second g c =
     let second = sym c.edition.ensures ∙ c.in-Second.is in
     record {
-      up_to_date = record { ours = c.requires; second = second };
       begun = record { limited = refl; goes_on = refl };
       brought = λ clean. still_brought (edition_in c.args.tables) (shown g.S.Store c.args.tables) (shown g.S.Store c.args.tables) second refl;
       clean = λ clean. clean;
@@ -20,7 +19,6 @@ returns-in-Ok g c =
     let first = sym c.edition.ensures ∙ c.in-First.is in
     let done = c.in-Ok.is ∙ ap Ok (c.in-Ok.ensures.which.1 first) in
     record {
-      up_to_date = record { ours = c.migrate.ensures.ours; second = c.in-Ok.ensures.second };
       begun = record { limited = refl; goes_on = c.in-Ok.ensures.open };
       brought = λ clean. upgrade_brought (edition_in c.args.tables) (shown g.S.Store c.args.tables) (shown g.S.Store c.migrate.new.self) first (c.migrate.ensures.upgraded clean done) (c.migrate.ensures.alone clean done);
       clean = λ clean. omega (arith, clean, c.migrate.ensures.survives.clean);
@@ -31,7 +29,6 @@ returns-in-Ok g c =
 
 pub returns-in-Err : goal.returns-in-Err
 returns-in-Err g c = record {
-  up_to_date = tt;
   begun = tt;
   brought = tt;
   clean = tt;

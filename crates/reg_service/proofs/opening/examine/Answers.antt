@@ -9,7 +9,6 @@ returns-in-Err g c =
     let before = shown g.S.Store c.args.tables in
     let looked = held c.audit.new.tables in
     record {
-      up_to_date = tt;
       begun = tt;
       brought = tt;
       clean = tt;
@@ -25,7 +24,6 @@ returns-in-Ok-Some g c =
     let before = shown g.S.Store c.args.tables in
     let looked = held c.audit.new.tables in
     record {
-      up_to_date = tt;
       begun = tt;
       brought = tt;
       clean = tt;

@@ -13,7 +13,7 @@ as_they_are Second d found is (db, same, it, rows, first) = (it, subst (AreAllRo
 pub returns-clause-found : goal.returns-clause-found
 returns-clause-found g c clean =
     let old = tables_of c.args.self.now in
-    if_ok c.audit.result (λ found. as_they_are (edition_in old) (shown g.S.Store old).now found c.requires.second) (c.audit.ensures.found clean)
+    if_ok c.audit.result (λ found. as_they_are (edition_in old) (shown g.S.Store old).now found c.self.invariant.second) (c.audit.ensures.found clean)
 
 -- and so a sound registry is there exactly where none fails
 pub returns-clause-sound : goal.returns-clause-sound
@@ -23,6 +23,3 @@ returns-clause-sound g c clean =
 
 pub returns-clause-looked : goal.returns-clause-looked
 returns-clause-looked g c = search rules
-
-pub returns-clause-tables : goal.returns-clause-tables
-returns-clause-tables g c = (returns-clause-looked g c).tables

@@ -26,7 +26,6 @@ returns-in-Ok g c =
     let made = c.in-Ok.ensures in
     record {
       made = record {
-        tables = record { ours = made.ours.0; second = made.second };
         goes_on = made.ours.1;
         shows = empty_shown;
         alone = λ clean db l. let rest = (made.made clean).1 in

@@ -21,7 +21,6 @@ returns-in-Ok g c =
       replies = λ clean s h.
           let early : HasCleanDisk (shown g.S.Store found) = omega (arith, clean, left.survives.clean) in
           file_told g.S.Store limits s asks.digest asks.asked c.in-Found.file old found c.read_file.new.tables (c.in-Found.ensures.replies early s h) c.act.ensures.tables.ours left clean c.in-Ok.text (c.in-Ok.ensures.reads clean);
-      tables = record { ours = left.ours; second = left.edition ∙ c.act.ensures.tables.second };
       clean = λ clean. c.act.ensures.clean (omega (arith, clean, left.survives.clean));
       limits = c.act.ensures.limits;
       read = elim c.in-Found.ensures.read [ inl fit ↦ inl fit | inr none ↦ absurd none.0 ];
@@ -39,7 +38,6 @@ returns-in-Err g c =
       replies = λ clean s h.
           let early : HasCleanDisk (shown g.S.Store found) = omega (arith, clean, left.survives.clean) in
           no_room_told g.S.Store limits s asks.digest asks.asked c.in-Found.file old found c.read_file.new.tables (c.in-Found.ensures.replies early s h) c.act.ensures.tables.ours left clean;
-      tables = record { ours = left.ours; second = left.edition ∙ c.act.ensures.tables.second };
       clean = λ clean. c.act.ensures.clean (omega (arith, clean, left.survives.clean));
       limits = c.act.ensures.limits;
       read = elim c.in-Found.ensures.read [ inl fit ↦ inl fit | inr none ↦ absurd none.0 ];

@@ -13,7 +13,6 @@ returns-in-Ok g c =
     let conn = c.args.conn in
     let tables = c.in-Ok.tables in
     record {
-      up_to_date = it.up_to_date;
       goes_on = if_ok r (λ r b. b.goes_on ∙ c.in-Ok.ensures.ours.1) it.begun;
       limited = if_ok r (λ r b. b.limited) it.begun;
       same = opened_same g.S.Store conn tables k r same it.clean it.brought;
@@ -29,7 +28,6 @@ returns-in-Ok g c =
 
 pub returns-in-Err-default-UnknownSchema : goal.returns-in-Err-default-UnknownSchema
 returns-in-Err-default-UnknownSchema g c = record {
-  up_to_date = tt;
   goes_on = tt;
   limited = tt;
   same = tt;
@@ -47,7 +45,6 @@ returns-in-Err-default-UnknownSchema g c = record {
 
 pub returns-in-Err-default-Storage : goal.returns-in-Err-default-Storage
 returns-in-Err-default-Storage g c = record {
-  up_to_date = tt;
   goes_on = tt;
   limited = tt;
   same = tt;
