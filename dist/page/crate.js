@@ -70,9 +70,9 @@ function dependencies({ dependencies: all }) {
 }
 
 function features({ features: all }) {
-    const rows = all.map(([name, values]) => [
-        told(name), values.length > 0 ? told(values.join(', ')) : spanOf('quiet', 'enables nothing else'),
-    ]);
+    const nothing = () => spanOf('quiet', 'enables nothing else');
+    const rows = all.map(([name, values]) =>
+        [told(name), values.length > 0 ? told(values.join(', ')) : nothing()]);
     const none = make('p', { className: 'quiet' }, 'None');
     return section(`Features (${number(all.length)})`,
         all.length > 0 ? definitions('features', rows) : none);
@@ -100,18 +100,17 @@ function owners({ owners: all }) {
         make('ul', { className: 'owners', role: 'list' }, ...items));
 }
 
+/** A row of few elements, since a long list has thousands of them. */
 function versionRow({ name, vers, isYanked, rust, sum, features: all }) {
-    const names = all.map(([feature]) => feature).join(', ');
-    const row = make('li', {}, make('a', { href: addressOf(name, vers) }, visible(vers)));
+    const names = all.map(([feature]) => feature).join(', ').slice(0, SHORT);
+    const about = [rust && `Rust ${rust.slice(0, SHORT)}`, names && `features: ${names}`];
+    const aboutText = visible(about.filter(Boolean).join(' · '));
+    const row = make('li', {},
+        make('a', { href: addressOf(name, vers), textContent: visible(vers) }),
+        make('code', { textContent: visible(sum) }),
+        make('span', { textContent: aboutText }));
     if (isYanked) {
-        row.append(badge('warning', 'yanked'));
-    }
-    if (rust !== null) {
-        row.append(spanOf('rust', 'Rust ', visible(rust.slice(0, SHORT))));
-    }
-    row.append(make('code', {}, visible(sum)));
-    if (names !== '') {
-        row.append(spanOf('names', 'features: ', visible(names.slice(0, SHORT))));
+        row.firstChild.after(badge('warning', 'yanked'));
     }
     return row;
 }

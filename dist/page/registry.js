@@ -153,8 +153,7 @@ function indexPath(name) {
     return `${folders[text.length] ?? `${text.slice(0, 2)}/${text.slice(2, 4)}`}/${text}`;
 }
 
-function versionOf(line) {
-    const fields = JSON.parse(line);
+function versionOf(fields) {
     return {
         name: fields.name,
         vers: fields.vers,
@@ -168,6 +167,16 @@ function versionOf(line) {
     };
 }
 
+/** The versions of an index file, which has one at least, the highest first. */
+function versionsIn(text) {
+    // One list of the lines: ten thousand that are read one by one take more than twice as long.
+    const versions = JSON.parse(`[${text.trimEnd().replaceAll('\n', ',')}]`).map(versionOf);
+    if (versions.length === 0) {
+        throw new RangeError('an index file without a version');
+    }
+    return versions.sort((a, b) => byPrecedence(b.precedence, a.precedence));
+}
+
 /** All versions of a crate, the highest first, or null if no index file has this spelling. */
 async function versionsAt(name, signal) {
     let bytes;
@@ -179,8 +188,7 @@ async function versionsAt(name, signal) {
         }
         throw failure;
     }
-    const versions = read(bytes, (text) => text.trimEnd().split('\n').map(versionOf));
-    return versions.sort((a, b) => byPrecedence(b.precedence, a.precedence));
+    return read(bytes, versionsIn);
 }
 
 /** The versions of a crate by any spelling; `search` is what a search of that finds. */

@@ -1,7 +1,8 @@
-"""What the scripts share that try the page: a registry behind nginx with TLS, as `dist/install` lays it out, and Chromium.
+"""A registry behind nginx with TLS, with the files as `dist/install` lays them out, for what tries the page.
 
 Between nginx and the registry is a `Way`: it writes down what is asked, and alters answers where it is told to.
 """
+import hashlib
 import http.client
 import json
 import os
@@ -10,7 +11,6 @@ import shutil
 import socket
 import ssl
 import subprocess
-import sys
 import tempfile
 import threading
 import time
@@ -19,9 +19,8 @@ from http.server import BaseHTTPRequestHandler, ThreadingHTTPServer
 from pathlib import Path
 from typing import NamedTuple
 
-TOP = Path(__file__).resolve().parent.parent
+TOP = Path(__file__).resolve().parent.parent.parent
 PROGRAM = Path(os.environ.get("REGISTRY_CLI", TOP / "crates/registry_cli/out/registry_cli")).resolve()
-DRIVER = "/usr/bin/chromedriver"
 PATIENCE = 60
 NGINX = """
 pid {folder}/pid; error_log {folder}/error.log; worker_processes auto; events {{ worker_connections 768; }}
@@ -31,17 +30,17 @@ http {{
     include {folder}/registry.conf;
 }}
 """
+MANIFEST = """[package]
+name = "{name}"
+version = "{vers}"
+description = "{description}"
+edition = "2021"
+license = "MIT"
+"""
 
 
-def lacking():
-    """The Debian packages that are not on this machine."""
-    commands = {"chromium": "chromium", "chromedriver": "chromium-driver", "nginx": "nginx", "caddy": "caddy", "openssl": "openssl", "cargo": "cargo"}
-    lacks = [package for command, package in commands.items() if not shutil.which(command)]
-    try:
-        import selenium  # noqa: F401
-    except ImportError:
-        lacks.append("python3-selenium")
-    return lacks
+def digest_of(token):
+    return hashlib.sha256(token.encode()).hexdigest()
 
 
 def free_port():
@@ -80,6 +79,7 @@ class Way:
     """Passes on what nginx asks. `changes` has pairs: a pattern of targets, and what becomes of such an answer."""
 
     def __init__(self, registry_port):
+        self.registry_port = registry_port
         self.asked = []
         self.changes = []
         way = self
@@ -87,15 +87,7 @@ class Way:
         class Handler(BaseHTTPRequestHandler):
             def pass_on(self):
                 body = self.rfile.read(int(self.headers.get("content-length", 0)))
-                way.asked.append(Asked(self.command, self.path, {name.lower(): text for name, text in self.headers.items()}))
-                link = http.client.HTTPConnection("127.0.0.1", registry_port, timeout=PATIENCE)
-                link.request(self.command, self.path, body or None, {**self.headers})
-                reply = link.getresponse()
-                answer = Answer(reply.status, reply.headers["content-type"], reply.read())
-                link.close()
-                for pattern, change in way.changes:
-                    if re.search(pattern, self.path):
-                        answer = change(answer)
+                answer = way.answer(self.command, self.path, {**self.headers}, body)
                 self.send_response(answer.status)
                 self.send_header("content-type", answer.kind)
                 self.send_header("content-length", str(len(answer.body)))
@@ -111,6 +103,18 @@ class Way:
         self.server = ThreadingHTTPServer(("127.0.0.1", 0), Handler)
         self.port = self.server.server_address[1]
         threading.Thread(target=self.server.serve_forever, daemon=True).start()
+
+    def answer(self, method, target, headers, body):
+        self.asked.append(Asked(method, target, {name.lower(): text for name, text in headers.items()}))
+        link = http.client.HTTPConnection("127.0.0.1", self.registry_port, timeout=PATIENCE)
+        link.request(method, target, body or None, headers)
+        reply = link.getresponse()
+        answer = Answer(reply.status, reply.headers["content-type"], reply.read())
+        link.close()
+        for pattern, change in self.changes:
+            if re.search(pattern, target):
+                answer = change(answer)
+        return answer
 
     @contextmanager
     def altered(self, pattern, change):
@@ -144,9 +148,10 @@ class Place:
 
     def run(self, *words, **settings):
         """What a command says; it has to succeed."""
-        done = subprocess.run([*map(str, words)], stdin=subprocess.DEVNULL, capture_output=True, text=True, timeout=600, **settings)
+        command = [*map(str, words)]
+        done = subprocess.run(command, stdin=subprocess.DEVNULL, capture_output=True, text=True, timeout=600, **settings)
         if done.returncode != 0:
-            raise RuntimeError(f"{' '.join(map(str, words))}: status {done.returncode}\n{done.stdout}{done.stderr}")
+            raise RuntimeError(f"{' '.join(command)}: status {done.returncode}\n{done.stdout}{done.stderr}")
         return done.stdout
 
     def admin(self, *words):
@@ -179,8 +184,8 @@ class Place:
         self.page = prefix / "share/kondziga/page"
         self.examples = prefix / "share/doc/kondziga/examples"
         key = self.folder / "certificate.key"
-        self.run("openssl", "req", "-x509", "-newkey", "rsa:2048", "-nodes", "-days", 2, "-subj", "/CN=localhost", "-addext",
-                 "subjectAltName=DNS:localhost", "-keyout", key, "-out", self.certificate)
+        words = "req -x509 -newkey rsa:2048 -nodes -days 2 -subj /CN=localhost -addext subjectAltName=DNS:localhost"
+        self.run("openssl", *words.split(), "-keyout", key, "-out", self.certificate)
         self.way = Way(self.port)
         self.upstream = self.way.port
 
@@ -205,8 +210,9 @@ class Place:
         folder.mkdir()
         (folder / "registry.conf").write_text(self.in_place("nginx.conf", self.https))
         (folder / "nginx.conf").write_text(NGINX.format(folder=folder))
+        path = f"{os.environ['PATH']}:/usr/sbin"
         command = ["nginx", "-e", str(folder / "error.log"), "-c", str(folder / "nginx.conf"), "-g", "daemon off;"]
-        self.started.append(subprocess.Popen(command, stdout=subprocess.DEVNULL, env={**os.environ, "PATH": f"{os.environ['PATH']}:/usr/sbin"}))
+        self.started.append(subprocess.Popen(command, stdout=subprocess.DEVNULL, env={**os.environ, "PATH": path}))
         wait_for("nginx listens", lambda: is_open(self.https))
 
     def start_caddy(self):
@@ -214,8 +220,9 @@ class Place:
         port, file = free_port(), self.folder / "Caddyfile"
         file.write_text(self.in_place("Caddyfile", port))
         command = ["caddy", "run", "--adapter", "caddyfile", "--config", str(file)]
-        output = open(self.folder / "caddy", "w")
-        self.started.append(subprocess.Popen(command, stdout=output, stderr=output, env={**os.environ, "HOME": str(self.folder)}))
+        settings = {**os.environ, "HOME": str(self.folder)}
+        with open(self.folder / "caddy.log", "w") as log:
+            self.started.append(subprocess.Popen(command, stdout=log, stderr=log, env=settings))
         wait_for("caddy listens", lambda: is_open(port))
         return port
 
@@ -244,121 +251,22 @@ class Place:
             raise RuntimeError(f"{name} {vers}: {said}")
 
     def cargo(self, token, folder, *words):
+        """What cargo says, as a developer with this token runs it in the folder of a crate."""
         settings = {
-            "CARGO_HOME": self.folder / "home", "CARGO_HTTP_CAINFO": self.certificate, "CARGO_REGISTRIES_TEAM_TOKEN": token,
-            "CARGO_REGISTRIES_TEAM_INDEX": f"sparse+{self.address}/index/", "CARGO_REGISTRIES_TEAM_CREDENTIAL_PROVIDER": "cargo:token",
-            "CARGO_TARGET_DIR": self.folder / "target", "no_proxy": "*",
+            "CARGO_HOME": str(self.folder / "home"),
+            "CARGO_HTTP_CAINFO": str(self.certificate),
+            "CARGO_REGISTRIES_TEAM_CREDENTIAL_PROVIDER": "cargo:token",
+            "CARGO_REGISTRIES_TEAM_INDEX": f"sparse+{self.address}/index/",
+            "CARGO_REGISTRIES_TEAM_TOKEN": token,
+            "CARGO_TARGET_DIR": str(self.folder / "target"),
+            "no_proxy": "*",
         }
-        kept = {name: text for name, text in os.environ.items() if not name.startswith("CARGO_") and name != "RUSTC_WRAPPER"}
-        return self.run("cargo", *words, cwd=folder, env={**kept, **{name: str(text) for name, text in settings.items()}})
+        others = {name: text for name, text in os.environ.items() if not name.startswith(("CARGO_", "RUSTC_WRAPPER"))}
+        return self.run("cargo", *words, cwd=folder, env={**others, **settings})
 
     def cargo_publish(self, token, name, vers, description, more=""):
         folder = self.folder / "crates" / f"{name}-{vers}"
         (folder / "src").mkdir(parents=True)
         (folder / "src/lib.rs").write_text(f"//! {description}\n")
-        manifest = f'[package]\nname = "{name}"\nversion = "{vers}"\nedition = "2021"\ndescription = "{description}"\nlicense = "MIT"\n'
-        (folder / "Cargo.toml").write_text(f'{manifest}{more}')
+        (folder / "Cargo.toml").write_text(MANIFEST.format(name=name, vers=vers, description=description) + more)
         self.cargo(token, folder, "publish", "--registry", "team", "--allow-dirty", "--no-verify")
-
-
-class Browser:
-    """Chromium with the page."""
-
-    def __init__(self, place, width=1280, height=900):
-        from selenium import webdriver
-        from selenium.webdriver.chrome.service import Service
-
-        self.place = place
-        self.downloads = place.folder / "downloads"
-        options = webdriver.ChromeOptions()
-        options.binary_location = shutil.which("chromium")
-        for word in ("headless=new", "disable-gpu", "disable-dev-shm-usage", "no-first-run", "disable-background-networking",
-                     "disable-component-update", "lang=en", f"window-size={width},{height}", "hide-scrollbars",
-                     "host-resolver-rules=MAP * ~NOTFOUND, EXCLUDE localhost"):
-            options.add_argument(f"--{word}")
-        if os.getuid() == 0:
-            options.add_argument("--no-sandbox")
-        options.accept_insecure_certs = True
-        options.add_experimental_option("prefs", {"download.default_directory": str(self.downloads), "download.prompt_for_download": False})
-        options.set_capability("goog:loggingPrefs", {"browser": "ALL"})
-        os.environ["TMPDIR"] = str(place.folder)
-        self.driver = webdriver.Chrome(service=Service(DRIVER), options=options)
-
-    def close(self):
-        self.driver.quit()
-
-    def script(self, text, *words):
-        return self.driver.execute_script(text, *words)
-
-    def order(self, name, **words):
-        """A command of the browser's own protocol."""
-        return self.driver.execute_cdp_cmd(name, words)
-
-    def open(self, hash=""):
-        """Loads the page anew, at this place of it."""
-        self.driver.get("about:blank")
-        self.driver.get(f"{self.place.address}/{hash}")
-        self.settle()
-
-    def go(self, hash):
-        """Goes to a place of the page, as a link does."""
-        self.script("location.hash = arguments[0]", hash)
-        self.settle()
-
-    def settle(self):
-        """Waits until the page asks for nothing more, behind the events that are due."""
-        self.driver.execute_async_script("setTimeout(arguments[0], 30)")
-        wait_for("the page is done", lambda: self.script("return document.getElementById('main').ariaBusy") == "false")
-
-    def all(self, path):
-        return [it for it in self.driver.find_elements("css selector", path) if it.is_displayed()]
-
-    def one(self, path):
-        found = self.all(path)
-        if len(found) != 1:
-            raise LookupError(f"{path}: there are {len(found)}")
-        return found[0]
-
-    def text(self, path):
-        return " ".join(it.text for it in self.all(path))
-
-    def texts(self, path):
-        return [it.text for it in self.all(path)]
-
-    def click(self, path):
-        self.one(path).click()
-        self.settle()
-
-    def write(self, path, text):
-        """Types a text in place of the one that is there."""
-        self.clear(path)
-        self.one(path).send_keys(text)
-        self.settle()
-
-    def clear(self, path):
-        from selenium.webdriver.common.keys import Keys
-
-        self.one(path).send_keys(Keys.CONTROL, "a")
-        self.one(path).send_keys(Keys.DELETE)
-
-    def press(self, *keys):
-        """Presses keys, wherever the focus is."""
-        from selenium.webdriver.common.action_chains import ActionChains
-
-        for key in keys:
-            ActionChains(self.driver).send_keys(key).perform()
-
-    def sign_in(self, token, keep=False):
-        self.one("#token").send_keys(token)
-        if keep:
-            self.one("#keep").click()
-        self.click("#sign-in button")
-
-    def log(self):
-        """What the browser has to say since it was last asked."""
-        return [it["message"] for it in self.driver.get_log("browser") if it["level"] in ("WARNING", "SEVERE")]
-
-
-def end(name, message):
-    print(f"{name}: {message}", file=sys.stderr)
-    sys.exit(2)
