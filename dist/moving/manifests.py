@@ -12,7 +12,7 @@ except ImportError:  # Python before 3.11
 
 from .addresses import CRATES_IO, is_same_index
 from .faults import BadUse, Left
-from .publications import Dependency, Publication, check_names
+from .publications import Dependency, Publication, all_texts, check_names
 from .semver import requirement_of
 
 # In the order in which cargo lists dependencies; at a target its build dependencies come first.
@@ -69,10 +69,7 @@ def member(table, key, kind, otherwise=None):
 
 def texts(table, key):
     """A list of texts of a table by its key."""
-    values = member(table, key, list, [])
-    if not all(isinstance(value, str) for value in values):
-        raise Left(f"its {key} has what is no text")
-    return tuple(values)
+    return all_texts(member(table, key, list, []), key)
 
 
 class Manifest:

@@ -117,12 +117,16 @@ def required(found, key):
     return value
 
 
-def texts(found, key):
-    """A list of texts."""
-    values = member(found, key, list, [])
+def all_texts(values, key):
+    """The values of a key, which are all texts."""
     if not all(isinstance(value, str) for value in values):
         raise Left(f"its {key} has what is no text")
     return tuple(values)
+
+
+def texts(found, key):
+    """A list of texts."""
+    return all_texts(member(found, key, list, []), key)
 
 
 def features_of(found):
