@@ -1,40 +1,23 @@
 -- What is handed on of a request that is let pass: the token and its account, the crate and the version that the action names.
-use Rattle.std.proofs.Common.{◌≡◌, ◌⊎◌, inl, inr, ℕ, pos, List, [], ◌∷◌, Bool, true, false, cond, Option, Some, None, is_some, refl, sym, ap, subst, ◌∙◌}
-use Rattle.std.proofs.lemmas.Bool.{and_parts}
-use Rattle.std.specs.List.{filter, find}
-use Rattle.std.specs.Option.{option_map}
-use Rattle.std.specs.Fmt.{decimal}
-use Rattle.std.specs.Prelude.{string_bytes}
-use Rattle.sqlite.specs.Tree.{Trees}
-use Rattle.sqlite.specs.declared.types.Value.{Value}
-use Rattle.sqlite.specs.declared.types.Value.TheVariants.{Int}
-use Rattle.reg_names.specs.Names.{canon}
-use Rattle.reg_model.specs.Actions.{Action, crate_of}
-use Rattle.reg_model.specs.Actions.Action.{Read, Index, Download, ListOwners, Publish, Yank, Unyank, AddOwners, RemoveOwners}
-use Rattle.reg_model.specs.Crates.{first}
-use Rattle.reg_model.specs.Facts.{Access, lists}
-use Rattle.reg_model.specs.Registry.{Registry, Text, holds}
+use Rattle.reg_access.proofs.Words.{◌≡◌, ◌⊎◌, inl, inr, ℕ, pos, List, [], ◌∷◌, Bool, true, false, cond, Option, Some, None, is_some, refl}
+use Rattle.reg_access.proofs.Words.{sym, ap, subst, ◌∙◌, and_parts, filter, find, option_map, decimal, string_bytes, Trees, Value, Int}
+use Rattle.reg_access.proofs.Words.{canon, Action, crate_of, Read, Index, Download, ListOwners, Publish, Yank, Unyank, AddOwners}
+use Rattle.reg_access.proofs.Words.{RemoveOwners, first, Access, lists, Registry, holds, true_not_false, decision_of, Holds, Ids}
+use Rattle.reg_access.proofs.Words.{StoredCrate, spelled_at, TokenRow, columns_with_account, tokens_with_accounts, IsIdOf, version_named}
+use Rattle.reg_access.proofs.Words.{CrateFacts, CrateRow, AreFound, facts_found, rows_of, crates_seen_by, is_there, names_version, text_in}
+use Rattle.reg_access.proofs.Words.{value_at, TellsCrate}
+use Rattle.reg_model.specs.Registry.{Text}
 use Rattle.reg_model.specs.Rules.{access, breaks, is_access_rule, order}
 use Rattle.reg_model.specs.declared.rule.Rule.{Rule}
 use Rattle.reg_model.proofs.Cleared.{Clear}
 use Rattle.reg_model.proofs.IndexPaths.{not_false}
-use Rattle.reg_model.proofs.Lists.{true_not_false}
 use Rattle.reg_policy.specs.declared.action.Decision.TheVariants as decision
-use Rattle.reg_policy.specs.Views.{decision_of}
-use Rattle.reg_tables_meaning.specs.Stands.{Holds, Ids, StoredCrate, spelling_at}
-use Rattle.reg_tables_meaning.proofs.CrateLemmas.{spelled_at}
-use Rattle.reg_tables_sql.specs.declared.tokens.TokenRow.{TokenRow}
-use Rattle.reg_tables_sql.specs.Tokens.{columns_with_account, tokens_with_accounts}
-use Rattle.reg_access.specs.Admitted.{IsAdmission, IsAdmitted, IsCallerIn, IsCallerOf, IsFoundOf, IsIdOf, OfCaller, ShowsCaller, TellsCaller, decision_in, needs_crate, shown_crate, version_named}
+use Rattle.reg_tables_meaning.specs.Stands.{spelling_at}
+use Rattle.reg_access.specs.Admitted.{IsAdmission, IsAdmitted, IsCallerIn, IsCallerOf, IsFoundOf, OfCaller, ShowsCaller, TellsCaller, decision_in, needs_crate, shown_crate}
 use Rattle.reg_access.specs.declared.admission.Admission.{Admission}
 use Rattle.reg_access.specs.declared.admission.Admission.TheVariants.{Allowed, Denied}
 use Rattle.reg_access.specs.declared.admission.Caller.{Caller}
 use Rattle.reg_access.specs.declared.admission.FoundCrate.{FoundCrate}
-use Rattle.reg_access.specs.declared.finding.CrateFacts.{CrateFacts}
-use Rattle.reg_access.specs.declared.found.CrateRow.{CrateRow}
-use Rattle.reg_access.specs.Found.{AreFound, facts_found, rows_of}
-use Rattle.reg_access.specs.JoinRows.{crates_seen_by, is_there, names_version, text_in, value_at}
-use Rattle.reg_access.specs.Laws.{TellsCrate}
 use Rattle.reg_access.proofs.CrateLaw.{IsFound, IsMissing, found_or_missing, id_shown, no_rows, tells_crate}
 use Rattle.reg_access.proofs.FoundFacts.{found_verdict}
 use Rattle.reg_access.proofs.GrantLaw.{first_canon}

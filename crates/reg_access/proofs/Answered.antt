@@ -1,11 +1,7 @@
 -- Whether an answer has a row.
-use Rattle.std.proofs.Common.{◌≡◌, List, [], ◌∷◌, map, length, Bool, true, false, not, ◌||◌, ◌==◌, cond, refl, sym, ◌∙◌, arith}
-use Rattle.std.specs.List.{filter, list_any}
-use Rattle.std.specs.List.Sorted.{IsPermutation}
-use Rattle.std.proofs.lemmas.List.Sorted.{list_any-IsPermutation}
+use Rattle.reg_access.proofs.Words.{◌≡◌, List, [], ◌∷◌, map, length, Bool, true, false, not, ◌||◌, ◌==◌, cond, refl, sym, ◌∙◌, arith}
+use Rattle.reg_access.proofs.Words.{filter, list_any, IsPermutation, list_any-IsPermutation, Row, is_there}
 use Rattle.std.proofs.lemmas.Bool.Decides.{nat_tests}
-use Rattle.sqlite.specs.Order.{Row}
-use Rattle.reg_access.specs.JoinRows.{is_there}
 
 any_there : (rows : List Row) → is_there rows ≡ list_any (λ r. true) rows
 any_there [] = refl

@@ -1,22 +1,17 @@
 -- Who asks with a token that was found.
-use Rattle.std.proofs.Common.{◌≡◌, ℕ, zero, suc, ◌+◌, ◌-◌, ◌==◌, List, [], ◌∷◌, Bool, true, false, cond, Option, Some, None, arith, refl, sym, ap, subst, ◌∙◌}
-use Rattle.std.specs.Prelude.{slice_get, string_bytes, unwrap_or}
-use Rattle.std.specs.Fmt.{decimal}
-use Rattle.std.specs.List.{AllByRecursion, IsDistinct, position_from}
-use Rattle.std.specs.Option.{option_map}
-use Rattle.std.specs.Ordering.{on}
-use Rattle.std.specs.Str.{bytes_eq}
+use Rattle.reg_access.proofs.Words.{◌≡◌, ℕ, zero, suc, ◌+◌, ◌-◌, ◌==◌, List, [], ◌∷◌, Bool, true, false, cond, Option, Some, None, arith}
+use Rattle.reg_access.proofs.Words.{refl, sym, ap, subst, ◌∙◌, string_bytes, unwrap_or, decimal, AllByRecursion, option_map, on, bytes_eq}
+use Rattle.reg_access.proofs.Words.{Trees, Account, Registry, Token, with_id, TokenRow, columns_with_account, tokens_with_accounts, Holds}
+use Rattle.reg_access.proofs.Words.{Ids}
+use Rattle.std.specs.Prelude.{slice_get}
+use Rattle.std.specs.List.{IsDistinct, position_from}
 use Rattle.std.proofs.lemmas.Slice.Eq.{bytes_eq-Decides}
-use Rattle.sqlite.specs.Tree.{Trees}
-use Rattle.reg_model.specs.Registry.{Account, Registry, Text, Token, with_id}
+use Rattle.reg_model.specs.Registry.{Text}
 use Rattle.reg_model.specs.Crates.{viewer}
 use Rattle.reg_model.specs.Effects.{account_of}
 use Rattle.reg_model.specs.Reports.{login_of}
 use Rattle.reg_model.specs.Trail.{asker, id_of_token}
-use Rattle.reg_tables_sql.specs.declared.tokens.TokenRow.{TokenRow}
-use Rattle.reg_tables_sql.specs.Tokens.{columns_with_account, tokens_with_accounts}
 use Rattle.reg_tables_meaning.specs.FoundTokens.{IsRow, login_and_mark}
-use Rattle.reg_tables_meaning.specs.Stands.{Holds, Ids}
 use Rattle.reg_tables_meaning.proofs.FoundTokens.{finds_row}
 
 each_at : {X : Type 0} (P : X → Type 0) (xs : List X) (i : ℕ) (x : X) → AllByRecursion P xs → slice_get xs i ≡ Some x → P x

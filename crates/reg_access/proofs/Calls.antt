@@ -1,11 +1,8 @@
 -- Calls in a transaction, one after another, and what a call leaves whatever its answer is made into.
-use Rattle.std.proofs.Common.{◌≡◌, inl, false, arith, Ok, Err, Result, refl, ◌∙◌}
-use Rattle.sqlite.specs.State.{State, HasCleanDisk, Survives}
+use Rattle.reg_access.proofs.Words.{◌≡◌, inl, false, arith, Ok, Err, Result, refl, ◌∙◌, HasCleanDisk, Ghosts, IsInside, Work, IsAtWork}
+use Rattle.reg_access.proofs.Words.{IsCall, has_failed, seen}
+use Rattle.sqlite.specs.State.{State, Survives}
 use Rattle.sqlite.proofs.StateLemmas.{survives_then}
-use Rattle.sqlite_trees.specs.declared.store.Store.{Ghosts}
-use Rattle.reg_tables_schema.specs.States.{IsInside}
-use Rattle.reg_tables.specs.declared.work.Work.{Work}
-use Rattle.reg_tables.specs.Works.{IsAtWork, IsCall, has_failed, seen}
 use Rattle.reg_tables_meaning.proofs.Withins.{fails_after, itself_within, within_then}
 
 survives_itself : (a : State) → Survives a a (λ _. ⊥)

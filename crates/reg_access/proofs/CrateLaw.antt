@@ -1,40 +1,24 @@
 -- Where the rows stand for a registry, the row of a crate shows its spelling, and what an account is to it.
-use Rattle.std.proofs.Common.{◌≡◌, ◌==◌, ◌⊎◌, inl, inr, ℕ, pos, List, [], ◌∷◌, Bool, true, false, not, ◌&&◌, ◌||◌, cond, Some, None, is_some, refl, sym, ap, ap₂, subst, ◌∙◌}
+use Rattle.reg_access.proofs.Words.{◌≡◌, ◌==◌, ◌⊎◌, inl, inr, ℕ, pos, List, [], ◌∷◌, Bool, true, false, not, ◌&&◌, ◌||◌, cond, Some, None}
+use Rattle.reg_access.proofs.Words.{is_some, refl, sym, ap, ap₂, subst, ◌∙◌, enumerate_from, filter, flat_map, list_any, on, bytes_eq}
+use Rattle.reg_access.proofs.Words.{eq-eqb, eqb-true, Value, Int, Text, Binary, Row, column, is_null, or_nulls, Trees, equal, canon}
+use Rattle.reg_access.proofs.Words.{with_id, collides, first, is_among, owners, Sound, any_filter, any_same, is_some_find, not_true}
+use Rattle.reg_access.proofs.Words.{true_not_false, IsIn, one_passes, one_row, equals_int, equals_text, same_filter, Ids, StandCrates}
+use Rattle.reg_access.proofs.Words.{StandsBy, StoredCrate, StoredVersion, same_text, bytes_same, same_bytes, spelled_at, one_at, none_row}
+use Rattle.reg_access.proofs.Words.{beside_all, crates_seen_by, is_mark_of, is_pair_of, value_at, TellsCrate}
 use Rattle.std.specs.FinSet as finset
-use Rattle.std.specs.List.{enumerate_from, filter, flat_map, list_any}
-use Rattle.std.specs.Ordering.{on}
-use Rattle.std.specs.Str.{bytes_eq}
-use Rattle.std.proofs.lemmas.Bool.{eq-eqb, eqb-true}
 use Rattle.std.proofs.lemmas.List.{append-nil}
-use Rattle.sqlite.specs.declared.types.Value.{Value}
-use Rattle.sqlite.specs.declared.types.Value.TheVariants.{Int, Text}
-use Rattle.sqlite.specs.Collation.TheVariants.{Binary}
-use Rattle.sqlite.specs.Order.{Row, column}
-use Rattle.sqlite.specs.Ops.{is_null}
-use Rattle.sqlite.specs.Query.{or_nulls}
-use Rattle.sqlite.specs.Tree.{Trees}
-use Rattle.sqlite_schema.specs.Rules.{equal}
-use Rattle.reg_names.specs.Names.{canon}
 use Rattle.reg_model.specs.Registry as model
-use Rattle.reg_model.specs.Registry.{owner_cmp, with_id}
-use Rattle.reg_model.specs.Crates.{collides, first, has_crate, is_among, owners, readers}
-use Rattle.reg_model.specs.Sound.{Sound}
-use Rattle.reg_model.proofs.Lists.{any_filter, any_same, is_some_find, not_true, true_not_false}
-use Rattle.reg_model.proofs.Members.{IsIn, any_in, in_any, in_filter, none_pass, one_passes}
-use Rattle.reg_tables_schema.proofs.Permutes.{one_row}
-use Rattle.reg_tables_schema.proofs.Queries.{equals_int, equals_text, same_filter}
+use Rattle.reg_model.specs.Registry.{owner_cmp}
+use Rattle.reg_model.specs.Crates.{has_crate, readers}
+use Rattle.reg_model.proofs.Members.{any_in, in_any, in_filter, none_pass}
 use Rattle.reg_tables_schema.specs.Tests.{is_number, is_owner}
-use Rattle.reg_tables_meaning.specs.Stands.{Ids, StandCrates, StandPairs, StandsBy, StoredCrate, StoredVersion, row_of_crate}
+use Rattle.reg_tables_meaning.specs.Stands.{StandPairs, row_of_crate}
 use Rattle.reg_tables_meaning.specs.Changes.{told_of}
-use Rattle.reg_tables_meaning.proofs.AccountEntries.{same_text}
-use Rattle.reg_tables_meaning.proofs.CrateLemmas.{bytes_same, crate_of, one_by_canon, same_bytes, spelled_at, version_of}
+use Rattle.reg_tables_meaning.proofs.CrateLemmas.{crate_of, one_by_canon, version_of}
 use Rattle.reg_tables_meaning.proofs.MarkedStand.{is_marked}
-use Rattle.reg_tables_meaning.proofs.Numbered.{one_at}
 use Rattle.reg_tables_meaning.proofs.PairChanges as pairs
-use Rattle.reg_tables_meaning.proofs.Standing.{none_row}
 use Rattle.reg_tables_meaning.proofs.CrateNames.{first_of, named, none_first, some_first}
-use Rattle.reg_access.specs.JoinRows.{beside_all, crates_seen_by, is_mark_of, is_pair_of, value_at}
-use Rattle.reg_access.specs.Laws.{TellsCrate}
 use Rattle.reg_access.proofs.Nulls.{none_any, not_null}
 use Rattle.reg_access.proofs.Somes.{the_some}
 

@@ -1,28 +1,13 @@
 -- What the text on a crate, its owner, its mark and its reader means.
-use Rattle.std.proofs.Common.{◌≡◌, ℕ, List, [], ◌∷◌, codes, map, ◌&&◌, refl, ap, subst, ◌∙◌}
-use Rattle.std.specs.List.{filter, list_all}
-use Rattle.std.specs.List.Sorted.{IsPermutation}
-use Rattle.sqlite.specs.Collation.TheVariants.{Binary}
+use Rattle.reg_access.proofs.Words.{◌≡◌, ℕ, List, [], ◌∷◌, codes, map, ◌&&◌, refl, ap, subst, ◌∙◌, filter, list_all, IsPermutation, Binary}
+use Rattle.reg_access.proofs.Words.{Row, column, overlay, Join, Query, IsSureAnswer, inner, left, end, matches, or_nulls, Term, col}
+use Rattle.reg_access.proofs.Words.{eval_all, op2, Trees, Value, Text, equal, Compare, Eq, ours, plain, answers, and_true, same_filter}
+use Rattle.reg_access.proofs.Words.{IsSelection, beside_all, crates_seen_by, is_mark_of, is_pair_of}
 use Rattle.sqlite.specs.Listing.{understood}
-use Rattle.sqlite.specs.Order.{Row, column}
-use Rattle.sqlite.specs.Program.{overlay}
-use Rattle.sqlite.specs.Query.{Join, Query, IsSureAnswer, inner, left, end, matches, or_nulls}
-use Rattle.sqlite.specs.Term.{Term, col, eval_all, holds, op2}
-use Rattle.sqlite.specs.Tree.{Trees}
-use Rattle.sqlite.specs.declared.types.Value.{Value}
-use Rattle.sqlite.specs.declared.types.Value.TheVariants.{Text}
-use Rattle.sqlite_schema.specs.Rules.{equal}
-use Rattle.sqlite_sql.specs.declared.ops.BinaryOp.TheVariants.{Compare}
-use Rattle.sqlite_sql.specs.declared.ops.CompareOp.TheVariants.{Eq}
+use Rattle.sqlite.specs.Term.{holds}
 use Rattle.sqlite_tied.specs.Compute.{everything}
-use Rattle.reg_tables_schema.specs.Schema.{ours}
-use Rattle.reg_tables_schema.proofs.Queries.{plain, answers, and_true, same_filter}
-use Rattle.reg_tables_schema.proofs.Reading.{IsSelection}
-use Rattle.reg_access.specs.JoinRows.{beside_all, crates_seen_by, is_mark_of, is_pair_of}
+use Rattle.reg_access.specs.declared.texts.TheConstants.{FIND_CRATE_TEXT}
 use Rattle.reg_access.proofs.Joins.{joined_thrice, same_join}
-
-abbrev pub crate_text : List ℕ
-crate_text = codes "SELECT c.id, c.name, o.account, r.crate, d.account FROM crates c LEFT JOIN owners o ON o.crate = c.id AND o.account = ?2 LEFT JOIN restricted r ON r.crate = c.id LEFT JOIN readers d ON d.crate = c.id AND d.account = ?2 WHERE c.canon = ?1"
 
 abbrev eq : Term → Term → Term
 eq a b = op2 (Compare Eq Binary) a b
@@ -48,7 +33,7 @@ crate_project = col 1 0 ∷ col 1 3 ∷ col 2 2 ∷ col 3 0 ∷ col 4 2 ∷ []
 abbrev pub crate_query : Query
 crate_query = plain crate_join crate_filter crate_project
 
-pub crate_is : IsSelection ours crate_text crate_query (codes "id" ∷ codes "name" ∷ codes "account" ∷ codes "crate" ∷ codes "account" ∷ [])
+pub crate_is : IsSelection ours FIND_CRATE_TEXT.now crate_query (codes "id" ∷ codes "name" ∷ codes "account" ∷ codes "crate" ∷ codes "account" ∷ [])
 unfolding understood everything
 crate_is = record { command = refl; unlisted = refl; plain = (refl, refl) }
 

@@ -1,26 +1,18 @@
 -- What was found is what the rows tell.
-use Rattle.std.proofs.Common.{◌≡◌, ℕ, pos, [], ◌∷◌, Bool, true, false, not, ◌||◌, cond, is_some, Option, Some, None, refl, sym, ap, ◌∙◌}
-use Rattle.sqlite.specs.Ops.{is_null}
-use Rattle.sqlite.specs.Tree.{Trees}
-use Rattle.sqlite.specs.declared.types.Value.TheVariants.{Int, Null}
-use Rattle.reg_names.specs.Names.{canon}
+use Rattle.reg_access.proofs.Words.{◌≡◌, ℕ, pos, [], ◌∷◌, Bool, true, false, not, ◌||◌, cond, is_some, Option, Some, None, refl, sym, ap}
+use Rattle.reg_access.proofs.Words.{◌∙◌, is_null, Trees, Int, Null, canon, Action, crate_of, Read, Index, Download, ListOwners, Publish}
+use Rattle.reg_access.proofs.Words.{Yank, Unyank, AddOwners, RemoveOwners, lists, decision_of, mark, number_columns, shown_of, TokenRow}
+use Rattle.reg_access.proofs.Words.{columns_with_account, tokens_with_accounts, CrateRow, CrateFacts, AreFound, facts_found, number_or_null}
+use Rattle.reg_access.proofs.Words.{rows_of, crates_seen_by, is_mark_set, is_shown, is_there, last_rows, named_rows, names_version}
+use Rattle.reg_access.proofs.Words.{publishes, scopes_over, text_in, value_at, versions_with_text, facts_in, is_always_reserved, is_seen}
+use Rattle.reg_access.proofs.Words.{join_rows, needs_scope}
 use Rattle.reg_model.specs.Registry.{Text}
-use Rattle.reg_model.specs.Actions.{Action, crate_of}
-use Rattle.reg_model.specs.Actions.Action.{Read, Index, Download, ListOwners, Publish, Yank, Unyank, AddOwners, RemoveOwners}
-use Rattle.reg_model.specs.Facts.{lists}
 use Rattle.reg_model.specs.Rules.{access}
 use Rattle.reg_model.specs.declared.rule.Rule.TheVariants as rule
-use Rattle.reg_policy.specs.Views.{decision_of}
 use Rattle.reg_policy.specs.declared.action.Decision.{Decision}
-use Rattle.reg_tables_schema.specs.Rows.{mark, number_columns}
-use Rattle.reg_tables_schema.specs.Shown.{shown_of}
-use Rattle.reg_tables_sql.specs.declared.tokens.TokenRow.{TokenRow}
-use Rattle.reg_tables_sql.specs.Tokens.{columns_with_account, tokens_with_accounts}
-use Rattle.reg_access.specs.declared.found.CrateRow.{CrateRow}
-use Rattle.reg_access.specs.declared.finding.CrateFacts.{CrateFacts}
-use Rattle.reg_access.specs.Found.{AreFound, facts_found, is_owned, is_visible, number_or_null, rows_of, scopes_asked, spelling_in}
-use Rattle.reg_access.specs.JoinRows.{against_rows, crates_seen_by, is_mark_set, is_shown, is_there, last_rows, named_rows, names_version, publishes, scopes_over, text_in, value_at, versions_with_text}
-use Rattle.reg_access.specs.Verdict.{IsVerdict, endpoints_in, facts_in, is_always_reserved, is_seen, join_rows, needs_scope}
+use Rattle.reg_access.specs.Found.{is_owned, is_visible, scopes_asked, spelling_in}
+use Rattle.reg_access.specs.JoinRows.{against_rows}
+use Rattle.reg_access.specs.Verdict.{IsVerdict, endpoints_in}
 use Rattle.reg_access.proofs.Answered.{none_there}
 use Rattle.reg_access.proofs.JoinLaw.{Agree, same_verdict, unknown_first}
 use Rattle.reg_access.proofs.VersionLaw.{no_version_of_null}
@@ -96,13 +88,6 @@ none_found a token account db h = record {
 pub named_found : (a : Action) (n : Text) (token account : ℕ) (db : Trees) (it : CrateFacts) → crate_of a ≡ Some n → is_there (scopes_asked a token db) ≡ it.covered → crates_seen_by (canon n) (Int (pos account)) db ≡ rows_of it.row → named_rows a (rows_of it.row) db ≡ shown_of number_columns it.version
     → is_there (against_rows a (rows_of it.row) db) ≡ it.against → AreFound a token account db it
 named_found a n token account db it named covered row version against = record { covered = covered; row = ap (lists (λ n. crates_seen_by (canon n) (Int (pos account)) db)) named ∙ row; version = version; against = against }
-
--- a scope is asked of the crate that is named, where the action needs one
-pub scope_of_named : (a : Action) (n : Text) (token : ℕ) (db : Trees) → crate_of a ≡ Some n → needs_scope a ≡ true → (b : Bool) → is_there (scopes_over (Int (pos token)) (canon n) db) ≡ b → is_there (scopes_asked a token db) ≡ b
-scope_of_named a n token db named needs b h = rw needs (ap (λ o. is_there (lists (λ n. scopes_over (Int (pos token)) (canon n) db) o)) named ∙ h)
-
-pub scope_unasked : (a : Action) (token : ℕ) (db : Trees) → needs_scope a ≡ false → is_there (scopes_asked a token db) ≡ false
-scope_unasked a token db needs = rw needs refl
 
 module _ (db : Trees) (digest : Text) (a : Action) where
   pub unknown_verdict : tokens_with_accounts digest db ≡ [] → IsVerdict digest a db (decision_of (Some rule.A2))

@@ -1,24 +1,15 @@
 -- What the text on the tokens that may act tells, once it was asked.
-use Rattle.std.proofs.Common.{◌≡◌, ℕ, List, [], ◌∷◌, map, Ok, Err, Result}
+use Rattle.reg_access.proofs.Words.{◌≡◌, ℕ, List, [], ◌∷◌, map, Ok, Err, Result, Shown, Text, Ghosts, selected, columns_with_account}
+use Rattle.reg_access.proofs.Words.{TokenRow, StoreFault, Work, Heard, IsAtWork, IsCall, Unmoved, rows_seen, seen, Asks}
+use Rattle.reg_access.proofs.Words.{FIND_CANDIDATES_TEXT, AreCandidates}
 use Rattle.std.specs.Prelude.{Vec}
 use Rattle.std.specs.declared.alloc.Global.{Global}
-use Rattle.sqlite.specs.State.{Shown}
-use Rattle.sqlite.specs.declared.types.Value.TheVariants.{Text}
-use Rattle.sqlite_trees.specs.declared.store.Store.{Ghosts}
-use Rattle.reg_tables_schema.proofs.Reading.{selected}
-use Rattle.reg_tables_sql.specs.Tokens.{columns_with_account}
-use Rattle.reg_tables_sql.specs.declared.tokens.TokenRow.{TokenRow}
-use Rattle.reg_tables.specs.declared.work.StoreFault.{StoreFault}
-use Rattle.reg_tables.specs.declared.work.Work.{Work}
-use Rattle.reg_tables.specs.Works.{Heard, IsAtWork, IsCall, Unmoved, rows_seen, seen}
-use Rattle.reg_tables.specs.Calling.{Asks}
-use Rattle.reg_access.specs.Grants.{AreCandidates}
 use Rattle.reg_access.proofs.Calls.{inside}
 use Rattle.reg_access.proofs.GrantRows.{candidates_are}
-use Rattle.reg_access.proofs.GrantText.{grant_is, grant_text}
+use Rattle.reg_access.proofs.GrantText.{grant_is}
 
 pub candidates_asked : {S : Type 0} (g : Ghosts S) (said text : List ℕ) (old new : Work S) (r : Result (Vec TokenRow Global) StoreFault) → IsAtWork g old
-    → Heard g new r (λ list. Shown said (Text text ∷ []) (seen g old) (seen g new) (map columns_with_account list.items)) → Unmoved g r old new → IsCall g r old new → said ≡ grant_text
+    → Heard g new r (λ list. Shown said (Text text ∷ []) (seen g old) (seen g new) (map columns_with_account list.items)) → Unmoved g r old new → IsCall g r old new → said ≡ FIND_CANDIDATES_TEXT.now
     → Asks g old new r (λ db list. AreCandidates text db list.items)
 candidates_asked g said text old new (Ok list) at told same leaves text_is = record {
   told = λ clean ids s h n name is.

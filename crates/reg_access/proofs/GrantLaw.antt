@@ -1,28 +1,18 @@
 -- What was asked of a name and of the tokens makes up the grants.
-use Rattle.std.proofs.Common.{◌≡◌, ◌==◌, ℕ, Bool, true, false, ◌&&◌, ◌||◌, not, cond, List, [], ◌∷◌, map, Option, Some, None, is_some, refl, sym, ap, ◌∙◌}
-use Rattle.std.specs.Prelude.{string_bytes}
+use Rattle.reg_access.proofs.Words.{◌≡◌, ◌==◌, ℕ, Bool, true, false, ◌&&◌, ◌||◌, not, cond, List, [], ◌∷◌, map, Option, Some, None, is_some}
+use Rattle.reg_access.proofs.Words.{refl, sym, ap, ◌∙◌, string_bytes, enumerate_from, filter, find, flat_map, list_any, option_map, Trees}
+use Rattle.reg_access.proofs.Words.{canon, is_name, Endpoint, collides, exists, first, is_among, is_reserved_always, Registry, any_filter}
+use Rattle.reg_access.proofs.Words.{any_same, is_some_find, list_any_map, not_true, true_not_false, maps_twice, Crate, TokenRow, same_bytes}
+use Rattle.reg_access.proofs.Words.{FindsCrate, entry_of_account, Holds, Ids, AreCandidates, Told, granted, is_free, told_by, told_of}
 use Rattle.std.specs.FinSet as finset
-use Rattle.std.specs.List.{enumerate_from, filter, find, flat_map, list_any}
-use Rattle.std.specs.Option.{option_map}
-use Rattle.sqlite.specs.Tree.{Trees}
-use Rattle.reg_names.specs.Names.{canon, is_name}
-use Rattle.reg_names.specs.declared.endpoint.Endpoint.{Endpoint}
-use Rattle.reg_model.specs.Crates.{collides, exists, first, is_among, is_reserved_always, owners as owners_in}
+use Rattle.reg_model.specs.Crates.{owners as owners_in}
 use Rattle.reg_model.specs.Grants.{grants}
-use Rattle.reg_model.specs.Registry.{Account as Of, Publication, Registry, Text as Words}
-use Rattle.reg_model.proofs.Lists.{any_filter, any_same, is_some_find, list_any_map, not_true, true_not_false}
-use Rattle.reg_tables_schema.proofs.Queries.{maps_twice}
+use Rattle.reg_model.specs.Registry.{Account as Of, Publication, Text as Words}
 use Rattle.reg_tables_sql.specs.declared.accounts.Account.{Account}
-use Rattle.reg_tables_sql.specs.declared.crates.Crate.{Crate}
-use Rattle.reg_tables_sql.specs.declared.tokens.TokenRow.{TokenRow}
-use Rattle.reg_tables_meaning.proofs.CrateLemmas.{same_bytes}
-use Rattle.reg_tables_meaning.specs.Calls.{FindsCrate}
 use Rattle.reg_tables_meaning.specs.Changes.{told_of as told_where}
-use Rattle.reg_tables_meaning.specs.Entries.{entry_of_account}
-use Rattle.reg_tables_meaning.specs.Stands.{Holds, Ids}
 use Rattle.reg_access.specs.declared.granting.Standing.{Standing}
 use Rattle.reg_access.specs.declared.grants.Grant.{Grant}
-use Rattle.reg_access.specs.Grants.{AreCandidates, AreOwnersOf, IsStanding, Told, granted, is_free, told_by, told_of}
+use Rattle.reg_access.specs.Grants.{AreOwnersOf, IsStanding}
 use Rattle.reg_access.proofs.GrantLists.{all_told, pairs_told}
 
 found_has : {X : Type 0} (p : X → Bool) (xs : List X) (x : X) → find p xs ≡ Some x → p x ≡ true

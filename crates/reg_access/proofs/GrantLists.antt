@@ -1,22 +1,17 @@
 -- What a token may use, endpoint after endpoint, and what the tokens that may act are granted.
-use Rattle.std.proofs.Common.{◌≡◌, ◌==◌, ℕ, Bool, true, false, ◌&&◌, cond, List, [], ◌∷◌, ◌++◌, map, refl, sym, ap, ◌∙◌, append-nil}
-use Rattle.std.specs.List.{enumerate_from, filter, flat_map, list_any}
+use Rattle.reg_access.proofs.Words.{◌≡◌, ◌==◌, ℕ, Bool, true, false, ◌&&◌, cond, List, [], ◌∷◌, ◌++◌, map, refl, sym, ap, ◌∙◌, append-nil}
+use Rattle.reg_access.proofs.Words.{enumerate_from, filter, flat_map, list_any, flat_map-map, map-flat_map, covers, Endpoint, is_among}
+use Rattle.reg_access.proofs.Words.{Registry, Token, is_enabled, has_endpoint, maps_twice, same_filter, columns_with_account, TokenRow}
+use Rattle.reg_access.proofs.Words.{Told, granted, is_candidate, is_free, is_right, row_of_candidate, told_by}
 use Rattle.std.proofs.lemmas.List.{append_assoc}
-use Rattle.sqlite_trees.proofs.ListLemmas.{flat_map-map, map-flat_map}
-use Rattle.reg_names.specs.Patterns.{covers}
-use Rattle.reg_names.specs.declared.endpoint.Endpoint.{Endpoint}
 use Rattle.reg_names.specs.declared.endpoint.Endpoint.TheVariants as endpoint
-use Rattle.reg_model.specs.Crates.{is_among, owners as owners_in}
+use Rattle.reg_model.specs.Crates.{owners as owners_in}
 use Rattle.reg_model.specs.Grants.{all_endpoints, grants, has_right, is_granted}
-use Rattle.reg_model.specs.Registry.{Registry, Text as Words, Token, is_enabled}
-use Rattle.reg_model.specs.Rules.{has_endpoint}
-use Rattle.reg_tables_schema.proofs.Queries.{maps_twice, same_filter}
-use Rattle.reg_tables_sql.specs.Tokens.{columns_with_account}
+use Rattle.reg_model.specs.Registry.{Text as Words}
 use Rattle.reg_tables_sql.specs.declared.accounts.Account.{Account}
-use Rattle.reg_tables_sql.specs.declared.tokens.TokenRow.{TokenRow}
 use Rattle.reg_tables_meaning.proofs.AccountEntries.{heads, mark_is, number_is, tails, words_are}
 use Rattle.reg_tables_meaning.proofs.Selected.{each_part}
-use Rattle.reg_access.specs.Grants.{Told, granted, is_candidate, is_free, is_right, login_at, row_of_candidate, told_by}
+use Rattle.reg_access.specs.Grants.{login_at}
 
 one_more : {X Y : Type 0} (b : Bool) (f : X → Y) (x : X) (xs : List X) → map f (cond b (x ∷ xs) xs) ≡ cond b (f x ∷ []) [] ++ map f xs
 one_more true f x xs = refl

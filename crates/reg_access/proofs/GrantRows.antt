@@ -1,50 +1,37 @@
 -- The text on the tokens that may act answers, where the rows stand for a registry, just these tokens.
-use Rattle.std.proofs.Common.{◌≡◌, ◌==◌, ℕ, ◌+◌, ◌-◌, pos, Bool, true, false, ◌&&◌, cond, List, [], ◌∷◌, map, length, Option, Some, None, Less, get_or, inl, inr, refl, sym, ap, subst, ◌∙◌, append-nil}
-use Rattle.std.specs.Prelude.{is_some, unwrap_or}
-use Rattle.std.specs.List.{enumerate_from, filter, flat_map, list_all, list_any}
-use Rattle.std.specs.List.Sorted.{IsPermutation, IsSorted}
-use Rattle.std.specs.Option.{option_map}
-use Rattle.std.specs.Ordering.{is_lt}
-use Rattle.std.proofs.lemmas.Bool.{and_parts, eq-eqb}
-use Rattle.std.proofs.lemmas.List.Sorted.{IsPermutation-map, IsPermutation-trans}
-use Rattle.sqlite.specs.Collation.TheVariants.{Binary}
+use Rattle.reg_access.proofs.Words.{◌≡◌, ◌==◌, ℕ, ◌+◌, ◌-◌, pos, Bool, true, false, ◌&&◌, cond, List, [], ◌∷◌, map, length, Option, Some}
+use Rattle.reg_access.proofs.Words.{None, get_or, inl, inr, refl, sym, ap, subst, ◌∙◌, append-nil, unwrap_or, enumerate_from, filter}
+use Rattle.reg_access.proofs.Words.{flat_map, list_all, list_any, IsPermutation, option_map, is_lt, and_parts, eq-eqb, IsPermutation-map}
+use Rattle.reg_access.proofs.Words.{Binary, Row, column, overlay, IsSureAnswer, end, matches, or_nulls, Trees, Int, Text, equal}
+use Rattle.reg_access.proofs.Words.{flat_map-map, map-flat_map, canon, is_name, covers, Account, Registry, Token, with_id, is_token}
+use Rattle.reg_access.proofs.Words.{any_same, IsIn, one_row, and_true, equals_int, maps_twice, same_filter, mark, shows, at_place, one_at}
+use Rattle.reg_access.proofs.Words.{same_number, Holds, Ids, row_of_account, row_of_token, is_candidate, row_of_candidate, is_at_most}
+use Rattle.reg_access.proofs.Words.{is_below, is_scope_over, is_there, scopes_over}
+use Rattle.std.proofs.Common.{Less}
+use Rattle.std.specs.Prelude.{is_some}
+use Rattle.std.specs.List.Sorted.{IsSorted}
+use Rattle.std.proofs.lemmas.List.Sorted.{IsPermutation-trans}
 use Rattle.sqlite.specs.Ops.{binary}
-use Rattle.sqlite.specs.Order.{Row, column, value_cmp}
-use Rattle.sqlite.specs.Program.{overlay}
-use Rattle.sqlite.specs.Query.{IsSureAnswer, Output, end, matches, or_nulls, output, output_cmp}
+use Rattle.sqlite.specs.Order.{value_cmp}
+use Rattle.sqlite.specs.Query.{Output, output, output_cmp}
 use Rattle.sqlite.specs.Term.{holds}
-use Rattle.sqlite.specs.Tree.{Trees}
-use Rattle.sqlite.specs.declared.types.Value.TheVariants.{Int, Text}
 use Rattle.sqlite_exec.proofs.PartitionLemmas.{IsSorted-from_map}
 use Rattle.sqlite_exec.proofs.RowsLemmas.{IsSorted-map}
 use Rattle.sqlite_keyed.proofs.ListLemmas.{ascending-map, ascending-filter, ascending_from_map}
 use Rattle.sqlite_keyed.proofs.SortLemmas.{sorted_unique}
-use Rattle.sqlite_schema.specs.Rules.{equal}
 use Rattle.sqlite_trees.specs.Tree.{IsAscending}
-use Rattle.sqlite_trees.proofs.ListLemmas.{IsPermutation-flat_map, flat_map-map, map-flat_map}
-use Rattle.reg_names.specs.Names.{canon, is_name}
-use Rattle.reg_names.specs.Patterns.{covers}
+use Rattle.sqlite_trees.proofs.ListLemmas.{IsPermutation-flat_map}
 use Rattle.reg_names.specs.declared.endpoint.Endpoints.{Endpoints}
 use Rattle.reg_model.specs.Registry.{holds as any_such}
-use Rattle.reg_model.specs.Registry.{Account, Registry, Text as Words, Token, with_id}
-use Rattle.reg_model.specs.Sound.{is_token}
-use Rattle.reg_model.proofs.Lists.{any_same}
-use Rattle.reg_model.proofs.Members.{IsIn}
-use Rattle.reg_tables_schema.proofs.Permutes.{one_row}
-use Rattle.reg_tables_schema.proofs.Queries.{and_true, equals_int, maps_twice, same_filter}
+use Rattle.reg_model.specs.Registry.{Text as Words}
 use Rattle.reg_tables_schema.proofs.Sorted.{rises, then_equal, unmapped}
-use Rattle.reg_tables_schema.specs.Rows.{by_column, mark}
-use Rattle.reg_tables_schema.specs.Tests.{shows}
+use Rattle.reg_tables_schema.specs.Rows.{by_column}
 use Rattle.reg_tables_sql.specs.Accounts.{account_row}
 use Rattle.reg_tables_sql.specs.Tokens.{token_row}
 use Rattle.reg_tables_meaning.proofs.CrateNames.{kept}
-use Rattle.reg_tables_meaning.proofs.Numbered.{at_place, none_at, one_at}
+use Rattle.reg_tables_meaning.proofs.Numbered.{none_at}
 use Rattle.reg_tables_meaning.proofs.Selected.{column_total, places_rise}
-use Rattle.reg_tables_meaning.proofs.Standing.{same_number}
 use Rattle.reg_tables_meaning.proofs.Gates.{bit, counted_any, each_gate}
-use Rattle.reg_tables_meaning.specs.Stands.{Holds, Ids, row_of_account, row_of_token}
-use Rattle.reg_access.specs.Grants.{is_candidate, row_of_candidate}
-use Rattle.reg_access.specs.JoinRows.{is_at_most, is_below, is_scope_over, is_there, scopes_over}
 use Rattle.reg_access.proofs.Answered.{there_filtered}
 use Rattle.reg_access.proofs.GrantText.{after_token, from, query, scopes_counted, where_terms}
 use Rattle.reg_access.proofs.ScopeLaw.{all_at, covers_alike, the_token}

@@ -1,20 +1,12 @@
 -- What the text on the tokens that may act on a name means.
-use Rattle.std.proofs.Common.{ℕ, pos, List, [], ◌∷◌, codes, refl}
-use Rattle.sqlite.specs.Collation.TheVariants.{Binary}
+use Rattle.reg_access.proofs.Words.{ℕ, pos, List, [], ◌∷◌, codes, refl, Binary, Join, Query, inner, left, end, Term, col, op2, Int, Compare}
+use Rattle.reg_access.proofs.Words.{Eq, Le, Lt, ours, IsSelection, FIND_CANDIDATES_TEXT}
 use Rattle.sqlite.specs.Listing.{understood}
-use Rattle.sqlite.specs.Query.{Join, Query, inner, left, counted, end}
-use Rattle.sqlite.specs.Term.{Term, col, lit, op2}
-use Rattle.sqlite.specs.declared.types.Value.TheVariants.{Int}
-use Rattle.sqlite_sql.specs.declared.ops.BinaryOp.TheVariants.{Compare}
-use Rattle.sqlite_sql.specs.declared.ops.CompareOp.TheVariants.{Eq, Le, Lt}
+use Rattle.sqlite.specs.Query.{counted}
+use Rattle.sqlite.specs.Term.{lit}
 use Rattle.sqlite_tied.specs.Compute.{everything}
 use Rattle.sqlite_value.specs.Keys.{ascending}
-use Rattle.reg_tables_schema.specs.Schema.{ours}
-use Rattle.reg_tables_schema.proofs.Reading.{IsSelection}
 use Rattle.reg_tables_schema.proofs.Sorted.{in_order}
-
-abbrev pub grant_text : List ℕ
-grant_text = codes "SELECT t.id, t.account, t.live, t.publish_new, t.publish_update, t.yank, t.change_owners, a.login, a.enabled FROM tokens t LEFT JOIN accounts a ON a.id = t.account WHERE t.live = 1 AND a.enabled = 1 AND EXISTS (SELECT 1 FROM scopes s WHERE s.token = t.id AND s.low <= ?1 AND ?1 < s.high) ORDER BY t.id"
 
 abbrev pub eq : Term → Term → Term
 eq a b = op2 (Compare Eq Binary) a b
@@ -46,6 +38,6 @@ query = in_order from where_terms project ((col 1 0, ascending Binary) ∷ [])
 abbrev names : List (List ℕ)
 names = codes "id" ∷ codes "account" ∷ codes "live" ∷ codes "publish_new" ∷ codes "publish_update" ∷ codes "yank" ∷ codes "change_owners" ∷ codes "login" ∷ codes "enabled" ∷ []
 
-pub grant_is : IsSelection ours grant_text query names
+pub grant_is : IsSelection ours FIND_CANDIDATES_TEXT.now query names
 unfolding understood everything
 grant_is = record { command = refl; unlisted = refl; plain = (refl, refl) }

@@ -1,30 +1,20 @@
 -- Where the rows stand for a registry, the verdict of the rows is the policy's.
-use Rattle.std.proofs.Common.{◌≡◌, ◌&&◌, ◌||◌, ℕ, pos, List, Bool, true, false, not, cond, is_some, Option, Some, None, refl, sym, ap, subst, ◌∙◌}
-use Rattle.std.specs.Option.{option_map}
-use Rattle.std.specs.List.{list_any}
-use Rattle.std.specs.Str.{bytes_eq}
-use Rattle.std.proofs.lemmas.Bool.{and_parts}
-use Rattle.sqlite.specs.Order.{Row}
-use Rattle.sqlite.specs.declared.types.Value.{Value}
-use Rattle.sqlite.specs.declared.types.Value.TheVariants.{Int}
-use Rattle.sqlite.specs.Tree.{Trees}
-use Rattle.reg_names.specs.Names.{canon, is_name, is_path_of, last_part, name_at, name_of}
-use Rattle.reg_names.specs.Patterns.{covers}
+use Rattle.reg_access.proofs.Words.{◌≡◌, ◌&&◌, ◌||◌, ℕ, pos, List, Bool, true, false, not, cond, is_some, Option, Some, None, refl, sym, ap}
+use Rattle.reg_access.proofs.Words.{subst, ◌∙◌, option_map, list_any, bytes_eq, and_parts, Row, Value, Int, Trees, canon, is_name, name_of}
+use Rattle.reg_access.proofs.Words.{covers, Action, crate_of, Read, Index, Download, ListOwners, Publish, Yank, Unyank, AddOwners}
+use Rattle.reg_access.proofs.Words.{RemoveOwners, collides, first, is_among, is_reserved_always, owners, same_release, versions, Access}
+use Rattle.reg_access.proofs.Words.{lists, holds, token_of, Sound, is_some_find, tokens_with_accounts, Ids, StandsBy, crates_seen_by}
+use Rattle.reg_access.proofs.Words.{is_shown, is_there, last_rows, names_version, publishes, scopes_over, text_in, value_at}
+use Rattle.reg_access.proofs.Words.{versions_with_text, TellsCrate, TellsToken, facts_in, is_always_reserved, is_seen, join_rows}
+use Rattle.reg_access.proofs.Words.{needs_scope}
+use Rattle.reg_names.specs.Names.{is_path_of, last_part, name_at}
 use Rattle.reg_model.specs.declared.rule.Rule.TheVariants as rule
-use Rattle.reg_model.specs.Actions.{Action, crate_of, version_of}
-use Rattle.reg_model.specs.Actions.Action.{Read, Index, Download, ListOwners, Publish, Yank, Unyank, AddOwners, RemoveOwners}
-use Rattle.reg_model.specs.Crates.{collides, first, is_among, is_reserved, is_reserved_always, owners, same_release, sees, versions, visible}
-use Rattle.reg_model.specs.Facts.{Access, access_facts, lists, spelling}
+use Rattle.reg_model.specs.Actions.{version_of}
+use Rattle.reg_model.specs.Crates.{is_reserved, sees, visible}
+use Rattle.reg_model.specs.Facts.{access_facts, spelling}
 use Rattle.reg_model.specs.Registry as model
-use Rattle.reg_model.specs.Registry.{holds, token_of}
 use Rattle.reg_model.specs.Rules.{access}
-use Rattle.reg_model.specs.Sound.{Sound}
-use Rattle.reg_model.proofs.Lists.{is_some_find}
-use Rattle.reg_tables_sql.specs.Tokens.{tokens_with_accounts}
-use Rattle.reg_tables_meaning.specs.Stands.{Ids, StandsBy}
-use Rattle.reg_access.specs.JoinRows.{crates_seen_by, is_shown, is_there, last_rows, names_version, publishes, scopes_over, text_in, value_at, versions_with_text}
-use Rattle.reg_access.specs.Laws.{TellsCrate, TellsToken}
-use Rattle.reg_access.specs.Verdict.{facts_in, is_always_reserved, is_fit, is_seen, join_rows, needs_scope, verdict_in}
+use Rattle.reg_access.specs.Verdict.{is_fit, verdict_in}
 use Rattle.reg_access.proofs.CrateLaw.{tells_crate}
 use Rattle.reg_access.proofs.ReservedLaw.{tells_reserved}
 use Rattle.reg_access.proofs.ScopeLaw.{covers_alike}

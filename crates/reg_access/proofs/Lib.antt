@@ -1,4 +1,3 @@
-mod AccessOrder
 mod Admitting
 mod Answered
 mod Askers
@@ -25,3 +24,4 @@ mod TokenLaw
 pub mod VersionIds
 mod VersionLaw
 mod VersionTexts
+mod Words

@@ -1,11 +1,8 @@
 -- No row is joined on a NULL.
-use Rattle.std.proofs.Common.{◌≡◌, ℤ, List, [], ◌∷◌, true, false, refl}
-use Rattle.std.specs.List.{list_any}
-use Rattle.sqlite.specs.declared.types.Value.{Value}
-use Rattle.sqlite.specs.declared.types.Value.TheVariants.{Null, Int, Real, Text, Blob}
-use Rattle.sqlite.specs.Collation.TheVariants.{Binary}
-use Rattle.sqlite.specs.Ops.{binary, is_null}
-use Rattle.sqlite_schema.specs.Rules.{equal}
+use Rattle.reg_access.proofs.Words.{◌≡◌, List, [], ◌∷◌, true, false, refl, list_any, Value, Null, Int, Text, Blob, Binary, is_null, equal}
+use Rattle.std.proofs.Common.{ℤ}
+use Rattle.sqlite.specs.declared.types.Value.TheVariants.{Real}
+use Rattle.sqlite.specs.Ops.{binary}
 
 pub equals_null : (v : Value) → equal Binary v Null ≡ false
 unfolding binary

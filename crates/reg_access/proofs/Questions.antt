@@ -1,23 +1,12 @@
 -- Questions to the tables, one after another, and from a text to what it tells.
-use Rattle.std.proofs.Common.{◌≡◌, ◌==◌, ◌∙◌, [], Bool, false, not, ℕ, List, length, Ok, Err, Result, IsErr, Option, arith, refl, sym, ap, subst}
-use Rattle.std.specs.List.Sorted.{IsPermutation}
-use Rattle.sqlite.specs.Order.{Row}
-use Rattle.sqlite.specs.Program.{overlay}
-use Rattle.sqlite.specs.Query.{Query, IsSureAnswer}
-use Rattle.sqlite.specs.State.{HasCleanDisk, IsUnchanged, Shown}
-use Rattle.sqlite.specs.Tree.{Trees}
-use Rattle.sqlite_trees.specs.declared.store.Store.{Ghosts}
-use Rattle.reg_tables_schema.specs.Schema.{ours}
-use Rattle.reg_tables_schema.specs.Shown.{shown_of}
-use Rattle.reg_tables_schema.specs.States.{IsInside}
-use Rattle.reg_tables_schema.proofs.Reading.{IsSelection, selected}
+use Rattle.reg_access.proofs.Words.{◌≡◌, ◌==◌, ◌∙◌, [], Bool, false, not, ℕ, List, length, Ok, Err, Result, Option, arith, refl, sym, ap}
+use Rattle.reg_access.proofs.Words.{subst, IsPermutation, Row, overlay, Query, IsSureAnswer, HasCleanDisk, Shown, Trees, Ghosts, ours}
+use Rattle.reg_access.proofs.Words.{shown_of, IsInside, IsSelection, selected, StoreFault, Work, Heard, IsAtWork, IsCall, Unmoved}
+use Rattle.reg_access.proofs.Words.{has_failed, rows_seen, seen, Asks, is_there}
+use Rattle.std.proofs.Common.{IsErr}
+use Rattle.sqlite.specs.State.{IsUnchanged}
 use Rattle.reg_tables_schema.proofs.ShownRows.{shown_exactly}
 use Rattle.reg_tables_meaning.proofs.Readings.{same_then}
-use Rattle.reg_tables.specs.declared.work.StoreFault.{StoreFault}
-use Rattle.reg_tables.specs.declared.work.Work.{Work}
-use Rattle.reg_tables.specs.Works.{Heard, IsAtWork, IsCall, Unmoved, has_failed, rows_seen, seen}
-use Rattle.reg_tables.specs.Calling.{Asks}
-use Rattle.reg_access.specs.JoinRows.{is_there}
 use Rattle.reg_access.proofs.Answered.{there_found}
 use Rattle.reg_access.proofs.Calls.{called_err, called_ok, inside, itself_called, then_called}
 

@@ -1,38 +1,16 @@
 -- What was asked of a name makes up the readers of a restricted crate.
-use Rattle.std.proofs.Common.{◌≡◌, ℕ, Bool, true, false, cond, List, [], map, Option, Some, None, refl, sym, ap, ◌∙◌}
-use Rattle.std.specs.Prelude.{string_bytes}
+use Rattle.reg_access.proofs.Words.{◌≡◌, ℕ, true, false, cond, List, [], map, Option, Some, None, refl, sym, ap, ◌∙◌, string_bytes}
+use Rattle.reg_access.proofs.Words.{enumerate_from, filter, Trees, canon, exists, Account, not_true, true_not_false, maps_twice, Crate}
+use Rattle.reg_access.proofs.Words.{FindsCrate, entry_of_account, reader_of}
 use Rattle.std.specs.FinSet as finset
-use Rattle.std.specs.List.{enumerate_from, filter}
-use Rattle.sqlite.specs.Tree.{Trees}
-use Rattle.reg_names.specs.Names.{canon}
-use Rattle.reg_model.specs.Crates.{exists, is_restricted, readers as readers_in}
+use Rattle.reg_model.specs.Crates.{is_restricted, readers as readers_in}
 use Rattle.reg_model.specs.Grants.{who_reads}
-use Rattle.reg_model.specs.Registry.{Account, Text as Words}
-use Rattle.reg_model.proofs.Lists.{not_true, true_not_false}
-use Rattle.reg_tables_schema.proofs.Queries.{maps_twice}
+use Rattle.reg_model.specs.Registry.{Text as Words}
 use Rattle.reg_tables_sql.specs.declared.accounts.Account.{Account as Stored}
-use Rattle.reg_tables_sql.specs.declared.crates.Crate.{Crate}
-use Rattle.reg_tables_meaning.specs.Calls.{FindsCrate, ListsReaders, Tells, TellsRestricted}
+use Rattle.reg_tables_meaning.specs.Calls.{Tells}
 use Rattle.reg_tables_meaning.specs.Changes.{told_of as told_where}
-use Rattle.reg_tables_meaning.specs.Entries.{entry_of_account}
-use Rattle.reg_tables_meaning.specs.Stands.{spelling_at}
-use Rattle.reg_access.specs.Grants.{AreReaders, AreReadersAt, AreReadersOf, reader_of}
+use Rattle.reg_access.specs.Grants.{AreReaders, AreReadersOf}
 use Rattle.reg_access.proofs.GrantLaw.{first_canon, there_is}
-
--- whether it is restricted, and then its readers
-pub restricted_then : (id : ℕ) (db : Trees) (b : Bool) (list : List Stored) → TellsRestricted id db b → ListsReaders id db list → b ≡ true → AreReadersAt id db list
-restricted_then id db b list told lists is_so ids s h = by (spelling_at ids id) (sym is_so ∙ told ids s h) (lists ids s h)
-  where
-    by : (o : Option Words) → true ≡ told_where o false (is_restricted s) → map entry_of_account list ≡ told_where o [] (readers_in s) → map entry_of_account list ≡ told_where o [] (who_reads s)
-    by None is e = e
-    by (Some name) is e = e ∙ ap (λ r. cond r (readers_in s name) []) is
-
-pub open_then : (id : ℕ) (db : Trees) (b : Bool) → TellsRestricted id db b → b ≡ false → AreReadersAt id db []
-open_then id db b told not_so ids s h = by (spelling_at ids id) (sym not_so ∙ told ids s h)
-  where
-    by : (o : Option Words) → false ≡ told_where o false (is_restricted s) → map entry_of_account [] ≡ told_where o [] (who_reads s)
-    by None is = refl
-    by (Some name) is = ap (λ r. cond r (readers_in s name) []) is
 
 accounts_found : (db : Trees) (n : Words) (found : Option Crate) (list : List Stored) → FindsCrate (canon n) db found → AreReadersOf found db list → Tells (λ ids s. map entry_of_account list ≡ who_reads s n) db
 accounts_found db n None list finds none ids s h = ap (map entry_of_account) none ∙ ap (λ r. cond r (readers_in s n) []) (sym (not_true (is_restricted s n) (λ e. true_not_false (exists s n) (h.sound.restricted (canon n) e) (there_is ids s db h n None ((finds ids s h).0 n refl)))))

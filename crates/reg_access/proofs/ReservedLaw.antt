@@ -1,22 +1,10 @@
 -- Where the rows stand for a registry, a reserved name comes back where the administrator reserved it.
-use Rattle.std.proofs.Common.{◌≡◌, List, [], ◌∷◌, ℕ, map, Bool, refl, sym, ◌∙◌}
-use Rattle.std.specs.Prelude.{drop}
+use Rattle.reg_access.proofs.Words.{◌≡◌, List, [], ◌∷◌, ℕ, map, Bool, refl, sym, ◌∙◌, drop, bytes_eq, list_any-IsPermutation, Text, Binary}
+use Rattle.reg_access.proofs.Words.{Row, column, Trees, equal, any_same, list_any_map, shows, equals_text, Ids, StandsBy, same_text}
+use Rattle.reg_access.proofs.Words.{is_there, reserved_as}
 use Rattle.std.specs.FinSet as finset
-use Rattle.std.specs.Str.{bytes_eq}
-use Rattle.std.proofs.lemmas.List.Sorted.{list_any-IsPermutation}
-use Rattle.sqlite.specs.declared.types.Value.TheVariants.{Text}
-use Rattle.sqlite.specs.Collation.TheVariants.{Binary}
-use Rattle.sqlite.specs.Order.{Row, column}
-use Rattle.sqlite.specs.Tree.{Trees}
-use Rattle.sqlite_schema.specs.Rules.{equal}
 use Rattle.reg_model.specs.Registry as model
-use Rattle.reg_model.proofs.Lists.{any_same, list_any_map}
-use Rattle.reg_tables_schema.specs.Tests.{shows}
-use Rattle.reg_tables_schema.proofs.Queries.{equals_text}
 use Rattle.reg_tables_sql.specs.Reserved.{reserved_columns}
-use Rattle.reg_tables_meaning.specs.Stands.{Ids, StandsBy}
-use Rattle.reg_tables_meaning.proofs.AccountEntries.{same_text}
-use Rattle.reg_access.specs.JoinRows.{is_there, reserved_as}
 use Rattle.reg_access.proofs.Answered.{there_filtered}
 
 abbrev is_it : List ℕ → Row → Bool

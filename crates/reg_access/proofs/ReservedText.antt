@@ -1,19 +1,8 @@
 -- What the text on reserved names means.
-use Rattle.std.proofs.Common.{ℕ, List, [], ◌∷◌, map, true, ◌&&◌, ap, ◌∙◌}
-use Rattle.std.specs.List.Sorted.{IsPermutation}
-use Rattle.sqlite.specs.Collation.TheVariants.{Binary}
-use Rattle.sqlite.specs.Order.{Row, column}
-use Rattle.sqlite.specs.Program.{overlay}
-use Rattle.sqlite.specs.Query.{IsSureAnswer}
-use Rattle.sqlite.specs.Term.{col}
-use Rattle.sqlite.specs.Tree.{Trees}
-use Rattle.sqlite.specs.declared.types.Value.TheVariants.{Text}
-use Rattle.sqlite_schema.specs.Rules.{equal}
-use Rattle.reg_tables_schema.proofs.Queries.{and_true, same_filter}
-use Rattle.reg_tables_schema.proofs.Selections.{matched, of_table}
+use Rattle.reg_access.proofs.Words.{ℕ, List, [], ◌∷◌, map, true, ◌&&◌, ap, ◌∙◌, IsPermutation, Binary, Row, column, overlay, IsSureAnswer}
+use Rattle.reg_access.proofs.Words.{col, Trees, Text, equal, and_true, same_filter, matched, of_table, reserved_as}
 use Rattle.reg_tables_schema.proofs.TableMatches.{equals_first}
 use Rattle.reg_tables_sql.proofs.ReservedQueries.{by_canon_query}
-use Rattle.reg_access.specs.JoinRows.{reserved_as}
 
 pub reserved_gives : (canon : List ℕ) (db : Trees) (rows : List Row) → IsSureAnswer by_canon_query (overlay db []) (Text canon ∷ []) rows → IsPermutation (reserved_as canon db) rows
 reserved_gives canon db rows =

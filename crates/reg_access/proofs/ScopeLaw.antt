@@ -1,35 +1,24 @@
 -- Where the rows stand for a registry, a scope of a token comes back where a pattern of it covers the name.
-use Rattle.std.proofs.Common.{◌≡◌, ◌==◌, ℕ, zero, suc, ◌+◌, ◌-◌, pos, List, [], ◌∷◌, map, Bool, true, false, ◌&&◌, ◌||◌, Some, slice_get, refl, sym, ap, ap₂, ◌∙◌}
-use Rattle.std.specs.Prelude.{drop, length, is_some, nat_lt}
-use Rattle.std.specs.List.{enumerate_from, filter, flat_map, list_all, list_any}
-use Rattle.std.specs.Ordering.{is_le, is_lt}
-use Rattle.std.proofs.lemmas.Bool.{and_parts}
+use Rattle.reg_access.proofs.Words.{◌≡◌, ◌==◌, ℕ, zero, suc, ◌+◌, ◌-◌, pos, List, [], ◌∷◌, map, Bool, true, false, ◌&&◌, ◌||◌, Some, refl}
+use Rattle.reg_access.proofs.Words.{sym, ap, ap₂, ◌∙◌, drop, enumerate_from, filter, flat_map, list_all, list_any, is_lt, and_parts}
+use Rattle.reg_access.proofs.Words.{list_any-IsPermutation, Int, Text, Binary, Row, column, Trees, equal, canon, is_name, covers, with_id}
+use Rattle.reg_access.proofs.Words.{Sound, is_token, any_filter, any_same, list_any_map, not_true, true_not_false, equals_int, same_filter}
+use Rattle.reg_access.proofs.Words.{Ids, StandsBy, row_of_token, shows, at_place, one_at, one_row, same_number, is_at_most, is_below}
+use Rattle.reg_access.proofs.Words.{is_scope_over, is_there, scopes_over}
+use Rattle.std.proofs.Common.{slice_get}
+use Rattle.std.specs.Prelude.{length, is_some, nat_lt}
+use Rattle.std.specs.Ordering.{is_le}
 use Rattle.std.proofs.lemmas.List.{append-nil}
 use Rattle.std.proofs.lemmas.List.Folds.{list_any-append}
-use Rattle.std.proofs.lemmas.List.Sorted.{list_any-IsPermutation}
-use Rattle.sqlite.specs.declared.types.Value.TheVariants.{Int, Text}
-use Rattle.sqlite.specs.Collation.TheVariants.{Binary}
-use Rattle.sqlite.specs.Order.{Row, column}
 use Rattle.sqlite.specs.Ops.{binary, is_true, from_truth}
-use Rattle.sqlite.specs.Tree.{Trees}
-use Rattle.sqlite_schema.specs.Rules.{equal}
 use Rattle.sqlite_value.proofs.OrderLemmas.{value_cmp-Text}
-use Rattle.reg_names.specs.Names.{canon, is_name}
-use Rattle.reg_names.specs.Patterns.{covers, is_pattern}
+use Rattle.reg_names.specs.Patterns.{is_pattern}
 use Rattle.reg_names.specs.Ranges.{byte_order, is_within, range_of}
 use Rattle.reg_names.proofs.PatternFacts.{covers-Decides}
 use Rattle.reg_names.proofs.RangeFacts.{within-Covers}
 use Rattle.reg_model.specs.Registry as model
-use Rattle.reg_model.specs.Registry.{with_id}
-use Rattle.reg_model.specs.Sound.{Sound, has_some, is_token}
-use Rattle.reg_model.proofs.Lists.{any_filter, any_same, list_any_map, not_true, true_not_false}
-use Rattle.reg_tables_schema.proofs.Queries.{equals_int, same_filter}
-use Rattle.reg_tables_meaning.specs.Stands.{Ids, StandsBy, row_of_token, scope_of, scopes_of}
-use Rattle.reg_tables_schema.specs.Tests.{shows}
-use Rattle.reg_tables_meaning.proofs.Numbered.{at_place, one_at}
-use Rattle.reg_tables_schema.proofs.Permutes.{one_row}
-use Rattle.reg_tables_meaning.proofs.Standing.{same_number}
-use Rattle.reg_access.specs.JoinRows.{is_at_most, is_below, is_scope_over, is_there, scopes_over}
+use Rattle.reg_model.specs.Sound.{has_some}
+use Rattle.reg_tables_meaning.specs.Stands.{scope_of, scopes_of}
 use Rattle.reg_access.proofs.Answered.{there_filtered}
 use Rattle.reg_access.proofs.Somes.{same_some}
 

@@ -1,27 +1,12 @@
 -- What the text on the scopes of a token means.
-use Rattle.std.proofs.Common.{◌≡◌, ℕ, List, [], ◌∷◌, codes, map, Bool, true, false, ◌&&◌, refl, ap, subst}
-use Rattle.std.specs.List.Sorted.{IsPermutation}
-use Rattle.sqlite.specs.Collation.TheVariants.{Binary}
+use Rattle.reg_access.proofs.Words.{◌≡◌, ℕ, List, [], ◌∷◌, codes, map, Bool, true, false, ◌&&◌, refl, ap, subst, IsPermutation, Binary, Row}
+use Rattle.reg_access.proofs.Words.{column, overlay, Query, IsSureAnswer, inner, end, matches, Term, col, eval_all, op2, Trees, Value, Text}
+use Rattle.reg_access.proofs.Words.{equal, Compare, Eq, Le, Lt, ours, plain, answers, and_true, IsSelection, is_at_most, is_below}
+use Rattle.reg_access.proofs.Words.{is_scope_over, scopes_over}
 use Rattle.sqlite.specs.Listing.{understood}
-use Rattle.sqlite.specs.Order.{Row, column}
-use Rattle.sqlite.specs.Program.{overlay}
-use Rattle.sqlite.specs.Query.{Query, IsSureAnswer, inner, end, matches}
-use Rattle.sqlite.specs.Term.{Term, col, eval_all, op2}
-use Rattle.sqlite.specs.Tree.{Trees}
-use Rattle.sqlite.specs.declared.types.Value.{Value}
-use Rattle.sqlite.specs.declared.types.Value.TheVariants.{Text}
-use Rattle.sqlite_schema.specs.Rules.{equal}
-use Rattle.sqlite_sql.specs.declared.ops.BinaryOp.TheVariants.{Compare}
-use Rattle.sqlite_sql.specs.declared.ops.CompareOp.TheVariants.{Eq, Le, Lt}
 use Rattle.sqlite_tied.specs.Compute.{everything}
-use Rattle.reg_tables_schema.specs.Schema.{ours}
-use Rattle.reg_tables_schema.proofs.Queries.{plain, answers, and_true}
-use Rattle.reg_tables_schema.proofs.Reading.{IsSelection}
-use Rattle.reg_access.specs.JoinRows.{is_at_most, is_below, is_scope_over, scopes_over}
+use Rattle.reg_access.specs.declared.texts.TheConstants.{IS_COVERED_TEXT}
 use Rattle.reg_access.proofs.Joins.{joined_where}
-
-abbrev pub scopes_text : List ℕ
-scopes_text = codes "SELECT s.place FROM tokens t JOIN scopes s ON s.token = t.id WHERE t.id = ?1 AND s.low <= ?2 AND ?2 < s.high"
 
 abbrev scopes_filter : List Term
 scopes_filter = op2 (Compare Eq Binary) (col 2 1) (col 1 0) ∷ op2 (Compare Eq Binary) (col 1 0) (col 0 0) ∷ op2 (Compare Le Binary) (col 2 4) (col 0 1) ∷ op2 (Compare Lt Binary) (col 0 1) (col 2 5) ∷ []
@@ -29,7 +14,7 @@ scopes_filter = op2 (Compare Eq Binary) (col 2 1) (col 1 0) ∷ op2 (Compare Eq 
 abbrev pub scopes_query : Query
 scopes_query = plain (inner 3 (inner 5 end)) scopes_filter (col 2 2 ∷ [])
 
-pub scopes_is : IsSelection ours scopes_text scopes_query (codes "place" ∷ [])
+pub scopes_is : IsSelection ours IS_COVERED_TEXT.now scopes_query (codes "place" ∷ [])
 unfolding understood everything
 scopes_is = record { command = refl; unlisted = refl; plain = (refl, refl) }
 

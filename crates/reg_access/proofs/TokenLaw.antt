@@ -1,31 +1,21 @@
 -- Where the rows stand for a sound registry, the row of a digest is that of its token and of the token's account.
-use Rattle.std.proofs.Common.{◌≡◌, ℕ, ◌+◌, ◌-◌, pos, List, [], ◌∷◌, ◌++◌, map, Bool, true, false, cond, Option, Some, None, is_some, refl, sym, ap, subst, ◌∙◌}
-use Rattle.std.specs.List.{enumerate_from, filter, find, flat_map, AllByRecursion, IsDistinct}
-use Rattle.std.specs.Ordering.{is_eq, on}
-use Rattle.std.specs.Str.{bytes_eq}
-use Rattle.std.proofs.lemmas.Bool.{and_parts}
+use Rattle.reg_access.proofs.Words.{◌≡◌, ℕ, ◌+◌, ◌-◌, pos, List, [], ◌∷◌, ◌++◌, map, Bool, true, false, cond, Option, Some, None, is_some}
+use Rattle.reg_access.proofs.Words.{refl, sym, ap, subst, ◌∙◌, enumerate_from, filter, find, flat_map, AllByRecursion, on, bytes_eq}
+use Rattle.reg_access.proofs.Words.{and_parts, Int, Blob, Row, Trees, token_of, with_id, holds, is_enabled, Sound, is_token, not_true}
+use Rattle.reg_access.proofs.Words.{true_not_false, mark, equals_int, same_filter, Ids, StandsBy, row_of_account, row_of_token}
+use Rattle.reg_access.proofs.Words.{tokens_with_accounts, bytes_same, same_bytes, at_place, one_at, one_row, none_row, same_number}
+use Rattle.reg_access.proofs.Words.{is_mark_set, TellsToken}
+use Rattle.std.specs.List.{IsDistinct}
+use Rattle.std.specs.Ordering.{is_eq}
 use Rattle.std.proofs.lemmas.Map.Keys.{IsDistinct-head, IsDistinct-tail}
 use Rattle.std.proofs.lemmas.Map.Text.{is_eq-slice_cmp}
-use Rattle.sqlite.specs.declared.types.Value.TheVariants.{Int, Blob}
-use Rattle.sqlite.specs.Order.{Row, value_cmp}
-use Rattle.sqlite.specs.Tree.{Trees}
+use Rattle.sqlite.specs.Order.{value_cmp}
 use Rattle.sqlite_value.proofs.OrderLemmas.{value_cmp-Blob}
 use Rattle.reg_model.specs.Registry as model
-use Rattle.reg_model.specs.Registry.{token_of, with_id, holds, is_enabled}
 use Rattle.reg_model.specs.Facts.{endpoints_of}
-use Rattle.reg_model.specs.Sound.{Sound, is_token}
-use Rattle.reg_model.proofs.Lists.{not_true, true_not_false}
-use Rattle.reg_tables_schema.specs.Rows.{mark}
-use Rattle.reg_tables_schema.proofs.Queries.{equals_int, same_filter}
-use Rattle.reg_tables_meaning.specs.Stands.{Ids, StandsBy, row_of_account, row_of_token}
 use Rattle.reg_tables_schema.specs.Tests.{is_blob}
-use Rattle.reg_tables_sql.specs.Tokens.{is_of_token, token_and_account, tokens_with_accounts}
-use Rattle.reg_tables_meaning.proofs.CrateLemmas.{bytes_same, same_bytes}
-use Rattle.reg_tables_meaning.proofs.Numbered.{at_place, found_at, one_at}
-use Rattle.reg_tables_schema.proofs.Permutes.{one_row}
-use Rattle.reg_tables_meaning.proofs.Standing.{none_row, same_number}
-use Rattle.reg_access.specs.JoinRows.{is_mark_set}
-use Rattle.reg_access.specs.Laws.{TellsToken}
+use Rattle.reg_tables_sql.specs.Tokens.{is_of_token, token_and_account}
+use Rattle.reg_tables_meaning.proofs.Numbered.{found_at}
 use Rattle.reg_access.proofs.ScopeLaw.{all_at}
 use Rattle.reg_access.proofs.Somes.{same_some, the_some}
 

@@ -1,44 +1,27 @@
 -- The id that is found of a version is that of its publication.
-use Rattle.std.proofs.Common.{◌≡◌, ◌==◌, ◌⊎◌, inl, inr, ℕ, pos, List, [], ◌∷◌, map, Bool, true, false, ◌&&◌, cond, Option, Some, None, is_some, refl, sym, ap, ap₂, subst, ◌∙◌}
+use Rattle.reg_access.proofs.Words.{◌≡◌, ◌==◌, ◌⊎◌, inl, inr, ℕ, pos, List, [], ◌∷◌, map, Bool, true, false, ◌&&◌, cond, Option, Some, None}
+use Rattle.reg_access.proofs.Words.{is_some, refl, sym, ap, ap₂, subst, ◌∙◌, filter, find, IsPermutation, option_map, on, bytes_eq, eq-eqb}
+use Rattle.reg_access.proofs.Words.{eqb-true, IsPermutation-map, Binary, Row, column, Trees, Value, Int, Text, equal, canon, name_of}
+use Rattle.reg_access.proofs.Words.{release_key_of, Action, crate_of, Read, Index, Download, ListOwners, Publish, Yank, Unyank, AddOwners}
+use Rattle.reg_access.proofs.Words.{RemoveOwners, collides, versions, lists, Registry, true_not_false, IsIn, one_passes, number_columns}
+use Rattle.reg_access.proofs.Words.{shown_of, shows, equals_int, maps_twice, Ids, StandCrates, StandsBy, StoredCrate, StoredVersion}
+use Rattle.reg_access.proofs.Words.{row_of_version, same_crate, same_number, IsIdOf, version_named, crates_seen_by, is_there, is_version}
+use Rattle.reg_access.proofs.Words.{named_rows, value_at, versions_with_text}
 use Rattle.std.specs.Cmp.{eq_by_cmp_equiv, nat_cmp_total}
-use Rattle.std.specs.List.{IsDistinct, filter, find}
-use Rattle.std.specs.List.Sorted.{IsPermutation}
-use Rattle.std.specs.Option.{option_map}
-use Rattle.std.specs.Ordering.{eq_by_cmp, nat_cmp, on}
-use Rattle.std.specs.Str.{bytes_eq}
-use Rattle.std.proofs.lemmas.Bool.{eq-eqb, eqb-true}
-use Rattle.std.proofs.lemmas.List.Sorted.{IsPermutation-map}
+use Rattle.std.specs.List.{IsDistinct}
+use Rattle.std.specs.Ordering.{eq_by_cmp, nat_cmp}
 use Rattle.std.proofs.lemmas.Map.Keys.{IsDistinct-from_sorted}
-use Rattle.sqlite.specs.Collation.TheVariants.{Binary}
-use Rattle.sqlite.specs.Order.{Row, column}
-use Rattle.sqlite.specs.Tree.{Trees}
-use Rattle.sqlite.specs.declared.types.Value.{Value}
-use Rattle.sqlite.specs.declared.types.Value.TheVariants.{Int, Text}
-use Rattle.sqlite_schema.specs.Rules.{equal}
 use Rattle.sqlite_trees.proofs.ListLemmas.{IsPermutation-filter}
-use Rattle.reg_names.specs.Names.{canon, name_of}
-use Rattle.reg_versions.specs.Versions.{release_key_of}
-use Rattle.reg_model.specs.Actions.{Action, crate_of}
-use Rattle.reg_model.specs.Actions.Action.{Read, Index, Download, ListOwners, Publish, Yank, Unyank, AddOwners, RemoveOwners}
-use Rattle.reg_model.specs.Crates.{collides, version, versions}
-use Rattle.reg_model.specs.Facts.{lists}
-use Rattle.reg_model.specs.Registry.{Registry, Text as Bytes}
-use Rattle.reg_model.proofs.Lists.{none_found, true_not_false}
-use Rattle.reg_model.proofs.Members.{IsIn, distinct_from_map, one_passes}
-use Rattle.reg_tables_schema.specs.Rows.{number_columns}
-use Rattle.reg_tables_schema.specs.Shown.{shown_of}
-use Rattle.reg_tables_schema.specs.Tests.{shows}
+use Rattle.reg_model.specs.Crates.{version}
+use Rattle.reg_model.specs.Registry.{Text as Bytes}
+use Rattle.reg_model.proofs.Lists.{none_found}
+use Rattle.reg_model.proofs.Members.{distinct_from_map}
 use Rattle.reg_tables_schema.proofs.Permutes.{filter_map}
-use Rattle.reg_tables_schema.proofs.Queries.{equals_int, maps_twice}
 use Rattle.reg_tables_meaning.specs.Changes.{told_of}
 use Rattle.reg_tables_meaning.specs.Entries.{one_of}
-use Rattle.reg_tables_meaning.specs.Stands.{Ids, StandCrates, StandsBy, StoredCrate, StoredVersion, row_of_version}
-use Rattle.reg_tables_meaning.proofs.CrateLemmas.{same_crate}
 use Rattle.reg_tables_meaning.proofs.Selected.{short_same, shown_short}
-use Rattle.reg_tables_meaning.proofs.Standing.{same_number}
 use Rattle.reg_tables_meaning.proofs.VersionEntries.{same_passes}
-use Rattle.reg_access.specs.Admitted.{IsIdOf, publication_at, version_named}
-use Rattle.reg_access.specs.JoinRows.{crates_seen_by, is_there, is_version, named_rows, value_at, versions_with_text}
+use Rattle.reg_access.specs.Admitted.{publication_at}
 use Rattle.reg_access.proofs.CrateLaw.{IsFound, IsMissing, found_or_missing, id_shown, no_rows}
 use Rattle.reg_access.proofs.Somes.{same_some}
 use Rattle.reg_access.proofs.VersionLaw.{and_twice, is_of_text, no_version_of_null, tells_version}

@@ -1,29 +1,14 @@
 -- Where the rows stand for a registry, a version comes back where the crate has it.
-use Rattle.std.proofs.Common.{◌≡◌, ◌==◌, ◌⊎◌, inl, inr, ℕ, pos, List, [], ◌∷◌, map, Bool, true, false, ◌&&◌, is_some, refl, sym, ap, ap₂, ◌∙◌}
-use Rattle.std.specs.List.{list_any}
-use Rattle.std.specs.Str.{bytes_eq}
-use Rattle.std.proofs.lemmas.List.Sorted.{list_any-IsPermutation}
-use Rattle.sqlite.specs.declared.types.Value.{Value}
-use Rattle.sqlite.specs.declared.types.Value.TheVariants.{Null, Int, Text}
-use Rattle.sqlite.specs.Collation.TheVariants.{Binary}
-use Rattle.sqlite.specs.Order.{Row, column}
-use Rattle.sqlite.specs.Tree.{Trees}
-use Rattle.sqlite_schema.specs.Rules.{equal}
+use Rattle.reg_access.proofs.Words.{◌≡◌, ◌==◌, ◌⊎◌, inl, inr, ℕ, pos, List, [], ◌∷◌, map, Bool, true, false, ◌&&◌, is_some, refl, sym, ap}
+use Rattle.reg_access.proofs.Words.{ap₂, ◌∙◌, list_any, bytes_eq, list_any-IsPermutation, Value, Null, Int, Text, Binary, Row, column}
+use Rattle.reg_access.proofs.Words.{Trees, equal, canon, release_key_of, collides, same_release, versions, any_filter, any_same}
+use Rattle.reg_access.proofs.Words.{is_some_find, list_any_map, shows, equals_int, equals_text, Ids, StandCrates, StandsBy, StoredCrate}
+use Rattle.reg_access.proofs.Words.{StoredVersion, row_of_version, same_text, bytes_same, same_bytes, same_crate, same_number}
+use Rattle.reg_access.proofs.Words.{crates_seen_by, is_release, is_there, is_version, value_at, versions_of_release, versions_with_text}
 use Rattle.sqlite_keyed.proofs.SliceLemmas.{list_any_same}
-use Rattle.reg_names.specs.Names.{canon}
-use Rattle.reg_versions.specs.Versions.{release_key_of}
 use Rattle.reg_model.specs.Registry as model
-use Rattle.reg_model.specs.Registry.{Publication}
-use Rattle.reg_model.specs.Crates.{collides, same_release, versions}
-use Rattle.reg_model.proofs.Lists.{any_filter, any_same, is_some_find, list_any_map, none_both}
+use Rattle.reg_model.proofs.Lists.{none_both}
 use Rattle.reg_model.proofs.Members.{in_each}
-use Rattle.reg_tables_schema.specs.Tests.{shows}
-use Rattle.reg_tables_schema.proofs.Queries.{equals_int, equals_text}
-use Rattle.reg_tables_meaning.specs.Stands.{Ids, StandCrates, StandsBy, StoredCrate, StoredVersion, row_of_version}
-use Rattle.reg_tables_meaning.proofs.AccountEntries.{same_text}
-use Rattle.reg_tables_meaning.proofs.CrateLemmas.{bytes_same, same_bytes, same_crate}
-use Rattle.reg_tables_meaning.proofs.Standing.{same_number}
-use Rattle.reg_access.specs.JoinRows.{crates_seen_by, is_release, is_there, is_version, value_at, versions_of_release, versions_with_text}
 use Rattle.reg_access.proofs.Answered.{there_filtered}
 use Rattle.reg_access.proofs.CrateLaw.{IsFound, IsMissing, found_or_missing, id_shown, no_rows}
 use Rattle.reg_access.proofs.Nulls.{equals_null, none_any}

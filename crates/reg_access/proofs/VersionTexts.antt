@@ -1,25 +1,11 @@
 -- What the texts on the versions of a crate mean.
-use Rattle.std.proofs.Common.{◌≡◌, ℕ, List, [], ◌∷◌, codes, map, Bool, true, false, ◌&&◌, refl, ap, ◌∙◌}
-use Rattle.std.specs.List.Sorted.{IsPermutation}
-use Rattle.sqlite.specs.Collation.TheVariants.{Binary}
+use Rattle.reg_access.proofs.Words.{◌≡◌, ℕ, List, [], ◌∷◌, codes, map, Bool, true, false, ◌&&◌, refl, ap, ◌∙◌, IsPermutation, Binary, Row}
+use Rattle.reg_access.proofs.Words.{column, overlay, Query, IsSureAnswer, inner, end, Term, col, op2, Trees, Value, Text, equal, Compare}
+use Rattle.reg_access.proofs.Words.{Eq, release_key_of, ours, plain, and_true, same_filter, IsSelection, matched, of_table, is_release}
+use Rattle.reg_access.proofs.Words.{is_version, versions_of_release, versions_with_text}
 use Rattle.sqlite.specs.Listing.{understood}
-use Rattle.sqlite.specs.Order.{Row, column}
-use Rattle.sqlite.specs.Program.{overlay}
-use Rattle.sqlite.specs.Query.{Query, IsSureAnswer, inner, end}
-use Rattle.sqlite.specs.Term.{Term, col, op2}
-use Rattle.sqlite.specs.Tree.{Trees}
-use Rattle.sqlite.specs.declared.types.Value.{Value}
-use Rattle.sqlite.specs.declared.types.Value.TheVariants.{Text}
-use Rattle.sqlite_schema.specs.Rules.{equal}
-use Rattle.sqlite_sql.specs.declared.ops.BinaryOp.TheVariants.{Compare}
-use Rattle.sqlite_sql.specs.declared.ops.CompareOp.TheVariants.{Eq}
 use Rattle.sqlite_tied.specs.Compute.{everything}
-use Rattle.reg_versions.specs.Versions.{release_key_of}
-use Rattle.reg_tables_schema.specs.Schema.{ours}
-use Rattle.reg_tables_schema.proofs.Queries.{plain, and_true, same_filter}
-use Rattle.reg_tables_schema.proofs.Reading.{IsSelection}
-use Rattle.reg_tables_schema.proofs.Selections.{matched, of_table}
-use Rattle.reg_access.specs.JoinRows.{is_release, is_version, versions_of_release, versions_with_text}
+use Rattle.reg_access.specs.declared.texts.TheConstants.{FIND_VERSION_TEXT, HAS_RELEASE_TEXT}
 
 abbrev release_filter : List Term
 release_filter = op2 (Compare Eq Binary) (col 1 2) (col 0 0) ∷ op2 (Compare Eq Binary) (col 1 4) (col 0 1) ∷ []
@@ -27,10 +13,7 @@ release_filter = op2 (Compare Eq Binary) (col 1 2) (col 0 0) ∷ op2 (Compare Eq
 abbrev pub release_query : Query
 release_query = plain (inner 11 end) release_filter (col 1 0 ∷ [])
 
-abbrev pub release_text : List ℕ
-release_text = codes "SELECT id FROM versions WHERE crate = ?1 AND release = ?2"
-
-pub release_is : IsSelection ours release_text release_query (codes "id" ∷ [])
+pub release_is : IsSelection ours HAS_RELEASE_TEXT.now release_query (codes "id" ∷ [])
 unfolding understood everything
 release_is = record { command = refl; unlisted = refl; plain = (refl, refl) }
 
@@ -52,10 +35,7 @@ version_filter = op2 (Compare Eq Binary) (col 1 2) (col 0 0) ∷ op2 (Compare Eq
 abbrev pub version_query : Query
 version_query = plain (inner 11 end) version_filter (col 1 0 ∷ [])
 
-abbrev pub version_text : List ℕ
-version_text = codes "SELECT id FROM versions WHERE crate = ?1 AND release = ?2 AND vers = ?3"
-
-pub version_is : IsSelection ours version_text version_query (codes "id" ∷ [])
+pub version_is : IsSelection ours FIND_VERSION_TEXT.now version_query (codes "id" ∷ [])
 unfolding understood everything
 version_is = record { command = refl; unlisted = refl; plain = (refl, refl) }
 

@@ -5,12 +5,12 @@ ghost use Rattle.std.specs.Option.{option_map};
 ghost use Rattle.reg_policy.specs.Views.{action_of};
 ghost use Rattle.reg_access.specs.Admitted.{IsAdmitted, decision_in, shown_crate};
 
-use crate::deciding::first_broken;
+use crate::facts::facts_of;
 use crate::finding::CrateFacts;
 use crate::found::CrateRow;
 use reg_model::Rule;
 use reg_names::CrateName;
-use reg_policy::{Action, Decision};
+use reg_policy::{Action, Decision, first_broken};
 use reg_tables::TokenRow;
 
 /// A crate that an action names.
@@ -94,7 +94,7 @@ fn crate_of_row(row: Option<CrateRow>) -> Option<FoundCrate>
 pub(crate) fn admission_of(token: TokenRow, found: CrateFacts, action: &Action) -> Admission
     ensures { IsAdmitted (action_of action.now) token found result }
 {
-    match first_broken(&token, &found, action) {
+    match first_broken(&facts_of(&token, &found, action), action) {
         Decision::Denied(rule) => Admission::Denied(rule),
         Decision::Allowed => Admission::Allowed(Caller {
             token: token.id,

@@ -14,6 +14,12 @@ use reg_tables::{Account, Crate, Result, TokenRow, Work};
 use sqlite::{Alter, params};
 use std::alloc::Global;
 
+const FIND_CANDIDATES_TEXT: &str =
+    "SELECT t.id, t.account, t.live, t.publish_new, t.publish_update, t.yank, t.change_owners, \
+    a.login, a.enabled FROM tokens t LEFT JOIN accounts a ON a.id = t.account WHERE t.live = 1 AND \
+    a.enabled = 1 AND EXISTS (SELECT 1 FROM scopes s WHERE s.token = t.id AND s.low <= ?1 AND ?1 < \
+    s.high) ORDER BY t.id";
+
 /// The live tokens of enabled accounts that have a scope over the name, by id.
 pub(crate) fn find_candidates<S: Alter>(
     alloc: Global,
@@ -24,14 +30,7 @@ pub(crate) fn find_candidates<S: Alter>(
     ensures { Asks S.Store work.old work.new result
         (λ db list. AreCandidates canon.now db list.items) }
 {
-    work.select_list(
-        alloc,
-        "SELECT t.id, t.account, t.live, t.publish_new, t.publish_update, t.yank, \
-        t.change_owners, a.login, a.enabled FROM tokens t LEFT JOIN accounts a ON a.id = \
-        t.account WHERE t.live = 1 AND a.enabled = 1 AND EXISTS (SELECT 1 FROM scopes s WHERE \
-        s.token = t.id AND s.low <= ?1 AND ?1 < s.high) ORDER BY t.id",
-        params![canon.as_str()],
-    )
+    work.select_list(alloc, FIND_CANDIDATES_TEXT, params![canon.as_str()])
 }
 
 /// What a name says about tokens: who owns the crate, and whether a new one is impossible.

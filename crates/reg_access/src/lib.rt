@@ -15,7 +15,7 @@
 
 mod access;
 mod admission;
-mod deciding;
+mod facts;
 mod finding;
 mod found;
 mod granting;

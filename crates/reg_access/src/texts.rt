@@ -30,6 +30,10 @@ pub(crate) fn find_token<S: Alter>(
     work.select_one(BY_DIGEST_TEXT, params![digest.as_slice()])
 }
 
+const IS_COVERED_TEXT: &str =
+    "SELECT s.place FROM tokens t JOIN scopes s ON s.token = t.id WHERE t.id = ?1 AND s.low <= ?2 \
+    AND ?2 < s.high";
+
 /// Whether a scope of the token covers the canonical text.
 pub(crate) fn is_covered<S: Alter>(
     work: &mut Work<'_, S>,
@@ -40,12 +44,13 @@ pub(crate) fn is_covered<S: Alter>(
     ensures { Asks S.Store work.old work.new result
         (λ db b. is_there (scopes_over (Int (pos token)) canon.now db) ≡ b) }
 {
-    work.has_row(
-        "SELECT s.place FROM tokens t JOIN scopes s ON s.token = t.id WHERE t.id = ?1 AND \
-        s.low <= ?2 AND ?2 < s.high",
-        params![token, canon.as_str()],
-    )
+    work.has_row(IS_COVERED_TEXT, params![token, canon.as_str()])
 }
+
+const FIND_CRATE_TEXT: &str =
+    "SELECT c.id, c.name, o.account, r.crate, d.account FROM crates c LEFT JOIN owners o ON \
+    o.crate = c.id AND o.account = ?2 LEFT JOIN restricted r ON r.crate = c.id LEFT JOIN readers d \
+    ON d.crate = c.id AND d.account = ?2 WHERE c.canon = ?1";
 
 /// The crate with this canonical text, and what the account is to it.
 pub(crate) fn find_crate<S: Alter>(
@@ -57,13 +62,11 @@ pub(crate) fn find_crate<S: Alter>(
     ensures { Asks S.Store work.old work.new result
         (λ db found. crates_seen_by canon.now (Int (pos account)) db ≡ rows_of found) }
 {
-    work.select_one(
-        "SELECT c.id, c.name, o.account, r.crate, d.account FROM crates c LEFT JOIN owners o ON \
-        o.crate = c.id AND o.account = ?2 LEFT JOIN restricted r ON r.crate = c.id LEFT JOIN \
-        readers d ON d.crate = c.id AND d.account = ?2 WHERE c.canon = ?1",
-        params![canon.as_str(), account],
-    )
+    work.select_one(FIND_CRATE_TEXT, params![canon.as_str(), account])
 }
+
+const FIND_VERSION_TEXT: &str =
+    "SELECT id FROM versions WHERE crate = ?1 AND release = ?2 AND vers = ?3";
 
 /// The id of the crate's version with this text, if it has one.
 pub(crate) fn find_version<S: Alter>(
@@ -76,10 +79,12 @@ pub(crate) fn find_version<S: Alter>(
         versions_with_text (Int (pos of_crate)) text.now db ≡ shown_of number_columns found) }
 {
     work.select_one(
-        "SELECT id FROM versions WHERE crate = ?1 AND release = ?2 AND vers = ?3",
+        FIND_VERSION_TEXT,
         params![of_crate, release_key(text), text],
     )
 }
+
+const HAS_RELEASE_TEXT: &str = "SELECT id FROM versions WHERE crate = ?1 AND release = ?2";
 
 /// Whether the crate has a version of this text's release.
 pub(crate) fn has_release<S: Alter>(
@@ -91,10 +96,7 @@ pub(crate) fn has_release<S: Alter>(
     ensures { Asks S.Store work.old work.new result
         (λ db b. is_there (versions_of_release (Int (pos of_crate)) text.now db) ≡ b) }
 {
-    work.has_row(
-        "SELECT id FROM versions WHERE crate = ?1 AND release = ?2",
-        params![of_crate, release_key(text)],
-    )
+    work.has_row(HAS_RELEASE_TEXT, params![of_crate, release_key(text)])
 }
 
 /// Whether the administrator reserved the canonical text.

@@ -1,37 +1,19 @@
 -- The entries of lists, and the JSON values that tell them.
-use Rattle.std.proofs.Common.{◌≡◌, List, [], ◌∷◌, Option, Some, None, map, false, refl, ap}
-use Rattle.serde_json.specs.Find.{as_str}
+use Rattle.std.proofs.Common.{◌≡◌, List, [], ◌∷◌, Option, Some, None, map, false, refl}
 use Rattle.serde_json.specs.View.{items_of}
 use Rattle.serde_json.specs.Written.{has_float, items_have_float}
 use Rattle.reg_line.specs.Line.{text_or_null}
 use Rattle.reg_model.specs.Registry.{Text}
 use Rattle.reg_model.specs.Events.{FoundCrates, Hit, OwnerEntry}
 use Rattle.reg_api_replies.specs.Bodies.{found_data, hit_data, owner_data, owners_data}
-use Rattle.reg_api_replies.specs.Entries.{hit_in, owner_in}
 
 -- what an entry's value tells is the entry
-
-text_back : (t : Option Text) → as_str (text_or_null t) ≡ t
-text_back None = refl
-text_back (Some t) = refl
-
-pub owner_back : (o : OwnerEntry) → owner_in (owner_data o) ≡ o
-owner_back o = ap (λ name. record o { name = name }) (text_back o.name)
-
-pub hit_back : (h : Hit) → hit_in (hit_data h) ≡ h
-hit_back h = ap (λ d. record h { description = d }) (text_back h.description)
 
 -- no entry's value has a float
 
 text-no_float : (t : Option Text) → has_float (text_or_null t) ≡ false
 text-no_float None = refl
 text-no_float (Some t) = refl
-
-owner-no_float : (o : OwnerEntry) → has_float (owner_data o) ≡ false
-owner-no_float o = rw (text-no_float o.name)
-
-hit-no_float : (h : Hit) → has_float (hit_data h) ≡ false
-hit-no_float h = rw (text-no_float h.description)
 
 users-no_float : (os : List OwnerEntry) → items_have_float (items_of (map owner_data os)) ≡ false
 users-no_float [] = refl

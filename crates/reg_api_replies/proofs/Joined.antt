@@ -1,5 +1,5 @@
 -- Texts that are sent one after another.
-use Rattle.std.proofs.Common.{subst, [], refl, append-nil, ◌≡◌, ℕ, zero, suc, ◌+◌, ◌-◌, ◌<◌, List, ◌++◌, length, take, drop, Option, Result, Ok, Err, sym, ap, ◌∙◌, append_assoc, take-append-drop, length-append, arith}
+use Rattle.std.proofs.Common.{subst, [], refl, append-nil, ◌≡◌, ℕ, zero, suc, ◌+◌, ◌-◌, ◌<◌, List, ◌++◌, length, Option, Result, Ok, Err, sym, ap, ◌∙◌, append_assoc, length-append, arith}
 use Rattle.std.specs.Io.KnownBytes.{Appends}
 use Rattle.std.proofs.KnownBytes.{Appends-nil, Appends-trans}
 use Rattle.reg_body.specs.declared.bytes.SendFault.{SendFault}
@@ -94,16 +94,6 @@ sends_nothing writes s = record {
   calls = omega arith;
   failures = refl;
 }
-
-pub piles_both : (waiting text : List ℕ) (writes : ℕ) (s : Sink)
-    → Piles waiting text (waiting ++ text) writes 0 s s
-piles_both waiting text writes s =
-    record { sent = []; whole = refl; sends = sends_nothing writes s }
-
-pub piles_second : (waiting text : List ℕ) (writes used : ℕ) (s t : Sink)
-    → SendsAll waiting writes used s t → Piles waiting text text writes used s t
-piles_second waiting text writes used s t h =
-    record { sent = waiting; whole = refl; sends = h }
 
 pub piles_none : (waiting text : List ℕ) (writes used more : ℕ) (s t u : Sink)
     → SendsAll waiting writes used s t → SendsAll text (writes - used) more t u

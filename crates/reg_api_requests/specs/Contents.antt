@@ -1,7 +1,6 @@
 -- What the parts that are read of a request ask for.
-use Rattle.std.specs.Prelude.{[], map, string_bytes}
+use Rattle.std.specs.Prelude.{map, string_bytes}
 use Rattle.reg_model.specs.Events as events
-use Rattle.reg_model.specs.Registry.{Text}
 use Rattle.reg_model.specs.Events.Reading.{Config as to_config, Search as to_search}
 use Rattle.reg_model.specs.Events.Asked.{Faulty as to_faulty, Read as to_read, Index as to_index, Download as to_download, ListOwners as to_list, Publish as to_publish, Yank as to_yank, Unyank as to_unyank, AddOwners as to_add, RemoveOwners as to_remove}
 use Rattle.reg_api_requests.specs.Publish.{release_view}
@@ -20,8 +19,3 @@ asked_in (Yank n v) = to_yank n.now v.now
 asked_in (Unyank n v) = to_unyank n.now v.now
 asked_in (AddOwners n logins) = to_add n.now (map string_bytes logins.items)
 asked_in (RemoveOwners n logins) = to_remove n.now (map string_bytes logins.items)
-
--- the path of the index file that is asked for, empty for other requests
-abbrev pub path_in : events.Asked → Text
-path_in (to_index path) = path
-path_in _ = []

@@ -5,7 +5,7 @@ ghost use Rattle.std.specs.Option.{option_map};
 ghost use Rattle.reg_model.specs.Actions.{logins_of};
 ghost use Rattle.reg_model.specs.Events.{action_of};
 ghost use Rattle.reg_policy.specs.Events.{asked_of, publication_of};
-ghost use Rattle.reg_api_requests.specs.Contents.{asked_in, path_in};
+ghost use Rattle.reg_api_requests.specs.Contents.{asked_in};
 ghost use Rattle.reg_api_requests.specs.Publish.{release_view};
 
 use crate::publish::ReadPublication;
@@ -73,16 +73,6 @@ fn publication<'b>(release: &'b ReadPublication<'b>) -> NewPublication<'b>
         stem: release.stem.as_slice(),
         digest: &release.digest,
         archive: release.archive,
-    }
-}
-
-/// The path of the index file that it asks for, empty for other requests.
-pub(crate) fn index_path<'b>(content: &'b Content<'b>) -> &'b str
-    ensures { result.now ≡ path_in (asked_in content.now) }
-{
-    match content {
-        Content::Index(path) => path,
-        _ => "",
     }
 }
 

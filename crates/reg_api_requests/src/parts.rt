@@ -5,10 +5,10 @@ ghost use Rattle.std.specs.Option.{option_map};
 ghost use Rattle.reg_model.specs.Actions.{logins_of};
 ghost use Rattle.reg_model.specs.Events.{action_of};
 ghost use Rattle.reg_policy.specs.Events.{asked_of};
-ghost use Rattle.reg_api_requests.specs.Contents.{asked_in, path_in};
+ghost use Rattle.reg_api_requests.specs.Contents.{asked_in};
 ghost use Rattle.reg_api_requests.specs.Views.{Request};
 
-use crate::content::{Content, index_path, lend, logins};
+use crate::content::{Content, lend, logins};
 use reg_line::Digest;
 use reg_policy::Asked;
 use std::alloc::{AllocError, Global};
@@ -42,13 +42,6 @@ impl<'a> Parts<'a> {
             ≡ logins_of (action_of self.now.asked)) }
     {
         logins(alloc, &self.content)
-    }
-
-    /// The path of the index file that is asked for; empty for other requests.
-    pub fn index_path(&self) -> &str
-        ensures { result.now ≡ path_in self.now.asked }
-    {
-        index_path(&self.content)
     }
 
     /// What is asked for. It is given the request's own logins, since it takes no memory.

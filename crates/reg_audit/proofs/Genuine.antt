@@ -1,12 +1,9 @@
 -- A version that was judged, as the definition says it.
-use Rattle.std.proofs.Common.{◌≡◌, length, Result, Ok, Err, IfOk, Bool, true, Some, sym, subst, ◌∙◌}
-use Rattle.std.specs.Prelude.{◌↔◌, IsTrue, string_bytes}
-use Rattle.reg_versions.specs.Versions.{is_version, release_key_of}
-use Rattle.reg_line.specs.StemCheck.{IsStemOf}
-use Rattle.reg_tables_rows.specs.declared.all_rows.AllRows.{AllRows}
+use Rattle.reg_audit.proofs.Words.{◌≡◌, length, Result, Ok, Err, IfOk, Bool, true, Some, sym, subst, ◌∙◌, ◌↔◌, IsTrue, string_bytes}
+use Rattle.reg_audit.proofs.Words.{is_version, release_key_of, IsStemOf, AllRows, IsGenuine}
 use Rattle.reg_tables_sql.specs.declared.crates.Crate.{Crate}
 use Rattle.reg_tables_sql.specs.declared.versions.Version.{Version}
-use Rattle.reg_audit.specs.Checks.{IsGenuine, crate_of}
+use Rattle.reg_audit.specs.Checks.{crate_of}
 
 module _ (it : AllRows) (v : Version) (o : Crate) where
   same_crate : (g : IsGenuine it v) → crate_of it v.crate_id ≡ Some o → g.of_crate ≡ o

@@ -5,3 +5,4 @@ pub mod SameIds
 pub mod Scopes
 pub mod Sets
 pub mod Stems
+mod Words

@@ -1,10 +1,7 @@
 -- The first check of a list that fails.
-use Rattle.std.proofs.Common.{◌≡◌, List, [], ◌∷◌, ◌++◌, Option, None, Some, true, inl, inr}
-use Rattle.std.specs.Prelude.{is_some}
+use Rattle.reg_audit.proofs.Words.{◌≡◌, List, [], ◌∷◌, ◌++◌, Option, None, Some, true, inl, inr, is_some, AllRows, IsFirstOf}
 use Rattle.sqlite.specs.Tree.{Trees}
-use Rattle.reg_tables_rows.specs.declared.all_rows.AllRows.{AllRows}
 use Rattle.reg_audit.specs.declared.check.Check.{Check}
-use Rattle.reg_audit.specs.Checks.{IsFirstOf}
 
 pub first_in : (cs ds : List Check) (it : AllRows) (db : Trees) (c : Check) → IsFirstOf cs it db (Some c) → IsFirstOf (cs ++ ds) it db (Some c)
 first_in [] ds it db c h = absurd cc

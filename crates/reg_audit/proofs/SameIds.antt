@@ -1,11 +1,9 @@
 -- What two lists of records have in common, and what each of a list passes.
-use Rattle.std.proofs.Common.{◌≡◌, ◌<◌, ◌≤◌, ◌+◌, ℕ, List, map, take, length, get_or, Bool, true, false, refl, sym, ap, ◌∙◌}
-use Rattle.std.specs.Prelude.{◌&&◌}
-use Rattle.std.specs.List.{list_all}
-use Rattle.std.specs.Str.{bytes_eq}
+use Rattle.reg_audit.proofs.Words.{◌≡◌, ◌<◌, ◌+◌, ℕ, List, map, take, length, get_or, Bool, true, false, refl, sym, ap, ◌∙◌, ◌&&◌, list_all}
+use Rattle.reg_audit.proofs.Words.{bytes_eq, bytes_eq-Decides}
+use Rattle.std.proofs.Common.{◌≤◌}
 use Rattle.std.proofs.lemmas.List.{get_or-map, take_all}
 use Rattle.std.proofs.lemmas.List.Folds.{list_all_more}
-use Rattle.std.proofs.lemmas.Slice.Eq.{bytes_eq-Decides}
 
 -- the ids of two lists of records
 module _ {X Y : Type 0} (f : X → ℕ) (g : Y → ℕ) (xs : List X) (ys : List Y) where

@@ -1,8 +1,6 @@
 -- The check of a scope against its pattern.
-use Rattle.std.proofs.Common.{◌≡◌, ℕ, List, Bool, true, false, Some, None, ap, ◌∙◌}
-use Rattle.std.specs.Prelude.{◌&&◌, if◌then◌else◌}
-use Rattle.std.specs.Str.{bytes_eq}
-use Rattle.reg_names.specs.Patterns.{is_pattern, pattern_of}
+use Rattle.reg_audit.proofs.Words.{◌≡◌, ℕ, List, Bool, true, false, Some, None, ap, ◌∙◌, ◌&&◌, if◌then◌else◌, bytes_eq, pattern_of}
+use Rattle.reg_names.specs.Patterns.{is_pattern}
 use Rattle.reg_names.specs.Ranges.{Range, range_of}
 
 pub in_range_of : (low high text p : List ℕ) (r : Range) → pattern_of text ≡ Some p → r ≡ range_of p

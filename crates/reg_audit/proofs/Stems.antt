@@ -1,7 +1,5 @@
 -- The check of a stem, with words and a digest that were read from a row.
-use Rattle.std.proofs.Common.{◌≡◌, ℕ, List, length, Result, Ok, Err, IfOk, Bool, sym, subst}
-use Rattle.std.specs.Prelude.{◌↔◌, IsTrue}
-use Rattle.reg_line.specs.StemCheck.{IsStemOf}
+use Rattle.reg_audit.proofs.Words.{◌≡◌, ℕ, List, length, Result, Ok, Err, IfOk, Bool, sym, subst, ◌↔◌, IsTrue, IsStemOf}
 
 module _ (s n v d t m w e : List ℕ) where
   same_stem : s ≡ t → n ≡ m → v ≡ w → d ≡ e → IsStemOf s n v d → IsStemOf t m w e

@@ -1,12 +1,9 @@
 -- Accounts that pass stand for accounts.
+use Rattle.reg_audit_law.proofs.Words.{list_all-map, account_columns, entry_of_account, row_of_account, account_from, registry_from}
+use Rattle.reg_audit_law.proofs.Words.{IsKeyed}
 use Rattle.reg_audit_law.proofs.Common.{◌≡◌, [], ◌∷◌, ◌∙◌, all_weaker, AllRows, ap, by_column, column, IsPermutation, list_all, map, maps_twice, Row, shows, subst, sym, Trees, true}
-use Rattle.std.proofs.lemmas.List.Folds.{list_all-map}
 use Rattle.reg_model.specs.Sound as sound
-use Rattle.reg_tables_sql.specs.Accounts.{account_columns}
-use Rattle.reg_tables_meaning.specs.Entries.{entry_of_account}
-use Rattle.reg_tables_meaning.specs.Stands.{StandAccounts, row_of_account}
-use Rattle.reg_audit_law.specs.RegistryFrom.{account_from, registry_from}
-use Rattle.reg_audit_law.specs.Rules.{IsKeyed}
+use Rattle.reg_tables_meaning.specs.Stands.{StandAccounts}
 use Rattle.reg_audit_law.proofs.Passing.{Passing, accounts_are}
 use Rattle.reg_audit_law.proofs.Shapes.{with_null, whole_rows, counted_are}
 

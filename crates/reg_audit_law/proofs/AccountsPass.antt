@@ -1,18 +1,12 @@
 -- Rows that stand for the accounts of a sound registry pass.
+use Rattle.reg_audit_law.proofs.Words.{list_all-map, is_base, Account, about_columns, entry_of_account, heads, tails, words_are, Second}
+use Rattle.reg_audit_law.proofs.Words.{is_some, accounts_pass, are_counted, has_account, is_account}
 use Rattle.reg_audit_law.proofs.Common.{◌≡◌, ◌==◌, ◌+◌, [], ◌∷◌, ◌∙◌, ◌&&◌, AllRows, and_from, ap, Bool, enumerate_from, eq-eqb, Ids, List, list_all, list_any, list_any_map, map, maps_twice, refl, Registry, shows, string_bytes, sym, Text, Trees, true, ℕ}
-use Rattle.std.proofs.lemmas.List.Folds.{list_all-map}
-use Rattle.reg_line.specs.Base.{is_base}
 use Rattle.reg_model.specs.Sound as sound
-use Rattle.reg_tables_sql.specs.declared.accounts.Account.{Account}
-use Rattle.reg_tables_schema.specs.States.{about_columns}
-use Rattle.reg_tables_meaning.specs.Entries.{entry_of_account}
-use Rattle.reg_tables_meaning.proofs.AccountEntries.{lists_accounts, heads, tails, words_are}
+use Rattle.reg_tables_meaning.proofs.AccountEntries.{lists_accounts}
 use Rattle.reg_tables_meaning.proofs.Selected.{same_one}
-use Rattle.reg_tables_schema.specs.declared.edition.Edition.TheVariants.{Second}
 use Rattle.reg_model.specs.Registry as model
-use Rattle.std.specs.Prelude.{is_some}
 use Rattle.reg_audit_law.proofs.Ids.{at_there}
-use Rattle.reg_audit.specs.Checks.{accounts_pass, are_counted, has_account, is_account}
 use Rattle.reg_audit_law.proofs.Shown.{two_of_each}
 use Rattle.reg_audit_law.proofs.Standing.{Standing}
 

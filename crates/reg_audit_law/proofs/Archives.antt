@@ -1,25 +1,19 @@
 -- Archives that pass: their rows are those of the versions.
-use Rattle.std.proofs.Common.{◌≡◌, ◌==◌, inl, inr, ℕ, ℤ, pos, List, [], ◌∷◌, map, true, false, sym, ap, subst, ◌∙◌, refl}
+use Rattle.reg_audit_law.proofs.Words.{◌≡◌, ◌==◌, inl, inr, ℕ, pos, List, [], ◌∷◌, map, true, false, sym, ap, subst, ◌∙◌, refl, flat_map}
+use Rattle.reg_audit_law.proofs.Words.{list_any, is_eq, sha256, Row, column, value_cmp, Null, Int, Real, Text, Blob, IsIn, any_in, each_in}
+use Rattle.reg_audit_law.proofs.Words.{in_any, in_each, in_filter, map_in, is_number, shows, archive_places, archives_with_id}
+use Rattle.reg_audit_law.proofs.Words.{columns_of_version, row_of_archive, is_archive, version_from, IsKeyed, RefersTo, same_value}
+use Rattle.std.proofs.Common.{ℤ}
 use Rattle.reg_audit_law.proofs.Common.{AllRows, bytes_eq, filter, IsPermutation, IsPermutation-sym, maps_twice, rowid, same_bytes, same_number, Trees, Version}
-use Rattle.std.specs.List.{flat_map, list_any}
 use Rattle.std.specs.FinMap.{int_cmp-IsAntisymmetric}
-use Rattle.std.specs.Ordering.{int_cmp, is_eq}
-use Rattle.sha2.specs.Sha256.{sha256}
-use Rattle.sqlite.specs.Order.{Row, column, value_cmp}
-use Rattle.sqlite.specs.declared.types.Value.TheVariants.{Null, Int, Real, Text, Blob}
+use Rattle.std.specs.Ordering.{int_cmp}
 use Rattle.sqlite_trees.proofs.ListLemmas.{filter_all}
 use Rattle.sqlite_value.proofs.OrderLemmas.{value_cmp-Int}
-use Rattle.reg_model.proofs.Members.{IsIn, any_in, each_in, filtered_passes, in_any, in_each, in_filter, in_permuted, map_in}
-use Rattle.reg_tables_schema.specs.Tests.{is_number, shows}
+use Rattle.reg_model.proofs.Members.{filtered_passes, in_permuted}
 use Rattle.reg_tables_schema.proofs.Joined.{joined_once}
-use Rattle.reg_tables_sql.specs.Archives.{archive_places, archives_with_id}
-use Rattle.reg_tables_sql.specs.Versions.{columns_of_version}
-use Rattle.reg_tables_meaning.specs.Stands.{row_of_archive}
 use Rattle.reg_tables_meaning.proofs.Rowids.{values_tie}
 use Rattle.reg_tables_meaning.proofs.NextId.{tied}
-use Rattle.reg_audit.specs.Checks.{is_archive}
-use Rattle.reg_audit_law.specs.RegistryFrom.{archive_from, version_from}
-use Rattle.reg_audit_law.specs.Rules.{IsKeyed, RefersTo, same_value}
+use Rattle.reg_audit_law.specs.RegistryFrom.{archive_from}
 use Rattle.reg_audit_law.proofs.Passing.{Passing, archive_is}
 use Rattle.reg_audit_law.proofs.Shapes.{with_null}
 use Rattle.reg_audit_law.proofs.Uniques.{value_flips}

@@ -1,18 +1,11 @@
 -- Crates that pass: their rows, their ids and their names.
-use Rattle.std.proofs.Common.{◌≡◌, ◌==◌, inl, inr, ℕ, pos, List, [], ◌∷◌, map, Bool, true, false, Option, Some, refl, sym, ap, ap₂, subst, eqb-true, ◌∙◌}
-use Rattle.std.specs.Prelude.{cond, drop, string_bytes}
-use Rattle.std.specs.List.{IsDistinct, find}
-use Rattle.std.specs.List.Sorted.{IsPermutation, IsStrictlySortedBy}
+use Rattle.reg_audit_law.proofs.Words.{◌≡◌, ◌==◌, inl, inr, ℕ, pos, List, [], ◌∷◌, map, Bool, true, false, Option, Some, refl, sym, ap, ap₂}
+use Rattle.reg_audit_law.proofs.Words.{subst, eqb-true, ◌∙◌, cond, drop, string_bytes, find, IsPermutation, nat_cmp, on, Null, Int, Text}
+use Rattle.reg_audit_law.proofs.Words.{IsIn, map_same, one_of, one_passes, crate_columns, row_of_crate, same_text, crate_of, name_from}
+use Rattle.reg_audit_law.proofs.Words.{spelling, IsKeyed}
+use Rattle.std.specs.List.{IsDistinct}
+use Rattle.std.specs.List.Sorted.{IsStrictlySortedBy}
 use Rattle.reg_audit_law.proofs.Common.{all_weaker, AllRows, by_column, bytes_eq, bytes_same, canon, column, Crate, entry_of_crate, eq-eqb, maps_twice, Row, same_number, shows, Trees}
-use Rattle.std.specs.Ordering.{nat_cmp, on}
-use Rattle.sqlite.specs.declared.types.Value.TheVariants.{Null, Int, Text}
-use Rattle.reg_model.proofs.Members.{IsIn, map_same, one_of, one_passes}
-use Rattle.reg_tables_sql.specs.Crates.{crate_columns}
-use Rattle.reg_tables_meaning.specs.Stands.{row_of_crate}
-use Rattle.reg_tables_meaning.proofs.AccountEntries.{same_text}
-use Rattle.reg_audit.specs.Checks.{crate_of}
-use Rattle.reg_audit_law.specs.RegistryFrom.{name_from, spelling}
-use Rattle.reg_audit_law.specs.Rules.{IsKeyed}
 use Rattle.reg_audit_law.proofs.Passing.{Passing, crate_is}
 use Rattle.reg_audit_law.proofs.Plain.{flips}
 use Rattle.reg_audit_law.proofs.Rising.{listed_rise}

@@ -1,11 +1,10 @@
 -- The crates of a sound registry pass.
+use Rattle.reg_audit_law.proofs.Words.{is_paired, Ids, StoredVersion, bytes_same, is_published}
 use Rattle.reg_audit_law.proofs.Common.{◌≡◌, ◌==◌, ◌∙◌, ◌&&◌, AllRows, and_from, and_parts, any_in, ap, bytes_eq, canon, Crate, each_in, entry_of_crate, eq-eqb, in_all, in_any, is_name, IsIn, List, Registry, string_bytes, sym, Trees, true, ℕ}
 use Rattle.std.specs.FinSet as finset
 use Rattle.reg_model.specs.Crates as crates_of
 use Rattle.reg_model.specs.Steps as steps
-use Rattle.reg_tables_meaning.specs.Stands.{is_paired}
-use Rattle.reg_tables_meaning.specs.Stored.{Ids, StoredVersion}
-use Rattle.reg_tables_meaning.proofs.CrateLemmas.{bytes_same, is_published, version_of}
+use Rattle.reg_tables_meaning.proofs.CrateLemmas.{version_of}
 use Rattle.reg_audit.specs.Checks as checks
 use Rattle.reg_audit_law.proofs.ListedCrates.{canon_is, crate_in}
 use Rattle.reg_audit_law.proofs.ListedPairs as pairs

@@ -1,25 +1,20 @@
 -- Rows of schema 1 are those of a sound registry exactly where those are that they become.
+use Rattle.reg_audit_law.proofs.Words.{Obeys, Datatype, NotNull, Publication, owner_cmp, text_cmp, owner_apart, owner_total, text_apart}
+use Rattle.reg_audit_law.proofs.Words.{not_true, true_not_false, about_columns, Second, Holds, StandsBy, is_paired, StandSummaries}
+use Rattle.reg_audit_law.proofs.Words.{same_bytes, AuditLaw, IsWhole}
 use Rattle.reg_audit_law.proofs.Common.{◌≡◌, ◌==◌, [], ◌∷◌, ◌∙◌, all_weaker, any_in, ap, bytes_eq, canon, drop, each_in, Ids, in_permuted, inl, IsIn, IsPermutation, List, list_any, map, nat_list_cmp_total, refl, Row, shows, StoredCrate, subst, sym, Trees, true, ℕ}
 use Rattle.std.specs.FinSet as finset
 use Rattle.sqlite.specs.Effect.{Database}
 use Rattle.sqlite.specs.Schema.{Schema}
-use Rattle.sqlite_schema.specs.Rules.{Obeys}
-use Rattle.sqlite_schema.specs.declared.schema.Constraint.TheVariants.{Datatype, NotNull}
 use Rattle.reg_model.specs.Crates.{has_crate}
-use Rattle.reg_model.specs.Registry.{Publication, Registry, Text, owner_cmp, text_cmp}
-use Rattle.reg_model.proofs.Keys.{owner_apart, owner_total, text_apart}
-use Rattle.reg_model.proofs.Lists.{not_true, true_not_false}
+use Rattle.reg_model.specs.Registry.{Registry, Text}
 use Rattle.reg_tables_schema.specs.Schema as schema
-use Rattle.reg_tables_schema.specs.States.{about_columns}
-use Rattle.reg_tables_schema.specs.declared.edition.Edition.TheVariants.{First, Second}
-use Rattle.reg_tables_meaning.specs.Stands.{Holds, StandsBy, StandsOld, is_paired}
-use Rattle.reg_tables_meaning.specs.Summaries.{StandSummaries}
-use Rattle.reg_tables_meaning.proofs.CrateLemmas.{crate_of, is_stored, same_bytes}
+use Rattle.reg_tables_schema.specs.declared.edition.Edition.TheVariants.{First}
+use Rattle.reg_tables_meaning.specs.Stands.{StandsOld}
+use Rattle.reg_tables_meaning.proofs.CrateLemmas.{crate_of, is_stored}
 use Rattle.reg_tables_meaning.proofs.Stays.{accounts_stay, crates_stay, pairs_stay, reserved_stay, tokens_stay}
 use Rattle.reg_tables_meaning.specs.Upgrades.{IsUpgrade}
 use Rattle.reg_audit_law.specs.Editions.{AreFound, EditionLaw, FoundLaw}
-use Rattle.reg_audit_law.specs.Opening.{AuditLaw}
-use Rattle.reg_audit_law.specs.Rules.{IsWhole}
 use Rattle.reg_audit_law.proofs.Plain.{told_base}
 use Rattle.reg_audit_law.proofs.RowColumns.{whole_rows}
 use Rattle.reg_audit_law.proofs.Shapes.{each_is}

@@ -1,10 +1,8 @@
 -- Ids that are places in a list.
-use Rattle.std.proofs.Common.{◌≡◌, ◌==◌, ◌+◌, ◌-◌, arith, ℕ, zero, suc, List, [], ◌∷◌, Bool, true, false, None, slice_get, refl, sym, ap, eqb-true, ◌∙◌}
-use Rattle.std.specs.Prelude.{if◌then◌else◌, is_some}
-use Rattle.std.specs.List.{enumerate_from, list_any}
-use Rattle.std.proofs.lemmas.Bool.{eq-eqb, eqb-false, ne_eqb}
-use Rattle.reg_model.specs.Registry.{with_id}
-use Rattle.reg_model.proofs.Lists.{or_left, or_right, or_split}
+use Rattle.reg_audit_law.proofs.Words.{◌≡◌, ◌==◌, ◌+◌, arith, ℕ, zero, suc, List, [], ◌∷◌, Bool, true, false, None, refl, sym, ap, eqb-true}
+use Rattle.reg_audit_law.proofs.Words.{◌∙◌, if◌then◌else◌, is_some, enumerate_from, list_any, eq-eqb, eqb-false, ne_eqb, with_id, or_left}
+use Rattle.reg_audit_law.proofs.Words.{or_right, or_split}
+use Rattle.std.proofs.Common.{◌-◌, slice_get}
 
 -- an id among places is that of one that is there
 any_place : {X : Type 0} (n : ℕ) (xs : List X) (id : ℕ) → list_any (λ e. e.0 == id) (enumerate_from n xs) ≡ true → (i : ℕ) × (n + i ≡ id) × (is_some (slice_get xs i) ≡ true)

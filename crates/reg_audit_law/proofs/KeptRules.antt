@@ -1,19 +1,13 @@
 -- Rows of our schema keep the rules of their tables.
+use Rattle.reg_audit_law.proofs.Words.{◌&&◌, codes, drop, and_parts, not-true, Obeys, clashes, has_parent, Datatype, NotNull, plain}
+use Rattle.reg_audit_law.proofs.Words.{both_all, our_tables, ours, refers, account_columns, columns_of_token, Account, Token, AreAllRows}
+use Rattle.reg_audit_law.proofs.Words.{KeepsRules, RefersTo}
 use Rattle.reg_audit_law.proofs.Common.{◌≡◌, [], ◌∷◌, all_weaker, AllByRecursion, AllRows, are_counted, column, false, is_null, List, map, not, refl, Row, Trees, true, ℕ}
-use Rattle.std.specs.Prelude.{◌&&◌, codes, drop}
-use Rattle.std.proofs.lemmas.Bool.{and_parts, not-true}
-use Rattle.sqlite_schema.specs.Rules.{Keeps, Obeys, clashes, has_parent}
-use Rattle.sqlite_schema.specs.declared.schema.Constraint.TheVariants.{Datatype, ForeignKey, NotNull, Unique}
-use Rattle.sqlite_value.specs.Keys.{plain}
-use Rattle.reg_model.proofs.Alike.{both_all}
-use Rattle.reg_tables_schema.specs.Schema.{our_tables, ours, refers}
+use Rattle.sqlite_schema.specs.Rules.{Keeps}
+use Rattle.sqlite_schema.specs.declared.schema.Constraint.TheVariants.{ForeignKey, Unique}
 use Rattle.reg_tables_schema.specs.Schema as schema
-use Rattle.reg_tables_sql.specs.Accounts.{account_columns}
-use Rattle.reg_tables_sql.specs.Tokens.{columns_of_token}
-use Rattle.reg_tables_sql.specs.declared.accounts.Account.{Account}
-use Rattle.reg_tables_sql.specs.declared.tokens.Token.{Token}
-use Rattle.reg_tables_rows.specs.WholeRows.{AreAllRows, HaveIds}
-use Rattle.reg_audit_law.specs.Rules.{HaveColumns, HaveParents, HaveUniques, KeepsRules, RefersTo}
+use Rattle.reg_tables_rows.specs.WholeRows.{HaveIds}
+use Rattle.reg_audit_law.specs.Rules.{HaveColumns, HaveParents, HaveUniques}
 use Rattle.reg_audit_law.proofs.OwnRowids.{numbered_there, own_rowids, rowids_there}
 use Rattle.reg_audit_law.proofs.RowColumns.{filled, keyed_rows, whole_rows}
 use Rattle.reg_audit_law.proofs.RowKeys.{unique_at, unique_by}

@@ -40,3 +40,4 @@ pub mod TokensPass
 pub mod Uniques
 pub mod Versions
 pub mod VersionsPass
+mod Words

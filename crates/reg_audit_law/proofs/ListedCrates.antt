@@ -1,16 +1,11 @@
 -- The crates that are read are those of the registry.
+use Rattle.reg_audit_law.proofs.Words.{drop, nat_eq, string_bytes, list_any, nat_cmp, on, IsIn, in_map, map_in, one_passes, crate_columns}
+use Rattle.reg_audit_law.proofs.Words.{row_of_crate, apart_by, column_total, each_part, shown_in_turn, crate_of, has_crate}
 use Rattle.reg_audit_law.proofs.Common.{◌≡◌, ◌==◌, [], ◌∷◌, ◌∙◌, AllRows, ap, Bool, by_column, canon, Crate, entry_of_crate, eq-eqb, eqb-true, heads, Ids, List, list_any_map, map, maps_twice, Registry, Row, shows, Some, StoredCrate, subst, sym, tails, Trees, true, words_are, ℕ}
-use Rattle.std.specs.Prelude.{drop, nat_eq, string_bytes}
-use Rattle.std.specs.List.{IsDistinct, list_any}
+use Rattle.std.specs.List.{IsDistinct}
 use Rattle.std.specs.List.Sorted.{IsStrictlySortedBy}
-use Rattle.std.specs.Ordering.{nat_cmp, on}
-use Rattle.reg_model.proofs.Members.{IsIn, in_map, map_in, one_passes}
-use Rattle.reg_tables_sql.specs.Crates.{crate_columns}
-use Rattle.reg_tables_meaning.specs.Stands.{row_of_crate}
-use Rattle.reg_tables_meaning.proofs.CrateLemmas.{apart_by}
 use Rattle.reg_tables_meaning.proofs.CrateNames.{same_shown}
-use Rattle.reg_tables_meaning.proofs.Selected.{column_total, each_part, selected_in_order, shown_in_turn}
-use Rattle.reg_audit.specs.Checks.{crate_of, has_crate}
+use Rattle.reg_tables_meaning.proofs.Selected.{selected_in_order}
 use Rattle.reg_audit_law.proofs.Shown.{pointwise, rows_rise}
 use Rattle.reg_audit_law.proofs.Standing.{Standing}
 use Rattle.reg_audit_law.proofs.Uniques.{found_of_filter}

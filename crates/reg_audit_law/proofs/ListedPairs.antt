@@ -1,13 +1,8 @@
 -- The pairs that are read are those of the registry.
+use Rattle.reg_audit_law.proofs.Words.{IsPermutation-map, IsPermutation-sym, IsPermutation-trans, owner_cmp, IsInOrder, by_columns}
+use Rattle.reg_audit_law.proofs.Words.{columns_of_pair, Pair, StandPairs, columns_of_stored, StoredCrate, StoredPair}
 use Rattle.reg_audit_law.proofs.Common.{◌≡◌, [], ◌∷◌, drop, heads, in_map, in_permuted, IsIn, IsPermutation, List, map, map_in, maps_twice, number_is, Row, shows, subst, tails}
 use Rattle.std.specs.FinSet as finset
-use Rattle.std.proofs.lemmas.List.Sorted.{IsPermutation-map, IsPermutation-sym, IsPermutation-trans}
-use Rattle.reg_model.specs.Registry.{owner_cmp}
-use Rattle.reg_tables_schema.specs.Rows.{IsInOrder, by_columns}
-use Rattle.reg_tables_sql.specs.Pairs.{columns_of_pair}
-use Rattle.reg_tables_sql.specs.declared.pairs.Pair.{Pair}
-use Rattle.reg_tables_meaning.specs.Stands.{StandPairs, columns_of_stored}
-use Rattle.reg_tables_meaning.specs.Stored.{StoredCrate, StoredPair}
 use Rattle.reg_audit_law.proofs.Shown.{shown_permutes, two_of_each}
 
 module _ (crates : List StoredCrate) (held : finset.FinSet owner_cmp) (rows : List Row) (stands : StandPairs crates held rows) (list : List Pair) (found : IsInOrder (by_columns 1 2) rows (shows (1 ∷ 2 ∷ [])) (map columns_of_pair list)) where

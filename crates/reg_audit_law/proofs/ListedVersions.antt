@@ -1,17 +1,13 @@
 -- The versions that are read are those of the registry.
+use Rattle.reg_audit_law.proofs.Words.{filter_map, columns_of_version, row_of_version, Ids, StoredVersion, mark_shown, heads, tails}
+use Rattle.reg_audit_law.proofs.Words.{words_are, column_total, each_part, shown_in_turn, its_versions}
 use Rattle.reg_audit_law.proofs.Common.{◌≡◌, ◌==◌, [], ◌∷◌, ◌∙◌, AllRows, ap, by_column, drop, filter, in_map, IsIn, length, List, map, map_in, maps_twice, mark_cmp, Registry, Row, shows, subst, sym, Trees, Version, ℕ}
 use Rattle.std.specs.FinSet as finset
-use Rattle.reg_tables_schema.proofs.Permutes.{filter_map}
-use Rattle.reg_tables_sql.specs.Versions.{columns_of_version}
 use Rattle.reg_tables_meaning.specs.Entries.{ShownVersion, shown_version, version_shown}
-use Rattle.reg_tables_meaning.specs.Stands.{row_of_version}
-use Rattle.reg_tables_meaning.specs.Stored.{Ids, StoredVersion}
-use Rattle.reg_tables_meaning.specs.Summaries.{ShownMark, mark_shown}
+use Rattle.reg_tables_meaning.specs.Summaries.{ShownMark}
 use Rattle.reg_tables_meaning.specs.Summaries as stored
-use Rattle.reg_tables_meaning.proofs.AccountEntries.{heads, mark_is, number_is, tails, text_is, words_are}
-use Rattle.reg_tables_meaning.proofs.Selected.{column_total, each_part, shown_in_turn}
+use Rattle.reg_tables_meaning.proofs.AccountEntries.{mark_is, number_is, text_is}
 use Rattle.reg_tables_meaning.proofs.VersionEntries.{bytes_are}
-use Rattle.reg_audit.specs.Checks.{its_versions}
 use Rattle.reg_audit_law.proofs.Shown.{rows_rise}
 use Rattle.reg_audit_law.proofs.Standing.{Standing}
 

@@ -1,7 +1,6 @@
 -- Tests of the elements of a list.
+use Rattle.reg_audit_law.proofs.Words.{◌||◌, cond, find, list_any}
 use Rattle.reg_audit_law.proofs.Common.{◌≡◌, [], ◌∷◌, Bool, false, inl, inr, IsIn, List, refl, Some, true}
-use Rattle.std.specs.Prelude.{◌||◌, cond}
-use Rattle.std.specs.List.{find, list_any}
 
 -- tests that agree on the elements
 pub any_on : {X : Type 0} (p q : X → Bool) (xs : List X) → ((x : X) → IsIn x xs → p x ≡ q x) → list_any p xs ≡ list_any q xs

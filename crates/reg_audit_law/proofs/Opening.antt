@@ -1,11 +1,10 @@
 -- The law of opening, by its two halves.
-use Rattle.std.proofs.Common.{◌≡◌, List, [], ◌∷◌, Option, None, Some, inl, inr, subst}
+use Rattle.reg_audit_law.proofs.Words.{◌≡◌, List, [], ◌∷◌, Option, None, Some, inl, inr, subst, C1, C2, C3, C4, C5, C6, C7, C8, AuditLaw}
+use Rattle.reg_audit_law.proofs.Words.{PassAll, ids_from, registry_from}
 use Rattle.reg_audit_law.proofs.Common.{AllByRecursion, AllRows, Ids, Registry, Trees}
 use Rattle.reg_audit.specs.Checks.{IsFirst, IsFirstOf, Passes}
 use Rattle.reg_audit.specs.declared.check.Check.{Check}
-use Rattle.reg_audit.specs.declared.check.Check.TheVariants.{C1, C2, C3, C4, C5, C6, C7, C8}
-use Rattle.reg_audit_law.specs.Opening.{AuditLaw, HoldingPasses, OpeningLaw, PassAll, PassingHolds, SchemaKeeps}
-use Rattle.reg_audit_law.specs.RegistryFrom.{ids_from, registry_from}
+use Rattle.reg_audit_law.specs.Opening.{HoldingPasses, OpeningLaw, PassingHolds, SchemaKeeps}
 use Rattle.reg_audit_law.proofs.AccountsPass.{accounts_pass_so}
 use Rattle.reg_audit_law.proofs.CratesPass.{crates_pass_so}
 use Rattle.reg_audit_law.proofs.KeptRules.{keeps_rules}

@@ -1,13 +1,11 @@
 -- Rows whose ids are counted have rowids of their own.
-use Rattle.std.proofs.Common.{◌≡◌, ◌==◌, ◌+◌, ◌<◌, arith, ℕ, pos, List, [], ◌∷◌, map, true, false, refl, sym, ap}
-use Rattle.std.specs.List.{AllByRecursion, IsDistinct}
-use Rattle.std.proofs.lemmas.Bool.{and_parts, eqb-true, ne_eqb}
+use Rattle.reg_audit_law.proofs.Words.{◌≡◌, ◌==◌, ◌+◌, ◌<◌, arith, ℕ, pos, List, [], ◌∷◌, map, true, false, refl, sym, ap, AllByRecursion}
+use Rattle.reg_audit_law.proofs.Words.{and_parts, ne_eqb, IsDistinct-IsPermutation, all_from_map, all-map, all-permutation, all_weaker}
+use Rattle.reg_audit_law.proofs.Words.{distinct_from_map, in_each, same_at}
+use Rattle.std.specs.List.{IsDistinct}
+use Rattle.std.proofs.lemmas.Bool.{eqb-true}
 use Rattle.reg_audit_law.proofs.Common.{are_counted, by_column, column, Int, is_null, IsInOrder, IsPermutation-sym, Row, rowid, same_number, shows}
-use Rattle.std.proofs.lemmas.Map.Keys.{IsDistinct-IsPermutation}
-use Rattle.sqlite_trees.proofs.ListLemmas.{all_from_map, all-map, all-permutation, all_weaker}
-use Rattle.reg_model.proofs.Members.{distinct_from_map, in_each}
 use Rattle.reg_tables_meaning.specs.Numbers.{AreNumbered, IsNumbered}
-use Rattle.reg_audit_law.specs.Rules.{same_at}
 use Rattle.reg_audit_law.proofs.RowKeys.{HaveRowids}
 use Rattle.reg_audit_law.proofs.Shown.{shown_permutes}
 use Rattle.reg_audit_law.proofs.Uniques.{distinct_map, distinct_so, value_flips}

@@ -1,23 +1,17 @@
 -- Owners and readers that pass stand for what is built from them, and so do the restricted crates.
+use Rattle.reg_audit_law.proofs.Words.{AllByRecursion, list_any, and_parts, eqb-false, IsPermutation-sym, list_any-IsPermutation}
+use Rattle.reg_audit_law.proofs.Words.{is_eq-slice_cmp, Value, all_weaker, all-permutation, all-map, all_from_map, owner_cmp, text_cmp}
+use Rattle.reg_audit_law.proofs.Words.{owner_total, IsInOrder, by_column, by_columns, number_columns, columns_of_pair, Pair, HaveOwnRowids}
+use Rattle.reg_audit_law.proofs.Words.{StandPairs, columns_of_stored, is_paired, row_of_crate, StoredCrate, StoredPair, same_bytes}
+use Rattle.reg_audit_law.proofs.Words.{bytes_same, canon_from, pair_from, registry_from, AreUniqueBy, IsWhole, RefersTo, same_at}
+use Rattle.reg_audit_law.proofs.Words.{same_value}
 use Rattle.reg_audit_law.proofs.Common.{◌≡◌, ◌==◌, [], ◌∷◌, ◌∙◌, ◌&&◌, all_in, AllRows, any_in, ap, Bool, bytes_eq, canon, column, Crate, drop, each_in, entry_of_crate, eq_by_cmp, eqb-true, false, has_account, has_crate, in_all, in_each, Int, IsIn, IsPermutation, List, list_any_map, map, map_in, maps_twice, nat_list_cmp_total, not_true, pos, refl, Row, rowid, same_number, shows, string_bytes, subst, sym, Trees, true, ℕ}
-use Rattle.std.specs.List.{AllByRecursion, IsDistinct, list_any}
+use Rattle.std.specs.List.{IsDistinct}
 use Rattle.std.specs.FinSet as finset
-use Rattle.std.proofs.lemmas.Bool.{and_parts, eqb-false}
-use Rattle.std.proofs.lemmas.List.Sorted.{IsPermutation-sym, list_any-IsPermutation}
-use Rattle.std.proofs.lemmas.Map.Text.{is_eq-slice_cmp}
-use Rattle.sqlite.specs.declared.types.Value.{Value}
-use Rattle.sqlite_trees.proofs.ListLemmas.{all_weaker, all-permutation, all-map, all_from_map}
-use Rattle.reg_model.specs.Registry.{Owner, Text, owner_cmp, text_cmp}
-use Rattle.reg_model.proofs.Keys.{owner_total}
-use Rattle.reg_tables_schema.specs.Rows.{IsInOrder, by_column, by_columns, number_columns}
-use Rattle.reg_tables_sql.specs.Pairs.{columns_of_pair}
-use Rattle.reg_tables_sql.specs.declared.pairs.Pair.{Pair}
-use Rattle.reg_tables_meaning.specs.Stands.{HaveOwnRowids, StandMarked, StandPairs, columns_of_stored, is_paired, row_of_crate}
-use Rattle.reg_tables_meaning.specs.Stored.{StoredCrate, StoredPair}
-use Rattle.reg_tables_meaning.proofs.CrateLemmas.{same_bytes, bytes_same, same_owner, other_owner}
+use Rattle.reg_model.specs.Registry.{Owner, Text}
+use Rattle.reg_tables_meaning.specs.Stands.{StandMarked}
+use Rattle.reg_tables_meaning.proofs.CrateLemmas.{same_owner, other_owner}
 use Rattle.reg_tables_meaning.proofs.Rowids.{first_column, second_column}
-use Rattle.reg_audit_law.specs.RegistryFrom.{canon_from, pair_from, registry_from}
-use Rattle.reg_audit_law.specs.Rules.{AreUniqueBy, IsWhole, RefersTo, same_at, same_value}
 use Rattle.reg_audit_law.proofs.Crates.{crate_rows, name_of, one_crate}
 use Rattle.reg_audit_law.proofs.Lists.{any_on}
 use Rattle.reg_audit_law.proofs.Passing.{Passing, readers_there, restricted_there}

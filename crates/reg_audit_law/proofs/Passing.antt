@@ -1,12 +1,9 @@
 -- Rows that pass all checks: what each check says, in parts.
+use Rattle.reg_audit_law.proofs.Words.{is_base, archives_with_id, AreAllRows, accounts_pass, are_counted, are_placed, has_account}
+use Rattle.reg_audit_law.proofs.Words.{has_crate, is_account, is_archive, is_scope, is_summary, is_token, tokens_pass, C1, C2, C3, C4, C5}
+use Rattle.reg_audit_law.proofs.Words.{C7, C8, PassAll, KeepsRules}
 use Rattle.reg_audit_law.proofs.Common.{◌≡◌, ◌&&◌, all_in, AllRows, and_parts, bytes_eq, canon, Crate, each_in, is_name, IsIn, length, list_all, map, same_bytes, string_bytes, Trees, true, Version}
-use Rattle.reg_line.specs.Base.{is_base}
-use Rattle.reg_tables_sql.specs.Archives.{archives_with_id}
-use Rattle.reg_tables_rows.specs.WholeRows.{AreAllRows}
-use Rattle.reg_audit.specs.Checks.{IsGenuine, accounts_pass, are_counted, are_placed, has_account, has_crate, is_account, is_archive, is_named, is_owned, is_published, is_scope, is_summary, is_token, tokens_pass}
-use Rattle.reg_audit.specs.declared.check.Check.TheVariants.{C1, C2, C3, C4, C5, C7, C8}
-use Rattle.reg_audit_law.specs.Opening.{PassAll}
-use Rattle.reg_audit_law.specs.Rules.{KeepsRules}
+use Rattle.reg_audit.specs.Checks.{IsGenuine, is_named, is_owned, is_published}
 
 pub record Passing (it : AllRows) (db : Trees) : Type 0 where
   pub are : AreAllRows it db

@@ -1,14 +1,9 @@
 -- The base, and the reserved names.
+use Rattle.reg_audit_law.proofs.Words.{is_eq-slice_cmp, Second, about_columns, reserved_columns, registry_from, IsWhole}
 use Rattle.reg_audit_law.proofs.Common.{◌≡◌, [], ◌∷◌, ◌∙◌, all_weaker, AllRows, ap, Bool, by_column, bytes_eq, bytes_same, drop, false, IsPermutation, List, map, maps_twice, nat_list_cmp_total, refl, Row, same_bytes, shows, string_bytes, subst, sym, Text, Trees, true}
 use Rattle.std.specs.FinSet as finset
-use Rattle.std.proofs.lemmas.Map.Text.{is_eq-slice_cmp}
 use Rattle.reg_model.proofs.Lists.{any_same}
-use Rattle.reg_tables_schema.specs.declared.edition.Edition.TheVariants.{Second}
-use Rattle.reg_tables_schema.specs.States.{about_columns}
-use Rattle.reg_tables_sql.specs.Reserved.{reserved_columns}
 use Rattle.reg_tables_meaning.specs.Stands.{StandReserved}
-use Rattle.reg_audit_law.specs.RegistryFrom.{registry_from}
-use Rattle.reg_audit_law.specs.Rules.{IsWhole}
 use Rattle.reg_audit_law.proofs.Passing.{Passing}
 use Rattle.reg_audit_law.proofs.Shapes.{rows_from, each_is}
 

@@ -1,11 +1,9 @@
 -- The restricted crates and the readers of a sound registry pass.
+use Rattle.reg_audit_law.proofs.Words.{IsPermutation-sym, IsPermutation-trans, by_column, number_columns, Pair, is_paired, has_account}
+use Rattle.reg_audit_law.proofs.Words.{has_crate}
 use Rattle.reg_audit_law.proofs.Common.{◌≡◌, ◌==◌, [], ◌∷◌, ◌∙◌, ◌&&◌, all_in, AllRows, and_from, any_in, ap, canon, each_in, eq-eqb, eqb-true, heads, Ids, in_all, in_any, in_map, in_permuted, IsIn, IsPermutation, list_all, list_any, map, map_in, number_is, refl, Registry, shows, sym, Trees, true, ℕ}
 use Rattle.std.specs.FinSet as finset
-use Rattle.std.proofs.lemmas.List.Sorted.{IsPermutation-sym, IsPermutation-trans}
-use Rattle.reg_tables_schema.specs.Rows.{by_column, number_columns}
-use Rattle.reg_tables_sql.specs.declared.pairs.Pair.{Pair}
-use Rattle.reg_tables_meaning.specs.Stands.{is_paired}
-use Rattle.reg_audit.specs.Checks.{has_account, has_crate, readers_pass}
+use Rattle.reg_audit.specs.Checks.{readers_pass}
 use Rattle.reg_audit_law.proofs.AccountsPass.{account_has}
 use Rattle.reg_audit_law.proofs.ListedCrates.{has_same}
 use Rattle.reg_audit_law.proofs.ListedPairs.{pair_in}

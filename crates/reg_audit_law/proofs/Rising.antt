@@ -1,18 +1,16 @@
 -- Ids that are listed in order, and of which no two are one, rise.
-use Rattle.std.proofs.Common.{◌≡◌, ◌==◌, inl, inr, ℕ, pos, List, [], ◌∷◌, map, false, refl, sym, ap, subst, ◌∙◌, Less, Equal, Greater}
-use Rattle.std.specs.List.{AllByRecursion, IsDistinct}
+use Rattle.reg_audit_law.proofs.Words.{◌≡◌, ◌==◌, inl, inr, ℕ, pos, List, [], ◌∷◌, map, false, refl, sym, ap, subst, ◌∙◌, Less, Equal}
+use Rattle.reg_audit_law.proofs.Words.{Greater, AllByRecursion, nat_cmp, Row, value_cmp, IsAscending, ascending-map, value_cmp_total}
+use Rattle.reg_audit_law.proofs.Words.{column_total, number_below}
+use Rattle.std.specs.List.{IsDistinct}
 use Rattle.std.specs.List.Sorted.{IsStrictlySortedBy}
-use Rattle.std.specs.Ordering.{is_gt, nat_cmp, ordering_reverse}
+use Rattle.std.specs.Ordering.{is_gt, ordering_reverse}
 use Rattle.std.specs.Cmp.{unsigned_tied, nat_cmp_is}
 use Rattle.std.proofs.lemmas.Cmp.{tied_itself}
 use Rattle.std.proofs.lemmas.Bool.{cases_order}
-use Rattle.sqlite.specs.Order.{Row, value_cmp}
 use Rattle.reg_audit_law.proofs.Common.{by_column, Int, IsInOrder, shows}
 use Rattle.sqlite_exec.proofs.PartitionLemmas.{ascending_from_sorted}
-use Rattle.sqlite_trees.specs.Tree.{IsAscending}
-use Rattle.sqlite_trees.proofs.ListLemmas.{ascending-map, ascending_from_map}
-use Rattle.sqlite_value.proofs.OrderLemmas.{value_cmp_total}
-use Rattle.reg_tables_meaning.proofs.Selected.{column_total, number_below}
+use Rattle.sqlite_trees.proofs.ListLemmas.{ascending_from_map}
 use Rattle.reg_tables_meaning.proofs.AllCrates.{rises}
 
 -- SQL's order of numbers is that of the numbers

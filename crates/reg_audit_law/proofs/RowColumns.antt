@@ -1,18 +1,13 @@
 -- Rows that have a value of its type for each column, the last of them NOT NULL, are whole.
-use Rattle.std.proofs.Common.{◌≡◌, ◌≤◌, ◌<◌, ◌+◌, ℕ, zero, suc, arith, List, [], ◌∷◌, map, length, Bool, true, false, not, Option, Some, None, refl, sym, ap, ◌∙◌}
-use Rattle.std.specs.Prelude.{◌&&◌, ◌||◌, drop, if◌then◌else◌, option_map, slice_get, unwrap_or}
+use Rattle.reg_audit_law.proofs.Words.{◌≡◌, ◌≤◌, ◌<◌, ◌+◌, ℕ, zero, suc, arith, List, [], ◌∷◌, map, length, Bool, true, false, not, Option}
+use Rattle.reg_audit_law.proofs.Words.{Some, None, refl, sym, ap, ◌∙◌, ◌&&◌, ◌||◌, drop, if◌then◌else◌, and_parts, not-true, Value, Null}
+use Rattle.reg_audit_law.proofs.Words.{Int, Real, Text, Blob, Datatype, NotNull, both_all, ours, IsKeyed, IsWhole}
+use Rattle.std.specs.Prelude.{option_map, slice_get, unwrap_or}
 use Rattle.reg_audit_law.proofs.Common.{all_weaker, AllByRecursion, column, is_null, maps_twice, Row, shows, Trees}
-use Rattle.std.proofs.lemmas.Bool.{and_parts, not-true}
-use Rattle.sqlite.specs.declared.types.Value.{Value}
-use Rattle.sqlite.specs.declared.types.Value.TheVariants.{Null, Int, Real, Text, Blob}
 use Rattle.sqlite.specs.Table.{Table}
 use Rattle.sqlite_schema.specs.Names.{is_key}
 use Rattle.sqlite_schema.specs.Rules.{are_present, are_typed, has_computed, passes, suits}
 use Rattle.sqlite_schema.specs.declared.schema.Column.{Column}
-use Rattle.sqlite_schema.specs.declared.schema.Constraint.TheVariants.{Datatype, NotNull}
-use Rattle.reg_model.proofs.Alike.{both_all}
-use Rattle.reg_tables_schema.specs.Schema.{ours}
-use Rattle.reg_audit_law.specs.Rules.{IsKeyed, IsWhole}
 
 -- the first places
 abbrev pub places : ℕ → List ℕ
@@ -119,7 +114,3 @@ module _ (db : Trees) (t : Table) where
       whole_row row typed present,
       key_null t.columns row (ap (λ o. are_typed o 0 t.columns (drop 1 row)) (sym key) ∙ typed_row row typed),
     ))
-
-  -- the key of any row reads NULL
-  pub keys_null : t.key ≡ Some 0 → (rows : List Row) → AllByRecursion Typed rows → AllByRecursion (λ row. column row 1 ≡ Null) rows
-  keys_null key = all_weaker Typed (λ row. column row 1 ≡ Null) (λ row typed. key_null t.columns row (ap (λ o. are_typed o 0 t.columns (drop 1 row)) (sym key) ∙ typed_row row typed))

@@ -1,10 +1,8 @@
 -- Rows of which none clashes with another, and whose rowids are their own, have unique keys.
+use Rattle.reg_audit_law.proofs.Words.{AllByRecursion, agree, clashes, differ, plain, not_true, true_not_false, AreUnique, AreUniqueBy}
+use Rattle.reg_audit_law.proofs.Words.{same_at, same_value}
 use Rattle.reg_audit_law.proofs.Common.{◌≡◌, [], ◌∷◌, ◌∙◌, ◌&&◌, and_from, and_parts, ap, Bool, column, each_in, false, in_any, inl, inr, is_null, IsIn, List, not, refl, Row, rowid, true, ℕ}
-use Rattle.std.specs.List.{AllByRecursion, IsDistinct}
-use Rattle.sqlite_schema.specs.Rules.{agree, clashes, differ}
-use Rattle.sqlite_value.specs.Keys.{plain}
-use Rattle.reg_model.proofs.Lists.{not_true, true_not_false}
-use Rattle.reg_audit_law.specs.Rules.{AreUnique, AreUniqueBy, same_at, same_value}
+use Rattle.std.specs.List.{IsDistinct}
 use Rattle.reg_audit_law.proofs.SqlEqual.{agree_one, agree_two, differ_is, equal_is}
 
 -- no two rows have one rowid

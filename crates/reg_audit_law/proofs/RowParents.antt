@@ -1,12 +1,9 @@
 -- Rows that have a parent for each foreign key refer to it.
+use Rattle.reg_audit_law.proofs.Words.{◌||◌, codes, agree, has_parent, plain, or_split, our_tables, refers, RefersTo, same_value}
 use Rattle.reg_audit_law.proofs.Common.{◌≡◌, [], ◌∷◌, ◌∙◌, and_parts, any_in, ap, Bool, column, false, in_any, is_null, List, refl, Row, rowid, Some, sym, Trees, true, ℕ}
-use Rattle.std.specs.Prelude.{◌||◌, codes}
 use Rattle.sqlite_schema.specs.Names.{same_name}
-use Rattle.sqlite_schema.specs.Rules.{ParentKey, agree, has_parent, is_held, parent_key}
-use Rattle.sqlite_value.specs.Keys.{joined, plain}
-use Rattle.reg_model.proofs.Lists.{or_split}
-use Rattle.reg_tables_schema.specs.Schema.{our_tables, refers}
-use Rattle.reg_audit_law.specs.Rules.{RefersTo, same_value}
+use Rattle.sqlite_schema.specs.Rules.{ParentKey, is_held, parent_key}
+use Rattle.sqlite_value.specs.Keys.{joined}
 use Rattle.reg_audit_law.proofs.SqlEqual.{agree_one, equal_same}
 
 -- what the foreign keys point to

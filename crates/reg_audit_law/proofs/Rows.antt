@@ -1,11 +1,8 @@
 -- Rows that pass all checks stand for the registry that is built from them, and it is sound.
+use Rattle.reg_audit_law.proofs.Words.{Holds, StandsBy, AreAllRows, KeepsRules, PassAll, ids_from, registry_from, version_from}
 use Rattle.reg_audit_law.proofs.Common.{AllRows, maps_twice, Trees}
 use Rattle.reg_model.specs.Sound.{Sound}
-use Rattle.reg_tables_meaning.specs.Stands.{Holds, StandCrates, StandsBy}
-use Rattle.reg_tables_rows.specs.WholeRows.{AreAllRows}
-use Rattle.reg_audit_law.specs.Rules.{KeepsRules}
-use Rattle.reg_audit_law.specs.Opening.{PassAll}
-use Rattle.reg_audit_law.specs.RegistryFrom.{ids_from, registry_from, version_from}
+use Rattle.reg_tables_meaning.specs.Stands.{StandCrates}
 use Rattle.reg_audit_law.proofs.Accounts.{accounts_sound, accounts_stand}
 use Rattle.reg_audit_law.proofs.Archives.{archive_rows}
 use Rattle.reg_audit_law.proofs.Crates.{canons_so, crate_rows, up}

@@ -1,19 +1,13 @@
 -- Scopes that are placed one behind another are those of the tokens, in turn.
-use Rattle.std.proofs.Common.{◌≡◌, ◌≤◌, ◌<◌, ◌==◌, ◌+◌, ◌⊎◌, inl, inr, arith, ℕ, zero, suc, List, [], ◌∷◌, ◌++◌, map, length, Bool, true, refl, sym, ap, subst, eqb-true, ◌∙◌}
+use Rattle.reg_audit_law.proofs.Words.{◌≡◌, ◌≤◌, ◌<◌, ◌==◌, ◌+◌, inl, inr, arith, ℕ, zero, suc, List, [], ◌∷◌, ◌++◌, map, length, Bool}
+use Rattle.reg_audit_law.proofs.Words.{true, refl, sym, ap, subst, eqb-true, ◌∙◌, enumerate_from, flat_map, list_all, and_parts, eq-eqb}
+use Rattle.reg_audit_law.proofs.Words.{ne_eqb, length-map, is_pattern, range_of, columns_of_scope, scope_of, scopes_of, Scope, Token}
+use Rattle.reg_audit_law.proofs.Words.{are_counted, are_placed, follow, is_scope, patterns_of, token_from}
+use Rattle.std.proofs.Common.{◌⊎◌}
 use Rattle.reg_audit_law.proofs.Common.{◌&&◌, ◌||◌, bytes_eq, Row, string_bytes}
-use Rattle.std.specs.List.{enumerate_from, flat_map, list_all}
-use Rattle.std.proofs.lemmas.Bool.{and_parts, or_cases, eq-eqb, ne_eqb}
-use Rattle.std.proofs.lemmas.List.{length-map}
+use Rattle.std.proofs.lemmas.Bool.{or_cases}
 use Rattle.std.proofs.lemmas.Slice.Eq.{bytes_eq-Decides}
 use Rattle.sqlite_trees.proofs.ListLemmas.{flat_map-map, flat_map_none}
-use Rattle.reg_names.specs.Patterns.{is_pattern}
-use Rattle.reg_names.specs.Ranges.{range_of}
-use Rattle.reg_tables_sql.specs.Scopes.{columns_of_scope}
-use Rattle.reg_tables_meaning.specs.Stands.{scope_of, scopes_of}
-use Rattle.reg_tables_sql.specs.declared.scopes.Scope.{Scope}
-use Rattle.reg_tables_sql.specs.declared.tokens.Token.{Token}
-use Rattle.reg_audit.specs.Checks.{are_counted, are_placed, follow, is_scope}
-use Rattle.reg_audit_law.specs.RegistryFrom.{patterns_of, token_from}
 use Rattle.reg_audit_law.proofs.Shapes.{counted_are, counted_ids, upto}
 
 -- the scope is the next after that of this token at this place

@@ -1,17 +1,11 @@
 -- The scopes of tokens that stand for those of a sound registry are placed, and have their ranges.
-use Rattle.std.proofs.Common.{◌≡◌, ◌==◌, ◌+◌, arith, ℕ, suc, List, [], ◌∷◌, ◌++◌, map, length, Bool, true, refl, sym, ap, subst, ◌∙◌}
-use Rattle.std.specs.Prelude.{◌&&◌, ◌||◌, nat_lt, string_bytes}
-use Rattle.std.specs.List.{enumerate_from, flat_map, list_all}
-use Rattle.std.proofs.lemmas.Bool.{and_parts, and_from, eq-eqb, eqb-true, or_left, or_right}
+use Rattle.reg_audit_law.proofs.Words.{◌≡◌, ◌==◌, ◌+◌, arith, ℕ, suc, List, [], ◌∷◌, ◌++◌, map, length, Bool, true, refl, sym, ap, subst}
+use Rattle.reg_audit_law.proofs.Words.{◌∙◌, ◌&&◌, ◌||◌, nat_lt, string_bytes, enumerate_from, flat_map, list_all, and_parts, and_from}
+use Rattle.reg_audit_law.proofs.Words.{eq-eqb, is_pattern, range_of, columns_of_scope, scope_of, scopes_of, Scope, same_head, same_tail}
+use Rattle.reg_audit_law.proofs.Words.{follow, are_placed, is_scope}
+use Rattle.std.proofs.lemmas.Bool.{eqb-true, or_left, or_right}
 use Rattle.reg_audit_law.proofs.Common.{bytes_same, heads, number_is, Row, tails, words_are}
-use Rattle.reg_names.specs.Patterns.{is_pattern}
-use Rattle.reg_names.specs.Ranges.{range_of}
 use Rattle.reg_model.specs.Registry as model
-use Rattle.reg_tables_sql.specs.Scopes.{columns_of_scope}
-use Rattle.reg_tables_meaning.specs.Stands.{scope_of, scopes_of}
-use Rattle.reg_tables_sql.specs.declared.scopes.Scope.{Scope}
-use Rattle.reg_tables_meaning.proofs.Selected.{same_head, same_tail}
-use Rattle.reg_audit.specs.Checks.{follow, are_placed, is_scope}
 
 pub record IsAt (s : Scope) (n k : ℕ) (p : model.Text) : Type 0 where
   pub token : s.token ≡ n

@@ -1,13 +1,8 @@
 -- Scopes that are placed: each token has one, and each pattern is one.
+use Rattle.reg_audit_law.proofs.Words.{string_bytes, ◌&&◌, ◌||◌, filter, cond, nat_lt, and_parts, and_from, eq-eqb, is_pattern, range_of}
+use Rattle.reg_audit_law.proofs.Words.{or_left, or_right, Scope, are_placed, follow, is_scope, patterns_of}
 use Rattle.reg_audit_law.proofs.Common.{◌≡◌, ◌==◌, ◌+◌, [], ◌∷◌, ◌∙◌, all_weaker, AllByRecursion, ap, arith, Bool, bytes_eq, eqb-true, false, inl, inr, length, List, list_all, list_any, map, refl, subst, suc, true, zero, ℕ}
-use Rattle.std.specs.Prelude.{string_bytes, ◌&&◌, ◌||◌, filter, cond, nat_lt}
-use Rattle.std.proofs.lemmas.Bool.{and_parts, and_from, eq-eqb, lt-ltb}
-use Rattle.reg_names.specs.Patterns.{is_pattern}
-use Rattle.reg_names.specs.Ranges.{range_of}
-use Rattle.reg_model.proofs.Lists.{or_left, or_right}
-use Rattle.reg_tables_sql.specs.declared.scopes.Scope.{Scope}
-use Rattle.reg_audit.specs.Checks.{are_placed, follow, is_scope}
-use Rattle.reg_audit_law.specs.RegistryFrom.{patterns_of}
+use Rattle.std.proofs.lemmas.Bool.{lt-ltb}
 use Rattle.reg_audit_law.proofs.ScopeWalk.{Next, is_next, next_of}
 use Rattle.reg_audit_law.proofs.Shapes.{upto}
 

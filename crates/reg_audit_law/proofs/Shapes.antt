@@ -1,9 +1,7 @@
 -- Rows that are told by what is shown of them, and lists with their places as ids.
+use Rattle.reg_audit_law.proofs.Words.{Ordering, IsPermutation-map, IsPermutation-sym, all-permutation}
 use Rattle.reg_audit_law.proofs.Common.{◌≡◌, ◌==◌, ◌+◌, [], ◌∷◌, ◌∙◌, AllByRecursion, and_parts, ap, are_counted, enumerate_from, eqb-true, IsInOrder, IsPermutation, length, List, map, maps_twice, Null, refl, Row, subst, suc, sym, true, zero, ℕ}
-use Rattle.std.specs.declared.cmp.Ordering.{Ordering}
 use Rattle.std.proofs.lemmas.List.{map-id}
-use Rattle.std.proofs.lemmas.List.Sorted.{IsPermutation-map, IsPermutation-sym}
-use Rattle.sqlite_trees.proofs.ListLemmas.{all-permutation}
 
 -- the columns of a row with a key, behind the key and NULL in its own column
 abbrev pub with_null : Row → Row

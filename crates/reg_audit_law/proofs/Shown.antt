@@ -1,12 +1,9 @@
 -- What is shown of rows in an order, told of what the rows stand for.
-use Rattle.std.proofs.Common.{◌≡◌, inl, inr, ℕ, pos, Less, List, [], ◌∷◌, map, refl, sym, ap₂, subst}
+use Rattle.reg_audit_law.proofs.Words.{◌≡◌, inl, inr, ℕ, pos, Less, List, [], ◌∷◌, map, refl, sym, ap₂, subst, IsPermutation, Ordering}
+use Rattle.reg_audit_law.proofs.Words.{IsPermutation-map, IsAscending, all_from_map, ascending-map, number_below, same_head, same_tail}
 use Rattle.reg_audit_law.proofs.Common.{by_column, drop, Int, IsIn, IsInOrder, nat_cmp, Row, shows}
-use Rattle.std.specs.List.Sorted.{IsPermutation, IsStrictlySortedBy}
-use Rattle.std.specs.declared.cmp.Ordering.{Ordering}
-use Rattle.std.proofs.lemmas.List.Sorted.{IsPermutation-map}
-use Rattle.sqlite_trees.specs.Tree.{IsAscending}
-use Rattle.sqlite_trees.proofs.ListLemmas.{all_from_map, ascending-map, ascending_weaker}
-use Rattle.reg_tables_meaning.proofs.Selected.{number_below, same_head, same_tail}
+use Rattle.std.specs.List.Sorted.{IsStrictlySortedBy}
+use Rattle.sqlite_trees.proofs.ListLemmas.{ascending_weaker}
 use Rattle.reg_tables_meaning.proofs.VersionEntries.{less_is}
 
 module _ {X : Type 0} (id : X → ℕ) (behind : X → Row) where

@@ -1,20 +1,15 @@
 -- What passes makes sound publications and marks.
+use Rattle.reg_audit_law.proofs.Words.{AllByRecursion, list_all, option_map, and_from, eqb-false, all-map, IsStemOf, Publication, mark_cmp}
+use Rattle.reg_audit_law.proofs.Words.{mark_total, mark_apart, same_key, IsIn, any_in, in_any, in_all, in_each, in_map, map_in, in_filter}
+use Rattle.reg_audit_law.proofs.Words.{archives_with_id, canon_from, mark_from, name_from, publication_from, registry_from, spelling}
 use Rattle.reg_audit_law.proofs.Common.{◌≡◌, ◌==◌, ◌∙◌, ◌&&◌, AllRows, ap, ap₂, Bool, bytes_eq, bytes_same, canon, eq_by_cmp, eqb-true, false, filter, is_name, List, map, not_true, refl, same_bytes, string_bytes, subst, sym, Trees, true, Version}
-use Rattle.std.specs.List.{AllByRecursion, IsDistinct, list_all}
-use Rattle.std.specs.Option.{option_map}
+use Rattle.std.specs.List.{IsDistinct}
 use Rattle.std.specs.FinSet as finset
-use Rattle.std.proofs.lemmas.Bool.{and_from, eqb-false}
-use Rattle.sqlite_trees.proofs.ListLemmas.{all-map}
-use Rattle.reg_line.specs.StemCheck.{IsStemOf}
 use Rattle.reg_model.specs.Crates.{collides, first}
 use Rattle.reg_model.specs.Registry as model
-use Rattle.reg_model.specs.Registry.{Publication, mark_cmp, holds}
+use Rattle.reg_model.specs.Registry.{holds}
 use Rattle.reg_model.specs.Sound as sound
 use Rattle.reg_model.specs.Steps as steps
-use Rattle.reg_model.proofs.Keys.{mark_total, mark_apart, same_key}
-use Rattle.reg_model.proofs.Members.{IsIn, any_in, in_any, in_all, in_each, in_map, map_in, in_filter}
-use Rattle.reg_tables_sql.specs.Archives.{archives_with_id}
-use Rattle.reg_audit_law.specs.RegistryFrom.{canon_from, mark_from, name_from, publication_from, registry_from, spelling}
 use Rattle.reg_audit_law.proofs.Archives.{archive_digest}
 use Rattle.reg_audit_law.proofs.Lists.{find_some}
 use Rattle.reg_audit_law.proofs.Passing.{Passing, archive_is, crate_is, genuine}

@@ -1,13 +1,10 @@
 -- What passes makes sound owners, readers and restricted crates.
+use Rattle.reg_audit_law.proofs.Words.{◌&&◌, is_some, Publication, owner_cmp, text_cmp, with_id, owner_total, owner_apart, same_key}
+use Rattle.reg_audit_law.proofs.Words.{text_apart, ties_itself, Pair, canon_from, pair_from, publication_from, registry_from}
 use Rattle.reg_audit_law.proofs.Common.{◌≡◌, ◌==◌, ◌∙◌, all_in, all_weaker, AllByRecursion, AllRows, and_parts, any_in, ap, bytes_eq, bytes_same, canon, Crate, each_in, eq_by_cmp, eqb-true, has_account, has_crate, in_any, in_each, in_map, Int, List, map, map_in, nat_list_cmp_total, pos, same_bytes, subst, sym, Trees, true, ℕ}
-use Rattle.std.specs.Prelude.{◌&&◌, is_some}
 use Rattle.std.specs.FinSet as finset
 use Rattle.reg_model.specs.Crates as crates_of
 use Rattle.reg_model.specs.Registry as model
-use Rattle.reg_model.specs.Registry.{Publication, owner_cmp, text_cmp, with_id}
-use Rattle.reg_model.proofs.Keys.{owner_total, owner_apart, same_key, text_apart, ties_itself}
-use Rattle.reg_tables_sql.specs.declared.pairs.Pair.{Pair}
-use Rattle.reg_audit_law.specs.RegistryFrom.{canon_from, pair_from, publication_from, registry_from}
 use Rattle.reg_audit_law.proofs.Pairs.{Refers, owners_of_crates, readers_of_crates, second_refers}
 use Rattle.reg_audit_law.proofs.Passing.{Passing, crate_is, readers_there, restricted_there}
 use Rattle.reg_audit_law.proofs.SoundTokens.{account_there, refers_to_account}

@@ -1,29 +1,17 @@
 -- What passes makes sound accounts, tokens and reserved names.
+use Rattle.reg_audit_law.proofs.Words.{string_bytes, ◌&&◌, ◌||◌, is_some, AllByRecursion, enumerate_from, list_all, list_any, is_eq, on}
+use Rattle.reg_audit_law.proofs.Words.{and_parts, and_from, not-true, length-map, list_all-map, IsPermutation-sym, list_any-IsPermutation}
+use Rattle.reg_audit_law.proofs.Words.{is_eq-slice_cmp, all-permutation, all_from_map, with_id, text_cmp, same_key, text_apart, Scope}
+use Rattle.reg_audit_law.proofs.Words.{Token, row_of_account, row_of_token, same_text, has_account, is_reserved, is_scope, is_token, C6}
+use Rattle.reg_audit_law.proofs.Words.{account_from, registry_from, token_from, RefersTo, same_value}
 use Rattle.reg_audit_law.proofs.Common.{◌≡◌, ◌==◌, ◌+◌, [], ◌∷◌, ◌∙◌, all_in, AllRows, any_in, ap, bytes_eq, canon, false, Int, is_name, length, List, list_any_map, map, nat_list_cmp_total, not, pos, refl, Row, rowid, same_bytes, same_number, subst, sym, Trees, true, ℕ}
-use Rattle.std.specs.Prelude.{string_bytes, ◌&&◌, ◌||◌, is_some}
-use Rattle.std.specs.List.{AllByRecursion, IsDistinct, enumerate_from, list_all, list_any}
-use Rattle.std.specs.Ordering.{is_eq, on, eq_by_cmp}
+use Rattle.std.specs.List.{IsDistinct}
+use Rattle.std.specs.Ordering.{eq_by_cmp}
 use Rattle.std.specs.FinSet as finset
-use Rattle.std.proofs.lemmas.Bool.{and_parts, and_from, not-true}
-use Rattle.std.proofs.lemmas.List.{length-map}
-use Rattle.std.proofs.lemmas.List.Folds.{list_all-map}
-use Rattle.std.proofs.lemmas.List.Sorted.{IsPermutation-sym, list_any-IsPermutation}
-use Rattle.std.proofs.lemmas.Map.Text.{is_eq-slice_cmp}
-use Rattle.sqlite_trees.proofs.ListLemmas.{all-permutation, all_from_map}
 use Rattle.sqlite_value.proofs.OrderLemmas.{value_cmp-Blob}
 use Rattle.reg_model.specs.Crates.{is_reserved_always}
 use Rattle.reg_model.specs.Registry as model
-use Rattle.reg_model.specs.Registry.{with_id, text_cmp}
 use Rattle.reg_model.specs.Sound as sound
-use Rattle.reg_model.proofs.Keys.{same_key, text_apart}
-use Rattle.reg_tables_sql.specs.declared.scopes.Scope.{Scope}
-use Rattle.reg_tables_sql.specs.declared.tokens.Token.{Token}
-use Rattle.reg_tables_meaning.specs.Stands.{row_of_account, row_of_token}
-use Rattle.reg_tables_meaning.proofs.AccountEntries.{same_text}
-use Rattle.reg_audit.specs.Checks.{has_account, is_reserved, is_scope, is_token}
-use Rattle.reg_audit.specs.declared.check.Check.TheVariants.{C6}
-use Rattle.reg_audit_law.specs.RegistryFrom.{account_from, registry_from, token_from}
-use Rattle.reg_audit_law.specs.Rules.{RefersTo, same_value}
 use Rattle.reg_audit_law.proofs.Accounts.{accounts_stand}
 use Rattle.reg_audit_law.proofs.Ids.{there_at}
 use Rattle.reg_audit_law.proofs.Passing.{Passing, accounts_are, tokens_are}

@@ -1,15 +1,13 @@
 -- What SQL's = and <> say of values, and a key of a plain order.
-use Rattle.std.proofs.Common.{◌≡◌, Bool, true, false, not, ℕ, [], ◌∷◌, Ordering, Less, Equal, Greater, refl, sym, ap, ap₂, ◌∙◌}
-use Rattle.std.specs.Prelude.{◌||◌, ◌&&◌, if◌then◌else◌, Some}
-use Rattle.std.specs.Ordering.{is_eq, is_ne}
-use Rattle.sqlite.specs.declared.types.Value.{Value}
-use Rattle.sqlite.specs.declared.types.Value.TheVariants.{Null}
+use Rattle.reg_audit_law.proofs.Words.{◌≡◌, Bool, true, false, not, ℕ, [], ◌∷◌, Less, Equal, Greater, refl, sym, ap, ap₂, ◌∙◌, ◌||◌, ◌&&◌}
+use Rattle.reg_audit_law.proofs.Words.{if◌then◌else◌, is_eq, Value, Null, Row, column, value_cmp, agree, differ, plain, same_value}
+use Rattle.std.proofs.Common.{Ordering}
+use Rattle.std.specs.Prelude.{Some}
+use Rattle.std.specs.Ordering.{is_ne}
 use Rattle.sqlite.specs.Collation.TheVariants.{Binary}
-use Rattle.sqlite.specs.Order.{Row, column, value_cmp}
-use Rattle.sqlite_schema.specs.Rules.{agree, differ, equal}
+use Rattle.sqlite_schema.specs.Rules.{equal}
 use Rattle.sqlite_sql.specs.Ops.{binary, from_truth, is_null, is_true}
-use Rattle.sqlite_value.specs.Keys.{first_key, plain}
-use Rattle.reg_audit_law.specs.Rules.{same_value}
+use Rattle.sqlite_value.specs.Keys.{first_key}
 
 truth_is : (b : Bool) → is_true (from_truth (Some b)) ≡ b
 truth_is true = refl

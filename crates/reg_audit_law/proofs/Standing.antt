@@ -1,7 +1,6 @@
 -- Rows that are a sound registry.
+use Rattle.reg_audit_law.proofs.Words.{Holds, AreAllRows}
 use Rattle.reg_audit_law.proofs.Common.{AllRows, Ids, Registry, Trees}
-use Rattle.reg_tables_meaning.specs.Stands.{Holds}
-use Rattle.reg_tables_rows.specs.WholeRows.{AreAllRows}
 
 pub record Standing (it : AllRows) (db : Trees) (ids : Ids) (s : Registry) : Type 0 where
   pub are : AreAllRows it db

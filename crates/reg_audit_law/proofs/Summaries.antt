@@ -1,16 +1,13 @@
 -- Summaries that pass are those of what is built from the records.
+use Rattle.reg_audit_law.proofs.Words.{IsIn, in_filter, map_same, filter_map, columns_of_summary, Summary, StandSummaries, highest_in}
+use Rattle.reg_audit_law.proofs.Words.{length_in, mark_shown, row_of_summary, highest_same, length_same, is_summary, its_versions, ids_from}
+use Rattle.reg_audit_law.proofs.Words.{registry_from, version_from, IsKeyed}
 use Rattle.reg_audit_law.proofs.Common.{◌≡◌, ◌==◌, [], ◌∷◌, ◌∙◌, all_weaker, AllRows, and_parts, ap, by_column, entry_of_crate, eqb-true, filter, Ids, Int, IsPermutation, length, map, maps_twice, mark_cmp, Null, pos, Row, shows, string_bytes, subst, sym, Trees, Version, ℕ}
 use Rattle.std.specs.FinSet as finset
-use Rattle.reg_model.proofs.Members.{IsIn, all_in, in_filter, map_same}
-use Rattle.reg_tables_schema.proofs.Permutes.{filter_map}
-use Rattle.reg_tables_sql.specs.Summaries.{columns_of_summary}
-use Rattle.reg_tables_sql.specs.declared.summaries.Summary.{Summary}
-use Rattle.reg_tables_meaning.specs.Summaries.{StandSummaries, highest_in, length_in, mark_shown, row_among, row_of_summary}
+use Rattle.reg_model.proofs.Members.{all_in}
+use Rattle.reg_tables_meaning.specs.Summaries.{row_among}
 use Rattle.reg_tables_meaning.specs.Summaries as stored
-use Rattle.reg_tables_meaning.proofs.SummaryRows.{highest_same, length_same}
-use Rattle.reg_audit.specs.Checks.{is_summary, its_versions, shown_version}
-use Rattle.reg_audit_law.specs.RegistryFrom.{ids_from, registry_from, version_from}
-use Rattle.reg_audit_law.specs.Rules.{IsKeyed}
+use Rattle.reg_audit.specs.Checks.{shown_version}
 use Rattle.reg_audit_law.proofs.Passing.{Passing, summaries_whole, summary_ids}
 use Rattle.reg_audit_law.proofs.Shapes.{whole_rows, with_null}
 use Rattle.reg_audit_law.proofs.Versions.{marked}

@@ -1,13 +1,11 @@
 -- The summaries of a sound registry pass.
+use Rattle.reg_audit_law.proofs.Words.{columns_of_summary, Summary, highest_in, length_in, row_of_summary, column_total, each_part}
+use Rattle.reg_audit_law.proofs.Words.{shown_in_turn, highest_same, length_same, is_summary, its_versions}
 use Rattle.reg_audit_law.proofs.Common.{◌≡◌, ◌==◌, [], ◌∷◌, ◌∙◌, AllRows, and_from, ap, by_column, bytes_eq, bytes_same, drop, entry_of_crate, eq-eqb, heads, Ids, in_all, in_map, IsIn, List, map, map_in, maps_twice, mark_cmp, number_is, Registry, Row, shows, StoredCrate, subst, sym, tails, Trees, true, ℕ}
 use Rattle.std.specs.FinSet as finset
-use Rattle.reg_tables_sql.specs.Summaries.{columns_of_summary}
-use Rattle.reg_tables_sql.specs.declared.summaries.Summary.{Summary}
-use Rattle.reg_tables_meaning.specs.Summaries.{highest_in, highest_of, length_in, length_of, row_of_summary}
+use Rattle.reg_tables_meaning.specs.Summaries.{highest_of, length_of}
 use Rattle.reg_tables_meaning.specs.Summaries as stored
-use Rattle.reg_tables_meaning.proofs.Selected.{column_total, each_part, shown_in_turn}
-use Rattle.reg_tables_meaning.proofs.SummaryRows.{highest_same, length_same}
-use Rattle.reg_audit.specs.Checks.{is_summary, its_versions, summaries_pass}
+use Rattle.reg_audit.specs.Checks.{summaries_pass}
 use Rattle.reg_audit_law.proofs.ListedCrates.{crates_listed}
 use Rattle.reg_audit_law.proofs.ListedVersions.{its_listed}
 use Rattle.reg_audit_law.proofs.Shown.{rows_rise}

@@ -1,11 +1,8 @@
 -- Tokens that pass, with their scopes, stand for tokens with patterns.
+use Rattle.reg_audit_law.proofs.Words.{by_column, by_columns, columns_of_scope, columns_of_token, row_of_token, registry_from, token_from}
+use Rattle.reg_audit_law.proofs.Words.{IsKeyed, IsWhole}
 use Rattle.reg_audit_law.proofs.Common.{◌≡◌, [], ◌∷◌, ◌∙◌, all_weaker, AllRows, ap, drop, IsPermutation, map, maps_twice, Row, shows, subst, sym, Trees}
-use Rattle.reg_tables_schema.specs.Rows.{by_column, by_columns}
-use Rattle.reg_tables_sql.specs.Scopes.{columns_of_scope}
-use Rattle.reg_tables_sql.specs.Tokens.{columns_of_token}
-use Rattle.reg_tables_meaning.specs.Stands.{StandTokens, row_of_token}
-use Rattle.reg_audit_law.specs.RegistryFrom.{registry_from, token_from}
-use Rattle.reg_audit_law.specs.Rules.{IsKeyed, IsWhole}
+use Rattle.reg_tables_meaning.specs.Stands.{StandTokens}
 use Rattle.reg_audit_law.proofs.Passing.{Passing, tokens_are}
 use Rattle.reg_audit_law.proofs.ScopeWalk.{scopes_are}
 use Rattle.reg_audit_law.proofs.Shapes.{with_null, rows_from, whole_rows, counted_are}

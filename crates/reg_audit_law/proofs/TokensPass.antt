@@ -1,18 +1,15 @@
 -- The ids and the endpoints of tokens that stand for those of a sound registry.
+use Rattle.reg_audit_law.proofs.Words.{list_all-map, are_counted, is_token, tokens_pass, columns_of_scope, length-map}
 use Rattle.reg_audit_law.proofs.Common.{◌≡◌, ◌==◌, ◌∙◌, ◌&&◌, AllRows, and_from, and_parts, ap, Bool, enumerate_from, Ids, length, list_all, map, maps_twice, sym, Trees, true}
-use Rattle.std.proofs.lemmas.List.Folds.{list_all-map}
 use Rattle.reg_model.specs.Registry as model
 use Rattle.reg_model.specs.Sound as sound
 use Rattle.reg_model.proofs.Lists.{all_so}
 use Rattle.reg_audit_law.proofs.Standing.{Standing}
 use Rattle.reg_tables_meaning.specs.TokenEntries.{entry_of_token, without_patterns}
 use Rattle.reg_tables_meaning.proofs.TokenEntries.{lists_tokens}
-use Rattle.reg_audit.specs.Checks.{are_counted, is_token, tokens_pass}
 use Rattle.reg_audit_law.proofs.AccountsPass.{are_places, each_value}
 use Rattle.reg_audit_law.proofs.ScopesPass.{has_patterns, placed}
 use Rattle.reg_tables_meaning.proofs.ScopeRows.{lists_scopes}
-use Rattle.reg_tables_sql.specs.Scopes.{columns_of_scope}
-use Rattle.std.proofs.lemmas.List.{length-map}
 use Rattle.std.proofs.lemmas.List.FromFn.{length-enumerate_from}
 
 abbrev is_whole : model.Token → Bool

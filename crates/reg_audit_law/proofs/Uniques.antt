@@ -1,15 +1,10 @@
 -- Rows without equals are of elements without equals.
+use Rattle.reg_audit_law.proofs.Words.{◌&&◌, cond, filter, AllByRecursion, enumerate_from, find, IsDistinct-IsPermutation, Value, same_head}
+use Rattle.reg_audit_law.proofs.Words.{value_cmp_total, HaveOwnRowids, IsIn, distinct_from_map, same_at, same_value, AreUnique}
 use Rattle.reg_audit_law.proofs.Common.{◌≡◌, ◌+◌, [], ◌∷◌, ◌∙◌, ap, Bool, column, false, inl, inr, Int, IsPermutation, IsPermutation-sym, List, map, pos, refl, Row, rowid, same_number, Some, sym, true, ℕ}
-use Rattle.std.specs.Prelude.{◌&&◌, ◌==◌, cond, filter}
-use Rattle.std.specs.List.{AllByRecursion, IsDistinct, enumerate_from, find}
+use Rattle.std.specs.Prelude.{◌==◌}
+use Rattle.std.specs.List.{IsDistinct}
 use Rattle.std.specs.Cmp.{eq_by_cmp_equiv}
-use Rattle.std.proofs.lemmas.Map.Keys.{IsDistinct-IsPermutation}
-use Rattle.sqlite.specs.declared.types.Value.{Value}
-use Rattle.reg_tables_meaning.proofs.Selected.{same_head}
-use Rattle.sqlite_value.proofs.OrderLemmas.{value_cmp_total}
-use Rattle.reg_tables_meaning.specs.Stands.{HaveOwnRowids}
-use Rattle.reg_model.proofs.Members.{IsIn, distinct_from_map}
-use Rattle.reg_audit_law.specs.Rules.{same_at, same_value, AreUnique}
 
 pub value_flips : (a b : Value) → same_value a b ≡ same_value b a
 value_flips a b = (eq_by_cmp_equiv value_cmp_total).symm a b

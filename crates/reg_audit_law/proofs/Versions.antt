@@ -1,22 +1,18 @@
 -- Versions that pass: their rows, their ids and their crates, and the marks of those that are yanked.
+use Rattle.reg_audit_law.proofs.Words.{list_all, list_any, IsPermutation, option_map, Null, Int, Text, Blob, release_key_of, mark_cmp}
+use Rattle.reg_audit_law.proofs.Words.{mark_total, mark_apart, same_key, ties_itself, true_not_false, not_true, IsIn, any_in, in_all}
+use Rattle.reg_audit_law.proofs.Words.{in_any, in_map, map_in, map_same, one_of, by_column, columns_of_version, row_of_version, StoredCrate}
+use Rattle.reg_audit_law.proofs.Words.{StoredVersion, same_text, mark_from, name_from, registry_from, spelling, version_from, IsKeyed}
+use Rattle.reg_audit_law.proofs.Words.{same_at}
 use Rattle.reg_audit_law.proofs.Common.{◌≡◌, ◌==◌, [], ◌∷◌, ◌∙◌, ◌&&◌, all_weaker, AllRows, and_from, and_parts, ap, ap₂, Bool, bytes_eq, bytes_same, canon, column, Crate, drop, entry_of_crate, eq-eqb, eq_by_cmp, eqb-true, false, filter, List, map, maps_twice, nat_cmp, pos, refl, Row, same_number, shows, string_bytes, subst, sym, Trees, true, Version}
-use Rattle.std.specs.List.{IsDistinct, list_all, list_any}
-use Rattle.std.specs.List.Sorted.{IsPermutation, IsStrictlySortedBy}
-use Rattle.std.specs.Option.{option_map}
+use Rattle.std.specs.List.{IsDistinct}
+use Rattle.std.specs.List.Sorted.{IsStrictlySortedBy}
 use Rattle.std.specs.FinSet as finset
-use Rattle.sqlite.specs.declared.types.Value.TheVariants.{Null, Int, Text, Blob}
-use Rattle.reg_versions.specs.Versions.{release_key_of}
-use Rattle.reg_model.specs.Registry.{mark_cmp, Mark}
-use Rattle.reg_model.proofs.Keys.{mark_total, mark_apart, same_key, ties_itself}
-use Rattle.reg_model.proofs.Lists.{list_any_map, any_filter, true_not_false, not_true}
-use Rattle.reg_model.proofs.Members.{IsIn, any_in, in_all, in_any, in_map, map_in, none_in, map_same, one_of}
-use Rattle.reg_tables_schema.specs.Rows.{mark, text_or_null, by_column}
-use Rattle.reg_tables_sql.specs.Versions.{columns_of_version}
-use Rattle.reg_tables_meaning.specs.Stands.{row_of_version, is_of}
-use Rattle.reg_tables_meaning.specs.Stored.{StoredCrate, StoredVersion}
-use Rattle.reg_tables_meaning.proofs.AccountEntries.{same_text}
-use Rattle.reg_audit_law.specs.RegistryFrom.{mark_from, name_from, registry_from, spelling, version_from}
-use Rattle.reg_audit_law.specs.Rules.{IsKeyed, same_at}
+use Rattle.reg_model.specs.Registry.{Mark}
+use Rattle.reg_model.proofs.Lists.{list_any_map, any_filter}
+use Rattle.reg_model.proofs.Members.{none_in}
+use Rattle.reg_tables_schema.specs.Rows.{mark, text_or_null}
+use Rattle.reg_tables_meaning.specs.Stands.{is_of}
 use Rattle.reg_audit_law.proofs.Crates.{found_in, name_of, one_crate}
 use Rattle.reg_audit_law.proofs.Passing.{Passing, crate_is, genuine}
 use Rattle.reg_audit_law.proofs.Plain.{flips}

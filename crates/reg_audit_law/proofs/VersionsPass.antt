@@ -1,20 +1,13 @@
 -- The versions and archives of a sound registry pass.
+use Rattle.reg_audit_law.proofs.Words.{nat_eq, string_bytes, on, sha256, Blob, Int, release_key_of, IsStemOf, IsIn, each_in, in_all}
+use Rattle.reg_audit_law.proofs.Words.{in_each, one_passes, is_number, shows, archive_places, archives_with_id, row_of_archive, Ids}
+use Rattle.reg_audit_law.proofs.Words.{StoredCrate, StoredVersion, apart_by, bytes_same, is_published}
 use Rattle.reg_audit_law.proofs.Common.{◌≡◌, [], ◌∷◌, ◌∙◌, AllRows, ap, Bool, eq-eqb, eqb-true, length, List, map, pos, refl, Registry, same_number, subst, sym, Trees, true, Version}
-use Rattle.std.specs.Prelude.{nat_eq, string_bytes}
-use Rattle.std.specs.Ordering.{on}
-use Rattle.sha2.specs.Sha256.{sha256}
 use Rattle.sha2.proofs.Facts256.{length-sha256}
-use Rattle.sqlite.specs.declared.types.Value.TheVariants.{Blob, Int}
-use Rattle.reg_versions.specs.Versions.{is_version, release_key_of}
-use Rattle.reg_line.specs.StemCheck.{IsStemOf}
+use Rattle.reg_versions.specs.Versions.{is_version}
 use Rattle.reg_model.specs.Steps as steps
-use Rattle.reg_model.proofs.Members.{IsIn, each_in, in_all, in_each, one_passes}
-use Rattle.reg_tables_schema.specs.Tests.{is_number, shows}
 use Rattle.reg_tables_schema.proofs.Permutes.{one_row}
-use Rattle.reg_tables_sql.specs.Archives.{archive_places, archives_with_id}
-use Rattle.reg_tables_meaning.specs.Stands.{row_of_archive}
-use Rattle.reg_tables_meaning.specs.Stored.{Ids, StoredCrate, StoredVersion}
-use Rattle.reg_tables_meaning.proofs.CrateLemmas.{apart_by, bytes_same, crate_of, is_published}
+use Rattle.reg_tables_meaning.proofs.CrateLemmas.{crate_of}
 use Rattle.reg_audit.specs.Checks as checks
 use Rattle.reg_audit_law.proofs.ListedCrates.{found_at, in_list}
 use Rattle.reg_audit_law.proofs.ListedVersions.{Told, version_in}

@@ -1,6 +1,6 @@
 //! How much a registry accepts.
 
-ghost use Rattle.std.specs.Prelude.{◌≡◌, ◌+◌};
+ghost use Rattle.std.specs.Prelude.{◌≡◌, ◌+◌, ◌-◌, ◌^◌, ◌<◌};
 
 /// The limits of a registry and of its streams. What is at its limit is still accepted.
 #[derive(Clone, Copy, Debug, PartialEq, Eq)]
@@ -48,9 +48,10 @@ impl Limits {
         turns: 100_000_000,
     };
 
-    /// How many bytes the largest publish body has.
+    /// How many bytes the largest publish body has; a saturated number is more.
     pub fn greatest_body(&self) -> u64
-        ensures { result ≡ 8 + (self.now.json + self.now.archive) }
+        ensures value { result ≡ 8 + (self.now.json + self.now.archive) }
+        ensures small { result < 2 ^ 64 - 1 }
     {
         8 + self.json as u64 + self.archive as u64
     }

@@ -1,27 +1,19 @@
 -- One more exchange behind those that were done.
-use Rattle.std.proofs.Common.{◌≡◌, ◌+◌, ◌++◌, ◌==◌, ◌≢◌, ℕ, false, List, [], ◌∷◌, refl, sym, ap, ◌∙◌, subst, arith, append_assoc, append-nil, length-append, map}
+use Rattle.reg_http.proofs.Words.{◌≡◌, ◌+◌, ◌++◌, ◌==◌, ℕ, false, List, [], ◌∷◌, refl, sym, ap, ◌∙◌, subst, arith, append_assoc, append-nil}
+use Rattle.reg_http.proofs.Words.{Ghosts, Limits, Answer, Event, Text, IsFit, Answers, Ran, Tables, request_from, event_of, Exchange}
+use Rattle.reg_http.proofs.Words.{Outcome, answers_in, events_in, Answered, NoMethod, NoRoom, NoRoute, Unread, Goes, HasRun, IsOpen, told}
+use Rattle.reg_http.proofs.Words.{trail_in, Tail, Trails}
+use Rattle.std.proofs.Common.{◌≢◌, length-append, map}
 use Rattle.std.proofs.lemmas.Bool.{eqb-false}
 use Rattle.std.proofs.lemmas.Grind.{flat_map-append}
 use Rattle.std.proofs.lemmas.List.{map-append}
 use Rattle.std.proofs.lemmas.List.Elements.{All-push}
-use Rattle.sqlite_trees.specs.declared.store.Store.{Ghosts}
-use Rattle.reg_body.specs.declared.limits.Limits.{Limits}
-use Rattle.reg_model.specs.Events.{Answer, Event}
 use Rattle.reg_model.specs.Registry as model
-use Rattle.reg_model.specs.Registry.{Text}
 use Rattle.reg_model.specs.Trail.{told as line_told, trail}
 use Rattle.reg_model.specs.TrailLaws.{TrailOfOne, TrailsJoin}
-use Rattle.reg_model.specs.Steps.{IsFit}
-use Rattle.reg_service.specs.Answered.{Answers}
-use Rattle.reg_service.specs.Sequences.{Ran}
-use Rattle.reg_tables.specs.declared.tables.Tables.{Tables}
-use Rattle.reg_api_requests.specs.Requests.{request_from}
-use Rattle.reg_api_requests.specs.Views.{event_of}
 use Rattle.reg_http.specs.Answering.{Moves}
-use Rattle.reg_http.specs.Exchanges.{Exchange, Outcome, answers_in, event_in, events_in, steps_in}
-use Rattle.reg_http.specs.Exchanges.Outcome.{Answered, NoMethod, NoRoom, NoRoute, Unread}
-use Rattle.reg_http.specs.Streams.{asked, Goes, HasRun, IsOpen, replied, told, trail_in}
-use Rattle.reg_http.specs.Trails.{Tail, Trails}
+use Rattle.reg_http.specs.Exchanges.{event_in, steps_in}
+use Rattle.reg_http.specs.Streams.{asked, replied}
 use Rattle.reg_http.proofs.Trails.{trails_both}
 
 not_last : (m n : ℕ) → (m == n) ≡ false → m ≢ n

@@ -1,16 +1,10 @@
 -- What goes on over one step, and what of a traced stream holds of one that is not traced.
-use Rattle.std.proofs.Common.{◌∙◌, ℕ, refl, Option, Result}
-use Rattle.sqlite_trees.specs.declared.store.Store.{Ghosts}
-use Rattle.reg_body.specs.Counting.{CountedEnd}
-use Rattle.reg_model.specs.Registry.{Text}
+use Rattle.reg_http.proofs.Words.{◌∙◌, ℕ, refl, Option, Result, Ghosts, CountedEnd, Text, tally, StreamFault, limits_of, Registry, GoesOn}
+use Rattle.reg_http.proofs.Words.{ServesStreamTraced, SpendsLent, TrailEnd}
 use Rattle.reg_http_read.proofs.Adding.{spends_whole}
-use Rattle.reg_http_read.specs.Turns.{Tally, tally}
-use Rattle.reg_http_read.specs.declared.fault.StreamFault.{StreamFault}
-use Rattle.reg_service.specs.Registries.{IsUpToDate, limits_of, tables_of}
-use Rattle.reg_service.specs.declared.registry.Registry.{Registry}
-use Rattle.reg_http.specs.Answering.{GoesOn}
-use Rattle.reg_http.specs.Serving.{ServesStream, ServesStreamTraced, SpendsLent, SpendsOwn}
-use Rattle.reg_http.specs.Trails.{TrailEnd}
+use Rattle.reg_http_read.specs.Turns.{Tally}
+use Rattle.reg_service.specs.Registries.{IsUpToDate}
+use Rattle.reg_http.specs.Serving.{ServesStream, SpendsOwn}
 
 -- nothing was done
 pub still : {S : Type 0} {g : Ghosts S} {r : Registry S} → IsUpToDate g r → GoesOn g r r

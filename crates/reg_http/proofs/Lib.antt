@@ -4,3 +4,4 @@ pub mod Outcomes
 pub mod Requests
 pub mod Steps
 pub mod Trails
+mod Words

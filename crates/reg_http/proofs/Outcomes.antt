@@ -1,49 +1,38 @@
 -- What a request came to, by what the registry told.
-use Rattle.std.proofs.Common.{◌≡◌, ◌<◌, ◌⊎◌, ℕ, Bool, true, false, cond, nat_lt, [], inl, inr, refl, sym, ap, subst, arith, Option, None, Some, Result, Ok, Err}
-use Rattle.std.specs.Prelude.{String, string_bytes}
-use Rattle.std.specs.Cow.{cow_slice_items}
+use Rattle.reg_http.proofs.Words.{◌≡◌, ◌<◌, ◌⊎◌, ℕ, Bool, true, false, nat_lt, [], inl, inr, refl, sym, ap, subst, arith, Option, Result}
+use Rattle.reg_http.proofs.Words.{Ok, Err, string_bytes, option_map, Ghosts, CountedEnd, Limits, Facts, Answer, Event, Rule, Text, IsFit}
+use Rattle.reg_http.proofs.Words.{Sends, StreamFault, Memory, ReadFault, StoreFault, TooManyTurns, WriteFault, request_from, event_of, Sink}
+use Rattle.reg_http.proofs.Words.{HasLine, Answers, Registry, Finds, Tables, AnswersRequest, Replies, IsOfFile, Outcome, Answered, NoMethod}
+use Rattle.reg_http.proofs.Words.{NoRoom, NoRoute, Unread, Tail, TrailEnd, Trails}
+use Rattle.std.proofs.Common.{cond, None, Some}
+use Rattle.std.specs.Prelude.{String, unwrap_or}
 use Rattle.std.specs.declared.alloc.Global.{Global}
-use Rattle.std.specs.Option.{option_map}
-use Rattle.sqlite_trees.specs.declared.store.Store.{Ghosts}
-use Rattle.reg_body.specs.Counting.{CountedEnd}
-use Rattle.reg_body.specs.declared.limits.Limits.{Limits}
-use Rattle.reg_http_read.specs.Heads.{Facts}
 use Rattle.reg_model.specs.declared.rule.Rule.TheVariants as rule
-use Rattle.reg_model.specs.Events.{Answer, Asked}
-use Rattle.reg_model.specs.Events.Asked.{Index as to_index}
+use Rattle.reg_model.specs.Events.{Asked}
+use Rattle.reg_model.specs.Events.Asked.{AddOwners as to_add, Index as to_index, Read as to_read, RemoveOwners as to_remove}
 use Rattle.reg_model.specs.Events.Event.{Ask}
-use Rattle.reg_model.specs.declared.rule.Rule.{Rule}
+use Rattle.reg_model.specs.Events.Reading.{Search as to_search}
 use Rattle.reg_model.specs.Refusals.{denied}
 use Rattle.reg_model.specs.Registry as model
-use Rattle.reg_model.specs.Registry.{Text}
-use Rattle.reg_model.specs.Steps.{IsFit}
+use Rattle.reg_model.specs.Registry.{Publication}
 use Rattle.reg_model.specs.Trail.{has_no_room, line, line_of, or_nothing, told, unless_some, with_asker}
-use Rattle.reg_http_read.specs.Turns.{Sends}
-use Rattle.reg_http_read.specs.declared.fault.StreamFault.{StreamFault}
-use Rattle.reg_http_read.specs.declared.fault.StreamFault.TheVariants.{Memory, ReadFault, StoreFault, TooManyTurns, WriteFault}
 use Rattle.reg_api_replies.specs.Replies.{Says}
 use Rattle.reg_api_replies.specs.declared.reply.Reply.{Reply}
 use Rattle.reg_api_replies.specs.declared.reply.Reply.TheVariants.{Denied}
-use Rattle.reg_api_requests.specs.Requests.{asked_from, request_from, text_in}
-use Rattle.reg_api_requests.specs.Views.{event_of}
-use Rattle.reg_api_requests.specs.Wants.{Wants, wants_of}
-use Rattle.reg_api_requests.specs.declared.request.ApiCall.{ApiCall}
+use Rattle.reg_api_requests.specs.Owners.{logins_named}
+use Rattle.reg_api_requests.specs.Publish.{publish_of}
+use Rattle.reg_api_requests.specs.Requests.{asked_from, or_faulty, published, text_in}
+use Rattle.reg_api_requests.specs.Search.{page_of}
+use Rattle.reg_api_requests.specs.Wants.{Wants}
+use Rattle.reg_api_requests.specs.Wants.Wants.{Config, Index, Download, ListOwners, Publish, Yank, Unyank, AddOwners, RemoveOwners, Search}
 use Rattle.reg_api_requests.specs.declared.request.ApiRequest.{ApiRequest}
-use Rattle.reg_api_requests.specs.declared.request.ApiCall.TheVariants as call
 use Rattle.reg_http_routes.specs.Routing.Routing.{Wants as to_wants}
-use Rattle.reg_body.specs.Sent.{Sink}
 use Rattle.reg_api_replies.specs.Texts.{answer_text, refusal_text, reply_text}
-use Rattle.reg_service.specs.Acted.{HasLine}
-use Rattle.reg_service.specs.Answered.{Answers}
-use Rattle.reg_service.specs.declared.registry.Registry.{Registry}
-use Rattle.reg_service.specs.Streamed.{AsksForFile, IsFileAnswer, StreamsTo}
+use Rattle.reg_service.specs.Streamed.{IsFileAnswer, StreamsTo}
 use Rattle.reg_service_index.specs.declared.fault.IndexFault.{IndexFault}
 use Rattle.reg_service_index.specs.declared.fault.IndexFault.TheVariants.{Spent, Store, Write}
-use Rattle.reg_tables.specs.declared.tables.Tables.{Tables}
-use Rattle.reg_http.specs.Answering.{AnswersRequest, IsReplied, IsRequestReplied, Replies, Streams, fault_reply}
-use Rattle.reg_http.specs.Exchanges.{IsOfFile, Outcome}
-use Rattle.reg_http.specs.Exchanges.Outcome.{Answered, NoMethod, NoRoom, NoRoute, Unread}
-use Rattle.reg_http.specs.Trails.{Tail, TrailEnd, Trails}
+use Rattle.reg_service_index.specs.declared.found.FoundFile.{FoundFile}
+use Rattle.reg_http.specs.Answering.{IsReplied, IsRequestReplied, Streams, fault_reply}
 use Rattle.reg_http.proofs.Trails.{trails_if, trails_nothing}
 use Rattle.reg_http_read.specs.Begun.{is_head_only}
 use Rattle.reg_http_routes.specs.Routed.{IsRouted}
@@ -60,29 +49,26 @@ streams_of o text old new (Err ReadFault) x = absurd x
 streams_of o text old new (Err StoreFault) x = absurd x
 streams_of o text old new (Err Memory) x = absurd x
 
-file_fit : (limits : Limits) (token : Option Text) (w : ApiCall) → AsksForFile w → IsFit (event_of (request_from limits token (wants_of w)))
-file_fit limits token (call.Index path) h = tt
-file_fit limits token call.Config h = absurd h
-file_fit limits token (call.Download n v) h = absurd h
-file_fit limits token (call.Publish b) h = absurd h
-file_fit limits token (call.ListOwners n) h = absurd h
-file_fit limits token (call.Yank n v) h = absurd h
-file_fit limits token (call.Unyank n v) h = absurd h
-file_fit limits token (call.AddOwners n b) h = absurd h
-file_fit limits token (call.RemoveOwners n b) h = absurd h
-file_fit limits token (call.Search q per_page) h = absurd h
+-- what asks for an index file wants one
+not_asked : {A : Type 0} (r : Rule) (ask : A → Asked) (o : Option A) (path : Text) → ((a : A) → ask a ≡ to_index path → ⊥) → or_faulty r ask o ≡ to_index path → ⊥
+not_asked r ask None path never e = cc
+not_asked r ask (Some a) path never e = never a e
 
-file_is : (a : Answer) (w : ApiCall) → AsksForFile w → IsFileAnswer a → IsOfFile (Answered (wants_of w) a)
-file_is a (call.Index path) h file = file
-file_is a call.Config h file = absurd h
-file_is a (call.Download n v) h file = absurd h
-file_is a (call.Publish b) h file = absurd h
-file_is a (call.ListOwners n) h file = absurd h
-file_is a (call.Yank n v) h file = absurd h
-file_is a (call.Unyank n v) h file = absurd h
-file_is a (call.AddOwners n b) h file = absurd h
-file_is a (call.RemoveOwners n b) h file = absurd h
-file_is a (call.Search q per_page) h file = absurd h
+not_published : (r : Result Publication Rule) (path : Text) → published r ≡ to_index path → ⊥
+not_published (Ok p) path e = cc
+not_published (Err r) path e = cc
+
+file_is : (limits : Limits) (w : Wants) (path : Text) (a : Answer) → asked_from limits w ≡ to_index path → IsFileAnswer a → IsOfFile (Answered w a)
+file_is limits (Index p) path a e file = file
+file_is limits Config path a e file = absurd cc
+file_is limits (Download n v) path a e file = absurd cc
+file_is limits (ListOwners n) path a e file = absurd cc
+file_is limits (Publish body) path a e file = absurd (not_published (publish_of limits body) path e)
+file_is limits (Yank n v) path a e file = absurd cc
+file_is limits (Unyank n v) path a e file = absurd cc
+file_is limits (AddOwners n body) path a e file = absurd (not_asked rule.O1 (to_add (text_in n)) (logins_named limits body) path (λ logins it. cc) e)
+file_is limits (RemoveOwners n body) path a e file = absurd (not_asked rule.O1 (to_remove (text_in n)) (logins_named limits body) path (λ logins it. cc) e)
+file_is limits (Search q per_page) path a e file = absurd (not_asked rule.Q1 (λ most. to_read (to_search (unwrap_or q []) most)) (page_of per_page) path (λ most it. cc) e)
 
 -- a request for an index file changes nothing
 file_line : (limits : Limits) (s : model.Registry) (digest : Option Text) (path : Text) → line limits s (Ask digest (to_index path)) ≡ None
@@ -97,19 +83,9 @@ nothing : (b : Bool) (t : Text) → t ≡ [] → cond b [] t ≡ []
 nothing true t e = refl
 nothing false t e = e
 
-file_told : (limits : Limits) (s : model.Registry) (token : Option Text) (a : Answer) (w : ApiCall) → AsksForFile w → told limits s (event_of (request_from limits token (wants_of w))) a ≡ []
-file_told limits s token a (call.Index path) h =
-    let request = request_from limits token (wants_of (call.Index path)) in
-    nothing (has_no_room a) (or_nothing (line limits s (event_of request))) (ap or_nothing (file_line limits s request.digest (text_in (cow_slice_items path))))
-file_told limits s token a call.Config h = absurd h
-file_told limits s token a (call.Download n v) h = absurd h
-file_told limits s token a (call.Publish b) h = absurd h
-file_told limits s token a (call.ListOwners n) h = absurd h
-file_told limits s token a (call.Yank n v) h = absurd h
-file_told limits s token a (call.Unyank n v) h = absurd h
-file_told limits s token a (call.AddOwners n b) h = absurd h
-file_told limits s token a (call.RemoveOwners n b) h = absurd h
-file_told limits s token a (call.Search q per_page) h = absurd h
+file_told : (limits : Limits) (s : model.Registry) (digest : Option Text) (asked : Asked) (path : Text) → asked ≡ to_index path → (a : Answer) → told limits s (Ask digest asked) a ≡ []
+file_told limits s digest asked path is a =
+    subst (λ it. told limits s (Ask digest it) a ≡ []) (sym is) (nothing (has_no_room a) (or_nothing (line limits s (Ask digest (to_index path)))) (ap or_nothing (file_line limits s digest path)))
 
 module _ {S : Type 0} (g : Ghosts S) (limits : Limits) (s : model.Registry) (f : Facts) (token : Option Text) (same : f.token ≡ token) (close : Bool) (old new : Tables S) (k0 k1 : Tail) (w0 w1 : Option Text) (r : Result (Unit {0}) StreamFault) where
   pub answered : (w : Wants) → IsFit (event_of (request_from limits token w)) → (a : Answer) → Answers g limits s (event_of (request_from limits token w)) a old new
@@ -144,29 +120,37 @@ module _ {S : Type 0} (g : Ghosts S) (limits : Limits) (s : model.Registry) (f :
     sends = subst (λ it. Streams (Unread w) (reply_text it close false) w0 w1 r) denied (streams_of (Unread w) (reply_text reply close false) w0 w1 r sends);
   }
 
-module _ {S : Type 0} (g : Ghosts S) (limits : Limits) (s : model.Registry) (f : Facts) (token : Option Text) (same : f.token ≡ token) (w : ApiCall) (file : AsksForFile w) (close : Bool) (old new : Tables S) (k : Tail) (writes : ℕ) (before after : Sink) where
+-- an index file that was found, as it was sent
+module _ {S : Type 0} (g : Ghosts S) (limits : Limits) (s : model.Registry) (f : Facts) (w : Wants) (file : FoundFile) (close : Bool) (old found new : Tables S) (k : Tail) (writes : ℕ) (before after : Sink)
+    (finds : Finds g limits s (request_from limits f.token w).digest (asked_from limits w) file old found) where
+  abbrev e : Event
+  e = event_of (request_from limits f.token w)
+
   abbrev Told : Result ℕ IndexFault → Type 0
-  Told r = StreamsTo g limits s (request_from limits token (wants_of w)).digest (request_from limits token (wants_of w)).asked close r writes old new before after
+  Told r = StreamsTo g limits s (request_from limits f.token w).digest (asked_from limits w) close r writes old new before after
 
   abbrev IsSo : Result (Unit {0}) StreamFault → Type 0
-  IsSo r = Replies g limits f (to_wants (wants_of w)) close s old new k k before.contents after.contents r
+  IsSo r = Replies g limits f (to_wants w) close s old new k k before.contents after.contents r
 
-  untold : (a : Answer) → Trails k k (told limits s (event_of (request_from limits token (wants_of w))) a)
-  untold a = subst (Trails k k) (sym (file_told limits s token a w file)) (trails_nothing k)
+  so : (a : Answer) (r : Result (Unit {0}) StreamFault) → Answers g limits s e a old new → Streams (Answered w a) (answer_text (asked_from limits w) a close) before.contents after.contents r → IsSo r
+  so a r it sends =
+      let fit : IsFit e = subst (λ asked. IsFit (Ask (request_from limits f.token w).digest asked)) (sym finds.asks) tt in
+      let untold : Trails k k (told limits s e a) = subst (Trails k k) (sym (file_told limits s (request_from limits f.token w).digest (asked_from limits w) finds.path finds.asks a)) (trails_nothing k) in
+      answered g limits s f f.token refl close old new k k before.contents after.contents r w fit a it untold sends
 
   pub file_sent : (used : ℕ) → Told (Ok used) → IsSo (Ok tt)
-  file_sent used (a, sends, it) = answered g limits s f token same close old new k k before.contents after.contents (Ok tt) (wants_of w) (file_fit limits token w file) a it (untold a) sends.sends.all
+  file_sent used (a, sends, it) = so a (Ok tt) it sends.sends.all
 
   pub file_failed : Told (Err Write) → IsSo (Err WriteFault)
-  file_failed (a, sends, it) = answered g limits s f token same close old new k k before.contents after.contents (Err WriteFault) (wants_of w) (file_fit limits token w file) a it (untold a) sends.sends.front
+  file_failed (a, sends, it) = so a (Err WriteFault) it sends.sends.front
 
   pub file_spent : Told (Err Spent) → IsSo (Err TooManyTurns)
-  file_spent (a, sends, it) = answered g limits s f token same close old new k k before.contents after.contents (Err TooManyTurns) (wants_of w) (file_fit limits token w file) a it (untold a) sends.sends.front
+  file_spent (a, sends, it) = so a (Err TooManyTurns) it sends.sends.front
 
   pub file_broken : before.calls < after.calls → Told (Err Store) → IsSo (Err StoreFault)
   file_broken begun (a, sends, it) =
-      answered g limits s f token same close old new k k before.contents after.contents (Err StoreFault) (wants_of w) (file_fit limits token w file) a it (untold a) (
-        file_is a w file (sends.of_file refl),
+      so a (Err StoreFault) it (
+        file_is limits w finds.path a finds.asks (sends.of_file refl),
         record {
           front = sends.sends.front;
           rest = sends.sends.rest;

@@ -1,30 +1,15 @@
 -- The requests of a stream that were answered, and what comes of the next.
-use Rattle.std.proofs.Common.{◌≡◌, ◌≤◌, ◌+◌, ◌||◌, ◌==◌, ◌∙◌, ℕ, Bool, true, false, sym, ap, subst, drop, length, take, Option, Result, Ok, Err, IsErrAnd}
-use Rattle.std.specs.Io.KnownBytes.{Appends}
+use Rattle.reg_http.proofs.Words.{◌≡◌, ◌≤◌, ◌+◌, ◌||◌, ◌==◌, ◌∙◌, ℕ, Bool, true, false, sym, ap, subst, drop, length, take, Option, Result}
+use Rattle.reg_http.proofs.Words.{Ok, Err, Appends, Ghosts, CountedEnd, Limits, Facts, facts_owned, Takes, Sends, SpendsFor, SpendsSome}
+use Rattle.reg_http.proofs.Words.{tally, writes_of, StreamFault, OwnedHead, Rule, Text, Shows, limits_of, tables_of, Registry, shown}
+use Rattle.reg_http.proofs.Words.{AnswersRequest, GoesOn, ServesStreamTraced, SpendsLent, closing_text, IsTrailed, TrailEnd, tail}
+use Rattle.std.proofs.Common.{IsErrAnd}
 use Rattle.sqlite.specs.State.{HasCleanDisk}
-use Rattle.sqlite_trees.specs.declared.store.Store.{Ghosts}
-use Rattle.reg_body.specs.Counting.{CountedEnd}
-use Rattle.reg_body.specs.declared.limits.Limits.{Limits}
 use Rattle.reg_http_read.proofs.Adding.{spends_for, spends_some}
-use Rattle.reg_http_read.specs.Heads.{Facts}
-use Rattle.reg_http_read.specs.Owned.{facts_owned}
-use Rattle.reg_http_read.specs.Taking.{Takes}
-use Rattle.reg_http_read.specs.Turns.{Sends, SpendsFor, SpendsSome, tally, writes_of}
-use Rattle.reg_http_read.specs.declared.fault.StreamFault.{StreamFault}
-use Rattle.reg_http_read.specs.declared.owned.OwnedHead.{OwnedHead}
 use Rattle.reg_http_read.specs.declared.taking.Taken.{Taken}
 use Rattle.reg_http_read.specs.declared.taking.Taken.TheVariants as taken
-use Rattle.reg_model.specs.declared.rule.Rule.{Rule}
 use Rattle.reg_model.specs.Registry as model
-use Rattle.reg_model.specs.Registry.{Text}
-use Rattle.reg_service.specs.Answered.{Shows}
-use Rattle.reg_service.specs.Registries.{limits_of, tables_of}
-use Rattle.reg_service.specs.declared.registry.Registry.{Registry}
-use Rattle.reg_tables.specs.Works.{shown}
-use Rattle.reg_http.specs.Answering.{AnswersRequest, GoesOn, IsMessageReplied}
-use Rattle.reg_http.specs.Serving.{ServesStreamTraced, SpendsLent}
-use Rattle.reg_http.specs.Streams.{closing_text}
-use Rattle.reg_http.specs.Trails.{IsTrailed, TrailEnd, tail}
+use Rattle.reg_http.specs.Answering.{IsMessageReplied}
 use Rattle.reg_http.proofs.Exchanged.{EventsGoOn}
 use Rattle.reg_http.proofs.Kept.{goes_on}
 use Rattle.reg_http.proofs.Steps.{HeadsStandAlone, HeadsStay, Holds, refusal_failed, refusal_sent, taking_ended, taking_failed, whole_failed, whole_last, whole_sent, wrote_for, wrote_some}

@@ -1,35 +1,25 @@
 -- One turn of a stream after the exchanges so far.
-use Rattle.std.proofs.Common.{◌≡◌, ◌≤◌, ◌+◌, ◌++◌, ◌||◌, ◌==◌, ℕ, Bool, true, false, List, [], ◌∷◌, inl, inr, refl, sym, ap, ◌∙◌, subst, arith, append_assoc, length, take, drop, take-append-drop, Option, Result, Ok, Err}
+use Rattle.reg_http.proofs.Words.{◌≡◌, ◌≤◌, ◌+◌, ◌++◌, ◌||◌, ◌==◌, ℕ, Bool, true, false, List, [], ◌∷◌, inl, inr, refl, sym, ap, ◌∙◌, subst}
+use Rattle.reg_http.proofs.Words.{arith, append_assoc, length, take, drop, Option, Result, Ok, Err, Appends, Appends-trans, Appends-nil}
+use Rattle.reg_http.proofs.Words.{Ghosts, Limits, Facts, Rule, Text, facts_owned, Takes, CountedEnd, Sends, SpendsFor, SpendsSome, tally}
+use Rattle.reg_http.proofs.Words.{writes_of, StreamFault, Memory, ReadFault, StoreFault, TooManyTurns, WriteFault, OwnedHead, routing_of}
+use Rattle.reg_http.proofs.Words.{Shows, Ran, Tables, shown, Replies, Exchange, IsOfFile, answers_in, events_in, Goes, HasRun, IsOpen}
+use Rattle.reg_http.proofs.Words.{closing_text, told, trail_in, Tail, Trails}
+use Rattle.std.proofs.Common.{take-append-drop}
 use Rattle.std.proofs.lemmas.Bool.{or_parts}
 use Rattle.std.proofs.lemmas.List.{length-take-le, take-take}
 use Rattle.std.proofs.lemmas.List.Elements.{All-nil}
-use Rattle.std.specs.Io.KnownBytes.{Appends, Consumes}
-use Rattle.std.proofs.KnownBytes.{Appends-trans, Appends-nil, Consumes-trans, Consumes-nil}
-use Rattle.sqlite_trees.specs.declared.store.Store.{Ghosts}
-use Rattle.reg_body.specs.declared.limits.Limits.{Limits}
-use Rattle.reg_http_read.specs.Heads.{Facts, IsHeadAt}
-use Rattle.reg_model.specs.declared.rule.Rule.{Rule}
+use Rattle.std.specs.Io.KnownBytes.{Consumes}
+use Rattle.std.proofs.KnownBytes.{Consumes-trans, Consumes-nil}
+use Rattle.reg_http_read.specs.Heads.{IsHeadAt}
 use Rattle.reg_model.specs.Registry as model
-use Rattle.reg_model.specs.Registry.{Text}
 use Rattle.reg_http_read.specs.Begun.{IsBegun, interim_of}
-use Rattle.reg_http_read.specs.Owned.{facts_owned}
-use Rattle.reg_http_read.specs.Taking.{IsCutOff, Takes}
-use Rattle.reg_body.specs.Counting.{CountedEnd}
-use Rattle.reg_http_read.specs.Turns.{Sends, SpendsFor, SpendsSome, tally, writes_of}
-use Rattle.reg_http_read.specs.declared.fault.StreamFault.{StreamFault}
-use Rattle.reg_http_read.specs.declared.fault.StreamFault.TheVariants.{Memory, ReadFault, StoreFault, TooManyTurns, WriteFault}
-use Rattle.reg_http_read.specs.declared.owned.OwnedHead.{OwnedHead}
+use Rattle.reg_http_read.specs.Taking.{IsCutOff}
 use Rattle.reg_http_read.specs.declared.taking.Taken.TheVariants as taken
-use Rattle.reg_http_routes.specs.Routing.{routing_of}
 use Rattle.reg_body.specs.Sent.{AppendsFront}
-use Rattle.reg_service.specs.Answered.{Shows}
-use Rattle.reg_service.specs.Sequences.{Ran}
-use Rattle.reg_tables.specs.declared.tables.Tables.{Tables}
-use Rattle.reg_tables.specs.Works.{shown}
-use Rattle.reg_http.specs.Answering.{AppendsSome, Replies}
-use Rattle.reg_http.specs.Exchanges.{Exchange, IsExchange, IsOfFile, answers_in, closes, events_in, outcome_text, reply_of}
-use Rattle.reg_http.specs.Streams.{AreServed, Goes, HasRun, IsEnded, IsOpen, IsStopped, ServesTraced, closing_text, told, trail_in}
-use Rattle.reg_http.specs.Trails.{Tail, Trails}
+use Rattle.reg_http.specs.Answering.{AppendsSome}
+use Rattle.reg_http.specs.Exchanges.{IsExchange, closes, outcome_text, reply_of}
+use Rattle.reg_http.specs.Streams.{AreServed, IsEnded, IsStopped, ServesTraced}
 use Rattle.reg_http.proofs.Trails.{trails_nothing}
 use Rattle.reg_http.proofs.Exchanged.{EventsGoOn, goes_front, goes_push, goes_read, run_on}
 
@@ -71,9 +61,6 @@ module _ {S : Type 0} (g : Ghosts S) (limits : Limits) (s : model.Registry) (ent
   module _ (k0 k1 : Tail) (r0 r1 w0 w1 : Option Text) (rest : Text) (count : ℕ) (now : Tables S) (h : Holds g limits s entry k0 k1 r0 r1 w0 w1 rest count now) (r2 w2 : Option Text) where
     -- what was read since
     module _ (bytes : Text) (consumed : Consumes r1 r2 bytes) where
-      all_read : Text
-      all_read = h.read ++ bytes
-
       consumes : Consumes r0 r2 (h.read ++ bytes)
       consumes = Consumes-trans r0 r1 r2 h.read bytes h.consumed consumed
 

@@ -1,11 +1,10 @@
 -- What was told after what was told.
-use Rattle.std.proofs.Common.{◌≡◌, ◌⊎◌, ◌+◌, ◌-◌, ◌<◌, ◌++◌, ◌∙◌, ℕ, [], ◌∷◌, inl, inr, refl, sym, ap, subst, arith, nat_lt, zero, suc, true, append_assoc, append-nil, length}
+use Rattle.reg_http.proofs.Words.{◌≡◌, ◌⊎◌, ◌+◌, ◌-◌, ◌<◌, ◌++◌, ◌∙◌, ℕ, [], ◌∷◌, inl, inr, refl, sym, ap, subst, arith, nat_lt, true}
+use Rattle.reg_http.proofs.Words.{append_assoc, append-nil, length, Appends, Appends-nil, Appends-trans, Text, Sink, IsTrailed, Tail}
+use Rattle.reg_http.proofs.Words.{Trails}
+use Rattle.std.proofs.Common.{zero, suc}
 use Rattle.std.proofs.lemmas.Bool.Decides.{nat_tests}
-use Rattle.std.specs.Io.KnownBytes.{Appends}
-use Rattle.std.proofs.KnownBytes.{Appends-nil, Appends-trans}
-use Rattle.reg_model.specs.Registry.{Text}
-use Rattle.reg_body.specs.Sent.{SendsAll, Sink}
-use Rattle.reg_http.specs.Trails.{IsTrailed, Tail, Trails}
+use Rattle.reg_body.specs.Sent.{SendsAll}
 
 -- the writer of a trail
 abbrev pub sink_of : Tail → Sink

@@ -5,20 +5,18 @@ ghost use Rattle.reg_http_read.specs.Reads.{facts_of};
 ghost use Rattle.reg_http_read.specs.Turns.{Sends, SpendsTurns, writes_of};
 ghost use Rattle.reg_api_replies.specs.Texts.{refusal_text};
 ghost use Rattle.reg_service.specs.Registries.{IsUpToDate, limits_of, tables_of};
-ghost use Rattle.reg_service.specs.Streamed.{AsksForFile};
-ghost use Rattle.reg_http.specs.Answering.{AnswersRequest, GoesOn, IsMessageReplied, IsRequestReplied, fault_reply};
+ghost use Rattle.reg_http.specs.Answering.{AnswersRequest, GoesOn, IsFileReplied, IsMessageReplied, IsRequestReplied, fault_reply};
 ghost use Rattle.reg_http.specs.Trails.{Tail};
 
 use crate::trail::Trail;
 use reg_api_replies::Reply;
 use reg_api_replies::laws::answer_law;
-use reg_api_requests::{ApiCall, ApiRequest};
+use reg_api_requests::ApiRequest;
 use reg_body::Counted;
 use reg_http_read::{Head, StreamFault, send_reply};
 use reg_http_routes::{RouteFault, Routes};
 use reg_policy::Rule;
-use reg_service::{Acted, Registry};
-use reg_service_index::IndexFault;
+use reg_service::{Acted, Answered, FoundFile, IndexFault, Registry};
 use sqlite::Alter;
 use std::alloc::Global;
 use std::io::Write;
@@ -61,26 +59,24 @@ pub(crate) fn deny<W: Write>(
     send_reply(w, &reply, close, head_only, left)
 }
 
-/// Sends the index file that was requested.
+/// Sends an index file that was found.
 fn send_index<W: Write, S: Alter>(
-    alloc: Global,
     registry: &mut Registry<S>,
-    request: &ApiRequest<'_>,
+    file: &FoundFile,
     w: &mut Counted<W>,
     close: bool,
     left: &mut u64,
 ) -> Result<(), StreamFault>
     requires tables { IsUpToDate S.Store registry.old }
     requires room { w.old.calls + left.old < 2 ^ 64 }
-    requires file { AsksForFile request.now.call }
-    ensures replied { (k : Tail) → IsRequestReplied S.Store (limits_of registry.old) request.now
-        close (tables_of registry.old) (tables_of registry.new) k k
+    ensures replied { (k : Tail) → IsFileReplied S.Store file.now close
+        (tables_of registry.old) (tables_of registry.new) k
         (W.contents w.old.inner) (W.contents w.new.inner) result }
     ensures spends { SpendsTurns left.old left.new (writes_of w.old) (writes_of w.new) result }
     ensures fewer { OnOk result (left.new < left.old) }
     ensures keeps { GoesOn S.Store registry.old registry.new }
 {
-    match registry.stream_index(alloc, request, close, w, *left) {
+    match registry.stream_index(file, close, w, *left) {
         Ok(used) => {
             *left -= used;
             Ok(())
@@ -91,8 +87,8 @@ fn send_index<W: Write, S: Alter>(
     }
 }
 
-/// Answers a routed request: sends the index file, or tells what the request changed and then sends
-/// the registry's answer.
+/// Answers a routed request: tells what it changed and then sends the registry's reply, or sends
+/// the index file that was found.
 fn answer<W: Write, T: Write, S: Alter>(
     alloc: Global,
     registry: &mut Registry<S>,
@@ -109,13 +105,15 @@ fn answer<W: Write, T: Write, S: Alter>(
         T.contents W.contents registry.old registry.new trail.old trail.new w.old w.new
         left.old left.new result }
 {
-    if let ApiCall::Index(_) = &request.call {
-        return send_index(alloc, registry, request, w, close, left);
-    }
     answer_law();
-    let Acted { reply, line } = registry.act(alloc, request, trail.is_open());
-    trail.tell(line);
-    send_reply(w, &reply, close, false, left)
+    match registry.act(alloc, request, trail.is_open()) {
+        Answered::Replied(acted) => {
+            let Acted { reply, line } = acted;
+            trail.tell(line);
+            send_reply(w, &reply, close, false, left)
+        }
+        Answered::Found(file) => send_index(registry, &file, w, close, left),
+    }
 }
 
 /// Routes a request and answers it.

@@ -1,11 +1,8 @@
 -- Several reads are one, and turns add up.
-use Rattle.std.proofs.Common.{◌≡◌, ◌++◌, ℕ, [], refl, sym, ap, ◌∙◌, subst, arith, append_assoc, append-nil, Option, Result, Ok, Err}
-use Rattle.std.proofs.KnownBytes.{Consumes-nil, Consumes-trans}
-use Rattle.reg_model.specs.Registry.{Text}
-use Rattle.reg_http_read.specs.Taking.{Reads}
-use Rattle.reg_http_read.specs.Turns.{Spends, SpendsFor, SpendsSome, SpendsTurns, Tally}
-use Rattle.reg_http_read.specs.declared.fault.StreamFault.{StreamFault}
-use Rattle.reg_http_read.specs.declared.fault.StreamFault.TheVariants.{Memory, ReadFault, StoreFault, TooManyTurns, WriteFault}
+use Rattle.reg_http_read.proofs.Common.{◌≡◌, ◌++◌, ℕ, [], refl, sym, ap, ◌∙◌, subst, arith, append_assoc, append-nil, Option, Result, Ok}
+use Rattle.reg_http_read.proofs.Common.{Err, Consumes-nil, Consumes-trans, Text, Reads, SpendsFor, SpendsSome, StreamFault, Memory}
+use Rattle.reg_http_read.proofs.Common.{ReadFault, StoreFault, TooManyTurns, WriteFault}
+use Rattle.reg_http_read.specs.Turns.{Spends, SpendsTurns, Tally}
 
 pub reads_nothing : (r : Option Text) (was now : Text) (holds : Text → Type 0) → holds was → Reads r r was now holds
 reads_nothing r was now holds h = ([], Consumes-nil r, subst holds (sym (append-nil was)) h)
@@ -61,10 +58,6 @@ module _ (had mid left : ℕ) (s t u : Tally) (first : SpendsSome had mid s t) w
     failed_writes = more.failed_writes ∙ first.failed_writes;
   }
   spends_for Memory more = absurd more
-
-  pub spends_on : {A : Type 0} (r : Result A StreamFault) → SpendsTurns mid left t u r → SpendsTurns had left s u r
-  spends_on (Ok a) more = spends_some more
-  spends_on (Err f) more = spends_for f more
 
 -- a stream whose memory was there from the first call on
 pub spends_whole : {A : Type 0} (had left : ℕ) (s t : Tally) (r : Result A StreamFault) → SpendsTurns had left s t r → Spends had left s t r

@@ -1,14 +1,10 @@
 -- What was read stays so when more bytes follow.
-use Rattle.std.proofs.Common.{◌≡◌, ℕ, ◌<◌, ◌≤◌, inl, inr, Bool, [], ◌∷◌, ◌++◌, length, take, drop, Ok, sym, ap, ◌∙◌, subst, arith, length-append, take-append-drop}
-use Rattle.std.proofs.lemmas.Bool.{cases_lt}
-use Rattle.std.proofs.lemmas.List.{take-append-le, length-take-le}
-use Rattle.httparse.specs.Grammar.{RequestHead, ReadsRequest, NeverHasRequest}
-use Rattle.httparse.proofs.GrammarLemmas.{ReadsRequest-append, request_prefix_free}
-use Rattle.reg_body.specs.declared.limits.Limits.{Limits}
-use Rattle.reg_model.specs.Registry.{Text}
-use Rattle.reg_model.specs.declared.rule.Rule.{Rule}
-use Rattle.reg_http_read.specs.Fronts.{EndsLine, IsBadCut, IsCut, IsFront, IsHead, IsHeadCut, IsJudged, IsUnjudged}
-use Rattle.reg_http_read.specs.Heads.{Facts, IsHeadAt, IsRefusedAt, greatest_body, judge_head}
+use Rattle.reg_http_read.proofs.Common.{◌≡◌, ℕ, ◌<◌, ◌≤◌, inl, inr, Bool, [], ◌∷◌, ◌++◌, length, take, drop, Ok, sym, ap, ◌∙◌, subst, arith}
+use Rattle.reg_http_read.proofs.Common.{length-append, take-append-drop, cases_lt, take-append-le, length-take-le, RequestHead, ReadsRequest}
+use Rattle.reg_http_read.proofs.Common.{NeverHasRequest, ReadsRequest-append, request_prefix_free, Limits, Text, Rule, EndsLine, IsBadCut}
+use Rattle.reg_http_read.proofs.Common.{IsFront, IsHead, IsHeadCut, IsJudged, IsUnjudged, Facts, IsHeadAt, IsRefusedAt, greatest_body}
+use Rattle.reg_http_read.specs.Fronts.{IsCut}
+use Rattle.reg_http_read.specs.Heads.{judge_head}
 use Rattle.reg_http_read.proofs.Cuts.{take_longer, take_shorter}
 use Rattle.reg_http_read.proofs.Judged.{judged_body}
 

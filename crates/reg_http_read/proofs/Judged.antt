@@ -1,20 +1,19 @@
 -- What a head is judged by its parts.
-use Rattle.std.proofs.Common.{◌≡◌, ℕ, min, ◌-◌, ◌<◌, ◌≤◌, ◌^◌, Bool, true, false, cond, ltb, List, codes, length, drop, map, Option, option_copied, Bor, inr, Some, None, option_map, Result, Ok, Err, refl, sym, ap, ◌∙◌, subst, arith}
-use Rattle.std.proofs.lemmas.Bool.Decides.{nat_tests}
-use Rattle.httparse.specs.Grammar.{ReadsRequest, RequestHead, print_request}
-use Rattle.httparse.specs.Borrowed.{HoldsRequest, header_parts}
+use Rattle.reg_http_read.proofs.Common.{◌≡◌, ℕ, min, ◌-◌, ◌<◌, ◌≤◌, ◌^◌, Bool, true, false, List, length, drop, map, Option, inr, Some}
+use Rattle.reg_http_read.proofs.Common.{Result, Ok, Err, refl, sym, ap, ◌∙◌, subst, arith, nat_tests, ReadsRequest, RequestHead}
+use Rattle.reg_http_read.proofs.Common.{header_parts, Limits, Rule, H4, H5, Facts, greatest_body, IsAsked, IsJudgement, facts_of, Head}
+use Rattle.reg_http_read.proofs.Common.{HeadRead}
+use Rattle.std.proofs.Common.{cond, ltb, codes, option_copied, Bor, None, option_map}
+use Rattle.httparse.specs.Grammar.{print_request}
+use Rattle.httparse.specs.Borrowed.{HoldsRequest}
 use Rattle.httparse.specs.Spans.{name_and_value}
 use Rattle.httparse.specs.declared.borrowed.Request.{Request}
-use Rattle.reg_body.specs.declared.limits.Limits.{Limits}
-use Rattle.reg_model.specs.declared.rule.Rule.{Rule}
-use Rattle.reg_model.specs.declared.rule.Rule.TheVariants.{H1, H2, H3, H4, H5}
+use Rattle.reg_model.specs.declared.rule.Rule.TheVariants.{H1, H2, H3}
 use Rattle.reg_http_read.specs.Fields as spec
-use Rattle.reg_http_read.specs.Heads.{Facts, answers_head, facts_from, greatest_body, judge_head, judge_parts, with_asked}
-use Rattle.reg_http_read.specs.Reads.{HasAsked, IsAnswer, IsAsked, IsJudgement, facts_of}
+use Rattle.reg_http_read.specs.Heads.{answers_head, facts_from, judge_head, judge_parts, with_asked}
+use Rattle.reg_http_read.specs.Reads.{HasAsked, IsAnswer}
 use Rattle.reg_http_read.specs.declared.asked.FieldsAsked.{FieldsAsked}
-use Rattle.reg_http_read.specs.declared.head.Head.{Head}
 use Rattle.reg_http_read.specs.declared.head.HeadRead.TheVariants as read
-use Rattle.reg_http_read.specs.declared.head.HeadRead.{HeadRead}
 
 not_less : (a b : ℕ) → b ≤ a → ltb a b ≡ false
 not_less a b le = grind (arith, nat_tests)

@@ -11,3 +11,4 @@ pub mod Requests
 pub mod Pieces
 pub mod Waiting
 pub mod Tallies
+mod Common

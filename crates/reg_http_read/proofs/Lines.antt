@@ -1,12 +1,9 @@
 -- What could not be judged still can't while no line ends.
-use Rattle.std.proofs.Common.{◌≡◌, ℕ, ◌+◌, ◌-◌, ◌<◌, ◌≤◌, inl, inr, [], ◌∷◌, ◌++◌, length, get_or, take, drop, sym, ap, ◌∙◌, subst, arith, length-append}
-use Rattle.std.proofs.lemmas.Bool.{cases_lt}
-use Rattle.std.proofs.lemmas.List.{take-append-le, length-take-le, get_or-take}
-use Rattle.std.proofs.Math.Seq.{drop-append_seam, get_or-append_right, get_or-append_seam}
-use Rattle.reg_body.specs.declared.limits.Limits.{Limits}
-use Rattle.reg_http_read.specs.Fronts.{EndsLine}
-use Rattle.reg_http_read.specs.Heads.{IsUnfinished}
-use Rattle.reg_model.specs.Registry.{Text}
+use Rattle.reg_http_read.proofs.Common.{◌≡◌, ℕ, ◌+◌, ◌-◌, ◌<◌, ◌≤◌, inl, inr, [], ◌∷◌, ◌++◌, length, get_or, take, drop, sym, ap, ◌∙◌, subst}
+use Rattle.reg_http_read.proofs.Common.{arith, length-append, cases_lt, take-append-le, length-take-le, get_or-append_seam, Limits, EndsLine}
+use Rattle.reg_http_read.proofs.Common.{IsUnfinished, Text}
+use Rattle.std.proofs.lemmas.List.{get_or-take}
+use Rattle.std.proofs.Math.Seq.{drop-append_seam, get_or-append_right}
 use Rattle.reg_http_read.specs.Taking.{HasNoLine}
 
 -- a front that ends a line lies in the bytes before those with no line

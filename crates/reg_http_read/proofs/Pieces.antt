@@ -1,9 +1,8 @@
 -- What one read brought that kept nothing.
-use Rattle.std.proofs.Common.{◌≡◌, ◌<◌, ◌++◌, ℕ, [], length, take, refl, sym, subst, append-nil, Option, Ok}
+use Rattle.reg_http_read.proofs.Common.{◌≡◌, ◌<◌, ◌++◌, ℕ, [], length, take, refl, sym, subst, append-nil, Option, Ok, Consumes-nil, Text}
+use Rattle.reg_http_read.proofs.Common.{IsPiece, Reads}
 use Rattle.std.specs.Io.KnownBytes.{Consumes, IsAtEnd, Keeps}
-use Rattle.std.proofs.KnownBytes.{Consumes-kept, Consumes-nil}
-use Rattle.reg_model.specs.Registry.{Text}
-use Rattle.reg_http_read.specs.Taking.{IsPiece, Reads}
+use Rattle.std.proofs.KnownBytes.{Consumes-kept}
 use Rattle.reg_http_read.specs.declared.reading.Piece.TheVariants as piece
 
 module _ (r0 r1 : Option Text) (was : Text) where

@@ -1,13 +1,8 @@
 -- From a parse of the longest front to what is read of all bytes.
-use Rattle.std.proofs.Common.{◌≡◌, ℕ, ◌≤◌, inl, inr, Bool, List, length, take, refl, sym, subst}
+use Rattle.reg_http_read.proofs.Common.{◌≡◌, ℕ, ◌≤◌, inl, inr, Bool, List, length, take, refl, sym, subst, Limits, Rule, IsFront, IsHeadCut}
+use Rattle.reg_http_read.proofs.Common.{IsBroken, IsHeadAt, IsJudgement, facts_of, Head, HeadRead}
 use Rattle.httparse.specs.Grammar.{print_request}
-use Rattle.reg_body.specs.declared.limits.Limits.{Limits}
-use Rattle.reg_model.specs.declared.rule.Rule.{Rule}
-use Rattle.reg_http_read.specs.Fronts.{IsFront, IsHeadCut}
-use Rattle.reg_http_read.specs.Heads.{IsBroken, IsHeadAt}
-use Rattle.reg_http_read.specs.Reads.{IsJudgement, IsRead, IsWhole, facts_of}
-use Rattle.reg_http_read.specs.declared.head.Head.{Head}
-use Rattle.reg_http_read.specs.declared.head.HeadRead.{HeadRead}
+use Rattle.reg_http_read.specs.Reads.{IsRead, IsWhole}
 use Rattle.reg_http_read.specs.declared.head.HeadRead.TheVariants as read
 use Rattle.reg_http_read.proofs.Cuts.{bad_cut, head_cut}
 use Rattle.reg_http_read.proofs.Judged.{judged_len, refused_by, told_by}

@@ -1,12 +1,8 @@
 -- What is read of bytes is one thing.
-use Rattle.std.proofs.Common.{◌≡◌, ℕ, inl, inr, Bool, ◌++◌, drop, Ok, Err, sym, ap, ◌∙◌, arith}
-use Rattle.httparse.specs.Grammar.{RequestHead}
+use Rattle.reg_http_read.proofs.Common.{◌≡◌, ℕ, inl, inr, Bool, ◌++◌, drop, Ok, Err, sym, ap, ◌∙◌, arith, RequestHead, Limits, Text, Rule}
+use Rattle.reg_http_read.proofs.Common.{IsHeadCut, Facts, IsBroken, IsHeadAt, IsRefusedAt, IsUnfinished}
 use Rattle.httparse.proofs.GrammarLemmas.{request_unique}
-use Rattle.reg_body.specs.declared.limits.Limits.{Limits}
-use Rattle.reg_model.specs.Registry.{Text}
-use Rattle.reg_model.specs.declared.rule.Rule.{Rule}
-use Rattle.reg_http_read.specs.Fronts.{IsHeadCut}
-use Rattle.reg_http_read.specs.Heads.{Facts, IsBroken, IsHeadAt, IsRefusedAt, IsUnfinished, judge_head}
+use Rattle.reg_http_read.specs.Heads.{judge_head}
 use Rattle.reg_http_read.proofs.Following.{IsHeadAt-append, IsRefusedAt-append, front_reads}
 
 same_heads : (limit n m : ℕ) (b : Text) (h k : RequestHead) → IsHeadCut limit b n h → IsHeadCut limit b m k → h ≡ k

@@ -1,20 +1,17 @@
 -- What is known of a request while its body is read.
-use Rattle.std.proofs.Common.{arith, ◌≡◌, ◌≤◌, ◌<◌, ◌+◌, ◌++◌, inl, inr, refl, ap, ◌∙◌, subst, append_assoc, length, sym, [], ◌&&◌, not, Bool, true, false, Option, Some, Ok, Err}
+use Rattle.reg_http_read.proofs.Common.{arith, ◌≡◌, ◌≤◌, ◌<◌, ◌+◌, ◌++◌, inl, inr, refl, ap, ◌∙◌, subst, append_assoc, length, sym, [], Bool}
+use Rattle.reg_http_read.proofs.Common.{true, false, Option, Some, Ok, Err, Consumes-trans, Limits, Facts, IsHeadAt, IsUnfinished, Text}
+use Rattle.reg_http_read.proofs.Common.{Rule, IsRefused, is_head_only, facts_owned, Awaits, Fills, Reads, StreamFault, Memory, ReadFault}
+use Rattle.reg_http_read.proofs.Common.{StoreFault, TooManyTurns, WriteFault}
+use Rattle.std.proofs.Common.{◌&&◌, not}
 use Rattle.std.specs.Io.KnownBytes.{Appends}
-use Rattle.std.proofs.KnownBytes.{Appends-nil, Consumes-trans}
-use Rattle.reg_body.specs.declared.limits.Limits.{Limits}
-use Rattle.reg_http_read.specs.Heads.{Facts, IsHeadAt, IsUnfinished}
-use Rattle.reg_model.specs.Registry.{Text}
-use Rattle.reg_model.specs.declared.rule.Rule.{Rule}
+use Rattle.std.proofs.KnownBytes.{Appends-nil}
 use Rattle.reg_model.specs.declared.rule.Rule.TheVariants as rule
 use Rattle.reg_body.specs.Sent.{AppendsFront}
-use Rattle.reg_http_read.specs.Begun.{IsRefused, interim_if, interim_of, is_head_only}
-use Rattle.reg_http_read.specs.Owned.{facts_owned}
-use Rattle.reg_http_read.specs.Taking.{Awaits, Fills, HasBegun, IsCutOff, IsFound, Reads, Takes}
+use Rattle.reg_http_read.specs.Begun.{interim_if, interim_of}
+use Rattle.reg_http_read.specs.Taking.{HasBegun, IsCutOff, IsFound, Takes}
 use Rattle.reg_http_read.specs.Turns.{Sends}
 use Rattle.reg_http_read.proofs.Following.{head_some, head_within}
-use Rattle.reg_http_read.specs.declared.fault.StreamFault.{StreamFault}
-use Rattle.reg_http_read.specs.declared.fault.StreamFault.TheVariants.{Memory, ReadFault, StoreFault, TooManyTurns, WriteFault}
 use Rattle.reg_http_read.specs.declared.owned.OwnedHead.{OwnedHead}
 use Rattle.reg_http_read.specs.declared.taking.Awaited.{Awaited}
 use Rattle.reg_http_read.specs.declared.taking.Awaited.TheVariants as awaited

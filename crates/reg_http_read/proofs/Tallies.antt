@@ -1,10 +1,9 @@
 -- Turns of the reader or of the writer alone, told of both.
-use Rattle.std.proofs.Common.{ℕ, arith, refl}
+use Rattle.reg_http_read.proofs.Common.{ℕ, arith, refl, SpendsFor, SpendsSome, reads_of, tally, StreamFault, Memory, ReadFault, StoreFault}
+use Rattle.reg_http_read.proofs.Common.{TooManyTurns, WriteFault}
 use Rattle.reg_body.specs.Counting.{CountedEnd}
-use Rattle.reg_http_read.specs.Turns.{SpendsFor, SpendsSome, reads_of, tally, writes_of}
+use Rattle.reg_http_read.specs.Turns.{writes_of}
 use Rattle.reg_http_read.proofs.Adding.{spends_some}
-use Rattle.reg_http_read.specs.declared.fault.StreamFault.{StreamFault}
-use Rattle.reg_http_read.specs.declared.fault.StreamFault.TheVariants.{Memory, ReadFault, StoreFault, TooManyTurns, WriteFault}
 
 pub reads_some : {R W : Type 0} (had left : ℕ) (r s : CountedEnd R) (w : CountedEnd W)
     → SpendsSome had left (reads_of r) (reads_of s) → SpendsSome had left (tally r w) (tally s w)

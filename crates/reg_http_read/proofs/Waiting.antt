@@ -1,12 +1,9 @@
 -- What one more read brought, behind what waits already.
-use Rattle.std.proofs.Common.{◌≡◌, ◌<◌, ◌≤◌, ℕ, inl, inr, refl, false, length, sym, ◌∙◌, subst, Option, Ok, Err}
-use Rattle.reg_body.specs.declared.limits.Limits.{Limits}
-use Rattle.reg_model.specs.Registry.{Text}
+use Rattle.reg_http_read.proofs.Common.{◌≡◌, ◌<◌, ◌≤◌, ℕ, inl, inr, refl, false, length, sym, ◌∙◌, subst, Option, Ok, Err, Limits, Text}
+use Rattle.reg_http_read.proofs.Common.{IsUnfinished, Awaits, Fills, IsPiece, Reads, StreamFault, Memory, ReadFault, StoreFault}
+use Rattle.reg_http_read.proofs.Common.{TooManyTurns, WriteFault}
 use Rattle.reg_model.specs.declared.rule.Rule.TheVariants as rule
-use Rattle.reg_http_read.specs.Heads.{IsUnfinished}
-use Rattle.reg_http_read.specs.Taking.{Awaits, Fills, IsLine, IsPiece, Reads}
-use Rattle.reg_http_read.specs.declared.fault.StreamFault.{StreamFault}
-use Rattle.reg_http_read.specs.declared.fault.StreamFault.TheVariants.{Memory, ReadFault, StoreFault, TooManyTurns, WriteFault}
+use Rattle.reg_http_read.specs.Taking.{IsLine}
 use Rattle.reg_http_read.specs.declared.reading.Piece.TheVariants as piece
 use Rattle.reg_http_read.specs.declared.taking.Awaited.TheVariants as awaited
 use Rattle.reg_http_read.specs.declared.taking.Rest.TheVariants as remaining

@@ -1,6 +1,6 @@
 //! What the fields of a head ask for.
 
-ghost use Rattle.std.specs.Prelude.{◌≡◌, ◌-◌, ◌<◌, ◌^◌, codes, map};
+ghost use Rattle.std.specs.Prelude.{◌≡◌, codes, map};
 ghost use Rattle.httparse.specs.Borrowed.{header_parts};
 ghost use Rattle.reg_http_read.specs.Fields as spec;
 ghost use Rattle.reg_http_read.specs.Heads.{greatest_body};
@@ -54,14 +54,6 @@ fn ask<'b>(fields: &[Header<'b>], minor: u8, body_len: u64) -> FieldsAsked<'b>
     }
 }
 
-/// How many bytes the largest body has; a saturated number is more.
-fn greatest_length(limits: &Limits) -> u64
-    ensures value { result ≡ greatest_body limits.now }
-    ensures small { result < 2 ^ 64 - 1 }
-{
-    8 + u64::from(limits.json) + u64::from(limits.archive)
-}
-
 /// What the fields ask for, or the first rule that they break.
 pub(crate) fn judge_fields<'b>(
     fields: &[Header<'b>],
@@ -83,7 +75,7 @@ pub(crate) fn judge_fields<'b>(
     let Some(body_len) = body_length(fields) else {
         return Err(Rule::H4);
     };
-    if body_len > greatest_length(limits) {
+    if body_len > limits.greatest_body() {
         return Err(Rule::H5);
     }
     Ok(ask(fields, minor, body_len))

@@ -10,3 +10,4 @@ pub mod StemFacts
 pub mod Stems
 pub mod Weak
 pub mod WhichLine
+mod Words

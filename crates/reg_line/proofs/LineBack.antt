@@ -1,16 +1,10 @@
 -- Reading a line's value gives what the manifest tells, its description aside.
-use Rattle.std.proofs.Common.{◌≡◌, ℕ, Bool, true, List, [], ◌∷◌, map, Option, Some, None, Ok, refl, sym, ap}
-use Rattle.std.specs.BTreeMap.{insert_entry}
-use Rattle.std.specs.Cmp.Lexicographic.{slice_cmp}
+use Rattle.reg_line.proofs.Words.{◌≡◌, ℕ, Bool, true, List, [], ◌∷◌, map, Option, Some, None, Ok, refl, sym, ap, insert_entry, slice_cmp}
+use Rattle.reg_line.proofs.Words.{encode_lower, string, object, items_of, is_name, Features, each, DepData, Metadata, feature_members}
+use Rattle.reg_line.proofs.Words.{newer, older, dep_data, dep_named, line_members, text_or_null}
 use Rattle.std.specs.Ordering.{nat_cmp}
-use Rattle.hex.specs.Hex.{encode_lower}
-use Rattle.serde_json.specs.Data.{string, object}
-use Rattle.serde_json.specs.View.{items_of}
-use Rattle.reg_names.specs.Names.{is_name}
-use Rattle.reg_manifest.specs.Fields.{Features, each, lists_of, lists_onto, optional, text_of, unless_null}
-use Rattle.reg_manifest.specs.Manifests.{DepData, Metadata}
-use Rattle.reg_line.specs.Features.{feature_members, newer, older}
-use Rattle.reg_line.specs.Line.{dep_data, dep_named, line_data, line_members, text_or_null}
+use Rattle.reg_manifest.specs.Fields.{lists_of, lists_onto, optional, text_of, unless_null}
+use Rattle.reg_line.specs.Line.{line_data}
 use Rattle.reg_line.specs.LineRead.{about_from, dep_from, features_from, line_from, origin_from}
 use Rattle.reg_line.proofs.Back.{ascending}
 use Rattle.reg_line.proofs.Maps.{insert_all, merge}

@@ -1,16 +1,12 @@
 -- Features in a map, as members of an object, and put in one after another.
-use Rattle.std.proofs.Common.{◌≡◌, ℕ, Bool, true, false, not, cond, List, [], ◌∷◌, map, filter, String, Vec, Global, string_bytes, string_cmp, nat_cmp, Ordering, Less, refl, ap, ◌∙◌}
-use Rattle.std.proofs.lemmas.Bool.{and_parts, and_from}
-use Rattle.std.specs.BTreeMap.{insert_entry}
-use Rattle.std.specs.Cmp.Lexicographic.{slice_cmp}
+use Rattle.reg_line.proofs.Words.{◌≡◌, ℕ, Bool, true, false, not, cond, List, [], ◌∷◌, map, filter, String, Global, string_bytes}
+use Rattle.reg_line.proofs.Words.{string_cmp, nat_cmp, Ordering, Less, refl, ap, ◌∙◌, and_parts, and_from, insert_entry, slice_cmp, is_lt}
+use Rattle.reg_line.proofs.Words.{Data, Members, no_members, member, put, Features, feature_view, is_newer, newer, older, feature_members}
+use Rattle.std.proofs.Common.{Vec}
 use Rattle.std.specs.List.{AllByRecursion}
 use Rattle.std.specs.List.Sorted.{IsStrictlySortedBy}
 use Rattle.std.specs.Map.{keys_of}
-use Rattle.std.specs.Ordering.{is_lt}
-use Rattle.serde_json.specs.Data.{Data, Members, no_members, member, put}
-use Rattle.reg_manifest.specs.Fields.{Features}
-use Rattle.reg_manifest.specs.Manifests.{feature_view}
-use Rattle.reg_line.specs.Features.{texts, is_newer, newer, older, feature_members}
+use Rattle.reg_line.specs.Features.{texts}
 use Rattle.reg_line.proofs.Back.{all_above, ascending, put_above, reversed, is_less}
 
 abbrev pub Feature : Type 0

@@ -1,13 +1,9 @@
 -- A line has no float, so its text is the compact text.
-use Rattle.std.proofs.Common.{◌≡◌, ℕ, Bool, false, List, [], ◌∷◌, map, Option, Some, None, refl}
-use Rattle.hex.specs.Hex.{encode_lower}
-use Rattle.serde_json.specs.Data.{Data, null, string}
-use Rattle.serde_json.specs.View.{items_of}
-use Rattle.serde_json.specs.Written.{has_float, items_have_float, members_have_float}
-use Rattle.reg_manifest.specs.Fields.{Features}
-use Rattle.reg_manifest.specs.Manifests.{DepData, Metadata}
-use Rattle.reg_line.specs.Features.{feature_members, newer, older}
-use Rattle.reg_line.specs.Line.{dep_data, dep_named, dep_object, line_data, line_members, text_or_null}
+use Rattle.reg_line.proofs.Words.{◌≡◌, ℕ, Bool, false, List, [], ◌∷◌, map, Option, Some, None, refl, encode_lower, Data, null, string}
+use Rattle.reg_line.proofs.Words.{items_of, has_float, Features, DepData, Metadata, feature_members, newer, older, dep_data, dep_named}
+use Rattle.reg_line.proofs.Words.{dep_object, line_members, text_or_null}
+use Rattle.serde_json.specs.Written.{items_have_float, members_have_float}
+use Rattle.reg_line.specs.Line.{line_data}
 
 texts-no_float : (ss : List (List ℕ)) → items_have_float (items_of (map string ss)) ≡ false
 texts-no_float [] = refl

@@ -1,22 +1,16 @@
 -- The line of a manifest is a plain value, and a shallow one: it can be read back.
-use Rattle.std.proofs.Common.{◌≡◌, ◌≤◌, ℕ, Bool, true, false, not, List, [], ◌∷◌, map, filter, Option, Some, None, String, Global, string_bytes, option_map, IsUtf8, refl, sym, subst, arith, cond, string_cmp}
+use Rattle.reg_line.proofs.Words.{◌≡◌, ◌≤◌, ℕ, Bool, true, false, not, List, [], ◌∷◌, map, filter, Option, Some, None, String, Global}
+use Rattle.reg_line.proofs.Words.{string_bytes, option_map, IsUtf8, refl, sym, subst, arith, cond, string_cmp, IsOrdered, encode_lower}
+use Rattle.reg_line.proofs.Words.{IsUtf8-are_ascii, Data, unsigned, null, string, object, depth, items_depth, members_depth, max_depth}
+use Rattle.reg_line.proofs.Words.{items_of, Features, DepData, Metadata, dep_view, feature_view, manifest_view, Manifest, feature_members}
+use Rattle.reg_line.proofs.Words.{is_newer, newer, older, dep_data, dep_named, dep_object, line_members, text_or_null}
 use Rattle.std.proofs.lemmas.Fmt.{decimal_digit}
 use Rattle.std.proofs.lemmas.Str.{IsUtf8-string_bytes}
-use Rattle.std.specs.BTreeMap.{IsOrdered}
 use Rattle.std.specs.declared.vec.Vec.{Vec}
-use Rattle.hex.specs.Hex.{encode_lower}
 use Rattle.json.proofs.Printed.Decimals.{IsNumber-decimal}
-use Rattle.json.proofs.Printed.Utf8.{IsUtf8-are_ascii}
-use Rattle.serde_json.specs.Data.{Data, unsigned, null, string, object, depth, items_depth, members_depth}
-use Rattle.serde_json.specs.Read.{max_depth}
-use Rattle.serde_json.specs.View.{items_of}
 use Rattle.serde_json.proofs.Numbers.{number_of-decimal}
-use Rattle.reg_manifest.specs.Fields.{Features}
-use Rattle.reg_manifest.specs.Manifests.{DepData, Metadata, dep_view, feature_view, manifest_view}
 use Rattle.reg_manifest.specs.declared.manifest.Dep.{Dep}
-use Rattle.reg_manifest.specs.declared.manifest.Manifest.{Manifest}
-use Rattle.reg_line.specs.Features.{feature_members, is_newer, newer, older}
-use Rattle.reg_line.specs.Line.{dep_data, dep_named, dep_object, line_data, line_members, text_or_null}
+use Rattle.reg_line.specs.Line.{line_data}
 use Rattle.reg_line.proofs.Back.{IsPlain, IsPlainNumber, ItemsArePlain, MembersArePlain, ascending}
 use Rattle.reg_line.proofs.Maps.{Feature, ascending_view, ascending_filter}
 

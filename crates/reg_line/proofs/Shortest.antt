@@ -1,28 +1,21 @@
 -- No line is shorter than one that tells as little as a line can.
-use Rattle.std.proofs.Common.{◌≡◌, ◌≤◌, ◌<◌, ◌+◌, ◌/◌, ◌%◌, ◌^◌, ℕ, Bool, true, false, cond, List, [], ◌∷◌, ◌++◌, length, map, nat_lt, Option, Some, None, codes, sym, ap, ◌∙◌, arith}
-use Rattle.std.proofs.lemmas.Bool.{and_parts}
+use Rattle.reg_line.proofs.Words.{◌≡◌, ◌≤◌, ◌<◌, ◌/◌, ℕ, Bool, true, false, cond, List, [], ◌∷◌, ◌++◌, length, map, nat_lt, Option, Some}
+use Rattle.reg_line.proofs.Words.{None, codes, sym, ap, ◌∙◌, arith, and_parts, encode_lower, lower_digits, quoted, Data, array, boolean}
+use Rattle.reg_line.proofs.Words.{number, object, string, unsigned, Items, no_items, item, Members, no_members, member, comma_if}
+use Rattle.reg_line.proofs.Words.{compact_text, items_text, members_text, items_of, Features, Metadata, manifest_view, is_name}
+use Rattle.reg_line.proofs.Words.{feature_members, newer, older, line_of, dep_data, line_members, text_or_null, shortest_line, IsStemOf}
+use Rattle.std.proofs.Common.{◌+◌, ◌%◌, ◌^◌}
 use Rattle.std.proofs.lemmas.Fmt.{decimal_nonempty}
 use Rattle.std.proofs.lemmas.List.{length-append}
 use Rattle.std.specs.Char.{digit_char}
 use Rattle.std.specs.Fmt.{decimal}
-use Rattle.hex.specs.Hex.{encode_lower, lower_digits}
 use Rattle.hex.proofs.HexLemmas.{length-encode_with}
-use Rattle.json.specs.Print.{escape, escape_byte, escape_letter, quoted}
+use Rattle.json.specs.Print.{escape, escape_byte, escape_letter}
 use Rattle.semver.specs.Identifiers.{marked}
-use Rattle.serde_json.specs.Data.{Data, array, boolean, number, object, string, unsigned, Items, no_items, item, Members, no_members, member}
-use Rattle.serde_json.specs.Written.{comma_if, compact_text, items_text, members_text}
-use Rattle.serde_json.specs.View.{items_of}
-use Rattle.reg_manifest.specs.Fields.{Features}
-use Rattle.reg_manifest.specs.Manifests.{Metadata, manifest_view}
 use Rattle.reg_manifest.specs.Metadata.{keeps_rules}
-use Rattle.reg_names.specs.Names.{is_name}
 use Rattle.reg_versions.specs.Versions.{is_version}
 use Rattle.reg_versions.proofs.Grammar.{version_grammar}
-use Rattle.reg_line.specs.Features.{feature_members, newer, older}
-use Rattle.reg_line.specs.File.{line_of}
-use Rattle.reg_line.specs.Line.{deps_data, line_data, line_json, dep_data, line_members, text_or_null}
-use Rattle.reg_line.specs.Shortest.{shortest_line}
-use Rattle.reg_line.specs.StemCheck.{IsStemOf}
+use Rattle.reg_line.specs.Line.{deps_data, line_data, line_json}
 use Rattle.reg_line.proofs.Stems.{line-line_of}
 
 -- ---- texts

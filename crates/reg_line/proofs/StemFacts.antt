@@ -1,26 +1,19 @@
 -- The check of a stem is true just where some manifest has that stem.
-use Rattle.std.proofs.Common.{◌≡◌, ℕ, Bool, true, false, not, List, [], ◌∷◌, ◌++◌, Ok, Err, string_cmp, codes, bytes_eq, refl, sym, ap, ◌∙◌, if◌then◌else◌}
-use Rattle.std.proofs.lemmas.Bool.{and_parts, false≢true}
+use Rattle.reg_line.proofs.Words.{◌≡◌, ℕ, Bool, true, false, not, List, [], ◌∷◌, ◌++◌, Ok, string_cmp, codes, refl, sym, ap, ◌∙◌, and_parts}
+use Rattle.reg_line.proofs.Words.{false≢true, IsOrdered, encode_lower, Data, object, read, compact_text, is_name, Features, Metadata}
+use Rattle.reg_line.proofs.Words.{manifest_view, Parsed, ◌>>=◌, Manifest, newer, older, IsStem, line_members, IsStemOf}
+use Rattle.std.proofs.Common.{Err, bytes_eq, if◌then◌else◌}
 use Rattle.std.proofs.lemmas.List.{append_cancel_right}
 use Rattle.std.proofs.lemmas.Slice.Eq.{bytes_eq-Decides}
 use Rattle.std.proofs.lemmas.Str.{is_utf8-from_IsUtf8}
-use Rattle.std.specs.BTreeMap.{IsOrdered}
-use Rattle.hex.specs.Hex.{encode_lower}
-use Rattle.serde_json.specs.Data.{Data, object}
-use Rattle.serde_json.specs.Read.{read}
-use Rattle.serde_json.specs.Written.{compact_text}
-use Rattle.reg_names.specs.Names.{is_name}
-use Rattle.reg_manifest.specs.Fields.{Features, json_of, value_or}
-use Rattle.reg_manifest.specs.Manifests.{Metadata, manifest_view}
+use Rattle.reg_manifest.specs.Fields.{json_of, value_or}
 use Rattle.reg_manifest.specs.Metadata.{keeps_rules}
-use Rattle.reg_manifest.specs.Parsing.{Parsed, ◌>>=◌, FailsAs}
+use Rattle.reg_manifest.specs.Parsing.{FailsAs}
 use Rattle.reg_manifest.specs.declared.fault.ManifestFault.{ManifestFault}
 use Rattle.reg_manifest.specs.declared.fault.ManifestFault.TheVariants as fault
-use Rattle.reg_manifest.specs.declared.manifest.Manifest.{Manifest}
-use Rattle.reg_line.specs.Features.{newer, older}
-use Rattle.reg_line.specs.Line.{IsStem, line_data, line_json, line_members}
+use Rattle.reg_line.specs.Line.{line_data, line_json}
 use Rattle.reg_line.specs.LineRead.{bytes_from, line_from}
-use Rattle.reg_line.specs.StemCheck.{IsStemOf, fits, stem_read}
+use Rattle.reg_line.specs.StemCheck.{fits, stem_read}
 use Rattle.reg_line.proofs.Back.{IsUtf8-compact_text, read-compact_text}
 use Rattle.reg_line.proofs.LineBack.{line-back, undescribed}
 use Rattle.reg_line.proofs.Maps.{ascending_view}

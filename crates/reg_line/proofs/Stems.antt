@@ -1,15 +1,9 @@
 -- A line's text is its stem, the value of `yanked`, and the end of the object.
-use Rattle.std.proofs.Common.{◌≡◌, ◌-◌, ℕ, Bool, true, false, List, [], ◌∷◌, ◌++◌, length, take, codes, refl, sym, ap, ◌∙◌, append_assoc, arith}
-use Rattle.std.proofs.lemmas.Grind.{common_steps}
-use Rattle.hex.specs.Hex.{encode_lower}
-use Rattle.json.specs.Print.{quoted}
-use Rattle.serde_json.specs.Data.{Data, boolean, object, Members, no_members, member}
-use Rattle.serde_json.specs.Written.{compact_text, members_text, comma_if}
-use Rattle.reg_manifest.specs.Fields.{Features}
-use Rattle.reg_manifest.specs.Manifests.{Metadata}
-use Rattle.reg_line.specs.Features.{newer, older}
-use Rattle.reg_line.specs.File.{line_of}
-use Rattle.reg_line.specs.Line.{IsStem, line_data, line_json, line_members, line_text}
+use Rattle.reg_line.proofs.Words.{◌≡◌, ◌-◌, ℕ, Bool, true, false, List, [], ◌∷◌, ◌++◌, length, take, codes, refl, sym, ap, ◌∙◌, arith}
+use Rattle.reg_line.proofs.Words.{common_steps, encode_lower, quoted, Data, boolean, object, Members, no_members, member, compact_text}
+use Rattle.reg_line.proofs.Words.{members_text, comma_if, Features, Metadata, newer, older, line_of, IsStem, line_members}
+use Rattle.std.proofs.Common.{append_assoc}
+use Rattle.reg_line.specs.Line.{line_data, line_json, line_text}
 
 -- the members, and one more at the end
 abbrev with_last : Members → List ℕ → Data → Members

@@ -1,13 +1,9 @@
 -- Newer features put into a line without them make the line of the manifest.
-use Rattle.std.proofs.Common.{◌≡◌, ℕ, Bool, List, [], ◌∷◌, length, String, Global, codes, refl, sym, ap, ◌∙◌, arith}
-use Rattle.hex.specs.Hex.{encode_lower}
-use Rattle.serde_json.specs.Data.{Members, no_members, number, object, put, unsigned}
-use Rattle.serde_json.specs.View.{members_view}
+use Rattle.reg_line.proofs.Words.{◌≡◌, ℕ, Bool, List, [], ◌∷◌, length, String, Global, codes, refl, sym, ap, ◌∙◌, arith, encode_lower}
+use Rattle.reg_line.proofs.Words.{Members, no_members, number, object, put, unsigned, members_view, Features, Metadata, feature_members}
+use Rattle.reg_line.proofs.Words.{newer, older, line_members}
 use Rattle.serde_json.specs.declared.value.Value.{Value}
-use Rattle.reg_manifest.specs.Fields.{Features}
-use Rattle.reg_manifest.specs.Manifests.{Metadata}
-use Rattle.reg_line.specs.Features.{feature_members, newer, older}
-use Rattle.reg_line.specs.Line.{line_data, line_members, long_members, short_members}
+use Rattle.reg_line.specs.Line.{line_data, long_members, short_members}
 
 abbrev with_newer : Members → Members → Members
 with_newer news line = put (codes "v") (number (unsigned 2)) (put (codes "features2") (object news) line)

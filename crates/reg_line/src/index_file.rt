@@ -15,7 +15,7 @@ pub struct Entry {
 }
 
 /// What follows a stem in its line.
-fn end(yanked: bool) -> &'static [u8]
+pub fn line_end(yanked: bool) -> &'static [u8]
     ensures { result.now ≡ end_of yanked }
 {
     if yanked { b"true}\n" } else { b"false}\n" }
@@ -27,7 +27,7 @@ pub fn line_len(stem_len: u64, yanked: bool) -> Option<u64>
     ensures some { IfSome result (λ n. n ≡ stem_len + length (end_of yanked)) }
     ensures none { IsNone result ↔ (2 ^ 64 ≤ stem_len + length (end_of yanked)) }
 {
-    stem_len.checked_add(end(yanked).len() as u64)
+    stem_len.checked_add(line_end(yanked).len() as u64)
 }
 
 /// The length of the shortest line of a crate with this name.
@@ -49,7 +49,7 @@ fn push_line(text: &mut Vec<u8>, entry: &Entry) -> Result<(), AllocError>
     ensures { OnOk result (text.new.items ≡ text.old.items ++ line_of (entry_view entry.now)) }
 {
     text.extend_from_slice(entry.stem.as_slice())?;
-    text.extend_from_slice(end(entry.yanked))
+    text.extend_from_slice(line_end(entry.yanked))
 }
 
 /// The index file of these lines.

@@ -25,6 +25,6 @@ pub mod values;
 pub use base::is_base;
 pub use config_file::config;
 pub use digests::{Digest, digest_of};
-pub use index_file::{Entry, file, lacks_room, line_len};
+pub use index_file::{Entry, file, lacks_room, line_end, line_len};
 pub use lines::{line, stem};
 pub use stem_check::check_stem;

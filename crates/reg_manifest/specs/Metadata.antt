@@ -1,6 +1,6 @@
 -- What the metadata of a publish request stands for
 -- (the Cargo Book, "Registry Web API", "Publish").
-use Rattle.std.specs.Prelude.{ℕ, Bool, true, false, not, List, [], codes, Option, Some, None, Result, Ok, Err, is_ok, bytes_eq, if◌then◌else◌, length, ◌==◌, ◌||◌, ◌&&◌}
+use Rattle.std.specs.Prelude.{ℕ, Bool, true, false, not, List, [], codes, Option, Some, None, Ok, Err, is_ok, bytes_eq, if◌then◌else◌, length, ◌==◌, ◌||◌, ◌&&◌}
 use Rattle.std.specs.List.{list_all}
 use Rattle.semver.specs.Parse.{req_of}
 use Rattle.serde_json.specs.Data.{Data, no_items}

@@ -1,7 +1,6 @@
 -- Elements of a list that two equalities tell apart.
-use Rattle.std.proofs.Common.{◌≡◌, inl, inr, List, [], ◌∷◌, Bool, true, false, sym, ap, ◌∙◌}
-use Rattle.std.specs.List.{AllByRecursion, IsDistinct}
-use Rattle.std.specs.Cmp.{IsEquivalence}
+use Rattle.reg_model.proofs.Words.{◌≡◌, inl, inr, List, [], ◌∷◌, Bool, true, false, sym, ap, ◌∙◌, AllByRecursion, IsEquivalence}
+use Rattle.std.specs.List.{IsDistinct}
 use Rattle.std.proofs.lemmas.Map.Keys.{IsDistinct-head, IsDistinct-tail}
 use Rattle.reg_model.proofs.Members.{IsIn, each_in}
 

@@ -1,15 +1,10 @@
 -- Texts that rise and are the canonical texts of the crates are their list.
-use Rattle.std.proofs.Common.{◌≡◌, true, List, [], ◌∷◌, map, Option, Some, None, Less, refl, sym, ap, ◌∙◌}
-use Rattle.std.specs.Prelude.{is_some}
+use Rattle.reg_model.proofs.Words.{◌≡◌, true, List, [], ◌∷◌, map, Option, Some, None, refl, sym, ap, ◌∙◌, is_some, AllByRecursion, list_any}
+use Rattle.reg_model.proofs.Words.{eq_by_cmp, nat_list_cmp_total, bytes_eq, Registry, Text, text_cmp, canons, has_crate}
+use Rattle.std.proofs.Common.{Less}
 use Rattle.std.specs.FinMap as finmap
 use Rattle.std.specs.FinMap.Entries as entries
-use Rattle.std.specs.List.{AllByRecursion, list_any}
 use Rattle.std.specs.List.Sorted.{IsStrictlySortedBy}
-use Rattle.std.specs.Ordering.{eq_by_cmp}
-use Rattle.std.specs.Cmp.Lexicographic.{nat_list_cmp_total}
-use Rattle.std.specs.Str.{bytes_eq}
-use Rattle.reg_model.specs.Registry.{Registry, Text, text_cmp}
-use Rattle.reg_model.specs.Crates.{canons, has_crate}
 use Rattle.reg_model.proofs.Canons.{Keyed, by_canon, key_there, text_agrees}
 use Rattle.reg_model.proofs.Keys.{text_apart}
 use Rattle.reg_model.proofs.Lists.{any_same}

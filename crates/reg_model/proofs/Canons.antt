@@ -1,17 +1,11 @@
 -- The canonical texts of the crates in their order, and which of them pass a test.
-use Rattle.std.proofs.Common.{◌≡◌, ℕ, List, [], ◌∷◌, Bool, true, cond, inl, inr, refl, sym, ◌∙◌, ap, arith}
-use Rattle.std.specs.Prelude.{map, is_some}
-use Rattle.std.specs.List.{list_any, filter}
-use Rattle.std.specs.Ordering.{eq_by_cmp, is_eq}
-use Rattle.std.specs.Str.{bytes_eq}
-use Rattle.std.specs.Cmp.{Equal-is, tied_itself, both_ways}
-use Rattle.std.specs.Cmp.Lexicographic.{nat_list_cmp_total}
+use Rattle.reg_model.proofs.Words.{◌≡◌, ℕ, List, [], ◌∷◌, Bool, true, cond, inl, inr, refl, sym, ◌∙◌, ap, arith, is_some, list_any, filter}
+use Rattle.reg_model.proofs.Words.{eq_by_cmp, is_eq, bytes_eq, Equal-is, tied_itself, nat_list_cmp_total, bytes_eq-Decides, canon}
+use Rattle.reg_model.proofs.Words.{canon_byte, Text, Registry, text_cmp, canons, has_crate}
+use Rattle.std.specs.Prelude.{map}
+use Rattle.std.specs.Cmp.{both_ways}
 use Rattle.std.specs.FinMap as finmap
 use Rattle.std.specs.FinMap.Entries as entries
-use Rattle.std.proofs.lemmas.Slice.Eq.{bytes_eq-Decides}
-use Rattle.reg_names.specs.Names.{canon, canon_byte}
-use Rattle.reg_model.specs.Registry.{Text, Registry, text_cmp}
-use Rattle.reg_model.specs.Crates.{canons, has_crate}
 use Rattle.reg_model.proofs.Keys.{text_apart}
 use Rattle.reg_model.proofs.Lists.{list_any_map, any_same}
 use Rattle.reg_model.proofs.Members.{IsIn, any_in, in_any}

@@ -1,15 +1,10 @@
 -- What is known where nothing refuses: each test of the list fails.
-use Rattle.std.proofs.Common.{◌≡◌, List, [], ◌∷◌, Bool, true, false, cond, Option, Some, None, refl}
-use Rattle.std.specs.List.{find}
-use Rattle.std.specs.Option.{option_map}
-use Rattle.reg_model.specs.declared.rule.Rule.{Rule}
-use Rattle.reg_model.specs.declared.rule.AdminRefusal.{AdminRefusal}
-use Rattle.reg_body.specs.declared.limits.Limits.{Limits}
-use Rattle.reg_model.specs.Registry.{Text, Registry}
-use Rattle.reg_model.specs.Events.{Asked, Command, action_of, fault_of}
+use Rattle.reg_model.proofs.Words.{◌≡◌, List, [], ◌∷◌, Bool, true, false, cond, Option, Some, None, refl, find, option_map, Rule}
+use Rattle.reg_model.proofs.Words.{AdminRefusal, Limits, Text, Registry, Asked, Command, action_of, fault_of, broken, order, or_else}
+use Rattle.reg_model.proofs.Words.{grounds}
 use Rattle.reg_model.specs.Facts.{access_facts, counts}
-use Rattle.reg_model.specs.Rules.{verdict, broken, order}
-use Rattle.reg_model.specs.Refusals.{denied, refused, or_else, grounds}
+use Rattle.reg_model.specs.Rules.{verdict}
+use Rattle.reg_model.specs.Refusals.{denied, refused}
 
 -- no rule of the list is broken
 abbrev pub Clear : (Rule → Bool) → List Rule → Type 0

@@ -1,23 +1,14 @@
 -- A request is answered with a rule exactly where it is denied that rule, and the rules on access come first.
-use Rattle.std.proofs.Common.{◌≡◌, ◌≢◌, ℕ, List, [], ◌∷◌, ◌++◌, Bool, true, false, cond, Option, Some, None, inl, inr, refl, sym, ◌∙◌, ap}
-use Rattle.std.specs.Prelude.{◌↔◌, is_some, not}
-use Rattle.std.specs.List.{find, filter}
-use Rattle.reg_model.specs.declared.rule.Rule.{Rule}
+use Rattle.reg_model.proofs.Words.{◌≡◌, ◌≢◌, ℕ, List, [], ◌∷◌, ◌++◌, Bool, true, false, cond, Option, Some, None, inl, inr, refl, sym, ◌∙◌}
+use Rattle.reg_model.proofs.Words.{ap, is_some, not, find, filter, Rule, Limits, Text, Registry, Action, Counts, breaks, broken, order}
+use Rattle.reg_model.proofs.Words.{Asked, Answer, Faulty, Read, Index, Download, ListOwners, Publish, Yank, Unyank, AddOwners, RemoveOwners}
+use Rattle.reg_model.proofs.Words.{Config, Search, Ask, Denied, judged, or_else, served, caller, Step, Outcome, unless_denied}
+use Rattle.std.specs.Prelude.{◌↔◌}
 use Rattle.reg_model.specs.declared.rule.Rule.TheVariants as rule
-use Rattle.reg_body.specs.declared.limits.Limits.{Limits}
-use Rattle.reg_model.specs.Registry.{Text, Registry}
-use Rattle.reg_model.specs.Actions.{Action}
 use Rattle.reg_model.specs.Actions.Action.{Read as to_read, Index as to_index, Download as to_download, ListOwners as to_list, Publish as to_publish, Yank as to_yank, Unyank as to_unyank, AddOwners as to_add, RemoveOwners as to_remove}
-use Rattle.reg_model.specs.Facts.{Access, Counts}
-use Rattle.reg_model.specs.Rules.{access, breaks, broken, is_access_rule, order, verdict}
-use Rattle.reg_model.specs.Events.{Asked, Answer}
-use Rattle.reg_model.specs.Events.Asked.{Faulty, Read, Index, Download, ListOwners, Publish, Yank, Unyank, AddOwners, RemoveOwners}
-use Rattle.reg_model.specs.Events.Reading.{Config, Search}
-use Rattle.reg_model.specs.Events.Event.{Ask}
-use Rattle.reg_model.specs.Events.Answer.{Denied}
-use Rattle.reg_model.specs.Refusals.{denied, judged, or_else}
-use Rattle.reg_model.specs.Effects.{served, caller}
-use Rattle.reg_model.specs.Steps.{Step, Outcome, unless_denied}
+use Rattle.reg_model.specs.Facts.{Access}
+use Rattle.reg_model.specs.Rules.{access, is_access_rule, verdict}
+use Rattle.reg_model.specs.Refusals.{denied}
 
 -- a refusal that is served is that of a faulty request
 served_named : (s : Registry) (who : Option ℕ) (asked : Asked) (r : Rule) → Denied r ≡ served s who asked → (q : Rule) × (asked ≡ Faulty q)

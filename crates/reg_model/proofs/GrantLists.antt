@@ -1,13 +1,10 @@
 -- What the report on grants lists.
-use Rattle.std.proofs.Common.{◌≡◌, ◌⊎◌, inl, inr, ℕ, zero, suc, ◌+◌, ◌-◌, ◌≤◌, ◌==◌, List, [], ◌∷◌, ◌++◌, map, Bool, true, false, cond, Some, None, refl, sym, ap, subst, ◌∙◌, arith}
-use Rattle.std.specs.Prelude.{slice_get}
-use Rattle.std.specs.List.{enumerate_from, filter, flat_map}
-use Rattle.std.proofs.lemmas.Bool.Decides.{nat_tests}
-use Rattle.reg_names.specs.declared.endpoint.Endpoint.{Endpoint}
+use Rattle.reg_model.proofs.Words.{◌≡◌, ◌⊎◌, inl, inr, ℕ, zero, suc, ◌+◌, ◌-◌, ◌≤◌, ◌==◌, List, [], ◌∷◌, ◌++◌, map, Bool, true, false, cond}
+use Rattle.reg_model.proofs.Words.{Some, None, refl, sym, ap, subst, ◌∙◌, arith, slice_get, enumerate_from, filter, nat_tests, Endpoint}
+use Rattle.reg_model.proofs.Words.{IsIn, Text, Token, Registry, with_id, is_granted}
+use Rattle.std.specs.List.{flat_map}
 use Rattle.reg_names.specs.declared.endpoint.Endpoint.TheVariants as endpoint
-use Rattle.reg_model.specs.Lists.{IsIn}
-use Rattle.reg_model.specs.Registry.{Text, Token, Registry, with_id}
-use Rattle.reg_model.specs.Grants.{all_endpoints, grants, is_granted}
+use Rattle.reg_model.specs.Grants.{all_endpoints, grants}
 use Rattle.reg_model.proofs.IndexPaths.{the_some}
 use Rattle.reg_model.proofs.Members.{filtered_passes, in_map, in_more, map_in}
 use Rattle.reg_model.proofs.Places.{at_id}

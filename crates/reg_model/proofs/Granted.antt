@@ -1,28 +1,20 @@
 -- The report on grants lists exactly what the rules on access let pass.
-use Rattle.std.proofs.Common.{◌≡◌, inl, inr, ℕ, List, [], ◌∷◌, Bool, true, false, cond, Option, Some, None, refl, sym, ◌∙◌, ap, subst}
-use Rattle.std.specs.Prelude.{◌&&◌, ◌||◌, ◌==◌, if◌then◌else◌, is_some, nat_eq, not, unwrap_or}
-use Rattle.std.specs.List.{AllByRecursion, enumerate_from, filter, find, list_any, starts_with}
-use Rattle.std.specs.Ordering.{on}
-use Rattle.std.specs.Option.{option_map}
-use Rattle.std.specs.Str.{bytes_eq}
+use Rattle.reg_model.proofs.Words.{◌≡◌, inl, inr, ℕ, List, [], ◌∷◌, Bool, true, false, cond, Option, Some, None, refl, sym, ◌∙◌, ap, subst}
+use Rattle.reg_model.proofs.Words.{◌&&◌, ◌||◌, if◌then◌else◌, is_some, not, unwrap_or, AllByRecursion, enumerate_from, filter, find}
+use Rattle.reg_model.proofs.Words.{list_any, on, option_map, bytes_eq, and_parts, and_from, bytes_eq-Decides, canon, is_name, name_of}
+use Rattle.reg_model.proofs.Words.{covers, has_star, prefix_of, Endpoint, Rule, IsIn, Text, Token, Registry, holds, is_enabled, token_of}
+use Rattle.reg_model.proofs.Words.{with_id, collides, exists, first, has_crate, is_among, is_reserved_always, owners, owns, sees, visible}
+use Rattle.reg_model.proofs.Words.{Action, crate_of, endpoints_of, lists, spelling, breaks, order, is_granted, Sound}
+use Rattle.std.specs.Prelude.{◌==◌, nat_eq}
+use Rattle.std.specs.List.{starts_with}
 use Rattle.std.specs.FinSet as finset
-use Rattle.std.proofs.lemmas.Bool.{and_parts, and_from}
-use Rattle.std.proofs.lemmas.Slice.Eq.{bytes_eq-Decides}
-use Rattle.reg_names.specs.Names.{canon, is_name, name_of}
-use Rattle.reg_names.specs.Patterns.{covers, has_star, prefix_of}
-use Rattle.reg_names.specs.declared.endpoint.Endpoint.{Endpoint}
 use Rattle.reg_names.specs.declared.endpoint.Endpoint.TheVariants as endpoint
-use Rattle.reg_model.specs.declared.rule.Rule.{Rule}
 use Rattle.reg_model.specs.declared.rule.Rule.TheVariants as rule
-use Rattle.reg_model.specs.Lists.{IsIn}
-use Rattle.reg_model.specs.Registry.{Text, Token, Registry, holds, is_enabled, token_of, with_id}
-use Rattle.reg_model.specs.Crates.{collides, exists, first, has_crate, is_among, is_reserved, is_reserved_always, owners, owns, sees, visible}
-use Rattle.reg_model.specs.Actions.{Action, crate_of}
+use Rattle.reg_model.specs.Crates.{is_reserved}
 use Rattle.reg_model.specs.Actions.Action.{Read, Index, Download, ListOwners, Publish, Yank, Unyank, AddOwners, RemoveOwners}
-use Rattle.reg_model.specs.Facts.{access_facts, endpoints_of, lists, spelling}
-use Rattle.reg_model.specs.Rules.{breaks, has_endpoint, lacks, needed, order}
-use Rattle.reg_model.specs.Grants.{grants, has_right, is_granted}
-use Rattle.reg_model.specs.Sound.{Sound}
+use Rattle.reg_model.specs.Facts.{access_facts}
+use Rattle.reg_model.specs.Rules.{has_endpoint, lacks, needed}
+use Rattle.reg_model.specs.Grants.{grants, has_right}
 use Rattle.reg_model.specs.Laws.{GrantsArePolicy, MayAsk, grant_rules}
 use Rattle.reg_model.proofs.GrantLists.{grant_listed, listed_grant, with_id_in}
 use Rattle.reg_model.proofs.IndexPaths.{not_false, spelled, the_some}

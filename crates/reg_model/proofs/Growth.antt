@@ -1,15 +1,13 @@
 -- Publications only grow, and so do the stems of each crate.
-use Rattle.std.proofs.Common.{◌≡◌, List, [], ◌∷◌, ◌++◌, refl, ◌∙◌, ap, append_assoc, cond, Bool, true, false}
+use Rattle.reg_model.proofs.Words.{◌≡◌, List, [], ◌∷◌, ◌++◌, refl, ◌∙◌, ap, cond, Bool, true, false, filter, Limits, Text, Registry}
+use Rattle.reg_model.proofs.Words.{Publication, collides, is_reserved_always, Asked, Command, Event, Answer, Faulty, Read, Index, Download}
+use Rattle.reg_model.proofs.Words.{ListOwners, Publish, Yank, Unyank, AddOwners, RemoveOwners, UserAdd, UserDisable, UserEnable, TokenAdd}
+use Rattle.reg_model.proofs.Words.{TokenRevoke, Reserve, Unreserve, OwnerAdd, Access, Users, Tokens, Crates, CrateRestrict, CrateOpen}
+use Rattle.reg_model.proofs.Words.{ReaderAdd, ReaderRemove, Run}
+use Rattle.std.proofs.Common.{append_assoc}
 use Rattle.std.specs.Prelude.{map}
-use Rattle.std.specs.List.{filter}
-use Rattle.reg_body.specs.declared.limits.Limits.{Limits}
-use Rattle.reg_model.specs.Registry.{Text, Registry, Publication}
-use Rattle.reg_model.specs.Crates.{collides, stems, is_reserved_always}
-use Rattle.reg_model.specs.Events.{Asked, Command, Event, Answer}
-use Rattle.reg_model.specs.Events.Asked.{Faulty, Read, Index, Download, ListOwners, Publish, Yank, Unyank, AddOwners, RemoveOwners}
-use Rattle.reg_model.specs.Events.Command.{UserAdd, UserDisable, UserEnable, TokenAdd, TokenRevoke, Reserve, Unreserve, OwnerAdd, Access, Users, Tokens, Crates, CrateRestrict, CrateOpen, ReaderAdd, ReaderRemove}
+use Rattle.reg_model.specs.Crates.{stems}
 use Rattle.reg_model.specs.Effects.{done, commanded}
-use Rattle.reg_model.specs.Steps.{Run}
 use Rattle.reg_model.specs.Laws.{IsPrefix}
 use Rattle.reg_model.proofs.Kept.{Kept, run_keeps}
 

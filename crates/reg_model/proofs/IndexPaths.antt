@@ -1,22 +1,14 @@
 -- Which index paths are those of crates that are there.
-use Rattle.std.proofs.Common.{◌≡◌, List, [], ◌∷◌, ◌++◌, Bool, true, false, cond, Option, Some, None, refl, sym, ◌∙◌, ap}
-use Rattle.std.specs.Prelude.{not, ◌&&◌}
-use Rattle.std.specs.List.{find, AllByRecursion}
-use Rattle.std.specs.Option.{option_map}
-use Rattle.std.specs.Str.{bytes_eq}
-use Rattle.std.proofs.lemmas.Bool.{and_parts, and_from}
-use Rattle.std.proofs.lemmas.Slice.Eq.{bytes_eq-Decides}
-use Rattle.reg_names.specs.Names.{canon, folder_of, is_name, lower, name_at, path_of}
+use Rattle.reg_model.proofs.Words.{◌≡◌, List, [], ◌∷◌, ◌++◌, Bool, true, false, cond, Option, Some, None, refl, sym, ◌∙◌, ap, not, ◌&&◌}
+use Rattle.reg_model.proofs.Words.{find, AllByRecursion, option_map, bytes_eq, and_parts, and_from, bytes_eq-Decides, canon, is_name}
+use Rattle.reg_model.proofs.Words.{name_at, Text, Publication, Registry, holds, collides, first, viewer, visible, spelling, breaks}
+use Rattle.reg_model.proofs.Words.{IsGenuine, Sound}
+use Rattle.reg_names.specs.Names.{folder_of, lower, path_of}
 use Rattle.reg_names.proofs.LastPart.{at_path}
 use Rattle.reg_names.proofs.NameFacts.{canon-lower, is_name-lower, lower-lower}
 use Rattle.reg_model.specs.declared.rule.Rule.TheVariants as rule
-use Rattle.reg_model.specs.Registry.{Text, Publication, Registry, holds}
-use Rattle.reg_model.specs.Crates.{collides, first, viewer, visible}
-use Rattle.reg_model.specs.Facts.{access_facts, spelling}
+use Rattle.reg_model.specs.Facts.{access_facts}
 use Rattle.reg_model.specs.Actions.Action.{Index}
-use Rattle.reg_model.specs.Rules.{breaks}
-use Rattle.reg_model.specs.Steps.{IsGenuine}
-use Rattle.reg_model.specs.Sound.{Sound}
 use Rattle.reg_model.proofs.Seen.{sees_alike}
 
 abbrev IsPathOfCrate : Registry → Text → Text → Type 0

@@ -1,14 +1,9 @@
 -- What each effect keeps, each run keeps.
-use Rattle.std.proofs.Common.{◌≡◌, List, [], ◌∷◌, Option, Some, None, inl, inr, refl, sym, subst}
-use Rattle.reg_model.specs.declared.rule.Rule.{Rule}
-use Rattle.reg_model.specs.declared.rule.AdminRefusal.{AdminRefusal}
-use Rattle.reg_body.specs.declared.limits.Limits.{Limits}
-use Rattle.reg_model.specs.Registry.{Registry, Text}
-use Rattle.reg_model.specs.Events.{Asked, Command, Event, Answer}
-use Rattle.reg_model.specs.Events.Event.{Ask, Order}
+use Rattle.reg_model.proofs.Words.{◌≡◌, List, [], ◌∷◌, Option, Some, None, inl, inr, refl, sym, subst, Rule, AdminRefusal, Limits, Registry}
+use Rattle.reg_model.proofs.Words.{Text, Asked, Command, Event, Answer, Ask, Order, account_of, Step, Run, IsFit, outcome, Outcome}
+use Rattle.reg_model.proofs.Words.{unless_denied, unless_refused}
 use Rattle.reg_model.specs.Refusals.{denied, refused}
-use Rattle.reg_model.specs.Effects.{done, account_of, commanded}
-use Rattle.reg_model.specs.Steps.{Step, Run, IsFit, outcome, Outcome, unless_denied, unless_refused}
+use Rattle.reg_model.specs.Effects.{done, commanded}
 
 -- a relation of states that holds of the same, goes through, and holds across each allowed request and command
 pub record Kept (limits : Limits) (R : Registry → Registry → Type 0) : Type 0 where

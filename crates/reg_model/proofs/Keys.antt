@@ -1,14 +1,11 @@
 -- Sets with pairs as keys.
-use Rattle.std.proofs.Common.{◌≡◌, Bool, true, false, refl, sym, ◌∙◌, ap}
-use Rattle.std.specs.Prelude.{◌||◌}
-use Rattle.std.specs.Ordering.{on, then_cmp, ordering_then, eq_by_cmp, is_eq}
-use Rattle.std.specs.declared.cmp.Ordering.{Ordering}
+use Rattle.reg_model.proofs.Words.{◌≡◌, Bool, true, false, refl, sym, ◌∙◌, ap, ◌||◌, on, eq_by_cmp, is_eq, Ordering, IsTotalOrder, Equal-is}
+use Rattle.reg_model.proofs.Words.{tied_itself, nat_list_cmp_total, IsAntisymmetric, text_cmp, owner_cmp, mark_cmp}
+use Rattle.std.specs.Ordering.{then_cmp, ordering_then}
 use Rattle.std.specs.declared.cmp.Ordering.TheVariants.{Less, Equal, Greater}
-use Rattle.std.specs.Cmp.{IsTotalOrder, on_total, then_total, nat_cmp_total, Equal-is, tied_back, tied_itself}
-use Rattle.std.specs.Cmp.Lexicographic.{nat_list_cmp_total}
+use Rattle.std.specs.Cmp.{on_total, then_total, nat_cmp_total, tied_back}
 use Rattle.std.specs.FinSet as set
-use Rattle.std.specs.FinSet.{IsAntisymmetric, nat_cmp-IsAntisymmetric, slice_cmp-IsAntisymmetric}
-use Rattle.reg_model.specs.Registry.{text_cmp, owner_cmp, mark_cmp}
+use Rattle.std.specs.FinSet.{nat_cmp-IsAntisymmetric, slice_cmp-IsAntisymmetric}
 
 -- pairs, by their first parts and then by their second
 abbrev pair_cmp : {A B : Type 0} → (A → A → Ordering) → (B → B → Ordering) → (A × B) → (A × B) → Ordering

@@ -38,3 +38,4 @@ pub mod TrailUntold
 pub mod TrailWords
 pub mod Trails
 pub mod Wider
+mod Words

@@ -1,11 +1,8 @@
 -- Tests over lists.
-use Rattle.std.proofs.Common.{◌≡◌, List, [], ◌∷◌, ◌++◌, Bool, true, false, cond, Some, None, refl, ◌∙◌, ap}
-use Rattle.std.specs.Prelude.{map, ◌||◌, ◌&&◌, is_some}
-use Rattle.std.specs.List.{list_any, list_all, find, filter, AllByRecursion}
-use Rattle.std.specs.Option.{option_map}
-use Rattle.std.proofs.lemmas.Bool.{and_parts, and_from}
-use Rattle.std.proofs.lemmas.List.Folds.{list_any-append, list_all-append}
-use Rattle.reg_model.specs.Registry.{holds}
+use Rattle.reg_model.proofs.Words.{◌≡◌, List, [], ◌∷◌, ◌++◌, Bool, true, false, cond, Some, None, refl, ◌∙◌, ap, ◌||◌, ◌&&◌, is_some}
+use Rattle.reg_model.proofs.Words.{list_any, list_all, find, filter, AllByRecursion, option_map, and_parts, and_from, list_any-append}
+use Rattle.reg_model.proofs.Words.{list_all-append, holds}
+use Rattle.std.specs.Prelude.{map}
 
 pub or_left : (a b : Bool) → a ≡ true → (a || b) ≡ true
 or_left true b e = refl

@@ -1,9 +1,7 @@
 -- A verdict on a request but publishing and adding owners looks at what is visible alone.
-use Rattle.std.proofs.Common.{◌≡◌, Bool, true, false, cond, None, refl}
-use Rattle.reg_body.specs.declared.limits.Limits.{Limits}
-use Rattle.reg_model.specs.Actions.{Action}
+use Rattle.reg_model.proofs.Words.{◌≡◌, Bool, true, false, cond, None, refl, Limits, Action, Counts}
 use Rattle.reg_model.specs.Actions.Action.{Read, Index, Download, ListOwners, Publish, Yank, Unyank, AddOwners, RemoveOwners}
-use Rattle.reg_model.specs.Facts.{Access, Counts}
+use Rattle.reg_model.specs.Facts.{Access}
 use Rattle.reg_model.specs.Rules.{verdict}
 
 -- the facts of a crate that is visible; of another one none

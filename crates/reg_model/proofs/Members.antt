@@ -1,11 +1,9 @@
 -- The elements of a list, and what passes a test among them.
-use Rattle.std.proofs.Common.{◌≡◌, ◌⊎◌, inl, inr, List, [], ◌∷◌, ◌++◌, map, Bool, true, false, cond, refl, sym, ap, subst, ◌∙◌}
-use Rattle.std.specs.Prelude.{◌||◌}
-use Rattle.std.specs.List.{filter, list_any, list_all, AllByRecursion, IsDistinct}
+use Rattle.reg_model.proofs.Words.{◌≡◌, ◌⊎◌, inl, inr, List, [], ◌∷◌, ◌++◌, map, Bool, true, false, cond, refl, sym, ap, subst, ◌∙◌, ◌||◌}
+use Rattle.reg_model.proofs.Words.{filter, list_any, list_all, AllByRecursion, on, and_parts, and_from, All-from_recursion}
+use Rattle.std.specs.List.{IsDistinct}
 use Rattle.std.specs.List.Sorted.{IsPermutation}
-use Rattle.std.specs.Ordering.{on}
-use Rattle.std.proofs.lemmas.Bool.{and_parts, and_from}
-use Rattle.std.proofs.lemmas.List.Elements.{All-from_recursion, recursion_from_All}
+use Rattle.std.proofs.lemmas.List.Elements.{recursion_from_All}
 use Rattle.std.proofs.lemmas.List.Sorted.{All-permutation, IsPermutation-sym}
 pub use Rattle.reg_model.specs.Lists.{IsIn}
 use Rattle.reg_model.proofs.Lists.{or_left, or_right, or_split, true_not_false}

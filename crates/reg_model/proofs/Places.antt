@@ -1,9 +1,8 @@
 -- Ids, and lists of which one element is changed.
-use Rattle.std.proofs.Common.{◌≡◌, ℕ, zero, suc, ◌+◌, ◌-◌, ◌≤◌, ◌==◌, List, [], ◌∷◌, ◌++◌, Bool, true, false, cond, Some, None, refl, ◌∙◌, ap, arith}
-use Rattle.std.specs.Prelude.{◌&&◌, is_some, slice_get}
-use Rattle.std.specs.List.{list_all, position_from, IsDistinct, AllByRecursion}
-use Rattle.std.proofs.lemmas.Bool.Decides.{nat_tests}
-use Rattle.reg_model.specs.Registry.{with_id, change_place, change_at}
+use Rattle.reg_model.proofs.Words.{◌≡◌, ℕ, zero, suc, ◌+◌, ◌-◌, ◌≤◌, ◌==◌, List, [], ◌∷◌, ◌++◌, Bool, true, false, cond, Some, None, refl}
+use Rattle.reg_model.proofs.Words.{◌∙◌, ap, arith, ◌&&◌, is_some, slice_get, list_all, position_from, AllByRecursion, nat_tests, with_id}
+use Rattle.reg_model.proofs.Words.{change_place, change_at}
+use Rattle.std.specs.List.{IsDistinct}
 
 module _ {X : Type 0} (f : X → X) where
   all_changed : (p : X → Bool) → ((x : X) → p (f x) ≡ p x) → (i : ℕ) (xs : List X) → list_all p (change_place f i xs) ≡ list_all p xs

@@ -1,13 +1,9 @@
 -- Where no crate is restricted, visibility changes nothing.
-use Rattle.std.proofs.Common.{◌≡◌, ℕ, Bool, true, false, Option, Some, None, refl, ◌∙◌, ap}
-use Rattle.std.specs.Prelude.{not, ◌&&◌, ◌||◌}
-use Rattle.std.specs.List.{filter}
-use Rattle.reg_names.specs.Names.{canon}
-use Rattle.reg_model.specs.Registry.{Text, Registry, holds}
-use Rattle.reg_model.specs.Crates.{canons, exists, has_crate, is_among, is_restricted, owners, readers, sees, viewer, visible}
-use Rattle.reg_model.specs.Actions.{Action, crate_of}
+use Rattle.reg_model.proofs.Words.{◌≡◌, ℕ, Bool, true, false, Option, Some, None, refl, ◌∙◌, ap, not, ◌&&◌, ◌||◌, filter, canon, Text}
+use Rattle.reg_model.proofs.Words.{Registry, holds, canons, exists, has_crate, is_among, is_restricted, owners, readers, sees, viewer}
+use Rattle.reg_model.proofs.Words.{visible, Action, crate_of, occurs}
 use Rattle.reg_model.specs.Facts.{access_facts}
-use Rattle.reg_model.specs.Search.{matches, occurs}
+use Rattle.reg_model.specs.Search.{matches}
 use Rattle.reg_model.specs.Laws.{all_seen}
 use Rattle.reg_model.proofs.Canons.{filter_in, listed_there}
 

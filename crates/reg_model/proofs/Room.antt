@@ -1,18 +1,14 @@
 -- An index file has room for a line of each version.
-use Rattle.std.proofs.Common.{◌≡◌, ◌≤◌, ◌+◌, ◌*◌, ℕ, suc, Bool, true, false, cond, List, [], ◌∷◌, map, length, refl, sym, ap, ◌∙◌, arith}
-use Rattle.std.specs.List.{AllByRecursion, filter}
+use Rattle.reg_model.proofs.Words.{◌≡◌, ◌≤◌, ◌+◌, ℕ, suc, Bool, true, false, cond, List, [], ◌∷◌, map, refl, sym, ap, ◌∙◌, arith}
+use Rattle.reg_model.proofs.Words.{AllByRecursion, filter, length-append, length-map, bytes_eq-Decides, file_text, canon, canon_byte}
+use Rattle.reg_model.proofs.Words.{collides, is_yanked, Publication, Text, IsGenuine}
+use Rattle.std.proofs.Common.{◌*◌, length}
 use Rattle.std.proofs.Math.Nat.{suc-mul}
-use Rattle.std.proofs.lemmas.List.{length-append, length-map}
-use Rattle.std.proofs.lemmas.Slice.Eq.{bytes_eq-Decides}
 use Rattle.sha2.proofs.Facts256.{length-sha256}
-use Rattle.reg_line.specs.File.{file_text, line_of}
+use Rattle.reg_line.specs.File.{line_of}
 use Rattle.reg_line.specs.Shortest.{shortest_line}
 use Rattle.reg_line.proofs.Shortest.{line_long}
-use Rattle.reg_names.specs.Names.{canon, canon_byte}
-use Rattle.reg_model.specs.Crates.{collides, is_yanked}
 use Rattle.reg_model.specs.Laws.{FilesHaveRoom}
-use Rattle.reg_model.specs.Registry.{Publication, Text}
-use Rattle.reg_model.specs.Steps.{IsGenuine}
 
 -- one line more
 longer : (line n file own rest : ℕ) → line ≤ own → n * line ≤ rest → file ≡ own + rest → suc n * line ≤ file

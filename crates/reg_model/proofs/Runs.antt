@@ -1,18 +1,12 @@
 -- Runs join, what is refused changes nothing, and steps agree.
-use Rattle.std.proofs.Common.{◌≡◌, ◌≢◌, ℕ, List, [], ◌∷◌, ◌++◌, Option, Some, None, inl, inr, refl, sym, ◌∙◌, subst}
-use Rattle.reg_model.specs.declared.rule.Rule.{Rule}
-use Rattle.reg_model.specs.declared.rule.AdminRefusal.{AdminRefusal}
-use Rattle.reg_body.specs.declared.limits.Limits.{Limits}
-use Rattle.reg_model.specs.Registry.{Registry}
-use Rattle.reg_model.specs.Events.{Asked, Command, Event, Answer}
-use Rattle.reg_model.specs.Events.Asked.{Faulty, Read, Index, Download, ListOwners, Publish, Yank, Unyank, AddOwners, RemoveOwners}
-use Rattle.reg_model.specs.Events.Command.{UserAdd, UserDisable, UserEnable, TokenAdd, TokenRevoke, Reserve, Unreserve, OwnerAdd, Access, Users, Tokens, Crates, CrateRestrict, CrateOpen, ReaderAdd, ReaderRemove}
-use Rattle.reg_model.specs.Events.Reading.{Config, Search}
-use Rattle.reg_model.specs.Events.Event.{Ask, Order}
-use Rattle.reg_model.specs.Events.Answer.{Denied, Refused}
+use Rattle.reg_model.proofs.Words.{◌≡◌, ◌≢◌, ℕ, List, [], ◌∷◌, ◌++◌, Option, Some, None, inl, inr, refl, sym, ◌∙◌, subst, Rule}
+use Rattle.reg_model.proofs.Words.{AdminRefusal, Limits, Registry, Asked, Command, Event, Answer, Faulty, Read, Index, Download, ListOwners}
+use Rattle.reg_model.proofs.Words.{Publish, Yank, Unyank, AddOwners, RemoveOwners, UserAdd, UserDisable, UserEnable, TokenAdd, TokenRevoke}
+use Rattle.reg_model.proofs.Words.{Reserve, Unreserve, OwnerAdd, Access, Users, Tokens, Crates, CrateRestrict, CrateOpen, ReaderAdd}
+use Rattle.reg_model.proofs.Words.{ReaderRemove, Config, Search, Ask, Order, Denied, Refused, served, caller, replied, Step, Run, IsFit}
+use Rattle.reg_model.proofs.Words.{no_room, Outcome, unless_denied, unless_refused}
 use Rattle.reg_model.specs.Refusals.{denied, refused}
-use Rattle.reg_model.specs.Effects.{served, done, caller, replied}
-use Rattle.reg_model.specs.Steps.{Step, Run, IsFit, no_room, Outcome, unless_denied, unless_refused}
+use Rattle.reg_model.specs.Effects.{done}
 
 pub step_runs : (limits : Limits) (s t : Registry) (e : Event) (a : Answer) → IsFit e → Step limits s e a t → Run limits s (e ∷ []) (a ∷ []) t
 step_runs limits s t e a fit step = (fit, (t, step, refl))

@@ -1,11 +1,7 @@
 -- What is seen of a crate depends on its canonical text alone.
-use Rattle.std.proofs.Common.{◌≡◌, ℕ, Bool, Option, ap}
-use Rattle.std.specs.Prelude.{not, ◌&&◌, ◌||◌}
+use Rattle.reg_model.proofs.Words.{◌≡◌, ℕ, Bool, Option, ap, not, ◌&&◌, ◌||◌, enumerate_from, filter, canon, Text, Registry, holds}
+use Rattle.reg_model.proofs.Words.{has_crate, is_among, sees}
 use Rattle.std.specs.FinSet as finset
-use Rattle.std.specs.List.{enumerate_from, filter}
-use Rattle.reg_names.specs.Names.{canon}
-use Rattle.reg_model.specs.Registry.{Text, Registry, holds}
-use Rattle.reg_model.specs.Crates.{has_crate, is_among, sees}
 
 abbrev seen_at : Registry → Option ℕ → Text → Bool
 seen_at s who c =

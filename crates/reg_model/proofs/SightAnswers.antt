@@ -1,33 +1,24 @@
 -- Two registries that have one sight for a token answer it the same.
-use Rattle.std.proofs.Common.{◌≡◌, ℕ, zero, suc, inl, inr, List, [], ◌∷◌, Bool, true, false, cond, Option, Some, None, refl, sym, ◌∙◌, ap}
-use Rattle.std.specs.Prelude.{◌&&◌, ◌||◌, not, is_some, length, map, take, unwrap_or}
-use Rattle.std.specs.List.{list_any, list_all, find, filter}
-use Rattle.std.specs.Option.{option_map}
-use Rattle.std.specs.Str.{bytes_eq}
-use Rattle.std.specs.Cmp.Lexicographic.{nat_list_cmp_total}
+use Rattle.reg_model.proofs.Words.{◌≡◌, ℕ, zero, suc, inl, inr, List, [], ◌∷◌, Bool, true, false, cond, Option, Some, None, refl, sym, ◌∙◌}
+use Rattle.reg_model.proofs.Words.{ap, ◌&&◌, ◌||◌, not, is_some, length, take, unwrap_or, list_any, list_all, find, filter, option_map}
+use Rattle.reg_model.proofs.Words.{bytes_eq, nat_list_cmp_total, and_parts, bytes_eq-Decides, canon, is_name, name_at, name_of, Limits}
+use Rattle.reg_model.proofs.Words.{Rule, Text, Token, Registry, holds, text_cmp, token_of, canons, exists, has_crate, is_among}
+use Rattle.reg_model.proofs.Words.{is_restricted, file, owners, readers, sees, versions, viewer, visible, Action, crate_of, has_login}
+use Rattle.reg_model.proofs.Words.{is_named, lists, spelling, Asked, action_of, fault_of, Archive, Denied, File, Found, Owners, Faulty}
+use Rattle.reg_model.proofs.Words.{Read, Index, Download, ListOwners, Publish, Yank, Unyank, AddOwners, RemoveOwners, Ask, served, judged}
+use Rattle.reg_model.proofs.Words.{or_else, hit, occurs, HaveOneSight, Outcome, outcome, unless_denied}
+use Rattle.std.specs.Prelude.{map}
 use Rattle.std.specs.FinMap as finmap
 use Rattle.std.specs.FinMap.Entries as entries
-use Rattle.std.proofs.lemmas.Bool.{and_parts}
-use Rattle.std.proofs.lemmas.Slice.Eq.{bytes_eq-Decides}
-use Rattle.reg_names.specs.Names.{canon, is_name, name_at, name_of}
 use Rattle.reg_line.specs.Config.{config_text}
-use Rattle.reg_body.specs.declared.limits.Limits.{Limits}
-use Rattle.reg_model.specs.declared.rule.Rule.{Rule}
-use Rattle.reg_model.specs.Registry.{Text, Token, Registry, holds, text_cmp, token_of}
-use Rattle.reg_model.specs.Crates.{canons, exists, has_crate, is_among, is_restricted, file, owners, readers, sees, versions, viewer, visible}
-use Rattle.reg_model.specs.Actions.{Action, crate_of, logins_of, version_of}
-use Rattle.reg_model.specs.Facts.{access_facts, counts, has_login, is_named, lists, spelling}
+use Rattle.reg_model.specs.Actions.{logins_of, version_of}
+use Rattle.reg_model.specs.Facts.{access_facts, counts}
 use Rattle.reg_model.specs.Rules.{verdict}
-use Rattle.reg_model.specs.Events.{Asked, action_of, fault_of}
-use Rattle.reg_model.specs.Events.Answer.{Archive, Config, Denied, File, Found, Owners}
-use Rattle.reg_model.specs.Events.Asked.{Faulty, Read, Index, Download, ListOwners, Publish, Yank, Unyank, AddOwners, RemoveOwners}
+use Rattle.reg_model.specs.Events.Answer.{Config}
 use Rattle.reg_model.specs.Events.Reading.{Config as of_config, Search as of_search}
-use Rattle.reg_model.specs.Events.Event.{Ask}
-use Rattle.reg_model.specs.Effects.{done, served}
-use Rattle.reg_model.specs.Refusals.{denied, judged, or_else}
-use Rattle.reg_model.specs.Search.{found, hit, matches, occurs}
-use Rattle.reg_model.specs.Sight.{HaveOneSight}
-use Rattle.reg_model.specs.Steps.{Outcome, outcome, unless_denied}
+use Rattle.reg_model.specs.Effects.{done}
+use Rattle.reg_model.specs.Refusals.{denied}
+use Rattle.reg_model.specs.Search.{found, matches}
 use Rattle.reg_model.specs.Laws.{ByNoPublishOrOwner}
 use Rattle.reg_model.proofs.Canons.{Keyed, by_canon, canonical, key_there}
 use Rattle.reg_model.proofs.Cleared.{not_denied}
@@ -43,10 +34,6 @@ guarded true true x y none e same = same refl
 guarded true false x y none e same = cc e
 guarded false true x y none e same = cc e
 guarded false false x y none e same = refl
-
-holds_not : {X : Type 0} (p : X → Bool) (o : Option X) → ((x : X) → p x ≡ false) → holds p o ≡ false
-holds_not p None h = refl
-holds_not p (Some x) h = h x
 
 module _ (s t : Registry) (digest : Text) (one : HaveOneSight s t digest) where
   -- the facts of the crate of an action

@@ -1,20 +1,17 @@
 -- What two registries that have one sight for a token say of it, and of each crate.
-use Rattle.std.proofs.Common.{◌≡◌, ℕ, List, [], ◌∷◌, Bool, true, false, cond, Option, Some, None, refl, sym, ◌∙◌, ap}
-use Rattle.std.specs.Prelude.{◌==◌, ◌&&◌, map, is_some, unwrap_or, slice_get}
-use Rattle.std.specs.List.{list_any, list_all, find, filter}
-use Rattle.std.specs.Option.{option_and_then, option_map}
-use Rattle.std.specs.Str.{bytes_eq}
-use Rattle.reg_names.specs.Patterns.{covers}
+use Rattle.reg_model.proofs.Words.{◌≡◌, ℕ, List, [], ◌∷◌, Bool, true, false, cond, Option, Some, None, refl, sym, ◌∙◌, ap, ◌&&◌, is_some}
+use Rattle.reg_model.proofs.Words.{unwrap_or, slice_get, list_any, list_all, find, filter, option_map, bytes_eq, covers, file_text, Text}
+use Rattle.reg_model.proofs.Words.{Token, Publication, Registry, holds, is_enabled, token_of, collides, file, first, is_among, is_yanked}
+use Rattle.reg_model.proofs.Words.{owners, versions, visible, endpoints_of, has_login, is_named, hit, HaveOneSight}
+use Rattle.std.specs.Prelude.{◌==◌, map}
+use Rattle.std.specs.Option.{option_and_then}
 use Rattle.reg_versions.specs.Precedence.{top_place}
-use Rattle.reg_line.specs.File.{file_text}
 use Rattle.reg_names.specs.declared.endpoint.Endpoints.{Endpoints}
-use Rattle.reg_model.specs.Registry.{Text, Token, Publication, Registry, holds, is_enabled, token_of}
-use Rattle.reg_model.specs.Crates.{collides, file, first, is_among, is_yanked, owners, versions, viewer, visible}
 use Rattle.reg_model.specs.Effects.{owner_entry}
-use Rattle.reg_model.specs.Facts.{endpoints_of, has_login, is_named, no_endpoints}
+use Rattle.reg_model.specs.Facts.{no_endpoints}
 use Rattle.reg_versions.specs.Versions.{parts_of}
-use Rattle.reg_model.specs.Search.{hit, top}
-use Rattle.reg_model.specs.Sight.{CrateSight, HaveOneSight, TokenSight}
+use Rattle.reg_model.specs.Search.{top}
+use Rattle.reg_model.specs.Sight.{CrateSight, TokenSight}
 use Rattle.reg_model.proofs.Lists.{list_any_map}
 
 -- what holds of a part of what there is
@@ -73,9 +70,6 @@ module _ (s t : Registry) (digest : Text) (one : HaveOneSight s t digest) where
 
   pub account_alike : (p : ℕ → Bool) → holds (λ u. p u.account) (token_of s digest) ≡ holds (λ u. p u.account) (token_of t digest)
   account_alike p = holds_alike (λ v. p v.account)
-
-  pub viewer_alike : viewer s digest ≡ viewer t digest
-  viewer_alike = sym (map_twice (λ v. v.account) (token_view s) (token_of s digest)) ∙ ap (option_map (λ v. v.account)) one.token ∙ map_twice (λ v. v.account) (token_view t) (token_of t digest)
 
   -- of a crate
   shown : (b : Bool) (v : CrateSight) → is_some (cond b (Some v) None) ≡ b

@@ -1,27 +1,15 @@
 -- Each command that is not refused keeps a state sound.
-use Rattle.std.proofs.Common.{◌≡◌, ℕ, ◌+◌, ◌==◌, List, [], ◌∷◌, ◌++◌, Bool, true, false, cond, Option, Some, None, refl, sym, ◌∙◌, ap, arith}
-use Rattle.std.specs.Prelude.{not, ◌||◌, ◌&&◌, nat_lt, is_some, length, codes, unwrap_or}
-use Rattle.std.specs.List.{list_any, list_all, position_from}
-use Rattle.std.specs.Ordering.{on}
-use Rattle.std.specs.Str.{bytes_eq}
-use Rattle.std.specs.Cmp.{IsEquivalence, on_equiv}
-use Rattle.std.specs.Cmp.Lexicographic.{nat_list_eq_equiv}
-use Rattle.std.proofs.lemmas.Bool.{and_parts, and_from}
-use Rattle.std.proofs.lemmas.Bool.Decides.{nat_tests}
-use Rattle.std.proofs.lemmas.Map.Keys.{IsDistinct-push}
-use Rattle.reg_names.specs.Names.{canon, is_name}
-use Rattle.reg_names.specs.Logins.{is_login}
-use Rattle.reg_names.specs.Patterns.{is_pattern}
-use Rattle.reg_body.specs.declared.limits.Limits.{Limits}
-use Rattle.reg_model.specs.Registry.{Text, Account, Token, Registry, id_of_login, token_of, with_id, change_at}
-use Rattle.reg_model.specs.Crates.{exists, is_reserved_always}
-use Rattle.reg_model.specs.Events.{Command}
-use Rattle.reg_model.specs.Events.Command.{UserAdd, UserDisable, UserEnable, TokenAdd, TokenRevoke, Reserve, Unreserve, OwnerAdd, Access, Users, Tokens, Crates, CrateRestrict, CrateOpen, ReaderAdd, ReaderRemove}
-use Rattle.reg_model.specs.Events.Event.{Order}
-use Rattle.reg_model.specs.Refusals.{refused, endpoints_named, patterns_given, is_endpoint, among, may_name}
-use Rattle.reg_model.specs.Effects.{commanded, enable}
-use Rattle.reg_model.specs.Steps.{IsFit}
-use Rattle.reg_model.specs.Sound.{Sound, is_account, is_token, has_some}
+use Rattle.reg_model.proofs.Words.{◌≡◌, ℕ, ◌+◌, ◌==◌, List, [], ◌∷◌, ◌++◌, Bool, true, false, cond, Option, Some, None, refl, sym, ◌∙◌, ap}
+use Rattle.reg_model.proofs.Words.{arith, not, ◌||◌, ◌&&◌, nat_lt, is_some, length, codes, unwrap_or, list_any, list_all, position_from, on}
+use Rattle.reg_model.proofs.Words.{bytes_eq, IsEquivalence, on_equiv, nat_list_eq_equiv, and_parts, and_from, nat_tests, IsDistinct-push}
+use Rattle.reg_model.proofs.Words.{canon, is_name, is_login, is_pattern, Limits, Text, Account, Token, Registry, id_of_login, token_of}
+use Rattle.reg_model.proofs.Words.{with_id, change_at, exists, is_reserved_always, Command, UserAdd, UserDisable, UserEnable, TokenAdd}
+use Rattle.reg_model.proofs.Words.{TokenRevoke, Reserve, Unreserve, OwnerAdd, Access, Users, Tokens, Crates, CrateRestrict, CrateOpen}
+use Rattle.reg_model.proofs.Words.{ReaderAdd, ReaderRemove, Order, endpoints_named, patterns_given, is_endpoint, may_name, enable, IsFit}
+use Rattle.reg_model.proofs.Words.{Sound, is_account, is_token}
+use Rattle.reg_model.specs.Refusals.{refused, among}
+use Rattle.reg_model.specs.Effects.{commanded}
+use Rattle.reg_model.specs.Sound.{has_some}
 use Rattle.reg_model.proofs.Cleared.{not_refused}
 use Rattle.reg_model.proofs.Lists.{or_left, or_right, any_same, all_push, some_found}
 use Rattle.reg_model.proofs.Places.{all_changed_at, distinct_changed_at, there_changed_at, there_more, ids_stay, found_there}

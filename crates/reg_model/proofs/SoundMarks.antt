@@ -1,20 +1,11 @@
 -- Yanking, unyanking and reserving keep a state sound.
-use Rattle.std.proofs.Common.{◌≡◌, Bool, true, false, cond, Some, None, refl, sym, ◌∙◌, ap}
-use Rattle.std.specs.Prelude.{not}
-use Rattle.std.specs.List.{list_any}
-use Rattle.std.specs.Str.{bytes_eq}
+use Rattle.reg_model.proofs.Words.{◌≡◌, Bool, true, false, cond, Some, None, refl, sym, ◌∙◌, ap, not, list_any, bytes_eq}
+use Rattle.reg_model.proofs.Words.{nat_list_cmp_total, and_parts, canon, is_name, Limits, Text, Mark, Registry, collides, versions}
+use Rattle.reg_model.proofs.Words.{is_reserved_always, Yank, Unyank, lists, account_of, Sound, has_version}
 use Rattle.std.specs.FinSet as finset
-use Rattle.std.specs.Cmp.Lexicographic.{nat_list_cmp_total}
-use Rattle.std.proofs.lemmas.Bool.{and_parts}
-use Rattle.reg_names.specs.Names.{canon, is_name}
-use Rattle.reg_body.specs.declared.limits.Limits.{Limits}
-use Rattle.reg_model.specs.Registry.{Text, Mark, Registry}
-use Rattle.reg_model.specs.Crates.{collides, versions, is_reserved_always}
-use Rattle.reg_model.specs.Events.Asked.{Yank, Unyank}
-use Rattle.reg_model.specs.Facts.{access_facts, lists}
+use Rattle.reg_model.specs.Facts.{access_facts}
 use Rattle.reg_model.specs.Refusals.{denied}
-use Rattle.reg_model.specs.Effects.{done, account_of}
-use Rattle.reg_model.specs.Sound.{Sound, has_version}
+use Rattle.reg_model.specs.Effects.{done}
 use Rattle.reg_model.proofs.Cleared.{not_denied}
 use Rattle.reg_model.proofs.Keys.{mark_total, mark_apart, text_apart, same_key}
 use Rattle.reg_model.proofs.Lists.{or_split, any_filter}

@@ -1,21 +1,13 @@
 -- Adding and removing owners keeps a state sound.
-use Rattle.std.proofs.Common.{◌≡◌, ℕ, zero, suc, ◌+◌, ◌-◌, ◌≤◌, List, [], ◌∷◌, Bool, true, false, cond, Option, Some, None, refl, sym, ◌∙◌, ap, subst, arith}
-use Rattle.std.specs.Prelude.{not, ◌&&◌, slice_get}
-use Rattle.std.specs.List.{list_any, list_all, filter, cons_option, enumerate_from}
-use Rattle.std.specs.Ordering.{eq_by_cmp}
-use Rattle.std.specs.Str.{bytes_eq}
+use Rattle.reg_model.proofs.Words.{◌≡◌, ℕ, zero, suc, ◌+◌, ◌-◌, ◌≤◌, List, [], ◌∷◌, Bool, true, false, cond, Option, Some, None, refl, sym}
+use Rattle.reg_model.proofs.Words.{◌∙◌, ap, subst, arith, not, ◌&&◌, slice_get, list_any, list_all, filter, cons_option, enumerate_from}
+use Rattle.reg_model.proofs.Words.{eq_by_cmp, bytes_eq, and_parts, and_from, bytes_eq-Decides, canon, is_name, name_of, Limits, Text}
+use Rattle.reg_model.proofs.Words.{Account, Owner, Registry, holds, owner_cmp, id_of_login, ids_of, exists, has_crate, owners, owns}
+use Rattle.reg_model.proofs.Words.{visible, AddOwners, RemoveOwners, is_named, lists, account_of, owners_of, Sound}
 use Rattle.std.specs.FinSet as finset
-use Rattle.std.proofs.lemmas.Bool.{and_parts, and_from}
-use Rattle.std.proofs.lemmas.Slice.Eq.{bytes_eq-Decides}
-use Rattle.reg_names.specs.Names.{canon, is_name, name_of}
-use Rattle.reg_body.specs.declared.limits.Limits.{Limits}
-use Rattle.reg_model.specs.Registry.{Text, Account, Owner, Registry, holds, owner_cmp, id_of_login, ids_of}
-use Rattle.reg_model.specs.Crates.{exists, has_crate, owners, owns, visible}
-use Rattle.reg_model.specs.Events.Asked.{AddOwners, RemoveOwners}
-use Rattle.reg_model.specs.Facts.{access_facts, counts, is_named, lists}
+use Rattle.reg_model.specs.Facts.{access_facts, counts}
 use Rattle.reg_model.specs.Refusals.{denied}
-use Rattle.reg_model.specs.Effects.{done, account_of, owners_of}
-use Rattle.reg_model.specs.Sound.{Sound}
+use Rattle.reg_model.specs.Effects.{done}
 use Rattle.reg_model.proofs.Cleared.{not_denied}
 use Rattle.reg_model.proofs.Keys.{owner_total, owner_apart, same_key}
 use Rattle.reg_model.proofs.Lists.{or_left, or_right, or_split, not_true, true_not_false}

@@ -1,15 +1,10 @@
 -- A state that differs from a sound one in one part.
-use Rattle.std.proofs.Common.{◌≡◌, ℕ, List, true, false}
-use Rattle.std.specs.Prelude.{◌&&◌, ◌==◌, is_some, length}
-use Rattle.std.specs.List.{list_all, IsDistinct}
-use Rattle.std.specs.Ordering.{on}
-use Rattle.std.specs.Str.{bytes_eq}
+use Rattle.reg_model.proofs.Words.{◌≡◌, ℕ, List, true, false, ◌&&◌, is_some, length, list_all, on, bytes_eq, and_parts, and_from, canon}
+use Rattle.reg_model.proofs.Words.{is_name, Text, Account, Token, Registry, owner_cmp, mark_cmp, text_cmp, with_id, has_crate}
+use Rattle.reg_model.proofs.Words.{is_reserved_always, Sound, is_account, is_token, has_version}
+use Rattle.std.specs.Prelude.{◌==◌}
+use Rattle.std.specs.List.{IsDistinct}
 use Rattle.std.specs.FinSet as finset
-use Rattle.std.proofs.lemmas.Bool.{and_parts, and_from}
-use Rattle.reg_names.specs.Names.{canon, is_name}
-use Rattle.reg_model.specs.Registry.{Text, Account, Token, Registry, owner_cmp, mark_cmp, text_cmp, with_id}
-use Rattle.reg_model.specs.Crates.{has_crate, is_reserved_always}
-use Rattle.reg_model.specs.Sound.{Sound, is_account, is_token, has_version}
 use Rattle.reg_model.proofs.Lists.{all_so}
 
 module _ (s : Registry) (sound : Sound s) where

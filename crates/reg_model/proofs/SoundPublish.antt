@@ -1,32 +1,21 @@
 -- An allowed publish keeps a state sound.
-use Rattle.std.proofs.Common.{◌≡◌, ℕ, List, [], ◌∷◌, ◌++◌, Bool, true, false, cond, Option, Some, None, refl, sym, ◌∙◌, ap, subst}
-use Rattle.std.specs.Prelude.{◌||◌, ◌&&◌, not, ◌==◌, is_some, length, unwrap_or}
-use Rattle.std.specs.List.{list_any, list_all, find}
-use Rattle.std.specs.Option.{option_map}
-use Rattle.std.specs.Ordering.{eq_by_cmp}
-use Rattle.std.specs.Str.{bytes_eq}
-use Rattle.std.specs.Cmp.{IsEquivalence, on_equiv, and_equiv}
-use Rattle.std.specs.Cmp.Lexicographic.{nat_list_eq_equiv}
+use Rattle.reg_model.proofs.Words.{◌≡◌, ℕ, List, [], ◌∷◌, ◌++◌, Bool, true, false, cond, Option, Some, None, refl, sym, ◌∙◌, ap, subst}
+use Rattle.reg_model.proofs.Words.{◌||◌, ◌&&◌, not, is_some, length, unwrap_or, list_any, list_all, find, option_map, eq_by_cmp, bytes_eq}
+use Rattle.reg_model.proofs.Words.{IsEquivalence, on_equiv, nat_list_eq_equiv, and_parts, list_any-append, IsDistinct-push}
+use Rattle.reg_model.proofs.Words.{bytes_eq-Decides, canon, Rule, Limits, Text, Token, Publication, Registry, Owner, owner_cmp, token_of}
+use Rattle.reg_model.proofs.Words.{with_id, holds, exists, first, collides, has_crate, Publish, broken, account_of, IsGenuine, Sound}
+use Rattle.reg_model.proofs.Words.{is_token}
+use Rattle.std.specs.Prelude.{◌==◌}
+use Rattle.std.specs.Cmp.{and_equiv}
 use Rattle.std.specs.FinSet as finset
-use Rattle.std.proofs.lemmas.Bool.{and_parts}
-use Rattle.std.proofs.lemmas.List.Folds.{list_any-append}
-use Rattle.std.proofs.lemmas.Map.Keys.{IsDistinct-push}
-use Rattle.std.proofs.lemmas.Slice.Eq.{bytes_eq-Decides}
-use Rattle.reg_names.specs.Names.{canon}
-use Rattle.reg_model.specs.declared.rule.Rule.{Rule}
 use Rattle.reg_model.specs.declared.rule.Rule.TheVariants as rule
 use Rattle.reg_versions.specs.Versions.{release_key_of}
-use Rattle.reg_body.specs.declared.limits.Limits.{Limits}
-use Rattle.reg_model.specs.Registry.{Text, Token, Publication, Registry, Owner, owner_cmp, token_of, with_id, holds}
-use Rattle.reg_model.specs.Crates.{exists, first, collides, same_release, has_crate}
+use Rattle.reg_model.specs.Crates.{same_release}
 use Rattle.reg_model.specs.Actions.Action.{Publish as to_publish}
-use Rattle.reg_model.specs.Events.Asked.{Publish}
 use Rattle.reg_model.specs.Facts.{access_facts, counts}
-use Rattle.reg_model.specs.Rules.{broken}
 use Rattle.reg_model.specs.Refusals.{denied}
-use Rattle.reg_model.specs.Effects.{done, account_of}
-use Rattle.reg_model.specs.Steps.{IsGenuine}
-use Rattle.reg_model.specs.Sound.{Sound, is_token, one_release}
+use Rattle.reg_model.specs.Effects.{done}
+use Rattle.reg_model.specs.Sound.{one_release}
 use Rattle.reg_model.proofs.Cleared.{Clear, not_denied}
 use Rattle.reg_model.proofs.Keys.{owner_total, owner_apart, same_key, ties_itself}
 use Rattle.reg_model.proofs.Lists.{or_left, or_right, or_split, or_none, any_same, any_filter, none_both, any_more, any_last, all_push, all_so, each_push, found_passes, is_some_find, found_more, found_last, true_not_false}

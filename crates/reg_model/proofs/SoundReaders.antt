@@ -1,14 +1,8 @@
 -- Restricting crates and naming readers keeps a state sound.
-use Rattle.std.proofs.Common.{◌≡◌, ℕ, true, false, sym, ◌∙◌, ap}
-use Rattle.std.specs.Prelude.{is_some}
+use Rattle.reg_model.proofs.Words.{◌≡◌, ℕ, true, false, sym, ◌∙◌, ap, is_some, nat_list_cmp_total, and_parts, canon, Text, Owner, Registry}
+use Rattle.reg_model.proofs.Words.{with_id, exists, has_crate, Sound}
 use Rattle.std.specs.FinSet as finset
-use Rattle.std.specs.Cmp.Lexicographic.{nat_list_cmp_total}
-use Rattle.std.proofs.lemmas.Bool.{and_parts}
-use Rattle.reg_names.specs.Names.{canon}
-use Rattle.reg_model.specs.Registry.{Text, Owner, Registry, with_id}
-use Rattle.reg_model.specs.Crates.{exists, has_crate}
 use Rattle.reg_model.specs.Changes.{with_reader, with_restricted, without_reader}
-use Rattle.reg_model.specs.Sound.{Sound}
 use Rattle.reg_model.proofs.Keys.{owner_total, owner_apart, text_apart, same_key}
 use Rattle.reg_model.proofs.Lists.{or_split}
 use Rattle.reg_model.proofs.SoundParts.{with_readers, with_restricted as sound_restricted}

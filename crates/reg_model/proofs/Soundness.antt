@@ -1,17 +1,13 @@
 -- What begins sound stays sound.
-use Rattle.std.proofs.Common.{◌≡◌, List, true, Some, None, refl}
+use Rattle.reg_model.proofs.Words.{◌≡◌, List, true, Some, None, refl, Limits, Text, Registry, owner_cmp, mark_cmp, text_cmp, Asked, Event}
+use Rattle.reg_model.proofs.Words.{Answer, Faulty, Read, Index, Download, ListOwners, Publish, Yank, Unyank, AddOwners, RemoveOwners, Ask}
+use Rattle.reg_model.proofs.Words.{account_of, IsFit, Step, Run, Sound}
 use Rattle.std.specs.FinSet as finset
 use Rattle.std.specs.List.{IsDistinct}
-use Rattle.reg_body.specs.declared.limits.Limits.{Limits}
 use Rattle.reg_line.specs.Base.{is_base}
-use Rattle.reg_model.specs.Registry.{Text, Registry, owner_cmp, mark_cmp, text_cmp, empty_at}
-use Rattle.reg_model.specs.Events.{Asked, Event, Answer}
-use Rattle.reg_model.specs.Events.Asked.{Faulty, Read, Index, Download, ListOwners, Publish, Yank, Unyank, AddOwners, RemoveOwners}
-use Rattle.reg_model.specs.Events.Event.{Ask}
+use Rattle.reg_model.specs.Registry.{empty_at}
 use Rattle.reg_model.specs.Refusals.{denied}
-use Rattle.reg_model.specs.Effects.{done, account_of}
-use Rattle.reg_model.specs.Steps.{IsFit, Step, Run}
-use Rattle.reg_model.specs.Sound.{Sound}
+use Rattle.reg_model.specs.Effects.{done}
 use Rattle.reg_model.proofs.Kept.{Kept, step_keeps, run_keeps}
 use Rattle.reg_model.proofs.Lists.{true_not_false}
 use Rattle.reg_model.proofs.SoundCommands.{command_keeps_sound}

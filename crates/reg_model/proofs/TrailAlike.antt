@@ -1,20 +1,16 @@
 -- What is done to registries that are alike leaves them alike.
-use Rattle.std.proofs.Common.{◌≡◌, ℕ, zero, suc, ◌-◌, ◌==◌, List, [], ◌∷◌, ◌++◌, Bool, true, false, cond, Option, Some, None, refl, sym, ◌∙◌, ap, map, subst}
-use Rattle.std.specs.Prelude.{codes, unwrap_or}
+use Rattle.reg_model.proofs.Words.{◌≡◌, ℕ, zero, suc, ◌-◌, ◌==◌, List, [], ◌∷◌, ◌++◌, Bool, true, false, cond, refl, sym, ◌∙◌, ap, map}
+use Rattle.reg_model.proofs.Words.{subst, codes, unwrap_or, list_any, bytes_eq, canon, Text, mark_cmp, owner_cmp, text_cmp, Account}
+use Rattle.reg_model.proofs.Words.{Publication, Registry, Token, change_at, change_place, id_of_login, ids_of, has_crate}
+use Rattle.reg_model.proofs.Words.{is_reserved_always, enable, owners_of, Asked, Command, Faulty, Read, Index, Download, ListOwners}
+use Rattle.reg_model.proofs.Words.{Publish, Yank, Unyank, AddOwners, RemoveOwners, UserAdd, UserDisable, UserEnable, TokenAdd, TokenRevoke}
+use Rattle.reg_model.proofs.Words.{Reserve, Unreserve, OwnerAdd, Access, Users, Tokens, Crates, CrateRestrict, CrateOpen, ReaderAdd}
+use Rattle.reg_model.proofs.Words.{ReaderRemove, endpoints_named, patterns_given, AreAlike, asked_in, command_in, replayed}
+use Rattle.reg_model.proofs.Words.{told_publication, told_token}
 use Rattle.std.specs.FinSet as set
-use Rattle.std.specs.List.{list_any}
-use Rattle.std.specs.Str.{bytes_eq}
 use Rattle.std.proofs.lemmas.List.{map-append}
-use Rattle.reg_names.specs.Names.{canon}
-use Rattle.reg_model.specs.Registry.{Text, mark_cmp, owner_cmp, text_cmp, Account, Publication, Registry, Token, change_at, change_place, id_of_login, ids_of}
-use Rattle.reg_model.specs.Crates.{exists, has_crate, is_reserved_always}
-use Rattle.reg_model.specs.Effects.{commanded, done, enable, owners_of}
-use Rattle.reg_model.specs.Events.{Asked, Command}
-use Rattle.reg_model.specs.Events.Asked.{Faulty, Read, Index, Download, ListOwners, Publish, Yank, Unyank, AddOwners, RemoveOwners}
-use Rattle.reg_model.specs.Events.Command.{UserAdd, UserDisable, UserEnable, TokenAdd, TokenRevoke, Reserve, Unreserve, OwnerAdd, Access, Users, Tokens, Crates, CrateRestrict, CrateOpen, ReaderAdd, ReaderRemove}
-use Rattle.reg_model.specs.Refusals.{endpoints_named, patterns_given}
+use Rattle.reg_model.specs.Effects.{commanded, done}
 use Rattle.reg_model.proofs.Lists.{list_any_map}
-use Rattle.reg_model.specs.Replay.{AreAlike, asked_in, command_in, replayed, told_publication, told_token}
 
 pub alike_self : (s : Registry) → AreAlike s s
 alike_self s = record { base = refl; accounts = refl; tokens = refl; publications = refl; owners = refl; yanked = refl; reserved = refl; restricted = refl; readers = refl }

@@ -1,27 +1,14 @@
 -- Each line of a trail names who it was.
-use Rattle.std.proofs.Common.{◌≡◌, ◌+◌, ◌-◌, ◌==◌, ℕ, zero, suc, List, [], ◌∷◌, Bool, true, false, cond, Option, Some, None, refl, sym, ◌∙◌, ap, subst, arith}
-use Rattle.std.specs.Prelude.{◌&&◌, not, is_some, slice_get, unwrap_or}
-use Rattle.std.specs.Fmt.{decimal}
-use Rattle.std.specs.List.{find, position_from}
-use Rattle.std.specs.Option.{option_map}
-use Rattle.std.specs.Str.{bytes_eq}
-use Rattle.std.proofs.lemmas.Bool.{and_parts}
-use Rattle.std.proofs.lemmas.Bool.Decides.{nat_tests}
-use Rattle.std.proofs.lemmas.Slice.Eq.{bytes_eq-Decides}
-use Rattle.reg_body.specs.declared.limits.Limits.{Limits}
-use Rattle.reg_model.specs.Registry.{Text, Account, Registry, Token, token_of, with_id}
-use Rattle.reg_model.specs.Crates.{first}
-use Rattle.reg_model.specs.Effects.{account_of}
-use Rattle.reg_model.specs.Events.{Asked, Event}
-use Rattle.reg_model.specs.Events.Asked.{Faulty, Read, Index, Download, ListOwners, Publish, Yank, Unyank, AddOwners, RemoveOwners}
-use Rattle.reg_model.specs.Events.Event.{Ask, Order}
+use Rattle.reg_model.proofs.Words.{◌≡◌, ◌+◌, ◌-◌, ◌==◌, ℕ, zero, suc, List, [], ◌∷◌, Bool, true, false, cond, Option, Some, None, refl, sym}
+use Rattle.reg_model.proofs.Words.{◌∙◌, ap, subst, arith, not, is_some, slice_get, unwrap_or, decimal, find, position_from, option_map}
+use Rattle.reg_model.proofs.Words.{bytes_eq, and_parts, nat_tests, bytes_eq-Decides, Limits, Text, Account, Registry, Token, token_of}
+use Rattle.reg_model.proofs.Words.{with_id, first, account_of, Asked, Event, Faulty, Read, Index, Download, ListOwners, Publish, Yank}
+use Rattle.reg_model.proofs.Words.{Unyank, AddOwners, RemoveOwners, Ask, Order, login_of, Sound, is_token, event_words, id_of_token}
+use Rattle.reg_model.proofs.Words.{line_of, request_words, with_asker, words_of}
 use Rattle.reg_model.specs.Facts.{access_facts}
 use Rattle.reg_model.specs.Refusals.{denied}
-use Rattle.reg_model.specs.Reports.{login_of}
-use Rattle.reg_model.specs.Sound.{Sound, is_token}
-use Rattle.reg_model.specs.Steps.{IsFit}
-use Rattle.reg_model.specs.Trail.{event_words, id_of_token, line, line_of, request_words, with_asker, words_of}
-use Rattle.reg_model.specs.TrailLaws.{HasIds, LinesNameAskers, NamesAsker, NamesToken}
+use Rattle.reg_model.specs.Trail.{line}
+use Rattle.reg_model.specs.TrailLaws.{LinesNameAskers, NamesAsker, NamesToken}
 use Rattle.reg_model.proofs.Cleared.{not_denied}
 use Rattle.reg_model.proofs.IndexPaths.{not_false}
 use Rattle.reg_model.proofs.TrailPlain.{lines_are_read, nobody, passes_id, unrefused}

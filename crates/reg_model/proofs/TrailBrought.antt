@@ -1,35 +1,22 @@
 -- What one event brings is told by its line.
-use Rattle.std.proofs.Common.{◌≡◌, ◌⊎◌, ◌+◌, ◌-◌, ◌==◌, ℕ, zero, suc, List, [], ◌∷◌, ◌++◌, Bool, true, false, cond, Option, Some, None, inl, inr, refl, sym, ◌∙◌, ap, map, subst}
-use Rattle.std.specs.Prelude.{◌&&◌, ◌||◌, not, codes, is_some, unwrap_or}
-use Rattle.std.specs.List.{cons_option, filter_map, list_all, list_any, position_from}
-use Rattle.std.specs.Option.{option_map}
-use Rattle.std.specs.Ordering.{eq_by_cmp}
+use Rattle.reg_model.proofs.Words.{◌≡◌, ◌⊎◌, ◌+◌, ◌-◌, ◌==◌, ℕ, zero, suc, List, [], ◌∷◌, ◌++◌, Bool, true, false, cond, Option, Some, None}
+use Rattle.reg_model.proofs.Words.{inl, inr, refl, sym, ◌∙◌, ap, map, subst, ◌||◌, codes, is_some, unwrap_or, cons_option, list_all}
+use Rattle.reg_model.proofs.Words.{list_any, position_from, eq_by_cmp, bytes_eq, and_parts, Limits, canon, Rule, AdminRefusal}
+use Rattle.reg_model.proofs.Words.{with_reserved, Text, Mark, Owner, mark_cmp, owner_cmp, Account, Publication, Registry, change_at}
+use Rattle.reg_model.proofs.Words.{change_place, id_of_login, ids_of, exists, first, is_reserved_always, is_yanked, owns, account_of}
+use Rattle.reg_model.proofs.Words.{caller, enable, replied, served, Answer, Asked, Command, Event, Faulty, Read, Index, Download}
+use Rattle.reg_model.proofs.Words.{ListOwners, Publish, Yank, Unyank, AddOwners, RemoveOwners, UserAdd, UserDisable, UserEnable, TokenAdd}
+use Rattle.reg_model.proofs.Words.{TokenRevoke, Reserve, Unreserve, OwnerAdd, Access, Users, Tokens, Crates, CrateRestrict, CrateOpen}
+use Rattle.reg_model.proofs.Words.{ReaderAdd, ReaderRemove, Ask, Order, IsIn, login_of, with_commas, Sound, Step, outcome, unless_denied}
+use Rattle.reg_model.proofs.Words.{unless_refused, command_words, event_words, request_words, spelled, unless, unless_some, with_asker}
+use Rattle.reg_model.proofs.Words.{GivesOwner, Publishes, Yanks, at_commas}
+use Rattle.std.specs.List.{filter_map}
 use Rattle.std.specs.FinSet as set
-use Rattle.std.specs.Str.{bytes_eq}
-use Rattle.std.proofs.lemmas.Bool.{and_parts}
-use Rattle.reg_body.specs.declared.limits.Limits.{Limits}
-use Rattle.reg_names.specs.Names.{canon}
-use Rattle.reg_model.specs.declared.rule.Rule.{Rule}
-use Rattle.reg_model.specs.declared.rule.AdminRefusal.{AdminRefusal}
-use Rattle.reg_model.specs.Changes.{with_reserved}
-use Rattle.reg_model.specs.Registry.{Text, Mark, Owner, mark_cmp, owner_cmp, Account, Publication, Registry, change_at, change_place, id_of_login, ids_of, token_of}
-use Rattle.reg_model.specs.Crates.{exists, first, is_reserved_always, is_yanked, owns}
-use Rattle.reg_model.specs.Effects.{account_of, caller, commanded, done, enable, replied, served}
-use Rattle.reg_model.specs.Events.{Answer, Asked, Command, Event}
-use Rattle.reg_model.specs.Events.Asked.{Faulty, Read, Index, Download, ListOwners, Publish, Yank, Unyank, AddOwners, RemoveOwners}
-use Rattle.reg_model.specs.Events.Command.{UserAdd, UserDisable, UserEnable, TokenAdd, TokenRevoke, Reserve, Unreserve, OwnerAdd, Access, Users, Tokens, Crates, CrateRestrict, CrateOpen, ReaderAdd, ReaderRemove}
-use Rattle.reg_model.specs.Events.Event.{Ask, Order}
-use Rattle.reg_model.specs.Lists.{IsIn}
+use Rattle.reg_model.specs.Effects.{commanded, done}
 use Rattle.reg_model.specs.Refusals.{denied, refused}
-use Rattle.reg_model.specs.Reports.{login_of, with_commas}
-use Rattle.reg_model.specs.Sound.{Sound}
-use Rattle.reg_model.specs.Steps.{Step, outcome, unless_denied, unless_refused}
 use Rattle.reg_model.proofs.Keys.{mark_apart, mark_total, owner_apart, owner_total, same_key}
 use Rattle.reg_model.proofs.Lists.{or_split}
 use Rattle.reg_model.proofs.Members.{all_in, any_in}
-use Rattle.reg_model.specs.Trail.{asker, command_words, event_words, request_words, spelled, unless, unless_some, with_asker}
-use Rattle.reg_model.specs.TrailLaws.{GivesOwner, Publishes, Yanks}
-use Rattle.reg_model.specs.Replay.{at_commas}
 use Rattle.reg_model.specs.Facts.{access_facts}
 use Rattle.reg_model.proofs.Cleared.{not_denied}
 use Rattle.reg_model.proofs.TrailPlain.{added_logins}

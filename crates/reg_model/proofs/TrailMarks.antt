@@ -1,18 +1,10 @@
 -- A trail that goes on behind the mark of an opening.
-use Rattle.std.proofs.Common.{◌≡◌, ◌<◌, ◌^◌, ℕ, List, [], ◌∷◌, ◌++◌, Bool, true, false, Some, None, map, refl, sym, ◌∙◌, ap, subst}
-use Rattle.std.specs.Prelude.{codes, length}
-use Rattle.std.specs.Fmt.{decimal}
-use Rattle.std.proofs.lemmas.Bool.{and_from}
-use Rattle.std.proofs.lemmas.List.{append_assoc, length-map}
-use Rattle.reg_body.specs.declared.limits.Limits.{Limits}
-use Rattle.reg_model.specs.Registry.{Text, Registry}
+use Rattle.reg_model.proofs.Words.{◌≡◌, ℕ, List, [], ◌∷◌, ◌++◌, true, false, refl, sym, ◌∙◌, ap, subst, codes, length, decimal, and_from}
+use Rattle.reg_model.proofs.Words.{append_assoc, length-map, Text, Registry, AreAlike, lines_in, replay, replayed, told_publication}
+use Rattle.reg_model.proofs.Words.{told_token, line_of, trail, are_words}
 use Rattle.reg_model.specs.Effects.{commanded}
-use Rattle.reg_model.specs.Events.{Answer, Event}
-use Rattle.reg_model.specs.Sound.{Sound}
-use Rattle.reg_model.specs.Steps.{Run}
-use Rattle.reg_model.specs.Replay.{AreAlike, command_in, lines_in, replay, replayed, told_publication, told_token}
-use Rattle.reg_model.specs.Trail.{line_of, opened, opened_words, trail}
-use Rattle.reg_model.specs.TrailLaws.{HasCounts, HasIds, IsLine, MarksAreRead, MarksAreReplayed, MarksShowGaps, are_words}
+use Rattle.reg_model.specs.Trail.{opened, opened_words}
+use Rattle.reg_model.specs.TrailLaws.{HasCounts, MarksAreRead, MarksAreReplayed, MarksShowGaps}
 use Rattle.reg_model.proofs.Soundness.{runs_keep_sound}
 use Rattle.reg_model.proofs.TrailAlike.{alike_self}
 use Rattle.reg_model.proofs.TrailPlain.{read_line}

@@ -1,38 +1,25 @@
 -- The words of each event are words of plain characters.
-use Rattle.std.proofs.Common.{◌≡◌, ◌<◌, ◌≤◌, ◌^◌, ◌+◌, ◌-◌, ◌==◌, ℕ, zero, suc, List, [], ◌∷◌, ◌++◌, Bool, true, false, cond, Option, Some, None, inl, inr, refl, sym, ◌∙◌, ap, subst, arith}
-use Rattle.std.specs.Prelude.{◌&&◌, ◌||◌, not, codes, is_none, is_some, length, slice_get, unwrap_or}
-use Rattle.std.specs.Fmt.{decimal}
-use Rattle.std.specs.List.{enumerate_from, filter, find, list_all, list_any, position_from, AllByRecursion}
-use Rattle.std.specs.Option.{option_map}
-use Rattle.std.specs.Str.{bytes_eq}
-use Rattle.std.proofs.lemmas.Bool.{and_from, and_parts}
-use Rattle.std.proofs.lemmas.Slice.Eq.{bytes_eq-Decides}
-use Rattle.reg_body.specs.declared.limits.Limits.{Limits}
-use Rattle.reg_names.specs.Logins.{is_login}
-use Rattle.reg_names.specs.Names.{canon, is_name, name_of}
-use Rattle.reg_names.specs.Patterns.{is_pattern}
-use Rattle.reg_versions.specs.Versions.{is_version}
-use Rattle.reg_model.specs.declared.rule.Rule.{Rule}
-use Rattle.reg_model.specs.declared.rule.AdminRefusal.{AdminRefusal}
-use Rattle.reg_model.specs.Registry.{Text, Account, Publication, Registry, holds, id_of_login, is_enabled, is_known, with_id}
-use Rattle.reg_model.specs.Crates.{collides, exists, first, owners, owns, versions, viewer, visible}
-use Rattle.reg_model.specs.Effects.{account_of}
-use Rattle.reg_model.specs.Events.{Asked, Command, Event}
-use Rattle.reg_model.specs.Events.Asked.{Faulty, Read, Index, Download, ListOwners, Publish, Yank, Unyank, AddOwners, RemoveOwners}
-use Rattle.reg_model.specs.Events.Command.{UserAdd, UserDisable, UserEnable, TokenAdd, TokenRevoke, Reserve, Unreserve, OwnerAdd, Access, Users, Tokens, Crates, CrateRestrict, CrateOpen, ReaderAdd, ReaderRemove}
-use Rattle.reg_model.specs.Events.Event.{Ask, Order}
-use Rattle.reg_model.specs.Facts.{access_facts, counts, has_login, is_named, lists}
-use Rattle.reg_model.specs.Refusals.{denied, is_endpoint, may_name, patterns_given, refused}
-use Rattle.reg_model.specs.Reports.{login_of, with_commas}
-use Rattle.reg_model.specs.Sound.{Sound, is_account}
-use Rattle.reg_model.specs.Steps.{IsFit, IsGenuine}
+use Rattle.reg_model.proofs.Words.{◌≡◌, ◌<◌, ◌≤◌, ◌^◌, ◌+◌, ◌-◌, ◌==◌, ℕ, zero, suc, List, [], ◌∷◌, Bool, true, false, cond, Option, Some}
+use Rattle.reg_model.proofs.Words.{None, inl, inr, refl, sym, ◌∙◌, ap, subst, arith, ◌&&◌, not, codes, is_none, length, slice_get}
+use Rattle.reg_model.proofs.Words.{unwrap_or, decimal, enumerate_from, find, list_all, list_any, position_from, AllByRecursion, option_map}
+use Rattle.reg_model.proofs.Words.{bytes_eq, and_from, and_parts, bytes_eq-Decides, Limits, is_login, is_name, name_of, is_pattern, Text}
+use Rattle.reg_model.proofs.Words.{Account, Publication, Registry, holds, id_of_login, is_enabled, is_known, with_id, collides, exists}
+use Rattle.reg_model.proofs.Words.{owners, owns, versions, visible, account_of, Asked, Command, Event, Faulty, Read, Index, Download}
+use Rattle.reg_model.proofs.Words.{ListOwners, Publish, Yank, Unyank, AddOwners, RemoveOwners, UserAdd, UserDisable, UserEnable, TokenAdd}
+use Rattle.reg_model.proofs.Words.{TokenRevoke, Reserve, Unreserve, OwnerAdd, Access, Users, Tokens, Crates, CrateRestrict, CrateOpen}
+use Rattle.reg_model.proofs.Words.{ReaderAdd, ReaderRemove, Ask, Order, has_login, lists, is_endpoint, may_name, patterns_given, login_of}
+use Rattle.reg_model.proofs.Words.{with_commas, Sound, is_account, IsFit, IsGenuine, command_words, event_words, id_of_token, line_of}
+use Rattle.reg_model.proofs.Words.{only_if, request_words, spelled, unless, unless_some, with_asker, words_of, HasIds, are_words, is_plain}
+use Rattle.reg_model.proofs.Words.{is_word}
+use Rattle.reg_model.specs.Facts.{access_facts, counts}
+use Rattle.reg_model.specs.Refusals.{denied, refused}
 use Rattle.reg_model.proofs.Cleared.{not_denied, not_refused}
 use Rattle.reg_model.proofs.IndexPaths.{not_false}
 use Rattle.reg_model.proofs.Lists.{all_so, any_filter, found_passes, or_split, some_found}
 use Rattle.reg_model.proofs.Members.{IsIn, any_in, each_in}
-use Rattle.reg_model.proofs.Places.{found_id, position}
-use Rattle.reg_model.specs.Trail.{asker, command_words, event_words, id_of_token, line_of, name_words, only_if, request_words, spelled, unless, unless_some, with_asker, words_of}
-use Rattle.reg_model.specs.TrailLaws.{HasIds, IsLine, are_words, is_plain, is_printed, is_word}
+use Rattle.reg_model.proofs.Places.{found_id}
+use Rattle.reg_model.specs.Trail.{asker, name_words}
+use Rattle.reg_model.specs.TrailLaws.{IsLine}
 use Rattle.reg_model.proofs.TrailTold.{some_only_if}
 use Rattle.reg_model.proofs.TrailUntold.{neither}
 use Rattle.reg_model.proofs.TrailWords.{decimal_word, joined_pass, line_printed, line_read, login_word, name_word, pattern_word, printed_words, version_word}
@@ -101,9 +88,6 @@ module _ (s : Registry) (sound : Sound s) where
       ap is_login (sym ((bytes_eq-Decides found.0.1.login login).0 (and_parts _ _ found.2).1)) ∙ (and_parts _ _ a).0
 
   -- ---- crates and versions
-
-  genuine_name : (p : Publication) → IsGenuine p → is_name p.name ≡ true
-  genuine_name p g = g.name
 
   each_named : (ps : List Publication) → AllByRecursion IsGenuine ps → list_all (λ p. is_name p.name) ps ≡ true
   each_named [] h = refl

@@ -1,46 +1,32 @@
 -- What a line tells, done again, is what was done.
-use Rattle.std.proofs.Common.{◌≡◌, ◌≢◌, ◌<◌, ◌^◌, ◌+◌, ◌-◌, ◌==◌, ℕ, zero, suc, List, [], ◌∷◌, ◌++◌, Bool, true, false, cond, Option, Some, None, inl, inr, refl, sym, ◌∙◌, ap, map, subst, arith}
-use Rattle.std.specs.Prelude.{◌&&◌, ◌||◌, not, codes, if◌then◌else◌, is_none, is_some, length, slice_get, unwrap_or}
-use Rattle.std.specs.Fmt.{decimal}
-use Rattle.std.specs.List.{All, AllByRecursion, IsDistinct, count_by, find, join_with_byte, list_all, list_any, position_from, slice_split}
-use Rattle.std.specs.Option.{option_map}
+use Rattle.reg_model.proofs.Words.{◌≡◌, ◌<◌, ◌^◌, ◌+◌, ◌-◌, ◌==◌, ℕ, zero, suc, List, [], ◌∷◌, Bool, true, false, cond, Option, Some, None}
+use Rattle.reg_model.proofs.Words.{inl, inr, refl, sym, ◌∙◌, ap, map, subst, arith, ◌||◌, not, codes, if◌then◌else◌, is_some, length}
+use Rattle.reg_model.proofs.Words.{slice_get, unwrap_or, decimal, All, AllByRecursion, find, join_with_byte, list_all, list_any}
+use Rattle.reg_model.proofs.Words.{position_from, option_map, on, all_ascii_digits, bytes_eq, and_parts, nat_tests, digits_decimal}
+use Rattle.reg_model.proofs.Words.{All-from_recursion, join_with_byte-slice_split, slice_split_at, slice_split_none, bytes_eq-Decides}
+use Rattle.reg_model.proofs.Words.{numerals_by_value, tells_all_ascii_digits, Limits, is_login, is_login_byte, canon, is_name, is_name_byte}
+use Rattle.reg_model.proofs.Words.{is_pattern, Rule, Text, Account, Publication, Registry, Token, holds, id_of_login, ids_of, token_of}
+use Rattle.reg_model.proofs.Words.{with_id, collides, first, owns, account_of, caller, replied, served, Asked, Command, Event, Faulty, Read}
+use Rattle.reg_model.proofs.Words.{Index, Download, ListOwners, Publish, Yank, Unyank, AddOwners, RemoveOwners, UserAdd, UserDisable}
+use Rattle.reg_model.proofs.Words.{UserEnable, TokenAdd, TokenRevoke, Reserve, Unreserve, OwnerAdd, Access, Users, Tokens, Crates}
+use Rattle.reg_model.proofs.Words.{CrateRestrict, CrateOpen, ReaderAdd, ReaderRemove, Ask, Order, endpoints_named, is_endpoint}
+use Rattle.reg_model.proofs.Words.{patterns_given, login_of, with_commas, Sound, is_token, outcome, unless_denied, unless_refused}
+use Rattle.reg_model.proofs.Words.{command_words, event_words, id_of_token, request_words, spelled, with_asker, words_in, HasIds, AreAlike}
+use Rattle.reg_model.proofs.Words.{asked_in, at_commas, command_in, replayed}
+use Rattle.std.specs.List.{IsDistinct, count_by}
 use Rattle.std.specs.FinSet as set
-use Rattle.std.specs.Ordering.{on}
-use Rattle.std.specs.Str.{all_ascii_digits, bytes_eq}
 use Rattle.std.specs.Str.Parse.{digits_value}
-use Rattle.std.proofs.lemmas.Bool.{and_parts}
-use Rattle.std.proofs.lemmas.Bool.Decides.{nat_tests}
-use Rattle.std.proofs.lemmas.Fmt.{digits_decimal, digits_value-decimal}
-use Rattle.std.proofs.lemmas.List.Elements.{All-from_recursion}
-use Rattle.std.proofs.lemmas.List.Splits.{join_with_byte-slice_split, length-slice_split, slice_split_at, slice_split_none}
-use Rattle.std.proofs.lemmas.Slice.Eq.{bytes_eq-Decides}
-use Rattle.std.proofs.lemmas.Str.Parse.{numerals_by_value, tells_all_ascii_digits}
-use Rattle.reg_body.specs.declared.limits.Limits.{Limits}
-use Rattle.reg_names.specs.Logins.{is_login, is_login_byte}
-use Rattle.reg_names.specs.Names.{canon, is_name, is_name_byte, name_of}
-use Rattle.reg_names.specs.Patterns.{is_pattern}
-use Rattle.reg_model.specs.declared.rule.Rule.{Rule}
-use Rattle.reg_model.specs.declared.rule.AdminRefusal.{AdminRefusal}
+use Rattle.std.proofs.lemmas.Fmt.{digits_value-decimal}
+use Rattle.std.proofs.lemmas.List.Splits.{length-slice_split}
 use Rattle.reg_model.specs.declared.rule.Rule.TheVariants as rule
 use Rattle.reg_model.specs.Changes.{with_token}
-use Rattle.reg_model.specs.Registry.{Text, Account, Publication, Registry, Token, holds, id_of_login, ids_of, token_of, with_id}
-use Rattle.reg_model.specs.Crates.{collides, first, owns}
-use Rattle.reg_model.specs.Effects.{account_of, caller, commanded, done, replied, served}
-use Rattle.reg_model.specs.Events.{Asked, Command, Event}
-use Rattle.reg_model.specs.Events.Asked.{Faulty, Read, Index, Download, ListOwners, Publish, Yank, Unyank, AddOwners, RemoveOwners}
-use Rattle.reg_model.specs.Events.Command.{UserAdd, UserDisable, UserEnable, TokenAdd, TokenRevoke, Reserve, Unreserve, OwnerAdd, Access, Users, Tokens, Crates, CrateRestrict, CrateOpen, ReaderAdd, ReaderRemove}
-use Rattle.reg_model.specs.Events.Event.{Ask, Order}
-use Rattle.reg_model.specs.Refusals.{denied, endpoints_named, is_endpoint, patterns_given, refused}
-use Rattle.reg_model.specs.Reports.{login_of, with_commas}
-use Rattle.reg_model.specs.Sound.{Sound, is_token}
-use Rattle.reg_model.specs.Steps.{IsFit, outcome, unless_denied, unless_refused}
+use Rattle.reg_model.specs.Effects.{commanded, done}
+use Rattle.reg_model.specs.Refusals.{denied, refused}
 use Rattle.reg_model.specs.Facts.{access_facts}
 use Rattle.reg_model.proofs.Cleared.{Clear, not_denied, not_refused}
 use Rattle.reg_model.proofs.IndexPaths.{not_false}
 use Rattle.reg_model.proofs.Lists.{all_so, found_passes}
-use Rattle.reg_model.specs.Trail.{asker, command_words, event_words, id_of_token, only_if, request_words, spelled, unless, unless_some, with_asker, words_in}
-use Rattle.reg_model.specs.TrailLaws.{HasIds, are_words, is_word}
-use Rattle.reg_model.specs.Replay.{AreAlike, asked_in, at_commas, bare, command_in, replayed, told_publication}
+use Rattle.reg_model.specs.Replay.{bare}
 use Rattle.reg_model.proofs.TrailAlike.{alike_self, publish_alike, token_alike}
 use Rattle.reg_model.proofs.TrailPlain.{added_logins, endpoint_pass, holds_within, nobody, only_words, removed_logins, token_number, told_words, unrefused}
 use Rattle.reg_model.proofs.TrailTold.{some_only_if, some_unless}

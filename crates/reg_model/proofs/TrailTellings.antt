@@ -1,21 +1,12 @@
 -- Each publication, mark and owner that a run brings has its line.
-use Rattle.std.proofs.Common.{◌≡◌, ◌⊎◌, ℕ, List, [], ◌∷◌, ◌++◌, Bool, true, false, cond, Option, Some, None, inl, inr, refl, sym, ◌∙◌, ap, map, subst}
-use Rattle.std.specs.Prelude.{◌&&◌, ◌||◌, codes, unwrap_or}
-use Rattle.std.specs.List.{list_any}
-use Rattle.std.specs.Option.{option_map}
-use Rattle.std.specs.Ordering.{eq_by_cmp}
+use Rattle.reg_model.proofs.Words.{◌≡◌, ◌⊎◌, ℕ, List, [], ◌∷◌, ◌++◌, Bool, true, false, cond, Option, Some, None, inl, inr, refl, sym, ◌∙◌}
+use Rattle.reg_model.proofs.Words.{subst, option_map, Limits, Text, Publication, Registry, Answer, Event, IsIn, Sound, IsFit, Run, Step}
+use Rattle.reg_model.proofs.Words.{outcome, event_words, has_no_room, line_of, or_nothing, trail, with_asker, GivesOwner, HasIds, Publishes}
+use Rattle.reg_model.proofs.Words.{Yanks, lines_in}
 use Rattle.std.specs.FinSet as set
-use Rattle.reg_body.specs.declared.limits.Limits.{Limits}
-use Rattle.reg_names.specs.Names.{canon}
-use Rattle.reg_model.specs.Registry.{Text, Publication, Registry, id_of_login, ids_of}
-use Rattle.reg_model.specs.Events.{Answer, Event}
-use Rattle.reg_model.specs.Lists.{IsIn}
-use Rattle.reg_model.specs.Sound.{Sound}
-use Rattle.reg_model.specs.Steps.{IsFit, Run, Step, outcome}
 use Rattle.reg_model.proofs.Soundness.{steps_keep_sound}
-use Rattle.reg_model.specs.Trail.{event_words, has_no_room, line, line_of, or_nothing, trail, with_asker}
-use Rattle.reg_model.specs.TrailLaws.{GivesOwner, HasIds, HasLine, Publishes, Yanks}
-use Rattle.reg_model.specs.Replay.{lines_in}
+use Rattle.reg_model.specs.Trail.{line}
+use Rattle.reg_model.specs.TrailLaws.{HasLine}
 use Rattle.reg_model.proofs.TrailBrought.{brings_mark, brings_owner, brings_publication, gives_stays}
 use Rattle.reg_model.proofs.TrailPlain.{event_plain}
 use Rattle.reg_model.proofs.Trails.{first_line, no_room_kept, room_done, run_ids}

@@ -1,34 +1,21 @@
 -- What has a line changes something.
-use Rattle.std.proofs.Common.{◌≡◌, ◌≢◌, ℕ, zero, suc, ◌+◌, ◌-◌, ◌==◌, List, [], ◌∷◌, ◌++◌, Bool, true, false, cond, Option, Some, None, refl, sym, ◌∙◌, ap, arith}
-use Rattle.std.specs.Prelude.{◌&&◌, ◌||◌, if◌then◌else◌, not, is_none, is_some, length, map, slice_get, unwrap_or}
-use Rattle.std.specs.Option.{option_map}
-use Rattle.std.specs.List.{list_all, list_any}
-use Rattle.std.specs.Ordering.{eq_by_cmp}
-use Rattle.std.specs.declared.cmp.Ordering.{Ordering}
-use Rattle.std.specs.Cmp.{IsTotalOrder}
-use Rattle.std.specs.Cmp.Lexicographic.{nat_list_cmp_total}
+use Rattle.reg_model.proofs.Words.{◌≡◌, ◌≢◌, ℕ, zero, suc, ◌+◌, ◌-◌, ◌==◌, List, [], ◌∷◌, ◌++◌, Bool, true, false, cond, Option, Some, None}
+use Rattle.reg_model.proofs.Words.{refl, sym, ◌∙◌, ap, arith, ◌&&◌, ◌||◌, not, is_none, is_some, length, slice_get, unwrap_or, option_map}
+use Rattle.reg_model.proofs.Words.{list_all, list_any, eq_by_cmp, Ordering, IsTotalOrder, nat_list_cmp_total, FinSet, contains, bytes_eq}
+use Rattle.reg_model.proofs.Words.{and_from, list_all-map, length-append, Limits, canon, Rule, AdminRefusal, Text, Account, Token, Registry}
+use Rattle.reg_model.proofs.Words.{change_at, change_place, holds, id_of_login, ids_of, is_enabled, with_id, is_reserved_always, owns}
+use Rattle.reg_model.proofs.Words.{caller, enable, owners_of, replied, served, Asked, Command, Event, Faulty, Read, Index, Download}
+use Rattle.reg_model.proofs.Words.{ListOwners, Publish, Yank, Unyank, AddOwners, RemoveOwners, UserAdd, UserDisable, UserEnable, TokenAdd}
+use Rattle.reg_model.proofs.Words.{TokenRevoke, Reserve, Unreserve, OwnerAdd, Access, Users, Tokens, Crates, CrateRestrict, CrateOpen}
+use Rattle.reg_model.proofs.Words.{ReaderAdd, ReaderRemove, Ask, Order, outcome, unless_denied, unless_refused, command_words, only_if}
+use Rattle.reg_model.proofs.Words.{request_words, unless, unless_some}
+use Rattle.std.specs.Prelude.{map}
 use Rattle.std.specs.FinSet as set
-use Rattle.std.specs.FinSet.{FinSet, contains}
-use Rattle.std.specs.Str.{bytes_eq}
-use Rattle.std.proofs.lemmas.Bool.{and_from}
-use Rattle.std.proofs.lemmas.List.Folds.{list_all-map}
-use Rattle.std.proofs.lemmas.List.{length-append}
-use Rattle.reg_body.specs.declared.limits.Limits.{Limits}
-use Rattle.reg_names.specs.Names.{canon}
-use Rattle.reg_model.specs.declared.rule.Rule.{Rule}
-use Rattle.reg_model.specs.declared.rule.AdminRefusal.{AdminRefusal}
-use Rattle.reg_model.specs.Registry.{Text, Account, Token, Registry, change_at, change_place, holds, id_of_login, ids_of, is_enabled, is_known, with_id}
-use Rattle.reg_model.specs.Crates.{is_reserved, is_reserved_always, is_restricted, is_yanked, owns, reads}
-use Rattle.reg_model.specs.Effects.{caller, commanded, done, enable, owners_of, replied, served}
-use Rattle.reg_model.specs.Events.{Asked, Command, Event}
-use Rattle.reg_model.specs.Events.Asked.{Faulty, Read, Index, Download, ListOwners, Publish, Yank, Unyank, AddOwners, RemoveOwners}
-use Rattle.reg_model.specs.Events.Command.{UserAdd, UserDisable, UserEnable, TokenAdd, TokenRevoke, Reserve, Unreserve, OwnerAdd, Access, Users, Tokens, Crates, CrateRestrict, CrateOpen, ReaderAdd, ReaderRemove}
-use Rattle.reg_model.specs.Events.Event.{Ask, Order}
+use Rattle.reg_model.specs.Effects.{commanded, done}
 use Rattle.reg_model.specs.Refusals.{denied, refused}
-use Rattle.reg_model.specs.Steps.{outcome, unless_denied, unless_refused}
 use Rattle.reg_model.proofs.Cleared.{not_refused}
 use Rattle.reg_model.proofs.Keys.{mark_total, owner_total, ties_itself}
-use Rattle.reg_model.specs.Trail.{command_words, event_words, has_account, line, line_of, only_if, request_words, unless, unless_some, with_asker}
+use Rattle.reg_model.specs.Trail.{line}
 use Rattle.reg_model.proofs.Places.{found_there}
 use Rattle.reg_model.proofs.TrailUntold.{list_any-map, reader_is}
 

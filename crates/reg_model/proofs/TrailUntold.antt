@@ -1,32 +1,21 @@
 -- What has no line changes nothing.
-use Rattle.std.proofs.Common.{◌≡◌, ℕ, zero, suc, ◌-◌, ◌==◌, List, [], ◌∷◌, Bool, true, false, cond, Option, Some, None, refl, sym, ◌∙◌, ap}
-use Rattle.std.specs.Prelude.{◌&&◌, ◌||◌, not, is_none, map, slice_get, unwrap_or}
-use Rattle.std.specs.Option.{option_map}
-use Rattle.std.specs.List.{list_all, list_any}
-use Rattle.std.specs.Ordering.{eq_by_cmp}
-use Rattle.std.specs.declared.cmp.Ordering.{Ordering}
-use Rattle.std.specs.Cmp.{IsTotalOrder}
-use Rattle.std.specs.Cmp.Lexicographic.{nat_list_cmp_total}
+use Rattle.reg_model.proofs.Words.{◌≡◌, ℕ, zero, suc, ◌-◌, ◌==◌, List, [], ◌∷◌, Bool, true, false, cond, Option, Some, None, refl, sym, ◌∙◌}
+use Rattle.reg_model.proofs.Words.{ap, ◌&&◌, ◌||◌, not, is_none, slice_get, unwrap_or, option_map, list_all, list_any, eq_by_cmp, Ordering}
+use Rattle.reg_model.proofs.Words.{IsTotalOrder, nat_list_cmp_total, FinSet, IsAntisymmetric, contains, and_parts, list_all-map, Limits}
+use Rattle.reg_model.proofs.Words.{canon, Rule, AdminRefusal, Text, Account, Token, Registry, change_at, change_place, holds, id_of_login}
+use Rattle.reg_model.proofs.Words.{ids_of, is_enabled, is_known, with_id, is_reserved_always, owns, caller, enable, owners_of, replied}
+use Rattle.reg_model.proofs.Words.{served, Asked, Command, Event, Faulty, Read, Index, Download, ListOwners, Publish, Yank, Unyank}
+use Rattle.reg_model.proofs.Words.{AddOwners, RemoveOwners, UserAdd, UserDisable, UserEnable, TokenAdd, TokenRevoke, Reserve, Unreserve}
+use Rattle.reg_model.proofs.Words.{OwnerAdd, Access, Users, Tokens, Crates, CrateRestrict, CrateOpen, ReaderAdd, ReaderRemove, Ask, Order}
+use Rattle.reg_model.proofs.Words.{outcome, unless_denied, unless_refused, command_words, only_if, request_words, unless, unless_some}
+use Rattle.std.specs.Prelude.{map}
 use Rattle.std.specs.FinSet as set
-use Rattle.std.specs.FinSet.{FinSet, IsAntisymmetric, contains}
-use Rattle.std.proofs.lemmas.Bool.{and_parts}
-use Rattle.std.proofs.lemmas.List.Folds.{list_all-map}
-use Rattle.reg_body.specs.declared.limits.Limits.{Limits}
-use Rattle.reg_names.specs.Names.{canon}
-use Rattle.reg_model.specs.declared.rule.Rule.{Rule}
-use Rattle.reg_model.specs.declared.rule.AdminRefusal.{AdminRefusal}
-use Rattle.reg_model.specs.Registry.{Text, Account, Token, Registry, change_at, change_place, holds, id_of_login, ids_of, is_enabled, is_known, with_id}
-use Rattle.reg_model.specs.Crates.{is_reserved, is_reserved_always, is_restricted, is_yanked, owns, reads}
-use Rattle.reg_model.specs.Effects.{caller, commanded, done, enable, owners_of, replied, served}
-use Rattle.reg_model.specs.Events.{Asked, Command, Event}
-use Rattle.reg_model.specs.Events.Asked.{Faulty, Read, Index, Download, ListOwners, Publish, Yank, Unyank, AddOwners, RemoveOwners}
-use Rattle.reg_model.specs.Events.Command.{UserAdd, UserDisable, UserEnable, TokenAdd, TokenRevoke, Reserve, Unreserve, OwnerAdd, Access, Users, Tokens, Crates, CrateRestrict, CrateOpen, ReaderAdd, ReaderRemove}
-use Rattle.reg_model.specs.Events.Event.{Ask, Order}
+use Rattle.reg_model.specs.Crates.{reads}
+use Rattle.reg_model.specs.Effects.{commanded, done}
 use Rattle.reg_model.specs.Refusals.{denied, refused}
-use Rattle.reg_model.specs.Steps.{outcome, unless_denied, unless_refused}
 use Rattle.reg_model.proofs.Cleared.{not_refused}
 use Rattle.reg_model.proofs.Keys.{insert_again, mark_apart, mark_total, owner_apart, owner_total, same_key, text_apart}
-use Rattle.reg_model.specs.Trail.{command_words, event_words, has_account, line, line_of, only_if, request_words, unless, unless_some, with_asker}
+use Rattle.reg_model.specs.Trail.{has_account, line}
 
 -- ---- what is told under a condition
 

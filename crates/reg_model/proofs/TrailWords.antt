@@ -1,32 +1,21 @@
 -- Lines are read back, and their characters are plain.
-use Rattle.std.proofs.Common.{◌≡◌, ◌<◌, ◌^◌, ◌+◌, ◌-◌, ◌==◌, ℕ, List, [], ◌∷◌, ◌++◌, Bool, true, false, cond, refl, sym, ◌∙◌, ap, subst, arith}
-use Rattle.std.specs.Prelude.{◌&&◌, ◌||◌, codes, drop, length, take, nat_le}
+use Rattle.reg_model.proofs.Words.{◌≡◌, ◌<◌, ◌^◌, ◌+◌, ◌-◌, ◌==◌, ℕ, List, [], ◌∷◌, ◌++◌, Bool, true, false, cond, refl, sym, ◌∙◌, ap}
+use Rattle.reg_model.proofs.Words.{subst, arith, ◌||◌, codes, length, take, decimal, All, AllByRecursion, join_with_byte, list_all}
+use Rattle.reg_model.proofs.Words.{all_ascii_digits, and_from, and_parts, nat_tests, digits_decimal, length-append, All-from_recursion}
+use Rattle.reg_model.proofs.Words.{bytes_eq-Decides, list_all-append, join_with_byte-slice_split, slice_split_at, slice_split_none}
+use Rattle.reg_model.proofs.Words.{numerals_by_value, tells_all_ascii_digits, is_login, is_login_byte, is_name, is_name_byte, has_star}
+use Rattle.reg_model.proofs.Words.{is_pattern, prefix_of, Text, line_of, words_in, words_of, are_words, is_plain, is_printed, is_word}
+use Rattle.std.specs.Prelude.{drop}
 use Rattle.std.specs.Char.{is_ascii_digit}
-use Rattle.std.specs.Fmt.{decimal}
-use Rattle.std.specs.List.{All, AllByRecursion, join_with_byte, list_all, onto_first, slice_split}
-use Rattle.std.specs.Str.{all_ascii_digits}
-use Rattle.std.proofs.lemmas.Bool.{and_from, and_parts}
-use Rattle.std.proofs.lemmas.Bool.Decides.{nat_tests}
-use Rattle.std.proofs.lemmas.Fmt.{digits_decimal}
-use Rattle.std.proofs.lemmas.List.{length-append, take-append-drop}
-use Rattle.std.proofs.lemmas.List.Elements.{All-from_recursion}
-use Rattle.std.proofs.lemmas.Slice.Eq.{bytes_eq-Decides}
-use Rattle.std.proofs.lemmas.List.Folds.{list_all-append}
-use Rattle.std.proofs.lemmas.List.Splits.{join_with_byte-slice_split, slice_split_at, slice_split_none}
-use Rattle.std.proofs.lemmas.Str.Parse.{numerals_by_value, tells_all_ascii_digits}
+use Rattle.std.specs.List.{onto_first}
+use Rattle.std.proofs.lemmas.List.{take-append-drop}
 use Rattle.std.proofs.Math.Seq.{take-append_seam}
-use Rattle.semver.specs.Grammar.{IsValid, is_build, is_build_identifier, is_identifier_byte, is_pre_identifier, is_pre_release}
-use Rattle.semver.specs.Identifiers.{marked, parts_text}
+use Rattle.semver.specs.Grammar.{is_build, is_build_identifier, is_identifier_byte, is_pre_identifier, is_pre_release}
+use Rattle.semver.specs.Identifiers.{marked}
 use Rattle.semver.specs.Order.{parts}
-use Rattle.reg_names.specs.Logins.{is_login, is_login_byte}
-use Rattle.reg_names.specs.Names.{is_name, is_name_byte}
-use Rattle.reg_names.specs.Patterns.{has_star, is_pattern, prefix_of}
 use Rattle.reg_versions.specs.Versions.{is_version}
 use Rattle.reg_versions.proofs.Grammar.{version_grammar}
-use Rattle.reg_model.specs.Registry.{Text}
 use Rattle.reg_model.proofs.Lists.{all_so}
-use Rattle.reg_model.specs.Trail.{line_of, words_in, words_of}
-use Rattle.reg_model.specs.TrailLaws.{are_words, is_plain, is_printed, is_word}
 
 -- ---- words of plain characters
 

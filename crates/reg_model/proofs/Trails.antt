@@ -1,34 +1,23 @@
 -- A trail, done again, leads to where its run ends.
-use Rattle.std.proofs.Common.{◌≡◌, ◌≤◌, ◌<◌, ◌^◌, ◌+◌, ◌-◌, ◌==◌, ℕ, zero, suc, List, [], ◌∷◌, ◌++◌, Bool, true, false, cond, Option, Some, None, inl, inr, refl, sym, ◌∙◌, ap, map, subst, arith}
-use Rattle.std.specs.Prelude.{◌&&◌, length, unwrap_or}
-use Rattle.std.specs.List.{All, AllByRecursion, join_with_byte, list_all, slice_split}
-use Rattle.std.specs.Option.{option_map}
-use Rattle.std.proofs.lemmas.Bool.{and_parts}
-use Rattle.std.proofs.lemmas.Bool.Decides.{nat_tests}
-use Rattle.std.proofs.lemmas.List.{append-nil, append_assoc, length-append}
-use Rattle.std.proofs.lemmas.List.Elements.{All-from_recursion}
-use Rattle.std.proofs.lemmas.List.Splits.{slice_split_at}
-use Rattle.reg_body.specs.declared.limits.Limits.{Limits}
-use Rattle.reg_model.specs.declared.rule.Rule.{Rule}
-use Rattle.reg_model.specs.declared.rule.AdminRefusal.{AdminRefusal}
-use Rattle.reg_names.specs.Names.{canon}
-use Rattle.reg_model.specs.Changes.{with_reserved}
-use Rattle.reg_model.specs.Crates.{is_reserved_always}
-use Rattle.reg_model.specs.Registry.{Text, Registry, Token, change_at, change_place}
-use Rattle.reg_model.specs.Effects.{caller, commanded, done, replied, served}
-use Rattle.reg_model.specs.Events.{Answer, Asked, Command, Event}
-use Rattle.reg_model.specs.Events.Answer.{Denied, Refused, Granted, Config, Found, File, Archive, Owners, Done, Id, Report}
-use Rattle.reg_model.specs.Events.Asked.{Faulty, Read, Index, Download, ListOwners, Publish, Yank, Unyank, AddOwners, RemoveOwners}
-use Rattle.reg_model.specs.Events.Command.{UserAdd, UserDisable, UserEnable, TokenAdd, TokenRevoke, Reserve, Unreserve, OwnerAdd, Access, Users, Tokens, Crates, CrateRestrict, CrateOpen, ReaderAdd, ReaderRemove}
-use Rattle.reg_model.specs.Events.Event.{Ask, Order}
+use Rattle.reg_model.proofs.Words.{◌≡◌, ◌≤◌, ◌+◌, ◌-◌, ◌==◌, ℕ, zero, suc, List, [], ◌∷◌, ◌++◌, Bool, true, false, cond, Option, Some, None}
+use Rattle.reg_model.proofs.Words.{inl, inr, refl, sym, ◌∙◌, ap, map, subst, arith, length, unwrap_or, All, AllByRecursion, join_with_byte}
+use Rattle.reg_model.proofs.Words.{list_all, option_map, and_parts, nat_tests, append_assoc, length-append, All-from_recursion}
+use Rattle.reg_model.proofs.Words.{slice_split_at, Limits, Rule, AdminRefusal, canon, with_reserved, is_reserved_always, Text, Registry}
+use Rattle.reg_model.proofs.Words.{Token, change_at, change_place, caller, replied, served, Answer, Asked, Command, Event, Denied, Refused}
+use Rattle.reg_model.proofs.Words.{Found, File, Archive, Owners, Faulty, Read, Index, Download, ListOwners, Publish, Yank, Unyank}
+use Rattle.reg_model.proofs.Words.{AddOwners, RemoveOwners, UserAdd, UserDisable, UserEnable, TokenAdd, TokenRevoke, Reserve, Unreserve}
+use Rattle.reg_model.proofs.Words.{OwnerAdd, Access, Users, Tokens, Crates, CrateRestrict, CrateOpen, ReaderAdd, ReaderRemove, Ask, Order}
+use Rattle.reg_model.proofs.Words.{Sound, IsFit, Run, Step, no_room, outcome, unless_denied, unless_refused, event_words, has_no_room}
+use Rattle.reg_model.proofs.Words.{line_of, or_nothing, trail, with_asker, words_in, HasIds, are_words, is_printed, AreAlike, lines_in}
+use Rattle.reg_model.proofs.Words.{replay, replayed}
+use Rattle.std.proofs.lemmas.List.{append-nil}
+use Rattle.reg_model.specs.Effects.{commanded, done}
+use Rattle.reg_model.specs.Events.Answer.{Granted, Config, Done, Id, Report}
 use Rattle.reg_model.specs.Refusals.{denied, refused}
-use Rattle.reg_model.specs.Sound.{Sound}
-use Rattle.reg_model.specs.Steps.{IsFit, Run, Step, no_room, outcome, unless_denied, unless_refused}
 use Rattle.reg_model.proofs.Runs.{denials_keep, refusals_keep}
 use Rattle.reg_model.proofs.Soundness.{steps_keep_sound}
-use Rattle.reg_model.specs.Trail.{event_words, has_no_room, line, line_of, or_nothing, trail, with_asker, words_in}
-use Rattle.reg_model.specs.TrailLaws.{HasIds, TrailOfOne, TrailsJoin, are_words, is_printed}
-use Rattle.reg_model.specs.Replay.{AreAlike, lines_in, replay, replayed}
+use Rattle.reg_model.specs.Trail.{line}
+use Rattle.reg_model.specs.TrailLaws.{TrailOfOne, TrailsJoin}
 use Rattle.reg_model.proofs.TrailAlike.{alike_back, alike_on, alike_self, replayed_alike}
 use Rattle.reg_model.proofs.TrailPlain.{event_plain}
 use Rattle.reg_model.proofs.TrailReplayed.{event_again}

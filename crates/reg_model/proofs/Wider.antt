@@ -1,24 +1,18 @@
 -- What is allowed under some limits is allowed under wider ones.
-use Rattle.std.proofs.Common.{◌≡◌, ℕ, ◌≤◌, List, [], ◌∷◌, Bool, true, false, cond, Option, Some, None, refl, sym, ◌∙◌, ap, arith}
-use Rattle.std.specs.Prelude.{nat_le, nat_lt, ◌||◌, length, unwrap_or}
-use Rattle.std.specs.List.{find}
-use Rattle.std.specs.Option.{option_map}
+use Rattle.reg_model.proofs.Words.{◌≡◌, ℕ, ◌≤◌, List, [], ◌∷◌, Bool, true, false, cond, Option, Some, None, refl, sym, ◌∙◌, ap, arith}
+use Rattle.reg_model.proofs.Words.{nat_lt, ◌||◌, length, unwrap_or, find, option_map, nat_tests, Limits, Rule, AdminRefusal, Text, Registry}
+use Rattle.reg_model.proofs.Words.{Action, Counts, broken, order, Asked, Command, action_of, fault_of, UserAdd, UserDisable, UserEnable}
+use Rattle.reg_model.proofs.Words.{TokenAdd, TokenRevoke, Reserve, Unreserve, OwnerAdd, Users, Tokens, Crates, CrateRestrict, CrateOpen}
+use Rattle.reg_model.proofs.Words.{ReaderAdd, ReaderRemove, Ask, Order, grounds, judged, or_else, patterns_given, caller, replied, served}
+use Rattle.reg_model.proofs.Words.{outcome, unless_denied, unless_refused}
+use Rattle.std.specs.Prelude.{nat_le}
 use Rattle.std.proofs.lemmas.Bool.{or_from}
-use Rattle.std.proofs.lemmas.Bool.Decides.{nat_tests}
-use Rattle.reg_body.specs.declared.limits.Limits.{Limits}
-use Rattle.reg_model.specs.declared.rule.Rule.{Rule}
 use Rattle.reg_model.specs.declared.rule.Rule.TheVariants as rule
-use Rattle.reg_model.specs.declared.rule.AdminRefusal.{AdminRefusal}
-use Rattle.reg_model.specs.Registry.{Text, Registry}
-use Rattle.reg_model.specs.Actions.{Action}
-use Rattle.reg_model.specs.Facts.{Access, Counts, access_facts, counts}
-use Rattle.reg_model.specs.Rules.{broken, order, verdict}
-use Rattle.reg_model.specs.Events.{Asked, Command, action_of, fault_of}
-use Rattle.reg_model.specs.Events.Command.{UserAdd, UserDisable, UserEnable, TokenAdd, TokenRevoke, Reserve, Unreserve, OwnerAdd, Access as to_access, Users, Tokens, Crates, CrateRestrict, CrateOpen, ReaderAdd, ReaderRemove}
-use Rattle.reg_model.specs.Events.Event.{Ask, Order}
-use Rattle.reg_model.specs.Refusals.{denied, grounds, judged, or_else, refused, patterns_given}
-use Rattle.reg_model.specs.Effects.{caller, commanded, done, replied, served}
-use Rattle.reg_model.specs.Steps.{outcome, unless_denied, unless_refused}
+use Rattle.reg_model.specs.Facts.{Access, access_facts, counts}
+use Rattle.reg_model.specs.Rules.{verdict}
+use Rattle.reg_model.specs.Events.Command.{Access as to_access}
+use Rattle.reg_model.specs.Refusals.{denied, refused}
+use Rattle.reg_model.specs.Effects.{commanded, done}
 use Rattle.reg_model.specs.Laws.{AreWider}
 use Rattle.reg_model.proofs.Cleared.{Free, free}
 

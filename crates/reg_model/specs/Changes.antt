@@ -38,9 +38,6 @@ with_publication p s = record s { publications = s.publications ++ p ∷ [] }
 abbrev pub with_owner : Owner → Registry → Registry
 with_owner o s = record s { owners = finset.insert s.owners o }
 
-abbrev pub without_owner : Owner → Registry → Registry
-without_owner o s = record s { owners = finset.remove s.owners o }
-
 -- a version is yanked, or no longer
 abbrev pub with_yanked : Bool → Mark → Registry → Registry
 with_yanked yanked m s =

@@ -1,5 +1,5 @@
 -- The trail of a registry: a line for each change, which tells who made it, and by which token.
-use Rattle.std.specs.Prelude.{◌≡◌, ℕ, ◌-◌, ◌==◌, if◌then◌else◌, Bool, true, false, is_none, List, [], ◌∷◌, ◌++◌, codes, length, take, Option, Some, None, unwrap_or}
+use Rattle.std.specs.Prelude.{◌≡◌, ℕ, ◌-◌, ◌==◌, if◌then◌else◌, Bool, true, false, List, [], ◌∷◌, ◌++◌, codes, length, take, Option, Some, None, unwrap_or}
 use Rattle.std.specs.Fmt.{decimal}
 use Rattle.std.specs.List.{join_with_byte, list_all, list_any, position_from, slice_split}
 use Rattle.std.specs.Option.{option_map}

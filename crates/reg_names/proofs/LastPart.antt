@@ -1,14 +1,13 @@
 -- A name stands after the last slash of its path.
-use Rattle.std.proofs.Common.{◌≡◌, ◌+◌, ◌-◌, ◌==◌, ◌&&◌, ◌<◌, ℕ, suc, Bool, true, false, List, [], ◌∷◌, ◌++◌, length, drop, cond, Option, Some, None, refl, sym, ◌∙◌, ap, arith}
+use Rattle.reg_names.proofs.Words.{◌≡◌, ◌-◌, ◌==◌, ◌&&◌, ◌<◌, ℕ, suc, Bool, true, false, List, [], ◌∷◌, ◌++◌, length, drop, cond, Some}
+use Rattle.reg_names.proofs.Words.{refl, sym, ◌∙◌, ap, arith, list_all, drop-append_seam, and_parts, and_from, length-append}
+use Rattle.reg_names.proofs.Words.{list_all-append, bytes_eq-Decides, folder_of, is_name, is_name_byte, lower, path_of}
+use Rattle.std.proofs.Common.{◌+◌, Option, None}
 use Rattle.std.specs.Prelude.{not, nat_lt, nat_le}
-use Rattle.std.specs.List.{list_all, prefix_len}
+use Rattle.std.specs.List.{prefix_len}
 use Rattle.std.specs.Prelude.{reverse}
-use Rattle.std.proofs.Math.Seq.{drop-append_seam}
-use Rattle.std.proofs.lemmas.Bool.{and_parts, and_from}
-use Rattle.std.proofs.lemmas.List.{length-append, length-reverse, reverse-append}
-use Rattle.std.proofs.lemmas.List.Folds.{list_all-append}
-use Rattle.std.proofs.lemmas.Slice.Eq.{bytes_eq-Decides}
-use Rattle.reg_names.specs.Names.{folder_of, is_name, is_name_byte, is_path_of, last_part, lower, name_at, path_of}
+use Rattle.std.proofs.lemmas.List.{length-reverse, reverse-append}
+use Rattle.reg_names.specs.Names.{is_path_of, last_part, name_at}
 use Rattle.reg_names.proofs.NameFacts.{some_bytes}
 
 abbrev is_slash : ℕ → Bool

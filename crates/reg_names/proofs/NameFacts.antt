@@ -1,12 +1,11 @@
 -- What each byte of a name is, and that a name in lower case is a name.
-use Rattle.std.proofs.Common.{◌≡◌, ◌<◌, ◌&&◌, ℕ, zero, suc, true, List, [], ◌∷◌, length, get_or, Some, arith, refl, nat_lt, nat_le}
-use Rattle.std.proofs.lemmas.Bool.{and_parts, and_from}
-use Rattle.std.proofs.lemmas.List.{length-map}
+use Rattle.reg_names.proofs.Words.{◌≡◌, ◌<◌, ◌&&◌, ℕ, suc, true, List, [], ◌∷◌, length, Some, arith, refl, nat_lt, and_parts, and_from}
+use Rattle.reg_names.proofs.Words.{length-map, list_all, IsAscii, to_ascii_lowercase, canon, canon_byte, is_name_byte, is_name, lower}
+use Rattle.reg_names.proofs.Words.{name_of}
+use Rattle.std.proofs.Common.{zero, get_or, nat_le}
 use Rattle.std.proofs.lemmas.Str.{IsUtf8-from_ascii}
-use Rattle.std.specs.List.{list_all}
-use Rattle.std.specs.Str.{IsAscii, IsUtf8}
-use Rattle.std.specs.Char.{is_ascii_alphabetic, to_ascii_lowercase}
-use Rattle.reg_names.specs.Names.{canon, canon_byte, is_name_byte, is_name, lower, name_of}
+use Rattle.std.specs.Str.{IsUtf8}
+use Rattle.std.specs.Char.{is_ascii_alphabetic}
 
 pub name_byte_ascii : (b : ℕ) → is_name_byte b ≡ true → b < 128
 name_byte_ascii b e = grind arith

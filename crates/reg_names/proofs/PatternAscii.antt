@@ -1,8 +1,6 @@
 -- The texts of patterns are ASCII.
-use Rattle.std.proofs.Common.{◌≡◌, ◌==◌, ◌||◌, ℕ, Bool, true, false, List, [], ◌∷◌, length, cond, sym, ap, ◌∙◌, arith}
-use Rattle.std.specs.Str.{IsAscii}
-use Rattle.reg_names.specs.Names.{is_name}
-use Rattle.reg_names.specs.Patterns.{has_star, is_pattern, prefix_of}
+use Rattle.reg_names.proofs.Words.{◌≡◌, ◌==◌, ◌||◌, ℕ, Bool, true, false, List, [], ◌∷◌, length, cond, sym, ap, ◌∙◌, arith, IsAscii}
+use Rattle.reg_names.proofs.Words.{is_name, has_star, is_pattern, prefix_of}
 use Rattle.reg_names.proofs.NameFacts.{name_ascii}
 
 some : (b : ℕ) (t : List ℕ) → (length (b ∷ t) == 0) ≡ false

@@ -1,17 +1,13 @@
 -- The test of a pattern is its meaning.
-use Rattle.std.proofs.Common.{◌≡◌, ◌-◌, ◌==◌, ◌||◌, ℕ, Bool, true, false, List, ◌++◌, length, take, drop, cond, inl, inr, refl, sym, ◌∙◌, ap, subst, arith}
-use Rattle.std.proofs.Math.Seq.{take-append_seam, drop-append_seam}
-use Rattle.std.proofs.lemmas.List.{length-append, length-map, take-append-drop}
-use Rattle.std.proofs.lemmas.List.Folds.{list_all-append}
-use Rattle.std.proofs.lemmas.Slice.Eq.{bytes_eq-Decides, starts_is}
-use Rattle.std.proofs.lemmas.Bool.{and_parts}
-use Rattle.std.proofs.lemmas.Bool.Decides.{Decides-eqb}
-use Rattle.std.specs.Prelude.{nat_eq, codes}
+use Rattle.reg_names.proofs.Words.{◌≡◌, ◌-◌, ◌==◌, ◌||◌, ℕ, Bool, true, false, List, ◌++◌, length, take, drop, cond, inl, inr, refl, sym}
+use Rattle.reg_names.proofs.Words.{◌∙◌, ap, subst, arith, drop-append_seam, length-append, length-map, list_all-append, bytes_eq-Decides}
+use Rattle.reg_names.proofs.Words.{starts_is, and_parts, Decides-eqb, codes, list_all, starts_with, bytes_eq, canon, is_name, is_name_byte}
+use Rattle.reg_names.proofs.Words.{Covers, covers, has_star, is_pattern, prefix_of}
+use Rattle.std.proofs.Math.Seq.{take-append_seam}
+use Rattle.std.proofs.lemmas.List.{take-append-drop}
+use Rattle.std.specs.Prelude.{nat_eq}
 use Rattle.std.specs.Bool.{Decides, IsTrue}
-use Rattle.std.specs.List.{list_all, starts_with, take-map}
-use Rattle.std.specs.Str.{bytes_eq}
-use Rattle.reg_names.specs.Names.{canon, is_name, is_name_byte}
-use Rattle.reg_names.specs.Patterns.{Covers, covers, has_star, is_pattern, prefix_of}
+use Rattle.std.specs.List.{take-map}
 
 pub alike_front : (base name : List ℕ) → bytes_eq (canon base) (canon (take (length base) name)) ≡ starts_with nat_eq (canon name) (canon base)
 alike_front base name = rw (length-map, take-map)

@@ -1,17 +1,11 @@
 -- What is in the range of a pattern.
-use Rattle.std.proofs.Common.{◌≡◌, ◌&&◌, ◌<◌, ◌==◌, ℕ, Bool, true, false, cond, List, [], ◌∷◌, ◌++◌, drop, length, nat_eq, nat_lt, refl, sym, ◌∙◌, ap, subst, arith, append-nil}
-use Rattle.std.proofs.lemmas.Bool.{and_parts, and_from}
-use Rattle.std.proofs.lemmas.Bool.Decides.{Decides-eqb}
-use Rattle.std.proofs.lemmas.List.Folds.{list_all-append}
-use Rattle.std.proofs.lemmas.Slice.Eq.{bytes_eq-Decides, starts_is}
-use Rattle.std.specs.Prelude.{codes}
-use Rattle.std.specs.Char.{to_ascii_lowercase}
-use Rattle.std.specs.List.{list_all, starts_with}
+use Rattle.reg_names.proofs.Words.{◌≡◌, ◌&&◌, ◌<◌, ◌==◌, ℕ, Bool, true, false, cond, List, [], ◌∷◌, ◌++◌, drop, length, nat_lt, refl, sym}
+use Rattle.reg_names.proofs.Words.{◌∙◌, ap, subst, arith, and_parts, and_from, Decides-eqb, list_all-append, bytes_eq-Decides, starts_is}
+use Rattle.reg_names.proofs.Words.{codes, to_ascii_lowercase, list_all, starts_with, bytes_eq, canon, canon_byte, is_name, is_name_byte}
+use Rattle.reg_names.proofs.Words.{Covers, covers, has_star, is_pattern, prefix_of}
+use Rattle.std.proofs.Common.{nat_eq, append-nil}
 use Rattle.std.specs.Ordering.{is_le, is_lt, nat_cmp, ordering_then}
-use Rattle.std.specs.Str.{bytes_eq}
 use Rattle.std.specs.declared.cmp.Ordering.{Ordering}
-use Rattle.reg_names.specs.Names.{canon, canon_byte, is_name, is_name_byte}
-use Rattle.reg_names.specs.Patterns.{Covers, covers, has_star, is_pattern, prefix_of}
 use Rattle.reg_names.specs.Ranges.{Range, byte_order, is_within, range_of, range_to}
 use Rattle.reg_names.proofs.PatternFacts.{covers-Decides}
 

@@ -1,3 +1,4 @@
+pub mod FactLemmas
 pub mod Lists
 pub mod PatternTexts
 pub mod ReportLines

@@ -50,6 +50,43 @@ pub struct OwnerRow<'a> {
     pub login: &'a str,
 }
 
+/// All that the rules ask of a state, about one caller and the crate of one action.
+#[derive(Drop)]
+pub struct Facts<'a> {
+    /// Whether the token is known.
+    pub is_known: bool,
+    /// Whether it is live.
+    pub is_live: bool,
+    /// Whether its account is enabled.
+    pub is_enabled: bool,
+    /// Its endpoints; none if it is unknown.
+    pub endpoints: Endpoints,
+    /// Whether a pattern of it covers the crate.
+    pub is_covered: bool,
+    /// The crate's spelling, if it exists.
+    pub first: Option<&'a CrateName>,
+    /// Whether the token may see the crate.
+    pub is_visible: bool,
+    /// Whether the token's account owns it.
+    pub is_owner: bool,
+    /// Whether its name is reserved.
+    pub is_reserved: bool,
+    /// Whether it has the version that the action names.
+    pub has_version: bool,
+    /// Whether it has a version of the same release.
+    pub has_release: bool,
+    /// Whether it has as many versions as a crate may have.
+    pub is_crate_full: bool,
+    /// Whether there are as many crates as there may be.
+    pub is_registry_full: bool,
+    /// Whether enabled accounts have the logins that the action names.
+    pub are_known: bool,
+    /// Whether owners of the crate have them.
+    pub are_owners: bool,
+    /// Whether they are the logins of all its owners.
+    pub are_all_owners: bool,
+}
+
 /// What a registry holds about one caller and one crate.
 #[derive(Drop)]
 pub struct Rows<'a> {

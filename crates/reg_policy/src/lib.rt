@@ -14,18 +14,21 @@ mod action;
 mod commas;
 mod deciding;
 mod event;
+mod named;
 mod orders;
 mod report_lines;
 mod reserved;
+mod rows;
 mod words;
 mod words_given;
 
-pub use action::{Action, Decision, OwnerRow, Rows, TokenFacts};
+pub use action::{Action, Decision, Facts, OwnerRow, Rows, TokenFacts};
 pub use commas::WithCommas;
-pub use deciding::{crate_of, decide, has_endpoint, is_covered, logins_of, same_text};
+pub use deciding::{first_broken, has_endpoint, same_text};
 pub use event::{
     AdminCommand, AdminReply, Answer, Asked, Event, NewPublication, OwnerEntry, Reading, action_of,
 };
+pub use named::{crate_of, logins_of};
 pub use orders::{needed, rules_in_order};
 pub use reg_model::{AdminRefusal, Endpoint, Endpoints, Rule};
 pub use report_lines::{
@@ -33,5 +36,6 @@ pub use report_lines::{
     word_of,
 };
 pub use reserved::is_reserved_always;
+pub use rows::{decide, is_covered};
 pub use words::{admin_text, rule_status, rule_text};
 pub use words_given::{are_endpoints, endpoints_named, may_name, parse_patterns};

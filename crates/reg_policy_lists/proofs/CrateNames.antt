@@ -1,23 +1,17 @@
 -- Canonical texts put in their places.
-use Rattle.std.proofs.Common.{◌≡◌, ℕ, zero, suc, ◌≤◌, List, [], ◌∷◌, ◌++◌, Bool, true, false, cond, Option, Some, None, length, take, drop, refl, sym, ◌∙◌, ap, arith}
-use Rattle.std.specs.Prelude.{map, slice_get}
-use Rattle.std.specs.Borrow.{Bor}
-use Rattle.std.specs.Str.{bytes_eq}
+use Rattle.reg_policy_lists.proofs.Words.{◌≡◌, ℕ, zero, suc, ◌≤◌, List, [], ◌∷◌, ◌++◌, Bool, true, false, cond, Option, Some, None, length}
+use Rattle.reg_policy_lists.proofs.Words.{take, drop, refl, sym, ◌∙◌, ap, arith, slice_get, Bor, bytes_eq, option_map, is_eq}
+use Rattle.reg_policy_lists.proofs.Words.{nat_list_cmp_total, map-append, Text, holds, text_cmp, text_apart, canon, Publication, canons_in}
+use Rattle.reg_policy_lists.proofs.Words.{place_for, publication_of, put_text}
+use Rattle.std.specs.Prelude.{map}
 use Rattle.std.specs.List.{insert}
-use Rattle.std.specs.Option.{option_map}
-use Rattle.std.specs.Ordering.{is_eq, is_gt}
+use Rattle.std.specs.Ordering.{is_gt}
 use Rattle.std.specs.declared.cmp.Ordering.TheVariants.{Less, Equal, Greater}
-use Rattle.std.specs.Cmp.Lexicographic.{nat_list_cmp_total}
 use Rattle.std.specs.FinMap as finmap
 use Rattle.std.specs.FinMap.Entries as entries
 use Rattle.std.specs.FinMap.Entries.{by_order}
-use Rattle.std.proofs.lemmas.List.{drop-map, map-append, take-map}
-use Rattle.reg_model.specs.Registry.{Text, holds, text_cmp}
+use Rattle.std.proofs.lemmas.List.{drop-map, take-map}
 use Rattle.reg_model.proofs.Canons.{text_agrees}
-use Rattle.reg_model.proofs.Keys.{text_apart}
-use Rattle.reg_names.specs.Names.{canon}
-use Rattle.reg_policy_lists.specs.declared.publications.Publication.{Publication}
-use Rattle.reg_policy_lists.specs.Publications.{canons_in, place_for, publication_of, put_text}
 
 pub place_within : (t : Text) (us : List Text) → place_for t us ≤ length us
 place_within t [] = omega arith

@@ -4,3 +4,4 @@ pub mod Owned
 pub mod PublicationViews
 pub mod SetViews
 pub mod TopVersions
+mod Words

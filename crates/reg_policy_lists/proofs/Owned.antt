@@ -1,8 +1,7 @@
 -- Whether an account is among those that own a crate.
-use Rattle.std.proofs.Common.{◌≡◌, ℕ, zero, suc, ◌+◌, ◌-◌, ◌==◌, List, [], ◌∷◌, Bool, true, false, refl, ◌∙◌, ap, arith}
-use Rattle.std.specs.Prelude.{◌&&◌, ◌||◌, is_some, nat_le, slice_get}
-use Rattle.std.specs.List.{enumerate_from, filter, list_any}
-use Rattle.std.proofs.lemmas.Bool.Decides.{nat_tests}
+use Rattle.reg_policy_lists.proofs.Words.{◌≡◌, ℕ, zero, suc, ◌+◌, ◌-◌, ◌==◌, List, [], ◌∷◌, Bool, true, false, refl, ◌∙◌, ap, arith, ◌&&◌}
+use Rattle.reg_policy_lists.proofs.Words.{◌||◌, slice_get, enumerate_from, filter, list_any, nat_tests}
+use Rattle.std.specs.Prelude.{is_some, nat_le}
 use Rattle.reg_model.specs.Registry.{with_id}
 use Rattle.reg_model.proofs.Lists.{any_filter, any_same}
 

@@ -1,17 +1,9 @@
 -- What is asked of publications is asked of the records that stand for them.
-use Rattle.std.proofs.Common.{◌≡◌, ℕ, ◌+◌, List, [], ◌∷◌, Bool, true, false, cond, Option, Some, length, refl, sym, ◌∙◌, ap}
-use Rattle.std.specs.Prelude.{◌&&◌, map, string_bytes}
-use Rattle.std.specs.List.{filter, find, list_any}
-use Rattle.std.specs.Option.{option_map}
-use Rattle.std.specs.Str.{bytes_eq}
+use Rattle.reg_policy_lists.proofs.Words.{◌≡◌, ℕ, ◌+◌, List, [], ◌∷◌, Bool, true, false, cond, Option, Some, length, refl, sym, ◌∙◌, ap}
+use Rattle.reg_policy_lists.proofs.Words.{◌&&◌, string_bytes, filter, find, list_any, option_map, bytes_eq, nat_list_cmp_total, canon, Text}
+use Rattle.reg_policy_lists.proofs.Words.{mark_cmp, text_cmp, collides, Publication, marked_in, publication_of, versions_in, list_any_map}
+use Rattle.std.specs.Prelude.{map}
 use Rattle.std.specs.FinSet as set
-use Rattle.std.specs.Cmp.Lexicographic.{nat_list_cmp_total}
-use Rattle.reg_names.specs.Names.{canon}
-use Rattle.reg_model.specs.Registry.{Text, mark_cmp, text_cmp}
-use Rattle.reg_model.specs.Crates.{collides}
-use Rattle.reg_policy_lists.specs.declared.publications.Publication.{Publication}
-use Rattle.reg_policy_lists.specs.Publications.{marked_in, publication_of, versions_in}
-use Rattle.reg_model.proofs.Lists.{list_any_map}
 use Rattle.reg_policy_lists.proofs.SetViews.{has_text}
 
 pub map_map : {X Y Z : Type 0} (g : Y → Z) (f : X → Y) (xs : List X) → map g (map f xs) ≡ map (λ x. g (f x)) xs

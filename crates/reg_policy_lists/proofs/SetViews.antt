@@ -1,21 +1,17 @@
 -- A vector of items stands for the set of their keys.
-use Rattle.std.proofs.Common.{◌≡◌, ℕ, List, [], ◌∷◌, ◌++◌, Bool, true, false, refl, sym, ◌∙◌, ap, subst}
-use Rattle.std.specs.Prelude.{◌==◌, not, ◌&&◌, ◌||◌, map}
-use Rattle.std.specs.List.{list_any, filter}
-use Rattle.std.specs.Str.{bytes_eq}
-use Rattle.std.specs.Ordering.{eq_by_cmp, is_eq}
+use Rattle.reg_policy_lists.proofs.Words.{◌≡◌, ℕ, List, [], ◌∷◌, ◌++◌, Bool, true, false, refl, sym, ◌∙◌, ap, subst, ◌&&◌, ◌||◌, list_any}
+use Rattle.reg_policy_lists.proofs.Words.{filter, bytes_eq, is_eq, nat_list_cmp_total, Text, Mark, Owner, mark_cmp, owner_cmp, text_cmp}
+use Rattle.reg_policy_lists.proofs.Words.{mark_total, mark_apart, owner_total, owner_apart, text_apart, list_any_map}
+use Rattle.std.specs.Prelude.{◌==◌, not, map}
+use Rattle.std.specs.Ordering.{eq_by_cmp}
 use Rattle.std.specs.declared.cmp.Ordering.{Ordering}
 use Rattle.std.specs.Cmp.{IsTotalOrder, Equal-is, tied_itself, both_ways, eq_by_cmp_equiv, first_so, second_so}
-use Rattle.std.specs.Cmp.Lexicographic.{nat_list_cmp_total}
 use Rattle.std.specs.FinSet as set
 use Rattle.std.specs.FinSet.{IsAntisymmetric}
 use Rattle.std.proofs.lemmas.Slice.Eq.{bytes_eq-Decides}
 use Rattle.std.proofs.lemmas.Bool.Decides.{Decides-eqb}
 use Rattle.std.proofs.lemmas.Map.Views.{any-filter_same}
-use Rattle.reg_model.specs.Registry.{Text, Mark, Owner, mark_cmp, owner_cmp, text_cmp}
-use Rattle.reg_model.proofs.Keys.{mark_total, mark_apart, owner_total, owner_apart, text_apart}
 use mathlib.Core.List.{map-id}
-use Rattle.reg_model.proofs.Lists.{list_any_map}
 
 any_same : {X : Type 0} (p q : X → Bool) → ((x : X) → p x ≡ q x) → (xs : List X) → list_any p xs ≡ list_any q xs
 any_same p q same [] = refl

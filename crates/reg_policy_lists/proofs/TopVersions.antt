@@ -1,19 +1,13 @@
 -- The highest version of a crate, of its versions as they are read.
-use Rattle.std.proofs.Common.{◌≡◌, ℕ, zero, suc, List, [], ◌∷◌, Option, Some, None, refl, sym, ◌∙◌, ap, subst}
-use Rattle.std.specs.Borrow.{Bor}
-use Rattle.std.specs.Prelude.{map, slice_get, string_bytes}
-use Rattle.std.specs.Option.{option_and_then, option_map}
-use Rattle.std.specs.List.{filter}
-use Rattle.reg_model.specs.Crates.{collides}
+use Rattle.reg_policy_lists.proofs.Words.{◌≡◌, ℕ, zero, suc, List, [], ◌∷◌, Option, Some, None, refl, sym, ◌∙◌, ap, subst, Bor, slice_get}
+use Rattle.reg_policy_lists.proofs.Words.{string_bytes, option_map, filter, collides, canon, parts_of, Text, mark_cmp, publication_of}
+use Rattle.reg_policy_lists.proofs.Words.{top_in, versions_in, Publication}
+use Rattle.std.specs.Prelude.{map}
+use Rattle.std.specs.Option.{option_and_then}
 use Rattle.std.specs.FinSet as finset
-use Rattle.reg_names.specs.Names.{canon}
 use Rattle.reg_versions.specs.Precedence.{IsTop, Marked, top_place}
-use Rattle.reg_versions.specs.Versions.{parts_of}
 use Rattle.reg_versions.proofs.TopPlace.{top_is_top}
 use Rattle.reg_model.specs.Registry as model
-use Rattle.reg_model.specs.Registry.{Text, mark_cmp}
-use Rattle.reg_policy_lists.specs.Publications.{publication_of, top_in, versions_in}
-use Rattle.reg_policy_lists.specs.declared.publications.Publication.{Publication}
 use Rattle.reg_policy_lists.proofs.PublicationViews.{filter_of_map, map_map}
 
 got_map : {X Y : Type 0} (f : X → Y) (k : ℕ) (xs : List X) → slice_get (map f xs) k ≡ option_map f (slice_get xs k)

@@ -1,17 +1,12 @@
 -- What the rules say of a request that they let pass.
-use Rattle.std.proofs.Common.{◌≡◌, List, [], ◌∷◌, Bool, true, false, cond, Option, Some, None, refl}
-use Rattle.std.specs.Prelude.{◌||◌, ◌&&◌, is_some, not}
-use Rattle.std.specs.List.{find, list_any}
-use Rattle.std.specs.Str.{bytes_eq}
-use Rattle.reg_names.specs.Names.{is_name, name_at, name_of, path_of}
-use Rattle.reg_body.specs.declared.limits.Limits.{Limits}
-use Rattle.reg_model.specs.declared.rule.Rule.{Rule}
-use Rattle.reg_model.specs.Registry.{Text, Registry, holds}
-use Rattle.reg_model.specs.Crates.{version, versions, visible}
+use Rattle.reg_policy_plain.proofs.Words.{◌≡◌, List, [], ◌∷◌, Bool, true, false, cond, Option, Some, None, refl, ◌||◌, ◌&&◌, is_some, not}
+use Rattle.reg_policy_plain.proofs.Words.{find, bytes_eq, is_name, Limits, Rule, Text, Registry, holds, versions, lists, spelling, judged}
+use Rattle.std.specs.List.{list_any}
+use Rattle.reg_names.specs.Names.{name_at, name_of, path_of}
+use Rattle.reg_model.specs.Crates.{version, visible}
 use Rattle.reg_model.specs.Actions.{Action}
 use Rattle.reg_model.specs.Actions.Action.{Index, Download, ListOwners, Yank, Unyank, AddOwners, RemoveOwners}
-use Rattle.reg_model.specs.Facts.{Access, Counts, access_facts, counts, lists, spelling}
-use Rattle.reg_model.specs.Refusals.{judged}
+use Rattle.reg_model.specs.Facts.{Access, Counts, access_facts, counts}
 use Rattle.reg_model.specs.Rules.{verdict, broken, order}
 
 -- no rule of the list is broken

@@ -1,32 +1,28 @@
 -- A refusal or an effect makes a step.
-use Rattle.std.proofs.Common.{◌≡◌, ℕ, zero, suc, List, [], ◌∷◌, ◌++◌, Bool, true, false, cond, Option, Some, None, inl, inr, refl, sym, ◌∙◌, ap, subst}
-use Rattle.std.specs.Prelude.{◌&&◌, is_none, is_some, not, nat_le, ◌<◌, ◌⊎◌, OnOk, Result, Ok, Err}
+use Rattle.reg_policy_plain.proofs.Words.{◌≡◌, ℕ, List, [], ◌∷◌, ◌++◌, Bool, true, false, cond, Option, Some, None, inr, refl, sym, ◌∙◌, ap}
+use Rattle.reg_policy_plain.proofs.Words.{◌&&◌, is_none, is_some, not, nat_le, OnOk, Result, Ok, Err, find, option_map, Limits, Rule}
+use Rattle.reg_policy_plain.proofs.Words.{AdminRefusal, canon, is_name, G3, G8, Text, Publication, Registry, id_of_login, exists, Command}
+use Rattle.reg_policy_plain.proofs.Words.{Order, judged, grounds, account_of, replied, Step, AdminReply, reply_of, crate_found, login_found}
+use Rattle.std.proofs.Common.{zero, suc, inl, subst}
+use Rattle.std.specs.Prelude.{◌<◌, ◌⊎◌}
 use Rattle.std.specs.Result.{IsErrAnd}
-use Rattle.std.specs.List.{find, filter_map, cons_option}
-use Rattle.std.specs.Option.{option_map}
+use Rattle.std.specs.List.{filter_map, cons_option}
 use Rattle.std.specs.FinSet as finset
 use Rattle.std.proofs.lemmas.Bool.{lt-leb}
-use Rattle.reg_body.specs.declared.limits.Limits.{Limits}
-use Rattle.reg_model.specs.declared.rule.Rule.{Rule}
 use Rattle.reg_model.specs.declared.rule.Rule.TheVariants as rule
-use Rattle.reg_model.specs.declared.rule.AdminRefusal.{AdminRefusal}
-use Rattle.reg_names.specs.Names.{canon, is_name}
-use Rattle.reg_model.specs.declared.rule.AdminRefusal.TheVariants.{G3, G8}
-use Rattle.reg_model.specs.Registry.{Text, Account, Publication, Registry, owner_cmp, change_at, id_of_login}
-use Rattle.reg_model.specs.Crates.{exists, viewer}
-use Rattle.reg_model.specs.Events.{Asked, Command, Answer, action_of, fault_of}
+use Rattle.reg_model.specs.Registry.{Account, owner_cmp, change_at}
+use Rattle.reg_model.specs.Crates.{viewer}
+use Rattle.reg_model.specs.Events.{Asked, Answer, action_of, fault_of}
 use Rattle.reg_model.specs.Events.Asked.{Faulty, Read, Index, Download, ListOwners, Publish, Yank, Unyank, AddOwners, RemoveOwners}
-use Rattle.reg_model.specs.Events.Event.{Ask, Order}
+use Rattle.reg_model.specs.Events.Event.{Ask}
 use Rattle.reg_model.specs.Events.Answer.{Denied, Refused}
-use Rattle.reg_model.specs.Refusals.{denied, judged, no_crate, no_login, or_else, refused, grounds}
-use Rattle.reg_model.specs.Effects.{account_of, served, done, replied, commanded, enable}
-use Rattle.reg_model.specs.Steps.{Step, unless_denied, unless_refused}
+use Rattle.reg_model.specs.Refusals.{denied, no_crate, no_login, or_else, refused}
+use Rattle.reg_model.specs.Effects.{served, done, commanded, enable}
+use Rattle.reg_model.specs.Steps.{unless_denied, unless_refused}
 use Rattle.reg_policy.specs.declared.action.Decision.TheVariants.{Allowed, Denied as DeniedBy}
-use Rattle.reg_policy.specs.declared.event.AdminReply.{AdminReply}
-use Rattle.reg_policy.specs.declared.event.AdminReply.TheVariants.{Done, Id, Text as Told}
-use Rattle.reg_policy.specs.Events.{decision_alone, reply_of}
+use Rattle.reg_policy.specs.Events.{decision_alone}
 use Rattle.reg_policy.specs.Views.{decision_of}
-use Rattle.reg_policy_plain.specs.Plain.{PlainStep, both_found, crate_found, login_found, or_unknown}
+use Rattle.reg_policy_plain.specs.Plain.{PlainStep, both_found, or_unknown}
 
 -- the ground at this place refuses, and those before it do not
 abbrev pub Refuses : ℕ → AdminRefusal → List (AdminRefusal × Bool) → Type 0
@@ -144,13 +140,6 @@ module _ (limits : Limits) (s t : Registry) (d : Text) (asked : Asked) (a : Answ
 -- a request that no room is left for
 pub no_room_step : (limits : Limits) (s t : Registry) (o : Option Text) (asked : Asked) → t ≡ s → PlainStep limits s (Ask o asked) (Denied rule.S1) t
 no_room_step limits s t o asked same = (Denied rule.S1, inr (refl, same), refl)
-
--- what a command is answered is no decision
-pub order_step : (limits : Limits) (s t : Registry) (c : Command) (r : Result AdminReply AdminRefusal) (a : Answer) → a ≡ reply_of r → Step limits s (Order c) (reply_of r) t → PlainStep limits s (Order c) a t
-order_step limits s t c (Ok Done) a e step = (reply_of (Ok Done), step, e)
-order_step limits s t c (Ok (Id n)) a e step = (reply_of (Ok (Id n)), step, e)
-order_step limits s t c (Ok (Told n)) a e step = (reply_of (Ok (Told n)), step, e)
-order_step limits s t c (Err g) a e step = (reply_of (Err g), step, e)
 
 -- what holds anyway holds where there is room
 pub if_ok : {X E P : Type 0} (r : Result X E) → P → OnOk r P

@@ -2,3 +2,4 @@ pub mod Allowed
 pub mod Joined
 pub mod ReportTexts
 pub mod Searches
+mod Words

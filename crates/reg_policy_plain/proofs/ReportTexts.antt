@@ -1,34 +1,19 @@
 -- The texts of the reports, as they are laid out.
-use Rattle.std.proofs.Common.{◌≡◌, List, [], ◌∷◌, ◌++◌, Bool, true, false, cond, inr, refl, sym, ◌∙◌, ap, append_assoc}
-use Rattle.std.specs.Prelude.{map, length, slice_get, unwrap_or, IfOk, OnOk, Ok, Err, Result, String, string_bytes}
+use Rattle.reg_policy_plain.proofs.Words.{◌≡◌, List, [], ◌∷◌, ◌++◌, Bool, true, false, cond, inr, refl, sym, ◌∙◌, ap, append_assoc}
+use Rattle.reg_policy_plain.proofs.Words.{slice_get, unwrap_or, OnOk, Ok, Err, Result, Limits, AdminRefusal, Command, Order, Report}
+use Rattle.reg_policy_plain.proofs.Words.{grounds, replied, Step, AdminReply, reply_of, enumerate_from, filter, find, flat_map}
+use Rattle.reg_policy_plain.proofs.Words.{option_and_then, option_map, canon, Bor, bytes_eq, top_place, parts_of, canon-canon, Text}
+use Rattle.reg_policy_plain.proofs.Words.{Registry, canons, crate_line, grant_lines, line_at}
+use Rattle.std.specs.Prelude.{map, length, IfOk, String, string_bytes}
 use Rattle.std.specs.declared.alloc.Global.{Global}
-use Rattle.reg_body.specs.declared.limits.Limits.{Limits}
-use Rattle.reg_model.specs.declared.rule.AdminRefusal.{AdminRefusal}
-use Rattle.reg_model.specs.Events.{Command}
-use Rattle.reg_model.specs.Events.Event.{Order}
-use Rattle.reg_model.specs.Events.Answer.{Report}
-use Rattle.reg_model.specs.Refusals.{grounds}
-use Rattle.reg_model.specs.Effects.{commanded, replied}
-use Rattle.reg_model.specs.Steps.{Step}
-use Rattle.reg_policy.specs.declared.event.AdminReply.{AdminReply}
+use Rattle.reg_model.specs.Effects.{commanded}
 use Rattle.reg_policy.specs.declared.event.AdminReply.TheVariants.{Text as Told}
-use Rattle.reg_policy.specs.Events.{reply_of}
 use Rattle.reg_policy_plain.proofs.Joined.{Free, done_step}
-use Rattle.std.specs.List.{enumerate_from, filter, find, flat_map}
-use Rattle.std.specs.Option.{option_and_then, option_map}
-use Rattle.reg_names.specs.Names.{canon}
-use Rattle.std.specs.Borrow.{Bor}
-use Rattle.std.specs.Str.{bytes_eq}
 use Rattle.std.specs.FinSet as finset
-use Rattle.reg_versions.specs.Precedence.{top_place}
-use Rattle.reg_versions.specs.Versions.{parts_of}
 use Rattle.reg_model.specs.Search.{top}
-use Rattle.reg_model.proofs.Canons.{canon-canon}
-use Rattle.reg_model.specs.Registry.{Text, Registry}
-use Rattle.reg_model.specs.Crates.{canons}
 use Rattle.reg_model.specs.Grants.{all_endpoints, grants, is_granted}
-use Rattle.reg_model.specs.Reports.{crate_line, crates_text, grant_line, login_of_token}
-use Rattle.reg_policy_plain.specs.Plain.{grant_lines, line_at, told_of}
+use Rattle.reg_model.specs.Reports.{crates_text, grant_line, login_of_token}
+use Rattle.reg_policy_plain.specs.Plain.{told_of}
 
 flat_map-append : {X Y : Type 0} (f : X → List Y) (xs ys : List X) → flat_map f (xs ++ ys) ≡ flat_map f xs ++ flat_map f ys
 flat_map-append f [] ys = refl

@@ -1,20 +1,12 @@
 -- What is found, by names of the crates in place of their canonical texts.
-use Rattle.std.proofs.Common.{◌≡◌, ℕ, List, [], ◌∷◌, Bool, cond, Option, take, refl, sym, ◌∙◌, ap}
-use Rattle.std.specs.Borrow.{Bor}
-use Rattle.std.specs.Prelude.{◌&&◌, length, map, slice_get, unwrap_or, None}
-use Rattle.std.specs.Str.{bytes_eq}
-use Rattle.std.specs.List.{filter, find}
-use Rattle.std.specs.Option.{option_and_then, option_map}
+use Rattle.reg_policy_plain.proofs.Words.{◌≡◌, ℕ, List, [], ◌∷◌, Bool, cond, Option, take, refl, sym, ◌∙◌, ap, Bor, ◌&&◌, slice_get}
+use Rattle.reg_policy_plain.proofs.Words.{unwrap_or, bytes_eq, filter, find, option_and_then, option_map, length-map, canon, top_place}
+use Rattle.reg_policy_plain.proofs.Words.{parts_of, Text, Registry, canons, sees, hit, occurs, canon-canon}
+use Rattle.std.specs.Prelude.{length, map, None}
 use Rattle.std.specs.FinSet as finset
-use Rattle.std.proofs.lemmas.List.{length-map, take-map}
-use Rattle.reg_names.specs.Names.{canon}
-use Rattle.reg_versions.specs.Precedence.{top_place}
-use Rattle.reg_versions.specs.Versions.{parts_of}
-use Rattle.reg_model.specs.Registry.{Text, Registry}
-use Rattle.reg_model.specs.Crates.{canons, sees}
+use Rattle.std.proofs.lemmas.List.{take-map}
 use Rattle.reg_model.specs.Events.{Hit}
-use Rattle.reg_model.specs.Search.{found, hit, matches, occurs, top}
-use Rattle.reg_model.proofs.Canons.{canon-canon}
+use Rattle.reg_model.specs.Search.{found, matches, top}
 use Rattle.reg_model.proofs.Seen.{sees_alike}
 use Rattle.reg_policy_lists.proofs.PublicationViews.{filter_of_map, map_map}
 

@@ -1,13 +1,10 @@
 -- An account is among those that a set of pairs names.
-use Rattle.std.proofs.Common.{◌≡◌, ◌==◌, ℕ, Bool, true, false, ◌&&◌, List, [], ◌∷◌, inl, refl, sym, ap, subst, ◌∙◌}
-use Rattle.std.specs.Prelude.{is_some}
+use Rattle.reg_search.proofs.Words.{◌≡◌, ◌==◌, ℕ, Bool, true, false, ◌&&◌, List, [], ◌∷◌, inl, refl, sym, ap, subst, ◌∙◌, is_some, filter}
+use Rattle.reg_search.proofs.Words.{list_any, eq-eqb, eqb-true, owner_cmp, any_filter, any_same, IsIn, in_any, in_filter}
 use Rattle.std.specs.FinSet as finset
-use Rattle.std.specs.List.{enumerate_from, filter, list_any}
-use Rattle.std.proofs.lemmas.Bool.{eq-eqb, eqb-true}
-use Rattle.reg_model.specs.Registry.{Account, Text, owner_cmp, with_id}
+use Rattle.std.specs.List.{enumerate_from}
+use Rattle.reg_model.specs.Registry.{Account, Text, with_id}
 use Rattle.reg_model.specs.Crates.{is_among}
-use Rattle.reg_model.proofs.Lists.{any_filter, any_same}
-use Rattle.reg_model.proofs.Members.{IsIn, in_any, in_filter}
 use Rattle.reg_tables_meaning.proofs.Numbered.{one_at}
 use Rattle.reg_tables_meaning.proofs.FoundTokens.{the_some}
 

@@ -1,33 +1,20 @@
 -- What the rows say of one crate of a registry.
-use Rattle.std.proofs.Common.{◌≡◌, ◌==◌, ℕ, pos, Bool, true, ◌&&◌, ◌||◌, not, List, [], ◌∷◌, map, Option, Some, None, refl, sym, ap, subst, ◌∙◌}
-use Rattle.std.specs.Prelude.{nat_eq, slice_get}
+use Rattle.reg_search.proofs.Words.{◌≡◌, ◌==◌, ℕ, pos, Bool, true, ◌&&◌, ◌||◌, not, List, [], ◌∷◌, map, Option, Some, None, refl, sym, ap}
+use Rattle.reg_search.proofs.Words.{subst, ◌∙◌, nat_eq, slice_get, filter, list_any, option_and_then, option_map, on, bytes_eq, and_parts}
+use Rattle.reg_search.proofs.Words.{eq-eqb, eqb-true, Binary, Row, column, Trees, Int, equal, canon, is_name, Marked, top_place, top_is_top}
+use Rattle.reg_search.proofs.Words.{sees, Registry, owner_cmp, canon-canon, any_same, IsIn, each_in, in_any, in_filter, Holds, Ids}
+use Rattle.reg_search.proofs.Words.{StoredCrate, StoredVersion, row_of_version, row_of_summary, top_of, crate_has}
 use Rattle.std.specs.FinSet as finset
-use Rattle.std.specs.List.{filter, list_any}
-use Rattle.std.specs.Option.{option_and_then, option_map}
-use Rattle.std.specs.Ordering.{on}
-use Rattle.std.specs.Str.{bytes_eq}
-use Rattle.std.proofs.lemmas.Bool.{and_parts, eq-eqb, eqb-true}
-use Rattle.sqlite.specs.Collation.TheVariants.{Binary}
-use Rattle.sqlite.specs.Order.{Row, column}
-use Rattle.sqlite.specs.Tree.{Trees}
-use Rattle.sqlite.specs.declared.types.Value.TheVariants.{Int}
-use Rattle.sqlite_schema.specs.Rules.{equal}
-use Rattle.reg_names.specs.Names.{canon, is_name}
-use Rattle.reg_versions.specs.Precedence.{Marked, top_place}
-use Rattle.reg_versions.proofs.TopPlace.{top_is_top}
-use Rattle.reg_model.specs.Crates.{has_crate, sees}
-use Rattle.reg_model.specs.Registry.{Registry, mark_cmp, owner_cmp}
+use Rattle.reg_model.specs.Crates.{has_crate}
+use Rattle.reg_model.specs.Registry.{mark_cmp}
 use Rattle.reg_model.specs.Search.{top}
 use Rattle.reg_model.specs.Steps.{IsGenuine}
-use Rattle.reg_model.proofs.Canons.{canon-canon}
 use Rattle.reg_model.proofs.Seen.{sees_alike}
-use Rattle.reg_model.proofs.Lists.{any_same}
-use Rattle.reg_model.proofs.Members.{IsIn, any_in, all_in, each_in, in_any, in_filter, one_passes}
+use Rattle.reg_model.proofs.Members.{any_in, all_in, one_passes}
 use Rattle.reg_tables_schema.proofs.Permutes.{one_row}
 use Rattle.reg_tables_schema.proofs.Queries.{equals_int, same_filter}
-use Rattle.reg_tables_meaning.specs.Stands.{Holds, Ids, StandPairs, StoredCrate, StoredPair, StoredVersion, columns_of_stored, is_of, is_paired, row_of_version, spelling_at}
-use Rattle.reg_tables_meaning.specs.Summaries.{its_versions, marked_of, row_of_summary, top_among, top_of}
-use Rattle.reg_tables_meaning.proofs.CrateCounts.{crate_has}
+use Rattle.reg_tables_meaning.specs.Stands.{StandPairs, StoredPair, columns_of_stored, is_of, is_paired, spelling_at}
+use Rattle.reg_tables_meaning.specs.Summaries.{its_versions, marked_of, top_among}
 use Rattle.reg_tables_meaning.proofs.CrateLemmas.{apart_by, is_published, spelled_at, text_itself, version_of}
 use Rattle.reg_tables_meaning.proofs.CrateNames.{kept}
 use Rattle.reg_tables_meaning.proofs.Rowids.{any_columns, first_column, second_column}

@@ -1,39 +1,22 @@
 -- The crates that the text answers are those with the needle in their canonical texts that the
 -- account does not see.
-use Rattle.std.proofs.Common.{◌≡◌, ◌==◌, ℕ, pos, Bool, true, false, ◌&&◌, ◌||◌, not, cond, List, [], ◌∷◌, map, refl, sym, ap, ◌∙◌}
+use Rattle.reg_search.proofs.Words.{◌≡◌, ◌==◌, ℕ, pos, Bool, true, false, ◌&&◌, ◌||◌, not, cond, List, [], ◌∷◌, map, refl, sym, ap, ◌∙◌}
+use Rattle.reg_search.proofs.Words.{filter, list_any, IsPermutation, eqb-true, IsPermutation-trans, list_any-IsPermutation, Binary, is_true}
+use Rattle.reg_search.proofs.Words.{Row, column, overlay, IsSureAnswer, inner, Env, eval_all, Trees, Blob, Int, Text, equal, Instr}
+use Rattle.reg_search.proofs.Words.{map-flat_map, canon, Registry, occurs, any_filter, any_same, list_any_map, IsIn, each_in, in_each}
+use Rattle.reg_search.proofs.Words.{and_true, answers, number_columns, Holds, Ids, StoredCrate, row_of_crate, Hides, is_unseen, each_gate}
 use Rattle.std.specs.FinSet as finset
-use Rattle.std.specs.List.{filter, list_any}
-use Rattle.std.specs.List.Sorted.{IsPermutation}
-use Rattle.std.proofs.lemmas.Bool.{eqb-true}
-use Rattle.std.proofs.lemmas.List.Sorted.{IsPermutation-map, IsPermutation-trans, list_any-IsPermutation}
-use Rattle.sqlite.specs.Collation.TheVariants.{Binary}
-use Rattle.sqlite.specs.Ops.{binary, is_true}
-use Rattle.sqlite.specs.Order.{Row, column}
-use Rattle.sqlite.specs.Program.{overlay}
-use Rattle.sqlite.specs.Query.{IsSureAnswer, inner, matches}
-use Rattle.sqlite.specs.Term.{Env, eval_all}
-use Rattle.sqlite.specs.Tree.{Trees}
-use Rattle.sqlite.specs.declared.types.Value.TheVariants.{Blob, Int, Text}
-use Rattle.sqlite_schema.specs.Rules.{equal}
-use Rattle.sqlite_sql.specs.declared.ops.BinaryOp.TheVariants.{Instr}
-use Rattle.sqlite_trees.proofs.ListLemmas.{map-flat_map}
-use Rattle.reg_names.specs.Names.{canon}
-use Rattle.reg_model.specs.Registry.{Registry, Text as Words}
-use Rattle.reg_model.specs.Search.{occurs}
-use Rattle.reg_model.proofs.Lists.{any_filter, any_same, list_any_map}
-use Rattle.reg_model.proofs.Members.{IsIn, each_in, in_each}
-use Rattle.reg_tables_schema.proofs.Queries.{and_true, answers}
-use Rattle.reg_tables_schema.specs.Rows.{number_columns}
+use Rattle.std.proofs.lemmas.List.Sorted.{IsPermutation-map}
+use Rattle.sqlite.specs.Ops.{binary}
+use Rattle.sqlite.specs.Query.{matches}
+use Rattle.reg_model.specs.Registry.{Text as Words}
 use Rattle.reg_tables_schema.specs.Tests.{shows}
-use Rattle.reg_tables_meaning.specs.Stands.{Holds, Ids, StoredCrate, row_of_crate}
-use Rattle.reg_search.specs.Rows.{Hides, is_unseen}
 use Rattle.reg_search.proofs.Among.{and_false}
 use Rattle.reg_search.proofs.CrateFacts.{alone, named, paired_is, same_id, seen_is}
 use Rattle.reg_search.proofs.Instr.{canon_begins, instr_is}
 use Rattle.reg_search.proofs.Joined.{gated, has_needle, is_pair, slots}
 use Rattle.reg_search.proofs.Lists.{any_each, any_gated, any_kept}
 use Rattle.reg_search.proofs.Texts.{counts, hidden_query, of_needle}
-use Rattle.reg_tables_meaning.proofs.Gates.{each_gate}
 
 -- a test that reads one number is asked of that number
 at_number : (p : ℕ → Bool) (m : ℕ) (ns : List ℕ) → list_any (λ n. p n && (n == m)) ns ≡ (p m && list_any (λ n. n == m) ns)

@@ -1,40 +1,24 @@
 -- The text of a hit answers what is shown of the crate.
-use Rattle.std.proofs.Common.{◌≡◌, ◌==◌, ℕ, pos, Bool, true, false, ◌&&◌, cond, List, [], ◌∷◌, ◌++◌, map, Option, Some, None, refl, sym, ap, subst, ◌∙◌}
-use Rattle.std.specs.Prelude.{slice_get, unwrap_or}
+use Rattle.reg_search.proofs.Words.{◌≡◌, ◌==◌, ℕ, pos, Bool, true, false, ◌&&◌, cond, List, [], ◌∷◌, ◌++◌, map, Option, Some, None, refl}
+use Rattle.reg_search.proofs.Words.{sym, ap, subst, ◌∙◌, slice_get, filter, flat_map, IsPermutation, option_and_then, option_map, bytes_eq}
+use Rattle.reg_search.proofs.Words.{IsPermutation-trans, Binary, Row, column, overlay, IsSureAnswer, inner, eval_all, Trees, Int, equal}
+use Rattle.reg_search.proofs.Words.{map-flat_map, canon, top_place, Registry, hit, canon-canon, IsIn, and_true, answers, each_gate, Holds}
+use Rattle.reg_search.proofs.Words.{Ids, StoredCrate, StoredVersion, row_of_crate, row_of_version, row_of_summary, top_of, columns_of_hit}
+use Rattle.reg_search.proofs.Words.{hit_of, Hit}
+use Rattle.std.specs.Prelude.{unwrap_or}
 use Rattle.std.specs.FinSet as finset
-use Rattle.std.specs.List.{filter, flat_map}
-use Rattle.std.specs.List.Sorted.{IsPermutation}
-use Rattle.std.specs.Option.{option_and_then, option_map}
-use Rattle.std.specs.Str.{bytes_eq}
-use Rattle.std.proofs.lemmas.List.Sorted.{IsPermutation-trans}
 use Rattle.sqlite.proofs.Callers.{one_permutation}
-use Rattle.sqlite.specs.Collation.TheVariants.{Binary}
-use Rattle.sqlite.specs.Order.{Row, column}
-use Rattle.sqlite.specs.Program.{overlay}
-use Rattle.sqlite.specs.Query.{IsSureAnswer, inner, matches}
-use Rattle.sqlite.specs.Term.{eval_all}
-use Rattle.sqlite.specs.Tree.{Trees}
-use Rattle.sqlite.specs.declared.types.Value.TheVariants.{Int}
-use Rattle.sqlite_schema.specs.Rules.{equal}
-use Rattle.sqlite_trees.proofs.ListLemmas.{IsPermutation-flat_map, flat_map-map, map-flat_map}
-use Rattle.reg_names.specs.Names.{canon}
-use Rattle.reg_versions.specs.Precedence.{top_place}
+use Rattle.sqlite.specs.Query.{matches}
+use Rattle.sqlite_trees.proofs.ListLemmas.{IsPermutation-flat_map, flat_map-map}
 use Rattle.reg_versions.specs.Versions.{parts_of}
 use Rattle.reg_model.specs.Crates.{first}
 use Rattle.reg_model.specs.Events as model
-use Rattle.reg_model.specs.Registry.{Publication, Registry, Text as Words}
-use Rattle.reg_model.specs.Search.{hit, top}
-use Rattle.reg_model.proofs.Canons.{canon-canon}
-use Rattle.reg_model.proofs.Members.{IsIn}
-use Rattle.reg_tables_schema.proofs.Queries.{and_true, answers}
+use Rattle.reg_model.specs.Registry.{Publication, Text as Words}
+use Rattle.reg_model.specs.Search.{top}
 use Rattle.reg_tables_meaning.proofs.AccountEntries.{heads, tails, text_is, words_are}
 use Rattle.reg_tables_meaning.proofs.CrateNames.{first_spelled}
-use Rattle.reg_tables_meaning.proofs.Gates.{each_gate}
 use Rattle.reg_tables_meaning.proofs.Selected.{same_one}
-use Rattle.reg_tables_meaning.specs.Stands.{Holds, Ids, StoredCrate, StoredVersion, row_of_crate, row_of_version}
-use Rattle.reg_tables_meaning.specs.Summaries.{row_of_summary, top_of}
-use Rattle.reg_search.specs.Rows.{columns_of_hit, columns_of_model, hit_of}
-use Rattle.reg_search.specs.declared.hit.Hit.{Hit}
+use Rattle.reg_search.specs.Rows.{columns_of_model}
 use Rattle.reg_search.proofs.CrateFacts.{alone, highest, highest_row, its_row, same_id, top_is}
 use Rattle.reg_search.proofs.Joined.{joined}
 use Rattle.reg_search.proofs.Texts.{after_crate, hit_query, of_id}

@@ -1,11 +1,10 @@
 -- What is found among rows, from one row to the next.
-use Rattle.std.proofs.Common.{◌≡◌, ◌==◌, ℕ, zero, suc, ◌+◌, ◌<◌, ◌≤◌, Bool, true, false, ◌&&◌, not, cond, List, [], ◌∷◌, ◌++◌, map, length, take, refl, sym, ap, ◌∙◌, arith}
-use Rattle.std.specs.List.{filter, list_any}
-use Rattle.std.proofs.lemmas.List.{length-map, map-append, length-append, append-nil}
-use Rattle.sqlite.specs.Order.{Row}
+use Rattle.reg_search.proofs.Words.{◌≡◌, ◌==◌, ℕ, zero, suc, ◌+◌, ◌<◌, ◌≤◌, Bool, true, false, ◌&&◌, not, cond, List, [], ◌∷◌, ◌++◌, map}
+use Rattle.reg_search.proofs.Words.{length, take, refl, sym, ap, ◌∙◌, arith, filter, list_any, length-map, map-append, Row, AreHits, id_of}
+use Rattle.reg_search.proofs.Words.{is_hit, Hits}
+use Rattle.std.proofs.lemmas.List.{length-append, append-nil}
 use Rattle.reg_model.specs.Registry.{Text as Words}
-use Rattle.reg_search.specs.Rows.{AreHits, id_of, is_hit, is_match}
-use Rattle.reg_search.specs.declared.numbered.Hits.{Hits}
+use Rattle.reg_search.specs.Rows.{is_match}
 
 -- a row behind others passes a test or not
 last_passes : {X : Type 0} (p : X → Bool) (xs : List X) (x : X) → filter p (xs ++ x ∷ []) ≡ filter p xs ++ cond (p x) (x ∷ []) []
@@ -32,10 +31,6 @@ taken_full (suc n) [] x h = absurd (omega (arith, h))
 taken_full (suc n) (y ∷ xs) x h = ap (λ zs. y ∷ zs) (taken_full n xs x (omega (arith, h)))
 
 module _ (needle : Words) (hidden : List ℕ) (row : Row) where
-  -- the needle is not in its text
-  pub no_match : is_match needle row ≡ false → is_hit needle hidden row ≡ false
-  no_match none = ap (λ b. b && not (list_any (λ n. n == id_of row) hidden)) none
-
   -- it is, and the crate is hidden or not
   pub match_seen : (id : ℕ) (b : Bool) → is_match needle row ≡ true → id ≡ id_of row → b ≡ list_any (λ n. n == id) hidden → is_hit needle hidden row ≡ not b
   match_seen id b there same is = (λ i. there i && not (list_any (λ n. n == sym same i) hidden)) ∙ ap not (sym is)

@@ -1,21 +1,19 @@
 -- SQL's instr finds a text where it occurs in another, and in that no character has two bytes.
-use Rattle.std.proofs.Common.{◌≡◌, ℕ, zero, suc, ◌+◌, ◌/◌, ◌<◌, ◌==◌, Bool, true, false, ◌||◌, not, if◌then◌else◌, List, [], ◌∷◌, length, take, refl, sym, ap, ◌∙◌, arith}
+use Rattle.reg_search.proofs.Words.{◌≡◌, ℕ, zero, suc, ◌+◌, ◌<◌, ◌==◌, Bool, true, false, ◌||◌, not, List, [], ◌∷◌, length, take, refl, sym}
+use Rattle.reg_search.proofs.Words.{ap, ◌∙◌, arith, list_all, nat_list_eq_equiv, and_parts, is_true, Blob, Text, Instr, canon, is_name}
+use Rattle.reg_search.proofs.Words.{occurs}
+use Rattle.std.proofs.Common.{◌/◌, if◌then◌else◌}
 use Rattle.std.specs.Prelude.{min, pos, unsigned_abs}
 use Rattle.std.specs.Char.{to_ascii_lowercase}
 use Rattle.std.specs.Ordering.{int_eq}
-use Rattle.std.specs.List.{list_all}
-use Rattle.std.specs.Cmp.Lexicographic.{nat_list_eq_equiv}
-use Rattle.std.proofs.lemmas.Bool.{and_parts, ne_eqb}
+use Rattle.std.proofs.lemmas.Bool.{ne_eqb}
 use Rattle.std.proofs.lemmas.List.Folds.{list_all-map}
 use Rattle.std.proofs.lemmas.Str.Ascii.{lowercase_ascii}
-use Rattle.sqlite.specs.Ops.{binary, is_true}
-use Rattle.sqlite.specs.declared.types.Value.TheVariants.{Blob, Text}
+use Rattle.sqlite.specs.Ops.{binary}
 use Rattle.sqlite_keyed.proofs.KeyedLemmas.{int_eq_apart}
 use Rattle.sqlite_sql.specs.Text.{begins_with, is_continuation, place_from}
-use Rattle.sqlite_sql.specs.declared.ops.BinaryOp.TheVariants.{Instr}
-use Rattle.reg_names.specs.Names.{canon, canon_byte, is_name, is_name_byte}
+use Rattle.reg_names.specs.Names.{canon_byte, is_name_byte}
 use Rattle.reg_names.proofs.NameFacts.{name_byte_ascii}
-use Rattle.reg_model.specs.Search.{occurs}
 use Rattle.reg_model.proofs.Lists.{all_so}
 
 -- the byte begins a character

@@ -1,15 +1,10 @@
 -- What the joins of the texts match, on any rows.
-use Rattle.std.proofs.Common.{◌≡◌, pos, Bool, true, false, ◌&&◌, not, cond, [], ◌∷◌, refl, ap, ◌∙◌, append-nil}
-use Rattle.std.specs.List.{filter, flat_map, list_all, list_any}
-use Rattle.sqlite.specs.Collation.TheVariants.{Binary}
-use Rattle.sqlite.specs.Ops.{binary, is_true, unary}
-use Rattle.sqlite.specs.Order.{Row, column}
-use Rattle.sqlite.specs.Query.{inner, left, counted, end, matches, or_nulls}
-use Rattle.sqlite.specs.Term.{Env, holds}
-use Rattle.sqlite.specs.Tree.{Trees}
-use Rattle.sqlite.specs.declared.types.Value.TheVariants.{Int}
-use Rattle.sqlite_schema.specs.Rules.{equal}
-use Rattle.sqlite_sql.specs.declared.ops.BinaryOp.TheVariants.{Instr}
+use Rattle.reg_search.proofs.Words.{◌≡◌, pos, Bool, true, false, ◌&&◌, not, cond, [], ◌∷◌, refl, ap, ◌∙◌, filter, flat_map, list_all}
+use Rattle.reg_search.proofs.Words.{list_any, Binary, is_true, Row, column, inner, left, counted, end, Env, Trees, Int, equal, Instr}
+use Rattle.std.proofs.Common.{append-nil}
+use Rattle.sqlite.specs.Ops.{binary, unary}
+use Rattle.sqlite.specs.Query.{matches, or_nulls}
+use Rattle.sqlite.specs.Term.{holds}
 use Rattle.reg_tables_meaning.proofs.Gates.{bit, counted_any}
 use Rattle.reg_search.proofs.Texts.{after_crate, counts, of_id, of_needle, on_version, read}
 

@@ -13,3 +13,4 @@ mod Texts
 mod Told
 mod Tops
 mod WalkLaw
+mod Words

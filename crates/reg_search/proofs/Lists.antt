@@ -1,9 +1,7 @@
 -- Lists that are filtered, mapped and cut.
-use Rattle.std.proofs.Common.{◌≡◌, ℕ, zero, suc, Bool, true, false, ◌&&◌, ◌||◌, cond, List, [], ◌∷◌, take, refl, sym, ap, ◌∙◌}
-use Rattle.std.specs.List.{AllByRecursion, filter, flat_map, list_any}
+use Rattle.reg_search.proofs.Words.{◌≡◌, ℕ, zero, suc, Bool, true, false, ◌&&◌, ◌||◌, cond, List, [], ◌∷◌, take, refl, sym, ap, ◌∙◌}
+use Rattle.reg_search.proofs.Words.{AllByRecursion, filter, flat_map, list_any, any_same, and_true}
 use Rattle.std.proofs.lemmas.List.Folds.{list_any-append}
-use Rattle.reg_model.proofs.Lists.{any_same}
-use Rattle.reg_tables_schema.proofs.Queries.{and_true}
 use Rattle.reg_search.proofs.Among.{and_false, none_any}
 
 pub any_gated : {X : Type 0} (b : Bool) (q : X → Bool) (xs : List X) → list_any (λ x. b && q x) xs ≡ (b && list_any q xs)

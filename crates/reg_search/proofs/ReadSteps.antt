@@ -1,15 +1,12 @@
 -- What reads leave of a connection, one after another.
-use Rattle.std.proofs.Common.{◌≡◌, ◌⊎◌, inl, inr, arith, IsErr, IsTrue, Ok, Err, Result, OnErr, OnOk, refl, sym, subst}
-use Rattle.sqlite_trees.specs.declared.store.Store.{Ghosts}
-use Rattle.sqlite.specs.Held.{Held, state}
-use Rattle.sqlite.specs.State.{HasCleanDisk, IsUnchanged}
-use Rattle.sqlite.specs.Tree.{Trees}
+use Rattle.reg_search.proofs.Words.{◌≡◌, ◌⊎◌, inl, inr, arith, Ok, Err, Result, refl, sym, subst, Ghosts, Held, state, HasCleanDisk, Trees}
+use Rattle.reg_search.proofs.Words.{rows_in, IsRead}
+use Rattle.std.proofs.Common.{IsErr, IsTrue, OnErr, OnOk}
+use Rattle.sqlite.specs.State.{IsUnchanged}
 use Rattle.sqlite.proofs.Callers.{unchanged_then}
 use Rattle.sqlite.proofs.StateLemmas.{survives_then}
 use Rattle.reg_tables_schema.specs.States.{Refuses}
-use Rattle.reg_tables_schema.specs.Statements.{rows_in}
 use Rattle.reg_tables_schema.proofs.Writing.{refuses_after}
-use Rattle.reg_tables_meaning.specs.Walks.{IsRead}
 
 module _ {S : Type 0} (g : Ghosts S) where
   -- nothing is read

@@ -1,21 +1,17 @@
 -- What the texts of a search are queries of.
-use Rattle.std.proofs.Common.{ℕ, List, [], ◌∷◌, codes, refl}
-use Rattle.sqlite.specs.Collation.TheVariants.{Binary}
+use Rattle.reg_search.proofs.Words.{ℕ, List, [], ◌∷◌, refl, Binary, Query, inner, left, counted, end, Instr, ours, IsSelection, HIDDEN_TEXT}
+use Rattle.reg_search.proofs.Words.{HIT_TEXT, WALK_TEXT}
+use Rattle.std.proofs.Common.{codes}
 use Rattle.sqlite.specs.Listing.{understood}
-use Rattle.sqlite.specs.Query.{Join, Query, inner, left, counted, end}
+use Rattle.sqlite.specs.Query.{Join}
 use Rattle.sqlite.specs.Term.{Term, col, op1, op2}
-use Rattle.sqlite_sql.specs.declared.ops.BinaryOp.TheVariants.{Compare, Instr}
+use Rattle.sqlite_sql.specs.declared.ops.BinaryOp.TheVariants.{Compare}
 use Rattle.sqlite_sql.specs.declared.ops.UnaryOp.TheVariants.{Not}
 use Rattle.sqlite_sql.specs.declared.ops.CompareOp.TheVariants.{Eq}
 use Rattle.sqlite_tied.specs.Compute.{everything}
 use Rattle.sqlite_value.specs.Keys.{ascending}
-use Rattle.reg_tables_schema.specs.Schema.{ours}
 use Rattle.reg_tables_schema.proofs.Queries.{plain}
-use Rattle.reg_tables_schema.proofs.Reading.{IsSelection}
 use Rattle.reg_tables_schema.proofs.Sorted.{in_order}
-
-abbrev pub walk_text : List ℕ
-walk_text = codes "SELECT canon, id FROM crates ORDER BY canon"
 
 abbrev pub walk_query : Query
 walk_query = in_order (inner 7 end) [] (col 1 2 ∷ col 1 0 ∷ []) ((col 1 2, ascending Binary) ∷ [])
@@ -23,12 +19,9 @@ walk_query = in_order (inner 7 end) [] (col 1 2 ∷ col 1 0 ∷ []) ((col 1 2, a
 abbrev pub walk_names : List (List ℕ)
 walk_names = codes "canon" ∷ codes "id" ∷ []
 
-pub walk_is : IsSelection ours walk_text walk_query walk_names
+pub walk_is : IsSelection ours WALK_TEXT.now walk_query walk_names
 unfolding understood everything
 walk_is = record { command = refl; unlisted = refl; plain = (refl, refl) }
-
-abbrev pub hidden_text : List ℕ
-hidden_text = codes "SELECT r.crate FROM restricted r JOIN crates c ON c.id = r.crate WHERE instr(c.canon, ?2) AND NOT EXISTS (SELECT 1 FROM owners o WHERE o.crate = r.crate AND o.account = ?1) AND NOT EXISTS (SELECT 1 FROM readers d WHERE d.crate = r.crate AND d.account = ?1)"
 
 abbrev eq : Term → Term → Term
 eq a b = op2 (Compare Eq Binary) a b
@@ -56,12 +49,9 @@ hidden_query = plain (inner 17 (inner 7 counts)) of_needle (col 1 0 ∷ [])
 abbrev pub hidden_names : List (List ℕ)
 hidden_names = codes "crate" ∷ []
 
-pub hidden_is : IsSelection ours hidden_text hidden_query hidden_names
+pub hidden_is : IsSelection ours HIDDEN_TEXT.now hidden_query hidden_names
 unfolding understood everything
 hidden_is = record { command = refl; unlisted = refl; plain = (refl, refl) }
-
-abbrev pub hit_text : List ℕ
-hit_text = codes "SELECT c.name, v.vers, v.description FROM crates c LEFT JOIN summaries s ON s.crate = c.id LEFT JOIN versions v ON v.id = s.highest WHERE c.id = ?1"
 
 abbrev pub on_summary : List Term
 on_summary = eq (col 2 0) (col 1 0) ∷ []
@@ -81,6 +71,6 @@ hit_query = plain (inner 7 after_crate) of_id (col 1 3 ∷ col 3 3 ∷ col 3 7 �
 abbrev pub hit_names : List (List ℕ)
 hit_names = codes "name" ∷ codes "vers" ∷ codes "description" ∷ []
 
-pub hit_is : IsSelection ours hit_text hit_query hit_names
+pub hit_is : IsSelection ours HIT_TEXT.now hit_query hit_names
 unfolding understood everything
 hit_is = record { command = refl; unlisted = refl; plain = (refl, refl) }

@@ -1,39 +1,24 @@
 -- What is read of our tables, of the registry that the rows stand for.
-use Rattle.std.proofs.Common.{◌≡◌, ℕ, pos, List, [], ◌∷◌, ◌++◌, map, length, take, get_or, ◌+◌, ◌<◌, Err, IfOk, Ok, Result, arith, refl, sym, ap, subst, ◌∙◌}
+use Rattle.reg_search.proofs.Words.{◌≡◌, ℕ, pos, List, [], ◌∷◌, ◌++◌, map, length, take, get_or, ◌+◌, ◌<◌, Err, Ok, Result, arith, refl}
+use Rattle.reg_search.proofs.Words.{sym, ap, subst, ◌∙◌, AllByRecursion, IsPermutation, Held, state, Row, overlay, IsSureAnswer, Query}
+use Rattle.reg_search.proofs.Words.{HasCleanDisk, Blob, Int, Ghosts, canon, Registry, hit, Trees, number_columns, ours, rows_in, Second}
+use Rattle.reg_search.proofs.Words.{maps_twice, IsSelection, Ids, StoredCrate, IsRead, HIDDEN_TEXT, HIT_TEXT, WALK_TEXT, AreHits, AreIdsOf}
+use Rattle.reg_search.proofs.Words.{FindsIds, ShowsCrate, ShowsCrates, columns_of_hit, hit_of, Hit, Hits}
+use Rattle.std.proofs.Common.{IfOk}
 use Rattle.std.specs.Prelude.{option_to_list}
 use Rattle.std.specs.Result.{result_ok}
-use Rattle.std.specs.List.{AllByRecursion}
-use Rattle.std.specs.List.Sorted.{IsPermutation}
 use Rattle.std.proofs.lemmas.List.{take_more}
-use Rattle.sqlite.specs.Held.{Held, state}
-use Rattle.sqlite.specs.Order.{Row}
-use Rattle.sqlite.specs.Program.{overlay}
-use Rattle.sqlite.specs.Query.{IsSureAnswer, Query}
-use Rattle.sqlite.specs.State.{HasCleanDisk}
-use Rattle.sqlite.specs.declared.types.Value.TheVariants.{Blob, Int}
-use Rattle.sqlite_trees.specs.declared.store.Store.{Ghosts}
-use Rattle.reg_names.specs.Names.{canon}
 use Rattle.reg_model.specs.Lists.{IsIn}
-use Rattle.reg_model.specs.Registry.{Registry, Text as Words}
-use Rattle.reg_model.specs.Search.{found, hit}
-use Rattle.sqlite.specs.Tree.{Trees}
-use Rattle.reg_tables_schema.specs.Rows.{number_columns}
-use Rattle.reg_tables_schema.specs.Schema.{ours}
+use Rattle.reg_model.specs.Registry.{Text as Words}
+use Rattle.reg_model.specs.Search.{found}
 use Rattle.reg_tables_schema.specs.States.{IsOurs}
-use Rattle.reg_tables_schema.specs.Statements.{rows_in}
-use Rattle.reg_tables_schema.specs.declared.edition.Edition.TheVariants.{Second}
-use Rattle.reg_tables_schema.proofs.Queries.{maps_twice}
-use Rattle.reg_tables_schema.proofs.Reading.{IsSelection, selected_by}
-use Rattle.reg_tables_meaning.specs.Stands.{Ids, StoredCrate}
-use Rattle.reg_tables_meaning.specs.Walks.{IsRead}
+use Rattle.reg_tables_schema.proofs.Reading.{selected_by}
 use Rattle.reg_search.specs.Reads.{AnswersOf}
-use Rattle.reg_search.specs.Rows.{AreHits, AreIdsOf, FindsIds, FindsNeedle, HidesFrom, ShowsCrate, ShowsCrates, columns_of_hit, hit_of}
+use Rattle.reg_search.specs.Rows.{FindsNeedle, HidesFrom}
 use Rattle.reg_search.specs.declared.hit.Found.{Found}
-use Rattle.reg_search.specs.declared.hit.Hit.{Hit}
-use Rattle.reg_search.specs.declared.numbered.Hits.{Hits}
 use Rattle.reg_search.proofs.HiddenLaw.{hides}
 use Rattle.reg_search.proofs.HitLaw.{its_hit}
-use Rattle.reg_search.proofs.Texts.{hidden_is, hidden_text, hit_is, hit_text, walk_is, walk_text}
+use Rattle.reg_search.proofs.Texts.{hidden_is, hit_is, walk_is}
 use Rattle.reg_search.proofs.WalkLaw.{first, total, walked}
 
 module _ {S T E : Type 0} (g : Ghosts S) (old new : Held S) (x : T) (at : IsOurs Second (state g old)) (reads : IsRead {E = E} g (Ok x) old new) (clean : HasCleanDisk (state g new)) where
@@ -43,17 +28,17 @@ module _ {S T E : Type 0} (g : Ghosts S) (old new : Held S) (x : T) (at : IsOurs
       let schema = ap (λ d. d.schema) (h.1 ∙ rests.settled) ∙ rests.committed_is in
       subst (λ d. IsSureAnswer q (overlay d.trees []) params rows) h.1 (selected_by is params (state g h.0) (state g new) rows schema h.2)
 
-  pub hidden_told : (viewer : ℕ) (needle : Words) (read list : List ℕ) → IsPermutation read list → (text : List ℕ) → AnswersOf g old new text (Int (pos viewer) ∷ Blob needle ∷ []) (map number_columns read) → text ≡ hidden_text → HidesFrom viewer needle (rows_in g old) list
+  pub hidden_told : (viewer : ℕ) (needle : Words) (read list : List ℕ) → IsPermutation read list → (text : List ℕ) → AnswersOf g old new text (Int (pos viewer) ∷ Blob needle ∷ []) (map number_columns read) → text ≡ HIDDEN_TEXT.now → HidesFrom viewer needle (rows_in g old) list
   hidden_told viewer needle read list turned text h is ids s holds = hides ids s (rows_in g old) holds viewer needle list read turned (answered hidden_is (Int (pos viewer) ∷ Blob needle ∷ []) (map number_columns read) (rw is at h))
 
-  hit_told : (id : ℕ) (front : List Hit) (it : Hit) → AnswersOf g old new hit_text (Int (pos id) ∷ []) (map columns_of_hit (front ++ it ∷ [])) → ShowsCrate id (rows_in g old) it
+  hit_told : (id : ℕ) (front : List Hit) (it : Hit) → AnswersOf g old new HIT_TEXT.now (Int (pos id) ∷ []) (map columns_of_hit (front ++ it ∷ [])) → ShowsCrate id (rows_in g old) it
   hit_told id front it h ids s holds = its_hit ids s (rows_in g old) holds id front it (answered hit_is (Int (pos id) ∷ []) (map columns_of_hit (front ++ it ∷ [])) h)
 
-  pub hit_popped : {F : Type 0} (id : ℕ) (list front : List Hit) (r : Result Hit F) → list ≡ front ++ option_to_list (result_ok r) → (text : List ℕ) → AnswersOf g old new text (Int (pos id) ∷ []) (map columns_of_hit list) → text ≡ hit_text → IfOk r (ShowsCrate id (rows_in g old))
+  pub hit_popped : {F : Type 0} (id : ℕ) (list front : List Hit) (r : Result Hit F) → list ≡ front ++ option_to_list (result_ok r) → (text : List ℕ) → AnswersOf g old new text (Int (pos id) ∷ []) (map columns_of_hit list) → text ≡ HIT_TEXT.now → IfOk r (ShowsCrate id (rows_in g old))
   hit_popped id list front (Ok it) is text h same = hit_told id front it (rw (is, same) at h)
   hit_popped id list front (Err e) is text h same = tt
 
-  pub walk_told : (needle : Words) (hidden : List ℕ) (most : ℕ) (rows : List Row) (hits : Hits) → AreHits needle hidden most rows hits → AnswersOf g old new walk_text [] rows → FindsIds needle hidden most (rows_in g old) hits
+  pub walk_told : (needle : Words) (hidden : List ℕ) (most : ℕ) (rows : List Row) (hits : Hits) → AreHits needle hidden most rows hits → AnswersOf g old new WALK_TEXT.now [] rows → FindsIds needle hidden most (rows_in g old) hits
   walk_told needle hidden most rows hits are h ids s holds viewer q is hides =
       let all = walked ids s (rows_in g old) holds rows (answered walk_is [] rows h) in
       let found = rw is at are in

@@ -1,39 +1,28 @@
 -- The walk answers each crate once, in the order of the canonical texts, and its hits are the matches.
-use Rattle.std.proofs.Common.{◌≡◌, ◌==◌, ℕ, Bool, true, false, ◌&&◌, not, List, [], ◌∷◌, map, length, take, Some, refl, sym, ap, subst, ◌∙◌}
-use Rattle.std.specs.List.{AllByRecursion, filter, list_any}
-use Rattle.std.specs.List.Sorted.{IsPermutation}
-use Rattle.std.specs.Ordering.{eq_by_cmp, is_gt, on}
-use Rattle.std.specs.Str.{bytes_eq}
-use Rattle.std.specs.Cmp.Lexicographic.{nat_list_eq_equiv}
-use Rattle.std.proofs.lemmas.List.{length-map, take-map}
-use Rattle.std.proofs.lemmas.List.Sorted.{IsPermutation-sym, IsPermutation-trans, list_any-IsPermutation}
+use Rattle.reg_search.proofs.Words.{◌≡◌, ◌==◌, ℕ, Bool, true, false, ◌&&◌, not, List, [], ◌∷◌, map, length, take, Some, refl, sym, ap}
+use Rattle.reg_search.proofs.Words.{subst, ◌∙◌, AllByRecursion, filter, list_any, IsPermutation, on, bytes_eq, nat_list_eq_equiv}
+use Rattle.reg_search.proofs.Words.{length-map, IsPermutation-trans, list_any-IsPermutation, Row, overlay, IsSureAnswer, eval_all, Trees}
+use Rattle.reg_search.proofs.Words.{canon, sees, Registry, occurs, any_same, list_any_map, IsIn, each_in, in_each, maps_twice, crate_has}
+use Rattle.reg_search.proofs.Words.{Holds, Ids, StoredCrate, row_of_crate, AreHits, AreIdsOf, Hides, id_of, is_hit, is_unseen, Hits}
+use Rattle.std.specs.Ordering.{eq_by_cmp, is_gt}
+use Rattle.std.proofs.lemmas.List.{take-map}
+use Rattle.std.proofs.lemmas.List.Sorted.{IsPermutation-sym}
 use Rattle.std.proofs.lemmas.Map.Keys.{IsDistinct-IsPermutation}
-use Rattle.sqlite.specs.Order.{Row}
-use Rattle.sqlite.specs.Program.{overlay}
-use Rattle.sqlite.specs.Query.{IsSureAnswer}
-use Rattle.sqlite.specs.Term.{eval_all}
-use Rattle.sqlite.specs.Tree.{Trees}
 use Rattle.sqlite_exec.proofs.PartitionLemmas.{ascending_from_sorted}
 use Rattle.sqlite_trees.specs.Tree.{IsAscending}
 use Rattle.sqlite_trees.proofs.ListLemmas.{ascending_from_map, pull_back}
-use Rattle.reg_names.specs.Names.{canon}
-use Rattle.reg_model.specs.Crates.{canons, sees}
-use Rattle.reg_model.specs.Registry.{Registry, Text as Words, text_cmp}
-use Rattle.reg_model.specs.Search.{matches, occurs}
+use Rattle.reg_model.specs.Crates.{canons}
+use Rattle.reg_model.specs.Registry.{Text as Words, text_cmp}
+use Rattle.reg_model.specs.Search.{matches}
 use Rattle.reg_model.proofs.Canons.{filter_in, key_there, text_agrees}
-use Rattle.reg_model.proofs.Lists.{any_same, list_any_map}
-use Rattle.reg_model.proofs.Members.{IsIn, each_in, in_each, in_permuted}
+use Rattle.reg_model.proofs.Members.{in_permuted}
 use Rattle.reg_tables_schema.proofs.Ordered.{all_ordered}
 use Rattle.reg_tables_schema.proofs.Permutes.{filter_map}
-use Rattle.reg_tables_schema.proofs.Queries.{maps_twice}
 use Rattle.reg_tables_schema.proofs.Sorted.{then_equal}
 use Rattle.reg_tables_schema.specs.Rows.{IsInOrder, by_column}
 use Rattle.reg_tables_meaning.proofs.AllCrates.{canons_rise}
-use Rattle.reg_tables_meaning.proofs.CrateCounts.{crate_has}
 use Rattle.reg_tables_meaning.proofs.Selected.{column_total}
-use Rattle.reg_tables_meaning.specs.Stands.{Holds, Ids, StoredCrate, row_of_crate}
-use Rattle.reg_search.specs.Rows.{AreHits, AreIdsOf, Hides, id_of, is_hit, is_unseen, row_of}
-use Rattle.reg_search.specs.declared.numbered.Hits.{Hits}
+use Rattle.reg_search.specs.Rows.{row_of}
 use Rattle.reg_search.proofs.Lists.{each_passes, each_taken}
 use Rattle.reg_model.proofs.CanonLists.{all_canons}
 use Rattle.reg_search.proofs.Texts.{walk_query}

@@ -1,9 +1,8 @@
 -- Faults of opening and of making that are not the same.
-use Rattle.std.proofs.Common.{◌≡◌, ◌∙◌, ℕ, Bool, true, false, eqb, not, refl, sym, ap}
-use Rattle.std.proofs.lemmas.Bool.{false≢true}
+use Rattle.reg_service.proofs.Words.{◌≡◌, ◌∙◌, ℕ, Bool, true, false, refl, sym, ap, false≢true, OpenFault, BadBase, Damaged, Storage}
+use Rattle.reg_service.proofs.Words.{UnknownSchema}
+use Rattle.std.proofs.Common.{eqb, not}
 use Rattle.reg_tables_schema.specs.declared.make.MakeFault.TheVariants as making
-use Rattle.reg_service.specs.declared.opening.OpenFault.{OpenFault}
-use Rattle.reg_service.specs.declared.opening.OpenFault.TheVariants.{BadBase, Damaged, Storage, UnknownSchema}
 
 abbrev kind : OpenFault → ℕ
 kind BadBase = 0

@@ -1,27 +1,17 @@
 -- What the ends of a transaction make of an event.
-use Rattle.std.proofs.Common.{◌≡◌, ◌⊎◌, inl, inr, false, refl, sym, ap, subst, ◌∙◌, arith, IsTrue}
-use Rattle.std.proofs.lemmas.Bool.{false≢true}
-use Rattle.sqlite.specs.Tree.{Trees}
-use Rattle.sqlite.specs.Effect.{Database}
-use Rattle.sqlite_trees.specs.declared.store.Store.{Ghosts}
-use Rattle.sqlite.specs.Held.{Held, state}
-use Rattle.sqlite.specs.State.{State, HasCleanDisk, IsUnchanged, Survives}
-use Rattle.reg_body.specs.declared.limits.Limits.{Limits}
-use Rattle.reg_model.specs.Registry.{Registry}
-use Rattle.reg_model.specs.Events.{Event, Answer}
-use Rattle.reg_model.specs.Steps.{IsFit, Step, no_room, outcome}
-use Rattle.reg_model.specs.Laws.{StepsKeepSound}
-use Rattle.reg_tables_schema.specs.States.{IsUndone, LeavesCommit, Refuses}
-use Rattle.reg_tables_meaning.specs.Stands.{Stands}
-use Rattle.reg_tables.specs.Ends.{Begins, IsCommitted, IsDropped, IsRefused, SeesAll}
-use Rattle.reg_tables.specs.Looks.{Looks}
-use Rattle.reg_tables.specs.Works.{AreOurs, IsLeft, has_failed, is_shut, held, rows_seen, seen, shown}
-use Rattle.reg_tables.specs.declared.tables.Tables.{Tables}
-use Rattle.reg_tables.specs.declared.work.Work.{Work}
-use Rattle.reg_service.specs.Answered.{Answers, Are, LeavesAlone, Shows, Stays}
+use Rattle.reg_service.proofs.Words.{◌≡◌, ◌⊎◌, inl, inr, false, refl, sym, ap, subst, ◌∙◌, arith, IsTrue, false≢true, Trees, Database}
+use Rattle.reg_service.proofs.Words.{Ghosts, Held, state, State, HasCleanDisk, Survives, Limits, Registry, Event, Answer, IsFit, Step}
+use Rattle.reg_service.proofs.Words.{no_room, outcome, StepsKeepSound, IsUndone, LeavesCommit, Refuses, Stands, Begins, IsCommitted}
+use Rattle.reg_service.proofs.Words.{IsDropped, IsRefused, SeesAll, Looks, AreOurs, IsLeft, has_failed, is_shut, held, rows_seen, seen}
+use Rattle.reg_service.proofs.Words.{shown, Tables, Work, Answers, Are, LeavesAlone, Shows, Stays}
+use Rattle.sqlite.specs.State.{IsUnchanged}
 
 held_unchanged : (s : Registry) (old new : State) → Shows s old → IsUnchanged old new → Shows s new
 held_unchanged s old new held same up = subst (λ (d : Database). Are s d.trees) (sym same.0.now_is) (held same.0.was_open)
+
+-- all is as it was
+pub stayed : {S : Type 0} (g : Ghosts S) (limits : Limits) (s : Registry) (e : Event) (a : Answer) (old new : Tables S) → is_shut old ≡ false → Step limits s e a s → Stays g s old new → Answers g limits s e a old new
+stayed g limits s e a old new goes_on step stays = record { after = s; step = step; shows = stays.shows; kept = inr stays.alone; left = λ db l. inl (stays.left db l); shut = λ was. absurd (false≢true (sym goes_on ∙ was)) }
 
 module _ {S : Type 0} (g : Ghosts S) (limits : Limits) (s : Registry) (e : Event) (a : Answer) (old new : Tables S) (ours : AreOurs g old) (h : Shows s (shown g old)) (clean : HasCleanDisk (shown g new)) where
   -- what was held is held where the state is the one that was committed
@@ -45,10 +35,6 @@ module _ {S : Type 0} (g : Ghosts S) (limits : Limits) (s : Registry) (e : Event
     left = λ db l. elim (left.survives.crash clean db l) [ inl was ↦ inl was | inr none ↦ absurd none ];
     shut = λ was. (room, left.shut ∙ was);
   }
-
-  -- all is as it was
-  pub stayed : is_shut old ≡ false → Step limits s e a s → Stays g s old new → Answers g limits s e a old new
-  stayed goes_on step stays = record { after = s; step = step; shows = stays.shows; kept = inr stays.alone; left = λ db l. inl (stays.left db l); shut = λ was. absurd (false≢true (sym goes_on ∙ was)) }
 
   -- the tables were only looked at, after all stayed as it was
   pub left_on : (was : Tables S) → Stays g s was old → IsLeft g old new → Stays g s was new
@@ -77,6 +63,12 @@ module _ {S : Type 0} (g : Ghosts S) (limits : Limits) (s : Registry) (e : Event
 
     shows_undone : IsUndone (seen g done) (shown g new) → Shows s (shown g new)
     shows_undone back = held_again first (λ _. (b.view early).was_open) (λ up. (back.undone up).0 ∙ (looks.kept mid).committed (back.was_open up) ∙ (b.view early).committed_is)
+
+    -- what is shown is what it saw
+    pub shows_begun : IsUndone (seen g done) (shown g new) → IsTrue (shown g new).is_open → (shown g new).now ≡ (seen g begun).now
+    shows_begun back up =
+        let view = b.view early in
+        (back.undone up).0 ∙ (looks.kept mid).committed (back.was_open up) ∙ view.committed_is ∙ sym (view.now_is ∙ (ours first view.was_open).settled)
 
     pub committed : StepsKeepSound → IsFit e → (Are s (rows_seen g begun) → (a ≡ (outcome limits s e).0) × Stands (outcome limits s e).1 (rows_seen g done)) → IsCommitted g done new → Answers g limits s e a old new
     committed law fit has end =
@@ -119,7 +111,7 @@ module _ {S : Type 0} (g : Ghosts S) (limits : Limits) (s : Registry) (e : Event
         }
 
     pub dropped : (Are s (rows_seen g begun) → Step limits s e a s) → IsDropped g done new → (IsTrue (shown g old).is_open → LeavesCommit (shown g old)) → Answers g limits s e a old new
-    dropped refuses end alone = stayed b.was_open (refuses sees) (dropped_so end alone)
+    dropped refuses end alone = stayed g limits s e a old new b.was_open (refuses sees) (dropped_so end alone)
 
 -- nothing was called
 pub untouched : {S : Type 0} (g : Ghosts S) (limits : Limits) (s : Registry) (e : Event) (a : Answer) (t : Tables S) → Shows s (shown g t) → a ≡ no_room e → Answers g limits s e a t t

@@ -1,36 +1,24 @@
 -- One more event behind a run.
-use Rattle.std.proofs.Common.{◌≡◌, ◌++◌, ◌+◌, ◌<◌, ◌⊎◌, ℕ, Bool, true, suc, arith, get_or, inl, inr, length, List, [], ◌∷◌, take, refl, sym, ap, subst, ◌∙◌}
+use Rattle.reg_service.proofs.Words.{◌≡◌, ◌++◌, ◌+◌, ◌<◌, ◌⊎◌, ℕ, Bool, true, arith, get_or, inl, inr, length, List, [], ◌∷◌, take, refl}
+use Rattle.reg_service.proofs.Words.{sym, ap, subst, ◌∙◌, Trees, Ghosts, Limits, Answer, Event, Registry, IsFit, no_room, outcome, Stands}
+use Rattle.reg_service.proofs.Words.{Tables, is_shut, shown, false≢true, HasCleanDisk, Order, AdminRefusal, command_of, reply_of, Reply}
+use Rattle.reg_service.proofs.Words.{Denied, request_of, Answers, LeavesAlone, Shows, HasAnswered}
+use Rattle.std.proofs.Common.{suc}
 use Rattle.std.proofs.Math.Seq.{take-suc}
 use Rattle.std.proofs.lemmas.List.{append-nil, append_assoc}
 use Rattle.std.proofs.lemmas.List.Elements.{All-from_recursion}
 use Rattle.std.specs.List.{AllByRecursion}
-use Rattle.sqlite.specs.Tree.{Trees}
-use Rattle.sqlite_trees.specs.declared.store.Store.{Ghosts}
-use Rattle.reg_body.specs.declared.limits.Limits.{Limits}
-use Rattle.reg_model.specs.Events.{Answer, Event}
 use Rattle.reg_model.specs.Laws.{RunsJoin, RunsKeepSound, StemsGrow, StepsRun}
-use Rattle.reg_model.specs.Registry.{Registry}
-use Rattle.reg_model.specs.Steps.{IsFit, Run, no_room, outcome}
-use Rattle.reg_tables_meaning.specs.Stands.{Stands}
-use Rattle.reg_tables.specs.declared.tables.Tables.{Tables}
-use Rattle.reg_tables.specs.Works.{is_shut, shown}
-use Rattle.std.proofs.lemmas.Bool.{false≢true}
+use Rattle.reg_model.specs.Steps.{Run}
 use Rattle.std.specs.Prelude.{Result, Ok, Err, IfOk, IsErr}
-use Rattle.sqlite.specs.State.{HasCleanDisk}
-use Rattle.reg_model.specs.Events.Event.{Order}
-use Rattle.reg_model.specs.declared.rule.AdminRefusal.{AdminRefusal}
 use Rattle.reg_model.specs.declared.rule.Rule.TheVariants as rule
 use Rattle.reg_policy.specs.declared.event.AdminCommand.{AdminCommand}
 use Rattle.reg_policy.specs.declared.event.AdminReply.{AdminReply}
-use Rattle.reg_policy.specs.Events.{command_of, reply_of}
-use Rattle.reg_api_replies.specs.declared.reply.Reply.{Reply}
-use Rattle.reg_api_replies.specs.declared.reply.Reply.TheVariants.{Denied}
-use Rattle.reg_api_requests.specs.Requests.{request_of}
 use Rattle.reg_api_requests.specs.Views.{event_of}
 use Rattle.reg_api_requests.specs.declared.request.ApiRequest.{ApiRequest}
-use Rattle.reg_service.specs.Answered.{Answers, IsAnswered, LeavesAlone, Shows}
+use Rattle.reg_service.specs.Answered.{IsAnswered}
 use Rattle.reg_service.specs.Handled.{IsReplied}
-use Rattle.reg_service.specs.Sequences.{AreNoRoom, AreTold, HasAnswered, IsFitCall, IsTold, IsUnread, MayBeLeft, Ran, TellsOf, event_at}
+use Rattle.reg_service.specs.Sequences.{AreNoRoom, AreTold, IsFitCall, IsTold, IsUnread, MayBeLeft, Ran, TellsOf, event_at}
 use Rattle.reg_service.specs.declared.sequences.Call.TheVariants.{Request, Command as Commanded}
 use Rattle.reg_service.specs.declared.sequences.Told.TheVariants.{Reply as Replied, Command as Obeyed}
 use Rattle.reg_service.specs.declared.sequences.Call.{Call}

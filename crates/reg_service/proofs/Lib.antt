@@ -8,3 +8,4 @@ mod Rests
 mod Seeking
 mod Streams
 mod Traced
+mod Words

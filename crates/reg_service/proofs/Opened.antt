@@ -1,32 +1,25 @@
 -- A registry that was opened is the one that the store held.
-use Rattle.std.proofs.Common.{◌≡◌, ◌∙◌, arith, ℕ, inl, inr, false, length, refl, None, Some, Ok, Err, Result, IfErr, IfOk, IsTrue, ap, sym, subst}
-use Rattle.sqlite.specs.Effect.{Database}
-use Rattle.sqlite.specs.Held.{Held, state}
+use Rattle.reg_service.proofs.Words.{◌≡◌, ◌∙◌, arith, ℕ, inl, inr, false, length, refl, None, Some, Ok, Err, Result, IsTrue, ap, sym, subst}
+use Rattle.reg_service.proofs.Words.{Database, Held, state, State, HasCleanDisk, Survives, Trees, survives_weaker, Ghosts, Edition, First}
+use Rattle.reg_service.proofs.Words.{Second, Check, IsOurs, IsUndone, LeavesCommit, AreBegun, Tables, AreOurs, edition_in, shown, Shows}
+use Rattle.reg_service.proofs.Words.{AreChecked, IsFirstFailing, MayBeUpgraded, tables_of, OpenFault, Damaged, Storage}
+use Rattle.std.proofs.Common.{IfErr, IfOk}
 use Rattle.sqlite.specs.Schema.{Schema}
-use Rattle.sqlite.specs.State.{State, HasCleanDisk, KeepsCommit, Survives}
-use Rattle.sqlite.specs.Tree.{Trees}
-use Rattle.sqlite.proofs.StateLemmas.{survives_then, survives_weaker}
-use Rattle.sqlite_trees.specs.declared.store.Store.{Ghosts}
+use Rattle.sqlite.specs.State.{KeepsCommit}
+use Rattle.sqlite.proofs.StateLemmas.{survives_then}
 use Rattle.reg_model.specs.Registry as model
-use Rattle.reg_tables_schema.specs.declared.edition.Edition.{Edition}
-use Rattle.reg_tables_schema.specs.declared.edition.Edition.TheVariants.{First, Second}
-use Rattle.reg_audit.specs.declared.check.Check.{Check}
 use Rattle.reg_tables_schema.specs.Schema.{schema_of}
 use Rattle.reg_tables_schema.proofs.MakeLemmas.{undone_keeps}
-use Rattle.reg_tables_schema.specs.States.{IsOurs, IsUndone, LeavesCommit}
 use Rattle.reg_tables_sql.specs.Abouts.{HasBase}
 use Rattle.reg_audit_law.specs.Editions.{AreFound, EditionLaw, FoundLaw, HoldsAs, KeepsSchema}
-use Rattle.reg_tables_meaning.specs.Upgrades.{AreBegun, AreUpgraded, IsUpgraded}
-use Rattle.reg_tables.specs.declared.tables.Tables.{Tables}
+use Rattle.reg_tables_meaning.specs.Upgrades.{AreUpgraded, IsUpgraded}
 use Rattle.reg_tables.proofs.Stopping.{leaves_last}
 use Rattle.reg_tables.specs.Ends.{LeavesLast}
 use Rattle.reg_tables.specs.Works as works
-use Rattle.reg_tables.specs.Works.{AreOurs, IsSame, edition_in, shown}
+use Rattle.reg_tables.specs.Works.{IsSame}
 use Rattle.reg_service.specs.declared.registry.Registry.{Registry}
-use Rattle.reg_service.specs.Answered.{AreAs, AreUpToDate, Shows}
-use Rattle.reg_service.specs.Registries.{AreChecked, AreDamaged, AreOne, IsBrought, IsFirstFailing, LeavesOpened, MayBeUpgraded, MayBecome, tables_of}
-use Rattle.reg_service.specs.declared.opening.OpenFault.{OpenFault}
-use Rattle.reg_service.specs.declared.opening.OpenFault.TheVariants.{Damaged, Storage}
+use Rattle.reg_service.specs.Answered.{AreAs}
+use Rattle.reg_service.specs.Registries.{AreDamaged, AreOne, IsBrought, LeavesOpened, MayBecome}
 
 -- tables of schema 2 are held as they are, and those of schema 1 upgraded
 pub still_brought : (e : Edition) (old new : State) → e ≡ Second → new ≡ old → IsBrought e old new

@@ -1,28 +1,14 @@
 -- What the ends of a transaction make of a request.
-use Rattle.std.proofs.Common.{◌≡◌, inl, inr, false, refl, sym, ap, subst, IsTrue, Option, Some, ℕ}
-use Rattle.sqlite.specs.State.{HasCleanDisk, Survives}
-use Rattle.sqlite_trees.specs.declared.store.Store.{Ghosts}
-use Rattle.reg_body.specs.declared.limits.Limits.{Limits}
+use Rattle.reg_service.proofs.Words.{◌≡◌, inl, inr, false, refl, sym, ap, subst, IsTrue, Option, Some, ℕ, Database, HasCleanDisk, Survives}
+use Rattle.reg_service.proofs.Words.{Ghosts, Limits, Answer, Asked, Event, Ask, StepsKeepSound, Registry, Text, IsFit, Outcome, outcome}
+use Rattle.reg_service.proofs.Words.{Reply, Denied, LeavesCommit, FilesAreRows, FoundFile, Serves, Done, Seeks, Sends, Told, Begins}
+use Rattle.reg_service.proofs.Words.{IsCommitted, IsDropped, IsRefused, SeesAll, Looks, AreOurs, IsLeft, has_failed, rows_seen, seen, shown}
+use Rattle.reg_service.proofs.Words.{Tables, Work, Are, Shows, Stays, RepliesTo, Sought, Finds}
 use Rattle.reg_model.specs.declared.rule.Rule.TheVariants as rule
 use Rattle.reg_model.specs.Effects.{served}
-use Rattle.reg_model.specs.Events.{Answer, Asked, Event}
 use Rattle.reg_model.specs.Events.Answer.{Denied as to_denied}
-use Rattle.reg_model.specs.Events.Event.{Ask}
-use Rattle.reg_model.specs.Laws.{StepsKeepSound}
-use Rattle.reg_model.specs.Registry.{Registry, Text}
-use Rattle.reg_model.specs.Steps.{IsFit, Outcome, outcome}
-use Rattle.reg_api_replies.specs.declared.reply.Reply.{Reply}
-use Rattle.reg_api_replies.specs.declared.reply.Reply.TheVariants.{Denied}
-use Rattle.reg_tables_schema.specs.States.{LeavesCommit}
-use Rattle.reg_service_requests.specs.Serves.{Serves}
-use Rattle.reg_service_requests.specs.declared.served.Served.TheVariants.{Done, Seeks, Told}
-use Rattle.reg_tables.specs.Ends.{Begins, IsCommitted, IsDropped, IsRefused, SeesAll}
-use Rattle.reg_tables.specs.Looks.{Looks}
-use Rattle.reg_tables.specs.Works.{AreOurs, IsLeft, has_failed, rows_seen, seen, shown}
-use Rattle.reg_tables.specs.declared.tables.Tables.{Tables}
-use Rattle.reg_tables.specs.declared.work.Work.{Work}
-use Rattle.reg_service.specs.Answered.{Are, Shows, Stays}
-use Rattle.reg_service.specs.Handled.{RepliesTo, Sought}
+use Rattle.reg_tables_meaning.specs.Stands.{Holds}
+use Rattle.reg_service_index.specs.Found.{file_at}
 use Rattle.reg_service.proofs.Frames as frame
 
 module _ {S : Type 0} (g : Ghosts S) (limits : Limits) (s : Registry) (digest : Option Text) (asked : Asked) (old new : Tables S) (ours : AreOurs g old) (h : Shows s (shown g old)) (clean : HasCleanDisk (shown g new)) where
@@ -58,6 +44,24 @@ module _ {S : Type 0} (g : Ghosts S) (limits : Limits) (s : Registry) (digest : 
     not_committed reply serves end survives =
         (to_denied rule.S1, refl, frame.not_committed g limits s e (to_denied rule.S1) old new ours h clean begun done b looks mid (λ are. (serves are.0 s are.1).1) refl end survives)
 
+    -- an index file was found
+    pub found : FilesAreRows → (f : FoundFile) → Serves limits digest asked (rows_seen g begun) (rows_seen g done) (Sends f) → IsDropped g done new → (IsTrue (shown g old).is_open → LeavesCommit (shown g old)) → Finds g limits s digest asked f old new
+    found law f serves end alone =
+        let are = frame.sees g limits s e (to_denied rule.S1) old new ours h clean begun done b looks mid in
+        let it = serves.1 are.0 s are.1 in
+        record {
+          path = serves.0.0;
+          asks = serves.0.1;
+          text = file_at are.0 s f;
+          answer = it.0;
+          lines = λ up.
+              let same = frame.shows_begun g limits s e (to_denied rule.S1) old new ours h clean begun done b looks mid (end.undone clean) up in
+              law are.0 s (shown g new).now.trees (subst (λ (d : Database). Holds are.0 s d.trees) (sym same) are.1) f;
+          len = it.1;
+          goes_on = b.was_open;
+          stays = frame.dropped_so g limits s e (to_denied rule.S1) old new ours h clean begun done b looks mid end alone;
+        }
+
 -- a search, once the transaction is dropped
 module _ {S : Type 0} (g : Ghosts S) (limits : Limits) (s : Registry) (digest : Option Text) (asked : Asked) (old at new : Tables S) (ours : AreOurs g old) (h : Shows s (shown g old)) (clean : HasCleanDisk (shown g new)) (early : HasCleanDisk (shown g at)) (begun done : Work S) (b : Begins g SeesAll old begun) (looks : Looks g begun done) (mid : HasCleanDisk (seen g done)) where
   abbrev pub o : Answer
@@ -74,8 +78,8 @@ module _ {S : Type 0} (g : Ghosts S) (limits : Limits) (s : Registry) (digest : 
       let are = frame.sees g limits s (Ask digest asked) o old at ours h early begun done b looks mid in
       let is = serves are.0 s are.1 in
       elim (seeks kept.shows) [
-        | inl none ↦ subst (λ r. RepliesTo g limits s digest asked r old new) (sym none) (o, refl, frame.stayed g limits s (Ask digest asked) o old new ours h clean b.was_open (inr (refl, refl)) on)
-        | inr says ↦ (served s (Some id) asked, says, frame.stayed g limits s (Ask digest asked) (served s (Some id) asked) old new ours h clean b.was_open (inl (ap (λ (it : Outcome). it.0) (sym is), ap (λ (it : Outcome). it.1) (sym is))) on)
+        | inl none ↦ subst (λ r. RepliesTo g limits s digest asked r old new) (sym none) (o, refl, frame.stayed g limits s (Ask digest asked) o old new b.was_open (inr (refl, refl)) on)
+        | inr says ↦ (served s (Some id) asked, says, frame.stayed g limits s (Ask digest asked) (served s (Some id) asked) old new b.was_open (inl (ap (λ (it : Outcome). it.0) (sym is), ap (λ (it : Outcome). it.1) (sym is))) on)
       ]
 
 -- nothing was called, for want of memory

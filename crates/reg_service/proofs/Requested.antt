@@ -1,50 +1,31 @@
 -- What each end of a transaction makes of a request, and what it leaves.
-use Rattle.std.proofs.Common.{◌≡◌, ◌∙◌, arith, Bool, Option, None, Result, sym, subst, IsTrue, ℕ}
-use Rattle.std.proofs.lemmas.Bool.{false≢true}
-use Rattle.std.specs.Option.{option_map}
-use Rattle.std.specs.Prelude.{string_bytes}
-use Rattle.sqlite.specs.State.{HasCleanDisk}
-use Rattle.sqlite_trees.specs.declared.store.Store.{Ghosts}
-use Rattle.reg_body.specs.declared.limits.Limits.{Limits}
+use Rattle.reg_service.proofs.Words.{◌≡◌, ◌∙◌, arith, Bool, Option, None, Result, sym, subst, IsTrue, ℕ, false≢true, option_map}
+use Rattle.reg_service.proofs.Words.{string_bytes, HasCleanDisk, Ghosts, Limits, Asked, Ask, StepsKeepSound, Registry, Text, IsFit, Reply}
+use Rattle.reg_service.proofs.Words.{Denied, FilesAreRows, FoundFile, Serves, line_with, Done, Seeks, Sends, Told, Acted, Tables, Work}
+use Rattle.reg_service.proofs.Words.{Begins, IsCommitted, IsDropped, IsEnded, IsRefused, SeesAll, Looks, IsLeft, is_shut, rows_seen, seen}
+use Rattle.reg_service.proofs.Words.{shown, LeavesCommit, ActsTo, IsActed, AreUpToDate, Halts, Shows, WasClean, RepliesTo, Sought, Looked}
 use Rattle.reg_model.specs.declared.rule.Rule.TheVariants as rule
-use Rattle.reg_model.specs.Events.{Asked}
-use Rattle.reg_model.specs.Events.Event.{Ask}
-use Rattle.reg_model.specs.Laws.{StepsKeepSound}
-use Rattle.reg_model.specs.Registry.{Registry, Text}
-use Rattle.reg_model.specs.Steps.{IsFit}
-use Rattle.reg_api_replies.specs.declared.reply.Reply.{Reply}
-use Rattle.reg_api_replies.specs.declared.reply.Reply.TheVariants.{Denied}
-use Rattle.reg_service_requests.specs.Serves.{Serves}
-use Rattle.reg_service_requests.specs.Telling.{ServesTold, line_with}
+use Rattle.reg_service_requests.specs.Telling.{ServesTold}
 use Rattle.reg_service_requests.specs.declared.served.Served.{Served}
-use Rattle.reg_service_requests.specs.declared.served.Served.TheVariants.{Done, Seeks, Told}
-use Rattle.reg_service_requests.specs.declared.told.Acted.{Acted}
 use Rattle.reg_service_requests.specs.declared.told.ServedTold.{ServedTold}
-use Rattle.reg_tables.specs.declared.tables.Tables.{Tables}
-use Rattle.reg_tables.specs.declared.work.Work.{Work}
-use Rattle.reg_tables.specs.Ends.{Begins, IsCommitted, IsDropped, IsEnded, IsRefused, SeesAll}
-use Rattle.reg_tables.specs.Looks.{Looks}
-use Rattle.reg_tables.specs.Works.{IsLeft, is_shut, rows_seen, seen, shown}
-use Rattle.reg_tables_schema.specs.States.{LeavesCommit}
-use Rattle.reg_service.specs.Acted.{ActsTo, IsActed}
-use Rattle.reg_service.specs.Answered.{AreUpToDate, Halts, Shows, WasClean}
-use Rattle.reg_service.specs.Handled.{RepliesTo, Sought}
-use Rattle.reg_service.specs.Looked.{Looked}
+use Rattle.reg_service.specs.Acted.{SaysNoRoom}
+use Rattle.reg_service.specs.declared.answered.Answered.{Answered}
+use Rattle.reg_service.specs.declared.answered.Answered.TheVariants.{Found, Replied}
 use Rattle.reg_service.proofs.Replied as replied
 use Rattle.reg_service.proofs.Rests.{dropped_halts, dropped_looked, committed_halts, ended_clean, goes_on, refused_tables}
 use Rattle.reg_service.proofs.Traced.{acts, tells_line, untold}
 
-abbrev pub Does : {S : Type 0} → Ghosts S → Limits → Bool → Option Text → Asked → Acted → Tables S → Tables S → Type 0
-Does g limits traced digest asked it old new = record {
-  replies : IsActed g limits traced digest asked it old new;
+abbrev pub Does : {S : Type 0} → Ghosts S → Limits → Bool → Option Text → Asked → Answered → Tables S → Tables S → Type 0
+Does g limits traced digest asked r old new = record {
+  replies : IsActed g limits traced digest asked r old new;
   tables : AreUpToDate g new;
   clean : WasClean g old new;
-  halts : Halts (is_shut old) (is_shut new) (it.reply ≡ Denied rule.S1);
+  halts : Halts (is_shut old) (is_shut new) (SaysNoRoom r);
 }
 
 module _ {S : Type 0} (g : Ghosts S) (limits : Limits) (traced : Bool) (digest : Option Text) (asked : Asked) (old : Tables S) (at : AreUpToDate g old) (it : Acted) where
   -- no transaction was begun
-  pub unbegun : (new : Tables S) → it.reply ≡ Denied rule.S1 → it.line ≡ None → IsLeft g old new → Does g limits traced digest asked it old new
+  pub unbegun : (new : Tables S) → it.reply ≡ Denied rule.S1 → it.line ≡ None → IsLeft g old new → Does g limits traced digest asked (Replied it) old new
   unbegun new reply line is = record {
     replies = replies;
     tables = record { ours = is.ours; second = is.edition ∙ at.second };
@@ -55,14 +36,14 @@ module _ {S : Type 0} (g : Ghosts S) (limits : Limits) (traced : Bool) (digest :
       first : WasClean g old new
       first clean = omega (arith, clean, is.survives.clean)
 
-      replies : IsActed g limits traced digest asked it old new
+      replies : IsActed g limits traced digest asked (Replied it) old new
       replies clean s h = untold g limits s traced digest asked old new it (replied.not_begun g limits s digest asked old new at.ours h clean is) reply line
 
   module _ (begun done : Work S) (b : Begins g SeesAll old begun) (looks : Looks g begun done) where
     -- a call within it failed
     pub failed : (new there : Tables S) → new ≡ there → it.reply ≡ Denied rule.S1 → it.line ≡ None → IsDropped g done there
-        → (IsTrue (shown g old).is_open → LeavesCommit (shown g old)) → Does g limits traced digest asked it old new
-    failed new there same_end reply line end alone = subst (λ t. Does g limits traced digest asked it old t) (sym same_end) (record {
+        → (IsTrue (shown g old).is_open → LeavesCommit (shown g old)) → Does g limits traced digest asked (Replied it) old new
+    failed new there same_end reply line end alone = subst (λ t. Does g limits traced digest asked (Replied it) old t) (sym same_end) (record {
       replies = replies;
       tables = rest.tables;
       clean = rest.clean;
@@ -72,7 +53,7 @@ module _ {S : Type 0} (g : Ghosts S) (limits : Limits) (traced : Bool) (digest :
         rest : Looked g old there
         rest = dropped_looked g old begun done b looks there at end
 
-        replies : IsActed g limits traced digest asked it old there
+        replies : IsActed g limits traced digest asked (Replied it) old there
         replies clean s h =
             let mid : HasCleanDisk (seen g done) = omega (arith, clean, end.survives.clean) in
             untold g limits s traced digest asked old there it (replied.failed g limits s digest asked old there at.ours h clean begun done b looks mid end alone) reply line
@@ -92,8 +73,8 @@ module _ {S : Type 0} (g : Ghosts S) (limits : Limits) (traced : Bool) (digest :
 
       pub committed : {T E : Type 0} (r : Result T E) (reply : Reply) (new there : Tables S) → new ≡ there → told.served ≡ Done reply → it.reply ≡ reply
           → option_map string_bytes it.line ≡ line_with reply told.line → IsEnded g r done there → IsCommitted g done there
-          → StepsKeepSound → IsFit (Ask digest asked) → Does g limits traced digest asked it old new
-      committed r reply new there same_end as_done is line ended end law fit = subst (λ t. Does g limits traced digest asked it old t) (sym same_end) (record {
+          → StepsKeepSound → IsFit (Ask digest asked) → Does g limits traced digest asked (Replied it) old new
+      committed r reply new there same_end as_done is line ended end law fit = subst (λ t. Does g limits traced digest asked (Replied it) old t) (sym same_end) (record {
         replies = replies;
         tables = record { ours = ended.ours; second = end.second };
         clean = ended_clean g old begun done b looks there r ended;
@@ -103,15 +84,15 @@ module _ {S : Type 0} (g : Ghosts S) (limits : Limits) (traced : Bool) (digest :
           mids : HasCleanDisk (shown g there) → HasCleanDisk (seen g done)
           mids clean = omega (arith, clean, ended.survives.clean)
 
-          replies : IsActed g limits traced digest asked it old there
+          replies : IsActed g limits traced digest asked (Replied it) old there
           replies clean s h =
               let mid = mids clean in
               lined there there s h clean mid reply is line (replied.committed g limits s digest asked old there at.ours h clean begun done b looks mid law fit reply (served_as (Done reply) as_done mid) end)
 
       -- its commit was refused
       pub not_committed : {T E : Type 0} (r : Result T E) (reply : Reply) (new there : Tables S) → new ≡ there → told.served ≡ Done reply → it.reply ≡ Denied rule.S1 → it.line ≡ None
-          → IsEnded g r done there → IsRefused g done there → Does g limits traced digest asked it old new
-      not_committed r reply new there same_end as_done is line ended end = subst (λ t. Does g limits traced digest asked it old t) (sym same_end) (record {
+          → IsEnded g r done there → IsRefused g done there → Does g limits traced digest asked (Replied it) old new
+      not_committed r reply new there same_end as_done is line ended end = subst (λ t. Does g limits traced digest asked (Replied it) old t) (sym same_end) (record {
         replies = replies;
         tables = refused_tables g old begun done b looks there at ended.ours end;
         clean = ended_clean g old begun done b looks there r ended;
@@ -121,7 +102,7 @@ module _ {S : Type 0} (g : Ghosts S) (limits : Limits) (traced : Bool) (digest :
           mids : HasCleanDisk (shown g there) → HasCleanDisk (seen g done)
           mids clean = omega (arith, clean, ended.survives.clean)
 
-          replies : IsActed g limits traced digest asked it old there
+          replies : IsActed g limits traced digest asked (Replied it) old there
           replies clean s h =
               let mid = mids clean in
               untold g limits s traced digest asked old there it
@@ -129,8 +110,8 @@ module _ {S : Type 0} (g : Ghosts S) (limits : Limits) (traced : Bool) (digest :
 
       -- nothing was changed
       pub only_told : (reply : Reply) (new there : Tables S) → new ≡ there → told.served ≡ Told reply → it.reply ≡ reply → option_map string_bytes it.line ≡ line_with reply told.line
-          → IsDropped g done there → (IsTrue (shown g old).is_open → LeavesCommit (shown g old)) → Does g limits traced digest asked it old new
-      only_told reply new there same_end as_told is line end alone = subst (λ t. Does g limits traced digest asked it old t) (sym same_end) (record {
+          → IsDropped g done there → (IsTrue (shown g old).is_open → LeavesCommit (shown g old)) → Does g limits traced digest asked (Replied it) old new
+      only_told reply new there same_end as_told is line end alone = subst (λ t. Does g limits traced digest asked (Replied it) old t) (sym same_end) (record {
         replies = replies;
         tables = rest.tables;
         clean = rest.clean;
@@ -143,7 +124,7 @@ module _ {S : Type 0} (g : Ghosts S) (limits : Limits) (traced : Bool) (digest :
           mids : HasCleanDisk (shown g there) → HasCleanDisk (seen g done)
           mids clean = omega (arith, clean, end.survives.clean)
 
-          replies : IsActed g limits traced digest asked it old there
+          replies : IsActed g limits traced digest asked (Replied it) old there
           replies clean s h =
               let mid = mids clean in
               lined there there s h clean mid reply is line (replied.told g limits s digest asked old there at.ours h clean begun done b looks mid reply (served_as (Told reply) as_told mid) end alone)
@@ -151,7 +132,7 @@ module _ {S : Type 0} (g : Ghosts S) (limits : Limits) (traced : Bool) (digest :
       -- a search, behind the transaction
       pub sought : (account : ℕ) (reply : Reply) (there new : Tables S) → told.served ≡ Seeks account → it.reply ≡ reply → option_map string_bytes it.line ≡ line_with reply told.line
           → IsDropped g done there → (IsTrue (shown g old).is_open → LeavesCommit (shown g old))
-          → IsLeft g there new → (HasCleanDisk (shown g new) → (s : Registry) → Shows s (shown g there) → Sought account asked s reply) → Does g limits traced digest asked it old new
+          → IsLeft g there new → (HasCleanDisk (shown g new) → (s : Registry) → Shows s (shown g there) → Sought account asked s reply) → Does g limits traced digest asked (Replied it) old new
       sought account reply there new as_search is line end alone left seeks = record {
         replies = replies;
         tables = record { ours = left.ours; second = left.edition ∙ end.edition ∙ looks.same_edition ∙ b.edition ∙ at.second };
@@ -165,10 +146,26 @@ module _ {S : Type 0} (g : Ghosts S) (limits : Limits) (traced : Bool) (digest :
           mids : HasCleanDisk (shown g there) → HasCleanDisk (seen g done)
           mids clean = omega (arith, clean, end.survives.clean)
 
-          replies : IsActed g limits traced digest asked it old new
+          replies : IsActed g limits traced digest asked (Replied it) old new
           replies clean s h =
               let early = still clean in
               let mid = mids early in
               lined there new s h early mid reply is line
               (replied.sought g limits s digest asked old there new at.ours h clean early begun done b looks mid account reply (served_as (Seeks account) as_search mid) end alone
               (end.ours looks.at_work.back) left (seeks clean s))
+
+-- an index file was found
+pub found : {S : Type 0} (g : Ghosts S) (limits : Limits) (traced : Bool) (digest : Option Text) (asked : Asked) (old : Tables S) → AreUpToDate g old → (begun done : Work S) → Begins g SeesAll old begun → Looks g begun done
+    → (told : ServedTold) → (HasCleanDisk (seen g done) → ServesTold traced limits digest asked (rows_seen g begun) (rows_seen g done) told) → FilesAreRows
+    → (f : FoundFile) (new there : Tables S) → new ≡ there → told.served ≡ Sends f → IsDropped g done there → (IsTrue (shown g old).is_open → LeavesCommit (shown g old)) → Does g limits traced digest asked (Found f) old new
+found g limits traced digest asked old at begun done b looks told serves law f new there same_end as_found end alone = subst (λ t. Does g limits traced digest asked (Found f) old t) (sym same_end) (record {
+  replies = λ clean s h.
+      let mid : HasCleanDisk (seen g done) = omega (arith, clean, end.survives.clean) in
+      replied.found g limits s digest asked old there at.ours h clean begun done b looks mid law f (subst (Serves limits digest asked (rows_seen g begun) (rows_seen g done)) as_found (serves mid).0) end alone;
+  tables = rest.tables;
+  clean = rest.clean;
+  halts = dropped_halts g old begun done b looks there end;
+})
+  where
+    rest : Looked g old there
+    rest = dropped_looked g old begun done b looks there at end

@@ -1,19 +1,10 @@
 -- What the ends of a transaction leave of the tables, whatever was asked of them.
-use Rattle.std.proofs.Common.{◌≡◌, ◌⊎◌, Result, inl, inr, true, sym, subst, ◌∙◌, arith}
-use Rattle.std.proofs.lemmas.Bool.{false≢true}
-use Rattle.sqlite.specs.Effect.{Database}
-use Rattle.sqlite.specs.Held.{Held, state}
-use Rattle.sqlite.specs.State.{HasCleanDisk}
-use Rattle.sqlite_trees.specs.declared.store.Store.{Ghosts}
-use Rattle.reg_model.specs.Registry.{Registry}
-use Rattle.reg_tables_schema.specs.States.{Refuses}
-use Rattle.reg_tables.specs.declared.tables.Tables.{Tables}
-use Rattle.reg_tables.specs.declared.work.Work.{Work}
-use Rattle.reg_tables.specs.Ends.{Begins, IsCommitted, IsDropped, IsEnded, IsRefused, SeesAll}
-use Rattle.reg_tables.specs.Looks.{Looks}
-use Rattle.reg_tables.specs.Works.{AreOurs, IsLeft, IsTried, held, is_shut, seen, shown}
-use Rattle.reg_service.specs.Answered.{Are, AreUpToDate, Halts, Shows, WasClean}
-use Rattle.reg_service.specs.Looked.{Looked, WasTried}
+use Rattle.reg_service.proofs.Words.{◌≡◌, ◌⊎◌, Result, inl, inr, true, sym, subst, ◌∙◌, arith, false≢true, Database, Held, state}
+use Rattle.reg_service.proofs.Words.{HasCleanDisk, Ghosts, Registry, Refuses, Tables, Work, Begins, IsCommitted, IsDropped, IsEnded}
+use Rattle.reg_service.proofs.Words.{IsRefused, SeesAll, Looks, AreOurs, IsLeft, held, is_shut, seen, shown, Are, AreUpToDate, Halts, Shows}
+use Rattle.reg_service.proofs.Words.{WasClean, Looked}
+use Rattle.reg_tables.specs.Works.{IsTried}
+use Rattle.reg_service.specs.Looked.{WasTried}
 
 module _ {S : Type 0} (g : Ghosts S) (old : Tables S) where
   still : (new : Tables S) (s : Registry) → AreOurs g old → HasCleanDisk (shown g old) → Shows s (shown g old) → (held new ≡ held old) ⊎ Refuses (shown g old) (shown g new) → Shows s (shown g new)

@@ -1,32 +1,17 @@
 -- The lines of requests and commands that were answered.
-use Rattle.std.proofs.Common.{◌≡◌, ◌⊎◌, inl, inr, true, false, Bool, Option, None, Err, sym, ap, subst, ◌∙◌}
-use Rattle.std.specs.Prelude.{String, string_bytes}
-use Rattle.std.specs.declared.alloc.Global.{Global}
-use Rattle.std.specs.Option.{option_map}
-use Rattle.sqlite.specs.Tree.{Trees}
-use Rattle.sqlite_trees.specs.declared.store.Store.{Ghosts}
-use Rattle.reg_body.specs.declared.limits.Limits.{Limits}
-use Rattle.reg_model.specs.declared.rule.AdminRefusal.{AdminRefusal}
+use Rattle.reg_service.proofs.Words.{◌≡◌, ◌⊎◌, inl, inr, true, false, Bool, Option, None, Err, sym, ap, subst, ◌∙◌, string_bytes, Global}
+use Rattle.reg_service.proofs.Words.{option_map, Trees, Ghosts, Limits, AdminRefusal, Answer, Asked, Event, Ask, Order, Registry, Text}
+use Rattle.reg_service.proofs.Words.{Step, no_room, outcome, reply_of, Reply, Denied, Tables, ActsTo, Answers, Are, RepliesTo, line_with}
+use Rattle.reg_service.proofs.Words.{line_of_answer, Acted}
+use Rattle.std.specs.Prelude.{String}
 use Rattle.reg_model.specs.declared.rule.Rule.TheVariants as rule
-use Rattle.reg_model.specs.Events.{Answer, Asked, Command, Event}
+use Rattle.reg_model.specs.Events.{Command}
 use Rattle.reg_model.specs.Events.Answer.{Refused as to_refused}
-use Rattle.reg_model.specs.Events.Event.{Ask, Order}
-use Rattle.reg_model.specs.Registry.{Registry, Text}
-use Rattle.reg_model.specs.Steps.{Step, no_room, outcome}
 use Rattle.reg_model.specs.Trail.{IsPassed, line, or_nothing, told}
-use Rattle.reg_policy.specs.Events.{reply_of}
-use Rattle.reg_api_replies.specs.declared.reply.Reply.{Reply}
-use Rattle.reg_api_replies.specs.declared.reply.Reply.TheVariants.{Denied}
 use Rattle.reg_api_replies.specs.Replies.{Says}
-use Rattle.reg_tables.specs.declared.tables.Tables.{Tables}
-use Rattle.reg_service.specs.Acted.{ActsTo, Orders}
-use Rattle.reg_service.specs.Answered.{Answers, Are}
-use Rattle.reg_service.specs.Handled.{RepliesTo}
+use Rattle.reg_service.specs.Acted.{Orders}
 use Rattle.reg_service_steps.specs.Telling.{TellsIf}
-use Rattle.reg_service_requests.specs.Telling.{line_with}
-use Rattle.reg_service_commands.specs.Telling.{line_of_answer}
 use Rattle.reg_service_commands.specs.declared.told.OrderTold.{OrderTold}
-use Rattle.reg_service_requests.specs.declared.told.Acted.{Acted}
 use Rattle.reg_service_commands.proofs.AnswerLines.{answer_told, refusal_told}
 use Rattle.reg_service_requests.proofs.ReplyLines.{reply_told}
 

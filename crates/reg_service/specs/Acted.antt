@@ -16,6 +16,9 @@ use Rattle.reg_api_replies.specs.declared.reply.Reply.TheVariants.{Denied}
 use Rattle.reg_tables.specs.declared.tables.Tables.{Tables}
 use Rattle.reg_tables.specs.Works.{shown}
 use Rattle.reg_service.specs.Answered.{Answers, Shows}
+use Rattle.reg_service.specs.Streamed.{Finds}
+use Rattle.reg_service.specs.declared.answered.Answered.{Answered}
+use Rattle.reg_service.specs.declared.answered.Answered.TheVariants.{Found, Replied}
 use Rattle.reg_service_commands.specs.declared.told.OrderTold.{OrderTold}
 use Rattle.reg_service_requests.specs.declared.told.Acted.{Acted}
 
@@ -31,12 +34,20 @@ ActsTo g limits s traced digest asked it old new = (a : Answer) × Says asked a 
     × Answers g limits s (Ask digest asked) a old new
     × HasLine traced limits s (Ask digest asked) a it.line
 
+-- the event is answered by such a reply, or by an index file that is found
+abbrev pub AnswersBy : {S : Type 0} → Ghosts S → Limits → Registry → Bool → Option Text → Asked
+    → Answered → Tables S → Tables S → Type 0
+AnswersBy g limits s traced digest asked (Replied it) old new =
+    ActsTo g limits s traced digest asked it old new
+AnswersBy g limits s traced digest asked (Found f) old new =
+    Finds g limits s digest asked f old new
+
 -- it is so whatever registry the tables held
-abbrev pub IsActed : {S : Type 0} → Ghosts S → Limits → Bool → Option Text → Asked → Acted
+abbrev pub IsActed : {S : Type 0} → Ghosts S → Limits → Bool → Option Text → Asked → Answered
     → Tables S → Tables S → Type 0
 IsActed g limits traced digest asked it old new =
     HasCleanDisk (shown g new) → (s : Registry) → Shows s (shown g old)
-    → ActsTo g limits s traced digest asked it old new
+    → AnswersBy g limits s traced digest asked it old new
 
 -- the same of a command
 abbrev pub Orders : {S : Type 0} → Ghosts S → Limits → Registry → Bool → Command → OrderTold
@@ -50,6 +61,12 @@ IsOrdered g limits traced c it old new =
     HasCleanDisk (shown g new) → (s : Registry) → Shows s (shown g old)
     → Orders g limits s traced c it old new
 
+-- it is told that there was no room
+abbrev pub SaysNoRoom : Answered → Type 0
+SaysNoRoom (Replied it) = it.reply ≡ Denied rule.S1
+SaysNoRoom (Found f) = ⊥
+
 -- there was no room to read it: it is told so, and there is no line
-abbrev pub IsUntold : Acted → Type 0
-IsUntold it = (it.reply ≡ Denied rule.S1) × (it.line ≡ None)
+abbrev pub IsUntold : Answered → Type 0
+IsUntold (Replied it) = (it.reply ≡ Denied rule.S1) × (it.line ≡ None)
+IsUntold (Found f) = ⊥

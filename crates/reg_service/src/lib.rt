@@ -11,6 +11,7 @@
 //! ```
 #![tactic(auto)]
 
+mod answered;
 mod exporting;
 pub mod laws;
 mod marking;
@@ -18,15 +19,15 @@ mod opening;
 mod registry;
 mod searching;
 mod sequences;
-mod streaming;
 mod transactions;
 
+pub use answered::Answered;
 pub use opening::{OpenFault, Opened};
 pub use reg_api_replies::{FixedText, Kind, Methods, Reply, reply_head};
 pub use reg_api_requests::{ApiCall, ApiRequest};
 pub use reg_audit::Check;
 pub use reg_service_commands::OrderTold;
-pub use reg_service_index::IndexFault;
+pub use reg_service_index::{FoundFile, IndexFault};
 pub use reg_service_requests::Acted;
 pub use registry::Registry;
 pub use sequences::{Call, Told, answer_all};

@@ -8,20 +8,20 @@ ghost use Rattle.reg_audit_law.specs.Opening.{AreRegistry};
 ghost use Rattle.reg_policy.specs.Events.{command_of, reply_of};
 ghost use Rattle.reg_api_requests.specs.Requests.{request_of};
 ghost use Rattle.reg_api_requests.specs.Views.{event_of};
-ghost use Rattle.reg_service.specs.Acted.{IsActed, IsOrdered, IsUntold};
+ghost use Rattle.reg_service.specs.Acted.{IsActed, IsOrdered, IsUntold, SaysNoRoom};
 ghost use Rattle.reg_service.specs.Answered.{Halts, IsAnswered, WasClean};
 ghost use Rattle.reg_service.specs.Handled.{IsReplied};
 ghost use Rattle.reg_service.specs.Looked.{FailsFirst, IsIndex, IsMark, IsTrueOf, Looked, WasTried};
 ghost use Rattle.reg_service.specs.Registries.{IsUpToDate, has_stopped, limits_of, tables_of};
 ghost use Rattle.reg_body.specs.Sent.{sink};
-ghost use Rattle.reg_service.specs.Streamed.{AsksForFile, IsStreamed, LeavesStream};
+ghost use Rattle.reg_service.specs.Streamed.{IsStreamed, LeavesStream};
 ghost use Rattle.reg_tables.specs.Works.{held, shown};
 
+use crate::answered::Answered;
 use crate::exporting::export_in;
 use crate::marking::mark_in;
-use crate::streaming::stream_in;
 use crate::transactions::{command_in, denied, parts_in};
-use reg_api_replies::Reply;
+use reg_api_replies::{Kind, Reply};
 use reg_api_requests::{ApiRequest, read_request};
 use reg_audit::{Check, audit};
 use reg_audit_law::laws::opening_law;
@@ -29,7 +29,7 @@ use reg_body::{Counted, Limits};
 use reg_model::AdminRefusal;
 use reg_policy::{AdminCommand, AdminReply, Rule};
 use reg_service_commands::OrderTold;
-use reg_service_index::{IndexFault, refuse};
+use reg_service_index::{FoundFile, IndexFault, read_file, send_file};
 use reg_service_requests::Acted;
 use reg_tables::{Result, StoreFault, Tables};
 use sqlite::{Alter, Connection};
@@ -99,8 +99,16 @@ impl<S: Alter> Registry<S> {
         ensures halts { Halts (has_stopped self.old) (has_stopped self.new)
             (result ≡ Reply.Denied Rule.S1) }
     {
-        let Acted { reply, line: _ } = self.act(alloc, request, false);
-        reply
+        match self.act(alloc, request, false) {
+            Answered::Replied(acted) => {
+                let Acted { reply, line: _line } = acted;
+                reply
+            }
+            Answered::Found(file) => match read_file(alloc, &mut self.tables, &file) {
+                Ok(text) => Reply::Done(Kind::Text, text),
+                Err(_) => Reply::Denied(Rule::S1),
+            },
+        }
     }
 
     /// Does as `command`. If `traced`, it tells the line of what was changed, if anything was.
@@ -118,8 +126,9 @@ impl<S: Alter> Registry<S> {
         command_in(alloc, &mut self.tables, &self.limits, command, traced)
     }
 
-    /// Does as `handle`. If `traced`, it tells the line of what was changed, if anything was.
-    pub fn act(&mut self, alloc: Global, request: &ApiRequest<'_>, traced: bool) -> Acted
+    /// Answers a request, in one transaction. If `traced`, it tells the line of what was changed,
+    /// if anything was. An index file is found, for `stream_index`.
+    pub fn act(&mut self, alloc: Global, request: &ApiRequest<'_>, traced: bool) -> Answered
         requires { IsUpToDate S.Store self.old }
         ensures replies { let asks = request_of (limits_of self.old) request.now in
             IsActed S.Store (limits_of self.old) traced asks.digest asks.asked result
@@ -129,54 +138,37 @@ impl<S: Alter> Registry<S> {
         ensures limits { limits_of self.new ≡ limits_of self.old }
         ensures read { IsFit (event_of (request_of (limits_of self.old) request.now))
             ⊎ (IsUntold result × (tables_of self.new ≡ tables_of self.old)) }
-        ensures halts { Halts (has_stopped self.old) (has_stopped self.new)
-            (result.reply ≡ Reply.Denied Rule.S1) }
+        ensures halts { Halts (has_stopped self.old) (has_stopped self.new) (SaysNoRoom result) }
     {
         let Ok(parts) = read_request(alloc, request, &self.limits) else {
-            return denied(Rule::S1);
+            return Answered::Replied(denied(Rule::S1));
         };
         parts_in(alloc, &mut self.tables, &self.limits, &parts, traced)
     }
 
-    /// Sends the reply to a request for an index file, row by row, in at most `writes` write calls,
-    /// and returns how many it made. If the store fails mid-reply, the reply ends there.
+    /// Sends the reply with an index file that was found, row by row, in at most `writes` write
+    /// calls, and returns how many it made. If the store fails mid-reply, the reply ends there.
     pub fn stream_index<W: Write>(
         &mut self,
-        alloc: Global,
-        request: &ApiRequest<'_>,
+        file: &FoundFile,
         close: bool,
         writer: &mut Counted<W>,
         writes: u64,
     ) -> Result<u64, IndexFault>
         requires tables { IsUpToDate S.Store self.old }
-        requires index { AsksForFile request.now.call }
         requires room { writer.old.calls + writes < 2 ^ 64 }
-        ensures streams { let asks = request_of (limits_of self.old) request.now in
-            IsStreamed S.Store (limits_of self.old) asks.digest asks.asked close result writes
+        ensures streams { IsStreamed S.Store file.now close result writes
             (tables_of self.old) (tables_of self.new)
             (sink (W.contents writer.old.inner) writer.old)
             (sink (W.contents writer.new.inner) writer.new) }
-        ensures leaves { LeavesStream S.Store close result writes
-            (tables_of self.old) (tables_of self.new)
+        ensures leaves { LeavesStream close result writes (has_stopped self.old)
             (sink (W.contents writer.old.inner) writer.old)
             (sink (W.contents writer.new.inner) writer.new) }
+        ensures looked { Looked S.Store (tables_of self.old) (tables_of self.new) }
         ensures tables { IsUpToDate S.Store self.new }
         ensures limits { limits_of self.new ≡ limits_of self.old }
     {
-        match read_request(alloc, request, &self.limits) {
-            Ok(parts) => {
-                let path = parts.index_path();
-                stream_in(
-                    &mut self.tables,
-                    parts.digest(),
-                    path,
-                    close,
-                    writer,
-                    writes,
-                )
-            }
-            Err(_) => refuse(writer, Rule::S1, close, writes),
-        }
+        send_file(&mut self.tables, file, close, writer, writes)
     }
 
     /// The files of the index, each after its path: the config, then each crate's in the order of

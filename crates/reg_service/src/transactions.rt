@@ -6,9 +6,10 @@ ghost use Rattle.reg_model.specs.Events.Event.{Ask, Order};
 ghost use Rattle.reg_model.specs.Steps.{IsFit};
 ghost use Rattle.reg_policy.specs.Events.{asked_of, command_of};
 ghost use Rattle.reg_tables.specs.Works.{is_shut};
-ghost use Rattle.reg_service.specs.Acted.{IsActed, IsOrdered};
+ghost use Rattle.reg_service.specs.Acted.{IsActed, IsOrdered, SaysNoRoom};
 ghost use Rattle.reg_service.specs.Answered.{AreUpToDate, Halts, WasClean};
 
+use crate::answered::Answered;
 use crate::searching::seek;
 use reg_api_replies::Reply;
 use reg_api_requests::Parts;
@@ -18,6 +19,7 @@ use reg_model::AdminRefusal;
 use reg_model::laws::{denial_law, soundness_law};
 use reg_policy::{AdminCommand, Asked, Rule};
 use reg_service_commands::{OrderTold, order_told, refused};
+use reg_service_index::laws::file_law;
 use reg_service_requests::{Acted, Served, ServedTold, serve_told, with_line};
 use reg_tables::Tables;
 use sqlite::Alter;
@@ -70,7 +72,8 @@ pub(crate) fn denied(rule: Rule) -> Acted
 }
 
 /// Answers a request in one transaction. If nothing is changed, nothing is kept; a search reads
-/// after the transaction is over. If `traced`, the line of what it changed is told.
+/// after the transaction is over, and an index file is read by who asked. If `traced`, the line of
+/// what it changed is told.
 pub(crate) fn request_in<S: Alter>(
     alloc: Global,
     tables: &mut Tables<S>,
@@ -78,34 +81,35 @@ pub(crate) fn request_in<S: Alter>(
     digest: Option<&Digest>,
     asked: &Asked<'_>,
     traced: bool,
-) -> Acted
+) -> Answered
     requires tables { AreUpToDate S.Store tables.old }
     requires fit { (d : _) → IsFit (Ask d (asked_of asked.now)) }
     ensures replies { IsActed S.Store limits.now traced (option_map (λ d. d.now) digest.entry)
         (asked_of asked.now) result tables.old tables.new }
     ensures tables { AreUpToDate S.Store tables.new }
     ensures clean { WasClean S.Store tables.old tables.new }
-    ensures halts { Halts (is_shut tables.old) (is_shut tables.new)
-        (result.reply ≡ Reply.Denied Rule.S1) }
+    ensures halts { Halts (is_shut tables.old) (is_shut tables.new) (SaysNoRoom result) }
 {
     soundness_law();
+    file_law();
     let Ok(mut work) = tables.work() else {
-        return denied(Rule::S1);
+        return Answered::Replied(denied(Rule::S1));
     };
     let Ok(told) = serve_told(alloc, &mut work, limits, digest, asked, traced) else {
-        return denied(Rule::S1);
+        return Answered::Replied(denied(Rule::S1));
     };
     let ServedTold { served, line } = told;
     match served {
         Served::Done(reply) => match work.commit() {
-            Ok(()) => with_line(reply, line),
-            Err(_unkept) => denied(Rule::S1),
+            Ok(()) => Answered::Replied(with_line(reply, line)),
+            Err(_unkept) => Answered::Replied(denied(Rule::S1)),
         },
-        Served::Told(reply) => with_line(reply, line),
+        Served::Told(reply) => Answered::Replied(with_line(reply, line)),
         Served::Seeks(account) => {
             drop(work);
-            with_line(seek(alloc, tables, account, asked), line)
+            Answered::Replied(with_line(seek(alloc, tables, account, asked), line))
         }
+        Served::Sends(file) => Answered::Found(file),
     }
 }
 
@@ -116,18 +120,17 @@ pub(crate) fn parts_in<S: Alter>(
     limits: &Limits,
     parts: &Parts<'_>,
     traced: bool,
-) -> Acted
+) -> Answered
     requires tables { AreUpToDate S.Store tables.old }
     requires fit { (d : _) → IsFit (Ask d parts.now.asked) }
     ensures replies { IsActed S.Store limits.now traced parts.now.digest parts.now.asked result
         tables.old tables.new }
     ensures tables { AreUpToDate S.Store tables.new }
     ensures clean { WasClean S.Store tables.old tables.new }
-    ensures halts { Halts (is_shut tables.old) (is_shut tables.new)
-        (result.reply ≡ Reply.Denied Rule.S1) }
+    ensures halts { Halts (is_shut tables.old) (is_shut tables.new) (SaysNoRoom result) }
 {
     let Ok(logins) = parts.logins(alloc) else {
-        return denied(Rule::S1);
+        return Answered::Replied(denied(Rule::S1));
     };
     let asked = parts.asked(&logins);
     request_in(alloc, tables, limits, parts.digest(), &asked, traced)

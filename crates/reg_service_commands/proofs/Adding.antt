@@ -1,34 +1,26 @@
 -- Accounts and tokens that are added by a command.
-use Rattle.std.proofs.Common.{◌≡◌, ◌∷◌, [], ◌||◌, ◌==◌, not, nat_le, nat_lt, length, List, ℕ, zero, suc, Bool, true, false, Option, Some, None, is_none, is_some, cond, ◌&&◌, ◌+◌, ◌-◌, arith, refl, sym, ap, subst, ◌∙◌}
-use Rattle.std.specs.Prelude.{Ok, Err, Vec, slice_get, unwrap_or}
-use Rattle.std.specs.declared.alloc.Global.{Global}
-use Rattle.std.specs.List.{list_all}
-use Rattle.std.specs.Option.{option_map}
+use Rattle.reg_service_commands.proofs.Words.{◌≡◌, ◌∷◌, [], ◌||◌, ◌==◌, not, length, List, ℕ, zero, suc, Bool, true, false, Option, Some}
+use Rattle.reg_service_commands.proofs.Words.{None, is_none, cond, ◌&&◌, ◌+◌, ◌-◌, arith, refl, sym, ap, subst, ◌∙◌, Vec, slice_get}
+use Rattle.reg_service_commands.proofs.Words.{unwrap_or, Global, list_all, option_map, Trees, Limits, is_pattern, AdminRefusal, Answer}
+use Rattle.reg_service_commands.proofs.Words.{Done, Refused, TokenAdd, TokenRevoke, UserAdd, Order, patterns_given, Registry, Text}
+use Rattle.reg_service_commands.proofs.Words.{id_of_login, with_id, Outcome, outcome, unless_refused, reply_of, Account, AddsToken}
+use Rattle.reg_service_commands.proofs.Words.{FindsAccount, FindsToken, Tells, Stands, HasOutcome, Reply, first_ground}
+use Rattle.std.proofs.Common.{nat_le, nat_lt, is_some}
+use Rattle.std.specs.Prelude.{Ok, Err}
 use Rattle.std.proofs.lemmas.Bool.Decides.{nat_tests}
-use Rattle.sqlite.specs.Tree.{Trees}
-use Rattle.reg_body.specs.declared.limits.Limits.{Limits}
 use Rattle.reg_names.specs.Logins.{is_login, login_of}
-use Rattle.reg_names.specs.Patterns.{is_pattern}
 use Rattle.reg_names.specs.declared.endpoint.Endpoints.{Endpoints}
-use Rattle.reg_model.specs.declared.rule.AdminRefusal.{AdminRefusal}
 use Rattle.reg_model.specs.declared.rule.AdminRefusal.TheVariants as refusal
 use Rattle.reg_model.specs.Changes.{with_token}
 use Rattle.reg_model.specs.Effects.{commanded}
-use Rattle.reg_model.specs.Events.{Answer}
-use Rattle.reg_model.specs.Events.Answer.{Done, Id, Refused}
-use Rattle.reg_model.specs.Events.Command.{TokenAdd, TokenRevoke, UserAdd}
-use Rattle.reg_model.specs.Events.Event.{Order}
-use Rattle.reg_model.specs.Refusals.{endpoints_named, is_endpoint, may_name, patterns_given, refused}
-use Rattle.reg_model.specs.Registry.{Registry, Text, id_of_login, token_of, with_id}
-use Rattle.reg_model.specs.Steps.{Outcome, outcome, unless_refused}
-use Rattle.reg_policy.specs.Events.{reply_of}
+use Rattle.reg_model.specs.Events.Answer.{Id}
+use Rattle.reg_model.specs.Refusals.{endpoints_named, is_endpoint, may_name, refused}
+use Rattle.reg_model.specs.Registry.{token_of}
 use Rattle.reg_policy.specs.declared.event.AdminReply.TheVariants as reply
-use Rattle.reg_tables_sql.specs.declared.accounts.Account.{Account}
-use Rattle.reg_tables_meaning.specs.Calls.{AddsAccount, AddsToken, Ends, FindsAccount, FindsToken, Tells}
+use Rattle.reg_tables_meaning.specs.Calls.{AddsAccount, Ends}
 use Rattle.reg_tables_meaning.specs.FoundTokens.{IsFound}
 use Rattle.reg_tables_meaning.specs.declared.tokens.TokenRows.{TokenRows}
-use Rattle.reg_tables_meaning.specs.Stands.{Stands}
-use Rattle.reg_service_commands.specs.Orders.{HasOutcome, IsScope, PutsToken, Reply, account_refusal, first_ground, is_full_for, token_outcome, token_refusal}
+use Rattle.reg_service_commands.specs.Orders.{IsScope, PutsToken, account_refusal, is_full_for, token_outcome, token_refusal}
 use Rattle.reg_service_commands.proofs.Outcomes.{done_so, refused_so}
 
 -- an account

@@ -1,22 +1,17 @@
 -- The line of a command, from its answer.
-use Rattle.std.proofs.Common.{◌≡◌, ◌⊎◌, inl, inr, false, cond, List, [], Option, Some, None, Result, Ok, Err, refl, sym, ap, ◌∙◌}
-use Rattle.std.specs.Prelude.{String, string_bytes}
-use Rattle.std.specs.declared.alloc.Global.{Global}
-use Rattle.std.specs.Option.{option_map}
-use Rattle.reg_body.specs.declared.limits.Limits.{Limits}
-use Rattle.reg_model.specs.declared.rule.AdminRefusal.{AdminRefusal}
+use Rattle.reg_service_commands.proofs.Words.{◌≡◌, false, cond, List, [], Option, Some, None, Result, Ok, Err, refl, sym, ap, ◌∙◌, String}
+use Rattle.reg_service_commands.proofs.Words.{string_bytes, Global, option_map, Limits, AdminRefusal, replied, Command, UserAdd}
+use Rattle.reg_service_commands.proofs.Words.{UserDisable, UserEnable, TokenAdd, TokenRevoke, Reserve, Unreserve, OwnerAdd, Access, Users}
+use Rattle.reg_service_commands.proofs.Words.{Tokens, Crates, CrateRestrict, CrateOpen, ReaderAdd, ReaderRemove, Order, AdminReply}
+use Rattle.reg_service_commands.proofs.Words.{reply_of, Registry, Text, outcome, unless_refused, command_words, line_of, unless_some}
+use Rattle.std.proofs.Common.{◌⊎◌, inl, inr}
 use Rattle.reg_model.specs.declared.rule.AdminRefusal.TheVariants as refusal
-use Rattle.reg_model.specs.Effects.{commanded, replied}
-use Rattle.reg_model.specs.Events.{Command, Event}
+use Rattle.reg_model.specs.Effects.{commanded}
+use Rattle.reg_model.specs.Events.{Event}
 use Rattle.reg_model.specs.Events.Answer.{Refused as to_refused}
-use Rattle.reg_model.specs.Events.Command.{UserAdd, UserDisable, UserEnable, TokenAdd, TokenRevoke, Reserve, Unreserve, OwnerAdd, Access, Users, Tokens, Crates, CrateRestrict, CrateOpen, ReaderAdd, ReaderRemove}
-use Rattle.reg_model.specs.Events.Event.{Order}
-use Rattle.reg_policy.specs.declared.event.AdminReply.{AdminReply}
-use Rattle.reg_policy.specs.Events.{reply_of}
 use Rattle.reg_model.specs.Refusals.{refused}
-use Rattle.reg_model.specs.Registry.{Registry, Text}
-use Rattle.reg_model.specs.Steps.{no_room, outcome, unless_refused}
-use Rattle.reg_model.specs.Trail.{IsPassed, command_words, has_no_room, line, line_of, or_nothing, told, unless_some, with_asker}
+use Rattle.reg_model.specs.Steps.{no_room}
+use Rattle.reg_model.specs.Trail.{IsPassed, has_no_room, line, or_nothing, told, with_asker}
 use Rattle.reg_service_commands.specs.Telling.{line_of_answer}
 use Rattle.reg_service_steps.proofs.Afterwards.{nothing}
 

@@ -1,24 +1,13 @@
 -- What was found and what was changed make up a command.
-use Rattle.std.proofs.Common.{◌≡◌, ◌∷◌, [], ℕ, Bool, true, false, not, cond, Some, None, is_none, refl, sym, ap, subst, ◌∙◌}
-use Rattle.std.specs.Option.{option_map}
-use Rattle.std.specs.List.{find}
-use Rattle.sqlite.specs.Tree.{Trees}
-use Rattle.reg_body.specs.declared.limits.Limits.{Limits}
-use Rattle.reg_names.specs.Names.{canon, name_of}
+use Rattle.reg_service_commands.proofs.Words.{◌≡◌, ◌∷◌, [], ℕ, Bool, true, false, not, cond, Some, None, is_none, refl, sym, ap, subst, ◌∙◌}
+use Rattle.reg_service_commands.proofs.Words.{option_map, find, Trees, Limits, canon, name_of, is_reserved_always, replied, Done, Refused}
+use Rattle.reg_service_commands.proofs.Words.{Reserve, Unreserve, Order, Registry, Text, id_of_login, Account, FindsAccount, Stands}
+use Rattle.reg_service_commands.proofs.Words.{HasOutcome, enabling, first_ground, is_given, is_not}
 use Rattle.reg_model.specs.declared.rule.AdminRefusal.TheVariants as refusal
 use Rattle.reg_model.specs.Changes.{with_enabled, with_reserved, without_reserved}
-use Rattle.reg_model.specs.Crates.{is_reserved_always}
-use Rattle.reg_model.specs.Effects.{commanded, enable, replied}
-use Rattle.reg_model.specs.Events.Answer.{Done, Refused}
-use Rattle.reg_model.specs.Events.Command.{Reserve, Unreserve}
-use Rattle.reg_model.specs.Events.Event.{Order}
+use Rattle.reg_model.specs.Effects.{commanded, enable}
 use Rattle.reg_model.specs.Refusals.{refused}
-use Rattle.reg_model.specs.Registry.{Registry, Text, id_of_login}
-use Rattle.reg_tables_sql.specs.declared.accounts.Account.{Account}
-use Rattle.reg_tables_meaning.specs.Calls.{FindsAccount, SetsEnabled, Turns}
-use Rattle.reg_tables_meaning.specs.Stands.{Stands}
-use Rattle.reg_service_commands.specs.Orders.{HasOutcome, enabling, first_ground}
-use Rattle.reg_service_steps.proofs.Names.{is_given, is_not}
+use Rattle.reg_tables_meaning.specs.Calls.{SetsEnabled, Turns}
 use Rattle.reg_service_commands.proofs.Outcomes.{done_so, refused_so}
 
 -- accounts are enabled and disabled

@@ -1,33 +1,24 @@
 -- The line of a crate, by the records of its versions and by the registry.
-use Rattle.std.proofs.Common.{◌≡◌, ℕ, zero, suc, ◌<◌, List, [], ◌∷◌, ◌++◌, map, length, get_or, Option, Some, refl, sym, ap, subst, ◌∙◌, arith}
-use Rattle.std.specs.Prelude.{slice_get, string_bytes, unwrap_or}
+use Rattle.reg_service_commands.proofs.Words.{◌≡◌, ℕ, zero, suc, ◌<◌, List, [], ◌∷◌, ◌++◌, map, length, get_or, Option, Some, refl, sym, ap}
+use Rattle.reg_service_commands.proofs.Words.{subst, ◌∙◌, arith, slice_get, string_bytes, unwrap_or, filter, find, flat_map, list_any}
+use Rattle.reg_service_commands.proofs.Words.{IsStrictlySortedBy, option_and_then, option_map, bytes_eq, flat_map-map, canon, first}
+use Rattle.reg_service_commands.proofs.Words.{has_crate, versions, Registry, Text, text_cmp, crate_line, canon-canon, list_any_map}
+use Rattle.reg_service_commands.proofs.Words.{maps_twice, Crate, Version, told_of, shown_version, version_shown, Ids, spelling_at, Marked}
+use Rattle.reg_service_commands.proofs.Words.{IsCrate, highest_among, line_of_crate, read_version, canons_listed}
 use Rattle.std.specs.FinSet as finset
-use Rattle.std.specs.List.{AllByRecursion, filter, find, flat_map, list_any}
-use Rattle.std.specs.List.Sorted.{IsStrictlySortedBy}
-use Rattle.std.specs.Option.{option_and_then, option_map}
-use Rattle.std.specs.Str.{bytes_eq}
+use Rattle.std.specs.List.{AllByRecursion}
 use Rattle.std.proofs.lemmas.List.{length-map}
-use Rattle.std.proofs.lemmas.List.Folds.{flat_map-map}
-use Rattle.reg_names.specs.Names.{canon}
-use Rattle.reg_model.specs.Crates.{collides, first, has_crate, versions}
-use Rattle.reg_model.specs.Registry.{Publication, Registry, Text, text_cmp}
-use Rattle.reg_model.specs.Reports.{crate_line, crates_text}
+use Rattle.reg_model.specs.Crates.{collides}
+use Rattle.reg_model.specs.Registry.{Publication}
+use Rattle.reg_model.specs.Reports.{crates_text}
 use Rattle.reg_model.specs.Search.{marked, top}
-use Rattle.reg_model.proofs.Canons.{canon-canon}
-use Rattle.reg_model.proofs.Lists.{list_any_map}
 use Rattle.reg_model.proofs.Members.{IsIn, filtered_passes, map_same}
-use Rattle.reg_tables_schema.proofs.Queries.{maps_twice}
-use Rattle.reg_tables_sql.specs.declared.crates.Crate.{Crate}
-use Rattle.reg_tables_sql.specs.declared.versions.Version.{Version}
-use Rattle.reg_tables_meaning.specs.Changes.{told_of}
-use Rattle.reg_tables_meaning.specs.Entries.{ShownVersion, shown_version, version_shown}
-use Rattle.reg_tables_meaning.specs.Stands.{Ids, spelling_at}
+use Rattle.reg_tables_meaning.specs.Entries.{ShownVersion}
 use Rattle.reg_tables_meaning.proofs.CrateLemmas.{same_bytes}
 use Rattle.reg_tables_meaning.proofs.SummaryRows.{got_at}
-use Rattle.reg_versions.specs.Precedence.{Marked, top_place}
+use Rattle.reg_versions.specs.Precedence.{top_place}
 use Rattle.reg_versions.specs.Versions.{parts_of}
-use Rattle.reg_service_commands.specs.ReportedCrates.{IsCrate, highest_among, line_at, line_of_crate, read_version}
-use Rattle.reg_model.proofs.CanonLists.{canons_listed}
+use Rattle.reg_service_commands.specs.ReportedCrates.{line_at}
 
 abbrev read_shown : ShownVersion → Marked
 read_shown v = (parts_of v.version, v.yanked)

@@ -1,20 +1,10 @@
 -- What was asked of all crates, one after another, makes up the report on crates.
-use Rattle.std.proofs.Common.{◌≡◌, ℕ, ◌+◌, ◌<◌, List, [], ◌++◌, length, take, get_or, Ok, Err, Result, refl, ap, ◌∙◌}
-use Rattle.std.specs.Prelude.{string_bytes, Vec, String}
-use Rattle.std.specs.declared.alloc.Global.{Global}
-use Rattle.sqlite.specs.Tree.{Trees}
-use Rattle.sqlite_trees.specs.declared.store.Store.{Ghosts}
-use Rattle.reg_model.specs.Registry.{Text}
-use Rattle.reg_model.specs.Reports.{crate_line, crates_text}
-use Rattle.reg_tables_sql.specs.declared.crates.Crate.{Crate}
-use Rattle.reg_tables_sql.specs.declared.versions.Version.{Version}
-use Rattle.reg_tables_meaning.specs.Calls.{ListsCrates, ListsVersions}
-use Rattle.reg_tables.specs.declared.work.StoreFault.{StoreFault}
-use Rattle.reg_tables.specs.declared.work.Work.{Work}
-use Rattle.reg_tables.specs.Calling.{Asks}
-use Rattle.reg_access.proofs.Questions.{asks_after, asks_both, asks_failed, asks_made}
-use Rattle.reg_service_commands.specs.ReportedCrates.{AddsLine, HasLines, IsCrate, highest_among, line_of_crate}
-use Rattle.reg_service_commands.specs.Reports.{Reports}
+use Rattle.reg_service_commands.proofs.Words.{◌≡◌, ℕ, ◌+◌, ◌<◌, List, [], ◌++◌, length, take, get_or, Ok, Err, Result, refl, ap, ◌∙◌}
+use Rattle.reg_service_commands.proofs.Words.{string_bytes, Vec, String, Global, Trees, Ghosts, Text, crate_line, Crate, Version}
+use Rattle.reg_service_commands.proofs.Words.{ListsCrates, ListsVersions, StoreFault, Work, Asks, asks_after, asks_both, asks_failed}
+use Rattle.reg_service_commands.proofs.Words.{asks_made, HasLines, IsCrate, highest_among, line_of_crate, Reports}
+use Rattle.reg_model.specs.Reports.{crates_text}
+use Rattle.reg_service_commands.specs.ReportedCrates.{AddsLine}
 use Rattle.reg_service_commands.proofs.CrateLines.{crates_told, each_at, line_told}
 use Rattle.reg_service_commands.proofs.Behind.{next_line}
 

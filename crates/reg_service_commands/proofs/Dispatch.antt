@@ -1,16 +1,11 @@
 -- What a function obeys under any limits, and by another name of the command, it obeys under these.
-use Rattle.std.proofs.Common.{◌≡◌, Bool, true, None, Result, Ok, Err, ap, refl, subst, sym, ◌∙◌}
-use Rattle.sqlite_trees.specs.declared.store.Store.{Ghosts}
-use Rattle.reg_body.specs.declared.limits.Limits.{Limits}
-use Rattle.reg_model.specs.Events.{Command}
+use Rattle.reg_service_commands.proofs.Words.{◌≡◌, Bool, true, None, Result, Ok, Err, refl, subst, sym, ◌∙◌, Ghosts, Limits, Command}
+use Rattle.reg_service_commands.proofs.Words.{StoreFault, Work, Reply, OrderTold}
 use Rattle.reg_policy.specs.declared.event.AdminCommand.{AdminCommand}
 use Rattle.reg_policy.specs.Events.{command_of}
-use Rattle.reg_tables.specs.declared.work.StoreFault.{StoreFault}
-use Rattle.reg_tables.specs.declared.work.Work.{Work}
 use Rattle.reg_access.proofs.Calls.{called_err, called_ok}
-use Rattle.reg_service_commands.specs.Orders.{Obeys, Reply}
+use Rattle.reg_service_commands.specs.Orders.{Obeys}
 use Rattle.reg_service_commands.specs.Telling.{IsUntold, ObeysTold, ObeysToldUnder}
-use Rattle.reg_service_commands.specs.declared.told.OrderTold.{OrderTold}
 use Rattle.reg_service_commands.proofs.Ordered.{is_report, report_words, unchanged_told}
 
 module _ {S : Type 0} (g : Ghosts S) (traced : Bool) (limits : Limits) (command given : AdminCommand) (same : command ≡ given) (r : Result OrderTold StoreFault) (old new : Work S) where

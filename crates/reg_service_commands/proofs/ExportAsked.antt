@@ -1,22 +1,10 @@
 -- What was asked of all crates, one after another, makes up the index.
-use Rattle.std.proofs.Common.{◌≡◌, ℕ, ◌+◌, ◌<◌, List, [], ◌∷◌, ◌++◌, map, length, take, get_or, Ok, Err, Result, refl, sym, ap, subst, ◌∙◌}
-use Rattle.std.specs.Prelude.{string_bytes, String, Vec}
-use Rattle.std.specs.declared.alloc.Global.{Global}
-use Rattle.sqlite.specs.Tree.{Trees}
-use Rattle.sqlite_trees.specs.declared.store.Store.{Ghosts}
+use Rattle.reg_service_commands.proofs.Words.{◌≡◌, ℕ, ◌+◌, ◌<◌, List, [], ◌∷◌, ◌++◌, map, length, take, get_or, Ok, Err, Result, refl, sym}
+use Rattle.reg_service_commands.proofs.Words.{ap, subst, ◌∙◌, string_bytes, String, Vec, Global, Trees, Ghosts, file_text, path_of, Text}
+use Rattle.reg_service_commands.proofs.Words.{Crate, Version, ListsCrates, ListsVersions, StoreFault, Work, Asks, asks_after, asks_both}
+use Rattle.reg_service_commands.proofs.Words.{asks_failed, asks_made, AddsFiles, file_of, texts_of, entry_of_version}
 use Rattle.sqlite_trees.proofs.ListLemmas.{all-get_or}
-use Rattle.reg_line.specs.File.{file_text}
-use Rattle.reg_names.specs.Names.{path_of}
-use Rattle.reg_model.specs.Registry.{Text}
-use Rattle.reg_tables_sql.specs.declared.crates.Crate.{Crate}
-use Rattle.reg_tables_sql.specs.declared.versions.Version.{Version}
-use Rattle.reg_tables_meaning.specs.Calls.{ListsCrates, ListsVersions}
-use Rattle.reg_tables.specs.declared.work.StoreFault.{StoreFault}
-use Rattle.reg_tables.specs.declared.work.Work.{Work}
-use Rattle.reg_tables.specs.Calling.{Asks}
-use Rattle.reg_access.proofs.Questions.{asks_after, asks_both, asks_failed, asks_made}
-use Rattle.reg_service_commands.specs.Exported.{AddsFile, AddsFiles, Exports, HasConfig, IsCrate, file_of, texts_of}
-use Rattle.reg_service_steps.specs.Reads.{entry_of_version}
+use Rattle.reg_service_commands.specs.Exported.{AddsFile, Exports, HasConfig, IsCrate}
 use Rattle.reg_service_commands.proofs.IndexFiles.{file_told, index_told, next_file}
 
 abbrev Files : Type 0

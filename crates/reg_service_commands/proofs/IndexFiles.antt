@@ -1,28 +1,15 @@
 -- The index file of a crate, by the records of its versions and by the registry.
-use Rattle.std.proofs.Common.{◌≡◌, ℕ, ◌+◌, ◌<◌, List, [], ◌∷◌, ◌++◌, map, length, take, get_or, refl, sym, ap, ◌∙◌, append_assoc}
-use Rattle.std.specs.Prelude.{codes, string_bytes, unwrap_or}
+use Rattle.reg_service_commands.proofs.Words.{◌≡◌, ℕ, ◌+◌, ◌<◌, List, [], ◌∷◌, ◌++◌, map, length, take, get_or, refl, sym, ap, ◌∙◌}
+use Rattle.reg_service_commands.proofs.Words.{append_assoc, codes, string_bytes, unwrap_or, filter, find, list_any, IsStrictlySortedBy}
+use Rattle.reg_service_commands.proofs.Words.{option_map, bytes_eq, take_more, file_text, canon, path_of, first, has_crate, versions}
+use Rattle.reg_service_commands.proofs.Words.{Registry, Text, text_cmp, canon-canon, list_any_map, Crate, Version, told_of, shown_version}
+use Rattle.reg_service_commands.proofs.Words.{version_shown, Ids, spelling_at, file_of, entry_of_version, canons_listed}
 use Rattle.std.specs.FinSet as finset
-use Rattle.std.specs.List.{filter, find, list_any}
-use Rattle.std.specs.List.Sorted.{IsStrictlySortedBy}
-use Rattle.std.specs.Option.{option_map}
-use Rattle.std.specs.Str.{bytes_eq}
-use Rattle.std.proofs.lemmas.List.{map-append, take_more}
+use Rattle.std.proofs.lemmas.List.{map-append}
 use Rattle.reg_line.specs.Config.{config_text}
-use Rattle.reg_line.specs.File.{file_text}
-use Rattle.reg_names.specs.Names.{canon, path_of}
-use Rattle.reg_model.specs.Crates.{exported, first, has_crate, index_of, versions}
-use Rattle.reg_model.specs.Registry.{Registry, Text, text_cmp}
-use Rattle.reg_model.proofs.Canons.{canon-canon}
-use Rattle.reg_model.proofs.Lists.{list_any_map}
-use Rattle.reg_tables_sql.specs.declared.crates.Crate.{Crate}
-use Rattle.reg_tables_sql.specs.declared.versions.Version.{Version}
-use Rattle.reg_tables_meaning.specs.Changes.{told_of}
-use Rattle.reg_tables_meaning.specs.Entries.{shown_version, version_shown}
-use Rattle.reg_tables_meaning.specs.Stands.{Ids, spelling_at}
-use Rattle.reg_service_commands.specs.Exported.{IsCrate, file_of}
-use Rattle.reg_service_steps.specs.Reads.{entry_of_version}
+use Rattle.reg_model.specs.Crates.{exported, index_of}
+use Rattle.reg_service_commands.specs.Exported.{IsCrate}
 use Rattle.reg_service_steps.proofs.Entries.{entries_told}
-use Rattle.reg_model.proofs.CanonLists.{canons_listed}
 
 pub file_told : (ids : Ids) (s : Registry) (c : Crate) (vs : List Version) → map shown_version vs ≡ told_of (spelling_at ids c.id) [] (λ name. map (version_shown s.yanked) (versions s name)) → IsCrate ids s c
     → (path_of (string_bytes c.name), file_text (map entry_of_version vs)) ≡ file_of s c

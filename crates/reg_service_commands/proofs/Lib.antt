@@ -19,3 +19,4 @@ mod TokensAsked
 mod TokenScopes
 mod TokenWalk
 mod Tops
+mod Words

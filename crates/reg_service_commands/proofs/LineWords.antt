@@ -1,15 +1,13 @@
 -- Words with spaces between them, of which one is cut into words again.
-use Rattle.std.proofs.Common.{◌≡◌, ◌+◌, ◌==◌, List, [], ◌∷◌, ◌++◌, arith, length, Ok, Err, Result, Option, Some, refl, sym, ap, ◌∙◌}
-use Rattle.std.specs.Prelude.{IfOk, String, codes, string_bytes}
+use Rattle.reg_service_commands.proofs.Words.{◌≡◌, ◌+◌, ◌==◌, List, [], ◌∷◌, ◌++◌, arith, length, Ok, Err, Result, Option, Some, refl, sym}
+use Rattle.reg_service_commands.proofs.Words.{ap, ◌∙◌, String, codes, string_bytes, option_map, Global, Text, line_of, name_words}
+use Rattle.std.specs.Prelude.{IfOk}
 use Rattle.std.specs.Borrow.{Bor}
-use Rattle.std.specs.Option.{option_map}
 use Rattle.std.specs.declared.alloc.AllocError.{AllocError}
-use Rattle.std.specs.declared.alloc.Global.{Global}
 use Rattle.std.specs.List.{count_by, join_with_byte}
 use Rattle.std.proofs.lemmas.List.{append_assoc}
 use Rattle.std.proofs.lemmas.List.Splits.{join_with_byte-slice_split, length-slice_split}
-use Rattle.reg_model.specs.Registry.{Text}
-use Rattle.reg_model.specs.Trail.{line_of, name_words, words_in}
+use Rattle.reg_model.specs.Trail.{words_in}
 
 spaced : (w name : Text) → join_with_byte 32 (w ∷ name ∷ []) ≡ join_with_byte 32 (w ∷ words_in name)
 spaced w name = by (words_in name) refl (length-slice_split (λ b. b == 32) name)

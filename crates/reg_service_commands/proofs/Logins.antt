@@ -1,16 +1,10 @@
 -- The login of an account, by all accounts in the order of their ids.
-use Rattle.std.proofs.Common.{◌≡◌, ◌==◌, ◌-◌, ℕ, ◌+◌, List, [], ◌∷◌, map, Bool, true, false, cond, None, refl, sym, ap, ◌∙◌}
-use Rattle.std.specs.Prelude.{slice_get, unwrap_or}
-use Rattle.std.specs.List.{enumerate_from}
-use Rattle.std.specs.Option.{option_map}
+use Rattle.reg_service_commands.proofs.Words.{◌≡◌, ◌==◌, ◌-◌, ℕ, ◌+◌, List, [], ◌∷◌, map, Bool, true, false, cond, None, refl, sym, ap, ◌∙◌}
+use Rattle.reg_service_commands.proofs.Words.{slice_get, unwrap_or, enumerate_from, option_map, Registry, with_id, maps_twice, Account}
+use Rattle.reg_service_commands.proofs.Words.{entry_of_account, login_among}
 use Rattle.reg_model.specs.Registry as model
-use Rattle.reg_model.specs.Registry.{Registry, with_id}
 use Rattle.reg_model.specs.Reports.{login_of}
-use Rattle.reg_tables_schema.proofs.Queries.{maps_twice}
-use Rattle.reg_tables_sql.specs.declared.accounts.Account.{Account}
-use Rattle.reg_tables_meaning.specs.Entries.{entry_of_account}
 use Rattle.reg_tables_meaning.proofs.SummaryRows.{got_map, mapped}
-use Rattle.reg_service_commands.specs.ReportedTokens.{login_among}
 
 elements : {X : Type 0} (n : ℕ) (xs : List X) → map (λ (e : ℕ × X). e.1) (enumerate_from n xs) ≡ xs
 elements n [] = refl

@@ -1,17 +1,9 @@
 -- Crates and accounts that are named by texts.
-use Rattle.std.proofs.Common.{◌≡◌, ◌∷◌, [], ◌&&◌, not, is_none, ℕ, Bool, true, Option, Some, None, sym, ap, ◌∙◌}
+use Rattle.reg_service_commands.proofs.Words.{◌≡◌, ◌∷◌, [], ◌&&◌, not, is_none, ℕ, Bool, true, Option, Some, None, sym, ap, ◌∙◌, Trees}
+use Rattle.reg_service_commands.proofs.Words.{is_name, exists, Registry, Text, id_of_login, Account, Crate, FindsAccount, FindsNamed}
+use Rattle.reg_service_commands.proofs.Words.{named_there, FindsPair, first_ground}
 use Rattle.std.specs.Prelude.{Ok, Err}
-use Rattle.sqlite.specs.Tree.{Trees}
-use Rattle.reg_names.specs.Names.{is_name}
 use Rattle.reg_model.specs.declared.rule.AdminRefusal.TheVariants as refusal
-use Rattle.reg_model.specs.Crates.{exists}
-use Rattle.reg_model.specs.Registry.{Registry, Text, id_of_login}
-use Rattle.reg_tables_sql.specs.declared.accounts.Account.{Account}
-use Rattle.reg_tables_sql.specs.declared.crates.Crate.{Crate}
-use Rattle.reg_tables_meaning.specs.Calls.{FindsAccount}
-use Rattle.reg_service_steps.specs.Named.{FindsNamed}
-use Rattle.reg_service_steps.proofs.Names.{named_there}
-use Rattle.reg_service_commands.specs.Orders.{FindsPair, first_ground}
 
 -- a crate and an account
 no_ground : (there : Bool) (o : Option ℕ) (id : ℕ) → there ≡ true → o ≡ Some id → first_ground ((refusal.G8, not there) ∷ (refusal.G3, is_none o) ∷ []) ≡ None

@@ -1,41 +1,27 @@
 -- From the words for what a command changes to what is told of it.
-use Rattle.std.proofs.Common.{◌≡◌, ℕ, List, [], ◌∷◌, Bool, true, false, cond, not, Option, Some, None, Result, Ok, Err, is_none, refl, sym, ap, subst, ◌∙◌}
-use Rattle.std.specs.Prelude.{◌&&◌, ◌||◌, Vec, codes, is_some, string_bytes, unwrap_or}
-use Rattle.std.specs.declared.alloc.Global.{Global}
+use Rattle.reg_service_commands.proofs.Words.{◌≡◌, ℕ, List, [], ◌∷◌, Bool, true, false, cond, not, Option, Some, None, Result, Ok, Err}
+use Rattle.reg_service_commands.proofs.Words.{is_none, refl, sym, ap, subst, ◌∙◌, Vec, codes, string_bytes, unwrap_or, Global, decimal}
+use Rattle.reg_service_commands.proofs.Words.{cons_option, list_all, option_map, Trees, Limits, canon, name_of, is_pattern, AdminRefusal}
+use Rattle.reg_service_commands.proofs.Words.{is_reserved_always, Command, Done, Refused, Access, CrateOpen, CrateRestrict, Crates}
+use Rattle.reg_service_commands.proofs.Words.{OwnerAdd, ReaderAdd, ReaderRemove, Reserve, TokenAdd, TokenRevoke, Tokens, Unreserve, UserAdd}
+use Rattle.reg_service_commands.proofs.Words.{UserDisable, UserEnable, Users, Order, patterns_given, Registry, Text, id_of_login, with_id}
+use Rattle.reg_service_commands.proofs.Words.{with_commas, command_words, line_of, name_words, unless_some, AdminReply, reply_of, Account}
+use Rattle.reg_service_commands.proofs.Words.{Crate, FindsAccount, Tells, TellsLive, FindsNamed, line_if, is_given, FindsPair, HasOutcome}
+use Rattle.reg_service_commands.proofs.Words.{enabling, restricting, IsDoneTold, enabled_word, restricted_word, OrderTold}
+use Rattle.std.specs.Prelude.{◌&&◌, ◌||◌, is_some}
 use Rattle.std.specs.FinSet as finset
-use Rattle.std.specs.Fmt.{decimal}
-use Rattle.std.specs.List.{cons_option, list_all}
-use Rattle.std.specs.Option.{option_map}
-use Rattle.sqlite.specs.Tree.{Trees}
-use Rattle.reg_body.specs.declared.limits.Limits.{Limits}
-use Rattle.reg_names.specs.Names.{canon, name_of}
-use Rattle.reg_names.specs.Patterns.{is_pattern}
-use Rattle.reg_model.specs.declared.rule.AdminRefusal.{AdminRefusal}
-use Rattle.reg_model.specs.Crates.{is_reserved_always, is_restricted}
-use Rattle.reg_model.specs.Events.{Command}
-use Rattle.reg_model.specs.Events.Answer.{Done, Refused}
-use Rattle.reg_model.specs.Events.Command.{Access, CrateOpen, CrateRestrict, Crates, OwnerAdd, ReaderAdd, ReaderRemove, Reserve, TokenAdd, TokenRevoke, Tokens, Unreserve, UserAdd, UserDisable, UserEnable, Users}
-use Rattle.reg_model.specs.Events.Event.{Order}
-use Rattle.reg_model.specs.Refusals.{patterns_given, refused}
-use Rattle.reg_model.specs.Registry.{Registry, Text, Token, holds, id_of_login, ids_of, is_enabled, is_known, with_id}
-use Rattle.reg_model.specs.Reports.{with_commas}
-use Rattle.reg_model.specs.Trail.{command_words, line, line_of, name_words, only_if, spelled, unless, unless_some}
-use Rattle.reg_policy.specs.declared.event.AdminReply.{AdminReply}
-use Rattle.reg_policy.specs.Events.{reply_of}
-use Rattle.reg_tables_sql.specs.declared.accounts.Account.{Account}
-use Rattle.reg_tables_sql.specs.declared.crates.Crate.{Crate}
+use Rattle.reg_model.specs.Crates.{is_restricted}
+use Rattle.reg_model.specs.Refusals.{refused}
+use Rattle.reg_model.specs.Registry.{Token, holds, ids_of, is_enabled, is_known}
+use Rattle.reg_model.specs.Trail.{line, only_if, spelled, unless}
 use Rattle.reg_tables_sql.specs.declared.pairs.Relation.{Relation}
 use Rattle.reg_tables_sql.specs.declared.pairs.Relation.TheVariants.{Owners, Readers}
-use Rattle.reg_tables_meaning.specs.Calls.{FindsAccount, Tells, TellsLive, TellsOtherSight, TellsPair, TellsReserved}
+use Rattle.reg_tables_meaning.specs.Calls.{TellsOtherSight, TellsPair, TellsReserved}
 use Rattle.reg_tables_meaning.specs.Relations.{related}
 use Rattle.reg_access.proofs.GrantLaw.{first_canon}
-use Rattle.reg_service_steps.specs.Named.{FindsNamed}
-use Rattle.reg_service_steps.specs.Telling.{differs, line_if}
+use Rattle.reg_service_steps.specs.Telling.{differs}
 use Rattle.reg_service_steps.proofs.Afterwards.{none_told, told_if}
-use Rattle.reg_service_steps.proofs.Names.{is_given}
-use Rattle.reg_service_commands.specs.Orders.{FindsPair, HasOutcome, enabling, restricting}
-use Rattle.reg_service_commands.specs.Telling.{IsDoneTold, OrdersTold, enabled_word, restricted_word}
-use Rattle.reg_service_commands.specs.declared.told.OrderTold.{OrderTold}
+use Rattle.reg_service_commands.specs.Telling.{OrdersTold}
 use Rattle.reg_service_commands.proofs.AnswerLines.{refused_untold}
 
 -- what is so, by whether it has yet to become so

@@ -1,17 +1,9 @@
 -- From what refuses a command, or does not, to its outcome.
-use Rattle.std.proofs.Common.{◌≡◌, Some, None, sym, ap, subst, ◌∙◌}
-use Rattle.sqlite.specs.Tree.{Trees}
-use Rattle.reg_body.specs.declared.limits.Limits.{Limits}
-use Rattle.reg_model.specs.declared.rule.AdminRefusal.{AdminRefusal}
-use Rattle.reg_model.specs.Effects.{commanded, replied}
-use Rattle.reg_model.specs.Events.{Answer, Command}
-use Rattle.reg_model.specs.Events.Answer.{Refused}
-use Rattle.reg_model.specs.Events.Event.{Order}
+use Rattle.reg_service_commands.proofs.Words.{◌≡◌, Some, None, sym, ap, subst, ◌∙◌, Trees, Limits, AdminRefusal, replied, Answer, Command}
+use Rattle.reg_service_commands.proofs.Words.{Refused, Order, Registry, Outcome, outcome, unless_refused, Ids, Stands, HasOutcome}
+use Rattle.reg_model.specs.Effects.{commanded}
 use Rattle.reg_model.specs.Refusals.{refused}
-use Rattle.reg_model.specs.Registry.{Registry}
-use Rattle.reg_model.specs.Steps.{Outcome, outcome, unless_refused}
-use Rattle.reg_tables_meaning.specs.Stands.{Holds, Ids, Stands}
-use Rattle.reg_service_commands.specs.Orders.{HasOutcome}
+use Rattle.reg_tables_meaning.specs.Stands.{Holds}
 
 by_outcome : (limits : Limits) (s : Registry) (c : Command) (o : Outcome) (new : Trees) → outcome limits s (Order c) ≡ o → Stands o.1 new → (o.0 ≡ (outcome limits s (Order c)).0) × Stands (outcome limits s (Order c)).1 new
 by_outcome limits s c o new e stands = (ap (λ it. it.0) (sym e), subst (λ (it : Outcome). Stands it.1 new) (sym e) stands)

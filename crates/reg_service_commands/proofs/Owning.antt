@@ -1,30 +1,19 @@
 -- Owners, readers and restrictions of a crate that was found, changed by a command.
-use Rattle.std.proofs.Common.{◌≡◌, ◌∷◌, [], ◌||◌, ◌&&◌, not, ℕ, Bool, true, false, Option, Some, None, refl, sym, ap, subst, ◌∙◌}
+use Rattle.reg_service_commands.proofs.Words.{◌≡◌, ◌∷◌, [], ◌||◌, ◌&&◌, not, ℕ, Bool, true, false, Option, Some, None, refl, sym, ap, subst}
+use Rattle.reg_service_commands.proofs.Words.{◌∙◌, Trees, Limits, canon, is_name, AdminRefusal, exists, replied, Done, Refused, OwnerAdd}
+use Rattle.reg_service_commands.proofs.Words.{ReaderAdd, ReaderRemove, Order, Registry, Text, id_of_login, Crate, Stands, unwrap_or}
+use Rattle.reg_service_commands.proofs.Words.{cons_option, FindsNamed, named_there, FindsPair, HasOutcome, first_ground, restricting}
 use Rattle.std.specs.FinSet as finset
 use Rattle.std.specs.FinSet.{FinSet}
 use Rattle.std.specs.Ordering.{eq_by_cmp}
-use Rattle.sqlite.specs.Tree.{Trees}
-use Rattle.reg_body.specs.declared.limits.Limits.{Limits}
-use Rattle.reg_names.specs.Names.{canon, is_name}
-use Rattle.reg_model.specs.declared.rule.AdminRefusal.{AdminRefusal}
 use Rattle.reg_model.specs.declared.rule.AdminRefusal.TheVariants as refusal
-use Rattle.reg_model.specs.Crates.{exists}
-use Rattle.reg_model.specs.Effects.{commanded, owners_of, replied}
-use Rattle.reg_model.specs.Events.Answer.{Done, Refused}
-use Rattle.reg_model.specs.Events.Command.{OwnerAdd, ReaderAdd, ReaderRemove}
-use Rattle.reg_model.specs.Events.Event.{Order}
+use Rattle.reg_model.specs.Effects.{commanded, owners_of}
 use Rattle.reg_model.specs.Refusals.{refused}
-use Rattle.reg_model.specs.Registry.{Owner, Registry, Text, id_of_login, owner_cmp}
+use Rattle.reg_model.specs.Registry.{Owner, owner_cmp}
 use Rattle.reg_model.proofs.Keys.{owner_apart, owner_total}
-use Rattle.reg_tables_sql.specs.declared.crates.Crate.{Crate}
 use Rattle.reg_tables_meaning.specs.Calls.{AddsOwner, AddsReader, RemovesReader, Restricts}
 use Rattle.reg_tables_meaning.specs.Changes.{insert_at, mark_in, remove_at}
-use Rattle.reg_tables_meaning.specs.Stands.{Stands}
-use Rattle.std.specs.Prelude.{Ok, Err, unwrap_or}
-use Rattle.std.specs.List.{cons_option}
-use Rattle.reg_service_steps.specs.Named.{FindsNamed}
-use Rattle.reg_service_steps.proofs.Names.{named_there}
-use Rattle.reg_service_commands.specs.Orders.{FindsPair, HasOutcome, first_ground, restricting}
+use Rattle.std.specs.Prelude.{Ok, Err}
 use Rattle.reg_service_commands.proofs.Named.{paired}
 use Rattle.reg_service_commands.proofs.Outcomes.{done_so, refused_so}
 

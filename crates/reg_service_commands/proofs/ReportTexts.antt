@@ -1,21 +1,14 @@
 -- From what was asked to the texts of the registry.
-use Rattle.std.proofs.Common.{◌≡◌, ◌==◌, ◌-◌, ℕ, ◌+◌, List, [], ◌++◌, map, false, Some, sym, ap, ◌∙◌, arith}
-use Rattle.std.specs.Prelude.{slice_get, unwrap_or}
-use Rattle.std.specs.List.{enumerate_from, filter, flat_map}
-use Rattle.std.specs.Option.{option_map}
-use Rattle.std.proofs.lemmas.Bool.{ne_eqb}
-use Rattle.std.proofs.lemmas.List.Folds.{flat_map-map}
+use Rattle.reg_service_commands.proofs.Words.{◌≡◌, ◌==◌, ◌-◌, ℕ, ◌+◌, List, [], ◌++◌, map, false, Some, sym, ap, ◌∙◌, arith, slice_get}
+use Rattle.reg_service_commands.proofs.Words.{unwrap_or, enumerate_from, filter, flat_map, option_map, ne_eqb, flat_map-map, Registry, Text}
+use Rattle.reg_service_commands.proofs.Words.{with_id, token_line, user_line, Account, entry_of_account, line_of_grant, line_of_reader}
+use Rattle.reg_service_commands.proofs.Words.{line_among}
 use Rattle.reg_names.specs.declared.endpoint.Endpoint.{Endpoint}
 use Rattle.reg_model.specs.Grants.{all_endpoints, grants, is_granted, who_reads}
 use Rattle.reg_model.specs.Registry as model
-use Rattle.reg_model.specs.Registry.{Registry, Text, with_id}
-use Rattle.reg_model.specs.Reports.{access_text, grant_line, login_of_token, reader_line, token_line, tokens_text, user_line, users_text}
-use Rattle.reg_tables_sql.specs.declared.accounts.Account.{Account}
-use Rattle.reg_tables_meaning.specs.Entries.{entry_of_account}
+use Rattle.reg_model.specs.Reports.{access_text, grant_line, login_of_token, reader_line, tokens_text, users_text}
 use Rattle.reg_access.specs.Grants.{Told, granted, login_at, told_of}
 use Rattle.reg_access.specs.declared.grants.Grant.{Grant}
-use Rattle.reg_service_commands.specs.Reports.{line_of_grant, line_of_reader}
-use Rattle.reg_service_commands.specs.ReportedTokens.{line_among}
 use Rattle.reg_service_commands.proofs.Behind.{flat_flat, same_entries}
 use Rattle.reg_service_commands.proofs.Logins.{login_is}
 

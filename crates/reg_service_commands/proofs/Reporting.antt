@@ -1,19 +1,11 @@
 -- Commands that report.
-use Rattle.std.proofs.Common.{◌≡◌, ◌∷◌, [], not, Some, None, refl, sym, ap, ◌∙◌}
-use Rattle.sqlite.specs.Tree.{Trees}
-use Rattle.reg_body.specs.declared.limits.Limits.{Limits}
-use Rattle.reg_names.specs.Names.{name_of}
+use Rattle.reg_service_commands.proofs.Words.{◌≡◌, ◌∷◌, [], not, Some, None, refl, sym, ap, ◌∙◌, Trees, Limits, name_of, Refused, Access}
+use Rattle.reg_service_commands.proofs.Words.{Crates, Tokens, Users, Order, Text, Tells, HasOutcome, first_ground, is_given, is_not}
 use Rattle.reg_model.specs.declared.rule.AdminRefusal.TheVariants as refusal
-use Rattle.reg_model.specs.Events.Answer.{Refused, Report}
-use Rattle.reg_model.specs.Events.Command.{Access, Crates, Tokens, Users}
-use Rattle.reg_model.specs.Events.Event.{Order}
+use Rattle.reg_model.specs.Events.Answer.{Report}
 use Rattle.reg_model.specs.Effects.{commanded}
 use Rattle.reg_model.specs.Refusals.{refused}
-use Rattle.reg_model.specs.Registry.{Text}
 use Rattle.reg_model.specs.Reports.{access_text, crates_text, tokens_text, users_text}
-use Rattle.reg_tables_meaning.specs.Calls.{Tells}
-use Rattle.reg_service_commands.specs.Orders.{HasOutcome, first_ground}
-use Rattle.reg_service_steps.proofs.Names.{is_given, is_not}
 use Rattle.reg_service_commands.proofs.Outcomes.{done_so, refused_so}
 
 pub no_report : (limits : Limits) (name : Text) (db : Trees) → name_of name ≡ None → HasOutcome limits (Order (Access name)) (Refused refusal.G4) db db

@@ -1,20 +1,15 @@
 -- The scopes of a token stand in front of those of the tokens behind it.
-use Rattle.std.proofs.Common.{◌≡◌, ◌==◌, ℕ, suc, ◌+◌, ◌<◌, List, [], ◌∷◌, ◌++◌, map, take, drop, false, refl, sym, ap, ◌∙◌, arith}
-use Rattle.std.specs.Prelude.{string_bytes}
-use Rattle.std.specs.List.{enumerate_from, flat_map, prefix_len}
-use Rattle.std.proofs.lemmas.Bool.{eq-eqb, ne_eqb}
+use Rattle.reg_service_commands.proofs.Words.{◌≡◌, ◌==◌, ℕ, suc, ◌+◌, ◌<◌, List, [], ◌∷◌, ◌++◌, map, take, drop, false, refl, sym, ap, ◌∙◌}
+use Rattle.reg_service_commands.proofs.Words.{arith, string_bytes, enumerate_from, flat_map, ne_eqb, Text, token_line, Account, Scope}
+use Rattle.reg_service_commands.proofs.Words.{Token, AreTokens, line_among, login_among, pattern_of, with_patterns}
+use Rattle.std.specs.List.{prefix_len}
+use Rattle.std.proofs.lemmas.Bool.{eq-eqb}
 use Rattle.sqlite.specs.Order.{Row}
 use Rattle.reg_model.specs.Registry as model
-use Rattle.reg_model.specs.Registry.{Text}
-use Rattle.reg_model.specs.Reports.{token_line}
 use Rattle.reg_tables_sql.specs.Scopes.{columns_of_scope}
-use Rattle.reg_tables_sql.specs.declared.accounts.Account.{Account}
-use Rattle.reg_tables_sql.specs.declared.scopes.Scope.{Scope}
-use Rattle.reg_tables_sql.specs.declared.tokens.Token.{Token}
 use Rattle.reg_tables_meaning.specs.Stands.{scope_of, scopes_of}
 use Rattle.reg_tables_meaning.specs.TokenEntries.{entry_of_token, without_patterns}
 use Rattle.reg_tables_meaning.proofs.AccountEntries.{heads, number_is, tails, words_are}
-use Rattle.reg_service_commands.specs.ReportedTokens.{AreTokens, line_among, login_among, pattern_of, with_patterns}
 
 front : {X : Type 0} {x y : X} {xs ys : List X} → ◌≡◌ {A = List X} (x ∷ xs) (y ∷ ys) → x ≡ y
 front e = cc

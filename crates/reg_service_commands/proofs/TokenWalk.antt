@@ -1,15 +1,11 @@
 -- The lines of tokens, from one token to the next.
-use Rattle.std.proofs.Common.{◌≡◌, ◌+◌, List, [], ◌∷◌, ◌++◌, length, refl, sym, ap, subst, ◌∙◌, append-nil, append_assoc, arith}
-use Rattle.std.specs.List.{enumerate_from, flat_map}
-use Rattle.std.proofs.lemmas.Grind.{flat_map-append}
+use Rattle.reg_service_commands.proofs.Words.{◌≡◌, ◌+◌, List, [], ◌∷◌, ◌++◌, length, refl, sym, ap, subst, ◌∙◌, append-nil, append_assoc}
+use Rattle.reg_service_commands.proofs.Words.{arith, enumerate_from, flat_map, flat_map-append, Text, Account, Scope, Token, AreTokens}
+use Rattle.reg_service_commands.proofs.Words.{line_among}
 use Rattle.std.proofs.lemmas.List.{length_push}
 use Rattle.reg_model.specs.Registry as model
-use Rattle.reg_model.specs.Registry.{Text}
-use Rattle.reg_tables_sql.specs.declared.accounts.Account.{Account}
-use Rattle.reg_tables_sql.specs.declared.scopes.Scope.{Scope}
-use Rattle.reg_tables_sql.specs.declared.tokens.Token.{Token}
 use Rattle.reg_tables_meaning.proofs.Numbered.{enumerate_snoc}
-use Rattle.reg_service_commands.specs.ReportedTokens.{AreTokens, IsNext, line_among}
+use Rattle.reg_service_commands.specs.ReportedTokens.{IsNext}
 
 -- some tokens have their lines, and these are left
 pub record Walked (accounts : List Account) (ts : List model.Token) (tokens : List Token) (scopes : List Scope) (text : Text) : Type 0 where

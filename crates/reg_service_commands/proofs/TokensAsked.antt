@@ -1,20 +1,10 @@
 -- What was asked of accounts and of tokens makes up the report on tokens.
-use Rattle.std.proofs.Common.{◌≡◌, List, Ok}
-use Rattle.std.specs.Prelude.{string_bytes, Vec, String}
-use Rattle.std.specs.declared.alloc.Global.{Global}
-use Rattle.std.specs.List.{enumerate_from, flat_map}
-use Rattle.sqlite_trees.specs.declared.store.Store.{Ghosts}
+use Rattle.reg_service_commands.proofs.Words.{◌≡◌, List, Ok, string_bytes, Vec, String, Global, enumerate_from, flat_map, Ghosts, Account}
+use Rattle.reg_service_commands.proofs.Words.{ListsAccounts, StoreFault, Work, Asks, asks_both, asks_made, Reports, AreTokens, line_among}
 use Rattle.reg_model.specs.Registry as model
 use Rattle.reg_model.specs.Reports.{tokens_text}
-use Rattle.reg_tables_sql.specs.declared.accounts.Account.{Account}
-use Rattle.reg_tables_meaning.specs.Calls.{ListsAccounts, ListsScopes, ListsTokens}
+use Rattle.reg_tables_meaning.specs.Calls.{ListsScopes, ListsTokens}
 use Rattle.reg_tables_meaning.specs.declared.tokens.TokenLists.{TokenLists}
-use Rattle.reg_tables.specs.declared.work.StoreFault.{StoreFault}
-use Rattle.reg_tables.specs.declared.work.Work.{Work}
-use Rattle.reg_tables.specs.Calling.{Asks}
-use Rattle.reg_access.proofs.Questions.{asks_both, asks_made}
-use Rattle.reg_service_commands.specs.Reports.{Reports}
-use Rattle.reg_service_commands.specs.ReportedTokens.{AreTokens, line_among}
 use Rattle.reg_service_commands.proofs.ReportTexts.{tokens_told}
 
 pub tokens_asked : {S : Type 0} (g : Ghosts S) (accounts : Vec Account Global) (both : TokenLists) (text : String Global) (a b c : Work S) → Asks {E = StoreFault} g a b (Ok accounts) (λ db list. ListsAccounts db list.items)

@@ -1,11 +1,7 @@
 -- The highest of the versions that were read.
-use Rattle.std.proofs.Common.{◌≡◌, ℕ, List, [], map, sym, ap, subst, ◌∙◌}
-use Rattle.std.specs.Prelude.{slice_get, unwrap_or, string_bytes}
-use Rattle.std.specs.Option.{option_and_then, option_map}
-use Rattle.reg_tables_sql.specs.declared.versions.Version.{Version}
-use Rattle.reg_versions.specs.Precedence.{IsTop, Marked, top_place}
+use Rattle.reg_service_commands.proofs.Words.{◌≡◌, ℕ, List, [], map, sym, ap, subst, ◌∙◌, slice_get, unwrap_or, string_bytes}
+use Rattle.reg_service_commands.proofs.Words.{option_and_then, option_map, Version, IsTop, Marked, highest_among, read_version}
 use Rattle.reg_versions.proofs.TopPlace.{top_is_top}
-use Rattle.reg_service_commands.specs.ReportedCrates.{highest_among, read_version}
 
 abbrev text_of : Version → List ℕ
 text_of v = string_bytes v.vers
@@ -15,6 +11,3 @@ module _ (versions : List Version) (releases : List Marked) (are : releases ≡ 
   top_text place is =
       let at = (top_is_top (map read_version versions) place).1 (subst (λ (l : List Marked). IsTop l place) are is) in
       ap (λ o. unwrap_or (option_map text_of (option_and_then (slice_get versions) o)) []) (sym at)
-
-  pub no_text : releases ≡ [] → [] ≡ highest_among versions
-  no_text none = ap (λ (l : List Marked). unwrap_or (option_map text_of (option_and_then (slice_get versions) (top_place l))) []) (sym none ∙ are)

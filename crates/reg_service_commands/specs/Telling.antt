@@ -57,10 +57,6 @@ abbrev pub enabled_word : Bool → Text
 enabled_word true = codes "user-enable"
 enabled_word false = codes "user-disable"
 
-abbrev pub reader_word : Bool → Text
-reader_word true = codes "reader-add"
-reader_word false = codes "reader-remove"
-
 abbrev pub restricted_word : Bool → Text
 restricted_word true = codes "crate-restrict"
 restricted_word false = codes "crate-open"

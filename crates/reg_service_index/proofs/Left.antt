@@ -1,14 +1,15 @@
--- What sending a file leaves of the connection.
-use Rattle.std.proofs.Common.{ℕ, zero, List, Ok, Err, Option, inl, inr}
+-- What reading a file leaves of the connection, and of the tables.
+use Rattle.reg_service_index.proofs.Words.{◌≡◌, ◌⊎◌, ℕ, zero, List, Ok, Err, Result, inl, inr, sym, subst, Row, Ghosts, Held, state, IsOurs}
+use Rattle.reg_service_index.proofs.Words.{HasWalked, walk_ends, Tables, held, IndexFault}
+use Rattle.std.proofs.Common.{Option}
+use Rattle.std.specs.Prelude.{OnOk, OnErr}
 use Rattle.std.specs.Borrow.{Bor}
-use Rattle.sqlite.specs.Order.{Row}
-use Rattle.sqlite_trees.specs.declared.store.Store.{Ghosts}
 use Rattle.sqlite.specs.declared.rows.stream.Rows.{Rows}
-use Rattle.sqlite.specs.Held.{Held}
 use Rattle.sqlite.specs.Next.{HasMoved}
-use Rattle.reg_tables_meaning.specs.Walks.{IsRead, HasWalked}
-use Rattle.reg_tables_meaning.proofs.Walking.{walk_ends}
-use Rattle.reg_service_index.specs.declared.fault.IndexFault.{IndexFault}
+use Rattle.sqlite.specs.State.{IsUnchanged}
+use Rattle.reg_tables_schema.specs.States.{Refuses}
+use Rattle.reg_tables_meaning.specs.Walks.{IsRead}
+use Rattle.reg_tables.specs.Works.{AreOurs, IsLeft, edition_in, is_shut, shown}
 
 module _ {S : Type 0} (g : Ghosts S) (text : List ℕ) (params : Row) (first : Held S) (old new : Rows S g) (given : List Row) (w : HasWalked g text params first old.conn.now given) where
   -- where a row or the end was read, and then something failed
@@ -19,3 +20,17 @@ module _ {S : Type 0} (g : Ghosts S) (text : List ℕ) (params : Row) (first : H
     ours = it.ours;
     survives = it.survives;
   }
+
+same_or_failed : {S T E : Type 0} (g : Ghosts S) (old new : Held S) (r : Result T E) → OnOk r (IsUnchanged (state g old) (state g new)) → OnErr r ((new ≡ old) ⊎ Refuses (state g old) (state g new)) → (new ≡ old) ⊎ Refuses (state g old) (state g new)
+same_or_failed g old new (Ok x) same refused = inr (inl same)
+same_or_failed g old new (Err e) same refused = refused
+
+-- the tables whose connection was read
+pub read_left : {S T E : Type 0} (g : Ghosts S) (old new : Tables S) (r : Result T E) → AreOurs g old → IsRead g r (held old) (held new) → is_shut new ≡ is_shut old → edition_in new ≡ edition_in old → IsLeft g old new
+read_left g old new r ours reads shut edition = record {
+  refused = λ clean. same_or_failed g (held old) (held new) r (reads.same clean) (reads.refused clean);
+  ours = subst (λ e. IsOurs e (shown g new)) (sym edition) (reads.ours (edition_in old) ours);
+  edition = edition;
+  shut = shut;
+  survives = reads.survives;
+}

@@ -1,5 +1,4 @@
-pub mod Asking
-pub mod Decisions
 mod Left
 pub mod Rows
 pub mod Unsent
+mod Words

@@ -1,35 +1,20 @@
 -- Lines that are put behind a text as their rows are read.
-use Rattle.std.proofs.Common.{◌≡◌, ℕ, pos, ◌+◌, ◌-◌, List, [], ◌∷◌, ◌++◌, Bool, true, false, Ok, Err, inl, inr, refl, sym, ap, subst, ◌∙◌, arith, append-nil, append_assoc, map}
+use Rattle.reg_service_index.proofs.Words.{◌≡◌, ℕ, pos, ◌+◌, List, [], ◌∷◌, ◌++◌, Bool, false, Ok, Err, inl, inr, refl, sym, ap, subst, ◌∙◌}
+use Rattle.reg_service_index.proofs.Words.{arith, append-nil, append_assoc, Row, Held, state, HasCleanDisk, Int, Ghosts, Text, IsOurs}
+use Rattle.reg_service_index.proofs.Words.{rows_in, SendFault, Piles, IsStopped, SendsAll, Sink, pile_stopped, piles_behind, AreStemsOf}
+use Rattle.reg_service_index.proofs.Words.{entries_text, entry_row, HasWalked, BeginsFile, SendsRows, lines_in, IsBroken, fault_of, Store}
+use Rattle.std.proofs.Common.{◌-◌, true, map}
 use Rattle.std.proofs.lemmas.List.{map-append}
 use Rattle.std.proofs.lemmas.Grind.{flat_map-append}
-use Rattle.sqlite.specs.Order.{Row}
 use Rattle.sqlite.specs.Effect.{Database}
-use Rattle.sqlite.specs.Held.{Held, state}
-use Rattle.sqlite.specs.State.{HasCleanDisk}
-use Rattle.sqlite.specs.declared.types.Value.TheVariants.{Int}
 use Rattle.sqlite.proofs.Callers.{given_begin}
-use Rattle.sqlite_trees.specs.declared.store.Store.{Ghosts}
 use Rattle.reg_line.specs.File.{file_text, line_of}
-use Rattle.reg_model.specs.Registry.{Text}
 use Rattle.reg_tables_schema.specs.declared.edition.Edition.TheVariants.{Second}
 use Rattle.reg_tables_schema.specs.Schema.{ours}
-use Rattle.reg_tables_schema.specs.States.{IsOurs}
-use Rattle.reg_tables_schema.specs.Statements.{rows_in}
-use Rattle.reg_body.specs.declared.bytes.SendFault.{SendFault}
 use Rattle.reg_body.specs.declared.bytes.SendFault.TheVariants.{Spent, Write}
-use Rattle.reg_api_replies.specs.Piled.{Piles}
-use Rattle.reg_body.specs.Sent.{IsStopped, SendsAll, Sink}
-use Rattle.reg_api_replies.specs.Texts.{file_head}
-use Rattle.reg_api_replies.proofs.Joined.{pile_sent, pile_stopped, piles_behind, sends_nothing}
-use Rattle.reg_tables_sql.specs.Stems.{AreStemsOf, entries_text}
+use Rattle.reg_api_replies.proofs.Joined.{pile_sent, sends_nothing}
 use Rattle.reg_tables_sql.proofs.StemQueries.{stems_begun}
-use Rattle.reg_tables_meaning.specs.Entries.{entry_row}
-use Rattle.reg_tables_meaning.specs.Walks.{HasWalked}
-use Rattle.reg_service_index.specs.Files.{BeginsFile, SendsRows}
-use Rattle.reg_service_index.specs.Lines.{entry_in, lines_in}
-use Rattle.reg_service_index.specs.Streams.{IsBroken, fault_of}
-use Rattle.reg_service_index.specs.declared.found.FoundFile.{FoundFile}
-use Rattle.reg_service_index.specs.declared.fault.IndexFault.TheVariants.{Store}
+use Rattle.reg_service_index.specs.Lines.{entry_in}
 
 -- an entry's row tells it
 
@@ -56,10 +41,7 @@ pub stop_is_break : (f : SendFault) (text : Text) (writes : ℕ) (s t : Sink) �
 stop_is_break Write text writes s t h = h
 stop_is_break Spent text writes s t h = h
 
-module _ {S : Type 0} (g : Ghosts S) (first : Held S) (f : FoundFile) (at : IsOurs Second (state g first)) where
-  abbrev id : ℕ
-  id = f.crate_id
-
+module _ {S : Type 0} (g : Ghosts S) (first : Held S) (id : ℕ) (at : IsOurs Second (state g first)) where
   abbrev params : Row
   params = Int (pos id) ∷ []
 
@@ -72,15 +54,12 @@ module _ {S : Type 0} (g : Ghosts S) (first : Held S) (f : FoundFile) (at : IsOu
       let all = stems_begun (state g now) id schema rows same.0.is_open (given_begin g entries_text params now rows (w.given clean)) in
       record { tail = all.0; is_open = same.0.was_open; are = subst (λ (d : Database). AreStemsOf id d.trees (rows ++ all.0)) same.0.now_is all.1; all = tt }
 
-  module _ (close : Bool) (writes : ℕ) (s : Sink) where
-    abbrev head : Text
-    head = file_head f.length close
-
+  module _ (head : Text) (writes : ℕ) (s : Sink) where
     no_rows : head ≡ head ++ lines_in []
     no_rows = sym (append-nil head)
 
     -- no row is read
-    pub rows_none : (left : Held S) → SendsRows g f close (Err Store) writes first left s s
+    pub rows_none : (left : Held S) → SendsRows g id head (Err Store) writes first left s s
     rows_none left = record {
       rows = [];
       sends = record { front = []; rest = head ++ []; used = 0; whole = refl; sends = sends_nothing writes s };
@@ -91,7 +70,7 @@ module _ {S : Type 0} (g : Ghosts S) (first : Held S) (f : FoundFile) (at : IsOu
     pub head_put : (t : Sink) (used : ℕ) (rest : Text) → Piles [] head rest writes used s t → Piles [] (head ++ lines_in []) rest writes used s t
     head_put t used rest h = subst (λ l. Piles [] l rest writes used s t) no_rows h
 
-    pub head_stopped : (fault : SendFault) (t : Sink) (now : Held S) → HasWalked g entries_text params first now [] → IsStopped fault head writes s t → SendsRows g f close (Err (fault_of fault)) writes first now s t
+    pub head_stopped : (fault : SendFault) (t : Sink) (now : Held S) → HasWalked g entries_text params first now [] → IsStopped fault head writes s t → SendsRows g id head (Err (fault_of fault)) writes first now s t
     head_stopped fault t now w h = record {
       rows = [];
       sends = subst (λ l. IsBroken (fault_of fault) l writes s t) no_rows (stop_is_break fault head writes s t h);
@@ -100,7 +79,7 @@ module _ {S : Type 0} (g : Ghosts S) (first : Held S) (f : FoundFile) (at : IsOu
 
     module _ (t : Sink) (used : ℕ) (now : Held S) (rest : Text) (rows : List Row) (w : HasWalked g entries_text params first now rows) (puts : Piles [] (head ++ lines_in rows) rest writes used s t) where
       -- the store fails
-      pub rows_broken : (left : Held S) → (HasCleanDisk (state g left) → HasCleanDisk (state g now)) → SendsRows g f close (Err Store) writes first left s t
+      pub rows_broken : (left : Held S) → (HasCleanDisk (state g left) → HasCleanDisk (state g now)) → SendsRows g id head (Err Store) writes first left s t
       rows_broken left back = record {
         rows = rows;
         sends = record { front = puts.sent; rest = rest; used = used; whole = puts.whole; sends = puts.sends };
@@ -108,7 +87,7 @@ module _ {S : Type 0} (g : Ghosts S) (first : Held S) (f : FoundFile) (at : IsOu
       }
 
       -- they come to their end, and what waits is sent, or that is stopped
-      pub rows_all : (u : Sink) (last : ℕ) (left : Held S) → (HasCleanDisk (state g left) → AreStemsOf id (rows_in g first) rows) → (HasCleanDisk (state g left) → HasCleanDisk (state g now)) → SendsAll rest (writes - used) last t u → SendsRows g f close (Ok (used + last)) writes first left s u
+      pub rows_all : (u : Sink) (last : ℕ) (left : Held S) → (HasCleanDisk (state g left) → AreStemsOf id (rows_in g first) rows) → (HasCleanDisk (state g left) → HasCleanDisk (state g now)) → SendsAll rest (writes - used) last t u → SendsRows g id head (Ok (used + last)) writes first left s u
       rows_all u last left are back h = record {
         rows = rows;
         sends = pile_sent [] (head ++ lines_in rows) rest writes used s t u (Ok last) puts h;
@@ -120,7 +99,7 @@ module _ {S : Type 0} (g : Ghosts S) (first : Held S) (f : FoundFile) (at : IsOu
         });
       }
 
-      pub end_stopped : (fault : SendFault) (u : Sink) (left : Held S) → (HasCleanDisk (state g left) → HasCleanDisk (state g now)) → IsStopped fault rest (writes - used) t u → SendsRows g f close (Err (fault_of fault)) writes first left s u
+      pub end_stopped : (fault : SendFault) (u : Sink) (left : Held S) → (HasCleanDisk (state g left) → HasCleanDisk (state g now)) → IsStopped fault rest (writes - used) t u → SendsRows g id head (Err (fault_of fault)) writes first left s u
       end_stopped fault u left back h = record {
         rows = rows;
         sends = stop_is_break fault (head ++ lines_in rows) writes s u (pile_sent [] (head ++ lines_in rows) rest writes used s t u (Err fault) puts h);
@@ -134,7 +113,7 @@ module _ {S : Type 0} (g : Ghosts S) (first : Held S) (f : FoundFile) (at : IsOu
       pub rows_more : (it : Text × Bool) (u : Sink) (more : ℕ) (next : Text) → Piles rest (line_in it) next (writes - used) more t u → Piles [] (head ++ lines_in (rows ++ entry_row it ∷ [])) next writes (used + more) s u
       rows_more it u more next h = subst (λ l. Piles [] l next writes (used + more) s u) (one_more it) (piles_behind [] (head ++ lines_in rows) (line_in it) rest next writes used more s t u puts h)
 
-      pub rows_stopped : (fault : SendFault) (it : Text × Bool) (u : Sink) (on : Held S) → IsStopped fault (rest ++ line_in it) (writes - used) t u → HasWalked g entries_text params first on (rows ++ entry_row it ∷ []) → SendsRows g f close (Err (fault_of fault)) writes first on s u
+      pub rows_stopped : (fault : SendFault) (it : Text × Bool) (u : Sink) (on : Held S) → IsStopped fault (rest ++ line_in it) (writes - used) t u → HasWalked g entries_text params first on (rows ++ entry_row it ∷ []) → SendsRows g id head (Err (fault_of fault)) writes first on s u
       rows_stopped fault it u on h walked = record {
         rows = rows ++ entry_row it ∷ [];
         sends = subst (λ l. IsBroken (fault_of fault) l writes s u) (one_more it) (stop_is_break fault ((head ++ lines_in rows) ++ line_in it) writes s u (pile_stopped fault [] (head ++ lines_in rows) (line_in it) rest writes used s t u puts h));

@@ -1,28 +1,21 @@
 -- Replies where nothing was sent before, and files that were.
-use Rattle.std.proofs.Common.{◌≡◌, ◌⊎◌, ◌<◌, ℕ, zero, suc, ◌+◌, List, [], ◌∷◌, ◌++◌, Bool, false, None, Ok, Err, Result, inl, inr, refl, sym, ap, subst, ◌∙◌, arith, append-nil, append_assoc}
+use Rattle.reg_service_index.proofs.Words.{◌≡◌, ◌⊎◌, ℕ, zero, ◌+◌, List, [], ◌∷◌, ◌++◌, Bool, false, Some, Ok, Err, Result, inl, inr, refl}
+use Rattle.reg_service_index.proofs.Words.{sym, ap, subst, ◌∙◌, arith, append-nil, append_assoc, Held, state, Row, HasCleanDisk, Ghosts}
+use Rattle.reg_service_index.proofs.Words.{Text, IsStopped, SendsAll, Sink, rows_in, AreStemsOf, Tables, held, stopped_first, SendFault}
+use Rattle.reg_service_index.proofs.Words.{BeginsFile, SendsRows, rows_text, lines_in, IsBroken, fault_of, IndexFault, Store}
+use Rattle.std.proofs.Common.{◌<◌, suc, None}
 use Rattle.std.specs.Io.KnownBytes.{Appends}
 use Rattle.std.proofs.KnownBytes.{Appends-trans}
-use Rattle.sqlite.specs.Held.{Held, state}
-use Rattle.sqlite.specs.Order.{Row}
-use Rattle.sqlite.specs.State.{HasCleanDisk}
-use Rattle.sqlite_trees.specs.declared.store.Store.{Ghosts}
-use Rattle.reg_model.specs.Registry.{Text}
-use Rattle.reg_model.specs.declared.rule.Rule.{Rule}
-use Rattle.reg_body.specs.Sent.{AppendsFront, IsStopped, SendsAll, Sink}
+use Rattle.reg_model.specs.declared.rule.Rule.TheVariants.{S1}
+use Rattle.reg_body.specs.Sent.{AppendsFront}
 use Rattle.reg_api_replies.specs.Texts.{file_head, refusal_text}
 use Rattle.reg_api_replies.specs.declared.head.Kind.TheVariants as kind
 use Rattle.reg_api_replies.specs.declared.reply.Reply.TheVariants.{Denied}
 use Rattle.reg_api_replies.proofs.Some.{head_some, reply_some}
-use Rattle.reg_tables.specs.declared.tables.Tables.{Tables}
-use Rattle.reg_tables.specs.Works.{held}
-use Rattle.reg_api_replies.proofs.Joined.{stopped_first}
-use Rattle.reg_body.specs.declared.bytes.SendFault.{SendFault}
 use Rattle.reg_body.specs.declared.bytes.SendFault.TheVariants as send
-use Rattle.reg_service_index.specs.Files.{BeginsFile, IsUnsent, SendsDenial, SendsFile, SendsRows, SendsSome, rows_text}
-use Rattle.reg_service_index.specs.Lines.{lines_in}
-use Rattle.reg_service_index.specs.Streams.{BreaksOff, IsBroken, Streams, fault_of}
-use Rattle.reg_service_index.specs.declared.fault.IndexFault.{IndexFault}
-use Rattle.reg_service_index.specs.declared.fault.IndexFault.TheVariants.{Spent, Store, Write}
+use Rattle.reg_service_index.specs.Files.{IsFileText, IsUnsent, SendsFile, SendsNoRoom, SendsSome}
+use Rattle.reg_service_index.specs.Streams.{BreaksOff, Streams}
+use Rattle.reg_service_index.specs.declared.fault.IndexFault.TheVariants.{Spent, Write}
 use Rattle.reg_service_index.specs.declared.found.FoundFile.{FoundFile}
 use Rattle.reg_service_index.proofs.Rows.{lines_both, stop_is_break}
 
@@ -101,8 +94,8 @@ pub streams_then : (r : Result ℕ IndexFault) (text : Text) (writes : ℕ) (s t
 streams_then (Ok used) text writes s t u x y = all_then text writes used s t u x y
 streams_then (Err f) text writes s t u x y = broken_then f text writes s t u x y
 
-pub denial_then : (broken : Rule) (close : Bool) (r : Result ℕ IndexFault) (writes : ℕ) (s t u : Sink) → IsSameSink s t → SendsDenial broken close r writes t u → SendsDenial broken close r writes s u
-denial_then broken close r writes s t u x y = record { sends = streams_then r (refusal_text broken None close false) writes s t u x y.sends; never = y.never }
+pub no_room_then : (close : Bool) (r : Result ℕ IndexFault) (writes : ℕ) (s t u : Sink) → IsSameSink s t → SendsNoRoom close r writes t u → SendsNoRoom close r writes s u
+no_room_then close r writes s t u x y = record { sends = streams_then r (refusal_text S1 None close false) writes s t u x y.sends; never = y.never }
 
 pub some_then : (r : Result ℕ IndexFault) (writes : ℕ) (s t u : Sink) → IsSameSink s t → SendsSome r writes t u → SendsSome r writes s u
 some_then r writes s t u x (text, some, sends) = (text, some, streams_then r text writes s t u x sends)
@@ -119,35 +112,54 @@ was_begun text writes s t h other = from h.used refl
     from (suc n) e = omega (arith, h.sends.calls, e)
 
 module _ {S : Type 0} (g : Ghosts S) (f : FoundFile) (close : Bool) (writes : ℕ) (db : Tables S) (s t : Sink) where
-  rows_longer : (rows tail : List Row) → rows_text f close rows ++ lines_in tail ≡ rows_text f close (rows ++ tail)
-  rows_longer rows tail = append_assoc (file_head f.length close) (lines_in rows) (lines_in tail) ∙ ap (λ l. file_head f.length close ++ l) (sym (lines_both rows tail))
+  abbrev head : Text
+  head = file_head f.length close
 
-  text_so : (r : Result ℕ IndexFault) (rows : List Row) (b : BeginsFile g f.crate_id r (held db) rows) → Streams r (rows_text f close rows) writes s t → Streams r (rows_text f close (rows ++ b.tail)) writes s t
-  text_so (Ok used) rows b h = subst (λ l. Streams (Ok used) (rows_text f close l) writes s t) (sym (ap (λ l. rows ++ l) b.all ∙ append-nil rows)) h
-  text_so (Err e) rows b h = subst (λ l. IsBroken e l writes s t) (rows_longer rows b.tail) (broken_longer e (rows_text f close rows) (lines_in b.tail) writes s t h)
+  rows_longer : (rows tail : List Row) → rows_text head rows ++ lines_in tail ≡ rows_text head (rows ++ tail)
+  rows_longer rows tail = append_assoc head (lines_in rows) (lines_in tail) ∙ ap (λ l. head ++ l) (sym (lines_both rows tail))
 
-  pub file_sent : (r : Result ℕ IndexFault) (left : Held S) → SendsRows g f close r writes (held db) left s t → HasCleanDisk (state g left) → ¬ (IsUnsent r s t) → SendsFile g f close r writes db s t
+  text_so : (r : Result ℕ IndexFault) (rows : List Row) (b : BeginsFile g f.crate_id r (held db) rows) → Streams r (rows_text head rows) writes s t → Streams r (rows_text head (rows ++ b.tail)) writes s t
+  text_so (Ok used) rows b h = subst (λ l. Streams (Ok used) (rows_text head l) writes s t) (sym (ap (λ l. rows ++ l) b.all ∙ append-nil rows)) h
+  text_so (Err e) rows b h = subst (λ l. IsBroken e l writes s t) (rows_longer rows b.tail) (broken_longer e (rows_text head rows) (lines_in b.tail) writes s t h)
+
+  pub file_sent : (r : Result ℕ IndexFault) (left : Held S) → SendsRows g f.crate_id head r writes (held db) left s t → HasCleanDisk (state g left) → ¬ (IsUnsent r s t) → SendsFile g f close r writes db s t
   file_sent r left h clean sent = from (h.begins clean)
     where
       from : IsUnsent r s t ⊎ BeginsFile g f.crate_id r (held db) h.rows → SendsFile g f close r writes db s t
       from (inl none) = absurd (sent none)
-      from (inr b) = record { rows = h.rows ++ b.tail; is_open = b.is_open; are = b.are; sends = text_so r h.rows b h.sends }
+      from (inr b) = record { rows = h.rows ++ b.tail; of_file = record { is_open = b.is_open; are = b.are }; sends = text_so r h.rows b h.sends }
+
+no_fault : (used : ℕ) → ◌≡◌ {A = Result ℕ IndexFault} (Ok used) (Err Store) → ⊥
+no_fault used e = cc
+
+-- all rows were read into memory
+pub file_read : {S : Type 0} (g : Ghosts S) (f : FoundFile) (writes : ℕ) (db : Tables S) (s t : Sink) (used : ℕ) (left : Held S) (text : Text) → SendsRows g f.crate_id [] (Ok used) writes (held db) left s t → HasCleanDisk (state g left)
+    → s.contents ≡ Some [] → t.contents ≡ Some text → IsFileText g f db text
+file_read g f writes db s t used left text h clean none is = from (h.begins clean)
+  where
+    from : IsUnsent (Ok used) s t ⊎ BeginsFile {E = IndexFault} g f.crate_id (Ok used) (held db) h.rows → IsFileText g f db text
+    from (inl unsent) = absurd (no_fault used unsent.0)
+    from (inr b) = (
+      h.rows,
+      record { is_open = b.is_open; are = subst (λ l. AreStemsOf f.crate_id (rows_in g (held db)) l) (ap (λ l. h.rows ++ l) b.all ∙ append-nil h.rows) b.are },
+      subst (λ o. Appends (Some []) o (lines_in h.rows)) is (subst (λ o. Appends o t.contents (lines_in h.rows)) none h.sends.all),
+    )
 
 -- a writer's fault is none of the store
 pub writer_fault : (f : SendFault) → let r : Result ℕ IndexFault = Err (fault_of f) in ¬ (r ≡ Err Store)
 writer_fault send.Write e = cc
 writer_fault send.Spent e = cc
 
--- a refusal is stopped by the writer alone
-pub denial_stopped : (broken : Rule) (close : Bool) (f : SendFault) (writes : ℕ) (s t : Sink) → IsStopped f (refusal_text broken None close false) writes s t → SendsDenial broken close (Err (fault_of f)) writes s t
-denial_stopped broken close f writes s t h = record { sends = stop_is_break f (refusal_text broken None close false) writes s t h; never = writer_fault f }
+-- the reply where the store failed is stopped by the writer alone
+pub no_room_stopped : (close : Bool) (f : SendFault) (writes : ℕ) (s t : Sink) → IsStopped f (refusal_text S1 None close false) writes s t → SendsNoRoom close (Err (fault_of f)) writes s t
+no_room_stopped close f writes s t h = record { sends = stop_is_break f (refusal_text S1 None close false) writes s t h; never = writer_fault f }
 
-pub denial_whole : (broken : Rule) (close : Bool) (used writes : ℕ) (s t : Sink) → SendsAll (refusal_text broken None close false) writes used s t → SendsDenial broken close (Ok used) writes s t
-denial_whole broken close used writes s t h = record { sends = h; never = λ e. cc }
+pub no_room_whole : (close : Bool) (used writes : ℕ) (s t : Sink) → SendsAll (refusal_text S1 None close false) writes used s t → SendsNoRoom close (Ok used) writes s t
+no_room_whole close used writes s t h = record { sends = h; never = no_fault used }
 
--- no refusal is empty, and no file with its head
-pub denial_some : (broken : Rule) (close : Bool) (r : Result ℕ IndexFault) (writes : ℕ) (s t : Sink) → SendsDenial broken close r writes s t → SendsSome r writes s t
-denial_some broken close r writes s t h = (refusal_text broken None close false, reply_some (Denied broken) close false, h.sends)
+-- it is not empty, and no file with its head is
+pub no_room_some : (close : Bool) (r : Result ℕ IndexFault) (writes : ℕ) (s t : Sink) → SendsNoRoom close r writes s t → SendsSome r writes s t
+no_room_some close r writes s t h = (refusal_text S1 None close false, reply_some (Denied S1) close false, h.sends)
 
-pub rows_some : (f : FoundFile) (close : Bool) (r : Result ℕ IndexFault) (writes : ℕ) (rows : List Row) (s t : Sink) → Streams r (rows_text f close rows) writes s t → SendsSome r writes s t
-rows_some f close r writes rows s t h = (rows_text f close rows, head_some 200 kind.Text None f.length close (lines_in rows), h)
+pub rows_some : (f : FoundFile) (close : Bool) (r : Result ℕ IndexFault) (writes : ℕ) (rows : List Row) (s t : Sink) → Streams r (rows_text (file_head f.length close) rows) writes s t → SendsSome r writes s t
+rows_some f close r writes rows s t h = (rows_text (file_head f.length close) rows, head_some 200 kind.Text None f.length close (lines_in rows), h)

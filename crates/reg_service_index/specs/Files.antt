@@ -6,8 +6,7 @@ use Rattle.sqlite.specs.Order.{Row}
 use Rattle.sqlite.specs.declared.types.Value.TheVariants.{Int}
 use Rattle.sqlite.specs.State.{HasCleanDisk}
 use Rattle.sqlite_trees.specs.declared.store.Store.{Ghosts}
-use Rattle.reg_model.specs.declared.rule.Rule.{Rule}
-use Rattle.reg_model.specs.declared.rule.Rule.TheVariants as rule
+use Rattle.reg_model.specs.declared.rule.Rule.TheVariants.{S1}
 use Rattle.reg_model.specs.Registry.{Text}
 use Rattle.reg_tables_schema.specs.Statements.{rows_in}
 use Rattle.reg_body.specs.Sent.{Sink}
@@ -35,27 +34,23 @@ pub record BeginsFile {S T E : Type 0} (g : Ghosts S) (id : ℕ) (r : Result T E
 abbrev pub IsUnsent : Result ℕ IndexFault → Sink → Sink → Type 0
 IsUnsent r old new = (r ≡ Err Store) × (new.calls ≡ old.calls)
 
--- the head of an index file, and the lines of these rows behind it
-abbrev pub rows_text : FoundFile → Bool → List Row → Text
-rows_text f close rows = file_head f.length close ++ lines_in rows
+-- a text, and the lines of these rows behind it
+abbrev pub rows_text : Text → List Row → Text
+rows_text front rows = front ++ lines_in rows
 
--- the lines of these rows were sent behind the head
-pub record SendsRows {S : Type 0} (g : Ghosts S) (f : FoundFile) (close : Bool)
+-- the lines of these rows were sent behind a text
+pub record SendsRows {S : Type 0} (g : Ghosts S) (id : ℕ) (front : Text)
     (r : Result ℕ IndexFault) (writes : ℕ) (db left : Held S) (old new : Sink) : Type 0 where
   pub rows : List Row
-  pub sends : Streams r (rows_text f close rows) writes old new
-  pub begins : HasCleanDisk (state g left) → IsUnsent r old new ⊎ BeginsFile g f.crate_id r db rows
+  pub sends : Streams r (rows_text front rows) writes old new
+  pub begins : HasCleanDisk (state g left) → IsUnsent r old new ⊎ BeginsFile g id r db rows
 
--- A refusal for the rule was sent, or a front of it where the writer failed or the calls were used
--- up. Whatever the store does, it does not break off.
-pub record SendsDenial (broken : Rule) (close : Bool) (r : Result ℕ IndexFault) (writes : ℕ)
-    (old new : Sink) : Type 0 where
-  pub sends : Streams r (refusal_text broken None close false) writes old new
+-- The reply where the store failed before was sent, or a front of it where the writer failed or the
+-- calls were used up. Whatever the store does, it does not break off.
+pub record SendsNoRoom (close : Bool) (r : Result ℕ IndexFault) (writes : ℕ) (old new : Sink)
+    : Type 0 where
+  pub sends : Streams r (refusal_text S1 None close false) writes old new
   pub never : ¬ (r ≡ Err Store)
-
--- the reply where the store failed before
-abbrev pub SendsNoRoom : Bool → Result ℕ IndexFault → ℕ → Sink → Sink → Type 0
-SendsNoRoom close r writes old new = SendsDenial rule.S1 close r writes old new
 
 -- these rows end in one that no index file has
 abbrev pub EndUnread : List Row → Type 0
@@ -70,13 +65,22 @@ EndsItself g id h = IsEnded h
     × (HasCleanDisk (state g h) → HasGiven g entries_text (Int (pos id) ∷ []) h rows)
     × (EndUnread rows ⊎ (2 ^ 64 ≤ 1 + length rows)))
 
--- the rows of the file were sent behind the head
+-- the tables were open, and these are the rows of the file
+pub record AreRows {S : Type 0} (g : Ghosts S) (f : FoundFile) (db : Tables S) (rows : List Row)
+    : Type 0 where
+  pub is_open : IsTrue (shown g db).is_open
+  pub are : AreStemsOf f.crate_id (shown g db).now.trees rows
+
+-- they were sent behind the head of the file
 pub record SendsFile {S : Type 0} (g : Ghosts S) (f : FoundFile) (close : Bool)
     (r : Result ℕ IndexFault) (writes : ℕ) (db : Tables S) (old new : Sink) : Type 0 where
   pub rows : List Row
-  pub is_open : IsTrue (shown g db).is_open
-  pub are : AreStemsOf f.crate_id (shown g db).now.trees rows
-  pub sends : Streams r (rows_text f close rows) writes old new
+  pub of_file : AreRows g f db rows
+  pub sends : Streams r (rows_text (file_head f.length close) rows) writes old new
+
+-- the text is their lines
+abbrev pub IsFileText : {S : Type 0} → Ghosts S → FoundFile → Tables S → Text → Type 0
+IsFileText g f db text = (rows : List Row) × AreRows g f db rows × (text ≡ lines_in rows)
 
 -- a text was sent that is not empty, whatever the disk
 abbrev pub SendsSome : Result ℕ IndexFault → ℕ → Sink → Sink → Type 0

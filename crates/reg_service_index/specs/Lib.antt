@@ -1,4 +1,4 @@
-pub mod Decides
 pub mod Files
+pub mod Found
 pub mod Lines
 pub mod Streams

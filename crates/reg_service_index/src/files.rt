@@ -12,10 +12,8 @@ ghost use Rattle.reg_tables_schema.specs.Rows.{mark};
 ghost use Rattle.reg_service_index.specs.Files.{EndsItself, SendsRows};
 
 use crate::fault::IndexFault;
-use crate::found::FoundFile;
 use crate::lines::put_line;
-use http::StatusCode;
-use reg_api_replies::{Kind, Pile, reply_head};
+use reg_api_replies::Pile;
 use reg_body::Counted;
 use reg_tables::{Edition, index_rows};
 use sqlite::types::ValueRef;
@@ -64,26 +62,26 @@ fn entry_of(row: &Row) -> Option<LineRow<'_>>
     })
 }
 
-/// Sends the head and the lines of the file. Nothing is sent before the rows can be read.
+/// Sends a text, and the lines of a crate's index file after it. Nothing is sent before the rows
+/// can be read.
 pub(crate) fn send_rows<S: Alter, W: Write>(
     conn: &mut Connection<S>,
-    file: &FoundFile,
-    close: bool,
+    crate_id: u32,
+    front: &[u8],
     w: &mut Counted<W>,
     writes: u64,
 ) -> Result<u64, IndexFault>
     requires ours { IsOurs Edition.Second (state S.Store conn.old) }
     requires room { w.old.calls + writes < 2 ^ 64 }
-    ensures rows { SendsRows S.Store file.now close result writes conn.old conn.new
+    ensures rows { SendsRows S.Store crate_id front.now result writes conn.old conn.new
         (sink (W.contents w.old.inner) w.old) (sink (W.contents w.new.inner) w.new) }
     ensures reads { IsRead S.Store result conn.old conn.new }
     ensures ends { result ≡ Err IndexFault.Store → (w.new.calls ≡ w.old.calls)
-        ⊎ EndsItself S.Store file.now.crate_id conn.new }
+        ⊎ EndsItself S.Store crate_id conn.new }
 {
-    let head = reply_head(StatusCode::OK, Kind::Text, None, file.length, close);
     let mut pile = Pile::new();
-    let mut rows = index_rows(conn, file.crate_id)?;
-    let mut used = pile.put(w, head.as_bytes(), writes)?;
+    let mut rows = index_rows(conn, crate_id)?;
+    let mut used = pile.put(w, front, writes)?;
     'rows: for count in 0..u64::MAX {
         let Some(row) = rows.next()? else {
             let last = pile.send(w, writes - used)?;

@@ -1,16 +1,13 @@
-//! Index files, sent one row at a time. First it is decided, within a transaction, whether the file
-//! is shown; after the transaction the rows are read and sent.
+//! Index files, sent or read one row at a time. A request finds a file, within a transaction; after
+//! the transaction its rows are read.
 //!
 //! ```
-//! let decided = decide_file(&mut tables.work()?, Some(&digest), "1/a")?;
-//! match decided {
-//!     Decided::Found(file) => send_file(&mut tables, &file, close, &mut w, writes)?,
-//!     Decided::Denied(rule) => refuse(&mut w, rule, close, writes)?,
-//! }
+//! let file = FoundFile { crate_id: 1, length: 300 };
+//! send_file(&mut tables, &file, close, &mut w, writes)?   // the write calls it took
+//! read_file(alloc, &mut tables, &file)?                   // the same without its head, in memory
 //! ```
 #![tactic(auto)]
 
-mod deciding;
 mod fault;
 mod files;
 mod found;
@@ -18,7 +15,6 @@ pub mod laws;
 mod lines;
 mod sending;
 
-pub use deciding::{Decided, decide_file};
 pub use fault::IndexFault;
 pub use found::FoundFile;
-pub use sending::{refuse, send_file};
+pub use sending::{read_file, send_file};

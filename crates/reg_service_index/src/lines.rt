@@ -1,20 +1,14 @@
 //! The lines of index files.
 
-ghost use Rattle.std.specs.Prelude.{◌≡◌, ◌+◌, ◌^◌, ◌<◌};
-ghost use Rattle.reg_line.specs.File.{end_of, line_of};
+ghost use Rattle.std.specs.Prelude.{◌+◌, ◌^◌, ◌<◌};
+ghost use Rattle.reg_line.specs.File.{line_of};
 ghost use Rattle.reg_api_replies.specs.Piled.{Puts};
 ghost use Rattle.reg_body.specs.Sent.{sink};
 
 use reg_api_replies::{Pile, SendFault};
 use reg_body::Counted;
+use reg_line::line_end;
 use std::io::Write;
-
-/// What follows a stem in its line.
-fn end(yanked: bool) -> &'static [u8]
-    ensures { result.now ≡ end_of yanked }
-{
-    if yanked { b"true}\n" } else { b"false}\n" }
-}
 
 /// Puts a line after what waits.
 pub(crate) fn put_line<W: Write>(
@@ -29,6 +23,6 @@ pub(crate) fn put_line<W: Write>(
         (sink (W.contents w.old.inner) w.old) (sink (W.contents w.new.inner) w.new) }
 {
     let used = pile.put(w, stem, writes)?;
-    let more = pile.put(w, end(yanked), writes - used)?;
+    let more = pile.put(w, line_end(yanked), writes - used)?;
     Ok(used + more)
 }

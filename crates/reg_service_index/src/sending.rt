@@ -1,36 +1,33 @@
-//! The reply to a request for an index file, once decided.
+//! Index files that were found, sent or read.
 
-ghost use Rattle.std.specs.Prelude.{◌≡◌, ◌+◌, ◌^◌, ◌<◌, ◌⊎◌, Err, MatchBool, false, true};
+ghost use Rattle.std.specs.Prelude.{◌≡◌, ◌+◌, ◌^◌, ◌<◌, ◌⊎◌, Err, IfOk, MatchBool, false, true};
 ghost use Rattle.sqlite.specs.State.{HasCleanDisk};
 ghost use Rattle.reg_body.specs.Sent.{sink};
 ghost use Rattle.reg_tables_meaning.specs.Walks.{IsRead};
 ghost use Rattle.reg_tables.specs.Works.{AreOurs, IsLeft, edition_in, held, is_shut, shown};
-ghost use Rattle.reg_service_index.specs.Files.{EndsItself, IsUnsent, SendsDenial, SendsFile, SendsNoRoom, SendsRows, SendsSome};
+ghost use Rattle.reg_service_index.specs.Files.{EndsItself, IsFileText, SendsFile, SendsNoRoom, SendsRows, SendsSome};
 
 use crate::fault::IndexFault;
 use crate::files::send_rows;
 use crate::found::FoundFile;
-use reg_api_replies::{Reply, write_reply};
+use http::StatusCode;
+use reg_api_replies::{Kind, Reply, reply_head, write_reply};
 use reg_body::Counted;
 use reg_policy::Rule;
 use reg_tables::{Edition, Tables};
 use sqlite::Alter;
+use std::alloc::Global;
 use std::io::Write;
 
-/// Sends the reply for a broken rule.
-pub fn refuse<W: Write>(
-    w: &mut Counted<W>,
-    rule: Rule,
-    close: bool,
-    writes: u64,
-) -> Result<u64, IndexFault>
+/// Sends the reply where the store failed before.
+fn send_no_room<W: Write>(w: &mut Counted<W>, close: bool, writes: u64) -> Result<u64, IndexFault>
     requires { w.old.calls + writes < 2 ^ 64 }
-    ensures denies { SendsDenial rule close result writes (sink (W.contents w.old.inner) w.old)
+    ensures refuses { SendsNoRoom close result writes (sink (W.contents w.old.inner) w.old)
         (sink (W.contents w.new.inner) w.new) }
     ensures some { SendsSome result writes (sink (W.contents w.old.inner) w.old)
         (sink (W.contents w.new.inner) w.new) }
 {
-    let used = write_reply(w, &Reply::Denied(rule), close, false, writes)?;
+    let used = write_reply(w, &Reply::Denied(Rule::S1), close, false, writes)?;
     Ok(used)
 }
 
@@ -45,11 +42,11 @@ fn is_unsent(sent: &Result<u64, IndexFault>, before: u64, after: u64) -> bool
     }
 }
 
-/// Sends the rows of tables that are used afterwards.
+/// Sends a text and the rows behind it, of tables that are used afterwards.
 fn send_over<S: Alter, W: Write>(
     tables: &mut Tables<S>,
-    file: &FoundFile,
-    close: bool,
+    crate_id: u32,
+    front: &[u8],
     w: &mut Counted<W>,
     writes: u64,
 ) -> Result<u64, IndexFault>
@@ -57,16 +54,16 @@ fn send_over<S: Alter, W: Write>(
     requires second { edition_in tables.old ≡ Edition.Second }
     requires open { is_shut tables.old ≡ false }
     requires room { w.old.calls + writes < 2 ^ 64 }
-    ensures rows { SendsRows S.Store file.now close result writes (held tables.old)
+    ensures rows { SendsRows S.Store crate_id front.now result writes (held tables.old)
         (held tables.new) (sink (W.contents w.old.inner) w.old)
         (sink (W.contents w.new.inner) w.new) }
     ensures reads { IsRead S.Store result (held tables.old) (held tables.new) }
     ensures shut { is_shut tables.new ≡ is_shut tables.old }
     ensures edition { edition_in tables.new ≡ edition_in tables.old }
     ensures ends { result ≡ Err IndexFault.Store → (w.new.calls ≡ w.old.calls)
-        ⊎ EndsItself S.Store file.now.crate_id (held tables.new) }
+        ⊎ EndsItself S.Store crate_id (held tables.new) }
 {
-    send_rows(tables.reading(), file, close, w, writes)
+    send_rows(tables.reading(), crate_id, front, w, writes)
 }
 
 /// Sends the file with its head; if the store fails before anything is sent, the reply says so. The
@@ -97,12 +94,33 @@ pub fn send_file<S: Alter, W: Write>(
     ensures left { IsLeft S.Store tables.old tables.new }
 {
     if tables.is_shut() {
-        return refuse(w, Rule::S1, close, writes);
+        return send_no_room(w, close, writes);
     }
+    let head = reply_head(StatusCode::OK, Kind::Text, None, file.length, close);
     let before = w.calls();
-    let sent = send_over(tables, file, close, w, writes);
+    let sent = send_over(tables, file.crate_id, head.as_bytes(), w, writes);
     if is_unsent(&sent, before, w.calls()) {
-        return refuse(w, Rule::S1, close, writes);
+        return send_no_room(w, close, writes);
     }
     sent
+}
+
+/// The text of the file, in memory. The tables are only read.
+pub fn read_file<S: Alter>(
+    alloc: Global,
+    tables: &mut Tables<S>,
+    file: &FoundFile,
+) -> Result<Vec<u8>, IndexFault>
+    requires ours { AreOurs S.Store tables.old }
+    requires second { edition_in tables.old ≡ Edition.Second }
+    ensures reads { HasCleanDisk (shown S.Store tables.new) → IfOk result
+        (λ text. IsFileText S.Store file.now tables.old text.items) }
+    ensures left { IsLeft S.Store tables.old tables.new }
+{
+    if tables.is_shut() {
+        return Err(IndexFault::Store);
+    }
+    let mut text = Counted::new(Vec::new(alloc));
+    send_over(tables, file.crate_id, b"", &mut text, u64::MAX)?;
+    Ok(text.into_inner())
 }

@@ -1,21 +1,11 @@
 -- From the words for what a request changes to what is told of it.
-use Rattle.std.proofs.Common.{◌≡◌, List, [], ◌∷◌, ◌++◌, Bool, true, false, Option, Some, None, refl, ap, ◌∙◌}
-use Rattle.std.specs.Prelude.{◌&&◌, String, codes, string_bytes}
-use Rattle.std.specs.declared.alloc.Global.{Global}
-use Rattle.std.specs.Fmt.{decimal}
-use Rattle.std.specs.Option.{option_map}
-use Rattle.sqlite.specs.Tree.{Trees}
-use Rattle.reg_body.specs.declared.limits.Limits.{Limits}
-use Rattle.reg_model.specs.Events.{Asked, action_of}
-use Rattle.reg_model.specs.Events.Asked.{Faulty, Read, Index, Download, ListOwners, Publish, Yank, Unyank, AddOwners, RemoveOwners}
-use Rattle.reg_model.specs.Events.Event.{Ask}
+use Rattle.reg_service_requests.proofs.Words.{◌≡◌, List, [], ◌∷◌, ◌++◌, Bool, true, false, Option, Some, None, refl, ap, ◌∙◌, ◌&&◌, String}
+use Rattle.reg_service_requests.proofs.Words.{codes, string_bytes, Global, decimal, option_map, Trees, Limits, Asked, action_of, Faulty}
+use Rattle.reg_service_requests.proofs.Words.{Read, Index, Download, ListOwners, Publish, Yank, Unyank, AddOwners, RemoveOwners, Ask}
+use Rattle.reg_service_requests.proofs.Words.{Publication, Registry, Text, line_of, only_if, request_words, unless_some, Caller, Tells}
+use Rattle.reg_service_requests.proofs.Words.{IsCaller, TellsIf, line_if}
 use Rattle.reg_model.specs.Refusals.{denied}
-use Rattle.reg_model.specs.Registry.{Publication, Registry, Text}
-use Rattle.reg_model.specs.Trail.{asker, line, line_of, only_if, request_words, unless_some}
-use Rattle.reg_access.specs.declared.admission.Caller.{Caller}
-use Rattle.reg_tables_meaning.specs.Calls.{Tells}
-use Rattle.reg_service_requests.specs.Granted.{IsCaller}
-use Rattle.reg_service_steps.specs.Telling.{TellsIf, line_if}
+use Rattle.reg_model.specs.Trail.{asker, line}
 use Rattle.reg_service_steps.proofs.Afterwards.{none_told, told_if}
 
 -- these are the words for what a request of this caller changes that nothing denies

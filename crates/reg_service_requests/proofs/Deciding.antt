@@ -1,49 +1,29 @@
 -- A request that is decided, and what is let pass by another name of it.
-use Rattle.std.proofs.Common.{◌≡◌, Bool, true, false, Option, None, Some, Ok, Err, Result, refl, sym, ap, subst, ◌∙◌, ℕ}
-use Rattle.std.specs.Prelude.{not, unwrap_or}
-use Rattle.std.specs.List.{find, filter}
-use Rattle.sqlite.specs.Tree.{Trees}
-use Rattle.sqlite_trees.specs.declared.store.Store.{Ghosts}
-use Rattle.reg_body.specs.declared.limits.Limits.{Limits}
-use Rattle.reg_model.specs.declared.rule.Rule.{Rule}
+use Rattle.reg_service_requests.proofs.Words.{◌≡◌, Bool, true, false, Option, None, Some, Ok, Err, Result, refl, sym, ap, subst, ◌∙◌, ℕ}
+use Rattle.reg_service_requests.proofs.Words.{unwrap_or, find, filter, Trees, Ghosts, Limits, Rule, crate_of, caller, served, Asked}
+use Rattle.reg_service_requests.proofs.Words.{action_of, fault_of, Faulty, Read, Ask, Search, or_else, Registry, Text, broken}
+use Rattle.reg_service_requests.proofs.Words.{is_access_rule, order, Outcome, outcome, unless_denied, IsFoundOf, IsIdOf, version_named}
+use Rattle.reg_service_requests.proofs.Words.{Caller, FoundCrate, IsPolicy, asked_of, Denied, Tells, StoreFault, Work, IsLet, Serves}
+use Rattle.reg_service_requests.proofs.Words.{TellsIf, TellsLine, called_ok, rows_seen, Served, Seeks, Told}
+use Rattle.std.specs.Prelude.{not}
 use Rattle.reg_model.specs.declared.rule.Rule.TheVariants as rule
-use Rattle.reg_model.specs.Actions.{Action, crate_of}
+use Rattle.reg_model.specs.Actions.{Action}
 use Rattle.reg_model.specs.Actions.Action.{Read as to_read}
-use Rattle.reg_model.specs.Effects.{caller, done, served}
-use Rattle.reg_model.specs.Events.{Asked, action_of, fault_of}
+use Rattle.reg_model.specs.Effects.{done}
 use Rattle.reg_model.specs.Events.Answer.{Denied as to_denied}
-use Rattle.reg_model.specs.Events.Asked.{Faulty, Read}
-use Rattle.reg_model.specs.Events.Event.{Ask}
-use Rattle.reg_model.specs.Events.Reading.{Search}
 use Rattle.reg_model.specs.Facts.{access_facts, counts}
 use Rattle.reg_model.specs.Laws.{AccessComesFirst}
-use Rattle.reg_model.specs.Refusals.{denied, judged, or_else}
-use Rattle.reg_model.specs.Registry.{Registry, Text}
-use Rattle.reg_model.specs.Rules.{access, broken, is_access_rule, order, verdict}
-use Rattle.reg_model.specs.Steps.{Outcome, outcome, unless_denied}
-use Rattle.reg_access.specs.Admitted.{IsFoundOf, IsIdOf, version_named}
-use Rattle.reg_access.specs.declared.admission.Caller.{Caller}
-use Rattle.reg_access.specs.declared.admission.FoundCrate.{FoundCrate}
-use Rattle.reg_access.specs.Verdict.{IsPolicy}
+use Rattle.reg_model.specs.Refusals.{denied, judged}
+use Rattle.reg_model.specs.Rules.{access, verdict}
 use Rattle.reg_policy.specs.declared.action.Decision.TheVariants.{Allowed, Denied as denies}
 use Rattle.reg_policy.specs.declared.event.Asked.{Asked as Wanted}
-use Rattle.reg_policy.specs.Events.{asked_of}
 use Rattle.reg_policy.specs.Views.{decision_of}
-use Rattle.reg_api_replies.specs.declared.reply.Reply.TheVariants.{Denied}
-use Rattle.reg_tables_meaning.specs.Calls.{Tells}
-use Rattle.reg_tables.specs.declared.work.StoreFault.{StoreFault}
-use Rattle.reg_tables.specs.declared.work.Work.{Work}
-use Rattle.reg_service_requests.specs.Granted.{Grants, GrantsOf, GrantsTo, GrantsVersion, IsLet}
+use Rattle.reg_service_requests.specs.Granted.{Grants, GrantsOf, GrantsTo, GrantsVersion}
 use Rattle.reg_service_steps.specs.Named.{IsViewer}
-use Rattle.reg_service_requests.specs.Serves.{Serves}
-use Rattle.reg_service_steps.specs.Telling.{TellsIf, TellsLine}
 use Rattle.reg_service_requests.specs.Telling.{GrantsTold, IsUntold, ServesTold}
-use Rattle.reg_access.proofs.Calls.{called_err, called_ok}
-use Rattle.reg_tables.specs.Works.{rows_seen}
+use Rattle.reg_access.proofs.Calls.{called_err}
 use Rattle.reg_service_requests.proofs.Asking.{is_change, nothing_told}
 use Rattle.reg_service_requests.specs.declared.told.ServedTold.{ServedTold}
-use Rattle.reg_service_requests.specs.declared.served.Served.{Served}
-use Rattle.reg_service_requests.specs.declared.served.Served.TheVariants.{Seeks, Told}
 use Rattle.reg_service_requests.proofs.ReplyLines.{nobody_told}
 
 -- no token was shown

@@ -1,26 +1,14 @@
 -- From what denies a request, or does not, to what it is answered.
-use Rattle.std.proofs.Common.{◌≡◌, Option, Some, None, not, sym, ap, subst, ◌∙◌}
-use Rattle.std.specs.List.{filter, find}
-use Rattle.sqlite.specs.Tree.{Trees}
-use Rattle.reg_body.specs.declared.limits.Limits.{Limits}
-use Rattle.reg_model.specs.declared.rule.Rule.{Rule}
-use Rattle.reg_model.specs.Crates.{viewer}
-use Rattle.reg_model.specs.Effects.{account_of, done, served}
-use Rattle.reg_model.specs.Events.{Asked, action_of, fault_of}
-use Rattle.reg_model.specs.Events.Event.{Ask}
+use Rattle.reg_service_requests.proofs.Words.{◌≡◌, Option, Some, None, not, sym, ap, subst, ◌∙◌, filter, find, Trees, Limits, Rule, viewer}
+use Rattle.reg_service_requests.proofs.Words.{account_of, served, Asked, action_of, fault_of, Ask, or_else, Registry, Text, broken}
+use Rattle.reg_service_requests.proofs.Words.{is_access_rule, order, Outcome, outcome, unless_denied, Says, Reply, Tells, Stands, Serves}
+use Rattle.reg_service_requests.proofs.Words.{Done, Told}
+use Rattle.reg_model.specs.Effects.{done}
 use Rattle.reg_model.specs.Facts.{access_facts, counts}
-use Rattle.reg_model.specs.Refusals.{denied, or_else}
-use Rattle.reg_model.specs.Registry.{Registry, Text}
-use Rattle.reg_model.specs.Rules.{access, broken, is_access_rule, order}
-use Rattle.reg_model.specs.Steps.{Outcome, outcome, unless_denied}
+use Rattle.reg_model.specs.Refusals.{denied}
+use Rattle.reg_model.specs.Rules.{access}
 use Rattle.reg_model.proofs.Denials.{access_first}
-use Rattle.reg_api_replies.specs.Replies.{Says}
-use Rattle.reg_api_replies.specs.declared.reply.Reply.{Reply}
 use Rattle.reg_api_replies.specs.declared.reply.Reply.TheVariants as reply
-use Rattle.reg_tables_meaning.specs.Calls.{Tells}
-use Rattle.reg_tables_meaning.specs.Stands.{Stands}
-use Rattle.reg_service_requests.specs.Serves.{Serves}
-use Rattle.reg_service_requests.specs.declared.served.Served.TheVariants.{Done, Told}
 
 module _ (limits : Limits) (digest : Text) (asked : Asked) where
   -- the first broken rule but those on access
@@ -32,7 +20,7 @@ module _ (limits : Limits) (digest : Text) (asked : Asked) where
   unfolding denied
   denied_by_others s passes = ap (λ r. or_else r (fault_of asked)) (access_first limits (access_facts s digest (action_of asked)) (counts s (action_of asked)) (action_of asked) ∙ ap (λ r. or_else r (others s)) passes)
 
-  answered : (s : Registry) (r : Option Rule) → denied limits s (Some digest) asked ≡ r → outcome limits s (Ask (Some digest) asked) ≡ unless_denied s r (served s (viewer s digest) asked, done s (account_of s digest) asked)
+  pub answered : (s : Registry) (r : Option Rule) → denied limits s (Some digest) asked ≡ r → outcome limits s (Ask (Some digest) asked) ≡ unless_denied s r (served s (viewer s digest) asked, done s (account_of s digest) asked)
   answered s r e = ap (λ r. unless_denied s r (served s (viewer s digest) asked, done s (account_of s digest) asked)) e
 
   -- it is denied

@@ -12,3 +12,4 @@ pub mod Publications
 pub mod ReadingServed
 pub mod ReplyLines
 mod VersionArchives
+mod Words

@@ -1,40 +1,21 @@
 -- A version that was found is yanked, or no longer.
-use Rattle.std.proofs.Common.{◌≡◌, Bool, true, false, not, cond, Option, Some, None, refl, sym, ap, subst, ◌∙◌}
-use Rattle.std.specs.Prelude.{Vec}
-use Rattle.std.specs.declared.alloc.Global.{Global}
-use Rattle.std.specs.List.{list_any}
-use Rattle.std.specs.Str.{bytes_eq}
-use Rattle.sqlite.specs.Tree.{Trees}
-use Rattle.reg_body.specs.declared.limits.Limits.{Limits}
-use Rattle.reg_names.specs.Names.{canon, name_of}
+use Rattle.reg_service_requests.proofs.Words.{◌≡◌, Bool, true, false, not, cond, Option, Some, None, refl, sym, ap, subst, ◌∙◌, Vec, Global}
+use Rattle.reg_service_requests.proofs.Words.{list_any, bytes_eq, Trees, Limits, canon, name_of, crate_of, collides, versions, viewer}
+use Rattle.reg_service_requests.proofs.Words.{account_of, served, action_of, lists, Registry, Text, holds, has_version, not_denied}
+use Rattle.reg_service_requests.proofs.Words.{not_false, any_filter, Says, Json, Stands, IsCrateOf, FoundCrate, IsCrate, IsLet, marking}
+use Rattle.reg_service_requests.proofs.Words.{Serves, Done, spelled_as}
 use Rattle.reg_model.specs.Changes.{with_yanked}
-use Rattle.reg_model.specs.Actions.{crate_of}
-use Rattle.reg_model.specs.Crates.{collides, versions, viewer, visible}
-use Rattle.reg_model.specs.Effects.{account_of, done, served}
-use Rattle.reg_model.specs.Events.{action_of}
-use Rattle.reg_model.specs.Facts.{access_facts, lists}
+use Rattle.reg_model.specs.Crates.{visible}
+use Rattle.reg_model.specs.Effects.{done}
+use Rattle.reg_model.specs.Facts.{access_facts}
 use Rattle.reg_model.specs.Refusals.{denied}
-use Rattle.reg_model.specs.Registry.{Registry, Text, holds}
 use Rattle.reg_model.specs.Rules.{access}
-use Rattle.reg_model.specs.Sound.{has_version}
-use Rattle.reg_model.proofs.Cleared.{not_denied}
-use Rattle.reg_model.proofs.IndexPaths.{not_false}
-use Rattle.reg_model.proofs.Lists.{any_filter}
 use Rattle.reg_model.proofs.SoundOwners.{crate_there}
 use Rattle.reg_api_replies.specs.Bodies.{ok_body}
-use Rattle.reg_api_replies.specs.Replies.{Says}
-use Rattle.reg_api_replies.specs.declared.head.Kind.TheVariants.{Json}
 use Rattle.reg_api_replies.specs.declared.reply.Reply.TheVariants as reply
 use Rattle.reg_tables_meaning.specs.Calls.{SetsYanked}
 use Rattle.reg_tables_meaning.specs.Changes.{if_there, with_mark}
-use Rattle.reg_tables_meaning.specs.Stands.{Stands}
-use Rattle.reg_access.specs.Admitted.{IsCrateOf}
-use Rattle.reg_access.specs.declared.admission.FoundCrate.{FoundCrate}
-use Rattle.reg_service_requests.specs.Granted.{IsCrate, IsLet, marking}
-use Rattle.reg_service_requests.specs.Serves.{Serves}
-use Rattle.reg_service_requests.specs.declared.served.Served.TheVariants.{Done}
 use Rattle.reg_service_requests.proofs.Judging.{denied_by_others, done_served}
-use Rattle.reg_service_steps.proofs.Names.{spelled_as}
 
 -- a version that is not missing is there
 published : (s : Registry) (d n v : Text) → not (holds (visible s d) (name_of n)) ≡ false → not (list_any (λ p. bytes_eq p.version v) (lists (versions s) (name_of n))) ≡ false → has_version s (canon n) v ≡ true

@@ -1,24 +1,12 @@
 -- Versions that are yanked, or no longer.
-use Rattle.std.proofs.Common.{◌≡◌, [], ◌∷◌, Bool, true, false, cond, not, Some, sym, ap, ◌∙◌}
-use Rattle.std.specs.Prelude.{unwrap_or}
+use Rattle.reg_service_requests.proofs.Words.{◌≡◌, [], ◌∷◌, Bool, true, false, cond, not, Some, sym, ap, ◌∙◌, unwrap_or, Trees, Limits}
+use Rattle.reg_service_requests.proofs.Words.{crate_of, action_of, Registry, Text, has_version, only_if, request_words, spelled, unless}
+use Rattle.reg_service_requests.proofs.Words.{Caller, FoundCrate, first_canon, marking, mark_word, crate_found, first_as}
 use Rattle.std.specs.FinSet as finset
-use Rattle.sqlite.specs.Tree.{Trees}
-use Rattle.reg_body.specs.declared.limits.Limits.{Limits}
-use Rattle.reg_model.specs.Actions.{crate_of}
 use Rattle.reg_model.specs.Crates.{is_yanked}
-use Rattle.reg_model.specs.Events.{action_of}
-use Rattle.reg_model.specs.Registry.{Registry, Text}
-use Rattle.reg_model.specs.Sound.{has_version}
-use Rattle.reg_model.specs.Trail.{only_if, request_words, spelled, unless}
-use Rattle.reg_access.specs.declared.admission.Caller.{Caller}
-use Rattle.reg_access.specs.declared.admission.FoundCrate.{FoundCrate}
-use Rattle.reg_access.proofs.GrantLaw.{first_canon}
 use Rattle.reg_tables_meaning.specs.Calls.{TellsOtherMark}
-use Rattle.reg_service_requests.specs.Granted.{marking}
-use Rattle.reg_service_requests.specs.Telling.{mark_word}
 use Rattle.reg_service_requests.proofs.Asking.{HasWords}
 use Rattle.reg_service_requests.proofs.Marked.{is_published, named_in}
-use Rattle.reg_service_steps.proofs.Names.{crate_found, first_as}
 
 mark_words : (b other : Bool) (s : Registry) (n v : Text) → is_yanked s n v ≡ cond other (not b) b → request_words s (marking b n v) ≡ only_if other (mark_word b ∷ spelled s n ∷ v ∷ [])
 mark_words true true s n v e = ap (λ y. unless y (mark_word true ∷ spelled s n ∷ v ∷ [])) e

@@ -1,39 +1,18 @@
 -- Owners of a crate who are added or removed.
-use Rattle.std.proofs.Common.{◌≡◌, ℕ, List, [], ◌∷◌, Bool, true, false, not, Option, Some, None, refl, sym, ap, ◌∙◌}
-use Rattle.std.specs.Prelude.{◌&&◌, ◌||◌, is_some, map, string_bytes, unwrap_or}
-use Rattle.std.specs.Borrow.{Bor}
+use Rattle.reg_service_requests.proofs.Words.{◌≡◌, ℕ, List, [], ◌∷◌, Bool, true, false, not, Option, Some, None, refl, sym, ap, ◌∙◌, ◌&&◌}
+use Rattle.reg_service_requests.proofs.Words.{◌||◌, is_some, string_bytes, unwrap_or, Bor, list_all, list_any, bytes_eq, Trees, Limits}
+use Rattle.reg_service_requests.proofs.Words.{crate_of, owns, action_of, AddOwners, Registry, Text, holds, id_of_login, is_enabled}
+use Rattle.reg_service_requests.proofs.Words.{is_known, with_commas, Sound, not_denied, not_false, list_any_map, only_if, request_words}
+use Rattle.reg_service_requests.proofs.Words.{spelled, unless, Account, Caller, FoundCrate, ListsOwners, first_canon, owning, changes}
+use Rattle.reg_service_requests.proofs.Words.{owners_word, crate_found, first_as}
+use Rattle.std.specs.Prelude.{map}
 use Rattle.std.specs.FinSet as finset
-use Rattle.std.specs.List.{enumerate_from, filter, list_all, list_any}
-use Rattle.std.specs.Str.{bytes_eq}
-use Rattle.sqlite.specs.Tree.{Trees}
-use Rattle.reg_body.specs.declared.limits.Limits.{Limits}
-use Rattle.reg_names.specs.Names.{canon}
-use Rattle.reg_model.specs.Actions.{crate_of}
-use Rattle.reg_model.specs.Crates.{owners, owns}
-use Rattle.reg_model.specs.Events.{action_of}
-use Rattle.reg_model.specs.Events.Asked.{AddOwners}
-use Rattle.reg_model.specs.Facts.{access_facts, counts, has_login}
+use Rattle.reg_model.specs.Facts.{access_facts, counts}
 use Rattle.reg_model.specs.Refusals.{denied}
-use Rattle.reg_model.specs.Registry.{Registry, Text, holds, id_of_login, ids_of, is_enabled, is_known}
 use Rattle.reg_model.specs.Registry as model
-use Rattle.reg_model.specs.Reports.{with_commas}
-use Rattle.reg_model.specs.Sound.{Sound}
-use Rattle.reg_model.proofs.Cleared.{not_denied}
-use Rattle.reg_model.proofs.IndexPaths.{not_false}
-use Rattle.reg_model.proofs.Lists.{all_so, list_any_map}
-use Rattle.reg_model.specs.Trail.{only_if, request_words, spelled, unless}
-use Rattle.reg_tables_sql.specs.declared.accounts.Account.{Account}
-use Rattle.reg_access.specs.declared.admission.Caller.{Caller}
-use Rattle.reg_access.specs.declared.admission.FoundCrate.{FoundCrate}
-use Rattle.reg_tables_meaning.specs.Calls.{ListsOwners}
-use Rattle.reg_tables_meaning.specs.Changes.{told_of}
-use Rattle.reg_tables_meaning.specs.Entries.{entry_of_account}
-use Rattle.reg_access.proofs.GrantLaw.{first_canon}
-use Rattle.reg_service_requests.specs.Owning.{owning}
+use Rattle.reg_model.proofs.Lists.{all_so}
 use Rattle.reg_service_steps.specs.Telling.{differs}
-use Rattle.reg_service_requests.specs.Telling.{changes, owners_word}
 use Rattle.reg_service_requests.proofs.Asking.{HasWords}
-use Rattle.reg_service_steps.proofs.Names.{crate_found, first_as}
 use Rattle.reg_service_requests.proofs.OwningDone.{named_in}
 use Rattle.reg_service_steps.proofs.Owners.{one_owns}
 use Rattle.reg_service_steps.proofs.Placed.{all_placed, any_placed}

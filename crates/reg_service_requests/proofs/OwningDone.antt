@@ -1,38 +1,20 @@
 -- Requests that change owners are denied or done, where the rules on access let them pass.
-use Rattle.std.proofs.Common.{◌≡◌, ℕ, List, [], ◌∷◌, ◌++◌, Bool, true, false, cond, Option, Some, None, Ok, Err, refl, sym, ap, subst, ◌∙◌}
-use Rattle.std.specs.Prelude.{Vec, map, unwrap_or}
-use Rattle.std.specs.declared.alloc.Global.{Global}
+use Rattle.reg_service_requests.proofs.Words.{◌≡◌, ℕ, List, [], ◌∷◌, ◌++◌, Bool, true, false, cond, Option, Some, None, Ok, Err, refl, sym}
+use Rattle.reg_service_requests.proofs.Words.{ap, subst, ◌∙◌, Vec, unwrap_or, Global, find, Trees, Limits, canon, is_name, name_of, Rule}
+use Rattle.reg_service_requests.proofs.Words.{crate_of, owners, caller, served, action_of, lists, or_else, Registry, Text, broken, Sound}
+use Rattle.reg_service_requests.proofs.Words.{Outcome, unless_denied, Says, Reply, Denied, Holds, Ids, Stands, StandsBy, IsCrateOf}
+use Rattle.reg_service_requests.proofs.Words.{FoundCrate, IsCrate, IsLet, IsSpelled, DoesOwning, FindsOwners, leaving_rule, owning}
+use Rattle.reg_service_requests.proofs.Words.{with_owners, Serves, Served, Done, Seeks, Sends, Told, spelled_as}
+use Rattle.std.specs.Prelude.{map}
 use Rattle.std.specs.FinSet as finset
-use Rattle.std.specs.List.{find}
-use Rattle.sqlite.specs.Tree.{Trees}
-use Rattle.reg_body.specs.declared.limits.Limits.{Limits}
-use Rattle.reg_names.specs.Names.{canon, is_name, name_of}
-use Rattle.reg_model.specs.declared.rule.Rule.{Rule}
 use Rattle.reg_model.specs.declared.rule.Rule.TheVariants as rule
-use Rattle.reg_model.specs.Actions.{crate_of}
-use Rattle.reg_model.specs.Crates.{owners}
-use Rattle.reg_model.specs.Effects.{caller, done, served}
-use Rattle.reg_model.specs.Events.{action_of}
-use Rattle.reg_model.specs.Facts.{access_facts, counts, lists}
-use Rattle.reg_model.specs.Refusals.{denied, or_else}
-use Rattle.reg_model.specs.Registry.{Registry, Text, ids_of}
-use Rattle.reg_model.specs.Rules.{access, broken, verdict}
-use Rattle.reg_model.specs.Sound.{Sound}
-use Rattle.reg_model.specs.Steps.{Outcome, unless_denied}
+use Rattle.reg_model.specs.Effects.{done}
+use Rattle.reg_model.specs.Facts.{access_facts, counts}
+use Rattle.reg_model.specs.Refusals.{denied}
+use Rattle.reg_model.specs.Registry.{ids_of}
+use Rattle.reg_model.specs.Rules.{access, verdict}
 use Rattle.reg_model.proofs.SoundOwners.{add_keeps_sound, remove_keeps_sound}
-use Rattle.reg_api_replies.specs.Replies.{Says}
-use Rattle.reg_api_replies.specs.declared.reply.Reply.{Reply}
-use Rattle.reg_api_replies.specs.declared.reply.Reply.TheVariants.{Denied}
-use Rattle.reg_tables_meaning.specs.Stands.{Holds, Ids, Stands, StandsBy}
-use Rattle.reg_access.specs.Admitted.{IsCrateOf}
-use Rattle.reg_access.specs.declared.admission.FoundCrate.{FoundCrate}
-use Rattle.reg_service_requests.specs.Granted.{IsCrate, IsLet}
-use Rattle.reg_service_steps.specs.Named.{IsSpelled}
-use Rattle.reg_service_requests.specs.Owning.{DoesOwning, FindsOwners, SaysOwning, leaving_rule, logins_rule, owning, with_owners}
-use Rattle.reg_service_requests.specs.Serves.{Serves}
-use Rattle.reg_service_requests.specs.declared.served.Served.{Served}
-use Rattle.reg_service_requests.specs.declared.served.Served.TheVariants.{Done, Seeks, Told}
-use Rattle.reg_service_steps.proofs.Names.{spelled_as}
+use Rattle.reg_service_requests.specs.Owning.{SaysOwning, logins_rule}
 
 -- a rule behind those that are kept
 find_past : {X : Type 0} (p : X → Bool) (xs ys : List X) → find p xs ≡ None → find p (xs ++ ys) ≡ find p ys
@@ -94,6 +76,7 @@ module _ (limits : Limits) (digest : Text) (are : Bool) (name : Text) (logins : 
   pub owning_done : (accounts : Vec ℕ Global) (new : Trees) (it : Served) → FindsOwners are c.id logins old (Ok accounts) → DoesOwning are c.id accounts.items old new it → Serves limits (Some digest) (owning are name logins) old new it
   owning_done accounts new (Told reply) finds does = absurd does
   owning_done accounts new (Seeks account) finds does = absurd does
+  owning_done accounts new (Sends file) finds does = absurd does
   owning_done accounts new (Done reply) finds does = λ ids s h.
       let is = (spelled ids s h).1 in
       let (n, at, same) = is in

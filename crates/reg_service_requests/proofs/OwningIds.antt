@@ -1,32 +1,22 @@
 -- The ids that are found for logins.
-use Rattle.std.proofs.Common.{◌≡◌, ℕ, ◌+◌, ◌<◌, List, [], ◌∷◌, ◌++◌, Bool, true, false, cond, Option, Some, None, Ok, Err, length, drop, get_or, refl, sym, ap, subst, ◌∙◌}
-use Rattle.std.proofs.lemmas.Bool.{and_parts}
+use Rattle.reg_service_requests.proofs.Words.{◌≡◌, ℕ, ◌+◌, ◌<◌, List, [], ◌∷◌, ◌++◌, Bool, true, false, cond, Option, Some, None, Ok, Err}
+use Rattle.reg_service_requests.proofs.Words.{length, drop, get_or, refl, sym, ap, subst, ◌∙◌, and_parts, bytes_eq-Decides, ◌||◌, ◌&&◌}
+use Rattle.reg_service_requests.proofs.Words.{is_some, Vec, string_bytes, Global, Bor, enumerate_from, filter, find, list_all, list_any}
+use Rattle.reg_service_requests.proofs.Words.{option_map, bytes_eq, Trees, Rule, owners, owns, has_login, Registry, Text, holds}
+use Rattle.reg_service_requests.proofs.Words.{id_of_login, is_enabled, is_known, is_some_find, list_any_map, true_not_false, Account}
+use Rattle.reg_service_requests.proofs.Words.{ListsOwners, told_of, entry_of_account, Holds, Ids, IsSpelled, AreLeaving, FindsAllKnown}
+use Rattle.reg_service_requests.proofs.Words.{FindsKnown, FindsOwners, entries_of, id_among, leaving_rule}
 use Rattle.std.proofs.lemmas.List.{append-nil, append_assoc, drop_more}
 use Rattle.std.proofs.lemmas.List.Folds.{list_all-map}
-use Rattle.std.proofs.lemmas.Slice.Eq.{bytes_eq-Decides}
-use Rattle.std.specs.Prelude.{◌||◌, ◌&&◌, not, is_some, map, Vec, string_bytes}
-use Rattle.std.specs.declared.alloc.Global.{Global}
-use Rattle.std.specs.Borrow.{Bor}
+use Rattle.std.specs.Prelude.{not, map}
 use Rattle.std.specs.FinSet as finset
-use Rattle.std.specs.List.{AllByRecursion, IsDistinct, cons_option, enumerate_from, filter, filter_map, find, list_all, list_any, position_from}
-use Rattle.std.specs.Option.{option_map}
+use Rattle.std.specs.List.{AllByRecursion, IsDistinct, cons_option, filter_map, position_from}
 use Rattle.std.specs.Ordering.{on}
-use Rattle.std.specs.Str.{bytes_eq}
-use Rattle.sqlite.specs.Tree.{Trees}
-use Rattle.reg_model.specs.declared.rule.Rule.{Rule}
 use Rattle.reg_model.specs.declared.rule.Rule.TheVariants as rule
-use Rattle.reg_model.specs.Crates.{owners, owns}
-use Rattle.reg_model.specs.Facts.{has_login, is_named}
+use Rattle.reg_model.specs.Facts.{is_named}
 use Rattle.reg_model.specs.Registry as model
-use Rattle.reg_model.specs.Registry.{Registry, Text, holds, id_of_login, is_enabled, is_known}
-use Rattle.reg_model.proofs.Lists.{is_some_find, list_any_map, true_not_false}
-use Rattle.reg_tables_sql.specs.declared.accounts.Account.{Account}
-use Rattle.reg_tables_meaning.specs.Calls.{FindsAccount, ListsOwners}
-use Rattle.reg_tables_meaning.specs.Changes.{told_of}
-use Rattle.reg_tables_meaning.specs.Entries.{entry_of_account}
-use Rattle.reg_tables_meaning.specs.Stands.{Holds, Ids}
-use Rattle.reg_service_steps.specs.Named.{IsSpelled}
-use Rattle.reg_service_requests.specs.Owning.{AreLeaving, FindsAllKnown, FindsKnown, FindsOwners, IsIdOf, enabled_id, entries_of, id_among, leaving_rule}
+use Rattle.reg_tables_meaning.specs.Calls.{FindsAccount}
+use Rattle.reg_service_requests.specs.Owning.{IsIdOf, enabled_id}
 
 -- an enabled account is known, and its id is that of its login
 pub known_one : (login : Text) (db : Trees) (found : Option Account) → FindsAccount login db found → FindsKnown login db (enabled_id found)

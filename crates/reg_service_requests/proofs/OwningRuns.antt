@@ -1,24 +1,17 @@
 -- Owners that are changed one after another, and logins that are asked for so, within a transaction.
-use Rattle.std.proofs.Common.{◌≡◌, ℕ, ◌+◌, ◌<◌, ◌++◌, ◌∷◌, [], List, Bool, false, arith, Some, None, Ok, Err, Result, IsErr, length, take, drop, get_or, subst}
-use Rattle.std.specs.Prelude.{Vec}
-use Rattle.std.specs.declared.alloc.Global.{Global}
-use Rattle.std.specs.Borrow.{Bor}
+use Rattle.reg_service_requests.proofs.Words.{◌≡◌, ℕ, ◌+◌, ◌<◌, ◌++◌, ◌∷◌, [], List, Bool, false, arith, Some, None, Ok, Err, Result}
+use Rattle.reg_service_requests.proofs.Words.{length, take, drop, get_or, subst, Vec, Global, Bor, Trees, Ghosts, Text, id_of_login}
+use Rattle.reg_service_requests.proofs.Words.{is_known, Tells, StoreFault, Work, rows_seen, called_ok, asks_made, asks_nothing}
+use Rattle.reg_service_requests.proofs.Words.{FindsAllKnown, FindsKnown, SetsOwner, SetsSome, Runs, runs_failed, runs_nothing}
+use Rattle.std.proofs.Common.{IsErr}
 use Rattle.sqlite.specs.State.{HasCleanDisk}
-use Rattle.sqlite.specs.Tree.{Trees}
-use Rattle.sqlite_trees.specs.declared.store.Store.{Ghosts}
-use Rattle.reg_model.specs.Registry.{Text, id_of_login, is_known}
-use Rattle.reg_tables_meaning.specs.Calls.{Tells}
-use Rattle.reg_tables.specs.declared.work.StoreFault.{StoreFault}
-use Rattle.reg_tables.specs.declared.work.Work.{Work}
-use Rattle.reg_tables.specs.Works.{IsAtWork, IsCall, has_failed, rows_seen, seen}
+use Rattle.reg_tables.specs.Works.{IsAtWork, IsCall, has_failed, seen}
 use Rattle.reg_tables.specs.Calling.{Asks}
-use Rattle.reg_access.proofs.Calls.{called_ok, then_called}
-use Rattle.reg_access.proofs.Questions.{asks_after, asks_both, asks_failed, asks_made, asks_nothing, asks_refused}
-use Rattle.reg_service_requests.specs.Owning.{FindsAllKnown, FindsKnown, SetsOwner, SetsOwners, SetsSome}
-use Rattle.reg_tables.specs.Calling.{Runs}
+use Rattle.reg_access.proofs.Calls.{then_called}
+use Rattle.reg_access.proofs.Questions.{asks_after, asks_both, asks_failed, asks_refused}
+use Rattle.reg_service_requests.specs.Owning.{SetsOwners}
 use Rattle.reg_service_requests.proofs.OwningIds.{IsSoFar, so_far_all, so_far_ends, so_far_more, so_far_none, texts_of}
 use Rattle.reg_service_requests.proofs.OwningSets.{sets_more, sets_none}
-use Rattle.reg_service_steps.proofs.Running.{runs_failed, runs_nothing}
 
 module _ {S : Type 0} (g : Ghosts S) where
   -- the first so many are owners, or no longer

@@ -1,24 +1,22 @@
 -- The owners of a crate, with some accounts or without them, one after another.
-use Rattle.std.proofs.Common.{◌≡◌, ℕ, ◌+◌, ◌<◌, List, [], ◌∷◌, ◌++◌, Bool, true, false, Some, length, take, drop, get_or, refl, sym, ap, subst, ◌∙◌}
-use Rattle.std.proofs.lemmas.Bool.{and_parts, and_from}
-use Rattle.std.proofs.lemmas.List.{take-append-drop, take_more}
+use Rattle.reg_service_requests.proofs.Words.{◌≡◌, ℕ, ◌+◌, ◌<◌, List, [], ◌∷◌, ◌++◌, Bool, true, false, Some, length, take, drop, get_or}
+use Rattle.reg_service_requests.proofs.Words.{refl, sym, ap, subst, ◌∙◌, and_parts, take_more, ◌||◌, ◌&&◌, list_any, Trees, canon, Registry}
+use Rattle.reg_service_requests.proofs.Words.{Text, Sound, list_any_map, not_true, true_not_false, Holds, Ids, StandsBy, spelling_at}
+use Rattle.reg_service_requests.proofs.Words.{SetsOwner, SetsSome, with_owners}
+use Rattle.std.proofs.lemmas.Bool.{and_from}
+use Rattle.std.proofs.lemmas.List.{take-append-drop}
 use Rattle.std.proofs.lemmas.List.Folds.{list_any-append}
-use Rattle.std.specs.Prelude.{◌||◌, ◌&&◌, not, map}
+use Rattle.std.specs.Prelude.{not, map}
 use Rattle.std.specs.FinSet as finset
 use Rattle.std.specs.FinSet.{FinSet}
-use Rattle.std.specs.List.{list_any}
 use Rattle.std.specs.Ordering.{eq_by_cmp}
-use Rattle.sqlite.specs.Tree.{Trees}
-use Rattle.reg_names.specs.Names.{canon}
 use Rattle.reg_model.specs.Effects.{owners_of}
-use Rattle.reg_model.specs.Registry.{Owner, Registry, Text, owner_cmp}
-use Rattle.reg_model.specs.Sound.{Sound}
+use Rattle.reg_model.specs.Registry.{Owner, owner_cmp}
 use Rattle.reg_model.proofs.Keys.{owner_apart, owner_total}
-use Rattle.reg_model.proofs.Lists.{list_any_map, not_true, or_left, or_right, or_split, true_not_false}
+use Rattle.reg_model.proofs.Lists.{or_left, or_right, or_split}
 use Rattle.reg_model.proofs.SoundParts as parts
 use Rattle.reg_tables_meaning.specs.Changes.{insert_at, remove_at}
-use Rattle.reg_tables_meaning.specs.Stands.{Holds, Ids, StandsBy, spelling_at}
-use Rattle.reg_service_requests.specs.Owning.{SetsOwner, SetsSome, owner_set_at, owners_set, with_owners}
+use Rattle.reg_service_requests.specs.Owning.{owner_set_at, owners_set}
 
 abbrev is_among : Text → List ℕ → Owner → Bool
 is_among c accounts q = list_any (λ a. eq_by_cmp owner_cmp q (c, a)) accounts

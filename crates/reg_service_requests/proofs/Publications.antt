@@ -1,45 +1,28 @@
 -- A version that is published, of a new crate or of one that is there.
-use Rattle.std.proofs.Common.{◌≡◌, ℕ, length, Bool, true, false, not, nat_le, cond, Option, Some, None, is_some, refl, sym, ap, subst, ◌∙◌}
-use Rattle.std.specs.Prelude.{Vec, unwrap_or}
-use Rattle.std.specs.declared.alloc.Global.{Global}
+use Rattle.reg_service_requests.proofs.Words.{◌≡◌, ℕ, length, Bool, true, false, not, cond, Option, Some, None, refl, sym, ap, subst, ◌∙◌}
+use Rattle.reg_service_requests.proofs.Words.{Vec, unwrap_or, Global, filter, find, list_any, bytes_eq, bytes_eq-Decides, Trees, Limits}
+use Rattle.reg_service_requests.proofs.Words.{canon, Rule, collides, versions, viewer, account_of, action_of, Publish, or_else, Publication}
+use Rattle.reg_service_requests.proofs.Words.{Registry, Text, holds, broken, is_access_rule, order, has_version, not_denied, not_false}
+use Rattle.reg_service_requests.proofs.Words.{any_filter, is_some_find, not_true, true_not_false, Json, AddsFirst, AddsNext, Tells, Stands}
+use Rattle.reg_service_requests.proofs.Words.{IsFoundOf, Caller, FoundCrate, IsCaller, IsLet, Serves, Served, Done, Told}
+use Rattle.std.proofs.Common.{nat_le, is_some}
 use Rattle.std.specs.FinSet as finset
-use Rattle.std.specs.List.{filter, find, list_any}
-use Rattle.std.specs.Str.{bytes_eq}
-use Rattle.std.proofs.lemmas.Slice.Eq.{bytes_eq-Decides}
-use Rattle.sqlite.specs.Tree.{Trees}
-use Rattle.reg_body.specs.declared.limits.Limits.{Limits}
-use Rattle.reg_names.specs.Names.{canon}
 use Rattle.reg_versions.specs.Versions.{release_key_of}
-use Rattle.reg_model.specs.declared.rule.Rule.{Rule}
 use Rattle.reg_model.specs.declared.rule.Rule.TheVariants as rule
 use Rattle.reg_model.specs.Changes.{with_owner, with_publication}
-use Rattle.reg_model.specs.Crates.{collides, crates, exists, first, same_release, versions, viewer}
-use Rattle.reg_model.specs.Effects.{account_of, done}
-use Rattle.reg_model.specs.Events.{action_of}
-use Rattle.reg_model.specs.Events.Asked.{Publish}
+use Rattle.reg_model.specs.Crates.{crates, exists, first, same_release}
+use Rattle.reg_model.specs.Effects.{done}
 use Rattle.reg_model.specs.Facts.{access_facts, counts}
-use Rattle.reg_model.specs.Refusals.{denied, or_else}
-use Rattle.reg_model.specs.Registry.{Publication, Registry, Text, holds}
-use Rattle.reg_model.specs.Rules.{access, broken, is_access_rule, order}
-use Rattle.reg_model.specs.Sound.{has_version}
-use Rattle.reg_model.proofs.Cleared.{Clear, not_denied}
-use Rattle.reg_model.proofs.IndexPaths.{not_false, spelled}
-use Rattle.reg_model.proofs.Lists.{any_filter, is_some_find, not_true, true_not_false}
+use Rattle.reg_model.specs.Refusals.{denied}
+use Rattle.reg_model.specs.Rules.{access}
+use Rattle.reg_model.proofs.Cleared.{Clear}
+use Rattle.reg_model.proofs.IndexPaths.{spelled}
 use Rattle.reg_model.proofs.Members.{any_in, in_any}
 use Rattle.reg_api_replies.specs.Bodies.{publish_body}
-use Rattle.reg_api_replies.specs.declared.head.Kind.TheVariants.{Json}
 use Rattle.reg_api_replies.specs.declared.reply.Reply.TheVariants as reply
-use Rattle.reg_tables_meaning.specs.Calls.{AddsFirst, AddsNext, Tells, published}
+use Rattle.reg_tables_meaning.specs.Calls.{published}
 use Rattle.reg_tables_meaning.specs.declared.crates.NewVersion.{NewVersion}
-use Rattle.reg_tables_meaning.specs.Stands.{Stands}
-use Rattle.reg_access.specs.Admitted.{IsFoundOf}
-use Rattle.reg_access.specs.declared.admission.Caller.{Caller}
-use Rattle.reg_access.specs.declared.admission.FoundCrate.{FoundCrate}
-use Rattle.reg_service_requests.specs.Granted.{IsCaller, IsLet}
 use Rattle.reg_service_requests.specs.Publications.{IsNew, IsOf, MakesCrate, PublishesFirst, PublishesNext, TellsFull, TellsFullOf}
-use Rattle.reg_service_requests.specs.Serves.{Serves}
-use Rattle.reg_service_requests.specs.declared.served.Served.{Served}
-use Rattle.reg_service_requests.specs.declared.served.Served.TheVariants.{Done, Told}
 use Rattle.reg_service_requests.proofs.Judging.{denied_by_others, done_served, told_denied}
 
 module _ (limits : Limits) (s : Registry) (d : Text) (p : Publication) where

@@ -1,45 +1,31 @@
 -- What the tables tell of a read is what it is served.
-use Rattle.std.proofs.Common.{◌≡◌, List, [], ◌∷◌, ℕ, Bool, true, false, cond, map, Some, unwrap_or, refl, sym, ap, ◌∙◌}
-use Rattle.std.specs.Prelude.{Vec}
-use Rattle.std.specs.declared.alloc.Global.{Global}
+use Rattle.reg_service_requests.proofs.Words.{◌≡◌, List, [], ◌∷◌, ℕ, true, false, length, map, None, Some, refl, sym, ap, ◌∙◌, Vec, Global}
+use Rattle.reg_service_requests.proofs.Words.{enumerate_from, filter, option_map, bytes_eq, Trees, Limits, canon, action_of, Download}
+use Rattle.reg_service_requests.proofs.Words.{Index, ListOwners, Read, Config, Text, maps_twice, Account, Archive, IsArchiveWithId}
+use Rattle.reg_service_requests.proofs.Words.{FindsSummary, ListsOwners, told_of, entry_of_account, Ids, spelling_at, FoundCrate, IsCrate}
+use Rattle.reg_service_requests.proofs.Words.{IsLet, IsSpelled, owner_of_account, Serves, Told, spelled_as}
+use Rattle.std.proofs.Common.{unwrap_or}
 use Rattle.std.specs.FinSet as finset
-use Rattle.std.specs.List.{enumerate_from, filter}
-use Rattle.std.specs.Option.{option_map}
-use Rattle.std.specs.Str.{bytes_eq}
-use Rattle.sqlite.specs.Tree.{Trees}
-use Rattle.reg_body.specs.declared.limits.Limits.{Limits}
 use Rattle.reg_line.specs.Config.{config_text}
 use Rattle.reg_line.specs.File.{file_text}
-use Rattle.reg_names.specs.Names.{canon, name_at}
-use Rattle.reg_model.specs.Crates.{collides, is_yanked, versions}
+use Rattle.reg_names.specs.Names.{name_at}
+use Rattle.reg_model.specs.Crates.{file}
 use Rattle.reg_model.specs.Effects.{done, owner_entry}
-use Rattle.reg_model.specs.Events.{action_of}
-use Rattle.reg_model.specs.Events.Asked.{Download, Index, ListOwners, Read}
-use Rattle.reg_model.specs.Events.Reading.{Config}
-use Rattle.reg_model.specs.Registry.{Publication, Registry, Text}
+use Rattle.reg_model.specs.Events.Answer.{File}
 use Rattle.reg_api_replies.specs.Bodies.{owners_body}
 use Rattle.reg_api_replies.specs.declared.head.Kind.TheVariants as kind
 use Rattle.reg_api_replies.specs.declared.reply.Reply.TheVariants.{Done}
-use Rattle.reg_tables_schema.proofs.Queries.{maps_twice}
-use Rattle.reg_tables_sql.specs.declared.accounts.Account.{Account}
-use Rattle.reg_tables_sql.specs.declared.archives.Archive.{Archive}
-use Rattle.reg_tables_sql.specs.declared.versions.Version.{Version}
-use Rattle.reg_tables_sql.specs.Archives.{IsArchiveWithId}
-use Rattle.reg_tables_meaning.specs.Calls.{ListsOwners, ListsVersions}
-use Rattle.reg_tables_meaning.specs.Changes.{told_of}
-use Rattle.reg_tables_meaning.specs.Entries.{ShownVersion, entry_of_account, shown_version, version_shown}
-use Rattle.reg_tables_meaning.specs.Stands.{Ids, spelling_at}
-use Rattle.reg_tables_meaning.proofs.CrateLemmas.{same_bytes}
-use Rattle.reg_access.specs.declared.admission.FoundCrate.{FoundCrate}
-use Rattle.reg_service_requests.specs.Granted.{IsCrate, IsLet, IsVersion}
-use Rattle.reg_service_steps.specs.Named.{IsSpelled}
-use Rattle.reg_service_steps.specs.Reads.{TellsBase, entry_of_version, owner_of_account}
-use Rattle.reg_service_requests.specs.Serves.{Serves}
-use Rattle.reg_service_requests.specs.declared.served.Served.TheVariants.{Told}
-use Rattle.reg_service_requests.proofs.Judging.{denied_by_others, told_served}
-use Rattle.reg_service_steps.proofs.Entries.{entries_told}
-use Rattle.reg_service_steps.proofs.Names.{spelled_as, spelled_at}
+use Rattle.reg_tables_sql.specs.declared.summaries.Summary.{Summary}
+use Rattle.reg_tables_meaning.specs.Entries.{entries}
+use Rattle.reg_service_requests.specs.Granted.{IsVersion}
+use Rattle.reg_service_steps.specs.Reads.{TellsBase}
+use Rattle.reg_service_requests.specs.declared.served.Served.TheVariants.{Sends}
+use Rattle.reg_service_requests.proofs.Judging.{answered, denied_by_others, told_served}
+use Rattle.reg_service_steps.proofs.Names.{spelled_at}
 use Rattle.reg_service_requests.proofs.VersionArchives.{archive_at, named_version}
+
+some_same : (a b : ℕ) → Some a ≡ Some b → a ≡ b
+some_same a b e = cc
 
 -- what is told of a crate by its canonical text is the same by its id
 by_canon : {X : Type 0} (tell : Text → X) (nothing : X) (ids : Ids) (n : Text) (id : ℕ) → IsSpelled ids n id → told_of (spelling_at ids id) nothing (λ name. tell (canon name)) ≡ tell (canon n)
@@ -60,14 +46,19 @@ owners_served n c list text db made lists limits digest lets is = told_served li
     let same = lists ids s h ∙ by_canon owners_by [] ids n c.id (spelled_as ids s c n (is ids s h)).1 in
     (denied_by_others limits digest (ListOwners n) s (lets ids s h), (refl, refl, made ∙ ap owners_body (sym (maps_twice entry_of_account owner_entry list) ∙ ap (map owner_entry) same)), refl))
 
-pub index_served : (path : Text) (c : FoundCrate) (list : List Version) (text : Vec ℕ Global) (db : Trees) → text.items ≡ file_text (map entry_of_version list) → ListsVersions c.id db list
-    → (limits : Limits) (digest : Text) → IsLet digest (action_of (Index path)) db → IsCrate (action_of (Index path)) c db → Serves limits (Some digest) (Index path) db db (Told (Done kind.Text text))
+pub file_found : (path : Text) (c : FoundCrate) (m : Summary) (db : Trees) → FindsSummary c.id db (Some m)
+    → (limits : Limits) (digest : Text) → IsLet digest (action_of (Index path)) db → IsCrate (action_of (Index path)) c db → Serves limits (Some digest) (Index path) db db (Sends (record { crate_id = c.id; length = m.index_length }))
 unfolding done
-index_served path c list text db made lists limits digest lets is = told_served limits digest (Index path) (Done kind.Text text) db db (λ ids s h.
-    let n = unwrap_or (name_at path) [] in
-    let shown_by = λ (text : Text). map (version_shown s.yanked) (filter (λ p. bytes_eq (canon p.name) text) s.publications) in
-    let same = entries_told s n list (lists ids s h ∙ by_canon shown_by [] ids n c.id (spelled_at ids s c path (is ids s h))) in
-    (denied_by_others limits digest (Index path) s (lets ids s h), (refl, refl, made ∙ ap file_text same), refl))
+file_found path c m db finds limits digest lets is = (
+  (path, refl),
+  λ ids s h.
+      let n = unwrap_or (name_at path) [] in
+      let entries_by = λ (text : Text). map (λ p. (p.stem, finset.contains s.yanked (text, p.version))) (filter (λ p. bytes_eq (canon p.name) text) s.publications) in
+      let here = spelled_at ids s c path (is ids s h) in
+      let same : file_text (told_of (spelling_at ids c.id) [] (entries s)) ≡ file s n = ap file_text (by_canon entries_by [] ids n c.id here) in
+      let long : Some m.index_length ≡ Some (length (file s n)) = (finds ids s h).1 ∙ by_canon (λ text. Some (length (file_text (entries_by text)))) None ids n c.id here in
+      (answered limits digest (Index path) s None (denied_by_others limits digest (Index path) s (lets ids s h)) ∙ ap (λ t. (File t, s)) (sym same), some_same m.index_length (length (file s n)) long ∙ ap length (sym same)),
+)
 
 pub config_served : (base : Text) (text : Vec ℕ Global) (db : Trees) → text.items ≡ config_text base → TellsBase db base
     → (limits : Limits) (digest : Text) → IsLet digest (action_of (Read Config)) db → Serves limits (Some digest) (Read Config) db db (Told (Done kind.Json text))

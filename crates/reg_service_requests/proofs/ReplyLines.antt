@@ -1,27 +1,19 @@
 -- The line of a request, from its reply.
-use Rattle.std.proofs.Common.{◌≡◌, ◌⊎◌, ℕ, inl, inr, true, false, Bool, cond, [], Option, Some, None, refl, sym, ap, ◌∙◌}
-use Rattle.std.specs.Prelude.{String, string_bytes, unwrap_or}
-use Rattle.std.specs.declared.alloc.Global.{Global}
-use Rattle.std.specs.Option.{option_map}
-use Rattle.reg_body.specs.declared.limits.Limits.{Limits}
-use Rattle.reg_model.specs.declared.rule.Rule.{Rule}
+use Rattle.reg_service_requests.proofs.Words.{◌≡◌, ℕ, true, false, cond, [], Option, Some, None, refl, sym, ap, ◌∙◌, String, string_bytes}
+use Rattle.reg_service_requests.proofs.Words.{unwrap_or, Global, option_map, Limits, Rule, caller, served, Asked, Faulty, Read, Index}
+use Rattle.reg_service_requests.proofs.Words.{Download, ListOwners, Publish, Yank, Unyank, AddOwners, RemoveOwners, Config, Search, Ask}
+use Rattle.reg_service_requests.proofs.Words.{Registry, Text, outcome, unless_denied, Says, Reply, Denied, line_of, request_words}
+use Rattle.reg_service_requests.proofs.Words.{unless_some, Trees, TellsLine}
+use Rattle.std.proofs.Common.{◌⊎◌, inl, inr}
 use Rattle.reg_model.specs.declared.rule.Rule.TheVariants as rule
-use Rattle.reg_model.specs.Effects.{caller, done, served}
-use Rattle.reg_model.specs.Events.{Answer, Asked, Event}
+use Rattle.reg_model.specs.Effects.{done}
+use Rattle.reg_model.specs.Events.{Answer, Event}
 use Rattle.reg_model.specs.Events.Answer.{Denied as to_denied}
-use Rattle.reg_model.specs.Events.Asked.{Faulty, Read, Index, Download, ListOwners, Publish, Yank, Unyank, AddOwners, RemoveOwners}
-use Rattle.reg_model.specs.Events.Reading.{Config, Search}
-use Rattle.reg_model.specs.Events.Event.{Ask}
 use Rattle.reg_model.specs.Refusals.{denied}
-use Rattle.reg_model.specs.Registry.{Registry, Text}
-use Rattle.reg_model.specs.Steps.{no_room, outcome, unless_denied}
-use Rattle.reg_api_replies.specs.Replies.{Says}
+use Rattle.reg_model.specs.Steps.{no_room}
 use Rattle.reg_api_replies.specs.Heads.{refusal_of}
-use Rattle.reg_api_replies.specs.declared.reply.Reply.{Reply}
-use Rattle.reg_api_replies.specs.declared.reply.Reply.TheVariants.{Denied, Done, Method}
-use Rattle.reg_model.specs.Trail.{IsPassed, has_no_room, line, line_of, or_nothing, request_words, told, unless_some, with_asker}
-use Rattle.sqlite.specs.Tree.{Trees}
-use Rattle.reg_service_steps.specs.Telling.{TellsLine}
+use Rattle.reg_api_replies.specs.declared.reply.Reply.TheVariants.{Done, Method}
+use Rattle.reg_model.specs.Trail.{IsPassed, has_no_room, line, or_nothing, told, with_asker}
 use Rattle.reg_service_steps.proofs.Afterwards.{nothing}
 use Rattle.reg_service_requests.specs.Telling.{line_with}
 

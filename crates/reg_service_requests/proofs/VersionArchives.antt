@@ -1,25 +1,21 @@
 -- The archive with the id of a version is that of its publication.
-use Rattle.std.proofs.Common.{◌≡◌, ◌==◌, ℕ, List, map, Bool, true, false, cond, Option, Some, None, is_some, refl, sym, ap, subst, ◌∙◌}
+use Rattle.reg_service_requests.proofs.Words.{◌≡◌, ℕ, List, map, Bool, true, false, cond, Option, Some, None, refl, sym, ap, subst, ◌∙◌}
+use Rattle.reg_service_requests.proofs.Words.{find, option_map, Trees, is_name, Publication, Registry, Text, maps_twice, Archive}
+use Rattle.reg_service_requests.proofs.Words.{IsArchiveWithId, told_of, Ids, IsIdOf, version_named}
+use Rattle.std.proofs.Common.{◌==◌, is_some}
 use Rattle.std.specs.FinSet as finset
-use Rattle.std.specs.List.{find}
 use Rattle.std.specs.List.Sorted.{IsPermutation}
-use Rattle.std.specs.Option.{option_map}
 use Rattle.sqlite.specs.Order.{Row}
-use Rattle.sqlite.specs.Tree.{Trees}
-use Rattle.reg_names.specs.Names.{is_name}
 use Rattle.reg_model.specs.Actions.Action.{Download}
 use Rattle.reg_model.specs.Crates.{version}
-use Rattle.reg_model.specs.Registry.{Publication, Registry, Text, mark_cmp}
+use Rattle.reg_model.specs.Registry.{mark_cmp}
 use Rattle.reg_tables_schema.specs.Tests.{is_number, shows}
 use Rattle.reg_tables_schema.proofs.Permutes.{filter_map}
-use Rattle.reg_tables_schema.proofs.Queries.{maps_twice}
-use Rattle.reg_tables_sql.specs.declared.archives.Archive.{Archive}
-use Rattle.reg_tables_sql.specs.Archives.{IsArchiveWithId, archive_places, archive_row, columns_of_archive}
-use Rattle.reg_tables_meaning.specs.Changes.{told_of}
-use Rattle.reg_tables_meaning.specs.Stands.{Ids, StandCrates, StoredVersion}
+use Rattle.reg_tables_sql.specs.Archives.{archive_places, archive_row, columns_of_archive}
+use Rattle.reg_tables_meaning.specs.Stands.{StandCrates, StoredVersion}
 use Rattle.reg_tables_meaning.proofs.Selected.{selected_one}
 use Rattle.reg_tables_meaning.proofs.Standing.{same_number}
-use Rattle.reg_access.specs.Admitted.{IsIdOf, publication_at, version_named}
+use Rattle.reg_access.specs.Admitted.{publication_at}
 use Rattle.reg_access.proofs.VersionIds.{finds_one}
 
 -- the bytes of an archive behind the id of its version, as stored and as read

@@ -11,7 +11,8 @@ use crate::served::Served;
 use reg_access::FoundCrate;
 use reg_api_replies::{Kind, Reply};
 use reg_line::config;
-use reg_service_steps::{find_base, index_file};
+use reg_service_index::FoundFile;
+use reg_service_steps::find_base;
 use reg_tables::{Result, Work};
 use sqlite::Alter;
 use std::alloc::Global;
@@ -30,18 +31,16 @@ pub(crate) fn read_config<S: Alter>(alloc: Global, work: &mut Work<'_, S>) -> Re
 }
 
 /// The index file of a crate.
-pub(crate) fn read_index<S: Alter>(
-    alloc: Global,
-    work: &mut Work<'_, S>,
-    found: &FoundCrate,
-) -> Result<Served>
+pub(crate) fn find_file<S: Alter>(work: &mut Work<'_, S>, found: &FoundCrate) -> Result<Served>
     requires { IsAtWork S.Store work.old }
     ensures { GrantsOf found.now S.Store Index result work.old work.new }
 {
-    let versions = work.versions_of(alloc, found.id)?;
-    match index_file(alloc, versions) {
-        Ok(text) => Ok(Served::Told(Reply::Done(Kind::Text, text))),
-        Err(_) => work.fail(),
+    match work.summary_of(found.id)? {
+        Some(summary) => Ok(Served::Sends(FoundFile {
+            crate_id: found.id,
+            length: summary.index_length,
+        })),
+        None => work.fail(),
     }
 }
 

@@ -13,7 +13,7 @@ ghost use Rattle.reg_service_requests.specs.Telling.{GrantsTold, ServesTold};
 use crate::marking::set_yanked;
 use crate::owning::own;
 use crate::publishing::publish;
-use crate::reading::{list_owners, read_archive, read_config, read_index};
+use crate::reading::{find_file, list_owners, read_archive, read_config};
 use crate::served::Served;
 use crate::told::{ServedTold, denied, untold};
 use reg_access::{Admission, Caller, admit};
@@ -47,7 +47,7 @@ fn grant<S: Alter>(
         Asked::Faulty(rule) => Ok(denied(*rule)),
         Asked::Read(Reading::Config) => untold(read_config(alloc, work)),
         Asked::Read(Reading::Search(_, _)) => untold(Ok(Served::Seeks(caller.account))),
-        Asked::Index(_) => untold(read_index(alloc, work, caller.found_crate())),
+        Asked::Index(_) => untold(find_file(work, caller.found_crate())),
         Asked::Download(_, _) => untold(read_archive(work, caller.found_version())),
         Asked::ListOwners(_) => untold(list_owners(alloc, work, caller.found_crate())),
         Asked::Publish(new) => publish(alloc, work, limits, caller, new, traced),

@@ -15,9 +15,7 @@ use Rattle.reg_tables_meaning.specs.Calls.{Tells}
 use Rattle.reg_tables.specs.declared.work.Work.{Work}
 use Rattle.reg_tables.specs.Works.{rows_seen, seen}
 use Rattle.reg_tables.specs.Calling.{Asks}
-use Rattle.reg_access.proofs.Calls.{called_ok, then_called}
-use Rattle.reg_access.proofs.Questions.{asks_after, same_rows}
-use Rattle.reg_tables.specs.Calling.{Runs}
+use Rattle.reg_access.proofs.Questions.{asks_after}
 use Rattle.reg_service_steps.specs.Telling.{IsToldLine, TellsIf, line_if}
 
 module _ {S : Type 0} (g : Ghosts S) where
@@ -39,14 +37,6 @@ pub line_is : (w : Text) (made : Result (String Global) AllocError) (found : Opt
 line_is w made found h (line, e, f) =
     let k : IfOk {E = AllocError} (Ok line) (λ l. string_bytes l ≡ w) = subst (λ m. IfOk m (λ l. string_bytes l ≡ w)) e h in
     ap (λ x. Some x) (sym k) ∙ ap (option_map string_bytes) (sym f)
-
--- it is asked, and then all that follows runs and is kept beside it
-pub runs_beside : {S : Type 0} (g : Ghosts S) {T U V E F G : Type 0} {P : Trees → T → Type 0} {R : Trees → Trees → U → Type 0} {Q : Trees → Trees → V → Type 0} (x : T) (z : U) (y : V) (a b c : Work S) → Asks {E = E} g a b (Ok x) P → Runs {E = F} g b c (Ok z) R → (P (rows_seen g a) x → R (rows_seen g a) (rows_seen g c) z → Q (rows_seen g a) (rows_seen g c) y) → Runs {E = G} g a c (Ok y) Q
-runs_beside g {R} x z y a b c one two made = record {
-  told = λ clean. let early : HasCleanDisk (seen g b) = omega (arith, clean, two.leaves.survives.clean) in
-      made (one.told early) (subst (λ db. R db (rows_seen g c) z) (same_rows g x a b one early) (two.told clean));
-  leaves = called_ok g z y a c (then_called g x (Ok z) a b c one.leaves two.leaves);
-}
 
 -- what is empty is empty
 pub nothing : (b : Bool) (t : Text) → t ≡ [] → cond b [] t ≡ []

@@ -20,15 +20,13 @@ use Rattle.reg_tables_schema.proofs.Queries.{plain}
 use Rattle.reg_tables_schema.proofs.Reading.{IsSelection}
 use Rattle.reg_tables_schema.proofs.WholeTables.{all_rows}
 use Rattle.reg_tables_sql.specs.Reserved.{columns_of_text}
+use Rattle.reg_service_steps.specs.declared.base.TheConstants.{FIND_BASE_TEXT}
 use Rattle.reg_service_steps.specs.Reads.{TellsBase}
-
-abbrev pub base_text : List ℕ
-base_text = codes "SELECT base FROM about"
 
 abbrev base_query : Query
 base_query = plain (inner 0 end) [] (col 1 2 ∷ [])
 
-pub base_is : IsSelection ours base_text base_query (codes "base" ∷ [])
+pub base_is : IsSelection ours FIND_BASE_TEXT.now base_query (codes "base" ∷ [])
 unfolding understood everything
 base_is = record { command = refl; unlisted = refl; plain = (refl, refl) }
 

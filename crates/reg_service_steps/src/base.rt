@@ -8,12 +8,14 @@ ghost use Rattle.reg_service_steps.specs.Reads.{TellsBase};
 use reg_tables::{Result, Work};
 use sqlite::Alter;
 
+const FIND_BASE_TEXT: &str = "SELECT base FROM about";
+
 /// The base of the registry.
 pub fn find_base<S: Alter>(work: &mut Work<'_, S>) -> Result<String>
     requires { IsAtWork S.Store work.old }
     ensures { Asks S.Store work.old work.new result (λ db base. TellsBase db (string_bytes base)) }
 {
-    match work.select_one::<String>("SELECT base FROM about", &[])? {
+    match work.select_one::<String>(FIND_BASE_TEXT, &[])? {
         Some(base) => Ok(base),
         None => work.fail(),
     }

@@ -9,7 +9,7 @@ use Rattle.sqlite.specs.Effect.{Database}
 use Rattle.reg_tables_schema.specs.declared.edition.Edition.{Edition}
 use Rattle.reg_tables_schema.specs.declared.edition.Edition.TheVariants.{First, Second}
 use Rattle.reg_tables_meaning.specs.Upgrades.{AreBegun, BeginsSecond}
-use Rattle.reg_tables.specs.Works.{IsAtWork, IsCall, seen}
+use Rattle.reg_tables.specs.Works.{IsCall, seen}
 use Rattle.reg_tables.specs.declared.work.Work.{Work}
 use Rattle.reg_tables.specs.Looks.{Looks}
 
@@ -32,17 +32,6 @@ module _ {S : Type 0} (g : Ghosts S) where
     at_work = call.at_work;
     kept = λ clean. call_keeps (seen g old) (seen g new) r (call.within clean) (call.failed clean);
     survives = call.survives;
-  }
-
-  -- where nothing is called
-  pub itself_looks : (w : Work S) → IsAtWork g w → Looks g w w
-  itself_looks w at = record {
-    same_reference = refl;
-    same_edition = refl;
-    same_mode = refl;
-    at_work = at;
-    kept = λ clean. record { was_open = λ h. h; committed = λ h. refl };
-    survives = record { clean = omega arith; shield = λ h. h; counts = omega arith; limit = refl; closes = λ clean h. inl h; crash = λ clean db h. inl h };
   }
 
   pub looks_then : (a b c : Work S) → Looks g a b → Looks g b c → Looks g a c

@@ -8,8 +8,6 @@ use Rattle.sqlite.specs.declared.error.Error.TheVariants.{SqliteFailure}
 use Rattle.sqlite.specs.declared.error.ErrorCode.TheVariants.{TransactionState}
 use Rattle.sqlite_trees.specs.declared.error.StoreError.{StoreError}
 use Rattle.sqlite_trees.specs.declared.error.StoreError.TheVariants.{OutOfMemory, Io, Corrupt, Full, Broken, Unstorable}
-use Rattle.reg_tables_schema.specs.declared.edition.Edition.{Edition}
-use Rattle.reg_tables_schema.specs.States.{GoesBack, IsOurs}
 
 -- no failure of the store has the name
 no_cause : (cause : StoreError) → store_error cause ≡ SqliteFailure TransactionState → ⊥
@@ -29,7 +27,3 @@ still_open sql params old new e is (inr h) = elim (cases_Bool (shows_rows false 
   | inl shows ↦ (rw shows at h.2).1.0.is_open
   | inr runs ↦ elim (rw runs at h.2) [ inl refused ↦ refused.1.0.is_open | inr failed ↦ absurd (no_cause failed.0 (sym failed.1 ∙ is)) ]
 ]
-
--- what our tables go back to between two transactions
-pub goes_back : (e : Edition) (s : State) → IsOurs e s → GoesBack e s
-goes_back e s ours clean up = (ours clean up).committed_is

@@ -95,9 +95,6 @@ rows_seen g w = (seen g w).now.trees
 abbrev pub Heard : {S T E : Type 0} → Ghosts S → Work S → Result T E → (T → Type 0) → Type 0
 Heard g w r tells = HasCleanDisk (seen g w) → IfOk r tells
 
-abbrev pub Carried : {S T E : Type 0} → Ghosts S → Work S → Result T E → Type 0 → Type 0
-Carried g w r change = HasCleanDisk (seen g w) → OnOk r change
-
 -- where it answers, all is as it was
 abbrev pub Unmoved : {S T E : Type 0} → Ghosts S → Result T E → Work S → Work S → Type 0
 Unmoved g r old new = HasCleanDisk (seen g new) → OnOk r (IsUnchanged (seen g old) (seen g new))

@@ -5,8 +5,8 @@ ghost use Rattle.sqlite.specs.Held.{state};
 ghost use Rattle.sqlite.specs.State.{HasCleanDisk, Survives};
 ghost use Rattle.reg_tables_schema.specs.States.{GoesBack, IsOurs, IsUndone};
 
-use reg_tables_schema::Edition;
 use reg_tables_schema::laws::rest_law;
+use reg_tables_schema::{Edition, ROLLBACK};
 use sqlite::{Alter, Connection, Error, ErrorCode};
 
 /// Whether a statement was refused since no transaction was open.
@@ -28,7 +28,7 @@ pub(crate) fn is_answering<S: Alter>(conn: &mut Connection<S>) -> bool
         (state S.Store conn.new) }
     ensures survives { Survives (state S.Store conn.old) (state S.Store conn.new) (λ _. ⊥) }
 {
-    let said = conn.execute("ROLLBACK", &[]);
+    let said = conn.execute(ROLLBACK, &[]);
     rest_law(conn);
     lacks_transaction(&said)
 }

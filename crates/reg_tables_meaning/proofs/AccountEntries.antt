@@ -1,18 +1,13 @@
 -- Accounts that selections show.
+use Rattle.reg_tables_meaning.proofs.Words.{IfSome, filter, enumerate_from, position_from, Value, Int, value_cmp-Text, mark, IsInOrder}
+use Rattle.reg_tables_meaning.proofs.Words.{by_column, account_columns, entry_of_account, one_of, row_of_account, StandAccounts, is_text}
+use Rattle.reg_tables_meaning.proofs.Words.{shows}
 use Rattle.reg_tables_meaning.proofs.Numbered.{found_at, none_placed, one_placed}
-use Rattle.std.specs.Prelude.{IfSome}
 use Rattle.reg_tables_meaning.proofs.Common.{◌≡◌, [], ◌∷◌, ◌∙◌, ap, Bool, bytes_eq, false, is_eq, is_eq-slice_cmp, List, map, None, Option, option_map, pos, refl, Row, shown_of, Some, Trees, true, value_cmp, ℕ}
-use Rattle.std.specs.List.{filter, enumerate_from, position_from}
-use Rattle.sqlite.specs.declared.types.Value.{Value}
-use Rattle.sqlite.specs.declared.types.Value.TheVariants.{Int, Text}
-use Rattle.sqlite_value.proofs.OrderLemmas.{value_cmp-Text}
+use Rattle.sqlite.specs.declared.types.Value.TheVariants.{Text}
 use Rattle.reg_model.specs.Registry as model
-use Rattle.reg_tables_schema.specs.Rows.{mark, text_or_null, IsInOrder, by_column}
+use Rattle.reg_tables_schema.specs.Rows.{text_or_null}
 use Rattle.reg_tables_sql.specs.declared.accounts.Account.{Account}
-use Rattle.reg_tables_sql.specs.Accounts.{account_columns}
-use Rattle.reg_tables_meaning.specs.Entries.{entry_of_account, one_of}
-use Rattle.reg_tables_meaning.specs.Stands.{row_of_account, StandAccounts}
-use Rattle.reg_tables_schema.specs.Tests.{is_text, shows}
 use Rattle.reg_tables_meaning.proofs.Selected.{selected_one, selected_in_order, column_total, places_rise}
 
 pub same_text : (t u : List ℕ) → is_eq (value_cmp (Text t) (Text u)) ≡ bytes_eq t u

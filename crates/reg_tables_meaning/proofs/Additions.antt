@@ -1,13 +1,9 @@
 -- Rows that are added to two tables, one after another.
+use Rattle.reg_tables_meaning.proofs.Words.{Table, our_tables, KeepsAllBut, AddsCrate, AddsVersion, IsGreatest, row_of_id, IsNext}
 use Rattle.reg_tables_meaning.proofs.Common.{◌≡◌, ◌≢◌, ◌∷◌, ◌∙◌, Adds, AddsColumns, ap, canon, Database, false, Int, is_taken, IsPermutation, KeepsOthers, List, Option, owner_columns, Publication, put_permutes, put_row, release_key_of, Row, State, subst, sym, Text, Trees, version_row, ℕ}
-use Rattle.sqlite.specs.Table.{Table}
 use Rattle.sqlite_trees.proofs.ListLemmas.{all_both}
-use Rattle.reg_tables_schema.specs.Schema.{our_tables}
-use Rattle.reg_tables_meaning.specs.Additions.{KeepsAllBut, AddsCrate, AddsVersion}
 use Rattle.reg_tables_sql.specs.Crates.{crate_row}
 use Rattle.reg_tables_sql.specs.Archives.{archive_row}
-use Rattle.reg_tables_schema.specs.Greatest.{IsGreatest, row_of_id}
-use Rattle.reg_tables_meaning.specs.Ids.{IsNext}
 use Rattle.reg_tables_meaning.proofs.Stays.{same_crates, same_owners, same_versions, same_archives}
 
 keeps_both : (one other : ℕ) (old mid new : Trees) → KeepsOthers one old mid → KeepsOthers other mid new → KeepsAllBut one other old new

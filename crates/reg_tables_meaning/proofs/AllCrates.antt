@@ -1,25 +1,20 @@
 -- All crates, as a selection shows them.
-use Rattle.std.proofs.Common.{◌≡◌, List, [], ◌∷◌, map, Bool, false, Some, Ordering, Less, Equal, Greater, IsPermutation, refl, sym, ap, subst, ◌∙◌}
-use Rattle.std.specs.Prelude.{string_bytes}
+use Rattle.reg_tables_meaning.proofs.Words.{◌≡◌, List, [], ◌∷◌, map, Bool, false, Some, Ordering, Less, Equal, Greater, refl, sym, ap}
+use Rattle.reg_tables_meaning.proofs.Words.{subst, ◌∙◌, string_bytes, filter, find, list_any, AllByRecursion, is_gt, is_eq, on}
+use Rattle.reg_tables_meaning.proofs.Words.{IsDistinct-IsPermutation, ascending_from_sorted, value_cmp-Text, Publication, text_cmp}
+use Rattle.reg_tables_meaning.proofs.Words.{mark_cmp, Crate, crate_columns, entry_of_crate, StoredCrate, row_of_crate, StandCrates, Ids}
+use Rattle.reg_tables_meaning.proofs.Words.{spelling_at, IsIn, in_each, in_map, in_permuted, one_passes}
+use Rattle.std.proofs.Common.{IsPermutation}
 use Rattle.std.specs.FinSet as finset
-use Rattle.std.specs.List.{filter, find, list_any, AllByRecursion, IsDistinct}
+use Rattle.std.specs.List.{IsDistinct}
 use Rattle.std.specs.List.Sorted.{IsStrictlySortedBy}
-use Rattle.std.specs.Ordering.{is_gt, is_eq, on}
 use Rattle.reg_tables_meaning.proofs.Common.{by_column, bytes_eq, canon, collides, is_eq-slice_cmp, IsAscending, IsInOrder, IsPermutation-sym, IsPermutation-trans, list_any-IsPermutation, list_any_map, maps_twice, nat_list_eq_equiv, option_map, shows, Trees, value_cmp}
-use Rattle.std.proofs.lemmas.Map.Keys.{IsDistinct-IsPermutation}
 use Rattle.sqlite.specs.declared.types.Value.TheVariants.{Text}
-use Rattle.sqlite_exec.proofs.PartitionLemmas.{ascending_from_sorted}
 use Rattle.sqlite_trees.proofs.ListLemmas.{ascending_from_map, pull_back}
-use Rattle.sqlite_value.proofs.OrderLemmas.{value_cmp-Text}
-use Rattle.reg_model.specs.Registry.{Text as Words, Publication, text_cmp, mark_cmp}
-use Rattle.reg_tables_sql.specs.declared.crates.Crate.{Crate}
-use Rattle.reg_tables_sql.specs.Crates.{crate_columns}
-use Rattle.reg_tables_meaning.specs.Entries.{entry_of_crate}
-use Rattle.reg_tables_meaning.specs.Stands.{StoredCrate, row_of_crate, StandCrates, Ids, spelling_at}
+use Rattle.reg_model.specs.Registry.{Text as Words}
 use Rattle.reg_tables_meaning.proofs.CrateCounts.{crate_has}
 use Rattle.reg_tables_meaning.proofs.CrateLemmas.{same_bytes, bytes_same}
 use Rattle.reg_tables_meaning.proofs.CrateNames.{same_shown, crate_first, crate_spelled}
-use Rattle.reg_model.proofs.Members.{IsIn, in_each, in_map, in_permuted, one_passes}
 use Rattle.reg_tables_meaning.proofs.Selected.{column_total, each}
 
 pub rises : (o : Ordering) → is_gt o ≡ false → is_eq o ≡ false → o ≡ Less

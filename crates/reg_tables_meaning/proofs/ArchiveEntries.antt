@@ -1,24 +1,19 @@
 -- The archive of a version, as a selection shows it.
+use Rattle.reg_tables_meaning.proofs.Words.{told_of, filter, find, flat_map, eq_by_cmp_equiv, nat_cmp_total, IsDistinct-from_sorted, Int}
+use Rattle.reg_tables_meaning.proofs.Words.{Blob, IsPermutation-filter, IsPermutation-flat_map, IsPermutation-flat_map_each, flat_map-map}
+use Rattle.reg_tables_meaning.proofs.Words.{Publication, mark_cmp, equals_int, maps_twice, same_filter, one_of, StoredVersion}
+use Rattle.reg_tables_meaning.proofs.Words.{row_of_version, row_of_archive, StandCrates, Ids, spelling_at, is_version, shows, IsIn}
+use Rattle.reg_tables_meaning.proofs.Words.{distinct_from_map, in_filter, one_passes}
 use Rattle.reg_tables_meaning.proofs.Yanks.{no_version}
-use Rattle.reg_tables_meaning.specs.Changes.{told_of}
 use Rattle.reg_tables_meaning.proofs.Common.{◌≡◌, ◌==◌, [], ◌∷◌, ◌∙◌, ap, Bool, bytes_eq, collides, cond, eq-eqb, eq_by_cmp, eqb-true, false, filter_map, inl, inr, IsPermutation, IsPermutation-map, IsPermutation-trans, List, map, nat_cmp, None, on, Option, option_map, pos, refl, release_key_of, Row, shown_of, Some, subst, sym, Trees, true, ℕ}
 use Rattle.std.specs.Prelude.{◌&&◌, Vec}
 use Rattle.std.specs.FinSet as finset
-use Rattle.std.specs.List.{filter, find, flat_map, IsDistinct}
-use Rattle.std.specs.Cmp.{eq_by_cmp_equiv, nat_cmp_total}
+use Rattle.std.specs.List.{IsDistinct}
 use Rattle.std.specs.declared.alloc.Global.{Global}
-use Rattle.std.proofs.lemmas.Map.Keys.{IsDistinct-from_sorted}
-use Rattle.sqlite.specs.declared.types.Value.TheVariants.{Int, Blob}
-use Rattle.sqlite_trees.proofs.ListLemmas.{IsPermutation-filter, IsPermutation-flat_map, IsPermutation-flat_map_each, flat_map-map}
-use Rattle.reg_model.specs.Registry.{Text as Words, Publication, mark_cmp}
-use Rattle.reg_tables_schema.proofs.Queries.{equals_int, maps_twice, same_filter}
+use Rattle.reg_model.specs.Registry.{Text as Words}
 use Rattle.reg_tables_sql.specs.Archives.{archives_of, is_archive_of, columns_of_bytes}
-use Rattle.reg_tables_meaning.specs.Entries.{one_of}
-use Rattle.reg_tables_meaning.specs.Stands.{StoredVersion, row_of_version, row_of_archive, StandCrates, Ids, spelling_at}
-use Rattle.reg_tables_schema.specs.Tests.{is_version, shows}
 use Rattle.reg_tables_meaning.proofs.AccountEntries.{same_text, heads}
 use Rattle.reg_tables_meaning.proofs.CrateLemmas.{same_crate, same_bytes, bytes_same, there_at}
-use Rattle.reg_model.proofs.Members.{IsIn, distinct_from_map, in_filter, one_passes}
 use Rattle.reg_tables_meaning.proofs.Selected.{short_same, shown_short}
 use Rattle.reg_tables_meaning.proofs.Standing.{same_number}
 use Rattle.reg_tables_meaning.proofs.VersionEntries.{same_passes, bytes_are}

@@ -1,22 +1,20 @@
 -- What rows of crates and versions that are added are on the registry that they stand for.
+use Rattle.reg_tables_meaning.proofs.Words.{next_version, ids_with_version, next_crate, ids_with_crate, ◌≡◌, ◌==◌, ℕ, ◌<◌, List, [], ◌∷◌}
+use Rattle.reg_tables_meaning.proofs.Words.{◌++◌, map, Bool, true, false, ◌||◌, ◌&&◌, inl, refl, sym, ap, subst, ◌∙◌, ℤ, inr, ◌⊎◌, list_any}
+use Rattle.reg_tables_meaning.proofs.Words.{AllByRecursion, list_all, IsPermutation, and_from, and_left, eq-eqb, eqb-true, map-append}
+use Rattle.reg_tables_meaning.proofs.Words.{IsDistinct-cons, IsDistinct-IsPermutation, owner_total, not_true, true_not_false, AddsCrate}
+use Rattle.reg_tables_meaning.proofs.Words.{AddsVersion, StoredCrate, StoredPair, StoredVersion, row_of_crate, row_of_version}
+use Rattle.reg_tables_meaning.proofs.Words.{row_of_archive, columns_of_stored, StandCrates, is_of, Ids, StandPairs, is_paired, StandMarked}
+use Rattle.reg_tables_meaning.proofs.Words.{IsIn, any_in, all_in, in_any, none_in, each_in, in_each, in_last, map_in}
 use Rattle.reg_tables_meaning.proofs.Stays.{same_crates}
 use Rattle.reg_tables_meaning.proofs.Common.{bytes_eq, canon, Int, is_taken, mark_cmp, nat_cmp, nat_list_eq_equiv, on, owner_cmp, owner_columns, Publication, put_row, release_key_of, Row, text_cmp, Trees, version_row}
 use Rattle.reg_tables_meaning.proofs.Standing.{snoc_permutes}
-use Rattle.reg_tables_meaning.specs.Changes.{next_version, ids_with_version, next_crate, ids_with_crate}
-use Rattle.std.proofs.Common.{◌≡◌, ◌==◌, ℕ, ◌<◌, List, [], ◌∷◌, ◌++◌, map, Bool, true, false, ◌||◌, ◌&&◌, inl, refl, sym, ap, subst, ◌∙◌, ℤ, inr}
-use Rattle.std.specs.Prelude.{◌⊎◌}
-use Rattle.std.specs.List.{list_any, IsDistinct, AllByRecursion, list_all}
-use Rattle.std.specs.List.Sorted.{IsPermutation, IsStrictlySortedBy}
+use Rattle.std.specs.List.{IsDistinct}
+use Rattle.std.specs.List.Sorted.{IsStrictlySortedBy}
 use Rattle.std.specs.FinSet as finset
-use Rattle.std.proofs.lemmas.Bool.{and_from, and_left, eq-eqb, eqb-true}
-use Rattle.std.proofs.lemmas.List.{map-append}
-use Rattle.std.proofs.lemmas.Map.Keys.{IsDistinct-cons, IsDistinct-IsPermutation}
-use Rattle.reg_model.proofs.Keys.{owner_total}
-use Rattle.reg_model.proofs.Lists.{not_true, true_not_false, all_push, all_so, any_more}
-use Rattle.reg_tables_meaning.specs.Additions.{AddsCrate, AddsVersion}
-use Rattle.reg_tables_meaning.specs.Stands.{StoredCrate, StoredPair, StoredVersion, row_of_crate, row_of_version, row_of_archive, columns_of_stored, StandCrates, is_of, Ids, StandPairs, is_paired, StandMarked}
+use Rattle.reg_model.proofs.Lists.{all_push, all_so, any_more}
 use Rattle.reg_tables_meaning.proofs.CrateLemmas.{pushed, text_itself, below_other, above_other, same_owner, other_owner, is_published, version_of}
-use Rattle.reg_model.proofs.Members.{IsIn, any_in, all_in, in_any, none_in, each_in, in_each, in_last, map_in, pushed_in}
+use Rattle.reg_model.proofs.Members.{pushed_in}
 use Rattle.reg_tables_meaning.proofs.Rising.{above, rises_on, next_is}
 use Rattle.reg_tables_meaning.proofs.Rowids.{own_put, put_columns}
 

@@ -1,20 +1,17 @@
 -- How many accounts, tokens and crates the rows stand for.
-use Rattle.std.proofs.Common.{◌≡◌, ◌+◌, ◌==◌, ℕ, suc, pos, min, max, List, [], ◌∷◌, map, length, Bool, true, false, nat_le, Option, refl, sym, ap, ◌∙◌, arith, ◌<◌, ◌≤◌}
+use Rattle.reg_tables_meaning.proofs.Words.{◌≡◌, ◌+◌, ◌==◌, ℕ, suc, pos, max, List, [], ◌∷◌, map, length, Bool, true, false, nat_le, Option}
+use Rattle.reg_tables_meaning.proofs.Words.{refl, sym, ap, ◌∙◌, arith, ◌<◌, ◌≤◌, list_any, enumerate_from, IsPermutation}
+use Rattle.reg_tables_meaning.proofs.Words.{nat_list_cmp_total, and_parts, length-map, length_permutation, Publication, text_cmp, mark_cmp}
+use Rattle.reg_tables_meaning.proofs.Words.{text_apart, IsLastId, next_crate, IsNext, StoredCrate, StoredVersion, is_of, next_of}
+use Rattle.reg_tables_meaning.proofs.Words.{row_of_crate, StandCrates, Ids}
+use Rattle.std.proofs.Common.{min}
 use Rattle.std.specs.FinSet as finset
-use Rattle.std.specs.List.{list_any, enumerate_from, IsDistinct}
-use Rattle.std.specs.List.Sorted.{IsPermutation, IsStrictlySortedBy}
+use Rattle.std.specs.List.{IsDistinct}
+use Rattle.std.specs.List.Sorted.{IsStrictlySortedBy}
 use Rattle.reg_tables_meaning.proofs.Common.{all_in, any_in, any_same, bytes_eq, canon, each_in, eq_by_cmp, in_any, Int, is_eq-slice_cmp, list_any_map, nat_cmp, nat_list_eq_equiv, none_in, on, Row, Trees}
-use Rattle.std.specs.Cmp.Lexicographic.{nat_list_cmp_total}
-use Rattle.std.proofs.lemmas.Bool.{and_parts, leb-true}
-use Rattle.std.proofs.lemmas.List.{length-map}
-use Rattle.std.proofs.lemmas.List.Sorted.{length_permutation}
-use Rattle.reg_model.specs.Registry.{Text as Words, Publication, text_cmp, mark_cmp}
-use Rattle.reg_model.proofs.Keys.{text_apart}
+use Rattle.std.proofs.lemmas.Bool.{leb-true}
+use Rattle.reg_model.specs.Registry.{Text as Words}
 use Rattle.reg_tables_schema.specs.Rows.{capped}
-use Rattle.reg_tables_sql.specs.Counts.{IsLastId}
-use Rattle.reg_tables_meaning.specs.Changes.{next_crate}
-use Rattle.reg_tables_meaning.specs.Ids.{IsNext}
-use Rattle.reg_tables_meaning.specs.Stands.{StoredCrate, StoredVersion, is_of, next_of, row_of_crate, StandCrates, Ids}
 use Rattle.reg_tables_meaning.proofs.AccountEntries.{number_is}
 use Rattle.reg_tables_meaning.proofs.CrateLemmas.{same_bytes, bytes_same, crate_of}
 use Rattle.reg_tables_meaning.proofs.Rising.{next_as}

@@ -1,13 +1,9 @@
 -- The crate of a canonical name, as a selection shows it.
+use Rattle.reg_tables_meaning.proofs.Words.{IfSome, string_bytes, Publication, mark_cmp, Crate, crate_columns, one_of, entry_of_crate}
+use Rattle.reg_tables_meaning.proofs.Words.{StoredCrate, StoredVersion, row_of_crate, StandCrates, Ids, spelling_at, is_text, shows}
 use Rattle.reg_tables_meaning.proofs.Common.{◌≡◌, [], ◌∷◌, ◌∙◌, ap, Bool, bytes_eq, canon, collides, cond, false, filter, filtered_passes, find, in_filter, inl, inr, IsIn, List, map, None, not_true, Option, option_map, refl, shown_of, Some, subst, sym, Trees, true, true_not_false}
-use Rattle.std.specs.Prelude.{IfSome, string_bytes}
 use Rattle.std.specs.FinSet as finset
-use Rattle.reg_model.specs.Registry.{Text as Words, Publication, mark_cmp}
-use Rattle.reg_tables_sql.specs.declared.crates.Crate.{Crate}
-use Rattle.reg_tables_sql.specs.Crates.{crate_columns}
-use Rattle.reg_tables_meaning.specs.Entries.{one_of, entry_of_crate}
-use Rattle.reg_tables_meaning.specs.Stands.{StoredCrate, StoredVersion, row_of_crate, StandCrates, Ids, spelling_at}
-use Rattle.reg_tables_schema.specs.Tests.{is_text, shows}
+use Rattle.reg_model.specs.Registry.{Text as Words}
 use Rattle.reg_tables_meaning.proofs.AccountEntries.{same_text, number_is, words_are, heads, tails}
 use Rattle.reg_tables_meaning.proofs.CrateLemmas.{same_bytes, bytes_same, crate_of, one_by_canon, spelled_at, version_of}
 use Rattle.reg_tables_meaning.proofs.Selected.{selected_one}

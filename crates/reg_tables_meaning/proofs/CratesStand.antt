@@ -1,23 +1,22 @@
 -- The whole registry after a change of its crates.
+use Rattle.reg_tables_meaning.proofs.Words.{next_crate, ids_with_crate, ids_with_version, mark_at, ◌≢◌, refl, sym, ◌≡◌, ◌==◌, not, ℕ, List}
+use Rattle.reg_tables_meaning.proofs.Words.{[], ◌∷◌, ◌++◌, map, Bool, true, false, cond, Option, ap, subst, ◌∙◌, Some, sym, None, is_some}
+use Rattle.reg_tables_meaning.proofs.Words.{Replaces, Sound, not_true, true_not_false, KeepsAllBut, AddsCrate, AddsVersion, MarksYanked}
+use Rattle.reg_tables_meaning.proofs.Words.{is_version, StandCrates, StoredVersion, Ids, StandsBy, Holds, StandPairs, spelling_at}
+use Rattle.reg_tables_meaning.proofs.Words.{StandMarked, row_of_version, StandSummaries, is_marked, its_versions, AddsSummary, IsMarkChange}
+use Rattle.reg_tables_meaning.proofs.Words.{PushesSummary, RemarksSummary, IsOtherwise, id_unless}
 use Rattle.reg_tables_meaning.proofs.Common.{bytes_eq, canon, drop, eq-eqb, filter, in_filter, Int, IsIn, IsPermutation, mark_cmp, owner_cmp, owner_columns, Publication, put_row, Registry, release_key_of, State, Text, Trees}
-use Rattle.reg_tables_meaning.specs.Changes.{next_crate, ids_with_crate, ids_with_version, if_there, mark_at, with_mark}
-use Rattle.std.proofs.Common.{◌≢◌, refl, sym, ◌≡◌, ◌==◌, not, ℕ, List, [], ◌∷◌, ◌++◌, map, Bool, true, false, cond, Option, ap, subst, ◌∙◌, Some, sym, None, is_some}
+use Rattle.reg_tables_meaning.specs.Changes.{if_there, with_mark}
 use Rattle.std.specs.FinSet as finset
-use Rattle.reg_tables_schema.specs.Changes.{KeepsOthers, Replaces}
+use Rattle.reg_tables_schema.specs.Changes.{KeepsOthers}
 use Rattle.reg_model.specs.Crates.{exists}
-use Rattle.reg_model.specs.Sound.{Sound, has_version}
-use Rattle.reg_model.proofs.Lists.{none_both, not_true, true_not_false}
-use Rattle.reg_tables_meaning.specs.Additions.{KeepsAllBut, AddsCrate, AddsVersion}
-use Rattle.reg_tables_sql.specs.Versions.{version_row, MarksYanked}
-use Rattle.reg_tables_schema.specs.Tests.{is_version}
-use Rattle.reg_tables_meaning.specs.Stands.{StandCrates, StoredVersion, Ids, StandsBy, Holds, StandPairs, spelling_at, StandMarked, row_of_version}
+use Rattle.reg_model.specs.Sound.{has_version}
+use Rattle.reg_model.proofs.Lists.{none_both}
+use Rattle.reg_tables_sql.specs.Versions.{version_row}
 use Rattle.reg_tables_meaning.proofs.CrateChanges.{adds_version, adds_crate, id_is, next_id_of, first_pair, unpaired, unmarked_crate}
 use Rattle.reg_tables_meaning.proofs.CrateLemmas.{there_at}
 use Rattle.reg_tables_meaning.proofs.Stays.{accounts_stay, tokens_stay, reserved_stay, same_crates, same_archives, pairs_stay, crates_stay, marked_stay, summaries_stay, same_about, same_accounts, same_tokens, same_scopes, same_owners, same_versions, same_reserved, same_summaries, same_restricted, same_readers}
 use Rattle.reg_tables_meaning.proofs.SummaryChanges.{summaries_first, summaries_marked, summaries_next, summary_at}
-use Rattle.reg_tables_meaning.specs.Summaries.{StandSummaries, is_marked, its_versions}
-use Rattle.reg_tables_meaning.specs.SummaryChanges.{AddsSummary, IsMarkChange, PushesSummary, RemarksSummary}
-use Rattle.reg_tables_meaning.specs.Marking.{IsOtherwise, id_unless}
 use Rattle.reg_tables_meaning.proofs.Marking.{no_id, one_id, unless_none, unless_some}
 use Rattle.reg_tables_meaning.proofs.CrateNames.{kept}
 use Rattle.reg_tables_meaning.proofs.Yanks.{IsTarget, mark_is, mark_kept, marks, marks_again, target, row_found, yanks, no_such_version, no_version}

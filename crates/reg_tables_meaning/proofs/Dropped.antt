@@ -1,13 +1,9 @@
 -- Rows of a table without a key, whose rowids SQL chose: what a selection in order shows of their columns.
-use Rattle.std.proofs.Common.{◌≡◌, List, [], ◌∷◌, map, Less, refl, ap, ap₂, subst, ◌∙◌}
+use Rattle.reg_tables_meaning.proofs.Words.{◌≡◌, List, [], ◌∷◌, map, Less, refl, ap, ap₂, subst, ◌∙◌, IsPermutation, IsSorted}
+use Rattle.reg_tables_meaning.proofs.Words.{ordering_then, IsTotalOrder, sorted_unique, IsInOrder, by_column, by_columns}
 use Rattle.reg_tables_meaning.proofs.Common.{AllByRecursion, drop, IsAscending, IsPermutation-map, IsPermutation-trans, Row, shows, value_cmp}
-use Rattle.std.specs.List.Sorted.{IsPermutation, IsSorted}
-use Rattle.std.specs.Ordering.{ordering_then}
-use Rattle.std.specs.Cmp.{IsTotalOrder}
 use Rattle.std.specs.declared.cmp.Ordering.{Ordering}
 use Rattle.sqlite_exec.proofs.RowsLemmas.{IsSorted-map}
-use Rattle.sqlite_keyed.proofs.SortLemmas.{sorted_unique}
-use Rattle.reg_tables_schema.specs.Rows.{IsInOrder, by_column, by_columns}
 use Rattle.reg_tables_meaning.proofs.Rowids.{first_column, second_column}
 
 abbrev without_id : Row → Row

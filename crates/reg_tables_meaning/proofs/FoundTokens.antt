@@ -1,19 +1,15 @@
 -- A token that is found by its digest.
-use Rattle.std.proofs.Common.{◌≡◌, ℕ, suc, ◌+◌, ◌≤◌, pos, List, [], ◌∷◌, ◌++◌, map, length, Bool, true, false, cond, is_some, Option, Some, None, arith, refl, sym, ap, subst, ◌∙◌}
+use Rattle.reg_tables_meaning.proofs.Words.{◌≡◌, ℕ, suc, ◌+◌, ◌≤◌, pos, List, [], ◌∷◌, ◌++◌, map, length, Bool, true, false, cond, is_some}
+use Rattle.reg_tables_meaning.proofs.Words.{Option, Some, None, arith, refl, sym, ap, subst, ◌∙◌, AllByRecursion, enumerate_from, filter}
+use Rattle.reg_tables_meaning.proofs.Words.{flat_map, list_all, bytes_eq-Decides, length-append, All-permutation, All-from_recursion}
+use Rattle.reg_tables_meaning.proofs.Words.{recursion_from_All, Int, Blob, Sound, equals_int, same_filter, IsRow, row_of_account}
+use Rattle.reg_tables_meaning.proofs.Words.{row_of_token, Ids, StandsBy}
 use Rattle.reg_tables_meaning.proofs.Common.{and_parts, bytes_eq, filter_map, is_eq, is_eq-slice_cmp, IsPermutation, IsPermutation-filter, one_row, option_map, Row, shown_of, Trees, value_cmp}
-use Rattle.std.specs.List.{AllByRecursion, enumerate_from, filter, flat_map, list_all}
-use Rattle.std.proofs.lemmas.Slice.Eq.{bytes_eq-Decides}
-use Rattle.std.proofs.lemmas.List.{length-append}
-use Rattle.std.proofs.lemmas.List.Sorted.{All-permutation}
-use Rattle.std.proofs.lemmas.List.Elements.{All-from_recursion, recursion_from_All}
-use Rattle.sqlite.specs.declared.types.Value.TheVariants.{Int, Blob}
 use Rattle.sqlite_value.proofs.OrderLemmas.{value_cmp-Blob}
 use Rattle.reg_model.specs.Registry as model
-use Rattle.reg_model.specs.Sound.{Sound, is_token}
-use Rattle.reg_tables_schema.proofs.Queries.{equals_int, same_filter}
+use Rattle.reg_model.specs.Sound.{is_token}
 use Rattle.reg_tables_sql.specs.declared.tokens.TokenRow.{TokenRow}
-use Rattle.reg_tables_meaning.specs.FoundTokens.{IsAccountOf, IsRow, login_and_mark, with_digest}
-use Rattle.reg_tables_meaning.specs.Stands.{row_of_account, row_of_token, Ids, StandsBy}
+use Rattle.reg_tables_meaning.specs.FoundTokens.{IsAccountOf, login_and_mark, with_digest}
 use Rattle.reg_tables_schema.specs.Tests.{is_blob}
 use Rattle.reg_tables_sql.specs.Tokens.{columns_with_account}
 use Rattle.reg_tables_sql.specs.Tokens.{is_of_token, token_and_account, tokens_with_accounts}

@@ -1,15 +1,10 @@
 -- A walk over the entries of a crate's index file.
 
-use Rattle.reg_tables_schema.specs.declared.edition.Edition.TheVariants.{Second}
-use Rattle.reg_tables_meaning.proofs.Common.{◌≡◌, [], ◌∷◌, ◌++◌, ◌∙◌, ap, arith, Database, Int, List, pos, Row, subst, ℕ}
-use Rattle.reg_tables_schema.specs.States.{IsOurs}
-use Rattle.sqlite.specs.Held.{Held, state}
-use Rattle.reg_tables_meaning.specs.Walks.{HasWalked}
-use Rattle.sqlite.specs.State.{HasCleanDisk, IsUnchanged, Shown, State}
-use Rattle.sqlite_trees.specs.declared.store.Store.{Ghosts}
-use Rattle.reg_tables_sql.specs.Stems.{AreStemsOf, entries_text}
-use Rattle.sqlite.proofs.Callers.{given_begin}
-use Rattle.reg_tables_sql.proofs.StemQueries.{stems, stems_begun}
+use Rattle.reg_tables_meaning.proofs.Words.{Second, IsOurs, Held, state, HasWalked, HasCleanDisk, IsUnchanged, Shown, State, Ghosts}
+use Rattle.reg_tables_meaning.proofs.Words.{entries_text}
+use Rattle.reg_tables_meaning.proofs.Common.{◌≡◌, [], ◌∷◌, ◌∙◌, ap, arith, Database, Int, List, pos, Row, subst, ℕ}
+use Rattle.reg_tables_sql.specs.Stems.{AreStemsOf}
+use Rattle.reg_tables_sql.proofs.StemQueries.{stems}
 use Rattle.reg_tables_schema.specs.Schema.{ours}
 
 module _ {S : Type 0} (g : Ghosts S) (first now : Held S) (of_crate : ℕ) (rows : List Row) (at : IsOurs Second (state g first)) (clean : HasCleanDisk (state g now))

@@ -51,3 +51,4 @@ pub mod Walking
 pub mod Withins
 mod Writings
 mod Yanks
+mod Words

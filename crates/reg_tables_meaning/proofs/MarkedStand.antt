@@ -1,24 +1,20 @@
 -- The crates of a table of marks after a change that names a crate by its id.
+use Rattle.reg_tables_meaning.proofs.Words.{nat_list_cmp_total, nat_eq_equiv, told_of, is_at_one_of, insert_again, text_apart}
+use Rattle.reg_tables_meaning.proofs.Words.{any-filter_same, and_from, eq-eqb, eqb-true, IsIn, all_in, any_in, each_in, filtered_passes}
+use Rattle.reg_tables_meaning.proofs.Words.{in_all, in_any, in_filter, in_map, in_permuted, map_in, none_in, Ids, StandCrates, StandMarked}
+use Rattle.reg_tables_meaning.proofs.Words.{StoredCrate, spelling_at}
 use Rattle.reg_tables_meaning.proofs.CrateNames.{kept}
 use Rattle.reg_tables_meaning.proofs.Common.{◌≡◌, ◌==◌, [], ◌∷◌, ◌&&◌, ◌||◌, ◌∙◌, AllByRecursion, any_same, ap, Bool, bytes_eq, canon, false, filter, filter_map, has_rowid, Int, is_eq, is_eq-slice_cmp, is_number, IsPermutation, IsPermutation-cons, IsPermutation-filter, IsPermutation-map, IsPermutation-sym, IsPermutation-trans, List, list_any, list_any-IsPermutation, list_any_map, map, mark_cmp, None, not, not_true, Option, pos, Publication, put_permutes, put_row, refl, Row, rowid, same_filter, shows, Some, subst, sym, Text, text_cmp, Trees, true, true_not_false, value_cmp, ℕ}
 use Rattle.reg_tables_meaning.proofs.VersionEntries.{same_passes}
 use Rattle.reg_tables_meaning.proofs.Standing.{same_number}
 use Rattle.reg_tables_sql.specs.Restricted.{restricted_row}
-use Rattle.std.specs.Cmp.Lexicographic.{nat_list_cmp_total}
-use Rattle.std.specs.Cmp.{nat_eq_equiv}
-use Rattle.reg_tables_meaning.specs.Changes.{mark_in, told_of}
+use Rattle.reg_tables_meaning.specs.Changes.{mark_in}
 use Rattle.reg_tables_meaning.proofs.Removed.{keeps_all}
-use Rattle.reg_tables_schema.specs.Changes.{is_at_one_of}
-use Rattle.reg_model.proofs.Keys.{insert_again, text_apart}
 use Rattle.sqlite_rules.specs.Edit.{id_in, is_taken}
 use Rattle.reg_tables_meaning.proofs.PairChanges.{crates_alike}
 use Rattle.reg_tables_meaning.proofs.CrateLemmas.{crate_there, no_row, not_at, there_at}
 use Rattle.reg_tables_meaning.proofs.Selected.{same_one}
-use Rattle.std.proofs.lemmas.Map.Views.{any-filter_same}
-use Rattle.std.proofs.lemmas.Bool.{and_from, eq-eqb, eqb-true}
 use Rattle.reg_tables_schema.specs.Rows.{number_columns}
-use Rattle.reg_model.proofs.Members.{IsIn, all_in, any_in, each_in, filtered_passes, in_all, in_any, in_filter, in_map, in_permuted, map_in, none_in}
-use Rattle.reg_tables_meaning.specs.Stands.{Ids, StandCrates, StandMarked, StoredCrate, spelling_at}
 use Rattle.std.specs.FinSet as finset
 
 -- a row is told by its key

@@ -1,14 +1,9 @@
 -- Which version gets another mark, told of the row that was found.
+use Rattle.reg_tables_meaning.proofs.Words.{Value, mark, is_version, columns_of_mark, shows_mark, VersionMark, IsOtherwise, id_unless}
 use Rattle.reg_tables_meaning.proofs.Common.{◌≡◌, [], ◌∷◌, ◌∙◌, ap, Bool, false, filter, Int, List, map, None, not, Option, option_and_then, pos, refl, release_key_of, shown_of, Some, sym, Trees, true, version_row, ℕ}
-use Rattle.sqlite.specs.declared.types.Value.{Value}
-use Rattle.reg_tables_schema.specs.Rows.{mark}
-use Rattle.reg_tables_schema.specs.Tests.{is_version}
-use Rattle.reg_tables_sql.specs.VersionMarks.{columns_of_mark, shows_mark}
-use Rattle.reg_tables_sql.specs.declared.versions.VersionMark.{VersionMark}
 use Rattle.reg_tables_meaning.proofs.AccountEntries.{heads, mark_is, number_is, tails}
 use Rattle.reg_tables_meaning.proofs.Selected.{same_one}
 use Rattle.reg_tables_meaning.proofs.Numbered.{same_some}
-use Rattle.reg_tables_meaning.specs.Marking.{IsOtherwise, id_unless}
 
 abbrev id_of : Bool → Option VersionMark → Option ℕ
 id_of b found = option_and_then (λ (m : VersionMark). id_unless m.yanked b m.id) found

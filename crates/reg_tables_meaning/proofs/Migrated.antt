@@ -1,12 +1,10 @@
 -- What the rows stand for after a migration.
-use Rattle.reg_tables_meaning.specs.Summaries.{StandSummaries}
+use Rattle.reg_tables_meaning.proofs.Words.{StandSummaries, in_each, IsUpgrade, Ids, StandMarked, StandPairs, StandsBy, StoredCrate}
 use Rattle.reg_tables_meaning.proofs.Common.{◌≡◌, [], ◌∷◌, ap, canon, Database, false, List, map, owner_cmp, refl, Registry, Row, shows, subst, sym, text_cmp, ℕ}
 use Rattle.reg_tables_meaning.proofs.Made.{none_apart, none_are, none_dropped}
-use Rattle.reg_model.proofs.Members.{in_each}
 use Rattle.reg_tables_meaning.proofs.Stays.{accounts_stay, crates_stay, pairs_stay, reserved_stay, tokens_stay}
-use Rattle.reg_tables_meaning.specs.Upgrades.{IsUpgrade}
 use Rattle.std.specs.List.{IsDistinct}
-use Rattle.reg_tables_meaning.specs.Stands.{Ids, StandMarked, StandPairs, StandsBy, StandsOld, StoredCrate}
+use Rattle.reg_tables_meaning.specs.Stands.{StandsOld}
 use Rattle.std.specs.FinSet as finset
 
 no_pairs : (crates : List StoredCrate) (held : finset.FinSet owner_cmp) (rows : List Row) → held ≡ finset.empty → rows ≡ [] → StandPairs crates held rows

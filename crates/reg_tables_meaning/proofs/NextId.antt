@@ -1,19 +1,15 @@
 -- The id after the greatest, where ids are the places of a list.
-use Rattle.std.proofs.Common.{◌≡◌, ◌==◌, ℕ, ◌+◌, ◌≤◌, ◌<◌, pos, List, [], ◌∷◌, map, take, length, Bool, true, false, ◌||◌, nat_lt, Option, Some, None, Ordering, Less, Equal, Greater, is_gt, true≢false, refl, sym, ap, subst, ◌∙◌, arith}
+use Rattle.reg_tables_meaning.proofs.Words.{◌≡◌, ◌==◌, ℕ, ◌+◌, ◌≤◌, ◌<◌, pos, List, [], ◌∷◌, map, take, length, Bool, true, false, ◌||◌}
+use Rattle.reg_tables_meaning.proofs.Words.{nat_lt, Option, Some, None, Ordering, Less, Equal, Greater, refl, sym, ap, subst, ◌∙◌, arith}
+use Rattle.reg_tables_meaning.proofs.Words.{IsPermutation, IsSorted, is_eq, IsTotalOrder, int_cmp_is, eq-eqb, ltb-false, on_total}
+use Rattle.reg_tables_meaning.proofs.Words.{tied_itself, IsPermutation-trans, list_any-IsPermutation, length_permutation, All-permutation}
+use Rattle.reg_tables_meaning.proofs.Words.{All-from_recursion, recursion_from_All, length-map, value_cmp_total, value_cmp-Int}
+use Rattle.reg_tables_meaning.proofs.Words.{ascending_from_sorted, IsGreatest, row_of_id, IsNext}
+use Rattle.std.proofs.Common.{is_gt, true≢false}
 use Rattle.reg_tables_meaning.proofs.Common.{AllByRecursion, column, enumerate_from, has_rowid, Int, list_any, Row, rowid, shows, value_cmp}
-use Rattle.std.specs.List.Sorted.{IsPermutation, IsSorted}
-use Rattle.std.specs.Ordering.{is_eq, ordering_reverse}
-use Rattle.std.specs.Cmp.{IsTotalOrder, int_cmp_is}
-use Rattle.std.proofs.lemmas.Bool.{eq-eqb, ltb-false}
-use Rattle.std.proofs.lemmas.Cmp.{back_total, on_total, upto, tied_itself}
-use Rattle.std.proofs.lemmas.List.Sorted.{IsPermutation-trans, list_any-IsPermutation, length_permutation, All-permutation}
-use Rattle.std.proofs.lemmas.List.Elements.{All-from_recursion, recursion_from_All}
-use Rattle.std.proofs.lemmas.List.{length-map}
+use Rattle.std.specs.Ordering.{ordering_reverse}
+use Rattle.std.proofs.lemmas.Cmp.{back_total, upto}
 use Rattle.std.proofs.lemmas.List.FromFn.{length-enumerate_from}
-use Rattle.sqlite_value.proofs.OrderLemmas.{value_cmp_total, value_cmp-Int}
-use Rattle.sqlite_exec.proofs.PartitionLemmas.{ascending_from_sorted}
-use Rattle.reg_tables_schema.specs.Greatest.{IsGreatest, row_of_id}
-use Rattle.reg_tables_meaning.specs.Ids.{IsNext}
 use Rattle.reg_tables_meaning.proofs.Standing.{same_number}
 use Rattle.reg_tables_meaning.proofs.Numbered.{more}
 use Rattle.reg_model.proofs.Lists.{or_left, or_right}

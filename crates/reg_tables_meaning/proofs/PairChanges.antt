@@ -1,20 +1,17 @@
 -- What a change of the rows of a relation is on the relation that they stand for.
+use Rattle.reg_tables_meaning.proofs.Words.{◌≡◌, ◌==◌, ℕ, pos, List, [], ◌∷◌, map, Bool, true, false, ◌||◌, ◌&&◌, not, refl, sym, ap, subst}
+use Rattle.reg_tables_meaning.proofs.Words.{◌∙◌, ℤ, None, is_eq, nat_cmp, ordering_then, on, IsEquivalence, and_from, and_parts, eqb-true}
+use Rattle.reg_tables_meaning.proofs.Words.{or_parts, and_left, eq-eqb, any-filter_same, insert_again, owner_total, owner_apart}
+use Rattle.reg_tables_meaning.proofs.Words.{StoredCrate, StoredPair, columns_of_stored, StandCrates, Ids, is_paired, StandPairs}
+use Rattle.reg_tables_meaning.proofs.Words.{spelling_at, is_owner, IsIn, each_in, in_any, in_all, all_in, in_filter, none_in, any_in}
 use Rattle.reg_tables_meaning.proofs.Common.{AllByRecursion, any_same, bytes_eq, canon, column, drop, filter, Int, is_eq-slice_cmp, is_taken, IsDistinct-cons, IsPermutation, list_any, mark_cmp, nat_eq, nat_list_eq_equiv, not_true, owner_cmp, owner_columns, Publication, put_row, Row, same_filter, Trees, true_not_false, value_cmp}
-use Rattle.std.proofs.Common.{◌≡◌, ◌==◌, ℕ, pos, List, [], ◌∷◌, map, Bool, true, false, ◌||◌, ◌&&◌, not, refl, sym, ap, subst, ◌∙◌, ℤ, None}
-use Rattle.std.specs.Ordering.{is_eq, nat_cmp, eq_by_cmp, ordering_then, on}
+use Rattle.std.specs.Ordering.{eq_by_cmp}
 use Rattle.std.specs.declared.cmp.Ordering.{Ordering}
 use Rattle.std.specs.declared.cmp.Ordering.TheVariants.{Less, Equal, Greater}
-use Rattle.std.specs.Cmp.{IsEquivalence}
 use Rattle.std.specs.FinSet as finset
 use Rattle.std.proofs.lemmas.Cmp.{nat_eq_equiv}
-use Rattle.std.proofs.lemmas.Bool.{and_from, and_parts, eqb-true, or_parts, and_left, eq-eqb}
-use Rattle.std.proofs.lemmas.Map.Views.{any-filter_same}
-use Rattle.reg_model.proofs.Keys.{insert_again, owner_total, owner_apart}
-use Rattle.reg_tables_meaning.specs.Stands.{StoredCrate, StoredPair, columns_of_stored, StandCrates, Ids, is_paired, StandPairs, spelling_at}
-use Rattle.reg_tables_schema.specs.Tests.{is_owner}
 use Rattle.reg_model.proofs.Alike.{alike}
 use Rattle.reg_tables_meaning.proofs.CrateLemmas.{apart_by, same_nat, not_at}
-use Rattle.reg_model.proofs.Members.{IsIn, each_in, in_any, in_all, all_in, in_filter, none_in, any_in}
 use Rattle.reg_tables_meaning.proofs.Removed.{apart_kept, own_kept}
 use Rattle.reg_tables_meaning.proofs.Rowids.{first_column, second_column, own_put, any_columns, put_columns, keep_columns}
 use Rattle.reg_tables_meaning.proofs.Standing.{same_number}

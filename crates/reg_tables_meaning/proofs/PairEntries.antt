@@ -1,26 +1,22 @@
 -- Accounts of a relation that a selection shows.
+use Rattle.reg_tables_meaning.proofs.Words.{told_of, filter, flat_map, list_any, enumerate_from, AllByRecursion, eqb-true, eq-eqb, and_left}
+use Rattle.reg_tables_meaning.proofs.Words.{IsDistinct-cons, IsDistinct-head, IsDistinct-tail, IsPermutation-filter, IsPermutation-flat_map}
+use Rattle.reg_tables_meaning.proofs.Words.{IsPermutation-flat_map_each, flat_map-map, Account, owner_cmp, equals_int, maps_twice}
+use Rattle.reg_tables_meaning.proofs.Words.{same_filter, entry_of_account, account_columns, StoredPair, row_of_account, columns_of_stored}
+use Rattle.reg_tables_meaning.proofs.Words.{StandAccounts, StoredCrate, Ids, StandPairs, is_paired, spelling_at, nat_eq_equiv}
 use Rattle.reg_tables_meaning.proofs.PairChanges.{other_pair}
-use Rattle.reg_tables_meaning.specs.Changes.{told_of}
 use Rattle.reg_tables_meaning.proofs.Common.{◌≡◌, ◌==◌, [], ◌∷◌, ◌&&◌, ◌∙◌, ap, Bool, by_column, canon, column, cond, drop, each_in, false, filter_map, Int, is_eq, is_number, IsAscending, IsInOrder, IsPermutation, IsPermutation-map, IsPermutation-sym, IsPermutation-trans, Less, List, map, None, none_in, none_pass, Option, Option, pos, refl, Row, shows, Some, Some, subst, sym, Trees, true, value_cmp, ℕ}
 use Rattle.std.specs.FinSet as finset
-use Rattle.std.specs.List.{filter, flat_map, list_any, enumerate_from, AllByRecursion, IsDistinct}
-use Rattle.std.proofs.lemmas.Bool.{eqb-true, eq-eqb, and_left}
-use Rattle.std.proofs.lemmas.Map.Keys.{IsDistinct-cons, IsDistinct-head, IsDistinct-tail}
+use Rattle.std.specs.List.{IsDistinct}
 use Rattle.sqlite.specs.Collation.TheVariants.{Binary}
 use Rattle.sqlite_keyed.proofs.ListLemmas.{ascending-map, ascending-filter, ascending_from_map}
 use Rattle.sqlite_schema.specs.Rules.{equal}
-use Rattle.sqlite_trees.proofs.ListLemmas.{IsPermutation-filter, IsPermutation-flat_map, IsPermutation-flat_map_each, flat_map-map, map-flat_map, flat_map_same_on}
-use Rattle.reg_model.specs.Registry.{Account, owner_cmp}
+use Rattle.sqlite_trees.proofs.ListLemmas.{map-flat_map, flat_map_same_on}
 use Rattle.reg_model.proofs.Lists.{any_filter, any_same}
-use Rattle.reg_tables_schema.proofs.Queries.{equals_int, maps_twice, same_filter}
 use Rattle.reg_tables_sql.specs.declared.accounts.Account as record_of
-use Rattle.reg_tables_meaning.specs.Entries.{entry_of_account}
-use Rattle.reg_tables_sql.specs.Accounts.{account_columns}
 use Rattle.reg_tables_sql.specs.Owners.{is_of_owner}
 use Rattle.reg_tables_sql.specs.Pairs.{accounts_in}
-use Rattle.reg_tables_meaning.specs.Stands.{StoredPair, row_of_account, columns_of_stored, StandAccounts, StoredCrate, Ids, StandPairs, is_paired, spelling_at}
 use Rattle.reg_tables_meaning.proofs.AccountEntries.{heads, tails, mark_is, number_is, text_is, words_are}
-use Rattle.std.specs.Cmp.{nat_eq_equiv}
 use Rattle.reg_tables_meaning.proofs.CrateLemmas.{there_at}
 use Rattle.reg_tables_schema.proofs.Joined.{joined_once}
 use Rattle.reg_tables_meaning.proofs.Rowids.{first_column, second_column, keep_columns}

@@ -1,15 +1,13 @@
 -- A relation after a change that names a crate by its id.
+use Rattle.reg_tables_meaning.proofs.Words.{is_owner, is_at_one_of, Ids, StandCrates, StandPairs, spelling_at, ◌≡◌, ℕ, ℤ, pos, Bool, List}
+use Rattle.reg_tables_meaning.proofs.Words.{◌∷◌, true, false, not, Option, Some, None, refl, sym, ◌∙◌}
 use Rattle.reg_tables_meaning.proofs.Common.{canon, filter, has_rowid, Int, is_taken, list_any, mark_cmp, owner_cmp, owner_columns, Publication, put_row, Row, Text, Trees, true_not_false}
 use Rattle.reg_tables_meaning.proofs.Stays.{pairs_stay}
 use Rattle.reg_tables_meaning.proofs.Removed.{keeps_all, removes_passing}
 use Rattle.reg_tables_meaning.proofs.PairChanges.{is_there}
-use Rattle.reg_tables_schema.specs.Tests.{is_owner}
-use Rattle.reg_tables_schema.specs.Changes.{is_at_one_of}
 use Rattle.reg_tables_meaning.specs.Changes.{insert_at, remove_at}
 use Rattle.reg_tables_meaning.proofs.CrateLemmas.{crate_there, no_row, there_at}
 use Rattle.reg_tables_meaning.proofs.PairChanges.{adds_pair, held_again, none_passes, removes_pair}
-use Rattle.reg_tables_meaning.specs.Stands.{Ids, StandCrates, StandPairs, spelling_at}
-use Rattle.std.proofs.Common.{◌≡◌, ℕ, ℤ, pos, Bool, List, ◌∷◌, true, false, not, Option, Some, None, refl, sym, ◌∙◌}
 use Rattle.std.specs.FinSet as finset
 
 module _ (ids : Ids) (publications : List Publication) (yanked : finset.FinSet mark_cmp) (db : Trees) (stands : StandCrates ids publications yanked db) (held : finset.FinSet owner_cmp) (rows : List Row) (pairs : StandPairs ids.crates held rows) (id account : ℕ) where

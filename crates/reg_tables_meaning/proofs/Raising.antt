@@ -1,17 +1,16 @@
 -- A transaction in which tables of schema 1 become tables of schema 2.
-use Rattle.std.proofs.Common.{◌≡◌, ◌≢◌, ℕ, List, [], ◌∷◌, map, true, false, Ok, Err, Result, OnOk, refl, sym, ap, subst, ◌∙◌, arith}
-use Rattle.reg_tables_meaning.proofs.Common.{AllByRecursion, Bool, Database, drop, Trees}
-use Rattle.sqlite.specs.State.{State, HasCleanDisk, KeepsCommit, Shows, Survives}
-use Rattle.sqlite.proofs.StateLemmas.{survives_then, survives_weaker}
+use Rattle.reg_tables_meaning.proofs.Words.{◌≡◌, ◌≢◌, ℕ, List, [], ◌∷◌, map, true, false, Ok, Err, Result, OnOk, refl, sym, ap, subst, ◌∙◌}
+use Rattle.reg_tables_meaning.proofs.Words.{arith, State, HasCleanDisk, Survives, survives_then, Table, Edition, Second, our_tables}
+use Rattle.reg_tables_meaning.proofs.Words.{schema_of, IsOurs, IsReady, begun_keeps, IsUpgrade}
+use Rattle.reg_tables_meaning.proofs.Common.{AllByRecursion, Database, drop, Trees}
+use Rattle.sqlite.specs.State.{KeepsCommit, Shows}
 use Rattle.reg_tables_schema.specs.States.{IsUndone}
-use Rattle.sqlite.specs.Table.{Table}
-use Rattle.reg_tables_schema.specs.declared.edition.Edition.{Edition}
-use Rattle.reg_tables_schema.specs.declared.edition.Edition.TheVariants.{First, Second}
-use Rattle.reg_tables_schema.specs.Schema.{old_tables, our_tables, schema_of}
-use Rattle.reg_tables_schema.specs.States.{Extends, GoesBack, IsOurs, IsReady}
-use Rattle.reg_tables_schema.proofs.MakeLemmas.{all_taken, begun_keeps, kept_keeps}
+use Rattle.reg_tables_schema.specs.declared.edition.Edition.TheVariants.{First}
+use Rattle.reg_tables_schema.specs.Schema.{old_tables}
+use Rattle.reg_tables_schema.specs.States.{Extends, GoesBack}
+use Rattle.reg_tables_schema.proofs.MakeLemmas.{all_taken, kept_keeps}
 use Rattle.reg_tables_sql.specs.Abouts.{BecomesSecond}
-use Rattle.reg_tables_meaning.specs.Upgrades.{BeginsSecond, IsUpgrade, IsUpgraded, AreUpgraded, Upgrades}
+use Rattle.reg_tables_meaning.specs.Upgrades.{BeginsSecond, IsUpgraded, Upgrades}
 
 kept_through : (tables : List Table) (a b c : Trees) → AllByRecursion (λ t. b t.tree ≡ a t.tree) tables → AllByRecursion (λ t. t.tree ≢ 0 → c t.tree ≡ b t.tree) tables
     → AllByRecursion (λ t. t.tree ≢ 0 → c t.tree ≡ a t.tree) tables
@@ -75,15 +74,3 @@ pub commit_undone : (e : Edition) (old mid new : State) → BeginsSecond e old m
 commit_undone e old mid new h k =
     let s = begun_shows e old mid h in
     record { was_open = λ _. s.was_open; undone = λ up. ((k.undone up).0 ∙ s.committed_is, (k.undone up).1 ∙ s.committed_is); autocommit = k.autocommit }
-
-begun_upgrade : (e : Edition) (old mid : State) → e ≡ First → BeginsSecond e old mid → IsUpgrade old.now mid.now
-begun_upgrade First old mid is h = h.made
-begun_upgrade Second old mid is h = absurd cc
-
-pub stops_between : (e : Edition) (failed : Bool) (old mid new : State) → e ≡ First → (HasCleanDisk mid → BeginsSecond e old mid) → Survives old mid (λ _. ⊥)
-    → Survives mid new (λ db. (failed ≡ false) × (db ≡ mid.now.trees)) → Survives old new (AreUpgraded old.now)
-stops_between e failed old mid new is begun one two =
-    survives_then old mid new _ _ (AreUpgraded old.now) (λ _ db none. absurd none) (λ clean db it. (mid.now, begun_upgrade e old mid is (begun (omega (arith, two.clean))), it.1)) one two
-
-pub stops_before : (old new : State) → Survives old new (λ _. ⊥) → Survives old new (AreUpgraded old.now)
-stops_before old new s = survives_weaker old new _ _ (λ _ db none. absurd none) s

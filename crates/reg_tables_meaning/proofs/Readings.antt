@@ -1,11 +1,7 @@
 -- What statements that only read leave, one after another, and what they told of the rows before them.
-use Rattle.std.proofs.Common.{◌≡◌, ◌∙◌, inl, Err, IsErr, Ok, Result, ap, arith, subst}
+use Rattle.reg_tables_meaning.proofs.Words.{◌≡◌, ◌∙◌, inl, Err, IsErr, Ok, Result, ap, arith, subst, unchanged_then, IsReady, IsReading}
+use Rattle.reg_tables_meaning.proofs.Words.{LeavesSame, refuses_after}
 use Rattle.reg_tables_meaning.proofs.Common.{Database, HasCleanDisk, IsUnchanged, State, Survives, survives_then, Trees}
-use Rattle.sqlite.proofs.Callers.{unchanged_then}
-use Rattle.reg_tables_schema.specs.States.{IsReady}
-use Rattle.reg_tables_schema.specs.Statements.{IsReading}
-use Rattle.reg_tables_schema.specs.Steps.{LeavesSame}
-use Rattle.reg_tables_schema.proofs.Writing.{refuses_after}
 use Rattle.reg_tables_meaning.proofs.Results.{on_err, on_ok}
 
 pub same_then : (a b c : State) → IsUnchanged a b → IsUnchanged b c → IsUnchanged a c

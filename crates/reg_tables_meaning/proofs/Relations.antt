@@ -1,15 +1,13 @@
 -- Owners and readers, as the rows stand for them.
+use Rattle.reg_tables_meaning.proofs.Words.{tree_of, told_of, entry_of_account, related, with_related, Ids, StandPairs, StandsBy}
+use Rattle.reg_tables_meaning.proofs.Words.{spelling_at}
 use Rattle.reg_tables_meaning.proofs.Common.{◌≡◌, [], KeepsOthers, List, map, owner_cmp, Registry, Trees, ℕ}
 use Rattle.std.specs.FinSet as finset
 use Rattle.reg_tables_sql.specs.declared.accounts.Account.{Account}
 use Rattle.reg_tables_sql.specs.declared.pairs.Relation.{Relation}
 use Rattle.reg_tables_sql.specs.declared.pairs.Relation.TheVariants.{Owners, Readers}
 use Rattle.reg_tables_sql.specs.Pairs.{AreAccountsOf}
-use Rattle.reg_tables_sql.specs.Relations.{tree_of}
-use Rattle.reg_tables_meaning.specs.Changes.{told_of}
-use Rattle.reg_tables_meaning.specs.Entries.{entry_of_account}
-use Rattle.reg_tables_meaning.specs.Relations.{accounts_related, related, with_related}
-use Rattle.reg_tables_meaning.specs.Stands.{Ids, StandPairs, StandsBy, spelling_at}
+use Rattle.reg_tables_meaning.specs.Relations.{accounts_related}
 use Rattle.reg_tables_meaning.proofs.PairEntries.{lists_accounts_of}
 use Rattle.reg_tables_meaning.proofs.Stays.{with_owners, with_readers}
 

@@ -1,13 +1,11 @@
 -- What DELETE leaves of rows whose rowids are numbers, each its own: the rows that do not pass its test.
+use Rattle.reg_tables_meaning.proofs.Words.{filter, list_any, AllByRecursion, IsEquivalence, or_parts, IsDistinct-cons, IsDistinct-head}
+use Rattle.reg_tables_meaning.proofs.Words.{IsDistinct-tail, is_at_one_of, IsNumbered, HaveOwnRowids}
 use Rattle.reg_tables_meaning.proofs.Common.{◌≡◌, [], ◌∷◌, ◌||◌, ◌∙◌, ap, Bool, cond, false, is_eq, List, not, refl, Row, rowid, same_filter, sym, true, value_cmp}
-use Rattle.std.specs.List.{filter, list_any, AllByRecursion, IsDistinct}
-use Rattle.std.specs.Cmp.{IsEquivalence}
-use Rattle.std.proofs.lemmas.Bool.{or_from, or_parts}
-use Rattle.std.proofs.lemmas.Map.Keys.{IsDistinct-cons, IsDistinct-head, IsDistinct-tail}
+use Rattle.std.specs.List.{IsDistinct}
+use Rattle.std.proofs.lemmas.Bool.{or_from}
 use Rattle.sqlite_trees.proofs.ListLemmas.{all-filter, all_weaker, filter_same}
-use Rattle.reg_tables_schema.specs.Changes.{is_at_one_of}
-use Rattle.reg_tables_meaning.specs.Numbers.{IsNumbered, AreNumbered}
-use Rattle.reg_tables_meaning.specs.Stands.{HaveOwnRowids}
+use Rattle.reg_tables_meaning.specs.Numbers.{AreNumbered}
 use Rattle.reg_model.proofs.Alike.{both_all}
 use Rattle.reg_tables_meaning.proofs.Rowids.{tied, values_tie}
 

@@ -1,14 +1,10 @@
 -- What a change of the rows is on the reserved names that they stand for.
+use Rattle.reg_tables_meaning.proofs.Words.{nat_list_cmp_total, any-filter_same, AddsColumns, Removes, insert_again, text_apart}
+use Rattle.reg_tables_meaning.proofs.Words.{reserved_columns, HaveOwnRowids, StandReserved, Ids, StandsBy, is_text}
 use Rattle.reg_tables_meaning.proofs.Common.{◌≡◌, ◌∷◌, ◌||◌, ◌&&◌, ◌∙◌, any_same, ap, Bool, bytes_eq, column, drop, filter, is_eq, is_eq-slice_cmp, IsPermutation, List, list_any, map, not, Registry, Row, same_filter, State, subst, sym, text_cmp, Trees, true, value_cmp, ℕ}
-use Rattle.std.specs.Cmp.Lexicographic.{nat_list_cmp_total, nat_list_eq_equiv}
+use Rattle.std.specs.Cmp.Lexicographic.{nat_list_eq_equiv}
 use Rattle.std.specs.FinSet as finset
-use Rattle.std.proofs.lemmas.Map.Views.{any-filter_same}
 use Rattle.sqlite.specs.declared.types.Value.TheVariants.{Text}
-use Rattle.reg_tables_schema.specs.Changes.{AddsColumns, Removes}
-use Rattle.reg_model.proofs.Keys.{insert_again, text_apart}
-use Rattle.reg_tables_sql.specs.Reserved.{reserved_columns}
-use Rattle.reg_tables_meaning.specs.Stands.{HaveOwnRowids, StandReserved, Ids, StandsBy}
-use Rattle.reg_tables_schema.specs.Tests.{is_text}
 use Rattle.reg_tables_meaning.proofs.AccountEntries.{same_text}
 use Rattle.reg_tables_meaning.proofs.Removed.{own_kept, removes_passing}
 use Rattle.reg_tables_meaning.proofs.Rowids.{first_column, own_put, any_columns, put_columns, keep_columns}

@@ -1,16 +1,12 @@
 -- Ids that rise: a next id is above each that is there.
-use Rattle.reg_tables_meaning.specs.Stands.{next_of}
-use Rattle.std.proofs.Common.{◌≡◌, ℕ, ◌<◌, ◌≤◌, pos, List, [], ◌∷◌, ◌++◌, map, Option, Some, None, Less, inl, inr, true, false, refl, sym, ap, subst, ◌∙◌, arith, max, ◌+◌}
+use Rattle.reg_tables_meaning.proofs.Words.{next_of, ◌≡◌, ℕ, ◌<◌, ◌≤◌, pos, List, [], ◌∷◌, ◌++◌, map, Option, Some, None, Less, inl, inr}
+use Rattle.reg_tables_meaning.proofs.Words.{true, false, refl, sym, ap, subst, ◌∙◌, arith, max, ◌+◌, IsPermutation, IsSorted, nat_cmp_is}
+use Rattle.reg_tables_meaning.proofs.Words.{nat_cmp, is_gt, is_eq, ascending_from_sorted, IsGreatest, row_of_id, IsNext, IsIn, each_in}
+use Rattle.reg_tables_meaning.proofs.Words.{in_map, in_permuted, in_each, map_in}
 use Rattle.reg_tables_meaning.proofs.Common.{AllByRecursion, column, eq-eqb, has_rowid, Int, IsPermutation-sym, IsPermutation-trans, Row, rowid, value_cmp}
-use Rattle.std.specs.List.Sorted.{IsPermutation, IsSorted, IsStrictlySortedBy}
-use Rattle.std.specs.Cmp.{nat_cmp_is}
-use Rattle.std.specs.Ordering.{nat_cmp, is_gt, is_eq}
-use Rattle.sqlite_exec.proofs.PartitionLemmas.{ascending_from_sorted}
+use Rattle.std.specs.List.Sorted.{IsStrictlySortedBy}
 use Rattle.reg_model.proofs.Lists.{each_push}
 use Rattle.reg_tables_meaning.specs.Additions.{IsNextOf}
-use Rattle.reg_tables_schema.specs.Greatest.{IsGreatest, row_of_id}
-use Rattle.reg_tables_meaning.specs.Ids.{IsNext}
-use Rattle.reg_model.proofs.Members.{IsIn, each_in, in_map, in_permuted, in_each, map_in}
 use Rattle.reg_tables_meaning.proofs.NextId.{falls, falls_total, no_more, none_shown, one_shown}
 use Rattle.reg_tables_meaning.proofs.Standing.{same_number}
 

@@ -1,15 +1,13 @@
 -- A crate has few versions where its summary tells of a short index file.
-use Rattle.std.proofs.Common.{◌≡◌, ◌<◌, ◌≤◌, ◌*◌, ℕ, true, false, length, nat_le, nat_lt, Option, Some, None, ap, subst, ◌∙◌, arith}
+use Rattle.reg_tables_meaning.proofs.Words.{◌≡◌, ◌<◌, ◌≤◌, ℕ, true, false, length, nat_le, nat_lt, Option, Some, None, ap, subst, ◌∙◌}
+use Rattle.reg_tables_meaning.proofs.Words.{arith, ltb-true, file, versions, Sound, Summary, told_of}
+use Rattle.std.proofs.Common.{◌*◌}
 use Rattle.reg_tables_meaning.proofs.Common.{option_map, Registry, Text, unwrap_or}
 use Rattle.std.proofs.Math.Nat.{lt_of_mul-lt-mul_right}
-use Rattle.std.proofs.lemmas.Bool.{false≢true, ltb-true}
+use Rattle.std.proofs.lemmas.Bool.{false≢true}
 use Rattle.reg_line.specs.Shortest.{shortest_line}
-use Rattle.reg_model.specs.Crates.{file, versions}
-use Rattle.reg_model.specs.Sound.{Sound}
 use Rattle.reg_model.proofs.Room.{files_have_room}
-use Rattle.reg_tables_sql.specs.declared.summaries.Summary.{Summary}
 use Rattle.reg_tables_meaning.proofs.CrateCounts.{not_le}
-use Rattle.reg_tables_meaning.specs.Changes.{told_of}
 
 fewer : (line n number file : ℕ) → n * line ≤ file → file < number * line → n < number
 fewer line n number file p q = lt_of_mul-lt-mul_right line (omega (arith, p, q))

@@ -1,24 +1,18 @@
 -- What a text that only reads leaves of our tables, in a transaction or in none.
-use Rattle.std.proofs.Common.{◌≡◌, ◌⊎◌, inl, inr, arith, ℕ, List, [], Ok, Err, Result, IfOk, OnOk, OnErr, IfErr, Option, sym, ap, subst, ◌∙◌}
+use Rattle.reg_tables_meaning.proofs.Words.{◌≡◌, inl, inr, arith, ℕ, List, [], Ok, Err, Result, IfOk, OnOk, OnErr, Option, sym, ap, subst}
+use Rattle.reg_tables_meaning.proofs.Words.{◌∙◌, State, HasCleanDisk, Survives, Fails, IsUnchanged, Error, Rows, Held, state, Bor, HasMoved}
+use Rattle.reg_tables_meaning.proofs.Words.{Ghosts, unchanged_then, survives_then, Edition, schema_of, IsOurs, Refuses, refuses_after}
+use Rattle.reg_tables_meaning.proofs.Words.{IsSpared}
+use Rattle.std.proofs.Common.{◌⊎◌, IfErr}
 use Rattle.sqlite.specs.Order.{Row}
 use Rattle.sqlite.specs.Listing.{understood}
-use Rattle.sqlite.specs.State.{State, HasCleanDisk, Survives, CommitsShowing, FailsToQuery, Fails, IsNotRun, IsUnchanged}
-use Rattle.sqlite.specs.declared.error.Error.{Error}
-use Rattle.sqlite.specs.declared.rows.stream.Rows.{Rows}
-use Rattle.sqlite.specs.Held.{Held, state}
-use Rattle.std.specs.Borrow.{Bor}
-use Rattle.sqlite.specs.Next.{HasMoved}
+use Rattle.sqlite.specs.State.{CommitsShowing, FailsToQuery, IsNotRun}
 use Rattle.sqlite.specs.Given.{HasBegun, HasGiven, IsRefused}
-use Rattle.sqlite_trees.specs.declared.store.Store.{Ghosts}
-use Rattle.sqlite.proofs.Callers.{IsPlain, begun_plain, never_commits, unchanged_then}
-use Rattle.sqlite.proofs.StateLemmas.{survives_then, survives_weaker}
-use Rattle.reg_tables_schema.specs.declared.edition.Edition.{Edition}
-use Rattle.reg_tables_schema.specs.Schema.{schema_of}
-use Rattle.reg_tables_schema.specs.States.{IsOurs, Refuses}
+use Rattle.sqlite.proofs.Callers.{IsPlain, begun_plain, never_commits}
+use Rattle.sqlite.proofs.StateLemmas.{survives_weaker}
 use Rattle.reg_tables_schema.proofs.OursLemmas.{ours_refused}
 use Rattle.reg_tables_schema.proofs.ReadLemmas.{query_refused}
-use Rattle.reg_tables_schema.proofs.Writing.{refuses_after}
-use Rattle.reg_tables_meaning.specs.Walks.{IsSpared, MayStream}
+use Rattle.reg_tables_meaning.specs.Walks.{MayStream}
 
 abbrev Silent : State → State → Type 0
 Silent old new = Survives old new (λ _. ⊥)

@@ -1,14 +1,10 @@
 -- Rows whose rowid is SQL's own: what is said of them is said of their columns, behind the rowid.
-use Rattle.std.proofs.Common.{◌≡◌, ℤ, List, [], ◌∷◌, map, Bool, false, refl, sym, ap, subst, ◌∙◌}
+use Rattle.reg_tables_meaning.proofs.Words.{◌≡◌, ℤ, List, [], ◌∷◌, map, Bool, false, refl, sym, ap, subst, ◌∙◌, IsEquivalence, or_parts}
+use Rattle.reg_tables_meaning.proofs.Words.{IsDistinct-IsPermutation, IsDistinct-cons, IsPermutation-filter, value_cmp_total, IsNumbered}
+use Rattle.reg_tables_meaning.proofs.Words.{HaveOwnRowids}
 use Rattle.reg_tables_meaning.proofs.Common.{AllByRecursion, any_same, column, drop, filter, filter_map, Int, is_eq, is_taken, IsPermutation, IsPermutation-cons, IsPermutation-map, IsPermutation-trans, list_any, list_any-IsPermutation, list_any_map, put_permutes, put_row, Row, rowid, same_filter, value_cmp}
-use Rattle.std.specs.Cmp.{IsEquivalence}
-use Rattle.std.proofs.lemmas.Bool.{or_parts}
 use Rattle.std.proofs.lemmas.Cmp.{eq_by_cmp_equiv}
-use Rattle.std.proofs.lemmas.Map.Keys.{IsDistinct-IsPermutation, IsDistinct-cons}
-use Rattle.sqlite_trees.proofs.ListLemmas.{IsPermutation-filter, all-permutation}
-use Rattle.sqlite_value.proofs.OrderLemmas.{value_cmp_total}
-use Rattle.reg_tables_meaning.specs.Numbers.{IsNumbered}
-use Rattle.reg_tables_meaning.specs.Stands.{HaveOwnRowids}
+use Rattle.sqlite_trees.proofs.ListLemmas.{all-permutation}
 
 pub first_column : (r : Row) → column r 1 ≡ column (drop 1 r) 0
 first_column [] = refl

@@ -1,17 +1,13 @@
 -- The scopes of tokens, by token and place.
-use Rattle.std.proofs.Common.{◌≡◌, ◌==◌, ℕ, ◌+◌, ◌<◌, pos, Bool, true, false, cond, Some, List, [], ◌∷◌, ◌++◌, map, Less, refl, sym, subst, ap, ap₂, ◌∙◌, arith}
+use Rattle.reg_tables_meaning.proofs.Words.{◌≡◌, ◌==◌, ℕ, ◌+◌, ◌<◌, pos, Bool, true, false, cond, Some, List, [], ◌∷◌, ◌++◌, map, Less}
+use Rattle.reg_tables_meaning.proofs.Words.{refl, sym, subst, ap, ap₂, ◌∙◌, arith, filter-append, is_eq, ordering_then, IsTotalOrder}
+use Rattle.reg_tables_meaning.proofs.Words.{tied_itself, value_cmp_total, Text, Token, with_id, IsInOrder, by_column, by_columns, scope_of}
+use Rattle.reg_tables_meaning.proofs.Words.{scopes_of, StandTokens}
 use Rattle.reg_tables_meaning.proofs.Common.{AllByRecursion, append-nil, drop, enumerate_from, filter, filter_map, flat_map, Int, is_number, IsAscending, IsPermutation, IsPermutation-filter, Row, same_filter, shows, Trees, value_cmp}
-use Rattle.std.proofs.lemmas.List.Elements.{filter-append}
 use Rattle.reg_tables_meaning.proofs.Numbered.{one_at}
 use Rattle.reg_tables_meaning.proofs.Standing.{same_number}
-use Rattle.std.specs.Ordering.{is_eq, ordering_then}
-use Rattle.std.specs.Cmp.{IsTotalOrder}
-use Rattle.std.proofs.lemmas.Cmp.{then_total, tied_itself}
+use Rattle.std.proofs.lemmas.Cmp.{then_total}
 use Rattle.sqlite_keyed.proofs.ListLemmas.{all-append}
-use Rattle.sqlite_value.proofs.OrderLemmas.{value_cmp_total}
-use Rattle.reg_model.specs.Registry.{Text, Token, with_id}
-use Rattle.reg_tables_schema.specs.Rows.{IsInOrder, by_column, by_columns}
-use Rattle.reg_tables_meaning.specs.Stands.{scope_of, scopes_of, StandTokens}
 use Rattle.reg_tables_meaning.proofs.Dropped.{dropped_in_order, by_first_and_second, by_second}
 use Rattle.reg_tables_meaning.proofs.Selected.{column_total, number_below}
 use Rattle.reg_tables_meaning.proofs.Rowids.{first_column}

@@ -1,14 +1,10 @@
 -- What a selection shows of the rows, told of the entries that the rows stand for.
+use Rattle.reg_tables_meaning.proofs.Words.{IsPermutation-map, IsPermutation-sym, IsPermutation-trans, length_permutation, IsTotalOrder}
+use Rattle.reg_tables_meaning.proofs.Words.{int_cmp_is, on_total, value_cmp_total, value_cmp-Int, sorted_unique, one_of}
 use Rattle.reg_tables_meaning.proofs.Common.{◌≡◌, ◌+◌, ◌<◌, ◌≤◌, [], ◌∷◌, ◌∙◌, AllByRecursion, ap, arith, Bool, by_column, column, enumerate_from, filter, filter_map, Int, IsAscending, IsInOrder, IsPermutation, IsPermutation-filter, length, Less, List, map, maps_twice, None, Option, option_map, pos, refl, Row, rowid, same_filter, shown_of, Some, subst, sym, value_cmp, ℕ}
-use Rattle.std.proofs.lemmas.List.Sorted.{IsPermutation-map, IsPermutation-sym, IsPermutation-trans, length_permutation}
 use Rattle.std.specs.declared.cmp.Ordering.{Ordering}
-use Rattle.std.specs.Cmp.{IsTotalOrder, int_cmp_is}
 use Rattle.std.proofs.lemmas.Bool.{lt-ltb}
-use Rattle.std.proofs.lemmas.Cmp.{on_total}
-use Rattle.sqlite_value.proofs.OrderLemmas.{value_cmp_total, value_cmp-Int}
-use Rattle.sqlite_keyed.proofs.SortLemmas.{sorted_unique}
 use Rattle.sqlite.proofs.Callers.{one_permutation}
-use Rattle.reg_tables_meaning.specs.Entries.{one_of}
 
 -- a list in another order is the same list where it has one element or none
 pub short_same : {X : Type 0} (xs ys : List X) → IsPermutation xs ys → length ys ≤ 1 → xs ≡ ys

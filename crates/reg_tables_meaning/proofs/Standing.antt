@@ -1,19 +1,17 @@
 -- What a change of the rows is on the registry that they stand for: accounts and tokens.
+use Rattle.reg_tables_meaning.proofs.Words.{KeepsWhereNone, ◌≡◌, ◌==◌, ℕ, ◌+◌, pos, List, [], ◌∷◌, ◌++◌, map, length, Bool, true, false}
+use Rattle.reg_tables_meaning.proofs.Words.{not, Some, Ordering, Less, Equal, Greater, refl, sym, ap, subst, ◌∙◌, None, Option, suc, arith}
+use Rattle.reg_tables_meaning.proofs.Words.{is_eq, tied_itself, eqb-true, eqb-false, IsPermutation-cons, IsPermutation-trans}
+use Rattle.reg_tables_meaning.proofs.Words.{IsPermutation-map, IsPermutation-sym, length_permutation, value_cmp-Int, Adds, Replaces}
+use Rattle.reg_tables_meaning.proofs.Words.{Account, with_id, change_at, row_of_account, StandAccounts, put_permutes, put_replaces, one_row}
+use Rattle.reg_tables_meaning.proofs.Words.{filter_map}
 use Rattle.reg_tables_sql.specs.Accounts.{account_row}
-use Rattle.reg_tables_sql.specs.Updates.{KeepsWhereNone}
 use Rattle.reg_tables_meaning.proofs.Common.{append-nil, enumerate_from, filter, has_rowid, Int, IsPermutation, IsPermutation-filter, Row, same_filter, State, value_cmp}
-use Rattle.std.proofs.Common.{◌≡◌, ◌==◌, ℕ, ◌+◌, pos, List, [], ◌∷◌, ◌++◌, map, length, Bool, true, false, not, Some, Ordering, Less, Equal, Greater, refl, sym, ap, subst, ◌∙◌, None, Option, suc, arith}
-use Rattle.std.specs.Ordering.{is_eq, int_cmp}
+use Rattle.std.specs.Ordering.{int_cmp}
 use Rattle.std.specs.FinMap.{int_cmp-IsAntisymmetric}
-use Rattle.std.proofs.lemmas.Cmp.{int_cmp_total, tied_itself}
-use Rattle.std.proofs.lemmas.Bool.{eqb-true, eqb-false}
-use Rattle.std.proofs.lemmas.List.Sorted.{IsPermutation-cons, IsPermutation-trans, IsPermutation-middle, IsPermutation-map, IsPermutation-sym, length_permutation}
-use Rattle.sqlite_value.proofs.OrderLemmas.{value_cmp-Int}
-use Rattle.reg_tables_schema.specs.Changes.{Adds, Replaces}
-use Rattle.reg_model.specs.Registry.{Account, with_id, change_at}
-use Rattle.reg_tables_meaning.specs.Stands.{row_of_account, StandAccounts}
+use Rattle.std.proofs.lemmas.Cmp.{int_cmp_total}
+use Rattle.std.proofs.lemmas.List.Sorted.{IsPermutation-middle}
 use Rattle.reg_tables_meaning.proofs.Numbered.{enumerate_snoc, one_at, changed_at, change_none, none_at}
-use Rattle.reg_tables_schema.proofs.Permutes.{put_permutes, put_replaces, one_row, filter_map}
 
 not_tied : (o : Ordering) → (o ≡ Equal → ⊥) → is_eq o ≡ false
 not_tied Less h = refl

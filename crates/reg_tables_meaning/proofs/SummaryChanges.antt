@@ -1,14 +1,15 @@
 -- What a change of the versions of one crate is on the summaries of all.
-use Rattle.std.proofs.Common.{◌≡◌, ◌==◌, ◌+◌, ◌≤◌, ℕ, pos, List, [], ◌∷◌, ◌++◌, map, Bool, true, false, not, refl, sym, ap, subst, ◌∙◌, arith, zero-add}
+use Rattle.reg_tables_meaning.proofs.Words.{◌≡◌, ◌==◌, ◌+◌, ◌≤◌, ℕ, pos, List, [], ◌∷◌, ◌++◌, map, Bool, true, false, not, refl, sym, ap}
+use Rattle.reg_tables_meaning.proofs.Words.{subst, ◌∙◌, arith, zero-add, nat_eq_equiv, IsPermutation, filter-append, IsPermutation-cons}
+use Rattle.reg_tables_meaning.proofs.Words.{IsPermutation-filter_both, IsPermutation-map, IsPermutation-trans, has_rowid, put_row}
+use Rattle.reg_tables_meaning.proofs.Words.{without_rowid, IsIn, filtered_passes, in_filter, in_last, in_map, map_same, none_pass}
+use Rattle.reg_tables_meaning.proofs.Words.{one_passes, filter_map, free_without, one_row, put_permutes, ids_with_crate, ids_with_version}
+use Rattle.reg_tables_meaning.proofs.Words.{next_crate, next_version, StandCrates, StandSummaries, higher_of, its_versions, length_among}
+use Rattle.reg_tables_meaning.proofs.Words.{line_length, mark_shown, row_among, AddsSummary, HasSummary, PushesSummary, summary_row}
 use Rattle.reg_tables_meaning.proofs.Common.{append-nil, canon, collides, drop, eq-eqb, eqb-true, filter, Int, IsPermutation-filter, mark_cmp, nat_cmp, nat_eq, not_true, on, Publication, Row, same_filter, Text, Trees, true_not_false}
 use Rattle.std.specs.FinSet as finset
-use Rattle.std.specs.Cmp.{nat_eq_equiv}
-use Rattle.std.specs.List.Sorted.{IsPermutation, IsStrictlySortedBy}
-use Rattle.std.proofs.lemmas.List.Elements.{filter-append}
-use Rattle.std.proofs.lemmas.List.Sorted.{IsPermutation-cons, IsPermutation-filter_both, IsPermutation-map, IsPermutation-trans}
-use Rattle.sqlite_trees.specs.Tree.{has_rowid, put_row, without_rowid}
-use Rattle.reg_model.proofs.Members.{IsIn, filtered_passes, in_filter, in_last, in_map, in_more, map_same, none_pass, one_passes}
-use Rattle.reg_tables_schema.proofs.Permutes.{filter_map, free_without, one_row, put_permutes}
+use Rattle.std.specs.List.Sorted.{IsStrictlySortedBy}
+use Rattle.reg_model.proofs.Members.{in_more}
 use Rattle.reg_tables_meaning.proofs.CrateLemmas.{above_other, apart_by, bytes_same, crate_of, pushed, same_crate, version_of}
 use Rattle.reg_tables_meaning.proofs.CrateNames.{kept}
 use Rattle.reg_tables_meaning.proofs.Rising.{reaches}
@@ -16,12 +17,8 @@ use Rattle.reg_tables_meaning.proofs.Standing.{same_number}
 use Rattle.reg_tables_meaning.proofs.SummaryPushed.{IsTopOf, id_found, in_at, length_pushed, only_top, some_top, top_pushed_by}
 use Rattle.reg_tables_meaning.proofs.SummaryRows.{same_row, version_at}
 use Rattle.reg_tables_meaning.proofs.Yanks.{mark_of_other, marks}
-use Rattle.reg_tables_meaning.specs.Changes.{ids_with_crate, ids_with_version, next_crate, next_version}
-use Rattle.reg_tables_meaning.specs.Stands.{StandCrates}
 use Rattle.reg_tables_meaning.specs.Stored.{Ids, StoredCrate, StoredVersion}
-use Rattle.reg_tables_meaning.specs.Summaries.{StandSummaries, higher_of, its_versions, length_among, line_length, mark_shown, row_among, row_of_summary}
-use Rattle.reg_tables_meaning.specs.SummaryChanges.{AddsSummary, HasSummary, PushesSummary}
-use Rattle.reg_tables_sql.specs.Summaries.{summary_row}
+use Rattle.reg_tables_meaning.specs.Summaries.{row_of_summary}
 
 flipped : (a b : ℕ) → (a == b) ≡ false → (b == a) ≡ false
 flipped a b h = nat_eq_equiv.symm b a ∙ h

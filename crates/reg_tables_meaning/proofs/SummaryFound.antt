@@ -1,18 +1,13 @@
 -- The summary of a crate, as a selection shows it.
+use Rattle.reg_tables_meaning.proofs.Words.{file, IsSummaryOf, columns_of_summary, summary_places, summary_row, Summary, told_of, one_of}
+use Rattle.reg_tables_meaning.proofs.Words.{StandCrates, spelling_at, StandSummaries, highest_of, length_of}
 use Rattle.reg_tables_meaning.proofs.Common.{◌≡◌, ◌==◌, [], ◌∷◌, ◌∙◌, ap, eq-eqb, eqb-true, filter, filter_map, in_any, is_number, IsPermutation, length, List, map, maps_twice, nat_eq, None, none_pass, not_true, on, one_passes, Option, option_map, refl, Registry, Row, shows, Some, subst, sym, Text, Trees, true, true_not_false, ℕ}
-use Rattle.reg_model.specs.Crates.{file}
-use Rattle.reg_tables_sql.specs.Summaries.{IsSummaryOf, columns_of_summary, summary_places, summary_row}
-use Rattle.reg_tables_sql.specs.declared.summaries.Summary.{Summary}
 use Rattle.reg_tables_meaning.proofs.AccountEntries.{heads, number_is, tails}
 use Rattle.reg_tables_meaning.proofs.CrateLemmas.{apart_by, not_at, there_at}
 use Rattle.reg_tables_meaning.proofs.Selected.{selected_one}
 use Rattle.reg_tables_meaning.proofs.Standing.{same_number}
 use Rattle.reg_tables_meaning.proofs.SummaryLaws.{length_named}
-use Rattle.reg_tables_meaning.specs.Changes.{told_of}
-use Rattle.reg_tables_meaning.specs.Entries.{one_of}
-use Rattle.reg_tables_meaning.specs.Stands.{StandCrates, spelling_at}
 use Rattle.reg_tables_meaning.specs.Stored.{Ids, StoredCrate}
-use Rattle.reg_tables_meaning.specs.Summaries.{StandSummaries, highest_of, length_of}
 
 -- a crate's id, the id of its highest version, and the length of its index file
 abbrev Kept : Type 0

@@ -1,17 +1,15 @@
 -- The highest version of a crate and the length of its index file, by its id and by its name.
+use Rattle.reg_tables_meaning.proofs.Words.{file_text, file, versions, StandCrates, spelling_at, is_marked, its_versions, length_of}
+use Rattle.reg_tables_meaning.proofs.Words.{marked_of, top_place, parts_of}
 use Rattle.reg_tables_meaning.proofs.Common.{◌≡◌, ◌==◌, ◌∙◌, ap, Bool, canon, filter, filter_map, filtered_passes, in_filter, IsIn, length, List, map, map_same, maps_twice, None, Option, option_and_then, option_map, Publication, refl, Registry, slice_get, Some, sym, Text, Trees, ℕ}
 use Rattle.std.specs.FinSet as finset
-use Rattle.reg_line.specs.File.{file_text}
-use Rattle.reg_model.specs.Crates.{collides, file, is_yanked, versions}
+use Rattle.reg_model.specs.Crates.{collides, is_yanked}
 use Rattle.reg_model.specs.Search.{marked, top}
 use Rattle.reg_tables_meaning.proofs.CrateLemmas.{same_bytes, same_crate, there_at}
 use Rattle.reg_tables_meaning.proofs.SummaryRows.{got_map}
 use Rattle.reg_tables_meaning.proofs.VersionEntries.{same_passes}
-use Rattle.reg_tables_meaning.specs.Stands.{StandCrates, spelling_at}
 use Rattle.reg_tables_meaning.specs.Stored.{Ids, StoredVersion}
-use Rattle.reg_tables_meaning.specs.Summaries.{is_marked, its_versions, length_of, marked_of, top_of}
-use Rattle.reg_versions.specs.Precedence.{top_place}
-use Rattle.reg_versions.specs.Versions.{parts_of}
+use Rattle.reg_tables_meaning.specs.Summaries.{top_of}
 
 -- the image of what stands at a place
 got : {X Y : Type 0} (f : X → Y) (xs : List X) (o : Option ℕ) → option_map f (option_and_then (slice_get xs) o) ≡ option_and_then (slice_get (map f xs)) o

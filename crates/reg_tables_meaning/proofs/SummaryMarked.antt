@@ -1,23 +1,19 @@
 -- The highest of a crate's versions, and the length of its index file, once a mark is changed.
-use Rattle.std.proofs.Common.{◌≡◌, ◌==◌, ◌<◌, ◌≤◌, ◌+◌, ℕ, zero, suc, List, [], ◌∷◌, ◌++◌, length, Bool, true, false, not, cond, ◌||◌, nat_lt, Option, Some, None, inl, inr, refl, sym, ap, subst, ◌∙◌, arith}
+use Rattle.reg_tables_meaning.proofs.Words.{◌≡◌, ◌==◌, ◌<◌, ◌≤◌, ◌+◌, ℕ, zero, suc, List, [], ◌∷◌, ◌++◌, length, Bool, true, false, not}
+use Rattle.reg_tables_meaning.proofs.Words.{cond, ◌||◌, nat_lt, Option, Some, None, inl, inr, refl, sym, ap, subst, ◌∙◌, arith, eq-eqb}
+use Rattle.reg_tables_meaning.proofs.Words.{eqb-false, eqb-true, ltb-false, ltb-true, length-append, ascending-filter, end_of, StandCrates}
+use Rattle.reg_tables_meaning.proofs.Words.{ShownMark, higher_of, highest_of, id_among, is_marked, its_versions, length_among, length_of}
+use Rattle.reg_tables_meaning.proofs.Words.{line_length, mark_shown, marked_of, IsHigherMarked, IsMarkChange, IsTop, place_after}
+use Rattle.reg_tables_meaning.proofs.Words.{takes_over, parts_of}
 use Rattle.reg_tables_meaning.proofs.Common.{each_in, in_filter, IsAscending, IsIn, mark_cmp, option_map, Publication, slice_get, Trees, true_not_false}
 use Rattle.std.specs.FinSet as finset
-use Rattle.std.proofs.lemmas.Bool.{eq-eqb, eqb-false, eqb-true, ltb-false, ltb-true}
-use Rattle.std.proofs.lemmas.List.{length-append}
-use Rattle.sqlite_trees.proofs.ListLemmas.{ascending-filter}
-use Rattle.reg_line.specs.File.{end_of}
 use Rattle.reg_tables_meaning.proofs.SummaryPushed.{IsTopOf, all, id_found, in_at, shown_at, some_top}
 use Rattle.reg_tables_meaning.proofs.SummaryRows.{got_map, version_at}
 use Rattle.reg_tables_meaning.proofs.VersionEntries.{ids_rise}
 use Rattle.reg_tables_meaning.proofs.Numbered.{same_some}
-use Rattle.reg_tables_meaning.specs.Stands.{StandCrates}
 use Rattle.reg_tables_meaning.specs.Stored.{Ids, StoredVersion}
-use Rattle.reg_tables_meaning.specs.Summaries.{ShownMark, higher_by_id, higher_marked, higher_of, highest_of, id_among, is_marked, its_versions, length_among, length_of, line_length, mark_shown, marked_of}
-use Rattle.reg_tables_meaning.specs.SummaryChanges.{IsHigherMarked, IsMarkChange}
-use Rattle.reg_versions.specs.Precedence.{IsTop}
-use Rattle.reg_versions.specs.Pushed.{place_after, takes_over}
+use Rattle.reg_tables_meaning.specs.Summaries.{higher_by_id, higher_marked}
 use Rattle.reg_versions.specs.Remarked.{IsRemarked}
-use Rattle.reg_versions.specs.Versions.{parts_of}
 use Rattle.reg_versions.proofs.Remarked.{top_again, top_earlier, top_later, top_yanked}
 
 -- what is in a list stands at a place of it

@@ -1,17 +1,16 @@
 -- The highest of a crate's versions, and the length of its index file, once there is one more.
+use Rattle.reg_tables_meaning.proofs.Words.{append-nil, length-append, length-map, map-append, end_of, file_text, higher_of, id_among}
+use Rattle.reg_tables_meaning.proofs.Words.{is_marked, length_among, line_length, mark_shown, marked_of, IsTop, Marked, place_after}
+use Rattle.reg_tables_meaning.proofs.Words.{takes_over, top_is_top}
 use Rattle.reg_tables_meaning.proofs.Common.{◌≡◌, ◌<◌, ◌+◌, [], ◌∷◌, ◌++◌, ◌∙◌, ap, arith, Bool, cond, false, inl, inr, IsIn, length, List, map, mark_cmp, option_and_then, option_map, refl, slice_get, Some, subst, suc, sym, true, unwrap_or, zero, ℕ}
 use Rattle.std.specs.FinSet as finset
-use Rattle.std.proofs.lemmas.List.{append-nil, length-append, length-map, map-append}
 use Rattle.std.proofs.lemmas.List.Concat.{flat_map-append}
 use Rattle.std.proofs.lemmas.Option.{slice_get_within}
-use Rattle.reg_line.specs.File.{end_of, file_text, line_of}
+use Rattle.reg_line.specs.File.{line_of}
 use Rattle.reg_tables_meaning.proofs.SummaryRows.{got_map}
 use Rattle.reg_tables_meaning.specs.Stored.{StoredVersion}
-use Rattle.reg_tables_meaning.specs.Summaries.{higher_of, id_among, is_marked, length_among, line_length, mark_shown, marked_of, top_among}
-use Rattle.reg_versions.specs.Precedence.{IsTop, Marked}
-use Rattle.reg_versions.specs.Pushed.{place_after, takes_over}
+use Rattle.reg_tables_meaning.specs.Summaries.{top_among}
 use Rattle.reg_versions.proofs.Pushed.{top_alone, top_pushed, top_there}
-use Rattle.reg_versions.proofs.TopPlace.{top_is_top}
 
 pub pushed_left : {X : Type 0} (l : List X) (x : X) (j : ℕ) → j < length l → slice_get (l ++ x ∷ []) j ≡ slice_get l j
 pushed_left [] x j h = absurd (omega (arith, h))

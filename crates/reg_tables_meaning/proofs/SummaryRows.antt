@@ -1,25 +1,21 @@
 -- What the rows of versions say of the highest of a crate and of its index file.
+use Rattle.reg_tables_meaning.proofs.Words.{length-append, ascending-filter, IsPermutation-filter, end_of, file_text, columns_of_mark}
+use Rattle.reg_tables_meaning.proofs.Words.{shows_mark, IsSummaryOf, columns_of_summary, summary_places, summary_row, Summary, VersionMark}
+use Rattle.reg_tables_meaning.proofs.Words.{StandCrates, row_of_version, HasVersion, IsVersionAt, ShownMark, highest_in, highest_of}
+use Rattle.reg_tables_meaning.proofs.Words.{id_among, is_marked, its_versions, length_among, length_in, length_of, line_length, mark_shown}
+use Rattle.reg_tables_meaning.proofs.Words.{marked_of, read_mark, row_among, shown_mark, top_place, parts_of}
 use Rattle.reg_tables_meaning.proofs.Common.{◌≡◌, ◌==◌, ◌+◌, ◌<◌, [], ◌∷◌, ◌++◌, ◌∙◌, ap, Bool, by_column, eq-eqb, eqb-true, filter, filter_map, is_number, IsIn, IsPermutation, length, List, map, map_same, maps_twice, mark_cmp, nat_eq, None, on, one_passes, one_row, Option, option_and_then, option_map, Publication, refl, same_filter, shown_of, shows, slice_get, Some, subst, suc, sym, Trees, true, unwrap_or, zero, ℕ}
 use Rattle.std.specs.FinSet as finset
-use Rattle.std.proofs.lemmas.List.{length-append}
 use Rattle.std.proofs.lemmas.List.Sums.{sum_by-cons}
-use Rattle.sqlite_trees.proofs.ListLemmas.{ascending-filter, IsPermutation-filter}
-use Rattle.reg_line.specs.File.{end_of, file_text}
-use Rattle.reg_tables_sql.specs.VersionMarks.{AreMarksOf, IsMarkWithId, columns_of_mark, shows_mark}
-use Rattle.reg_tables_sql.specs.Summaries.{IsSummaryOf, columns_of_summary, summary_places, summary_row}
-use Rattle.reg_tables_sql.specs.declared.summaries.Summary.{Summary}
-use Rattle.reg_tables_sql.specs.declared.versions.VersionMark.{VersionMark}
+use Rattle.reg_tables_sql.specs.VersionMarks.{AreMarksOf, IsMarkWithId}
 use Rattle.reg_tables_meaning.proofs.AccountEntries.{heads, mark_is, number_is, tails, words_are}
 use Rattle.reg_tables_meaning.proofs.CrateLemmas.{apart_by}
 use Rattle.reg_tables_meaning.proofs.Selected.{column_total, each_part, shown_in_turn, same_one}
 use Rattle.reg_tables_meaning.proofs.Standing.{same_number}
 use Rattle.reg_tables_meaning.proofs.VersionEntries.{ids_rise, rows_rise}
-use Rattle.reg_tables_meaning.specs.Stands.{StandCrates, row_of_version}
 use Rattle.reg_tables_meaning.specs.Stored.{Ids, StoredVersion}
-use Rattle.reg_tables_meaning.specs.SummaryChanges.{HasVersion, IsKept, IsVersionAt}
-use Rattle.reg_tables_meaning.specs.Summaries.{ShownMark, columns_of_shown, highest_in, highest_of, id_among, is_marked, its_versions, length_among, length_in, length_of, line_length, mark_shown, marked_of, read_mark, row_among, shown_mark}
-use Rattle.reg_versions.specs.Precedence.{top_place}
-use Rattle.reg_versions.specs.Versions.{parts_of}
+use Rattle.reg_tables_meaning.specs.SummaryChanges.{IsKept}
+use Rattle.reg_tables_meaning.specs.Summaries.{columns_of_shown}
 
 pub got_map : {X Y : Type 0} (f : X → Y) (k : ℕ) (xs : List X) → slice_get (map f xs) k ≡ option_map f (slice_get xs k)
 got_map f k [] = refl

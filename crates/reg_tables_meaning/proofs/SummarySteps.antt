@@ -1,12 +1,11 @@
 -- What a statement on summaries is, told by the versions that the rows are of.
-use Rattle.std.proofs.Common.{◌≡◌, ◌+◌, ℕ, pos, ◌∷◌, sym, ap, subst, ◌∙◌, zero-add}
+use Rattle.reg_tables_meaning.proofs.Words.{◌≡◌, ◌+◌, ℕ, pos, ◌∷◌, sym, ap, subst, ◌∙◌, zero-add, put_row, without_rowid, summary_row}
+use Rattle.reg_tables_meaning.proofs.Words.{VersionMark, AddsSummary, HasSummary, IsVersionAt, PushesSummary, RemarksSummary, highest_of}
+use Rattle.reg_tables_meaning.proofs.Words.{length_of, line_length, shown_mark}
 use Rattle.reg_tables_meaning.proofs.Common.{Adds, Database, IsPermutation, KeepsOthers, Row, State, Trees}
-use Rattle.sqlite_trees.specs.Tree.{put_row, without_rowid}
-use Rattle.reg_tables_sql.specs.Summaries.{Summarizes, summary_row}
-use Rattle.reg_tables_sql.specs.declared.versions.VersionMark.{VersionMark}
+use Rattle.reg_tables_sql.specs.Summaries.{Summarizes}
 use Rattle.reg_tables_meaning.proofs.Additions.{more_rows}
-use Rattle.reg_tables_meaning.specs.SummaryChanges.{AddsSummary, ArePushed, AreRemarked, HasSummary, IsVersionAt, PushesSummary, RemarksSummary}
-use Rattle.reg_tables_meaning.specs.Summaries.{highest_of, length_of, line_length, shown_mark}
+use Rattle.reg_tables_meaning.specs.SummaryChanges.{ArePushed, AreRemarked}
 
 module _ (old read new : State) (same : read.now ≡ old.now) where
   since : (P : Trees → Type 0) → P read.now.trees → P old.now.trees

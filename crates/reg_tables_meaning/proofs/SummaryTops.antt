@@ -1,10 +1,7 @@
 -- The highest of the marks that were read.
+use Rattle.reg_tables_meaning.proofs.Words.{VersionMark, highest_in, read_mark, shown_mark, IsTop, Marked, top_place, top_is_top}
 use Rattle.reg_tables_meaning.proofs.Common.{◌≡◌, [], ◌∙◌, ap, List, map, maps_twice, option_and_then, option_map, slice_get, subst, sym, unwrap_or, ℕ}
-use Rattle.reg_tables_sql.specs.declared.versions.VersionMark.{VersionMark}
-use Rattle.reg_tables_meaning.specs.Summaries.{highest_in, read_mark, shown_mark}
 use Rattle.reg_tables_meaning.proofs.SummaryRows.{got_map, mapped}
-use Rattle.reg_versions.specs.Precedence.{IsTop, Marked, top_place}
-use Rattle.reg_versions.proofs.TopPlace.{top_is_top}
 
 module _ (marks : List VersionMark) (releases : List Marked) (are : releases ≡ map (λ m. read_mark (shown_mark m)) marks) where
   as_read : releases ≡ map read_mark (map shown_mark marks)

@@ -8,7 +8,7 @@ use Rattle.std.proofs.lemmas.List.{append-nil, append_assoc, map-append, length-
 use Rattle.reg_tables_schema.specs.Changes.{Adds, AddsColumns, Replaces, Touches}
 use Rattle.reg_model.specs.Registry.{Text, Token, with_id, change_at, change_place}
 use Rattle.reg_tables_meaning.specs.Patterns.{GivesPatterns, with_last}
-use Rattle.reg_tables_meaning.specs.Stands.{row_of_token, scope_of, scopes_of, StandTokens, StandsBy}
+use Rattle.reg_tables_meaning.specs.Stands.{row_of_token, scope_of, scopes_of, StandTokens}
 use Rattle.reg_tables_meaning.proofs.Numbered.{enumerate_snoc, one_at, changed_at, change_none, none_at, more}
 use Rattle.reg_tables_schema.proofs.Permutes.{put_permutes, put_replaces, one_row}
 use Rattle.reg_tables_meaning.proofs.Standing.{same_number, snoc_permutes, none_row}
@@ -47,9 +47,6 @@ module _ (tokens : List Token) (t : Token) (old new : State) (stands : StandToke
         scopes = subst (λ rs. IsPermutation rs (map (drop 1) (new.now.trees 5))) (sym (scopes_stay f same id tokens))
             (subst (λ (rs : List Row). IsPermutation (flat_map scopes_of entries) (map (drop 1) rs)) (sym here) stands.scopes);
       }
-
-append_none : {X : Type 0} (xs ys : List X) → ys ≡ [] → xs ++ ys ≡ xs
-append_none xs ys none = ap (λ zs. xs ++ zs) none ∙ append-nil xs
 
 -- a token without patterns has no scopes
 no_scopes : (n : ℕ) (ts : List Token) (t : Token) → t.patterns ≡ [] → flat_map scopes_of (enumerate_from n (ts ++ t ∷ [])) ≡ flat_map scopes_of (enumerate_from n ts)
@@ -111,9 +108,6 @@ module _ (t : Token) (ps : List Text) (p : Text) where
             (IsPermutation-trans _ (scope ∷ before) _ (IsPermutation-sym _ _ (snoc_permutes before scope))
             (IsPermutation-trans _ (scope ∷ map (drop 1) (old.now.trees 5)) _ more (subst (λ (rs : List Row). IsPermutation (scope ∷ map (drop 1) (old.now.trees 5)) (map (drop 1) rs)) (sym adds.1.becomes.rows_are) put)));
       }
-
-pub gives_none : (id : ℕ) (db : Trees) → GivesPatterns id [] db db
-gives_none id db ids s others t is none stands = subst (λ ps. StandsBy ids (with_last s others (record t { patterns = ps })) db) none stands
 
 pub gives_another : (id : ℕ) (ps : List Text) (p : Text) (place : ℕ) (first : Trees) (old new : State) → GivesPatterns id ps first old.now.trees → place ≡ length ps → AddsColumns 5 (scope_of id (place, p)) old new → GivesPatterns id (ps ++ p ∷ []) first new.now.trees
 gives_another id ps p place first old new given at adds ids s others t is none stands =

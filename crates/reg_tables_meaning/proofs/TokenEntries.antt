@@ -1,11 +1,10 @@
 -- Tokens that selections show.
+use Rattle.reg_tables_meaning.proofs.Words.{sorted_unique, row_of_token, StandTokens}
 use Rattle.reg_tables_meaning.proofs.Common.{◌≡◌, ◌==◌, [], ◌∷◌, ◌∙◌, ap, by_column, enumerate_from, filter, is_number, IsInOrder, IsPermutation-trans, List, map, maps_twice, None, one_row, Option, option_map, refl, Row, same_filter, shown_of, shows, Some, sym, Trees, ℕ}
-use Rattle.sqlite_keyed.proofs.SortLemmas.{sorted_unique}
 use Rattle.reg_model.specs.Registry as model
 use Rattle.reg_tables_sql.specs.declared.tokens.Token.{Token}
 use Rattle.reg_tables_sql.specs.Tokens.{IsTokenWithId, columns_of_token}
 use Rattle.reg_tables_meaning.specs.TokenEntries.{entry_of_token, without_patterns}
-use Rattle.reg_tables_meaning.specs.Stands.{row_of_token, StandTokens}
 use Rattle.reg_tables_meaning.proofs.AccountEntries.{mark_is, heads, tails, number_is}
 use Rattle.reg_tables_meaning.proofs.Numbered.{none_at, one_at}
 use Rattle.reg_tables_meaning.proofs.Selected.{column_total, places_rise, same_head, same_one, same_tail}

@@ -1,19 +1,15 @@
 -- How many versions of a crate the rows stand for.
-use Rattle.std.proofs.Common.{◌≡◌, ◌==◌, ◌<◌, ◌+◌, ◌-◌, ℕ, false, map, length, nat_le, not, Option, Some, None, refl, sym, ap, arith, ◌∙◌}
+use Rattle.reg_tables_meaning.proofs.Words.{◌≡◌, ◌==◌, ◌<◌, ◌+◌, ◌-◌, ℕ, false, map, length, nat_le, not, Option, Some, None, refl, sym, ap}
+use Rattle.reg_tables_meaning.proofs.Words.{arith, ◌∙◌, length-map, versions, IsLastId, next_version, IsNext, StandCrates, row_of_version}
+use Rattle.reg_tables_meaning.proofs.Words.{spelling_at, its_versions}
 use Rattle.reg_tables_meaning.proofs.Common.{filter, is_number, Registry, Text, Trees, unwrap_or}
-use Rattle.std.proofs.lemmas.List.{length-map}
 use Rattle.std.proofs.lemmas.List.Filters.{length-filter_both}
-use Rattle.reg_model.specs.Crates.{versions}
-use Rattle.reg_tables_sql.specs.Counts.{IsCountOf, IsLastId}
+use Rattle.reg_tables_sql.specs.Counts.{IsCountOf}
 use Rattle.reg_tables_meaning.proofs.CrateCounts.{count_is, no_more_than_next, not_le}
 use Rattle.reg_tables_meaning.proofs.Rising.{next_as}
 use Rattle.reg_tables_meaning.proofs.SummaryLaws.{published}
 use Rattle.reg_tables_meaning.proofs.VersionEntries.{its_rows}
-use Rattle.reg_tables_meaning.specs.Changes.{next_version}
-use Rattle.reg_tables_meaning.specs.Ids.{IsNext}
-use Rattle.reg_tables_meaning.specs.Stands.{StandCrates, row_of_version, spelling_at}
 use Rattle.reg_tables_meaning.specs.Stored.{Ids, StoredVersion}
-use Rattle.reg_tables_meaning.specs.Summaries.{its_versions}
 
 module _ (ids : Ids) (s : Registry) (db : Trees) (h : StandCrates ids s.publications s.yanked db) (id : ℕ) (name : Text) (at : spelling_at ids id ≡ Some name) where
   counted : (n : ℕ) → n < 9223372036854775807 → IsCountOf 11 2 id db n → n ≡ length (its_versions ids id)

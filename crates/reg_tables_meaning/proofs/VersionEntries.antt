@@ -1,19 +1,17 @@
 -- The versions of a crate, as a selection shows them.
+use Rattle.reg_tables_meaning.proofs.Words.{told_of, None, Some, Option, ◌≡◌, ◌==◌, inl, inr, ℕ, ◌<◌, List, [], ◌∷◌, map, Bool, true, false}
+use Rattle.reg_tables_meaning.proofs.Words.{nat_lt, Less, Equal, Greater, refl, sym, ap, subst, ◌∙◌, arith, Option, Some, nat_cmp_is}
+use Rattle.reg_tables_meaning.proofs.Words.{IsPermutation, ltb-true, ltb-false, Blob, ascending-filter, IsPermutation-filter, Publication}
+use Rattle.reg_tables_meaning.proofs.Words.{mark_cmp, IsInOrder, by_column, mark, StoredVersion, row_of_version, StandCrates, Ids}
+use Rattle.reg_tables_meaning.proofs.Words.{spelling_at}
 use Rattle.reg_tables_meaning.proofs.Common.{canon, collides, filter, filter_map, filtered_passes, is_number, IsAscending, IsIn, map_same, maps_twice, nat_cmp, none_pass, Row, same_filter, shows, Trees}
-use Rattle.reg_tables_meaning.specs.Changes.{told_of}
-use Rattle.std.proofs.Common.{None, Some, Option, ◌≡◌, ◌==◌, inl, inr, ℕ, ◌<◌, List, [], ◌∷◌, map, Bool, true, false, nat_lt, Less, Equal, Greater, refl, sym, ap, subst, ◌∙◌, arith, Option, Some}
 use Rattle.std.specs.FinSet as finset
-use Rattle.std.specs.Cmp.{nat_cmp_is}
-use Rattle.std.specs.List.Sorted.{IsPermutation, IsStrictlySortedBy}
-use Rattle.std.proofs.lemmas.Bool.{ltb-true, ltb-false}
-use Rattle.sqlite.specs.declared.types.Value.TheVariants.{Blob}
-use Rattle.sqlite_trees.proofs.ListLemmas.{ascending-filter, ascending-map, ascending_weaker, all_from_map, IsPermutation-filter}
-use Rattle.reg_model.specs.Registry.{Text as Words, Publication, mark_cmp}
-use Rattle.reg_tables_schema.specs.Rows.{IsInOrder, by_column, mark}
+use Rattle.std.specs.List.Sorted.{IsStrictlySortedBy}
+use Rattle.sqlite_trees.proofs.ListLemmas.{ascending-map, ascending_weaker, all_from_map}
+use Rattle.reg_model.specs.Registry.{Text as Words}
 use Rattle.reg_tables_sql.specs.declared.versions.Version.{Version}
 use Rattle.reg_tables_sql.specs.Versions.{columns_of_version}
 use Rattle.reg_tables_meaning.specs.Entries.{shown_version, version_shown, entry_row}
-use Rattle.reg_tables_meaning.specs.Stands.{StoredVersion, row_of_version, StandCrates, Ids, spelling_at}
 use Rattle.reg_tables_meaning.proofs.AccountEntries.{words_are, text_is, mark_is, heads, tails}
 use Rattle.reg_tables_meaning.proofs.CrateLemmas.{same_crate, none_of, there_at, same_bytes}
 use Rattle.reg_tables_meaning.proofs.Selected.{shown_in_turn, each_part, column_total, number_below}

@@ -1,20 +1,12 @@
 -- Rows one at a time: from the first to the end, or to a failure.
-use Rattle.reg_tables_schema.specs.declared.edition.Edition.{Edition}
-use Rattle.std.proofs.Common.{◌≡◌, ◌⊎◌, inl, inr, arith, ℕ, List, [], ◌∷◌, ◌++◌, false, is_some, Ok, Err, Some, None, Option, Result, subst}
-use Rattle.std.specs.Borrow.{Bor}
+use Rattle.reg_tables_meaning.proofs.Words.{Edition, ◌≡◌, inl, inr, arith, ℕ, List, [], ◌∷◌, ◌++◌, false, is_some, Ok, Err, Some, None}
+use Rattle.reg_tables_meaning.proofs.Words.{Option, Result, subst, Bor, Ghosts, Error, Rows, Held, state, HasMoved, Fails, HasCleanDisk}
+use Rattle.reg_tables_meaning.proofs.Words.{IsUnchanged, Survives, Shown, unchanged_then, IsOurs, Refuses, IsSpared, refuses_after}
+use Rattle.reg_tables_meaning.proofs.Words.{HasWalked}
+use Rattle.std.proofs.Common.{◌⊎◌}
 use Rattle.reg_tables_meaning.proofs.Common.{Row, survives_then}
-use Rattle.sqlite_trees.specs.declared.store.Store.{Ghosts}
-use Rattle.sqlite.specs.declared.error.Error.{Error}
-use Rattle.sqlite.specs.declared.rows.stream.Rows.{Rows}
-use Rattle.sqlite.specs.Held.{Held, state}
-use Rattle.sqlite.specs.Next.{HasMoved}
-use Rattle.sqlite.specs.State.{Fails, HasCleanDisk, IsUnchanged, Survives, Shown}
-use Rattle.sqlite.proofs.Callers.{unchanged_then}
-use Rattle.reg_tables_schema.specs.States.{IsOurs, Refuses}
-use Rattle.reg_tables_meaning.specs.Walks.{IsSpared}
 use Rattle.reg_tables_meaning.proofs.RowReading.{next_ours}
-use Rattle.reg_tables_schema.proofs.Writing.{refuses_after}
-use Rattle.reg_tables_meaning.specs.Walks.{IsRead, HasWalked}
+use Rattle.reg_tables_meaning.specs.Walks.{IsRead}
 
 module _ {S : Type 0} (g : Ghosts S) where
   pub was_read : {T E : Type 0} (x : T) (old new : Held S) → (HasCleanDisk (state g new) → IsUnchanged (state g old) (state g new)) → ((e : Edition) → IsOurs e (state g old) → IsOurs e (state g new)) → Survives (state g old) (state g new) (λ _. ⊥) → IsRead {E = E} g (Ok x) old new

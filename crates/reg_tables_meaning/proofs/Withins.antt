@@ -1,9 +1,8 @@
 -- What a statement of a transaction leaves within it, and what more of them do.
+use Rattle.reg_tables_meaning.proofs.Words.{IsInside, Refuses, Touches, Within, refused_keeps}
 use Rattle.reg_tables_meaning.proofs.Common.{◌∙◌, ap, HasCleanDisk, IsUnchanged, List, refl, Row, State, ℕ}
-use Rattle.reg_tables_schema.specs.States.{IsInside, Refuses}
-use Rattle.reg_tables_schema.specs.Changes.{Becomes, Touches}
-use Rattle.reg_tables_schema.specs.Steps.{Fails, Within}
-use Rattle.reg_tables_schema.proofs.MakeLemmas.{refused_keeps}
+use Rattle.reg_tables_schema.specs.Changes.{Becomes}
+use Rattle.reg_tables_schema.specs.Steps.{Fails}
 
 pub become_within : (old new : State) (tree : ℕ) (rows : List Row) → HasCleanDisk old → IsInside old → Becomes tree rows old new → Within old new
 become_within old new tree rows clean at b = record {

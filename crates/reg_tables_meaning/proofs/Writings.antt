@@ -1,10 +1,9 @@
 -- What statements of a transaction leave, one after another, where some of them may write.
-use Rattle.std.proofs.Common.{ℕ, Bool, inl, Err, IsErr, Ok, Result, OnErr, OnOk, arith, refl}
+use Rattle.reg_tables_meaning.proofs.Words.{ℕ, Bool, inl, Err, IsErr, Ok, Result, OnErr, OnOk, arith, refl, Adds, AddsColumns, Removes}
+use Rattle.reg_tables_meaning.proofs.Words.{Touches, IsInside, IsReady, IsReading, LeavesSame, Within}
 use Rattle.reg_tables_meaning.proofs.Common.{HasCleanDisk, Row, State, Survives, survives_then}
-use Rattle.reg_tables_schema.specs.Changes.{Adds, AddsColumns, Removes, Touches}
-use Rattle.reg_tables_schema.specs.States.{IsInside, IsReady}
-use Rattle.reg_tables_schema.specs.Statements.{IsReading, IsWriting}
-use Rattle.reg_tables_schema.specs.Steps.{LeavesSame, LeavesWithin, Within}
+use Rattle.reg_tables_schema.specs.Statements.{IsWriting}
+use Rattle.reg_tables_schema.specs.Steps.{LeavesWithin}
 use Rattle.reg_tables_meaning.proofs.Readings.{left}
 use Rattle.reg_tables_meaning.proofs.Results.{on_err, on_ok}
 use Rattle.reg_tables_meaning.proofs.Withins.{become_within, fails_after, itself_within, refused_fails, touch_within, unchanged_within, within_fails, within_then}

@@ -1,22 +1,21 @@
 -- What the row of a version that is yanked, or no more, is on the registry.
+use Rattle.reg_tables_meaning.proofs.Words.{filter, list_any, IsEquivalence, eq_by_cmp_equiv, nat_cmp_total, and_parts, and_from, eq-eqb}
+use Rattle.reg_tables_meaning.proofs.Words.{eqb-true, and_left, IsPermutation-cons, IsPermutation-filter_both, IsPermutation-map}
+use Rattle.reg_tables_meaning.proofs.Words.{IsPermutation-trans, IsDistinct-from_sorted, has_rowid, put_row, without_rowid, value_cmp-Text}
+use Rattle.reg_tables_meaning.proofs.Words.{Text, Publication, mark_cmp, same_key, ties_itself, StoredCrate, StoredVersion, row_of_crate}
+use Rattle.reg_tables_meaning.proofs.Words.{row_of_version, row_of_archive, StandCrates, Ids, spelling_at, is_version, IsIn, any_in}
+use Rattle.reg_tables_meaning.proofs.Words.{distinct_from_map, filtered_passes, in_filter, map_same, one_passes, in_any, none_pass}
+use Rattle.reg_tables_meaning.proofs.Words.{filter_map, free_without, one_row, put_permutes}
 use Rattle.reg_tables_meaning.proofs.Common.{◌≡◌, ◌==◌, [], ◌∷◌, ◌++◌, ◌||◌, ◌&&◌, ◌∙◌, ap, Bool, bytes_eq, canon, cond, drop, eq_by_cmp, false, is_eq, is_eq-slice_cmp, IsPermutation, IsPermutation-filter, List, map, nat_cmp, nat_list_eq_equiv, None, not, not_true, on, pos, refl, release_key_of, Row, same_filter, subst, sym, Trees, true, true_not_false, value_cmp, version_row, ℕ}
-use Rattle.std.specs.List.{filter, list_any, IsDistinct}
+use Rattle.std.specs.List.{IsDistinct}
 use Rattle.std.specs.FinSet as finset
-use Rattle.std.specs.Cmp.{IsEquivalence, on_equiv, and_equiv, eq_by_cmp_equiv, nat_cmp_total}
-use Rattle.std.proofs.lemmas.Bool.{and_parts, and_from, eq-eqb, eqb-true, and_left}
-use Rattle.std.proofs.lemmas.List.Sorted.{IsPermutation-cons, IsPermutation-filter_both, IsPermutation-map, IsPermutation-trans}
-use Rattle.std.proofs.lemmas.Map.Keys.{IsDistinct-from_sorted}
+use Rattle.std.specs.Cmp.{on_equiv, and_equiv}
 use Rattle.sqlite.specs.declared.types.Value.TheVariants.{Text as Characters}
-use Rattle.sqlite_trees.specs.Tree.{has_rowid, put_row, without_rowid}
-use Rattle.sqlite_value.proofs.OrderLemmas.{value_cmp-Text}
-use Rattle.reg_model.specs.Registry.{Text, Publication, Mark, mark_cmp}
+use Rattle.reg_model.specs.Registry.{Mark}
 use Rattle.reg_model.specs.Sound.{one_release}
-use Rattle.reg_model.proofs.Keys.{mark_total, mark_apart, same_key, ties_itself}
-use Rattle.reg_tables_meaning.specs.Stands.{StoredCrate, StoredVersion, row_of_crate, row_of_version, row_of_archive, StandCrates, Ids, spelling_at}
-use Rattle.reg_tables_schema.specs.Tests.{is_version}
+use Rattle.reg_model.proofs.Keys.{mark_total, mark_apart}
 use Rattle.reg_tables_meaning.proofs.CrateLemmas.{same_bytes, bytes_same, crate_of, is_stored, one_by_canon, one_by_id, is_published, none_of}
-use Rattle.reg_model.proofs.Members.{IsIn, any_in, distinct_from_map, filtered_passes, in_filter, map_same, one_of, one_passes, in_any, none_pass}
-use Rattle.reg_tables_schema.proofs.Permutes.{filter_map, free_without, one_row, put_permutes}
+use Rattle.reg_model.proofs.Members.{one_of}
 use Rattle.reg_tables_meaning.proofs.Standing.{same_number, none_row}
 
 -- SQL's equality of texts

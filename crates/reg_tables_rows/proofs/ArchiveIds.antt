@@ -1,21 +1,19 @@
 -- Where the first id in the order of SQL is a number, no id is NULL.
-use Rattle.std.proofs.Common.{◌≡◌, ℕ, pos, List, [], ◌∷◌, map, take, false, Option, None, Some, refl, sym, ap, ◌∙◌}
+use Rattle.reg_tables_rows.proofs.Words.{◌≡◌, ℕ, pos, List, [], ◌∷◌, map, take, false, Some, refl, sym, ap, ◌∙◌, IsPermutation-sym, Int}
+use Rattle.reg_tables_rows.proofs.Words.{Row, Trees, rowid, all-permutation, by_column, shows, HaveIds}
+use Rattle.std.proofs.Common.{Option, None}
 use Rattle.std.specs.Ordering.{is_gt}
-use Rattle.std.proofs.lemmas.List.Sorted.{IsPermutation-sym}
 use Rattle.sqlite.specs.declared.types.Value.{Value}
-use Rattle.sqlite.specs.declared.types.Value.TheVariants.{Null, Int, Real, Text, Blob}
-use Rattle.sqlite.specs.Order.{Row, value_cmp}
-use Rattle.sqlite.specs.Tree.{Trees}
+use Rattle.sqlite.specs.declared.types.Value.TheVariants.{Null, Real, Text, Blob}
+use Rattle.sqlite.specs.Order.{value_cmp}
 use Rattle.sqlite_exec.proofs.PartitionLemmas.{ascending_from_sorted}
 use Rattle.sqlite_sql.specs.Ops.{is_null}
-use Rattle.sqlite_trees.specs.Tree.{IsAscending, rowid}
-use Rattle.sqlite_trees.proofs.ListLemmas.{all-permutation, all_weaker}
+use Rattle.sqlite_trees.specs.Tree.{IsAscending}
+use Rattle.sqlite_trees.proofs.ListLemmas.{all_weaker}
 use Rattle.reg_tables_schema.specs.Greatest.{row_of_id}
-use Rattle.reg_tables_schema.specs.Rows.{by_column, number_columns}
-use Rattle.reg_tables_schema.specs.Tests.{shows}
+use Rattle.reg_tables_schema.specs.Rows.{number_columns}
 use Rattle.reg_tables_sql.specs.Counts.{IsFirstId}
 use Rattle.reg_tables_meaning.proofs.Selected.{column_total}
-use Rattle.reg_tables_rows.specs.WholeRows.{HaveIds}
 
 not_below : (n : ℕ) (v : Value) → is_gt (value_cmp (Int (pos n)) v) ≡ false → is_null v ≡ false
 unfolding value_cmp

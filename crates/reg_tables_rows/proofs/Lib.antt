@@ -1,3 +1,4 @@
 mod ArchiveIds
 mod OwnIds
 mod OwnRowids
+mod Words

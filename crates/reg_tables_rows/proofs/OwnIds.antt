@@ -1,17 +1,11 @@
 -- Rows whose ids, as they are listed with their records, rise: each row has its own.
-use Rattle.std.proofs.Common.{◌<◌, ◌+◌, arith, ℕ, ℤ, pos, List, [], ◌∷◌, map, length, take, sym, ap, ◌∙◌}
+use Rattle.reg_tables_rows.proofs.Words.{◌<◌, ◌+◌, arith, ℕ, ℤ, pos, List, [], ◌∷◌, map, length, take, sym, ap, ◌∙◌, int_cmp, Int, Row}
+use Rattle.reg_tables_rows.proofs.Words.{value_cmp-Int, by_column, shows, rowid_columns, HaveOwnRowids}
 use native.Mathlib.Numerals.{unary_clauses}
 use Rattle.std.specs.List.{AllAdjacentBelow}
 use Rattle.std.specs.List.Sorted.{IsStrictlySortedBy}
-use Rattle.std.specs.Ordering.{int_cmp}
-use Rattle.sqlite.specs.declared.types.Value.TheVariants.{Int}
-use Rattle.sqlite.specs.Order.{Row}
-use Rattle.sqlite_value.proofs.OrderLemmas.{value_cmp-Int}
-use Rattle.reg_tables_schema.specs.Rows.{IsInOrder, by_column}
-use Rattle.reg_tables_schema.specs.Tests.{shows}
+use Rattle.reg_tables_schema.specs.Rows.{IsInOrder}
 use Rattle.reg_tables_schema.proofs.Queries.{maps_twice}
-use Rattle.reg_tables_sql.specs.Rowids.{rowid_columns}
-use Rattle.reg_tables_meaning.specs.Stands.{HaveOwnRowids}
 use Rattle.reg_tables_meaning.proofs.Selected.{number_below}
 use Rattle.reg_tables_rows.proofs.OwnRowids.{own_ordered, rises_alone, rises_next, rises_nowhere}
 

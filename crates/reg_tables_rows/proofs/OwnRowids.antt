@@ -1,27 +1,20 @@
 -- Rows whose rowids, read in order, rise: each row has its own.
-use Rattle.std.proofs.Common.{◌≡◌, ◌<◌, ◌+◌, ℕ, ℤ, pos, List, [], ◌∷◌, map, true, false, Less, SFits, w64, arith, drop, get_or, length, of_z, sym, subst, to_z, ap, ◌∙◌}
-use Rattle.std.specs.Prelude.{◌↔◌}
+use Rattle.reg_tables_rows.proofs.Words.{◌≡◌, ◌<◌, ◌+◌, ℕ, ℤ, pos, List, [], ◌∷◌, map, false, SFits, w64, arith, drop, get_or, length, sym}
+use Rattle.reg_tables_rows.proofs.Words.{subst, ap, ◌∙◌, ◌↔◌, int_cmp, IsPermutation-sym, Int, Row, Trees, rowid, all-permutation}
+use Rattle.reg_tables_rows.proofs.Words.{value_cmp-Int, shows, AreRowids, rowid_columns, HaveOwnRowids}
+use Rattle.std.proofs.Common.{true, Less, of_z, to_z}
 use Rattle.std.specs.Cmp.{int_cmp_is}
 use Rattle.std.specs.Int.Signed.{le_z, ◌<ℤ◌}
 use Rattle.std.specs.List.{AllByRecursion, IsDistinct}
 use Rattle.std.specs.List.Sorted.{IsPermutation, IsStrictlySortedBy}
-use Rattle.std.specs.Ordering.{int_cmp, is_eq}
+use Rattle.std.specs.Ordering.{is_eq}
 use Rattle.std.proofs.lemmas.Cmp.{int_cmp_total, int_ranked}
 use Rattle.std.proofs.lemmas.Int.{ints, to_z-of_z}
 use Rattle.std.proofs.lemmas.List.{drop_more}
-use Rattle.std.proofs.lemmas.List.Sorted.{IsPermutation-sym}
 use Rattle.std.proofs.lemmas.Map.Keys.{IsDistinct-IsPermutation, IsDistinct-cons}
-use Rattle.sqlite.specs.declared.types.Value.TheVariants.{Int}
-use Rattle.sqlite.specs.Order.{Row, value_cmp}
-use Rattle.sqlite.specs.Tree.{Trees}
+use Rattle.sqlite.specs.Order.{value_cmp}
 use Rattle.sqlite_rules.specs.Edit.{id_in}
-use Rattle.sqlite_trees.specs.Tree.{rowid}
-use Rattle.sqlite_trees.proofs.ListLemmas.{all-permutation}
-use Rattle.sqlite_value.proofs.OrderLemmas.{value_cmp-Int}
-use Rattle.reg_tables_schema.specs.Tests.{shows}
-use Rattle.reg_tables_sql.specs.Rowids.{AreRowids, rowid_columns}
 use Rattle.reg_tables_meaning.specs.Numbers.{IsNumbered}
-use Rattle.reg_tables_meaning.specs.Stands.{HaveOwnRowids}
 use Rattle.reg_tables_meaning.proofs.AccountEntries.{heads}
 use Rattle.reg_tables_meaning.proofs.Rowids.{tied, tied_back}
 

@@ -1,8 +1,7 @@
 -- An optional text as a parameter.
-use Rattle.std.proofs.Common.{◌≡◌, ℕ, List, None, Some, Option, Bor, refl}
+use Rattle.reg_tables_schema.proofs.Words.{◌≡◌, ℕ, List, None, Some, Option, refl, Text, cast}
+use Rattle.std.proofs.Common.{Bor}
 use Rattle.std.specs.Option.{option_map}
-use Rattle.sqlite.specs.declared.types.Value.TheVariants.{Text}
-use Rattle.sqlite.specs.Cast.{cast}
 use Rattle.sqlite.specs.Kind.TheVariants.{Text as TextKind}
 use Rattle.sqlite.specs.Values.{or_null, bound_value}
 use Rattle.reg_tables_schema.specs.Rows.{text_or_null}

@@ -1,19 +1,13 @@
 -- What SELECT count(*) answers.
-use Rattle.std.proofs.Common.{◌≡◌, pos, negsuc, List, [], ◌∷◌, map, length, true, false, Option, Some, sym, ap, subst, ◌∙◌}
-use Rattle.std.specs.List.{AllZip, filter}
-use Rattle.std.specs.List.Sorted.{IsPermutation}
-use Rattle.std.proofs.lemmas.List.{length-map}
-use Rattle.std.proofs.lemmas.List.Sorted.{length_permutation}
-use Rattle.sqlite.specs.declared.types.Value.TheVariants.{Null, Int}
-use Rattle.sqlite.specs.Order.{Row}
-use Rattle.sqlite.specs.Tree.{Trees}
-use Rattle.sqlite.specs.Term.{Term, Env, lit, col, eval}
-use Rattle.sqlite.specs.Query.{Query, Join, matches, IsSureAnswer, IsAnswer, output, page, Output}
-use Rattle.sqlite.specs.Collation.TheVariants.{Binary}
-use Rattle.sqlite.proofs.Callers.{one_permutation}
+use Rattle.reg_tables_schema.proofs.Words.{◌≡◌, pos, negsuc, List, [], ◌∷◌, map, length, true, false, Option, Some, sym, ap, subst, ◌∙◌}
+use Rattle.reg_tables_schema.proofs.Words.{filter, IsPermutation, length-map, length_permutation, Null, Int, Row, Trees, Term, Env, lit}
+use Rattle.reg_tables_schema.proofs.Words.{col, Query, Join, matches, IsSureAnswer, IsAnswer, output, Output, Binary, one_permutation}
+use Rattle.reg_tables_schema.proofs.Words.{capped}
+use Rattle.std.specs.List.{AllZip}
+use Rattle.sqlite.specs.Term.{eval}
+use Rattle.sqlite.specs.Query.{page}
 use Rattle.sqlite_sql.specs.Group.{Grouping, IsSummary, value_over}
 use Rattle.sqlite_sql.specs.declared.aggregate.AggregateOp.TheVariants.{CountRows}
-use Rattle.reg_tables_schema.specs.Rows.{capped}
 
 -- count(*) and no GROUP BY
 abbrev pub counting : Grouping

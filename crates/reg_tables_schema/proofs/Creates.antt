@@ -1,20 +1,12 @@
 -- What a text does that makes a table.
-use Rattle.std.proofs.Common.{◌≡◌, ℕ, List, [], ◌∷◌, ◌++◌, false, None, cond, Ok, Err, Result, OnOk, refl, sym, ap, subst, ◌∙◌}
-use Rattle.std.specs.Prelude.{MatchBool}
-use Rattle.std.specs.List.{AllByRecursion}
-use Rattle.sqlite.specs.Table.{Table}
-use Rattle.sqlite.specs.Tree.{Trees}
-use Rattle.sqlite.specs.Schema.{Schema}
-use Rattle.sqlite.specs.Command.TheVariants.{CreateTable}
-use Rattle.sqlite.specs.Change.{created, next_tree, KeepsRows}
+use Rattle.reg_tables_schema.proofs.Words.{◌≡◌, ℕ, List, [], ◌∷◌, ◌++◌, false, None, cond, Ok, Err, Result, OnOk, refl, sym, ap, subst, ◌∙◌}
+use Rattle.reg_tables_schema.proofs.Words.{MatchBool, AllByRecursion, Table, Trees, Schema, CreateTable, created, next_tree, Database}
+use Rattle.reg_tables_schema.proofs.Words.{Gives, Then, Tally, lacks_sequence, State, HasCleanDisk, Survives, Executes, mode_of, Error}
+use Rattle.reg_tables_schema.proofs.Words.{runs_as, through, Grows, HasMade, IsInsideWith, Makes}
+use Rattle.sqlite.specs.Change.{KeepsRows}
 use Rattle.sqlite_catalog.specs.Calls.{CreatesTable}
-use Rattle.sqlite.specs.Effect.{Database}
-use Rattle.sqlite.specs.Rows.{Gives, Then}
-use Rattle.sqlite.specs.Does.{Tally, Does, MakesTable, MakesSequence, lacks_sequence, no_rows, sequence_text}
-use Rattle.sqlite.specs.State.{State, HasCleanDisk, Survives, CommitsBy, Executes, mode_of}
-use Rattle.sqlite.specs.declared.error.Error.{Error}
-use Rattle.sqlite.proofs.Callers.{runs_as, through}
-use Rattle.reg_tables_schema.specs.States.{Grows, HasMade, IsInsideWith, Makes}
+use Rattle.sqlite.specs.Does.{Does, MakesTable, MakesSequence, no_rows, sequence_text}
+use Rattle.sqlite.specs.State.{CommitsBy}
 use Rattle.reg_tables_schema.proofs.TableTexts.{IsStep}
 use Rattle.reg_tables_schema.proofs.Edits.{same_value}
 use Rattle.reg_tables_schema.proofs.WriteLemmas.{survives_inside}

@@ -1,32 +1,27 @@
 -- What a write does to the trees, over any schema whose foreign keys have no action.
-use Rattle.std.proofs.Common.{◌≡◌, ◌⊎◌, inl, inr, ℕ, ℤ, ◌/◌, List, [], ◌∷◌, length, slice_get, Bool, true, false, ◌&&◌, cond, Option, Some, None, Ok, Err, Result, refl, sym, ap, subst, subst₂, ◌∙◌}
-use Rattle.std.specs.List.{list_all, flat_map, filter_map}
-use Rattle.sqlite.specs.Order.{Row}
-use Rattle.sqlite.specs.Term.{Term}
-use Rattle.sqlite.specs.Tree.{Trees}
-use Rattle.sqlite.specs.Table.{Table}
-use Rattle.sqlite.specs.Schema.{Schema}
-use Rattle.sqlite.specs.Command.TheVariants.{Insert, Update, Delete}
-use Rattle.sqlite.specs.Source.TheVariants.{Values}
-use Rattle.sqlite.specs.Effect.{Database, value_rows, Answers}
-use Rattle.sqlite.specs.Rows.{Written, Task, Gives, Then, Sourced, Queried, Counter, CounterIn, Counts, CountsIn, Inserts, Updates, Deletes, Edited, sequence, count_of, higher, last_id, rowids_for, stamped}
-use Rattle.sqlite.specs.Does.{Tally, Tested, Returns, Concludes, AtPlace, OnRows, OnTable, WritesRows}
+use Rattle.reg_tables_schema.proofs.Words.{◌≡◌, ◌⊎◌, inl, inr, ℕ, ℤ, List, [], ◌∷◌, length, slice_get, Bool, true, false, ◌&&◌, cond}
+use Rattle.reg_tables_schema.proofs.Words.{Option, Some, None, Ok, Err, Result, refl, sym, ap, subst, subst₂, ◌∙◌, flat_map, Row, Term}
+use Rattle.reg_tables_schema.proofs.Words.{Trees, Table, Schema, Insert, Update, Delete, Values, Database, Answers, Gives, Then, Tally}
+use Rattle.reg_tables_schema.proofs.Words.{is_lt, MatchBool, State, mode_of, Program, ids_of, through}
+use Rattle.std.proofs.Common.{◌/◌}
+use Rattle.std.specs.List.{list_all, filter_map}
+use Rattle.sqlite.specs.Effect.{value_rows}
+use Rattle.sqlite.specs.Rows.{Written, Task, Sourced, Queried, Counter, Counts, CountsIn, Inserts, Updates, Deletes, Edited, sequence, count_of, higher, last_id, rowids_for, stamped}
+use Rattle.sqlite.specs.Does.{Tested, Returns, Concludes, AtPlace, OnRows, OnTable, WritesRows}
 use Rattle.sqlite.specs.declared.run.Mode.{Mode}
-use Rattle.std.specs.Ordering.{is_lt, int_cmp}
-use Rattle.std.specs.Prelude.{MatchBool, fold}
+use Rattle.std.specs.Ordering.{int_cmp}
+use Rattle.std.specs.Prelude.{fold}
 use Rattle.sqlite_schema.specs.declared.command.Command.{Command}
-use Rattle.sqlite.specs.State.{State, Writes, mode_of}
-use Rattle.sqlite_schema.specs.declared.program.Program.{Program}
+use Rattle.sqlite.specs.State.{Writes}
 use Rattle.sqlite_schema.specs.declared.schema.Reference.{Reference}
 use Rattle.sqlite_schema.specs.declared.schema.Action.{Action}
 use Rattle.sqlite_schema.specs.declared.schema.Action.TheVariants.{NoAction, Restrict, Cascade, SetNull, SetDefault}
 use Rattle.sqlite_schema.specs.declared.schema.Keys.TheVariants.{Enforced}
 use Rattle.sqlite_schema.specs.Rules.{Refers, parent_key}
 use Rattle.sqlite_rules.specs.declared.error.Rowids.TheVariants.{Chosen, Above, Given}
-use Rattle.sqlite_rules.specs.Calls.{ids_of}
 use Rattle.sqlite_rules.specs.Edit.{Edit, edit_of, taken_by, Applies}
 use Rattle.sqlite_rules.specs.Action.{work_by, work_for, pairs, deed_of, deed_for, Writes as Edits}
-use Rattle.sqlite.proofs.Callers.{one_step, through}
+use Rattle.sqlite.proofs.Callers.{one_step}
 
 abbrev pub is_idle : Action → Bool
 is_idle NoAction = true
@@ -94,9 +89,6 @@ uncounted_rowids : (table : Table) (top : ℤ) → table.is_counted ≡ false �
 uncounted_rowids table top h = ap (λ b. cond b (Above top) Chosen) h
 
 module _ (task : Task) (uncounted : task.table.is_counted ≡ false) where
-  no_counter : (db : Trees) (counter : Option Row) → Counter task db (Ok counter) → counter ≡ None
-  no_counter db counter h = same_value (subst (λ b. MatchBool b (CounterIn task db (sequence task.schema) (Ok counter)) (Gives None (Ok counter))) uncounted h)
-
   counts_nothing : (mid next : Trees) (counter : Option Row) (top : ℤ) → Counts task mid counter top (Ok next) → next ≡ mid
   counts_nothing mid next counter top h = same_value (subst (λ b. MatchBool (cond b (is_lt (int_cmp (count_of counter) top)) false) (CountsIn task mid counter top (sequence task.schema) (Ok next)) (Gives mid (Ok next))) uncounted h)
 

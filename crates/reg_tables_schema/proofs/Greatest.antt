@@ -1,14 +1,8 @@
 -- What `SELECT id FROM .. ORDER BY id DESC LIMIT 1` answers, of any table.
-use Rattle.std.proofs.Common.{◌≡◌, ℕ, ◌+◌, pos, List, [], ◌∷◌, map, take, true, false, None, get_or, refl, sym, ap, subst, ◌∙◌}
-use Rattle.std.specs.List.Sorted.{IsPermutation, IsSorted}
-use Rattle.std.specs.Ordering.{is_lt}
-use Rattle.sqlite_exec.proofs.PartitionLemmas.{IsSorted-from_map}
-use Rattle.sqlite.specs.Collation.TheVariants.{Binary}
-use Rattle.sqlite.specs.declared.types.Value.TheVariants.{Null, Int}
-use Rattle.sqlite.specs.Order.{Row, column, value_cmp}
-use Rattle.sqlite.specs.Tree.{Trees}
-use Rattle.sqlite.specs.Term.{lit, col}
-use Rattle.sqlite.specs.Query.{Query, inner, end, IsSureAnswer, IsAnswer, output, output_cmp, Output}
+use Rattle.reg_tables_schema.proofs.Words.{◌≡◌, ℕ, ◌+◌, pos, List, [], ◌∷◌, map, take, true, false, None, get_or, refl, sym, ap, subst, ◌∙◌}
+use Rattle.reg_tables_schema.proofs.Words.{IsPermutation, IsSorted, is_lt, IsSorted-from_map, Binary, Null, Int, Row, column, Trees, lit}
+use Rattle.reg_tables_schema.proofs.Words.{col, Query, inner, end, IsSureAnswer, IsAnswer, output, output_cmp, Output}
+use Rattle.sqlite.specs.Order.{value_cmp}
 use Rattle.reg_tables_schema.proofs.Queries.{maps_twice}
 use Rattle.reg_tables_schema.proofs.Sorted.{unmapped, then_equal}
 use Rattle.reg_tables_schema.specs.Greatest.{IsGreatest}

@@ -22,3 +22,4 @@ pub mod TableTexts
 pub mod WholeTables
 pub mod WriteLemmas
 pub mod Writing
+mod Words

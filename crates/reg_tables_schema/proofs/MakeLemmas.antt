@@ -1,54 +1,42 @@
 -- The row of `about`, and a registry with nothing in it.
-use Rattle.std.proofs.Common.{◌≡◌, ◌≢◌, inl, inr, ℕ, zero, suc, pos, List, [], ◌∷◌, codes, map, true, false, Ok, Err, Result, OnOk, OnErr, refl, sym, ap, subst, ◌∙◌}
-use Rattle.std.specs.Prelude.{drop, take}
-use Rattle.std.specs.List.{AllByRecursion}
-use Rattle.sqlite.specs.declared.types.Value.TheVariants.{Null, Int, Text}
-use Rattle.sqlite.specs.Order.{Row}
-use Rattle.sqlite.specs.Term.{Term, lit, col}
-use Rattle.sqlite.specs.Table.{Table}
-use Rattle.sqlite.specs.Tree.{Trees}
-use Rattle.sqlite.specs.Effect.{Database}
-use Rattle.sqlite.specs.Source.TheVariants.{Values}
-use Rattle.sqlite.specs.Command.TheVariants.{Insert}
+use Rattle.reg_tables_schema.proofs.Words.{◌≡◌, inl, inr, ℕ, zero, suc, pos, List, [], ◌∷◌, map, true, false, Ok, Err, Result, OnOk, OnErr}
+use Rattle.reg_tables_schema.proofs.Words.{refl, sym, ap, subst, ◌∙◌, drop, AllByRecursion, Null, Int, Text, Row, Term, lit, col, Table}
+use Rattle.reg_tables_schema.proofs.Words.{Trees, Database, Values, Insert, State, HasCleanDisk, Shows, Survives, Executes, Error, IsPlain}
+use Rattle.reg_tables_schema.proofs.Words.{command_of, survives_then, next_rowid, put_row, ours, our_tables, old_schema, first_of_ours}
+use Rattle.reg_tables_schema.proofs.Words.{blank, about, restricted, readers, IsInside, IsReady, Grows, Makes, Refuses, IsUndone, HasMade}
+use Rattle.reg_tables_schema.proofs.Words.{AddsColumns}
+use Rattle.std.proofs.Common.{◌≢◌}
+use Rattle.std.specs.Prelude.{take}
 use Rattle.sqlite.specs.Listing.{understood}
-use Rattle.sqlite.specs.State.{State, HasCleanDisk, Shows, KeepsCommit, Survives, CommitsBy, Executes}
-use Rattle.sqlite.specs.declared.error.Error.{Error}
-use Rattle.sqlite.proofs.Callers.{IsPlain, command_of}
-use Rattle.sqlite.proofs.StateLemmas.{survives_then}
-use Rattle.sqlite_rules.specs.Edit.{next_rowid}
-use Rattle.sqlite_trees.specs.Tree.{put_row}
+use Rattle.sqlite.specs.State.{KeepsCommit, CommitsBy}
 use Rattle.sqlite_tied.specs.Compute.{everything}
-use Rattle.reg_tables_schema.specs.Schema.{ours, our_tables, old_schema, first_of_ours, blank, about, restricted, readers}
-use Rattle.reg_tables_schema.specs.States.{IsInside, IsReady, Rests, Grows, Extends, Makes, Refuses, IsUndone, IsAtRest, HasMade, IsMade, about_columns}
-use Rattle.reg_tables_schema.specs.Changes.{AddsColumns}
+use Rattle.reg_tables_schema.specs.declared.make.TheConstants.{INSERT_ABOUT_TEXT}
+use Rattle.reg_tables_schema.specs.States.{Extends, IsAtRest, IsMade, about_columns}
 use Rattle.reg_tables_schema.proofs.Creates.{and_last, still_empty}
 use Rattle.reg_tables_schema.specs.declared.edition.Edition.TheVariants.{Second}
 use Rattle.reg_tables_schema.proofs.Edits.{step_of}
 use Rattle.reg_tables_schema.proofs.Statements.{adds_columns, cast_int, cast_null}
 use Rattle.reg_tables_schema.proofs.WriteLemmas.{survives_inside}
 
-abbrev about_text : List ℕ
-about_text = codes "INSERT INTO about (schema, base) VALUES (2, ?1)"
-
 abbrev about_terms : List Term
 about_terms = lit Null ∷ lit (Int (pos 2)) ∷ col 0 0 ∷ []
 
-about_is : command_of (understood ours about_text) ≡ Insert 0 (Values about_terms 3)
+about_is : command_of (understood ours INSERT_ABOUT_TEXT.now) ≡ Insert 0 (Values about_terms 3)
 unfolding understood everything
 about_is = refl
 
-about_plain : IsPlain (understood ours about_text)
+about_plain : IsPlain (understood ours INSERT_ABOUT_TEXT.now)
 unfolding understood everything
 about_plain = (refl, refl)
 
 about_news : (db : Trees) (base : List ℕ) → (step_of db about (Text base ∷ []) about_terms 3).news ≡ (Int (next_rowid (db 0)) ∷ about_columns Second base) ∷ []
 about_news db base = rw (cast_int (pos 2), cast_null)
 
-pub inserts_about : (old new : State) (base : List ℕ) (r : Result ℕ Error) → IsInside old → Executes about_text (Text base ∷ []) old new r → OnOk r (AddsColumns 0 (about_columns Second base) old new)
-inserts_about old new base r at h = adds_columns about_text 0 about refl about_plain refl about_terms 3 about_is (Text base ∷ []) (about_columns Second base) old new r at (about_news old.now.trees base) h
+pub inserts_about : (old new : State) (base : List ℕ) (r : Result ℕ Error) → IsInside old → Executes INSERT_ABOUT_TEXT.now (Text base ∷ []) old new r → OnOk r (AddsColumns 0 (about_columns Second base) old new)
+inserts_about old new base r at h = adds_columns INSERT_ABOUT_TEXT.now 0 about refl about_plain refl about_terms 3 about_is (Text base ∷ []) (about_columns Second base) old new r at (about_news old.now.trees base) h
 
-pub about_survives : (old new : State) (params : Row) → IsReady old → Survives old new (CommitsBy about_text params old) → Survives old new (λ _. ⊥)
-about_survives old new params at = survives_inside about_text params old ours _ about_is new refl (λ clean. ((at clean).schema_is, (at clean).inside))
+pub about_survives : (old new : State) (params : Row) → IsReady old → Survives old new (CommitsBy INSERT_ABOUT_TEXT.now params old) → Survives old new (λ _. ⊥)
+about_survives old new params at = survives_inside INSERT_ABOUT_TEXT.now params old ours _ about_is new refl (λ clean. ((at clean).schema_is, (at clean).inside))
 
 others_empty : (tables : List Table) (old new : Trees) → AllByRecursion (λ t. old t.tree ≡ []) tables → AllByRecursion (λ t. t.tree ≢ 0 → new t.tree ≡ old t.tree) tables
     → AllByRecursion (λ t. t.tree ≢ 0 → new t.tree ≡ []) tables
@@ -103,9 +91,6 @@ survives_failing base old mid new one two = survives_then old mid new _ _ (Whole
 
 pub rests : (base : List ℕ) (last new : State) → IsMade base last.now → Shows last new last.now last.now false → IsMade base new.committed × IsAtRest new
 rests base last new made k = (subst (IsMade base) (sym k.committed_is) made, record { is_open = k.is_open; autocommit = k.mode; settled = k.now_is ∙ sym k.committed_is })
-
-pub rests_ours : (base : List ℕ) (s : State) → IsMade base s.committed × IsAtRest s → Rests Second s
-rests_ours base s h = record { committed_is = h.0.schema_is; autocommit = h.1.autocommit; settled = h.1.settled }
 
 pub all_taken : {X : Type 0} (P : X → Type 0) (k : ℕ) (xs : List X) → AllByRecursion P xs → AllByRecursion P (take k xs)
 all_taken P zero xs h = tt

@@ -1,15 +1,7 @@
 -- What SELECT with ORDER BY answers without a WHERE, and of tables that are joined.
-use Rattle.std.proofs.Common.{◌≡◌, ℕ, ◌+◌, List, [], ◌∷◌, map, true, get_or, refl, sym, ap, subst, ◌∙◌}
-use Rattle.std.specs.Ordering.{is_lt}
-use Rattle.std.specs.declared.cmp.Ordering.{Ordering}
-use Rattle.std.specs.List.Sorted.{IsPermutation, IsSorted}
-use Rattle.sqlite_exec.proofs.PartitionLemmas.{IsSorted-from_map}
-use Rattle.sqlite.specs.Order.{Row}
-use Rattle.sqlite.specs.Term.{Term, Env, eval_all}
-use Rattle.sqlite.specs.Tree.{Trees}
-use Rattle.sqlite.specs.Query.{Join, inner, end, IsSureAnswer, matches, output, output_cmp, Output}
-use Rattle.sqlite_value.specs.declared.keys.Key.{Key}
-use Rattle.reg_tables_schema.specs.Rows.{IsInOrder}
+use Rattle.reg_tables_schema.proofs.Words.{◌≡◌, ℕ, ◌+◌, List, [], ◌∷◌, map, true, get_or, refl, sym, ap, subst, ◌∙◌, is_lt, Ordering}
+use Rattle.reg_tables_schema.proofs.Words.{IsPermutation, IsSorted, IsSorted-from_map, Row, Term, Env, eval_all, Trees, Join, inner, end}
+use Rattle.reg_tables_schema.proofs.Words.{IsSureAnswer, matches, output, output_cmp, Output, Key, IsInOrder}
 use Rattle.reg_tables_schema.proofs.Queries.{maps_twice}
 use Rattle.reg_tables_schema.proofs.Sorted.{in_order, in_order_of, rises, unmapped}
 use Rattle.reg_tables_schema.proofs.TableMatches.{matches_all, all_pass}

@@ -1,11 +1,9 @@
 -- Each end of a statement keeps our tables, of either edition.
-use Rattle.std.proofs.Common.{◌≡◌, inl, inr, true, false, Ok, Err, Result, OnOk, OnErr, ℕ, sym, ap, ◌∙◌}
-use Rattle.sqlite.specs.Effect.{Database}
-use Rattle.sqlite.specs.declared.error.Error.{Error}
-use Rattle.sqlite.specs.State.{State, HasCleanDisk, Shows}
+use Rattle.reg_tables_schema.proofs.Words.{◌≡◌, inl, inr, true, false, Ok, Err, Result, OnOk, OnErr, ℕ, sym, ap, ◌∙◌, Database, Error}
+use Rattle.reg_tables_schema.proofs.Words.{State, HasCleanDisk, Shows, IsUndone, Refuses}
 use Rattle.reg_tables_schema.specs.declared.edition.Edition.{Edition}
 use Rattle.reg_tables_schema.specs.Schema.{schema_of}
-use Rattle.reg_tables_schema.specs.States.{GoesBack, IsReadyOf, IsOurs, IsUndone, Refuses, Rests}
+use Rattle.reg_tables_schema.specs.States.{GoesBack, IsReadyOf, IsOurs, Rests}
 
 module _ (e : Edition) (old new : State) where
   pub as_before : Shows old new old.now old.committed old.in_transaction → Rests e old → Rests e new

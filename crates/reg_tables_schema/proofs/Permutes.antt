@@ -1,15 +1,13 @@
 -- Rows that are added and replaced, as lists in any order.
-use Rattle.std.proofs.Common.{◌≡◌, ℤ, List, [], ◌∷◌, map, Bool, true, false, not, cond, Ordering, Less, Equal, Greater, refl, sym, ap, subst, ◌∙◌}
-use Rattle.std.specs.List.{filter}
-use Rattle.std.specs.List.Sorted.{IsPermutation}
-use Rattle.std.specs.Ordering.{is_eq, match_ordering}
+use Rattle.reg_tables_schema.proofs.Words.{◌≡◌, ℤ, List, [], ◌∷◌, map, Bool, true, false, not, cond, Less, Equal, Greater, refl, sym, ap}
+use Rattle.reg_tables_schema.proofs.Words.{subst, ◌∙◌, filter, IsPermutation, is_eq, IsPermutation-refl, IsPermutation-cons}
+use Rattle.reg_tables_schema.proofs.Words.{IsPermutation-trans, IsPermutation-middle, Int, Row, one_permutation, rowid, has_rowid, put_row}
+use Rattle.reg_tables_schema.proofs.Words.{without_rowid}
+use Rattle.std.proofs.Common.{Ordering}
+use Rattle.std.specs.Ordering.{match_ordering}
 use Rattle.std.proofs.lemmas.Bool.{or_parts}
-use Rattle.std.proofs.lemmas.List.Sorted.{IsPermutation-refl, IsPermutation-cons, IsPermutation-trans, IsPermutation-middle}
-use Rattle.sqlite.specs.declared.types.Value.TheVariants.{Int}
-use Rattle.sqlite.specs.Order.{Row, value_cmp}
-use Rattle.sqlite.proofs.Callers.{one_permutation}
+use Rattle.sqlite.specs.Order.{value_cmp}
 use Rattle.sqlite_rules.specs.Edit.{is_taken}
-use Rattle.sqlite_trees.specs.Tree.{rowid, has_rowid, put_row, without_rowid}
 use Rattle.sqlite_trees.proofs.ListLemmas.{IsPermutation-filter}
 
 abbrev placed : Ordering → Row → Row → List Row → List Row

@@ -1,19 +1,12 @@
 -- What SELECT with WHERE answers, of one table or of two that are joined, and what SQL's = tells.
-use Rattle.std.proofs.Common.{◌≡◌, ℕ, ℤ, pos, negsuc, List, [], ◌∷◌, ◌++◌, map, Bool, true, false, ◌&&◌, cond, None, Some, refl, sym, ap, subst, ◌∙◌}
-use Rattle.std.specs.List.{flat_map, filter}
-use Rattle.std.specs.List.Sorted.{IsPermutation}
-use Rattle.std.specs.Ordering.{is_eq}
+use Rattle.reg_tables_schema.proofs.Words.{◌≡◌, ℕ, ℤ, pos, negsuc, List, [], ◌∷◌, ◌++◌, map, Bool, true, false, ◌&&◌, cond, None, Some}
+use Rattle.reg_tables_schema.proofs.Words.{refl, sym, ap, subst, ◌∙◌, flat_map, filter, IsPermutation, is_eq, Value, Null, Int, Text, Row}
+use Rattle.reg_tables_schema.proofs.Words.{Term, lit, eval_all, is_true, Trees, Query, Join, IsSureAnswer, IsAnswer, matches, output}
+use Rattle.reg_tables_schema.proofs.Words.{Output, Compare, Eq, Binary}
 use Rattle.std.proofs.lemmas.List.Sorted.{IsPermutation-map}
-use Rattle.sqlite.specs.declared.types.Value.{Value}
-use Rattle.sqlite.specs.declared.types.Value.TheVariants.{Null, Int, Real, Text, Blob}
-use Rattle.sqlite.specs.Order.{Row, value_cmp}
-use Rattle.sqlite.specs.Term.{Term, lit, eval_all}
-use Rattle.sqlite.specs.Ops.{binary, is_true, from_truth}
-use Rattle.sqlite.specs.Tree.{Trees}
-use Rattle.sqlite.specs.Query.{Query, Join, IsSureAnswer, IsAnswer, matches, output, Output}
-use Rattle.sqlite_sql.specs.declared.ops.BinaryOp.TheVariants.{Compare}
-use Rattle.sqlite_sql.specs.declared.ops.CompareOp.TheVariants.{Eq}
-use Rattle.sqlite.specs.Collation.TheVariants.{Binary}
+use Rattle.sqlite.specs.declared.types.Value.TheVariants.{Real, Blob}
+use Rattle.sqlite.specs.Order.{value_cmp}
+use Rattle.sqlite.specs.Ops.{binary, from_truth}
 
 -- SELECT with WHERE
 abbrev pub plain : Join → List Term → List Term → Query

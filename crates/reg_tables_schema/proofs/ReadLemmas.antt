@@ -1,12 +1,8 @@
 -- What a query leaves of the state, whatever it answers.
-use Rattle.std.proofs.Common.{◌⊎◌, inl, inr, ℕ, List, subst}
-use Rattle.sqlite.specs.Order.{Row}
-use Rattle.sqlite.specs.declared.error.Error.{Error}
-use Rattle.sqlite.specs.Clock.{timed}
+use Rattle.reg_tables_schema.proofs.Words.{◌⊎◌, inl, inr, ℕ, List, subst, Row, Error, timed, State, IsUnchanged, Refuses}
 use Rattle.sqlite.specs.Given.{IsPlain}
 use Rattle.sqlite.specs.Listing.{understood}
-use Rattle.sqlite.specs.State.{State, Shown, ShowsRows, FailsToQuery, FailsToShow, IsTooLate, IsNotRun, IsUnchanged}
-use Rattle.reg_tables_schema.specs.States.{Refuses}
+use Rattle.sqlite.specs.State.{Shown, ShowsRows, FailsToQuery, FailsToShow, IsTooLate, IsNotRun}
 
 module _ (sql : List ℕ) (params : Row) (old new : State) (plain : IsPlain (understood old.now.schema sql)) where
   pub shown_unchanged : (rows : List Row) → Shown sql params old new rows → IsUnchanged old new

@@ -1,25 +1,17 @@
 -- Statements that read, once for all texts.
-use Rattle.std.proofs.Common.{◌≡◌, inl, List, [], ℕ, false, Result, Ok, Err, IfOk, arith, subst, sym}
-use Rattle.sqlite.specs.Order.{Row}
-use Rattle.sqlite.specs.Query.{Query, IsSureAnswer}
+use Rattle.reg_tables_schema.proofs.Words.{◌≡◌, inl, List, [], ℕ, false, Result, Ok, Err, IfOk, arith, subst, sym, Row, Query, IsSureAnswer}
+use Rattle.reg_tables_schema.proofs.Words.{Schema, State, HasCleanDisk, IsPlain, command_of, IsInsideWith, OnlyReads, IsReading}
 use Rattle.sqlite.specs.Program.{overlay}
 use Rattle.sqlite.specs.Command.TheVariants.{Select}
 use Rattle.sqlite.specs.Listing.{understood, reads_listing}
-use Rattle.sqlite.specs.Schema.{Schema}
-use Rattle.sqlite.specs.State.{State, HasCleanDisk, Shown}
-use Rattle.sqlite.proofs.Callers.{IsPlain, command_of, reads_as as answered_as}
-use Rattle.reg_tables_schema.specs.States.{IsInsideWith, OnlyReads}
-use Rattle.reg_tables_schema.specs.Statements.{IsReading}
+use Rattle.sqlite.specs.State.{Shown}
+use Rattle.sqlite.proofs.Callers.{reads_as as answered_as}
 
 -- what the schema makes of a text: this query, which only reads
 pub record IsSelection (schema : Schema) (text : List ℕ) (q : Query) (names : List (List ℕ)) : Type 0 where
   pub command : command_of (understood schema text) ≡ Select (record { lets = []; body = q }) names
   pub unlisted : reads_listing schema text ≡ false
   pub plain : IsPlain (understood schema text)
-
--- a text of the code is the text of a query: its equation comes last, so that another text is refused at once
-pub plain_text : {schema : Schema} {text : List ℕ} {q : Query} {names : List (List ℕ)} → IsSelection schema text q names → (said : List ℕ) → said ≡ text → IsPlain (understood schema said)
-plain_text {schema = schema} is said same = subst (λ t. IsPlain (understood schema t)) (sym same) is.plain
 
 -- the same, of the schema that is there
 pub selected_by : {schema : Schema} {text : List ℕ} {q : Query} {names : List (List ℕ)} → IsSelection schema text q names

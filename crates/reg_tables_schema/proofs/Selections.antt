@@ -1,22 +1,15 @@
 -- What a SELECT on our tables answers and leaves, from its text and its query alone.
-use Rattle.std.proofs.Common.{◌≡◌, inl, arith, ℕ, List, [], ◌∷◌, ◌++◌, map, Bool, true, false, cond, Ok, Err, Result, IfOk, IfErr, refl, sym, ap, subst, ◌∙◌}
+use Rattle.reg_tables_schema.proofs.Words.{◌≡◌, inl, arith, ℕ, List, [], ◌∷◌, ◌++◌, map, Bool, true, false, cond, Ok, Err, Result, IfOk}
+use Rattle.reg_tables_schema.proofs.Words.{refl, sym, ap, subst, ◌∙◌, flat_map, filter, IsPermutation, Row, Term, eval_all, Trees, inner}
+use Rattle.reg_tables_schema.proofs.Words.{end, matches, IsSureAnswer, State, Survives, Error, IsPlain, survives_weaker, IsInsideWith}
+use Rattle.reg_tables_schema.proofs.Words.{OnlyReads, Schema, HasCleanDisk}
+use Rattle.std.proofs.Common.{IfErr}
 use Rattle.std.specs.Prelude.{Vec}
 use Rattle.std.specs.declared.alloc.Global.{Global}
-use Rattle.std.specs.List.{flat_map, filter}
-use Rattle.std.specs.List.Sorted.{IsPermutation}
-use Rattle.sqlite.specs.Order.{Row}
-use Rattle.sqlite.specs.Term.{Term, eval_all}
-use Rattle.sqlite.specs.Tree.{Trees}
-use Rattle.sqlite.specs.Query.{inner, end, matches, IsSureAnswer}
 use Rattle.sqlite.specs.Listing.{understood}
-use Rattle.sqlite.specs.State.{State, Survives, CommitsShowing, Shown, FailsToQuery}
-use Rattle.sqlite.specs.declared.error.Error.{Error}
-use Rattle.sqlite.proofs.Callers.{IsPlain, never_commits}
-use Rattle.sqlite.proofs.StateLemmas.{survives_weaker}
-use Rattle.reg_tables_schema.specs.States.{IsInsideWith, OnlyReads}
+use Rattle.sqlite.specs.State.{CommitsShowing, Shown, FailsToQuery}
+use Rattle.sqlite.proofs.Callers.{never_commits}
 use Rattle.reg_tables_schema.specs.Statements.{IsReadable, MayRead}
-use Rattle.sqlite.specs.Schema.{Schema}
-use Rattle.sqlite.specs.State.{HasCleanDisk}
 use Rattle.reg_tables_schema.proofs.Queries.{plain, answers, maps_twice}
 use Rattle.reg_tables_schema.proofs.ReadLemmas.{shown_unchanged, query_refused}
 

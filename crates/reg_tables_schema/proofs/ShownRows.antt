@@ -1,12 +1,10 @@
 -- From the rows that a statement answered to the rows of the table.
-use Rattle.std.proofs.Common.{◌≡◌, List, [], ◌∷◌, map, length, Bool, true, false, cond, not, ◌||◌, ◌==◌, Option, Some, None, Ok, Err, Result, IfOk, refl, sym, ap, subst, ◌∙◌, arith}
-use Rattle.std.specs.List.{filter, list_any}
-use Rattle.std.specs.List.Sorted.{IsPermutation}
+use Rattle.reg_tables_schema.proofs.Words.{◌≡◌, List, [], ◌∷◌, map, length, Bool, true, false, cond, not, ◌||◌, Option, Some, None, refl}
+use Rattle.reg_tables_schema.proofs.Words.{sym, ap, subst, ◌∙◌, arith, filter, list_any, IsPermutation, length-map, length_permutation, Row}
+use Rattle.reg_tables_schema.proofs.Words.{one_permutation}
+use Rattle.std.proofs.Common.{◌==◌}
 use Rattle.std.proofs.lemmas.Bool.Decides.{nat_tests}
-use Rattle.std.proofs.lemmas.List.{length-map}
-use Rattle.std.proofs.lemmas.List.Sorted.{length_permutation, IsPermutation-sym}
-use Rattle.sqlite.specs.Order.{Row}
-use Rattle.sqlite.proofs.Callers.{one_permutation}
+use Rattle.std.proofs.lemmas.List.Sorted.{IsPermutation-sym}
 use Rattle.reg_tables_schema.specs.Shown.{shown_of}
 
 empty : {X : Type 0} (xs : List X) → length xs ≡ 0 → xs ≡ []
@@ -17,10 +15,6 @@ empty (x ∷ xs) h = absurd (omega arith)
 pub shown_exactly : {X : Type 0} (columns : X → Row) (xs : List Row) (o : Option X) → IsPermutation xs (shown_of columns o) → xs ≡ shown_of columns o
 shown_exactly columns xs None h = empty xs (sym (length_permutation xs [] h))
 shown_exactly columns xs (Some x) h = one_permutation (columns x) xs (IsPermutation-sym xs (columns x ∷ []) h)
-
-pub found_exactly : {X E : Type 0} (columns : X → Row) (xs rows : List Row) (r : Result (Option X) E) → IsPermutation xs rows → IfOk r (λ o. rows ≡ shown_of columns o) → IfOk r (λ o. xs ≡ shown_of columns o)
-found_exactly columns xs rows (Err e) h is = tt
-found_exactly columns xs rows (Ok o) h is = shown_exactly columns xs o (subst (IsPermutation xs) is h)
 
 one_more : {A : Type 0} (b : Bool) (x : A) (ys : List A) (c : Bool) → not (length ys == 0) ≡ c → not (length (cond b (x ∷ ys) ys) == 0) ≡ (b || c)
 one_more true x ys c h = grind (arith, nat_tests)

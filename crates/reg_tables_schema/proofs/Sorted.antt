@@ -1,20 +1,13 @@
 -- What SELECT with ORDER BY answers.
-use Rattle.std.proofs.Common.{◌≡◌, ℕ, ◌+◌, pos, negsuc, Bool, List, [], ◌∷◌, map, false, None, Less, Equal, Greater, get_or, refl, sym, ap, subst, ◌∙◌}
+use Rattle.reg_tables_schema.proofs.Words.{◌≡◌, ℕ, ◌+◌, pos, negsuc, Bool, List, [], ◌∷◌, map, false, None, Less, Equal, Greater, get_or}
+use Rattle.reg_tables_schema.proofs.Words.{refl, sym, ap, subst, ◌∙◌, length-map, flat_map, filter, IsPermutation, IsSorted, is_lt}
+use Rattle.reg_tables_schema.proofs.Words.{Ordering, IsSorted-from_map, Null, Int, Row, Trees, Term, Env, lit, eval_all, Query, Join, inner}
+use Rattle.reg_tables_schema.proofs.Words.{end, IsSureAnswer, IsAnswer, matches, output, output_cmp, Output, Key, IsInOrder}
 use Rattle.std.proofs.Math.ListN.{set, get_or-map}
 use Rattle.std.proofs.Math.Seq.{map-set}
-use Rattle.std.proofs.lemmas.List.{length-map}
-use Rattle.std.specs.List.{swap, flat_map, filter}
-use Rattle.std.specs.List.Sorted.{IsPermutation, IsSorted, SwapsInRange, apply_swaps}
-use Rattle.std.specs.Ordering.{is_lt, ordering_then}
-use Rattle.std.specs.declared.cmp.Ordering.{Ordering}
-use Rattle.sqlite_exec.proofs.PartitionLemmas.{IsSorted-from_map}
-use Rattle.sqlite.specs.declared.types.Value.TheVariants.{Null, Int}
-use Rattle.sqlite.specs.Order.{Row}
-use Rattle.sqlite.specs.Tree.{Trees}
-use Rattle.sqlite.specs.Term.{Term, Env, lit, eval_all}
-use Rattle.sqlite.specs.Query.{Query, Join, inner, end, IsSureAnswer, IsAnswer, matches, output, output_cmp, Output}
-use Rattle.sqlite_value.specs.declared.keys.Key.{Key}
-use Rattle.reg_tables_schema.specs.Rows.{IsInOrder}
+use Rattle.std.specs.List.{swap}
+use Rattle.std.specs.List.Sorted.{SwapsInRange, apply_swaps}
+use Rattle.std.specs.Ordering.{ordering_then}
 use Rattle.reg_tables_schema.proofs.Queries.{maps_twice}
 
 abbrev pub in_order : Join → List Term → List Term → List (Term × Key) → Query

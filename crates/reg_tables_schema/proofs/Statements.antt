@@ -1,30 +1,15 @@
 -- What a statement on one of our tables makes of its rows, from the table and the terms of the statement alone.
-use Rattle.std.proofs.Common.{◌≡◌, ℕ, ℤ, pos, List, [], ◌∷◌, slice_get, Bool, true, false, not, ◌&&◌, ◌||◌, cond, map, Some, Ok, Err, Result, OnOk, refl, sym, ap, subst, ◌∙◌}
-use Rattle.std.specs.List.{filter, list_any}
-use Rattle.std.specs.List.Sorted.{IsPermutation}
+use Rattle.reg_tables_schema.proofs.Words.{◌≡◌, ℕ, ℤ, pos, List, [], ◌∷◌, slice_get, Bool, true, false, not, ◌&&◌, ◌||◌, cond, map, Some}
+use Rattle.reg_tables_schema.proofs.Words.{Ok, Err, Result, OnOk, refl, sym, ap, subst, ◌∙◌, filter, list_any, IsPermutation, Value, Null}
+use Rattle.reg_tables_schema.proofs.Words.{Int, Row, Term, Table, cast, Values, Answers, Insert, Update, Delete, State, Shows, Executes}
+use Rattle.reg_tables_schema.proofs.Words.{Error, IsPlain, command_of, statement_of, runs_as, next_rowid, ids_of, rowid, has_rowid, put_row}
+use Rattle.reg_tables_schema.proofs.Words.{without_rowid, Program, ours, our_tables, IsInside, AddsColumns}
 use Rattle.std.proofs.lemmas.List.Sorted.{list_any-IsPermutation}
-use Rattle.sqlite.specs.declared.types.Value.{Value}
-use Rattle.sqlite.specs.declared.types.Value.TheVariants.{Null, Int}
-use Rattle.sqlite.specs.Order.{Row}
-use Rattle.sqlite.specs.Term.{Term}
-use Rattle.sqlite.specs.Table.{Table}
 use Rattle.sqlite.specs.Kind.TheVariants.{Integer}
 use Rattle.sqlite.specs.Ops.{unary}
-use Rattle.sqlite.specs.Cast.{cast}
-use Rattle.sqlite.specs.Source.TheVariants.{Values}
-use Rattle.sqlite.specs.Effect.{Answers}
-use Rattle.sqlite.specs.Command.TheVariants.{Insert, Update, Delete}
 use Rattle.sqlite.specs.Listing.{understood}
-use Rattle.sqlite.specs.State.{State, Shows, Executes}
-use Rattle.sqlite.specs.declared.error.Error.{Error}
-use Rattle.sqlite.proofs.Callers.{IsPlain, command_of, statement_of, runs_as}
-use Rattle.sqlite_rules.specs.Edit.{id_in, next_rowid, put_all, without_all, are_fresh, edited}
-use Rattle.sqlite_rules.specs.Calls.{ids_of}
-use Rattle.sqlite_trees.specs.Tree.{rowid, has_rowid, put_row, without_rowid}
-use Rattle.sqlite_schema.specs.declared.program.Program.{Program}
-use Rattle.reg_tables_schema.specs.Schema.{ours, our_tables}
-use Rattle.reg_tables_schema.specs.States.{IsInside}
-use Rattle.reg_tables_schema.specs.Changes.{KeepsOthers, Becomes, Touches, Adds, AddsColumns, Replaces, is_at_one_of, Removes}
+use Rattle.sqlite_rules.specs.Edit.{id_in, put_all, without_all, are_fresh, edited}
+use Rattle.reg_tables_schema.specs.Changes.{KeepsOthers, Becomes, Touches, Adds, Replaces, is_at_one_of, Removes}
 use Rattle.reg_tables_schema.proofs.Edits.{step_of, inserted, replacing, updated, deleted}
 use Rattle.reg_tables_schema.proofs.Queries.{same_filter}
 

@@ -1,20 +1,12 @@
 -- Which rows of one table match: all, or those that have the value of a parameter.
-use Rattle.std.proofs.Common.{◌≡◌, ℕ, pos, List, [], ◌∷◌, map, Bool, true, ◌&&◌, refl, ap, ◌∙◌}
-use Rattle.std.specs.List.{filter}
-use Rattle.sqlite.specs.declared.types.Value.{Value}
-use Rattle.sqlite.specs.declared.types.Value.TheVariants.{Int, Text, Blob}
-use Rattle.sqlite.specs.Order.{Row, column}
-use Rattle.sqlite.specs.Term.{Term, Env, col, op2}
-use Rattle.sqlite.specs.Ops.{binary, is_true}
-use Rattle.sqlite.specs.Tree.{Trees}
-use Rattle.sqlite.specs.Query.{inner, end, matches}
-use Rattle.sqlite_sql.specs.declared.ops.BinaryOp.TheVariants.{Compare}
-use Rattle.sqlite_sql.specs.declared.ops.CompareOp.TheVariants.{Eq}
-use Rattle.sqlite.specs.Collation.TheVariants.{Binary}
-use Rattle.reg_tables_schema.proofs.Queries.{same_filter, and_true, equals_int, equals_text, equals_blob}
+use Rattle.reg_tables_schema.proofs.Words.{◌≡◌, ℕ, pos, List, [], ◌∷◌, map, Bool, true, ◌&&◌, refl, ap, ◌∙◌, filter, Value, Int, Text, Row}
+use Rattle.reg_tables_schema.proofs.Words.{column, Term, Env, col, is_true, Trees, inner, end, matches, Compare, Eq, Binary}
+use Rattle.sqlite.specs.Term.{op2}
+use Rattle.sqlite.specs.Ops.{binary}
+use Rattle.reg_tables_schema.proofs.Queries.{same_filter, and_true, equals_int, equals_text}
 use Rattle.reg_tables_schema.proofs.Selections.{matched}
 use Rattle.reg_tables_schema.proofs.Sorted.{singles}
-use Rattle.reg_tables_schema.specs.Tests.{is_number, is_text, is_blob}
+use Rattle.reg_tables_schema.specs.Tests.{is_number, is_text}
 
 -- WHERE column = ?1, the column at this place
 abbrev pub equals_first : ℕ → List Term
@@ -36,10 +28,6 @@ matches_number db tree place n = matches_value db tree place (Int (pos n)) (is_n
 pub matches_text : (db : Trees) (tree place : ℕ) (t : List ℕ)
     → matches db (equals_first place) (inner tree end) ((Text t ∷ []) ∷ []) ≡ map (λ r. (Text t ∷ []) ∷ r ∷ []) (filter (is_text place t) (db tree))
 matches_text db tree place t = matches_value db tree place (Text t) (is_text place t) (λ r. equals_text (column r place) t)
-
-pub matches_blob : (db : Trees) (tree place : ℕ) (t : List ℕ)
-    → matches db (equals_first place) (inner tree end) ((Blob t ∷ []) ∷ []) ≡ map (λ r. (Blob t ∷ []) ∷ r ∷ []) (filter (is_blob place t) (db tree))
-matches_blob db tree place t = matches_value db tree place (Blob t) (is_blob place t) (λ r. equals_blob (column r place) t)
 
 pub matches_all : (db : Trees) (params : Row) (tree : ℕ) → matches db [] (inner tree end) (params ∷ []) ≡ map (λ r. params ∷ r ∷ []) (db tree)
 matches_all db params tree = singles (beside params) (db tree)

@@ -1,16 +1,10 @@
 -- What a SELECT of all the rows of one table answers.
-use Rattle.std.proofs.Common.{◌≡◌, ℕ, pos, List, [], ◌∷◌, map, length, true, sym, ap, subst, ◌∙◌}
-use Rattle.std.specs.List.Sorted.{IsPermutation}
-use Rattle.std.proofs.lemmas.List.{length-map}
-use Rattle.sqlite.specs.Collation.TheVariants.{Binary}
+use Rattle.reg_tables_schema.proofs.Words.{◌≡◌, ℕ, pos, List, [], ◌∷◌, map, length, true, sym, ap, subst, ◌∙◌, IsPermutation, length-map}
+use Rattle.reg_tables_schema.proofs.Words.{Binary, Row, column, Trees, Term, col, eval_all, inner, end, IsSureAnswer, Value, Int, IsInOrder}
+use Rattle.reg_tables_schema.proofs.Words.{capped}
 use Rattle.sqlite_value.specs.Keys.{ascending}
-use Rattle.sqlite.specs.Order.{Row, column, value_cmp}
-use Rattle.sqlite.specs.Tree.{Trees}
-use Rattle.sqlite.specs.Term.{Term, col, eval_all}
-use Rattle.sqlite.specs.Query.{inner, end, IsSureAnswer}
-use Rattle.sqlite.specs.declared.types.Value.{Value}
-use Rattle.sqlite.specs.declared.types.Value.TheVariants.{Int}
-use Rattle.reg_tables_schema.specs.Rows.{IsInOrder, by_column, capped, number_columns}
+use Rattle.sqlite.specs.Order.{value_cmp}
+use Rattle.reg_tables_schema.specs.Rows.{by_column, number_columns}
 use Rattle.reg_tables_schema.proofs.Counts.{counted, counts}
 use Rattle.reg_tables_schema.proofs.Queries.{plain}
 use Rattle.reg_tables_schema.proofs.Selections.{of_table}

@@ -1,27 +1,19 @@
 -- What a write in a transaction leaves, where it is refused and over a stop; and what BEGIN, COMMIT and ROLLBACK do.
-use Rattle.std.proofs.Common.{◌≡◌, ◌⊎◌, inl, inr, ℕ, List, [], codes, Bool, true, false, Ok, Err, Result, OnOk, OnErr, refl, sym, ap, subst, ◌∙◌}
+use Rattle.reg_tables_schema.proofs.Words.{◌≡◌, ◌⊎◌, inl, inr, ℕ, List, [], Bool, true, false, Ok, Err, Result, OnOk, OnErr, refl, sym, ap}
+use Rattle.reg_tables_schema.proofs.Words.{subst, ◌∙◌, Row, Trees, Schema, Error, timed, State, HasCleanDisk, Survives, Shows, Executes}
+use Rattle.reg_tables_schema.proofs.Words.{IsUnchanged, IsTrue, None, length, ◌≤◌, arith, subst₂, Compiled, CompileError, survives_weaker}
+use Rattle.reg_tables_schema.proofs.Words.{IsPlain, command_of, runs_as, Refuses, IsUndone, writes_rows}
 use Rattle.std.proofs.lemmas.Bool.{cases_Bool}
-use Rattle.sqlite.specs.Order.{Row}
-use Rattle.sqlite.specs.Tree.{Trees}
-use Rattle.sqlite.specs.Schema.{Schema}
 use Rattle.sqlite.specs.Command.{Command}
 use Rattle.sqlite.specs.Command.TheVariants.{Begin, Commit, Rollback, Release, RollbackTo}
-use Rattle.sqlite.specs.declared.error.Error.{Error}
-use Rattle.sqlite.specs.Clock.{timed}
 use Rattle.sqlite.specs.Listing.{understood}
-use Rattle.sqlite.specs.State.{State, is_pragma, HasCleanDisk, Survives, Shows, Executes, ExecutesIn, CommitsBy, MayCommit, RunsCommand, shows_rows, text_of, IsNoStatement, IsNotRun, IsUnchanged, IsRolledBack}
+use Rattle.sqlite.specs.State.{is_pragma, ExecutesIn, CommitsBy, MayCommit, RunsCommand, shows_rows, text_of, IsNoStatement, IsNotRun, IsRolledBack}
 use Rattle.sqlite.specs.Calls.{IsWrite}
-use Rattle.std.specs.Prelude.{IsTrue, IsSome, ◌||◌, is_some, Option}
+use Rattle.std.specs.Prelude.{IsSome, ◌||◌, is_some, Option}
 use Rattle.sqlite_schema.specs.declared.command.Returning.{Returning}
 use Rattle.sqlite.specs.Effect.{is_query}
-use Rattle.std.proofs.Common.{None, length, ◌≤◌, arith, subst₂}
-use Rattle.sqlite_resolve.specs.declared.compiled.Compiled.{Compiled}
-use Rattle.sqlite_resolve.specs.declared.error.CompileError.{CompileError}
-use Rattle.sqlite.proofs.StateLemmas.{survives_weaker}
-use Rattle.sqlite.proofs.Callers.{IsPlain, command_of, runs_as}
 use Rattle.sqlite_tied.specs.Compute.{everything}
-use Rattle.reg_tables_schema.specs.States.{Refuses, IsUndone}
-use Rattle.reg_tables_schema.specs.Statements.{writes_rows}
+use Rattle.reg_tables_schema.specs.declared.transaction.TheConstants.{BEGIN, COMMIT, ROLLBACK}
 
 not_run : (sql : List ℕ) (params : Row) (old new : State) (e : Error) → IsNotRun old new sql params e → Refuses old new
 unfolding IsNotRun
@@ -62,37 +54,37 @@ module _ (sql : List ℕ) (params : Row) (old : State) (schema : Schema) (comman
   pub survives_inside : (new : State) → writes_rows command ≡ true → (HasCleanDisk old → (old.now.schema ≡ schema) × (old.in_transaction ≡ true)) → Survives old new (CommitsBy sql params old) → Survives old new (λ _. ⊥)
   survives_inside new writes ready s = survives_weaker old new _ _ (λ clean db. let it = ready (omega (arith, s.clean)) in commits_nothing it.0 writes it.1 db) s
 
-begin_is : (schema : Schema) → command_of (understood schema (codes "BEGIN")) ≡ Begin
+begin_is : (schema : Schema) → command_of (understood schema BEGIN.now) ≡ Begin
 unfolding understood everything
 begin_is schema = refl
 
-begin_plain : (schema : Schema) → IsPlain (understood schema (codes "BEGIN"))
+begin_plain : (schema : Schema) → IsPlain (understood schema BEGIN.now)
 unfolding understood everything
 begin_plain schema = (refl, refl)
 
-commit_is : (schema : Schema) → command_of (understood schema (codes "COMMIT")) ≡ Commit
+commit_is : (schema : Schema) → command_of (understood schema COMMIT.now) ≡ Commit
 unfolding understood everything
 commit_is schema = refl
 
-commit_plain : (schema : Schema) → IsPlain (understood schema (codes "COMMIT"))
+commit_plain : (schema : Schema) → IsPlain (understood schema COMMIT.now)
 unfolding understood everything
 commit_plain schema = (refl, refl)
 
-rollback_is : (schema : Schema) → command_of (understood schema (codes "ROLLBACK")) ≡ Rollback
+rollback_is : (schema : Schema) → command_of (understood schema ROLLBACK.now) ≡ Rollback
 unfolding understood everything
 rollback_is schema = refl
 
-rollback_plain : (schema : Schema) → IsPlain (understood schema (codes "ROLLBACK"))
+rollback_plain : (schema : Schema) → IsPlain (understood schema ROLLBACK.now)
 unfolding understood everything
 rollback_plain schema = (refl, refl)
 
-pub begins : (old new : State) (r : Result ℕ Error) → Executes (codes "BEGIN") [] old new r → OnOk r (Shows old new old.now old.committed true)
+pub begins : (old new : State) (r : Result ℕ Error) → Executes BEGIN.now [] old new r → OnOk r (Shows old new old.now old.committed true)
 begins old new (Err e) h = tt
-begins old new (Ok n) h = (runs_as (codes "BEGIN") [] old new old.now.schema refl Begin (begin_is old.now.schema) (begin_plain old.now.schema) n h).1
+begins old new (Ok n) h = (runs_as BEGIN.now [] old new old.now.schema refl Begin (begin_is old.now.schema) (begin_plain old.now.schema) n h).1
 
-pub finishes : (old new : State) (r : Result ℕ Error) → Executes (codes "COMMIT") [] old new r → OnOk r (Shows old new old.now old.now false)
+pub finishes : (old new : State) (r : Result ℕ Error) → Executes COMMIT.now [] old new r → OnOk r (Shows old new old.now old.now false)
 finishes old new (Err e) h = tt
-finishes old new (Ok n) h = (runs_as (codes "COMMIT") [] old new old.now.schema refl Commit (commit_is old.now.schema) (commit_plain old.now.schema) n h).1
+finishes old new (Ok n) h = (runs_as COMMIT.now [] old new old.now.schema refl Commit (commit_is old.now.schema) (commit_plain old.now.schema) n h).1
 
 module _ (text : List ℕ) (old : State) (db : Trees) (command : Command) (is : command_of (understood old.now.schema text) ≡ command) (plain : IsPlain (understood old.now.schema text)) where
   pub may_commit : CommitsBy text [] old db → (written : List ℕ) × (params : Row) × MayCommit old None command written params db
@@ -102,20 +94,20 @@ module _ (text : List ℕ) (old : State) (db : Trees) (command : Command) (is : 
       let none = (subst IsPlain h.1.is plain).0 in
       (text_of text h.0, timed [] h.0.formats h.1.now, subst₂ (λ r k. MayCommit old r k (text_of text h.0) (timed [] h.0.formats h.1.now) db) none known h.2)
 
-pub begin_commits : (old : State) (db : Trees) → CommitsBy (codes "BEGIN") [] old db → ⊥
-begin_commits old db h = elim (may_commit (codes "BEGIN") old db Begin (begin_is old.now.schema) (begin_plain old.now.schema) h).2 [
+pub begin_commits : (old : State) (db : Trees) → CommitsBy BEGIN.now [] old db → ⊥
+begin_commits old db h = elim (may_commit BEGIN.now old db Begin (begin_is old.now.schema) (begin_plain old.now.schema) h).2 [
   | inl commits ↦ elim commits.0 [ inl e ↦ absurd cc | inr e ↦ absurd (let it = e.2 in cc) ]
   | inr writes ↦ absurd (let e = writes.3 in cc)
 ]
 
-pub rollback_commits : (old : State) (db : Trees) → CommitsBy (codes "ROLLBACK") [] old db → ⊥
-rollback_commits old db h = elim (may_commit (codes "ROLLBACK") old db Rollback (rollback_is old.now.schema) (rollback_plain old.now.schema) h).2 [
+pub rollback_commits : (old : State) (db : Trees) → CommitsBy ROLLBACK.now [] old db → ⊥
+rollback_commits old db h = elim (may_commit ROLLBACK.now old db Rollback (rollback_is old.now.schema) (rollback_plain old.now.schema) h).2 [
   | inl commits ↦ elim commits.0 [ inl e ↦ absurd cc | inr e ↦ absurd (let it = e.2 in cc) ]
   | inr writes ↦ absurd (let e = writes.3 in cc)
 ]
 
-pub commit_commits : (old : State) (db : Trees) → CommitsBy (codes "COMMIT") [] old db → db ≡ old.now.trees
-commit_commits old db h = elim (may_commit (codes "COMMIT") old db Commit (commit_is old.now.schema) (commit_plain old.now.schema) h).2 [
+pub commit_commits : (old : State) (db : Trees) → CommitsBy COMMIT.now [] old db → db ≡ old.now.trees
+commit_commits old db h = elim (may_commit COMMIT.now old db Commit (commit_is old.now.schema) (commit_plain old.now.schema) h).2 [
   | inl commits ↦ commits.1
   | inr writes ↦ absurd (let e = writes.3 in cc)
 ]
@@ -125,11 +117,11 @@ abbrev IsWhole : List ℕ → Result Compiled CompileError → Type 0
 IsWhole sql (Ok c) = (length sql ≤ c.tail) × (c.names ≡ []) × (c.formats ≡ [])
 IsWhole sql (Err e) = ⊥
 
-rollback_whole : (schema : Schema) → IsWhole (codes "ROLLBACK") (understood schema (codes "ROLLBACK"))
+rollback_whole : (schema : Schema) → IsWhole ROLLBACK.now (understood schema ROLLBACK.now)
 unfolding understood everything
 rollback_whole schema = (omega arith, refl, refl)
 
-commit_whole : (schema : Schema) → IsWhole (codes "COMMIT") (understood schema (codes "COMMIT"))
+commit_whole : (schema : Schema) → IsWhole COMMIT.now (understood schema COMMIT.now)
 unfolding understood everything
 commit_whole schema = (omega arith, refl, refl)
 
@@ -208,11 +200,11 @@ at_rest : (old new : State) → IsSettled new → IsEnded old new → IsUndone o
 at_rest old new settled h =
     record { was_open = h.was_open; undone = λ up. let same = (h.ended up).0 in (settled h.autocommit up ∙ same, same); autocommit = h.autocommit }
 
-pub undoes : (old new : State) (r : Result ℕ Error) → IsSettled new → Executes (codes "ROLLBACK") [] old new r → IsUndone old new
+pub undoes : (old new : State) (r : Result ℕ Error) → IsSettled new → Executes ROLLBACK.now [] old new r → IsUndone old new
 undoes old new (Ok n) settled h =
-    at_rest old new settled (undone_from old new (runs_as (codes "ROLLBACK") [] old new old.now.schema refl Rollback (rollback_is old.now.schema) (rollback_plain old.now.schema) n h).1)
-undoes old new (Err e) settled h = at_rest old new settled (ended (codes "ROLLBACK") old new (rollback_whole old.now.schema) (rollback_plain old.now.schema) (ap ends (rollback_is old.now.schema)) e h)
+    at_rest old new settled (undone_from old new (runs_as ROLLBACK.now [] old new old.now.schema refl Rollback (rollback_is old.now.schema) (rollback_plain old.now.schema) n h).1)
+undoes old new (Err e) settled h = at_rest old new settled (ended ROLLBACK.now old new (rollback_whole old.now.schema) (rollback_plain old.now.schema) (ap ends (rollback_is old.now.schema)) e h)
 
-pub ends_undone : (old new : State) (r : Result ℕ Error) → IsSettled new → Executes (codes "COMMIT") [] old new r → OnErr r (IsUndone old new)
+pub ends_undone : (old new : State) (r : Result ℕ Error) → IsSettled new → Executes COMMIT.now [] old new r → OnErr r (IsUndone old new)
 ends_undone old new (Ok n) settled h = tt
-ends_undone old new (Err e) settled h = at_rest old new settled (ended (codes "COMMIT") old new (commit_whole old.now.schema) (commit_plain old.now.schema) (ap ends (commit_is old.now.schema)) e h)
+ends_undone old new (Err e) settled h = at_rest old new settled (ended COMMIT.now old new (commit_whole old.now.schema) (commit_plain old.now.schema) (ap ends (commit_is old.now.schema)) e h)

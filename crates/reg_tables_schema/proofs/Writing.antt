@@ -1,17 +1,12 @@
 -- Statements that write, once for all texts.
+use Rattle.reg_tables_schema.proofs.Words.{◌≡◌, List, ℕ, true, Result, Ok, Err, OnOk, OnErr, inl, inr, refl, arith, ◌∙◌, Row, State}
+use Rattle.reg_tables_schema.proofs.Words.{HasCleanDisk, Executes, IsUnchanged, Survives, Error, command_of, survives_then, Compiled}
+use Rattle.reg_tables_schema.proofs.Words.{CompileError, ours, IsInside, IsReady, OnlyReads, Refuses, IsReading, writes_rows}
 use Rattle.std.specs.Prelude.{IsErr}
-use Rattle.std.proofs.Common.{◌≡◌, List, ℕ, true, Result, Ok, Err, OnOk, OnErr, inl, inr, refl, arith, ◌∙◌}
 use Rattle.sqlite.specs.Listing.{understood}
-use Rattle.sqlite.specs.Order.{Row}
-use Rattle.sqlite.specs.State.{State, HasCleanDisk, CommitsBy, Executes, IsUnchanged, Survives}
-use Rattle.sqlite.specs.declared.error.Error.{Error}
-use Rattle.sqlite.proofs.Callers.{command_of, unchanged_then}
-use Rattle.sqlite.proofs.StateLemmas.{survives_then}
-use Rattle.sqlite_resolve.specs.declared.compiled.Compiled.{Compiled}
-use Rattle.sqlite_resolve.specs.declared.error.CompileError.{CompileError}
-use Rattle.reg_tables_schema.specs.Schema.{ours}
-use Rattle.reg_tables_schema.specs.States.{IsInside, IsReady, OnlyReads, Refuses}
-use Rattle.reg_tables_schema.specs.Statements.{IsReading, IsRowWrite, IsWriting, writes_rows}
+use Rattle.sqlite.specs.State.{CommitsBy}
+use Rattle.sqlite.proofs.Callers.{unchanged_then}
+use Rattle.reg_tables_schema.specs.Statements.{IsRowWrite, IsWriting}
 use Rattle.reg_tables_schema.proofs.WriteLemmas.{refused, survives_inside}
 
 turned : {T E : Type 0} (r : Result T E) {A B : Type 0} → (A → B) → OnOk r A → OnOk r B

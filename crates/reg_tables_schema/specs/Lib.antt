@@ -8,4 +8,3 @@ pub mod Statements
 pub mod States
 pub mod Steps
 pub mod Tests
-pub mod Texts

@@ -22,4 +22,4 @@ mod transaction;
 pub use edition::Edition;
 pub use make::{MakeFault, add_tables, create_tables, make_tables};
 pub use ours::edition_of;
-pub use transaction::{begin, finish, undo};
+pub use transaction::{ROLLBACK, begin, finish, undo};

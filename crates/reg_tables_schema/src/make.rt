@@ -104,6 +104,8 @@ pub fn create_tables<S: Alter>(conn: &mut Connection<S>) -> Result<(), Error>
     add_tables(conn)
 }
 
+const INSERT_ABOUT_TEXT: &str = "INSERT INTO about (schema, base) VALUES (2, ?1)";
+
 fn insert_about<S: Alter>(conn: &mut Connection<S>, base: &str) -> Result<usize, Error>
     requires { IsReady (state S.Store conn.old) }
     ensures added { HasCleanDisk (state S.Store conn.new) → OnOk result
@@ -113,10 +115,7 @@ fn insert_about<S: Alter>(conn: &mut Connection<S>, base: &str) -> Result<usize,
         (Refuses (state S.Store conn.old) (state S.Store conn.new)) }
     ensures survives { Survives (state S.Store conn.old) (state S.Store conn.new) (λ _. ⊥) }
 {
-    conn.execute(
-        "INSERT INTO about (schema, base) VALUES (2, ?1)",
-        params![base],
-    )
+    conn.execute(INSERT_ABOUT_TEXT, params![base])
 }
 
 #[tactic(auto, using(crate::proofs::MakeLemmas::is_made))]

@@ -1,4 +1,7 @@
-//! The texts that make the tables, and one function for each.
+//! The texts that make the tables, in the order in which they are made, and one function for each.
+//!
+//! Ids of accounts, tokens and crates are u32 and count from 1, marks are 0 or 1, and no foreign
+//! key acts: what a row refers to is never taken away under it.
 
 ghost use Rattle.sqlite.specs.State.{HasCleanDisk};
 ghost use Rattle.sqlite.specs.Held.{state};
@@ -8,6 +11,7 @@ ghost use Rattle.reg_tables_schema.specs.Statements.{Writes};
 
 use sqlite::{Alter, Connection, Error};
 
+/// One row: which schema it is, and the base of the registry.
 pub(crate) const ABOUT: &str =
     "CREATE TABLE about (schema INTEGER NOT NULL, base TEXT NOT NULL) STRICT";
 
@@ -15,6 +19,7 @@ pub(crate) const ACCOUNTS: &str =
     "CREATE TABLE accounts (id INTEGER PRIMARY KEY CHECK (id BETWEEN 1 AND 4294967295), login \
     TEXT NOT NULL UNIQUE, name TEXT, enabled INTEGER NOT NULL CHECK (enabled IN (0, 1))) STRICT";
 
+/// The digest of a token's text, whose account it is, and what it may do.
 pub(crate) const TOKENS: &str =
     "CREATE TABLE tokens (id INTEGER PRIMARY KEY CHECK (id BETWEEN 1 AND 4294967295), digest \
     BLOB NOT NULL UNIQUE CHECK (length(digest) = 32), account INTEGER NOT NULL REFERENCES \
@@ -23,6 +28,8 @@ pub(crate) const TOKENS: &str =
     1)), yank INTEGER NOT NULL CHECK (yank IN (0, 1)), change_owners INTEGER NOT NULL CHECK \
     (change_owners IN (0, 1))) STRICT";
 
+/// The patterns of a token at places 0, 1, .., each with the range of canonical names that it
+/// covers.
 pub(crate) const SCOPES: &str =
     "CREATE TABLE scopes (token INTEGER NOT NULL REFERENCES tokens (id), place INTEGER NOT NULL \
     CHECK (place >= 0), pattern TEXT NOT NULL, low TEXT NOT NULL, high TEXT NOT NULL, PRIMARY \
@@ -36,6 +43,7 @@ pub(crate) const OWNERS: &str =
     "CREATE TABLE owners (crate INTEGER NOT NULL REFERENCES crates (id), account INTEGER NOT \
     NULL REFERENCES accounts (id), PRIMARY KEY (crate, account)) STRICT";
 
+/// In the order of publication; a release is the version without build metadata.
 pub(crate) const VERSIONS: &str =
     "CREATE TABLE versions (id INTEGER PRIMARY KEY CHECK (id >= 1), crate INTEGER NOT NULL \
     REFERENCES crates (id), vers TEXT NOT NULL, release TEXT NOT NULL, digest BLOB NOT NULL, \
@@ -46,16 +54,20 @@ pub(crate) const ARCHIVES: &str =
     "CREATE TABLE archives (version INTEGER PRIMARY KEY REFERENCES versions (id), bytes BLOB NOT \
     NULL) STRICT";
 
+/// The names that an administrator keeps back, beside those that are always reserved.
 pub(crate) const RESERVED: &str = "CREATE TABLE reserved (canon TEXT NOT NULL PRIMARY KEY) STRICT";
 
+/// Of each crate the greatest version that is not yanked, and the length of its index file.
 pub(crate) const SUMMARIES: &str =
     "CREATE TABLE summaries (crate INTEGER PRIMARY KEY REFERENCES crates (id), highest INTEGER \
     NOT NULL REFERENCES versions (id), index_length INTEGER NOT NULL CHECK (index_length >= 0)) \
     STRICT";
 
+/// The crates that are not for everyone.
 pub(crate) const RESTRICTED: &str =
     "CREATE TABLE restricted (crate INTEGER PRIMARY KEY REFERENCES crates (id)) STRICT";
 
+/// Who may read a restricted crate.
 pub(crate) const READERS: &str =
     "CREATE TABLE readers (crate INTEGER NOT NULL REFERENCES crates (id), account INTEGER NOT \
     NULL REFERENCES accounts (id), PRIMARY KEY (crate, account)) STRICT";

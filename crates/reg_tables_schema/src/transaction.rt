@@ -9,6 +9,8 @@ use crate::edition::Edition;
 use crate::laws::rest_law;
 use sqlite::{Alter, Connection, Error};
 
+const BEGIN: &str = "BEGIN";
+
 /// Begins a transaction. This is refused inside another.
 pub fn begin<S: Alter>(conn: &mut Connection<S>) -> Result<usize, Error>
     ensures begun { HasCleanDisk (state S.Store conn.new) → OnOk result
@@ -24,8 +26,10 @@ pub fn begin<S: Alter>(conn: &mut Connection<S>) -> Result<usize, Error>
         (IsOurs e (state S.Store conn.new)) }
     ensures survives { Survives (state S.Store conn.old) (state S.Store conn.new) (λ _. ⊥) }
 {
-    conn.execute("BEGIN", &[])
+    conn.execute(BEGIN, &[])
 }
+
+const COMMIT: &str = "COMMIT";
 
 /// Commits the transaction. If that fails, the transaction is undone.
 pub fn finish<S: Alter>(conn: &mut Connection<S>) -> Result<usize, Error>
@@ -43,10 +47,13 @@ pub fn finish<S: Alter>(conn: &mut Connection<S>) -> Result<usize, Error>
     ensures survives { Survives (state S.Store conn.old) (state S.Store conn.new)
         (λ db. db ≡ (state S.Store conn.old).now.trees) }
 {
-    let done = conn.execute("COMMIT", &[]);
+    let done = conn.execute(COMMIT, &[]);
     rest_law(conn);
     done
 }
+
+/// Refused by name where no transaction is open.
+pub const ROLLBACK: &str = "ROLLBACK";
 
 /// Undoes the transaction, if there is one.
 pub fn undo<S: Alter>(conn: &mut Connection<S>)
@@ -56,6 +63,6 @@ pub fn undo<S: Alter>(conn: &mut Connection<S>)
         (state S.Store conn.new) }
     ensures survives { Survives (state S.Store conn.old) (state S.Store conn.new) (λ _. ⊥) }
 {
-    let _ = conn.execute("ROLLBACK", &[]);
+    let _ = conn.execute(ROLLBACK, &[]);
     rest_law(conn);
 }

@@ -1,40 +1,28 @@
 -- What the queries on the one row of `about` answer.
-use Rattle.std.proofs.Common.{◌≡◌, ℕ, ℤ, List, [], ◌∷◌, codes, map, Option, Some, None, refl, subst}
-use Rattle.std.specs.List.Sorted.{IsPermutation}
-use Rattle.std.proofs.lemmas.List.Sorted.{IsPermutation-sym}
-use Rattle.sqlite.specs.declared.types.Value.TheVariants.{Int}
-use Rattle.sqlite.specs.Order.{Row}
-use Rattle.sqlite.specs.Term.{col}
-use Rattle.sqlite.specs.Query.{inner, end}
-use Rattle.sqlite.specs.Program.{overlay}
+use Rattle.reg_tables_sql.proofs.Words.{◌≡◌, ℕ, ℤ, List, [], ◌∷◌, codes, map, Option, Some, None, refl, subst, IsPermutation}
+use Rattle.reg_tables_sql.proofs.Words.{IsPermutation-sym, Int, Row, col, inner, end, overlay, State, one_permutation, First, Second, ours}
+use Rattle.reg_tables_sql.proofs.Words.{IsInside, about_columns, shows, IsSelection, selected, plain, IsAboutOf}
 use Rattle.sqlite.specs.Listing.{understood}
-use Rattle.sqlite.specs.State.{State, Shown}
-use Rattle.sqlite.proofs.Callers.{one_permutation}
+use Rattle.sqlite.specs.State.{Shown}
 use Rattle.sqlite_tied.specs.Compute.{everything}
 use Rattle.reg_tables_schema.specs.declared.edition.Edition.{Edition}
-use Rattle.reg_tables_schema.specs.declared.edition.Edition.TheVariants.{First, Second}
-use Rattle.reg_tables_schema.specs.Schema.{ours, old_schema, schema_of}
-use Rattle.reg_tables_schema.specs.States.{IsInside, IsInsideOf, about_columns}
-use Rattle.reg_tables_schema.specs.Tests.{shows}
-use Rattle.reg_tables_schema.proofs.Reading.{IsSelection, selected}
-use Rattle.reg_tables_schema.proofs.Queries.{plain}
+use Rattle.reg_tables_schema.specs.Schema.{old_schema, schema_of}
+use Rattle.reg_tables_schema.specs.States.{IsInsideOf}
 use Rattle.reg_tables_schema.proofs.WholeTables.{all_rows}
+use Rattle.reg_tables_sql.specs.declared.about.TheConstants.{READ_TEXT, THE_ROWID_TEXT}
 use Rattle.reg_tables_sql.specs.declared.about.About.{About}
-use Rattle.reg_tables_sql.specs.Abouts.{IsAbout, IsAboutOf}
+use Rattle.reg_tables_sql.specs.Abouts.{IsAbout}
 
-abbrev pub about_text : List ℕ
-about_text = codes "SELECT schema, base FROM about"
-
-first_is : IsSelection old_schema about_text (plain (inner 0 end) [] (col 1 1 ∷ col 1 2 ∷ [])) (codes "schema" ∷ codes "base" ∷ [])
+first_is : IsSelection old_schema READ_TEXT.now (plain (inner 0 end) [] (col 1 1 ∷ col 1 2 ∷ [])) (codes "schema" ∷ codes "base" ∷ [])
 unfolding understood everything
 first_is = record { command = refl; unlisted = refl; plain = (refl, refl) }
 
-second_is : IsSelection ours about_text (plain (inner 0 end) [] (col 1 1 ∷ col 1 2 ∷ [])) (codes "schema" ∷ codes "base" ∷ [])
+second_is : IsSelection ours READ_TEXT.now (plain (inner 0 end) [] (col 1 1 ∷ col 1 2 ∷ [])) (codes "schema" ∷ codes "base" ∷ [])
 unfolding understood everything
 second_is = record { command = refl; unlisted = refl; plain = (refl, refl) }
 
 -- under either schema
-pub about_is : (e : Edition) → IsSelection (schema_of e) about_text (plain (inner 0 end) [] (col 1 1 ∷ col 1 2 ∷ [])) (codes "schema" ∷ codes "base" ∷ [])
+pub about_is : (e : Edition) → IsSelection (schema_of e) READ_TEXT.now (plain (inner 0 end) [] (col 1 1 ∷ col 1 2 ∷ [])) (codes "schema" ∷ codes "base" ∷ [])
 about_is First = first_is
 about_is Second = second_is
 
@@ -46,15 +34,12 @@ about_of_table : (xs rows : List Row) (a : Option About) → IsPermutation xs ro
 about_of_table xs rows None h other = λ e base is. other e base (one_permutation (about_columns e base) rows (subst (λ ys. IsPermutation ys rows) is h))
 about_of_table xs rows (Some a) h is = one_row xs rows _ h is
 
-pub about : (e : Edition) (old new : State) (rows : List Row) (a : Option About) → IsInsideOf e old → Shown about_text [] old new rows → IsAbout rows a → IsAboutOf old.now.trees a
+pub about : (e : Edition) (old new : State) (rows : List Row) (a : Option About) → IsInsideOf e old → Shown READ_TEXT.now [] old new rows → IsAbout rows a → IsAboutOf old.now.trees a
 about e old new rows a at h = about_of_table _ rows a (all_rows (overlay old.now.trees []) [] 0 (col 1 1 ∷ col 1 2 ∷ []) rows (selected (about_is e) [] old new rows at h))
 
-abbrev pub rowid_text : List ℕ
-rowid_text = codes "SELECT rowid FROM about"
-
-pub rowid_is : IsSelection ours rowid_text (plain (inner 0 end) [] (col 1 0 ∷ [])) (codes "rowid" ∷ [])
+pub rowid_is : IsSelection ours THE_ROWID_TEXT.now (plain (inner 0 end) [] (col 1 0 ∷ [])) (codes "rowid" ∷ [])
 unfolding understood everything
 rowid_is = record { command = refl; unlisted = refl; plain = (refl, refl) }
 
-pub the_rowid : (old new : State) (id : ℤ) → IsInside old → Shown rowid_text [] old new ((Int id ∷ []) ∷ []) → map (shows (0 ∷ [])) (old.now.trees 0) ≡ (Int id ∷ []) ∷ []
+pub the_rowid : (old new : State) (id : ℤ) → IsInside old → Shown THE_ROWID_TEXT.now [] old new ((Int id ∷ []) ∷ []) → map (shows (0 ∷ [])) (old.now.trees 0) ≡ (Int id ∷ []) ∷ []
 the_rowid old new id at h = one_row _ _ (Int id ∷ []) (all_rows (overlay old.now.trees []) [] 0 (col 1 0 ∷ []) _ (selected rowid_is [] old new _ at h)) refl

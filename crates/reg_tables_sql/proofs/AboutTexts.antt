@@ -1,40 +1,23 @@
 -- The statement that gives the one row of `about` another number.
-use Rattle.std.proofs.Common.{◌≡◌, ℕ, ℤ, pos, List, [], ◌∷◌, codes, map, true, false, not, cond, Ok, refl, ap, subst, ◌∙◌}
+use Rattle.reg_tables_sql.proofs.Words.{◌≡◌, ℕ, ℤ, pos, List, [], ◌∷◌, map, true, false, not, cond, Ok, refl, ap, subst, ◌∙◌, filter, Int}
+use Rattle.reg_tables_sql.proofs.Words.{Row, Term, col, lit, State, Executes, Trees, edited, has_rowid, put_row, without_rowid, First}
+use Rattle.reg_tables_sql.proofs.Words.{Second, IsInside, about_columns, replacing, cast_int, equals_first, shows, Database, IsUnchanged}
+use Rattle.reg_tables_sql.proofs.Words.{Value, Bool, arith, rules}
 use Rattle.std.specs.Prelude.{drop}
-use Rattle.std.specs.List.{filter}
-use Rattle.sqlite.specs.declared.types.Value.TheVariants.{Int}
-use Rattle.sqlite.specs.Order.{Row}
-use Rattle.sqlite.specs.Term.{Term, col, lit}
 use Rattle.sqlite.specs.Listing.{understood}
-use Rattle.sqlite.specs.State.{State, Executes}
-use Rattle.sqlite.specs.Tree.{Trees}
-use Rattle.sqlite_rules.specs.Edit.{edited}
-use Rattle.sqlite_trees.specs.Tree.{has_rowid, put_row, without_rowid}
 use Rattle.sqlite_tied.specs.Compute.{everything}
-use Rattle.reg_tables_schema.specs.declared.edition.Edition.TheVariants.{First, Second}
 use Rattle.reg_tables_schema.specs.Schema.{about}
-use Rattle.reg_tables_schema.specs.States.{IsInside, about_columns}
-use Rattle.reg_tables_schema.proofs.Edits.{replacing}
-use Rattle.reg_tables_schema.proofs.Statements.{cast_int}
-use Rattle.reg_tables_schema.proofs.TableMatches.{equals_first}
+use Rattle.reg_tables_sql.specs.declared.about.TheConstants.{NUMBER_SECOND_TEXT}
 use Rattle.reg_tables_sql.specs.Abouts.{BecomesSecond, NumbersSecond}
-use Rattle.reg_tables_schema.specs.Tests.{shows}
 use Rattle.reg_tables_schema.specs.Changes.{KeepsOthers}
-use Rattle.sqlite.specs.Effect.{Database}
-use Rattle.sqlite.specs.State.{IsUnchanged}
-use Rattle.sqlite.specs.declared.types.Value.{Value}
 use Rattle.sqlite_value.proofs.OrderLemmas.{value_cmp-Int}
-use Rattle.std.proofs.Common.{Bool, arith, rules}
 use Rattle.reg_tables_sql.proofs.Updates.{IsUpdate, matches_rowid, rewrites_one, updates_only}
-
-abbrev second_text : List ℕ
-second_text = codes "UPDATE about SET schema = 2 WHERE rowid = ?1"
 
 -- the old rowid, and then the new row
 abbrev second_project : List Term
 second_project = col 1 0 ∷ col 1 0 ∷ lit (Int (pos 2)) ∷ col 1 2 ∷ []
 
-pub second_is : IsUpdate second_text 0 about (equals_first 0) second_project
+pub second_is : IsUpdate NUMBER_SECOND_TEXT.now 0 about (equals_first 0) second_project
 unfolding understood everything
 second_is = record { found = refl; bare = (refl, refl); command = refl; writing = refl; seen = λ db. refl }
 
@@ -52,7 +35,7 @@ found_by false x h = absurd cc
 second_edit : (db : Trees) (id : ℤ) (base : List ℕ) → edited db (replacing db about ((Int id ∷ Int id ∷ about_columns Second base) ∷ [])) ≡ put_row (Int id ∷ about_columns Second base) (without_rowid id (db 0))
 second_edit db id base = rw (cast_int id, cast_int (pos 2))
 
-numbered : (old new : State) (id : ℤ) (count : ℕ) → IsInside old → Executes second_text (Int id ∷ []) old new (Ok count)
+numbered : (old new : State) (id : ℤ) (count : ℕ) → IsInside old → Executes NUMBER_SECOND_TEXT.now (Int id ∷ []) old new (Ok count)
     → (base : List ℕ) → old.now.trees 0 ≡ (Int id ∷ about_columns First base) ∷ [] → new.now.trees 0 ≡ (Int id ∷ about_columns Second base) ∷ []
 numbered old new id count at h base one =
     let row : Row = Int id ∷ about_columns Second base in
@@ -62,7 +45,7 @@ numbered old new id count at h base one =
     let done = rewrites_one second_is _ (has_rowid id) (matches_rowid 0 id []) old new count at h was found in
     done ∙ second_edit old.now.trees id base ∙ ap (λ xs. put_row row (without_rowid id xs)) one ∙ ap (put_row row) (left_by (has_rowid id was) was here)
 
-pub numbers : (old new : State) (id : ℤ) (count : ℕ) → IsInside old → Executes second_text (Int id ∷ []) old new (Ok count) → NumbersSecond id old new
+pub numbers : (old new : State) (id : ℤ) (count : ℕ) → IsInside old → Executes NUMBER_SECOND_TEXT.now (Int id ∷ []) old new (Ok count) → NumbersSecond id old new
 numbers old new id count at h = record {
   second = numbered old new id count at h;
   touches = updates_only second_is _ (has_rowid id) (matches_rowid 0 id []) old new count at h;

@@ -1,35 +1,14 @@
 -- What the queries on archives answer.
-use Rattle.std.proofs.Common.{◌≡◌, ℕ, pos, List, [], ◌∷◌, codes, map, Option, refl, sym, ap, subst, ◌∙◌}
-use Rattle.std.specs.List.{filter}
-use Rattle.sqlite.specs.declared.types.Value.TheVariants.{Int, Text}
-use Rattle.sqlite.specs.Collation.TheVariants.{Binary}
-use Rattle.sqlite.specs.Order.{Row}
-use Rattle.sqlite.specs.Term.{Term, col}
-use Rattle.sqlite.specs.Query.{inner, end}
-use Rattle.sqlite.specs.Program.{overlay}
+use Rattle.reg_tables_sql.proofs.Words.{◌≡◌, ℕ, pos, List, [], ◌∷◌, codes, map, Option, refl, sym, ap, subst, ◌∙◌, filter, Int, Text}
+use Rattle.reg_tables_sql.proofs.Words.{Binary, Row, Term, col, inner, end, overlay, State, ours, IsInside, IsSelection, selected, Bool}
+use Rattle.reg_tables_sql.proofs.Words.{true, cond, ◌&&◌, Global, flat_map, IsPermutation, eval_all, op2, Trees, Query, IsSureAnswer}
+use Rattle.reg_tables_sql.proofs.Words.{Compare, Eq, number_columns, shown_of, is_number, is_version, shows, plain, answers, joined}
+use Rattle.reg_tables_sql.proofs.Words.{same_filter, and_true, of_table, shown_exactly, equals_first, matches_number}
 use Rattle.sqlite.specs.Listing.{understood}
-use Rattle.sqlite.specs.State.{State, Shown}
+use Rattle.sqlite.specs.State.{Shown}
 use Rattle.sqlite_tied.specs.Compute.{everything}
-use Rattle.reg_tables_schema.specs.Schema.{ours}
-use Rattle.reg_tables_schema.specs.States.{IsInside}
-use Rattle.reg_tables_schema.proofs.Reading.{IsSelection, selected}
-use Rattle.std.proofs.Common.{Bool, true, cond, ◌&&◌}
 use Rattle.std.specs.Prelude.{Vec}
-use Rattle.std.specs.declared.alloc.Global.{Global}
-use Rattle.std.specs.List.{flat_map}
-use Rattle.std.specs.List.Sorted.{IsPermutation}
-use Rattle.sqlite.specs.Term.{eval_all, op2}
-use Rattle.sqlite.specs.Tree.{Trees}
-use Rattle.sqlite.specs.Query.{Query, IsSureAnswer}
-use Rattle.sqlite_sql.specs.declared.ops.BinaryOp.TheVariants.{Compare}
-use Rattle.sqlite_sql.specs.declared.ops.CompareOp.TheVariants.{Eq}
-use Rattle.reg_tables_schema.specs.Rows.{number_columns}
-use Rattle.reg_tables_schema.specs.Shown.{shown_of}
-use Rattle.reg_tables_schema.specs.Tests.{is_number, is_version, shows}
-use Rattle.reg_tables_schema.proofs.Queries.{plain, answers, joined, same_filter, and_true}
-use Rattle.reg_tables_schema.proofs.Selections.{of_table}
-use Rattle.reg_tables_schema.proofs.ShownRows.{shown_exactly}
-use Rattle.reg_tables_schema.proofs.TableMatches.{equals_first, matches_number}
+use Rattle.reg_tables_sql.specs.declared.archives.TheConstants.{BY_ID_TEXT, FIRST_ID_TEXT, OF_VERSION_TEXT}
 use Rattle.reg_tables_sql.specs.Archives.{IsArchiveOf, IsArchiveWithId, archives_of, columns_of_archive, columns_of_bytes, is_archive_of}
 use Rattle.reg_tables_sql.specs.Counts.{IsFirstId}
 use Rattle.reg_tables_sql.specs.declared.archives.Archive.{Archive}
@@ -46,10 +25,7 @@ of_version_filter =
 abbrev of_version_query : Query
 of_version_query = plain (inner 11 (inner 13 end)) of_version_filter bytes_project
 
-abbrev pub of_version_text : List ℕ
-of_version_text = codes "SELECT a.bytes FROM versions v JOIN archives a ON a.version = v.id WHERE v.crate = ?1 AND v.release = ?2 AND v.vers = ?3"
-
-pub of_version_is : IsSelection ours of_version_text (of_version_query) (codes "bytes" ∷ [])
+pub of_version_is : IsSelection ours OF_VERSION_TEXT.now (of_version_query) (codes "bytes" ∷ [])
 unfolding understood everything
 of_version_is = record { command = refl; unlisted = refl; plain = (refl, refl) }
 
@@ -77,31 +53,25 @@ of_version_gives db of_crate release vers rows h =
     (answers (overlay db []) params (inner 11 (inner 13 end)) of_version_filter bytes_project rows h)
 
 pub of_version : (old new : State) (of_crate : ℕ) (release vers : List ℕ) (found : Option (Vec ℕ Global)) → IsInside old
-    → Shown of_version_text (of_version_params of_crate release vers) old new (shown_of columns_of_bytes found) → IsArchiveOf of_crate release vers old.now.trees found
+    → Shown OF_VERSION_TEXT.now (of_version_params of_crate release vers) old new (shown_of columns_of_bytes found) → IsArchiveOf of_crate release vers old.now.trees found
 of_version old new of_crate release vers found at h =
     shown_exactly columns_of_bytes _ found (of_version_gives old.now.trees of_crate release vers _ (selected of_version_is (of_version_params of_crate release vers) old new _ at h))
 
-abbrev pub by_id_text : List ℕ
-by_id_text = codes "SELECT version, bytes FROM archives WHERE version = ?1"
-
-pub by_id_is : IsSelection ours by_id_text (plain (inner 13 end) (equals_first 0) (col 1 0 ∷ col 1 2 ∷ [])) (codes "version" ∷ codes "bytes" ∷ [])
+pub by_id_is : IsSelection ours BY_ID_TEXT.now (plain (inner 13 end) (equals_first 0) (col 1 0 ∷ col 1 2 ∷ [])) (codes "version" ∷ codes "bytes" ∷ [])
 unfolding understood everything
 by_id_is = record { command = refl; unlisted = refl; plain = (refl, refl) }
 
 pub by_id : (old new : State) (version : ℕ) (found : Option Archive) → IsInside old
-    → Shown by_id_text (Int (pos version) ∷ []) old new (shown_of columns_of_archive found) → IsArchiveWithId version old.now.trees found
+    → Shown BY_ID_TEXT.now (Int (pos version) ∷ []) old new (shown_of columns_of_archive found) → IsArchiveWithId version old.now.trees found
 by_id old new version found at h =
     let db = overlay old.now.trees [] in
     shown_exactly columns_of_archive _ found
     (of_table db (Int (pos version) ∷ []) 13 (equals_first 0) (col 1 0 ∷ col 1 2 ∷ []) _ (is_number 0 version) (matches_number db 13 0 version)
     (selected by_id_is (Int (pos version) ∷ []) old new _ at h))
 
-abbrev pub first_text : List ℕ
-first_text = codes "SELECT version FROM archives ORDER BY version LIMIT 1"
-
-pub first_is : IsSelection ours first_text (first 13) (codes "version" ∷ [])
+pub first_is : IsSelection ours FIRST_ID_TEXT.now (first 13) (codes "version" ∷ [])
 unfolding understood everything
 first_is = record { command = refl; unlisted = refl; plain = (refl, refl) }
 
-pub first_id : (old new : State) (id : Option ℕ) → IsInside old → Shown first_text [] old new (shown_of number_columns id) → IsFirstId 13 old.now.trees id
+pub first_id : (old new : State) (id : Option ℕ) → IsInside old → Shown FIRST_ID_TEXT.now [] old new (shown_of number_columns id) → IsFirstId 13 old.now.trees id
 first_id old new id at h = first_of (overlay old.now.trees []) 13 _ (selected first_is [] old new _ at h)

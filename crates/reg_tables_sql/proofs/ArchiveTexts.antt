@@ -1,34 +1,21 @@
 -- What the statements on archives do.
-use Rattle.std.proofs.Common.{◌≡◌, ℕ, pos, List, [], ◌∷◌, codes, Result, OnOk, refl}
-use Rattle.sqlite.specs.declared.types.Value.TheVariants.{Null, Int, Blob}
-use Rattle.sqlite.specs.Term.{Term, lit, col}
-use Rattle.sqlite.specs.Tree.{Trees}
-use Rattle.sqlite.specs.Source.TheVariants.{Values}
-use Rattle.sqlite.specs.Command.TheVariants.{Insert}
+use Rattle.reg_tables_sql.proofs.Words.{◌≡◌, ℕ, pos, List, [], ◌∷◌, Result, OnOk, refl, Null, Int, Blob, Term, lit, col, Trees, Values}
+use Rattle.reg_tables_sql.proofs.Words.{Insert, State, Executes, Error, IsPlain, command_of, ours, IsInside, IsRowWrite, Adds, step_of}
+use Rattle.reg_tables_sql.proofs.Words.{adds, cast_int, cast_null}
 use Rattle.sqlite.specs.Listing.{understood}
-use Rattle.sqlite.specs.State.{State, Executes}
-use Rattle.sqlite.specs.declared.error.Error.{Error}
-use Rattle.sqlite.proofs.Callers.{IsPlain, command_of}
 use Rattle.sqlite_tied.specs.Compute.{everything}
-use Rattle.reg_tables_schema.specs.Schema.{ours, archives}
-use Rattle.reg_tables_schema.specs.States.{IsInside}
-use Rattle.reg_tables_schema.specs.Statements.{IsRowWrite}
-use Rattle.reg_tables_schema.specs.Changes.{Adds}
-use Rattle.reg_tables_schema.proofs.Edits.{step_of}
-use Rattle.reg_tables_schema.proofs.Statements.{adds, cast_int, cast_null}
+use Rattle.reg_tables_schema.specs.Schema.{archives}
+use Rattle.reg_tables_sql.specs.declared.archives.TheConstants.{INSERT_TEXT}
 use Rattle.reg_tables_sql.specs.Archives.{archive_row}
-
-abbrev insert_text : List ℕ
-insert_text = codes "INSERT INTO archives (version, bytes) VALUES (?1, ?2)"
 
 abbrev insert_terms : List Term
 insert_terms = col 0 0 ∷ lit Null ∷ col 0 1 ∷ []
 
-insert_is : command_of (understood ours insert_text) ≡ Insert 7 (Values insert_terms 3)
+insert_is : command_of (understood ours INSERT_TEXT.now) ≡ Insert 7 (Values insert_terms 3)
 unfolding understood everything
 insert_is = refl
 
-insert_plain : IsPlain (understood ours insert_text)
+insert_plain : IsPlain (understood ours INSERT_TEXT.now)
 unfolding understood everything
 insert_plain = (refl, refl)
 
@@ -36,10 +23,10 @@ insert_news : (db : Trees) (version : ℕ) (bytes : List ℕ) → (step_of db ar
 insert_news db version bytes = rw (cast_int (pos version), cast_null)
 
 pub inserts_archive : (old new : State) (version : ℕ) (bytes : List ℕ) (r : Result ℕ Error) → IsInside old
-    → Executes insert_text (Int (pos version) ∷ Blob bytes ∷ []) old new r → OnOk r (Adds 13 (archive_row version bytes) old new)
+    → Executes INSERT_TEXT.now (Int (pos version) ∷ Blob bytes ∷ []) old new r → OnOk r (Adds 13 (archive_row version bytes) old new)
 inserts_archive old new version bytes r at h =
-    adds insert_text 7 archives refl insert_plain refl insert_terms 3 insert_is (Int (pos version) ∷ Blob bytes ∷ []) (archive_row version bytes) old new r at (insert_news old.now.trees version bytes) h
+    adds INSERT_TEXT.now 7 archives refl insert_plain refl insert_terms 3 insert_is (Int (pos version) ∷ Blob bytes ∷ []) (archive_row version bytes) old new r at (insert_news old.now.trees version bytes) h
 
-pub insert_writes : IsRowWrite (understood ours insert_text)
+pub insert_writes : IsRowWrite (understood ours INSERT_TEXT.now)
 unfolding understood everything
 insert_writes = refl

@@ -1,19 +1,14 @@
 -- What `SELECT id FROM .. ORDER BY id LIMIT 1` answers, of any table.
-use Rattle.std.proofs.Common.{◌≡◌, ℕ, ◌+◌, pos, List, [], ◌∷◌, map, take, None, get_or, false, refl, sym, ap, subst, ◌∙◌}
-use Rattle.std.specs.List.Sorted.{IsPermutation, IsSorted}
+use Rattle.reg_tables_sql.proofs.Words.{◌≡◌, ℕ, ◌+◌, pos, List, [], ◌∷◌, map, None, false, refl, sym, ap, subst, ◌∙◌, IsPermutation, Binary}
+use Rattle.reg_tables_sql.proofs.Words.{Null, Int, Row, column, value_cmp, Trees, lit, col, Query, inner, end, IsSureAnswer, ascending}
+use Rattle.reg_tables_sql.proofs.Words.{IsInOrder, by_column, shows, then_equal}
+use Rattle.std.proofs.Common.{take, get_or}
+use Rattle.std.specs.List.Sorted.{IsSorted}
 use Rattle.std.specs.Ordering.{is_lt}
 use Rattle.sqlite_exec.proofs.PartitionLemmas.{IsSorted-from_map}
-use Rattle.sqlite.specs.Collation.TheVariants.{Binary}
-use Rattle.sqlite.specs.declared.types.Value.TheVariants.{Null, Int}
-use Rattle.sqlite.specs.Order.{Row, column, value_cmp}
-use Rattle.sqlite.specs.Tree.{Trees}
-use Rattle.sqlite.specs.Term.{lit, col}
-use Rattle.sqlite.specs.Query.{Query, inner, end, IsSureAnswer, IsAnswer, output, output_cmp, Output}
-use Rattle.sqlite_value.specs.Keys.{ascending}
-use Rattle.reg_tables_schema.specs.Rows.{IsInOrder, by_column}
-use Rattle.reg_tables_schema.specs.Tests.{shows}
+use Rattle.sqlite.specs.Query.{IsAnswer, output, output_cmp, Output}
 use Rattle.reg_tables_schema.proofs.Queries.{maps_twice}
-use Rattle.reg_tables_schema.proofs.Sorted.{unmapped, then_equal}
+use Rattle.reg_tables_schema.proofs.Sorted.{unmapped}
 use Rattle.reg_tables_schema.proofs.TableMatches.{matches_all}
 
 abbrev pub first : ℕ → Query

@@ -28,3 +28,4 @@ pub mod ReservedQueries
 pub mod StemQueries
 pub mod TokenQueries
 pub mod Walking
+mod Words

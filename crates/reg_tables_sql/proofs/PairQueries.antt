@@ -1,34 +1,14 @@
 -- What the queries on a table of pairs answer, from what is computed of their texts.
-use Rattle.std.proofs.Common.{◌≡◌, ℕ, pos, Bool, List, [], ◌∷◌, codes, map, length, not, ◌==◌, refl, ap, subst, ◌∙◌}
-use Rattle.std.specs.List.{filter, flat_map, list_any}
-use Rattle.std.specs.Ordering.{ordering_then}
-use Rattle.sqlite.specs.declared.types.Value.TheVariants.{Int}
-use Rattle.sqlite.specs.Collation.TheVariants.{Binary}
-use Rattle.sqlite_value.specs.Keys.{ascending}
-use Rattle.sqlite_value.specs.declared.keys.Key.{Key}
-use Rattle.sqlite.specs.Order.{Row, column}
-use Rattle.sqlite.specs.Ops.{binary, is_true}
-use Rattle.sqlite.specs.Term.{Term, col, op2, eval_all}
-use Rattle.sqlite.specs.Tree.{Trees}
-use Rattle.sqlite.specs.Query.{Query, inner, end, matches}
-use Rattle.sqlite.specs.Program.{overlay}
-use Rattle.sqlite.specs.State.{State, Shown}
-use Rattle.sqlite_sql.specs.declared.ops.BinaryOp.TheVariants.{Compare}
-use Rattle.sqlite_sql.specs.declared.ops.CompareOp.TheVariants.{Eq}
-use Rattle.reg_tables_schema.specs.Schema.{ours}
-use Rattle.reg_tables_schema.specs.States.{IsInside}
-use Rattle.reg_tables_schema.specs.Rows.{IsInOrder, by_column, by_columns}
-use Rattle.reg_tables_schema.specs.Tests.{is_number, shows}
-use Rattle.reg_tables_schema.proofs.Ordered.{all_ordered, shown_in_order}
-use Rattle.reg_tables_schema.proofs.Queries.{plain, joined, same_filter, equals_int}
-use Rattle.reg_tables_schema.proofs.Reading.{IsSelection, selected}
-use Rattle.reg_tables_schema.proofs.Selections.{of_table}
-use Rattle.reg_tables_schema.proofs.ShownRows.{any_shown}
-use Rattle.reg_tables_schema.proofs.Sorted.{in_order, then_equal}
-use Rattle.reg_tables_sql.specs.declared.accounts.Account.{Account}
-use Rattle.reg_tables_sql.specs.declared.pairs.Pair.{Pair}
-use Rattle.reg_tables_sql.specs.Accounts.{account_columns}
-use Rattle.reg_tables_sql.specs.Pairs.{AreAccountsOf, ArePairs, IsPaired, accounts_in, columns_of_pair, is_of_pair, is_pair, pair_columns}
+use Rattle.reg_tables_sql.proofs.Words.{◌≡◌, ℕ, pos, Bool, List, [], ◌∷◌, codes, map, length, not, ◌==◌, refl, ap, subst, ◌∙◌, filter}
+use Rattle.reg_tables_sql.proofs.Words.{flat_map, ordering_then, Int, Binary, ascending, Key, Row, column, binary, is_true, Term, col, op2}
+use Rattle.reg_tables_sql.proofs.Words.{eval_all, Trees, Query, inner, end, matches, overlay, State, Compare, Eq, ours, IsInside, IsInOrder}
+use Rattle.reg_tables_sql.proofs.Words.{by_column, by_columns, is_number, shows, all_ordered, plain, joined, same_filter, equals_int}
+use Rattle.reg_tables_sql.proofs.Words.{IsSelection, selected, of_table, any_shown, in_order, then_equal, Account, Pair, account_columns}
+use Rattle.reg_tables_sql.proofs.Words.{AreAccountsOf, ArePairs, IsPaired, columns_of_pair, is_pair, pair_columns}
+use Rattle.std.specs.List.{list_any}
+use Rattle.sqlite.specs.State.{Shown}
+use Rattle.reg_tables_schema.proofs.Ordered.{shown_in_order}
+use Rattle.reg_tables_sql.specs.Pairs.{accounts_in, is_of_pair}
 use Rattle.reg_tables_sql.proofs.PairTexts.{pair_filter, pair_matches}
 
 abbrev project : List Term

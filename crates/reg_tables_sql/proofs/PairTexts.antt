@@ -1,38 +1,12 @@
 -- What the writing statements on a table of pairs do, from what is computed of its texts.
-use Rattle.std.proofs.Common.{◌≡◌, ℕ, pos, List, [], ◌∷◌, slice_get, map, true, false, ◌&&◌, Some, Result, OnOk, ap, subst, ◌∙◌}
-use Rattle.std.specs.List.{filter}
-use Rattle.std.specs.List.Sorted.{IsPermutation}
-use Rattle.sqlite.specs.declared.types.Value.TheVariants.{Null, Int}
-use Rattle.sqlite.specs.Order.{Row, column}
-use Rattle.sqlite.specs.Term.{Term, lit, col, op2}
-use Rattle.sqlite.specs.Ops.{binary, is_true}
-use Rattle.sqlite.specs.Table.{Table}
-use Rattle.sqlite.specs.Tree.{Trees}
-use Rattle.sqlite.specs.Query.{inner, end, matches}
-use Rattle.sqlite.specs.Program.{overlay}
-use Rattle.sqlite.specs.Effect.{Answers}
-use Rattle.sqlite.specs.Collation.TheVariants.{Binary}
-use Rattle.sqlite.specs.Source.TheVariants.{Values}
-use Rattle.sqlite.specs.Command.TheVariants.{Insert, Delete}
+use Rattle.reg_tables_sql.proofs.Words.{◌≡◌, ℕ, pos, List, [], ◌∷◌, slice_get, map, true, false, ◌&&◌, Some, Result, OnOk, ap, subst, ◌∙◌}
+use Rattle.reg_tables_sql.proofs.Words.{filter, IsPermutation, Null, Int, Row, column, Term, lit, col, op2, binary, is_true, Table, Trees}
+use Rattle.reg_tables_sql.proofs.Words.{inner, end, matches, overlay, Answers, Binary, Values, Insert, Delete, State, Executes, Error}
+use Rattle.reg_tables_sql.proofs.Words.{IsPlain, command_of, next_rowid, Program, Compare, Eq, ours, our_tables, IsInside, IsRowWrite}
+use Rattle.reg_tables_sql.proofs.Words.{AddsColumns, Removes, is_number, step_of, plain, same_filter, equals_int, and_true, matched}
+use Rattle.reg_tables_sql.proofs.Words.{of_table, adds_columns, removes, is_pair, pair_columns}
 use Rattle.sqlite.specs.Listing.{understood}
-use Rattle.sqlite.specs.State.{State, Executes}
-use Rattle.sqlite.specs.declared.error.Error.{Error}
-use Rattle.sqlite.proofs.Callers.{IsPlain, command_of}
-use Rattle.sqlite_rules.specs.Edit.{next_rowid}
 use Rattle.sqlite_trees.specs.Tree.{rowid}
-use Rattle.sqlite_schema.specs.declared.program.Program.{Program}
-use Rattle.sqlite_sql.specs.declared.ops.BinaryOp.TheVariants.{Compare}
-use Rattle.sqlite_sql.specs.declared.ops.CompareOp.TheVariants.{Eq}
-use Rattle.reg_tables_schema.specs.Schema.{ours, our_tables}
-use Rattle.reg_tables_schema.specs.States.{IsInside}
-use Rattle.reg_tables_schema.specs.Statements.{IsRowWrite}
-use Rattle.reg_tables_schema.specs.Changes.{AddsColumns, Removes}
-use Rattle.reg_tables_schema.specs.Tests.{is_number}
-use Rattle.reg_tables_schema.proofs.Edits.{step_of}
-use Rattle.reg_tables_schema.proofs.Queries.{plain, same_filter, equals_int, and_true}
-use Rattle.reg_tables_schema.proofs.Selections.{matched, of_table}
-use Rattle.reg_tables_schema.proofs.Statements.{adds_columns, removes}
-use Rattle.reg_tables_sql.specs.Pairs.{is_pair, pair_columns}
 
 abbrev pub insert_terms : List Term
 insert_terms = lit Null ∷ col 0 0 ∷ col 0 1 ∷ []

@@ -1,28 +1,16 @@
 -- What our schema makes of the texts of owners and of readers.
-use Rattle.std.proofs.Common.{◌≡◌, ℕ, ℤ, pos, Bool, List, [], ◌∷◌, codes, length, map, not, ◌==◌, Result, OnOk, refl}
-use Rattle.sqlite.specs.declared.types.Value.TheVariants.{Int}
-use Rattle.sqlite.specs.Order.{Row}
-use Rattle.sqlite.specs.Tree.{Trees}
+use Rattle.reg_tables_sql.proofs.Words.{◌≡◌, ℕ, ℤ, pos, Bool, List, [], ◌∷◌, length, map, not, ◌==◌, Result, OnOk, refl, Int, Row, Trees}
+use Rattle.reg_tables_sql.proofs.Words.{State, Executes, Error, next_rowid, ours, IsInside, IsRowWrite, AddsColumns, Removes, step_of}
+use Rattle.reg_tables_sql.proofs.Words.{cast_int, cast_null, Account, Pair, account_columns, AreAccountsOf, ArePairs, IsPaired}
+use Rattle.reg_tables_sql.proofs.Words.{columns_of_pair, is_pair, pair_columns, AreRowids, rowid_columns}
 use Rattle.sqlite.specs.Listing.{understood}
-use Rattle.sqlite.specs.State.{State, Executes, Shown}
+use Rattle.sqlite.specs.State.{Shown}
 use Rattle.sqlite.specs.Given.{IsPlain}
-use Rattle.sqlite.specs.declared.error.Error.{Error}
-use Rattle.sqlite_rules.specs.Edit.{next_rowid}
 use Rattle.sqlite_tied.specs.Compute.{everything}
-use Rattle.reg_tables_schema.specs.Schema.{ours, owners, readers}
-use Rattle.reg_tables_schema.specs.States.{IsInside}
-use Rattle.reg_tables_schema.specs.Statements.{IsRowWrite}
-use Rattle.reg_tables_schema.specs.Changes.{AddsColumns, Removes}
-use Rattle.reg_tables_schema.proofs.Edits.{step_of}
-use Rattle.reg_tables_schema.proofs.Statements.{cast_int, cast_null}
-use Rattle.reg_tables_sql.specs.declared.accounts.Account.{Account}
-use Rattle.reg_tables_sql.specs.declared.pairs.Pair.{Pair}
+use Rattle.reg_tables_schema.specs.Schema.{owners, readers}
 use Rattle.reg_tables_sql.specs.declared.pairs.Relation.{Relation}
 use Rattle.reg_tables_sql.specs.declared.pairs.Relation.TheVariants.{Owners, Readers}
-use Rattle.reg_tables_sql.specs.Accounts.{account_columns}
-use Rattle.reg_tables_sql.specs.Pairs.{AreAccountsOf, ArePairs, IsPaired, columns_of_pair, is_pair, pair_columns}
 use Rattle.reg_tables_sql.specs.Relations.{accounts_text, all_text, insert_text, pair_text, remove_text, rowids_text, tree_of}
-use Rattle.reg_tables_sql.specs.Rowids.{AreRowids, rowid_columns}
 use Rattle.reg_tables_sql.proofs.PairQueries as queries
 use Rattle.reg_tables_sql.proofs.PairQueries.{ArePairQueries}
 use Rattle.reg_tables_sql.proofs.PairTexts.{ArePairTexts, adds_pair, insert_terms, removes_pair}

@@ -1,36 +1,18 @@
 -- What the queries on restricted crates answer.
-use Rattle.std.proofs.Common.{◌≡◌, ℕ, pos, Bool, List, [], ◌∷◌, codes, map, length, not, ◌==◌, refl, ◌∙◌}
-use Rattle.sqlite.specs.declared.types.Value.TheVariants.{Int}
-use Rattle.sqlite.specs.Collation.TheVariants.{Binary}
-use Rattle.sqlite_value.specs.Keys.{ascending}
-use Rattle.sqlite.specs.Order.{Row}
-use Rattle.sqlite.specs.Term.{col}
-use Rattle.sqlite.specs.Query.{inner, end}
-use Rattle.sqlite.specs.Program.{overlay}
+use Rattle.reg_tables_sql.proofs.Words.{◌≡◌, ℕ, pos, Bool, List, [], ◌∷◌, codes, map, length, not, ◌==◌, refl, ◌∙◌, Int, Binary, ascending}
+use Rattle.reg_tables_sql.proofs.Words.{Row, col, inner, end, overlay, State, number_columns, ours, IsInside, shows, plain, IsSelection}
+use Rattle.reg_tables_sql.proofs.Words.{selected, of_table, any_shown, in_order, equals_first, matches_number, all_in_order, is_restricted}
 use Rattle.sqlite.specs.Listing.{understood}
-use Rattle.sqlite.specs.State.{State, Shown}
+use Rattle.sqlite.specs.State.{Shown}
 use Rattle.sqlite_tied.specs.Compute.{everything}
-use Rattle.reg_tables_schema.specs.Rows.{number_columns}
-use Rattle.reg_tables_schema.specs.Schema.{ours}
-use Rattle.reg_tables_schema.specs.States.{IsInside}
-use Rattle.reg_tables_schema.specs.Tests.{shows}
-use Rattle.reg_tables_schema.proofs.Queries.{plain}
-use Rattle.reg_tables_schema.proofs.Reading.{IsSelection, selected}
-use Rattle.reg_tables_schema.proofs.Selections.{of_table}
-use Rattle.reg_tables_schema.proofs.ShownRows.{any_shown}
-use Rattle.reg_tables_schema.proofs.Sorted.{in_order}
-use Rattle.reg_tables_schema.proofs.TableMatches.{equals_first, matches_number}
-use Rattle.reg_tables_schema.proofs.WholeTables.{all_in_order}
-use Rattle.reg_tables_sql.specs.Restricted.{AreRestricted, IsRestricted, is_restricted}
+use Rattle.reg_tables_sql.specs.declared.restricted.TheConstants.{ALL_TEXT, IS_THERE_TEXT}
+use Rattle.reg_tables_sql.specs.Restricted.{AreRestricted, IsRestricted}
 
-abbrev there_text : List ℕ
-there_text = codes "SELECT crate FROM restricted WHERE crate = ?1"
-
-pub there_is : IsSelection ours there_text (plain (inner 17 end) (equals_first 0) (col 1 0 ∷ [])) (codes "crate" ∷ [])
+pub there_is : IsSelection ours IS_THERE_TEXT.now (plain (inner 17 end) (equals_first 0) (col 1 0 ∷ [])) (codes "crate" ∷ [])
 unfolding understood everything
 there_is = record { command = refl; unlisted = refl; plain = (refl, refl) }
 
-pub there : (old new : State) (of_crate : ℕ) (rows : List Row) (has : Bool) → IsInside old → Shown there_text (Int (pos of_crate) ∷ []) old new rows → has ≡ not (length rows == 0)
+pub there : (old new : State) (of_crate : ℕ) (rows : List Row) (has : Bool) → IsInside old → Shown IS_THERE_TEXT.now (Int (pos of_crate) ∷ []) old new rows → has ≡ not (length rows == 0)
     → IsRestricted of_crate old.now.trees has
 there old new of_crate rows has at h is =
     let params : Row = Int (pos of_crate) ∷ [] in
@@ -38,12 +20,9 @@ there old new of_crate rows has at h is =
     is ∙ any_shown (is_restricted of_crate) (shows (0 ∷ [])) _ rows
     (of_table db params 17 (equals_first 0) (col 1 0 ∷ []) rows (is_restricted of_crate) (matches_number db 17 0 of_crate) (selected there_is params old new rows at h))
 
-abbrev listed_text : List ℕ
-listed_text = codes "SELECT crate FROM restricted ORDER BY crate"
-
-pub listed_is : IsSelection ours listed_text (in_order (inner 17 end) [] (col 1 0 ∷ []) ((col 1 0, ascending Binary) ∷ [])) (codes "crate" ∷ [])
+pub listed_is : IsSelection ours ALL_TEXT.now (in_order (inner 17 end) [] (col 1 0 ∷ []) ((col 1 0, ascending Binary) ∷ [])) (codes "crate" ∷ [])
 unfolding understood everything
 listed_is = record { command = refl; unlisted = refl; plain = (refl, refl) }
 
-pub listed : (old new : State) (list : List ℕ) → IsInside old → Shown listed_text [] old new (map number_columns list) → AreRestricted old.now.trees list
+pub listed : (old new : State) (list : List ℕ) → IsInside old → Shown ALL_TEXT.now [] old new (map number_columns list) → AreRestricted old.now.trees list
 listed old new list at h = all_in_order (overlay old.now.trees []) [] 17 (col 1 0 ∷ []) _ 0 (selected listed_is [] old new _ at h)

@@ -1,25 +1,11 @@
 -- What the queries on scopes answer.
-use Rattle.std.proofs.Common.{ℕ, pos, List, [], ◌∷◌, codes, map, refl, ap}
-use Rattle.sqlite.specs.declared.types.Value.TheVariants.{Int}
-use Rattle.sqlite.specs.Collation.TheVariants.{Binary}
-use Rattle.sqlite_value.specs.Keys.{ascending}
-use Rattle.sqlite.specs.Order.{Row}
-use Rattle.sqlite.specs.Term.{Term, col}
-use Rattle.sqlite.specs.Query.{inner, end}
-use Rattle.sqlite.specs.Program.{overlay}
+use Rattle.reg_tables_sql.proofs.Words.{ℕ, pos, List, [], ◌∷◌, codes, map, refl, ap, Int, Binary, ascending, Row, Term, col, inner, end}
+use Rattle.reg_tables_sql.proofs.Words.{overlay, State, ours, IsInside, IsSelection, selected, ordering_then, Key, by_column, by_columns}
+use Rattle.reg_tables_sql.proofs.Words.{is_number, all_ordered, in_order, in_order_of, then_equal, equals_first, matches_number}
 use Rattle.sqlite.specs.Listing.{understood}
-use Rattle.sqlite.specs.State.{State, Shown}
+use Rattle.sqlite.specs.State.{Shown}
 use Rattle.sqlite_tied.specs.Compute.{everything}
-use Rattle.reg_tables_schema.specs.Schema.{ours}
-use Rattle.reg_tables_schema.specs.States.{IsInside}
-use Rattle.reg_tables_schema.proofs.Reading.{IsSelection, selected}
-use Rattle.std.specs.Ordering.{ordering_then}
-use Rattle.sqlite_value.specs.declared.keys.Key.{Key}
-use Rattle.reg_tables_schema.specs.Rows.{by_column, by_columns}
-use Rattle.reg_tables_schema.specs.Tests.{is_number}
-use Rattle.reg_tables_schema.proofs.Ordered.{all_ordered}
-use Rattle.reg_tables_schema.proofs.Sorted.{in_order, in_order_of, then_equal}
-use Rattle.reg_tables_schema.proofs.TableMatches.{equals_first, matches_number}
+use Rattle.reg_tables_sql.specs.declared.scopes.TheConstants.{ALL_TEXT, OF_TOKEN_TEXT}
 use Rattle.reg_tables_sql.specs.declared.scopes.Scope.{Scope}
 use Rattle.reg_tables_sql.specs.Scopes.{AreScopes, AreScopesOf, columns_of_scope}
 
@@ -32,14 +18,11 @@ names = codes "token" ∷ codes "place" ∷ codes "pattern" ∷ codes "low" ∷ 
 abbrev by_place : List (Term × Key)
 by_place = (col 1 2, ascending Binary) ∷ []
 
-abbrev pub of_token_text : List ℕ
-of_token_text = codes "SELECT token, place, pattern, low, high FROM scopes WHERE token = ?1 ORDER BY place"
-
-pub of_token_is : IsSelection ours of_token_text (in_order (inner 5 end) (equals_first 1) project by_place) (names)
+pub of_token_is : IsSelection ours OF_TOKEN_TEXT.now (in_order (inner 5 end) (equals_first 1) project by_place) (names)
 unfolding understood everything
 of_token_is = record { command = refl; unlisted = refl; plain = (refl, refl) }
 
-pub of_token : (old new : State) (token : ℕ) (list : List Scope) → IsInside old → Shown of_token_text (Int (pos token) ∷ []) old new (map columns_of_scope list)
+pub of_token : (old new : State) (token : ℕ) (list : List Scope) → IsInside old → Shown OF_TOKEN_TEXT.now (Int (pos token) ∷ []) old new (map columns_of_scope list)
     → AreScopesOf token old.now.trees list
 of_token old new token list at h =
     let params : Row = Int (pos token) ∷ [] in
@@ -49,14 +32,11 @@ of_token old new token list at h =
 abbrev by_token_and_place : List (Term × Key)
 by_token_and_place = (col 1 1, ascending Binary) ∷ (col 1 2, ascending Binary) ∷ []
 
-abbrev pub listed_text : List ℕ
-listed_text = codes "SELECT token, place, pattern, low, high FROM scopes ORDER BY token, place"
-
-pub listed_is : IsSelection ours listed_text (in_order (inner 5 end) [] project by_token_and_place) (names)
+pub listed_is : IsSelection ours ALL_TEXT.now (in_order (inner 5 end) [] project by_token_and_place) (names)
 unfolding understood everything
 listed_is = record { command = refl; unlisted = refl; plain = (refl, refl) }
 
-pub listed : (old new : State) (list : List Scope) → IsInside old → Shown listed_text [] old new (map columns_of_scope list) → AreScopes old.now.trees list
+pub listed : (old new : State) (list : List Scope) → IsInside old → Shown ALL_TEXT.now [] old new (map columns_of_scope list) → AreScopes old.now.trees list
 listed old new list at h =
     all_ordered (overlay old.now.trees []) 5 project by_token_and_place _ (by_columns 1 2) (λ a b. ap (ordering_then (by_column 1 a b)) (then_equal (by_column 2 a b)))
     (selected listed_is [] old new _ at h)

@@ -1,26 +1,16 @@
 -- What the text of the rows of an index file answers, whole or in part.
-use Rattle.std.proofs.Common.{IsTrue, ◌≡◌, ℕ, pos, List, [], ◌∷◌, ◌++◌, codes, refl, sym, ap, subst, ◌∙◌}
-use Rattle.sqlite.specs.declared.types.Value.TheVariants.{Int}
-use Rattle.sqlite.specs.Collation.TheVariants.{Binary}
-use Rattle.sqlite_value.specs.Keys.{ascending}
-use Rattle.sqlite.specs.Clock.{timed}
-use Rattle.sqlite.specs.Effect.{Database}
-use Rattle.sqlite.specs.Order.{Row}
-use Rattle.sqlite.specs.Term.{Term, col}
-use Rattle.sqlite.specs.Query.{Query, inner, end}
-use Rattle.sqlite.specs.Program.{overlay}
+use Rattle.reg_tables_sql.proofs.Words.{◌≡◌, ℕ, pos, List, [], ◌∷◌, ◌++◌, codes, refl, sym, ap, subst, ◌∙◌, Int, Binary, ascending, timed}
+use Rattle.reg_tables_sql.proofs.Words.{Database, Row, Term, col, Query, inner, end, overlay, reads_listing, IsSourceOf, State, IsUnchanged}
+use Rattle.reg_tables_sql.proofs.Words.{command_of, by_column, ours, is_number, IsSelection, in_order, in_order_of, then_equal}
+use Rattle.reg_tables_sql.proofs.Words.{equals_first, matches_number}
+use Rattle.std.proofs.Common.{IsTrue}
 use Rattle.sqlite.specs.Command.TheVariants.{Select}
-use Rattle.sqlite.specs.Listing.{understood, reads_listing, IsSourceOf}
-use Rattle.sqlite.specs.State.{State, Begins, IsStatement, IsUnchanged, Shown}
-use Rattle.sqlite.proofs.Callers.{EndsIn, begins_shown, command_of}
+use Rattle.sqlite.specs.Listing.{understood}
+use Rattle.sqlite.specs.State.{Begins, IsStatement, Shown}
+use Rattle.sqlite.proofs.Callers.{EndsIn, begins_shown}
 use Rattle.sqlite_resolve.specs.declared.compiled.Compiled.{Compiled}
 use Rattle.sqlite_tied.specs.Compute.{everything}
-use Rattle.reg_tables_schema.specs.Rows.{by_column}
-use Rattle.reg_tables_schema.specs.Schema.{ours}
-use Rattle.reg_tables_schema.specs.Tests.{is_number}
-use Rattle.reg_tables_schema.proofs.Reading.{IsSelection, selected_by}
-use Rattle.reg_tables_schema.proofs.Sorted.{in_order, in_order_of, then_equal}
-use Rattle.reg_tables_schema.proofs.TableMatches.{equals_first, matches_number}
+use Rattle.reg_tables_schema.proofs.Reading.{selected_by}
 use Rattle.reg_tables_sql.specs.Stems.{AreStemsOf, entries_text}
 
 abbrev project : List Term

@@ -1,41 +1,18 @@
 -- What the queries on tokens answer.
-use Rattle.std.proofs.Common.{◌≡◌, ℕ, pos, List, [], ◌∷◌, codes, map, Option, refl, ap, subst, ◌∙◌}
-use Rattle.std.specs.List.{filter}
-use Rattle.sqlite.specs.Collation.TheVariants.{Binary}
-use Rattle.sqlite_value.specs.Keys.{ascending}
-use Rattle.sqlite.specs.Order.{Row}
-use Rattle.sqlite.specs.Term.{Term, col}
-use Rattle.sqlite.specs.Query.{IsSureAnswer, Query, inner, end}
-use Rattle.sqlite.specs.Program.{overlay}
+use Rattle.reg_tables_sql.proofs.Words.{◌≡◌, ℕ, pos, List, [], ◌∷◌, codes, map, Option, refl, ap, subst, ◌∙◌, filter, Binary, ascending}
+use Rattle.reg_tables_sql.proofs.Words.{Row, Term, col, IsSureAnswer, Query, inner, end, overlay, State, ours, IsInside, IsSelection}
+use Rattle.reg_tables_sql.proofs.Words.{selected, flat_map, IsPermutation, Blob, Int, binary, is_true, column, matches, eval_all, op2}
+use Rattle.reg_tables_sql.proofs.Words.{Trees, Compare, Eq, number_columns, shown_of, is_number, greatest, greatest_of, plain, answers}
+use Rattle.reg_tables_sql.proofs.Words.{joined, same_filter, in_order, shown_exactly, of_table, equals_first, matches_number, all_in_order}
+use Rattle.reg_tables_sql.proofs.Words.{IsLastId}
 use Rattle.sqlite.specs.Listing.{understood}
-use Rattle.sqlite.specs.State.{State, Shown}
+use Rattle.sqlite.specs.State.{Shown}
 use Rattle.sqlite_tied.specs.Compute.{everything}
-use Rattle.reg_tables_schema.specs.Schema.{ours}
-use Rattle.reg_tables_schema.specs.States.{IsInside}
-use Rattle.reg_tables_schema.proofs.Reading.{IsSelection, selected}
-use Rattle.std.specs.List.{flat_map}
-use Rattle.std.specs.List.Sorted.{IsPermutation}
-use Rattle.sqlite.specs.declared.types.Value.TheVariants.{Blob, Int}
-use Rattle.sqlite.specs.Ops.{binary, is_true}
-use Rattle.sqlite.specs.Order.{column}
-use Rattle.sqlite.specs.Query.{matches}
-use Rattle.sqlite.specs.Term.{eval_all, op2}
-use Rattle.sqlite.specs.Tree.{Trees}
-use Rattle.sqlite_sql.specs.declared.ops.BinaryOp.TheVariants.{Compare}
-use Rattle.sqlite_sql.specs.declared.ops.CompareOp.TheVariants.{Eq}
-use Rattle.reg_tables_schema.specs.Rows.{number_columns}
-use Rattle.reg_tables_schema.specs.Shown.{shown_of}
-use Rattle.reg_tables_schema.specs.Tests.{is_blob, is_number}
-use Rattle.reg_tables_schema.proofs.Greatest.{greatest, greatest_of}
-use Rattle.reg_tables_schema.proofs.Queries.{plain, answers, joined, same_filter, equals_blob}
-use Rattle.reg_tables_schema.proofs.Sorted.{in_order}
-use Rattle.reg_tables_schema.proofs.ShownRows.{shown_exactly}
-use Rattle.reg_tables_schema.proofs.Selections.{of_table}
-use Rattle.reg_tables_schema.proofs.TableMatches.{equals_first, matches_number}
-use Rattle.reg_tables_schema.proofs.WholeTables.{all_in_order}
+use Rattle.reg_tables_schema.specs.Tests.{is_blob}
+use Rattle.reg_tables_schema.proofs.Queries.{equals_blob}
+use Rattle.reg_tables_sql.specs.declared.tokens.TheConstants.{ALL_TEXT, BY_DIGEST_TEXT, BY_ID_TEXT, LAST_ID_TEXT}
 use Rattle.reg_tables_sql.specs.declared.tokens.Token.{Token}
 use Rattle.reg_tables_sql.specs.declared.tokens.TokenRow.{TokenRow}
-use Rattle.reg_tables_sql.specs.Counts.{IsLastId}
 use Rattle.reg_tables_sql.specs.Tokens.{AreTokens, IsTokenOfDigest, IsTokenWithId, columns_of_token, columns_with_account, is_of_token, token_and_account, tokens_with_accounts}
 
 abbrev by_digest_filter : List Term
@@ -47,13 +24,10 @@ by_digest_project = col 1 0 ∷ col 1 3 ∷ col 1 4 ∷ col 1 5 ∷ col 1 6 ∷ 
 abbrev by_digest_names : List (List ℕ)
 by_digest_names = codes "id" ∷ codes "account" ∷ codes "live" ∷ codes "publish_new" ∷ codes "publish_update" ∷ codes "yank" ∷ codes "change_owners" ∷ codes "login" ∷ codes "enabled" ∷ []
 
-abbrev pub by_digest_text : List ℕ
-by_digest_text = codes "SELECT t.id, t.account, t.live, t.publish_new, t.publish_update, t.yank, t.change_owners, a.login, a.enabled FROM tokens t JOIN accounts a ON a.id = t.account WHERE t.digest = ?1"
-
 abbrev pub by_digest_query : Query
 by_digest_query = plain (inner 3 (inner 1 end)) by_digest_filter by_digest_project
 
-pub by_digest_is : IsSelection ours by_digest_text by_digest_query by_digest_names
+pub by_digest_is : IsSelection ours BY_DIGEST_TEXT.now by_digest_query by_digest_names
 unfolding understood everything
 by_digest_is = record { command = refl; unlisted = refl; plain = (refl, refl) }
 
@@ -69,7 +43,7 @@ pub by_digest_gives : (digest : List ℕ) (db : Trees) (rows : List Row) → IsS
 by_digest_gives digest db rows h =
     subst (λ xs. IsPermutation xs rows) (by_digest_rows db digest) (answers (overlay db []) (Blob digest ∷ []) (inner 3 (inner 1 end)) by_digest_filter by_digest_project rows h)
 
-pub by_digest : (old new : State) (digest : List ℕ) (found : Option TokenRow) → IsInside old → Shown by_digest_text (Blob digest ∷ []) old new (shown_of columns_with_account found)
+pub by_digest : (old new : State) (digest : List ℕ) (found : Option TokenRow) → IsInside old → Shown BY_DIGEST_TEXT.now (Blob digest ∷ []) old new (shown_of columns_with_account found)
     → IsTokenOfDigest digest old.now.trees found
 by_digest old new digest found at h =
     shown_exactly columns_with_account _ found (by_digest_gives digest old.now.trees _ (selected by_digest_is (Blob digest ∷ []) old new _ at h))
@@ -80,35 +54,26 @@ project = col 1 0 ∷ col 1 2 ∷ col 1 3 ∷ col 1 4 ∷ col 1 5 ∷ col 1 6 �
 abbrev names : List (List ℕ)
 names = codes "id" ∷ codes "digest" ∷ codes "account" ∷ codes "live" ∷ codes "publish_new" ∷ codes "publish_update" ∷ codes "yank" ∷ codes "change_owners" ∷ []
 
-abbrev pub listed_text : List ℕ
-listed_text = codes "SELECT id, digest, account, live, publish_new, publish_update, yank, change_owners FROM tokens ORDER BY id"
-
-pub listed_is : IsSelection ours listed_text (in_order (inner 3 end) [] project ((col 1 0, ascending Binary) ∷ [])) (names)
+pub listed_is : IsSelection ours ALL_TEXT.now (in_order (inner 3 end) [] project ((col 1 0, ascending Binary) ∷ [])) (names)
 unfolding understood everything
 listed_is = record { command = refl; unlisted = refl; plain = (refl, refl) }
 
-pub listed : (old new : State) (list : List Token) → IsInside old → Shown listed_text [] old new (map columns_of_token list) → AreTokens old.now.trees list
+pub listed : (old new : State) (list : List Token) → IsInside old → Shown ALL_TEXT.now [] old new (map columns_of_token list) → AreTokens old.now.trees list
 listed old new list at h = all_in_order (overlay old.now.trees []) [] 3 project _ 0 (selected listed_is [] old new _ at h)
 
-abbrev by_id_text : List ℕ
-by_id_text = codes "SELECT id, digest, account, live, publish_new, publish_update, yank, change_owners FROM tokens WHERE id = ?1"
-
-pub by_id_is : IsSelection ours by_id_text (plain (inner 3 end) (equals_first 0) project) names
+pub by_id_is : IsSelection ours BY_ID_TEXT.now (plain (inner 3 end) (equals_first 0) project) names
 unfolding understood everything
 by_id_is = record { command = refl; unlisted = refl; plain = (refl, refl) }
 
-pub by_id : (old new : State) (id : ℕ) (found : Option Token) → IsInside old → Shown by_id_text (Int (pos id) ∷ []) old new (shown_of columns_of_token found) → IsTokenWithId id old.now.trees found
+pub by_id : (old new : State) (id : ℕ) (found : Option Token) → IsInside old → Shown BY_ID_TEXT.now (Int (pos id) ∷ []) old new (shown_of columns_of_token found) → IsTokenWithId id old.now.trees found
 by_id old new id found at h =
     let params : Row = Int (pos id) ∷ [] in
     let db = overlay old.now.trees [] in
     shown_exactly columns_of_token _ found (of_table db params 3 (equals_first 0) project _ (is_number 0 id) (matches_number db 3 0 id) (selected by_id_is params old new _ at h))
 
-abbrev pub last_text : List ℕ
-last_text = codes "SELECT id FROM tokens ORDER BY id DESC LIMIT 1"
-
-pub last_is : IsSelection ours last_text (greatest 3) (codes "id" ∷ [])
+pub last_is : IsSelection ours LAST_ID_TEXT.now (greatest 3) (codes "id" ∷ [])
 unfolding understood everything
 last_is = record { command = refl; unlisted = refl; plain = (refl, refl) }
 
-pub last : (old new : State) (id : Option ℕ) → IsInside old → Shown last_text [] old new (shown_of number_columns id) → IsLastId 3 old.now.trees id
+pub last : (old new : State) (id : Option ℕ) → IsInside old → Shown LAST_ID_TEXT.now [] old new (shown_of number_columns id) → IsLastId 3 old.now.trees id
 last old new id at h = greatest_of (overlay old.now.trees []) 3 _ (selected last_is [] old new _ at h)

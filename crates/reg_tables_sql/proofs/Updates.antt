@@ -1,37 +1,16 @@
 -- What an UPDATE does, from its text, its table and the test of its WHERE.
-use Rattle.std.proofs.Common.{◌≡◌, ℕ, ℤ, pos, List, [], ◌∷◌, slice_get, map, Bool, true, ◌&&◌, Some, None, Ok, refl, ap, subst, ◌∙◌}
-use Rattle.std.specs.List.{filter}
-use Rattle.std.specs.List.Sorted.{IsPermutation}
-use Rattle.std.proofs.lemmas.List.Sorted.{IsPermutation-sym}
-use Rattle.sqlite.specs.declared.types.Value.TheVariants.{Int}
-use Rattle.sqlite.specs.Order.{Row, column}
-use Rattle.sqlite.specs.Term.{Term, eval_all}
-use Rattle.sqlite.specs.Ops.{binary, is_true}
-use Rattle.sqlite.specs.Collation.TheVariants.{Binary}
-use Rattle.sqlite_sql.specs.declared.ops.BinaryOp.TheVariants.{Compare}
-use Rattle.sqlite_sql.specs.declared.ops.CompareOp.TheVariants.{Eq}
-use Rattle.sqlite.specs.Table.{Table}
-use Rattle.sqlite.specs.Tree.{Trees}
-use Rattle.sqlite.specs.Query.{inner, end, matches}
-use Rattle.sqlite.specs.Program.{overlay}
-use Rattle.sqlite.specs.Effect.{Answers}
+use Rattle.reg_tables_sql.proofs.Words.{◌≡◌, ℕ, ℤ, pos, List, [], ◌∷◌, slice_get, map, Bool, true, ◌&&◌, Some, None, Ok, refl, ap, subst}
+use Rattle.reg_tables_sql.proofs.Words.{◌∙◌, filter, IsPermutation, IsPermutation-sym, Int, Row, column, Term, eval_all, binary, is_true}
+use Rattle.reg_tables_sql.proofs.Words.{Binary, Compare, Eq, Table, Trees, inner, end, matches, overlay, Answers, State, Executes, IsPlain}
+use Rattle.reg_tables_sql.proofs.Words.{command_of, one_permutation, Program, edited, has_rowid, put_row, without_rowid, ours, our_tables}
+use Rattle.reg_tables_sql.proofs.Words.{IsInside, IsRowWrite, replacing, plain, same_filter, and_true, equals_int, matched, of_table}
+use Rattle.reg_tables_sql.proofs.Words.{shown_exactly, equals_first}
 use Rattle.sqlite.specs.Command.TheVariants.{Update}
 use Rattle.sqlite.specs.Listing.{understood}
-use Rattle.sqlite.specs.State.{State, Executes}
-use Rattle.sqlite.proofs.Callers.{IsPlain, command_of, statement_of, runs_as, one_permutation}
-use Rattle.sqlite_schema.specs.declared.program.Program.{Program}
-use Rattle.sqlite_rules.specs.Edit.{edited}
-use Rattle.sqlite_trees.specs.Tree.{has_rowid, put_row, without_rowid}
-use Rattle.reg_tables_schema.specs.Schema.{ours, our_tables}
-use Rattle.reg_tables_schema.specs.States.{IsInside}
-use Rattle.reg_tables_schema.specs.Statements.{IsRowWrite}
+use Rattle.sqlite.proofs.Callers.{statement_of, runs_as}
 use Rattle.reg_tables_schema.specs.Changes.{Replaces, Touches}
-use Rattle.reg_tables_schema.proofs.Edits.{replacing, updated}
-use Rattle.reg_tables_schema.proofs.Queries.{plain, same_filter, and_true, equals_int}
-use Rattle.reg_tables_schema.proofs.Selections.{matched, of_table}
-use Rattle.reg_tables_schema.proofs.ShownRows.{shown_exactly}
+use Rattle.reg_tables_schema.proofs.Edits.{updated}
 use Rattle.reg_tables_schema.proofs.Statements.{replaces, touches}
-use Rattle.reg_tables_schema.proofs.TableMatches.{equals_first}
 use Rattle.reg_tables_sql.specs.Updates.{KeepsWhereNone}
 
 -- the rows that pass a test are those that a WHERE with these parameters matches

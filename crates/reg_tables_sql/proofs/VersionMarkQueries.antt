@@ -1,30 +1,15 @@
 -- What the queries on the marks of versions answer.
-use Rattle.std.proofs.Common.{◌≡◌, ℕ, pos, List, [], ◌∷◌, codes, map, Option, refl, ap, ◌∙◌}
-use Rattle.std.specs.List.{filter}
-use Rattle.sqlite.specs.declared.types.Value.TheVariants.{Int, Text}
-use Rattle.sqlite.specs.Collation.TheVariants.{Binary}
+use Rattle.reg_tables_sql.proofs.Words.{◌≡◌, ℕ, pos, List, [], ◌∷◌, codes, map, Option, refl, ap, ◌∙◌, filter, Int, Text, Binary, ascending}
+use Rattle.reg_tables_sql.proofs.Words.{Row, Term, col, inner, end, matches, Trees, overlay, State, ours, IsInside, by_column, shown_of}
+use Rattle.reg_tables_sql.proofs.Words.{is_number, is_version, plain, same_filter, IsSelection, selected, matched, of_table, shown_exactly}
+use Rattle.reg_tables_sql.proofs.Words.{in_order, in_order_of, then_equal, equals_first, matches_number}
 use Rattle.sqlite_sql.specs.declared.ops.UnaryOp.TheVariants.{Length}
-use Rattle.sqlite_value.specs.Keys.{ascending}
-use Rattle.sqlite.specs.Order.{Row}
 use Rattle.sqlite.specs.Ops.{unary}
-use Rattle.sqlite.specs.Term.{Term, col, op1}
-use Rattle.sqlite.specs.Query.{inner, end, matches}
-use Rattle.sqlite.specs.Tree.{Trees}
-use Rattle.sqlite.specs.Program.{overlay}
+use Rattle.sqlite.specs.Term.{op1}
 use Rattle.sqlite.specs.Listing.{understood}
-use Rattle.sqlite.specs.State.{State, Shown}
+use Rattle.sqlite.specs.State.{Shown}
 use Rattle.sqlite_tied.specs.Compute.{everything}
-use Rattle.reg_tables_schema.specs.Schema.{ours}
-use Rattle.reg_tables_schema.specs.States.{IsInside}
-use Rattle.reg_tables_schema.specs.Rows.{by_column}
-use Rattle.reg_tables_schema.specs.Shown.{shown_of}
-use Rattle.reg_tables_schema.specs.Tests.{is_number, is_version}
-use Rattle.reg_tables_schema.proofs.Queries.{plain, same_filter}
-use Rattle.reg_tables_schema.proofs.Reading.{IsSelection, selected}
-use Rattle.reg_tables_schema.proofs.Selections.{matched, of_table}
-use Rattle.reg_tables_schema.proofs.ShownRows.{shown_exactly}
-use Rattle.reg_tables_schema.proofs.Sorted.{in_order, in_order_of, then_equal}
-use Rattle.reg_tables_schema.proofs.TableMatches.{equals_first, matches_number}
+use Rattle.reg_tables_sql.specs.declared.versions.TheConstants.{MARKS_OF_TEXT, MARK_BY_ID_TEXT, MARK_BY_TEXT_TEXT}
 use Rattle.reg_tables_sql.specs.declared.versions.VersionMark.{VersionMark}
 use Rattle.reg_tables_sql.specs.VersionMarks.{AreMarksOf, IsMarkOf, IsMarkWithId, columns_of_mark}
 use Rattle.reg_tables_sql.proofs.VersionTexts.{is_wanted, wanted, yank_filter}
@@ -35,38 +20,29 @@ project = col 1 0 ∷ col 1 3 ∷ op1 Length (col 1 6) ∷ col 1 8 ∷ []
 abbrev names : List (List ℕ)
 names = codes "id" ∷ codes "vers" ∷ codes "length(stem)" ∷ codes "yanked" ∷ []
 
-abbrev text : List ℕ
-text = codes "SELECT id, vers, length(stem), yanked FROM versions WHERE crate = ?1 ORDER BY id"
-
-pub marks_are : IsSelection ours text (in_order (inner 11 end) (equals_first 2) project ((col 1 0, ascending Binary) ∷ [])) names
+pub marks_are : IsSelection ours MARKS_OF_TEXT.now (in_order (inner 11 end) (equals_first 2) project ((col 1 0, ascending Binary) ∷ [])) names
 unfolding understood everything
 marks_are = record { command = refl; unlisted = refl; plain = (refl, refl) }
 
-pub marks : (old new : State) (id : ℕ) (list : List VersionMark) → IsInside old → Shown text (Int (pos id) ∷ []) old new (map columns_of_mark list) → AreMarksOf id old.now.trees list
+pub marks : (old new : State) (id : ℕ) (list : List VersionMark) → IsInside old → Shown MARKS_OF_TEXT.now (Int (pos id) ∷ []) old new (map columns_of_mark list) → AreMarksOf id old.now.trees list
 unfolding unary
 marks old new id list at h =
     let params : Row = Int (pos id) ∷ [] in
     in_order_of (overlay old.now.trees []) params 11 (equals_first 2) project ((col 1 0, ascending Binary) ∷ []) _ (is_number 2 id) (by_column 0) (matches_number old.now.trees 11 2 id)
     (λ a b. then_equal (by_column 0 a b)) (selected marks_are params old new _ at h)
 
-abbrev by_id_text : List ℕ
-by_id_text = codes "SELECT id, vers, length(stem), yanked FROM versions WHERE id = ?1"
-
-pub by_id_is : IsSelection ours by_id_text (plain (inner 11 end) (equals_first 0) project) names
+pub by_id_is : IsSelection ours MARK_BY_ID_TEXT.now (plain (inner 11 end) (equals_first 0) project) names
 unfolding understood everything
 by_id_is = record { command = refl; unlisted = refl; plain = (refl, refl) }
 
-pub by_id : (old new : State) (id : ℕ) (found : Option VersionMark) → IsInside old → Shown by_id_text (Int (pos id) ∷ []) old new (shown_of columns_of_mark found) → IsMarkWithId id old.now.trees found
+pub by_id : (old new : State) (id : ℕ) (found : Option VersionMark) → IsInside old → Shown MARK_BY_ID_TEXT.now (Int (pos id) ∷ []) old new (shown_of columns_of_mark found) → IsMarkWithId id old.now.trees found
 unfolding unary
 by_id old new id found at h =
     let params : Row = Int (pos id) ∷ [] in
     let db = overlay old.now.trees [] in
     shown_exactly columns_of_mark _ found (of_table db params 11 (equals_first 0) project _ (is_number 0 id) (matches_number db 11 0 id) (selected by_id_is params old new _ at h))
 
-abbrev by_text_text : List ℕ
-by_text_text = codes "SELECT id, vers, length(stem), yanked FROM versions WHERE crate = ?1 AND release = ?2 AND vers = ?3"
-
-pub by_text_is : IsSelection ours by_text_text (plain (inner 11 end) yank_filter project) names
+pub by_text_is : IsSelection ours MARK_BY_TEXT_TEXT.now (plain (inner 11 end) yank_filter project) names
 unfolding understood everything
 by_text_is = record { command = refl; unlisted = refl; plain = (refl, refl) }
 
@@ -80,7 +56,7 @@ by_text_matches db of_crate release vers =
     matched (wanted of_crate release vers) env (db 11) ∙ ap (map env) (same_filter _ _ (is_wanted of_crate release vers) (db 11))
 
 pub by_text : (old new : State) (of_crate : ℕ) (release vers : List ℕ) (found : Option VersionMark) → IsInside old
-    → Shown by_text_text (by_text_params of_crate release vers) old new (shown_of columns_of_mark found) → IsMarkOf of_crate release vers old.now.trees found
+    → Shown MARK_BY_TEXT_TEXT.now (by_text_params of_crate release vers) old new (shown_of columns_of_mark found) → IsMarkOf of_crate release vers old.now.trees found
 unfolding unary
 by_text old new of_crate release vers found at h =
     let params = by_text_params of_crate release vers in

@@ -1,12 +1,9 @@
 -- The values of a row that is read as a version.
-use Rattle.std.proofs.Common.{◌≡◌, ◌≢◌, [], ◌∷◌, Option, None, Some, length, refl, arith}
-use Rattle.std.specs.Prelude.{string_bytes, MatchOption}
-use Rattle.std.specs.Option.{option_map}
+use Rattle.reg_tables_sql.proofs.Words.{◌≡◌, [], ◌∷◌, Option, None, Some, length, refl, arith, string_bytes, option_map, Value, Null, Text}
+use Rattle.reg_tables_sql.proofs.Words.{text_or_null, Row, column}
+use Rattle.std.proofs.Common.{◌≢◌}
+use Rattle.std.specs.Prelude.{MatchOption}
 use Rattle.std.specs.declared.string.String.{String}
-use Rattle.sqlite.specs.declared.types.Value.{Value}
-use Rattle.sqlite.specs.declared.types.Value.TheVariants.{Null, Text}
-use Rattle.reg_tables_schema.specs.Rows.{text_or_null}
-use Rattle.sqlite.specs.Order.{Row, column}
 
 -- eight values
 pub eight : (row : Row) → length row ≡ 8 → row ≡ column row 0 ∷ column row 1 ∷ column row 2 ∷ column row 3 ∷ column row 4 ∷ column row 5 ∷ column row 6 ∷ column row 7 ∷ []

@@ -1,49 +1,29 @@
 -- What the statements on versions do.
-use Rattle.std.proofs.Common.{◌≡◌, ℕ, pos, List, [], ◌∷◌, ◌&&◌, codes, Bool, true, false, cond, Option, Ok, Result, OnOk, refl, ap, ◌∙◌}
+use Rattle.reg_tables_sql.proofs.Words.{◌≡◌, ℕ, pos, List, [], ◌∷◌, ◌&&◌, Bool, true, false, cond, Option, Ok, Result, OnOk, refl, ap, ◌∙◌}
+use Rattle.reg_tables_sql.proofs.Words.{Null, Int, Text, Blob, Row, column, value_cmp, Term, lit, col, op2, binary, is_true, Trees, Values}
+use Rattle.reg_tables_sql.proofs.Words.{Insert, State, Executes, Error, IsPlain, command_of, Compare, Eq, Binary, put_row, without_rowid}
+use Rattle.reg_tables_sql.proofs.Words.{ours, IsInside, IsRowWrite, Adds, mark, text_or_null, step_of, replacing, and_true, same_filter}
+use Rattle.reg_tables_sql.proofs.Words.{equals_int, adds, cast_int, cast_null, is_version, matched}
 use Rattle.std.specs.Prelude.{map}
 use Rattle.std.specs.Ordering.{is_eq}
-use Rattle.sqlite.specs.declared.types.Value.TheVariants.{Null, Int, Text, Blob}
-use Rattle.sqlite.specs.Order.{Row, column, value_cmp}
-use Rattle.sqlite.specs.Term.{Term, lit, col, op2}
-use Rattle.sqlite.specs.Ops.{binary, is_true}
-use Rattle.sqlite.specs.Tree.{Trees}
 use Rattle.sqlite.specs.Edit.{edited}
-use Rattle.sqlite.specs.Source.TheVariants.{Values}
-use Rattle.sqlite.specs.Command.TheVariants.{Insert}
 use Rattle.sqlite.specs.Listing.{understood}
-use Rattle.sqlite.specs.State.{State, Executes}
-use Rattle.sqlite.specs.declared.error.Error.{Error}
-use Rattle.sqlite.proofs.Callers.{IsPlain, command_of}
-use Rattle.sqlite_sql.specs.declared.ops.BinaryOp.TheVariants.{Compare}
-use Rattle.sqlite_sql.specs.declared.ops.CompareOp.TheVariants.{Eq}
-use Rattle.sqlite.specs.Collation.TheVariants.{Binary}
-use Rattle.sqlite_trees.specs.Tree.{put_row, without_rowid}
 use Rattle.sqlite_tied.specs.Compute.{everything}
-use Rattle.reg_tables_schema.specs.Schema.{ours, versions}
-use Rattle.reg_tables_schema.specs.States.{IsInside}
-use Rattle.reg_tables_schema.specs.Statements.{IsRowWrite}
-use Rattle.reg_tables_schema.specs.Changes.{Adds}
-use Rattle.reg_tables_schema.specs.Rows.{mark, text_or_null}
-use Rattle.reg_tables_schema.proofs.Edits.{step_of, replacing}
-use Rattle.reg_tables_schema.proofs.Queries.{and_true, same_filter, equals_int, equals_text}
-use Rattle.reg_tables_schema.proofs.Statements.{adds, cast_int, cast_null}
+use Rattle.reg_tables_schema.specs.Schema.{versions}
+use Rattle.reg_tables_schema.proofs.Queries.{equals_text}
 use Rattle.reg_tables_schema.proofs.Binding.{cast_text}
+use Rattle.reg_tables_sql.specs.declared.versions.TheConstants.{INSERT_TEXT, SET_YANKED_TEXT}
 use Rattle.reg_tables_sql.specs.Versions.{MarksYanked, version_row}
-use Rattle.reg_tables_schema.specs.Tests.{is_version}
-use Rattle.reg_tables_schema.proofs.Selections.{matched}
 use Rattle.reg_tables_sql.proofs.Updates.{IsUpdate, Matches, updates_none, updates_one, updates_only}
-
-abbrev pub insert_text : List ℕ
-insert_text = codes "INSERT INTO versions (id, crate, vers, release, digest, stem, description, yanked) VALUES (?1, ?2, ?3, ?4, ?5, ?6, ?7, 0)"
 
 abbrev insert_terms : List Term
 insert_terms = col 0 0 ∷ lit Null ∷ col 0 1 ∷ col 0 2 ∷ col 0 3 ∷ col 0 4 ∷ col 0 5 ∷ col 0 6 ∷ lit (Int (pos 0)) ∷ []
 
-insert_is : command_of (understood ours insert_text) ≡ Insert 6 (Values insert_terms 9)
+insert_is : command_of (understood ours INSERT_TEXT.now) ≡ Insert 6 (Values insert_terms 9)
 unfolding understood everything
 insert_is = refl
 
-insert_plain : IsPlain (understood ours insert_text)
+insert_plain : IsPlain (understood ours INSERT_TEXT.now)
 unfolding understood everything
 insert_plain = (refl, refl)
 
@@ -55,17 +35,14 @@ insert_news : (db : Trees) (id of_crate : ℕ) (vers release digest stem : List 
 insert_news db id of_crate vers release digest stem description = rw (cast_int (pos id), cast_int (pos of_crate), cast_int (pos 0), cast_null, cast_text description)
 
 pub inserts_version : (old new : State) (id of_crate : ℕ) (vers release digest stem : List ℕ) (description : Option (List ℕ)) (r : Result ℕ Error) → IsInside old
-    → Executes insert_text (insert_params id of_crate vers release digest stem description) old new r → OnOk r (Adds 11 (version_row id of_crate vers release digest stem description false) old new)
+    → Executes INSERT_TEXT.now (insert_params id of_crate vers release digest stem description) old new r → OnOk r (Adds 11 (version_row id of_crate vers release digest stem description false) old new)
 inserts_version old new id of_crate vers release digest stem description r at h =
-    adds insert_text 6 versions refl insert_plain refl insert_terms 9 insert_is (insert_params id of_crate vers release digest stem description)
+    adds INSERT_TEXT.now 6 versions refl insert_plain refl insert_terms 9 insert_is (insert_params id of_crate vers release digest stem description)
     (version_row id of_crate vers release digest stem description false) old new r at (insert_news old.now.trees id of_crate vers release digest stem description) h
 
-pub insert_writes : IsRowWrite (understood ours insert_text)
+pub insert_writes : IsRowWrite (understood ours INSERT_TEXT.now)
 unfolding understood everything
 insert_writes = refl
-
-abbrev yank_text : List ℕ
-yank_text = codes "UPDATE versions SET yanked = ?4 WHERE crate = ?1 AND release = ?2 AND vers = ?3"
 
 abbrev pub yank_filter : List Term
 yank_filter = op2 (Compare Eq Binary) (col 1 2) (col 0 0) ∷ op2 (Compare Eq Binary) (col 1 4) (col 0 1) ∷ op2 (Compare Eq Binary) (col 1 3) (col 0 2) ∷ []
@@ -74,7 +51,7 @@ yank_filter = op2 (Compare Eq Binary) (col 1 2) (col 0 0) ∷ op2 (Compare Eq Bi
 abbrev yank_project : List Term
 yank_project = col 1 0 ∷ col 1 0 ∷ lit Null ∷ col 1 2 ∷ col 1 3 ∷ col 1 4 ∷ col 1 5 ∷ col 1 6 ∷ col 1 7 ∷ col 0 3 ∷ []
 
-pub yank_is : IsUpdate yank_text 6 versions yank_filter yank_project
+pub yank_is : IsUpdate SET_YANKED_TEXT.now 6 versions yank_filter yank_project
 unfolding understood everything
 yank_is = record { found = refl; bare = (refl, refl); command = refl; writing = refl; seen = λ db. refl }
 
@@ -98,7 +75,7 @@ yank_edit : (db : Trees) (id of_crate : ℕ) (vers release digest stem : List �
 yank_edit db id of_crate vers release digest stem description yanked = rw (cast_int (pos id), cast_int (pos of_crate), cast_int (cond yanked (pos 1) (pos 0)), cast_null, cast_text description)
 
 pub yanks : (old new : State) (of_crate : ℕ) (release vers : List ℕ) (yanked : Bool) (count : ℕ) → IsInside old
-    → Executes yank_text (Int (pos of_crate) ∷ Text release ∷ Text vers ∷ mark yanked ∷ []) old new (Ok count) → MarksYanked of_crate release vers yanked old new
+    → Executes SET_YANKED_TEXT.now (Int (pos of_crate) ∷ Text release ∷ Text vers ∷ mark yanked ∷ []) old new (Ok count) → MarksYanked of_crate release vers yanked old new
 yanks old new of_crate release vers yanked count at h =
     let met = yank_matches of_crate release vers yanked in
     record {

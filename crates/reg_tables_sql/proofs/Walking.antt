@@ -1,25 +1,23 @@
 -- Rows one at a time in a transaction: from the first to the end, or to a failure.
-use Rattle.std.proofs.Common.{◌≡◌, ◌==◌, ◌⊎◌, inl, inr, arith, ℕ, ◌+◌, List, [], ◌∷◌, ◌++◌, length, length-append, true, false, not, nat_lt, is_some, Ok, Err, Some, None, Option, Result, OnErr, refl, sym, ap, subst, ◌∙◌}
+use Rattle.reg_tables_sql.proofs.Words.{◌≡◌, ◌==◌, arith, ℕ, ◌+◌, List, [], ◌∷◌, ◌++◌, length, true, false, not, Ok, Some, None, Option}
+use Rattle.reg_tables_sql.proofs.Words.{Result, refl, sym, ap, subst, ◌∙◌, Database, timed, Row, Error, state, reads_listing, IsSourceOf}
+use Rattle.reg_tables_sql.proofs.Words.{State, HasCleanDisk, IsUnchanged, reading_survives}
+use Rattle.std.proofs.Common.{◌⊎◌, inl, inr, length-append, nat_lt, is_some, Err, OnErr}
 use Rattle.std.proofs.lemmas.Bool.Decides.{nat_tests}
 use Rattle.std.specs.Borrow.{Bor}
-use Rattle.sqlite.specs.Effect.{Database}
-use Rattle.sqlite.specs.Clock.{timed}
-use Rattle.sqlite.specs.Order.{Row}
 use Rattle.sqlite_trees.specs.declared.store.Store.{Ghosts}
-use Rattle.sqlite.specs.declared.error.Error.{Error}
 use Rattle.sqlite.specs.declared.rows.stream.Rows.{Rows}
-use Rattle.sqlite.specs.Held.{Held, state}
+use Rattle.sqlite.specs.Held.{Held}
 use Rattle.sqlite.specs.Given.{HasBegun, HasGiven, IsPlain, IsRefused}
-use Rattle.sqlite.specs.Listing.{understood, reads_listing, IsSourceOf}
+use Rattle.sqlite.specs.Listing.{understood}
 use Rattle.sqlite.specs.Next.{HasMoved}
-use Rattle.sqlite.specs.State.{State, Fails, HasCleanDisk, IsUnchanged, Survives, Shown, ShowsRows, CommitsShowing}
+use Rattle.sqlite.specs.State.{Fails, Survives, Shown, ShowsRows, CommitsShowing}
 use Rattle.sqlite.proofs.Callers.{begun_plain, unchanged_then}
 use Rattle.sqlite.proofs.StateLemmas.{survives_then}
 use Rattle.reg_tables_schema.specs.States.{Refuses}
 use Rattle.reg_tables_schema.specs.Statements.{IsReading, MayRead}
 use Rattle.reg_tables_schema.specs.Steps.{LeavesSame}
 use Rattle.reg_tables_schema.proofs.ReadLemmas.{query_refused}
-use Rattle.reg_tables_schema.proofs.Selections.{reading_survives}
 use Rattle.reg_tables_schema.proofs.Writing.{refuses_after}
 
 -- the connection gives the rows of a text, and has given these

@@ -5,7 +5,7 @@ use Rattle.sqlite.specs.Order.{Row}
 use Rattle.reg_tables_schema.specs.Places.{owners_tree}
 use Rattle.reg_tables_sql.specs.declared.accounts.Account.{Account}
 use Rattle.reg_tables_sql.specs.declared.pairs.Pair.{Pair}
-use Rattle.reg_tables_sql.specs.Pairs.{AreAccountsOf, ArePairs, IsPaired, accounts_in, is_of_pair, pair_columns}
+use Rattle.reg_tables_sql.specs.Pairs.{AreAccountsOf, ArePairs, accounts_in, is_of_pair, pair_columns}
 
 -- the ids of a crate and of an account
 abbrev pub owner_columns : ℕ → ℕ → Row
@@ -26,7 +26,3 @@ AreOwnersOf = AreAccountsOf owners_tree
 -- these are all owners, by crate and account
 abbrev pub AreOwnerships : Trees → List Pair → Type 0
 AreOwnerships = ArePairs owners_tree
-
--- whether the account is an owner of the crate
-abbrev pub IsOwned : ℕ → ℕ → Trees → Bool → Type 0
-IsOwned = IsPaired owners_tree

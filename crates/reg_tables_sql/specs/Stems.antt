@@ -1,5 +1,5 @@
 -- The rows of the index file of a crate.
-use Rattle.std.specs.Prelude.{ℕ, List, [], ◌∷◌, codes, filter, map}
+use Rattle.std.specs.Prelude.{ℕ, List, [], ◌∷◌, filter, map}
 use Rattle.sqlite.specs.declared.types.Value.TheVariants.{Blob}
 use Rattle.sqlite.specs.Order.{Row}
 use Rattle.sqlite.specs.Tree.{Trees}
@@ -7,10 +7,11 @@ use Rattle.reg_tables_schema.specs.Places.{id_place, version_crate_place, versio
 use Rattle.reg_tables_schema.specs.Rows.{IsInOrder, by_column, mark}
 use Rattle.reg_tables_schema.specs.Tests.{is_number, shows}
 use Rattle.reg_tables_sql.specs.declared.versions.StemRow.{StemRow}
+use Rattle.reg_tables_sql.specs.declared.versions.TheConstants.{ENTRIES_TEXT}
 
 -- the text that answers them
 abbrev pub entries_text : List ℕ
-entries_text = codes "SELECT stem, yanked FROM versions WHERE crate = ?1 ORDER BY id"
+entries_text = ENTRIES_TEXT.now
 
 -- the stem of a version's line, and its mark
 abbrev pub stem_places : List ℕ

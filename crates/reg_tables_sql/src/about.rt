@@ -37,12 +37,14 @@ fn about_of(rows: &[Row]) -> Result<Option<About>>
     Ok(Some(About { edition, base }))
 }
 
+const READ_TEXT: &str = "SELECT schema, base FROM about";
+
 /// What the row says; none if it is not alone, or its number belongs to no schema of ours.
 pub fn read<S: Alter>(conn: &mut Connection<S>) -> Result<Option<About>>
     requires { (e : Edition) × IsReadyOf e (state S.Store conn.old) }
     ensures { Finds S.Store conn.old conn.new result IsAboutOf }
 {
-    let rows = rows_of(conn, "SELECT schema, base FROM about", &[])?;
+    let rows = rows_of(conn, READ_TEXT, &[])?;
     about_of(&rows)
 }
 
@@ -66,20 +68,23 @@ pub fn base<S: Alter>(conn: &mut Connection<S>) -> Result<Option<String>>
     Ok(second_base(about))
 }
 
+const THE_ROWID_TEXT: &str = "SELECT rowid FROM about";
+
 fn the_rowid<S: Alter>(conn: &mut Connection<S>) -> Result<i64>
     requires { IsReady (state S.Store conn.old) }
     ensures { Reads S.Store conn.old conn.new result (λ id. map (shows (id_place ∷ []))
         (rows_in S.Store conn.old about_tree) ≡ (Int id ∷ []) ∷ []) }
 {
-    select_only::<i64, S>(conn, "SELECT rowid FROM about", &[])
+    select_only::<i64, S>(conn, THE_ROWID_TEXT, &[])
 }
+
+const NUMBER_SECOND_TEXT: &str = "UPDATE about SET schema = 2 WHERE rowid = ?1";
 
 fn number_second<S: Alter>(conn: &mut Connection<S>, id: i64) -> Result<()>
     requires { IsReady (state S.Store conn.old) }
     ensures { Writes S.Store conn.old conn.new result (NumbersSecond id) }
 {
-    let text = "UPDATE about SET schema = 2 WHERE rowid = ?1";
-    write(conn, text, params![id])
+    write(conn, NUMBER_SECOND_TEXT, params![id])
 }
 
 /// Gives the row the number of schema 2. This is refused if the row is not alone.

@@ -24,6 +24,8 @@ pub struct Account {
     pub enabled: bool,
 }
 
+const INSERT_TEXT: &str = "INSERT INTO accounts (id, login, name, enabled) VALUES (?1, ?2, ?3, 1)";
+
 /// Adds an enabled account.
 pub fn insert<S: Alter>(
     conn: &mut Connection<S>,
@@ -36,42 +38,45 @@ pub fn insert<S: Alter>(
         (Adds accounts_tree
         (account_row id login.now (option_map (λ n. n.now) name.entry) true)) }
 {
-    let text = "INSERT INTO accounts (id, login, name, enabled) VALUES (?1, ?2, ?3, 1)";
-    write(conn, text, params![id, login, name])
+    write(conn, INSERT_TEXT, params![id, login, name])
 }
+
+const ENABLE_TEXT: &str = "UPDATE accounts SET enabled = ?2 WHERE id = ?1";
 
 /// Enables or disables an account.
 pub fn enable<S: Alter>(conn: &mut Connection<S>, id: u32, enabled: bool) -> Result<()>
     requires { IsReady (state S.Store conn.old) }
     ensures { Writes S.Store conn.old conn.new result (Enables id enabled) }
 {
-    let text = "UPDATE accounts SET enabled = ?2 WHERE id = ?1";
-    write(conn, text, params![id, enabled])
+    write(conn, ENABLE_TEXT, params![id, enabled])
 }
+
+const BY_LOGIN_TEXT: &str = "SELECT id, login, name, enabled FROM accounts WHERE login = ?1";
 
 /// The account with this login, if there is one.
 pub fn by_login<S: Alter>(conn: &mut Connection<S>, login: &str) -> Result<Option<Account>>
     requires { IsReady (state S.Store conn.old) }
     ensures { Finds S.Store conn.old conn.new result (IsAccountOfLogin login.now) }
 {
-    let text = "SELECT id, login, name, enabled FROM accounts WHERE login = ?1";
-    select_one(conn, text, params![login])
+    select_one(conn, BY_LOGIN_TEXT, params![login])
 }
+
+const ALL_TEXT: &str = "SELECT id, login, name, enabled FROM accounts ORDER BY id";
 
 /// All accounts, by id.
 pub fn all<S: Alter>(alloc: Global, conn: &mut Connection<S>) -> Result<Vec<Account>>
     requires { IsReady (state S.Store conn.old) }
     ensures { Lists S.Store conn.old conn.new result AreAccounts }
 {
-    let text = "SELECT id, login, name, enabled FROM accounts ORDER BY id";
-    select_list(alloc, conn, text, &[])
+    select_list(alloc, conn, ALL_TEXT, &[])
 }
+
+const LAST_ID_TEXT: &str = "SELECT id FROM accounts ORDER BY id DESC LIMIT 1";
 
 /// The greatest account id, if there is one.
 pub fn last_id<S: Alter>(conn: &mut Connection<S>) -> Result<Option<u32>>
     requires { IsReady (state S.Store conn.old) }
     ensures { Finds S.Store conn.old conn.new result (IsLastId accounts_tree) }
 {
-    let text = "SELECT id FROM accounts ORDER BY id DESC LIMIT 1";
-    select_one(conn, text, &[])
+    select_one(conn, LAST_ID_TEXT, &[])
 }

@@ -20,6 +20,8 @@ pub struct Archive {
     pub bytes: Vec<u8>,
 }
 
+const INSERT_TEXT: &str = "INSERT INTO archives (version, bytes) VALUES (?1, ?2)";
+
 /// Adds the archive of a version. SQL keeps ids below 2^63.
 pub fn insert<S: Alter>(conn: &mut Connection<S>, version: u64, bytes: &[u8]) -> Result<()>
     requires ready { IsReady (state S.Store conn.old) }
@@ -27,9 +29,12 @@ pub fn insert<S: Alter>(conn: &mut Connection<S>, version: u64, bytes: &[u8]) ->
     ensures { Writes S.Store conn.old conn.new result
         (Adds archives_tree (archive_row version bytes.now)) }
 {
-    let text = "INSERT INTO archives (version, bytes) VALUES (?1, ?2)";
-    write(conn, text, params![version as i64, bytes])
+    write(conn, INSERT_TEXT, params![version as i64, bytes])
 }
+
+const OF_VERSION_TEXT: &str =
+    "SELECT a.bytes FROM versions v JOIN archives a ON a.version = v.id WHERE v.crate = ?1 AND \
+    v.release = ?2 AND v.vers = ?3";
 
 /// The archive of a version of a crate, by its release and its text.
 pub fn of_version<S: Alter>(
@@ -41,11 +46,11 @@ pub fn of_version<S: Alter>(
     requires { IsReady (state S.Store conn.old) }
     ensures { Finds S.Store conn.old conn.new result (IsArchiveOf crate_id release.now vers.now) }
 {
-    let text =
-        "SELECT a.bytes FROM versions v JOIN archives a ON a.version = v.id WHERE v.crate = ?1 \
-        AND v.release = ?2 AND v.vers = ?3";
+    let text = OF_VERSION_TEXT;
     select_one(conn, text, params![crate_id, release, vers])
 }
+
+const BY_ID_TEXT: &str = "SELECT version, bytes FROM archives WHERE version = ?1";
 
 /// The archive of the version with this id.
 pub fn by_id<S: Alter>(conn: &mut Connection<S>, version: u64) -> Result<Option<Archive>>
@@ -53,9 +58,10 @@ pub fn by_id<S: Alter>(conn: &mut Connection<S>, version: u64) -> Result<Option<
     requires small { version < 2 ^ 63 }
     ensures { Finds S.Store conn.old conn.new result (IsArchiveWithId version) }
 {
-    let text = "SELECT version, bytes FROM archives WHERE version = ?1";
-    select_one(conn, text, params![version as i64])
+    select_one(conn, BY_ID_TEXT, params![version as i64])
 }
+
+const FIRST_ID_TEXT: &str = "SELECT version FROM archives ORDER BY version LIMIT 1";
 
 /// The first id of a version that has an archive, if there is one. An id that is NULL would be the
 /// first, and is an error.
@@ -63,6 +69,5 @@ pub fn first_id<S: Alter>(conn: &mut Connection<S>) -> Result<Option<u64>>
     requires { IsReady (state S.Store conn.old) }
     ensures { Finds S.Store conn.old conn.new result (IsFirstId archives_tree) }
 {
-    let text = "SELECT version FROM archives ORDER BY version LIMIT 1";
-    select_one(conn, text, &[])
+    select_one(conn, FIRST_ID_TEXT, &[])
 }

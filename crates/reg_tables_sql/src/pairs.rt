@@ -41,24 +41,50 @@ struct PairTexts {
     rowids: &'static str,
 }
 
+const INSERT_OWNER_TEXT: &str = "INSERT INTO owners (crate, account) VALUES (?1, ?2)";
+
+const REMOVE_OWNER_TEXT: &str = "DELETE FROM owners WHERE crate = ?1 AND account = ?2";
+
+const OWNER_TEXT: &str = "SELECT crate, account FROM owners WHERE crate = ?1 AND account = ?2";
+
+const OWNING_ACCOUNTS_TEXT: &str =
+    "SELECT a.id, a.login, a.name, a.enabled FROM owners p JOIN accounts a ON a.id = p.account \
+    WHERE p.crate = ?1 ORDER BY a.id";
+
+const ALL_OWNERS_TEXT: &str = "SELECT crate, account FROM owners ORDER BY crate, account";
+
+const OWNER_ROWIDS_TEXT: &str = "SELECT rowid FROM owners ORDER BY rowid";
+
+const INSERT_READER_TEXT: &str = "INSERT INTO readers (crate, account) VALUES (?1, ?2)";
+
+const REMOVE_READER_TEXT: &str = "DELETE FROM readers WHERE crate = ?1 AND account = ?2";
+
+const READER_TEXT: &str = "SELECT crate, account FROM readers WHERE crate = ?1 AND account = ?2";
+
+const READING_ACCOUNTS_TEXT: &str =
+    "SELECT a.id, a.login, a.name, a.enabled FROM readers p JOIN accounts a ON a.id = p.account \
+    WHERE p.crate = ?1 ORDER BY a.id";
+
+const ALL_READERS_TEXT: &str = "SELECT crate, account FROM readers ORDER BY crate, account";
+
+const READER_ROWIDS_TEXT: &str = "SELECT rowid FROM readers ORDER BY rowid";
+
 const OWNERS: PairTexts = PairTexts {
-    insert: "INSERT INTO owners (crate, account) VALUES (?1, ?2)",
-    remove: "DELETE FROM owners WHERE crate = ?1 AND account = ?2",
-    pair: "SELECT crate, account FROM owners WHERE crate = ?1 AND account = ?2",
-    accounts: "SELECT a.id, a.login, a.name, a.enabled FROM owners p JOIN accounts a ON a.id = \
-        p.account WHERE p.crate = ?1 ORDER BY a.id",
-    all: "SELECT crate, account FROM owners ORDER BY crate, account",
-    rowids: "SELECT rowid FROM owners ORDER BY rowid",
+    insert: INSERT_OWNER_TEXT,
+    remove: REMOVE_OWNER_TEXT,
+    pair: OWNER_TEXT,
+    accounts: OWNING_ACCOUNTS_TEXT,
+    all: ALL_OWNERS_TEXT,
+    rowids: OWNER_ROWIDS_TEXT,
 };
 
 const READERS: PairTexts = PairTexts {
-    insert: "INSERT INTO readers (crate, account) VALUES (?1, ?2)",
-    remove: "DELETE FROM readers WHERE crate = ?1 AND account = ?2",
-    pair: "SELECT crate, account FROM readers WHERE crate = ?1 AND account = ?2",
-    accounts: "SELECT a.id, a.login, a.name, a.enabled FROM readers p JOIN accounts a ON a.id = \
-        p.account WHERE p.crate = ?1 ORDER BY a.id",
-    all: "SELECT crate, account FROM readers ORDER BY crate, account",
-    rowids: "SELECT rowid FROM readers ORDER BY rowid",
+    insert: INSERT_READER_TEXT,
+    remove: REMOVE_READER_TEXT,
+    pair: READER_TEXT,
+    accounts: READING_ACCOUNTS_TEXT,
+    all: ALL_READERS_TEXT,
+    rowids: READER_ROWIDS_TEXT,
 };
 
 fn texts(relation: Relation) -> PairTexts

@@ -14,15 +14,18 @@ use crate::statements::{Result, has_row, select_list, write};
 use sqlite::{Alter, Connection, params};
 use std::alloc::Global;
 
+const INSERT_TEXT: &str = "INSERT INTO reserved (canon) VALUES (?1)";
+
 /// Reserves a canonical name.
 pub fn insert<S: Alter>(conn: &mut Connection<S>, canon: &str) -> Result<()>
     requires { IsReady (state S.Store conn.old) }
     ensures { Writes S.Store conn.old conn.new result
         (AddsColumns reserved_tree (reserved_columns canon.now)) }
 {
-    let text = "INSERT INTO reserved (canon) VALUES (?1)";
-    write(conn, text, params![canon])
+    write(conn, INSERT_TEXT, params![canon])
 }
+
+const REMOVE_TEXT: &str = "DELETE FROM reserved WHERE canon = ?1";
 
 /// Frees a canonical name.
 pub fn remove<S: Alter>(conn: &mut Connection<S>, canon: &str) -> Result<()>
@@ -30,8 +33,7 @@ pub fn remove<S: Alter>(conn: &mut Connection<S>, canon: &str) -> Result<()>
     ensures { Writes S.Store conn.old conn.new result
         (Removes reserved_tree (is_text reserved_canon_place canon.now)) }
 {
-    let text = "DELETE FROM reserved WHERE canon = ?1";
-    write(conn, text, params![canon])
+    write(conn, REMOVE_TEXT, params![canon])
 }
 
 /// A reserved name, by its canonical text.
@@ -45,20 +47,22 @@ pub fn is_there<S: Alter>(conn: &mut Connection<S>, canon: &str) -> Result<bool>
     has_row(conn, BY_CANON_TEXT, params![canon])
 }
 
+const ALL_TEXT: &str = "SELECT canon FROM reserved ORDER BY canon";
+
 /// All reserved names, in order.
 pub fn all<S: Alter>(alloc: Global, conn: &mut Connection<S>) -> Result<Vec<String>>
     requires { IsReady (state S.Store conn.old) }
     ensures { Lists S.Store conn.old conn.new result AreReserved }
 {
-    let text = "SELECT canon FROM reserved ORDER BY canon";
-    select_list(alloc, conn, text, &[])
+    select_list(alloc, conn, ALL_TEXT, &[])
 }
+
+const ROWIDS_TEXT: &str = "SELECT rowid FROM reserved ORDER BY rowid";
 
 /// The rowids of all reserved names, in order.
 pub fn rowids<S: Alter>(alloc: Global, conn: &mut Connection<S>) -> Result<Vec<i64>>
     requires { IsReady (state S.Store conn.old) }
     ensures { Lists S.Store conn.old conn.new result (AreRowids reserved_tree) }
 {
-    let text = "SELECT rowid FROM reserved ORDER BY rowid";
-    select_list(alloc, conn, text, &[])
+    select_list(alloc, conn, ROWIDS_TEXT, &[])
 }

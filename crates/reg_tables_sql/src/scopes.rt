@@ -22,6 +22,9 @@ pub struct Scope {
     pub high: String,
 }
 
+const INSERT_TEXT: &str =
+    "INSERT INTO scopes (token, place, pattern, low, high) VALUES (?1, ?2, ?3, ?4, ?5)";
+
 /// Adds the pattern of a token at a place, with the range of canonical names that it covers.
 pub fn insert<S: Alter>(
     conn: &mut Connection<S>,
@@ -35,25 +38,27 @@ pub fn insert<S: Alter>(
     ensures { Writes S.Store conn.old conn.new result
         (AddsColumns scopes_tree (scope_columns token place pattern.now low.now high.now)) }
 {
-    let text = "INSERT INTO scopes (token, place, pattern, low, high) VALUES (?1, ?2, ?3, ?4, ?5)";
-    write(conn, text, params![token, place, pattern, low, high])
+    write(conn, INSERT_TEXT, params![token, place, pattern, low, high])
 }
+
+const OF_TOKEN_TEXT: &str =
+    "SELECT token, place, pattern, low, high FROM scopes WHERE token = ?1 ORDER BY place";
 
 /// The scopes of a token, by place.
 pub fn of_token<S: Alter>(alloc: Global, conn: &mut Connection<S>, token: u32) -> Result<Vec<Scope>>
     requires { IsReady (state S.Store conn.old) }
     ensures { Lists S.Store conn.old conn.new result (AreScopesOf token) }
 {
-    let text =
-        "SELECT token, place, pattern, low, high FROM scopes WHERE token = ?1 ORDER BY place";
+    let text = OF_TOKEN_TEXT;
     select_list(alloc, conn, text, params![token])
 }
+
+const ALL_TEXT: &str = "SELECT token, place, pattern, low, high FROM scopes ORDER BY token, place";
 
 /// All scopes, by token and place.
 pub fn all<S: Alter>(alloc: Global, conn: &mut Connection<S>) -> Result<Vec<Scope>>
     requires { IsReady (state S.Store conn.old) }
     ensures { Lists S.Store conn.old conn.new result AreScopes }
 {
-    let text = "SELECT token, place, pattern, low, high FROM scopes ORDER BY token, place";
-    select_list(alloc, conn, text, &[])
+    select_list(alloc, conn, ALL_TEXT, &[])
 }

@@ -36,6 +36,9 @@ fn check_numbers(summary: Summary) -> Result<()>
     Ok(())
 }
 
+const INSERT_TEXT: &str =
+    "INSERT INTO summaries (crate, highest, index_length) VALUES (?1, ?2, ?3)";
+
 /// Adds the summary of a crate.
 pub fn insert<S: Alter>(conn: &mut Connection<S>, summary: Summary) -> Result<()>
     requires { IsReady (state S.Store conn.old) }
@@ -44,10 +47,9 @@ pub fn insert<S: Alter>(conn: &mut Connection<S>, summary: Summary) -> Result<()
         (summary_row summary.crate_id summary.highest summary.index_length)) }
 {
     check_numbers(summary)?;
-    let text = "INSERT INTO summaries (crate, highest, index_length) VALUES (?1, ?2, ?3)";
     write(
         conn,
-        text,
+        INSERT_TEXT,
         params![
             summary.crate_id,
             summary.highest as i64,
@@ -55,6 +57,8 @@ pub fn insert<S: Alter>(conn: &mut Connection<S>, summary: Summary) -> Result<()
         ],
     )
 }
+
+const UPDATE_TEXT: &str = "UPDATE summaries SET highest = ?2, index_length = ?3 WHERE crate = ?1";
 
 /// Changes the summary of a crate.
 pub fn update<S: Alter>(conn: &mut Connection<S>, summary: Summary) -> Result<()>
@@ -63,10 +67,9 @@ pub fn update<S: Alter>(conn: &mut Connection<S>, summary: Summary) -> Result<()
         (Summarizes summary.crate_id summary.highest summary.index_length) }
 {
     check_numbers(summary)?;
-    let text = "UPDATE summaries SET highest = ?2, index_length = ?3 WHERE crate = ?1";
     write(
         conn,
-        text,
+        UPDATE_TEXT,
         params![
             summary.crate_id,
             summary.highest as i64,
@@ -75,20 +78,22 @@ pub fn update<S: Alter>(conn: &mut Connection<S>, summary: Summary) -> Result<()
     )
 }
 
+const OF_CRATE_TEXT: &str = "SELECT crate, highest, index_length FROM summaries WHERE crate = ?1";
+
 /// The summary of a crate, if there is one.
 pub fn of_crate<S: Alter>(conn: &mut Connection<S>, crate_id: u32) -> Result<Option<Summary>>
     requires { IsReady (state S.Store conn.old) }
     ensures { Finds S.Store conn.old conn.new result (IsSummaryOf crate_id) }
 {
-    let text = "SELECT crate, highest, index_length FROM summaries WHERE crate = ?1";
-    select_one(conn, text, params![crate_id])
+    select_one(conn, OF_CRATE_TEXT, params![crate_id])
 }
+
+const ALL_TEXT: &str = "SELECT crate, highest, index_length FROM summaries ORDER BY crate";
 
 /// All summaries, by crate id.
 pub fn all<S: Alter>(alloc: Global, conn: &mut Connection<S>) -> Result<Vec<Summary>>
     requires { IsReady (state S.Store conn.old) }
     ensures { Lists S.Store conn.old conn.new result AreSummaries }
 {
-    let text = "SELECT crate, highest, index_length FROM summaries ORDER BY crate";
-    select_list(alloc, conn, text, &[])
+    select_list(alloc, conn, ALL_TEXT, &[])
 }

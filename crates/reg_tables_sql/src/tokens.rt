@@ -55,6 +55,10 @@ pub(crate) fn endpoints_of(row: &Row, at: usize) -> Result<Endpoints>
     })
 }
 
+const INSERT_TEXT: &str =
+    "INSERT INTO tokens (id, digest, account, live, publish_new, publish_update, yank, \
+    change_owners) VALUES (?1, ?2, ?3, 1, ?4, ?5, ?6, ?7)";
+
 /// Adds a live token.
 pub fn insert<S: Alter>(
     conn: &mut Connection<S>,
@@ -67,11 +71,9 @@ pub fn insert<S: Alter>(
     ensures { Writes S.Store conn.old conn.new result
         (Adds tokens_tree (token_row id digest.now account true endpoints.now)) }
 {
-    let text = "INSERT INTO tokens (id, digest, account, live, publish_new, publish_update, yank, \
-        change_owners) VALUES (?1, ?2, ?3, 1, ?4, ?5, ?6, ?7)";
     write(
         conn,
-        text,
+        INSERT_TEXT,
         params![
             id,
             digest.as_slice(),
@@ -84,13 +86,14 @@ pub fn insert<S: Alter>(
     )
 }
 
+const REVOKE_TEXT: &str = "UPDATE tokens SET live = 0 WHERE id = ?1";
+
 /// Revokes a token.
 pub fn revoke<S: Alter>(conn: &mut Connection<S>, id: u32) -> Result<()>
     requires { IsReady (state S.Store conn.old) }
     ensures { Writes S.Store conn.old conn.new result (Revokes id) }
 {
-    let text = "UPDATE tokens SET live = 0 WHERE id = ?1";
-    write(conn, text, params![id])
+    write(conn, REVOKE_TEXT, params![id])
 }
 
 /// A token and its account, by the token's digest; the row is a `TokenRow`.
@@ -106,34 +109,37 @@ pub fn by_digest<S: Alter>(conn: &mut Connection<S>, digest: &[u8; 32]) -> Resul
     select_one(conn, BY_DIGEST_TEXT, params![digest.as_slice()])
 }
 
+const BY_ID_TEXT: &str =
+    "SELECT id, digest, account, live, publish_new, publish_update, yank, change_owners FROM \
+    tokens WHERE id = ?1";
+
 /// The token with this id, if there is one.
 pub fn by_id<S: Alter>(conn: &mut Connection<S>, id: u32) -> Result<Option<Token>>
     requires { IsReady (state S.Store conn.old) }
     ensures { Finds S.Store conn.old conn.new result (IsTokenWithId id) }
 {
-    select_one(
-        conn,
-        "SELECT id, digest, account, live, publish_new, publish_update, yank, change_owners FROM \
-        tokens WHERE id = ?1",
-        params![id],
-    )
+    select_one(conn, BY_ID_TEXT, params![id])
 }
+
+const ALL_TEXT: &str =
+    "SELECT id, digest, account, live, publish_new, publish_update, yank, change_owners FROM \
+    tokens ORDER BY id";
 
 /// All tokens, by id.
 pub fn all<S: Alter>(alloc: Global, conn: &mut Connection<S>) -> Result<Vec<Token>>
     requires { IsReady (state S.Store conn.old) }
     ensures { Lists S.Store conn.old conn.new result AreTokens }
 {
-    let text =
-        "SELECT id, digest, account, live, publish_new, publish_update, yank, change_owners FROM \
-        tokens ORDER BY id";
+    let text = ALL_TEXT;
     select_list(alloc, conn, text, &[])
 }
+
+const LAST_ID_TEXT: &str = "SELECT id FROM tokens ORDER BY id DESC LIMIT 1";
 
 /// The greatest token id, if there is one.
 pub fn last_id<S: Alter>(conn: &mut Connection<S>) -> Result<Option<u32>>
     requires { IsReady (state S.Store conn.old) }
     ensures { Finds S.Store conn.old conn.new result (IsLastId tokens_tree) }
 {
-    select_one(conn, "SELECT id FROM tokens ORDER BY id DESC LIMIT 1", &[])
+    select_one(conn, LAST_ID_TEXT, &[])
 }

@@ -92,6 +92,10 @@ pub struct VersionRow<'a> {
 /// The rows of the index file of a crate, by version id; each is a `StemRow`.
 pub const ENTRIES_TEXT: &str = "SELECT stem, yanked FROM versions WHERE crate = ?1 ORDER BY id";
 
+const INSERT_TEXT: &str =
+    "INSERT INTO versions (id, crate, vers, release, digest, stem, description, yanked) VALUES \
+    (?1, ?2, ?3, ?4, ?5, ?6, ?7, 0)";
+
 /// Adds a version that is not yanked. SQL keeps ids below 2^63.
 pub fn insert<S: Alter>(conn: &mut Connection<S>, version: &VersionRow<'_>) -> Result<()>
     requires ready { IsReady (state S.Store conn.old) }
@@ -99,11 +103,9 @@ pub fn insert<S: Alter>(conn: &mut Connection<S>, version: &VersionRow<'_>) -> R
     ensures { Writes S.Store conn.old conn.new result
         (Adds versions_tree (row_added version.now)) }
 {
-    let text = "INSERT INTO versions (id, crate, vers, release, digest, stem, description, yanked) \
-        VALUES (?1, ?2, ?3, ?4, ?5, ?6, ?7, 0)";
     write(
         conn,
-        text,
+        INSERT_TEXT,
         params![
             version.id as i64,
             version.crate_id,
@@ -115,6 +117,9 @@ pub fn insert<S: Alter>(conn: &mut Connection<S>, version: &VersionRow<'_>) -> R
         ],
     )
 }
+
+const SET_YANKED_TEXT: &str =
+    "UPDATE versions SET yanked = ?4 WHERE crate = ?1 AND release = ?2 AND vers = ?3";
 
 /// Yanks or unyanks a version.
 pub fn set_yanked<S: Alter>(
@@ -128,9 +133,16 @@ pub fn set_yanked<S: Alter>(
     ensures { Writes S.Store conn.old conn.new result
         (MarksYanked crate_id release.now vers.now yanked) }
 {
-    let text = "UPDATE versions SET yanked = ?4 WHERE crate = ?1 AND release = ?2 AND vers = ?3";
-    write(conn, text, params![crate_id, release, vers, yanked])
+    write(
+        conn,
+        SET_YANKED_TEXT,
+        params![crate_id, release, vers, yanked],
+    )
 }
+
+const OF_CRATE_TEXT: &str =
+    "SELECT id, crate, vers, release, digest, stem, description, yanked FROM versions WHERE crate \
+    = ?1 ORDER BY id";
 
 /// The versions of a crate, by id.
 pub fn of_crate<S: Alter>(
@@ -141,20 +153,19 @@ pub fn of_crate<S: Alter>(
     requires { IsReady (state S.Store conn.old) }
     ensures { Lists S.Store conn.old conn.new result (AreVersionsOf crate_id) }
 {
-    let text =
-        "SELECT id, crate, vers, release, digest, stem, description, yanked FROM versions WHERE \
-        crate = ?1 ORDER BY id";
+    let text = OF_CRATE_TEXT;
     select_list(alloc, conn, text, params![crate_id])
 }
+
+const ALL_TEXT: &str =
+    "SELECT id, crate, vers, release, digest, stem, description, yanked FROM versions ORDER BY id";
 
 /// All versions, by id.
 pub fn all<S: Alter>(alloc: Global, conn: &mut Connection<S>) -> Result<Vec<Version>>
     requires { IsReady (state S.Store conn.old) }
     ensures { Lists S.Store conn.old conn.new result AreVersions }
 {
-    let text =
-        "SELECT id, crate, vers, release, digest, stem, description, yanked FROM versions ORDER \
-        BY id";
+    let text = ALL_TEXT;
     select_list(alloc, conn, text, &[])
 }
 
@@ -170,13 +181,15 @@ pub fn entries<S: Alter>(
     select_list(alloc, conn, ENTRIES_TEXT, params![crate_id])
 }
 
+const MARKS_OF_TEXT: &str =
+    "SELECT id, vers, length(stem), yanked FROM versions WHERE crate = ?1 ORDER BY id";
+
 /// The marks of the versions of a crate, by id.
 pub fn marks_of<S: Alter>(conn: &mut Connection<S>, crate_id: u32) -> Result<Vec<VersionMark>>
     requires { IsReady (state S.Store conn.old) }
     ensures { Lists S.Store conn.old conn.new result (AreMarksOf crate_id) }
 {
-    let text = "SELECT id, vers, length(stem), yanked FROM versions WHERE crate = ?1 ORDER BY id";
-    select_here(conn, text, params![crate_id])
+    select_here(conn, MARKS_OF_TEXT, params![crate_id])
 }
 
 fn check_id(id: u64) -> Result<()>
@@ -188,15 +201,20 @@ fn check_id(id: u64) -> Result<()>
     Ok(())
 }
 
+const MARK_BY_ID_TEXT: &str = "SELECT id, vers, length(stem), yanked FROM versions WHERE id = ?1";
+
 /// The mark of the version with this id, if there is one. SQL keeps ids below 2^63.
 pub fn mark_by_id<S: Alter>(conn: &mut Connection<S>, id: u64) -> Result<Option<VersionMark>>
     requires { IsReady (state S.Store conn.old) }
     ensures { Finds S.Store conn.old conn.new result (IsMarkWithId id) }
 {
     check_id(id)?;
-    let text = "SELECT id, vers, length(stem), yanked FROM versions WHERE id = ?1";
-    select_one(conn, text, params![id as i64])
+    select_one(conn, MARK_BY_ID_TEXT, params![id as i64])
 }
+
+const MARK_BY_TEXT_TEXT: &str =
+    "SELECT id, vers, length(stem), yanked FROM versions WHERE crate = ?1 AND release = ?2 AND \
+    vers = ?3";
 
 /// The mark of a version of a crate, by its release and its text.
 pub fn mark_by_text<S: Alter>(
@@ -208,11 +226,11 @@ pub fn mark_by_text<S: Alter>(
     requires { IsReady (state S.Store conn.old) }
     ensures { Finds S.Store conn.old conn.new result (IsMarkOf crate_id release.now vers.now) }
 {
-    let text =
-        "SELECT id, vers, length(stem), yanked FROM versions WHERE crate = ?1 AND release = ?2 \
-        AND vers = ?3";
+    let text = MARK_BY_TEXT_TEXT;
     select_one(conn, text, params![crate_id, release, vers])
 }
+
+const COUNT_OF_TEXT: &str = "SELECT count(*) FROM versions WHERE crate = ?1";
 
 /// How many versions a crate has, up to SQL's greatest count.
 pub fn count_of<S: Alter>(conn: &mut Connection<S>, crate_id: u32) -> Result<u64>
@@ -220,23 +238,25 @@ pub fn count_of<S: Alter>(conn: &mut Connection<S>, crate_id: u32) -> Result<u64
     ensures { Finds S.Store conn.old conn.new result
         (IsCountOf versions_tree version_crate_place crate_id) }
 {
-    let text = "SELECT count(*) FROM versions WHERE crate = ?1";
-    select_only::<u64, S>(conn, text, params![crate_id])
+    select_only::<u64, S>(conn, COUNT_OF_TEXT, params![crate_id])
 }
+
+const COUNT_TEXT: &str = "SELECT count(*) FROM versions";
 
 /// How many versions there are, up to SQL's greatest count.
 pub fn count<S: Alter>(conn: &mut Connection<S>) -> Result<u64>
     requires { IsReady (state S.Store conn.old) }
     ensures { Finds S.Store conn.old conn.new result (IsCount versions_tree) }
 {
-    select_only::<u64, S>(conn, "SELECT count(*) FROM versions", &[])
+    select_only::<u64, S>(conn, COUNT_TEXT, &[])
 }
+
+const LAST_ID_TEXT: &str = "SELECT id FROM versions ORDER BY id DESC LIMIT 1";
 
 /// The greatest version id, if there is one.
 pub fn last_id<S: Alter>(conn: &mut Connection<S>) -> Result<Option<u64>>
     requires { IsReady (state S.Store conn.old) }
     ensures { Finds S.Store conn.old conn.new result (IsLastId versions_tree) }
 {
-    let text = "SELECT id FROM versions ORDER BY id DESC LIMIT 1";
-    select_one(conn, text, &[])
+    select_one(conn, LAST_ID_TEXT, &[])
 }

@@ -30,3 +30,4 @@ pub use playing::{Played, play};
 pub use replies::{body_text, order_text, reply_text, told_text};
 pub use sequences::told_otherwise;
 pub use setups::{BASE, TWO_ACCOUNTS_AND_A, setup_of};
+pub use tasks::send_answer;

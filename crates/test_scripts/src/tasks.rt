@@ -1,17 +1,19 @@
 //! Lines of scripts that an open registry answers, as texts.
 
+ghost use Rattle.std.specs.Prelude.{◌+◌, ◌^◌, ◌<◌};
 ghost use Rattle.reg_service.specs.Registries.{IsUpToDate};
 
 use crate::calls::{Parts, answer};
 use crate::replies::{body_text, told_text};
+use reg_api_replies::write_reply;
 use reg_body::Counted;
-use reg_service::{ApiCall, ApiRequest, Check, Registry, Told};
+use reg_service::{Answered, ApiCall, ApiRequest, Check, Registry, Told};
 use sqlite::Alter;
 use std::alloc::{AllocError, Global};
 use test_files::leave_only;
 
 /// More write calls than any reply needs.
-const MOST_WRITES: u64 = 1_000;
+pub const MOST_WRITES: u64 = 1_000;
 
 /// What a line asks for.
 #[derive(Drop)]
@@ -50,6 +52,27 @@ enum Answer {
     NoSuchWords,
 }
 
+/// Sends what answers a request, and tells whether it was sent whole.
+pub fn send_answer<S: Alter>(
+    alloc: Global,
+    registry: &mut Registry<S>,
+    request: &ApiRequest<'_>,
+    writer: &mut Counted<Vec<u8>>,
+) -> bool
+    requires tables { IsUpToDate S.Store registry.old }
+    requires room { writer.old.calls + MOST_WRITES < 2 ^ 64 }
+    ensures { IsUpToDate S.Store registry.new }
+{
+    match registry.act(alloc, request, false) {
+        Answered::Replied(acted) => {
+            write_reply(writer, &acted.reply, false, false, MOST_WRITES).is_ok()
+        }
+        Answered::Found(file) => registry
+            .stream_index(&file, false, writer, MOST_WRITES)
+            .is_ok(),
+    }
+}
+
 /// What is sent to a request for an index file.
 fn sent<S: Alter>(alloc: Global, registry: &mut Registry<S>, request: &ApiRequest<'_>) -> Answer
     requires { IsUpToDate S.Store registry.old }
@@ -59,8 +82,8 @@ fn sent<S: Alter>(alloc: Global, registry: &mut Registry<S>, request: &ApiReques
         return Answer::NoSuchWords;
     };
     let mut writer = Counted::new(Vec::new(alloc));
-    let told = registry.stream_index(alloc, request, false, &mut writer, MOST_WRITES);
-    Answer::Sent(told.is_ok(), writer.into_inner())
+    let is_whole = send_answer(alloc, registry, request, &mut writer);
+    Answer::Sent(is_whole, writer.into_inner())
 }
 
 fn exported<S: Alter>(alloc: Global, registry: &mut Registry<S>) -> Answer

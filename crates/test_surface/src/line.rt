@@ -12,6 +12,8 @@ const _: fn(&[u8]) -> Digest = reg_line::digest_of;
 
 const _: fn(u64, bool) -> Option<u64> = reg_line::line_len;
 
+const _: fn(bool) -> &'static [u8] = reg_line::line_end;
+
 const _: fn(Global, &Manifest, &Digest) -> Result<Vec<u8>, AllocError> = reg_line::stem;
 
 const _: fn(Global, &Manifest, &Digest, bool) -> Result<Vec<u8>, AllocError> = reg_line::line;

@@ -4,15 +4,14 @@ ghost use Rattle.std.specs.Prelude.{◌≡◌, ◌+◌, ◌^◌, ◌<◌, false}
 ghost use Rattle.sqlite.specs.Held.{state};
 ghost use Rattle.sqlite.specs.Steps.{over_memory};
 ghost use Rattle.reg_service.specs.Registries.{IsUpToDate};
-ghost use Rattle.reg_service.specs.Streamed.{AsksForFile};
 
 use http::StatusCode;
 use reg_api_replies::FixedText;
 use reg_body::{Counted, Limits};
 use reg_policy::{AdminCommand, AdminRefusal, AdminReply, Rule};
 use reg_service::{
-    Acted, ApiCall, ApiRequest, Check, IndexFault, Kind, Methods, OpenFault, OrderTold, Registry,
-    Reply,
+    Acted, Answered, ApiCall, ApiRequest, Check, FoundFile, IndexFault, Kind, Methods, OpenFault,
+    OrderTold, Registry, Reply,
 };
 use reg_tables::StoreFault;
 use sqlite::{Connection, MemStore};
@@ -27,6 +26,15 @@ const _: [OpenFault; 4] = [
 ];
 
 const _: [IndexFault; 3] = [IndexFault::Write, IndexFault::Spent, IndexFault::Store];
+
+const _: fn(Acted) -> Answered = Answered::Replied;
+
+const _: fn(FoundFile) -> Answered = Answered::Found;
+
+const _: FoundFile = FoundFile {
+    crate_id: 1,
+    length: 300,
+};
 
 const _: ApiRequest<'static> = ApiRequest {
     token: Some(b""),
@@ -81,17 +89,15 @@ fn open(
 
 fn stream_index(
     registry: &mut Registry<MemStore>,
-    alloc: Global,
-    request: &ApiRequest<'_>,
+    file: &FoundFile,
     close: bool,
     writer: &mut Counted<Vec<u8>>,
     writes: u64,
 ) -> Result<u64, IndexFault>
     requires tables { IsUpToDate over_memory registry.old }
-    requires index { AsksForFile request.now.call }
     requires room { writer.old.calls + writes < 2 ^ 64 }
 {
-    Registry::stream_index(registry, alloc, request, close, writer, writes)
+    Registry::stream_index(registry, file, close, writer, writes)
 }
 
 fn take_connection(registry: Registry<MemStore>) -> Connection<MemStore> {
@@ -110,7 +116,7 @@ fn call_methods(
     let _: Result<String, StoreFault> = Registry::mark(registry, alloc);
     let _: Reply = Registry::handle(registry, alloc, request);
     let _: Result<AdminReply, AdminRefusal> = Registry::command(registry, alloc, command);
-    let _: Acted = Registry::act(registry, alloc, request, true);
+    let _: Answered = Registry::act(registry, alloc, request, true);
     let _: OrderTold = Registry::order(registry, alloc, command, true);
     let _: Result<Vec<(String, Vec<u8>)>, StoreFault> = Registry::export(registry, alloc);
     let _: Result<Option<Check>, StoreFault> = Registry::audit(registry, alloc);

@@ -14,7 +14,7 @@ use reg_policy_plain::PlainRegistry;
 use reg_service::Registry;
 use sqlite::Alter;
 use std::alloc::{AllocError, Global};
-use test_scripts::{Parts, order_text, reply_text};
+use test_scripts::{Parts, order_text, reply_text, send_answer};
 use test_support::examples::SECOND_TOKEN;
 
 /// The account of ada's or bob's token. Who asks with another sees in each script that searches
@@ -60,9 +60,9 @@ fn is_streamed_alike<S: Alter>(
     };
     let mut streamed = Counted::new(Vec::new(alloc));
     let mut whole = Counted::new(Vec::new(alloc));
-    let sent = registry.stream_index(alloc, request, false, &mut streamed, 1_000);
+    let is_sent = send_answer(alloc, registry, request, &mut streamed);
     let written = write_reply(&mut whole, reply, false, false, 1_000);
-    sent.is_ok() && written.is_ok() && streamed.inner().as_slice() == whole.inner().as_slice()
+    is_sent && written.is_ok() && streamed.inner().as_slice() == whole.inner().as_slice()
 }
 
 /// What a request is answered.

@@ -1,7 +1,5 @@
-use Rattle.std.proofs.Common.{ap, ◌∙◌}
-use Rattle.reg_policy.specs.Views.{action_of, decision_of}
+use Rattle.reg_access.proofs.Words.{ap, ◌∙◌, action_of, decision_of, rows_seen}
 use Rattle.reg_tables_meaning.proofs.Results.{if_ok}
-use Rattle.reg_tables.specs.Works.{rows_seen}
 use Rattle.reg_access.proofs.Admitting.{caller_told}
 use Rattle.reg_access.proofs.JoinLaw.{joins_decide}
 use Rattle.reg_access.proofs.access.admit.Goals as goal

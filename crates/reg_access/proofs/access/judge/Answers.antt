@@ -1,5 +1,4 @@
-use Rattle.reg_policy.specs.Views.{action_of}
-use Rattle.reg_tables.specs.Works.{rows_seen}
+use Rattle.reg_access.proofs.Words.{action_of, rows_seen}
 use Rattle.reg_access.proofs.Admitting.{admission_made}
 use Rattle.reg_access.proofs.FoundFacts.{unknown_verdict}
 use Rattle.reg_access.proofs.Questions.{asks_after, asks_both, asks_failed, asks_made}

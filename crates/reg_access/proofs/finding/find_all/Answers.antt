@@ -1,6 +1,4 @@
-use Rattle.std.proofs.Common.{sym}
-use Rattle.reg_policy.specs.Views.{action_of}
-use Rattle.reg_tables.specs.Works.{rows_seen}
+use Rattle.reg_access.proofs.Words.{sym, action_of, rows_seen}
 use Rattle.reg_access.proofs.FoundFacts.{none_found}
 use Rattle.reg_access.proofs.Questions.{asks_nothing}
 use Rattle.reg_access.proofs.finding.find_all.Goals as goal

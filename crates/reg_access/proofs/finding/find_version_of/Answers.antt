@@ -1,5 +1,4 @@
-use Rattle.std.proofs.Common.{None, rules}
-use Rattle.reg_tables.specs.Works.{rows_seen}
+use Rattle.reg_access.proofs.Words.{None, rules, rows_seen}
 use Rattle.reg_access.proofs.FoundFacts.{no_version}
 use Rattle.reg_access.proofs.Questions.{asks_nothing}
 use Rattle.reg_access.proofs.finding.find_version_of.Goals as goal

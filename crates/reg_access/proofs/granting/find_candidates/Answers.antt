@@ -1,11 +1,10 @@
 use Rattle.std.proofs.Common.{refl}
-use Rattle.reg_tables_schema.proofs.Reading.{plain_text}
 use Rattle.reg_access.proofs.GrantAsked.{candidates_asked}
 use Rattle.reg_access.proofs.GrantText.{grant_is}
 use Rattle.reg_access.proofs.granting.find_candidates.Goals as goal
 
 pub select_list-requires-clause-reads : goal.select_list-requires-clause-reads
-select_list-requires-clause-reads g c = plain_text grant_is _ cc
+select_list-requires-clause-reads g c = grant_is.plain
 
 pub returns : goal.returns
 returns g c =

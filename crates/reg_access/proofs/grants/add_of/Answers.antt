@@ -1,9 +1,5 @@
-use Rattle.std.proofs.Common.{◌≡◌, ◌&&◌, map, sym, rules}
-use Rattle.std.specs.Prelude.{string_bytes}
-use Rattle.reg_names.specs.declared.endpoint.Endpoint.{Endpoint}
+use Rattle.reg_access.proofs.Words.{◌≡◌, ◌&&◌, map, sym, rules, string_bytes, Endpoint, has_endpoint, is_right, told_of}
 use Rattle.reg_names.specs.declared.endpoint.Endpoint.TheVariants as endpoint
-use Rattle.reg_model.specs.Rules.{has_endpoint}
-use Rattle.reg_access.specs.Grants.{is_right, told_of}
 use Rattle.reg_access.proofs.GrantLists.{four}
 use Rattle.reg_access.proofs.grants.add_of.Goals as goal
 

@@ -1,6 +1,4 @@
-use Rattle.std.proofs.Common.{◌≡◌, map, take}
-use Rattle.std.specs.List.{flat_map}
-use Rattle.reg_access.specs.Grants.{told_by, told_of}
+use Rattle.reg_access.proofs.Words.{◌≡◌, map, take, flat_map, told_by, told_of}
 use Rattle.reg_access.proofs.grants.grants_of.Given as goal
 
 -- what the tokens so far may use

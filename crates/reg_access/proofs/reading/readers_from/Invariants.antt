@@ -1,5 +1,4 @@
-use Rattle.std.proofs.Common.{◌≡◌, map, take}
-use Rattle.reg_access.specs.Grants.{reader_of}
+use Rattle.reg_access.proofs.Words.{◌≡◌, map, take, reader_of}
 use Rattle.reg_access.proofs.reading.readers_from.Given as goal
 
 -- the accounts so far are readers

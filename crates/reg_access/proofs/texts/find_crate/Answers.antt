@@ -1,14 +1,11 @@
-use Rattle.std.proofs.Common.{[], ◌∷◌, pos, refl}
-use Rattle.sqlite.specs.declared.types.Value.TheVariants.{Int, Text}
-use Rattle.reg_tables_schema.proofs.Reading.{plain_text}
+use Rattle.reg_access.proofs.Words.{[], ◌∷◌, pos, refl, Int, Text, crates_seen_by}
 use Rattle.reg_access.specs.Found.{columns_of_crate}
-use Rattle.reg_access.specs.JoinRows.{crates_seen_by}
 use Rattle.reg_access.proofs.Questions.{only_asked}
 use Rattle.reg_access.proofs.CrateText.{crate_gives, crate_is}
 use Rattle.reg_access.proofs.texts.find_crate.Goals as goal
 
 pub select_one-requires-clause-reads : goal.select_one-requires-clause-reads
-select_one-requires-clause-reads g c = plain_text crate_is _ cc
+select_one-requires-clause-reads g c = crate_is.plain
 
 pub returns : goal.returns
 returns g c =

@@ -1,13 +1,10 @@
-use Rattle.std.proofs.Common.{[], ◌∷◌, refl}
-use Rattle.sqlite.specs.declared.types.Value.TheVariants.{Blob}
-use Rattle.reg_tables_sql.specs.Tokens.{columns_with_account, tokens_with_accounts}
-use Rattle.reg_tables_schema.proofs.Reading.{plain_text}
+use Rattle.reg_access.proofs.Words.{[], ◌∷◌, refl, Blob, columns_with_account, tokens_with_accounts}
 use Rattle.reg_access.proofs.Questions.{only_asked}
 use Rattle.reg_tables_sql.proofs.TokenQueries.{by_digest_gives, by_digest_is}
 use Rattle.reg_access.proofs.texts.find_token.Goals as goal
 
 pub select_one-requires-clause-reads : goal.select_one-requires-clause-reads
-select_one-requires-clause-reads g c = plain_text by_digest_is _ cc
+select_one-requires-clause-reads g c = by_digest_is.plain
 
 pub returns : goal.returns
 returns g c =

@@ -1,14 +1,10 @@
-use Rattle.std.proofs.Common.{pos, refl}
-use Rattle.sqlite.specs.declared.types.Value.TheVariants.{Int}
-use Rattle.reg_tables_schema.specs.Rows.{number_columns}
-use Rattle.reg_tables_schema.proofs.Reading.{plain_text}
-use Rattle.reg_access.specs.JoinRows.{versions_with_text}
+use Rattle.reg_access.proofs.Words.{pos, refl, Int, number_columns, versions_with_text}
 use Rattle.reg_access.proofs.Questions.{only_asked}
 use Rattle.reg_access.proofs.VersionTexts.{version_gives, version_is, version_params}
 use Rattle.reg_access.proofs.texts.find_version.Goals as goal
 
 pub select_one-requires-clause-reads : goal.select_one-requires-clause-reads
-select_one-requires-clause-reads g c = plain_text version_is _ cc
+select_one-requires-clause-reads g c = version_is.plain
 
 pub returns : goal.returns
 returns g c =

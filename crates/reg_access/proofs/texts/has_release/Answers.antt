@@ -1,13 +1,10 @@
-use Rattle.std.proofs.Common.{pos, refl}
-use Rattle.sqlite.specs.declared.types.Value.TheVariants.{Int}
-use Rattle.reg_tables_schema.proofs.Reading.{plain_text}
-use Rattle.reg_access.specs.JoinRows.{versions_of_release}
+use Rattle.reg_access.proofs.Words.{pos, refl, Int, versions_of_release}
 use Rattle.reg_access.proofs.Questions.{has_asked}
 use Rattle.reg_access.proofs.VersionTexts.{release_gives, release_is, release_params}
 use Rattle.reg_access.proofs.texts.has_release.Goals as goal
 
 pub has_row-requires-clause-reads : goal.has_row-requires-clause-reads
-has_row-requires-clause-reads g c = plain_text release_is _ cc
+has_row-requires-clause-reads g c = release_is.plain
 
 pub returns : goal.returns
 returns g c =

@@ -1,13 +1,10 @@
-use Rattle.std.proofs.Common.{[], ◌∷◌, pos, refl}
-use Rattle.sqlite.specs.declared.types.Value.TheVariants.{Int, Text}
-use Rattle.reg_tables_schema.proofs.Reading.{plain_text}
-use Rattle.reg_access.specs.JoinRows.{scopes_over}
+use Rattle.reg_access.proofs.Words.{[], ◌∷◌, pos, refl, Int, Text, scopes_over}
 use Rattle.reg_access.proofs.Questions.{has_asked}
 use Rattle.reg_access.proofs.ScopeText.{scopes_give, scopes_is}
 use Rattle.reg_access.proofs.texts.is_covered.Goals as goal
 
 pub has_row-requires-clause-reads : goal.has_row-requires-clause-reads
-has_row-requires-clause-reads g c = plain_text scopes_is _ cc
+has_row-requires-clause-reads g c = scopes_is.plain
 
 pub returns : goal.returns
 returns g c =

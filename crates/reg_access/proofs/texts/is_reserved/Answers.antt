@@ -1,14 +1,11 @@
-use Rattle.std.proofs.Common.{[], ◌∷◌, refl}
-use Rattle.sqlite.specs.declared.types.Value.TheVariants.{Text}
-use Rattle.reg_tables_schema.proofs.Reading.{plain_text}
-use Rattle.reg_access.specs.JoinRows.{reserved_as}
+use Rattle.reg_access.proofs.Words.{[], ◌∷◌, refl, Text, reserved_as}
 use Rattle.reg_access.proofs.Questions.{has_asked}
 use Rattle.reg_tables_sql.proofs.ReservedQueries.{by_canon_is}
 use Rattle.reg_access.proofs.ReservedText.{reserved_gives}
 use Rattle.reg_access.proofs.texts.is_reserved.Goals as goal
 
 pub has_row-requires-clause-reads : goal.has_row-requires-clause-reads
-has_row-requires-clause-reads g c = plain_text by_canon_is _ cc
+has_row-requires-clause-reads g c = by_canon_is.plain
 
 pub returns : goal.returns
 returns g c =

@@ -1,10 +1,6 @@
-use Rattle.std.proofs.Common.{◌≡◌, ◌∙◌, arith, sym, subst, true}
-use Rattle.sqlite.specs.State.{HasCleanDisk, IsUnchanged}
-use Rattle.sqlite.specs.Effect.{Database}
-use Rattle.reg_tables_sql.specs.Archives.{archives_with_id}
-use Rattle.reg_tables.specs.Works.{seen}
+use Rattle.reg_audit.proofs.Words.{◌≡◌, ◌∙◌, arith, sym, subst, true, HasCleanDisk, IsUnchanged, Database, archives_with_id, seen}
+use Rattle.reg_audit.proofs.Words.{is_archive}
 use Rattle.reg_tables_meaning.proofs.Readings.{same_then}
-use Rattle.reg_audit.specs.Checks.{is_archive}
 use Rattle.reg_tables.proofs.Looking.{looks_then}
 use Rattle.reg_audit.proofs.SameIds.{all_more, all_taken}
 use Rattle.reg_audit.proofs.archives.archives_pass.Goals as goal

@@ -1,9 +1,5 @@
-use Rattle.std.proofs.Common.{◌≡◌, take, true, false}
-use Rattle.std.specs.List.{list_all}
-use Rattle.sqlite.specs.State.{HasCleanDisk, IsUnchanged}
-use Rattle.reg_tables.specs.Works.{has_failed, seen}
-use Rattle.reg_tables_sql.specs.Archives.{archives_with_id}
-use Rattle.reg_audit.specs.Checks.{is_archive}
+use Rattle.reg_audit.proofs.Words.{◌≡◌, take, true, false, list_all, HasCleanDisk, IsUnchanged, seen, archives_with_id, is_archive}
+use Rattle.reg_tables.specs.Works.{has_failed}
 use Rattle.reg_tables.specs.Looks.{Looks}
 use Rattle.reg_audit.proofs.archives.archives_pass.Given as goal
 

@@ -1,6 +1,5 @@
-use Rattle.std.proofs.Common.{arith, ap, subst, ◌∙◌, sym}
-use Rattle.sqlite.specs.State.{HasCleanDisk}
-use Rattle.reg_tables.specs.Works.{edition_in, is_shut, seen, shown}
+use Rattle.reg_audit.proofs.Words.{arith, ap, subst, ◌∙◌, sym, HasCleanDisk, seen}
+use Rattle.reg_tables.specs.Works.{edition_in, is_shut, shown}
 use Rattle.reg_tables.proofs.Looking.{begins_with, if_told}
 use Rattle.reg_audit.proofs.opening.audit.Goals as goal
 

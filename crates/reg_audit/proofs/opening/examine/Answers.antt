@@ -1,7 +1,4 @@
-use Rattle.std.proofs.Common.{arith, subst}
-use Rattle.sqlite.specs.State.{HasCleanDisk}
-use Rattle.sqlite.specs.Effect.{Database}
-use Rattle.reg_tables.specs.Works.{seen}
+use Rattle.reg_audit.proofs.Words.{arith, subst, HasCleanDisk, Database, seen}
 use Rattle.reg_tables_meaning.proofs.Results.{if_ok}
 use Rattle.reg_audit.specs.Checks.{IsFirst}
 use Rattle.reg_audit.proofs.opening.examine.Goals as goal

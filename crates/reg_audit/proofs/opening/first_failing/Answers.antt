@@ -1,9 +1,6 @@
-use Rattle.std.proofs.Common.{◌≡◌, Bool, true, false, Some, [], ◌∷◌, refl, sym, ap, subst, ◌∙◌, inl, inr}
-use Rattle.std.specs.List.{list_all}
-use Rattle.reg_tables_sql.specs.Archives.{archives_with_id}
-use Rattle.reg_tables.specs.Works.{seen}
+use Rattle.reg_audit.proofs.Words.{◌≡◌, Bool, true, false, Some, [], ◌∷◌, refl, sym, ap, subst, ◌∙◌, inl, inr, list_all, archives_with_id}
+use Rattle.reg_audit.proofs.Words.{seen, IsFirstOf, is_archive}
 use Rattle.reg_audit.specs.declared.check.Check.TheVariants.{C1, C2, C3, C4, C5, C6, C7, C8}
-use Rattle.reg_audit.specs.Checks.{IsFirstOf, is_archive}
 use Rattle.reg_audit.proofs.Orders.{first_in_some, first_then}
 use Rattle.reg_audit.proofs.Sets.{none_of}
 use Rattle.reg_audit.proofs.opening.first_failing.Goals as goal

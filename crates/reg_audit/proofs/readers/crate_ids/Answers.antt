@@ -1,7 +1,4 @@
-use Rattle.std.proofs.Common.{map, rules}
-use Rattle.std.specs.BTreeSet.{IsFromIterResult}
-use Rattle.std.specs.Ordering.{nat_cmp}
-use Rattle.std.proofs.lemmas.Result.{IfOk-weaker}
+use Rattle.reg_audit.proofs.Words.{map, rules, IsFromIterResult, nat_cmp, IfOk-weaker}
 use Rattle.reg_audit.proofs.Sets.{has_each}
 use Rattle.reg_audit.proofs.readers.crate_ids.Goals as goal
 

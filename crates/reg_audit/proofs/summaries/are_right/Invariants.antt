@@ -1,5 +1,4 @@
-use Rattle.std.proofs.Common.{◌≡◌, take, true}
-use Rattle.std.specs.List.{list_all}
+use Rattle.reg_audit.proofs.Words.{◌≡◌, take, true, list_all}
 use Rattle.reg_audit.specs.Checks.{is_summary}
 use Rattle.reg_audit.proofs.summaries.are_right.Given as goal
 

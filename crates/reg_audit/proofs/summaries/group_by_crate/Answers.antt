@@ -1,6 +1,4 @@
-use Rattle.std.proofs.Common.{◌++◌, ◌∷◌, [], ◌∙◌, ap, sym}
-use Rattle.std.specs.Prelude.{◌==◌, if◌then◌else◌}
-use Rattle.reg_audit.specs.Checks.{shown_version}
+use Rattle.reg_audit.proofs.Words.{◌++◌, ◌∷◌, [], ◌∙◌, ap, sym, ◌==◌, if◌then◌else◌, shown_version}
 use Rattle.reg_audit.proofs.Kept.{kept_more}
 use Rattle.reg_audit.proofs.summaries.group_by_crate.Goals as goal
 

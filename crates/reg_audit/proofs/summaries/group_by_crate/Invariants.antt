@@ -1,7 +1,4 @@
-use Rattle.std.proofs.Common.{◌≡◌, ℕ, map, take}
-use Rattle.std.specs.Prelude.{◌==◌}
-use Rattle.std.specs.List.{filter}
-use Rattle.reg_audit.specs.Checks.{shown_version}
+use Rattle.reg_audit.proofs.Words.{◌≡◌, ℕ, map, take, ◌==◌, filter, shown_version}
 use Rattle.reg_audit.specs.Marks.{marks_at}
 use Rattle.reg_audit.proofs.summaries.group_by_crate.Given as goal
 

@@ -1,6 +1,4 @@
-use Rattle.std.proofs.Common.{◌∙◌, ap, sym}
-use Rattle.std.specs.Prelude.{string_bytes}
-use Rattle.reg_names.specs.Patterns.{pattern_of}
+use Rattle.reg_audit.proofs.Words.{◌∙◌, ap, sym, string_bytes, pattern_of}
 use Rattle.reg_names.specs.Ranges.{range_view}
 use Rattle.reg_audit.proofs.Scopes.{in_range_of}
 use Rattle.reg_audit.proofs.tokens.is_scope.Goals as goal

@@ -1,6 +1,4 @@
-use Rattle.std.proofs.Common.{◌≡◌, ◌∙◌, ap, arith, sym, Some, None}
-use Rattle.std.specs.Prelude.{◌==◌}
-use Rattle.std.specs.List.{position_from, slice_get}
+use Rattle.reg_audit.proofs.Words.{◌≡◌, ◌∙◌, ap, arith, sym, Some, None, ◌==◌, position_from, slice_get}
 use Rattle.std.specs.Option.{option_copied}
 use Rattle.reg_audit.proofs.Sets.{at_place, found_at, found_nowhere}
 use Rattle.reg_audit.proofs.versions.crate_of.Goals as goal

@@ -1,5 +1,4 @@
-use Rattle.std.proofs.Common.{◌∙◌, ap, length, sym}
-use Rattle.std.specs.Prelude.{string_bytes}
+use Rattle.reg_audit.proofs.Words.{◌∙◌, ap, length, sym, string_bytes}
 use Rattle.reg_audit.proofs.Stems.{with_length}
 use Rattle.reg_audit.proofs.versions.has_stem.Goals as goal
 

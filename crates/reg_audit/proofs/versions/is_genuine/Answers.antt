@@ -1,7 +1,4 @@
-use Rattle.std.proofs.Common.{◌∙◌, ap, sym}
-use Rattle.std.specs.Option.{option_map}
-use Rattle.std.proofs.lemmas.Slice.Eq.{bytes_eq-Decides}
-use Rattle.reg_versions.specs.Versions.{is_version, release_key_of}
+use Rattle.reg_audit.proofs.Words.{◌∙◌, ap, sym, option_map, bytes_eq-Decides, is_version, release_key_of}
 use Rattle.reg_audit.proofs.Genuine.{genuine}
 use Rattle.reg_audit.proofs.versions.is_genuine.Goals as goal
 

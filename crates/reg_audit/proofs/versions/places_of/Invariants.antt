@@ -1,8 +1,4 @@
-use Rattle.std.proofs.Common.{◌≡◌, ℕ, take}
-use Rattle.std.specs.Prelude.{◌==◌}
-use Rattle.std.specs.List.{position_from}
-use Rattle.std.specs.Ordering.{nat_cmp}
-use Rattle.std.specs.BTreeMap.{get}
+use Rattle.reg_audit.proofs.Words.{◌≡◌, ℕ, take, ◌==◌, position_from, nat_cmp, get}
 use Rattle.reg_audit.proofs.versions.places_of.Given as goal
 
 abbrev pub invariant-loop-index : goal.invariant-loop-index

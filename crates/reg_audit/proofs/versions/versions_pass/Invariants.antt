@@ -1,6 +1,5 @@
-use Rattle.std.proofs.Common.{take}
+use Rattle.reg_audit.proofs.Words.{take, IsGenuine}
 use Rattle.std.specs.List.{AllByRecursion}
-use Rattle.reg_audit.specs.Checks.{IsGenuine}
 use Rattle.reg_audit.proofs.versions.versions_pass.Given as goal
 
 abbrev pub invariant-loop-version : goal.invariant-loop-version

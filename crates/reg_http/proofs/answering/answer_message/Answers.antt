@@ -1,7 +1,4 @@
-use Rattle.reg_http_read.specs.Reads.{facts_of}
-use Rattle.reg_http_routes.specs.Routing.{routing_of}
-use Rattle.reg_service.specs.Registries.{limits_of, tables_of}
-use Rattle.reg_http.specs.Trails.{tail}
+use Rattle.reg_http.proofs.Words.{facts_of, routing_of, limits_of, tables_of, tail}
 use Rattle.reg_http.proofs.Kept.{still}
 use Rattle.reg_http.proofs.Outcomes.{routed, unrouted}
 use Rattle.reg_http.proofs.Trails.{trailed_nothing}

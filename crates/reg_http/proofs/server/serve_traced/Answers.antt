@@ -1,6 +1,4 @@
-use Rattle.std.proofs.Common.{refl}
-use Rattle.reg_service.specs.Registries.{limits_of, tables_of}
-use Rattle.reg_http.specs.Trails.{tail}
+use Rattle.reg_http.proofs.Words.{refl, limits_of, tables_of, tail}
 use Rattle.reg_http.proofs.Kept.{owned, still}
 use Rattle.reg_http.proofs.Trails.{trailed_nothing}
 use Rattle.reg_http.proofs.Steps.{untouched}

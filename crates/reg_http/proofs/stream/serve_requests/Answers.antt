@@ -1,9 +1,5 @@
-use Rattle.std.proofs.Common.{◌∙◌, ◌+◌, ◌<◌, ◌≤◌, ap, arith, length}
+use Rattle.reg_http.proofs.Words.{◌∙◌, ◌+◌, ◌<◌, ◌≤◌, ap, arith, length, facts_of, tally, limits_of, tables_of, tail}
 use Rattle.reg_http_read.proofs.Adding.{spends_nothing}
-use Rattle.reg_http_read.specs.Reads.{facts_of}
-use Rattle.reg_http_read.specs.Turns.{tally}
-use Rattle.reg_service.specs.Registries.{limits_of, tables_of}
-use Rattle.reg_http.specs.Trails.{tail}
 use Rattle.reg_http.proofs.Kept.{still}
 use Rattle.reg_http.proofs.Requests.{Asked, exits, refusal_lost, refusal_told, request_last, request_lost, request_sent, stream_ended, taking_lost, whole_fits}
 use Rattle.reg_http.proofs.Steps.{holds_start}

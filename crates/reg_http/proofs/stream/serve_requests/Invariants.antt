@@ -1,5 +1,4 @@
-use Rattle.std.proofs.Common.{◌≤◌, ◌<◌, ◌+◌, length}
-use Rattle.reg_service.specs.Registries.{limits_of}
+use Rattle.reg_http.proofs.Words.{◌≤◌, ◌<◌, ◌+◌, length, limits_of}
 use Rattle.reg_http.proofs.Requests.{Answered}
 use Rattle.reg_http.proofs.stream.serve_requests.Given as goal
 

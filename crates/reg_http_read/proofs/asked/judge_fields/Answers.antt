@@ -1,10 +1,6 @@
-use Rattle.std.proofs.Common.{◌≡◌, Err, Ok, arith, map, sym, subst}
+use Rattle.reg_http_read.proofs.Common.{◌≡◌, Err, Ok, arith, map, sym, subst, header_parts, H4, H5, greatest_body, IsAsked}
 use Rattle.std.proofs.lemmas.List.{length-map}
-use Rattle.httparse.specs.Borrowed.{header_parts}
-use Rattle.reg_model.specs.declared.rule.Rule.TheVariants.{H4, H5}
 use Rattle.reg_http_read.specs.Fields as spec
-use Rattle.reg_http_read.specs.Heads.{greatest_body}
-use Rattle.reg_http_read.specs.Reads.{IsAsked}
 use Rattle.reg_http_read.proofs.Judged.{coding_judged, hosts_judged, large_judged, length_judged, many_judged, no_length_judged, past_counts}
 use Rattle.reg_http_read.proofs.asked.judge_fields.Goals.{After-body_length}
 use Rattle.reg_http_read.proofs.asked.judge_fields.Goals as goal
@@ -37,15 +33,15 @@ returns-in_default c =
     (no_length_judged c.args.limits.now.fields (greatest_body c.args.limits.now) c.args.minor (map header_parts c.args.fields.now) _
     c.in_default.ensures)
 
-pub returns-then-body_len-greatest_length : goal.returns-then-body_len-greatest_length
-returns-then-body_len-greatest_length c =
-    subst (IsAsked (Err H5)) (sym (past (goal.at.returns-then-body_len-greatest_length c).After-body_length))
+pub returns-then-body_len-greatest_body : goal.returns-then-body_len-greatest_body
+returns-then-body_len-greatest_body c =
+    subst (IsAsked (Err H5)) (sym (past (goal.at.returns-then-body_len-greatest_body c).After-body_length))
     (large_judged c.args.limits.now.fields (greatest_body c.args.limits.now) c.args.minor (map header_parts c.args.fields.now)
-    c.in-Some.body_len _ c.in-Some.ensures (omega (arith, c.greatest_length.ensures.value)))
+    c.in-Some.body_len _ c.in-Some.ensures (omega (arith, c.greatest_body.ensures.value)))
 
 pub returns : goal.returns
 returns c =
     subst (IsAsked (Ok c.ask.result)) (sym (past (goal.at.returns c).After-body_length))
     (length_judged c.args.limits.now.fields (greatest_body c.args.limits.now) c.args.minor (map header_parts c.args.fields.now)
-    c.ask.result c.in-Some.body_len _ (omega (arith, c.greatest_length.ensures.value, c.greatest_length.ensures.small)) c.in-Some.ensures
-    (omega (arith, c.greatest_length.ensures.value)) c.ask.ensures)
+    c.ask.result c.in-Some.body_len _ (omega (arith, c.greatest_body.ensures.value, c.greatest_body.ensures.small)) c.in-Some.ensures
+    (omega (arith, c.greatest_body.ensures.value)) c.ask.ensures)

@@ -1,6 +1,5 @@
-use Rattle.std.proofs.Common.{◌≡◌, map, drop}
+use Rattle.reg_http_read.proofs.Common.{◌≡◌, map, drop, header_parts}
 use Rattle.std.specs.List.{find}
-use Rattle.httparse.specs.Borrowed.{header_parts}
 use Rattle.reg_http_read.specs.Fields.{is_named}
 use Rattle.reg_http_read.proofs.fields.first_value.Given as goal
 

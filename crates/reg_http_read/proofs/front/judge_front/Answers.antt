@@ -1,5 +1,4 @@
-use Rattle.std.proofs.Common.{Err, ap, arith, ◌≤◌, length, ◌==◌, inl, refl}
-use Rattle.std.specs.List.{count_by}
+use Rattle.reg_http_read.proofs.Common.{Err, ap, arith, ◌≤◌, length, ◌==◌, inl, refl, count_by}
 use Rattle.reg_http_read.proofs.Cuts.{never_exceeds}
 use Rattle.reg_http_read.proofs.Judged.{judgement_of_request}
 use Rattle.reg_http_read.proofs.front.judge_front.Goals as goal

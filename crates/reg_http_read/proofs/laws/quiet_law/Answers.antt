@@ -1,6 +1,4 @@
-use Rattle.std.proofs.Common.{ℕ, inl, inr, [], ◌∷◌, arith, ap, length, length-append}
-use Rattle.std.proofs.lemmas.List.{length-take-le}
-use Rattle.reg_http_read.specs.Fronts.{IsFront}
+use Rattle.reg_http_read.proofs.Common.{ℕ, inl, inr, [], ◌∷◌, arith, ap, length, length-append, length-take-le, IsFront}
 use Rattle.reg_http_read.proofs.Following.{head_some, head_within}
 use Rattle.reg_http_read.proofs.laws.quiet_law.Goals as goal
 

@@ -1,6 +1,5 @@
-use Rattle.std.proofs.Common.{◌≡◌, take, true}
+use Rattle.reg_http_read.proofs.Common.{◌≡◌, take, true, is_ascii_digit}
 use Rattle.std.specs.List.{list_all}
-use Rattle.std.specs.Char.{is_ascii_digit}
 use Rattle.reg_http_read.proofs.numbers.is_number.Given as goal
 
 abbrev pub invariant-loop-b : goal.invariant-loop-b

@@ -1,5 +1,4 @@
-use Rattle.std.proofs.Common.{◌∙◌}
-use Rattle.std.specs.Char.{is_ascii_digit}
+use Rattle.reg_http_read.proofs.Common.{◌∙◌, is_ascii_digit}
 use Rattle.std.proofs.lemmas.List.Sums.{AllPass-from_list_all}
 use Rattle.reg_http_read.proofs.Digits.{number_more}
 use Rattle.reg_http_read.proofs.numbers.number.Goals as goal

@@ -1,9 +1,7 @@
-use Rattle.std.proofs.Common.{◌≡◌, ◌<◌, arith, length, ◌∙◌, refl}
-use Rattle.std.proofs.lemmas.Result.{err_from_is_err_and}
+use Rattle.reg_http_read.proofs.Common.{◌≡◌, ◌<◌, arith, length, ◌∙◌, refl, err_from_is_err_and, reads_of}
 use Rattle.reg_http_read.proofs.Adding.{reads_nothing, reads_on, spends_for, spends_nothing, spends_some}
 use Rattle.reg_http_read.proofs.Lines.{still_begun}
 use Rattle.reg_http_read.proofs.Waiting.{line_ended, line_failed}
-use Rattle.reg_http_read.specs.Turns.{reads_of}
 use Rattle.reg_http_read.proofs.reading.read_line.Goals as goal
 
 pub pieces-init : goal.pieces-init

@@ -1,7 +1,4 @@
-use Rattle.std.proofs.Common.{◌≡◌, ◌≤◌, length}
-use Rattle.reg_http_read.specs.Heads.{IsUnfinished}
-use Rattle.reg_http_read.specs.Taking.{Reads}
-use Rattle.reg_http_read.specs.Turns.{SpendsSome, reads_of}
+use Rattle.reg_http_read.proofs.Common.{◌≡◌, ◌≤◌, length, IsUnfinished, Reads, SpendsSome, reads_of}
 use Rattle.reg_http_read.proofs.reading.read_line.Given as goal
 
 -- all that was read waits, and nothing can be judged yet

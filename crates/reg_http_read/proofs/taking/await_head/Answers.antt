@@ -1,8 +1,5 @@
-use Rattle.std.proofs.Common.{[], ◌≡◌, ◌∙◌, false, inl, inr, refl}
-use Rattle.std.proofs.lemmas.Result.{err_from_is_err_and}
+use Rattle.reg_http_read.proofs.Common.{[], ◌≡◌, ◌∙◌, false, inl, inr, refl, err_from_is_err_and, IsRefused, reads_of}
 use Rattle.reg_model.specs.declared.rule.Rule.TheVariants as rule
-use Rattle.reg_http_read.specs.Begun.{IsRefused}
-use Rattle.reg_http_read.specs.Turns.{reads_of}
 use Rattle.reg_http_read.proofs.Adding.{reads_nothing, reads_on, spends_for, spends_nothing, spends_some}
 use Rattle.reg_http_read.proofs.Requests.{found_awaits}
 use Rattle.reg_http_read.proofs.Waiting.{await_ended, await_failed, await_unread}

@@ -1,6 +1,4 @@
-use Rattle.std.proofs.Common.{◌≡◌, length}
-use Rattle.reg_http_read.specs.Taking.{Reads}
-use Rattle.reg_http_read.specs.Turns.{SpendsSome, reads_of}
+use Rattle.reg_http_read.proofs.Common.{◌≡◌, length, Reads, SpendsSome, reads_of}
 use Rattle.reg_http_read.proofs.taking.await_head.Given as goal
 
 -- all that was read waits

@@ -1,6 +1,4 @@
-use Rattle.std.proofs.Common.{arith, ap, length, ◌+◌, ◌∙◌, ◌≡◌, refl}
-use Rattle.std.proofs.lemmas.Result.{err_from_is_err_and}
-use Rattle.reg_http_read.specs.Turns.{reads_of}
+use Rattle.reg_http_read.proofs.Common.{arith, ap, length, ◌+◌, ◌∙◌, ◌≡◌, refl, err_from_is_err_and, reads_of}
 use Rattle.reg_http_read.proofs.Adding.{reads_nothing, reads_on, spends_for, spends_nothing, spends_some}
 use Rattle.reg_http_read.proofs.Waiting.{fills_ended, fills_failed, fills_whole}
 use Rattle.reg_http_read.proofs.taking.await_rest.Goals as goal

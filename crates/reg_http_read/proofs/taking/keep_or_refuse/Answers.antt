@@ -1,6 +1,4 @@
-use Rattle.std.proofs.Common.{subst, sym}
-use Rattle.reg_http_read.specs.Heads.{IsHeadAt}
-use Rattle.reg_http_read.specs.Reads.{facts_of}
+use Rattle.reg_http_read.proofs.Common.{subst, sym, IsHeadAt, facts_of}
 use Rattle.reg_http_read.proofs.Requests.{no_room_kept}
 use Rattle.reg_http_read.proofs.taking.keep_or_refuse.Goals as goal
 

@@ -1,8 +1,4 @@
-use Rattle.std.proofs.Common.{arith, ap, ◌∙◌, ◌++◌, length}
-use Rattle.std.proofs.lemmas.Result.{err_from_is_err_and}
-use Rattle.reg_http_read.specs.Begun.{is_head_only}
-use Rattle.reg_http_read.specs.Owned.{facts_owned}
-use Rattle.reg_http_read.specs.Turns.{tally}
+use Rattle.reg_http_read.proofs.Common.{arith, ap, ◌∙◌, ◌++◌, length, err_from_is_err_and, is_head_only, facts_owned, tally}
 use Rattle.reg_http_read.proofs.Adding.{spends_for}
 use Rattle.reg_http_read.proofs.Requests.{Begins, ask_failed, head_ended, head_failed, head_refused, rest_ended, rest_failed, rest_refused, rest_whole}
 use Rattle.reg_http_read.proofs.Tallies.{all_asked, asked, reads_for, reads_some, writes_for}

@@ -1,6 +1,5 @@
-use Rattle.std.proofs.Common.{◌≡◌, ◌∙◌, sym, ap, true, false, ◌||◌, take, drop}
+use Rattle.reg_http_read.proofs.Common.{◌≡◌, ◌∙◌, sym, ap, true, false, ◌||◌, take, drop, same_word, lists_word}
 use Rattle.httparse.specs.Grammar.{trim_ows}
-use Rattle.reg_http_read.specs.Fields.{same_word, lists_word}
 use Rattle.reg_http_read.proofs.Lists.{lists_more, lists_last}
 use Rattle.reg_http_read.proofs.words.lists_word.Goals as goal
 

@@ -1,6 +1,4 @@
-use Rattle.std.proofs.Common.{◌≡◌, length}
-use Rattle.std.specs.List.{position_or_len}
-use Rattle.reg_http_read.specs.Fields.{lists_word}
+use Rattle.reg_http_read.proofs.Common.{◌≡◌, length, position_or_len, lists_word}
 use Rattle.reg_http_read.proofs.Lists.{is_comma}
 use Rattle.reg_http_read.proofs.words.lists_word.Given as goal
 

@@ -1,5 +1,4 @@
-use Rattle.std.proofs.Common.{◌≡◌, length, reverse}
-use Rattle.httparse.specs.Grammar.{skip_ows}
+use Rattle.reg_http_read.proofs.Common.{◌≡◌, length, reverse, skip_ows}
 use Rattle.reg_http_read.proofs.words.trim_end.Given as goal
 
 abbrev pub invariant-loop-rest : goal.invariant-loop-rest

@@ -1,5 +1,4 @@
-use Rattle.std.proofs.Common.{◌≡◌, length}
-use Rattle.httparse.specs.Grammar.{skip_ows}
+use Rattle.reg_http_read.proofs.Common.{◌≡◌, length, skip_ows}
 use Rattle.reg_http_read.proofs.words.trim_start.Given as goal
 
 abbrev pub invariant-loop-rest : goal.invariant-loop-rest

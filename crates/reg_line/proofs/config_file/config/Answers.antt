@@ -1,6 +1,4 @@
-use Rattle.std.proofs.Common.{ap, ◌∙◌}
-use Rattle.std.proofs.lemmas.Result.{IfOk-weaker}
-use Rattle.serde_json.specs.Written.{has_float, compact_text}
+use Rattle.reg_line.proofs.Words.{ap, ◌∙◌, IfOk-weaker, has_float, compact_text}
 use Rattle.reg_line.specs.Config.{config_text}
 use Rattle.reg_line.proofs.config_file.config.Goals as goal
 

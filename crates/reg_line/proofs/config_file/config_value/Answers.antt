@@ -1,7 +1,5 @@
-use Rattle.std.proofs.Common.{◌≡◌, ℕ, true, List, codes, ap, ◌∙◌, rules}
-use Rattle.serde_json.specs.Data.{Data, Members, boolean, no_members, object, put, string}
-use Rattle.serde_json.specs.View.{members_view}
-use Rattle.serde_json.proofs.Views.{view-Object}
+use Rattle.reg_line.proofs.Words.{◌≡◌, ℕ, true, List, codes, ap, ◌∙◌, rules, Data, Members, boolean, no_members, object, put, string}
+use Rattle.reg_line.proofs.Words.{members_view, view-Object}
 use Rattle.serde_json.specs.declared.value.Value.{the_lemmas}
 use Rattle.reg_line.specs.Config.{config_data, download_of}
 use Rattle.reg_line.proofs.config_file.config_value.Goals as goal

@@ -1,9 +1,6 @@
-use Rattle.std.proofs.Common.{◌≡◌, [], map, not, sym, ap, ◌∙◌}
+use Rattle.reg_line.proofs.Words.{◌≡◌, [], map, not, sym, ap, ◌∙◌, members_view, feature_view, is_newer, older, newer}
 use Rattle.std.proofs.lemmas.Map.Iter.{rest_all}
 use Rattle.std.specs.Map.Iter.{deref_pair}
-use Rattle.serde_json.specs.View.{members_view}
-use Rattle.reg_manifest.specs.Manifests.{feature_view}
-use Rattle.reg_line.specs.Features.{is_newer, older, newer}
 use Rattle.reg_line.proofs.Maps.{put_all, put_all_ascending, ascending_filter, ascending_view}
 use Rattle.reg_line.proofs.features.feature_maps.Goals as goal
 

@@ -1,8 +1,4 @@
-use Rattle.std.proofs.Common.{◌≡◌, map}
-use Rattle.serde_json.specs.Data.{no_members}
-use Rattle.serde_json.specs.View.{members_view}
-use Rattle.reg_manifest.specs.Manifests.{feature_view}
-use Rattle.reg_line.specs.Features.{newer, older}
+use Rattle.reg_line.proofs.Words.{◌≡◌, map, no_members, members_view, feature_view, newer, older}
 use Rattle.reg_line.proofs.Maps.{put_all}
 use Rattle.reg_line.proofs.features.feature_maps.Given as goal
 

@@ -1,5 +1,4 @@
-use Rattle.std.proofs.Common.{arith}
-use Rattle.std.proofs.lemmas.Grind.{common_steps}
+use Rattle.reg_line.proofs.Words.{arith, common_steps}
 use Rattle.reg_line.proofs.index_file.file.Goals as goal
 
 pub loop-entry-preserved : goal.loop-entry-preserved

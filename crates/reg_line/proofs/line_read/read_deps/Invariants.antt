@@ -1,7 +1,5 @@
-use Rattle.std.proofs.Common.{◌≡◌, map, drop}
+use Rattle.reg_line.proofs.Words.{◌≡◌, map, drop, each, dep_view}
 use Rattle.serde_json.specs.View.{items_view}
-use Rattle.reg_manifest.specs.Fields.{each}
-use Rattle.reg_manifest.specs.Manifests.{dep_view}
 use Rattle.reg_line.specs.LineRead.{dep_from}
 use Rattle.reg_line.proofs.After.{after}
 use Rattle.reg_line.proofs.line_read.read_deps.Given as goal

@@ -1,7 +1,4 @@
-use Rattle.std.proofs.Common.{ap, ◌∙◌}
-use Rattle.std.proofs.lemmas.Result.{IfOk-weaker}
-use Rattle.serde_json.specs.Written.{has_float, compact_text}
-use Rattle.reg_manifest.specs.Manifests.{manifest_view}
+use Rattle.reg_line.proofs.Words.{ap, ◌∙◌, IfOk-weaker, has_float, compact_text, manifest_view}
 use Rattle.reg_line.specs.Line.{line_json}
 use Rattle.reg_line.proofs.NoFloat.{line-no_float}
 use Rattle.reg_line.proofs.lines.line_json.Goals as goal

@@ -1,8 +1,5 @@
-use Rattle.std.proofs.Common.{◌≡◌, [], ap, ◌∙◌, length}
+use Rattle.reg_line.proofs.Words.{◌≡◌, [], ap, ◌∙◌, length, view-Object, manifest_view, feature_members, newer}
 use Rattle.std.proofs.lemmas.Bool.{both_ways}
-use Rattle.serde_json.proofs.Views.{view-Object}
-use Rattle.reg_manifest.specs.Manifests.{manifest_view}
-use Rattle.reg_line.specs.Features.{feature_members, newer}
 use Rattle.reg_line.proofs.WhichLine.{is_long, is_short, no_entries}
 use Rattle.reg_line.proofs.lines.line_value.Goals as goal
 

@@ -1,6 +1,4 @@
-use Rattle.std.proofs.Common.{◌≡◌, ◌++◌, codes, sym, ◌∙◌, subst, false, length, rules, ◌-◌}
-use Rattle.reg_manifest.specs.Manifests.{manifest_view}
-use Rattle.reg_line.specs.Line.{IsStem}
+use Rattle.reg_line.proofs.Words.{◌≡◌, ◌++◌, codes, sym, ◌∙◌, subst, false, length, rules, ◌-◌, manifest_view, IsStem}
 use Rattle.reg_line.proofs.Stems.{line-stem, stem_text, stem_text-IsStem, cut_end}
 use Rattle.reg_line.proofs.lines.stem.Goals as goal
 

@@ -1,5 +1,4 @@
-use Rattle.std.proofs.Common.{sym, ◌∙◌}
-use Rattle.std.proofs.lemmas.Bool.{false≢true}
+use Rattle.reg_line.proofs.Words.{sym, ◌∙◌, false≢true}
 use Rattle.reg_line.proofs.StemFacts.{stem_read-IsStemOf, same_ok, not_refused}
 use Rattle.reg_line.proofs.stem_check.check_stem.Goals as goal
 

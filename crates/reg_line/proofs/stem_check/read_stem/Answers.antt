@@ -1,5 +1,4 @@
-use Rattle.std.proofs.Common.{◌≡◌, ◌++◌, codes, sym, ap, ◌∙◌, rules}
-use Rattle.reg_manifest.specs.Manifests.{manifest_view}
+use Rattle.reg_line.proofs.Words.{◌≡◌, ◌++◌, codes, sym, ap, ◌∙◌, rules, manifest_view}
 use Rattle.reg_line.specs.StemCheck.{fits}
 use Rattle.reg_line.proofs.StemFacts.{IsStemOf-from_fits}
 use Rattle.reg_line.proofs.stem_check.read_stem.Goals as goal

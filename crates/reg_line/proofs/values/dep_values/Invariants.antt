@@ -1,7 +1,4 @@
-use Rattle.std.proofs.Common.{◌≡◌, map, take}
-use Rattle.serde_json.specs.View.{view}
-use Rattle.reg_manifest.specs.Manifests.{dep_view}
-use Rattle.reg_line.specs.Line.{dep_data}
+use Rattle.reg_line.proofs.Words.{◌≡◌, map, take, view, dep_view, dep_data}
 use Rattle.reg_line.proofs.values.dep_values.Given as goal
 
 abbrev pub invariant-loop-dep : goal.invariant-loop-dep

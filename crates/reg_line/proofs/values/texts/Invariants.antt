@@ -1,6 +1,4 @@
-use Rattle.std.proofs.Common.{◌≡◌, map, take, string_bytes}
-use Rattle.serde_json.specs.Data.{string}
-use Rattle.serde_json.specs.View.{view}
+use Rattle.reg_line.proofs.Words.{◌≡◌, map, take, string_bytes, string, view}
 use Rattle.reg_line.proofs.values.texts.Given as goal
 
 abbrev pub invariant-loop-text : goal.invariant-loop-text

@@ -1,7 +1,5 @@
 -- A canonical text is that of the name.
-use Rattle.std.proofs.Common.{◌≡◌, ap, ◌∙◌, map, sym}
-use Rattle.std.proofs.lemmas.List.{take_all}
-use Rattle.reg_names.specs.Names.{canon, canon_byte, is_name}
+use Rattle.reg_names.proofs.Words.{◌≡◌, ap, ◌∙◌, map, sym, take_all, canon, canon_byte, is_name}
 use Rattle.reg_names.proofs.canonical.canon.Goals as goal
 
 pub invariant_of-result : goal.invariant_of-result

@@ -1,5 +1,4 @@
-use Rattle.std.proofs.Common.{◌≡◌, map, take}
-use Rattle.reg_names.specs.Names.{canon_byte}
+use Rattle.reg_names.proofs.Words.{◌≡◌, map, take, canon_byte}
 use Rattle.reg_names.proofs.canonical.canon.Given as goal
 
 abbrev pub invariant-loop-b : goal.invariant-loop-b

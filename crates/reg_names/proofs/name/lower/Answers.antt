@@ -1,11 +1,6 @@
 -- A name in lower case is a name.
-use Rattle.std.proofs.Common.{◌≡◌, ap, arith, ◌∙◌, true}
-use Rattle.std.specs.Char.{to_ascii_lowercase}
-use Rattle.std.proofs.Common.{map}
-use Rattle.std.proofs.lemmas.Grind.{common_steps}
-use Rattle.std.proofs.lemmas.List.{take_all}
+use Rattle.reg_names.proofs.Words.{◌≡◌, ap, arith, ◌∙◌, true, to_ascii_lowercase, map, common_steps, take_all, is_name, lower}
 use Rattle.reg_names.proofs.NameFacts.{is_name-lower}
-use Rattle.reg_names.specs.Names.{is_name, lower}
 use Rattle.reg_names.proofs.name.lower.Goals as goal
 
 pub invariant_of-result : goal.invariant_of-result

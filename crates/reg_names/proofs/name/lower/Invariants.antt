@@ -1,5 +1,4 @@
-use Rattle.std.proofs.Common.{◌≡◌, map, take}
-use Rattle.std.specs.Char.{to_ascii_lowercase}
+use Rattle.reg_names.proofs.Words.{◌≡◌, map, take, to_ascii_lowercase}
 use Rattle.reg_names.proofs.name.lower.Given as goal
 
 abbrev pub invariant-loop-b : goal.invariant-loop-b

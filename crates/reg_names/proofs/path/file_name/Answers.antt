@@ -1,9 +1,8 @@
 -- A path can be cut behind its folder, since a name is ASCII.
-use Rattle.std.proofs.Common.{sym, ap, subst, length}
+use Rattle.reg_names.proofs.Words.{sym, ap, subst, length, lower, folder_of}
 use Rattle.std.proofs.lemmas.Bool.{false≢true}
 use Rattle.std.proofs.lemmas.Str.{IsCharBoundary-at_seam}
 use Rattle.std.specs.Str.{IsCharBoundary}
-use Rattle.reg_names.specs.Names.{lower, folder_of}
 use Rattle.reg_names.proofs.NameFacts.{is_name-lower, name_utf8, some_bytes}
 use Rattle.reg_names.proofs.path.file_name.Goals as goal
 

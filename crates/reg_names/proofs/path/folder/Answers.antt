@@ -1,5 +1,4 @@
-use Rattle.std.proofs.Common.{arith}
-use Rattle.std.proofs.lemmas.Grind.{common_steps}
+use Rattle.reg_names.proofs.Words.{arith, common_steps}
 use Rattle.reg_names.proofs.Folders.{three}
 use Rattle.reg_names.proofs.path.folder.Goals as goal
 

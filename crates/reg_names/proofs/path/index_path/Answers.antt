@@ -1,6 +1,5 @@
 -- A path is that of the name in lower case.
-use Rattle.std.proofs.Common.{◌≡◌, ◌++◌, ap, ◌∙◌, rules, sym, true}
-use Rattle.reg_names.specs.Names.{folder_of, is_name, lower, path_of}
+use Rattle.reg_names.proofs.Words.{◌≡◌, ◌++◌, ap, ◌∙◌, rules, sym, true, folder_of, is_name, lower, path_of}
 use Rattle.reg_names.proofs.NameFacts.{lower-lower}
 use Rattle.reg_names.proofs.path.index_path.Goals as goal
 

@@ -1,5 +1,4 @@
-use Rattle.std.proofs.Common.{◌≡◌, ◌∙◌, List, ℕ, sym, ap, subst, true, rules}
-use Rattle.reg_names.specs.Names.{is_name, lower, name_of, path_of}
+use Rattle.reg_names.proofs.Words.{◌≡◌, ◌∙◌, List, ℕ, sym, ap, subst, true, rules, is_name, lower, name_of, path_of}
 use Rattle.reg_names.proofs.NameFacts.{name_of-name}
 use Rattle.reg_names.proofs.path.named_by.Goals as goal
 

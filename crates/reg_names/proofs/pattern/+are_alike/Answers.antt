@@ -1,5 +1,4 @@
-use Rattle.std.proofs.Common.{arith, rules}
-use Rattle.std.proofs.lemmas.Grind.{common_steps}
+use Rattle.reg_names.proofs.Words.{arith, rules, common_steps}
 use Rattle.reg_names.proofs.pattern.+are_alike.Goals as goal
 
 pub returns-then-canon_byte : goal.returns-then-canon_byte

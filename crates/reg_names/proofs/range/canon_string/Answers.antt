@@ -1,5 +1,4 @@
-use Rattle.std.proofs.Common.{arith}
-use Rattle.std.proofs.lemmas.Grind.{common_steps}
+use Rattle.reg_names.proofs.Words.{arith, common_steps}
 use Rattle.reg_names.proofs.range.canon_string.Goals as goal
 
 pub loop-b-preserved : goal.loop-b-preserved

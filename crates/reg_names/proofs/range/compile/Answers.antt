@@ -1,6 +1,4 @@
-use Rattle.std.proofs.Common.{sym, ap, ◌∙◌, subst, rules}
-use Rattle.std.specs.Str.{IsAscii}
-use Rattle.reg_names.specs.Patterns.{is_pattern}
+use Rattle.reg_names.proofs.Words.{sym, ap, ◌∙◌, subst, rules, IsAscii, is_pattern}
 use Rattle.reg_names.proofs.PatternAscii.{plain_ascii, prefix_ascii}
 use Rattle.reg_names.proofs.range.compile.Goals as goal
 

@@ -1,6 +1,4 @@
-use Rattle.std.proofs.Common.{map, sym, ap, ◌∙◌}
-use Rattle.reg_names.specs.Names.{canon}
-use Rattle.reg_policy_lists.specs.Publications.{canons_in, publication_of, put_text}
+use Rattle.reg_policy_lists.proofs.Words.{map, sym, ap, ◌∙◌, canon, canons_in, publication_of, put_text}
 use Rattle.reg_policy_lists.proofs.CrateNames.{canons_more, canons_none, no_length}
 use Rattle.reg_policy_lists.proofs.crate_names.+names_of.Goals as goal
 

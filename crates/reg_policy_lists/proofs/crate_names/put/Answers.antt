@@ -1,9 +1,4 @@
-use Rattle.std.proofs.Common.{◌∙◌, sym, ap, map, refl}
-use Rattle.std.specs.Prelude.{slice_get}
-use Rattle.std.specs.Str.{bytes_eq}
-use Rattle.reg_names.specs.Names.{canon}
-use Rattle.reg_model.specs.Registry.{Text, holds}
-use Rattle.reg_policy_lists.specs.Publications.{place_for}
+use Rattle.reg_policy_lists.proofs.Words.{◌∙◌, sym, ap, map, refl, slice_get, bytes_eq, canon, Text, holds, place_for}
 use Rattle.reg_policy_lists.proofs.CrateNames.{put_there, put_new}
 use Rattle.reg_policy_lists.proofs.crate_names.put.Goals as goal
 

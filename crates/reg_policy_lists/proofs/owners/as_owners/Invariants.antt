@@ -1,5 +1,4 @@
-use Rattle.std.proofs.Common.{◌≡◌, map, take}
-use Rattle.reg_policy_lists.specs.Sets.{owner_by, owner_of}
+use Rattle.reg_policy_lists.proofs.Words.{◌≡◌, map, take, owner_by, owner_of}
 use Rattle.reg_policy_lists.proofs.owners.as_owners.Given as goal
 
 abbrev pub invariant-loop-account : goal.invariant-loop-account

@@ -1,9 +1,4 @@
-use Rattle.std.proofs.Common.{◌≡◌, ◌++◌, map, drop}
-use Rattle.std.specs.List.{filter}
-use Rattle.reg_names.specs.Names.{canon}
-use Rattle.reg_line.specs.File.{entry_view}
-use Rattle.reg_model.specs.Crates.{collides}
-use Rattle.reg_policy_lists.specs.Publications.{marked_in, publication_of}
+use Rattle.reg_policy_lists.proofs.Words.{◌≡◌, ◌++◌, map, drop, filter, canon, entry_view, collides, marked_in, publication_of}
 use Rattle.reg_policy_lists.proofs.publications.entry_list.Given as goal
 
 abbrev pub invariant-loop-publication : goal.invariant-loop-publication

@@ -1,6 +1,4 @@
-use Rattle.std.proofs.Common.{◌≡◌, ◌++◌, map, drop}
-use Rattle.std.specs.List.{filter}
-use Rattle.reg_model.specs.Crates.{collides}
+use Rattle.reg_policy_lists.proofs.Words.{◌≡◌, ◌++◌, map, drop, filter, collides}
 use Rattle.reg_policy_lists.proofs.publications.publications_of.Given as goal
 
 abbrev pub invariant-loop-publication : goal.invariant-loop-publication

@@ -1,7 +1,4 @@
-use Rattle.std.proofs.Common.{◌≡◌, ◌++◌, map, drop}
-use Rattle.std.specs.Prelude.{string_bytes}
-use Rattle.std.specs.List.{filter}
-use Rattle.reg_model.specs.Crates.{collides}
+use Rattle.reg_policy_lists.proofs.Words.{◌≡◌, ◌++◌, map, drop, string_bytes, filter, collides}
 use Rattle.reg_policy_lists.proofs.publications.version_texts.Given as goal
 
 abbrev pub invariant-loop-publication : goal.invariant-loop-publication

@@ -1,7 +1,5 @@
-use Rattle.std.proofs.Common.{◌≡◌, map, take}
-use Rattle.std.specs.Prelude.{string_bytes}
+use Rattle.reg_policy_lists.proofs.Words.{◌≡◌, map, take, string_bytes, parts_of}
 use Rattle.std.specs.FinSet as set
-use Rattle.reg_versions.specs.Versions.{parts_of}
 use Rattle.reg_policy_lists.proofs.tops.releases.Given as goal
 
 -- the versions so far are read

@@ -1,8 +1,5 @@
-use Rattle.std.proofs.Common.{◌+◌, ◌++◌, map, sym, ap, ◌∙◌}
+use Rattle.reg_policy_plain.proofs.Words.{◌+◌, ◌++◌, map, sym, ap, ◌∙◌, enumerate_from, filter, flat_map, string_bytes, reader_line}
 use Rattle.std.specs.FinSet as set
-use Rattle.std.specs.List.{enumerate_from, filter, flat_map}
-use Rattle.std.specs.String.{string_bytes}
-use Rattle.reg_model.specs.Reports.{reader_line}
 use Rattle.reg_policy_lists.specs.Accounts.{account_of}
 use Rattle.reg_policy_plain.proofs.ReportTexts.{more_lines, on_ok}
 use Rattle.reg_policy_plain.proofs.reports.+push_readers.Goals as goal

@@ -1,12 +1,10 @@
-use Rattle.std.proofs.Common.{refl}
-use Rattle.reg_tables_schema.specs.declared.edition.Edition.TheVariants.{Second}
-use Rattle.reg_tables_schema.proofs.Reading.{plain_text}
+use Rattle.reg_search.proofs.Words.{refl, Second}
 use Rattle.reg_search.proofs.Texts.{hidden_is}
 use Rattle.reg_search.proofs.Told.{hidden_told}
 use Rattle.reg_search.proofs.hidden.read_hidden.Goals as goal
 
 pub read_all-requires : goal.read_all-requires
-read_all-requires g c = (Second, c.requires, plain_text hidden_is _ cc)
+read_all-requires g c = (Second, c.requires, hidden_is.plain)
 
 pub returns-clause-hidden : goal.returns-clause-hidden
 returns-clause-hidden g c clean =

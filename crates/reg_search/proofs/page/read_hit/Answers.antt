@@ -1,12 +1,10 @@
-use Rattle.std.proofs.Common.{refl}
-use Rattle.reg_tables_schema.specs.declared.edition.Edition.TheVariants.{Second}
-use Rattle.reg_tables_schema.proofs.Reading.{plain_text}
+use Rattle.reg_search.proofs.Words.{refl, Second}
 use Rattle.reg_search.proofs.Texts.{hit_is}
 use Rattle.reg_search.proofs.Told.{hit_popped}
 use Rattle.reg_search.proofs.page.read_hit.Goals as goal
 
 pub read_all-requires : goal.read_all-requires
-read_all-requires g c = (Second, c.requires, plain_text hit_is _ cc)
+read_all-requires g c = (Second, c.requires, hit_is.plain)
 
 pub returns-clause-shown : goal.returns-clause-shown
 returns-clause-shown g c clean =

@@ -1,9 +1,4 @@
-use Rattle.std.proofs.Common.{get_or}
-use Rattle.std.proofs.lemmas.Result.{IfOk-from_err}
-use Rattle.sqlite.specs.Held.{state}
-use Rattle.sqlite.specs.State.{HasCleanDisk}
-use Rattle.reg_tables_schema.specs.Statements.{rows_in}
-use Rattle.reg_search.specs.Rows.{ShowsCrate}
+use Rattle.reg_search.proofs.Words.{get_or, IfOk-from_err, state, HasCleanDisk, rows_in, ShowsCrate}
 use Rattle.reg_search.proofs.ReadSteps.{◌⨾◌, fails, none_read, so_far, told_before, was_clean}
 use Rattle.reg_search.proofs.Told.{shown_at}
 use Rattle.reg_search.proofs.page.read_page.Goals as goal

@@ -1,10 +1,4 @@
-use Rattle.std.proofs.Common.{Ok, take}
-use Rattle.sqlite.specs.Held.{state}
-use Rattle.sqlite.specs.State.{HasCleanDisk}
-use Rattle.sqlite.specs.declared.error.Error.{Error}
-use Rattle.reg_tables_schema.specs.Statements.{rows_in}
-use Rattle.reg_tables_meaning.specs.Walks.{IsRead}
-use Rattle.reg_search.specs.Rows.{ShowsCrates}
+use Rattle.reg_search.proofs.Words.{Ok, take, state, HasCleanDisk, Error, rows_in, IsRead, ShowsCrates}
 use Rattle.reg_search.proofs.page.read_page.Given as goal
 
 -- the crates before the index are shown

@@ -1,6 +1,4 @@
-use Rattle.std.proofs.Common.{◌≡◌, map}
-use Rattle.sqlite.specs.Values.{bound}
-use Rattle.reg_tables_meaning.specs.Walks.{HasWalked}
+use Rattle.reg_search.proofs.Words.{◌≡◌, map, bound, HasWalked}
 use Rattle.reg_search.proofs.records.read_all.Given as goal
 
 -- the rows so far are in the list

@@ -1,8 +1,4 @@
-use Rattle.std.proofs.Common.{refl}
-use Rattle.std.proofs.lemmas.Result.{IfOk-from_err}
-use Rattle.reg_tables_schema.specs.Statements.{rows_in}
-use Rattle.reg_tables_schema.specs.declared.edition.Edition.TheVariants.{Second}
-use Rattle.reg_search.specs.Rows.{FindsIds, ShowsCrates}
+use Rattle.reg_search.proofs.Words.{refl, IfOk-from_err, rows_in, Second, FindsIds, ShowsCrates}
 use Rattle.reg_search.proofs.ReadSteps.{◌⨾◌, fails, so_far, told_before, was_clean}
 use Rattle.reg_search.proofs.Told.{all_found}
 use Rattle.reg_search.proofs.searching.find.Goals as goal

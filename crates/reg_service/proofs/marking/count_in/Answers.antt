@@ -1,6 +1,4 @@
-use Rattle.std.proofs.Common.{sym, subst, ◌∙◌}
-use Rattle.reg_tables.proofs.Looking.{call_looks}
-use Rattle.reg_service.specs.Looked.{Looked}
+use Rattle.reg_service.proofs.Words.{sym, subst, ◌∙◌, call_looks, Looked}
 use Rattle.reg_service.proofs.Rests.{dropped_looked, left_looked}
 use Rattle.reg_service.proofs.marking.count_in.Goals as goal
 

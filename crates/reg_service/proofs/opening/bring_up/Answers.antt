@@ -1,5 +1,4 @@
-use Rattle.std.proofs.Common.{Ok, ap, arith, refl, sym, ◌∙◌}
-use Rattle.reg_tables.specs.Works.{edition_in, shown}
+use Rattle.reg_service.proofs.Words.{Ok, ap, arith, refl, sym, ◌∙◌, edition_in, shown}
 use Rattle.reg_service.proofs.Opened.{still_brought, upgrade_brought, upgrade_left, upgrade_undone}
 use Rattle.reg_service.proofs.opening.bring_up.Goals as goal
 

@@ -1,10 +1,5 @@
-use Rattle.std.proofs.Common.{Some, arith, refl, rules, subst, sym, ◌∙◌}
-use Rattle.sqlite.specs.Held.{state}
-use Rattle.sqlite.specs.State.{HasCleanDisk}
-use Rattle.reg_tables_meaning.proofs.Results.{if_ok}
-use Rattle.reg_tables.specs.Works.{edition_in, held, shown}
-use Rattle.reg_service.specs.Registries.{AreChecked, IsFirstFailing}
-use Rattle.reg_service.specs.declared.opening.OpenFault.TheVariants.{BadBase, Damaged, Storage, UnknownSchema}
+use Rattle.reg_service.proofs.Words.{Some, arith, refl, rules, subst, sym, ◌∙◌, state, HasCleanDisk, if_ok, edition_in, held, shown}
+use Rattle.reg_service.proofs.Words.{AreChecked, IsFirstFailing, BadBase, Damaged, Storage, UnknownSchema}
 use Rattle.reg_service.proofs.Faults.{apart}
 use Rattle.reg_service.proofs.Opened.{examined_brought, examined_left, examined_undone, if_refused, returned_left, returned_undone}
 use Rattle.reg_service.proofs.opening.examine.Goals as goal

@@ -1,7 +1,6 @@
-use Rattle.std.proofs.Common.{arith, ap, ◌∙◌}
+use Rattle.reg_service.proofs.Words.{arith, ap, ◌∙◌, if_ok}
 use Rattle.reg_api_replies.specs.Bodies.{found_body}
 use Rattle.reg_api_replies.specs.Entries.{found_of}
-use Rattle.reg_tables_meaning.proofs.Results.{if_ok}
 use Rattle.reg_service.proofs.Histories.{no_told}
 use Rattle.reg_service.proofs.Seeking.{all_pushed, push_one}
 use Rattle.reg_service.proofs.searching.found_body.Goals as goal

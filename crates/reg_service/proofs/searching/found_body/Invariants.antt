@@ -1,5 +1,4 @@
-use Rattle.std.proofs.Common.{◌≡◌, map, take}
-use Rattle.reg_search.specs.Rows.{hit_of}
+use Rattle.reg_service.proofs.Words.{◌≡◌, map, take, hit_of}
 use Rattle.reg_service.proofs.searching.found_body.Given as goal
 
 -- the crates so far are in the body

@@ -1,6 +1,4 @@
-use Rattle.std.proofs.Common.{inl, inr, arith, refl, subst, sym}
-use Rattle.reg_tables_schema.specs.States.{IsOurs}
-use Rattle.reg_tables.specs.Works.{edition_in, shown}
+use Rattle.reg_service.proofs.Words.{inl, inr, arith, refl, subst, sym, IsOurs, edition_in, shown}
 use Rattle.reg_service.proofs.searching.seek.Goals as goal
 
 pub returns-in-Ok-clause-left : goal.returns-in-Ok-clause-left

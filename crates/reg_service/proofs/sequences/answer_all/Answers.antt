@@ -1,7 +1,4 @@
-use Rattle.std.proofs.Common.{[], ◌∷◌, ◌++◌, ◌+◌, take, subst, sym, refl, ◌∙◌, arith}
-use Rattle.reg_service.specs.Registries.{limits_of, tables_of}
-use Rattle.reg_service.specs.Sequences.{HasAnswered}
-use Rattle.std.proofs.lemmas.List.{take_all}
+use Rattle.reg_service.proofs.Words.{[], ◌∷◌, ◌++◌, ◌+◌, take, subst, sym, refl, ◌∙◌, arith, limits_of, tables_of, HasAnswered, take_all}
 use Rattle.reg_service.proofs.Histories.{answered_next, answered_nothing, fit_at, no_told}
 use Rattle.reg_service.proofs.sequences.answer_all.Goals as goal
 

@@ -1,10 +1,6 @@
-use Rattle.std.proofs.Common.{◌≡◌, take}
-use Rattle.sqlite.specs.State.{HasCleanDisk}
+use Rattle.reg_service.proofs.Words.{◌≡◌, take, HasCleanDisk, shown, Shows, limits_of, tables_of, HasAnswered}
 use Rattle.reg_model.specs.Registry as model
-use Rattle.reg_tables.specs.Works.{shown}
-use Rattle.reg_service.specs.Answered.{Shows}
-use Rattle.reg_service.specs.Registries.{IsUpToDate, limits_of, tables_of}
-use Rattle.reg_service.specs.Sequences.{HasAnswered}
+use Rattle.reg_service.specs.Registries.{IsUpToDate}
 use Rattle.reg_service.proofs.sequences.answer_all.Given as goal
 
 -- the calls so far are answered

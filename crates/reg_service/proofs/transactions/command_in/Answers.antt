@@ -1,14 +1,8 @@
-use Rattle.std.proofs.Common.{◌≡◌, Err, arith, rules, ap, sym, subst, refl, inl, inr, ◌∙◌}
-use Rattle.std.proofs.lemmas.Bool.{false≢true}
-use Rattle.sqlite.specs.State.{HasCleanDisk}
+use Rattle.reg_service.proofs.Words.{◌≡◌, Err, arith, rules, ap, sym, subst, refl, inl, inr, ◌∙◌, false≢true, HasCleanDisk, Order}
+use Rattle.reg_service.proofs.Words.{command_of, reply_of, held, is_shut, seen, shown, call_looks, line_of_answer, Answers, AreUpToDate}
+use Rattle.reg_service.proofs.Words.{Halts, WasClean}
 use Rattle.reg_model.specs.declared.rule.AdminRefusal.TheVariants as refusal
 use Rattle.reg_model.specs.Events.Answer.{Refused as to_refused}
-use Rattle.reg_model.specs.Events.Event.{Order}
-use Rattle.reg_policy.specs.Events.{command_of, reply_of}
-use Rattle.reg_tables.specs.Works.{held, is_shut, seen, shown}
-use Rattle.reg_tables.proofs.Looking.{call_looks}
-use Rattle.reg_service_commands.specs.Telling.{line_of_answer}
-use Rattle.reg_service.specs.Answered.{Answers, AreUpToDate, Halts, WasClean}
 use Rattle.reg_service.proofs.Frames.{committed, dropped, not_begun, not_committed, sees}
 use Rattle.reg_service.proofs.Rests.{committed_halts, dropped_halts, dropped_looked, ended_clean, left_looked, refused_tables}
 use Rattle.reg_service.proofs.Traced.{orders, tells_line, unordered}

@@ -1,6 +1,4 @@
-use Rattle.std.proofs.Common.{sym, subst}
-use Rattle.reg_model.specs.Events.Event.{Ask}
-use Rattle.reg_model.specs.Steps.{IsFit}
+use Rattle.reg_service.proofs.Words.{sym, subst, Ask, IsFit}
 use Rattle.reg_service.proofs.Replied.{no_memory}
 use Rattle.reg_service.proofs.Traced.{untold}
 use Rattle.reg_service.proofs.transactions.parts_in.Goals as goal

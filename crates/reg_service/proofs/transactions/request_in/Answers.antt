@@ -1,13 +1,7 @@
-use Rattle.std.proofs.Common.{None, refl, rules, sym, subst, ◌∙◌}
-use Rattle.std.specs.Option.{option_map}
+use Rattle.reg_service.proofs.Words.{None, refl, rules, sym, subst, ◌∙◌, option_map, Denied, IsDropped, held, call_looks, AreUpToDate}
 use Rattle.reg_model.specs.declared.rule.Rule.TheVariants as rule
 use Rattle.reg_policy.specs.Events.{asked_of}
-use Rattle.reg_api_replies.specs.declared.reply.Reply.TheVariants.{Denied}
-use Rattle.reg_tables.specs.Ends.{IsDropped}
-use Rattle.reg_tables.specs.Works.{held}
-use Rattle.reg_tables.proofs.Looking.{call_looks}
-use Rattle.reg_service.specs.Answered.{AreUpToDate}
-use Rattle.reg_service.proofs.Requested.{committed, failed, not_committed, only_told, sought, unbegun}
+use Rattle.reg_service.proofs.Requested.{committed, failed, found, not_committed, only_told, sought, unbegun}
 use Rattle.reg_service.proofs.Rests.{dropped_looked}
 use Rattle.reg_service.proofs.transactions.request_in.Goals as goal
 
@@ -101,3 +95,13 @@ returns-in-Seeks g c =
     told.told told.ensures.told
     c.in-Seeks.account c.seek.result c.tables-in-Seeks-1.given.0 c.seek.new.tables c.in-Seeks.is it.ensures.reply it.ensures.line dropped
     (λ up db l. g.met.S.Store.settled (held old).store db up l) c.seek.ensures.left c.seek.ensures.sought
+
+pub returns-in-Sends : goal.returns-in-Sends
+returns-in-Sends g c =
+    let old = c.args.tables.now in
+    let told = c.in-Ok-serve_told in
+    let back = c.tables-in-Sends-1.given.1 (sym (c.serve_told.ensures.leaves.same_reference ∙ c.in-Ok.ensures.same_reference)) in
+    let looks = call_looks g.S.Store c.serve_told.result c.in-Ok.work c.serve_told.new.work c.serve_told.ensures.leaves in
+    found g.S.Store c.args.limits.now c.args.traced (option_map (λ d. d.now) c.args.digest) (asked_of c.args.asked.now) old c.requires.tables c.in-Ok.work c.serve_told.new.work c.in-Ok.ensures.begun looks
+    told.told told.ensures.told c.file_law.ensures
+    c.in-Sends.file _ c.drop-work-in-Sends-1.new.self.0 back c.in-Sends.is c.drop-work-in-Sends-1.ensures (λ up db l. g.met.S.Store.settled (held old).store db up l)

@@ -1,13 +1,10 @@
-use Rattle.std.proofs.Common.{◌≡◌, ◌∷◌, Bool, true, false, Ok, ap, refl, not, sym, ◌∙◌}
-use Rattle.std.specs.Option.{option_map}
-use Rattle.std.specs.Prelude.{◌&&◌, codes}
-use Rattle.reg_model.specs.Events.Command.{UserAdd}
-use Rattle.reg_model.specs.Trail.{name_words}
+use Rattle.reg_service_commands.proofs.Words.{◌≡◌, ◌∷◌, Bool, true, false, Ok, ap, refl, not, sym, ◌∙◌, option_map, codes, UserAdd}
+use Rattle.reg_service_commands.proofs.Words.{name_words, runs_asked, runs_nothing, runs_whole}
+use Rattle.std.specs.Prelude.{◌&&◌}
 use Rattle.reg_model.specs.declared.rule.AdminRefusal.TheVariants as refusal
 use Rattle.reg_policy.specs.declared.event.AdminReply.TheVariants.{Done}
 use Rattle.reg_service_commands.proofs.Adding.{account_added, account_refused, bad_account}
 use Rattle.reg_service_commands.proofs.Ordered.{refusal_told, told_so, user_words}
-use Rattle.reg_service_steps.proofs.Running.{runs_asked, runs_nothing, runs_whole}
 use Rattle.reg_service_commands.proofs.accounts.add_account.Goals as goal
 
 always : (b : Bool) → b ≡ (b && true)

@@ -1,6 +1,4 @@
-use Rattle.reg_tables_meaning.specs.Calls.{FindsAccount}
-use Rattle.std.proofs.Common.{sym, ◌∙◌}
-use Rattle.reg_access.proofs.Questions.{asks_both, asks_made}
+use Rattle.reg_service_commands.proofs.Words.{FindsAccount, sym, ◌∙◌, asks_both, asks_made}
 use Rattle.reg_service_commands.proofs.Adding.{is_counted, is_taken}
 use Rattle.reg_service_commands.proofs.accounts.refuses_account.Goals as goal
 

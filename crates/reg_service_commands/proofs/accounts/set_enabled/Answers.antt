@@ -1,11 +1,7 @@
-use Rattle.std.proofs.Common.{[], ◌∷◌}
-use Rattle.reg_tables_meaning.specs.Calls.{FindsAccount}
-use Rattle.reg_service_commands.specs.Orders.{enabling}
-use Rattle.reg_service_commands.specs.Telling.{enabled_word}
+use Rattle.reg_service_commands.proofs.Words.{[], ◌∷◌, FindsAccount, enabling, enabled_word, runs_asked, runs_told}
 use Rattle.reg_model.specs.declared.rule.AdminRefusal.TheVariants as refusal
 use Rattle.reg_service_commands.proofs.Commands.{is_enabled_so, none_enabled}
 use Rattle.reg_service_commands.proofs.Ordered.{differed, done_told, enabled_words, refusal_told}
-use Rattle.reg_service_steps.proofs.Running.{runs_asked, runs_told}
 use Rattle.reg_service_commands.proofs.accounts.set_enabled.Goals as goal
 
 pub returns-in_default : goal.returns-in_default

@@ -1,11 +1,5 @@
-use Rattle.std.proofs.Common.{◌∷◌, ap, rules, sym, ◌∙◌}
-use Rattle.std.specs.Option.{option_map}
-use Rattle.std.specs.Prelude.{codes}
-use Rattle.reg_access.proofs.Questions.{asks_nothing}
-use Rattle.reg_model.specs.Trail.{line_of, name_words}
-use Rattle.reg_service_steps.specs.Telling.{line_if}
-use Rattle.reg_service_steps.proofs.Afterwards.{line_is}
-use Rattle.reg_service_steps.proofs.Running.{asks_as}
+use Rattle.reg_service_commands.proofs.Words.{◌∷◌, ap, rules, sym, ◌∙◌, option_map, codes, asks_nothing, line_of, name_words, line_if}
+use Rattle.reg_service_commands.proofs.Words.{line_is, asks_as}
 use Rattle.reg_service_commands.proofs.accounts.tell_account.Goals as goal
 
 pub returns-then-not-told : goal.returns-then-not-told

@@ -1,9 +1,6 @@
-use Rattle.std.proofs.Common.{[], ◌∷◌}
-use Rattle.std.specs.Prelude.{codes, string_bytes}
-use Rattle.reg_model.specs.Events.Command.{OwnerAdd}
+use Rattle.reg_service_commands.proofs.Words.{[], ◌∷◌, codes, string_bytes, OwnerAdd, runs_asked, runs_told}
 use Rattle.reg_service_commands.proofs.Ordered.{done_told, owner_words, refusal_told}
 use Rattle.reg_service_commands.proofs.Owning.{owner_refused, owner_done}
-use Rattle.reg_service_steps.proofs.Running.{runs_asked, runs_told}
 use Rattle.reg_service_commands.proofs.crates.add_owner.Goals as goal
 
 pub returns-in-Err : goal.returns-in-Err

@@ -1,9 +1,6 @@
-use Rattle.std.proofs.Common.{[], ◌∷◌}
-use Rattle.std.specs.Prelude.{codes, string_bytes}
-use Rattle.reg_model.specs.Events.Command.{ReaderAdd}
+use Rattle.reg_service_commands.proofs.Words.{[], ◌∷◌, codes, string_bytes, ReaderAdd, runs_asked, runs_told}
 use Rattle.reg_service_commands.proofs.Ordered.{done_told, reader_words, refusal_told}
 use Rattle.reg_service_commands.proofs.Owning.{add_refused, reader_done}
-use Rattle.reg_service_steps.proofs.Running.{runs_asked, runs_told}
 use Rattle.reg_service_commands.proofs.crates.add_reader.Goals as goal
 
 pub returns-in-Err : goal.returns-in-Err

@@ -1,11 +1,7 @@
-use Rattle.std.proofs.Common.{[], ◌∷◌}
-use Rattle.std.specs.Prelude.{string_bytes}
+use Rattle.reg_service_commands.proofs.Words.{[], ◌∷◌, string_bytes, restricting, restricted_word, runs_asked, runs_told}
 use Rattle.reg_model.specs.declared.rule.AdminRefusal.TheVariants as refusal
-use Rattle.reg_service_commands.specs.Orders.{restricting}
-use Rattle.reg_service_commands.specs.Telling.{restricted_word}
 use Rattle.reg_service_commands.proofs.Ordered.{done_told, refusal_told, restrict_words}
 use Rattle.reg_service_commands.proofs.Owning.{restrict_done, restrict_refused}
-use Rattle.reg_service_steps.proofs.Running.{runs_asked, runs_told}
 use Rattle.reg_service_commands.proofs.crates.set_restricted.Goals as goal
 
 pub returns-in_default : goal.returns-in_default

@@ -1,16 +1,8 @@
-use Rattle.std.proofs.Common.{Ok, map, sym, ap, ◌∙◌, []}
-use Rattle.std.specs.Prelude.{◌++◌, ◌∷◌, string_bytes}
-use Rattle.reg_line.specs.File.{file_text}
-use Rattle.reg_names.specs.Names.{path_of}
-use Rattle.reg_tables_meaning.specs.Calls.{ListsVersions}
-use Rattle.reg_tables.specs.Works.{rows_seen}
-use Rattle.reg_tables.specs.declared.work.StoreFault.{StoreFault}
-use Rattle.reg_tables.specs.Calling.{Asks}
-use Rattle.reg_access.proofs.Questions.{asks_made, asks_refused}
-use Rattle.reg_service_commands.specs.Exported.{texts_of}
-use Rattle.reg_service_steps.specs.Reads.{entry_of_version}
+use Rattle.reg_service_commands.proofs.Words.{Ok, map, sym, ap, ◌∙◌, [], string_bytes, file_text, path_of, ListsVersions, rows_seen}
+use Rattle.reg_service_commands.proofs.Words.{StoreFault, Asks, asks_made, texts_of, entry_of_version, is_given}
+use Rattle.std.specs.Prelude.{◌++◌, ◌∷◌}
+use Rattle.reg_access.proofs.Questions.{asks_refused}
 use Rattle.reg_service_commands.proofs.ExportAsked.{file_added}
-use Rattle.reg_service_steps.proofs.Names.{is_given}
 use Rattle.reg_service_commands.proofs.exporting.add_file.Goals as goal
 
 pub returns-in-Ok : goal.returns-in-Ok

@@ -1,8 +1,5 @@
-use Rattle.std.proofs.Common.{Err, map, subst, rules, arith, sym, append-nil}
-use Rattle.std.proofs.lemmas.List.{take_all}
-use Rattle.reg_tables.specs.Works.{rows_seen}
-use Rattle.reg_access.proofs.Questions.{asks_after, asks_failed, asks_made, asks_nothing}
-use Rattle.reg_service_commands.specs.Exported.{AddsFiles, texts_of}
+use Rattle.reg_service_commands.proofs.Words.{Err, map, subst, rules, arith, sym, append-nil, take_all, rows_seen, asks_after, asks_failed}
+use Rattle.reg_service_commands.proofs.Words.{asks_made, asks_nothing, AddsFiles, texts_of}
 use Rattle.reg_service_commands.proofs.ExportAsked.{one_asked}
 use Rattle.reg_service_commands.proofs.exporting.add_files.Goals as goal
 

@@ -1,7 +1,4 @@
-use Rattle.std.proofs.Common.{Ok, map, take}
-use Rattle.reg_tables.specs.declared.work.StoreFault.{StoreFault}
-use Rattle.reg_tables.specs.Calling.{Asks}
-use Rattle.reg_service_commands.specs.Exported.{AddsFiles, texts_of}
+use Rattle.reg_service_commands.proofs.Words.{Ok, map, take, StoreFault, Asks, AddsFiles, texts_of}
 use Rattle.reg_service_commands.proofs.exporting.add_files.Given as goal
 
 -- the crates so far have their files

@@ -1,5 +1,4 @@
-use Rattle.reg_tables_meaning.specs.Calls.{FindsAccount}
-use Rattle.reg_access.proofs.Questions.{asks_both, asks_made}
+use Rattle.reg_service_commands.proofs.Words.{FindsAccount, asks_both, asks_made}
 use Rattle.reg_service_commands.proofs.Named.{no_pair_known, no_pair_named, pair_named}
 use Rattle.reg_service_commands.proofs.finding.find_pair.Goals as goal
 

@@ -1,8 +1,5 @@
-use Rattle.std.proofs.Common.{◌∷◌, [], map, ap, ◌∙◌}
-use Rattle.std.specs.Prelude.{codes, string_bytes}
+use Rattle.reg_service_commands.proofs.Words.{◌∷◌, [], map, ap, ◌∙◌, codes, string_bytes, with_commas, line_of}
 use Rattle.std.proofs.lemmas.List.{map-id}
-use Rattle.reg_model.specs.Reports.{with_commas}
-use Rattle.reg_model.specs.Trail.{line_of}
 use Rattle.reg_service_commands.proofs.LineWords.{token_written}
 use Rattle.reg_service_commands.proofs.lines.new_token_line.Goals as goal
 

@@ -1,11 +1,8 @@
-use Rattle.std.proofs.Common.{[], ◌∷◌, Ok, sym, ◌∙◌}
-use Rattle.std.specs.Prelude.{codes}
-use Rattle.reg_model.specs.Events.Command.{Reserve}
+use Rattle.reg_service_commands.proofs.Words.{[], ◌∷◌, Ok, sym, ◌∙◌, codes, Reserve, runs_nothing, runs_then}
 use Rattle.reg_model.specs.declared.rule.AdminRefusal.TheVariants as refusal
 use Rattle.reg_policy.specs.declared.event.AdminReply.TheVariants.{Done}
 use Rattle.reg_service_commands.proofs.Commands.{bad_name, reserved_already, reserved_now}
 use Rattle.reg_service_commands.proofs.Ordered.{done_told, refusal_told, reserve_words, reserved_always, unchanged_told}
-use Rattle.reg_service_steps.proofs.Running.{runs_nothing, runs_then}
 use Rattle.reg_service_commands.proofs.names.reserve.Goals as goal
 
 pub returns-in_default : goal.returns-in_default

@@ -1,10 +1,7 @@
-use Rattle.std.proofs.Common.{[], ◌∷◌, sym, ◌∙◌}
-use Rattle.std.specs.Prelude.{codes}
-use Rattle.reg_model.specs.Events.Command.{Unreserve}
+use Rattle.reg_service_commands.proofs.Words.{[], ◌∷◌, sym, ◌∙◌, codes, Unreserve, runs_nothing, runs_then}
 use Rattle.reg_model.specs.declared.rule.AdminRefusal.TheVariants as refusal
 use Rattle.reg_service_commands.proofs.Commands.{bad_free_name, freed_now}
 use Rattle.reg_service_commands.proofs.Ordered.{done_told, free_words, refusal_told}
-use Rattle.reg_service_steps.proofs.Running.{runs_nothing, runs_then}
 use Rattle.reg_service_commands.proofs.names.unreserve.Goals as goal
 
 pub returns-in_default : goal.returns-in_default

@@ -1,6 +1,4 @@
-use Rattle.std.proofs.Common.{sym, ◌∙◌}
-use Rattle.std.specs.Prelude.{string_bytes}
-use Rattle.reg_service_steps.proofs.Running.{runs_asked, runs_nothing}
+use Rattle.reg_service_commands.proofs.Words.{sym, ◌∙◌, string_bytes, runs_asked, runs_nothing}
 use Rattle.reg_service_commands.proofs.Reporting.{access_told, no_report}
 use Rattle.reg_service_commands.proofs.reports.report_access.Goals as goal
 

@@ -1,5 +1,4 @@
-use Rattle.std.specs.Prelude.{string_bytes}
-use Rattle.reg_service_steps.proofs.Running.{runs_asked}
+use Rattle.reg_service_commands.proofs.Words.{string_bytes, runs_asked}
 use Rattle.reg_service_commands.proofs.Reporting.{crates_told}
 use Rattle.reg_service_commands.proofs.reports.report_crates.Goals as goal
 

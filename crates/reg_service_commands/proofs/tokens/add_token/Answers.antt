@@ -1,12 +1,9 @@
-use Rattle.std.proofs.Common.{◌≡◌, [], ◌∷◌, Bool, true, false, map, refl}
-use Rattle.std.specs.Prelude.{◌&&◌, codes}
-use Rattle.reg_model.specs.Events.Command.{TokenAdd}
-use Rattle.reg_model.specs.Reports.{with_commas}
+use Rattle.reg_service_commands.proofs.Words.{◌≡◌, [], ◌∷◌, Bool, true, false, map, refl, codes, TokenAdd, with_commas, FindsAccount}
+use Rattle.reg_service_commands.proofs.Words.{runs_asked, runs_whole}
+use Rattle.std.specs.Prelude.{◌&&◌}
 use Rattle.reg_model.specs.declared.rule.AdminRefusal.TheVariants as refusal
-use Rattle.reg_tables_meaning.specs.Calls.{FindsAccount}
 use Rattle.reg_service_commands.proofs.Adding.{bad_scope, no_account, token_added}
 use Rattle.reg_service_commands.proofs.Ordered.{refusal_told, token_words, told_so}
-use Rattle.reg_service_steps.proofs.Running.{runs_asked, runs_whole}
 use Rattle.reg_service_commands.proofs.tokens.add_token.Goals as goal
 
 always : (b : Bool) → b ≡ (b && true)

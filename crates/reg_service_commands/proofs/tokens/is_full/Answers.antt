@@ -1,7 +1,5 @@
-use Rattle.reg_tables_meaning.specs.Calls.{Counted}
-use Rattle.std.specs.Prelude.{◌||◌, length, nat_le, nat_lt}
-use Rattle.std.proofs.Common.{ap, ◌∙◌}
-use Rattle.reg_access.proofs.Questions.{asks_made}
+use Rattle.reg_service_commands.proofs.Words.{Counted, nat_le, ap, ◌∙◌, asks_made}
+use Rattle.std.specs.Prelude.{◌||◌, length, nat_lt}
 use Rattle.reg_service_commands.proofs.tokens.is_full.Goals as goal
 
 pub returns : goal.returns

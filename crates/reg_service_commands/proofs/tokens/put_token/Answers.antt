@@ -1,7 +1,6 @@
-use Rattle.reg_tables.specs.Works.{rows_seen}
-use Rattle.reg_tables_meaning.specs.Calls.{AddsToken}
+use Rattle.reg_service_commands.proofs.Words.{rows_seen, AddsToken, runs_asked}
 use Rattle.reg_service_commands.proofs.Adding.{token_kept, token_put}
-use Rattle.reg_service_steps.proofs.Running.{runs_asked, runs_changed}
+use Rattle.reg_service_steps.proofs.Running.{runs_changed}
 use Rattle.reg_service_commands.proofs.tokens.put_token.Goals as goal
 
 pub returns-in-Some : goal.returns-in-Some

@@ -1,9 +1,6 @@
-use Rattle.std.proofs.Common.{◌≡◌, ◌∷◌, [], Bool, true, false, List, None, Some, cond, map, not, refl, sym, ap, ◌∙◌}
-use Rattle.std.specs.List.{list_all}
-use Rattle.reg_names.specs.Patterns.{is_pattern}
+use Rattle.reg_service_commands.proofs.Words.{◌≡◌, ◌∷◌, [], Bool, true, false, List, None, Some, cond, map, not, refl, sym, ap, ◌∙◌}
+use Rattle.reg_service_commands.proofs.Words.{list_all, is_pattern, Text, first_ground}
 use Rattle.reg_model.specs.declared.rule.AdminRefusal.TheVariants as refusal
-use Rattle.reg_model.specs.Registry.{Text}
-use Rattle.reg_service_commands.specs.Orders.{first_ground}
 use Rattle.reg_service_commands.proofs.Ordered.{given_are, none_given}
 use Rattle.reg_service_commands.proofs.tokens.read_scopes.Goals as goal
 

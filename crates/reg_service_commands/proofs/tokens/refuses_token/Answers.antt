@@ -1,8 +1,5 @@
-use Rattle.reg_tables_meaning.specs.Calls.{FindsToken}
-use Rattle.std.proofs.Common.{sym, ap, ◌∙◌, ◌∷◌, []}
-use Rattle.reg_access.proofs.Questions.{asks_both, asks_made}
+use Rattle.reg_service_commands.proofs.Words.{FindsToken, sym, ap, ◌∙◌, ◌∷◌, [], asks_both, asks_made, first_ground}
 use Rattle.reg_model.specs.declared.rule.AdminRefusal.TheVariants as refusal
-use Rattle.reg_service_commands.specs.Orders.{first_ground}
 use Rattle.reg_service_commands.proofs.Adding.{is_full_so, is_known_so}
 use Rattle.reg_service_commands.proofs.tokens.refuses_token.Goals as goal
 

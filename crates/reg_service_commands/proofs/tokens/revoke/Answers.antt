@@ -1,13 +1,7 @@
-use Rattle.std.proofs.Common.{[], ◌∷◌, rules}
-use Rattle.std.specs.Fmt.{decimal}
-use Rattle.std.specs.Prelude.{codes}
-use Rattle.reg_model.specs.Events.Command.{TokenRevoke}
+use Rattle.reg_service_commands.proofs.Words.{[], ◌∷◌, rules, decimal, codes, TokenRevoke, TellsLive, IsDoneTold, runs_asked, runs_told}
 use Rattle.reg_model.specs.declared.rule.AdminRefusal.TheVariants as refusal
-use Rattle.reg_tables_meaning.specs.Calls.{TellsLive}
-use Rattle.reg_service_commands.specs.Telling.{IsDoneTold}
 use Rattle.reg_service_commands.proofs.Adding.{no_token, revoked_now}
 use Rattle.reg_service_commands.proofs.Ordered.{done_told, live_there, refusal_told, revoke_words}
-use Rattle.reg_service_steps.proofs.Running.{runs_asked, runs_told}
 use Rattle.reg_service_commands.proofs.tokens.revoke.Goals as goal
 
 pub returns-in_default : goal.returns-in_default

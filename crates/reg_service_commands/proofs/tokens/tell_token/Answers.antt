@@ -1,11 +1,5 @@
-use Rattle.std.proofs.Common.{[], ◌∷◌, ap, map, rules, sym, ◌∙◌}
-use Rattle.std.specs.Prelude.{codes}
-use Rattle.reg_access.proofs.Questions.{asks_nothing}
-use Rattle.reg_model.specs.Reports.{with_commas}
-use Rattle.reg_model.specs.Trail.{line_of}
-use Rattle.reg_service_steps.specs.Telling.{line_if}
-use Rattle.reg_service_steps.proofs.Afterwards.{line_is}
-use Rattle.reg_service_steps.proofs.Running.{asks_as}
+use Rattle.reg_service_commands.proofs.Words.{[], ◌∷◌, ap, map, rules, sym, ◌∙◌, codes, asks_nothing, with_commas, line_of, line_if}
+use Rattle.reg_service_commands.proofs.Words.{line_is, asks_as}
 use Rattle.reg_service_commands.proofs.tokens.tell_token.Goals as goal
 
 pub returns-then-not-told : goal.returns-then-not-told

@@ -1,9 +1,6 @@
-use Rattle.std.proofs.Common.{ℕ, List, ◌++◌, append_assoc, subst}
-use Rattle.std.proofs.lemmas.Result.{err_from_is_err_and}
+use Rattle.reg_service_index.proofs.Words.{ℕ, List, ◌++◌, append_assoc, subst, err_from_is_err_and, pile_stopped, piles_behind}
+use Rattle.reg_service_index.proofs.Words.{stopped_first, IsStopped, Sink, SendFault}
 use Rattle.reg_line.specs.File.{end_of}
-use Rattle.reg_api_replies.proofs.Joined.{pile_stopped, piles_behind, stopped_first}
-use Rattle.reg_body.specs.Sent.{IsStopped, Sink}
-use Rattle.reg_body.specs.declared.bytes.SendFault.{SendFault}
 use Rattle.reg_service_index.proofs.lines.put_line.Goals as goal
 
 first_stopped : (f : SendFault) (waiting a b : List ℕ) (writes : ℕ) (s t : Sink) → IsStopped f (waiting ++ a) writes s t → IsStopped f (waiting ++ (a ++ b)) writes s t
@@ -18,8 +15,8 @@ pub returns-in_err-more : goal.returns-in_err-more
 returns-in_err-more g c =
     let p = err_from_is_err_and c.from_residual-in_err-more.result c.from_residual-in_err-more.ensures.1 in
     rw (p.1, p.2)
-    (pile_stopped c.in_err-more.field-0.0 c.args.pile.now c.args.stem.now (end_of c.args.yanked) c.put.new.self c.args.writes c.in_ok-used.used _ _ _ c.in_ok-used.ensures (rw c.end.ensures at c.in_err-more.ensures))
+    (pile_stopped c.in_err-more.field-0.0 c.args.pile.now c.args.stem.now (end_of c.args.yanked) c.put.new.self c.args.writes c.in_ok-used.used _ _ _ c.in_ok-used.ensures (rw c.line_end.ensures at c.in_err-more.ensures))
 
 pub returns : goal.returns
 returns g c =
-    piles_behind c.args.pile.now c.args.stem.now (end_of c.args.yanked) c.put.new.self c.put-2.new.self c.args.writes c.in_ok-used.used c.in_ok-more.more _ _ _ c.in_ok-used.ensures (rw c.end.ensures at c.in_ok-more.ensures)
+    piles_behind c.args.pile.now c.args.stem.now (end_of c.args.yanked) c.put.new.self c.put-2.new.self c.args.writes c.in_ok-used.used c.in_ok-more.more _ _ _ c.in_ok-used.ensures (rw c.line_end.ensures at c.in_ok-more.ensures)

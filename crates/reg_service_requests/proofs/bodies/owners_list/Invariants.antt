@@ -1,5 +1,4 @@
-use Rattle.std.proofs.Common.{◌≡◌, map, take}
-use Rattle.reg_service_steps.specs.Reads.{owner_of_account}
+use Rattle.reg_service_requests.proofs.Words.{◌≡◌, map, take, owner_of_account}
 use Rattle.reg_service_requests.proofs.bodies.owners_list.Given as goal
 
 -- the owners so far are in the list

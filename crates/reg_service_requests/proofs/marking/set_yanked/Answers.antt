@@ -1,14 +1,8 @@
-use Rattle.std.proofs.Common.{[], ◌∷◌, rules, subst, ◌∙◌}
-use Rattle.reg_model.specs.Actions.{crate_of}
-use Rattle.reg_model.specs.Events.{action_of}
-use Rattle.reg_access.specs.Admitted.{IsFoundOf}
-use Rattle.reg_tables.specs.Works.{rows_seen}
-use Rattle.reg_service_requests.specs.Granted.{IsCrate, marking}
-use Rattle.reg_service_requests.specs.Telling.{mark_word}
+use Rattle.reg_service_requests.proofs.Words.{[], ◌∷◌, rules, subst, ◌∙◌, crate_of, action_of, IsFoundOf, rows_seen, IsCrate, marking}
+use Rattle.reg_service_requests.proofs.Words.{mark_word, runs_ended, runs_stopped}
 use Rattle.reg_service_requests.proofs.Asking.{change_told}
 use Rattle.reg_service_requests.proofs.Marked.{marked}
 use Rattle.reg_service_requests.proofs.Marks.{mark_has}
-use Rattle.reg_service_steps.proofs.Running.{runs_ended, runs_stopped}
 use Rattle.reg_service_requests.proofs.marking.set_yanked.Goals as goal
 
 pub returns : goal.returns

@@ -1,9 +1,6 @@
-use Rattle.std.proofs.Common.{rules, true}
-use Rattle.reg_service_requests.specs.Owning.{DoesOwning, FindsAllKnown}
-use Rattle.reg_tables.specs.Calling.{Runs}
+use Rattle.reg_service_requests.proofs.Words.{rules, true, DoesOwning, FindsAllKnown, Runs, runs_after, runs_asked}
 use Rattle.reg_service_requests.proofs.OwningDone.{owning_denied, owning_done}
 use Rattle.reg_service_requests.proofs.OwningIds.{joins, may_not_join, texts_of}
-use Rattle.reg_service_steps.proofs.Running.{runs_after, runs_asked}
 use Rattle.reg_service_requests.proofs.owning.add_owners.Goals as goal
 
 pub returns-in-Some : goal.returns-in-Some

@@ -1,5 +1,4 @@
-use Rattle.std.proofs.Common.{◌≡◌, ◌<◌, ◌+◌, ◌++◌, ◌∷◌, [], drop, length, arith, rules, sym, subst}
-use Rattle.std.proofs.lemmas.List.{drop_all}
+use Rattle.reg_service_requests.proofs.Words.{◌≡◌, ◌<◌, ◌+◌, ◌++◌, ◌∷◌, [], drop, length, arith, rules, sym, subst, drop_all}
 use Rattle.reg_service_requests.proofs.OwningIds.{texts_of}
 use Rattle.reg_service_requests.proofs.OwningRuns.{AreFound, all_found, finding_fails, more_found, none_found, one_unknown, room_fails}
 use Rattle.reg_service_requests.proofs.owning.find_all_known.Goals as goal

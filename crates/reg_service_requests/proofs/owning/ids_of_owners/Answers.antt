@@ -1,7 +1,4 @@
-use Rattle.std.proofs.Common.{◌+◌, None, Some, drop, sym, subst}
-use Rattle.std.proofs.lemmas.List.{drop_all}
-use Rattle.reg_model.specs.Facts.{has_login}
-use Rattle.reg_service_requests.specs.Owning.{entries_of, id_among}
+use Rattle.reg_service_requests.proofs.Words.{◌+◌, None, Some, drop, sym, subst, drop_all, has_login, entries_of, id_among}
 use Rattle.reg_service_requests.proofs.OwningIds.{IsSoFar, owner_found, so_far_all, so_far_ends, so_far_more, so_far_none, texts_of}
 use Rattle.reg_service_requests.proofs.owning.ids_of_owners.Goals as goal
 

@@ -1,6 +1,4 @@
-use Rattle.std.proofs.Common.{drop}
-use Rattle.reg_model.specs.Facts.{has_login}
-use Rattle.reg_service_requests.specs.Owning.{entries_of, id_among}
+use Rattle.reg_service_requests.proofs.Words.{drop, has_login, entries_of, id_among}
 use Rattle.reg_service_requests.proofs.OwningIds.{IsSoFar, texts_of}
 use Rattle.reg_service_requests.proofs.owning.ids_of_owners.Given as goal
 

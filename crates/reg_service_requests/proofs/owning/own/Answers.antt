@@ -1,20 +1,10 @@
-use Rattle.std.proofs.Common.{◌≡◌, [], ◌∷◌, map, rules, subst}
-use Rattle.std.specs.Borrow.{Bor}
-use Rattle.std.specs.List.{list_any}
-use Rattle.std.specs.Prelude.{string_bytes}
-use Rattle.std.specs.Str.{bytes_eq}
-use Rattle.reg_model.specs.Actions.{crate_of}
-use Rattle.reg_model.specs.Events.{action_of}
-use Rattle.reg_model.specs.Reports.{with_commas}
-use Rattle.reg_tables_meaning.specs.Calls.{ListsOwners}
-use Rattle.reg_access.specs.Admitted.{IsFoundOf}
-use Rattle.reg_tables.specs.Works.{rows_seen}
-use Rattle.reg_service_requests.specs.Granted.{IsCrate}
-use Rattle.reg_service_requests.specs.Owning.{owning}
-use Rattle.reg_service_requests.specs.Telling.{changes, owners_word}
+use Rattle.std.proofs.Common.{Err}
+use Rattle.reg_service_requests.proofs.Words.{◌≡◌, [], ◌∷◌, map, rules, subst, Bor, list_any, string_bytes, bytes_eq, crate_of, action_of}
+use Rattle.reg_service_requests.proofs.Words.{with_commas, ListsOwners, IsFoundOf, rows_seen, IsCrate, owning, changes, owners_word}
 use Rattle.reg_service_requests.proofs.Asking.{change_told}
 use Rattle.reg_service_requests.proofs.Owned.{owning_has}
-use Rattle.reg_service_steps.proofs.Running.{runs_whole}
+use Rattle.reg_access.proofs.Calls.{then_called}
+use Rattle.reg_service_steps.proofs.Running.{runs_failed, runs_whole}
 use Rattle.reg_service_requests.proofs.owning.own.Goals as goal
 
 pub returns : goal.returns
@@ -35,3 +25,10 @@ returns g c limits name =
       grants (rw c.deref-2.ensures.value lists) name limits digest lets its,
       change_told c.args.traced changed c.is_told-told.result limits who asked _ words c.in_ok-line.line c.is_told-told.ensures (search (rules, told)) (owning_has limits who are changed name texts _ it list c.found_crate-found.ensures lists is) digest asks,
     ))
+
+pub returns-in_err-line : goal.returns-in_err-line
+returns-in_err-line g c limits name =
+    let e = c.in_err-line.field-0.0 in
+    runs_failed g.S.Store e c.from_residual-in_err-line.result c.args.work.now c.tell_owners.new.work c.from_residual-in_err-line.ensures.0
+    (then_called g.S.Store c.in_ok-owners.owners (Err e) c.args.work.now c.owners_of.new.self c.tell_owners.new.work c.in_ok-owners.ensures.leaves
+    (then_called g.S.Store c.in_ok-served.served (Err e) c.owners_of.new.self c.set_all.new.work c.tell_owners.new.work c.in_ok-served.ensures.leaves c.in_err-line.ensures.leaves))

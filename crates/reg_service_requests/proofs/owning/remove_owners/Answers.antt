@@ -1,9 +1,6 @@
-use Rattle.std.proofs.Common.{Ok, Err, rules, false}
-use Rattle.reg_service_requests.specs.Owning.{AreLeaving, DoesOwning}
-use Rattle.reg_tables.specs.Calling.{Runs}
+use Rattle.reg_service_requests.proofs.Words.{Ok, Err, rules, false, AreLeaving, DoesOwning, Runs, runs_as, runs_nothing, runs_stopped}
 use Rattle.reg_service_requests.proofs.OwningDone.{owning_denied, owning_done}
 use Rattle.reg_service_requests.proofs.OwningIds.{leaves, may_not_leave, texts_of}
-use Rattle.reg_service_steps.proofs.Running.{runs_as, runs_nothing, runs_stopped}
 use Rattle.reg_service_requests.proofs.owning.remove_owners.Goals as goal
 
 pub returns-in-Ok-Ok : goal.returns-in-Ok-Ok

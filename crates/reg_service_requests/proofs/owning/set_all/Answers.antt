@@ -1,7 +1,6 @@
-use Rattle.std.proofs.Common.{sym, subst}
+use Rattle.reg_service_requests.proofs.Words.{sym, subst, runs_as}
 use Rattle.reg_service_requests.specs.Owning.{GrantsAmong}
 use Rattle.reg_service_requests.proofs.OwningIds.{texts_of}
-use Rattle.reg_service_steps.proofs.Running.{runs_as}
 use Rattle.reg_service_requests.proofs.owning.set_all.Goals as goal
 
 pub returns-then-are_owners : goal.returns-then-are_owners

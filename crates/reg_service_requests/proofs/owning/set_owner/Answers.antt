@@ -1,7 +1,5 @@
-use Rattle.std.proofs.Common.{sym, subst}
+use Rattle.reg_service_requests.proofs.Words.{sym, subst, SetsOwner, runs_as}
 use Rattle.reg_tables.specs.Calling.{Does}
-use Rattle.reg_service_requests.specs.Owning.{SetsOwner}
-use Rattle.reg_service_steps.proofs.Running.{runs_as}
 use Rattle.reg_service_requests.proofs.owning.set_owner.Goals as goal
 
 pub returns-then-is_owner : goal.returns-then-is_owner

@@ -1,9 +1,6 @@
-use Rattle.std.proofs.Common.{◌∙◌}
-use Rattle.reg_policy.specs.Events.{publication_of}
-use Rattle.reg_tables.specs.Works.{rows_seen}
-use Rattle.reg_tables_meaning.specs.Calls.{AddsFirst}
+use Rattle.reg_service_requests.proofs.Words.{◌∙◌, publication_of, rows_seen, AddsFirst, runs_failed, runs_stopped}
 use Rattle.reg_service_requests.proofs.Publications.{new_crate}
-use Rattle.reg_service_steps.proofs.Running.{runs_alone, runs_failed, runs_stopped}
+use Rattle.reg_service_steps.proofs.Running.{runs_alone}
 use Rattle.reg_service_requests.proofs.publishing.make_crate.Goals as goal
 
 pub returns : goal.returns

@@ -1,9 +1,6 @@
-use Rattle.std.proofs.Common.{◌≡◌, [], ◌∷◌, Bool, true, false, refl, rules}
-use Rattle.std.specs.Prelude.{◌&&◌, codes}
-use Rattle.reg_model.specs.Events.Asked.{Publish}
-use Rattle.reg_policy.specs.Events.{publication_of}
+use Rattle.reg_service_requests.proofs.Words.{◌≡◌, [], ◌∷◌, Bool, true, false, refl, rules, ◌&&◌, codes, Publish, publication_of}
+use Rattle.reg_service_requests.proofs.Words.{runs_ended}
 use Rattle.reg_service_requests.proofs.Asking.{change_told, publish_has}
-use Rattle.reg_service_steps.proofs.Running.{runs_ended}
 use Rattle.reg_service_requests.proofs.publishing.publish.Goals as goal
 
 always : (b : Bool) → b ≡ (b && true)

@@ -1,6 +1,5 @@
-use Rattle.reg_policy.specs.Events.{publication_of}
+use Rattle.reg_service_requests.proofs.Words.{publication_of, runs_after, runs_asked}
 use Rattle.reg_service_requests.proofs.Publications.{first_let, first_refused}
-use Rattle.reg_service_steps.proofs.Running.{runs_after, runs_asked}
 use Rattle.reg_service_requests.proofs.publishing.publish_first.Goals as goal
 
 pub returns-then-full : goal.returns-then-full

@@ -1,9 +1,6 @@
-use Rattle.std.proofs.Common.{◌∙◌}
-use Rattle.reg_policy.specs.Events.{publication_of}
-use Rattle.reg_tables.specs.Works.{rows_seen}
-use Rattle.reg_tables_meaning.specs.Calls.{AddsNext}
+use Rattle.reg_service_requests.proofs.Words.{◌∙◌, publication_of, rows_seen, AddsNext, runs_asked, runs_refused}
 use Rattle.reg_service_requests.proofs.Publications.{next_let, next_refused}
-use Rattle.reg_service_steps.proofs.Running.{runs_asked, runs_changed, runs_refused, runs_unchanged}
+use Rattle.reg_service_steps.proofs.Running.{runs_changed, runs_unchanged}
 use Rattle.reg_service_requests.proofs.publishing.publish_next.Goals as goal
 
 pub returns-then-full : goal.returns-then-full

@@ -1,6 +1,5 @@
-use Rattle.reg_policy.specs.Events.{publication_of}
+use Rattle.reg_service_requests.proofs.Words.{publication_of, runs_as}
 use Rattle.reg_service_requests.proofs.Publications.{of_known, of_new}
-use Rattle.reg_service_steps.proofs.Running.{runs_as}
 use Rattle.reg_service_requests.proofs.publishing.publish_version.Goals as goal
 
 pub returns-in-Some : goal.returns-in-Some

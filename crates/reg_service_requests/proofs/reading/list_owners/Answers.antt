@@ -1,6 +1,5 @@
-use Rattle.reg_tables_meaning.specs.Calls.{ListsOwners}
+use Rattle.reg_service_requests.proofs.Words.{ListsOwners, runs_asked, runs_refused}
 use Rattle.reg_service_requests.proofs.ReadingServed.{owners_served}
-use Rattle.reg_service_steps.proofs.Running.{runs_asked, runs_refused}
 use Rattle.reg_service_requests.proofs.reading.list_owners.Goals as goal
 
 pub returns-in-Ok : goal.returns-in-Ok

@@ -1,6 +1,5 @@
-use Rattle.reg_tables_sql.specs.Archives.{IsArchiveWithId}
+use Rattle.reg_service_requests.proofs.Words.{IsArchiveWithId, runs_asked, runs_refused}
 use Rattle.reg_service_requests.proofs.ReadingServed.{archive_served}
-use Rattle.reg_service_steps.proofs.Running.{runs_asked, runs_refused}
 use Rattle.reg_service_requests.proofs.reading.read_archive.Goals as goal
 
 pub returns-in-Some : goal.returns-in-Some

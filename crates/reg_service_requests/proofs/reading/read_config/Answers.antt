@@ -1,6 +1,5 @@
-use Rattle.std.specs.Prelude.{string_bytes}
+use Rattle.reg_service_requests.proofs.Words.{string_bytes, runs_asked, runs_refused}
 use Rattle.reg_service_requests.proofs.ReadingServed.{config_served}
-use Rattle.reg_service_steps.proofs.Running.{runs_asked, runs_refused}
 use Rattle.reg_service_requests.proofs.reading.read_config.Goals as goal
 
 pub returns-in-Ok : goal.returns-in-Ok

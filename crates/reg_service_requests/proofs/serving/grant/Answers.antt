@@ -1,11 +1,7 @@
-use Rattle.std.proofs.Common.{◌≡◌, Ok, map, refl, rules}
-use Rattle.reg_model.specs.Events.Asked.{Download, Index, ListOwners}
+use Rattle.reg_service_requests.proofs.Words.{◌≡◌, Ok, refl, rules, Download, Index, ListOwners, runs_nothing}
 use Rattle.reg_policy.specs.declared.event.Asked.TheVariants.{Read}
 use Rattle.reg_policy.specs.declared.event.Reading.TheVariants.{Config, Search}
-use Rattle.reg_policy.specs.Events.{asked_of}
-use Rattle.reg_service_requests.proofs.Asking.{nothing_told}
-use Rattle.reg_service_requests.proofs.Deciding.{always_given, as_given, crate_given, faulty, faulty_told, seeks, told_given, untold_given, version_given}
-use Rattle.reg_service_steps.proofs.Running.{runs_nothing}
+use Rattle.reg_service_requests.proofs.Deciding.{always_given, as_given, crate_given, faulty_told, seeks, told_given, untold_given, version_given}
 use Rattle.reg_service_requests.proofs.serving.grant.Goals as goal
 
 pub returns-in-Faulty : goal.returns-in-Faulty
@@ -30,9 +26,9 @@ returns-in-Read-Config g c =
 
 pub returns-in-Index : goal.returns-in-Index
 returns-in-Index g c =
-    untold_given g.S.Store c.args.traced c.args.limits.now c.args.caller.now c.args.asked.now _ c.in-Index.is c.untold-in-Index.result c.args.work.now c.read_index.new.work c.read_index.result c.untold-in-Index.ensures refl
-    (crate_given g.S.Store c.args.limits.now c.args.caller.now c.args.asked.now _ c.in-Index.is c.read_index.result c.args.work.now c.read_index.new.work
-    Index c.in-Index.field-0.now c.found_crate.result.now refl c.found_crate.ensures c.read_index.ensures)
+    untold_given g.S.Store c.args.traced c.args.limits.now c.args.caller.now c.args.asked.now _ c.in-Index.is c.untold-in-Index.result c.args.work.now c.find_file.new.work c.find_file.result c.untold-in-Index.ensures refl
+    (crate_given g.S.Store c.args.limits.now c.args.caller.now c.args.asked.now _ c.in-Index.is c.find_file.result c.args.work.now c.find_file.new.work
+    Index c.in-Index.field-0.now c.found_crate.result.now refl c.found_crate.ensures c.find_file.ensures)
 
 pub returns-in-Download : goal.returns-in-Download
 returns-in-Download g c =

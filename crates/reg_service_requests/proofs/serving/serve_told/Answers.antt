@@ -1,12 +1,7 @@
-use Rattle.std.proofs.Common.{ap}
-use Rattle.std.specs.Option.{option_map}
-use Rattle.reg_model.specs.Events.{action_of}
-use Rattle.reg_policy.specs.Events.{asked_of}
+use Rattle.reg_service_requests.proofs.Words.{ap, option_map, action_of, asked_of, IsPolicy, rows_seen, runs_after, runs_asked, runs_failed}
+use Rattle.reg_service_requests.proofs.Words.{runs_nothing}
 use Rattle.reg_access.specs.Admitted.{TellsCaller, decision_in}
-use Rattle.reg_access.specs.Verdict.{IsPolicy}
-use Rattle.reg_tables.specs.Works.{rows_seen}
 use Rattle.reg_service_requests.proofs.Deciding.{denied_told, is_let, no_token_told, with_token}
-use Rattle.reg_service_steps.proofs.Running.{runs_after, runs_asked, runs_failed, runs_nothing}
 use Rattle.reg_service_requests.proofs.serving.serve_told.Goals as goal
 
 pub returns-in_default : goal.returns-in_default

@@ -1,10 +1,6 @@
-use Rattle.std.proofs.Common.{[], ◌∷◌, ap, rules, string_bytes, sym, ◌∙◌}
-use Rattle.std.specs.Fmt.{decimal}
-use Rattle.reg_model.specs.Trail.{line_of}
-use Rattle.reg_access.proofs.Questions.{asks_nothing}
-use Rattle.reg_service_steps.specs.Telling.{line_if}
+use Rattle.reg_service_requests.proofs.Words.{[], ◌∷◌, ap, rules, sym, ◌∙◌, decimal, line_of, asks_nothing, line_if, asks_as}
+use Rattle.std.proofs.Common.{string_bytes}
 use Rattle.reg_service_steps.proofs.Afterwards.{line_is}
-use Rattle.reg_service_steps.proofs.Running.{asks_as}
 use Rattle.reg_service_requests.proofs.telling.tell_change.Goals as goal
 
 pub returns-then-not-told : goal.returns-then-not-told

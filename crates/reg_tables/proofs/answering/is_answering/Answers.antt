@@ -1,9 +1,10 @@
-use Rattle.std.proofs.Common.{[], arith, codes, refl, subst}
+use Rattle.std.proofs.Common.{[], arith, refl, subst}
 use Rattle.sqlite.specs.Held.{state}
 use Rattle.sqlite.specs.State.{Executes}
 use Rattle.sqlite.proofs.StateLemmas.{survives_weaker}
 use Rattle.reg_tables_schema.proofs.OursLemmas.{ours_undone}
 use Rattle.reg_tables_schema.proofs.WriteLemmas.{undoes, rollback_commits}
+use Rattle.reg_tables_schema.specs.declared.transaction.TheConstants.{ROLLBACK}
 use Rattle.reg_tables.proofs.StillOpen.{still_open}
 use Rattle.reg_tables.proofs.answering.is_answering.Goals as goal
 
@@ -11,7 +12,7 @@ pub returns-clause-open : goal.returns-clause-open
 returns-clause-open g c clean is =
     let old = state g.S.Store c.args.conn.now in
     let new = state g.S.Store c.execute-said.new.self in
-    still_open (codes "ROLLBACK") [] old new _ refl (subst (λ r. Executes (codes "ROLLBACK") [] old new r) (c.lacks_transaction.ensures is) (c.execute-said.ensures.runs clean))
+    still_open ROLLBACK.now [] old new _ refl (subst (λ r. Executes ROLLBACK.now [] old new r) (c.lacks_transaction.ensures is) (c.execute-said.ensures.runs clean))
 
 pub returns-clause-undone : goal.returns-clause-undone
 returns-clause-undone g c clean = undoes (state g.S.Store c.args.conn.now) (state g.S.Store c.execute-said.new.self) c.execute-said.result c.rest_law.ensures (c.execute-said.ensures.runs clean)

@@ -1,7 +1,5 @@
+use Rattle.reg_tables_meaning.proofs.Words.{Account, StandAccounts, StandsBy, row_of_account}
 use Rattle.reg_tables_meaning.proofs.Common.{◌≡◌, arith, Database, HasCleanDisk, option_map, refl, state, subst, sym, true}
-use Rattle.reg_model.specs.Registry.{Account}
-use Rattle.reg_tables_meaning.specs.Stands.{StandAccounts, StandsBy}
-use Rattle.reg_tables_meaning.specs.Stands.{row_of_account}
 use Rattle.reg_tables_meaning.proofs.NextId.{next_id}
 use Rattle.reg_tables_meaning.proofs.Standing.{adds_account}
 use Rattle.reg_tables_meaning.proofs.Stays.{with_accounts}

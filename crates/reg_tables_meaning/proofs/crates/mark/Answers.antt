@@ -1,8 +1,5 @@
+use Rattle.reg_tables_meaning.proofs.Words.{MarksYanked, mark_at, IsOtherwise, Holds, StandsBy}
 use Rattle.reg_tables_meaning.proofs.Common.{◌≡◌, arith, Database, HasCleanDisk, None, Some, state, subst, sym}
-use Rattle.reg_tables_sql.specs.Versions.{MarksYanked}
-use Rattle.reg_tables_meaning.specs.Changes.{mark_at}
-use Rattle.reg_tables_meaning.specs.Marking.{IsOtherwise}
-use Rattle.reg_tables_meaning.specs.Stands.{Holds, StandsBy}
 use Rattle.reg_tables_meaning.proofs.CratesStand.{marks_none, marks_other, marks_some}
 use Rattle.reg_tables_meaning.proofs.Writings.{◌⨾◌, ends, fails, looks, steps, touches}
 use Rattle.reg_tables_meaning.proofs.crates.mark.Goals as goal

@@ -1,8 +1,5 @@
+use Rattle.reg_tables_meaning.proofs.Words.{is_owner, tree_of, related, with_related, Holds, StandsBy}
 use Rattle.reg_tables_meaning.proofs.Common.{◌≡◌, ◌∙◌, ap, arith, Database, has_rowid, HasCleanDisk, list_any, pos, state, subst, sym}
-use Rattle.reg_tables_schema.specs.Tests.{is_owner}
-use Rattle.reg_tables_sql.specs.Relations.{tree_of}
-use Rattle.reg_tables_meaning.specs.Relations.{related, with_related}
-use Rattle.reg_tables_meaning.specs.Stands.{Holds, StandsBy}
 use Rattle.reg_tables_meaning.proofs.PairsStand.{added, again, no_crate, no_crate_told, pair_told}
 use Rattle.reg_tables_meaning.proofs.Relations.{pairs_of, with_itself, with_pairs}
 use Rattle.reg_tables_meaning.proofs.Stays.{pairs_stay}

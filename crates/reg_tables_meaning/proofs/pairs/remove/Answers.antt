@@ -1,10 +1,4 @@
-use Rattle.std.proofs.Common.{◌≡◌, arith, subst, sym, ◌∙◌}
-use Rattle.sqlite.specs.Effect.{Database}
-use Rattle.sqlite.specs.Held.{state}
-use Rattle.sqlite.specs.State.{HasCleanDisk}
-use Rattle.reg_tables_sql.specs.Relations.{tree_of}
-use Rattle.reg_tables_meaning.specs.Relations.{related}
-use Rattle.reg_tables_meaning.specs.Stands.{Holds}
+use Rattle.reg_tables_meaning.proofs.Words.{◌≡◌, arith, subst, sym, ◌∙◌, Database, state, HasCleanDisk, tree_of, related, Holds}
 use Rattle.reg_tables_meaning.proofs.PairsStand.{left, pair_told}
 use Rattle.reg_tables_meaning.proofs.Relations.{pairs_of, with_pairs}
 use Rattle.reg_tables_meaning.proofs.Writings.{◌⨾◌, ends, fails, reads, removes}

@@ -1,8 +1,4 @@
-use Rattle.std.proofs.Common.{◌≡◌, arith, subst, sym, ◌∙◌}
-use Rattle.sqlite.specs.Effect.{Database}
-use Rattle.sqlite.specs.Held.{state}
-use Rattle.sqlite.specs.State.{HasCleanDisk}
-use Rattle.reg_tables_meaning.specs.Stands.{Holds}
+use Rattle.reg_tables_meaning.proofs.Words.{◌≡◌, arith, subst, sym, ◌∙◌, Database, state, HasCleanDisk, Holds}
 use Rattle.reg_tables_meaning.proofs.ReservedChanges.{is_there, removes_reserved}
 use Rattle.reg_tables_meaning.proofs.Stays.{with_reserved}
 use Rattle.reg_tables_meaning.proofs.Writings.{◌⨾◌, ends, fails, reads, removes}

@@ -1,8 +1,5 @@
-use Rattle.std.proofs.Common.{◌≡◌, Bool, true, false, cond, arith, refl, subst, sym, ◌∙◌}
-use Rattle.sqlite.specs.Effect.{Database}
-use Rattle.sqlite.specs.Held.{state}
-use Rattle.sqlite.specs.State.{HasCleanDisk}
-use Rattle.reg_tables_meaning.specs.Stands.{Holds}
+use Rattle.reg_tables_meaning.proofs.Words.{◌≡◌, Bool, true, false, cond, arith, refl, subst, sym, ◌∙◌, Database, state, HasCleanDisk}
+use Rattle.reg_tables_meaning.proofs.Words.{Holds}
 use Rattle.reg_tables_meaning.proofs.MarkedStand.{left, mark_told}
 use Rattle.reg_tables_meaning.proofs.Stays.{with_restricted}
 use Rattle.reg_tables_meaning.proofs.Writings.{◌⨾◌, ends, fails, reads, removes}

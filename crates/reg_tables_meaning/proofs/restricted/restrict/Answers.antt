@@ -1,6 +1,5 @@
+use Rattle.reg_tables_meaning.proofs.Words.{IfOk-from_err, Holds, StandsBy}
 use Rattle.reg_tables_meaning.proofs.Common.{◌≡◌, ◌∙◌, ap, arith, Database, has_rowid, HasCleanDisk, is_number, list_any, pos, state, subst, sym}
-use Rattle.std.proofs.lemmas.Result.{IfOk-from_err}
-use Rattle.reg_tables_meaning.specs.Stands.{Holds, StandsBy}
 use Rattle.reg_tables_meaning.proofs.MarkedStand.{added, again, mark_told, no_crate, no_crate_told}
 use Rattle.reg_tables_meaning.proofs.Stays.{marked_stay, with_restricted}
 use Rattle.reg_tables_meaning.proofs.Writings.{◌⨾◌, adds, ends, fails, reads}

@@ -1,6 +1,5 @@
-use Rattle.std.proofs.Common.{List, ◌∙◌, subst}
+use Rattle.reg_tables_meaning.proofs.Words.{List, ◌∙◌, subst, IsTop, Marked}
 use Rattle.reg_tables_meaning.proofs.SummaryTops.{top_id}
-use Rattle.reg_versions.specs.Precedence.{IsTop, Marked}
 use Rattle.reg_tables_meaning.proofs.summaries.highest_id.Goals as goal
 
 pub returns-in-Some : goal.returns-in-Some

@@ -1,5 +1,4 @@
-use Rattle.std.proofs.Common.{◌≡◌, map, take}
-use Rattle.reg_tables_meaning.specs.Summaries.{length_in, shown_mark}
+use Rattle.reg_tables_meaning.proofs.Words.{◌≡◌, map, take, length_in, shown_mark}
 use Rattle.reg_tables_meaning.proofs.summaries.index_length.Given as goal
 
 -- the lines so far are counted

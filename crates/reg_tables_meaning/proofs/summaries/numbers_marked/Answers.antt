@@ -1,8 +1,6 @@
+use Rattle.reg_tables_meaning.proofs.Words.{end_of, StandCrates, ShownMark, highest_of, length_of, mark_shown, shown_mark, HasVersion}
+use Rattle.reg_tables_meaning.proofs.Words.{IsHigherMarked}
 use Rattle.reg_tables_meaning.proofs.Common.{◌≡◌, ◌+◌, ◌∙◌, ap, Database, length, not, state, subst, sym, true, true_not_false}
-use Rattle.reg_line.specs.File.{end_of}
-use Rattle.reg_tables_meaning.specs.Stands.{StandCrates}
-use Rattle.reg_tables_meaning.specs.Summaries.{ShownMark, highest_of, length_of, mark_shown, shown_mark}
-use Rattle.reg_tables_meaning.specs.SummaryChanges.{HasVersion, IsHigherMarked}
 use Rattle.reg_tables_meaning.proofs.Readings.{◌⨾◌, fails, same_now, so_far, was_clean}
 use Rattle.reg_tables_meaning.proofs.Results.{if_ok}
 use Rattle.reg_tables_meaning.proofs.SummaryMarked.{highest_is_marked, its_row, length_is_marked}

@@ -1,6 +1,5 @@
+use Rattle.reg_tables_meaning.proofs.Words.{higher_of, line_length, HasVersion}
 use Rattle.reg_tables_meaning.proofs.Common.{◌+◌, ◌∙◌, Database, subst, sym}
-use Rattle.reg_tables_meaning.specs.Summaries.{higher_of, line_length}
-use Rattle.reg_tables_meaning.specs.SummaryChanges.{HasVersion}
 use Rattle.reg_tables_meaning.proofs.Readings.{◌⨾◌, fails, same_now, so_far, was_clean}
 use Rattle.reg_tables_meaning.proofs.summaries.numbers_with.Goals as goal
 

@@ -1,5 +1,4 @@
-use Rattle.std.proofs.Common.{◌≡◌, map, take}
-use Rattle.reg_tables_meaning.specs.Summaries.{read_mark, shown_mark}
+use Rattle.reg_tables_meaning.proofs.Words.{◌≡◌, map, take, read_mark, shown_mark}
 use Rattle.reg_tables_meaning.proofs.summaries.read_each.Given as goal
 
 -- the versions so far are read

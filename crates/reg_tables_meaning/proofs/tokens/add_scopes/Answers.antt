@@ -1,7 +1,5 @@
+use Rattle.reg_tables_meaning.proofs.Words.{scope_of, GivesPatterns, Within}
 use Rattle.reg_tables_meaning.proofs.Common.{◌+◌, AddsColumns, arith, HasCleanDisk, state, subst, survives_then, take}
-use Rattle.reg_tables_meaning.specs.Stands.{scope_of}
-use Rattle.reg_tables_meaning.specs.Patterns.{GivesPatterns}
-use Rattle.reg_tables_schema.specs.Steps.{Within}
 use Rattle.reg_tables_meaning.proofs.TokenChanges.{gives_next, gives_all}
 use Rattle.reg_tables_meaning.proofs.Withins.{within_then}
 use Rattle.reg_tables_meaning.proofs.Writings.{◌⨾◌, ends, fails, steps, went}

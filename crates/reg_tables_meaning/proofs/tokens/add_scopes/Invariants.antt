@@ -1,6 +1,5 @@
+use Rattle.reg_tables_meaning.proofs.Words.{GivesPatterns, Within}
 use Rattle.reg_tables_meaning.proofs.Common.{HasCleanDisk, state, Survives, take}
-use Rattle.reg_tables_meaning.specs.Patterns.{GivesPatterns}
-use Rattle.reg_tables_schema.specs.Steps.{Within}
 use Rattle.reg_tables_meaning.proofs.tokens.add_scopes.Given as goal
 
 -- the patterns before the index are given

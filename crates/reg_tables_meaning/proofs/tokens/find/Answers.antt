@@ -1,8 +1,6 @@
+use Rattle.reg_tables_meaning.proofs.Words.{columns_of_scope, IfOk-from_err, IsRow, Holds}
 use Rattle.reg_tables_meaning.proofs.Common.{Database, map, rows_in, Some, subst, sym}
-use Rattle.reg_tables_sql.specs.Scopes.{columns_of_scope}
-use Rattle.std.proofs.lemmas.Result.{IfOk-from_err}
-use Rattle.reg_tables_meaning.specs.FoundTokens.{IsRow, entry_of_row}
-use Rattle.reg_tables_meaning.specs.Stands.{Holds}
+use Rattle.reg_tables_meaning.specs.FoundTokens.{entry_of_row}
 use Rattle.reg_tables_meaning.proofs.Readings.{◌⨾◌, fails, left, same_now, so_far, was_clean}
 use Rattle.reg_tables_meaning.proofs.ScopeRows.{lists_its_scopes}
 use Rattle.reg_tables_meaning.proofs.tokens.find.Goals as goal

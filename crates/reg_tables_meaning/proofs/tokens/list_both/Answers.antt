@@ -1,7 +1,5 @@
+use Rattle.reg_tables_meaning.proofs.Words.{IfOk-from_err, columns_of_scope, Holds}
 use Rattle.reg_tables_meaning.proofs.Common.{Database, map, rows_in, subst, sym}
-use Rattle.std.proofs.lemmas.Result.{IfOk-from_err}
-use Rattle.reg_tables_sql.specs.Scopes.{columns_of_scope}
-use Rattle.reg_tables_meaning.specs.Stands.{Holds}
 use Rattle.reg_tables_meaning.proofs.Readings.{◌⨾◌, fails, left, same_now, so_far, was_clean}
 use Rattle.reg_tables_meaning.proofs.ScopeRows.{lists_scopes}
 use Rattle.reg_tables_meaning.proofs.TokenEntries.{lists_tokens}

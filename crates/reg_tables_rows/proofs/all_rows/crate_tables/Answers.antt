@@ -1,11 +1,7 @@
-use Rattle.std.proofs.Common.{subst, sym}
-use Rattle.reg_tables_schema.specs.Places.{crates_tree, owners_tree, readers_tree, reserved_tree, versions_tree}
-use Rattle.reg_tables_schema.specs.Statements.{rows_in}
-use Rattle.reg_tables_sql.specs.Crates.{AreCratesById}
-use Rattle.reg_tables_sql.specs.Owners.{AreOwnerships}
-use Rattle.reg_tables_sql.specs.Versions.{AreVersions}
-use Rattle.reg_tables_meaning.specs.Stands.{HaveOwnRowids}
-use Rattle.reg_tables_meaning.proofs.Readings.{◌⨾◌, fails, left, so_far, still_ready, told_before, was_clean}
+use Rattle.reg_tables_rows.proofs.Words.{subst, sym, owners_tree, readers_tree, reserved_tree, rows_in, AreCratesById, AreOwnerships}
+use Rattle.reg_tables_rows.proofs.Words.{AreVersions, HaveOwnRowids, ◌⨾◌, fails, left, so_far, told_before, was_clean}
+use Rattle.reg_tables_schema.specs.Places.{crates_tree, versions_tree}
+use Rattle.reg_tables_meaning.proofs.Readings.{still_ready}
 use Rattle.reg_tables_rows.proofs.all_rows.crate_tables.Goals as goal
 
 pub returns-clause-obeys : goal.returns-clause-obeys

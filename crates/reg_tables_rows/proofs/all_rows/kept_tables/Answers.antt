@@ -1,5 +1,4 @@
-use Rattle.reg_tables_sql.specs.Restricted.{AreRestricted}
-use Rattle.reg_tables_meaning.proofs.Readings.{◌⨾◌, fails, left, so_far, told_before, was_clean}
+use Rattle.reg_tables_rows.proofs.Words.{AreRestricted, ◌⨾◌, fails, left, so_far, told_before, was_clean}
 use Rattle.reg_tables_rows.proofs.all_rows.kept_tables.Goals as goal
 
 pub returns-clause-summaries : goal.returns-clause-summaries

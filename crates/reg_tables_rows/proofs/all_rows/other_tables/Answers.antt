@@ -1,7 +1,4 @@
-use Rattle.reg_tables_schema.specs.Places.{archives_tree}
-use Rattle.reg_tables_sql.specs.Reserved.{AreReserved}
-use Rattle.reg_tables_rows.specs.WholeRows.{HaveIds}
-use Rattle.reg_tables_meaning.proofs.Readings.{◌⨾◌, fails, left, so_far, told_before, was_clean}
+use Rattle.reg_tables_rows.proofs.Words.{archives_tree, AreReserved, HaveIds, ◌⨾◌, fails, left, so_far, told_before, was_clean}
 use Rattle.reg_tables_rows.proofs.all_rows.other_tables.Goals as goal
 
 pub returns-clause-base : goal.returns-clause-base

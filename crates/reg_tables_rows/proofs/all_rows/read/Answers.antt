@@ -1,18 +1,12 @@
-use Rattle.std.proofs.Common.{Some}
+use Rattle.reg_tables_rows.proofs.Words.{Some, archives_tree, readers_tree, AreCratesById, AreOwnerships, AreReserved, AreRestricted}
+use Rattle.reg_tables_rows.proofs.Words.{AreVersions, HaveIds, ◌⨾◌, fails, so_far, told_before, was_clean}
 use Rattle.std.specs.Prelude.{string_bytes}
 use Rattle.sqlite_schema.specs.Rules.{Obeys}
-use Rattle.reg_tables_schema.specs.Places.{archives_tree, readers_tree}
 use Rattle.reg_tables_schema.specs.Schema.{ours}
 use Rattle.reg_tables_sql.specs.Abouts.{IsBaseOf}
-use Rattle.reg_tables_sql.specs.Crates.{AreCratesById}
-use Rattle.reg_tables_sql.specs.Owners.{AreOwnerships}
 use Rattle.reg_tables_sql.specs.Pairs.{ArePairs}
-use Rattle.reg_tables_sql.specs.Reserved.{AreReserved}
-use Rattle.reg_tables_sql.specs.Restricted.{AreRestricted}
 use Rattle.reg_tables_sql.specs.Summaries.{AreSummaries}
-use Rattle.reg_tables_sql.specs.Versions.{AreVersions}
-use Rattle.reg_tables_rows.specs.WholeRows.{AreApart, HaveIds}
-use Rattle.reg_tables_meaning.proofs.Readings.{◌⨾◌, fails, so_far, told_before, was_clean}
+use Rattle.reg_tables_rows.specs.WholeRows.{AreApart}
 use Rattle.reg_tables_rows.proofs.all_rows.read.Goals as goal
 
 pub returns-clause-read : goal.returns-clause-read

@@ -1,9 +1,5 @@
-use Rattle.std.proofs.Common.{subst, sym}
-use Rattle.reg_tables_schema.specs.Places.{owners_tree, readers_tree, reserved_tree}
-use Rattle.reg_tables_schema.specs.Statements.{rows_in}
-use Rattle.reg_tables_sql.specs.Rowids.{AreRowids}
-use Rattle.reg_tables_meaning.specs.Stands.{HaveOwnRowids}
-use Rattle.reg_tables_meaning.proofs.Readings.{◌⨾◌, fails, left, so_far, told_before, was_clean}
+use Rattle.reg_tables_rows.proofs.Words.{subst, sym, owners_tree, readers_tree, reserved_tree, rows_in, AreRowids, HaveOwnRowids, ◌⨾◌}
+use Rattle.reg_tables_rows.proofs.Words.{fails, left, so_far, told_before, was_clean}
 use Rattle.reg_tables_rows.proofs.apart.check_rowids.Goals as goal
 
 pub returns-clause-owners : goal.returns-clause-owners

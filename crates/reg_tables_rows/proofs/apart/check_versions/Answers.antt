@@ -1,6 +1,5 @@
-use Rattle.std.proofs.Common.{[], ◌∷◌}
+use Rattle.reg_tables_rows.proofs.Words.{[], ◌∷◌, on_ok_weaker}
 use Rattle.std.specs.Prelude.{drop}
-use Rattle.std.proofs.lemmas.Result.{on_ok_weaker}
 use Rattle.reg_tables_sql.specs.Versions.{columns_of_version}
 use Rattle.reg_tables_rows.proofs.OwnIds.{own_listed}
 use Rattle.reg_tables_rows.proofs.apart.check_versions.Goals as goal

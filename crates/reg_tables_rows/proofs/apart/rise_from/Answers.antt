@@ -1,6 +1,5 @@
-use Rattle.std.proofs.Common.{List, ℤ, ◌∷◌, SFits, arith, get_or, pos, refl, rules, subst, sym, w64}
+use Rattle.reg_tables_rows.proofs.Words.{List, ℤ, ◌∷◌, SFits, arith, get_or, pos, refl, rules, subst, sym, w64, int_cmp}
 use Rattle.std.specs.List.Sorted.{IsStrictlySortedBy}
-use Rattle.std.specs.Ordering.{int_cmp}
 use Rattle.std.proofs.lemmas.List.{drop_all}
 use Rattle.reg_tables_rows.proofs.OwnRowids.{rises_alone, rises_not, rises_on_from}
 use Rattle.reg_tables_rows.proofs.apart.rise_from.Goals as goal

@@ -1,7 +1,5 @@
-use Rattle.std.proofs.Common.{◌∷◌, drop}
-use Rattle.std.specs.Prelude.{◌↔◌}
+use Rattle.reg_tables_rows.proofs.Words.{◌∷◌, drop, ◌↔◌, int_cmp}
 use Rattle.std.specs.List.Sorted.{IsStrictlySortedBy}
-use Rattle.std.specs.Ordering.{int_cmp}
 use Rattle.reg_tables_rows.proofs.apart.rise_from.Given as goal
 
 -- what is left decides

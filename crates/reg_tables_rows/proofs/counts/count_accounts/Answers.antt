@@ -1,7 +1,5 @@
-use Rattle.std.proofs.Common.{◌≡◌, ◌+◌, length, arith, refl}
-use Rattle.sqlite.specs.Held.{state}
+use Rattle.reg_tables_rows.proofs.Words.{◌≡◌, ◌+◌, length, arith, refl, state, next_id}
 use Rattle.reg_tables_meaning.specs.Stands.{row_of_account}
-use Rattle.reg_tables_meaning.proofs.NextId.{next_id}
 use Rattle.reg_tables_rows.proofs.counts.count_accounts.Goals as goal
 
 pub returns-clause-counted : goal.returns-clause-counted

@@ -1,8 +1,7 @@
-use Rattle.std.proofs.Common.{◌∙◌, sym}
+use Rattle.reg_tables_rows.proofs.Words.{◌∙◌, sym, was_clean, if_ok}
 use Rattle.reg_tables_meaning.specs.Calls.{ReachesVersions}
 use Rattle.reg_tables_meaning.specs.Stands.{spelling_at}
-use Rattle.reg_tables_meaning.proofs.Readings.{true_before, was_clean}
-use Rattle.reg_tables_meaning.proofs.Results.{if_ok}
+use Rattle.reg_tables_meaning.proofs.Readings.{true_before}
 use Rattle.reg_tables_meaning.proofs.Room.{few_lines}
 use Rattle.reg_tables_rows.proofs.crate_lists.has_lines.Goals as goal
 

@@ -1,8 +1,4 @@
-use Rattle.std.proofs.Common.{ap, ◌∙◌}
-use Rattle.std.specs.Prelude.{nat_le}
-use Rattle.sqlite.specs.Held.{state}
-use Rattle.reg_tables_meaning.proofs.Readings.{left, so_far}
-use Rattle.reg_tables_meaning.proofs.Results.{if_ok}
+use Rattle.reg_tables_rows.proofs.Words.{ap, ◌∙◌, nat_le, state, left, so_far, if_ok}
 use Rattle.reg_tables_meaning.proofs.VersionCounts.{versions_counted}
 use Rattle.reg_tables_rows.proofs.crate_lists.has_versions.Goals as goal
 

@@ -1,5 +1,4 @@
-use Rattle.sqlite.specs.Held.{state}
-use Rattle.reg_tables_meaning.proofs.Results.{if_ok}
+use Rattle.reg_tables_rows.proofs.Words.{state, if_ok}
 use Rattle.reg_tables_meaning.proofs.VersionEntries.{lists_versions}
 use Rattle.reg_tables_rows.proofs.crate_lists.list.Goals as goal
 

@@ -1,6 +1,5 @@
-use Rattle.std.proofs.Common.{◌∙◌, sym}
+use Rattle.reg_tables_rows.proofs.Words.{◌∙◌, sym, state}
 use Rattle.std.proofs.lemmas.Bool.{ltb-true}
-use Rattle.sqlite.specs.Held.{state}
 use Rattle.reg_tables_meaning.proofs.VersionCounts.{few_versions}
 use Rattle.reg_tables_rows.proofs.crate_lists.reaches_versions.Goals as goal
 

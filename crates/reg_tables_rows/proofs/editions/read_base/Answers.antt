@@ -1,8 +1,5 @@
-use Rattle.std.proofs.Common.{arith, ap, ◌∙◌, map}
+use Rattle.reg_tables_rows.proofs.Words.{arith, ap, ◌∙◌, map, state, HasCleanDisk, shows}
 use Rattle.sqlite.specs.Effect.{Database}
-use Rattle.sqlite.specs.Held.{state}
-use Rattle.sqlite.specs.State.{HasCleanDisk}
-use Rattle.reg_tables_schema.specs.Tests.{shows}
 use Rattle.reg_tables_sql.specs.Abouts.{about_places}
 use Rattle.reg_tables_rows.proofs.editions.read_base.Goals as goal
 

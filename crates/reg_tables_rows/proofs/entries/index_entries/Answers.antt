@@ -1,14 +1,13 @@
-use Rattle.std.proofs.Common.{rules, arith, ◌≡◌, [], ◌∷◌, refl, subst, sym, ◌∙◌, ◌++◌, pos, map, Result, Vec, Global}
+use Rattle.reg_tables_rows.proofs.Words.{rules, arith, ◌≡◌, [], ◌∷◌, refl, subst, sym, ◌∙◌, pos, map, state, Int, HasCleanDisk}
+use Rattle.reg_tables_rows.proofs.Words.{columns_of_stem, entries_text}
+use Rattle.std.proofs.Common.{◌++◌, Result, Vec, Global}
 use Rattle.std.proofs.lemmas.List.{map-append}
 use Rattle.std.proofs.lemmas.Result.{err_from_is_err_and}
 use Rattle.sqlite.specs.declared.error.Error.{Error}
 use Rattle.sqlite.specs.declared.error.Error.TheVariants.{InvalidQuery, SqliteFailure}
 use Rattle.sqlite.specs.declared.error.ErrorCode.TheVariants.{OutOfMemory}
 use Rattle.reg_tables_sql.specs.declared.versions.StemRow.{StemRow}
-use Rattle.sqlite.specs.Held.{Held, state}
-use Rattle.sqlite.specs.declared.types.Value.TheVariants.{Int}
-use Rattle.sqlite.specs.State.{HasCleanDisk}
-use Rattle.reg_tables_sql.specs.Stems.{columns_of_stem, entries_text}
+use Rattle.sqlite.specs.Held.{Held}
 use Rattle.sqlite_trees.specs.declared.store.Store.{Ghosts}
 use Rattle.reg_tables_meaning.specs.Walks.{IsRead}
 use Rattle.reg_tables_meaning.proofs.IndexWalk.{entries_read}

@@ -1,6 +1,4 @@
-use Rattle.std.proofs.Common.{◌≡◌, map, pos, ◌∷◌, []}
-use Rattle.sqlite.specs.declared.types.Value.TheVariants.{Int}
-use Rattle.reg_tables_sql.specs.Stems.{columns_of_stem, entries_text}
+use Rattle.reg_tables_rows.proofs.Words.{◌≡◌, map, pos, ◌∷◌, [], Int, columns_of_stem, entries_text}
 use Rattle.reg_tables_meaning.specs.Walks.{HasWalked}
 use Rattle.reg_tables_rows.proofs.entries.index_entries.Given as goal
 

@@ -1,6 +1,4 @@
-use Rattle.std.proofs.Common.{arith}
-use Rattle.sqlite.specs.State.{HasCleanDisk}
-use Rattle.sqlite.specs.Held.{state}
+use Rattle.reg_tables_schema.proofs.Words.{arith, HasCleanDisk, state}
 use Rattle.reg_tables_schema.proofs.MakeLemmas.{on_err, begins_blank, refused_keeps, undone_keeps, begun_keeps, kept_keeps, survives_making, survives_failing, rests}
 use Rattle.reg_tables_schema.proofs.make.fill_and_commit.Goals as goal
 

@@ -1,5 +1,4 @@
-use Rattle.std.proofs.Common.{arith}
-use Rattle.sqlite.specs.Held.{state}
+use Rattle.reg_tables_schema.proofs.Words.{arith, state}
 use Rattle.reg_tables_schema.proofs.MakeLemmas.{inserts_about, about_survives}
 use Rattle.reg_tables_schema.proofs.WriteLemmas.{refused}
 use Rattle.reg_tables_schema.proofs.make.insert_about.Goals as goal

@@ -1,5 +1,4 @@
-use Rattle.std.proofs.Common.{rules, tests}
-use Rattle.std.proofs.lemmas.Iterator.{YieldsList-from_slice, YieldsList-from_zip, same_from_all}
+use Rattle.reg_tables_schema.proofs.Words.{rules, tests, YieldsList-from_slice, YieldsList-from_zip, same_from_all}
 use Rattle.reg_tables_schema.proofs.same.same_names.Goals as goal
 
 pub returns-then-a-b : goal.returns-then-a-b

@@ -1,5 +1,4 @@
-use Rattle.std.proofs.Common.{arith}
-use Rattle.sqlite.specs.Held.{state}
+use Rattle.reg_tables_schema.proofs.Words.{arith, state}
 use Rattle.reg_tables_schema.proofs.TableTexts.{crates_step}
 use Rattle.reg_tables_schema.proofs.Creates.{makes, create_survives}
 use Rattle.reg_tables_schema.proofs.WriteLemmas.{refused}

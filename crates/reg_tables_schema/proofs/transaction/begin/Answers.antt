@@ -1,6 +1,4 @@
-use Rattle.std.proofs.Common.{arith}
-use Rattle.sqlite.specs.Held.{state}
-use Rattle.sqlite.proofs.StateLemmas.{survives_weaker}
+use Rattle.reg_tables_schema.proofs.Words.{arith, state, survives_weaker}
 use Rattle.reg_tables_schema.proofs.OursLemmas.{back_begun, ours_unbegun, ready_begun}
 use Rattle.reg_tables_schema.proofs.WriteLemmas.{begins, begin_commits, refused}
 use Rattle.reg_tables_schema.proofs.transaction.begin.Goals as goal

@@ -1,6 +1,4 @@
-use Rattle.std.proofs.Common.{arith}
-use Rattle.sqlite.specs.Held.{state}
-use Rattle.sqlite.proofs.StateLemmas.{survives_weaker}
+use Rattle.reg_tables_schema.proofs.Words.{arith, state, survives_weaker}
 use Rattle.reg_tables_schema.proofs.OursLemmas.{ours_finished, ours_unfinished, then_ok}
 use Rattle.reg_tables_schema.proofs.WriteLemmas.{finishes, commit_commits, ends_undone}
 use Rattle.reg_tables_schema.proofs.transaction.finish.Goals as goal

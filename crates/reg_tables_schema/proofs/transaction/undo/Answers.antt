@@ -1,6 +1,4 @@
-use Rattle.std.proofs.Common.{arith}
-use Rattle.sqlite.specs.Held.{state}
-use Rattle.sqlite.proofs.StateLemmas.{survives_weaker}
+use Rattle.reg_tables_schema.proofs.Words.{arith, state, survives_weaker}
 use Rattle.reg_tables_schema.proofs.OursLemmas.{ours_undone}
 use Rattle.reg_tables_schema.proofs.WriteLemmas.{undoes, rollback_commits}
 use Rattle.reg_tables_schema.proofs.transaction.undo.Goals as goal

@@ -1,11 +1,7 @@
-use Rattle.std.proofs.Common.{Ok, refl}
-use Rattle.std.specs.Prelude.{string_bytes}
-use Rattle.std.specs.Option.{option_map}
-use Rattle.sqlite.specs.Held.{state}
-use Rattle.reg_tables_schema.specs.declared.edition.Edition.TheVariants.{Second}
+use Rattle.reg_tables_sql.proofs.Words.{Ok, refl, string_bytes, option_map, state, Second, IsAboutOf}
 use Rattle.reg_tables_schema.specs.Statements.{rows_in}
 use Rattle.reg_tables_schema.proofs.Reading.{reads_made}
-use Rattle.reg_tables_sql.specs.Abouts.{IsAboutOf, IsBaseOf}
+use Rattle.reg_tables_sql.specs.Abouts.{IsBaseOf}
 use Rattle.reg_tables_sql.proofs.about.base.Goals as goal
 
 pub read-requires : goal.read-requires

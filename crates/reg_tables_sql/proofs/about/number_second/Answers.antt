@@ -1,9 +1,6 @@
-use Rattle.std.proofs.Common.{rules}
+use Rattle.reg_tables_sql.proofs.Words.{rules, to_z-of_z, state, writes_as}
 use mir.Syntax.{w64}
 use mir.Val.{SFits}
-use Rattle.std.proofs.lemmas.Int.{to_z-of_z}
-use Rattle.sqlite.specs.Held.{state}
-use Rattle.reg_tables_schema.proofs.Writing.{writes_as}
 use Rattle.reg_tables_sql.proofs.AboutTexts.{second_is, numbers}
 use Rattle.reg_tables_sql.proofs.about.number_second.Goals as goal
 

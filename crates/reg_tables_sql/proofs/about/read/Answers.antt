@@ -1,6 +1,5 @@
-use Rattle.sqlite.specs.Held.{state}
+use Rattle.reg_tables_sql.proofs.Words.{state, may_read}
 use Rattle.reg_tables_schema.proofs.Reading.{reads_then}
-use Rattle.reg_tables_schema.proofs.Selections.{may_read}
 use Rattle.reg_tables_sql.proofs.AboutQueries.{about, about_is}
 use Rattle.reg_tables_sql.proofs.about.read.Goals as goal
 

@@ -1,8 +1,6 @@
-use Rattle.std.proofs.Common.{rules}
+use Rattle.reg_tables_sql.proofs.Words.{rules, to_z-of_z, state}
 use mir.Syntax.{w64}
 use mir.Val.{SFits}
-use Rattle.std.proofs.lemmas.Int.{to_z-of_z}
-use Rattle.sqlite.specs.Held.{state}
 use Rattle.reg_tables_schema.proofs.Writing.{writes_after}
 use Rattle.reg_tables_sql.proofs.AboutTexts.{becomes_second}
 use Rattle.reg_tables_sql.proofs.about.set_second.Goals as goal

@@ -1,6 +1,4 @@
-use Rattle.std.proofs.Common.{Ok}
-use Rattle.sqlite.specs.Held.{state}
-use Rattle.reg_tables_schema.proofs.Writing.{writes_as}
+use Rattle.reg_tables_sql.proofs.Words.{Ok, state, writes_as}
 use Rattle.reg_tables_sql.proofs.AccountTexts.{inserts_bound, insert_writes}
 use Rattle.reg_tables_sql.proofs.accounts.insert.Goals as goal
 

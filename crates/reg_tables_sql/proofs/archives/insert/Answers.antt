@@ -1,8 +1,4 @@
-use Rattle.std.proofs.Common.{Ok}
-use Rattle.std.proofs.Common.{w64}
-use Rattle.std.proofs.Math.Facts.{to_z_pos}
-use Rattle.sqlite.specs.Held.{state}
-use Rattle.reg_tables_schema.proofs.Writing.{writes_as}
+use Rattle.reg_tables_sql.proofs.Words.{Ok, w64, to_z_pos, state, writes_as}
 use Rattle.reg_tables_sql.proofs.ArchiveTexts.{inserts_archive, insert_writes}
 use Rattle.reg_tables_sql.proofs.archives.insert.Goals as goal
 

@@ -1,6 +1,4 @@
-use Rattle.std.proofs.Common.{[], refl, ◌∙◌, sym}
-use Rattle.sqlite.specs.Values.{bound}
-use Rattle.reg_tables_schema.proofs.Writing.{err_of}
+use Rattle.reg_tables_sql.proofs.Words.{[], refl, ◌∙◌, sym, bound, err_of}
 use Rattle.reg_tables_sql.proofs.Walking.{begins, spared, walked_more, reads_all, reads_failed, reads_left, reads_none, counted_some}
 use Rattle.reg_tables_sql.proofs.statements.has_row.Goals as goal
 

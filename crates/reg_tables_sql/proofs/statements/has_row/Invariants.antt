@@ -1,6 +1,4 @@
-use Rattle.std.proofs.Common.{◌≡◌, List, length}
-use Rattle.sqlite.specs.Order.{Row}
-use Rattle.sqlite.specs.Values.{bound}
+use Rattle.reg_tables_sql.proofs.Words.{◌≡◌, List, length, Row, bound}
 use Rattle.reg_tables_sql.proofs.Walking.{Walks}
 use Rattle.reg_tables_sql.proofs.statements.has_row.Given as goal
 

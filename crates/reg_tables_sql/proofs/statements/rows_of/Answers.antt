@@ -1,7 +1,5 @@
-use Rattle.std.proofs.Common.{arith}
-use Rattle.sqlite.specs.Held.{state}
-use Rattle.sqlite.specs.Values.{bound}
-use Rattle.reg_tables_schema.proofs.Selections.{only_reads, reading_survives}
+use Rattle.reg_tables_sql.proofs.Words.{arith, state, bound, reading_survives}
+use Rattle.reg_tables_schema.proofs.Selections.{only_reads}
 use Rattle.reg_tables_sql.proofs.statements.rows_of.Goals as goal
 
 pub returns : goal.returns

@@ -1,6 +1,4 @@
-use Rattle.std.proofs.Common.{[], ◌∷◌, refl, sym, ◌∙◌}
-use Rattle.sqlite.specs.Values.{bound}
-use Rattle.reg_tables_schema.proofs.Writing.{err_of}
+use Rattle.reg_tables_sql.proofs.Words.{[], ◌∷◌, refl, sym, ◌∙◌, bound, err_of}
 use Rattle.reg_tables_sql.proofs.Walking.{begins, spared, walked, reads_all, reads_failed, reads_left, reads_none}
 use Rattle.reg_tables_sql.proofs.statements.select_one.Goals as goal
 

@@ -1,10 +1,6 @@
-use Rattle.std.proofs.Common.{[], ◌∷◌, refl, subst, sym, ◌∙◌, map}
+use Rattle.reg_tables_sql.proofs.Words.{[], ◌∷◌, refl, subst, sym, ◌∙◌, map, state, HasCleanDisk, bound, err_of}
 use Rattle.std.proofs.lemmas.List.{map-append}
 use Rattle.std.proofs.lemmas.Result.{IfOk-from_err}
-use Rattle.sqlite.specs.Held.{state}
-use Rattle.sqlite.specs.State.{HasCleanDisk}
-use Rattle.sqlite.specs.Values.{bound}
-use Rattle.reg_tables_schema.proofs.Writing.{err_of}
 use Rattle.reg_tables_sql.proofs.Walking.{leaves_as, spared, walk_ends, walk_fails, walk_left, walked, walked_all}
 use Rattle.reg_tables_sql.proofs.statements.walk.Goals as goal
 

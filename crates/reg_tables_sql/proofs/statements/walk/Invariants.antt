@@ -1,5 +1,4 @@
-use Rattle.std.proofs.Common.{◌≡◌, map}
-use Rattle.sqlite.specs.Values.{bound}
+use Rattle.reg_tables_sql.proofs.Words.{◌≡◌, map, bound}
 use Rattle.reg_tables_sql.proofs.Walking.{Walks}
 use Rattle.reg_tables_sql.proofs.statements.walk.Given as goal
 

@@ -1,6 +1,5 @@
-use Rattle.sqlite.specs.Held.{state}
-use Rattle.sqlite.specs.Values.{bound}
-use Rattle.reg_tables_schema.proofs.Writing.{err_of, write_done, write_fails}
+use Rattle.reg_tables_sql.proofs.Words.{state, bound, err_of}
+use Rattle.reg_tables_schema.proofs.Writing.{write_done, write_fails}
 use Rattle.reg_tables_sql.proofs.statements.write.Goals as goal
 
 pub returns-in_err-execute : goal.returns-in_err-execute

@@ -1,8 +1,4 @@
-use Rattle.std.proofs.Common.{w64}
-use Rattle.std.proofs.Math.Facts.{to_z_pos}
-use Rattle.std.proofs.Common.{Ok}
-use Rattle.sqlite.specs.Held.{state}
-use Rattle.reg_tables_schema.proofs.Writing.{writes_as}
+use Rattle.reg_tables_sql.proofs.Words.{w64, to_z_pos, Ok, state, writes_as}
 use Rattle.reg_tables_sql.proofs.SummaryTexts.{inserts, insert_writes}
 use Rattle.reg_tables_sql.proofs.summaries.insert.Goals as goal
 

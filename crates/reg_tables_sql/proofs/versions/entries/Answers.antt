@@ -1,7 +1,4 @@
-use Rattle.std.proofs.Common.{map}
-use Rattle.sqlite.specs.Held.{state}
-use Rattle.reg_tables_schema.proofs.Reading.{reads_as}
-use Rattle.reg_tables_schema.proofs.Selections.{may_read}
+use Rattle.reg_tables_sql.proofs.Words.{map, state, reads_as, may_read}
 use Rattle.reg_tables_sql.specs.Stems.{columns_of_stem}
 use Rattle.reg_tables_sql.proofs.StemQueries.{stems, stems_are}
 use Rattle.reg_tables_sql.proofs.versions.entries.Goals as goal

@@ -1,10 +1,5 @@
-use Rattle.std.proofs.Common.{Ok}
-use Rattle.std.proofs.Common.{◌∙◌, w64}
-use Rattle.std.proofs.Math.Facts.{to_z_pos}
-use Rattle.std.specs.Option.{option_map}
+use Rattle.reg_tables_sql.proofs.Words.{Ok, ◌∙◌, w64, to_z_pos, option_map, state, writes_as}
 use Rattle.reg_tables_schema.proofs.Binding.{text_is, binds_text}
-use Rattle.sqlite.specs.Held.{state}
-use Rattle.reg_tables_schema.proofs.Writing.{writes_as}
 use Rattle.reg_tables_sql.proofs.VersionTexts.{inserts_version, insert_writes}
 use Rattle.reg_tables_sql.proofs.versions.insert.Goals as goal
 

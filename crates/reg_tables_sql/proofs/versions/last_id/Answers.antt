@@ -1,6 +1,4 @@
-use Rattle.sqlite.specs.Held.{state}
-use Rattle.reg_tables_schema.proofs.Reading.{reads_as}
-use Rattle.reg_tables_schema.proofs.Selections.{may_read}
+use Rattle.reg_tables_sql.proofs.Words.{state, reads_as, may_read}
 use Rattle.reg_tables_sql.proofs.VersionQueries.{last, last_is}
 use Rattle.reg_tables_sql.proofs.versions.last_id.Goals as goal
 

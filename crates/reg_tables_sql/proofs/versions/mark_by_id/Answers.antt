@@ -1,8 +1,4 @@
-use Rattle.std.proofs.Common.{w64}
-use Rattle.std.proofs.Math.Facts.{to_z_pos}
-use Rattle.sqlite.specs.Held.{state}
-use Rattle.reg_tables_schema.proofs.Reading.{reads_as}
-use Rattle.reg_tables_schema.proofs.Selections.{may_read}
+use Rattle.reg_tables_sql.proofs.Words.{w64, to_z_pos, state, reads_as, may_read}
 use Rattle.reg_tables_sql.proofs.VersionMarkQueries.{by_id, by_id_is}
 use Rattle.reg_tables_sql.proofs.versions.mark_by_id.Goals as goal
 

@@ -1,6 +1,4 @@
-use Rattle.sqlite.specs.Held.{state}
-use Rattle.reg_tables_schema.proofs.Reading.{reads_as}
-use Rattle.reg_tables_schema.proofs.Selections.{may_read}
+use Rattle.reg_tables_sql.proofs.Words.{state, reads_as, may_read}
 use Rattle.reg_tables_sql.proofs.VersionMarkQueries.{marks, marks_are}
 use Rattle.reg_tables_sql.proofs.versions.marks_of.Goals as goal
 

@@ -1,5 +1,4 @@
-use Rattle.sqlite.specs.Held.{state}
-use Rattle.reg_tables_schema.proofs.Writing.{writes_as}
+use Rattle.reg_tables_sql.proofs.Words.{state, writes_as}
 use Rattle.reg_tables_sql.proofs.VersionTexts.{yanks, yank_is}
 use Rattle.reg_tables_sql.proofs.versions.set_yanked.Goals as goal
 

@@ -1,10 +1,7 @@
-use Rattle.std.proofs.Common.{◌≡◌, ◌≢◌, ℕ, List, [], ◌∷◌, Bool, true, false, cond, Option, None, Some, length, refl, sym, arith, pos, ◌∙◌}
-use Rattle.std.specs.Prelude.{MatchOption, string_bytes}
-use Rattle.sqlite.specs.declared.types.Value.{Value}
-use Rattle.sqlite.specs.declared.types.Value.TheVariants.{Int, Null}
-use Rattle.sqlite.specs.Order.{Row, column}
-use Rattle.reg_names.specs.Names.{is_name, name_of}
-use Rattle.reg_access.specs.Found.{number_or_null}
+use Rattle.reg_access.proofs.Words.{◌≡◌, ℕ, List, [], ◌∷◌, Bool, true, false, cond, Option, None, Some, length, refl, sym, arith, pos, ◌∙◌}
+use Rattle.reg_access.proofs.Words.{string_bytes, Value, Int, Null, Row, column, is_name, name_of, number_or_null}
+use Rattle.std.proofs.Common.{◌≢◌}
+use Rattle.std.specs.Prelude.{MatchOption}
 use Rattle.reg_access.proofs.found.CrateRowFromRow.from_row.Goals as goal
 
 five : (row : Row) → length row ≡ 5 → row ≡ column row 0 ∷ column row 1 ∷ column row 2 ∷ column row 3 ∷ column row 4 ∷ []

@@ -1,6 +1,4 @@
-use Rattle.std.proofs.Common.{◌∙◌, ◌-◌, ap, refl, subst, sym}
-use Rattle.std.specs.Prelude.{string_bytes}
-use Rattle.reg_http.specs.Trails.{Tail, Trails, tail}
+use Rattle.reg_http.proofs.Words.{◌∙◌, ◌-◌, ap, refl, subst, sym, string_bytes, Tail, Trails, tail}
 use Rattle.reg_http.proofs.Trails.{trails_all, trails_nothing, trails_spent}
 use Rattle.reg_http.proofs.trail.Trail.tell.Goals as goal
 

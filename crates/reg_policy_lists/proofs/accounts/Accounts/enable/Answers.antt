@@ -1,5 +1,4 @@
-use Rattle.std.proofs.Common.{ap}
-use Rattle.reg_policy_lists.specs.Accounts.{account_of}
+use Rattle.reg_policy_lists.proofs.Words.{ap, account_of}
 use Rattle.reg_policy_lists.proofs.Listed.{changed_at, unchanged_at}
 use Rattle.reg_policy_lists.proofs.accounts.Accounts.enable.Goals as goal
 use Rattle.reg_policy_lists.proofs.accounts.Accounts.enable.Goals.{in-Some, in_default}

@@ -1,8 +1,5 @@
 -- An account's id is one more than its place.
-use Rattle.std.proofs.Common.{◌+◌, ◌∙◌, ap, sym}
-use Rattle.std.specs.Option.{option_map}
-use Rattle.std.specs.Str.{bytes_eq}
-use Rattle.reg_policy_lists.specs.Accounts.{account_of}
+use Rattle.reg_policy_lists.proofs.Words.{◌+◌, ◌∙◌, ap, sym, option_map, bytes_eq, account_of}
 use Rattle.reg_policy_lists.proofs.Listed.{place_map}
 use Rattle.reg_policy_lists.proofs.accounts.Accounts.id_of.Goals as goal
 

@@ -1,5 +1,4 @@
-use Rattle.std.proofs.Common.{ℕ, Bool, ◌∙◌, sym, ap}
-use Rattle.std.specs.Prelude.{◌&&◌}
+use Rattle.reg_policy_lists.proofs.Words.{ℕ, Bool, ◌∙◌, sym, ap, ◌&&◌}
 use Rattle.std.specs.FinSet as finset
 use Rattle.reg_policy_lists.proofs.Owned.{among_owned}
 use Rattle.reg_policy_lists.proofs.accounts.Accounts.is_among.Goals as goal

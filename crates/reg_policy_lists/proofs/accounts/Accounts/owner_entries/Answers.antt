@@ -1,9 +1,6 @@
 -- One more account: an owner has an entry, and another has none.
-use Rattle.std.proofs.Common.{ℕ, Bool, ◌+◌, ◌<◌, ◌∙◌, length, arith, ap, sym}
+use Rattle.reg_policy_lists.proofs.Words.{ℕ, Bool, ◌+◌, ◌<◌, ◌∙◌, length, arith, ap, sym, owner_entry, account_of, entry_of}
 use Rattle.std.specs.FinSet as set
-use Rattle.reg_model.specs.Effects.{owner_entry}
-use Rattle.reg_policy_lists.specs.Accounts.{account_of}
-use Rattle.reg_policy.specs.Events.{entry_of}
 use Rattle.reg_policy_lists.proofs.Listed.{none_more, one_more}
 use Rattle.reg_policy_lists.proofs.accounts.Accounts.owner_entries.Goals as goal
 use Rattle.reg_policy_lists.proofs.accounts.Accounts.owner_entries.Goals.{then-contains+in_ok-entry+in_ok-push, else-contains}

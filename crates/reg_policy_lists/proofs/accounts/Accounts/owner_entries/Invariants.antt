@@ -1,7 +1,4 @@
-use Rattle.std.proofs.Common.{◌≡◌, map, take}
-use Rattle.reg_model.specs.Effects.{owner_entry}
-use Rattle.reg_policy.specs.Events.{entry_of}
-use Rattle.reg_policy_lists.specs.Accounts.{account_of, owned}
+use Rattle.reg_policy_lists.proofs.Words.{◌≡◌, map, take, owner_entry, entry_of, account_of, owned}
 use Rattle.reg_policy_lists.proofs.accounts.Accounts.owner_entries.Given as goal
 
 -- those so far are of the accounts so far

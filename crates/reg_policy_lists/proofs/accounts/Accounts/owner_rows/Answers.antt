@@ -1,8 +1,6 @@
 -- One more account: an owner has a row, and another has none.
-use Rattle.std.proofs.Common.{ℕ, Bool, ◌+◌, ◌<◌, ◌∙◌, length, arith, ap, sym}
+use Rattle.reg_policy_lists.proofs.Words.{ℕ, Bool, ◌+◌, ◌<◌, ◌∙◌, length, arith, ap, sym, id_and_login, row_view, account_of}
 use Rattle.std.specs.FinSet as set
-use Rattle.reg_policy.specs.Rows.{id_and_login, row_view}
-use Rattle.reg_policy_lists.specs.Accounts.{account_of}
 use Rattle.reg_policy_lists.proofs.Listed.{none_more, one_more}
 use Rattle.reg_policy_lists.proofs.accounts.Accounts.owner_rows.Goals as goal
 use Rattle.reg_policy_lists.proofs.accounts.Accounts.owner_rows.Goals.{then-contains+in_ok-push, else-contains}

@@ -1,6 +1,4 @@
-use Rattle.std.proofs.Common.{◌≡◌, map, take}
-use Rattle.reg_policy.specs.Rows.{id_and_login, row_view}
-use Rattle.reg_policy_lists.specs.Accounts.{account_of, owned}
+use Rattle.reg_policy_lists.proofs.Words.{◌≡◌, map, take, id_and_login, row_view, account_of, owned}
 use Rattle.reg_policy_lists.proofs.accounts.Accounts.owner_rows.Given as goal
 
 -- those so far are of the accounts so far

@@ -1,7 +1,6 @@
 -- One more account: a reader has its id, and another has none.
-use Rattle.std.proofs.Common.{ℕ, Bool, ◌+◌, ◌<◌, ◌∙◌, length, arith, ap, sym, refl}
+use Rattle.reg_policy_lists.proofs.Words.{ℕ, Bool, ◌+◌, ◌<◌, ◌∙◌, length, arith, ap, sym, refl, account_of}
 use Rattle.std.specs.FinSet as set
-use Rattle.reg_policy_lists.specs.Accounts.{account_of}
 use Rattle.reg_policy_lists.proofs.Listed.{none_more, one_more}
 use Rattle.reg_policy_lists.proofs.accounts.Accounts.reader_ids.Goals as goal
 use Rattle.reg_policy_lists.proofs.accounts.Accounts.reader_ids.Goals.{then-contains+in_ok-push, else-contains}

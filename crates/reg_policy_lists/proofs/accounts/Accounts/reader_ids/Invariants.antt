@@ -1,5 +1,4 @@
-use Rattle.std.proofs.Common.{◌≡◌, map, take}
-use Rattle.reg_policy_lists.specs.Accounts.{account_of, owned}
+use Rattle.reg_policy_lists.proofs.Words.{◌≡◌, map, take, account_of, owned}
 use Rattle.reg_policy_lists.proofs.accounts.Accounts.reader_ids.Given as goal
 
 -- those so far are of the accounts so far

@@ -1,8 +1,5 @@
-use Rattle.std.proofs.Common.{◌∙◌, ap}
+use Rattle.reg_policy_lists.proofs.Words.{◌∙◌, ap, nat_list_cmp_total, text_cmp, text_apart}
 use Rattle.std.specs.FinSet as set
-use Rattle.std.specs.Cmp.Lexicographic.{nat_list_cmp_total}
-use Rattle.reg_model.specs.Registry.{text_cmp}
-use Rattle.reg_model.proofs.Keys.{text_apart}
 use Rattle.reg_policy_lists.proofs.crate_texts.CrateTexts.insert.Goals as goal
 
 pub returns-clause-ok : goal.returns-clause-ok

@@ -1,8 +1,5 @@
-use Rattle.std.proofs.Common.{◌∙◌, ap, rules}
-use Rattle.std.proofs.lemmas.Fn.{filter_same}
+use Rattle.reg_policy_lists.proofs.Words.{◌∙◌, ap, rules, filter_same, text_cmp, canon}
 use Rattle.std.specs.FinSet as set
-use Rattle.reg_model.specs.Registry.{text_cmp}
-use Rattle.reg_names.specs.Names.{canon}
 use Rattle.reg_policy_lists.proofs.SetViews.{remove_text}
 use Rattle.reg_policy_lists.proofs.crate_texts.CrateTexts.remove.Goals as goal
 

@@ -1,7 +1,4 @@
-use Rattle.std.proofs.Common.{sym}
-use Rattle.reg_model.specs.Registry.{Owner}
-use Rattle.reg_model.proofs.Keys.{owner_total, owner_apart}
-use Rattle.reg_policy_lists.specs.Sets.{owner_of}
+use Rattle.reg_policy_lists.proofs.Words.{sym, Owner, owner_total, owner_apart, owner_of}
 use Rattle.reg_policy_lists.proofs.SetViews.{has_view, owner_agrees}
 use Rattle.reg_policy_lists.proofs.owners.Owners.contains.Goals as goal
 

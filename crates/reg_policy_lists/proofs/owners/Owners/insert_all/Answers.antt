@@ -1,9 +1,6 @@
-use Rattle.std.proofs.Common.{◌∙◌, ap}
+use Rattle.reg_policy_lists.proofs.Words.{◌∙◌, ap, owner_cmp, owner_total, owner_apart, owner_by, owner_of}
 use Rattle.std.specs.Prelude.{map}
 use Rattle.std.specs.FinSet as set
-use Rattle.reg_model.specs.Registry.{owner_cmp}
-use Rattle.reg_model.proofs.Keys.{owner_total, owner_apart}
-use Rattle.reg_policy_lists.specs.Sets.{owner_by, owner_of}
 use Rattle.reg_policy_lists.proofs.SetViews.{append_view}
 use Rattle.reg_policy_lists.proofs.owners.Owners.insert_all.Goals as goal
 

@@ -1,11 +1,6 @@
-use Rattle.std.proofs.Common.{◌∙◌, ap, rules}
+use Rattle.reg_policy_lists.proofs.Words.{◌∙◌, ap, rules, filter_same, owner_cmp, owner_total, owner_apart, canon, owner_by, owner_of}
 use Rattle.std.specs.Prelude.{map}
-use Rattle.std.proofs.lemmas.Fn.{filter_same}
 use Rattle.std.specs.FinSet as set
-use Rattle.reg_model.specs.Registry.{owner_cmp}
-use Rattle.reg_model.proofs.Keys.{owner_total, owner_apart}
-use Rattle.reg_names.specs.Names.{canon}
-use Rattle.reg_policy_lists.specs.Sets.{owner_by, owner_of}
 use Rattle.reg_policy_lists.proofs.SetViews.{differ_view, owner_among}
 use Rattle.reg_policy_lists.proofs.owners.Owners.remove_all.Goals as goal
 

@@ -1,5 +1,4 @@
-use Rattle.std.proofs.Common.{arith}
-use Rattle.std.proofs.lemmas.Grind.{common_steps}
+use Rattle.reg_policy_lists.proofs.Words.{arith, common_steps}
 use Rattle.reg_policy_lists.proofs.publications.Publications.add.Goals as goal
 
 pub returns-clause-ok : goal.returns-clause-ok

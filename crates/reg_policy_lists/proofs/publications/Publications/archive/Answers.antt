@@ -1,9 +1,4 @@
-use Rattle.std.proofs.Common.{◌∙◌, ap}
-use Rattle.std.specs.Prelude.{string_bytes}
-use Rattle.std.specs.List.{find}
-use Rattle.reg_model.specs.Crates.{collides}
-use Rattle.std.specs.Prelude.{◌&&◌}
-use Rattle.std.specs.Str.{bytes_eq}
+use Rattle.reg_policy_lists.proofs.Words.{◌∙◌, ap, string_bytes, find, collides, ◌&&◌, bytes_eq}
 use Rattle.reg_policy_lists.proofs.PublicationViews.{archive_view}
 use Rattle.reg_policy_lists.proofs.publications.Publications.archive.Goals as goal
 

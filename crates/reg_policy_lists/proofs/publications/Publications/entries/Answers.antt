@@ -1,11 +1,6 @@
-use Rattle.std.proofs.Common.{◌≡◌, ◌∙◌, ap, subst, map}
+use Rattle.reg_policy_lists.proofs.Words.{◌≡◌, ◌∙◌, ap, subst, map, filter, collides, publication_of, versions_in, canon, entry_view}
+use Rattle.reg_policy_lists.proofs.Words.{marked_in}
 use Rattle.std.specs.Prelude.{IfOk}
-use Rattle.std.specs.List.{filter}
-use Rattle.reg_model.specs.Crates.{collides}
-use Rattle.reg_policy_lists.specs.Publications.{publication_of, versions_in}
-use Rattle.reg_names.specs.Names.{canon}
-use Rattle.reg_line.specs.File.{entry_view}
-use Rattle.reg_policy_lists.specs.Publications.{marked_in}
 use Rattle.reg_policy_lists.proofs.PublicationViews.{entries_view}
 use Rattle.reg_policy_lists.proofs.publications.Publications.entries.Goals as goal
 

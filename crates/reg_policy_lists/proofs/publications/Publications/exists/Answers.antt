@@ -1,7 +1,4 @@
-use Rattle.std.proofs.Common.{sym}
-use Rattle.reg_model.specs.Crates.{collides}
-use Rattle.reg_policy_lists.specs.Publications.{publication_of}
-use Rattle.reg_model.proofs.Lists.{list_any_map}
+use Rattle.reg_policy_lists.proofs.Words.{sym, collides, publication_of, list_any_map}
 use Rattle.reg_policy_lists.proofs.publications.Publications.exists.Goals as goal
 
 pub returns : goal.returns

@@ -1,6 +1,4 @@
-use Rattle.std.proofs.Common.{◌∙◌, ap}
-use Rattle.std.specs.List.{find}
-use Rattle.reg_model.specs.Crates.{collides}
+use Rattle.reg_policy_lists.proofs.Words.{◌∙◌, ap, find, collides}
 use Rattle.reg_policy_lists.proofs.PublicationViews.{first_view}
 use Rattle.reg_policy_lists.proofs.publications.Publications.first.Goals as goal
 

@@ -1,11 +1,5 @@
-use Rattle.std.proofs.Common.{List, refl, ap, ◌∙◌, map}
-use Rattle.std.specs.Prelude.{slice_get}
-use Rattle.std.specs.List.{filter}
-use Rattle.std.specs.Option.{option_map}
-use Rattle.reg_model.specs.Registry.{Text}
-use Rattle.reg_model.specs.Crates.{collides}
-use Rattle.reg_policy_lists.specs.declared.publications.Publication.{Publication}
-use Rattle.reg_policy_lists.specs.Publications.{publication_of, top_in}
+use Rattle.reg_policy_lists.proofs.Words.{List, refl, ap, ◌∙◌, map, slice_get, filter, option_map, Text, collides, Publication}
+use Rattle.reg_policy_lists.proofs.Words.{publication_of, top_in}
 use Rattle.reg_policy_lists.proofs.TopVersions.{no_top, read_of, top_found}
 use Rattle.reg_policy_lists.proofs.publications.Publications.top.Goals as goal
 

@@ -1,8 +1,5 @@
-use Rattle.std.proofs.Common.{◌≡◌, ◌∙◌, ap, subst, map}
-use Rattle.std.specs.Prelude.{IfOk, string_bytes}
-use Rattle.std.specs.List.{filter}
-use Rattle.reg_model.specs.Crates.{collides}
-use Rattle.reg_policy_lists.specs.Publications.{versions_in}
+use Rattle.reg_policy_lists.proofs.Words.{◌≡◌, ◌∙◌, ap, subst, map, string_bytes, filter, collides, versions_in}
+use Rattle.std.specs.Prelude.{IfOk}
 use Rattle.reg_policy_lists.proofs.PublicationViews.{versions_view}
 use Rattle.reg_policy_lists.proofs.publications.Publications.versions.Goals as goal
 

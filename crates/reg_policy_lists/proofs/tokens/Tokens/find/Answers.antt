@@ -1,5 +1,4 @@
-use Rattle.std.specs.Str.{bytes_eq}
-use Rattle.reg_policy_lists.specs.Tokens.{token_of}
+use Rattle.reg_policy_lists.proofs.Words.{bytes_eq, token_of}
 use Rattle.reg_policy_lists.proofs.Listed.{found_map}
 use Rattle.reg_policy_lists.proofs.tokens.Tokens.find.Goals as goal
 

@@ -1,5 +1,4 @@
-use Rattle.std.proofs.Common.{false, ap}
-use Rattle.reg_policy_lists.specs.Tokens.{token_of}
+use Rattle.reg_policy_lists.proofs.Words.{false, ap, token_of}
 use Rattle.reg_policy_lists.proofs.Listed.{changed_at, unchanged_at}
 use Rattle.reg_policy_lists.proofs.tokens.Tokens.revoke.Goals as goal
 use Rattle.reg_policy_lists.proofs.tokens.Tokens.revoke.Goals.{in-Some, in_default}

@@ -1,7 +1,4 @@
-use Rattle.std.proofs.Common.{sym}
-use Rattle.reg_model.specs.Registry.{Mark}
-use Rattle.reg_model.proofs.Keys.{mark_total, mark_apart}
-use Rattle.reg_policy_lists.specs.Sets.{mark_of}
+use Rattle.reg_policy_lists.proofs.Words.{sym, Mark, mark_total, mark_apart, mark_of}
 use Rattle.reg_policy_lists.proofs.SetViews.{has_view, mark_agrees}
 use Rattle.reg_policy_lists.proofs.yanked.Marks.contains.Goals as goal
 

@@ -1,9 +1,6 @@
-use Rattle.std.proofs.Common.{◌∙◌, ap}
+use Rattle.reg_policy_lists.proofs.Words.{◌∙◌, ap, mark_cmp, mark_total, mark_apart, mark_of}
 use Rattle.std.specs.Prelude.{map}
 use Rattle.std.specs.FinSet as set
-use Rattle.reg_model.specs.Registry.{mark_cmp}
-use Rattle.reg_model.proofs.Keys.{mark_total, mark_apart}
-use Rattle.reg_policy_lists.specs.Sets.{mark_of}
 use Rattle.reg_policy_lists.proofs.SetViews.{push_view}
 use Rattle.reg_policy_lists.proofs.yanked.Marks.insert.Goals as goal
 

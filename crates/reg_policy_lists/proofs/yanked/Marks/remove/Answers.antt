@@ -1,11 +1,6 @@
-use Rattle.std.proofs.Common.{◌∙◌, ap, rules}
+use Rattle.reg_policy_lists.proofs.Words.{◌∙◌, ap, rules, filter_same, Mark, mark_cmp, mark_total, mark_apart, canon, mark_of}
 use Rattle.std.specs.Prelude.{map}
-use Rattle.std.proofs.lemmas.Fn.{filter_same}
 use Rattle.std.specs.FinSet as set
-use Rattle.reg_model.specs.Registry.{Mark, mark_cmp}
-use Rattle.reg_model.proofs.Keys.{mark_total, mark_apart}
-use Rattle.reg_names.specs.Names.{canon}
-use Rattle.reg_policy_lists.specs.Sets.{mark_of}
 use Rattle.reg_policy_lists.proofs.SetViews.{remove_view, mark_agrees}
 use Rattle.reg_policy_lists.proofs.yanked.Marks.remove.Goals as goal
 

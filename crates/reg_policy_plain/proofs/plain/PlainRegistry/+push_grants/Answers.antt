@@ -1,9 +1,5 @@
-use Rattle.std.proofs.Common.{◌+◌, ◌++◌, map, sym, ap, ◌∙◌, append_assoc}
-use Rattle.std.specs.List.{enumerate_from, flat_map}
-use Rattle.std.specs.String.{string_bytes}
-use Rattle.reg_model.specs.Registry.{Text, Registry}
-use Rattle.reg_policy_plain.specs.Plain.{grant_lines, registry_of}
-use Rattle.reg_policy_lists.specs.Tokens.{token_of}
+use Rattle.reg_policy_plain.proofs.Words.{◌+◌, ◌++◌, map, sym, ap, ◌∙◌, append_assoc, enumerate_from, flat_map, string_bytes, Text}
+use Rattle.reg_policy_plain.proofs.Words.{Registry, grant_lines, registry_of, token_of}
 use Rattle.reg_policy_plain.proofs.ReportTexts.{on_ok}
 use Rattle.reg_policy_plain.proofs.plain.PlainRegistry.+push_grants.Goals as goal
 

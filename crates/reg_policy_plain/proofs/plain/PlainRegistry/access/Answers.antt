@@ -1,13 +1,7 @@
-use Rattle.std.proofs.Common.{refl, sym, ap, ◌∙◌}
-use Rattle.std.specs.Prelude.{not}
-use Rattle.reg_names.specs.Names.{is_name}
-use Rattle.reg_model.specs.declared.rule.AdminRefusal.TheVariants.{G4}
-use Rattle.reg_model.specs.Registry.{Registry}
-use Rattle.reg_model.specs.Events.Answer.{Report}
+use Rattle.reg_policy_plain.proofs.Words.{refl, sym, ap, ◌∙◌, not, is_name, G4, Registry, Report, limits_of, registry_of}
 use Rattle.reg_model.specs.Events.Command.{Access}
 use Rattle.reg_model.specs.Effects.{commanded}
 use Rattle.reg_model.specs.Reports.{access_text}
-use Rattle.reg_policy_plain.specs.Plain.{limits_of, registry_of}
 use Rattle.reg_policy_plain.proofs.Joined.{read_none, read_some, refused_step}
 use Rattle.reg_policy_plain.proofs.ReportTexts.{told_step}
 use Rattle.reg_policy_plain.proofs.plain.PlainRegistry.access.Goals as goal

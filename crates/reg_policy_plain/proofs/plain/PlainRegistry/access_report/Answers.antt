@@ -1,10 +1,7 @@
-use Rattle.std.proofs.Common.{List, ◌++◌, map, sym, ap, ◌∙◌}
-use Rattle.std.specs.List.{enumerate_from, flat_map}
+use Rattle.reg_policy_plain.proofs.Words.{List, ◌++◌, map, sym, ap, ◌∙◌, enumerate_from, flat_map, Text, Token, Registry, reader_line}
+use Rattle.reg_policy_plain.proofs.Words.{grant_lines, registry_of, token_of}
 use Rattle.reg_model.specs.Grants.{who_reads}
-use Rattle.reg_model.specs.Registry.{Text, Token, Registry}
-use Rattle.reg_model.specs.Reports.{access_text, reader_line}
-use Rattle.reg_policy_plain.specs.Plain.{grant_lines, registry_of}
-use Rattle.reg_policy_lists.specs.Tokens.{token_of}
+use Rattle.reg_model.specs.Reports.{access_text}
 use Rattle.reg_policy_plain.proofs.ReportTexts.{grants_told}
 use Rattle.reg_policy_plain.proofs.plain.PlainRegistry.access_report.Goals as goal
 

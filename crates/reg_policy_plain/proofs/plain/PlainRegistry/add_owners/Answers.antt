@@ -1,9 +1,6 @@
-use Rattle.std.proofs.Common.{refl, sym, ◌∙◌}
+use Rattle.reg_policy_plain.proofs.Words.{refl, sym, ◌∙◌, is_name, Registry, owners_of, registry_of}
 use Rattle.std.specs.FinSet as finset
-use Rattle.reg_names.specs.Names.{is_name}
-use Rattle.reg_model.specs.Registry.{Registry}
-use Rattle.reg_model.specs.Effects.{done, owners_of}
-use Rattle.reg_policy_plain.specs.Plain.{registry_of}
+use Rattle.reg_model.specs.Effects.{done}
 use Rattle.reg_policy_plain.proofs.Joined.{read_some}
 use Rattle.reg_policy_plain.proofs.plain.PlainRegistry.add_owners.Goals as goal
 

@@ -1,10 +1,4 @@
-use Rattle.std.proofs.Common.{refl, sym, ◌∙◌, ap}
-use Rattle.std.specs.Option.{option_map}
-use Rattle.reg_body.specs.declared.limits.Limits.{Limits}
-use Rattle.reg_model.specs.Registry.{Registry}
-use Rattle.reg_model.specs.Refusals.{judged}
-use Rattle.reg_policy.specs.Events.{asked_of}
-use Rattle.reg_policy_plain.specs.Plain.{limits_of, registry_of}
+use Rattle.reg_policy_plain.proofs.Words.{refl, sym, ◌∙◌, ap, option_map, Limits, Registry, judged, asked_of, limits_of, registry_of}
 use Rattle.reg_policy_plain.proofs.Joined.{no_room_step, no_token_step, with_token, denied_step, allowed_step, none_of, some_of}
 use Rattle.reg_policy_plain.proofs.plain.PlainRegistry.ask.Goals as goal
 

@@ -1,10 +1,7 @@
-use Rattle.std.proofs.Common.{refl, ◌∙◌, ap}
+use Rattle.reg_policy_plain.proofs.Words.{refl, ◌∙◌, ap, canon, Registry, limits_of, registry_of}
 use Rattle.std.specs.FinSet as finset
-use Rattle.reg_names.specs.Names.{canon}
-use Rattle.reg_model.specs.Registry.{Registry}
 use Rattle.reg_model.specs.Events.Command.{CrateRestrict}
 use Rattle.reg_model.specs.Effects.{commanded}
-use Rattle.reg_policy_plain.specs.Plain.{limits_of, registry_of}
 use Rattle.reg_policy_plain.proofs.Joined.{done_step, crate_there, no_crate_step}
 use Rattle.reg_policy_plain.proofs.plain.PlainRegistry.crate_restrict.Goals as goal
 

@@ -1,7 +1,4 @@
-use Rattle.std.proofs.Common.{◌++◌, ap, ◌∙◌}
-use Rattle.std.specs.List.{flat_map}
-use Rattle.reg_model.specs.Registry.{Registry}
-use Rattle.reg_policy_plain.specs.Plain.{line_at, registry_of}
+use Rattle.reg_policy_plain.proofs.Words.{◌++◌, ap, ◌∙◌, flat_map, Registry, line_at, registry_of}
 use Rattle.reg_policy_plain.proofs.ReportTexts.{crates_told}
 use Rattle.reg_policy_plain.proofs.plain.PlainRegistry.crates_report.Goals as goal
 

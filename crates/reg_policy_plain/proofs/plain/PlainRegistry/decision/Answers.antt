@@ -1,11 +1,8 @@
-use Rattle.std.proofs.Common.{◌∙◌, ap, refl}
+use Rattle.reg_policy_plain.proofs.Words.{◌∙◌, ap, refl, option_map, Registry, holds, versions, lists, spelling, registry_of}
 use Rattle.std.specs.Prelude.{map}
-use Rattle.std.specs.Option.{option_map}
-use Rattle.reg_model.specs.Registry.{Registry, holds, is_enabled, is_known}
-use Rattle.reg_model.specs.Crates.{is_reserved, is_restricted, owners, readers, versions}
-use Rattle.reg_model.specs.Facts.{lists, spelling}
+use Rattle.reg_model.specs.Registry.{is_enabled, is_known}
+use Rattle.reg_model.specs.Crates.{is_reserved, is_restricted, owners, readers}
 use Rattle.reg_policy.specs.Rows.{id_and_login, row_view}
-use Rattle.reg_policy_plain.specs.Plain.{registry_of}
 use Rattle.reg_policy.specs.Rows.{patterns_held, row_of}
 use Rattle.reg_policy_plain.proofs.plain.PlainRegistry.decision.Goals as goal
 

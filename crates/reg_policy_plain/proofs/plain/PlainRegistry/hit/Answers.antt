@@ -1,9 +1,5 @@
-use Rattle.std.proofs.Common.{[], None, sym, ap, ◌∙◌}
-use Rattle.std.specs.Prelude.{unwrap_or}
-use Rattle.std.specs.Option.{option_map}
+use Rattle.reg_policy_plain.proofs.Words.{[], None, sym, ap, ◌∙◌, unwrap_or, option_map, publication_of, mapped}
 use Rattle.reg_model.specs.Search.{top}
-use Rattle.reg_policy_lists.specs.Publications.{publication_of}
-use Rattle.reg_policy_lists.proofs.TopVersions.{mapped}
 use Rattle.reg_policy_plain.proofs.plain.PlainRegistry.hit.Goals as goal
 
 pub returns : goal.returns

@@ -1,6 +1,4 @@
-use Rattle.std.proofs.Common.{◌≡◌, map, take}
-use Rattle.reg_model.specs.Search.{hit}
-use Rattle.reg_policy_plain.specs.Plain.{registry_of}
+use Rattle.reg_policy_plain.proofs.Words.{◌≡◌, map, take, hit, registry_of}
 use Rattle.reg_policy_plain.specs.Search.{hit_of}
 use Rattle.reg_policy_plain.proofs.plain.PlainRegistry.hits.Given as goal
 

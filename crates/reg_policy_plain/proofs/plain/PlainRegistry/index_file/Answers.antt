@@ -1,10 +1,8 @@
-use Rattle.std.proofs.Common.{[], sym, ◌∙◌, ap}
-use Rattle.std.specs.Prelude.{map, unwrap_or}
+use Rattle.reg_policy_plain.proofs.Words.{[], sym, ◌∙◌, ap, unwrap_or, Registry, registry_of}
+use Rattle.std.specs.Prelude.{map}
 use Rattle.reg_line.specs.File.{entry_view, file_text}
-use Rattle.reg_model.specs.Registry.{Registry}
 use Rattle.reg_model.specs.Crates.{file}
 use Rattle.reg_model.specs.Events.Answer.{File}
-use Rattle.reg_policy_plain.specs.Plain.{registry_of}
 use Rattle.reg_policy_plain.proofs.plain.PlainRegistry.index_file.Goals as goal
 
 pub returns : goal.returns

@@ -1,10 +1,5 @@
-use Rattle.std.proofs.Common.{◌≡◌, Bool, true, false, cond, refl, sym, ◌∙◌, ap}
-use Rattle.std.specs.Prelude.{◌&&◌, Ok, Err}
-use Rattle.reg_names.specs.Names.{is_name}
-use Rattle.reg_model.specs.declared.rule.AdminRefusal.TheVariants.{G8}
-use Rattle.reg_model.specs.Registry.{Text, Registry}
-use Rattle.reg_model.specs.Crates.{exists}
-use Rattle.reg_policy_plain.specs.Plain.{registry_of}
+use Rattle.reg_policy_plain.proofs.Words.{◌≡◌, Bool, true, false, cond, refl, sym, ◌∙◌, ap, ◌&&◌, Ok, Err, is_name, G8, Text, Registry}
+use Rattle.reg_policy_plain.proofs.Words.{exists, registry_of}
 use Rattle.reg_policy_plain.proofs.Joined.{read_none, read_some}
 use Rattle.reg_policy_plain.proofs.plain.PlainRegistry.known_crate.Goals as goal
 

@@ -1,14 +1,8 @@
-use Rattle.std.proofs.Common.{◌≡◌, ℕ, ◌+◌, ◌<◌, List, [], ◌∷◌, ◌++◌, Bool, true, false, cond, length, map, take, get_or, sym, ◌∙◌, ap, arith}
-use Rattle.std.specs.Borrow.{Bor}
-use Rattle.std.specs.Prelude.{◌&&◌}
-use Rattle.std.specs.List.{filter}
+use Rattle.reg_policy_plain.proofs.Words.{◌≡◌, ℕ, ◌+◌, List, [], ◌∷◌, ◌++◌, Bool, true, false, cond, length, map, take, sym, ◌∙◌, ap, arith}
+use Rattle.reg_policy_plain.proofs.Words.{Bor, ◌&&◌, filter, canon, Text, sees, occurs, registry_of}
+use Rattle.std.proofs.Common.{◌<◌, get_or}
 use Rattle.std.proofs.lemmas.List.{append-nil, map-append, take_more}
 use Rattle.std.proofs.lemmas.List.Elements.{filter-append}
-use Rattle.reg_names.specs.Names.{canon}
-use Rattle.reg_model.specs.Registry.{Text}
-use Rattle.reg_model.specs.Crates.{sees}
-use Rattle.reg_model.specs.Search.{occurs}
-use Rattle.reg_policy_plain.specs.Plain.{registry_of}
 use Rattle.reg_policy_plain.proofs.plain.PlainRegistry.matches.Goals as goal
 use Rattle.reg_policy_plain.proofs.plain.PlainRegistry.matches.Goals.{then-is_match+in_ok-push, else-is_match}
 

@@ -1,10 +1,4 @@
-use Rattle.std.proofs.Common.{◌≡◌, map, take}
-use Rattle.std.specs.Prelude.{◌&&◌}
-use Rattle.std.specs.List.{filter}
-use Rattle.reg_names.specs.Names.{canon}
-use Rattle.reg_model.specs.Crates.{sees}
-use Rattle.reg_model.specs.Search.{occurs}
-use Rattle.reg_policy_plain.specs.Plain.{registry_of}
+use Rattle.reg_policy_plain.proofs.Words.{◌≡◌, map, take, ◌&&◌, filter, canon, sees, occurs, registry_of}
 use Rattle.reg_policy_plain.proofs.plain.PlainRegistry.matches.Given as goal
 
 -- the matches so far

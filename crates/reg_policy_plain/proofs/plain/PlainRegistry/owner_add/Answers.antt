@@ -1,10 +1,8 @@
-use Rattle.std.proofs.Common.{[], refl, sym, ◌∙◌, ap}
-use Rattle.std.specs.Prelude.{is_none}
+use Rattle.reg_policy_plain.proofs.Words.{[], refl, sym, ◌∙◌, ap, is_none, Registry, id_of_login, owners_of, crate_found, limits_of}
+use Rattle.reg_policy_plain.proofs.Words.{login_found, registry_of}
 use Rattle.std.specs.FinSet as finset
-use Rattle.reg_model.specs.Registry.{Registry, id_of_login}
 use Rattle.reg_model.specs.Events.Command.{OwnerAdd}
-use Rattle.reg_model.specs.Effects.{commanded, owners_of}
-use Rattle.reg_policy_plain.specs.Plain.{crate_found, limits_of, login_found, registry_of}
+use Rattle.reg_model.specs.Effects.{commanded}
 use Rattle.reg_policy_plain.proofs.Joined.{done_step, crate_there, login_there, ids_of_one, no_pair_step, both_there}
 use Rattle.reg_policy_plain.proofs.plain.PlainRegistry.owner_add.Goals as goal
 

@@ -1,10 +1,6 @@
-use Rattle.std.proofs.Common.{[], ◌∷◌, ◌++◌, rules, sym, ◌∙◌, ap}
+use Rattle.reg_policy_plain.proofs.Words.{[], ◌∷◌, ◌++◌, rules, sym, ◌∙◌, ap, canon, Registry, Publication, account_of, registry_of}
 use Rattle.std.specs.FinSet as finset
-use Rattle.reg_names.specs.Names.{canon}
-use Rattle.reg_model.specs.Registry.{Registry, Publication}
-use Rattle.reg_model.specs.Effects.{account_of}
 use Rattle.reg_policy.specs.Events.{publication_of as new_publication}
-use Rattle.reg_policy_plain.specs.Plain.{registry_of}
 use Rattle.reg_policy_plain.proofs.Joined.{published_known, published_new}
 use Rattle.reg_policy_plain.proofs.plain.PlainRegistry.publish.Goals as goal
 use Rattle.reg_policy_plain.proofs.plain.PlainRegistry.publish.Goals.{then-exists+in_ok-add, else-exists+in_ok-add_first}

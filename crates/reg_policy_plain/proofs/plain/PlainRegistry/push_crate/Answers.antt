@@ -1,13 +1,7 @@
-use Rattle.std.proofs.Common.{◌++◌, length, [], sym, ap, ◌∙◌}
-use Rattle.std.specs.Prelude.{unwrap_or}
-use Rattle.std.specs.String.{string_bytes}
-use Rattle.std.proofs.lemmas.List.{length-map}
-use Rattle.reg_model.specs.Reports.{crate_line}
+use Rattle.reg_policy_plain.proofs.Words.{◌++◌, length, [], sym, ap, ◌∙◌, unwrap_or, string_bytes, length-map, crate_line, option_map}
+use Rattle.reg_policy_plain.proofs.Words.{publication_of, mapped}
 use Rattle.reg_model.specs.Search.{top}
 use Rattle.reg_policy_plain.proofs.ReportTexts.{on_ok}
-use Rattle.std.specs.Option.{option_map}
-use Rattle.reg_policy_lists.specs.Publications.{publication_of}
-use Rattle.reg_policy_lists.proofs.TopVersions.{mapped}
 use Rattle.reg_policy_plain.proofs.plain.PlainRegistry.push_crate.Goals as goal
 
 pub returns : goal.returns

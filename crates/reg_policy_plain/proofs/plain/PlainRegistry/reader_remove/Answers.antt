@@ -1,11 +1,8 @@
-use Rattle.std.proofs.Common.{[], refl, sym, ◌∙◌, ap}
-use Rattle.std.specs.Prelude.{is_none, unwrap_or}
+use Rattle.reg_policy_plain.proofs.Words.{[], refl, sym, ◌∙◌, ap, is_none, unwrap_or, canon, Registry, id_of_login, crate_found, limits_of}
+use Rattle.reg_policy_plain.proofs.Words.{login_found, registry_of}
 use Rattle.std.specs.FinSet as finset
-use Rattle.reg_names.specs.Names.{canon}
-use Rattle.reg_model.specs.Registry.{Registry, id_of_login}
 use Rattle.reg_model.specs.Events.Command.{ReaderRemove}
 use Rattle.reg_model.specs.Effects.{commanded}
-use Rattle.reg_policy_plain.specs.Plain.{crate_found, limits_of, login_found, registry_of}
 use Rattle.reg_policy_plain.proofs.Joined.{done_step, crate_there, login_there, no_pair_step, both_there}
 use Rattle.reg_policy_plain.proofs.plain.PlainRegistry.reader_remove.Goals as goal
 

@@ -1,11 +1,4 @@
-use Rattle.std.proofs.Common.{ℕ, Option, map, take, sym, ap, ◌∙◌}
-use Rattle.std.specs.Prelude.{◌&&◌}
-use Rattle.std.specs.List.{filter}
-use Rattle.reg_names.specs.Names.{canon}
-use Rattle.reg_model.specs.Crates.{sees}
-use Rattle.reg_model.specs.Registry.{Registry}
-use Rattle.reg_model.specs.Search.{hit, occurs}
-use Rattle.reg_policy_plain.specs.Plain.{registry_of}
+use Rattle.reg_policy_plain.proofs.Words.{ℕ, Option, map, take, sym, ap, ◌∙◌, ◌&&◌, filter, canon, sees, Registry, hit, occurs, registry_of}
 use Rattle.reg_policy_plain.proofs.Searches.{found_told}
 use Rattle.reg_policy_plain.proofs.plain.PlainRegistry.search.Goals as goal
 

@@ -1,14 +1,9 @@
-use Rattle.std.proofs.Common.{Option, sym, ◌∙◌, ap}
+use Rattle.reg_policy_plain.proofs.Words.{Option, sym, ◌∙◌, ap, Limits, Rule, Text, Registry, judged, account_of, asked_of, limits_of}
+use Rattle.reg_policy_plain.proofs.Words.{registry_of}
 use Rattle.std.specs.Prelude.{map}
-use Rattle.reg_body.specs.declared.limits.Limits.{Limits}
-use Rattle.reg_model.specs.declared.rule.Rule.{Rule}
-use Rattle.reg_model.specs.Registry.{Text, Registry}
-use Rattle.reg_model.specs.Refusals.{judged}
-use Rattle.reg_model.specs.Effects.{account_of, done}
+use Rattle.reg_model.specs.Effects.{done}
 use Rattle.reg_model.specs.Events.{action_of as action_asked}
 use Rattle.reg_policy.specs.declared.event.Asked.{Asked}
-use Rattle.reg_policy.specs.Events.{asked_of}
-use Rattle.reg_policy_plain.specs.Plain.{limits_of, registry_of}
 use Rattle.reg_policy_plain.proofs.Allowed.{index_named, download_named, download_there, list_named, yank_named, unyank_named, add_named, remove_named}
 use Rattle.reg_policy_plain.proofs.Joined.{if_ok}
 use Rattle.reg_policy_plain.proofs.plain.PlainRegistry.serve.Goals as goal

@@ -1,16 +1,13 @@
-use Rattle.std.proofs.Common.{[], ◌∷◌, ◌++◌, List, length, true, refl, sym, ◌∙◌, ap}
-use Rattle.std.specs.Prelude.{not, is_none, is_some, map, nat_le, nat_lt, ◌||◌, unwrap_or}
+use Rattle.reg_policy_plain.proofs.Words.{[], ◌∷◌, ◌++◌, List, length, true, refl, sym, ◌∙◌, ap, not, is_none, is_some, nat_le, ◌||◌}
+use Rattle.reg_policy_plain.proofs.Words.{unwrap_or, option_map, G3, G4, G7, Text, Registry, id_of_login, token_of, limits_of, registry_of}
+use Rattle.std.specs.Prelude.{map, nat_lt}
 use Rattle.std.specs.List.{list_all}
-use Rattle.std.specs.Option.{option_map}
 use Rattle.reg_names.specs.Patterns.{is_pattern}
-use Rattle.reg_model.specs.declared.rule.AdminRefusal.TheVariants.{G3, G4, G5, G7, G9}
-use Rattle.reg_model.specs.Registry.{Text, Registry, id_of_login}
+use Rattle.reg_model.specs.declared.rule.AdminRefusal.TheVariants.{G5, G9}
 use Rattle.reg_model.specs.Refusals.{patterns_given}
 use Rattle.reg_model.specs.Events.Answer.{Id}
 use Rattle.reg_model.specs.Events.Command.{TokenAdd}
 use Rattle.reg_model.specs.Effects.{commanded}
-use Rattle.reg_policy_lists.specs.Tokens.{token_of}
-use Rattle.reg_policy_plain.specs.Plain.{limits_of, registry_of}
 use Rattle.reg_policy_plain.proofs.Joined.{refused_step, done_step, login_there, no_login_there, read_none, read_some, is_some_mapped, told}
 use Rattle.reg_policy_plain.proofs.plain.PlainRegistry.token_add.Goals as goal
 

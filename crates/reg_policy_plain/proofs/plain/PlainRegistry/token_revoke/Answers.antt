@@ -1,9 +1,8 @@
-use Rattle.std.proofs.Common.{refl, sym, ◌∙◌}
+use Rattle.reg_policy_plain.proofs.Words.{refl, sym, ◌∙◌, Registry, limits_of, registry_of}
 use Rattle.reg_model.specs.declared.rule.AdminRefusal.TheVariants.{G6}
-use Rattle.reg_model.specs.Registry.{Registry, with_id}
+use Rattle.reg_model.specs.Registry.{with_id}
 use Rattle.reg_model.specs.Events.Command.{TokenRevoke}
 use Rattle.reg_model.specs.Effects.{commanded}
-use Rattle.reg_policy_plain.specs.Plain.{limits_of, registry_of}
 use Rattle.reg_policy_plain.proofs.Joined.{refused_step, done_step, none_of_not_some}
 use Rattle.reg_policy_plain.proofs.plain.PlainRegistry.token_revoke.Goals as goal
 

@@ -1,9 +1,5 @@
-use Rattle.std.proofs.Common.{List, map, ◌++◌, ap, ◌∙◌}
-use Rattle.std.specs.List.{enumerate_from, flat_map}
-use Rattle.reg_model.specs.Registry.{Text, Token}
+use Rattle.reg_policy_plain.proofs.Words.{List, map, ◌++◌, ap, ◌∙◌, enumerate_from, flat_map, Text, Token, registry_of, token_of}
 use Rattle.reg_model.specs.Reports.{login_of, token_line, tokens_text}
-use Rattle.reg_policy_plain.specs.Plain.{registry_of}
-use Rattle.reg_policy_lists.specs.Tokens.{token_of}
 use Rattle.reg_policy_plain.proofs.plain.PlainRegistry.tokens_report.Goals as goal
 
 pub returns : goal.returns

@@ -1,12 +1,7 @@
-use Rattle.std.proofs.Common.{refl, sym, ◌∙◌, ap}
-use Rattle.std.specs.Prelude.{not}
+use Rattle.reg_policy_plain.proofs.Words.{refl, sym, ◌∙◌, ap, not, is_name, canon, G4, Registry, limits_of, registry_of}
 use Rattle.std.specs.FinSet as finset
-use Rattle.reg_names.specs.Names.{is_name, canon}
-use Rattle.reg_model.specs.declared.rule.AdminRefusal.TheVariants.{G4}
-use Rattle.reg_model.specs.Registry.{Registry}
 use Rattle.reg_model.specs.Events.Command.{Unreserve}
 use Rattle.reg_model.specs.Effects.{commanded}
-use Rattle.reg_policy_plain.specs.Plain.{limits_of, registry_of}
 use Rattle.reg_policy_plain.proofs.Joined.{refused_step, done_step, read_none, read_some}
 use Rattle.reg_policy_plain.proofs.plain.PlainRegistry.unreserve.Goals as goal
 

@@ -1,9 +1,6 @@
-use Rattle.std.proofs.Common.{refl, sym, ◌∙◌, ap}
+use Rattle.reg_policy_plain.proofs.Words.{refl, sym, ◌∙◌, ap, is_name, canon, Registry, registry_of}
 use Rattle.std.specs.FinSet as finset
-use Rattle.reg_names.specs.Names.{is_name, canon}
-use Rattle.reg_model.specs.Registry.{Registry}
 use Rattle.reg_model.specs.Effects.{done}
-use Rattle.reg_policy_plain.specs.Plain.{registry_of}
 use Rattle.reg_policy_plain.proofs.Joined.{read_some}
 use Rattle.reg_policy_plain.proofs.plain.PlainRegistry.unyank.Goals as goal
 

@@ -1,14 +1,11 @@
-use Rattle.std.proofs.Common.{◌≡◌, [], ◌∷◌, ◌++◌, true, Option, refl, sym, ◌∙◌, ap, arith}
-use Rattle.std.specs.Prelude.{◌&&◌, not, is_some}
-use Rattle.std.specs.Option.{option_map}
+use Rattle.reg_policy_plain.proofs.Words.{◌≡◌, [], ◌∷◌, ◌++◌, true, Option, refl, sym, ◌∙◌, ap, arith, ◌&&◌, not, is_some, option_map, G7}
+use Rattle.reg_policy_plain.proofs.Words.{Text, Registry, id_of_login, limits_of, registry_of}
 use Rattle.std.proofs.lemmas.Bool.{le-leb}
 use Rattle.reg_names.specs.Logins.{is_login}
-use Rattle.reg_model.specs.declared.rule.AdminRefusal.TheVariants.{G1, G2, G7}
-use Rattle.reg_model.specs.Registry.{Text, Registry, id_of_login}
+use Rattle.reg_model.specs.declared.rule.AdminRefusal.TheVariants.{G1, G2}
 use Rattle.reg_model.specs.Refusals.{may_name}
 use Rattle.reg_model.specs.Events.Command.{UserAdd}
 use Rattle.reg_model.specs.Effects.{commanded}
-use Rattle.reg_policy_plain.specs.Plain.{limits_of, registry_of}
 use Rattle.reg_policy_plain.proofs.Joined.{refused_step, done_step, read_none, read_some, is_more}
 use Rattle.reg_policy_plain.proofs.plain.PlainRegistry.user_add.Goals as goal
 

@@ -1,10 +1,6 @@
-use Rattle.std.proofs.Common.{true, refl, ap}
-use Rattle.std.specs.Prelude.{is_none}
-use Rattle.reg_model.specs.declared.rule.AdminRefusal.TheVariants.{G3}
-use Rattle.reg_model.specs.Registry.{Registry, id_of_login}
+use Rattle.reg_policy_plain.proofs.Words.{true, refl, ap, is_none, G3, Registry, id_of_login, limits_of, registry_of}
 use Rattle.reg_model.specs.Events.Command.{UserEnable}
 use Rattle.reg_model.specs.Effects.{commanded}
-use Rattle.reg_policy_plain.specs.Plain.{limits_of, registry_of}
 use Rattle.reg_policy_plain.proofs.Joined.{refused_step, done_step, enabled_at, login_there, no_login_there, told}
 use Rattle.reg_policy_plain.proofs.plain.PlainRegistry.user_enable.Goals as goal
 

@@ -1,9 +1,7 @@
-use Rattle.std.proofs.Common.{refl}
-use Rattle.reg_model.specs.Registry.{Registry}
+use Rattle.reg_policy_plain.proofs.Words.{refl, Registry, limits_of, registry_of}
 use Rattle.reg_model.specs.Events.Command.{Users}
 use Rattle.reg_model.specs.Effects.{commanded}
 use Rattle.reg_model.specs.Reports.{users_text}
-use Rattle.reg_policy_plain.specs.Plain.{limits_of, registry_of}
 use Rattle.reg_policy_plain.proofs.ReportTexts.{told_step}
 use Rattle.reg_policy_plain.proofs.plain.PlainRegistry.users.Goals as goal
 

@@ -1,5 +1,4 @@
-use Rattle.std.proofs.Common.{map, ap, ◌∙◌, ◌++◌}
-use Rattle.std.specs.List.{enumerate_from, flat_map}
+use Rattle.reg_policy_plain.proofs.Words.{map, ap, ◌∙◌, ◌++◌, enumerate_from, flat_map}
 use Rattle.reg_model.specs.Reports.{user_line, users_text}
 use Rattle.reg_policy_lists.specs.Accounts.{account_of}
 use Rattle.reg_policy_plain.proofs.plain.PlainRegistry.users_report.Goals as goal

@@ -1,8 +1,5 @@
-use Rattle.std.proofs.Common.{subst}
-use Rattle.reg_api_requests.specs.Requests.{request_of}
+use Rattle.reg_service.proofs.Words.{subst, request_of, IsActed, limits_of, tables_of}
 use Rattle.reg_api_requests.specs.Views.{Request}
-use Rattle.reg_service.specs.Acted.{IsActed}
-use Rattle.reg_service.specs.Registries.{limits_of, tables_of}
 use Rattle.reg_service.proofs.Replied.{no_memory}
 use Rattle.reg_service.proofs.Traced.{untold}
 use Rattle.reg_service.proofs.registry.Registry.act.Goals as goal

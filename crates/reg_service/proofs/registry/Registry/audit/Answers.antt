@@ -1,16 +1,8 @@
-use Rattle.std.proofs.Common.{◌≡◌, Option, rules, subst}
-use Rattle.sqlite.specs.Effect.{Database}
-use Rattle.sqlite.specs.Tree.{Trees}
+use Rattle.reg_service.proofs.Words.{◌≡◌, Option, rules, subst, Database, Trees, Check, Edition, First, Second, if_ok, AreBegun, edition_in}
+use Rattle.reg_service.proofs.Words.{shown, tables_of}
 use Rattle.reg_audit.specs.Checks.{IsFirst}
-use Rattle.reg_audit.specs.declared.check.Check.{Check}
-use Rattle.reg_tables_schema.specs.declared.edition.Edition.{Edition}
-use Rattle.reg_tables_schema.specs.declared.edition.Edition.TheVariants.{First, Second}
 use Rattle.reg_tables_rows.specs.declared.all_rows.AllRows.{AllRows}
 use Rattle.reg_tables_rows.specs.WholeRows.{AreAllRows}
-use Rattle.reg_tables_meaning.proofs.Results.{if_ok}
-use Rattle.reg_tables_meaning.specs.Upgrades.{AreBegun}
-use Rattle.reg_tables.specs.Works.{edition_in, shown}
-use Rattle.reg_service.specs.Registries.{tables_of}
 use Rattle.reg_service.proofs.registry.Registry.audit.Goals as goal
 
 -- tables of schema 2 are checked as they are

@@ -1,13 +1,6 @@
-use Rattle.std.proofs.Common.{sym, ap, subst, refl, ◌∙◌}
-use Rattle.std.proofs.lemmas.Bool.{false≢true}
-use Rattle.sqlite.specs.Effect.{Database}
-use Rattle.sqlite.specs.State.{HasCleanDisk}
-use Rattle.sqlite.specs.Tree.{Trees}
+use Rattle.reg_service.proofs.Words.{sym, ap, subst, refl, ◌∙◌, false≢true, Database, HasCleanDisk, Trees, Stands, shown, Shows, BadBase}
+use Rattle.reg_service.proofs.Words.{Damaged, Storage, UnknownSchema}
 use Rattle.reg_model.specs.Registry.{empty_at}
-use Rattle.reg_tables_meaning.specs.Stands.{Stands}
-use Rattle.reg_tables.specs.Works.{shown}
-use Rattle.reg_service.specs.Answered.{Shows}
-use Rattle.reg_service.specs.declared.opening.OpenFault.TheVariants.{BadBase, Damaged, Storage, UnknownSchema}
 use Rattle.reg_service.proofs.Faults.{apart, not_unknown}
 use Rattle.reg_service.proofs.Opened.{itself_last}
 use Rattle.reg_service.proofs.registry.Registry.create.Goals as goal

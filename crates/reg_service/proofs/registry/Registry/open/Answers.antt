@@ -1,9 +1,4 @@
-use Rattle.std.proofs.Common.{refl, ◌∙◌}
-use Rattle.sqlite.specs.Held.{state}
-use Rattle.sqlite.proofs.StateLemmas.{survives_weaker}
-use Rattle.reg_tables_meaning.proofs.Results.{if_ok}
-use Rattle.reg_service.specs.Registries.{MayBeUpgraded}
-use Rattle.reg_service.specs.declared.opening.OpenFault.TheVariants.{BadBase, Damaged, Storage, UnknownSchema}
+use Rattle.reg_service.proofs.Words.{refl, ◌∙◌, state, survives_weaker, if_ok, MayBeUpgraded, BadBase, Damaged, Storage, UnknownSchema}
 use Rattle.reg_service.proofs.Faults.{apart}
 use Rattle.reg_service.proofs.Opened.{handed_last, if_refused, is_taken, opened_left, opened_same, opened_sound, refused_damaged, refused_last, refused_left, refused_undone}
 use Rattle.reg_service.proofs.registry.Registry.open.Goals as goal

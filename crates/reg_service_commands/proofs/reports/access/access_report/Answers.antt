@@ -1,5 +1,4 @@
-use Rattle.std.specs.Prelude.{string_bytes}
-use Rattle.reg_access.proofs.Questions.{asks_both, asks_made}
+use Rattle.reg_service_commands.proofs.Words.{string_bytes, asks_both, asks_made}
 use Rattle.reg_service_commands.proofs.ReportTexts.{access_told}
 use Rattle.reg_service_commands.proofs.reports.access.access_report.Goals as goal
 

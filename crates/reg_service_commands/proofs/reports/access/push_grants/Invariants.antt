@@ -1,7 +1,4 @@
-use Rattle.std.proofs.Common.{◌≡◌, ◌++◌, take}
-use Rattle.std.specs.Prelude.{string_bytes}
-use Rattle.std.specs.List.{flat_map}
-use Rattle.reg_service_commands.specs.Reports.{line_of_grant}
+use Rattle.reg_service_commands.proofs.Words.{◌≡◌, ◌++◌, take, string_bytes, flat_map, line_of_grant}
 use Rattle.reg_service_commands.proofs.reports.access.push_grants.Given as goal
 
 -- the grants so far have their lines

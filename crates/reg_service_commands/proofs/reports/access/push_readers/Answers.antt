@@ -1,6 +1,4 @@
-use Rattle.std.proofs.Common.{arith}
-use Rattle.std.specs.Prelude.{string_bytes}
-use Rattle.reg_service_commands.specs.Reports.{line_of_reader}
+use Rattle.reg_service_commands.proofs.Words.{arith, string_bytes, line_of_reader}
 use Rattle.reg_service_commands.proofs.Behind.{next_line}
 use Rattle.reg_service_commands.proofs.reports.access.push_readers.Goals as goal
 

@@ -1,10 +1,4 @@
-use Rattle.std.proofs.Common.{Ok}
-use Rattle.std.specs.Prelude.{string_bytes}
-use Rattle.reg_tables_meaning.specs.Calls.{ListsVersions}
-use Rattle.reg_tables.specs.Works.{rows_seen}
-use Rattle.reg_tables.specs.declared.work.StoreFault.{StoreFault}
-use Rattle.reg_tables.specs.Calling.{Asks}
-use Rattle.reg_access.proofs.Questions.{asks_made}
+use Rattle.reg_service_commands.proofs.Words.{Ok, string_bytes, ListsVersions, rows_seen, StoreFault, Asks, asks_made}
 use Rattle.reg_service_commands.proofs.CratesAsked.{line_added}
 use Rattle.reg_service_commands.proofs.reports.crates.add_line.Goals as goal
 

@@ -1,9 +1,5 @@
-use Rattle.std.proofs.Common.{Err, subst, rules, arith}
-use Rattle.std.specs.Prelude.{string_bytes}
-use Rattle.std.proofs.lemmas.List.{take_all}
-use Rattle.reg_tables.specs.Works.{rows_seen}
-use Rattle.reg_access.proofs.Questions.{asks_after, asks_failed, asks_made}
-use Rattle.reg_service_commands.specs.ReportedCrates.{HasLines}
+use Rattle.reg_service_commands.proofs.Words.{Err, subst, rules, arith, string_bytes, take_all, rows_seen, asks_after, asks_failed}
+use Rattle.reg_service_commands.proofs.Words.{asks_made, HasLines}
 use Rattle.reg_service_commands.proofs.CratesAsked.{one_asked}
 use Rattle.reg_service_commands.proofs.reports.crates.lines_of.Goals as goal
 

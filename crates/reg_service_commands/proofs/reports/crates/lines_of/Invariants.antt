@@ -1,8 +1,4 @@
-use Rattle.std.proofs.Common.{Ok, take}
-use Rattle.std.specs.Prelude.{string_bytes}
-use Rattle.reg_tables.specs.declared.work.StoreFault.{StoreFault}
-use Rattle.reg_tables.specs.Calling.{Asks}
-use Rattle.reg_service_commands.specs.ReportedCrates.{HasLines}
+use Rattle.reg_service_commands.proofs.Words.{Ok, take, string_bytes, StoreFault, Asks, HasLines}
 use Rattle.reg_service_commands.proofs.reports.crates.lines_of.Given as goal
 
 -- the crates so far have their lines

@@ -1,5 +1,4 @@
-use Rattle.std.proofs.Common.{◌+◌, drop, subst, arith}
-use Rattle.std.specs.Prelude.{string_bytes}
+use Rattle.reg_service_commands.proofs.Words.{◌+◌, drop, subst, arith, string_bytes}
 use Rattle.std.proofs.lemmas.List.{drop_all}
 use Rattle.reg_service_commands.proofs.Behind.{front_of}
 use Rattle.reg_service_commands.proofs.TokenWalk.{Walked, ended, one_more}

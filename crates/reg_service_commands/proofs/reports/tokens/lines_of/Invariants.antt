@@ -1,7 +1,5 @@
-use Rattle.std.proofs.Common.{List, drop}
-use Rattle.std.specs.Prelude.{string_bytes}
+use Rattle.reg_service_commands.proofs.Words.{List, drop, string_bytes, AreTokens}
 use Rattle.reg_model.specs.Registry as model
-use Rattle.reg_service_commands.specs.ReportedTokens.{AreTokens}
 use Rattle.reg_service_commands.proofs.TokenWalk.{Walked}
 use Rattle.reg_service_commands.proofs.reports.tokens.lines_of.Given as goal
 

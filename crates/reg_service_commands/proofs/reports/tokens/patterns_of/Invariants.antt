@@ -1,5 +1,4 @@
-use Rattle.std.proofs.Common.{◌≡◌, map, take}
-use Rattle.reg_service_commands.specs.ReportedTokens.{pattern_of}
+use Rattle.reg_service_commands.proofs.Words.{◌≡◌, map, take, pattern_of}
 use Rattle.reg_service_commands.proofs.reports.tokens.patterns_of.Given as goal
 
 -- the scopes so far have their patterns

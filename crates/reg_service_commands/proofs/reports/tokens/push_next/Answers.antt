@@ -1,9 +1,6 @@
-use Rattle.std.proofs.Common.{◌==◌, ◌+◌, ◌++◌, map, sym, ap, subst, ◌∙◌, arith}
-use Rattle.std.specs.Prelude.{string_bytes}
+use Rattle.reg_service_commands.proofs.Words.{◌==◌, ◌+◌, ◌++◌, map, sym, ap, subst, ◌∙◌, arith, string_bytes, token_line, Scope, AreTokens}
+use Rattle.reg_service_commands.proofs.Words.{pattern_of, with_patterns}
 use Rattle.std.proofs.lemmas.List.Sums.{prefix_len-le-length}
-use Rattle.reg_model.specs.Reports.{token_line}
-use Rattle.reg_tables_sql.specs.declared.scopes.Scope.{Scope}
-use Rattle.reg_service_commands.specs.ReportedTokens.{AreTokens, pattern_of, with_patterns}
 use Rattle.reg_service_commands.proofs.TokenScopes.{next_token}
 use Rattle.reg_service_commands.proofs.reports.tokens.push_next.Goals as goal
 

@@ -1,8 +1,4 @@
-use Rattle.std.proofs.Common.{◌≡◌, take}
-use Rattle.std.specs.Prelude.{string_bytes}
-use Rattle.std.specs.List.{flat_map}
-use Rattle.reg_model.specs.Reports.{user_line}
-use Rattle.reg_tables_meaning.specs.Entries.{entry_of_account}
+use Rattle.reg_service_commands.proofs.Words.{◌≡◌, take, string_bytes, flat_map, user_line, entry_of_account}
 use Rattle.reg_service_commands.proofs.reports.users.lines_of.Given as goal
 
 -- the accounts so far have their lines

@@ -1,9 +1,4 @@
-use Rattle.std.proofs.Common.{Ok}
-use Rattle.std.specs.Prelude.{string_bytes}
-use Rattle.reg_tables_meaning.specs.Calls.{ListsAccounts}
-use Rattle.reg_tables.specs.declared.work.StoreFault.{StoreFault}
-use Rattle.reg_tables.specs.Calling.{Asks}
-use Rattle.reg_access.proofs.Questions.{asks_made}
+use Rattle.reg_service_commands.proofs.Words.{Ok, string_bytes, ListsAccounts, StoreFault, Asks, asks_made}
 use Rattle.reg_service_commands.proofs.ReportTexts.{users_told}
 use Rattle.reg_service_commands.proofs.reports.users.users_report.Goals as goal
 

@@ -1,5 +1,4 @@
-use Rattle.std.proofs.Common.{List, ◌∙◌, subst}
-use Rattle.reg_versions.specs.Precedence.{IsTop, Marked}
+use Rattle.reg_service_commands.proofs.Words.{List, ◌∙◌, subst, IsTop, Marked}
 use Rattle.reg_service_commands.proofs.Tops.{top_text}
 use Rattle.reg_service_commands.proofs.reports.versions.highest_of.Goals as goal
 

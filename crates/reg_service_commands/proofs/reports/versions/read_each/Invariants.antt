@@ -1,5 +1,4 @@
-use Rattle.std.proofs.Common.{◌≡◌, map, take}
-use Rattle.reg_service_commands.specs.ReportedCrates.{read_version}
+use Rattle.reg_service_commands.proofs.Words.{◌≡◌, map, take, read_version}
 use Rattle.reg_service_commands.proofs.reports.versions.read_each.Given as goal
 
 -- the versions so far are read
