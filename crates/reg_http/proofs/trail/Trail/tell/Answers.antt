@@ -1,4 +1,5 @@
 use Rattle.reg_http.proofs.Words.{◌∙◌, ◌-◌, ap, refl, subst, sym, string_bytes, Tail, Trails, tail}
+use Rattle.std.proofs.Common.{rules}
 use Rattle.reg_http.proofs.Trails.{trails_all, trails_nothing, trails_spent}
 use Rattle.reg_http.proofs.trail.Trail.tell.Goals as goal
 
@@ -18,3 +19,6 @@ returns-in-Ok-clause-tells g c =
     rw c.in-Some.is
     (subst (λ t. Trails (tail (g.T.Write.contents t.end.inner) t) k1 (string_bytes c.in-Some.line)) c.self.view_is
     (subst (Trails k0 k1) c.as_bytes.ensures.value (trails_all k0 k1 c.as_bytes.result.now c.in-Ok.used c.in-Ok.ensures refl)))
+
+pub invariant_of-self-in-Err : goal.invariant_of-self-in-Err
+invariant_of-self-in-Err g c = search rules
