@@ -9,7 +9,7 @@ use Rattle.std.specs.Prelude.{String, unwrap_or}
 use Rattle.std.specs.declared.alloc.Global.{Global}
 use Rattle.reg_model.specs.declared.rule.Rule.TheVariants as rule
 use Rattle.reg_model.specs.Events.{Asked}
-use Rattle.reg_model.specs.Events.Asked.{AddOwners as to_add, Index as to_index, Read as to_read, RemoveOwners as to_remove}
+use Rattle.reg_model.specs.Events.Asked.{AddOwners as to_add, Download as to_download, Index as to_index, Read as to_read, RemoveOwners as to_remove}
 use Rattle.reg_model.specs.Events.Event.{Ask}
 use Rattle.reg_model.specs.Events.Reading.{Search as to_search}
 use Rattle.reg_model.specs.Refusals.{denied}
@@ -28,10 +28,12 @@ use Rattle.reg_api_requests.specs.Wants.Wants.{Config, Index, Download, ListOwne
 use Rattle.reg_api_requests.specs.declared.request.ApiRequest.{ApiRequest}
 use Rattle.reg_http_routes.specs.Routing.Routing.{Wants as to_wants}
 use Rattle.reg_api_replies.specs.Texts.{answer_text, refusal_text, reply_text}
-use Rattle.reg_service.specs.Streamed.{IsFileAnswer, StreamsTo}
+use Rattle.reg_service.specs.Streamed.{IsFileAsked, StreamsTo}
 use Rattle.reg_service_index.specs.declared.fault.IndexFault.{IndexFault}
 use Rattle.reg_service_index.specs.declared.fault.IndexFault.TheVariants.{Spent, Store, Write}
-use Rattle.reg_service_index.specs.declared.found.FoundFile.{FoundFile}
+use Rattle.reg_service_index.specs.Found.{AsksFor}
+use Rattle.reg_service_index.specs.declared.found.Found.{Found}
+use Rattle.reg_service_index.specs.declared.found.Found.TheVariants.{Archive, File}
 use Rattle.reg_http.specs.Answering.{IsReplied, IsRequestReplied, Streams, fault_reply}
 use Rattle.reg_http.proofs.Trails.{trails_if, trails_nothing}
 use Rattle.reg_http_read.specs.Begun.{is_head_only}
@@ -50,42 +52,48 @@ streams_of o text old new (Err StoreFault) x = absurd x
 streams_of o text old new (Err Memory) x = absurd x
 
 -- what asks for an index file wants one
-not_asked : {A : Type 0} (r : Rule) (ask : A → Asked) (o : Option A) (path : Text) → ((a : A) → ask a ≡ to_index path → ⊥) → or_faulty r ask o ≡ to_index path → ⊥
-not_asked r ask None path never e = cc
-not_asked r ask (Some a) path never e = never a e
+not_asked : {A : Type 0} (r : Rule) (ask : A → Asked) (o : Option A) (a : Answer) → ((x : A) → IsFileAsked (ask x) a → ⊥) → IsFileAsked (or_faulty r ask o) a → ⊥
+not_asked r ask None a never h = h
+not_asked r ask (Some x) a never h = never x h
 
-not_published : (r : Result Publication Rule) (path : Text) → published r ≡ to_index path → ⊥
-not_published (Ok p) path e = cc
-not_published (Err r) path e = cc
+not_published : (r : Result Publication Rule) (a : Answer) → IsFileAsked (published r) a → ⊥
+not_published (Ok p) a h = h
+not_published (Err r) a h = h
 
-file_is : (limits : Limits) (w : Wants) (path : Text) (a : Answer) → asked_from limits w ≡ to_index path → IsFileAnswer a → IsOfFile (Answered w a)
-file_is limits (Index p) path a e file = file
-file_is limits Config path a e file = absurd cc
-file_is limits (Download n v) path a e file = absurd cc
-file_is limits (ListOwners n) path a e file = absurd cc
-file_is limits (Publish body) path a e file = absurd (not_published (publish_of limits body) path e)
-file_is limits (Yank n v) path a e file = absurd cc
-file_is limits (Unyank n v) path a e file = absurd cc
-file_is limits (AddOwners n body) path a e file = absurd (not_asked rule.O1 (to_add (text_in n)) (logins_named limits body) path (λ logins it. cc) e)
-file_is limits (RemoveOwners n body) path a e file = absurd (not_asked rule.O1 (to_remove (text_in n)) (logins_named limits body) path (λ logins it. cc) e)
-file_is limits (Search q per_page) path a e file = absurd (not_asked rule.Q1 (λ most. to_read (to_search (unwrap_or q []) most)) (page_of per_page) path (λ most it. cc) e)
+file_is : (limits : Limits) (w : Wants) (a : Answer) → IsFileAsked (asked_from limits w) a → IsOfFile (Answered w a)
+file_is limits (Index p) a h = h
+file_is limits Config a h = h
+file_is limits (Download n v) a h = h
+file_is limits (ListOwners n) a h = h
+file_is limits (Publish body) a h = absurd (not_published (publish_of limits body) a h)
+file_is limits (Yank n v) a h = h
+file_is limits (Unyank n v) a h = h
+file_is limits (AddOwners n body) a h = absurd (not_asked rule.O1 (to_add (text_in n)) (logins_named limits body) a (λ logins it. it) h)
+file_is limits (RemoveOwners n body) a h = absurd (not_asked rule.O1 (to_remove (text_in n)) (logins_named limits body) a (λ logins it. it) h)
+file_is limits (Search q per_page) a h = absurd (not_asked rule.Q1 (λ most. to_read (to_search (unwrap_or q []) most)) (page_of per_page) a (λ most it. it) h)
 
--- a request for an index file changes nothing
-file_line : (limits : Limits) (s : model.Registry) (digest : Option Text) (path : Text) → line limits s (Ask digest (to_index path)) ≡ None
-unfolding line
-file_line limits s digest path = by (denied limits s digest (to_index path))
-  where
-    by : (o : Option Rule) → option_map (λ words. line_of (with_asker s (Ask digest (to_index path)) words)) (unless_some o None) ≡ None
-    by None = refl
-    by (Some r) = refl
+-- a request for what is found is fit
+found_fit : (digest : Option Text) (asked : Asked) (f : Found) → AsksFor asked f → IsFit (Ask digest asked)
+found_fit digest asked (File f) (path, is) = subst (λ it. IsFit (Ask digest it)) (sym is) tt
+found_fit digest asked (Archive id) (n, v, is) = subst (λ it. IsFit (Ask digest it)) (sym is) tt
 
-nothing : (b : Bool) (t : Text) → t ≡ [] → cond b [] t ≡ []
-nothing true t e = refl
-nothing false t e = e
+-- and changes nothing
+module _ (limits : Limits) (s : model.Registry) (digest : Option Text) where
+  no_line : (it : Asked) (o : Option Rule) → option_map (λ words. line_of (with_asker s (Ask digest it) words)) (unless_some o None) ≡ None
+  no_line it None = refl
+  no_line it (Some r) = refl
 
-file_told : (limits : Limits) (s : model.Registry) (digest : Option Text) (asked : Asked) (path : Text) → asked ≡ to_index path → (a : Answer) → told limits s (Ask digest asked) a ≡ []
-file_told limits s digest asked path is a =
-    subst (λ it. told limits s (Ask digest it) a ≡ []) (sym is) (nothing (has_no_room a) (or_nothing (line limits s (Ask digest (to_index path)))) (ap or_nothing (file_line limits s digest path)))
+  found_line : (asked : Asked) (f : Found) → AsksFor asked f → line limits s (Ask digest asked) ≡ None
+  unfolding line
+  found_line asked (File f) (path, is) = subst (λ it. line limits s (Ask digest it) ≡ None) (sym is) (no_line (to_index path) (denied limits s digest (to_index path)))
+  found_line asked (Archive id) (n, v, is) = subst (λ it. line limits s (Ask digest it) ≡ None) (sym is) (no_line (to_download n v) (denied limits s digest (to_download n v)))
+
+  nothing : (b : Bool) (t : Text) → t ≡ [] → cond b [] t ≡ []
+  nothing true t e = refl
+  nothing false t e = e
+
+  found_untold : (asked : Asked) (f : Found) → AsksFor asked f → (a : Answer) → told limits s (Ask digest asked) a ≡ []
+  found_untold asked f asks a = nothing (has_no_room a) (or_nothing (line limits s (Ask digest asked))) (ap or_nothing (found_line asked f asks))
 
 module _ {S : Type 0} (g : Ghosts S) (limits : Limits) (s : model.Registry) (f : Facts) (token : Option Text) (same : f.token ≡ token) (close : Bool) (old new : Tables S) (k0 k1 : Tail) (w0 w1 : Option Text) (r : Result (Unit {0}) StreamFault) where
   pub answered : (w : Wants) → IsFit (event_of (request_from limits token w)) → (a : Answer) → Answers g limits s (event_of (request_from limits token w)) a old new
@@ -120,9 +128,9 @@ module _ {S : Type 0} (g : Ghosts S) (limits : Limits) (s : model.Registry) (f :
     sends = subst (λ it. Streams (Unread w) (reply_text it close false) w0 w1 r) denied (streams_of (Unread w) (reply_text reply close false) w0 w1 r sends);
   }
 
--- an index file that was found, as it was sent
-module _ {S : Type 0} (g : Ghosts S) (limits : Limits) (s : model.Registry) (f : Facts) (w : Wants) (file : FoundFile) (close : Bool) (old found new : Tables S) (k : Tail) (writes : ℕ) (before after : Sink)
-    (finds : Finds g limits s (request_from limits f.token w).digest (asked_from limits w) file old found) where
+-- what was found, as it was sent
+module _ {S : Type 0} (g : Ghosts S) (limits : Limits) (s : model.Registry) (f : Facts) (w : Wants) (it : Found) (close : Bool) (old found new : Tables S) (k : Tail) (writes : ℕ) (before after : Sink)
+    (finds : Finds g limits s (request_from limits f.token w).digest (asked_from limits w) it old found) where
   abbrev e : Event
   e = event_of (request_from limits f.token w)
 
@@ -133,24 +141,25 @@ module _ {S : Type 0} (g : Ghosts S) (limits : Limits) (s : model.Registry) (f :
   IsSo r = Replies g limits f (to_wants w) close s old new k k before.contents after.contents r
 
   so : (a : Answer) (r : Result (Unit {0}) StreamFault) → Answers g limits s e a old new → Streams (Answered w a) (answer_text (asked_from limits w) a close) before.contents after.contents r → IsSo r
-  so a r it sends =
-      let fit : IsFit e = subst (λ asked. IsFit (Ask (request_from limits f.token w).digest asked)) (sym finds.asks) tt in
-      let untold : Trails k k (told limits s e a) = subst (Trails k k) (sym (file_told limits s (request_from limits f.token w).digest (asked_from limits w) finds.path finds.asks a)) (trails_nothing k) in
-      answered g limits s f f.token refl close old new k k before.contents after.contents r w fit a it untold sends
+  so a r answers sends =
+      let asks = request_from limits f.token w in
+      let fit : IsFit e = found_fit asks.digest asks.asked it finds.asks in
+      let untold : Trails k k (told limits s e a) = subst (Trails k k) (sym (found_untold limits s asks.digest asks.asked it finds.asks a)) (trails_nothing k) in
+      answered g limits s f f.token refl close old new k k before.contents after.contents r w fit a answers untold sends
 
-  pub file_sent : (used : ℕ) → Told (Ok used) → IsSo (Ok tt)
-  file_sent used (a, sends, it) = so a (Ok tt) it sends.sends.all
+  pub found_sent : (used : ℕ) → Told (Ok used) → IsSo (Ok tt)
+  found_sent used (a, sends, answers) = so a (Ok tt) answers sends.sends.all
 
-  pub file_failed : Told (Err Write) → IsSo (Err WriteFault)
-  file_failed (a, sends, it) = so a (Err WriteFault) it sends.sends.front
+  pub found_failed : Told (Err Write) → IsSo (Err WriteFault)
+  found_failed (a, sends, answers) = so a (Err WriteFault) answers sends.sends.front
 
-  pub file_spent : Told (Err Spent) → IsSo (Err TooManyTurns)
-  file_spent (a, sends, it) = so a (Err TooManyTurns) it sends.sends.front
+  pub found_spent : Told (Err Spent) → IsSo (Err TooManyTurns)
+  found_spent (a, sends, answers) = so a (Err TooManyTurns) answers sends.sends.front
 
-  pub file_broken : before.calls < after.calls → Told (Err Store) → IsSo (Err StoreFault)
-  file_broken begun (a, sends, it) =
-      so a (Err StoreFault) it (
-        file_is limits w finds.path a finds.asks (sends.of_file refl),
+  pub found_broken : before.calls < after.calls → Told (Err Store) → IsSo (Err StoreFault)
+  found_broken begun (a, sends, answers) =
+      so a (Err StoreFault) answers (
+        file_is limits w a (sends.of_file refl),
         record {
           front = sends.sends.front;
           rest = sends.sends.rest;

@@ -23,7 +23,7 @@ use Rattle.reg_service.specs.Answered.{Answers, Shows}
 use Rattle.reg_service.specs.Registries.{IsUpToDate, limits_of, tables_of}
 use Rattle.reg_service.specs.Streamed.{Finds}
 use Rattle.reg_service.specs.declared.registry.Registry.{Registry}
-use Rattle.reg_service_index.specs.declared.found.FoundFile.{FoundFile}
+use Rattle.reg_service_index.specs.declared.found.Found.{Found}
 use Rattle.reg_tables.specs.declared.tables.Tables.{Tables}
 use Rattle.reg_tables.specs.Works.{shown}
 use Rattle.reg_http.specs.Exchanges.{IsOfFile, IsOutcome, Outcome, outcome_text}
@@ -83,13 +83,13 @@ IsRequestReplied g limits request close old new k0 k1 w0 w1 r =
     (f : Facts) → f.token ≡ option_map (λ t. t.now) request.token
     → IsReplied g limits f (to_wants (wants_of request.call)) close old new k0 k1 w0 w1 r
 
--- whatever was wanted where this index file was found, it is replied so, and nothing is told
-abbrev pub IsFileReplied : {S : Type 0} → Ghosts S → FoundFile → Bool → Tables S → Tables S → Tail
+-- whatever was wanted where this was found, it is replied so, and nothing is told
+abbrev pub IsFoundReplied : {S : Type 0} → Ghosts S → Found → Bool → Tables S → Tables S → Tail
     → Option Text → Option Text → Result (Unit {0}) StreamFault → Type 0
-IsFileReplied {S = S} g file close found new k w0 w1 r =
+IsFoundReplied {S = S} g it close found new k w0 w1 r =
     HasCleanDisk (shown g new) → (limits : Limits) (f : Facts) (w : Wants) (s : model.Registry)
     (old : Tables S) → let asks = request_from limits f.token w in
-    Finds g limits s asks.digest asks.asked file old found
+    Finds g limits s asks.digest asks.asked it old found
     → Replies g limits f (to_wants w) close s old new k k w0 w1 r
 
 -- the message is routed, and replied so

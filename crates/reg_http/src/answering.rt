@@ -5,7 +5,7 @@ ghost use Rattle.reg_http_read.specs.Reads.{facts_of};
 ghost use Rattle.reg_http_read.specs.Turns.{Sends, SpendsTurns, writes_of};
 ghost use Rattle.reg_api_replies.specs.Texts.{refusal_text};
 ghost use Rattle.reg_service.specs.Registries.{IsUpToDate, limits_of, tables_of};
-ghost use Rattle.reg_http.specs.Answering.{AnswersRequest, GoesOn, IsFileReplied, IsMessageReplied, IsRequestReplied, fault_reply};
+ghost use Rattle.reg_http.specs.Answering.{AnswersRequest, GoesOn, IsFoundReplied, IsMessageReplied, IsRequestReplied, fault_reply};
 ghost use Rattle.reg_http.specs.Trails.{Tail};
 
 use crate::trail::Trail;
@@ -16,7 +16,7 @@ use reg_body::Counted;
 use reg_http_read::{Head, StreamFault, send_reply};
 use reg_http_routes::{RouteFault, Routes};
 use reg_policy::Rule;
-use reg_service::{Acted, Answered, FoundFile, IndexFault, Registry};
+use reg_service::{Acted, Answered, Found, IndexFault, Registry};
 use sqlite::Alter;
 use std::alloc::Global;
 use std::io::Write;
@@ -59,24 +59,24 @@ pub(crate) fn deny<W: Write>(
     send_reply(w, &reply, close, head_only, left)
 }
 
-/// Sends an index file that was found.
-fn send_index<W: Write, S: Alter>(
+/// Sends what was found.
+fn send_found<W: Write, S: Alter>(
     registry: &mut Registry<S>,
-    file: &FoundFile,
+    found: &Found,
     w: &mut Counted<W>,
     close: bool,
     left: &mut u64,
 ) -> Result<(), StreamFault>
     requires tables { IsUpToDate S.Store registry.old }
     requires room { w.old.calls + left.old < 2 ^ 64 }
-    ensures replied { (k : Tail) → IsFileReplied S.Store file.now close
+    ensures replied { (k : Tail) → IsFoundReplied S.Store found.now close
         (tables_of registry.old) (tables_of registry.new) k
         (W.contents w.old.inner) (W.contents w.new.inner) result }
     ensures spends { SpendsTurns left.old left.new (writes_of w.old) (writes_of w.new) result }
     ensures fewer { OnOk result (left.new < left.old) }
     ensures keeps { GoesOn S.Store registry.old registry.new }
 {
-    match registry.stream_index(file, close, w, *left) {
+    match registry.stream_found(found, close, w, *left) {
         Ok(used) => {
             *left -= used;
             Ok(())
@@ -88,7 +88,7 @@ fn send_index<W: Write, S: Alter>(
 }
 
 /// Answers a routed request: tells what it changed and then sends the registry's reply, or sends
-/// the index file that was found.
+/// what was found.
 fn answer<W: Write, T: Write, S: Alter>(
     alloc: Global,
     registry: &mut Registry<S>,
@@ -112,7 +112,7 @@ fn answer<W: Write, T: Write, S: Alter>(
             trail.tell(line);
             send_reply(w, &reply, close, false, left)
         }
-        Answered::Found(file) => send_index(registry, &file, w, close, left),
+        Answered::Found(found) => send_found(registry, &found, w, close, left),
     }
 }
 

@@ -1,14 +1,13 @@
 -- What the ends of a transaction make of a request.
 use Rattle.reg_service.proofs.Words.{◌≡◌, inl, inr, false, refl, sym, ap, subst, IsTrue, Option, Some, ℕ, Database, HasCleanDisk, Survives}
 use Rattle.reg_service.proofs.Words.{Ghosts, Limits, Answer, Asked, Event, Ask, StepsKeepSound, Registry, Text, IsFit, Outcome, outcome}
-use Rattle.reg_service.proofs.Words.{Reply, Denied, LeavesCommit, FilesAreRows, FoundFile, Serves, Done, Seeks, Sends, Told, Begins}
+use Rattle.reg_service.proofs.Words.{Reply, Denied, LeavesCommit, Found, Serves, Done, Seeks, Sends, Told, Begins}
 use Rattle.reg_service.proofs.Words.{IsCommitted, IsDropped, IsRefused, SeesAll, Looks, AreOurs, IsLeft, has_failed, rows_seen, seen, shown}
 use Rattle.reg_service.proofs.Words.{Tables, Work, Are, Shows, Stays, RepliesTo, Sought, Finds}
 use Rattle.reg_model.specs.declared.rule.Rule.TheVariants as rule
 use Rattle.reg_model.specs.Effects.{served}
 use Rattle.reg_model.specs.Events.Answer.{Denied as to_denied}
-use Rattle.reg_tables_meaning.specs.Stands.{Holds}
-use Rattle.reg_service_index.specs.Found.{file_at}
+use Rattle.reg_service_index.specs.Found.{HasText}
 use Rattle.reg_service.proofs.Frames as frame
 
 module _ {S : Type 0} (g : Ghosts S) (limits : Limits) (s : Registry) (digest : Option Text) (asked : Asked) (old new : Tables S) (ours : AreOurs g old) (h : Shows s (shown g old)) (clean : HasCleanDisk (shown g new)) where
@@ -44,20 +43,17 @@ module _ {S : Type 0} (g : Ghosts S) (limits : Limits) (s : Registry) (digest : 
     not_committed reply serves end survives =
         (to_denied rule.S1, refl, frame.not_committed g limits s e (to_denied rule.S1) old new ours h clean begun done b looks mid (λ are. (serves are.0 s are.1).1) refl end survives)
 
-    -- an index file was found
-    pub found : FilesAreRows → (f : FoundFile) → Serves limits digest asked (rows_seen g begun) (rows_seen g done) (Sends f) → IsDropped g done new → (IsTrue (shown g old).is_open → LeavesCommit (shown g old)) → Finds g limits s digest asked f old new
-    found law f serves end alone =
+    -- an index file or an archive was found
+    pub found : (f : Found) → Serves limits digest asked (rows_seen g begun) (rows_seen g done) (Sends f) → IsDropped g done new → (IsTrue (shown g old).is_open → LeavesCommit (shown g old)) → Finds g limits s digest asked f old new
+    found f serves end alone =
         let are = frame.sees g limits s e (to_denied rule.S1) old new ours h clean begun done b looks mid in
         let it = serves.1 are.0 s are.1 in
         record {
-          path = serves.0.0;
-          asks = serves.0.1;
-          text = file_at are.0 s f;
-          answer = it.0;
-          lines = λ up.
-              let same = frame.shows_begun g limits s e (to_denied rule.S1) old new ours h clean begun done b looks mid (end.undone clean) up in
-              law are.0 s (shown g new).now.trees (subst (λ (d : Database). Holds are.0 s d.trees) (sym same) are.1) f;
-          len = it.1;
+          asks = serves.0;
+          text = it.0;
+          answer = it.1;
+          has = λ up. subst (λ (d : Database). HasText f it.0 d.trees) (sym (frame.shows_begun g limits s e (to_denied rule.S1) old new ours h clean begun done b looks mid (end.undone clean) up)) it.3;
+          len = it.2;
           goes_on = b.was_open;
           stays = frame.dropped_so g limits s e (to_denied rule.S1) old new ours h clean begun done b looks mid end alone;
         }

@@ -1,7 +1,7 @@
 -- What each end of a transaction makes of a request, and what it leaves.
 use Rattle.reg_service.proofs.Words.{◌≡◌, ◌∙◌, arith, Bool, Option, None, Result, sym, subst, IsTrue, ℕ, false≢true, option_map}
 use Rattle.reg_service.proofs.Words.{string_bytes, HasCleanDisk, Ghosts, Limits, Asked, Ask, StepsKeepSound, Registry, Text, IsFit, Reply}
-use Rattle.reg_service.proofs.Words.{Denied, FilesAreRows, FoundFile, Serves, line_with, Done, Seeks, Sends, Told, Acted, Tables, Work}
+use Rattle.reg_service.proofs.Words.{Denied, Found, Serves, line_with, Done, Seeks, Sends, Told, Acted, Tables, Work}
 use Rattle.reg_service.proofs.Words.{Begins, IsCommitted, IsDropped, IsEnded, IsRefused, SeesAll, Looks, IsLeft, is_shut, rows_seen, seen}
 use Rattle.reg_service.proofs.Words.{shown, LeavesCommit, ActsTo, IsActed, AreUpToDate, Halts, Shows, WasClean, RepliesTo, Sought, Looked}
 use Rattle.reg_model.specs.declared.rule.Rule.TheVariants as rule
@@ -10,7 +10,7 @@ use Rattle.reg_service_requests.specs.declared.served.Served.{Served}
 use Rattle.reg_service_requests.specs.declared.told.ServedTold.{ServedTold}
 use Rattle.reg_service.specs.Acted.{SaysNoRoom}
 use Rattle.reg_service.specs.declared.answered.Answered.{Answered}
-use Rattle.reg_service.specs.declared.answered.Answered.TheVariants.{Found, Replied}
+use Rattle.reg_service.specs.declared.answered.Answered.TheVariants.{Found as to_found, Replied}
 use Rattle.reg_service.proofs.Replied as replied
 use Rattle.reg_service.proofs.Rests.{dropped_halts, dropped_looked, committed_halts, ended_clean, goes_on, refused_tables}
 use Rattle.reg_service.proofs.Traced.{acts, tells_line, untold}
@@ -154,14 +154,14 @@ module _ {S : Type 0} (g : Ghosts S) (limits : Limits) (traced : Bool) (digest :
               (replied.sought g limits s digest asked old there new at.ours h clean early begun done b looks mid account reply (served_as (Seeks account) as_search mid) end alone
               (end.ours looks.at_work.back) left (seeks clean s))
 
--- an index file was found
+-- an index file or an archive was found
 pub found : {S : Type 0} (g : Ghosts S) (limits : Limits) (traced : Bool) (digest : Option Text) (asked : Asked) (old : Tables S) → AreUpToDate g old → (begun done : Work S) → Begins g SeesAll old begun → Looks g begun done
-    → (told : ServedTold) → (HasCleanDisk (seen g done) → ServesTold traced limits digest asked (rows_seen g begun) (rows_seen g done) told) → FilesAreRows
-    → (f : FoundFile) (new there : Tables S) → new ≡ there → told.served ≡ Sends f → IsDropped g done there → (IsTrue (shown g old).is_open → LeavesCommit (shown g old)) → Does g limits traced digest asked (Found f) old new
-found g limits traced digest asked old at begun done b looks told serves law f new there same_end as_found end alone = subst (λ t. Does g limits traced digest asked (Found f) old t) (sym same_end) (record {
+    → (told : ServedTold) → (HasCleanDisk (seen g done) → ServesTold traced limits digest asked (rows_seen g begun) (rows_seen g done) told)
+    → (f : Found) (new there : Tables S) → new ≡ there → told.served ≡ Sends f → IsDropped g done there → (IsTrue (shown g old).is_open → LeavesCommit (shown g old)) → Does g limits traced digest asked (to_found f) old new
+found g limits traced digest asked old at begun done b looks told serves f new there same_end as_found end alone = subst (λ t. Does g limits traced digest asked (to_found f) old t) (sym same_end) (record {
   replies = λ clean s h.
       let mid : HasCleanDisk (seen g done) = omega (arith, clean, end.survives.clean) in
-      replied.found g limits s digest asked old there at.ours h clean begun done b looks mid law f (subst (Serves limits digest asked (rows_seen g begun) (rows_seen g done)) as_found (serves mid).0) end alone;
+      replied.found g limits s digest asked old there at.ours h clean begun done b looks mid f (subst (Serves limits digest asked (rows_seen g begun) (rows_seen g done)) as_found (serves mid).0) end alone;
   tables = rest.tables;
   clean = rest.clean;
   halts = dropped_halts g old begun done b looks there end;

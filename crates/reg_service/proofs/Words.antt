@@ -20,8 +20,7 @@ pub use Rattle.reg_model.specs.declared.rule.AdminRefusal.{AdminRefusal}
 pub use Rattle.reg_policy.specs.Events.{command_of, reply_of}
 pub use Rattle.reg_search.specs.Rows.{hit_of}
 pub use Rattle.reg_service_commands.specs.Telling.{line_of_answer}
-pub use Rattle.reg_service_index.specs.Found.{FilesAreRows}
-pub use Rattle.reg_service_index.specs.declared.found.FoundFile.{FoundFile}
+pub use Rattle.reg_service_index.specs.declared.found.Found.{Found}
 pub use Rattle.reg_service_requests.specs.Serves.{Serves}
 pub use Rattle.reg_service_requests.specs.Telling.{line_with}
 pub use Rattle.reg_service_requests.specs.declared.served.Served.TheVariants.{Done, Seeks, Sends, Told}

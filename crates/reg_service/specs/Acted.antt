@@ -34,7 +34,7 @@ ActsTo g limits s traced digest asked it old new = (a : Answer) × Says asked a 
     × Answers g limits s (Ask digest asked) a old new
     × HasLine traced limits s (Ask digest asked) a it.line
 
--- the event is answered by such a reply, or by an index file that is found
+-- the event is answered by such a reply, or by what is found
 abbrev pub AnswersBy : {S : Type 0} → Ghosts S → Limits → Registry → Bool → Option Text → Asked
     → Answered → Tables S → Tables S → Type 0
 AnswersBy g limits s traced digest asked (Replied it) old new =

@@ -1,6 +1,6 @@
 //! What answers a request.
 
-use reg_service_index::FoundFile;
+use reg_service_index::Found;
 use reg_service_requests::Acted;
 
 /// What answers a request.
@@ -8,6 +8,6 @@ use reg_service_requests::Acted;
 pub enum Answered {
     /// A reply, and the line of what was changed.
     Replied(Acted),
-    /// An index file, which is still to be read. Nothing was changed.
-    Found(FoundFile),
+    /// An index file or an archive, which is still to be read. Nothing was changed.
+    Found(Found),
 }

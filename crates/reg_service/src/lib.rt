@@ -27,7 +27,7 @@ pub use reg_api_replies::{FixedText, Kind, Methods, Reply, reply_head};
 pub use reg_api_requests::{ApiCall, ApiRequest};
 pub use reg_audit::Check;
 pub use reg_service_commands::OrderTold;
-pub use reg_service_index::{FoundFile, IndexFault};
+pub use reg_service_index::{Found, FoundFile, IndexFault};
 pub use reg_service_requests::Acted;
 pub use registry::Registry;
 pub use sequences::{Call, Told, answer_all};

@@ -21,7 +21,7 @@ use crate::answered::Answered;
 use crate::exporting::export_in;
 use crate::marking::mark_in;
 use crate::transactions::{command_in, denied, parts_in};
-use reg_api_replies::{Kind, Reply};
+use reg_api_replies::Reply;
 use reg_api_requests::{ApiRequest, read_request};
 use reg_audit::{Check, audit};
 use reg_audit_law::laws::opening_law;
@@ -29,7 +29,7 @@ use reg_body::{Counted, Limits};
 use reg_model::AdminRefusal;
 use reg_policy::{AdminCommand, AdminReply, Rule};
 use reg_service_commands::OrderTold;
-use reg_service_index::{FoundFile, IndexFault, read_file, send_file};
+use reg_service_index::{Found, IndexFault, read_found, send_found};
 use reg_service_requests::Acted;
 use reg_tables::{Result, StoreFault, Tables};
 use sqlite::{Alter, Connection};
@@ -104,8 +104,8 @@ impl<S: Alter> Registry<S> {
                 let Acted { reply, line: _line } = acted;
                 reply
             }
-            Answered::Found(file) => match read_file(alloc, &mut self.tables, &file) {
-                Ok(text) => Reply::Done(Kind::Text, text),
+            Answered::Found(found) => match read_found(alloc, &mut self.tables, &found) {
+                Ok(text) => Reply::Done(found.kind(), text),
                 Err(_) => Reply::Denied(Rule::S1),
             },
         }
@@ -127,7 +127,7 @@ impl<S: Alter> Registry<S> {
     }
 
     /// Answers a request, in one transaction. If `traced`, it tells the line of what was changed,
-    /// if anything was. An index file is found, for `stream_index`.
+    /// if anything was. An index file or an archive is found, for `stream_found`.
     pub fn act(&mut self, alloc: Global, request: &ApiRequest<'_>, traced: bool) -> Answered
         requires { IsUpToDate S.Store self.old }
         ensures replies { let asks = request_of (limits_of self.old) request.now in
@@ -146,18 +146,19 @@ impl<S: Alter> Registry<S> {
         parts_in(alloc, &mut self.tables, &self.limits, &parts, traced)
     }
 
-    /// Sends the reply with an index file that was found, row by row, in at most `writes` write
-    /// calls, and returns how many it made. If the store fails mid-reply, the reply ends there.
-    pub fn stream_index<W: Write>(
+    /// Sends the reply with what was found, in at most `writes` write calls, and returns how many
+    /// it made: an index file row by row, where the reply ends if the store fails in the middle, or
+    /// an archive, whose row is read before anything is sent.
+    pub fn stream_found<W: Write>(
         &mut self,
-        file: &FoundFile,
+        found: &Found,
         close: bool,
         writer: &mut Counted<W>,
         writes: u64,
     ) -> Result<u64, IndexFault>
         requires tables { IsUpToDate S.Store self.old }
         requires room { writer.old.calls + writes < 2 ^ 64 }
-        ensures streams { IsStreamed S.Store file.now close result writes
+        ensures streams { IsStreamed S.Store found.now close result writes
             (tables_of self.old) (tables_of self.new)
             (sink (W.contents writer.old.inner) writer.old)
             (sink (W.contents writer.new.inner) writer.new) }
@@ -168,7 +169,7 @@ impl<S: Alter> Registry<S> {
         ensures tables { IsUpToDate S.Store self.new }
         ensures limits { limits_of self.new ≡ limits_of self.old }
     {
-        send_file(&mut self.tables, file, close, writer, writes)
+        send_found(&mut self.tables, found, close, writer, writes)
     }
 
     /// The files of the index, each after its path: the config, then each crate's in the order of

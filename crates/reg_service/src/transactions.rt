@@ -19,7 +19,6 @@ use reg_model::AdminRefusal;
 use reg_model::laws::{denial_law, soundness_law};
 use reg_policy::{AdminCommand, Asked, Rule};
 use reg_service_commands::{OrderTold, order_told, refused};
-use reg_service_index::laws::file_law;
 use reg_service_requests::{Acted, Served, ServedTold, serve_told, with_line};
 use reg_tables::Tables;
 use sqlite::Alter;
@@ -72,8 +71,8 @@ pub(crate) fn denied(rule: Rule) -> Acted
 }
 
 /// Answers a request in one transaction. If nothing is changed, nothing is kept; a search reads
-/// after the transaction is over, and an index file is read by who asked. If `traced`, the line of
-/// what it changed is told.
+/// after the transaction is over, and an index file or an archive is read by who asked. If
+/// `traced`, the line of what it changed is told.
 pub(crate) fn request_in<S: Alter>(
     alloc: Global,
     tables: &mut Tables<S>,
@@ -91,7 +90,6 @@ pub(crate) fn request_in<S: Alter>(
     ensures halts { Halts (is_shut tables.old) (is_shut tables.new) (SaysNoRoom result) }
 {
     soundness_law();
-    file_law();
     let Ok(mut work) = tables.work() else {
         return Answered::Replied(denied(Rule::S1));
     };
@@ -109,7 +107,7 @@ pub(crate) fn request_in<S: Alter>(
             drop(work);
             Answered::Replied(with_line(seek(alloc, tables, account, asked), line))
         }
-        Served::Sends(file) => Answered::Found(file),
+        Served::Sends(found) => Answered::Found(found),
     }
 }
 

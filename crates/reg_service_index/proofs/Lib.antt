@@ -1,3 +1,4 @@
+pub mod ArchiveRows
 mod Left
 pub mod Rows
 pub mod Unsent

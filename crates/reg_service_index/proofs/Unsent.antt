@@ -1,21 +1,25 @@
 -- Replies where nothing was sent before, and files that were.
 use Rattle.reg_service_index.proofs.Words.{◌≡◌, ◌⊎◌, ℕ, zero, ◌+◌, List, [], ◌∷◌, ◌++◌, Bool, false, Some, Ok, Err, Result, inl, inr, refl}
 use Rattle.reg_service_index.proofs.Words.{sym, ap, subst, ◌∙◌, arith, append-nil, append_assoc, Held, state, Row, HasCleanDisk, Ghosts}
-use Rattle.reg_service_index.proofs.Words.{Text, IsStopped, SendsAll, Sink, rows_in, AreStemsOf, Tables, held, stopped_first, SendFault}
+use Rattle.reg_service_index.proofs.Words.{Text, IsStopped, SendsAll, Sink, stopped_first, SendFault}
 use Rattle.reg_service_index.proofs.Words.{BeginsFile, SendsRows, rows_text, lines_in, IsBroken, fault_of, IndexFault, Store}
-use Rattle.std.proofs.Common.{◌<◌, suc, None}
+use Rattle.std.proofs.Common.{◌<◌, suc, None, true}
 use Rattle.std.specs.Io.KnownBytes.{Appends}
 use Rattle.std.proofs.KnownBytes.{Appends-trans}
 use Rattle.reg_model.specs.declared.rule.Rule.TheVariants.{S1}
 use Rattle.reg_body.specs.Sent.{AppendsFront}
-use Rattle.reg_api_replies.specs.Texts.{file_head, refusal_text}
+use Rattle.reg_api_replies.specs.Texts.{body_if, done_head, refusal_text}
 use Rattle.reg_api_replies.specs.declared.head.Kind.TheVariants as kind
 use Rattle.reg_api_replies.specs.declared.reply.Reply.TheVariants.{Denied}
+use Rattle.reg_api_replies.proofs.Joined.{sends_nothing}
 use Rattle.reg_api_replies.proofs.Some.{head_some, reply_some}
 use Rattle.reg_body.specs.declared.bytes.SendFault.TheVariants as send
-use Rattle.reg_service_index.specs.Files.{IsFileText, IsUnsent, SendsFile, SendsNoRoom, SendsSome}
+use Rattle.reg_service_index.specs.Files.{IsTextOf, IsUnsent, SendsFound, SendsNoRoom, SendsOver, SendsSome, SendsUnbroken}
+use Rattle.reg_service_index.specs.Found.{headed, kind_in, length_in}
 use Rattle.reg_service_index.specs.Streams.{BreaksOff, Streams}
 use Rattle.reg_service_index.specs.declared.fault.IndexFault.TheVariants.{Spent, Write}
+use Rattle.reg_service_index.specs.declared.found.Found.{Found}
+use Rattle.reg_service_index.specs.declared.found.Found.TheVariants.{File}
 use Rattle.reg_service_index.specs.declared.found.FoundFile.{FoundFile}
 use Rattle.reg_service_index.proofs.Rows.{lines_both, stop_is_break}
 
@@ -111,55 +115,70 @@ was_begun text writes s t h other = from h.used refl
     from zero e = absurd (other (omega (arith, h.sends.calls, e)))
     from (suc n) e = omega (arith, h.sends.calls, e)
 
-module _ {S : Type 0} (g : Ghosts S) (f : FoundFile) (close : Bool) (writes : ℕ) (db : Tables S) (s t : Sink) where
-  abbrev head : Text
-  head = file_head f.length close
-
-  rows_longer : (rows tail : List Row) → rows_text head rows ++ lines_in tail ≡ rows_text head (rows ++ tail)
-  rows_longer rows tail = append_assoc head (lines_in rows) (lines_in tail) ∙ ap (λ l. head ++ l) (sym (lines_both rows tail))
-
-  text_so : (r : Result ℕ IndexFault) (rows : List Row) (b : BeginsFile g f.crate_id r (held db) rows) → Streams r (rows_text head rows) writes s t → Streams r (rows_text head (rows ++ b.tail)) writes s t
-  text_so (Ok used) rows b h = subst (λ l. Streams (Ok used) (rows_text head l) writes s t) (sym (ap (λ l. rows ++ l) b.all ∙ append-nil rows)) h
-  text_so (Err e) rows b h = subst (λ l. IsBroken e l writes s t) (rows_longer rows b.tail) (broken_longer e (rows_text head rows) (lines_in b.tail) writes s t h)
-
-  pub file_sent : (r : Result ℕ IndexFault) (left : Held S) → SendsRows g f.crate_id head r writes (held db) left s t → HasCleanDisk (state g left) → ¬ (IsUnsent r s t) → SendsFile g f close r writes db s t
-  file_sent r left h clean sent = from (h.begins clean)
-    where
-      from : IsUnsent r s t ⊎ BeginsFile g f.crate_id r (held db) h.rows → SendsFile g f close r writes db s t
-      from (inl none) = absurd (sent none)
-      from (inr b) = record { rows = h.rows ++ b.tail; of_file = record { is_open = b.is_open; are = b.are }; sends = text_so r h.rows b h.sends }
-
 no_fault : (used : ℕ) → ◌≡◌ {A = Result ℕ IndexFault} (Ok used) (Err Store) → ⊥
 no_fault used e = cc
 
--- all rows were read into memory
-pub file_read : {S : Type 0} (g : Ghosts S) (f : FoundFile) (writes : ℕ) (db : Tables S) (s t : Sink) (used : ℕ) (left : Held S) (text : Text) → SendsRows g f.crate_id [] (Ok used) writes (held db) left s t → HasCleanDisk (state g left)
-    → s.contents ≡ Some [] → t.contents ≡ Some text → IsFileText g f db text
-file_read g f writes db s t used left text h clean none is = from (h.begins clean)
-  where
-    from : IsUnsent (Ok used) s t ⊎ BeginsFile {E = IndexFault} g f.crate_id (Ok used) (held db) h.rows → IsFileText g f db text
-    from (inl unsent) = absurd (no_fault used unsent.0)
-    from (inr b) = (
-      h.rows,
-      record { is_open = b.is_open; are = subst (λ l. AreStemsOf f.crate_id (rows_in g (held db)) l) (ap (λ l. h.rows ++ l) b.all ∙ append-nil h.rows) b.are },
-      subst (λ o. Appends (Some []) o (lines_in h.rows)) is (subst (λ o. Appends o t.contents (lines_in h.rows)) none h.sends.all),
-    )
+-- the rows of a file, sent behind its head unless that is left out
+module _ {S : Type 0} (g : Ghosts S) (f : FoundFile) (bare close : Bool) (writes : ℕ) (db : Held S) (s t : Sink) where
+  abbrev front : Text
+  front = body_if bare (done_head kind.Text f.length close)
+
+  rows_longer : (rows tail : List Row) → rows_text front rows ++ lines_in tail ≡ rows_text front (rows ++ tail)
+  rows_longer rows tail = append_assoc front (lines_in rows) (lines_in tail) ∙ ap (λ l. front ++ l) (sym (lines_both rows tail))
+
+  text_so : (r : Result ℕ IndexFault) (rows : List Row) (b : BeginsFile g f.crate_id r db rows) → Streams r (rows_text front rows) writes s t → Streams r (rows_text front (rows ++ b.tail)) writes s t
+  text_so (Ok used) rows b h = subst (λ l. Streams (Ok used) (rows_text front l) writes s t) (sym (ap (λ l. rows ++ l) b.all ∙ append-nil rows)) h
+  text_so (Err e) rows b h = subst (λ l. IsBroken e l writes s t) (rows_longer rows b.tail) (broken_longer e (rows_text front rows) (lines_in b.tail) writes s t h)
+
+  pub file_over : (r : Result ℕ IndexFault) (left : Held S) → SendsRows g f.crate_id front r writes db left s t → SendsOver g (File f) bare close r writes db left s t
+  file_over r left h = record { text = lines_in h.rows; sends = h.sends; found = λ clean. from (h.begins clean) }
+    where
+      from : IsUnsent r s t ⊎ BeginsFile g f.crate_id r db h.rows → IsUnsent r s t ⊎ SendsFound g (File f) bare close r writes db s t
+      from (inl none) = inl none
+      from (inr b) = inr (record {
+        text = lines_in (h.rows ++ b.tail);
+        is = record { rows = h.rows ++ b.tail; is_open = b.is_open; are = b.are; tells = refl };
+        sends = text_so r h.rows b h.sends;
+      })
+
+module _ {S : Type 0} (g : Ghosts S) (f : Found) (writes : ℕ) (db left : Held S) where
+  -- nothing was sent of it
+  pub none_over : (bare close : Bool) (s : Sink) → SendsOver g f bare close (Err Store) writes db left s s
+  none_over bare close s = record {
+    text = [];
+    sends = record { front = []; rest = headed f bare close []; used = 0; whole = refl; sends = sends_nothing writes s };
+    found = λ clean. inl (refl, refl);
+  }
+
+  -- this text of it was
+  pub text_over : (bare close : Bool) (r : Result ℕ IndexFault) (s t : Sink) (text : Text) → Streams r (headed f bare close text) writes s t → (HasCleanDisk (state g left) → IsTextOf g f db text) → SendsOver g f bare close r writes db left s t
+  text_over bare close r s t text sends is = record { text = text; sends = sends; found = λ clean. inr (record { text = text; is = is clean; sends = sends }) }
+
+  -- all of it was read into memory
+  pub found_read : (close : Bool) (s t : Sink) (used : ℕ) (text : Text) → SendsOver g f true close (Ok used) writes db left s t → HasCleanDisk (state g left) → s.contents ≡ Some [] → t.contents ≡ Some text → IsTextOf g f db text
+  found_read close s t used text h clean none is = from (h.found clean)
+    where
+      from : IsUnsent (Ok used) s t ⊎ SendsFound g f true close (Ok used) writes db s t → IsTextOf g f db text
+      from (inl unsent) = absurd (no_fault used unsent.0)
+      from (inr it) =
+          let same : text ≡ it.text = subst (λ o. Appends (Some []) o it.text) is (subst (λ o. Appends o t.contents it.text) none it.sends.all) in
+          subst (IsTextOf g f db) (sym same) it.is
 
 -- a writer's fault is none of the store
 pub writer_fault : (f : SendFault) → let r : Result ℕ IndexFault = Err (fault_of f) in ¬ (r ≡ Err Store)
 writer_fault send.Write e = cc
 writer_fault send.Spent e = cc
 
--- the reply where the store failed is stopped by the writer alone
-pub no_room_stopped : (close : Bool) (f : SendFault) (writes : ℕ) (s t : Sink) → IsStopped f (refusal_text S1 None close false) writes s t → SendsNoRoom close (Err (fault_of f)) writes s t
-no_room_stopped close f writes s t h = record { sends = stop_is_break f (refusal_text S1 None close false) writes s t h; never = writer_fault f }
+-- a text is stopped by the writer alone
+pub unbroken_stopped : (text : Text) (f : SendFault) (writes : ℕ) (s t : Sink) → IsStopped f text writes s t → SendsUnbroken text (Err (fault_of f)) writes s t
+unbroken_stopped text f writes s t h = record { sends = stop_is_break f text writes s t h; never = writer_fault f }
 
-pub no_room_whole : (close : Bool) (used writes : ℕ) (s t : Sink) → SendsAll (refusal_text S1 None close false) writes used s t → SendsNoRoom close (Ok used) writes s t
-no_room_whole close used writes s t h = record { sends = h; never = no_fault used }
+pub unbroken_whole : (text : Text) (used writes : ℕ) (s t : Sink) → SendsAll text writes used s t → SendsUnbroken text (Ok used) writes s t
+unbroken_whole text used writes s t h = record { sends = h; never = no_fault used }
 
--- it is not empty, and no file with its head is
+-- it is not empty, and nothing with its head is
 pub no_room_some : (close : Bool) (r : Result ℕ IndexFault) (writes : ℕ) (s t : Sink) → SendsNoRoom close r writes s t → SendsSome r writes s t
 no_room_some close r writes s t h = (refusal_text S1 None close false, reply_some (Denied S1) close false, h.sends)
 
-pub rows_some : (f : FoundFile) (close : Bool) (r : Result ℕ IndexFault) (writes : ℕ) (rows : List Row) (s t : Sink) → Streams r (rows_text (file_head f.length close) rows) writes s t → SendsSome r writes s t
-rows_some f close r writes rows s t h = (rows_text (file_head f.length close) rows, head_some 200 kind.Text None f.length close (lines_in rows), h)
+pub found_some : (f : Found) (close : Bool) (r : Result ℕ IndexFault) (writes : ℕ) (text : Text) (s t : Sink) → Streams r (headed f false close text) writes s t → SendsSome r writes s t
+found_some f close r writes text s t h = (headed f false close text, head_some 200 (kind_in f) None (length_in f text) close text, h)

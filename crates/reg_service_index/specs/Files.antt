@@ -1,4 +1,4 @@
--- What sending the index file of a crate did.
+-- What sending what was found did.
 use Rattle.std.specs.Prelude.{◌≡◌, ◌≢◌, ◌⊎◌, ◌<◌, ◌≤◌, ◌+◌, ◌^◌, ◌++◌, ◌∷◌, ℕ, pos, length, Bool, false, IsTrue, List, [], None, Result, Err, OnOk}
 use Rattle.sqlite.specs.Given.{HasGiven, IsEnded}
 use Rattle.sqlite.specs.Held.{Held, state}
@@ -10,14 +10,14 @@ use Rattle.reg_model.specs.declared.rule.Rule.TheVariants.{S1}
 use Rattle.reg_model.specs.Registry.{Text}
 use Rattle.reg_tables_schema.specs.Statements.{rows_in}
 use Rattle.reg_body.specs.Sent.{Sink}
-use Rattle.reg_api_replies.specs.Texts.{file_head, refusal_text}
+use Rattle.reg_api_replies.specs.Texts.{refusal_text}
 use Rattle.reg_tables_sql.specs.Stems.{AreStemsOf, entries_text}
 use Rattle.reg_tables_meaning.specs.Entries.{entry_row}
-use Rattle.reg_tables.specs.declared.tables.Tables.{Tables}
-use Rattle.reg_tables.specs.Works.{shown}
-use Rattle.reg_service_index.specs.declared.found.FoundFile.{FoundFile}
+use Rattle.reg_service_index.specs.declared.found.Found.{Found}
+use Rattle.reg_service_index.specs.declared.found.Found.TheVariants.{Archive, File}
 use Rattle.reg_service_index.specs.declared.fault.IndexFault.{IndexFault}
 use Rattle.reg_service_index.specs.declared.fault.IndexFault.TheVariants.{Store}
+use Rattle.reg_service_index.specs.Found.{AreRowsOf, headed, text_in}
 use Rattle.reg_service_index.specs.Lines.{lines_in}
 use Rattle.reg_service_index.specs.Streams.{Streams}
 
@@ -45,12 +45,17 @@ pub record SendsRows {S : Type 0} (g : Ghosts S) (id : ℕ) (front : Text)
   pub sends : Streams r (rows_text front rows) writes old new
   pub begins : HasCleanDisk (state g left) → IsUnsent r old new ⊎ BeginsFile g id r db rows
 
--- The reply where the store failed before was sent, or a front of it where the writer failed or the
--- calls were used up. Whatever the store does, it does not break off.
-pub record SendsNoRoom (close : Bool) (r : Result ℕ IndexFault) (writes : ℕ) (old new : Sink)
+-- The text was sent, or a front of it where the writer failed or the calls were used up. Whatever
+-- the store does, it does not break off.
+pub record SendsUnbroken (text : Text) (r : Result ℕ IndexFault) (writes : ℕ) (old new : Sink)
     : Type 0 where
-  pub sends : Streams r (refusal_text S1 None close false) writes old new
+  pub sends : Streams r text writes old new
   pub never : ¬ (r ≡ Err Store)
+
+-- so was the reply where the store failed before
+abbrev pub SendsNoRoom : Bool → Result ℕ IndexFault → ℕ → Sink → Sink → Type 0
+SendsNoRoom close r writes old new =
+    SendsUnbroken (refusal_text S1 None close false) r writes old new
 
 -- these rows end in one that no index file has
 abbrev pub EndUnread : List Row → Type 0
@@ -65,22 +70,33 @@ EndsItself g id h = IsEnded h
     × (HasCleanDisk (state g h) → HasGiven g entries_text (Int (pos id) ∷ []) h rows)
     × (EndUnread rows ⊎ (2 ^ 64 ≤ 1 + length rows)))
 
--- the tables were open, and these are the rows of the file
-pub record AreRows {S : Type 0} (g : Ghosts S) (f : FoundFile) (db : Tables S) (rows : List Row)
-    : Type 0 where
-  pub is_open : IsTrue (shown g db).is_open
-  pub are : AreStemsOf f.crate_id (shown g db).now.trees rows
+-- the same of what was found: an archive is read whole before it is sent
+abbrev pub EndsEarly : {S : Type 0} → Ghosts S → Found → Held S → Type 0
+EndsEarly g (File f) h = EndsItself g f.crate_id h
+EndsEarly g (Archive id) h = ⊥
 
--- they were sent behind the head of the file
-pub record SendsFile {S : Type 0} (g : Ghosts S) (f : FoundFile) (close : Bool)
-    (r : Result ℕ IndexFault) (writes : ℕ) (db : Tables S) (old new : Sink) : Type 0 where
-  pub rows : List Row
-  pub of_file : AreRows g f db rows
-  pub sends : Streams r (rows_text (file_head f.length close) rows) writes old new
+-- the tables were open, and this is the text of its rows
+pub record IsTextOf {S : Type 0} (g : Ghosts S) (f : Found) (db : Held S) (text : Text) : Type 0
+  where
+    pub rows : List Row
+    pub is_open : IsTrue (state g db).is_open
+    pub are : AreRowsOf f (rows_in g db) rows
+    pub tells : text ≡ text_in f rows
 
--- the text is their lines
-abbrev pub IsFileText : {S : Type 0} → Ghosts S → FoundFile → Tables S → Text → Type 0
-IsFileText g f db text = (rows : List Row) × AreRows g f db rows × (text ≡ lines_in rows)
+-- that text was sent behind its head, unless that is left out
+pub record SendsFound {S : Type 0} (g : Ghosts S) (f : Found) (bare close : Bool)
+    (r : Result ℕ IndexFault) (writes : ℕ) (db : Held S) (old new : Sink) : Type 0 where
+  pub text : Text
+  pub is : IsTextOf g f db text
+  pub sends : Streams r (headed f bare close text) writes old new
+
+-- some text was sent so, whatever the disk; and that text, unless the store failed before
+pub record SendsOver {S : Type 0} (g : Ghosts S) (f : Found) (bare close : Bool)
+    (r : Result ℕ IndexFault) (writes : ℕ) (db left : Held S) (old new : Sink) : Type 0 where
+  pub text : Text
+  pub sends : Streams r (headed f bare close text) writes old new
+  pub found : HasCleanDisk (state g left)
+      → IsUnsent r old new ⊎ SendsFound g f bare close r writes db old new
 
 -- a text was sent that is not empty, whatever the disk
 abbrev pub SendsSome : Result ℕ IndexFault → ℕ → Sink → Sink → Type 0

@@ -1,9 +1,9 @@
-//! Why an index file was not sent in full.
+//! Why what was found was not sent in full.
 
 use reg_api_replies::SendFault;
 use sqlite::Error;
 
-/// Why an index file was not sent in full. A prefix of the reply was.
+/// Why what was found was not sent in full. A prefix of the reply was.
 #[derive(Clone, Copy, Debug, PartialEq, Eq)]
 pub enum IndexFault {
     /// The writer failed.

@@ -12,9 +12,10 @@ ghost use Rattle.reg_tables_schema.specs.Rows.{mark};
 ghost use Rattle.reg_service_index.specs.Files.{EndsItself, SendsRows};
 
 use crate::fault::IndexFault;
-use crate::lines::put_line;
+use crate::putting::put_both;
 use reg_api_replies::Pile;
 use reg_body::Counted;
+use reg_line::line_end;
 use reg_tables::{Edition, index_rows};
 use sqlite::types::ValueRef;
 use sqlite::{Alter, Connection, Row};
@@ -27,12 +28,13 @@ struct LineRow<'r> {
     yanked: bool,
 }
 
-fn stem_of(value: ValueRef<'_>) -> Option<&[u8]>
-    ensures { MatchOption result ((stem : _) → owned value.entry ≢ Blob stem)
-        (λ stem. owned value.entry ≡ Blob stem.now) }
+/// The bytes that a value is, if it is any.
+pub(crate) fn bytes_of(value: ValueRef<'_>) -> Option<&[u8]>
+    ensures { MatchOption result ((bytes : _) → owned value.entry ≢ Blob bytes)
+        (λ bytes. owned value.entry ≡ Blob bytes.now) }
 {
     match value {
-        ValueRef::Blob(stem) => Some(stem),
+        ValueRef::Blob(bytes) => Some(bytes),
         _ => None,
     }
 }
@@ -57,7 +59,7 @@ fn entry_of(row: &Row) -> Option<LineRow<'_>>
         return None;
     }
     Some(LineRow {
-        stem: stem_of(row.get_ref(0).ok()?)?,
+        stem: bytes_of(row.get_ref(0).ok()?)?,
         yanked: mark_of(row.get_ref(1).ok()?)?,
     })
 }
@@ -90,7 +92,13 @@ pub(crate) fn send_rows<S: Alter, W: Write>(
         let Some(entry) = entry_of(row) else {
             return Err(IndexFault::Store);
         };
-        let more = put_line(&mut pile, w, entry.stem, entry.yanked, writes - used)?;
+        let more = put_both(
+            &mut pile,
+            w,
+            entry.stem,
+            line_end(entry.yanked),
+            writes - used,
+        )?;
         used += more;
     }
     Err(IndexFault::Store)

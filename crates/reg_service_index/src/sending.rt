@@ -1,15 +1,17 @@
-//! Index files that were found, sent or read.
+//! What was found, sent or read.
 
 ghost use Rattle.std.specs.Prelude.{◌≡◌, ◌+◌, ◌^◌, ◌<◌, ◌⊎◌, Err, IfOk, MatchBool, false, true};
 ghost use Rattle.sqlite.specs.State.{HasCleanDisk};
 ghost use Rattle.reg_body.specs.Sent.{sink};
 ghost use Rattle.reg_tables_meaning.specs.Walks.{IsRead};
 ghost use Rattle.reg_tables.specs.Works.{AreOurs, IsLeft, edition_in, held, is_shut, shown};
-ghost use Rattle.reg_service_index.specs.Files.{EndsItself, IsFileText, SendsFile, SendsNoRoom, SendsRows, SendsSome};
+ghost use Rattle.reg_service_index.specs.Files.{EndsEarly, IsTextOf, SendsFound, SendsNoRoom, SendsOver, SendsSome};
 
+use crate::archives::send_archive;
 use crate::fault::IndexFault;
 use crate::files::send_rows;
-use crate::found::FoundFile;
+use crate::found::Found;
+use crate::putting::unless;
 use http::StatusCode;
 use reg_api_replies::{Kind, Reply, reply_head, write_reply};
 use reg_body::Counted;
@@ -42,11 +44,12 @@ fn is_unsent(sent: &Result<u64, IndexFault>, before: u64, after: u64) -> bool
     }
 }
 
-/// Sends a text and the rows behind it, of tables that are used afterwards.
+/// Sends what was found, after its head unless that is left out, of tables that are used afterwards.
 fn send_over<S: Alter, W: Write>(
     tables: &mut Tables<S>,
-    crate_id: u32,
-    front: &[u8],
+    found: &Found,
+    bare: bool,
+    close: bool,
     w: &mut Counted<W>,
     writes: u64,
 ) -> Result<u64, IndexFault>
@@ -54,23 +57,30 @@ fn send_over<S: Alter, W: Write>(
     requires second { edition_in tables.old ≡ Edition.Second }
     requires open { is_shut tables.old ≡ false }
     requires room { w.old.calls + writes < 2 ^ 64 }
-    ensures rows { SendsRows S.Store crate_id front.now result writes (held tables.old)
+    ensures sends { SendsOver S.Store found.now bare close result writes (held tables.old)
         (held tables.new) (sink (W.contents w.old.inner) w.old)
         (sink (W.contents w.new.inner) w.new) }
     ensures reads { IsRead S.Store result (held tables.old) (held tables.new) }
     ensures shut { is_shut tables.new ≡ is_shut tables.old }
     ensures edition { edition_in tables.new ≡ edition_in tables.old }
     ensures ends { result ≡ Err IndexFault.Store → (w.new.calls ≡ w.old.calls)
-        ⊎ EndsItself S.Store crate_id (held tables.new) }
+        ⊎ EndsEarly S.Store found.now (held tables.new) }
 {
-    send_rows(tables.reading(), crate_id, front, w, writes)
+    match found {
+        Found::File(file) => {
+            let head = reply_head(StatusCode::OK, Kind::Text, None, file.length, close);
+            let front = unless(bare, head.as_bytes());
+            send_rows(tables.reading(), file.crate_id, front, w, writes)
+        }
+        Found::Archive(id) => send_archive(tables.reading(), *id, bare, close, w, writes),
+    }
 }
 
-/// Sends the file with its head; if the store fails before anything is sent, the reply says so. The
-/// tables are only read.
-pub fn send_file<S: Alter, W: Write>(
+/// Sends what was found after its head; if the store fails before anything is sent, the reply says
+/// so. The tables are only read.
+pub fn send_found<S: Alter, W: Write>(
     tables: &mut Tables<S>,
-    file: &FoundFile,
+    found: &Found,
     close: bool,
     w: &mut Counted<W>,
     writes: u64,
@@ -81,13 +91,13 @@ pub fn send_file<S: Alter, W: Write>(
     ensures sends { HasCleanDisk (shown S.Store tables.new)
         → SendsNoRoom close result writes (sink (W.contents w.old.inner) w.old)
         (sink (W.contents w.new.inner) w.new)
-        ⊎ SendsFile S.Store file.now close result writes tables.old
+        ⊎ SendsFound S.Store found.now false close result writes (held tables.old)
         (sink (W.contents w.old.inner) w.old) (sink (W.contents w.new.inner) w.new) }
     ensures some { SendsSome result writes (sink (W.contents w.old.inner) w.old)
         (sink (W.contents w.new.inner) w.new) }
     ensures begun { result ≡ Err IndexFault.Store → w.old.calls < w.new.calls }
     ensures ends { result ≡ Err IndexFault.Store
-        → EndsItself S.Store file.now.crate_id (held tables.new) }
+        → EndsEarly S.Store found.now (held tables.new) }
     ensures stopped { is_shut tables.old ≡ true
         → SendsNoRoom close result writes (sink (W.contents w.old.inner) w.old)
         (sink (W.contents w.new.inner) w.new) }
@@ -96,31 +106,30 @@ pub fn send_file<S: Alter, W: Write>(
     if tables.is_shut() {
         return send_no_room(w, close, writes);
     }
-    let head = reply_head(StatusCode::OK, Kind::Text, None, file.length, close);
     let before = w.calls();
-    let sent = send_over(tables, file.crate_id, head.as_bytes(), w, writes);
+    let sent = send_over(tables, found, false, close, w, writes);
     if is_unsent(&sent, before, w.calls()) {
         return send_no_room(w, close, writes);
     }
     sent
 }
 
-/// The text of the file, in memory. The tables are only read.
-pub fn read_file<S: Alter>(
+/// The text of what was found, in memory. The tables are only read.
+pub fn read_found<S: Alter>(
     alloc: Global,
     tables: &mut Tables<S>,
-    file: &FoundFile,
+    found: &Found,
 ) -> Result<Vec<u8>, IndexFault>
     requires ours { AreOurs S.Store tables.old }
     requires second { edition_in tables.old ≡ Edition.Second }
     ensures reads { HasCleanDisk (shown S.Store tables.new) → IfOk result
-        (λ text. IsFileText S.Store file.now tables.old text.items) }
+        (λ text. IsTextOf S.Store found.now (held tables.old) text.items) }
     ensures left { IsLeft S.Store tables.old tables.new }
 {
     if tables.is_shut() {
         return Err(IndexFault::Store);
     }
     let mut text = Counted::new(Vec::new(alloc));
-    send_over(tables, file.crate_id, b"", &mut text, u64::MAX)?;
+    send_over(tables, found, true, false, &mut text, u64::MAX)?;
     Ok(text.into_inner())
 }

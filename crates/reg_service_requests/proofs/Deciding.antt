@@ -2,7 +2,7 @@
 use Rattle.reg_service_requests.proofs.Words.{◌≡◌, Bool, true, false, Option, None, Some, Ok, Err, Result, refl, sym, ap, subst, ◌∙◌, ℕ}
 use Rattle.reg_service_requests.proofs.Words.{unwrap_or, find, filter, Trees, Ghosts, Limits, Rule, crate_of, caller, served, Asked}
 use Rattle.reg_service_requests.proofs.Words.{action_of, fault_of, Faulty, Read, Ask, Search, or_else, Registry, Text, broken}
-use Rattle.reg_service_requests.proofs.Words.{is_access_rule, order, Outcome, outcome, unless_denied, IsFoundOf, IsIdOf, version_named}
+use Rattle.reg_service_requests.proofs.Words.{is_access_rule, order, Outcome, outcome, unless_denied, IsFoundOf}
 use Rattle.reg_service_requests.proofs.Words.{Caller, FoundCrate, IsPolicy, asked_of, Denied, Tells, StoreFault, Work, IsLet, Serves}
 use Rattle.reg_service_requests.proofs.Words.{TellsIf, TellsLine, called_ok, rows_seen, Served, Seeks, Told}
 use Rattle.std.specs.Prelude.{not}
@@ -18,7 +18,7 @@ use Rattle.reg_model.specs.Rules.{access, verdict}
 use Rattle.reg_policy.specs.declared.action.Decision.TheVariants.{Allowed, Denied as denies}
 use Rattle.reg_policy.specs.declared.event.Asked.{Asked as Wanted}
 use Rattle.reg_policy.specs.Views.{decision_of}
-use Rattle.reg_service_requests.specs.Granted.{Grants, GrantsOf, GrantsTo, GrantsVersion}
+use Rattle.reg_service_requests.specs.Granted.{Grants, GrantsOf, GrantsTo}
 use Rattle.reg_service_steps.specs.Named.{IsViewer}
 use Rattle.reg_service_requests.specs.Telling.{GrantsTold, IsUntold, ServesTold}
 use Rattle.reg_access.proofs.Calls.{called_err}
@@ -136,17 +136,6 @@ module _ {S : Type 0} (g : Ghosts S) (limits : Limits) (caller : Caller) (asked 
     leaves = h.leaves;
   }
   of_crate (Err e) it text c found h = record { told = λ clean. tt; leaves = h.leaves }
-
-  -- of the version that was found
-  of_version : (r : Result Served StoreFault) (it : Text → Text → Asked) (n v : Text) (id : ℕ) → caller.version ≡ Some id → GrantsVersion id g it r old new → GrantsTo limits caller g (it n v) r old new
-  of_version (Ok x) it n v id found h = record {
-    told = λ clean digest lets who. h.told clean n v limits digest lets (λ ids s holds. subst (IsIdOf ids (version_named s (action_of (it n v)))) found (who ids s holds).version);
-    leaves = h.leaves;
-  }
-  of_version (Err e) it n v id found h = record { told = λ clean. tt; leaves = h.leaves }
-
-  pub version_given : (it : Text → Text → Asked) (n v : Text) (id : ℕ) → asked_of given ≡ it n v → caller.version ≡ Some id → GrantsVersion id g it r old new → GrantsTo limits caller g (asked_of asked) r old new
-  version_given it n v id is found h = as_given (subst (λ a. GrantsTo limits caller g a r old new) (sym is) (of_version r it n v id found h))
 
   pub crate_given : (it : Text → Asked) (text : Text) (c : FoundCrate) → asked_of given ≡ it text → caller.found ≡ Some c → GrantsOf c g it r old new → GrantsTo limits caller g (asked_of asked) r old new
   crate_given it text c is found h = as_given (subst (λ a. GrantsTo limits caller g a r old new) (sym is) (of_crate r it text c found h))

@@ -11,5 +11,4 @@ pub mod OwningSets
 pub mod Publications
 pub mod ReadingServed
 pub mod ReplyLines
-mod VersionArchives
 mod Words

@@ -59,9 +59,7 @@ pub use Rattle.reg_tables_meaning.specs.Changes.{told_of}
 pub use Rattle.reg_tables_meaning.specs.Entries.{entry_of_account}
 pub use Rattle.reg_tables_meaning.specs.Stands.{Holds, Ids, Stands, StandsBy, spelling_at}
 pub use Rattle.reg_tables_schema.proofs.Queries.{maps_twice}
-pub use Rattle.reg_tables_sql.specs.Archives.{IsArchiveWithId}
 pub use Rattle.reg_tables_sql.specs.declared.accounts.Account.{Account}
-pub use Rattle.reg_tables_sql.specs.declared.archives.Archive.{Archive}
 pub use Rattle.sqlite.specs.Tree.{Trees}
 pub use Rattle.sqlite_trees.specs.declared.store.Store.{Ghosts}
 pub use Rattle.reg_service_requests.specs.Granted.{IsCaller, IsCrate, IsLet, marking}

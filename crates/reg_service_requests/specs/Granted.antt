@@ -1,8 +1,8 @@
 -- What a request is answered that the rules on access let pass.
-use Rattle.std.specs.Prelude.{◌≡◌, ℕ, Bool, true, false, None, Some, Result}
+use Rattle.std.specs.Prelude.{◌≡◌, Bool, true, false, None, Some, Result}
 use Rattle.sqlite.specs.Tree.{Trees}
 use Rattle.sqlite_trees.specs.declared.store.Store.{Ghosts}
-use Rattle.reg_access.specs.Admitted.{IsCallerOf, IsCrateOf, IsIdOf, version_named}
+use Rattle.reg_access.specs.Admitted.{IsCallerOf, IsCrateOf}
 use Rattle.reg_access.specs.declared.admission.Caller.{Caller}
 use Rattle.reg_access.specs.declared.admission.FoundCrate.{FoundCrate}
 use Rattle.reg_body.specs.declared.limits.Limits.{Limits}
@@ -31,10 +31,6 @@ IsCaller digest a caller db = Tells (λ ids s. IsCallerOf ids s digest a caller)
 abbrev pub IsCrate : Action → FoundCrate → Trees → Type 0
 IsCrate a it db = Tells (λ ids s. IsCrateOf ids s (crate_of a) it) db
 
--- this is the id of the version of an action
-abbrev pub IsVersion : Action → ℕ → Trees → Type 0
-IsVersion a id db = Tells (λ ids s. IsIdOf ids (version_named s a) (Some id)) db
-
 -- what they let pass is served to this caller, under these limits, with any token
 abbrev pub GrantsTo : {S : Type 0} → Limits → Caller → Ghosts S → Asked → Result Served StoreFault
     → Work S → Work S → Type 0
@@ -57,15 +53,6 @@ GrantsOf found g asked r old new =
     Runs g old new r (λ before after it. (text : Text) (limits : Limits) (digest : Text)
     → IsLet digest (action_of (asked text)) before → IsCrate (action_of (asked text)) found before
     → Serves limits (Some digest) (asked text) before after it)
-
--- it is so of the version with this id, by whichever texts the request names it
-abbrev pub GrantsVersion : {S : Type 0} → ℕ → Ghosts S → (Text → Text → Asked)
-    → Result Served StoreFault → Work S → Work S → Type 0
-GrantsVersion id g asked r old new =
-    Runs g old new r (λ before after it. (name text : Text) (limits : Limits) (digest : Text)
-    → IsLet digest (action_of (asked name text)) before
-    → IsVersion (action_of (asked name text)) id before
-    → Serves limits (Some digest) (asked name text) before after it)
 
 -- the request that yanks a version, or takes that back
 abbrev pub marking : Bool → Text → Text → Asked

@@ -4,20 +4,18 @@ use Rattle.sqlite.specs.Tree.{Trees}
 use Rattle.reg_body.specs.declared.limits.Limits.{Limits}
 use Rattle.reg_model.specs.Effects.{served}
 use Rattle.reg_model.specs.Events.{Asked}
-use Rattle.reg_model.specs.Events.Answer.{File}
-use Rattle.reg_model.specs.Events.Asked.{Index}
 use Rattle.reg_model.specs.Events.Event.{Ask}
 use Rattle.reg_model.specs.Registry.{Registry, Text}
 use Rattle.reg_model.specs.Steps.{outcome}
 use Rattle.reg_api_replies.specs.Replies.{Says}
 use Rattle.reg_tables_meaning.specs.Stands.{Holds, Ids, Stands}
-use Rattle.reg_service_index.specs.Found.{file_at}
+use Rattle.reg_service_index.specs.Found.{AsksFor, HasText, answer_of, length_in}
 use Rattle.reg_service_requests.specs.declared.served.Served.{Served}
 use Rattle.reg_service_requests.specs.declared.served.Served.TheVariants.{Done, Seeks, Sends, Told}
 
 -- What is told is the answer, and the state stays. What is done is answered so, and the rows are
 -- those of the state after it. A search is answered what this account is served, and a request for
--- an index file that file, which is this long.
+-- an index file or an archive the text of what was found, as long as its head will tell.
 abbrev pub Serves : Limits → Option Text → Asked → Trees → Trees → Served → Type 0
 Serves limits digest asked old new (Told reply) =
     (ids : Ids) (s : Registry) → Holds ids s old
@@ -30,8 +28,7 @@ Serves limits digest asked old new (Done reply) =
 Serves limits digest asked old new (Seeks id) =
     (ids : Ids) (s : Registry) → Holds ids s old
     → outcome limits s (Ask digest asked) ≡ (served s (Some id) asked, s)
-Serves limits digest asked old new (Sends f) =
-    ((path : Text) × (asked ≡ Index path))
+Serves limits digest asked old new (Sends f) = AsksFor asked f
     × ((ids : Ids) (s : Registry) → Holds ids s old
-    → (outcome limits s (Ask digest asked) ≡ (File (file_at ids s f), s))
-    × (f.length ≡ length (file_at ids s f)))
+    → (text : Text) × (outcome limits s (Ask digest asked) ≡ (answer_of f text, s))
+    × (length_in f text ≡ length text) × HasText f text old)

@@ -7,7 +7,7 @@
 //!     Served::Told(reply) => reply,        // nothing is to be kept
 //!     Served::Done(reply) => ..            // committed first, with_line(reply, told.line)
 //!     Served::Seeks(account) => ..         // it may search
-//!     Served::Sends(file) => ..            // it may read this index file
+//!     Served::Sends(found) => ..           // it may read this index file or archive
 //! }
 //! ```
 #![tactic(auto)]

@@ -1,17 +1,17 @@
 //! What requests read.
 
 ghost use Rattle.std.specs.Prelude.{◌≡◌, false};
-ghost use Rattle.reg_model.specs.Events.Asked.{Download, Index, ListOwners, Read};
+ghost use Rattle.reg_model.specs.Events.Asked.{Index, ListOwners, Read};
 ghost use Rattle.reg_model.specs.Events.Reading.{Config};
 ghost use Rattle.reg_tables.specs.Works.{IsAtWork, has_failed};
-ghost use Rattle.reg_service_requests.specs.Granted.{Grants, GrantsOf, GrantsVersion};
+ghost use Rattle.reg_service_requests.specs.Granted.{Grants, GrantsOf};
 
 use crate::bodies::owners_list;
 use crate::served::Served;
 use reg_access::FoundCrate;
 use reg_api_replies::{Kind, Reply};
 use reg_line::config;
-use reg_service_index::FoundFile;
+use reg_service_index::{Found, FoundFile};
 use reg_service_steps::find_base;
 use reg_tables::{Result, Work};
 use sqlite::Alter;
@@ -36,21 +36,10 @@ pub(crate) fn find_file<S: Alter>(work: &mut Work<'_, S>, found: &FoundCrate) ->
     ensures { GrantsOf found.now S.Store Index result work.old work.new }
 {
     match work.summary_of(found.id)? {
-        Some(summary) => Ok(Served::Sends(FoundFile {
+        Some(summary) => Ok(Served::Sends(Found::File(FoundFile {
             crate_id: found.id,
             length: summary.index_length,
-        })),
-        None => work.fail(),
-    }
-}
-
-/// The archive of the version with this id.
-pub(crate) fn read_archive<S: Alter>(work: &mut Work<'_, S>, version: u64) -> Result<Served>
-    requires { IsAtWork S.Store work.old }
-    ensures { GrantsVersion version S.Store Download result work.old work.new }
-{
-    match work.archive_with_id(version)? {
-        Some(archive) => Ok(Served::Told(Reply::Done(Kind::Archive, archive.bytes))),
+        }))),
         None => work.fail(),
     }
 }

@@ -1,7 +1,7 @@
 //! The outcome of a request within a transaction.
 
 use reg_api_replies::Reply;
-use reg_service_index::FoundFile;
+use reg_service_index::Found;
 
 /// The outcome of a request within a transaction.
 #[derive(Drop)]
@@ -12,6 +12,6 @@ pub enum Served {
     Done(Reply),
     /// It may search: the id of its token's account.
     Seeks(u32),
-    /// It may read this index file, and nothing of the transaction is to be kept.
-    Sends(FoundFile),
+    /// It may read this index file or archive, and nothing of the transaction is to be kept.
+    Sends(Found),
 }

@@ -13,7 +13,7 @@ ghost use Rattle.reg_service_requests.specs.Telling.{GrantsTold, ServesTold};
 use crate::marking::set_yanked;
 use crate::owning::own;
 use crate::publishing::publish;
-use crate::reading::{find_file, list_owners, read_archive, read_config};
+use crate::reading::{find_file, list_owners, read_config};
 use crate::served::Served;
 use crate::told::{ServedTold, denied, untold};
 use reg_access::{Admission, Caller, admit};
@@ -21,6 +21,7 @@ use reg_body::Limits;
 use reg_line::Digest;
 use reg_model::laws::access_law;
 use reg_policy::{Asked, Reading, Rule, action_of};
+use reg_service_index::Found;
 use reg_tables::{Result, Work};
 use sqlite::Alter;
 use std::alloc::Global;
@@ -48,7 +49,9 @@ fn grant<S: Alter>(
         Asked::Read(Reading::Config) => untold(read_config(alloc, work)),
         Asked::Read(Reading::Search(_, _)) => untold(Ok(Served::Seeks(caller.account))),
         Asked::Index(_) => untold(find_file(work, caller.found_crate())),
-        Asked::Download(_, _) => untold(read_archive(work, caller.found_version())),
+        Asked::Download(_, _) => {
+            untold(Ok(Served::Sends(Found::Archive(caller.found_version()))))
+        }
         Asked::ListOwners(_) => untold(list_owners(alloc, work, caller.found_crate())),
         Asked::Publish(new) => publish(alloc, work, limits, caller, new, traced),
         Asked::Yank(_, version) => set_yanked(alloc, work, caller, version, true, traced),

@@ -22,7 +22,7 @@ enum Task<'a> {
     Export,
     /// The first check that fails.
     Audit,
-    /// An index file, sent row by row.
+    /// An index file or an archive, sent from its rows.
     Stream(Parts<'a>),
     /// What a request or a command is answered.
     Call(Parts<'a>),
@@ -67,20 +67,21 @@ pub fn send_answer<S: Alter>(
         Answered::Replied(acted) => {
             write_reply(writer, &acted.reply, false, false, MOST_WRITES).is_ok()
         }
-        Answered::Found(file) => registry
-            .stream_index(&file, false, writer, MOST_WRITES)
+        Answered::Found(found) => registry
+            .stream_found(&found, false, writer, MOST_WRITES)
             .is_ok(),
     }
 }
 
-/// What is sent to a request for an index file.
+/// What is sent to a request for an index file or an archive.
 fn sent<S: Alter>(alloc: Global, registry: &mut Registry<S>, request: &ApiRequest<'_>) -> Answer
     requires { IsUpToDate S.Store registry.old }
     ensures { IsUpToDate S.Store registry.new }
 {
-    let ApiCall::Index(_) = &request.call else {
-        return Answer::NoSuchWords;
-    };
+    match &request.call {
+        ApiCall::Index(_) | ApiCall::Download(_, _) => {}
+        _ => return Answer::NoSuchWords,
+    }
     let mut writer = Counted::new(Vec::new(alloc));
     let is_whole = send_answer(alloc, registry, request, &mut writer);
     Answer::Sent(is_whole, writer.into_inner())

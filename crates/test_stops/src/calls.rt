@@ -80,6 +80,8 @@ stream ada index 1/a -> HTTP/1.1 200 OK|content-type: text/plain|content-length:
     "vers":"0.1.0","yanked":false}<0a>"#;
 
 pub(crate) const REQUESTS: &str = r#"ada download a 0.1.0 -> Archive(0) 
+stream ada download a 0.1.0 -> HTTP/1.1 200 OK|content-type: application/octet-stream|
+    content-length: 0||
 ada owners a -> Json {"users":[{"id":1,"login":"ada","name":"Ada"}]}
 ada search  -> Json {"crates":[{"description":null,"max_version":"0.1.0","name":"a"}],
     "meta":{"total":1}}"#;

@@ -10,8 +10,8 @@ use reg_api_replies::FixedText;
 use reg_body::{Counted, Limits};
 use reg_policy::{AdminCommand, AdminRefusal, AdminReply, Rule};
 use reg_service::{
-    Acted, Answered, ApiCall, ApiRequest, Check, FoundFile, IndexFault, Kind, Methods, OpenFault,
-    OrderTold, Registry, Reply,
+    Acted, Answered, ApiCall, ApiRequest, Check, Found, FoundFile, IndexFault, Kind, Methods,
+    OpenFault, OrderTold, Registry, Reply,
 };
 use reg_tables::StoreFault;
 use sqlite::{Connection, MemStore};
@@ -29,12 +29,15 @@ const _: [IndexFault; 3] = [IndexFault::Write, IndexFault::Spent, IndexFault::St
 
 const _: fn(Acted) -> Answered = Answered::Replied;
 
-const _: fn(FoundFile) -> Answered = Answered::Found;
+const _: fn(Found) -> Answered = Answered::Found;
 
-const _: FoundFile = FoundFile {
-    crate_id: 1,
-    length: 300,
-};
+const _: [Found; 2] = [
+    Found::File(FoundFile {
+        crate_id: 1,
+        length: 300,
+    }),
+    Found::Archive(1),
+];
 
 const _: ApiRequest<'static> = ApiRequest {
     token: Some(b""),
@@ -87,9 +90,9 @@ fn open(
     Registry::open(alloc, conn, limits)
 }
 
-fn stream_index(
+fn stream_found(
     registry: &mut Registry<MemStore>,
-    file: &FoundFile,
+    found: &Found,
     close: bool,
     writer: &mut Counted<Vec<u8>>,
     writes: u64,
@@ -97,7 +100,7 @@ fn stream_index(
     requires tables { IsUpToDate over_memory registry.old }
     requires room { writer.old.calls + writes < 2 ^ 64 }
 {
-    Registry::stream_index(registry, file, close, writer, writes)
+    Registry::stream_found(registry, found, close, writer, writes)
 }
 
 fn take_connection(registry: Registry<MemStore>) -> Connection<MemStore> {
@@ -113,6 +116,7 @@ fn call_methods(
     return;
     let _: &Limits = Registry::limits(registry);
     let _: bool = Registry::has_stopped(registry);
+    let _: Kind = Found::kind(&Found::Archive(1));
     let _: Result<String, StoreFault> = Registry::mark(registry, alloc);
     let _: Reply = Registry::handle(registry, alloc, request);
     let _: Result<AdminReply, AdminRefusal> = Registry::command(registry, alloc, command);

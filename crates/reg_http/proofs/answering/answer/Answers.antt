@@ -33,12 +33,12 @@ returns-in-Found g c =
     let old = tables_of c.args.registry.now in
     let found = tables_of c.act.new.self in
     let k = tail (g.T.Write.contents c.args.trail.now.end.inner) c.args.trail.now in
-    let sent = c.send_index.ensures in
+    let sent = c.send_found.ensures in
     let kept : GoesOn g.S.Store c.args.registry.now c.act.new.self = record { tables = c.act.ensures.tables; clean = c.act.ensures.clean; limits = c.act.ensures.limits } in
     record {
       replied = λ f same clean s shows.
           sent.replied k clean limits f (wants_of request.call) s old
-          (subst (λ t. let asks = request_from limits t (wants_of request.call) in Finds g.S.Store limits s asks.digest asks.asked c.in-Found.file old found) (sym same) (c.in-Found.ensures.replies (sent.keeps.clean clean) s shows));
+          (subst (λ t. let asks = request_from limits t (wants_of request.call) in Finds g.S.Store limits s asks.digest asks.asked c.in-Found.found old found) (sym same) (c.in-Found.ensures.replies (sent.keeps.clean clean) s shows));
       spends = sent.spends;
       fewer = sent.fewer;
       told = trailed_nothing k;

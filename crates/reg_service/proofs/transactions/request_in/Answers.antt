@@ -103,5 +103,5 @@ returns-in-Sends g c =
     let back = c.tables-in-Sends-1.given.1 (sym (c.serve_told.ensures.leaves.same_reference ∙ c.in-Ok.ensures.same_reference)) in
     let looks = call_looks g.S.Store c.serve_told.result c.in-Ok.work c.serve_told.new.work c.serve_told.ensures.leaves in
     found g.S.Store c.args.limits.now c.args.traced (option_map (λ d. d.now) c.args.digest) (asked_of c.args.asked.now) old c.requires.tables c.in-Ok.work c.serve_told.new.work c.in-Ok.ensures.begun looks
-    told.told told.ensures.told c.file_law.ensures
-    c.in-Sends.file _ c.drop-work-in-Sends-1.new.self.0 back c.in-Sends.is c.drop-work-in-Sends-1.ensures (λ up db l. g.met.S.Store.settled (held old).store db up l)
+    told.told told.ensures.told
+    c.in-Sends.found _ c.drop-work-in-Sends-1.new.self.0 back c.in-Sends.is c.drop-work-in-Sends-1.ensures (λ up db l. g.met.S.Store.settled (held old).store db up l)

@@ -70,7 +70,7 @@ returns-in_err-more-clause-rows g c =
     let it : Text × Bool = (entry.stem.now, entry.yanked) in
     let on = walked_as g.S.Store entries_text (Int (pos c.args.crate_id) ∷ []) c.args.conn.now c.rows.rows now i.0 i.2 c.in-Some.row (entry_row it) c.in-Some-entry_of.ensures (rw (c.in_ok-row.was, c.in-Some.is) at c.next.follows.holds-at-none) in
     rw (p.1, p.2, back)
-    (rows_stopped g.S.Store c.args.conn.now c.args.crate_id c.requires.ours c.args.front.now c.args.writes _ _ c.rows.used c.rows.rows.conn.now c.rows.pile i.0 i.2 i.3 c.in_err-more.field-0.0 it _ now.conn.now c.in_err-more.ensures on)
+    (rows_stopped g.S.Store c.args.conn.now c.args.crate_id c.requires.ours c.args.front.now c.args.writes _ _ c.rows.used c.rows.rows.conn.now c.rows.pile i.0 i.2 i.3 c.in_err-more.field-0.0 it _ now.conn.now (rw c.line_end.ensures at c.in_err-more.ensures) on)
 
 pub rows-init : goal.rows-init
 rows-init g c =
@@ -99,7 +99,7 @@ rows-preserved g c =
         i.0 ++ entry_row it ∷ [],
         length_push i.0 (entry_row it) ∙ ap (λ n. n + 1) i.1,
         on,
-        rows_more g.S.Store c.args.conn.now c.args.crate_id c.requires.ours c.args.front.now c.args.writes _ _ c.rows.used c.rows.rows.conn.now c.rows.pile i.0 i.2 i.3 it _ c.in_ok-more.more c.put_line.new.pile c.in_ok-more.ensures,
+        rows_more g.S.Store c.args.conn.now c.args.crate_id c.requires.ours c.args.front.now c.args.writes _ _ c.rows.used c.rows.rows.conn.now c.rows.pile i.0 i.2 i.3 it _ c.in_ok-more.more c.put_both.new.pile (rw c.line_end.ensures at c.in_ok-more.ensures),
       );
     }
 

@@ -1,7 +1,8 @@
 use Rattle.reg_service_requests.proofs.Words.{◌≡◌, Ok, refl, rules, Download, Index, ListOwners, runs_nothing}
 use Rattle.reg_policy.specs.declared.event.Asked.TheVariants.{Read}
 use Rattle.reg_policy.specs.declared.event.Reading.TheVariants.{Config, Search}
-use Rattle.reg_service_requests.proofs.Deciding.{always_given, as_given, crate_given, faulty_told, seeks, told_given, untold_given, version_given}
+use Rattle.reg_service_requests.proofs.Deciding.{always_given, as_given, crate_given, faulty_told, seeks, told_given, untold_given}
+use Rattle.reg_service_requests.proofs.ReadingServed.{archive_found}
 use Rattle.reg_service_requests.proofs.serving.grant.Goals as goal
 
 pub returns-in-Faulty : goal.returns-in-Faulty
@@ -32,9 +33,10 @@ returns-in-Index g c =
 
 pub returns-in-Download : goal.returns-in-Download
 returns-in-Download g c =
-    untold_given g.S.Store c.args.traced c.args.limits.now c.args.caller.now c.args.asked.now _ c.in-Download.is c.untold-in-Download.result c.args.work.now c.read_archive.new.work c.read_archive.result c.untold-in-Download.ensures refl
-    (version_given g.S.Store c.args.limits.now c.args.caller.now c.args.asked.now _ c.in-Download.is c.read_archive.result c.args.work.now c.read_archive.new.work
-    Download c.in-Download.field-0.now c.in-Download.field-1.now c.found_version.result refl c.found_version.ensures c.read_archive.ensures)
+    untold_given g.S.Store c.args.traced c.args.limits.now c.args.caller.now c.args.asked.now _ c.in-Download.is c.untold-in-Download.result c.args.work.now c.args.work.now (Ok _) c.untold-in-Download.ensures refl
+    (as_given g.S.Store c.args.limits.now c.args.caller.now c.args.asked.now _ c.in-Download.is _ c.args.work.now c.args.work.now
+    (runs_nothing g.S.Store _ c.args.work.now c.requires.goes_on c.requires.at_work
+    (λ digest lets who. archive_found c.in-Download.field-0.now c.in-Download.field-1.now c.args.caller.now c.found_version.result c.found_version.ensures _ c.args.limits.now digest lets who)))
 
 pub returns-in-ListOwners : goal.returns-in-ListOwners
 returns-in-ListOwners g c =

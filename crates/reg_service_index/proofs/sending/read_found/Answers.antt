@@ -1,7 +1,7 @@
-use Rattle.reg_service_index.proofs.Words.{arith, ap, sym, ◌∙◌, Some, held}
+use Rattle.reg_service_index.proofs.Words.{arith, ap, sym, ◌∙◌, false, Some, held}
 use Rattle.reg_service_index.proofs.Left.{read_left}
-use Rattle.reg_service_index.proofs.Unsent.{file_read}
-use Rattle.reg_service_index.proofs.sending.read_file.Goals as goal
+use Rattle.reg_service_index.proofs.Unsent.{found_read}
+use Rattle.reg_service_index.proofs.sending.read_found.Goals as goal
 
 pub send_over-requires-clause-room : goal.send_over-requires-clause-room
 send_over-requires-clause-room g c = omega (arith, ap (λ e. e.calls) c.new-text.ensures)
@@ -16,7 +16,7 @@ returns g c =
     let it = c.in_ok-send_over.ensures in
     record {
       reads = λ clean.
-          file_read g.S.Store c.args.file.now _ c.args.tables.now _ _ c.in_ok-send_over.field-0 (held c.send_over.new.tables) c.into_inner.result.items it.rows clean
+          found_read g.S.Store c.args.found.now _ (held c.args.tables.now) (held c.send_over.new.tables) false _ _ c.in_ok-send_over.field-0 c.into_inner.result.items it.sends clean
           (ap (λ e. Some e.inner.items) c.new-text.ensures ∙ ap Some c.new.ensures.items) (ap (λ v. Some v.items) (sym c.into_inner.ensures));
       left = read_left g.S.Store c.args.tables.now c.send_over.new.tables _ c.requires.ours it.reads it.shut it.edition;
     }
