@@ -5,7 +5,8 @@ use Rattle.reg_service_requests.proofs.Words.{crate_of, owns, action_of, AddOwne
 use Rattle.reg_service_requests.proofs.Words.{is_known, with_commas, Sound, not_denied, not_false, list_any_map, only_if, request_words}
 use Rattle.reg_service_requests.proofs.Words.{spelled, unless, Account, Caller, FoundCrate, ListsOwners, first_canon, owning, changes}
 use Rattle.reg_service_requests.proofs.Words.{owners_word, crate_found, first_as}
-use Rattle.std.specs.Prelude.{map, Global, String}
+use Rattle.std.specs.Global.{Global}
+use Rattle.std.specs.Prelude.{map, String}
 use Rattle.std.specs.FinSet as finset
 use Rattle.reg_model.specs.Facts.{access_facts, counts}
 use Rattle.reg_model.specs.Refusals.{denied}

@@ -22,7 +22,7 @@ returns-in_err-id g c =
 pub returns-in_default : goal.returns-in_default
 returns-in_default g c =
     let below : c.loop-login.login-index < length c.args.logins.now = omega arith in
-    one_unknown g.S.Store c.args.logins.now c.args.work.now c.loop-login.login-index _ c.loop-login.ids.items c.loop-login.work c.find_known.new.work below c.loop-login.invariant (rw c.in_default.is at c.in_ok-id.ensures)
+    one_unknown g.S.Store c.args.logins.now c.args.work.now c.loop-login.login-index _ c.loop-login.ids.items c.loop-login.work c.find_known.new.work below c.loop-login.invariant (rw (c.in_default.is, c.deref.ensures) at c.in_ok-id.ensures)
 
 pub returns-then-is_err : goal.returns-then-is_err
 returns-then-is_err g c =
@@ -34,7 +34,7 @@ loop-login-preserved g c =
     let below : c.loop-login.login-index < length c.args.logins.now = omega arith in
     let pushed : c.push.new.self.items ≡ c.loop-login.ids.items ++ c.in-Some.id ∷ [] = search rules in
     subst (λ ids. AreFound g.S.Store (texts_of c.args.logins.now) (texts_of (drop (c.loop-login.login-index + 1) c.args.logins.now)) ids c.args.work.now c.find_known.new.work) (sym pushed)
-    (more_found g.S.Store c.args.logins.now c.args.work.now c.loop-login.login-index _ c.loop-login.ids.items c.loop-login.work c.find_known.new.work below c.loop-login.invariant c.in-Some.id (rw c.in-Some.is at c.in_ok-id.ensures))
+    (more_found g.S.Store c.args.logins.now c.args.work.now c.loop-login.login-index _ c.loop-login.ids.items c.loop-login.work c.find_known.new.work below c.loop-login.invariant c.in-Some.id (rw (c.in-Some.is, c.deref.ensures) at c.in_ok-id.ensures))
 
 pub returns : goal.returns
 returns g c =

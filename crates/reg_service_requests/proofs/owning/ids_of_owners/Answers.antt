@@ -11,14 +11,14 @@ pub returns-in-None : goal.returns-in-None
 returns-in-None c =
     let es = entries_of c.args.owners.now in
     so_far_ends (has_login es) (id_among es) c.args.logins.now c.loop-login.login-index _ c.loop-login-test.true c.loop-login.ids.items c.loop-login.invariant
-    (owner_found c.args.owners.now _ None c.in-None.ensures)
+    (rw c.deref.ensures at owner_found c.args.owners.now _ None c.in-None.ensures)
 
 pub loop-login-preserved : goal.loop-login-preserved
 loop-login-preserved c =
     let es = entries_of c.args.owners.now in
     subst (λ ids. IsSoFar (has_login es) (id_among es) (texts_of c.args.logins.now) (texts_of (drop (c.loop-login.login-index + 1) c.args.logins.now)) ids) (sym c.in_ok-push-in-Some.ensures.items)
     (so_far_more (has_login es) (id_among es) c.args.logins.now c.loop-login.login-index _ c.loop-login-test.true c.loop-login.ids.items c.loop-login.invariant c.in-Some.id
-    (owner_found c.args.owners.now _ (Some c.in-Some.id) c.in-Some.ensures))
+    (rw c.deref.ensures at owner_found c.args.owners.now _ (Some c.in-Some.id) c.in-Some.ensures))
 
 pub returns : goal.returns
 returns c =

@@ -56,8 +56,8 @@ returns-in-Unyank g c =
 
 pub returns-in-AddOwners : goal.returns-in-AddOwners
 returns-in-AddOwners g c =
-    told_given g.S.Store c.args.traced c.args.limits.now c.args.caller.now c.args.asked.now _ c.in-AddOwners.is c.own.result c.args.work.now c.own.new.work (c.own.ensures c.args.limits.now c.in-AddOwners.field-0.now)
+    told_given g.S.Store c.args.traced c.args.limits.now c.args.caller.now c.args.asked.now _ c.in-AddOwners.is c.own.result c.args.work.now c.own.new.work (rw c.deref.ensures.value at c.own.ensures c.args.limits.now c.in-AddOwners.field-0.now)
 
 pub returns-in-RemoveOwners : goal.returns-in-RemoveOwners
 returns-in-RemoveOwners g c =
-    told_given g.S.Store c.args.traced c.args.limits.now c.args.caller.now c.args.asked.now _ c.in-RemoveOwners.is c.own-in-RemoveOwners.result c.args.work.now c.own-in-RemoveOwners.new.work (c.own-in-RemoveOwners.ensures c.args.limits.now c.in-RemoveOwners.field-0.now)
+    told_given g.S.Store c.args.traced c.args.limits.now c.args.caller.now c.args.asked.now _ c.in-RemoveOwners.is c.own-in-RemoveOwners.result c.args.work.now c.own-in-RemoveOwners.new.work (rw c.deref-in-RemoveOwners.ensures.value at c.own-in-RemoveOwners.ensures c.args.limits.now c.in-RemoveOwners.field-0.now)
