@@ -37,7 +37,8 @@ fn hit_text(alloc: Global, hit: &Hit) -> Result<String, AllocError> {
     let name = hit.name.as_str();
     let version = hit.version.as_str();
     format!(in alloc;
-        "{{\"description\":{description},\"max_version\":\"{version}\",\"name\":\"{name}\"}}")
+        "{{\"description\":{description},\"max_version\":\"{version}\",\"name\":\"{name}\"}}"
+    )
 }
 
 /// Adds an entry to a list with commas.

@@ -26,9 +26,10 @@ const WHOLE: &[&str] = &[
 
 /// All answers that a request or a command may have.
 const ANSWERS: &[&str] = &[
-    "done", "A1", "A2", "A3", "A4", "A6", "A7", "A8", "A9", "A10", "B1", "B2", "B3", "B4", "B5",
-    "N1", "N2", "N3", "V1", "V2", "M1", "L1", "L2", "O1", "O2", "O3", "O4", "Q1", "S1", "G1", "G2",
-    "G3", "G4", "G5", "G6", "G7", "G8", "G9", "G10",
+    "done", "H1", "H2", "H3", "H4", "H5", "H6", "H7", "A1", "A2", "A3", "A4", "A6", "A7", "A8",
+    "A9", "A10", "B1", "B2", "B3", "B4", "B5", "N1", "N2", "N3", "V1", "V2", "M1", "L1", "L2",
+    "O1", "O2", "O3", "O4", "Q1", "S1", "G1", "G2", "G3", "G4", "G5", "G6", "G7", "G8", "G9",
+    "G10",
 ];
 
 /// How often each thing has come.
@@ -85,7 +86,14 @@ impl Counts {
         let kind = kind_of(alloc, told)?;
         self.add_to(format!(in alloc; "{} {kind}", word_of(line))?)?;
         self.add_to(kind)?;
-        self.add(alloc, if let Told::Reply(_) = told { "requests" } else { "commands" })
+        self.add(
+            alloc,
+            if let Told::Reply(_) = told {
+                "requests"
+            } else {
+                "commands"
+            },
+        )
     }
 
     /// How often what has this name has come.

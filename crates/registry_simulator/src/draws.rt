@@ -12,12 +12,15 @@ const STREAM: u64 = 71;
 #[derive(Drop)]
 pub(crate) struct Draws {
     words: Pcg32,
+    /// Whether memory is never scarce.
+    pub(crate) is_ample: bool,
 }
 
 impl Draws {
-    pub(crate) fn new(seed: u64) -> Draws {
+    pub(crate) fn new(seed: u64, is_ample: bool) -> Draws {
         Draws {
             words: Pcg32::new(seed, STREAM),
+            is_ample,
         }
     }
 

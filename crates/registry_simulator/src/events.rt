@@ -1,7 +1,7 @@
 //! What happens to a registry, as chance decides it.
 
 use crate::draws::Draws;
-use crate::lines::{any_line, first_line, request_line};
+use crate::lines::{any_line, first_line, stream_line};
 use crate::trouble::Trouble;
 use std::alloc::{AllocError, Global};
 
@@ -48,7 +48,7 @@ const MOST_REQUESTS: u32 = 3;
 fn stream(alloc: Global, draws: &mut Draws) -> Result<Task, AllocError> {
     let mut lines = Vec::new(alloc);
     for _ in 0..draws.below(MOST_REQUESTS).saturating_add(1) {
-        lines.push(request_line(alloc, draws)?)?;
+        lines.push(stream_line(alloc, draws)?)?;
     }
     Ok(Task::Stream(lines, draws.seed()))
 }

@@ -6,6 +6,7 @@ use crate::failure::Failure;
 use crate::looks::look_of;
 use crate::plain::Plain;
 use crate::stage::{Outcome, Played, Seen};
+use crate::streams::Ended;
 use reg_body::Limits;
 use reg_policy::{AdminRefusal, Rule};
 use reg_service::{OpenFault, Reply, Told};
@@ -37,6 +38,8 @@ pub(crate) struct Excuse {
     pub(crate) was_stopped: bool,
     /// It had stopped when it had answered.
     pub(crate) is_stopped: bool,
+    /// A read or a write of a stream failed.
+    pub(crate) ends: bool,
 }
 
 impl Excuse {
@@ -46,6 +49,7 @@ impl Excuse {
             fault: seen.failed > 0,
             was_stopped: seen.was_stopped,
             is_stopped: seen.is_stopped,
+            ends: event.trouble.ends().is_some(),
         }
     }
 
@@ -142,7 +146,11 @@ impl Judge {
         if found == wanted {
             return Ok(());
         }
-        otherwise(alloc, line, &format!(in alloc; "found {found}, wanted {wanted}")?)
+        otherwise(
+            alloc,
+            line,
+            &format!(in alloc; "found {found}, wanted {wanted}")?,
+        )
     }
 
     /// Whether what comes of an event is right.
@@ -163,7 +171,8 @@ impl Judge {
                 self.told(alloc, counts, line, told, excuse)
             }
             (Task::Stream(lines, _), Outcome::Served(answer, taken)) => {
-                self.served(alloc, counts, lines, *answer, taken, excuse)
+                let answer = *answer;
+                self.served(alloc, counts, lines, Ended { answer, excuse }, taken)
             }
             (Task::Call(line), _) => otherwise(alloc, line, "no such words"),
             (Task::Stream(_, _), _) => otherwise(alloc, "a stream", "no such words"),
@@ -239,6 +248,10 @@ impl Judge {
             }
         }
         let (one, other) = difference(found, &wanted);
-        otherwise(alloc, "after a stop", &format!(in alloc; "found {one}, wanted {other}")?)
+        otherwise(
+            alloc,
+            "after a stop",
+            &format!(in alloc; "found {one}, wanted {other}")?,
+        )
     }
 }

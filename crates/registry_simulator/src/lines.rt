@@ -102,9 +102,7 @@ const PATTERNS: &[&str] = &["-", "-", "ac-me", "A*,b", "b,z*", "a,b,z*", "*a"];
 const IDS: &[&str] = &["2", "3", "4", "5", "0"];
 
 /// Names of crates: the first two collide.
-const CRATES: &[&str] = &[
-    "ac-me", "ac-me", "Ac_me", "b", "b", LONG_NAME, "nul", "1b",
-];
+const CRATES: &[&str] = &["ac-me", "ac-me", "Ac_me", "b", "b", LONG_NAME, "nul", "1b"];
 
 /// Names of crates, in any spelling, and what is no name.
 const TEXTS: &[&str] = &[
@@ -180,6 +178,9 @@ const USERS: &[&str] = &[
     "{\"users\":[]}",
 ];
 
+/// Codes of requests that are refused before anything is asked.
+const RAW: &[&str] = &["H1", "H2", "H3", "H4", "H5", "H6", "H6", "H7", "H7"];
+
 /// What a word of a pattern stands for; nothing where it is a word of the line.
 fn texts_of(word: &str) -> &'static [&'static str] {
     match word {
@@ -202,6 +203,7 @@ fn texts_of(word: &str) -> &'static [&'static str] {
         "BYTES" => BYTES,
         "QUERY" => QUERIES,
         "USERS" => USERS,
+        "RAW" => RAW,
         _ => &[],
     }
 }
@@ -223,8 +225,16 @@ fn filled(alloc: Global, draws: &mut Draws, pattern: &'static str) -> Result<Str
     Ok(line)
 }
 
+/// A request of a stream.
+pub(crate) fn stream_line(alloc: Global, draws: &mut Draws) -> Result<String, AllocError> {
+    if draws.is_one_in(12) {
+        return filled(alloc, draws, "raw RAW");
+    }
+    request_line(alloc, draws)
+}
+
 /// A request.
-pub(crate) fn request_line(alloc: Global, draws: &mut Draws) -> Result<String, AllocError> {
+fn request_line(alloc: Global, draws: &mut Draws) -> Result<String, AllocError> {
     let pattern = draws.one_of(REQUESTS);
     filled(alloc, draws, pattern)
 }

@@ -2,8 +2,8 @@
 //! registry, which knows the right answer to each request and command.
 //!
 //! ```
-//! registry_simulator 1000 1 2 3            // a thousand events with each of three seeds
-//! registry_simulator --counts 100000 4     // and how often each thing has come
+//! registry_simulator events=1000 seed=1 seed=2     // a thousand events with each of two seeds
+//! registry_simulator ample seed=3 counts           // memory is never scarce; what was covered
 //! ```
 //!
 //! Each event is a request, a command, or a stream of requests in pieces; in some of them memory is
@@ -20,12 +20,14 @@ mod bodies;
 mod breaking;
 mod counts;
 mod draws;
+mod ends;
 mod events;
 mod failure;
 mod judge;
 mod lines;
 mod looks;
 mod plain;
+mod raw;
 mod simulating;
 mod stage;
 mod story;
@@ -40,77 +42,80 @@ use std::alloc::Global;
 use std::process::ExitCode;
 use std::{env, io};
 
-/// What the arguments ask for.
-#[derive(Drop)]
-struct Wanted {
-    counts: bool,
+/// How it is simulated from now on.
+#[derive(Clone, Copy)]
+struct Settings {
+    /// The number of events with each seed.
     events: u32,
-    seeds: Vec<u64>,
+    /// Whether memory is never scarce.
+    is_ample: bool,
 }
 
-/// What the arguments ask for; none if they are bad.
-fn wanted(alloc: Global, words: &[String]) -> io::Result<Option<Wanted>> {
-    let mut wanted = Wanted {
-        counts: false,
-        events: 0,
-        seeds: Vec::new(alloc),
-    };
-    for word in words {
-        if word.as_str() == "--counts" {
-            wanted.counts = true;
-            continue;
-        }
-        let Ok(number) = word.parse::<u64>() else {
-            return Ok(None);
-        };
-        if wanted.events == 0 {
-            wanted.events = u32::try_from(number).unwrap_or(u32::MAX);
-        } else {
-            wanted.seeds.push(number)?;
-        }
-    }
-    Ok(Some(wanted))
-}
-
-/// Simulates with each seed, and answers whether all was as it has to be.
-fn simulate_all<R: Print>(
+/// Simulates with a seed, and answers whether all was as it had to be.
+fn simulate_seed<R: Print>(
     rt: &R,
     alloc: Global,
-    wanted: &Wanted,
+    settings: Settings,
+    seed: u64,
     counts: &mut Counts,
 ) -> io::Result<bool> {
-    for seed in &wanted.seeds {
-        match simulate(alloc, *seed, wanted.events, counts) {
-            Ok(()) => println!(rt; "seed {seed}: {} events as they have to be", wanted.events)?,
-            Err(Failure::Memory) => {
-                println!(rt; "seed {seed}: no memory")?;
-                return Ok(false);
-            }
-            Err(Failure::Otherwise(what)) => {
-                println!(rt; "seed {seed}: {what}")?;
-                return Ok(false);
-            }
+    let Settings { events, is_ample } = settings;
+    match simulate(alloc, seed, events, is_ample, counts) {
+        Ok(()) => {
+            println!(rt; "seed {seed}: {events} events as they have to be")?;
+            return Ok(true);
         }
+        Err(Failure::Memory) => println!(rt; "seed {seed}: no memory")?,
+        Err(Failure::Otherwise(what)) => println!(rt; "seed {seed}: {what}")?,
     }
-    Ok(true)
+    Ok(false)
 }
 
-fn run(rt: &(impl Print + Env), alloc: Global) -> io::Result<ExitCode> {
-    let words: Vec<String> = env::args(rt)?.skip(1).collect(alloc)?;
-    let Some(wanted) = wanted(alloc, &words)? else {
-        return Ok(ExitCode::from(2));
-    };
-    let mut counts = Counts::new(alloc);
-    let is_right = simulate_all(rt, alloc, &wanted, &mut counts)?;
-    if wanted.counts {
+/// A number behind a name.
+fn number(word: &str, name: &str) -> Option<u64> {
+    word.strip_prefix(name)?.parse().ok()
+}
+
+/// Does what one word asks for: the status with which it ends, if it ends.
+fn follow<R: Print>(
+    rt: &R,
+    alloc: Global,
+    settings: &mut Settings,
+    counts: &mut Counts,
+    word: &str,
+) -> io::Result<Option<u8>> {
+    if let Some(events) = number(word, "events=") {
+        settings.events = u32::try_from(events).unwrap_or(u32::MAX);
+    } else if let Some(seed) = number(word, "seed=") {
+        if !simulate_seed(rt, alloc, *settings, seed, counts)? {
+            return Ok(Some(1));
+        }
+    } else if word == "counts" {
         print!(rt; "{}", counts.text(alloc)?)?;
+    } else if word == "ample" || word == "scarce" {
+        settings.is_ample = word == "ample";
+    } else {
+        return Ok(Some(2));
     }
-    Ok(ExitCode::from(if is_right { 0 } else { 1 }))
+    Ok(None)
+}
+
+/// Does what the words ask for, one after another, and answers the status.
+fn run<R: Print + Env>(rt: &R, alloc: Global) -> io::Result<u8> {
+    let words: Vec<String> = env::args(rt)?.skip(1).collect(alloc)?;
+    let mut counts = Counts::new(alloc);
+    let mut settings = Settings {
+        events: 1_000,
+        is_ample: false,
+    };
+    for word in &words {
+        if let Some(status) = follow(rt, alloc, &mut settings, &mut counts, word.as_str())? {
+            return Ok(status);
+        }
+    }
+    Ok(0)
 }
 
 fn main(rt: HostRuntime) -> ExitCode {
-    match run(&rt, rt.alloc()) {
-        Ok(code) => code,
-        Err(_) => ExitCode::from(1),
-    }
+    ExitCode::from(run(&rt, rt.alloc()).unwrap_or(1))
 }

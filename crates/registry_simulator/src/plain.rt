@@ -3,9 +3,7 @@
 use crate::bodies::{ADDED, CONFIG, MARKED, PUBLISHED, REMOVED, found_text, owners_text};
 use reg_api_requests::{digest_shown, read_call};
 use reg_body::Limits;
-use reg_policy::{
-    AdminCommand, AdminRefusal, AdminReply, Answer, Asked, Event, Reading, Rule,
-};
+use reg_policy::{AdminCommand, AdminRefusal, AdminReply, Answer, Asked, Event, Reading, Rule};
 use reg_policy_plain::PlainRegistry;
 use reg_service::{ApiRequest, Kind, Reply, Told};
 use std::alloc::{AllocError, Global};

@@ -7,14 +7,15 @@ use crate::story::play_story;
 use std::alloc::Global;
 
 /// Plays so many events that this seed decides, and counts what they cover. Each registry has some
-/// of them.
+/// of them. Memory is never scarce if it is to be ample.
 pub(crate) fn simulate(
     alloc: Global,
     seed: u64,
     events: u32,
+    is_ample: bool,
     counts: &mut Counts,
 ) -> Result<(), Failure> {
-    let mut draws = Draws::new(seed);
+    let mut draws = Draws::new(seed, is_ample);
     let mut left = events;
     let before = counts.of("events");
     for _ in 0..events {

@@ -4,9 +4,10 @@ ghost use Rattle.std.specs.Prelude.{◌≡◌, false, IfOk};
 ghost use Rattle.sqlite.specs.Held.{state};
 ghost use Rattle.reg_service.specs.Registries.{IsUpToDate};
 
+use crate::ends::{Sink, Source};
 use crate::events::{Event, Part, Task};
 use crate::trouble::{Breakers, Trouble};
-use crate::wire::{Sink, Source, push_request};
+use crate::wire::stream_of;
 use reg_body::{Counted, Limits};
 use reg_http::{StreamFault, serve_stream};
 use reg_service::{OpenFault, Opened, Registry, Told};
@@ -17,9 +18,6 @@ use test_scripts::{BASE, Parts, answer};
 
 /// More bytes than the replies of a stream have.
 const MOST_TAKEN: usize = 20_000;
-
-/// The most bytes that a read gives or a write takes.
-const MOST_PIECE: u32 = 200;
 
 /// What was answered.
 #[derive(Drop)]
@@ -50,57 +48,48 @@ pub(crate) struct Played {
     pub(crate) seen: Vec<Seen>,
 }
 
+/// The bytes of a stream, how they are cut, after how many reads and writes its ends fail, and room
+/// for what is written.
+#[derive(Drop)]
+struct Stream {
+    bytes: Vec<u8>,
+    seed: u64,
+    ends: (u32, u32),
+    room: Vec<u8>,
+}
+
 /// What is asked, with all that it takes read beforehand.
 #[derive(Drop)]
 enum Prepared<'a> {
     Call(Parts<'a>),
-    /// The bytes of a stream, their seed, and room for what is written.
-    Stream(Vec<u8>, u64, Vec<u8>),
+    Stream(Stream),
 }
 
-fn stream_of(alloc: Global, lines: &[String]) -> Result<Vec<u8>, AllocError> {
-    let mut bytes = Vec::new(alloc);
-    for line in lines {
-        let parts = Parts::read(alloc, line)?;
-        if let Some(request) = parts.request() {
-            push_request(alloc, &mut bytes, &request)?;
-        }
-    }
-    Ok(bytes)
-}
-
-fn prepare<'a>(alloc: Global, task: &'a Task) -> Result<Prepared<'a>, AllocError> {
-    Ok(match task {
+fn prepare<'a>(alloc: Global, event: &'a Event) -> Result<Prepared<'a>, AllocError> {
+    Ok(match &event.task {
         Task::Call(line) => Prepared::Call(Parts::read(alloc, line)?),
-        Task::Stream(lines, seed) => {
-            let room = Vec::with_capacity(alloc, MOST_TAKEN)?;
-            Prepared::Stream(stream_of(alloc, lines)?, *seed, room)
-        }
+        Task::Stream(lines, seed) => Prepared::Stream(Stream {
+            bytes: stream_of(alloc, lines)?,
+            seed: *seed,
+            ends: event.trouble.ends().unwrap_or((u32::MAX, u32::MAX)),
+            room: Vec::with_capacity(alloc, MOST_TAKEN)?,
+        }),
     })
 }
 
-fn served<S: Alter>(
-    alloc: Global,
-    registry: &mut Registry<S>,
-    bytes: &[u8],
-    seed: u64,
-    room: Vec<u8>,
-) -> Outcome
+fn served<S: Alter>(alloc: Global, registry: &mut Registry<S>, stream: Stream) -> Outcome
     requires { IsUpToDate S.Store registry.old }
     ensures { IsUpToDate S.Store registry.new }
 {
     let _turns = registry.limits().turns;
-    let mut reader = Counted::new(Source::new(bytes, seed, MOST_PIECE));
-    let mut writer = Counted::new(Sink::new(room, seed, MOST_PIECE));
+    let (reads, writes) = stream.ends;
+    let mut reader = Counted::new(Source::new(&stream.bytes, stream.seed, reads));
+    let mut writer = Counted::new(Sink::new(stream.room, stream.seed, writes));
     let answer = serve_stream(alloc, registry, &mut reader, &mut writer);
-    Outcome::Served(answer, writer.into_inner().into_taken())
+    Outcome::Served(answer, writer.into_inner().taken)
 }
 
-fn performed<S: Alter>(
-    alloc: Global,
-    registry: &mut Registry<S>,
-    prepared: Prepared<'_>,
-) -> Outcome
+fn performed<S: Alter>(alloc: Global, registry: &mut Registry<S>, prepared: Prepared<'_>) -> Outcome
     requires { IsUpToDate S.Store registry.old }
     ensures { IsUpToDate S.Store registry.new }
 {
@@ -109,7 +98,7 @@ fn performed<S: Alter>(
             Some(told) => Outcome::Told(told),
             None => Outcome::NoSuchWords,
         },
-        Prepared::Stream(bytes, seed, room) => served(alloc, registry, &bytes, seed, room),
+        Prepared::Stream(stream) => served(alloc, registry, stream),
     }
 }
 
@@ -124,7 +113,7 @@ fn seen_of<S: Alter>(
     ensures { IsUpToDate S.Store registry.new }
 {
     let was_stopped = registry.has_stopped();
-    let prepared = prepare(alloc, &event.task)?;
+    let prepared = prepare(alloc, event)?;
     let memory = leave_only(alloc, event.trouble.memory())?;
     breakers.arm(event.trouble);
     let outcome = performed(alloc, registry, prepared);

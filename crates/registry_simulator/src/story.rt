@@ -120,7 +120,10 @@ pub(crate) fn play_story(
     let breakers = Breakers::new();
     let mut files = no_files(alloc, &breakers);
     let mut judge = Judge::new(alloc, limits());
-    let length = draws.below(MORE_EVENTS).saturating_add(FEWEST_EVENTS).min(most);
+    let length = draws
+        .below(MORE_EVENTS)
+        .saturating_add(FEWEST_EVENTS)
+        .min(most);
     let mut events: u32 = 0;
     counts.add(alloc, "registries")?;
     for _ in 0..MOST_PARTS {

@@ -15,6 +15,8 @@ pub(crate) enum Trouble {
     Db(u32, bool),
     /// All calls of both files fail, each after so many of its own.
     Both(u32, u32),
+    /// A read of a stream fails after so many reads, and a write after so many writes.
+    Ends(u32, u32),
 }
 
 /// The breakers of both files.
@@ -37,6 +39,7 @@ impl Breakers {
         match trouble {
             Trouble::Nothing => {}
             Trouble::Memory(_) => {}
+            Trouble::Ends(_, _) => {}
             Trouble::Log(calls, lasts) => self.log.arm(u64::from(calls), lasts),
             Trouble::Db(calls, lasts) => self.db.arm(u64::from(calls), lasts),
             Trouble::Both(log, db) => {
@@ -62,15 +65,25 @@ impl Trouble {
         }
     }
 
+    /// After how many reads and writes the ends of a stream fail, if they do.
+    pub(crate) fn ends(self) -> Option<(u32, u32)> {
+        match self {
+            Trouble::Ends(reads, writes) => Some((reads, writes)),
+            _ => None,
+        }
+    }
+
     /// Trouble that comes once in so many times.
     pub(crate) fn drawn(draws: &mut Draws, times: u32) -> Trouble {
         if !draws.is_one_in(times) {
             return Trouble::Nothing;
         }
-        match draws.below(6) {
+        match draws.below(8) {
             0 => Trouble::Log(calls(draws), draws.is_one_in(2)),
             1 => Trouble::Db(calls(draws), draws.is_one_in(2)),
             2 => Trouble::Both(calls(draws), calls(draws)),
+            3 => Trouble::Ends(calls(draws), calls(draws)),
+            _ if draws.is_ample => Trouble::Nothing,
             _ => Trouble::Memory(amount(draws)),
         }
     }

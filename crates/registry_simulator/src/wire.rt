@@ -1,11 +1,10 @@
-//! Requests as the bytes of a stream, and a stream that comes and goes in pieces.
+//! Requests as the bytes of a stream.
 
-use crate::draws::Draws;
+use crate::raw::{code_of, push_raw};
 use reg_service::{ApiCall, ApiRequest};
 use std::alloc::{AllocError, Global};
 use std::borrow::{CowSlice, CowStr};
-use std::io;
-use std::io::{Read, Write};
+use test_scripts::Parts;
 
 /// The text of a part of a path.
 fn text<'a>(part: &'a CowSlice<'a, u8>) -> &'a str {
@@ -65,89 +64,59 @@ fn body_of<'a>(call: &ApiCall<'a>) -> &'a [u8] {
     }
 }
 
-/// Adds a request to the bytes of a stream.
-pub(crate) fn push_request(
+/// The interim line, which comes before the body of a request that expects it is read.
+pub(crate) const INTERIM: &[u8] = b"HTTP/1.1 100 Continue\r\n\r\n";
+
+/// Whether the request of a line expects the interim line.
+pub(crate) fn expects(line: &str) -> bool {
+    line.contains(" publish ")
+}
+
+/// The head of a request, but for its token and its last line.
+fn head_of(alloc: Global, line: &str, request: &ApiRequest<'_>) -> Result<String, AllocError> {
+    let first = line_of(alloc, &request.call)?;
+    let length = body_of(&request.call).len();
+    let expect = if expects(line) {
+        "expect: 100-continue\r\n"
+    } else {
+        ""
+    };
+    format!(in alloc; "{first} HTTP/1.1\r\nhost: r\r\ncontent-length: {length}\r\n{expect}")
+}
+
+fn push_request(
     alloc: Global,
     bytes: &mut Vec<u8>,
+    line: &str,
     request: &ApiRequest<'_>,
 ) -> Result<(), AllocError> {
-    let body = body_of(&request.call);
-    let line = line_of(alloc, &request.call)?;
-    let head = format!(in alloc; "{line} HTTP/1.1\r\nhost: r\r\ncontent-length: {}\r\n", body.len())?;
-    bytes.extend_from_slice(head.as_bytes())?;
+    bytes.extend_from_slice(head_of(alloc, line, request)?.as_bytes())?;
     if let Some(token) = request.token {
         bytes.extend_from_slice(b"authorization: ")?;
         bytes.extend_from_slice(token)?;
         bytes.extend_from_slice(b"\r\n")?;
     }
     bytes.extend_from_slice(b"\r\n")?;
-    bytes.extend_from_slice(body)
+    bytes.extend_from_slice(body_of(&request.call))
 }
 
-/// A reader over bytes that gives as many at a time as chance decides.
-#[derive(Drop)]
-pub(crate) struct Source<'a> {
-    bytes: &'a [u8],
-    draws: Draws,
-    most: u32,
-}
-
-impl<'a> Source<'a> {
-    /// One that gives at most so many bytes at a time.
-    pub(crate) fn new(bytes: &'a [u8], seed: u64, most: u32) -> Source<'a> {
-        Source {
-            bytes,
-            draws: Draws::new(seed),
-            most,
-        }
+/// Adds the request of a line to the bytes of a stream.
+fn push_line(alloc: Global, bytes: &mut Vec<u8>, line: &str) -> Result<(), AllocError> {
+    if let Some(code) = code_of(line) {
+        return push_raw(bytes, code);
+    }
+    let parts = Parts::read(alloc, line)?;
+    match parts.request() {
+        Some(request) => push_request(alloc, bytes, line, &request),
+        None => Ok(()),
     }
 }
 
-impl Read for Source<'_> {
-    fn read(&mut self, buf: &mut [u8]) -> io::Result<usize> {
-        let piece = self.draws.below(self.most).saturating_add(1);
-        let len = buf.len().min(piece as usize);
-        (&mut self.bytes).read(&mut buf[..len])
+/// The bytes of a stream of requests.
+pub(crate) fn stream_of(alloc: Global, lines: &[String]) -> Result<Vec<u8>, AllocError> {
+    let mut bytes = Vec::new(alloc);
+    for line in lines {
+        push_line(alloc, &mut bytes, line)?;
     }
-}
-
-/// A writer that takes as many bytes at a time as chance decides, as long as it has room.
-#[derive(Drop)]
-pub(crate) struct Sink {
-    taken: Vec<u8>,
-    draws: Draws,
-    most: u32,
-}
-
-impl Sink {
-    /// One that takes at most so many bytes at a time.
-    pub(crate) fn new(taken: Vec<u8>, seed: u64, most: u32) -> Sink {
-        Sink {
-            taken,
-            draws: Draws::new(seed),
-            most,
-        }
-    }
-
-    /// What it took.
-    pub(crate) fn into_taken(self) -> Vec<u8> {
-        let Sink { taken, .. } = self;
-        taken
-    }
-}
-
-impl Write for Sink {
-    fn write(&mut self, buf: &[u8]) -> io::Result<usize> {
-        let piece = self.draws.below(self.most).saturating_add(1);
-        let len = buf.len().min(piece as usize);
-        let (front, _) = buf.split_at(len);
-        match self.taken.extend_from_slice(front) {
-            Ok(()) => Ok(len),
-            Err(_) => Ok(0),
-        }
-    }
-
-    fn flush(&mut self) -> io::Result<()> {
-        Ok(())
-    }
+    Ok(bytes)
 }
