@@ -82,9 +82,14 @@ fn served<S: Alter>(alloc: Global, registry: &mut Registry<S>, stream: Stream) -
     ensures { IsUpToDate S.Store registry.new }
 {
     let _turns = registry.limits().turns;
-    let (reads, writes) = stream.ends;
-    let mut reader = Counted::new(Source::new(&stream.bytes, stream.seed, reads));
-    let mut writer = Counted::new(Sink::new(stream.room, stream.seed, writes));
+    let Stream {
+        bytes,
+        seed,
+        ends,
+        room,
+    } = stream;
+    let mut reader = Counted::new(Source::new(&bytes, seed, ends.0));
+    let mut writer = Counted::new(Sink::new(room, seed, ends.1));
     let answer = serve_stream(alloc, registry, &mut reader, &mut writer);
     Outcome::Served(answer, writer.into_inner().taken)
 }
