@@ -1,6 +1,6 @@
 //! What a simulation has covered.
 
-use reg_policy::{AdminRefusal, AdminReply};
+use crate::lines::first_word;
 use reg_service::{Reply, Told};
 use std::alloc::{AllocError, Global};
 use std::collections::BTreeMap;
@@ -41,6 +41,7 @@ pub(crate) struct Counts {
 /// The kind of an answer: `done`, or the code of a refusal.
 fn kind_of(alloc: Global, told: &Told) -> Result<String, AllocError> {
     match told {
+        Told::Reply(Reply::Method(_)) => String::from_str(alloc, "H7"),
         Told::Reply(Reply::Denied(rule)) => format!(in alloc; "{rule:?}"),
         Told::Command(Err(refusal)) => format!(in alloc; "{refusal:?}"),
         _ => String::from_str(alloc, "done"),
@@ -51,9 +52,7 @@ fn kind_of(alloc: Global, told: &Told) -> Result<String, AllocError> {
 fn word_of(line: &str) -> &str {
     let (first, rest) = line.split_once(' ').unwrap_or((line, ""));
     match first {
-        "ada" | "bob" | "third" | "fourth" | "no-token" | "abd" => {
-            rest.split_once(' ').map_or(rest, |(word, _)| word)
-        }
+        "ada" | "bob" | "third" | "fourth" | "no-token" | "abd" => { first_word(rest) }
         _ => first,
     }
 }

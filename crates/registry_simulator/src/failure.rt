@@ -1,7 +1,6 @@
 //! Why a simulation ended early.
 
-use std::alloc::AllocError;
-use std::io;
+use std::alloc::{AllocError, AllocFailed};
 
 /// Why a simulation ended early.
 #[derive(Debug, Drop)]
@@ -18,9 +17,8 @@ impl From<AllocError> for Failure {
     }
 }
 
-/// A file in memory fails for want of memory alone.
-impl From<io::Error> for Failure {
-    fn from(_error: io::Error) -> Failure {
+impl<T: Drop> From<AllocFailed<T>> for Failure {
+    fn from(_error: AllocFailed<T>) -> Failure {
         Failure::Memory
     }
 }

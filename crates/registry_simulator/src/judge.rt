@@ -208,7 +208,7 @@ impl Judge {
         }
         self.is_made = true;
         counts.add(alloc, "openings")?;
-        for (event, seen) in part.events.iter().zip(&played.seen) {
+        for (event, seen) in part.events.iter().zip(played.seen.iter()) {
             self.seen(alloc, counts, event, seen)?;
         }
         Ok(())

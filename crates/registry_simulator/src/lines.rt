@@ -181,6 +181,14 @@ const USERS: &[&str] = &[
 /// Codes of requests that are refused before anything is asked.
 const RAW: &[&str] = &["H1", "H2", "H3", "H4", "H5", "H6", "H6", "H7", "H7"];
 
+/// The first word of a line.
+pub(crate) fn first_word(line: &str) -> &str {
+    match line.split_once(' ') {
+        Some((word, _)) => word,
+        None => line,
+    }
+}
+
 /// What a word of a pattern stands for; nothing where it is a word of the line.
 fn texts_of(word: &str) -> &'static [&'static str] {
     match word {

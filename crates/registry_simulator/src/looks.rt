@@ -1,6 +1,7 @@
 //! All that is seen of a registry that was opened, and what has to be seen.
 
 use crate::bodies::CONFIG;
+use crate::lines::first_word;
 use crate::plain::Plain;
 use reg_names::{index_path, parse_name};
 use reg_policy::AdminCommand;
@@ -64,7 +65,7 @@ fn export_text(alloc: Global, plain: &mut Plain) -> Result<String, AllocError> {
         plain.told(alloc, &format!(in alloc; "user-enable {login}")?)?;
     }
     for line in crates.lines() {
-        let name = line.split_once(' ').map_or(line, |(name, _)| name);
+        let name = first_word(line);
         plain.told(alloc, &format!(in alloc; "crate-open {name}")?)?;
         text.push_str(&file_text(alloc, plain, name)?)?;
     }

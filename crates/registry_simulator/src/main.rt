@@ -101,7 +101,7 @@ fn follow<R: Print>(
 }
 
 /// Does what the words ask for, one after another, and answers the status.
-fn run<R: Print + Env>(rt: &R, alloc: Global) -> io::Result<u8> {
+fn run(rt: &HostRuntime, alloc: Global) -> io::Result<u8> {
     let words: Vec<String> = env::args(rt)?.skip(1).collect(alloc)?;
     let mut counts = Counts::new(alloc);
     let mut settings = Settings {

@@ -1,6 +1,7 @@
 //! The plain registry, which knows the right answer to each line.
 
 use crate::bodies::{ADDED, CONFIG, MARKED, PUBLISHED, REMOVED, found_text, owners_text};
+use crate::lines::first_word;
 use reg_api_requests::{digest_shown, read_call};
 use reg_body::Limits;
 use reg_policy::{AdminCommand, AdminRefusal, AdminReply, Answer, Asked, Event, Reading, Rule};
@@ -170,8 +171,7 @@ impl Plain {
         let Some(request) = parts.request() else {
             return Ok(Told::Reply(Reply::Denied(Rule::S1)));
         };
-        let who = line.split_once(' ').map_or("", |(who, _)| who);
-        let account = self.holder(who);
+        let account = self.holder(first_word(line));
         Ok(Told::Reply(self.reply(alloc, account, &request)?))
     }
 }
