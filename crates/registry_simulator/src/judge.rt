@@ -218,7 +218,7 @@ impl Judge {
     fn is_after(&self, alloc: Global, line: &str, found: &str) -> Result<bool, Failure> {
         let mut plain = Plain::after(alloc, self.limits, &self.done)?;
         plain.told(alloc, line)?;
-        Ok(look_of(alloc, plain)? == found)
+        Ok(look_of(alloc, plain)?.as_str() == found)
     }
 
     /// Takes it that a line was done that had been refused.
@@ -239,7 +239,7 @@ impl Judge {
     ) -> Result<(), Failure> {
         let doubtful = mem::replace(&mut self.doubtful, Vec::new(alloc));
         let wanted = look_of(alloc, Plain::after(alloc, self.limits, &self.done)?)?;
-        if found == wanted {
+        if found == wanted.as_str() {
             return Ok(());
         }
         for line in doubtful {

@@ -15,6 +15,7 @@ pub(crate) fn code_of(line: &str) -> Option<&str> {
 /// The bytes of the one that is refused with this code, but for its last line.
 fn head_of(code: &str) -> &'static str {
     match code {
+        "H2" => "GET /index/1/b HTTP/1.1\r\nhost: r\r\n",
         "H3" => "PUT /api/v1/crates/new HTTP/1.1\r\nhost: r\r\ntransfer-encoding: chunked\r\n",
         "H4" => "PUT /api/v1/crates/new HTTP/1.1\r\nhost: r\r\ncontent-length: 1x\r\n",
         "H5" => "PUT /api/v1/crates/new HTTP/1.1\r\nhost: r\r\ncontent-length: 99999999999\r\n",
