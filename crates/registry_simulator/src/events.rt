@@ -54,7 +54,7 @@ fn stream(alloc: Global, draws: &mut Draws) -> Result<Task, AllocError> {
 }
 
 /// What comes to a registry that has answered so many calls.
-fn task(alloc: Global, draws: &mut Draws, answered: usize) -> Result<Task, AllocError> {
+fn drawn_task(alloc: Global, draws: &mut Draws, answered: usize) -> Result<Task, AllocError> {
     if answered < 10 {
         return Ok(Task::Call(first_line(alloc, draws)?));
     }
@@ -77,7 +77,7 @@ impl Part {
         for k in 0..count {
             let before = answered.saturating_add(k as usize);
             events.push(Event {
-                task: task(alloc, draws, before)?,
+                task: drawn_task(alloc, draws, before)?,
                 trouble: Trouble::drawn(draws, EVENTS_PER_TROUBLE),
             })?;
         }

@@ -222,14 +222,14 @@ impl Playing<'_> {
             Ok(mut registry) => {
                 let events = &self.part.events;
                 let seen = all_seen(alloc, &mut registry, self.breakers, events);
-                (registry.into_connection(), played(Ok(()), failed, seen))
+                (registry.into_connection(), part_of(Ok(()), failed, seen))
             }
-            Err((conn, fault)) => (conn, played(Err(fault), failed, Ok(Vec::new(alloc)))),
+            Err((conn, fault)) => (conn, part_of(Err(fault), failed, Ok(Vec::new(alloc)))),
         }
     }
 }
 
-fn played(
+fn part_of(
     opened: Result<(), OpenFault>,
     failed: u64,
     seen: Result<Vec<Seen>, AllocError>,

@@ -87,7 +87,7 @@ fn stop(
 }
 
 /// Opens the files, looks at the registry in them, and closes them if the part says so.
-fn look<'b>(
+fn look_at<'b>(
     alloc: Global,
     files: MemoryFiles<'b>,
     part: &Part,
@@ -136,7 +136,7 @@ pub(crate) fn play_story(
         files = play_part(alloc, &breakers, files, &part, &mut judge, counts)?;
         stop(alloc, &mut files, &part, counts)?;
         if judge.is_made {
-            files = look(alloc, files, &part, &mut judge, counts)?;
+            files = look_at(alloc, files, &part, &mut judge, counts)?;
         }
     }
     Ok(events)
