@@ -5,7 +5,7 @@ use reg_service::{Methods, Reply};
 use std::alloc::AllocError;
 
 /// More fields than a head may have.
-const MANY_FIELDS: u32 = 65;
+const MANY_FIELDS: u32 = 80;
 
 /// The code in such a line.
 pub(crate) fn code_of(line: &str) -> Option<&str> {
