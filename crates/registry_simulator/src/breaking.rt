@@ -103,8 +103,6 @@ impl<D: Disk> Disk for Breaking<'_, D> {
 
     ghost key_of = { λ f. D.Disk.key_of f.inner };
 
-    ghost is_frozen = { λ f. D.Disk.is_frozen f.inner };
-
     ghost is_clean = { λ f. D.Disk.is_clean f.inner };
 
     ghost is_fair = { λ f. D.Disk.is_fair f.inner };

@@ -55,8 +55,8 @@ fn stream(alloc: Global, draws: &mut Draws) -> Result<Task, AllocError> {
 
 /// What comes to a registry that has answered so many calls.
 fn drawn_task(alloc: Global, draws: &mut Draws, answered: usize) -> Result<Task, AllocError> {
-    if answered < 10 {
-        return Ok(Task::Call(first_line(alloc, draws)?));
+    if let Some(line) = first_line(alloc, draws, answered)? {
+        return Ok(Task::Call(line));
     }
     if draws.is_one_in(4) {
         return stream(alloc, draws);

@@ -6,13 +6,18 @@
 use crate::draws::Draws;
 use std::alloc::{AllocError, Global};
 
-/// What fills an empty registry.
+/// What comes to an empty registry, one after another.
 const FIRST: &[&str] = &[
-    "user-add LOGIN",
+    "user-add ada",
     "user-add LOGIN NAME",
-    "token-add LOGIN ALL EVERY TOKEN",
-    "token-add LOGIN ALL EVERY TOKEN",
+    "token-add ada ALL EVERY ada",
+    "user-add bob",
+    "ada release CRATE VERSION ARCHIVE",
+    "token-add bob ALL EVERY bob",
+    "ada publish METADATA ARCHIVE",
+    "token-add LOGIN ALL EVERY third",
     "WHO release CRATE VERSION ARCHIVE",
+    "token-add LOGIN ENDPOINTS PATTERNS fourth",
     "WHO publish METADATA ARCHIVE",
 ];
 
@@ -256,8 +261,14 @@ pub(crate) fn any_line(alloc: Global, draws: &mut Draws) -> Result<String, Alloc
     filled(alloc, draws, pattern)
 }
 
-/// A request or a command that may fill an empty registry.
-pub(crate) fn first_line(alloc: Global, draws: &mut Draws) -> Result<String, AllocError> {
-    let pattern = draws.one_of(FIRST);
-    filled(alloc, draws, pattern)
+/// What comes to a registry after so many others, if it is one of the first.
+pub(crate) fn first_line(
+    alloc: Global,
+    draws: &mut Draws,
+    before: usize,
+) -> Result<Option<String>, AllocError> {
+    match FIRST.get(before) {
+        Some(pattern) => Ok(Some(filled(alloc, draws, pattern)?)),
+        None => Ok(None),
+    }
 }

@@ -139,6 +139,7 @@ fn all_seen<S: Alter>(
     events: &[Event],
 ) -> Result<Vec<Seen>, AllocError>
     requires { IsUpToDate S.Store registry.old }
+    ensures { IsUpToDate S.Store registry.new }
 {
     let mut list = Vec::new(alloc);
     for event in events {
