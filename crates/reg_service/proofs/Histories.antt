@@ -124,7 +124,7 @@ module _ {S : Type 0} (g : Ghosts S) (limits : Limits) (s : Registry) (entry : T
       answers = ap (λ l. l ++ a ∷ []) was.answers ∙ append_assoc was.told was.untold (a ∷ []);
       run = was.run;
       no_room = no_room_on was.rest was.untold e a was.no_room room;
-      state = elim was.state [ inl same ↦ inl same | inr (stopped, f, more, is, same) ↦ inr ((it.shut stopped).1.0, f, more ++ e ∷ [], ap (λ l. l ++ e ∷ []) is, same) ];
+      state = elim was.state [ inl same ↦ inl same | inr (stopped, f, more, is, same) ↦ inr ((it.shut stopped).1, f, more ++ e ∷ [], ap (λ l. l ++ e ∷ []) is, same) ];
     }
 
     -- or the change of this event, whose commit was refused

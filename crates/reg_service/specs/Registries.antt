@@ -1,6 +1,7 @@
 -- A registry over a store, as a caller sees it.
 use Rattle.std.specs.Prelude.{◌≡◌, ◌⊎◌, Bool, Option, Some, false, IsTrue, refl}
-use Rattle.std.specs.Coded.{Coded, code_by, coded×}
+use Rattle.std.specs.Coded.{Coded, code_by, coded×, coded_bool}
+use Rattle.sqlite.specs.Held.{Held, held_code}
 use Rattle.sqlite.specs.Effect.{Database}
 use Rattle.sqlite.specs.Tree.{Trees}
 use Rattle.sqlite.specs.State.{HasCleanDisk, State}
@@ -12,6 +13,7 @@ use Rattle.reg_audit.specs.declared.check.Check.{Check}
 use Rattle.reg_audit.specs.Checks.{IsFirst}
 use Rattle.reg_tables_schema.specs.Schema.{old_schema, ours, schema_of}
 use Rattle.reg_tables_schema.specs.declared.edition.Edition.{Edition}
+use Rattle.reg_tables_schema.specs.contracts.edition.Edition as edition
 use Rattle.reg_tables_schema.specs.declared.edition.Edition.TheVariants.{First, Second}
 use Rattle.reg_tables_sql.specs.Abouts.{HasBase}
 use Rattle.reg_tables_rows.specs.declared.all_rows.AllRows.{AllRows}
@@ -28,10 +30,17 @@ pub record Running (S : Type 0) : Type 0 where
   pub tables : Tables S
   pub limits : Limits
 
-abbrev pub running_code : {S : Type 0} → Coded (Tables S) → Coded (Running S)
-running_code {S} tables =
-    code_by (Tables S × Limits) (coded× tables limits.the_row.coded) (λ r. (r.tables, r.limits))
-    (λ p. record { tables = p.0; limits = p.1 }) (λ _. refl)
+abbrev pub running_code : {S : Type 0} → Coded S → Coded (Running S)
+running_code {S} store =
+    code_by (Held S × (Edition × (Bool × Limits)))
+    (coded× (held_code store)
+    (coded× edition.the_row.coded (coded× coded_bool limits.the_row.coded)))
+    (λ r. (r.tables.conn, (r.tables.edition, (r.tables.shut, r.limits))))
+    (λ p. record {
+      tables = record { conn = p.0; edition = p.1.0; shut = p.1.1.0 };
+      limits = p.1.1.1;
+    })
+    (λ _. refl)
 
 abbrev pub tables_of : {S : Type 0} → Running S → Tables S
 tables_of r = r.tables

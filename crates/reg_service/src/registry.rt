@@ -46,13 +46,12 @@ pub struct Registry<S: Alter> {
 }
 
 impl<S: Alter> Model for Registry<S> {
-    ghost use Rattle.reg_tables.specs.contracts.tables.Tables as tables;
     ghost use Rattle.reg_service.specs.Answered.{AreUpToDate};
     ghost use Rattle.reg_service.specs.Registries.{Running, running_code};
 
     ghost Value = { Running S };
 
-    ghost coded = { running_code (tables.the_row S.row S.Store).coded };
+    ghost coded = { running_code S.code };
 
     ghost view = { λ r. record { tables = r.tables; limits = r.limits } };
 
