@@ -29,7 +29,7 @@ pub use found::FoundBody;
 pub use granted::{ok_body, owners_added_body, owners_removed_body, publish_body};
 pub use head::{Kind, Methods, reply_head};
 pub use owners::OwnersBody;
-pub use pile::Pile;
+pub use pile::WriteBuffer;
 pub use refused::error_body;
 pub use reg_body::SendFault;
 pub use reply::Reply;

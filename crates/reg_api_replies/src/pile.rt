@@ -16,11 +16,11 @@ const ROOM: usize = 32_768;
 
 /// Texts that wait to be sent, one after another. They take no memory.
 #[derive(Drop)]
-pub struct Pile {
+pub struct WriteBuffer {
     bytes: ArrayVec<u8, ROOM>,
 }
 
-impl Model for Pile {
+impl Model for WriteBuffer {
     ghost use Rattle.std.specs.Prelude.{List, ℕ};
 
     ghost Value = { List ℕ };
@@ -28,12 +28,12 @@ impl Model for Pile {
     ghost view = { λ p. p.bytes.items };
 }
 
-impl Pile {
+impl WriteBuffer {
     /// Makes an empty pile.
-    pub fn new() -> Pile
+    pub fn new() -> WriteBuffer
         ensures { result ≡ [] }
     {
-        Pile {
+        WriteBuffer {
             bytes: ArrayVec::new(),
         }
     }

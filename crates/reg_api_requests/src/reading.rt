@@ -38,7 +38,7 @@ fn publish<'a>(alloc: Global, limits: &Limits, body: &'a [u8]) -> Result<Asked<'
 {
     match read_publish(alloc, limits, body) {
         Ok(release) => Ok(Asked::Publish(release)),
-        Err(RequestFault::Broken(rule)) => Ok(Asked::Faulty(rule)),
+        Err(RequestFault::Broken(rule)) => Ok(Asked::Malformed(rule)),
         Err(RequestFault::Memory) => Err(AllocError),
     }
 }
@@ -50,7 +50,7 @@ fn search<'a>(q: &'a Option<CowStr<'a>>, per_page: &Option<CowStr<'_>>) -> Asked
 {
     match page_of(per_page) {
         Some(most) => Asked::Read(Reading::Search(or_empty(q), most)),
-        None => Asked::Faulty(Rule::Q1),
+        None => Asked::Malformed(Rule::Q1),
     }
 }
 
@@ -74,11 +74,11 @@ pub fn read_call<'a>(
         ApiCall::Unyank(name, version) => Ok(Asked::Unyank(text(name), text(version))),
         ApiCall::AddOwners(name, body) => match read_logins(alloc, limits, body)? {
             Some(logins) => Ok(Asked::AddOwners(text(name), logins)),
-            None => Ok(Asked::Faulty(Rule::O1)),
+            None => Ok(Asked::Malformed(Rule::O1)),
         },
         ApiCall::RemoveOwners(name, body) => match read_logins(alloc, limits, body)? {
             Some(logins) => Ok(Asked::RemoveOwners(text(name), logins)),
-            None => Ok(Asked::Faulty(Rule::O1)),
+            None => Ok(Asked::Malformed(Rule::O1)),
         },
         ApiCall::Search { q, per_page } => Ok(search(q, per_page)),
     }

@@ -2,7 +2,7 @@
 
 use crate::files::is_registry;
 use reg_cli_line::Exit;
-use reg_cli_pipe::{FolderAt, join_path, write_files};
+use reg_cli_run::{FolderAt, join_path, write_files};
 use reg_service::Registry;
 use sqlite::Alter;
 use std::alloc::AllocError;

@@ -30,20 +30,20 @@ pub(crate) fn damage_words(check: Check) -> &'static str
 /// The end of a run that could not open its registry.
 pub(crate) fn exit_of_opening(fault: OpenFault) -> Exit
     ensures status { result.status ≡ status_of_opening fault }
-    ensures words { result.words.now ≡ words_of_opening fault }
+    ensures words { result.message.now ≡ words_of_opening fault }
 {
     match fault {
         OpenFault::BadBase => Exit {
             status: 1,
-            words: "bad base",
+            message: "bad base",
         },
         OpenFault::UnknownSchema => Exit {
             status: 3,
-            words: "unknown schema",
+            message: "unknown schema",
         },
         OpenFault::Damaged(check) => Exit {
             status: 3,
-            words: damage_words(check),
+            message: damage_words(check),
         },
         OpenFault::Storage => Exit::STORAGE,
     }

@@ -21,7 +21,7 @@ use Rattle.reg_api_replies.specs.declared.reply.Reply.{Reply}
 use Rattle.reg_api_replies.specs.declared.reply.Reply.TheVariants.{Denied}
 use Rattle.reg_api_requests.specs.Owners.{logins_named}
 use Rattle.reg_api_requests.specs.Publish.{publish_of}
-use Rattle.reg_api_requests.specs.Requests.{asked_from, or_faulty, published, text_in}
+use Rattle.reg_api_requests.specs.Requests.{asked_from, or_malformed, published, text_in}
 use Rattle.reg_api_requests.specs.Search.{page_of}
 use Rattle.reg_api_requests.specs.Wants.{Wants}
 use Rattle.reg_api_requests.specs.Wants.Wants.{Config, Index, Download, ListOwners, Publish, Yank, Unyank, AddOwners, RemoveOwners, Search}
@@ -50,7 +50,7 @@ streams_of o text old new (Err StoreFault) x = absurd x
 streams_of o text old new (Err Memory) x = absurd x
 
 -- what asks for an index file wants one
-not_asked : {A : Type 0} (r : Rule) (ask : A → Asked) (o : Option A) (path : Text) → ((a : A) → ask a ≡ to_index path → ⊥) → or_faulty r ask o ≡ to_index path → ⊥
+not_asked : {A : Type 0} (r : Rule) (ask : A → Asked) (o : Option A) (path : Text) → ((a : A) → ask a ≡ to_index path → ⊥) → or_malformed r ask o ≡ to_index path → ⊥
 not_asked r ask None path never e = cc
 not_asked r ask (Some a) path never e = never a e
 

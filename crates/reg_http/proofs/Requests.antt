@@ -1,7 +1,7 @@
 -- The requests of a stream that were answered, and what comes of the next.
 use Rattle.reg_http.proofs.Words.{◌≡◌, ◌≤◌, ◌+◌, ◌||◌, ◌==◌, ◌∙◌, ℕ, Bool, true, false, sym, ap, subst, drop, length, take, Option, Result}
 use Rattle.reg_http.proofs.Words.{Ok, Err, Appends, Ghosts, CountedEnd, Limits, Facts, facts_owned, Takes, Sends, SpendsFor, SpendsSome}
-use Rattle.reg_http.proofs.Words.{tally, writes_of, StreamFault, OwnedHead, Rule, Text, Shows, limits_of, tables_of, Running, shown}
+use Rattle.reg_http.proofs.Words.{tally, writes_of, StreamFault, OwnedHead, Rule, Text, StandsIn, limits_of, tables_of, Running, shown}
 use Rattle.reg_http.proofs.Words.{AnswersRequest, GoesOn, ServesStreamTraced, SpendsLent, closing_text, IsTrailed, TrailEnd, tail}
 use Rattle.std.proofs.Common.{IsErrAnd}
 use Rattle.sqlite.specs.State.{HasCleanDisk}
@@ -12,7 +12,7 @@ use Rattle.reg_model.specs.Registry as model
 use Rattle.reg_http.specs.Answering.{IsMessageReplied}
 use Rattle.reg_http.proofs.Exchanged.{EventsGoOn}
 use Rattle.reg_http.proofs.Kept.{goes_on}
-use Rattle.reg_http.proofs.Steps.{HeadsStandAlone, HeadsStay, Holds, refusal_failed, refusal_sent, taking_ended, taking_failed, whole_failed, whole_last, whole_sent, wrote_for, wrote_some}
+use Rattle.reg_http.proofs.Steps.{HeadsStandAlone, HeadsStay, HoldsSoFar, refusal_failed, refusal_sent, taking_ended, taking_failed, whole_failed, whole_last, whole_sent, wrote_for, wrote_some}
 use Rattle.reg_http.proofs.Trails.{trailed_on}
 
 module _ {S R W T : Type 0} (g : Ghosts S) (read : R → Option Text) (held : W → Option Text)
@@ -21,8 +21,8 @@ module _ {S R W T : Type 0} (g : Ghosts S) (read : R → Option Text) (held : W 
   pub record Answered (now : Running S) (e : TrailEnd T) (r : CountedEnd R) (w : CountedEnd W) (rest : Text)
       (count left : ℕ) : Type 0 where
     pub keeps : GoesOn g old now
-    pub holds : HasCleanDisk (shown g (tables_of now)) → (s : model.Registry) → Shows s (shown g (tables_of old))
-        → Holds g (limits_of old) s (tables_of old) (tail (told_of e0.end.inner) e0) (tail (told_of e.end.inner) e)
+    pub holds : HasCleanDisk (shown g (tables_of now)) → (s : model.Registry) → StandsIn s (shown g (tables_of old))
+        → HoldsSoFar g (limits_of old) s (tables_of old) (tail (told_of e0.end.inner) e0) (tail (told_of e.end.inner) e)
         (read r0.inner) (read r.inner) (held w0.inner) (held w.inner) rest count (tables_of now)
     pub spends : SpendsSome (limits_of old).turns left (tally r0 w0) (tally r w)
     pub told : IsTrailed (tail (told_of e0.end.inner) e0) (tail (told_of e.end.inner) e)

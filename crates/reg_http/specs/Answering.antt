@@ -19,7 +19,7 @@ use Rattle.reg_api_requests.specs.Requests.{request_from}
 use Rattle.reg_api_requests.specs.Views.{event_of}
 use Rattle.reg_api_requests.specs.Wants.{Wants, wants_of}
 use Rattle.reg_api_requests.specs.declared.request.ApiRequest.{ApiRequest}
-use Rattle.reg_service.specs.Answered.{Answers, Shows}
+use Rattle.reg_service.specs.Answered.{Answers, StandsIn}
 use Rattle.reg_service.specs.Registries.{Running, limits_of, tables_of}
 use Rattle.reg_service.specs.Streamed.{Finds}
 use Rattle.reg_service_index.specs.declared.found.FoundFile.{FoundFile}
@@ -72,7 +72,7 @@ pub record Replies {S : Type 0} (g : Ghosts S) (limits : Limits) (f : Facts) (th
 abbrev pub IsReplied : {S : Type 0} → Ghosts S → Limits → Facts → Routing → Bool → Tables S
     → Tables S → Tail → Tail → Option Text → Option Text → Result (Unit {0}) StreamFault → Type 0
 IsReplied g limits f there close old new k0 k1 w0 w1 r =
-    HasCleanDisk (shown g new) → (s : model.Registry) → Shows s (shown g old)
+    HasCleanDisk (shown g new) → (s : model.Registry) → StandsIn s (shown g old)
     → Replies g limits f there close s old new k0 k1 w0 w1 r
 
 -- what is wanted of a request is replied so, whatever else its head tells

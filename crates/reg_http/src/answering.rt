@@ -16,7 +16,7 @@ use reg_body::Counted;
 use reg_http_read::{Head, StreamFault, send_reply};
 use reg_http_routes::{RouteFault, Routes};
 use reg_policy::Rule;
-use reg_service::{Acted, Answered, FoundFile, IndexFault, Registry};
+use reg_service::{Answered, FoundFile, IndexFault, Registry, TracedReply};
 use sqlite::Alter;
 use std::alloc::Global;
 use std::io::Write;
@@ -104,9 +104,9 @@ fn answer<W: Write, T: Write, S: Alter>(
         left.old left.new result }
 {
     answer_law();
-    match registry.act(alloc, request, trail.is_open()) {
+    match registry.handle_traced(alloc, request, trail.is_open()) {
         Answered::Replied(acted) => {
-            let Acted { reply, line } = acted;
+            let TracedReply { reply, line } = acted;
             trail.tell(line);
             send_reply(w, &reply, close, false, left)
         }

@@ -1,7 +1,7 @@
 -- Where no crate is restricted, visibility changes nothing.
 use Rattle.reg_model.proofs.Words.{◌≡◌, ℕ, Bool, true, false, Option, Some, None, refl, ◌∙◌, ap, not, ◌&&◌, ◌||◌, filter, canon, Text}
 use Rattle.reg_model.proofs.Words.{Registry, holds, canons, exists, has_crate, is_among, is_restricted, owners, readers, sees, viewer}
-use Rattle.reg_model.proofs.Words.{visible, Action, crate_of, occurs, Limits, Asked, AddOwners, Download, Faulty, Index, ListOwners, Publish}
+use Rattle.reg_model.proofs.Words.{visible, Action, crate_of, occurs, Limits, Asked, AddOwners, Download, Malformed, Index, ListOwners, Publish}
 use Rattle.reg_model.proofs.Words.{Read, RemoveOwners, Unyank, Yank, Config, Search, Ask, Found, action_of, fault_of, caller, served, or_else}
 use Rattle.reg_model.proofs.Words.{outcome, unless_denied, length, map, take, unwrap_or}
 use Rattle.reg_model.specs.Effects.{done}
@@ -47,7 +47,7 @@ module _ (s : Registry) (unrestricted : (n : Text) → is_restricted s n ≡ fal
   }
 
   plain_serves : (who : Option ℕ) (asked : Asked) → served s who asked ≡ plain_served s asked
-  plain_serves who (Faulty r) = refl
+  plain_serves who (Malformed r) = refl
   plain_serves who (Read Config) = refl
   plain_serves who (Read (Search q most)) = ap Found (plain_finds who q most)
   plain_serves who (Index path) = refl

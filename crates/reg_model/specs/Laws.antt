@@ -25,7 +25,7 @@ use Rattle.reg_model.specs.Events.{Asked, Command, Event, Answer}
 use Rattle.reg_model.specs.Events.Asked.{AddOwners, Publish}
 use Rattle.reg_model.specs.Events.Event.{Ask, Order}
 use Rattle.reg_model.specs.Events.Answer.{Denied, Refused}
-use Rattle.reg_model.specs.Steps.{IsFit, Step, Run, no_room, outcome}
+use Rattle.reg_model.specs.Steps.{IsFit, Step, Run, unavailable, outcome}
 use Rattle.reg_model.specs.Sound.{Sound}
 
 -- a step is a run
@@ -49,7 +49,7 @@ RefusalsKeep = (limits : Limits) (s t : Registry) (e : Event) (g : AdminRefusal)
 -- where room was refused to neither, two steps on one event agree
 abbrev pub StepsAgree : Type 0
 StepsAgree = (limits : Limits) (s t u : Registry) (e : Event) (a b : Answer) → Step limits s e a t
-    → Step limits s e b u → a ≢ no_room e → b ≢ no_room e → (a ≡ b) × (t ≡ u)
+    → Step limits s e b u → a ≢ unavailable e → b ≢ unavailable e → (a ≡ b) × (t ≡ u)
 
 abbrev pub IsPrefix : {X : Type 0} → List X → List X → Type 0
 IsPrefix {X} xs ys = (rest : List X) × (ys ≡ xs ++ rest)

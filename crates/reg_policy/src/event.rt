@@ -35,7 +35,7 @@ pub struct NewPublication<'a> {
 #[derive(Drop)]
 pub enum Asked<'a> {
     /// The body or the query breaks this rule, and none before it.
-    Faulty(Rule),
+    Malformed(Rule),
     Read(Reading<'a>),
     Index(&'a str),
     Download(&'a str, &'a str),
@@ -124,7 +124,7 @@ pub fn action_of<'a>(asked: &'a Asked<'_>) -> Action<'a>
     ensures { view_of result ≡ action_asked (asked_of asked.now) }
 {
     match asked {
-        Asked::Faulty(_) => Action::Read,
+        Asked::Malformed(_) => Action::Read,
         Asked::Read(_) => Action::Read,
         Asked::Index(path) => Action::Index(path),
         Asked::Download(name, version) => Action::Download(name, version),

@@ -9,7 +9,7 @@ use Rattle.std.proofs.lemmas.Grind.{flat_map-append}
 use Rattle.sqlite.specs.Effect.{Database}
 use Rattle.sqlite.proofs.Callers.{given_begin}
 use Rattle.reg_line.specs.File.{file_text, line_of}
-use Rattle.reg_tables_schema.specs.declared.edition.Edition.TheVariants.{Second}
+use Rattle.reg_tables_schema.specs.declared.edition.SchemaVersion.TheVariants.{Second}
 use Rattle.reg_tables_schema.specs.Schema.{ours}
 use Rattle.reg_body.specs.declared.bytes.SendFault.TheVariants.{Spent, Write}
 use Rattle.reg_api_replies.proofs.Joined.{pile_sent, sends_nothing}

@@ -3,7 +3,7 @@ use Rattle.reg_service_requests.proofs.Words.{◌≡◌, ℕ, List, [], ◌∷�
 use Rattle.reg_service_requests.proofs.Words.{◌||◌, is_some, string_bytes, unwrap_or, list_all, list_any, bytes_eq, Trees, Limits}
 use Rattle.reg_service_requests.proofs.Words.{crate_of, owns, action_of, AddOwners, Registry, Text, holds, id_of_login, is_enabled}
 use Rattle.reg_service_requests.proofs.Words.{is_known, with_commas, Sound, not_denied, not_false, list_any_map, only_if, request_words}
-use Rattle.reg_service_requests.proofs.Words.{spelled, unless, Account, Caller, FoundCrate, ListsOwners, first_canon, owning, changes}
+use Rattle.reg_service_requests.proofs.Words.{spelled, unless, Account, Principal, FoundCrate, ListsOwners, first_canon, owning, changes}
 use Rattle.reg_service_requests.proofs.Words.{owners_word, crate_found, first_as}
 use Rattle.std.specs.Global.{Global}
 use Rattle.std.specs.Prelude.{map, String}
@@ -47,7 +47,7 @@ module _ (limits : Limits) (s : Registry) (sound : Sound s) (d n : Text) (logins
 changes_map : (are : Bool) (p : Text → Bool) (texts : List (String Global)) → changes are p (map string_bytes texts) ≡ changes are (λ t. p (string_bytes t)) texts
 changes_map are p texts = list_any_map (λ t. differs (p t) are) string_bytes texts
 
-pub owning_has : (limits : Limits) (c : Caller) (are b : Bool) (n : Text) (texts : List (String Global)) (db : Trees) (it : FoundCrate) (list : List Account) → c.found ≡ Some it → ListsOwners it.id db list
+pub owning_has : (limits : Limits) (c : Principal) (are b : Bool) (n : Text) (texts : List (String Global)) (db : Trees) (it : FoundCrate) (list : List Account) → c.found ≡ Some it → ListsOwners it.id db list
     → b ≡ changes are (λ t. list_any (λ a. bytes_eq (string_bytes a.login) (string_bytes t)) list) texts
     → HasWords limits c (owning are n (map string_bytes texts)) db (only_if b (owners_word are ∷ it.name ∷ with_commas (map string_bytes texts) ∷ []))
 owning_has limits c are b n texts db it list found lists e = λ d who ids s h ok.

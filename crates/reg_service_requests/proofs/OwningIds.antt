@@ -4,7 +4,7 @@ use Rattle.reg_service_requests.proofs.Words.{length, drop, get_or, refl, sym, a
 use Rattle.reg_service_requests.proofs.Words.{is_some, Vec, string_bytes, Global, enumerate_from, filter, find, list_all, list_any}
 use Rattle.reg_service_requests.proofs.Words.{option_map, bytes_eq, Trees, Rule, owners, owns, has_login, Registry, Text, holds}
 use Rattle.reg_service_requests.proofs.Words.{id_of_login, is_enabled, is_known, is_some_find, list_any_map, true_not_false, Account}
-use Rattle.reg_service_requests.proofs.Words.{ListsOwners, told_of, entry_of_account, Holds, Ids, IsSpelled, AreLeaving, FindsAllKnown}
+use Rattle.reg_service_requests.proofs.Words.{ListsOwners, told_of, entry_of_account, StandsSoundBy, IdAssignment, IsSpelled, AreLeaving, FindsAllKnown}
 use Rattle.reg_service_requests.proofs.Words.{FindsKnown, FindsOwners, entries_of, id_among, leaving_rule}
 use Rattle.std.proofs.lemmas.List.{append-nil, append_assoc, drop_more}
 use Rattle.std.proofs.lemmas.List.Folds.{list_all-map}
@@ -15,7 +15,7 @@ use Rattle.std.specs.Ordering.{on}
 use Rattle.reg_model.specs.declared.rule.Rule.TheVariants as rule
 use Rattle.reg_model.specs.Facts.{is_named}
 use Rattle.reg_model.specs.Registry as model
-use Rattle.reg_tables_meaning.specs.Calls.{FindsAccount}
+use Rattle.reg_tables_represent.specs.Calls.{FindsAccount}
 use Rattle.reg_service_requests.specs.Owning.{IsIdOf, enabled_id}
 
 -- an enabled account is known, and its id is that of its login
@@ -138,7 +138,7 @@ module _ (logins : List Text) (db : Trees) (id : ℕ) where
 
   -- who leaves them, or that someone may not
   module _ (list : List Account) (lists : ListsOwners id db list) where
-    are_owners : (ids : Ids) (s : Registry) → Holds ids s db → (name : Text) → IsSpelled ids name id → entries_of list ≡ owners s name
+    are_owners : (ids : IdAssignment) (s : Registry) → StandsSoundBy ids s db → (name : Text) → IsSpelled ids name id → entries_of list ≡ owners s name
     are_owners ids s h name (n, at, same) =
         lists ids s h ∙ ap (λ o. told_of o [] (owners s)) at ∙ ap (λ c. filter (λ o. finset.contains s.owners (c, o.0)) (enumerate_from 1 s.accounts)) same
 

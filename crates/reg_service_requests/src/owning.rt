@@ -6,16 +6,16 @@ ghost use Rattle.std.specs.Option.{option_map};
 ghost use Rattle.std.specs.Str.{bytes_eq};
 ghost use Rattle.reg_model.specs.Events.Asked.{AddOwners};
 ghost use Rattle.reg_model.specs.Facts.{has_login as has_login_of};
-ghost use Rattle.reg_tables.specs.Works.{IsAtWork, has_failed};
-ghost use Rattle.reg_tables.specs.Calling.{Asks, Does, Runs};
+ghost use Rattle.reg_tables.specs.Works.{IsActive, has_failed};
+ghost use Rattle.reg_tables.specs.Calling.{Queries, UpdatesBy, Updates};
 ghost use Rattle.reg_service_requests.specs.Granted.{GrantsOf};
 ghost use Rattle.reg_service_requests.specs.Owning.{AreIdsOf, AreLeaving, DoesOwning, FindsAllKnown, FindsKnown, GrantsAmong, SaysOwning, SetsOwner, SetsOwners, enabled_id, entries_of, id_among, owning};
 ghost use Rattle.reg_service_requests.specs.Telling.{GrantsTold, changes};
 
 use crate::served::Served;
 use crate::telling::tell_owners;
-use crate::told::ServedTold;
-use reg_access::{Caller, FoundCrate};
+use crate::told::TracedServed;
+use reg_access::{FoundCrate, Principal};
 use reg_api_replies::{Kind, Reply, owners_added_body, owners_removed_body};
 use reg_policy::Rule;
 use reg_service_steps::{differs, has_login, have_login, is_told};
@@ -35,8 +35,8 @@ fn id_if_enabled(found: &Option<Account>) -> Option<u32>
 
 /// The id of the enabled account with this login, if there is one.
 fn find_known<S: Alter>(work: &mut Work<'_, S>, login: &str) -> Result<Option<u32>>
-    requires { IsAtWork S.Store work.old }
-    ensures { Asks S.Store work.old work.new result (FindsKnown login.now) }
+    requires { IsActive S.Store work.old }
+    ensures { Queries S.Store work.old work.new result (FindsKnown login.now) }
 {
     let found = work.account_by_login(login)?;
     Ok(id_if_enabled(&found))
@@ -48,9 +48,10 @@ fn find_all_known<S: Alter>(
     work: &mut Work<'_, S>,
     logins: &[String],
 ) -> Result<Option<Vec<u32>>>
-    requires at_work { IsAtWork S.Store work.old }
+    requires at_work { IsActive S.Store work.old }
     requires goes_on { has_failed work.old ≡ false }
-    ensures { Asks S.Store work.old work.new result (FindsAllKnown (map string_bytes logins.now)) }
+    ensures { Queries S.Store work.old work.new result (FindsAllKnown
+        (map string_bytes logins.now)) }
 {
     let mut ids = Vec::new(alloc);
     for login in logins {
@@ -131,8 +132,8 @@ fn set_owner<S: Alter>(
     account: u32,
     is_owner: bool,
 ) -> Result<bool>
-    requires { IsAtWork S.Store work.old }
-    ensures { Does S.Store work.old work.new result (SetsOwner is_owner crate_id account) }
+    requires { IsActive S.Store work.old }
+    ensures { UpdatesBy S.Store work.old work.new result (SetsOwner is_owner crate_id account) }
 {
     if is_owner {
         work.add_owner(crate_id, account)
@@ -148,9 +149,9 @@ fn set_owners<S: Alter>(
     accounts: &[u32],
     are_owners: bool,
 ) -> Result<()>
-    requires at_work { IsAtWork S.Store work.old }
+    requires at_work { IsActive S.Store work.old }
     requires goes_on { has_failed work.old ≡ false }
-    ensures { Runs S.Store work.old work.new result
+    ensures { Updates S.Store work.old work.new result
         (λ before after it. SetsOwners are_owners crate_id accounts.now before after) }
 {
     for account in accounts {
@@ -179,9 +180,10 @@ fn change_owners<S: Alter>(
     accounts: &[u32],
     are_owners: bool,
 ) -> Result<Served>
-    requires at_work { IsAtWork S.Store work.old }
+    requires at_work { IsActive S.Store work.old }
     requires goes_on { has_failed work.old ≡ false }
-    ensures { Runs S.Store work.old work.new result (DoesOwning are_owners crate_id accounts.now) }
+    ensures { Updates S.Store work.old work.new result
+        (DoesOwning are_owners crate_id accounts.now) }
 {
     let Ok(reply) = owning_reply(alloc, are_owners) else {
         return work.fail();
@@ -197,14 +199,14 @@ fn add_owners<S: Alter>(
     found: &FoundCrate,
     logins: &[String],
 ) -> Result<Served>
-    requires at_work { IsAtWork S.Store work.old }
+    requires at_work { IsActive S.Store work.old }
     requires goes_on { has_failed work.old ≡ false }
     ensures { GrantsOf found.now S.Store (λ name. AddOwners name (map string_bytes logins.now))
         result work.old work.new }
 {
     match find_all_known(alloc, work, logins)? {
         Some(accounts) => change_owners(alloc, work, found.id, &accounts, true),
-        None => Ok(Served::Told(Reply::Denied(Rule::O2))),
+        None => Ok(Served::ReadOnly(Reply::Denied(Rule::O2))),
     }
 }
 
@@ -216,14 +218,14 @@ fn remove_owners<S: Alter>(
     owners: &[Account],
     logins: &[String],
 ) -> Result<Served>
-    requires at_work { IsAtWork S.Store work.old }
+    requires at_work { IsActive S.Store work.old }
     requires goes_on { has_failed work.old ≡ false }
     ensures { GrantsAmong owners.now found.now S.Store false (map string_bytes logins.now)
         result work.old work.new }
 {
     match ids_leaving(alloc, owners, logins) {
         Ok(Ok(accounts)) => change_owners(alloc, work, found.id, &accounts, false),
-        Ok(Err(rule)) => Ok(Served::Told(Reply::Denied(rule))),
+        Ok(Err(rule)) => Ok(Served::ReadOnly(Reply::Denied(rule))),
         Err(_) => work.fail(),
     }
 }
@@ -237,7 +239,7 @@ fn set_all<S: Alter>(
     logins: &[String],
     are_owners: bool,
 ) -> Result<Served>
-    requires at_work { IsAtWork S.Store work.old }
+    requires at_work { IsActive S.Store work.old }
     requires goes_on { has_failed work.old ≡ false }
     ensures { GrantsAmong owners.now found.now S.Store are_owners (map string_bytes logins.now)
         result work.old work.new }
@@ -265,22 +267,22 @@ fn changes_owners(owners: &[Account], logins: &[String], are_owners: bool) -> bo
 pub(crate) fn own<S: Alter>(
     alloc: Global,
     work: &mut Work<'_, S>,
-    caller: &Caller,
+    principal: &Principal,
     logins: &[String],
     are_owners: bool,
     traced: bool,
-) -> Result<ServedTold>
-    requires at_work { IsAtWork S.Store work.old }
-    requires there { IsSome caller.now.found }
-    ensures { (limits : _) (name : _) → GrantsTold traced limits caller.now S.Store
+) -> Result<TracedServed>
+    requires at_work { IsActive S.Store work.old }
+    requires there { IsSome principal.now.found }
+    ensures { (limits : _) (name : _) → GrantsTold traced limits principal.now S.Store
         (owning are_owners name (map string_bytes logins.now)) result work.old work.new }
 {
-    let found = caller.found_crate();
+    let found = principal.found_crate();
     let owners = work.owners_of(alloc, found.id)?;
     let changed = changes_owners(&owners, logins, are_owners);
     let served = set_all(alloc, work, found, &owners, logins, are_owners)?;
     let told = is_told(traced, changed);
     let name = found.name.as_str();
-    let line = tell_owners(alloc, work, caller, told, name, logins, are_owners)?;
-    Ok(ServedTold { served, line })
+    let line = tell_owners(alloc, work, principal, told, name, logins, are_owners)?;
+    Ok(TracedServed { served, line })
 }

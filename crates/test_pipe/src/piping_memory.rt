@@ -7,7 +7,7 @@
 use crate::piping::REPLIED;
 use reg_body::{Counted, Limits};
 use reg_cli_line::Exit;
-use reg_cli_pipe::run_pipe;
+use reg_cli_run::run_pipe;
 use reg_service::Registry;
 use sqlite::{Alter, Connection};
 use std::alloc::{AllocError, Global};
@@ -96,7 +96,7 @@ fn first_reply(written: &[u8]) -> Option<(&'static str, &[u8])> {
 
 /// How a run went: how it ended, and the names of the replies that it wrote.
 fn told(alloc: Global, exit: Exit, written: &[u8]) -> Result<String, AllocError> {
-    let mut text = format!(in alloc; "{} {}:", exit.status, exit.words)?;
+    let mut text = format!(in alloc; "{} {}:", exit.status, exit.message)?;
     let mut rest = written;
     for _ in 0..10 {
         if rest.is_empty() {

@@ -2,7 +2,7 @@
 
 use reg_body::{Counted, Limits};
 use reg_cli_line::Exit;
-use reg_cli_pipe::pipe_traced;
+use reg_cli_run::pipe_traced;
 use reg_http::Trail;
 use reg_service::Registry;
 use sqlite::{Alter, Connection};

@@ -106,10 +106,10 @@ pub fn answer<S: Alter>(
     alloc: Global,
     registry: &mut Registry<S>,
     parts: &Parts<'_>,
-) -> Option<Told> {
+) -> Option<Response> {
     if let Some(command) = parts.command() {
-        return Some(Told::Command(registry.command(alloc, &command)));
+        return Some(Response::Command(registry.command(alloc, &command)));
     }
     let request = parts.request()?;
-    Some(Told::Reply(registry.handle(alloc, &request)))
+    Some(Response::Reply(registry.handle(alloc, &request)))
 }

@@ -43,9 +43,9 @@ pub fn order_text(
 }
 
 /// What a call is told, as scripts write it.
-pub fn told_text(alloc: Global, told: &Told) -> Result<String, AllocError> {
+pub fn told_text(alloc: Global, told: &Response) -> Result<String, AllocError> {
     match told {
-        Told::Reply(reply) => reply_text(alloc, reply),
-        Told::Command(told) => order_text(alloc, told),
+        Response::Reply(reply) => reply_text(alloc, reply),
+        Response::Command(told) => order_text(alloc, told),
     }
 }

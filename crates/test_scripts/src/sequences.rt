@@ -6,7 +6,7 @@ ghost use Rattle.reg_service.specs.Sequences.{IsFitCall};
 
 use crate::calls::Parts;
 use crate::replies::told_text;
-use reg_service::{Call, Registry, Told, answer_all};
+use reg_service::{Call, Registry, Response, answer_all};
 use sqlite::Alter;
 use std::alloc::{AllocError, Global};
 
@@ -37,7 +37,7 @@ fn calls_of<'p>(alloc: Global, parts: &'p [Parts<'_>]) -> Result<Vec<Call<'p>>, 
 }
 
 /// A line for each answer.
-fn told_lines(alloc: Global, told: &[Told]) -> Result<String, AllocError> {
+fn told_lines(alloc: Global, told: &[Response]) -> Result<String, AllocError> {
     let mut lines = String::new(alloc);
     for told in told {
         lines.push_str(&told_text(alloc, told)?)?;

@@ -45,7 +45,7 @@ enum Answer {
     Checked(Option<Check>),
     /// Whether a reply was sent whole, and what was sent.
     Sent(bool, Vec<u8>),
-    Told(Told),
+    Told(Response),
     /// The store was refused, or memory.
     Refused,
     NoSuchWords,
@@ -60,7 +60,7 @@ pub fn send_answer<S: Alter>(
 ) -> bool
     requires room { writer.old.calls + MOST_WRITES < 2 ^ 64 }
 {
-    match registry.act(alloc, request, false) {
+    match registry.handle_traced(alloc, request, false) {
         Answered::Replied(acted) => {
             write_reply(writer, &acted.reply, false, false, MOST_WRITES).is_ok()
         }

@@ -6,7 +6,7 @@ use crate::files::prepare;
 use reg_body::Limits;
 use reg_http::Trail;
 use reg_policy::{AdminCommand, AdminReply};
-use reg_service::{OrderTold, Registry};
+use reg_service::{Registry, TracedOrder};
 use sqlite::{Alter, Connection, Files};
 use std::alloc::Global;
 use test_files::{
@@ -26,7 +26,7 @@ fn add_account<S: Alter>(
     trail: &mut Trail<Vec<u8>>,
 ) {
     let command = AdminCommand::UserAdd(login, None);
-    let OrderTold { answer: _, line } = registry.order(alloc, &command, true);
+    let TracedOrder { answer: _, line } = registry.command_traced(alloc, &command, true);
     trail.tell(line);
 }
 

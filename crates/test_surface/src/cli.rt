@@ -14,7 +14,7 @@ use std::fs::File;
 
 const _: Exit = Exit {
     status: 0u8,
-    words: "",
+    message: "",
 };
 
 const _: fn(&HostRuntime, &[String]) -> Exit = reg_cli::run_words;

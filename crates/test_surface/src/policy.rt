@@ -6,7 +6,7 @@ use reg_policy::{
     Action, AdminCommand, AdminRefusal, AdminReply, Answer, Asked, Decision, Endpoint, Endpoints,
     Event, NewPublication, OwnerEntry, OwnerRow, Reading, Rows, Rule, TokenFacts,
 };
-use reg_policy_plain::PlainRegistry;
+use reg_reference::PlainRegistry;
 use std::alloc::Global;
 
 const _: [Endpoint; 4] = [
@@ -120,7 +120,7 @@ const _: [AdminReply; 2] = [AdminReply::Done, AdminReply::Id(0)];
 const _: fn(String) -> AdminReply = AdminReply::Text;
 
 const _: [Event<'static>; 4] = [
-    Event::Ask(None, Asked::Faulty(Rule::B1)),
+    Event::Ask(None, Asked::Malformed(Rule::B1)),
     Event::Ask(Some(&[0; 32]), Asked::Read(Reading::Config)),
     Event::Ask(Some(&[0; 32]), Asked::Read(Reading::Search("", 0u32))),
     Event::Order(AdminCommand::Users),

@@ -6,7 +6,7 @@ use crate::service::agreeing::owners_body;
 use reg_api_requests::{digest_shown, read_call};
 use reg_body::Limits;
 use reg_policy::{Answer, Event};
-use reg_policy_plain::PlainRegistry;
+use reg_reference::PlainRegistry;
 use std::alloc::{AllocError, Global};
 use std::process::Abort;
 use test_files::leave_only;

@@ -6,7 +6,7 @@
 
 use crate::service::stage::answered;
 use reg_body::Limits;
-use reg_policy_plain::PlainRegistry;
+use reg_reference::PlainRegistry;
 use reg_service::Registry;
 use sqlite::{Alter, Connection};
 use std::alloc::{AllocError, Global};

@@ -9,7 +9,7 @@ use reg_api_replies::{Reply, write_reply};
 use reg_api_requests::{ApiCall, ApiRequest, digest_shown, read_call};
 use reg_body::Counted;
 use reg_policy::{AdminCommand, Event};
-use reg_policy_plain::PlainRegistry;
+use reg_reference::PlainRegistry;
 use reg_service::Registry;
 use sqlite::Alter;
 use std::alloc::{AllocError, Global};

@@ -9,7 +9,7 @@ use Rattle.reg_service_requests.proofs.owning.own.Goals as goal
 
 pub returns : goal.returns
 returns g c limits name =
-    let who = c.args.caller.now in
+    let who = c.args.principal.now in
     let it = c.found_crate-found.result.now in
     let texts = c.args.logins.now in
     let list = c.in_ok-owners.owners.items in

@@ -1,4 +1,4 @@
-use Rattle.reg_service.proofs.Words.{◌≡◌, Option, rules, subst, Database, Trees, Check, Edition, First, Second, if_ok, AreBegun, edition_in}
+use Rattle.reg_service.proofs.Words.{◌≡◌, Option, rules, subst, Database, Trees, Check, SchemaVersion, First, Second, if_ok, AreBegun, edition_in}
 use Rattle.reg_service.proofs.Words.{shown, tables_of}
 use Rattle.reg_audit.specs.Checks.{IsFirst}
 use Rattle.reg_tables_rows.specs.declared.all_rows.AllRows.{AllRows}
@@ -6,7 +6,7 @@ use Rattle.reg_tables_rows.specs.WholeRows.{AreAllRows}
 use Rattle.reg_service.proofs.registry.Registry.audit.Goals as goal
 
 -- tables of schema 2 are checked as they are
-as_they_are : (e : Edition) (d : Database) (found : Option Check) → e ≡ Second → (db : Trees) × AreBegun e d db × (it : AllRows) × AreAllRows it db × IsFirst it db found → (it : AllRows) × AreAllRows it d.trees × IsFirst it d.trees found
+as_they_are : (e : SchemaVersion) (d : Database) (found : Option Check) → e ≡ Second → (db : Trees) × AreBegun e d db × (it : AllRows) × AreAllRows it db × IsFirst it db found → (it : AllRows) × AreAllRows it d.trees × IsFirst it d.trees found
 as_they_are First d found is h = absurd cc
 as_they_are Second d found is (db, same, it, rows, first) = (it, subst (AreAllRows it) same rows, subst (λ t. IsFirst it t found) same first)
 

@@ -6,8 +6,8 @@ use Rattle.reg_service.proofs.registry.Registry.open.Goals as goal
 pub returns-in-Ok : goal.returns-in-Ok
 returns-in-Ok g c =
     let k = is_taken g.S.Store c.args.conn c.in-Ok.tables c.in-Ok.ensures.edition c.in-Ok.ensures.found c.in-Ok.ensures.about c.in-Ok.ensures.rests c.rows_law.ensures in
-    let r = c.examine.result in
-    let it = c.examine.ensures in
+    let r = c.check_then_migrate.result in
+    let it = c.check_then_migrate.ensures in
     let same = c.edition_law.ensures.same in
     let audited = c.edition_law.ensures.audit in
     let conn = c.args.conn in

@@ -13,7 +13,7 @@ returns g c =
     record {
       streams = λ clean limits s digest asked old finds.
           file_streamed g.S.Store limits s digest asked c.args.file.now old found c.send_file.new.tables finds c.self.invariant.ours it.left clean c.args.close c.send_file.result c.args.writes _ _ (it.sends clean);
-      leaves = record { some = it.some; begun = it.begun; no_room = it.stopped };
+      leaves = record { some = it.some; begun = it.begun; unavailable = it.stopped };
       looked = left_looked g.S.Store found c.send_file.new.tables c.self.invariant it.left;
       limits = refl;
     }
