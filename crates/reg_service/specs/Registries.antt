@@ -1,7 +1,6 @@
 -- A registry over a store, as a caller sees it.
 use Rattle.std.specs.Prelude.{◌≡◌, ◌⊎◌, Bool, Option, Some, false, IsTrue, refl}
-use Rattle.std.specs.Coded.{Coded, code_by, coded×, coded_bool}
-use Rattle.sqlite.specs.Held.{Held, held_code}
+use Rattle.std.specs.Coded.{Coded, code_by, coded×}
 use Rattle.sqlite.specs.Effect.{Database}
 use Rattle.sqlite.specs.Tree.{Trees}
 use Rattle.sqlite.specs.State.{HasCleanDisk, State}
@@ -13,14 +12,13 @@ use Rattle.reg_audit.specs.declared.check.Check.{Check}
 use Rattle.reg_audit.specs.Checks.{IsFirst}
 use Rattle.reg_tables_schema.specs.Schema.{old_schema, ours, schema_of}
 use Rattle.reg_tables_schema.specs.declared.edition.SchemaVersion.{SchemaVersion}
-use Rattle.reg_tables_schema.specs.contracts.edition.SchemaVersion as edition
 use Rattle.reg_tables_schema.specs.declared.edition.SchemaVersion.TheVariants.{First, Second}
 use Rattle.reg_tables_sql.specs.Abouts.{HasBase}
 use Rattle.reg_tables_rows.specs.declared.all_rows.AllRows.{AllRows}
 use Rattle.reg_tables_rows.specs.WholeRows.{AreAllRows}
 use Rattle.reg_tables.specs.declared.tables.Tables.{Tables}
 use Rattle.reg_tables_represent.specs.Upgrades.{AreBegun, AreUpgraded}
-use Rattle.reg_tables.specs.Works.{edition_in, is_stopped, shown}
+use Rattle.reg_tables.specs.Works.{edition_in, is_stopped, shown, tables_code}
 use Rattle.reg_service.specs.Answered.{StandsSoundAs, LeavesAlone, StandsIn}
 use Rattle.reg_service.specs.declared.opening.OpenFault.{OpenFault}
 use Rattle.reg_service.specs.declared.opening.OpenFault.TheVariants.{Storage}
@@ -30,16 +28,13 @@ pub record Running (S : Type 0) : Type 0 where
   pub tables : Tables S
   pub limits : Limits
 
+-- it is told by its tables and its limits
 abbrev pub running_code : {S : Type 0} → Coded S → Coded (Running S)
 running_code {S} store =
-    code_by (Held S × (SchemaVersion × (Bool × Limits)))
-    (coded× (held_code store)
-    (coded× edition.the_row.coded (coded× coded_bool limits.the_row.coded)))
-    (λ r. (r.tables.conn, (r.tables.edition, (r.tables.shut, r.limits))))
-    (λ p. record {
-      tables = record { conn = p.0; edition = p.1.0; shut = p.1.1.0 };
-      limits = p.1.1.1;
-    })
+    code_by (Tables S × Limits)
+    (coded× (tables_code store) limits.the_row.coded)
+    (λ r. (r.tables, r.limits))
+    (λ p. record { tables = p.0; limits = p.1 })
     (λ _. refl)
 
 abbrev pub tables_of : {S : Type 0} → Running S → Tables S

@@ -1,14 +1,25 @@
 -- The tables and a transaction of them, as a caller sees them.
-use Rattle.std.specs.Prelude.{◌≡◌, ◌⊎◌, Bool, true, false, IsTrue, Result, IfOk, OnOk, OnErr}
+use Rattle.std.specs.Prelude.{◌≡◌, ◌⊎◌, Bool, true, false, IsTrue, Result, IfOk, OnOk, OnErr, refl}
+use Rattle.std.specs.Coded.{Coded, code_by, coded×, coded_bool}
 use Rattle.sqlite_trees.specs.declared.store.Store.{Ghosts}
-use Rattle.sqlite.specs.Held.{Held, state}
+use Rattle.sqlite.specs.Held.{Held, held_code, state}
 use Rattle.sqlite.specs.State.{State, HasCleanDisk, IsUnchanged, Survives}
 use Rattle.sqlite.specs.Tree.{Trees}
 use Rattle.reg_tables_schema.specs.declared.edition.SchemaVersion.{SchemaVersion}
+use Rattle.reg_tables_schema.specs.contracts.edition.SchemaVersion as edition
 use Rattle.reg_tables_schema.specs.States.{GoesBack, IsReady, IsOurs, IsUndone, Refuses}
 use Rattle.reg_tables_schema.specs.Steps.{Fails, Within}
 use Rattle.reg_tables.specs.declared.tables.Tables.{Tables}
 use Rattle.reg_tables.specs.declared.work.Work.{Work}
+
+-- tables are told by their connection, its schema, and whether they have stopped
+abbrev pub tables_code : {S : Type 0} → Coded S → Coded (Tables S)
+tables_code {S} store =
+    code_by (Held S × (SchemaVersion × Bool))
+    (coded× (held_code store) (coded× edition.the_row.coded coded_bool))
+    (λ t. (t.conn, (t.edition, t.shut)))
+    (λ p. record { conn = p.0; edition = p.1.0; shut = p.1.1 })
+    (λ _. refl)
 
 -- the connection of the tables
 abbrev pub held : {S : Type 0} → Tables S → Held S
