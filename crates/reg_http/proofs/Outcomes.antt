@@ -156,6 +156,7 @@ module _ {S : Type 0} (g : Ghosts S) (limits : Limits) (s : model.Registry) (f :
           rest = sends.sends.rest;
           whole = sends.sends.whole;
           some = sends.sends.sends.sent (omega (arith, sends.sends.sends.calls, begun));
+          unsent = sends.sends.unsent (omega (arith, sends.sends.sends.calls, begun));
           appends = sends.sends.sends.all;
         },
       )

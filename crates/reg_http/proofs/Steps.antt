@@ -305,6 +305,7 @@ module _ {S : Type 0} (g : Ghosts S) (limits : Limits) (s : model.Registry) (ent
             of_file = file;
             reply = ap (λ c. reply_of limits c this) (sym close_is) ∙ begun.whole;
             some = begun.some;
+            unsent = begun.unsent;
             wrote = refl;
             whole = refl;
           },

@@ -44,12 +44,13 @@ Moves g limits s f (Answered w a) old new k0 k1 =
     IsFit e × Answers g limits s e a old new × Trails k0 k1 (told limits s e a)
 Moves g limits s f o old new k0 k1 = (new ≡ old) × (k1 ≡ k0)
 
--- a front of the text was appended, and it is not empty
+-- some of the text was appended, and not all of it
 pub record AppendsSome (text : Text) (old new : Option Text) : Type 0 where
   pub front : Text
   pub rest : Text
   pub whole : text ≡ front ++ rest
   pub some : 0 < length front
+  pub unsent : 0 < length rest
   pub appends : Appends old new front
 
 -- What sending the text of an outcome did. The rows of an index file may fail to be read once its

@@ -112,7 +112,7 @@ module _ (limits : Limits) (all : List Exchange) where
     pub wrote : written ≡ before ++ front
 
   -- The store failed: after the exchanges, and the interim line of one more, whose answer is an
-  -- index file, a front of its reply was written that is not empty.
+  -- index file, some of its reply was written, and not all of it.
   pub record IsBrokenOff (read written : Text) : Type 0 where
     pub done : List Exchange
     pub last : Exchange
@@ -126,6 +126,7 @@ module _ (limits : Limits) (all : List Exchange) where
     pub of_file : IsOfFile last.outcome
     pub reply : reply_of limits (closes limits last.facts (number + 1)) last ≡ front ++ back
     pub some : 0 < length front
+    pub unsent : 0 < length back
     pub wrote : written ≡ before ++ (interim_of last.facts ++ front)
     pub whole : all ≡ done ++ last ∷ []
 
