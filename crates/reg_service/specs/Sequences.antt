@@ -1,5 +1,5 @@
 -- Requests and commands, one after another, and what a crash leaves at their end.
-use Rattle.std.specs.Prelude.{◌≡◌, ◌⊎◌, ◌++◌, ℕ, Bool, true, List, [], ◌∷◌, take}
+use Rattle.std.specs.Prelude.{◌≡◌, ◌<◌, ◌⊎◌, ◌++◌, ℕ, Bool, false, true, List, [], ◌∷◌, length, Option, None, Some, take}
 use Rattle.sqlite.specs.State.{HasCleanDisk}
 use Rattle.sqlite.specs.Tree.{Trees}
 use Rattle.sqlite_trees.specs.declared.store.Store.{Ghosts}
@@ -71,11 +71,17 @@ AreNoRoom [] [] = Unit {0}
 AreNoRoom (e ∷ es) (a ∷ as') = (a ≡ unavailable e) × AreNoRoom es as'
 AreNoRoom es as' = ⊥
 
--- A registry that a crash may leave after a run: it is the one after some first events, or, where a
--- commit was refused and so the registry has stopped, after one more; and all but the first events
--- are answered that there was no room. So it holds each change that was acknowledged.
+-- How many events came before the one at which the registry stopped; none if it did not stop.
+abbrev pub StopsAt : Bool → Bool → List Event → Option ℕ → Type 0
+StopsAt old new es None = new ≡ old
+StopsAt old new es (Some before) = (old ≡ false) × (new ≡ true) × (before < length es)
+
+-- A registry that a crash may leave after a run: it is the one after some first events, or after
+-- one more, if that is the event at which the registry stopped, since its commit was refused; and
+-- all but the first events are answered that there was no room. So it holds each change that was
+-- acknowledged.
 pub record MayBeLeft (limits : Limits) (s : model.Registry) (es : List Event) (xs : List Answer)
-    (stopped : Bool) (m : model.Registry) : Type 0 where
+    (stop : Option ℕ) (m : model.Registry) : Type 0 where
   pub first : List Event
   pub rest : List Event
   pub told : List Answer
@@ -86,7 +92,7 @@ pub record MayBeLeft (limits : Limits) (s : model.Registry) (es : List Event) (x
   pub run : Run limits s first told at
   pub unavailable : AreNoRoom rest untold
   pub state : (m ≡ at)
-      ⊎ ((stopped ≡ true) × (e : Event) × (more : List Event) × (rest ≡ e ∷ more)
+      ⊎ ((stop ≡ Some (length first)) × (e : Event) × (more : List Event) × (rest ≡ e ∷ more)
       × (m ≡ (outcome limits at e).1))
 
 -- The events are a run of the registry that was held on entry, and its end is held now: that is
@@ -100,9 +106,11 @@ pub record Ran {S : Type 0} (g : Ghosts S) (limits : Limits) (s : model.Registry
   pub sound : Sound s → Sound t
   pub grows : (n : Text) → IsPrefix (stems s n) (stems t n)
   pub shows : StandsIn t (shown g new)
+  pub stop : Option ℕ
+  pub stops : StopsAt (is_stopped entry) (is_stopped new) es stop
   pub left : (db : Trees) → (shown g new).may_leave db
       → ((shown g entry).may_leave db × AreNoRoom es xs)
-      ⊎ ((m : model.Registry) × Stands m db × MayBeLeft limits s es xs (is_stopped new) m)
+      ⊎ ((m : model.Registry) × Stands m db × MayBeLeft limits s es xs stop m)
   pub shut : is_stopped entry ≡ true
       → AreNoRoom es xs × (is_stopped new ≡ true) × LeavesNoMore g entry new
 

@@ -3,7 +3,7 @@
 
 ghost use Rattle.std.specs.Prelude.{[], ◌∷◌, ◌++◌};
 ghost use Rattle.reg_model.specs.Steps.{IsFit};
-ghost use Rattle.reg_tables.specs.Works.{is_stopped, shown};
+ghost use Rattle.reg_tables.specs.Works.{shown};
 ghost use Rattle.reg_tables_represent.specs.Stands.{Stands};
 ghost use Rattle.reg_service.specs.Answered.{Answers, LeavesAlone, StandsIn};
 ghost use Rattle.reg_service.specs.Sequences.{MayBeLeft, Ran};
@@ -22,9 +22,9 @@ pub fn history_law<S: Alter>()
         → (it : Answers S.Store limits t e a old new)
         → Ran S.Store limits s entry (es ++ e ∷ []) (xs ++ a ∷ []) it.after new }
     ensures alone { (limits : _) (s : _) (entry : _) (es : _) (xs : _) (t : _) (new : _)
-        → LeavesAlone s (shown S.Store entry) → Ran S.Store limits s entry es xs t new
+        → LeavesAlone s (shown S.Store entry) → (it : Ran S.Store limits s entry es xs t new)
         → (db : _) → (shown S.Store new).may_leave db
-        → (m : _) × Stands m db × MayBeLeft limits s es xs (is_stopped new) m }
+        → (m : _) × Stands m db × MayBeLeft limits s es xs it.stop m }
 {
     run_law();
     growth_law();
