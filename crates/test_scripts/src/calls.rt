@@ -9,7 +9,7 @@ ghost use Rattle.reg_service.specs.Sequences.{IsFitCall};
 use crate::requests::{publish_body, request_of, token_text};
 use reg_line::{Digest, digest_of};
 use reg_policy::AdminCommand;
-use reg_service::{ApiRequest, Call, Registry, Told};
+use reg_service::{ApiRequest, Call, Registry, Response};
 use sqlite::Alter;
 use std::alloc::{AllocError, Global};
 use test_support::orders::{command_of, parts};

@@ -2,7 +2,7 @@
 
 use reg_model::AdminRefusal;
 use reg_policy::AdminReply;
-use reg_service::{Kind, Reply, Told};
+use reg_service::{Kind, Reply, Response};
 use std::alloc::{AllocError, Global};
 
 /// A body of UTF-8; a line feed stands as `<0a>`.

@@ -6,7 +6,7 @@ use crate::calls::{Parts, answer};
 use crate::replies::{body_text, told_text};
 use reg_api_replies::write_reply;
 use reg_body::Counted;
-use reg_service::{Answered, ApiCall, ApiRequest, Check, Registry, Told};
+use reg_service::{Answered, ApiCall, ApiRequest, Check, Registry, Response};
 use sqlite::Alter;
 use std::alloc::{AllocError, Global};
 use test_files::leave_only;
