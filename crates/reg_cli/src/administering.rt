@@ -12,7 +12,7 @@ use crate::files::whole_path;
 use crate::using::{FileTask, on_whole_file};
 use clap::ArgMatches;
 use reg_body::{Counted, Limits};
-use reg_cli_args::{NewToken, Order, read_order, read_report};
+use reg_cli_args::{GivenCommand, NewToken, read_order, read_report};
 use reg_cli_line::Exit;
 use reg_cli_run::{CALLS, add_token, make_token, obey};
 use reg_policy::AdminCommand;

@@ -14,13 +14,13 @@ use Rattle.reg_model.specs.Registry.{Text}
 use Rattle.reg_model.specs.Steps.{IsFit}
 use Rattle.reg_policy.specs.Events.{command_of}
 use Rattle.reg_cli_args.specs.declared.orders.NewToken.{NewToken}
-use Rattle.reg_cli_args.specs.declared.orders.Order.{Order}
-use Rattle.reg_cli_args.specs.declared.orders.Order.TheVariants.{AddToken, Other}
+use Rattle.reg_cli_args.specs.declared.orders.GivenCommand.{GivenCommand}
+use Rattle.reg_cli_args.specs.declared.orders.GivenCommand.TheVariants.{AddToken, Other}
 use Rattle.reg_cli_args.specs.declared.orders.TokenSource.{TokenSource}
 use Rattle.reg_cli_args.specs.declared.orders.TokenSource.TheVariants as source
 
 -- it is fit for a registry; that of a new token is, with any digest
-abbrev pub IsFitOrder : Order → Type 0
+abbrev pub IsFitOrder : GivenCommand → Type 0
 IsFitOrder (AddToken token) = Unit {0}
 IsFitOrder (Other it) = IsFit (to_order (command_of it))
 
@@ -173,7 +173,7 @@ words_of token = record {
   source = source_of token.source;
 }
 
-abbrev pub ordered_of : Order → Ordered
+abbrev pub ordered_of : GivenCommand → Ordered
 ordered_of (AddToken token) = Token (words_of token)
 ordered_of (Other it) = Whole (command_of it)
 

@@ -24,6 +24,6 @@ mod version;
 
 pub use dashes::is_dashed;
 pub use numbers::{decimal, port};
-pub use orders::{NewToken, Order, OrderRead, TokenSource, read_order};
+pub use orders::{GivenCommand, NewToken, OrderRead, TokenSource, read_order};
 pub use reports::read_report;
 pub use usage::{read_line, read_words};

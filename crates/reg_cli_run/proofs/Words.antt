@@ -15,7 +15,7 @@ use Rattle.clap.specs.declared.parser.matches.ArgMatches.TheViews.{out-ArgMatche
 use Rattle.clap.proofs.WalkLemmas.{first_value-rows}
 use Rattle.reg_model.specs.Registry.{Text}
 use Rattle.reg_cli_args.specs.Orders.{given_by, order_from, ordered_of}
-use Rattle.reg_cli_args.specs.declared.orders.Order.{Order as Read}
+use Rattle.reg_cli_args.specs.declared.orders.GivenCommand.{GivenCommand as Read}
 use Rattle.reg_cli_args.specs.Dashes.{is_dashed}
 use Rattle.reg_cli_args.specs.Grammar.{setup_app}
 use Rattle.reg_cli_run.specs.LineOrders.{IsUnread, fault_by, line_order, order_in, order_of, reading_of, whole_order, words_in}

@@ -12,7 +12,7 @@ ghost use Rattle.reg_cli_run.specs.Setups.{MakesOf, ObeysOrder, SetsUpTraced};
 
 use clap::error::ErrorKind;
 use clap::{ArgMatches, Error};
-use reg_cli_args::{NewToken, Order, TokenSource, is_dashed, read_line, read_order};
+use reg_cli_args::{GivenCommand, NewToken, TokenSource, is_dashed, read_line, read_order};
 use reg_http::Trail;
 use reg_model::AdminRefusal;
 use reg_model::laws::telling_law;

@@ -1,6 +1,6 @@
 -- A request that is decided, and what is let pass by another name of it.
 use Rattle.reg_service_requests.proofs.Words.{◌≡◌, Bool, true, false, Option, None, Some, Ok, Err, Result, refl, sym, ap, subst, ◌∙◌, ℕ}
-use Rattle.reg_service_requests.proofs.Words.{unwrap_or, find, filter, Trees, Ghosts, Limits, Rule, crate_of, principal, served, Asked}
+use Rattle.reg_service_requests.proofs.Words.{unwrap_or, find, filter, Trees, Ghosts, Limits, Rule, crate_of, caller, served, Asked}
 use Rattle.reg_service_requests.proofs.Words.{action_of, fault_of, Malformed, Read, Ask, Search, or_else, Registry, Text, broken}
 use Rattle.reg_service_requests.proofs.Words.{is_access_rule, order, Outcome, outcome, unless_denied, IsFoundOf, IsIdOf, version_named}
 use Rattle.reg_service_requests.proofs.Words.{Principal, FoundCrate, IsPolicy, asked_of, Denied, Tells, StoreFault, Work, IsAuthorized, Serves}
@@ -40,7 +40,7 @@ with_token traced limits d digest asked old new it e h = subst (λ x. ServesTold
 
 -- it breaks a rule
 pub is_denied : (limits : Limits) (s : Registry) (digest : Option Text) (asked : Asked) (r : Rule) → denied limits s digest asked ≡ Some r → outcome limits s (Ask digest asked) ≡ (to_denied r, s)
-is_denied limits s digest asked r e = ap (λ it. unless_denied s it (served s (principal s digest) asked, done s (unwrap_or (principal s digest) 0) asked)) e
+is_denied limits s digest asked r e = ap (λ it. unless_denied s it (served s (caller s digest) asked, done s (unwrap_or (caller s digest) 0) asked)) e
 
 rule_of : (o : Option Rule) (r : Rule) → denies r ≡ decision_of o → o ≡ Some r
 rule_of None r e = absurd cc e
@@ -114,7 +114,7 @@ malformed_told traced limits digest r db it served line lets =
 pub seeks : (limits : Limits) (digest q : Text) (most id : ℕ) (db : Trees) → IsViewer digest id db → IsAuthorized digest to_read db → Serves limits (Some digest) (Read (Search q most)) db db (Seeks id)
 unfolding denied done
 seeks limits digest q most id db finds lets ids s h =
-    ap (λ it. unless_denied s it (served s (principal s (Some digest)) (Read (Search q most)), s)) (ap (λ o. or_else o None) (read_judged limits s digest (lets ids s h)))
+    ap (λ it. unless_denied s it (served s (caller s (Some digest)) (Read (Search q most)), s)) (ap (λ o. or_else o None) (read_judged limits s digest (lets ids s h)))
     ∙ ap (λ who. (served s who (Read (Search q most)), s)) (finds ids s h)
 
 module _ {S : Type 0} (g : Ghosts S) (limits : Limits) (principal : Principal) (asked given : Wanted) (same : asked ≡ given) (r : Result Served StoreFault) (old new : Work S) where

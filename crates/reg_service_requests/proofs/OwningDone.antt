@@ -1,7 +1,7 @@
 -- Requests that change owners are denied or done, where the rules on access let them pass.
 use Rattle.reg_service_requests.proofs.Words.{◌≡◌, ℕ, List, [], ◌∷◌, ◌++◌, Bool, true, false, cond, Option, Some, None, Ok, Err, refl, sym}
 use Rattle.reg_service_requests.proofs.Words.{ap, subst, ◌∙◌, Vec, unwrap_or, Global, find, Trees, Limits, canon, is_name, name_of, Rule}
-use Rattle.reg_service_requests.proofs.Words.{crate_of, owners, principal, served, action_of, lists, or_else, Registry, Text, broken, Sound}
+use Rattle.reg_service_requests.proofs.Words.{crate_of, owners, caller, served, action_of, lists, or_else, Registry, Text, broken, Sound}
 use Rattle.reg_service_requests.proofs.Words.{Outcome, unless_denied, Says, Reply, Denied, StandsSoundBy, IdAssignment, Stands, StandsBy, IsCrateOf}
 use Rattle.reg_service_requests.proofs.Words.{FoundCrate, IsCrate, IsAuthorized, IsSpelled, DoesOwning, FindsOwners, leaving_rule, owning}
 use Rattle.reg_service_requests.proofs.Words.{with_owners, Serves, Served, Done, Seeks, Sends, ReadOnly, spelled_as}
@@ -70,7 +70,7 @@ module _ (limits : Limits) (digest : Text) (are : Bool) (name : Text) (logins : 
   pub owning_denied : (r : Rule) → FindsOwners are c.id logins old (Err r) → Serves limits (Some digest) (owning are name logins) old old (ReadOnly (Denied r))
   owning_denied r finds ids s h =
       let why = judged ids s h ∙ finds ids s h name (spelled ids s h).1 in
-      let rest : Outcome = (served s (principal s (Some digest)) (owning are name logins), done s (unwrap_or (principal s (Some digest)) 0) (owning are name logins)) in
+      let rest : Outcome = (served s (caller s (Some digest)) (owning are name logins), done s (unwrap_or (caller s (Some digest)) 0) (owning are name logins)) in
       (ap (λ o. (unless_denied s o rest).0) why, ap (λ o. (unless_denied s o rest).1) why)
 
   pub owning_done : (accounts : Vec ℕ Global) (new : Trees) (it : Served) → FindsOwners are c.id logins old (Ok accounts) → DoesOwning are c.id accounts.items old new it → Serves limits (Some digest) (owning are name logins) old new it
@@ -84,6 +84,6 @@ module _ (limits : Limits) (digest : Text) (are : Bool) (name : Text) (logins : 
       let free = judged ids s h ∙ it.0 in
       let whole = same_owners are n name accounts.items s same ∙ ap (λ xs. with_owners are name xs s) it.1 in
       let stands : StandsBy ids (with_owners are n accounts.items s) new = does.1 ids s n h at (subst Sound (sym whole) (keeps_sound limits are s digest name logins h.sound free)) in
-      let rest : Outcome = (served s (principal s (Some digest)) (owning are name logins), done s (unwrap_or (principal s (Some digest)) 0) (owning are name logins)) in
+      let rest : Outcome = (served s (caller s (Some digest)) (owning are name logins), done s (unwrap_or (caller s (Some digest)) 0) (owning are name logins)) in
       subst (λ o. Says (owning are name logins) (unless_denied s o rest).0 reply × Stands (unless_denied s o rest).1 new) (sym free)
-      (is_granted are s (principal s (Some digest)) name logins reply does.0, (ids, subst (λ t. StandsBy ids t new) (whole ∙ is_done are s (unwrap_or (principal s (Some digest)) 0) name logins) stands))
+      (is_granted are s (caller s (Some digest)) name logins reply does.0, (ids, subst (λ t. StandsBy ids t new) (whole ∙ is_done are s (unwrap_or (caller s (Some digest)) 0) name logins) stands))

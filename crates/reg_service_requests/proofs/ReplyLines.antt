@@ -1,6 +1,6 @@
 -- The line of a request, from its reply.
 use Rattle.reg_service_requests.proofs.Words.{◌≡◌, ℕ, true, false, cond, [], Option, Some, None, refl, sym, ap, ◌∙◌, String, string_bytes}
-use Rattle.reg_service_requests.proofs.Words.{unwrap_or, Global, option_map, Limits, Rule, principal, served, Asked, Malformed, Read, Index}
+use Rattle.reg_service_requests.proofs.Words.{unwrap_or, Global, option_map, Limits, Rule, caller, served, Asked, Malformed, Read, Index}
 use Rattle.reg_service_requests.proofs.Words.{Download, ListOwners, Publish, Yank, Unyank, AddOwners, RemoveOwners, Config, Search, Ask}
 use Rattle.reg_service_requests.proofs.Words.{Registry, Text, outcome, unless_denied, Says, Reply, Denied, line_of, request_words}
 use Rattle.reg_service_requests.proofs.Words.{unless_some, Trees, TellsLine}
@@ -42,8 +42,8 @@ denied_untold limits s digest asked r e = by (denied limits s digest asked) refl
     by : (o : Option Rule) → denied limits s digest asked ≡ o → option_map (λ words. line_of (with_asker s (Ask digest asked) words)) (unless_some (denied limits s digest asked) (request_words s asked)) ≡ None
     by (Some q) d = ap (λ o. option_map (λ words. line_of (with_asker s (Ask digest asked) words)) (unless_some o (request_words s asked))) d
     by None d =
-        let is : served s (principal s digest) asked ≡ to_denied r = sym (e ∙ ap (λ o. (unless_denied s o (served s (principal s digest) asked, done s (unwrap_or (principal s digest) 0) asked)).0) d) in
-        ap (λ o. option_map (λ words. line_of (with_asker s (Ask digest asked) words)) (unless_some o (request_words s asked))) d ∙ ap (option_map (λ words. line_of (with_asker s (Ask digest asked) words))) (served_untold s (principal s digest) asked r is)
+        let is : served s (caller s digest) asked ≡ to_denied r = sym (e ∙ ap (λ o. (unless_denied s o (served s (caller s digest) asked, done s (unwrap_or (caller s digest) 0) asked)).0) d) in
+        ap (λ o. option_map (λ words. line_of (with_asker s (Ask digest asked) words)) (unless_some o (request_words s asked))) d ∙ ap (option_map (λ words. line_of (with_asker s (Ask digest asked) words))) (served_untold s (caller s digest) asked r is)
 
 served_room : (s : Registry) (who : Option ℕ) (asked : Asked) → refusal_of (served s who asked) ≡ None → has_no_room (served s who asked) ≡ false
 served_room s who (Malformed q) e = absurd cc
@@ -70,10 +70,10 @@ module _ (limits : Limits) (s : Registry) (digest : Option Text) (asked : Asked)
   done_told found none is tells = by (denied limits s digest asked) refl
     where
       by : (o : Option Rule) → denied limits s digest asked ≡ o → or_nothing (option_map string_bytes found) ≡ told limits s e a
-      by (Some q) d = absurd (has_room a none q (is ∙ ap (λ o. (unless_denied s o (served s (principal s digest) asked, done s (unwrap_or (principal s digest) 0) asked)).0) d))
+      by (Some q) d = absurd (has_room a none q (is ∙ ap (λ o. (unless_denied s o (served s (caller s digest) asked, done s (unwrap_or (caller s digest) 0) asked)).0) d))
       by None d =
-          let it : a ≡ served s (principal s digest) asked = is ∙ ap (λ o. (unless_denied s o (served s (principal s digest) asked, done s (unwrap_or (principal s digest) 0) asked)).0) d in
-          let room : has_no_room a ≡ false = ap has_no_room it ∙ served_room s (principal s digest) asked (ap refusal_of (sym it) ∙ none) in
+          let it : a ≡ served s (caller s digest) asked = is ∙ ap (λ o. (unless_denied s o (served s (caller s digest) asked, done s (unwrap_or (caller s digest) 0) asked)).0) d in
+          let room : has_no_room a ≡ false = ap has_no_room it ∙ served_room s (caller s digest) asked (ap refusal_of (sym it) ∙ none) in
           sym (ap (λ b. cond b [] (or_nothing (line limits s e))) room ∙ ap or_nothing (tells d))
 
   -- what is told of the event that a reply answers

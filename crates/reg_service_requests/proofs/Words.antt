@@ -27,7 +27,7 @@ pub use Rattle.reg_model.proofs.IndexPaths.{not_false}
 pub use Rattle.reg_model.proofs.Lists.{any_filter, is_some_find, list_any_map, not_true, true_not_false}
 pub use Rattle.reg_model.specs.Actions.{crate_of}
 pub use Rattle.reg_model.specs.Crates.{collides, owners, owns, versions, viewer}
-pub use Rattle.reg_model.specs.Effects.{account_of, principal, served}
+pub use Rattle.reg_model.specs.Effects.{account_of, caller, served}
 pub use Rattle.reg_model.specs.Events.{Asked, action_of, fault_of}
 pub use Rattle.reg_model.specs.Events.Asked.{AddOwners, Download, Malformed, Index, ListOwners, Publish, Read, RemoveOwners, Unyank, Yank}
 pub use Rattle.reg_model.specs.Events.Event.{Ask}

@@ -12,8 +12,8 @@ as_they_are Second d found is (db, same, it, rows, first) = (it, subst (AreAllRo
 
 pub returns-clause-found : goal.returns-clause-found
 returns-clause-found g c clean =
-    let old = tables_of c.args.self.now in
-    if_ok c.audit.result (λ found. as_they_are (edition_in old) (shown g.S.Store old).now found c.self.invariant.second) (c.audit.ensures.found clean)
+    let old = c.self.inside.tables in
+    rw (← c.self.view_is) (if_ok c.audit.result (λ found. as_they_are (edition_in old) (shown g.S.Store old).now found c.self.invariant.second) (c.audit.ensures.found clean))
 
 -- and so a sound registry is there exactly where none fails
 pub returns-clause-sound : goal.returns-clause-sound
@@ -22,4 +22,4 @@ returns-clause-sound g c clean =
     if_ok c.audit.result (λ found first. c.opening_law.ensures.audit first.0 db first.1 found first.2) (returns-clause-found g c clean)
 
 pub returns-clause-looked : goal.returns-clause-looked
-returns-clause-looked g c = search rules
+returns-clause-looked g c = rw (← c.self.view_is) (search rules)

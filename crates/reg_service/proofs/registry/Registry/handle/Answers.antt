@@ -3,7 +3,7 @@ use Rattle.reg_service.proofs.Streams.{file_told, halts_on, no_room_told}
 use Rattle.reg_service.proofs.registry.Registry.handle.Goals as goal
 
 pub read_file-requires : goal.read_file-requires
-read_file-requires g c = record { ours = c.handle_traced.ensures.tables.ours; second = c.handle_traced.ensures.tables.second }
+read_file-requires g c = record { ours = c.self.invariant.ours; second = c.self.invariant.second }
 
 pub returns-in-Replied-clause-replies : goal.returns-in-Replied-clause-replies
 returns-in-Replied-clause-replies g c clean s h =

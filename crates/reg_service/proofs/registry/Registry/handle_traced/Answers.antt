@@ -13,7 +13,7 @@ returns-in_default-clause-replies g c clean s h =
 pub returns-clause-replies : goal.returns-clause-replies
 returns-clause-replies g c =
     let asks = request_of (limits_of c.args.self.now) c.args.request.now in
-    let digest : option_map (λ d. d.now) c.as_ref.result ≡ asks.digest = c.as_ref.ensures ∙ c.digest_shown-digest.ensures in
+    let digest : option_map (λ d. d.now) c.as_ref.result ≡ asks.digest = c.as_ref.ensures.value ∙ c.digest_shown-digest.ensures in
     rw (c.in-Ok.ensures.asked, digest) at c.request_in.ensures.replies
 
 pub returns-clause-read : goal.returns-clause-read
