@@ -30,10 +30,10 @@ pub unyank-requires : goal.unyank-requires
 unyank-requires c = record { named = unyank_named (limits_of c.args.self.now) (registry_of c.args.self.now) c.args.digest.now c.in-Unyank.name.now c.in-Unyank.version.now (sym (ap (judged_of (limits_of c.args.self.now) (registry_of c.args.self.now) c.args.digest.now) c.in-Unyank.is) ∙ c.requires.allowed) }
 
 pub add_owners-requires : goal.add_owners-requires
-add_owners-requires c = record { named = add_named (limits_of c.args.self.now) (registry_of c.args.self.now) c.args.digest.now c.in-AddOwners.name.now (map string_bytes c.in-AddOwners.logins.now.items) (sym (ap (judged_of (limits_of c.args.self.now) (registry_of c.args.self.now) c.args.digest.now) c.in-AddOwners.is) ∙ c.requires.allowed) }
+add_owners-requires c = record { named = add_named (limits_of c.args.self.now) (registry_of c.args.self.now) c.args.digest.now c.in-AddOwners.name.now (map string_bytes c.in-AddOwners.logins.items) (sym (ap (judged_of (limits_of c.args.self.now) (registry_of c.args.self.now) c.args.digest.now) c.in-AddOwners.is) ∙ c.requires.allowed) }
 
 pub remove_owners-requires : goal.remove_owners-requires
-remove_owners-requires c = record { named = remove_named (limits_of c.args.self.now) (registry_of c.args.self.now) c.args.digest.now c.in-RemoveOwners.name.now (map string_bytes c.in-RemoveOwners.logins.now.items) (sym (ap (judged_of (limits_of c.args.self.now) (registry_of c.args.self.now) c.args.digest.now) c.in-RemoveOwners.is) ∙ c.requires.allowed) }
+remove_owners-requires c = record { named = remove_named (limits_of c.args.self.now) (registry_of c.args.self.now) c.args.digest.now c.in-RemoveOwners.name.now (map string_bytes c.in-RemoveOwners.logins.items) (sym (ap (judged_of (limits_of c.args.self.now) (registry_of c.args.self.now) c.args.digest.now) c.in-RemoveOwners.is) ∙ c.requires.allowed) }
 
 pub returns-in-Malformed-clause-state : goal.returns-in-Malformed-clause-state
 unfolding done
