@@ -16,15 +16,13 @@ const _: [Endpoint; 4] = [
     Endpoint::ChangeOwners,
 ];
 
-const _: [Action<'static>; 8] = [
+const _: [Action<'static>; 6] = [
     Action::Read,
     Action::Index(""),
     Action::Download("", ""),
     Action::ListOwners(""),
     Action::Yank("", ""),
     Action::Unyank("", ""),
-    Action::AddOwners("", &[]),
-    Action::RemoveOwners("", &[]),
 ];
 
 const _: [Decision; 2] = [Decision::Allowed, Decision::Denied(Rule::A1)];
@@ -182,6 +180,8 @@ fn call_methods(
         known: &[false],
         limits: &Limits::STANDARD,
     };
+    let _ = Action::AddOwners("", &[]);
+    let _ = Action::RemoveOwners("", &[]);
     let _ = Asked::Publish(NewPublication {
         name: name.copy(),
         version: String::new(alloc),
