@@ -1,10 +1,12 @@
 // Faults of the disk and of the network, for scripts/faults-day: it is loaded in front of the C library of a program, and
 // fails the calls that the day asks for by files in the folder $FAULTS. Each of these files holds how many calls fail, or at
-// which one the program is killed.
+// which one the program is killed or refused memory.
 //
 //   sync-ENDING    the next syncs of a file whose path has this ending fail with EIO
+//   sync           this sync, counted from 1, fails with EIO, and the file is then gone
 //   accept-NUMBER  the next accepts fail with the error of this number
 //   kill           the program is killed as it begins this write, counted from 1
+//   memory         this request for memory, counted from 1, is refused, and the file is then gone
 #define _GNU_SOURCE
 #include <dirent.h>
 #include <dlfcn.h>
@@ -18,6 +20,18 @@
 #include <sys/uio.h>
 #include <unistd.h>
 
+// Takes a file of $FAULTS away.
+static void spend(const char *name) {
+    char path[4096];
+    snprintf(path, sizeof path, "%s/%s", getenv("FAULTS"), name);
+    unlink(path);
+}
+
+// The request for memory that is refused, counted from the next one, or 0; and whether it is this library that asks, whose
+// requests do not count.
+static long refused;
+static int is_ours;
+
 // The number in a file of $FAULTS; 0 if it is not there.
 static long number_in(const char *name) {
     char path[4096];
@@ -25,10 +39,13 @@ static long number_in(const char *name) {
     const char *folder = getenv("FAULTS");
     if (!folder) return 0;
     snprintf(path, sizeof path, "%s/%s", folder, name);
+    is_ours = 1;
     FILE *file = fopen(path, "r");
-    if (!file) return 0;
-    if (fscanf(file, "%ld", &number) != 1) number = 0;
-    fclose(file);
+    if (file) {
+        if (fscanf(file, "%ld", &number) != 1) number = 0;
+        fclose(file);
+    }
+    is_ours = 0;
     return number;
 }
 
@@ -39,7 +56,7 @@ static int fails_by(const char *name) {
     if (number <= 0) return 0;
     snprintf(path, sizeof path, "%s/%s", getenv("FAULTS"), name);
     if (number == 1) {
-        unlink(path);
+        spend(name);
         return 1;
     }
     FILE *file = fopen(path, "w");
@@ -53,9 +70,11 @@ static int fails_by(const char *name) {
 // The file of $FAULTS with this front whose rest `is` accepts.
 static int find_fault(const char *front, int (*is)(const char *, const void *), const void *what, char *name, size_t size) {
     const char *folder = getenv("FAULTS");
+    is_ours = 1;
     DIR *all = folder ? opendir(folder) : NULL;
     struct dirent *one;
     int found = 0;
+    is_ours = 0;
     if (!all) return 0;
     while (!found && (one = readdir(all))) {
         if (!strncmp(one->d_name, front, strlen(front)) && is(one->d_name + strlen(front), what)) {
@@ -73,7 +92,12 @@ static int is_ending(const char *ending, const void *path) {
 }
 
 static int sync_fails(int fd) {
+    static long syncs;
     char link[64], path[4096], name[300];
+    if (++syncs == number_in("sync")) {
+        spend("sync");
+        return 1;
+    }
     snprintf(link, sizeof link, "/proc/self/fd/%d", fd);
     ssize_t length = readlink(link, path, sizeof path - 1);
     if (length < 0) return 0;
@@ -147,3 +171,23 @@ ssize_t pwrite64(int fd, const void *bytes, size_t size, off64_t at) {
     count_write(fd);
     return real(fd, bytes, size, at);
 }
+
+__attribute__((constructor)) static void read_refused(void) { refused = number_in("memory"); }
+
+static int is_refused(void) {
+    if (is_ours || !refused || --refused) return 0;
+    spend("memory");
+    errno = ENOMEM;
+    return 1;
+}
+
+// The C library's own, under its other names.
+void *__libc_malloc(size_t size);
+void *__libc_calloc(size_t count, size_t size);
+void *__libc_realloc(void *old, size_t size);
+
+void *malloc(size_t size) { return is_refused() ? NULL : __libc_malloc(size); }
+
+void *calloc(size_t count, size_t size) { return is_refused() ? NULL : __libc_calloc(count, size); }
+
+void *realloc(void *old, size_t size) { return is_refused() ? NULL : __libc_realloc(old, size); }

@@ -2,7 +2,7 @@
 use Rattle.reg_access.proofs.Words.{◌≡◌, ◌⊎◌, inl, inr, ℕ, pos, List, [], ◌∷◌, Bool, true, false, cond, Option, Some, None, is_some, refl}
 use Rattle.reg_access.proofs.Words.{sym, ap, subst, ◌∙◌, and_parts, filter, find, option_map, decimal, string_bytes, Trees, Value, Int}
 use Rattle.reg_access.proofs.Words.{canon, Action, crate_of, Read, Index, Download, ListOwners, Publish, Yank, Unyank, AddOwners}
-use Rattle.reg_access.proofs.Words.{RemoveOwners, first, Access, lists, Registry, holds, true_not_false, decision_of, Holds, Ids}
+use Rattle.reg_access.proofs.Words.{RemoveOwners, first, Access, lists, Registry, holds, true_not_false, decision_of, StandsSoundBy, IdAssignment}
 use Rattle.reg_access.proofs.Words.{StoredCrate, spelled_at, TokenRow, columns_with_account, tokens_with_accounts, IsIdOf, version_named}
 use Rattle.reg_access.proofs.Words.{CrateFacts, CrateRow, AreFound, facts_found, rows_of, crates_seen_by, is_there, names_version, text_in}
 use Rattle.reg_access.proofs.Words.{value_at, TellsCrate}
@@ -12,11 +12,11 @@ use Rattle.reg_model.specs.declared.rule.Rule.{Rule}
 use Rattle.reg_model.proofs.Cleared.{Clear}
 use Rattle.reg_model.proofs.IndexPaths.{not_false}
 use Rattle.reg_policy.specs.declared.action.Decision.TheVariants as decision
-use Rattle.reg_tables_meaning.specs.Stands.{spelling_at}
-use Rattle.reg_access.specs.Admitted.{IsAdmission, IsAdmitted, IsCallerIn, IsCallerOf, IsFoundOf, OfCaller, ShowsCaller, TellsCaller, decision_in, needs_crate, shown_crate}
+use Rattle.reg_tables_represent.specs.Stands.{spelling_at}
+use Rattle.reg_access.specs.Admitted.{IsAdmission, IsAdmitted, IsPrincipalIn, IsPrincipalOf, IsFoundOf, OfPrincipal, ShowsPrincipal, TellsPrincipal, decision_in, needs_crate, shown_crate}
 use Rattle.reg_access.specs.declared.admission.Admission.{Admission}
 use Rattle.reg_access.specs.declared.admission.Admission.TheVariants.{Allowed, Denied}
-use Rattle.reg_access.specs.declared.admission.Caller.{Caller}
+use Rattle.reg_access.specs.declared.admission.Principal.{Principal}
 use Rattle.reg_access.specs.declared.admission.FoundCrate.{FoundCrate}
 use Rattle.reg_access.proofs.CrateLaw.{IsFound, IsMissing, found_or_missing, id_shown, no_rows, tells_crate}
 use Rattle.reg_access.proofs.FoundFacts.{found_verdict}
@@ -74,7 +74,7 @@ has_its_version a t it passes names = has_version (facts_found a t it) a names p
 pub admission_made : (digest : Text) (a : Action) (db : Trees) (t : TokenRow) (it : CrateFacts) (m : Admission) → tokens_with_accounts digest db ≡ columns_with_account t ∷ [] → AreFound a t.id t.account db it → IsAdmitted a t it m → IsAdmission digest a db m
 admission_made digest a db t it m known are made = record { decided = found_verdict db digest a t it known are (decision_in m) made.decided; shown = by m made.handed }
   where
-    by : (m : Admission) → OfCaller m (IsCallerIn t it) → OfCaller m (ShowsCaller digest a db)
+    by : (m : Admission) → OfPrincipal m (IsPrincipalIn t it) → OfPrincipal m (ShowsPrincipal digest a db)
     by (Denied r) handed = tt
     by (Allowed c) handed = record { token = t; it = it; known = known; are = are; handed = handed }
 
@@ -82,11 +82,11 @@ same_number : {a b : ℕ} → ◌≡◌ {A = Value} (Int (pos a)) (Int (pos b)) 
 same_number e = cc
 
 -- who asks, by the token and the login that are handed on
-named_by : (c : Caller) (t : TokenRow) → t.id ≡ c.token → t.login ≡ c.login → ◌≡◌ {A = List Text} (decimal t.id ∷ string_bytes t.login ∷ []) (decimal c.token ∷ string_bytes c.login ∷ [])
+named_by : (c : Principal) (t : TokenRow) → t.id ≡ c.token → t.login ≡ c.login → ◌≡◌ {A = List Text} (decimal t.id ∷ string_bytes t.login ∷ []) (decimal c.token ∷ string_bytes c.login ∷ [])
 named_by c t id login = λ i. decimal (id i) ∷ string_bytes (login i) ∷ []
 
 -- and where these stand for a registry
-module _ (ids : Ids) (s : Registry) (db : Trees) (h : Holds ids s db) where
+module _ (ids : IdAssignment) (s : Registry) (db : Trees) (h : StandsSoundBy ids s db) where
   module _ (n : Text) (account : ℕ) where
     told : TellsCrate s n account (crates_seen_by (canon n) (Int (pos account)) db)
     told = tells_crate ids s db h.sound h.stands n account
@@ -113,8 +113,8 @@ module _ (ids : Ids) (s : Registry) (db : Trees) (h : Holds ids s db) where
   found_is None account (Some r) e = absurd cc
   found_is (Some n) account row e = crate_is n account row e
 
-  caller_is : (digest : Text) (a : Action) (c : Caller) → ShowsCaller digest a db c → IsCallerOf ids s digest a c
-  caller_is digest a c shows = record {
+  principal_is : (digest : Text) (a : Action) (c : Principal) → ShowsPrincipal digest a db c → IsPrincipalOf ids s digest a c
+  principal_is digest a c shows = record {
     who = asker_is ids s db h digest shows.token shows.known ∙ named_by c shows.token (sym shows.handed.token) (sym shows.handed.login);
     account = viewer_is ids s db h digest shows.token shows.known ∙ ap Some (sym shows.handed.account);
     found = subst (IsFoundOf ids s (crate_of a)) (sym shows.handed.found) (found_is (crate_of a) shows.token.account shows.it.row shows.are.row);
@@ -123,6 +123,6 @@ module _ (ids : Ids) (s : Registry) (db : Trees) (h : Holds ids s db) where
         (id_named ids s db h.stands a (Int (pos shows.token.account)) (rows_of shows.it.row) shows.it.version shows.are.row shows.are.version);
   }
 
-pub caller_told : (digest : Text) (a : Action) (db : Trees) (m : Admission) → IsAdmission digest a db m → TellsCaller digest a db m
-caller_told digest a db (Denied r) shows = tt
-caller_told digest a db (Allowed c) shows = λ ids s h. caller_is ids s db h digest a c shows.shown
+pub principal_told : (digest : Text) (a : Action) (db : Trees) (m : Admission) → IsAdmission digest a db m → TellsPrincipal digest a db m
+principal_told digest a db (Denied r) shows = tt
+principal_told digest a db (Allowed c) shows = λ ids s h. principal_is ids s db h digest a c shows.shown

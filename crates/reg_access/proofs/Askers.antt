@@ -1,8 +1,8 @@
 -- Who asks with a token that was found.
 use Rattle.reg_access.proofs.Words.{◌≡◌, ℕ, zero, suc, ◌+◌, ◌-◌, ◌==◌, List, [], ◌∷◌, Bool, true, false, cond, Option, Some, None, arith}
 use Rattle.reg_access.proofs.Words.{refl, sym, ap, subst, ◌∙◌, string_bytes, unwrap_or, decimal, AllByRecursion, option_map, on, bytes_eq}
-use Rattle.reg_access.proofs.Words.{Trees, Account, Registry, Token, with_id, TokenRow, columns_with_account, tokens_with_accounts, Holds}
-use Rattle.reg_access.proofs.Words.{Ids}
+use Rattle.reg_access.proofs.Words.{Trees, Account, Registry, Token, with_id, TokenRow, columns_with_account, tokens_with_accounts, StandsSoundBy}
+use Rattle.reg_access.proofs.Words.{IdAssignment}
 use Rattle.std.specs.Prelude.{slice_get}
 use Rattle.std.specs.List.{IsDistinct, position_from}
 use Rattle.std.proofs.lemmas.Slice.Eq.{bytes_eq-Decides}
@@ -11,8 +11,8 @@ use Rattle.reg_model.specs.Crates.{viewer}
 use Rattle.reg_model.specs.Effects.{account_of}
 use Rattle.reg_model.specs.Reports.{login_of}
 use Rattle.reg_model.specs.Trail.{asker, id_of_token}
-use Rattle.reg_tables_meaning.specs.FoundTokens.{IsRow, login_and_mark}
-use Rattle.reg_tables_meaning.proofs.FoundTokens.{finds_row}
+use Rattle.reg_tables_represent.specs.FoundTokens.{IsRow, login_and_mark}
+use Rattle.reg_tables_represent.proofs.FoundTokens.{finds_row}
 
 each_at : {X : Type 0} (P : X → Type 0) (xs : List X) (i : ℕ) (x : X) → AllByRecursion P xs → slice_get xs i ≡ Some x → P x
 each_at P [] i x h e = absurd cc
@@ -40,7 +40,7 @@ login_is None l b e = absurd cc
 login_is (Some a) l b e = let same : login_and_mark a ≡ (l, b) = cc e in ap (λ x. x.0) same
 
 -- the one row of a digest, where the rows stand for a registry
-module _ (ids : Ids) (s : Registry) (db : Trees) (h : Holds ids s db) (digest : Text) (t : TokenRow) (known : tokens_with_accounts digest db ≡ columns_with_account t ∷ []) where
+module _ (ids : IdAssignment) (s : Registry) (db : Trees) (h : StandsSoundBy ids s db) (digest : Text) (t : TokenRow) (known : tokens_with_accounts digest db ≡ columns_with_account t ∷ []) where
   row : IsRow s digest (Some t)
   row = finds_row ids s db h.stands digest h.sound (Some t) known
 

@@ -1,15 +1,15 @@
 -- Calls in a transaction, one after another, and what a call leaves whatever its answer is made into.
-use Rattle.reg_access.proofs.Words.{◌≡◌, inl, false, arith, Ok, Err, Result, refl, ◌∙◌, HasCleanDisk, Ghosts, IsInside, Work, IsAtWork}
-use Rattle.reg_access.proofs.Words.{IsCall, has_failed, seen}
+use Rattle.reg_access.proofs.Words.{◌≡◌, inl, false, arith, Ok, Err, Result, refl, ◌∙◌, HasCleanDisk, Ghosts, IsInside, Work, IsActive}
+use Rattle.reg_access.proofs.Words.{KeepsFrame, has_failed, seen}
 use Rattle.sqlite.specs.State.{State, Survives}
 use Rattle.sqlite.proofs.StateLemmas.{survives_then}
-use Rattle.reg_tables_meaning.proofs.Withins.{fails_after, itself_within, within_then}
+use Rattle.reg_tables_represent.proofs.Withins.{fails_after, itself_within, within_then}
 
 survives_itself : (a : State) → Survives a a (λ _. ⊥)
 survives_itself a = record { clean = omega arith; shield = λ h. h; counts = omega arith; limit = refl; closes = λ _ h. inl h; crash = λ _ db h. inl h }
 
 module _ {S : Type 0} (g : Ghosts S) where
-  pub called_ok : {T U E F : Type 0} (x : T) (y : U) (a b : Work S) → IsCall {T = T} {E = E} g (Ok x) a b → IsCall {T = U} {E = F} g (Ok y) a b
+  pub called_ok : {T U E F : Type 0} (x : T) (y : U) (a b : Work S) → KeepsFrame {T = T} {E = E} g (Ok x) a b → KeepsFrame {T = U} {E = F} g (Ok y) a b
   called_ok x y a b c = record {
     same_reference = c.same_reference;
     same_edition = c.same_edition;
@@ -22,7 +22,7 @@ module _ {S : Type 0} (g : Ghosts S) where
     survives = c.survives;
   }
 
-  pub called_err : {T U E F : Type 0} (e : E) (f : F) (a b : Work S) → IsCall {T = T} {E = E} g (Err e) a b → IsCall {T = U} {E = F} g (Err f) a b
+  pub called_err : {T U E F : Type 0} (e : E) (f : F) (a b : Work S) → KeepsFrame {T = T} {E = E} g (Err e) a b → KeepsFrame {T = U} {E = F} g (Err f) a b
   called_err e f a b c = record {
     same_reference = c.same_reference;
     same_edition = c.same_edition;
@@ -35,7 +35,7 @@ module _ {S : Type 0} (g : Ghosts S) where
     survives = c.survives;
   }
 
-  pub then_called : {T U E F : Type 0} (x : T) (r : Result U F) (a b c : Work S) → IsCall {T = T} {E = E} g (Ok x) a b → IsCall g r b c → IsCall g r a c
+  pub then_called : {T U E F : Type 0} (x : T) (r : Result U F) (a b c : Work S) → KeepsFrame {T = T} {E = E} g (Ok x) a b → KeepsFrame g r b c → KeepsFrame g r a c
   then_called x (Ok y) a b c one two = record {
     same_reference = two.same_reference ∙ one.same_reference;
     same_edition = two.same_edition ∙ one.same_edition;
@@ -60,7 +60,7 @@ module _ {S : Type 0} (g : Ghosts S) where
   }
 
   -- where nothing is called
-  pub itself_called : {T E : Type 0} (x : T) (a : Work S) → has_failed a ≡ false → IsAtWork g a → IsCall {T = T} {E = E} g (Ok x) a a
+  pub itself_called : {T E : Type 0} (x : T) (a : Work S) → has_failed a ≡ false → IsActive g a → KeepsFrame {T = T} {E = E} g (Ok x) a a
   itself_called x a on at = record {
     same_reference = refl;
     same_edition = refl;
@@ -74,5 +74,5 @@ module _ {S : Type 0} (g : Ghosts S) where
   }
 
   -- a call that answered was made inside a transaction of our tables
-  pub inside : {T E : Type 0} (x : T) (old new : Work S) → IsAtWork g old → IsCall {T = T} {E = E} g (Ok x) old new → HasCleanDisk (seen g new) → IsInside (seen g old)
+  pub inside : {T E : Type 0} (x : T) (old new : Work S) → IsActive g old → KeepsFrame {T = T} {E = E} g (Ok x) old new → HasCleanDisk (seen g new) → IsInside (seen g old)
   inside x old new at call clean = at.ready call.went_on.0 (omega (arith, call.survives.clean))

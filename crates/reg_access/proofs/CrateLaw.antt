@@ -3,7 +3,7 @@ use Rattle.reg_access.proofs.Words.{◌≡◌, ◌==◌, ◌⊎◌, inl, inr, �
 use Rattle.reg_access.proofs.Words.{is_some, refl, sym, ap, ap₂, subst, ◌∙◌, enumerate_from, filter, flat_map, list_any, on, bytes_eq}
 use Rattle.reg_access.proofs.Words.{eq-eqb, eqb-true, Value, Int, Text, Binary, Row, column, is_null, or_nulls, Trees, equal, canon}
 use Rattle.reg_access.proofs.Words.{with_id, collides, first, is_among, owners, Sound, any_filter, any_same, is_some_find, not_true}
-use Rattle.reg_access.proofs.Words.{true_not_false, IsIn, one_passes, one_row, equals_int, equals_text, same_filter, Ids, StandCrates}
+use Rattle.reg_access.proofs.Words.{true_not_false, IsIn, one_passes, one_row, equals_int, equals_text, same_filter, IdAssignment, StandCrates}
 use Rattle.reg_access.proofs.Words.{StandsBy, StoredCrate, StoredVersion, same_text, bytes_same, same_bytes, spelled_at, one_at, none_row}
 use Rattle.reg_access.proofs.Words.{beside_all, crates_seen_by, is_mark_of, is_pair_of, value_at, TellsCrate}
 use Rattle.std.specs.FinSet as finset
@@ -13,12 +13,12 @@ use Rattle.reg_model.specs.Registry.{owner_cmp}
 use Rattle.reg_model.specs.Crates.{has_crate, readers}
 use Rattle.reg_model.proofs.Members.{any_in, in_any, in_filter, none_pass}
 use Rattle.reg_tables_schema.specs.Tests.{is_number, is_owner}
-use Rattle.reg_tables_meaning.specs.Stands.{StandPairs, row_of_crate}
-use Rattle.reg_tables_meaning.specs.Changes.{told_of}
-use Rattle.reg_tables_meaning.proofs.CrateLemmas.{crate_of, one_by_canon, version_of}
-use Rattle.reg_tables_meaning.proofs.MarkedStand.{is_marked}
-use Rattle.reg_tables_meaning.proofs.PairChanges as pairs
-use Rattle.reg_tables_meaning.proofs.CrateNames.{first_of, named, none_first, some_first}
+use Rattle.reg_tables_represent.specs.Stands.{StandPairs, row_of_crate}
+use Rattle.reg_tables_represent.specs.Changes.{told_of}
+use Rattle.reg_tables_represent.proofs.CrateLemmas.{crate_of, one_by_canon, version_of}
+use Rattle.reg_tables_represent.proofs.MarkedStand.{is_marked}
+use Rattle.reg_tables_represent.proofs.PairChanges as pairs
+use Rattle.reg_tables_represent.proofs.CrateNames.{first_of, named, none_first, some_first}
 use Rattle.reg_access.proofs.Nulls.{none_any, not_null}
 use Rattle.reg_access.proofs.Somes.{the_some}
 
@@ -44,7 +44,7 @@ reader_rows db account c = filter (is_pair_of account c) (db 18)
 abbrev pub its : Trees → Value → Row → List Row
 its db account c = beside_all c (or_nulls (owner_rows db account c)) (or_nulls (mark_rows db c)) (or_nulls (reader_rows db account c))
 
-module _ (ids : Ids) (s : model.Registry) (db : Trees) (stands : StandsBy ids s db) where
+module _ (ids : IdAssignment) (s : model.Registry) (db : Trees) (stands : StandsBy ids s db) where
   abbrev h : StandCrates ids s.publications s.yanked db
   h = stands.crates
 
@@ -183,7 +183,7 @@ module _ (s : model.Registry) (held : finset.FinSet owner_cmp) (n : Words) (acco
       split true e = it_is_there e
       split false e = none_any entries
 
-module _ (ids : Ids) (s : model.Registry) (db : Trees) (sound : Sound s) (stands : StandsBy ids s db) (n : Words) (account : ℕ) where
+module _ (ids : IdAssignment) (s : model.Registry) (db : Trees) (sound : Sound s) (stands : StandsBy ids s db) (n : Words) (account : ℕ) where
   abbrev Told : List Row → Type 0
   Told rows = TellsCrate s n account rows
 
@@ -227,7 +227,7 @@ module _ (ids : Ids) (s : model.Registry) (db : Trees) (sound : Sound s) (stands
       either (inr it) = told_found it.0 it.1
 
 -- the id that the rows of a stored crate show
-pub id_shown : (ids : Ids) (s : model.Registry) (db : Trees) (stands : StandsBy ids s db) (n : Words) (account : Value) (x : StoredCrate) → IsFound ids s db stands n x → value_at (crates_seen_by (canon n) account db) 0 ≡ Int (pos x.0)
+pub id_shown : (ids : IdAssignment) (s : model.Registry) (db : Trees) (stands : StandsBy ids s db) (n : Words) (account : Value) (x : StoredCrate) → IsFound ids s db stands n x → value_at (crates_seen_by (canon n) account db) 0 ≡ Int (pos x.0)
 id_shown ids s db stands n account x it =
     let c = row_of_crate x in
     ap (λ rows. value_at rows 0) (its_rows ids s db stands n account x it ∙ begins c (owner_rows db account c) (mark_rows db c) (reader_rows db account c))

@@ -1,7 +1,7 @@
 -- What was found is what the rows tell.
 use Rattle.reg_access.proofs.Words.{◌≡◌, ℕ, pos, [], ◌∷◌, Bool, true, false, not, ◌||◌, cond, is_some, Option, Some, None, refl, sym, ap}
 use Rattle.reg_access.proofs.Words.{◌∙◌, is_null, Trees, Int, Null, canon, Action, crate_of, Read, Index, Download, ListOwners, Publish}
-use Rattle.reg_access.proofs.Words.{Yank, Unyank, AddOwners, RemoveOwners, lists, decision_of, mark, number_columns, shown_of, TokenRow}
+use Rattle.reg_access.proofs.Words.{Yank, Unyank, AddOwners, RemoveOwners, lists, decision_of, sql_bool, number_columns, shown_of, TokenRow}
 use Rattle.reg_access.proofs.Words.{columns_with_account, tokens_with_accounts, CrateRow, CrateFacts, AreFound, facts_found, number_or_null}
 use Rattle.reg_access.proofs.Words.{rows_of, crates_seen_by, is_mark_set, is_shown, is_there, last_rows, named_rows, names_version}
 use Rattle.reg_access.proofs.Words.{publishes, scopes_over, text_in, value_at, versions_with_text, facts_in, is_always_reserved, is_seen}
@@ -17,7 +17,7 @@ use Rattle.reg_access.proofs.Answered.{none_there}
 use Rattle.reg_access.proofs.JoinLaw.{Agree, same_verdict, unknown_first}
 use Rattle.reg_access.proofs.VersionLaw.{no_version_of_null}
 
-pub set_is : (b : Bool) → is_mark_set (mark b) ≡ b
+pub set_is : (b : Bool) → is_mark_set (sql_bool b) ≡ b
 set_is true = refl
 set_is false = refl
 

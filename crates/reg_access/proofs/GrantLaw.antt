@@ -3,13 +3,13 @@ use Rattle.reg_access.proofs.Words.{◌≡◌, ◌==◌, ℕ, Bool, true, false,
 use Rattle.reg_access.proofs.Words.{refl, sym, ap, ◌∙◌, string_bytes, enumerate_from, filter, find, flat_map, list_any, option_map, Trees}
 use Rattle.reg_access.proofs.Words.{canon, is_name, Endpoint, collides, exists, first, is_among, is_reserved_always, Registry, any_filter}
 use Rattle.reg_access.proofs.Words.{any_same, is_some_find, list_any_map, not_true, true_not_false, maps_twice, Crate, TokenRow, same_bytes}
-use Rattle.reg_access.proofs.Words.{FindsCrate, entry_of_account, Holds, Ids, AreCandidates, Told, granted, is_free, told_by, told_of}
+use Rattle.reg_access.proofs.Words.{FindsCrate, entry_of_account, StandsSoundBy, IdAssignment, AreCandidates, Told, granted, is_free, told_by, told_of}
 use Rattle.std.specs.FinSet as finset
 use Rattle.reg_model.specs.Crates.{owners as owners_in}
 use Rattle.reg_model.specs.Grants.{grants}
 use Rattle.reg_model.specs.Registry.{Account as Of, Publication, Text as Words}
 use Rattle.reg_tables_sql.specs.declared.accounts.Account.{Account}
-use Rattle.reg_tables_meaning.specs.Changes.{told_of as told_where}
+use Rattle.reg_tables_represent.specs.Changes.{told_of as told_where}
 use Rattle.reg_access.specs.declared.granting.Standing.{Standing}
 use Rattle.reg_access.specs.declared.grants.Grant.{Grant}
 use Rattle.reg_access.specs.Grants.{AreOwnersOf, IsStanding}
@@ -39,7 +39,7 @@ neither : (a b c : Bool) → not (a || (b || c)) ≡ (not a && not (b || c))
 neither true b c = refl
 neither false b c = refl
 
-module _ (ids : Ids) (s : Registry) (db : Trees) (h : Holds ids s db) (n : Words) where
+module _ (ids : IdAssignment) (s : Registry) (db : Trees) (h : StandsSoundBy ids s db) (n : Words) where
   pub there_is : (found : Option Crate) → option_map (λ c. string_bytes c.name) found ≡ first s n → exists s n ≡ is_some found
   there_is found e = sym (is_some_find (λ p. p.name) (λ p. collides p.name n) s.publications) ∙ ap is_some (sym e) ∙ mapped found
     where

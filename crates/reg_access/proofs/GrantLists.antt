@@ -9,8 +9,8 @@ use Rattle.reg_model.specs.Crates.{owners as owners_in}
 use Rattle.reg_model.specs.Grants.{all_endpoints, grants, has_right, is_granted}
 use Rattle.reg_model.specs.Registry.{Text as Words}
 use Rattle.reg_tables_sql.specs.declared.accounts.Account.{Account}
-use Rattle.reg_tables_meaning.proofs.AccountEntries.{heads, mark_is, number_is, tails, words_are}
-use Rattle.reg_tables_meaning.proofs.Selected.{each_part}
+use Rattle.reg_tables_represent.proofs.AccountEntries.{heads, mark_is, number_is, tails, words_are}
+use Rattle.reg_tables_represent.proofs.Selected.{each_part}
 use Rattle.reg_access.specs.Grants.{login_at}
 
 one_more : {X Y : Type 0} (b : Bool) (f : X → Y) (x : X) (xs : List X) → map f (cond b (x ∷ xs) xs) ≡ cond b (f x ∷ []) [] ++ map f xs

@@ -4,8 +4,8 @@ use Rattle.reg_access.proofs.Words.{None, get_or, inl, inr, refl, sym, ap, subst
 use Rattle.reg_access.proofs.Words.{flat_map, list_all, list_any, IsPermutation, option_map, is_lt, and_parts, eq-eqb, IsPermutation-map}
 use Rattle.reg_access.proofs.Words.{Binary, Row, column, overlay, IsSureAnswer, end, matches, or_nulls, Trees, Int, Text, equal}
 use Rattle.reg_access.proofs.Words.{flat_map-map, map-flat_map, canon, is_name, covers, Account, Registry, Token, with_id, is_token}
-use Rattle.reg_access.proofs.Words.{any_same, IsIn, one_row, and_true, equals_int, maps_twice, same_filter, mark, shows, at_place, one_at}
-use Rattle.reg_access.proofs.Words.{same_number, Holds, Ids, row_of_account, row_of_token, is_candidate, row_of_candidate, is_at_most}
+use Rattle.reg_access.proofs.Words.{any_same, IsIn, one_row, and_true, equals_int, maps_twice, same_filter, sql_bool, shows, at_place, one_at}
+use Rattle.reg_access.proofs.Words.{same_number, StandsSoundBy, IdAssignment, row_of_account, row_of_token, is_candidate, row_of_candidate, is_at_most}
 use Rattle.reg_access.proofs.Words.{is_below, is_scope_over, is_there, scopes_over}
 use Rattle.std.proofs.Common.{Less}
 use Rattle.std.specs.Prelude.{is_some}
@@ -28,10 +28,10 @@ use Rattle.reg_tables_schema.proofs.Sorted.{rises, then_equal, unmapped}
 use Rattle.reg_tables_schema.specs.Rows.{by_column}
 use Rattle.reg_tables_sql.specs.Accounts.{account_row}
 use Rattle.reg_tables_sql.specs.Tokens.{token_row}
-use Rattle.reg_tables_meaning.proofs.CrateNames.{kept}
-use Rattle.reg_tables_meaning.proofs.Numbered.{none_at}
-use Rattle.reg_tables_meaning.proofs.Selected.{column_total, places_rise}
-use Rattle.reg_tables_meaning.proofs.Gates.{bit, counted_any, each_gate}
+use Rattle.reg_tables_represent.proofs.CrateNames.{kept}
+use Rattle.reg_tables_represent.proofs.Numbered.{none_at}
+use Rattle.reg_tables_represent.proofs.Selected.{column_total, places_rise}
+use Rattle.reg_tables_represent.proofs.Gates.{bit, counted_any, each_gate}
 use Rattle.reg_access.proofs.Answered.{there_filtered}
 use Rattle.reg_access.proofs.GrantText.{after_token, from, query, scopes_counted, where_terms}
 use Rattle.reg_access.proofs.ScopeLaw.{all_at, covers_alike, the_token}
@@ -60,7 +60,7 @@ passes params digest login name id account eps false true false = refl
 passes params digest login name id account eps false false true = refl
 passes params digest login name id account eps false false false = refl
 
-module _ (ids : Ids) (s : Registry) (db : Trees) (h : Holds ids s db) (n : Words) (name : is_name n ≡ true) where
+module _ (ids : IdAssignment) (s : Registry) (db : Trees) (h : StandsSoundBy ids s db) (n : Words) (name : is_name n ≡ true) where
   abbrev params : Row
   params = Text (canon n) ∷ []
 
@@ -114,8 +114,8 @@ module _ (ids : Ids) (s : Registry) (db : Trees) (h : Holds ids s db) (n : Words
         split true =
             λ i. (
               Int (pos id) ∷ [],
-              Int (pos id) ∷ Int (pos t.account) ∷ mark t.live ∷ mark t.endpoints.publish_new ∷ mark t.endpoints.publish_update ∷ mark t.endpoints.yank ∷ mark t.endpoints.change_owners
-                  ∷ Text (unwrap_or (option_map (λ (x : Account). x.login) (sym at i)) []) ∷ mark (any_such (λ (x : Account). x.enabled) (sym at i)) ∷ [],
+              Int (pos id) ∷ Int (pos t.account) ∷ sql_bool t.live ∷ sql_bool t.endpoints.publish_new ∷ sql_bool t.endpoints.publish_update ∷ sql_bool t.endpoints.yank ∷ sql_bool t.endpoints.change_owners
+                  ∷ Text (unwrap_or (option_map (λ (x : Account). x.login) (sym at i)) []) ∷ sql_bool (any_such (λ (x : Account). x.enabled) (sym at i)) ∷ [],
             ) ∷ []
 
   comes : (e : ℕ × Token) → IsIn e entries → map (output query) (matches db where_terms after_token (params ∷ row_of_token e ∷ [])) ≡ cond (may e) (shown e ∷ []) []

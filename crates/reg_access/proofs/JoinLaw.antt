@@ -3,7 +3,7 @@ use Rattle.reg_access.proofs.Words.{◌≡◌, ◌&&◌, ◌||◌, ℕ, pos, Lis
 use Rattle.reg_access.proofs.Words.{subst, ◌∙◌, option_map, list_any, bytes_eq, and_parts, Row, Value, Int, Trees, canon, is_name, name_of}
 use Rattle.reg_access.proofs.Words.{covers, Action, crate_of, Read, Index, Download, ListOwners, Publish, Yank, Unyank, AddOwners}
 use Rattle.reg_access.proofs.Words.{RemoveOwners, collides, first, is_among, is_reserved_always, owners, same_release, versions, Access}
-use Rattle.reg_access.proofs.Words.{lists, holds, token_of, Sound, is_some_find, tokens_with_accounts, Ids, StandsBy, crates_seen_by}
+use Rattle.reg_access.proofs.Words.{lists, holds, token_of, Sound, is_some_find, tokens_with_accounts, IdAssignment, StandsBy, crates_seen_by}
 use Rattle.reg_access.proofs.Words.{is_shown, is_there, last_rows, names_version, publishes, scopes_over, text_in, value_at}
 use Rattle.reg_access.proofs.Words.{versions_with_text, TellsCrate, TellsToken, facts_in, is_always_reserved, is_seen, join_rows}
 use Rattle.reg_access.proofs.Words.{needs_scope}
@@ -159,7 +159,7 @@ names_crate (Unyank t v) p n h = named t n h
 names_crate (AddOwners t logins) p n h = named t n h
 names_crate (RemoveOwners t logins) p n h = named t n h
 
-module _ (ids : Ids) (s : model.Registry) (db : Trees) (sound : Sound s) (stands : StandsBy ids s db) (digest : List ℕ) (t : model.Token) (known : token_of s digest ≡ Some t) where
+module _ (ids : IdAssignment) (s : model.Registry) (db : Trees) (sound : Sound s) (stands : StandsBy ids s db) (digest : List ℕ) (t : model.Token) (known : token_of s digest ≡ Some t) where
   tells : TellsToken s digest (tokens_with_accounts digest db)
   tells = tells_token digest ids s db sound stands
 
@@ -238,7 +238,7 @@ module _ (ids : Ids) (s : model.Registry) (db : Trees) (sound : Sound s) (stands
   held_back (AddOwners n logins) h k = absurd cc
   held_back (RemoveOwners n logins) h k = absurd cc
 
-module _ (ids : Ids) (s : model.Registry) (db : Trees) (sound : Sound s) (stands : StandsBy ids s db) (digest : List ℕ) (a : Action) (p : is_fit a ≡ true) where
+module _ (ids : IdAssignment) (s : model.Registry) (db : Trees) (sound : Sound s) (stands : StandsBy ids s db) (digest : List ℕ) (a : Action) (p : is_fit a ≡ true) where
   agree : (t : model.Token) → token_of s digest ≡ Some t → Agree a (facts_in (join_rows db digest a) a) (access_facts s digest a)
   unfolding access_facts
   agree t h =

@@ -7,8 +7,8 @@ use Rattle.reg_model.specs.Crates.{is_restricted, readers as readers_in}
 use Rattle.reg_model.specs.Grants.{who_reads}
 use Rattle.reg_model.specs.Registry.{Text as Words}
 use Rattle.reg_tables_sql.specs.declared.accounts.Account.{Account as Stored}
-use Rattle.reg_tables_meaning.specs.Calls.{Tells}
-use Rattle.reg_tables_meaning.specs.Changes.{told_of as told_where}
+use Rattle.reg_tables_represent.specs.Calls.{Tells}
+use Rattle.reg_tables_represent.specs.Changes.{told_of as told_where}
 use Rattle.reg_access.specs.Grants.{AreReaders, AreReadersOf}
 use Rattle.reg_access.proofs.GrantLaw.{first_canon, there_is}
 

@@ -1,6 +1,6 @@
 -- Where the rows stand for a registry, a reserved name comes back where the administrator reserved it.
 use Rattle.reg_access.proofs.Words.{◌≡◌, List, [], ◌∷◌, ℕ, map, Bool, refl, sym, ◌∙◌, drop, bytes_eq, list_any-IsPermutation, Text, Binary}
-use Rattle.reg_access.proofs.Words.{Row, column, Trees, equal, any_same, list_any_map, shows, equals_text, Ids, StandsBy, same_text}
+use Rattle.reg_access.proofs.Words.{Row, column, Trees, equal, any_same, list_any_map, shows, equals_text, IdAssignment, StandsBy, same_text}
 use Rattle.reg_access.proofs.Words.{is_there, reserved_as}
 use Rattle.std.specs.FinSet as finset
 use Rattle.reg_model.specs.Registry as model
@@ -14,7 +14,7 @@ first_column : (c : List ℕ) (r : Row) → is_it c r ≡ equal Binary (column (
 first_column c [] = refl
 first_column c (v ∷ r) = refl
 
-pub tells_reserved : (ids : Ids) (s : model.Registry) (db : Trees) → StandsBy ids s db → (c : List ℕ) → is_there (reserved_as c db) ≡ finset.contains s.reserved c
+pub tells_reserved : (ids : IdAssignment) (s : model.Registry) (db : Trees) → StandsBy ids s db → (c : List ℕ) → is_there (reserved_as c db) ≡ finset.contains s.reserved c
 tells_reserved ids s db stands c =
     let it = stands.reserved in
     let q = λ (r : Row). equal Binary (column r 0) (Text c) in

@@ -3,7 +3,7 @@ use Rattle.reg_access.proofs.Words.{◌≡◌, ◌==◌, ℕ, zero, suc, ◌+◌
 use Rattle.reg_access.proofs.Words.{sym, ap, ap₂, ◌∙◌, drop, enumerate_from, filter, flat_map, list_all, list_any, is_lt, and_parts}
 use Rattle.reg_access.proofs.Words.{list_any-IsPermutation, Int, Text, Binary, Row, column, Trees, equal, canon, is_name, covers, with_id}
 use Rattle.reg_access.proofs.Words.{Sound, is_token, any_filter, any_same, list_any_map, not_true, true_not_false, equals_int, same_filter}
-use Rattle.reg_access.proofs.Words.{Ids, StandsBy, row_of_token, shows, at_place, one_at, one_row, same_number, is_at_most, is_below}
+use Rattle.reg_access.proofs.Words.{IdAssignment, StandsBy, row_of_token, shows, at_place, one_at, one_row, same_number, is_at_most, is_below}
 use Rattle.reg_access.proofs.Words.{is_scope_over, is_there, scopes_over}
 use Rattle.std.proofs.Common.{slice_get}
 use Rattle.std.specs.Prelude.{length, is_some, nat_lt}
@@ -18,7 +18,7 @@ use Rattle.reg_names.proofs.PatternFacts.{covers-Decides}
 use Rattle.reg_names.proofs.RangeFacts.{within-Covers}
 use Rattle.reg_model.specs.Registry as model
 use Rattle.reg_model.specs.Sound.{has_some}
-use Rattle.reg_tables_meaning.specs.Stands.{scope_of, scopes_of}
+use Rattle.reg_tables_represent.specs.Stands.{scope_of, scopes_of}
 use Rattle.reg_access.proofs.Answered.{there_filtered}
 use Rattle.reg_access.proofs.Somes.{same_some}
 
@@ -89,7 +89,7 @@ covered_alike : (n : List ℕ) → is_name n ≡ true → (ps : List (List ℕ))
 covered_alike n name [] h = refl
 covered_alike n name (p ∷ ps) h = let both = and_parts (is_pattern p) (list_all is_pattern ps) h in ap₂ ◌||◌ (within_covers p n both.0 name) (covered_alike n name ps both.1)
 
-module _ (ids : Ids) (s : model.Registry) (db : Trees) (stands : StandsBy ids s db) (id : ℕ) (t : model.Token) (found : with_id s.tokens id ≡ Some t) where
+module _ (ids : IdAssignment) (s : model.Registry) (db : Trees) (stands : StandsBy ids s db) (id : ℕ) (t : model.Token) (found : with_id s.tokens id ≡ Some t) where
   pub the_token : filter (λ r. equal Binary (column r 0) (Int (pos id))) (db 3) ≡ row_of_token (id, t) ∷ []
   the_token =
       one_row row_of_token (λ r. equal Binary (column r 0) (Int (pos id))) (id, t) (enumerate_from 1 s.tokens) (db 3) stands.tokens.rows

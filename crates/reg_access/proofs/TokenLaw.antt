@@ -2,7 +2,7 @@
 use Rattle.reg_access.proofs.Words.{◌≡◌, ℕ, ◌+◌, ◌-◌, pos, List, [], ◌∷◌, ◌++◌, map, Bool, true, false, cond, Option, Some, None, is_some}
 use Rattle.reg_access.proofs.Words.{refl, sym, ap, subst, ◌∙◌, enumerate_from, filter, find, flat_map, AllByRecursion, on, bytes_eq}
 use Rattle.reg_access.proofs.Words.{and_parts, Int, Blob, Row, Trees, token_of, with_id, holds, is_enabled, Sound, is_token, not_true}
-use Rattle.reg_access.proofs.Words.{true_not_false, mark, equals_int, same_filter, Ids, StandsBy, row_of_account, row_of_token}
+use Rattle.reg_access.proofs.Words.{true_not_false, sql_bool, equals_int, same_filter, IdAssignment, StandsBy, row_of_account, row_of_token}
 use Rattle.reg_access.proofs.Words.{tokens_with_accounts, bytes_same, same_bytes, at_place, one_at, one_row, none_row, same_number}
 use Rattle.reg_access.proofs.Words.{is_mark_set, TellsToken}
 use Rattle.std.specs.List.{IsDistinct}
@@ -15,14 +15,14 @@ use Rattle.reg_model.specs.Registry as model
 use Rattle.reg_model.specs.Facts.{endpoints_of}
 use Rattle.reg_tables_schema.specs.Tests.{is_blob}
 use Rattle.reg_tables_sql.specs.Tokens.{is_of_token, token_and_account}
-use Rattle.reg_tables_meaning.proofs.Numbered.{found_at}
+use Rattle.reg_tables_represent.proofs.Numbered.{found_at}
 use Rattle.reg_access.proofs.ScopeLaw.{all_at}
 use Rattle.reg_access.proofs.Somes.{same_some, the_some}
 
 same_blob : (t u : List ℕ) → is_eq (value_cmp (Blob t) (Blob u)) ≡ bytes_eq t u
 same_blob t u = ap is_eq (value_cmp-Blob t u) ∙ is_eq-slice_cmp t u
 
-set_is : (b : Bool) → is_mark_set (mark b) ≡ b
+set_is : (b : Bool) → is_mark_set (sql_bool b) ≡ b
 set_is true = refl
 set_is false = refl
 
@@ -57,7 +57,7 @@ module _ (digest : List ℕ) where
       split true e rest h = (n, ap (λ es. (n, u) ∷ es) (others_fail u (n + 1) ts e (IsDistinct-head (on (λ t. t.digest) bytes_eq) u ts d)) ∙ ap (λ k. (n, k) ∷ []) (same_some h))
       split false e rest h = rest h
 
-  module _ (ids : Ids) (s : model.Registry) (db : Trees) (sound : Sound s) (stands : StandsBy ids s db) where
+  module _ (ids : IdAssignment) (s : model.Registry) (db : Trees) (sound : Sound s) (stands : StandsBy ids s db) where
     abbrev rows : List Row
     rows = tokens_with_accounts digest db
 

@@ -4,7 +4,7 @@ use Rattle.reg_access.proofs.Words.{is_some, refl, sym, ap, ap₂, subst, ◌∙
 use Rattle.reg_access.proofs.Words.{eqb-true, IsPermutation-map, Binary, Row, column, Trees, Value, Int, Text, equal, canon, name_of}
 use Rattle.reg_access.proofs.Words.{release_key_of, Action, crate_of, Read, Index, Download, ListOwners, Publish, Yank, Unyank, AddOwners}
 use Rattle.reg_access.proofs.Words.{RemoveOwners, collides, versions, lists, Registry, true_not_false, IsIn, one_passes, number_columns}
-use Rattle.reg_access.proofs.Words.{shown_of, shows, equals_int, maps_twice, Ids, StandCrates, StandsBy, StoredCrate, StoredVersion}
+use Rattle.reg_access.proofs.Words.{shown_of, shows, equals_int, maps_twice, IdAssignment, StandCrates, StandsBy, StoredCrate, StoredVersion}
 use Rattle.reg_access.proofs.Words.{row_of_version, same_crate, same_number, IsIdOf, version_named, crates_seen_by, is_there, is_version}
 use Rattle.reg_access.proofs.Words.{named_rows, value_at, versions_with_text}
 use Rattle.std.specs.Cmp.{eq_by_cmp_equiv, nat_cmp_total}
@@ -17,10 +17,10 @@ use Rattle.reg_model.specs.Registry.{Text as Bytes}
 use Rattle.reg_model.proofs.Lists.{none_found}
 use Rattle.reg_model.proofs.Members.{distinct_from_map}
 use Rattle.reg_tables_schema.proofs.Permutes.{filter_map}
-use Rattle.reg_tables_meaning.specs.Changes.{told_of}
-use Rattle.reg_tables_meaning.specs.Entries.{one_of}
-use Rattle.reg_tables_meaning.proofs.Selected.{short_same, shown_short}
-use Rattle.reg_tables_meaning.proofs.VersionEntries.{same_passes}
+use Rattle.reg_tables_represent.specs.Changes.{told_of}
+use Rattle.reg_tables_represent.specs.Entries.{one_of}
+use Rattle.reg_tables_represent.proofs.Selected.{short_same, shown_short}
+use Rattle.reg_tables_represent.proofs.VersionEntries.{same_passes}
 use Rattle.reg_access.specs.Admitted.{publication_at}
 use Rattle.reg_access.proofs.CrateLaw.{IsFound, IsMissing, found_or_missing, id_shown, no_rows}
 use Rattle.reg_access.proofs.Somes.{same_some}
@@ -65,11 +65,11 @@ one_number [] n e = absurd cc
 one_number (x ∷ []) n e = cc
 one_number (x ∷ y ∷ xs) n e = absurd cc
 
-none_shown : (ids : Ids) (found : Option ℕ) → false ≡ is_there (shown_of number_columns found) → IsIdOf ids None found
+none_shown : (ids : IdAssignment) (found : Option ℕ) → false ≡ is_there (shown_of number_columns found) → IsIdOf ids None found
 none_shown ids None e = refl
 none_shown ids (Some id) e = absurd cc
 
-module _ (ids : Ids) (s : Registry) (db : Trees) (stands : StandsBy ids s db) where
+module _ (ids : IdAssignment) (s : Registry) (db : Trees) (stands : StandsBy ids s db) where
   abbrev h : StandCrates ids s.publications s.yanked db
   h = stands.crates
 

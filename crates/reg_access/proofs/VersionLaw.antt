@@ -2,7 +2,7 @@
 use Rattle.reg_access.proofs.Words.{◌≡◌, ◌==◌, ◌⊎◌, inl, inr, ℕ, pos, List, [], ◌∷◌, map, Bool, true, false, ◌&&◌, is_some, refl, sym, ap}
 use Rattle.reg_access.proofs.Words.{ap₂, ◌∙◌, list_any, bytes_eq, list_any-IsPermutation, Value, Null, Int, Text, Binary, Row, column}
 use Rattle.reg_access.proofs.Words.{Trees, equal, canon, release_key_of, collides, same_release, versions, any_filter, any_same}
-use Rattle.reg_access.proofs.Words.{is_some_find, list_any_map, shows, equals_int, equals_text, Ids, StandCrates, StandsBy, StoredCrate}
+use Rattle.reg_access.proofs.Words.{is_some_find, list_any_map, shows, equals_int, equals_text, IdAssignment, StandCrates, StandsBy, StoredCrate}
 use Rattle.reg_access.proofs.Words.{StoredVersion, row_of_version, same_text, bytes_same, same_bytes, same_crate, same_number}
 use Rattle.reg_access.proofs.Words.{crates_seen_by, is_release, is_there, is_version, value_at, versions_of_release, versions_with_text}
 use Rattle.sqlite_keyed.proofs.SliceLemmas.{list_any_same}
@@ -43,7 +43,7 @@ same_key v w = split (bytes_eq v w) refl
         last false = refl
 
 -- what a test of the columns of versions tells, where it is one of the crate and one of the version
-module _ (ids : Ids) (s : model.Registry) (db : Trees) (stands : StandsBy ids s db) (n : List ℕ) (rest : Row → Bool) (has : List ℕ → Bool) (reads : (v : StoredVersion) → rest (row_of_version s.yanked v) ≡ has v.publication.version) where
+module _ (ids : IdAssignment) (s : model.Registry) (db : Trees) (stands : StandsBy ids s db) (n : List ℕ) (rest : Row → Bool) (has : List ℕ → Bool) (reads : (v : StoredVersion) → rest (row_of_version s.yanked v) ≡ has v.publication.version) where
   abbrev h : StandCrates ids s.publications s.yanked db
   h = stands.crates
 
@@ -76,7 +76,7 @@ module _ (ids : Ids) (s : model.Registry) (db : Trees) (stands : StandsBy ids s 
       either (inl it) = ap (λ rs. is_there (rows (value_at rs 0))) (no_rows ids s db stands n account it) ∙ none ∙ sym (versions_missing it)
       either (inr it) = ap (λ v. is_there (rows v)) (id_shown ids s db stands n account it.0 it.1) ∙ some it.0.0 ∙ versions_found it.0 it.1
 
-module _ (ids : Ids) (s : model.Registry) (db : Trees) (stands : StandsBy ids s db) (n : List ℕ) (account : Value) (text : List ℕ) where
+module _ (ids : IdAssignment) (s : model.Registry) (db : Trees) (stands : StandsBy ids s db) (n : List ℕ) (account : Value) (text : List ℕ) where
   abbrev key : List ℕ
   key = release_key_of text
 

@@ -24,23 +24,23 @@ pub use Rattle.reg_names.specs.Names.{canon, is_name, name_of}
 pub use Rattle.reg_names.specs.Patterns.{covers}
 pub use Rattle.reg_names.specs.declared.endpoint.Endpoint.{Endpoint}
 pub use Rattle.reg_policy.specs.Views.{action_of, decision_of}
-pub use Rattle.reg_tables.specs.Calling.{Asks}
-pub use Rattle.reg_tables.specs.Works.{Heard, IsAtWork, IsCall, Unmoved, has_failed, rows_seen, seen}
+pub use Rattle.reg_tables.specs.Calling.{Queries}
+pub use Rattle.reg_tables.specs.Works.{OnAnswer, IsActive, KeepsFrame, Unmoved, has_failed, rows_seen, seen}
 pub use Rattle.reg_tables.specs.declared.work.StoreFault.{StoreFault}
 pub use Rattle.reg_tables.specs.declared.work.Work.{Work}
-pub use Rattle.reg_tables_meaning.proofs.AccountEntries.{same_text}
-pub use Rattle.reg_tables_meaning.proofs.CrateLemmas.{bytes_same, same_bytes, same_crate, spelled_at}
-pub use Rattle.reg_tables_meaning.proofs.Numbered.{at_place, one_at}
-pub use Rattle.reg_tables_meaning.proofs.Standing.{none_row, same_number}
-pub use Rattle.reg_tables_meaning.specs.Calls.{FindsCrate}
-pub use Rattle.reg_tables_meaning.specs.Entries.{entry_of_account}
-pub use Rattle.reg_tables_meaning.specs.Stands.{Holds, Ids, StandCrates, StandsBy, StoredCrate, StoredVersion, row_of_account, row_of_token}
-pub use Rattle.reg_tables_meaning.specs.Stands.{row_of_version}
+pub use Rattle.reg_tables_represent.proofs.AccountEntries.{same_text}
+pub use Rattle.reg_tables_represent.proofs.CrateLemmas.{bytes_same, same_bytes, same_crate, spelled_at}
+pub use Rattle.reg_tables_represent.proofs.Numbered.{at_place, one_at}
+pub use Rattle.reg_tables_represent.proofs.Standing.{none_row, same_number}
+pub use Rattle.reg_tables_represent.specs.Calls.{FindsCrate}
+pub use Rattle.reg_tables_represent.specs.Entries.{entry_of_account}
+pub use Rattle.reg_tables_represent.specs.Stands.{StandsSoundBy, IdAssignment, StandCrates, StandsBy, StoredCrate, StoredVersion, row_of_account, row_of_token}
+pub use Rattle.reg_tables_represent.specs.Stands.{row_of_version}
 pub use Rattle.reg_tables_schema.proofs.Permutes.{one_row}
 pub use Rattle.reg_tables_schema.proofs.Queries.{and_true, answers, equals_int, equals_text, maps_twice, plain, same_filter}
 pub use Rattle.reg_tables_schema.proofs.Reading.{IsSelection, selected}
 pub use Rattle.reg_tables_schema.proofs.Selections.{matched, of_table}
-pub use Rattle.reg_tables_schema.specs.Rows.{mark, number_columns}
+pub use Rattle.reg_tables_schema.specs.Rows.{sql_bool, number_columns}
 pub use Rattle.reg_tables_schema.specs.Schema.{ours}
 pub use Rattle.reg_tables_schema.specs.Shown.{shown_of}
 pub use Rattle.reg_tables_schema.specs.States.{IsInside}

@@ -14,14 +14,14 @@ use Rattle.reg_model.specs.Crates.{exists, is_reserved, is_reserved_always}
 use Rattle.reg_model.specs.Grants.{all_endpoints, grants, is_granted, who_reads}
 use Rattle.reg_model.specs.Registry.{Registry, Text as Words, Token, is_enabled, with_id}
 use Rattle.reg_model.specs.Rules.{has_endpoint}
-use Rattle.reg_tables_schema.specs.Rows.{mark}
+use Rattle.reg_tables_schema.specs.Rows.{sql_bool}
 use Rattle.reg_tables_sql.specs.declared.accounts.Account.{Account}
 use Rattle.reg_tables_sql.specs.declared.tokens.TokenRow.{TokenRow}
 use Rattle.reg_tables_sql.specs.Tokens.{columns_with_account}
-use Rattle.reg_tables_meaning.specs.Calls.{FindsCrate, ListsOwners, Tells}
-use Rattle.reg_tables_meaning.specs.Changes.{told_of as told_where}
-use Rattle.reg_tables_meaning.specs.Entries.{entry_of_account}
-use Rattle.reg_tables_meaning.specs.Stands.{spelling_at}
+use Rattle.reg_tables_represent.specs.Calls.{FindsCrate, ListsOwners, Tells}
+use Rattle.reg_tables_represent.specs.Changes.{told_of as told_where}
+use Rattle.reg_tables_represent.specs.Entries.{entry_of_account}
+use Rattle.reg_tables_represent.specs.Stands.{spelling_at}
 use Rattle.reg_tables_sql.specs.declared.crates.Crate.{Crate}
 use Rattle.reg_access.specs.declared.granting.Standing.{Standing}
 use Rattle.reg_access.specs.declared.grants.Grant.{Grant}
@@ -66,10 +66,10 @@ is_candidate s n t = (t.live && is_enabled s t.account) && list_any (λ p. cover
 -- its columns, with those of its account
 abbrev pub row_of_candidate : Registry → ℕ × Token → Row
 row_of_candidate s e =
-    Int (pos e.0) ∷ Int (pos e.1.account) ∷ mark e.1.live ∷ mark e.1.endpoints.publish_new
-    ∷ mark e.1.endpoints.publish_update ∷ mark e.1.endpoints.yank
-    ∷ mark e.1.endpoints.change_owners ∷ Text (login_at s e.1.account)
-    ∷ mark (is_enabled s e.1.account) ∷ []
+    Int (pos e.0) ∷ Int (pos e.1.account) ∷ sql_bool e.1.live ∷ sql_bool e.1.endpoints.publish_new
+    ∷ sql_bool e.1.endpoints.publish_update ∷ sql_bool e.1.endpoints.yank
+    ∷ sql_bool e.1.endpoints.change_owners ∷ Text (login_at s e.1.account)
+    ∷ sql_bool (is_enabled s e.1.account) ∷ []
 
 -- these are all such tokens, by id
 abbrev pub AreCandidates : Words → Trees → List TokenRow → Type 0

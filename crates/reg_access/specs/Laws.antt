@@ -15,7 +15,7 @@ use Rattle.reg_model.specs.Crates.{exists, first, is_among, is_restricted, owner
 use Rattle.reg_model.specs.Facts.{access_facts, endpoints_of}
 use Rattle.reg_model.specs.Rules.{access}
 use Rattle.reg_tables_sql.specs.Tokens.{tokens_with_accounts}
-use Rattle.reg_tables_meaning.specs.Stands.{Holds, Ids}
+use Rattle.reg_tables_represent.specs.Stands.{StandsSoundBy, IdAssignment}
 use Rattle.reg_access.specs.JoinRows.{crates_seen_by, is_mark_set, is_shown, is_there, reserved_as, scopes_over, text_in, value_at, versions_of_release, versions_with_text}
 use Rattle.reg_access.specs.Verdict.{endpoints_in, is_fit, join_rows, verdict_in}
 
@@ -41,7 +41,7 @@ pub record TellsCrate (s : Registry) (n : Text) (account : ℕ) (rows : List Row
 
 -- it is so of each registry and of the rows that stand for it
 abbrev pub OfAll : (Registry → Trees → Type 0) → Type 0
-OfAll fact = (ids : Ids) (s : Registry) (db : Trees) → Holds ids s db → fact s db
+OfAll fact = (ids : IdAssignment) (s : Registry) (db : Trees) → StandsSoundBy ids s db → fact s db
 
 -- a scope of a token comes back exactly where a pattern of it covers the name
 abbrev pub ScopesCover : Registry → Trees → Type 0

@@ -14,7 +14,7 @@ use Rattle.reg_model.specs.Rules.{access, needed}
 use Rattle.reg_policy.specs.declared.action.Decision.{Decision}
 use Rattle.reg_policy.specs.Views.{decision_of}
 use Rattle.reg_tables_sql.specs.Tokens.{tokens_with_accounts}
-use Rattle.reg_tables_meaning.specs.Calls.{Tells}
+use Rattle.reg_tables_represent.specs.Calls.{Tells}
 use Rattle.reg_access.specs.JoinRows.{crates_seen_by, is_mark_set, is_shown, is_there, last_rows, scopes_over, text_in, value_at}
 
 -- what each text answered; the last is on a version or on a reserved name

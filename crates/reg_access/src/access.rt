@@ -2,9 +2,9 @@
 
 ghost use Rattle.std.specs.Prelude.{◌≡◌, IfOk, true};
 ghost use Rattle.reg_policy.specs.Views.{action_of};
-ghost use Rattle.reg_tables.specs.Works.{Heard, IsAtWork, IsCall, Unmoved, rows_seen};
-ghost use Rattle.reg_access.specs.Admitted.{HasItsCrate, HasItsVersion, IsAdmission, TellsCaller, decision_in};
-ghost use Rattle.reg_tables.specs.Calling.{Asks};
+ghost use Rattle.reg_tables.specs.Works.{OnAnswer, IsActive, KeepsFrame, Unmoved, rows_seen};
+ghost use Rattle.reg_access.specs.Admitted.{HasItsCrate, HasItsVersion, IsAdmission, TellsPrincipal, decision_in};
+ghost use Rattle.reg_tables.specs.Calling.{Queries};
 ghost use Rattle.reg_access.specs.Verdict.{IsPolicy, IsVerdict, is_fit};
 
 use crate::admission::{Admission, admission_of};
@@ -17,8 +17,8 @@ use reg_tables::{Result, Work};
 use sqlite::Alter;
 
 fn judge<S: Alter>(work: &mut Work<'_, S>, digest: &Digest, action: &Action) -> Result<Admission>
-    requires { IsAtWork S.Store work.old }
-    ensures asks { Asks S.Store work.old work.new result
+    requires { IsActive S.Store work.old }
+    ensures asks { Queries S.Store work.old work.new result
         (IsAdmission digest.now (action_of action.now)) }
     ensures there { IfOk result (HasItsCrate (action_of action.now)) }
     ensures named { IfOk result (HasItsVersion (action_of action.now)) }
@@ -48,17 +48,17 @@ pub fn admit<S: Alter>(
     digest: &Digest,
     action: &Action,
 ) -> Result<Admission>
-    requires { IsAtWork S.Store work.old }
-    ensures decided { Heard S.Store work.new result (λ it. IsVerdict digest.now
+    requires { IsActive S.Store work.old }
+    ensures decided { OnAnswer S.Store work.new result (λ it. IsVerdict digest.now
         (action_of action.now) (rows_seen S.Store work.old) (decision_in it)) }
-    ensures policy { Heard S.Store work.new result (λ it. IsPolicy digest.now
+    ensures policy { OnAnswer S.Store work.new result (λ it. IsPolicy digest.now
         (action_of action.now) (rows_seen S.Store work.old) (decision_in it)) }
-    ensures found { Heard S.Store work.new result
-        (TellsCaller digest.now (action_of action.now) (rows_seen S.Store work.old)) }
+    ensures found { OnAnswer S.Store work.new result
+        (TellsPrincipal digest.now (action_of action.now) (rows_seen S.Store work.old)) }
     ensures there { IfOk result (HasItsCrate (action_of action.now)) }
     ensures named { IfOk result (HasItsVersion (action_of action.now)) }
     ensures same { Unmoved S.Store result work.old work.new }
-    ensures leaves { IsCall S.Store result work.old work.new }
+    ensures leaves { KeepsFrame S.Store result work.old work.new }
 {
     fits(action);
     judge(work, digest, action)
@@ -70,13 +70,13 @@ pub fn authorize<S: Alter>(
     digest: &Digest,
     action: &Action,
 ) -> Result<Decision>
-    requires { IsAtWork S.Store work.old }
-    ensures decided { Heard S.Store work.new result
+    requires { IsActive S.Store work.old }
+    ensures decided { OnAnswer S.Store work.new result
         (IsVerdict digest.now (action_of action.now) (rows_seen S.Store work.old)) }
-    ensures policy { Heard S.Store work.new result
+    ensures policy { OnAnswer S.Store work.new result
         (IsPolicy digest.now (action_of action.now) (rows_seen S.Store work.old)) }
     ensures same { Unmoved S.Store result work.old work.new }
-    ensures leaves { IsCall S.Store result work.old work.new }
+    ensures leaves { KeepsFrame S.Store result work.old work.new }
 {
     let admission = admit(work, digest, action)?;
     Ok(admission.decision())

@@ -24,7 +24,7 @@ pub struct FoundCrate {
 
 /// Who is allowed, and the crate and the version of the action.
 #[derive(Drop)]
-pub struct Caller {
+pub struct Principal {
     /// The id of the token.
     pub token: u32,
     /// The id of the token's account.
@@ -39,7 +39,7 @@ pub struct Caller {
     pub version: Option<u64>,
 }
 
-impl Caller {
+impl Principal {
     /// The crate of an action that is not allowed without one.
     pub fn found_crate(&self) -> &FoundCrate
         requires { IsSome self.now.found }
@@ -63,7 +63,7 @@ pub enum Admission {
     /// This is the first access rule that it breaks.
     Denied(Rule),
     /// It breaks none.
-    Allowed(Caller),
+    Allowed(Principal),
 }
 
 impl Admission {
@@ -96,7 +96,7 @@ pub(crate) fn admission_of(token: TokenRow, found: CrateFacts, action: &Action) 
 {
     match first_broken(&facts_of(&token, &found, action), action) {
         Decision::Denied(rule) => Admission::Denied(rule),
-        Decision::Allowed => Admission::Allowed(Caller {
+        Decision::Allowed => Admission::Allowed(Principal {
             token: token.id,
             account: token.account,
             login: token.login,

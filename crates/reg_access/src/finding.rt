@@ -6,8 +6,8 @@ ghost use Rattle.sqlite.specs.declared.types.Value.TheVariants.{Int};
 ghost use Rattle.reg_policy.specs.Views.{action_of};
 ghost use Rattle.reg_tables_schema.specs.Rows.{number_columns};
 ghost use Rattle.reg_tables_schema.specs.Shown.{shown_of};
-ghost use Rattle.reg_tables.specs.Works.{IsAtWork, has_failed};
-ghost use Rattle.reg_tables.specs.Calling.{Asks};
+ghost use Rattle.reg_tables.specs.Works.{IsActive, has_failed};
+ghost use Rattle.reg_tables.specs.Calling.{Queries};
 ghost use Rattle.reg_access.specs.Found.{AreFound, rows_of, scopes_asked};
 ghost use Rattle.reg_access.specs.JoinRows.{against_rows, is_there, named_rows, value_at, versions_with_text};
 
@@ -37,10 +37,10 @@ fn find_scopes<S: Alter>(
     name: &CrateName,
     action: &Action,
 ) -> Result<bool>
-    requires at_work { IsAtWork S.Store work.old }
+    requires at_work { IsActive S.Store work.old }
     requires goes_on { has_failed work.old ≡ false }
     requires named { crate_asked (action_of action.now) ≡ Some name.now }
-    ensures { Asks S.Store work.old work.new result
+    ensures { Queries S.Store work.old work.new result
         (λ db b. is_there (scopes_asked (action_of action.now) token db) ≡ b) }
 {
     if needed(false, action).is_none() {
@@ -54,9 +54,9 @@ fn find_version_of<S: Alter>(
     row: &Option<CrateRow>,
     text: &str,
 ) -> Result<Option<u64>>
-    requires at_work { IsAtWork S.Store work.old }
+    requires at_work { IsActive S.Store work.old }
     requires goes_on { has_failed work.old ≡ false }
-    ensures { Asks S.Store work.old work.new result
+    ensures { Queries S.Store work.old work.new result
         (λ db found. versions_with_text (value_at (rows_of row.now) 0) text.now db
         ≡ shown_of number_columns found) }
 {
@@ -72,9 +72,9 @@ fn find_version_named<S: Alter>(
     row: &Option<CrateRow>,
     action: &Action,
 ) -> Result<Option<u64>>
-    requires at_work { IsAtWork S.Store work.old }
+    requires at_work { IsActive S.Store work.old }
     requires goes_on { has_failed work.old ≡ false }
-    ensures { Asks S.Store work.old work.new result
+    ensures { Queries S.Store work.old work.new result
         (λ db found. named_rows (action_of action.now) (rows_of row.now) db
         ≡ shown_of number_columns found) }
 {
@@ -93,9 +93,9 @@ fn stands_against<S: Alter>(
     row: &Option<CrateRow>,
     action: &Action,
 ) -> Result<bool>
-    requires at_work { IsAtWork S.Store work.old }
+    requires at_work { IsActive S.Store work.old }
     requires goes_on { has_failed work.old ≡ false }
-    ensures { Asks S.Store work.old work.new result
+    ensures { Queries S.Store work.old work.new result
         (λ db b. is_there (against_rows (action_of action.now) (rows_of row.now) db) ≡ b) }
 {
     match action {
@@ -117,10 +117,10 @@ fn find_named<S: Alter>(
     name: &CrateName,
     action: &Action,
 ) -> Result<CrateFacts>
-    requires at_work { IsAtWork S.Store work.old }
+    requires at_work { IsActive S.Store work.old }
     requires goes_on { has_failed work.old ≡ false }
     requires named { crate_asked (action_of action.now) ≡ Some name.now }
-    ensures { Asks S.Store work.old work.new result
+    ensures { Queries S.Store work.old work.new result
         (AreFound (action_of action.now) token.now.id token.now.account) }
 {
     let covered = find_scopes(work, token.id, name, action)?;
@@ -141,9 +141,9 @@ pub(crate) fn find_all<S: Alter>(
     token: &TokenRow,
     action: &Action,
 ) -> Result<CrateFacts>
-    requires at_work { IsAtWork S.Store work.old }
+    requires at_work { IsActive S.Store work.old }
     requires goes_on { has_failed work.old ≡ false }
-    ensures { Asks S.Store work.old work.new result
+    ensures { Queries S.Store work.old work.new result
         (AreFound (action_of action.now) token.now.id token.now.account) }
 {
     match crate_of(action) {

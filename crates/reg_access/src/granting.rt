@@ -2,9 +2,9 @@
 
 ghost use Rattle.std.specs.Prelude.{◌≡◌, false, true};
 ghost use Rattle.reg_names.specs.Names.{is_name};
-ghost use Rattle.reg_tables_meaning.specs.Calls.{FindsCrate};
-ghost use Rattle.reg_tables.specs.Works.{IsAtWork, has_failed};
-ghost use Rattle.reg_tables.specs.Calling.{Asks};
+ghost use Rattle.reg_tables_represent.specs.Calls.{FindsCrate};
+ghost use Rattle.reg_tables.specs.Works.{IsActive, has_failed};
+ghost use Rattle.reg_tables.specs.Calling.{Queries};
 ghost use Rattle.reg_access.specs.Grants.{AreCandidates, AreGrants, AreOwnersOf, IsStanding, TellsTaken};
 
 use crate::grants::{Grant, grants_of};
@@ -26,8 +26,8 @@ pub(crate) fn find_candidates<S: Alter>(
     work: &mut Work<'_, S>,
     canon: &CanonText,
 ) -> Result<Vec<TokenRow>>
-    requires { IsAtWork S.Store work.old }
-    ensures { Asks S.Store work.old work.new result
+    requires { IsActive S.Store work.old }
+    ensures { Queries S.Store work.old work.new result
         (λ db list. AreCandidates canon.now db list.items) }
 {
     work.select_list(alloc, FIND_CANDIDATES_TEXT, params![canon.as_str()])
@@ -45,8 +45,8 @@ pub(crate) fn find_named<S: Alter>(
     work: &mut Work<'_, S>,
     canon: &CanonText,
 ) -> Result<Option<Crate>>
-    requires { IsAtWork S.Store work.old }
-    ensures { Asks S.Store work.old work.new result (FindsCrate canon.now) }
+    requires { IsActive S.Store work.old }
+    ensures { Queries S.Store work.old work.new result (FindsCrate canon.now) }
 {
     work.crate_by_canon(canon)
 }
@@ -56,9 +56,9 @@ fn find_owners<S: Alter>(
     work: &mut Work<'_, S>,
     found: &Option<Crate>,
 ) -> Result<Vec<Account>>
-    requires at_work { IsAtWork S.Store work.old }
+    requires at_work { IsActive S.Store work.old }
     requires goes_on { has_failed work.old ≡ false }
-    ensures { Asks S.Store work.old work.new result
+    ensures { Queries S.Store work.old work.new result
         (λ db list. AreOwnersOf found.now db list.items) }
 {
     match found {
@@ -72,9 +72,9 @@ fn is_taken<S: Alter>(
     found: &Option<Crate>,
     canon: &CanonText,
 ) -> Result<bool>
-    requires at_work { IsAtWork S.Store work.old }
+    requires at_work { IsActive S.Store work.old }
     requires goes_on { has_failed work.old ≡ false }
-    ensures { Asks S.Store work.old work.new result (TellsTaken found.now canon.now) }
+    ensures { Queries S.Store work.old work.new result (TellsTaken found.now canon.now) }
 {
     if found.is_some() {
         return Ok(true);
@@ -91,9 +91,9 @@ fn standing_of<S: Alter>(
     found: &Option<Crate>,
     canon: &CanonText,
 ) -> Result<Standing>
-    requires at_work { IsAtWork S.Store work.old }
+    requires at_work { IsActive S.Store work.old }
     requires goes_on { has_failed work.old ≡ false }
-    ensures { Asks S.Store work.old work.new result (λ db it.
+    ensures { Queries S.Store work.old work.new result (λ db it.
         AreOwnersOf found.now db it.owners.items
         × TellsTaken found.now canon.now db it.taken) }
 {
@@ -107,8 +107,8 @@ fn find_standing<S: Alter>(
     work: &mut Work<'_, S>,
     canon: &CanonText,
 ) -> Result<Standing>
-    requires { IsAtWork S.Store work.old }
-    ensures { Asks S.Store work.old work.new result (IsStanding canon.now) }
+    requires { IsActive S.Store work.old }
+    ensures { Queries S.Store work.old work.new result (IsStanding canon.now) }
 {
     let found = find_named(work, canon)?;
     standing_of(alloc, work, &found, canon)
@@ -128,8 +128,8 @@ pub fn who_may<S: Alter>(
     work: &mut Work<'_, S>,
     name: &CrateName,
 ) -> Result<Vec<Grant>>
-    requires { IsAtWork S.Store work.old }
-    ensures { Asks S.Store work.old work.new result
+    requires { IsActive S.Store work.old }
+    ensures { Queries S.Store work.old work.new result
         (λ db list. AreGrants name.now db list.items) }
 {
     is_named(name);

@@ -25,7 +25,7 @@ mod reading;
 mod texts;
 
 pub use access::{admit, authorize};
-pub use admission::{Admission, Caller, FoundCrate};
+pub use admission::{Admission, FoundCrate, Principal};
 pub use granting::who_may;
 pub use grants::Grant;
 pub use reading::who_reads;

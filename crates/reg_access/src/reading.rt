@@ -1,9 +1,9 @@
 //! Who reads a restricted crate, asked of the tables.
 
 ghost use Rattle.std.specs.Prelude.{◌≡◌, IfOk, false, map};
-ghost use Rattle.reg_tables_meaning.specs.Calls.{FindsCrate};
-ghost use Rattle.reg_tables.specs.Works.{IsAtWork, has_failed};
-ghost use Rattle.reg_tables.specs.Calling.{Asks};
+ghost use Rattle.reg_tables_represent.specs.Calls.{FindsCrate};
+ghost use Rattle.reg_tables.specs.Works.{IsActive, has_failed};
+ghost use Rattle.reg_tables.specs.Calling.{Queries};
 ghost use Rattle.reg_access.specs.Grants.{AreReaders, AreReadersAt, AreReadersOf, reader_of};
 
 use crate::granting::find_named;
@@ -13,8 +13,8 @@ use sqlite::{Alter, Error};
 use std::alloc::Global;
 
 fn readers_at<S: Alter>(alloc: Global, work: &mut Work<'_, S>, id: u32) -> Result<Vec<Account>>
-    requires { IsAtWork S.Store work.old }
-    ensures { Asks S.Store work.old work.new result
+    requires { IsActive S.Store work.old }
+    ensures { Queries S.Store work.old work.new result
         (λ db list. AreReadersAt id db list.items) }
 {
     if !work.is_restricted(id)? {
@@ -28,9 +28,9 @@ fn find_readers<S: Alter>(
     work: &mut Work<'_, S>,
     found: &Option<Crate>,
 ) -> Result<Vec<Account>>
-    requires at_work { IsAtWork S.Store work.old }
+    requires at_work { IsActive S.Store work.old }
     requires goes_on { has_failed work.old ≡ false }
-    ensures { Asks S.Store work.old work.new result
+    ensures { Queries S.Store work.old work.new result
         (λ db list. AreReadersOf found.now db list.items) }
 {
     match found {
@@ -65,8 +65,8 @@ pub fn who_reads<S: Alter>(
     work: &mut Work<'_, S>,
     name: &CrateName,
 ) -> Result<Vec<(u32, Login)>>
-    requires { IsAtWork S.Store work.old }
-    ensures { Asks S.Store work.old work.new result
+    requires { IsActive S.Store work.old }
+    ensures { Queries S.Store work.old work.new result
         (λ db list. AreReaders name.now db list.items) }
 {
     let found = find_named(work, &canon(name))?;

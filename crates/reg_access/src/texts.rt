@@ -5,8 +5,8 @@ ghost use Rattle.sqlite.specs.declared.types.Value.TheVariants.{Int};
 ghost use Rattle.reg_tables_schema.specs.Rows.{number_columns};
 ghost use Rattle.reg_tables_schema.specs.Shown.{shown_of};
 ghost use Rattle.reg_tables_sql.specs.Tokens.{IsTokenOfDigest};
-ghost use Rattle.reg_tables.specs.Works.{IsAtWork};
-ghost use Rattle.reg_tables.specs.Calling.{Asks};
+ghost use Rattle.reg_tables.specs.Works.{IsActive};
+ghost use Rattle.reg_tables.specs.Calling.{Queries};
 ghost use Rattle.reg_access.specs.Found.{rows_of};
 ghost use Rattle.reg_access.specs.JoinRows.{crates_seen_by, is_there, reserved_as, scopes_over, versions_of_release, versions_with_text};
 
@@ -24,8 +24,8 @@ pub(crate) fn find_token<S: Alter>(
     work: &mut Work<'_, S>,
     digest: &Digest,
 ) -> Result<Option<TokenRow>>
-    requires { IsAtWork S.Store work.old }
-    ensures { Asks S.Store work.old work.new result (IsTokenOfDigest digest.now) }
+    requires { IsActive S.Store work.old }
+    ensures { Queries S.Store work.old work.new result (IsTokenOfDigest digest.now) }
 {
     work.select_one(BY_DIGEST_TEXT, params![digest.as_slice()])
 }
@@ -40,8 +40,8 @@ pub(crate) fn is_covered<S: Alter>(
     token: u32,
     canon: &CanonText,
 ) -> Result<bool>
-    requires { IsAtWork S.Store work.old }
-    ensures { Asks S.Store work.old work.new result
+    requires { IsActive S.Store work.old }
+    ensures { Queries S.Store work.old work.new result
         (λ db b. is_there (scopes_over (Int (pos token)) canon.now db) ≡ b) }
 {
     work.has_row(IS_COVERED_TEXT, params![token, canon.as_str()])
@@ -58,8 +58,8 @@ pub(crate) fn find_crate<S: Alter>(
     canon: &CanonText,
     account: u32,
 ) -> Result<Option<CrateRow>>
-    requires { IsAtWork S.Store work.old }
-    ensures { Asks S.Store work.old work.new result
+    requires { IsActive S.Store work.old }
+    ensures { Queries S.Store work.old work.new result
         (λ db found. crates_seen_by canon.now (Int (pos account)) db ≡ rows_of found) }
 {
     work.select_one(FIND_CRATE_TEXT, params![canon.as_str(), account])
@@ -74,8 +74,8 @@ pub(crate) fn find_version<S: Alter>(
     of_crate: u32,
     text: &str,
 ) -> Result<Option<u64>>
-    requires { IsAtWork S.Store work.old }
-    ensures { Asks S.Store work.old work.new result (λ db found.
+    requires { IsActive S.Store work.old }
+    ensures { Queries S.Store work.old work.new result (λ db found.
         versions_with_text (Int (pos of_crate)) text.now db ≡ shown_of number_columns found) }
 {
     work.select_one(
@@ -92,8 +92,8 @@ pub(crate) fn has_release<S: Alter>(
     of_crate: u32,
     text: &str,
 ) -> Result<bool>
-    requires { IsAtWork S.Store work.old }
-    ensures { Asks S.Store work.old work.new result
+    requires { IsActive S.Store work.old }
+    ensures { Queries S.Store work.old work.new result
         (λ db b. is_there (versions_of_release (Int (pos of_crate)) text.now db) ≡ b) }
 {
     work.has_row(HAS_RELEASE_TEXT, params![of_crate, release_key(text)])
@@ -101,8 +101,8 @@ pub(crate) fn has_release<S: Alter>(
 
 /// Whether the administrator reserved the canonical text.
 pub(crate) fn is_reserved<S: Alter>(work: &mut Work<'_, S>, canon: &CanonText) -> Result<bool>
-    requires { IsAtWork S.Store work.old }
-    ensures { Asks S.Store work.old work.new result
+    requires { IsActive S.Store work.old }
+    ensures { Queries S.Store work.old work.new result
         (λ db b. is_there (reserved_as canon.now db) ≡ b) }
 {
     work.has_row(BY_CANON_TEXT, params![canon.as_str()])

@@ -95,14 +95,23 @@ sends_nothing writes s = record {
   failures = refl;
 }
 
-pub piles_none : (waiting text : List ℕ) (writes used more : ℕ) (s t u : Sink)
-    → SendsAll waiting writes used s t → SendsAll text (writes - used) more t u
-    → Piles waiting text [] writes (used + more) s u
-piles_none waiting text writes used more s t u x y = record {
-  sent = waiting ++ text;
-  whole = sym (append-nil (waiting ++ text));
-  sends = all_behind waiting text writes used more s t u x y;
+-- a text that was sent but for its end, which waits
+pub piles_last : (waiting text front last : List ℕ) (writes used more : ℕ) (s t u : Sink)
+    → text ≡ front ++ last → 0 < length last
+    → SendsAll waiting writes used s t → SendsAll front (writes - used) more t u
+    → Piles waiting text last writes (used + more) s u
+piles_last waiting text front last writes used more s t u is some x y = record {
+  sent = waiting ++ front;
+  whole = ap (λ l. waiting ++ l) is ∙ sym (append_assoc waiting front last);
+  sends = all_behind waiting front writes used more s t u x y;
+  waits = λ _. some;
 }
+
+-- a text that waits, behind one that was sent
+pub piles_next : (waiting text : List ℕ) (writes used : ℕ) (s t : Sink) → 0 < length text
+    → SendsAll waiting writes used s t → Piles waiting text text writes used s t
+piles_next waiting text writes used s t some x =
+    record { sent = waiting; whole = refl; sends = x; waits = λ _. some }
 
 -- two texts are put one after another
 
@@ -112,6 +121,21 @@ puts_whole waiting a b sent between rest more x y =
     sym (append_assoc waiting a b) ∙ ap (λ l. l ++ b) x ∙ append_assoc sent between b
     ∙ ap (λ l. sent ++ l) y ∙ sym (append_assoc sent more rest)
 
+-- what is put later waits too
+still_waits : (m n sent rest used more : ℕ) → m + n ≡ sent + rest → (0 < used → 0 < m)
+    → (0 < more → 0 < rest) → (0 < sent → 0 < more) → 0 < used + more → 0 < rest
+still_waits m n sent rest used zero is x y z h =
+    let none : sent ≡ 0 = nothing sent (λ s. absurd (omega (arith, z s))) in
+    omega (arith, is, none, x (omega (arith, h)))
+  where
+    nothing : (k : ℕ) → (0 < k → ⊥) → k ≡ 0
+    nothing zero never = refl
+    nothing (suc k) never = absurd (never (omega arith))
+still_waits m n sent rest used (suc more) is x y z h = y (omega arith)
+
+lengths : (a b c d : List ℕ) → a ++ b ≡ c ++ d → length a + length b ≡ length c + length d
+lengths a b c d is = sym (length-append a b) ∙ ap length is ∙ length-append c d
+
 pub piles_behind : (waiting a b between rest : List ℕ) (writes used more : ℕ) (s t u : Sink)
     → Piles waiting a between writes used s t → Piles between b rest (writes - used) more t u
     → Piles waiting (a ++ b) rest writes (used + more) s u
@@ -119,6 +143,8 @@ piles_behind waiting a b between rest writes used more s t u x y = record {
   sent = x.sent ++ y.sent;
   whole = puts_whole waiting a b x.sent between rest y.sent x.whole y.whole;
   sends = all_behind x.sent y.sent writes used more s t u x.sends y.sends;
+  waits = still_waits (length between) (length b) (length y.sent) (length rest) used more
+      (lengths between b y.sent rest y.whole) x.waits y.waits y.sends.some;
 }
 
 pub pile_stopped : (f : SendFault) (waiting a b between : List ℕ) (writes used : ℕ) (s t u : Sink)

@@ -7,7 +7,7 @@
 //! error_body(Rule::A1).as_bytes()                 // {"errors":[{"detail":"A1 no token"}]}
 //! let mut w = Counted::new(stdout);
 //! write_reply(&mut w, &Reply::Denied(Rule::A1), false, false, 100)?   // the write calls it took
-//! let mut pile = Pile::new();
+//! let mut pile = WriteBuffer::new();
 //! pile.put(&mut w, b"one row", 100)?;             // 0: it waits
 //! pile.send(&mut w, 100)?                         // what waits is written
 //! ```
@@ -29,7 +29,7 @@ pub use found::FoundBody;
 pub use granted::{ok_body, owners_added_body, owners_removed_body, publish_body};
 pub use head::{Kind, Methods, reply_head};
 pub use owners::OwnersBody;
-pub use pile::Pile;
+pub use pile::WriteBuffer;
 pub use refused::error_body;
 pub use reg_body::SendFault;
 pub use reply::Reply;

@@ -16,11 +16,11 @@ const ROOM: usize = 32_768;
 
 /// Texts that wait to be sent, one after another. They take no memory.
 #[derive(Drop)]
-pub struct Pile {
+pub struct WriteBuffer {
     bytes: ArrayVec<u8, ROOM>,
 }
 
-impl Model for Pile {
+impl Model for WriteBuffer {
     ghost use Rattle.std.specs.Prelude.{List, ℕ};
 
     ghost Value = { List ℕ };
@@ -28,18 +28,19 @@ impl Model for Pile {
     ghost view = { λ p. p.bytes.items };
 }
 
-impl Pile {
+impl WriteBuffer {
     /// Makes an empty pile.
-    pub fn new() -> Pile
+    pub fn new() -> WriteBuffer
         ensures { result ≡ [] }
     {
-        Pile {
+        WriteBuffer {
             bytes: ArrayVec::new(),
         }
     }
 
-    /// Puts a text after what waits. What waits is sent first if there is no room for both, and the
-    /// text is sent at once if there is none for it alone.
+    /// Puts a text after what waits. If there is no room for both, what waits is sent first, and
+    /// then what the text has beyond the room. Behind what was sent something waits, so that a reply
+    /// that breaks off is never a whole one.
     pub fn put<W: Write>(
         &mut self,
         w: &mut Counted<W>,
@@ -50,14 +51,14 @@ impl Pile {
         ensures { Puts result self.old text.now self.new writes
             (sink (W.contents w.old.inner) w.old) (sink (W.contents w.new.inner) w.new) }
     {
-        let Err(_full) = self.bytes.try_extend_from_slice(text) else {
+        if text.len() <= self.bytes.remaining_capacity() {
+            let _fits = self.bytes.try_extend_from_slice(text);
             return Ok(0);
-        };
+        }
         let used = self.send(w, writes)?;
-        let Err(_too_long) = self.bytes.try_extend_from_slice(text) else {
-            return Ok(used);
-        };
-        let more = write_bytes(w, text, writes - used)?;
+        let (front, rest) = text.split_at(text.len().saturating_sub(ROOM));
+        let more = write_bytes(w, front, writes - used)?;
+        let _fits = self.bytes.try_extend_from_slice(rest);
         Ok(used + more)
     }
 

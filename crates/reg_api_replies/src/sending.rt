@@ -6,7 +6,7 @@ ghost use Rattle.reg_api_replies.specs.Texts.{body_if, refusal_text, reply_text}
 
 use crate::fixed_text::FixedText;
 use crate::head::{Kind, Methods, refusal_status, reply_head};
-use crate::pile::Pile;
+use crate::pile::WriteBuffer;
 use crate::refused::error_body;
 use crate::reply::Reply;
 use http::StatusCode;
@@ -33,7 +33,7 @@ fn write_parts<W: Write>(
     ensures { Sends result (head.now ++ body.now) writes
         (sink (W.contents w.old.inner) w.old) (sink (W.contents w.new.inner) w.new) }
 {
-    let mut pile = Pile::new();
+    let mut pile = WriteBuffer::new();
     let used = pile.put(w, head.as_bytes(), writes)?;
     let more = pile.put(w, body, writes - used)?;
     let last = pile.send(w, writes - (used + more))?;

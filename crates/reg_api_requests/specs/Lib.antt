@@ -1,5 +1,4 @@
 pub mod Bodies
-pub mod Contents
 pub mod Faults
 pub mod Owners
 pub mod Publish

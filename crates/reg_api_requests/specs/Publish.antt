@@ -1,6 +1,6 @@
 -- What a publish body asks for, or the first rule that it breaks
 -- (the Cargo Book, "Registry Web API", "Publish").
-use Rattle.std.specs.Prelude.{◌≡◌, ◌-◌, take, length, false, option_map, Result, Ok, Err, string_bytes}
+use Rattle.std.specs.Prelude.{◌≡◌, ◌-◌, take, length, false, Result, Ok, Err}
 use Rattle.sha2.specs.Sha256.{sha256}
 use Rattle.reg_body.specs.declared.limits.Limits.{Limits}
 use Rattle.reg_body.specs.declared.frame.BodyFault.{BodyFault}
@@ -12,7 +12,6 @@ use Rattle.reg_model.specs.declared.rule.Rule.{Rule}
 use Rattle.reg_model.specs.Faults.{rule_of_body, rule_of_manifest}
 use Rattle.reg_model.specs.Registry.{Publication, Text}
 use Rattle.reg_api_requests.specs.Bodies.{body_parts}
-use Rattle.reg_api_requests.specs.declared.publish.ReadPublication.{ReadPublication}
 use Rattle.reg_api_requests.specs.declared.fault.RequestFault.{RequestFault}
 use Rattle.reg_api_requests.specs.declared.fault.RequestFault.TheVariants.{Broken, Memory}
 
@@ -43,17 +42,6 @@ with_parts (Err e) = Err (rule_of_body e)
 -- metadata
 unfoldable pub publish_of : Limits → Text → Result Publication Rule
 publish_of limits body = with_parts (body_parts limits body)
-
--- what is read of a publish body, as a version that is published
-abbrev pub release_view : ReadPublication → Publication
-release_view r = record {
-  name = r.manifest.name;
-  version = string_bytes r.manifest.vers;
-  description = option_map string_bytes r.manifest.description;
-  stem = r.stem.items;
-  digest = r.digest;
-  archive = r.archive.now;
-}
 
 -- what a function returned, seen by view, is what is asked for, memory aside
 abbrev pub Reads : {X Y : Type 0} → (X → Y) → Result X RequestFault → Result Y Rule → Type 0

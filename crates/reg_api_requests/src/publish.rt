@@ -8,22 +8,15 @@ ghost use Rattle.reg_manifest.specs.Metadata.{keeps_rules, metadata_of};
 ghost use Rattle.reg_model.specs.Steps.{IsGenuine};
 ghost use Rattle.reg_api_requests.specs.Bodies.{body_parts};
 ghost use Rattle.reg_api_requests.specs.Faults.{IsOwn};
-ghost use Rattle.reg_api_requests.specs.Publish.{Reads, publication_of, publish_of, release_view, with_metadata};
+ghost use Rattle.reg_policy.specs.Events.{publication_of as new_publication};
+ghost use Rattle.reg_api_requests.specs.Publish.{Reads, publication_of, publish_of, with_metadata};
 
 use crate::fault::RequestFault;
 use reg_body::{BodyFault, Limits, split};
-use reg_line::{Digest, digest_of, stem};
+use reg_line::{digest_of, stem};
 use reg_manifest::{Manifest, read_manifest};
+use reg_policy::NewPublication;
 use std::alloc::{AllocError, Global};
-
-/// A published version, read from a body; the archive stays a part of it.
-#[derive(Drop)]
-pub(crate) struct ReadPublication<'a> {
-    pub(crate) manifest: Manifest,
-    pub(crate) stem: Vec<u8>,
-    pub(crate) digest: Digest,
-    pub(crate) archive: &'a [u8],
-}
 
 /// The JSON and the archive of a publish body.
 fn parts<'a>(limits: &Limits, body: &'a [u8]) -> Result<(&'a [u8], &'a [u8]), BodyFault>
@@ -39,16 +32,18 @@ fn with_stem<'a>(
     alloc: Global,
     manifest: Manifest,
     archive: &'a [u8],
-) -> Result<ReadPublication<'a>, AllocError>
+) -> Result<NewPublication<'a>, AllocError>
     requires { keeps_rules (manifest_view manifest) ≡ true }
-    ensures made { IfOk result (λ r. release_view r
+    ensures made { IfOk result (λ r. new_publication r
         ≡ publication_of archive.now (manifest_view manifest)) }
-    ensures genuine { IfOk result (λ r. IsGenuine (release_view r)) }
+    ensures genuine { IfOk result (λ r. IsGenuine (new_publication r)) }
 {
     let digest = digest_of(archive);
     let stem = stem(alloc, &manifest, &digest)?;
-    Ok(ReadPublication {
-        manifest,
+    Ok(NewPublication {
+        name: manifest.name,
+        version: manifest.vers,
+        description: manifest.description,
         stem,
         digest,
         archive,
@@ -60,9 +55,9 @@ fn read_metadata<'a>(
     alloc: Global,
     json: &[u8],
     archive: &'a [u8],
-) -> Result<ReadPublication<'a>, RequestFault>
-    ensures read { Reads release_view result (with_metadata archive.now (metadata_of json.now)) }
-    ensures genuine { IfOk result (λ r. IsGenuine (release_view r)) }
+) -> Result<NewPublication<'a>, RequestFault>
+    ensures read { Reads new_publication result (with_metadata archive.now (metadata_of json.now)) }
+    ensures genuine { IfOk result (λ r. IsGenuine (new_publication r)) }
     ensures own { IfErr result IsOwn }
 {
     let manifest = read_manifest(alloc, json)?;
@@ -75,9 +70,9 @@ pub(crate) fn read_publish<'a>(
     alloc: Global,
     limits: &Limits,
     body: &'a [u8],
-) -> Result<ReadPublication<'a>, RequestFault>
-    ensures read { Reads release_view result (publish_of limits.now body.now) }
-    ensures genuine { IfOk result (λ r. IsGenuine (release_view r)) }
+) -> Result<NewPublication<'a>, RequestFault>
+    ensures read { Reads new_publication result (publish_of limits.now body.now) }
+    ensures genuine { IfOk result (λ r. IsGenuine (new_publication r)) }
     ensures own { IfErr result IsOwn }
 {
     let (json, archive) = parts(limits, body)?;

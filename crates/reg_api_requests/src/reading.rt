@@ -1,28 +1,24 @@
 //! Reading a request.
 
-ghost use Rattle.std.specs.Prelude.{◌≡◌, IfOk, string_bytes, map};
+ghost use Rattle.std.specs.Prelude.{◌≡◌, IfOk};
 ghost use Rattle.std.specs.Option.{option_map};
 ghost use Rattle.std.specs.Cow.{cow_slice_items, cow_str_bytes};
 ghost use Rattle.sha2.specs.Sha256.{sha256};
 ghost use Rattle.reg_model.specs.declared.rule.Rule.TheVariants as rule;
-ghost use Rattle.reg_model.specs.Events.Asked.{AddOwners as to_add, RemoveOwners as to_remove};
-ghost use Rattle.reg_model.specs.Steps.{IsFit};
-ghost use Rattle.reg_api_requests.specs.Contents.{asked_in};
-ghost use Rattle.reg_api_requests.specs.Owners.{logins_named};
+ghost use Rattle.reg_policy.specs.Events.{asked_of};
 ghost use Rattle.reg_api_requests.specs.Publish.{publish_of};
-ghost use Rattle.reg_api_requests.specs.Requests.{asked_by, or_faulty, published, request_of, searched, text_in};
-ghost use Rattle.reg_api_requests.specs.Views.{IsFitAsked, event_of};
+ghost use Rattle.reg_api_requests.specs.Requests.{asked_by, published, searched, text_in};
+ghost use Rattle.reg_api_requests.specs.Views.{IsFitAsked};
 
-use crate::content::Content;
 use crate::fault::RequestFault;
 use crate::owners::read_logins;
-use crate::parts::Parts;
 use crate::publish::read_publish;
 use crate::request::{ApiCall, ApiRequest};
 use crate::search::{or_empty, page_of};
 use reg_body::Limits;
 use reg_line::{Digest, digest_of};
 use reg_model::Rule;
+use reg_policy::{Asked, Reading};
 use std::alloc::{AllocError, Global};
 use std::borrow::{CowSlice, CowStr};
 
@@ -36,78 +32,64 @@ fn text<'a>(part: &'a CowSlice<'a, u8>) -> &'a str
     }
 }
 
-fn publish<'a>(alloc: Global, limits: &Limits, body: &'a [u8]) -> Result<Content<'a>, AllocError>
-    ensures asked { IfOk result (λ c. asked_in c ≡ published (publish_of limits.now body.now)) }
-    ensures fit { IfOk result (λ c. IsFitAsked (asked_in c)) }
+fn publish<'a>(alloc: Global, limits: &Limits, body: &'a [u8]) -> Result<Asked<'a>, AllocError>
+    ensures asked { IfOk result (λ a. asked_of a ≡ published (publish_of limits.now body.now)) }
+    ensures fit { IfOk result (λ a. IsFitAsked (asked_of a)) }
 {
     match read_publish(alloc, limits, body) {
-        Ok(release) => Ok(Content::Publish(release)),
-        Err(RequestFault::Broken(rule)) => Ok(Content::Faulty(rule)),
+        Ok(release) => Ok(Asked::Publish(release)),
+        Err(RequestFault::Broken(rule)) => Ok(Asked::Malformed(rule)),
         Err(RequestFault::Memory) => Err(AllocError),
     }
 }
 
-fn search<'a>(q: &'a Option<CowStr<'a>>, per_page: &Option<CowStr<'_>>) -> Content<'a>
-    ensures asked { asked_in result
+fn search<'a>(q: &'a Option<CowStr<'a>>, per_page: &Option<CowStr<'_>>) -> Asked<'a>
+    ensures asked { asked_of result
         ≡ searched (option_map cow_str_bytes q.now) (option_map cow_str_bytes per_page.now) }
-    ensures fit { IsFitAsked (asked_in result) }
+    ensures fit { IsFitAsked (asked_of result) }
 {
     match page_of(per_page) {
-        Some(most) => Content::Search(or_empty(q), most),
-        None => Content::Faulty(Rule::Q1),
+        Some(most) => Asked::Read(Reading::Search(or_empty(q), most)),
+        None => Asked::Malformed(Rule::Q1),
     }
 }
 
-fn content<'a>(
+/// What a call asks for, from the call alone. A body or a query that breaks a rule is no error
+/// here: such a call asks for what that rule then answers.
+pub fn read_call<'a>(
     alloc: Global,
-    limits: &Limits,
     call: &'a ApiCall<'a>,
-) -> Result<Content<'a>, AllocError>
-    ensures asked { IfOk result (λ c. asked_in c ≡ asked_by limits.now call.now) }
-    ensures fit { IfOk result (λ c. IsFitAsked (asked_in c)) }
+    limits: &Limits,
+) -> Result<Asked<'a>, AllocError>
+    ensures asked { IfOk result (λ a. asked_of a ≡ asked_by limits.now call.now) }
+    ensures fit { IfOk result (λ a. IsFitAsked (asked_of a)) }
 {
     match call {
-        ApiCall::Config => Ok(Content::Config),
-        ApiCall::Index(path) => Ok(Content::Index(text(path))),
-        ApiCall::Download(name, version) => Ok(Content::Download(text(name), text(version))),
-        ApiCall::ListOwners(name) => Ok(Content::ListOwners(text(name))),
+        ApiCall::Config => Ok(Asked::Read(Reading::Config)),
+        ApiCall::Index(path) => Ok(Asked::Index(text(path))),
+        ApiCall::Download(name, version) => Ok(Asked::Download(text(name), text(version))),
+        ApiCall::ListOwners(name) => Ok(Asked::ListOwners(text(name))),
         ApiCall::Publish(body) => publish(alloc, limits, body),
-        ApiCall::Yank(name, version) => Ok(Content::Yank(text(name), text(version))),
-        ApiCall::Unyank(name, version) => Ok(Content::Unyank(text(name), text(version))),
+        ApiCall::Yank(name, version) => Ok(Asked::Yank(text(name), text(version))),
+        ApiCall::Unyank(name, version) => Ok(Asked::Unyank(text(name), text(version))),
         ApiCall::AddOwners(name, body) => match read_logins(alloc, limits, body)? {
-            Some(logins) => Ok(Content::AddOwners(text(name), logins)),
-            None => Ok(Content::Faulty(Rule::O1)),
+            Some(logins) => Ok(Asked::AddOwners(text(name), logins)),
+            None => Ok(Asked::Malformed(Rule::O1)),
         },
         ApiCall::RemoveOwners(name, body) => match read_logins(alloc, limits, body)? {
-            Some(logins) => Ok(Content::RemoveOwners(text(name), logins)),
-            None => Ok(Content::Faulty(Rule::O1)),
+            Some(logins) => Ok(Asked::RemoveOwners(text(name), logins)),
+            None => Ok(Asked::Malformed(Rule::O1)),
         },
         ApiCall::Search { q, per_page } => Ok(search(q, per_page)),
     }
 }
 
-fn token_digest(token: Option<&[u8]>) -> Option<Digest>
-    ensures { result ≡ option_map (λ t. sha256 t.now) token.entry }
+/// The digest of the token, if exactly one was shown.
+pub fn digest_shown(request: &ApiRequest<'_>) -> Option<Digest>
+    ensures { result ≡ option_map sha256 (option_map (λ t. t.now) request.now.token) }
 {
-    match token {
+    match request.token {
         Some(token) => Some(digest_of(token)),
         None => None,
     }
-}
-
-/// Reads what a request asks for, from the request alone. A body or a query that breaks a rule is
-/// no error here: such a request asks for what that rule then answers.
-pub fn read_request<'a>(
-    alloc: Global,
-    request: &'a ApiRequest<'a>,
-    limits: &Limits,
-) -> Result<Parts<'a>, AllocError>
-    ensures asked { IfOk result (λ parts. parts ≡ request_of limits.now request.now) }
-    ensures fit { IfOk result (λ parts. IsFit (event_of parts)) }
-{
-    let content = content(alloc, limits, &request.call)?;
-    Ok(Parts {
-        digest: token_digest(request.token),
-        content,
-    })
 }

@@ -25,7 +25,7 @@ use Rattle.reg_tables_sql.specs.declared.scopes.Scope.{Scope}
 use Rattle.reg_tables_sql.specs.declared.summaries.Summary.{Summary}
 use Rattle.reg_tables_sql.specs.declared.tokens.Token.{Token}
 use Rattle.reg_tables_sql.specs.declared.versions.Version.{Version}
-use Rattle.reg_tables_meaning.specs.Summaries.{ShownMark, highest_in, length_in}
+use Rattle.reg_tables_represent.specs.Summaries.{ShownMark, highest_in, length_in}
 use Rattle.reg_audit.specs.declared.check.Check.{Check}
 use Rattle.reg_audit.specs.declared.check.Check.TheVariants.{C1, C2, C3, C4, C5, C6, C7, C8}
 

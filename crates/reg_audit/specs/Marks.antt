@@ -5,7 +5,7 @@ use Rattle.std.specs.Option.{option_map}
 use Rattle.std.specs.Ordering.{nat_cmp}
 use Rattle.std.specs.declared.alloc.Global.{Global}
 use Rattle.reg_tables_sql.specs.declared.versions.VersionMark.{VersionMark}
-use Rattle.reg_tables_meaning.specs.Summaries.{ShownMark, shown_mark}
+use Rattle.reg_tables_represent.specs.Summaries.{ShownMark, shown_mark}
 
 abbrev pub Groups : Type 0
 Groups = BTreeMap ℕ (Vec VersionMark Global)

@@ -6,7 +6,7 @@ ghost use Rattle.std.specs.Str.{bytes_eq};
 ghost use Rattle.sha2.specs.Sha256.{sha256};
 ghost use Rattle.sqlite.specs.State.{HasCleanDisk, IsUnchanged};
 ghost use Rattle.reg_tables_sql.specs.Archives.{archives_with_id};
-ghost use Rattle.reg_tables.specs.Works.{IsAtWork, has_failed, seen};
+ghost use Rattle.reg_tables.specs.Works.{IsActive, has_failed, seen};
 ghost use Rattle.reg_audit.specs.Checks.{is_archive};
 ghost use Rattle.reg_tables.specs.Looks.{Looks};
 
@@ -21,7 +21,7 @@ fn has_digest(bytes: &[u8], digest: &[u8]) -> bool
 }
 
 fn has_archive<S: Alter>(work: &mut Work<'_, S>, version: &Version) -> Result<bool>
-    requires { IsAtWork S.Store work.old }
+    requires { IsActive S.Store work.old }
     ensures found { HasCleanDisk (seen S.Store work.new) → IfOk result
         (λ b. b ≡ is_archive version.now.digest.items
         (archives_with_id version.now.id (seen S.Store work.old).now.trees)) }
@@ -38,7 +38,7 @@ fn has_archive<S: Alter>(work: &mut Work<'_, S>, version: &Version) -> Result<bo
 
 /// Whether each version has its archive. That there is no other is a rule of the tables.
 pub(crate) fn archives_pass<S: Alter>(work: &mut Work<'_, S>, versions: &[Version]) -> Result<bool>
-    requires at_work { IsAtWork S.Store work.old }
+    requires at_work { IsActive S.Store work.old }
     requires goes_on { has_failed work.old ≡ false }
     ensures found { HasCleanDisk (seen S.Store work.new) → IfOk result
         (λ b. b ≡ list_all (λ v. is_archive v.digest.items

@@ -5,8 +5,8 @@ ghost use Rattle.sqlite.specs.State.{HasCleanDisk, KeepsCommit, Survives};
 ghost use Rattle.sqlite.specs.Tree.{Trees};
 ghost use Rattle.reg_tables_schema.specs.States.{IsUndone};
 ghost use Rattle.reg_tables_rows.specs.WholeRows.{AreAllRows};
-ghost use Rattle.reg_tables_meaning.specs.Upgrades.{AreBegun};
-ghost use Rattle.reg_tables.specs.Works.{AreOurs, IsAtWork, edition_in, has_failed, is_shut, seen, shown};
+ghost use Rattle.reg_tables_represent.specs.Upgrades.{AreBegun};
+ghost use Rattle.reg_tables.specs.Works.{AreOurs, IsActive, edition_in, has_failed, is_stopped, seen, shown};
 ghost use Rattle.reg_tables_rows.specs.declared.all_rows.AllRows.{AllRows as Rows};
 ghost use Rattle.reg_audit.specs.Checks.{IsFirst, IsFirstOf};
 ghost use Rattle.reg_tables.specs.Looks.{Looks};
@@ -67,7 +67,7 @@ fn first_failing<S: Alter>(
     work: &mut Work<'_, S>,
     rows: &AllRows,
 ) -> Result<Option<Check>>
-    requires at_work { IsAtWork S.Store work.old }
+    requires at_work { IsActive S.Store work.old }
     requires goes_on { has_failed work.old ≡ false }
     ensures found { HasCleanDisk (seen S.Store work.new) → IfOk result
         (IsFirst rows.now (seen S.Store work.old).now.trees) }
@@ -85,7 +85,7 @@ fn first_failing<S: Alter>(
 }
 
 fn examine<S: Alter>(alloc: Global, work: &mut Work<'_, S>) -> Result<Option<Check>>
-    requires { IsAtWork S.Store work.old }
+    requires { IsActive S.Store work.old }
     ensures found { HasCleanDisk (seen S.Store work.new) → IfOk result
         (λ found. (it : Rows) × AreAllRows it (seen S.Store work.old).now.trees × IsFirst it
         (seen S.Store work.old).now.trees found) }
@@ -111,8 +111,8 @@ pub fn audit<S: Alter>(alloc: Global, tables: &mut Tables<S>) -> Result<Option<C
         (shown S.Store tables.new) }
     ensures ours { AreOurs S.Store tables.new }
     ensures edition { edition_in tables.new ≡ edition_in tables.old }
-    ensures open { is_shut tables.new ≡ is_shut tables.old }
-    ensures stopped { is_shut tables.old ≡ true → IsErr result }
+    ensures open { is_stopped tables.new ≡ is_stopped tables.old }
+    ensures stopped { is_stopped tables.old ≡ true → IsErr result }
     ensures survives { Survives (shown S.Store tables.old) (shown S.Store tables.new) (λ _. ⊥) }
 {
     let mut work = tables.upgrade()?;

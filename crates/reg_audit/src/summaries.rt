@@ -3,12 +3,12 @@
 ghost use Rattle.std.specs.Prelude.{◌≡◌, ◌==◌, ◌&&◌, ◌++◌, ◌∷◌, [], false, ℕ, IfOk, OnOk, filter, if◌then◌else◌, map};
 ghost use Rattle.std.specs.List.{list_all};
 ghost use Rattle.std.specs.Str.{bytes_eq};
-ghost use Rattle.reg_tables_meaning.specs.Summaries.{highest_in, length_in, shown_mark};
+ghost use Rattle.reg_tables_represent.specs.Summaries.{highest_in, length_in, shown_mark};
 ghost use Rattle.reg_audit.specs.Checks.{is_summary, its_versions, shown_version, summaries_pass as summaries_pass_in};
 ghost use Rattle.reg_audit.specs.Marks.{marks_at};
 
 use reg_tables::{AllRows, Crate, Result, StoreFault, Summary, Version};
-use reg_tables_meaning::summaries::numbers_in;
+use reg_tables_represent::summaries::numbers_in;
 use reg_tables_sql::versions::VersionMark;
 use std::alloc::{AllocError, Global};
 use std::collections::BTreeMap;

@@ -35,6 +35,10 @@ IsTrailed b = (front : List ℕ) × IsFrame front × IsProperPrefix front b
 abbrev pub IsWithin : Limits → List ℕ → List ℕ → Type 0
 IsWithin limits j a = (length j ≤ limits.json) × (length a ≤ limits.archive)
 
+-- b is accepted under these limits, with these parts
+abbrev pub Accepts : Limits → List ℕ → List ℕ → List ℕ → Type 0
+Accepts limits b j a = Frame b j a × IsWithin limits j a
+
 -- a publish body of which a part is above its limit
 abbrev pub IsTooLong : Limits → List ℕ → Type 0
 IsTooLong limits b = (j : List ℕ) × (a : List ℕ) × Frame b j a × ¬ IsWithin limits j a

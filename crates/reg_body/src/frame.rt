@@ -3,7 +3,7 @@
 
 ghost use Rattle.std.specs.Prelude.{◌≡◌, ◌+◌, ◌^◌, ◌<◌, ◌≤◌, ◌↔◌, ◌⊎◌, ◌++◌, List, ℕ, length, IfOk, IsErrOf, IsOkAnd, MatchOption, MatchResult};
 ghost use Rattle.reg_body.specs.Words.{words_of};
-ghost use Rattle.reg_body.specs.Frames.{Frame, IsCut, IsCutPart, IsTooLong, IsTrailed, IsWithin, le4, with_length};
+ghost use Rattle.reg_body.specs.Frames.{Accepts, Frame, IsCut, IsCutPart, IsTooLong, IsTrailed, le4, with_length};
 
 use crate::limits::Limits;
 use std::alloc::{AllocError, Global};
@@ -66,7 +66,7 @@ fn take_part(bytes: &[u8]) -> Option<(&[u8], &[u8])>
 /// Splits bytes into JSON and archive, exactly when they are a publish body within the limits.
 pub fn split<'a>(bytes: &'a [u8], limits: &Limits) -> Result<(&'a [u8], &'a [u8]), BodyFault>
     ensures parts { (j a : List ℕ) → IsOkAnd result (λ p. (p.0.now ≡ j) × (p.1.now ≡ a))
-        ↔ (Frame bytes.now j a × IsWithin limits.now j a) }
+        ↔ Accepts limits.now bytes.now j a }
     ensures short { IsErrOf result BodyFault.Short ↔ IsCut bytes.now }
     ensures trailing { IsErrOf result BodyFault.Trailing ↔ IsTrailed bytes.now }
     ensures too_long { IsErrOf result BodyFault.TooLong ↔ IsTooLong limits.now bytes.now }

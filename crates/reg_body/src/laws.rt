@@ -2,7 +2,7 @@
 //! the laws.
 
 ghost use Rattle.std.specs.Prelude.{◌≡◌, ◌≤◌, List, ℕ};
-ghost use Rattle.reg_body.specs.Frames.{Frame, IsFrame, IsProperPrefix, IsWithin};
+ghost use Rattle.reg_body.specs.Frames.{Accepts, Frame, IsFrame, IsProperPrefix};
 ghost use Rattle.reg_body.specs.declared.limits.Limits.{Limits};
 
 /// No publish body is a proper prefix of another.
@@ -16,9 +16,10 @@ pub fn parts_law()
     ensures archive { (b j a k c : List ℕ) → Frame b j a → Frame b k c → a ≡ c }
 {}
 
-/// What is within some limits is within wider ones, so `split` accepts it under these with the same
-/// parts.
+/// What is accepted under some limits is accepted under wider ones, with the same parts.
 pub fn wider_law()
-    ensures { (l m : Limits) (j a : List ℕ) → l.json ≤ m.json → l.archive ≤ m.archive
-        → IsWithin l j a → IsWithin m j a }
+    ensures accepts { (l m : Limits) (b j a : List ℕ) → l.json ≤ m.json → l.archive ≤ m.archive
+        → Accepts l b j a → Accepts m b j a }
+    ensures same { (l m : Limits) (b j a k c : List ℕ) → Accepts l b j a → Accepts m b k c
+        → (k ≡ j) × (c ≡ a) }
 {}

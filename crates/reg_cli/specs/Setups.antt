@@ -3,7 +3,7 @@ use Rattle.std.specs.Prelude.{◌≡◌, ℕ, List, codes, Result, Ok, Err, Stri
 use Rattle.std.specs.Str.{IsUtf8}
 use Rattle.std.specs.declared.alloc.Global.{Global}
 use Rattle.reg_cli_line.specs.declared.exit.Exit.{Exit}
-use Rattle.reg_cli_pipe.specs.Exits.{EndsWith}
+use Rattle.reg_cli_run.specs.Exits.{EndsWith}
 
 -- the same bytes, where they are UTF-8; else none of its lines is done
 abbrev pub IsSetup : List ℕ → Result (String Global) Exit → Type 0

@@ -11,15 +11,15 @@ use Rattle.reg_model.specs.Steps.{IsFit}
 use Rattle.reg_policy.specs.Events.{command_of}
 use Rattle.reg_tables.specs.declared.tables.Tables.{Tables}
 use Rattle.reg_cli_line.specs.declared.exit.Exit.{Exit}
-use Rattle.reg_cli_words.specs.Orders.{Given, Ordered, TokenWords, order_from, report_command, source_of, token_command, words_of}
-use Rattle.reg_cli_words.specs.Orders.Ordered.{Token, Whole}
-use Rattle.reg_cli_pipe.specs.Printing.{IsObeyed}
-use Rattle.reg_cli_pipe.specs.Tokens.{Makes}
-use Rattle.reg_cli.specs.declared.administering.Task.{Task}
-use Rattle.reg_cli.specs.declared.administering.Task.TheVariants.{AddToken, Command, Export}
-use Rattle.reg_cli_pipe.specs.declared.tokens.TokenMade.{TokenMade}
-use Rattle.reg_cli.specs.declared.using.Use.{Use}
-use Rattle.reg_cli.specs.declared.using.Use.TheVariants as uses
+use Rattle.reg_cli_args.specs.Orders.{Given, Ordered, TokenWords, order_from, report_command, source_of, token_command, words_of}
+use Rattle.reg_cli_args.specs.Orders.Ordered.{Token, Whole}
+use Rattle.reg_cli_run.specs.Printing.{IsObeyed}
+use Rattle.reg_cli_run.specs.Tokens.{Makes}
+use Rattle.reg_cli.specs.declared.administering.AdminTask.{AdminTask}
+use Rattle.reg_cli.specs.declared.administering.AdminTask.TheVariants.{AddToken, Command, Export}
+use Rattle.reg_cli_run.specs.declared.tokens.TokenMade.{TokenMade}
+use Rattle.reg_cli.specs.declared.using.FileTask.{FileTask}
+use Rattle.reg_cli.specs.declared.using.FileTask.TheVariants as uses
 
 -- what is wanted of a registry
 pub data Wanted : Type 0 where
@@ -27,7 +27,7 @@ pub data Wanted : Type 0 where
   Exports : Text → Text → Wanted
   Orders : Ordered → Wanted
 
-abbrev pub task_of : Task → Wanted
+abbrev pub task_of : AdminTask → Wanted
 task_of (Export folder file) = Exports folder.now file.now
 task_of (Command command) = Orders (Whole (command_of command))
 task_of (AddToken token) = Orders (Token (words_of token))
@@ -47,12 +47,12 @@ task_from name given = if bytes_eq name (codes "export") then export_from given
     else report_or (report_command name given) (order_from name given)
 
 -- a command is fit for a registry
-abbrev pub IsFitTask : Task → Type 0
+abbrev pub IsFitTask : AdminTask → Type 0
 IsFitTask (Command command) = IsFit (to_order (command_of command))
 IsFitTask _ = Unit {0}
 
-abbrev pub IsFitUse : Use → Type 0
-IsFitUse (uses.Task task) = IsFitTask task.now
+abbrev pub IsFitUse : FileTask → Type 0
+IsFitUse (uses.AdminTask task) = IsFitTask task.now
 IsFitUse _ = Unit {0}
 
 module _ {S : Type 0} (g : Ghosts S) (limits : Limits) where
@@ -64,7 +64,7 @@ module _ {S : Type 0} (g : Ghosts S) (limits : Limits) where
   IsAdded words (Err fault) old new w0 w1 exit = (exit ≡ fault) × (new ≡ old) × (w1 ≡ w0)
 
   -- A command was answered, and its reply told. Of an export the folder tells.
-  abbrev pub IsTaskDone : Task → Tables S → Tables S → Sink → Sink → Exit → Type 0
+  abbrev pub IsTaskDone : AdminTask → Tables S → Tables S → Sink → Sink → Exit → Type 0
   IsTaskDone (Command command) old new w0 w1 exit =
       IsObeyed g limits (command_of command) None old new w0 w1 exit
   IsTaskDone (AddToken token) old new w0 w1 exit =

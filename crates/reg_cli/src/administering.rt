@@ -3,18 +3,18 @@
 ghost use Rattle.std.specs.Prelude.{◌≡◌, ◌+◌, ◌^◌, ◌<◌, None, IfOk, IfSome};
 ghost use Rattle.std.specs.Option.{option_map};
 ghost use Rattle.reg_body.specs.Sent.{sink};
-ghost use Rattle.reg_cli_words.specs.Orders.{given_by};
-ghost use Rattle.reg_service.specs.Registries.{IsUpToDate, limits_of, tables_of};
+ghost use Rattle.reg_cli_args.specs.Orders.{given_by};
+ghost use Rattle.reg_service.specs.Registries.{limits_of, tables_of};
 ghost use Rattle.reg_cli.specs.Tasks.{IsFitTask, IsTaskDone, task_from, task_of};
 
 use crate::exporting::export_to;
 use crate::files::whole_path;
-use crate::using::{Use, on_whole_file};
+use crate::using::{FileTask, on_whole_file};
 use clap::ArgMatches;
 use reg_body::{Counted, Limits};
+use reg_cli_args::{GivenCommand, NewToken, read_order, read_report};
 use reg_cli_line::Exit;
-use reg_cli_pipe::{CALLS, add_token, make_token, obey};
-use reg_cli_words::{NewToken, Order, read_order, read_report};
+use reg_cli_run::{CALLS, add_token, make_token, obey};
 use reg_policy::AdminCommand;
 use reg_service::Registry;
 use sqlite::Alter;
@@ -23,7 +23,7 @@ use std::io::Write;
 
 /// What the administrator wants of a registry.
 #[derive(Drop)]
-pub(crate) enum Task<'a> {
+pub(crate) enum AdminTask<'a> {
     /// The index as files: their folder, and the registry's own file.
     Export(&'a str, &'a str),
     Command(AdminCommand<'a>),
@@ -35,23 +35,23 @@ fn read_task<'a>(
     alloc: Global,
     name: &str,
     words: &ArgMatches<'a>,
-) -> Result<Option<Task<'a>>, AllocError>
+) -> Result<Option<AdminTask<'a>>, AllocError>
     ensures wanted { IfOk result (λ t. option_map task_of t
         ≡ task_from name.now (given_by words.now)) }
     ensures fit { IfOk result (λ t. IfSome t IsFitTask) }
 {
     if name == "export" {
         return Ok(match (words.get_str("DIR"), words.get_str("db")) {
-            (Some(folder), Some(file)) => Some(Task::Export(folder, file)),
+            (Some(folder), Some(file)) => Some(AdminTask::Export(folder, file)),
             _ => None,
         });
     }
     if let Some(report) = read_report(name, words) {
-        return Ok(Some(Task::Command(report)));
+        return Ok(Some(AdminTask::Command(report)));
     }
     Ok(match read_order(alloc, name, words)? {
-        Some(Order::AddToken(token)) => Some(Task::AddToken(token)),
-        Some(Order::Other(command)) => Some(Task::Command(command)),
+        Some(GivenCommand::AddToken(token)) => Some(AdminTask::AddToken(token)),
+        Some(GivenCommand::Other(command)) => Some(AdminTask::Command(command)),
         None => None,
     })
 }
@@ -61,9 +61,8 @@ pub(crate) fn do_task<S: Alter, W: Write>(
     rt: &HostRuntime,
     registry: &mut Registry<S>,
     w: &mut Counted<W>,
-    task: &Task<'_>,
+    task: &AdminTask<'_>,
 ) -> Exit
-    requires tables { IsUpToDate S.Store registry.old }
     requires fit { IsFitTask task.now }
     requires room { w.old.calls + CALLS < 2 ^ 64 }
     ensures { IsTaskDone S.Store (limits_of registry.old) task.now
@@ -71,9 +70,9 @@ pub(crate) fn do_task<S: Alter, W: Write>(
         (sink (W.contents w.old.inner) w.old) (sink (W.contents w.new.inner) w.new) result }
 {
     match task {
-        Task::Export(folder, file) => export_to(rt, registry, folder, file),
-        Task::Command(command) => obey(rt.alloc(), registry, w, command, None),
-        Task::AddToken(token) => match make_token(rt, &token.source) {
+        AdminTask::Export(folder, file) => export_to(rt, registry, folder, file),
+        AdminTask::Command(command) => obey(rt.alloc(), registry, w, command, None),
+        AdminTask::AddToken(token) => match make_token(rt, &token.source) {
             Ok(made) => add_token(rt.alloc(), registry, w, token, &made),
             Err(exit) => exit,
         },
@@ -81,12 +80,12 @@ pub(crate) fn do_task<S: Alter, W: Write>(
 }
 
 /// The task, on the file by its whole path.
-fn with_file<'a>(task: Task<'a>, file: &'a str) -> Task<'a>
+fn with_file<'a>(task: AdminTask<'a>, file: &'a str) -> AdminTask<'a>
     requires { IsFitTask task }
     ensures { IsFitTask result }
 {
     match task {
-        Task::Export(folder, _) => Task::Export(folder, file),
+        AdminTask::Export(folder, _) => AdminTask::Export(folder, file),
         task => task,
     }
 }
@@ -104,7 +103,7 @@ pub(crate) fn administer(rt: &HostRuntime, name: &str, words: &ArgMatches<'_>) -
     match whole_path(rt, file) {
         Ok(file) => {
             let task = with_file(task, &file);
-            on_whole_file(rt, &file, Limits::STANDARD, &Use::Task(&task))
+            on_whole_file(rt, &file, Limits::STANDARD, &FileTask::AdminTask(&task))
         }
         Err(exit) => exit,
     }

@@ -4,7 +4,7 @@ use crate::meanings::{ACCESS, COMMANDS, CONTENTS, DAMAGES, HEADS, OTHERS, WORDS}
 use crate::store::damage_words;
 use clap::ArgMatches;
 use reg_cli_line::Exit;
-use reg_cli_pipe::print;
+use reg_cli_run::print;
 use reg_model::AdminRefusal;
 use reg_policy::{Rule, admin_text, rule_text};
 use reg_service::Check;

@@ -1,10 +1,8 @@
 //! The index as files in a folder.
 
-ghost use Rattle.reg_service.specs.Registries.{IsUpToDate};
-
 use crate::files::is_registry;
 use reg_cli_line::Exit;
-use reg_cli_pipe::{FolderAt, join_path, write_files};
+use reg_cli_run::{FolderAt, join_path, write_files};
 use reg_service::Registry;
 use sqlite::Alter;
 use std::alloc::AllocError;
@@ -34,9 +32,7 @@ pub(crate) fn export_to<S: Alter>(
     registry: &mut Registry<S>,
     folder: &str,
     file: &str,
-) -> Exit
-    requires { IsUpToDate S.Store registry.old }
-{
+) -> Exit {
     if folder.is_empty() {
         return Exit::STORAGE;
     }

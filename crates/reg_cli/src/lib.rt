@@ -18,5 +18,5 @@ mod using;
 mod words;
 
 pub use reg_cli_line::{Exit, run_line};
-pub use reg_cli_pipe::{pipe_traced, run_pipe};
+pub use reg_cli_run::{pipe_traced, run_pipe};
 pub use words::run_words;

@@ -2,18 +2,18 @@
 
 ghost use Rattle.std.specs.Prelude.{◌≡◌, ◌+◌, ◌^◌, ◌<◌, [], IfOk, MatchResult, OnOk, false};
 ghost use Rattle.sqlite.specs.Held.{state};
-ghost use Rattle.reg_service.specs.Registries.{IsUpToDate, limits_of};
-ghost use Rattle.reg_cli_pipe.specs.Exits.{EndsWith};
-ghost use Rattle.reg_cli_pipe.specs.Limited.{HasTurns};
+ghost use Rattle.reg_service.specs.Registries.{limits_of};
+ghost use Rattle.reg_cli_run.specs.Exits.{EndsWith};
+ghost use Rattle.reg_cli_run.specs.Limited.{HasTurns};
 ghost use Rattle.reg_cli.specs.Setups.{IsSetup};
 
 use crate::files::whole_path;
 use crate::store::{connect, create, open};
-use crate::using::{Use, on_file};
+use crate::using::{FileTask, on_file};
 use clap::ArgMatches;
 use reg_body::{Counted, Limits};
 use reg_cli_line::Exit;
-use reg_cli_pipe::{Door, Service, mark_opening, read_service, run_pipe, serve_connections};
+use reg_cli_run::{Listener, Service, mark_opening, read_service, run_pipe, serve_connections};
 use reg_http::{Server, Trail};
 use reg_service::Registry;
 use sqlite::{Alter, Connection};
@@ -31,7 +31,7 @@ fn setup_of(bytes: Vec<u8>) -> Result<String, Exit>
         Ok(text) => Ok(text),
         Err(_) => Err(Exit {
             status: 2,
-            words: "bad setup line",
+            message: "bad setup line",
         }),
     }
 }
@@ -53,7 +53,6 @@ pub(crate) fn pipe_on<S: Alter>(
     registry: &mut Registry<S>,
     setup: Option<&str>,
 ) -> Exit
-    requires tables { IsUpToDate S.Store registry.old }
     requires turns { HasTurns (limits_of registry.old) }
 {
     let setup = match read_setup(rt, setup) {
@@ -84,7 +83,7 @@ fn pipe_memory(rt: &HostRuntime, words: &ArgMatches<'_>) -> Result<Exit, Exit> {
 pub(crate) fn pipe(rt: &HostRuntime, words: &ArgMatches<'_>) -> Exit {
     if let Some(file) = words.get_str("db") {
         let setup = words.get_str("setup");
-        return on_file(rt, file, Limits::STANDARD, &Use::Pipe(setup));
+        return on_file(rt, file, Limits::STANDARD, &FileTask::Pipe(setup));
     }
     match pipe_memory(rt, words) {
         Ok(exit) | Err(exit) => exit,
@@ -106,7 +105,7 @@ pub(crate) fn init(rt: &HostRuntime, words: &ArgMatches<'_>) -> Exit {
     let (Some(file), Some(base)) = (words.get_str("db"), words.get_str("base")) else {
         return Exit::BAD_WORDS;
     };
-    on_file(rt, file, Limits::STANDARD, &Use::Make(base))
+    on_file(rt, file, Limits::STANDARD, &FileTask::Make(base))
 }
 
 /// Listens, unless it does already, marks the opening in the trail, and serves connections.
@@ -115,20 +114,19 @@ fn serve_door<S: Alter, T: Write>(
     server: &mut Server,
     registry: &mut Registry<S>,
     trail: &mut Trail<T>,
-    door: &mut Door,
+    listener: &mut Listener,
     left: &mut u64,
 ) -> Result<(), Exit>
-    requires tables { IsUpToDate S.Store registry.old }
     requires turns { HasTurns (limits_of registry.old) }
-    requires room { door.old.accepted + left.old < 2 ^ 64 }
-    ensures counts { door.new.accepted + left.new ≡ door.old.accepted + left.old }
+    requires room { listener.old.accepted + left.old < 2 ^ 64 }
+    ensures counts { listener.new.accepted + left.new ≡ listener.old.accepted + left.old }
     ensures fewer { OnOk result (0 < left.new → left.new < left.old) }
 {
-    door.open(rt)?;
+    listener.open(rt)?;
     if trail.is_open() {
         mark_opening(rt.alloc(), registry, trail)?;
     }
-    serve_connections(rt, server, registry, trail, door, left)
+    serve_connections(rt, server, registry, trail, listener, left)
 }
 
 /// Opens the registry of a store, serves connections, and returns how that ended, and the
@@ -139,17 +137,17 @@ fn serve_store<S: Alter + Drop, T: Write>(
     trail: &mut Trail<T>,
     conn: Connection<S>,
     limits: Limits,
-    door: &mut Door,
+    listener: &mut Listener,
     left: &mut u64,
 ) -> Result<(Result<(), Exit>, Connection<S>), Exit>
     requires begun { (state S.Store conn).in_transaction ≡ false }
     requires turns { HasTurns limits }
-    requires room { door.old.accepted + left.old < 2 ^ 64 }
-    ensures counts { door.new.accepted + left.new ≡ door.old.accepted + left.old }
+    requires room { listener.old.accepted + left.old < 2 ^ 64 }
+    ensures counts { listener.new.accepted + left.new ≡ listener.old.accepted + left.old }
     ensures fewer { IfOk result (λ it. OnOk it.0 (0 < left.new → left.new < left.old)) }
 {
     let mut registry = open(rt.alloc(), conn, limits)?;
-    let served = serve_door(rt, server, &mut registry, trail, door, left);
+    let served = serve_door(rt, server, &mut registry, trail, listener, left);
     Ok((served, registry.into_connection()))
 }
 
@@ -160,16 +158,16 @@ fn serve_opening<T: Write>(
     trail: &mut Trail<T>,
     file: &str,
     limits: Limits,
-    door: &mut Door,
+    listener: &mut Listener,
     left: &mut u64,
 ) -> Result<(), Exit>
     requires turns { HasTurns limits }
-    requires room { door.old.accepted + left.old < 2 ^ 64 }
-    ensures counts { door.new.accepted + left.new ≡ door.old.accepted + left.old }
+    requires room { listener.old.accepted + left.old < 2 ^ 64 }
+    ensures counts { listener.new.accepted + left.new ≡ listener.old.accepted + left.old }
     ensures fewer { OnOk result (0 < left.new → left.new < left.old) }
 {
     let conn = connect(rt, file)?;
-    let (served, conn) = serve_store(rt, server, trail, conn, limits, door, left)?;
+    let (served, conn) = serve_store(rt, server, trail, conn, limits, listener, left)?;
     let _ = conn.close();
     served
 }
@@ -181,10 +179,10 @@ fn serve_openings<T: Write>(
     trail: &mut Trail<T>,
     file: &str,
     service: &Service,
-    door: &mut Door,
+    listener: &mut Listener,
 ) -> Result<(), Exit>
-    requires { door.old.accepted ≡ 0 }
-    ensures served { OnOk result (door.new.accepted ≡ service.now.connections) }
+    requires { listener.old.accepted ≡ 0 }
+    ensures served { OnOk result (listener.new.accepted ≡ service.now.connections) }
 {
     let Ok(mut server) = Server::new(rt.alloc()) else {
         return Err(Exit::MEMORY);
@@ -197,7 +195,7 @@ fn serve_openings<T: Write>(
             trail,
             file,
             service.limits(),
-            door,
+            listener,
             &mut left,
         )?;
         if left == 0 {
@@ -207,13 +205,18 @@ fn serve_openings<T: Write>(
 }
 
 /// Serves the registry of a file, with one trail.
-fn serve_file(rt: &HostRuntime, file: &str, service: &Service, door: &mut Door) -> Result<(), Exit>
-    requires { door.old.accepted ≡ 0 }
-    ensures served { OnOk result (door.new.accepted ≡ service.now.connections) }
+fn serve_file(
+    rt: &HostRuntime,
+    file: &str,
+    service: &Service,
+    listener: &mut Listener,
+) -> Result<(), Exit>
+    requires { listener.old.accepted ≡ 0 }
+    ensures served { OnOk result (listener.new.accepted ≡ service.now.connections) }
 {
     let file = whole_path(rt, file)?;
     let mut trail = Trail::new(rt.stdout(), service.writes());
-    serve_openings(rt, &mut trail, &file, service, door)
+    serve_openings(rt, &mut trail, &file, service, listener)
 }
 
 /// `serve`.
@@ -221,13 +224,13 @@ pub(crate) fn serve(rt: &HostRuntime, words: &ArgMatches<'_>) -> Exit {
     let (Some(service), Some(file)) = (read_service(words), words.get_str("db")) else {
         return Exit::BAD_WORDS;
     };
-    exit_of(serve_file(rt, file, &service, &mut Door::at(service.port)))
+    exit_of(serve_file(rt, file, &service, &mut Listener::at(service.port)))
 }
 
 /// `audit`.
 pub(crate) fn check(rt: &HostRuntime, words: &ArgMatches<'_>) -> Exit {
     match words.get_str("db") {
-        Some(file) => on_file(rt, file, Limits::STANDARD, &Use::Check),
+        Some(file) => on_file(rt, file, Limits::STANDARD, &FileTask::Check),
         None => Exit::BAD_WORDS,
     }
 }

@@ -2,7 +2,7 @@
 
 ghost use Rattle.std.specs.Prelude.{◌≡◌, false, IfOk};
 ghost use Rattle.sqlite.specs.Held.{IsNew, state};
-ghost use Rattle.reg_service.specs.Registries.{IsUpToDate, limits_of};
+ghost use Rattle.reg_service.specs.Registries.{limits_of};
 ghost use Rattle.reg_cli.specs.Exits.{status_of_opening, words_of_damage, words_of_opening};
 
 use crate::files::is_orphaned;
@@ -30,20 +30,20 @@ pub(crate) fn damage_words(check: Check) -> &'static str
 /// The end of a run that could not open its registry.
 pub(crate) fn exit_of_opening(fault: OpenFault) -> Exit
     ensures status { result.status ≡ status_of_opening fault }
-    ensures words { result.words.now ≡ words_of_opening fault }
+    ensures words { result.message.now ≡ words_of_opening fault }
 {
     match fault {
         OpenFault::BadBase => Exit {
             status: 1,
-            words: "bad base",
+            message: "bad base",
         },
         OpenFault::UnknownSchema => Exit {
             status: 3,
-            words: "unknown schema",
+            message: "unknown schema",
         },
         OpenFault::Damaged(check) => Exit {
             status: 3,
-            words: damage_words(check),
+            message: damage_words(check),
         },
         OpenFault::Storage => Exit::STORAGE,
     }
@@ -69,7 +69,6 @@ pub(crate) fn open<S: Alter + Drop>(
     limits: Limits,
 ) -> Result<Registry<S>, Exit>
     requires { (state S.Store conn).in_transaction ≡ false }
-    ensures tables { IfOk result (IsUpToDate S.Store) }
     ensures limited { IfOk result (λ r. limits_of r ≡ limits) }
 {
     match Registry::open(alloc, conn, limits) {
@@ -81,7 +80,6 @@ pub(crate) fn open<S: Alter + Drop>(
 /// Makes an empty registry.
 pub(crate) fn create<S: Alter + Drop>(conn: Connection<S>, base: &str) -> Result<Registry<S>, Exit>
     requires { (state S.Store conn).in_transaction ≡ false }
-    ensures tables { IfOk result (IsUpToDate S.Store) }
     ensures limited { IfOk result (λ r. limits_of r ≡ Limits.STANDARD) }
 {
     match Registry::create(conn, base, Limits::STANDARD) {

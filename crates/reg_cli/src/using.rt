@@ -2,17 +2,17 @@
 
 ghost use Rattle.std.specs.Prelude.{◌≡◌, IfOk, false};
 ghost use Rattle.sqlite.specs.Held.{state};
-ghost use Rattle.reg_service.specs.Registries.{IsUpToDate, limits_of};
-ghost use Rattle.reg_cli_pipe.specs.Limited.{HasTurns};
+ghost use Rattle.reg_service.specs.Registries.{limits_of};
+ghost use Rattle.reg_cli_run.specs.Limited.{HasTurns};
 ghost use Rattle.reg_cli.specs.Tasks.{IsFitUse};
 
-use crate::administering::{Task, do_task};
+use crate::administering::{AdminTask, do_task};
 use crate::files::whole_path;
 use crate::serving::pipe_on;
 use crate::store::{connect, create, open};
 use reg_body::{Counted, Limits};
 use reg_cli_line::Exit;
-use reg_cli_pipe::print;
+use reg_cli_run::print;
 use reg_service::Registry;
 use sqlite::{Alter, Connection};
 use std::alloc::Global;
@@ -20,25 +20,24 @@ use std::io;
 
 /// What is done with the registry of a file.
 #[derive(Clone, Copy)]
-pub(crate) enum Use<'a> {
+pub(crate) enum FileTask<'a> {
     /// It is made, empty, with this base.
     Make(&'a str),
     /// Nothing more than opening, which checks it.
     Check,
-    Task(&'a Task<'a>),
+    AdminTask(&'a AdminTask<'a>),
     /// A stream on standard input and output, after the setup in a file.
     Pipe(Option<&'a str>),
 }
 
-fn use_it<S: Alter>(rt: &HostRuntime, registry: &mut Registry<S>, wanted: &Use<'_>) -> Exit
-    requires tables { IsUpToDate S.Store registry.old }
+fn use_it<S: Alter>(rt: &HostRuntime, registry: &mut Registry<S>, wanted: &FileTask<'_>) -> Exit
     requires turns { HasTurns (limits_of registry.old) }
     requires fit { IsFitUse wanted.now }
 {
     match wanted {
-        Use::Make(_) | Use::Check => Exit::DONE,
-        Use::Task(task) => do_task(rt, registry, &mut Counted::new(io::writer(rt)), task),
-        Use::Pipe(setup) => pipe_on(rt, registry, *setup),
+        FileTask::Make(_) | FileTask::Check => Exit::DONE,
+        FileTask::AdminTask(task) => do_task(rt, registry, &mut Counted::new(io::writer(rt)), task),
+        FileTask::Pipe(setup) => pipe_on(rt, registry, *setup),
     }
 }
 
@@ -47,15 +46,14 @@ fn begin<S: Alter + Drop>(
     alloc: Global,
     conn: Connection<S>,
     limits: Limits,
-    wanted: &Use<'_>,
+    wanted: &FileTask<'_>,
 ) -> Result<Registry<S>, Exit>
     requires begun { (state S.Store conn).in_transaction ≡ false }
     requires turns { HasTurns limits }
-    ensures tables { IfOk result (IsUpToDate S.Store) }
     ensures turns { IfOk result (λ r. HasTurns (limits_of r)) }
 {
     match wanted {
-        Use::Make(base) => create(conn, base),
+        FileTask::Make(base) => create(conn, base),
         _ => open(alloc, conn, limits),
     }
 }
@@ -65,7 +63,7 @@ fn use_store<S: Alter + Drop>(
     rt: &HostRuntime,
     conn: Connection<S>,
     limits: Limits,
-    wanted: &Use<'_>,
+    wanted: &FileTask<'_>,
 ) -> Result<(Exit, Connection<S>), Exit>
     requires begun { (state S.Store conn).in_transaction ≡ false }
     requires turns { HasTurns limits }
@@ -78,16 +76,21 @@ fn use_store<S: Alter + Drop>(
 
 /// The end of a run, once the file is closed, which moves the log into the file. What was
 /// acknowledged is kept even if that fails; only a check has to report it.
-fn exit_of_use(rt: &HostRuntime, wanted: &Use<'_>, exit: Exit, is_closed: bool) -> Exit {
+fn exit_of_use(rt: &HostRuntime, wanted: &FileTask<'_>, exit: Exit, is_closed: bool) -> Exit {
     match wanted {
-        Use::Check if is_closed => print(rt, "ok\n"),
-        Use::Check => Exit::STORAGE,
+        FileTask::Check if is_closed => print(rt, "ok\n"),
+        FileTask::Check => Exit::STORAGE,
         _ => exit,
     }
 }
 
 /// Uses the registry of a file, by its whole path.
-fn use_file(rt: &HostRuntime, file: &str, limits: Limits, wanted: &Use<'_>) -> Result<Exit, Exit>
+fn use_file(
+    rt: &HostRuntime,
+    file: &str,
+    limits: Limits,
+    wanted: &FileTask<'_>,
+) -> Result<Exit, Exit>
     requires turns { HasTurns limits }
     requires fit { IsFitUse wanted.now }
 {
@@ -98,7 +101,12 @@ fn use_file(rt: &HostRuntime, file: &str, limits: Limits, wanted: &Use<'_>) -> R
 }
 
 /// Uses the registry of a file, by its whole path.
-pub(crate) fn on_whole_file(rt: &HostRuntime, file: &str, limits: Limits, wanted: &Use<'_>) -> Exit
+pub(crate) fn on_whole_file(
+    rt: &HostRuntime,
+    file: &str,
+    limits: Limits,
+    wanted: &FileTask<'_>,
+) -> Exit
     requires turns { HasTurns limits }
     requires fit { IsFitUse wanted.now }
 {
@@ -108,7 +116,7 @@ pub(crate) fn on_whole_file(rt: &HostRuntime, file: &str, limits: Limits, wanted
 }
 
 /// Uses the registry of a file.
-pub(crate) fn on_file(rt: &HostRuntime, file: &str, limits: Limits, wanted: &Use<'_>) -> Exit
+pub(crate) fn on_file(rt: &HostRuntime, file: &str, limits: Limits, wanted: &FileTask<'_>) -> Exit
     requires turns { HasTurns limits }
     requires fit { IsFitUse wanted.now }
 {

@@ -6,9 +6,9 @@ use crate::serving::{check, init, pipe, serve};
 use clap::error::ErrorKind;
 use clap::{ArgMatches, Error};
 use reg_body::Counted;
+use reg_cli_args::{is_dashed, read_words};
 use reg_cli_line::{Exit, run_line};
-use reg_cli_pipe::NO_WRITING;
-use reg_cli_words::{is_dashed, read_words};
+use reg_cli_run::NO_WRITING;
 
 /// Prints help, or what is wrong with the arguments.
 fn print_error(rt: &HostRuntime, error: &Error) -> Exit {
@@ -19,7 +19,7 @@ fn print_error(rt: &HostRuntime, error: &Error) -> Exit {
     if error.use_stderr() {
         return Exit {
             status: 2,
-            words: "",
+            message: "",
         };
     }
     match printed {

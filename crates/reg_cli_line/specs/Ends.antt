@@ -1,4 +1,4 @@
--- What was written before a stop, and which stops are failures of an end.
+-- What was written before a crash, and which stops are failures of an end.
 use Rattle.std.specs.Prelude.{◌≡◌, ℕ, ◌+◌, ◌<◌, List, ◌++◌, length, Option, Result, Ok, Err}
 use Rattle.std.specs.Io.KnownBytes.{Appends}
 use Rattle.reg_body.specs.Counting.{CountedEnd}

@@ -5,28 +5,28 @@
 pub struct Exit {
     /// 0 done, 1 refused, 2 bad arguments, 3 a fault of storage, memory or a stream.
     pub status: u8,
-    pub words: &'static str,
+    pub message: &'static str,
 }
 
 impl Exit {
     /// All is done.
     pub const DONE: Exit = Exit {
         status: 0,
-        words: "",
+        message: "",
     };
     /// Out of memory.
     pub const MEMORY: Exit = Exit {
         status: 3,
-        words: "memory",
+        message: "memory",
     };
     /// The store, or another file, failed.
     pub const STORAGE: Exit = Exit {
         status: 3,
-        words: "storage",
+        message: "storage",
     };
     /// The arguments are bad, which their parser did not see.
     pub const BAD_WORDS: Exit = Exit {
         status: 2,
-        words: "bad words",
+        message: "bad words",
     };
 }

@@ -47,19 +47,22 @@ fn answer(alloc: Global, input: &[u8], limits: &Limits) -> Result<Vec<u8>, LineF
 /// The exit of a run whose reader or writer did not finish; `words` is used if it failed.
 fn exit_of_stop(fault: EndFault, words: &'static str) -> Exit
     ensures status { result.status ≡ 3 }
-    ensures words { result.words.now ≡ stop_words fault words.entry.now }
+    ensures words { result.message.now ≡ stop_words fault words.entry.now }
 {
     let words = match fault {
         EndFault::Failed => words,
         EndFault::Spent => "too many turns",
         EndFault::Memory => "memory",
     };
-    Exit { status: 3, words }
+    Exit {
+        status: 3,
+        message: words,
+    }
 }
 
 /// The exit of a run whose input has no line.
 fn exit_of_fault(fault: LineFault) -> Exit
-    ensures words { result.words.now ≡ words_of fault }
+    ensures words { result.message.now ≡ words_of fault }
     ensures status { (result.status ≡ 1) ⊎ ((result.status ≡ 3) × (fault ≡ memory)) }
     ensures rule { result.status ≡ 1 → ¬ (fault ≡ memory) }
 {
@@ -69,7 +72,7 @@ fn exit_of_fault(fault: LineFault) -> Exit
     };
     Exit {
         status,
-        words: fault.words(),
+        message: fault.words(),
     }
 }
 
@@ -85,7 +88,7 @@ pub fn run_line_within<R: Read, W: Write>(
     requires writes { writer.old.calls + limits.now.turns < 2 ^ 64 }
 
     // Done: the whole answer was printed.
-    ensures done { result.status ≡ 0 → (result.words.now ≡ [])
+    ensures done { result.status ≡ 0 → (result.message.now ≡ [])
         × IfSome (R.remaining reader.old.inner) (λ input. (text : List ℕ)
         × IsAnswer limits.now input text
         × Appends (W.contents writer.old.inner) (W.contents writer.new.inner) text) }
@@ -94,7 +97,7 @@ pub fn run_line_within<R: Read, W: Write>(
     ensures refused { result.status ≡ 1 → (writer.new ≡ writer.old)
         × IfSome (R.remaining reader.old.inner) (λ input. (fault : LineFault)
         × Breaks limits.now input fault × ¬ (fault ≡ memory)
-        × (result.words.now ≡ words_of fault)) }
+        × (result.message.now ≡ words_of fault)) }
 
     // Done or refused: the input was read to its end, and no call of an end failed.
     ensures whole { ¬ (result.status ≡ 3) → IsAtEnd (R.remaining reader.new.inner)
@@ -109,7 +112,7 @@ pub fn run_line_within<R: Read, W: Write>(
 
     // Stopped: the words say why, and nothing else went wrong.
     ensures cause { result.status ≡ 3
-        → IsStop result.words.now limits.now.turns reader.old reader.new writer.old writer.new }
+        → IsStop result.message.now limits.now.turns reader.old reader.new writer.old writer.new }
 
     ensures status { (result.status ≡ 0) ⊎ ((result.status ≡ 1) ⊎ (result.status ≡ 3)) }
     ensures turns { reader.new.calls + writer.new.calls
@@ -128,7 +131,7 @@ pub fn run_line_within<R: Read, W: Write>(
     match write_all(writer, &text, left) {
         Ok(()) => Exit {
             status: 0,
-            words: "",
+            message: "",
         },
         Err(fault) => exit_of_stop(fault, "write fault"),
     }
@@ -142,7 +145,7 @@ pub fn run_line<R: Read, W: Write>(
 ) -> Exit
     requires reads { reader.old.calls + Limits.STANDARD.turns < 2 ^ 64 }
     requires writes { writer.old.calls + Limits.STANDARD.turns < 2 ^ 64 }
-    ensures { IsRun Limits.STANDARD result.status result.words.now
+    ensures { IsRun Limits.STANDARD result.status result.message.now
         (an_end reader.old reader.new (R.remaining reader.old.inner) (R.remaining reader.new.inner))
         (an_end writer.old writer.new (W.contents writer.old.inner) (W.contents writer.new.inner)) }
 {

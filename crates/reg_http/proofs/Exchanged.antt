@@ -1,7 +1,7 @@
 -- One more exchange behind those that were done.
 use Rattle.reg_http.proofs.Words.{◌≡◌, ◌+◌, ◌++◌, ◌==◌, ℕ, false, List, [], ◌∷◌, refl, sym, ap, ◌∙◌, subst, arith, append_assoc, append-nil}
 use Rattle.reg_http.proofs.Words.{Ghosts, Limits, Answer, Event, Text, IsFit, Answers, Ran, Tables, request_from, event_of, Exchange}
-use Rattle.reg_http.proofs.Words.{Outcome, answers_in, events_in, Answered, NoMethod, NoRoom, NoRoute, Unread, Goes, HasRun, IsOpen, told}
+use Rattle.reg_http.proofs.Words.{Outcome, answers_in, events_in, Answered, NoMethod, NoRoom, NoRoute, Unread, HaveExchanged, HasRun, IsOpen, told}
 use Rattle.reg_http.proofs.Words.{trail_in, Tail, Trails}
 use Rattle.std.proofs.Common.{◌≢◌, length-append, map}
 use Rattle.std.proofs.lemmas.Bool.{eqb-false}
@@ -28,9 +28,9 @@ replied-push limits xs x = flat_map-append _ xs (x ∷ []) ∙ ap (λ l. replied
 steps-push : (limits : Limits) (xs : List Exchange) (x : Exchange) → steps_in limits (xs ++ x ∷ []) ≡ steps_in limits xs ++ event_in limits x.facts x.outcome
 steps-push limits xs x = flat_map-append _ xs (x ∷ []) ∙ ap (λ l. steps_in limits xs ++ l) (append-nil (event_in limits x.facts x.outcome))
 
-module _ (limits : Limits) (done : List Exchange) (read written rest : Text) (count : ℕ) (goes : Goes limits done read written rest count) where
+module _ (limits : Limits) (done : List Exchange) (read written rest : Text) (count : ℕ) (goes : HaveExchanged limits done read written rest count) where
   -- more was read
-  pub goes_read : (bytes : Text) → Goes limits done (read ++ bytes) written (rest ++ bytes) count
+  pub goes_read : (bytes : Text) → HaveExchanged limits done (read ++ bytes) written (rest ++ bytes) count
   goes_read bytes = record {
     reads = ap (λ l. l ++ bytes) goes.reads ∙ append_assoc (asked done) rest bytes;
     wrote = goes.wrote;
@@ -40,12 +40,12 @@ module _ (limits : Limits) (done : List Exchange) (read written rest : Text) (co
   }
 
   -- the same of an equal rest
-  pub goes_front : (front : Text) → rest ≡ front → Goes limits done read written front count
-  goes_front front same = subst (λ l. Goes limits done read written l count) same goes
+  pub goes_front : (front : Text) → rest ≡ front → HaveExchanged limits done read written front count
+  goes_front front same = subst (λ l. HaveExchanged limits done read written l count) same goes
 
   -- one more exchange, which is not the last
   pub goes_push : (x : Exchange) (later : Text) → IsOpen limits x → rest ≡ x.message ++ later → (count + 1 == limits.replies) ≡ false
-      → Goes limits (done ++ x ∷ []) read (written ++ told limits false x) later (count + 1)
+      → HaveExchanged limits (done ++ x ∷ []) read (written ++ told limits false x) later (count + 1)
   goes_push x later is_open front more = record {
     reads = goes.reads ∙ ap (λ l. asked done ++ l) front ∙ sym (append_assoc (asked done) x.message later) ∙ ap (λ l. l ++ later) (sym (asked-push done x));
     wrote = ap (λ l. l ++ told limits false x) goes.wrote ∙ sym (replied-push limits done x);

@@ -2,7 +2,7 @@
 use Rattle.reg_http.proofs.Words.{◌≡◌, ◌<◌, ◌⊎◌, ℕ, Bool, true, false, nat_lt, [], inl, inr, refl, sym, ap, subst, arith, Option, Result}
 use Rattle.reg_http.proofs.Words.{Ok, Err, string_bytes, option_map, Ghosts, CountedEnd, Limits, Facts, Answer, Event, Rule, Text, IsFit}
 use Rattle.reg_http.proofs.Words.{Sends, StreamFault, Memory, ReadFault, StoreFault, TooManyTurns, WriteFault, request_from, event_of, Sink}
-use Rattle.reg_http.proofs.Words.{HasLine, Answers, Registry, Finds, Tables, AnswersRequest, Replies, IsOfFile, Outcome, Answered, NoMethod}
+use Rattle.reg_http.proofs.Words.{HasLine, Answers, Running, Finds, Tables, AnswersRequest, Replies, IsOfFile, Outcome, Answered, NoMethod}
 use Rattle.reg_http.proofs.Words.{NoRoom, NoRoute, Unread, Tail, TrailEnd, Trails}
 use Rattle.std.proofs.Common.{cond, None, Some}
 use Rattle.std.specs.Prelude.{String, unwrap_or}
@@ -21,7 +21,7 @@ use Rattle.reg_api_replies.specs.declared.reply.Reply.{Reply}
 use Rattle.reg_api_replies.specs.declared.reply.Reply.TheVariants.{Denied}
 use Rattle.reg_api_requests.specs.Owners.{logins_named}
 use Rattle.reg_api_requests.specs.Publish.{publish_of}
-use Rattle.reg_api_requests.specs.Requests.{asked_from, or_faulty, published, text_in}
+use Rattle.reg_api_requests.specs.Requests.{asked_from, or_malformed, published, text_in}
 use Rattle.reg_api_requests.specs.Search.{page_of}
 use Rattle.reg_api_requests.specs.Wants.{Wants}
 use Rattle.reg_api_requests.specs.Wants.Wants.{Config, Index, Download, ListOwners, Publish, Yank, Unyank, AddOwners, RemoveOwners, Search}
@@ -50,7 +50,7 @@ streams_of o text old new (Err StoreFault) x = absurd x
 streams_of o text old new (Err Memory) x = absurd x
 
 -- what asks for an index file wants one
-not_asked : {A : Type 0} (r : Rule) (ask : A → Asked) (o : Option A) (path : Text) → ((a : A) → ask a ≡ to_index path → ⊥) → or_faulty r ask o ≡ to_index path → ⊥
+not_asked : {A : Type 0} (r : Rule) (ask : A → Asked) (o : Option A) (path : Text) → ((a : A) → ask a ≡ to_index path → ⊥) → or_malformed r ask o ≡ to_index path → ⊥
 not_asked r ask None path never e = cc
 not_asked r ask (Some a) path never e = never a e
 
@@ -156,12 +156,13 @@ module _ {S : Type 0} (g : Ghosts S) (limits : Limits) (s : model.Registry) (f :
           rest = sends.sends.rest;
           whole = sends.sends.whole;
           some = sends.sends.sends.sent (omega (arith, sends.sends.sends.calls, begun));
+          unsent = sends.sends.unsent (omega (arith, sends.sends.sends.calls, begun));
           appends = sends.sends.sends.all;
         },
       )
 
 -- the request is routed, and replied as what is wanted of it
-pub routed : {S T W : Type 0} {g : Ghosts S} {told_of : T → Option Text} {held : W → Option Text} {old new : Registry S} {k0 k1 : TrailEnd T} {w0 w1 : CountedEnd W} {had left : ℕ} {r : Result (Unit {0}) StreamFault}
+pub routed : {S T W : Type 0} {g : Ghosts S} {told_of : T → Option Text} {held : W → Option Text} {old new : Running S} {k0 k1 : TrailEnd T} {w0 w1 : CountedEnd W} {had left : ℕ} {r : Result (Unit {0}) StreamFault}
     (limits : Limits) (f : Facts) (there : Routing) (close : Bool) (request : ApiRequest) (routing : Result ApiRequest RouteFault) → routing ≡ Ok request → IsRouted f.token there routing
     → AnswersRequest g (IsRequestReplied g limits request close) told_of held old new k0 k1 w0 w1 had left r → AnswersRequest g (IsReplied g limits f there close) told_of held old new k0 k1 w0 w1 had left r
 routed limits f there close request routing is leads it =

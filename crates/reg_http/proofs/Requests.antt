@@ -1,7 +1,7 @@
 -- The requests of a stream that were answered, and what comes of the next.
 use Rattle.reg_http.proofs.Words.{◌≡◌, ◌≤◌, ◌+◌, ◌||◌, ◌==◌, ◌∙◌, ℕ, Bool, true, false, sym, ap, subst, drop, length, take, Option, Result}
 use Rattle.reg_http.proofs.Words.{Ok, Err, Appends, Ghosts, CountedEnd, Limits, Facts, facts_owned, Takes, Sends, SpendsFor, SpendsSome}
-use Rattle.reg_http.proofs.Words.{tally, writes_of, StreamFault, OwnedHead, Rule, Text, Shows, limits_of, tables_of, Registry, shown}
+use Rattle.reg_http.proofs.Words.{tally, writes_of, StreamFault, OwnedHead, Rule, Text, StandsIn, limits_of, tables_of, Running, shown}
 use Rattle.reg_http.proofs.Words.{AnswersRequest, GoesOn, ServesStreamTraced, SpendsLent, closing_text, IsTrailed, TrailEnd, tail}
 use Rattle.std.proofs.Common.{IsErrAnd}
 use Rattle.sqlite.specs.State.{HasCleanDisk}
@@ -12,23 +12,23 @@ use Rattle.reg_model.specs.Registry as model
 use Rattle.reg_http.specs.Answering.{IsMessageReplied}
 use Rattle.reg_http.proofs.Exchanged.{EventsGoOn}
 use Rattle.reg_http.proofs.Kept.{goes_on}
-use Rattle.reg_http.proofs.Steps.{HeadsStandAlone, HeadsStay, Holds, refusal_failed, refusal_sent, taking_ended, taking_failed, whole_failed, whole_last, whole_sent, wrote_for, wrote_some}
+use Rattle.reg_http.proofs.Steps.{HeadsStandAlone, HeadsStay, HoldsSoFar, refusal_failed, refusal_sent, taking_ended, taking_failed, whole_failed, whole_last, whole_sent, wrote_for, wrote_some}
 use Rattle.reg_http.proofs.Trails.{trailed_on}
 
 module _ {S R W T : Type 0} (g : Ghosts S) (read : R → Option Text) (held : W → Option Text)
-    (told_of : T → Option Text) (old : Registry S) (r0 : CountedEnd R) (w0 : CountedEnd W) (e0 : TrailEnd T) where
+    (told_of : T → Option Text) (old : Running S) (r0 : CountedEnd R) (w0 : CountedEnd W) (e0 : TrailEnd T) where
   -- they were answered, and the rest was read beyond them
-  pub record Answered (now : Registry S) (e : TrailEnd T) (r : CountedEnd R) (w : CountedEnd W) (rest : Text)
+  pub record Answered (now : Running S) (e : TrailEnd T) (r : CountedEnd R) (w : CountedEnd W) (rest : Text)
       (count left : ℕ) : Type 0 where
     pub keeps : GoesOn g old now
-    pub holds : HasCleanDisk (shown g (tables_of now)) → (s : model.Registry) → Shows s (shown g (tables_of old))
-        → Holds g (limits_of old) s (tables_of old) (tail (told_of e0.end.inner) e0) (tail (told_of e.end.inner) e)
+    pub holds : HasCleanDisk (shown g (tables_of now)) → (s : model.Registry) → StandsIn s (shown g (tables_of old))
+        → HoldsSoFar g (limits_of old) s (tables_of old) (tail (told_of e0.end.inner) e0) (tail (told_of e.end.inner) e)
         (read r0.inner) (read r.inner) (held w0.inner) (held w.inner) rest count (tables_of now)
     pub spends : SpendsSome (limits_of old).turns left (tally r0 w0) (tally r w)
     pub told : IsTrailed (tail (told_of e0.end.inner) e0) (tail (told_of e.end.inner) e)
 
   -- one more is there whole, and this is its message
-  pub record Asked (now : Registry S) (e : TrailEnd T) (r2 : CountedEnd R) (w2 : CountedEnd W)
+  pub record Asked (now : Running S) (e : TrailEnd T) (r2 : CountedEnd R) (w2 : CountedEnd W)
       (count left2 : ℕ) (waits : Text) (b : OwnedHead) (close : Bool) (facts : Facts) (body : Text) (shut : Bool) : Type 0 where
     pub alone : HeadsStandAlone
     pub stay : HeadsStay
@@ -52,15 +52,15 @@ module _ {S R W T : Type 0} (g : Ghosts S) (read : R → Option Text) (held : W 
     pub shut_is : shut ≡ close
 
 module _ {S R W T : Type 0} {g : Ghosts S} {read : R → Option Text} {held : W → Option Text}
-    {told_of : T → Option Text} {old : Registry S} {r0 : CountedEnd R} {w0 : CountedEnd W} {e0 : TrailEnd T} where
+    {told_of : T → Option Text} {old : Running S} {r0 : CountedEnd R} {w0 : CountedEnd W} {e0 : TrailEnd T} where
   -- what the exit of a `?` returns
-  pub exits : {now : Registry S} {r : CountedEnd R} {w : CountedEnd W} {e : TrailEnd T} {fault : StreamFault} (result : Result ℕ StreamFault)
+  pub exits : {now : Running S} {r : CountedEnd R} {w : CountedEnd W} {e : TrailEnd T} {fault : StreamFault} (result : Result ℕ StreamFault)
       → IsErrAnd result (λ y. y ≡ fault)
       → ServesStreamTraced g SpendsLent read held old now r0 r w0 w told_of e0 e (Err fault) → ServesStreamTraced g SpendsLent read held old now r0 r w0 w told_of e0 e result
   exits (Ok count) is it = absurd is
   exits {now} {r} {w} {e} (Err fault) is it = rw is it
 
-  module _ {now : Registry S} {e : TrailEnd T} {r : CountedEnd R} {w : CountedEnd W} {rest : Text} {count left : ℕ} (it : Answered g read held told_of old r0 w0 e0 now e r w rest count left)
+  module _ {now : Running S} {e : TrailEnd T} {r : CountedEnd R} {w : CountedEnd W} {rest : Text} {count left : ℕ} (it : Answered g read held told_of old r0 w0 e0 now e r w rest count left)
       (r2 : CountedEnd R) (w2 : CountedEnd W) (left2 : ℕ) (waits : Text) (limits : Limits) (limits_are : limits ≡ limits_of old) where
     abbrev IsTaken : Result Taken StreamFault → Type 0
     IsTaken result = Takes (read r.inner) (read r2.inner) rest waits (held w.inner) (held w2.inner) limits result
@@ -132,7 +132,7 @@ module _ {S R W T : Type 0} {g : Ghosts S} {read : R → Option Text} {held : W 
         }
 
   -- one more is answered
-  module _ {now : Registry S} {e : TrailEnd T} {r2 : CountedEnd R} {w2 : CountedEnd W} {count left2 : ℕ} {waits : Text} {b : OwnedHead} {close : Bool} {facts : Facts} {body : Text} {shut : Bool}
+  module _ {now : Running S} {e : TrailEnd T} {r2 : CountedEnd R} {w2 : CountedEnd W} {count left2 : ℕ} {waits : Text} {b : OwnedHead} {close : Bool} {facts : Facts} {body : Text} {shut : Bool}
       (asked : Asked g read held told_of old r0 w0 e0 now e r2 w2 count left2 waits b close facts body shut) where
     spends_so_far : SpendsSome (limits_of old).turns left2 (tally r0 w0) (tally r2 w2)
     spends_so_far = spends_some (limits_of old).turns asked.left left2 (tally r0 w0) (tally asked.r asked.w) (tally r2 w2) asked.so_far.spends asked.spends
@@ -145,7 +145,7 @@ module _ {S R W T : Type 0} {g : Ghosts S} {read : R → Option Text} {held : W 
     closes_so : close ≡ (b.close || count + 1 == (limits_of old).replies)
     closes_so = asked.close_is ∙ ap (λ l. b.close || count + 1 == l.replies) asked.limits_are
 
-    module _ {new : Registry S} {e2 : TrailEnd T} {w3 : CountedEnd W} {left3 : ℕ} where
+    module _ {new : Running S} {e2 : TrailEnd T} {w3 : CountedEnd W} {left3 : ℕ} where
       pub request_lost : {fault : StreamFault} → AnswersRequest g (IsMessageReplied g (limits_of now) facts body shut) told_of held now new e e2 w2 w3 left2 left3 (Err fault)
           → ServesStreamTraced g SpendsLent read held old new r0 r2 w0 w3 told_of e0 e2 (Err fault)
       request_lost {fault} answer =

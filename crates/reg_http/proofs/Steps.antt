@@ -3,7 +3,7 @@ use Rattle.reg_http.proofs.Words.{◌≡◌, ◌≤◌, ◌+◌, ◌++◌, ◌||
 use Rattle.reg_http.proofs.Words.{arith, append_assoc, length, take, drop, Option, Result, Ok, Err, Appends, Appends-trans, Appends-nil}
 use Rattle.reg_http.proofs.Words.{Ghosts, Limits, Facts, Rule, Text, facts_owned, Takes, CountedEnd, Sends, SpendsFor, SpendsSome, tally}
 use Rattle.reg_http.proofs.Words.{writes_of, StreamFault, Memory, ReadFault, StoreFault, TooManyTurns, WriteFault, OwnedHead, routing_of}
-use Rattle.reg_http.proofs.Words.{Shows, Ran, Tables, shown, Replies, Exchange, IsOfFile, answers_in, events_in, Goes, HasRun, IsOpen}
+use Rattle.reg_http.proofs.Words.{StandsIn, Ran, Tables, shown, Replies, Exchange, IsOfFile, answers_in, events_in, HaveExchanged, HasRun, IsOpen}
 use Rattle.reg_http.proofs.Words.{closing_text, told, trail_in, Tail, Trails}
 use Rattle.std.proofs.Common.{take-append-drop}
 use Rattle.std.proofs.lemmas.Bool.{or_parts}
@@ -24,13 +24,13 @@ use Rattle.reg_http.proofs.Trails.{trails_nothing}
 use Rattle.reg_http.proofs.Exchanged.{EventsGoOn, goes_front, goes_push, goes_read, run_on}
 
 -- the exchanges so far, between two states of a reader and of a writer
-pub record Holds {S : Type 0} (g : Ghosts S) (limits : Limits) (s : model.Registry) (entry : Tables S) (k0 k1 : Tail) (r0 r1 w0 w1 : Option Text) (rest : Text) (count : ℕ) (now : Tables S) : Type 0 where
+pub record HoldsSoFar {S : Type 0} (g : Ghosts S) (limits : Limits) (s : model.Registry) (entry : Tables S) (k0 k1 : Tail) (r0 r1 w0 w1 : Option Text) (rest : Text) (count : ℕ) (now : Tables S) : Type 0 where
   pub read : Text
   pub written : Text
   pub consumed : Consumes r0 r1 read
   pub appended : Appends w0 w1 written
   pub done : List Exchange
-  pub goes : Goes limits done read written rest count
+  pub goes : HaveExchanged limits done read written rest count
   pub run : HasRun g limits s entry now done
   pub tells : Trails k0 k1 (trail_in limits s done)
 
@@ -42,7 +42,7 @@ abbrev pub HeadsStay : Type 0
 HeadsStay = (limits : Limits) (b more : Text) (f : Facts) → IsHeadAt limits b f → IsHeadAt limits (b ++ more) f
 
 module _ {S : Type 0} (g : Ghosts S) (limits : Limits) (s : model.Registry) (entry : Tables S) where
-  pub holds_start : (k : Tail) (r w : Option Text) (now : Tables S) → Ran g limits s entry [] [] s now → Holds g limits s entry k k r r w w [] 0 now
+  pub holds_start : (k : Tail) (r w : Option Text) (now : Tables S) → Ran g limits s entry [] [] s now → HoldsSoFar g limits s entry k k r r w w [] 0 now
   holds_start k r w now ran = record {
     read = [];
     written = [];
@@ -58,13 +58,13 @@ module _ {S : Type 0} (g : Ghosts S) (limits : Limits) (s : model.Registry) (ent
   pub untouched : (k : Tail) (r w : Option Text) (now : Tables S) → Ran g limits s entry [] [] s now → ServesTraced g limits s entry now k k r r w w (Err Memory)
   untouched k r w now ran = ([], (s, ran), ([], [], Consumes-nil r, Appends-nil w, record { nothing_read = refl; nothing_written = refl; nothing_done = refl }), trails_nothing k)
 
-  module _ (k0 k1 : Tail) (r0 r1 w0 w1 : Option Text) (rest : Text) (count : ℕ) (now : Tables S) (h : Holds g limits s entry k0 k1 r0 r1 w0 w1 rest count now) (r2 w2 : Option Text) where
+  module _ (k0 k1 : Tail) (r0 r1 w0 w1 : Option Text) (rest : Text) (count : ℕ) (now : Tables S) (h : HoldsSoFar g limits s entry k0 k1 r0 r1 w0 w1 rest count now) (r2 w2 : Option Text) where
     -- what was read since
     module _ (bytes : Text) (consumed : Consumes r1 r2 bytes) where
       consumes : Consumes r0 r2 (h.read ++ bytes)
       consumes = Consumes-trans r0 r1 r2 h.read bytes h.consumed consumed
 
-      goes : Goes limits h.done (h.read ++ bytes) h.written (rest ++ bytes) count
+      goes : HaveExchanged limits h.done (h.read ++ bytes) h.written (rest ++ bytes) count
       goes = goes_read limits h.done h.read h.written rest count h.goes bytes
 
       appends : (more : Text) → Appends w1 w2 more → Appends w0 w2 (h.written ++ more)
@@ -192,7 +192,7 @@ module _ {S : Type 0} (g : Ghosts S) (limits : Limits) (s : model.Registry) (ent
           subst (λ l. IsHeadAt limits l f) (ap (λ l. l ++ drop f.len message) (sym own) ∙ take-append-drop f.len message)
           (stay limits (take f.len waits) (drop f.len message) f (alone limits waits f there))
 
-      goes_whole : Goes limits h.done (h.read ++ bytes) h.written (message ++ later) count
+      goes_whole : HaveExchanged limits h.done (h.read ++ bytes) h.written (message ++ later) count
       goes_whole =
           goes_front limits h.done (h.read ++ bytes) h.written (rest ++ bytes) count (goes bytes consumed) (message ++ later)
           (sym same ∙ sym (take-append-drop (b.len + b.body_len) waits))
@@ -225,7 +225,7 @@ module _ {S : Type 0} (g : Ghosts S) (limits : Limits) (s : model.Registry) (ent
             (Appends-trans w0 w2 w3 (h.written ++ interim_of f) (outcome_text limits f close replies.outcome) (appends bytes consumed (interim_of f) asked_on) sent)
 
         -- the connection goes on
-        answered : Appends w2 w3 (outcome_text limits f close replies.outcome) → close ≡ false → Holds g limits s entry k0 k2 r0 r2 w0 w3 later (count + 1) new
+        answered : Appends w2 w3 (outcome_text limits f close replies.outcome) → close ≡ false → HoldsSoFar g limits s entry k0 k2 r0 r2 w0 w3 later (count + 1) new
         answered sent stays =
             let parts = or_parts f.close (count + 1 == limits.replies) (sym close_is ∙ stays) in record {
               read = h.read ++ bytes;
@@ -305,6 +305,7 @@ module _ {S : Type 0} (g : Ghosts S) (limits : Limits) (s : model.Registry) (ent
             of_file = file;
             reply = ap (λ c. reply_of limits c this) (sym close_is) ∙ begun.whole;
             some = begun.some;
+            unsent = begun.unsent;
             wrote = refl;
             whole = refl;
           },
@@ -312,13 +313,13 @@ module _ {S : Type 0} (g : Ghosts S) (limits : Limits) (s : model.Registry) (ent
 
       -- what the registry replied, whatever it held
       abbrev IsReplying : Result (Unit {0}) StreamFault → Type 0
-      IsReplying result = (t : model.Registry) → Shows t (shown g now) → Replies g limits f (routing_of f (drop f.len message)) close t now new k1 k2 w2 w3 result
+      IsReplying result = (t : model.Registry) → StandsIn t (shown g now) → Replies g limits f (routing_of f (drop f.len message)) close t now new k1 k2 w2 w3 result
 
       -- the run so far, which is h's
       abbrev t0 : model.Registry
       t0 = h.run.0
 
-      pub reply_sent : (u : Unit {0}) → IsReplying (Ok u) → close ≡ false → Holds g limits s entry k0 k2 r0 r2 w0 w3 later (count + 1) new
+      pub reply_sent : (u : Unit {0}) → IsReplying (Ok u) → close ≡ false → HoldsSoFar g limits s entry k0 k2 r0 r2 w0 w3 later (count + 1) new
       reply_sent u all stays = let it = all t0 h.run.1.shows in answered t0 (Ok u) h.run.1 it it.sends stays
 
       pub last_sent : (u : Unit {0}) → IsReplying (Ok u) → close ≡ true → ServesTraced g limits s entry new k0 k2 r0 r2 w0 w3 (Ok (count + 1))
@@ -338,7 +339,7 @@ module _ {S : Type 0} (g : Ghosts S) (limits : Limits) (s : model.Registry) (ent
     module _ (alone : HeadsStandAlone) (stay : HeadsStay) (law : EventsGoOn g) (waits : Text) (b : OwnedHead) (takes : Takes r1 r2 rest waits w1 w2 limits (Ok (taken.Whole b))) (close : Bool)
         (close_is : close ≡ (b.close || count + 1 == limits.replies)) (new : Tables S) (k2 : Tail) (w3 : Option Text) where
       abbrev Replied : Result (Unit {0}) StreamFault → Type 0
-      Replied result = (t : model.Registry) → Shows t (shown g now)
+      Replied result = (t : model.Registry) → StandsIn t (shown g now)
           → Replies g limits (facts_owned b) (routing_of (facts_owned b) (drop b.len (take (b.len + b.body_len) waits))) close t now new k1 k2 w2 w3 result
 
       there_is : IsHeadAt limits waits (facts_owned b)
@@ -347,7 +348,7 @@ module _ {S : Type 0} (g : Ghosts S) (limits : Limits) (s : model.Registry) (ent
       fits : b.len + b.body_len ≤ length waits
       fits = omega (arith, takes.2.2, ap (λ l. length l) takes.2.0)
 
-      pub whole_sent : (u : Unit {0}) → Replied (Ok u) → close ≡ false → Holds g limits s entry k0 k2 r0 r2 w0 w3 (drop (b.len + b.body_len) waits) (count + 1) new
+      pub whole_sent : (u : Unit {0}) → Replied (Ok u) → close ≡ false → HoldsSoFar g limits s entry k0 k2 r0 r2 w0 w3 (drop (b.len + b.body_len) waits) (count + 1) new
       whole_sent u all = reply_sent alone stay law waits b there_is fits takes.0 takes.1 takes.2.0 takes.2.3 close close_is new k2 w3 u all
 
       pub whole_last : (u : Unit {0}) → Replied (Ok u) → close ≡ true → ServesTraced g limits s entry new k0 k2 r0 r2 w0 w3 (Ok (count + 1))

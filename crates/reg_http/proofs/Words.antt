@@ -23,12 +23,11 @@ pub use Rattle.reg_model.specs.Events.{Answer, Event}
 pub use Rattle.reg_model.specs.Registry.{Text}
 pub use Rattle.reg_model.specs.Steps.{IsFit}
 pub use Rattle.reg_model.specs.declared.rule.Rule.{Rule}
-pub use Rattle.reg_service.specs.Acted.{HasLine}
-pub use Rattle.reg_service.specs.Answered.{Answers, Shows}
-pub use Rattle.reg_service.specs.Registries.{limits_of, tables_of}
+pub use Rattle.reg_service.specs.Traced.{HasLine}
+pub use Rattle.reg_service.specs.Answered.{Answers, StandsIn}
+pub use Rattle.reg_service.specs.Registries.{Running, limits_of, tables_of}
 pub use Rattle.reg_service.specs.Sequences.{Ran}
 pub use Rattle.reg_service.specs.Streamed.{Finds}
-pub use Rattle.reg_service.specs.declared.registry.Registry.{Registry}
 pub use Rattle.reg_tables.specs.Works.{shown}
 pub use Rattle.reg_tables.specs.declared.tables.Tables.{Tables}
 pub use Rattle.sqlite_trees.specs.declared.store.Store.{Ghosts}
@@ -36,5 +35,5 @@ pub use Rattle.reg_http.specs.Answering.{AnswersRequest, GoesOn, Replies}
 pub use Rattle.reg_http.specs.Exchanges.{Exchange, IsOfFile, Outcome, answers_in, events_in}
 pub use Rattle.reg_http.specs.Exchanges.Outcome.{Answered, NoMethod, NoRoom, NoRoute, Unread}
 pub use Rattle.reg_http.specs.Serving.{ServesStreamTraced, SpendsLent}
-pub use Rattle.reg_http.specs.Streams.{Goes, HasRun, IsOpen, closing_text, told, trail_in}
+pub use Rattle.reg_http.specs.Streams.{HaveExchanged, HasRun, IsOpen, closing_text, told, trail_in}
 pub use Rattle.reg_http.specs.Trails.{IsTrailed, Tail, TrailEnd, Trails, tail}

@@ -19,10 +19,9 @@ use Rattle.reg_api_requests.specs.Requests.{request_from}
 use Rattle.reg_api_requests.specs.Views.{event_of}
 use Rattle.reg_api_requests.specs.Wants.{Wants, wants_of}
 use Rattle.reg_api_requests.specs.declared.request.ApiRequest.{ApiRequest}
-use Rattle.reg_service.specs.Answered.{Answers, Shows}
-use Rattle.reg_service.specs.Registries.{IsUpToDate, limits_of, tables_of}
+use Rattle.reg_service.specs.Answered.{Answers, StandsIn}
+use Rattle.reg_service.specs.Registries.{Running, limits_of, tables_of}
 use Rattle.reg_service.specs.Streamed.{Finds}
-use Rattle.reg_service.specs.declared.registry.Registry.{Registry}
 use Rattle.reg_service_index.specs.declared.found.FoundFile.{FoundFile}
 use Rattle.reg_tables.specs.declared.tables.Tables.{Tables}
 use Rattle.reg_tables.specs.Works.{shown}
@@ -45,12 +44,13 @@ Moves g limits s f (Answered w a) old new k0 k1 =
     IsFit e × Answers g limits s e a old new × Trails k0 k1 (told limits s e a)
 Moves g limits s f o old new k0 k1 = (new ≡ old) × (k1 ≡ k0)
 
--- a front of the text was appended, and it is not empty
+-- some of the text was appended, and not all of it
 pub record AppendsSome (text : Text) (old new : Option Text) : Type 0 where
   pub front : Text
   pub rest : Text
   pub whole : text ≡ front ++ rest
   pub some : 0 < length front
+  pub unsent : 0 < length rest
   pub appends : Appends old new front
 
 -- What sending the text of an outcome did. The rows of an index file may fail to be read once its
@@ -73,7 +73,7 @@ pub record Replies {S : Type 0} (g : Ghosts S) (limits : Limits) (f : Facts) (th
 abbrev pub IsReplied : {S : Type 0} → Ghosts S → Limits → Facts → Routing → Bool → Tables S
     → Tables S → Tail → Tail → Option Text → Option Text → Result (Unit {0}) StreamFault → Type 0
 IsReplied g limits f there close old new k0 k1 w0 w1 r =
-    HasCleanDisk (shown g new) → (s : model.Registry) → Shows s (shown g old)
+    HasCleanDisk (shown g new) → (s : model.Registry) → StandsIn s (shown g old)
     → Replies g limits f there close s old new k0 k1 w0 w1 r
 
 -- what is wanted of a request is replied so, whatever else its head tells
@@ -98,9 +98,8 @@ abbrev pub IsMessageReplied : {S : Type 0} → Ghosts S → Limits → Facts →
 IsMessageReplied g limits f body close old new k0 k1 w0 w1 r =
     IsReplied g limits f (routing_of f body) close old new k0 k1 w0 w1 r
 
--- the registry goes on: its tables are ours, and its limits the same
-pub record GoesOn {S : Type 0} (g : Ghosts S) (old new : Registry S) : Type 0 where
-  pub tables : IsUpToDate g new
+-- the registry goes on: its limits are the same
+pub record GoesOn {S : Type 0} (g : Ghosts S) (old new : Running S) : Type 0 where
   pub clean : HasCleanDisk (shown g (tables_of new)) → HasCleanDisk (shown g (tables_of old))
   pub limits : limits_of new ≡ limits_of old
 
@@ -109,7 +108,7 @@ pub record GoesOn {S : Type 0} (g : Ghosts S) (old new : Registry S) : Type 0 wh
 pub record AnswersRequest {S T W : Type 0} (g : Ghosts S)
     (IsSo : Tables S → Tables S → Tail → Tail → Option Text → Option Text
     → Result (Unit {0}) StreamFault → Type 0)
-    (told_of : T → Option Text) (held : W → Option Text) (old new : Registry S)
+    (told_of : T → Option Text) (held : W → Option Text) (old new : Running S)
     (k0 k1 : TrailEnd T) (w0 w1 : CountedEnd W) (had left : ℕ)
     (r : Result (Unit {0}) StreamFault) : Type 0 where
   pub replied : IsSo (tables_of old) (tables_of new) (tail (told_of k0.end.inner) k0)

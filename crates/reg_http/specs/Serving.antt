@@ -5,16 +5,14 @@ use Rattle.reg_body.specs.Counting.{CountedEnd}
 use Rattle.reg_model.specs.Registry.{Text}
 use Rattle.reg_http_read.specs.Turns.{Spends, SpendsTurns, Tally, tally}
 use Rattle.reg_http_read.specs.declared.fault.StreamFault.{StreamFault}
-use Rattle.reg_service.specs.Registries.{IsUpToDate, limits_of}
-use Rattle.reg_service.specs.declared.registry.Registry.{Registry}
+use Rattle.reg_service.specs.Registries.{Running, limits_of}
 use Rattle.reg_http.specs.Answering.{GoesOn}
 use Rattle.reg_http.specs.Streams.{IsServing, IsServingTraced}
 use Rattle.reg_http.specs.Trails.{IsTrailed, TrailEnd, tail}
 
--- the tables are ours, and as many reads and as many writes as a stream has turns can be counted
-pub record MayServe {S R W : Type 0} (g : Ghosts S) (registry : Registry S) (r : CountedEnd R)
-    (w : CountedEnd W) : Type 0 where
-  pub tables : IsUpToDate g registry
+-- as many reads and as many writes as a stream has turns can be counted
+pub record MayServe {S R W : Type 0} (registry : Running S) (r : CountedEnd R) (w : CountedEnd W)
+    : Type 0 where
   pub reads : r.calls + (limits_of registry).turns < 2 ^ 64
   pub writes : w.calls + (limits_of registry).turns < 2 ^ 64
 
@@ -28,7 +26,7 @@ SpendsOwn had left old new result = Spends had left old new result
 
 module _ {S R W : Type 0} (g : Ghosts S)
     (Counts : ℕ → ℕ → Tally → Tally → Result ℕ StreamFault → Type 0) (read : R → Option Text)
-    (held : W → Option Text) (old new : Registry S) (r0 r1 : CountedEnd R)
+    (held : W → Option Text) (old new : Running S) (r0 r1 : CountedEnd R)
     (w0 w1 : CountedEnd W) where
   -- what was written is what a run of the registry replies to what was read
   pub record ServesStream (result : Result ℕ StreamFault) : Type 0 where

@@ -11,10 +11,9 @@ use Rattle.reg_model.specs.Registry as model
 use Rattle.reg_model.specs.Registry.{Text}
 use Rattle.reg_model.specs.Trail.{trail}
 use Rattle.reg_api_replies.specs.Texts.{refusal_text}
-use Rattle.reg_service.specs.Answered.{Shows}
-use Rattle.reg_service.specs.Registries.{limits_of, tables_of}
+use Rattle.reg_service.specs.Answered.{StandsIn}
+use Rattle.reg_service.specs.Registries.{Running, limits_of, tables_of}
 use Rattle.reg_service.specs.Sequences.{Ran}
-use Rattle.reg_service.specs.declared.registry.Registry.{Registry}
 use Rattle.reg_tables.specs.declared.tables.Tables.{Tables}
 use Rattle.reg_tables.specs.Works.{shown}
 use Rattle.reg_http_read.specs.Begun.{IsBegun, IsRefused, interim_of}
@@ -40,7 +39,8 @@ pub record IsOpen (limits : Limits) (x : Exchange) : Type 0 where
 
 -- These exchanges were done, one after another, and the rest was read beyond them. None of them
 -- closed the connection.
-pub record Goes (limits : Limits) (done : List Exchange) (read written rest : Text) (count : ℕ)
+pub record HaveExchanged (limits : Limits) (done : List Exchange) (read written rest : Text)
+    (count : ℕ)
     : Type 0 where
   pub reads : read ≡ asked done ++ rest
   pub wrote : written ≡ replied limits done
@@ -58,7 +58,7 @@ module _ (limits : Limits) (all : List Exchange) where
     pub rest : Text
     pub before : Text
     pub more : Text
-    pub goes : Goes limits all read before rest count
+    pub goes : HaveExchanged limits all read before rest count
     pub begun : IsBegun limits rest more
     pub wrote : written ≡ before ++ more
 
@@ -69,7 +69,7 @@ module _ (limits : Limits) (all : List Exchange) where
     pub later : Text
     pub before : Text
     pub number : ℕ
-    pub goes : Goes limits done read before (last.message ++ later) number
+    pub goes : HaveExchanged limits done read before (last.message ++ later) number
     pub exchange : IsExchange limits last
     pub closing : closes limits last.facts (number + 1) ≡ true
     pub wrote : written ≡ before ++ told limits true last
@@ -84,7 +84,7 @@ module _ (limits : Limits) (all : List Exchange) where
     pub broken : Rule
     pub head_only : Bool
     pub number : ℕ
-    pub goes : Goes limits all read before rest number
+    pub goes : HaveExchanged limits all read before rest number
     pub refused : IsRefused limits rest more broken head_only
     pub wrote : written ≡ before ++ (more ++ closing_text broken head_only)
     pub count_is : count ≡ number + 1
@@ -107,12 +107,12 @@ module _ (limits : Limits) (all : List Exchange) where
     pub front : Text
     pub back : Text
     pub number : ℕ
-    pub goes : Goes limits done read before rest number
+    pub goes : HaveExchanged limits done read before rest number
     pub next : IsNext done rest number (front ++ back)
     pub wrote : written ≡ before ++ front
 
   -- The store failed: after the exchanges, and the interim line of one more, whose answer is an
-  -- index file, a front of its reply was written that is not empty.
+  -- index file, some of its reply was written, and not all of it.
   pub record IsBrokenOff (read written : Text) : Type 0 where
     pub done : List Exchange
     pub last : Exchange
@@ -121,11 +121,12 @@ module _ (limits : Limits) (all : List Exchange) where
     pub front : Text
     pub back : Text
     pub number : ℕ
-    pub goes : Goes limits done read before (last.message ++ later) number
+    pub goes : HaveExchanged limits done read before (last.message ++ later) number
     pub exchange : IsExchange limits last
     pub of_file : IsOfFile last.outcome
     pub reply : reply_of limits (closes limits last.facts (number + 1)) last ≡ front ++ back
     pub some : 0 < length front
+    pub unsent : 0 < length back
     pub wrote : written ≡ before ++ (interim_of last.facts ++ front)
     pub whole : all ≡ done ++ last ∷ []
 
@@ -179,17 +180,17 @@ ServesTraced g limits s entry now k0 k1 r0 r1 w0 w1 result = (xs : List Exchange
     × Trails k0 k1 (trail_in limits s xs)
 
 -- whatever registry was held, what was written is what a run of it replies to what was read
-abbrev pub IsServing : {S : Type 0} → Ghosts S → Registry S → Registry S
+abbrev pub IsServing : {S : Type 0} → Ghosts S → Running S → Running S
     → Option Text → Option Text → Option Text → Option Text → Result ℕ StreamFault → Type 0
 IsServing g old new r0 r1 w0 w1 result =
     HasCleanDisk (shown g (tables_of new)) → (s : model.Registry)
-    → Shows s (shown g (tables_of old))
+    → StandsIn s (shown g (tables_of old))
     → Serves g (limits_of old) s (tables_of old) (tables_of new) r0 r1 w0 w1 result
 
 -- the same, and its trail is told
-abbrev pub IsServingTraced : {S : Type 0} → Ghosts S → Registry S → Registry S → Tail → Tail
+abbrev pub IsServingTraced : {S : Type 0} → Ghosts S → Running S → Running S → Tail → Tail
     → Option Text → Option Text → Option Text → Option Text → Result ℕ StreamFault → Type 0
 IsServingTraced g old new k0 k1 r0 r1 w0 w1 result =
     HasCleanDisk (shown g (tables_of new)) → (s : model.Registry)
-    → Shows s (shown g (tables_of old))
+    → StandsIn s (shown g (tables_of old))
     → ServesTraced g (limits_of old) s (tables_of old) (tables_of new) k0 k1 r0 r1 w0 w1 result

@@ -4,7 +4,7 @@ ghost use Rattle.std.specs.Prelude.{◌≡◌, ◌+◌, ◌^◌, ◌<◌, None, 
 ghost use Rattle.reg_http_read.specs.Reads.{facts_of};
 ghost use Rattle.reg_http_read.specs.Turns.{Sends, SpendsTurns, writes_of};
 ghost use Rattle.reg_api_replies.specs.Texts.{refusal_text};
-ghost use Rattle.reg_service.specs.Registries.{IsUpToDate, limits_of, tables_of};
+ghost use Rattle.reg_service.specs.Registries.{limits_of, tables_of};
 ghost use Rattle.reg_http.specs.Answering.{AnswersRequest, GoesOn, IsFileReplied, IsMessageReplied, IsRequestReplied, fault_reply};
 ghost use Rattle.reg_http.specs.Trails.{Tail};
 
@@ -16,7 +16,7 @@ use reg_body::Counted;
 use reg_http_read::{Head, StreamFault, send_reply};
 use reg_http_routes::{RouteFault, Routes};
 use reg_policy::Rule;
-use reg_service::{Acted, Answered, FoundFile, IndexFault, Registry};
+use reg_service::{Answered, FoundFile, IndexFault, Registry, TracedReply};
 use sqlite::Alter;
 use std::alloc::Global;
 use std::io::Write;
@@ -67,7 +67,6 @@ fn send_index<W: Write, S: Alter>(
     close: bool,
     left: &mut u64,
 ) -> Result<(), StreamFault>
-    requires tables { IsUpToDate S.Store registry.old }
     requires room { w.old.calls + left.old < 2 ^ 64 }
     ensures replied { (k : Tail) → IsFileReplied S.Store file.now close
         (tables_of registry.old) (tables_of registry.new) k
@@ -98,7 +97,6 @@ fn answer<W: Write, T: Write, S: Alter>(
     close: bool,
     left: &mut u64,
 ) -> Result<(), StreamFault>
-    requires tables { IsUpToDate S.Store registry.old }
     requires room { w.old.calls + left.old < 2 ^ 64 }
     ensures { AnswersRequest S.Store
         (IsRequestReplied S.Store (limits_of registry.old) request.now close)
@@ -106,9 +104,9 @@ fn answer<W: Write, T: Write, S: Alter>(
         left.old left.new result }
 {
     answer_law();
-    match registry.act(alloc, request, trail.is_open()) {
+    match registry.handle_traced(alloc, request, trail.is_open()) {
         Answered::Replied(acted) => {
-            let Acted { reply, line } = acted;
+            let TracedReply { reply, line } = acted;
             trail.tell(line);
             send_reply(w, &reply, close, false, left)
         }
@@ -126,7 +124,6 @@ pub(crate) fn answer_message<W: Write, T: Write, S: Alter>(
     message: &Message<'_, '_>,
     left: &mut u64,
 ) -> Result<(), StreamFault>
-    requires tables { IsUpToDate S.Store registry.old }
     requires room { w.old.calls + left.old < 2 ^ 64 }
     ensures { AnswersRequest S.Store (IsMessageReplied S.Store (limits_of registry.old)
         (facts_of message.now.head) message.now.body.now message.now.close)

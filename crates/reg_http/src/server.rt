@@ -47,7 +47,7 @@ impl Server {
         w: &mut Counted<W>,
         trail: &mut Trail<T>,
     ) -> Result<u64, StreamFault>
-        requires { MayServe S.Store registry.old r.old w.old }
+        requires { MayServe registry.old r.old w.old }
         ensures { ServesStreamTraced S.Store SpendsLent R.remaining W.contents registry.old
             registry.new r.old r.new w.old w.new T.contents trail.old trail.new result }
     {
@@ -62,7 +62,7 @@ pub fn serve_stream<R: Read, W: Write, S: Alter>(
     r: &mut Counted<R>,
     w: &mut Counted<W>,
 ) -> Result<u64, StreamFault>
-    requires { MayServe S.Store registry.old r.old w.old }
+    requires { MayServe registry.old r.old w.old }
     ensures { ServesStream S.Store SpendsOwn R.remaining W.contents registry.old registry.new
         r.old r.new w.old w.new result }
 {
@@ -78,7 +78,7 @@ pub fn serve_traced<R: Read, W: Write, T: Write, S: Alter>(
     w: &mut Counted<W>,
     trail: &mut Trail<T>,
 ) -> Result<u64, StreamFault>
-    requires { MayServe S.Store registry.old r.old w.old }
+    requires { MayServe registry.old r.old w.old }
     ensures { ServesStreamTraced S.Store SpendsOwn R.remaining W.contents registry.old registry.new
         r.old r.new w.old w.new T.contents trail.old trail.new result }
 {

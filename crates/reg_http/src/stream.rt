@@ -52,7 +52,7 @@ pub(crate) fn serve_requests<R: Read, W: Write, T: Write, S: Alter>(
     w: &mut Counted<W>,
     chunk: &mut [u8],
 ) -> Result<u64, StreamFault>
-    requires may { MayServe S.Store registry.old r.old w.old }
+    requires may { MayServe registry.old r.old w.old }
     requires some { 0 < length chunk.old }
     ensures served { ServesStreamTraced S.Store SpendsLent R.remaining W.contents registry.old
         registry.new r.old r.new w.old w.new T.contents trail.old trail.new result }

@@ -87,10 +87,10 @@ module _ (asked : spec.FieldsAsked) where
 
 module _ (method target : List ℕ) (n : ℕ) (f : Facts) where
   with_asked_is : (x : Result spec.FieldsAsked Rule) → with_asked method target n x ≡ Ok f
-      → (f.len ≡ n) × ((a : spec.FieldsAsked) × (x ≡ Ok a) × (f.body_len ≡ a.body_len))
+      → (f.len ≡ n) × ((a : spec.FieldsAsked) × (x ≡ Ok a) × (f.body_len ≡ a.body_len)) × (f.method ≡ method)
   with_asked_is (Ok a) is =
       let same : facts_from method target n a ≡ f = cc in
-      (sym (ap (λ g. g.len) same), (a, refl, sym (ap (λ g. g.body_len) same)))
+      (sym (ap (λ g. g.len) same), (a, refl, sym (ap (λ g. g.body_len) same)), sym (ap (λ g. g.method) same))
   with_asked_is (Err r) is = absurd cc
 
 module _ (limits : Limits) (h : RequestHead) (f : Facts) (is : judge_head limits h ≡ Ok f) where
@@ -98,6 +98,10 @@ module _ (limits : Limits) (h : RequestHead) (f : Facts) (is : judge_head limits
   pub judged_len : f.len ≡ length (print_request h)
   unfolding judge_head
   judged_len = (with_asked_is h.method h.target _ f _ is).0
+
+  pub judged_method : f.method ≡ h.method
+  unfolding judge_head
+  judged_method = (with_asked_is h.method h.target _ f _ is).2
 
   -- the body is at most the greatest
   pub judged_body : f.body_len ≤ greatest_body limits

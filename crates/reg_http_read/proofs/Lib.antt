@@ -3,6 +3,7 @@ pub mod Digits
 pub mod Following
 pub mod Judged
 pub mod Lists
+pub mod FirstBytes
 pub mod Read
 pub mod Readings
 pub mod Adding

@@ -1,9 +1,8 @@
 -- What is known of a request while its body is read.
 use Rattle.reg_http_read.proofs.Common.{arith, ◌≡◌, ◌≤◌, ◌<◌, ◌+◌, ◌++◌, inl, inr, refl, ap, ◌∙◌, subst, append_assoc, length, sym, [], Bool}
-use Rattle.reg_http_read.proofs.Common.{true, false, Option, Some, Ok, Err, Consumes-trans, Limits, Facts, IsHeadAt, IsUnfinished, Text}
+use Rattle.reg_http_read.proofs.Common.{Option, Some, Ok, Err, Consumes-trans, Limits, Facts, IsHeadAt, IsUnfinished, Text}
 use Rattle.reg_http_read.proofs.Common.{Rule, IsRefused, is_head_only, facts_owned, Awaits, Fills, Reads, StreamFault, Memory, ReadFault}
 use Rattle.reg_http_read.proofs.Common.{StoreFault, TooManyTurns, WriteFault}
-use Rattle.std.proofs.Common.{◌&&◌, not}
 use Rattle.std.specs.Io.KnownBytes.{Appends}
 use Rattle.std.proofs.KnownBytes.{Appends-nil}
 use Rattle.reg_model.specs.declared.rule.Rule.TheVariants as rule
@@ -12,6 +11,7 @@ use Rattle.reg_http_read.specs.Begun.{interim_if, interim_of}
 use Rattle.reg_http_read.specs.Taking.{HasBegun, IsCutOff, IsFound, Takes}
 use Rattle.reg_http_read.specs.Turns.{Sends}
 use Rattle.reg_http_read.proofs.Following.{head_some, head_within}
+use Rattle.reg_http_read.proofs.FirstBytes.{told_by_first}
 use Rattle.reg_http_read.specs.declared.owned.OwnedHead.{OwnedHead}
 use Rattle.reg_http_read.specs.declared.taking.Awaited.{Awaited}
 use Rattle.reg_http_read.specs.declared.taking.Awaited.TheVariants as awaited
@@ -23,13 +23,11 @@ abbrev HeadsStay : Type 0
 HeadsStay = (limits : Limits) (b more : Text) (f : Facts) → IsHeadAt limits b f → IsHeadAt limits (b ++ more) f
 
 -- there is no room for the head, and nothing was written
-module _ (limits : Limits) (bytes : Text) (f : Facts) (head : IsHeadAt limits bytes f) where
-  by_interim : (waits : Bool) → f.interim ≡ waits → (head_only : Bool) → head_only ≡ (not waits && is_head_only f) → IsRefused limits bytes [] rule.S1 head_only
-  by_interim true is head_only told = inr (refl, inl (omega (arith, head_some limits bytes f head, head_within limits bytes f head), refl, told))
-  by_interim false is head_only told = inr (refl, inr (f, head, ap interim_if (sym is), told))
-
-  pub no_room_kept : (head_only : Bool) → head_only ≡ (not f.interim && is_head_only f) → IsRefused limits bytes [] rule.S1 head_only
-  no_room_kept = by_interim f.interim refl
+pub no_room_kept : (limits : Limits) (bytes : Text) (f : Facts) → IsHeadAt limits bytes f → (head_only : Bool) → head_only ≡ is_head_only f
+    → IsRefused limits bytes [] rule.S1 head_only
+no_room_kept limits bytes f head head_only told =
+    let some : 0 < length bytes = omega (arith, head_some limits bytes f head, head_within limits bytes f head) in
+    inr (refl, inl (some, refl, told ∙ sym (told_by_first limits bytes f head)))
 
 -- what was found in all that was read
 pub found_awaits : (r0 r1 : Option Text) (was now : Text) (limits : Limits) (found : Awaited) → Reads r0 r1 was now (λ rest. now ≡ rest)

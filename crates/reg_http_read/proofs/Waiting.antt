@@ -1,8 +1,9 @@
 -- What one more read brought, behind what waits already.
-use Rattle.reg_http_read.proofs.Common.{◌≡◌, ◌<◌, ◌≤◌, ℕ, inl, inr, refl, false, length, sym, ◌∙◌, subst, Option, Ok, Err, Limits, Text}
+use Rattle.reg_http_read.proofs.Common.{◌≡◌, ◌<◌, ◌≤◌, ℕ, inl, inr, refl, Bool, ap, length, sym, ◌∙◌, subst, Option, Ok, Err, Limits, Text}
 use Rattle.reg_http_read.proofs.Common.{IsUnfinished, Awaits, Fills, IsPiece, Reads, StreamFault, Memory, ReadFault, StoreFault}
 use Rattle.reg_http_read.proofs.Common.{TooManyTurns, WriteFault}
 use Rattle.reg_model.specs.declared.rule.Rule.TheVariants as rule
+use Rattle.reg_http_read.specs.Begun.{begins_head}
 use Rattle.reg_http_read.specs.Taking.{IsLine}
 use Rattle.reg_http_read.specs.declared.reading.Piece.TheVariants as piece
 use Rattle.reg_http_read.specs.declared.taking.Awaited.TheVariants as awaited
@@ -15,9 +16,11 @@ module _ (r0 r1 : Option Text) (was now : Text) (first : Reads r0 r1 was now (λ
   fills_whole total le = let (a, eats, same) = first in (a, eats, (same, subst (λ l. total ≤ length l) same le))
 
   -- there is no memory to look for a head
-  pub await_unread : (limits : Limits) → 0 < length now → Awaits r0 r1 was now limits (Ok (awaited.Refused rule.S1 false))
-  await_unread limits some =
-      let (a, eats, same) = first in (a, eats, inr (refl, inl (subst (λ l. 0 < length l) same some, refl, refl)))
+  pub await_unread : (limits : Limits) (head_only : Bool) → 0 < length now → head_only ≡ begins_head now
+      → Awaits r0 r1 was now limits (Ok (awaited.Refused rule.S1 head_only))
+  await_unread limits head_only some told =
+      let (a, eats, same) = first in
+      (a, eats, inr (refl, inl (subst (λ l. 0 < length l) same some, refl, told ∙ ap begins_head same)))
 
 module _ (r0 r1 r2 : Option Text) (was mid now : Text) (first : Reads r0 r1 was mid (λ rest. mid ≡ rest)) where
   -- what holds of all that waits, where no more was kept

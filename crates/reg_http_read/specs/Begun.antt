@@ -1,7 +1,8 @@
 -- A request of which only a part was read, and what is written for it (RFC 9110, sections 9.3.2 and
 -- 15.2.1; RFC 9112, section 8).
-use Rattle.std.specs.Prelude.{◌≡◌, ◌⊎◌, ◌+◌, ◌<◌, Bool, false, if◌then◌else◌, [], length, codes}
+use Rattle.std.specs.Prelude.{◌≡◌, ◌⊎◌, ◌+◌, ◌<◌, Bool, if◌then◌else◌, [], ◌∷◌, length, take, codes}
 use Rattle.std.specs.Str.{bytes_eq}
+use Rattle.httparse.specs.Pieces.{is_newline}
 use Rattle.reg_body.specs.declared.limits.Limits.{Limits}
 use Rattle.reg_http_read.specs.Heads.{Facts, IsHeadAt, IsRefusedAt, IsUnfinished}
 use Rattle.reg_model.specs.declared.rule.Rule.{Rule}
@@ -11,6 +12,15 @@ use Rattle.reg_model.specs.Registry.{Text}
 -- the method is HEAD: a refusal leaves its body out (RFC 9110, section 9.3.2)
 abbrev pub is_head_only : Facts → Bool
 is_head_only f = bytes_eq f.method (codes "HEAD")
+
+-- the bytes behind the line ends at their front (RFC 9112, section 2.2)
+abbrev pub skip_newlines : Text → Text
+skip_newlines [] = []
+skip_newlines (b ∷ bytes) = if is_newline b then skip_newlines bytes else b ∷ bytes
+
+-- the request that begins in the bytes is for the method HEAD, as far as they tell
+abbrev pub begins_head : Text → Bool
+begins_head bytes = bytes_eq (codes "HEAD ") (take 5 (skip_newlines bytes))
 
 -- the interim line (RFC 9110, section 15.2.1), where it is waited for
 abbrev pub interim_line : Text
@@ -30,11 +40,11 @@ IsBegun limits rest more =
     ⊎ ((f : Facts) × IsHeadAt limits rest f × (length rest < f.len + f.body_len)
     × (more ≡ interim_of f))
 
--- Memory was refused while a request was read: once something of it came and before its head was
--- seen, or after.
+-- Memory was refused while a request was read: once something of it came and before anything was
+-- written, or after. Where its head is whole, both tell the method alike (`first_bytes_law`).
 abbrev pub HasNoRoom : Limits → Text → Text → Bool → Type 0
 HasNoRoom limits rest more head_only =
-    ((0 < length rest) × (more ≡ []) × (head_only ≡ false))
+    ((0 < length rest) × (more ≡ []) × (head_only ≡ begins_head rest))
     ⊎ ((f : Facts) × IsHeadAt limits rest f × (more ≡ interim_of f) × (head_only ≡ is_head_only f))
 
 -- The rest is refused and the connection closes: for the rule that its head breaks, or for want of

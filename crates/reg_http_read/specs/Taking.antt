@@ -5,7 +5,7 @@ use Rattle.reg_body.specs.declared.limits.Limits.{Limits}
 use Rattle.reg_http_read.specs.Heads.{Facts, IsHeadAt, IsUnfinished}
 use Rattle.reg_model.specs.Registry.{Text}
 use Rattle.reg_body.specs.Sent.{AppendsFront}
-use Rattle.reg_http_read.specs.Begun.{IsBegun, IsRefused, interim_if, interim_of}
+use Rattle.reg_http_read.specs.Begun.{IsBegun, IsRefused, begins_head, interim_if, interim_of}
 use Rattle.reg_http_read.specs.Owned.{facts_owned}
 use Rattle.reg_http_read.specs.declared.fault.StreamFault.{StreamFault}
 use Rattle.reg_http_read.specs.declared.fault.StreamFault.TheVariants.{ReadFault, TooManyTurns, WriteFault}
@@ -40,7 +40,8 @@ module _ (r0 r1 : Option Text) (was now : Text) where
   abbrev pub IsPiece : Result Piece StreamFault → Type 0
   IsPiece (Ok piece.End) = Reads (λ rest. now ≡ rest) × IsAtEnd r1 × (now ≡ was)
   IsPiece (Ok piece.More) = Reads (λ rest. now ≡ rest)
-  IsPiece (Ok piece.NoMemory) = Reads (λ rest. 0 < length rest)
+  IsPiece (Ok (piece.NoMemory head_only)) =
+      Reads (λ rest. (0 < length rest) × (head_only ≡ begins_head rest))
   IsPiece (Err ReadFault) = Reads (λ rest. now ≡ rest) × (now ≡ was)
   IsPiece (Err TooManyTurns) = Reads (λ rest. now ≡ rest) × (now ≡ was)
   IsPiece (Err fault) = ⊥
@@ -49,7 +50,8 @@ module _ (r0 r1 : Option Text) (was now : Text) where
   abbrev pub IsLine : Limits → Result Piece StreamFault → Type 0
   IsLine limits (Ok piece.End) = Reads (λ rest. IsUnfinished limits rest) × IsAtEnd r1
   IsLine limits (Ok piece.More) = Reads (λ rest. now ≡ rest)
-  IsLine limits (Ok piece.NoMemory) = Reads (λ rest. 0 < length rest)
+  IsLine limits (Ok (piece.NoMemory head_only)) =
+      Reads (λ rest. (0 < length rest) × (head_only ≡ begins_head rest))
   IsLine limits (Err ReadFault) = Reads (λ rest. IsUnfinished limits rest)
   IsLine limits (Err TooManyTurns) = Reads (λ rest. IsUnfinished limits rest)
   IsLine limits (Err fault) = ⊥

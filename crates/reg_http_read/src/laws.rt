@@ -1,11 +1,11 @@
 //! What holds of heads, whatever the code.
 //! The functions do nothing: their contracts are the laws.
 
-ghost use Rattle.std.specs.Prelude.{◌≡◌, ◌<◌, ◌≤◌, ◌++◌, [], Bool, length, take};
+ghost use Rattle.std.specs.Prelude.{◌≡◌, ◌<◌, ◌≤◌, ◌++◌, [], Bool, true, length, take};
 ghost use Rattle.reg_body.specs.declared.limits.Limits.{Limits};
 ghost use Rattle.reg_model.specs.Registry.{Text};
 ghost use Rattle.reg_model.specs.declared.rule.Rule.{Rule};
-ghost use Rattle.reg_http_read.specs.Begun.{IsRefused};
+ghost use Rattle.reg_http_read.specs.Begun.{IsRefused, begins_head, is_head_only};
 ghost use Rattle.reg_http_read.specs.Heads.{Facts, IsHeadAt, IsRefusedAt, IsUnfinished, greatest_body};
 
 /// A head lies within the bytes, is not empty, and its body is at most the largest.
@@ -37,6 +37,14 @@ pub fn quiet_law()
 pub fn one_head_law()
     ensures { (limits : Limits) (b more : Text) (f g : Facts) → IsHeadAt limits b f
         → IsHeadAt limits (b ++ more) g → f ≡ g }
+{}
+
+/// The first bytes of a request tell whether its method is HEAD, and what they told stays so.
+pub fn first_bytes_law()
+    ensures whole { (limits : Limits) (b : Text) (f : Facts) → IsHeadAt limits b f
+        → begins_head b ≡ is_head_only f }
+    ensures begun { (limits : Limits) (b more : Text) (f : Facts) → begins_head b ≡ true
+        → IsHeadAt limits (b ++ more) f → is_head_only f ≡ true }
 {}
 
 /// Bytes are read in only one way, and what follows does not change it: a head is not refused, a

@@ -23,6 +23,7 @@ mod fields;
 mod front;
 mod head;
 pub mod laws;
+mod method;
 mod numbers;
 mod owned;
 mod reading;

@@ -6,6 +6,7 @@ ghost use Rattle.reg_http_read.specs.Taking.{HasNoLine, IsLine, IsPiece};
 ghost use Rattle.reg_http_read.specs.Turns.{SpendsTurns, reads_of};
 
 use crate::fault::StreamFault;
+use crate::method::begins_head;
 use memchr::memchr;
 use reg_body::{Counted, Limits};
 use std::alloc::AllocError;
@@ -17,8 +18,8 @@ pub(crate) enum Piece {
     /// The input has ended.
     End,
     More,
-    /// There was no memory for what was read.
-    NoMemory,
+    /// There was no memory for what was read; whether a HEAD request begins.
+    NoMemory(bool),
 }
 
 /// Reads once, onto the end of `pending`.
@@ -45,7 +46,7 @@ pub(crate) fn read_piece<R: Read>(
         Ok(0) => Ok(Piece::End),
         Ok(n) => match pending.extend_from_slice(&chunk[..n]) {
             Ok(()) => Ok(Piece::More),
-            Err(_) => Ok(Piece::NoMemory),
+            Err(_) => Ok(Piece::NoMemory(begins_head(pending, &chunk[..n]))),
         },
         Err(_) => Err(StreamFault::ReadFault),
     }
@@ -81,7 +82,7 @@ pub(crate) fn read_line<R: Read>(
         match read_piece(r, chunk, pending, left)? {
             Piece::More => {}
             Piece::End => return Ok(Piece::End),
-            Piece::NoMemory => return Ok(Piece::NoMemory),
+            Piece::NoMemory(head_only) => return Ok(Piece::NoMemory(head_only)),
         }
         let (_, came) = pending.split_at(begun);
         if ends_line(came) || pending.len() >= limits.head as usize {

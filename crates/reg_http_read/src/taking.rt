@@ -1,7 +1,7 @@
 //! Taking a request from a stream: its head, its interim line, its body.
 
-ghost use Rattle.std.specs.Prelude.{◌≡◌, ◌+◌, ◌^◌, ◌<◌, ◌≤◌, ◌&&◌, not, IfOk, OnErr, Some, length};
-ghost use Rattle.reg_http_read.specs.Begun.{interim_if, is_head_only};
+ghost use Rattle.std.specs.Prelude.{◌≡◌, ◌+◌, ◌^◌, ◌<◌, ◌≤◌, IfOk, OnErr, Some, length};
+ghost use Rattle.reg_http_read.specs.Begun.{interim_if};
 ghost use Rattle.reg_http_read.specs.Heads.{IsHeadAt};
 ghost use Rattle.reg_http_read.specs.Reads.{facts_of};
 ghost use Rattle.reg_http_read.specs.Taking.{Awaits, Fills, IsFound, Takes};
@@ -10,6 +10,7 @@ ghost use Rattle.reg_http_read.specs.Turns.{Sends, SpendsTurns, reads_of, tally,
 use crate::fault::StreamFault;
 use crate::head::{Head, HeadRead, read_head};
 use crate::laws::{append_law, bounds_law};
+use crate::method::begins_head;
 use crate::owned::{OwnedHead, keep};
 use crate::reading::{Piece, make_room, read_line, read_piece};
 use crate::turns::send;
@@ -48,14 +49,6 @@ pub enum Taken {
     Whole(OwnedHead),
 }
 
-/// Whether only the head of the refusal is sent if there is no memory for a head: not if the client
-/// still awaits the interim line.
-fn is_unkept_head_only(head: &Head<'_>) -> bool
-    ensures { let f = facts_of head.now in result ≡ (not f.interim && is_head_only f) }
-{
-    !head.interim && head.is_head_only()
-}
-
 /// The head, kept, or a refusal if out of memory.
 fn keep_or_refuse(alloc: Global, head: &Head<'_>) -> Awaited
     ensures { (limits : _) (bytes : _) → IsHeadAt limits bytes (facts_of head.now)
@@ -63,7 +56,7 @@ fn keep_or_refuse(alloc: Global, head: &Head<'_>) -> Awaited
 {
     match keep(alloc, head) {
         Ok(head) => Awaited::Head(head),
-        Err(_) => Awaited::Refused(Rule::S1, is_unkept_head_only(head)),
+        Err(_) => Awaited::Refused(Rule::S1, head.is_head_only()),
     }
 }
 
@@ -99,12 +92,12 @@ fn await_head<R: Read>(
         match find_head(alloc, pending, limits) {
             Ok(None) => {}
             Ok(Some(found)) => return Ok(found),
-            Err(_) => return Ok(Awaited::Refused(Rule::S1, false)),
+            Err(_) => return Ok(Awaited::Refused(Rule::S1, begins_head(pending, &[]))),
         }
         match read_line(r, chunk, pending, limits, left)? {
             Piece::More => {}
             Piece::End => return Ok(Awaited::End),
-            Piece::NoMemory => return Ok(Awaited::Refused(Rule::S1, false)),
+            Piece::NoMemory(head_only) => return Ok(Awaited::Refused(Rule::S1, head_only)),
         }
     }
 }
@@ -134,7 +127,7 @@ fn await_rest<R: Read>(
         match read_piece(r, chunk, pending, left)? {
             Piece::More => {}
             Piece::End => return Ok(Rest::End),
-            Piece::NoMemory => return Ok(Rest::NoMemory),
+            Piece::NoMemory(_) => return Ok(Rest::NoMemory),
         }
     }
     Ok(Rest::Whole)

@@ -1,7 +1,7 @@
 -- A request is answered with a rule exactly where it is denied that rule, and the rules on access come first.
 use Rattle.reg_model.proofs.Words.{◌≡◌, ◌≢◌, ℕ, List, [], ◌∷◌, ◌++◌, Bool, true, false, cond, Option, Some, None, inl, inr, refl, sym, ◌∙◌}
 use Rattle.reg_model.proofs.Words.{ap, is_some, not, find, filter, Rule, Limits, Text, Registry, Action, Counts, breaks, broken, order}
-use Rattle.reg_model.proofs.Words.{Asked, Answer, Faulty, Read, Index, Download, ListOwners, Publish, Yank, Unyank, AddOwners, RemoveOwners}
+use Rattle.reg_model.proofs.Words.{Asked, Answer, Malformed, Read, Index, Download, ListOwners, Publish, Yank, Unyank, AddOwners, RemoveOwners}
 use Rattle.reg_model.proofs.Words.{Config, Search, Ask, Denied, judged, or_else, served, caller, Step, Outcome, unless_denied}
 use Rattle.std.specs.Prelude.{◌↔◌}
 use Rattle.reg_model.specs.declared.rule.Rule.TheVariants as rule
@@ -11,8 +11,8 @@ use Rattle.reg_model.specs.Rules.{access, is_access_rule, verdict}
 use Rattle.reg_model.specs.Refusals.{denied}
 
 -- a refusal that is served is that of a faulty request
-served_named : (s : Registry) (who : Option ℕ) (asked : Asked) (r : Rule) → Denied r ≡ served s who asked → (q : Rule) × (asked ≡ Faulty q)
-served_named s who (Faulty q) r e = (q, refl)
+served_named : (s : Registry) (who : Option ℕ) (asked : Asked) (r : Rule) → Denied r ≡ served s who asked → (q : Rule) × (asked ≡ Malformed q)
+served_named s who (Malformed q) r e = (q, refl)
 served_named s who (Read Config) r e = cc
 served_named s who (Read (Search q m)) r e = cc
 served_named s who (Index p) r e = cc
@@ -29,7 +29,7 @@ or_some None r e = cc
 or_some (Some q) r e = cc
 
 -- a faulty request is denied
-never_allowed : (limits : Limits) (s : Registry) (digest : Option Text) (q : Rule) → denied limits s digest (Faulty q) ≢ None
+never_allowed : (limits : Limits) (s : Registry) (digest : Option Text) (q : Rule) → denied limits s digest (Malformed q) ≢ None
 unfolding denied
 never_allowed limits s None q e = cc
 never_allowed limits s (Some d) q e = or_some (judged limits s d to_read) q e

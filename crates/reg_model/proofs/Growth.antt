@@ -1,6 +1,6 @@
 -- Publications only grow, and so do the stems of each crate.
 use Rattle.reg_model.proofs.Words.{◌≡◌, List, [], ◌∷◌, ◌++◌, refl, ◌∙◌, ap, cond, Bool, true, false, filter, Limits, Text, Registry}
-use Rattle.reg_model.proofs.Words.{Publication, collides, is_reserved_always, Asked, Command, Event, Answer, Faulty, Read, Index, Download}
+use Rattle.reg_model.proofs.Words.{Publication, collides, is_reserved_always, Asked, Command, Event, Answer, Malformed, Read, Index, Download}
 use Rattle.reg_model.proofs.Words.{ListOwners, Publish, Yank, Unyank, AddOwners, RemoveOwners, UserAdd, UserDisable, UserEnable, TokenAdd}
 use Rattle.reg_model.proofs.Words.{TokenRevoke, Reserve, Unreserve, OwnerAdd, Access, Users, Tokens, Crates, CrateRestrict, CrateOpen}
 use Rattle.reg_model.proofs.Words.{ReaderAdd, ReaderRemove, Run}
@@ -32,7 +32,7 @@ done_grows s id (Yank n v) = same_prefix s.publications
 done_grows s id (Unyank n v) = same_prefix s.publications
 done_grows s id (AddOwners n l) = same_prefix s.publications
 done_grows s id (RemoveOwners n l) = same_prefix s.publications
-done_grows s id (Faulty q) = same_prefix s.publications
+done_grows s id (Malformed q) = same_prefix s.publications
 done_grows s id (Read w) = same_prefix s.publications
 done_grows s id (Index p) = same_prefix s.publications
 done_grows s id (Download n v) = same_prefix s.publications

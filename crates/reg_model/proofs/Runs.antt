@@ -1,10 +1,10 @@
 -- Runs join, what is refused changes nothing, and steps agree.
 use Rattle.reg_model.proofs.Words.{◌≡◌, ◌≢◌, ℕ, List, [], ◌∷◌, ◌++◌, Option, Some, None, inl, inr, refl, sym, ◌∙◌, subst, Rule}
-use Rattle.reg_model.proofs.Words.{AdminRefusal, Limits, Registry, Asked, Command, Event, Answer, Faulty, Read, Index, Download, ListOwners}
+use Rattle.reg_model.proofs.Words.{AdminRefusal, Limits, Registry, Asked, Command, Event, Answer, Malformed, Read, Index, Download, ListOwners}
 use Rattle.reg_model.proofs.Words.{Publish, Yank, Unyank, AddOwners, RemoveOwners, UserAdd, UserDisable, UserEnable, TokenAdd, TokenRevoke}
 use Rattle.reg_model.proofs.Words.{Reserve, Unreserve, OwnerAdd, Access, Users, Tokens, Crates, CrateRestrict, CrateOpen, ReaderAdd}
 use Rattle.reg_model.proofs.Words.{ReaderRemove, Config, Search, Ask, Order, Denied, Refused, served, caller, replied, Step, Run, IsFit}
-use Rattle.reg_model.proofs.Words.{no_room, Outcome, unless_denied, unless_refused}
+use Rattle.reg_model.proofs.Words.{unavailable, Outcome, unless_denied, unless_refused}
 use Rattle.reg_model.specs.Refusals.{denied, refused}
 use Rattle.reg_model.specs.Effects.{done}
 
@@ -20,7 +20,7 @@ runs_join limits s m t (e ∷ es) fs (x ∷ xs) ys (fit, (k, step, rest)) after 
 -- where a refusal is served, nothing is done
 served_denial : (s : Registry) (who : Option ℕ) (k : ℕ) (asked : Asked) (r : Rule) → Denied r ≡ served s who asked → done s k asked ≡ s
 unfolding done
-served_denial s who k (Faulty q) r e = refl
+served_denial s who k (Malformed q) r e = refl
 served_denial s who k (Read Config) r e = cc
 served_denial s who k (Read (Search q m)) r e = cc
 served_denial s who k (Index p) r e = cc
@@ -33,7 +33,7 @@ served_denial s who k (AddOwners n l) r e = cc
 served_denial s who k (RemoveOwners n l) r e = cc
 
 served_refusal : (s : Registry) (who : Option ℕ) (asked : Asked) (g : AdminRefusal) → Refused g ≢ served s who asked
-served_refusal s who (Faulty q) g e = cc
+served_refusal s who (Malformed q) g e = cc
 served_refusal s who (Read Config) g e = cc
 served_refusal s who (Read (Search q m)) g e = cc
 served_refusal s who (Index p) g e = cc
@@ -100,7 +100,7 @@ refusals_keep limits s t e g (inr h) = h.1
 refusals_keep limits s t (Ask d asked) g (inl h) = unless_denied_keeps s t (Refused g) (denied limits s d asked) _ (λ e. absurd (served_refusal s (caller s d) asked g e)) h.0 h.1
 refusals_keep limits s t (Order c) g (inl h) = unless_refused_keeps s t (Refused g) (refused limits s c) _ (λ e. absurd (replied_refusal s c g e)) h.0 h.1
 
-pub steps_agree : (limits : Limits) (s t u : Registry) (e : Event) (a b : Answer) → Step limits s e a t → Step limits s e b u → a ≢ no_room e → b ≢ no_room e → (a ≡ b) × (t ≡ u)
+pub steps_agree : (limits : Limits) (s t u : Registry) (e : Event) (a b : Answer) → Step limits s e a t → Step limits s e b u → a ≢ unavailable e → b ≢ unavailable e → (a ≡ b) × (t ≡ u)
 steps_agree limits s t u e a b (inl h) (inl k) na nb = (h.0 ∙ sym k.0, h.1 ∙ sym k.1)
 steps_agree limits s t u e a b (inr h) k na nb = absurd (na h.0)
 steps_agree limits s t u e a b (inl h) (inr k) na nb = absurd (nb k.0)

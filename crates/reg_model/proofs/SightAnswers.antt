@@ -4,7 +4,7 @@ use Rattle.reg_model.proofs.Words.{ap, ◌&&◌, ◌||◌, not, is_some, length,
 use Rattle.reg_model.proofs.Words.{bytes_eq, nat_list_cmp_total, and_parts, bytes_eq-Decides, canon, is_name, name_at, name_of, Limits}
 use Rattle.reg_model.proofs.Words.{Rule, Text, Token, Registry, holds, text_cmp, token_of, canons, exists, has_crate, is_among}
 use Rattle.reg_model.proofs.Words.{is_restricted, file, owners, readers, sees, versions, viewer, visible, Action, crate_of, has_login}
-use Rattle.reg_model.proofs.Words.{is_named, lists, spelling, Asked, action_of, fault_of, Archive, Denied, File, Found, Owners, Faulty}
+use Rattle.reg_model.proofs.Words.{is_named, lists, spelling, Asked, action_of, fault_of, Archive, Denied, File, Found, Owners, Malformed}
 use Rattle.reg_model.proofs.Words.{Read, Index, Download, ListOwners, Publish, Yank, Unyank, AddOwners, RemoveOwners, Ask, served, judged}
 use Rattle.reg_model.proofs.Words.{or_else, hit, occurs, HaveOneSight, Outcome, outcome, unless_denied}
 use Rattle.std.specs.Prelude.{map}
@@ -95,7 +95,7 @@ module _ (s t : Registry) (digest : Text) (one : HaveOneSight s t digest) where
       ∙ sym (same_verdict limits (access_facts t digest a) (counts t a) a ok)
 
   looks : (asked : Asked) → ByNoPublishOrOwner asked → LooksAtOne (action_of asked)
-  looks (Faulty r) ok = tt
+  looks (Malformed r) ok = tt
   looks (Read w) ok = tt
   looks (Index p) ok = tt
   looks (Download n v) ok = tt
@@ -194,7 +194,7 @@ module _ (s t : Registry) (digest : Text) (one : HaveOneSight s t digest) where
 
   served_alike : (limits : Limits) (asked : Asked) → ByNoPublishOrOwner asked → denied limits s (Some digest) asked ≡ None → served s (viewer s digest) asked ≡ served t (viewer t digest) asked
   unfolding access_facts
-  served_alike limits (Faulty r) ok allowed = refl
+  served_alike limits (Malformed r) ok allowed = refl
   served_alike limits (Read of_config) ok allowed = ap (λ b. Config (config_text b)) one.base
   served_alike limits (Read (of_search q k)) ok allowed = ap Found (found_alike q k)
   served_alike limits (Index p) ok allowed = by (name_at p) (and_parts (holds (visible s digest) (name_at p)) _ (not_false _ (not_denied limits s digest (Index p) allowed).1.1.1.0)).0

@@ -1,6 +1,6 @@
 -- What begins sound stays sound.
 use Rattle.reg_model.proofs.Words.{◌≡◌, List, true, Some, None, refl, Limits, Text, Registry, owner_cmp, mark_cmp, text_cmp, Asked, Event}
-use Rattle.reg_model.proofs.Words.{Answer, Faulty, Read, Index, Download, ListOwners, Publish, Yank, Unyank, AddOwners, RemoveOwners, Ask}
+use Rattle.reg_model.proofs.Words.{Answer, Malformed, Read, Index, Download, ListOwners, Publish, Yank, Unyank, AddOwners, RemoveOwners, Ask}
 use Rattle.reg_model.proofs.Words.{account_of, IsFit, Step, Run, Sound}
 use Rattle.std.specs.FinSet as finset
 use Rattle.std.specs.List.{IsDistinct}
@@ -22,7 +22,7 @@ request_keeps_sound limits s d (Yank n v) fit ok sound = yank_keeps_sound limits
 request_keeps_sound limits s d (Unyank n v) fit ok sound = unyank_keeps_sound s d n v sound
 request_keeps_sound limits s d (AddOwners n l) fit ok sound = add_keeps_sound limits s d n l sound ok
 request_keeps_sound limits s d (RemoveOwners n l) fit ok sound = remove_keeps_sound limits s d n l sound ok
-request_keeps_sound limits s d (Faulty r) fit ok sound = sound
+request_keeps_sound limits s d (Malformed r) fit ok sound = sound
 request_keeps_sound limits s d (Read w) fit ok sound = sound
 request_keeps_sound limits s d (Index p) fit ok sound = sound
 request_keeps_sound limits s d (Download n v) fit ok sound = sound

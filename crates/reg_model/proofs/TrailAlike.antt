@@ -2,7 +2,7 @@
 use Rattle.reg_model.proofs.Words.{◌≡◌, ℕ, zero, suc, ◌-◌, ◌==◌, List, [], ◌∷◌, ◌++◌, Bool, true, false, cond, refl, sym, ◌∙◌, ap, map}
 use Rattle.reg_model.proofs.Words.{subst, codes, unwrap_or, list_any, bytes_eq, canon, Text, mark_cmp, owner_cmp, text_cmp, Account}
 use Rattle.reg_model.proofs.Words.{Publication, Registry, Token, change_at, change_place, id_of_login, ids_of, has_crate}
-use Rattle.reg_model.proofs.Words.{is_reserved_always, enable, owners_of, Asked, Command, Faulty, Read, Index, Download, ListOwners}
+use Rattle.reg_model.proofs.Words.{is_reserved_always, enable, owners_of, Asked, Command, Malformed, Read, Index, Download, ListOwners}
 use Rattle.reg_model.proofs.Words.{Publish, Yank, Unyank, AddOwners, RemoveOwners, UserAdd, UserDisable, UserEnable, TokenAdd, TokenRevoke}
 use Rattle.reg_model.proofs.Words.{Reserve, Unreserve, OwnerAdd, Access, Users, Tokens, Crates, CrateRestrict, CrateOpen, ReaderAdd}
 use Rattle.reg_model.proofs.Words.{ReaderRemove, endpoints_named, patterns_given, AreAlike, asked_in, command_in, replayed}
@@ -96,7 +96,7 @@ module _ (s t : Registry) (h : AreAlike s t) where
   done_alike id (Unyank n v) = with_yanked s t h _ _ (ap (λ y. set.remove y (canon n, v)) h.yanked)
   done_alike id (AddOwners n logins) = with_owners s t h _ _ (λ i. set.union (h.owners i) (owners_of n (same_ids logins i)))
   done_alike id (RemoveOwners n logins) = with_owners s t h _ _ (λ i. set.difference (h.owners i) (owners_of n (same_ids logins i)))
-  done_alike id (Faulty r) = h
+  done_alike id (Malformed r) = h
   done_alike id (Read what) = h
   done_alike id (Index p) = h
   done_alike id (Download n v) = h

@@ -2,7 +2,7 @@
 use Rattle.reg_model.proofs.Words.{◌≡◌, ◌+◌, ◌-◌, ◌==◌, ℕ, zero, suc, List, [], ◌∷◌, Bool, true, false, cond, Option, Some, None, refl, sym}
 use Rattle.reg_model.proofs.Words.{◌∙◌, ap, subst, arith, not, is_some, slice_get, unwrap_or, decimal, find, position_from, option_map}
 use Rattle.reg_model.proofs.Words.{bytes_eq, and_parts, nat_tests, bytes_eq-Decides, Limits, Text, Account, Registry, Token, token_of}
-use Rattle.reg_model.proofs.Words.{with_id, first, account_of, Asked, Event, Faulty, Read, Index, Download, ListOwners, Publish, Yank}
+use Rattle.reg_model.proofs.Words.{with_id, first, account_of, Asked, Event, Malformed, Read, Index, Download, ListOwners, Publish, Yank}
 use Rattle.reg_model.proofs.Words.{Unyank, AddOwners, RemoveOwners, Ask, Order, login_of, Sound, is_token, event_words, id_of_token}
 use Rattle.reg_model.proofs.Words.{line_of, request_words, with_asker, words_of}
 use Rattle.reg_model.specs.Facts.{access_facts}
@@ -48,7 +48,7 @@ known limits s digest (Yank n v) ws ok h = (not_denied limits s digest (Yank n v
 known limits s digest (Unyank n v) ws ok h = (not_denied limits s digest (Unyank n v) ok).0
 known limits s digest (AddOwners n logins) ws ok h = (not_denied limits s digest (AddOwners n logins) ok).0
 known limits s digest (RemoveOwners n logins) ws ok h = (not_denied limits s digest (RemoveOwners n logins) ok).0
-known limits s digest (Faulty r) ws ok h = cc
+known limits s digest (Malformed r) ws ok h = cc
 known limits s digest (Read what) ws ok h = cc
 known limits s digest (Index p) ws ok h = cc
 known limits s digest (Download n v) ws ok h = cc

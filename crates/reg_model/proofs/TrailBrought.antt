@@ -4,7 +4,7 @@ use Rattle.reg_model.proofs.Words.{inl, inr, refl, sym, ◌∙◌, ap, map, subs
 use Rattle.reg_model.proofs.Words.{list_any, position_from, eq_by_cmp, bytes_eq, and_parts, Limits, canon, Rule, AdminRefusal}
 use Rattle.reg_model.proofs.Words.{with_reserved, Text, Mark, Owner, mark_cmp, owner_cmp, Account, Publication, Registry, change_at}
 use Rattle.reg_model.proofs.Words.{change_place, id_of_login, ids_of, exists, first, is_reserved_always, is_yanked, owns, account_of}
-use Rattle.reg_model.proofs.Words.{caller, enable, replied, served, Answer, Asked, Command, Event, Faulty, Read, Index, Download}
+use Rattle.reg_model.proofs.Words.{caller, enable, replied, served, Answer, Asked, Command, Event, Malformed, Read, Index, Download}
 use Rattle.reg_model.proofs.Words.{ListOwners, Publish, Yank, Unyank, AddOwners, RemoveOwners, UserAdd, UserDisable, UserEnable, TokenAdd}
 use Rattle.reg_model.proofs.Words.{TokenRevoke, Reserve, Unreserve, OwnerAdd, Access, Users, Tokens, Crates, CrateRestrict, CrateOpen}
 use Rattle.reg_model.proofs.Words.{ReaderAdd, ReaderRemove, Ask, Order, IsIn, login_of, with_commas, Sound, Step, outcome, unless_denied}
@@ -134,7 +134,7 @@ brings_publication limits p s (Ask (Some digest) asked) i = asked_brings limits 
     so (Unyank n v) e i = inl i
     so (AddOwners n logins) e i = inl i
     so (RemoveOwners n logins) e i = inl i
-    so (Faulty r) e i = inl i
+    so (Malformed r) e i = inl i
     so (Read what) e i = inl i
     so (Index path) e i = inl i
     so (Download n v) e i = inl i
@@ -165,7 +165,7 @@ module _ (c v : Text) where
       so (Unyank n w) e h = inl (and_parts _ _ (sym (set.contains-remove mark_total s.yanked (canon n, w) (c, v)) ∙ h)).1
       so (AddOwners n logins) e h = inl h
       so (RemoveOwners n logins) e h = inl h
-      so (Faulty r) e h = inl h
+      so (Malformed r) e h = inl h
       so (Read what) e h = inl h
       so (Index path) e h = inl h
       so (Download n v) e h = inl h
@@ -231,7 +231,7 @@ module _ (c : Text) (id : ℕ) where
       so (RemoveOwners n logins) e h = inl (and_parts _ _ (sym (set.contains-difference owner_total s.owners _ (c, id)) ∙ h)).0
       so (Yank n v) e h = inl h
       so (Unyank n v) e h = inl h
-      so (Faulty r) e h = inl h
+      so (Malformed r) e h = inl h
       so (Read what) e h = inl h
       so (Index path) e h = inl h
       so (Download n v) e h = inl h
@@ -318,7 +318,7 @@ done_accounts s id (Yank n v) = refl
 done_accounts s id (Unyank n v) = refl
 done_accounts s id (AddOwners n logins) = refl
 done_accounts s id (RemoveOwners n logins) = refl
-done_accounts s id (Faulty r) = refl
+done_accounts s id (Malformed r) = refl
 done_accounts s id (Read what) = refl
 done_accounts s id (Index p) = refl
 done_accounts s id (Download n v) = refl

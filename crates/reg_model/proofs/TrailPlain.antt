@@ -4,7 +4,7 @@ use Rattle.reg_model.proofs.Words.{None, inl, inr, refl, sym, ◌∙◌, ap, sub
 use Rattle.reg_model.proofs.Words.{unwrap_or, decimal, enumerate_from, find, list_all, list_any, position_from, AllByRecursion, option_map}
 use Rattle.reg_model.proofs.Words.{bytes_eq, and_from, and_parts, bytes_eq-Decides, Limits, is_login, is_name, name_of, is_pattern, Text}
 use Rattle.reg_model.proofs.Words.{Account, Publication, Registry, holds, id_of_login, is_enabled, is_known, with_id, collides, exists}
-use Rattle.reg_model.proofs.Words.{owners, owns, versions, visible, account_of, Asked, Command, Event, Faulty, Read, Index, Download}
+use Rattle.reg_model.proofs.Words.{owners, owns, versions, visible, account_of, Asked, Command, Event, Malformed, Read, Index, Download}
 use Rattle.reg_model.proofs.Words.{ListOwners, Publish, Yank, Unyank, AddOwners, RemoveOwners, UserAdd, UserDisable, UserEnable, TokenAdd}
 use Rattle.reg_model.proofs.Words.{TokenRevoke, Reserve, Unreserve, OwnerAdd, Access, Users, Tokens, Crates, CrateRestrict, CrateOpen}
 use Rattle.reg_model.proofs.Words.{ReaderAdd, ReaderRemove, Ask, Order, has_login, lists, is_endpoint, may_name, patterns_given, login_of}
@@ -186,7 +186,7 @@ module _ (limits : Limits) (s : Registry) (sound : Sound s) (digest : Text) wher
       let c = not_denied limits s digest (RemoveOwners n logins) ok in
       subst (λ w. are_words w ≡ true) (only_words _ _ ws h) (three (codes "remove-owners") (spelled s n) (with_commas logins) refl (there_word n c.1.1.1.1.0)
       (comma_word logins (all_so is_login is_word login_word logins (removed_logins n logins ok))))
-  request_plain (Faulty r) ws fit ok h = cc
+  request_plain (Malformed r) ws fit ok h = cc
   request_plain (Read what) ws fit ok h = cc
   request_plain (Index p) ws fit ok h = cc
   request_plain (Download n v) ws fit ok h = cc

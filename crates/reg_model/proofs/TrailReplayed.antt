@@ -6,7 +6,7 @@ use Rattle.reg_model.proofs.Words.{position_from, option_map, on, all_ascii_digi
 use Rattle.reg_model.proofs.Words.{All-from_recursion, join_with_byte-slice_split, slice_split_at, slice_split_none, bytes_eq-Decides}
 use Rattle.reg_model.proofs.Words.{numerals_by_value, tells_all_ascii_digits, Limits, is_login, is_login_byte, canon, is_name, is_name_byte}
 use Rattle.reg_model.proofs.Words.{is_pattern, Rule, Text, Account, Publication, Registry, Token, holds, id_of_login, ids_of, token_of}
-use Rattle.reg_model.proofs.Words.{with_id, collides, first, owns, account_of, caller, replied, served, Asked, Command, Event, Faulty, Read}
+use Rattle.reg_model.proofs.Words.{with_id, collides, first, owns, account_of, caller, replied, served, Asked, Command, Event, Malformed, Read}
 use Rattle.reg_model.proofs.Words.{Index, Download, ListOwners, Publish, Yank, Unyank, AddOwners, RemoveOwners, UserAdd, UserDisable}
 use Rattle.reg_model.proofs.Words.{UserEnable, TokenAdd, TokenRevoke, Reserve, Unreserve, OwnerAdd, Access, Users, Tokens, Crates}
 use Rattle.reg_model.proofs.Words.{CrateRestrict, CrateOpen, ReaderAdd, ReaderRemove, Ask, Order, endpoints_named, is_endpoint}
@@ -194,7 +194,7 @@ module _ (limits : Limits) (s : Registry) (digest : Text) (sound : Sound s) wher
       let again = some_logins logins (removed_logins limits s sound digest n logins ok) (λ e. opposed _ (some_only_if _ _ ws h) (ap (λ l. list_any (owns s n) (ids_of s l)) e)) in
       subst (λ w. AreAlike (done s (by_login s digest) (asked_in w)) (done s (by_token s digest) (RemoveOwners n logins))) (only_words _ _ ws h)
       (alike_of (λ i. record s { owners = set.difference s.owners (set.from_list (map (λ id. (spelled_canon s n i, id)) (ids_of s (again i)))) }))
-  request_again (Faulty r) ws ok h = cc
+  request_again (Malformed r) ws ok h = cc
   request_again (Read what) ws ok h = cc
   request_again (Index p) ws ok h = cc
   request_again (Download n v) ws ok h = cc

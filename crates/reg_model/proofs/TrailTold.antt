@@ -4,7 +4,7 @@ use Rattle.reg_model.proofs.Words.{refl, sym, ◌∙◌, ap, arith, ◌&&◌, �
 use Rattle.reg_model.proofs.Words.{list_all, list_any, eq_by_cmp, Ordering, IsTotalOrder, nat_list_cmp_total, FinSet, contains, bytes_eq}
 use Rattle.reg_model.proofs.Words.{and_from, list_all-map, length-append, Limits, canon, Rule, AdminRefusal, Text, Account, Token, Registry}
 use Rattle.reg_model.proofs.Words.{change_at, change_place, holds, id_of_login, ids_of, is_enabled, with_id, is_reserved_always, owns}
-use Rattle.reg_model.proofs.Words.{caller, enable, owners_of, replied, served, Asked, Command, Event, Faulty, Read, Index, Download}
+use Rattle.reg_model.proofs.Words.{caller, enable, owners_of, replied, served, Asked, Command, Event, Malformed, Read, Index, Download}
 use Rattle.reg_model.proofs.Words.{ListOwners, Publish, Yank, Unyank, AddOwners, RemoveOwners, UserAdd, UserDisable, UserEnable, TokenAdd}
 use Rattle.reg_model.proofs.Words.{TokenRevoke, Reserve, Unreserve, OwnerAdd, Access, Users, Tokens, Crates, CrateRestrict, CrateOpen}
 use Rattle.reg_model.proofs.Words.{ReaderAdd, ReaderRemove, Ask, Order, outcome, unless_denied, unless_refused, command_words, only_if}
@@ -103,7 +103,7 @@ request_told s id (Yank n v) ws h e = insert_changes mark_total s.yanked (canon 
 request_told s id (Unyank n v) ws h e = remove_changes mark_total s.yanked (canon n, v) (some_only_if _ _ _ h) (ap (λ r. r.yanked) e)
 request_told s id (AddOwners n logins) ws h e = union_changes s n (ids_of s logins) (some_unless _ _ _ h) (ap (λ r. r.owners) e)
 request_told s id (RemoveOwners n logins) ws h e = difference_changes s n (ids_of s logins) (some_only_if _ _ _ h) (ap (λ r. r.owners) e)
-request_told s id (Faulty r) ws h e = cc
+request_told s id (Malformed r) ws h e = cc
 request_told s id (Read what) ws h e = cc
 request_told s id (Index p) ws h e = cc
 request_told s id (Download n v) ws h e = cc

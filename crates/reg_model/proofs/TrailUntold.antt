@@ -4,7 +4,7 @@ use Rattle.reg_model.proofs.Words.{ap, ◌&&◌, ◌||◌, not, is_none, slice_g
 use Rattle.reg_model.proofs.Words.{IsTotalOrder, nat_list_cmp_total, FinSet, IsAntisymmetric, contains, and_parts, list_all-map, Limits}
 use Rattle.reg_model.proofs.Words.{canon, Rule, AdminRefusal, Text, Account, Token, Registry, change_at, change_place, holds, id_of_login}
 use Rattle.reg_model.proofs.Words.{ids_of, is_enabled, is_known, with_id, is_reserved_always, owns, caller, enable, owners_of, replied}
-use Rattle.reg_model.proofs.Words.{served, Asked, Command, Event, Faulty, Read, Index, Download, ListOwners, Publish, Yank, Unyank}
+use Rattle.reg_model.proofs.Words.{served, Asked, Command, Event, Malformed, Read, Index, Download, ListOwners, Publish, Yank, Unyank}
 use Rattle.reg_model.proofs.Words.{AddOwners, RemoveOwners, UserAdd, UserDisable, UserEnable, TokenAdd, TokenRevoke, Reserve, Unreserve}
 use Rattle.reg_model.proofs.Words.{OwnerAdd, Access, Users, Tokens, Crates, CrateRestrict, CrateOpen, ReaderAdd, ReaderRemove, Ask, Order}
 use Rattle.reg_model.proofs.Words.{outcome, unless_denied, unless_refused, command_words, only_if, request_words, unless, unless_some}
@@ -107,7 +107,7 @@ request_untold s id (Yank n v) h = ap (λ y. record s { yanked = y }) (insert_ag
 request_untold s id (Unyank n v) h = ap (λ y. record s { yanked = y }) (remove_absent mark_total mark_apart s.yanked (canon n, v) (told_only_if _ _ h))
 request_untold s id (AddOwners n logins) h = ap (λ o. record s { owners = o }) (owned_again s n (ids_of s logins) (told_unless _ _ h))
 request_untold s id (RemoveOwners n logins) h = ap (λ o. record s { owners = o }) (never_owned s n (ids_of s logins) (told_only_if _ _ h))
-request_untold s id (Faulty r) h = refl
+request_untold s id (Malformed r) h = refl
 request_untold s id (Read what) h = refl
 request_untold s id (Index p) h = refl
 request_untold s id (Download n v) h = refl

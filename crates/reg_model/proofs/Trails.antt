@@ -4,10 +4,10 @@ use Rattle.reg_model.proofs.Words.{inl, inr, refl, sym, ◌∙◌, ap, map, subs
 use Rattle.reg_model.proofs.Words.{list_all, option_map, and_parts, nat_tests, append_assoc, length-append, All-from_recursion}
 use Rattle.reg_model.proofs.Words.{slice_split_at, Limits, Rule, AdminRefusal, canon, with_reserved, is_reserved_always, Text, Registry}
 use Rattle.reg_model.proofs.Words.{Token, change_at, change_place, caller, replied, served, Answer, Asked, Command, Event, Denied, Refused}
-use Rattle.reg_model.proofs.Words.{Found, File, Archive, Owners, Faulty, Read, Index, Download, ListOwners, Publish, Yank, Unyank}
+use Rattle.reg_model.proofs.Words.{Found, File, Archive, Owners, Malformed, Read, Index, Download, ListOwners, Publish, Yank, Unyank}
 use Rattle.reg_model.proofs.Words.{AddOwners, RemoveOwners, UserAdd, UserDisable, UserEnable, TokenAdd, TokenRevoke, Reserve, Unreserve}
 use Rattle.reg_model.proofs.Words.{OwnerAdd, Access, Users, Tokens, Crates, CrateRestrict, CrateOpen, ReaderAdd, ReaderRemove, Ask, Order}
-use Rattle.reg_model.proofs.Words.{Sound, IsFit, Run, Step, no_room, outcome, unless_denied, unless_refused, event_words, has_no_room}
+use Rattle.reg_model.proofs.Words.{Sound, IsFit, Run, Step, unavailable, outcome, unless_denied, unless_refused, event_words, has_no_room}
 use Rattle.reg_model.proofs.Words.{line_of, or_nothing, trail, with_asker, words_in, HasIds, are_words, is_printed, AreAlike, lines_in}
 use Rattle.reg_model.proofs.Words.{replay, replayed}
 use Rattle.std.proofs.lemmas.List.{append-nil}
@@ -39,7 +39,7 @@ no_room_kept limits s m e Done step h = cc
 no_room_kept limits s m e (Id n) step h = cc
 no_room_kept limits s m e (Report t) step h = cc
 
-told_no_room : (e : Event) → has_no_room (no_room e) ≡ true
+told_no_room : (e : Event) → has_no_room (unavailable e) ≡ true
 told_no_room (Ask digest asked) = refl
 told_no_room (Order c) = refl
 
@@ -94,7 +94,7 @@ done_tokens s id (Yank n v) = omega arith
 done_tokens s id (Unyank n v) = omega arith
 done_tokens s id (AddOwners n logins) = omega arith
 done_tokens s id (RemoveOwners n logins) = omega arith
-done_tokens s id (Faulty r) = omega arith
+done_tokens s id (Malformed r) = omega arith
 done_tokens s id (Read what) = omega arith
 done_tokens s id (Index p) = omega arith
 done_tokens s id (Download n v) = omega arith

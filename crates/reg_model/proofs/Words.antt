@@ -35,7 +35,7 @@ pub use Rattle.reg_model.specs.Crates.{is_yanked, owners, owns, readers, sees, v
 pub use Rattle.reg_model.specs.Effects.{account_of, caller, enable, owners_of, replied, served}
 pub use Rattle.reg_model.specs.Events.{Answer, Asked, Command, Event, action_of, fault_of}
 pub use Rattle.reg_model.specs.Events.Answer.{Archive, Denied, File, Found, Owners, Refused}
-pub use Rattle.reg_model.specs.Events.Asked.{AddOwners, Download, Faulty, Index, ListOwners, Publish, Read, RemoveOwners, Unyank, Yank}
+pub use Rattle.reg_model.specs.Events.Asked.{AddOwners, Download, Malformed, Index, ListOwners, Publish, Read, RemoveOwners, Unyank, Yank}
 pub use Rattle.reg_model.specs.Events.Command.{Access, CrateOpen, CrateRestrict, Crates, OwnerAdd, ReaderAdd, ReaderRemove, Reserve}
 pub use Rattle.reg_model.specs.Events.Command.{TokenAdd, TokenRevoke, Tokens, Unreserve, UserAdd, UserDisable, UserEnable, Users}
 pub use Rattle.reg_model.specs.Events.Event.{Ask, Order}
@@ -52,7 +52,7 @@ pub use Rattle.reg_model.specs.Rules.{breaks, broken, order}
 pub use Rattle.reg_model.specs.Search.{hit, occurs}
 pub use Rattle.reg_model.specs.Sight.{HaveOneSight}
 pub use Rattle.reg_model.specs.Sound.{Sound, has_version, is_account, is_token}
-pub use Rattle.reg_model.specs.Steps.{IsFit, IsGenuine, Outcome, Run, Step, no_room, outcome, unless_denied, unless_refused}
+pub use Rattle.reg_model.specs.Steps.{IsFit, IsGenuine, Outcome, Run, Step, unavailable, outcome, unless_denied, unless_refused}
 pub use Rattle.reg_model.specs.Trail.{command_words, event_words, has_no_room, id_of_token, line_of, only_if, or_nothing, request_words}
 pub use Rattle.reg_model.specs.Trail.{spelled, trail, unless, unless_some, with_asker, words_in, words_of}
 pub use Rattle.reg_model.specs.TrailLaws.{GivesOwner, HasIds, Publishes, Yanks, are_words, is_plain, is_printed, is_word}

@@ -8,7 +8,7 @@ use Rattle.reg_model.specs.Changes.{with_account, with_publication, with_reader,
 use Rattle.reg_model.specs.Registry.{Text, Registry, id_of_login, ids_of, Account, owner_cmp, change_at}
 use Rattle.reg_model.specs.Crates.{exists, version, file, owners, is_reserved_always, viewer}
 use Rattle.reg_model.specs.Events.{Asked, Command, Answer, OwnerEntry}
-use Rattle.reg_model.specs.Events.Asked.{Faulty, Read, Index, Download, ListOwners, Publish, Yank, Unyank, AddOwners, RemoveOwners}
+use Rattle.reg_model.specs.Events.Asked.{Malformed, Read, Index, Download, ListOwners, Publish, Yank, Unyank, AddOwners, RemoveOwners}
 use Rattle.reg_model.specs.Events.Reading.{Config as of_config, Search as of_search}
 use Rattle.reg_model.specs.Events.Command.{UserAdd, UserDisable, UserEnable, TokenAdd, TokenRevoke, Reserve, Unreserve, OwnerAdd, Access, Users, Tokens, Crates, CrateRestrict, CrateOpen, ReaderAdd, ReaderRemove}
 use Rattle.reg_model.specs.Events.Answer.{Denied, Granted, Config, Found, File, Archive, Owners, Done, Id, Report}
@@ -47,7 +47,7 @@ done s id _ = s
 
 -- What an account, or nobody, is answered.
 abbrev pub served : Registry → Option ℕ → Asked → Answer
-served s who (Faulty r) = Denied r
+served s who (Malformed r) = Denied r
 served s who (Read of_config) = Config (config_text s.base)
 served s who (Read (of_search q most)) = Found (found s who q most)
 served s who (Index path) = File (file s (unwrap_or (name_at path) []))

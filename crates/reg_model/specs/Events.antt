@@ -15,7 +15,7 @@ pub data Reading : Type 0 where
 -- what a request asks for
 pub data Asked : Type 0 where
   -- its body or its query breaks this rule, and none before it
-  Faulty : Rule → Asked
+  Malformed : Rule → Asked
   Read : Reading → Asked
   -- an index path
   Index : Text → Asked
@@ -37,7 +37,7 @@ pub record OwnerEntry : Type 0 where
 
 -- the action of what is asked: all of it that the rules on the state look at
 abbrev pub action_of : Asked → Action
-action_of (Faulty r) = to_read
+action_of (Malformed r) = to_read
 action_of (Read what) = to_read
 action_of (Index path) = to_index path
 action_of (Download n v) = to_download n v
@@ -50,7 +50,7 @@ action_of (RemoveOwners n logins) = to_remove n logins
 
 -- the rule that the body or the query breaks
 abbrev pub fault_of : Asked → Option Rule
-fault_of (Faulty r) = Some r
+fault_of (Malformed r) = Some r
 fault_of _ = None
 
 -- a command of the administrator

@@ -17,14 +17,15 @@ use Rattle.reg_model.specs.Actions.Action.{Index}
 use Rattle.reg_model.specs.Facts.{Access, Counts, access_facts}
 use Rattle.reg_model.specs.Rules.{access, breaks, broken, is_access_rule, needed, order, verdict}
 use Rattle.reg_model.specs.Refusals.{denied, or_else, refused}
-use Rattle.reg_model.specs.Search.{matches, occurs}
+use Rattle.reg_model.specs.Search.{found}
+use Rattle.reg_model.specs.Plain.{plain_denied, plain_found, plain_outcome}
 use Rattle.reg_model.specs.Grants.{grants}
 use Rattle.reg_model.specs.Sight.{HaveOneSight}
 use Rattle.reg_model.specs.Events.{Asked, Command, Event, Answer}
 use Rattle.reg_model.specs.Events.Asked.{AddOwners, Publish}
 use Rattle.reg_model.specs.Events.Event.{Ask, Order}
 use Rattle.reg_model.specs.Events.Answer.{Denied, Refused}
-use Rattle.reg_model.specs.Steps.{IsFit, Step, Run, no_room, outcome}
+use Rattle.reg_model.specs.Steps.{IsFit, Step, Run, unavailable, outcome}
 use Rattle.reg_model.specs.Sound.{Sound}
 
 -- a step is a run
@@ -48,7 +49,7 @@ RefusalsKeep = (limits : Limits) (s t : Registry) (e : Event) (g : AdminRefusal)
 -- where room was refused to neither, two steps on one event agree
 abbrev pub StepsAgree : Type 0
 StepsAgree = (limits : Limits) (s t u : Registry) (e : Event) (a b : Answer) → Step limits s e a t
-    → Step limits s e b u → a ≢ no_room e → b ≢ no_room e → (a ≡ b) × (t ≡ u)
+    → Step limits s e b u → a ≢ unavailable e → b ≢ unavailable e → (a ≡ b) × (t ≡ u)
 
 abbrev pub IsPrefix : {X : Type 0} → List X → List X → Type 0
 IsPrefix {X} xs ys = (rest : List X) × (ys ≡ xs ++ rest)
@@ -124,20 +125,22 @@ SightAnswers = (limits : Limits) (s t : Registry) (digest : Text) (asked : Asked
     → (outcome limits s (Ask (Some digest) asked)).0
     ≡ (outcome limits t (Ask (Some digest) asked)).0
 
--- the facts where each crate that is there is seen
-abbrev pub all_seen : Registry → Action → Access → Access
-all_seen s a f = record f { is_visible = holds (exists s) (crate_of a) }
+-- no crate is restricted
+abbrev pub IsPlain : Registry → Type 0
+IsPlain s = (n : Text) → is_restricted s n ≡ false
 
--- where no crate is restricted, the verdict and what is found are those without visibility
-abbrev pub PlainVerdicts : Type 0
-PlainVerdicts = (s : Registry) (digest : Text) (a : Action)
-    → ((n : Text) → is_restricted s n ≡ false)
-    → access_facts s digest a ≡ all_seen s a (access_facts s digest a)
+-- and so requests are denied and answered, and crates found, as before any could be
+abbrev pub PlainDenials : Type 0
+PlainDenials = (limits : Limits) (s : Registry) (digest : Option Text) (asked : Asked) → IsPlain s
+    → denied limits s digest asked ≡ plain_denied limits s digest asked
 
-abbrev pub PlainMatches : Type 0
-PlainMatches = (s : Registry) (who : Option ℕ) (q : Text)
-    → ((n : Text) → is_restricted s n ≡ false)
-    → matches s who q ≡ filter (occurs (canon q)) (canons s)
+abbrev pub PlainOutcomes : Type 0
+PlainOutcomes = (limits : Limits) (s : Registry) (digest : Option Text) (asked : Asked) → IsPlain s
+    → outcome limits s (Ask digest asked) ≡ plain_outcome limits s digest asked
+
+abbrev pub PlainFinds : Type 0
+PlainFinds = (s : Registry) (who : Option ℕ) (q : Text) (most : ℕ) → IsPlain s
+    → found s who q most ≡ plain_found s q most
 
 -- no limit of the second is smaller
 pub record AreWider (l m : Limits) : Type 0 where

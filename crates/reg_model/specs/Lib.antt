@@ -15,6 +15,7 @@ pub mod Effects
 pub mod Steps
 pub mod Sound
 pub mod Sight
+pub mod Plain
 pub mod Trail
 pub mod Replay
 pub mod Laws

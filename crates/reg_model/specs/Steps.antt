@@ -7,7 +7,7 @@ use Rattle.reg_model.specs.declared.rule.AdminRefusal.TheVariants as refusal
 use Rattle.reg_body.specs.declared.limits.Limits.{Limits}
 use Rattle.reg_model.specs.Registry.{Registry, Publication}
 use Rattle.reg_model.specs.Events.{Event, Answer}
-use Rattle.reg_model.specs.Events.Asked.{Faulty, Publish}
+use Rattle.reg_model.specs.Events.Asked.{Malformed, Publish}
 use Rattle.reg_model.specs.Events.Command.{TokenAdd}
 use Rattle.reg_model.specs.Events.Event.{Ask, Order}
 use Rattle.reg_model.specs.Events.Answer.{Denied, Refused}
@@ -60,20 +60,20 @@ outcome limits s (Ask digest asked) = unless_denied s (denied limits s digest as
 outcome limits s (Order c) = unless_refused s (refused limits s c) (replied s c, commanded s c)
 
 -- what is answered where memory or the store is refused
-abbrev pub no_room : Event → Answer
-no_room (Ask digest asked) = Denied rule.S1
-no_room (Order c) = Refused refusal.G10
+abbrev pub unavailable : Event → Answer
+unavailable (Ask digest asked) = Denied rule.S1
+unavailable (Order c) = Refused refusal.G10
 
 -- From s, the event may be answered a and lead to t: this is its outcome, or room was refused and
 -- nothing changed.
 abbrev pub Step : Limits → Registry → Event → Answer → Registry → Type 0
 Step limits s e a t = ((a ≡ (outcome limits s e).0) × (t ≡ (outcome limits s e).1))
-    ⊎ ((a ≡ no_room e) × (t ≡ s))
+    ⊎ ((a ≡ unavailable e) × (t ≡ s))
 
 -- what an event may bring: a faulty body or query breaks a rule of its own, a publication is
 -- genuine, and the digest of a token has 32 bytes
 abbrev pub IsFit : Event → Type 0
-IsFit (Ask digest (Faulty r)) = is_own_rule r ≡ true
+IsFit (Ask digest (Malformed r)) = is_own_rule r ≡ true
 IsFit (Ask digest (Publish p)) = IsGenuine p
 IsFit (Order (TokenAdd login words patterns digest)) = length digest ≡ 32
 IsFit _ = Unit {0}

@@ -1,6 +1,6 @@
 //! Laws of the definitions, each the contract of a function that does nothing.
 
-ghost use Rattle.reg_model.specs.Laws.{AccessComesFirst, DenialsKeep, DenialsName, EmptySound, FilesHaveRoom, GrantsArePolicy, IndexPathsAreOfCrates, PlainMatches, PlainVerdicts, RefusalsKeep, RunsJoin, RunsKeepSound, SightAnswers, StemsGrow, StepsAgree, StepsKeepSound, StepsRun, WiderAllows, WiderOrders};
+ghost use Rattle.reg_model.specs.Laws.{AccessComesFirst, DenialsKeep, DenialsName, EmptySound, FilesHaveRoom, GrantsArePolicy, IndexPathsAreOfCrates, PlainDenials, PlainFinds, PlainOutcomes, RefusalsKeep, RunsJoin, RunsKeepSound, SightAnswers, StemsGrow, StepsAgree, StepsKeepSound, StepsRun, WiderAllows, WiderOrders};
 ghost use Rattle.reg_model.specs.TrailLaws.{LinesAreRead, LinesNameAskers, MarksAreRead, MarksAreReplayed, MarksShowGaps, OwnersAreTold, PublicationsAreTold, SameTrails, ToldChange, TrailOfOne, TrailsJoin, TrailsReplay, UntoldKeep, YanksAreTold};
 
 /// Steps in a row form a run.
@@ -63,10 +63,12 @@ pub fn sight_law()
     ensures { SightAnswers }
 {}
 
-/// If no crate is restricted, all is as without visibility.
+/// If no crate is restricted, requests are denied and answered, and crates found, as before any
+/// could be.
 pub fn plain_law()
-    ensures verdicts { PlainVerdicts }
-    ensures matches { PlainMatches }
+    ensures denied { PlainDenials }
+    ensures outcomes { PlainOutcomes }
+    ensures finds { PlainFinds }
 {}
 
 /// What is allowed under some limits is allowed under wider ones.

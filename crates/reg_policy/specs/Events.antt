@@ -4,7 +4,7 @@ use Rattle.std.specs.Option.{option_map}
 use Rattle.reg_model.specs.Registry as model
 use Rattle.reg_model.specs.Events as events
 use Rattle.reg_model.specs.Events.Reading.{Config as to_config, Search as to_search}
-use Rattle.reg_model.specs.Events.Asked.{Faulty as to_faulty, Read as to_read, Index as to_index, Download as to_download, ListOwners as to_list, Publish as to_publish, Yank as to_yank, Unyank as to_unyank, AddOwners as to_add, RemoveOwners as to_remove}
+use Rattle.reg_model.specs.Events.Asked.{Malformed as to_malformed, Read as to_read, Index as to_index, Download as to_download, ListOwners as to_list, Publish as to_publish, Yank as to_yank, Unyank as to_unyank, AddOwners as to_add, RemoveOwners as to_remove}
 use Rattle.reg_model.specs.Events.Command.{UserAdd as to_user_add, UserDisable as to_disable, UserEnable as to_enable, TokenAdd as to_token_add, TokenRevoke as to_revoke, Reserve as to_reserve, Unreserve as to_unreserve, OwnerAdd as to_owner_add, Access as to_access, Users as to_users, Tokens as to_tokens, Crates as to_crates, CrateRestrict as to_restrict, CrateOpen as to_open, ReaderAdd as to_reader_add, ReaderRemove as to_reader_remove}
 use Rattle.reg_model.specs.Events.Event.{Ask as to_ask, Order as to_order}
 use Rattle.reg_model.specs.Events.Answer.{Denied as to_denied, Granted as to_granted, File as to_file, Archive as to_archive, Owners as to_owners, Refused as to_refused, Done as to_done, Id as to_id, Report as to_report, Config as to_config_text, Found as to_found}
@@ -12,7 +12,7 @@ use Rattle.reg_policy.specs.declared.event.Reading.{Reading}
 use Rattle.reg_policy.specs.declared.event.Reading.TheVariants.{Config, Search}
 use Rattle.reg_policy.specs.declared.event.NewPublication.{NewPublication}
 use Rattle.reg_policy.specs.declared.event.Asked.{Asked}
-use Rattle.reg_policy.specs.declared.event.Asked.TheVariants.{Faulty, Read, Index, Download, ListOwners, Publish, Yank, Unyank, AddOwners, RemoveOwners}
+use Rattle.reg_policy.specs.declared.event.Asked.TheVariants.{Malformed, Read, Index, Download, ListOwners, Publish, Yank, Unyank, AddOwners, RemoveOwners}
 use Rattle.reg_policy.specs.declared.event.AdminCommand.{AdminCommand}
 use Rattle.reg_policy.specs.declared.event.AdminCommand.TheVariants.{UserAdd, UserDisable, UserEnable, TokenAdd, TokenRevoke, Reserve, Unreserve, OwnerAdd, Access, Users, Tokens, Crates, CrateRestrict, CrateOpen, ReaderAdd, ReaderRemove}
 use Rattle.reg_policy.specs.declared.event.Event.{Event}
@@ -30,17 +30,16 @@ reading_of (Search text most) = to_search text.now most
 
 abbrev pub publication_of : NewPublication → model.Publication
 publication_of v = record {
-  name = v.name.now;
-  version = v.version.now;
-  description = option_map
-      (λ d. d.now) v.description;
-  stem = v.stem.now;
-  digest = v.digest.now;
+  name = v.name;
+  version = string_bytes v.version;
+  description = option_map string_bytes v.description;
+  stem = v.stem.items;
+  digest = v.digest;
   archive = v.archive.now;
 }
 
 abbrev pub asked_of : Asked → events.Asked
-asked_of (Faulty r) = to_faulty r
+asked_of (Malformed r) = to_malformed r
 asked_of (Read what) = to_read (reading_of what)
 asked_of (Index path) = to_index path.now
 asked_of (Download n v) = to_download n.now v.now
@@ -48,8 +47,8 @@ asked_of (ListOwners n) = to_list n.now
 asked_of (Publish p) = to_publish (publication_of p)
 asked_of (Yank n v) = to_yank n.now v.now
 asked_of (Unyank n v) = to_unyank n.now v.now
-asked_of (AddOwners n logins) = to_add n.now (map (λ l. l.now) logins.now)
-asked_of (RemoveOwners n logins) = to_remove n.now (map (λ l. l.now) logins.now)
+asked_of (AddOwners n logins) = to_add n.now (map string_bytes logins.items)
+asked_of (RemoveOwners n logins) = to_remove n.now (map string_bytes logins.items)
 
 abbrev pub command_of : AdminCommand → events.Command
 command_of (UserAdd login name) = to_user_add login.now (option_map (λ n. n.now) name)

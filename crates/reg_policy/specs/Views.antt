@@ -1,5 +1,5 @@
 -- What rows and actions of programs stand for.
-use Rattle.std.specs.Prelude.{◌==◌, ◌&&◌, ◌||◌, Bool, not, is_some, length, map, Option, Some, None}
+use Rattle.std.specs.Prelude.{◌==◌, ◌&&◌, ◌||◌, Bool, not, is_some, length, map, string_bytes, Option, Some, None}
 use Rattle.std.specs.Option.{option_map}
 use Rattle.std.specs.List.{list_any, list_all}
 use Rattle.std.specs.Str.{bytes_eq}
@@ -27,8 +27,8 @@ action_of (ListOwners n) = to_list n.now
 action_of (Publish n v) = to_publish n.now v.now
 action_of (Yank n v) = to_yank n.now v.now
 action_of (Unyank n v) = to_unyank n.now v.now
-action_of (AddOwners n logins) = to_add n.now (map (λ l. l.now) logins.now)
-action_of (RemoveOwners n logins) = to_remove n.now (map (λ l. l.now) logins.now)
+action_of (AddOwners n logins) = to_add n.now (map string_bytes logins.now)
+action_of (RemoveOwners n logins) = to_remove n.now (map string_bytes logins.now)
 
 abbrev pub decision_of : Option Rule → Decision
 decision_of None = Allowed

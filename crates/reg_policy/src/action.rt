@@ -23,9 +23,9 @@ pub enum Action<'a> {
     /// Undoes a yank.
     Unyank(&'a str, &'a str),
     /// Makes the accounts with these logins owners of a crate.
-    AddOwners(&'a str, &'a [&'a str]),
+    AddOwners(&'a str, &'a [String]),
     /// Removes these accounts from a crate's owners.
-    RemoveOwners(&'a str, &'a [&'a str]),
+    RemoveOwners(&'a str, &'a [String]),
 }
 
 /// Whether the rules on the state allow an action, or the first one it breaks.

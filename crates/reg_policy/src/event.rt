@@ -19,22 +19,23 @@ pub enum Reading<'a> {
 }
 
 /// A version that is published: its digest is the SHA-256 of the archive, its stem the index line
-/// up to the yanked mark.
+/// up to the yanked mark. The archive stays a part of the body.
 #[derive(Drop)]
 pub struct NewPublication<'a> {
-    pub name: &'a CrateName,
-    pub version: &'a str,
-    pub description: Option<&'a str>,
-    pub stem: &'a [u8],
-    pub digest: &'a [u8; 32],
+    pub name: CrateName,
+    pub version: String,
+    pub description: Option<String>,
+    pub stem: Vec<u8>,
+    pub digest: [u8; 32],
     pub archive: &'a [u8],
 }
 
-/// What a request asks for. Crates and versions are as written in a path.
+/// What a request asks for, with what was decoded of its body. Crates and versions are as written
+/// in a path.
 #[derive(Drop)]
 pub enum Asked<'a> {
     /// The body or the query breaks this rule, and none before it.
-    Faulty(Rule),
+    Malformed(Rule),
     Read(Reading<'a>),
     Index(&'a str),
     Download(&'a str, &'a str),
@@ -42,8 +43,8 @@ pub enum Asked<'a> {
     Publish(NewPublication<'a>),
     Yank(&'a str, &'a str),
     Unyank(&'a str, &'a str),
-    AddOwners(&'a str, &'a [&'a str]),
-    RemoveOwners(&'a str, &'a [&'a str]),
+    AddOwners(&'a str, Vec<String>),
+    RemoveOwners(&'a str, Vec<String>),
 }
 
 /// A command of the administrator.
@@ -119,19 +120,19 @@ pub enum Answer {
 }
 
 /// The action that is asked for: all that the rules on the state look at.
-pub fn action_of<'a>(asked: &Asked<'a>) -> Action<'a>
+pub fn action_of<'a>(asked: &'a Asked<'_>) -> Action<'a>
     ensures { view_of result ≡ action_asked (asked_of asked.now) }
 {
     match asked {
-        Asked::Faulty(_) => Action::Read,
+        Asked::Malformed(_) => Action::Read,
         Asked::Read(_) => Action::Read,
         Asked::Index(path) => Action::Index(path),
         Asked::Download(name, version) => Action::Download(name, version),
         Asked::ListOwners(name) => Action::ListOwners(name),
-        Asked::Publish(new) => Action::Publish(new.name, new.version),
+        Asked::Publish(new) => Action::Publish(&new.name, new.version.as_str()),
         Asked::Yank(name, version) => Action::Yank(name, version),
         Asked::Unyank(name, version) => Action::Unyank(name, version),
-        Asked::AddOwners(name, logins) => Action::AddOwners(name, logins),
-        Asked::RemoveOwners(name, logins) => Action::RemoveOwners(name, logins),
+        Asked::AddOwners(name, logins) => Action::AddOwners(name, logins.as_slice()),
+        Asked::RemoveOwners(name, logins) => Action::RemoveOwners(name, logins.as_slice()),
     }
 }

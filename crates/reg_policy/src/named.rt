@@ -1,6 +1,6 @@
 //! What an action names.
 
-ghost use Rattle.std.specs.Prelude.{◌≡◌, map};
+ghost use Rattle.std.specs.Prelude.{◌≡◌, map, string_bytes};
 ghost use Rattle.reg_model.specs.Actions.{crate_of, logins_of, version_of};
 ghost use Rattle.reg_policy.specs.Views.{action_of};
 
@@ -42,8 +42,8 @@ pub(crate) fn version_of<'a>(action: &Action<'a>) -> &'a str
 }
 
 /// The logins that an action names.
-pub fn logins_of<'a>(action: &Action<'a>) -> &'a [&'a str]
-    ensures { map (λ l. l.now) result.now ≡ logins_of (action_of action.now) }
+pub fn logins_of<'a>(action: &Action<'a>) -> &'a [String]
+    ensures { map string_bytes result.now ≡ logins_of (action_of action.now) }
 {
     match action {
         Action::Read => &[],

@@ -1,6 +1,6 @@
 //! The facts that the rows about a caller and a crate state.
 
-ghost use Rattle.std.specs.Prelude.{◌≡◌, ◌==◌};
+ghost use Rattle.std.specs.Prelude.{◌≡◌, ◌==◌, string_bytes};
 ghost use Rattle.std.specs.List.{list_all, list_any};
 ghost use Rattle.std.specs.Str.{bytes_eq};
 ghost use Rattle.reg_names.specs.Patterns.{covers};
@@ -138,22 +138,22 @@ fn owns_login(rows: &Rows, login: &str) -> bool
         .any(|owner| same_text(owner.login, login))
 }
 
-fn is_named(logins: &[&str], login: &str) -> bool
-    ensures { result ≡ list_any (λ l. bytes_eq login.now l.now) logins.now }
+fn is_named(logins: &[String], login: &str) -> bool
+    ensures { result ≡ list_any (λ l. bytes_eq login.now (string_bytes l)) logins.now }
 {
     logins.iter().any(|named| same_text(login, named))
 }
 
-fn are_owners(rows: &Rows, logins: &[&str]) -> bool
+fn are_owners(rows: &Rows, logins: &[String]) -> bool
     ensures { result ≡ list_all (λ l. list_any
-        (λ o. bytes_eq o.login.now l.now) rows.now.owners.now) logins.now }
+        (λ o. bytes_eq o.login.now (string_bytes l)) rows.now.owners.now) logins.now }
 {
     logins.iter().all(|login| owns_login(rows, login))
 }
 
-fn are_all_owners(rows: &Rows, logins: &[&str]) -> bool
+fn are_all_owners(rows: &Rows, logins: &[String]) -> bool
     ensures { result ≡ list_all (λ o. list_any
-        (λ l. bytes_eq o.login.now l.now) logins.now) rows.now.owners.now }
+        (λ l. bytes_eq o.login.now (string_bytes l)) logins.now) rows.now.owners.now }
 {
     rows.owners
         .iter()

@@ -5,8 +5,8 @@ use Rattle.std.specs.FinSet as finset
 use Rattle.std.specs.List.{enumerate_from}
 use Rattle.reg_model.specs.Registry.{Account, Text, with_id}
 use Rattle.reg_model.specs.Crates.{is_among}
-use Rattle.reg_tables_meaning.proofs.Numbered.{one_at}
-use Rattle.reg_tables_meaning.proofs.FoundTokens.{the_some}
+use Rattle.reg_tables_represent.proofs.Numbered.{one_at}
+use Rattle.reg_tables_represent.proofs.FoundTokens.{the_some}
 
 pub none_any : {X : Type 0} (xs : List X) → list_any (λ x. false) xs ≡ false
 none_any [] = refl

@@ -2,7 +2,7 @@
 use Rattle.reg_search.proofs.Words.{◌≡◌, ◌==◌, ℕ, pos, Bool, true, ◌&&◌, ◌||◌, not, List, [], ◌∷◌, map, Option, Some, None, refl, sym, ap}
 use Rattle.reg_search.proofs.Words.{subst, ◌∙◌, nat_eq, slice_get, filter, list_any, option_and_then, option_map, on, bytes_eq, and_parts}
 use Rattle.reg_search.proofs.Words.{eq-eqb, eqb-true, Binary, Row, column, Trees, Int, equal, canon, is_name, Marked, top_place, top_is_top}
-use Rattle.reg_search.proofs.Words.{sees, Registry, owner_cmp, canon-canon, any_same, IsIn, each_in, in_any, in_filter, Holds, Ids}
+use Rattle.reg_search.proofs.Words.{sees, Registry, owner_cmp, canon-canon, any_same, IsIn, each_in, in_any, in_filter, StandsSoundBy, IdAssignment}
 use Rattle.reg_search.proofs.Words.{StoredCrate, StoredVersion, row_of_version, row_of_summary, top_of, crate_has}
 use Rattle.std.specs.FinSet as finset
 use Rattle.reg_model.specs.Crates.{has_crate}
@@ -13,15 +13,15 @@ use Rattle.reg_model.proofs.Seen.{sees_alike}
 use Rattle.reg_model.proofs.Members.{any_in, all_in, one_passes}
 use Rattle.reg_tables_schema.proofs.Permutes.{one_row}
 use Rattle.reg_tables_schema.proofs.Queries.{equals_int, same_filter}
-use Rattle.reg_tables_meaning.specs.Stands.{StandPairs, StoredPair, columns_of_stored, is_of, is_paired, spelling_at}
-use Rattle.reg_tables_meaning.specs.Summaries.{its_versions, marked_of, top_among}
-use Rattle.reg_tables_meaning.proofs.CrateLemmas.{apart_by, is_published, spelled_at, text_itself, version_of}
-use Rattle.reg_tables_meaning.proofs.CrateNames.{kept}
-use Rattle.reg_tables_meaning.proofs.Rowids.{any_columns, first_column, second_column}
-use Rattle.reg_tables_meaning.proofs.Standing.{same_number}
-use Rattle.reg_tables_meaning.proofs.SummaryLaws.{top_named}
-use Rattle.reg_tables_meaning.proofs.SummaryRows.{got_map}
-use Rattle.reg_tables_meaning.proofs.SummaryPushed.{in_at}
+use Rattle.reg_tables_represent.specs.Stands.{StandPairs, StoredPair, columns_of_stored, is_of, is_paired, spelling_at}
+use Rattle.reg_tables_represent.specs.Summaries.{its_versions, marked_of, top_among}
+use Rattle.reg_tables_represent.proofs.CrateLemmas.{apart_by, is_published, spelled_at, text_itself, version_of}
+use Rattle.reg_tables_represent.proofs.CrateNames.{kept}
+use Rattle.reg_tables_represent.proofs.Rowids.{any_columns, first_column, second_column}
+use Rattle.reg_tables_represent.proofs.Standing.{same_number}
+use Rattle.reg_tables_represent.proofs.SummaryLaws.{top_named}
+use Rattle.reg_tables_represent.proofs.SummaryRows.{got_map}
+use Rattle.reg_tables_represent.proofs.SummaryPushed.{in_at}
 use Rattle.reg_search.proofs.Among.{among_held}
 use Rattle.reg_search.proofs.Tops.{there_is_top}
 
@@ -44,7 +44,7 @@ top_found yanked (z ∷ vs) w i = let t = there_is_top (marked_of yanked z) (map
         let none : Some is.0 ≡ None = sym is.1 ∙ got_map (marked_of yanked) k (z ∷ vs) ∙ ap (option_map (marked_of yanked)) got in
         cc none
 
-module _ (ids : Ids) (s : Registry) (db : Trees) (h : Holds ids s db) (x : StoredCrate) (i : IsIn x ids.crates) where
+module _ (ids : IdAssignment) (s : Registry) (db : Trees) (h : StandsSoundBy ids s db) (x : StoredCrate) (i : IsIn x ids.crates) where
   at : spelling_at ids x.0 ≡ Some x.1
   at = spelled_at ids s.publications s.yanked db h.stands.crates x.0 x.1 i
 

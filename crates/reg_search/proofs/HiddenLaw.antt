@@ -4,7 +4,7 @@ use Rattle.reg_search.proofs.Words.{◌≡◌, ◌==◌, ℕ, pos, Bool, true, f
 use Rattle.reg_search.proofs.Words.{filter, list_any, IsPermutation, eqb-true, IsPermutation-trans, list_any-IsPermutation, Binary, is_true}
 use Rattle.reg_search.proofs.Words.{Row, column, overlay, IsSureAnswer, inner, Env, eval_all, Trees, Blob, Int, Text, equal, Instr}
 use Rattle.reg_search.proofs.Words.{map-flat_map, canon, Registry, occurs, any_filter, any_same, list_any_map, IsIn, each_in, in_each}
-use Rattle.reg_search.proofs.Words.{and_true, answers, number_columns, Holds, Ids, StoredCrate, row_of_crate, Hides, is_unseen, each_gate}
+use Rattle.reg_search.proofs.Words.{and_true, answers, number_columns, StandsSoundBy, IdAssignment, StoredCrate, row_of_crate, Hides, is_unseen, each_gate}
 use Rattle.std.specs.FinSet as finset
 use Rattle.std.proofs.lemmas.List.Sorted.{IsPermutation-map}
 use Rattle.sqlite.specs.Ops.{binary}
@@ -78,7 +78,7 @@ module _ (db : Trees) (params : Row) where
       ∙ any_each test (λ r. projected (matches db of_needle (inner 7 counts) (params ∷ r ∷ []))) (db 17)
       ∙ any_same _ _ (λ r. ap (list_any test) (all_of r) ∙ list_any_map test (λ c. column r 0 ∷ []) (filter (is_hidden r) (db 7)) ∙ any_filter (is_hidden r) (λ c. test (column r 0 ∷ [])) (db 7)) (db 17)
 
-module _ (ids : Ids) (s : Registry) (db : Trees) (h : Holds ids s db) (viewer : ℕ) (needle : Words) (list : List ℕ) where
+module _ (ids : IdAssignment) (s : Registry) (db : Trees) (h : StandsSoundBy ids s db) (viewer : ℕ) (needle : Words) (list : List ℕ) where
   abbrev params : Row
   params = Int (pos viewer) ∷ Blob needle ∷ []
 

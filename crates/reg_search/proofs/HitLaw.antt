@@ -2,8 +2,8 @@
 use Rattle.reg_search.proofs.Words.{◌≡◌, ◌==◌, ℕ, pos, Bool, true, false, ◌&&◌, cond, List, [], ◌∷◌, ◌++◌, map, Option, Some, None, refl}
 use Rattle.reg_search.proofs.Words.{sym, ap, subst, ◌∙◌, slice_get, filter, flat_map, IsPermutation, option_and_then, option_map, bytes_eq}
 use Rattle.reg_search.proofs.Words.{IsPermutation-trans, Binary, Row, column, overlay, IsSureAnswer, inner, eval_all, Trees, Int, equal}
-use Rattle.reg_search.proofs.Words.{map-flat_map, canon, top_place, Registry, hit, canon-canon, IsIn, and_true, answers, each_gate, Holds}
-use Rattle.reg_search.proofs.Words.{Ids, StoredCrate, StoredVersion, row_of_crate, row_of_version, row_of_summary, top_of, columns_of_hit}
+use Rattle.reg_search.proofs.Words.{map-flat_map, canon, top_place, Registry, hit, canon-canon, IsIn, and_true, answers, each_gate, StandsSoundBy}
+use Rattle.reg_search.proofs.Words.{IdAssignment, StoredCrate, StoredVersion, row_of_crate, row_of_version, row_of_summary, top_of, columns_of_hit}
 use Rattle.reg_search.proofs.Words.{hit_of, Hit}
 use Rattle.std.specs.Prelude.{unwrap_or}
 use Rattle.std.specs.FinSet as finset
@@ -15,9 +15,9 @@ use Rattle.reg_model.specs.Crates.{first}
 use Rattle.reg_model.specs.Events as model
 use Rattle.reg_model.specs.Registry.{Publication, Text as Words}
 use Rattle.reg_model.specs.Search.{top}
-use Rattle.reg_tables_meaning.proofs.AccountEntries.{heads, tails, text_is, words_are}
-use Rattle.reg_tables_meaning.proofs.CrateNames.{first_spelled}
-use Rattle.reg_tables_meaning.proofs.Selected.{same_one}
+use Rattle.reg_tables_represent.proofs.AccountEntries.{heads, tails, text_is, words_are}
+use Rattle.reg_tables_represent.proofs.CrateNames.{first_spelled}
+use Rattle.reg_tables_represent.proofs.Selected.{same_one}
 use Rattle.reg_search.specs.Rows.{columns_of_model}
 use Rattle.reg_search.proofs.CrateFacts.{alone, highest, highest_row, its_row, same_id, top_is}
 use Rattle.reg_search.proofs.Joined.{joined}
@@ -49,7 +49,7 @@ last_is [] h row e = same_one e
 last_is (k ∷ []) h row e = one_more e
 last_is (k ∷ l ∷ front) h row e = one_more e
 
-module _ (ids : Ids) (s : Registry) (db : Trees) (h : Holds ids s db) (id : ℕ) where
+module _ (ids : IdAssignment) (s : Registry) (db : Trees) (h : StandsSoundBy ids s db) (id : ℕ) where
   abbrev params : Row
   params = Int (pos id) ∷ []
 

@@ -5,7 +5,7 @@ use Rattle.std.proofs.Common.{append-nil}
 use Rattle.sqlite.specs.Ops.{binary, unary}
 use Rattle.sqlite.specs.Query.{matches, or_nulls}
 use Rattle.sqlite.specs.Term.{holds}
-use Rattle.reg_tables_meaning.proofs.Gates.{bit, counted_any}
+use Rattle.reg_tables_represent.proofs.Gates.{bit, counted_any}
 use Rattle.reg_search.proofs.Texts.{after_crate, counts, of_id, of_needle, on_version, read}
 
 -- the slots as WHERE finds them

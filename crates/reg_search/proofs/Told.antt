@@ -2,7 +2,7 @@
 use Rattle.reg_search.proofs.Words.{◌≡◌, ℕ, pos, List, [], ◌∷◌, ◌++◌, map, length, take, get_or, ◌+◌, ◌<◌, Err, Ok, Result, arith, refl}
 use Rattle.reg_search.proofs.Words.{sym, ap, subst, ◌∙◌, AllByRecursion, IsPermutation, Held, state, Row, overlay, IsSureAnswer, Query}
 use Rattle.reg_search.proofs.Words.{HasCleanDisk, Blob, Int, Ghosts, canon, Registry, hit, Trees, number_columns, ours, rows_in, Second}
-use Rattle.reg_search.proofs.Words.{maps_twice, IsSelection, Ids, StoredCrate, IsRead, HIDDEN_TEXT, HIT_TEXT, WALK_TEXT, AreHits, AreIdsOf}
+use Rattle.reg_search.proofs.Words.{maps_twice, IsSelection, IdAssignment, StoredCrate, IsRead, HIDDEN_TEXT, HIT_TEXT, WALK_TEXT, AreHits, AreIdsOf}
 use Rattle.reg_search.proofs.Words.{FindsIds, ShowsCrate, ShowsCrates, columns_of_hit, hit_of, Hit, Hits}
 use Rattle.std.proofs.Common.{IfOk}
 use Rattle.std.specs.Prelude.{option_to_list}
@@ -57,7 +57,7 @@ pub shown_at : (numbers : List ℕ) (k : ℕ) (db : Trees) (hs : List Hit) (h : 
 shown_at numbers k db hs h low all one = subst (λ ns. ShowsCrates ns db (hs ++ h ∷ [])) (sym (take_more numbers k 0 low)) (one_shown (take k numbers) db hs (get_or numbers k 0) h all one)
 
 -- all of them
-all_shown : (ids : Ids) (s : Registry) (db : Trees) → ((id : ℕ) (h : Hit) → ShowsCrate id db h → (x : StoredCrate) → IsIn x ids.crates → x.0 ≡ id → hit_of h ≡ hit s (canon x.1)) → (xs : List StoredCrate) (hs : List Hit)
+all_shown : (ids : IdAssignment) (s : Registry) (db : Trees) → ((id : ℕ) (h : Hit) → ShowsCrate id db h → (x : StoredCrate) → IsIn x ids.crates → x.0 ≡ id → hit_of h ≡ hit s (canon x.1)) → (xs : List StoredCrate) (hs : List Hit)
     → ShowsCrates (map (λ x. x.0) xs) db hs → AllByRecursion (λ x. IsIn x ids.crates) xs → map hit_of hs ≡ map (λ x. hit s (canon x.1)) xs
 all_shown ids s db told [] [] shown there = refl
 all_shown ids s db told [] (h ∷ hs) shown there = absurd shown

@@ -3,7 +3,7 @@ use Rattle.reg_search.proofs.Words.{◌≡◌, ◌==◌, ℕ, Bool, true, false,
 use Rattle.reg_search.proofs.Words.{subst, ◌∙◌, AllByRecursion, filter, list_any, IsPermutation, on, bytes_eq, nat_list_eq_equiv}
 use Rattle.reg_search.proofs.Words.{length-map, IsPermutation-trans, list_any-IsPermutation, Row, overlay, IsSureAnswer, eval_all, Trees}
 use Rattle.reg_search.proofs.Words.{canon, sees, Registry, occurs, any_same, list_any_map, IsIn, each_in, in_each, maps_twice, crate_has}
-use Rattle.reg_search.proofs.Words.{Holds, Ids, StoredCrate, row_of_crate, AreHits, AreIdsOf, Hides, id_of, is_hit, is_unseen, Hits}
+use Rattle.reg_search.proofs.Words.{StandsSoundBy, IdAssignment, StoredCrate, row_of_crate, AreHits, AreIdsOf, Hides, id_of, is_hit, is_unseen, Hits}
 use Rattle.std.specs.Ordering.{eq_by_cmp, is_gt}
 use Rattle.std.proofs.lemmas.List.{take-map}
 use Rattle.std.proofs.lemmas.List.Sorted.{IsPermutation-sym}
@@ -20,8 +20,8 @@ use Rattle.reg_tables_schema.proofs.Ordered.{all_ordered}
 use Rattle.reg_tables_schema.proofs.Permutes.{filter_map}
 use Rattle.reg_tables_schema.proofs.Sorted.{then_equal}
 use Rattle.reg_tables_schema.specs.Rows.{IsInOrder, by_column}
-use Rattle.reg_tables_meaning.proofs.AllCrates.{canons_rise}
-use Rattle.reg_tables_meaning.proofs.Selected.{column_total}
+use Rattle.reg_tables_represent.proofs.AllCrates.{canons_rise}
+use Rattle.reg_tables_represent.proofs.Selected.{column_total}
 use Rattle.reg_search.specs.Rows.{row_of}
 use Rattle.reg_search.proofs.Lists.{each_passes, each_taken}
 use Rattle.reg_model.proofs.CanonLists.{all_canons}
@@ -30,7 +30,7 @@ use Rattle.reg_search.proofs.Texts.{walk_query}
 abbrev canon_of : StoredCrate → Words
 canon_of x = canon x.1
 
-module _ (ids : Ids) (s : Registry) (db : Trees) (h : Holds ids s db) where
+module _ (ids : IdAssignment) (s : Registry) (db : Trees) (h : StandsSoundBy ids s db) where
   -- the crates in the order of the walk
   pub record Walked (rows : List Row) : Type 0 where
     pub crates : List StoredCrate

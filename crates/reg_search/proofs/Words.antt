@@ -20,18 +20,18 @@ pub use Rattle.reg_model.specs.Crates.{sees}
 pub use Rattle.reg_model.specs.Registry.{Registry, owner_cmp}
 pub use Rattle.reg_model.specs.Search.{hit, occurs}
 pub use Rattle.reg_names.specs.Names.{canon, is_name}
-pub use Rattle.reg_tables_meaning.proofs.CrateCounts.{crate_has}
-pub use Rattle.reg_tables_meaning.proofs.Gates.{each_gate}
-pub use Rattle.reg_tables_meaning.proofs.Walking.{walk_ends, walk_fails, walk_left, walked, walked_all}
-pub use Rattle.reg_tables_meaning.specs.Stands.{Holds, Ids, StoredCrate, StoredVersion, row_of_crate, row_of_version}
-pub use Rattle.reg_tables_meaning.specs.Summaries.{row_of_summary, top_of}
-pub use Rattle.reg_tables_meaning.specs.Walks.{HasWalked, IsRead}
+pub use Rattle.reg_tables_represent.proofs.CrateCounts.{crate_has}
+pub use Rattle.reg_tables_represent.proofs.Gates.{each_gate}
+pub use Rattle.reg_tables_represent.proofs.Walking.{walk_ends, walk_fails, walk_left, walked, walked_all}
+pub use Rattle.reg_tables_represent.specs.Stands.{StandsSoundBy, IdAssignment, StoredCrate, StoredVersion, row_of_crate, row_of_version}
+pub use Rattle.reg_tables_represent.specs.Summaries.{row_of_summary, top_of}
+pub use Rattle.reg_tables_represent.specs.Walks.{HasWalked, IsRead}
 pub use Rattle.reg_tables_schema.proofs.Queries.{and_true, answers, maps_twice}
 pub use Rattle.reg_tables_schema.proofs.Reading.{IsSelection}
 pub use Rattle.reg_tables_schema.specs.Rows.{number_columns}
 pub use Rattle.reg_tables_schema.specs.Schema.{ours}
 pub use Rattle.reg_tables_schema.specs.Statements.{rows_in}
-pub use Rattle.reg_tables_schema.specs.declared.edition.Edition.TheVariants.{Second}
+pub use Rattle.reg_tables_schema.specs.declared.edition.SchemaVersion.TheVariants.{Second}
 pub use Rattle.reg_versions.proofs.TopPlace.{top_is_top}
 pub use Rattle.reg_versions.specs.Precedence.{Marked, top_place}
 pub use Rattle.sqlite.specs.Collation.TheVariants.{Binary}

@@ -13,8 +13,8 @@ use Rattle.reg_model.specs.Registry.{Registry, Text as Words}
 use Rattle.reg_model.specs.Search.{found, hit, matches, occurs}
 use Rattle.reg_names.specs.Names.{canon}
 use Rattle.reg_tables_schema.specs.Rows.{text_or_null}
-use Rattle.reg_tables_meaning.specs.Calls.{Tells}
-use Rattle.reg_tables_meaning.specs.Stands.{Ids, StoredCrate}
+use Rattle.reg_tables_represent.specs.Calls.{Tells}
+use Rattle.reg_tables_represent.specs.Stands.{IdAssignment, StoredCrate}
 use Rattle.reg_search.specs.declared.hit.Found.{Found}
 use Rattle.reg_search.specs.declared.hit.Hit.{Hit}
 use Rattle.reg_search.specs.declared.numbered.Hits.{Hits}
@@ -80,7 +80,7 @@ abbrev pub is_unseen : ℕ → Words → Registry → StoredCrate → Bool
 is_unseen viewer needle s x = occurs needle (canon x.1) && not (sees s (Some viewer) (canon x.1))
 
 -- these are all such crates, by their ids
-abbrev pub Hides : ℕ → Words → Ids → Registry → List ℕ → Type 0
+abbrev pub Hides : ℕ → Words → IdAssignment → Registry → List ℕ → Type 0
 Hides viewer needle ids s hidden = AllByRecursion
     (λ x. list_any (λ n. n == x.0) hidden ≡ is_unseen viewer needle s x) ids.crates
 
@@ -88,7 +88,7 @@ abbrev pub HidesFrom : ℕ → Words → Trees → List ℕ → Type 0
 HidesFrom viewer needle db hidden = Tells (λ ids s. Hides viewer needle ids s hidden) db
 
 -- these are the ids of the crates with these canonical texts, in turn
-pub record AreIdsOf (ids : Ids) (numbers : List ℕ) (texts : List Words) : Type 0 where
+pub record AreIdsOf (ids : IdAssignment) (numbers : List ℕ) (texts : List Words) : Type 0 where
   pub crates : List StoredCrate
   pub numbered : numbers ≡ map (λ x. x.0) crates
   pub named : texts ≡ map (λ x. canon x.1) crates

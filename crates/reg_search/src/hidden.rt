@@ -7,11 +7,11 @@ ghost use Rattle.sqlite.specs.Held.{state};
 ghost use Rattle.sqlite.specs.State.{HasCleanDisk};
 ghost use Rattle.reg_tables_schema.specs.States.{IsOurs};
 ghost use Rattle.reg_tables_schema.specs.Statements.{rows_in};
-ghost use Rattle.reg_tables_meaning.specs.Walks.{IsRead};
+ghost use Rattle.reg_tables_represent.specs.Walks.{IsRead};
 ghost use Rattle.reg_search.specs.Rows.{HidesFrom};
 
 use crate::records::read_all;
-use reg_tables::Edition;
+use reg_tables::SchemaVersion;
 use sqlite::{Alter, Connection, Error, params};
 use std::alloc::Global;
 
@@ -30,7 +30,7 @@ pub(crate) fn read_hidden<S: Alter>(
     viewer: u32,
     needle: &[u8],
 ) -> Result<Vec<u32>, Error>
-    requires { IsOurs Edition.Second (state S.Store conn.old) }
+    requires { IsOurs SchemaVersion.Second (state S.Store conn.old) }
     ensures hidden { HasCleanDisk (state S.Store conn.new) → IfOk result
         (λ list. HidesFrom viewer needle.now (rows_in S.Store conn.old) list.items) }
     ensures sorted { IfOk result (λ list. IsSorted nat_cmp list.items) }

@@ -5,12 +5,12 @@ ghost use Rattle.sqlite.specs.Held.{state};
 ghost use Rattle.sqlite.specs.State.{HasCleanDisk};
 ghost use Rattle.reg_tables_schema.specs.States.{IsOurs};
 ghost use Rattle.reg_tables_schema.specs.Statements.{rows_in};
-ghost use Rattle.reg_tables_meaning.specs.Walks.{IsRead};
+ghost use Rattle.reg_tables_represent.specs.Walks.{IsRead};
 ghost use Rattle.reg_search.specs.Rows.{ShowsCrate, ShowsCrates};
 
 use crate::hit::Hit;
 use crate::records::read_all;
-use reg_tables::Edition;
+use reg_tables::SchemaVersion;
 use sqlite::{Alter, Connection, Error, params};
 use std::alloc::Global;
 
@@ -20,7 +20,7 @@ const HIT_TEXT: &str = "SELECT c.name, v.vers, v.description FROM crates c \
     WHERE c.id = ?1";
 
 fn read_hit<S: Alter>(alloc: Global, conn: &mut Connection<S>, id: u32) -> Result<Hit, Error>
-    requires { IsOurs Edition.Second (state S.Store conn.old) }
+    requires { IsOurs SchemaVersion.Second (state S.Store conn.old) }
     ensures shown { HasCleanDisk (state S.Store conn.new) → IfOk result
         (ShowsCrate id (rows_in S.Store conn.old)) }
     ensures reads { IsRead S.Store result conn.old conn.new }
@@ -35,7 +35,7 @@ pub(crate) fn read_page<S: Alter>(
     conn: &mut Connection<S>,
     ids: &[u32],
 ) -> Result<Vec<Hit>, Error>
-    requires ours { IsOurs Edition.Second (state S.Store conn.old) }
+    requires ours { IsOurs SchemaVersion.Second (state S.Store conn.old) }
     requires open { HasCleanDisk (state S.Store conn.old)
         → IsTrue (state S.Store conn.old).is_open }
     ensures shown { HasCleanDisk (state S.Store conn.new) → IfOk result

@@ -4,7 +4,7 @@ ghost use Rattle.std.specs.Prelude.{IfOk, map};
 ghost use Rattle.sqlite.specs.Held.{state};
 ghost use Rattle.sqlite.specs.State.{HasCleanDisk};
 ghost use Rattle.sqlite.specs.Values.{bound};
-ghost use Rattle.reg_tables_meaning.specs.Walks.{IsRead, MayStream};
+ghost use Rattle.reg_tables_represent.specs.Walks.{IsRead, MayStream};
 ghost use Rattle.reg_search.specs.Reads.{AnswersOf};
 
 use reg_tables::{FromRow, rows_of};

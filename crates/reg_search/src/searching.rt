@@ -7,8 +7,8 @@ ghost use Rattle.sqlite.specs.Held.{state};
 ghost use Rattle.sqlite.specs.State.{HasCleanDisk};
 ghost use Rattle.reg_tables_schema.specs.States.{IsOurs};
 ghost use Rattle.reg_tables_schema.specs.Statements.{rows_in};
-ghost use Rattle.reg_tables_meaning.specs.Walks.{IsRead};
-ghost use Rattle.reg_tables.specs.Works.{AreOurs, edition_in, held, is_shut, shown};
+ghost use Rattle.reg_tables_represent.specs.Walks.{IsRead};
+ghost use Rattle.reg_tables.specs.Works.{AreOurs, edition_in, held, is_stopped, shown};
 ghost use Rattle.reg_search.specs.Rows.{FindsCrates, FindsIds, FindsNeedle};
 
 use crate::hidden::read_hidden;
@@ -17,7 +17,7 @@ use crate::numbered::Hits;
 use crate::page::read_page;
 use memchr::memmem::Finder;
 use reg_names::canon_text;
-use reg_tables::{Edition, StoreFault, Tables, rows_of};
+use reg_tables::{SchemaVersion, StoreFault, Tables, rows_of};
 use sqlite::{Alter, Connection, Error};
 use std::alloc::Global;
 
@@ -31,7 +31,7 @@ fn walk<S: Alter>(
     hidden: &[u32],
     most: u32,
 ) -> Result<Hits, Error>
-    requires ours { IsOurs Edition.Second (state S.Store conn.old) }
+    requires ours { IsOurs SchemaVersion.Second (state S.Store conn.old) }
     requires sorted { IsSorted nat_cmp hidden.now }
     ensures found { HasCleanDisk (state S.Store conn.new) → IfOk result
         (FindsIds needle.now hidden.now most (rows_in S.Store conn.old)) }
@@ -58,7 +58,7 @@ fn find<S: Alter>(
     needle: &Finder<'_>,
     most: u32,
 ) -> Result<Found, Error>
-    requires { IsOurs Edition.Second (state S.Store conn.old) }
+    requires { IsOurs SchemaVersion.Second (state S.Store conn.old) }
     ensures found { HasCleanDisk (state S.Store conn.new) → IfOk result
         (FindsNeedle viewer needle.now most (rows_in S.Store conn.old)) }
     ensures reads { IsRead S.Store result conn.old conn.new }
@@ -83,15 +83,15 @@ pub fn search<S: Alter>(
     per_page: u32,
 ) -> Result<Found, StoreFault>
     requires ours { AreOurs S.Store tables.old }
-    requires second { edition_in tables.old ≡ Edition.Second }
+    requires second { edition_in tables.old ≡ SchemaVersion.Second }
     ensures found { HasCleanDisk (shown S.Store tables.new) → IfOk result
         (FindsCrates viewer q.now per_page (shown S.Store tables.old).now.trees) }
     ensures reads { IsRead S.Store result (held tables.old) (held tables.new) }
-    ensures shut { is_shut tables.new ≡ is_shut tables.old }
-    ensures stopped { is_shut tables.old ≡ true → IsErr result }
+    ensures shut { is_stopped tables.new ≡ is_stopped tables.old }
+    ensures stopped { is_stopped tables.old ≡ true → IsErr result }
     ensures edition { edition_in tables.new ≡ edition_in tables.old }
 {
-    if tables.is_shut() {
+    if tables.is_stopped() {
         return Err(StoreFault);
     }
     let query = canon_text(alloc, q)?;

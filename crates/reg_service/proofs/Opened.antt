@@ -1,7 +1,7 @@
 -- A registry that was opened is the one that the store held.
 use Rattle.reg_service.proofs.Words.{◌≡◌, ◌∙◌, arith, ℕ, inl, inr, false, length, refl, None, Some, Ok, Err, Result, IsTrue, ap, sym, subst}
-use Rattle.reg_service.proofs.Words.{Database, Held, state, State, HasCleanDisk, Survives, Trees, survives_weaker, Ghosts, Edition, First}
-use Rattle.reg_service.proofs.Words.{Second, Check, IsOurs, IsUndone, LeavesCommit, AreBegun, Tables, AreOurs, edition_in, shown, Shows}
+use Rattle.reg_service.proofs.Words.{Database, Held, state, State, HasCleanDisk, Survives, Trees, survives_weaker, Ghosts, SchemaVersion, First}
+use Rattle.reg_service.proofs.Words.{Second, Check, IsOurs, IsUndone, LeavesCommit, AreBegun, Tables, AreOurs, edition_in, shown, StandsIn}
 use Rattle.reg_service.proofs.Words.{AreChecked, IsFirstFailing, MayBeUpgraded, tables_of, OpenFault, Damaged, Storage}
 use Rattle.std.proofs.Common.{IfErr, IfOk}
 use Rattle.sqlite.specs.Schema.{Schema}
@@ -11,18 +11,18 @@ use Rattle.reg_model.specs.Registry as model
 use Rattle.reg_tables_schema.specs.Schema.{schema_of}
 use Rattle.reg_tables_schema.proofs.MakeLemmas.{undone_keeps}
 use Rattle.reg_tables_sql.specs.Abouts.{HasBase}
-use Rattle.reg_audit_law.specs.Editions.{AreFound, EditionLaw, FoundLaw, HoldsAs, KeepsSchema}
-use Rattle.reg_tables_meaning.specs.Upgrades.{AreUpgraded, IsUpgraded}
+use Rattle.reg_check_sound.specs.Editions.{AreFound, EditionLaw, FoundLaw, StandsSoundAsBy, KeepsSchema}
+use Rattle.reg_tables_represent.specs.Upgrades.{AreUpgraded, IsUpgraded}
 use Rattle.reg_tables.proofs.Stopping.{leaves_last}
 use Rattle.reg_tables.specs.Ends.{LeavesLast}
 use Rattle.reg_tables.specs.Works as works
 use Rattle.reg_tables.specs.Works.{IsSame}
-use Rattle.reg_service.specs.declared.registry.Registry.{Registry}
-use Rattle.reg_service.specs.Answered.{AreAs}
+use Rattle.reg_service.specs.Registries.{Running}
+use Rattle.reg_service.specs.Answered.{StandsSoundAs}
 use Rattle.reg_service.specs.Registries.{AreDamaged, AreOne, IsBrought, LeavesOpened, MayBecome}
 
 -- tables of schema 2 are held as they are, and those of schema 1 upgraded
-pub still_brought : (e : Edition) (old new : State) → e ≡ Second → new ≡ old → IsBrought e old new
+pub still_brought : (e : SchemaVersion) (old new : State) → e ≡ Second → new ≡ old → IsBrought e old new
 still_brought First old new is same = absurd cc
 still_brought Second old new is same = record {
   was_open = λ up. subst (λ (s : State). IsTrue s.is_open) same up;
@@ -30,7 +30,7 @@ still_brought Second old new is same = record {
   left = λ db l. inl (is, subst (λ (s : State). s.may_leave db) same l);
 }
 
-pub upgrade_brought : (e : Edition) (old new : State) → e ≡ First → IsUpgraded old new → LeavesCommit new → IsBrought e old new
+pub upgrade_brought : (e : SchemaVersion) (old new : State) → e ≡ First → IsUpgraded old new → LeavesCommit new → IsBrought e old new
 upgrade_brought Second old new is up alone = absurd cc
 upgrade_brought First old new is up alone = record {
   was_open = λ _. up.was_open;
@@ -39,11 +39,11 @@ upgrade_brought First old new is up alone = record {
 }
 
 -- the checks change nothing
-still_now : (e : Edition) (old mid : State) → HasCleanDisk old → HasCleanDisk mid → IsOurs e old → IsOurs e mid → KeepsCommit old mid → IsTrue mid.is_open → mid.now ≡ old.now
+still_now : (e : SchemaVersion) (old mid : State) → HasCleanDisk old → HasCleanDisk mid → IsOurs e old → IsOurs e mid → KeepsCommit old mid → IsTrue mid.is_open → mid.now ≡ old.now
 still_now e old mid early clean rests_old rests_mid kept was = (rests_mid clean was).settled ∙ kept.committed was ∙ sym (rests_old early (kept.was_open was)).settled
 
 -- and so are those of before the checks
-pub brought_before : (e : Edition) (old mid new : State) → HasCleanDisk mid → HasCleanDisk old → IsOurs e old → IsOurs e mid → KeepsCommit old mid → Survives old mid (λ _. ⊥) → IsBrought e mid new → IsBrought e old new
+pub brought_before : (e : SchemaVersion) (old mid new : State) → HasCleanDisk mid → HasCleanDisk old → IsOurs e old → IsOurs e mid → KeepsCommit old mid → Survives old mid (λ _. ⊥) → IsBrought e mid new → IsBrought e old new
 brought_before e old mid new clean early rests_old rests_mid kept survives b = record {
   was_open = λ up. kept.was_open (b.was_open up);
   begun = λ up.
@@ -55,7 +55,7 @@ brought_before e old mid new clean early rests_old rests_mid kept survives b = r
   ];
 }
 
-pub examined_brought : {S E : Type 0} (g : Ghosts S) (old mid : Tables S) (r : Result (Registry S) E) → AreOurs g old → AreOurs g mid → edition_in mid ≡ edition_in old
+pub examined_brought : {S E : Type 0} (g : Ghosts S) (old mid : Tables S) (r : Result (Running S) E) → AreOurs g old → AreOurs g mid → edition_in mid ≡ edition_in old
     → (HasCleanDisk (shown g mid) → KeepsCommit (shown g old) (shown g mid)) → Survives (shown g old) (shown g mid) (λ _. ⊥)
     → IfOk r (λ x. HasCleanDisk (shown g (tables_of x)) → HasCleanDisk (shown g mid)) → IfOk r (λ x. HasCleanDisk (shown g (tables_of x)) → IsBrought (edition_in mid) (shown g mid) (shown g (tables_of x)))
     → IfOk r (λ x. HasCleanDisk (shown g (tables_of x)) → IsBrought (edition_in old) (shown g old) (shown g (tables_of x)))
@@ -73,7 +73,7 @@ then_undone a b c one two = record {
 }
 
 -- where nothing is in a transaction, a connection shows what was committed
-still_undone : (e : Edition) (s : State) → IsOurs e s → s.in_transaction ≡ false → HasCleanDisk s → IsUndone s s
+still_undone : (e : SchemaVersion) (s : State) → IsOurs e s → s.in_transaction ≡ false → HasCleanDisk s → IsUndone s s
 still_undone e s ours auto clean = record { was_open = λ up. up; undone = λ up. ((ours clean up).settled, refl); autocommit = auto }
 
 -- an upgrade that failed leaves it so
@@ -118,7 +118,7 @@ examined_left g old mid (Err e) rests_old rests_mid same kept one storage two =
     (storage, (sym same ∙ first, (kept still).was_open was, subst (λ (d : Database). AreUpgraded d db) now made)))
     one two
 
--- a stop leaves nothing new of what is handed back as it was
+-- a crash leaves nothing new of what is handed back as it was
 pub returned_left : {S : Type 0} (g : Ghosts S) (old : State) (new back : Held S) (P : Trees → Type 0) → back ≡ new → Survives old (state g new) (λ _. ⊥) → Survives old (state g back) P
 returned_left g old new back P is survives =
     subst (λ h. Survives old (state g h) P) (sym is) (survives_weaker old (state g new) _ P (λ _ db none. absurd none) survives)
@@ -126,7 +126,7 @@ returned_left g old new back P is survives =
 pub returned_undone : {S : Type 0} (g : Ghosts S) (old : State) (new back : Held S) → back ≡ new → (HasCleanDisk (state g new) → old.in_transaction ≡ false → IsUndone old (state g new)) → old.in_transaction ≡ false → HasCleanDisk (state g back) → IsUndone old (state g back)
 returned_undone g old new back is undone auto clean = subst (λ h. IsUndone old (state g h)) (sym is) (undone (subst (λ h. HasCleanDisk (state g h)) is clean) auto)
 
--- while a connection is open, a stop leaves its last commit alone
+-- while a connection is open, a crash leaves its last commit alone
 abbrev pub Settles : {S : Type 0} → Ghosts S → Type 0
 Settles {S} g = (h : Held S) → IsTrue (state g h).is_open → LeavesCommit (state g h)
 
@@ -145,7 +145,7 @@ fewer e = absurd cc
 abbrev tables_in : Schema → ℕ
 tables_in s = length s.tables
 
-one_edition : (e f : Edition) → schema_of e ≡ schema_of f → e ≡ f
+one_edition : (e f : SchemaVersion) → schema_of e ≡ schema_of f → e ≡ f
 one_edition First First h = refl
 one_edition Second Second h = refl
 one_edition First Second h = absurd (fewer (ap tables_in h))
@@ -178,21 +178,21 @@ module _ {S : Type 0} (g : Ghosts S) (conn : Held S) (t : Tables S) (k : IsTaken
   }
 
   -- what is held are the rows that a transaction on what was found begins with
-  module _ (law : EditionLaw) (x : Registry S) (early : HasCleanDisk (shown g (tables_of x)) → HasCleanDisk (shown g t)) (brought : HasCleanDisk (shown g (tables_of x)) → IsBrought (edition_in t) (shown g t) (shown g (tables_of x))) where
+  module _ (law : EditionLaw) (x : Running S) (early : HasCleanDisk (shown g (tables_of x)) → HasCleanDisk (shown g t)) (brought : HasCleanDisk (shown g (tables_of x)) → IsBrought (edition_in t) (shown g t) (shown g (tables_of x))) where
     abbrev held : State
     held = shown g (tables_of x)
 
-    held_by : HasCleanDisk held → IsTrue held.is_open → (ids : _) (s : model.Registry) → HoldsAs (edition_in t) ids s now.trees → HoldsAs Second ids s held.now.trees
+    held_by : HasCleanDisk held → IsTrue held.is_open → (ids : _) (s : model.Registry) → StandsSoundAsBy (edition_in t) ids s now.trees → StandsSoundAsBy Second ids s held.now.trees
     held_by clean up ids s =
         let b = brought clean in
         let was = b.was_open up in
         let begun = subst (λ (d : Database). AreBegun (edition_in t) d held.now.trees) (k.found (early clean) was) (b.begun up) in
         (law (edition_in t) now held.now.trees (are_found (early clean) was) begun ids s).0
 
-    held_same : HasCleanDisk held → (e : Edition) (s : model.Registry) → now.schema ≡ schema_of e → AreAs e s now.trees → Shows s held
+    held_same : HasCleanDisk held → (e : SchemaVersion) (s : model.Registry) → now.schema ≡ schema_of e → StandsSoundAs e s now.trees → StandsIn s held
     held_same clean e s is are up =
         let same = one_edition e (edition_in t) (sym is ∙ k.schema) in
-        (are.0, held_by clean up are.0 s (subst (λ f. HoldsAs f are.0 s now.trees) same are.1))
+        (are.0, held_by clean up are.0 s (subst (λ f. StandsSoundAsBy f are.0 s now.trees) same are.1))
 
     held_sound : FoundLaw → (HasCleanDisk held → AreChecked (edition_in t) (shown g t) None) → HasCleanDisk held → AreOne now held
     held_sound audited passed clean =
@@ -207,25 +207,25 @@ module _ {S : Type 0} (g : Ghosts S) (conn : Held S) (t : Tables S) (k : IsTaken
       | inr last ↦ inr (k.schema ∙ ap schema_of last.0, last.1)
     ]
 
-  module _ {E : Type 0} (r : Result (Registry S) E) where
+  module _ {E : Type 0} (r : Result (Running S) E) where
     abbrev Early : Type 0
     Early = IfOk r (λ x. HasCleanDisk (shown g (tables_of x)) → HasCleanDisk (shown g t))
 
     abbrev Brought : Type 0
     Brought = IfOk r (λ x. HasCleanDisk (shown g (tables_of x)) → IsBrought (edition_in t) (shown g t) (shown g (tables_of x)))
 
-  pub opened_same : {E : Type 0} (r : Result (Registry S) E) → EditionLaw → Early r → Brought r
-      → IfOk r (λ x. HasCleanDisk (shown g (tables_of x)) → (e : Edition) (s : model.Registry) → now.schema ≡ schema_of e → AreAs e s now.trees → Shows s (shown g (tables_of x)))
+  pub opened_same : {E : Type 0} (r : Result (Running S) E) → EditionLaw → Early r → Brought r
+      → IfOk r (λ x. HasCleanDisk (shown g (tables_of x)) → (e : SchemaVersion) (s : model.Registry) → now.schema ≡ schema_of e → StandsSoundAs e s now.trees → StandsIn s (shown g (tables_of x)))
   opened_same (Err f) law early brought = tt
   opened_same (Ok x) law early brought = held_same law x early brought
 
-  pub opened_sound : {E : Type 0} (r : Result (Registry S) E) → EditionLaw → FoundLaw → Early r → Brought r
+  pub opened_sound : {E : Type 0} (r : Result (Running S) E) → EditionLaw → FoundLaw → Early r → Brought r
       → IfOk r (λ x. HasCleanDisk (shown g (tables_of x)) → AreChecked (edition_in t) (shown g t) None)
       → IfOk r (λ x. HasCleanDisk (shown g (tables_of x)) → AreOne now (shown g (tables_of x)))
   opened_sound (Err f) law audited early brought passed = tt
   opened_sound (Ok x) law audited early brought passed = held_sound law x early brought audited passed
 
-  pub opened_left : {E : Type 0} (r : Result (Registry S) E) → EditionLaw → Early r → Brought r → Survives (state g conn) (shown g t) (λ _. ⊥)
+  pub opened_left : {E : Type 0} (r : Result (Running S) E) → EditionLaw → Early r → Brought r → Survives (state g conn) (shown g t) (λ _. ⊥)
       → IfOk r (λ x. HasCleanDisk (shown g (tables_of x)) → LeavesOpened (state g conn) (shown g (tables_of x)))
   opened_left (Err f) law early brought survives = tt
   opened_left (Ok x) law early brought survives = held_left law x early brought survives

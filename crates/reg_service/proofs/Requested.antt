@@ -1,14 +1,14 @@
 -- What each end of a transaction makes of a request, and what it leaves.
 use Rattle.reg_service.proofs.Words.{◌≡◌, ◌∙◌, arith, Bool, Option, None, Result, sym, subst, IsTrue, ℕ, false≢true, option_map}
 use Rattle.reg_service.proofs.Words.{string_bytes, HasCleanDisk, Ghosts, Limits, Asked, Ask, StepsKeepSound, Registry, Text, IsFit, Reply}
-use Rattle.reg_service.proofs.Words.{Denied, FilesAreRows, FoundFile, Serves, line_with, Done, Seeks, Sends, Told, Acted, Tables, Work}
-use Rattle.reg_service.proofs.Words.{Begins, IsCommitted, IsDropped, IsEnded, IsRefused, SeesAll, Looks, IsLeft, is_shut, rows_seen, seen}
-use Rattle.reg_service.proofs.Words.{shown, LeavesCommit, ActsTo, IsActed, AreUpToDate, Halts, Shows, WasClean, RepliesTo, Sought, Looked}
+use Rattle.reg_service.proofs.Words.{Denied, FilesAreRows, FoundFile, Serves, line_with, Done, Seeks, Sends, ReadOnly, TracedReply, Tables, Work}
+use Rattle.reg_service.proofs.Words.{Begins, IsCommitted, IsDropped, IsEnded, IsRefused, SeesAll, Looks, IsLeft, is_stopped, rows_seen, seen}
+use Rattle.reg_service.proofs.Words.{shown, LeavesCommit, ActsTo, IsActed, AreUpToDate, Halts, StandsIn, WasClean, RepliesTo, Sought, Looked}
 use Rattle.reg_model.specs.declared.rule.Rule.TheVariants as rule
 use Rattle.reg_service_requests.specs.Telling.{ServesTold}
 use Rattle.reg_service_requests.specs.declared.served.Served.{Served}
-use Rattle.reg_service_requests.specs.declared.told.ServedTold.{ServedTold}
-use Rattle.reg_service.specs.Acted.{SaysNoRoom}
+use Rattle.reg_service_requests.specs.declared.told.TracedServed.{TracedServed}
+use Rattle.reg_service.specs.Traced.{SaysNoRoom}
 use Rattle.reg_service.specs.declared.answered.Answered.{Answered}
 use Rattle.reg_service.specs.declared.answered.Answered.TheVariants.{Found, Replied}
 use Rattle.reg_service.proofs.Replied as replied
@@ -20,10 +20,10 @@ Does g limits traced digest asked r old new = record {
   replies : IsActed g limits traced digest asked r old new;
   tables : AreUpToDate g new;
   clean : WasClean g old new;
-  halts : Halts (is_shut old) (is_shut new) (SaysNoRoom r);
+  halts : Halts (is_stopped old) (is_stopped new) (SaysNoRoom r);
 }
 
-module _ {S : Type 0} (g : Ghosts S) (limits : Limits) (traced : Bool) (digest : Option Text) (asked : Asked) (old : Tables S) (at : AreUpToDate g old) (it : Acted) where
+module _ {S : Type 0} (g : Ghosts S) (limits : Limits) (traced : Bool) (digest : Option Text) (asked : Asked) (old : Tables S) (at : AreUpToDate g old) (it : TracedReply) where
   -- no transaction was begun
   pub unbegun : (new : Tables S) → it.reply ≡ Denied rule.S1 → it.line ≡ None → IsLeft g old new → Does g limits traced digest asked (Replied it) old new
   unbegun new reply line is = record {
@@ -59,12 +59,12 @@ module _ {S : Type 0} (g : Ghosts S) (limits : Limits) (traced : Bool) (digest :
             untold g limits s traced digest asked old there it (replied.failed g limits s digest asked old there at.ours h clean begun done b looks mid end alone) reply line
 
     -- it was served
-    module _ (told : ServedTold) (serves : HasCleanDisk (seen g done) → ServesTold traced limits digest asked (rows_seen g begun) (rows_seen g done) told) where
+    module _ (told : TracedServed) (serves : HasCleanDisk (seen g done) → ServesTold traced limits digest asked (rows_seen g begun) (rows_seen g done) told) where
       served_as : (x : Served) → told.served ≡ x → HasCleanDisk (seen g done) → Serves limits digest asked (rows_seen g begun) (rows_seen g done) x
       served_as x is mid = subst (Serves limits digest asked (rows_seen g begun) (rows_seen g done)) is (serves mid).0
 
       -- the line that goes with the reply
-      lined : (there new : Tables S) (s : Registry) (h : Shows s (shown g old)) (clean : HasCleanDisk (shown g there)) (mid : HasCleanDisk (seen g done)) (reply : Reply) → it.reply ≡ reply
+      lined : (there new : Tables S) (s : Registry) (h : StandsIn s (shown g old)) (clean : HasCleanDisk (shown g there)) (mid : HasCleanDisk (seen g done)) (reply : Reply) → it.reply ≡ reply
           → option_map string_bytes it.line ≡ line_with reply told.line → RepliesTo g limits s digest asked reply old new
           → ActsTo g limits s traced digest asked it old new
       lined there new s h clean mid reply is line replies =
@@ -109,7 +109,7 @@ module _ {S : Type 0} (g : Ghosts S) (limits : Limits) (traced : Bool) (digest :
               (replied.not_committed g limits s digest asked old there at.ours h clean begun done b looks mid reply (served_as (Done reply) as_done mid) end ended.survives) is line
 
       -- nothing was changed
-      pub only_told : (reply : Reply) (new there : Tables S) → new ≡ there → told.served ≡ Told reply → it.reply ≡ reply → option_map string_bytes it.line ≡ line_with reply told.line
+      pub only_told : (reply : Reply) (new there : Tables S) → new ≡ there → told.served ≡ ReadOnly reply → it.reply ≡ reply → option_map string_bytes it.line ≡ line_with reply told.line
           → IsDropped g done there → (IsTrue (shown g old).is_open → LeavesCommit (shown g old)) → Does g limits traced digest asked (Replied it) old new
       only_told reply new there same_end as_told is line end alone = subst (λ t. Does g limits traced digest asked (Replied it) old t) (sym same_end) (record {
         replies = replies;
@@ -127,12 +127,12 @@ module _ {S : Type 0} (g : Ghosts S) (limits : Limits) (traced : Bool) (digest :
           replies : IsActed g limits traced digest asked (Replied it) old there
           replies clean s h =
               let mid = mids clean in
-              lined there there s h clean mid reply is line (replied.told g limits s digest asked old there at.ours h clean begun done b looks mid reply (served_as (Told reply) as_told mid) end alone)
+              lined there there s h clean mid reply is line (replied.told g limits s digest asked old there at.ours h clean begun done b looks mid reply (served_as (ReadOnly reply) as_told mid) end alone)
 
       -- a search, behind the transaction
       pub sought : (account : ℕ) (reply : Reply) (there new : Tables S) → told.served ≡ Seeks account → it.reply ≡ reply → option_map string_bytes it.line ≡ line_with reply told.line
           → IsDropped g done there → (IsTrue (shown g old).is_open → LeavesCommit (shown g old))
-          → IsLeft g there new → (HasCleanDisk (shown g new) → (s : Registry) → Shows s (shown g there) → Sought account asked s reply) → Does g limits traced digest asked (Replied it) old new
+          → IsLeft g there new → (HasCleanDisk (shown g new) → (s : Registry) → StandsIn s (shown g there) → Sought account asked s reply) → Does g limits traced digest asked (Replied it) old new
       sought account reply there new as_search is line end alone left seeks = record {
         replies = replies;
         tables = record { ours = left.ours; second = left.edition ∙ end.edition ∙ looks.same_edition ∙ b.edition ∙ at.second };
@@ -156,7 +156,7 @@ module _ {S : Type 0} (g : Ghosts S) (limits : Limits) (traced : Bool) (digest :
 
 -- an index file was found
 pub found : {S : Type 0} (g : Ghosts S) (limits : Limits) (traced : Bool) (digest : Option Text) (asked : Asked) (old : Tables S) → AreUpToDate g old → (begun done : Work S) → Begins g SeesAll old begun → Looks g begun done
-    → (told : ServedTold) → (HasCleanDisk (seen g done) → ServesTold traced limits digest asked (rows_seen g begun) (rows_seen g done) told) → FilesAreRows
+    → (told : TracedServed) → (HasCleanDisk (seen g done) → ServesTold traced limits digest asked (rows_seen g begun) (rows_seen g done) told) → FilesAreRows
     → (f : FoundFile) (new there : Tables S) → new ≡ there → told.served ≡ Sends f → IsDropped g done there → (IsTrue (shown g old).is_open → LeavesCommit (shown g old)) → Does g limits traced digest asked (Found f) old new
 found g limits traced digest asked old at begun done b looks told serves law f new there same_end as_found end alone = subst (λ t. Does g limits traced digest asked (Found f) old t) (sym same_end) (record {
   replies = λ clean s h.

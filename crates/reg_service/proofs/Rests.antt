@@ -1,16 +1,16 @@
 -- What the ends of a transaction leave of the tables, whatever was asked of them.
 use Rattle.reg_service.proofs.Words.{◌≡◌, ◌⊎◌, Result, inl, inr, true, sym, subst, ◌∙◌, arith, false≢true, Database, Held, state}
 use Rattle.reg_service.proofs.Words.{HasCleanDisk, Ghosts, Registry, Refuses, Tables, Work, Begins, IsCommitted, IsDropped, IsEnded}
-use Rattle.reg_service.proofs.Words.{IsRefused, SeesAll, Looks, AreOurs, IsLeft, held, is_shut, seen, shown, Are, AreUpToDate, Halts, Shows}
+use Rattle.reg_service.proofs.Words.{IsRefused, SeesAll, Looks, AreOurs, IsLeft, held, is_stopped, seen, shown, StandsSound, AreUpToDate, Halts, StandsIn}
 use Rattle.reg_service.proofs.Words.{WasClean, Looked}
 use Rattle.reg_tables.specs.Works.{IsTried}
 use Rattle.reg_service.specs.Looked.{WasTried}
 
 module _ {S : Type 0} (g : Ghosts S) (old : Tables S) where
-  still : (new : Tables S) (s : Registry) → AreOurs g old → HasCleanDisk (shown g old) → Shows s (shown g old) → (held new ≡ held old) ⊎ Refuses (shown g old) (shown g new) → Shows s (shown g new)
-  still new s ours first h (inl same) = subst (λ (it : Held S). Shows s (state g it)) (sym same) h
-  still new s ours first h (inr (inl same)) = λ up. subst (λ (d : Database). Are s d.trees) (sym same.0.now_is) (h same.0.was_open)
-  still new s ours first h (inr (inr back)) = λ up. subst (λ (d : Database). Are s d.trees) (sym ((back.undone up).0 ∙ sym (ours first (back.was_open up)).settled)) (h (back.was_open up))
+  still : (new : Tables S) (s : Registry) → AreOurs g old → HasCleanDisk (shown g old) → StandsIn s (shown g old) → (held new ≡ held old) ⊎ Refuses (shown g old) (shown g new) → StandsIn s (shown g new)
+  still new s ours first h (inl same) = subst (λ (it : Held S). StandsIn s (state g it)) (sym same) h
+  still new s ours first h (inr (inl same)) = λ up. subst (λ (d : Database). StandsSound s d.trees) (sym same.0.now_is) (h same.0.was_open)
+  still new s ours first h (inr (inr back)) = λ up. subst (λ (d : Database). StandsSound s d.trees) (sym ((back.undone up).0 ∙ sym (ours first (back.was_open up)).settled)) (h (back.was_open up))
 
   -- none was begun
   pub left_looked : (new : Tables S) → AreUpToDate g old → IsLeft g old new → Looked g old new
@@ -28,8 +28,8 @@ module _ {S : Type 0} (g : Ghosts S) (old : Tables S) where
     known = it.known;
     stays = it.stays;
     shows = λ clean s h. elim (it.same clean) [
-      | inl same ↦ subst (λ (c : Held S). Shows s (state g c)) (sym same) h
-      | inr back ↦ λ up. subst (λ (d : Database). Are s d.trees) (sym ((back.undone up).0 ∙ sym (at.ours (first clean) (back.was_open up)).settled)) (h (back.was_open up))
+      | inl same ↦ subst (λ (c : Held S). StandsIn s (state g c)) (sym same) h
+      | inr back ↦ λ up. subst (λ (d : Database). StandsSound s d.trees) (sym ((back.undone up).0 ∙ sym (at.ours (first clean) (back.was_open up)).settled)) (h (back.was_open up))
     ];
     left = λ clean db l. elim (it.survives.crash clean db l) [ inl was ↦ was | inr none ↦ absurd none ];
     tables = record { ours = it.ours; second = it.edition ∙ at.second };
@@ -41,10 +41,10 @@ module _ {S : Type 0} (g : Ghosts S) (old : Tables S) where
 
   -- one was, and has ended
   module _ (begun done : Work S) (b : Begins g SeesAll old begun) (looks : Looks g begun done) (new : Tables S) where
-    pub goes_on : {R : Type 0} → (is_shut new ≡ true → R) → Halts (is_shut old) (is_shut new) R
+    pub goes_on : {R : Type 0} → (is_stopped new ≡ true → R) → Halts (is_stopped old) (is_stopped new) R
     goes_on stops = record { stopped = λ was. absurd (false≢true (sym b.was_open ∙ was)); stays = λ was. absurd (false≢true (sym b.was_open ∙ was)); stops = stops }
 
-    pub dropped_halts : {R : Type 0} → IsDropped g done new → Halts (is_shut old) (is_shut new) R
+    pub dropped_halts : {R : Type 0} → IsDropped g done new → Halts (is_stopped old) (is_stopped new) R
     dropped_halts end = goes_on (λ is. absurd (false≢true (sym (end.same_mode ∙ looks.same_mode ∙ b.still_open) ∙ is)))
 
     pub dropped_looked : AreUpToDate g old → IsDropped g done new → Looked g old new
@@ -55,7 +55,7 @@ module _ {S : Type 0} (g : Ghosts S) (old : Tables S) where
           let first : HasCleanDisk (shown g old) = omega (arith, early, b.survives.clean) in
           let view = b.view early in
           let back = end.undone clean in
-          λ up. subst (λ (d : Database). Are s d.trees) (sym ((back.undone up).0 ∙ (looks.kept mid).committed (back.was_open up) ∙ view.committed_is ∙ sym (at.ours first view.was_open).settled)) (h view.was_open);
+          λ up. subst (λ (d : Database). StandsSound s d.trees) (sym ((back.undone up).0 ∙ (looks.kept mid).committed (back.was_open up) ∙ view.committed_is ∙ sym (at.ours first view.was_open).settled)) (h view.was_open);
       left = λ clean db l.
           let mid : HasCleanDisk (seen g done) = omega (arith, clean, end.survives.clean) in
           let early : HasCleanDisk (seen g begun) = omega (arith, mid, looks.survives.clean) in
@@ -68,7 +68,7 @@ module _ {S : Type 0} (g : Ghosts S) (old : Tables S) where
       same_mode = end.same_mode ∙ looks.same_mode ∙ b.still_open ∙ sym b.was_open;
     }
 
-    pub committed_halts : {R : Type 0} → IsCommitted g done new → Halts (is_shut old) (is_shut new) R
+    pub committed_halts : {R : Type 0} → IsCommitted g done new → Halts (is_stopped old) (is_stopped new) R
     committed_halts end = goes_on (λ is. absurd (false≢true (sym (end.same_mode ∙ looks.same_mode ∙ b.still_open) ∙ is)))
 
     pub refused_tables : AreUpToDate g old → AreOurs g new → IsRefused g done new → AreUpToDate g new

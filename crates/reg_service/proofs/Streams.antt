@@ -24,8 +24,8 @@ module _ {S : Type 0} (g : Ghosts S) (limits : Limits) (s : Registry) (digest : 
   answered : (a : Answer) → Step limits s e a s → Answers g limits s e a old new
   answered a step = frame.stayed g limits s e a old new finds.goes_on step (frame.left_on g limits s e a at new again finds.stays.shows clean old finds.stays left)
 
-  no_room : Answers g limits s e (to_denied rule.S1) old new
-  no_room = answered (to_denied rule.S1) (inr (refl, refl))
+  unavailable : Answers g limits s e (to_denied rule.S1) old new
+  unavailable = answered (to_denied rule.S1) (inr (refl, refl))
 
   is_file : Answers g limits s e (File finds.text) old new
   is_file = answered (File finds.text) (inl (ap (λ (o : Outcome). o.0) (sym finds.answer), ap (λ (o : Outcome). o.1) (sym finds.answer)))
@@ -38,11 +38,11 @@ module _ {S : Type 0} (g : Ghosts S) (limits : Limits) (s : Registry) (digest : 
   file_told body (rows, are, same) = (File finds.text, (refl, refl, same ∙ lines_are rows are), is_file)
 
   pub no_room_told : RepliesTo g limits s digest asked (Denied rule.S1) old new
-  no_room_told = (to_denied rule.S1, refl, no_room)
+  no_room_told = (to_denied rule.S1, refl, unavailable)
 
   -- it was sent, or there was no room
   pub file_streamed : (close : Bool) (r : Result ℕ IndexFault) (writes : ℕ) (u v : Sink) → SendsNoRoom close r writes u v ⊎ SendsFile g f close r writes at u v → StreamsTo g limits s digest asked close r writes old new u v
-  file_streamed close r writes u v (inl none) = (to_denied rule.S1, record { sends = none.sends; of_file = λ broken. absurd (none.never broken) }, no_room)
+  file_streamed close r writes u v (inl none) = (to_denied rule.S1, record { sends = none.sends; of_file = λ broken. absurd (none.never broken) }, unavailable)
   file_streamed close r writes u v (inr it) =
       let same = lines_are it.rows it.of_file in
       let text_is : rows_text (file_head f.length close) it.rows ≡ answer_text asked (File finds.text) close = λ i. file_head (finds.len i) close ++ same i in

@@ -15,7 +15,7 @@ pub use Rattle.reg_model.specs.Events.{Answer, Asked, Event}
 pub use Rattle.reg_model.specs.Events.Event.{Ask, Order}
 pub use Rattle.reg_model.specs.Laws.{StepsKeepSound}
 pub use Rattle.reg_model.specs.Registry.{Registry, Text}
-pub use Rattle.reg_model.specs.Steps.{IsFit, Outcome, Step, no_room, outcome}
+pub use Rattle.reg_model.specs.Steps.{IsFit, Outcome, Step, unavailable, outcome}
 pub use Rattle.reg_model.specs.declared.rule.AdminRefusal.{AdminRefusal}
 pub use Rattle.reg_policy.specs.Events.{command_of, reply_of}
 pub use Rattle.reg_search.specs.Rows.{hit_of}
@@ -24,28 +24,28 @@ pub use Rattle.reg_service_index.specs.Found.{FilesAreRows}
 pub use Rattle.reg_service_index.specs.declared.found.FoundFile.{FoundFile}
 pub use Rattle.reg_service_requests.specs.Serves.{Serves}
 pub use Rattle.reg_service_requests.specs.Telling.{line_with}
-pub use Rattle.reg_service_requests.specs.declared.served.Served.TheVariants.{Done, Seeks, Sends, Told}
-pub use Rattle.reg_service_requests.specs.declared.told.Acted.{Acted}
+pub use Rattle.reg_service_requests.specs.declared.served.Served.TheVariants.{Done, Seeks, Sends, ReadOnly}
+pub use Rattle.reg_service_requests.specs.declared.told.TracedReply.{TracedReply}
 pub use Rattle.reg_tables.proofs.Looking.{call_looks}
 pub use Rattle.reg_tables.specs.Ends.{Begins, IsCommitted, IsDropped, IsEnded, IsRefused, SeesAll}
 pub use Rattle.reg_tables.specs.Looks.{Looks}
-pub use Rattle.reg_tables.specs.Works.{AreOurs, IsLeft, edition_in, has_failed, held, is_shut, rows_seen, seen, shown}
+pub use Rattle.reg_tables.specs.Works.{AreOurs, IsLeft, edition_in, has_failed, held, is_stopped, rows_seen, seen, shown}
 pub use Rattle.reg_tables.specs.declared.tables.Tables.{Tables}
 pub use Rattle.reg_tables.specs.declared.work.Work.{Work}
-pub use Rattle.reg_tables_meaning.proofs.Results.{if_ok}
-pub use Rattle.reg_tables_meaning.specs.Stands.{Stands}
-pub use Rattle.reg_tables_meaning.specs.Upgrades.{AreBegun}
+pub use Rattle.reg_tables_represent.proofs.Results.{if_ok}
+pub use Rattle.reg_tables_represent.specs.Stands.{Stands}
+pub use Rattle.reg_tables_represent.specs.Upgrades.{AreBegun}
 pub use Rattle.reg_tables_schema.specs.States.{IsOurs, IsUndone, LeavesCommit, Refuses}
-pub use Rattle.reg_tables_schema.specs.declared.edition.Edition.{Edition}
-pub use Rattle.reg_tables_schema.specs.declared.edition.Edition.TheVariants.{First, Second}
+pub use Rattle.reg_tables_schema.specs.declared.edition.SchemaVersion.{SchemaVersion}
+pub use Rattle.reg_tables_schema.specs.declared.edition.SchemaVersion.TheVariants.{First, Second}
 pub use Rattle.sqlite.proofs.StateLemmas.{survives_weaker}
 pub use Rattle.sqlite.specs.Effect.{Database}
 pub use Rattle.sqlite.specs.Held.{Held, state}
 pub use Rattle.sqlite.specs.State.{HasCleanDisk, State, Survives}
 pub use Rattle.sqlite.specs.Tree.{Trees}
 pub use Rattle.sqlite_trees.specs.declared.store.Store.{Ghosts}
-pub use Rattle.reg_service.specs.Acted.{ActsTo, IsActed}
-pub use Rattle.reg_service.specs.Answered.{Answers, Are, AreUpToDate, Halts, LeavesAlone, Shows, Stays, WasClean}
+pub use Rattle.reg_service.specs.Traced.{ActsTo, IsActed}
+pub use Rattle.reg_service.specs.Answered.{Answers, StandsSound, AreUpToDate, Halts, LeavesAlone, StandsIn, Stays, WasClean}
 pub use Rattle.reg_service.specs.Handled.{RepliesTo, Sought}
 pub use Rattle.reg_service.specs.Looked.{Looked}
 pub use Rattle.reg_service.specs.Registries.{AreChecked, IsFirstFailing, MayBeUpgraded, limits_of, tables_of}

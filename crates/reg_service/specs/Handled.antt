@@ -15,7 +15,7 @@ use Rattle.reg_api_replies.specs.declared.reply.Reply.{Reply}
 use Rattle.reg_api_replies.specs.declared.reply.Reply.TheVariants.{Denied, Done, Method}
 use Rattle.reg_tables.specs.declared.tables.Tables.{Tables}
 use Rattle.reg_tables.specs.Works.{shown}
-use Rattle.reg_service.specs.Answered.{Answers, Shows}
+use Rattle.reg_service.specs.Answered.{Answers, StandsIn}
 
 -- the event is answered so, and the reply tells the answer
 abbrev pub RepliesTo : {S : Type 0} → Ghosts S → Limits → Registry → Option Text → Asked → Reply
@@ -27,7 +27,7 @@ RepliesTo g limits s digest asked reply old new =
 abbrev pub IsReplied : {S : Type 0} → Ghosts S → Limits → Option Text → Asked → Reply → Tables S
     → Tables S → Type 0
 IsReplied g limits digest asked reply old new =
-    HasCleanDisk (shown g new) → (s : Registry) → Shows s (shown g old)
+    HasCleanDisk (shown g new) → (s : Registry) → StandsIn s (shown g old)
     → RepliesTo g limits s digest asked reply old new
 
 -- the reply to a search of this account; or there was no room

@@ -1,4 +1,4 @@
-pub mod Acted
+pub mod Traced
 pub mod Answered
 pub mod Handled
 pub mod Looked

@@ -14,25 +14,25 @@ use Rattle.reg_tables_rows.specs.declared.all_rows.AllRows.{AllRows}
 use Rattle.reg_tables_rows.specs.declared.counts.Counts.{Counts}
 use Rattle.reg_tables_rows.specs.WholeRows.{AreAllRows}
 use Rattle.reg_tables.specs.declared.tables.Tables.{Tables}
-use Rattle.reg_tables.specs.Works.{is_shut, shown}
-use Rattle.reg_service.specs.Answered.{AreUpToDate, Shows}
+use Rattle.reg_tables.specs.Works.{is_stopped, shown}
+use Rattle.reg_service.specs.Answered.{AreUpToDate, StandsIn}
 
--- The tables are only looked at: they hold the registry that they held, and a stop leaves nothing
+-- The tables are only looked at: they hold the registry that they held, and a crash leaves nothing
 -- that it could not leave before.
 pub record Looked {S : Type 0} (g : Ghosts S) (old new : Tables S) : Type 0 where
-  pub shows : HasCleanDisk (shown g new) → (s : Registry) → Shows s (shown g old)
-      → Shows s (shown g new)
+  pub shows : HasCleanDisk (shown g new) → (s : Registry) → StandsIn s (shown g old)
+      → StandsIn s (shown g new)
   pub left : HasCleanDisk (shown g new) → (db : Trees) → (shown g new).may_leave db
       → (shown g old).may_leave db
   pub tables : AreUpToDate g new
   pub clean : HasCleanDisk (shown g new) → HasCleanDisk (shown g old)
-  pub same_mode : is_shut new ≡ is_shut old
+  pub same_mode : is_stopped new ≡ is_stopped old
 
 -- whatever registry the tables held, what is answered is true of it
 abbrev pub IsTrueOf : {S T E : Type 0} → Ghosts S → (Registry → T → Type 0) → Result T E
     → Tables S → Tables S → Type 0
 IsTrueOf g tells r old new =
-    HasCleanDisk (shown g new) → (s : Registry) → Shows s (shown g old) → IfOk r (tells s)
+    HasCleanDisk (shown g new) → (s : Registry) → StandsIn s (shown g old) → IfOk r (tells s)
 
 -- these are the files of the index, each behind its path
 abbrev pub IsIndex : Registry → Vec (String Global × Vec ℕ Global) Global → Type 0
@@ -48,14 +48,14 @@ abbrev pub IsMark : Registry → String Global → Type 0
 IsMark s line = string_bytes line ≡ opened s
 
 -- It was tried whether the store answers: the connection is open, or the tables have stopped, and
--- stay so. They hold the registry that they held, and a stop leaves nothing that it could not leave
--- before.
+-- stay so. They hold the registry that they held, and a crash leaves nothing that it could not
+-- leave before.
 pub record WasTried {S : Type 0} (g : Ghosts S) (old new : Tables S) : Type 0 where
   pub known : HasCleanDisk (shown g new)
-      → IsTrue (shown g new).is_open ⊎ (is_shut new ≡ true)
-  pub stays : is_shut old ≡ true → is_shut new ≡ true
-  pub shows : HasCleanDisk (shown g new) → (s : Registry) → Shows s (shown g old)
-      → Shows s (shown g new)
+      → IsTrue (shown g new).is_open ⊎ (is_stopped new ≡ true)
+  pub stays : is_stopped old ≡ true → is_stopped new ≡ true
+  pub shows : HasCleanDisk (shown g new) → (s : Registry) → StandsIn s (shown g old)
+      → StandsIn s (shown g new)
   pub left : HasCleanDisk (shown g new) → (db : Trees) → (shown g new).may_leave db
       → (shown g old).may_leave db
   pub tables : AreUpToDate g new

@@ -18,7 +18,7 @@ use Rattle.reg_service_index.specs.declared.fault.IndexFault.{IndexFault}
 use Rattle.reg_service_index.specs.declared.fault.IndexFault.TheVariants.{Store}
 use Rattle.reg_service_index.specs.declared.found.FoundFile.{FoundFile}
 use Rattle.reg_tables.specs.declared.tables.Tables.{Tables}
-use Rattle.reg_tables.specs.Works.{is_shut, shown}
+use Rattle.reg_tables.specs.Works.{is_stopped, shown}
 use Rattle.reg_service.specs.Answered.{Answers, Stays}
 
 -- The request for an index file is answered by this one, whose text the tables hold and whose
@@ -31,7 +31,7 @@ pub record Finds {S : Type 0} (g : Ghosts S) (limits : Limits) (s : Registry)
   pub answer : outcome limits s (Ask digest asked) ≡ (File text, s)
   pub lines : IsTrue (shown g new).is_open → HasText f text (shown g new).now.trees
   pub len : f.length ≡ length text
-  pub goes_on : is_shut old ≡ false
+  pub goes_on : is_stopped old ≡ false
   pub stays : Stays g s old new
 
 -- the answer is an index file
@@ -67,4 +67,4 @@ pub record LeavesStream (close : Bool) (r : Result ℕ IndexFault) (writes : ℕ
     (before after : Sink) : Type 0 where
   pub some : SendsSome r writes before after
   pub begun : r ≡ Err Store → before.calls < after.calls
-  pub no_room : stopped ≡ true → SendsNoRoom close r writes before after
+  pub unavailable : stopped ≡ true → SendsNoRoom close r writes before after

@@ -1,7 +1,7 @@
 //! The index as files, read in one transaction that keeps nothing.
 
 ghost use Rattle.std.specs.Prelude.{◌≡◌, true, IsErr};
-ghost use Rattle.reg_tables.specs.Works.{is_shut};
+ghost use Rattle.reg_tables.specs.Works.{is_stopped};
 ghost use Rattle.reg_service.specs.Answered.{AreUpToDate};
 ghost use Rattle.reg_service.specs.Looked.{IsIndex, IsTrueOf, Looked};
 
@@ -18,7 +18,7 @@ pub(crate) fn export_in<S: Alter>(
     requires { AreUpToDate S.Store tables.old }
     ensures exported { IsTrueOf S.Store IsIndex result tables.old tables.new }
     ensures looked { Looked S.Store tables.old tables.new }
-    ensures stopped { is_shut tables.old ≡ true → IsErr result }
+    ensures stopped { is_stopped tables.old ≡ true → IsErr result }
 {
     let mut work = tables.work()?;
     export_all(alloc, &mut work)

@@ -3,7 +3,7 @@
 ghost use Rattle.std.specs.Prelude.{◌≡◌, ◌∷◌, [], true, codes, IfOk, IsErr, string_bytes};
 ghost use Rattle.std.specs.Fmt.{decimal};
 ghost use Rattle.reg_model.specs.Trail.{line_of};
-ghost use Rattle.reg_tables.specs.Works.{is_shut};
+ghost use Rattle.reg_tables.specs.Works.{is_stopped};
 ghost use Rattle.reg_service.specs.Answered.{AreUpToDate};
 ghost use Rattle.reg_service.specs.Looked.{AreCounted, IsMark, IsTrueOf, Looked};
 
@@ -37,7 +37,7 @@ fn count_in<S: Alter>(tables: &mut Tables<S>) -> Result<Counts>
     requires { AreUpToDate S.Store tables.old }
     ensures counted { IsTrueOf S.Store AreCounted result tables.old tables.new }
     ensures looked { Looked S.Store tables.old tables.new }
-    ensures stopped { is_shut tables.old ≡ true → IsErr result }
+    ensures stopped { is_stopped tables.old ≡ true → IsErr result }
 {
     let mut work = tables.work()?;
     work.counts()
@@ -48,7 +48,7 @@ pub(crate) fn mark_in<S: Alter>(alloc: Global, tables: &mut Tables<S>) -> Result
     requires { AreUpToDate S.Store tables.old }
     ensures marked { IsTrueOf S.Store IsMark result tables.old tables.new }
     ensures looked { Looked S.Store tables.old tables.new }
-    ensures stopped { is_shut tables.old ≡ true → IsErr result }
+    ensures stopped { is_stopped tables.old ≡ true → IsErr result }
 {
     let counts = count_in(tables)?;
     Ok(mark_of(alloc, &counts)?)

@@ -7,18 +7,18 @@ ghost use Rattle.reg_line.specs.Base.{is_base as is_base_text};
 ghost use Rattle.reg_tables_schema.specs.Schema.{blank, schema_of};
 ghost use Rattle.reg_tables_schema.specs.States.{IsMade, IsUndone};
 ghost use Rattle.reg_tables_sql.specs.Abouts.{LacksBase};
-ghost use Rattle.reg_service.specs.Answered.{AreAs, AreUpToDate, Shows, WasClean};
-ghost use Rattle.reg_service.specs.Registries.{AreChecked, AreDamaged, AreOne, Brings, HasBegun, IsNew, IsUpToDate, LeavesOpened, MayBeUpgraded, MayBecome, has_stopped, limits_of, tables_of};
+ghost use Rattle.reg_service.specs.Answered.{StandsSoundAs, StandsIn, WasClean};
+ghost use Rattle.reg_service.specs.Registries.{AreChecked, AreDamaged, AreOne, Brings, HasBegun, IsNew, LeavesOpened, MayBeUpgraded, MayBecome, limits_of, tables_of};
 ghost use Rattle.reg_tables.specs.Ends.{LeavesLast};
-ghost use Rattle.reg_tables.specs.Works.{AreOurs, edition_in, is_shut, shown};
+ghost use Rattle.reg_tables.specs.Works.{AreOurs, edition_in, is_stopped, shown};
 
 use crate::registry::Registry;
 use reg_audit::{Check, audit};
-use reg_audit_law::laws::{edition_law, rows_law};
 use reg_body::Limits;
+use reg_check_sound::laws::{edition_law, rows_law};
 use reg_line::is_base;
 use reg_model::laws::soundness_law;
-use reg_tables::{Edition, MakeFault, Tables};
+use reg_tables::{MakeFault, SchemaVersion, Tables};
 use sqlite::{Alter, Connection};
 use std::alloc::Global;
 
@@ -40,10 +40,9 @@ pub enum OpenFault {
 pub type Opened<S> = std::result::Result<Registry<S>, (Connection<S>, OpenFault)>;
 
 /// A registry of tables that passed the checks, upgraded to schema 2.
-fn bring_up<S: Alter>(mut tables: Tables<S>, limits: Limits) -> Opened<S>
+fn migrate_if_old<S: Alter>(mut tables: Tables<S>, limits: Limits) -> Opened<S>
     requires { AreOurs S.Store tables }
-    ensures up_to_date { IfOk result (λ r. AreUpToDate S.Store (tables_of r)) }
-    ensures begun { IfOk result (HasBegun limits (is_shut tables)) }
+    ensures begun { IfOk result (HasBegun limits (is_stopped tables)) }
     ensures brought { IfOk result (Brings S.Store tables) }
     ensures clean { IfOk result (λ r. WasClean S.Store tables (tables_of r)) }
     ensures refused { IfErr result (λ e. e.1 ≡ OpenFault.Storage) }
@@ -53,8 +52,8 @@ fn bring_up<S: Alter>(mut tables: Tables<S>, limits: Limits) -> Opened<S>
         (MayBecome (edition_in tables) (shown S.Store tables))) }
 {
     match tables.edition() {
-        Edition::Second => Ok(Registry { tables, limits }),
-        Edition::First => match tables.migrate() {
+        SchemaVersion::Second => Ok(Registry { tables, limits }),
+        SchemaVersion::First => match tables.migrate() {
             Ok(_) => Ok(Registry { tables, limits }),
             Err(_) => Err((tables.into_connection(), OpenFault::Storage)),
         },
@@ -62,10 +61,9 @@ fn bring_up<S: Alter>(mut tables: Tables<S>, limits: Limits) -> Opened<S>
 }
 
 /// A registry of tables that pass the checks.
-fn examine<S: Alter>(alloc: Global, mut tables: Tables<S>, limits: Limits) -> Opened<S>
+fn check_then_migrate<S: Alter>(alloc: Global, mut tables: Tables<S>, limits: Limits) -> Opened<S>
     requires { AreOurs S.Store tables }
-    ensures up_to_date { IfOk result (λ r. AreUpToDate S.Store (tables_of r)) }
-    ensures begun { IfOk result (HasBegun limits (is_shut tables)) }
+    ensures begun { IfOk result (HasBegun limits (is_stopped tables)) }
     ensures brought { IfOk result (Brings S.Store tables) }
     ensures clean { IfOk result (λ r. WasClean S.Store tables (tables_of r)) }
     ensures passed { IfOk result (λ r. HasCleanDisk (shown S.Store (tables_of r))
@@ -84,7 +82,7 @@ fn examine<S: Alter>(alloc: Global, mut tables: Tables<S>, limits: Limits) -> Op
     match audit(alloc, &mut tables) {
         Err(_) => Err((tables.into_connection(), OpenFault::Storage)),
         Ok(Some(check)) => Err((tables.into_connection(), OpenFault::Damaged(check))),
-        Ok(None) => bring_up(tables, limits),
+        Ok(None) => migrate_if_old(tables, limits),
     }
 }
 
@@ -93,19 +91,19 @@ impl<S: Alter> Registry<S> {
     /// schema 2. On a fault the connection is handed back.
     pub fn open(alloc: Global, conn: Connection<S>, limits: Limits) -> Opened<S>
         requires { (state S.Store conn).in_transaction ≡ false }
-        ensures up_to_date { IfOk result (IsUpToDate S.Store) }
-        ensures goes_on { IfOk result (λ r. has_stopped r ≡ false) }
+        ensures goes_on { IfOk result (λ r. is_stopped (tables_of r) ≡ false) }
         ensures limited { IfOk result (λ r. limits_of r ≡ limits) }
         ensures same { IfOk result (λ r. HasCleanDisk (shown S.Store (tables_of r))
-            → (edition : Edition) (s : _) → (state S.Store conn).now.schema ≡ schema_of edition
-            → AreAs edition s (state S.Store conn).now.trees
-            → Shows s (shown S.Store (tables_of r))) }
+            → (edition : SchemaVersion) (s : _)
+            → (state S.Store conn).now.schema ≡ schema_of edition
+            → StandsSoundAs edition s (state S.Store conn).now.trees
+            → StandsIn s (shown S.Store (tables_of r))) }
         ensures sound { IfOk result (λ r. HasCleanDisk (shown S.Store (tables_of r))
             → AreOne (state S.Store conn).now (shown S.Store (tables_of r))) }
         ensures left { IfOk result (λ r. HasCleanDisk (shown S.Store (tables_of r))
             → LeavesOpened (state S.Store conn) (shown S.Store (tables_of r))) }
         ensures unknown { IfErr result (λ e. HasCleanDisk (state S.Store e.0)
-            → e.1 ≡ OpenFault.UnknownSchema → (edition : Edition)
+            → e.1 ≡ OpenFault.UnknownSchema → (edition : SchemaVersion)
             → (state S.Store conn).now.schema ≡ schema_of edition
             → LacksBase edition (state S.Store conn).now.trees) }
         ensures damaged { IfErr result (λ e. HasCleanDisk (state S.Store e.0) → (check : _)
@@ -121,7 +119,7 @@ impl<S: Alter> Registry<S> {
         edition_law();
         rows_law(&conn);
         match Tables::adopt(alloc, conn) {
-            Ok(tables) => examine(alloc, tables, limits),
+            Ok(tables) => check_then_migrate(alloc, tables, limits),
             Err((conn, MakeFault::UnknownSchema)) => Err((conn, OpenFault::UnknownSchema)),
             Err((conn, MakeFault::Storage)) => Err((conn, OpenFault::Storage)),
         }

@@ -4,37 +4,38 @@ ghost use Rattle.std.specs.Prelude.{◌≡◌, ◌↔◌, ◌+◌, ◌^◌, ◌<
 ghost use Rattle.sqlite.specs.State.{HasCleanDisk};
 ghost use Rattle.reg_model.specs.Events.Event.{Order};
 ghost use Rattle.reg_model.specs.Steps.{IsFit};
-ghost use Rattle.reg_audit_law.specs.Opening.{AreRegistry};
+ghost use Rattle.reg_check_sound.specs.Opening.{AreRegistry};
 ghost use Rattle.reg_policy.specs.Events.{command_of, reply_of};
 ghost use Rattle.reg_api_requests.specs.Requests.{request_of};
 ghost use Rattle.reg_api_requests.specs.Views.{event_of};
-ghost use Rattle.reg_service.specs.Acted.{IsActed, IsOrdered, IsUntold, SaysNoRoom};
+ghost use Rattle.reg_service.specs.Traced.{IsActed, IsOrdered, IsUntold, SaysNoRoom};
 ghost use Rattle.reg_service.specs.Answered.{Halts, IsAnswered, WasClean};
 ghost use Rattle.reg_service.specs.Handled.{IsReplied};
 ghost use Rattle.reg_service.specs.Looked.{FailsFirst, IsIndex, IsMark, IsTrueOf, Looked, WasTried};
-ghost use Rattle.reg_service.specs.Registries.{IsUpToDate, has_stopped, limits_of, tables_of};
+ghost use Rattle.reg_service.specs.Registries.{limits_of, tables_of};
 ghost use Rattle.reg_body.specs.Sent.{sink};
 ghost use Rattle.reg_service.specs.Streamed.{IsStreamed, LeavesStream};
-ghost use Rattle.reg_tables.specs.Works.{held, shown};
+ghost use Rattle.reg_tables.specs.Works.{held, is_stopped, shown};
 
 use crate::answered::Answered;
 use crate::exporting::export_in;
 use crate::marking::mark_in;
-use crate::transactions::{command_in, denied, parts_in};
+use crate::transactions::{command_in, denied, request_in};
 use reg_api_replies::{Kind, Reply};
-use reg_api_requests::{ApiRequest, read_request};
+use reg_api_requests::{ApiRequest, digest_shown, read_call};
 use reg_audit::{Check, audit};
-use reg_audit_law::laws::opening_law;
 use reg_body::{Counted, Limits};
+use reg_check_sound::laws::opening_law;
 use reg_model::AdminRefusal;
 use reg_policy::{AdminCommand, AdminReply, Rule};
-use reg_service_commands::OrderTold;
+use reg_service_commands::TracedOrder;
 use reg_service_index::{FoundFile, IndexFault, read_file, send_file};
-use reg_service_requests::Acted;
+use reg_service_requests::TracedReply;
 use reg_tables::{Result, StoreFault, Tables};
 use sqlite::{Alter, Connection};
 use std::alloc::Global;
 use std::io::Write;
+use std::marker::Model;
 
 /// A registry over a store. After a commit has failed, or its store has closed, it refuses
 /// everything until the store is opened again.
@@ -42,6 +43,19 @@ use std::io::Write;
 pub struct Registry<S: Alter> {
     pub(crate) tables: Tables<S>,
     pub(crate) limits: Limits,
+}
+
+impl<S: Alter> Model for Registry<S> {
+    ghost use Rattle.reg_service.specs.Answered.{AreUpToDate};
+    ghost use Rattle.reg_service.specs.Registries.{Running, running_code};
+
+    ghost Value = { Running S };
+
+    ghost coded = { running_code S.code };
+
+    ghost view = { λ r. record { tables = r.tables; limits = r.limits } };
+
+    ghost invariant = { λ r. AreUpToDate S.Store r.tables };
 }
 
 impl<S: Alter> Registry<S> {
@@ -54,11 +68,9 @@ impl<S: Alter> Registry<S> {
 
     /// Whether it has stopped: a commit failed, or its store no longer answers. Until the store is
     /// opened again, each request is S1 and each command G10.
-    pub fn has_stopped(&mut self) -> bool
-        requires { IsUpToDate S.Store self.old }
-        ensures told { result ≡ has_stopped self.new }
+    pub fn is_stopped(&mut self) -> bool
+        ensures told { result ≡ is_stopped (tables_of self.new) }
         ensures tried { WasTried S.Store (tables_of self.old) (tables_of self.new) }
-        ensures tables { IsUpToDate S.Store self.new }
         ensures limits { limits_of self.new ≡ limits_of self.old }
     {
         !self.tables.are_answering()
@@ -70,38 +82,34 @@ impl<S: Alter> Registry<S> {
         alloc: Global,
         command: &AdminCommand<'_>,
     ) -> Result<AdminReply, AdminRefusal>
-        requires tables { IsUpToDate S.Store self.old }
         requires fit { IsFit (Order (command_of command.now)) }
         ensures answers { IsAnswered S.Store (limits_of self.old)
             (Order (command_of command.now)) (reply_of result)
             (tables_of self.old) (tables_of self.new) }
-        ensures tables { IsUpToDate S.Store self.new }
         ensures clean { WasClean S.Store (tables_of self.old) (tables_of self.new) }
         ensures limits { limits_of self.new ≡ limits_of self.old }
-        ensures halts { Halts (has_stopped self.old) (has_stopped self.new)
+        ensures halts { Halts (is_stopped (tables_of self.old)) (is_stopped (tables_of self.new))
             (result ≡ Err AdminRefusal.G10) }
     {
-        let OrderTold { answer, line: _ } = self.order(alloc, command, false);
+        let TracedOrder { answer, line: _ } = self.command_traced(alloc, command, false);
         answer
     }
 
     /// Answers a request, in one transaction.
     pub fn handle(&mut self, alloc: Global, request: &ApiRequest<'_>) -> Reply
-        requires { IsUpToDate S.Store self.old }
         ensures replies { let asks = request_of (limits_of self.old) request.now in
             IsReplied S.Store (limits_of self.old) asks.digest asks.asked result
             (tables_of self.old) (tables_of self.new) }
-        ensures tables { IsUpToDate S.Store self.new }
         ensures clean { WasClean S.Store (tables_of self.old) (tables_of self.new) }
         ensures limits { limits_of self.new ≡ limits_of self.old }
         ensures read { IsFit (event_of (request_of (limits_of self.old) request.now))
             ⊎ ((result ≡ Reply.Denied Rule.S1) × (tables_of self.new ≡ tables_of self.old)) }
-        ensures halts { Halts (has_stopped self.old) (has_stopped self.new)
+        ensures halts { Halts (is_stopped (tables_of self.old)) (is_stopped (tables_of self.new))
             (result ≡ Reply.Denied Rule.S1) }
     {
-        match self.act(alloc, request, false) {
+        match self.handle_traced(alloc, request, false) {
             Answered::Replied(acted) => {
-                let Acted { reply, line: _line } = acted;
+                let TracedReply { reply, line: _line } = acted;
                 reply
             }
             Answered::Found(file) => match read_file(alloc, &mut self.tables, &file) {
@@ -112,15 +120,18 @@ impl<S: Alter> Registry<S> {
     }
 
     /// Does as `command`. If `traced`, it tells the line of what was changed, if anything was.
-    pub fn order(&mut self, alloc: Global, command: &AdminCommand<'_>, traced: bool) -> OrderTold
-        requires tables { IsUpToDate S.Store self.old }
+    pub fn command_traced(
+        &mut self,
+        alloc: Global,
+        command: &AdminCommand<'_>,
+        traced: bool,
+    ) -> TracedOrder
         requires fit { IsFit (Order (command_of command.now)) }
         ensures answers { IsOrdered S.Store (limits_of self.old) traced (command_of command.now)
             result (tables_of self.old) (tables_of self.new) }
-        ensures tables { IsUpToDate S.Store self.new }
         ensures clean { WasClean S.Store (tables_of self.old) (tables_of self.new) }
         ensures limits { limits_of self.new ≡ limits_of self.old }
-        ensures halts { Halts (has_stopped self.old) (has_stopped self.new)
+        ensures halts { Halts (is_stopped (tables_of self.old)) (is_stopped (tables_of self.new))
             (result.answer ≡ Err AdminRefusal.G10) }
     {
         command_in(alloc, &mut self.tables, &self.limits, command, traced)
@@ -128,22 +139,34 @@ impl<S: Alter> Registry<S> {
 
     /// Answers a request, in one transaction. If `traced`, it tells the line of what was changed,
     /// if anything was. An index file is found, for `stream_index`.
-    pub fn act(&mut self, alloc: Global, request: &ApiRequest<'_>, traced: bool) -> Answered
-        requires { IsUpToDate S.Store self.old }
+    pub fn handle_traced(
+        &mut self,
+        alloc: Global,
+        request: &ApiRequest<'_>,
+        traced: bool,
+    ) -> Answered
         ensures replies { let asks = request_of (limits_of self.old) request.now in
             IsActed S.Store (limits_of self.old) traced asks.digest asks.asked result
             (tables_of self.old) (tables_of self.new) }
-        ensures tables { IsUpToDate S.Store self.new }
         ensures clean { WasClean S.Store (tables_of self.old) (tables_of self.new) }
         ensures limits { limits_of self.new ≡ limits_of self.old }
         ensures read { IsFit (event_of (request_of (limits_of self.old) request.now))
             ⊎ (IsUntold result × (tables_of self.new ≡ tables_of self.old)) }
-        ensures halts { Halts (has_stopped self.old) (has_stopped self.new) (SaysNoRoom result) }
+        ensures halts { Halts (is_stopped (tables_of self.old)) (is_stopped (tables_of self.new))
+            (SaysNoRoom result) }
     {
-        let Ok(parts) = read_request(alloc, request, &self.limits) else {
+        let Ok(asked) = read_call(alloc, &request.call, &self.limits) else {
             return Answered::Replied(denied(Rule::S1));
         };
-        parts_in(alloc, &mut self.tables, &self.limits, &parts, traced)
+        let digest = digest_shown(request);
+        request_in(
+            alloc,
+            &mut self.tables,
+            &self.limits,
+            digest.as_ref(),
+            &asked,
+            traced,
+        )
     }
 
     /// Sends the reply with an index file that was found, row by row, in at most `writes` write
@@ -155,17 +178,15 @@ impl<S: Alter> Registry<S> {
         writer: &mut Counted<W>,
         writes: u64,
     ) -> Result<u64, IndexFault>
-        requires tables { IsUpToDate S.Store self.old }
         requires room { writer.old.calls + writes < 2 ^ 64 }
         ensures streams { IsStreamed S.Store file.now close result writes
             (tables_of self.old) (tables_of self.new)
             (sink (W.contents writer.old.inner) writer.old)
             (sink (W.contents writer.new.inner) writer.new) }
-        ensures leaves { LeavesStream close result writes (has_stopped self.old)
+        ensures leaves { LeavesStream close result writes (is_stopped (tables_of self.old))
             (sink (W.contents writer.old.inner) writer.old)
             (sink (W.contents writer.new.inner) writer.new) }
         ensures looked { Looked S.Store (tables_of self.old) (tables_of self.new) }
-        ensures tables { IsUpToDate S.Store self.new }
         ensures limits { limits_of self.new ≡ limits_of self.old }
     {
         send_file(&mut self.tables, file, close, writer, writes)
@@ -174,13 +195,11 @@ impl<S: Alter> Registry<S> {
     /// The files of the index, each after its path: the config, then each crate's in the order of
     /// the canonical texts. Nothing is changed.
     pub fn export(&mut self, alloc: Global) -> Result<Vec<(String, Vec<u8>)>>
-        requires { IsUpToDate S.Store self.old }
         ensures exported { IsTrueOf S.Store IsIndex result (tables_of self.old)
             (tables_of self.new) }
         ensures looked { Looked S.Store (tables_of self.old) (tables_of self.new) }
-        ensures tables { IsUpToDate S.Store self.new }
         ensures limits { limits_of self.new ≡ limits_of self.old }
-        ensures stopped { has_stopped self.old ≡ true → IsErr result }
+        ensures stopped { is_stopped (tables_of self.old) ≡ true → IsErr result }
     {
         export_in(alloc, &mut self.tables)
     }
@@ -188,17 +207,15 @@ impl<S: Alter> Registry<S> {
     /// The first check of the rows that fails; none if all pass, and then the rows are those of a
     /// sound registry. Nothing is changed.
     pub fn audit(&mut self, alloc: Global) -> Result<Option<Check>>
-        requires { IsUpToDate S.Store self.old }
         ensures found { HasCleanDisk (shown S.Store (tables_of self.new)) → IfOk result
             (FailsFirst S.Store (tables_of self.old)) }
         ensures sound { HasCleanDisk (shown S.Store (tables_of self.new)) → IfOk result (λ found.
             (found ≡ None) ↔ AreRegistry (shown S.Store (tables_of self.old)).now.trees) }
         ensures looked { Looked S.Store (tables_of self.old) (tables_of self.new) }
-        ensures tables { IsUpToDate S.Store self.new }
         ensures limits { limits_of self.new ≡ limits_of self.old }
-        ensures stopped { has_stopped self.old ≡ true → IsErr result }
+        ensures stopped { is_stopped (tables_of self.old) ≡ true → IsErr result }
     {
-        if self.tables.is_shut() {
+        if self.tables.is_stopped() {
             return Err(StoreFault);
         }
         opening_law();
@@ -208,13 +225,11 @@ impl<S: Alter> Registry<S> {
     /// The mark of an opening, for a trail that goes on: how many accounts, tokens and publications
     /// it has. Nothing is changed.
     pub fn mark(&mut self, alloc: Global) -> Result<String>
-        requires { IsUpToDate S.Store self.old }
         ensures marked { IsTrueOf S.Store IsMark result (tables_of self.old)
             (tables_of self.new) }
         ensures looked { Looked S.Store (tables_of self.old) (tables_of self.new) }
-        ensures tables { IsUpToDate S.Store self.new }
         ensures limits { limits_of self.new ≡ limits_of self.old }
-        ensures stopped { has_stopped self.old ≡ true → IsErr result }
+        ensures stopped { is_stopped (tables_of self.old) ≡ true → IsErr result }
     {
         mark_in(alloc, &mut self.tables)
     }

@@ -6,7 +6,7 @@ ghost use Rattle.reg_api_replies.specs.Bodies.{found_body as found_text};
 ghost use Rattle.reg_search.specs.Rows.{found_of, hit_of};
 ghost use Rattle.reg_tables.specs.Works.{IsLeft, shown};
 ghost use Rattle.sqlite.specs.State.{HasCleanDisk};
-ghost use Rattle.reg_service.specs.Answered.{AreUpToDate, Shows};
+ghost use Rattle.reg_service.specs.Answered.{AreUpToDate, StandsIn};
 ghost use Rattle.reg_service.specs.Handled.{ListsFound, Sought};
 
 use reg_api_replies::{FoundBody, Kind, Reply};
@@ -47,7 +47,7 @@ fn found_reply(alloc: Global, found: &Found) -> Reply
 }
 
 /// The crates that an account finds.
-pub(crate) fn seek<S: Alter>(
+pub(crate) fn search_reply<S: Alter>(
     alloc: Global,
     tables: &mut Tables<S>,
     account: u32,
@@ -55,7 +55,7 @@ pub(crate) fn seek<S: Alter>(
 ) -> Reply
     requires { AreUpToDate S.Store tables.old }
     ensures sought { HasCleanDisk (shown S.Store tables.new) → (s : _)
-        → Shows s (shown S.Store tables.old) → Sought account (asked_of asked.now) s result }
+        → StandsIn s (shown S.Store tables.old) → Sought account (asked_of asked.now) s result }
     ensures left { IsLeft S.Store tables.old tables.new }
 {
     let Asked::Read(Reading::Search(q, most)) = asked else {

@@ -5,22 +5,21 @@ ghost use Rattle.std.specs.Option.{option_map};
 ghost use Rattle.reg_model.specs.Events.Event.{Ask, Order};
 ghost use Rattle.reg_model.specs.Steps.{IsFit};
 ghost use Rattle.reg_policy.specs.Events.{asked_of, command_of};
-ghost use Rattle.reg_tables.specs.Works.{is_shut};
-ghost use Rattle.reg_service.specs.Acted.{IsActed, IsOrdered, SaysNoRoom};
+ghost use Rattle.reg_tables.specs.Works.{is_stopped};
+ghost use Rattle.reg_service.specs.Traced.{IsActed, IsOrdered, SaysNoRoom};
 ghost use Rattle.reg_service.specs.Answered.{AreUpToDate, Halts, WasClean};
 
 use crate::answered::Answered;
-use crate::searching::seek;
+use crate::searching::search_reply;
 use reg_api_replies::Reply;
-use reg_api_requests::Parts;
 use reg_body::Limits;
 use reg_line::Digest;
 use reg_model::AdminRefusal;
 use reg_model::laws::{denial_law, soundness_law};
 use reg_policy::{AdminCommand, Asked, Rule};
-use reg_service_commands::{OrderTold, order_told, refused};
+use reg_service_commands::{TracedOrder, order_told, refused};
 use reg_service_index::laws::file_law;
-use reg_service_requests::{Acted, Served, ServedTold, serve_told, with_line};
+use reg_service_requests::{Served, TracedReply, TracedServed, serve_told, with_line};
 use reg_tables::Tables;
 use sqlite::Alter;
 use std::alloc::Global;
@@ -33,14 +32,14 @@ pub(crate) fn command_in<S: Alter>(
     limits: &Limits,
     command: &AdminCommand<'_>,
     traced: bool,
-) -> OrderTold
+) -> TracedOrder
     requires tables { AreUpToDate S.Store tables.old }
     requires fit { IsFit (Order (command_of command.now)) }
     ensures answers { IsOrdered S.Store limits.now traced (command_of command.now) result
         tables.old tables.new }
     ensures tables { AreUpToDate S.Store tables.new }
     ensures clean { WasClean S.Store tables.old tables.new }
-    ensures halts { Halts (is_shut tables.old) (is_shut tables.new)
+    ensures halts { Halts (is_stopped tables.old) (is_stopped tables.new)
         (result.answer ≡ Err AdminRefusal.G10) }
 {
     soundness_law();
@@ -61,11 +60,11 @@ pub(crate) fn command_in<S: Alter>(
 }
 
 /// A denial, which has no line.
-pub(crate) fn denied(rule: Rule) -> Acted
+pub(crate) fn denied(rule: Rule) -> TracedReply
     ensures reply { result.reply ≡ Reply.Denied rule }
     ensures line { result.line ≡ None }
 {
-    Acted {
+    TracedReply {
         reply: Reply::Denied(rule),
         line: None,
     }
@@ -88,7 +87,7 @@ pub(crate) fn request_in<S: Alter>(
         (asked_of asked.now) result tables.old tables.new }
     ensures tables { AreUpToDate S.Store tables.new }
     ensures clean { WasClean S.Store tables.old tables.new }
-    ensures halts { Halts (is_shut tables.old) (is_shut tables.new) (SaysNoRoom result) }
+    ensures halts { Halts (is_stopped tables.old) (is_stopped tables.new) (SaysNoRoom result) }
 {
     soundness_law();
     file_law();
@@ -98,40 +97,17 @@ pub(crate) fn request_in<S: Alter>(
     let Ok(told) = serve_told(alloc, &mut work, limits, digest, asked, traced) else {
         return Answered::Replied(denied(Rule::S1));
     };
-    let ServedTold { served, line } = told;
+    let TracedServed { served, line } = told;
     match served {
         Served::Done(reply) => match work.commit() {
             Ok(()) => Answered::Replied(with_line(reply, line)),
             Err(_unkept) => Answered::Replied(denied(Rule::S1)),
         },
-        Served::Told(reply) => Answered::Replied(with_line(reply, line)),
+        Served::ReadOnly(reply) => Answered::Replied(with_line(reply, line)),
         Served::Seeks(account) => {
             drop(work);
-            Answered::Replied(with_line(seek(alloc, tables, account, asked), line))
+            Answered::Replied(with_line(search_reply(alloc, tables, account, asked), line))
         }
         Served::Sends(file) => Answered::Found(file),
     }
-}
-
-/// Answers a request that was read.
-pub(crate) fn parts_in<S: Alter>(
-    alloc: Global,
-    tables: &mut Tables<S>,
-    limits: &Limits,
-    parts: &Parts<'_>,
-    traced: bool,
-) -> Answered
-    requires tables { AreUpToDate S.Store tables.old }
-    requires fit { (d : _) → IsFit (Ask d parts.now.asked) }
-    ensures replies { IsActed S.Store limits.now traced parts.now.digest parts.now.asked result
-        tables.old tables.new }
-    ensures tables { AreUpToDate S.Store tables.new }
-    ensures clean { WasClean S.Store tables.old tables.new }
-    ensures halts { Halts (is_shut tables.old) (is_shut tables.new) (SaysNoRoom result) }
-{
-    let Ok(logins) = parts.logins(alloc) else {
-        return Answered::Replied(denied(Rule::S1));
-    };
-    let asked = parts.asked(&logins);
-    request_in(alloc, tables, limits, parts.digest(), &asked, traced)
 }

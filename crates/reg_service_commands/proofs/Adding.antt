@@ -17,9 +17,9 @@ use Rattle.reg_model.specs.Events.Answer.{Id}
 use Rattle.reg_model.specs.Refusals.{endpoints_named, is_endpoint, may_name, refused}
 use Rattle.reg_model.specs.Registry.{token_of}
 use Rattle.reg_policy.specs.declared.event.AdminReply.TheVariants as reply
-use Rattle.reg_tables_meaning.specs.Calls.{AddsAccount, Ends}
-use Rattle.reg_tables_meaning.specs.FoundTokens.{IsFound}
-use Rattle.reg_tables_meaning.specs.declared.tokens.TokenRows.{TokenRows}
+use Rattle.reg_tables_represent.specs.Calls.{AddsAccount, Ends}
+use Rattle.reg_tables_represent.specs.FoundTokens.{IsFound}
+use Rattle.reg_tables_represent.specs.declared.tokens.TokenRows.{TokenRows}
 use Rattle.reg_service_commands.specs.Orders.{IsScope, PutsToken, account_refusal, is_full_for, token_outcome, token_refusal}
 use Rattle.reg_service_commands.proofs.Outcomes.{done_so, refused_so}
 

@@ -10,7 +10,7 @@ use Rattle.reg_model.specs.Effects.{commanded}
 use Rattle.reg_model.specs.Events.{Event}
 use Rattle.reg_model.specs.Events.Answer.{Refused as to_refused}
 use Rattle.reg_model.specs.Refusals.{refused}
-use Rattle.reg_model.specs.Steps.{no_room}
+use Rattle.reg_model.specs.Steps.{unavailable}
 use Rattle.reg_model.specs.Trail.{IsPassed, has_no_room, line, or_nothing, told, with_asker}
 use Rattle.reg_service_commands.specs.Telling.{line_of_answer}
 use Rattle.reg_service_steps.proofs.Afterwards.{nothing}
@@ -59,12 +59,12 @@ module _ (limits : Limits) (s : Registry) (c : Command) where
       by None d = absurd (replied_room s c g (sym (e ∙ ap (λ r. (unless_refused s r (replied s c, commanded s c)).0) d)))
 
   -- a refusal has no line
-  pub refusal_told : (g : AdminRefusal) → (to_refused g ≡ (outcome limits s o).0) ⊎ (to_refused g ≡ no_room o) → [] ≡ told limits s o (to_refused g)
+  pub refusal_told : (g : AdminRefusal) → (to_refused g ≡ (outcome limits s o).0) ⊎ (to_refused g ≡ unavailable o) → [] ≡ told limits s o (to_refused g)
   refusal_told g (inl is) = sym (nothing (has_no_room (to_refused g)) (or_nothing (line limits s o)) (ap or_nothing (refused_untold g is)))
   refusal_told g (inr room) = sym (ap (told limits s o) room)
 
   -- what is told of the event that a command's answer answers
-  pub answer_told : (answer : Result AdminReply AdminRefusal) (found : Option (String Global)) → (reply_of answer ≡ (outcome limits s o).0) ⊎ (reply_of answer ≡ no_room o) → (IsPassed limits s o → line limits s o ≡ option_map string_bytes found) → or_nothing (line_of_answer answer found) ≡ told limits s o (reply_of answer)
+  pub answer_told : (answer : Result AdminReply AdminRefusal) (found : Option (String Global)) → (reply_of answer ≡ (outcome limits s o).0) ⊎ (reply_of answer ≡ unavailable o) → (IsPassed limits s o → line limits s o ≡ option_map string_bytes found) → or_nothing (line_of_answer answer found) ≡ told limits s o (reply_of answer)
   answer_told (Err g) found step tells = refusal_told g step
   answer_told (Ok r) found (inr room) tells = absurd (reply_not r refusal.G10 room)
   answer_told (Ok r) found (inl is) tells = by (refused limits s c) refl

@@ -7,7 +7,7 @@ use Rattle.reg_model.specs.declared.rule.AdminRefusal.TheVariants as refusal
 use Rattle.reg_model.specs.Changes.{with_enabled, with_reserved, without_reserved}
 use Rattle.reg_model.specs.Effects.{commanded, enable}
 use Rattle.reg_model.specs.Refusals.{refused}
-use Rattle.reg_tables_meaning.specs.Calls.{SetsEnabled, Turns}
+use Rattle.reg_tables_represent.specs.Calls.{SetsEnabled, Transforms}
 use Rattle.reg_service_commands.proofs.Outcomes.{done_so, refused_so}
 
 -- accounts are enabled and disabled
@@ -56,7 +56,7 @@ reserved_already limits name n db given always = done_so limits (Reserve name) D
       subst (λ t. Stands t db) (ap (λ b. cond b s (with_reserved (canon name) s)) (sym (ap (λ t. is_reserved_always (canon t)) it.1 ∙ always))) (ids, h.stands),
     ))
 
-pub reserved_now : (limits : Limits) (name n : Text) (old new : Trees) → name_of name ≡ Some n → is_reserved_always (canon n) ≡ false → Turns (λ ids. with_reserved (canon n)) old new → HasOutcome limits (Order (Reserve name)) Done old new
+pub reserved_now : (limits : Limits) (name n : Text) (old new : Trees) → name_of name ≡ Some n → is_reserved_always (canon n) ≡ false → Transforms (λ ids. with_reserved (canon n)) old new → HasOutcome limits (Order (Reserve name)) Done old new
 unfolding refused commanded
 reserved_now limits name n old new given not_always adds = done_so limits (Reserve name) Done old new (λ ids s h.
     let it = is_given name n given in (
@@ -65,7 +65,7 @@ reserved_now limits name n old new given not_always adds = done_so limits (Reser
       subst (λ t. Stands t new) (ap (λ t. with_reserved (canon t) s) (sym it.1) ∙ (ap (λ b. cond b s (with_reserved (canon name) s)) (sym (ap (λ t. is_reserved_always (canon t)) it.1 ∙ not_always)))) (ids, adds ids s h),
     ))
 
-pub freed_now : (limits : Limits) (name n : Text) (old new : Trees) → name_of name ≡ Some n → Turns (λ ids. without_reserved (canon n)) old new → HasOutcome limits (Order (Unreserve name)) Done old new
+pub freed_now : (limits : Limits) (name n : Text) (old new : Trees) → name_of name ≡ Some n → Transforms (λ ids. without_reserved (canon n)) old new → HasOutcome limits (Order (Unreserve name)) Done old new
 unfolding refused commanded
 freed_now limits name n old new given frees = done_so limits (Unreserve name) Done old new (λ ids s h.
     let it = is_given name n given in (

@@ -3,7 +3,7 @@ use Rattle.reg_service_commands.proofs.Words.{◌≡◌, ℕ, zero, suc, ◌<◌
 use Rattle.reg_service_commands.proofs.Words.{subst, ◌∙◌, arith, slice_get, string_bytes, unwrap_or, filter, find, flat_map, list_any}
 use Rattle.reg_service_commands.proofs.Words.{IsStrictlySortedBy, option_and_then, option_map, bytes_eq, flat_map-map, canon, first}
 use Rattle.reg_service_commands.proofs.Words.{has_crate, versions, Registry, Text, text_cmp, crate_line, canon-canon, list_any_map}
-use Rattle.reg_service_commands.proofs.Words.{maps_twice, Crate, Version, told_of, shown_version, version_shown, Ids, spelling_at, Marked}
+use Rattle.reg_service_commands.proofs.Words.{maps_twice, Crate, Version, told_of, shown_version, version_shown, IdAssignment, spelling_at, Marked}
 use Rattle.reg_service_commands.proofs.Words.{IsCrate, highest_among, line_of_crate, read_version, canons_listed}
 use Rattle.std.specs.FinSet as finset
 use Rattle.std.specs.List.{AllByRecursion}
@@ -13,9 +13,9 @@ use Rattle.reg_model.specs.Registry.{Publication}
 use Rattle.reg_model.specs.Reports.{crates_text}
 use Rattle.reg_model.specs.Search.{marked, top}
 use Rattle.reg_model.proofs.Members.{IsIn, filtered_passes, map_same}
-use Rattle.reg_tables_meaning.specs.Entries.{ShownVersion}
-use Rattle.reg_tables_meaning.proofs.CrateLemmas.{same_bytes}
-use Rattle.reg_tables_meaning.proofs.SummaryRows.{got_at}
+use Rattle.reg_tables_represent.specs.Entries.{ShownVersion}
+use Rattle.reg_tables_represent.proofs.CrateLemmas.{same_bytes}
+use Rattle.reg_tables_represent.proofs.SummaryRows.{got_at}
 use Rattle.reg_versions.specs.Precedence.{top_place}
 use Rattle.reg_versions.specs.Versions.{parts_of}
 use Rattle.reg_service_commands.specs.ReportedCrates.{line_at}
@@ -55,7 +55,7 @@ module _ (s : Registry) (n : Text) (vs : List Version) (are : map shown_version 
       let highest : highest_among vs ≡ unwrap_or (option_map (λ p. p.version) (top s n)) [] = ap (λ o. unwrap_or o []) (as_shown ∙ ap top_shown are ∙ top_is) in
       λ i. crate_line (name i) (count_is i) (highest i)
 
-pub line_told : (ids : Ids) (s : Registry) (c : Crate) (vs : List Version) → map shown_version vs ≡ told_of (spelling_at ids c.id) [] (λ name. map (version_shown s.yanked) (versions s name)) → IsCrate ids s c → crate_line (string_bytes c.name) (length vs) (highest_among vs) ≡ line_of_crate s c
+pub line_told : (ids : IdAssignment) (s : Registry) (c : Crate) (vs : List Version) → map shown_version vs ≡ told_of (spelling_at ids c.id) [] (λ name. map (version_shown s.yanked) (versions s name)) → IsCrate ids s c → crate_line (string_bytes c.name) (length vs) (highest_among vs) ≡ line_of_crate s c
 line_told ids s c vs lists is = its_line s (string_bytes c.name) vs (lists ∙ ap (λ o. told_of o [] (λ name. map (version_shown s.yanked) (versions s name))) is.1) is.0
 
 -- the line of a crate is that of its canonical text

@@ -3,7 +3,7 @@ use Rattle.reg_service_commands.proofs.Words.{◌≡◌, ℕ, ◌+◌, ◌<◌, 
 use Rattle.reg_service_commands.proofs.Words.{append_assoc, codes, string_bytes, unwrap_or, filter, find, list_any, IsStrictlySortedBy}
 use Rattle.reg_service_commands.proofs.Words.{option_map, bytes_eq, take_more, file_text, canon, path_of, first, has_crate, versions}
 use Rattle.reg_service_commands.proofs.Words.{Registry, Text, text_cmp, canon-canon, list_any_map, Crate, Version, told_of, shown_version}
-use Rattle.reg_service_commands.proofs.Words.{version_shown, Ids, spelling_at, file_of, entry_of_version, canons_listed}
+use Rattle.reg_service_commands.proofs.Words.{version_shown, IdAssignment, spelling_at, file_of, entry_of_version, canons_listed}
 use Rattle.std.specs.FinSet as finset
 use Rattle.std.proofs.lemmas.List.{map-append}
 use Rattle.reg_line.specs.Config.{config_text}
@@ -11,7 +11,7 @@ use Rattle.reg_model.specs.Crates.{exported, index_of}
 use Rattle.reg_service_commands.specs.Exported.{IsCrate}
 use Rattle.reg_service_steps.proofs.Entries.{entries_told}
 
-pub file_told : (ids : Ids) (s : Registry) (c : Crate) (vs : List Version) → map shown_version vs ≡ told_of (spelling_at ids c.id) [] (λ name. map (version_shown s.yanked) (versions s name)) → IsCrate ids s c
+pub file_told : (ids : IdAssignment) (s : Registry) (c : Crate) (vs : List Version) → map shown_version vs ≡ told_of (spelling_at ids c.id) [] (λ name. map (version_shown s.yanked) (versions s name)) → IsCrate ids s c
     → (path_of (string_bytes c.name), file_text (map entry_of_version vs)) ≡ file_of s c
 file_told ids s c vs lists is =
     let n = string_bytes c.name in

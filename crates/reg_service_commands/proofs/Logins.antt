@@ -4,7 +4,7 @@ use Rattle.reg_service_commands.proofs.Words.{slice_get, unwrap_or, enumerate_fr
 use Rattle.reg_service_commands.proofs.Words.{entry_of_account, login_among}
 use Rattle.reg_model.specs.Registry as model
 use Rattle.reg_model.specs.Reports.{login_of}
-use Rattle.reg_tables_meaning.proofs.SummaryRows.{got_map, mapped}
+use Rattle.reg_tables_represent.proofs.SummaryRows.{got_map, mapped}
 
 elements : {X : Type 0} (n : ℕ) (xs : List X) → map (λ (e : ℕ × X). e.1) (enumerate_from n xs) ≡ xs
 elements n [] = refl

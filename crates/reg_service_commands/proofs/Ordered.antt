@@ -7,7 +7,7 @@ use Rattle.reg_service_commands.proofs.Words.{OwnerAdd, ReaderAdd, ReaderRemove,
 use Rattle.reg_service_commands.proofs.Words.{UserDisable, UserEnable, Users, Order, patterns_given, Registry, Text, id_of_login, with_id}
 use Rattle.reg_service_commands.proofs.Words.{with_commas, command_words, line_of, name_words, unless_some, AdminReply, reply_of, Account}
 use Rattle.reg_service_commands.proofs.Words.{Crate, FindsAccount, Tells, TellsLive, FindsNamed, line_if, is_given, FindsPair, HasOutcome}
-use Rattle.reg_service_commands.proofs.Words.{enabling, restricting, IsDoneTold, enabled_word, restricted_word, OrderTold}
+use Rattle.reg_service_commands.proofs.Words.{enabling, restricting, IsDoneTold, enabled_word, restricted_word, TracedOrder}
 use Rattle.std.specs.Prelude.{◌&&◌, ◌||◌, is_some}
 use Rattle.std.specs.FinSet as finset
 use Rattle.reg_model.specs.Crates.{is_restricted}
@@ -16,8 +16,8 @@ use Rattle.reg_model.specs.Registry.{Token, holds, ids_of, is_enabled, is_known}
 use Rattle.reg_model.specs.Trail.{line, only_if, spelled, unless}
 use Rattle.reg_tables_sql.specs.declared.pairs.Relation.{Relation}
 use Rattle.reg_tables_sql.specs.declared.pairs.Relation.TheVariants.{Owners, Readers}
-use Rattle.reg_tables_meaning.specs.Calls.{TellsOtherSight, TellsPair, TellsReserved}
-use Rattle.reg_tables_meaning.specs.Relations.{related}
+use Rattle.reg_tables_represent.specs.Calls.{TellsOtherSight, TellsPair, TellsReserved}
+use Rattle.reg_tables_represent.specs.Relations.{related}
 use Rattle.reg_access.proofs.GrantLaw.{first_canon}
 use Rattle.reg_service_steps.specs.Telling.{differs}
 use Rattle.reg_service_steps.proofs.Afterwards.{none_told, told_if}
@@ -49,7 +49,7 @@ in_line_if : (b : Bool) (words : List Text) → option_map by_admin (only_if b w
 in_line_if true words = refl
 in_line_if false words = refl
 
-module _ (traced : Bool) (limits : Limits) (c : Command) (old new : Trees) (it : OrderTold) where
+module _ (traced : Bool) (limits : Limits) (c : Command) (old new : Trees) (it : TracedOrder) where
   -- it was answered so, and its line is told, if one is wanted
   pub told_so : (changed wanted : Bool) (words : List Text) → HasOutcome limits (Order c) (reply_of it.answer) old new → Orders limits c old (only_if changed words) → wanted ≡ (traced && changed)
       → option_map string_bytes it.line ≡ line_if wanted (codes "-" ∷ codes "admin" ∷ words) → OrdersTold traced limits c old new it

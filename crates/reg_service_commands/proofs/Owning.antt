@@ -11,8 +11,8 @@ use Rattle.reg_model.specs.Effects.{commanded, owners_of}
 use Rattle.reg_model.specs.Refusals.{refused}
 use Rattle.reg_model.specs.Registry.{Owner, owner_cmp}
 use Rattle.reg_model.proofs.Keys.{owner_apart, owner_total}
-use Rattle.reg_tables_meaning.specs.Calls.{AddsOwner, AddsReader, RemovesReader, Restricts}
-use Rattle.reg_tables_meaning.specs.Changes.{insert_at, mark_in, remove_at}
+use Rattle.reg_tables_represent.specs.Calls.{AddsOwner, AddsReader, RemovesReader, Restricts}
+use Rattle.reg_tables_represent.specs.Changes.{insert_at, mark_in, remove_at}
 use Rattle.std.specs.Prelude.{Ok, Err}
 use Rattle.reg_service_commands.proofs.Named.{paired}
 use Rattle.reg_service_commands.proofs.Outcomes.{done_so, refused_so}

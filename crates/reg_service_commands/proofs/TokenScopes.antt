@@ -7,9 +7,9 @@ use Rattle.std.proofs.lemmas.Bool.{eq-eqb}
 use Rattle.sqlite.specs.Order.{Row}
 use Rattle.reg_model.specs.Registry as model
 use Rattle.reg_tables_sql.specs.Scopes.{columns_of_scope}
-use Rattle.reg_tables_meaning.specs.Stands.{scope_of, scopes_of}
-use Rattle.reg_tables_meaning.specs.TokenEntries.{entry_of_token, without_patterns}
-use Rattle.reg_tables_meaning.proofs.AccountEntries.{heads, number_is, tails, words_are}
+use Rattle.reg_tables_represent.specs.Stands.{scope_of, scopes_of}
+use Rattle.reg_tables_represent.specs.TokenEntries.{entry_of_token, without_patterns}
+use Rattle.reg_tables_represent.proofs.AccountEntries.{heads, number_is, tails, words_are}
 
 front : {X : Type 0} {x y : X} {xs ys : List X} → ◌≡◌ {A = List X} (x ∷ xs) (y ∷ ys) → x ≡ y
 front e = cc

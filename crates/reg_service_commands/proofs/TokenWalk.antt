@@ -4,7 +4,7 @@ use Rattle.reg_service_commands.proofs.Words.{arith, enumerate_from, flat_map, f
 use Rattle.reg_service_commands.proofs.Words.{line_among}
 use Rattle.std.proofs.lemmas.List.{length_push}
 use Rattle.reg_model.specs.Registry as model
-use Rattle.reg_tables_meaning.proofs.Numbered.{enumerate_snoc}
+use Rattle.reg_tables_represent.proofs.Numbered.{enumerate_snoc}
 use Rattle.reg_service_commands.specs.ReportedTokens.{IsNext}
 
 -- some tokens have their lines, and these are left

@@ -42,15 +42,15 @@ pub use Rattle.reg_service_steps.proofs.Running.{asks_as, runs_asked, runs_nothi
 pub use Rattle.reg_service_steps.specs.Named.{FindsNamed}
 pub use Rattle.reg_service_steps.specs.Reads.{entry_of_version}
 pub use Rattle.reg_service_steps.specs.Telling.{line_if}
-pub use Rattle.reg_tables.specs.Calling.{Asks}
+pub use Rattle.reg_tables.specs.Calling.{Queries}
 pub use Rattle.reg_tables.specs.Works.{rows_seen}
 pub use Rattle.reg_tables.specs.declared.work.StoreFault.{StoreFault}
 pub use Rattle.reg_tables.specs.declared.work.Work.{Work}
-pub use Rattle.reg_tables_meaning.specs.Calls.{AddsToken, Counted, FindsAccount, FindsToken, ListsAccounts, ListsCrates, ListsVersions}
-pub use Rattle.reg_tables_meaning.specs.Calls.{Tells, TellsLive}
-pub use Rattle.reg_tables_meaning.specs.Changes.{told_of}
-pub use Rattle.reg_tables_meaning.specs.Entries.{entry_of_account, shown_version, version_shown}
-pub use Rattle.reg_tables_meaning.specs.Stands.{Ids, Stands, spelling_at}
+pub use Rattle.reg_tables_represent.specs.Calls.{AddsToken, Counted, FindsAccount, FindsToken, ListsAccounts, ListsCrates, ListsVersions}
+pub use Rattle.reg_tables_represent.specs.Calls.{Tells, TellsLive}
+pub use Rattle.reg_tables_represent.specs.Changes.{told_of}
+pub use Rattle.reg_tables_represent.specs.Entries.{entry_of_account, shown_version, version_shown}
+pub use Rattle.reg_tables_represent.specs.Stands.{IdAssignment, Stands, spelling_at}
 pub use Rattle.reg_tables_schema.proofs.Queries.{maps_twice}
 pub use Rattle.reg_tables_sql.specs.declared.accounts.Account.{Account}
 pub use Rattle.reg_tables_sql.specs.declared.crates.Crate.{Crate}
@@ -66,4 +66,4 @@ pub use Rattle.reg_service_commands.specs.ReportedCrates.{HasLines, IsCrate, hig
 pub use Rattle.reg_service_commands.specs.ReportedTokens.{AreTokens, line_among, login_among, pattern_of, with_patterns}
 pub use Rattle.reg_service_commands.specs.Reports.{Reports, line_of_grant, line_of_reader}
 pub use Rattle.reg_service_commands.specs.Telling.{IsDoneTold, enabled_word, restricted_word}
-pub use Rattle.reg_service_commands.specs.declared.told.OrderTold.{OrderTold}
+pub use Rattle.reg_service_commands.specs.declared.told.TracedOrder.{TracedOrder}

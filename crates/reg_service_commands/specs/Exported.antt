@@ -6,8 +6,8 @@ use Rattle.reg_line.specs.Config.{config_text}
 use Rattle.reg_model.specs.Crates.{exported, first, index_of}
 use Rattle.reg_model.specs.Registry.{Registry, Text}
 use Rattle.reg_tables_sql.specs.declared.crates.Crate.{Crate}
-use Rattle.reg_tables_meaning.specs.Calls.{ListsCrates, Tells}
-use Rattle.reg_tables_meaning.specs.Stands.{Ids, spelling_at}
+use Rattle.reg_tables_represent.specs.Calls.{ListsCrates, Tells}
+use Rattle.reg_tables_represent.specs.Stands.{IdAssignment, spelling_at}
 
 -- a file behind its path, as texts
 abbrev pub texts_of : String Global × Vec ℕ Global → Text × Text
@@ -18,7 +18,7 @@ abbrev pub file_of : Registry → Crate → Text × Text
 file_of s c = index_of s (string_bytes c.name)
 
 -- the record is that of a crate, with its spelling
-abbrev pub IsCrate : Ids → Registry → Crate → Type 0
+abbrev pub IsCrate : IdAssignment → Registry → Crate → Type 0
 IsCrate ids s c = (first s (string_bytes c.name) ≡ Some (string_bytes c.name))
     × (spelling_at ids c.id ≡ Some (string_bytes c.name))
 

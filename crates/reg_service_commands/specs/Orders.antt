@@ -21,17 +21,17 @@ use Rattle.reg_model.specs.Steps.{Outcome, outcome, unless_refused}
 use Rattle.reg_policy.specs.declared.event.AdminReply.{AdminReply}
 use Rattle.reg_policy.specs.Events.{reply_of}
 use Rattle.reg_tables_sql.specs.declared.crates.Crate.{Crate}
-use Rattle.reg_tables_meaning.specs.Calls.{Tells}
-use Rattle.reg_tables_meaning.specs.Stands.{Holds, Ids, Stands}
+use Rattle.reg_tables_represent.specs.Calls.{Tells}
+use Rattle.reg_tables_represent.specs.Stands.{StandsSoundBy, IdAssignment, Stands}
 use Rattle.reg_tables.specs.declared.work.StoreFault.{StoreFault}
 use Rattle.reg_tables.specs.declared.work.Work.{Work}
 use Rattle.reg_service_steps.specs.Named.{IsNamed, IsSpelledBy}
-use Rattle.reg_tables.specs.Calling.{Runs}
+use Rattle.reg_tables.specs.Calling.{Updates}
 
 -- the answer is the event's, and the rows are those of the state after it
 abbrev pub HasOutcome : Limits → Event → Answer → Trees → Trees → Type 0
 HasOutcome limits e a old new =
-    (ids : Ids) (s : Registry) → Holds ids s old
+    (ids : IdAssignment) (s : Registry) → StandsSoundBy ids s old
     → (a ≡ (outcome limits s e).0) × Stands (outcome limits s e).1 new
 
 -- what a command within a transaction is answered: a reply or a refusal, unless the store is
@@ -42,7 +42,7 @@ Reply = Result AdminReply AdminRefusal
 -- the command is done or refused, under any limits
 abbrev pub Obeys : {S : Type 0} → Ghosts S → Command → Result Reply StoreFault → Work S → Work S
     → Type 0
-Obeys g c r old new = Runs g old new r (λ before after reply.
+Obeys g c r old new = Updates g old new r (λ before after reply.
     (limits : Limits) → HasOutcome limits (Order c) (reply_of reply) before after)
 
 -- the command that enables an account or disables it; that restricts a crate or opens it to all
@@ -104,6 +104,6 @@ token_outcome limits digest account endpoints patterns s =
 
 abbrev pub PutsToken : Limits → Text → ℕ → Endpoints → List Text → Trees → Trees → Reply → Type 0
 PutsToken limits digest account endpoints patterns old new reply =
-    (ids : Ids) (s : Registry) → Holds ids s old
+    (ids : IdAssignment) (s : Registry) → StandsSoundBy ids s old
     → (reply_of reply ≡ (token_outcome limits digest account endpoints patterns s).0)
     × Stands (token_outcome limits digest account endpoints patterns s).1 new

@@ -9,8 +9,8 @@ use Rattle.reg_model.specs.Reports.{crate_line}
 use Rattle.reg_model.specs.Search.{top}
 use Rattle.reg_tables_sql.specs.declared.crates.Crate.{Crate}
 use Rattle.reg_tables_sql.specs.declared.versions.Version.{Version}
-use Rattle.reg_tables_meaning.specs.Calls.{ListsCrates, Tells}
-use Rattle.reg_tables_meaning.specs.Stands.{Ids, spelling_at}
+use Rattle.reg_tables_represent.specs.Calls.{ListsCrates, Tells}
+use Rattle.reg_tables_represent.specs.Stands.{IdAssignment, spelling_at}
 use Rattle.reg_versions.specs.Precedence.{Marked, top_place}
 use Rattle.reg_versions.specs.Versions.{parts_of}
 
@@ -33,7 +33,7 @@ abbrev pub line_of_crate : Registry → Crate → Text
 line_of_crate s c = line_at s (string_bytes c.name)
 
 -- the record is that of a crate, with its spelling
-abbrev pub IsCrate : Ids → Registry → Crate → Type 0
+abbrev pub IsCrate : IdAssignment → Registry → Crate → Type 0
 IsCrate ids s c = (first s (string_bytes c.name) ≡ Some (string_bytes c.name))
     × (spelling_at ids c.id ≡ Some (string_bytes c.name))
 

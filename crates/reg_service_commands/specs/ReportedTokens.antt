@@ -9,8 +9,8 @@ use Rattle.reg_tables_sql.specs.Scopes.{columns_of_scope}
 use Rattle.reg_tables_sql.specs.declared.accounts.Account.{Account}
 use Rattle.reg_tables_sql.specs.declared.scopes.Scope.{Scope}
 use Rattle.reg_tables_sql.specs.declared.tokens.Token.{Token}
-use Rattle.reg_tables_meaning.specs.Stands.{scopes_of}
-use Rattle.reg_tables_meaning.specs.TokenEntries.{entry_of_token, without_patterns}
+use Rattle.reg_tables_represent.specs.Stands.{scopes_of}
+use Rattle.reg_tables_represent.specs.TokenEntries.{entry_of_token, without_patterns}
 
 -- the login of the account with this id, of these, which count from 1
 abbrev pub login_among : List Account → ℕ → Text

@@ -4,7 +4,7 @@ use Rattle.std.specs.declared.alloc.Global.{Global}
 use Rattle.sqlite.specs.Tree.{Trees}
 use Rattle.reg_model.specs.Registry.{Registry, Text}
 use Rattle.reg_model.specs.Reports.{grant_line, reader_line}
-use Rattle.reg_tables_meaning.specs.Calls.{Tells}
+use Rattle.reg_tables_represent.specs.Calls.{Tells}
 use Rattle.reg_access.specs.declared.grants.Grant.{Grant}
 
 -- the report is this text of the registry

@@ -11,16 +11,16 @@ use Rattle.reg_model.specs.Registry.{Text}
 use Rattle.reg_policy.specs.Events.{reply_of}
 use Rattle.reg_policy.specs.declared.event.AdminReply.{AdminReply}
 use Rattle.reg_policy.specs.declared.event.AdminReply.TheVariants.{Done}
-use Rattle.reg_tables.specs.Calling.{Runs}
+use Rattle.reg_tables.specs.Calling.{Updates}
 use Rattle.reg_tables.specs.declared.work.StoreFault.{StoreFault}
 use Rattle.reg_tables.specs.declared.work.Work.{Work}
 use Rattle.sqlite_trees.specs.declared.store.Store.{Ghosts}
 use Rattle.reg_service_steps.specs.Telling.{TellsIf, line_if}
 use Rattle.reg_service_commands.specs.Orders.{HasOutcome}
-use Rattle.reg_service_commands.specs.declared.told.OrderTold.{OrderTold}
+use Rattle.reg_service_commands.specs.declared.told.TracedOrder.{TracedOrder}
 
 -- the outcome of a command, and its line if one is wanted
-abbrev pub OrdersTold : Bool → Limits → Command → Trees → Trees → OrderTold → Type 0
+abbrev pub OrdersTold : Bool → Limits → Command → Trees → Trees → TracedOrder → Type 0
 OrdersTold traced limits c old new it =
     HasOutcome limits (Order c) (reply_of it.answer) old new
     × TellsIf traced limits (Order c) old it.line
@@ -31,25 +31,25 @@ line_of_answer (Ok reply) found = option_map string_bytes found
 line_of_answer (Err g) found = None
 
 -- it is done, and this is its line, if it is to be told
-abbrev pub IsDoneTold : Bool → List Text → OrderTold → Type 0
+abbrev pub IsDoneTold : Bool → List Text → TracedOrder → Type 0
 IsDoneTold told words it =
     (it.answer ≡ Ok Done) × (option_map string_bytes it.line ≡ line_if told words)
 
 -- an answer that has no line
 abbrev pub IsUntold : Result (Result AdminReply AdminRefusal) StoreFault
-    → Result OrderTold StoreFault → Type 0
+    → Result TracedOrder StoreFault → Type 0
 IsUntold (Ok answer) r = r ≡ Ok (record { answer = answer; line = None })
 IsUntold (Err e) r = r ≡ Err e
 
 -- the command is done or refused, and told, under these limits; or under any
 abbrev pub ObeysToldUnder : {S : Type 0} → Bool → Limits → Ghosts S → Command
-    → Result OrderTold StoreFault → Work S → Work S → Type 0
-ObeysToldUnder traced limits g c r old new = Runs g old new r (OrdersTold traced limits c)
+    → Result TracedOrder StoreFault → Work S → Work S → Type 0
+ObeysToldUnder traced limits g c r old new = Updates g old new r (OrdersTold traced limits c)
 
-abbrev pub ObeysTold : {S : Type 0} → Bool → Ghosts S → Command → Result OrderTold StoreFault
+abbrev pub ObeysTold : {S : Type 0} → Bool → Ghosts S → Command → Result TracedOrder StoreFault
     → Work S → Work S → Type 0
 ObeysTold traced g c r old new =
-    Runs g old new r (λ before after it. (limits : Limits)
+    Updates g old new r (λ before after it. (limits : Limits)
     → OrdersTold traced limits c before after it)
 
 -- the words for what is done, or taken back

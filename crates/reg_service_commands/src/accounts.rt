@@ -5,9 +5,9 @@ ghost use Rattle.std.specs.Option.{option_map};
 ghost use Rattle.reg_names.specs.Logins.{is_login};
 ghost use Rattle.reg_model.specs.Events.Command.{UserAdd};
 ghost use Rattle.reg_model.specs.Refusals.{may_name as may_name_text};
-ghost use Rattle.reg_tables.specs.Works.{IsAtWork, has_failed};
-ghost use Rattle.reg_tables.specs.Calling.{Asks};
-ghost use Rattle.reg_tables_meaning.specs.Calls.{Tells};
+ghost use Rattle.reg_tables.specs.Works.{IsActive, has_failed};
+ghost use Rattle.reg_tables.specs.Calling.{Queries};
+ghost use Rattle.reg_tables_represent.specs.Calls.{Tells};
 ghost use Rattle.reg_model.specs.Trail.{name_words};
 ghost use Rattle.reg_service_steps.specs.Telling.{line_if};
 ghost use Rattle.reg_service_commands.specs.Orders.{account_refusal, enabling};
@@ -15,7 +15,7 @@ ghost use Rattle.reg_service_commands.specs.Telling.{ObeysTold, ObeysToldUnder, 
 
 use crate::finding::refused_if;
 use crate::lines::new_user_line;
-use crate::told::{OrderTold, done_of, refused};
+use crate::told::{TracedOrder, done_of, refused};
 use reg_body::Limits;
 use reg_model::AdminRefusal;
 use reg_names::parse_login;
@@ -42,8 +42,8 @@ pub(crate) fn set_enabled<S: Alter>(
     login: &str,
     enabled: bool,
     traced: bool,
-) -> Result<OrderTold>
-    requires { IsAtWork S.Store work.old }
+) -> Result<TracedOrder>
+    requires { IsActive S.Store work.old }
     ensures { ObeysTold traced S.Store (enabling enabled login.now) result work.old work.new }
 {
     let Some(account) = work.account_by_login(login)? else {
@@ -64,8 +64,8 @@ fn is_account(login: &str, name: Option<&str>) -> bool
 
 /// Whether there are as many accounts as allowed.
 fn is_full<S: Alter>(work: &mut Work<'_, S>, limits: &Limits) -> Result<bool>
-    requires { IsAtWork S.Store work.old }
-    ensures { Asks S.Store work.old work.new result
+    requires { IsActive S.Store work.old }
+    ensures { Queries S.Store work.old work.new result
         (λ db full. Tells (λ ids s. full ≡ nat_le limits.now.accounts (length s.accounts)) db) }
 {
     let accounts = work.count_accounts()?;
@@ -78,8 +78,8 @@ fn refuses_account<S: Alter>(
     limits: &Limits,
     login: &str,
 ) -> Result<Option<AdminRefusal>>
-    requires { IsAtWork S.Store work.old }
-    ensures { Asks S.Store work.old work.new result (λ db found.
+    requires { IsActive S.Store work.old }
+    ensures { Queries S.Store work.old work.new result (λ db found.
         Tells (λ ids s. account_refusal limits.now login.now s ≡ found) db) }
 {
     let found = work.account_by_login(login)?;
@@ -98,9 +98,9 @@ fn tell_account<S: Alter>(
     login: &str,
     name: Option<&str>,
 ) -> Result<Option<String>>
-    requires at_work { IsAtWork S.Store work.old }
+    requires at_work { IsActive S.Store work.old }
     requires goes_on { has_failed work.old ≡ false }
-    ensures { Asks S.Store work.old work.new result (λ db line. option_map string_bytes line
+    ensures { Queries S.Store work.old work.new result (λ db line. option_map string_bytes line
         ≡ line_if told (codes "-" ∷ codes "admin" ∷ codes "user-add" ∷ login.now
         ∷ name_words (option_map (λ n. n.now) name.entry))) }
 {
@@ -118,8 +118,8 @@ pub(crate) fn add_account<S: Alter>(
     login: &str,
     name: Option<&str>,
     traced: bool,
-) -> Result<OrderTold>
-    requires at_work { IsAtWork S.Store work.old }
+) -> Result<TracedOrder>
+    requires at_work { IsActive S.Store work.old }
     requires goes_on { has_failed work.old ≡ false }
     ensures { ObeysToldUnder traced limits.now S.Store
         (UserAdd login.now (option_map (λ n. n.now) name.entry)) result work.old work.new }
@@ -132,7 +132,7 @@ pub(crate) fn add_account<S: Alter>(
     }
     work.add_account(login, name)?;
     let line = tell_account(alloc, work, traced, login, name)?;
-    Ok(OrderTold {
+    Ok(TracedOrder {
         answer: Ok(AdminReply::Done),
         line,
     })

@@ -2,12 +2,12 @@
 
 ghost use Rattle.std.specs.Prelude.{◌≡◌, false};
 ghost use Rattle.reg_model.specs.Events.Command.{OwnerAdd, ReaderAdd, ReaderRemove};
-ghost use Rattle.reg_tables.specs.Works.{IsAtWork, has_failed};
+ghost use Rattle.reg_tables.specs.Works.{IsActive, has_failed};
 ghost use Rattle.reg_service_commands.specs.Orders.{restricting};
 ghost use Rattle.reg_service_commands.specs.Telling.{ObeysTold, restricted_word};
 
 use crate::finding::find_pair;
-use crate::told::{OrderTold, done_of, done_of_pair, refused};
+use crate::told::{TracedOrder, done_of, done_of_pair, refused};
 use reg_model::AdminRefusal;
 use reg_service_steps::{find_named, is_told};
 use reg_tables::{Result, Work};
@@ -31,8 +31,8 @@ pub(crate) fn set_restricted<S: Alter>(
     name: &str,
     restricted: bool,
     traced: bool,
-) -> Result<OrderTold>
-    requires at_work { IsAtWork S.Store work.old }
+) -> Result<TracedOrder>
+    requires at_work { IsActive S.Store work.old }
     requires goes_on { has_failed work.old ≡ false }
     ensures { ObeysTold traced S.Store (restricting restricted name.now)
         result work.old work.new }
@@ -53,8 +53,8 @@ pub(crate) fn add_owner<S: Alter>(
     name: &str,
     login: &str,
     traced: bool,
-) -> Result<OrderTold>
-    requires at_work { IsAtWork S.Store work.old }
+) -> Result<TracedOrder>
+    requires at_work { IsActive S.Store work.old }
     requires goes_on { has_failed work.old ≡ false }
     ensures { ObeysTold traced S.Store (OwnerAdd name.now login.now) result work.old work.new }
 {
@@ -74,8 +74,8 @@ pub(crate) fn add_reader<S: Alter>(
     name: &str,
     login: &str,
     traced: bool,
-) -> Result<OrderTold>
-    requires at_work { IsAtWork S.Store work.old }
+) -> Result<TracedOrder>
+    requires at_work { IsActive S.Store work.old }
     requires goes_on { has_failed work.old ≡ false }
     ensures { ObeysTold traced S.Store (ReaderAdd name.now login.now) result work.old work.new }
 {
@@ -95,8 +95,8 @@ pub(crate) fn remove_reader<S: Alter>(
     name: &str,
     login: &str,
     traced: bool,
-) -> Result<OrderTold>
-    requires at_work { IsAtWork S.Store work.old }
+) -> Result<TracedOrder>
+    requires at_work { IsActive S.Store work.old }
     requires goes_on { has_failed work.old ≡ false }
     ensures { ObeysTold traced S.Store (ReaderRemove name.now login.now) result work.old work.new }
 {

@@ -4,8 +4,8 @@ ghost use Rattle.std.specs.Prelude.{◌≡◌, ◌∷◌, [], ◌++◌, codes, f
 ghost use Rattle.reg_line.specs.Config.{config_text};
 ghost use Rattle.reg_line.specs.File.{file_text};
 ghost use Rattle.reg_names.specs.Names.{path_of};
-ghost use Rattle.reg_tables.specs.Works.{IsAtWork, has_failed};
-ghost use Rattle.reg_tables.specs.Calling.{Asks};
+ghost use Rattle.reg_tables.specs.Works.{IsActive, has_failed};
+ghost use Rattle.reg_tables.specs.Calling.{Queries};
 ghost use Rattle.reg_service_commands.specs.Exported.{AddsFile, AddsFiles, Exports, HasConfig, texts_of};
 ghost use Rattle.reg_service_steps.specs.Reads.{entry_of_version};
 
@@ -29,8 +29,8 @@ fn config_alone(alloc: Global, base: &str) -> Result<Vec<(String, Vec<u8>)>, All
 
 /// The file that comes before those of the crates.
 fn first_file<S: Alter>(alloc: Global, work: &mut Work<'_, S>) -> Result<Vec<(String, Vec<u8>)>>
-    requires { IsAtWork S.Store work.old }
-    ensures { Asks S.Store work.old work.new result
+    requires { IsActive S.Store work.old }
+    ensures { Queries S.Store work.old work.new result
         (λ db files. HasConfig (map texts_of files.items) db) }
 {
     let base = find_base(work)?;
@@ -62,8 +62,8 @@ fn add_file<S: Alter>(
     files: &mut Vec<(String, Vec<u8>)>,
     listed: &Crate,
 ) -> Result<()>
-    requires { IsAtWork S.Store work.old }
-    ensures { Asks S.Store work.old work.new result (λ db _. AddsFile listed.now
+    requires { IsActive S.Store work.old }
+    ensures { Queries S.Store work.old work.new result (λ db _. AddsFile listed.now
         (map texts_of files.old.items) (map texts_of files.new.items) db) }
 {
     let versions = work.versions_of(alloc, listed.id)?;
@@ -82,9 +82,9 @@ fn add_files<S: Alter>(
     first: Vec<(String, Vec<u8>)>,
     crates: &[Crate],
 ) -> Result<Vec<(String, Vec<u8>)>>
-    requires at_work { IsAtWork S.Store work.old }
+    requires at_work { IsActive S.Store work.old }
     requires goes_on { has_failed work.old ≡ false }
-    ensures { Asks S.Store work.old work.new result (λ db files. AddsFiles crates.now crates.now
+    ensures { Queries S.Store work.old work.new result (λ db files. AddsFiles crates.now crates.now
         (map texts_of first.items) (map texts_of files.items) db) }
 {
     let mut files = first;
@@ -97,8 +97,8 @@ fn add_files<S: Alter>(
 /// The files of the index, each after its path: the config, then each crate's, ordered by canonical
 /// text.
 pub fn export_all<S: Alter>(alloc: Global, work: &mut Work<'_, S>) -> Result<Vec<(String, Vec<u8>)>>
-    requires { IsAtWork S.Store work.old }
-    ensures { Asks S.Store work.old work.new result (λ db files. Exports files.items db) }
+    requires { IsActive S.Store work.old }
+    ensures { Queries S.Store work.old work.new result (λ db files. Exports files.items db) }
 {
     let first = first_file(alloc, work)?;
     let crates = work.all_crates(alloc)?;

@@ -1,8 +1,8 @@
 //! The crates and accounts that the arguments of a command name.
 
 ghost use Rattle.std.specs.Prelude.{◌≡◌, ◌∷◌, [], false};
-ghost use Rattle.reg_tables.specs.Works.{IsAtWork, has_failed};
-ghost use Rattle.reg_tables.specs.Calling.{Asks};
+ghost use Rattle.reg_tables.specs.Works.{IsActive, has_failed};
+ghost use Rattle.reg_tables.specs.Calling.{Queries};
 ghost use Rattle.reg_service_commands.specs.Orders.{FindsPair, first_ground};
 
 use reg_model::AdminRefusal;
@@ -16,9 +16,9 @@ pub(crate) fn find_pair<S: Alter>(
     name: &str,
     login: &str,
 ) -> Result<Result<(Crate, u32), AdminRefusal>>
-    requires at_work { IsAtWork S.Store work.old }
+    requires at_work { IsActive S.Store work.old }
     requires goes_on { has_failed work.old ≡ false }
-    ensures { Asks S.Store work.old work.new result (FindsPair name.now login.now) }
+    ensures { Queries S.Store work.old work.new result (FindsPair name.now login.now) }
 {
     let Some(named) = find_named(work, name)? else {
         return Ok(Err(AdminRefusal::G8));

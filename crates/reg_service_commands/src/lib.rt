@@ -22,4 +22,4 @@ mod told;
 
 pub use exporting::export_all;
 pub use orders::order_told;
-pub use told::{Answer, OrderTold, refused};
+pub use told::{Answer, TracedOrder, refused};

@@ -2,10 +2,10 @@
 
 ghost use Rattle.std.specs.Prelude.{◌≡◌, false};
 ghost use Rattle.reg_model.specs.Events.Command.{Reserve, Unreserve};
-ghost use Rattle.reg_tables.specs.Works.{IsAtWork, has_failed};
+ghost use Rattle.reg_tables.specs.Works.{IsActive, has_failed};
 ghost use Rattle.reg_service_commands.specs.Telling.{ObeysTold};
 
-use crate::told::{OrderTold, done_of, refused, unchanged};
+use crate::told::{TracedOrder, done_of, refused, unchanged};
 use reg_model::AdminRefusal;
 use reg_names::{canon, parse_name};
 use reg_policy::is_reserved_always;
@@ -20,8 +20,8 @@ pub(crate) fn reserve<S: Alter>(
     work: &mut Work<'_, S>,
     name: &str,
     traced: bool,
-) -> Result<OrderTold>
-    requires at_work { IsAtWork S.Store work.old }
+) -> Result<TracedOrder>
+    requires at_work { IsActive S.Store work.old }
     requires goes_on { has_failed work.old ≡ false }
     ensures { ObeysTold traced S.Store (Reserve name.now) result work.old work.new }
 {
@@ -42,8 +42,8 @@ pub(crate) fn unreserve<S: Alter>(
     work: &mut Work<'_, S>,
     name: &str,
     traced: bool,
-) -> Result<OrderTold>
-    requires at_work { IsAtWork S.Store work.old }
+) -> Result<TracedOrder>
+    requires at_work { IsActive S.Store work.old }
     requires goes_on { has_failed work.old ≡ false }
     ensures { ObeysTold traced S.Store (Unreserve name.now) result work.old work.new }
 {

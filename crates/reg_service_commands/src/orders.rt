@@ -2,7 +2,7 @@
 
 ghost use Rattle.std.specs.Prelude.{◌≡◌, false};
 ghost use Rattle.reg_policy.specs.Events.{command_of};
-ghost use Rattle.reg_tables.specs.Works.{IsAtWork, has_failed};
+ghost use Rattle.reg_tables.specs.Works.{IsActive, has_failed};
 ghost use Rattle.reg_service_commands.specs.Telling.{ObeysToldUnder};
 
 use crate::accounts::{add_account, set_enabled};
@@ -10,7 +10,7 @@ use crate::crates::{add_owner, add_reader, remove_reader, set_restricted};
 use crate::names::{reserve, unreserve};
 use crate::reports::{report_access, report_crates, report_tokens, report_users};
 use crate::tokens::{add_token, revoke};
-use crate::told::{OrderTold, untold};
+use crate::told::{TracedOrder, untold};
 use reg_body::Limits;
 use reg_policy::AdminCommand;
 use reg_tables::{Result, Work};
@@ -24,8 +24,8 @@ pub fn order_told<S: Alter>(
     limits: &Limits,
     command: &AdminCommand<'_>,
     traced: bool,
-) -> Result<OrderTold>
-    requires at_work { IsAtWork S.Store work.old }
+) -> Result<TracedOrder>
+    requires at_work { IsActive S.Store work.old }
     requires goes_on { has_failed work.old ≡ false }
     ensures { ObeysToldUnder traced limits.now S.Store (command_of command.now)
         result work.old work.new }

@@ -2,7 +2,7 @@
 
 ghost use Rattle.std.specs.Prelude.{◌≡◌, false};
 ghost use Rattle.reg_model.specs.Events.Command.{Access, Crates, Tokens, Users};
-ghost use Rattle.reg_tables.specs.Works.{IsAtWork, has_failed};
+ghost use Rattle.reg_tables.specs.Works.{IsActive, has_failed};
 ghost use Rattle.reg_service_commands.specs.Orders.{Obeys};
 
 mod access;
@@ -29,7 +29,7 @@ pub(crate) fn report_access<S: Alter>(
     work: &mut Work<'_, S>,
     name: &str,
 ) -> Result<Answer>
-    requires at_work { IsAtWork S.Store work.old }
+    requires at_work { IsActive S.Store work.old }
     requires goes_on { has_failed work.old ≡ false }
     ensures { Obeys S.Store (Access name.now) result work.old work.new }
 {
@@ -42,7 +42,7 @@ pub(crate) fn report_access<S: Alter>(
 
 /// All accounts.
 pub(crate) fn report_users<S: Alter>(alloc: Global, work: &mut Work<'_, S>) -> Result<Answer>
-    requires { IsAtWork S.Store work.old }
+    requires { IsActive S.Store work.old }
     ensures { Obeys S.Store Users result work.old work.new }
 {
     let text = users_report(alloc, work)?;
@@ -51,7 +51,7 @@ pub(crate) fn report_users<S: Alter>(alloc: Global, work: &mut Work<'_, S>) -> R
 
 /// All tokens.
 pub(crate) fn report_tokens<S: Alter>(alloc: Global, work: &mut Work<'_, S>) -> Result<Answer>
-    requires { IsAtWork S.Store work.old }
+    requires { IsActive S.Store work.old }
     ensures { Obeys S.Store Tokens result work.old work.new }
 {
     let text = tokens_report(alloc, work)?;
@@ -60,7 +60,7 @@ pub(crate) fn report_tokens<S: Alter>(alloc: Global, work: &mut Work<'_, S>) -> 
 
 /// All crates.
 pub(crate) fn report_crates<S: Alter>(alloc: Global, work: &mut Work<'_, S>) -> Result<Answer>
-    requires { IsAtWork S.Store work.old }
+    requires { IsActive S.Store work.old }
     ensures { Obeys S.Store Crates result work.old work.new }
 {
     let text = crates_report(alloc, work)?;

@@ -6,16 +6,16 @@ ghost use Rattle.std.specs.List.{list_all};
 ghost use Rattle.reg_model.specs.Events.Command.{TokenAdd, TokenRevoke};
 ghost use Rattle.reg_model.specs.Refusals.{is_endpoint};
 ghost use Rattle.reg_model.specs.Reports.{with_commas};
-ghost use Rattle.reg_tables_meaning.specs.Calls.{Tells};
-ghost use Rattle.reg_tables.specs.Works.{IsAtWork, has_failed};
-ghost use Rattle.reg_tables.specs.Calling.{Asks, Runs};
+ghost use Rattle.reg_tables_represent.specs.Calls.{Tells};
+ghost use Rattle.reg_tables.specs.Works.{IsActive, has_failed};
+ghost use Rattle.reg_tables.specs.Calling.{Queries, Updates};
 ghost use Rattle.reg_service_commands.specs.Orders.{IsScope, PutsToken, is_full_for, token_refusal};
 ghost use Rattle.reg_service_commands.specs.Telling.{ObeysTold, ObeysToldUnder};
 ghost use Rattle.reg_service_steps.specs.Telling.{line_if};
 
 use crate::finding::refused_if;
 use crate::lines::new_token_line;
-use crate::told::{Answer, OrderTold, done_of, refused};
+use crate::told::{Answer, TracedOrder, done_of, refused};
 use itoa::Buffer;
 use reg_body::Limits;
 use reg_line::Digest;
@@ -33,8 +33,8 @@ pub(crate) fn revoke<S: Alter>(
     work: &mut Work<'_, S>,
     id: u32,
     traced: bool,
-) -> Result<OrderTold>
-    requires { IsAtWork S.Store work.old }
+) -> Result<TracedOrder>
+    requires { IsActive S.Store work.old }
     ensures { ObeysTold traced S.Store (TokenRevoke id) result work.old work.new }
 {
     let Some(live) = work.is_live(id)? else {
@@ -54,8 +54,8 @@ fn are_too_many(limits: &Limits, patterns: usize, tokens: u64) -> bool
 }
 
 fn is_full<S: Alter>(work: &mut Work<'_, S>, limits: &Limits, patterns: &[Pattern]) -> Result<bool>
-    requires { IsAtWork S.Store work.old }
-    ensures { Asks S.Store work.old work.new result (λ db full.
+    requires { IsActive S.Store work.old }
+    ensures { Queries S.Store work.old work.new result (λ db full.
         Tells (λ ids s. full ≡ is_full_for limits.now patterns.now s) db) }
 {
     let tokens = work.count_tokens()?;
@@ -70,8 +70,8 @@ fn refuses_token<S: Alter>(
     digest: &Digest,
     patterns: &[Pattern],
 ) -> Result<Option<AdminRefusal>>
-    requires { IsAtWork S.Store work.old }
-    ensures { Asks S.Store work.old work.new result (λ db found.
+    requires { IsActive S.Store work.old }
+    ensures { Queries S.Store work.old work.new result (λ db found.
         Tells (λ ids s. token_refusal limits.now digest.now patterns.now s ≡ found) db) }
 {
     let full = is_full(work, limits, patterns)?;
@@ -92,8 +92,8 @@ fn put_token<S: Alter>(
     endpoints: Endpoints,
     patterns: &[Pattern],
 ) -> Result<Answer>
-    requires { IsAtWork S.Store work.old }
-    ensures { Runs S.Store work.old work.new result
+    requires { IsActive S.Store work.old }
+    ensures { Updates S.Store work.old work.new result
         (PutsToken limits.now digest.now account endpoints patterns.now) }
 {
     if let Some(refusal) = refuses_token(alloc, work, limits, digest, patterns)? {
@@ -137,9 +137,9 @@ fn tell_token<S: Alter>(
     words: &[&str],
     patterns: &[Pattern],
 ) -> Result<Option<String>>
-    requires at_work { IsAtWork S.Store work.old }
+    requires at_work { IsActive S.Store work.old }
     requires goes_on { has_failed work.old ≡ false }
-    ensures { Asks S.Store work.old work.new result (λ db line. option_map string_bytes line
+    ensures { Queries S.Store work.old work.new result (λ db line. option_map string_bytes line
         ≡ line_if told (codes "-" ∷ codes "admin" ∷ codes "token-add" ∷ login.now
         ∷ codes "--endpoints" ∷ with_commas (map (λ w. w.now) words.now)
         ∷ codes "--patterns" ∷ with_commas patterns.now ∷ [])) }
@@ -160,8 +160,8 @@ pub(crate) fn add_token<S: Alter>(
     texts: &[&str],
     digest: &Digest,
     traced: bool,
-) -> Result<OrderTold>
-    requires { IsAtWork S.Store work.old }
+) -> Result<TracedOrder>
+    requires { IsActive S.Store work.old }
     ensures { ObeysToldUnder traced limits.now S.Store (TokenAdd login.now
         (map (λ w. w.now) words.now) (map (λ t. t.now) texts.now) digest.now)
         result work.old work.new }
@@ -179,5 +179,5 @@ pub(crate) fn add_token<S: Alter>(
         alloc, work, limits, digest, account.id, endpoints, &patterns,
     )?;
     let line = tell_token(alloc, work, traced, login, words, &patterns)?;
-    Ok(OrderTold { answer, line })
+    Ok(TracedOrder { answer, line })
 }

@@ -2,8 +2,8 @@
 
 ghost use Rattle.std.specs.Prelude.{◌≡◌, ◌∷◌, [], Err, None, Ok, codes, false, map};
 ghost use Rattle.reg_policy.specs.declared.event.AdminReply.TheVariants.{Done};
-ghost use Rattle.reg_tables.specs.Works.{IsAtWork, has_failed};
-ghost use Rattle.reg_tables.specs.Calling.{Asks};
+ghost use Rattle.reg_tables.specs.Works.{IsActive, has_failed};
+ghost use Rattle.reg_tables.specs.Calling.{Queries};
 ghost use Rattle.reg_service_commands.specs.Telling.{IsDoneTold, IsUntold};
 
 use reg_model::AdminRefusal;
@@ -18,39 +18,39 @@ pub type Answer = std::result::Result<AdminReply, AdminRefusal>;
 
 /// What a command is answered, and the line of what it changes.
 #[derive(Drop)]
-pub struct OrderTold {
+pub struct TracedOrder {
     pub answer: Answer,
     pub line: Option<String>,
 }
 
 /// A refusal, which has no line.
-pub fn refused(refusal: AdminRefusal) -> OrderTold
+pub fn refused(refusal: AdminRefusal) -> TracedOrder
     ensures answer { result.answer ≡ Err refusal }
     ensures line { result.line ≡ None }
 {
-    OrderTold {
+    TracedOrder {
         answer: Err(refusal),
         line: None,
     }
 }
 
 /// The answer of a command that had nothing to change.
-pub(crate) fn unchanged() -> OrderTold
+pub(crate) fn unchanged() -> TracedOrder
     ensures answer { result.answer ≡ Ok Done }
     ensures line { result.line ≡ None }
 {
-    OrderTold {
+    TracedOrder {
         answer: Ok(AdminReply::Done),
         line: None,
     }
 }
 
 /// An answer that changes nothing, and so has no line.
-pub(crate) fn untold(answer: Result<Answer>) -> Result<OrderTold>
+pub(crate) fn untold(answer: Result<Answer>) -> Result<TracedOrder>
     ensures { IsUntold answer result }
 {
     match answer {
-        Ok(answer) => Ok(OrderTold { answer, line: None }),
+        Ok(answer) => Ok(TracedOrder { answer, line: None }),
         Err(fault) => Err(fault),
     }
 }
@@ -61,14 +61,14 @@ fn done<S: Alter>(
     work: &mut Work<'_, S>,
     told: bool,
     words: &[&str],
-) -> Result<OrderTold>
-    requires at_work { IsAtWork S.Store work.old }
+) -> Result<TracedOrder>
+    requires at_work { IsActive S.Store work.old }
     requires goes_on { has_failed work.old ≡ false }
-    ensures { Asks S.Store work.old work.new result
+    ensures { Queries S.Store work.old work.new result
         (λ db it. IsDoneTold told (map (λ w. w.now) words.now) it) }
 {
     let line = tell_words(alloc, work, told, words)?;
-    Ok(OrderTold {
+    Ok(TracedOrder {
         answer: Ok(AdminReply::Done),
         line,
     })
@@ -81,10 +81,10 @@ pub(crate) fn done_of<S: Alter>(
     told: bool,
     verb: &str,
     of: &str,
-) -> Result<OrderTold>
-    requires at_work { IsAtWork S.Store work.old }
+) -> Result<TracedOrder>
+    requires at_work { IsActive S.Store work.old }
     requires goes_on { has_failed work.old ≡ false }
-    ensures { Asks S.Store work.old work.new result (λ db it. IsDoneTold told
+    ensures { Queries S.Store work.old work.new result (λ db it. IsDoneTold told
         (codes "-" ∷ codes "admin" ∷ verb.now ∷ of.now ∷ []) it) }
 {
     done(alloc, work, told, &["-", "admin", verb, of])
@@ -98,10 +98,10 @@ pub(crate) fn done_of_pair<S: Alter>(
     verb: &str,
     name: &str,
     login: &str,
-) -> Result<OrderTold>
-    requires at_work { IsAtWork S.Store work.old }
+) -> Result<TracedOrder>
+    requires at_work { IsActive S.Store work.old }
     requires goes_on { has_failed work.old ≡ false }
-    ensures { Asks S.Store work.old work.new result (λ db it. IsDoneTold told
+    ensures { Queries S.Store work.old work.new result (λ db it. IsDoneTold told
         (codes "-" ∷ codes "admin" ∷ verb.now ∷ name.now ∷ login.now ∷ []) it) }
 {
     done(alloc, work, told, &["-", "admin", verb, name, login])

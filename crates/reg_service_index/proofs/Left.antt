@@ -8,8 +8,8 @@ use Rattle.sqlite.specs.declared.rows.stream.Rows.{Rows}
 use Rattle.sqlite.specs.Next.{HasMoved}
 use Rattle.sqlite.specs.State.{IsUnchanged}
 use Rattle.reg_tables_schema.specs.States.{Refuses}
-use Rattle.reg_tables_meaning.specs.Walks.{IsRead}
-use Rattle.reg_tables.specs.Works.{AreOurs, IsLeft, edition_in, is_shut, shown}
+use Rattle.reg_tables_represent.specs.Walks.{IsRead}
+use Rattle.reg_tables.specs.Works.{AreOurs, IsLeft, edition_in, is_stopped, shown}
 
 module _ {S : Type 0} (g : Ghosts S) (text : List ℕ) (params : Row) (first : Held S) (old new : Rows S g) (given : List Row) (w : HasWalked g text params first old.conn.now given) where
   -- where a row or the end was read, and then something failed
@@ -26,7 +26,7 @@ same_or_failed g old new (Ok x) same refused = inr (inl same)
 same_or_failed g old new (Err e) same refused = refused
 
 -- the tables whose connection was read
-pub read_left : {S T E : Type 0} (g : Ghosts S) (old new : Tables S) (r : Result T E) → AreOurs g old → IsRead g r (held old) (held new) → is_shut new ≡ is_shut old → edition_in new ≡ edition_in old → IsLeft g old new
+pub read_left : {S T E : Type 0} (g : Ghosts S) (old new : Tables S) (r : Result T E) → AreOurs g old → IsRead g r (held old) (held new) → is_stopped new ≡ is_stopped old → edition_in new ≡ edition_in old → IsLeft g old new
 read_left g old new r ours reads shut edition = record {
   refused = λ clean. same_or_failed g (held old) (held new) r (reads.same clean) (reads.refused clean);
   ours = subst (λ e. IsOurs e (shown g new)) (sym edition) (reads.ours (edition_in old) ours);

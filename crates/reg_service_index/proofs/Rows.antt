@@ -9,7 +9,7 @@ use Rattle.std.proofs.lemmas.Grind.{flat_map-append}
 use Rattle.sqlite.specs.Effect.{Database}
 use Rattle.sqlite.proofs.Callers.{given_begin}
 use Rattle.reg_line.specs.File.{file_text, line_of}
-use Rattle.reg_tables_schema.specs.declared.edition.Edition.TheVariants.{Second}
+use Rattle.reg_tables_schema.specs.declared.edition.SchemaVersion.TheVariants.{Second}
 use Rattle.reg_tables_schema.specs.Schema.{ours}
 use Rattle.reg_body.specs.declared.bytes.SendFault.TheVariants.{Spent, Write}
 use Rattle.reg_api_replies.proofs.Joined.{pile_sent, sends_nothing}
@@ -62,7 +62,7 @@ module _ {S : Type 0} (g : Ghosts S) (first : Held S) (id : ℕ) (at : IsOurs Se
     pub rows_none : (left : Held S) → SendsRows g id head (Err Store) writes first left s s
     rows_none left = record {
       rows = [];
-      sends = record { front = []; rest = head ++ []; used = 0; whole = refl; sends = sends_nothing writes s };
+      sends = record { front = []; rest = head ++ []; used = 0; whole = refl; sends = sends_nothing writes s; unsent = λ none. absurd (omega (arith, none)) };
       begins = λ clean. inl (refl, refl);
     }
 
@@ -82,7 +82,7 @@ module _ {S : Type 0} (g : Ghosts S) (first : Held S) (id : ℕ) (at : IsOurs Se
       pub rows_broken : (left : Held S) → (HasCleanDisk (state g left) → HasCleanDisk (state g now)) → SendsRows g id head (Err Store) writes first left s t
       rows_broken left back = record {
         rows = rows;
-        sends = record { front = puts.sent; rest = rest; used = used; whole = puts.whole; sends = puts.sends };
+        sends = record { front = puts.sent; rest = rest; used = used; whole = puts.whole; sends = puts.sends; unsent = puts.waits };
         begins = λ clean. inr (begins_so Store now rows w (back clean));
       }
 

@@ -3,7 +3,7 @@ use Rattle.reg_service_index.proofs.Words.{◌≡◌, ◌⊎◌, ℕ, zero, ◌+
 use Rattle.reg_service_index.proofs.Words.{sym, ap, subst, ◌∙◌, arith, append-nil, append_assoc, Held, state, Row, HasCleanDisk, Ghosts}
 use Rattle.reg_service_index.proofs.Words.{Text, IsStopped, SendsAll, Sink, rows_in, AreStemsOf, Tables, held, stopped_first, SendFault}
 use Rattle.reg_service_index.proofs.Words.{BeginsFile, SendsRows, rows_text, lines_in, IsBroken, fault_of, IndexFault, Store}
-use Rattle.std.proofs.Common.{◌<◌, suc, None}
+use Rattle.std.proofs.Common.{◌<◌, suc, None, length-append}
 use Rattle.std.specs.Io.KnownBytes.{Appends}
 use Rattle.std.proofs.KnownBytes.{Appends-trans}
 use Rattle.reg_model.specs.declared.rule.Rule.TheVariants.{S1}
@@ -30,6 +30,7 @@ broken_longer Store a b writes s t h = record {
   used = h.used;
   whole = ap (λ x. x ++ b) h.whole ∙ append_assoc h.front h.rest b;
   sends = h.sends;
+  unsent = λ some. omega (arith, h.unsent some, length-append h.rest b);
 }
 
 -- the writer is as it was
@@ -88,6 +89,7 @@ broken_then Store text writes s t u x y = record {
   used = y.used;
   whole = y.whole;
   sends = all_then y.front writes y.used s t u x y.sends;
+  unsent = y.unsent;
 }
 
 pub streams_then : (r : Result ℕ IndexFault) (text : Text) (writes : ℕ) (s t u : Sink) → IsSameSink s t → Streams r text writes t u → Streams r text writes s u

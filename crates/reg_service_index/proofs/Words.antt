@@ -9,9 +9,9 @@ pub use Rattle.reg_body.specs.declared.bytes.SendFault.{SendFault}
 pub use Rattle.reg_model.specs.Registry.{Text}
 pub use Rattle.reg_tables.specs.Works.{held}
 pub use Rattle.reg_tables.specs.declared.tables.Tables.{Tables}
-pub use Rattle.reg_tables_meaning.proofs.Walking.{walk_ends}
-pub use Rattle.reg_tables_meaning.specs.Entries.{entry_row}
-pub use Rattle.reg_tables_meaning.specs.Walks.{HasWalked}
+pub use Rattle.reg_tables_represent.proofs.Walking.{walk_ends}
+pub use Rattle.reg_tables_represent.specs.Entries.{entry_row}
+pub use Rattle.reg_tables_represent.specs.Walks.{HasWalked}
 pub use Rattle.reg_tables_schema.specs.Statements.{rows_in}
 pub use Rattle.reg_tables_schema.specs.States.{IsOurs}
 pub use Rattle.reg_tables_sql.specs.Stems.{AreStemsOf, entries_text}

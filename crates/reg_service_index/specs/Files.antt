@@ -12,7 +12,7 @@ use Rattle.reg_tables_schema.specs.Statements.{rows_in}
 use Rattle.reg_body.specs.Sent.{Sink}
 use Rattle.reg_api_replies.specs.Texts.{file_head, refusal_text}
 use Rattle.reg_tables_sql.specs.Stems.{AreStemsOf, entries_text}
-use Rattle.reg_tables_meaning.specs.Entries.{entry_row}
+use Rattle.reg_tables_represent.specs.Entries.{entry_row}
 use Rattle.reg_tables.specs.declared.tables.Tables.{Tables}
 use Rattle.reg_tables.specs.Works.{shown}
 use Rattle.reg_service_index.specs.declared.found.FoundFile.{FoundFile}

@@ -5,14 +5,14 @@ use Rattle.sqlite.specs.Tree.{Trees}
 use Rattle.reg_line.specs.File.{file_text}
 use Rattle.reg_model.specs.Registry.{Registry, Text}
 use Rattle.reg_tables_sql.specs.Stems.{AreStemsOf}
-use Rattle.reg_tables_meaning.specs.Changes.{told_of}
-use Rattle.reg_tables_meaning.specs.Entries.{entries}
-use Rattle.reg_tables_meaning.specs.Stands.{Holds, Ids, spelling_at}
+use Rattle.reg_tables_represent.specs.Changes.{told_of}
+use Rattle.reg_tables_represent.specs.Entries.{entries}
+use Rattle.reg_tables_represent.specs.Stands.{StandsSoundBy, IdAssignment, spelling_at}
 use Rattle.reg_service_index.specs.Lines.{lines_in}
 use Rattle.reg_service_index.specs.declared.found.FoundFile.{FoundFile}
 
 -- its text in the registry
-abbrev pub file_at : Ids → Registry → FoundFile → Text
+abbrev pub file_at : IdAssignment → Registry → FoundFile → Text
 file_at ids s f = file_text (told_of (spelling_at ids f.crate_id) [] (entries s))
 
 -- its text in the tables: the lines of the crate's rows
@@ -21,5 +21,5 @@ HasText f text db = (rows : List Row) → AreStemsOf f.crate_id db rows → line
 
 -- both are the same
 abbrev pub FilesAreRows : Type 0
-FilesAreRows = (ids : Ids) (s : Registry) (db : Trees) → Holds ids s db
+FilesAreRows = (ids : IdAssignment) (s : Registry) (db : Trees) → StandsSoundBy ids s db
     → (f : FoundFile) → HasText f (file_at ids s f) db

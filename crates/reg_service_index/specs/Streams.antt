@@ -1,5 +1,5 @@
 -- What sending an index file did.
-use Rattle.std.specs.Prelude.{◌≡◌, ◌++◌, ℕ, List, Result, Ok, Err}
+use Rattle.std.specs.Prelude.{◌≡◌, ◌<◌, ◌++◌, ℕ, List, length, Result, Ok, Err}
 use Rattle.reg_body.specs.Sent.{SendsAll, SendsUntilFailure, SendsUntilSpent, Sink}
 use Rattle.reg_body.specs.declared.bytes.SendFault.{SendFault}
 use Rattle.reg_body.specs.declared.bytes.SendFault.TheVariants as send
@@ -11,13 +11,15 @@ abbrev pub fault_of : SendFault → IndexFault
 fault_of send.Write = Write
 fault_of send.Spent = Spent
 
--- a front of the text was sent, in this number of calls, when the store failed
+-- A front of the text was sent, in this number of calls, when the store failed. What was sent is
+-- never the whole text.
 pub record BreaksOff (text : List ℕ) (writes : ℕ) (old new : Sink) : Type 0 where
   pub front : List ℕ
   pub rest : List ℕ
   pub used : ℕ
   pub whole : text ≡ front ++ rest
   pub sends : SendsAll front writes used old new
+  pub unsent : 0 < used → 0 < length rest
 
 -- sending the text came to no end
 abbrev pub IsBroken : IndexFault → List ℕ → ℕ → Sink → Sink → Type 0

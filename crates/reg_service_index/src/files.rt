@@ -6,16 +6,16 @@ ghost use Rattle.sqlite_value.specs.Value.{owned};
 ghost use Rattle.sqlite.specs.Held.{state};
 ghost use Rattle.reg_tables_schema.specs.States.{IsOurs};
 ghost use Rattle.reg_body.specs.Sent.{sink};
-ghost use Rattle.reg_tables_meaning.specs.Entries.{entry_row};
-ghost use Rattle.reg_tables_meaning.specs.Walks.{IsRead};
-ghost use Rattle.reg_tables_schema.specs.Rows.{mark};
+ghost use Rattle.reg_tables_represent.specs.Entries.{entry_row};
+ghost use Rattle.reg_tables_represent.specs.Walks.{IsRead};
+ghost use Rattle.reg_tables_schema.specs.Rows.{sql_bool};
 ghost use Rattle.reg_service_index.specs.Files.{EndsItself, SendsRows};
 
 use crate::fault::IndexFault;
 use crate::lines::put_line;
-use reg_api_replies::Pile;
+use reg_api_replies::WriteBuffer;
 use reg_body::Counted;
-use reg_tables::{Edition, index_rows};
+use reg_tables::{SchemaVersion, index_rows};
 use sqlite::types::ValueRef;
 use sqlite::{Alter, Connection, Row};
 use std::io::Write;
@@ -38,8 +38,8 @@ fn stem_of(value: ValueRef<'_>) -> Option<&[u8]>
 }
 
 fn mark_of(value: ValueRef<'_>) -> Option<bool>
-    ensures { MatchOption result ((yanked : _) → owned value.entry ≢ mark yanked)
-        (λ yanked. owned value.entry ≡ mark yanked) }
+    ensures { MatchOption result ((yanked : _) → owned value.entry ≢ sql_bool yanked)
+        (λ yanked. owned value.entry ≡ sql_bool yanked) }
 {
     match value {
         ValueRef::Int(0) => Some(false),
@@ -71,7 +71,7 @@ pub(crate) fn send_rows<S: Alter, W: Write>(
     w: &mut Counted<W>,
     writes: u64,
 ) -> Result<u64, IndexFault>
-    requires ours { IsOurs Edition.Second (state S.Store conn.old) }
+    requires ours { IsOurs SchemaVersion.Second (state S.Store conn.old) }
     requires room { w.old.calls + writes < 2 ^ 64 }
     ensures rows { SendsRows S.Store crate_id front.now result writes conn.old conn.new
         (sink (W.contents w.old.inner) w.old) (sink (W.contents w.new.inner) w.new) }
@@ -79,7 +79,7 @@ pub(crate) fn send_rows<S: Alter, W: Write>(
     ensures ends { result ≡ Err IndexFault.Store → (w.new.calls ≡ w.old.calls)
         ⊎ EndsItself S.Store crate_id conn.new }
 {
-    let mut pile = Pile::new();
+    let mut pile = WriteBuffer::new();
     let mut rows = index_rows(conn, crate_id)?;
     let mut used = pile.put(w, front, writes)?;
     'rows: for count in 0..u64::MAX {

@@ -2,7 +2,7 @@
 
 ghost use Rattle.reg_service_index.specs.Found.{FilesAreRows};
 
-use reg_tables_meaning::laws::entries_law;
+use reg_tables_represent::laws::entries_law;
 
 /// The lines of a crate's rows are its index file.
 pub fn file_law()

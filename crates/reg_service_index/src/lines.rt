@@ -5,14 +5,14 @@ ghost use Rattle.reg_line.specs.File.{line_of};
 ghost use Rattle.reg_api_replies.specs.Piled.{Puts};
 ghost use Rattle.reg_body.specs.Sent.{sink};
 
-use reg_api_replies::{Pile, SendFault};
+use reg_api_replies::{SendFault, WriteBuffer};
 use reg_body::Counted;
 use reg_line::line_end;
 use std::io::Write;
 
 /// Puts a line after what waits.
 pub(crate) fn put_line<W: Write>(
-    pile: &mut Pile,
+    pile: &mut WriteBuffer,
     w: &mut Counted<W>,
     stem: &[u8],
     yanked: bool,

@@ -3,8 +3,8 @@
 ghost use Rattle.std.specs.Prelude.{◌≡◌, ◌+◌, ◌^◌, ◌<◌, ◌⊎◌, Err, IfOk, MatchBool, false, true};
 ghost use Rattle.sqlite.specs.State.{HasCleanDisk};
 ghost use Rattle.reg_body.specs.Sent.{sink};
-ghost use Rattle.reg_tables_meaning.specs.Walks.{IsRead};
-ghost use Rattle.reg_tables.specs.Works.{AreOurs, IsLeft, edition_in, held, is_shut, shown};
+ghost use Rattle.reg_tables_represent.specs.Walks.{IsRead};
+ghost use Rattle.reg_tables.specs.Works.{AreOurs, IsLeft, edition_in, held, is_stopped, shown};
 ghost use Rattle.reg_service_index.specs.Files.{EndsItself, IsFileText, SendsFile, SendsNoRoom, SendsRows, SendsSome};
 
 use crate::fault::IndexFault;
@@ -14,7 +14,7 @@ use http::StatusCode;
 use reg_api_replies::{Kind, Reply, reply_head, write_reply};
 use reg_body::Counted;
 use reg_policy::Rule;
-use reg_tables::{Edition, Tables};
+use reg_tables::{SchemaVersion, Tables};
 use sqlite::Alter;
 use std::alloc::Global;
 use std::io::Write;
@@ -51,14 +51,14 @@ fn send_over<S: Alter, W: Write>(
     writes: u64,
 ) -> Result<u64, IndexFault>
     requires ours { AreOurs S.Store tables.old }
-    requires second { edition_in tables.old ≡ Edition.Second }
-    requires open { is_shut tables.old ≡ false }
+    requires second { edition_in tables.old ≡ SchemaVersion.Second }
+    requires open { is_stopped tables.old ≡ false }
     requires room { w.old.calls + writes < 2 ^ 64 }
     ensures rows { SendsRows S.Store crate_id front.now result writes (held tables.old)
         (held tables.new) (sink (W.contents w.old.inner) w.old)
         (sink (W.contents w.new.inner) w.new) }
     ensures reads { IsRead S.Store result (held tables.old) (held tables.new) }
-    ensures shut { is_shut tables.new ≡ is_shut tables.old }
+    ensures shut { is_stopped tables.new ≡ is_stopped tables.old }
     ensures edition { edition_in tables.new ≡ edition_in tables.old }
     ensures ends { result ≡ Err IndexFault.Store → (w.new.calls ≡ w.old.calls)
         ⊎ EndsItself S.Store crate_id (held tables.new) }
@@ -76,7 +76,7 @@ pub fn send_file<S: Alter, W: Write>(
     writes: u64,
 ) -> Result<u64, IndexFault>
     requires ours { AreOurs S.Store tables.old }
-    requires second { edition_in tables.old ≡ Edition.Second }
+    requires second { edition_in tables.old ≡ SchemaVersion.Second }
     requires room { w.old.calls + writes < 2 ^ 64 }
     ensures sends { HasCleanDisk (shown S.Store tables.new)
         → SendsNoRoom close result writes (sink (W.contents w.old.inner) w.old)
@@ -88,12 +88,12 @@ pub fn send_file<S: Alter, W: Write>(
     ensures begun { result ≡ Err IndexFault.Store → w.old.calls < w.new.calls }
     ensures ends { result ≡ Err IndexFault.Store
         → EndsItself S.Store file.now.crate_id (held tables.new) }
-    ensures stopped { is_shut tables.old ≡ true
+    ensures stopped { is_stopped tables.old ≡ true
         → SendsNoRoom close result writes (sink (W.contents w.old.inner) w.old)
         (sink (W.contents w.new.inner) w.new) }
     ensures left { IsLeft S.Store tables.old tables.new }
 {
-    if tables.is_shut() {
+    if tables.is_stopped() {
         return send_no_room(w, close, writes);
     }
     let head = reply_head(StatusCode::OK, Kind::Text, None, file.length, close);
@@ -112,12 +112,12 @@ pub fn read_file<S: Alter>(
     file: &FoundFile,
 ) -> Result<Vec<u8>, IndexFault>
     requires ours { AreOurs S.Store tables.old }
-    requires second { edition_in tables.old ≡ Edition.Second }
+    requires second { edition_in tables.old ≡ SchemaVersion.Second }
     ensures reads { HasCleanDisk (shown S.Store tables.new) → IfOk result
         (λ text. IsFileText S.Store file.now tables.old text.items) }
     ensures left { IsLeft S.Store tables.old tables.new }
 {
-    if tables.is_shut() {
+    if tables.is_stopped() {
         return Err(IndexFault::Store);
     }
     let mut text = Counted::new(Vec::new(alloc));

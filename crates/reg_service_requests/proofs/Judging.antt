@@ -2,7 +2,7 @@
 use Rattle.reg_service_requests.proofs.Words.{◌≡◌, Option, Some, None, not, sym, ap, subst, ◌∙◌, filter, find, Trees, Limits, Rule, viewer}
 use Rattle.reg_service_requests.proofs.Words.{account_of, served, Asked, action_of, fault_of, Ask, or_else, Registry, Text, broken}
 use Rattle.reg_service_requests.proofs.Words.{is_access_rule, order, Outcome, outcome, unless_denied, Says, Reply, Tells, Stands, Serves}
-use Rattle.reg_service_requests.proofs.Words.{Done, Told}
+use Rattle.reg_service_requests.proofs.Words.{Done, ReadOnly}
 use Rattle.reg_model.specs.Effects.{done}
 use Rattle.reg_model.specs.Facts.{access_facts, counts}
 use Rattle.reg_model.specs.Refusals.{denied}
@@ -24,11 +24,11 @@ module _ (limits : Limits) (digest : Text) (asked : Asked) where
   answered s r e = ap (λ r. unless_denied s r (served s (viewer s digest) asked, done s (account_of s digest) asked)) e
 
   -- it is denied
-  pub told_denied : (r : Rule) (old new : Trees) → Tells (λ ids s. denied limits s (Some digest) asked ≡ Some r) old → Serves limits (Some digest) asked old new (Told (reply.Denied r))
+  pub told_denied : (r : Rule) (old new : Trees) → Tells (λ ids s. denied limits s (Some digest) asked ≡ Some r) old → Serves limits (Some digest) asked old new (ReadOnly (reply.Denied r))
   told_denied r old new why ids s h = let e = answered s (Some r) (why ids s h) in (ap (λ (o : Outcome). o.0) e, ap (λ (o : Outcome). o.1) e)
 
   -- it is served, and nothing is done
-  pub told_served : (it : Reply) (old new : Trees) → Tells (λ ids s. (denied limits s (Some digest) asked ≡ None) × Says asked (served s (viewer s digest) asked) it × (done s (account_of s digest) asked ≡ s)) old → Serves limits (Some digest) asked old new (Told it)
+  pub told_served : (it : Reply) (old new : Trees) → Tells (λ ids s. (denied limits s (Some digest) asked ≡ None) × Says asked (served s (viewer s digest) asked) it × (done s (account_of s digest) asked ≡ s)) old → Serves limits (Some digest) asked old new (ReadOnly it)
   told_served it old new what ids s h =
       let w = what ids s h in
       let e = answered s None w.0 in

@@ -2,7 +2,7 @@
 use Rattle.reg_service_requests.proofs.Words.{◌≡◌, Bool, true, false, not, cond, Option, Some, None, refl, sym, ap, subst, ◌∙◌, Vec, Global}
 use Rattle.reg_service_requests.proofs.Words.{list_any, bytes_eq, Trees, Limits, canon, name_of, crate_of, collides, versions, viewer}
 use Rattle.reg_service_requests.proofs.Words.{account_of, served, action_of, lists, Registry, Text, holds, has_version, not_denied}
-use Rattle.reg_service_requests.proofs.Words.{not_false, any_filter, Says, Json, Stands, IsCrateOf, FoundCrate, IsCrate, IsLet, marking}
+use Rattle.reg_service_requests.proofs.Words.{not_false, any_filter, Says, Json, Stands, IsCrateOf, FoundCrate, IsCrate, IsAuthorized, marking}
 use Rattle.reg_service_requests.proofs.Words.{Serves, Done, spelled_as}
 use Rattle.reg_model.specs.Changes.{with_yanked}
 use Rattle.reg_model.specs.Crates.{visible}
@@ -13,8 +13,8 @@ use Rattle.reg_model.specs.Rules.{access}
 use Rattle.reg_model.proofs.SoundOwners.{crate_there}
 use Rattle.reg_api_replies.specs.Bodies.{ok_body}
 use Rattle.reg_api_replies.specs.declared.reply.Reply.TheVariants as reply
-use Rattle.reg_tables_meaning.specs.Calls.{SetsYanked}
-use Rattle.reg_tables_meaning.specs.Changes.{if_there, with_mark}
+use Rattle.reg_tables_represent.specs.Calls.{SetsYanked}
+use Rattle.reg_tables_represent.specs.Changes.{if_there, with_mark}
 use Rattle.reg_service_requests.proofs.Judging.{denied_by_others, done_served}
 
 -- a version that is not missing is there
@@ -48,7 +48,7 @@ pub named_in : (b : Bool) (n v : Text) → crate_of (action_of (marking b n v)) 
 named_in true n v = refl
 named_in false n v = refl
 
-pub marked : (limits : Limits) (d n v : Text) (b : Bool) (c : FoundCrate) (body : Vec _ Global) (old new : Trees) → body.items ≡ ok_body → SetsYanked c.id v b old new → IsLet d (action_of (marking b n v)) old → IsCrate (action_of (marking b n v)) c old → Serves limits (Some d) (marking b n v) old new (Done (reply.Done Json body))
+pub marked : (limits : Limits) (d n v : Text) (b : Bool) (c : FoundCrate) (body : Vec _ Global) (old new : Trees) → body.items ≡ ok_body → SetsYanked c.id v b old new → IsAuthorized d (action_of (marking b n v)) old → IsCrate (action_of (marking b n v)) c old → Serves limits (Some d) (marking b n v) old new (Done (reply.Done Json body))
 marked limits d n v b c body old new is sets passes its = done_served limits d (marking b n v) (reply.Done Json body) old new (λ ids s h.
     let allowed = let_so limits s d n v b (passes ids s h) in
     let (m, at, same) = (spelled_as ids s c n (subst (λ o. IsCrateOf ids s o c) (named_in b n v) (its ids s h))).1 in

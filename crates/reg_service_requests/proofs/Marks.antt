@@ -1,10 +1,10 @@
 -- Versions that are yanked, or no longer.
 use Rattle.reg_service_requests.proofs.Words.{◌≡◌, [], ◌∷◌, Bool, true, false, cond, not, Some, sym, ap, ◌∙◌, unwrap_or, Trees, Limits}
 use Rattle.reg_service_requests.proofs.Words.{crate_of, action_of, Registry, Text, has_version, only_if, request_words, spelled, unless}
-use Rattle.reg_service_requests.proofs.Words.{Caller, FoundCrate, first_canon, marking, mark_word, crate_found, first_as}
+use Rattle.reg_service_requests.proofs.Words.{Principal, FoundCrate, first_canon, marking, mark_word, crate_found, first_as}
 use Rattle.std.specs.FinSet as finset
 use Rattle.reg_model.specs.Crates.{is_yanked}
-use Rattle.reg_tables_meaning.specs.Calls.{TellsOtherMark}
+use Rattle.reg_tables_represent.specs.Calls.{TellsOtherMark}
 use Rattle.reg_service_requests.proofs.Asking.{HasWords}
 use Rattle.reg_service_requests.proofs.Marked.{is_published, named_in}
 
@@ -14,7 +14,7 @@ mark_words true false s n v e = ap (λ y. unless y (mark_word true ∷ spelled s
 mark_words false true s n v e = ap (λ y. only_if y (mark_word false ∷ spelled s n ∷ v ∷ [])) e
 mark_words false false s n v e = ap (λ y. only_if y (mark_word false ∷ spelled s n ∷ v ∷ [])) e
 
-pub mark_has : (limits : Limits) (c : Caller) (b other : Bool) (n v : Text) (db : Trees) (it : FoundCrate) → c.found ≡ Some it → TellsOtherMark it.id v b db other → HasWords limits c (marking b n v) db (only_if other (mark_word b ∷ it.name ∷ v ∷ []))
+pub mark_has : (limits : Limits) (c : Principal) (b other : Bool) (n v : Text) (db : Trees) (it : FoundCrate) → c.found ≡ Some it → TellsOtherMark it.id v b db other → HasWords limits c (marking b n v) db (only_if other (mark_word b ∷ it.name ∷ v ∷ []))
 mark_has limits c b other n v db it found tells = λ d who ids s h ok.
     let crate = crate_found ids s (crate_of (action_of (marking b n v))) n c.found it (named_in b n v) found (who ids s h).found in
     let first = first_as ids s it n crate in

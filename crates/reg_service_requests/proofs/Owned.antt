@@ -1,11 +1,12 @@
 -- Owners of a crate who are added or removed.
 use Rattle.reg_service_requests.proofs.Words.{◌≡◌, ℕ, List, [], ◌∷◌, Bool, true, false, not, Option, Some, None, refl, sym, ap, ◌∙◌, ◌&&◌}
-use Rattle.reg_service_requests.proofs.Words.{◌||◌, is_some, string_bytes, unwrap_or, Bor, list_all, list_any, bytes_eq, Trees, Limits}
+use Rattle.reg_service_requests.proofs.Words.{◌||◌, is_some, string_bytes, unwrap_or, list_all, list_any, bytes_eq, Trees, Limits}
 use Rattle.reg_service_requests.proofs.Words.{crate_of, owns, action_of, AddOwners, Registry, Text, holds, id_of_login, is_enabled}
 use Rattle.reg_service_requests.proofs.Words.{is_known, with_commas, Sound, not_denied, not_false, list_any_map, only_if, request_words}
-use Rattle.reg_service_requests.proofs.Words.{spelled, unless, Account, Caller, FoundCrate, ListsOwners, first_canon, owning, changes}
+use Rattle.reg_service_requests.proofs.Words.{spelled, unless, Account, Principal, FoundCrate, ListsOwners, first_canon, owning, changes}
 use Rattle.reg_service_requests.proofs.Words.{owners_word, crate_found, first_as}
-use Rattle.std.specs.Prelude.{map}
+use Rattle.std.specs.Global.{Global}
+use Rattle.std.specs.Prelude.{map, String}
 use Rattle.std.specs.FinSet as finset
 use Rattle.reg_model.specs.Facts.{access_facts, counts}
 use Rattle.reg_model.specs.Refusals.{denied}
@@ -43,19 +44,19 @@ module _ (limits : Limits) (s : Registry) (sound : Sound s) (d n : Text) (logins
   owning_words false ok = ap (λ b. only_if b (owners_word false ∷ spelled s n ∷ with_commas logins ∷ [])) (any_placed (owns s n) (id_of_login s) logins)
 
 -- the same test of texts as a call is given them
-changes_map : (are : Bool) (p : Text → Bool) (texts : List (Bor Text)) → changes are p (map (λ t. t.now) texts) ≡ changes are (λ t. p t.now) texts
-changes_map are p texts = list_any_map (λ t. differs (p t) are) (λ t. t.now) texts
+changes_map : (are : Bool) (p : Text → Bool) (texts : List (String Global)) → changes are p (map string_bytes texts) ≡ changes are (λ t. p (string_bytes t)) texts
+changes_map are p texts = list_any_map (λ t. differs (p t) are) string_bytes texts
 
-pub owning_has : (limits : Limits) (c : Caller) (are b : Bool) (n : Text) (texts : List (Bor Text)) (db : Trees) (it : FoundCrate) (list : List Account) → c.found ≡ Some it → ListsOwners it.id db list
-    → b ≡ changes are (λ t. list_any (λ a. bytes_eq (string_bytes a.login) t.now) list) texts
-    → HasWords limits c (owning are n (map (λ t. t.now) texts)) db (only_if b (owners_word are ∷ it.name ∷ with_commas (map (λ t. t.now) texts) ∷ []))
+pub owning_has : (limits : Limits) (c : Principal) (are b : Bool) (n : Text) (texts : List (String Global)) (db : Trees) (it : FoundCrate) (list : List Account) → c.found ≡ Some it → ListsOwners it.id db list
+    → b ≡ changes are (λ t. list_any (λ a. bytes_eq (string_bytes a.login) (string_bytes t)) list) texts
+    → HasWords limits c (owning are n (map string_bytes texts)) db (only_if b (owners_word are ∷ it.name ∷ with_commas (map string_bytes texts) ∷ []))
 owning_has limits c are b n texts db it list found lists e = λ d who ids s h ok.
-    let logins : List Text = map (λ t. t.now) texts in
+    let logins : List Text = map string_bytes texts in
     let crate = crate_found ids s (crate_of (action_of (owning are n logins))) n c.found it (named_in are n logins) found (who ids s h).found in
     let first = first_as ids s it n crate in
     let same = first_canon s n it.name first in
     let owned = λ (l : Text). one_owns s h.sound n it.name l _ list crate.placed same (lists ids s h) in
-    let changed : changes are (λ l. holds (owns s n) (id_of_login s l)) logins ≡ b = changes_map are (λ l. holds (owns s n) (id_of_login s l)) texts ∙ (λ i. changes are (λ (t : Bor Text). sym (owned t.now) i) texts) ∙ sym e in
+    let changed : changes are (λ l. holds (owns s n) (id_of_login s l)) logins ≡ b = changes_map are (λ l. holds (owns s n) (id_of_login s l)) texts ∙ (λ i. changes are (λ t. sym (owned (string_bytes t)) i) texts) ∙ sym e in
     owning_words limits s h.sound d n logins are ok
     ∙ ap (λ c. only_if c (owners_word are ∷ spelled s n ∷ with_commas logins ∷ [])) changed
     ∙ ap (λ o. only_if b (owners_word are ∷ unwrap_or o n ∷ with_commas logins ∷ [])) first

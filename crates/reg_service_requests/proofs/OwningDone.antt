@@ -2,9 +2,9 @@
 use Rattle.reg_service_requests.proofs.Words.{◌≡◌, ℕ, List, [], ◌∷◌, ◌++◌, Bool, true, false, cond, Option, Some, None, Ok, Err, refl, sym}
 use Rattle.reg_service_requests.proofs.Words.{ap, subst, ◌∙◌, Vec, unwrap_or, Global, find, Trees, Limits, canon, is_name, name_of, Rule}
 use Rattle.reg_service_requests.proofs.Words.{crate_of, owners, caller, served, action_of, lists, or_else, Registry, Text, broken, Sound}
-use Rattle.reg_service_requests.proofs.Words.{Outcome, unless_denied, Says, Reply, Denied, Holds, Ids, Stands, StandsBy, IsCrateOf}
-use Rattle.reg_service_requests.proofs.Words.{FoundCrate, IsCrate, IsLet, IsSpelled, DoesOwning, FindsOwners, leaving_rule, owning}
-use Rattle.reg_service_requests.proofs.Words.{with_owners, Serves, Served, Done, Seeks, Sends, Told, spelled_as}
+use Rattle.reg_service_requests.proofs.Words.{Outcome, unless_denied, Says, Reply, Denied, StandsSoundBy, IdAssignment, Stands, StandsBy, IsCrateOf}
+use Rattle.reg_service_requests.proofs.Words.{FoundCrate, IsCrate, IsAuthorized, IsSpelled, DoesOwning, FindsOwners, leaving_rule, owning}
+use Rattle.reg_service_requests.proofs.Words.{with_owners, Serves, Served, Done, Seeks, Sends, ReadOnly, spelled_as}
 use Rattle.std.specs.Prelude.{map}
 use Rattle.std.specs.FinSet as finset
 use Rattle.reg_model.specs.declared.rule.Rule.TheVariants as rule
@@ -60,21 +60,21 @@ same_owners : (are : Bool) (n m : Text) (accounts : List ℕ) (s : Registry) →
 same_owners true n m accounts s same = ap (λ c. record s { owners = finset.union s.owners (finset.from_list (map (λ id. (c, id)) accounts)) }) same
 same_owners false n m accounts s same = ap (λ c. record s { owners = finset.difference s.owners (finset.from_list (map (λ id. (c, id)) accounts)) }) same
 
-module _ (limits : Limits) (digest : Text) (are : Bool) (name : Text) (logins : List Text) (old : Trees) (let_pass : IsLet digest (action_of (owning are name logins)) old) (c : FoundCrate) (its : IsCrate (action_of (owning are name logins)) c old) where
-  spelled : (ids : Ids) (s : Registry) → Holds ids s old → (is_name name ≡ true) × IsSpelled ids name c.id
+module _ (limits : Limits) (digest : Text) (are : Bool) (name : Text) (logins : List Text) (old : Trees) (let_pass : IsAuthorized digest (action_of (owning are name logins)) old) (c : FoundCrate) (its : IsCrate (action_of (owning are name logins)) c old) where
+  spelled : (ids : IdAssignment) (s : Registry) → StandsSoundBy ids s old → (is_name name ≡ true) × IsSpelled ids name c.id
   spelled ids s h = spelled_as ids s c name (subst (λ o. IsCrateOf ids s o c) (named_in are name logins) (its ids s h))
 
-  judged : (ids : Ids) (s : Registry) (h : Holds ids s old) → denied limits s (Some digest) (owning are name logins) ≡ logins_rule are s name logins
+  judged : (ids : IdAssignment) (s : Registry) (h : StandsSoundBy ids s old) → denied limits s (Some digest) (owning are name logins) ≡ logins_rule are s name logins
   judged ids s h = denied_by limits are s digest name logins (ap (λ b. cond b (Some name) None) (spelled ids s h).0) (let_pass ids s h)
 
-  pub owning_denied : (r : Rule) → FindsOwners are c.id logins old (Err r) → Serves limits (Some digest) (owning are name logins) old old (Told (Denied r))
+  pub owning_denied : (r : Rule) → FindsOwners are c.id logins old (Err r) → Serves limits (Some digest) (owning are name logins) old old (ReadOnly (Denied r))
   owning_denied r finds ids s h =
       let why = judged ids s h ∙ finds ids s h name (spelled ids s h).1 in
       let rest : Outcome = (served s (caller s (Some digest)) (owning are name logins), done s (unwrap_or (caller s (Some digest)) 0) (owning are name logins)) in
       (ap (λ o. (unless_denied s o rest).0) why, ap (λ o. (unless_denied s o rest).1) why)
 
   pub owning_done : (accounts : Vec ℕ Global) (new : Trees) (it : Served) → FindsOwners are c.id logins old (Ok accounts) → DoesOwning are c.id accounts.items old new it → Serves limits (Some digest) (owning are name logins) old new it
-  owning_done accounts new (Told reply) finds does = absurd does
+  owning_done accounts new (ReadOnly reply) finds does = absurd does
   owning_done accounts new (Seeks account) finds does = absurd does
   owning_done accounts new (Sends file) finds does = absurd does
   owning_done accounts new (Done reply) finds does = λ ids s h.

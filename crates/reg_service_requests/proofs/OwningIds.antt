@@ -1,21 +1,21 @@
 -- The ids that are found for logins.
 use Rattle.reg_service_requests.proofs.Words.{◌≡◌, ℕ, ◌+◌, ◌<◌, List, [], ◌∷◌, ◌++◌, Bool, true, false, cond, Option, Some, None, Ok, Err}
 use Rattle.reg_service_requests.proofs.Words.{length, drop, get_or, refl, sym, ap, subst, ◌∙◌, and_parts, bytes_eq-Decides, ◌||◌, ◌&&◌}
-use Rattle.reg_service_requests.proofs.Words.{is_some, Vec, string_bytes, Global, Bor, enumerate_from, filter, find, list_all, list_any}
+use Rattle.reg_service_requests.proofs.Words.{is_some, Vec, string_bytes, Global, enumerate_from, filter, find, list_all, list_any}
 use Rattle.reg_service_requests.proofs.Words.{option_map, bytes_eq, Trees, Rule, owners, owns, has_login, Registry, Text, holds}
 use Rattle.reg_service_requests.proofs.Words.{id_of_login, is_enabled, is_known, is_some_find, list_any_map, true_not_false, Account}
-use Rattle.reg_service_requests.proofs.Words.{ListsOwners, told_of, entry_of_account, Holds, Ids, IsSpelled, AreLeaving, FindsAllKnown}
+use Rattle.reg_service_requests.proofs.Words.{ListsOwners, told_of, entry_of_account, StandsSoundBy, IdAssignment, IsSpelled, AreLeaving, FindsAllKnown}
 use Rattle.reg_service_requests.proofs.Words.{FindsKnown, FindsOwners, entries_of, id_among, leaving_rule}
 use Rattle.std.proofs.lemmas.List.{append-nil, append_assoc, drop_more}
 use Rattle.std.proofs.lemmas.List.Folds.{list_all-map}
-use Rattle.std.specs.Prelude.{not, map}
+use Rattle.std.specs.Prelude.{not, map, String}
 use Rattle.std.specs.FinSet as finset
 use Rattle.std.specs.List.{AllByRecursion, IsDistinct, cons_option, filter_map, position_from}
 use Rattle.std.specs.Ordering.{on}
 use Rattle.reg_model.specs.declared.rule.Rule.TheVariants as rule
 use Rattle.reg_model.specs.Facts.{is_named}
 use Rattle.reg_model.specs.Registry as model
-use Rattle.reg_tables_meaning.specs.Calls.{FindsAccount}
+use Rattle.reg_tables_represent.specs.Calls.{FindsAccount}
 use Rattle.reg_service_requests.specs.Owning.{IsIdOf, enabled_id}
 
 -- an enabled account is known, and its id is that of its login
@@ -49,17 +49,17 @@ module _ (test : Text → Bool) (search : Text → Option ℕ) (all : List Text)
   so_far_all ids so = (so.tests, sym (so.found ∙ append-nil ids))
 
 -- of texts as a call is given them
-abbrev pub texts_of : List (Bor Text) → List Text
-texts_of texts = map (λ t. t.now) texts
+abbrev pub texts_of : List (String Global) → List Text
+texts_of texts = map string_bytes texts
 
-module _ (test : Text → Bool) (search : Text → Option ℕ) (texts : List (Bor Text)) (i : ℕ) (d : Bor Text) (below : i < length texts) (ids : List ℕ) (so : IsSoFar test search (texts_of texts) (texts_of (drop i texts)) ids) where
-  here : IsSoFar test search (texts_of texts) ((get_or texts i d).now ∷ texts_of (drop (i + 1) texts)) ids
+module _ (test : Text → Bool) (search : Text → Option ℕ) (texts : List (String Global)) (i : ℕ) (d : String Global) (below : i < length texts) (ids : List ℕ) (so : IsSoFar test search (texts_of texts) (texts_of (drop i texts)) ids) where
+  here : IsSoFar test search (texts_of texts) ((string_bytes (get_or texts i d)) ∷ texts_of (drop (i + 1) texts)) ids
   here = subst (λ rest. IsSoFar test search (texts_of texts) (texts_of rest) ids) (drop_more texts i d below) so
 
-  pub so_far_more : (id : ℕ) → IsIdOf test search (get_or texts i d).now (Some id) → IsSoFar test search (texts_of texts) (texts_of (drop (i + 1) texts)) (ids ++ id ∷ [])
-  so_far_more id is = one_more test search (texts_of texts) (get_or texts i d).now (texts_of (drop (i + 1) texts)) ids id is here
+  pub so_far_more : (id : ℕ) → IsIdOf test search (string_bytes (get_or texts i d)) (Some id) → IsSoFar test search (texts_of texts) (texts_of (drop (i + 1) texts)) (ids ++ id ∷ [])
+  so_far_more id is = one_more test search (texts_of texts) (string_bytes (get_or texts i d)) (texts_of (drop (i + 1) texts)) ids id is here
 
-  pub so_far_ends : IsIdOf test search (get_or texts i d).now None → list_all test (texts_of texts) ≡ false
+  pub so_far_ends : IsIdOf test search (string_bytes (get_or texts i d)) None → list_all test (texts_of texts) ≡ false
   so_far_ends is = here.tests ∙ ap (λ b. b && list_all test (texts_of (drop (i + 1) texts))) is
 
 -- an owner that is found in memory is so among its entry
@@ -82,17 +82,17 @@ owner_found list l found e = by found (same_found list l ∙ sym e)
     by (Some id) is = (sym tested ∙ ap is_some is, is)
 
 -- why owners may not leave, and that they may
-module _ (list : List Account) (texts : List (Bor Text)) where
-  all_named : list_all (λ o. is_named (texts_of texts) o.1.login) (entries_of list) ≡ list_all (λ a. list_any (λ l. bytes_eq (string_bytes a.login) l.now) texts) list
-  all_named = list_all-map (λ (o : ℕ × model.Account). is_named (texts_of texts) o.1.login) entry_of_account list ∙ (λ i. list_all (λ a. list_any_map (bytes_eq (string_bytes a.login)) (λ (t : Bor Text). t.now) texts i) list)
+module _ (list : List Account) (texts : List (String Global)) where
+  all_named : list_all (λ o. is_named (texts_of texts) o.1.login) (entries_of list) ≡ list_all (λ a. list_any (λ l. bytes_eq (string_bytes a.login) (string_bytes l)) texts) list
+  all_named = list_all-map (λ (o : ℕ × model.Account). is_named (texts_of texts) o.1.login) entry_of_account list ∙ (λ i. list_all (λ a. list_any_map (bytes_eq (string_bytes a.login)) string_bytes texts i) list)
 
-  rule_known : (b : Bool) → list_all (has_login (entries_of list)) (texts_of texts) ≡ true → list_all (λ a. list_any (λ l. bytes_eq (string_bytes a.login) l.now) texts) list ≡ b → leaving_rule (entries_of list) (texts_of texts) ≡ cond b (Some rule.O4) None
+  rule_known : (b : Bool) → list_all (has_login (entries_of list)) (texts_of texts) ≡ true → list_all (λ a. list_any (λ l. bytes_eq (string_bytes a.login) (string_bytes l)) texts) list ≡ b → leaving_rule (entries_of list) (texts_of texts) ≡ cond b (Some rule.O4) None
   rule_known b e f = ap (λ b. cond (not b) (Some rule.O3) (cond (list_all (λ o. is_named (texts_of texts) o.1.login) (entries_of list)) (Some rule.O4) None)) e ∙ ap (λ b. cond b (Some rule.O4) None) (all_named ∙ f)
 
-  pub all_leave : list_all (has_login (entries_of list)) (texts_of texts) ≡ true → list_all (λ a. list_any (λ l. bytes_eq (string_bytes a.login) l.now) texts) list ≡ true → AreLeaving list (texts_of texts) (Err rule.O4)
+  pub all_leave : list_all (has_login (entries_of list)) (texts_of texts) ≡ true → list_all (λ a. list_any (λ l. bytes_eq (string_bytes a.login) (string_bytes l)) texts) list ≡ true → AreLeaving list (texts_of texts) (Err rule.O4)
   all_leave e f = rule_known true e f
 
-  pub some_leave : (ids : Vec ℕ Global) → (list_all (has_login (entries_of list)) (texts_of texts) ≡ true) × (ids.items ≡ filter_map (id_among (entries_of list)) (texts_of texts)) → list_all (λ a. list_any (λ l. bytes_eq (string_bytes a.login) l.now) texts) list ≡ false → AreLeaving list (texts_of texts) (Ok ids)
+  pub some_leave : (ids : Vec ℕ Global) → (list_all (has_login (entries_of list)) (texts_of texts) ≡ true) × (ids.items ≡ filter_map (id_among (entries_of list)) (texts_of texts)) → list_all (λ a. list_any (λ l. bytes_eq (string_bytes a.login) (string_bytes l)) texts) list ≡ false → AreLeaving list (texts_of texts) (Ok ids)
   some_leave ids e f = (rule_known false e.0 f, e.1)
 
 -- an owner's id is that of its login, since no two accounts have one
@@ -138,7 +138,7 @@ module _ (logins : List Text) (db : Trees) (id : ℕ) where
 
   -- who leaves them, or that someone may not
   module _ (list : List Account) (lists : ListsOwners id db list) where
-    are_owners : (ids : Ids) (s : Registry) → Holds ids s db → (name : Text) → IsSpelled ids name id → entries_of list ≡ owners s name
+    are_owners : (ids : IdAssignment) (s : Registry) → StandsSoundBy ids s db → (name : Text) → IsSpelled ids name id → entries_of list ≡ owners s name
     are_owners ids s h name (n, at, same) =
         lists ids s h ∙ ap (λ o. told_of o [] (owners s)) at ∙ ap (λ c. filter (λ o. finset.contains s.owners (c, o.0)) (enumerate_from 1 s.accounts)) same
 

@@ -1,7 +1,7 @@
 -- The owners of a crate, with some accounts or without them, one after another.
 use Rattle.reg_service_requests.proofs.Words.{◌≡◌, ℕ, ◌+◌, ◌<◌, List, [], ◌∷◌, ◌++◌, Bool, true, false, Some, length, take, drop, get_or}
 use Rattle.reg_service_requests.proofs.Words.{refl, sym, ap, subst, ◌∙◌, and_parts, take_more, ◌||◌, ◌&&◌, list_any, Trees, canon, Registry}
-use Rattle.reg_service_requests.proofs.Words.{Text, Sound, list_any_map, not_true, true_not_false, Holds, Ids, StandsBy, spelling_at}
+use Rattle.reg_service_requests.proofs.Words.{Text, Sound, list_any_map, not_true, true_not_false, StandsSoundBy, IdAssignment, StandsBy, spelling_at}
 use Rattle.reg_service_requests.proofs.Words.{SetsOwner, SetsSome, with_owners}
 use Rattle.std.proofs.lemmas.Bool.{and_from}
 use Rattle.std.proofs.lemmas.List.{take-append-drop}
@@ -15,7 +15,7 @@ use Rattle.reg_model.specs.Registry.{Owner, owner_cmp}
 use Rattle.reg_model.proofs.Keys.{owner_apart, owner_total}
 use Rattle.reg_model.proofs.Lists.{or_left, or_right, or_split}
 use Rattle.reg_model.proofs.SoundParts as parts
-use Rattle.reg_tables_meaning.specs.Changes.{insert_at, remove_at}
+use Rattle.reg_tables_represent.specs.Changes.{insert_at, remove_at}
 use Rattle.reg_service_requests.specs.Owning.{owner_set_at, owners_set}
 
 abbrev is_among : Text → List ℕ → Owner → Bool
@@ -77,7 +77,7 @@ one_more are n xs x held = finset.same_set owner_total owner_apart _ _ (λ q.
     ∙ one_after are (eq_by_cmp owner_cmp q (canon n, x)) (finset.contains held q) (is_among (canon n) xs q)
     ∙ ap (in_set are (finset.contains held q)) (sym (list_any-append (λ a. eq_by_cmp owner_cmp q (canon n, a)) xs (x ∷ []))) ∙ sym (contains_set are n (xs ++ x ∷ []) held q))
 
-owner_more : (are : Bool) (ids : Ids) (id x : ℕ) (s : Registry) (n : Text) (xs : List ℕ) → spelling_at ids id ≡ Some n → owner_set_at are ids id x (with_owners are n xs s) ≡ with_owners are n (xs ++ x ∷ []) s
+owner_more : (are : Bool) (ids : IdAssignment) (id x : ℕ) (s : Registry) (n : Text) (xs : List ℕ) → spelling_at ids id ≡ Some n → owner_set_at are ids id x (with_owners are n xs s) ≡ with_owners are n (xs ++ x ∷ []) s
 owner_more true ids id x s n xs at =
     ap (λ o. record s { owners = insert_at o x (owners_set true n xs s.owners) }) at ∙ ap (λ set. record s { owners = set }) (one_more true n xs x s.owners)
 owner_more false ids id x s n xs at =
@@ -110,5 +110,5 @@ sets_none are id all db ids s n h at sound = subst (λ t. StandsBy ids t db) (ap
 
 pub sets_more : (are : Bool) (id : ℕ) (all : List ℕ) (i : ℕ) (old mid new : Trees) → i < length all → SetsSome are id all (take i all) old mid → SetsOwner are id (get_or all i 0) mid new → SetsSome are id all (take (i + 1) all) old new
 sets_more are id all i old mid new below some one ids s n h at sound =
-    let held : Holds ids (with_owners are n (take i all) s) mid = record { sound = some_sound are s n all i h.sound sound; stands = some ids s n h at sound } in
+    let held : StandsSoundBy ids (with_owners are n (take i all) s) mid = record { sound = some_sound are s n all i h.sound sound; stands = some ids s n h at sound } in
     subst (λ t. StandsBy ids t new) (owner_more are ids id (get_or all i 0) s n (take i all) at ∙ ap (λ xs. with_owners are n xs s) (sym (take_more all i 0 below))) (one ids (with_owners are n (take i all) s) held)

@@ -4,7 +4,7 @@ use Rattle.reg_service_requests.proofs.Words.{Vec, unwrap_or, Global, filter, fi
 use Rattle.reg_service_requests.proofs.Words.{canon, Rule, collides, versions, viewer, account_of, action_of, Publish, or_else, Publication}
 use Rattle.reg_service_requests.proofs.Words.{Registry, Text, holds, broken, is_access_rule, order, has_version, not_denied, not_false}
 use Rattle.reg_service_requests.proofs.Words.{any_filter, is_some_find, not_true, true_not_false, Json, AddsFirst, AddsNext, Tells, Stands}
-use Rattle.reg_service_requests.proofs.Words.{IsFoundOf, Caller, FoundCrate, IsCaller, IsLet, Serves, Served, Done, Told}
+use Rattle.reg_service_requests.proofs.Words.{IsFoundOf, Principal, FoundCrate, IsPrincipal, IsAuthorized, Serves, Served, Done, ReadOnly}
 use Rattle.std.proofs.Common.{nat_le, is_some}
 use Rattle.std.specs.FinSet as finset
 use Rattle.reg_versions.specs.Versions.{release_key_of}
@@ -20,8 +20,8 @@ use Rattle.reg_model.proofs.IndexPaths.{spelled}
 use Rattle.reg_model.proofs.Members.{any_in, in_any}
 use Rattle.reg_api_replies.specs.Bodies.{publish_body}
 use Rattle.reg_api_replies.specs.declared.reply.Reply.TheVariants as reply
-use Rattle.reg_tables_meaning.specs.Calls.{published}
-use Rattle.reg_tables_meaning.specs.declared.crates.NewVersion.{NewVersion}
+use Rattle.reg_tables_represent.specs.Calls.{published}
+use Rattle.reg_tables_represent.specs.declared.crates.NewVersion.{NewVersion}
 use Rattle.reg_service_requests.specs.Publications.{IsNew, IsOf, MakesCrate, PublishesFirst, PublishesNext, TellsFull, TellsFullOf}
 use Rattle.reg_service_requests.proofs.Judging.{denied_by_others, done_served, told_denied}
 
@@ -86,11 +86,11 @@ new_crate p owner v id body old new is text adds limits d who fresh allowed = do
     ))
 
 module _ (limits : Limits) (d : Text) (p : Publication) (old : Trees) where
-  judged_first : (b : Bool) → TellsFull limits old b → IsNew p old → IsLet d (action_of (Publish p)) old → Tells (λ ids s. denied limits s (Some d) (Publish p) ≡ cond b (Some rule.L2) None) old
+  judged_first : (b : Bool) → TellsFull limits old b → IsNew p old → IsAuthorized d (action_of (Publish p)) old → Tells (λ ids s. denied limits s (Some d) (Publish p) ≡ cond b (Some rule.L2) None) old
   judged_first b full fresh passes ids s h =
       left_so limits s d p None (fresh ids s h) (passes ids s h) ∙ first_left limits s d p ∙ ap (λ b. cond b (Some rule.L2) None) (sym (full ids s h))
 
-  judged_next : (b : Bool) (c : FoundCrate) → TellsFullOf limits c old b → IsOf c p old → IsLet d (action_of (Publish p)) old → Tells (λ ids s. denied limits s (Some d) (Publish p) ≡ cond b (Some rule.L1) None) old
+  judged_next : (b : Bool) (c : FoundCrate) → TellsFullOf limits c old b → IsOf c p old → IsAuthorized d (action_of (Publish p)) old → Tells (λ ids s. denied limits s (Some d) (Publish p) ≡ cond b (Some rule.L1) None) old
   judged_next b c full of passes ids s h =
       let (at, place) = of ids s h in
       left_so limits s d p (Some c.name) at (passes ids s h) ∙ next_left limits s d p c.name
@@ -99,7 +99,7 @@ module _ (limits : Limits) (d : Text) (p : Publication) (old : Trees) where
 
 -- the first version of a crate
 module _ (limits : Limits) (owner : ℕ) (p : Publication) (old : Trees) where
-  pub first_refused : TellsFull limits old true → PublishesFirst limits owner p old old (Told (reply.Denied rule.L2))
+  pub first_refused : TellsFull limits old true → PublishesFirst limits owner p old old (ReadOnly (reply.Denied rule.L2))
   first_refused full d who fresh passes = told_denied limits d (Publish p) rule.L2 old old (judged_first limits d p old true full fresh passes)
 
   pub first_let : (new : Trees) (it : Served) → TellsFull limits old false → MakesCrate owner p old new it → PublishesFirst limits owner p old new it
@@ -107,7 +107,7 @@ module _ (limits : Limits) (owner : ℕ) (p : Publication) (old : Trees) where
 
 -- a further version
 module _ (limits : Limits) (p : Publication) (c : FoundCrate) (old : Trees) where
-  pub next_refused : TellsFullOf limits c old true → PublishesNext limits c p old old (Told (reply.Denied rule.L1))
+  pub next_refused : TellsFullOf limits c old true → PublishesNext limits c p old old (ReadOnly (reply.Denied rule.L1))
   next_refused full d of passes = told_denied limits d (Publish p) rule.L1 old old (judged_next limits d p old true c full of passes)
 
   pub next_let : (v : NewVersion) (body : Vec _ Global) (new : Trees) → published p.name v ≡ p → body.items ≡ publish_body → TellsFullOf limits c old false → AddsNext c.id v old new → PublishesNext limits c p old new (Done (reply.Done Json body))
@@ -122,15 +122,15 @@ module _ (limits : Limits) (p : Publication) (c : FoundCrate) (old : Trees) wher
       ))
 
 -- the crate that was found, if one was
-module _ (limits : Limits) (caller : Caller) (p : Publication) (old new : Trees) (it : Served) where
+module _ (limits : Limits) (principal : Principal) (p : Publication) (old new : Trees) (it : Served) where
   abbrev Granted : Type 0
-  Granted = (d : Text) → IsLet d (action_of (Publish p)) old → IsCaller d (action_of (Publish p)) caller old → Serves limits (Some d) (Publish p) old new it
+  Granted = (d : Text) → IsAuthorized d (action_of (Publish p)) old → IsPrincipal d (action_of (Publish p)) principal old → Serves limits (Some d) (Publish p) old new it
 
-  found_is : (o : Option FoundCrate) → caller.found ≡ o → (d : Text) → IsCaller d (action_of (Publish p)) caller old → Tells (λ ids s. IsFoundOf ids s (Some p.name) o) old
+  found_is : (o : Option FoundCrate) → principal.found ≡ o → (d : Text) → IsPrincipal d (action_of (Publish p)) principal old → Tells (λ ids s. IsFoundOf ids s (Some p.name) o) old
   found_is o e d who ids s h = subst (λ f. IsFoundOf ids s (Some p.name) f) e (who ids s h).found
 
-  pub of_new : caller.found ≡ None → PublishesFirst limits caller.account p old new it → Granted
+  pub of_new : principal.found ≡ None → PublishesFirst limits principal.account p old new it → Granted
   of_new none publishes d passes who = publishes d (λ ids s h. (who ids s h).account) (found_is None none d who) passes
 
-  pub of_known : (c : FoundCrate) → caller.found ≡ Some c → PublishesNext limits c p old new it → Granted
+  pub of_known : (c : FoundCrate) → principal.found ≡ Some c → PublishesNext limits c p old new it → Granted
   of_known c some publishes d passes who = publishes d (λ ids s h. let is = found_is (Some c) some d who ids s h in (is.first, is.placed)) passes

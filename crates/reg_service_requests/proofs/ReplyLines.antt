@@ -1,6 +1,6 @@
 -- The line of a request, from its reply.
 use Rattle.reg_service_requests.proofs.Words.{◌≡◌, ℕ, true, false, cond, [], Option, Some, None, refl, sym, ap, ◌∙◌, String, string_bytes}
-use Rattle.reg_service_requests.proofs.Words.{unwrap_or, Global, option_map, Limits, Rule, caller, served, Asked, Faulty, Read, Index}
+use Rattle.reg_service_requests.proofs.Words.{unwrap_or, Global, option_map, Limits, Rule, caller, served, Asked, Malformed, Read, Index}
 use Rattle.reg_service_requests.proofs.Words.{Download, ListOwners, Publish, Yank, Unyank, AddOwners, RemoveOwners, Config, Search, Ask}
 use Rattle.reg_service_requests.proofs.Words.{Registry, Text, outcome, unless_denied, Says, Reply, Denied, line_of, request_words}
 use Rattle.reg_service_requests.proofs.Words.{unless_some, Trees, TellsLine}
@@ -10,7 +10,7 @@ use Rattle.reg_model.specs.Effects.{done}
 use Rattle.reg_model.specs.Events.{Answer, Event}
 use Rattle.reg_model.specs.Events.Answer.{Denied as to_denied}
 use Rattle.reg_model.specs.Refusals.{denied}
-use Rattle.reg_model.specs.Steps.{no_room}
+use Rattle.reg_model.specs.Steps.{unavailable}
 use Rattle.reg_api_replies.specs.Heads.{refusal_of}
 use Rattle.reg_api_replies.specs.declared.reply.Reply.TheVariants.{Done, Method}
 use Rattle.reg_model.specs.Trail.{IsPassed, has_no_room, line, or_nothing, told, with_asker}
@@ -23,7 +23,7 @@ has_room a h r e = let k : ◌≡◌ {A = Option Rule} (Some r) None = ap refusa
 
 -- what is served denies nothing, but for what is faulty
 served_untold : (s : Registry) (who : Option ℕ) (asked : Asked) (r : Rule) → served s who asked ≡ to_denied r → request_words s asked ≡ None
-served_untold s who (Faulty q) r e = refl
+served_untold s who (Malformed q) r e = refl
 served_untold s who (Read what) r e = refl
 served_untold s who (Index p) r e = refl
 served_untold s who (Download n v) r e = refl
@@ -46,7 +46,7 @@ denied_untold limits s digest asked r e = by (denied limits s digest asked) refl
         ap (λ o. option_map (λ words. line_of (with_asker s (Ask digest asked) words)) (unless_some o (request_words s asked))) d ∙ ap (option_map (λ words. line_of (with_asker s (Ask digest asked) words))) (served_untold s (caller s digest) asked r is)
 
 served_room : (s : Registry) (who : Option ℕ) (asked : Asked) → refusal_of (served s who asked) ≡ None → has_no_room (served s who asked) ≡ false
-served_room s who (Faulty q) e = absurd cc
+served_room s who (Malformed q) e = absurd cc
 served_room s who (Read Config) e = refl
 served_room s who (Read (Search q most)) e = refl
 served_room s who (Index p) e = refl
@@ -77,7 +77,7 @@ module _ (limits : Limits) (s : Registry) (digest : Option Text) (asked : Asked)
           sym (ap (λ b. cond b [] (or_nothing (line limits s e))) room ∙ ap or_nothing (tells d))
 
   -- what is told of the event that a reply answers
-  pub reply_told : (reply : Reply) (found : Option (String Global)) → Says asked a reply → (a ≡ (outcome limits s e).0) ⊎ (a ≡ no_room e) → (IsPassed limits s e → line limits s e ≡ option_map string_bytes found) → or_nothing (line_with reply found) ≡ told limits s e a
+  pub reply_told : (reply : Reply) (found : Option (String Global)) → Says asked a reply → (a ≡ (outcome limits s e).0) ⊎ (a ≡ unavailable e) → (IsPassed limits s e → line limits s e ≡ option_map string_bytes found) → or_nothing (line_with reply found) ≡ told limits s e a
   reply_told (Done kind body) found says (inl is) tells = done_told found says.0 is tells
   reply_told (Done kind body) found says (inr room) tells = absurd (has_room a says.0 rule.S1 room)
   reply_told (Denied r) found says (inl is) tells = no_line (denied_untold limits s digest asked r (sym says ∙ is))

@@ -1,7 +1,7 @@
 -- The archive with the id of a version is that of its publication.
 use Rattle.reg_service_requests.proofs.Words.{◌≡◌, ℕ, List, map, Bool, true, false, cond, Option, Some, None, refl, sym, ap, subst, ◌∙◌}
 use Rattle.reg_service_requests.proofs.Words.{find, option_map, Trees, is_name, Publication, Registry, Text, maps_twice, Archive}
-use Rattle.reg_service_requests.proofs.Words.{IsArchiveWithId, told_of, Ids, IsIdOf, version_named}
+use Rattle.reg_service_requests.proofs.Words.{IsArchiveWithId, told_of, IdAssignment, IsIdOf, version_named}
 use Rattle.std.proofs.Common.{◌==◌, is_some}
 use Rattle.std.specs.FinSet as finset
 use Rattle.std.specs.List.Sorted.{IsPermutation}
@@ -12,9 +12,9 @@ use Rattle.reg_model.specs.Registry.{mark_cmp}
 use Rattle.reg_tables_schema.specs.Tests.{is_number, shows}
 use Rattle.reg_tables_schema.proofs.Permutes.{filter_map}
 use Rattle.reg_tables_sql.specs.Archives.{archive_places, archive_row, columns_of_archive}
-use Rattle.reg_tables_meaning.specs.Stands.{StandCrates, StoredVersion}
-use Rattle.reg_tables_meaning.proofs.Selected.{selected_one}
-use Rattle.reg_tables_meaning.proofs.Standing.{same_number}
+use Rattle.reg_tables_represent.specs.Stands.{StandCrates, StoredVersion}
+use Rattle.reg_tables_represent.proofs.Selected.{selected_one}
+use Rattle.reg_tables_represent.proofs.Standing.{same_number}
 use Rattle.reg_access.specs.Admitted.{publication_at}
 use Rattle.reg_access.proofs.VersionIds.{finds_one}
 
@@ -35,7 +35,7 @@ map_twice : {X Y Z : Type 0} (f : X → Y) (g : Y → Z) (o : Option X) → opti
 map_twice f g None = refl
 map_twice f g (Some x) = refl
 
-module _ (ids : Ids) (ps : List Publication) (yanked : finset.FinSet mark_cmp) (db : Trees) (h : StandCrates ids ps yanked db) where
+module _ (ids : IdAssignment) (ps : List Publication) (yanked : finset.FinSet mark_cmp) (db : Trees) (h : StandCrates ids ps yanked db) where
   pub archive_at : (id : ℕ) (found : Option Archive) → IsArchiveWithId id db found → option_map (λ a. a.bytes.items) found ≡ option_map (λ p. p.archive) (publication_at ids id)
   archive_at id found shown =
       let its = λ (v : StoredVersion). v.id == id in
@@ -46,7 +46,7 @@ module _ (ids : Ids) (ps : List Publication) (yanked : finset.FinSet mark_cmp) (
       ∙ sym (map_twice (λ v. v.publication) (λ (p : Publication). p.archive) (find its ids.versions))
 
 -- the version whose id was found of a download is the one that it names
-pub named_version : (ids : Ids) (s : Registry) (n v : Text) (id : ℕ) → IsIdOf ids (version_named s (Download n v)) (Some id) → publication_at ids id ≡ version s n v
+pub named_version : (ids : IdAssignment) (s : Registry) (n v : Text) (id : ℕ) → IsIdOf ids (version_named s (Download n v)) (Some id) → publication_at ids id ≡ version s n v
 named_version ids s n v id it = by (is_name n) it.0 it.1
   where
     by : (b : Bool) → publication_at ids id ≡ told_of (cond b (Some n) None) None (λ m. version s m v) → is_some (told_of (cond b (Some n) None) None (λ m. version s m v)) ≡ true → publication_at ids id ≡ version s n v

@@ -21,19 +21,19 @@ use Rattle.reg_model.specs.Sound.{Sound}
 use Rattle.reg_api_replies.specs.Replies.{Says}
 use Rattle.reg_api_replies.specs.declared.reply.Reply.{Reply}
 use Rattle.reg_tables_sql.specs.declared.accounts.Account.{Account}
-use Rattle.reg_tables_meaning.specs.Calls.{ListsOwners, Tells, Turns}
-use Rattle.reg_tables_meaning.specs.Changes.{no_owner_at, owner_at}
-use Rattle.reg_tables_meaning.specs.Entries.{entry_of_account}
-use Rattle.reg_tables_meaning.specs.Stands.{Holds, Ids, StandsBy, spelling_at}
+use Rattle.reg_tables_represent.specs.Calls.{ListsOwners, Tells, Transforms}
+use Rattle.reg_tables_represent.specs.Changes.{no_owner_at, owner_at}
+use Rattle.reg_tables_represent.specs.Entries.{entry_of_account}
+use Rattle.reg_tables_represent.specs.Stands.{StandsSoundBy, IdAssignment, StandsBy, spelling_at}
 use Rattle.reg_service_steps.specs.Named.{IsSpelled}
 use Rattle.reg_access.specs.declared.admission.FoundCrate.{FoundCrate}
 use Rattle.reg_body.specs.declared.limits.Limits.{Limits}
 use Rattle.reg_model.specs.Events.{action_of}
-use Rattle.reg_tables.specs.Calling.{Runs}
+use Rattle.reg_tables.specs.Calling.{Updates}
 use Rattle.reg_tables.specs.declared.work.StoreFault.{StoreFault}
 use Rattle.reg_tables.specs.declared.work.Work.{Work}
 use Rattle.sqlite_trees.specs.declared.store.Store.{Ghosts}
-use Rattle.reg_service_requests.specs.Granted.{IsCrate, IsLet}
+use Rattle.reg_service_requests.specs.Granted.{IsCrate, IsAuthorized}
 use Rattle.reg_service_requests.specs.Serves.{Serves}
 use Rattle.reg_service_requests.specs.declared.served.Served.{Served}
 use Rattle.reg_service_requests.specs.declared.served.Served.TheVariants.{Done}
@@ -110,17 +110,18 @@ abbrev pub with_owners : Bool → Text → List ℕ → Registry → Registry
 with_owners are n accounts s = record s { owners = owners_set are n accounts s.owners }
 
 -- an account becomes an owner of the crate with this id, or no longer is one
-abbrev pub owner_set_at : Bool → Ids → ℕ → ℕ → Registry → Registry
+abbrev pub owner_set_at : Bool → IdAssignment → ℕ → ℕ → Registry → Registry
 owner_set_at true = owner_at
 owner_set_at false = no_owner_at
 
 abbrev pub SetsOwner : Bool → ℕ → ℕ → Trees → Trees → Type 0
-SetsOwner are id account = Turns (λ ids. owner_set_at are ids id account)
+SetsOwner are id account = Transforms (λ ids. owner_set_at are ids id account)
 
 -- where the registry is sound once all of these are owners, or none is, some of them become it
 abbrev pub SetsSome : Bool → ℕ → List ℕ → List ℕ → Trees → Trees → Type 0
 SetsSome are id all some old new =
-    (ids : Ids) (s : Registry) (n : Text) → Holds ids s old → spelling_at ids id ≡ Some n
+    (ids : IdAssignment) (s : Registry) (n : Text) → StandsSoundBy ids s old
+    → spelling_at ids id ≡ Some n
     → Sound (with_owners are n all s) → StandsBy ids (with_owners are n some s) new
 
 -- all of them become it
@@ -142,8 +143,8 @@ DoesOwning are id accounts old new _ = ⊥
 abbrev pub GrantsAmong : {S : Type 0} → List Account → FoundCrate → Ghosts S → Bool → List Text
     → Result Served StoreFault → Work S → Work S → Type 0
 GrantsAmong list found g are logins r old new =
-    Runs g old new r (λ before after it. ListsOwners found.id before list
+    Updates g old new r (λ before after it. ListsOwners found.id before list
     → (n : Text) (limits : Limits) (digest : Text)
-    → IsLet digest (action_of (owning are n logins)) before
+    → IsAuthorized digest (action_of (owning are n logins)) before
     → IsCrate (action_of (owning are n logins)) found before
     → Serves limits (Some digest) (owning are n logins) before after it)

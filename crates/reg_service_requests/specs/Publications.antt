@@ -7,10 +7,10 @@ use Rattle.reg_model.specs.Events.{action_of}
 use Rattle.reg_model.specs.Events.Asked.{Publish}
 use Rattle.reg_model.specs.Refusals.{denied}
 use Rattle.reg_model.specs.Registry.{Publication, Text}
-use Rattle.reg_tables_meaning.specs.Calls.{ReachesCrates, ReachesVersions, Tells}
-use Rattle.reg_tables_meaning.specs.Stands.{spelling_at}
+use Rattle.reg_tables_represent.specs.Calls.{ReachesCrates, ReachesVersions, Tells}
+use Rattle.reg_tables_represent.specs.Stands.{spelling_at}
 use Rattle.reg_access.specs.declared.admission.FoundCrate.{FoundCrate}
-use Rattle.reg_service_requests.specs.Granted.{IsLet}
+use Rattle.reg_service_requests.specs.Granted.{IsAuthorized}
 use Rattle.reg_service_steps.specs.Named.{IsViewer}
 use Rattle.reg_service_requests.specs.Serves.{Serves}
 use Rattle.reg_service_requests.specs.declared.served.Served.{Served}
@@ -41,10 +41,10 @@ MakesCrate owner p old new it = (limits : Limits) (digest : Text) → IsViewer d
 abbrev pub PublishesFirst : Limits → ℕ → Publication → Trees → Trees → Served → Type 0
 PublishesFirst limits owner p old new it =
     (digest : Text) → IsViewer digest owner old → IsNew p old
-    → IsLet digest (action_of (Publish p)) old
+    → IsAuthorized digest (action_of (Publish p)) old
     → Serves limits (Some digest) (Publish p) old new it
 
 abbrev pub PublishesNext : Limits → FoundCrate → Publication → Trees → Trees → Served → Type 0
 PublishesNext limits c p old new it =
-    (digest : Text) → IsOf c p old → IsLet digest (action_of (Publish p)) old
+    (digest : Text) → IsOf c p old → IsAuthorized digest (action_of (Publish p)) old
     → Serves limits (Some digest) (Publish p) old new it

@@ -10,28 +10,28 @@ use Rattle.reg_model.specs.Events.Event.{Ask}
 use Rattle.reg_model.specs.Registry.{Registry, Text}
 use Rattle.reg_model.specs.Steps.{outcome}
 use Rattle.reg_api_replies.specs.Replies.{Says}
-use Rattle.reg_tables_meaning.specs.Stands.{Holds, Ids, Stands}
+use Rattle.reg_tables_represent.specs.Stands.{StandsSoundBy, IdAssignment, Stands}
 use Rattle.reg_service_index.specs.Found.{file_at}
 use Rattle.reg_service_requests.specs.declared.served.Served.{Served}
-use Rattle.reg_service_requests.specs.declared.served.Served.TheVariants.{Done, Seeks, Sends, Told}
+use Rattle.reg_service_requests.specs.declared.served.Served.TheVariants.{Done, Seeks, Sends, ReadOnly}
 
 -- What is told is the answer, and the state stays. What is done is answered so, and the rows are
 -- those of the state after it. A search is answered what this account is served, and a request for
 -- an index file that file, which is this long.
 abbrev pub Serves : Limits → Option Text → Asked → Trees → Trees → Served → Type 0
-Serves limits digest asked old new (Told reply) =
-    (ids : Ids) (s : Registry) → Holds ids s old
+Serves limits digest asked old new (ReadOnly reply) =
+    (ids : IdAssignment) (s : Registry) → StandsSoundBy ids s old
     → Says asked (outcome limits s (Ask digest asked)).0 reply
     × ((outcome limits s (Ask digest asked)).1 ≡ s)
 Serves limits digest asked old new (Done reply) =
-    (ids : Ids) (s : Registry) → Holds ids s old
+    (ids : IdAssignment) (s : Registry) → StandsSoundBy ids s old
     → Says asked (outcome limits s (Ask digest asked)).0 reply
     × Stands (outcome limits s (Ask digest asked)).1 new
 Serves limits digest asked old new (Seeks id) =
-    (ids : Ids) (s : Registry) → Holds ids s old
+    (ids : IdAssignment) (s : Registry) → StandsSoundBy ids s old
     → outcome limits s (Ask digest asked) ≡ (served s (Some id) asked, s)
 Serves limits digest asked old new (Sends f) =
     ((path : Text) × (asked ≡ Index path))
-    × ((ids : Ids) (s : Registry) → Holds ids s old
+    × ((ids : IdAssignment) (s : Registry) → StandsSoundBy ids s old
     → (outcome limits s (Ask digest asked) ≡ (File (file_at ids s f), s))
     × (f.length ≡ length (file_at ids s f)))

@@ -24,4 +24,4 @@ mod told;
 
 pub use served::Served;
 pub use serving::serve_told;
-pub use told::{Acted, ServedTold, with_line};
+pub use told::{TracedReply, TracedServed, with_line};

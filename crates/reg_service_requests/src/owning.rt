@@ -1,22 +1,21 @@
 //! Changing the owners of crates.
 
 ghost use Rattle.std.specs.Prelude.{◌≡◌, IfOk, IsSome, false, map, string_bytes};
-ghost use Rattle.std.specs.Borrow.{Bor};
 ghost use Rattle.std.specs.List.{find, list_all, list_any};
 ghost use Rattle.std.specs.Option.{option_map};
 ghost use Rattle.std.specs.Str.{bytes_eq};
 ghost use Rattle.reg_model.specs.Events.Asked.{AddOwners};
 ghost use Rattle.reg_model.specs.Facts.{has_login as has_login_of};
-ghost use Rattle.reg_tables.specs.Works.{IsAtWork, has_failed};
-ghost use Rattle.reg_tables.specs.Calling.{Asks, Does, Runs};
+ghost use Rattle.reg_tables.specs.Works.{IsActive, has_failed};
+ghost use Rattle.reg_tables.specs.Calling.{Queries, UpdatesBy, Updates};
 ghost use Rattle.reg_service_requests.specs.Granted.{GrantsOf};
 ghost use Rattle.reg_service_requests.specs.Owning.{AreIdsOf, AreLeaving, DoesOwning, FindsAllKnown, FindsKnown, GrantsAmong, SaysOwning, SetsOwner, SetsOwners, enabled_id, entries_of, id_among, owning};
 ghost use Rattle.reg_service_requests.specs.Telling.{GrantsTold, changes};
 
 use crate::served::Served;
 use crate::telling::tell_owners;
-use crate::told::ServedTold;
-use reg_access::{Caller, FoundCrate};
+use crate::told::TracedServed;
+use reg_access::{FoundCrate, Principal};
 use reg_api_replies::{Kind, Reply, owners_added_body, owners_removed_body};
 use reg_policy::Rule;
 use reg_service_steps::{differs, has_login, have_login, is_told};
@@ -36,8 +35,8 @@ fn id_if_enabled(found: &Option<Account>) -> Option<u32>
 
 /// The id of the enabled account with this login, if there is one.
 fn find_known<S: Alter>(work: &mut Work<'_, S>, login: &str) -> Result<Option<u32>>
-    requires { IsAtWork S.Store work.old }
-    ensures { Asks S.Store work.old work.new result (FindsKnown login.now) }
+    requires { IsActive S.Store work.old }
+    ensures { Queries S.Store work.old work.new result (FindsKnown login.now) }
 {
     let found = work.account_by_login(login)?;
     Ok(id_if_enabled(&found))
@@ -47,11 +46,12 @@ fn find_known<S: Alter>(work: &mut Work<'_, S>, login: &str) -> Result<Option<u3
 fn find_all_known<S: Alter>(
     alloc: Global,
     work: &mut Work<'_, S>,
-    logins: &[&str],
+    logins: &[String],
 ) -> Result<Option<Vec<u32>>>
-    requires at_work { IsAtWork S.Store work.old }
+    requires at_work { IsActive S.Store work.old }
     requires goes_on { has_failed work.old ≡ false }
-    ensures { Asks S.Store work.old work.new result (FindsAllKnown (map (λ l. l.now) logins.now)) }
+    ensures { Queries S.Store work.old work.new result (FindsAllKnown
+        (map string_bytes logins.now)) }
 {
     let mut ids = Vec::new(alloc);
     for login in logins {
@@ -78,10 +78,10 @@ fn id_of_owner(owners: &[Account], login: &str) -> Option<u32>
 fn ids_of_owners(
     alloc: Global,
     owners: &[Account],
-    logins: &[&str],
+    logins: &[String],
 ) -> Result<Option<Vec<u32>>, AllocError>
     ensures { IfOk result (AreIdsOf (has_login_of (entries_of owners.now))
-        (id_among (entries_of owners.now)) (map (λ l. l.now) logins.now)) }
+        (id_among (entries_of owners.now)) (map string_bytes logins.now)) }
 {
     let mut ids = Vec::new(alloc);
     for login in logins {
@@ -93,16 +93,16 @@ fn ids_of_owners(
     Ok(Some(ids))
 }
 
-fn is_named(logins: &[&str], owner: &Account) -> bool
+fn is_named(logins: &[String], owner: &Account) -> bool
     ensures { result ≡ list_any
-        (λ l. bytes_eq (string_bytes owner.now.login) l.now) logins.now }
+        (λ l. bytes_eq (string_bytes owner.now.login) (string_bytes l)) logins.now }
 {
     logins.iter().any(|login| has_login(owner, login))
 }
 
-fn are_all_named(owners: &[Account], logins: &[&str]) -> bool
+fn are_all_named(owners: &[Account], logins: &[String]) -> bool
     ensures { result ≡ list_all (λ o. list_any
-        (λ l. bytes_eq (string_bytes o.login) l.now) logins.now) owners.now }
+        (λ l. bytes_eq (string_bytes o.login) (string_bytes l)) logins.now) owners.now }
 {
     owners.iter().all(|owner| is_named(logins, owner))
 }
@@ -111,9 +111,9 @@ fn are_all_named(owners: &[Account], logins: &[&str]) -> bool
 fn ids_leaving(
     alloc: Global,
     owners: &[Account],
-    logins: &[&str],
+    logins: &[String],
 ) -> Result<Result<Vec<u32>, Rule>, AllocError>
-    ensures { IfOk result (AreLeaving owners.now (map (λ l. l.now) logins.now)) }
+    ensures { IfOk result (AreLeaving owners.now (map string_bytes logins.now)) }
 {
     let Some(ids) = ids_of_owners(alloc, owners, logins)? else {
         return Ok(Err(Rule::O3));
@@ -132,8 +132,8 @@ fn set_owner<S: Alter>(
     account: u32,
     is_owner: bool,
 ) -> Result<bool>
-    requires { IsAtWork S.Store work.old }
-    ensures { Does S.Store work.old work.new result (SetsOwner is_owner crate_id account) }
+    requires { IsActive S.Store work.old }
+    ensures { UpdatesBy S.Store work.old work.new result (SetsOwner is_owner crate_id account) }
 {
     if is_owner {
         work.add_owner(crate_id, account)
@@ -149,9 +149,9 @@ fn set_owners<S: Alter>(
     accounts: &[u32],
     are_owners: bool,
 ) -> Result<()>
-    requires at_work { IsAtWork S.Store work.old }
+    requires at_work { IsActive S.Store work.old }
     requires goes_on { has_failed work.old ≡ false }
-    ensures { Runs S.Store work.old work.new result
+    ensures { Updates S.Store work.old work.new result
         (λ before after it. SetsOwners are_owners crate_id accounts.now before after) }
 {
     for account in accounts {
@@ -180,9 +180,10 @@ fn change_owners<S: Alter>(
     accounts: &[u32],
     are_owners: bool,
 ) -> Result<Served>
-    requires at_work { IsAtWork S.Store work.old }
+    requires at_work { IsActive S.Store work.old }
     requires goes_on { has_failed work.old ≡ false }
-    ensures { Runs S.Store work.old work.new result (DoesOwning are_owners crate_id accounts.now) }
+    ensures { Updates S.Store work.old work.new result
+        (DoesOwning are_owners crate_id accounts.now) }
 {
     let Ok(reply) = owning_reply(alloc, are_owners) else {
         return work.fail();
@@ -196,16 +197,16 @@ fn add_owners<S: Alter>(
     alloc: Global,
     work: &mut Work<'_, S>,
     found: &FoundCrate,
-    logins: &[&str],
+    logins: &[String],
 ) -> Result<Served>
-    requires at_work { IsAtWork S.Store work.old }
+    requires at_work { IsActive S.Store work.old }
     requires goes_on { has_failed work.old ≡ false }
-    ensures { GrantsOf found.now S.Store (λ name. AddOwners name (map (λ l. l.now) logins.now))
+    ensures { GrantsOf found.now S.Store (λ name. AddOwners name (map string_bytes logins.now))
         result work.old work.new }
 {
     match find_all_known(alloc, work, logins)? {
         Some(accounts) => change_owners(alloc, work, found.id, &accounts, true),
-        None => Ok(Served::Told(Reply::Denied(Rule::O2))),
+        None => Ok(Served::ReadOnly(Reply::Denied(Rule::O2))),
     }
 }
 
@@ -215,16 +216,16 @@ fn remove_owners<S: Alter>(
     work: &mut Work<'_, S>,
     found: &FoundCrate,
     owners: &[Account],
-    logins: &[&str],
+    logins: &[String],
 ) -> Result<Served>
-    requires at_work { IsAtWork S.Store work.old }
+    requires at_work { IsActive S.Store work.old }
     requires goes_on { has_failed work.old ≡ false }
-    ensures { GrantsAmong owners.now found.now S.Store false (map (λ l. l.now) logins.now)
+    ensures { GrantsAmong owners.now found.now S.Store false (map string_bytes logins.now)
         result work.old work.new }
 {
     match ids_leaving(alloc, owners, logins) {
         Ok(Ok(accounts)) => change_owners(alloc, work, found.id, &accounts, false),
-        Ok(Err(rule)) => Ok(Served::Told(Reply::Denied(rule))),
+        Ok(Err(rule)) => Ok(Served::ReadOnly(Reply::Denied(rule))),
         Err(_) => work.fail(),
     }
 }
@@ -235,12 +236,12 @@ fn set_all<S: Alter>(
     work: &mut Work<'_, S>,
     found: &FoundCrate,
     owners: &[Account],
-    logins: &[&str],
+    logins: &[String],
     are_owners: bool,
 ) -> Result<Served>
-    requires at_work { IsAtWork S.Store work.old }
+    requires at_work { IsActive S.Store work.old }
     requires goes_on { has_failed work.old ≡ false }
-    ensures { GrantsAmong owners.now found.now S.Store are_owners (map (λ l. l.now) logins.now)
+    ensures { GrantsAmong owners.now found.now S.Store are_owners (map string_bytes logins.now)
         result work.old work.new }
 {
     if are_owners {
@@ -251,9 +252,9 @@ fn set_all<S: Alter>(
 }
 
 /// Whether an account with one of these logins is not yet what it is to be.
-fn changes_owners(owners: &[Account], logins: &[&str], are_owners: bool) -> bool
+fn changes_owners(owners: &[Account], logins: &[String], are_owners: bool) -> bool
     ensures { result ≡ changes are_owners
-        (λ (l : Bor _). list_any (λ a. bytes_eq (string_bytes a.login) l.now) owners.now)
+        (λ l. list_any (λ a. bytes_eq (string_bytes a.login) (string_bytes l)) owners.now)
         logins.now }
 {
     logins
@@ -266,22 +267,22 @@ fn changes_owners(owners: &[Account], logins: &[&str], are_owners: bool) -> bool
 pub(crate) fn own<S: Alter>(
     alloc: Global,
     work: &mut Work<'_, S>,
-    caller: &Caller,
-    logins: &[&str],
+    principal: &Principal,
+    logins: &[String],
     are_owners: bool,
     traced: bool,
-) -> Result<ServedTold>
-    requires at_work { IsAtWork S.Store work.old }
-    requires there { IsSome caller.now.found }
-    ensures { (limits : _) (name : _) → GrantsTold traced limits caller.now S.Store
-        (owning are_owners name (map (λ l. l.now) logins.now)) result work.old work.new }
+) -> Result<TracedServed>
+    requires at_work { IsActive S.Store work.old }
+    requires there { IsSome principal.now.found }
+    ensures { (limits : _) (name : _) → GrantsTold traced limits principal.now S.Store
+        (owning are_owners name (map string_bytes logins.now)) result work.old work.new }
 {
-    let found = caller.found_crate();
+    let found = principal.found_crate();
     let owners = work.owners_of(alloc, found.id)?;
     let changed = changes_owners(&owners, logins, are_owners);
     let served = set_all(alloc, work, found, &owners, logins, are_owners)?;
     let told = is_told(traced, changed);
     let name = found.name.as_str();
-    let line = tell_owners(alloc, work, caller, told, name, logins, are_owners)?;
-    Ok(ServedTold { served, line })
+    let line = tell_owners(alloc, work, principal, told, name, logins, are_owners)?;
+    Ok(TracedServed { served, line })
 }

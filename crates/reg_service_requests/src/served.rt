@@ -7,7 +7,7 @@ use reg_service_index::FoundFile;
 #[derive(Drop)]
 pub enum Served {
     /// It is denied or served, and nothing of the transaction is to be kept.
-    Told(Reply),
+    ReadOnly(Reply),
     /// It is done, once the transaction is committed.
     Done(Reply),
     /// It may search: the id of its token's account.

@@ -5,13 +5,13 @@ ghost use Rattle.std.specs.Fmt.{decimal};
 ghost use Rattle.std.specs.Option.{option_map};
 ghost use Rattle.reg_model.specs.Reports.{with_commas};
 ghost use Rattle.reg_model.specs.Trail.{line_of};
-ghost use Rattle.reg_tables.specs.Works.{IsAtWork, has_failed};
-ghost use Rattle.reg_tables.specs.Calling.{Asks};
+ghost use Rattle.reg_tables.specs.Works.{IsActive, has_failed};
+ghost use Rattle.reg_tables.specs.Calling.{Queries};
 ghost use Rattle.reg_service_steps.specs.Telling.{line_if};
 ghost use Rattle.reg_service_requests.specs.Telling.{owners_word};
 
 use itoa::Buffer;
-use reg_access::Caller;
+use reg_access::Principal;
 use reg_service_steps::{line_of, told_line, with_commas};
 use reg_tables::{Result, Work};
 use sqlite::Alter;
@@ -37,24 +37,27 @@ fn line_by(
 pub(crate) fn tell_change<S: Alter>(
     alloc: Global,
     work: &mut Work<'_, S>,
-    caller: &Caller,
+    principal: &Principal,
     told: bool,
     verb: &str,
     name: &str,
     more: &str,
 ) -> Result<Option<String>>
-    requires at_work { IsAtWork S.Store work.old }
+    requires at_work { IsActive S.Store work.old }
     requires goes_on { has_failed work.old ≡ false }
-    ensures { Asks S.Store work.old work.new result (λ db found. option_map string_bytes found
-        ≡ line_if told (decimal caller.now.token ∷ string_bytes caller.now.login
+    ensures { Queries S.Store work.old work.new result (λ db found. option_map string_bytes found
+        ≡ line_if told (decimal principal.now.token ∷ string_bytes principal.now.login
         ∷ verb.now ∷ name.now ∷ more.now ∷ [])) }
 {
     if !told {
         return Ok(None);
     }
     let mut digits = Buffer::new();
-    let token = digits.format(caller.token);
-    told_line(work, line_by(alloc, token, &caller.login, verb, name, more))
+    let token = digits.format(principal.token);
+    told_line(
+        work,
+        line_by(alloc, token, &principal.login, verb, name, more),
+    )
 }
 
 fn owners_verb(are_owners: bool) -> &'static str
@@ -71,17 +74,17 @@ fn owners_verb(are_owners: bool) -> &'static str
 pub(crate) fn tell_owners<S: Alter>(
     alloc: Global,
     work: &mut Work<'_, S>,
-    caller: &Caller,
+    principal: &Principal,
     told: bool,
     name: &str,
-    logins: &[&str],
+    logins: &[String],
     are_owners: bool,
 ) -> Result<Option<String>>
-    requires at_work { IsAtWork S.Store work.old }
+    requires at_work { IsActive S.Store work.old }
     requires goes_on { has_failed work.old ≡ false }
-    ensures { Asks S.Store work.old work.new result (λ db found. option_map string_bytes found
-        ≡ line_if told (decimal caller.now.token ∷ string_bytes caller.now.login
-        ∷ owners_word are_owners ∷ name.now ∷ with_commas (map (λ l. l.now) logins.now) ∷ [])) }
+    ensures { Queries S.Store work.old work.new result (λ db found. option_map string_bytes found
+        ≡ line_if told (decimal principal.now.token ∷ string_bytes principal.now.login
+        ∷ owners_word are_owners ∷ name.now ∷ with_commas (map string_bytes logins.now) ∷ [])) }
 {
     if !told {
         return Ok(None);
@@ -92,7 +95,7 @@ pub(crate) fn tell_owners<S: Alter>(
     tell_change(
         alloc,
         work,
-        caller,
+        principal,
         told,
         owners_verb(are_owners),
         name,

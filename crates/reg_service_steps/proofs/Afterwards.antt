@@ -11,16 +11,16 @@ use Rattle.reg_body.specs.declared.limits.Limits.{Limits}
 use Rattle.reg_model.specs.Events.{Event}
 use Rattle.reg_model.specs.Registry.{Text}
 use Rattle.reg_model.specs.Trail.{IsPassed, line}
-use Rattle.reg_tables_meaning.specs.Calls.{Tells}
+use Rattle.reg_tables_represent.specs.Calls.{Tells}
 use Rattle.reg_tables.specs.declared.work.Work.{Work}
 use Rattle.reg_tables.specs.Works.{rows_seen, seen}
-use Rattle.reg_tables.specs.Calling.{Asks}
+use Rattle.reg_tables.specs.Calling.{Queries}
 use Rattle.reg_access.proofs.Questions.{asks_after}
 use Rattle.reg_service_steps.specs.Telling.{IsToldLine, TellsIf, line_if}
 
 module _ {S : Type 0} (g : Ghosts S) where
   -- it is asked, and then all that follows is asked
-  pub asks_then : {T U E F : Type 0} {P : Trees → T → Type 0} {R Q : Trees → U → Type 0} (x : T) (r : Result U F) (a b c : Work S) → Asks {E = E} g a b (Ok x) P → Asks g b c r R → ((y : U) → P (rows_seen g a) x → R (rows_seen g a) y → Q (rows_seen g a) y) → Asks g a c r Q
+  pub asks_then : {T U E F : Type 0} {P : Trees → T → Type 0} {R Q : Trees → U → Type 0} (x : T) (r : Result U F) (a b c : Work S) → Queries {E = E} g a b (Ok x) P → Queries g b c r R → ((y : U) → P (rows_seen g a) x → R (rows_seen g a) y → Q (rows_seen g a) y) → Queries g a c r Q
   asks_then {R} {Q} x (Ok y) a b c one two made =
       let after = asks_after g x (Ok y) a b c one two in
       record {

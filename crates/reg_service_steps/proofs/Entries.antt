@@ -7,8 +7,8 @@ use Rattle.reg_model.specs.Crates.{collides, is_yanked, versions}
 use Rattle.reg_model.specs.Registry.{Publication, Registry, Text}
 use Rattle.reg_tables_schema.proofs.Queries.{maps_twice}
 use Rattle.reg_tables_sql.specs.declared.versions.Version.{Version}
-use Rattle.reg_tables_meaning.specs.Entries.{ShownVersion, shown_version, version_shown}
-use Rattle.reg_tables_meaning.proofs.CrateLemmas.{same_bytes}
+use Rattle.reg_tables_represent.specs.Entries.{ShownVersion, shown_version, version_shown}
+use Rattle.reg_tables_represent.proofs.CrateLemmas.{same_bytes}
 use Rattle.reg_service_steps.specs.Reads.{entry_of_version}
 
 abbrev shown_entry : ShownVersion → Text × Bool

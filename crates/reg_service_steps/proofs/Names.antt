@@ -8,8 +8,8 @@ use Rattle.reg_model.specs.Crates.{exists, first}
 use Rattle.reg_model.specs.Facts.{spelling}
 use Rattle.reg_model.specs.Registry.{Registry, Text}
 use Rattle.reg_tables_sql.specs.declared.crates.Crate.{Crate}
-use Rattle.reg_tables_meaning.specs.Calls.{FindsCrate}
-use Rattle.reg_tables_meaning.specs.Stands.{Holds, Ids}
+use Rattle.reg_tables_represent.specs.Calls.{FindsCrate}
+use Rattle.reg_tables_represent.specs.Stands.{StandsSoundBy, IdAssignment}
 use Rattle.reg_access.proofs.GrantLaw.{first_canon, there_is}
 use Rattle.reg_access.specs.Admitted.{IsCrateOf, IsFoundOf}
 use Rattle.reg_access.specs.declared.admission.FoundCrate.{FoundCrate}
@@ -43,7 +43,7 @@ named t n db (Some c) given finds = λ ids s h.
     record { name = it.0; first = sym (f.0 t (ap canon it.1)); at = f.1 }
 
 -- its name is one, and it is there
-pub named_there : (t : Text) (db : Trees) (c : Crate) → FindsNamed t db (Some c) → (ids : Ids) (s : Registry) → Holds ids s db → IsNamed ids s t c.id
+pub named_there : (t : Text) (db : Trees) (c : Crate) → FindsNamed t db (Some c) → (ids : IdAssignment) (s : Registry) → StandsSoundBy ids s db → IsNamed ids s t c.id
 named_there t db c finds ids s h =
     let f = finds ids s h in (
       ap (λ b. b && exists s t) f.name ∙ there_is ids s db h t (Some c) (sym f.first),
@@ -55,7 +55,7 @@ pub unnamed : (t : Text) (db : Trees) → name_of t ≡ None → FindsNamed t db
 unnamed t db given ids s h = ap (λ b. b && exists s t) (is_not t given)
 
 -- the crate of an action, by the text that names it and by the path of its index file
-module _ (ids : Ids) (s : Registry) (c : FoundCrate) where
+module _ (ids : IdAssignment) (s : Registry) (c : FoundCrate) where
   pub spelled_as : (t : Text) → IsCrateOf ids s (name_of t) c → (is_name t ≡ true) × IsSpelled ids t c.id
   spelled_as t it = by (is_name t) refl it.alike
     where
@@ -78,5 +78,5 @@ module _ (ids : Ids) (s : Registry) (c : FoundCrate) where
       by false none = absurd cc none
 
 -- the crate that was found for a caller is that of the text
-pub crate_found : (ids : Ids) (s : Registry) (o : Option Text) (t : Text) (found : Option FoundCrate) (c : FoundCrate) → o ≡ name_of t → found ≡ Some c → IsFoundOf ids s o found → IsCrateOf ids s (name_of t) c
+pub crate_found : (ids : IdAssignment) (s : Registry) (o : Option Text) (t : Text) (found : Option FoundCrate) (c : FoundCrate) → o ≡ name_of t → found ≡ Some c → IsFoundOf ids s o found → IsCrateOf ids s (name_of t) c
 crate_found ids s o t found c named is h = subst (IsFoundOf ids s (name_of t)) is (subst (λ o. IsFoundOf ids s o found) named h)

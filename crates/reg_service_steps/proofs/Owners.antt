@@ -12,8 +12,8 @@ use Rattle.reg_model.specs.Registry as model
 use Rattle.reg_model.specs.Sound.{Sound}
 use Rattle.reg_model.proofs.Lists.{list_any_map}
 use Rattle.reg_tables_sql.specs.declared.accounts.Account.{Account}
-use Rattle.reg_tables_meaning.specs.Changes.{told_of}
-use Rattle.reg_tables_meaning.specs.Entries.{entry_of_account}
+use Rattle.reg_tables_represent.specs.Changes.{told_of}
+use Rattle.reg_tables_represent.specs.Entries.{entry_of_account}
 use Rattle.reg_service_steps.proofs.Placed.{login_passes}
 
 -- those who are listed are the owners, so that one has the login where the account owns the crate

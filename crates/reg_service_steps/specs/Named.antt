@@ -5,19 +5,19 @@ use Rattle.reg_names.specs.Names.{canon, is_name}
 use Rattle.reg_model.specs.Crates.{exists, first, viewer}
 use Rattle.reg_model.specs.Registry.{Registry, Text}
 use Rattle.reg_tables_sql.specs.declared.crates.Crate.{Crate}
-use Rattle.reg_tables_meaning.specs.Calls.{Tells}
-use Rattle.reg_tables_meaning.specs.Stands.{Ids, spelling_at}
+use Rattle.reg_tables_represent.specs.Calls.{Tells}
+use Rattle.reg_tables_represent.specs.Stands.{IdAssignment, spelling_at}
 
 -- the crate with this id has a spelling of a name
-abbrev pub IsSpelled : Ids → Text → ℕ → Type 0
+abbrev pub IsSpelled : IdAssignment → Text → ℕ → Type 0
 IsSpelled ids name id = (n : Text) × (spelling_at ids id ≡ Some n) × (canon n ≡ canon name)
 
 -- it is named by a text, in one of its spellings
-abbrev pub IsNamed : Ids → Registry → Text → ℕ → Type 0
+abbrev pub IsNamed : IdAssignment → Registry → Text → ℕ → Type 0
 IsNamed ids s text id = ((is_name text && exists s text) ≡ true) × IsSpelled ids text id
 
 -- it is named by a text, and has this spelling
-pub record IsSpelledBy (ids : Ids) (s : Registry) (text : Text) (it : Crate) : Type 0 where
+pub record IsSpelledBy (ids : IdAssignment) (s : Registry) (text : Text) (it : Crate) : Type 0 where
   pub name : is_name text ≡ true
   pub first : first s text ≡ Some (string_bytes it.name)
   pub at : spelling_at ids it.id ≡ Some (string_bytes it.name)

@@ -6,8 +6,8 @@ use Rattle.reg_model.specs.Events.{OwnerEntry}
 use Rattle.reg_model.specs.Registry.{Text}
 use Rattle.reg_tables_sql.specs.declared.accounts.Account.{Account}
 use Rattle.reg_tables_sql.specs.declared.versions.Version.{Version}
-use Rattle.reg_tables_meaning.specs.Calls.{Tells}
-use Rattle.reg_tables_meaning.specs.Entries.{entry_of_account}
+use Rattle.reg_tables_represent.specs.Calls.{Tells}
+use Rattle.reg_tables_represent.specs.Entries.{entry_of_account}
 
 -- the stem of a version's index line, and its yanked mark
 abbrev pub entry_of_version : Version → Text × Bool

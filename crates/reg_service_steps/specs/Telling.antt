@@ -8,7 +8,7 @@ use Rattle.reg_body.specs.declared.limits.Limits.{Limits}
 use Rattle.reg_model.specs.Events.{Event}
 use Rattle.reg_model.specs.Registry.{Text}
 use Rattle.reg_model.specs.Trail.{IsPassed, line, line_of, only_if}
-use Rattle.reg_tables_meaning.specs.Calls.{Tells}
+use Rattle.reg_tables_represent.specs.Calls.{Tells}
 
 -- this is the line of the event, where nothing refuses it
 abbrev pub TellsLine : Limits → Event → Trees → Option (String Global) → Type 0

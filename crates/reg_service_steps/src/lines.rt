@@ -5,6 +5,7 @@ ghost use Rattle.reg_model.specs.Reports.{with_commas};
 ghost use Rattle.reg_model.specs.Trail.{line_of};
 
 use std::alloc::{AllocError, Global};
+use std::convert::AsStr;
 
 /// A line of these words, with a space between each two.
 #[tactic(auto, using(crate::proofs::Joined::joined))]
@@ -18,8 +19,8 @@ pub fn line_of(alloc: Global, words: &[&str]) -> Result<String, AllocError>
 
 /// Texts with a comma between each two.
 #[tactic(auto, using(crate::proofs::Joined::joined))]
-pub fn with_commas(alloc: Global, texts: &[&str]) -> Result<String, AllocError>
-    ensures { IfOk result (λ text. string_bytes text ≡ with_commas (map (λ t. t.now) texts.now)) }
+pub fn with_commas<T: AsStr>(alloc: Global, texts: &[T]) -> Result<String, AllocError>
+    ensures { IfOk result (λ text. string_bytes text ≡ with_commas (map T.text texts.now)) }
 {
     texts.join(alloc, ",")
 }

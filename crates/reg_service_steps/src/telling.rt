@@ -4,8 +4,8 @@ ghost use Rattle.std.specs.Prelude.{◌≡◌, ◌&&◌, false, map, string_byte
 ghost use Rattle.std.specs.List.{list_any};
 ghost use Rattle.std.specs.Option.{option_map};
 ghost use Rattle.std.specs.Str.{bytes_eq};
-ghost use Rattle.reg_tables.specs.Works.{IsAtWork, has_failed};
-ghost use Rattle.reg_tables.specs.Calling.{Asks};
+ghost use Rattle.reg_tables.specs.Works.{IsActive, has_failed};
+ghost use Rattle.reg_tables.specs.Calling.{Queries};
 ghost use Rattle.reg_service_steps.specs.Telling.{IsToldLine, differs, line_if};
 
 use crate::lines::line_of;
@@ -26,9 +26,9 @@ pub fn told_line<S: Alter>(
     work: &mut Work<'_, S>,
     line: Result<String, AllocError>,
 ) -> Result<Option<String>>
-    requires at_work { IsAtWork S.Store work.old }
+    requires at_work { IsActive S.Store work.old }
     requires goes_on { has_failed work.old ≡ false }
-    ensures { Asks S.Store work.old work.new result (λ db found. IsToldLine line found) }
+    ensures { Queries S.Store work.old work.new result (λ db found. IsToldLine line found) }
 {
     match line {
         Ok(line) => Ok(Some(line)),
@@ -43,9 +43,9 @@ pub fn tell_words<S: Alter>(
     told: bool,
     words: &[&str],
 ) -> Result<Option<String>>
-    requires at_work { IsAtWork S.Store work.old }
+    requires at_work { IsActive S.Store work.old }
     requires goes_on { has_failed work.old ≡ false }
-    ensures { Asks S.Store work.old work.new result (λ db found. option_map string_bytes found
+    ensures { Queries S.Store work.old work.new result (λ db found. option_map string_bytes found
         ≡ line_if told (map (λ w. w.now) words.now)) }
 {
     if !told {

@@ -6,10 +6,10 @@ use Rattle.sqlite.proofs.StateLemmas.{survives_then}
 use Rattle.reg_tables_schema.specs.States.{IsInside}
 use Rattle.reg_tables_schema.specs.Steps.{Fails, Within}
 use Rattle.sqlite.specs.Effect.{Database}
-use Rattle.reg_tables_schema.specs.declared.edition.Edition.{Edition}
-use Rattle.reg_tables_schema.specs.declared.edition.Edition.TheVariants.{First, Second}
-use Rattle.reg_tables_meaning.specs.Upgrades.{AreBegun, BeginsSecond}
-use Rattle.reg_tables.specs.Works.{IsCall, seen}
+use Rattle.reg_tables_schema.specs.declared.edition.SchemaVersion.{SchemaVersion}
+use Rattle.reg_tables_schema.specs.declared.edition.SchemaVersion.TheVariants.{First, Second}
+use Rattle.reg_tables_represent.specs.Upgrades.{AreBegun, BeginsSecond}
+use Rattle.reg_tables.specs.Works.{KeepsFrame, seen}
 use Rattle.reg_tables.specs.declared.work.Work.{Work}
 use Rattle.reg_tables.specs.Looks.{Looks}
 
@@ -24,7 +24,7 @@ call_keeps old new (Ok x) within fails = record { was_open = λ _. within.was_op
 call_keeps old new (Err e) within fails = fails.kept
 
 module _ {S : Type 0} (g : Ghosts S) where
-  pub call_looks : {T E : Type 0} (r : Result T E) (old new : Work S) → IsCall g r old new → Looks g old new
+  pub call_looks : {T E : Type 0} (r : Result T E) (old new : Work S) → KeepsFrame g r old new → Looks g old new
   call_looks r old new call = record {
     same_reference = call.same_reference;
     same_edition = call.same_edition;
@@ -45,7 +45,7 @@ module _ {S : Type 0} (g : Ghosts S) where
   }
 
 -- the rows that a transaction sees first
-pub begins_with : (e : Edition) (old new : State) → BeginsSecond e old new → AreBegun e old.now new.now.trees
+pub begins_with : (e : SchemaVersion) (old new : State) → BeginsSecond e old new → AreBegun e old.now new.now.trees
 begins_with First old new h = (new.now, h.made, refl)
 begins_with Second old new h = ap (λ (d : Database). d.trees) h.now_is
 

@@ -1,4 +1,4 @@
--- What a stop may leave where a change of the tables was refused.
+-- What a crash may leave where a change of the tables was refused.
 use Rattle.std.proofs.Common.{◌≡◌, ◌∙◌, inl, inr, Bool, IsTrue, true, false, Ok, Err, Result, ap, arith, refl, subst, sym}
 use Rattle.sqlite_trees.specs.declared.store.Store.{Ghosts}
 use Rattle.sqlite.specs.Effect.{Database}
@@ -7,13 +7,13 @@ use Rattle.sqlite.specs.State.{State, HasCleanDisk, KeepsCommit, Survives}
 use Rattle.sqlite.specs.Tree.{Trees}
 use Rattle.sqlite.proofs.StateLemmas.{survives_then}
 use Rattle.reg_tables_schema.proofs.MakeLemmas.{undone_keeps}
-use Rattle.reg_tables_schema.specs.declared.edition.Edition.{Edition}
-use Rattle.reg_tables_schema.specs.declared.edition.Edition.TheVariants.{First, Second}
+use Rattle.reg_tables_schema.specs.declared.edition.SchemaVersion.{SchemaVersion}
+use Rattle.reg_tables_schema.specs.declared.edition.SchemaVersion.TheVariants.{First, Second}
 use Rattle.reg_tables_schema.specs.declared.make.MakeFault.{MakeFault}
 use Rattle.reg_tables_schema.specs.declared.make.MakeFault.TheVariants.{UnknownSchema, Storage}
 use Rattle.reg_tables_schema.specs.States.{IsUndone, LeavesCommit}
-use Rattle.reg_tables_meaning.proofs.Raising.{commit_undone, upgraded}
-use Rattle.reg_tables_meaning.specs.Upgrades.{AreUpgraded, BeginsSecond, IsUpgraded, Upgrades}
+use Rattle.reg_tables_represent.proofs.Raising.{commit_undone, upgraded}
+use Rattle.reg_tables_represent.specs.Upgrades.{AreUpgraded, BeginsSecond, IsUpgraded, Upgrades}
 use Rattle.reg_tables.specs.Ends.{Begins, IsEnded, LeavesLast}
 use Rattle.reg_tables.specs.Works.{IsSame, edition_in, seen, shown}
 use Rattle.reg_tables.specs.declared.tables.Tables.{Tables}
@@ -58,8 +58,8 @@ module _ {S : Type 0} (g : Ghosts S) where
   make_leaves old new r Storage P is law untouched undone survives clean =
       leaves_last (state g old) (state g new) P law (undone_keeps (state g old) (state g new) (undone clean is)) survives clean
 
--- what a migration leaves, or a stop in it, after its transaction began
-begins_first : (e : Edition) (old mid : State) → e ≡ First → BeginsSecond e old mid → Upgrades old mid
+-- what a migration leaves, or a crash in it, after its transaction began
+begins_first : (e : SchemaVersion) (old mid : State) → e ≡ First → BeginsSecond e old mid → Upgrades old mid
 begins_first First old mid is h = h
 begins_first Second old mid is h = absurd cc
 

@@ -5,9 +5,9 @@ use Rattle.sqlite_trees.specs.declared.store.Store.{Ghosts}
 use Rattle.sqlite.specs.Effect.{Database}
 use Rattle.sqlite.specs.State.{State, HasCleanDisk, Shows, Survives}
 use Rattle.sqlite.specs.Tree.{Trees}
-use Rattle.reg_tables_schema.specs.declared.edition.Edition.TheVariants.{Second}
+use Rattle.reg_tables_schema.specs.declared.edition.SchemaVersion.TheVariants.{Second}
 use Rattle.reg_tables_schema.specs.States.{GoesBack, IsUndone, LeavesCommit}
-use Rattle.reg_tables.specs.Works.{AreOurs, IsAtWork, edition_in, has_failed, is_shut, seen, shown}
+use Rattle.reg_tables.specs.Works.{AreOurs, IsActive, edition_in, has_failed, is_stopped, seen, shown}
 use Rattle.reg_tables.specs.declared.tables.Tables.{Tables}
 use Rattle.reg_tables.specs.declared.work.Work.{Work}
 
@@ -20,17 +20,17 @@ pub record Begins {S : Type 0} (g : Ghosts S) (sees : State → State → Type 0
     (w : Work S) : Type 0 where
   pub view : HasCleanDisk (seen g w) → sees (shown g old) (seen g w)
   pub goes_on : has_failed w ≡ false
-  pub at_work : IsAtWork g w
-  pub was_open : is_shut old ≡ false
-  pub still_open : is_shut w.tables.now ≡ false
+  pub at_work : IsActive g w
+  pub was_open : is_stopped old ≡ false
+  pub still_open : is_stopped w.tables.now ≡ false
   pub edition : edition_in w.tables.now ≡ edition_in old
   pub survives : Survives (shown g old) (seen g w) (λ _. ⊥)
 
--- a stop at this moment leaves these rows and nothing else
+-- a crash at this moment leaves these rows and nothing else
 abbrev pub LeavesOnly : Database → State → Type 0
 LeavesOnly db s = (trees : Trees) → s.may_leave trees → trees ≡ db.trees
 
--- where the connection was open, a stop leaves the last commit alone, or the disk failed since
+-- where the connection was open, a crash leaves the last commit alone, or the disk failed since
 abbrev pub LeavesLast : State → State → Type 0
 LeavesLast old new = IsTrue old.is_open
     → LeavesOnly old.committed new ⊎ MoreFaults old.faults new.faults
@@ -42,16 +42,16 @@ pub record IsCommitted {S : Type 0} (g : Ghosts S) (old : Work S) (new : Tables 
       → Shows (seen g old) (shown g new) (seen g old).now (seen g old).now false
   pub alone : HasCleanDisk (shown g new) → LeavesCommit (shown g new)
   pub second : edition_in new ≡ Second
-  pub same_mode : is_shut new ≡ is_shut old.tables.now
+  pub same_mode : is_stopped new ≡ is_stopped old.tables.now
 
--- no commit is acknowledged: a call had failed, or the store refused; what a stop may leave beside
+-- no commit is acknowledged: a call had failed, or the store refused; what a crash may leave beside
 -- the last commit it may leave only where the disk failed
 pub record IsRefused {S : Type 0} (g : Ghosts S) (old : Work S) (new : Tables S) : Type 0 where
   pub undone : HasCleanDisk (shown g new) → IsUndone (seen g old) (shown g new)
   pub alone : HasCleanDisk (shown g new) → LeavesLast (seen g old) (shown g new)
   pub edition : edition_in new ≡ edition_in old.tables.now
-  pub shut : has_failed old ≡ false → is_shut new ≡ true
-  pub same_mode : has_failed old ≡ true → is_shut new ≡ is_shut old.tables.now
+  pub shut : has_failed old ≡ false → is_stopped new ≡ true
+  pub same_mode : has_failed old ≡ true → is_stopped new ≡ is_stopped old.tables.now
 
 -- the end of a transaction that was to be committed
 pub record IsEnded {S T E : Type 0} (g : Ghosts S) (r : Result T E) (old : Work S) (new : Tables S)
@@ -67,5 +67,5 @@ pub record IsDropped {S : Type 0} (g : Ghosts S) (old : Work S) (new : Tables S)
   pub undone : HasCleanDisk (shown g new) → IsUndone (seen g old) (shown g new)
   pub ours : GoesBack (edition_in old.tables.now) (seen g old) → AreOurs g new
   pub edition : edition_in new ≡ edition_in old.tables.now
-  pub same_mode : is_shut new ≡ is_shut old.tables.now
+  pub same_mode : is_stopped new ≡ is_stopped old.tables.now
   pub survives : Survives (seen g old) (shown g new) (λ _. ⊥)

@@ -6,7 +6,7 @@ ghost use Rattle.sqlite.specs.State.{HasCleanDisk, Survives};
 ghost use Rattle.reg_tables_schema.specs.States.{GoesBack, IsOurs, IsUndone};
 
 use reg_tables_schema::laws::rest_law;
-use reg_tables_schema::{Edition, ROLLBACK};
+use reg_tables_schema::{ROLLBACK, SchemaVersion};
 use sqlite::{Alter, Connection, Error, ErrorCode};
 
 /// Whether a statement was refused since no transaction was open.
@@ -24,7 +24,7 @@ pub(crate) fn is_answering<S: Alter>(conn: &mut Connection<S>) -> bool
         (state S.Store conn.new).is_open }
     ensures undone { HasCleanDisk (state S.Store conn.new) → IsUndone (state S.Store conn.old)
         (state S.Store conn.new) }
-    ensures ours { (e : Edition) → GoesBack e (state S.Store conn.old) → IsOurs e
+    ensures ours { (e : SchemaVersion) → GoesBack e (state S.Store conn.old) → IsOurs e
         (state S.Store conn.new) }
     ensures survives { Survives (state S.Store conn.old) (state S.Store conn.new) (λ _. ⊥) }
 {

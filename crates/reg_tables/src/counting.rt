@@ -1,10 +1,10 @@
 //! How much the registry has.
 
 ghost use Rattle.std.specs.Prelude.{length};
-ghost use Rattle.reg_tables_meaning.specs.Calls.{Counted, ReachesCrates};
+ghost use Rattle.reg_tables_represent.specs.Calls.{Counted, ReachesCrates};
 ghost use Rattle.reg_tables_rows.specs.Counting.{CountsAll};
-ghost use Rattle.reg_tables.specs.Calling.{Asks};
-ghost use Rattle.reg_tables.specs.Works.{IsAtWork};
+ghost use Rattle.reg_tables.specs.Calling.{Queries};
+ghost use Rattle.reg_tables.specs.Works.{IsActive};
 
 use crate::work::{Result, Work, call};
 use reg_tables_rows::counts::{self, Counts};
@@ -13,24 +13,24 @@ use sqlite::Alter;
 impl<S: Alter> Work<'_, S> {
     /// How many accounts, tokens, crates and publications there are.
     pub fn counts(&mut self) -> Result<Counts>
-        requires { IsAtWork S.Store self.old }
-        ensures { Asks S.Store self.old self.new result CountsAll }
+        requires { IsActive S.Store self.old }
+        ensures { Queries S.Store self.old self.new result CountsAll }
     {
         call!(self, counts::count(&mut self.tables.conn))
     }
 
     /// How many accounts there are, by the id of the last.
     pub fn count_accounts(&mut self) -> Result<u64>
-        requires { IsAtWork S.Store self.old }
-        ensures { Asks S.Store self.old self.new result (Counted (λ s. length s.accounts)) }
+        requires { IsActive S.Store self.old }
+        ensures { Queries S.Store self.old self.new result (Counted (λ s. length s.accounts)) }
     {
         call!(self, counts::count_accounts(&mut self.tables.conn))
     }
 
     /// How many tokens there are, by the id of the last.
     pub fn count_tokens(&mut self) -> Result<u64>
-        requires { IsAtWork S.Store self.old }
-        ensures { Asks S.Store self.old self.new result (Counted (λ s. length s.tokens)) }
+        requires { IsActive S.Store self.old }
+        ensures { Queries S.Store self.old self.new result (Counted (λ s. length s.tokens)) }
     {
         call!(self, counts::count_tokens(&mut self.tables.conn))
     }
@@ -38,8 +38,8 @@ impl<S: Alter> Work<'_, S> {
     /// Whether there are at least this many crates. They are counted only if their ids come near
     /// the number.
     pub fn reaches_crates(&mut self, number: u64) -> Result<bool>
-        requires { IsAtWork S.Store self.old }
-        ensures { Asks S.Store self.old self.new result (ReachesCrates number) }
+        requires { IsActive S.Store self.old }
+        ensures { Queries S.Store self.old self.new result (ReachesCrates number) }
     {
         call!(self, counts::reaches_crates(&mut self.tables.conn, number))
     }

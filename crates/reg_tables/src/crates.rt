@@ -1,12 +1,12 @@
 //! Calls on crates and their versions.
 
-ghost use Rattle.reg_tables_meaning.specs.Calls.{AddsFirst, AddsNext, SetsYanked, TellsOtherMark};
-ghost use Rattle.reg_tables.specs.Calling.{Does, Runs, Sets};
-ghost use Rattle.reg_tables.specs.Works.{IsAtWork};
+ghost use Rattle.reg_tables_represent.specs.Calls.{AddsFirst, AddsNext, SetsYanked, TellsOtherMark};
+ghost use Rattle.reg_tables.specs.Calling.{UpdatesBy, Updates, Sets};
+ghost use Rattle.reg_tables.specs.Works.{IsActive};
 
 use crate::work::{Result, Work, call};
 use reg_names::CrateName;
-use reg_tables_meaning::crates::{self, NewVersion};
+use reg_tables_represent::crates::{self, NewVersion};
 use sqlite::Alter;
 
 impl<S: Alter> Work<'_, S> {
@@ -17,8 +17,8 @@ impl<S: Alter> Work<'_, S> {
         owner: u32,
         version: &NewVersion<'_>,
     ) -> Result<u32>
-        requires { IsAtWork S.Store self.old }
-        ensures { Runs S.Store self.old self.new result (AddsFirst name.now owner version.now) }
+        requires { IsActive S.Store self.old }
+        ensures { Updates S.Store self.old self.new result (AddsFirst name.now owner version.now) }
     {
         call!(
             self,
@@ -28,8 +28,8 @@ impl<S: Alter> Work<'_, S> {
 
     /// Adds a version to an existing crate.
     pub fn add_version(&mut self, crate_id: u32, version: &NewVersion<'_>) -> Result<()>
-        requires { IsAtWork S.Store self.old }
-        ensures { Does S.Store self.old self.new result (AddsNext crate_id version.now) }
+        requires { IsActive S.Store self.old }
+        ensures { UpdatesBy S.Store self.old self.new result (AddsNext crate_id version.now) }
     {
         call!(
             self,
@@ -40,7 +40,7 @@ impl<S: Alter> Work<'_, S> {
     /// Yanks or unyanks a version of a crate, and returns whether it had the other mark. If it is
     /// not there, nothing changes.
     pub fn set_yanked(&mut self, crate_id: u32, text: &str, yanked: bool) -> Result<bool>
-        requires { IsAtWork S.Store self.old }
+        requires { IsActive S.Store self.old }
         ensures { Sets S.Store self.old self.new result (SetsYanked crate_id text.now yanked)
             (TellsOtherMark crate_id text.now yanked) }
     {

@@ -1,12 +1,12 @@
 //! Calls on the owners and the readers of crates.
 
 ghost use Rattle.std.specs.Prelude.{not};
-ghost use Rattle.reg_tables_meaning.specs.Calls.{AddsOwner, AddsReader, ListsOwners, ListsReaders, RemovesOwner, RemovesReader, TellsPair};
-ghost use Rattle.reg_tables.specs.Calling.{Asks, Sets};
-ghost use Rattle.reg_tables.specs.Works.{IsAtWork};
+ghost use Rattle.reg_tables_represent.specs.Calls.{AddsOwner, AddsReader, ListsOwners, ListsReaders, RemovesOwner, RemovesReader, TellsPair};
+ghost use Rattle.reg_tables.specs.Calling.{Queries, Sets};
+ghost use Rattle.reg_tables.specs.Works.{IsActive};
 
 use crate::work::{Result, Work, call};
-use reg_tables_meaning::pairs;
+use reg_tables_represent::pairs;
 use reg_tables_sql::accounts::Account;
 use reg_tables_sql::pairs::{Pair, Relation};
 use sqlite::Alter;
@@ -16,7 +16,7 @@ impl<S: Alter> Work<'_, S> {
     /// Makes an account an owner of a crate, and returns whether it was none. A crate that does not
     /// exist gets none.
     pub fn add_owner(&mut self, crate_id: u32, account: u32) -> Result<bool>
-        requires { IsAtWork S.Store self.old }
+        requires { IsActive S.Store self.old }
         ensures { Sets S.Store self.old self.new result (AddsOwner crate_id account)
             (λ db added. TellsPair Relation.Owners crate_id account db (not added)) }
     {
@@ -32,7 +32,7 @@ impl<S: Alter> Work<'_, S> {
 
     /// Removes an account from a crate's owners, and returns whether it was one.
     pub fn remove_owner(&mut self, crate_id: u32, account: u32) -> Result<bool>
-        requires { IsAtWork S.Store self.old }
+        requires { IsActive S.Store self.old }
         ensures { Sets S.Store self.old self.new result (RemovesOwner crate_id account)
             (TellsPair Relation.Owners crate_id account) }
     {
@@ -48,8 +48,8 @@ impl<S: Alter> Work<'_, S> {
 
     /// The accounts that own a crate, by id; none if it does not exist.
     pub fn owners_of(&mut self, alloc: Global, crate_id: u32) -> Result<Vec<Account>>
-        requires { IsAtWork S.Store self.old }
-        ensures { Asks S.Store self.old self.new result
+        requires { IsActive S.Store self.old }
+        ensures { Queries S.Store self.old self.new result
             (λ db list. ListsOwners crate_id db list.items) }
     {
         call!(
@@ -61,7 +61,7 @@ impl<S: Alter> Work<'_, S> {
     /// Makes an account a reader of a crate, and returns whether it was none. A crate that does not
     /// exist gets none.
     pub fn add_reader(&mut self, crate_id: u32, account: u32) -> Result<bool>
-        requires { IsAtWork S.Store self.old }
+        requires { IsActive S.Store self.old }
         ensures { Sets S.Store self.old self.new result (AddsReader crate_id account)
             (λ db added. TellsPair Relation.Readers crate_id account db (not added)) }
     {
@@ -77,7 +77,7 @@ impl<S: Alter> Work<'_, S> {
 
     /// Removes an account from a crate's readers, and returns whether it was one.
     pub fn remove_reader(&mut self, crate_id: u32, account: u32) -> Result<bool>
-        requires { IsAtWork S.Store self.old }
+        requires { IsActive S.Store self.old }
         ensures { Sets S.Store self.old self.new result (RemovesReader crate_id account)
             (TellsPair Relation.Readers crate_id account) }
     {
@@ -93,8 +93,8 @@ impl<S: Alter> Work<'_, S> {
 
     /// The accounts that read a crate, by id; none if it does not exist.
     pub fn readers_of(&mut self, alloc: Global, crate_id: u32) -> Result<Vec<Account>>
-        requires { IsAtWork S.Store self.old }
-        ensures { Asks S.Store self.old self.new result
+        requires { IsActive S.Store self.old }
+        ensures { Queries S.Store self.old self.new result
             (λ db list. ListsReaders crate_id db list.items) }
     {
         call!(

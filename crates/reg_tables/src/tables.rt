@@ -10,17 +10,17 @@ ghost use Rattle.reg_tables_schema.specs.States.{IsAtRest, IsMade, IsUndone, Lea
 ghost use Rattle.reg_tables_sql.specs.Abouts.{HasBase, LacksBase};
 ghost use Rattle.reg_tables.specs.contracts.tables.Tables.{the_row};
 ghost use Rattle.reg_tables.specs.Lending.{LendsConnection};
-ghost use Rattle.reg_tables_meaning.specs.Stands.{Stands};
+ghost use Rattle.reg_tables_represent.specs.Stands.{Stands};
 ghost use Rattle.reg_tables.specs.Ends.{Begins, LeavesLast, SeesAll};
-ghost use Rattle.reg_tables.specs.Works.{AreOurs, IsKept, IsLeft, IsSame, IsTried, edition_in, held, is_shut, shown};
-ghost use Rattle.reg_tables_meaning.specs.Upgrades.{BeginsSecond, IsUpgraded, AreUpgraded};
+ghost use Rattle.reg_tables.specs.Works.{AreOurs, IsKept, IsLeft, IsSame, IsTried, edition_in, held, is_stopped, shown};
+ghost use Rattle.reg_tables_represent.specs.Upgrades.{BeginsSecond, IsUpgraded, AreUpgraded};
 
 use crate::answering;
 use crate::work::{Result, StoreFault, Work};
-use reg_tables_meaning::upgrade::begin_second;
+use reg_tables_represent::upgrade::begin_second;
 use reg_tables_rows::editions::has_base;
 use reg_tables_schema::laws::{rest_law, stop_law};
-use reg_tables_schema::{Edition, MakeFault, begin, edition_of, make_tables};
+use reg_tables_schema::{MakeFault, SchemaVersion, begin, edition_of, make_tables};
 use sqlite::{Alter, Connection};
 use std::alloc::Global;
 
@@ -29,7 +29,7 @@ use std::alloc::Global;
 #[derive(Drop)]
 pub struct Tables<S: Alter> {
     pub(crate) conn: Connection<S>,
-    pub(crate) edition: Edition,
+    pub(crate) edition: SchemaVersion,
     pub(crate) shut: bool,
 }
 
@@ -44,8 +44,8 @@ impl<S: Alter> Tables<S> {
             (shown S.Store t).committed × IsAtRest (shown S.Store t)) }
         ensures stands { IfOk result (λ t. HasCleanDisk (shown S.Store t) → Stands
             (empty_at base.now) (shown S.Store t).now.trees) }
-        ensures ours { IfOk result (λ t. AreOurs S.Store t × (is_shut t ≡ false)) }
-        ensures second { IfOk result (λ t. edition_in t ≡ Edition.Second) }
+        ensures ours { IfOk result (λ t. AreOurs S.Store t × (is_stopped t ≡ false)) }
+        ensures second { IfOk result (λ t. edition_in t ≡ SchemaVersion.Second) }
         ensures alone { IfOk result (λ t. HasCleanDisk (shown S.Store t) → LeavesCommit
             (shown S.Store t)) }
         ensures unknown { IfErr result (λ e. (e.1 ≡ MakeFault.UnknownSchema) ↔
@@ -66,7 +66,7 @@ impl<S: Alter> Tables<S> {
         match made {
             Ok(()) => Ok(Tables {
                 conn,
-                edition: Edition::Second,
+                edition: SchemaVersion::Second,
                 shut: false,
             }),
             Err(fault) => Err((conn, fault)),
@@ -88,9 +88,9 @@ impl<S: Alter> Tables<S> {
             (state S.Store conn).now.trees) }
         ensures edition { IfOk result (λ t. (state S.Store conn).now.schema
             ≡ schema_of (edition_in t)) }
-        ensures ours { IfOk result (λ t. AreOurs S.Store t × (is_shut t ≡ false)) }
+        ensures ours { IfOk result (λ t. AreOurs S.Store t × (is_stopped t ≡ false)) }
         ensures unknown { IfErr result (λ e. HasCleanDisk (state S.Store e.0) → e.1
-            ≡ MakeFault.UnknownSchema → (edition : Edition)
+            ≡ MakeFault.UnknownSchema → (edition : SchemaVersion)
             → (state S.Store conn).now.schema ≡ schema_of edition
             → LacksBase edition (state S.Store conn).now.trees) }
         ensures handed_back { IfErr result (λ e. HasCleanDisk (state S.Store e.0) → IsUndone
@@ -127,7 +127,7 @@ impl<S: Alter> Tables<S> {
     /// The connection on loan, for `rows_of` and `index_rows`: what is left of it after the last
     /// read is what the tables have. After a failed commit it is not lent.
     pub fn reading(&mut self) -> &mut Connection<S>
-        requires open { is_shut self.old ≡ false }
+        requires open { is_stopped self.old ≡ false }
         ensures* lends { sem 𝓛 (LendsConnection S.row S.Store self.entry result) }
         ensures value { result.now ≡ held self.old }
     {
@@ -135,8 +135,8 @@ impl<S: Alter> Tables<S> {
     }
 
     /// Whether a commit failed, or the store was found closed.
-    pub fn is_shut(&self) -> bool
-        ensures { result ≡ is_shut self.now }
+    pub fn is_stopped(&self) -> bool
+        ensures { result ≡ is_stopped self.now }
     {
         self.shut
     }
@@ -145,7 +145,7 @@ impl<S: Alter> Tables<S> {
     /// within any statement. If it does not answer, the tables are shut.
     pub fn are_answering(&mut self) -> bool
         requires { AreOurs S.Store self.old }
-        ensures told { result ≡ not (is_shut self.new) }
+        ensures told { result ≡ not (is_stopped self.new) }
         ensures tried { IsTried S.Store self.old self.new }
     {
         if self.shut {
@@ -159,7 +159,7 @@ impl<S: Alter> Tables<S> {
     }
 
     /// Which schema the tables have.
-    pub fn edition(&self) -> Edition
+    pub fn edition(&self) -> SchemaVersion
         ensures { result ≡ edition_in self.now }
     {
         self.edition
@@ -168,7 +168,7 @@ impl<S: Alter> Tables<S> {
     /// Begins a transaction on tables already of schema 2.
     pub fn work(&mut self) -> Result<Work<'_, S>>
         requires ours { AreOurs S.Store self.old }
-        requires second { edition_in self.old ≡ Edition.Second }
+        requires second { edition_in self.old ≡ SchemaVersion.Second }
         ensures* refused { sem 𝓛 (RestsIfErr (the_row S.row S.Store) self.entry
             (λ w. w.tables.ghost_name) result (IsLeft S.Store self.old)) }
         ensures same_reference { IfOk result (λ w. w.tables.ghost_name ≡ self.entry.ghost_name) }
@@ -210,31 +210,31 @@ impl<S: Alter> Tables<S> {
     pub fn migrate(&mut self) -> Result<bool>
         requires { AreOurs S.Store self.old }
         ensures which { IfOk result (λ done. IsTrue done ↔
-            (edition_in self.old ≡ Edition.First)) }
+            (edition_in self.old ≡ SchemaVersion.First)) }
         ensures same { result ≡ Ok false → self.new ≡ self.old }
         ensures upgraded { HasCleanDisk (shown S.Store self.new) → result ≡ Ok true → IsUpgraded
             (shown S.Store self.old) (shown S.Store self.new) }
         ensures alone { HasCleanDisk (shown S.Store self.new) → result ≡ Ok true → LeavesCommit
             (shown S.Store self.new) }
-        ensures open { OnOk result (is_shut self.new ≡ is_shut self.old) }
+        ensures open { OnOk result (is_stopped self.new ≡ is_stopped self.old) }
         ensures refused { HasCleanDisk (shown S.Store self.new) → OnErr result
             (IsSame S.Store self.old self.new) }
         ensures ours { AreOurs S.Store self.new }
-        ensures second { OnOk result (edition_in self.new ≡ Edition.Second) }
+        ensures second { OnOk result (edition_in self.new ≡ SchemaVersion.Second) }
         ensures edition { OnErr result (edition_in self.new ≡ edition_in self.old) }
-        ensures stopped { is_shut self.old ≡ true → IsErr result }
+        ensures stopped { is_stopped self.old ≡ true → IsErr result }
         ensures survives { Survives (shown S.Store self.old) (shown S.Store self.new)
             (λ db. IsTrue (shown S.Store self.old).is_open
             × AreUpgraded (shown S.Store self.old).now db) }
         ensures last { HasCleanDisk (shown S.Store self.new) → OnErr result (LeavesLast
             (shown S.Store self.old) (shown S.Store self.new)) }
     {
-        if self.is_shut() {
+        if self.is_stopped() {
             return Err(StoreFault);
         }
         match self.edition {
-            Edition::First => {}
-            Edition::Second => return Ok(false),
+            SchemaVersion::First => {}
+            SchemaVersion::Second => return Ok(false),
         }
         let work = self.upgrade()?;
         work.commit()?;

@@ -2,11 +2,11 @@
 
 ghost use Rattle.reg_tables_sql.specs.Archives.{IsArchiveWithId};
 ghost use Rattle.reg_tables_rows.specs.WholeRows.{AreAllRows};
-ghost use Rattle.reg_tables.specs.Calling.{Asks};
-ghost use Rattle.reg_tables.specs.Works.{IsAtWork};
+ghost use Rattle.reg_tables.specs.Calling.{Queries};
+ghost use Rattle.reg_tables.specs.Works.{IsActive};
 
 use crate::work::{Result, Work, call};
-use reg_tables_meaning::archives;
+use reg_tables_represent::archives;
 use reg_tables_rows::all_rows::{self, AllRows};
 use reg_tables_sql::archives::Archive;
 use sqlite::Alter;
@@ -15,8 +15,8 @@ use std::alloc::Global;
 impl<S: Alter> Work<'_, S> {
     /// The rows of all tables, except archives.
     pub fn all_rows(&mut self, alloc: Global) -> Result<AllRows>
-        requires { IsAtWork S.Store self.old }
-        ensures { Asks S.Store self.old self.new result (λ db it. AreAllRows it db) }
+        requires { IsActive S.Store self.old }
+        ensures { Queries S.Store self.old self.new result (λ db it. AreAllRows it db) }
     {
         call!(self, all_rows::read(alloc, &mut self.tables.conn))
     }
@@ -24,8 +24,8 @@ impl<S: Alter> Work<'_, S> {
     /// The archive of the version with this id. No version's id is 2^63 or more: such an id is a
     /// fault.
     pub fn archive_with_id(&mut self, version: u64) -> Result<Option<Archive>>
-        requires { IsAtWork S.Store self.old }
-        ensures { Asks S.Store self.old self.new result (IsArchiveWithId version) }
+        requires { IsActive S.Store self.old }
+        ensures { Queries S.Store self.old self.new result (IsArchiveWithId version) }
     {
         call!(self, archives::with_id(&mut self.tables.conn, version))
     }

@@ -9,11 +9,11 @@ ghost use Rattle.sqlite.specs.State.{Shown};
 ghost use Rattle.reg_tables_schema.specs.Schema.{ours};
 ghost use Rattle.reg_tables_schema.specs.Shown.{shown_of};
 ghost use Rattle.reg_tables.specs.Ends.{IsDropped, IsEnded};
-ghost use Rattle.reg_tables.specs.Works.{Heard, IsAtWork, IsCall, Unmoved, seen};
+ghost use Rattle.reg_tables.specs.Works.{OnAnswer, IsActive, KeepsFrame, Unmoved, seen};
 
 use crate::tables::Tables;
 use reg_tables_schema::laws::stop_law;
-use reg_tables_schema::{Edition, finish, undo};
+use reg_tables_schema::{SchemaVersion, finish, undo};
 use reg_tables_sql::records::FromRow;
 use reg_tables_sql::statements::{has_row, rows_of, select_list, select_one};
 use sqlite::types::ValueRef;
@@ -64,7 +64,7 @@ impl<S: Alter> Work<'_, S> {
     /// Commits the changes, unless a call has failed. If the store fails, the tables no longer
     /// answer.
     pub fn commit(self) -> Result<()>
-        requires { IsAtWork S.Store self }
+        requires { IsActive S.Store self }
         ensures { IsEnded S.Store result self.entry self.exit.0.now }
     {
         let Work { tables, failed } = self;
@@ -78,7 +78,7 @@ impl<S: Alter> Work<'_, S> {
             stop_law(&tables.conn);
             return Err(StoreFault);
         }
-        tables.edition = Edition::Second;
+        tables.edition = SchemaVersion::Second;
         Ok(())
     }
 }
@@ -87,9 +87,9 @@ impl<S: Alter> Work<'_, S> {
     /// Ends the transaction as a fault does: out of memory, an unreadable row, or something
     /// missing.
     pub fn fail<T>(&mut self) -> Result<T>
-        requires { IsAtWork S.Store self.old }
+        requires { IsActive S.Store self.old }
         ensures fails { IsErr result }
-        ensures leaves { IsCall S.Store result self.old self.new }
+        ensures leaves { KeepsFrame S.Store result self.old self.new }
     {
         self.failed = true;
         Err(StoreFault)
@@ -97,12 +97,12 @@ impl<S: Alter> Work<'_, S> {
 
     /// All rows of a read-only query.
     pub fn select(&mut self, text: &str, params: &[ValueRef<'_>]) -> Result<Vec<Row>>
-        requires at_work { IsAtWork S.Store self.old }
+        requires at_work { IsActive S.Store self.old }
         requires reads { IsPlain (understood ours text.now) }
-        ensures rows { Heard S.Store self.new result (λ rows. Shown text.now (bound params.now)
+        ensures rows { OnAnswer S.Store self.new result (λ rows. Shown text.now (bound params.now)
             (seen S.Store self.old) (seen S.Store self.new) rows.items) }
         ensures same { Unmoved S.Store result self.old self.new }
-        ensures leaves { IsCall S.Store result self.old self.new }
+        ensures leaves { KeepsFrame S.Store result self.old self.new }
     {
         call!(self, rows_of(&mut self.tables.conn, text, params))
     }
@@ -114,12 +114,12 @@ impl<S: Alter> Work<'_, S> {
         text: &str,
         params: &[ValueRef<'_>],
     ) -> Result<Option<T>>
-        requires at_work { IsAtWork S.Store self.old }
+        requires at_work { IsActive S.Store self.old }
         requires reads { IsPlain (understood ours text.now) }
-        ensures row { Heard S.Store self.new result (λ found. Shown text.now (bound params.now)
+        ensures row { OnAnswer S.Store self.new result (λ found. Shown text.now (bound params.now)
             (seen S.Store self.old) (seen S.Store self.new) (shown_of T.FromRow.columns found)) }
         ensures same { Unmoved S.Store result self.old self.new }
-        ensures leaves { IsCall S.Store result self.old self.new }
+        ensures leaves { KeepsFrame S.Store result self.old self.new }
     {
         call!(self, select_one(&mut self.tables.conn, text, params))
     }
@@ -132,12 +132,12 @@ impl<S: Alter> Work<'_, S> {
         text: &str,
         params: &[ValueRef<'_>],
     ) -> Result<Vec<T>>
-        requires at_work { IsAtWork S.Store self.old }
+        requires at_work { IsActive S.Store self.old }
         requires reads { IsPlain (understood ours text.now) }
-        ensures rows { Heard S.Store self.new result (λ list. Shown text.now (bound params.now)
+        ensures rows { OnAnswer S.Store self.new result (λ list. Shown text.now (bound params.now)
             (seen S.Store self.old) (seen S.Store self.new) (map T.FromRow.columns list.items)) }
         ensures same { Unmoved S.Store result self.old self.new }
-        ensures leaves { IsCall S.Store result self.old self.new }
+        ensures leaves { KeepsFrame S.Store result self.old self.new }
     {
         call!(
             self,
@@ -147,13 +147,13 @@ impl<S: Alter> Work<'_, S> {
 
     /// Whether a read-only query has a row.
     pub fn has_row(&mut self, text: &str, params: &[ValueRef<'_>]) -> Result<bool>
-        requires at_work { IsAtWork S.Store self.old }
+        requires at_work { IsActive S.Store self.old }
         requires reads { IsPlain (understood ours text.now) }
-        ensures rows { Heard S.Store self.new result (λ has. (rows : _)
+        ensures rows { OnAnswer S.Store self.new result (λ has. (rows : _)
             × Shown text.now (bound params.now) (seen S.Store self.old) (seen S.Store self.new) rows
             × (has ≡ not (length rows == 0))) }
         ensures same { Unmoved S.Store result self.old self.new }
-        ensures leaves { IsCall S.Store result self.old self.new }
+        ensures leaves { KeepsFrame S.Store result self.old self.new }
     {
         call!(self, has_row(&mut self.tables.conn, text, params))
     }

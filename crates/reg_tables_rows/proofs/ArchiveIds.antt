@@ -13,7 +13,7 @@ use Rattle.sqlite_trees.proofs.ListLemmas.{all_weaker}
 use Rattle.reg_tables_schema.specs.Greatest.{row_of_id}
 use Rattle.reg_tables_schema.specs.Rows.{number_columns}
 use Rattle.reg_tables_sql.specs.Counts.{IsFirstId}
-use Rattle.reg_tables_meaning.proofs.Selected.{column_total}
+use Rattle.reg_tables_represent.proofs.Selected.{column_total}
 
 not_below : (n : ℕ) (v : Value) → is_gt (value_cmp (Int (pos n)) v) ≡ false → is_null v ≡ false
 unfolding value_cmp

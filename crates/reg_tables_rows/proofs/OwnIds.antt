@@ -6,7 +6,7 @@ use Rattle.std.specs.List.{AllAdjacentBelow}
 use Rattle.std.specs.List.Sorted.{IsStrictlySortedBy}
 use Rattle.reg_tables_schema.specs.Rows.{IsInOrder}
 use Rattle.reg_tables_schema.proofs.Queries.{maps_twice}
-use Rattle.reg_tables_meaning.proofs.Selected.{number_below}
+use Rattle.reg_tables_represent.proofs.Selected.{number_below}
 use Rattle.reg_tables_rows.proofs.OwnRowids.{own_ordered, rises_alone, rises_next, rises_nowhere}
 
 module _ {X : Type 0} (id : X → ℕ) where

@@ -14,9 +14,9 @@ use Rattle.std.proofs.lemmas.List.{drop_more}
 use Rattle.std.proofs.lemmas.Map.Keys.{IsDistinct-IsPermutation, IsDistinct-cons}
 use Rattle.sqlite.specs.Order.{value_cmp}
 use Rattle.sqlite_rules.specs.Edit.{id_in}
-use Rattle.reg_tables_meaning.specs.Numbers.{IsNumbered}
-use Rattle.reg_tables_meaning.proofs.AccountEntries.{heads}
-use Rattle.reg_tables_meaning.proofs.Rowids.{tied, tied_back}
+use Rattle.reg_tables_represent.specs.Numbers.{IsNumbered}
+use Rattle.reg_tables_represent.proofs.AccountEntries.{heads}
+use Rattle.reg_tables_represent.proofs.Rowids.{tied, tied_back}
 
 above_all : (a b : ℤ) → int_cmp a b ≡ Less → (ys : List ℤ) → AllByRecursion (λ y. int_cmp b y ≡ Less) ys → AllByRecursion (λ y. int_cmp a y ≡ Less) ys
 above_all a b up [] h = tt

@@ -5,11 +5,11 @@ pub use Rattle.std.proofs.lemmas.List.Sorted.{IsPermutation-sym}
 pub use Rattle.std.proofs.lemmas.Result.{on_ok_weaker}
 pub use Rattle.std.specs.Ordering.{int_cmp}
 pub use Rattle.std.specs.Prelude.{nat_le, ◌↔◌}
-pub use Rattle.reg_tables_meaning.proofs.CrateCounts.{count_is, crates_are}
-pub use Rattle.reg_tables_meaning.proofs.NextId.{next_id}
-pub use Rattle.reg_tables_meaning.proofs.Readings.{fails, left, so_far, told_before, was_clean, ◌⨾◌}
-pub use Rattle.reg_tables_meaning.proofs.Results.{if_ok}
-pub use Rattle.reg_tables_meaning.specs.Stands.{HaveOwnRowids}
+pub use Rattle.reg_tables_represent.proofs.CrateCounts.{count_is, crates_are}
+pub use Rattle.reg_tables_represent.proofs.NextId.{next_id}
+pub use Rattle.reg_tables_represent.proofs.Readings.{fails, left, so_far, told_before, was_clean, ◌⨾◌}
+pub use Rattle.reg_tables_represent.proofs.Results.{if_ok}
+pub use Rattle.reg_tables_represent.specs.Stands.{HaveOwnRowids}
 pub use Rattle.reg_tables_schema.specs.Places.{archives_tree, owners_tree, readers_tree, reserved_tree}
 pub use Rattle.reg_tables_schema.specs.Rows.{by_column}
 pub use Rattle.reg_tables_schema.specs.Statements.{rows_in}

@@ -2,7 +2,7 @@
 use Rattle.std.specs.Prelude.{◌≡◌, length}
 use Rattle.sqlite.specs.Tree.{Trees}
 use Rattle.reg_model.specs.Crates as model
-use Rattle.reg_tables_meaning.specs.Calls.{Tells}
+use Rattle.reg_tables_represent.specs.Calls.{Tells}
 use Rattle.reg_tables_rows.specs.declared.counts.Counts.{Counts}
 
 -- the numbers of accounts, tokens, crates and publications

@@ -20,7 +20,7 @@ use Rattle.reg_tables_sql.specs.Summaries.{AreSummaries}
 use Rattle.reg_tables_sql.specs.Tokens.{AreTokens}
 use Rattle.reg_tables_sql.specs.Versions.{AreVersions}
 use Rattle.reg_tables_rows.specs.declared.all_rows.AllRows.{AllRows}
-use Rattle.reg_tables_meaning.specs.Stands.{HaveOwnRowids}
+use Rattle.reg_tables_represent.specs.Stands.{HaveOwnRowids}
 
 -- in none of these tables two rows have one rowid
 pub record AreApart (db : Trees) : Type 0 where

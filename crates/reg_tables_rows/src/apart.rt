@@ -14,7 +14,7 @@ ghost use Rattle.reg_tables_schema.specs.Steps.{Done, KeepsAll};
 ghost use Rattle.reg_tables_sql.specs.Crates.{AreCratesById};
 ghost use Rattle.reg_tables_sql.specs.Rowids.{AreRowids};
 ghost use Rattle.reg_tables_sql.specs.Versions.{AreVersions};
-ghost use Rattle.reg_tables_meaning.specs.Stands.{HaveOwnRowids};
+ghost use Rattle.reg_tables_represent.specs.Stands.{HaveOwnRowids};
 
 use reg_tables_sql::crates::Crate;
 use reg_tables_sql::pairs::Relation;

@@ -6,8 +6,8 @@ ghost use Rattle.reg_tables_schema.specs.Rows.{greatest_number};
 ghost use Rattle.reg_tables_schema.specs.States.{IsReady};
 ghost use Rattle.reg_tables_schema.specs.Statements.{rows_in};
 ghost use Rattle.reg_tables_schema.specs.Steps.{KeepsAll, Told};
-ghost use Rattle.reg_tables_meaning.specs.Calls.{Counted, ReachesCrates};
-ghost use Rattle.reg_tables_meaning.specs.Ids.{IsNext};
+ghost use Rattle.reg_tables_represent.specs.Calls.{Counted, ReachesCrates};
+ghost use Rattle.reg_tables_represent.specs.Ids.{IsNext};
 ghost use Rattle.reg_tables_rows.specs.Counting.{CountsAll};
 ghost use Rattle.reg_model.specs.Crates.{crates};
 

@@ -8,13 +8,13 @@ ghost use Rattle.reg_tables_schema.specs.Rows.{greatest_number};
 ghost use Rattle.reg_tables_schema.specs.States.{IsReady};
 ghost use Rattle.reg_tables_schema.specs.Statements.{rows_in};
 ghost use Rattle.reg_tables_schema.specs.Steps.{KeepsAll, Told};
-ghost use Rattle.reg_tables_meaning.specs.Calls.{FindsArchive, FindsCrate, ListsCrates, ListsVersions, ReachesVersions};
+ghost use Rattle.reg_tables_represent.specs.Calls.{FindsArchive, FindsCrate, ListsCrates, ListsVersions, ReachesVersions};
 ghost use Rattle.reg_tables_sql.specs.Crates.{AreCrates, IsCrateOfCanon};
 ghost use Rattle.reg_tables_sql.specs.Versions.{AreVersionsOf};
 
 use reg_line::lacks_room;
 use reg_names::{CanonText, CrateName};
-use reg_tables_meaning::summaries;
+use reg_tables_represent::summaries;
 use reg_tables_sql::archives;
 use reg_tables_sql::crates::{self, Crate};
 use reg_tables_sql::statements::Result;

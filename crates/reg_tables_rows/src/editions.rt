@@ -6,12 +6,12 @@ ghost use Rattle.sqlite.specs.State.{HasCleanDisk, KeepsCommit, Survives};
 ghost use Rattle.reg_tables_schema.specs.States.{IsOurs, IsUndone, about_columns};
 ghost use Rattle.reg_tables_sql.specs.Abouts.{HasBase, IsAbout, LacksBase};
 
-use reg_tables_schema::{Edition, begin, undo};
+use reg_tables_schema::{SchemaVersion, begin, undo};
 use reg_tables_sql::about::{self, About};
 use reg_tables_sql::statements::Result;
 use sqlite::{Alter, Connection};
 
-fn is_of(about: &Option<About>, edition: Edition) -> bool
+fn is_of(about: &Option<About>, edition: SchemaVersion) -> bool
     ensures is { (rows : _) → IsAbout rows about.now → IsTrue result → (base : _)
         × (rows ≡ about_columns edition base ∷ []) }
     ensures is_not { (rows : _) → IsAbout rows about.now → result ≡ false → (base : _)
@@ -23,7 +23,7 @@ fn is_of(about: &Option<About>, edition: Edition) -> bool
     }
 }
 
-fn read_base<S: Alter>(conn: &mut Connection<S>, edition: Edition) -> Result<bool>
+fn read_base<S: Alter>(conn: &mut Connection<S>, edition: SchemaVersion) -> Result<bool>
     requires ours { IsOurs edition (state S.Store conn.old) }
     ensures found { HasCleanDisk (state S.Store conn.new) → IfOk result
         (λ has. IsTrue has → HasBase edition (state S.Store conn.old).now.trees) }
@@ -39,7 +39,7 @@ fn read_base<S: Alter>(conn: &mut Connection<S>, edition: Edition) -> Result<boo
 }
 
 /// Whether `about` has one row, of this schema. No transaction is left open.
-pub fn has_base<S: Alter>(conn: &mut Connection<S>, edition: Edition) -> Result<bool>
+pub fn has_base<S: Alter>(conn: &mut Connection<S>, edition: SchemaVersion) -> Result<bool>
     requires ours { IsOurs edition (state S.Store conn.old) }
     ensures found { HasCleanDisk (state S.Store conn.new) → IfOk result
         (λ has. IsTrue has → HasBase edition (state S.Store conn.old).now.trees) }

@@ -6,10 +6,10 @@ ghost use Rattle.sqlite.specs.State.{HasCleanDisk};
 ghost use Rattle.reg_tables_schema.specs.States.{IsOurs};
 ghost use Rattle.reg_tables_schema.specs.Statements.{rows_in};
 ghost use Rattle.reg_tables_sql.specs.Stems.{AreEntriesOf};
-ghost use Rattle.reg_tables_meaning.specs.Walks.{IsRead};
+ghost use Rattle.reg_tables_represent.specs.Walks.{IsRead};
 
-use reg_tables_meaning::entries::index_rows;
-use reg_tables_schema::Edition;
+use reg_tables_represent::entries::index_rows;
+use reg_tables_schema::SchemaVersion;
 use reg_tables_sql::records::FromRow;
 use reg_tables_sql::statements::Result;
 use reg_tables_sql::versions::StemRow;
@@ -22,7 +22,7 @@ pub fn index_entries<S: Alter>(
     conn: &mut Connection<S>,
     crate_id: u32,
 ) -> Result<Vec<StemRow>>
-    requires { IsOurs Edition.Second (state S.Store conn.old) }
+    requires { IsOurs SchemaVersion.Second (state S.Store conn.old) }
     ensures entries { HasCleanDisk (state S.Store conn.new) → IfOk result
         (λ list. AreEntriesOf crate_id (rows_in S.Store conn.old) list.items) }
     ensures reads { IsRead S.Store result conn.old conn.new }

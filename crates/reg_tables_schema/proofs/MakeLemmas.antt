@@ -13,7 +13,7 @@ use Rattle.sqlite_tied.specs.Compute.{everything}
 use Rattle.reg_tables_schema.specs.declared.make.TheConstants.{INSERT_ABOUT_TEXT}
 use Rattle.reg_tables_schema.specs.States.{Extends, IsAtRest, IsMade, about_columns}
 use Rattle.reg_tables_schema.proofs.Creates.{and_last, still_empty}
-use Rattle.reg_tables_schema.specs.declared.edition.Edition.TheVariants.{Second}
+use Rattle.reg_tables_schema.specs.declared.edition.SchemaVersion.TheVariants.{Second}
 use Rattle.reg_tables_schema.proofs.Edits.{step_of}
 use Rattle.reg_tables_schema.proofs.Statements.{adds_columns, cast_int, cast_null}
 use Rattle.reg_tables_schema.proofs.WriteLemmas.{survives_inside}
@@ -77,7 +77,7 @@ module _ (old mid : State) where
   kept_undone new k h =
       record { was_open = λ up. k.was_open (h.was_open up); undone = λ up. let same = k.committed (h.was_open up) in ((h.undone up).0 ∙ same, (h.undone up).1 ∙ same); autocommit = h.autocommit }
 
--- a stop leaves what was there before, or the registry whole
+-- a crash leaves what was there before, or the registry whole
 abbrev pub Whole : List ℕ → Trees → Type 0
 Whole base trees = (db : Database) × IsMade base db × (trees ≡ db.trees)
 

@@ -1,11 +1,11 @@
 -- Each end of a statement keeps our tables, of either edition.
 use Rattle.reg_tables_schema.proofs.Words.{◌≡◌, inl, inr, true, false, Ok, Err, Result, OnOk, OnErr, ℕ, sym, ap, ◌∙◌, Database, Error}
 use Rattle.reg_tables_schema.proofs.Words.{State, HasCleanDisk, Shows, IsUndone, Refuses}
-use Rattle.reg_tables_schema.specs.declared.edition.Edition.{Edition}
+use Rattle.reg_tables_schema.specs.declared.edition.SchemaVersion.{SchemaVersion}
 use Rattle.reg_tables_schema.specs.Schema.{schema_of}
 use Rattle.reg_tables_schema.specs.States.{GoesBack, IsReadyOf, IsOurs, Rests}
 
-module _ (e : Edition) (old new : State) where
+module _ (e : SchemaVersion) (old new : State) where
   pub as_before : Shows old new old.now old.committed old.in_transaction → Rests e old → Rests e new
   as_before h at = record {
     committed_is = ap (λ (d : Database). d.schema) h.committed_is ∙ at.committed_is;

@@ -1,4 +1,4 @@
--- What a write in a transaction leaves, where it is refused and over a stop; and what BEGIN, COMMIT and ROLLBACK do.
+-- What a write in a transaction leaves, where it is refused and over a crash; and what BEGIN, COMMIT and ROLLBACK do.
 use Rattle.reg_tables_schema.proofs.Words.{◌≡◌, ◌⊎◌, inl, inr, ℕ, List, [], Bool, true, false, Ok, Err, Result, OnOk, OnErr, refl, sym, ap}
 use Rattle.reg_tables_schema.proofs.Words.{subst, ◌∙◌, Row, Trees, Schema, Error, timed, State, HasCleanDisk, Survives, Shows, Executes}
 use Rattle.reg_tables_schema.proofs.Words.{IsUnchanged, IsTrue, None, length, ◌≤◌, arith, subst₂, Compiled, CompileError, survives_weaker}

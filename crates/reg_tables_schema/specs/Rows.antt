@@ -6,8 +6,8 @@ use Rattle.sqlite.specs.Order.{Row, column, value_cmp}
 use Rattle.sqlite.specs.declared.types.Value.{Value}
 use Rattle.sqlite.specs.declared.types.Value.TheVariants.{Null, Int, Text}
 
-abbrev pub mark : Bool → Value
-mark b = Int (if b then pos 1 else pos 0)
+abbrev pub sql_bool : Bool → Value
+sql_bool b = Int (if b then pos 1 else pos 0)
 
 abbrev pub text_or_null : Option (List ℕ) → Value
 text_or_null None = Null

@@ -21,8 +21,8 @@ use Rattle.sqlite_schema.specs.declared.schema.Action.TheVariants.{NoAction}
 use Rattle.sqlite_value.specs.Keys.{plain}
 use Rattle.sqlite_value.specs.declared.keys.Order.{Order}
 use Rattle.sqlite_catalog.specs.Listing.{automatic}
-use Rattle.reg_tables_schema.specs.declared.edition.Edition.{Edition}
-use Rattle.reg_tables_schema.specs.declared.edition.Edition.TheVariants.{First, Second}
+use Rattle.reg_tables_schema.specs.declared.edition.SchemaVersion.{SchemaVersion}
+use Rattle.reg_tables_schema.specs.declared.edition.SchemaVersion.TheVariants.{First, Second}
 
 abbrev pub column : List ℕ → Kind → Bool → Column
 column name kind not_null = record {
@@ -178,11 +178,11 @@ abbrev pub old_schema : Schema
 old_schema = record { tables = old_tables; indexes = old_indexes; views = [] }
 
 -- the schema of an edition, and its number
-abbrev pub schema_of : Edition → Schema
+abbrev pub schema_of : SchemaVersion → Schema
 schema_of First = old_schema
 schema_of Second = ours
 
-abbrev pub number_of : Edition → ℕ
+abbrev pub number_of : SchemaVersion → ℕ
 number_of First = 1
 number_of Second = 2
 

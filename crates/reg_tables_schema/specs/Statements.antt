@@ -24,14 +24,14 @@ pub record IsReadable (text : List ℕ) (s : State) : Type 0 where
 abbrev pub MayRead : List ℕ → State → Type 0
 MayRead text s = HasCleanDisk s → IsReadable text s
 
--- it answers what is told, changes nothing, and no stop in it commits
+-- it answers what is told, changes nothing, and no crash in it commits
 pub record IsReading {T E : Type 0} (old new : State) (r : Result T E) (tells : T → Type 0)
     : Type 0 where
   pub told : HasCleanDisk new → IfOk r tells
   pub only : HasCleanDisk new → OnlyReads r old new
   pub survives : Survives old new (λ _. ⊥)
 
--- it makes this change, or is refused, and no stop in it commits
+-- it makes this change, or is refused, and no crash in it commits
 pub record IsWriting {T E : Type 0} (old new : State) (r : Result T E)
     (change : State → State → Type 0)
     : Type 0 where

@@ -9,8 +9,8 @@ use Rattle.sqlite.specs.Order.{Row}
 use Rattle.sqlite.specs.declared.types.Value.TheVariants.{Int, Text}
 use Rattle.sqlite.specs.Schema.{Schema}
 use Rattle.sqlite.specs.State.{State, HasCleanDisk, IsUnchanged, IsRolledBack}
-use Rattle.reg_tables_schema.specs.declared.edition.Edition.{Edition}
-use Rattle.reg_tables_schema.specs.declared.edition.Edition.TheVariants.{Second}
+use Rattle.reg_tables_schema.specs.declared.edition.SchemaVersion.{SchemaVersion}
+use Rattle.reg_tables_schema.specs.declared.edition.SchemaVersion.TheVariants.{Second}
 use Rattle.reg_tables_schema.specs.Schema.{ours, our_tables, old_tables, schema_of, number_of}
 use Rattle.reg_tables_schema.specs.Places.{restricted_tree, readers_tree}
 
@@ -21,31 +21,31 @@ pub record IsInsideWith (schema : Schema) (s : State) : Type 0 where
   pub inside : s.in_transaction ≡ true
 
 -- tables of this edition, in a transaction
-abbrev pub IsInsideOf : Edition → State → Type 0
+abbrev pub IsInsideOf : SchemaVersion → State → Type 0
 IsInsideOf e s = IsInsideWith (schema_of e) s
 
 abbrev pub IsInside : State → Type 0
 IsInside s = IsInsideOf Second s
 
 -- what a statement of a transaction asks
-abbrev pub IsReadyOf : Edition → State → Type 0
+abbrev pub IsReadyOf : SchemaVersion → State → Type 0
 IsReadyOf e s = HasCleanDisk s → IsInsideOf e s
 
 abbrev pub IsReady : State → Type 0
 IsReady s = IsReadyOf Second s
 
 -- what a transaction goes back to is of this edition
-abbrev pub GoesBack : Edition → State → Type 0
+abbrev pub GoesBack : SchemaVersion → State → Type 0
 GoesBack e s = HasCleanDisk s → IsTrue s.is_open → s.committed.schema ≡ schema_of e
 
 -- tables of this edition, in no transaction
-pub record Rests (e : Edition) (s : State) : Type 0 where
+pub record Rests (e : SchemaVersion) (s : State) : Type 0 where
   pub committed_is : s.committed.schema ≡ schema_of e
   pub autocommit : s.in_transaction ≡ false
   pub settled : s.now ≡ s.committed
 
 -- what is true between any two transactions; a connection that is shut shows nothing
-abbrev pub IsOurs : Edition → State → Type 0
+abbrev pub IsOurs : SchemaVersion → State → Type 0
 IsOurs e s = HasCleanDisk s → IsTrue s.is_open → Rests e s
 
 -- what a statement that failed leaves: all is as it was, or the transaction is undone
@@ -96,7 +96,7 @@ pub record Extends (old new : State) : Type 0 where
   pub inside : IsInside new
 
 -- the columns of the one row of `about`: the number of the schema, and the base
-abbrev pub about_columns : Edition → List ℕ → Row
+abbrev pub about_columns : SchemaVersion → List ℕ → Row
 about_columns e base = Int (pos (number_of e)) ∷ Text base ∷ []
 
 -- a registry of this base with nothing in it
@@ -105,7 +105,7 @@ pub record IsMade (base : List ℕ) (db : Database) : Type 0 where
   pub about : map (drop 1) (db.trees 0) ≡ about_columns Second base ∷ []
   pub empty : AllByRecursion (λ t. t.tree ≢ 0 → db.trees t.tree ≡ []) our_tables
 
--- a stop at this moment leaves the last commit and nothing else
+-- a crash at this moment leaves the last commit and nothing else
 abbrev pub LeavesCommit : State → Type 0
 LeavesCommit s = (db : Trees) → s.may_leave db → db ≡ s.committed.trees
 

@@ -3,7 +3,7 @@ use Rattle.std.specs.Prelude.{◌≡◌, Result, IfOk, OnOk, OnErr, IsTrue}
 use Rattle.sqlite_trees.specs.declared.store.Store.{Ghosts}
 use Rattle.sqlite.specs.Held.{Held, state}
 use Rattle.sqlite.specs.State.{State, HasCleanDisk, KeepsCommit, Survives}
-use Rattle.reg_tables_schema.specs.declared.edition.Edition.{Edition}
+use Rattle.reg_tables_schema.specs.declared.edition.SchemaVersion.{SchemaVersion}
 use Rattle.reg_tables_schema.specs.States.{GoesBack, IsInside, OnlyReads}
 
 -- what is seen has changed within the transaction, and nothing is committed
@@ -11,20 +11,20 @@ pub record Within (old new : State) : Type 0 where
   pub was_open : IsTrue old.is_open
   pub committed : new.committed ≡ old.committed
   pub inside : IsInside new
-  pub back : (e : Edition) → GoesBack e old → GoesBack e new
+  pub back : (e : SchemaVersion) → GoesBack e old → GoesBack e new
 
 -- a fault: of what is seen nothing is said, and nothing is committed
 pub record Fails (old new : State) : Type 0 where
   pub kept : KeepsCommit old new
-  pub back : (e : Edition) → GoesBack e old → GoesBack e new
+  pub back : (e : SchemaVersion) → GoesBack e old → GoesBack e new
 
--- they change what is seen or fail, and no stop in them commits
+-- they change what is seen or fail, and no crash in them commits
 pub record LeavesWithin {T E : Type 0} (old new : State) (r : Result T E) : Type 0 where
   pub within : HasCleanDisk new → OnOk r (Within old new)
   pub fails : HasCleanDisk new → OnErr r (Fails old new)
   pub survives : Survives old new (λ _. ⊥)
 
--- they only read, and no stop in them commits
+-- they only read, and no crash in them commits
 pub record LeavesSame {T E : Type 0} (old new : State) (r : Result T E) : Type 0 where
   pub only : HasCleanDisk new → OnlyReads r old new
   pub survives : Survives old new (λ _. ⊥)

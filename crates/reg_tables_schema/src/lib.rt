@@ -19,7 +19,7 @@ mod terms;
 mod texts;
 mod transaction;
 
-pub use edition::Edition;
+pub use edition::SchemaVersion;
 pub use make::{MakeFault, add_tables, create_tables, make_tables};
 pub use ours::edition_of;
 pub use transaction::{ROLLBACK, begin, finish, undo};

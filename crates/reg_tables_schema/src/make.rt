@@ -7,7 +7,7 @@ ghost use Rattle.reg_tables_schema.specs.Schema.{ours, old_schema, blank, first_
 ghost use Rattle.reg_tables_schema.specs.States.{Extends, IsReady, IsReadyOf, IsOurs, IsAtRest, HasMade, IsMade, Makes, Refuses, IsUndone, LeavesCommit, about_columns};
 ghost use Rattle.reg_tables_schema.specs.Changes.{AddsColumns};
 
-use crate::edition::Edition;
+use crate::edition::SchemaVersion;
 use crate::texts;
 use crate::transaction::{begin, finish, undo};
 use sqlite::{Alter, Connection, Error, params};
@@ -76,7 +76,7 @@ fn create_other_tables<S: Alter>(conn: &mut Connection<S>) -> Result<(), Error>
 /// Makes the two tables that schema 2 has and schema 1 lacks, in the open transaction.
 #[tactic(auto, using(crate::proofs::MakeLemmas::extends))]
 pub fn add_tables<S: Alter>(conn: &mut Connection<S>) -> Result<(), Error>
-    requires { IsReadyOf Edition.First (state S.Store conn.old) }
+    requires { IsReadyOf SchemaVersion.First (state S.Store conn.old) }
     ensures added { HasCleanDisk (state S.Store conn.new) → OnOk result
         (Extends (state S.Store conn.old) (state S.Store conn.new)) }
     ensures refused { HasCleanDisk (state S.Store conn.new) → OnErr result
@@ -109,7 +109,7 @@ const INSERT_ABOUT_TEXT: &str = "INSERT INTO about (schema, base) VALUES (2, ?1)
 fn insert_about<S: Alter>(conn: &mut Connection<S>, base: &str) -> Result<usize, Error>
     requires { IsReady (state S.Store conn.old) }
     ensures added { HasCleanDisk (state S.Store conn.new) → OnOk result
-        (AddsColumns 0 (about_columns Edition.Second base.now) (state S.Store conn.old)
+        (AddsColumns 0 (about_columns SchemaVersion.Second base.now) (state S.Store conn.old)
         (state S.Store conn.new)) }
     ensures refused { HasCleanDisk (state S.Store conn.new) → OnErr result
         (Refuses (state S.Store conn.old) (state S.Store conn.new)) }
@@ -151,7 +151,7 @@ fn fill_and_commit<S: Alter>(conn: &mut Connection<S>, base: &str) -> Result<(),
 pub fn make_tables<S: Alter>(conn: &mut Connection<S>, base: &str) -> Result<(), MakeFault>
     ensures made { HasCleanDisk (state S.Store conn.new) → OnOk result
         (IsMade base.now (state S.Store conn.new).committed × IsAtRest (state S.Store conn.new)) }
-    ensures ours { OnOk result (IsOurs Edition.Second (state S.Store conn.new)) }
+    ensures ours { OnOk result (IsOurs SchemaVersion.Second (state S.Store conn.new)) }
     ensures unknown { (result ≡ Err MakeFault.UnknownSchema) ↔
         ((state S.Store conn.old).now.schema ≢ blank) }
     ensures blank { result ≢ Err MakeFault.UnknownSchema → (state S.Store conn.old).now.schema

@@ -5,7 +5,7 @@ ghost use Rattle.sqlite.specs.Compile.{table_defined_by};
 ghost use Rattle.sqlite_value.specs.Keys.{plain};
 ghost use Rattle.reg_tables_schema.specs.Schema.{our_tables, our_indexes, old_tables, old_indexes, schema_of};
 
-use crate::edition::Edition;
+use crate::edition::SchemaVersion;
 use crate::same::same_table;
 use crate::texts::{
     ABOUT, ACCOUNTS, ARCHIVES, CRATES, OWNERS, READERS, RESERVED, RESTRICTED, SCOPES, SUMMARIES,
@@ -77,20 +77,20 @@ fn are_first_tables(alloc: Global, tables: &[Table]) -> Result<bool, AllocError>
 }
 
 // The edition of a list, judged by its first part and its rest.
-fn edition_by(first: bool, no_more: bool, added: bool) -> Option<Edition>
-    ensures first { (result ≡ Some Edition.First) ↔ (IsTrue first × IsTrue no_more) }
-    ensures second { (result ≡ Some Edition.Second) ↔
+fn edition_by(first: bool, no_more: bool, added: bool) -> Option<SchemaVersion>
+    ensures first { (result ≡ Some SchemaVersion.First) ↔ (IsTrue first × IsTrue no_more) }
+    ensures second { (result ≡ Some SchemaVersion.Second) ↔
         (IsTrue first × (no_more ≡ false) × IsTrue added) }
 {
     match (first, no_more, added) {
-        (true, true, _) => Some(Edition::First),
-        (true, false, true) => Some(Edition::Second),
+        (true, true, _) => Some(SchemaVersion::First),
+        (true, false, true) => Some(SchemaVersion::Second),
         _ => None,
     }
 }
 
-fn edition_of_tables(alloc: Global, tables: &[Table]) -> Result<Option<Edition>, AllocError>
-    ensures { IfOk result (λ found. (e : Edition) → (found ≡ Some e) ↔
+fn edition_of_tables(alloc: Global, tables: &[Table]) -> Result<Option<SchemaVersion>, AllocError>
+    ensures { IfOk result (λ found. (e : SchemaVersion) → (found ≡ Some e) ↔
         (tables.now ≡ (schema_of e).tables)) }
 {
     let (first, added) = tables.split_at(tables.len().min(10));
@@ -142,8 +142,8 @@ fn are_reader_indexes(indexes: &[Index]) -> bool
     is_index(readers, "sqlite_autoindex_readers_1", 18, &[1, 2])
 }
 
-fn edition_of_indexes(indexes: &[Index]) -> Option<Edition>
-    ensures { (e : Edition) → (result ≡ Some e) ↔ (indexes.now ≡ (schema_of e).indexes) }
+fn edition_of_indexes(indexes: &[Index]) -> Option<SchemaVersion>
+    ensures { (e : SchemaVersion) → (result ≡ Some e) ↔ (indexes.now ≡ (schema_of e).indexes) }
 {
     let (first, added) = indexes.split_at(indexes.len().min(7));
     let is_first = are_first_indexes(first);
@@ -152,8 +152,8 @@ fn edition_of_indexes(indexes: &[Index]) -> Option<Edition>
 }
 
 /// Which of our schemas this is, if any.
-pub fn edition_of(alloc: Global, schema: &Schema) -> Result<Option<Edition>, AllocError>
-    ensures { IfOk result (λ found. (e : Edition) → (found ≡ Some e) ↔
+pub fn edition_of(alloc: Global, schema: &Schema) -> Result<Option<SchemaVersion>, AllocError>
+    ensures { IfOk result (λ found. (e : SchemaVersion) → (found ≡ Some e) ↔
         (schema.now ≡ schema_of e)) }
 {
     if !schema.views.is_empty() {

@@ -5,7 +5,7 @@ ghost use Rattle.sqlite.specs.State.{HasCleanDisk, Shows, Survives};
 ghost use Rattle.sqlite.specs.Held.{state};
 ghost use Rattle.reg_tables_schema.specs.States.{GoesBack, IsReadyOf, IsOurs, Refuses, IsUndone, LeavesCommit};
 
-use crate::edition::Edition;
+use crate::edition::SchemaVersion;
 use crate::laws::rest_law;
 use sqlite::{Alter, Connection, Error};
 
@@ -16,13 +16,13 @@ pub fn begin<S: Alter>(conn: &mut Connection<S>) -> Result<usize, Error>
     ensures begun { HasCleanDisk (state S.Store conn.new) → OnOk result
         (Shows (state S.Store conn.old) (state S.Store conn.new) (state S.Store conn.old).now
         (state S.Store conn.old).committed true) }
-    ensures ready { (e : Edition) → IsOurs e (state S.Store conn.old) → OnOk result
+    ensures ready { (e : SchemaVersion) → IsOurs e (state S.Store conn.old) → OnOk result
         (IsReadyOf e (state S.Store conn.new)) }
-    ensures back { (e : Edition) → IsOurs e (state S.Store conn.old) → OnOk result
+    ensures back { (e : SchemaVersion) → IsOurs e (state S.Store conn.old) → OnOk result
         (GoesBack e (state S.Store conn.new)) }
     ensures refused { HasCleanDisk (state S.Store conn.new) → OnErr result
         (Refuses (state S.Store conn.old) (state S.Store conn.new)) }
-    ensures ours { (e : Edition) → IsOurs e (state S.Store conn.old) → OnErr result
+    ensures ours { (e : SchemaVersion) → IsOurs e (state S.Store conn.old) → OnErr result
         (IsOurs e (state S.Store conn.new)) }
     ensures survives { Survives (state S.Store conn.old) (state S.Store conn.new) (λ _. ⊥) }
 {
@@ -38,9 +38,9 @@ pub fn finish<S: Alter>(conn: &mut Connection<S>) -> Result<usize, Error>
         (state S.Store conn.old).now false) }
     ensures undone { HasCleanDisk (state S.Store conn.new) → OnErr result
         (IsUndone (state S.Store conn.old) (state S.Store conn.new)) }
-    ensures ours { (e : Edition) → IsReadyOf e (state S.Store conn.old) → OnOk result
+    ensures ours { (e : SchemaVersion) → IsReadyOf e (state S.Store conn.old) → OnOk result
         (IsOurs e (state S.Store conn.new)) }
-    ensures ours_again { (e : Edition) → GoesBack e (state S.Store conn.old) → OnErr result
+    ensures ours_again { (e : SchemaVersion) → GoesBack e (state S.Store conn.old) → OnErr result
         (IsOurs e (state S.Store conn.new)) }
     ensures alone { HasCleanDisk (state S.Store conn.new) → OnOk result
         (LeavesCommit (state S.Store conn.new)) }
@@ -59,7 +59,7 @@ pub const ROLLBACK: &str = "ROLLBACK";
 pub fn undo<S: Alter>(conn: &mut Connection<S>)
     ensures undone { HasCleanDisk (state S.Store conn.new) → IsUndone (state S.Store conn.old)
         (state S.Store conn.new) }
-    ensures ours { (e : Edition) → GoesBack e (state S.Store conn.old) → IsOurs e
+    ensures ours { (e : SchemaVersion) → GoesBack e (state S.Store conn.old) → IsOurs e
         (state S.Store conn.new) }
     ensures survives { Survives (state S.Store conn.old) (state S.Store conn.new) (λ _. ⊥) }
 {

@@ -5,7 +5,7 @@ use Rattle.reg_tables_sql.proofs.Words.{IsInside, about_columns, shows, IsSelect
 use Rattle.sqlite.specs.Listing.{understood}
 use Rattle.sqlite.specs.State.{Shown}
 use Rattle.sqlite_tied.specs.Compute.{everything}
-use Rattle.reg_tables_schema.specs.declared.edition.Edition.{Edition}
+use Rattle.reg_tables_schema.specs.declared.edition.SchemaVersion.{SchemaVersion}
 use Rattle.reg_tables_schema.specs.Schema.{old_schema, schema_of}
 use Rattle.reg_tables_schema.specs.States.{IsInsideOf}
 use Rattle.reg_tables_schema.proofs.WholeTables.{all_rows}
@@ -22,7 +22,7 @@ unfolding understood everything
 second_is = record { command = refl; unlisted = refl; plain = (refl, refl) }
 
 -- under either schema
-pub about_is : (e : Edition) → IsSelection (schema_of e) READ_TEXT.now (plain (inner 0 end) [] (col 1 1 ∷ col 1 2 ∷ [])) (codes "schema" ∷ codes "base" ∷ [])
+pub about_is : (e : SchemaVersion) → IsSelection (schema_of e) READ_TEXT.now (plain (inner 0 end) [] (col 1 1 ∷ col 1 2 ∷ [])) (codes "schema" ∷ codes "base" ∷ [])
 about_is First = first_is
 about_is Second = second_is
 
@@ -34,7 +34,7 @@ about_of_table : (xs rows : List Row) (a : Option About) → IsPermutation xs ro
 about_of_table xs rows None h other = λ e base is. other e base (one_permutation (about_columns e base) rows (subst (λ ys. IsPermutation ys rows) is h))
 about_of_table xs rows (Some a) h is = one_row xs rows _ h is
 
-pub about : (e : Edition) (old new : State) (rows : List Row) (a : Option About) → IsInsideOf e old → Shown READ_TEXT.now [] old new rows → IsAbout rows a → IsAboutOf old.now.trees a
+pub about : (e : SchemaVersion) (old new : State) (rows : List Row) (a : Option About) → IsInsideOf e old → Shown READ_TEXT.now [] old new rows → IsAbout rows a → IsAboutOf old.now.trees a
 about e old new rows a at h = about_of_table _ rows a (all_rows (overlay old.now.trees []) [] 0 (col 1 1 ∷ col 1 2 ∷ []) rows (selected (about_is e) [] old new rows at h))
 
 pub rowid_is : IsSelection ours THE_ROWID_TEXT.now (plain (inner 0 end) [] (col 1 0 ∷ [])) (codes "rowid" ∷ [])

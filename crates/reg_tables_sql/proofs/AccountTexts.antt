@@ -1,7 +1,7 @@
 -- What the statements on accounts do.
 use Rattle.reg_tables_sql.proofs.Words.{◌≡◌, ℕ, pos, List, [], ◌∷◌, Bool, true, cond, Option, Some, None, Ok, Result, OnOk, refl, subst}
 use Rattle.reg_tables_sql.proofs.Words.{option_map, Null, Int, Text, Row, Term, lit, col, cast, Trees, Values, Insert, State, Executes}
-use Rattle.reg_tables_sql.proofs.Words.{Error, IsPlain, command_of, edited, has_rowid, put_row, without_rowid, ours, mark, text_or_null}
+use Rattle.reg_tables_sql.proofs.Words.{Error, IsPlain, command_of, edited, has_rowid, put_row, without_rowid, ours, sql_bool, text_or_null}
 use Rattle.reg_tables_sql.proofs.Words.{IsInside, IsRowWrite, Adds, step_of, replacing, adds, cast_int, cast_null, equals_first}
 use Rattle.sqlite.specs.Values.{bound_value, or_null}
 use Rattle.sqlite.specs.Kind.TheVariants.{Text as TextKind}
@@ -61,9 +61,9 @@ enable_edit : (db : Trees) (id : ℕ) (login : List ℕ) (name : Option (List �
     → edited db (replacing db accounts ((Int (pos id) ∷ account_row id login name enabled) ∷ [])) ≡ put_row (account_row id login name enabled) (without_rowid (pos id) (db 1))
 enable_edit db id login name enabled = rw (cast_int (pos id), cast_int (cond enabled (pos 1) (pos 0)), cast_null, cast_text name)
 
-pub enables : (old new : State) (id : ℕ) (enabled : Bool) (count : ℕ) → IsInside old → Executes ENABLE_TEXT.now (Int (pos id) ∷ mark enabled ∷ []) old new (Ok count) → Enables id enabled old new
+pub enables : (old new : State) (id : ℕ) (enabled : Bool) (count : ℕ) → IsInside old → Executes ENABLE_TEXT.now (Int (pos id) ∷ sql_bool enabled ∷ []) old new (Ok count) → Enables id enabled old new
 enables old new id enabled count at h =
-    let rest : Row = mark enabled ∷ [] in
+    let rest : Row = sql_bool enabled ∷ [] in
     let met = matches_key 1 id rest in
     record {
       replaced = λ login name was. updates_one enable_is _ (has_rowid (pos id)) met old new count at h id (account_row id login name was) _ (enable_edit old.now.trees id login name enabled);

@@ -1,7 +1,7 @@
 -- What the writing statements on tokens do.
 use Rattle.reg_tables_sql.proofs.Words.{◌≡◌, ℕ, pos, List, [], ◌∷◌, Bool, true, false, cond, Ok, Result, OnOk, refl, Null, Int, Blob, Row}
 use Rattle.reg_tables_sql.proofs.Words.{Term, lit, col, Trees, cast, Values, Insert, State, Executes, Error, IsPlain, command_of, edited}
-use Rattle.reg_tables_sql.proofs.Words.{has_rowid, put_row, without_rowid, ours, mark, IsInside, IsRowWrite, Adds, step_of, replacing, adds}
+use Rattle.reg_tables_sql.proofs.Words.{has_rowid, put_row, without_rowid, ours, sql_bool, IsInside, IsRowWrite, Adds, step_of, replacing, adds}
 use Rattle.reg_tables_sql.proofs.Words.{cast_int, cast_null, equals_first}
 use Rattle.sqlite.specs.Kind.TheVariants.{Integer}
 use Rattle.sqlite.specs.Listing.{understood}
@@ -24,10 +24,10 @@ unfolding understood everything
 insert_plain = (refl, refl)
 
 abbrev insert_params : ℕ → List ℕ → ℕ → Endpoints → Row
-insert_params id digest account e = Int (pos id) ∷ Blob digest ∷ Int (pos account) ∷ mark e.publish_new ∷ mark e.publish_update ∷ mark e.yank ∷ mark e.change_owners ∷ []
+insert_params id digest account e = Int (pos id) ∷ Blob digest ∷ Int (pos account) ∷ sql_bool e.publish_new ∷ sql_bool e.publish_update ∷ sql_bool e.yank ∷ sql_bool e.change_owners ∷ []
 
 -- a mark is stored as it is
-cast_mark : (b : Bool) → cast Integer (mark b) ≡ mark b
+cast_mark : (b : Bool) → cast Integer (sql_bool b) ≡ sql_bool b
 cast_mark b = cast_int (cond b (pos 1) (pos 0))
 
 insert_news : (db : Trees) (id : ℕ) (digest : List ℕ) (account : ℕ) (e : Endpoints) → (step_of db tokens (insert_params id digest account e) insert_terms 9).news ≡ token_row id digest account true e ∷ []

@@ -2,7 +2,7 @@
 use Rattle.reg_tables_sql.proofs.Words.{◌≡◌, ℕ, pos, List, [], ◌∷◌, ◌&&◌, Bool, true, false, cond, Option, Ok, Result, OnOk, refl, ap, ◌∙◌}
 use Rattle.reg_tables_sql.proofs.Words.{Null, Int, Text, Blob, Row, column, value_cmp, Term, lit, col, op2, binary, is_true, Trees, Values}
 use Rattle.reg_tables_sql.proofs.Words.{Insert, State, Executes, Error, IsPlain, command_of, Compare, Eq, Binary, put_row, without_rowid}
-use Rattle.reg_tables_sql.proofs.Words.{ours, IsInside, IsRowWrite, Adds, mark, text_or_null, step_of, replacing, and_true, same_filter}
+use Rattle.reg_tables_sql.proofs.Words.{ours, IsInside, IsRowWrite, Adds, sql_bool, text_or_null, step_of, replacing, and_true, same_filter}
 use Rattle.reg_tables_sql.proofs.Words.{equals_int, adds, cast_int, cast_null, is_version, matched}
 use Rattle.std.specs.Prelude.{map}
 use Rattle.std.specs.Ordering.{is_eq}
@@ -64,9 +64,9 @@ wanted of_crate release vers r =
 pub is_wanted : (of_crate : ℕ) (release vers : List ℕ) (r : Row) → wanted of_crate release vers r ≡ is_version of_crate release vers r
 is_wanted of_crate release vers r = rw (equals_int (column r 2) (pos of_crate), equals_text (column r 4) release, equals_text (column r 3) vers, and_true (is_eq (value_cmp (column r 3) (Text vers)))) refl
 
-yank_matches : (of_crate : ℕ) (release vers : List ℕ) (yanked : Bool) → Matches 11 yank_filter (Int (pos of_crate) ∷ Text release ∷ Text vers ∷ mark yanked ∷ []) (is_version of_crate release vers)
+yank_matches : (of_crate : ℕ) (release vers : List ℕ) (yanked : Bool) → Matches 11 yank_filter (Int (pos of_crate) ∷ Text release ∷ Text vers ∷ sql_bool yanked ∷ []) (is_version of_crate release vers)
 yank_matches of_crate release vers yanked db =
-    let env = λ (r : Row). (Int (pos of_crate) ∷ Text release ∷ Text vers ∷ mark yanked ∷ []) ∷ r ∷ [] in
+    let env = λ (r : Row). (Int (pos of_crate) ∷ Text release ∷ Text vers ∷ sql_bool yanked ∷ []) ∷ r ∷ [] in
     matched (wanted of_crate release vers) env (db 11) ∙ ap (map env) (same_filter _ _ (is_wanted of_crate release vers) (db 11))
 
 yank_edit : (db : Trees) (id of_crate : ℕ) (vers release digest stem : List ℕ) (description : Option (List ℕ)) (yanked : Bool)
@@ -75,7 +75,7 @@ yank_edit : (db : Trees) (id of_crate : ℕ) (vers release digest stem : List �
 yank_edit db id of_crate vers release digest stem description yanked = rw (cast_int (pos id), cast_int (pos of_crate), cast_int (cond yanked (pos 1) (pos 0)), cast_null, cast_text description)
 
 pub yanks : (old new : State) (of_crate : ℕ) (release vers : List ℕ) (yanked : Bool) (count : ℕ) → IsInside old
-    → Executes SET_YANKED_TEXT.now (Int (pos of_crate) ∷ Text release ∷ Text vers ∷ mark yanked ∷ []) old new (Ok count) → MarksYanked of_crate release vers yanked old new
+    → Executes SET_YANKED_TEXT.now (Int (pos of_crate) ∷ Text release ∷ Text vers ∷ sql_bool yanked ∷ []) old new (Ok count) → MarksYanked of_crate release vers yanked old new
 yanks old new of_crate release vers yanked count at h =
     let met = yank_matches of_crate release vers yanked in
     record {

@@ -24,13 +24,13 @@ pub use Rattle.reg_tables_schema.proofs.TableMatches.{equals_first, matches_numb
 pub use Rattle.reg_tables_schema.proofs.WholeTables.{all_in_order, one_count}
 pub use Rattle.reg_tables_schema.proofs.Writing.{err_of, writes_as}
 pub use Rattle.reg_tables_schema.specs.Changes.{Adds, AddsColumns, Removes}
-pub use Rattle.reg_tables_schema.specs.Rows.{IsInOrder, by_column, by_columns, mark, number_columns, text_or_null}
+pub use Rattle.reg_tables_schema.specs.Rows.{IsInOrder, by_column, by_columns, sql_bool, number_columns, text_or_null}
 pub use Rattle.reg_tables_schema.specs.Schema.{our_tables, ours}
 pub use Rattle.reg_tables_schema.specs.Shown.{shown_of}
 pub use Rattle.reg_tables_schema.specs.Statements.{IsRowWrite}
 pub use Rattle.reg_tables_schema.specs.States.{IsInside, about_columns}
 pub use Rattle.reg_tables_schema.specs.Tests.{is_number, is_text, is_version, shows}
-pub use Rattle.reg_tables_schema.specs.declared.edition.Edition.TheVariants.{First, Second}
+pub use Rattle.reg_tables_schema.specs.declared.edition.SchemaVersion.TheVariants.{First, Second}
 pub use Rattle.sqlite.proofs.Callers.{IsPlain, command_of, one_permutation}
 pub use Rattle.sqlite.specs.Cast.{cast}
 pub use Rattle.sqlite.specs.Clock.{timed}

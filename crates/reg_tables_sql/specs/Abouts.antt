@@ -4,8 +4,8 @@ use Rattle.sqlite.specs.declared.types.Value.TheVariants.{Int}
 use Rattle.sqlite.specs.Order.{Row}
 use Rattle.sqlite.specs.State.{State}
 use Rattle.sqlite.specs.Tree.{Trees}
-use Rattle.reg_tables_schema.specs.declared.edition.Edition.{Edition}
-use Rattle.reg_tables_schema.specs.declared.edition.Edition.TheVariants.{First, Second}
+use Rattle.reg_tables_schema.specs.declared.edition.SchemaVersion.{SchemaVersion}
+use Rattle.reg_tables_schema.specs.declared.edition.SchemaVersion.TheVariants.{First, Second}
 use Rattle.reg_tables_schema.specs.Changes.{Touches}
 use Rattle.reg_tables_schema.specs.Places.{about_tree}
 use Rattle.reg_tables_schema.specs.States.{about_columns}
@@ -18,7 +18,7 @@ about_places = 1 ∷ 2 ∷ []
 
 -- the rows are the one row that says this, or are not one row that says anything
 abbrev pub IsAbout : List Row → Option About → Type 0
-IsAbout rows None = (e : Edition) (base : List ℕ) → rows ≢ about_columns e base ∷ []
+IsAbout rows None = (e : SchemaVersion) (base : List ℕ) → rows ≢ about_columns e base ∷ []
 IsAbout rows (Some a) = rows ≡ about_columns a.edition (string_bytes a.base) ∷ []
 
 -- this is what the table says
@@ -35,12 +35,12 @@ abbrev pub IsBaseOf : Trees → Option (List ℕ) → Type 0
 IsBaseOf db base = IsBase (map (shows about_places) (db about_tree)) base
 
 -- there is one row of `about`, with the number of this schema
-abbrev pub HasBase : Edition → Trees → Type 0
+abbrev pub HasBase : SchemaVersion → Trees → Type 0
 HasBase e db = (base : List ℕ) × (map (shows about_places) (db about_tree) ≡ about_columns e base
     ∷ [])
 
 -- there is none, or it is not alone, or its number is another
-abbrev pub LacksBase : Edition → Trees → Type 0
+abbrev pub LacksBase : SchemaVersion → Trees → Type 0
 LacksBase e db = (base : List ℕ) → map (shows about_places) (db about_tree) ≢ about_columns e base
     ∷ []
 

@@ -8,7 +8,7 @@ use Rattle.sqlite.specs.Tree.{Trees}
 use Rattle.sqlite_trees.specs.Tree.{has_rowid}
 use Rattle.reg_tables_schema.specs.Changes.{Replaces, Touches}
 use Rattle.reg_tables_schema.specs.Places.{accounts_tree, id_place, login_place}
-use Rattle.reg_tables_schema.specs.Rows.{IsInOrder, by_column, keyed, mark, text_or_null}
+use Rattle.reg_tables_schema.specs.Rows.{IsInOrder, by_column, keyed, sql_bool, text_or_null}
 use Rattle.reg_tables_schema.specs.Shown.{shown_of}
 use Rattle.reg_tables_schema.specs.Tests.{is_text, shows}
 use Rattle.reg_tables_sql.specs.declared.accounts.Account.{Account}
@@ -16,7 +16,8 @@ use Rattle.reg_tables_sql.specs.Updates.{KeepsWhereNone}
 
 -- a row as it stands in its tree
 abbrev pub account_row : ℕ → List ℕ → Option (List ℕ) → Bool → Row
-account_row id login name enabled = keyed id (Text login ∷ text_or_null name ∷ mark enabled ∷ [])
+account_row id login name enabled = keyed id (Text login ∷ text_or_null name ∷ sql_bool enabled
+    ∷ [])
 
 -- the id, the login, the name and the mark, as they are selected
 abbrev pub account_places : List ℕ
@@ -25,7 +26,7 @@ account_places = 0 ∷ 2 ∷ 3 ∷ 4 ∷ []
 abbrev pub account_columns : Account → Row
 account_columns a =
     Int (pos a.id) ∷ Text (string_bytes a.login) ∷ text_or_null (option_map string_bytes a.name)
-    ∷ mark a.enabled ∷ []
+    ∷ sql_bool a.enabled ∷ []
 
 -- these are the accounts, by id
 abbrev pub AreAccounts : Trees → List Account → Type 0

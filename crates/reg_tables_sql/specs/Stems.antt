@@ -4,7 +4,7 @@ use Rattle.sqlite.specs.declared.types.Value.TheVariants.{Blob}
 use Rattle.sqlite.specs.Order.{Row}
 use Rattle.sqlite.specs.Tree.{Trees}
 use Rattle.reg_tables_schema.specs.Places.{id_place, version_crate_place, versions_tree}
-use Rattle.reg_tables_schema.specs.Rows.{IsInOrder, by_column, mark}
+use Rattle.reg_tables_schema.specs.Rows.{IsInOrder, by_column, sql_bool}
 use Rattle.reg_tables_schema.specs.Tests.{is_number, shows}
 use Rattle.reg_tables_sql.specs.declared.versions.StemRow.{StemRow}
 use Rattle.reg_tables_sql.specs.declared.versions.TheConstants.{ENTRIES_TEXT}
@@ -18,7 +18,7 @@ abbrev pub stem_places : List ℕ
 stem_places = 6 ∷ 8 ∷ []
 
 abbrev pub columns_of_stem : StemRow → Row
-columns_of_stem it = Blob it.stem.items ∷ mark it.yanked ∷ []
+columns_of_stem it = Blob it.stem.items ∷ sql_bool it.yanked ∷ []
 
 -- these are the stem and the mark of each version of the crate, by id
 abbrev pub AreStemsOf : ℕ → Trees → List Row → Type 0

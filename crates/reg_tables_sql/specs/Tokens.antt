@@ -11,7 +11,7 @@ use Rattle.sqlite_trees.specs.Tree.{has_rowid}
 use Rattle.reg_names.specs.declared.endpoint.Endpoints.{Endpoints}
 use Rattle.reg_tables_schema.specs.Changes.{Replaces, Touches}
 use Rattle.reg_tables_schema.specs.Places.{accounts_tree, digest_place, id_place, token_account_place, tokens_tree}
-use Rattle.reg_tables_schema.specs.Rows.{IsInOrder, by_column, keyed, mark}
+use Rattle.reg_tables_schema.specs.Rows.{IsInOrder, by_column, keyed, sql_bool}
 use Rattle.reg_tables_schema.specs.Shown.{shown_of}
 use Rattle.reg_tables_schema.specs.Tests.{is_blob, is_number, shows}
 use Rattle.reg_tables_sql.specs.declared.tokens.Token.{Token}
@@ -20,13 +20,14 @@ use Rattle.reg_tables_sql.specs.Updates.{KeepsWhereNone}
 
 -- the marks of the four endpoints
 abbrev pub endpoint_marks : Endpoints → Row
-endpoint_marks e = mark e.publish_new ∷ mark e.publish_update ∷ mark e.yank ∷ mark e.change_owners
+endpoint_marks e = sql_bool e.publish_new ∷ sql_bool e.publish_update ∷ sql_bool e.yank
+    ∷ sql_bool e.change_owners
     ∷ []
 
 -- a row as it stands in its tree
 abbrev pub token_row : ℕ → List ℕ → ℕ → Bool → Endpoints → Row
 token_row id digest account live e =
-    keyed id (Blob digest ∷ Int (pos account) ∷ mark live ∷ endpoint_marks e)
+    keyed id (Blob digest ∷ Int (pos account) ∷ sql_bool live ∷ endpoint_marks e)
 
 -- the id, the digest, the account, the mark and the endpoints, as they are selected
 abbrev pub token_places : List ℕ
@@ -34,7 +35,7 @@ token_places = 0 ∷ 2 ∷ 3 ∷ 4 ∷ 5 ∷ 6 ∷ 7 ∷ 8 ∷ []
 
 abbrev pub columns_of_token : Token → Row
 columns_of_token it =
-    Int (pos it.id) ∷ Blob it.digest.items ∷ Int (pos it.account) ∷ mark it.live
+    Int (pos it.id) ∷ Blob it.digest.items ∷ Int (pos it.account) ∷ sql_bool it.live
     ∷ endpoint_marks it.endpoints
 
 -- these are the tokens, by id
@@ -51,10 +52,10 @@ IsTokenWithId id db found =
 -- a token without its digest, with the login and the mark of its account
 abbrev pub columns_with_account : TokenRow → Row
 columns_with_account it =
-    Int (pos it.id) ∷ Int (pos it.account) ∷ mark it.live
-    ∷ mark it.endpoints.publish_new ∷ mark it.endpoints.publish_update
-    ∷ mark it.endpoints.yank ∷ mark it.endpoints.change_owners
-    ∷ Text (string_bytes it.login) ∷ mark it.enabled ∷ []
+    Int (pos it.id) ∷ Int (pos it.account) ∷ sql_bool it.live
+    ∷ sql_bool it.endpoints.publish_new ∷ sql_bool it.endpoints.publish_update
+    ∷ sql_bool it.endpoints.yank ∷ sql_bool it.endpoints.change_owners
+    ∷ Text (string_bytes it.login) ∷ sql_bool it.enabled ∷ []
 
 -- the account is that of the token, as SQL compares values
 abbrev pub is_of_token : Row → Row → Bool

@@ -5,7 +5,7 @@ use Rattle.sqlite.specs.Order.{Row, column}
 use Rattle.sqlite.specs.Tree.{Trees}
 use Rattle.sqlite_sql.specs.Text.{length_of}
 use Rattle.reg_tables_schema.specs.Places.{id_place, version_crate_place, versions_tree}
-use Rattle.reg_tables_schema.specs.Rows.{IsInOrder, by_column, mark}
+use Rattle.reg_tables_schema.specs.Rows.{IsInOrder, by_column, sql_bool}
 use Rattle.reg_tables_schema.specs.Shown.{shown_of}
 use Rattle.reg_tables_schema.specs.Tests.{is_number, is_version}
 use Rattle.reg_tables_sql.specs.declared.versions.VersionMark.{VersionMark}
@@ -17,7 +17,8 @@ shows_mark row =
 
 abbrev pub columns_of_mark : VersionMark → Row
 columns_of_mark it =
-    Int (pos it.id) ∷ Text (string_bytes it.vers) ∷ Int (pos it.stem_length) ∷ mark it.yanked ∷ []
+    Int (pos it.id) ∷ Text (string_bytes it.vers) ∷ Int (pos it.stem_length) ∷ sql_bool it.yanked
+    ∷ []
 
 -- these are the versions of the crate, by id
 abbrev pub AreMarksOf : ℕ → Trees → List VersionMark → Type 0

@@ -7,7 +7,7 @@ use Rattle.sqlite.specs.Order.{Row}
 use Rattle.sqlite.specs.declared.types.Value.TheVariants.{Int, Text, Blob}
 use Rattle.reg_tables_schema.specs.Changes.{Replaces, Touches}
 use Rattle.reg_tables_schema.specs.Places.{id_place, version_crate_place, versions_tree}
-use Rattle.reg_tables_schema.specs.Rows.{IsInOrder, by_column, keyed, mark, text_or_null}
+use Rattle.reg_tables_schema.specs.Rows.{IsInOrder, by_column, keyed, sql_bool, text_or_null}
 use Rattle.reg_tables_schema.specs.Tests.{is_number, is_version, shows}
 use Rattle.reg_tables_sql.specs.declared.versions.Version.{Version}
 use Rattle.reg_tables_sql.specs.declared.versions.VersionRow.{VersionRow}
@@ -18,7 +18,7 @@ abbrev pub version_row : ℕ → ℕ → List ℕ → List ℕ → List ℕ → 
 version_row id of_crate vers release digest stem description yanked =
     keyed id
     (Int (pos of_crate) ∷ Text vers ∷ Text release ∷ Blob digest ∷ Blob stem
-    ∷ text_or_null description ∷ mark yanked ∷ [])
+    ∷ text_or_null description ∷ sql_bool yanked ∷ [])
 
 -- the row that is added
 abbrev pub row_added : VersionRow → Row
@@ -34,7 +34,7 @@ abbrev pub columns_of_version : Version → Row
 columns_of_version it =
     Int (pos it.id) ∷ Int (pos it.crate_id) ∷ Text (string_bytes it.vers)
     ∷ Text (string_bytes it.release) ∷ Blob it.digest.items ∷ Blob it.stem.items
-    ∷ text_or_null (option_map string_bytes it.description) ∷ mark it.yanked ∷ []
+    ∷ text_or_null (option_map string_bytes it.description) ∷ sql_bool it.yanked ∷ []
 
 -- these are the versions of the crate, by id
 abbrev pub AreVersionsOf : ℕ → Trees → List Version → Type 0

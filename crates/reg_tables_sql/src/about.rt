@@ -12,13 +12,13 @@ ghost use Rattle.reg_tables_sql.specs.Abouts.{BecomesSecond, IsAbout, IsAboutOf,
 ghost use Rattle.reg_tables_sql.specs.Answers.{Finds};
 
 use crate::statements::{Result, rows_of, select_only, write};
-use reg_tables_schema::Edition;
+use reg_tables_schema::SchemaVersion;
 use sqlite::{Alter, Connection, Row, params};
 
 /// What the one row says: the schema of the tables, and the base of the registry.
 #[derive(Debug, Drop)]
 pub struct About {
-    pub edition: Edition,
+    pub edition: SchemaVersion,
     pub base: String,
 }
 
@@ -29,8 +29,8 @@ fn about_of(rows: &[Row]) -> Result<Option<About>>
         return Ok(None);
     }
     let edition = match rows[0].get::<i64>(0)? {
-        1 => Edition::First,
-        2 => Edition::Second,
+        1 => SchemaVersion::First,
+        2 => SchemaVersion::Second,
         _ => return Ok(None),
     };
     let base = rows[0].get(1)?;
@@ -41,7 +41,7 @@ const READ_TEXT: &str = "SELECT schema, base FROM about";
 
 /// What the row says; none if it is not alone, or its number belongs to no schema of ours.
 pub fn read<S: Alter>(conn: &mut Connection<S>) -> Result<Option<About>>
-    requires { (e : Edition) × IsReadyOf e (state S.Store conn.old) }
+    requires { (e : SchemaVersion) × IsReadyOf e (state S.Store conn.old) }
     ensures { Finds S.Store conn.old conn.new result IsAboutOf }
 {
     let rows = rows_of(conn, READ_TEXT, &[])?;
@@ -53,8 +53,8 @@ fn second_base(about: Option<About>) -> Option<String>
 {
     let About { edition, base } = about?;
     match edition {
-        Edition::First => None,
-        Edition::Second => Some(base),
+        SchemaVersion::First => None,
+        SchemaVersion::Second => Some(base),
     }
 }
 

@@ -5,7 +5,7 @@ ghost use Rattle.sqlite.specs.Held.{state};
 ghost use Rattle.sqlite.specs.Order.{column};
 ghost use Rattle.reg_tables_schema.specs.Changes.{Adds};
 ghost use Rattle.reg_tables_schema.specs.Places.{tokens_tree};
-ghost use Rattle.reg_tables_schema.specs.Rows.{mark};
+ghost use Rattle.reg_tables_schema.specs.Rows.{sql_bool};
 ghost use Rattle.reg_tables_schema.specs.States.{IsReady};
 ghost use Rattle.reg_tables_schema.specs.Statements.{Writes};
 ghost use Rattle.reg_tables_sql.specs.Answers.{Finds, Lists};
@@ -42,10 +42,11 @@ pub struct TokenRow {
 /// The endpoints: four marks from this place on.
 pub(crate) fn endpoints_of(row: &Row, at: usize) -> Result<Endpoints>
     requires { at < 9 }
-    ensures publish_new { IfOk result (λ e. column row.now at ≡ mark e.publish_new) }
-    ensures publish_update { IfOk result (λ e. column row.now (at + 1) ≡ mark e.publish_update) }
-    ensures yank { IfOk result (λ e. column row.now (at + 2) ≡ mark e.yank) }
-    ensures change_owners { IfOk result (λ e. column row.now (at + 3) ≡ mark e.change_owners) }
+    ensures publish_new { IfOk result (λ e. column row.now at ≡ sql_bool e.publish_new) }
+    ensures publish_update { IfOk result (λ e. column row.now (at + 1)
+        ≡ sql_bool e.publish_update) }
+    ensures yank { IfOk result (λ e. column row.now (at + 2) ≡ sql_bool e.yank) }
+    ensures change_owners { IfOk result (λ e. column row.now (at + 3) ≡ sql_bool e.change_owners) }
 {
     Ok(Endpoints {
         publish_new: mark_of(row, at)?,

@@ -6,7 +6,7 @@ ghost use Rattle.sqlite.specs.Order.{column};
 ghost use Rattle.sqlite.specs.declared.types.Value.TheVariants.{Int};
 ghost use Rattle.reg_tables_schema.specs.Changes.{Adds};
 ghost use Rattle.reg_tables_schema.specs.Places.{version_crate_place, versions_tree};
-ghost use Rattle.reg_tables_schema.specs.Rows.{mark};
+ghost use Rattle.reg_tables_schema.specs.Rows.{sql_bool};
 ghost use Rattle.reg_tables_schema.specs.States.{IsReady};
 ghost use Rattle.reg_tables_schema.specs.Statements.{Writes};
 ghost use Rattle.reg_tables_sql.specs.Answers.{Finds, Lists};
@@ -47,7 +47,7 @@ impl FromRow for Version {
 fn with_texts(row: &Row, id: u64, crate_id: u32, yanked: bool) -> Result<Version>
     ensures { IfOk result (λ it. columns_of_version it ≡ Int (pos id) ∷ Int (pos crate_id)
         ∷ column row.now 2 ∷ column row.now 3 ∷ column row.now 4 ∷ column row.now 5
-        ∷ column row.now 6 ∷ mark yanked ∷ []) }
+        ∷ column row.now 6 ∷ sql_bool yanked ∷ []) }
 {
     Ok(Version {
         id,

@@ -34,8 +34,8 @@ fn run(rt: &HostRuntime) -> Exit {
 
 fn main(rt: HostRuntime) -> ExitCode {
     let exit = run(&rt);
-    if !exit.words.is_empty() {
-        let _ = eprintln!(&rt; "{}", exit.words);
+    if !exit.message.is_empty() {
+        let _ = eprintln!(&rt; "{}", exit.message);
     }
     ExitCode::from(exit.status)
 }

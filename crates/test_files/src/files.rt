@@ -71,13 +71,13 @@ pub fn image_of(alloc: Global, files: &Files<Stopping>) -> Result<Image, AllocEr
 }
 
 /// Whether the file has no call left.
-fn has_stopped(file: &mut Stopping) -> bool {
+fn is_stopped(file: &mut Stopping) -> bool {
     !file.may_be_used() || file.len().is_err()
 }
 
 /// Whether one of them has no call left.
 pub fn have_stopped(files: &mut Files<Stopping>) -> bool {
-    has_stopped(&mut files.log) || has_stopped(&mut files.db)
+    is_stopped(&mut files.log) || is_stopped(&mut files.db)
 }
 
 /// The files as a machine finds them again after it stopped.

@@ -2,7 +2,7 @@
 
 use reg_body::{Counted, Limits};
 use reg_cli_line::Exit;
-use reg_cli_pipe::run_pipe;
+use reg_cli_run::run_pipe;
 use reg_service::Registry;
 use sqlite::Connection;
 use std::alloc::{AllocError, Global};
@@ -42,7 +42,7 @@ fn serves_nothing(alloc: Global, lines: &str, status: u8, words: &str) -> Result
     let setup = format!(in alloc; "{ADA}{lines}")?;
     Ok(match piped(alloc, &setup, ASKED.as_bytes()) {
         Some((exit, written)) => {
-            exit.status == status && exit.words == words && written.is_empty()
+            exit.status == status && exit.message == words && written.is_empty()
         }
         None => false,
     })

@@ -4,12 +4,10 @@
 //! that it wrote. Behind the arrow is how a second run goes, with ample memory, which asks for
 //! what the first one did: each thing that was answered as done, and nothing else.
 
-ghost use Rattle.reg_service.specs.Registries.{IsUpToDate};
-
 use crate::piping::REPLIED;
 use reg_body::{Counted, Limits};
 use reg_cli_line::Exit;
-use reg_cli_pipe::run_pipe;
+use reg_cli_run::run_pipe;
 use reg_service::Registry;
 use sqlite::{Alter, Connection};
 use std::alloc::{AllocError, Global};
@@ -98,7 +96,7 @@ fn first_reply(written: &[u8]) -> Option<(&'static str, &[u8])> {
 
 /// How a run went: how it ended, and the names of the replies that it wrote.
 fn told(alloc: Global, exit: Exit, written: &[u8]) -> Result<String, AllocError> {
-    let mut text = format!(in alloc; "{} {}:", exit.status, exit.words)?;
+    let mut text = format!(in alloc; "{} {}:", exit.status, exit.message)?;
     let mut rest = written;
     for _ in 0..10 {
         if rest.is_empty() {
@@ -119,10 +117,7 @@ fn run<S: Alter>(
     setup: &str,
     stream: &str,
     taken: Vec<u8>,
-) -> (Exit, Vec<u8>)
-    requires { IsUpToDate S.Store registry.old }
-    ensures { IsUpToDate S.Store registry.new }
-{
+) -> (Exit, Vec<u8>) {
     let _turns = registry.limits().turns;
     let mut reader = Counted::new(stream.as_bytes());
     let mut writer = Counted::new(taken);
@@ -135,10 +130,7 @@ fn run_scarcely<S: Alter>(
     alloc: Global,
     registry: &mut Registry<S>,
     size: u32,
-) -> Result<String, AllocError>
-    requires { IsUpToDate S.Store registry.old }
-    ensures { IsUpToDate S.Store registry.new }
-{
+) -> Result<String, AllocError> {
     let taken = Vec::with_capacity(alloc, 1_000)?;
     let mut amounts = Amounts::new(alloc, 1, size)?;
     if !amounts.advance(alloc) {
@@ -154,10 +146,7 @@ fn runs<S: Alter>(
     alloc: Global,
     registry: &mut Registry<S>,
     size: u32,
-) -> Result<String, AllocError>
-    requires { IsUpToDate S.Store registry.old }
-    ensures { IsUpToDate S.Store registry.new }
-{
+) -> Result<String, AllocError> {
     let (_, _) = run(alloc, registry, TWO_ACCOUNTS, "", Vec::new(alloc));
     let first = run_scarcely(alloc, registry, size)?;
     let (exit, written) = run(alloc, registry, "", SECOND, Vec::new(alloc));

@@ -1,10 +1,8 @@
 //! Setups and streams with their trail: each kind of line, and a trail that fails.
 
-ghost use Rattle.reg_service.specs.Registries.{IsUpToDate};
-
 use reg_body::{Counted, Limits};
 use reg_cli_line::Exit;
-use reg_cli_pipe::pipe_traced;
+use reg_cli_run::pipe_traced;
 use reg_http::Trail;
 use reg_service::Registry;
 use sqlite::{Alter, Connection};
@@ -116,10 +114,7 @@ fn run<S: Alter>(
     stream: &[u8],
     written: Vec<u8>,
     trail: &mut Trail<Sink>,
-) -> (Exit, Vec<u8>)
-    requires { IsUpToDate S.Store registry.old }
-    ensures { IsUpToDate S.Store registry.new }
-{
+) -> (Exit, Vec<u8>) {
     let _turns = registry.limits().turns;
     let mut reader = Counted::new(stream);
     let mut writer = Counted::new(written);

@@ -19,7 +19,7 @@ pub(super) fn words_of(alloc: Global, line: &str, file: &str) -> Result<Vec<Stri
 /// How a run ends.
 pub(super) fn ending(rt: &HostRuntime, line: &str, file: &str) -> Result<String, AllocError> {
     let exit = run_words(rt, &words_of(rt.alloc(), line, file)?);
-    let (status, words) = (exit.status, exit.words);
+    let (status, words) = (exit.status, exit.message);
     if words.is_empty() {
         return format!(in rt.alloc(); "{status}");
     }

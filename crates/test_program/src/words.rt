@@ -27,7 +27,7 @@ fn bad_words_and_help(rt: HostRuntime) -> Result<(), Fail> {
         let list = texts(alloc, words)?;
         let exit = run_words(&rt, list.as_slice());
         assert_eq!(rt; exit.status, status);
-        assert!(rt; exit.words.is_empty());
+        assert!(rt; exit.message.is_empty());
     }
     Ok(())
 }

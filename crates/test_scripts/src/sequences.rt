@@ -2,12 +2,11 @@
 
 ghost use Rattle.std.specs.Prelude.{IfOk};
 ghost use Rattle.std.specs.List.{AllByRecursion};
-ghost use Rattle.reg_service.specs.Registries.{IsUpToDate};
 ghost use Rattle.reg_service.specs.Sequences.{IsFitCall};
 
 use crate::calls::Parts;
 use crate::replies::told_text;
-use reg_service::{Call, Registry, Told, answer_all};
+use reg_service::{Call, Registry, Response, answer_all};
 use sqlite::Alter;
 use std::alloc::{AllocError, Global};
 
@@ -38,7 +37,7 @@ fn calls_of<'p>(alloc: Global, parts: &'p [Parts<'_>]) -> Result<Vec<Call<'p>>, 
 }
 
 /// A line for each answer.
-fn told_lines(alloc: Global, told: &[Told]) -> Result<String, AllocError> {
+fn told_lines(alloc: Global, told: &[Response]) -> Result<String, AllocError> {
     let mut lines = String::new(alloc);
     for told in told {
         lines.push_str(&told_text(alloc, told)?)?;
@@ -61,9 +60,7 @@ pub fn told_otherwise<S: Alter>(
     alloc: Global,
     registry: &mut Registry<S>,
     lines: &str,
-) -> Result<Option<String>, AllocError>
-    requires { IsUpToDate S.Store registry.old }
-{
+) -> Result<Option<String>, AllocError> {
     let parts = parts_of(alloc, lines)?;
     let told = answer_all(alloc, registry, &calls_of(alloc, &parts)?)?;
     let found = told_lines(alloc, &told)?;

@@ -1,13 +1,12 @@
 //! Lines of scripts that an open registry answers, as texts.
 
 ghost use Rattle.std.specs.Prelude.{◌+◌, ◌^◌, ◌<◌};
-ghost use Rattle.reg_service.specs.Registries.{IsUpToDate};
 
 use crate::calls::{Parts, answer};
 use crate::replies::{body_text, told_text};
 use reg_api_replies::write_reply;
 use reg_body::Counted;
-use reg_service::{Answered, ApiCall, ApiRequest, Check, Registry, Told};
+use reg_service::{Answered, ApiCall, ApiRequest, Check, Registry, Response};
 use sqlite::Alter;
 use std::alloc::{AllocError, Global};
 use test_files::leave_only;
@@ -46,7 +45,7 @@ enum Answer {
     Checked(Option<Check>),
     /// Whether a reply was sent whole, and what was sent.
     Sent(bool, Vec<u8>),
-    Told(Told),
+    Told(Response),
     /// The store was refused, or memory.
     Refused,
     NoSuchWords,
@@ -59,11 +58,9 @@ pub fn send_answer<S: Alter>(
     request: &ApiRequest<'_>,
     writer: &mut Counted<Vec<u8>>,
 ) -> bool
-    requires tables { IsUpToDate S.Store registry.old }
     requires room { writer.old.calls + MOST_WRITES < 2 ^ 64 }
-    ensures { IsUpToDate S.Store registry.new }
 {
-    match registry.act(alloc, request, false) {
+    match registry.handle_traced(alloc, request, false) {
         Answered::Replied(acted) => {
             write_reply(writer, &acted.reply, false, false, MOST_WRITES).is_ok()
         }
@@ -74,10 +71,7 @@ pub fn send_answer<S: Alter>(
 }
 
 /// What is sent to a request for an index file.
-fn sent<S: Alter>(alloc: Global, registry: &mut Registry<S>, request: &ApiRequest<'_>) -> Answer
-    requires { IsUpToDate S.Store registry.old }
-    ensures { IsUpToDate S.Store registry.new }
-{
+fn sent<S: Alter>(alloc: Global, registry: &mut Registry<S>, request: &ApiRequest<'_>) -> Answer {
     let ApiCall::Index(_) = &request.call else {
         return Answer::NoSuchWords;
     };
@@ -86,40 +80,28 @@ fn sent<S: Alter>(alloc: Global, registry: &mut Registry<S>, request: &ApiReques
     Answer::Sent(is_whole, writer.into_inner())
 }
 
-fn exported<S: Alter>(alloc: Global, registry: &mut Registry<S>) -> Answer
-    requires { IsUpToDate S.Store registry.old }
-    ensures { IsUpToDate S.Store registry.new }
-{
+fn exported<S: Alter>(alloc: Global, registry: &mut Registry<S>) -> Answer {
     match registry.export(alloc) {
         Ok(files) => Answer::Files(files),
         Err(_) => Answer::Refused,
     }
 }
 
-fn audited<S: Alter>(alloc: Global, registry: &mut Registry<S>) -> Answer
-    requires { IsUpToDate S.Store registry.old }
-    ensures { IsUpToDate S.Store registry.new }
-{
+fn audited<S: Alter>(alloc: Global, registry: &mut Registry<S>) -> Answer {
     match registry.audit(alloc) {
         Ok(check) => Answer::Checked(check),
         Err(_) => Answer::Refused,
     }
 }
 
-fn called<S: Alter>(alloc: Global, registry: &mut Registry<S>, parts: &Parts<'_>) -> Answer
-    requires { IsUpToDate S.Store registry.old }
-    ensures { IsUpToDate S.Store registry.new }
-{
+fn called<S: Alter>(alloc: Global, registry: &mut Registry<S>, parts: &Parts<'_>) -> Answer {
     match answer(alloc, registry, parts) {
         Some(told) => Answer::Told(told),
         None => Answer::NoSuchWords,
     }
 }
 
-fn performed<S: Alter>(alloc: Global, registry: &mut Registry<S>, task: &Task<'_>) -> Answer
-    requires { IsUpToDate S.Store registry.old }
-    ensures { IsUpToDate S.Store registry.new }
-{
+fn performed<S: Alter>(alloc: Global, registry: &mut Registry<S>, task: &Task<'_>) -> Answer {
     match task {
         Task::Export => exported(alloc, registry),
         Task::Audit => audited(alloc, registry),
@@ -171,10 +153,7 @@ pub(crate) fn answered<S: Alter>(
     registry: &mut Registry<S>,
     line: &str,
     amount: Option<u32>,
-) -> Result<String, AllocError>
-    requires { IsUpToDate S.Store registry.old }
-    ensures { IsUpToDate S.Store registry.new }
-{
+) -> Result<String, AllocError> {
     let task = read_task(alloc, line)?;
     let memory = leave_only(alloc, amount)?;
     let found = performed(alloc, registry, &task);

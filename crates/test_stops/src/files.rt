@@ -90,7 +90,7 @@ fn seen_after(
     seen_in(alloc, files)
 }
 
-/// Files, as they are found after a stop.
+/// Files, as they are found after a crash.
 fn prepared_of(alloc: Global, mut files: Files<Stopping>) -> Result<Prepared, Fault> {
     revive(&mut files);
     let image = image_of(alloc, &files)?;

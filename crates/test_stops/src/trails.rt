@@ -1,14 +1,12 @@
 //! Changes and their trail, where a file stops at each of its calls: what is found again holds
 //! each change that was told, and one more at most.
 
-ghost use Rattle.reg_service.specs.Registries.{IsUpToDate};
-
 use crate::fault::Fault;
 use crate::files::prepare;
 use reg_body::Limits;
 use reg_http::Trail;
 use reg_policy::{AdminCommand, AdminReply};
-use reg_service::{OrderTold, Registry};
+use reg_service::{Registry, TracedOrder};
 use sqlite::{Alter, Connection, Files};
 use std::alloc::Global;
 use test_files::{
@@ -26,19 +24,14 @@ fn add_account<S: Alter>(
     registry: &mut Registry<S>,
     login: &str,
     trail: &mut Trail<Vec<u8>>,
-)
-    requires { IsUpToDate S.Store registry.old }
-    ensures { IsUpToDate S.Store registry.new }
-{
+) {
     let command = AdminCommand::UserAdd(login, None);
-    let OrderTold { answer: _, line } = registry.order(alloc, &command, true);
+    let TracedOrder { answer: _, line } = registry.command_traced(alloc, &command, true);
     trail.tell(line);
 }
 
 /// The trail of three accounts that are added.
-fn trail_of<S: Alter>(alloc: Global, registry: &mut Registry<S>) -> Vec<u8>
-    requires { IsUpToDate S.Store registry.old }
-{
+fn trail_of<S: Alter>(alloc: Global, registry: &mut Registry<S>) -> Vec<u8> {
     let mut trail = Trail::new(Vec::new(alloc), u64::MAX);
     add_account(alloc, registry, "ada", &mut trail);
     add_account(alloc, registry, "bob", &mut trail);
@@ -94,9 +87,7 @@ impl Job for CountAccounts {
     }
 }
 
-fn accounts_of<S: Alter>(alloc: Global, registry: &mut Registry<S>) -> Option<usize>
-    requires { IsUpToDate S.Store registry.old }
-{
+fn accounts_of<S: Alter>(alloc: Global, registry: &mut Registry<S>) -> Option<usize> {
     match registry.command(alloc, &AdminCommand::Users) {
         Ok(AdminReply::Text(text)) => Some(text.lines().count()),
         _ => None,

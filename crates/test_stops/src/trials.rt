@@ -58,7 +58,7 @@ pub(crate) fn is_no_room(answer: &str, whole: &str) -> bool {
 }
 
 /// Whether nothing was answered after a task that was refused.
-fn is_shut(later: &str, refusal: &str) -> bool {
+fn is_stopped(later: &str, refusal: &str) -> bool {
     match later.strip_prefix(SHUT) {
         Some(task) => task.trim_end().ends_with(refusal),
         None => later.is_empty(),
@@ -82,7 +82,7 @@ fn came_refused(trial: &Trial<'_>, found: &Outcome, refusal: &str) -> Came {
         return came_undone(trial, found);
     }
     let lines = found.played.lines.as_str();
-    if is_shut(lines, refusal) {
+    if is_stopped(lines, refusal) {
         came_undone(trial, found)
     } else if lines != trial.later.undone {
         Came::Broken("another answer afterwards")

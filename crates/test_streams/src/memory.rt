@@ -1,7 +1,5 @@
 //! A stream with each amount of memory.
 
-ghost use Rattle.reg_service.specs.Registries.{IsUpToDate};
-
 use crate::playing::serve;
 use crate::script::play;
 use crate::stream::Stream;
@@ -71,10 +69,7 @@ fn tally_of<S: Alter>(
     alloc: Global,
     registry: &mut Registry<S>,
     stream: &Stream,
-) -> Result<Tally, AllocError>
-    requires { IsUpToDate S.Store registry.old }
-    ensures { IsUpToDate S.Store registry.new }
-{
+) -> Result<Tally, AllocError> {
     let mut tally = Tally {
         read: 0,
         otherwise: 0,
@@ -98,10 +93,7 @@ pub(crate) fn amounts_fault<S: Alter>(
     alloc: Global,
     registry: &mut Registry<S>,
     stream: &Stream,
-) -> Result<Option<String>, AllocError>
-    requires { IsUpToDate S.Store registry.old }
-    ensures { IsUpToDate S.Store registry.new }
-{
+) -> Result<Option<String>, AllocError> {
     let Tally { read, otherwise } = tally_of(alloc, registry, stream)?;
     if otherwise == 0 && read > 0 {
         return Ok(None);

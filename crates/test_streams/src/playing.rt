@@ -1,7 +1,5 @@
 //! A stream is served, and compared with what a script says.
 
-ghost use Rattle.reg_service.specs.Registries.{IsUpToDate};
-
 use crate::ends::{Ends, Sink, Source};
 use crate::stream::Stream;
 use crate::trials::{Each, Trial, tried_at};
@@ -18,10 +16,7 @@ pub(crate) fn serve<S: Alter>(
     asked: &[u8],
     ends: &Ends,
     taken: Vec<u8>,
-) -> (Result<u64, StreamFault>, Vec<u8>)
-    requires { IsUpToDate S.Store registry.old }
-    ensures { IsUpToDate S.Store registry.new }
-{
+) -> (Result<u64, StreamFault>, Vec<u8>) {
     let _turns = registry.limits().turns;
     let mut reader = Counted::new(Source::new(asked, ends));
     let mut writer = Counted::new(Sink::new(taken, ends));
@@ -54,10 +49,7 @@ pub(crate) fn stream_fault<S: Alter>(
     registry: &mut Registry<S>,
     stream: &Stream,
     answer: &str,
-) -> Result<Option<String>, AllocError>
-    requires { IsUpToDate S.Store registry.old }
-    ensures { IsUpToDate S.Store registry.new }
-{
+) -> Result<Option<String>, AllocError> {
     let room = Vec::new(alloc);
     let (found, taken) = serve(alloc, registry, &stream.asked, &stream.ends, room);
     let said = answer_text(alloc, &found)?;
@@ -73,10 +65,7 @@ fn trial_fault<S: Alter>(
     registry: &mut Registry<S>,
     stream: &Stream,
     trial: &Trial,
-) -> Result<Option<String>, AllocError>
-    requires { IsUpToDate S.Store registry.old }
-    ensures { IsUpToDate S.Store registry.new }
-{
+) -> Result<Option<String>, AllocError> {
     let (asked, _) = stream.asked.split_at(trial.asked.min(stream.asked.len()));
     let (told, _) = stream.told.split_at(trial.told.min(stream.told.len()));
     let (found, taken) = serve(alloc, registry, asked, &trial.ends, Vec::new(alloc));
@@ -92,10 +81,7 @@ pub(crate) fn each_fault<S: Alter>(
     registry: &mut Registry<S>,
     stream: &Stream,
     each: Each,
-) -> Result<Option<String>, AllocError>
-    requires { IsUpToDate S.Store registry.old }
-    ensures { IsUpToDate S.Store registry.new }
-{
+) -> Result<Option<String>, AllocError> {
     let places = stream.asked.len().max(stream.told.len()).saturating_add(2);
     for place in 0..places {
         let tried = tried_at(stream, each, place);

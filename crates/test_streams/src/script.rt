@@ -17,8 +17,6 @@
 //! without either is a fault.
 //! What is indented by four spaces goes on with the line above.
 
-ghost use Rattle.reg_service.specs.Registries.{IsUpToDate};
-
 use crate::ends::Ends;
 use crate::memory::amounts_fault;
 use crate::playing::{each_fault, stream_fault};
@@ -36,10 +34,7 @@ fn call_fault<S: Alter>(
     alloc: Global,
     registry: &mut Registry<S>,
     line: &str,
-) -> Result<Option<String>, AllocError>
-    requires { IsUpToDate S.Store registry.old }
-    ensures { IsUpToDate S.Store registry.new }
-{
+) -> Result<Option<String>, AllocError> {
     let (call, want) = line.split_once(" -> ").unwrap_or((line, "no arrow"));
     let parts = Parts::read(alloc, call)?;
     let Some(told) = answer(alloc, registry, &parts) else {
@@ -67,10 +62,7 @@ fn fault_of<S: Alter>(
     registry: &mut Registry<S>,
     stream: &mut Stream,
     line: &str,
-) -> Result<Option<String>, AllocError>
-    requires { IsUpToDate S.Store registry.old }
-    ensures { IsUpToDate S.Store registry.new }
-{
+) -> Result<Option<String>, AllocError> {
     if stream.waits && is_stream(line) {
         return never_served(alloc);
     }
@@ -97,10 +89,7 @@ fn first_fault<S: Alter>(
     alloc: Global,
     registry: &mut Registry<S>,
     lines: &str,
-) -> Result<Option<String>, AllocError>
-    requires { IsUpToDate S.Store registry.old }
-    ensures { IsUpToDate S.Store registry.new }
-{
+) -> Result<Option<String>, AllocError> {
     let mut stream = Stream::new(alloc, Ends::WHOLE);
     let mut number = 0u32;
     for line in lines.lines() {

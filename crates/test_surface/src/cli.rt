@@ -2,7 +2,7 @@
 
 ghost use Rattle.std.specs.Prelude.{◌+◌, ◌^◌, ◌<◌};
 ghost use Rattle.sqlite.specs.Steps.{over_memory};
-ghost use Rattle.reg_service.specs.Registries.{IsUpToDate, limits_of};
+ghost use Rattle.reg_service.specs.Registries.{limits_of};
 
 use reg_body::{Counted, Limits};
 use reg_cli::Exit;
@@ -14,7 +14,7 @@ use std::fs::File;
 
 const _: Exit = Exit {
     status: 0u8,
-    words: "",
+    message: "",
 };
 
 const _: fn(&HostRuntime, &[String]) -> Exit = reg_cli::run_words;
@@ -33,7 +33,6 @@ fn run_pipe(
     reader: &mut Counted<File>,
     writer: &mut Counted<Vec<u8>>,
 ) -> Exit
-    requires tables { IsUpToDate over_memory registry.old }
     requires reads { reader.old.calls + (limits_of registry.old).turns < 2 ^ 64 }
     requires writes { writer.old.calls + (limits_of registry.old).turns < 2 ^ 64 }
 {
@@ -48,7 +47,6 @@ fn pipe_traced(
     writer: &mut Counted<Vec<u8>>,
     trail: &mut Trail<File>,
 ) -> Exit
-    requires tables { IsUpToDate over_memory registry.old }
     requires reads { reader.old.calls + (limits_of registry.old).turns < 2 ^ 64 }
     requires writes { writer.old.calls + (limits_of registry.old).turns < 2 ^ 64 }
 {

@@ -6,7 +6,7 @@ use reg_policy::{
     Action, AdminCommand, AdminRefusal, AdminReply, Answer, Asked, Decision, Endpoint, Endpoints,
     Event, NewPublication, OwnerEntry, OwnerRow, Reading, Rows, Rule, TokenFacts,
 };
-use reg_policy_plain::PlainRegistry;
+use reg_reference::PlainRegistry;
 use std::alloc::Global;
 
 const _: [Endpoint; 4] = [
@@ -16,15 +16,13 @@ const _: [Endpoint; 4] = [
     Endpoint::ChangeOwners,
 ];
 
-const _: [Action<'static>; 8] = [
+const _: [Action<'static>; 6] = [
     Action::Read,
     Action::Index(""),
     Action::Download("", ""),
     Action::ListOwners(""),
     Action::Yank("", ""),
     Action::Unyank("", ""),
-    Action::AddOwners("", &[""]),
-    Action::RemoveOwners("", &[""]),
 ];
 
 const _: [Decision; 2] = [Decision::Allowed, Decision::Denied(Rule::A1)];
@@ -120,7 +118,7 @@ const _: [AdminReply; 2] = [AdminReply::Done, AdminReply::Id(0)];
 const _: fn(String) -> AdminReply = AdminReply::Text;
 
 const _: [Event<'static>; 4] = [
-    Event::Ask(None, Asked::Faulty(Rule::B1)),
+    Event::Ask(None, Asked::Malformed(Rule::B1)),
     Event::Ask(Some(&[0; 32]), Asked::Read(Reading::Config)),
     Event::Ask(Some(&[0; 32]), Asked::Read(Reading::Search("", 0u32))),
     Event::Order(AdminCommand::Users),
@@ -182,12 +180,14 @@ fn call_methods(
         known: &[false],
         limits: &Limits::STANDARD,
     };
+    let _ = Action::AddOwners("", &[]);
+    let _ = Action::RemoveOwners("", &[]);
     let _ = Asked::Publish(NewPublication {
-        name,
-        version: "",
-        description: Some(""),
-        stem: b"",
-        digest: &[0u8; 32],
+        name: name.copy(),
+        version: String::new(alloc),
+        description: Some(String::new(alloc)),
+        stem: Vec::<u8>::new(alloc),
+        digest: [0u8; 32],
         archive: b"",
     });
     let _: PlainRegistry = PlainRegistry::new(alloc, Limits::STANDARD);

@@ -3,15 +3,14 @@
 ghost use Rattle.std.specs.Prelude.{◌≡◌, ◌+◌, ◌^◌, ◌<◌, false};
 ghost use Rattle.sqlite.specs.Held.{state};
 ghost use Rattle.sqlite.specs.Steps.{over_memory};
-ghost use Rattle.reg_service.specs.Registries.{IsUpToDate};
 
 use http::StatusCode;
 use reg_api_replies::FixedText;
 use reg_body::{Counted, Limits};
 use reg_policy::{AdminCommand, AdminRefusal, AdminReply, Rule};
 use reg_service::{
-    Acted, Answered, ApiCall, ApiRequest, Check, FoundFile, IndexFault, Kind, Methods, OpenFault,
-    OrderTold, Registry, Reply,
+    Answered, ApiCall, ApiRequest, Check, FoundFile, IndexFault, Kind, Methods, OpenFault,
+    Registry, Reply, TracedOrder, TracedReply,
 };
 use reg_tables::StoreFault;
 use sqlite::{Connection, MemStore};
@@ -27,7 +26,7 @@ const _: [OpenFault; 4] = [
 
 const _: [IndexFault; 3] = [IndexFault::Write, IndexFault::Spent, IndexFault::Store];
 
-const _: fn(Acted) -> Answered = Answered::Replied;
+const _: fn(TracedReply) -> Answered = Answered::Replied;
 
 const _: fn(FoundFile) -> Answered = Answered::Found;
 
@@ -94,7 +93,6 @@ fn stream_index(
     writer: &mut Counted<Vec<u8>>,
     writes: u64,
 ) -> Result<u64, IndexFault>
-    requires tables { IsUpToDate over_memory registry.old }
     requires room { writer.old.calls + writes < 2 ^ 64 }
 {
     Registry::stream_index(registry, file, close, writer, writes)
@@ -112,12 +110,12 @@ fn call_methods(
 ) {
     return;
     let _: &Limits = Registry::limits(registry);
-    let _: bool = Registry::has_stopped(registry);
+    let _: bool = Registry::is_stopped(registry);
     let _: Result<String, StoreFault> = Registry::mark(registry, alloc);
     let _: Reply = Registry::handle(registry, alloc, request);
     let _: Result<AdminReply, AdminRefusal> = Registry::command(registry, alloc, command);
-    let _: Answered = Registry::act(registry, alloc, request, true);
-    let _: OrderTold = Registry::order(registry, alloc, command, true);
+    let _: Answered = Registry::handle_traced(registry, alloc, request, true);
+    let _: TracedOrder = Registry::command_traced(registry, alloc, command, true);
     let _: Result<Vec<(String, Vec<u8>)>, StoreFault> = Registry::export(registry, alloc);
     let _: Result<Option<Check>, StoreFault> = Registry::audit(registry, alloc);
 }

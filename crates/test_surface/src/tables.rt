@@ -6,7 +6,7 @@ ghost use Rattle.sqlite.specs.Held.{state};
 ghost use Rattle.sqlite.specs.Listing.{understood};
 ghost use Rattle.sqlite.specs.Steps.{over_memory};
 ghost use Rattle.reg_tables_schema.specs.Schema.{ours};
-ghost use Rattle.reg_tables.specs.Works.{IsAtWork};
+ghost use Rattle.reg_tables.specs.Works.{IsActive};
 
 use reg_line::Digest;
 use reg_names::{CanonText, CrateName, Pattern};
@@ -53,7 +53,7 @@ const _: for<'c> fn(
 const _: for<'c> fn(&'c mut Connection<MemStore>, u32) -> Result<Rows<'c, MemStore>, Error> =
     reg_tables::index_rows;
 
-const _: fn() = reg_tables_meaning::laws::migrate_law;
+const _: fn() = reg_tables_represent::laws::migrate_law;
 
 fn make(
     conn: Connection<MemStore>,
@@ -78,7 +78,7 @@ fn select(
     text: &str,
     params: &[ValueRef<'_>],
 ) -> Result<Vec<Row>, StoreFault>
-    requires at_work { IsAtWork over_memory work.old }
+    requires at_work { IsActive over_memory work.old }
     requires reads { IsPlain (understood ours text.now) }
 {
     Work::select(work, text, params)

@@ -2,7 +2,7 @@
 
 ghost use Rattle.std.specs.Prelude.{◌+◌, ◌^◌, ◌<◌};
 ghost use Rattle.sqlite.specs.Steps.{over_memory};
-ghost use Rattle.reg_service.specs.Registries.{IsUpToDate, limits_of};
+ghost use Rattle.reg_service.specs.Registries.{limits_of};
 
 use reg_api_replies::SendFault;
 use reg_body::{Counted, Limits};
@@ -62,7 +62,6 @@ fn serve_stream(
     reader: &mut Counted<File>,
     writer: &mut Counted<Vec<u8>>,
 ) -> Result<u64, StreamFault>
-    requires tables { IsUpToDate over_memory registry.old }
     requires reads { reader.old.calls + (limits_of registry.old).turns < 2 ^ 64 }
     requires writes { writer.old.calls + (limits_of registry.old).turns < 2 ^ 64 }
 {
@@ -76,7 +75,6 @@ fn serve_traced(
     writer: &mut Counted<Vec<u8>>,
     trail: &mut Trail<File>,
 ) -> Result<u64, StreamFault>
-    requires tables { IsUpToDate over_memory registry.old }
     requires reads { reader.old.calls + (limits_of registry.old).turns < 2 ^ 64 }
     requires writes { writer.old.calls + (limits_of registry.old).turns < 2 ^ 64 }
 {

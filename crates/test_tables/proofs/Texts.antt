@@ -4,8 +4,8 @@ use Rattle.sqlite.specs.Given.{IsPlain}
 use Rattle.sqlite.specs.Listing.{understood}
 use Rattle.sqlite_tied.specs.Compute.{everything}
 use Rattle.reg_tables_schema.specs.Schema.{ours, old_schema, schema_of}
-use Rattle.reg_tables_schema.specs.declared.edition.Edition.{Edition}
-use Rattle.reg_tables_schema.specs.declared.edition.Edition.TheVariants.{First, Second}
+use Rattle.reg_tables_schema.specs.declared.edition.SchemaVersion.{SchemaVersion}
+use Rattle.reg_tables_schema.specs.declared.edition.SchemaVersion.TheVariants.{First, Second}
 
 first_plain : IsPlain (understood old_schema (codes "SELECT id, login, name FROM accounts ORDER BY id"))
 unfolding understood everything
@@ -16,7 +16,7 @@ unfolding understood everything
 logins_plain = (refl, refl)
 
 -- under either schema
-pub logins_plain_on : (e : Edition) → IsPlain (understood (schema_of e) (codes "SELECT id, login, name FROM accounts ORDER BY id"))
+pub logins_plain_on : (e : SchemaVersion) → IsPlain (understood (schema_of e) (codes "SELECT id, login, name FROM accounts ORDER BY id"))
 logins_plain_on First = first_plain
 logins_plain_on Second = logins_plain
 

@@ -9,7 +9,7 @@ use crate::records::list;
 use crate::script::{BASE, FILLED, check_text, compare, no_arrow, play_over};
 use reg_audit::audit;
 use reg_tables::{StoreFault, Tables};
-use reg_tables_schema::{Edition, MakeFault, begin, edition_of, finish, make_tables, undo};
+use reg_tables_schema::{MakeFault, SchemaVersion, begin, edition_of, finish, make_tables, undo};
 use sqlite::{Alter, Connection, Error, Row, params};
 use std::alloc::{AllocError, Global};
 
@@ -68,7 +68,7 @@ fn by_word<S: Alter>(
     line: &str,
 ) -> Result<Option<&'static str>, AllocError> {
     Ok(Some(match line {
-        "ours" => yes(edition_of(alloc, conn.schema())? == Some(Edition::Second)),
+        "ours" => yes(edition_of(alloc, conn.schema())? == Some(SchemaVersion::Second)),
         "resting" => yes(conn.is_autocommit()),
         "make-old" => run(make_old(conn)),
         "begin" => run(begin(conn)),

@@ -1,7 +1,7 @@
 //! Making a call in a transaction.
 
 ghost use Rattle.std.specs.Prelude.{◌≡◌};
-ghost use Rattle.reg_tables.specs.Works.{IsAtWork};
+ghost use Rattle.reg_tables.specs.Works.{IsActive};
 
 use crate::answer::Answer;
 use crate::call::{AccountCall, Call, CrateCall, NameCall, ReaderCall, TextCall, TokenCall};
@@ -26,8 +26,8 @@ fn on_accounts<S: Alter>(
     work: &mut Work<'_, S>,
     call: AccountCall<'_>,
 ) -> Result<Answer, StoreFault>
-    requires { IsAtWork S.Store work.old }
-    ensures at_work { IsAtWork S.Store work.new }
+    requires { IsActive S.Store work.old }
+    ensures at_work { IsActive S.Store work.new }
     ensures same_reference { work.new.tables.ghost_name ≡ work.old.tables.ghost_name }
 {
     match call {
@@ -45,8 +45,8 @@ fn on_tokens<S: Alter>(
     work: &mut Work<'_, S>,
     call: &TokenCall,
 ) -> Result<Answer, StoreFault>
-    requires { IsAtWork S.Store work.old }
-    ensures at_work { IsAtWork S.Store work.new }
+    requires { IsActive S.Store work.old }
+    ensures at_work { IsActive S.Store work.new }
     ensures same_reference { work.new.tables.ghost_name ≡ work.old.tables.ghost_name }
 {
     match call {
@@ -70,8 +70,8 @@ fn on_crates<S: Alter>(
     work: &mut Work<'_, S>,
     call: &CrateCall<'_>,
 ) -> Result<Answer, StoreFault>
-    requires { IsAtWork S.Store work.old }
-    ensures at_work { IsAtWork S.Store work.new }
+    requires { IsActive S.Store work.old }
+    ensures at_work { IsActive S.Store work.new }
     ensures same_reference { work.new.tables.ghost_name ≡ work.old.tables.ghost_name }
 {
     match call {
@@ -93,8 +93,8 @@ fn on_names<S: Alter>(
     work: &mut Work<'_, S>,
     call: &NameCall,
 ) -> Result<Answer, StoreFault>
-    requires { IsAtWork S.Store work.old }
-    ensures at_work { IsAtWork S.Store work.new }
+    requires { IsActive S.Store work.old }
+    ensures at_work { IsActive S.Store work.new }
     ensures same_reference { work.new.tables.ghost_name ≡ work.old.tables.ghost_name }
 {
     match call {
@@ -113,8 +113,8 @@ fn on_readers<S: Alter>(
     work: &mut Work<'_, S>,
     call: ReaderCall,
 ) -> Result<Answer, StoreFault>
-    requires { IsAtWork S.Store work.old }
-    ensures at_work { IsAtWork S.Store work.new }
+    requires { IsActive S.Store work.old }
+    ensures at_work { IsActive S.Store work.new }
     ensures same_reference { work.new.tables.ghost_name ≡ work.old.tables.ghost_name }
 {
     match call {
@@ -132,8 +132,8 @@ fn on_texts<S: Alter>(
     work: &mut Work<'_, S>,
     call: TextCall<'_>,
 ) -> Result<Answer, StoreFault>
-    requires { IsAtWork S.Store work.old }
-    ensures at_work { IsAtWork S.Store work.new }
+    requires { IsActive S.Store work.old }
+    ensures at_work { IsActive S.Store work.new }
     ensures same_reference { work.new.tables.ghost_name ≡ work.old.tables.ghost_name }
 {
     match call {
@@ -153,8 +153,8 @@ pub fn perform<S: Alter>(
     work: &mut Work<'_, S>,
     call: &Call<'_>,
 ) -> Result<Answer, StoreFault>
-    requires { IsAtWork S.Store work.old }
-    ensures at_work { IsAtWork S.Store work.new }
+    requires { IsActive S.Store work.old }
+    ensures at_work { IsActive S.Store work.new }
     ensures same_reference { work.new.tables.ghost_name ≡ work.old.tables.ghost_name }
 {
     match call {

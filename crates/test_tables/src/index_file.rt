@@ -1,12 +1,12 @@
 //! The index file of a crate, as a text.
 
 ghost use Rattle.std.specs.Prelude.{◌≡◌};
-ghost use Rattle.reg_tables.specs.Works.{AreOurs, IsAtWork};
+ghost use Rattle.reg_tables.specs.Works.{AreOurs, IsActive};
 
 use crate::fault::Fault;
 use crate::records::{Shown, bytes_text, list};
 use reg_line::{Entry, file};
-use reg_tables::{Edition, StemRow, StoreFault, Tables, Version, Work, index_entries};
+use reg_tables::{SchemaVersion, StemRow, StoreFault, Tables, Version, Work, index_entries};
 use sqlite::Alter;
 use std::alloc::{AllocError, Global};
 
@@ -43,8 +43,8 @@ pub(crate) fn index_of<S: Alter>(
     work: &mut Work<'_, S>,
     crate_id: u32,
 ) -> Result<String, AllocError>
-    requires { IsAtWork S.Store work.old }
-    ensures at_work { IsAtWork S.Store work.new }
+    requires { IsActive S.Store work.old }
+    ensures at_work { IsActive S.Store work.new }
     ensures same_reference { work.new.tables.ghost_name ≡ work.old.tables.ghost_name }
 {
     match work.versions_of(alloc, crate_id) {
@@ -69,11 +69,14 @@ pub fn entries_text<S: Alter>(
     requires { AreOurs S.Store tables.old }
     ensures { AreOurs S.Store tables.new }
 {
-    if tables.is_shut() {
+    if tables.is_stopped() {
         return Err(Fault::Store);
     }
     match tables.edition() {
-        Edition::First => Err(Fault::NotMade),
-        Edition::Second => Ok(list(alloc, &index_entries(alloc, tables.reading(), crate_id)?)?),
+        SchemaVersion::First => Err(Fault::NotMade),
+        SchemaVersion::Second => Ok(list(
+            alloc,
+            &index_entries(alloc, tables.reading(), crate_id)?,
+        )?),
     }
 }

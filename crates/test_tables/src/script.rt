@@ -1,7 +1,7 @@
 //! Playing a script over tables.
 
 ghost use Rattle.std.specs.Prelude.{◌≡◌};
-ghost use Rattle.reg_tables.specs.Works.{AreOurs, IsAtWork};
+ghost use Rattle.reg_tables.specs.Works.{AreOurs, IsActive};
 
 use crate::answer::Answer;
 use crate::call::Call;
@@ -40,16 +40,16 @@ fn text_of_call<S: Alter>(
     work: &mut Work<'_, S>,
     call: Call<'_>,
 ) -> Result<String, AllocError>
-    requires { IsAtWork S.Store work.old }
-    ensures at_work { IsAtWork S.Store work.new }
+    requires { IsActive S.Store work.old }
+    ensures at_work { IsActive S.Store work.new }
     ensures same_reference { work.new.tables.ghost_name ≡ work.old.tables.ghost_name }
 {
     reply_text(alloc, perform(alloc, work, &call))
 }
 
 fn called<S: Alter>(alloc: Global, work: &mut Work<'_, S>, line: &str) -> Result<String, Fault>
-    requires { IsAtWork S.Store work.old }
-    ensures at_work { IsAtWork S.Store work.new }
+    requires { IsActive S.Store work.old }
+    ensures at_work { IsActive S.Store work.new }
     ensures same_reference { work.new.tables.ghost_name ≡ work.old.tables.ghost_name }
 {
     match read_call(alloc, line)? {
@@ -64,8 +64,8 @@ pub fn answer_of<S: Alter>(
     work: &mut Work<'_, S>,
     line: &str,
 ) -> Result<String, Fault>
-    requires { IsAtWork S.Store work.old }
-    ensures at_work { IsAtWork S.Store work.new }
+    requires { IsActive S.Store work.old }
+    ensures at_work { IsActive S.Store work.new }
     ensures same_reference { work.new.tables.ghost_name ≡ work.old.tables.ghost_name }
 {
     match line.strip_prefix("index ") {
@@ -97,8 +97,8 @@ fn otherwise<S: Alter>(
     work: &mut Work<'_, S>,
     line: &str,
 ) -> Result<Option<String>, Fault>
-    requires { IsAtWork S.Store work.old }
-    ensures at_work { IsAtWork S.Store work.new }
+    requires { IsActive S.Store work.old }
+    ensures at_work { IsActive S.Store work.new }
     ensures same_reference { work.new.tables.ghost_name ≡ work.old.tables.ghost_name }
 {
     let Some((call, want)) = line.split_once(" -> ") else {
@@ -114,8 +114,8 @@ pub fn first_broken<S: Alter>(
     work: &mut Work<'_, S>,
     block: &str,
 ) -> Result<Option<String>, Fault>
-    requires { IsAtWork S.Store work.old }
-    ensures at_work { IsAtWork S.Store work.new }
+    requires { IsActive S.Store work.old }
+    ensures at_work { IsActive S.Store work.new }
     ensures same_reference { work.new.tables.ghost_name ≡ work.old.tables.ghost_name }
 {
     for line in block.split('\n') {
@@ -140,7 +140,7 @@ fn ending(block: &str) -> (&str, Option<bool>) {
 
 /// Whether the transaction ends as it shall; it is dropped where it shall not be committed.
 fn ends<S: Alter>(work: Work<'_, S>, wanted: Option<bool>) -> bool
-    requires { IsAtWork S.Store work }
+    requires { IsActive S.Store work }
     ensures { AreOurs S.Store work.exit.0.now }
 {
     match wanted {
@@ -177,8 +177,8 @@ fn add_answer<S: Alter>(
     line: &str,
     text: &mut String,
 ) -> Result<(), Fault>
-    requires { IsAtWork S.Store work.old }
-    ensures at_work { IsAtWork S.Store work.new }
+    requires { IsActive S.Store work.old }
+    ensures at_work { IsActive S.Store work.new }
     ensures same_reference { work.new.tables.ghost_name ≡ work.old.tables.ghost_name }
 {
     let answer = answer_of(alloc, work, line)?;
@@ -187,8 +187,8 @@ fn add_answer<S: Alter>(
 }
 
 fn add_rows<S: Alter>(alloc: Global, work: &mut Work<'_, S>, text: &mut String) -> Result<(), Fault>
-    requires { IsAtWork S.Store work.old }
-    ensures at_work { IsAtWork S.Store work.new }
+    requires { IsActive S.Store work.old }
+    ensures at_work { IsActive S.Store work.new }
     ensures same_reference { work.new.tables.ghost_name ≡ work.old.tables.ghost_name }
 {
     add_answer(alloc, work, "all-rows", text)?;
@@ -293,7 +293,7 @@ fn add_shown(alloc: Global, text: &mut String, row: &Row) -> Result<(), AllocErr
 pub fn read_logins<S: Alter>(alloc: Global, tables: &mut Tables<S>) -> Result<String, Fault>
     requires { AreOurs S.Store tables.old }
 {
-    if tables.is_shut() {
+    if tables.is_stopped() {
         return Err(Fault::Store);
     }
     let mut text = String::new(alloc);

@@ -5,7 +5,7 @@ ghost use Rattle.reg_tables.specs.Works.{AreOurs};
 use crate::fault::Fault;
 use crate::records::{Shown, list};
 use reg_search::{Found, Hit, search};
-use reg_tables::{Edition, Tables};
+use reg_tables::{SchemaVersion, Tables};
 use sqlite::Alter;
 use std::alloc::{AllocError, Global};
 
@@ -42,8 +42,8 @@ pub fn search_text<S: Alter>(
         return Ok(String::from_str(alloc, "no such search")?);
     };
     match tables.edition() {
-        Edition::First => Err(Fault::NotMade),
-        Edition::Second => {
+        SchemaVersion::First => Err(Fault::NotMade),
+        SchemaVersion::Second => {
             let found = search(alloc, tables, viewer, query, most)?;
             Ok(found_text(alloc, &found)?)
         }

@@ -3,8 +3,8 @@
 ghost use Rattle.std.specs.Prelude.{◌≡◌, ◌++◌, IfOk, OnOk, string_bytes};
 ghost use Rattle.std.specs.List.{flat_map};
 ghost use Rattle.reg_model.specs.Reports.{access_text};
-ghost use Rattle.reg_tables.specs.Works.{IsAtWork};
-ghost use Rattle.reg_tables.specs.Calling.{Asks};
+ghost use Rattle.reg_tables.specs.Works.{IsActive};
+ghost use Rattle.reg_tables.specs.Calling.{Queries};
 ghost use Rattle.reg_service_commands.specs.Reports.{Reports, line_of_grant, line_of_reader};
 
 use reg_access::{Grant, who_may, who_reads};
@@ -59,8 +59,8 @@ pub(crate) fn access_report<S: Alter>(
     work: &mut Work<'_, S>,
     name: &CrateName,
 ) -> Result<String>
-    requires { IsAtWork S.Store work.old }
-    ensures { Asks S.Store work.old work.new result (Reports (λ s. access_text s name.now)) }
+    requires { IsActive S.Store work.old }
+    ensures { Queries S.Store work.old work.new result (Reports (λ s. access_text s name.now)) }
 {
     let grants = who_may(alloc, work, name)?;
     let readers = who_reads(alloc, work, name)?;

@@ -2,8 +2,8 @@
 
 ghost use Rattle.std.specs.Prelude.{◌≡◌, ◌++◌, false, OnOk, length, string_bytes};
 ghost use Rattle.reg_model.specs.Reports.{crate_line, crates_text};
-ghost use Rattle.reg_tables.specs.Works.{IsAtWork, has_failed};
-ghost use Rattle.reg_tables.specs.Calling.{Asks};
+ghost use Rattle.reg_tables.specs.Works.{IsActive, has_failed};
+ghost use Rattle.reg_tables.specs.Calling.{Queries};
 ghost use Rattle.reg_service_commands.specs.ReportedCrates.{AddsLine, HasLines, highest_among};
 ghost use Rattle.reg_service_commands.specs.Reports.{Reports};
 
@@ -29,8 +29,8 @@ fn add_line<S: Alter>(
     report: &mut String,
     listed: &Crate,
 ) -> Result<()>
-    requires { IsAtWork S.Store work.old }
-    ensures { Asks S.Store work.old work.new result
+    requires { IsActive S.Store work.old }
+    ensures { Queries S.Store work.old work.new result
         (λ db _. AddsLine listed.now (string_bytes report.old) (string_bytes report.new) db) }
 {
     let versions = work.versions_of(alloc, listed.id)?;
@@ -41,9 +41,9 @@ fn add_line<S: Alter>(
 }
 
 fn lines_of<S: Alter>(alloc: Global, work: &mut Work<'_, S>, crates: &[Crate]) -> Result<String>
-    requires at_work { IsAtWork S.Store work.old }
+    requires at_work { IsActive S.Store work.old }
     requires goes_on { has_failed work.old ≡ false }
-    ensures { Asks S.Store work.old work.new result
+    ensures { Queries S.Store work.old work.new result
         (λ db text. HasLines crates.now crates.now (string_bytes text) db) }
 {
     let mut report = String::new(alloc);
@@ -55,8 +55,8 @@ fn lines_of<S: Alter>(alloc: Global, work: &mut Work<'_, S>, crates: &[Crate]) -
 
 /// A line for each crate, by canonical text.
 pub(crate) fn crates_report<S: Alter>(alloc: Global, work: &mut Work<'_, S>) -> Result<String>
-    requires { IsAtWork S.Store work.old }
-    ensures { Asks S.Store work.old work.new result (Reports crates_text) }
+    requires { IsActive S.Store work.old }
+    ensures { Queries S.Store work.old work.new result (Reports crates_text) }
 {
     let crates = work.all_crates(alloc)?;
     lines_of(alloc, work, &crates)

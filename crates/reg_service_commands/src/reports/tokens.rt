@@ -4,8 +4,8 @@ ghost use Rattle.std.specs.Prelude.{◌≡◌, ◌++◌, ◌==◌, List, IfOk, O
 ghost use Rattle.std.specs.List.{enumerate_from, flat_map, prefix_len};
 ghost use Rattle.reg_model.specs.Registry as model;
 ghost use Rattle.reg_model.specs.Reports.{token_line, tokens_text};
-ghost use Rattle.reg_tables.specs.Works.{IsAtWork};
-ghost use Rattle.reg_tables.specs.Calling.{Asks};
+ghost use Rattle.reg_tables.specs.Works.{IsActive};
+ghost use Rattle.reg_tables.specs.Calling.{Queries};
 ghost use Rattle.reg_service_commands.specs.Reports.{Reports};
 ghost use Rattle.reg_service_commands.specs.ReportedTokens.{AreTokens, IsNext, line_among, login_among, pattern_of, with_patterns};
 
@@ -114,8 +114,8 @@ fn lines_of(
 
 /// A line for each token, by id.
 pub(crate) fn tokens_report<S: Alter>(alloc: Global, work: &mut Work<'_, S>) -> Result<String>
-    requires { IsAtWork S.Store work.old }
-    ensures { Asks S.Store work.old work.new result (Reports tokens_text) }
+    requires { IsActive S.Store work.old }
+    ensures { Queries S.Store work.old work.new result (Reports tokens_text) }
 {
     let accounts = work.all_accounts(alloc)?;
     let both = work.all_tokens(alloc)?;

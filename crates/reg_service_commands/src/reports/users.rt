@@ -3,9 +3,9 @@
 ghost use Rattle.std.specs.Prelude.{◌≡◌, ◌++◌, IfOk, OnOk, string_bytes};
 ghost use Rattle.std.specs.List.{flat_map};
 ghost use Rattle.reg_model.specs.Reports.{user_line, users_text};
-ghost use Rattle.reg_tables_meaning.specs.Entries.{entry_of_account};
-ghost use Rattle.reg_tables.specs.Works.{IsAtWork};
-ghost use Rattle.reg_tables.specs.Calling.{Asks};
+ghost use Rattle.reg_tables_represent.specs.Entries.{entry_of_account};
+ghost use Rattle.reg_tables.specs.Works.{IsActive};
+ghost use Rattle.reg_tables.specs.Calling.{Queries};
 ghost use Rattle.reg_service_commands.specs.Reports.{Reports};
 
 use reg_policy::push_user_line;
@@ -43,8 +43,8 @@ fn lines_of(alloc: Global, accounts: &[Account]) -> Result<String, AllocError>
 
 /// A line for each account, by id.
 pub(crate) fn users_report<S: Alter>(alloc: Global, work: &mut Work<'_, S>) -> Result<String>
-    requires { IsAtWork S.Store work.old }
-    ensures { Asks S.Store work.old work.new result (Reports users_text) }
+    requires { IsActive S.Store work.old }
+    ensures { Queries S.Store work.old work.new result (Reports users_text) }
 {
     let accounts = work.all_accounts(alloc)?;
     match lines_of(alloc, &accounts) {

@@ -33,7 +33,7 @@ fn line_within(alloc: Global, input: &[u8], (json, archive): (u32, u32)) -> (Exi
 fn ended(alloc: Global, input: &[u8]) -> Result<String, AllocError> {
     let (exit, printed) = line_on(alloc, input);
     let printed = counted(alloc, &printed)?;
-    format!(in alloc; "{} '{}' {printed}", exit.status, exit.words)
+    format!(in alloc; "{} '{}' {printed}", exit.status, exit.message)
 }
 
 fn body(alloc: Global, json: &[u8], archive: &[u8]) -> Result<Vec<u8>, AllocError> {
@@ -78,7 +78,7 @@ fn long_body(alloc: Global, lens: &str) -> Result<Vec<u8>, AllocError> {
 fn said(alloc: Global, (exit, printed): (Exit, Vec<u8>)) -> Result<String, AllocError> {
     String::from_str(
         alloc,
-        match (exit.words, printed.is_empty()) {
+        match (exit.message, printed.is_empty()) {
             ("", false) => "printed",
             (words, true) => words,
             _ => "words and bytes",

@@ -122,7 +122,7 @@ fn first_line_by_single_bytes(rt: HostRuntime) {
 
 /// Whether `line` ends in a fault of these words, and has printed so many of the right bytes.
 fn is_fault((exit, printed): (Exit, u64), words: &str, count: u64) -> bool {
-    exit.status == 3 && exit.words == words && printed == count
+    exit.status == 3 && exit.message == words && printed == count
 }
 
 #[test]
@@ -222,7 +222,7 @@ impl Call for Converting<'_> {
         });
         let exit = run_line(alloc, &mut reader, &mut writer);
         let rest = writer.inner().rest.len();
-        if exit.status == 3 && exit.words == "memory" && rest == self.want.len() {
+        if exit.status == 3 && exit.message == "memory" && rest == self.want.len() {
             return Err(AllocError);
         }
         Ok(exit == Exit::DONE && rest == 0)

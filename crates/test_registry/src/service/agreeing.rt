@@ -3,7 +3,7 @@
 use reg_api_replies::{FoundBody, OwnersBody, Reply};
 use reg_model::AdminRefusal;
 use reg_policy::{AdminReply, Answer, Asked, Event, OwnerEntry, Reading};
-use reg_policy_plain::{Found, PlainRegistry};
+use reg_reference::{Found, PlainRegistry};
 use std::alloc::{AllocError, Global};
 use test_scripts::order_text;
 

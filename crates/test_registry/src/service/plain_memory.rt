@@ -3,10 +3,10 @@
 //! Where that is too little it answers so, and nothing has changed; then it answers as it says.
 
 use crate::service::agreeing::owners_body;
-use reg_api_requests::read_request;
+use reg_api_requests::{digest_shown, read_call};
 use reg_body::Limits;
 use reg_policy::{Answer, Event};
-use reg_policy_plain::PlainRegistry;
+use reg_reference::PlainRegistry;
 use std::alloc::{AllocError, Global};
 use std::process::Abort;
 use test_files::leave_only;
@@ -95,9 +95,9 @@ fn answered(
     let Some(request) = parts.request() else {
         return String::from_str(alloc, "no such words");
     };
-    let read = read_request(alloc, &request, &Limits::STANDARD)?;
-    let logins = read.logins(alloc)?;
-    let event = Event::Ask(read.digest(), read.asked(&logins));
+    let digest = digest_shown(&request);
+    let asked = read_call(alloc, &request.call, &Limits::STANDARD)?;
+    let event = Event::Ask(digest.as_ref(), asked);
     told(alloc, plain, &event, amount)
 }
 

@@ -4,11 +4,9 @@
 //! The first line says what there is before: `given two-accounts crates=1`.
 //! What is indented by four spaces goes on with the line above.
 
-ghost use Rattle.reg_service.specs.Registries.{IsUpToDate};
-
 use crate::service::stage::answered;
 use reg_body::Limits;
-use reg_policy_plain::PlainRegistry;
+use reg_reference::PlainRegistry;
 use reg_service::Registry;
 use sqlite::{Alter, Connection};
 use std::alloc::{AllocError, Global};
@@ -21,10 +19,7 @@ fn fault_of<S: Alter>(
     registry: &mut Registry<S>,
     plain: &mut PlainRegistry,
     line: &str,
-) -> Result<Option<String>, AllocError>
-    requires { IsUpToDate S.Store registry.old }
-    ensures { IsUpToDate S.Store registry.new }
-{
+) -> Result<Option<String>, AllocError> {
     let (call, want) = line.split_once(" -> ").unwrap_or((line, "no arrow"));
     let found = answered(alloc, registry, plain, call)?;
     if found.as_str() == want {
@@ -39,10 +34,7 @@ fn first_fault<S: Alter>(
     registry: &mut Registry<S>,
     plain: &mut PlainRegistry,
     lines: &str,
-) -> Result<Option<String>, AllocError>
-    requires { IsUpToDate S.Store registry.old }
-    ensures { IsUpToDate S.Store registry.new }
-{
+) -> Result<Option<String>, AllocError> {
     for line in lines.lines() {
         let fault = fault_of(alloc, registry, plain, line)?;
         if fault.is_some() {
@@ -58,9 +50,7 @@ fn play_beside<S: Alter>(
     registry: &mut Registry<S>,
     limits: Limits,
     lines: &str,
-) -> Result<Option<String>, AllocError>
-    requires { IsUpToDate S.Store registry.old }
-{
+) -> Result<Option<String>, AllocError> {
     let mut plain = PlainRegistry::new(alloc, limits);
     first_fault(alloc, registry, &mut plain, lines)
 }

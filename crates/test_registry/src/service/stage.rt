@@ -3,14 +3,13 @@
 ghost use Rattle.reg_model.specs.Events.Event.{Order};
 ghost use Rattle.reg_model.specs.Steps.{IsFit};
 ghost use Rattle.reg_policy.specs.Events.{command_of};
-ghost use Rattle.reg_service.specs.Registries.{IsUpToDate};
 
 use crate::service::agreeing::{finds_alike, obeys_alike, replies_alike};
 use reg_api_replies::{Reply, write_reply};
-use reg_api_requests::{ApiCall, ApiRequest, read_request};
+use reg_api_requests::{ApiCall, ApiRequest, digest_shown, read_call};
 use reg_body::Counted;
 use reg_policy::{AdminCommand, Event};
-use reg_policy_plain::PlainRegistry;
+use reg_reference::PlainRegistry;
 use reg_service::Registry;
 use sqlite::Alter;
 use std::alloc::{AllocError, Global};
@@ -35,9 +34,8 @@ fn is_alike(
     request: &ApiRequest<'_>,
     reply: &Reply,
 ) -> Result<bool, AllocError> {
-    let read = read_request(alloc, &*request, limits)?;
-    let logins = read.logins(alloc)?;
-    let event = Event::Ask(read.digest(), read.asked(&logins));
+    let digest = digest_shown(request);
+    let event = Event::Ask(digest.as_ref(), read_call(alloc, &request.call, limits)?);
     let answer = plain.step(&event);
     Ok(
         replies_alike(alloc, reply, &answer)?
@@ -51,10 +49,7 @@ fn is_streamed_alike<S: Alter>(
     registry: &mut Registry<S>,
     request: &ApiRequest<'_>,
     reply: &Reply,
-) -> bool
-    requires { IsUpToDate S.Store registry.old }
-    ensures { IsUpToDate S.Store registry.new }
-{
+) -> bool {
     let ApiCall::Index(_) = &request.call else {
         return true;
     };
@@ -71,10 +66,7 @@ fn asked<S: Alter>(
     registry: &mut Registry<S>,
     plain: &mut PlainRegistry,
     request: &ApiRequest<'_>,
-) -> Result<String, AllocError>
-    requires { IsUpToDate S.Store registry.old }
-    ensures { IsUpToDate S.Store registry.new }
-{
+) -> Result<String, AllocError> {
     let reply = registry.handle(alloc, request);
     if !is_streamed_alike(alloc, registry, request, &reply) {
         return String::from_str(alloc, "the file is sent otherwise");
@@ -92,9 +84,7 @@ fn ordered<S: Alter>(
     plain: &mut PlainRegistry,
     command: AdminCommand<'_>,
 ) -> Result<String, AllocError>
-    requires tables { IsUpToDate S.Store registry.old }
     requires fit { IsFit (Order (command_of command)) }
-    ensures { IsUpToDate S.Store registry.new }
 {
     let told = registry.command(alloc, &command);
     let answer = plain.step(&Event::Order(command));
@@ -110,10 +100,7 @@ pub(crate) fn answered<S: Alter>(
     registry: &mut Registry<S>,
     plain: &mut PlainRegistry,
     line: &str,
-) -> Result<String, AllocError>
-    requires { IsUpToDate S.Store registry.old }
-    ensures { IsUpToDate S.Store registry.new }
-{
+) -> Result<String, AllocError> {
     let parts = Parts::read(alloc, line)?;
     if let Some(command) = parts.command() {
         return ordered(alloc, registry, plain, command);

@@ -17,8 +17,8 @@ fn changing<'a>(words: &[&'a str]) -> Option<Action<'a>> {
     Some(match words {
         ["yank", name, version] => Action::Yank(name, version),
         ["unyank", name, version] => Action::Unyank(name, version),
-        ["add-owners", name] => Action::AddOwners(name, &["bob"]),
-        ["remove-owners", name] => Action::RemoveOwners(name, &["bob"]),
+        ["add-owners", name] => Action::AddOwners(name, &[]),
+        ["remove-owners", name] => Action::RemoveOwners(name, &[]),
         _ => return None,
     })
 }

@@ -1,7 +1,7 @@
 //! What a line is answered: a decision, or a report.
 
 ghost use Rattle.std.specs.Prelude.{◌≡◌};
-ghost use Rattle.reg_tables.specs.Works.{IsAtWork};
+ghost use Rattle.reg_tables.specs.Works.{IsActive};
 
 use crate::access::actions::{action_of, publication};
 use crate::access::fault::Fault;
@@ -35,8 +35,8 @@ pub(crate) fn decided<S: Alter>(
     digest: &Digest,
     action: &Action,
 ) -> Result<String, Fault>
-    requires { IsAtWork S.Store work.old }
-    ensures at_work { IsAtWork S.Store work.new }
+    requires { IsActive S.Store work.old }
+    ensures at_work { IsActive S.Store work.new }
     ensures same_reference { work.new.tables.ghost_name ≡ work.old.tables.ghost_name }
 {
     let decision = authorize(work, digest, action)?;
@@ -51,8 +51,8 @@ pub(crate) fn asked<S: Alter>(
     token: &str,
     words: &[&str],
 ) -> Result<String, Fault>
-    requires { IsAtWork S.Store work.old }
-    ensures at_work { IsAtWork S.Store work.new }
+    requires { IsActive S.Store work.old }
+    ensures at_work { IsActive S.Store work.new }
     ensures same_reference { work.new.tables.ghost_name ≡ work.old.tables.ghost_name }
 {
     let digest = digest_of(token.as_bytes());
@@ -98,8 +98,8 @@ pub(crate) fn reported<S: Alter>(
     work: &mut Work<'_, S>,
     name: &CrateName,
 ) -> Result<String, Fault>
-    requires { IsAtWork S.Store work.old }
-    ensures at_work { IsAtWork S.Store work.new }
+    requires { IsActive S.Store work.old }
+    ensures at_work { IsActive S.Store work.new }
     ensures same_reference { work.new.tables.ghost_name ≡ work.old.tables.ghost_name }
 {
     let grants = who_may(alloc, work, name)?;

@@ -1,7 +1,7 @@
 //! A second opinion: the policy's own decision, of rows that are selected one table at a time.
 
 ghost use Rattle.std.specs.Prelude.{◌≡◌};
-ghost use Rattle.reg_tables.specs.Works.{IsAtWork};
+ghost use Rattle.reg_tables.specs.Works.{IsActive};
 
 use crate::access::fault::Fault;
 use reg_body::Limits;
@@ -38,8 +38,8 @@ fn nothing_known(alloc: Global) -> Known {
 }
 
 fn known_of<S: Alter>(alloc: Global, work: &mut Work<'_, S>, it: &Crate) -> Result<Known, Fault>
-    requires { IsAtWork S.Store work.old }
-    ensures at_work { IsAtWork S.Store work.new }
+    requires { IsActive S.Store work.old }
+    ensures at_work { IsActive S.Store work.new }
     ensures same_reference { work.new.tables.ghost_name ≡ work.old.tables.ghost_name }
 {
     let owners = work.owners_of(alloc, it.id)?;
@@ -56,8 +56,8 @@ fn known_of<S: Alter>(alloc: Global, work: &mut Work<'_, S>, it: &Crate) -> Resu
 }
 
 fn named<S: Alter>(alloc: Global, work: &mut Work<'_, S>, text: &CanonText) -> Result<Known, Fault>
-    requires { IsAtWork S.Store work.old }
-    ensures at_work { IsAtWork S.Store work.new }
+    requires { IsActive S.Store work.old }
+    ensures at_work { IsActive S.Store work.new }
     ensures same_reference { work.new.tables.ghost_name ≡ work.old.tables.ghost_name }
 {
     match work.crate_by_canon(text)? {
@@ -175,8 +175,8 @@ pub(crate) fn second_opinion<S: Alter>(
     digest: &Digest,
     action: &Action,
 ) -> Result<Decision, Fault>
-    requires { IsAtWork S.Store work.old }
-    ensures at_work { IsAtWork S.Store work.new }
+    requires { IsActive S.Store work.old }
+    ensures at_work { IsActive S.Store work.new }
     ensures same_reference { work.new.tables.ghost_name ≡ work.old.tables.ghost_name }
 {
     let found = work.token_rows(alloc, digest)?;

@@ -2,7 +2,7 @@
 //! those on crates; each is decided by the policy too.
 
 ghost use Rattle.std.specs.Prelude.{◌≡◌};
-ghost use Rattle.reg_tables.specs.Works.{AreOurs, IsAtWork};
+ghost use Rattle.reg_tables.specs.Works.{AreOurs, IsActive};
 
 use crate::access::answers::asked;
 use crate::access::fault::Fault;
@@ -84,8 +84,8 @@ fn token_line(alloc: Global, number: u32) -> Result<String, Fault> {
 }
 
 fn add_token<S: Alter>(alloc: Global, work: &mut Work<'_, S>, number: u32) -> Result<(), Fault>
-    requires { IsAtWork S.Store work.old }
-    ensures at_work { IsAtWork S.Store work.new }
+    requires { IsActive S.Store work.old }
+    ensures at_work { IsActive S.Store work.new }
     ensures same_reference { work.new.tables.ghost_name ≡ work.old.tables.ghost_name }
 {
     let line = token_line(alloc, number)?;
@@ -98,8 +98,8 @@ fn add_token<S: Alter>(alloc: Global, work: &mut Work<'_, S>, number: u32) -> Re
 }
 
 fn add_tokens<S: Alter>(alloc: Global, work: &mut Work<'_, S>) -> Result<(), Fault>
-    requires { IsAtWork S.Store work.old }
-    ensures at_work { IsAtWork S.Store work.new }
+    requires { IsActive S.Store work.old }
+    ensures at_work { IsActive S.Store work.new }
     ensures same_reference { work.new.tables.ghost_name ≡ work.old.tables.ghost_name }
 {
     for number in 0..TOKENS {
@@ -115,8 +115,8 @@ fn answer_to<S: Alter>(
     token: &str,
     line: &str,
 ) -> Result<String, Fault>
-    requires { IsAtWork S.Store work.old }
-    ensures at_work { IsAtWork S.Store work.new }
+    requires { IsActive S.Store work.old }
+    ensures at_work { IsActive S.Store work.new }
     ensures same_reference { work.new.tables.ghost_name ≡ work.old.tables.ghost_name }
 {
     let words: Vec<&str> = line.split(' ').collect(alloc)?;
@@ -130,8 +130,8 @@ fn answers_of<S: Alter>(
     token: &str,
     text: &mut String,
 ) -> Result<(), Fault>
-    requires { IsAtWork S.Store work.old }
-    ensures at_work { IsAtWork S.Store work.new }
+    requires { IsActive S.Store work.old }
+    ensures at_work { IsActive S.Store work.new }
     ensures same_reference { work.new.tables.ghost_name ≡ work.old.tables.ghost_name }
 {
     for line in ACTIONS.split('\n') {
@@ -143,8 +143,8 @@ fn answers_of<S: Alter>(
 }
 
 fn all_answers<S: Alter>(alloc: Global, work: &mut Work<'_, S>) -> Result<String, Fault>
-    requires { IsAtWork S.Store work.old }
-    ensures at_work { IsAtWork S.Store work.new }
+    requires { IsActive S.Store work.old }
+    ensures at_work { IsActive S.Store work.new }
     ensures same_reference { work.new.tables.ghost_name ≡ work.old.tables.ghost_name }
 {
     let mut text = String::new(alloc);

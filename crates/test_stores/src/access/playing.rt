@@ -1,7 +1,7 @@
 //! Playing a setup, a statement, and lines.
 
 ghost use Rattle.std.specs.Prelude.{◌≡◌};
-ghost use Rattle.reg_tables.specs.Works.{AreOurs, IsAtWork};
+ghost use Rattle.reg_tables.specs.Works.{AreOurs, IsActive};
 
 use crate::access::answers::{asked, reported};
 use crate::access::fault::Fault;
@@ -19,8 +19,8 @@ fn line_text<S: Alter>(
     work: &mut Work<'_, S>,
     words: &[&str],
 ) -> Result<String, Fault>
-    requires { IsAtWork S.Store work.old }
-    ensures at_work { IsAtWork S.Store work.new }
+    requires { IsActive S.Store work.old }
+    ensures at_work { IsActive S.Store work.new }
     ensures same_reference { work.new.tables.ghost_name ≡ work.old.tables.ghost_name }
 {
     match words {
@@ -34,8 +34,8 @@ fn line_text<S: Alter>(
 }
 
 fn answered<S: Alter>(alloc: Global, work: &mut Work<'_, S>, line: &str) -> Result<String, Fault>
-    requires { IsAtWork S.Store work.old }
-    ensures at_work { IsAtWork S.Store work.new }
+    requires { IsActive S.Store work.old }
+    ensures at_work { IsActive S.Store work.new }
     ensures same_reference { work.new.tables.ghost_name ≡ work.old.tables.ghost_name }
 {
     if let Some(call) = line.strip_prefix("call ") {
@@ -51,8 +51,8 @@ pub(crate) fn first_wrong<S: Alter>(
     work: &mut Work<'_, S>,
     lines: &str,
 ) -> Result<Option<String>, Fault>
-    requires { IsAtWork S.Store work.old }
-    ensures at_work { IsAtWork S.Store work.new }
+    requires { IsActive S.Store work.old }
+    ensures at_work { IsActive S.Store work.new }
     ensures same_reference { work.new.tables.ghost_name ≡ work.old.tables.ghost_name }
 {
     for line in lines.split('\n') {

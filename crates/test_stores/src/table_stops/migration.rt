@@ -7,7 +7,7 @@ use crate::table_stops::lines::{How, over_files, over_old_files};
 use crate::table_stops::playing::schema_words;
 use crate::table_stops::tasks::Task;
 use crate::table_stops::trials::rows_once_done;
-use reg_tables::Edition;
+use reg_tables::SchemaVersion;
 use std::alloc::Global;
 use test_files::Scarce;
 
@@ -22,7 +22,7 @@ const MIGRATION: &str = "migrate -> yes";
 const STEP: u32 = 16_000;
 
 /// The rows of tables of this schema.
-fn rows_of(found: &Option<String>, edition: Edition) -> Option<&str> {
+fn rows_of(found: &Option<String>, edition: SchemaVersion) -> Option<&str> {
     match found {
         Some(text) => text.strip_prefix(schema_words(edition)),
         None => None,
@@ -31,7 +31,10 @@ fn rows_of(found: &Option<String>, edition: Edition) -> Option<&str> {
 
 /// Whether the tables were of schema 1 and are of schema 2, with the same rows.
 fn is_migrated(old: &Option<String>, new: &Option<String>) -> bool {
-    match (rows_of(old, Edition::First), rows_of(new, Edition::Second)) {
+    match (
+        rows_of(old, SchemaVersion::First),
+        rows_of(new, SchemaVersion::Second),
+    ) {
         (Some(old), Some(new)) => old == new && !old.contains("fault"),
         _ => false,
     }

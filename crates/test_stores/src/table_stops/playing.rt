@@ -4,7 +4,7 @@ ghost use Rattle.reg_tables.specs.Works.{AreOurs};
 
 use crate::table_stops::calls::PREPARED;
 use crate::table_stops::fault::Fault;
-use reg_tables::{Edition, Tables};
+use reg_tables::{SchemaVersion, Tables};
 use sqlite::{Alter, Connection};
 use std::alloc::Global;
 use test_tables::{BASE, play_over, rows_text};
@@ -49,10 +49,10 @@ pub(crate) fn fill<S: Alter + Drop>(
 }
 
 /// The words before the rows, by the schema that the tables are of.
-pub(crate) fn schema_words(edition: Edition) -> &'static str {
+pub(crate) fn schema_words(edition: SchemaVersion) -> &'static str {
     match edition {
-        Edition::First => "schema 1: ",
-        Edition::Second => "schema 2: ",
+        SchemaVersion::First => "schema 1: ",
+        SchemaVersion::Second => "schema 2: ",
     }
 }
 

@@ -1,7 +1,7 @@
 //! What is done over files, within limits, and what comes of it.
 
 ghost use Rattle.std.specs.Prelude.{◌≡◌, IfOk};
-ghost use Rattle.reg_tables.specs.Works.{AreOurs, IsAtWork};
+ghost use Rattle.reg_tables.specs.Works.{AreOurs, IsActive};
 
 use crate::table_stops::fault::Fault;
 use crate::table_stops::files::rows_after;
@@ -83,8 +83,8 @@ fn answer<S: Alter>(
     call: &Call<'_>,
     amount: Option<u32>,
 ) -> Result<String, AllocError>
-    requires { IsAtWork S.Store work.old }
-    ensures at_work { IsAtWork S.Store work.new }
+    requires { IsActive S.Store work.old }
+    ensures at_work { IsActive S.Store work.new }
     ensures same_reference { work.new.tables.ghost_name ≡ work.old.tables.ghost_name }
 {
     let memory = leave_only(alloc, amount)?;
@@ -99,7 +99,7 @@ fn commits<S: Alter>(
     work: Work<'_, S>,
     amount: Option<u32>,
 ) -> Result<bool, AllocError>
-    requires { IsAtWork S.Store work }
+    requires { IsActive S.Store work }
 {
     let memory = leave_only(alloc, amount)?;
     let is_done = work.commit().is_ok();

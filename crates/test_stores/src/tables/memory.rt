@@ -1,6 +1,6 @@
 //! Making the tables with each amount of memory: they are made and known again, or nothing is made.
 
-use reg_tables_schema::{Edition, MakeFault, edition_of, make_tables};
+use reg_tables_schema::{MakeFault, SchemaVersion, edition_of, make_tables};
 use sqlite::Connection;
 use std::alloc::{AllocError, Global};
 use std::test::Fail;
@@ -21,7 +21,7 @@ enum Outcome {
 fn make(alloc: Global) -> Result<Outcome, AllocError> {
     let mut conn = Connection::open_in_memory(alloc)?;
     Ok(match make_tables(&mut conn, "https://index.example/") {
-        Ok(()) if edition_of(alloc, conn.schema())? == Some(Edition::Second) => Outcome::Made,
+        Ok(()) if edition_of(alloc, conn.schema())? == Some(SchemaVersion::Second) => Outcome::Made,
         Err(MakeFault::Storage) if conn.schema().tables.is_empty() => Outcome::Want,
         _ => Outcome::Other,
     })

@@ -1,6 +1,6 @@
 use Rattle.reg_access.proofs.Words.{ap, ◌∙◌, action_of, decision_of, rows_seen}
-use Rattle.reg_tables_meaning.proofs.Results.{if_ok}
-use Rattle.reg_access.proofs.Admitting.{caller_told}
+use Rattle.reg_tables_represent.proofs.Results.{if_ok}
+use Rattle.reg_access.proofs.Admitting.{principal_told}
 use Rattle.reg_access.proofs.JoinLaw.{joins_decide}
 use Rattle.reg_access.proofs.access.admit.Goals as goal
 
@@ -15,4 +15,4 @@ returns-clause-policy g c clean =
 pub returns-clause-found : goal.returns-clause-found
 returns-clause-found g c clean =
     if_ok c.judge.result
-    (λ m told. caller_told c.args.digest.now (action_of c.args.action.now) (rows_seen g.S.Store c.args.work.now) m told) (c.judge.ensures.asks.told clean)
+    (λ m told. principal_told c.args.digest.now (action_of c.args.action.now) (rows_seen g.S.Store c.args.work.now) m told) (c.judge.ensures.asks.told clean)

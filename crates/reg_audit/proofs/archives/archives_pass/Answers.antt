@@ -1,6 +1,6 @@
 use Rattle.reg_audit.proofs.Words.{◌≡◌, ◌∙◌, arith, sym, subst, true, HasCleanDisk, IsUnchanged, Database, archives_with_id, seen}
 use Rattle.reg_audit.proofs.Words.{is_archive}
-use Rattle.reg_tables_meaning.proofs.Readings.{same_then}
+use Rattle.reg_tables_represent.proofs.Readings.{same_then}
 use Rattle.reg_tables.proofs.Looking.{looks_then}
 use Rattle.reg_audit.proofs.SameIds.{all_more, all_taken}
 use Rattle.reg_audit.proofs.archives.archives_pass.Goals as goal

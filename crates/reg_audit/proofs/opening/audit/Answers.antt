@@ -1,5 +1,5 @@
 use Rattle.reg_audit.proofs.Words.{arith, ap, subst, ◌∙◌, sym, HasCleanDisk, seen}
-use Rattle.reg_tables.specs.Works.{edition_in, is_shut, shown}
+use Rattle.reg_tables.specs.Works.{edition_in, is_stopped, shown}
 use Rattle.reg_tables.proofs.Looking.{begins_with, if_told}
 use Rattle.reg_audit.proofs.opening.audit.Goals as goal
 
@@ -16,7 +16,7 @@ returns-clause-found g c clean =
 pub returns-clause-open : goal.returns-clause-open
 returns-clause-open g c =
     let back = c.tables-2-1.given.1 (sym (c.examine.ensures.looks.same_reference ∙ c.in_ok-work.ensures.same_reference)) in
-    ap is_shut back ∙ c.drop-work.ensures.same_mode ∙ c.examine.ensures.looks.same_mode ∙ c.in_ok-work.ensures.begun.still_open ∙ sym c.in_ok-work.ensures.begun.was_open
+    ap is_stopped back ∙ c.drop-work.ensures.same_mode ∙ c.examine.ensures.looks.same_mode ∙ c.in_ok-work.ensures.begun.still_open ∙ sym c.in_ok-work.ensures.begun.was_open
 
 pub returns-clause-edition : goal.returns-clause-edition
 returns-clause-edition g c =

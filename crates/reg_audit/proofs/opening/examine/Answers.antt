@@ -1,5 +1,5 @@
 use Rattle.reg_audit.proofs.Words.{arith, subst, HasCleanDisk, Database, seen}
-use Rattle.reg_tables_meaning.proofs.Results.{if_ok}
+use Rattle.reg_tables_represent.proofs.Results.{if_ok}
 use Rattle.reg_audit.specs.Checks.{IsFirst}
 use Rattle.reg_audit.proofs.opening.examine.Goals as goal
 

@@ -15,7 +15,7 @@ returns-in-Replied g c =
     record {
       replied = λ f same clean s shows.
           (let (a, says, answers, lined) = acted.replies clean s shows in
-          handled g.S.Store limits s f (option_map (λ t. t.now) request.token) same c.args.close (tables_of c.args.registry.now) (tables_of c.act.new.self)
+          handled g.S.Store limits s f (option_map (λ t. t.now) request.token) same c.args.close (tables_of c.args.registry.now) (tables_of c.handle_traced.new.self)
           (tail (g.T.Write.contents c.args.trail.now.end.inner) c.args.trail.now) (tail (g.T.Write.contents c.tell.new.self.end.inner) c.tell.new.self)
           (g.W.Write.contents c.args.w.now.inner) (g.W.Write.contents c.send_reply.new.w.inner) c.send_reply.result c.answer_law.ensures (wants_of request.call) it.reply it.line
           acted.read a says answers (subst (λ b. HasLine b limits s (event_of (request_of limits request)) a it.line) c.is_open.ensures lined)
@@ -23,7 +23,7 @@ returns-in-Replied g c =
       spends = c.send_reply.ensures.spends;
       fewer = c.send_reply.ensures.some;
       told = (_, c.tell.ensures.tells);
-      keeps = record { tables = c.act.ensures.tables; clean = c.act.ensures.clean; limits = c.act.ensures.limits };
+      keeps = record { clean = c.handle_traced.ensures.clean; limits = c.handle_traced.ensures.limits };
     }
 
 pub returns-in-Found : goal.returns-in-Found
@@ -31,10 +31,10 @@ returns-in-Found g c =
     let limits = limits_of c.args.registry.now in
     let request = c.args.request.now in
     let old = tables_of c.args.registry.now in
-    let found = tables_of c.act.new.self in
+    let found = tables_of c.handle_traced.new.self in
     let k = tail (g.T.Write.contents c.args.trail.now.end.inner) c.args.trail.now in
     let sent = c.send_index.ensures in
-    let kept : GoesOn g.S.Store c.args.registry.now c.act.new.self = record { tables = c.act.ensures.tables; clean = c.act.ensures.clean; limits = c.act.ensures.limits } in
+    let kept : GoesOn g.S.Store c.args.registry.now c.handle_traced.new.self = record { clean = c.handle_traced.ensures.clean; limits = c.handle_traced.ensures.limits } in
     record {
       replied = λ f same clean s shows.
           sent.replied k clean limits f (wants_of request.call) s old

@@ -23,5 +23,5 @@ returns-in-Err g c =
       spends = c.send_reply.ensures.spends;
       fewer = c.send_reply.ensures.some;
       told = trailed_nothing k;
-      keeps = still c.requires.tables;
+      keeps = still;
     }

@@ -13,7 +13,7 @@ returns-in_default g c =
       serves = λ clean s shows. untouched g.S.Store limits s tables k (g.R.Read.remaining c.args.r.now.inner) (g.W.Write.contents c.args.w.now.inner) tables (c.history_law.ensures.begins limits s tables shows);
       spends = (limits.turns, refl);
       told = trailed_nothing k;
-      keeps = still c.requires.tables;
+      keeps = still;
     }
 
 pub returns : goal.returns

@@ -13,7 +13,7 @@ requests-init g c =
     let k0 = tail (g.T.Write.contents c.args.trail.now.end.inner) c.args.trail.now in
     record {
       so_far = record {
-        keeps = still c.requires.may.tables;
+        keeps = still;
         holds = λ clean s shows.
             rw c.new-pending.ensures.items (holds_start g.S.Store (limits_of c.args.registry.now) s
             (tables_of c.args.registry.now) k0 (g.R.Read.remaining c.args.r.now.inner) (g.W.Write.contents c.args.w.now.inner) (tables_of c.args.registry.now)
@@ -97,10 +97,7 @@ pub answer_message-requires : goal.answer_message-requires
 answer_message-requires g c =
     let spends = c.requests.invariant.so_far.spends in
     let taken = c.in_ok-take_request.ensures.spends in
-    record {
-      tables = c.requests.invariant.so_far.keeps.tables;
-      room = omega (arith, c.requires.may.writes, spends.turns, spends.reads, taken.turns, taken.reads);
-    }
+    record { room = omega (arith, c.requires.may.writes, spends.turns, spends.reads, taken.turns, taken.reads) }
 
 smaller : (g : Over) (c : In_ok-answer_message g) → c.answer_message.new.left < c.requests.left
 smaller g c =

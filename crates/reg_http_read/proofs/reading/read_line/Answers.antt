@@ -1,5 +1,6 @@
 use Rattle.reg_http_read.proofs.Common.{◌≡◌, ◌<◌, arith, length, ◌∙◌, refl, err_from_is_err_and, reads_of}
 use Rattle.reg_http_read.proofs.Adding.{reads_nothing, reads_on, spends_for, spends_nothing, spends_some}
+use Rattle.reg_http_read.specs.Begun.{begins_head}
 use Rattle.reg_http_read.proofs.Lines.{still_begun}
 use Rattle.reg_http_read.proofs.Waiting.{line_ended, line_failed}
 use Rattle.reg_http_read.proofs.reading.read_line.Goals as goal
@@ -49,7 +50,7 @@ returns-in-NoMemory-clause-line g c =
     let p = rw c.in-NoMemory.is at c.in_ok-read_piece.ensures.piece in
     let read = g.R.Read.remaining in
     reads_on (read c.args.r.now.inner) (read c.pieces.r.inner) (read c.read_piece.new.r.inner) c.args.pending.now.items c.pieces.pending.items c.read_piece.new.pending.items
-    (λ rest. 0 < length rest) c.pieces.invariant.reads p
+    (λ rest. (0 < length rest) × (c.in-NoMemory.head_only ≡ begins_head rest)) c.pieces.invariant.reads p
 
 pub returns-in-NoMemory-clause-spends : goal.returns-in-NoMemory-clause-spends
 returns-in-NoMemory-clause-spends g c =

@@ -1,7 +1,8 @@
-use Rattle.reg_http_read.proofs.Common.{[], ◌≡◌, ◌∙◌, false, inl, inr, refl, err_from_is_err_and, IsRefused, reads_of}
+use Rattle.reg_http_read.proofs.Common.{[], ◌≡◌, ◌∙◌, ap, append-nil, inl, inr, refl, err_from_is_err_and, IsRefused, reads_of}
 use Rattle.reg_model.specs.declared.rule.Rule.TheVariants as rule
 use Rattle.reg_http_read.proofs.Adding.{reads_nothing, reads_on, spends_for, spends_nothing, spends_some}
 use Rattle.reg_http_read.proofs.Requests.{found_awaits}
+use Rattle.reg_http_read.specs.Begun.{begins_head}
 use Rattle.reg_http_read.proofs.Waiting.{await_ended, await_failed, await_unread}
 use Rattle.reg_http_read.proofs.taking.await_head.Goals as goal
 
@@ -25,7 +26,8 @@ returns-in-Ok-Some-clause-spends g c = c.judged.invariant.spends
 pub returns-in-Err-clause-awaits : goal.returns-in-Err-clause-awaits
 returns-in-Err-clause-awaits g c =
     await_unread (g.R.Read.remaining c.args.r.now.inner) (g.R.Read.remaining c.judged.r.inner) c.args.pending.now.items c.judged.pending.items
-    c.judged.invariant.reads c.args.limits.now (rw (c.in-Err.is, c.deref.ensures.value) at c.find_head.ensures).some
+    c.judged.invariant.reads c.args.limits.now c.begins_head.result (rw (c.in-Err.is, c.deref.ensures.value) at c.find_head.ensures).some
+    (c.begins_head.ensures ∙ ap begins_head (append-nil _ ∙ c.deref-in-Err.ensures.value))
 
 pub returns-in-Err-clause-spends : goal.returns-in-Err-clause-spends
 returns-in-Err-clause-spends g c = c.judged.invariant.spends
@@ -73,7 +75,8 @@ returns-in-NoMemory-clause-awaits g c =
     let p = rw c.in-NoMemory.is at c.in_ok-read_line.ensures.line in
     let read = g.R.Read.remaining in
     reads_on (read c.args.r.now.inner) (read c.judged.r.inner) (read c.read_line.new.r.inner) c.args.pending.now.items c.judged.pending.items c.read_line.new.pending.items
-    (λ rest. IsRefused c.args.limits.now rest [] rule.S1 false) c.judged.invariant.reads (p.0, p.1, inr (refl, inl (p.2, refl, refl)))
+    (λ rest. IsRefused c.args.limits.now rest [] rule.S1 c.in-NoMemory.head_only) c.judged.invariant.reads
+    (p.0, p.1, inr (refl, inl (p.2.0, refl, p.2.1)))
 
 pub returns-in-NoMemory-clause-spends : goal.returns-in-NoMemory-clause-spends
 returns-in-NoMemory-clause-spends g c =

@@ -6,4 +6,4 @@ pub returns-in-Ok : goal.returns-in-Ok
 returns-in-Ok c limits bytes at = subst (IsHeadAt limits bytes) (sym c.in-Ok.ensures) at
 
 pub returns-in-Err : goal.returns-in-Err
-returns-in-Err c limits bytes at = no_room_kept limits bytes (facts_of c.args.head.now) at _ c.is_unkept_head_only.ensures
+returns-in-Err c limits bytes at = no_room_kept limits bytes (facts_of c.args.head.now) at _ c.is_head_only.ensures

@@ -1,8 +1,11 @@
-use Rattle.reg_model.proofs.Plain.{plain_matches, plain_verdicts}
+use Rattle.reg_model.proofs.Plain.{plain_denials, plain_finds, plain_outcomes}
 use Rattle.reg_model.proofs.laws.plain_law.Goals as goal
 
-pub returns-clause-verdicts : goal.returns-clause-verdicts
-returns-clause-verdicts c s digest a free = plain_verdicts s free digest a
+pub returns-clause-denied : goal.returns-clause-denied
+returns-clause-denied c limits s digest asked free = plain_denials s free limits digest asked
 
-pub returns-clause-matches : goal.returns-clause-matches
-returns-clause-matches c s who q free = plain_matches s free who q
+pub returns-clause-outcomes : goal.returns-clause-outcomes
+returns-clause-outcomes c limits s digest asked free = plain_outcomes s free limits digest asked
+
+pub returns-clause-finds : goal.returns-clause-finds
+returns-clause-finds c s who q most free = plain_finds s free who q most

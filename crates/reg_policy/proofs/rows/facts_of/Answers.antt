@@ -1,4 +1,4 @@
-use Rattle.std.proofs.Common.{◌≡◌, ◌∙◌, ap, refl, sym}
+use Rattle.std.proofs.Common.{◌≡◌, ◌∙◌, ap, refl, string_bytes, sym}
 use Rattle.std.specs.List.{list_all, list_any}
 use Rattle.std.specs.Option.{option_map}
 use Rattle.std.specs.Str.{bytes_eq}
@@ -40,9 +40,9 @@ returns-clause-counts c =
       crates = refl;
       known = c.are_all.ensures;
       owners =
-          c.are_owners.ensures ∙ sym (list_all_map (λ l. list_any (λ o. bytes_eq o.login.now l) owners) (λ l. l.now) logins)
+          c.are_owners.ensures ∙ sym (list_all_map (λ l. list_any (λ o. bytes_eq o.login.now l) owners) string_bytes logins)
           ∙ ap (list_all (λ l. list_any (λ o. bytes_eq o.login.now l) owners)) c.logins_of-logins.ensures;
       all =
-          c.are_all_owners.ensures ∙ list_all_same _ _ (λ o. sym (list_any_map (λ l. bytes_eq o.login.now l) (λ l. l.now) logins)) owners
+          c.are_all_owners.ensures ∙ list_all_same _ _ (λ o. sym (list_any_map (λ l. bytes_eq o.login.now l) string_bytes logins)) owners
           ∙ ap (λ ls. list_all (λ o. is_named ls o.login.now) owners) c.logins_of-logins.ensures;
     }

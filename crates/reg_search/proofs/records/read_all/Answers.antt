@@ -1,6 +1,6 @@
 use Rattle.reg_search.proofs.Words.{arith, ◌≡◌, [], ◌∷◌, ◌++◌, refl, subst, sym, ◌∙◌, map, map-append, err_from_is_err_and, state}
 use Rattle.reg_search.proofs.Words.{HasCleanDisk, bound, walk_ends, walk_fails, walk_left, walked, walked_all}
-use Rattle.reg_tables_meaning.proofs.Walking.{walked_as}
+use Rattle.reg_tables_represent.proofs.Walking.{walked_as}
 use Rattle.reg_search.proofs.records.read_all.Goals as goal
 
 pub returns-in_default-clause-told : goal.returns-in_default-clause-told

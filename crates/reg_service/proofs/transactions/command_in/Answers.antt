@@ -1,5 +1,5 @@
 use Rattle.reg_service.proofs.Words.{◌≡◌, Err, arith, rules, ap, sym, subst, refl, inl, inr, ◌∙◌, false≢true, HasCleanDisk, Order}
-use Rattle.reg_service.proofs.Words.{command_of, reply_of, held, is_shut, seen, shown, call_looks, line_of_answer, Answers, AreUpToDate}
+use Rattle.reg_service.proofs.Words.{command_of, reply_of, held, is_stopped, seen, shown, call_looks, line_of_answer, Answers, AreUpToDate}
 use Rattle.reg_service.proofs.Words.{Halts, WasClean}
 use Rattle.reg_model.specs.declared.rule.AdminRefusal.TheVariants as refusal
 use Rattle.reg_model.specs.Events.Answer.{Refused as to_refused}
@@ -99,7 +99,7 @@ returns-in_default-order_told-clause-clean g c =
 pub returns-in_default-order_told-clause-halts : goal.returns-in_default-order_told-clause-halts
 returns-in_default-order_told-clause-halts g c =
     let back = c.tables-in_default-order_told-1.given.1 (sym (c.order_told.ensures.leaves.same_reference ∙ c.in-Ok.ensures.same_reference)) in
-    subst (λ t. Halts (is_shut c.args.tables.now) (is_shut t) (c.refused-in_default-order_told.result.answer ≡ Err refusal.G10)) (sym back) (dropped_halts g.S.Store c.args.tables.now c.in-Ok.work c.order_told.new.work c.in-Ok.ensures.begun (call_looks g.S.Store c.order_told.result c.in-Ok.work c.order_told.new.work c.order_told.ensures.leaves) c.drop-work.new.self.0 c.drop-work.ensures)
+    subst (λ t. Halts (is_stopped c.args.tables.now) (is_stopped t) (c.refused-in_default-order_told.result.answer ≡ Err refusal.G10)) (sym back) (dropped_halts g.S.Store c.args.tables.now c.in-Ok.work c.order_told.new.work c.in-Ok.ensures.begun (call_looks g.S.Store c.order_told.result c.in-Ok.work c.order_told.new.work c.order_told.ensures.leaves) c.drop-work.new.self.0 c.drop-work.ensures)
 
 pub returns-in-Err-clause-tables : goal.returns-in-Err-clause-tables
 returns-in-Err-clause-tables g c =
@@ -114,7 +114,7 @@ returns-in-Err-clause-clean g c =
 pub returns-in-Err-clause-halts : goal.returns-in-Err-clause-halts
 returns-in-Err-clause-halts g c =
     let back = c.tables-in-Err-told-1.given.1 (sym (c.order_told.ensures.leaves.same_reference ∙ c.in-Ok.ensures.same_reference)) in
-    subst (λ t. Halts (is_shut c.args.tables.now) (is_shut t) (c.refused-in-Err.result.answer ≡ Err refusal.G10)) (sym back) (dropped_halts g.S.Store c.args.tables.now c.in-Ok.work c.order_told.new.work c.in-Ok.ensures.begun (call_looks g.S.Store c.order_told.result c.in-Ok.work c.order_told.new.work c.order_told.ensures.leaves) c.drop-work-in-Err-told.new.self.0 c.drop-work-in-Err-told.ensures)
+    subst (λ t. Halts (is_stopped c.args.tables.now) (is_stopped t) (c.refused-in-Err.result.answer ≡ Err refusal.G10)) (sym back) (dropped_halts g.S.Store c.args.tables.now c.in-Ok.work c.order_told.new.work c.in-Ok.ensures.begun (call_looks g.S.Store c.order_told.result c.in-Ok.work c.order_told.new.work c.order_told.ensures.leaves) c.drop-work-in-Err-told.new.self.0 c.drop-work-in-Err-told.ensures)
 
 pub returns-in-Ok-commit-clause-clean : goal.returns-in-Ok-commit-clause-clean
 returns-in-Ok-commit-clause-clean g c =
@@ -124,7 +124,7 @@ returns-in-Ok-commit-clause-clean g c =
 pub returns-in-Ok-commit-clause-halts : goal.returns-in-Ok-commit-clause-halts
 returns-in-Ok-commit-clause-halts g c =
     let back = c.tables-in-Ok-answer-1.given.1 (sym (c.order_told.ensures.leaves.same_reference ∙ c.in-Ok.ensures.same_reference)) in
-    subst (λ t. Halts (is_shut c.args.tables.now) (is_shut t) (c.in-Ok-order_told.told.answer ≡ Err refusal.G10)) (sym back) (committed_halts g.S.Store c.args.tables.now c.in-Ok.work c.order_told.new.work c.in-Ok.ensures.begun (call_looks g.S.Store c.order_told.result c.in-Ok.work c.order_told.new.work c.order_told.ensures.leaves) c.commit.new.self.0 c.in-Ok-commit.ensures.committed)
+    subst (λ t. Halts (is_stopped c.args.tables.now) (is_stopped t) (c.in-Ok-order_told.told.answer ≡ Err refusal.G10)) (sym back) (committed_halts g.S.Store c.args.tables.now c.in-Ok.work c.order_told.new.work c.in-Ok.ensures.begun (call_looks g.S.Store c.order_told.result c.in-Ok.work c.order_told.new.work c.order_told.ensures.leaves) c.commit.new.self.0 c.in-Ok-commit.ensures.committed)
 
 pub returns-in-Err-commit-clause-tables : goal.returns-in-Err-commit-clause-tables
 returns-in-Err-commit-clause-tables g c =

@@ -60,22 +60,22 @@ returns-in-Err g c =
       halts = record { stopped = λ _. search rules; stays = end.halts.stays; stops = λ _. search rules };
     }
 
-pub returns-in-Told : goal.returns-in-Told
-returns-in-Told g c =
+pub returns-in-ReadOnly : goal.returns-in-ReadOnly
+returns-in-ReadOnly g c =
     let lim = c.args.limits.now in
     let digest = option_map (λ d. d.now) c.args.digest in
     let asked = asked_of c.args.asked.now in
     let old = c.args.tables.now in
     let told = c.in-Ok-serve_told in
-    let it = c.with_line-in-Told in
-    let back = c.tables-in-Told-1.given.1 (sym (c.serve_told.ensures.leaves.same_reference ∙ c.in-Ok.ensures.same_reference)) in
+    let it = c.with_line-in-ReadOnly in
+    let back = c.tables-in-ReadOnly-1.given.1 (sym (c.serve_told.ensures.leaves.same_reference ∙ c.in-Ok.ensures.same_reference)) in
     let looks = call_looks g.S.Store c.serve_told.result c.in-Ok.work c.serve_told.new.work c.serve_told.ensures.leaves in
     only_told g.S.Store lim c.args.traced digest asked old c.requires.tables it.result c.in-Ok.work c.serve_told.new.work c.in-Ok.ensures.begun looks
     told.told told.ensures.told
-    c.in-Told.reply _ c.drop-work-in-Told-1.new.self.0 back c.in-Told.is it.ensures.reply it.ensures.line c.drop-work-in-Told-1.ensures (λ up db l. g.met.S.Store.settled (held old).store db up l)
+    c.in-ReadOnly.reply _ c.drop-work-in-ReadOnly-1.new.self.0 back c.in-ReadOnly.is it.ensures.reply it.ensures.line c.drop-work-in-ReadOnly-1.ensures (λ up db l. g.met.S.Store.settled (held old).store db up l)
 
-pub seek-requires : goal.seek-requires
-seek-requires g c =
+pub search_reply-requires : goal.search_reply-requires
+search_reply-requires g c =
     let back = c.tables-in-Seeks-1.given.1 (sym (c.serve_told.ensures.leaves.same_reference ∙ c.in-Ok.ensures.same_reference)) in
     let looks = call_looks g.S.Store c.serve_told.result c.in-Ok.work c.serve_told.new.work c.serve_told.ensures.leaves in
     subst (λ t. AreUpToDate g.S.Store t) (sym back) (dropped_looked g.S.Store c.args.tables.now c.in-Ok.work c.serve_told.new.work c.in-Ok.ensures.begun looks c.drop.new.self.0 c.requires.tables c.drop.ensures).tables
@@ -93,8 +93,8 @@ returns-in-Seeks g c =
     let dropped = subst (λ t. IsDropped g.S.Store c.serve_told.new.work t) (sym back) c.drop.ensures in
     sought g.S.Store lim c.args.traced digest asked old c.requires.tables it.result c.in-Ok.work c.serve_told.new.work c.in-Ok.ensures.begun looks
     told.told told.ensures.told
-    c.in-Seeks.account c.seek.result c.tables-in-Seeks-1.given.0 c.seek.new.tables c.in-Seeks.is it.ensures.reply it.ensures.line dropped
-    (λ up db l. g.met.S.Store.settled (held old).store db up l) c.seek.ensures.left c.seek.ensures.sought
+    c.in-Seeks.account c.search_reply.result c.tables-in-Seeks-1.given.0 c.search_reply.new.tables c.in-Seeks.is it.ensures.reply it.ensures.line dropped
+    (λ up db l. g.met.S.Store.settled (held old).store db up l) c.search_reply.ensures.left c.search_reply.ensures.sought
 
 pub returns-in-Sends : goal.returns-in-Sends
 returns-in-Sends g c =

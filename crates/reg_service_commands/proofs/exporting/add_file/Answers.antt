@@ -1,5 +1,5 @@
 use Rattle.reg_service_commands.proofs.Words.{Ok, map, sym, ap, ◌∙◌, [], string_bytes, file_text, path_of, ListsVersions, rows_seen}
-use Rattle.reg_service_commands.proofs.Words.{StoreFault, Asks, asks_made, texts_of, entry_of_version, is_given}
+use Rattle.reg_service_commands.proofs.Words.{StoreFault, Queries, asks_made, texts_of, entry_of_version, is_given}
 use Rattle.std.specs.Prelude.{◌++◌, ◌∷◌}
 use Rattle.reg_access.proofs.Questions.{asks_refused}
 use Rattle.reg_service_commands.proofs.ExportAsked.{file_added}
@@ -9,7 +9,7 @@ pub returns-in-Ok : goal.returns-in-Ok
 returns-in-Ok g c =
     let list = c.in_ok-versions.versions in
     let told = c.in_ok-versions.ensures in
-    let asked : Asks {E = StoreFault} g.S.Store c.args.work.now c.versions_of.new.self (Ok list) (λ db list. ListsVersions c.args.listed.now.id db list.items) = record { told = λ clean. (told.told clean).1; same = told.same; leaves = told.leaves } in
+    let asked : Queries {E = StoreFault} g.S.Store c.args.work.now c.versions_of.new.self (Ok list) (λ db list. ListsVersions c.args.listed.now.id db list.items) = record { told = λ clean. (told.told clean).1; same = told.same; leaves = told.leaves } in
     let name = sym (is_given (string_bytes c.args.listed.now.name) c.in-Some.name (rw c.as_str.ensures.value at (sym c.parse_name.ensures ∙ c.in-Some.is))).1 in
     asks_made g.S.Store list tt c.args.work.now c.versions_of.new.self
     (λ lists. file_added (rows_seen g.S.Store c.args.work.now) c.args.listed.now list.items (map texts_of c.args.files.now.items) (map texts_of c.push_file.new.files.items) lists

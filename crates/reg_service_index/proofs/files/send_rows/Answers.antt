@@ -1,8 +1,8 @@
 use Rattle.reg_service_index.proofs.Words.{arith, Bool, ◌∙◌, ◌+◌, [], ◌∷◌, ◌++◌, ap, refl, sym, inl, inr, pos, err_from_is_err_and, state}
 use Rattle.reg_service_index.proofs.Words.{HasCleanDisk, Int, Text, entries_text, entry_row, walk_ends}
 use Rattle.std.proofs.lemmas.List.{length_push}
-use Rattle.reg_tables_meaning.proofs.IndexWalk.{entries_read}
-use Rattle.reg_tables_meaning.proofs.Walking.{walk_fails, walk_left, walked_all, walked_as, was_spared}
+use Rattle.reg_tables_represent.proofs.IndexWalk.{entries_read}
+use Rattle.reg_tables_represent.proofs.Walking.{walk_fails, walk_left, walked_all, walked_as, was_spared}
 use Rattle.reg_service_index.proofs.Left.{left_after}
 use Rattle.reg_service_index.proofs.Rows.{end_stopped, head_put, head_stopped, rows_all, rows_broken, rows_more, rows_none, rows_stopped}
 use Rattle.reg_service_index.proofs.Unsent.{writer_fault}

@@ -1,7 +1,7 @@
 use Rattle.reg_service_index.proofs.Words.{◌∙◌, [], ap, lines_in}
-use Rattle.reg_tables_meaning.specs.Changes.{told_of}
-use Rattle.reg_tables_meaning.specs.Entries.{entries}
-use Rattle.reg_tables_meaning.specs.Stands.{spelling_at}
+use Rattle.reg_tables_represent.specs.Changes.{told_of}
+use Rattle.reg_tables_represent.specs.Entries.{entries}
+use Rattle.reg_tables_represent.specs.Stands.{spelling_at}
 use Rattle.reg_service_index.proofs.Rows.{lines_told}
 use Rattle.reg_service_index.proofs.laws.file_law.Goals as goal
 

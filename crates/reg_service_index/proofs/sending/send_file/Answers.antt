@@ -36,17 +36,17 @@ returns-clause-some g c =
 
 -- tables that have stopped
 
-pub returns-then-is_shut-clause-sends : goal.returns-then-is_shut-clause-sends
-returns-then-is_shut-clause-sends g c clean = inl c.send_no_room.ensures.refuses
+pub returns-then-is_stopped-clause-sends : goal.returns-then-is_stopped-clause-sends
+returns-then-is_stopped-clause-sends g c clean = inl c.send_no_room.ensures.refuses
 
-pub returns-then-is_shut-clause-begun : goal.returns-then-is_shut-clause-begun
-returns-then-is_shut-clause-begun g c e = absurd (c.send_no_room.ensures.refuses.never e)
+pub returns-then-is_stopped-clause-begun : goal.returns-then-is_stopped-clause-begun
+returns-then-is_stopped-clause-begun g c e = absurd (c.send_no_room.ensures.refuses.never e)
 
-pub returns-then-is_shut-clause-ends : goal.returns-then-is_shut-clause-ends
-returns-then-is_shut-clause-ends g c e = absurd (c.send_no_room.ensures.refuses.never e)
+pub returns-then-is_stopped-clause-ends : goal.returns-then-is_stopped-clause-ends
+returns-then-is_stopped-clause-ends g c e = absurd (c.send_no_room.ensures.refuses.never e)
 
-pub returns-then-is_shut-clause-stopped : goal.returns-then-is_shut-clause-stopped
-returns-then-is_shut-clause-stopped g c e = c.send_no_room.ensures.refuses
+pub returns-then-is_stopped-clause-stopped : goal.returns-then-is_stopped-clause-stopped
+returns-then-is_stopped-clause-stopped g c e = c.send_no_room.ensures.refuses
 
 pub returns-then-is_unsent-clause-ends : goal.returns-then-is_unsent-clause-ends
 returns-then-is_unsent-clause-ends g c e = absurd (c.send_no_room-then-is_unsent.ensures.refuses.never e)

@@ -7,7 +7,7 @@ use Rattle.reg_service_requests.proofs.marking.set_yanked.Goals as goal
 
 pub returns : goal.returns
 returns g c limits name =
-    let who = c.args.caller.now in
+    let who = c.args.principal.now in
     let it = c.found_crate-found.result.now in
     let asked = marking c.args.yanked name c.args.version.now in
     let changed = c.in_ok-changed.changed in

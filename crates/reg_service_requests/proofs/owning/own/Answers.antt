@@ -1,5 +1,5 @@
 use Rattle.std.proofs.Common.{Err}
-use Rattle.reg_service_requests.proofs.Words.{◌≡◌, [], ◌∷◌, map, rules, subst, Bor, list_any, string_bytes, bytes_eq, crate_of, action_of}
+use Rattle.reg_service_requests.proofs.Words.{◌≡◌, [], ◌∷◌, map, rules, subst, list_any, string_bytes, bytes_eq, crate_of, action_of}
 use Rattle.reg_service_requests.proofs.Words.{with_commas, ListsOwners, IsFoundOf, rows_seen, IsCrate, owning, changes, owners_word}
 use Rattle.reg_service_requests.proofs.Asking.{change_told}
 use Rattle.reg_service_requests.proofs.Owned.{owning_has}
@@ -9,15 +9,15 @@ use Rattle.reg_service_requests.proofs.owning.own.Goals as goal
 
 pub returns : goal.returns
 returns g c limits name =
-    let who = c.args.caller.now in
+    let who = c.args.principal.now in
     let it = c.found_crate-found.result.now in
     let texts = c.args.logins.now in
     let list = c.in_ok-owners.owners.items in
     let are = c.args.are_owners in
-    let asked = owning are name (map (λ l. l.now) texts) in
+    let asked = owning are name (map string_bytes texts) in
     let changed = c.changes_owners-changed.result in
-    let words = owners_word are ∷ it.name ∷ with_commas (map (λ l. l.now) texts) ∷ [] in
-    let is : changed ≡ changes are (λ (t : Bor _). list_any (λ a. bytes_eq (string_bytes a.login) t.now) list) texts = rw c.deref.ensures.value at c.changes_owners-changed.ensures in
+    let words = owners_word are ∷ it.name ∷ with_commas (map string_bytes texts) ∷ [] in
+    let is : changed ≡ changes are (λ t. list_any (λ a. bytes_eq (string_bytes a.login) (string_bytes t)) list) texts = rw c.deref.ensures.value at c.changes_owners-changed.ensures in
     runs_whole g.S.Store {P = λ db owners. ListsOwners it.id db owners.items} c.in_ok-owners.owners c.in_ok-served.served c.in_ok-line.line _ c.args.work.now c.owners_of.new.self c.set_all.new.work c.tell_owners.new.work
     c.in_ok-owners.ensures c.in_ok-served.ensures c.in_ok-line.ensures
     (λ lists grants told digest lets asks.

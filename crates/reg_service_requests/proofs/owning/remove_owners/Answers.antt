@@ -1,4 +1,4 @@
-use Rattle.reg_service_requests.proofs.Words.{Ok, Err, rules, false, AreLeaving, DoesOwning, Runs, runs_as, runs_nothing, runs_stopped}
+use Rattle.reg_service_requests.proofs.Words.{Ok, Err, rules, false, AreLeaving, DoesOwning, Updates, runs_as, runs_nothing, runs_stopped}
 use Rattle.reg_service_requests.proofs.OwningDone.{owning_denied, owning_done}
 use Rattle.reg_service_requests.proofs.OwningIds.{leaves, may_not_leave, texts_of}
 use Rattle.reg_service_requests.proofs.owning.remove_owners.Goals as goal
@@ -8,7 +8,7 @@ returns-in-Ok-Ok g c =
     let id = c.args.found.now.id in
     let logins = texts_of c.args.logins.now in
     let may : AreLeaving c.args.owners.now logins (Ok c.in-Ok-Ok.accounts) = search rules in
-    let did : Runs g.S.Store c.args.work.now c.change_owners.new.work c.change_owners.result (DoesOwning false id c.in-Ok-Ok.accounts.items) = search rules in
+    let did : Updates g.S.Store c.args.work.now c.change_owners.new.work c.change_owners.result (DoesOwning false id c.in-Ok-Ok.accounts.items) = search rules in
     runs_as g.S.Store c.change_owners.result c.args.work.now c.change_owners.new.work
     (λ it does lists name limits digest lets is. owning_done limits digest false name logins _ lets c.args.found.now is c.in-Ok-Ok.accounts _ it (leaves logins _ id c.args.owners.now lists c.in-Ok-Ok.accounts may) does) did
 

@@ -9,7 +9,7 @@ always false = refl
 
 pub returns : goal.returns
 returns g c =
-    let who = c.args.caller.now in
+    let who = c.args.principal.now in
     let limits = c.args.limits.now in
     let p = publication_of c.args.new.now in
     let words = codes "publish" ∷ p.name ∷ p.version ∷ [] in

@@ -1,6 +1,6 @@
 use Rattle.reg_service_requests.proofs.Words.{ap, option_map, action_of, asked_of, IsPolicy, rows_seen, runs_after, runs_asked, runs_failed}
 use Rattle.reg_service_requests.proofs.Words.{runs_nothing}
-use Rattle.reg_access.specs.Admitted.{TellsCaller, decision_in}
+use Rattle.reg_access.specs.Admitted.{TellsPrincipal, decision_in}
 use Rattle.reg_service_requests.proofs.Deciding.{denied_told, is_let, no_token_told, with_token}
 use Rattle.reg_service_requests.proofs.serving.serve_told.Goals as goal
 
@@ -20,7 +20,7 @@ pub returns-in-Allowed : goal.returns-in-Allowed
 returns-in-Allowed g c =
     let asked = asked_of c.args.asked.now in
     let digest = c.in-Some.digest.now in
-    runs_after g.S.Store {P = λ db it. IsPolicy digest (action_of asked) db (decision_in it) × TellsCaller digest (action_of asked) db it} c.in_ok-rule.field-0 c.grant.result c.args.work.now c.admit.new.work c.grant.new.work
+    runs_after g.S.Store {P = λ db it. IsPolicy digest (action_of asked) db (decision_in it) × TellsPrincipal digest (action_of asked) db it} c.in_ok-rule.field-0 c.grant.result c.args.work.now c.admit.new.work c.grant.new.work
     (record { told = λ clean. ((rw c.action_of.ensures at c.in_ok-rule.ensures.policy) clean, (rw c.action_of.ensures at c.in_ok-rule.ensures.found) clean); same = c.in_ok-rule.ensures.same; leaves = c.in_ok-rule.ensures.leaves }) c.grant.ensures
     (λ it told granted. with_token c.args.traced c.args.limits.now _ digest asked (rows_seen g.S.Store c.args.work.now) (rows_seen g.S.Store c.grant.new.work) it (ap (option_map (λ d. d.now)) c.in-Some.is)
     (granted digest (is_let digest (action_of asked) _ (rw c.in-Allowed.is at told.0)) (rw c.in-Allowed.is at told.1)))

@@ -5,8 +5,8 @@ use Rattle.reg_service_requests.proofs.telling.tell_owners.Goals as goal
 
 pub returns-then-not-told : goal.returns-then-not-told
 returns-then-not-told g c =
-    let who = c.args.caller.now in
-    let words = decimal who.token ∷ string_bytes who.login ∷ owners_word c.args.are_owners ∷ c.args.name.now ∷ with_commas (map (λ l. l.now) c.args.logins.now) ∷ [] in
+    let who = c.args.principal.now in
+    let words = decimal who.token ∷ string_bytes who.login ∷ owners_word c.args.are_owners ∷ c.args.name.now ∷ with_commas (map string_bytes c.args.logins.now) ∷ [] in
     asks_nothing g.S.Store _ c.args.work.now c.requires.goes_on c.requires.at_work (sym (ap (λ b. line_if b words) c.if-not-told.true))
 
 pub returns : goal.returns

@@ -1,7 +1,7 @@
 use Rattle.reg_tables_rows.proofs.Words.{subst, sym, owners_tree, readers_tree, reserved_tree, rows_in, AreCratesById, AreOwnerships}
 use Rattle.reg_tables_rows.proofs.Words.{AreVersions, HaveOwnRowids, ◌⨾◌, fails, left, so_far, told_before, was_clean}
 use Rattle.reg_tables_schema.specs.Places.{crates_tree, versions_tree}
-use Rattle.reg_tables_meaning.proofs.Readings.{still_ready}
+use Rattle.reg_tables_represent.proofs.Readings.{still_ready}
 use Rattle.reg_tables_rows.proofs.all_rows.crate_tables.Goals as goal
 
 pub returns-clause-obeys : goal.returns-clause-obeys

@@ -1,5 +1,5 @@
 use Rattle.reg_tables_sql.specs.Tokens.{AreTokens}
-use Rattle.reg_tables_meaning.proofs.Readings.{◌⨾◌, fails, left, so_far, told_before, was_clean}
+use Rattle.reg_tables_represent.proofs.Readings.{◌⨾◌, fails, left, so_far, told_before, was_clean}
 use Rattle.reg_tables_rows.proofs.all_rows.token_tables.Goals as goal
 
 pub returns-clause-accounts : goal.returns-clause-accounts

@@ -1,5 +1,5 @@
 use Rattle.reg_tables_rows.proofs.Words.{◌≡◌, ◌+◌, length, arith, refl, state, next_id}
-use Rattle.reg_tables_meaning.specs.Stands.{row_of_account}
+use Rattle.reg_tables_represent.specs.Stands.{row_of_account}
 use Rattle.reg_tables_rows.proofs.counts.count_accounts.Goals as goal
 
 pub returns-clause-counted : goal.returns-clause-counted

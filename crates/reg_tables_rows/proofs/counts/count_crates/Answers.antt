@@ -1,5 +1,5 @@
 use Rattle.reg_tables_rows.proofs.Words.{◌∙◌, state, count_is, crates_are, left, so_far, if_ok}
-use Rattle.reg_tables_meaning.specs.Stands.{row_of_crate}
+use Rattle.reg_tables_represent.specs.Stands.{row_of_crate}
 use Rattle.reg_tables_rows.proofs.counts.count_crates.Goals as goal
 
 pub returns-clause-counted : goal.returns-clause-counted

@@ -1,6 +1,6 @@
 use Rattle.reg_tables_rows.proofs.Words.{◌∙◌, ap, length, sym, state, count_is, left, so_far, if_ok}
 use Rattle.std.proofs.lemmas.List.{length-map}
-use Rattle.reg_tables_meaning.specs.Stands.{row_of_version}
+use Rattle.reg_tables_represent.specs.Stands.{row_of_version}
 use Rattle.reg_tables_rows.proofs.counts.count_publications.Goals as goal
 
 pub returns-clause-counted : goal.returns-clause-counted

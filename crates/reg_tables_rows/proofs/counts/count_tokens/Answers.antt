@@ -1,5 +1,5 @@
 use Rattle.reg_tables_rows.proofs.Words.{◌≡◌, ◌+◌, length, arith, refl, state, next_id}
-use Rattle.reg_tables_meaning.specs.Stands.{row_of_token}
+use Rattle.reg_tables_represent.specs.Stands.{row_of_token}
 use Rattle.reg_tables_rows.proofs.counts.count_tokens.Goals as goal
 
 pub returns-clause-counted : goal.returns-clause-counted

@@ -1,5 +1,5 @@
 use Rattle.reg_tables_rows.proofs.Words.{◌∙◌, ap, sym, nat_le, state, crates_are}
-use Rattle.reg_tables_meaning.proofs.CrateCounts.{not_reached}
+use Rattle.reg_tables_represent.proofs.CrateCounts.{not_reached}
 use Rattle.reg_tables_rows.proofs.counts.reaches_crates.Goals as goal
 
 pub returns-then-next-number-clause-told : goal.returns-then-next-number-clause-told

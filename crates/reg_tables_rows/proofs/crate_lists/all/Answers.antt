@@ -1,5 +1,5 @@
 use Rattle.reg_tables_rows.proofs.Words.{state, if_ok}
-use Rattle.reg_tables_meaning.proofs.AllCrates.{all_there, each_is, lists_crates, rising}
+use Rattle.reg_tables_represent.proofs.AllCrates.{all_there, each_is, lists_crates, rising}
 use Rattle.reg_tables_rows.proofs.crate_lists.all.Goals as goal
 
 pub returns-clause-found : goal.returns-clause-found

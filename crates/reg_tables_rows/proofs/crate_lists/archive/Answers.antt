@@ -1,7 +1,7 @@
 use Rattle.reg_tables_rows.proofs.Words.{◌≡◌, subst, state, if_ok}
 use Rattle.reg_tables_sql.specs.Archives.{archives_of, columns_of_bytes}
 use Rattle.reg_tables_schema.specs.Shown.{shown_of}
-use Rattle.reg_tables_meaning.proofs.ArchiveEntries.{finds_archive}
+use Rattle.reg_tables_represent.proofs.ArchiveEntries.{finds_archive}
 use Rattle.reg_tables_rows.proofs.crate_lists.archive.Goals as goal
 
 pub returns-clause-found : goal.returns-clause-found

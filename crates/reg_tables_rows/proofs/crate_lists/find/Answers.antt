@@ -1,5 +1,5 @@
 use Rattle.reg_tables_rows.proofs.Words.{sym, ◌∙◌, state, if_ok}
-use Rattle.reg_tables_meaning.proofs.CrateNames.{shown_crate, crate_first, crate_spelled}
+use Rattle.reg_tables_represent.proofs.CrateNames.{shown_crate, crate_first, crate_spelled}
 use Rattle.reg_tables_rows.proofs.crate_lists.find.Goals as goal
 
 pub returns-clause-found : goal.returns-clause-found

@@ -1,8 +1,8 @@
 use Rattle.reg_tables_rows.proofs.Words.{◌∙◌, sym, was_clean, if_ok}
-use Rattle.reg_tables_meaning.specs.Calls.{ReachesVersions}
-use Rattle.reg_tables_meaning.specs.Stands.{spelling_at}
-use Rattle.reg_tables_meaning.proofs.Readings.{true_before}
-use Rattle.reg_tables_meaning.proofs.Room.{few_lines}
+use Rattle.reg_tables_represent.specs.Calls.{ReachesVersions}
+use Rattle.reg_tables_represent.specs.Stands.{spelling_at}
+use Rattle.reg_tables_represent.proofs.Readings.{true_before}
+use Rattle.reg_tables_represent.proofs.Room.{few_lines}
 use Rattle.reg_tables_rows.proofs.crate_lists.has_lines.Goals as goal
 
 pub returns-then-is_short-clause-told : goal.returns-then-is_short-clause-told

@@ -1,5 +1,5 @@
 use Rattle.reg_tables_rows.proofs.Words.{ap, ◌∙◌, nat_le, state, left, so_far, if_ok}
-use Rattle.reg_tables_meaning.proofs.VersionCounts.{versions_counted}
+use Rattle.reg_tables_represent.proofs.VersionCounts.{versions_counted}
 use Rattle.reg_tables_rows.proofs.crate_lists.has_versions.Goals as goal
 
 pub returns-clause-told : goal.returns-clause-told

@@ -1,5 +1,5 @@
 use Rattle.reg_tables_rows.proofs.Words.{state, if_ok}
-use Rattle.reg_tables_meaning.proofs.VersionEntries.{lists_versions}
+use Rattle.reg_tables_represent.proofs.VersionEntries.{lists_versions}
 use Rattle.reg_tables_rows.proofs.crate_lists.list.Goals as goal
 
 pub returns-clause-found : goal.returns-clause-found

@@ -1,6 +1,6 @@
 use Rattle.reg_tables_rows.proofs.Words.{◌∙◌, sym, state}
 use Rattle.std.proofs.lemmas.Bool.{ltb-true}
-use Rattle.reg_tables_meaning.proofs.VersionCounts.{few_versions}
+use Rattle.reg_tables_represent.proofs.VersionCounts.{few_versions}
 use Rattle.reg_tables_rows.proofs.crate_lists.reaches_versions.Goals as goal
 
 pub returns-then-are_few-clause-told : goal.returns-then-are_few-clause-told

@@ -9,9 +9,9 @@ use Rattle.sqlite.specs.declared.error.ErrorCode.TheVariants.{OutOfMemory}
 use Rattle.reg_tables_sql.specs.declared.versions.StemRow.{StemRow}
 use Rattle.sqlite.specs.Held.{Held}
 use Rattle.sqlite_trees.specs.declared.store.Store.{Ghosts}
-use Rattle.reg_tables_meaning.specs.Walks.{IsRead}
-use Rattle.reg_tables_meaning.proofs.IndexWalk.{entries_read}
-use Rattle.reg_tables_meaning.proofs.Walking.{walk_ends, walk_fails, walk_left, walked, walked_all, walked_as}
+use Rattle.reg_tables_represent.specs.Walks.{IsRead}
+use Rattle.reg_tables_represent.proofs.IndexWalk.{entries_read}
+use Rattle.reg_tables_represent.proofs.Walking.{walk_ends, walk_fails, walk_left, walked, walked_all, walked_as}
 use Rattle.reg_tables_rows.proofs.entries.index_entries.Goals as goal
 
 -- what reading left of a connection, of that connection by another name

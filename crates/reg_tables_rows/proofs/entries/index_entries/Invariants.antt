@@ -1,5 +1,5 @@
 use Rattle.reg_tables_rows.proofs.Words.{◌≡◌, map, pos, ◌∷◌, [], Int, columns_of_stem, entries_text}
-use Rattle.reg_tables_meaning.specs.Walks.{HasWalked}
+use Rattle.reg_tables_represent.specs.Walks.{HasWalked}
 use Rattle.reg_tables_rows.proofs.entries.index_entries.Given as goal
 
 -- the rows so far are in the list

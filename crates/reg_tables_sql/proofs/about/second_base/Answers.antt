@@ -1,4 +1,4 @@
-use Rattle.reg_tables_schema.specs.declared.edition.Edition.TheVariants.{Second}
+use Rattle.reg_tables_schema.specs.declared.edition.SchemaVersion.TheVariants.{Second}
 use Rattle.reg_tables_sql.proofs.about.second_base.Goals as goal
 
 pub returns-in_err-edition : goal.returns-in_err-edition

@@ -1,4 +1,4 @@
-use Rattle.reg_service.proofs.Words.{sym, ap, subst, refl, ◌∙◌, false≢true, Database, HasCleanDisk, Trees, Stands, shown, Shows, BadBase}
+use Rattle.reg_service.proofs.Words.{sym, ap, subst, refl, ◌∙◌, false≢true, Database, HasCleanDisk, Trees, Stands, shown, StandsIn, BadBase}
 use Rattle.reg_service.proofs.Words.{Damaged, Storage, UnknownSchema}
 use Rattle.reg_model.specs.Registry.{empty_at}
 use Rattle.reg_service.proofs.Faults.{apart, not_unknown}
@@ -26,7 +26,6 @@ returns-in-Ok g c =
     let made = c.in-Ok.ensures in
     record {
       made = record {
-        tables = record { ours = made.ours.0; second = made.second };
         goes_on = made.ours.1;
         shows = empty_shown;
         alone = λ clean db l. let rest = (made.made clean).1 in
@@ -44,7 +43,7 @@ returns-in-Ok g c =
       last = tt;
     }
   where
-    empty_shown : HasCleanDisk (shown g.S.Store c.in-Ok.tables) → Shows (empty_at c.args.base.now) (shown g.S.Store c.in-Ok.tables)
+    empty_shown : HasCleanDisk (shown g.S.Store c.in-Ok.tables) → StandsIn (empty_at c.args.base.now) (shown g.S.Store c.in-Ok.tables)
     empty_shown clean up = let it = c.in-Ok.ensures.stands clean in
         (it.0, record { sound = c.soundness_law.ensures.empty c.args.base.now (sym c.is_base.ensures ∙ c.if-not-is_base.false); stands = it.1 })
 

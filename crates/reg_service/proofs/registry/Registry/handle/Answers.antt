@@ -1,47 +1,29 @@
-use Rattle.reg_service.proofs.Words.{arith, inl, inr, ◌∙◌, HasCleanDisk, request_of, is_shut, shown, limits_of, tables_of}
-use Rattle.reg_service.proofs.Streams.{file_told, halts_on, no_room_told}
+use Rattle.reg_service.proofs.Words.{arith, HasCleanDisk, request_of, shown, limits_of, tables_of}
+use Rattle.reg_service.specs.Handled.{RepliesTo}
+use Rattle.reg_service.proofs.Streams.{file_told, no_room_told}
+use Rattle.reg_service.proofs.registry.Registry.handle.Goals.{in-Ok, in-Err}
 use Rattle.reg_service.proofs.registry.Registry.handle.Goals as goal
 
 pub read_file-requires : goal.read_file-requires
-read_file-requires g c = record { ours = c.act.ensures.tables.ours; second = c.act.ensures.tables.second }
+read_file-requires g c = record { ours = c.self.invariant.ours; second = c.self.invariant.second }
 
 pub returns-in-Replied-clause-replies : goal.returns-in-Replied-clause-replies
 returns-in-Replied-clause-replies g c clean s h =
     let acts = c.in-Replied.ensures.replies clean s h in
     (acts.0, acts.1, acts.2)
 
-pub returns-in-Ok : goal.returns-in-Ok
-returns-in-Ok g c =
+pub returns-after-read_file-clause-replies : goal.returns-after-read_file-clause-replies
+returns-after-read_file-clause-replies g c clean s h =
     let limits = limits_of c.args.self.now in
     let asks = request_of limits c.args.request.now in
     let old = tables_of c.args.self.now in
-    let found = tables_of c.act.new.self in
+    let found = c.self.inside.tables in
+    let new = c.read_file.new.tables in
     let left = c.read_file.ensures.left in
-    record {
-      replies = λ clean s h.
-          let early : HasCleanDisk (shown g.S.Store found) = omega (arith, clean, left.survives.clean) in
-          file_told g.S.Store limits s asks.digest asks.asked c.in-Found.file old found c.read_file.new.tables (c.in-Found.ensures.replies early s h) c.act.ensures.tables.ours left clean c.in-Ok.text (c.in-Ok.ensures.reads clean);
-      tables = record { ours = left.ours; second = left.edition ∙ c.act.ensures.tables.second };
-      clean = λ clean. c.act.ensures.clean (omega (arith, clean, left.survives.clean));
-      limits = c.act.ensures.limits;
-      read = elim c.in-Found.ensures.read [ inl fit ↦ inl fit | inr none ↦ absurd none.0 ];
-      halts = halts_on (is_shut old) (is_shut found) (is_shut c.read_file.new.tables) left.shut c.in-Found.ensures.halts;
-    }
-
-pub returns-in-Err : goal.returns-in-Err
-returns-in-Err g c =
-    let limits = limits_of c.args.self.now in
-    let asks = request_of limits c.args.request.now in
-    let old = tables_of c.args.self.now in
-    let found = tables_of c.act.new.self in
-    let left = c.read_file.ensures.left in
-    record {
-      replies = λ clean s h.
-          let early : HasCleanDisk (shown g.S.Store found) = omega (arith, clean, left.survives.clean) in
-          no_room_told g.S.Store limits s asks.digest asks.asked c.in-Found.file old found c.read_file.new.tables (c.in-Found.ensures.replies early s h) c.act.ensures.tables.ours left clean;
-      tables = record { ours = left.ours; second = left.edition ∙ c.act.ensures.tables.second };
-      clean = λ clean. c.act.ensures.clean (omega (arith, clean, left.survives.clean));
-      limits = c.act.ensures.limits;
-      read = elim c.in-Found.ensures.read [ inl fit ↦ inl fit | inr none ↦ absurd none.0 ];
-      halts = halts_on (is_shut old) (is_shut found) (is_shut c.read_file.new.tables) left.shut c.in-Found.ensures.halts;
-    }
+    let early : HasCleanDisk (shown g.S.Store found) = omega (arith, clean, left.survives.clean) in
+    let replies = rw (← c.self.view_is) at c.in-Found.ensures.replies in
+    let finds = replies early s h in
+    elim c.match-read_file.branch as (λ _. RepliesTo g.S.Store limits s asks.digest asks.asked c.match-read_file.result old new) [
+      | in-Ok w ↦ rw w.result-is (file_told g.S.Store limits s asks.digest asks.asked c.in-Found.file old found new finds c.self.invariant.ours left clean w.in-Ok.text (w.in-Ok.ensures.reads clean))
+      | in-Err w ↦ rw w.result-is (no_room_told g.S.Store limits s asks.digest asks.asked c.in-Found.file old found new finds c.self.invariant.ours left clean)
+    ]

@@ -6,14 +6,13 @@ use Rattle.reg_service.proofs.registry.Registry.open.Goals as goal
 pub returns-in-Ok : goal.returns-in-Ok
 returns-in-Ok g c =
     let k = is_taken g.S.Store c.args.conn c.in-Ok.tables c.in-Ok.ensures.edition c.in-Ok.ensures.found c.in-Ok.ensures.about c.in-Ok.ensures.rests c.rows_law.ensures in
-    let r = c.examine.result in
-    let it = c.examine.ensures in
+    let r = c.check_then_migrate.result in
+    let it = c.check_then_migrate.ensures in
     let same = c.edition_law.ensures.same in
     let audited = c.edition_law.ensures.audit in
     let conn = c.args.conn in
     let tables = c.in-Ok.tables in
     record {
-      up_to_date = it.up_to_date;
       goes_on = if_ok r (λ r b. b.goes_on ∙ c.in-Ok.ensures.ours.1) it.begun;
       limited = if_ok r (λ r b. b.limited) it.begun;
       same = opened_same g.S.Store conn tables k r same it.clean it.brought;
@@ -29,7 +28,6 @@ returns-in-Ok g c =
 
 pub returns-in-Err-default-UnknownSchema : goal.returns-in-Err-default-UnknownSchema
 returns-in-Err-default-UnknownSchema g c = record {
-  up_to_date = tt;
   goes_on = tt;
   limited = tt;
   same = tt;
@@ -47,7 +45,6 @@ returns-in-Err-default-UnknownSchema g c = record {
 
 pub returns-in-Err-default-Storage : goal.returns-in-Err-default-Storage
 returns-in-Err-default-Storage g c = record {
-  up_to_date = tt;
   goes_on = tt;
   limited = tt;
   same = tt;

@@ -1,6 +1,6 @@
 use Rattle.std.proofs.Common.{◌∙◌, Err, ap, refl, sym}
 use Rattle.sqlite.specs.Held.{state}
-use Rattle.reg_tables_meaning.proofs.Made.{made_stands}
+use Rattle.reg_tables_represent.proofs.Made.{made_stands}
 use Rattle.reg_tables.proofs.Stopping.{make_leaves, not_ok, same_fault}
 use Rattle.reg_tables.proofs.tables.Tables.make.Goals as goal
 

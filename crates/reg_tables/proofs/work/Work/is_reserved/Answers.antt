@@ -1,5 +1,5 @@
 use Rattle.std.proofs.Common.{subst}
-use Rattle.reg_tables_meaning.specs.Calls.{TellsReserved}
+use Rattle.reg_tables_represent.specs.Calls.{TellsReserved}
 use Rattle.reg_tables.specs.Works.{rows_seen}
 use Rattle.reg_tables.proofs.Calls.{read_on, read_wrong, not_called}
 use Rattle.reg_tables.proofs.work.Work.is_reserved.Goals as goal

@@ -1,8 +1,0 @@
-use Rattle.reg_audit_law.proofs.Opening.{audited, opening}
-use Rattle.reg_audit_law.proofs.laws.opening_law.Goals as goal
-
-pub returns-clause-opening : goal.returns-clause-opening
-returns-clause-opening c = opening
-
-pub returns-clause-audit : goal.returns-clause-audit
-returns-clause-audit c = audited

@@ -1,0 +1,5 @@
+use Rattle.std.proofs.lemmas.Result.{IfOk-weaker}
+use Rattle.reg_cli_args.proofs.usage.audit_words.Goals as goal
+
+pub returns : goal.returns
+returns c = IfOk-weaker c.with_file.result _ _ (λ new h. h _ c.described-command.ensures) c.with_file.ensures

@@ -1,8 +1,0 @@
-use Rattle.std.proofs.lemmas.Result.{IfOk-weaker}
-use Rattle.reg_cli_words.proofs.Making.{arg_added}
-use Rattle.reg_cli_words.proofs.usage.explain_words.Goals as goal
-
-pub returns : goal.returns
-returns c = IfOk-weaker c.arg.result _ _
-    (λ new added. arg_added _ _ _ _ _ c.word.ensures added c.described-command.ensures)
-    c.arg.ensures

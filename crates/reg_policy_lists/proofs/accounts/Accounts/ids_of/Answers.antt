@@ -1,7 +1,0 @@
-use Rattle.std.proofs.Common.{◌≡◌, sym, subst, IfOk}
-use Rattle.reg_policy_lists.specs.Accounts.{id_in}
-use Rattle.reg_policy_lists.proofs.Listed.{filter_map_map}
-use Rattle.reg_policy_lists.proofs.accounts.Accounts.ids_of.Goals as goal
-
-pub returns : goal.returns
-returns c = subst (λ zs. IfOk c.ids_found.result (λ v. v.items ≡ zs)) (sym (filter_map_map (id_in c.args.self.now) (λ l. l.now) c.args.logins.now)) c.ids_found.ensures

@@ -1,5 +1,0 @@
-use Rattle.reg_policy_lists.proofs.Words.{arith, common_steps}
-use Rattle.reg_policy_lists.proofs.publications.Publications.add.Goals as goal
-
-pub returns-clause-ok : goal.returns-clause-ok
-returns-clause-ok c = grind (arith, common_steps)

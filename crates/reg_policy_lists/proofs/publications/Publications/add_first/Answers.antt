@@ -1,5 +1,0 @@
-use Rattle.std.proofs.Common.{rules}
-use Rattle.reg_policy_lists.proofs.publications.Publications.add_first.Goals as goal
-
-pub returns-clause-owner : goal.returns-clause-owner
-returns-clause-owner c = search rules

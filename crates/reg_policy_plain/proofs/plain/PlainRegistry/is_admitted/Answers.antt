@@ -1,5 +1,0 @@
-use Rattle.std.proofs.Common.{rules}
-use Rattle.reg_policy_plain.proofs.plain.PlainRegistry.is_admitted.Goals as goal
-
-pub returns-in-None : goal.returns-in-None
-returns-in-None c = search rules

@@ -1,5 +1,0 @@
-use Rattle.std.proofs.Common.{rules}
-use Rattle.reg_policy_plain.proofs.plain.PlainRegistry.is_granted.Goals as goal
-
-pub returns-then-is_covered : goal.returns-then-is_covered
-returns-then-is_covered c = search rules

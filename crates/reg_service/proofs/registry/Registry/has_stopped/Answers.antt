@@ -1,9 +1,0 @@
-use Rattle.reg_service.specs.Registries.{tables_of}
-use Rattle.reg_service.proofs.Rests.{was_tried}
-use Rattle.reg_service.proofs.registry.Registry.has_stopped.Goals as goal
-
-pub returns-clause-tried : goal.returns-clause-tried
-returns-clause-tried g c = was_tried g.S.Store (tables_of c.args.self.now) c.are_answering.new.self c.requires c.are_answering.ensures.tried
-
-pub returns-clause-tables : goal.returns-clause-tables
-returns-clause-tables g c = (returns-clause-tried g c).tables

@@ -1,5 +1,0 @@
-use Rattle.reg_tables_meaning.proofs.Migrated.{migrated}
-use Rattle.reg_tables_meaning.proofs.laws.migrate_law.Goals as goal
-
-pub returns : goal.returns
-returns c ids s old new stands upgrade = migrated ids s old new stands upgrade
