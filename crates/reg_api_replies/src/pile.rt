@@ -39,8 +39,8 @@ impl WriteBuffer {
     }
 
     /// Puts a text after what waits. If there is no room for both, what waits is sent first, and
-    /// then what the text has beyond the room. Behind what was sent something waits, so that a reply
-    /// that breaks off is never a whole one.
+    /// then what the text has beyond the room. Behind what was sent something waits, so that a
+    /// reply that breaks off is never a whole one.
     pub fn put<W: Write>(
         &mut self,
         w: &mut Counted<W>,
