@@ -6,7 +6,7 @@ use Rattle.sqlite.specs.Effect.{Database}
 use Rattle.sqlite.specs.State.{State, HasCleanDisk, Shows, Survives}
 use Rattle.sqlite.specs.Tree.{Trees}
 use Rattle.reg_tables_schema.specs.declared.edition.SchemaVersion.TheVariants.{Second}
-use Rattle.reg_tables_schema.specs.States.{GoesBack, IsUndone, LeavesCommit}
+use Rattle.reg_tables_schema.specs.States.{GoesBack, HasSchema, IsUndone, LeavesCommit}
 use Rattle.reg_tables.specs.Works.{AreOurs, IsActive, edition_in, has_failed, is_stopped, seen, shown}
 use Rattle.reg_tables.specs.declared.tables.Tables.{Tables}
 use Rattle.reg_tables.specs.declared.work.Work.{Work}
@@ -60,7 +60,7 @@ pub record IsEnded {S T E : Type 0} (g : Ghosts S) (r : Result T E) (old : Work 
   pub refused : OnErr r (IsRefused g old new)
   pub ours : AreOurs g new
   pub survives : Survives (seen g old) (shown g new)
-      (λ db. (has_failed old ≡ false) × (db ≡ (seen g old).now.trees))
+      (λ db. (has_failed old ≡ false) × (db ≡ (seen g old).now.trees) × HasSchema Second db)
 
 -- the end of a transaction that was not: nothing of it is left
 pub record IsDropped {S : Type 0} (g : Ghosts S) (old : Work S) (new : Tables S) : Type 0 where

@@ -6,7 +6,7 @@ ghost use Rattle.sqlite.specs.State.{HasCleanDisk, Survives};
 ghost use Rattle.sqlite.specs.Held.{state};
 ghost use Rattle.reg_model.specs.Registry.{empty_at};
 ghost use Rattle.reg_tables_schema.specs.Schema.{blank, schema_of};
-ghost use Rattle.reg_tables_schema.specs.States.{IsAtRest, IsMade, IsUndone, LeavesCommit};
+ghost use Rattle.reg_tables_schema.specs.States.{HasSchema, IsAtRest, IsMade, IsUndone, LeavesCommit, LeavesOurs};
 ghost use Rattle.reg_tables_sql.specs.Abouts.{HasBase, LacksBase};
 ghost use Rattle.reg_tables.specs.contracts.tables.Tables.{the_row};
 ghost use Rattle.reg_tables.specs.Lending.{LendsConnection};
@@ -19,7 +19,7 @@ use crate::answering;
 use crate::work::{Result, StoreFault, Work};
 use reg_tables_represent::upgrade::begin_second;
 use reg_tables_rows::editions::has_base;
-use reg_tables_schema::laws::{rest_law, stop_law};
+use reg_tables_schema::laws::{live_law, rest_law, stop_law};
 use reg_tables_schema::{MakeFault, SchemaVersion, begin, edition_of, make_tables};
 use sqlite::{Alter, Connection};
 use std::alloc::Global;
@@ -45,6 +45,7 @@ impl<S: Alter> Tables<S> {
         ensures stands { IfOk result (λ t. HasCleanDisk (shown S.Store t) → Stands
             (empty_at base.now) (shown S.Store t).now.trees) }
         ensures ours { IfOk result (λ t. AreOurs S.Store t × (is_stopped t ≡ false)) }
+        ensures leaves { IfOk result (λ t. LeavesOurs SchemaVersion.Second (shown S.Store t)) }
         ensures second { IfOk result (λ t. edition_in t ≡ SchemaVersion.Second) }
         ensures alone { IfOk result (λ t. HasCleanDisk (shown S.Store t) → LeavesCommit
             (shown S.Store t)) }
@@ -89,6 +90,7 @@ impl<S: Alter> Tables<S> {
         ensures edition { IfOk result (λ t. (state S.Store conn).now.schema
             ≡ schema_of (edition_in t)) }
         ensures ours { IfOk result (λ t. AreOurs S.Store t × (is_stopped t ≡ false)) }
+        ensures leaves { IfOk result (λ t. LeavesOurs (edition_in t) (shown S.Store t)) }
         ensures unknown { IfErr result (λ e. HasCleanDisk (state S.Store e.0) → e.1
             ≡ MakeFault.UnknownSchema → (edition : SchemaVersion)
             → (state S.Store conn).now.schema ≡ schema_of edition
@@ -100,6 +102,7 @@ impl<S: Alter> Tables<S> {
             (λ _. ⊥)) }
     {
         rest_law(&conn);
+        live_law(&conn);
         let edition = match edition_of(alloc, conn.schema()) {
             Err(_) => return Err((conn, MakeFault::Storage)),
             Ok(None) => return Err((conn, MakeFault::UnknownSchema)),
@@ -225,7 +228,7 @@ impl<S: Alter> Tables<S> {
         ensures stopped { is_stopped self.old ≡ true → IsErr result }
         ensures survives { Survives (shown S.Store self.old) (shown S.Store self.new)
             (λ db. IsTrue (shown S.Store self.old).is_open
-            × AreUpgraded (shown S.Store self.old).now db) }
+            × AreUpgraded (shown S.Store self.old).now db × HasSchema SchemaVersion.Second db) }
         ensures last { HasCleanDisk (shown S.Store self.new) → OnErr result (LeavesLast
             (shown S.Store self.old) (shown S.Store self.new)) }
     {

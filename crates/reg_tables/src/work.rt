@@ -12,7 +12,7 @@ ghost use Rattle.reg_tables.specs.Ends.{IsDropped, IsEnded};
 ghost use Rattle.reg_tables.specs.Works.{OnAnswer, IsActive, KeepsFrame, Unmoved, seen};
 
 use crate::tables::Tables;
-use reg_tables_schema::laws::stop_law;
+use reg_tables_schema::laws::{live_law, stop_law};
 use reg_tables_schema::{SchemaVersion, finish, undo};
 use reg_tables_sql::records::FromRow;
 use reg_tables_sql::statements::{has_row, rows_of, select_list, select_one};
@@ -73,6 +73,7 @@ impl<S: Alter> Work<'_, S> {
             stop_law(&tables.conn);
             return Err(StoreFault);
         }
+        live_law(&tables.conn);
         if finish(&mut tables.conn).is_err() {
             tables.shut = true;
             stop_law(&tables.conn);

@@ -1,6 +1,6 @@
 //! Whether tables state the schema that they have.
 
-ghost use Rattle.std.specs.Prelude.{◌≡◌, ◌≢◌, [], ◌∷◌, false, IfOk, IsTrue};
+ghost use Rattle.std.specs.Prelude.{◌≡◌, ◌≢◌, [], ◌∷◌, false, IfOk, IsTrue, OnOk};
 ghost use Rattle.sqlite.specs.Held.{state};
 ghost use Rattle.sqlite.specs.State.{HasCleanDisk, KeepsCommit, Survives};
 ghost use Rattle.reg_tables_schema.specs.States.{IsOurs, IsUndone, about_columns};
@@ -29,6 +29,8 @@ fn read_base<S: Alter>(conn: &mut Connection<S>, edition: SchemaVersion) -> Resu
         (λ has. IsTrue has → HasBase edition (state S.Store conn.old).now.trees) }
     ensures lacks { HasCleanDisk (state S.Store conn.new) → IfOk result
         (λ has. has ≡ false → LacksBase edition (state S.Store conn.old).now.trees) }
+    ensures was_open { HasCleanDisk (state S.Store conn.new) → OnOk result
+        (IsTrue (state S.Store conn.old).is_open) }
     ensures keeps { HasCleanDisk (state S.Store conn.new) → KeepsCommit (state S.Store conn.old)
         (state S.Store conn.new) }
     ensures survives { Survives (state S.Store conn.old) (state S.Store conn.new) (λ _. ⊥) }
@@ -45,6 +47,8 @@ pub fn has_base<S: Alter>(conn: &mut Connection<S>, edition: SchemaVersion) -> R
         (λ has. IsTrue has → HasBase edition (state S.Store conn.old).now.trees) }
     ensures lacks { HasCleanDisk (state S.Store conn.new) → IfOk result
         (λ has. has ≡ false → LacksBase edition (state S.Store conn.old).now.trees) }
+    ensures was_open { HasCleanDisk (state S.Store conn.new) → OnOk result
+        (IsTrue (state S.Store conn.old).is_open) }
     ensures undone { HasCleanDisk (state S.Store conn.new) → IsUndone (state S.Store conn.old)
         (state S.Store conn.new) }
     ensures ours { IsOurs edition (state S.Store conn.new) }

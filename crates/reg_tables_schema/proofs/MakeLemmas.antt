@@ -8,7 +8,8 @@ use Rattle.reg_tables_schema.proofs.Words.{AddsColumns}
 use Rattle.std.proofs.Common.{◌≢◌}
 use Rattle.std.specs.Prelude.{take}
 use Rattle.sqlite.specs.Listing.{understood}
-use Rattle.sqlite.specs.State.{KeepsCommit, CommitsBy}
+use Rattle.sqlite.specs.State.{IsLive, KeepsCommit, CommitsBy}
+use Rattle.sqlite_catalog.specs.Listing.{IsSound}
 use Rattle.sqlite_tied.specs.Compute.{everything}
 use Rattle.reg_tables_schema.specs.declared.make.TheConstants.{INSERT_ABOUT_TEXT}
 use Rattle.reg_tables_schema.specs.States.{Extends, IsAtRest, IsMade, about_columns}
@@ -43,11 +44,12 @@ others_empty : (tables : List Table) (old new : Trees) → AllByRecursion (λ t.
 others_empty [] old new e h = tt
 others_empty (t ∷ more) old new e h = ((λ other. h.0 other ∙ e.0), others_empty more old new e.1 h.1)
 
-pub is_made : (mid last : State) (base : List ℕ) → HasMade ours mid → AddsColumns 0 (about_columns Second base) mid last → IsMade base last.now
-is_made mid last base has adds =
+pub is_made : (mid last : State) (base : List ℕ) → HasMade ours mid → AddsColumns 0 (about_columns Second base) mid last → IsLive last → IsMade base last.now
+is_made mid last base has adds live =
     let b = adds.1.becomes in
     record {
       schema_is = b.inside.schema_is;
+      sound = subst (λ s. IsSound s last.now.trees) b.inside.schema_is (live b.inside.is_open).0;
       about = ap (map (drop 1)) (b.rows_are ∙ ap (put_row (Int adds.0 ∷ about_columns Second base)) has.made.empty.0);
       empty = others_empty our_tables mid.now.trees last.now.trees has.made.empty b.others;
     }

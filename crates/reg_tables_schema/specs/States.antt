@@ -9,6 +9,7 @@ use Rattle.sqlite.specs.Order.{Row}
 use Rattle.sqlite.specs.declared.types.Value.TheVariants.{Int, Text}
 use Rattle.sqlite.specs.Schema.{Schema}
 use Rattle.sqlite.specs.State.{State, HasCleanDisk, IsUnchanged, IsRolledBack}
+use Rattle.sqlite_catalog.specs.Listing.{IsSound}
 use Rattle.reg_tables_schema.specs.declared.edition.SchemaVersion.{SchemaVersion}
 use Rattle.reg_tables_schema.specs.declared.edition.SchemaVersion.TheVariants.{Second}
 use Rattle.reg_tables_schema.specs.Schema.{ours, our_tables, old_tables, schema_of, number_of}
@@ -33,6 +34,14 @@ IsReadyOf e s = HasCleanDisk s → IsInsideOf e s
 
 abbrev pub IsReady : State → Type 0
 IsReady s = IsReadyOf Second s
+
+-- a database that lists this edition's tables and obeys their schema
+abbrev pub HasSchema : SchemaVersion → Trees → Type 0
+HasSchema e db = IsSound (schema_of e) db
+
+-- whatever a crash leaves at this moment is of this edition
+abbrev pub LeavesOurs : SchemaVersion → State → Type 0
+LeavesOurs e s = HasCleanDisk s → (db : Trees) → s.may_leave db → HasSchema e db
 
 -- what a transaction goes back to is of this edition
 abbrev pub GoesBack : SchemaVersion → State → Type 0
@@ -102,6 +111,7 @@ about_columns e base = Int (pos (number_of e)) ∷ Text base ∷ []
 -- a registry of this base with nothing in it
 pub record IsMade (base : List ℕ) (db : Database) : Type 0 where
   pub schema_is : db.schema ≡ ours
+  pub sound : HasSchema Second db.trees
   pub about : map (drop 1) (db.trees 0) ≡ about_columns Second base ∷ []
   pub empty : AllByRecursion (λ t. t.tree ≢ 0 → db.trees t.tree ≡ []) our_tables
 

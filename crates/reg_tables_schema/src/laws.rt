@@ -2,6 +2,7 @@
 
 ghost use Rattle.std.specs.Prelude.{◌≡◌, false, IsTrue};
 ghost use Rattle.sqlite.specs.Held.{state};
+ghost use Rattle.sqlite.specs.State.{IsLive};
 ghost use Rattle.reg_tables_schema.specs.States.{LeavesCommit};
 
 use sqlite::{Alter, Connection};
@@ -20,4 +21,11 @@ pub fn rest_law<S: Alter>(conn: &Connection<S>)
         ≡ (state S.Store conn.now).committed }
 {
     let _ = conn.is_autocommit();
+}
+
+/// What an open connection shows, and what was committed, are databases that obey their schemas.
+pub fn live_law<S: Alter>(conn: &Connection<S>)
+    ensures { IsLive (state S.Store conn.now) }
+{
+    let _ = conn.schema();
 }

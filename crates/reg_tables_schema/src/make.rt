@@ -8,6 +8,7 @@ ghost use Rattle.reg_tables_schema.specs.States.{Extends, IsReady, IsReadyOf, Is
 ghost use Rattle.reg_tables_schema.specs.Changes.{AddsColumns};
 
 use crate::edition::SchemaVersion;
+use crate::laws::live_law;
 use crate::texts;
 use crate::transaction::{begin, finish, undo};
 use sqlite::{Alter, Connection, Error, params};
@@ -129,6 +130,7 @@ fn fill<S: Alter>(conn: &mut Connection<S>, base: &str) -> Result<(), Error>
 {
     create_tables(conn)?;
     insert_about(conn, base)?;
+    live_law(conn);
     Ok(())
 }
 
