@@ -17,7 +17,7 @@ use reg_cli_line::Exit;
 use reg_cli_run::{CALLS, add_token, make_token, obey};
 use reg_policy::AdminCommand;
 use reg_service::Registry;
-use sqlite::Alter;
+use sqlite::{Alter, Start};
 use std::alloc::{AllocError, Global};
 use std::io::Write;
 
@@ -91,7 +91,12 @@ fn with_file<'a>(task: AdminTask<'a>, file: &'a str) -> AdminTask<'a>
 }
 
 /// Does what the arguments of a subcommand ask for, on the file that they name.
-pub(crate) fn administer(rt: &HostRuntime, name: &str, words: &ArgMatches<'_>) -> Exit {
+pub(crate) fn administer<F: Start>(
+    rt: &HostRuntime,
+    name: &str,
+    words: &ArgMatches<'_>,
+    start: F,
+) -> Exit {
     let task = match read_task(rt.alloc(), name, words) {
         Ok(Some(task)) => task,
         Ok(None) => return Exit::BAD_WORDS,
@@ -103,7 +108,8 @@ pub(crate) fn administer(rt: &HostRuntime, name: &str, words: &ArgMatches<'_>) -
     match whole_path(rt, file) {
         Ok(file) => {
             let task = with_file(task, &file);
-            on_whole_file(rt, &file, Limits::STANDARD, &FileTask::AdminTask(&task))
+            let wanted = FileTask::AdminTask(&task);
+            on_whole_file(rt, &file, Limits::STANDARD, &wanted, start)
         }
         Err(exit) => exit,
     }

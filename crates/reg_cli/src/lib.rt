@@ -19,4 +19,4 @@ mod words;
 
 pub use reg_cli_line::{Exit, run_line};
 pub use reg_cli_run::{pipe_traced, run_pipe};
-pub use words::run_words;
+pub use words::{run_from, run_words};

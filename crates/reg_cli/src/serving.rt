@@ -8,7 +8,7 @@ ghost use Rattle.reg_cli_run.specs.Limited.{HasTurns};
 ghost use Rattle.reg_cli.specs.Setups.{IsSetup};
 
 use crate::files::whole_path;
-use crate::store::{connect, create, open};
+use crate::store::{connect, create, open, open_again};
 use crate::using::{FileTask, on_file};
 use clap::ArgMatches;
 use reg_body::{Counted, Limits};
@@ -16,7 +16,8 @@ use reg_cli_line::Exit;
 use reg_cli_run::{Listener, Service, mark_opening, read_service, run_pipe, serve_connections};
 use reg_http::{Server, Trail};
 use reg_service::Registry;
-use sqlite::{Alter, Connection};
+use sqlite::{Alter, Connection, FileStore, Start};
+use sqlite_disk::Disk;
 use std::fs;
 use std::io::Write;
 
@@ -80,10 +81,10 @@ fn pipe_memory(rt: &HostRuntime, words: &ArgMatches<'_>) -> Result<Exit, Exit> {
 }
 
 /// `pipe`.
-pub(crate) fn pipe(rt: &HostRuntime, words: &ArgMatches<'_>) -> Exit {
+pub(crate) fn pipe<F: Start>(rt: &HostRuntime, words: &ArgMatches<'_>, start: F) -> Exit {
     if let Some(file) = words.get_str("db") {
         let setup = words.get_str("setup");
-        return on_file(rt, file, Limits::STANDARD, &FileTask::Pipe(setup));
+        return on_file(rt, file, Limits::STANDARD, &FileTask::Pipe(setup), start);
     }
     match pipe_memory(rt, words) {
         Ok(exit) | Err(exit) => exit,
@@ -101,11 +102,11 @@ fn exit_of(done: Result<(), Exit>) -> Exit
 }
 
 /// `init`.
-pub(crate) fn init(rt: &HostRuntime, words: &ArgMatches<'_>) -> Exit {
+pub(crate) fn init<F: Start>(rt: &HostRuntime, words: &ArgMatches<'_>, start: F) -> Exit {
     let (Some(file), Some(base)) = (words.get_str("db"), words.get_str("base")) else {
         return Exit::BAD_WORDS;
     };
-    on_file(rt, file, Limits::STANDARD, &FileTask::Make(base))
+    on_file(rt, file, Limits::STANDARD, &FileTask::Make(base), start)
 }
 
 /// Listens, unless it does already, marks the opening in the trail, and serves connections.
@@ -151,37 +152,17 @@ fn serve_store<S: Alter + Drop, T: Write>(
     Ok((served, registry.into_connection()))
 }
 
-/// Opens the file, serves connections, and closes the file.
-fn serve_opening<T: Write>(
-    rt: &HostRuntime,
-    server: &mut Server,
-    trail: &mut Trail<T>,
-    file: &str,
-    limits: Limits,
-    listener: &mut Listener,
-    left: &mut u64,
-) -> Result<(), Exit>
-    requires turns { HasTurns limits }
-    requires room { listener.old.accepted + left.old < 2 ^ 64 }
-    ensures counts { listener.new.accepted + left.new ≡ listener.old.accepted + left.old }
-    ensures fewer { OnOk result (0 < left.new → left.new < left.old) }
-{
-    let conn = connect(rt, file)?;
-    let (served, conn) = serve_store(rt, server, trail, conn, limits, listener, left)?;
-    let _ = conn.close();
-    served
-}
-
-/// Serves as many connections as asked. Once the registry has stopped, the file is opened again
+/// Serves as many connections as asked. Once the registry has stopped, its files are opened again
 /// before the next connection; if that fails, the run ends. The trail goes on over all openings.
-fn serve_openings<T: Write>(
+fn serve_openings<D: Disk + Drop, T: Write>(
     rt: &HostRuntime,
     trail: &mut Trail<T>,
-    file: &str,
+    mut conn: Connection<FileStore<D>>,
     service: &Service,
     listener: &mut Listener,
 ) -> Result<(), Exit>
-    requires { listener.old.accepted ≡ 0 }
+    requires begun { conn.in_transaction ≡ false }
+    requires none { listener.old.accepted ≡ 0 }
     ensures served { OnOk result (listener.new.accepted ≡ service.now.connections) }
 {
     let Ok(mut server) = Server::new(rt.alloc()) else {
@@ -189,48 +170,54 @@ fn serve_openings<T: Write>(
     };
     let mut left = service.connections;
     'openings: loop {
-        serve_opening(
+        let limits = service.limits();
+        let (served, back) = serve_store(
             rt,
             &mut server,
             trail,
-            file,
-            service.limits(),
+            conn,
+            limits,
             listener,
             &mut left,
         )?;
-        if left == 0 {
-            return Ok(());
+        if left == 0 || served.is_err() {
+            let _ = back.close();
+            return served;
         }
+        conn = open_again(rt, back)?;
     }
 }
 
 /// Serves the registry of a file, with one trail.
-fn serve_file(
+fn serve_file<F: Start>(
     rt: &HostRuntime,
     file: &str,
     service: &Service,
     listener: &mut Listener,
+    start: F,
 ) -> Result<(), Exit>
     requires { listener.old.accepted ≡ 0 }
     ensures served { OnOk result (listener.new.accepted ≡ service.now.connections) }
 {
     let file = whole_path(rt, file)?;
+    let conn = connect(rt, &file, start)?;
     let mut trail = Trail::new(rt.stdout(), service.writes());
-    serve_openings(rt, &mut trail, &file, service, listener)
+    serve_openings(rt, &mut trail, conn, service, listener)
 }
 
 /// `serve`.
-pub(crate) fn serve(rt: &HostRuntime, words: &ArgMatches<'_>) -> Exit {
+pub(crate) fn serve<F: Start>(rt: &HostRuntime, words: &ArgMatches<'_>, start: F) -> Exit {
     let (Some(service), Some(file)) = (read_service(words), words.get_str("db")) else {
         return Exit::BAD_WORDS;
     };
-    exit_of(serve_file(rt, file, &service, &mut Listener::at(service.port)))
+    let mut listener = Listener::at(service.port);
+    exit_of(serve_file(rt, file, &service, &mut listener, start))
 }
 
 /// `audit`.
-pub(crate) fn check(rt: &HostRuntime, words: &ArgMatches<'_>) -> Exit {
+pub(crate) fn check<F: Start>(rt: &HostRuntime, words: &ArgMatches<'_>, start: F) -> Exit {
     match words.get_str("db") {
-        Some(file) => on_file(rt, file, Limits::STANDARD, &FileTask::Check),
+        Some(file) => on_file(rt, file, Limits::STANDARD, &FileTask::Check, start),
         None => Exit::BAD_WORDS,
     }
 }

@@ -1,16 +1,24 @@
 //! The registry's file.
 
 ghost use Rattle.std.specs.Prelude.{◌≡◌, false, IfOk};
+ghost use Rattle.sqlite.specs.Files.{IsOpened, file_state};
 ghost use Rattle.sqlite.specs.Held.{IsNew, state};
-ghost use Rattle.reg_service.specs.Registries.{limits_of};
+ghost use Rattle.sqlite.specs.Start.{FindsIn};
+ghost use Rattle.sqlite.specs.State.{HasCleanDisk};
+ghost use Rattle.sqlite_wal.specs.Files.{image_at};
+ghost use Rattle.reg_tables.specs.Works.{shown};
+ghost use Rattle.reg_service.specs.Answered.{HoldsRegistry, StandsIn};
+ghost use Rattle.reg_service.specs.Registries.{limits_of, tables_of};
 ghost use Rattle.reg_cli.specs.Exits.{status_of_opening, words_of_damage, words_of_opening};
 
 use crate::files::is_orphaned;
 use reg_body::Limits;
 use reg_cli_line::Exit;
 use reg_service::{Check, OpenFault, Registry};
-use sqlite::{Alter, Connection, File, FileStore};
+use sqlite::{Alter, Connection, FileFrom, FileStore, Options, Start};
+use sqlite_disk::Disk;
 use std::alloc::Global;
+use std::hash::{BuildHasher, RandomState};
 
 pub(crate) fn damage_words(check: Check) -> &'static str
     ensures { result.now ≡ words_of_damage check }
@@ -49,14 +57,50 @@ pub(crate) fn exit_of_opening(fault: OpenFault) -> Exit
     }
 }
 
-/// A connection to the file, by its whole path. If its log has lost it, neither is touched.
-pub(crate) fn connect(rt: &HostRuntime, file: &str) -> Result<Connection<FileStore<File>>, Exit>
-    ensures { IfOk result IsNew }
+/// A connection to the file, by its whole path. If its log has lost it, neither is touched. What is
+/// found is what the two files held, which `F` stands for.
+pub(crate) fn connect<F: Start>(
+    rt: &HostRuntime,
+    file: &str,
+    start: F,
+) -> Result<Connection<FileStore<FileFrom<F>>>, Exit>
+    ensures new { IfOk result IsNew }
+    ensures opened { IfOk result (λ c. HasCleanDisk (file_state c) → IsOpened c) }
+    ensures found { IfOk result (λ c. HasCleanDisk (file_state c)
+        → FindsIn (image_at F.Start) (file_state c)) }
 {
     if is_orphaned(rt, file)? {
         return Err(Exit::STORAGE);
     }
-    match Connection::open(rt, file) {
+    match Connection::open_from(rt, file, false, start) {
+        Ok(conn) => Ok(conn),
+        Err(_) => Err(Exit::STORAGE),
+    }
+}
+
+/// The options of an opening: a new log is told from an old one by a number drawn at random.
+fn drawn_options(rt: &HostRuntime) -> Result<Options, Exit> {
+    match RandomState::new(rt) {
+        Ok(random) => Ok(Options::new(random.hash_one(&0u8))),
+        Err(_) => Err(Exit::STORAGE),
+    }
+}
+
+/// The same files, opened again after their registry has stopped: what is found is what they hold
+/// now. After a sync has failed nothing is known of them, and they are left as they are.
+pub(crate) fn open_again<D: Disk + Drop>(
+    rt: &HostRuntime,
+    conn: Connection<FileStore<D>>,
+) -> Result<Connection<FileStore<D>>, Exit>
+    ensures new { IfOk result IsNew }
+    ensures opened { IfOk result (λ c. HasCleanDisk (file_state c) → IsOpened c) }
+{
+    let files = conn.into_store().close();
+    if !files.may_be_used() {
+        return Err(Exit::STORAGE);
+    }
+    let options = drawn_options(rt)?;
+    match Connection::open_files_with(rt.alloc(), files, options, false) {
         Ok(conn) => Ok(conn),
         Err(_) => Err(Exit::STORAGE),
     }
@@ -70,6 +114,9 @@ pub(crate) fn open<S: Alter + Drop>(
 ) -> Result<Registry<S>, Exit>
     requires { (state S.Store conn).in_transaction ≡ false }
     ensures limited { IfOk result (λ r. limits_of r ≡ limits) }
+    ensures same { IfOk result (λ r. HasCleanDisk (shown S.Store (tables_of r)) → (s : _)
+        → HoldsRegistry s (state S.Store conn).now.trees
+        → StandsIn s (shown S.Store (tables_of r))) }
 {
     match Registry::open(alloc, conn, limits) {
         Ok(registry) => Ok(registry),

@@ -14,7 +14,7 @@ use reg_body::{Counted, Limits};
 use reg_cli_line::Exit;
 use reg_cli_run::print;
 use reg_service::Registry;
-use sqlite::{Alter, Connection};
+use sqlite::{Alter, Connection, Start};
 use std::alloc::Global;
 use std::io;
 
@@ -85,43 +85,51 @@ fn exit_of_use(rt: &HostRuntime, wanted: &FileTask<'_>, exit: Exit, is_closed: b
 }
 
 /// Uses the registry of a file, by its whole path.
-fn use_file(
+fn use_file<F: Start>(
     rt: &HostRuntime,
     file: &str,
     limits: Limits,
     wanted: &FileTask<'_>,
+    start: F,
 ) -> Result<Exit, Exit>
     requires turns { HasTurns limits }
     requires fit { IsFitUse wanted.now }
 {
-    let conn = connect(rt, file)?;
+    let conn = connect(rt, file, start)?;
     let (exit, conn) = use_store(rt, conn, limits, wanted)?;
     let is_closed = conn.close().is_ok();
     Ok(exit_of_use(rt, wanted, exit, is_closed))
 }
 
 /// Uses the registry of a file, by its whole path.
-pub(crate) fn on_whole_file(
+pub(crate) fn on_whole_file<F: Start>(
     rt: &HostRuntime,
     file: &str,
     limits: Limits,
     wanted: &FileTask<'_>,
+    start: F,
 ) -> Exit
     requires turns { HasTurns limits }
     requires fit { IsFitUse wanted.now }
 {
-    match use_file(rt, file, limits, wanted) {
+    match use_file(rt, file, limits, wanted, start) {
         Ok(exit) | Err(exit) => exit,
     }
 }
 
 /// Uses the registry of a file.
-pub(crate) fn on_file(rt: &HostRuntime, file: &str, limits: Limits, wanted: &FileTask<'_>) -> Exit
+pub(crate) fn on_file<F: Start>(
+    rt: &HostRuntime,
+    file: &str,
+    limits: Limits,
+    wanted: &FileTask<'_>,
+    start: F,
+) -> Exit
     requires turns { HasTurns limits }
     requires fit { IsFitUse wanted.now }
 {
     match whole_path(rt, file) {
-        Ok(file) => on_whole_file(rt, &file, limits, wanted),
+        Ok(file) => on_whole_file(rt, &file, limits, wanted, start),
         Err(exit) => exit,
     }
 }

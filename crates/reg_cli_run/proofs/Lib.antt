@@ -1,3 +1,4 @@
 mod LineFacts
 mod Orders
+mod Visiting
 mod Words

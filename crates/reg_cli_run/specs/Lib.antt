@@ -9,3 +9,4 @@ pub mod Printing
 pub mod Services
 pub mod Setups
 pub mod Tokens
+pub mod Visits

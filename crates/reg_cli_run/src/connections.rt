@@ -8,31 +8,40 @@ ghost use Rattle.reg_tables.specs.Works.{is_stopped, shown};
 ghost use Rattle.reg_cli_run.specs.Exits.{EndsWith};
 ghost use Rattle.reg_cli_run.specs.Limited.{HasTurns};
 ghost use Rattle.reg_cli_run.specs.Marking.{IsMarked};
+ghost use Rattle.reg_cli_run.specs.Visits.{IsServedSo, ServesThenTries, ServesVisit};
 
-use crate::listener::Listener;
+use crate::door::Door;
 use reg_body::Counted;
 use reg_cli_line::Exit;
 use reg_http::{Server, Trail};
+use reg_model::laws::telling_law;
 use reg_service::Registry;
+use reg_service::laws::{joined_law, tried_law};
 use sqlite::Alter;
 use std::alloc::Global;
 use std::io::Write;
-use std::net::TcpStream;
 
 /// Serves one connection. A stream that fails ends its connection alone.
-fn serve_connection<S: Alter, T: Write>(
+fn serve_connection<S: Alter, T: Write, D: Door>(
     alloc: Global,
     server: &mut Server,
     registry: &mut Registry<S>,
     trail: &mut Trail<T>,
-    stream: &TcpStream,
+    door: &mut D,
+    reader: D::Reader,
+    writer: D::Writer,
 )
     requires turns { HasTurns (limits_of registry.old) }
-    ensures limits { limits_of registry.new ≡ limits_of registry.old }
+    ensures counts { D.accepted door.new ≡ D.accepted door.old }
+    ensures serves { ServesVisit S.Store (D.Reader.remaining reader) (D.Writer.contents writer)
+        (D.log door.old) (D.log door.new) registry.old registry.new
+        (tail (T.contents trail.old.end.inner) trail.old)
+        (tail (T.contents trail.new.end.inner) trail.new) }
 {
-    let mut reader = Counted::new(stream);
-    let mut writer = Counted::new(stream);
+    let mut reader = Counted::new(reader);
+    let mut writer = Counted::new(writer);
     let _ = server.serve_traced(alloc, registry, &mut reader, &mut writer, trail);
+    door.leave(reader.into_inner(), writer.into_inner());
 }
 
 /// Tells the trail that a registry was opened, and how much it has, so that a change whose line was
@@ -56,49 +65,58 @@ pub fn mark_opening<S: Alter, T: Write>(
 
 /// Serves the next connection, and returns whether the registry has stopped. A client that hung up
 /// before it was accepted counts as served.
-fn serve_next<S: Alter, T: Write>(
+fn serve_next<S: Alter, T: Write, D: Door>(
     rt: &HostRuntime,
     server: &mut Server,
     registry: &mut Registry<S>,
     trail: &mut Trail<T>,
-    listener: &mut Listener,
+    door: &mut D,
 ) -> Result<bool, Exit>
     requires turns { HasTurns (limits_of registry.old) }
-    requires room { listener.old.accepted + 1 < 2 ^ 64 }
-    ensures counts { MatchResult result (λ _. listener.new.accepted ≡ listener.old.accepted + 1)
-        (λ exit. EndsWith 3 (codes "listen fault") exit × (listener.new ≡ listener.old)) }
+    requires room { D.accepted door.old + 1 < 2 ^ 64 }
+    ensures counts { MatchResult result (λ _. D.accepted door.new ≡ D.accepted door.old + 1)
+        (λ exit. EndsWith 3 (codes "listen fault") exit × (door.new ≡ door.old)
+        × (registry.new ≡ registry.old) × (trail.new ≡ trail.old)) }
     ensures told { IfOk result (λ stopped. stopped ≡ is_stopped (tables_of registry.new)) }
     ensures known { HasCleanDisk (shown S.Store (tables_of registry.new)) → OnOk result
         (IsTrue (shown S.Store (tables_of registry.new)).is_open
         ⊎ (is_stopped (tables_of registry.new) ≡ true)) }
-    ensures limits { limits_of registry.new ≡ limits_of registry.old }
+    ensures serves { OnOk result (ServesThenTries S.Store 1 (D.log door.old) (D.log door.new)
+        registry.old registry.new (tail (T.contents trail.old.end.inner) trail.old)
+        (tail (T.contents trail.new.end.inner) trail.new)) }
 {
-    let stream = listener.accept(rt)?;
-    if let Some(stream) = &stream {
-        serve_connection(rt.alloc(), server, registry, trail, stream);
+    if let Some((reader, writer)) = door.accept(rt)? {
+        serve_connection(rt.alloc(), server, registry, trail, door, reader, writer);
     }
     Ok(registry.is_stopped())
 }
 
 /// Serves connections, one after another, until `left` are served or the registry has stopped: then
 /// it answers only S1, and its store has to be opened again.
-pub fn serve_connections<S: Alter, T: Write>(
+pub fn serve_connections<S: Alter, T: Write, D: Door>(
     rt: &HostRuntime,
     server: &mut Server,
     registry: &mut Registry<S>,
     trail: &mut Trail<T>,
-    listener: &mut Listener,
+    door: &mut D,
     left: &mut u64,
 ) -> Result<(), Exit>
     requires turns { HasTurns (limits_of registry.old) }
-    requires room { listener.old.accepted + left.old < 2 ^ 64 }
-    ensures counts { listener.new.accepted + left.new ≡ listener.old.accepted + left.old }
+    requires room { D.accepted door.old + left.old < 2 ^ 64 }
+    ensures counts { D.accepted door.new + left.new ≡ D.accepted door.old + left.old }
     ensures ok { OnOk result ((left.new ≡ 0)
         ⊎ ((is_stopped (tables_of registry.new) ≡ true) × (left.new < left.old))) }
     ensures err { IfErr result (EndsWith 3 (codes "listen fault")) }
+    ensures serves { (number : _) × (left.new + number ≡ left.old)
+        × IsServedSo S.Store number (D.log door.old) (D.log door.new) registry.old registry.new
+        (tail (T.contents trail.old.end.inner) trail.old)
+        (tail (T.contents trail.new.end.inner) trail.new) }
 {
+    joined_law::<S>();
+    tried_law::<S>();
+    telling_law();
     'connections: while *left > 0 {
-        let stopped = serve_next(rt, server, registry, trail, listener)?;
+        let stopped = serve_next(rt, server, registry, trail, door)?;
         *left -= 1;
         if stopped {
             return Ok(());

@@ -11,6 +11,7 @@
 #![tactic(auto)]
 
 mod connections;
+mod door;
 mod exit;
 mod folder;
 mod listener;
@@ -22,6 +23,7 @@ mod setup;
 mod tokens;
 
 pub use connections::{mark_opening, serve_connections};
+pub use door::Door;
 pub use exit::exit_of_refusal;
 pub use folder::{Folder, FolderAt, join_path, write_files};
 pub use listener::Listener;

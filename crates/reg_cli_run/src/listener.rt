@@ -1,8 +1,9 @@
-//! Where connections come from.
+//! Connections from a port.
 
-ghost use Rattle.std.specs.Prelude.{◌≡◌, ◌+◌, ◌^◌, ◌<◌, codes, IfErr, MatchResult};
+ghost use Rattle.std.specs.Prelude.{◌≡◌, codes, IfErr, None};
 ghost use Rattle.reg_cli_run.specs.Exits.{EndsWith};
 
+use crate::door::Door;
 use crate::printing::print;
 use reg_cli_line::Exit;
 use std::io::ErrorKind;
@@ -85,15 +86,29 @@ impl Listener {
         }
         Ok(())
     }
+}
+
+/// Both ends of a connection; none if the system has no room for the second.
+fn ends_of(stream: TcpStream) -> Option<(TcpStream, TcpStream)> {
+    match stream.try_clone() {
+        Ok(writer) => Some((stream, writer)),
+        Err(_) => None,
+    }
+}
+
+impl Door for Listener {
+    type Reader = TcpStream;
+
+    type Writer = TcpStream;
+
+    ghost log = { λ _. None };
+
+    ghost accepted = { λ l. l.accepted };
 
     /// Waits for a connection, and counts it: also one that is none, since its client hung up
     /// before. What is written to it leaves at once, without waiting for earlier data to be
     /// acknowledged.
-    pub fn accept(&mut self, rt: &HostRuntime) -> Result<Option<TcpStream>, Exit>
-        requires { self.old.accepted + 1 < 2 ^ 64 }
-        ensures { MatchResult result (λ _. self.new.accepted ≡ self.old.accepted + 1)
-            (λ exit. EndsWith 3 (codes "listen fault") exit × (self.new ≡ self.old)) }
-    {
+    fn accept(&mut self, rt: &HostRuntime) -> Result<Option<(TcpStream, TcpStream)>, Exit> {
         let Some(listener) = &self.listener else {
             return Err(NO_LISTENING);
         };
@@ -102,6 +117,8 @@ impl Listener {
             let _ = stream.set_nodelay(true);
         }
         self.accepted += 1;
-        Ok(stream)
+        Ok(stream.and_then(ends_of))
     }
+
+    fn leave(&mut self, _reader: TcpStream, _writer: TcpStream) {}
 }

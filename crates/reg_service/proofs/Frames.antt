@@ -3,7 +3,7 @@ use Rattle.reg_service.proofs.Words.{◌≡◌, ◌⊎◌, inl, inr, false, refl
 use Rattle.reg_service.proofs.Words.{Ghosts, Held, state, State, HasCleanDisk, Survives, Limits, Registry, Event, Answer, IsFit, Step}
 use Rattle.reg_service.proofs.Words.{unavailable, outcome, StepsKeepSound, IsUndone, LeavesCommit, Refuses, Stands, Begins, IsCommitted}
 use Rattle.reg_service.proofs.Words.{IsDropped, IsRefused, SeesAll, Looks, AreOurs, IsLeft, has_failed, is_stopped, held, rows_seen, seen}
-use Rattle.reg_service.proofs.Words.{shown, Tables, Work, Answers, StandsSound, LeavesAlone, StandsIn, Stays}
+use Rattle.reg_service.proofs.Words.{shown, Tables, Work, Answers, StandsSound, LeavesAlone, StandsIn, Stays, HasSchema, Second}
 use Rattle.sqlite_disk.specs.Disk.{MoreFaults}
 use Rattle.sqlite.specs.State.{IsUnchanged}
 use Rattle.reg_service.specs.Answered.{LeavesRefused}
@@ -106,7 +106,7 @@ module _ {S : Type 0} (g : Ghosts S) (limits : Limits) (s : Registry) (e : Event
         ]
 
     pub not_committed : (StandsSound s (rows_seen g begun) → Stands (outcome limits s e).1 (rows_seen g done)) → a ≡ unavailable e → IsRefused g done new
-        → Survives (seen g done) (shown g new) (λ db. (has_failed done ≡ false) × (db ≡ (seen g done).now.trees)) → Answers g limits s e a old new
+        → Survives (seen g done) (shown g new) (λ db. (has_failed done ≡ false) × (db ≡ (seen g done).now.trees) × HasSchema Second db) → Answers g limits s e a old new
     not_committed has room end survives =
         let t = (outcome limits s e).1 in
         record {
@@ -116,7 +116,7 @@ module _ {S : Type 0} (g : Ghosts S) (limits : Limits) (s : Registry) (e : Event
           kept = inl room;
           left = λ db l. elim (survives.crash clean db l) [
             | inl at ↦ inl (before db at)
-            | inr (whole, same) ↦ inr (inr (refused_leaves t end whole db l (subst (λ (trees : Trees). Stands t trees) (sym same) (has sees))))
+            | inr (whole, same, ours) ↦ inr (inr (refused_leaves t end whole db l (subst (λ (trees : Trees). Stands t trees) (sym same) (has sees))))
           ];
           shut = λ was. absurd (false≢true (sym b.was_open ∙ was));
         }

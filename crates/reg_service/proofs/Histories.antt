@@ -9,6 +9,7 @@ use Rattle.std.proofs.lemmas.List.{append-nil, append_assoc, length_push}
 use Rattle.std.proofs.lemmas.List.Elements.{All-from_recursion}
 use Rattle.std.specs.List.{AllByRecursion}
 use Rattle.reg_model.specs.Laws.{RunsJoin, RunsKeepSound, StemsGrow, StepsRun}
+use Rattle.reg_model.specs.Sound.{Sound}
 use Rattle.reg_model.specs.Steps.{Run}
 use Rattle.std.specs.Prelude.{Result, Ok, Err, IfOk, IsErr}
 use Rattle.reg_model.specs.declared.rule.Rule.TheVariants as rule
@@ -102,6 +103,7 @@ module _ {S : Type 0} (g : Ghosts S) (limits : Limits) (s : Registry) (entry : T
     run = run;
     unavailable = tt;
     state = inl refl;
+    sound = λ h. sounds limits s t es xs h run;
   }
 
   -- no event yet
@@ -110,7 +112,7 @@ module _ {S : Type 0} (g : Ghosts S) (limits : Limits) (s : Registry) (entry : T
 
   -- there was no room for any event
   none_left : (es : List Event) (xs : List Answer) (stop : Option ℕ) → AreNoRoom es xs → MayBeLeft limits s es xs stop s
-  none_left es xs stop none = record { first = []; rest = es; told = []; untold = xs; at = s; events = refl; answers = refl; run = refl; unavailable = none; state = inl refl }
+  none_left es xs stop none = record { first = []; rest = es; told = []; untold = xs; at = s; events = refl; answers = refl; run = refl; unavailable = none; state = inl refl; sound = λ h. h }
 
   -- what a crash leaves of a registry that it left alone on entry
   pub left_alone : (es : List Event) (xs : List Answer) (t : Registry) (new : Tables S) → LeavesAlone s (shown g entry) → (it : Ran g limits s entry es xs t new) → (db : Trees) → (shown g new).may_leave db → (m : Registry) × Stands m db × MayBeLeft limits s es xs it.stop m
@@ -122,6 +124,10 @@ module _ {S : Type 0} (g : Ghosts S) (limits : Limits) (s : Registry) (entry : T
   module _ (steps : StepsRun) (joins : RunsJoin) (es : List Event) (xs : List Answer) (t : Registry) (e : Event) (a : Answer) (old new : Tables S) (fit : IsFit e) (so_far : Ran g limits s entry es xs t old) (it : Answers g limits t e a old new) where
     run_on : Run limits s (es ++ e ∷ []) (xs ++ a ∷ []) it.after
     run_on = joins limits s t it.after es (e ∷ []) xs (a ∷ []) so_far.run (steps limits t it.after e a fit it.step)
+
+    -- the event keeps it sound, also where it is not acknowledged
+    done_sound : Sound t → Sound (outcome limits t e).1
+    done_sound h = sounds limits t (outcome limits t e).1 (e ∷ []) ((outcome limits t e).0 ∷ []) h (steps limits t (outcome limits t e).1 e (outcome limits t e).0 fit (inl (refl, refl)))
 
     -- the place at which it stops: that where it had, or this event, where it stops now
     module _ (stop : Option ℕ) (same : (before : ℕ) → so_far.stop ≡ Some before → stop ≡ Some before) (here : is_stopped old ≡ false → is_stopped new ≡ true → stop ≡ Some (length es)) where
@@ -138,6 +144,7 @@ module _ {S : Type 0} (g : Ghosts S) (limits : Limits) (s : Registry) (entry : T
         run = was.run;
         unavailable = no_room_on was.rest was.untold e a was.unavailable room;
         state = elim was.state [ inl is ↦ inl is | inr (at, f, more, is, change) ↦ inr (same (length was.first) at, f, more ++ e ∷ [], ap (λ l. l ++ e ∷ []) is, change) ];
+        sound = was.sound;
       }
 
       -- or the registry without this event, or with it
@@ -153,6 +160,7 @@ module _ {S : Type 0} (g : Ghosts S) (limits : Limits) (s : Registry) (entry : T
         run = so_far.run;
         unavailable = (room, tt);
         state = elim is [ inl kept ↦ inl kept | inr (at, change) ↦ inr (at, e, [], refl, change) ];
+        sound = λ h. elim is [ inl kept ↦ subst Sound (sym kept) (so_far.sound h) | inr (at, change) ↦ subst Sound (sym change) (done_sound (so_far.sound h)) ];
       }
 
       -- or it was answered as it was done

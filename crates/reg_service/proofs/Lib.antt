@@ -1,6 +1,7 @@
 mod Faults
 mod Frames
 mod Histories
+mod Joined
 mod Opened
 mod Replied
 mod Requested

@@ -1,24 +1,29 @@
 -- A registry that was opened is the one that the store held.
 use Rattle.reg_service.proofs.Words.{◌≡◌, ◌∙◌, arith, ℕ, inl, inr, false, length, refl, None, Some, Ok, Err, Result, IsTrue, ap, sym, subst}
 use Rattle.reg_service.proofs.Words.{Database, Held, state, State, HasCleanDisk, Survives, Trees, survives_weaker, Ghosts, SchemaVersion, First}
-use Rattle.reg_service.proofs.Words.{Second, Check, IsOurs, IsUndone, LeavesCommit, AreBegun, Tables, AreOurs, edition_in, shown, StandsIn}
-use Rattle.reg_service.proofs.Words.{AreChecked, IsFirstFailing, MayBeUpgraded, tables_of, OpenFault, Damaged, Storage}
-use Rattle.std.proofs.Common.{IfErr, IfOk}
+use Rattle.reg_service.proofs.Words.{HasSchema, Second, Check, IsOurs, IsUndone, LeavesCommit, AreBegun, Tables, AreOurs, edition_in, shown, StandsIn}
+use Rattle.reg_service.proofs.Words.{AreChecked, IsFirstFailing, MayBeUpgraded, tables_of, OpenFault, BadBase, Damaged, Storage, UnknownSchema}
+use Rattle.std.proofs.Common.{IfErr, IfOk, List, [], ◌∷◌, drop, map}
+use Rattle.sqlite.specs.Order.{Row}
+use Rattle.sqlite.specs.declared.types.Value.{Value}
+use Rattle.reg_tables_schema.specs.Tests.{shows}
+use Rattle.reg_tables_sql.specs.Abouts.{about_places}
 use Rattle.sqlite.specs.Schema.{Schema}
-use Rattle.sqlite.specs.State.{KeepsCommit}
+use Rattle.sqlite.specs.State.{IsLive, KeepsCommit}
+use Rattle.sqlite.specs.Effect.{IsDatabase}
 use Rattle.sqlite.proofs.StateLemmas.{survives_then}
 use Rattle.reg_model.specs.Registry as model
 use Rattle.reg_tables_schema.specs.Schema.{schema_of}
 use Rattle.reg_tables_schema.proofs.MakeLemmas.{undone_keeps}
-use Rattle.reg_tables_sql.specs.Abouts.{HasBase}
+use Rattle.reg_tables_sql.specs.Abouts.{HasBase, LacksBase}
 use Rattle.reg_check_sound.specs.Editions.{AreFound, EditionLaw, FoundLaw, StandsSoundAsBy, KeepsSchema}
 use Rattle.reg_tables_represent.specs.Upgrades.{AreUpgraded, IsUpgraded}
-use Rattle.reg_tables.proofs.Stopping.{leaves_last}
+use Rattle.reg_tables.proofs.Stopping.{leaves_last, one_schema}
 use Rattle.reg_tables.specs.Ends.{LeavesLast}
 use Rattle.reg_tables.specs.Works as works
 use Rattle.reg_tables.specs.Works.{IsSame}
 use Rattle.reg_service.specs.Registries.{Running}
-use Rattle.reg_service.specs.Answered.{StandsSoundAs}
+use Rattle.reg_service.specs.Answered.{HoldsRegistry, StandsSoundAs}
 use Rattle.reg_service.specs.Registries.{AreDamaged, AreOne, IsBrought, LeavesOpened, MayBecome}
 
 -- tables of schema 2 are held as they are, and those of schema 1 upgraded
@@ -87,10 +92,10 @@ upgrade_undone g old new back ours is same auto clean =
     ])
 
 -- and a stop what it could leave before, or the upgrade
-pub upgrade_left : {S : Type 0} (g : Ghosts S) (old new : Tables S) (back : Held S) → edition_in old ≡ First → back ≡ works.held new → Survives (shown g old) (shown g new) (λ db. IsTrue (shown g old).is_open × AreUpgraded (shown g old).now db)
+pub upgrade_left : {S : Type 0} (g : Ghosts S) (old new : Tables S) (back : Held S) → edition_in old ≡ First → back ≡ works.held new → Survives (shown g old) (shown g new) (λ db. IsTrue (shown g old).is_open × AreUpgraded (shown g old).now db × HasSchema Second db)
     → Survives (shown g old) (state g back) (MayBecome (edition_in old) (shown g old))
 upgrade_left g old new back first is survives =
-    subst (λ h. Survives (shown g old) (state g h) (MayBecome (edition_in old) (shown g old))) (sym is) (survives_weaker (shown g old) (shown g new) _ _ (λ _ db it. (first, it.0, it.1)) survives)
+    subst (λ h. Survives (shown g old) (state g h) (MayBecome (edition_in old) (shown g old))) (sym is) (survives_weaker (shown g old) (shown g new) _ _ (λ _ db it. (first, it.0, it.1, it.2)) survives)
 
 -- what the checks and then the upgrade leave, where it failed
 pub examined_undone : {S R : Type 0} (g : Ghosts S) (old mid : Tables S) (r : Result R (Held S × OpenFault))
@@ -111,11 +116,11 @@ examined_left g old mid (Ok x) rests_old rests_mid same kept one storage two = t
 examined_left g old mid (Err e) rests_old rests_mid same kept one storage two =
     survives_then (shown g old) (shown g mid) (state g e.0) _ _ (λ db. (e.1 ≡ Storage) × MayBecome (edition_in old) (shown g old) db) (λ _ db none. absurd none)
     (λ clean db it.
-    let (first, was, made) = it in
+    let (first, was, made, has) = it in
     let still : HasCleanDisk (shown g mid) = omega (arith, clean, two.clean) in
     let start : HasCleanDisk (shown g old) = omega (arith, still, one.clean) in
     let now = still_now (edition_in old) (shown g old) (shown g mid) start still rests_old (subst (λ f. IsOurs f (shown g mid)) same rests_mid) (kept still) was in
-    (storage, (sym same ∙ first, (kept still).was_open was, subst (λ (d : Database). AreUpgraded d db) now made)))
+    (storage, (sym same ∙ first, (kept still).was_open was, subst (λ (d : Database). AreUpgraded d db) now made, has)))
     one two
 
 -- a crash leaves nothing new of what is handed back as it was
@@ -150,6 +155,21 @@ one_edition First First h = refl
 one_edition Second Second h = refl
 one_edition First Second h = absurd (fewer (ap tables_in h))
 one_edition Second First h = absurd (fewer (sym (ap tables_in h)))
+
+-- a row of two columns behind its rowid shows both
+two_shown : (rows : List Row) (a b : Value) → map (drop 1) rows ≡ (a ∷ b ∷ []) ∷ [] → map (shows about_places) rows ≡ (a ∷ b ∷ []) ∷ []
+two_shown [] a b is = absurd cc
+two_shown ([] ∷ more) a b is = absurd cc
+two_shown ((x ∷ []) ∷ more) a b is = absurd cc
+two_shown ((x ∷ y ∷ []) ∷ more) a b is = absurd cc
+two_shown ((x ∷ y ∷ z ∷ w ∷ row) ∷ more) a b is = absurd cc
+two_shown ((x ∷ y ∷ z ∷ []) ∷ r ∷ more) a b is = absurd cc
+two_shown ((x ∷ y ∷ z ∷ []) ∷ []) a b is = is
+
+-- so the rows of a registry tell their schema
+has_base : (e : SchemaVersion) (s : model.Registry) (db : Trees) → StandsSoundAs e s db → LacksBase e db → ⊥
+has_base First s db are lacks = lacks s.base (two_shown _ _ _ are.1.1.about)
+has_base Second s db are lacks = lacks s.base (two_shown _ _ _ are.1.stands.about)
 
 not_none : {c : Check} → Some c ≡ None → ⊥
 not_none e = absurd cc
@@ -189,8 +209,9 @@ module _ {S : Type 0} (g : Ghosts S) (conn : Held S) (t : Tables S) (k : IsTaken
         let begun = subst (λ (d : Database). AreBegun (edition_in t) d held.now.trees) (k.found (early clean) was) (b.begun up) in
         (law (edition_in t) now held.now.trees (are_found (early clean) was) begun ids s).0
 
-    held_same : HasCleanDisk held → (e : SchemaVersion) (s : model.Registry) → now.schema ≡ schema_of e → StandsSoundAs e s now.trees → StandsIn s held
-    held_same clean e s is are up =
+    held_same : IsLive (state g conn) → HasCleanDisk held → (s : model.Registry) → HoldsRegistry s now.trees → StandsIn s held
+    held_same live clean s (e, has, are) up =
+        let is = one_schema e now has (live ((k.rests (early clean)).was_open ((brought clean).was_open up))).0 in
         let same = one_edition e (edition_in t) (sym is ∙ k.schema) in
         (are.0, held_by clean up are.0 s (subst (λ f. StandsSoundAsBy f are.0 s now.trees) same are.1))
 
@@ -214,10 +235,10 @@ module _ {S : Type 0} (g : Ghosts S) (conn : Held S) (t : Tables S) (k : IsTaken
     abbrev Brought : Type 0
     Brought = IfOk r (λ x. HasCleanDisk (shown g (tables_of x)) → IsBrought (edition_in t) (shown g t) (shown g (tables_of x)))
 
-  pub opened_same : {E : Type 0} (r : Result (Running S) E) → EditionLaw → Early r → Brought r
-      → IfOk r (λ x. HasCleanDisk (shown g (tables_of x)) → (e : SchemaVersion) (s : model.Registry) → now.schema ≡ schema_of e → StandsSoundAs e s now.trees → StandsIn s (shown g (tables_of x)))
-  opened_same (Err f) law early brought = tt
-  opened_same (Ok x) law early brought = held_same law x early brought
+  pub opened_same : {E : Type 0} (r : Result (Running S) E) → EditionLaw → Early r → Brought r → IsLive (state g conn)
+      → IfOk r (λ x. HasCleanDisk (shown g (tables_of x)) → (s : model.Registry) → HoldsRegistry s now.trees → StandsIn s (shown g (tables_of x)))
+  opened_same (Err f) law early brought live = tt
+  opened_same (Ok x) law early brought live = held_same law x early brought live
 
   pub opened_sound : {E : Type 0} (r : Result (Running S) E) → EditionLaw → FoundLaw → Early r → Brought r
       → IfOk r (λ x. HasCleanDisk (shown g (tables_of x)) → AreChecked (edition_in t) (shown g t) None)
@@ -251,9 +272,9 @@ module _ {S : Type 0} (g : Ghosts S) (conn : Held S) (t : Tables S) (k : IsTaken
   refused_left (Err e) survives returned =
       survives_then (state g conn) (shown g t) (state g e.0) _ _ (MayBeUpgraded e.1 now) (λ _ db none. absurd none)
       (λ clean db it.
-      let (first, was, made) = it.1 in
+      let (first, was, made, has) = it.1 in
       let mid : HasCleanDisk (shown g t) = omega (arith, clean, returned.clean) in
-      (it.0, k.schema ∙ ap schema_of first, subst (λ (d : Database). AreUpgraded d db) (k.found mid was) made))
+      (it.0, k.schema ∙ ap schema_of first, subst (λ (d : Database). AreUpgraded d db) (k.found mid was) made, has))
       survives returned
 
   pub refused_last : {R : Type 0} (r : Result R (Held S × OpenFault)) → Settles g → Survives (state g conn) (shown g t) (λ _. ⊥) → Returned r → Undone r
@@ -278,6 +299,23 @@ module _ {S : Type 0} (g : Ghosts S) (conn : Held S) (t : Tables S) (k : IsTaken
         first = failing;
         no_registry = λ s are. not_none ((audited (edition_in t) now failing.0 (are_found mid was) failing.1 failing.2 failing.3 (Some check) failing.4).1 (are.0, s, are.1));
       }
+
+-- our tables with a sound registry are refused for the store alone
+pub only_storage : (f : OpenFault) (now : Database) (s : model.Registry) → HoldsRegistry s now.trees → IsDatabase now → (f ≡ BadBase → ⊥) → (f ≡ UnknownSchema → (e : SchemaVersion) → now.schema ≡ schema_of e → LacksBase e now.trees)
+    → ((check : Check) → f ≡ Damaged check → AreDamaged now check) → f ≡ Storage
+only_storage Storage now s holds is known unknown damaged = refl
+only_storage BadBase now s holds is known unknown damaged = absurd (known refl)
+only_storage UnknownSchema now s (e, has, are) is known unknown damaged = absurd (has_base e s now.trees are (unknown refl e (one_schema e now has is)))
+only_storage (Damaged check) now s (e, has, are) is known unknown damaged =
+    let d = damaged check refl in
+    absurd (d.no_registry s (subst (λ f. StandsSoundAs f s now.trees) (one_edition e d.edition (sym (one_schema e now has is) ∙ d.schema)) are))
+
+pub refused_storage : {S R : Type 0} (g : Ghosts S) (conn : Held S) (r : Result R (Held S × OpenFault)) → IsLive (state g conn) → IfErr r (λ e. e.1 ≡ BadBase → ⊥)
+    → IfErr r (λ e. HasCleanDisk (state g e.0) → e.1 ≡ UnknownSchema → (e : SchemaVersion) → (state g conn).now.schema ≡ schema_of e → LacksBase e (state g conn).now.trees)
+    → IfErr r (λ e. HasCleanDisk (state g e.0) → (check : Check) → e.1 ≡ Damaged check → AreDamaged (state g conn).now check)
+    → IfErr r (λ e. HasCleanDisk (state g e.0) → IsTrue (state g conn).is_open → (s : model.Registry) → HoldsRegistry s (state g conn).now.trees → e.1 ≡ Storage)
+refused_storage g conn (Ok x) live known unknown damaged = tt
+refused_storage g conn (Err e) live known unknown damaged = λ clean up s holds. only_storage e.1 (state g conn).now s holds (live up).0 known (unknown clean) (damaged clean)
 
 -- what is said of why it is refused, in other words
 pub if_refused : {T E : Type 0} (r : Result T E) {A B : E → Type 0} → ((e : E) → A e → B e) → IfErr r A → IfErr r B

@@ -3,7 +3,7 @@ use Rattle.reg_service.proofs.Words.{◌≡◌, inl, inr, false, refl, sym, ap, 
 use Rattle.reg_service.proofs.Words.{Ghosts, Limits, Answer, Asked, Event, Ask, StepsKeepSound, Registry, Text, IsFit, Outcome, outcome}
 use Rattle.reg_service.proofs.Words.{Reply, Denied, LeavesCommit, FilesAreRows, FoundFile, Serves, Done, Seeks, Sends, ReadOnly, Begins}
 use Rattle.reg_service.proofs.Words.{IsCommitted, IsDropped, IsRefused, SeesAll, Looks, AreOurs, IsLeft, has_failed, rows_seen, seen, shown}
-use Rattle.reg_service.proofs.Words.{Tables, Work, StandsSound, StandsIn, Stays, RepliesTo, Sought, Finds}
+use Rattle.reg_service.proofs.Words.{Tables, Work, StandsSound, StandsIn, Stays, RepliesTo, Sought, Finds, HasSchema, Second}
 use Rattle.reg_model.specs.declared.rule.Rule.TheVariants as rule
 use Rattle.reg_model.specs.Effects.{served}
 use Rattle.reg_model.specs.Events.Answer.{Denied as to_denied}
@@ -40,7 +40,7 @@ module _ {S : Type 0} (g : Ghosts S) (limits : Limits) (s : Registry) (digest : 
         ((outcome limits s e).0, it.0, frame.committed g limits s e (outcome limits s e).0 old new ours h clean begun done b looks mid law fit (λ are. (refl, it.1)) end)
 
     pub not_committed : (reply : Reply) → Serves limits digest asked (rows_seen g begun) (rows_seen g done) (Done reply) → IsRefused g done new
-        → Survives (seen g done) (shown g new) (λ db. (has_failed done ≡ false) × (db ≡ (seen g done).now.trees)) → RepliesTo g limits s digest asked (Denied rule.S1) old new
+        → Survives (seen g done) (shown g new) (λ db. (has_failed done ≡ false) × (db ≡ (seen g done).now.trees) × HasSchema Second db) → RepliesTo g limits s digest asked (Denied rule.S1) old new
     not_committed reply serves end survives =
         (to_denied rule.S1, refl, frame.not_committed g limits s e (to_denied rule.S1) old new ours h clean begun done b looks mid (λ are. (serves are.0 s are.1).1) refl end survives)
 

@@ -12,7 +12,7 @@ use Rattle.reg_service.specs.Traced.{SaysNoRoom}
 use Rattle.reg_service.specs.declared.answered.Answered.{Answered}
 use Rattle.reg_service.specs.declared.answered.Answered.TheVariants.{Found, Replied}
 use Rattle.reg_service.proofs.Replied as replied
-use Rattle.reg_service.proofs.Rests.{dropped_halts, dropped_looked, committed_halts, ended_clean, goes_on, refused_tables}
+use Rattle.reg_service.proofs.Rests.{dropped_halts, dropped_looked, committed_halts, committed_tables, ended_clean, goes_on, refused_tables, still_ours}
 use Rattle.reg_service.proofs.Traced.{acts, tells_line, untold}
 
 abbrev pub Does : {S : Type 0} → Ghosts S → Limits → Bool → Option Text → Asked → Answered → Tables S → Tables S → Type 0
@@ -28,7 +28,7 @@ module _ {S : Type 0} (g : Ghosts S) (limits : Limits) (traced : Bool) (digest :
   pub unbegun : (new : Tables S) → it.reply ≡ Denied rule.S1 → it.line ≡ None → IsLeft g old new → Does g limits traced digest asked (Replied it) old new
   unbegun new reply line is = record {
     replies = replies;
-    tables = record { ours = is.ours; second = is.edition ∙ at.second };
+    tables = record { ours = is.ours; second = is.edition ∙ at.second; left = still_ours (shown g old) (shown g new) is.survives at.left };
     clean = first;
     halts = record { stopped = λ _. reply; stays = λ was. is.shut ∙ was; stops = λ _. reply };
   }
@@ -76,7 +76,7 @@ module _ {S : Type 0} (g : Ghosts S) (limits : Limits) (traced : Bool) (digest :
           → StepsKeepSound → IsFit (Ask digest asked) → Does g limits traced digest asked (Replied it) old new
       committed r reply new there same_end as_done is line ended end law fit = subst (λ t. Does g limits traced digest asked (Replied it) old t) (sym same_end) (record {
         replies = replies;
-        tables = record { ours = ended.ours; second = end.second };
+        tables = committed_tables g old begun done b looks there r at ended end;
         clean = ended_clean g old begun done b looks there r ended;
         halts = committed_halts g old begun done b looks there end;
       })
@@ -94,7 +94,7 @@ module _ {S : Type 0} (g : Ghosts S) (limits : Limits) (traced : Bool) (digest :
           → IsEnded g r done there → IsRefused g done there → Does g limits traced digest asked (Replied it) old new
       not_committed r reply new there same_end as_done is line ended end = subst (λ t. Does g limits traced digest asked (Replied it) old t) (sym same_end) (record {
         replies = replies;
-        tables = refused_tables g old begun done b looks there at ended.ours end;
+        tables = refused_tables g old begun done b looks there r at ended end;
         clean = ended_clean g old begun done b looks there r ended;
         halts = goes_on g old begun done b looks there (λ _. is);
       })
@@ -135,7 +135,11 @@ module _ {S : Type 0} (g : Ghosts S) (limits : Limits) (traced : Bool) (digest :
           → IsLeft g there new → (HasCleanDisk (shown g new) → (s : Registry) → StandsIn s (shown g there) → Sought account asked s reply) → Does g limits traced digest asked (Replied it) old new
       sought account reply there new as_search is line end alone left seeks = record {
         replies = replies;
-        tables = record { ours = left.ours; second = left.edition ∙ end.edition ∙ looks.same_edition ∙ b.edition ∙ at.second };
+        tables = record {
+          ours = left.ours;
+          second = left.edition ∙ end.edition ∙ looks.same_edition ∙ b.edition ∙ at.second;
+          left = still_ours (shown g there) (shown g new) left.survives (dropped_looked g old begun done b looks there at end).tables.left;
+        };
         clean = λ clean. omega (arith, clean, left.survives.clean, end.survives.clean, looks.survives.clean, b.survives.clean);
         halts = goes_on g old begun done b looks new (λ stopped. absurd (false≢true (sym (left.shut ∙ end.same_mode ∙ looks.same_mode ∙ b.still_open) ∙ stopped)));
       }

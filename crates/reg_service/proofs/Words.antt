@@ -35,7 +35,7 @@ pub use Rattle.reg_tables.specs.declared.work.Work.{Work}
 pub use Rattle.reg_tables_represent.proofs.Results.{if_ok}
 pub use Rattle.reg_tables_represent.specs.Stands.{Stands}
 pub use Rattle.reg_tables_represent.specs.Upgrades.{AreBegun}
-pub use Rattle.reg_tables_schema.specs.States.{IsOurs, IsUndone, LeavesCommit, Refuses}
+pub use Rattle.reg_tables_schema.specs.States.{HasSchema, IsOurs, IsUndone, LeavesCommit, LeavesOurs, Refuses}
 pub use Rattle.reg_tables_schema.specs.declared.edition.SchemaVersion.{SchemaVersion}
 pub use Rattle.reg_tables_schema.specs.declared.edition.SchemaVersion.TheVariants.{First, Second}
 pub use Rattle.sqlite.proofs.StateLemmas.{survives_weaker}

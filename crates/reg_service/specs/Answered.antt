@@ -10,6 +10,7 @@ use Rattle.reg_model.specs.Registry.{Registry}
 use Rattle.reg_model.specs.Steps.{Step, unavailable, outcome}
 use Rattle.reg_tables_schema.specs.declared.edition.SchemaVersion.{SchemaVersion}
 use Rattle.reg_tables_schema.specs.declared.edition.SchemaVersion.TheVariants.{Second}
+use Rattle.reg_tables_schema.specs.States.{HasSchema, LeavesOurs}
 use Rattle.reg_tables_represent.specs.Stands.{StandsSoundBy, IdAssignment, Stands}
 use Rattle.reg_check_sound.specs.Editions.{StandsSoundAsBy}
 use Rattle.reg_tables.specs.declared.tables.Tables.{Tables}
@@ -23,7 +24,11 @@ StandsSound s db = (ids : IdAssignment) × StandsSoundBy ids s db
 abbrev pub StandsSoundAs : SchemaVersion → Registry → Trees → Type 0
 StandsSoundAs e s db = (ids : IdAssignment) × StandsSoundAsBy e ids s db
 
--- the same of what a connection shows; one that is shut shows nothing
+-- a database of a schema of ours, with the rows of this sound registry
+abbrev pub HoldsRegistry : Registry → Trees → Type 0
+HoldsRegistry s db = (e : SchemaVersion) × HasSchema e db × StandsSoundAs e s db
+
+-- the rows of this registry are what a connection shows; one that is shut shows nothing
 abbrev pub StandsIn : Registry → State → Type 0
 StandsIn s at = IsTrue at.is_open → StandsSound s at.now.trees
 
@@ -85,7 +90,8 @@ IsAnswered g limits e a old new =
     HasCleanDisk (shown g new) → (s : Registry) → StandsIn s (shown g old)
     → Answers g limits s e a old new
 
--- our tables, of schema 2
+-- our tables, of schema 2, of which a crash leaves tables of schema 2
 pub record AreUpToDate {S : Type 0} (g : Ghosts S) (t : Tables S) : Type 0 where
   pub ours : AreOurs g t
   pub second : edition_in t ≡ Second
+  pub left : LeavesOurs Second (shown g t)

@@ -11,6 +11,7 @@ use Rattle.reg_model.specs.Registry.{Text, empty_at, Registry as Modelled}
 use Rattle.reg_audit.specs.declared.check.Check.{Check}
 use Rattle.reg_audit.specs.Checks.{IsFirst}
 use Rattle.reg_tables_schema.specs.Schema.{old_schema, ours, schema_of}
+use Rattle.reg_tables_schema.specs.States.{HasSchema}
 use Rattle.reg_tables_schema.specs.declared.edition.SchemaVersion.{SchemaVersion}
 use Rattle.reg_tables_schema.specs.declared.edition.SchemaVersion.TheVariants.{First, Second}
 use Rattle.reg_tables_sql.specs.Abouts.{HasBase}
@@ -67,15 +68,15 @@ LeavesOpened old new = (db : Trees) → new.may_leave db
     → ((old.now.schema ≡ ours) × old.may_leave db)
     ⊎ ((old.now.schema ≡ old_schema) × (db ≡ new.now.trees))
 
--- what a crash may leave of the upgrade of open tables of schema 1: the same rows, upgraded
+-- what a crash may leave of the upgrade of open tables of schema 1: the same rows in schema 2
 abbrev pub MayBecome : SchemaVersion → State → Trees → Type 0
-MayBecome e old db = (e ≡ First) × IsTrue old.is_open × AreUpgraded old.now db
+MayBecome e old db = (e ≡ First) × IsTrue old.is_open × AreUpgraded old.now db × HasSchema Second db
 
 -- Of a store that is not opened a crash may leave what it could not leave before only where schema
--- 1 was to become schema 2, and the store or memory was refused: then the same rows, upgraded.
+-- 1 was to become schema 2, and the store or memory was refused: then the same rows in schema 2.
 abbrev pub MayBeUpgraded : OpenFault → Database → Trees → Type 0
 MayBeUpgraded fault found db =
-    (fault ≡ Storage) × (found.schema ≡ old_schema) × AreUpgraded found db
+    (fault ≡ Storage) × (found.schema ≡ old_schema) × AreUpgraded found db × HasSchema Second db
 
 -- tables of this edition are held as those of schema 2 that they are, or become
 pub record IsBrought (e : SchemaVersion) (old new : State) : Type 0 where

@@ -94,6 +94,7 @@ pub record MayBeLeft (limits : Limits) (s : model.Registry) (es : List Event) (x
   pub state : (m ≡ at)
       ⊎ ((stop ≡ Some (length first)) × (e : Event) × (more : List Event) × (rest ≡ e ∷ more)
       × (m ≡ (outcome limits at e).1))
+  pub sound : Sound s → Sound m
 
 -- The events are a run of the registry that was held on entry, and its end is held now: that is
 -- sound, and no index file of it lost a line. A crash leaves what the run allows; or, where there

@@ -5,9 +5,9 @@ ghost use Rattle.sqlite.specs.Held.{state};
 ghost use Rattle.sqlite.specs.State.{HasCleanDisk, Survives};
 ghost use Rattle.reg_line.specs.Base.{is_base as is_base_text};
 ghost use Rattle.reg_tables_schema.specs.Schema.{blank, schema_of};
-ghost use Rattle.reg_tables_schema.specs.States.{IsMade, IsUndone};
+ghost use Rattle.reg_tables_schema.specs.States.{IsMade, IsUndone, LeavesOurs};
 ghost use Rattle.reg_tables_sql.specs.Abouts.{LacksBase};
-ghost use Rattle.reg_service.specs.Answered.{StandsSoundAs, StandsIn, WasClean};
+ghost use Rattle.reg_service.specs.Answered.{HoldsRegistry, StandsIn, WasClean};
 ghost use Rattle.reg_service.specs.Registries.{AreChecked, AreDamaged, AreOne, Brings, HasBegun, IsNew, LeavesOpened, MayBeUpgraded, MayBecome, limits_of, tables_of};
 ghost use Rattle.reg_tables.specs.Ends.{LeavesLast};
 ghost use Rattle.reg_tables.specs.Works.{AreOurs, edition_in, is_stopped, shown};
@@ -18,6 +18,7 @@ use reg_body::Limits;
 use reg_check_sound::laws::{edition_law, rows_law};
 use reg_line::is_base;
 use reg_model::laws::soundness_law;
+use reg_tables_schema::laws::live_law;
 use reg_tables::{MakeFault, SchemaVersion, Tables};
 use sqlite::{Alter, Connection};
 use std::alloc::Global;
@@ -41,7 +42,8 @@ pub type Opened<S> = std::result::Result<Registry<S>, (Connection<S>, OpenFault)
 
 /// A registry of tables that passed the checks, upgraded to schema 2.
 fn migrate_if_old<S: Alter>(mut tables: Tables<S>, limits: Limits) -> Opened<S>
-    requires { AreOurs S.Store tables }
+    requires ours { AreOurs S.Store tables }
+    requires left { LeavesOurs (edition_in tables) (shown S.Store tables) }
     ensures begun { IfOk result (HasBegun limits (is_stopped tables)) }
     ensures brought { IfOk result (Brings S.Store tables) }
     ensures clean { IfOk result (λ r. WasClean S.Store tables (tables_of r)) }
@@ -62,7 +64,8 @@ fn migrate_if_old<S: Alter>(mut tables: Tables<S>, limits: Limits) -> Opened<S>
 
 /// A registry of tables that pass the checks.
 fn check_then_migrate<S: Alter>(alloc: Global, mut tables: Tables<S>, limits: Limits) -> Opened<S>
-    requires { AreOurs S.Store tables }
+    requires ours { AreOurs S.Store tables }
+    requires left { LeavesOurs (edition_in tables) (shown S.Store tables) }
     ensures begun { IfOk result (HasBegun limits (is_stopped tables)) }
     ensures brought { IfOk result (Brings S.Store tables) }
     ensures clean { IfOk result (λ r. WasClean S.Store tables (tables_of r)) }
@@ -93,10 +96,8 @@ impl<S: Alter> Registry<S> {
         requires { (state S.Store conn).in_transaction ≡ false }
         ensures goes_on { IfOk result (λ r. is_stopped (tables_of r) ≡ false) }
         ensures limited { IfOk result (λ r. limits_of r ≡ limits) }
-        ensures same { IfOk result (λ r. HasCleanDisk (shown S.Store (tables_of r))
-            → (edition : SchemaVersion) (s : _)
-            → (state S.Store conn).now.schema ≡ schema_of edition
-            → StandsSoundAs edition s (state S.Store conn).now.trees
+        ensures same { IfOk result (λ r. HasCleanDisk (shown S.Store (tables_of r)) → (s : _)
+            → HoldsRegistry s (state S.Store conn).now.trees
             → StandsIn s (shown S.Store (tables_of r))) }
         ensures sound { IfOk result (λ r. HasCleanDisk (shown S.Store (tables_of r))
             → AreOne (state S.Store conn).now (shown S.Store (tables_of r))) }
@@ -109,6 +110,9 @@ impl<S: Alter> Registry<S> {
         ensures damaged { IfErr result (λ e. HasCleanDisk (state S.Store e.0) → (check : _)
             → e.1 ≡ OpenFault.Damaged check → AreDamaged (state S.Store conn).now check) }
         ensures known { IfErr result (λ e. e.1 ≢ OpenFault.BadBase) }
+        ensures refused { IfErr result (λ e. HasCleanDisk (state S.Store e.0)
+            → IsTrue (state S.Store conn).is_open → (s : _)
+            → HoldsRegistry s (state S.Store conn).now.trees → e.1 ≡ OpenFault.Storage) }
         ensures undone { IfErr result (λ e. HasCleanDisk (state S.Store e.0)
             → IsUndone (state S.Store conn) (state S.Store e.0)) }
         ensures handed_back { IfErr result (λ e. Survives (state S.Store conn) (state S.Store e.0)
@@ -118,6 +122,7 @@ impl<S: Alter> Registry<S> {
     {
         edition_law();
         rows_law(&conn);
+        live_law(&conn);
         match Tables::adopt(alloc, conn) {
             Ok(tables) => check_then_migrate(alloc, tables, limits),
             Err((conn, MakeFault::UnknownSchema)) => Err((conn, OpenFault::UnknownSchema)),

@@ -1,17 +1,23 @@
 -- What a crash may leave where a change of the tables was refused.
-use Rattle.std.proofs.Common.{◌≡◌, ◌∙◌, inl, inr, Bool, IsTrue, true, false, Ok, Err, Result, ap, arith, refl, subst, sym}
+use Rattle.std.proofs.Common.{◌≡◌, ◌∙◌, inl, inr, Bool, IsTrue, true, false, Ok, Err, Result, OnOk, OnErr, ap, arith, refl, subst, sym}
+use Rattle.std.proofs.lemmas.Bool.{false≢true}
+use Rattle.std.specs.Result.{is_err}
 use Rattle.sqlite_trees.specs.declared.store.Store.{Ghosts}
-use Rattle.sqlite.specs.Effect.{Database}
+use Rattle.sqlite.specs.Effect.{Database, IsDatabase}
+use Rattle.sqlite_catalog.proofs.ReadLemmas.{lists_once}
+use Rattle.sqlite_trees.specs.Objects.{catalog_tree}
 use Rattle.sqlite.specs.Held.{Held, state}
-use Rattle.sqlite.specs.State.{State, HasCleanDisk, KeepsCommit, Survives}
+use Rattle.sqlite.specs.State.{State, HasCleanDisk, IsLive, KeepsCommit, Shows, Survives}
+use Rattle.sqlite_catalog.specs.Listing.{IsSound}
 use Rattle.sqlite.specs.Tree.{Trees}
-use Rattle.sqlite.proofs.StateLemmas.{survives_then}
+use Rattle.sqlite.proofs.StateLemmas.{survives_then, survives_weaker}
 use Rattle.reg_tables_schema.proofs.MakeLemmas.{undone_keeps}
 use Rattle.reg_tables_schema.specs.declared.edition.SchemaVersion.{SchemaVersion}
 use Rattle.reg_tables_schema.specs.declared.edition.SchemaVersion.TheVariants.{First, Second}
 use Rattle.reg_tables_schema.specs.declared.make.MakeFault.{MakeFault}
 use Rattle.reg_tables_schema.specs.declared.make.MakeFault.TheVariants.{UnknownSchema, Storage}
-use Rattle.reg_tables_schema.specs.States.{IsUndone, LeavesCommit}
+use Rattle.reg_tables_schema.specs.States.{HasSchema, IsInside, IsUndone, LeavesCommit, LeavesOurs}
+use Rattle.reg_tables_schema.specs.Schema.{schema_of}
 use Rattle.reg_tables_represent.proofs.Raising.{commit_undone, upgraded}
 use Rattle.reg_tables_represent.specs.Upgrades.{AreUpgraded, BeginsSecond, IsUpgraded, Upgrades}
 use Rattle.reg_tables.specs.Ends.{Begins, IsEnded, LeavesLast}
@@ -35,6 +41,15 @@ storage_known is = cc
 pub same_fault : {T E : Type 0} {d e : E} → ◌≡◌ {A = Result T E} (Err d) (Err e) → d ≡ e
 same_fault is = cc
 
+-- what an answer tells, by whether it is one
+pub if_done : {T E A : Type 0} (r : Result T E) (b : Bool) → b ≡ is_err r → b ≡ false → OnOk r A → A
+if_done (Ok x) b is said a = a
+if_done (Err e) b is said a = absurd (false≢true (sym said ∙ is))
+
+pub if_refused : {T E A : Type 0} (r : Result T E) (b : Bool) → b ≡ is_err r → b ≡ true → OnErr r A → A
+if_refused (Ok x) b is said a = absurd (false≢true (sym is ∙ said))
+if_refused (Err e) b is said a = a
+
 -- where no transaction was begun
 pub undone_itself : (s : State) → (s.in_transaction ≡ false → IsTrue s.is_open → s.now ≡ s.committed) → s.in_transaction ≡ false → IsUndone s s
 undone_itself s law out = record { was_open = λ up. up; undone = λ up. (law out up, refl); autocommit = out }
@@ -48,6 +63,31 @@ leaves_last old new P law kept survives clean was = elim (survives.closes clean 
   | inl up ↦ inl (λ db l. law up db l ∙ ap (λ (d : Database). d.trees) (kept.committed up))
   | inr faults ↦ inr faults
 ]
+
+-- a crash leaves what an open connection committed, which is a database of its schema
+pub live_leaves : (e : SchemaVersion) (s : State) → IsLive s → (IsTrue s.is_open → LeavesCommit s) → (IsTrue s.is_open → s.now ≡ s.committed) → s.now.schema ≡ schema_of e → IsTrue s.is_open → LeavesOurs e s
+live_leaves e s live law settled is up clean db l =
+    subst (HasSchema e) (sym (law up db l)) (subst (λ schema. IsSound schema s.committed.trees) (ap (λ (d : Database). d.schema) (sym (settled up)) ∙ is) (live up).1)
+
+-- a transaction of ours commits what it sees, which is a database of our schema
+module _ (old new : State) (live : IsLive old) (ready : HasCleanDisk old → IsInside old) where
+  sees_ours : HasCleanDisk old → HasSchema Second old.now.trees
+  sees_ours clean = let it = ready clean in subst (λ s. IsSound s old.now.trees) it.schema_is (live it.is_open).0
+
+  pub commits_ours : Survives old new (λ db. db ≡ old.now.trees) → Survives old new (λ db. (db ≡ old.now.trees) × HasSchema Second db)
+  commits_ours s = survives_weaker old new _ _ (λ clean db is. (is, subst (HasSchema Second) (sym is) (sees_ours (omega (arith, clean, s.clean))))) s
+
+  pub committed_ours : Survives old new (λ db. db ≡ old.now.trees) → (HasCleanDisk new → Shows old new old.now old.now false) → (HasCleanDisk new → LeavesCommit new) → LeavesOurs Second new
+  committed_ours s kept alone clean db l =
+      subst (HasSchema Second) (sym (alone clean db l ∙ ap (λ (d : Database). d.trees) (kept clean).committed_is)) (sees_ours (omega (arith, clean, s.clean)))
+
+-- rows that list a schema of ours list no other
+pub one_schema : (e : SchemaVersion) (db : Database) → HasSchema e db.trees → IsDatabase db → db.schema ≡ schema_of e
+one_schema e db has is = lists_once (db.trees catalog_tree) db.schema (schema_of e) is.lists has.lists
+
+-- and what commits nothing leaves no more
+pub silent_leaves : (e : SchemaVersion) (old new : State) → Survives old new (λ _. ⊥) → (HasCleanDisk new → LeavesOurs e old) → LeavesOurs e new
+silent_leaves e old new survives ours clean db l = elim (survives.crash clean db l) [ inl was ↦ ours clean (omega (arith, clean, survives.clean)) db was | inr none ↦ absurd none ]
 
 module _ {S : Type 0} (g : Ghosts S) where
   pub make_leaves : {T : Type 0} (old new : Held S) (r : Result T MakeFault) (fault : MakeFault) (P : Trees → Type 0) → r ≡ Err fault → (IsTrue (state g new).is_open → LeavesCommit (state g new))
@@ -74,10 +114,10 @@ module _ {S : Type 0} (g : Ghosts S) (old : Tables S) (w : Work S) (new : Tables
   pub migrated : {T E : Type 0} (x : T) → IsEnded {E = E} g (Ok x) w new → HasCleanDisk (shown g new) → IsUpgraded (shown g old) (shown g new)
   migrated x ended clean = upgraded (edition_in old) (shown g old) (seen g w) (shown g new) is (begun.view (omega (arith, clean, ended.survives.clean))) (ended.committed.kept clean)
 
-  pub migration_stops : {T E : Type 0} (r : Result T E) → IsEnded g r w new → Survives (shown g old) (shown g new) (λ db. IsTrue (shown g old).is_open × AreUpgraded (shown g old).now db)
+  pub migration_stops : {T E : Type 0} (r : Result T E) → IsEnded g r w new → Survives (shown g old) (shown g new) (λ db. IsTrue (shown g old).is_open × AreUpgraded (shown g old).now db × HasSchema Second db)
   migration_stops r ended = survives_then (shown g old) (seen g w) (shown g new) _ _ _ (λ _ db none. absurd none) (λ clean db it.
       let up = upgrades_first ended.survives clean in
-      (up.shows.was_open, ((seen g w).now, up.made, it.1))) begun.survives ended.survives
+      (up.shows.was_open, ((seen g w).now, up.made, it.1), it.2)) begun.survives ended.survives
 
   module _ {T E : Type 0} (e : E) (ended : IsEnded {T = T} g (Err e) w new) where
     pub not_migrated : HasCleanDisk (shown g new) → IsSame g old new

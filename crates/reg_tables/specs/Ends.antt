@@ -6,7 +6,7 @@ use Rattle.sqlite.specs.Effect.{Database}
 use Rattle.sqlite.specs.State.{State, HasCleanDisk, Shows, Survives}
 use Rattle.sqlite.specs.Tree.{Trees}
 use Rattle.reg_tables_schema.specs.declared.edition.SchemaVersion.TheVariants.{Second}
-use Rattle.reg_tables_schema.specs.States.{GoesBack, HasSchema, IsUndone, LeavesCommit}
+use Rattle.reg_tables_schema.specs.States.{GoesBack, HasSchema, IsUndone, LeavesCommit, LeavesOurs}
 use Rattle.reg_tables.specs.Works.{AreOurs, IsActive, edition_in, has_failed, is_stopped, seen, shown}
 use Rattle.reg_tables.specs.declared.tables.Tables.{Tables}
 use Rattle.reg_tables.specs.declared.work.Work.{Work}
@@ -41,6 +41,7 @@ pub record IsCommitted {S : Type 0} (g : Ghosts S) (old : Work S) (new : Tables 
   pub kept : HasCleanDisk (shown g new)
       → Shows (seen g old) (shown g new) (seen g old).now (seen g old).now false
   pub alone : HasCleanDisk (shown g new) → LeavesCommit (shown g new)
+  pub leaves : LeavesOurs Second (shown g new)
   pub second : edition_in new ≡ Second
   pub same_mode : is_stopped new ≡ is_stopped old.tables.now
 

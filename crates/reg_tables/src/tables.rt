@@ -219,6 +219,8 @@ impl<S: Alter> Tables<S> {
             (shown S.Store self.old) (shown S.Store self.new) }
         ensures alone { HasCleanDisk (shown S.Store self.new) → result ≡ Ok true → LeavesCommit
             (shown S.Store self.new) }
+        ensures leaves { result ≡ Ok true → LeavesOurs SchemaVersion.Second
+            (shown S.Store self.new) }
         ensures open { OnOk result (is_stopped self.new ≡ is_stopped self.old) }
         ensures refused { HasCleanDisk (shown S.Store self.new) → OnErr result
             (IsSame S.Store self.old self.new) }

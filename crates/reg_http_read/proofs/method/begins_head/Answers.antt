@@ -1,7 +1,6 @@
 use Rattle.std.proofs.Common.{◌≡◌, ◌<◌, ◌++◌, ◌∙◌, ap, sym, arith, length, take}
 use Rattle.std.specs.Str.{bytes_eq}
 use Rattle.std.proofs.lemmas.Bool.Decides.{nat_tests}
-use Rattle.reg_http_read.specs.Begun.{skip_newlines}
 use Rattle.reg_http_read.proofs.FirstBytes.{head_start, skip_none, skip_some}
 use Rattle.reg_http_read.proofs.method.begins_head.Goals as goal
 

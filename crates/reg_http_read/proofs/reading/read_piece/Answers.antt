@@ -1,4 +1,5 @@
-use Rattle.std.proofs.Common.{◌≡◌, refl}
+use Rattle.std.proofs.Common.{◌≡◌, ◌∙◌, arith, refl, take}
+use Rattle.std.proofs.lemmas.List.{length-append}
 use Rattle.reg_http_read.proofs.Adding.{reads_nothing}
 use Rattle.reg_http_read.proofs.Pieces.{piece_ended, reads_kept}
 use Rattle.reg_http_read.proofs.reading.read_piece.Goals as goal
@@ -19,3 +20,10 @@ returns-in-Ok-extend_from_slice-clause-piece g c = (_, c.in-Ok.ensures.bytes.0, 
 pub returns-in-Err-clause-piece : goal.returns-in-Err-clause-piece
 returns-in-Err-clause-piece g c =
     (reads_kept (g.R.Read.remaining c.args.r.now.inner) (g.R.Read.remaining c.read.new.self.inner) c.args.pending.now.items c.in-Err.ensures.bytes, refl)
+
+pub returns-in-Err-extend_from_slice-clause-piece : goal.returns-in-Err-extend_from_slice-clause-piece
+returns-in-Err-extend_from_slice-clause-piece g c =
+    let was = c.args.pending.now.items in
+    let front = take c.in-Ok.n c.read.new.buf in
+    let seen = c.deref.ensures.value ∙ c.in-Err-extend_from_slice.ensures.items in
+    (front, c.in-Ok.ensures.bytes.0, (omega (arith, length-append was front, c.in-Ok.ensures.bound.1, c.in-Ok.n-test), rw seen at c.begins_head.ensures))

@@ -42,7 +42,7 @@ returns-in-Ok-None-clause-passed g c =
 
 pub returns-in-Ok-None-clause-brought : goal.returns-in-Ok-None-clause-brought
 returns-in-Ok-None-clause-brought g c =
-    examined_brought g.S.Store c.args.tables c.audit.new.tables c.migrate_if_old.result c.requires c.audit.ensures.ours c.audit.ensures.edition c.audit.ensures.kept c.audit.ensures.survives c.migrate_if_old.ensures.clean c.migrate_if_old.ensures.brought
+    examined_brought g.S.Store c.args.tables c.audit.new.tables c.migrate_if_old.result c.requires.ours c.audit.ensures.ours c.audit.ensures.edition c.audit.ensures.kept c.audit.ensures.survives c.migrate_if_old.ensures.clean c.migrate_if_old.ensures.brought
 
 pub returns-in-Ok-None-clause-undone : goal.returns-in-Ok-None-clause-undone
 returns-in-Ok-None-clause-undone g c =
@@ -50,7 +50,7 @@ returns-in-Ok-None-clause-undone g c =
 
 pub returns-in-Ok-None-clause-handed_back : goal.returns-in-Ok-None-clause-handed_back
 returns-in-Ok-None-clause-handed_back g c =
-    examined_left g.S.Store c.args.tables c.audit.new.tables c.migrate_if_old.result c.requires c.audit.ensures.ours c.audit.ensures.edition c.audit.ensures.kept c.audit.ensures.survives c.migrate_if_old.ensures.refused c.migrate_if_old.ensures.handed_back
+    examined_left g.S.Store c.args.tables c.audit.new.tables c.migrate_if_old.result c.requires.ours c.audit.ensures.ours c.audit.ensures.edition c.audit.ensures.kept c.audit.ensures.survives c.migrate_if_old.ensures.refused c.migrate_if_old.ensures.handed_back
 
 pub returns-in-Ok-None-clause-begun : goal.returns-in-Ok-None-clause-begun
 returns-in-Ok-None-clause-begun g c =

@@ -33,6 +33,6 @@ returns-in-Err g c = record {
   brought = tt;
   clean = tt;
   refused = refl;
-  undone = λ auto clean. upgrade_undone g.S.Store c.args.tables c.migrate.new.self c.into_connection.result c.requires c.into_connection.ensures c.in-Err.ensures.refused auto clean;
+  undone = λ auto clean. upgrade_undone g.S.Store c.args.tables c.migrate.new.self c.into_connection.result c.requires.ours c.into_connection.ensures c.in-Err.ensures.refused auto clean;
   handed_back = upgrade_left g.S.Store c.args.tables c.migrate.new.self c.into_connection.result (sym c.edition.ensures ∙ c.in-First.is) c.into_connection.ensures c.migrate.ensures.survives;
 }

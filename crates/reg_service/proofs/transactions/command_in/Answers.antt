@@ -4,7 +4,7 @@ use Rattle.reg_service.proofs.Words.{Halts, WasClean}
 use Rattle.reg_model.specs.declared.rule.AdminRefusal.TheVariants as refusal
 use Rattle.reg_model.specs.Events.Answer.{Refused as to_refused}
 use Rattle.reg_service.proofs.Frames.{committed, dropped, not_begun, not_committed, sees}
-use Rattle.reg_service.proofs.Rests.{committed_halts, dropped_halts, dropped_looked, ended_clean, left_looked, refused_tables}
+use Rattle.reg_service.proofs.Rests.{committed_halts, committed_tables, dropped_halts, dropped_looked, ended_clean, left_looked, refused_tables}
 use Rattle.reg_service.proofs.Traced.{orders, tells_line, unordered}
 use Rattle.reg_service.proofs.transactions.command_in.Goals as goal
 
@@ -129,7 +129,7 @@ returns-in-Ok-commit-clause-halts g c =
 pub returns-in-Err-commit-clause-tables : goal.returns-in-Err-commit-clause-tables
 returns-in-Err-commit-clause-tables g c =
     let back = c.tables-in-Ok-answer-1.given.1 (sym (c.order_told.ensures.leaves.same_reference ∙ c.in-Ok.ensures.same_reference)) in
-    subst (λ t. AreUpToDate g.S.Store t) (sym back) (refused_tables g.S.Store c.args.tables.now c.in-Ok.work c.order_told.new.work c.in-Ok.ensures.begun (call_looks g.S.Store c.order_told.result c.in-Ok.work c.order_told.new.work c.order_told.ensures.leaves) c.commit.new.self.0 c.requires.tables c.commit.ensures.ours c.in-Err-commit.ensures.refused)
+    subst (λ t. AreUpToDate g.S.Store t) (sym back) (refused_tables g.S.Store c.args.tables.now c.in-Ok.work c.order_told.new.work c.in-Ok.ensures.begun (call_looks g.S.Store c.order_told.result c.in-Ok.work c.order_told.new.work c.order_told.ensures.leaves) c.commit.new.self.0 c.commit.result c.requires.tables c.commit.ensures c.in-Err-commit.ensures.refused)
 
 pub returns-in-Err-commit-clause-clean : goal.returns-in-Err-commit-clause-clean
 returns-in-Err-commit-clause-clean g c =
@@ -146,4 +146,4 @@ returns-in-Err-commit-clause-halts g c = record {
 pub returns-in-Ok-commit-clause-tables : goal.returns-in-Ok-commit-clause-tables
 returns-in-Ok-commit-clause-tables g c =
     let back = c.tables-in-Ok-answer-1.given.1 (sym (c.order_told.ensures.leaves.same_reference ∙ c.in-Ok.ensures.same_reference)) in
-    subst (λ t. AreUpToDate g.S.Store t) (sym back) (record { ours = c.commit.ensures.ours; second = c.in-Ok-commit.ensures.committed.second })
+    subst (λ t. AreUpToDate g.S.Store t) (sym back) (committed_tables g.S.Store c.args.tables.now c.in-Ok.work c.order_told.new.work c.in-Ok.ensures.begun (call_looks g.S.Store c.order_told.result c.in-Ok.work c.order_told.new.work c.order_told.ensures.leaves) c.commit.new.self.0 c.commit.result c.requires.tables c.commit.ensures c.in-Ok-commit.ensures.committed)

@@ -1,6 +1,6 @@
 use Rattle.std.proofs.Common.{rules}
 use Rattle.sqlite.specs.Held.{state}
-use Rattle.reg_tables.proofs.Stopping.{storage_known, survives_itself, undone_itself}
+use Rattle.reg_tables.proofs.Stopping.{live_leaves, silent_leaves, storage_known, survives_itself, undone_itself}
 use Rattle.reg_tables.proofs.tables.Tables.adopt.Goals as goal
 
 pub returns-in-Err : goal.returns-in-Err
@@ -11,6 +11,7 @@ returns-in-Err g c =
       about = tt;
       edition = tt;
       ours = tt;
+      leaves = tt;
       unknown = λ clean e. absurd (storage_known e);
       handed_back = λ clean. undone_itself s c.rest_law.ensures c.requires;
       kept = tt;
@@ -40,3 +41,8 @@ returns-in-Ok-true-clause-kept g c = c.has_base.ensures.survives
 
 pub returns-in-Ok-true-clause-about : goal.returns-in-Ok-true-clause-about
 returns-in-Ok-true-clause-about g c = search rules fits 300
+
+pub returns-in-Ok-true-clause-leaves : goal.returns-in-Ok-true-clause-leaves
+returns-in-Ok-true-clause-leaves g c =
+    let s = state g.S.Store c.args.conn in
+    silent_leaves _ s (state g.S.Store c.has_base.new.conn) c.has_base.ensures.survives (λ clean. live_leaves _ s c.live_law.ensures (λ up db l. g.met.S.Store.settled c.args.conn.store db up l) (c.rest_law.ensures c.requires) (search rules fits 100) (c.in-Ok-true.ensures.was_open clean))

@@ -1,5 +1,7 @@
-use Rattle.std.proofs.Common.{◌∙◌, Err, ap, refl, sym}
+use Rattle.std.proofs.Common.{◌∙◌, Err, ap, refl, subst, sym}
 use Rattle.sqlite.specs.Held.{state}
+use Rattle.reg_tables_schema.specs.States.{HasSchema}
+use Rattle.reg_tables_schema.specs.declared.edition.SchemaVersion.TheVariants.{Second}
 use Rattle.reg_tables_represent.proofs.Made.{made_stands}
 use Rattle.reg_tables.proofs.Stopping.{make_leaves, not_ok, same_fault}
 use Rattle.reg_tables.proofs.tables.Tables.make.Goals as goal
@@ -10,6 +12,7 @@ returns-in-Ok g c =
       made = made.made;
       stands = λ clean. made_stands c.args.base.now (state g.S.Store c.make_tables-made.new.conn) (made.made clean);
       ours = (made.ours, refl);
+      leaves = λ clean db l. let it = made.made clean in subst (HasSchema Second) (sym (c.stop_law.ensures it.1.is_open db l)) it.0.sound;
       second = refl;
       alone = λ clean. c.stop_law.ensures (made.made clean).1.is_open;
       unknown = tt;
@@ -27,6 +30,7 @@ returns-in-Err g c =
       made = tt;
       stands = tt;
       ours = tt;
+      leaves = tt;
       second = tt;
       alone = tt;
       unknown = (λ e. c.in-Err.ensures.unknown.0 (ap Err e), λ other. same_fault (c.in-Err.ensures.unknown.1 other));

@@ -1,0 +1,152 @@
+-- Connections behind those that were served: still one run.
+use Rattle.std.proofs.Common.{◌≡◌, ◌∙◌, ◌++◌, ◌+◌, ◌⊎◌, ℕ, false, true, List, [], ◌∷◌, length, map, Option, None, Some, arith, inl, inr, refl, sym, ap, ap₂, subst}
+use Rattle.std.proofs.lemmas.Grind.{flat_map-append}
+use Rattle.std.proofs.lemmas.List.{append_assoc, append-nil, length-append, map-append}
+use Rattle.std.specs.List.{flat_map}
+use Rattle.sqlite.specs.State.{HasCleanDisk}
+use Rattle.sqlite_trees.specs.declared.store.Store.{Ghosts}
+use Rattle.reg_body.specs.declared.limits.Limits.{Limits}
+use Rattle.reg_model.specs.Events.{Answer, Event}
+use Rattle.reg_model.specs.Registry.{Registry, Text}
+use Rattle.reg_model.specs.Trail.{trail}
+use Rattle.reg_model.specs.TrailLaws.{TrailsJoin}
+use Rattle.reg_tables.specs.declared.tables.Tables.{Tables}
+use Rattle.reg_tables.specs.Works.{is_stopped, shown}
+use Rattle.reg_service.specs.Answered.{StandsIn}
+use Rattle.reg_service.specs.Looked.{WasTried}
+use Rattle.reg_service.specs.Registries.{Running, limits_of, tables_of}
+use Rattle.reg_service.specs.Sequences.{Ran}
+use Rattle.reg_http.specs.Answering.{GoesOn}
+use Rattle.reg_http.specs.Exchanges.{Exchange, answers_in, events_in, steps_in}
+use Rattle.reg_http.specs.Streams.{HasRun, trail_in}
+use Rattle.reg_http.specs.Trails.{Tail, Trails}
+use Rattle.reg_http.proofs.Trails.{trails_both, trails_nothing}
+use Rattle.reg_cli_run.specs.Visits.{AreVisited, IsVisited, Logs, Passing, ServesAll, ServesThenTries, ServesVisit, ServesVisits, Visit, passings}
+use Rattle.reg_cli_run.specs.Visits.Passing.{Came, Missed, Went}
+
+-- what passed, and then more
+logs_then : (a b c : Option (List Passing)) (xs ys : List Passing) → Logs a b xs → Logs b c ys → Logs a c (xs ++ ys)
+logs_then None b c xs ys one two = tt
+logs_then (Some a) None c xs ys one two = absurd one
+logs_then (Some a) (Some b) None xs ys one two = absurd two
+logs_then (Some a) (Some b) (Some c) xs ys one two = two ∙ ap (λ l. l ++ ys) one ∙ append_assoc a xs ys
+
+logs_nothing : (a : Option (List Passing)) → Logs a a []
+logs_nothing None = tt
+logs_nothing (Some a) = sym (append-nil a)
+
+visited_then : (limits : Limits) (vs ws : List (Option Visit)) (xs ys : List Exchange) → AreVisited limits vs xs → AreVisited limits ws ys → AreVisited limits (vs ++ ws) (xs ++ ys)
+visited_then limits [] ws xs ys is rest = subst (λ l. AreVisited limits ws (l ++ ys)) (sym is) rest
+visited_then limits (v ∷ vs) ws xs ys (mine, others, all, it, more) rest = (mine, others ++ ys, ap (λ l. l ++ ys) all ∙ append_assoc mine others ys, it, visited_then limits vs ws others ys more rest)
+
+steps_then : (limits : Limits) (xs ys : List Exchange) → steps_in limits (xs ++ ys) ≡ steps_in limits xs ++ steps_in limits ys
+steps_then limits xs ys = flat_map-append _ xs ys
+
+events_then : (limits : Limits) (xs ys : List Exchange) → events_in limits (xs ++ ys) ≡ events_in limits xs ++ events_in limits ys
+events_then limits xs ys = ap (map (λ p. p.0)) (steps_then limits xs ys) ∙ map-append _ (steps_in limits xs) (steps_in limits ys)
+
+answers_then : (limits : Limits) (xs ys : List Exchange) → answers_in limits (xs ++ ys) ≡ answers_in limits xs ++ answers_in limits ys
+answers_then limits xs ys = ap (map (λ p. p.1)) (steps_then limits xs ys) ∙ map-append _ (steps_in limits xs) (steps_in limits ys)
+
+-- the laws of runs that a proof here rests on
+pub record RunLaws {S : Type 0} (g : Ghosts S) : Type 0 where
+  pub begins : (limits : Limits) (s : Registry) (t : Tables S) → StandsIn s (shown g t) → Ran g limits s t [] [] s t
+  pub join : (limits : Limits) (s t u : Registry) (entry mid new : Tables S) (es fs : List Event) (xs ys : List Answer) → Ran g limits s entry es xs t mid → Ran g limits t mid fs ys u new → Ran g limits s entry (es ++ fs) (xs ++ ys) u new
+  pub tells : TrailsJoin
+
+module _ {S : Type 0} (g : Ghosts S) (laws : RunLaws g) where
+  all_nothing : (limits : Limits) (s : Registry) (t : Tables S) (k : Tail) (vs : List (Option Visit)) → AreVisited limits vs [] → StandsIn s (shown g t) → ServesAll g limits s t t k k vs
+  all_nothing limits s t k vs visited h = record { exchanges = []; run = (s, laws.begins limits s t h); visited = visited; told = trails_nothing k }
+
+  goes_nowhere : (old : Running S) → GoesOn g old old
+  goes_nowhere old = record { clean = λ clean. clean; limits = refl }
+
+  -- none came yet
+  pub visits_nothing : (log : Option (List Passing)) (old : Running S) (k : Tail) → ServesVisits g 0 log log old old k k
+  visits_nothing log old k = record {
+    visits = [];
+    count = refl;
+    logged = logs_nothing log;
+    serves = λ clean s h. all_nothing (limits_of old) s (tables_of old) k [] refl h;
+    keeps = goes_nowhere old;
+  }
+
+  -- a client had hung up before
+  pub visit_missed : (log0 log1 : Option (List Passing)) (old : Running S) (k : Tail) → Logs log0 log1 (Missed ∷ []) → ServesVisits g 1 log0 log1 old old k k
+  visit_missed log0 log1 old k logs = record {
+    visits = None ∷ [];
+    count = refl;
+    logged = logs;
+    serves = λ clean s h. all_nothing (limits_of old) s (tables_of old) k (None ∷ []) ([], [], refl, refl, refl) h;
+    keeps = goes_nowhere old;
+  }
+
+  -- a connection was served
+  pub visit_served : (came before : Option Text) (log0 log1 log2 : Option (List Passing)) (old new : Running S) (k0 k1 : Tail) → Logs log0 log1 (Came came before ∷ []) → ServesVisit g came before log1 log2 old new k0 k1 → ServesVisits g 1 log0 log2 old new k0 k1
+  visit_served came before log0 log1 log2 old new k0 k1 logs v = record {
+    visits = Some (record { came = came; left = v.left; before = before; after = v.after }) ∷ [];
+    count = refl;
+    logged = logs_then log0 log1 log2 (Came came before ∷ []) (Went v.left v.after ∷ []) logs v.logged;
+    serves = λ clean s h.
+        let (xs, run, served, told) = v.serves clean s h in
+        record { exchanges = xs; run = run; visited = (xs, [], sym (append-nil xs), (v.result, v.lent, served), refl); told = told };
+    keeps = v.keeps;
+  }
+
+  -- and more after those
+  pub visits_then : (n m : ℕ) (log0 log1 log2 : Option (List Passing)) (old mid new : Running S) (k0 k1 k2 : Tail) → ServesVisits g n log0 log1 old mid k0 k1 → ServesVisits g m log1 log2 mid new k1 k2 → ServesVisits g (n + m) log0 log2 old new k0 k2
+  visits_then n m log0 log1 log2 old mid new k0 k1 k2 a b = record {
+    visits = a.visits ++ b.visits;
+    count = omega (arith, length-append a.visits b.visits, a.count, b.count);
+    logged = subst (Logs log0 log2) (sym (flat_map-append passings a.visits b.visits)) (logs_then log0 log1 log2 (flat_map passings a.visits) (flat_map passings b.visits) a.logged b.logged);
+    serves = serves;
+    keeps = record { clean = λ clean. a.keeps.clean (b.keeps.clean clean); limits = b.keeps.limits ∙ a.keeps.limits };
+  }
+    where
+      serves : HasCleanDisk (shown g (tables_of new)) → (s : Registry) → StandsIn s (shown g (tables_of old)) → ServesAll g (limits_of old) s (tables_of old) (tables_of new) k0 k2 (a.visits ++ b.visits)
+      serves clean s h =
+          let limits = limits_of old in
+          let one = a.serves (b.keeps.clean clean) s h in
+          let t = one.run.0 in
+          let two = subst (λ l. ServesAll g l t (tables_of mid) (tables_of new) k1 k2 b.visits) a.keeps.limits (b.serves clean t one.run.1.shows) in
+          let es = events_in limits one.exchanges in
+          let fs = events_in limits two.exchanges in
+          let xs = answers_in limits one.exchanges in
+          let ys = answers_in limits two.exchanges in
+          let ran = laws.join limits s t two.run.0 (tables_of old) (tables_of mid) (tables_of new) es fs xs ys one.run.1 two.run.1 in
+          let these = sym (events_then limits one.exchanges two.exchanges) in
+          let those = sym (answers_then limits one.exchanges two.exchanges) in
+          record {
+            exchanges = one.exchanges ++ two.exchanges;
+            run = (two.run.0, subst (λ e. Ran g limits s (tables_of old) e (answers_in limits (one.exchanges ++ two.exchanges)) two.run.0 (tables_of new)) these (subst (λ x. Ran g limits s (tables_of old) (es ++ fs) x two.run.0 (tables_of new)) those ran));
+            visited = visited_then limits a.visits b.visits one.exchanges two.exchanges one.visited two.visited;
+            told = subst (Trails k0 k2) (sym (ap₂ (trail limits s) (events_then limits one.exchanges two.exchanges) (answers_then limits one.exchanges two.exchanges) ∙ laws.tells limits s t es fs xs ys one.run.1.run)) (trails_both k0 k1 k2 (trail_in limits s one.exchanges) (trail_in limits t two.exchanges) one.told two.told);
+          }
+
+  -- and then it was tried whether the store answers
+  pub tries_then : (n m : ℕ) (log0 log1 log2 : Option (List Passing)) (old mid new : Running S) (k0 k1 k2 : Tail) → ServesVisits g n log0 log1 old mid k0 k1 → ServesThenTries g m log1 log2 mid new k1 k2 → ServesThenTries g (n + m) log0 log2 old new k0 k2
+  tries_then n m log0 log1 log2 old mid new k0 k1 k2 a b = record {
+    last = b.last;
+    visits = visits_then n m log0 log1 log2 old mid b.last k0 k1 k2 a b.visits;
+    tried = b.tried;
+    limits = b.limits;
+  }
+
+  -- where it does, the run goes on
+  pub tried_on : ((limits : Limits) (s : Registry) (entry : Tables S) (es : List Event) (xs : List Answer) (t : Registry) (mid new : Tables S) → Ran g limits s entry es xs t mid → WasTried g mid new → HasCleanDisk (shown g new) → is_stopped new ≡ false → Ran g limits s entry es xs t new)
+      → (n : ℕ) (log0 log1 : Option (List Passing)) (old new : Running S) (k0 k1 : Tail) → ServesThenTries g n log0 log1 old new k0 k1 → is_stopped (tables_of new) ≡ false → ServesVisits g n log0 log1 old new k0 k1
+  tried_on law n log0 log1 old new k0 k1 it goes_on = record {
+    visits = it.visits.visits;
+    count = it.visits.count;
+    logged = it.visits.logged;
+    serves = λ clean s h.
+        let all = it.visits.serves (it.tried.clean clean) s h in
+        let limits = limits_of old in
+        record {
+          exchanges = all.exchanges;
+          run = (all.run.0, law limits s (tables_of old) (events_in limits all.exchanges) (answers_in limits all.exchanges) all.run.0 (tables_of it.last) (tables_of new) all.run.1 it.tried clean goes_on);
+          visited = all.visited;
+          told = all.told;
+        };
+    keeps = record { clean = λ clean. it.visits.keeps.clean (it.tried.clean clean); limits = it.limits ∙ it.visits.keeps.limits };
+  }
