@@ -3,6 +3,7 @@
 // which one the program is killed or refused memory.
 //
 //   sync-ENDING    the next syncs of a file whose path has this ending fail with EIO
+//   write-ENDING   the next writes to a file whose path has this ending fail with ENOSPC
 //   sync           this sync, counted from 1, fails with EIO, and the file is then gone
 //   accept-NUMBER  the next accepts fail with the error of this number
 //   kill           the program is killed as it begins this write, counted from 1
@@ -91,18 +92,23 @@ static int is_ending(const char *ending, const void *path) {
     return last <= all && !strcmp((const char *)path + all - last, ending);
 }
 
-static int sync_fails(int fd) {
-    static long syncs;
+// Whether a call on a file fails by a fault with this front.
+static int file_fails(const char *front, int fd) {
     char link[64], path[4096], name[300];
-    if (++syncs == number_in("sync")) {
-        spend("sync");
-        return 1;
-    }
     snprintf(link, sizeof link, "/proc/self/fd/%d", fd);
     ssize_t length = readlink(link, path, sizeof path - 1);
     if (length < 0) return 0;
     path[length] = 0;
-    return find_fault("sync-", is_ending, path, name, sizeof name) && fails_by(name);
+    return find_fault(front, is_ending, path, name, sizeof name) && fails_by(name);
+}
+
+static int sync_fails(int fd) {
+    static long syncs;
+    if (++syncs == number_in("sync")) {
+        spend("sync");
+        return 1;
+    }
+    return file_fails("sync-", fd);
 }
 
 int fsync(int fd) {
@@ -146,30 +152,31 @@ int accept4(int fd, struct sockaddr *address, socklen_t *length, int flags) {
     return accept_fails() ? -1 : real(fd, address, length, flags);
 }
 
-// A write to a file, which is counted.
-static void count_write(int fd) {
+// A write to a file, which is counted: whether it fails.
+static int write_fails(int fd) {
     static long writes;
-    if (fd > 2 && ++writes == number_in("kill")) kill(getpid(), SIGKILL);
+    if (fd <= 2) return 0;
+    if (++writes == number_in("kill")) kill(getpid(), SIGKILL);
+    if (!file_fails("write-", fd)) return 0;
+    errno = ENOSPC;
+    return 1;
 }
 
 ssize_t write(int fd, const void *bytes, size_t size) {
     ssize_t (*real)(int, const void *, size_t) = (ssize_t(*)(int, const void *, size_t))dlsym(RTLD_NEXT, "write");
-    count_write(fd);
-    return real(fd, bytes, size);
+    return write_fails(fd) ? -1 : real(fd, bytes, size);
 }
 
 ssize_t pwrite(int fd, const void *bytes, size_t size, off_t at) {
     ssize_t (*real)(int, const void *, size_t, off_t) =
         (ssize_t(*)(int, const void *, size_t, off_t))dlsym(RTLD_NEXT, "pwrite");
-    count_write(fd);
-    return real(fd, bytes, size, at);
+    return write_fails(fd) ? -1 : real(fd, bytes, size, at);
 }
 
 ssize_t pwrite64(int fd, const void *bytes, size_t size, off64_t at) {
     ssize_t (*real)(int, const void *, size_t, off64_t) =
         (ssize_t(*)(int, const void *, size_t, off64_t))dlsym(RTLD_NEXT, "pwrite64");
-    count_write(fd);
-    return real(fd, bytes, size, at);
+    return write_fails(fd) ? -1 : real(fd, bytes, size, at);
 }
 
 __attribute__((constructor)) static void read_refused(void) { refused = number_in("memory"); }

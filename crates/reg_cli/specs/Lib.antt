@@ -1,3 +1,4 @@
 pub mod Exits
+pub mod Openings
 pub mod Setups
 pub mod Tasks

@@ -7,14 +7,14 @@ ghost use Rattle.reg_cli_args.specs.Orders.{given_by};
 ghost use Rattle.reg_service.specs.Registries.{limits_of, tables_of};
 ghost use Rattle.reg_cli.specs.Tasks.{IsFitTask, IsTaskDone, task_from, task_of};
 
-use crate::exporting::export_to;
+use crate::exporting::IndexFolder;
 use crate::files::whole_path;
 use crate::using::{FileTask, on_whole_file};
 use clap::ArgMatches;
 use reg_body::{Counted, Limits};
 use reg_cli_args::{GivenCommand, NewToken, read_order, read_report};
 use reg_cli_line::Exit;
-use reg_cli_run::{CALLS, add_token, make_token, obey};
+use reg_cli_run::{CALLS, add_token, export_into, make_token, obey};
 use reg_policy::AdminCommand;
 use reg_service::Registry;
 use sqlite::{Alter, Start};
@@ -70,7 +70,13 @@ pub(crate) fn do_task<S: Alter, W: Write>(
         (sink (W.contents w.old.inner) w.old) (sink (W.contents w.new.inner) w.new) result }
 {
     match task {
-        AdminTask::Export(folder, file) => export_to(rt, registry, folder, file),
+        AdminTask::Export(folder, file) => {
+            export_into(
+                rt.alloc(),
+                registry,
+                &mut IndexFolder::new(rt, folder, file),
+            )
+        }
         AdminTask::Command(command) => obey(rt.alloc(), registry, w, command, None),
         AdminTask::AddToken(token) => match make_token(rt, &token.source) {
             Ok(made) => add_token(rt.alloc(), registry, w, token, &made),

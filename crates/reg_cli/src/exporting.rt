@@ -1,12 +1,25 @@
-//! The index as files in a folder.
+//! The index as files in a folder of the file system.
 
 use crate::files::is_registry;
 use reg_cli_line::Exit;
-use reg_cli_run::{FolderAt, join_path, write_files};
-use reg_service::Registry;
-use sqlite::Alter;
+use reg_cli_run::{Folder, join_path};
 use std::alloc::AllocError;
-use std::fs;
+use std::path::Path;
+use std::{fs, io};
+
+/// A folder that the index is written into, and the registry's own file, which has to stay.
+#[derive(Drop)]
+pub(crate) struct IndexFolder<'a> {
+    rt: &'a HostRuntime,
+    path: &'a str,
+    registry: &'a str,
+}
+
+impl<'a> IndexFolder<'a> {
+    pub(crate) fn new(rt: &'a HostRuntime, path: &'a str, registry: &'a str) -> IndexFolder<'a> {
+        IndexFolder { rt, path, registry }
+    }
+}
 
 /// Whether one of the files is the registry's own, or has a name beside it that the library uses.
 fn have_registry(
@@ -24,27 +37,25 @@ fn have_registry(
     Ok(false)
 }
 
-/// Writes the config and the index files below the folder. Existing files are overwritten, unless
-/// one is the registry's own `file` or a name beside it: then none is written. The folder is made
-/// first, so that it is known where it leads. The empty text names no folder.
-pub(crate) fn export_to<S: Alter>(
-    rt: &HostRuntime,
-    registry: &mut Registry<S>,
-    folder: &str,
-    file: &str,
-) -> Exit {
-    if folder.is_empty() {
-        return Exit::STORAGE;
+impl Folder for IndexFolder<'_> {
+    /// Makes the folder first, so that it is known where it leads. Existing files are overwritten,
+    /// unless one is the registry's own or a name beside it. The empty text names no folder.
+    fn prepare(&mut self, files: &[(String, Vec<u8>)]) -> Result<(), Exit> {
+        if self.path.is_empty() || fs::create_dir_all(self.rt, self.path).is_err() {
+            return Err(Exit::STORAGE);
+        }
+        match have_registry(self.rt, self.path, files, self.registry) {
+            Ok(false) => Ok(()),
+            Ok(true) => Err(Exit::STORAGE),
+            Err(_) => Err(Exit::MEMORY),
+        }
     }
-    let Ok(files) = registry.export(rt.alloc()) else {
-        return Exit::STORAGE;
-    };
-    if fs::create_dir_all(rt, folder).is_err() {
-        return Exit::STORAGE;
-    }
-    match have_registry(rt, folder, &files, file) {
-        Ok(false) => write_files(&mut FolderAt::new(rt, folder), &files),
-        Ok(true) => Exit::STORAGE,
-        Err(_) => Exit::MEMORY,
+
+    fn write_file(&mut self, path: &str, bytes: &[u8]) -> io::Result<()> {
+        let whole = join_path(self.rt.alloc(), self.path, path)?;
+        if let Some(parent) = Path::new(whole.as_str()).parent() {
+            fs::create_dir_all(self.rt, parent)?;
+        }
+        fs::write(self.rt, whole.as_str(), bytes)
     }
 }

@@ -7,8 +7,8 @@ ghost use Rattle.sqlite.specs.Start.{FindsIn};
 ghost use Rattle.sqlite.specs.State.{HasCleanDisk};
 ghost use Rattle.sqlite_wal.specs.Files.{image_at};
 ghost use Rattle.reg_tables.specs.Works.{shown};
-ghost use Rattle.reg_service.specs.Answered.{HoldsRegistry, StandsIn};
-ghost use Rattle.reg_service.specs.Registries.{limits_of, tables_of};
+ghost use Rattle.reg_service.specs.Registries.{IsNew as IsNewRegistry, limits_of, tables_of};
+ghost use Rattle.reg_cli.specs.Openings.{HoldsSame};
 ghost use Rattle.reg_cli.specs.Exits.{status_of_opening, words_of_damage, words_of_opening};
 
 use crate::files::is_orphaned;
@@ -114,9 +114,9 @@ pub(crate) fn open<S: Alter + Drop>(
 ) -> Result<Registry<S>, Exit>
     requires { (state S.Store conn).in_transaction ≡ false }
     ensures limited { IfOk result (λ r. limits_of r ≡ limits) }
-    ensures same { IfOk result (λ r. HasCleanDisk (shown S.Store (tables_of r)) → (s : _)
-        → HoldsRegistry s (state S.Store conn).now.trees
-        → StandsIn s (shown S.Store (tables_of r))) }
+    ensures clean { IfOk result (λ r. HasCleanDisk (shown S.Store (tables_of r))
+        → HasCleanDisk (state S.Store conn)) }
+    ensures same { IfOk result (HoldsSame S.Store (state S.Store conn).now.trees) }
 {
     match Registry::open(alloc, conn, limits) {
         Ok(registry) => Ok(registry),
@@ -128,6 +128,9 @@ pub(crate) fn open<S: Alter + Drop>(
 pub(crate) fn create<S: Alter + Drop>(conn: Connection<S>, base: &str) -> Result<Registry<S>, Exit>
     requires { (state S.Store conn).in_transaction ≡ false }
     ensures limited { IfOk result (λ r. limits_of r ≡ Limits.STANDARD) }
+    ensures clean { IfOk result (λ r. HasCleanDisk (shown S.Store (tables_of r))
+        → HasCleanDisk (state S.Store conn)) }
+    ensures made { IfOk result (λ r. IsNewRegistry S.Store base.now (limits_of r) r) }
 {
     match Registry::create(conn, base, Limits::STANDARD) {
         Ok(registry) => Ok(registry),

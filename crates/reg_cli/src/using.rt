@@ -1,10 +1,15 @@
 //! What is done with the registry of a file.
 
 ghost use Rattle.std.specs.Prelude.{◌≡◌, IfOk, false};
+ghost use Rattle.sqlite.specs.Files.{over_files};
 ghost use Rattle.sqlite.specs.Held.{state};
-ghost use Rattle.reg_service.specs.Registries.{limits_of};
+ghost use Rattle.sqlite.specs.State.{HasCleanDisk};
+ghost use Rattle.sqlite_wal.specs.Files.{image_at};
+ghost use Rattle.reg_tables.specs.Works.{shown};
+ghost use Rattle.reg_service.specs.Registries.{limits_of, tables_of};
 ghost use Rattle.reg_cli_run.specs.Limited.{HasTurns};
-ghost use Rattle.reg_cli.specs.Tasks.{IsFitUse};
+ghost use Rattle.reg_cli.specs.Openings.{BeginsOn, IsDoneOn};
+ghost use Rattle.reg_cli.specs.Tasks.{EndsUse, IsFitUse, IsUsed};
 
 use crate::administering::{AdminTask, do_task};
 use crate::files::whole_path;
@@ -33,6 +38,8 @@ pub(crate) enum FileTask<'a> {
 fn use_it<S: Alter>(rt: &HostRuntime, registry: &mut Registry<S>, wanted: &FileTask<'_>) -> Exit
     requires turns { HasTurns (limits_of registry.old) }
     requires fit { IsFitUse wanted.now }
+    ensures { IsUsed S.Store (limits_of registry.old) wanted.now (tables_of registry.old)
+        (tables_of registry.new) result }
 {
     match wanted {
         FileTask::Make(_) | FileTask::Check => Exit::DONE,
@@ -51,6 +58,9 @@ fn begin<S: Alter + Drop>(
     requires begun { (state S.Store conn).in_transaction ≡ false }
     requires turns { HasTurns limits }
     ensures turns { IfOk result (λ r. HasTurns (limits_of r)) }
+    ensures clean { IfOk result (λ r. HasCleanDisk (shown S.Store (tables_of r))
+        → HasCleanDisk (state S.Store conn)) }
+    ensures begins { IfOk result (BeginsOn S.Store conn wanted.now) }
 {
     match wanted {
         FileTask::Make(base) => create(conn, base),
@@ -68,6 +78,9 @@ fn use_store<S: Alter + Drop>(
     requires begun { (state S.Store conn).in_transaction ≡ false }
     requires turns { HasTurns limits }
     requires fit { IsFitUse wanted.now }
+    ensures used { IfOk result (λ it. (old new : _) × BeginsOn S.Store conn wanted.now old
+        × (HasCleanDisk (shown S.Store (tables_of old)) → HasCleanDisk (state S.Store conn))
+        × IsUsed S.Store (limits_of old) wanted.now (tables_of old) (tables_of new) it.0) }
 {
     let mut registry = begin(rt.alloc(), conn, limits, wanted)?;
     let exit = use_it(rt, &mut registry, wanted);
@@ -76,7 +89,9 @@ fn use_store<S: Alter + Drop>(
 
 /// The end of a run, once the file is closed, which moves the log into the file. What was
 /// acknowledged is kept even if that fails; only a check has to report it.
-fn exit_of_use(rt: &HostRuntime, wanted: &FileTask<'_>, exit: Exit, is_closed: bool) -> Exit {
+fn exit_of_use(rt: &HostRuntime, wanted: &FileTask<'_>, exit: Exit, is_closed: bool) -> Exit
+    ensures { EndsUse wanted.now is_closed exit result }
+{
     match wanted {
         FileTask::Check if is_closed => print(rt, "ok\n"),
         FileTask::Check => Exit::STORAGE,
@@ -94,6 +109,7 @@ fn use_file<F: Start>(
 ) -> Result<Exit, Exit>
     requires turns { HasTurns limits }
     requires fit { IsFitUse wanted.now }
+    ensures done { IfOk result (IsDoneOn over_files (image_at F.Start) wanted.now) }
 {
     let conn = connect(rt, file, start)?;
     let (exit, conn) = use_store(rt, conn, limits, wanted)?;

@@ -27,3 +27,12 @@ abbrev pub EndsWriting : Option (List (Text × Text)) → Option (List (Text × 
 EndsWriting old new files exit =
     (EndsWith 0 [] exit × GainsAll old new (map texts_of files))
     ⊎ EndsWith 3 (codes "storage") exit
+
+-- the files were not all written
+abbrev pub EndsExporting : Exit → Type 0
+EndsExporting exit = EndsWith 3 (codes "storage") exit ⊎ EndsWith 3 (codes "memory") exit
+
+-- all of these files were written, or the run ends with a fault
+abbrev pub IsExported : Option (List (Text × Text)) → Option (List (Text × Text))
+    → List (Text × Text) → Exit → Type 0
+IsExported old new files exit = (EndsWith 0 [] exit × GainsAll old new files) ⊎ EndsExporting exit

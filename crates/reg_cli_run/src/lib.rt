@@ -25,7 +25,7 @@ mod tokens;
 pub use connections::{mark_opening, serve_connections};
 pub use door::Door;
 pub use exit::exit_of_refusal;
-pub use folder::{Folder, FolderAt, join_path, write_files};
+pub use folder::{Folder, export_into, join_path, write_files};
 pub use listener::Listener;
 pub use obeying::{add_token, obey};
 pub use pipe::{pipe_traced, run_pipe};

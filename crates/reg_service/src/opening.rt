@@ -96,6 +96,8 @@ impl<S: Alter> Registry<S> {
         requires { (state S.Store conn).in_transaction ≡ false }
         ensures goes_on { IfOk result (λ r. is_stopped (tables_of r) ≡ false) }
         ensures limited { IfOk result (λ r. limits_of r ≡ limits) }
+        ensures clean { IfOk result (λ r. HasCleanDisk (shown S.Store (tables_of r))
+            → HasCleanDisk (state S.Store conn)) }
         ensures same { IfOk result (λ r. HasCleanDisk (shown S.Store (tables_of r)) → (s : _)
             → HoldsRegistry s (state S.Store conn).now.trees
             → StandsIn s (shown S.Store (tables_of r))) }

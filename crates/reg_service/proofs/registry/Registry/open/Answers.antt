@@ -1,4 +1,4 @@
-use Rattle.reg_service.proofs.Words.{refl, ◌∙◌, state, survives_weaker, if_ok, MayBeUpgraded, BadBase, Damaged, Storage, UnknownSchema}
+use Rattle.reg_service.proofs.Words.{refl, ◌∙◌, arith, state, survives_weaker, if_ok, MayBeUpgraded, BadBase, Damaged, Storage, UnknownSchema}
 use Rattle.reg_service.proofs.Faults.{apart}
 use Rattle.reg_service.proofs.Opened.{handed_last, if_refused, is_taken, opened_left, opened_same, only_storage, opened_sound, refused_damaged, refused_last, refused_left, refused_storage, refused_undone}
 use Rattle.reg_service.proofs.registry.Registry.open.Goals as goal
@@ -15,6 +15,7 @@ returns-in-Ok g c =
     record {
       goes_on = if_ok r (λ r b. b.goes_on ∙ c.in-Ok.ensures.ours.1) it.begun;
       limited = if_ok r (λ r b. b.limited) it.begun;
+      clean = if_ok r (λ r early clean. let still = early clean in omega (arith, still, c.in-Ok.ensures.kept.clean)) it.clean;
       same = opened_same g.S.Store conn tables k r same it.clean it.brought c.live_law.ensures;
       sound = opened_sound g.S.Store conn tables k r same audited it.clean it.brought it.passed;
       left = opened_left g.S.Store conn tables k r same it.clean it.brought c.in-Ok.ensures.kept;
@@ -31,6 +32,7 @@ pub returns-in-Err-default-UnknownSchema : goal.returns-in-Err-default-UnknownSc
 returns-in-Err-default-UnknownSchema g c = record {
   goes_on = tt;
   limited = tt;
+  clean = tt;
   same = tt;
   sound = tt;
   left = tt;
@@ -50,6 +52,7 @@ pub returns-in-Err-default-Storage : goal.returns-in-Err-default-Storage
 returns-in-Err-default-Storage g c = record {
   goes_on = tt;
   limited = tt;
+  clean = tt;
   same = tt;
   sound = tt;
   left = tt;
