@@ -103,4 +103,4 @@ tried g limits s t entry mid new es xs a it clean goes_on = record {
 }
   where
     was : is_stopped mid ≡ false
-    was = elim (cases_Bool (is_stopped mid)) [ inl yes ↦ absurd (false≢true (sym goes_on ∙ it.stays yes)) | inr no ↦ no ]
+    was = elim (cases_Bool (is_stopped mid)) [ inl had ↦ absurd (false≢true (sym goes_on ∙ it.stays had)) | inr had ↦ had ]

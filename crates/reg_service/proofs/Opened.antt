@@ -301,14 +301,14 @@ module _ {S : Type 0} (g : Ghosts S) (conn : Held S) (t : Tables S) (k : IsTaken
       }
 
 -- our tables with a sound registry are refused for the store alone
-pub only_storage : (f : OpenFault) (now : Database) (s : model.Registry) → HoldsRegistry s now.trees → IsDatabase now → (f ≡ BadBase → ⊥) → (f ≡ UnknownSchema → (e : SchemaVersion) → now.schema ≡ schema_of e → LacksBase e now.trees)
-    → ((check : Check) → f ≡ Damaged check → AreDamaged now check) → f ≡ Storage
-only_storage Storage now s holds is known unknown damaged = refl
-only_storage BadBase now s holds is known unknown damaged = absurd (known refl)
-only_storage UnknownSchema now s (e, has, are) is known unknown damaged = absurd (has_base e s now.trees are (unknown refl e (one_schema e now has is)))
-only_storage (Damaged check) now s (e, has, are) is known unknown damaged =
-    let d = damaged check refl in
-    absurd (d.no_registry s (subst (λ f. StandsSoundAs f s now.trees) (one_edition e d.edition (sym (one_schema e now has is) ∙ d.schema)) are))
+pub only_storage : (f : OpenFault) (d : Database) (s : model.Registry) → HoldsRegistry s d.trees → IsDatabase d → (f ≡ BadBase → ⊥) → (f ≡ UnknownSchema → (e : SchemaVersion) → d.schema ≡ schema_of e → LacksBase e d.trees)
+    → ((check : Check) → f ≡ Damaged check → AreDamaged d check) → f ≡ Storage
+only_storage Storage d s holds is known unknown damaged = refl
+only_storage BadBase d s holds is known unknown damaged = absurd (known refl)
+only_storage UnknownSchema d s (e, has, are) is known unknown damaged = absurd (has_base e s d.trees are (unknown refl e (one_schema e d has is)))
+only_storage (Damaged check) d s (e, has, are) is known unknown damaged =
+    let bad = damaged check refl in
+    absurd (bad.no_registry s (subst (λ f. StandsSoundAs f s d.trees) (one_edition e bad.edition (sym (one_schema e d has is) ∙ bad.schema)) are))
 
 pub refused_storage : {S R : Type 0} (g : Ghosts S) (conn : Held S) (r : Result R (Held S × OpenFault)) → IsLive (state g conn) → IfErr r (λ e. e.1 ≡ BadBase → ⊥)
     → IfErr r (λ e. HasCleanDisk (state g e.0) → e.1 ≡ UnknownSchema → (e : SchemaVersion) → (state g conn).now.schema ≡ schema_of e → LacksBase e (state g conn).now.trees)

@@ -60,5 +60,5 @@ pub fn left_law<S: Alter>(registry: &Registry<S>)
         → (shown S.Store (tables_of registry.now)).may_leave db → (m : _) → Sound m → Stands m db
         → HoldsRegistry m db }
 {
-    let _ = registry;
+    let _ = &registry.tables;
 }

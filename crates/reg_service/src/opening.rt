@@ -18,8 +18,8 @@ use reg_body::Limits;
 use reg_check_sound::laws::{edition_law, rows_law};
 use reg_line::is_base;
 use reg_model::laws::soundness_law;
-use reg_tables_schema::laws::live_law;
 use reg_tables::{MakeFault, SchemaVersion, Tables};
+use reg_tables_schema::laws::live_law;
 use sqlite::{Alter, Connection};
 use std::alloc::Global;
 
