@@ -48,36 +48,39 @@ events_then limits xs ys = ap (map (λ p. p.0)) (steps_then limits xs ys) ∙ ma
 answers_then : (limits : Limits) (xs ys : List Exchange) → answers_in limits (xs ++ ys) ≡ answers_in limits xs ++ answers_in limits ys
 answers_then limits xs ys = ap (map (λ p. p.1)) (steps_then limits xs ys) ∙ map-append _ (steps_in limits xs) (steps_in limits ys)
 
--- the laws of runs that a proof here rests on
-pub record RunLaws {S : Type 0} (g : Ghosts S) : Type 0 where
-  pub begins : (limits : Limits) (s : Registry) (t : Tables S) → StandsIn s (shown g t) → Ran g limits s t [] [] s t
+-- a run without events
+abbrev pub Begins : {S : Type 0} → Ghosts S → Type 0
+Begins {S} g = (limits : Limits) (s : Registry) (t : Tables S) → StandsIn s (shown g t) → Ran g limits s t [] [] s t
+
+-- two runs are one, and so are their trails
+pub record Joins {S : Type 0} (g : Ghosts S) : Type 0 where
   pub join : (limits : Limits) (s t u : Registry) (entry mid new : Tables S) (es fs : List Event) (xs ys : List Answer) → Ran g limits s entry es xs t mid → Ran g limits t mid fs ys u new → Ran g limits s entry (es ++ fs) (xs ++ ys) u new
   pub tells : TrailsJoin
 
-module _ {S : Type 0} (g : Ghosts S) (laws : RunLaws g) where
-  all_nothing : (limits : Limits) (s : Registry) (t : Tables S) (k : Tail) (vs : List (Option Visit)) → AreVisited limits vs [] → StandsIn s (shown g t) → ServesAll g limits s t t k k vs
-  all_nothing limits s t k vs visited h = record { exchanges = []; run = (s, laws.begins limits s t h); visited = visited; told = trails_nothing k }
+module _ {S : Type 0} (g : Ghosts S) where
+  all_nothing : Begins g → (limits : Limits) (s : Registry) (t : Tables S) (k : Tail) (vs : List (Option Visit)) → AreVisited limits vs [] → StandsIn s (shown g t) → ServesAll g limits s t t k k vs
+  all_nothing begins limits s t k vs visited h = record { exchanges = []; run = (s, begins limits s t h); visited = visited; told = trails_nothing k }
 
   goes_nowhere : (old : Running S) → GoesOn g old old
   goes_nowhere old = record { clean = λ clean. clean; limits = refl }
 
   -- none came yet
-  pub visits_nothing : (log : Option (List Passing)) (old : Running S) (k : Tail) → ServesVisits g 0 log log old old k k
-  visits_nothing log old k = record {
+  pub visits_nothing : Begins g → (log : Option (List Passing)) (old : Running S) (k : Tail) → ServesVisits g 0 log log old old k k
+  visits_nothing begins log old k = record {
     visits = [];
     count = refl;
     logged = logs_nothing log;
-    serves = λ clean s h. all_nothing (limits_of old) s (tables_of old) k [] refl h;
+    serves = λ clean s h. all_nothing begins (limits_of old) s (tables_of old) k [] refl h;
     keeps = goes_nowhere old;
   }
 
   -- a client had hung up before
-  pub visit_missed : (log0 log1 : Option (List Passing)) (old : Running S) (k : Tail) → Logs log0 log1 (Missed ∷ []) → ServesVisits g 1 log0 log1 old old k k
-  visit_missed log0 log1 old k logs = record {
+  pub visit_missed : Begins g → (log0 log1 : Option (List Passing)) (old : Running S) (k : Tail) → Logs log0 log1 (Missed ∷ []) → ServesVisits g 1 log0 log1 old old k k
+  visit_missed begins log0 log1 old k logs = record {
     visits = None ∷ [];
     count = refl;
     logged = logs;
-    serves = λ clean s h. all_nothing (limits_of old) s (tables_of old) k (None ∷ []) ([], [], refl, refl, refl) h;
+    serves = λ clean s h. all_nothing begins (limits_of old) s (tables_of old) k (None ∷ []) ([], [], refl, refl, refl) h;
     keeps = goes_nowhere old;
   }
 
@@ -94,8 +97,8 @@ module _ {S : Type 0} (g : Ghosts S) (laws : RunLaws g) where
   }
 
   -- and more after those
-  pub visits_then : (n m : ℕ) (log0 log1 log2 : Option (List Passing)) (old mid new : Running S) (k0 k1 k2 : Tail) → ServesVisits g n log0 log1 old mid k0 k1 → ServesVisits g m log1 log2 mid new k1 k2 → ServesVisits g (n + m) log0 log2 old new k0 k2
-  visits_then n m log0 log1 log2 old mid new k0 k1 k2 a b = record {
+  pub visits_then : Joins g → (n m : ℕ) (log0 log1 log2 : Option (List Passing)) (old mid new : Running S) (k0 k1 k2 : Tail) → ServesVisits g n log0 log1 old mid k0 k1 → ServesVisits g m log1 log2 mid new k1 k2 → ServesVisits g (n + m) log0 log2 old new k0 k2
+  visits_then laws n m log0 log1 log2 old mid new k0 k1 k2 a b = record {
     visits = a.visits ++ b.visits;
     count = omega (arith, length-append a.visits b.visits, a.count, b.count);
     logged = subst (Logs log0 log2) (sym (flat_map-append passings a.visits b.visits)) (logs_then log0 log1 log2 (flat_map passings a.visits) (flat_map passings b.visits) a.logged b.logged);
@@ -124,10 +127,10 @@ module _ {S : Type 0} (g : Ghosts S) (laws : RunLaws g) where
           }
 
   -- and then it was tried whether the store answers
-  pub tries_then : (n m : ℕ) (log0 log1 log2 : Option (List Passing)) (old mid new : Running S) (k0 k1 k2 : Tail) → ServesVisits g n log0 log1 old mid k0 k1 → ServesThenTries g m log1 log2 mid new k1 k2 → ServesThenTries g (n + m) log0 log2 old new k0 k2
-  tries_then n m log0 log1 log2 old mid new k0 k1 k2 a b = record {
+  pub tries_then : Joins g → (n m : ℕ) (log0 log1 log2 : Option (List Passing)) (old mid new : Running S) (k0 k1 k2 : Tail) → ServesVisits g n log0 log1 old mid k0 k1 → ServesThenTries g m log1 log2 mid new k1 k2 → ServesThenTries g (n + m) log0 log2 old new k0 k2
+  tries_then laws n m log0 log1 log2 old mid new k0 k1 k2 a b = record {
     last = b.last;
-    visits = visits_then n m log0 log1 log2 old mid b.last k0 k1 k2 a b.visits;
+    visits = visits_then laws n m log0 log1 log2 old mid b.last k0 k1 k2 a b.visits;
     tried = b.tried;
     limits = b.limits;
   }

@@ -16,7 +16,7 @@ use reg_cli_line::Exit;
 use reg_http::{Server, Trail};
 use reg_model::laws::telling_law;
 use reg_service::Registry;
-use reg_service::laws::{joined_law, tried_law};
+use reg_service::laws::{history_law, joined_law, tried_law};
 use sqlite::Alter;
 use std::alloc::Global;
 use std::io::Write;
@@ -85,6 +85,7 @@ fn serve_next<S: Alter, T: Write, D: Door>(
         registry.old registry.new (tail (T.contents trail.old.end.inner) trail.old)
         (tail (T.contents trail.new.end.inner) trail.new)) }
 {
+    history_law::<S>();
     if let Some((reader, writer)) = door.accept(rt)? {
         serve_connection(rt.alloc(), server, registry, trail, door, reader, writer);
     }
@@ -112,6 +113,7 @@ pub fn serve_connections<S: Alter, T: Write, D: Door>(
         (tail (T.contents trail.old.end.inner) trail.old)
         (tail (T.contents trail.new.end.inner) trail.new) }
 {
+    history_law::<S>();
     joined_law::<S>();
     tried_law::<S>();
     telling_law();

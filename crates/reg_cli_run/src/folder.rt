@@ -22,7 +22,7 @@ pub trait Folder {
     ghost files: { Self → Option (List (Text × Text)) } = { λ _. None };
 
     /// Makes the folder, and refuses files of which one may not be written. None is written yet.
-    fn prepare(&mut self, files: &[(String, Vec<u8>)]) -> Result<(), Exit>
+    fn prepare(&mut self, all: &[(String, Vec<u8>)]) -> Result<(), Exit>
         ensures kept { files self.new ≡ files self.old }
         ensures refused { IfErr result EndsExporting };
 
