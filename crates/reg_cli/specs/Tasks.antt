@@ -6,7 +6,7 @@ use Rattle.reg_body.specs.declared.limits.Limits.{Limits}
 use Rattle.reg_body.specs.Sent.{Sink}
 use Rattle.reg_model.specs.Events as model
 use Rattle.reg_model.specs.Events.Event.{Order as to_order}
-use Rattle.reg_model.specs.Registry.{Text}
+use Rattle.reg_model.specs.Registry.{Registry, Text}
 use Rattle.reg_model.specs.Steps.{IsFit}
 use Rattle.reg_policy.specs.Events.{command_of}
 use Rattle.reg_tables.specs.declared.tables.Tables.{Tables}
@@ -16,7 +16,10 @@ use Rattle.reg_cli_args.specs.Orders.Ordered.{Token, Whole}
 use Rattle.reg_cli_run.specs.Exits.{EndsWith}
 use Rattle.reg_cli_run.specs.Folders.{EndsExporting}
 use Rattle.reg_cli_run.specs.Printing.{IsObeyed}
+use Rattle.reg_service.specs.Answered.{StandsIn}
 use Rattle.reg_service.specs.Looked.{Looked}
+use Rattle.reg_tables.specs.Works.{shown}
+use Rattle.sqlite.specs.State.{HasCleanDisk}
 use Rattle.reg_cli_run.specs.Tokens.{Makes}
 use Rattle.reg_cli.specs.declared.administering.AdminTask.{AdminTask}
 use Rattle.reg_cli.specs.declared.administering.AdminTask.TheVariants.{AddToken, Command, Export}
@@ -75,7 +78,8 @@ module _ {S : Type 0} (g : Ghosts S) (limits : Limits) where
       (made : Result TokenMade Exit) × Makes (source_of token.source) made
       × IsAdded (words_of token) made old new w0 w1 exit
   IsTaskDone (Export folder file) old new w0 w1 exit = (w1 ≡ w0) × Looked g old new
-      × (EndsWith 0 [] exit ⊎ EndsExporting exit)
+      × (HasCleanDisk (shown g new) → (s : Registry) → StandsIn s (shown g old)
+      → EndsWith 0 [] exit ⊎ EndsExporting exit)
 
   -- The registry is as it was where it was only made or opened. What a stream on standard input is
   -- served, `run_pipe` tells.

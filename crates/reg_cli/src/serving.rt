@@ -180,9 +180,13 @@ fn serve_openings<D: Disk + Drop, T: Write>(
             listener,
             &mut left,
         )?;
-        if left == 0 || served.is_err() {
+        if let Err(exit) = served {
             let _ = back.close();
-            return served;
+            return Err(exit);
+        }
+        if left == 0 {
+            let _ = back.close();
+            return Ok(());
         }
         conn = open_again(rt, back)?;
     }

@@ -1,14 +1,12 @@
 //! What is done with the registry of a file.
 
 ghost use Rattle.std.specs.Prelude.{◌≡◌, IfOk, false};
-ghost use Rattle.sqlite.specs.Files.{over_files};
 ghost use Rattle.sqlite.specs.Held.{state};
 ghost use Rattle.sqlite.specs.State.{HasCleanDisk};
-ghost use Rattle.sqlite_wal.specs.Files.{image_at};
 ghost use Rattle.reg_tables.specs.Works.{shown};
 ghost use Rattle.reg_service.specs.Registries.{limits_of, tables_of};
 ghost use Rattle.reg_cli_run.specs.Limited.{HasTurns};
-ghost use Rattle.reg_cli.specs.Openings.{BeginsOn, IsDoneOn};
+ghost use Rattle.reg_cli.specs.Openings.{BeginsOn};
 ghost use Rattle.reg_cli.specs.Tasks.{EndsUse, IsFitUse, IsUsed};
 
 use crate::administering::{AdminTask, do_task};
@@ -109,7 +107,6 @@ fn use_file<F: Start>(
 ) -> Result<Exit, Exit>
     requires turns { HasTurns limits }
     requires fit { IsFitUse wanted.now }
-    ensures done { IfOk result (IsDoneOn over_files (image_at F.Start) wanted.now) }
 {
     let conn = connect(rt, file, start)?;
     let (exit, conn) = use_store(rt, conn, limits, wanted)?;
