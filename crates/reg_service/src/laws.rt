@@ -53,7 +53,7 @@ pub fn tried_law<S: Alter>()
         → Ran S.Store limits s entry es xs t new }
 {}
 
-/// What a crash may leave of a registry is of our schema: where it has the rows of a sound registry,
+/// What a crash may leave of a registry is of our schema. If it has the rows of a sound registry,
 /// that is the one that `Registry::open` finds in it.
 pub fn left_law<S: Alter>(registry: &Registry<S>)
     ensures { HasCleanDisk (shown S.Store (tables_of registry.now)) → (db : _)
