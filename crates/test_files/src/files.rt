@@ -39,7 +39,21 @@ impl Image {
         files.log.inner().bytes() == self.log.as_slice()
             && files.db.inner().bytes() == self.db.as_slice()
     }
+
+    /// Turns one bit of the byte at this place of the database, and answers whether there is one.
+    pub fn flip(&mut self, place: usize) -> bool {
+        match self.db.get_mut(place) {
+            Some(byte) => {
+                *byte ^= FLIPPED[place % 8];
+                true
+            }
+            None => false,
+        }
+    }
 }
+
+/// The bits of a byte.
+const FLIPPED: [u8; 8] = [1, 2, 4, 8, 16, 32, 64, 128];
 
 /// The bytes of files with nothing in them.
 pub fn nothing(alloc: Global) -> Image {

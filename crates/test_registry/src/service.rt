@@ -5,6 +5,7 @@
 mod agreeing;
 mod changed_owners;
 mod commands;
+mod greatest;
 mod judging;
 mod names;
 mod opening;

@@ -22,11 +22,15 @@ mod fault;
 #[cfg(test)]
 mod files;
 #[cfg(test)]
+mod flipped;
+#[cfg(test)]
 mod lines;
 #[cfg(test)]
 mod refused;
 #[cfg(test)]
 mod stops;
+#[cfg(test)]
+mod streams;
 #[cfg(test)]
 mod trails;
 #[cfg(test)]

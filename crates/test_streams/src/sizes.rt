@@ -94,7 +94,16 @@ repeat 524288 >: xxxxxxxxxxxxxxxxxxxxxxxxxxxxxxxxxxxxxxxxxxxxxxxxxxxxxxxxxxxxxxx
 < content-length: 69
 <
 <: {"warnings":{"invalid_badges":[],"invalid_categories":[],"other":[]}}
-= 1"#;
+> GET /api/v1/crates/a/0.1.0/download HTTP/1.1
+> host: r
+> authorization: abc
+>
+< HTTP/1.1 200 OK
+< content-type: application/octet-stream
+< content-length: 33554432
+<
+repeat 524288 <: xxxxxxxxxxxxxxxxxxxxxxxxxxxxxxxxxxxxxxxxxxxxxxxxxxxxxxxxxxxxxxxx
+= 2"#;
 
 #[test]
 fn larger_archive_taken(rt: HostRuntime) {

@@ -7,6 +7,7 @@ use sqlite::{Alter, Connection};
 use std::alloc::{AllocError, Global};
 use std::process::Abort;
 use test_scripts::{Fault, play as play_over, setup_of};
+use test_support::spreading::spread;
 use test_tables::by_line;
 
 /// Statements and words on the tables, each with its answer. A line may have one, which is left
@@ -59,7 +60,7 @@ fn blocks_over<S: Alter + Drop>(
 /// The blocks of a script, with those of the registry that it begins with.
 fn blocks_of(alloc: Global, script: &str) -> Result<String, AllocError> {
     let (first, lines) = script.split_once('\n').unwrap_or((script, "no lines"));
-    let whole = lines.replace(alloc, "\n    ", "")?;
+    let whole = spread(alloc, &lines.replace(alloc, "\n    ", "")?)?;
     match setup_of(first) {
         "" => Ok(whole),
         setup => format!(in alloc; "create -> done\n{setup}{whole}"),
@@ -194,6 +195,44 @@ rows SELECT schema FROM about -> 1;";
 #[test]
 fn an_old_damaged_store(rt: HostRuntime) {
     play(&rt, AN_OLD_DAMAGED_STORE);
+}
+
+/// Of schema 1 it lacks the tables of restricted crates and of readers.
+const TWO_ACCOUNTS_AND_A_OF_THE_OLD_SCHEMA: &str = r#"given two-accounts-and-a
+
+DROP TABLE readers -> done
+DROP TABLE restricted -> done
+UPDATE about SET schema = 1 -> done
+UPDATE archives SET bytes = x'61' -> done
+
+open -> Damaged(C4)
+
+rows SELECT schema FROM about -> 1;
+rows SELECT length(bytes) FROM archives -> 1;
+UPDATE archives SET bytes = x'' -> done
+
+open -> done
+users ->        1  ada                               enabled   Ada<0a>
+           2  bob                               enabled   -<0a>
+tokens ->        1  ada                               live     publish-new,publish-update,
+    yank,change-owners  *<0a>
+           2  bob                               live     publish-update,yank  *<0a>
+bob owners a -> Json {"users":[{"id":1,"login":"ada","name":"Ada"}]}
+export -> config.json(95) {"api":"http://127.0.0.1:8080","auth-required":true,
+    "dl":"http://127.0.0.1:8080/api/v1/crates"};1/a(175)
+     {"cksum":"e3b0c44298fc1c149afbf4c8996fb92427ae41e4649b934ca495991b7852b855",
+    "deps":[],"features":{},"links":null,"name":"a","rust_version":null,
+    "vers":"0.1.0","yanked":false}<0a>;
+ada download a 0.1.0 -> Archive(0) 
+crate-restrict a -> done
+bob download a 0.1.0 -> A8
+audit -> none
+
+rows SELECT schema FROM about -> 2;"#;
+
+#[test]
+fn two_accounts_and_a_of_the_old_schema(rt: HostRuntime) {
+    play(&rt, TWO_ACCOUNTS_AND_A_OF_THE_OLD_SCHEMA);
 }
 
 const STORE_ABOVE_A_LIMIT: &str = r#"given two-accounts-and-a

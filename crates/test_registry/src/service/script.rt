@@ -2,7 +2,7 @@
 //!
 //! All lines are played twice: each by a call of its own, and all by one call.
 //! The first line says what there is before: `given two-accounts crates=1`.
-//! What is indented by four spaces goes on with the line above.
+//! What is indented by four spaces goes on with the line above, and `[[1..3|c#,]]` is `c1,c2,c3,`.
 
 use crate::service::stage::answered;
 use reg_body::Limits;
@@ -12,6 +12,7 @@ use sqlite::{Alter, Connection};
 use std::alloc::{AllocError, Global};
 use std::process::Abort;
 use test_scripts::{BASE, Fault, limits_of, setup_of, told_otherwise};
+use test_support::spreading::spread;
 
 /// What is wrong with a line; none where it is answered as it says.
 fn fault_of<S: Alter>(
@@ -89,7 +90,7 @@ fn play_at_once<S: Alter + Drop>(
 
 fn fault_in(alloc: Global, script: &str) -> Result<Option<String>, Fault> {
     let (first, lines) = script.split_once('\n').unwrap_or((script, "no lines"));
-    let whole = lines.replace(alloc, "\n    ", "")?;
+    let whole = spread(alloc, &lines.replace(alloc, "\n    ", "")?)?;
     let all = format!(in alloc; "{}{whole}", setup_of(first))?;
     let limits = limits_of(first);
     let fault = play_new(alloc, Connection::open_in_memory(alloc)?, limits, &all)?;

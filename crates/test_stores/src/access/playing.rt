@@ -33,7 +33,12 @@ fn line_text<S: Alter>(
     }
 }
 
-fn answered<S: Alter>(alloc: Global, work: &mut Work<'_, S>, line: &str) -> Result<String, Fault>
+/// What a line is answered.
+pub(crate) fn answered<S: Alter>(
+    alloc: Global,
+    work: &mut Work<'_, S>,
+    line: &str,
+) -> Result<String, Fault>
     requires { IsActive S.Store work.old }
     ensures at_work { IsActive S.Store work.new }
     ensures same_reference { work.new.tables.ghost_name ≡ work.old.tables.ghost_name }

@@ -127,8 +127,11 @@ const WHAT_IS_NOT_THERE: &str = "add-account ada -> 1
 add-crate a 1 0.1.0 - -> 1
 disable 0 -> done
 disable 7 -> done
+disable 4294967295 -> done
 revoke 3 -> done
+revoke 4294967295 -> done
 yank 2 0.1.0 -> done
+yank 4294967295 0.1.0 -> done
 yank 1 0.2.0 -> done
 add-owner 2 1 -> done
 remove-owner 2 1 -> done
@@ -139,6 +142,8 @@ commit -> done
 accounts -> 1:ada:-:on;
 owners 1 -> 1:ada:-:on;
 owners 2 -> none
+owners 4294967295 -> none
+archive-id 4294967295 -> none
 readers 2 -> none
 restricted 2 -> no
 versions 2 -> none
