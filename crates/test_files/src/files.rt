@@ -42,9 +42,10 @@ impl Image {
 
     /// Turns one bit of the byte at this place of the database, and answers whether there is one.
     pub fn flip(&mut self, place: usize) -> bool {
+        let bit = BITS.get(place % 8).copied().unwrap_or(1);
         match self.db.get_mut(place) {
             Some(byte) => {
-                *byte ^= FLIPPED[place % 8];
+                *byte ^= bit;
                 true
             }
             None => false,
@@ -52,8 +53,8 @@ impl Image {
     }
 }
 
-/// The bits of a byte.
-const FLIPPED: [u8; 8] = [1, 2, 4, 8, 16, 32, 64, 128];
+/// Each bit of a byte.
+const BITS: [u8; 8] = [1, 2, 4, 8, 16, 32, 64, 128];
 
 /// The bytes of files with nothing in them.
 pub fn nothing(alloc: Global) -> Image {

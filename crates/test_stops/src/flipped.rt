@@ -70,7 +70,7 @@ fn try_places(alloc: Global, prepared: &mut Prepared) -> Result<Tally, Fault> {
         unread: 0,
     };
     for turn in 0..MOST_PLACES {
-        let place = turn * STRIDE;
+        let place = turn.saturating_mul(STRIDE);
         if !prepared.image.flip(place) {
             return Ok(tally);
         }

@@ -1,6 +1,6 @@
 //! Each file stops at each of its calls: the registry that is found again is that before or that
-//! after, and that after once the task was answered. The same task is answered then as that registry
-//! answers it.
+//! after, and that after once the task was answered. The same task is then answered as by that
+//! registry.
 
 use crate::calls::{
     ALTERED, ALTERED_OLD, BAD_REQUESTS, BAD_WORDS, CHANGED, CHANGES, CHANGES_BACK, DENIALS, FULL,

@@ -74,7 +74,7 @@ impl Job for Serve {
 /// The reply with the whole file.
 fn whole_reply(alloc: Global) -> Result<String, AllocError> {
     let mut reply = String::from_str(alloc, HEAD)?;
-    for version in 1..=9 {
+    for version in 1..=9_u32 {
         let text = format!(in alloc; "0.{version}.0")?;
         reply.push_str(&FIRST_LINE.replace(alloc, "0.1.0", &text)?)?;
         reply.push_str("\n")?;
@@ -100,7 +100,7 @@ enum Went {
     Otherwise,
 }
 
-/// How a stream went with a reply that ends early, in which so many bytes stand before the lines.
+/// How a stream went whose last reply ends early: within the lines, as long as a head is not all.
 fn within(written: &[u8], file: &[u8]) -> Went {
     let rest = written.strip_prefix(file).unwrap_or(written);
     if file.starts_with(rest) && rest.len() < file.len() && rest.len() > HEAD.len() {
@@ -145,12 +145,11 @@ fn over_stops(alloc: Global, scarce: Scarce) -> Result<u32, Fault> {
         let Some(Some(found)) = found else {
             continue;
         };
+        let stopped = have_stopped(&mut files);
         match went(&found, file.as_bytes(), refusal.as_bytes()) {
-            Went::Well if !have_stopped(&mut files) => return Ok(ended),
+            Went::Well if !stopped => return Ok(ended),
             Went::Within => ended = ended.saturating_add(1),
-            Went::Otherwise => {
-                return Err(Fault::Line(format!(in alloc; "{calls} calls: {:?}", found.answer)?));
-            }
+            Went::Otherwise => return Err(Fault::Line(format!(in alloc; "{calls} calls")?)),
             Went::Well | Went::Refused => {}
         }
     }

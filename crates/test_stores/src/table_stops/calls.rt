@@ -136,5 +136,7 @@ ask abc publish first 0.3.0 -> allowed
 ask abc publish new 0.1.0 -> allowed
 ask abc add-owners first -> allowed
 ask abc remove-owners first -> allowed
-ask access first -> 1:PublishUpdate:ada;1:Yank:ada;1:ChangeOwners:ada; read 2:bob;
-ask access b -> 1:PublishNew:ada;2:PublishNew:ada; read ";
+ask who-may first -> 1:PublishUpdate:ada;1:Yank:ada;1:ChangeOwners:ada;
+ask who-may b -> 1:PublishNew:ada;2:PublishNew:ada;
+ask who-reads first -> 2:bob;
+ask who-reads b -> ";

@@ -215,7 +215,7 @@ fn asked<S: Alter>(
         return fault(alloc);
     };
     let memory = leave_only(alloc, amount)?;
-    let found = answered(alloc, &mut work, line);
+    let found = answered(alloc, &mut work, line, false);
     drop(memory);
     match found {
         Ok(text) => Ok(Reply {
