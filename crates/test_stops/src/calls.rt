@@ -85,8 +85,7 @@ ada search  -> Json {"crates":[{"description":null,"max_version":"0.1.0","name":
     "meta":{"total":1}}"#;
 
 /// Each breaks a rule on the token, the crate or the version.
-pub(crate) const DENIALS: &str = "no-token config -> A1
-abd config -> A2
+pub(crate) const DENIALS: &str = "abd config -> A2
 ada index 1/b -> A8
 bob release b 0.1.0 -> A6
 bob release a 0.2.0 -> A9
@@ -112,11 +111,7 @@ ada remove-owners a {"users":["ada"]} -> O4
 ada search per_page=0 -> Q1"#;
 
 /// Each has words that are refused.
-pub(crate) const BAD_WORDS: &str = "user-add Carol -> G1
-token-add ada yank a,9* third -> G4
-reserve 9a -> G4
-unreserve 9a -> G4
-access 9a -> G4
+pub(crate) const BAD_WORDS: &str = "token-add ada yank a,9* third -> G4
 token-add ada - - third -> G9
 token-add ada yank,read - third -> G9";
 
