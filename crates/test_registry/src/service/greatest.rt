@@ -3,11 +3,9 @@
 use crate::service::opening::play as play_over_a_store;
 use crate::service::script::play;
 
-#[test]
-fn the_longest_words(rt: HostRuntime) {
-    // A name and a pattern of 64 characters, a login of 32, a name of an account of 100, and 64
-    // patterns.
-    let script = r#"given two-accounts
+/// A name and a pattern of 64 characters, a login of 32, a name of an account of 100, and 64
+/// patterns.
+const LONGEST_WORDS: &str = r#"given two-accounts
 user-add|[[1..16|u-]]|[[1..20|Name ]] -> done
 token-add [[1..16|u-]] publish-new,publish-update,yank,change-owners
      [[1..26|Ab]]-[[1..11|y]]*[[1..63|,p#]] third -> 3
@@ -70,7 +68,10 @@ ada search per_page=[[1..400|9]] -> Json {"crates":[{"description":null,
     "max_version":"18446744073709551615.0.0-[[1..60|9999999999.]]rc+[[1..40|b#.]]z",
     "name":"[[1..26|Ab]]-[[1..11|y]]"}],"meta":{"total":1}}
 ada search q=[[1..9999|a]] -> Json {"crates":[],"meta":{"total":0}}"#;
-    play(&rt, script);
+
+#[test]
+fn the_longest_words(rt: HostRuntime) {
+    play(&rt, LONGEST_WORDS);
 }
 
 #[test]
