@@ -9,6 +9,7 @@ ghost use Rattle.reg_cli.specs.Tasks.{IsFitTask, IsTaskDone, task_from, task_of}
 
 use crate::exporting::IndexFolder;
 use crate::files::whole_path;
+use crate::sending::order_at;
 use crate::using::{FileTask, on_whole_file};
 use clap::ArgMatches;
 use reg_body::{Counted, Limits};
@@ -96,7 +97,8 @@ fn with_file<'a>(task: AdminTask<'a>, file: &'a str) -> AdminTask<'a>
     }
 }
 
-/// Does what the arguments of a subcommand ask for, on the file that they name.
+/// Does what the arguments of a subcommand ask for, on the file that they name, or by the server
+/// whose socket file they name.
 pub(crate) fn administer<F: Start>(
     rt: &HostRuntime,
     name: &str,
@@ -108,6 +110,9 @@ pub(crate) fn administer<F: Start>(
         Ok(None) => return Exit::BAD_WORDS,
         Err(_) => return Exit::MEMORY,
     };
+    if let Some(path) = words.get_str("at") {
+        return order_at(rt, path, name, words, &task);
+    }
     let Some(file) = words.get_str("db") else {
         return Exit::BAD_WORDS;
     };

@@ -12,6 +12,7 @@ mod explaining;
 mod exporting;
 mod files;
 mod meanings;
+mod sending;
 mod serving;
 mod store;
 mod using;

@@ -115,7 +115,7 @@ fn serve_door<S: Alter, T: Write>(
     server: &mut Server,
     registry: &mut Registry<S>,
     trail: &mut Trail<T>,
-    listener: &mut Listener,
+    listener: &mut Listener<'_>,
     left: &mut u64,
 ) -> Result<(), Exit>
     requires turns { HasTurns (limits_of registry.old) }
@@ -123,7 +123,7 @@ fn serve_door<S: Alter, T: Write>(
     ensures counts { listener.new.accepted + left.new ≡ listener.old.accepted + left.old }
     ensures fewer { OnOk result (0 < left.new → left.new < left.old) }
 {
-    listener.open(rt)?;
+    listener.open()?;
     if trail.is_open() {
         mark_opening(rt.alloc(), registry, trail)?;
     }
@@ -138,7 +138,7 @@ fn serve_store<S: Alter + Drop, T: Write>(
     trail: &mut Trail<T>,
     conn: Connection<S>,
     limits: Limits,
-    listener: &mut Listener,
+    listener: &mut Listener<'_>,
     left: &mut u64,
 ) -> Result<(Result<(), Exit>, Connection<S>), Exit>
     requires begun { (state S.Store conn).in_transaction ≡ false }
@@ -159,7 +159,7 @@ fn serve_openings<D: Disk + Drop, T: Write>(
     trail: &mut Trail<T>,
     mut conn: Connection<FileStore<D>>,
     service: &Service,
-    listener: &mut Listener,
+    listener: &mut Listener<'_>,
 ) -> Result<(), Exit>
     requires begun { conn.in_transaction ≡ false }
     requires none { listener.old.accepted ≡ 0 }
@@ -197,7 +197,7 @@ fn serve_file<F: Start>(
     rt: &HostRuntime,
     file: &str,
     service: &Service,
-    listener: &mut Listener,
+    listener: &mut Listener<'_>,
     start: F,
 ) -> Result<(), Exit>
     requires { listener.old.accepted ≡ 0 }
@@ -214,8 +214,10 @@ pub(crate) fn serve<F: Start>(rt: &HostRuntime, words: &ArgMatches<'_>, start: F
     let (Some(service), Some(file)) = (read_service(words), words.get_str("db")) else {
         return Exit::BAD_WORDS;
     };
-    let mut listener = Listener::at(service.port);
-    exit_of(serve_file(rt, file, &service, &mut listener, start))
+    let mut listener = Listener::at(rt, service.port, words.get_str("admin"));
+    let done = serve_file(rt, file, &service, &mut listener, start);
+    listener.close();
+    exit_of(done)
 }
 
 /// `audit`.

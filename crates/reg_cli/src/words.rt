@@ -2,6 +2,7 @@
 
 use crate::administering::administer;
 use crate::explaining::explain;
+use crate::sending::pause;
 use crate::serving::{check, init, pipe, serve};
 use clap::error::ErrorKind;
 use clap::{ArgMatches, Error};
@@ -50,6 +51,7 @@ fn run_subcommand<F: Start>(rt: &HostRuntime, matches: &ArgMatches<'_>, start: F
         Some(("pipe", inner)) => pipe(rt, inner, start),
         Some(("serve", inner)) => serve(rt, inner, start),
         Some(("audit", inner)) => check(rt, inner, start),
+        Some(("pause", inner)) => pause(rt, inner),
         Some((name, inner)) => administer(rt, name, inner, start),
         None => Exit::BAD_WORDS,
     }

@@ -11,7 +11,7 @@ use Rattle.clap.specs.declared.builder.arg.Arg.{Arg}
 use Rattle.clap.specs.declared.builder.command.Command.{Command}
 use Rattle.reg_model.specs.Registry.{Text}
 use Rattle.reg_cli_args.specs.declared.parameters.Shape.TheVariants.{Program, Setup}
-use Rattle.reg_cli_args.specs.Grammar.{needed_rule, option_rule, order_levels, other_levels, plain_levels, program_app, program_top, report_words, service_levels, setup_app, setup_top, with_levels, with_rules}
+use Rattle.reg_cli_args.specs.Grammar.{message_app, needed_rule, option_rule, order_levels, other_levels, plain_levels, program_app, program_top, report_words, service_levels, setup_app, setup_top, with_levels, with_rules}
 use Rattle.reg_cli_args.specs.Making.{HasLevel, HasRule, HasRules}
 
 pub arg_added : (old new : Command) (a : Arg) (app : App) (r : Rule) → HasRule r a → AddsArg old a new → HasRules app old → HasRules (with_rule app r) new
@@ -91,6 +91,18 @@ setup_simple = refl
 pub setup_free : is_simple_and_free setup_app ≡ true
 unfolding setup_app clap_on_literals
 setup_free = refl
+
+pub message_is : with_levels (with_levels setup_top (order_levels Setup)) (plain_levels Setup report_words) ≡ message_app
+unfolding message_app
+message_is = refl
+
+pub message_simple : is_simple message_app ≡ true
+unfolding message_app clap_on_literals
+message_simple = refl
+
+pub message_free : is_simple_and_free message_app ≡ true
+unfolding message_app clap_on_literals
+message_free = refl
 
 pub program_is : with_levels (with_levels (with_levels (with_levels program_top service_levels) other_levels) (order_levels Program)) (plain_levels Program report_words) ≡ program_app
 unfolding program_app

@@ -45,9 +45,15 @@ word_rules CrateAndLogin = word_rule (codes "CRATE") ∷ word_rule (codes "LOGIN
 word_rules Name = word_rule (codes "NAME") ∷ []
 word_rules Id = word_rule (codes "ID") ∷ []
 
--- on the command line each subcommand names its file, in a setup file none does
+-- where a registry is: its file, or the socket file of its server
+abbrev pub registry_rules : List Rule
+registry_rules =
+    record (option_rule (codes "db")) { is_free = false }
+    ∷ record (option_rule (codes "at")) { is_free = false } ∷ []
+
+-- on the command line each subcommand names its registry, in a setup file none does
 abbrev pub file_rules : Shape → List Rule
-file_rules Program = file_rule ∷ []
+file_rules Program = registry_rules
 file_rules Setup = []
 
 -- a subcommand with these words
@@ -125,10 +131,14 @@ number_rules =
     needed_rule (codes "port") ∷ needed_rule (codes "connections")
     ∷ option_rule (codes "replies") ∷ []
 
+-- whether a trail is told, and where commands are taken
+abbrev pub serving_rules : List Rule
+serving_rules = flag_rule (codes "trail") ∷ option_rule (codes "admin") ∷ []
+
 abbrev pub service_levels : List Level
 service_levels =
     named_level (codes "init") (needed_rule (codes "base") ∷ file_rule ∷ [])
-    ∷ named_level (codes "serve") (number_rules ++ flag_rule (codes "trail") ∷ file_rule ∷ [])
+    ∷ named_level (codes "serve") (number_rules ++ serving_rules ++ file_rule ∷ [])
     ∷ named_level (codes "pipe")
     (place_rules ++ option_rule (codes "base") ∷ option_rule (codes "setup") ∷ [])
     ∷ []
@@ -137,6 +147,7 @@ abbrev pub other_levels : List Level
 other_levels =
     named_level (codes "export") (word_rule (codes "DIR") ∷ file_rule ∷ [])
     ∷ named_level (codes "audit") (file_rule ∷ [])
+    ∷ named_level (codes "pause") (needed_rule (codes "at") ∷ [])
     ∷ named_level (codes "line") []
     ∷ named_level (codes "explain") (word_rule (codes "CODE") ∷ [])
     ∷ []
@@ -149,6 +160,11 @@ report_words =
     ∷ (codes "crates", Nothing)
     ∷ (codes "access", Crate)
     ∷ []
+
+-- a message: one of the subcommands that change a registry or report on it
+unfoldable pub message_app : App
+message_app =
+    with_levels (with_levels setup_top (order_levels Setup)) (plain_levels Setup report_words)
 
 -- the program's words, its own name first; `--version` stands beside `--help`
 abbrev pub program_top : App

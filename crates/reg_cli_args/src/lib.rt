@@ -1,5 +1,5 @@
-//! The arguments of the program and of the administrator's commands, as the command line and the
-//! lines of a setup file have them.
+//! The arguments of the program and of the administrator's commands, as the command line, the
+//! lines of a setup file and the messages to a server have them.
 //!
 //! ```
 //! let matches = read_words(alloc, &words)?;   // registry_cli user-add ada --db registry.db
@@ -26,4 +26,4 @@ pub use dashes::is_dashed;
 pub use numbers::{decimal, port};
 pub use orders::{GivenCommand, NewToken, OrderRead, TokenSource, read_order};
 pub use reports::read_report;
-pub use usage::{read_line, read_words};
+pub use usage::{read_line, read_message, read_words};

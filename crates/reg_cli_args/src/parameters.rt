@@ -2,14 +2,14 @@
 
 ghost use Rattle.std.specs.Prelude.{IfOk, codes, map};
 ghost use Rattle.clap.specs.Words.{new_app, with_rule};
-ghost use Rattle.reg_cli_args.specs.Grammar.{file_rule, flag_rule, option_rule, value_rule, with_levels, with_rules, word_rule, word_rules};
+ghost use Rattle.reg_cli_args.specs.Grammar.{file_rule, flag_rule, option_rule, registry_rules, value_rule, with_levels, with_rules, word_rule, word_rules};
 ghost use Rattle.reg_cli_args.specs.Making.{Adds, AddsLevel, HasLevel, HasRule, HasRules, entry_level};
 
 use clap::{Arg, ArgAction, Command};
 use std::alloc::{AllocError, Global};
 
-/// The forms of subcommands: on the command line each has the option `--db`; in a setup file none
-/// has, and none reads random bytes.
+/// The forms of subcommands: on the command line each has one of the options `--db` and `--at`; in
+/// a setup file and in a message none has, and none reads random bytes.
 #[derive(Clone, Copy)]
 pub(crate) enum Shape {
     Program,
@@ -80,6 +80,17 @@ pub(crate) fn with_file<'a>(alloc: Global, command: Command<'a>) -> MadeCommand<
     command.arg(option(alloc, "db", "FILE", "The registry's file").required(true))
 }
 
+/// Adds the options that name a registry: its file, or the socket file of the server that serves it.
+fn with_registry<'a>(alloc: Global, command: Command<'a>) -> MadeCommand<'a>
+    ensures { Adds (λ a. with_rules a registry_rules) command.entry result }
+{
+    let file = "The registry's file, while no server serves it";
+    let at = "The socket file of the server that serves it (serve --admin)";
+    command
+        .arg(option(alloc, "db", "FILE", file).required_unless_present("at")?)?
+        .arg(option(alloc, "at", "PATH", at).conflicts_with("db")?)
+}
+
 fn login<'a>(alloc: Global) -> Arg<'a>
     ensures { HasRule (word_rule (codes "LOGIN")) result }
 {
@@ -126,7 +137,7 @@ pub(crate) fn subcommand<'a>(alloc: Global, shape: Shape, entry: &HelpEntry) -> 
     let command = with_words(alloc, entry.words, command)?;
     match shape {
         Shape::Setup => Ok(command),
-        Shape::Program => with_file(alloc, command),
+        Shape::Program => with_registry(alloc, command),
     }
 }
 

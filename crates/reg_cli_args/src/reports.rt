@@ -4,7 +4,6 @@ ghost use Rattle.std.specs.Prelude.{◌≡◌, IfSome, option_map};
 ghost use Rattle.reg_model.specs.Events.Event.{Order};
 ghost use Rattle.reg_model.specs.Steps.{IsFit};
 ghost use Rattle.reg_policy.specs.Events.{command_of};
-ghost use Rattle.reg_cli_args.specs.declared.parameters.Shape.TheVariants.{Program};
 ghost use Rattle.reg_cli_args.specs.Grammar.{plain_levels, report_words, with_levels};
 ghost use Rattle.reg_cli_args.specs.Making.{Adds};
 ghost use Rattle.reg_cli_args.specs.Orders.{given_by, report_command};
@@ -43,10 +42,10 @@ const REPORTS: [HelpEntry; 4] = [
 ];
 
 /// Adds the subcommands that only report.
-pub(crate) fn with_reports<'a>(alloc: Global, command: Command<'a>) -> MadeCommand<'a>
-    ensures { Adds (λ a. with_levels a (plain_levels Program report_words)) command.entry result }
+pub(crate) fn with_reports<'a>(alloc: Global, shape: Shape, command: Command<'a>) -> MadeCommand<'a>
+    ensures { Adds (λ a. with_levels a (plain_levels shape report_words)) command.entry result }
 {
-    with_entries(alloc, Shape::Program, &REPORTS, command)
+    with_entries(alloc, shape, &REPORTS, command)
 }
 
 /// The report that a subcommand asks for, if any.

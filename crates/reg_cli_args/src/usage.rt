@@ -1,9 +1,9 @@
-//! All subcommands of the program, with their help, and those of a setup file.
+//! All subcommands of the program, with their help, those of a setup file, and those of a message.
 
 ghost use Rattle.std.specs.Prelude.{IfErr, IfOk, [], ◌≡◌, ◌∷◌, ◌++◌, codes, map, string_bytes, true};
 ghost use Rattle.clap.specs.Words.{kind_of, subcommand_of, subcommand_rows_of, takes};
 ghost use Rattle.clap.specs.declared.error.kind.ErrorKind.TheVariants.{OutOfMemory};
-ghost use Rattle.reg_cli_args.specs.Grammar.{IsJudged, file_rule, flag_rule, named_level, needed_rule, number_rules, option_rule, other_levels, place_rules, program_app, program_top, service_levels, setup_app, setup_top, with_levels, with_rules, word_rule};
+ghost use Rattle.reg_cli_args.specs.Grammar.{IsJudged, file_rule, flag_rule, message_app, named_level, needed_rule, number_rules, option_rule, other_levels, place_rules, program_app, program_top, service_levels, serving_rules, setup_app, setup_top, with_levels, with_rules, word_rule};
 ghost use Rattle.reg_cli_args.specs.Making.{Adds, HasLevel, HasRules, Makes};
 
 use crate::parameters::{MadeCommand, Shape, described, flag, option, with_file, with_level, word};
@@ -73,6 +73,21 @@ fn audit_words<'a>(alloc: Global) -> MadeCommand<'a>
     with_file(alloc, command)
 }
 
+/// `pause`.
+fn pause_words<'a>(alloc: Global) -> MadeCommand<'a>
+    ensures { Makes (codes "pause") (needed_rule (codes "at") ∷ []) result }
+{
+    let command = described(
+        alloc,
+        "pause",
+        "Has a server serve nobody until standard input ends, for ten minutes at most, and prints \
+         paused once it is so: then the registry's file and the log beside it can be copied",
+        "Example:\n  registry_cli pause --at admin.sock",
+    );
+    let at = "The socket file of the server (serve --admin)";
+    command.arg(option(alloc, "at", "PATH", at).required(true))
+}
+
 /// Where `pipe` finds its registry.
 fn with_place<'a>(alloc: Global, command: Command<'a>) -> MadeCommand<'a>
     ensures { Adds (λ a. with_rules a place_rules) command.entry result }
@@ -116,10 +131,22 @@ fn with_numbers<'a>(alloc: Global, command: Command<'a>) -> MadeCommand<'a>
         .arg(option(alloc, "replies", "K", replies))
 }
 
+/// What else `serve` is told.
+fn with_serving<'a>(alloc: Global, command: Command<'a>) -> MadeCommand<'a>
+    ensures { Adds (λ a. with_rules a serving_rules) command.entry result }
+{
+    let trail = "Prints a line for each change: the token, its login, and what was done";
+    let admin = "A socket file to be made, at which commands are taken between connections: each \
+                 counts as a connection";
+    command
+        .arg(flag(alloc, "trail", trail))?
+        .arg(option(alloc, "admin", "PATH", admin))
+}
+
 /// `serve`.
 fn serve_words<'a>(alloc: Global) -> MadeCommand<'a>
     ensures { Makes (codes "serve")
-        (number_rules ++ flag_rule (codes "trail") ∷ file_rule ∷ []) result }
+        (number_rules ++ serving_rules ++ file_rule ∷ []) result }
 {
     let command = described(
         alloc,
@@ -127,9 +154,7 @@ fn serve_words<'a>(alloc: Global) -> MadeCommand<'a>
         "Serves HTTP on a port of 127.0.0.1, one connection after another",
         "Example:\n  registry_cli serve --port 8080 --connections 1000000 --trail --db r.db",
     );
-    let trail = "Prints a line for each change: the token, its login, and what was done";
-    let command = with_numbers(alloc, command)?.arg(flag(alloc, "trail", trail))?;
-    with_file(alloc, command)
+    with_file(alloc, with_serving(alloc, with_numbers(alloc, command)?)?)
 }
 
 /// `explain`.
@@ -161,6 +186,7 @@ fn with_others<'a>(alloc: Global, command: Command<'a>) -> MadeCommand<'a>
 {
     let command = with_level(command, export_words(alloc))?;
     let command = with_level(command, audit_words(alloc))?;
+    let command = with_level(command, pause_words(alloc))?;
     let command = command.subcommand(line_words(alloc))?;
     with_level(command, explain_words(alloc))
 }
@@ -185,7 +211,7 @@ fn command<'a>(alloc: Global) -> MadeCommand<'a>
     ensures { IfOk result (HasRules program_app) }
 {
     let command = with_others(alloc, with_services(alloc, program(alloc))?)?;
-    with_reports(alloc, with_orders(alloc, Shape::Program, command)?)
+    with_reports(alloc, Shape::Program, with_orders(alloc, Shape::Program, command)?)
 }
 
 /// Parses the program's arguments, its own name first.
@@ -213,4 +239,12 @@ pub fn read_line<'a>(alloc: Global, words: &'a [&'a str]) -> Result<ArgMatches<'
     ensures { IsJudged setup_app (map (λ w. w.now) words.entry.now) result }
 {
     with_orders(alloc, Shape::Setup, setup_line(alloc))?.try_get_matches_from(words)
+}
+
+/// Parses the arguments of an administrator's message: those of a setup file's line, or of a report.
+pub fn read_message<'a>(alloc: Global, words: &'a [&'a str]) -> Result<ArgMatches<'a>, Error>
+    ensures { IsJudged message_app (map (λ w. w.now) words.entry.now) result }
+{
+    let command = with_orders(alloc, Shape::Setup, setup_line(alloc))?;
+    with_reports(alloc, Shape::Setup, command)?.try_get_matches_from(words)
 }

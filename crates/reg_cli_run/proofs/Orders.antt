@@ -32,8 +32,8 @@ use Rattle.reg_model.specs.declared.rule.AdminRefusal.{AdminRefusal}
 use Rattle.reg_policy.specs.declared.event.AdminReply.{AdminReply}
 use Rattle.reg_policy.specs.declared.event.AdminReply.TheVariants.{Done, Id, Text as Told}
 use Rattle.reg_policy.specs.Events.{reply_of}
-use Rattle.reg_cli_run.specs.declared.setup.SetupFault.{SetupFault}
-use Rattle.reg_cli_run.specs.declared.setup.SetupFault.TheVariants.{Memory, Refused, Unreadable}
+use Rattle.reg_cli_run.specs.declared.ordering.OrderFault.{OrderFault}
+use Rattle.reg_cli_run.specs.declared.ordering.OrderFault.TheVariants.{Memory, Refused, Unreadable}
 use Rattle.reg_cli_run.specs.LineOrders.{IsUnread, line_order}
 use Rattle.reg_cli_run.specs.Setups.{HasDone, HasDoneAlone, HasDoneTold, IsDoneTold, IsObeyed, IsSetUpTraced, MakesOf, Obeys, ObeysOrder, is_refused}
 
@@ -51,29 +51,29 @@ reply_stands (Told t) = refl
 
 module _ {S : Type 0} (g : Ghosts S) (limits : Limits) (c : Command) (old new : Tables S) (k0 k1 : Tail) where
   -- a command that was answered is an order that was done or refused
-  made : (reply : Result AdminReply AdminRefusal) (result : Result (Unit {0}) SetupFault) → IsFit (Order c) → IsDoneTold g limits c (reply_of reply) old new k0 k1 → MakesOf reply result
+  made : (reply : Result AdminReply AdminRefusal) (result : Result AdminReply OrderFault) → IsFit (Order c) → IsDoneTold g limits c (reply_of reply) old new k0 k1 → MakesOf reply result
       → IsObeyed g limits (Some c) old new k0 k1 result
   made (Ok r) result fit answers is =
-      subst (IsObeyed g limits (Some c) old new k0 k1) (sym is) (reply_of (Ok r), reply_stands r, record { command = c; is = refl; fit = fit; answers = answers })
+      subst (IsObeyed g limits (Some c) old new k0 k1) (sym is) (record { command = c; is = refl; fit = fit; answers = answers })
   made (Err f) result fit answers is =
       subst (IsObeyed g limits (Some c) old new k0 k1) (sym is) (record { command = c; is = refl; fit = fit; answers = answers })
 
   -- and its line was told
-  pub obeys : (it : TracedOrder) (result : Result (Unit {0}) SetupFault) → IsFit (Order c) → IsOrdered g limits (nat_lt 0 k0.left) c it old new
+  pub obeys : (it : TracedOrder) (result : Result AdminReply OrderFault) → IsFit (Order c) → IsOrdered g limits (nat_lt 0 k0.left) c it old new
       → Trails k0 k1 (or_nothing (option_map string_bytes it.line)) → MakesOf it.answer result → IsObeyed g limits (Some c) old new k0 k1 result
   obeys it result fit answers tells is =
       made it.answer result fit (λ clean s shows.
       (let (does, lined) = answers clean s shows in
       (does, trails_if k0 k1 (or_nothing (option_map string_bytes it.line)) (line_told limits s (Order c) (reply_of it.answer)) lined tells))) is
 
-unread_obeyed : {S : Type 0} (g : Ghosts S) (limits : Limits) (ordered : Option Command) (t : Tables S) (k : Tail) (f : SetupFault) → IsUnread ordered f → IsObeyed g limits ordered t t k k (Err f)
+unread_obeyed : {S : Type 0} (g : Ghosts S) (limits : Limits) (ordered : Option Command) (t : Tables S) (k : Tail) (f : OrderFault) → IsUnread ordered f → IsObeyed g limits ordered t t k k (Err f)
 unread_obeyed g limits ordered t k (Refused r) not = absurd not
 unread_obeyed g limits ordered t k Unreadable none = (none, refl, refl)
 unread_obeyed g limits ordered t k Memory u = (refl, refl)
 
 module _ {S T : Type 0} {g : Ghosts S} {o : Option Command} {told_of : T → Option Text} where
   -- where the words alone failed, nothing was done
-  pub unread : {r : Running S} {k : TrailEnd T} (f : SetupFault) → IsUnread o f → ObeysOrder g o told_of r r k k (Err f)
+  pub unread : {r : Running S} {k : TrailEnd T} (f : OrderFault) → IsUnread o f → ObeysOrder g o told_of r r k k (Err f)
   unread {r} {k} f not = record {
     obeyed = unread_obeyed g (limits_of r) o (tables_of r) (tail (told_of k.end.inner) k) f not;
     told = trailed_nothing (tail (told_of k.end.inner) k);
@@ -81,7 +81,7 @@ module _ {S T : Type 0} {g : Ghosts S} {o : Option Command} {told_of : T → Opt
   }
 
   -- this was the order
-  pub ordered_as : {p : Option Command} {old new : Running S} {k0 k1 : TrailEnd T} {result : Result (Unit {0}) SetupFault} → o ≡ p → ObeysOrder g p told_of old new k0 k1 result → ObeysOrder g o told_of old new k0 k1 result
+  pub ordered_as : {p : Option Command} {old new : Running S} {k0 k1 : TrailEnd T} {result : Result AdminReply OrderFault} → o ≡ p → ObeysOrder g p told_of old new k0 k1 result → ObeysOrder g o told_of old new k0 k1 result
   ordered_as {old = old} {new = new} {k0 = k0} {k1 = k1} {result = result} same it = subst (λ o. ObeysOrder g o told_of old new k0 k1 result) (sym same) it
 
 module _ {S : Type 0} (g : Ghosts S) (limits : Limits) (s : model.Registry) (entry : Tables S) (lines : List Text) where
@@ -170,10 +170,10 @@ module _ {S : Type 0} (g : Ghosts S) (limits : Limits) (s : model.Registry) (ent
     stays : (new ≡ old) × (k2 ≡ k1) → HasDoneTold g limits s entry lines new k0 k2 count
     stays (same, kept) = subst (λ k. HasDoneTold g limits s entry lines new k0 k count) (sym kept) (subst (λ t. HasDoneTold g limits s entry lines t k0 k1 count) (sym same) so_far)
 
-    was_done : (u : Unit {0}) → IsObeyed g limits (line_order line) old new k1 k2 (Ok u) → HasDoneTold g limits s entry lines new k0 k2 (count + 1)
-    was_done u (a, is, o) = next a o is
+    was_done : (r : AdminReply) → IsObeyed g limits (line_order line) old new k1 k2 (Ok r) → HasDoneTold g limits s entry lines new k0 k2 (count + 1)
+    was_done r o = next (reply_of (Ok r)) o (reply_stands r)
 
-    was_not_done : (f : SetupFault) → IsObeyed g limits (line_order line) old new k1 k2 (Err f) → IsSetUpTraced g limits s entry lines new k0 k2 (Err f)
+    was_not_done : (f : OrderFault) → IsObeyed g limits (line_order line) old new k1 k2 (Err f) → IsSetUpTraced g limits s entry lines new k0 k2 (Err f)
     was_not_done (Refused r) o = ((count, less, last (to_refused r) o), leaves (to_refused r) o)
     was_not_done Unreadable (none, same, kept) =
         let it = stays (same, kept) in
@@ -182,9 +182,9 @@ module _ {S : Type 0} (g : Ghosts S) (limits : Limits) (s : model.Registry) (ent
 
     module _ (was : Limits) (same : was ≡ limits) where
       -- a line was done
-      pub obeyed : (u : Unit {0}) → IsObeyed g was (line_order line) old new k1 k2 (Ok u) → HasDoneTold g limits s entry lines new k0 k2 (count + 1)
-      obeyed u it = was_done u (subst (λ l. IsObeyed g l (line_order line) old new k1 k2 (Ok u)) same it)
+      pub obeyed : (r : AdminReply) → IsObeyed g was (line_order line) old new k1 k2 (Ok r) → HasDoneTold g limits s entry lines new k0 k2 (count + 1)
+      obeyed r it = was_done r (subst (λ l. IsObeyed g l (line_order line) old new k1 k2 (Ok r)) same it)
 
       -- a line was not done
-      pub failed : (f : SetupFault) → IsObeyed g was (line_order line) old new k1 k2 (Err f) → IsSetUpTraced g limits s entry lines new k0 k2 (Err f)
+      pub failed : (f : OrderFault) → IsObeyed g was (line_order line) old new k1 k2 (Err f) → IsSetUpTraced g limits s entry lines new k0 k2 (Err f)
       failed f it = was_not_done f (subst (λ l. IsObeyed g l (line_order line) old new k1 k2 (Err f)) same it)

@@ -7,8 +7,8 @@ use Rattle.reg_policy.specs.Words.{admin_text_of}
 use Rattle.reg_http_read.specs.declared.fault.StreamFault.{StreamFault}
 use Rattle.reg_http_read.specs.declared.fault.StreamFault.TheVariants as stream
 use Rattle.reg_cli_line.specs.declared.exit.Exit.{Exit}
-use Rattle.reg_cli_run.specs.declared.setup.SetupFault.{SetupFault}
-use Rattle.reg_cli_run.specs.declared.setup.SetupFault.TheVariants.{Memory, Refused, Unreadable}
+use Rattle.reg_cli_run.specs.declared.ordering.OrderFault.{OrderFault}
+use Rattle.reg_cli_run.specs.declared.ordering.OrderFault.TheVariants.{Memory, Refused, Unreadable}
 
 -- the run ends with this status, and this line for standard error; none where it is empty
 pub record EndsWith (status : ℕ) (words : Text) (exit : Exit) : Type 0 where
@@ -24,10 +24,16 @@ abbrev pub EndsRefused : AdminRefusal → Exit → Type 0
 EndsRefused r exit = EndsWith (refusal_status r) (admin_text_of r) exit
 
 -- the setup was not done to its end
-abbrev pub EndsSetup : SetupFault → Exit → Type 0
+abbrev pub EndsSetup : OrderFault → Exit → Type 0
 EndsSetup (Refused r) exit = EndsRefused r exit
 EndsSetup Unreadable exit = EndsWith 2 (codes "bad setup line") exit
 EndsSetup Memory exit = EndsWith 3 (codes "memory") exit
+
+-- a message's command was not done
+abbrev pub EndsMessage : OrderFault → Exit → Type 0
+EndsMessage (Refused r) exit = EndsRefused r exit
+EndsMessage Unreadable exit = EndsWith 2 (codes "bad words") exit
+EndsMessage Memory exit = EndsWith 3 (codes "memory") exit
 
 -- what a stream's fault is called
 abbrev pub stream_words : StreamFault → Text

@@ -4,6 +4,7 @@ pub mod Limited
 pub mod LineOrders
 pub mod Lines
 pub mod Marking
+pub mod Messages
 pub mod Piped
 pub mod Printing
 pub mod Services

@@ -3,7 +3,7 @@ use Rattle.std.specs.Prelude.{◌≡◌, ◌==◌, List, if◌then◌else◌, Op
 use Rattle.std.specs.List.{list_any, slice_split}
 use Rattle.clap.specs.Faults.{fault_of}
 use Rattle.clap.specs.Walk.{is_empty}
-use Rattle.clap.specs.Words.{Row, first_of, subcommand_of, subcommand_rows_of}
+use Rattle.clap.specs.Words.{App, Row, first_of, subcommand_of, subcommand_rows_of}
 use Rattle.clap.specs.declared.error.kind.ErrorKind.{ErrorKind}
 use Rattle.clap.specs.declared.error.kind.ErrorKind.TheVariants.{OutOfMemory}
 use Rattle.clap.specs.declared.parser.matches.ArgMatches.{ArgMatches}
@@ -14,8 +14,8 @@ use Rattle.reg_cli_args.specs.Grammar.{setup_app}
 use Rattle.reg_cli_args.specs.Orders.{Ordered, Source, TokenWords, order_from, token_command}
 use Rattle.reg_cli_args.specs.Orders.Ordered.{Token, Whole}
 use Rattle.reg_cli_args.specs.Orders.Source.{Random, Told}
-use Rattle.reg_cli_run.specs.declared.setup.SetupFault.{SetupFault}
-use Rattle.reg_cli_run.specs.declared.setup.SetupFault.TheVariants.{Memory, Refused, Unreadable}
+use Rattle.reg_cli_run.specs.declared.ordering.OrderFault.{OrderFault}
+use Rattle.reg_cli_run.specs.declared.ordering.OrderFault.TheVariants.{Memory, Refused, Unreadable}
 
 -- the command that adds a token, where its digest is told
 abbrev pub adding : TokenWords → Source → Option Command
@@ -42,10 +42,13 @@ order_in words = order_of (subcommand_rows_of words)
 abbrev pub words_in : Text → List Text
 words_in line = slice_split (λ b. b == 32) line
 
--- the subcommand and its values that these words have, where the rules of a line take them
+-- the subcommand and its values that these words have, where these rules take them
+abbrev pub reading_by : App → List Text → Option (Text × List Row)
+reading_by app words =
+    if is_empty (fault_of app words) then subcommand_of app words else None
+
 abbrev pub reading_of : List Text → Option (Text × List Row)
-reading_of words =
-    if is_empty (fault_of setup_app words) then subcommand_of setup_app words else None
+reading_of = reading_by setup_app
 
 -- the command of a line; no value begins with `-`
 unfoldable pub line_order : Text → Option Command
@@ -53,12 +56,12 @@ line_order line = if list_any is_dashed (words_in line) then None
     else order_of (reading_of (words_in line))
 
 -- what a setup makes of what `clap` says of words
-abbrev pub fault_by : ErrorKind → SetupFault
+abbrev pub fault_by : ErrorKind → OrderFault
 fault_by OutOfMemory = Memory
 fault_by _ = Unreadable
 
 -- a fault of the words alone: there is no command, or memory was refused
-abbrev pub IsUnread : Option Command → SetupFault → Type 0
+abbrev pub IsUnread : Option Command → OrderFault → Type 0
 IsUnread ordered (Refused r) = ⊥
 IsUnread ordered Unreadable = ordered ≡ None
 IsUnread ordered Memory = Unit {0}

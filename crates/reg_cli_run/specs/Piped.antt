@@ -17,7 +17,7 @@ use Rattle.reg_http.specs.Answering.{GoesOn}
 use Rattle.reg_http.specs.Streams.{Serves, trail_in}
 use Rattle.reg_http.specs.Trails.{IsTrailed, Tail, TrailEnd, Trails, tail}
 use Rattle.reg_cli_line.specs.declared.exit.Exit.{Exit}
-use Rattle.reg_cli_run.specs.declared.setup.SetupFault.{SetupFault}
+use Rattle.reg_cli_run.specs.declared.ordering.OrderFault.{OrderFault}
 use Rattle.reg_cli_run.specs.Exits.{EndsSetup, EndsStream}
 use Rattle.reg_cli_run.specs.Setups.{HasDoneAlone, IsSetUp, trail_done, trail_set_up}
 
@@ -25,7 +25,7 @@ module _ {S : Type 0} (g : Ghosts S) (limits : Limits) (s : model.Registry) (ent
     (lines : List Text) (now : Tables S) where
   -- the setup was not done to its end, and nothing was read or written
   pub record IsUnserved (r0 r1 w0 w1 : Option Text) (exit : Exit) : Type 0 where
-    pub fault : SetupFault
+    pub fault : OrderFault
     pub set_up : IsSetUp g limits s entry lines now (Err fault)
     pub ends : EndsSetup fault exit
     pub unread : r1 ≡ r0

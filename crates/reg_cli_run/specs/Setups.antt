@@ -13,6 +13,7 @@ use Rattle.reg_model.specs.Registry as model
 use Rattle.reg_model.specs.Registry.{Text}
 use Rattle.reg_model.specs.Steps.{IsFit}
 use Rattle.reg_model.specs.Trail.{told as line_told, trail}
+use Rattle.reg_policy.specs.Events.{reply_of}
 use Rattle.reg_tables.specs.declared.tables.Tables.{Tables}
 use Rattle.reg_tables.specs.Works.{shown}
 use Rattle.reg_service.specs.Answered.{Answers, LeavesAlone, StandsIn}
@@ -21,16 +22,16 @@ use Rattle.reg_service.specs.Sequences.{Ran}
 use Rattle.reg_http.specs.Answering.{GoesOn}
 use Rattle.reg_http.specs.Trails.{IsTrailed, Tail, TrailEnd, Trails, tail}
 use Rattle.reg_cli_run.specs.LineOrders.{line_order}
-use Rattle.reg_cli_run.specs.declared.setup.SetupFault.{SetupFault}
-use Rattle.reg_cli_run.specs.declared.setup.SetupFault.TheVariants.{Memory, Refused, Unreadable}
+use Rattle.reg_cli_run.specs.declared.ordering.OrderFault.{OrderFault}
+use Rattle.reg_cli_run.specs.declared.ordering.OrderFault.TheVariants.{Memory, Refused, Unreadable}
 
 abbrev pub is_refused : Answer → Bool
 is_refused (to_refused r) = true
 is_refused _ = false
 
--- what a setup makes of the reply to a command
-abbrev pub MakesOf : Result AdminReply AdminRefusal → Result (Unit {0}) SetupFault → Type 0
-MakesOf (Ok reply) made = made ≡ Ok tt
+-- the reply to a command is the answer to an order
+abbrev pub MakesOf : Result AdminReply AdminRefusal → Result AdminReply OrderFault → Type 0
+MakesOf (Ok reply) made = made ≡ Ok reply
 MakesOf (Err refusal) made = made ≡ Err (Refused refusal)
 
 -- the command is answered so, whatever registry the tables held, and its line is told
@@ -48,12 +49,11 @@ pub record Obeys {S : Type 0} (g : Ghosts S) (limits : Limits) (ordered : Option
   pub fit : IsFit (Order command)
   pub answers : IsDoneTold g limits command a old new k0 k1
 
--- one line: the command that it orders was done or refused, or it orders none, or memory was
--- refused
+-- one order: the command was done or refused, or the words order none, or memory was refused
 abbrev pub IsObeyed : {S : Type 0} → Ghosts S → Limits → Option Command → Tables S → Tables S
-    → Tail → Tail → Result (Unit {0}) SetupFault → Type 0
-IsObeyed g limits ordered old new k0 k1 (Ok _) =
-    (a : Answer) × (is_refused a ≡ false) × Obeys g limits ordered a old new k0 k1
+    → Tail → Tail → Result AdminReply OrderFault → Type 0
+IsObeyed g limits ordered old new k0 k1 (Ok reply) =
+    Obeys g limits ordered (reply_of (Ok reply)) old new k0 k1
 IsObeyed g limits ordered old new k0 k1 (Err (Refused r)) =
     Obeys g limits ordered (to_refused r) old new k0 k1
 IsObeyed g limits ordered old new k0 k1 (Err Unreadable) =
@@ -64,7 +64,7 @@ IsObeyed g limits ordered old new k0 k1 (Err Memory) = (new ≡ old) × (k1 ≡ 
 -- and the registry goes on.
 pub record ObeysOrder {S T : Type 0} (g : Ghosts S) (ordered : Option Command)
     (told_of : T → Option Text) (old new : Running S) (k0 k1 : TrailEnd T)
-    (result : Result (Unit {0}) SetupFault) : Type 0 where
+    (result : Result AdminReply OrderFault) : Type 0 where
   pub obeyed : IsObeyed g (limits_of old) ordered (tables_of old) (tables_of new)
       (tail (told_of k0.end.inner) k0) (tail (told_of k1.end.inner) k1) result
   pub told : IsTrailed (tail (told_of k0.end.inner) k0) (tail (told_of k1.end.inner) k1)
@@ -96,7 +96,7 @@ module _ {S : Type 0} (g : Ghosts S) (limits : Limits) (s : model.Registry) (ent
 
   -- all lines were done; or those before one that was refused or is no command; or those before
   -- memory was refused
-  abbrev pub IsSetUp : Result (Unit {0}) SetupFault → Type 0
+  abbrev pub IsSetUp : Result (Unit {0}) OrderFault → Type 0
   IsSetUp (Ok _) = HasDoneAlone (length lines)
   IsSetUp (Err (Refused r)) =
       (count : ℕ) × (count < length lines) × HasDone count (to_refused r ∷ [])
@@ -107,7 +107,7 @@ module _ {S : Type 0} (g : Ghosts S) (limits : Limits) (s : model.Registry) (ent
   abbrev pub trail_done : (count : ℕ) (last : List Answer) → HasDone count last → Text
   trail_done count last it = trail limits s (map Order it.commands) (it.told ++ last)
 
-  abbrev pub trail_set_up : (result : Result (Unit {0}) SetupFault) → IsSetUp result → Text
+  abbrev pub trail_set_up : (result : Result (Unit {0}) OrderFault) → IsSetUp result → Text
   trail_set_up (Ok _) it = trail_done (length lines) [] it.done
   trail_set_up (Err (Refused r)) (count, few, it) = trail_done count (to_refused r ∷ []) it
   trail_set_up (Err Unreadable) (count, none, it) = trail_done count [] it.done
@@ -119,14 +119,14 @@ module _ {S : Type 0} (g : Ghosts S) (limits : Limits) (s : model.Registry) (ent
       (it : HasDoneAlone count) × Trails k0 k1 (trail_done count [] it.done)
 
   -- the lines were done as far as the result says, and their trail is told
-  abbrev pub IsSetUpTraced : Tail → Tail → Result (Unit {0}) SetupFault → Type 0
+  abbrev pub IsSetUpTraced : Tail → Tail → Result (Unit {0}) OrderFault → Type 0
   IsSetUpTraced k0 k1 result =
       (it : IsSetUp result) × Trails k0 k1 (trail_set_up result it)
 
 -- The lines were done, as far as the result says, whatever registry was held, and their trail is
 -- told. Whatever is wrong with the store, the trail got a text in no more calls than it had left.
 pub record SetsUpTraced {S T : Type 0} (g : Ghosts S) (lines : List Text) (old new : Running S)
-    (told_of : T → Option Text) (k0 k1 : TrailEnd T) (result : Result (Unit {0}) SetupFault)
+    (told_of : T → Option Text) (k0 k1 : TrailEnd T) (result : Result (Unit {0}) OrderFault)
     : Type 0 where
   pub done : HasCleanDisk (shown g (tables_of new)) → (s : model.Registry)
       → StandsIn s (shown g (tables_of old))

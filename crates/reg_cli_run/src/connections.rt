@@ -1,4 +1,4 @@
-//! Connections, served one after another.
+//! Connections and messages, served one after another.
 
 ghost use Rattle.std.specs.Prelude.{◌≡◌, ◌⊎◌, ◌+◌, ◌^◌, ◌<◌, true, codes, IfErr, IfOk, IsTrue, MatchResult, OnOk};
 ghost use Rattle.sqlite.specs.State.{HasCleanDisk};
@@ -10,7 +10,8 @@ ghost use Rattle.reg_cli_run.specs.Limited.{HasTurns};
 ghost use Rattle.reg_cli_run.specs.Marking.{IsMarked};
 ghost use Rattle.reg_cli_run.specs.Visits.{IsServedSo, ServesThenTries, ServesVisit};
 
-use crate::door::Door;
+use crate::door::{Caller, Door};
+use crate::message::{MessageReply, answer_message, read_bytes, send_reply};
 use reg_body::Counted;
 use reg_cli_line::Exit;
 use reg_http::{Server, Trail};
@@ -33,15 +34,47 @@ fn serve_connection<S: Alter, T: Write, D: Door>(
 )
     requires turns { HasTurns (limits_of registry.old) }
     ensures counts { D.accepted door.new ≡ D.accepted door.old }
-    ensures serves { ServesVisit S.Store (D.Reader.remaining reader) (D.Writer.contents writer)
-        (D.log door.old) (D.log door.new) registry.old registry.new
+    ensures serves { ServesVisit S.Store Caller.Client (D.Reader.remaining reader)
+        (D.Writer.contents writer) (D.log door.old) (D.log door.new) registry.old registry.new
         (tail (T.contents trail.old.end.inner) trail.old)
         (tail (T.contents trail.new.end.inner) trail.new) }
 {
     let mut reader = Counted::new(reader);
     let mut writer = Counted::new(writer);
     let _ = server.serve_traced(alloc, registry, &mut reader, &mut writer, trail);
-    door.leave(reader.into_inner(), writer.into_inner());
+    door.leave(reader, writer);
+}
+
+/// Reads a message, does what it asks for, tells what it changed, and replies. After a reply that
+/// the server pauses, it does until the sender goes.
+fn serve_message<S: Alter, T: Write, D: Door>(
+    rt: &HostRuntime,
+    registry: &mut Registry<S>,
+    trail: &mut Trail<T>,
+    door: &mut D,
+    reader: D::Reader,
+    writer: D::Writer,
+)
+    ensures counts { D.accepted door.new ≡ D.accepted door.old }
+    ensures serves { ServesVisit S.Store Caller.Admin (D.Reader.remaining reader)
+        (D.Writer.contents writer) (D.log door.old) (D.log door.new) registry.old registry.new
+        (tail (T.contents trail.old.end.inner) trail.old)
+        (tail (T.contents trail.new.end.inner) trail.new) }
+{
+    history_law::<S>();
+    telling_law();
+    let alloc = rt.alloc();
+    let mut reader = Counted::new(reader);
+    let mut writer = Counted::new(writer);
+    let reply = match read_bytes(alloc, &mut reader) {
+        Ok(bytes) => answer_message(alloc, registry, trail, &bytes),
+        Err(fault) => Err(fault),
+    };
+    let _ = send_reply(&mut writer, &reply);
+    if matches!(reply, Ok(MessageReply::Paused)) {
+        door.hold(rt, reader.inner());
+    }
+    door.leave(reader, writer);
 }
 
 /// Tells the trail that a registry was opened, and how much it has, so that a change whose line was
@@ -63,8 +96,8 @@ pub fn mark_opening<S: Alter, T: Write>(
     Ok(())
 }
 
-/// Serves the next connection, and returns whether the registry has stopped. A client that hung up
-/// before it was accepted counts as served.
+/// Serves the next caller, and returns whether the registry has stopped. One that hung up before it
+/// was accepted counts as served.
 fn serve_next<S: Alter, T: Write, D: Door>(
     rt: &HostRuntime,
     server: &mut Server,
@@ -86,14 +119,20 @@ fn serve_next<S: Alter, T: Write, D: Door>(
         (tail (T.contents trail.new.end.inner) trail.new)) }
 {
     history_law::<S>();
-    if let Some((reader, writer)) = door.accept(rt)? {
-        serve_connection(rt.alloc(), server, registry, trail, door, reader, writer);
+    match door.accept(rt)? {
+        Some((Caller::Client, reader, writer)) => {
+            serve_connection(rt.alloc(), server, registry, trail, door, reader, writer);
+        }
+        Some((Caller::Admin, reader, writer)) => {
+            serve_message(rt, registry, trail, door, reader, writer);
+        }
+        None => {}
     }
     Ok(registry.is_stopped())
 }
 
-/// Serves connections, one after another, until `left` are served or the registry has stopped: then
-/// it answers only S1, and its store has to be opened again.
+/// Serves callers, one after another, until `left` are served or the registry has stopped: then it
+/// answers only S1, and its store has to be opened again.
 pub fn serve_connections<S: Alter, T: Write, D: Door>(
     rt: &HostRuntime,
     server: &mut Server,

@@ -1,14 +1,24 @@
-//! Where connections come from.
+//! Where connections and messages come from.
 
 ghost use Rattle.std.specs.Prelude.{◌≡◌, ◌+◌, ◌^◌, ◌<◌, ◌∷◌, [], codes, IfOk, MatchResult, Option, List, ℕ};
 ghost use Rattle.reg_cli_run.specs.Exits.{EndsWith};
 ghost use Rattle.reg_cli_run.specs.Visits.{Logs, Passing, arrival};
 ghost use Rattle.reg_cli_run.specs.Visits.Passing.{Went};
 
+use reg_body::Counted;
 use reg_cli_line::Exit;
 use std::io::{Read, Write};
 
-/// Where connections come from, one after another: each is an end to read from and one to write to.
+/// Who comes to a door.
+#[derive(Clone, Copy, Debug, PartialEq, Eq)]
+pub enum Caller {
+    /// A client, with a stream of requests.
+    Client,
+    /// The administrator, with one message.
+    Admin,
+}
+
+/// Where callers come from, one after another: each has an end to read from and one to write to.
 pub trait Door {
     type Reader: Read + Drop;
 
@@ -17,20 +27,29 @@ pub trait Door {
     /// What has passed it, where that is known.
     ghost log: { Self → Option (List Passing) };
 
-    /// How many connections were accepted, with those whose clients had hung up before.
+    /// How many callers were accepted, with those that had hung up before.
     ghost accepted: { Self → ℕ };
 
-    /// Waits for a connection: none if its client hung up before.
-    fn accept(&mut self, rt: &HostRuntime) -> Result<Option<(Self::Reader, Self::Writer)>, Exit>
+    /// Waits for a caller: none if it hung up before.
+    fn accept(
+        &mut self,
+        rt: &HostRuntime,
+    ) -> Result<Option<(Caller, Self::Reader, Self::Writer)>, Exit>
         requires { accepted self.old + 1 < 2 ^ 64 }
         ensures counts { MatchResult result (λ _. accepted self.new ≡ accepted self.old + 1)
             (λ exit. EndsWith 3 (codes "listen fault") exit × (self.new ≡ self.old)) }
         ensures came { IfOk result (λ ends. Logs (log self.old) (log self.new)
             (arrival Self.Reader.remaining Self.Writer.contents ends)) };
 
-    /// The connection is over.
-    fn leave(&mut self, reader: Self::Reader, writer: Self::Writer)
+    /// Waits until the caller with these ends goes, but not for ever.
+    fn hold(&mut self, rt: &HostRuntime, reader: &Self::Reader)
+        ensures counts { accepted self.new ≡ accepted self.old }
+        ensures stays { log self.new ≡ log self.old };
+
+    /// The caller goes.
+    fn leave(&mut self, reader: Counted<Self::Reader>, writer: Counted<Self::Writer>)
         ensures counts { accepted self.new ≡ accepted self.old }
         ensures went { Logs (log self.old) (log self.new)
-            (Went (Self.Reader.remaining reader) (Self.Writer.contents writer) ∷ []) };
+            (Went (Self.Reader.remaining reader.inner) (Self.Writer.contents writer.inner)
+            reader.failures writer.failures ∷ []) };
 }

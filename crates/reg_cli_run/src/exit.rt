@@ -1,8 +1,8 @@
 //! How the runs of a registry end.
 
-ghost use Rattle.reg_cli_run.specs.Exits.{EndsRefused, EndsSetup, EndsStream};
+ghost use Rattle.reg_cli_run.specs.Exits.{EndsMessage, EndsRefused, EndsSetup, EndsStream};
 
-use crate::setup::SetupFault;
+use crate::ordering::OrderFault;
 use reg_cli_line::Exit;
 use reg_http::StreamFault;
 use reg_model::AdminRefusal;
@@ -23,16 +23,27 @@ pub fn exit_of_refusal(refusal: AdminRefusal) -> Exit
 }
 
 /// The end of a run whose setup was not completed.
-pub(crate) fn exit_of_setup(fault: SetupFault) -> Exit
+pub(crate) fn exit_of_setup(fault: OrderFault) -> Exit
     ensures { EndsSetup fault result }
 {
     match fault {
-        SetupFault::Refused(refusal) => exit_of_refusal(refusal),
-        SetupFault::Unreadable => Exit {
+        OrderFault::Refused(refusal) => exit_of_refusal(refusal),
+        OrderFault::Unreadable => Exit {
             status: 2,
             message: "bad setup line",
         },
-        SetupFault::Memory => Exit::MEMORY,
+        OrderFault::Memory => Exit::MEMORY,
+    }
+}
+
+/// The end of a command that a message asked for, and that was not done.
+pub(crate) fn exit_of_message(fault: OrderFault) -> Exit
+    ensures { EndsMessage fault result }
+{
+    match fault {
+        OrderFault::Refused(refusal) => exit_of_refusal(refusal),
+        OrderFault::Unreadable => Exit::BAD_WORDS,
+        OrderFault::Memory => Exit::MEMORY,
     }
 }
 

@@ -1,50 +1,39 @@
-//! Connections from a port.
+//! Callers at a port, and at a socket file beside it.
 
 ghost use Rattle.std.specs.Prelude.{◌≡◌, codes, IfErr, None};
 ghost use Rattle.reg_cli_run.specs.Exits.{EndsWith};
 
-use crate::door::Door;
+use crate::door::{Caller, Door};
 use crate::printing::print;
+use crate::socket::{MORE_TRIES, PAUSE, Socket, wait_for_end};
+use crate::stream::{NO_LISTENING, Stream};
+use reg_body::Counted;
 use reg_cli_line::Exit;
+use std::fs;
 use std::io::ErrorKind;
 use std::net::{TcpListener, TcpStream};
 use std::thread;
 use std::time::Duration;
 
-/// The port cannot be listened on, or a connection cannot be accepted.
-const NO_LISTENING: Exit = Exit {
-    status: 3,
-    message: "listen fault",
-};
-
-/// How often an accept that failed is tried again, and how many milliseconds after: too many files
-/// may be open for a moment.
-const MORE_TRIES: u32 = 10;
-
-const PAUSE: u64 = 100;
-
-/// A port of the loopback address, listened on once it is open. It counts the accepted connections.
+/// A port of the loopback address, and a socket file if one is asked for; listened on once it is
+/// open. It counts the accepted callers.
 #[derive(Drop)]
-pub struct Listener {
+pub struct Listener<'a> {
+    rt: &'a HostRuntime,
     port: u16,
+    admin: Option<&'a str>,
     listener: Option<TcpListener>,
+    socket: Option<Socket>,
     pub accepted: u64,
 }
 
-/// Listens, and says so.
-fn listen(rt: &HostRuntime, port: u16) -> Result<TcpListener, Exit> {
-    let Ok(listener) = TcpListener::bind(rt, ("127.0.0.1", port)) else {
-        return Err(NO_LISTENING);
-    };
+/// Says that the port is listened on.
+fn tell_listening(rt: &HostRuntime, port: u16) -> Result<(), Exit> {
     let Ok(line) = format!(in rt.alloc(); "listening 127.0.0.1:{port}\n") else {
         return Err(Exit::MEMORY);
     };
     let exit = print(rt, &line);
-    if exit == Exit::DONE {
-        Ok(listener)
-    } else {
-        Err(exit)
-    }
+    if exit == Exit::DONE { Ok(()) } else { Err(exit) }
 }
 
 /// Waits for a connection: none if its client hung up before it was accepted, or a signal came.
@@ -66,59 +55,100 @@ fn accept_from(rt: &HostRuntime, listener: &TcpListener) -> Result<Option<TcpStr
     }
 }
 
-impl Listener {
-    pub fn at(port: u16) -> Listener
+impl<'a> Listener<'a> {
+    pub fn at(rt: &'a HostRuntime, port: u16, admin: Option<&'a str>) -> Listener<'a>
         ensures { result.accepted ≡ 0 }
     {
         Listener {
+            rt,
             port,
+            admin,
             listener: None,
+            socket: None,
             accepted: 0,
         }
     }
 
-    /// Listens, unless it does already.
-    pub fn open(&mut self, rt: &HostRuntime) -> Result<(), Exit>
+    /// Listens, unless it does already, and says so.
+    pub fn open(&mut self) -> Result<(), Exit>
         ensures { self.new.accepted ≡ self.old.accepted }
     {
-        if self.listener.is_none() {
-            self.listener = Some(listen(rt, self.port)?);
+        if self.listener.is_some() {
+            return Ok(());
         }
+        let Ok(listener) = TcpListener::bind(self.rt, ("127.0.0.1", self.port)) else {
+            return Err(NO_LISTENING);
+        };
+        if let Some(path) = self.admin {
+            self.socket = Some(Socket::beside(self.rt, path, &listener)?);
+        }
+        tell_listening(self.rt, self.port)?;
+        self.listener = Some(listener);
         Ok(())
     }
-}
 
-/// Both ends of a connection; none if the system has no room for the second.
-fn ends_of(stream: TcpStream) -> Option<(TcpStream, TcpStream)> {
-    match stream.try_clone() {
-        Ok(writer) => Some((stream, writer)),
-        Err(_) => None,
+    /// Removes the socket file that it made.
+    pub fn close(self) {
+        if let (Some(path), Some(_)) = (self.admin, &self.socket) {
+            let _ = fs::remove_file(self.rt, path);
+        }
     }
 }
 
-impl Door for Listener {
-    type Reader = TcpStream;
+/// Accepts at the port, or at whichever of both somebody is first.
+fn accept_any<'a>(
+    rt: &'a HostRuntime,
+    listener: &TcpListener,
+    socket: &mut Option<Socket>,
+) -> Result<Option<(Caller, Stream<'a>)>, Exit>
+    ensures { IfErr result (EndsWith 3 (codes "listen fault")) }
+{
+    if let Some(socket) = socket {
+        return socket.accept(rt, listener);
+    }
+    match accept_from(rt, listener)? {
+        Some(stream) => Ok(Some((Caller::Client, Stream::Port(stream)))),
+        None => Ok(None),
+    }
+}
 
-    type Writer = TcpStream;
+/// Both ends of a connection; none if the system has no room for the second. What is written to a
+/// client leaves at once, without waiting for earlier data to be acknowledged.
+fn ends_of<'a>((caller, stream): (Caller, Stream<'a>)) -> Option<(Caller, Stream<'a>, Stream<'a>)> {
+    if let Stream::Port(stream) = &stream {
+        let _ = stream.set_nodelay(true);
+    }
+    let writer = stream.other_end()?;
+    Some((caller, stream, writer))
+}
+
+impl<'a> Door for Listener<'a> {
+    type Reader = Stream<'a>;
+
+    type Writer = Stream<'a>;
 
     ghost log = { λ _. None };
 
     ghost accepted = { λ l. l.accepted };
 
-    /// Waits for a connection, and counts it: also one that is none, since its client hung up
-    /// before. What is written to it leaves at once, without waiting for earlier data to be
-    /// acknowledged.
-    fn accept(&mut self, rt: &HostRuntime) -> Result<Option<(TcpStream, TcpStream)>, Exit> {
+    /// Waits for a caller, and counts it: also one that is none, since it hung up before.
+    fn accept(
+        &mut self,
+        _rt: &HostRuntime,
+    ) -> Result<Option<(Caller, Stream<'a>, Stream<'a>)>, Exit> {
         let Some(listener) = &self.listener else {
             return Err(NO_LISTENING);
         };
-        let stream = accept_from(rt, listener)?;
-        if let Some(stream) = &stream {
-            let _ = stream.set_nodelay(true);
-        }
+        let came = accept_any(self.rt, listener, &mut self.socket)?;
         self.accepted += 1;
-        Ok(stream.and_then(ends_of))
+        Ok(came.and_then(ends_of))
     }
 
-    fn leave(&mut self, _reader: TcpStream, _writer: TcpStream) {}
+    fn hold(&mut self, rt: &HostRuntime, reader: &Stream<'a>) {
+        if let Stream::Socket(end) = reader {
+            let _ = wait_for_end(rt, &end.stream);
+        }
+    }
+
+    fn leave(&mut self, _reader: Counted<Stream<'a>>, _writer: Counted<Stream<'a>>) {}
 }

@@ -51,7 +51,7 @@ pub fn print(rt: &HostRuntime, text: &str) -> Exit {
 
 /// The line for a new token: its number, and its text if it was made here. A token is kept before
 /// it is printed, so this takes no memory.
-fn line_of_token(id: u32, text: Option<&TokenText>) -> ArrayVec<u8, LINE>
+pub(crate) fn line_of_token(id: u32, text: Option<&TokenText>) -> ArrayVec<u8, LINE>
     ensures { result.items ≡ token_line id (option_map (λ t. t.now) text.entry) }
 {
     let mut line = ArrayVec::new();

@@ -13,4 +13,4 @@ returns-in-Setup c = rw c.in-Setup.is
 
 pub returns-in-Program : goal.returns-in-Program
 returns-in-Program c = rw c.in-Program.is
-    (IfOk-weaker c.with_file.result _ _ (λ new h. h _ (c.in_ok-command.ensures _ c.described-command.ensures)) c.with_file.ensures)
+    (IfOk-weaker c.with_registry.result _ _ (λ new h. h _ (c.in_ok-command.ensures _ c.described-command.ensures)) c.with_registry.ensures)
