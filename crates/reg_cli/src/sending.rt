@@ -1,11 +1,11 @@
 //! The administrator's commands on a registry that a server serves: each is sent to the server's
 //! socket file, and ends as the server replies.
 
-ghost use Rattle.std.specs.Prelude.{◌≡◌, ◌++◌, [], ◌∷◌, IfOk, OnOk};
+ghost use Rattle.std.specs.Prelude.{◌≡◌, ◌++◌, IfOk, OnOk};
 ghost use Rattle.std.specs.List.{flat_map};
 ghost use Rattle.std.specs.Option.{option_map};
 ghost use Rattle.reg_cli_args.specs.Orders.{given_by};
-ghost use Rattle.reg_cli.specs.Sending.{IsReply, argument, sent_words};
+ghost use Rattle.reg_cli.specs.Sending.{IsReply, argument, digest_sent, is_whole, named, option_sent, options_sent, sent_words, value_sent, values_sent};
 
 use crate::administering::AdminTask;
 use clap::ArgMatches;
@@ -17,59 +17,94 @@ use std::alloc::{AllocError, Global};
 use std::io::{self, Read, Write};
 use std::net::Shutdown;
 use std::os::unix::net::UnixStream;
+use std::str::from_utf8;
 
-/// The server's reply did not come, or not whole.
-const BROKEN: Exit = Exit {
-    status: 3,
-    message: "storage, and the change may have been made",
-};
-
-/// The values that stand behind a subcommand's name, in their order.
-const WORDS: [&str; 4] = ["CRATE", "LOGIN", "NAME", "ID"];
-
-/// The options that are sent.
-const OPTIONS: [(&str, &str); 3] = [
-    ("name", "--name"),
-    ("endpoints", "--endpoints"),
-    ("patterns", "--patterns"),
-];
+/// The end of a command whose reply did not come, or not whole.
+fn broken(rt: &HostRuntime) -> Exit {
+    let _ = eprintln!(rt; "no reply: the change may have been made");
+    Exit::STORAGE
+}
 
 /// Adds an argument to a message.
 fn push_argument(message: &mut Vec<u8>, argument: &str) -> Result<(), AllocError>
     ensures { OnOk result (message.new.items ≡ message.old.items ++ argument argument.now) }
 {
     message.extend_from_slice(argument.as_bytes())?;
-    message.push(0)
+    message.push(0)?;
+    Ok(())
 }
 
-/// Adds the values that stand behind the subcommand's name.
-fn push_words(message: &mut Vec<u8>, words: &ArgMatches<'_>) -> Result<(), AllocError> {
-    for name in WORDS {
-        if let Some(value) = words.get_str(name) {
-            push_argument(message, value)?;
-        }
+/// Adds the value that stands in a place behind the subcommand's name, if one does.
+fn push_value(message: &mut Vec<u8>, words: &ArgMatches<'_>, place: &str) -> Result<(), AllocError>
+    ensures { OnOk result (message.new.items ≡ message.old.items
+        ++ flat_map argument (value_sent (given_by words.now) place.now)) }
+{
+    match words.get_str(place) {
+        Some(value) => push_argument(message, value),
+        None => Ok(()),
     }
-    Ok(())
+}
+
+/// Adds an option and its value.
+fn push_named(message: &mut Vec<u8>, option: &str, value: &str) -> Result<(), AllocError>
+    ensures { OnOk result (message.new.items ≡ message.old.items
+        ++ flat_map argument (named option.now value.now)) }
+{
+    message.extend_from_slice(b"--")?;
+    push_argument(message, option)?;
+    push_argument(message, value)
+}
+
+/// Adds an option, if it is given.
+fn push_option(
+    message: &mut Vec<u8>,
+    words: &ArgMatches<'_>,
+    option: &str,
+) -> Result<(), AllocError>
+    ensures { OnOk result (message.new.items ≡ message.old.items
+        ++ flat_map argument (option_sent (given_by words.now) option.now)) }
+{
+    match words.get_str(option) {
+        Some(value) => push_named(message, option, value),
+        None => Ok(()),
+    }
+}
+
+/// Adds what follows the subcommand's name.
+fn push_values(message: &mut Vec<u8>, words: &ArgMatches<'_>) -> Result<(), AllocError>
+    ensures { OnOk result (message.new.items ≡ message.old.items
+        ++ flat_map argument (values_sent (given_by words.now))) }
+{
+    push_value(message, words, "CRATE")?;
+    push_value(message, words, "LOGIN")?;
+    push_value(message, words, "NAME")?;
+    push_value(message, words, "ID")
 }
 
 /// Adds the options.
-fn push_options(message: &mut Vec<u8>, words: &ArgMatches<'_>) -> Result<(), AllocError> {
-    for (name, option) in OPTIONS {
-        if let Some(value) = words.get_str(name) {
-            push_argument(message, option)?;
-            push_argument(message, value)?;
-        }
-    }
-    Ok(())
+fn push_options(message: &mut Vec<u8>, words: &ArgMatches<'_>) -> Result<(), AllocError>
+    ensures { OnOk result (message.new.items ≡ message.old.items
+        ++ flat_map argument (options_sent (given_by words.now))) }
+{
+    push_option(message, words, "name")?;
+    push_option(message, words, "endpoints")?;
+    push_option(message, words, "patterns")
 }
 
 /// Adds the digest of a new token.
-fn push_digest(message: &mut Vec<u8>, made: &TokenMade) -> Result<(), AllocError> {
+fn push_digest(message: &mut Vec<u8>, made: Option<&TokenMade>) -> Result<(), AllocError>
+    ensures { OnOk result (message.new.items ≡ message.old.items
+        ++ flat_map argument (digest_sent (option_map (λ m. m.now.digest) made.entry))) }
+{
+    let Some(made) = made else {
+        return Ok(());
+    };
     let mut digits = [0; 64];
     let _fits = encode_to_slice(made.digest.as_slice(), &mut digits);
-    push_argument(message, "--digest")?;
+    message.extend_from_slice(b"--digest\0")?;
     message.extend_from_slice(&digits)?;
-    message.push(0)
+    message.push(0)?;
+    Ok(())
 }
 
 /// The message that asks for what the arguments ask for; of a new token its digest.
@@ -78,14 +113,15 @@ fn message_of(
     name: &str,
     words: &ArgMatches<'_>,
     made: Option<&TokenMade>,
-) -> Result<Vec<u8>, AllocError> {
+) -> Result<Vec<u8>, AllocError>
+    ensures { IfOk result (λ message. message.items ≡ flat_map argument (sent_words name.now
+        (given_by words.now) (option_map (λ m. m.now.digest) made.entry))) }
+{
     let mut message = Vec::new(alloc);
     push_argument(&mut message, name)?;
-    push_words(&mut message, words)?;
+    push_values(&mut message, words)?;
     push_options(&mut message, words)?;
-    if let Some(made) = made {
-        push_digest(&mut message, made)?;
-    }
+    push_digest(&mut message, made)?;
     Ok(message)
 }
 
@@ -96,20 +132,30 @@ fn send(rt: &HostRuntime, path: &str, message: &[u8]) -> Result<UnixStream, Exit
     };
     match stream.write_all(message) {
         Ok(()) => {}
-        Err(_) => return Err(BROKEN),
+        Err(_) => return Err(broken(rt)),
     }
     match stream.shutdown(Shutdown::Write) {
         Ok(()) => Ok(stream),
-        Err(_) => Err(BROKEN),
+        Err(_) => Err(broken(rt)),
     }
 }
 
 /// All that the server replies.
-fn reply_from(alloc: Global, mut stream: UnixStream) -> Result<Vec<u8>, Exit> {
-    let mut reply = Vec::new(alloc);
+fn reply_from(rt: &HostRuntime, mut stream: UnixStream) -> Result<Vec<u8>, Exit> {
+    let mut reply = Vec::new(rt.alloc());
     match stream.read_to_end(&mut reply) {
         Ok(_) => Ok(reply),
-        Err(_) => Err(BROKEN),
+        Err(_) => Err(broken(rt)),
+    }
+}
+
+/// Whether the text of what was done is whole: each of its lines is.
+fn is_whole(text: &[u8]) -> bool
+    ensures { result ≡ is_whole text.now }
+{
+    match text.split_last() {
+        Some((last, _)) => *last == b'\n',
+        None => true,
     }
 }
 
@@ -118,18 +164,17 @@ fn split_reply(reply: &[u8]) -> Option<(u8, &[u8])>
     ensures { IsReply reply.now (option_map (λ it. (it.0, it.1.now)) result) }
 {
     match reply {
-        [b'0', b'\n'] => Some((0, &[])),
-        [b'0', b'\n', text @ .., b'\n'] => Some((0, &reply[2..])),
-        [digit @ b'1'..=b'3', b'\n', text @ ..] => Some((*digit - b'0', text)),
+        [b'0', b'\n', text @ ..] if is_whole(text) => Some((0, text)),
+        [b'1', b'\n', text @ ..] => Some((1, text)),
+        [b'2', b'\n', text @ ..] => Some((2, text)),
+        [b'3', b'\n', text @ ..] => Some((3, text)),
         _ => None,
     }
 }
 
 /// Says on standard error why the command was not done.
 fn end_refused(rt: &HostRuntime, status: u8, text: &[u8]) -> Exit {
-    let mut stderr = rt.stderr();
-    let _ = stderr.write_all(text);
-    let _ = stderr.write_all(b"\n");
+    let _ = eprintln!(rt; "{}", from_utf8(text).unwrap_or("no text"));
     Exit {
         status,
         message: "",
@@ -143,7 +188,7 @@ fn end_done(rt: &HostRuntime, text: &[u8], token: Option<&TokenText>) -> Exit {
         return print_to(&mut w, text);
     };
     let Some((_, number)) = text.split_last() else {
-        return BROKEN;
+        return broken(rt);
     };
     let parts: [&[u8]; 4] = [number, b" ", token.as_slice(), b"\n"];
     for part in parts {
@@ -161,7 +206,7 @@ fn end_as_replied(rt: &HostRuntime, reply: &[u8], made: Option<&TokenMade>) -> E
     match split_reply(reply) {
         Some((0, text)) => end_done(rt, text, token),
         Some((status, text)) => end_refused(rt, status, text),
-        None => BROKEN,
+        None => broken(rt),
     }
 }
 
@@ -177,7 +222,7 @@ fn order_made(
         return Err(Exit::MEMORY);
     };
     let stream = send(rt, path, &message)?;
-    let reply = reply_from(rt.alloc(), stream)?;
+    let reply = reply_from(rt, stream)?;
     Ok(end_as_replied(rt, &reply, made))
 }
 
@@ -206,28 +251,21 @@ pub(crate) fn order_at(
 const PAUSED: &[u8; 9] = b"0\npaused\n";
 
 /// Reads the beginning of a reply, as long as that to `pause`; the rest as well if it is another.
-fn reply_to_pause(alloc: Global, stream: &mut UnixStream) -> Result<Vec<u8>, Exit> {
-    let mut reply = Vec::new(alloc);
+fn reply_to_pause(rt: &HostRuntime, stream: &mut UnixStream) -> Result<Vec<u8>, Exit> {
+    let mut reply = Vec::new(rt.alloc());
     match stream.take(9).read_to_end(&mut reply) {
-        Ok(_) if reply.as_slice() == PAUSED => Ok(reply),
+        Ok(_) if reply.as_slice() == PAUSED.as_slice() => Ok(reply),
         Ok(_) => match stream.read_to_end(&mut reply) {
             Ok(_) => Ok(reply),
-            Err(_) => Err(BROKEN),
+            Err(_) => Err(broken(rt)),
         },
-        Err(_) => Err(BROKEN),
+        Err(_) => Err(broken(rt)),
     }
 }
 
 /// Reads standard input to its end.
 fn wait_for_input(rt: &HostRuntime) {
-    let mut stdin = rt.stdin();
-    let mut chunk = [0; 512];
-    'reading: loop {
-        match stdin.read(&mut chunk) {
-            Ok(0) | Err(_) => return,
-            Ok(_) => {}
-        }
-    }
+    let _ = io::copy(&mut rt.stdin(), &mut io::sink());
 }
 
 /// Whether the server still waits: it has not closed its side.
@@ -238,8 +276,8 @@ fn is_still_paused(stream: &mut UnixStream) -> bool {
 
 fn pause_at(rt: &HostRuntime, path: &str) -> Result<Exit, Exit> {
     let mut stream = send(rt, path, b"pause\0")?;
-    let reply = reply_to_pause(rt.alloc(), &mut stream)?;
-    if reply.as_slice() != PAUSED {
+    let reply = reply_to_pause(rt, &mut stream)?;
+    if reply.as_slice() != PAUSED.as_slice() {
         return Ok(end_as_replied(rt, &reply, None));
     }
     let exit = print(rt, "paused\n");

@@ -1,3 +1,4 @@
+mod Heard
 mod LineFacts
 mod Orders
 mod Visiting

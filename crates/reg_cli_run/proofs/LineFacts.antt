@@ -3,7 +3,10 @@ use Rattle.std.proofs.Common.{◌≡◌, ◌≢◌, ◌<◌, ◌++◌, ◌∙◌
 use Rattle.std.proofs.Math.ListN.{get_or}
 use Rattle.std.proofs.lemmas.List.{get_or-map, length-map}
 use Rattle.reg_model.specs.Registry.{Text}
+use Rattle.std.proofs.Common.{Option, Some, None}
+use Rattle.std.specs.Option.{option_map}
 use Rattle.reg_cli_run.specs.Lines.{but_empty_end}
+use Rattle.reg_cli_run.specs.Messages.{but_last}
 
 pub end_goes : (ps : List Text) → but_empty_end (ps ++ [] ∷ []) ≡ ps
 end_goes [] = refl
@@ -33,3 +36,15 @@ line_at items seen lines i d same is less =
     let now = λ (l : Bor Text). l.now in
     let all : lines ≡ map now seen = sym is ∙ ap (map now) (sym same) in
     ap (λ ls. get_or ls i (get_or seen i d).now) all ∙ get_or-map now seen i d (get_or seen i d).now (subst (λ n. i < n) (ap length all ∙ length-map seen now) less)
+
+-- pieces that end with an empty one, and pieces that do not
+pub last_goes : (ps : List Text) → but_last (ps ++ [] ∷ []) ≡ Some ps
+last_goes [] = refl
+last_goes (p ∷ []) = refl
+last_goes (p ∷ q ∷ more) = ap (option_map (λ ps. p ∷ ps)) (last_goes (q ∷ more))
+
+pub last_stays : (ps : List Text) (p : Text) → p ≢ [] → but_last (ps ++ p ∷ []) ≡ None
+last_stays [] [] not = absurd (not refl)
+last_stays [] (b ∷ bs) not = refl
+last_stays (q ∷ []) p not = ap (option_map (λ ps. q ∷ ps)) (last_stays [] p not)
+last_stays (q ∷ r ∷ more) p not = ap (option_map (λ ps. q ∷ ps)) (last_stays (r ∷ more) p not)

@@ -1,5 +1,5 @@
--- Connections behind those that were served: still one run.
-use Rattle.std.proofs.Common.{◌≡◌, ◌∙◌, ◌++◌, ◌+◌, ◌⊎◌, ℕ, false, true, List, [], ◌∷◌, length, map, Option, None, Some, arith, inl, inr, refl, sym, ap, ap₂, subst}
+-- Callers behind those that were served: still one run.
+use Rattle.std.proofs.Common.{◌≡◌, ◌∙◌, ◌++◌, ◌+◌, ℕ, false, List, [], ◌∷◌, length, map, Option, None, Some, arith, refl, sym, ap, ap₂, subst}
 use Rattle.std.proofs.lemmas.Grind.{flat_map-append}
 use Rattle.std.proofs.lemmas.List.{append_assoc, append-nil, length-append, map-append}
 use Rattle.std.specs.List.{flat_map}
@@ -17,11 +17,11 @@ use Rattle.reg_service.specs.Looked.{WasTried}
 use Rattle.reg_service.specs.Registries.{Running, limits_of, tables_of}
 use Rattle.reg_service.specs.Sequences.{Ran}
 use Rattle.reg_http.specs.Answering.{GoesOn}
-use Rattle.reg_http.specs.Exchanges.{Exchange, answers_in, events_in, steps_in}
-use Rattle.reg_http.specs.Streams.{HasRun, trail_in}
 use Rattle.reg_http.specs.Trails.{Tail, Trails}
 use Rattle.reg_http.proofs.Trails.{trails_both, trails_nothing}
+use Rattle.reg_cli_run.specs.declared.door.Caller.{Caller}
 use Rattle.reg_cli_run.specs.Visits.{AreVisited, IsVisited, Logs, Passing, ServesAll, ServesThenTries, ServesVisit, ServesVisits, Visit, passings}
+use Rattle.reg_cli_run.specs.Steps.{Step, answers_of, events_of}
 use Rattle.reg_cli_run.specs.Visits.Passing.{Came, Missed, Went}
 
 -- what passed, and then more
@@ -35,18 +35,15 @@ logs_nothing : (a : Option (List Passing)) → Logs a a []
 logs_nothing None = tt
 logs_nothing (Some a) = sym (append-nil a)
 
-visited_then : (limits : Limits) (vs ws : List (Option Visit)) (xs ys : List Exchange) → AreVisited limits vs xs → AreVisited limits ws ys → AreVisited limits (vs ++ ws) (xs ++ ys)
+visited_then : (limits : Limits) (vs ws : List (Option Visit)) (xs ys : List Step) → AreVisited limits vs xs → AreVisited limits ws ys → AreVisited limits (vs ++ ws) (xs ++ ys)
 visited_then limits [] ws xs ys is rest = subst (λ l. AreVisited limits ws (l ++ ys)) (sym is) rest
 visited_then limits (v ∷ vs) ws xs ys (mine, others, all, it, more) rest = (mine, others ++ ys, ap (λ l. l ++ ys) all ∙ append_assoc mine others ys, it, visited_then limits vs ws others ys more rest)
 
-steps_then : (limits : Limits) (xs ys : List Exchange) → steps_in limits (xs ++ ys) ≡ steps_in limits xs ++ steps_in limits ys
-steps_then limits xs ys = flat_map-append _ xs ys
+events_then : (xs ys : List Step) → events_of (xs ++ ys) ≡ events_of xs ++ events_of ys
+events_then xs ys = map-append (λ p. p.0) xs ys
 
-events_then : (limits : Limits) (xs ys : List Exchange) → events_in limits (xs ++ ys) ≡ events_in limits xs ++ events_in limits ys
-events_then limits xs ys = ap (map (λ p. p.0)) (steps_then limits xs ys) ∙ map-append _ (steps_in limits xs) (steps_in limits ys)
-
-answers_then : (limits : Limits) (xs ys : List Exchange) → answers_in limits (xs ++ ys) ≡ answers_in limits xs ++ answers_in limits ys
-answers_then limits xs ys = ap (map (λ p. p.1)) (steps_then limits xs ys) ∙ map-append _ (steps_in limits xs) (steps_in limits ys)
+answers_then : (xs ys : List Step) → answers_of (xs ++ ys) ≡ answers_of xs ++ answers_of ys
+answers_then xs ys = map-append (λ p. p.1) xs ys
 
 -- a run without events
 abbrev pub Begins : {S : Type 0} → Ghosts S → Type 0
@@ -59,7 +56,7 @@ pub record Joins {S : Type 0} (g : Ghosts S) : Type 0 where
 
 module _ {S : Type 0} (g : Ghosts S) where
   all_nothing : Begins g → (limits : Limits) (s : Registry) (t : Tables S) (k : Tail) (vs : List (Option Visit)) → AreVisited limits vs [] → StandsIn s (shown g t) → ServesAll g limits s t t k k vs
-  all_nothing begins limits s t k vs visited h = record { exchanges = []; run = (s, begins limits s t h); visited = visited; told = trails_nothing k }
+  all_nothing begins limits s t k vs visited h = record { steps = []; after = s; run = begins limits s t h; said = visited; told = trails_nothing k }
 
   goes_nowhere : (old : Running S) → GoesOn g old old
   goes_nowhere old = record { clean = λ clean. clean; limits = refl }
@@ -84,15 +81,15 @@ module _ {S : Type 0} (g : Ghosts S) where
     keeps = goes_nowhere old;
   }
 
-  -- a connection was served
-  pub visit_served : (came before : Option Text) (log0 log1 log2 : Option (List Passing)) (old new : Running S) (k0 k1 : Tail) → Logs log0 log1 (Came came before ∷ []) → ServesVisit g came before log1 log2 old new k0 k1 → ServesVisits g 1 log0 log2 old new k0 k1
-  visit_served came before log0 log1 log2 old new k0 k1 logs v = record {
-    visits = Some (record { came = came; left = v.left; before = before; after = v.after }) ∷ [];
+  -- a caller was served
+  pub visit_served : (caller : Caller) (came before : Option Text) (log0 log1 log2 : Option (List Passing)) (old new : Running S) (k0 k1 : Tail) → Logs log0 log1 (Came caller came before ∷ []) → ServesVisit g caller came before log1 log2 old new k0 k1 → ServesVisits g 1 log0 log2 old new k0 k1
+  visit_served caller came before log0 log1 log2 old new k0 k1 logs v = record {
+    visits = Some (record { caller = caller; came = came; left = v.left; before = before; after = v.after; failed_reads = v.failed_reads; failed_writes = v.failed_writes }) ∷ [];
     count = refl;
-    logged = logs_then log0 log1 log2 (Came came before ∷ []) (Went v.left v.after ∷ []) logs v.logged;
+    logged = logs_then log0 log1 log2 (Came caller came before ∷ []) (Went v.left v.after v.failed_reads v.failed_writes ∷ []) logs v.logged;
     serves = λ clean s h.
-        let (xs, run, served, told) = v.serves clean s h in
-        record { exchanges = xs; run = run; visited = (xs, [], sym (append-nil xs), (v.result, v.lent, served), refl); told = told };
+        let it = v.serves clean s h in
+        record { steps = it.steps; after = it.after; run = it.run; said = (it.steps, [], sym (append-nil it.steps), it.said, refl); told = it.told };
     keeps = v.keeps;
   }
 
@@ -110,20 +107,21 @@ module _ {S : Type 0} (g : Ghosts S) where
       serves clean s h =
           let limits = limits_of old in
           let one = a.serves (b.keeps.clean clean) s h in
-          let t = one.run.0 in
-          let two = subst (λ l. ServesAll g l t (tables_of mid) (tables_of new) k1 k2 b.visits) a.keeps.limits (b.serves clean t one.run.1.shows) in
-          let es = events_in limits one.exchanges in
-          let fs = events_in limits two.exchanges in
-          let xs = answers_in limits one.exchanges in
-          let ys = answers_in limits two.exchanges in
-          let ran = laws.join limits s t two.run.0 (tables_of old) (tables_of mid) (tables_of new) es fs xs ys one.run.1 two.run.1 in
-          let these = sym (events_then limits one.exchanges two.exchanges) in
-          let those = sym (answers_then limits one.exchanges two.exchanges) in
+          let t = one.after in
+          let two = subst (λ l. ServesAll g l t (tables_of mid) (tables_of new) k1 k2 b.visits) a.keeps.limits (b.serves clean t one.run.shows) in
+          let es = events_of one.steps in
+          let fs = events_of two.steps in
+          let xs = answers_of one.steps in
+          let ys = answers_of two.steps in
+          let ran = laws.join limits s t two.after (tables_of old) (tables_of mid) (tables_of new) es fs xs ys one.run two.run in
+          let these = sym (events_then one.steps two.steps) in
+          let those = sym (answers_then one.steps two.steps) in
           record {
-            exchanges = one.exchanges ++ two.exchanges;
-            run = (two.run.0, subst (λ e. Ran g limits s (tables_of old) e (answers_in limits (one.exchanges ++ two.exchanges)) two.run.0 (tables_of new)) these (subst (λ x. Ran g limits s (tables_of old) (es ++ fs) x two.run.0 (tables_of new)) those ran));
-            visited = visited_then limits a.visits b.visits one.exchanges two.exchanges one.visited two.visited;
-            told = subst (Trails k0 k2) (sym (ap₂ (trail limits s) (events_then limits one.exchanges two.exchanges) (answers_then limits one.exchanges two.exchanges) ∙ laws.tells limits s t es fs xs ys one.run.1.run)) (trails_both k0 k1 k2 (trail_in limits s one.exchanges) (trail_in limits t two.exchanges) one.told two.told);
+            steps = one.steps ++ two.steps;
+            after = two.after;
+            run = subst (λ e. Ran g limits s (tables_of old) e (answers_of (one.steps ++ two.steps)) two.after (tables_of new)) these (subst (λ x. Ran g limits s (tables_of old) (es ++ fs) x two.after (tables_of new)) those ran);
+            said = visited_then limits a.visits b.visits one.steps two.steps one.said two.said;
+            told = subst (Trails k0 k2) (sym (ap₂ (trail limits s) (events_then one.steps two.steps) (answers_then one.steps two.steps) ∙ laws.tells limits s t es fs xs ys one.run.run)) (trails_both k0 k1 k2 (trail limits s es xs) (trail limits t fs ys) one.told two.told);
           }
 
   -- and then it was tried whether the store answers
@@ -146,9 +144,10 @@ module _ {S : Type 0} (g : Ghosts S) where
         let all = it.visits.serves (it.tried.clean clean) s h in
         let limits = limits_of old in
         record {
-          exchanges = all.exchanges;
-          run = (all.run.0, law limits s (tables_of old) (events_in limits all.exchanges) (answers_in limits all.exchanges) all.run.0 (tables_of it.last) (tables_of new) all.run.1 it.tried clean goes_on);
-          visited = all.visited;
+          steps = all.steps;
+          after = all.after;
+          run = law limits s (tables_of old) (events_of all.steps) (answers_of all.steps) all.after (tables_of it.last) (tables_of new) all.run it.tried clean goes_on;
+          said = all.said;
           told = all.told;
         };
     keeps = record { clean = λ clean. it.visits.keeps.clean (it.tried.clean clean); limits = it.limits ∙ it.visits.keeps.limits };

@@ -9,5 +9,6 @@ pub mod Piped
 pub mod Printing
 pub mod Services
 pub mod Setups
+pub mod Steps
 pub mod Tokens
 pub mod Visits

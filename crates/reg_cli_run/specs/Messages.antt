@@ -1,23 +1,25 @@
 -- What a message of the administrator asks for, and what is replied to it.
-use Rattle.std.specs.Prelude.{◌≡◌, ◌⊎◌, ◌==◌, ◌&&◌, ◌+◌, ◌≤◌, ◌<◌, ◌++◌, ℕ, Bool, true, false, List, [], ◌∷◌, codes, decimal, length, if◌then◌else◌, Option, Some, None, option_and_then, option_map, Result, Ok, Err}
+use Rattle.std.specs.Prelude.{◌≡◌, ◌⊎◌, ◌==◌, ◌+◌, ◌≤◌, ◌<◌, ◌++◌, ℕ, Bool, true, false, List, [], ◌∷◌, codes, decimal, length, if◌then◌else◌, Option, Some, None, option_and_then, option_map, Result, Ok, Err}
 use Rattle.std.specs.List.{list_any, slice_split}
 use Rattle.std.specs.Str.{bytes_eq, is_utf8}
 use Rattle.std.specs.Io.KnownBytes.{Consumes, IsAtEnd}
 use Rattle.clap.specs.Words.{Row, first_of, subcommand_rows_of}
 use Rattle.clap.specs.declared.parser.matches.ArgMatches.{ArgMatches}
+use Rattle.sqlite.specs.State.{HasCleanDisk}
 use Rattle.sqlite_trees.specs.declared.store.Store.{Ghosts}
 use Rattle.reg_body.specs.declared.limits.Limits.{Limits}
-use Rattle.reg_body.specs.declared.bytes.SendFault.{SendFault}
-use Rattle.reg_body.specs.Sent.{Sends}
 use Rattle.reg_model.specs.declared.rule.AdminRefusal.{AdminRefusal}
-use Rattle.reg_model.specs.Events.{Answer, Command, Event}
+use Rattle.reg_model.specs.Events.{Command}
 use Rattle.reg_model.specs.Events.Event.{Order}
+use Rattle.reg_model.specs.Registry as model
 use Rattle.reg_model.specs.Registry.{Text}
 use Rattle.reg_policy.specs.Events.{reply_of}
 use Rattle.reg_policy.specs.Words.{admin_text_of}
 use Rattle.reg_policy.specs.declared.event.AdminReply.{AdminReply}
+use Rattle.reg_service.specs.Answered.{StandsIn}
 use Rattle.reg_service.specs.Registries.{Running, limits_of, tables_of}
 use Rattle.reg_tables.specs.declared.tables.Tables.{Tables}
+use Rattle.reg_tables.specs.Works.{shown}
 use Rattle.reg_http.specs.Answering.{GoesOn}
 use Rattle.reg_http.specs.Trails.{IsTrailed, Tail, TrailEnd, tail}
 use Rattle.reg_cli_args.specs.Dashes.{is_dashed}
@@ -25,8 +27,9 @@ use Rattle.reg_cli_args.specs.Grammar.{message_app}
 use Rattle.reg_cli_args.specs.Orders.{report_command}
 use Rattle.reg_cli_run.specs.Exits.{refusal_status}
 use Rattle.reg_cli_run.specs.LineOrders.{order_of, reading_by}
-use Rattle.reg_cli_run.specs.Printing.{most_calls, told}
+use Rattle.reg_cli_run.specs.Printing.{told}
 use Rattle.reg_cli_run.specs.Setups.{IsObeyed}
+use Rattle.reg_cli_run.specs.Steps.{RunsTold, Step}
 use Rattle.reg_cli_run.specs.declared.message.MessageReply.{MessageReply}
 use Rattle.reg_cli_run.specs.declared.message.MessageReply.TheVariants.{Paused, Said}
 use Rattle.reg_cli_run.specs.declared.ordering.OrderFault.{OrderFault}
@@ -36,15 +39,15 @@ use Rattle.reg_cli_run.specs.declared.ordering.OrderFault.TheVariants.{Memory, R
 abbrev pub most_bytes : ℕ
 most_bytes = 65536
 
--- what stands before each end; the last end is the end of all
-abbrev pub cons_if : Text → Option (List Text) → Option (List Text)
-cons_if p more = option_map (λ ps. p ∷ ps) more
+-- the pieces before the last, which has to be empty
+abbrev pub if_empty : Text → Option (List Text)
+if_empty [] = Some []
+if_empty (b ∷ bs) = None
 
 abbrev pub but_last : List Text → Option (List Text)
 but_last [] = None
-but_last ([] ∷ []) = Some []
-but_last ((b ∷ bs) ∷ []) = None
-but_last (p ∷ q ∷ more) = cons_if p (but_last (q ∷ more))
+but_last (p ∷ []) = if_empty p
+but_last (p ∷ q ∷ more) = option_map (λ ps. p ∷ ps) (but_last (q ∷ more))
 
 -- the arguments in a message: texts, each ended by a zero byte
 unfoldable pub arguments_in : Text → Option (List Text)
@@ -90,18 +93,18 @@ IsUnargued words (Refused r) = ⊥
 IsUnargued words Unreadable = words ≡ None
 IsUnargued words Memory = Unit {0}
 
--- what was read of a message: all, to its end; or more than a message has; or a call failed
-abbrev pub EndsReading : Text → Option Text → ℕ → ℕ → Result Text OrderFault → Type 0
-EndsReading read left failed0 failed1 (Ok bytes) =
-    (bytes ≡ read) × IsAtEnd left × (length read ≤ most_bytes) × (failed1 ≡ failed0)
-EndsReading read left failed0 failed1 (Err Unreadable) =
-    (most_bytes < length read) ⊎ (failed1 ≡ failed0 + 1)
-EndsReading read left failed0 failed1 (Err Memory) = Unit {0}
-EndsReading read left failed0 failed1 (Err (Refused r)) = ⊥
+-- this is a message, read to its end without a fault
+pub record IsMessage (read : Text) (left : Option Text) (failed0 failed1 : ℕ) : Type 0 where
+  pub ended : IsAtEnd left
+  pub fits : length read ≤ most_bytes
+  pub none_failed : failed1 ≡ failed0
 
-abbrev pub ReadsMessage : Option Text → Option Text → ℕ → ℕ → Result Text OrderFault → Type 0
-ReadsMessage came left failed0 failed1 result = (read : Text) × Consumes came left read
-    × EndsReading read left failed0 failed1 result
+-- why it was not read whole: there is more than a message has, or a call failed, or memory was
+-- refused
+abbrev pub IsCut : Text → ℕ → ℕ → OrderFault → Type 0
+IsCut read failed0 failed1 Unreadable = (most_bytes < length read) ⊎ (failed1 ≡ failed0 + 1)
+IsCut read failed0 failed1 Memory = Unit {0}
+IsCut read failed0 failed1 (Refused r) = ⊥
 
 -- what a message came to: the server pauses; or its command was done or refused; or it has none; or
 -- memory was refused
@@ -158,8 +161,28 @@ reply_to (Err Unreadable) = unreadable_text
 reply_to (Err Memory) = memory_text
 
 -- what a message that was read comes to: the steps of the registry, and the reply
-abbrev pub IsReplied : Option Wanted → List (Event × Answer) → Text → Type 0
+abbrev pub IsReplied : Option Wanted → List Step → Text → Type 0
 IsReplied None steps text = (steps ≡ []) × (text ≡ unreadable_text)
 IsReplied (Some Pause) steps text = (steps ≡ []) × (text ≡ paused_text)
 IsReplied (Some (Ordered c)) steps text = (reply : Result AdminReply AdminRefusal)
     × (steps ≡ (Order c, reply_of reply) ∷ []) × (text ≡ reply_text reply)
+
+-- what a message came to: what it asks for; or nothing, where it is too long or could not be read;
+-- or nothing for want of memory
+abbrev pub IsHeard : Text → Option Text → ℕ → Text → List Step → Type 0
+IsHeard read left failed text steps =
+    (IsMessage read left 0 failed × IsReplied (wanted_in read) steps text)
+    ⊎ ((((most_bytes < length read) ⊎ (failed ≡ 1)) × (steps ≡ []) × (text ≡ unreadable_text))
+    ⊎ ((steps ≡ []) × (text ≡ memory_text)))
+
+-- A message was read of these bytes, and it is so, whatever registry was held: its reply is that of
+-- a run.
+pub record Hears {S : Type 0} (g : Ghosts S) (came left : Option Text) (failed : ℕ)
+    (old new : Running S) (k0 k1 : Tail) (text : Text) : Type 0 where
+  pub read : Text
+  pub reads : Consumes came left read
+  pub heard : HasCleanDisk (shown g (tables_of new)) → (s : model.Registry)
+      → StandsIn s (shown g (tables_of old))
+      → RunsTold g (limits_of old) s (tables_of old) (tables_of new) k0 k1
+      (IsHeard read left failed text)
+  pub keeps : GoesOn g old new

@@ -1,6 +1,6 @@
 -- Callers that came to a door one after another, and the one run that they were served.
-use Rattle.std.specs.Prelude.{◌≡◌, ◌⊎◌, ◌≤◌, ◌<◌, ◌++◌, ℕ, true, List, [], ◌∷◌, length, map, Option, None, Some, Result}
-use Rattle.std.specs.Io.KnownBytes.{Consumes, IsAtEnd}
+use Rattle.std.specs.Prelude.{◌≡◌, ◌⊎◌, ◌++◌, ℕ, true, List, [], ◌∷◌, length, Option, None, Some, Result}
+use Rattle.std.specs.Io.KnownBytes.{Consumes}
 use Rattle.std.specs.List.{flat_map}
 use Rattle.sqlite.specs.State.{HasCleanDisk}
 use Rattle.sqlite_trees.specs.declared.store.Store.{Ghosts}
@@ -8,9 +8,7 @@ use Rattle.reg_body.specs.declared.bytes.SendFault.{SendFault}
 use Rattle.reg_body.specs.declared.limits.Limits.{Limits}
 use Rattle.reg_body.specs.Sent.{Sends}
 use Rattle.reg_model.specs.Registry as model
-use Rattle.reg_model.specs.Events.{Answer, Event}
 use Rattle.reg_model.specs.Registry.{Text}
-use Rattle.reg_model.specs.Trail.{trail}
 use Rattle.reg_http_read.specs.Turns.{SpendsTurns}
 use Rattle.reg_http_read.specs.declared.fault.StreamFault.{StreamFault}
 use Rattle.reg_tables.specs.declared.tables.Tables.{Tables}
@@ -18,15 +16,15 @@ use Rattle.reg_tables.specs.Works.{is_stopped, shown}
 use Rattle.reg_service.specs.Answered.{StandsIn}
 use Rattle.reg_service.specs.Looked.{WasTried}
 use Rattle.reg_service.specs.Registries.{Running, limits_of, tables_of}
-use Rattle.reg_service.specs.Sequences.{Ran}
 use Rattle.reg_http.specs.Answering.{GoesOn}
 use Rattle.reg_http.specs.Exchanges.{Exchange, steps_in}
 use Rattle.reg_http.specs.Streams.{AreServed}
-use Rattle.reg_http.specs.Trails.{Tail, Trails}
+use Rattle.reg_http.specs.Trails.{Tail}
 use Rattle.reg_cli_run.specs.declared.door.Caller.{Caller}
 use Rattle.reg_cli_run.specs.declared.door.Caller.TheVariants.{Admin, Client}
-use Rattle.reg_cli_run.specs.Messages.{IsReplied, memory_text, most_bytes, unreadable_text, wanted_in}
+use Rattle.reg_cli_run.specs.Messages.{IsHeard}
 use Rattle.reg_cli_run.specs.Printing.{most_calls}
+use Rattle.reg_cli_run.specs.Steps.{RunsTold, Step}
 
 -- what happens at a door: a caller comes, of this to read, and this written to it; it goes, of this
 -- left to read, and this written, after so many reads and writes that failed; or it had hung up
@@ -65,16 +63,6 @@ Logs None new more = Unit {0}
 Logs (Some old) None more = ⊥
 Logs (Some old) (Some new) more = new ≡ old ++ more
 
--- a step of a registry: a request or a command, and its answer
-abbrev pub Step : Type 0
-Step = Event × Answer
-
-abbrev pub events_of : List Step → List Event
-events_of steps = map (λ p. p.0) steps
-
-abbrev pub answers_of : List Step → List Answer
-answers_of steps = map (λ p. p.1) steps
-
 -- the calls of a client's ends, of which so many failed, by the turns of its stream
 abbrev pub SpendsFailing : ℕ → ℕ → ℕ → Result ℕ StreamFault → Type 0
 SpendsFailing turns failed_reads failed_writes result = (left reads writes : ℕ)
@@ -101,22 +89,12 @@ IsReplySent text v = (sent : Result ℕ SendFault) × (calls : ℕ) × Sends sen
     (record { contents = v.before; calls = 0; failures = 0 })
     (record { contents = v.after; calls = calls; failures = v.failed_writes })
 
--- what a message came to: what its command does; or nothing, where it is too long or could not be
--- read; or nothing for want of memory
-abbrev pub IsHeard : Text → Visit → List Step → Text → Type 0
-IsHeard read v steps text =
-    (IsAtEnd v.left × (length read ≤ most_bytes) × (v.failed_reads ≡ 0)
-    × IsReplied (wanted_in read) steps text)
-    ⊎ ((((most_bytes < length read) ⊎ (v.failed_reads ≡ 1)) × (steps ≡ [])
-    × (text ≡ unreadable_text))
-    ⊎ ((steps ≡ []) × (text ≡ memory_text)))
-
 -- the administrator: what was written is the reply to the message that was read
 pub record IsServedAdmin (v : Visit) (steps : List Step) : Type 0 where
   pub read : Text
   pub reads : Consumes v.came v.left read
   pub text : Text
-  pub heard : IsHeard read v steps text
+  pub heard : IsHeard read v.left v.failed_reads text steps
   pub sent : IsReplySent text v
 
 abbrev pub IsServedAs : Caller → Limits → Visit → List Step → Type 0
@@ -132,16 +110,6 @@ abbrev pub AreVisited : Limits → List (Option Visit) → List Step → Type 0
 AreVisited limits [] steps = steps ≡ []
 AreVisited limits (v ∷ vs) steps = (mine : List Step) × (others : List Step)
     × (steps ≡ mine ++ others) × IsVisited limits v mine × AreVisited limits vs others
-
--- The steps are one run of the registry, which holds its end, and its trail is told. So much is
--- said of them.
-pub record RunsTold {S : Type 0} (g : Ghosts S) (limits : Limits) (s : model.Registry)
-    (entry now : Tables S) (k0 k1 : Tail) (Said : List Step → Type 0) : Type 0 where
-  pub steps : List Step
-  pub after : model.Registry
-  pub run : Ran g limits s entry (events_of steps) (answers_of steps) after now
-  pub said : Said steps
-  pub told : Trails k0 k1 (trail limits s (events_of steps) (answers_of steps))
 
 -- the steps of all callers are one run of the registry, and its trail is told
 abbrev pub ServesAll : {S : Type 0} → Ghosts S → Limits → model.Registry → Tables S → Tables S

@@ -11,7 +11,8 @@ ghost use Rattle.reg_cli_run.specs.Marking.{IsMarked};
 ghost use Rattle.reg_cli_run.specs.Visits.{IsServedSo, ServesThenTries, ServesVisit};
 
 use crate::door::{Caller, Door};
-use crate::message::{MessageReply, answer_message, read_bytes, send_reply};
+use crate::message::{MessageReply, hear_message, send_reply};
+use crate::ordering::OrderFault;
 use reg_body::Counted;
 use reg_cli_line::Exit;
 use reg_http::{Server, Trail};
@@ -45,8 +46,22 @@ fn serve_connection<S: Alter, T: Write, D: Door>(
     door.leave(reader, writer);
 }
 
-/// Reads a message, does what it asks for, tells what it changed, and replies. After a reply that
-/// the server pauses, it does until the sender goes.
+/// Waits until the caller goes, if the reply was that the server pauses.
+fn hold_if_paused<D: Door>(
+    rt: &HostRuntime,
+    door: &mut D,
+    reader: &D::Reader,
+    reply: &Result<MessageReply, OrderFault>,
+)
+    ensures counts { D.accepted door.new ≡ D.accepted door.old }
+    ensures stays { D.log door.new ≡ D.log door.old }
+{
+    if matches!(reply, Ok(MessageReply::Paused)) {
+        door.hold(rt, reader);
+    }
+}
+
+/// Serves one message: reads it, does what it asks for, tells what it changed, and replies.
 fn serve_message<S: Alter, T: Write, D: Door>(
     rt: &HostRuntime,
     registry: &mut Registry<S>,
@@ -61,19 +76,11 @@ fn serve_message<S: Alter, T: Write, D: Door>(
         (tail (T.contents trail.old.end.inner) trail.old)
         (tail (T.contents trail.new.end.inner) trail.new) }
 {
-    history_law::<S>();
-    telling_law();
-    let alloc = rt.alloc();
     let mut reader = Counted::new(reader);
     let mut writer = Counted::new(writer);
-    let reply = match read_bytes(alloc, &mut reader) {
-        Ok(bytes) => answer_message(alloc, registry, trail, &bytes),
-        Err(fault) => Err(fault),
-    };
+    let reply = hear_message(rt.alloc(), registry, trail, &mut reader);
     let _ = send_reply(&mut writer, &reply);
-    if matches!(reply, Ok(MessageReply::Paused)) {
-        door.hold(rt, reader.inner());
-    }
+    hold_if_paused(rt, door, reader.inner(), &reply);
     door.leave(reader, writer);
 }
 

@@ -1,10 +1,10 @@
 //! Messages of the administrator: each is a command with its arguments, and gets one reply.
 
-ghost use Rattle.std.specs.Prelude.{◌≡◌, ◌+◌, ◌^◌, ◌<◌, ◌++◌, IfErr, IfOk, codes, map};
-ghost use Rattle.std.specs.Vec.{items_of};
+ghost use Rattle.std.specs.Prelude.{◌≡◌, ◌+◌, ◌^◌, ◌<◌, ◌++◌, IfErr, IfOk, MatchResult, Some, map, vec_len};
+ghost use Rattle.std.specs.Io.KnownBytes.{Consumes};
 ghost use Rattle.reg_body.specs.Sent.{Sends, sink};
-ghost use Rattle.reg_cli_run.specs.LineOrders.{IsUnread};
-ghost use Rattle.reg_cli_run.specs.Messages.{AnswersMessage, IsUnargued, ReadsMessage, arguments_in, asked_in, is_pause, message_order, reply_to, said, status_line};
+ghost use Rattle.reg_http.specs.Trails.{tail};
+ghost use Rattle.reg_cli_run.specs.Messages.{AnswersMessage, Hears, IsCut, IsMessage, IsUnargued, arguments_in, asked_in, is_pause, message_order, reply_to, said, status_line};
 ghost use Rattle.reg_cli_run.specs.Printing.{most_calls};
 ghost use Rattle.reg_cli_run.specs.Setups.{ObeysOrder};
 
@@ -17,15 +17,17 @@ use reg_api_replies::laws::joined_law;
 use reg_body::{Counted, SendFault, write_bytes};
 use reg_cli_args::{read_message, read_report};
 use reg_http::Trail;
+use reg_model::laws::telling_law;
 use reg_policy::AdminReply;
 use reg_service::Registry;
+use reg_service::laws::history_law;
 use sqlite::Alter;
 use std::alloc::{AllocError, Global};
 use std::io::{Read, Write};
 use std::str::from_utf8;
 
 /// How many bytes a message has at most.
-pub const MOST: usize = 65_536;
+const MOST: usize = 65_536;
 
 /// How many bytes one read asks for.
 const CHUNK: usize = 4096;
@@ -40,19 +42,21 @@ pub(crate) enum MessageReply {
 
 /// A buffer for one read.
 fn chunk_of(alloc: Global) -> Result<Vec<u8>, AllocError>
-    ensures { IfOk result (λ chunk. 0 < length chunk.items) }
+    ensures { IfOk result (λ chunk. vec_len chunk ≡ CHUNK) }
 {
     vec![in alloc; 0; CHUNK]
 }
 
 /// Reads a message: all that there is, if that is no more than a message may have.
-pub(crate) fn read_bytes<R: Read>(
+fn read_bytes<R: Read>(
     alloc: Global,
     reader: &mut Counted<R>,
 ) -> Result<Vec<u8>, OrderFault>
     requires { reader.old.calls + MOST + 1 < 2 ^ 64 }
-    ensures { ReadsMessage (R.remaining reader.old.inner) (R.remaining reader.new.inner)
-        reader.old.failures reader.new.failures (result_map items_of result) }
+    ensures { (read : _) × Consumes (R.remaining reader.old.inner) (R.remaining reader.new.inner) read
+        × MatchResult result (λ bytes. (bytes.items ≡ read) × IsMessage read
+        (R.remaining reader.new.inner) reader.old.failures reader.new.failures)
+        (IsCut read reader.old.failures reader.new.failures) }
 {
     let mut chunk = chunk_of(alloc)?;
     let mut bytes = Vec::new(alloc);
@@ -78,10 +82,13 @@ fn arguments_of<'a>(alloc: Global, bytes: &'a [u8]) -> Result<Vec<&'a str>, Orde
         return Err(OrderFault::Unreadable);
     };
     let mut words: Vec<&'a str> = text.split('\0').collect(alloc)?;
-    match words.pop() {
-        Some("") => Ok(words),
-        _ => Err(OrderFault::Unreadable),
+    let Some(last) = words.pop() else {
+        return Err(OrderFault::Unreadable);
+    };
+    if last.is_empty() {
+        return Ok(words);
     }
+    Err(OrderFault::Unreadable)
 }
 
 /// Whether the arguments ask the server to pause.
@@ -130,7 +137,7 @@ fn obey_words<T: Write, S: Alter>(
 }
 
 /// Does what a message asks for, and tells what it changed.
-pub(crate) fn answer_message<T: Write, S: Alter>(
+fn answer_message<T: Write, S: Alter>(
     alloc: Global,
     registry: &mut Registry<S>,
     trail: &mut Trail<T>,
@@ -144,6 +151,26 @@ pub(crate) fn answer_message<T: Write, S: Alter>(
         return Ok(MessageReply::Paused);
     }
     Ok(MessageReply::Said(obey_words(alloc, registry, trail, &words)?))
+}
+
+/// Reads a message, does what it asks for, and tells what it changed.
+pub(crate) fn hear_message<T: Write, S: Alter, R: Read>(
+    alloc: Global,
+    registry: &mut Registry<S>,
+    trail: &mut Trail<T>,
+    reader: &mut Counted<R>,
+) -> Result<MessageReply, OrderFault>
+    requires room { reader.old.calls + MOST + 1 < 2 ^ 64 }
+    requires fresh { reader.old.failures ≡ 0 }
+    ensures { Hears S.Store (R.remaining reader.old.inner) (R.remaining reader.new.inner)
+        reader.new.failures registry.old registry.new
+        (tail (T.contents trail.old.end.inner) trail.old)
+        (tail (T.contents trail.new.end.inner) trail.new) (reply_to result) }
+{
+    history_law::<S>();
+    telling_law();
+    let bytes = read_bytes(alloc, reader)?;
+    answer_message(alloc, registry, trail, &bytes)
 }
 
 /// Sends two texts, one after the other.

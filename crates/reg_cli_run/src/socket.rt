@@ -41,6 +41,7 @@ pub(crate) struct Socket {
 }
 
 /// What one accept, which does not wait, came to.
+#[derive(Drop)]
 enum Tried<T> {
     Came(T),
     Nobody,
@@ -49,7 +50,7 @@ enum Tried<T> {
     Failed,
 }
 
-fn tried<T, A>(accepted: io::Result<(T, A)>) -> Tried<T> {
+fn tried<T: Drop, A: Drop>(accepted: io::Result<(T, A)>) -> Tried<T> {
     match accepted {
         Ok((stream, _)) => Tried::Came(stream),
         Err(error) => match error.kind() {

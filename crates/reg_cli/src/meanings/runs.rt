@@ -139,8 +139,8 @@ pub(crate) const WORDS: [Meaning; 11] = [
                have no second name.\n\
                If the file is gone or empty and its log is not, put the file back beside \
                its log.\n\
-               With `--random`, `--setup` or `export` it may be that file or folder; else \
-               restore a backup.\n",
+               With `--random`, `--setup` or `export` it may be that file or folder; with `--at` \
+               no server listens there, or its reply did not come; else restore a backup.\n",
     },
     Meaning {
         subject: Subject::Words("bad words"),
