@@ -3,13 +3,15 @@
 _registry_cli_options() {
     case $1 in
         init) echo --base --db --help ;;
-        serve) echo --port --connections --replies --trail --db --help ;;
+        serve) echo --port --connections --replies --trail --admin --db --help ;;
+        pause) echo --at --help ;;
+        export | audit) echo --db --help ;;
         pipe) echo --db --memory --base --setup --help ;;
-        user-add) echo --name --db --help ;;
-        token-add) echo --endpoints --patterns --random --digest --db --help ;;
+        user-add) echo --name --db --at --help ;;
+        token-add) echo --endpoints --patterns --random --digest --db --at --help ;;
         line | explain) echo --help ;;
         help) ;;
-        *) echo --db --help ;;
+        *) echo --db --at --help ;;
     esac
 }
 
@@ -26,7 +28,7 @@ _registry_cli_endpoints() {
 }
 
 _registry_cli() {
-    local commands='init serve pipe export audit line user-add token-add user-disable user-enable
+    local commands='init serve pause pipe export audit line user-add token-add user-disable user-enable
         token-revoke reserve unreserve owner-add crate-restrict crate-open reader-add reader-remove
         users tokens crates access explain help'
     local current=${COMP_WORDS[COMP_CWORD]} before=${COMP_WORDS[COMP_CWORD - 1]}
@@ -37,7 +39,7 @@ _registry_cli() {
         return
     fi
     case $before in
-        --db | --setup | --random)
+        --db | --at | --admin | --setup | --random)
             compopt -o filenames 2> /dev/null
             mapfile -t COMPREPLY < <(compgen -f -- "$current")
             return
