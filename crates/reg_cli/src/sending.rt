@@ -181,23 +181,32 @@ fn end_refused(rt: &HostRuntime, status: u8, text: &[u8]) -> Exit {
     }
 }
 
-/// Prints what was replied to a command that was done; the number of a new token with its text.
-fn end_done(rt: &HostRuntime, text: &[u8], token: Option<&TokenText>) -> Exit {
-    let mut w = Counted::new(io::writer(rt));
-    let Some(token) = token else {
-        return print_to(&mut w, text);
-    };
-    let Some((_, number)) = text.split_last() else {
+/// Prints some bytes.
+fn print_bytes(rt: &HostRuntime, bytes: &[u8]) -> Exit {
+    print_to(&mut Counted::new(io::writer(rt)), bytes)
+}
+
+/// Prints the number of a new token, which a line feed ends, and its text.
+fn end_token(rt: &HostRuntime, line: &[u8], token: &TokenText) -> Exit {
+    let Some((_, number)) = line.split_last() else {
         return broken(rt);
     };
     let parts: [&[u8]; 4] = [number, b" ", token.as_slice(), b"\n"];
     for part in parts {
-        let exit = print_to(&mut w, part);
+        let exit = print_bytes(rt, part);
         if exit != Exit::DONE {
             return exit;
         }
     }
     Exit::DONE
+}
+
+/// Prints what was replied to a command that was done; the number of a new token with its text.
+fn end_done(rt: &HostRuntime, text: &[u8], token: Option<&TokenText>) -> Exit {
+    match token {
+        Some(token) => end_token(rt, text, token),
+        None => print_bytes(rt, text),
+    }
 }
 
 /// Ends as the server replied.
