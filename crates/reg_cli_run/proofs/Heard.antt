@@ -48,16 +48,16 @@ module _ {S : Type 0} (g : Ghosts S) (begins : RunsBegin g) (law : EventsGoOn g)
     -- a message was read, and answered
     pub heard : (new : Tables S) (k1 : Tail) → HasCleanDisk (shown g new) → IsMessage read left 0 failed → (result : Result MessageReply OrderFault) → IsAnswered g limits (wanted_in read) old new k0 k1 result
         → RunsTold g limits s old new k0 k1 (IsHeard read left failed (reply_to result))
-    heard new k1 clean whole (Ok Paused) (wanted, same) =
-        nothing new k1 same (inl (whole, subst (λ w. IsReplied w [] paused_text) (sym wanted) (refl, refl)))
+    heard new k1 clean whole (Ok Paused) (wanted, same, kept) =
+        nothing new k1 (same, kept) (inl (whole, subst (λ w. IsReplied w [] paused_text) (sym wanted) (refl, refl)))
     heard new k1 clean whole (Ok (Said reply)) (ordered, wanted, o) =
         one new k1 clean ordered (reply_of (Ok reply)) o
         (inl (whole, subst (λ w. IsReplied w ((Order o.command, reply_of (Ok reply)) ∷ []) (said reply)) (sym (wanted ∙ ap (option_map Ordered) o.is)) (Ok reply, refl, refl)))
     heard new k1 clean whole (Err (Refused r)) (ordered, wanted, o) =
         one new k1 clean ordered (reply_of (Err r)) o
         (inl (whole, subst (λ w. IsReplied w ((Order o.command, reply_of (Err r)) ∷ []) (refused_text r)) (sym (wanted ∙ ap (option_map Ordered) o.is)) (Err r, refl, refl)))
-    heard new k1 clean whole (Err Unreadable) (none, same) =
-        nothing new k1 same (inl (whole, subst (λ w. IsReplied w [] unreadable_text) (sym none) (refl, refl)))
+    heard new k1 clean whole (Err Unreadable) (none, same, kept) =
+        nothing new k1 (same, kept) (inl (whole, subst (λ w. IsReplied w [] unreadable_text) (sym none) (refl, refl)))
     heard new k1 clean whole (Err Memory) same = nothing new k1 same (inr (inr (refl, refl)))
 
     -- it was not read whole

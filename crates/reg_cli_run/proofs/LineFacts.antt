@@ -3,10 +3,14 @@ use Rattle.std.proofs.Common.{◌≡◌, ◌≢◌, ◌<◌, ◌++◌, ◌∙◌
 use Rattle.std.proofs.Math.ListN.{get_or}
 use Rattle.std.proofs.lemmas.List.{get_or-map, length-map}
 use Rattle.reg_model.specs.Registry.{Text}
-use Rattle.std.proofs.Common.{Option, Some, None}
+use Rattle.std.proofs.Common.{◌==◌, ¬◌, Bool, true, false, Some, None}
+use Rattle.std.specs.Prelude.{if◌then◌else◌}
+use Rattle.std.specs.List.{slice_split}
+use Rattle.std.specs.Str.{IsUtf8, is_utf8}
+use Rattle.std.proofs.lemmas.Str.{IsUtf8-from_is_utf8, is_utf8-from_IsUtf8}
 use Rattle.std.specs.Option.{option_map}
 use Rattle.reg_cli_run.specs.Lines.{but_empty_end}
-use Rattle.reg_cli_run.specs.Messages.{but_last}
+use Rattle.reg_cli_run.specs.Messages.{arguments_in, but_last}
 
 pub end_goes : (ps : List Text) → but_empty_end (ps ++ [] ∷ []) ≡ ps
 end_goes [] = refl
@@ -48,3 +52,23 @@ last_stays [] [] not = absurd (not refl)
 last_stays [] (b ∷ bs) not = refl
 last_stays (q ∷ []) p not = ap (option_map (λ ps. q ∷ ps)) (last_stays [] p not)
 last_stays (q ∷ r ∷ more) p not = ap (option_map (λ ps. q ∷ ps)) (last_stays (r ∷ more) p not)
+
+not_true : (b : Bool) → b ≢ true → b ≡ false
+not_true true not = absurd (not refl)
+not_true false not = refl
+
+-- the bytes of a message are no text
+pub no_text : (bytes : Text) → ¬ (IsUtf8 bytes) → arguments_in bytes ≡ None
+unfolding arguments_in
+no_text bytes not = ap (λ b. if b then but_last (slice_split (λ c. c == 0) bytes) else None) (not_true (is_utf8 bytes) (λ is. not (IsUtf8-from_is_utf8 bytes is)))
+
+-- its last piece is empty, or not
+pub arguments_are : (bytes : Text) (ps : List Text) (p : Text) → IsUtf8 bytes → slice_split (λ c. c == 0) bytes ≡ ps ++ p ∷ [] → p ≡ [] → arguments_in bytes ≡ Some ps
+unfolding arguments_in
+arguments_are bytes ps p text is empty =
+    ap (λ b. if b then but_last (slice_split (λ c. c == 0) bytes) else None) (is_utf8-from_IsUtf8 bytes text) ∙ ap but_last (is ∙ ap (λ e. ps ++ e ∷ []) empty) ∙ last_goes ps
+
+pub no_arguments : (bytes : Text) (ps : List Text) (p : Text) → IsUtf8 bytes → slice_split (λ c. c == 0) bytes ≡ ps ++ p ∷ [] → p ≢ [] → arguments_in bytes ≡ None
+unfolding arguments_in
+no_arguments bytes ps p text is some =
+    ap (λ b. if b then but_last (slice_split (λ c. c == 0) bytes) else None) (is_utf8-from_IsUtf8 bytes text) ∙ ap but_last is ∙ last_stays ps p some

@@ -13,6 +13,7 @@ use Rattle.clap.specs.declared.error.kind.ErrorKind.TheVariants.{OutOfMemory}
 use Rattle.clap.specs.declared.parser.matches.ArgMatches.{ArgMatches}
 use Rattle.clap.specs.declared.parser.matches.ArgMatches.TheViews.{out-ArgMatches}
 use Rattle.clap.proofs.WalkLemmas.{first_value-rows}
+use Rattle.reg_model.specs.Events.{Command}
 use Rattle.reg_model.specs.Registry.{Text}
 use Rattle.reg_cli_args.specs.Orders.{given_by, order_from, ordered_of, report_command}
 use Rattle.reg_cli_args.specs.declared.orders.GivenCommand.{GivenCommand as Read}
@@ -79,7 +80,7 @@ none_both : (b : Bool) (o : Option _) → o ≡ order_of None → (if b then Non
 none_both true o is = refl
 none_both false o is = is
 
-none_either : (b : Bool) (o : Option _) → o ≡ None → (if b then None else o) ≡ None
+none_either : (b : Bool) (o : Option Command) → o ≡ None → (if b then None else o) ≡ None
 none_either true o is = refl
 none_either false o is = is
 

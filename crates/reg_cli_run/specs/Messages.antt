@@ -1,5 +1,5 @@
 -- What a message of the administrator asks for, and what is replied to it.
-use Rattle.std.specs.Prelude.{◌≡◌, ◌⊎◌, ◌==◌, ◌+◌, ◌≤◌, ◌<◌, ◌++◌, ℕ, Bool, true, false, List, [], ◌∷◌, codes, decimal, length, if◌then◌else◌, Option, Some, None, option_and_then, option_map, Result, Ok, Err}
+use Rattle.std.specs.Prelude.{◌≡◌, ◌⊎◌, ◌==◌, ◌+◌, ◌≤◌, ◌<◌, ◌++◌, ℕ, Bool, true, false, List, [], ◌∷◌, codes, length, if◌then◌else◌, Option, Some, None, option_and_then, option_map, Result, Ok, Err}
 use Rattle.std.specs.List.{list_any, slice_split}
 use Rattle.std.specs.Str.{bytes_eq, is_utf8}
 use Rattle.std.specs.Io.KnownBytes.{Consumes, IsAtEnd}
@@ -131,8 +131,8 @@ pub record AnswersMessage {S T : Type 0} (g : Ghosts S) (bytes : Text)
   pub keeps : GoesOn g old new
 
 -- the reply: the exit status, and behind it what the command would print
-unfoldable pub status_line : ℕ → Text
-status_line status = decimal status ++ codes "\n"
+abbrev pub status_line : ℕ → Text
+status_line status = (48 + status) ∷ 10 ∷ []
 
 abbrev pub said : AdminReply → Text
 said reply = status_line 0 ++ told reply None

@@ -1,6 +1,6 @@
 //! Connections and messages, served one after another.
 
-ghost use Rattle.std.specs.Prelude.{◌≡◌, ◌⊎◌, ◌+◌, ◌^◌, ◌<◌, true, codes, IfErr, IfOk, IsTrue, MatchResult, OnOk};
+ghost use Rattle.std.specs.Prelude.{◌≡◌, ◌⊎◌, ◌+◌, ◌^◌, ◌<◌, ◌∷◌, [], true, codes, IfErr, IfOk, IsTrue, MatchResult, OnOk};
 ghost use Rattle.sqlite.specs.State.{HasCleanDisk};
 ghost use Rattle.reg_http.specs.Trails.{tail};
 ghost use Rattle.reg_service.specs.Registries.{limits_of, tables_of};
@@ -8,7 +8,8 @@ ghost use Rattle.reg_tables.specs.Works.{is_stopped, shown};
 ghost use Rattle.reg_cli_run.specs.Exits.{EndsWith};
 ghost use Rattle.reg_cli_run.specs.Limited.{HasTurns};
 ghost use Rattle.reg_cli_run.specs.Marking.{IsMarked};
-ghost use Rattle.reg_cli_run.specs.Visits.{IsServedSo, ServesThenTries, ServesVisit};
+ghost use Rattle.reg_cli_run.specs.Visits.{IsServedSo, Logs, ServesThenTries, ServesVisit};
+ghost use Rattle.reg_cli_run.specs.Visits.Passing.{Went};
 
 use crate::door::{Caller, Door};
 use crate::message::{MessageReply, hear_message, send_reply};
@@ -22,6 +23,23 @@ use reg_service::laws::{history_law, joined_law, tried_law};
 use sqlite::Alter;
 use std::alloc::Global;
 use std::io::Write;
+
+/// Lets a caller go.
+fn leave<D: Door>(door: &mut D, reader: Counted<D::Reader>, writer: Counted<D::Writer>)
+    ensures counts { D.accepted door.new ≡ D.accepted door.old }
+    ensures went { Logs (D.log door.old) (D.log door.new)
+        (Went (D.Reader.remaining reader.inner) (D.Writer.contents writer.inner)
+        reader.failures writer.failures ∷ []) }
+{
+    let failed_reads = reader.failures();
+    let failed_writes = writer.failures();
+    door.leave(
+        reader.into_inner(),
+        writer.into_inner(),
+        failed_reads,
+        failed_writes,
+    );
+}
 
 /// Serves one connection. A stream that fails ends its connection alone.
 fn serve_connection<S: Alter, T: Write, D: Door>(
@@ -43,7 +61,7 @@ fn serve_connection<S: Alter, T: Write, D: Door>(
     let mut reader = Counted::new(reader);
     let mut writer = Counted::new(writer);
     let _ = server.serve_traced(alloc, registry, &mut reader, &mut writer, trail);
-    door.leave(reader, writer);
+    leave(door, reader, writer);
 }
 
 /// Waits until the caller goes, if the reply was that the server pauses.
@@ -81,7 +99,7 @@ fn serve_message<S: Alter, T: Write, D: Door>(
     let reply = hear_message(rt.alloc(), registry, trail, &mut reader);
     let _ = send_reply(&mut writer, &reply);
     hold_if_paused(rt, door, reader.inner(), &reply);
-    door.leave(reader, writer);
+    leave(door, reader, writer);
 }
 
 /// Tells the trail that a registry was opened, and how much it has, so that a change whose line was

@@ -5,7 +5,6 @@ ghost use Rattle.reg_cli_run.specs.Exits.{EndsWith};
 ghost use Rattle.reg_cli_run.specs.Visits.{Logs, Passing, arrival};
 ghost use Rattle.reg_cli_run.specs.Visits.Passing.{Went};
 
-use reg_body::Counted;
 use reg_cli_line::Exit;
 use std::io::{Read, Write};
 
@@ -46,10 +45,16 @@ pub trait Door {
         ensures counts { accepted self.new ≡ accepted self.old }
         ensures stays { log self.new ≡ log self.old };
 
-    /// The caller goes.
-    fn leave(&mut self, reader: Counted<Self::Reader>, writer: Counted<Self::Writer>)
+    /// The caller goes, after so many reads and writes that failed.
+    fn leave(
+        &mut self,
+        reader: Self::Reader,
+        writer: Self::Writer,
+        failed_reads: u64,
+        failed_writes: u64,
+    )
         ensures counts { accepted self.new ≡ accepted self.old }
         ensures went { Logs (log self.old) (log self.new)
-            (Went (Self.Reader.remaining reader.inner) (Self.Writer.contents writer.inner)
-            reader.failures writer.failures ∷ []) };
+            (Went (Self.Reader.remaining reader) (Self.Writer.contents writer)
+            failed_reads failed_writes ∷ []) };
 }

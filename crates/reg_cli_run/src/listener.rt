@@ -7,7 +7,6 @@ use crate::door::{Caller, Door};
 use crate::printing::print;
 use crate::socket::{MORE_TRIES, PAUSE, Socket, wait_for_end};
 use crate::stream::{NO_LISTENING, Stream};
-use reg_body::Counted;
 use reg_cli_line::Exit;
 use std::fs;
 use std::io::ErrorKind;
@@ -150,5 +149,12 @@ impl<'a> Door for Listener<'a> {
         }
     }
 
-    fn leave(&mut self, _reader: Counted<Stream<'a>>, _writer: Counted<Stream<'a>>) {}
+    fn leave(
+        &mut self,
+        _reader: Stream<'a>,
+        _writer: Stream<'a>,
+        _failed_reads: u64,
+        _failed_writes: u64,
+    ) {
+    }
 }

@@ -50,7 +50,7 @@ enum Tried<T> {
     Failed,
 }
 
-fn tried<T: Drop, A: Drop>(accepted: io::Result<(T, A)>) -> Tried<T> {
+fn one_accept<T: Drop, A: Drop>(accepted: io::Result<(T, A)>) -> Tried<T> {
     match accepted {
         Ok((stream, _)) => Tried::Came(stream),
         Err(error) => match error.kind() {
@@ -106,7 +106,7 @@ fn beside(rt: &HostRuntime, path: &str, port: &TcpListener) -> io::Result<Socket
 
 /// Accepts at the port, without waiting.
 fn accept_client<'a>(port: &TcpListener) -> Tried<Stream<'a>> {
-    match tried(port.accept()) {
+    match one_accept(port.accept()) {
         Tried::Came(stream) => Tried::Came(Stream::Port(stream)),
         Tried::Nobody => Tried::Nobody,
         Tried::Missed => Tried::Missed,
@@ -116,7 +116,7 @@ fn accept_client<'a>(port: &TcpListener) -> Tried<Stream<'a>> {
 
 /// Accepts at the socket file, without waiting.
 fn accept_admin<'a>(rt: &'a HostRuntime, listener: &UnixListener) -> Tried<Stream<'a>> {
-    match tried(listener.accept()) {
+    match one_accept(listener.accept()) {
         Tried::Came(stream) => Tried::Came(Stream::Socket(Hurried::new(rt, stream))),
         Tried::Nobody => Tried::Nobody,
         Tried::Missed => Tried::Missed,
@@ -166,9 +166,9 @@ impl Socket {
         };
         match self.accept_from(rt, port, first) {
             Tried::Nobody => (second, self.accept_from(rt, port, second)),
-            tried => {
+            it => {
                 self.first = second;
-                (first, tried)
+                (first, it)
             }
         }
     }

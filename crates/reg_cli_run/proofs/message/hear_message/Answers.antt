@@ -23,7 +23,7 @@ returns-in_err-bytes g c =
 pub returns : goal.returns
 returns g c =
     let law : EventsGoOn g.S.Store = record { run = c.history_law.ensures.goes_on; one = c.telling_law.ensures.one; join = c.telling_law.ensures.join } in
-    let (read, consumes, same, whole) = c.in_ok-bytes.ensures in
+    let (read, consumes, (same, whole)) = c.in_ok-bytes.ensures in
     record {
       read = read;
       reads = consumes;
