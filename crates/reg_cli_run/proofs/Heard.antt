@@ -1,5 +1,6 @@
 -- What a message came to, as the steps of a run.
-use Rattle.std.proofs.Common.{◌≡◌, ◌∙◌, ◌⊎◌, ◌<◌, ℕ, List, [], ◌∷◌, inl, inr, refl, sym, ap, subst, length, Option, Some, None, Result, Ok, Err}
+use Rattle.std.proofs.Common.{◌≡◌, ◌∙◌, ℕ, List, [], ◌∷◌, inl, inr, refl, sym, ap, subst, Option, Some, Result, Ok, Err}
+use Rattle.std.specs.Prelude.{true, if◌then◌else◌, option_and_then}
 use Rattle.std.specs.Option.{option_map}
 use Rattle.sqlite.specs.State.{HasCleanDisk}
 use Rattle.sqlite_trees.specs.declared.store.Store.{Ghosts}
@@ -12,14 +13,16 @@ use Rattle.reg_policy.specs.Events.{reply_of}
 use Rattle.reg_tables.specs.declared.tables.Tables.{Tables}
 use Rattle.reg_tables.specs.Works.{shown}
 use Rattle.reg_service.specs.Answered.{StandsIn}
-use Rattle.reg_http.specs.Trails.{Tail, Trails}
+use Rattle.reg_service.specs.Registries.{Running, limits_of, tables_of}
+use Rattle.reg_http.specs.Trails.{Tail, TrailEnd, Trails, tail}
 use Rattle.reg_http.proofs.Exchanged.{EventsGoOn}
-use Rattle.reg_http.proofs.Trails.{trails_nothing}
+use Rattle.reg_http.proofs.Kept.{still}
+use Rattle.reg_http.proofs.Trails.{trailed_nothing, trails_nothing}
 use Rattle.reg_cli_run.specs.declared.message.MessageReply.{MessageReply}
 use Rattle.reg_cli_run.specs.declared.message.MessageReply.TheVariants.{Paused, Said}
 use Rattle.reg_cli_run.specs.declared.ordering.OrderFault.{OrderFault}
 use Rattle.reg_cli_run.specs.declared.ordering.OrderFault.TheVariants.{Memory, Refused, Unreadable}
-use Rattle.reg_cli_run.specs.Messages.{IsAnswered, IsCut, IsHeard, IsMessage, IsReplied, Wanted, most_bytes, paused_text, refused_text, reply_to, said, unreadable_text, memory_text, wanted_in}
+use Rattle.reg_cli_run.specs.Messages.{AnswersMessage, IsAnswered, IsCut, IsHeard, IsMessage, IsReplied, IsUnargued, arguments_in, is_pause, message_order, paused_text, refused_text, reply_to, said, unreadable_text, wanted_by, wanted_in}
 use Rattle.reg_cli_run.specs.Messages.Wanted.{Ordered, Pause}
 use Rattle.reg_cli_run.specs.Setups.{Obeys}
 use Rattle.reg_cli_run.specs.Steps.{RunsTold, Step}
@@ -65,3 +68,21 @@ module _ {S : Type 0} (g : Ghosts S) (begins : RunsBegin g) (law : EventsGoOn g)
     unheard was none (Refused r) not = absurd not
     unheard was none Unreadable cause = nothing old k0 (refl, refl) (inr (inl (subst (λ w. IsCut read w failed Unreadable) none cause, refl, refl)))
     unheard was none Memory u = nothing old k0 (refl, refl) (inr (inr (refl, refl)))
+
+by_words : {S : Type 0} (g : Ghosts S) (limits : Limits) (bytes : Text) (t : Tables S) (k : Tail) (f : OrderFault) → IsUnargued (arguments_in bytes) f → IsAnswered g limits (wanted_in bytes) t t k k (Err f)
+by_words g limits bytes t k (Refused r) not = absurd not
+by_words g limits bytes t k Unreadable none = (ap (option_and_then wanted_by) none, refl, refl)
+by_words g limits bytes t k Memory u = (refl, refl)
+
+module _ {S T : Type 0} {g : Ghosts S} {told_of : T → Option Text} {bytes : Text} {r : Running S} {k : TrailEnd T} where
+  -- the bytes alone are no message, or memory was refused
+  pub unanswered : (f : OrderFault) → IsUnargued (arguments_in bytes) f → AnswersMessage g bytes told_of r r k k (Err f)
+  unanswered f not = record { answered = by_words g (limits_of r) bytes (tables_of r) (tail (told_of k.end.inner) k) f not; told = trailed_nothing (tail (told_of k.end.inner) k); keeps = still }
+
+  -- it asks that the server pauses
+  pub paused : (words : List Text) → arguments_in bytes ≡ Some words → is_pause words ≡ true → AnswersMessage g bytes told_of r r k k (Ok Paused)
+  paused words args is = record {
+    answered = (ap (option_and_then wanted_by) args ∙ ap (λ b. if b then Some Pause else option_map Ordered (message_order words)) is, refl, refl);
+    told = trailed_nothing (tail (told_of k.end.inner) k);
+    keeps = still;
+  }

@@ -3,7 +3,7 @@ use Rattle.std.proofs.Common.{◌≡◌, ◌≢◌, ◌<◌, ◌++◌, ◌∙◌
 use Rattle.std.proofs.Math.ListN.{get_or}
 use Rattle.std.proofs.lemmas.List.{get_or-map, length-map}
 use Rattle.reg_model.specs.Registry.{Text}
-use Rattle.std.proofs.Common.{◌==◌, ¬◌, Bool, true, false, Some, None}
+use Rattle.std.proofs.Common.{◌==◌, Bool, true, false, Some, None}
 use Rattle.std.specs.Prelude.{if◌then◌else◌}
 use Rattle.std.specs.List.{slice_split}
 use Rattle.std.specs.Str.{IsUtf8, is_utf8}

@@ -1,5 +1,5 @@
 -- Callers behind those that were served: still one run.
-use Rattle.std.proofs.Common.{◌≡◌, ◌∙◌, ◌++◌, ◌+◌, ℕ, false, List, [], ◌∷◌, length, map, Option, None, Some, arith, refl, sym, ap, ap₂, subst}
+use Rattle.std.proofs.Common.{◌≡◌, ◌∙◌, ◌++◌, ◌+◌, ℕ, false, List, [], ◌∷◌, Option, None, Some, arith, refl, sym, ap, ap₂, subst}
 use Rattle.std.proofs.lemmas.Grind.{flat_map-append}
 use Rattle.std.proofs.lemmas.List.{append_assoc, append-nil, length-append, map-append}
 use Rattle.std.specs.List.{flat_map}
@@ -20,7 +20,7 @@ use Rattle.reg_http.specs.Answering.{GoesOn}
 use Rattle.reg_http.specs.Trails.{Tail, Trails}
 use Rattle.reg_http.proofs.Trails.{trails_both, trails_nothing}
 use Rattle.reg_cli_run.specs.declared.door.Caller.{Caller}
-use Rattle.reg_cli_run.specs.Visits.{AreVisited, IsVisited, Logs, Passing, ServesAll, ServesThenTries, ServesVisit, ServesVisits, Visit, passings}
+use Rattle.reg_cli_run.specs.Visits.{AreVisited, Logs, Passing, ServesAll, ServesThenTries, ServesVisit, ServesVisits, Visit, passings}
 use Rattle.reg_cli_run.specs.Steps.{Step, answers_of, events_of}
 use Rattle.reg_cli_run.specs.Visits.Passing.{Came, Missed, Went}
 

@@ -133,7 +133,8 @@ fn serve_next<S: Alter, T: Write, D: Door>(
     requires turns { HasTurns (limits_of registry.old) }
     requires room { D.accepted door.old + 1 < 2 ^ 64 }
     ensures counts { MatchResult result (λ _. D.accepted door.new ≡ D.accepted door.old + 1)
-        (λ exit. EndsWith 3 (codes "listen fault") exit × (door.new ≡ door.old)
+        (λ exit. EndsWith 3 (codes "listen fault") exit
+        × (D.accepted door.new ≡ D.accepted door.old) × (D.log door.new ≡ D.log door.old)
         × (registry.new ≡ registry.old) × (trail.new ≡ trail.old)) }
     ensures told { IfOk result (λ stopped. stopped ≡ is_stopped (tables_of registry.new)) }
     ensures known { HasCleanDisk (shown S.Store (tables_of registry.new)) → OnOk result

@@ -36,7 +36,8 @@ pub trait Door {
     ) -> Result<Option<(Caller, Self::Reader, Self::Writer)>, Exit>
         requires { accepted self.old + 1 < 2 ^ 64 }
         ensures counts { MatchResult result (λ _. accepted self.new ≡ accepted self.old + 1)
-            (λ exit. EndsWith 3 (codes "listen fault") exit × (self.new ≡ self.old)) }
+            (λ exit. EndsWith 3 (codes "listen fault") exit
+            × (accepted self.new ≡ accepted self.old) × (log self.new ≡ log self.old)) }
         ensures came { IfOk result (λ ends. Logs (log self.old) (log self.new)
             (arrival Self.Reader.remaining Self.Writer.contents ends)) };
 

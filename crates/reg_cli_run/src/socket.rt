@@ -182,7 +182,7 @@ impl Socket {
     ) -> Result<Option<(Caller, Stream<'a>)>, Exit>
         ensures { IfErr result (EndsWith 3 (codes "listen fault")) }
     {
-        let mut failed = 0;
+        let mut failed: u32 = 0;
         for _wait in 0..WAITS {
             match self.accept_now(rt, port) {
                 (caller, Tried::Came(stream)) => return Ok(Some((caller, stream))),
@@ -192,7 +192,7 @@ impl Socket {
                 }
                 (_, Tried::Failed) if failed == MORE_TRIES => return Err(NO_LISTENING),
                 (_, Tried::Failed) => {
-                    failed += 1;
+                    failed = failed.saturating_add(1);
                     thread::sleep(rt, Duration::from_millis(PAUSE));
                 }
             }

@@ -1,5 +1,4 @@
 use Rattle.std.proofs.Common.{refl}
-use Rattle.reg_body.specs.declared.limits.Limits.{Limits}
 use Rattle.reg_http.specs.Exchanges.{steps_in}
 use Rattle.reg_service.specs.Registries.{limits_of}
 use Rattle.reg_cli_run.proofs.connections.serve_connection.Goals as goal
@@ -20,7 +19,7 @@ returns-clause-serves g c =
             steps = steps_in (limits_of c.args.registry.now) xs;
             after = run.0;
             run = run.1;
-            said = (xs, refl, c.serve_traced.result, (spends.0, c.serve_traced.new.r.calls, c.serve_traced.new.w.calls, spends.1), replied);
+            said = (xs, refl {a = steps_in (limits_of c.args.registry.now) xs}, c.serve_traced.result, (spends.0, c.serve_traced.new.r.calls, c.serve_traced.new.w.calls, spends.1), replied);
             told = told;
           };
       keeps = c.serve_traced.ensures.keeps;

@@ -39,7 +39,7 @@ pub returns-in_err-stopped-clause-serves : goal.returns-in_err-stopped-clause-se
 returns-in_err-stopped-clause-serves g c =
     let so_far = c.connections.invariant in
     let it = c.in_err-stopped.ensures in
-    (so_far.number, so_far.of_all, inl (rw (it.counts.1, it.counts.2, it.counts.3) so_far.serves))
+    (so_far.number, so_far.of_all, inl (rw (it.counts.2, it.counts.3, it.counts.4) so_far.serves))
 
 pub returns-then-stopped-clause-counts : goal.returns-then-stopped-clause-counts
 returns-then-stopped-clause-counts g c = omega (arith, c.connections.invariant.counts, c.in_ok-stopped.ensures.counts, c.connections-test.true)

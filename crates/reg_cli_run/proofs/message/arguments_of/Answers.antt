@@ -1,4 +1,4 @@
-use Rattle.std.proofs.Common.{lit<, ◌≡◌, ◌∙◌, ◌==◌, ◌++◌, List, ℕ, [], ◌∷◌, map, length, Bor, Ok, ap, sym}
+use Rattle.std.proofs.Common.{lit<, ◌∙◌, ◌==◌, List, ℕ, [], ◌∷◌, map, length, Bor, Ok, ap, sym}
 use Rattle.std.specs.declared.alloc.AllocError.{AllocError}
 use Rattle.std.specs.List.{slice_split}
 use Rattle.std.proofs.lemmas.Bool.{both_ways, eqb-true}

@@ -1,4 +1,3 @@
-use Rattle.std.proofs.Common.{◌∙◌, subst}
 use Rattle.std.proofs.lemmas.Result.{err_from_is_err_and}
 use Rattle.reg_service.specs.Registries.{limits_of, tables_of}
 use Rattle.reg_http.specs.Trails.{tail}

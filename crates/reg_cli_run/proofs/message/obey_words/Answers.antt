@@ -1,5 +1,4 @@
-use Rattle.std.proofs.Common.{◌∙◌, map, ap, sym}
-use Rattle.std.specs.List.{list_any}
+use Rattle.std.proofs.Common.{◌∙◌, map, sym}
 use Rattle.std.proofs.lemmas.Result.{err_from_is_err_and}
 use Rattle.reg_model.proofs.Lists.{list_any_map}
 use Rattle.reg_cli_args.specs.Dashes.{is_dashed}
