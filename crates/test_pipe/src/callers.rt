@@ -269,3 +269,70 @@ fn messages_between_connections(rt: HostRuntime) -> Result<(), Fail> {
     assert_eq!(rt; served.holds, 1);
     Ok(())
 }
+
+/// A message of a command that has a shorter one in front.
+const WHOLE: &str = "user-add bob --name Bob";
+
+/// The bytes of that shorter one.
+const SHORTER: usize = 13;
+
+/// The replies to a message of these bytes, and to `users` after it.
+fn replies_to(rt: &HostRuntime, bytes: Vec<u8>) -> Result<Vec<Vec<u8>>, Fail> {
+    let mut guests = Vec::new(rt.alloc());
+    guests.push(Guest {
+        caller: Caller::Admin,
+        bytes,
+        takes: usize::MAX,
+    })?;
+    guests.push(guest(rt.alloc(), "admin", "users")?)?;
+    match serve(rt, &guests) {
+        Some(served) => Ok(served.replies),
+        None => Err(Fail::new("not served")),
+    }
+}
+
+/// Whether the first reply is this one, and the command was done or not.
+fn was_replied(replies: &[Vec<u8>], reply: &[u8], done: bool) -> bool {
+    match replies {
+        [first, users] => first.as_slice() == reply && (users.as_slice() != b"0\n") == done,
+        _ => false,
+    }
+}
+
+#[test]
+fn a_message_that_is_cut_is_another_or_none(rt: HostRuntime) -> Result<(), Fail> {
+    let whole = message(rt.alloc(), WHOLE)?;
+    for (len, _) in whole.iter().enumerate() {
+        let mut cut = Vec::new(rt.alloc());
+        cut.extend_from_slice(&whole[..len])?;
+        let replies = replies_to(&rt, cut)?;
+        let done = len == SHORTER;
+        let reply: &[u8] = if done { b"0\n" } else { b"2\nbad words" };
+        if !was_replied(&replies, reply, done) {
+            return Err(Fail::new(format!(in rt.alloc(); "cut at {len}")?));
+        }
+    }
+    let replies = replies_to(&rt, whole)?;
+    assert!(rt; was_replied(&replies, b"0\n", true));
+    Ok(())
+}
+
+/// A login that fills a message to so many bytes.
+fn filled(alloc: Global, len: usize) -> Result<Vec<u8>, AllocError> {
+    let mut bytes = Vec::new(alloc);
+    bytes.extend_from_slice(b"user-add\0")?;
+    for _byte in bytes.len() + 1..len {
+        bytes.push(b'a')?;
+    }
+    bytes.push(0)?;
+    Ok(bytes)
+}
+
+#[test]
+fn the_longest_message(rt: HostRuntime) -> Result<(), Fail> {
+    let longest = replies_to(&rt, filled(rt.alloc(), 65_536)?)?;
+    assert!(rt; was_replied(&longest, b"1\nG1 bad login or name", false));
+    let longer = replies_to(&rt, filled(rt.alloc(), 65_537)?)?;
+    assert!(rt; was_replied(&longer, b"2\nbad words", false));
+    Ok(())
+}
