@@ -71,8 +71,12 @@ pub finds_left : {D : Type 0} {g : Ghosts D} (old : Held (FileStore D g)) (it : 
     → (HasCleanDisk (file_state new) → IsOpened new) → (HasCleanDisk (file_state new) → Finds held new) → FindsLeft (file_state old) (file_state new)
 finds_left {D} {g} old it held new stays numbered sound quiet taken opened finds clean =
     let found = finds clean in
+    let opens = (opened clean).0 in
     let honest = subst (λ (p : D × D). AreClean g p.0 p.1) taken found.honest in
     let was : IsClean (view it) = no_doubt (view it).is_clean (subst IsTrue (sym (clean_is it.pool)) honest) in
     let may = found_may_be_left it _ (numbered was) (sound was) (seen_may_be_left it.pool stays (clean_of _ was)) _
-    (λ db holds. found.holds db (subst (λ (p : D × D). HoldsDatabase (seen_image g p.0 p.1) db) (sym taken) holds)) in
-    (omega (arith, was, quiet.clean), subst (λ (d : Database). (file_state old).may_leave d.trees) (sym (opened clean).0.clean) (quiet.outcomes _ may))
+    (λ db holds. found.holds db (subst (λ (p : D × D). HoldsDatabase (seen_image g p.0 p.1) db) (sym taken) holds)) in (
+      omega (arith, was, quiet.clean),
+      opens.is_open,
+      subst (λ (d : Database). (file_state old).may_leave d.trees) (sym opens.clean) (quiet.outcomes _ may),
+    )

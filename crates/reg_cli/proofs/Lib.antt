@@ -1,1 +1,2 @@
 mod Healing
+mod Rounds

@@ -1,4 +1,5 @@
 pub mod Exits
 pub mod Openings
+pub mod Rounds
 pub mod Setups
 pub mod Tasks

@@ -1,4 +1,5 @@
 -- What an opening finds, and the registry that a task on a store begins with.
+use Rattle.std.specs.Prelude.{IsTrue}
 use Rattle.sqlite.specs.Held.{Held, state}
 use Rattle.sqlite.specs.State.{HasCleanDisk, State}
 use Rattle.sqlite.specs.Tree.{Trees}
@@ -12,7 +13,8 @@ use Rattle.reg_cli.specs.declared.using.FileTask.TheVariants.{Make}
 
 -- what is found in the files that a connection had is what a crash could leave of it
 abbrev pub FindsLeft : State → State → Type 0
-FindsLeft old new = HasCleanDisk new → HasCleanDisk old × old.may_leave new.now.trees
+FindsLeft old new = HasCleanDisk new
+    → HasCleanDisk old × IsTrue new.is_open × old.may_leave new.now.trees
 
 -- whatever registry these rows are, it is the one that is held
 abbrev pub HoldsSame : {S : Type 0} → Ghosts S → Trees → Running S → Type 0

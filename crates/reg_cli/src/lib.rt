@@ -11,6 +11,7 @@ mod administering;
 mod explaining;
 mod exporting;
 mod files;
+mod marking;
 mod meanings;
 mod serving;
 mod store;

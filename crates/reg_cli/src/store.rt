@@ -7,7 +7,7 @@ ghost use Rattle.sqlite.specs.Start.{FindsIn};
 ghost use Rattle.sqlite.specs.State.{HasCleanDisk};
 ghost use Rattle.sqlite_wal.specs.Files.{image_at};
 ghost use Rattle.reg_tables.specs.Works.{shown};
-ghost use Rattle.reg_service.specs.Registries.{IsNew as IsNewRegistry, limits_of, tables_of};
+ghost use Rattle.reg_service.specs.Registries.{IsNew as IsNewRegistry, LeavesOpened, limits_of, tables_of};
 ghost use Rattle.reg_cli.specs.Openings.{FindsLeft, HoldsSame};
 ghost use Rattle.reg_cli.specs.Exits.{status_of_opening, words_of_damage, words_of_opening};
 
@@ -118,6 +118,8 @@ pub(crate) fn open<S: Alter + Drop>(
     ensures clean { IfOk result (λ r. HasCleanDisk (shown S.Store (tables_of r))
         → HasCleanDisk (state S.Store conn)) }
     ensures same { IfOk result (HoldsSame S.Store (state S.Store conn).now.trees) }
+    ensures left { IfOk result (λ r. HasCleanDisk (shown S.Store (tables_of r))
+        → LeavesOpened (state S.Store conn) (shown S.Store (tables_of r))) }
 {
     match Registry::open(alloc, conn, limits) {
         Ok(registry) => Ok(registry),
