@@ -1,15 +1,18 @@
 -- A registry that is served over several openings of its store.
-use Rattle.std.specs.Prelude.{◌≡◌, ◌+◌, ◌<◌, ℕ, true, List, [], ◌∷◌, None}
+use Rattle.std.specs.Prelude.{◌≡◌, ◌⊎◌, ◌+◌, ◌<◌, ℕ, true, List, [], ◌∷◌, None, Option}
 use Rattle.sqlite.specs.Held.{Held, state}
 use Rattle.sqlite.specs.State.{HasCleanDisk}
 use Rattle.sqlite_trees.specs.declared.store.Store.{Ghosts}
 use Rattle.reg_body.specs.declared.limits.Limits.{Limits}
+use Rattle.reg_model.specs.Events.{Answer, Event}
 use Rattle.reg_model.specs.Registry.{Registry}
 use Rattle.reg_model.specs.Trail.{opened as mark_of}
+use Rattle.reg_tables.specs.declared.tables.Tables.{Tables}
 use Rattle.reg_tables.specs.Works.{is_stopped, shown}
 use Rattle.reg_service.specs.Answered.{StandsIn}
 use Rattle.reg_service.specs.Looked.{Looked}
 use Rattle.reg_service.specs.Registries.{LeavesOpened, Running, limits_of, tables_of}
+use Rattle.reg_service.specs.Sequences.{AreNoRoom, MayBeLeft}
 use Rattle.reg_http.specs.Trails.{Tail, Trails}
 use Rattle.reg_cli_run.specs.Visits.{IsServedSo}
 use Rattle.reg_cli.specs.Openings.{FindsLeft, HoldsSame}
@@ -75,3 +78,11 @@ module _ {S : Type 0} (g : Ghosts S) (limits : Limits) (first : Held S) (k0 : Ta
     pub number : ℕ
     pub end : ServesRound g limits found last number trail k1
     pub count : before + number ≡ total
+
+-- After a run of these events, the registry that was opened next is one that a crash may leave of
+-- the run; or there was no room for any of them, and what was found could be left before them.
+abbrev pub GoesOnAs : {S : Type 0} → Ghosts S → Limits → Registry → Tables S → List Event
+    → List Answer → Option ℕ → Held S → Running S → Type 0
+GoesOnAs g limits s entry es xs stop found next =
+    ((shown g entry).may_leave (state g found).now.trees × AreNoRoom es xs)
+    ⊎ ((m : Registry) × MayBeLeft limits s es xs stop m × StandsIn m (shown g (tables_of next)))
