@@ -1,5 +1,6 @@
 pub mod Exits
 pub mod Openings
+pub mod Rounds
 pub mod Sending
 pub mod Setups
 pub mod Tasks

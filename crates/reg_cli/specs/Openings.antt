@@ -1,6 +1,7 @@
--- The registry that a task on a store begins with.
+-- What an opening finds, and the registry that a task on a store begins with.
+use Rattle.std.specs.Prelude.{IsTrue}
 use Rattle.sqlite.specs.Held.{Held, state}
-use Rattle.sqlite.specs.State.{HasCleanDisk}
+use Rattle.sqlite.specs.State.{HasCleanDisk, State}
 use Rattle.sqlite.specs.Tree.{Trees}
 use Rattle.sqlite_trees.specs.declared.store.Store.{Ghosts}
 use Rattle.reg_model.specs.Registry.{Registry}
@@ -9,6 +10,11 @@ use Rattle.reg_service.specs.Registries.{IsNew, Running, limits_of, tables_of}
 use Rattle.reg_tables.specs.Works.{shown}
 use Rattle.reg_cli.specs.declared.using.FileTask.{FileTask}
 use Rattle.reg_cli.specs.declared.using.FileTask.TheVariants.{Make}
+
+-- what is found in the files that a connection had is what a crash could leave of it
+abbrev pub FindsLeft : State → State → Type 0
+FindsLeft old new = HasCleanDisk new
+    → HasCleanDisk old × IsTrue new.is_open × old.may_leave new.now.trees
 
 -- whatever registry these rows are, it is the one that is held
 abbrev pub HoldsSame : {S : Type 0} → Ghosts S → Trees → Running S → Type 0

@@ -11,6 +11,7 @@ mod administering;
 mod explaining;
 mod exporting;
 mod files;
+pub mod laws;
 mod meanings;
 mod sending;
 mod serving;

@@ -1,10 +1,14 @@
 //! Streams: one on standard input and output, or connections one after another.
 
-ghost use Rattle.std.specs.Prelude.{◌≡◌, ◌+◌, ◌^◌, ◌<◌, [], IfOk, MatchResult, OnOk, false};
+ghost use Rattle.std.specs.Prelude.{◌≡◌, ◌⊎◌, ◌+◌, ◌^◌, ◌<◌, [], IfOk, MatchResult, OnOk, false, true};
+ghost use Rattle.sqlite.specs.Files.{over_files};
 ghost use Rattle.sqlite.specs.Held.{state};
-ghost use Rattle.reg_service.specs.Registries.{limits_of};
+ghost use Rattle.reg_http.specs.Trails.{tail};
+ghost use Rattle.reg_service.specs.Registries.{limits_of, tables_of};
+ghost use Rattle.reg_tables.specs.Works.{held, is_stopped};
 ghost use Rattle.reg_cli_run.specs.Exits.{EndsWith};
 ghost use Rattle.reg_cli_run.specs.Limited.{HasTurns};
+ghost use Rattle.reg_cli.specs.Rounds.{ServesMarked, ServesOpenings, ServesRound};
 ghost use Rattle.reg_cli.specs.Setups.{IsSetup};
 
 use crate::files::whole_path;
@@ -121,12 +125,15 @@ fn serve_door<S: Alter, T: Write>(
     requires turns { HasTurns (limits_of registry.old) }
     requires room { listener.old.accepted + left.old < 2 ^ 64 }
     ensures counts { listener.new.accepted + left.new ≡ listener.old.accepted + left.old }
-    ensures fewer { OnOk result (0 < left.new → left.new < left.old) }
+    ensures ended { OnOk result ((left.new ≡ 0)
+        ⊎ ((is_stopped (tables_of registry.new) ≡ true) × (left.new < left.old))) }
+    ensures served { OnOk result ((number : _) × (left.new + number ≡ left.old)
+        × ServesMarked S.Store number registry.old registry.new
+        (tail (T.contents trail.old.end.inner) trail.old)
+        (tail (T.contents trail.new.end.inner) trail.new)) }
 {
     listener.open()?;
-    if trail.is_open() {
-        mark_opening(rt.alloc(), registry, trail)?;
-    }
+    mark_opening(rt.alloc(), registry, trail)?;
     serve_connections(rt, server, registry, trail, listener, left)
 }
 
@@ -145,7 +152,12 @@ fn serve_store<S: Alter + Drop, T: Write>(
     requires turns { HasTurns limits }
     requires room { listener.old.accepted + left.old < 2 ^ 64 }
     ensures counts { listener.new.accepted + left.new ≡ listener.old.accepted + left.old }
-    ensures fewer { IfOk result (λ it. OnOk it.0 (0 < left.new → left.new < left.old)) }
+    ensures served { IfOk result (λ it. OnOk it.0 ((last : _) × (number : _)
+        × (it.1 ≡ held (tables_of last)) × (left.new + number ≡ left.old)
+        × ((left.new ≡ 0) ⊎ ((is_stopped (tables_of last) ≡ true) × (left.new < left.old)))
+        × ServesRound S.Store limits conn last number
+        (tail (T.contents trail.old.end.inner) trail.old)
+        (tail (T.contents trail.new.end.inner) trail.new))) }
 {
     let mut registry = open(rt.alloc(), conn, limits)?;
     let served = serve_door(rt, server, &mut registry, trail, listener, left);
@@ -164,13 +176,17 @@ fn serve_openings<D: Disk + Drop, T: Write>(
     requires begun { conn.in_transaction ≡ false }
     requires none { listener.old.accepted ≡ 0 }
     ensures served { OnOk result (listener.new.accepted ≡ service.now.connections) }
+    ensures rounds { OnOk result (ServesOpenings over_files
+        (record Limits.STANDARD { replies = service.now.replies }) conn
+        (tail (T.contents trail.old.end.inner) trail.old) service.now.connections
+        (tail (T.contents trail.new.end.inner) trail.new)) }
 {
     let Ok(mut server) = Server::new(rt.alloc()) else {
         return Err(Exit::MEMORY);
     };
+    let limits = service.limits();
     let mut left = service.connections;
     'openings: loop {
-        let limits = service.limits();
         let (served, back) = serve_store(
             rt,
             &mut server,

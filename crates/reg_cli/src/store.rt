@@ -7,8 +7,8 @@ ghost use Rattle.sqlite.specs.Start.{FindsIn};
 ghost use Rattle.sqlite.specs.State.{HasCleanDisk};
 ghost use Rattle.sqlite_wal.specs.Files.{image_at};
 ghost use Rattle.reg_tables.specs.Works.{shown};
-ghost use Rattle.reg_service.specs.Registries.{IsNew as IsNewRegistry, limits_of, tables_of};
-ghost use Rattle.reg_cli.specs.Openings.{HoldsSame};
+ghost use Rattle.reg_service.specs.Registries.{IsNew as IsNewRegistry, LeavesOpened, limits_of, tables_of};
+ghost use Rattle.reg_cli.specs.Openings.{FindsLeft, HoldsSame};
 ghost use Rattle.reg_cli.specs.Exits.{status_of_opening, words_of_damage, words_of_opening};
 
 use crate::files::is_orphaned;
@@ -94,6 +94,7 @@ pub(crate) fn open_again<D: Disk + Drop>(
 ) -> Result<Connection<FileStore<D>>, Exit>
     ensures new { IfOk result IsNew }
     ensures opened { IfOk result (λ c. HasCleanDisk (file_state c) → IsOpened c) }
+    ensures found { IfOk result (λ c. FindsLeft (file_state conn) (file_state c)) }
 {
     let files = conn.into_store().close();
     if !files.may_be_used() {
@@ -117,6 +118,8 @@ pub(crate) fn open<S: Alter + Drop>(
     ensures clean { IfOk result (λ r. HasCleanDisk (shown S.Store (tables_of r))
         → HasCleanDisk (state S.Store conn)) }
     ensures same { IfOk result (HoldsSame S.Store (state S.Store conn).now.trees) }
+    ensures left { IfOk result (λ r. HasCleanDisk (shown S.Store (tables_of r))
+        → LeavesOpened (state S.Store conn) (shown S.Store (tables_of r))) }
 {
     match Registry::open(alloc, conn, limits) {
         Ok(registry) => Ok(registry),

@@ -7,7 +7,7 @@ ghost use Rattle.reg_service.specs.Registries.{limits_of, tables_of};
 ghost use Rattle.reg_tables.specs.Works.{is_stopped, shown};
 ghost use Rattle.reg_cli_run.specs.Exits.{EndsWith};
 ghost use Rattle.reg_cli_run.specs.Limited.{HasTurns};
-ghost use Rattle.reg_cli_run.specs.Marking.{IsMarked};
+ghost use Rattle.reg_cli_run.specs.Marking.{MarksOpening};
 ghost use Rattle.reg_cli_run.specs.Visits.{IsServedSo, Logs, ServesThenTries, ServesVisit};
 ghost use Rattle.reg_cli_run.specs.Visits.Passing.{Went};
 
@@ -102,18 +102,20 @@ fn serve_message<S: Alter, T: Write, D: Door>(
     leave(door, reader, writer);
 }
 
-/// Tells the trail that a registry was opened, and how much it has, so that a change whose line was
-/// lost shows as a gap.
+/// Tells the trail, if one is kept, that a registry was opened, and how much it has, so that a
+/// change whose line was lost shows as a gap.
 pub fn mark_opening<S: Alter, T: Write>(
     alloc: Global,
     registry: &mut Registry<S>,
     trail: &mut Trail<T>,
 ) -> Result<(), Exit>
-    ensures marked { IsMarked S.Store result registry.old registry.new
+    ensures { OnOk result (MarksOpening S.Store registry.old registry.new
         (tail (T.contents trail.old.end.inner) trail.old)
-        (tail (T.contents trail.new.end.inner) trail.new) }
-    ensures limits { limits_of registry.new ≡ limits_of registry.old }
+        (tail (T.contents trail.new.end.inner) trail.new)) }
 {
+    if !trail.is_open() {
+        return Ok(());
+    }
     let Ok(mark) = registry.mark(alloc) else {
         return Err(Exit::STORAGE);
     };

@@ -1,0 +1,2 @@
+mod Healing
+mod Rounds
