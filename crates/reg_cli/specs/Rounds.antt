@@ -1,12 +1,14 @@
 -- A registry that is served over several openings of its store.
 use Rattle.std.specs.Prelude.{◌≡◌, ◌⊎◌, ◌+◌, ◌<◌, ℕ, true, List, [], ◌∷◌, None, Option}
 use Rattle.sqlite.specs.Held.{Held, state}
-use Rattle.sqlite.specs.State.{HasCleanDisk}
+use Rattle.sqlite.specs.State.{HasCleanDisk, State}
+use Rattle.sqlite.specs.Tree.{Trees}
 use Rattle.sqlite_trees.specs.declared.store.Store.{Ghosts}
 use Rattle.reg_body.specs.declared.limits.Limits.{Limits}
 use Rattle.reg_model.specs.Events.{Answer, Event}
 use Rattle.reg_model.specs.Registry.{Registry}
 use Rattle.reg_model.specs.Trail.{opened as mark_of}
+use Rattle.reg_tables_schema.specs.Schema.{old_schema}
 use Rattle.reg_tables.specs.declared.tables.Tables.{Tables}
 use Rattle.reg_tables.specs.Works.{is_stopped, shown}
 use Rattle.reg_service.specs.Answered.{StandsIn}
@@ -77,3 +79,8 @@ abbrev pub GoesOnAs : {S : Type 0} → Ghosts S → Limits → Registry → Tabl
 GoesOnAs g limits s entry es xs stop found next =
     ((shown g entry).may_leave (state g found).now.trees × AreNoRoom es xs)
     ⊎ ((m : Registry) × MayBeLeft limits s es xs stop m × StandsIn m (shown g (tables_of next)))
+
+-- these rows were found or, where what was found is of schema 1, are held once it is opened
+abbrev pub IsAsFound : State → State → Trees → Type 0
+IsAsFound found held db = (db ≡ found.now.trees)
+    ⊎ ((found.now.schema ≡ old_schema) × (db ≡ held.now.trees))
