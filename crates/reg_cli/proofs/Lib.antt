@@ -1,2 +1,3 @@
 mod Healing
+mod Pushed
 mod Rounds

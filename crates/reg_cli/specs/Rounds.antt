@@ -1,5 +1,5 @@
 -- A registry that is served over several openings of its store.
-use Rattle.std.specs.Prelude.{◌≡◌, ◌⊎◌, ◌+◌, ◌<◌, ℕ, true, List, [], ◌∷◌, None, Option}
+use Rattle.std.specs.Prelude.{◌≡◌, ◌⊎◌, ◌+◌, ℕ, true, List, [], ◌∷◌, None, Option}
 use Rattle.sqlite.specs.Held.{Held, state}
 use Rattle.sqlite.specs.State.{HasCleanDisk, State}
 use Rattle.sqlite.specs.Tree.{Trees}
@@ -7,15 +7,13 @@ use Rattle.sqlite_trees.specs.declared.store.Store.{Ghosts}
 use Rattle.reg_body.specs.declared.limits.Limits.{Limits}
 use Rattle.reg_model.specs.Events.{Answer, Event}
 use Rattle.reg_model.specs.Registry.{Registry}
-use Rattle.reg_model.specs.Trail.{opened as mark_of}
 use Rattle.reg_tables_schema.specs.Schema.{old_schema}
 use Rattle.reg_tables.specs.declared.tables.Tables.{Tables}
 use Rattle.reg_tables.specs.Works.{is_stopped, shown}
 use Rattle.reg_service.specs.Answered.{StandsIn}
-use Rattle.reg_service.specs.Looked.{Looked}
 use Rattle.reg_service.specs.Registries.{LeavesOpened, Running, limits_of, tables_of}
 use Rattle.reg_service.specs.Sequences.{AreNoRoom, MayBeLeft}
-use Rattle.reg_http.specs.Trails.{Tail, Trails}
+use Rattle.reg_http.specs.Trails.{Tail}
 use Rattle.reg_cli_run.specs.Marking.{MarksOpening}
 use Rattle.reg_cli_run.specs.Visits.{IsServedSo}
 use Rattle.reg_cli.specs.Openings.{FindsLeft, HoldsSame}

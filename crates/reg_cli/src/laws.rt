@@ -8,8 +8,9 @@ ghost use Rattle.reg_model.specs.Sound.{Sound};
 ghost use Rattle.reg_tables.specs.Works.{shown};
 ghost use Rattle.reg_service.specs.Registries.{LeavesOpened, tables_of};
 ghost use Rattle.reg_service.specs.Sequences.{Ran};
+ghost use Rattle.reg_cli_run.specs.Marking.{MarksOpening};
 ghost use Rattle.reg_cli.specs.Openings.{FindsLeft, HoldsSame};
-ghost use Rattle.reg_cli.specs.Rounds.{GoesOnAs, IsAsFound, MarksOpening};
+ghost use Rattle.reg_cli.specs.Rounds.{GoesOnAs, IsAsFound};
 
 use reg_service::Registry;
 use reg_service::laws::left_law;

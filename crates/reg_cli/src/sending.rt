@@ -1,9 +1,10 @@
 //! The administrator's commands on a registry that a server serves: each is sent to the server's
 //! socket file, and ends as the server replies.
 
-ghost use Rattle.std.specs.Prelude.{◌≡◌, ◌++◌, IfOk, OnOk};
+ghost use Rattle.std.specs.Prelude.{◌≡◌, ◌++◌, IfOk, OnOk, Some};
 ghost use Rattle.std.specs.List.{flat_map};
 ghost use Rattle.std.specs.Option.{option_map};
+ghost use Rattle.hex.specs.Hex.{encode_lower};
 ghost use Rattle.reg_cli_args.specs.Orders.{given_by};
 ghost use Rattle.reg_cli.specs.Sending.{IsReply, argument, digest_sent, is_whole, named, option_sent, options_sent, sent_words, value_sent, values_sent};
 
@@ -12,7 +13,8 @@ use clap::ArgMatches;
 use hex::encode_to_slice;
 use reg_body::Counted;
 use reg_cli_line::Exit;
-use reg_cli_run::{NO_WRITING, TokenMade, TokenText, make_token, print, print_to};
+use reg_cli_run::{TokenMade, TokenText, make_token, print, print_to};
+use reg_line::Digest;
 use std::alloc::{AllocError, Global};
 use std::io::{self, Read, Write};
 use std::net::Shutdown;
@@ -26,10 +28,10 @@ fn broken(rt: &HostRuntime) -> Exit {
 }
 
 /// Adds an argument to a message.
-fn push_argument(message: &mut Vec<u8>, argument: &str) -> Result<(), AllocError>
-    ensures { OnOk result (message.new.items ≡ message.old.items ++ argument argument.now) }
+fn push_argument(message: &mut Vec<u8>, word: &str) -> Result<(), AllocError>
+    ensures { OnOk result (message.new.items ≡ message.old.items ++ argument word.now) }
 {
-    message.extend_from_slice(argument.as_bytes())?;
+    message.extend_from_slice(word.as_bytes())?;
     message.push(0)?;
     Ok(())
 }
@@ -39,10 +41,10 @@ fn push_value(message: &mut Vec<u8>, words: &ArgMatches<'_>, place: &str) -> Res
     ensures { OnOk result (message.new.items ≡ message.old.items
         ++ flat_map argument (value_sent (given_by words.now) place.now)) }
 {
-    match words.get_str(place) {
-        Some(value) => push_argument(message, value),
-        None => Ok(()),
+    if let Some(value) = words.get_str(place) {
+        push_argument(message, value)?;
     }
+    Ok(())
 }
 
 /// Adds an option and its value.
@@ -52,7 +54,8 @@ fn push_named(message: &mut Vec<u8>, option: &str, value: &str) -> Result<(), Al
 {
     message.extend_from_slice(b"--")?;
     push_argument(message, option)?;
-    push_argument(message, value)
+    push_argument(message, value)?;
+    Ok(())
 }
 
 /// Adds an option, if it is given.
@@ -64,10 +67,10 @@ fn push_option(
     ensures { OnOk result (message.new.items ≡ message.old.items
         ++ flat_map argument (option_sent (given_by words.now) option.now)) }
 {
-    match words.get_str(option) {
-        Some(value) => push_named(message, option, value),
-        None => Ok(()),
+    if let Some(value) = words.get_str(option) {
+        push_named(message, option, value)?;
     }
+    Ok(())
 }
 
 /// Adds what follows the subcommand's name.
@@ -78,7 +81,8 @@ fn push_values(message: &mut Vec<u8>, words: &ArgMatches<'_>) -> Result<(), Allo
     push_value(message, words, "CRATE")?;
     push_value(message, words, "LOGIN")?;
     push_value(message, words, "NAME")?;
-    push_value(message, words, "ID")
+    push_value(message, words, "ID")?;
+    Ok(())
 }
 
 /// Adds the options.
@@ -88,22 +92,39 @@ fn push_options(message: &mut Vec<u8>, words: &ArgMatches<'_>) -> Result<(), All
 {
     push_option(message, words, "name")?;
     push_option(message, words, "endpoints")?;
-    push_option(message, words, "patterns")
+    push_option(message, words, "patterns")?;
+    Ok(())
+}
+
+/// The hex digits of a digest.
+fn digits_of(digest: &Digest) -> [u8; 64]
+    ensures { result ≡ encode_lower digest.now }
+{
+    let mut digits = [0; 64];
+    let _fits = encode_to_slice(digest.as_slice(), &mut digits);
+    digits
 }
 
 /// Adds the digest of a new token.
-fn push_digest(message: &mut Vec<u8>, made: Option<&TokenMade>) -> Result<(), AllocError>
+fn push_digest(message: &mut Vec<u8>, digest: &Digest) -> Result<(), AllocError>
     ensures { OnOk result (message.new.items ≡ message.old.items
-        ++ flat_map argument (digest_sent (option_map (λ m. m.now.digest) made.entry))) }
+        ++ flat_map argument (digest_sent (Some digest.now))) }
 {
-    let Some(made) = made else {
-        return Ok(());
-    };
-    let mut digits = [0; 64];
-    let _fits = encode_to_slice(made.digest.as_slice(), &mut digits);
+    let digits = digits_of(digest);
     message.extend_from_slice(b"--digest\0")?;
     message.extend_from_slice(&digits)?;
     message.push(0)?;
+    Ok(())
+}
+
+/// Adds the digest of a new token, if one is made.
+fn push_made(message: &mut Vec<u8>, made: Option<&TokenMade>) -> Result<(), AllocError>
+    ensures { OnOk result (message.new.items ≡ message.old.items
+        ++ flat_map argument (digest_sent (option_map (λ m. m.now.digest) made.entry))) }
+{
+    if let Some(made) = made {
+        push_digest(message, &made.digest)?;
+    }
     Ok(())
 }
 
@@ -121,7 +142,7 @@ fn message_of(
     push_argument(&mut message, name)?;
     push_values(&mut message, words)?;
     push_options(&mut message, words)?;
-    push_digest(&mut message, made)?;
+    push_made(&mut message, made)?;
     Ok(message)
 }
 

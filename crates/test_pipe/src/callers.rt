@@ -294,7 +294,7 @@ fn replies_to(rt: &HostRuntime, bytes: Vec<u8>) -> Result<Vec<Vec<u8>>, Fail> {
 /// Whether the first reply is this one, and the command was done or not.
 fn was_replied(replies: &[Vec<u8>], reply: &[u8], done: bool) -> bool {
     match replies {
-        [first, users] => first.as_slice() == reply && (users.as_slice() != b"0\n") == done,
+        [first, users] => first.as_slice() == reply && (users.as_slice() != b"0\n".as_slice()) == done,
         _ => false,
     }
 }
