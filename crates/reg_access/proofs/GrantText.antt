@@ -1,39 +1,36 @@
 -- What the text on the tokens that may act on a name means.
-use Rattle.reg_access.proofs.Words.{ℕ, pos, List, [], ◌∷◌, codes, refl, Binary, Join, Query, inner, left, end, Term, col, op2, Int, Compare}
+use Rattle.std.specs.Prelude.{negsuc}
+use Rattle.sqlite_value.specs.declared.keys.Collation.{Collation}
+use Rattle.reg_access.proofs.Words.{ℕ, pos, true, None, List, [], ◌∷◌, codes, refl, Binary, Join, Query, inner, left, end, Term, col, op2, Int, Compare}
 use Rattle.reg_access.proofs.Words.{Eq, Le, Lt, ours, IsSelection, FIND_CANDIDATES_TEXT}
 use Rattle.sqlite.specs.Listing.{understood}
-use Rattle.sqlite.specs.Query.{counted}
 use Rattle.sqlite.specs.Term.{lit}
 use Rattle.sqlite_tied.specs.Compute.{everything}
 use Rattle.sqlite_value.specs.Keys.{ascending}
-use Rattle.reg_tables_schema.proofs.Sorted.{in_order}
 
 abbrev pub eq : Term → Term → Term
 eq a b = op2 (Compare Eq Binary) a b
 
 abbrev pub on_account : List Term
-on_account = eq (col 2 0) (col 1 3) ∷ []
-
-abbrev pub over : List Term
-over = eq (col 3 1) (col 1 0) ∷ op2 (Compare Le Binary) (col 3 4) (col 0 0) ∷ op2 (Compare Lt Binary) (col 0 0) (col 3 5) ∷ []
-
-abbrev pub scopes_counted : Join
-scopes_counted = counted 1 (inner 5 end) over end
+on_account = eq (col 3 0) (col 2 3) ∷ []
 
 abbrev pub after_token : Join
-after_token = left 1 on_account scopes_counted
+after_token = left 1 on_account end
 
 abbrev pub from : Join
-from = inner 3 after_token
+from = inner 5 (inner 3 after_token)
 
 abbrev pub where_terms : List Term
-where_terms = eq (col 1 4) (lit (Int (pos 1))) ∷ eq (col 2 4) (lit (Int (pos 1))) ∷ col 3 0 ∷ []
+where_terms = eq (col 1 1) (col 2 0) ∷ eq (col 2 4) (lit (Int (pos 1))) ∷ eq (col 3 4) (lit (Int (pos 1))) ∷ op2 (Compare Le Binary) (col 1 4) (col 0 0) ∷ op2 (Compare Lt Binary) (col 0 0) (col 1 5) ∷ []
 
 abbrev pub project : List Term
-project = col 1 0 ∷ col 1 3 ∷ col 1 4 ∷ col 1 5 ∷ col 1 6 ∷ col 1 7 ∷ col 1 8 ∷ col 2 2 ∷ col 2 4 ∷ []
+project = col 2 0 ∷ col 2 3 ∷ col 2 4 ∷ col 2 5 ∷ col 2 6 ∷ col 2 7 ∷ col 2 8 ∷ col 3 2 ∷ col 3 4 ∷ []
+
+abbrev pub collations : List Collation
+collations = Binary ∷ Binary ∷ Binary ∷ Binary ∷ Binary ∷ Binary ∷ Binary ∷ Binary ∷ Binary ∷ []
 
 abbrev pub query : Query
-query = in_order from where_terms project ((col 1 0, ascending Binary) ∷ [])
+query = record { from = from; filter = where_terms; group = None; project = project; distinct = true; collations = collations; order = (col 2 0, ascending Binary) ∷ []; limit = lit (Int (negsuc 0)); offset = lit (Int (pos 0)) }
 
 abbrev names : List (List ℕ)
 names = codes "id" ∷ codes "account" ∷ codes "live" ∷ codes "publish_new" ∷ codes "publish_update" ∷ codes "yank" ∷ codes "change_owners" ∷ codes "login" ∷ codes "enabled" ∷ []

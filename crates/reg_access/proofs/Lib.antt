@@ -4,6 +4,7 @@ mod Askers
 pub mod Calls
 mod CrateLaw
 mod CrateText
+mod Distinct
 mod FoundFacts
 mod GrantRows
 mod GrantText

@@ -15,10 +15,10 @@ use sqlite::{Alter, params};
 use std::alloc::Global;
 
 const FIND_CANDIDATES_TEXT: &str =
-    "SELECT t.id, t.account, t.live, t.publish_new, t.publish_update, t.yank, t.change_owners, \
-    a.login, a.enabled FROM tokens t LEFT JOIN accounts a ON a.id = t.account WHERE t.live = 1 AND \
-    a.enabled = 1 AND EXISTS (SELECT 1 FROM scopes s WHERE s.token = t.id AND s.low <= ?1 AND ?1 < \
-    s.high) ORDER BY t.id";
+    "SELECT DISTINCT t.id, t.account, t.live, t.publish_new, t.publish_update, t.yank, \
+    t.change_owners, a.login, a.enabled FROM scopes s JOIN tokens t ON s.token = t.id LEFT JOIN \
+    accounts a ON a.id = t.account WHERE t.live = 1 AND a.enabled = 1 AND s.low <= ?1 AND ?1 < \
+    s.high ORDER BY t.id";
 
 /// The live tokens of enabled accounts that have a scope over the name, by id.
 pub(crate) fn find_candidates<S: Alter>(
