@@ -159,7 +159,7 @@ fn message(alloc: Global, words: &str) -> Result<Vec<u8>, AllocError> {
 }
 
 /// The one who comes by a line of the story.
-fn guest(alloc: Global, who: &str, what: &str) -> Result<Guest, AllocError> {
+fn guest_of(alloc: Global, who: &str, what: &str) -> Result<Guest, AllocError> {
     let bytes = match who {
         "client" => {
             let head = format!(in alloc; "GET {what} HTTP/1.1\r\nhost: r\r\nauthorization: abc\r\n\r\n")?;
@@ -184,7 +184,7 @@ struct Served {
 }
 
 /// Serves the guests from a new registry.
-fn serve(rt: &HostRuntime, guests: &[Guest]) -> Option<Served> {
+fn serve_all(rt: &HostRuntime, guests: &[Guest]) -> Option<Served> {
     let alloc = rt.alloc();
     let conn = Connection::open_in_memory(alloc).ok()?;
     if !conn.is_autocommit() {
@@ -249,11 +249,11 @@ fn messages_between_connections(rt: HostRuntime) -> Result<(), Fail> {
     let mut guests = Vec::new(alloc);
     for line in STORY.lines() {
         if let Some((who, what, _)) = parts(line) {
-            guests.push(guest(alloc, who, what)?)?;
+            guests.push(guest_of(alloc, who, what)?)?;
         }
     }
     assert_eq!(rt; guests.len(), STORY.lines().count());
-    let Some(served) = serve(&rt, &guests) else {
+    let Some(served) = serve_all(&rt, &guests) else {
         return Err(Fail::new("not served"));
     };
     for (line, reply) in STORY.lines().zip(served.replies.iter()) {
@@ -284,8 +284,8 @@ fn replies_to(rt: &HostRuntime, bytes: Vec<u8>) -> Result<Vec<Vec<u8>>, Fail> {
         bytes,
         takes: usize::MAX,
     })?;
-    guests.push(guest(rt.alloc(), "admin", "users")?)?;
-    match serve(rt, &guests) {
+    guests.push(guest_of(rt.alloc(), "admin", "users")?)?;
+    match serve_all(rt, &guests) {
         Some(served) => Ok(served.replies),
         None => Err(Fail::new("not served")),
     }
