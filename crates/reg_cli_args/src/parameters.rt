@@ -80,7 +80,7 @@ pub(crate) fn with_file<'a>(alloc: Global, command: Command<'a>) -> MadeCommand<
     command.arg(option(alloc, "db", "FILE", "The registry's file").required(true))
 }
 
-/// Adds the options that name a registry: its file, or the socket file of the server that serves it.
+/// Adds the options that name a registry: its file, or the socket file of the server that has it.
 fn with_registry<'a>(alloc: Global, command: Command<'a>) -> MadeCommand<'a>
     ensures { Adds (λ a. with_rules a registry_rules) command.entry result }
 {

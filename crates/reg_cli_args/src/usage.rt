@@ -211,7 +211,11 @@ fn command<'a>(alloc: Global) -> MadeCommand<'a>
     ensures { IfOk result (HasRules program_app) }
 {
     let command = with_others(alloc, with_services(alloc, program(alloc))?)?;
-    with_reports(alloc, Shape::Program, with_orders(alloc, Shape::Program, command)?)
+    with_reports(
+        alloc,
+        Shape::Program,
+        with_orders(alloc, Shape::Program, command)?,
+    )
 }
 
 /// Parses the program's arguments, its own name first.
@@ -241,7 +245,7 @@ pub fn read_line<'a>(alloc: Global, words: &'a [&'a str]) -> Result<ArgMatches<'
     with_orders(alloc, Shape::Setup, setup_line(alloc))?.try_get_matches_from(words)
 }
 
-/// Parses the arguments of an administrator's message: those of a setup file's line, or of a report.
+/// Parses the arguments of a message: those of a setup file's line, or of a report.
 pub fn read_message<'a>(alloc: Global, words: &'a [&'a str]) -> Result<ArgMatches<'a>, Error>
     ensures { IsJudged message_app (map (λ w. w.now) words.entry.now) result }
 {

@@ -115,7 +115,8 @@ IsAnswered g limits wanted old new k0 k1 (Ok Paused) =
 IsAnswered g limits wanted old new k0 k1 (Ok (Said reply)) = (ordered : Option Command)
     × (wanted ≡ option_map Ordered ordered) × IsObeyed g limits ordered old new k0 k1 (Ok reply)
 IsAnswered g limits wanted old new k0 k1 (Err (Refused r)) = (ordered : Option Command)
-    × (wanted ≡ option_map Ordered ordered) × IsObeyed g limits ordered old new k0 k1 (Err (Refused r))
+    × (wanted ≡ option_map Ordered ordered)
+    × IsObeyed g limits ordered old new k0 k1 (Err (Refused r))
 IsAnswered g limits wanted old new k0 k1 (Err Unreadable) =
     (wanted ≡ None) × (new ≡ old) × (k1 ≡ k0)
 IsAnswered g limits wanted old new k0 k1 (Err Memory) = (new ≡ old) × (k1 ≡ k0)

@@ -1,6 +1,6 @@
 //! What the program does with an open registry, whatever its store: `pipe`, a setup of commands and
-//! then one stream; connections and messages one after another; commands whose replies are printed, new tokens
-//! among them; and files that are written into a folder.
+//! then one stream; connections and messages one after another; commands whose replies are printed,
+//! new tokens among them; and files that are written into a folder.
 //!
 //! ```
 //! let exit = run_pipe(alloc, &mut registry, "user-add ada\n", &mut reader, &mut writer);

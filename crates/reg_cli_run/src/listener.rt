@@ -8,11 +8,10 @@ use crate::printing::print;
 use crate::socket::{MORE_TRIES, PAUSE, Socket, wait_for_end};
 use crate::stream::{NO_LISTENING, Stream};
 use reg_cli_line::Exit;
-use std::fs;
 use std::io::ErrorKind;
 use std::net::{TcpListener, TcpStream};
-use std::thread;
 use std::time::Duration;
+use std::{fs, thread};
 
 /// A port of the loopback address, and a socket file if one is asked for; listened on once it is
 /// open. It counts the accepted callers.
@@ -32,7 +31,11 @@ fn tell_listening(rt: &HostRuntime, port: u16) -> Result<(), Exit> {
         return Err(Exit::MEMORY);
     };
     let exit = print(rt, &line);
-    if exit == Exit::DONE { Ok(()) } else { Err(exit) }
+    if exit == Exit::DONE {
+        Ok(())
+    } else {
+        Err(exit)
+    }
 }
 
 /// Waits for a connection: none if its client hung up before it was accepted, or a signal came.
@@ -155,6 +158,5 @@ impl<'a> Door for Listener<'a> {
         _writer: Stream<'a>,
         _failed_reads: u64,
         _failed_writes: u64,
-    ) {
-    }
+    ) {}
 }

@@ -48,12 +48,10 @@ fn chunk_of(alloc: Global) -> Result<Vec<u8>, AllocError>
 }
 
 /// Reads a message: all that there is, if that is no more than a message may have.
-fn read_bytes<R: Read>(
-    alloc: Global,
-    reader: &mut Counted<R>,
-) -> Result<Vec<u8>, OrderFault>
+fn read_bytes<R: Read>(alloc: Global, reader: &mut Counted<R>) -> Result<Vec<u8>, OrderFault>
     requires { reader.old.calls + MOST + 1 < 2 ^ 64 }
-    ensures { (read : _) × Consumes (R.remaining reader.old.inner) (R.remaining reader.new.inner) read
+    ensures { (read : _)
+        × Consumes (R.remaining reader.old.inner) (R.remaining reader.new.inner) read
         × MatchResult result (λ bytes. (bytes.items ≡ read) × IsMessage read
         (R.remaining reader.new.inner) reader.old.failures reader.new.failures)
         (IsCut read reader.old.failures reader.new.failures) }
@@ -174,11 +172,7 @@ pub(crate) fn hear_message<T: Write, S: Alter, R: Read>(
 }
 
 /// Sends two texts, one after the other.
-fn send_both<W: Write>(
-    w: &mut Counted<W>,
-    first: &[u8],
-    second: &[u8],
-) -> Result<u64, SendFault>
+fn send_both<W: Write>(w: &mut Counted<W>, first: &[u8], second: &[u8]) -> Result<u64, SendFault>
     requires { w.old.calls + CALLS < 2 ^ 64 }
     ensures { Sends result (first.now ++ second.now) most_calls
         (sink (W.contents w.old.inner) w.old) (sink (W.contents w.new.inner) w.new) }

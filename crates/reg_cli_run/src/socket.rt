@@ -84,7 +84,8 @@ fn make_file(rt: &HostRuntime, path: &str) -> io::Result<UnixListener> {
 
 /// Watches whether a listener has a caller.
 fn watch(poll: &Poll, fd: RawFd, interest: Interest) -> io::Result<()> {
-    poll.registry().register(&mut SourceFd(&fd), Token(0), interest)
+    poll.registry()
+        .register(&mut SourceFd(&fd), Token(0), interest)
 }
 
 /// Makes the socket file, and watches both.
@@ -127,11 +128,7 @@ fn accept_admin<'a>(rt: &'a HostRuntime, listener: &UnixListener) -> Tried<Strea
 impl Socket {
     /// The socket file at this path, beside a port. An old one of a server that was killed is
     /// replaced; one that a living server listens on is left, as is any other file.
-    pub(crate) fn beside(
-        rt: &HostRuntime,
-        path: &str,
-        port: &TcpListener,
-    ) -> Result<Socket, Exit> {
+    pub(crate) fn beside(rt: &HostRuntime, path: &str, port: &TcpListener) -> Result<Socket, Exit> {
         if !may_be_made(rt, path) {
             return Err(NO_LISTENING);
         }

@@ -8,7 +8,7 @@ use std::net::TcpStream;
 use std::os::unix::net::UnixStream;
 use std::time::{Duration, Instant};
 
-/// How many seconds the sender of a message may take in all to send it, and again to take the reply.
+/// How many seconds the sender of a message may take to send it, and again to take the reply.
 const PATIENCE: u64 = 5;
 
 /// The port cannot be listened on, or a connection cannot be accepted.
@@ -17,7 +17,7 @@ pub(crate) const NO_LISTENING: Exit = Exit {
     message: "listen fault",
 };
 
-/// An end at the socket file, with a time by which all its calls are done. It begins with the first.
+/// An end at the socket file, with a time by which all its calls are done, from the first on.
 #[derive(Drop)]
 pub struct Hurried<'a> {
     rt: &'a HostRuntime,

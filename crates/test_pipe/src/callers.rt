@@ -162,14 +162,20 @@ fn message(alloc: Global, words: &str) -> Result<Vec<u8>, AllocError> {
 fn guest_of(alloc: Global, who: &str, what: &str) -> Result<Guest, AllocError> {
     let bytes = match who {
         "client" => {
-            let head = format!(in alloc; "GET {what} HTTP/1.1\r\nhost: r\r\nauthorization: abc\r\n\r\n")?;
+            let head = format!(in alloc;
+                "GET {what} HTTP/1.1\r\nhost: r\r\nauthorization: abc\r\n\r\n"
+            )?;
             head.into_bytes()
         }
         "raw" => bytes_of(alloc, what, b'|', 0)?,
         _ => message(alloc, what)?,
     };
     Ok(Guest {
-        caller: if who == "client" { Caller::Client } else { Caller::Admin },
+        caller: if who == "client" {
+            Caller::Client
+        } else {
+            Caller::Admin
+        },
         bytes,
         takes: if who == "gone" { 0 } else { usize::MAX },
     })
@@ -265,7 +271,10 @@ fn messages_between_connections(rt: HostRuntime) -> Result<(), Fail> {
         }
     }
     assert_eq!(rt; served.replies.len(), guests.len());
-    assert_eq!(rt; std::str::from_utf8(&served.trail).unwrap_or("no text"), TRAIL);
+    assert_eq!(rt;
+        std::str::from_utf8(&served.trail).unwrap_or("no text"),
+        TRAIL
+    );
     assert_eq!(rt; served.holds, 1);
     Ok(())
 }
@@ -294,7 +303,8 @@ fn replies_to(rt: &HostRuntime, bytes: Vec<u8>) -> Result<Vec<Vec<u8>>, Fail> {
 /// Whether the first reply is this one, and the command was done or not.
 fn was_replied(replies: &[Vec<u8>], reply: &[u8], done: bool) -> bool {
     match replies {
-        [first, users] => first.as_slice() == reply && (users.as_slice() != b"0\n".as_slice()) == done,
+        [first, users] => first.as_slice() == reply
+            && (users.as_slice() != b"0\n".as_slice()) == done,
         _ => false,
     }
 }

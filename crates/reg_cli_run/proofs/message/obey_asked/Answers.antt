@@ -12,6 +12,6 @@ returns-in-Some-read_report g c =
 
 pub returns : goal.returns
 returns g c = ordered_as (elim c.match-subcommand.branch [
-    | in-Some+in_default-read_report w ↦ asked_by c.args.matches.now w.in-Some.inner.now w.in-Some.name.now w.in-Some.ensures.name w.in-Some.ensures.rows ∙ ap (λ r. report_else r (order_in c.args.matches.now)) (sym w.in_default-read_report.ensures.orders)
-    | in_default w ↦ asked_none c.args.matches.now w.in_default.ensures.rows ∙ sym (orders_none c.args.matches.now w.in_default.ensures.rows)
-  ]) c.obey_order.ensures
+  | in-Some+in_default-read_report w ↦ asked_by c.args.matches.now w.in-Some.inner.now w.in-Some.name.now w.in-Some.ensures.name w.in-Some.ensures.rows ∙ ap (λ r. report_else r (order_in c.args.matches.now)) (sym w.in_default-read_report.ensures.orders)
+  | in_default w ↦ asked_none c.args.matches.now w.in_default.ensures.rows ∙ sym (orders_none c.args.matches.now w.in_default.ensures.rows)
+]) c.obey_order.ensures
