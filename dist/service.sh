@@ -1,5 +1,5 @@
 # What registry-admin, registry-backup and registry-restore share: the settings, and a service that
-# is stopped for a while and started again whatever happens.
+# is paused, or stopped for a while and started again whatever happens.
 #
 # shellcheck shell=bash
 
@@ -10,6 +10,9 @@ user=${REGISTRY_USER:-registry}
 unit=${REGISTRY_UNIT:-registry.service}
 port=${REGISTRY_PORT:-8080}
 lock=${REGISTRY_LOCK:-/run/kondziga.lock}
+# The socket file is of the server of that file: who names another file or unit names its socket too.
+socket=${REGISTRY_SOCKET:-}
+[ -n "$socket${REGISTRY_DB:-}${REGISTRY_UNIT:-}" ] || socket=/run/kondziga/admin.sock
 # Where systemd does not run, these two are commands that stop and start the server.
 stop_command=${REGISTRY_STOP:-}
 start_command=${REGISTRY_START:-}
@@ -40,6 +43,8 @@ Settings, from the environment:
   REGISTRY_CLI    the program                  ($cli)
   REGISTRY_USER   the service's user           ($user)
   REGISTRY_UNIT   the unit of systemd          ($unit)
+  REGISTRY_SOCKET its socket file (serve --admin)
+                  (${socket:-none, since REGISTRY_DB or REGISTRY_UNIT is set})
   REGISTRY_PORT   the port that it listens on  ($port)
   REGISTRY_WAIT   seconds to wait until it listens again
                   (${REGISTRY_WAIT:-120, and 64 more for each GiB of the file})
@@ -63,7 +68,7 @@ can_work() {
     # The log and the copies are beside the file, where a link leads.
     real=$(readlink -f -- "$db") && db=$real
     take_lock
-    forget_restores
+    forget_copies
 }
 
 # patience: how many seconds an opening may take. It reads the whole file, some 16 s a GiB; a slow
@@ -96,11 +101,11 @@ take_lock() {
     flock -w "$seconds" 9 || give_up 3 "another command has held $lock for $seconds seconds"
 }
 
-# forget_restores: the copies go that a registry-restore has left which was killed. None is at work,
-# since the lock is held here.
-forget_restores() {
+# forget_copies: the copies go that a registry-restore or a registry-admin has left which was killed.
+# None is at work, since the lock is held here.
+forget_copies() {
     local folder c='[A-Za-z0-9]'
-    for folder in "$(dirname "$db")/restore.$name".$c$c$c$c$c$c; do
+    for folder in "$(dirname "$db")"/{restore,copy}."$name".$c$c$c$c$c$c; do
         [ ! -d "$folder" ] || as_service rm -rf -- "$folder"
     done
 }
@@ -133,6 +138,71 @@ check_copy() {
 }
 
 has_systemd() { [ -d /run/systemd/system ]; }
+
+# is_served: a server takes commands at the socket file: that of the unit, if it is active, or where
+# systemd has no part in it, one that REGISTRY_SOCKET names.
+is_served() {
+    [ -n "$socket" ] || return 1
+    if [ -n "$stop_command" ] || ! has_systemd; then
+        [ -n "${REGISTRY_SOCKET:-}" ] && [ -S "$socket" ]
+        return
+    fi
+    has_door && wait_for_door
+}
+# has_door: the unit is active, and its command names this socket file.
+has_door() {
+    systemctl is-active --quiet "$unit" &&
+        [[ "$(systemctl show --property ExecStart --value "$unit") " = *" --admin $socket "* ]]
+}
+# wait_for_door: a server that has just been started opens its file first.
+wait_for_door() {
+    local deadline=$((SECONDS + $(patience)))
+    until [ -S "$socket" ]; do
+        [ $SECONDS -lt $deadline ] || give_up 3 "$unit is active, but makes no $socket"
+        sleep 0.2
+        has_door || return 1
+    done
+}
+
+# pause_service: the server serves nobody, until `go_on` or until this script is gone: then the
+# client's input ends. `$to` is that input, and no process that copies inherits it.
+pausing=
+to=
+pause_service() {
+    local from said=
+    coproc paused { as_service "$cli" pause --at "$socket"; }
+    pausing=$!
+    from=${paused[0]:-} to=${paused[1]:-}
+    [ -z "$from" ] || read -r -t "$(patience)" said <&"$from"
+    [ "$said" = paused ] || give_up 3 "no server pauses at $socket"
+}
+# go_on: the pause ends. It fails if the server went on before.
+go_on() {
+    local pid=$pausing
+    [ -n "$pid" ] || return 0
+    pausing=
+    [ -z "$to" ] || exec {to}>&-
+    wait "$pid"
+}
+
+# writes: what each write to the file or its log changes.
+writes() { as_service stat -Lc '%i %s %y' -- "$db" "$db-wal" 2> /dev/null; }
+# copy_at_rest COPY: the file and its log as they were at one instant, by the script's copy_file. A
+# server that someone has started by hand is not stopped here.
+copy_at_rest() {
+    local before
+    before=$(writes)
+    copy_file || give_up 3 "can't write $1"
+    [ "$(writes)" = "$before" ] || give_up 3 "another program writes to $db: stop it first"
+}
+# copy_in_pause COPY: the same, while the server is paused.
+copy_in_pause() {
+    local since=$SECONDS
+    pause_service
+    copy_at_rest "$1"
+    go_on || give_up 3 "the server went on before the copy was whole"
+    say "the registry paused for $((SECONDS - since)) s"
+}
 
 # stop_service: stops the server, if it runs or has failed. A server that was not running stays
 # stopped afterwards.
@@ -194,6 +264,7 @@ finish() {
     trap : INT TERM HUP PIPE
     trap - EXIT
     ended=
+    go_on
     start_service
     if [ -z "$started_again" ]; then
         say "the registry does not listen on port $port yet: see journalctl -u $unit"

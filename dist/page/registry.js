@@ -14,7 +14,7 @@ const ADVICE = new Map(Object.entries({
     401: 'Something in front of the registry asks who you are: tell the administrator.',
     403: 'Something in front of the registry does not let you in: tell the administrator.',
     429: 'Too much is asked at once. Wait a moment and try again.',
-    502: `The registry is stopped, perhaps for a command of the administrator. ${TRY_AGAIN}`,
+    502: `The registry is stopped, perhaps for an upgrade. ${TRY_AGAIN}`,
     503: 'Too much is asked at once, or the registry is stopped. Wait a moment and try again.',
     504: `The registry takes too long. ${TRY_AGAIN}`,
 }));
