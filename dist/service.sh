@@ -171,8 +171,9 @@ to=
 pause_service() {
     local from said=
     coproc paused { as_service "$cli" pause --at "$socket"; }
-    pausing=$!
+    # In this order, since a signal may come between: go_on shuts the input before it waits.
     from=${paused[0]:-} to=${paused[1]:-}
+    pausing=$!
     [ -z "$from" ] || read -r -t "$(patience)" said <&"$from"
     [ "$said" = paused ] || give_up 3 "no server pauses at $socket"
 }
